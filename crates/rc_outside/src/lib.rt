@@ -1,0 +1,14 @@
+//! The outside of the shard: where bytes come from, where they go, and where files lie.
+//!
+//! Three traits say what the rest of the program may rely on. A `Source` is pulled for bytes, a `Sink` is pushed
+//! bytes, a `Store` keeps files. Each counts its faults, and may tell the bytes that it holds, so that a contract
+//! above can name them.
+#![tactic(auto)]
+
+mod sinks;
+mod sources;
+mod stores;
+
+pub use sinks::{Sink, SinkErr};
+pub use sources::{Failed, Source};
+pub use stores::Store;
