@@ -8,7 +8,9 @@
 mod sinks;
 mod sources;
 mod stores;
+mod sure;
 
 pub use sinks::{Sink, SinkErr};
 pub use sources::{Failed, Source};
 pub use stores::Store;
+pub use sure::{SureSink, SureSource, SureStore};
