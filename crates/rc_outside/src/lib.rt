@@ -5,11 +5,13 @@
 //! above can name them.
 #![tactic(auto)]
 
+mod memory;
 mod sinks;
 mod sources;
 mod stores;
 mod sure;
 
+pub use memory::{MemSink, MemSource};
 pub use sinks::{Sink, SinkErr};
 pub use sources::{Failed, Source};
 pub use stores::Store;

@@ -1,4 +1,4 @@
-use Rattle.std.proofs.Common.{arith, length, ◌<◌}
+use Rattle.std.proofs.Common.{arith, length}
 use Rattle.std.proofs.lemmas.Grind.{common_steps}
 use Rattle.rc_outside.proofs.Taken.{drop-as_front, drop-is_nil}
 use Rattle.rc_outside.proofs.sure.SureSourceSource.pull.Goals as goal
