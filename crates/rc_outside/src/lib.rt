@@ -8,11 +8,13 @@
 mod memory;
 mod sinks;
 mod sources;
+mod standard;
 mod stores;
 mod sure;
 
 pub use memory::{MemSink, MemSource};
 pub use sinks::{Sink, SinkErr};
 pub use sources::{Failed, Source};
+pub use standard::{StdSink, StdSource};
 pub use stores::Store;
 pub use sure::{SureSink, SureSource, SureStore};

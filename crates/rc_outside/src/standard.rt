@@ -1,0 +1,107 @@
+// The trusted edge: standard input and standard output. Each counts its faults in 64 bits.
+ghost use Rattle.std.specs.Prelude.{◌≡◌, ◌<◌, ◌≤◌, length, drop, IfOk, MatchResult};
+ghost use Rattle.std.specs.Io.KnownBytes.{Appends};
+ghost use Rattle.rc_outside.specs.Pushed.{AppendsFront};
+
+use super::sinks::{Sink, SinkErr};
+use super::sources::{Failed, Source};
+use std::io::{self, Input, Print, Printer, Read, Write};
+
+/// The most bytes that one pull of standard input takes.
+const BLOCK: usize = 4096;
+
+/// Standard input. It tells the bytes that are left only where its reader does, and a terminal, a pipe or a file does not.
+#[derive(Drop)]
+pub struct StdSource<R> {
+    reader: R,
+    faults: u64,
+}
+
+impl<R: Read> StdSource<R> {
+    /// The standard input of the runtime that `main` has, with no fault so far.
+    pub fn new<I: Input<Reader = R>>(rt: &I) -> StdSource<R>
+        ensures { ⟦<StdSource<R> as Source>⟧.faults result ≡ 0 }
+    {
+        StdSource {
+            reader: rt.reader(),
+            faults: 0,
+        }
+    }
+}
+
+impl<R: Read> Source for StdSource<R> {
+    ghost left = { λ s. R.remaining s.reader };
+
+    ghost faults = { λ s. s.faults };
+
+    /// Takes what one read gives, at most a block, without waiting for more.
+    fn pull(&mut self, into: &mut [u8]) -> Result<usize, Failed> {
+        let mut block = [0; BLOCK];
+        let room = into.len().min(BLOCK);
+        match self.reader.read(&mut block[..room]) {
+            Ok(count) => {
+                into[..count].copy_from_slice(&block[..count]);
+                Ok(count)
+            }
+            Err(_) => {
+                self.faults = self.faults.saturating_add(1);
+                Err(Failed)
+            }
+        }
+    }
+}
+
+/// Standard output. It tells the bytes written only where its writer does, and a terminal, a pipe or a file does not.
+#[derive(Drop)]
+pub struct StdSink<W> {
+    writer: W,
+    faults: u64,
+}
+
+impl<'a, P: Print> StdSink<Printer<'a, P>> {
+    /// The standard output of the runtime that `main` has, with no fault so far.
+    pub fn new(rt: &'a P) -> StdSink<Printer<'a, P>>
+        ensures { ⟦<StdSink<Printer<'a, P>> as Sink>⟧.faults result ≡ 0 }
+    {
+        StdSink {
+            writer: io::writer(rt),
+            faults: 0,
+        }
+    }
+}
+
+impl<W: Write> Sink for StdSink<W> {
+    ghost written = { λ s. W.contents s.writer };
+
+    ghost faults = { λ s. s.faults };
+
+    /// Writes the whole piece and flushes. Never `SinkErr::NoMemory`: a want of memory that the host answers is a fault.
+    fn push(&mut self, piece: &[u8]) -> Result<(), SinkErr> {
+        match write_whole(&mut self.writer, piece) {
+            Ok(()) => Ok(()),
+            Err(Failed) => {
+                self.faults = self.faults.saturating_add(1);
+                Err(SinkErr::Failed)
+            }
+        }
+    }
+}
+
+/// Writes the whole piece and flushes. `Failed` at the first error, and where a write takes nothing.
+fn write_whole<W: Write>(writer: &mut W, piece: &[u8]) -> Result<(), Failed>
+    ensures { MatchResult result
+        (λ _. Appends (W.contents writer.old) (W.contents writer.new) piece.now)
+        (λ _. AppendsFront (W.contents writer.old) (W.contents writer.new) piece.now) }
+{
+    let mut rest = piece;
+    while !rest.is_empty() {
+        match writer.write(rest) {
+            Ok(0) | Err(_) => return Err(Failed),
+            Ok(count) => rest = &rest[count..],
+        }
+    }
+    match writer.flush() {
+        Ok(()) => Ok(()),
+        Err(_) => Err(Failed),
+    }
+}
