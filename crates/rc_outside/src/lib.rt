@@ -18,3 +18,6 @@ pub use sources::{Failed, Source};
 pub use standard::{StdSink, StdSource};
 pub use stores::Store;
 pub use sure::{SureSink, SureSource, SureStore};
+
+#[cfg(test)]
+mod tests;

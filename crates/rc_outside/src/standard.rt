@@ -1,7 +1,8 @@
 // The trusted edge: standard input and standard output. Each counts its faults in 64 bits.
-ghost use Rattle.std.specs.Prelude.{◌≡◌, ◌<◌, ◌≤◌, length, drop, IfOk, MatchResult};
-ghost use Rattle.std.specs.Io.KnownBytes.{Appends};
-ghost use Rattle.rc_outside.specs.Pushed.{AppendsFront};
+ghost use Rattle.std.specs.Prelude.{◌≡◌, ◌≢◌, ◌<◌, ◌≤◌, Err, length, drop, IfOk, MatchResult};
+ghost use Rattle.std.specs.Io.KnownBytes.{Appends, ReadConsumes};
+ghost use Rattle.rc_outside.specs.Faults.{Rose, raised};
+ghost use Rattle.rc_outside.specs.Pushed.{AppendsFront, Pushed};
 
 use super::sinks::{Sink, SinkErr};
 use super::sources::{Failed, Source};
@@ -35,7 +36,14 @@ impl<R: Read> Source for StdSource<R> {
     ghost faults = { λ s. s.faults };
 
     /// Takes what one read gives, at most a block, without waiting for more.
-    fn pull(&mut self, into: &mut [u8]) -> Result<usize, Failed> {
+    fn pull(&mut self, into: &mut [u8]) -> Result<usize, Failed>
+        requires { 0 < length into.old }
+        ensures within { IfOk result (λ k. k ≤ length into.new) }
+        ensures taken { ReadConsumes (R.remaining self.old.reader) (R.remaining self.new.reader) result into.new }
+        ensures untouched { MatchResult result (λ k. drop k into.new ≡ drop k into.old) (λ _. into.new ≡ into.old) }
+        ensures cause { MatchResult result (λ _. self.new.faults ≡ self.old.faults) (λ _. Rose self.old.faults self.new.faults) }
+        ensures counted { MatchResult result (λ _. self.new.faults ≡ self.old.faults) (λ _. self.new.faults ≡ raised self.old.faults) }
+    {
         let mut block = [0; BLOCK];
         let room = into.len().min(BLOCK);
         match self.reader.read(&mut block[..room]) {
@@ -76,7 +84,11 @@ impl<W: Write> Sink for StdSink<W> {
     ghost faults = { λ s. s.faults };
 
     /// Writes the whole piece and flushes. Never `SinkErr::NoMemory`: a want of memory that the host answers is a fault.
-    fn push(&mut self, piece: &[u8]) -> Result<(), SinkErr> {
+    fn push(&mut self, piece: &[u8]) -> Result<(), SinkErr>
+        ensures pushed { Pushed (W.contents self.old.writer) (W.contents self.new.writer) self.old.faults self.new.faults piece.now result }
+        ensures counted { MatchResult result (λ _. self.new.faults ≡ self.old.faults) (λ _. self.new.faults ≡ raised self.old.faults) }
+        ensures memory { result ≢ Err SinkErr.NoMemory }
+    {
         match write_whole(&mut self.writer, piece) {
             Ok(()) => Ok(()),
             Err(Failed) => {
