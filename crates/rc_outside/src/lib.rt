@@ -5,6 +5,7 @@
 //! above can name them.
 #![tactic(auto)]
 
+mod counts;
 mod memory;
 mod sinks;
 mod sources;

@@ -3,6 +3,7 @@ ghost use Rattle.std.specs.Prelude.{◌≡◌, ◌↔◌, ℕ, ◌<◌, ◌≤�
 ghost use Rattle.std.specs.Io.KnownBytes.{ReadConsumes};
 ghost use Rattle.rc_outside.specs.Faults.{raised, Rose};
 
+use super::counts::raise;
 use super::sinks::{Sink, SinkErr};
 use super::sources::{Failed, Source};
 use super::sure::{SureSink, SureSource};
@@ -60,9 +61,9 @@ impl Source for MemSource {
         ensures gives { IfOk result (λ k. k ≡ min (length into.old) (length self.old.left)) }
         ensures state { self.new ≡ after_pull self.old result }
     {
-        self.calls = self.calls.saturating_add(1);
+        raise(&mut self.calls);
         if self.fails.contains(&self.calls) {
-            self.faults = self.faults.saturating_add(1);
+            raise(&mut self.faults);
             return Err(Failed);
         }
         self.bytes.pull(into)
@@ -127,7 +128,7 @@ impl Sink for MemSink {
         let call = self.calls.saturating_add(1);
         if self.fails.contains(&call) {
             self.calls = call;
-            self.faults = self.faults.saturating_add(1);
+            raise(&mut self.faults);
             return Err(SinkErr::Failed);
         }
         self.written.push(piece)?;

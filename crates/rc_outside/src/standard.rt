@@ -1,9 +1,10 @@
 // The trusted edge: standard input and standard output. Each counts its faults in 64 bits.
-ghost use Rattle.std.specs.Prelude.{◌≡◌, ◌≢◌, ◌<◌, ◌≤◌, Err, length, drop, IfOk, MatchResult};
+ghost use Rattle.std.specs.Prelude.{◌≡◌, ◌≢◌, ◌<◌, ◌≤◌, Err, length, drop, IfOk, OnErr, MatchResult};
 ghost use Rattle.std.specs.Io.KnownBytes.{Appends, ReadConsumes};
 ghost use Rattle.rc_outside.specs.Faults.{Rose, raised};
 ghost use Rattle.rc_outside.specs.Pushed.{AppendsFront, Pushed};
 
+use super::counts::raise;
 use super::sinks::{Sink, SinkErr};
 use super::sources::{Failed, Source};
 use std::io::{self, Input, Print, Printer, Read, Write};
@@ -39,10 +40,12 @@ impl<R: Read> Source for StdSource<R> {
     fn pull(&mut self, into: &mut [u8]) -> Result<usize, Failed>
         requires { 0 < length into.old }
         ensures within { IfOk result (λ k. k ≤ length into.new) }
-        ensures taken { ReadConsumes (R.remaining self.old.reader) (R.remaining self.new.reader) result into.new }
+        ensures taken { let left = ⟦<StdSource<R> as Source>⟧.left in
+            ReadConsumes (left self.old) (left self.new) result into.new }
         ensures untouched { MatchResult result (λ k. drop k into.new ≡ drop k into.old) (λ _. into.new ≡ into.old) }
-        ensures cause { MatchResult result (λ _. self.new.faults ≡ self.old.faults) (λ _. Rose self.old.faults self.new.faults) }
-        ensures counted { MatchResult result (λ _. self.new.faults ≡ self.old.faults) (λ _. self.new.faults ≡ raised self.old.faults) }
+        ensures cause { let faults = ⟦<StdSource<R> as Source>⟧.faults in
+            MatchResult result (λ _. faults self.new ≡ faults self.old) (λ _. Rose (faults self.old) (faults self.new)) }
+        ensures counted { let faults = ⟦<StdSource<R> as Source>⟧.faults in OnErr result (faults self.new ≡ raised (faults self.old)) }
     {
         let mut block = [0; BLOCK];
         let room = into.len().min(BLOCK);
@@ -52,7 +55,7 @@ impl<R: Read> Source for StdSource<R> {
                 Ok(count)
             }
             Err(_) => {
-                self.faults = self.faults.saturating_add(1);
+                raise(&mut self.faults);
                 Err(Failed)
             }
         }
@@ -85,14 +88,16 @@ impl<W: Write> Sink for StdSink<W> {
 
     /// Writes the whole piece and flushes. Never `SinkErr::NoMemory`: a want of memory that the host answers is a fault.
     fn push(&mut self, piece: &[u8]) -> Result<(), SinkErr>
-        ensures pushed { Pushed (W.contents self.old.writer) (W.contents self.new.writer) self.old.faults self.new.faults piece.now result }
-        ensures counted { MatchResult result (λ _. self.new.faults ≡ self.old.faults) (λ _. self.new.faults ≡ raised self.old.faults) }
+        ensures pushed { let written = ⟦<StdSink<W> as Sink>⟧.written in
+            let faults = ⟦<StdSink<W> as Sink>⟧.faults in
+            Pushed (written self.old) (written self.new) (faults self.old) (faults self.new) piece.now result }
+        ensures counted { let faults = ⟦<StdSink<W> as Sink>⟧.faults in OnErr result (faults self.new ≡ raised (faults self.old)) }
         ensures memory { result ≢ Err SinkErr.NoMemory }
     {
         match write_whole(&mut self.writer, piece) {
             Ok(()) => Ok(()),
             Err(Failed) => {
-                self.faults = self.faults.saturating_add(1);
+                raise(&mut self.faults);
                 Err(SinkErr::Failed)
             }
         }
