@@ -1,0 +1,4 @@
+pub mod Columns
+pub mod Orders
+pub mod Winner
+pub mod Deletion
