@@ -1,10 +1,11 @@
 -- Which write wins: the reconciliation that Cassandra and ScyllaDB share. This is the one place where its rules stand.
-use Rattle.std.specs.Prelude.{ℕ, ℤ, Bool, true, false, not, ◌&&◌, ◌||◌, ◌==◌, nat_lt, int_lt, List, [], ◌∷◌, map, Option, Some, None}
+use Rattle.std.specs.Prelude.{ℕ, ℤ, Bool, true, false, not, ◌&&◌, ◌||◌, ◌==◌, nat_lt, int_lt, List, [], ◌∷◌, Option, Some, None}
 use Rattle.std.specs.declared.cmp.Ordering.{Ordering}
 use Rattle.std.specs.Ordering.{nat_cmp, int_cmp, int_eq, is_gt}
+use Rattle.std.specs.Prelude.{map as list_map}
 use Rattle.std.specs.Option.{option_map}
 use Rattle.std.specs.List.{filter, filter_map, flat_map, list_all}
-use Rattle.std.specs.FinSet as set
+use Rattle.std.specs.FinMap as map
 use Rattle.rc_cell.specs.declared.writes.Cell.{Cell}
 use Rattle.rc_cell.specs.declared.writes.Cell.TheVariants.{Live, Dead}
 use Rattle.rc_cell.specs.declared.writes.Tomb.{Tomb}
@@ -57,23 +58,27 @@ tombs rows = filter_map (λ row. row.tomb) rows
 abbrev pub all_cells : List Row → List (ℕ × Cell)
 all_cells rows = flat_map (λ row. row.cells) rows
 
--- the cells of one column
+-- those of one column
 abbrev pub at_column : ℕ → List (ℕ × Cell) → List Cell
-at_column column cells = map (λ e. e.1) (filter (λ e. e.0 == column) cells)
+at_column column cells = list_map (λ e. e.1) (filter (λ e. column == e.0) cells)
 
 abbrev pub cells_at : ℕ → List Row → List Cell
 cells_at column rows = at_column column (all_cells rows)
 
--- the columns that rows have a cell of, ascending, each once
-abbrev pub columns : List Row → List ℕ
-columns rows = set.items (set.from_list {R = nat_cmp} (map (λ e. e.0) (all_cells rows)))
+-- the columns that have a cell, ascending, each once
+abbrev pub columns : List (ℕ × Cell) → List ℕ
+columns cells = map.keys (map.from_entries {R = nat_cmp} cells)
 
--- the rows as one: the greatest marker, the greatest tombstone, and of each column the winner among all its cells
+-- of each column that has a cell the winner among all its cells, by ascending column
+unfoldable pub winners : List (ℕ × Cell) → List (ℕ × Cell)
+winners cells = filter_map (λ column. option_map (λ cell. (column, cell)) (winner (at_column column cells))) (columns cells)
+
+-- the rows as one: the greatest marker, the greatest tombstone, and of each column the winner among the cells of all rows
 unfoldable pub joined_row : List Row → Row
 joined_row rows = record {
   marker = greatest int_cmp (markers rows);
   tomb = greatest tomb_cmp (tombs rows);
-  cells = filter_map (λ column. option_map (λ cell. (column, cell)) (winner (cells_at column rows))) (columns rows);
+  cells = winners (all_cells rows);
 }
 
 -- the row of which nothing was written
