@@ -136,3 +136,7 @@ winner-one s = winner-greatest _ ∙ greatest-one cell_cmp_total cell_cmp-IsAnti
 
 pub winner-two : (s t : Option Cell) → winner (option_to_list s ++ option_to_list t) ≡ greater cell_cmp s t
 winner-two s t = winner-greatest _ ∙ greatest-two cell_cmp_total cell_cmp-IsAntisymmetric s t
+
+pub winner-none : winner [] ≡ None
+unfolding winner
+winner-none = refl
