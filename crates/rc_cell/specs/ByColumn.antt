@@ -15,23 +15,23 @@ use Rattle.rc_cell.specs.Columns.{ascending}
 use Rattle.rc_cell.specs.Winner.{at_column, columns, winner, winners}
 use Rattle.rc_cell.specs.Beats.{winner-append, winner-swap, winner-twice, winner-one, winner-none}
 
-holds : (b : Bool) → T b → b ≡ true
+pub holds : (b : Bool) → T b → b ≡ true
 holds true h = refl
 holds false h = absurd h
 
-test_of : (b : Bool) → b ≡ true → T b
+pub test_of : (b : Bool) → b ≡ true → T b
 test_of true e = tt
 test_of false e = absurd (cc)
 
-both : (a b : Bool) → T a → T b → T (a && b)
+pub both : (a b : Bool) → T a → T b → T (a && b)
 both true b h k = k
 both false b h k = h
 
-first : (a b : Bool) → T (a && b) → T a
+pub first : (a b : Bool) → T (a && b) → T a
 first true b h = tt
 first false b h = h
 
-second : (a b : Bool) → T (a && b) → T b
+pub second : (a b : Bool) → T (a && b) → T b
 second true b h = h
 second false b h = absurd h
 
@@ -74,7 +74,7 @@ tie Less e = absurd (cc)
 tie Equal e = refl
 tie Greater e = absurd (cc)
 
-same_column : (q k : ℕ) → eq_by_cmp nat_cmp q k ≡ true → q ≡ k
+pub same_column : (q k : ℕ) → eq_by_cmp nat_cmp q k ≡ true → q ≡ k
 same_column q k e = nat_cmp-IsAntisymmetric q k (tie (nat_cmp q k) e)
 
 -- in an ascending list a column has at most one cell
