@@ -1,0 +1,12 @@
+//! Values, cells, tombstones and rows, and which of two writes wins (the reconciliation that Cassandra and ScyllaDB share).
+#![tactic(auto)]
+
+mod columns;
+mod rows;
+mod values;
+mod writes;
+
+pub use columns::Cells;
+pub use rows::Row;
+pub use values::Value;
+pub use writes::{Cell, Tomb};
