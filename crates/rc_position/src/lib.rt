@@ -1,0 +1,12 @@
+//! Keys and positions: where the rows and the bounds of one partition stand, in one total order.
+#![tactic(auto)]
+
+mod comps;
+mod keys;
+mod positions;
+mod texts;
+
+pub use comps::Comp;
+pub use keys::Key;
+pub use positions::{Pos, Weight};
+pub use texts::{PartKey, Text};
