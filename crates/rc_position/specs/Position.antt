@@ -4,7 +4,10 @@
 --     key_cmp              full keys, by the positions of their rows
 --     place_cmp            all places of a partition: its head, its static row, the clustered positions, its end
 --     IsBefore, covers     strictly before; whether a range covers a position
-use Rattle.std.specs.Prelude.{◌≡◌, ℕ, Bool, true, false, cond, ◌&&◌, List, [], ◌∷◌, ◌++◌}
+--     start_bound, end_bound       the bound of a range at a prefix, inclusive or not
+--     IsBeforeRows, IsAfterRows    before, or after, each row whose key begins with a prefix
+--     IsPosOf                      a position of rows with so many components
+use Rattle.std.specs.Prelude.{◌≡◌, ℕ, Bool, true, false, cond, ◌&&◌, List, [], ◌∷◌, ◌++◌, length, ◌≤◌}
 use Rattle.std.specs.declared.cmp.Ordering.{Ordering}
 use Rattle.std.specs.declared.cmp.Ordering.TheVariants.{Less, Equal, Greater}
 use Rattle.std.specs.Ordering.{ordering_reverse, ordering_then, nat_cmp, int_cmp, is_le, is_lt}
@@ -64,3 +67,49 @@ IsBefore x y = pos_cmp x y ≡ Less
 -- whether the range from `from` to `to` covers x: it begins at or before x and ends after it
 abbrev pub covers : Pos → Pos → Pos → Bool
 covers from to x = is_le (pos_cmp from x) && is_lt (pos_cmp x to)
+
+-- where a range begins that begins at a prefix: with the keys that have the prefix, or after them
+abbrev pub start_bound : List Comp → Bool → Pos
+start_bound p true = record { prefix = p; weight = Before }
+start_bound p false = record { prefix = p; weight = After }
+
+-- where a range ends that ends at a prefix: with the keys that have the prefix, or before them
+abbrev pub end_bound : List Comp → Bool → Pos
+end_bound p true = record { prefix = p; weight = After }
+end_bound p false = record { prefix = p; weight = Before }
+
+-- x stands before, or after, each row whose key begins with p
+abbrev pub IsBeforeRows : List Comp → Pos → Type 0
+IsBeforeRows p x = (rest : List Comp) → IsBefore x (row_pos (p ++ rest))
+
+abbrev pub IsAfterRows : List Comp → Pos → Type 0
+IsAfterRows p x = (rest : List Comp) → IsBefore (row_pos (p ++ rest)) x
+
+-- x is a position of rows with n components: its prefix has no more, and all n where it is at a row
+abbrev pub IsPosOf : ℕ → Pos → Type 0
+IsPosOf n x = (length x.prefix ≤ n) × (x.weight ≡ At → length x.prefix ≡ n)
+
+-- what a partition has, in the order in which it is read
+pub data Place : Type 0 where
+  Head : Place
+  Static : Place
+  Clustered : Pos → Place
+  End : Place
+
+abbrev pub place_cmp : Place → Place → Ordering
+place_cmp Head Head = Equal
+place_cmp Head Static = Less
+place_cmp Head (Clustered y) = Less
+place_cmp Head End = Less
+place_cmp Static Head = Greater
+place_cmp Static Static = Equal
+place_cmp Static (Clustered y) = Less
+place_cmp Static End = Less
+place_cmp (Clustered x) Head = Greater
+place_cmp (Clustered x) Static = Greater
+place_cmp (Clustered x) (Clustered y) = pos_cmp x y
+place_cmp (Clustered x) End = Less
+place_cmp End Head = Greater
+place_cmp End Static = Greater
+place_cmp End (Clustered y) = Greater
+place_cmp End End = Equal

@@ -4,9 +4,11 @@
 mod comps;
 mod keys;
 mod positions;
+mod slices;
 mod texts;
 
 pub use comps::Comp;
 pub use keys::Key;
-pub use positions::{Pos, Weight};
+pub use positions::{Pos, Weight, end_pos, start_pos};
+pub use slices::Slice;
 pub use texts::{PartKey, Text};

@@ -1,10 +1,10 @@
-//! Positions between and at the rows of one partition, and slices of them.
+//! Positions at and between the rows of one partition.
 
-ghost use Rattle.std.specs.Prelude.{◌≡◌, IfOk, IsTrue, ◌↔◌};
+ghost use Rattle.std.specs.Prelude.{◌≡◌, IfOk, IsTrue, ◌↔◌, MatchBool};
 ghost use Rattle.std.specs.Cmp.{partial_equiv_from_equiv, eq_by_cmp_equiv, partial_order_from_total};
 ghost use Rattle.std.specs.Ordering.{eq_by_cmp, as_partial_cmp, ordering_reverse};
 ghost use Rattle.std.proofs.Common.{refl};
-ghost use Rattle.rc_position.specs.Position.{pos_cmp, prefix_cmp, shorter_cmp, weight_cmp, covers};
+ghost use Rattle.rc_position.specs.Position.{pos_cmp, prefix_cmp, shorter_cmp, start_bound, end_bound, IsBeforeRows, IsAfterRows};
 ghost use Rattle.rc_position.specs.OrderLaws.{pos_cmp_total};
 
 use crate::comps::Comp;
@@ -79,6 +79,30 @@ pub(crate) fn compare(
             },
         }
     }
+}
+
+/// Where a range begins that begins at a prefix: an inclusive one with the keys that have the prefix,
+/// an exclusive one after them. No bound is the empty prefix, inclusive. The only error is want of memory.
+pub fn start_pos(alloc: Global, prefix: &Key, inclusive: bool) -> Result<Pos, AllocError>
+    ensures value { IfOk result (λ x. x ≡ start_bound prefix.now inclusive) }
+    ensures rows { IfOk result (λ x. MatchBool inclusive (IsBeforeRows prefix.now x) (IsAfterRows prefix.now x)) }
+{
+    Ok(Pos {
+        prefix: prefix.copy(alloc)?,
+        weight: if inclusive { Weight::Before } else { Weight::After },
+    })
+}
+
+/// Where a range ends that ends at a prefix: an inclusive one after the keys that have the prefix,
+/// an exclusive one before them. No bound is the empty prefix, inclusive. The only error is want of memory.
+pub fn end_pos(alloc: Global, prefix: &Key, inclusive: bool) -> Result<Pos, AllocError>
+    ensures value { IfOk result (λ x. x ≡ end_bound prefix.now inclusive) }
+    ensures rows { IfOk result (λ x. MatchBool inclusive (IsAfterRows prefix.now x) (IsBeforeRows prefix.now x)) }
+{
+    Ok(Pos {
+        prefix: prefix.copy(alloc)?,
+        weight: if inclusive { Weight::After } else { Weight::Before },
+    })
 }
 
 impl PartialEq for Pos {
