@@ -12,3 +12,6 @@ pub use keys::Key;
 pub use positions::{Pos, Weight, end_pos, start_pos};
 pub use slices::Slice;
 pub use texts::{PartKey, Text};
+
+#[cfg(test)]
+mod tests;

@@ -89,7 +89,11 @@ pub fn start_pos(alloc: Global, prefix: &Key, inclusive: bool) -> Result<Pos, Al
 {
     Ok(Pos {
         prefix: prefix.copy(alloc)?,
-        weight: if inclusive { Weight::Before } else { Weight::After },
+        weight: if inclusive {
+            Weight::Before
+        } else {
+            Weight::After
+        },
     })
 }
 
@@ -101,7 +105,11 @@ pub fn end_pos(alloc: Global, prefix: &Key, inclusive: bool) -> Result<Pos, Allo
 {
     Ok(Pos {
         prefix: prefix.copy(alloc)?,
-        weight: if inclusive { Weight::After } else { Weight::Before },
+        weight: if inclusive {
+            Weight::After
+        } else {
+            Weight::Before
+        },
     })
 }
 
