@@ -1,0 +1,17 @@
+//! Keys and positions: where the rows and the bounds of one partition stand, in one total order.
+#![tactic(auto)]
+
+mod comps;
+mod keys;
+mod positions;
+mod slices;
+mod texts;
+
+pub use comps::Comp;
+pub use keys::Key;
+pub use positions::{Pos, Weight, end_pos, start_pos};
+pub use slices::Slice;
+pub use texts::{PartKey, Text};
+
+#[cfg(test)]
+mod tests;
