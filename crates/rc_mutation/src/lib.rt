@@ -1,0 +1,8 @@
+//! What writes say of one partition: its rows by clustering key, and how the writes of a partition are joined.
+#![tactic(auto)]
+
+mod mutations;
+mod rows;
+
+pub use mutations::{Mutation, Write};
+pub use rows::Rows;
