@@ -22,20 +22,20 @@ use Rattle.rc_position.specs.OrderLaws.{key_cmp_total}
 use Rattle.rc_mutation.specs.Source.{rows_at, joined_rows, IsRows}
 use Rattle.rc_mutation.specs.ByKey.{Entries, occurs, keys_of, same_key, rows_at-append, rows_at-ascending, same_rows, joined_if_any, find-joined_rows, sorted-joined_rows, rows_at-joined_rows, all-joined_rows}
 
-if_any-append : (as bs : List Row) → joined_if_any (as ++ bs) ≡ joined_if_any (option_to_list (joined_if_any as) ++ option_to_list (joined_if_any bs))
+if_any-append : (us vs : List Row) → joined_if_any (us ++ vs) ≡ joined_if_any (option_to_list (joined_if_any us) ++ option_to_list (joined_if_any vs))
 if_any-append [] [] = refl
-if_any-append [] (b ∷ bs) = ap Some (sym (joined_row-one _ (IsRow-joined_row (b ∷ bs))))
-if_any-append (a ∷ as) [] = ap joined_if_any (append-nil (a ∷ as)) ∙ ap Some (sym (joined_row-one _ (IsRow-joined_row (a ∷ as))))
-if_any-append (a ∷ as) (b ∷ bs) = ap Some (joined_row-append (a ∷ as) (b ∷ bs))
+if_any-append [] (b ∷ vs) = ap Some (sym (joined_row-one _ (IsRow-joined_row (b ∷ vs))))
+if_any-append (a ∷ us) [] = ap joined_if_any (append-nil (a ∷ us)) ∙ ap Some (sym (joined_row-one _ (IsRow-joined_row (a ∷ us))))
+if_any-append (a ∷ us) (b ∷ vs) = ap Some (joined_row-append (a ∷ us) (b ∷ vs))
 
-if_any-swap : (as bs : List Row) → joined_if_any (as ++ bs) ≡ joined_if_any (bs ++ as)
-if_any-swap [] bs = ap joined_if_any (sym (append-nil bs))
-if_any-swap (a ∷ as) [] = ap joined_if_any (append-nil (a ∷ as))
-if_any-swap (a ∷ as) (b ∷ bs) = ap Some (joined_row-swap (a ∷ as) (b ∷ bs))
+if_any-swap : (us vs : List Row) → joined_if_any (us ++ vs) ≡ joined_if_any (vs ++ us)
+if_any-swap [] vs = ap joined_if_any (sym (append-nil vs))
+if_any-swap (a ∷ us) [] = ap joined_if_any (append-nil (a ∷ us))
+if_any-swap (a ∷ us) (b ∷ vs) = ap Some (joined_row-swap (a ∷ us) (b ∷ vs))
 
-if_any-twice : (as : List Row) → joined_if_any (as ++ as) ≡ joined_if_any as
+if_any-twice : (us : List Row) → joined_if_any (us ++ us) ≡ joined_if_any us
 if_any-twice [] = refl
-if_any-twice (a ∷ as) = ap Some (joined_row-twice (a ∷ as))
+if_any-twice (a ∷ us) = ap Some (joined_row-twice (a ∷ us))
 
 -- lists whose rows at each key join alike join alike
 pub same_joined_rows : (es fs : Entries) → ((q : List Comp) → joined_if_any (rows_at q es) ≡ joined_if_any (rows_at q fs)) → joined_rows es ≡ joined_rows fs
@@ -103,7 +103,7 @@ joined_rows-put xs key row is h =
     same_rows (joined_rows (xs ++ (key, row) ∷ [])) (put key_cmp key made xs) (sorted-joined_rows (xs ++ (key, row) ∷ [])) (is_sorted-put key_cmp key_cmp_total key made xs up) (λ q.
       find-joined_rows q (xs ++ (key, row) ∷ [])
       ∙ ap joined_if_any (rows_at-append q xs ((key, row) ∷ []) ∙ ap (λ rs. rs ++ rows_at q ((key, row) ∷ [])) (rows_at-ascending q xs up))
-      ∙ elim (eq_by_cmp key_cmp q key) as (λ b. eq_by_cmp key_cmp q key ≡ b → joined_if_any (option_to_list (find key_cmp q xs) ++ list_map (λ e. e.1) (cond b ((key, row) ∷ []) [])) ≡ cond b (Some made) (find key_cmp q xs)) [
+      ∙ elim (eq_by_cmp key_cmp q key) as (λ b. eq_by_cmp key_cmp q key ≡ b → joined_if_any (option_to_list (find key_cmp q xs) ++ list_map (λ (e : List Comp × Row). e.1) (cond b ((key, row) ∷ []) [])) ≡ cond b (Some made) (find key_cmp q xs)) [
         | true ↦ λ t. ap (λ x. joined_if_any (option_to_list (find key_cmp x xs) ++ row ∷ [])) (same_key q key t) ∙ if_any-joined_to (find key_cmp key xs) row h
         | false ↦ λ t. ap joined_if_any (append-nil (option_to_list (find key_cmp q xs))) ∙ if_any-one (find key_cmp q xs) (found (λ r. IsTrue (ascending r.cells)) q xs is.by_column)
       ] refl
@@ -121,7 +121,7 @@ joined_row-written row rows h written is =
 written_at : (q : List Comp) (es : Entries) → All (λ e. IsTrue (ascending e.1.cells)) es → All (λ e. e.1 ≢ empty_row) es → occurs q (keys_of es) ≡ true → joined_row (rows_at q es) ≢ empty_row
 written_at q [] g h o = absurd (cc)
 written_at q (e ∷ es) g h o =
-    elim (eq_by_cmp key_cmp q e.0) as (λ b. (b || occurs q (keys_of es)) ≡ true → joined_row (list_map (λ e. e.1) (cond b (e ∷ filter (λ e. eq_by_cmp key_cmp q e.0) es) (filter (λ e. eq_by_cmp key_cmp q e.0) es))) ≢ empty_row) [
+    elim (eq_by_cmp key_cmp q e.0) as (λ b. (b || occurs q (keys_of es)) ≡ true → joined_row (list_map (λ (e : List Comp × Row). e.1) (cond b (e ∷ filter (λ e. eq_by_cmp key_cmp q e.0) es) (filter (λ e. eq_by_cmp key_cmp q e.0) es))) ≢ empty_row) [
       | true ↦ λ _. joined_row-written e.1 (rows_at q es) (g 0 e (omega arith)) (h 0 e (omega arith))
       | false ↦ λ p. written_at q es (λ k d lt. g (suc k) d (omega arith)) (λ k d lt. h (suc k) d (omega arith)) p
     ] o
