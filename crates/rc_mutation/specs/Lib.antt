@@ -1,1 +1,3 @@
+pub mod ByKey
+pub mod RowsLaws
 pub mod Source
