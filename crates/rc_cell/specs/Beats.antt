@@ -74,9 +74,9 @@ rest-above (Dead ts time) (Dead ts' time') = nat_cmp-above time time'
 pub beats-is_gt : (c d : Cell) → beats c d ≡ is_gt (cell_cmp c d)
 beats-is_gt c d =
     sym (
-      ap is_gt (regrouped (int_cmp (timestamp_of c) (timestamp_of d)) _ _ _)
-      ∙ above_then (int_cmp (timestamp_of c) (timestamp_of d)) (rest_cmp c d)
-      ∙ (λ i. int_cmp-above (timestamp_of c) (timestamp_of d) i || (int_eq (timestamp_of c) (timestamp_of d) && rest-above c d i))
+    ap is_gt (regrouped (int_cmp (timestamp_of c) (timestamp_of d)) _ _ _)
+    ∙ above_then (int_cmp (timestamp_of c) (timestamp_of d)) (rest_cmp c d)
+    ∙ (λ i. int_cmp-above (timestamp_of c) (timestamp_of d) i || (int_eq (timestamp_of c) (timestamp_of d) && rest-above c d i))
     )
 
 -- so the winner is the greatest in that order

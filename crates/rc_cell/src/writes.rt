@@ -3,10 +3,9 @@ ghost use Rattle.rc_cell.specs.Orders.{timestamp_of, bytes_of, deletion_time_of,
 ghost use Rattle.std.specs.Prelude.{refl};
 ghost use Rattle.std.specs.Ordering.{as_partial_cmp, eq_by_cmp};
 ghost use Rattle.std.specs.Cmp.{eq_by_cmp_equiv, partial_equiv_from_equiv, partial_order_from_total};
-
-use crate::values::Value;
 ghost use Rattle.rc_cell.specs.Deletion.{survives};
 
+use crate::values::Value;
 use std::alloc::{AllocError, Global};
 use std::cmp::Ordering;
 
