@@ -1,12 +1,12 @@
 -- What bodies of `shadow` and `is_live` have made.
-use Rattle.std.proofs.Common.{◌≡◌, ℕ, ℤ, Bool, true, false, ◌&&◌, ◌||◌, List, [], ◌∷◌, Option, Some, None, cond, refl, sym, ap, ◌∙◌}
+use Rattle.std.proofs.Common.{◌≡◌, ℕ, ℤ, Bool, true, false, ◌&&◌, ◌||◌, List, [], ◌∷◌, Option, cond, refl, sym, ap, ◌∙◌}
 use Rattle.std.specs.Prelude.{is_some}
 use Rattle.std.specs.List.{filter, list_any}
 use Rattle.rc_cell.specs.declared.writes.Cell.{Cell}
 use Rattle.rc_cell.specs.declared.writes.Tomb.{Tomb}
 use Rattle.rc_cell.specs.declared.rows.Row.{Row}
 use Rattle.rc_cell.specs.Orders.{timestamp_of, is_live_cell, tomb_cmp}
-use Rattle.rc_cell.specs.Deletion.{survives, in_force, surviving_marker, surviving_cells, shadowed_row, has_life}
+use Rattle.rc_cell.specs.Deletion.{survives, surviving_marker, surviving_cells, shadowed_row, has_life}
 use Rattle.rc_cell.specs.Greatest.{greater}
 use Rattle.rc_cell.specs.Survivors.{in_force-greater}
 use Rattle.rc_cell.specs.Laws.{same_row}

@@ -1,6 +1,6 @@
 -- Cells by column: what `winners` has at a column, and that it ascends. Its laws are those of the winner, column by column.
 use Rattle.std.specs.Prelude.{ℕ, Bool, true, false, ◌&&◌, ◌||◌, ◌==◌, List, [], ◌∷◌, ◌++◌, Option, Some, None, is_some, cond, map as list_map, IsTrue, ◌≡◌}
-use Rattle.std.proofs.Common.{refl, sym, ap, ◌∙◌, subst, T}
+use Rattle.std.proofs.Common.{refl, sym, ap, ◌∙◌, T}
 use Rattle.std.specs.declared.cmp.Ordering.{Ordering}
 use Rattle.std.specs.declared.cmp.Ordering.TheVariants.{Less, Equal, Greater}
 use Rattle.std.specs.Ordering.{nat_cmp, is_lt, is_eq, eq_by_cmp}

@@ -1,5 +1,5 @@
 -- What a tombstone deletes of a row, and when a row is live.
-use Rattle.std.specs.Prelude.{ℕ, ℤ, Bool, true, false, cond, ◌||◌, is_some, int_lt, List, ◌++◌, Option, Some, None, if◌then◌else◌}
+use Rattle.std.specs.Prelude.{ℕ, ℤ, Bool, true, ◌||◌, is_some, int_lt, List, ◌++◌, Option, Some, None, if◌then◌else◌}
 use Rattle.std.specs.Option.{option_to_list}
 use Rattle.std.specs.List.{filter, list_any}
 use Rattle.rc_cell.specs.declared.writes.Cell.{Cell}

@@ -38,7 +38,7 @@ first_of (x ∷ xs) = Some x
 
 -- the member of a list that no other member beats; none of an empty list
 abbrev pub unbeaten : {X : Type 0} → (X → X → Bool) → List X → Option X
-unbeaten beaten_by xs = first_of (filter (λ x. list_all (λ y. not (beaten_by y x)) xs) xs)
+unbeaten wins xs = first_of (filter (λ x. list_all (λ y. not (wins y x)) xs) xs)
 
 -- the winner among the cells of a column
 unfoldable pub winner : List Cell → Option Cell

@@ -60,11 +60,13 @@ impl Row {
     pub fn shadow(&self, alloc: Global, cover: Option<Tomb>) -> Result<Row, AllocError>
         ensures { IfOk result (λ row. row ≡ shadowed_row cover self.now) }
     {
-        let tomb = greater_of(cover, self.tomb);
-        let cells = self.cells.surviving(alloc, tomb)?;
+        let in_force = greater_of(cover, self.tomb);
+        let marker = marker_surviving(in_force, self.marker);
+        let tomb = self.tomb;
+        let cells = self.cells.surviving(alloc, in_force)?;
         Ok(Row {
-            marker: marker_surviving(tomb, self.marker),
-            tomb: self.tomb,
+            marker,
+            tomb,
             cells,
         })
     }

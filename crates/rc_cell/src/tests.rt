@@ -1,26 +1,31 @@
 use super::{Cell, Cells, Row, Tomb, Value, laws};
 use std::alloc::{AllocError, Global};
 use std::cmp::Ordering;
-use std::process::Abort;
 use std::test::Fail;
 
-fn live(alloc: Global, ts: i64, bytes: &[u8]) -> Result<Cell, AllocError> {
-    let value = Value::from_slice(alloc, bytes)?;
-    Ok(Cell::Live { ts, value })
-}
+// A timestamp, and a value, or none and a deletion time.
+type Written = (i64, Option<&'static str>, u32);
 
-fn dead(ts: i64, dt: u32) -> Cell {
-    Cell::Dead { ts, dt }
+fn cell_of(alloc: Global, written: Written) -> Result<Cell, AllocError> {
+    let (ts, value, dt) = written;
+    match value {
+        Some(text) => {
+            let value = Value::from_slice(alloc, text.as_bytes())?;
+            Ok(Cell::Live { ts, value })
+        }
+        None => Ok(Cell::Dead { ts, dt }),
+    }
 }
 
 fn row_of(
     alloc: Global,
     marker: Option<i64>,
-    tomb: Option<Tomb>,
+    tomb: Option<i64>,
     column: u8,
     cell: &Cell,
 ) -> Result<Row, AllocError> {
     let cells = Cells::from_slice(alloc, &[(column, cell.copy(alloc)?)])?;
+    let tomb = tomb_of(tomb);
     Ok(Row {
         marker,
         tomb,
@@ -28,70 +33,76 @@ fn row_of(
     })
 }
 
-// That the second cell loses to the first, in whichever order their rows are joined, and by each comparison.
-fn assert_wins(
-    rt: &impl Abort,
-    alloc: Global,
-    winner: &Cell,
-    loser: &Cell,
-    case: &str,
-) -> Result<(), AllocError> {
-    let first = row_of(alloc, None, None, 3, winner)?;
-    let second = row_of(alloc, None, None, 3, loser)?;
-    let mut joined = first.copy(alloc)?;
-    joined.join(alloc, &second)?;
-    let mut turned = second.copy(alloc)?;
-    turned.join(alloc, &first)?;
-    for row in [joined, turned] {
-        match row.cells.as_slice() {
-            [(column, cell)] => {
-                assert!(rt; *column == 3, "{case}");
-                assert!(rt; cell == winner, "{case}");
-            }
-            _ => panic!(rt; "{case}"),
-        }
+fn tomb_of(ts: Option<i64>) -> Option<Tomb> {
+    match ts {
+        Some(ts) => Some(Tomb { ts, dt: 7 }),
+        None => None,
     }
-    assert!(rt; loser < winner, "{case}");
-    assert!(rt; loser != winner, "{case}");
-    Ok(())
 }
+
+// Whether the row has one cell, this one, at column 3.
+fn holds(row: &Row, wanted: &Cell) -> bool {
+    match row.cells.as_slice() {
+        [(column, cell)] => *column == 3 && cell == wanted,
+        _ => false,
+    }
+}
+
+// Whether the first cell wins over the second: in both orders of joining, and in the order of cells.
+fn wins(alloc: Global, winner: &Cell, loser: &Cell) -> Result<bool, AllocError> {
+    let mut joined = row_of(alloc, None, None, 3, winner)?;
+    joined.join(alloc, &row_of(alloc, None, None, 3, loser)?)?;
+    let mut turned = row_of(alloc, None, None, 3, loser)?;
+    turned.join(alloc, &row_of(alloc, None, None, 3, winner)?)?;
+    Ok(holds(&joined, winner) && holds(&turned, winner) && loser < winner)
+}
+
+// Each first one wins over the second.
+const WINS: [(Written, Written); 9] = [
+    ((10, Some("5"), 0), (10, Some("12"), 0)),
+    ((10, Some("ab"), 0), (10, Some("a"), 0)),
+    ((10, Some("0"), 0), (10, Some(""), 0)),
+    ((10, Some("é"), 0), (10, Some("z"), 0)),
+    ((10, None, 0), (10, Some("5"), 0)),
+    ((11, Some(""), 0), (10, None, 7)),
+    ((10, None, 8), (10, None, 7)),
+    ((i64::MAX, Some(""), 0), (i64::MIN, Some("z"), 0)),
+    ((-1, None, 0), (-2, Some("z"), 0)),
+];
 
 #[test]
 fn the_winner_of_two_writes(rt: HostRuntime) -> Result<(), Fail> {
     let alloc = rt.alloc();
-    let cases = [
-        (
-            "5 beats 12",
-            live(alloc, 10, b"5")?,
-            live(alloc, 10, b"12")?,
-        ),
-        (
-            "a prefix is smaller",
-            live(alloc, 10, b"ab")?,
-            live(alloc, 10, b"a")?,
-        ),
-        (
-            "no bytes are least",
-            live(alloc, 10, b"\0")?,
-            live(alloc, 10, b"")?,
-        ),
-        (
-            "bytes are unsigned",
-            live(alloc, 10, b"\xff")?,
-            live(alloc, 10, b"\x7f")?,
-        ),
-        ("dead beats live", dead(10, 0), live(alloc, 10, b"5")?),
-        ("later beats dead", live(alloc, 11, b"")?, dead(10, 7)),
-        ("larger deletion time", dead(10, 8), dead(10, 7)),
-        (
-            "the ends of time",
-            live(alloc, i64::MAX, b"")?,
-            live(alloc, i64::MIN, b"z")?,
-        ),
-        ("before zero", dead(-1, 0), live(alloc, -2, b"z")?),
-    ];
-    for (case, winner, loser) in &cases {
-        assert_wins(&rt, alloc, winner, loser, case)?;
+    for (winner, loser) in &WINS {
+        let won = wins(alloc, &cell_of(alloc, *winner)?, &cell_of(alloc, *loser)?)?;
+        assert!(rt; won);
+    }
+    Ok(())
+}
+
+// The timestamps of a row's marker, of its tombstone (deletion time 7), and its cell; that of the cover; and whether it is live.
+const LIVES: [(Option<i64>, Option<i64>, Written, Option<i64>, bool); 10] = [
+    (None, None, (10, Some("5"), 0), None, true),
+    (None, None, (10, Some("5"), 0), Some(9), true),
+    (None, None, (10, Some("5"), 0), Some(10), false),
+    (Some(10), Some(10), (10, Some("5"), 0), None, false),
+    (Some(10), Some(10), (10, Some("5"), 0), Some(3), false),
+    (Some(11), Some(10), (10, Some("5"), 0), Some(3), true),
+    (None, None, (12, None, 7), None, false),
+    (Some(12), None, (12, None, 7), Some(11), true),
+    (None, None, (i64::MIN, Some("x"), 0), None, true),
+    (None, None, (i64::MIN, Some("x"), 0), Some(i64::MIN), false),
+];
+
+#[test]
+fn a_tombstone_deletes_up_to_its_timestamp(rt: HostRuntime) -> Result<(), Fail> {
+    let alloc = rt.alloc();
+    for (marker, tomb, written, cover, wanted) in &LIVES {
+        let row = row_of(alloc, *marker, *tomb, 3, &cell_of(alloc, *written)?)?;
+        let cover = tomb_of(*cover);
+        let left = row.shadow(alloc, cover)?;
+        assert!(rt; row.is_live(cover) == *wanted);
+        assert!(rt; left.is_live(None) == *wanted);
     }
     Ok(())
 }
@@ -99,65 +110,23 @@ fn the_winner_of_two_writes(rt: HostRuntime) -> Result<(), Fail> {
 #[test]
 fn rows_join_by_column(rt: HostRuntime) -> Result<(), Fail> {
     let alloc = rt.alloc();
-    let low = Tomb { ts: 4, dt: 9 };
-    let high = Tomb { ts: 5, dt: 1 };
-    let mut row = Row {
-        marker: Some(i64::MIN),
-        tomb: Some(high),
-        cells: Cells::from_slice(alloc, &[(1, dead(1, 1)), (3, dead(1, 1))])?,
-    };
-    let other = Row {
-        marker: None,
-        tomb: Some(low),
-        cells: Cells::from_slice(
-            alloc,
-            &[(0, dead(1, 1)), (3, dead(1, 2)), (255, dead(1, 1))],
-        )?,
-    };
-    row.join(alloc, &other)?;
-    assert!(rt; row.marker == Some(i64::MIN));
-    assert!(rt; row.tomb == Some(high));
-    let wanted = [
-        (0, dead(1, 1)),
-        (1, dead(1, 1)),
-        (3, dead(1, 2)),
-        (255, dead(1, 1)),
-    ];
-    assert!(rt; row.cells.as_slice() == wanted.as_slice());
+    let older = Cell::Dead { ts: 1, dt: 1 };
+    let newer = Cell::Dead { ts: 1, dt: 2 };
+    let mut row = row_of(alloc, Some(i64::MIN), None, 3, &older)?;
+    row.join(alloc, &row_of(alloc, None, Some(4), 255, &older)?)?;
+    row.join(alloc, &row_of(alloc, None, Some(3), 0, &older)?)?;
+    row.join(alloc, &row_of(alloc, None, None, 3, &newer)?)?;
+    assert!(rt; row.marker == Some(i64::MIN) && row.tomb == tomb_of(Some(4)));
+    let copy = row.copy(alloc)?;
+    match copy.cells.as_slice() {
+        [first, second, third] => {
+            assert!(rt; first.0 == 0 && second.0 == 3 && third.0 == 255);
+            assert!(rt; second.1 == newer);
+        }
+        _ => panic!(rt; "three columns"),
+    }
+    assert!(rt; !copy.is_empty() && Row::empty(alloc).is_empty());
     Ok(())
-}
-
-#[test]
-fn a_tombstone_deletes_up_to_its_timestamp(rt: HostRuntime) -> Result<(), Fail> {
-    let alloc = rt.alloc();
-    let written = live(alloc, 10, b"5")?;
-    let at = |ts: i64| Some(Tomb { ts, dt: 7 });
-    let updated = row_of(alloc, None, None, 0, &written)?;
-    assert!(rt; updated.is_live(None));
-    assert!(rt; updated.is_live(at(9)));
-    assert!(rt; !updated.is_live(at(10)));
-    let inserted = row_of(alloc, Some(10), at(10), 0, &written)?;
-    assert!(rt; !inserted.is_live(None));
-    assert!(rt; !inserted.is_live(at(3)));
-    let left = inserted.shadow(alloc, at(3))?;
-    assert!(rt; left.marker.is_none());
-    assert!(rt; left.tomb == at(10));
-    assert!(rt; left.cells.as_slice().is_empty());
-    assert!(rt; !left.is_empty());
-    let deleted = row_of(alloc, None, None, 0, &dead(12, 7))?;
-    assert!(rt; !deleted.is_live(None));
-    let marked = row_of(alloc, Some(12), None, 0, &dead(12, 7))?;
-    assert!(rt; marked.is_live(None));
-    assert!(rt; marked.shadow(alloc, at(11))?.cells.as_slice() == [(0, dead(12, 7))].as_slice());
-    let earliest = row_of(alloc, None, None, 0, &live(alloc, i64::MIN, b"x")?)?;
-    assert!(rt; earliest.is_live(None));
-    assert!(rt; !earliest.is_live(at(i64::MIN)));
-    assert!(rt; Row::empty(alloc).is_empty());
-    Ok(())
-}
-
-fn greatest_of<T: Ord + Copy>(first: T, second: T) -> T {
-    first.max(second)
 }
 
 fn order_of<T: Ord>(first: &T, second: &T) -> (bool, Option<Ordering>, Ordering) {
@@ -169,19 +138,13 @@ fn order_of<T: Ord>(first: &T, second: &T) -> (bool, Option<Ordering>, Ordering)
 }
 
 #[test]
-fn orders_and_laws(rt: HostRuntime) -> Result<(), Fail> {
-    let low = Tomb { ts: 4, dt: 9 };
-    let high = Tomb { ts: 5, dt: 1 };
-    let later = Tomb { ts: 5, dt: 2 };
-    assert!(rt; greatest_of(low, high) == high);
-    assert!(rt; greatest_of(later, high) == later);
-    assert!(rt; order_of(&low, &low) == (true, Some(Ordering::Equal), Ordering::Equal));
-    let cell = dead(4, 9);
-    assert!(rt;
-        order_of(&cell, &dead(4, 8)) == (false, Some(Ordering::Greater), Ordering::Greater)
-    );
-    assert!(rt; cell.ts() == 4);
-    assert!(rt; !cell.is_live());
+fn orders_and_laws(rt: HostRuntime) {
+    let older = Tomb { ts: 4, dt: 9 };
+    let newer = Tomb { ts: 5, dt: 1 };
+    assert!(rt; order_of(&older, &newer) == (false, Some(Ordering::Less), Ordering::Less));
+    let cell = Cell::Dead { ts: 4, dt: 9 };
+    assert!(rt; order_of(&cell, &cell) == (true, Some(Ordering::Equal), Ordering::Equal));
+    assert!(rt; cell.ts() == 4 && !cell.is_live());
     laws::order_follows_rules();
     laws::join_is_commutative();
     laws::join_is_associative();
@@ -189,5 +152,4 @@ fn orders_and_laws(rt: HostRuntime) -> Result<(), Fail> {
     laws::join_of_none();
     laws::join_of_one();
     laws::join_of_one_more();
-    Ok(())
 }

@@ -1,5 +1,4 @@
 -- What survives ascends.
-use Rattle.std.proofs.Common.{sym}
 use Rattle.rc_cell.specs.Survivors.{ascending-surviving_cells}
 use Rattle.rc_cell.proofs.columns.Cells.surviving.Goals as goal
 
