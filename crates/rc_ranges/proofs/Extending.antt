@@ -75,18 +75,18 @@ cut p q e before_p before_q x =
     let next : lt p.to q.to ≡ true = subst (λ z. lt z q.to ≡ true) (sym touch) (before-lt q.from q.to before_q) in
     elim (lt x p.from) as (λ b. lt x p.from ≡ b → piece_at (longer p q) x ≡ greater tomb_cmp (piece_at p x) (piece_at q x)) [
       | true ↦ λ f.
-        let early : lt x q.from ≡ true = subst (λ z. lt x z ≡ true) touch (lt-trans x p.from p.to f short) in
-        piece_at-before (longer p q) x f ∙ sym (λ i. greater tomb_cmp (piece_at-before p x f i) (piece_at-before q x early i))
+          let early : lt x q.from ≡ true = subst (λ z. lt x z ≡ true) touch (lt-trans x p.from p.to f short) in
+          piece_at-before (longer p q) x f ∙ sym (λ i. greater tomb_cmp (piece_at-before p x f i) (piece_at-before q x early i))
       | false ↦ λ f. elim (lt x p.to) as (λ b. lt x p.to ≡ b → piece_at (longer p q) x ≡ greater tomb_cmp (piece_at p x) (piece_at q x)) [
         | true ↦ λ g.
-          let early : lt x q.from ≡ true = subst (λ z. lt x z ≡ true) touch g in
-          piece_at-inside (longer p q) x f (lt-trans x p.to q.to g next) ∙ sym (λ i. greater tomb_cmp (piece_at-inside p x f g i) (piece_at-before q x early i))
+            let early : lt x q.from ≡ true = subst (λ z. lt x z ≡ true) touch g in
+            piece_at-inside (longer p q) x f (lt-trans x p.to q.to g next) ∙ sym (λ i. greater tomb_cmp (piece_at-inside p x f g i) (piece_at-before q x early i))
         | false ↦ λ g.
-          let begun : lt x q.from ≡ false = subst (λ z. lt x z ≡ false) touch g in
-          elim (lt x q.to) as (λ b. lt x q.to ≡ b → piece_at (longer p q) x ≡ greater tomb_cmp (piece_at p x) (piece_at q x)) [
-            | true ↦ λ h. piece_at-inside (longer p q) x f h ∙ ap Some same ∙ sym (λ i. greater tomb_cmp (piece_at-behind p x g i) (piece_at-inside q x begun h i))
-            | false ↦ λ h. piece_at-behind (longer p q) x h ∙ sym (λ i. greater tomb_cmp (piece_at-behind p x g i) (piece_at-behind q x h i))
-          ] refl
+            let begun : lt x q.from ≡ false = subst (λ z. lt x z ≡ false) touch g in
+            elim (lt x q.to) as (λ b. lt x q.to ≡ b → piece_at (longer p q) x ≡ greater tomb_cmp (piece_at p x) (piece_at q x)) [
+              | true ↦ λ h. piece_at-inside (longer p q) x f h ∙ ap Some same ∙ sym (λ i. greater tomb_cmp (piece_at-behind p x g i) (piece_at-inside q x begun h i))
+              | false ↦ λ h. piece_at-behind (longer p q) x h ∙ sym (λ i. greater tomb_cmp (piece_at-behind p x g i) (piece_at-behind q x h i))
+            ] refl
       ] refl
     ] refl
 
@@ -117,8 +117,8 @@ IsCanonical-extended [] q c ends before = (before, tt, tt)
 IsCanonical-extended (p ∷ []) q c ends before =
     elim (goes_on p q) as (λ b. goes_on p q ≡ b → IsCanonical (cond b (longer p q ∷ []) (p ∷ q ∷ []))) [
       | true ↦ λ e.
-        let next : lt p.to q.to ≡ true = subst (λ z. lt z q.to ≡ true) (sym (goes_on-touches p q e)) (before-lt q.from q.to before) in
-        (lt-before p.from q.to (lt-trans p.from p.to q.to (before-lt p.from p.to c.0) next), tt, tt)
+          let next : lt p.to q.to ≡ true = subst (λ z. lt z q.to ≡ true) (sym (goes_on-touches p q e)) (before-lt q.from q.to before) in
+          (lt-before p.from q.to (lt-trans p.from p.to q.to (before-lt p.from p.to c.0) next), tt, tt)
       | false ↦ λ e. (c.0, (gt-lt p.to q.from ∙ ends.0, λ touch same. no_both (goes_on p q) (goes_on-from p q touch same) e), (before, tt, tt))
     ] refl
 IsCanonical-extended (p ∷ r ∷ ps) q c ends before = (c.0, MayFollow-extended p r ps q c.1, IsCanonical-extended (r ∷ ps) q c.2 ends.1 before)

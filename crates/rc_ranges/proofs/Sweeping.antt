@@ -104,8 +104,8 @@ begun f m n e =
     elim (lt m f) as (λ b. lt m f ≡ b → cond (lt n f) 2 1 ≤ cond b 2 1) [
       | true ↦ λ g. flag_most (lt n f)
       | false ↦ λ g.
-        let still : lt n f ≡ false = le-trans f m n g (lt-asym m n e) in
-        subst (λ b. cond b 2 1 ≤ 1) (sym still) (omega arith)
+          let still : lt n f ≡ false = le-trans f m n g (lt-asym m n e) in
+          subst (λ b. cond b 2 1 ≤ 1) (sym still) (omega arith)
     ] refl
 
 pub bounds_left-rest : (xs : List Piece) (m n : Pos) → lt m n ≡ true → bounds_left (rest_from xs n) n ≤ bounds_left xs m
@@ -114,8 +114,8 @@ bounds_left-rest (p ∷ ps) m n e =
     elim (lt n p.to) as (λ b. bounds_left (cond b (p ∷ ps) ps) n ≤ cond (lt m p.from) 2 1 + 2 * length ps) [
       | true ↦ let less : cond (lt n p.from) 2 1 ≤ cond (lt m p.from) 2 1 = begun p.from m n e in omega arith
       | false ↦
-        let most : bounds_left ps n ≤ 2 * length ps = bounds_left-most ps n in
-        omega arith
+          let most : bounds_left ps n ≤ 2 * length ps = bounds_left-most ps n in
+          omega arith
     ]
 
 pub bounds_left-falls : (xs : List Piece) (m n : Pos) → lt m n ≡ true → next_bound xs m ≡ Some n → bounds_left (rest_from xs n) n < bounds_left xs m
@@ -124,14 +124,14 @@ bounds_left-falls (p ∷ ps) m n e f =
     elim (lt n p.to) as (λ b. lt n p.to ≡ b → bounds_left (cond b (p ∷ ps) ps) n < cond (lt m p.from) 2 1 + 2 * length ps) [
       | true ↦ λ g. elim (lt m p.from) as (λ b. Some (cond b p.from p.to) ≡ Some n → cond (lt n p.from) 2 1 + 2 * length ps < cond b 2 1 + 2 * length ps) [
         | true ↦ λ h.
-          let now : lt n p.from ≡ false = subst (λ z. lt n z ≡ false) (sym (same_some p.from n h)) (lt-irrefl n) in
-          subst (λ b. cond b 2 1 + 2 * length ps < 2 + 2 * length ps) (sym now) (omega arith)
+            let now : lt n p.from ≡ false = subst (λ z. lt n z ≡ false) (sym (same_some p.from n h)) (lt-irrefl n) in
+            subst (λ b. cond b 2 1 + 2 * length ps < 2 + 2 * length ps) (sym now) (omega arith)
         | false ↦ λ h. absurd (no_both (lt n p.to) g (subst (λ z. lt n z ≡ false) (sym (same_some p.to n h)) (lt-irrefl n)))
       ] f
       | false ↦ λ g.
-        let most : bounds_left ps n ≤ 2 * length ps = bounds_left-most ps n in
-        let least : 1 ≤ cond (lt m p.from) 2 1 = flag_least (lt m p.from) in
-        omega arith
+          let most : bounds_left ps n ≤ 2 * length ps = bounds_left-most ps n in
+          let least : 1 ≤ cond (lt m p.from) 2 1 = flag_least (lt m p.from) in
+          omega arith
     ] refl
 
 -- ---- the earlier of two bounds
@@ -231,8 +231,8 @@ module _ (ours theirs made xs ys : List Piece) (m n : Pos) (h : IsSwept ours the
       elim (lt x m) as (λ b. lt x m ≡ b → cover (extended_by made m n both) x ≡ greater tomb_cmp (cover ours x) (cover theirs x)) [
         | true ↦ λ e. before_mark both made m n h.made_canonical before x e ∙ h.done x e
         | false ↦ λ e.
-          from_mark both made m n h.made_canonical h.made_ends before x e f
-          ∙ sym (λ i. greater tomb_cmp
+            from_mark both made m n h.made_canonical h.made_ends before x e f
+            ∙ sym (λ i. greater tomb_cmp
             ((h.ours_left x e ∙ cover-in_force xs m n h.ours_canonical (earlier-left (next_bound xs m) (next_bound ys m) n next) x e f) i)
             ((h.theirs_left x e ∙ cover-in_force ys m n h.theirs_canonical (earlier-right (next_bound xs m) (next_bound ys m) n next) x e f) i))
       ] refl
@@ -258,9 +258,9 @@ module _ (ours theirs made xs ys : List Piece) (m n : Pos) (h : IsSwept ours the
       let less_ours : bounds_left (rest_from xs n) n ≤ bounds_left xs m = bounds_left-rest xs m n mark-behind in
       let less_theirs : bounds_left (rest_from ys n) n ≤ bounds_left ys m = bounds_left-rest ys m n mark-behind in
       ⊎_elim
-        (λ e. let falls : bounds_left (rest_from xs n) n < bounds_left xs m = bounds_left-falls xs m n mark-behind e in omega arith)
-        (λ e. let falls : bounds_left (rest_from ys n) n < bounds_left ys m = bounds_left-falls ys m n mark-behind e in omega arith)
-        (earlier-one (next_bound xs m) (next_bound ys m) n next)
+      (λ e. let falls : bounds_left (rest_from xs n) n < bounds_left xs m = bounds_left-falls xs m n mark-behind e in omega arith)
+      (λ e. let falls : bounds_left (rest_from ys n) n < bounds_left ys m = bounds_left-falls ys m n mark-behind e in omega arith)
+      (earlier-one (next_bound xs m) (next_bound ys m) n next)
 
 pub IsSwept-all : (ours theirs made xs ys : List Piece) (m : Pos) → IsSwept ours theirs made xs ys m → earlier (next_bound xs m) (next_bound ys m) ≡ None → IsJoinOf made ours theirs
 IsSwept-all ours theirs made xs ys m h none x =
@@ -268,8 +268,8 @@ IsSwept-all ours theirs made xs ys m h none x =
     elim (lt x m) as (λ b. lt x m ≡ b → cover made x ≡ greater tomb_cmp (cover ours x) (cover theirs x)) [
       | true ↦ λ e. h.done x e
       | false ↦ λ e.
-        EndBy-cover made m x h.made_ends e
-        ∙ sym (λ i. greater tomb_cmp
+          EndBy-cover made m x h.made_ends e
+          ∙ sym (λ i. greater tomb_cmp
           ((h.ours_left x e ∙ ap (λ ps. cover ps x) empty.0 ∙ cover-none x) i)
           ((h.theirs_left x e ∙ ap (λ ps. cover ps x) empty.1 ∙ cover-none x) i))
     ] refl

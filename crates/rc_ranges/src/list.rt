@@ -1,9 +1,13 @@
 //! The canonical list of pieces.
 
-ghost use Rattle.std.specs.Prelude.{◌≡◌, [], IfOk};
-ghost use Rattle.rc_ranges.specs.Cover.{IsCanonical};
+ghost use Rattle.std.specs.Prelude.{◌≡◌, [], ◌∷◌, IfOk, OnOk, OnErr};
+ghost use Rattle.rc_position.specs.Position.{IsBefore};
+ghost use Rattle.rc_ranges.specs.Cover.{cover, IsCanonical, IsJoinOf};
 
 use crate::pieces::Piece;
+use crate::sweep::{joined, tomb_in_force};
+use rc_cell::Tomb;
+use rc_position::Pos;
 use std::alloc::{AllocError, Global};
 use std::marker::Model;
 
@@ -62,4 +66,45 @@ impl Ranges {
     {
         Ranges::from_slice(alloc, self.as_slice())
     }
+
+    /// Adds a tombstone over the positions from `from` on and before `to`: at each of these the greater tombstone stands.
+    /// Want of memory leaves the ranges as they were.
+    pub fn add(&mut self, alloc: Global, from: &Pos, to: &Pos, tomb: Tomb) -> Result<(), AllocError>
+        requires { IsBefore from.now to.now }
+        ensures ok { OnOk result (IsJoinOf self.new self.old (record { from = from.now; to = to.now; tomb = tomb } ∷ [])) }
+        ensures err { OnErr result (self.new ≡ self.old) }
+        ensures canonical { IsCanonical self.new }
+    {
+        let ours = self.items.as_slice();
+        let piece = Piece::new(alloc, from, to, tomb)?;
+        self.items = joined(alloc, ours, &[piece])?;
+        Ok(())
+    }
+
+    /// Adds all pieces of others: at each position the greater tombstone stands. The work is linear in the pieces of both.
+    /// Want of memory leaves the ranges as they were.
+    pub fn join(&mut self, alloc: Global, other: &Ranges) -> Result<(), AllocError>
+        ensures ok { OnOk result (IsJoinOf self.new self.old other.now) }
+        ensures err { OnErr result (self.new ≡ self.old) }
+        ensures canonical { IsCanonical self.new }
+    {
+        self.items = joined(alloc, self.items.as_slice(), other.items.as_slice())?;
+        Ok(())
+    }
+
+    /// The tombstone in force at a position, none where no piece covers it.
+    pub fn at(&self, x: &Pos) -> Option<Tomb>
+        ensures { result ≡ cover self.now x.now }
+    {
+        tomb_at(self.items.as_slice(), x)
+    }
+}
+
+// The tombstone of the piece that covers the position. Only the first that ends behind it can.
+fn tomb_at(pieces: &[Piece], x: &Pos) -> Option<Tomb>
+    requires { IsCanonical pieces.now }
+    ensures { result ≡ cover pieces.now x.now }
+{
+    let first = pieces.partition_point(|piece| piece.to <= *x);
+    tomb_in_force(&pieces[first..], x)
 }
