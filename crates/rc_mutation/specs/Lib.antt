@@ -1,3 +1,4 @@
 pub mod ByKey
+pub mod Place
 pub mod RowsLaws
 pub mod Source
