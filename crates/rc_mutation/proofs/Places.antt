@@ -17,7 +17,7 @@ use Rattle.rc_position.specs.Position.{key_cmp}
 use Rattle.rc_position.specs.OrderLaws.{key_cmp_total, key_cmp_same}
 use Rattle.rc_cell.specs.Columns.{ascending}
 use Rattle.rc_cell.specs.Winner.{empty_row, joined_row}
-use Rattle.rc_mutation.specs.Source.{joined_rows, IsRows}
+use Rattle.rc_mutation.specs.Rows.{joined_rows, IsRows}
 use Rattle.rc_mutation.specs.ByKey.{Entries}
 use Rattle.rc_mutation.specs.RowsLaws.{joined_to, joined_rows-put, IsRows-joined_rows}
 use Rattle.rc_mutation.specs.Place.{IsAt, IsGapFor}

@@ -16,7 +16,7 @@ use Rattle.rc_cell.specs.Winner.{joined_row}
 use Rattle.rc_position.specs.declared.comps.Comp.{Comp}
 use Rattle.rc_position.specs.Position.{key_cmp}
 use Rattle.rc_position.specs.OrderLaws.{key_cmp_total, key_cmp_same}
-use Rattle.rc_mutation.specs.Source.{rows_at, keys, joined_rows}
+use Rattle.rc_mutation.specs.Rows.{rows_at, keys, joined_rows}
 
 abbrev pub Entries : Type 0
 Entries = List (List Comp × Row)
@@ -171,3 +171,8 @@ keys_of-joined_rows es = keys_of-each (λ k. joined_row (rows_at k es)) (keys es
 pub all-joined_rows : (P : Row → Type 0) (es : Entries) → ((k : List Comp) → occurs k (keys_of es) ≡ true → P (joined_row (rows_at k es))) → All (λ e. P e.1) (joined_rows es)
 unfolding joined_rows
 all-joined_rows P es h = all-each (λ k. joined_row (rows_at k es)) P (keys es) (λ k o. h k (sym (occurs-keys k es) ∙ o))
+
+-- what `joined_rows` is, for crates above
+pub joined_rows-is : (es : Entries) → joined_rows es ≡ list_map (λ key. (key, joined_row (rows_at key es))) (keys es)
+unfolding joined_rows
+joined_rows-is es = refl

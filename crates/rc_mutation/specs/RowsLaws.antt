@@ -19,7 +19,7 @@ use Rattle.rc_cell.specs.Laws.{IsRow-joined_row, joined_row-none, joined_row-one
 use Rattle.rc_position.specs.declared.comps.Comp.{Comp}
 use Rattle.rc_position.specs.Position.{key_cmp}
 use Rattle.rc_position.specs.OrderLaws.{key_cmp_total}
-use Rattle.rc_mutation.specs.Source.{rows_at, joined_rows, IsRows}
+use Rattle.rc_mutation.specs.Rows.{rows_at, joined_rows, IsRows}
 use Rattle.rc_mutation.specs.ByKey.{Entries, occurs, keys_of, same_key, rows_at-append, rows_at-ascending, same_rows, joined_if_any, find-joined_rows, sorted-joined_rows, rows_at-joined_rows, all-joined_rows}
 
 if_any-append : (us vs : List Row) → joined_if_any (us ++ vs) ≡ joined_if_any (option_to_list (joined_if_any us) ++ option_to_list (joined_if_any vs))

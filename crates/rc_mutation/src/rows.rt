@@ -6,7 +6,7 @@ ghost use Rattle.rc_cell.specs.Columns.{ascending};
 ghost use Rattle.rc_cell.specs.Winner.{empty_row};
 ghost use Rattle.rc_position.specs.Position.{key_cmp};
 ghost use Rattle.rc_mutation.specs.Place.{IsAt, IsGapFor};
-ghost use Rattle.rc_mutation.specs.Source.{IsRows, joined_rows};
+ghost use Rattle.rc_mutation.specs.Rows.{IsRows, joined_rows};
 
 use rc_cell::Row;
 use rc_position::Key;
@@ -24,7 +24,7 @@ impl Model for Rows {
     ghost use Rattle.std.specs.Prelude.{List};
     ghost use Rattle.rc_cell.specs.declared.rows.Row.{Row};
     ghost use Rattle.rc_position.specs.declared.comps.Comp.{Comp};
-    ghost use Rattle.rc_mutation.specs.Source.{IsRows};
+    ghost use Rattle.rc_mutation.specs.Rows.{IsRows};
 
     ghost Value = { List (List Comp × Row) };
 

@@ -1,7 +1,7 @@
 -- The row joined at the key's place, or the new row in the gap, is the row put at the key.
 use Rattle.std.proofs.Common.{subst, sym, ◌∙◌}
 use Rattle.std.specs.List.{insert}
-use Rattle.rc_mutation.specs.Source.{IsRows}
+use Rattle.rc_mutation.specs.Rows.{IsRows}
 use Rattle.rc_mutation.specs.Place.{IsAt, IsGapFor}
 use Rattle.rc_mutation.proofs.Places.{join_at, join_in_gap, joined_is_rows, on_ok, rows_at_place}
 use Rattle.rc_mutation.proofs.rows.join_into.Goals as goal
