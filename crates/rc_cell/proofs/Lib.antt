@@ -1,1 +1,3 @@
+pub mod Deleted
+pub mod Joined
 pub mod Merge

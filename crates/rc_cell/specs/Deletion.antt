@@ -2,6 +2,7 @@
 use Rattle.std.specs.Prelude.{ℕ, ℤ, Bool, true, false, cond, ◌||◌, is_some, int_lt, List, ◌++◌, Option, Some, None, if◌then◌else◌}
 use Rattle.std.specs.Option.{option_to_list}
 use Rattle.std.specs.List.{filter, list_any}
+use Rattle.rc_cell.specs.declared.writes.Cell.{Cell}
 use Rattle.rc_cell.specs.declared.writes.Tomb.{Tomb}
 use Rattle.rc_cell.specs.declared.rows.Row.{Row}
 use Rattle.rc_cell.specs.Orders.{timestamp_of, is_live_cell, tomb_cmp}
@@ -21,12 +22,16 @@ abbrev pub surviving_marker : Option Tomb → Option ℤ → Option ℤ
 surviving_marker tomb None = None
 surviving_marker tomb (Some ts) = if survives tomb ts then Some ts else None
 
+-- the cells that survive
+abbrev pub surviving_cells : Option Tomb → List (ℕ × Cell) → List (ℕ × Cell)
+surviving_cells tomb cells = filter (λ e. survives tomb (timestamp_of e.1)) cells
+
 -- what a covering tombstone leaves of a row: its own tombstone, and the marker and the cells that survive
 unfoldable pub shadowed_row : Option Tomb → Row → Row
 shadowed_row cover row = record {
   marker = surviving_marker (in_force cover row) row.marker;
   tomb = row.tomb;
-  cells = filter (λ e. survives (in_force cover row) (timestamp_of e.1)) row.cells;
+  cells = surviving_cells (in_force cover row) row.cells;
 }
 
 -- a row with a marker or a live cell is given to readers

@@ -12,17 +12,13 @@ use Rattle.rc_cell.specs.declared.writes.Cell.{Cell}
 use Rattle.rc_cell.specs.declared.writes.Tomb.{Tomb}
 use Rattle.rc_cell.specs.declared.rows.Row.{Row}
 use Rattle.rc_cell.specs.Orders.{tomb_cmp, tomb_cmp_total}
-use Rattle.rc_cell.specs.Columns.{ascending}
+use Rattle.rc_cell.specs.Winner.{IsRow}
 use Rattle.rc_cell.specs.Winner.{greatest, markers, tombs, all_cells, cells_at, at_column, winner, winners, joined_row, empty_row}
-use Rattle.rc_cell.specs.Greatest.{greater, greatest-append, greatest-swap, greatest-twice, greatest-one, greatest-two, greatest-none}
+use Rattle.rc_cell.specs.Greatest.{greatest-append, greatest-swap, greatest-twice, greatest-one, greatest-none}
 use Rattle.rc_cell.specs.Beats.{tomb_cmp-IsAntisymmetric}
 use Rattle.rc_cell.specs.ByColumn.{ascending-winners, at_column-winners, find-winners, winners-append, winners-swap, winners-twice, winners-ascending}
 
--- a row that holds together: its cells strictly ascend by column, as those of every value of the type do
-abbrev pub IsRow : Row → Type 0
-IsRow row = IsTrue (ascending row.cells)
-
-same_row : {m n : Option ℤ} {s t : Option Tomb} {es fs : List (ℕ × Cell)} → m ≡ n → s ≡ t → es ≡ fs → ◌≡◌ {A = Row} (record { marker = m; tomb = s; cells = es }) (record { marker = n; tomb = t; cells = fs })
+pub same_row : {m n : Option ℤ} {s t : Option Tomb} {es fs : List (ℕ × Cell)} → m ≡ n → s ≡ t → es ≡ fs → ◌≡◌ {A = Row} (record { marker = m; tomb = s; cells = es }) (record { marker = n; tomb = t; cells = fs })
 same_row e f g = λ i. record { marker = e i; tomb = f i; cells = g i }
 
 markers-append : (xs ys : List Row) → markers (xs ++ ys) ≡ markers xs ++ markers ys
@@ -127,9 +123,3 @@ joined_row-push xs r h = joined_row-append xs (r ∷ []) ∙ ap (λ x. joined_ro
 
 pub joined_row-cons : (r : Row) (xs : List Row) → IsRow r → joined_row (r ∷ xs) ≡ joined_row (r ∷ joined_row xs ∷ [])
 joined_row-cons r xs h = joined_row-append (r ∷ []) xs ∙ ap (λ x. joined_row (x ∷ joined_row xs ∷ [])) (joined_row-one r h)
-
--- a row of the greater marker, the greater tombstone and the winners is the joined row
-pub joined_of : (r q : Row) {m : Option ℤ} {t : Option Tomb} {es : List (ℕ × Cell)} → m ≡ greater int_cmp r.marker q.marker → t ≡ greater tomb_cmp r.tomb q.tomb → es ≡ winners (r.cells ++ q.cells) → ◌≡◌ {A = Row} (record { marker = m; tomb = t; cells = es }) (joined_row (r ∷ q ∷ []))
-joined_of r q e f g =
-    same_row (e ∙ sym (greatest-two int_cmp_total int_cmp-IsAntisymmetric r.marker q.marker)) (f ∙ sym (greatest-two tomb_cmp_total tomb_cmp-IsAntisymmetric r.tomb q.tomb)) g
-    ∙ sym (joined_row-two r q)

@@ -1,5 +1,5 @@
 -- Which write wins: the reconciliation that Cassandra and ScyllaDB share. This is the one place where its rules stand.
-use Rattle.std.specs.Prelude.{ℕ, ℤ, Bool, true, false, not, ◌&&◌, ◌||◌, ◌==◌, nat_lt, int_lt, List, [], ◌∷◌, Option, Some, None}
+use Rattle.std.specs.Prelude.{ℕ, ℤ, Bool, true, false, not, ◌&&◌, ◌||◌, ◌==◌, nat_lt, int_lt, List, [], ◌∷◌, Option, Some, None, IsTrue}
 use Rattle.std.specs.declared.cmp.Ordering.{Ordering}
 use Rattle.std.specs.Ordering.{nat_cmp, int_cmp, int_eq, is_gt}
 use Rattle.std.specs.Prelude.{map as list_map}
@@ -10,6 +10,7 @@ use Rattle.rc_cell.specs.declared.writes.Cell.{Cell}
 use Rattle.rc_cell.specs.declared.writes.Cell.TheVariants.{Live, Dead}
 use Rattle.rc_cell.specs.declared.writes.Tomb.{Tomb}
 use Rattle.rc_cell.specs.declared.rows.Row.{Row}
+use Rattle.rc_cell.specs.Columns.{ascending}
 use Rattle.rc_cell.specs.Orders.{timestamp_of, tomb_cmp}
 
 -- of two values the larger as unsigned bytes; a proper prefix is smaller
@@ -84,3 +85,7 @@ joined_row rows = record {
 -- the row of which nothing was written
 abbrev pub empty_row : Row
 empty_row = record { marker = None; tomb = None; cells = [] }
+
+-- a row whose cells strictly ascend by column, as those of every value of the type do
+abbrev pub IsRow : Row → Type 0
+IsRow row = IsTrue (ascending row.cells)

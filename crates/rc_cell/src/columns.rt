@@ -1,8 +1,12 @@
 ghost use Rattle.std.specs.Prelude.{◌≡◌, [], ◌∷◌, ◌++◌, IfOk, OnOk, IsTrue};
+ghost use Rattle.std.specs.Prelude.{◌&&◌};
+ghost use Rattle.std.specs.List.{list_any};
 ghost use Rattle.rc_cell.specs.Columns.{ascending};
+ghost use Rattle.rc_cell.specs.Orders.{timestamp_of, is_live_cell};
+ghost use Rattle.rc_cell.specs.Deletion.{survives, surviving_cells};
 ghost use Rattle.rc_cell.specs.Winner.{winner, winners};
 
-use crate::writes::Cell;
+use crate::writes::{Cell, Tomb, is_above};
 use std::alloc::{AllocError, Global};
 use std::cmp::Ordering;
 use std::marker::Model;
@@ -66,6 +70,34 @@ impl Cells {
         let items = merged(alloc, self.as_slice(), other.as_slice())?;
         Ok(Cells { items })
     }
+
+    // The cells that survive the tombstone.
+    pub(crate) fn surviving(&self, alloc: Global, tomb: Option<Tomb>) -> Result<Cells, AllocError>
+        ensures { IfOk result (λ cells. cells ≡ surviving_cells tomb self.now) }
+    {
+        let items = surviving_of(alloc, self.as_slice(), tomb)?;
+        Ok(Cells { items })
+    }
+
+    // Whether a live cell survives the tombstone.
+    pub(crate) fn has_live(&self, tomb: Option<Tomb>) -> bool
+        ensures { result ≡ list_any (λ e. survives tomb (timestamp_of e.1) && is_live_cell e.1) self.now }
+    {
+        self.items.iter().any(|item| is_above(tomb, item.1.ts()) && item.1.is_live())
+    }
+}
+
+// The pairs whose cells survive the tombstone, each in its own memory.
+fn surviving_of(alloc: Global, items: &[(u8, Cell)], tomb: Option<Tomb>) -> Result<Vec<(u8, Cell)>, AllocError>
+    ensures { IfOk result (λ made. made.items ≡ surviving_cells tomb items.now) }
+{
+    let mut made = Vec::new(alloc);
+    for item in items {
+        if is_above(tomb, item.1.ts()) {
+            made.push((item.0, item.1.copy(alloc)?))?;
+        }
+    }
+    Ok(made)
 }
 
 // The winner of each column among ours and theirs, by ascending column, each in its own memory.

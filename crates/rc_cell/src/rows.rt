@@ -1,9 +1,10 @@
-ghost use Rattle.std.specs.Prelude.{◌≡◌, [], ◌∷◌, IfOk, OnOk, OnErr};
+ghost use Rattle.std.specs.Prelude.{◌≡◌, [], ◌∷◌, ◌↔◌, IfOk, OnOk, OnErr, IsTrue};
 ghost use Rattle.rc_cell.specs.Winner.{empty_row, joined_row};
+ghost use Rattle.rc_cell.specs.Deletion.{shadowed_row, surviving_marker, has_life};
 ghost use Rattle.rc_cell.specs.Greatest.{greater};
 
 use crate::columns::Cells;
-use crate::writes::Tomb;
+use crate::writes::{Tomb, is_above};
 use std::alloc::{AllocError, Global};
 
 /// What writes say of one row: a marker, the timestamp of an insert; a row tombstone; and a cell per column written.
@@ -51,6 +52,45 @@ impl Row {
         self.marker = greater_of(self.marker, other.marker);
         self.tomb = greater_of(self.tomb, other.tomb);
         Ok(())
+    }
+
+    /// What a tombstone that covers the row leaves of it. The row's own tombstone is kept; the marker and the cells are
+    /// kept whose timestamp is above the greater of the cover and that tombstone, or all where there is neither.
+    pub fn shadow(&self, alloc: Global, cover: Option<Tomb>) -> Result<Row, AllocError>
+        ensures { IfOk result (λ row. row ≡ shadowed_row cover self.now) }
+    {
+        let tomb = greater_of(cover, self.tomb);
+        let cells = self.cells.surviving(alloc, tomb)?;
+        Ok(Row {
+            marker: marker_surviving(tomb, self.marker),
+            tomb: self.tomb,
+            cells,
+        })
+    }
+
+    /// Whether the row is given to readers under a covering tombstone: it keeps its marker, or a live cell.
+    pub fn is_live(&self, cover: Option<Tomb>) -> bool
+        ensures { result ≡ has_life (shadowed_row cover self.now) }
+    {
+        let tomb = greater_of(cover, self.tomb);
+        marker_surviving(tomb, self.marker).is_some() || self.cells.has_live(tomb)
+    }
+
+    /// Whether nothing was written of the row: no marker, no tombstone and no cell.
+    pub fn is_empty(&self) -> bool
+        ensures { IsTrue result ↔ (self.now ≡ empty_row) }
+    {
+        self.marker.is_none() && self.tomb.is_none() && self.cells.as_slice().is_empty()
+    }
+}
+
+// The marker, if it survives the tombstone.
+fn marker_surviving(tomb: Option<Tomb>, marker: Option<i64>) -> Option<i64>
+    ensures { result ≡ surviving_marker tomb marker }
+{
+    match marker {
+        Some(ts) if is_above(tomb, ts) => Some(ts),
+        _ => None,
     }
 }
 

@@ -5,6 +5,8 @@ ghost use Rattle.std.specs.Ordering.{as_partial_cmp, eq_by_cmp};
 ghost use Rattle.std.specs.Cmp.{eq_by_cmp_equiv, partial_equiv_from_equiv, partial_order_from_total};
 
 use crate::values::Value;
+ghost use Rattle.rc_cell.specs.Deletion.{survives};
+
 use std::alloc::{AllocError, Global};
 use std::cmp::Ordering;
 
@@ -53,6 +55,16 @@ impl Ord for Tomb {
 
     fn cmp(&self, other: &Tomb) -> Ordering {
         self.ts.cmp(&other.ts).then(self.dt.cmp(&other.dt))
+    }
+}
+
+// Whether a write of this timestamp survives the tombstone, as every write does where there is none.
+pub(crate) fn is_above(tomb: Option<Tomb>, ts: i64) -> bool
+    ensures { result ≡ survives tomb ts }
+{
+    match tomb {
+        Some(tomb) => tomb.ts < ts,
+        None => true,
     }
 }
 

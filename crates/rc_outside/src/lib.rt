@@ -3,6 +3,9 @@
 //! Three traits say what the rest of the program may rely on. A `Source` is pulled for bytes, a `Sink` is pushed
 //! bytes, a `Store` keeps files. Each counts its faults, and may tell the bytes that it holds, so that a contract
 //! above can name them.
+//!
+//! Three kinds of ends have these traits: those in memory, whose calls fail where their maker lists them; sure ones,
+//! which never fail; and standard input and standard output, the trusted edge.
 #![tactic(auto)]
 
 mod counts;

@@ -24,7 +24,12 @@ impl Model for MemSource {
 
     ghost Value = { SourceState };
 
-    ghost view = { λ s. record { left = s.bytes; fails = s.fails.items; calls = s.calls; faults = s.faults } };
+    ghost view = { λ s. record {
+      left = s.bytes;
+      fails = s.fails.items;
+      calls = s.calls;
+      faults = s.faults;
+    } };
 }
 
 impl MemSource {
@@ -54,8 +59,12 @@ impl Source for MemSource {
         requires { 0 < length into.old }
         ensures within { IfOk result (λ k. k ≤ length into.new) }
         ensures taken { ReadConsumes (Some self.old.left) (Some self.new.left) result into.new }
-        ensures untouched { MatchResult result (λ k. drop k into.new ≡ drop k into.old) (λ _. into.new ≡ into.old) }
-        ensures cause { MatchResult result (λ _. self.new.faults ≡ self.old.faults) (λ _. Rose self.old.faults self.new.faults) }
+        ensures untouched { MatchResult result
+            (λ k. drop k into.new ≡ drop k into.old)
+            (λ _. into.new ≡ into.old) }
+        ensures cause { MatchResult result
+            (λ _. self.new.faults ≡ self.old.faults)
+            (λ _. Rose self.old.faults self.new.faults) }
 
         ensures listed { IsErr result ↔ Contains self.old.fails (raised self.old.calls) }
         ensures gives { IfOk result (λ k. k ≡ min (length into.old) (length self.old.left)) }
@@ -84,7 +93,12 @@ impl Model for MemSink {
 
     ghost Value = { SinkState };
 
-    ghost view = { λ s. record { written = s.written; fails = s.fails.items; calls = s.calls; faults = s.faults } };
+    ghost view = { λ s. record {
+      written = s.written;
+      fails = s.fails.items;
+      calls = s.calls;
+      faults = s.faults;
+    } };
 }
 
 impl MemSink {
@@ -121,7 +135,8 @@ impl Sink for MemSink {
     /// listed: then nothing is written. `SinkErr::NoMemory` when memory is refused: then the sink is as it was, and
     /// the call is not counted.
     fn push(&mut self, piece: &[u8]) -> Result<(), SinkErr>
-        ensures pushed { Pushed (Some self.old.written) (Some self.new.written) self.old.faults self.new.faults piece.now result }
+        ensures pushed { Pushed (Some self.old.written) (Some self.new.written) self.old.faults self.new.faults
+            piece.now result }
         ensures listed { (result ≡ Err SinkErr.Failed) ↔ Contains self.old.fails (raised self.old.calls) }
         ensures state { self.new ≡ after_push self.old piece.now result }
     {

@@ -28,5 +28,6 @@ pub trait Sink {
     /// piece was written and the count of faults rose. `SinkErr::NoMemory` when memory is refused: then nothing was
     /// written.
     fn push(&mut self, piece: &[u8]) -> Result<(), SinkErr>
-        ensures { Pushed (written self.old) (written self.new) (faults self.old) (faults self.new) piece.now result };
+        ensures { Pushed (written self.old) (written self.new) (faults self.old) (faults self.new)
+            piece.now result };
 }

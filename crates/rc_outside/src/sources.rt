@@ -25,6 +25,10 @@ pub trait Source {
         requires { 0 < length into.old }
         ensures within { IfOk result (λ k. k ≤ length into.new) }
         ensures taken { ReadConsumes (left self.old) (left self.new) result into.new }
-        ensures untouched { MatchResult result (λ k. drop k into.new ≡ drop k into.old) (λ _. into.new ≡ into.old) }
-        ensures cause { MatchResult result (λ _. faults self.new ≡ faults self.old) (λ _. Rose (faults self.old) (faults self.new)) };
+        ensures untouched { MatchResult result
+            (λ k. drop k into.new ≡ drop k into.old)
+            (λ _. into.new ≡ into.old) }
+        ensures cause { MatchResult result
+            (λ _. faults self.new ≡ faults self.old)
+            (λ _. Rose (faults self.old) (faults self.new)) };
 }

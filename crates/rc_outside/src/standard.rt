@@ -12,7 +12,8 @@ use std::io::{self, Input, Print, Printer, Read, Write};
 /// The most bytes that one pull of standard input takes.
 const BLOCK: usize = 4096;
 
-/// Standard input. It tells the bytes that are left only where its reader does, and a terminal, a pipe or a file does not.
+/// Standard input, with a count of its faults. It tells the bytes that are left where its reader does; a terminal, a
+/// pipe and a file do not.
 #[derive(Drop)]
 pub struct StdSource<R> {
     reader: R,
@@ -36,16 +37,22 @@ impl<R: Read> Source for StdSource<R> {
 
     ghost faults = { λ s. s.faults };
 
-    /// Takes what one read gives, at most a block, without waiting for more.
+    /// Takes what one read gives, at most 4,096 bytes, without waiting for more. `Failed` where the read fails, also for
+    /// want of memory or by an interruption.
     fn pull(&mut self, into: &mut [u8]) -> Result<usize, Failed>
         requires { 0 < length into.old }
         ensures within { IfOk result (λ k. k ≤ length into.new) }
         ensures taken { let left = ⟦<StdSource<R> as Source>⟧.left in
             ReadConsumes (left self.old) (left self.new) result into.new }
-        ensures untouched { MatchResult result (λ k. drop k into.new ≡ drop k into.old) (λ _. into.new ≡ into.old) }
+        ensures untouched { MatchResult result
+            (λ k. drop k into.new ≡ drop k into.old)
+            (λ _. into.new ≡ into.old) }
         ensures cause { let faults = ⟦<StdSource<R> as Source>⟧.faults in
-            MatchResult result (λ _. faults self.new ≡ faults self.old) (λ _. Rose (faults self.old) (faults self.new)) }
-        ensures counted { let faults = ⟦<StdSource<R> as Source>⟧.faults in OnErr result (faults self.new ≡ raised (faults self.old)) }
+            MatchResult result
+            (λ _. faults self.new ≡ faults self.old)
+            (λ _. Rose (faults self.old) (faults self.new)) }
+        ensures counted { let faults = ⟦<StdSource<R> as Source>⟧.faults in
+            OnErr result (faults self.new ≡ raised (faults self.old)) }
     {
         let mut block = [0; BLOCK];
         let room = into.len().min(BLOCK);
@@ -62,7 +69,8 @@ impl<R: Read> Source for StdSource<R> {
     }
 }
 
-/// Standard output. It tells the bytes written only where its writer does, and a terminal, a pipe or a file does not.
+/// Standard output, with a count of its faults. It tells the bytes that were written where its writer does; a
+/// terminal, a pipe and a file do not.
 #[derive(Drop)]
 pub struct StdSink<W> {
     writer: W,
@@ -86,12 +94,15 @@ impl<W: Write> Sink for StdSink<W> {
 
     ghost faults = { λ s. s.faults };
 
-    /// Writes the whole piece and flushes. Never `SinkErr::NoMemory`: a want of memory that the host answers is a fault.
+    /// Writes the whole piece and flushes. `SinkErr::Failed` where a write or the flush fails, also for want of memory or
+    /// by an interruption, and where a write takes nothing. Never `SinkErr::NoMemory`.
     fn push(&mut self, piece: &[u8]) -> Result<(), SinkErr>
         ensures pushed { let written = ⟦<StdSink<W> as Sink>⟧.written in
             let faults = ⟦<StdSink<W> as Sink>⟧.faults in
-            Pushed (written self.old) (written self.new) (faults self.old) (faults self.new) piece.now result }
-        ensures counted { let faults = ⟦<StdSink<W> as Sink>⟧.faults in OnErr result (faults self.new ≡ raised (faults self.old)) }
+            Pushed (written self.old) (written self.new) (faults self.old) (faults self.new)
+            piece.now result }
+        ensures counted { let faults = ⟦<StdSink<W> as Sink>⟧.faults in
+            OnErr result (faults self.new ≡ raised (faults self.old)) }
         ensures memory { result ≢ Err SinkErr.NoMemory }
     {
         match write_whole(&mut self.writer, piece) {

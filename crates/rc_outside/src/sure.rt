@@ -43,8 +43,12 @@ impl Source for SureSource {
         requires { 0 < length into.old }
         ensures within { IfOk result (λ k. k ≤ length into.new) }
         ensures taken { ReadConsumes (Some self.old) (Some self.new) result into.new }
-        ensures untouched { MatchResult result (λ k. drop k into.new ≡ drop k into.old) (λ _. into.new ≡ into.old) }
-        ensures cause { MatchResult result (λ _. no_faults ≡ no_faults) (λ _. Rose no_faults no_faults) }
+        ensures untouched { MatchResult result
+            (λ k. drop k into.new ≡ drop k into.old)
+            (λ _. into.new ≡ into.old) }
+        ensures cause { MatchResult result
+            (λ _. no_faults ≡ no_faults)
+            (λ _. Rose no_faults no_faults) }
         ensures gives { result ≡ Ok (min (length into.old) (length self.old)) }
     {
         let count = fill_front(into, &self.bytes[self.taken..]);

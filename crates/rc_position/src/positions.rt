@@ -89,10 +89,9 @@ pub fn start_pos(alloc: Global, prefix: &Key, inclusive: bool) -> Result<Pos, Al
 {
     Ok(Pos {
         prefix: prefix.copy(alloc)?,
-        weight: if inclusive {
-            Weight::Before
-        } else {
-            Weight::After
+        weight: match inclusive {
+            true => Weight::Before,
+            false => Weight::After,
         },
     })
 }
@@ -105,10 +104,9 @@ pub fn end_pos(alloc: Global, prefix: &Key, inclusive: bool) -> Result<Pos, Allo
 {
     Ok(Pos {
         prefix: prefix.copy(alloc)?,
-        weight: if inclusive {
-            Weight::After
-        } else {
-            Weight::Before
+        weight: match inclusive {
+            true => Weight::After,
+            false => Weight::Before,
         },
     })
 }

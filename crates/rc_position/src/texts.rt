@@ -87,7 +87,7 @@ impl Ord for Text {
     ghost matches_eq = { λ x y. refl };
 
     fn cmp(&self, other: &Text) -> Ordering {
-        self.as_slice().cmp(other.as_slice())
+        self.items.as_slice().cmp(other.items.as_slice())
     }
 }
 

@@ -1,0 +1,5 @@
+use Rattle.rc_cell.specs.Laws.{joined_row-none}
+use Rattle.rc_cell.proofs.laws.join_of_none.Goals as goal
+
+pub returns : goal.returns
+returns c = joined_row-none
