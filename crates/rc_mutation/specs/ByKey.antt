@@ -1,6 +1,6 @@
 -- Rows by key: what a key's rows are in rows one after another, in rows that ascend, and in joined rows.
-use Rattle.std.specs.Prelude.{◌≡◌, ◌≢◌, ◌<◌, ℕ, zero, suc, All, length, Bool, true, false, ◌&&◌, ◌||◌, List, [], ◌∷◌, ◌++◌, Option, Some, None, is_some, cond, map as list_map, IsTrue}
-use Rattle.std.proofs.Common.{refl, sym, ap, ◌∙◌, subst, T, arith}
+use Rattle.std.specs.Prelude.{◌≡◌, zero, suc, All, Bool, true, false, ◌||◌, List, [], ◌∷◌, ◌++◌, Option, Some, None, is_some, cond, map as list_map}
+use Rattle.std.proofs.Common.{refl, sym, ap, ◌∙◌, T, arith}
 use Rattle.std.specs.declared.cmp.Ordering.{Ordering}
 use Rattle.std.specs.declared.cmp.Ordering.TheVariants.{Less, Equal, Greater}
 use Rattle.std.specs.Ordering.{is_lt, is_eq, eq_by_cmp}
@@ -11,12 +11,12 @@ use Rattle.std.specs.FinMap as map
 use Rattle.std.specs.FinMap.{find, is_sorted}
 use Rattle.std.specs.FinMap.Entries.{below_all, same_entries, is_some-find}
 use Rattle.rc_cell.specs.declared.rows.Row.{Row}
-use Rattle.rc_cell.specs.ByColumn.{holds, test_of, both, first, second}
+use Rattle.rc_cell.specs.ByColumn.{both, first, second}
 use Rattle.rc_cell.specs.Winner.{joined_row}
 use Rattle.rc_position.specs.declared.comps.Comp.{Comp}
 use Rattle.rc_position.specs.Position.{key_cmp}
 use Rattle.rc_position.specs.OrderLaws.{key_cmp_total, key_cmp_same}
-use Rattle.rc_mutation.specs.Source.{rows_at, keys, joined_rows, IsRows}
+use Rattle.rc_mutation.specs.Rows.{rows_at, keys, joined_rows}
 
 abbrev pub Entries : Type 0
 Entries = List (List Comp × Row)
@@ -114,8 +114,8 @@ module _ (w : List Comp → Row) where
   sorted-each [] h = tt
   sorted-each (e ∷ es) h =
       both (below_all key_cmp e.0 (each (keys_of es))) (is_sorted key_cmp (each (keys_of es)))
-        (below-each e.0 es (first (below_all key_cmp e.0 es) (is_sorted key_cmp es) h))
-        (sorted-each es (second (below_all key_cmp e.0 es) (is_sorted key_cmp es) h))
+      (below-each e.0 es (first (below_all key_cmp e.0 es) (is_sorted key_cmp es) h))
+      (sorted-each es (second (below_all key_cmp e.0 es) (is_sorted key_cmp es) h))
 
   -- what holds of the value of each key that occurs holds of all
   all-each : (P : Row → Type 0) (ks : List (List Comp)) → ((k : List Comp) → occurs k ks ≡ true → P (w k)) → All (λ e. P e.1) (each ks)
@@ -171,3 +171,8 @@ keys_of-joined_rows es = keys_of-each (λ k. joined_row (rows_at k es)) (keys es
 pub all-joined_rows : (P : Row → Type 0) (es : Entries) → ((k : List Comp) → occurs k (keys_of es) ≡ true → P (joined_row (rows_at k es))) → All (λ e. P e.1) (joined_rows es)
 unfolding joined_rows
 all-joined_rows P es h = all-each (λ k. joined_row (rows_at k es)) P (keys es) (λ k o. h k (sym (occurs-keys k es) ∙ o))
+
+-- what `joined_rows` is, for crates above
+pub joined_rows-is : (es : Entries) → joined_rows es ≡ list_map (λ key. (key, joined_row (rows_at key es))) (keys es)
+unfolding joined_rows
+joined_rows-is es = refl

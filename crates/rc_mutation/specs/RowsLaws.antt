@@ -4,7 +4,7 @@
 --     joined_rows-rows         rows that ascend, one a key, are joined already
 --     joined_rows-put          one more row goes into its place
 --     IsRows-joined_rows       joined rows ascend, and something was written of each
-use Rattle.std.specs.Prelude.{◌≡◌, ◌≢◌, ◌<◌, ℕ, zero, suc, All, length, Bool, true, false, ◌&&◌, ◌||◌, List, [], ◌∷◌, ◌++◌, Option, Some, None, cond, map as list_map, IsTrue}
+use Rattle.std.specs.Prelude.{◌≡◌, ◌≢◌, suc, All, true, false, ◌||◌, List, [], ◌∷◌, ◌++◌, Option, Some, None, cond, map as list_map, IsTrue}
 use Rattle.std.proofs.Common.{refl, sym, ap, ◌∙◌, subst, T, arith, append-nil}
 use Rattle.std.specs.Ordering.{eq_by_cmp}
 use Rattle.std.specs.Option.{option_to_list}
@@ -19,7 +19,7 @@ use Rattle.rc_cell.specs.Laws.{IsRow-joined_row, joined_row-none, joined_row-one
 use Rattle.rc_position.specs.declared.comps.Comp.{Comp}
 use Rattle.rc_position.specs.Position.{key_cmp}
 use Rattle.rc_position.specs.OrderLaws.{key_cmp_total}
-use Rattle.rc_mutation.specs.Source.{rows_at, joined_rows, IsRows}
+use Rattle.rc_mutation.specs.Rows.{rows_at, joined_rows, IsRows}
 use Rattle.rc_mutation.specs.ByKey.{Entries, occurs, keys_of, same_key, rows_at-append, rows_at-ascending, same_rows, joined_if_any, find-joined_rows, sorted-joined_rows, rows_at-joined_rows, all-joined_rows}
 
 if_any-append : (us vs : List Row) → joined_if_any (us ++ vs) ≡ joined_if_any (option_to_list (joined_if_any us) ++ option_to_list (joined_if_any vs))
@@ -44,9 +44,9 @@ same_joined_rows es fs is = same_rows (joined_rows es) (joined_rows fs) (sorted-
 pub joined_rows-append : (xs ys : Entries) → joined_rows (xs ++ ys) ≡ joined_rows (joined_rows xs ++ joined_rows ys)
 joined_rows-append xs ys =
     same_joined_rows _ _ (λ q.
-      ap joined_if_any (rows_at-append q xs ys)
-      ∙ if_any-append (rows_at q xs) (rows_at q ys)
-      ∙ sym (ap joined_if_any (rows_at-append q (joined_rows xs) (joined_rows ys)) ∙ (λ i. joined_if_any (rows_at-joined_rows q xs i ++ rows_at-joined_rows q ys i))))
+    ap joined_if_any (rows_at-append q xs ys)
+    ∙ if_any-append (rows_at q xs) (rows_at q ys)
+    ∙ sym (ap joined_if_any (rows_at-append q (joined_rows xs) (joined_rows ys)) ∙ (λ i. joined_if_any (rows_at-joined_rows q xs i ++ rows_at-joined_rows q ys i))))
 
 pub joined_rows-swap : (xs ys : Entries) → joined_rows (xs ++ ys) ≡ joined_rows (ys ++ xs)
 joined_rows-swap xs ys = same_joined_rows _ _ (λ q. ap joined_if_any (rows_at-append q xs ys) ∙ if_any-swap (rows_at q xs) (rows_at q ys) ∙ sym (ap joined_if_any (rows_at-append q ys xs)))
@@ -58,11 +58,11 @@ joined_rows-twice xs = same_joined_rows _ _ (λ q. ap joined_if_any (rows_at-app
 pub joined_rows-again : (xs : Entries) → joined_rows (joined_rows xs) ≡ joined_rows xs
 joined_rows-again xs =
     same_joined_rows _ _ (λ q.
-      ap joined_if_any (rows_at-joined_rows q xs)
-      ∙ elim (rows_at q xs) as (λ rs. joined_if_any (option_to_list (joined_if_any rs)) ≡ joined_if_any rs) [
-        | [] ↦ refl
-        | (r ∷ rs) ↦ ap Some (joined_row-one _ (IsRow-joined_row (r ∷ rs)))
-      ])
+    ap joined_if_any (rows_at-joined_rows q xs)
+    ∙ elim (rows_at q xs) as (λ rs. joined_if_any (option_to_list (joined_if_any rs)) ≡ joined_if_any rs) [
+      | [] ↦ refl
+      | (r ∷ rs) ↦ ap Some (joined_row-one _ (IsRow-joined_row (r ∷ rs)))
+    ])
 
 -- what holds of all rows holds of one that is found
 pub found : (P : Row → Type 0) (q : List Comp) (es : Entries) → All (λ e. P e.1) es → (x : Row) → find key_cmp q es ≡ Some x → P x
@@ -82,9 +82,9 @@ pub joined_rows-rows : (xs : Entries) → IsRows xs → joined_rows xs ≡ xs
 joined_rows-rows xs is =
     let up : T (is_sorted key_cmp xs) = test_of _ is.ascend in
     same_rows (joined_rows xs) xs (sorted-joined_rows xs) up (λ q.
-      find-joined_rows q xs
-      ∙ ap joined_if_any (rows_at-ascending q xs up)
-      ∙ if_any-one (find key_cmp q xs) (found (λ r. IsTrue (ascending r.cells)) q xs is.by_column))
+    find-joined_rows q xs
+    ∙ ap joined_if_any (rows_at-ascending q xs up)
+    ∙ if_any-one (find key_cmp q xs) (found (λ r. IsTrue (ascending r.cells)) q xs is.by_column))
 
 -- a row joined to what was there
 abbrev pub joined_to : Option Row → Row → Row
@@ -101,13 +101,13 @@ joined_rows-put xs key row is h =
     let up : T (is_sorted key_cmp xs) = test_of _ is.ascend in
     let made = joined_to (find key_cmp key xs) row in
     same_rows (joined_rows (xs ++ (key, row) ∷ [])) (put key_cmp key made xs) (sorted-joined_rows (xs ++ (key, row) ∷ [])) (is_sorted-put key_cmp key_cmp_total key made xs up) (λ q.
-      find-joined_rows q (xs ++ (key, row) ∷ [])
-      ∙ ap joined_if_any (rows_at-append q xs ((key, row) ∷ []) ∙ ap (λ rs. rs ++ rows_at q ((key, row) ∷ [])) (rows_at-ascending q xs up))
-      ∙ elim (eq_by_cmp key_cmp q key) as (λ b. eq_by_cmp key_cmp q key ≡ b → joined_if_any (option_to_list (find key_cmp q xs) ++ list_map (λ (e : List Comp × Row). e.1) (cond b ((key, row) ∷ []) [])) ≡ cond b (Some made) (find key_cmp q xs)) [
-        | true ↦ λ t. ap (λ x. joined_if_any (option_to_list (find key_cmp x xs) ++ row ∷ [])) (same_key q key t) ∙ if_any-joined_to (find key_cmp key xs) row h
-        | false ↦ λ t. ap joined_if_any (append-nil (option_to_list (find key_cmp q xs))) ∙ if_any-one (find key_cmp q xs) (found (λ r. IsTrue (ascending r.cells)) q xs is.by_column)
-      ] refl
-      ∙ sym (find-put key_cmp key_cmp_total q key made xs))
+    find-joined_rows q (xs ++ (key, row) ∷ [])
+    ∙ ap joined_if_any (rows_at-append q xs ((key, row) ∷ []) ∙ ap (λ rs. rs ++ rows_at q ((key, row) ∷ [])) (rows_at-ascending q xs up))
+    ∙ elim (eq_by_cmp key_cmp q key) as (λ b. eq_by_cmp key_cmp q key ≡ b → joined_if_any (option_to_list (find key_cmp q xs) ++ list_map (λ (e : List Comp × Row). e.1) (cond b ((key, row) ∷ []) [])) ≡ cond b (Some made) (find key_cmp q xs)) [
+      | true ↦ λ t. ap (λ x. joined_if_any (option_to_list (find key_cmp x xs) ++ row ∷ [])) (same_key q key t) ∙ if_any-joined_to (find key_cmp key xs) row h
+      | false ↦ λ t. ap joined_if_any (append-nil (option_to_list (find key_cmp q xs))) ∙ if_any-one (find key_cmp q xs) (found (λ r. IsTrue (ascending r.cells)) q xs is.by_column)
+    ] refl
+    ∙ sym (find-put key_cmp key_cmp_total q key made xs))
 
 -- ---- something is written of joined rows
 

@@ -1,11 +1,12 @@
 //! The rows of a partition, by clustering key.
 
-ghost use Rattle.std.specs.Prelude.{◌≡◌, ◌≢◌, [], ◌++◌, All, IfOk, IsTrue, OnOk, take};
+ghost use Rattle.std.specs.Prelude.{◌≡◌, ◌≢◌, [], ◌∷◌, ◌++◌, All, IfErr, IfOk, IsTrue, OnErr, OnOk};
 ghost use Rattle.std.specs.FinMap.{is_sorted};
 ghost use Rattle.rc_cell.specs.Columns.{ascending};
 ghost use Rattle.rc_cell.specs.Winner.{empty_row};
 ghost use Rattle.rc_position.specs.Position.{key_cmp};
-ghost use Rattle.rc_mutation.specs.Source.{IsRows};
+ghost use Rattle.rc_mutation.specs.Place.{IsAt, IsGapFor};
+ghost use Rattle.rc_mutation.specs.Rows.{IsRows, joined_rows};
 
 use rc_cell::Row;
 use rc_position::Key;
@@ -23,7 +24,7 @@ impl Model for Rows {
     ghost use Rattle.std.specs.Prelude.{List};
     ghost use Rattle.rc_cell.specs.declared.rows.Row.{Row};
     ghost use Rattle.rc_position.specs.declared.comps.Comp.{Comp};
-    ghost use Rattle.rc_mutation.specs.Source.{IsRows};
+    ghost use Rattle.rc_mutation.specs.Rows.{IsRows};
 
     ghost Value = { List (List Comp × Row) };
 
@@ -67,6 +68,49 @@ impl Rows {
     {
         Rows::from_slice(alloc, self.as_slice())
     }
+
+    /// Joins what one more write says of the row at a key, of which something was written. The only error is want of
+    /// memory, which leaves the rows as they were.
+    pub fn join_row(&mut self, alloc: Global, key: &Key, row: &Row) -> Result<(), AllocError>
+        requires { row.now ≢ empty_row }
+        ensures ok { OnOk result (self.new ≡ joined_rows (self.old ++ (key.now, row.now) ∷ [])) }
+        ensures err { OnErr result (self.new ≡ self.old) }
+    {
+        join_into(alloc, &mut self.items, key, row)
+    }
+}
+
+// Joins one more row to the rows, at its key's place.
+fn join_into(
+    alloc: Global,
+    items: &mut Vec<(Key, Row)>,
+    key: &Key,
+    row: &Row,
+) -> Result<(), AllocError>
+    requires rows { IsRows items.old.items }
+    requires written { row.now ≢ empty_row }
+    ensures ok { OnOk result (items.new.items ≡ joined_rows (items.old.items ++ (key.now, row.now) ∷ [])) }
+    ensures rows { IsRows items.new.items }
+    ensures err { OnErr result (items.new.items ≡ items.old.items) }
+{
+    let _cells = row.cells.as_slice();
+    match place_of(items.as_slice(), key) {
+        Ok(at) => items[at].1.join(alloc, row),
+        Err(at) => {
+            let key = key.copy(alloc)?;
+            let row = row.copy(alloc)?;
+            Ok(items.insert(at, (key, row))?)
+        }
+    }
+}
+
+// Where the key is among rows by ascending key, or where it would go.
+fn place_of(items: &[(Key, Row)], key: &Key) -> Result<usize, usize>
+    requires { IsTrue (is_sorted key_cmp items.now) }
+    ensures found { IfOk result (IsAt items.now key.now) }
+    ensures absent { IfErr result (IsGapFor items.now key.now) }
+{
+    items.binary_search_by(|item| item.0.cmp(key))
 }
 
 // The pairs in their order, each in its own memory.

@@ -68,6 +68,13 @@ impl Lines {
         Ok(Lines { items: copies })
     }
 
+    // These lines.
+    pub(crate) fn of(items: Vec<OutLine>) -> Self
+        ensures { result ≡ items.items }
+    {
+        Lines { items }
+    }
+
     /// The lines in order.
     pub fn as_slice(&self) -> &[OutLine]
         ensures { result.now ≡ self.now }

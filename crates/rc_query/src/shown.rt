@@ -41,6 +41,13 @@ impl Shown {
         Ok(Shown { items: copies })
     }
 
+    // These values.
+    pub(crate) fn of(items: Vec<(u8, Value)>) -> Self
+        ensures { result ≡ items.items }
+    {
+        Shown { items }
+    }
+
     /// The pairs in order.
     pub fn as_slice(&self) -> &[(u8, Value)]
         ensures { result.now ≡ self.now }
