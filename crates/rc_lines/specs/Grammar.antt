@@ -6,6 +6,7 @@ use Rattle.std.specs.Option.{option_map, ok_or}
 use lib.Pointwise.{pointwise}
 use Rattle.rc_cell.specs.declared.writes.Cell.{Cell}
 use Rattle.rc_cell.specs.declared.writes.Cell.TheVariants.{Live}
+use Rattle.rc_mutation.specs.declared.mutations.Write.{Write}
 use Rattle.rc_position.specs.declared.comps.Comp.TheVariants.{Int}
 use Rattle.rc_lines.specs.Words.{words}
 use Rattle.rc_lines.specs.Numbers.{number_of, signed_of}
@@ -59,19 +60,31 @@ unfoldable pub both_cells : ℤ → ℕ × List ℕ → ℕ × List ℕ → Opti
 both_cells ts one other =
     if one.0 == other.0 then None else if nat_lt one.0 other.0 then Some (cell ts one ∷ cell ts other ∷ []) else Some (cell ts other ∷ cell ts one ∷ [])
 
+-- the cell that one word assigns
+unfoldable pub one_cell : ℤ → List ℕ → Option (List (ℕ × Cell))
+one_cell ts word = option_map (λ set. cell ts set ∷ []) (assigned word)
+
+-- the cells that two words assign
+unfoldable pub two_cells : ℤ → List ℕ → List ℕ → Option (List (ℕ × Cell))
+two_cells ts one other = option_and_then (λ set. option_and_then (both_cells ts set) (assigned other)) (assigned one)
+
 -- the live cells that a line's last words assign
-unfoldable pub cells_of : ℤ → List (List ℕ) → Option (List (ℕ × Cell))
+abbrev pub cells_of : ℤ → List (List ℕ) → Option (List (ℕ × Cell))
 cells_of ts [] = Some []
-cells_of ts (one ∷ []) = option_map (λ set. cell ts set ∷ []) (assigned one)
-cells_of ts (one ∷ other ∷ []) = option_and_then (λ set. option_and_then (both_cells ts set) (assigned other)) (assigned one)
+cells_of ts (one ∷ []) = one_cell ts one
+cells_of ts (one ∷ other ∷ []) = two_cells ts one other
 cells_of ts (one ∷ other ∷ more ∷ words) = None
+
+-- a write of a row with a marker and live cells
+abbrev pub inserted : List ℕ → ℤ → ℤ → List (ℕ × Cell) → Write
+inserted key number ts cells =
+    record { key = key; change = record { rows = (Int number ∷ [], record { marker = Some ts; tomb = None; cells = cells }) ∷ [] } }
 
 -- `insert KEY CK ts=TS NAME=VALUE ..`: a marker and live cells
 unfoldable pub insert_of : List ℕ → List ℕ → List ℕ → List (List ℕ) → Option Command
 insert_of key ck stamp sets =
-    option_and_then (λ k. option_and_then (λ c. option_and_then (λ ts. option_map (λ cells.
-        Put (record { key = k; change = record { rows = (Int c ∷ [], record { marker = Some ts; tomb = None; cells = cells }) ∷ [] } }))
-        (cells_of ts sets)) (stamp_of stamp)) (signed_of ck)) (plain_of 1 64 key)
+    option_and_then (λ k. option_and_then (λ number. option_and_then (λ ts. option_map (λ cells.
+        Put (inserted k number ts cells)) (cells_of ts sets)) (stamp_of stamp)) (signed_of ck)) (plain_of 1 64 key)
 
 -- `open ID KEY`
 unfoldable pub open_of : List ℕ → List ℕ → Option Command
@@ -81,11 +94,22 @@ open_of id key = option_and_then (λ i. option_map (λ k. OpenRead i k) (plain_o
 unfoldable pub read_of : List ℕ → List ℕ → Option Command
 read_of id count = option_and_then (λ i. option_map (λ n. Read i n) (count_of 4294967295 count)) (count_of 4294967295 id)
 
+-- a line of three words behind the schema line
+unfoldable pub short_command_of : List ℕ → List ℕ → List ℕ → Option Command
+short_command_of name one other =
+    if is_word name (codes "open") then open_of one other else if is_word name (codes "read") then read_of one other else None
+
+-- a line of four words and more behind the schema line
+unfoldable pub long_command_of : List ℕ → List ℕ → List ℕ → List ℕ → List (List ℕ) → Option Command
+long_command_of name key ck stamp sets = if is_word name (codes "insert") then insert_of key ck stamp sets else None
+
 -- a line behind the schema line
-unfoldable pub command_of : List (List ℕ) → Option Command
-command_of (name ∷ one ∷ other ∷ []) = if is_word name (codes "open") then open_of one other else if is_word name (codes "read") then read_of one other else None
-command_of (name ∷ key ∷ ck ∷ stamp ∷ sets) = if is_word name (codes "insert") then insert_of key ck stamp sets else None
-command_of words = None
+abbrev pub command_of : List (List ℕ) → Option Command
+command_of [] = None
+command_of (name ∷ []) = None
+command_of (name ∷ one ∷ []) = None
+command_of (name ∷ one ∷ other ∷ []) = short_command_of name one other
+command_of (name ∷ key ∷ ck ∷ stamp ∷ sets) = long_command_of name key ck stamp sets
 
 -- whether a line is empty or a comment
 abbrev pub is_comment : List ℕ → Bool

@@ -1,8 +1,7 @@
 -- The texts of replies.
-use Rattle.std.specs.Prelude.{ℕ, ◌+◌, ◌/◌, ◌%◌, Bool, true, false, ◌||◌, ◌==◌, nat_lt, List, [], ◌∷◌, ◌++◌, map as list_map, flat_map, codes, if◌then◌else◌}
+use Rattle.std.specs.Prelude.{ℕ, ◌+◌, ◌/◌, ◌%◌, Bool, true, false, ◌||◌, ◌==◌, nat_lt, List, [], ◌∷◌, ◌++◌, flat_map, codes, if◌then◌else◌}
 use Rattle.std.specs.Char.{is_ascii_alphanumeric}
 use Rattle.std.specs.Fmt.{signed_decimal}
-use Rattle.std.specs.List.{join_with_byte}
 use Rattle.rc_position.specs.declared.comps.Comp.{Comp}
 use Rattle.rc_position.specs.declared.comps.Comp.TheVariants.{Int, Text}
 use Rattle.rc_query.specs.declared.lines.OutLine.{OutLine}
@@ -27,15 +26,24 @@ spelled_byte byte = if stands_for_itself byte then byte ∷ [] else 37 ∷ hexad
 abbrev pub spelled : List ℕ → List ℕ
 spelled bytes = flat_map spelled_byte bytes
 
--- a component: a decimal number, or spelled bytes; `''` stands for the empty text
+-- a text component; `''` stands for the empty text
+abbrev pub text_component : List ℕ → List ℕ
+text_component [] = codes "''"
+text_component (byte ∷ bytes) = spelled (byte ∷ bytes)
+
+-- a component: a decimal number, or a text
 abbrev pub component_text : Comp → List ℕ
 component_text (Int number) = signed_decimal number
-component_text (Text []) = codes "''"
-component_text (Text (byte ∷ bytes)) = spelled (byte ∷ bytes)
+component_text (Text bytes) = text_component bytes
+
+-- a comma and a component
+abbrev pub other_component : Comp → List ℕ
+other_component component = 44 ∷ component_text component
 
 -- the components of a key, with commas between them
 abbrev pub key_text : List Comp → List ℕ
-key_text key = join_with_byte 44 (list_map component_text key)
+key_text [] = []
+key_text (first ∷ rest) = component_text first ++ flat_map other_component rest
 
 -- ` NAME=VALUE`
 abbrev pub value_text : (ℕ → ℕ) → ℕ × List ℕ → List ℕ
@@ -58,9 +66,13 @@ refusal_text BadLine = codes "? bad line\n"
 refusal_text NoReader = codes "? no reader\n"
 refusal_text ReaderInUse = codes "? reader in use\n"
 
+-- the lines that a reader is given, and whether there are more
+abbrev pub given_text : List OutLine → Bool → List ℕ
+given_text lines more = flat_map line_text lines ++ (if more then codes "more\n" else codes "end\n")
+
 -- the text of a reply: its lines, each ended by a newline
 unfoldable pub reply_text : Reply → List ℕ
 reply_text Nothing = []
 reply_text Fine = codes "ok\n"
-reply_text (Given lines more) = flat_map line_text lines ++ (if more then codes "more\n" else codes "end\n")
+reply_text (Given lines more) = given_text lines more
 reply_text (Refused refusal) = refusal_text refusal

@@ -1,9 +1,9 @@
 //! The parts of a line's words.
 
-ghost use Rattle.std.specs.Prelude.{◌≡◌};
+ghost use Rattle.std.specs.Prelude.{◌≡◌, ◌≤◌, length};
 ghost use Rattle.std.specs.Char.{is_ascii_alphanumeric};
 ghost use Rattle.std.specs.List.{list_all};
-ghost use Rattle.std.specs.Option.{option_map, option_copied};
+ghost use Rattle.std.specs.Option.{option_map, option_copied, IfSome};
 ghost use Rattle.rc_lines.specs.Grammar.{plain_of, count_of, stamp_of, column_of, valued, assigned};
 
 use crate::numbers::{number, signed};
@@ -11,7 +11,9 @@ use crate::numbers::{number, signed};
 /// The word, where it has at least and at most so many bytes and each is an ASCII letter or digit.
 #[tactic(auto, unfolding(crate::specs::Grammar::plain_of))]
 pub(crate) fn plain(word: &[u8], least: usize, most: usize) -> Option<&[u8]>
-    ensures { option_copied result ≡ plain_of least most word.now }
+    ensures value { option_copied result ≡ plain_of least most word.now }
+    ensures long { IfSome result (λ found. least ≤ length found.now) }
+    ensures short { IfSome result (λ found. length found.now ≤ most) }
 {
     let fits = least <= word.len() && word.len() <= most;
     if fits && are_plain(word) { Some(word) } else { None }
