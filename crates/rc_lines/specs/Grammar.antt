@@ -84,7 +84,7 @@ inserted key number ts cells =
 unfoldable pub insert_of : List ℕ → List ℕ → List ℕ → List (List ℕ) → Option Command
 insert_of key ck stamp sets =
     option_and_then (λ k. option_and_then (λ number. option_and_then (λ ts. option_map (λ cells.
-        Put (inserted k number ts cells)) (cells_of ts sets)) (stamp_of stamp)) (signed_of ck)) (plain_of 1 64 key)
+    Put (inserted k number ts cells)) (cells_of ts sets)) (stamp_of stamp)) (signed_of ck)) (plain_of 1 64 key)
 
 -- `open ID KEY`
 unfoldable pub open_of : List ℕ → List ℕ → Option Command

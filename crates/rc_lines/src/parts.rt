@@ -16,7 +16,11 @@ pub(crate) fn plain(word: &[u8], least: usize, most: usize) -> Option<&[u8]>
     ensures short { IfSome result (λ found. length found.now ≤ most) }
 {
     let fits = least <= word.len() && word.len() <= most;
-    if fits && are_plain(word) { Some(word) } else { None }
+    if fits && are_plain(word) {
+        Some(word)
+    } else {
+        None
+    }
 }
 
 /// Whether each byte is an ASCII letter or digit.

@@ -14,12 +14,7 @@ use rc_position::{Comp, Key, PartKey};
 use std::alloc::{AllocError, Global};
 
 /// A live cell of a column.
-fn live_cell(
-    alloc: Global,
-    ts: i64,
-    column: u8,
-    value: &[u8],
-) -> Result<(u8, Cell), AllocError>
+fn live_cell(alloc: Global, ts: i64, column: u8, value: &[u8]) -> Result<(u8, Cell), AllocError>
     ensures { IfOk result (λ made. made ≡ cell ts (column, value.now)) }
 {
     let value = Value::from_slice(alloc, value)?;
@@ -77,12 +72,7 @@ fn both_cells(
 
 /// The cells that two words assign.
 #[tactic(auto, unfolding(crate::specs::Grammar::two_cells))]
-fn two_cells(
-    alloc: Global,
-    ts: i64,
-    one: &[u8],
-    other: &[u8],
-) -> Result<Option<Cells>, AllocError>
+fn two_cells(alloc: Global, ts: i64, one: &[u8], other: &[u8]) -> Result<Option<Cells>, AllocError>
     ensures { IfOk result (λ found. found ≡ two_cells ts one.now other.now) }
 {
     let Some(first) = assigned(one) else {
