@@ -1,0 +1,7 @@
+//! One segment of raw memory: a block of bytes, of which the first ones are used.
+#![tactic(auto)]
+
+mod block;
+mod segment;
+
+pub use segment::Segment;
