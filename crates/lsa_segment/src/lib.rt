@@ -2,6 +2,7 @@
 #![tactic(auto)]
 
 mod block;
+mod raw;
 mod segment;
 
 pub use segment::Segment;

@@ -26,6 +26,7 @@ impl<const S: usize> Model for Segment<S> {
 impl<const S: usize> Segment<S> {
     /// An empty segment.
     pub fn new(alloc: Global) -> Result<Self, AllocError>
+        requires { S ≤ 2 ^ 27 }
         ensures { IfOk result (λ s. s ≡ []) }
     {
         Ok(Segment {
@@ -85,5 +86,33 @@ impl<const S: usize> Segment<S> {
         ensures { self.new ≡ [] }
     {
         self.used = 0;
+    }
+}
+
+#[cfg(test)]
+mod tests {
+    use super::*;
+    use std::test::Fail;
+
+    // A segment filled to its last byte, read, changed in the middle, copied and emptied.
+    #[test]
+    fn filled_to_the_last_byte(rt: HostRuntime) -> Result<(), Fail> {
+        let mut segment = Segment::<64>::new(rt.alloc())?;
+        let mut other = Segment::<64>::new(rt.alloc())?;
+        let bytes = [7u8; 40];
+        assert_eq!(rt; segment.room(), 64);
+        assert_eq!(rt; segment.push(bytes.as_slice()), 0);
+        assert_eq!(rt; segment.push(&bytes[..24]), 40);
+        assert_eq!(rt; segment.room(), 0);
+        segment.write(62, &[1, 2]);
+        assert_eq!(rt; segment.lend(61, 3), [7, 1, 2].as_slice());
+        assert_eq!(rt; other.push(&[9]), 0);
+        assert_eq!(rt; segment.copy_into(60, 4, &mut other), 1);
+        assert_eq!(rt; other.lend(0, 5), [9, 7, 7, 1, 2].as_slice());
+        segment.clear();
+        assert_eq!(rt; segment.room(), 64);
+        assert_eq!(rt; segment.push(&[5]), 0);
+        assert_eq!(rt; segment.lend(0, 1), [5].as_slice());
+        Ok(())
     }
 }
