@@ -3,7 +3,6 @@ use Rattle.std.specs.Prelude.{ℕ, ◌+◌, List, ◌++◌, map, take, drop, Opt
 use Rattle.std.specs.Borrow.{Fml, MutBor, Array, Lends}
 use Rattle.std.specs.List.{refill}
 use Rattle.circular_buffer.specs.Places.{somes}
-use Rattle.lsa_segment.specs.Raw.{byte_row}
 use Rattle.lsa_segment.specs.declared.raw.Owned.{Owned}
 use Rattle.lsa_segment.specs.contracts.raw.Owned.{the_row}
 use denote.Builtin.{u8}

@@ -1,7 +1,7 @@
 -- `allocate` makes unset bytes of the new block, and the right to give it back. Assumes `Logic`.
-use Rattle.std.proofs.Common.{◌≡◌, ℕ, ◌*◌, ◌<◌, ◌^◌, List, [], ◌∷◌, ◌++◌, true, false, length, replicate, refl, sym, subst, ◌∙◌, w64, arith, lit<, Some, None, Ok, Err}
+use Rattle.std.proofs.Common.{◌≡◌, ◌*◌, ◌<◌, ◌^◌, List, [], ◌∷◌, ◌++◌, true, false, length, replicate, refl, sym, subst, w64, arith, lit<, None, Ok, Err}
 use Rattle.std.proofs.lemmas.List.{length-replicate}
-use mir.Syntax.{Ty, Fn, Body, Args, a_type, dcons, dnil, ty_array}
+use mir.Syntax.{Ty, Fn, Args, a_type, dcons, dnil, ty_array}
 use mir.Val.{Val, vint, vptr, vcons, vnil, vstruct}
 use mir.MapTy.{inst_fn}
 use base.Logic.{SProp, emp, id⊢}

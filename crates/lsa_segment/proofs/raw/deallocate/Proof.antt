@@ -1,46 +1,36 @@
 -- `deallocate` forgets what the bytes are, and gives the block back by the right to do so. Assumes `Logic`.
-use Rattle.std.proofs.Common.{◌≡◌, ℕ, ◌+◌, ◌*◌, ◌<◌, ◌^◌, List, [], ◌∷◌, ◌++◌, true, false, length, replicate, refl, sym, subst, ◌∙◌, w64, arith, lit<, Some, None, Ok, Err}
-use Rattle.std.proofs.lemmas.List.{length-replicate}
-use mir.Syntax.{Ty, Fn, Body, Args, a_type, dcons, dnil, ty_array}
-use mir.Val.{Val, vint, vptr, vcons, vnil, vstruct}
+use Rattle.std.proofs.Common.{◌≡◌, ℕ, ◌+◌, List, [], ◌∷◌, ◌++◌, length, replicate, refl, sym, subst, ◌∙◌, w64, arith, lit<, Some, None}
+use mir.Syntax.{Ty, Fn, Args, a_type, dcons, dnil, ty_array}
+use mir.Val.{Val, vint, vptr}
 use mir.MapTy.{inst_fn}
-use base.Logic.{SProp, emp, id⊢}
+use base.Logic.{SProp, id⊢}
 use base.Fml.{Lft, Share, ftrue, flft}
-use prog.Wp.{Env, Wp, WpFn, after_seq, at_return}
+use prog.Wp.{Env, WpFn}
 use contract.BorrowLft.{◌⊑◌, ⊑_trans}
-use contract.Monad.{fact, fact_i}
+use contract.Monad.{fact}
 use contract.Running.{tables}
-use types.Kit.{‵, raw, ◌⊛◌, later, prop, at_ret, any_q, Post as After, ◌$◌, ◌∵◌, !, qed, by, move, drop, use0, use1, use2, use3, split, join, regoal, fsplit, fjoin, flt_i, await}
-use types.Part.{whole, agg}
-use types.Match.{live, vrt, in_variant}
-use types.Run.{stop, fld, lit, of_opd, no_more, and_then, first, switches_on, exec, returns, enter}
-use types.ByLocal.{alloc_all, pass_all, free_all, look_at, get, get_in, get_tag, sets, sets_last, lands_as, env}
+use types.Kit.{‵, raw, ◌⊛◌, later, prop, at_ret, ◌$◌, ◌∵◌, !, qed, by, move, use1, split, join, regoal, fsplit, fjoin, await}
+use types.Part.{whole}
+use types.Run.{stop, fld, lit, of_opd, no_more, and_then, first, exec, returns, enter}
+use types.ByLocal.{alloc_all, pass_all, free_all, look_at, get, get_in, sets, env}
 use denote.Builtin.{RefOf, usize}
-use denote.Laws.{Is}
 use denote.RattleType.{RattleType, owns}
-use denote.RawPtr.{Ptr, block_ptr}
+use denote.RawPtr.{Ptr}
 use denote.Param.{param, bounded, layout}
-use denote.Signature.{plain, types_at}
-use denote.Steps.{nothing, heard, owned}
-use denote.Struct.Struct.{Struct, Struct-Makes}
-use denote.Struct.Declared as Declared
-use denote.Struct.Tuple.{Tuple}
+use denote.Signature.{plain}
+use denote.Steps.{nothing, heard}
 use denote.Triple.Entry.{alive}
-use denote.Triple.Call.{calls_at}
 use denote.Triple.Walked.{Stays, stay_dropped, walk_of, Goes-dropped}
-use Rattle.core.specs.contracts.result.Result as RS
-use Rattle.core.specs.contracts.alloc.AllocError as AE
 use Rattle.core.proofs.mem.Param.{elτ}
-use Rattle.core.proofs.alloc.Calls.{Al, seen, Takes, at_takes, Answered, Answer-typed, Takes-goes, Takes-gives, answers}
-use Rattle.core.proofs.alloc.Shapes.{after, head, arm_body}
+use Rattle.core.proofs.alloc.Calls.{Al}
+use Rattle.core.proofs.alloc.Shapes.{after}
 use Rattle.core.proofs.atomic.Steps.{fm}
 use Rattle.core.proofs.slots.Leases.{block_ty, block_size, block_align}
 use Rattle.std_alloc.proofs.RawLayout.{as_written}
-use Rattle.std_alloc.proofs.RcSteps.{Good, word, word-Good, first_Good}
-use Rattle.std_alloc.proofs.ResultValues.{ok_of, err_of}
+use Rattle.std_alloc.proofs.RcSteps.{Good, word, word-Good}
 use Rattle.std.proofs.raw_atomic.Walks.{proved_at, leaves}
 use Rattle.circular_buffer.specs.Ownership.{slots}
-use Rattle.circular_buffer.proofs.Memory.{Mark, sz, mark, mark_made, word_made, three_val, three_of, of_room}
+use Rattle.circular_buffer.proofs.Memory.{sz, mark}
 use Rattle.lsa_segment.specs.Raw.{byte_row}
 use Rattle.lsa_segment.specs.contracts.raw.Owned.{the_row as O}
 use Rattle.lsa_segment.specs.contracts.raw.Start.{the_row as St}
@@ -49,7 +39,6 @@ use Rattle.lsa_segment.proofs.Byte.{byte}
 use Rattle.lsa_segment.specs.contracts.raw.deallocate as f
 use Rattle.lsa_segment.proofs.raw.deallocate.Statement.{statement}
 use Rattle.lsa_segment.proofs.raw.deallocate.Code as code
-
 use base.Fraction.{full_share}
 use base.Logic.{ent, never}
 use base.Fml.{fat, froom}
@@ -62,15 +51,14 @@ use types.Kit.{some, given, keep, pick, learn, frame, group, rewrite, fsplit3, f
 use types.Part.{sub}
 use types.Run.{unit_lit, blocks}
 use types.ByLocal.{lands_last, take_at, give_at}
-use denote.Memory.{hidden_shr}
 use denote.Ref.{ShrRef}
 use denote.RawPtr.{in_a_block}
 use denote.Triple.Call.{calls_at_last}
 use Rattle.core.proofs.alloc.Calls.{token, Gives, at_gives, Gives-goes, Gives-Gives, Goes-blank}
 use Rattle.std_alloc.proofs.RawLayout.{as_raw}
-use Rattle.std.proofs.Common.{Option, ap}
+use Rattle.std.proofs.Common.{Option}
 use Rattle.circular_buffer.specs.Ownership.{slot, cells_own, deed_owns}
-use Rattle.circular_buffer.proofs.Memory.{Place, word_had, mark_had, value_out, to_room}
+use Rattle.circular_buffer.proofs.Memory.{word_had, mark_had, value_out, to_room}
 
 -- each byte becomes room
 unset : {M : Type 1} {𝓤 : Ura M} (𝓛 : Logic 𝓤) (bytes : List (Option ℕ)) (b o : ℕ) → ent 𝓤 (sem 𝓛 (slots byte_row b o bytes)) (sem 𝓛 (slots byte_row b o (replicate (length bytes) None)))
@@ -89,9 +77,16 @@ deallocate_spec 𝓤 𝓛 𝓜 𝓡 wired A L g d dd met md =
     let P : RattleType = param 0 A in let D : RattleType = D-type.the_row P g in
     let stays : Stays ended.signature.params ended.kept = (stay_dropped (RefOf (0 ∷ []) tt (plain (λ _. P)) (λ _. tt)) ended.kept.0, (stay_dropped (plain (λ _. St)) ended.kept.1.0, (stay_dropped (plain (λ _. usize)) ended.kept.1.1.0, (stay_dropped (plain (λ _. O)) ended.kept.1.1.1.0, (stay_dropped (plain (λ _. D)) ended.kept.1.1.1.1.0, tt))))) in
     let C = (tables 𝓤 H 𝓜 𝓡 𝓡.env).C in let Λ = (tables 𝓤 H 𝓜 𝓡 𝓡.env).Λ in
-    proved_at 𝓛 ended stays c 𝓜 𝓡
-    (Goes-dropped 𝓛 2 (RefOf (0 ∷ []) tt (plain (λ _. P)) (λ _. tt)) ended.kept.0 (λ κs x k. refl), (Goes-dropped 𝓛 2 (plain (λ _. St)) ended.kept.1.0 (λ κs x k. refl), (Goes-dropped 𝓛 2 (plain (λ _. usize)) ended.kept.1.1.0 (λ κs x k. refl),
-    (Goes-blank 𝓛 2 (plain (λ _. O)) ended.kept.1.1.1.0 (λ κs x k. tt), (Goes-blank 𝓛 2 (plain (λ _. D)) ended.kept.1.1.1.1.0 (λ κs x k. tt), tt)))))
+    proved_at 𝓛 ended stays c 𝓜 𝓡 (
+      Goes-dropped 𝓛 2 (RefOf (0 ∷ []) tt (plain (λ _. P)) (λ _. tt)) ended.kept.0 (λ κs x k. refl),
+      (
+        Goes-dropped 𝓛 2 (plain (λ _. St)) ended.kept.1.0 (λ κs x k. refl),
+        (
+          Goes-dropped 𝓛 2 (plain (λ _. usize)) ended.kept.1.1.0 (λ κs x k. refl),
+          (Goes-blank 𝓛 2 (plain (λ _. O)) ended.kept.1.1.1.0 (λ κs x k. tt), (Goes-blank 𝓛 2 (plain (λ _. D)) ended.kept.1.1.1.1.0 (λ κs x k. tt), tt)),
+        ),
+      ),
+    )
     (f.Key.name args) fn (code.unfolded 𝓤 H 𝓜 𝓡 wired (A, tt) d dd) (λ z are.
     let Post : Val → SProp 𝓤 = (walk_of 𝓛 ended stays c).post z in
     let Y : Al = record { row = A; laws = L; g = g; d = d; drops = dd } in

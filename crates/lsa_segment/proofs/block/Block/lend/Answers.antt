@@ -1,4 +1,4 @@
-use Rattle.std.proofs.Common.{◌≡◌, ◌+◌, ◌≤◌, length, sym, ap, ◌∙◌, arith}
+use Rattle.std.proofs.Common.{◌+◌, ◌≤◌, length, sym, ap, ◌∙◌, arith}
 use Rattle.circular_buffer.specs.Places.{somes}
 use Rattle.lsa_segment.specs.Bytes.{part}
 use Rattle.lsa_segment.proofs.Whole.{part-set, map-Some, length-somes}

@@ -1,12 +1,8 @@
 -- A `&` to the owner of bytes shows each byte that is set. Assumes `Logic`.
-use mathlib.Core.List.{[], ◌++◌}
-use base.Fml.{Incl-trans}
-use contract.BorrowLft.{meet_⊑_left}
 use denote.RawPtr.{RawPtr}
 use denote.Param.Shared.{copy_shared}
 use denote.Struct.Laws.{field_copy}
 use denote.Struct.Lending.{of_Lends}
-use Rattle.core.proofs.mem.Param.{R}
 use Rattle.core.specs.contracts.marker.PhantomData as marker
 use Rattle.circular_buffer.proofs.Sharing.{cells_lent_laws, Lends-cells}
 use denote.Param.Laws.{param_laws}

@@ -1,34 +1,30 @@
 -- `slice_mut` lends a run of bytes that are set, and the block follows what is written there. Assumes `Logic`.
-use Rattle.std.proofs.Common.{◌≡◌, ℕ, ◌+◌, ◌*◌, ◌<◌, ◌^◌, List, [], ◌∷◌, ◌++◌, length, set, get_or, length-set, refl, sym, subst, ◌∙◌, w8, w64, arith, MutBor, Some, None}
+use Rattle.std.proofs.Common.{◌≡◌, ℕ, ◌+◌, ◌*◌, ◌<◌, ◌^◌, List, [], ◌∷◌, ◌++◌, length, refl, sym, subst, ◌∙◌, w64, arith, MutBor, Some}
 use base.Fraction.{full_share}
 use base.Logic.{never, id⊢}
-use base.Fml.{ftrue, fat, flft, fobs, fbor}
+use base.Fml.{ftrue, fat, flft}
 use mir.Syntax.{Fn, named}
-use mir.Val.{Val, vptr, vint, vunit}
+use mir.Val.{Val, vptr, vint}
 use prog.Wp.{Env, WpFn}
 use contract.Running.{tables}
-use types.Kit.{‵, ⋆, ◌⊛◌, prop, at_ret, ◌$◌, ◌∵◌, !, qed, move, keep, use1, use2, split, join, regoal, rewrite, fsplit, fsplit3, fjoin, fjoin3, feq_i, feq_l, flt_l, flt_i, suffices, frame, done}
+use types.Kit.{‵, ◌⊛◌, prop, at_ret, ◌$◌, ◌∵◌, !, qed, move, keep, use1, use2, split, join, regoal, rewrite, fsplit, fsplit3, fjoin, fjoin3, feq_l, flt_l, flt_i, suffices, frame, done}
 use types.Part.{whole, sub}
-use types.Run.{init, stop, fld, unit_lit, of_opd, bin, assigns_last, first, blocks, exec, returns, enter}
-use types.ByLocal.{alloc_all, pass_all, free_all, look_at, get, get_in, through, sets, env, take_at, give_at}
-use types.SemTy.{Body as Borrowed}
+use types.Run.{stop, fld, of_opd, bin, first, blocks, exec, returns, enter}
+use types.ByLocal.{alloc_all, pass_all, free_all, look_at, get, get_in, sets, env, take_at, give_at}
 use denote.RattleType.{RattleType, owns}
 use denote.Memory.{mem}
 use denote.Param.{layout}
-use denote.Plain.{uint_Makes}
 use denote.RawPtr.{Ptr, in_a_block}
 use denote.Ref.{MutRef}
-use denote.Builtin.{u8, usize}
+use denote.Builtin.{usize}
 use denote.Signature.{plain}
-use denote.Steps.{nothing, opens, closes, owned}
-use denote.Triple.Walked.{says, needs, Stays, stay_ref, stay_dropped, walk_of, ends_at, Goes-dropped, Goes-ref}
+use denote.Steps.{nothing, opens}
+use denote.Triple.Walked.{says, needs, Stays, stay_dropped, walk_of, ends_at, Goes-dropped}
 use Rattle.std.proofs.raw_atomic.Walks.{proved_at}
 use Rattle.std.proofs.VecSteps.Shapes.{after}
 use Rattle.std_alloc.proofs.RcSteps.{word, word-Good}
-use Rattle.std_alloc.proofs.RawLayout.{as_written}
-use Rattle.core.proofs.mem.Param.{elτ}
-use Rattle.circular_buffer.specs.Ownership.{slot, slots, cells_own}
-use Rattle.circular_buffer.proofs.Memory.{Place, sz, word_had, value_in, Besides, slot_out, slot_in}
+use Rattle.circular_buffer.specs.Ownership.{slots, cells_own}
+use Rattle.circular_buffer.proofs.Memory.{Place, sz, word_had}
 use Rattle.lsa_segment.specs.Raw.{byte_row}
 use Rattle.lsa_segment.specs.contracts.raw.Owned.{the_row as O}
 use Rattle.lsa_segment.specs.contracts.raw.Start.{the_row as St}
@@ -36,26 +32,17 @@ use Rattle.lsa_segment.proofs.Byte.{byte}
 use Rattle.lsa_segment.specs.contracts.raw.Owned.slice_mut as f
 use Rattle.lsa_segment.proofs.raw.Owned.slice_mut.Statement.{statement}
 use Rattle.lsa_segment.proofs.raw.Owned.slice_mut.Code as code
-
 use Rattle.std.proofs.lemmas.List.{length-map}
 use Rattle.std.proofs.Common.{ap, map, take, length-take, length-drop}
 use lib.ListN.{drop as drop_l}
-use types.Kit.{drop}
 use types.Run.{and_then, no_more}
 use types.Part.{agg}
 use types.ByLocal.{sets_last}
-use denote.Memory.{hidden_shr}
-use denote.Opens.{hide, unhide}
-use denote.Ref.{ShrRef}
-use denote.Builtin.{RefOf}
-use denote.Slice.{slice_val, elements_shared}
+use denote.Slice.{slice_val}
 use Rattle.core.proofs.ptr.Rows.{times_below}
-use Rattle.circular_buffer.specs.Ownership.{cells_lent}
 use Rattle.circular_buffer.specs.Places.{IsRun}
-use Rattle.circular_buffer.proofs.Memory.{run_seen}
-
-use base.Fml.{Fml, GName, fsep, Lft, Share}
-use base.Logic.{SProp, ent, sep}
+use base.Fml.{Fml, GName, fsep}
+use base.Logic.{ent, sep}
 use seplogic.Ra.Ura.{Ura}
 use types.Logic.{Logic, sem}
 use types.SemTy.{cells}

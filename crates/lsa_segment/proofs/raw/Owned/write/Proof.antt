@@ -1,19 +1,17 @@
 -- `write` sets one byte of the block: its place is taken out of the row, written, and put back. Assumes `Logic`.
-use Rattle.std.proofs.Common.{◌≡◌, ℕ, ◌+◌, ◌*◌, ◌<◌, ◌^◌, List, [], ◌∷◌, ◌++◌, length, set, get_or, length-set, refl, sym, subst, ◌∙◌, w8, w64, arith, MutBor, Some, None}
+use Rattle.std.proofs.Common.{◌≡◌, ℕ, ◌+◌, ◌*◌, ◌<◌, ◌^◌, List, [], ◌∷◌, ◌++◌, length, set, get_or, length-set, refl, sym, subst, ◌∙◌, w8, w64, arith, Some, None}
 use base.Fraction.{full_share}
 use base.Logic.{never, id⊢}
-use base.Fml.{ftrue, fat, flft, fobs, fbor}
+use base.Fml.{ftrue, fat, flft}
 use mir.Syntax.{Fn, named}
 use mir.Val.{Val, vptr, vint, vunit}
 use prog.Wp.{Env, WpFn}
 use contract.Running.{tables}
-use types.Kit.{‵, ⋆, ◌⊛◌, prop, at_ret, ◌$◌, ◌∵◌, !, qed, move, keep, use1, use2, split, join, regoal, rewrite, fsplit, fsplit3, fjoin, fjoin3, feq_i, feq_l, flt_l, flt_i, suffices, frame, done}
+use types.Kit.{‵, ◌⊛◌, prop, at_ret, ◌$◌, ◌∵◌, !, qed, move, keep, use1, use2, split, join, regoal, rewrite, fsplit, fsplit3, fjoin, fjoin3, feq_i, feq_l, flt_l, flt_i, suffices, frame, done}
 use types.Part.{whole, sub}
 use types.Run.{init, stop, fld, unit_lit, of_opd, bin, assigns_last, first, blocks, exec, returns, enter}
 use types.ByLocal.{alloc_all, pass_all, free_all, look_at, get, get_in, through, sets, env, take_at, give_at}
-use types.SemTy.{Body as Borrowed}
-use denote.RattleType.{RattleType, owns}
-use denote.Memory.{mem}
+use denote.RattleType.{owns}
 use denote.Param.{layout}
 use denote.Plain.{uint_Makes}
 use denote.RawPtr.{Ptr, in_a_block}
