@@ -1,0 +1,2 @@
+-- Where objects lie.
+use Rattle.std.specs.Prelude.{ℕ}
