@@ -1,7 +1,7 @@
 -- The rows that the writes of a partition join to, one write after another.
-use Rattle.std.proofs.Common.{◌≡◌, ℕ, ◌+◌, ◌<◌, Bool, true, false, cond, List, [], ◌∷◌, ◌++◌, length, take, get_or, refl, sym, ap, subst, ◌∙◌, append_assoc, arith}
+use Rattle.std.proofs.Common.{◌≡◌, ℕ, ◌+◌, ◌<◌, true, false, cond, List, [], ◌∷◌, ◌++◌, length, take, get_or, refl, sym, ap, ◌∙◌, append_assoc, arith}
 use Rattle.std.specs.Prelude.{map as list_map}
-use Rattle.std.specs.List.{filter, flat_map}
+use Rattle.std.specs.List.{filter}
 use Rattle.std.specs.Ordering.{eq_by_cmp}
 use Rattle.std.proofs.lemmas.List.{append-nil, take_more}
 use Rattle.std.proofs.lemmas.Grind.{flat_map-append}
@@ -29,7 +29,7 @@ pub changes_of-more : (key : List ℕ) (log : List Write) (w : Write) → change
 changes_of-more key [] w = elim (eq_by_cmp bytes_cmp w.key key) as (λ b. list_map (λ v. v.change) (cond b (w ∷ []) []) ≡ cond b (w.change ∷ []) []) [ true ↦ refl | false ↦ refl ]
 changes_of-more key (v ∷ log) w =
     elim (eq_by_cmp bytes_cmp v.key key) as (λ b. list_map (λ x. x.change) (cond b (v ∷ filter (λ x. eq_by_cmp bytes_cmp x.key key) (log ++ w ∷ [])) (filter (λ x. eq_by_cmp bytes_cmp x.key key) (log ++ w ∷ [])))
-          ≡ list_map (λ x. x.change) (cond b (v ∷ filter (λ x. eq_by_cmp bytes_cmp x.key key) log) (filter (λ x. eq_by_cmp bytes_cmp x.key key) log)) ++ cond (eq_by_cmp bytes_cmp w.key key) (w.change ∷ []) []) [
+    ≡ list_map (λ x. x.change) (cond b (v ∷ filter (λ x. eq_by_cmp bytes_cmp x.key key) log) (filter (λ x. eq_by_cmp bytes_cmp x.key key) log)) ++ cond (eq_by_cmp bytes_cmp w.key key) (w.change ∷ []) []) [
       | true ↦ ap (λ ms. v.change ∷ ms) (changes_of-more key log w)
       | false ↦ changes_of-more key log w
     ]
@@ -42,7 +42,7 @@ pub changes-joined : (key : List ℕ) (log : List Write) (i : ℕ) (w : Write) (
     → rows' ≡ joined_rows (all_rows (changes_of key (take i log)) ++ w.change.rows) → rows' ≡ joined_rows (all_rows (changes_of key (take (i + 1) log)))
 changes-joined key log i w rows' within there same is =
     let more : changes_of key (take (i + 1) log) ≡ changes_of key (take i log) ++ w.change ∷ [] =
-          ap (changes_of key) (take_more log i w within ∙ ap (λ x. take i log ++ x ∷ []) (sym there)) ∙ changes_of-more key (take i log) w ∙ ap (λ b. changes_of key (take i log) ++ cond b (w.change ∷ []) []) same in
+    ap (changes_of key) (take_more log i w within ∙ ap (λ x. take i log ++ x ∷ []) (sym there)) ∙ changes_of-more key (take i log) w ∙ ap (λ b. changes_of key (take i log) ++ cond b (w.change ∷ []) []) same in
     is ∙ ap joined_rows (sym (ap all_rows more ∙ all_rows-one (changes_of key (take i log)) w.change))
 
 -- a write to another partition adds nothing
@@ -50,7 +50,7 @@ pub changes-passed : (key : List ℕ) (log : List Write) (i : ℕ) (w : Write) (
     → rows ≡ joined_rows (all_rows (changes_of key (take i log))) → rows ≡ joined_rows (all_rows (changes_of key (take (i + 1) log)))
 changes-passed key log i w rows within there other is =
     let same : changes_of key (take (i + 1) log) ≡ changes_of key (take i log) =
-          ap (changes_of key) (take_more log i w within ∙ ap (λ x. take i log ++ x ∷ []) (sym there)) ∙ changes_of-more key (take i log) w ∙ ap (λ b. changes_of key (take i log) ++ cond b (w.change ∷ []) []) other ∙ append-nil _ in
+    ap (changes_of key) (take_more log i w within ∙ ap (λ x. take i log ++ x ∷ []) (sym there)) ∙ changes_of-more key (take i log) w ∙ ap (λ b. changes_of key (take i log) ++ cond b (w.change ∷ []) []) other ∙ append-nil _ in
     is ∙ ap (λ ms. joined_rows (all_rows ms)) (sym same)
 
 pub joined_rows-none : joined_rows [] ≡ []

@@ -57,7 +57,7 @@ module _ {State : Type 0} (Step : State → List ℕ → List ℕ → State → 
       → SoFar Step start new held' (count + n) left left' written written' i i2 o o2
   went_on start now new held held' count n left mid left' written between written' i i1 i2 o o1 o2 bytes s took many same serves =
       let all = serves_more Step start now new [] s.taken bytes held held' written between written' o o1 o2 (Ok tt)
-            (so_far_served start now held count left mid written between i i1 o o1 s) serves in
+      (so_far_served start now held count left mid written between i i1 o o1 s) serves in
       record {
         taken = s.taken ++ bytes;
         text = all.0;
@@ -68,7 +68,7 @@ module _ {State : Type 0} (Step : State → List ℕ → List ℕ → State → 
         fed = all.2;
         holds = all.3;
         input_same = same ∙ s.input_same;
-        output_same = all.5
+        output_same = all.5;
       }
 
   -- bytes were served in part
@@ -88,10 +88,10 @@ module _ {State : Type 0} (Step : State → List ℕ → List ℕ → State → 
       unwritten = s.1.back;
       pieces = (s.1.lines, s.1.more, s.1.cut, few, (s.1.new, s.1.answered));
       part = s.1.part;
-      whole = s.1.written
+      whole = s.1.written;
     };
     ended = tt;
-    cause = s.3
+    cause = s.3;
   }
   stopped_in start new limit taken held' left left' written written' i i' o o' NoMemory took few s = record {
     taken = taken;
@@ -100,7 +100,7 @@ module _ {State : Type 0} (Step : State → List ℕ → List ℕ → State → 
     appended = s.2;
     run = record { pieces = s.1.texts; due = (s.1.lines, s.1.more, s.1.cut, few, (s.1.new, s.1.answered)); whole = s.1.written };
     ended = tt;
-    cause = s.3
+    cause = s.3;
   }
 
   pub stopped : (start now new : State) (limit : ℕ) (held held' : List ℕ) (count n : ℕ) (left mid left' written between written' : Option (List ℕ)) (i i1 i2 o o1 o2 : ℕ) (bytes : List ℕ) (stop : Stop)
@@ -110,7 +110,7 @@ module _ {State : Type 0} (Step : State → List ℕ → List ℕ → State → 
       → Ran Step true start limit (status_of stop) left left' written written' i i2 o o2
   stopped start now new limit held held' count n left mid left' written between written' i i1 i2 o o1 o2 bytes stop s took many few serves =
       let all = serves_more Step start now new [] s.taken bytes held held' written between written' o o1 o2 (Err stop)
-            (so_far_served start now held count left mid written between i i1 o o1 s) serves in
+      (so_far_served start now held count left mid written between i i1 o o1 s) serves in
       let len : length (s.taken ++ bytes) ≤ limit = omega (arith, length-append s.taken bytes, s.counted, many) in
       stopped_in start new limit (s.taken ++ bytes) held' left left' written written' i i2 o o2 stop (Consumes-trans left mid left' s.taken bytes s.consumed took) len all
 
@@ -133,7 +133,7 @@ module _ {State : Type 0} (Step : State → List ℕ → List ℕ → State → 
         appended = Appends-trans written between written' text line app e.1;
         run = whole (text ++ line) (record { pieces = texts ++ line ∷ []; due = all; whole = ap (λ t. t ++ line) is ∙ ap (λ l. concat texts ++ l) (sym (append-nil line)) ∙ sym (concat-append texts (line ∷ [])) });
         ended = ends;
-        cause = caused (e.2 ∙ same)
+        cause = caused (e.2 ∙ same);
       })
   last_pushed start limit due status taken line text texts left left' written between written' i i' o o1 o2 whole ends caused memory all took app is same (inr (inl e)) =
       rw e.0 (record {
@@ -143,7 +143,7 @@ module _ {State : Type 0} (Step : State → List ℕ → List ℕ → State → 
         appended = Appends-trans written between written' text e.1.0 app e.1.3;
         run = record { due = due; before = texts; last = line; written = e.1.0; unwritten = e.1.1; pieces = all; part = e.1.2; whole = ap (λ t. t ++ e.1.0) is };
         ended = tt;
-        cause = subst (λ n. Rose n o2) same e.2
+        cause = subst (λ n. Rose n o2) same e.2;
       })
   last_pushed start limit due status taken line text texts left left' written between written' i i' o o1 o2 whole ends caused memory all took app is same (inr (inr e)) =
       rw e.0 (record {
@@ -153,7 +153,7 @@ module _ {State : Type 0} (Step : State → List ℕ → List ℕ → State → 
         appended = Appends-trans written between written' text [] app e.1;
         run = record { pieces = texts; due = memory; whole = append-nil text ∙ is };
         ended = tt;
-        cause = e.2 ∙ same
+        cause = e.2 ∙ same;
       })
 
   -- the input failed
@@ -165,10 +165,10 @@ module _ {State : Type 0} (Step : State → List ℕ → List ℕ → State → 
       let less : length s.taken < limit = omega (arith, s.counted) in
       let most : length s.taken ≤ limit = omega arith in
       last_pushed start limit statuses.InputFault status s.taken input_fault s.text s.fed.texts left left' written between written' i i2 o o1 o2
-          (λ t w. w) tt (λ same. (subst (λ n. Rose n i2) s.input_same rose, same))
-          (s.fed.lines, s.rest, s.fed.cut, most, (now, s.fed.answered))
-          (s.fed.lines, s.rest, s.fed.texts, s.fed.cut, s.fed.unfinished, less, (now, s.fed.answered), refl)
-          (Consumes-kept left mid left' s.taken s.consumed keeps) s.appended s.fed.written s.output_same e
+      (λ t w. w) tt (λ same. (subst (λ n. Rose n i2) s.input_same rose, same))
+      (s.fed.lines, s.rest, s.fed.cut, most, (now, s.fed.answered))
+      (s.fed.lines, s.rest, s.fed.texts, s.fed.cut, s.fed.unfinished, less, (now, s.fed.answered), refl)
+      (Consumes-kept left mid left' s.taken s.consumed keeps) s.appended s.fed.written s.output_same e
 
   -- the limit was reached
   pub limit_reached : (start now : State) (limit count : ℕ) (held : List ℕ) (status : Status) (left left' written between written' : Option (List ℕ)) (i i1 o o1 o2 : ℕ)
@@ -178,10 +178,10 @@ module _ {State : Type 0} (Step : State → List ℕ → List ℕ → State → 
   limit_reached start now limit count held status left left' written between written' i i1 o o1 o2 s reached e =
       let most : length s.taken ≤ limit = omega (arith, s.counted) in
       last_pushed start limit statuses.InputLimit status s.taken input_limit s.text s.fed.texts left left' written between written' i i1 o o1 o2
-          (λ t w. w) tt (λ same. (s.input_same, same))
-          (s.fed.lines, s.rest, s.fed.cut, most, (now, s.fed.answered))
-          (s.fed.lines, s.rest, s.fed.texts, s.fed.cut, s.fed.unfinished, s.counted ∙ reached, (now, s.fed.answered), refl)
-          s.consumed s.appended s.fed.written s.output_same e
+      (λ t w. w) tt (λ same. (s.input_same, same))
+      (s.fed.lines, s.rest, s.fed.cut, most, (now, s.fed.answered))
+      (s.fed.lines, s.rest, s.fed.texts, s.fed.cut, s.fed.unfinished, s.counted ∙ reached, (now, s.fed.answered), refl)
+      s.consumed s.appended s.fed.written s.output_same e
 
   -- the end of the input was met, and a last line served
   pub input_ended : (start now new : State) (limit : ℕ) (held : List ℕ) (count : ℕ) (left mid left' written between written' : Option (List ℕ)) (i i1 i2 o o1 o2 : ℕ)
@@ -199,10 +199,10 @@ module _ {State : Type 0} (Step : State → List ℕ → List ℕ → State → 
         run = record {
           pieces = s.fed.texts ++ l.0;
           due = (s.fed.lines, s.rest, s.fed.cut, s.fed.unfinished, less, (new, Answers-append Step start now new s.fed.lines (last_line s.rest) s.fed.texts l.0 s.fed.answered l.1));
-          whole = ap (λ t. t ++ concat l.0) s.fed.written ∙ sym (concat-append s.fed.texts l.0)
+          whole = ap (λ t. t ++ concat l.0) s.fed.written ∙ sym (concat-append s.fed.texts l.0);
         };
         ended = at_end;
-        cause = (same ∙ s.input_same, l.3 ∙ s.output_same)
+        cause = (same ∙ s.input_same, l.3 ∙ s.output_same);
       }
 
   -- a last line was not served whole
@@ -226,10 +226,10 @@ module _ {State : Type 0} (Step : State → List ℕ → List ℕ → State → 
           unwritten = l.2;
           pieces = (s.fed.lines, s.rest, s.fed.cut, s.fed.unfinished, less, (new, Answers-append Step start now new s.fed.lines (last_line s.rest) s.fed.texts (l.0 ∷ []) s.fed.answered l.3));
           part = l.4;
-          whole = ap (λ t. t ++ l.1) s.fed.written
+          whole = ap (λ t. t ++ l.1) s.fed.written;
         };
         ended = tt;
-        cause = subst (λ n. Rose n o2) s.output_same l.6
+        cause = subst (λ n. Rose n o2) s.output_same l.6;
       }
   end_stopped start now new limit held count left mid left' written between written' i i1 i2 o o1 o2 NoMemory s few none serves =
       let l = serves s.rest s.holds in
@@ -241,7 +241,7 @@ module _ {State : Type 0} (Step : State → List ℕ → List ℕ → State → 
         appended = Appends-trans written between written' s.text [] s.appended l.0;
         run = record { pieces = s.fed.texts; due = (s.fed.lines, s.rest, s.fed.cut, most, (now, s.fed.answered)); whole = append-nil s.text ∙ s.fed.written };
         ended = tt;
-        cause = l.1 ∙ s.output_same
+        cause = l.1 ∙ s.output_same;
       }
 
   -- before the first byte
@@ -257,7 +257,7 @@ module _ {State : Type 0} (Step : State → List ℕ → List ℕ → State → 
     fed = record { lines = []; texts = []; cut = record { whole = refl; each = tt }; unfinished = tt; answered = refl; written = refl };
     holds = none ∙ sym kept-nil;
     input_same = refl;
-    output_same = refl
+    output_same = refl;
   }
 
   -- the words were refused
@@ -271,7 +271,7 @@ module _ {State : Type 0} (Step : State → List ℕ → List ℕ → State → 
         appended = e.1;
         run = record { pieces = bad_words ∷ []; due = (refl, refl); whole = sym (append-nil bad_words) };
         ended = tt;
-        cause = (refl, e.2)
+        cause = (refl, e.2);
       })
   words_refused start limit status left written written' i o o' (inr (inl e)) =
       rw e.0 (record {
@@ -281,7 +281,7 @@ module _ {State : Type 0} (Step : State → List ℕ → List ℕ → State → 
         appended = e.1.3;
         run = record { due = statuses.BadWords; before = []; last = bad_words; written = e.1.0; unwritten = e.1.1; pieces = (refl, refl); part = e.1.2; whole = refl };
         ended = tt;
-        cause = e.2
+        cause = e.2;
       })
   words_refused start limit status left written written' i o o' (inr (inr e)) =
       rw e.0 (record {
@@ -291,5 +291,5 @@ module _ {State : Type 0} (Step : State → List ℕ → List ℕ → State → 
         appended = e.1;
         run = record { pieces = []; due = (refl, refl); whole = refl };
         ended = tt;
-        cause = e.2
+        cause = e.2;
       })

@@ -29,7 +29,7 @@ pub cut-append : (rest b c : List ℕ) (xs ys : List (List ℕ)) (left more : Li
 cut-append rest b c xs ys left more p q = record {
   whole = sym (append_assoc rest b c) ∙ ap (λ t. t ++ c) p.whole ∙ append_assoc (joined_lines xs) left c ∙ ap (λ t. joined_lines xs ++ t) q.whole
       ∙ sym (append_assoc (joined_lines xs) (joined_lines ys) more) ∙ ap (λ t. t ++ more) (sym (joined_lines-append xs ys));
-  each = AllByRecursion-append IsLine xs ys p.each q.each
+  each = AllByRecursion-append IsLine xs ys p.each q.each;
 }
 
 -- a byte more is kept while there is room
@@ -73,78 +73,108 @@ module _ {State : Type 0} (Step : State → List ℕ → List ℕ → State → 
   -- a newline ends the unfinished line
   pub line_ended : (old new : State) (rest : List ℕ) (held : List ℕ) (before after : Option (List ℕ)) (f f' : ℕ) (r : Result Unit Stop)
       → IsLine rest → held ≡ [] → ServedLine Step old rest new before after f f' r → Serves Step old rest (10 ∷ []) new held before after f f' r
-  line_ended old new rest held before after f f' (Ok u) line none s =
-      (s.0, [], record {
-        lines = rest ∷ [];
-        texts = s.0 ∷ [];
-        cut = record { whole = sym (append-nil _ ∙ append-nil _); each = (line, tt) };
-        unfinished = tt;
-        answered = (new, s.1, refl);
-        written = sym (append-nil _)
-      }, none ∙ sym kept-nil, s.2, s.3)
-  line_ended old new rest held before after f f' (Err OutputFault) line none s =
-      (s.1, record {
-        lines = rest ∷ [];
-        texts = [];
-        last = s.0;
-        front = s.1;
-        back = s.2;
-        more = [];
-        new = new;
-        cut = record { whole = sym (append-nil _ ∙ append-nil _); each = (line, tt) };
-        answered = (new, s.3, refl);
-        part = s.4;
-        written = refl
-      }, s.5, s.6)
-  line_ended old new rest held before after f f' (Err NoMemory) line none s =
-      ([], record {
-        lines = [];
-        texts = [];
-        more = rest ++ 10 ∷ [];
-        new = old;
-        cut = record { whole = refl; each = tt };
-        answered = refl;
-        written = refl
-      }, s.0, s.1)
+  line_ended old new rest held before after f f' (Ok u) line none s = (
+    s.0,
+    [],
+    record {
+      lines = rest ∷ [];
+      texts = s.0 ∷ [];
+      cut = record { whole = sym (append-nil _ ∙ append-nil _); each = (line, tt) };
+      unfinished = tt;
+      answered = (new, s.1, refl);
+      written = sym (append-nil _);
+    },
+    none ∙ sym kept-nil,
+    s.2,
+    s.3,
+  )
+  line_ended old new rest held before after f f' (Err OutputFault) line none s = (
+    s.1,
+    record {
+      lines = rest ∷ [];
+      texts = [];
+      last = s.0;
+      front = s.1;
+      back = s.2;
+      more = [];
+      new = new;
+      cut = record { whole = sym (append-nil _ ∙ append-nil _); each = (line, tt) };
+      answered = (new, s.3, refl);
+      part = s.4;
+      written = refl;
+    },
+    s.5,
+    s.6,
+  )
+  line_ended old new rest held before after f f' (Err NoMemory) line none s = (
+    [],
+    record {
+      lines = [];
+      texts = [];
+      more = rest ++ 10 ∷ [];
+      new = old;
+      cut = record { whole = refl; each = tt };
+      answered = refl;
+      written = refl;
+    },
+    s.0,
+    s.1,
+  )
 
   -- a byte that ends no line
   pub byte_held : (old new : State) (rest : List ℕ) (b : ℕ) (held : List ℕ) (before after : Option (List ℕ)) (f f' : ℕ)
       → IsLine rest → b ≢ 10 → new ≡ old → held ≡ kept (rest ++ b ∷ []) → after ≡ before → f' ≡ f → Serves Step old rest (b ∷ []) new held before after f f' (Ok tt)
-  byte_held old new rest b held before after f f' line other same is stays still =
-      ([], rest ++ b ∷ [], record {
-        lines = [];
-        texts = [];
-        cut = record { whole = refl; each = tt };
-        unfinished = AllByRecursion-append (λ byte. byte ≢ 10) rest (b ∷ []) line (other, tt);
-        answered = same;
-        written = refl
-      }, is, subst (λ a. Appends before a []) (sym stays) (Appends-nil before), still)
+  byte_held old new rest b held before after f f' line other same is stays still = (
+    [],
+    rest ++ b ∷ [],
+    record {
+      lines = [];
+      texts = [];
+      cut = record { whole = refl; each = tt };
+      unfinished = AllByRecursion-append (λ byte. byte ≢ 10) rest (b ∷ []) line (other, tt);
+      answered = same;
+      written = refl;
+    },
+    is,
+    subst (λ a. Appends before a []) (sym stays) (Appends-nil before),
+    still,
+  )
 
   pub byte_refused : (old : State) (rest : List ℕ) (bytes : List ℕ) (new : State) (held : List ℕ) (before after : Option (List ℕ)) (f f' : ℕ)
       → after ≡ before → f' ≡ f → Serves Step old rest bytes new held before after f f' (Err NoMemory)
-  byte_refused old rest bytes new held before after f f' stays still =
-      ([], record {
-        lines = [];
-        texts = [];
-        more = rest ++ bytes;
-        new = old;
-        cut = record { whole = refl; each = tt };
-        answered = refl;
-        written = refl
-      }, subst (λ a. Appends before a []) (sym stays) (Appends-nil before), still)
+  byte_refused old rest bytes new held before after f f' stays still = (
+    [],
+    record {
+      lines = [];
+      texts = [];
+      more = rest ++ bytes;
+      new = old;
+      cut = record { whole = refl; each = tt };
+      answered = refl;
+      written = refl;
+    },
+    subst (λ a. Appends before a []) (sym stays) (Appends-nil before),
+    still,
+  )
 
   -- nothing yet
   pub nothing_fed : (old : State) (rest : List ℕ) (held : List ℕ) (before : Option (List ℕ)) (f : ℕ)
       → IsLine rest → held ≡ kept rest → Serves Step old rest [] old held before before f f (Ok tt)
-  nothing_fed old rest held before f line is =
-      ([], rest, record {
-        lines = [];
-        texts = [];
-        cut = record { whole = append-nil rest; each = tt };
-        unfinished = line;
-        answered = refl;
-        written = refl
-      }, is, Appends-nil before, refl)
+  nothing_fed old rest held before f line is = (
+    [],
+    rest,
+    record {
+      lines = [];
+      texts = [];
+      cut = record { whole = append-nil rest; each = tt };
+      unfinished = line;
+      answered = refl;
+      written = refl;
+    },
+    is,
+    Appends-nil before,
+    refl,
+  )
 
   -- bytes, and then more
   pub serves_more : (old mid new : State) (rest b c : List ℕ) (held held' : List ℕ) (before between after : Option (List ℕ)) (f f1 f2 : ℕ) (r : Result Unit Stop)
@@ -152,42 +182,56 @@ module _ {State : Type 0} (Step : State → List ℕ → List ℕ → State → 
       → ((left : List ℕ) → IsLine left → held ≡ kept left → Serves Step mid left c new held' between after f1 f2 r)
       → Serves Step old rest (b ++ c) new held' before after f f2 r
   serves_more old mid new rest b c held held' before between after f f1 f2 (Ok u) p q =
-      let s = q p.1 p.2.unfinished p.3 in
-      (p.0 ++ s.0, s.1, record {
-        lines = p.2.lines ++ s.2.lines;
-        texts = p.2.texts ++ s.2.texts;
-        cut = cut-append rest b c _ _ p.1 s.1 p.2.cut s.2.cut;
-        unfinished = s.2.unfinished;
-        answered = Answers-append old mid new _ _ _ _ p.2.answered s.2.answered;
-        written = ap (λ t. t ++ s.0) p.2.written ∙ ap (λ t. concat p.2.texts ++ t) s.2.written ∙ sym (concat-append p.2.texts s.2.texts)
-      }, s.3, Appends-trans before between after p.0 s.0 p.4 s.4, s.5 ∙ p.5)
+      let s = q p.1 p.2.unfinished p.3 in (
+        p.0 ++ s.0,
+        s.1,
+        record {
+          lines = p.2.lines ++ s.2.lines;
+          texts = p.2.texts ++ s.2.texts;
+          cut = cut-append rest b c _ _ p.1 s.1 p.2.cut s.2.cut;
+          unfinished = s.2.unfinished;
+          answered = Answers-append old mid new _ _ _ _ p.2.answered s.2.answered;
+          written = ap (λ t. t ++ s.0) p.2.written ∙ ap (λ t. concat p.2.texts ++ t) s.2.written ∙ sym (concat-append p.2.texts s.2.texts);
+        },
+        s.3,
+        Appends-trans before between after p.0 s.0 p.4 s.4,
+        s.5 ∙ p.5,
+      )
   serves_more old mid new rest b c held held' before between after f f1 f2 (Err OutputFault) p q =
-      let s = q p.1 p.2.unfinished p.3 in
-      (p.0 ++ s.0, record {
-        lines = p.2.lines ++ s.1.lines;
-        texts = p.2.texts ++ s.1.texts;
-        last = s.1.last;
-        front = s.1.front;
-        back = s.1.back;
-        more = s.1.more;
-        new = s.1.new;
-        cut = cut-append rest b c _ _ p.1 s.1.more p.2.cut s.1.cut;
-        answered = rw append_assoc (Answers-append old mid s.1.new _ _ _ _ p.2.answered s.1.answered);
-        part = s.1.part;
-        written = ap (λ t. t ++ s.0) p.2.written ∙ ap (λ t. concat p.2.texts ++ t) s.1.written ∙ sym (append_assoc (concat p.2.texts) (concat s.1.texts) s.1.front)
-            ∙ ap (λ t. t ++ s.1.front) (sym (concat-append p.2.texts s.1.texts))
-      }, Appends-trans before between after p.0 s.0 p.4 s.2, subst (λ n. Rose n f2) p.5 s.3)
+      let s = q p.1 p.2.unfinished p.3 in (
+        p.0 ++ s.0,
+        record {
+          lines = p.2.lines ++ s.1.lines;
+          texts = p.2.texts ++ s.1.texts;
+          last = s.1.last;
+          front = s.1.front;
+          back = s.1.back;
+          more = s.1.more;
+          new = s.1.new;
+          cut = cut-append rest b c _ _ p.1 s.1.more p.2.cut s.1.cut;
+          answered = rw append_assoc (Answers-append old mid s.1.new _ _ _ _ p.2.answered s.1.answered);
+          part = s.1.part;
+          written = ap (λ t. t ++ s.0) p.2.written ∙ ap (λ t. concat p.2.texts ++ t) s.1.written ∙ sym (append_assoc (concat p.2.texts) (concat s.1.texts) s.1.front)
+              ∙ ap (λ t. t ++ s.1.front) (sym (concat-append p.2.texts s.1.texts));
+        },
+        Appends-trans before between after p.0 s.0 p.4 s.2,
+        subst (λ n. Rose n f2) p.5 s.3,
+      )
   serves_more old mid new rest b c held held' before between after f f1 f2 (Err NoMemory) p q =
-      let s = q p.1 p.2.unfinished p.3 in
-      (p.0 ++ s.0, record {
-        lines = p.2.lines ++ s.1.lines;
-        texts = p.2.texts ++ s.1.texts;
-        more = s.1.more;
-        new = s.1.new;
-        cut = cut-append rest b c _ _ p.1 s.1.more p.2.cut s.1.cut;
-        answered = Answers-append old mid s.1.new _ _ _ _ p.2.answered s.1.answered;
-        written = ap (λ t. t ++ s.0) p.2.written ∙ ap (λ t. concat p.2.texts ++ t) s.1.written ∙ sym (concat-append p.2.texts s.1.texts)
-      }, Appends-trans before between after p.0 s.0 p.4 s.2, s.3 ∙ p.5)
+      let s = q p.1 p.2.unfinished p.3 in (
+        p.0 ++ s.0,
+        record {
+          lines = p.2.lines ++ s.1.lines;
+          texts = p.2.texts ++ s.1.texts;
+          more = s.1.more;
+          new = s.1.new;
+          cut = cut-append rest b c _ _ p.1 s.1.more p.2.cut s.1.cut;
+          answered = Answers-append old mid s.1.new _ _ _ _ p.2.answered s.1.answered;
+          written = ap (λ t. t ++ s.0) p.2.written ∙ ap (λ t. concat p.2.texts ++ t) s.1.written ∙ sym (concat-append p.2.texts s.1.texts);
+        },
+        Appends-trans before between after p.0 s.0 p.4 s.2,
+        s.3 ∙ p.5,
+      )
 
   -- a byte that ends no line was kept, or there was no memory for it
   pub byte_taken : (old new : State) (rest : List ℕ) (b : ℕ) (held : List ℕ) (before : Option (List ℕ)) (f : ℕ) (r : Result Unit Stop)
@@ -200,35 +244,43 @@ module _ {State : Type 0} (Step : State → List ℕ → List ℕ → State → 
   -- what stands behind the place where it stopped does not matter
   pub stopped_before : (old new : State) (rest b c : List ℕ) (held : List ℕ) (before after : Option (List ℕ)) (f f' : ℕ) (stop : Stop)
       → Serves Step old rest b new held before after f f' (Err stop) → Serves Step old rest (b ++ c) new held before after f f' (Err stop)
-  stopped_before old new rest b c held before after f f' OutputFault s =
-      (s.0, record {
-        lines = s.1.lines;
-        texts = s.1.texts;
-        last = s.1.last;
-        front = s.1.front;
-        back = s.1.back;
-        more = s.1.more ++ c;
-        new = s.1.new;
-        cut = record { whole = sym (append_assoc rest b c) ∙ ap (λ t. t ++ c) s.1.cut.whole ∙ append_assoc (joined_lines s.1.lines) s.1.more c; each = s.1.cut.each };
-        answered = s.1.answered;
-        part = s.1.part;
-        written = s.1.written
-      }, s.2, s.3)
-  stopped_before old new rest b c held before after f f' NoMemory s =
-      (s.0, record {
-        lines = s.1.lines;
-        texts = s.1.texts;
-        more = s.1.more ++ c;
-        new = s.1.new;
-        cut = record { whole = sym (append_assoc rest b c) ∙ ap (λ t. t ++ c) s.1.cut.whole ∙ append_assoc (joined_lines s.1.lines) s.1.more c; each = s.1.cut.each };
-        answered = s.1.answered;
-        written = s.1.written
-      }, s.2, s.3)
+  stopped_before old new rest b c held before after f f' OutputFault s = (
+    s.0,
+    record {
+      lines = s.1.lines;
+      texts = s.1.texts;
+      last = s.1.last;
+      front = s.1.front;
+      back = s.1.back;
+      more = s.1.more ++ c;
+      new = s.1.new;
+      cut = record { whole = sym (append_assoc rest b c) ∙ ap (λ t. t ++ c) s.1.cut.whole ∙ append_assoc (joined_lines s.1.lines) s.1.more c; each = s.1.cut.each };
+      answered = s.1.answered;
+      part = s.1.part;
+      written = s.1.written;
+    },
+    s.2,
+    s.3,
+  )
+  stopped_before old new rest b c held before after f f' NoMemory s = (
+    s.0,
+    record {
+      lines = s.1.lines;
+      texts = s.1.texts;
+      more = s.1.more ++ c;
+      new = s.1.new;
+      cut = record { whole = sym (append_assoc rest b c) ∙ ap (λ t. t ++ c) s.1.cut.whole ∙ append_assoc (joined_lines s.1.lines) s.1.more c; each = s.1.cut.each };
+      answered = s.1.answered;
+      written = s.1.written;
+    },
+    s.2,
+    s.3,
+  )
 
   pub stopped_at : (old new : State) (rest piece : List ℕ) (i : ℕ) (held : List ℕ) (before after : Option (List ℕ)) (f f' : ℕ) (stop : Stop) → i < length piece
       → Serves Step old rest (take i piece ++ get_or piece i 0 ∷ []) new held before after f f' (Err stop) → Serves Step old rest piece new held before after f f' (Err stop)
   stopped_at old new rest piece i held before after f f' stop within s =
       let whole : (take i piece ++ get_or piece i 0 ∷ []) ++ drop (i + 1) piece ≡ piece
-            = ap (λ t. t ++ drop (i + 1) piece) (sym (take_more piece i 0 within)) ∙ take-append-drop (i + 1) piece in
+      = ap (λ t. t ++ drop (i + 1) piece) (sym (take_more piece i 0 within)) ∙ take-append-drop (i + 1) piece in
       subst (λ bytes. Serves Step old rest bytes new held before after f f' (Err stop)) whole
-          (stopped_before old new rest (take i piece ++ get_or piece i 0 ∷ []) (drop (i + 1) piece) held before after f f' stop s)
+      (stopped_before old new rest (take i piece ++ get_or piece i 0 ∷ []) (drop (i + 1) piece) held before after f f' stop s)

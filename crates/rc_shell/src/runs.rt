@@ -56,7 +56,9 @@ pub fn run_with<W: Store, I: Source, K: Sink>(
         return push_last(out, BAD_WORDS, Status::BadWords);
     }
     match vec![in alloc; 0u8; PIECE] {
-        Ok(mut piece) => Session::new(alloc, Machine::new(alloc)).serve_input(alloc, input, &mut piece, out, limit),
+        Ok(mut piece) => Session::new(alloc, Machine::new(alloc)).serve_input(
+            alloc, input, &mut piece, out, limit,
+        ),
         Err(_) => Status::NoMemory,
     }
 }

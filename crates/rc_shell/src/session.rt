@@ -61,7 +61,9 @@ impl<S: Server> Session<S> {
         ensures held { self.new.held.items ≡ [] }
     {
         self.text.clear();
-        let answered = self.server.answer(alloc, self.held.as_slice(), &mut self.text);
+        let answered = self
+            .server
+            .answer(alloc, self.held.as_slice(), &mut self.text);
         self.held.clear();
         match answered {
             Ok(()) => push_text(out, self.text.as_slice()),
@@ -174,7 +176,11 @@ impl<S: Server> Session<S> {
 fn piece_len(room: usize, left: u64) -> usize
     ensures { result ≡ min room left }
 {
-    if left < room as u64 { left as usize } else { room }
+    if left < room as u64 {
+        left as usize
+    } else {
+        room
+    }
 }
 
 /// Pushes the last line of a run: the status that is due, unless the output or memory fails.

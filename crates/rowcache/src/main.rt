@@ -3,9 +3,8 @@
 
 use rc_outside::{StdSink, StdSource, SureStore};
 use rc_shell::{Status, run};
-use std::env;
-use std::io;
 use std::process::ExitCode;
+use std::{env, io};
 
 fn main(rt: HostRuntime) -> ExitCode {
     // The words can be refused by the host only for want of memory.

@@ -1,5 +1,5 @@
 -- One row more is joined to those before.
-use Rattle.std.proofs.Common.{◌≡◌, ◌≢◌, ◌++◌, ◌<◌, ◌≤◌, ◌∙◌, length, take, get_or, sym, ap, subst, arith}
+use Rattle.std.proofs.Common.{◌≡◌, ◌≢◌, ◌++◌, ◌<◌, ◌≤◌, ◌∙◌, length, get_or, sym, ap, subst}
 use Rattle.std.specs.Prelude.{All}
 use Rattle.std.proofs.lemmas.List.{append-nil, take_all}
 use Rattle.std.proofs.lemmas.List.Elements.{All-get_or}
@@ -21,7 +21,7 @@ pub loop-item-preserved : goal.loop-item-preserved
 loop-item-preserved c = λ before is.
     let within : c.loop-item.item-index < length c.args.more.now = subst (λ (es : Entries). c.loop-item.item-index < length es) c.as_slice-item-items.ensures.value c.loop-item-test.true in
     joined_rows-step c.loop-item.rows c.join_row.new.self before c.args.more.now c.loop-item.item-index c.item-item.result within (c.loop-item.invariant before is) c.in_ok-join_row.ensures.ok
-        (subst (λ (es : Entries). c.item-item.result ≡ get_or es c.loop-item.item-index c.item-item.result) c.as_slice-item-items.ensures.value c.item-item.is)
+    (subst (λ (es : Entries). c.item-item.result ≡ get_or es c.loop-item.item-index c.item-item.result) c.as_slice-item-items.ensures.value c.item-item.is)
 
 pub returns : goal.returns
 returns c = λ before is.

@@ -1,5 +1,5 @@
 -- The reader's place is that of its id in the machine's state.
-use Rattle.std.proofs.Common.{◌≡◌, ◌==◌, ◌∙◌, List, [], length, take, drop, get_or, set, nat_lt, sym, ap, refl, None, Some, subst}
+use Rattle.std.proofs.Common.{◌≡◌, ◌==◌, ◌∙◌, List, [], drop, get_or, set, sym, ap, refl, None, Some, subst}
 use Rattle.std.specs.List.{position}
 use Rattle.std.specs.Option.{unwrap_or}
 use Rattle.std.specs.Map.{set_value}
@@ -33,7 +33,7 @@ pub returns-in_ok-lines-in-Some-clause-next : goal.returns-in_ok-lines-in-Some-c
 returns-in_ok-lines-in-Some-clause-next c =
     let given : List OutLine = drop c.args.count c.index_mut-reader.result.now.1 in
     same_state (ap (λ m. m.taken) c.self.view_is) (ap (λ m. m.log) c.self.view_is)
-        (◌∙◌ {A = Readers} (ap (λ m. set m.readers c.in-Some.at (c.index_mut-reader.result.now.0, c.give.new.self)) c.self.view_is)
-        (◌∙◌ {A = Readers} (ap (λ (l : List OutLine). set c.args.self.now.readers c.in-Some.at (c.index_mut-reader.result.now.0, l)) c.in_ok-lines-in-Some.ensures.left)
-        (◌∙◌ {A = Readers} (written_at c.args.self.now c.args.id c.in-Some.at c.index_mut-reader.result.now given (place c) (there c))
-            (ap (λ o. set_value (λ k. k == c.args.id) c.args.self.now.readers (drop c.args.count (unwrap_or o []))) (sym (rest c))))))
+    (◌∙◌ {A = Readers} (ap (λ m. set m.readers c.in-Some.at (c.index_mut-reader.result.now.0, c.give.new.self)) c.self.view_is)
+    (◌∙◌ {A = Readers} (ap (λ (l : List OutLine). set c.args.self.now.readers c.in-Some.at (c.index_mut-reader.result.now.0, l)) c.in_ok-lines-in-Some.ensures.left)
+    (◌∙◌ {A = Readers} (written_at c.args.self.now c.args.id c.in-Some.at c.index_mut-reader.result.now given (place c) (there c))
+    (ap (λ o. set_value (λ k. k == c.args.id) c.args.self.now.readers (drop c.args.count (unwrap_or o []))) (sym (rest c))))))

@@ -10,4 +10,4 @@ returns-then-byte-eq10 g c = λ rest line is.
 pub returns : goal.returns
 returns g c = λ rest line is.
     byte_taken g.S.Server.step _ _ rest c.args.byte _ _ _ c.hold.result line c.if-byte-eq10.false c.hold.ensures.server
-        (on_ok_weaker c.hold.result (λ held. held rest is) c.hold.ensures.held) c.hold.ensures.memory
+    (on_ok_weaker c.hold.result (λ held. held rest is) c.hold.ensures.held) c.hold.ensures.memory

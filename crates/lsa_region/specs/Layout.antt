@@ -1,2 +1,0 @@
--- Where objects lie.
-use Rattle.std.specs.Prelude.{ℕ}

@@ -1,7 +1,0 @@
-//! The region: typed objects in segments, whose links are halves of pairs.
-#![tactic(auto)]
-
-pub mod end;
-mod links;
-
-pub use end::{End, Ref, Root};
