@@ -1,5 +1,5 @@
 -- Laws of lines, for crates above to cite.
-use Rattle.std.specs.Prelude.{ℕ, ◌+◌, ◌<◌, ◌≤◌, Bool, true, false, ◌&&◌, ◌==◌, nat_lt, List, [], ◌∷◌, length, take, flat_map, Result, Err, ◌≡◌, IsTrue}
+use Rattle.std.specs.Prelude.{ℕ, ◌+◌, ◌<◌, Bool, true, false, ◌&&◌, nat_lt, List, [], ◌∷◌, length, take, Err, ◌≡◌}
 use Rattle.std.proofs.Common.{refl, sym, subst, ap, ◌∙◌, arith}
 use Rattle.std.proofs.lemmas.List.{length-take, take_all}
 use Rattle.std.proofs.lemmas.Bool.Decides.{nat_tests}
@@ -7,8 +7,6 @@ use Rattle.std.specs.Char.{is_ascii_alphanumeric}
 use Rattle.std.specs.List.{list_all}
 use Rattle.rc_lines.specs.Grammar.{parse, longest_line}
 use Rattle.rc_lines.specs.Texts.{spelled, spelled_byte}
-use Rattle.rc_lines.specs.declared.commands.Command.{Command}
-use Rattle.rc_lines.specs.declared.commands.Refusal.{Refusal}
 use Rattle.rc_lines.specs.declared.commands.Refusal.TheVariants.{BadLine}
 
 front_is_long : (n : ℕ) (line : List ℕ) → n < length line → n < length (take (n + 1) line)
