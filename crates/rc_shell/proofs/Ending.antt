@@ -1,12 +1,12 @@
 -- How a run goes on, and how it ends.
-use Rattle.std.proofs.Common.{◌≡◌, ◌≢◌, ℕ, ◌+◌, ◌<◌, ◌≤◌, List, [], ◌∷◌, ◌++◌, length, take, Bool, true, false, ◌⊎◌, inl, inr, Option, None, Some, Result, Ok, Err, refl, sym, ap, subst, ◌∙◌, append_assoc, arith, length-append}
+use Rattle.std.proofs.Common.{◌≡◌, ◌≢◌, ℕ, ◌+◌, ◌<◌, ◌≤◌, List, [], ◌∷◌, ◌++◌, length, take, true, false, inl, inr, Option, Result, Ok, Err, refl, sym, ap, subst, ◌∙◌, arith, length-append}
 use Rattle.std.proofs.lemmas.List.{append-nil, length-take}
 use Rattle.std.specs.Io.KnownBytes.{Appends, Consumes, Keeps, IsAtEnd}
 use Rattle.std.proofs.KnownBytes.{Appends-trans, Appends-nil, Consumes-trans, Consumes-nil, Consumes-kept}
 use Rattle.rc_outside.specs.Faults.{Rose}
-use Rattle.rc_shell.specs.Lines.{IsLine, BeginsWithLines, joined_lines, last_line}
-use Rattle.rc_shell.specs.Run.{Answers, AnswersFrom, Due, IsCutOff, IsWhole, IsRun, Ran, Caused, EndsWith, concat, bad_words, input_fault, input_limit}
-use Rattle.rc_shell.specs.Feed.{ServedLine, ServedLast, Serves, SoFar, TurnGave, EndedBy, Fed, OutOfMemory, CutOff, FaultsAfter, kept}
+use Rattle.rc_shell.specs.Lines.{IsLine, last_line}
+use Rattle.rc_shell.specs.Run.{Due, IsWhole, IsRun, Ran, Caused, EndsWith, concat, bad_words, input_fault, input_limit}
+use Rattle.rc_shell.specs.Feed.{ServedLine, ServedLast, Serves, SoFar, EndedBy, kept}
 use Rattle.rc_shell.specs.Status.{status_of}
 use Rattle.rc_shell.specs.declared.status.Stop.{Stop}
 use Rattle.rc_shell.specs.declared.status.Stop.TheVariants.{NoMemory, OutputFault}

@@ -7,7 +7,7 @@ use Rattle.std.proofs.KnownBytes.{Appends-trans, Appends-nil}
 use Rattle.rc_outside.specs.Faults.{Rose}
 use Rattle.rc_shell.specs.Lines.{IsLine, BeginsWithLines, joined_lines}
 use Rattle.rc_shell.specs.Run.{Answers, concat}
-use Rattle.rc_shell.specs.Feed.{PushedText, ServedLine, Serves, Fed, OutOfMemory, CutOff, FaultsAfter, kept}
+use Rattle.rc_shell.specs.Feed.{PushedText, ServedLine, Serves, kept}
 use Rattle.rc_shell.specs.declared.status.Stop.{Stop}
 use Rattle.rc_shell.specs.declared.status.Stop.TheVariants.{NoMemory, OutputFault}
 

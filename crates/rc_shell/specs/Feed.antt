@@ -1,5 +1,5 @@
 -- What serving the bytes of a piece did, given what stood unfinished before it.
-use Rattle.std.specs.Prelude.{◌≡◌, ℕ, ◌<◌, ◌≤◌, List, [], ◌∷◌, ◌++◌, length, take, Option, Result, Ok, Err, ◌⊎◌, ◌+◌, true}
+use Rattle.std.specs.Prelude.{◌≡◌, ℕ, List, [], ◌∷◌, ◌++◌, length, take, Option, Result, Ok, Err, ◌⊎◌, ◌+◌, true}
 use Rattle.std.specs.Io.KnownBytes.{Appends, Consumes}
 use Rattle.rc_outside.specs.Faults.{Rose}
 use Rattle.rc_shell.specs.Lines.{IsLine, BeginsWithLines}

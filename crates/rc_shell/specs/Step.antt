@@ -1,5 +1,5 @@
 -- One line: its meaning, the machine's step for it, and the text of the reply.
-use Rattle.std.specs.Prelude.{◌≡◌, ℕ, ◌<◌, ◌≤◌, List, length, take, Bool, true, false, nat_lt, Result, Ok, Err}
+use Rattle.std.specs.Prelude.{◌≡◌, ℕ, List, Result, Ok, Err}
 use Rattle.rc_lines.specs.declared.commands.Command.{Command}
 use Rattle.rc_lines.specs.declared.commands.Refusal.{Refusal}
 use Rattle.rc_lines.specs.declared.commands.Reply.{Reply}
@@ -9,7 +9,7 @@ use Rattle.rc_lines.specs.Laws.{long_lines_are_cut}
 use Rattle.rc_lines.specs.Texts.{reply_text}
 use Rattle.rc_machine.specs.Machine.{State, may, next}
 use Rattle.rc_shell.specs.Feed.{kept}
-use Rattle.std.proofs.Common.{refl, sym, subst, ap, ◌∙◌}
+use Rattle.std.proofs.Common.{subst}
 
 -- a command takes a step of the machine; a refused line changes nothing
 abbrev pub Takes : Result Command Refusal → State → List ℕ → State → Type 0

@@ -1,6 +1,5 @@
 -- The bytes so far, then one more; where it stopped, the others do not matter.
-use Rattle.std.proofs.Common.{◌≡◌, ℕ, ◌+◌, List, [], ◌∷◌, ◌++◌, length, take, drop, get_or, Result, Ok, Err, ◌∙◌, refl, subst, ap, sym}
-use Rattle.std.proofs.lemmas.List.{take-append-drop}
+use Rattle.std.proofs.Common.{Ok, Err}
 use Rattle.std.proofs.lemmas.Result.{err_from_is_err_and}
 use Rattle.std.proofs.lemmas.List.{take_more}
 use Rattle.rc_shell.proofs.Serving.{nothing_fed, serves_more, stopped_at}

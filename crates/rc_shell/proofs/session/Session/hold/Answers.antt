@@ -1,4 +1,4 @@
-use Rattle.std.proofs.Common.{◌≡◌, ◌<◌, ◌≤◌, ◌∙◌, ◌++◌, ◌∷◌, [], length, arith, sym, ap}
+use Rattle.std.proofs.Common.{◌<◌, ◌≤◌, ◌∙◌, ◌++◌, ◌∷◌, [], length, arith, sym, ap}
 use Rattle.rc_shell.specs.Feed.{kept}
 use Rattle.rc_shell.proofs.Serving.{kept-push, kept-full}
 use Rattle.rc_shell.proofs.session.Session.hold.Goals as goal

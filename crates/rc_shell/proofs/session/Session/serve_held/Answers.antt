@@ -1,6 +1,6 @@
 -- The held front decides what the line is answered, and the reply is what was pushed.
-use Rattle.std.proofs.Common.{◌≡◌, ℕ, List, [], ◌∷◌, ◌++◌, ◌∙◌, sym, ap, subst}
-use Rattle.rc_shell.specs.Feed.{PushedText, ServedLine, kept}
+use Rattle.std.proofs.Common.{◌≡◌, ℕ, List, ◌++◌, ◌∙◌, ap, subst}
+use Rattle.rc_shell.specs.Feed.{kept}
 use Rattle.rc_shell.proofs.Serving.{served}
 use Rattle.rc_shell.proofs.session.Session.serve_held.Goals as goal
 

@@ -1,7 +1,6 @@
 -- The run so far at the start; its end by a turn; its end at the limit.
-use Rattle.std.proofs.Common.{◌≡◌, ℕ, ◌<◌, ◌≤◌, ◌+◌, List, [], length, take, refl, arith, sym, subst}
+use Rattle.std.proofs.Common.{◌≡◌, arith}
 use Rattle.std.proofs.lemmas.List.{length-take}
-use Rattle.rc_shell.specs.Feed.{SoFar}
 use Rattle.rc_shell.proofs.Ending.{nothing_so_far, limit_reached}
 use Rattle.rc_shell.proofs.session.Session.serve_input.Goals as goal
 

@@ -1,5 +1,5 @@
 -- The run so far; what is left up to the limit falls.
-use Rattle.std.proofs.Common.{◌-◌, ◌≡◌, ℕ, ◌≤◌, ◌<◌, length}
+use Rattle.std.proofs.Common.{◌-◌, ◌≤◌}
 use Rattle.rc_shell.specs.Feed.{SoFar}
 use Rattle.rc_shell.proofs.session.Session.serve_input.Given as goal
 

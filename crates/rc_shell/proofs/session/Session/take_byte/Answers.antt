@@ -1,4 +1,3 @@
-use Rattle.std.proofs.Common.{◌≡◌, ◌≢◌, ℕ, List, [], ◌∷◌, ◌++◌, Result, Ok, Err, ◌∙◌, refl, subst, ap, sym}
 use Rattle.std.proofs.lemmas.Result.{on_ok_weaker}
 use Rattle.rc_shell.proofs.Serving.{line_ended, byte_taken}
 use Rattle.rc_shell.proofs.session.Session.take_byte.Goals as goal

@@ -1,5 +1,5 @@
 -- Each way in which a turn ends.
-use Rattle.std.proofs.Common.{◌≡◌, ◌≢◌, ℕ, ◌<◌, ◌≤◌, ◌+◌, List, [], length, take, ap, refl, arith, ◌∙◌, sym, subst}
+use Rattle.std.proofs.Common.{◌≡◌, ◌<◌, ◌≤◌, ◌+◌, [], length, take, arith, subst}
 use Rattle.std.proofs.lemmas.List.{length-take-le}
 use Rattle.std.specs.Io.KnownBytes.{Consumes}
 use Rattle.rc_shell.proofs.Ending.{went_on, stopped, input_failed, input_ended, end_stopped}
