@@ -1,5 +1,6 @@
 //! Scripts whose replies were worked out by hand from the rules.
 
+use crate::slow::OneByte;
 use rc_outside::{MemSink, MemSource, SureSink, SureSource, SureStore};
 use rc_shell::{Status, run, run_with};
 use std::alloc::{AllocError, Global};
@@ -149,5 +150,21 @@ fn faults_and_limits(rt: HostRuntime) -> Result<(), Fail> {
         assert_eq!(rt; ended, status, "{script} {limit}");
         assert_eq!(rt; written.as_slice(), text.as_bytes(), "{script} {limit}");
     }
+    Ok(())
+}
+
+#[test]
+fn one_byte_at_a_time(rt: HostRuntime) -> Result<(), Fail> {
+    let alloc = rt.alloc();
+    let script = "schema ck=int static=s cols=a,b\n#\ninsert p 1 ts=10 a=5\nopen 1 p\nread 1 9";
+    let words = words_of(alloc, &["run"])?;
+    let mut store = SureStore::new(alloc)?;
+    let mut input = OneByte {
+        bytes: SureSource::new(Vec::from_slice(alloc, script.as_bytes())?),
+    };
+    let mut out = SureSink::new(alloc)?;
+    let status = run(alloc, words.as_slice(), &mut store, &mut input, &mut out);
+    assert_eq!(rt; status, Status::Done);
+    assert_eq!(rt; out.bytes(), b"ok\nok\nok\nrow 1 a=5\nend\n".as_slice());
     Ok(())
 }
