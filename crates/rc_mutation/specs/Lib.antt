@@ -1,0 +1,5 @@
+pub mod ByKey
+pub mod Place
+pub mod Rows
+pub mod RowsLaws
+pub mod Source

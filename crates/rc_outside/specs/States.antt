@@ -1,0 +1,36 @@
+-- What contracts see of the ends in memory, and what a call makes of it.
+use Rattle.std.specs.Prelude.{◌++◌, ℕ, List, drop, Result, Ok, Err}
+use Rattle.rc_outside.specs.declared.sources.Failed.{Failed as SourceFailed}
+use Rattle.rc_outside.specs.declared.sinks.SinkErr.{SinkErr}
+use Rattle.rc_outside.specs.declared.sinks.SinkErr.TheVariants.{Failed, NoMemory}
+use Rattle.rc_outside.specs.Faults.{raised}
+
+-- a source in memory: the bytes that are left, the numbers of the calls that are to fail, how many calls there were
+-- so far, and how many of them failed
+pub record SourceState : Type 0 where
+  pub left : List ℕ
+  pub fails : List ℕ
+  pub calls : ℕ
+  pub faults : ℕ
+
+-- a sink in memory: the bytes that were written, and the same three
+pub record SinkState : Type 0 where
+  pub written : List ℕ
+  pub fails : List ℕ
+  pub calls : ℕ
+  pub faults : ℕ
+
+-- a store in memory: how many ranges of its files were asked for so far
+pub record StoreState : Type 0 where
+  pub asks : ℕ
+
+-- a pull that gives k bytes takes them; one that fails takes nothing and is counted as a fault
+abbrev pub after_pull : SourceState → Result ℕ SourceFailed → SourceState
+after_pull s (Ok k) = record s { left = drop k s.left; calls = raised s.calls }
+after_pull s (Err _) = record s { calls = raised s.calls; faults = raised s.faults }
+
+-- a push writes the piece, or fails, writes nothing and is counted as a fault; at want of memory the sink is as it was
+abbrev pub after_push : SinkState → List ℕ → Result (Unit {0}) SinkErr → SinkState
+after_push s piece (Ok _) = record s { written = s.written ++ piece; calls = raised s.calls }
+after_push s _ (Err Failed) = record s { calls = raised s.calls; faults = raised s.faults }
+after_push s _ (Err NoMemory) = s

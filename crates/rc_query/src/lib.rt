@@ -1,0 +1,11 @@
+//! What a reader is given of a partition: lines of live values.
+#![tactic(auto)]
+
+mod answers;
+pub mod laws;
+mod lines;
+mod shown;
+
+pub use answers::shown_rows;
+pub use lines::{Lines, OutLine};
+pub use shown::Shown;

@@ -1,0 +1,5 @@
+//! Tests that cross crates: worked scripts over the top call, from input bytes to output bytes.
+#![tactic(auto)]
+
+#[cfg(test)]
+mod tests;
