@@ -10,7 +10,7 @@ use Rattle.std.proofs.Common.{refl, sym, ap, ◌∙◌, subst, arith, inl, inr, 
 use Rattle.std.specs.Option.{option_cmp}
 use Rattle.std.specs.declared.cmp.Ordering.{Ordering}
 use Rattle.std.specs.declared.cmp.Ordering.TheVariants.{Less, Equal, Greater}
-use Rattle.std.specs.Ordering.{ordering_reverse, ordering_then, nat_cmp, is_gt, is_lt, on, then_cmp}
+use Rattle.std.specs.Ordering.{ordering_reverse, ordering_then, nat_cmp, is_gt, on, then_cmp}
 use Rattle.std.specs.Cmp.{IsTotalOrder, tied_itself, nat_cmp_total, on_total, then_total}
 use Rattle.std.specs.Cmp.Lexicographic.{slice_cmp, options_total}
 use Rattle.std.specs.FinMap.{IsAntisymmetric}
@@ -18,7 +18,7 @@ use Rattle.rc_position.specs.declared.comps.Comp.{Comp}
 use Rattle.rc_position.specs.declared.positions.Weight.{Weight}
 use Rattle.rc_position.specs.declared.positions.Weight.TheVariants.{Before, At, After}
 use Rattle.rc_position.specs.declared.positions.Pos.{Pos}
-use Rattle.rc_position.specs.Position.{comp_cmp, weight_cmp, shorter_cmp, prefix_cmp, pos_cmp, key_cmp, row_pos, IsBefore, IsBeforeRows, IsAfterRows, start_bound, end_bound, IsPosOf, Place, Head, Static, Clustered, End, place_cmp}
+use Rattle.rc_position.specs.Position.{comp_cmp, prefix_cmp, pos_cmp, key_cmp, row_pos, IsBefore, IsBeforeRows, IsAfterRows, start_bound, end_bound, IsPosOf, Place, Head, Static, Clustered, End, place_cmp}
 use Rattle.rc_position.specs.OrderLaws.{comp_cmp_total, pos_cmp_total, pos_cmp_same}
 
 by_components : (k l : List Comp) → prefix_cmp k At l At ≡ slice_cmp comp_cmp k l

@@ -1,7 +1,7 @@
 -- The laws of the orders of `Position`: each is total, and only equal values tie.
 --     comp_cmp_total, pos_cmp_total, key_cmp_total      `IsTotalOrder`
 --     comp_cmp_same, pos_cmp_same, key_cmp_same         `IsAntisymmetric`
-use Rattle.std.specs.Prelude.{◌≡◌, ◌↔◌, ℕ, Bool, true, false, cond, IsTrue, List, [], ◌∷◌, ℤ, pos, Option, Some, None}
+use Rattle.std.specs.Prelude.{◌≡◌, ◌↔◌, ℕ, Bool, IsTrue, List, [], ◌∷◌, ℤ, pos, Option, Some, None}
 use Rattle.std.proofs.Common.{refl, sym, ap, ◌∙◌, subst}
 use Rattle.std.specs.Option.{option_cmp}
 use Rattle.std.specs.declared.cmp.Ordering.{Ordering}

@@ -7,7 +7,7 @@
 --     start_bound, end_bound       the bound of a range at a prefix, inclusive or not
 --     IsBeforeRows, IsAfterRows    before, or after, each row whose key begins with a prefix
 --     IsPosOf                      a position of rows with so many components
-use Rattle.std.specs.Prelude.{◌≡◌, ℕ, Bool, true, false, cond, ◌&&◌, List, [], ◌∷◌, ◌++◌, length, ◌≤◌}
+use Rattle.std.specs.Prelude.{◌≡◌, ℕ, Bool, true, false, ◌&&◌, List, [], ◌∷◌, ◌++◌, length, ◌≤◌}
 use Rattle.std.specs.declared.cmp.Ordering.{Ordering}
 use Rattle.std.specs.declared.cmp.Ordering.TheVariants.{Less, Equal, Greater}
 use Rattle.std.specs.Ordering.{ordering_reverse, ordering_then, nat_cmp, int_cmp, is_le, is_lt}

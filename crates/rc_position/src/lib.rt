@@ -3,6 +3,7 @@
 
 mod comps;
 mod keys;
+pub mod laws;
 mod positions;
 mod slices;
 mod texts;

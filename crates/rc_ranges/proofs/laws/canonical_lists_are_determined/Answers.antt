@@ -1,0 +1,5 @@
+use Rattle.rc_ranges.proofs.Determined.{determined}
+use Rattle.rc_ranges.proofs.laws.canonical_lists_are_determined.Goals as goal
+
+pub returns : goal.returns
+returns c = determined
