@@ -49,10 +49,10 @@ cons_list (Some x) xs = refl
 
 -- ---- what one mutation says
 
-head-one : (m : Mutation) → source_at_head (m ∷ []) ≡ m.pt
+pub head-one : (m : Mutation) → source_at_head (m ∷ []) ≡ m.pt
 head-one m = ap (greatest tomb_cmp) (cons_one m.pt) ∙ greatest-one tomb_cmp_total tomb_cmp-IsAntisymmetric m.pt
 
-statics-one : (m : Mutation) → IsMutation m → source_at_static (m ∷ []) ≡ m.statics
+pub statics-one : (m : Mutation) → IsMutation m → source_at_static (m ∷ []) ≡ m.statics
 statics-one m is = joined_row-one m.statics is.statics
 
 not_tied : (x y : Pos) → (x ≡ y → ⊥) → eq_by_cmp pos_cmp x y ≡ false

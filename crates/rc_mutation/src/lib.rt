@@ -8,5 +8,5 @@ mod mutations;
 mod rows;
 
 pub use fragments::{Frag, FragList, Head, HeadAt};
-pub use mutations::{Mutation, Partition, Write};
+pub use mutations::{Mutation, Partition, Write, greater_tomb};
 pub use rows::Rows;

@@ -70,8 +70,8 @@ impl Mutation {
     }
 }
 
-// The greater of two tombstones, where there are any.
-fn greater_tomb(ours: Option<Tomb>, theirs: Option<Tomb>) -> Option<Tomb>
+/// The greater of two tombstones, where there are any.
+pub fn greater_tomb(ours: Option<Tomb>, theirs: Option<Tomb>) -> Option<Tomb>
     ensures { result ≡ greater tomb_cmp ours theirs }
 {
     match (ours, theirs) {
