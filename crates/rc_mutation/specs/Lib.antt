@@ -3,3 +3,4 @@ pub mod Place
 pub mod Rows
 pub mod RowsLaws
 pub mod Source
+pub mod SourceLaws

@@ -1,9 +1,12 @@
-//! What writes say of one partition: its rows by clustering key, and how the writes of a partition are joined.
+//! What writes say of one partition: partition, row and range tombstones, the static row and the rows by clustering key;
+//! how writes are joined, and the fragments as which a partition is read.
 #![tactic(auto)]
 
+mod fragments;
 pub mod laws;
 mod mutations;
 mod rows;
 
-pub use mutations::{Mutation, Write};
+pub use fragments::{Frag, FragList, Head, HeadAt};
+pub use mutations::{Mutation, Partition, Write, greater_tomb};
 pub use rows::Rows;

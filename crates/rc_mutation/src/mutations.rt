@@ -1,25 +1,40 @@
-//! What writes say of one partition, and a write to a partition.
+//! What writes say of one partition, a write to a partition, and a whole partition.
 
-ghost use Rattle.std.specs.Prelude.{◌≡◌, [], IfOk};
+ghost use Rattle.std.specs.Prelude.{◌≡◌, [], ◌∷◌, IfOk, OnOk, OnErr};
+ghost use Rattle.rc_cell.specs.Greatest.{greater};
+ghost use Rattle.rc_cell.specs.Orders.{tomb_cmp};
+ghost use Rattle.rc_cell.specs.Winner.{empty_row};
+ghost use Rattle.rc_mutation.specs.Source.{IsJoinOf};
 
 use crate::rows::Rows;
+use rc_cell::{Row, Tomb};
 use rc_position::PartKey;
+use rc_ranges::Ranges;
 use std::alloc::{AllocError, Global};
 
 /// What writes say of one partition.
 #[derive(Drop)]
 pub struct Mutation {
+    /// The partition tombstone.
+    pub pt: Option<Tomb>,
+    /// The static row. It has no marker and no tombstone; the partition tombstone alone covers it.
+    pub statics: Row,
     /// The rows by clustering key.
     pub rows: Rows,
+    /// The range tombstones.
+    pub ranges: Ranges,
 }
 
 impl Mutation {
     /// Nothing written.
     pub fn empty(alloc: Global) -> Self
-        ensures { result.rows ≡ [] }
+        ensures { result ≡ record { pt = None; statics = empty_row; rows = []; ranges = [] } }
     {
         Mutation {
+            pt: None,
+            statics: Row::empty(alloc),
             rows: Rows::empty(alloc),
+            ranges: Ranges::empty(alloc),
         }
     }
 
@@ -27,9 +42,42 @@ impl Mutation {
     pub fn copy(&self, alloc: Global) -> Result<Self, AllocError>
         ensures { IfOk result (λ mutation. mutation ≡ self.now) }
     {
+        let statics = self.statics.copy(alloc)?;
+        let rows = self.rows.copy(alloc)?;
+        let ranges = self.ranges.copy(alloc)?;
         Ok(Mutation {
-            rows: self.rows.copy(alloc)?,
+            pt: self.pt,
+            statics,
+            rows,
+            ranges,
         })
+    }
+
+    /// Joins what other writes say of the partition: at each place of it the greatest tombstone, and the rows as one. The
+    /// work is linear in the rows and pieces of both. The only error is want of memory, which leaves the mutation as it was.
+    pub fn join(&mut self, alloc: Global, other: &Mutation) -> Result<(), AllocError>
+        ensures ok { OnOk result (IsJoinOf self.new (self.old ∷ other.now ∷ [])) }
+        ensures err { OnErr result (self.new ≡ self.old) }
+    {
+        let mut statics = self.statics.copy(alloc)?;
+        statics.join(alloc, &other.statics)?;
+        let rows = self.rows.joined(alloc, &other.rows)?;
+        self.ranges.join(alloc, &other.ranges)?;
+        self.pt = greater_tomb(self.pt, other.pt);
+        self.statics = statics;
+        self.rows = rows;
+        Ok(())
+    }
+}
+
+/// The greater of two tombstones, where there are any.
+pub fn greater_tomb(ours: Option<Tomb>, theirs: Option<Tomb>) -> Option<Tomb>
+    ensures { result ≡ greater tomb_cmp ours theirs }
+{
+    match (ours, theirs) {
+        (Some(ours), Some(theirs)) => Some(theirs.max(ours)),
+        (Some(ours), None) => Some(ours),
+        (None, theirs) => theirs,
     }
 }
 
@@ -50,5 +98,25 @@ impl Write {
         let key = self.key.copy(alloc)?;
         let change = self.change.copy(alloc)?;
         Ok(Write { key, change })
+    }
+}
+
+/// One partition: its key and what all writes to it say.
+#[derive(Drop)]
+pub struct Partition {
+    /// The partition's key.
+    pub key: PartKey,
+    /// What the writes say.
+    pub change: Mutation,
+}
+
+impl Partition {
+    /// An equal partition of its own memory. The only error is want of memory.
+    pub fn copy(&self, alloc: Global) -> Result<Self, AllocError>
+        ensures { IfOk result (λ partition. partition ≡ self.now) }
+    {
+        let key = self.key.copy(alloc)?;
+        let change = self.change.copy(alloc)?;
+        Ok(Partition { key, change })
     }
 }

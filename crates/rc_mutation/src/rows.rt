@@ -3,7 +3,7 @@
 ghost use Rattle.std.specs.Prelude.{◌≡◌, ◌≢◌, [], ◌∷◌, ◌++◌, All, IfErr, IfOk, IsTrue, OnErr, OnOk};
 ghost use Rattle.std.specs.FinMap.{is_sorted};
 ghost use Rattle.rc_cell.specs.Columns.{ascending};
-ghost use Rattle.rc_cell.specs.Winner.{empty_row};
+ghost use Rattle.rc_cell.specs.Winner.{empty_row, joined_row};
 ghost use Rattle.rc_position.specs.Position.{key_cmp};
 ghost use Rattle.rc_mutation.specs.Place.{IsAt, IsGapFor};
 ghost use Rattle.rc_mutation.specs.Rows.{IsRows, joined_rows};
@@ -11,6 +11,7 @@ ghost use Rattle.rc_mutation.specs.Rows.{IsRows, joined_rows};
 use rc_cell::Row;
 use rc_position::Key;
 use std::alloc::{AllocError, Global};
+use std::cmp::Ordering;
 use std::marker::Model;
 
 /// The rows that writes speak of: pairs of a clustering key and its row, by strictly ascending key. Something was written
@@ -78,6 +79,24 @@ impl Rows {
     {
         join_into(alloc, &mut self.items, key, row)
     }
+
+    /// Joins what other writes say of rows. The work is linear in the rows of both. The only error is want of memory,
+    /// which leaves the rows as they were.
+    pub fn join(&mut self, alloc: Global, other: &Rows) -> Result<(), AllocError>
+        ensures ok { OnOk result (self.new ≡ joined_rows (self.old ++ other.now)) }
+        ensures err { OnErr result (self.new ≡ self.old) }
+    {
+        self.items = merged(alloc, self.items.as_slice(), other.items.as_slice())?;
+        Ok(())
+    }
+
+    // What these rows and others join to. The work is linear in the rows of both.
+    pub(crate) fn joined(&self, alloc: Global, other: &Rows) -> Result<Rows, AllocError>
+        ensures { IfOk result (λ rows. rows ≡ joined_rows (self.now ++ other.now)) }
+    {
+        let items = merged(alloc, self.items.as_slice(), other.items.as_slice())?;
+        Ok(Rows { items })
+    }
 }
 
 // Joins one more row to the rows, at its key's place.
@@ -113,6 +132,79 @@ fn place_of(items: &[(Key, Row)], key: &Key) -> Result<usize, usize>
     items.binary_search_by(|item| item.0.cmp(key))
 }
 
+// The rows of both by ascending key, those of one key as one, each in its own memory.
+fn merged(
+    alloc: Global,
+    ours: &[(Key, Row)],
+    theirs: &[(Key, Row)],
+) -> Result<Vec<(Key, Row)>, AllocError>
+    requires ours { IsRows ours.now }
+    requires theirs { IsRows theirs.now }
+    ensures value { IfOk result (λ made. made.items ≡ joined_rows (ours.now ++ theirs.now)) }
+    ensures rows { IfOk result (λ made. IsRows made.items) }
+{
+    let mut made = Vec::new(alloc);
+    let mut ours = ours;
+    let mut theirs = theirs;
+    while let ([our_first, our_rest @ ..], [their_first, their_rest @ ..]) = (ours, theirs) {
+        match our_first.0.cmp(&their_first.0) {
+            Ordering::Less => {
+                made.push(copied_pair(alloc, our_first)?)?;
+                ours = our_rest;
+            }
+            Ordering::Equal => {
+                made.push(joined_pair(alloc, our_first, their_first)?)?;
+                ours = our_rest;
+                theirs = their_rest;
+            }
+            Ordering::Greater => {
+                made.push(copied_pair(alloc, their_first)?)?;
+                theirs = their_rest;
+            }
+        }
+    }
+    append_copies(alloc, &mut made, ours)?;
+    append_copies(alloc, &mut made, theirs)?;
+    Ok(made)
+}
+
+// The row that two rows of one key join to.
+fn joined_pair(
+    alloc: Global,
+    ours: &(Key, Row),
+    theirs: &(Key, Row),
+) -> Result<(Key, Row), AllocError>
+    ensures { IfOk result (λ made. made ≡ (ours.now.0, joined_row (ours.now.1 ∷ theirs.now.1 ∷ []))) }
+{
+    let key = ours.0.copy(alloc)?;
+    let mut row = ours.1.copy(alloc)?;
+    row.join(alloc, &theirs.1)?;
+    Ok((key, row))
+}
+
+// An equal pair.
+fn copied_pair(alloc: Global, item: &(Key, Row)) -> Result<(Key, Row), AllocError>
+    ensures { IfOk result (λ made. made ≡ item.now) }
+{
+    let key = item.0.copy(alloc)?;
+    let row = item.1.copy(alloc)?;
+    Ok((key, row))
+}
+
+// Appends the pairs in their order, each in its own memory.
+fn append_copies(
+    alloc: Global,
+    made: &mut Vec<(Key, Row)>,
+    items: &[(Key, Row)],
+) -> Result<(), AllocError>
+    ensures { OnOk result (made.new.items ≡ made.old.items ++ items.now) }
+{
+    for item in items {
+        made.push(copied_pair(alloc, item)?)?;
+    }
+    Ok(())
+}
+
 // The pairs in their order, each in its own memory.
 fn copied(alloc: Global, items: &[(Key, Row)]) -> Result<Vec<(Key, Row)>, AllocError>
     ensures value { IfOk result (λ made. made.items ≡ items.now) }
@@ -127,10 +219,10 @@ fn copied(alloc: Global, items: &[(Key, Row)]) -> Result<Vec<(Key, Row)>, AllocE
 }
 
 // An equal row, whose cells ascend by column as those of every row do.
-fn copied_row(alloc: Global, row: &Row) -> Result<Row, AllocError>
-    ensures value { IfOk result (λ made. made ≡ row.now) }
-    ensures by_column { IsTrue (ascending row.now.cells) }
+fn copied_row(alloc: Global, given: &Row) -> Result<Row, AllocError>
+    ensures value { IfOk result (λ made. made ≡ given.now) }
+    ensures by_column { IsTrue (ascending given.now.cells) }
 {
-    let _cells = row.cells.as_slice();
-    row.copy(alloc)
+    let _cells = given.cells.as_slice();
+    given.copy(alloc)
 }

@@ -1,16 +1,19 @@
 -- What a reader is given of a partition: lines, picked from all writes to it.
-use Rattle.std.specs.Prelude.{ℕ, Bool, true, false, ◌||◌, List, [], ◌∷◌, Option, Some, None, if◌then◌else◌}
-use Rattle.std.specs.Option.{option_map}
-use Rattle.std.specs.List.{filter_map, list_any}
+use Rattle.std.specs.Prelude.{ℕ, Bool, true, false, ◌||◌, List, [], ◌∷◌, ◌++◌, Option, Some, None, if◌then◌else◌}
+use Rattle.std.specs.Option.{option_map, option_to_list}
+use Rattle.std.specs.List.{filter, filter_map, list_any}
 use Rattle.rc_cell.specs.declared.rows.Row.{Row}
 use Rattle.rc_cell.specs.declared.writes.Cell.{Cell}
 use Rattle.rc_cell.specs.declared.writes.Cell.TheVariants.{Live, Dead}
 use Rattle.rc_cell.specs.declared.writes.Tomb.{Tomb}
 use Rattle.rc_cell.specs.Deletion.{survives}
-use Rattle.rc_cell.specs.Winner.{all_cells, markers, winners}
+use Rattle.rc_cell.specs.Winner.{all_cells, empty_row, markers, winners}
 use Rattle.rc_position.specs.declared.comps.Comp.{Comp}
+use Rattle.rc_position.specs.declared.slices.Slice.{Slice}
+use Rattle.rc_position.specs.declared.positions.Weight.TheVariants.{Before, After}
+use Rattle.rc_position.specs.Position.{covers, row_pos}
 use Rattle.rc_mutation.specs.declared.mutations.Mutation.{Mutation}
-use Rattle.rc_mutation.specs.Source.{all_rows, cover, keys, rows_at}
+use Rattle.rc_mutation.specs.Source.{all_rows, cover, keys, rows_at, source_at_head, static_rows}
 use Rattle.rc_query.specs.declared.lines.OutLine.{OutLine}
 use Rattle.rc_query.specs.declared.lines.OutLine.TheVariants as line
 
@@ -27,6 +30,12 @@ abbrev pub has_any : {X : Type 0} → List X → Bool
 has_any [] = false
 has_any (x ∷ xs) = true
 
+-- the static line of static rows under the partition tombstone: the live values of their columns' winners, if there is one
+abbrev pub static_line : Option Tomb → List Row → Option OutLine
+static_line head rows =
+    let values = live_values head (winners (all_cells rows)) in
+    if has_any values then Some (line.Static values) else None
+
 -- the line of rows written at one key under a cover: the live values of its columns' winners. It has one if there is such a value,
 -- or a marker that survives the cover
 abbrev pub line_of : Option Tomb → List Comp → List Row → Option OutLine
@@ -38,6 +47,20 @@ line_of cover key rows =
 abbrev pub line_at : List Mutation → List Comp → Option OutLine
 line_at changes key = line_of (cover changes key) key (rows_at key (all_rows changes))
 
--- the lines of the keys that occur, ascending, each once
-unfoldable pub answer : List Mutation → List OutLine
-answer changes = filter_map (line_at changes) (keys (all_rows changes))
+-- whether the row of a key stands in a slice
+abbrev pub in_slice : Slice → List Comp → Bool
+in_slice slice key = covers slice.from slice.to (row_pos key)
+
+-- the static line, whatever the slice; then the lines of the keys that occur and stand in the slice, ascending, each once
+unfoldable pub answer : List Mutation → Slice → List OutLine
+answer changes slice =
+    option_to_list (static_line (source_at_head changes) (static_rows changes))
+    ++ filter_map (line_at changes) (filter (in_slice slice) (keys (all_rows changes)))
+
+-- all clustered positions
+abbrev pub whole : Slice
+whole = record { from = record { prefix = []; weight = Before }; to = record { prefix = []; weight = After } }
+
+-- a mutation that has rows alone
+abbrev pub rows_alone : List (List Comp × Row) → Mutation
+rows_alone rows = record { pt = None; statics = empty_row; rows = rows; ranges = [] }

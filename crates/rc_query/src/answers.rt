@@ -1,46 +1,128 @@
-//! The answer that a reader is given of the rows of a partition.
+//! The answer that a reader is given of one partition.
 
-ghost use Rattle.std.specs.Prelude.{◌≡◌, ◌||◌, [], ◌∷◌, IfOk};
+ghost use Rattle.std.specs.Prelude.{◌≡◌, ◌||◌, [], ◌∷◌, ◌++◌, IfOk, OnOk};
+ghost use Rattle.std.specs.Option.{option_to_list};
 ghost use Rattle.std.specs.List.{cons_option, filter_map, list_any};
 ghost use Rattle.rc_cell.specs.Deletion.{survives};
-ghost use Rattle.rc_query.specs.Answer.{answer, has_any, live_value, live_values};
-ghost use Rattle.rc_query.specs.AnswerLaws.{row_line};
+ghost use Rattle.rc_mutation.specs.Rows.{IsRows};
+ghost use Rattle.rc_query.specs.Answer.{answer, has_any, live_value, live_values, rows_alone, static_line, whole};
+ghost use Rattle.rc_query.specs.AnswerLaws.{own_line, row_line};
 
 use crate::lines::{Lines, OutLine};
 use crate::shown::Shown;
 use rc_cell::{Cell, Row, Tomb, Value};
-use rc_mutation::Rows;
-use rc_position::Key;
+use rc_mutation::{Mutation, Rows, greater_tomb};
+use rc_position::{Key, Pos, Slice, Weight, end_pos, start_pos};
+use rc_ranges::Ranges;
 use std::alloc::{AllocError, Global};
 
-/// The lines that a reader is given of rows, of which nothing else covers any: by ascending key the line of each row that
-/// has a live value, or a marker, above its own tombstone. The only error is want of memory.
-pub fn shown_rows(alloc: Global, rows: &Rows) -> Result<Lines, AllocError>
-    ensures { IfOk result (λ lines. lines ≡ answer (record { rows = rows.now } ∷ [])) }
+/// The lines that a reader of a slice is given of what all writes to a partition say: the static line, whatever the slice,
+/// if a value of the static row is live; then by ascending key the line of each row in the slice that has a live value, or a
+/// marker, above its cover. The only error is want of memory.
+pub fn answer_of(alloc: Global, change: &Mutation, slice: &Slice) -> Result<Lines, AllocError>
+    ensures { IfOk result (λ lines. lines ≡ answer (change.now ∷ []) slice.now) }
 {
-    let lines = lines_of(alloc, rows.as_slice())?;
+    let mut lines = Vec::new(alloc);
+    push_line(&mut lines, line_of_statics(alloc, change.pt, &change.statics)?)?;
+    append_lines(alloc, &mut lines, change, slice)?;
     Ok(Lines::of(lines))
 }
 
-// The lines of the rows that have one, in their order.
-fn lines_of(alloc: Global, rows: &[(Key, Row)]) -> Result<Vec<OutLine>, AllocError>
-    ensures { IfOk result (λ lines. lines.items ≡ filter_map (λ e. row_line e.0 e.1) rows.now) }
+/// The lines that a reader of a whole partition is given of rows, where nothing else was written. The only error is want of
+/// memory.
+pub fn shown_rows(alloc: Global, rows: &Rows) -> Result<Lines, AllocError>
+    ensures { IfOk result (λ lines. lines ≡ answer (rows_alone rows.now ∷ []) whole) }
 {
-    let mut lines = Vec::new(alloc);
-    for item in rows {
-        if let Some(line) = line_of_row(alloc, &item.0, &item.1)? {
-            lines.push(line)?;
-        }
-    }
-    Ok(lines)
+    let none = Key::empty(alloc);
+    let slice = Slice {
+        from: start_pos(alloc, &none, true)?,
+        to: end_pos(alloc, &none, true)?,
+    };
+    let change = Mutation {
+        pt: None,
+        statics: Row::empty(alloc),
+        rows: rows.copy(alloc)?,
+        ranges: Ranges::empty(alloc),
+    };
+    answer_of(alloc, &change, &slice)
 }
 
-// The line of a row, if it has one.
-fn line_of_row(alloc: Global, key: &Key, row: &Row) -> Result<Option<OutLine>, AllocError>
-    ensures { IfOk result (λ line. line ≡ row_line key.now row.now) }
+// Puts a line behind the others, if there is one.
+pub(crate) fn push_line(lines: &mut Vec<OutLine>, line: Option<OutLine>) -> Result<(), AllocError>
+    ensures { OnOk result (lines.new.items ≡ lines.old.items ++ option_to_list line) }
 {
-    let values = values_of(alloc, row.cells.as_slice(), row.tomb)?;
-    if has_line(&values, row) {
+    match line {
+        Some(line) => Ok(lines.push(line)?),
+        None => Ok(()),
+    }
+}
+
+// Appends the lines of the rows in the slice.
+fn append_lines(
+    alloc: Global,
+    lines: &mut Vec<OutLine>,
+    change: &Mutation,
+    slice: &Slice,
+) -> Result<(), AllocError>
+    ensures value { OnOk result (lines.new.items ≡ lines.old.items ++ filter_map (own_line change.now slice.now) change.now.rows) }
+    ensures rows { IsRows change.now.rows }
+{
+    for item in change.rows.as_slice() {
+        push_line(lines, line_in(alloc, change, slice, &item.0, &item.1)?)?;
+    }
+    Ok(())
+}
+
+// The line of a row, if it stands in the slice and has one.
+fn line_in(
+    alloc: Global,
+    change: &Mutation,
+    slice: &Slice,
+    key: &Key,
+    row: &Row,
+) -> Result<Option<OutLine>, AllocError>
+    ensures { IfOk result (λ line. line ≡ own_line change.now slice.now (key.now, row.now)) }
+{
+    let place = Pos {
+        prefix: key.copy(alloc)?,
+        weight: Weight::At,
+    };
+    if slice.has(&place) {
+        let outer = greater_tomb(change.pt, change.ranges.at(&place));
+        line_of_row(alloc, outer, key, row)
+    } else {
+        Ok(None)
+    }
+}
+
+// The static line under the partition tombstone, if it has one.
+pub(crate) fn line_of_statics(
+    alloc: Global,
+    head: Option<Tomb>,
+    statics: &Row,
+) -> Result<Option<OutLine>, AllocError>
+    ensures { IfOk result (λ line. line ≡ static_line head (statics.now ∷ [])) }
+{
+    let values = values_of(alloc, statics.cells.as_slice(), head)?;
+    if has_value(&values) {
+        Ok(Some(OutLine::Static(Shown::of(values))))
+    } else {
+        Ok(None)
+    }
+}
+
+// The line of a row under a cover from outside it, if it has one.
+pub(crate) fn line_of_row(
+    alloc: Global,
+    outer: Option<Tomb>,
+    key: &Key,
+    row: &Row,
+) -> Result<Option<OutLine>, AllocError>
+    ensures { IfOk result (λ line. line ≡ row_line outer key.now row.now) }
+{
+    let cover = greater_tomb(outer, row.tomb);
+    let values = values_of(alloc, row.cells.as_slice(), cover)?;
+    if has_line(&values, row.marker, cover) {
         let key = key.copy(alloc)?;
         Ok(Some(OutLine::Row(key, Shown::of(values))))
     } else {
@@ -48,11 +130,18 @@ fn line_of_row(alloc: Global, key: &Key, row: &Row) -> Result<Option<OutLine>, A
     }
 }
 
-// Whether a row of these live values has a line: it has a value, or its marker survives its own tombstone.
-fn has_line(values: &[(u8, Value)], row: &Row) -> bool
-    ensures { result ≡ (has_any values.now || list_any (survives row.now.tomb) (cons_option row.now.marker [])) }
+// Whether a row of these live values and this marker has a line: it has a value, or the marker survives the cover.
+fn has_line(values: &[(u8, Value)], marker: Option<i64>, cover: Option<Tomb>) -> bool
+    ensures { result ≡ (has_any values.now || list_any (survives cover) (cons_option marker [])) }
 {
-    !values.is_empty() || marker_survives(row.marker, row.tomb)
+    has_value(values) || marker_survives(marker, cover)
+}
+
+// Whether there is a value.
+fn has_value(values: &[(u8, Value)]) -> bool
+    ensures { result ≡ has_any values.now }
+{
+    !values.is_empty()
 }
 
 // The live values that the tombstone leaves of the cells.

@@ -6,6 +6,6 @@ pub mod laws;
 mod lines;
 mod shown;
 
-pub use answers::shown_rows;
+pub use answers::{answer_of, shown_rows};
 pub use lines::{Lines, OutLine};
 pub use shown::Shown;

@@ -11,16 +11,18 @@ use Rattle.rc_query.proofs.answers.line_of_row.Goals as goal
 pub returns-in_ok-key : goal.returns-in_ok-key
 returns-in_ok-key c =
     let row = c.args.row.now in
+    let cover = c.greater_tomb-cover.result in
     let values = c.in_ok-values.values.items in
-    let given : c.has_line.result ≡ (has_any values || list_any (survives row.tomb) (cons_option row.marker [])) = c.has_line.ensures ∙ ap (λ xs. has_any xs || list_any (survives row.tomb) (cons_option row.marker [])) c.deref.ensures.value in
+    let given : c.has_line.result ≡ (has_any values || list_any (survives cover) (cons_option row.marker [])) = c.has_line.ensures ∙ ap (λ xs. has_any xs || list_any (survives cover) (cons_option row.marker [])) c.deref.ensures.value in
     (λ i. Some (line.Row (c.in_ok-key.ensures i) (c.of.ensures i)))
     ∙ ap (λ b. cond {A = Option OutLine} b (Some (line.Row c.args.key.now values)) None) (sym c.if-has_line.true)
-    ∙ row_line-ascending c.args.key.now row values c.has_line.result c.as_slice.ensures.ascending (c.in_ok-values.ensures ∙ ap (live_values row.tomb) c.as_slice.ensures.value) given
+    ∙ row_line-ascending c.args.outer cover c.args.key.now row values c.has_line.result c.greater_tomb-cover.ensures c.as_slice.ensures.ascending (c.in_ok-values.ensures ∙ ap (live_values cover) c.as_slice.ensures.value) given
 
 pub returns-else-has_line : goal.returns-else-has_line
 returns-else-has_line c =
     let row = c.args.row.now in
+    let cover = c.greater_tomb-cover.result in
     let values = c.in_ok-values.values.items in
-    let given : c.has_line.result ≡ (has_any values || list_any (survives row.tomb) (cons_option row.marker [])) = c.has_line.ensures ∙ ap (λ xs. has_any xs || list_any (survives row.tomb) (cons_option row.marker [])) c.deref.ensures.value in
+    let given : c.has_line.result ≡ (has_any values || list_any (survives cover) (cons_option row.marker [])) = c.has_line.ensures ∙ ap (λ xs. has_any xs || list_any (survives cover) (cons_option row.marker [])) c.deref.ensures.value in
     ap (λ b. cond {A = Option OutLine} b (Some (line.Row c.args.key.now values)) None) (sym c.if-has_line.false)
-    ∙ row_line-ascending c.args.key.now row values c.has_line.result c.as_slice.ensures.ascending (c.in_ok-values.ensures ∙ ap (live_values row.tomb) c.as_slice.ensures.value) given
+    ∙ row_line-ascending c.args.outer cover c.args.key.now row values c.has_line.result c.greater_tomb-cover.ensures c.as_slice.ensures.ascending (c.in_ok-values.ensures ∙ ap (live_values cover) c.as_slice.ensures.value) given

@@ -1,5 +1,5 @@
 use Rattle.rc_query.specs.AnswerLaws.{answer-joined}
-use Rattle.rc_query.proofs.laws.answer_of_joined_rows.Goals as goal
+use Rattle.rc_query.proofs.laws.answer_of_joined_writes.Goals as goal
 
 pub returns : goal.returns
 returns c = answer-joined
