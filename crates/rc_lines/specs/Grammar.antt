@@ -8,6 +8,7 @@ use Rattle.rc_cell.specs.declared.writes.Cell.{Cell}
 use Rattle.rc_cell.specs.declared.writes.Cell.TheVariants.{Live}
 use Rattle.rc_mutation.specs.declared.mutations.Write.{Write}
 use Rattle.rc_position.specs.declared.comps.Comp.TheVariants.{Int}
+use Rattle.rc_query.specs.Answer.{rows_alone}
 use Rattle.rc_lines.specs.Words.{words}
 use Rattle.rc_lines.specs.Numbers.{number_of, signed_of}
 use Rattle.rc_lines.specs.declared.commands.Command.{Command}
@@ -78,7 +79,7 @@ cells_of ts (one ∷ other ∷ more ∷ words) = None
 -- a write of a row with a marker and live cells
 abbrev pub inserted : List ℕ → ℤ → ℤ → List (ℕ × Cell) → Write
 inserted key number ts cells =
-    record { key = key; change = record { rows = (Int number ∷ [], record { marker = Some ts; tomb = None; cells = cells }) ∷ [] } }
+    record { key = key; change = rows_alone ((Int number ∷ [], record { marker = Some ts; tomb = None; cells = cells }) ∷ []) }
 
 -- `insert KEY CK ts=TS NAME=VALUE ..`: a marker and live cells
 unfoldable pub insert_of : List ℕ → List ℕ → List ℕ → List (List ℕ) → Option Command

@@ -11,6 +11,7 @@ use crate::parts::{assigned, plain, stamp};
 use rc_cell::{Cell, Cells, Row, Value};
 use rc_mutation::{Mutation, Rows, Write};
 use rc_position::{Comp, Key, PartKey};
+use rc_ranges::Ranges;
 use std::alloc::{AllocError, Global};
 
 /// A live cell of a column.
@@ -125,7 +126,12 @@ fn inserted(
     let rows = marked_row(alloc, number, ts, cells)?;
     Ok(Write {
         key,
-        change: Mutation { rows },
+        change: Mutation {
+            pt: None,
+            statics: Row::empty(alloc),
+            rows,
+            ranges: Ranges::empty(alloc),
+        },
     })
 }
 

@@ -7,7 +7,7 @@ use Rattle.rc_position.specs.Position.{bytes_cmp}
 use Rattle.rc_mutation.specs.declared.mutations.Mutation.{Mutation}
 use Rattle.rc_mutation.specs.declared.mutations.Write.{Write}
 use Rattle.rc_query.specs.declared.lines.OutLine.{OutLine}
-use Rattle.rc_query.specs.Answer.{answer}
+use Rattle.rc_query.specs.Answer.{answer, whole}
 use Rattle.rc_lines.specs.declared.commands.Command.{Command}
 use Rattle.rc_lines.specs.declared.commands.Command.TheVariants.{Nothing, SetSchema, Put, OpenRead, Read}
 use Rattle.rc_lines.specs.declared.commands.Reply.{Reply}
@@ -49,7 +49,7 @@ next m Nothing reply = m
 next m SetSchema reply = record { taken = true; log = m.log; readers = m.readers }
 next m (Put w) reply = record { taken = m.taken; log = m.log ++ w ∷ []; readers = m.readers }
 -- the answer is fixed when the reader is opened
-next m (OpenRead id key) replies.Fine = record { taken = m.taken; log = m.log; readers = m.readers ++ (id, answer (changes_of key m.log)) ∷ [] }
+next m (OpenRead id key) replies.Fine = record { taken = m.taken; log = m.log; readers = m.readers ++ (id, answer (changes_of key m.log) whole) ∷ [] }
 next m (OpenRead id key) other = m
 -- what was given is given once
 next m (Read id count) (replies.Given lines more) = record { taken = m.taken; log = m.log; readers = set_value (λ k. k == id) m.readers (drop count (unwrap_or (rest_of id m) [])) }

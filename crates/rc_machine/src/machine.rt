@@ -3,7 +3,7 @@
 ghost use Rattle.std.specs.Prelude.{◌≡◌, ℕ, IfOk, OnErr};
 ghost use Rattle.rc_machine.specs.Machine.{start, may, next};
 
-use crate::answers::answer_of;
+use crate::answers::answer_now;
 use crate::readers::{Rest, place_of};
 use rc_lines::{Command, Refusal, Reply};
 use rc_mutation::Write;
@@ -76,7 +76,7 @@ impl Machine {
         if place_of(self.readers.as_slice(), id).is_some() {
             return Ok(Reply::Refused(Refusal::ReaderInUse));
         }
-        let lines = answer_of(alloc, self.log.as_slice(), key)?;
+        let lines = answer_now(alloc, self.log.as_slice(), key)?;
         self.readers.push((id, Rest::new(lines)))?;
         Ok(Reply::Fine)
     }
