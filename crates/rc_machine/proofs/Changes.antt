@@ -21,7 +21,7 @@ changes_of-more : (key : List ℕ) (log : List Write) (w : Write) → changes_of
 changes_of-more key [] w = elim (eq_by_cmp bytes_cmp w.key key) as (λ b. list_map (λ v. v.change) (cond b (w ∷ []) []) ≡ cond b (w.change ∷ []) []) [ true ↦ refl | false ↦ refl ]
 changes_of-more key (v ∷ log) w =
     elim (eq_by_cmp bytes_cmp v.key key) as (λ b. list_map (λ x. x.change) (cond b (v ∷ filter (λ x. eq_by_cmp bytes_cmp x.key key) (log ++ w ∷ [])) (filter (λ x. eq_by_cmp bytes_cmp x.key key) (log ++ w ∷ [])))
-          ≡ list_map (λ x. x.change) (cond b (v ∷ filter (λ x. eq_by_cmp bytes_cmp x.key key) log) (filter (λ x. eq_by_cmp bytes_cmp x.key key) log)) ++ cond (eq_by_cmp bytes_cmp w.key key) (w.change ∷ []) []) [
+    ≡ list_map (λ x. x.change) (cond b (v ∷ filter (λ x. eq_by_cmp bytes_cmp x.key key) log) (filter (λ x. eq_by_cmp bytes_cmp x.key key) log)) ++ cond (eq_by_cmp bytes_cmp w.key key) (w.change ∷ []) []) [
       | true ↦ ap (λ ms. v.change ∷ ms) (changes_of-more key log w)
       | false ↦ changes_of-more key log w
     ]

@@ -1,5 +1,5 @@
 -- Nothing is joined at first; a write to the partition is joined, another one passed over.
-use Rattle.std.proofs.Common.{◌≡◌, []}
+use Rattle.std.proofs.Common.{[]}
 use Rattle.std.proofs.Common.{◌∙◌, sym, subst}
 use Rattle.rc_mutation.specs.Source.{IsJoinOf}
 use Rattle.rc_mutation.specs.declared.mutations.Mutation.{Mutation}
