@@ -36,7 +36,7 @@ use Rattle.rc_ranges.proofs.Covering.{cover-append}
 use Rattle.rc_ranges.proofs.Determined.{determined}
 use Rattle.rc_mutation.specs.declared.mutations.Mutation.{Mutation}
 use Rattle.rc_mutation.specs.ByKey.{rows_at-joined_rows, rows_at-ascending, joined_if_any, same_rows}
-use Rattle.rc_mutation.specs.RowsLaws.{found, joined_rows-again, joined_rows-append, joined_rows-swap, joined_rows-twice}
+use Rattle.rc_mutation.specs.RowsLaws.{found, joined_rows-again, joined_rows-append, joined_rows-rows, joined_rows-swap, joined_rows-twice}
 use Rattle.rc_mutation.specs.Source.{all_pieces, all_rows, IsJoinOf, IsMutation, IsRows, joined_rows, partition_tombs, rows_at, rows_in, SameSource, source_at, source_at_head, source_at_static, static_rows}
 
 cons_one : {X : Type 0} (s : Option X) → cons_option s [] ≡ option_to_list s
@@ -217,3 +217,24 @@ joined_two m n r pt statics rows ranges = record {
   rows = rows ∙ ap (λ rs. joined_rows (m.rows ++ rs)) (sym (append-nil n.rows));
   ranges = λ x. ranges x ∙ sym (cover-append m.ranges n.ranges x) ∙ ap (λ ps. range_tomb (m.ranges ++ ps) x) (sym (append-nil n.ranges));
 }
+
+-- one mutation joins to itself
+pub IsJoinOf-one : (m : Mutation) → IsMutation m → IsJoinOf m (m ∷ [])
+IsJoinOf-one m is = record {
+  head = sym (head-one m);
+  statics = sym (statics-one m is);
+  rows = sym (ap joined_rows (append-nil m.rows) ∙ joined_rows-rows m.rows is.rows);
+  ranges = λ x. ap (λ ps. range_tomb ps x) (sym (append-nil m.ranges));
+}
+
+pub join-comm : (a b one other : Mutation) → IsMutation one → IsMutation other → IsJoinOf one (a ∷ b ∷ []) → IsJoinOf other (b ∷ a ∷ []) → one ≡ other
+join-comm a b one other g h j k = IsJoinOf-same one other (b ∷ a ∷ []) g h (IsJoinOf-swap one (a ∷ []) (b ∷ []) j) k
+
+pub join-assoc : (a b c ab bc one other : Mutation) → IsMutation one → IsMutation other → IsJoinOf ab (a ∷ b ∷ []) → IsJoinOf one (ab ∷ c ∷ []) → IsJoinOf bc (b ∷ c ∷ []) → IsJoinOf other (a ∷ bc ∷ []) → one ≡ other
+join-assoc a b c ab bc one other g h ours left theirs right =
+    IsJoinOf-same one other (a ∷ b ∷ c ∷ []) g h
+      (IsJoinOf-first ab one (a ∷ b ∷ []) (c ∷ []) ours left)
+      (IsJoinOf-swap other (b ∷ c ∷ []) (a ∷ []) (IsJoinOf-first bc other (b ∷ c ∷ []) (a ∷ []) theirs (IsJoinOf-swap other (a ∷ []) (bc ∷ []) right)))
+
+pub join-same : (a one : Mutation) → IsMutation a → IsMutation one → IsJoinOf one (a ∷ a ∷ []) → one ≡ a
+join-same a one g h j = IsJoinOf-same one a (a ∷ []) h g (IsJoinOf-twice one (a ∷ []) j) (IsJoinOf-one a g)
