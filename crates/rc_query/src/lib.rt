@@ -2,10 +2,12 @@
 #![tactic(auto)]
 
 mod answers;
+mod compactor;
 pub mod laws;
 mod lines;
 mod shown;
 
+pub use compactor::Compactor;
 pub use answers::{answer_of, shown_rows};
 pub use lines::{Lines, OutLine};
 pub use shown::Shown;

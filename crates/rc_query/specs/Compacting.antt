@@ -1,0 +1,39 @@
+-- What a compactor makes of the fragments of one partition, one after another: it keeps the head, and the range tombstone in force.
+use Rattle.std.specs.Prelude.{List, [], ◌∷◌, ◌++◌, Option, Some, None}
+use Rattle.std.specs.Option.{option_to_list}
+use Rattle.std.specs.List.{cons_option}
+use Rattle.rc_cell.specs.declared.rows.Row.{Row}
+use Rattle.rc_cell.specs.declared.writes.Tomb.{Tomb}
+use Rattle.rc_cell.specs.Greatest.{greater}
+use Rattle.rc_cell.specs.Orders.{tomb_cmp}
+use Rattle.rc_mutation.specs.declared.fragments.Frag.{Frag}
+use Rattle.rc_mutation.specs.declared.fragments.Frag.TheVariants as frag
+use Rattle.rc_mutation.specs.declared.fragments.Head.{Head}
+use Rattle.rc_query.specs.declared.lines.OutLine.{OutLine}
+use Rattle.rc_query.specs.Answer.{static_line}
+use Rattle.rc_query.specs.AnswerLaws.{row_line}
+
+-- the range tombstone in force behind a fragment
+abbrev pub after : Option Tomb → Frag → Option Tomb
+after tomb (frag.Start head) = tomb
+after tomb (frag.Static row) = tomb
+after tomb (frag.Row key row) = tomb
+after tomb (frag.Change from next) = next
+after tomb frag.End = tomb
+
+-- the line of a fragment under the partition tombstone and the range tombstone in force
+abbrev pub fragment_line : Option Tomb → Option Tomb → Frag → Option OutLine
+fragment_line head tomb (frag.Start pt) = None
+fragment_line head tomb (frag.Static row) = None
+fragment_line head tomb (frag.Row key row) = row_line (greater tomb_cmp head tomb) key row
+fragment_line head tomb (frag.Change from next) = None
+fragment_line head tomb frag.End = None
+
+-- the lines of fragments, one after another
+abbrev pub compacted : Option Tomb → Option Tomb → List Frag → List OutLine
+compacted head tomb [] = []
+compacted head tomb (f ∷ fs) = cons_option (fragment_line head tomb f) (compacted head (after tomb f) fs)
+
+-- the static line first
+abbrev pub compacted_all : Head → List Frag → List OutLine
+compacted_all head fragments = option_to_list (static_line head.pt (head.statics ∷ [])) ++ compacted head.pt None fragments
