@@ -91,8 +91,8 @@ below_less : (x y : Pos × ℕ) (es : List Placed) → place_order x y ≡ Less 
 below_less x y [] p h = tt
 below_less x y (e ∷ es) p h =
     both (is_lt (place_order x e.0)) (below_all place_order x es)
-      (is_less _ (place_total.trans x y e.0 p (less (place_order y e.0) (first (is_lt (place_order y e.0)) (below_all place_order y es) h))))
-      (below_less x y es p (second (is_lt (place_order y e.0)) (below_all place_order y es) h))
+    (is_less _ (place_total.trans x y e.0 p (less (place_order y e.0) (first (is_lt (place_order y e.0)) (below_all place_order y es) h))))
+    (below_less x y es p (second (is_lt (place_order y e.0)) (below_all place_order y es) h))
 
 below_first : (x : Pos × ℕ) (e : Placed) (es : List Placed) → place_order x e.0 ≡ Less → T (is_sorted place_order (e ∷ es)) → T (below_all place_order x (e ∷ es))
 below_first x e es p h = both (is_lt (place_order x e.0)) (below_all place_order x es) (is_less _ p) (below_less x e.0 es p (first (below_all place_order e.0 es) (is_sorted place_order es) h))
@@ -157,7 +157,7 @@ find-merge_into q a os rest g ih (b ∷ bs) =
       | false ↦ λ p.
           ap (cond (eq_by_cmp place_order q (b.0, 0)) (Some (frag.Change b.0 b.1))) (find-merge_into q a os rest g ih bs)
           ∙ found_change (eq_by_cmp place_order q (b.0, 0)) (frag.Change b.0 b.1) (find place_order q (list_map placed_row (a ∷ os))) (find place_order q (list_map placed_change bs))
-            (λ k. ap (λ x. find place_order x (list_map placed_row (a ∷ os))) (same_place q (b.0, 0) k) ∙ find-below (b.0, 0) (list_map placed_row (a ∷ os)) (below_first (b.0, 0) (placed_row a) (list_map placed_row os) (change_first (row_pos a.0) b.0 p) g))
+          (λ k. ap (λ x. find place_order x (list_map placed_row (a ∷ os))) (same_place q (b.0, 0) k) ∙ find-below (b.0, 0) (list_map placed_row (a ∷ os)) (below_first (b.0, 0) (placed_row a) (list_map placed_row os) (change_first (row_pos a.0) b.0 p) g))
     ] refl
 
 find-merge : (q : Pos × ℕ) (os : List Keyed) (bs : List Change) → SortedRows os → Finds q os bs (merge os bs)
@@ -206,10 +206,10 @@ merge-in_order os bs g h =
     let all = list_map placed_row os ++ list_map placed_change bs in
     let m = map.from_entries {R = place_order} all in
     ap (list_map fragment_of) (same_entries place_order place_total place_same (merge os bs) (map.entries m) (sorted-merge os bs (test_of _ g) (test_of _ h)) (map.entries_sorted m) (λ q.
-      find-merge q os bs (test_of _ g)
-      ∙ sym (find-both q (list_map placed_row os) (list_map placed_change bs))
-      ∙ sym (map.get-from_entries place_total all q)
-      ∙ map.get-entries m q))
+    find-merge q os bs (test_of _ g)
+    ∙ sym (find-both q (list_map placed_row os) (list_map placed_change bs))
+    ∙ sym (map.get-from_entries place_total all q)
+    ∙ map.get-entries m q))
 
 map-placed_row : (os : List Keyed) → list_map fragment_of (list_map placed_row os) ≡ list_map (λ e. frag.Row e.0 e.1) os
 map-placed_row [] = refl
@@ -291,10 +291,10 @@ changes-below x (p ∷ ps) is h =
     let to : IsBefore x p.to = pos_cmp_total.trans x p.from p.to h is.0 in
     let rest = changes-below x ps is.2 (next_after x p ps to is.1) in
     both (is_lt (place_order (x, 0) (p.from, 0))) _ (just_less x p.from h)
-      (elim (begins_at p.to ps) as (λ b. T (below_all place_order (x, 0) (list_map placed_change (cond b [] ((p.to, None) ∷ []) ++ changes_of ps)))) [
-        | true ↦ rest
-        | false ↦ both (is_lt (place_order (x, 0) (p.to, 0))) _ (just_less x p.to to) rest
-      ])
+    (elim (begins_at p.to ps) as (λ b. T (below_all place_order (x, 0) (list_map placed_change (cond b [] ((p.to, None) ∷ []) ++ changes_of ps)))) [
+      | true ↦ rest
+      | false ↦ both (is_lt (place_order (x, 0) (p.to, 0))) _ (just_less x p.to to) rest
+    ])
 
 changes-sorted : (ps : List Piece) → IsCanonical ps → T (is_sorted place_order (placed_changes ps))
 changes-sorted [] is = tt
@@ -302,14 +302,14 @@ changes-sorted (p ∷ ps) is =
     let rest = changes-sorted ps is.2 in
     let behind = changes-below p.from ps is.2 (next_after p.from p ps is.0 is.1) in
     both (below_all place_order (p.from, 0) (list_map placed_change (cond (begins_at p.to ps) [] ((p.to, None) ∷ []) ++ changes_of ps))) _
-      (elim (begins_at p.to ps) as (λ b. T (below_all place_order (p.from, 0) (list_map placed_change (cond b [] ((p.to, None) ∷ []) ++ changes_of ps)))) [
-        | true ↦ behind
-        | false ↦ both (is_lt (place_order (p.from, 0) (p.to, 0))) _ (just_less p.from p.to is.0) behind
-      ])
-      (elim (begins_at p.to ps) as (λ b. begins_at p.to ps ≡ b → T (is_sorted place_order (list_map placed_change (cond b [] ((p.to, None) ∷ []) ++ changes_of ps)))) [
-        | true ↦ λ _. rest
-        | false ↦ λ e. both (below_all place_order (p.to, 0) (placed_changes ps)) _ (changes-below p.to ps is.2 (ends_before p ps is.1 e)) rest
-      ] refl)
+    (elim (begins_at p.to ps) as (λ b. T (below_all place_order (p.from, 0) (list_map placed_change (cond b [] ((p.to, None) ∷ []) ++ changes_of ps)))) [
+      | true ↦ behind
+      | false ↦ both (is_lt (place_order (p.from, 0) (p.to, 0))) _ (just_less p.from p.to is.0) behind
+    ])
+    (elim (begins_at p.to ps) as (λ b. begins_at p.to ps ≡ b → T (is_sorted place_order (list_map placed_change (cond b [] ((p.to, None) ∷ []) ++ changes_of ps)))) [
+      | true ↦ λ _. rest
+      | false ↦ λ e. both (below_all place_order (p.to, 0) (placed_changes ps)) _ (changes-below p.to ps is.2 (ends_before p ps is.1 e)) rest
+    ] refl)
 
 pub changes-placed : (ps : List Piece) → IsCanonical ps → IsTrue (is_sorted place_order (list_map placed_change (changes_of ps)))
 changes-placed ps is = holds _ (changes-sorted ps is)

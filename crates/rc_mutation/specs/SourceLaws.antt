@@ -88,9 +88,9 @@ IsJoinOf-source m changes is j = record {
   head = head-one m ∙ j.head;
   statics = statics-one m is ∙ j.statics;
   clustered = λ x.
-    let rows : joined_row (rows_in x (m.rows ++ [])) ≡ joined_row (rows_in x (all_rows changes)) = ap (λ rs. joined_row (rows_in x rs)) (append-nil m.rows ∙ j.rows) ∙ rows_in-joined_rows x (all_rows changes) in
-    let tombs : range_tomb (m.ranges ++ []) x ≡ range_tomb (all_pieces changes) x = ap (λ ps. range_tomb ps x) (append-nil m.ranges) ∙ j.ranges x in
-    λ i. (rows i, tombs i);
+      let rows : joined_row (rows_in x (m.rows ++ [])) ≡ joined_row (rows_in x (all_rows changes)) = ap (λ rs. joined_row (rows_in x rs)) (append-nil m.rows ∙ j.rows) ∙ rows_in-joined_rows x (all_rows changes) in
+      let tombs : range_tomb (m.ranges ++ []) x ≡ range_tomb (all_pieces changes) x = ap (λ ps. range_tomb ps x) (append-nil m.ranges) ∙ j.ranges x in
+      λ i. (rows i, tombs i);
 }
 
 -- ---- the source determines the mutation
@@ -107,8 +107,8 @@ found_row rows is q x e = (found (λ r. r ≢ empty_row) q rows is.written x e, 
 rows-determined : (xs ys : List (List Comp × Row)) → IsRows xs → IsRows ys → ((k : List Comp) → joined_row (rows_at k xs) ≡ joined_row (rows_at k ys)) → xs ≡ ys
 rows-determined xs ys g h is =
     same_rows xs ys (test_of _ g.ascend) (test_of _ h.ascend) (λ q.
-      same_found (find key_cmp q xs) (find key_cmp q ys) (found_row xs g q) (found_row ys h q)
-        (ap joined_row (sym (rows_at-ascending q xs (test_of _ g.ascend))) ∙ is q ∙ ap joined_row (rows_at-ascending q ys (test_of _ h.ascend))))
+    same_found (find key_cmp q xs) (find key_cmp q ys) (found_row xs g q) (found_row ys h q)
+    (ap joined_row (sym (rows_at-ascending q xs (test_of _ g.ascend))) ∙ is q ∙ ap joined_row (rows_at-ascending q ys (test_of _ h.ascend))))
 
 -- mutations that say the same at each place are equal
 pub source-determined : (m n : Mutation) → IsMutation m → IsMutation n → SameSource (m ∷ []) (n ∷ []) → m ≡ n
@@ -160,11 +160,11 @@ IsJoinOf-first m r xs ys j k = record {
   statics = k.statics ∙ ap (λ s. joined_row (s ∷ static_rows ys)) j.statics ∙ joined_row-first (static_rows xs) (static_rows ys) ∙ ap joined_row (sym (static_rows-append xs ys));
   rows = k.rows ∙ ap (λ rs. joined_rows (rs ++ all_rows ys)) j.rows ∙ joined_rows-first (all_rows xs) (all_rows ys) ∙ ap joined_rows (sym (all_rows-append xs ys));
   ranges = λ x.
-    k.ranges x
-    ∙ cover-append m.ranges (all_pieces ys) x
-    ∙ ap (λ t. greater tomb_cmp t (range_tomb (all_pieces ys) x)) (j.ranges x)
-    ∙ sym (cover-append (all_pieces xs) (all_pieces ys) x)
-    ∙ ap (λ ps. range_tomb ps x) (sym (all_pieces-append xs ys));
+      k.ranges x
+      ∙ cover-append m.ranges (all_pieces ys) x
+      ∙ ap (λ t. greater tomb_cmp t (range_tomb (all_pieces ys) x)) (j.ranges x)
+      ∙ sym (cover-append (all_pieces xs) (all_pieces ys) x)
+      ∙ ap (λ ps. range_tomb ps x) (sym (all_pieces-append xs ys));
 }
 
 range_tomb-swap : (ps qs : List Piece) (x : Pos) → range_tomb (ps ++ qs) x ≡ range_tomb (qs ++ ps) x
@@ -233,8 +233,8 @@ join-comm a b one other g h j k = IsJoinOf-same one other (b ∷ a ∷ []) g h (
 pub join-assoc : (a b c ab bc one other : Mutation) → IsMutation one → IsMutation other → IsJoinOf ab (a ∷ b ∷ []) → IsJoinOf one (ab ∷ c ∷ []) → IsJoinOf bc (b ∷ c ∷ []) → IsJoinOf other (a ∷ bc ∷ []) → one ≡ other
 join-assoc a b c ab bc one other g h ours left theirs right =
     IsJoinOf-same one other (a ∷ b ∷ c ∷ []) g h
-      (IsJoinOf-first ab one (a ∷ b ∷ []) (c ∷ []) ours left)
-      (IsJoinOf-swap other (b ∷ c ∷ []) (a ∷ []) (IsJoinOf-first bc other (b ∷ c ∷ []) (a ∷ []) theirs (IsJoinOf-swap other (a ∷ []) (bc ∷ []) right)))
+    (IsJoinOf-first ab one (a ∷ b ∷ []) (c ∷ []) ours left)
+    (IsJoinOf-swap other (b ∷ c ∷ []) (a ∷ []) (IsJoinOf-first bc other (b ∷ c ∷ []) (a ∷ []) theirs (IsJoinOf-swap other (a ∷ []) (bc ∷ []) right)))
 
 pub join-same : (a one : Mutation) → IsMutation a → IsMutation one → IsJoinOf one (a ∷ a ∷ []) → one ≡ a
 join-same a one g h j = IsJoinOf-same one a (a ∷ []) h g (IsJoinOf-twice one (a ∷ []) j) (IsJoinOf-one a g)

@@ -41,41 +41,35 @@ pub fn joined_rows_by_key()
 /// What writes join to says at each place of the partition what the writes say.
 pub fn a_join_says_what_the_writes_say()
     ensures { (mutation : Mutation) (changes : List Mutation) → IsMutation mutation → IsJoinOf mutation changes →
-      SameSource (mutation ∷ []) changes }
-{
-}
+        SameSource (mutation ∷ []) changes }
+{}
 
 /// Mutations that say the same at each place are equal, and so have the same fragments.
 pub fn the_source_determines_the_mutation()
     ensures { (mutation other : Mutation) → IsMutation mutation → IsMutation other →
-      SameSource (mutation ∷ []) (other ∷ []) → mutation ≡ other }
-{
-}
+        SameSource (mutation ∷ []) (other ∷ []) → mutation ≡ other }
+{}
 
 /// Any first part of the writes may be joined first.
 pub fn a_first_part_may_be_joined_first()
     ensures { (part whole : Mutation) (first rest : List Mutation) → IsJoinOf part first →
-      IsJoinOf whole (part ∷ rest) → IsJoinOf whole (first ++ rest) }
-{
-}
+        IsJoinOf whole (part ∷ rest) → IsJoinOf whole (first ++ rest) }
+{}
 
 /// Joining is commutative.
 pub fn joining_is_commutative()
     ensures { (a b one other : Mutation) → IsMutation one → IsMutation other →
-      IsJoinOf one (a ∷ b ∷ []) → IsJoinOf other (b ∷ a ∷ []) → one ≡ other }
-{
-}
+        IsJoinOf one (a ∷ b ∷ []) → IsJoinOf other (b ∷ a ∷ []) → one ≡ other }
+{}
 
 /// Joining is associative.
 pub fn joining_is_associative()
     ensures { (a b c ab bc one other : Mutation) → IsMutation one → IsMutation other →
-      IsJoinOf ab (a ∷ b ∷ []) → IsJoinOf one (ab ∷ c ∷ []) →
-      IsJoinOf bc (b ∷ c ∷ []) → IsJoinOf other (a ∷ bc ∷ []) → one ≡ other }
-{
-}
+        IsJoinOf ab (a ∷ b ∷ []) → IsJoinOf one (ab ∷ c ∷ []) →
+        IsJoinOf bc (b ∷ c ∷ []) → IsJoinOf other (a ∷ bc ∷ []) → one ≡ other }
+{}
 
 /// Joining is idempotent.
 pub fn joining_is_idempotent()
     ensures { (a one : Mutation) → IsMutation a → IsMutation one → IsJoinOf one (a ∷ a ∷ []) → one ≡ a }
-{
-}
+{}

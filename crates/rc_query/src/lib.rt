@@ -6,8 +6,10 @@ mod compactor;
 pub mod laws;
 mod lines;
 mod shown;
+#[cfg(test)]
+mod tests;
 
-pub use compactor::Compactor;
 pub use answers::{answer_of, shown_rows};
+pub use compactor::Compactor;
 pub use lines::{Lines, OutLine};
 pub use shown::Shown;

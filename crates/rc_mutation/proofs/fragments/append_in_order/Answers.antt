@@ -9,10 +9,10 @@ use Rattle.rc_mutation.proofs.fragments.append_in_order.Goals.{in_default, in_de
 pub returns : goal.returns
 returns c =
     let ended : (length c.loop-rows.rows.now < 1) ⊎ (length c.loop-rows.changes.now < 1) =
-      elim c.if-rows-lt1.branch [ in_default w ↦ inl (omega arith) | in_default-2 w ↦ inr (grind arith) ] in
+    elim c.if-rows-lt1.branch [ in_default w ↦ inl (omega arith) | in_default-2 w ↦ inr (grind arith) ] in
     on_ok c.append_changes.result
-      (λ made.
-        made
-        ∙ ap (λ fs. fs ++ map (λ c. frag.Change c.0 c.1) c.loop-rows.changes.now) c.in_ok-append_rows.ensures
-        ∙ made-in_order c.loop-rows.made.items c.args.made.now.items c.args.rows.now c.loop-rows.rows.now c.args.changes.now c.loop-rows.changes.now c.requires.rows c.requires.changes c.loop-rows.invariant ended)
-      c.append_changes.ensures
+    (λ made.
+    made
+    ∙ ap (λ fs. fs ++ map (λ c. frag.Change c.0 c.1) c.loop-rows.changes.now) c.in_ok-append_rows.ensures
+    ∙ made-in_order c.loop-rows.made.items c.args.made.now.items c.args.rows.now c.loop-rows.rows.now c.args.changes.now c.loop-rows.changes.now c.requires.rows c.requires.changes c.loop-rows.invariant ended)
+    c.append_changes.ensures

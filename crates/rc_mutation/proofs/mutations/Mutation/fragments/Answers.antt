@@ -23,7 +23,7 @@ returns c =
     c.of.ensures
     ∙ c.in_ok-push-2.ensures.items
     ∙ ap (λ fs. fs ++ frag.End ∷ [])
-      (c.in_ok-append_in_order.ensures
-      ∙ (λ i. c.push_statics.new.made.items ++ in_order (map placed_row (rows i) ++ map placed_change (changes i)))
-      ∙ ap (λ fs. fs ++ in_order (map placed_row m.rows ++ map placed_change (changes_of m.ranges)))
-        (c.in_ok-push_statics.ensures ∙ ap (λ fs. fs ++ static_fragment m.statics) (c.in_ok-push.ensures.items ∙ ap (λ fs. fs ++ frag.Start m.pt ∷ []) c.new-made.ensures.items)))
+    (c.in_ok-append_in_order.ensures
+    ∙ (λ i. c.push_statics.new.made.items ++ in_order (map placed_row (rows i) ++ map placed_change (changes i)))
+    ∙ ap (λ fs. fs ++ in_order (map placed_row m.rows ++ map placed_change (changes_of m.ranges)))
+    (c.in_ok-push_statics.ensures ∙ ap (λ fs. fs ++ static_fragment m.statics) (c.in_ok-push.ensures.items ∙ ap (λ fs. fs ++ frag.Start m.pt ∷ []) c.new-made.ensures.items)))
