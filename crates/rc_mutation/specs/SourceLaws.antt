@@ -4,14 +4,13 @@
 --     IsJoinOf-first           any first part of writes may be joined first
 --     IsJoinOf-swap, IsJoinOf-twice       in either order, and the same writes again change nothing
 --     IsJoinOf-same            writes join to one mutation
-use Rattle.std.specs.Prelude.{◌≡◌, ◌≢◌, ℕ, All, Bool, true, false, List, [], ◌∷◌, ◌++◌, Option, Some, None, cond, map as list_map, IsTrue}
-use Rattle.std.proofs.Common.{refl, sym, ap, ◌∙◌, subst, T, append-nil}
-use Rattle.std.specs.declared.cmp.Ordering.{Ordering}
+use Rattle.std.specs.Prelude.{◌≡◌, ◌≢◌, false, List, [], ◌∷◌, ◌++◌, Option, Some, None, cond, map as list_map, IsTrue}
+use Rattle.std.proofs.Common.{refl, sym, ap, ◌∙◌, append-nil}
 use Rattle.std.specs.declared.cmp.Ordering.TheVariants.{Less, Equal, Greater}
 use Rattle.std.specs.Ordering.{is_eq, eq_by_cmp}
 use Rattle.std.specs.Option.{option_to_list}
-use Rattle.std.specs.List.{filter, filter_map, flat_map, cons_option}
-use Rattle.std.specs.FinMap.{find, is_sorted}
+use Rattle.std.specs.List.{filter, cons_option}
+use Rattle.std.specs.FinMap.{find}
 use Rattle.std.proofs.lemmas.List.Elements.{filter_map-append}
 use Rattle.std.proofs.lemmas.Grind.{flat_map-append}
 use Rattle.rc_cell.specs.declared.rows.Row.{Row}
@@ -30,14 +29,13 @@ use Rattle.rc_position.specs.declared.positions.Weight.TheVariants.{Before, At, 
 use Rattle.rc_position.specs.OrderLaws.{pos_cmp_same}
 use Rattle.rc_position.specs.Position.{key_cmp, pos_cmp, row_pos}
 use Rattle.rc_ranges.specs.declared.pieces.Piece.{Piece}
-use Rattle.rc_ranges.specs.Cover.{IsCanonical, IsBoundOf}
 use Rattle.rc_ranges.specs.Cover.{cover as range_tomb}
 use Rattle.rc_ranges.proofs.Covering.{cover-append}
 use Rattle.rc_ranges.proofs.Determined.{determined}
 use Rattle.rc_mutation.specs.declared.mutations.Mutation.{Mutation}
 use Rattle.rc_mutation.specs.ByKey.{rows_at-joined_rows, rows_at-ascending, joined_if_any, same_rows}
 use Rattle.rc_mutation.specs.RowsLaws.{found, joined_rows-again, joined_rows-append, joined_rows-rows, joined_rows-swap, joined_rows-twice}
-use Rattle.rc_mutation.specs.Source.{all_pieces, all_rows, IsJoinOf, IsMutation, IsRows, joined_rows, partition_tombs, rows_at, rows_in, SameSource, source_at, source_at_head, source_at_static, static_rows}
+use Rattle.rc_mutation.specs.Source.{all_pieces, all_rows, IsJoinOf, IsMutation, IsRows, joined_rows, partition_tombs, rows_at, rows_in, SameSource, source_at_head, source_at_static, static_rows}
 
 cons_one : {X : Type 0} (s : Option X) → cons_option s [] ≡ option_to_list s
 cons_one None = refl

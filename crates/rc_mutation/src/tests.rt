@@ -25,7 +25,7 @@ fn marked(alloc: Global, ts: i64) -> Row
 fn every(alloc: Global, step: i16) -> Result<Mutation, AllocError> {
     let mut made = Mutation::empty(alloc);
     for n in 0..10_000i64 {
-        let key = key(alloc, i64::from(step) * n)?;
+        let key = key(alloc, i64::from(step).wrapping_mul(n))?;
         made.rows.join_row(alloc, &key, &marked(alloc, n))?;
     }
     Ok(made)

@@ -3,7 +3,6 @@ use Rattle.std.specs.Prelude.{Bool, ◌&&◌, List, [], ◌∷◌, ◌++◌, Opt
 use Rattle.std.specs.Ordering.{is_lt}
 use Rattle.std.specs.Option.{option_map, option_to_list}
 use Rattle.std.specs.List.{cons_option}
-use Rattle.rc_cell.specs.declared.rows.Row.{Row}
 use Rattle.rc_cell.specs.declared.writes.Tomb.{Tomb}
 use Rattle.rc_cell.specs.Greatest.{greater}
 use Rattle.rc_cell.specs.Orders.{tomb_cmp}

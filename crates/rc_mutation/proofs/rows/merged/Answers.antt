@@ -1,7 +1,6 @@
 -- At the end one side is empty, and what was made is the joined rows, which keep the order.
-use Rattle.std.proofs.Common.{ap, ◌∙◌, ◌≡◌, ◌++◌, ◌⊎◌, ◌<◌, length, inl, inr, arith, subst, sym}
-use Rattle.std.proofs.lemmas.Grind.{common_steps}
-use Rattle.rc_mutation.specs.Rows.{IsRows, joined_rows}
+use Rattle.std.proofs.Common.{ap, ◌∙◌, ◌++◌, ◌⊎◌, ◌<◌, length, inl, inr, arith, subst, sym}
+use Rattle.rc_mutation.specs.Rows.{IsRows}
 use Rattle.rc_mutation.proofs.RowsMerge.{made-joined, joined-rows}
 use Rattle.rc_mutation.proofs.rows.merged.Goals as goal
 use Rattle.rc_mutation.proofs.rows.merged.Goals.{in_default, in_default-2}

@@ -1,5 +1,5 @@
 -- The parts, one behind the other.
-use Rattle.std.proofs.Common.{◌≡◌, [], ◌∷◌, ◌++◌, map, IsTrue, subst, sym, ap, ◌∙◌}
+use Rattle.std.proofs.Common.{[], ◌∷◌, ◌++◌, map, IsTrue, subst, sym, ap, ◌∙◌}
 use Rattle.std.specs.FinMap.{is_sorted}
 use Rattle.rc_mutation.specs.declared.fragments.Frag.TheVariants as frag
 use Rattle.rc_mutation.specs.Fragments.{changes_of, fragments, in_order, place_order, placed_change, placed_row, static_fragment}
