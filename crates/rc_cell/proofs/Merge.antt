@@ -1,20 +1,19 @@
 -- Two ascending lists of cells merged: what the merging loop goes by, and that it gives the winners of both.
-use Rattle.std.proofs.Common.{◌⊎◌, ⊎_elim, length, ◌<◌, arith, append_assoc, ◌≡◌, ℕ, Bool, true, false, ◌&&◌, List, [], ◌∷◌, ◌++◌, Option, Some, None, cond, refl, sym, ap, ◌∙◌, subst, T, append-nil}
+use Rattle.std.proofs.Common.{◌⊎◌, ⊎_elim, length, ◌<◌, arith, append_assoc, ◌≡◌, ℕ, Bool, true, false, List, [], ◌∷◌, ◌++◌, Option, Some, None, cond, refl, sym, ap, ◌∙◌, subst, T, append-nil}
 use Rattle.std.specs.Prelude.{IsTrue}
 use Rattle.std.specs.declared.cmp.Ordering.{Ordering}
 use Rattle.std.specs.declared.cmp.Ordering.TheVariants.{Less, Equal, Greater}
-use Rattle.std.specs.Ordering.{nat_cmp, is_lt, is_eq, eq_by_cmp, match_ordering, ordering_reverse}
-use Rattle.std.specs.Option.{option_to_list}
+use Rattle.std.specs.Ordering.{nat_cmp, is_lt, eq_by_cmp, match_ordering, ordering_reverse}
 use Rattle.std.specs.Cmp.{nat_cmp_total}
 use Rattle.std.specs.FinMap.{find, is_sorted, nat_cmp-IsAntisymmetric}
 use Rattle.std.specs.FinMap.Entries.{below_all}
 use Rattle.rc_cell.specs.declared.writes.Cell.{Cell}
 use Rattle.rc_cell.specs.Orders.{cell_cmp}
 use Rattle.rc_cell.specs.Columns.{ascending}
-use Rattle.rc_cell.specs.Winner.{winner, winners, at_column}
+use Rattle.rc_cell.specs.Winner.{winner, winners}
 use Rattle.rc_cell.specs.Greatest.{greater}
 use Rattle.rc_cell.specs.Beats.{winner-two}
-use Rattle.rc_cell.specs.ByColumn.{holds, test_of, both, first, second, same_column, at_column-append, at_column-ascending, find-winners, ascending-winners, same_cells}
+use Rattle.rc_cell.specs.ByColumn.{holds, test_of, both, first, second, less, find-below, same_column, at_column-append, at_column-ascending, find-winners, ascending-winners, same_cells}
 
 -- the winner of two
 abbrev pub pick : Cell → Cell → Cell
@@ -39,32 +38,16 @@ is_less Less e = tt
 is_less Equal e = absurd (cc)
 is_less Greater e = absurd (cc)
 
-less : (r : Ordering) → T (is_lt r) → r ≡ Less
-less Less h = refl
-less Equal h = absurd h
-less Greater h = absurd h
-
 below_less : (x y : ℕ) (es : List (ℕ × Cell)) → nat_cmp x y ≡ Less → T (below_all nat_cmp y es) → T (below_all nat_cmp x es)
 below_less x y [] p h = tt
 below_less x y (e ∷ es) p h =
     both (is_lt (nat_cmp x e.0)) (below_all nat_cmp x es)
-      (is_less _ (nat_cmp_total.trans x y e.0 p (less (nat_cmp y e.0) (first (is_lt (nat_cmp y e.0)) (below_all nat_cmp y es) h))))
-      (below_less x y es p (second (is_lt (nat_cmp y e.0)) (below_all nat_cmp y es) h))
+    (is_less _ (nat_cmp_total.trans x y e.0 p (less (nat_cmp y e.0) (first (is_lt (nat_cmp y e.0)) (below_all nat_cmp y es) h))))
+    (below_less x y es p (second (is_lt (nat_cmp y e.0)) (below_all nat_cmp y es) h))
 
 -- a column below the first of an ascending list is below all of it
 below_first : (x : ℕ) (e : ℕ × Cell) (es : List (ℕ × Cell)) → nat_cmp x e.0 ≡ Less → T (is_sorted nat_cmp (e ∷ es)) → T (below_all nat_cmp x (e ∷ es))
 below_first x e es p h = both (is_lt (nat_cmp x e.0)) (below_all nat_cmp x es) (is_less _ p) (below_less x e.0 es p (first (below_all nat_cmp e.0 es) (is_sorted nat_cmp es) h))
-
-not_level : (r : Ordering) → r ≡ Less → is_eq r ≡ false
-not_level Less e = refl
-not_level Equal e = absurd (cc)
-not_level Greater e = absurd (cc)
-
-find-below : (q : ℕ) (es : List (ℕ × Cell)) → T (below_all nat_cmp q es) → find nat_cmp q es ≡ None
-find-below q [] h = refl
-find-below q (e ∷ es) h =
-    ap (λ b. cond b (Some e.1) (find nat_cmp q es)) (not_level (nat_cmp q e.0) (less (nat_cmp q e.0) (first (is_lt (nat_cmp q e.0)) (below_all nat_cmp q es) h)))
-    ∙ find-below q es (second (is_lt (nat_cmp q e.0)) (below_all nat_cmp q es) h)
 
 greater_none : (s : Option Cell) → s ≡ greater cell_cmp s None
 greater_none None = refl
@@ -152,13 +135,13 @@ sorted-merge (a ∷ os) bs g h = sorted-merge_into a os g (λ cs k. sorted-merge
 pub merge-winners : (os bs : List (ℕ × Cell)) → IsTrue (ascending os) → IsTrue (ascending bs) → merge os bs ≡ winners (os ++ bs)
 merge-winners os bs g h =
     same_cells (merge os bs) (winners (os ++ bs)) (holds _ (sorted-merge os bs (test_of _ g) (test_of _ h))) (ascending-winners (os ++ bs)) (λ q.
-      find-merge q os bs (test_of _ g) (test_of _ h)
-      ∙ sym (winner-two (find nat_cmp q os) (find nat_cmp q bs))
-      ∙ sym (
-        find-winners q (os ++ bs)
-        ∙ ap winner (at_column-append q os bs)
-        ∙ (λ i. winner (at_column-ascending q os (test_of _ g) i ++ at_column-ascending q bs (test_of _ h) i))
-      ))
+    find-merge q os bs (test_of _ g) (test_of _ h)
+    ∙ sym (winner-two (find nat_cmp q os) (find nat_cmp q bs))
+    ∙ sym (
+    find-winners q (os ++ bs)
+    ∙ ap winner (at_column-append q os bs)
+    ∙ (λ i. winner (at_column-ascending q os (test_of _ g) i ++ at_column-ascending q bs (test_of _ h) i))
+    ))
 
 pub winner-pair : (c d : Cell) → winner (c ∷ d ∷ []) ≡ Some (pick c d)
 winner-pair c d = winner-two (Some c) (Some d)

@@ -1,16 +1,15 @@
 -- The order of cells agrees with the rules of reconciliation, and the winner does not depend on the order of the cells.
-use Rattle.std.specs.Prelude.{ℕ, ℤ, Bool, true, false, not, ◌&&◌, ◌||◌, ◌==◌, nat_lt, int_lt, List, [], ◌∷◌, ◌++◌, Option, Some, None, cond, map as list_map, IsTrue, ◌≡◌}
-use Rattle.std.proofs.Common.{refl, sym, ap, ◌∙◌, subst}
+use Rattle.std.specs.Prelude.{ℕ, ℤ, Bool, true, false, ◌&&◌, ◌||◌, ◌==◌, nat_lt, int_lt, List, [], ◌∷◌, ◌++◌, Option, None, cond, ◌≡◌}
+use Rattle.std.proofs.Common.{refl, sym, ap, ◌∙◌}
 use Rattle.std.specs.declared.cmp.Ordering.{Ordering}
 use Rattle.std.specs.declared.cmp.Ordering.TheVariants.{Less, Equal, Greater}
-use Rattle.std.specs.Ordering.{nat_cmp, int_cmp, int_eq, is_lt, is_gt, is_eq, ordering_then, ordering_reverse, eq_by_cmp}
+use Rattle.std.specs.Ordering.{nat_cmp, int_cmp, int_eq, is_lt, is_gt, is_eq, ordering_then, ordering_reverse}
 use Rattle.std.specs.Cmp.{unsigned_tied, int_cmp_total, nat_cmp_total}
 use Rattle.std.specs.Cmp.Lexicographic.{slice_cmp}
 use Rattle.rc_cell.specs.declared.writes.Cell.{Cell}
 use Rattle.rc_cell.specs.declared.writes.Cell.TheVariants.{Live, Dead}
 use Rattle.std.specs.FinMap.{IsAntisymmetric, int_cmp-IsAntisymmetric, nat_cmp-IsAntisymmetric, slice_cmp-IsAntisymmetric}
 use Rattle.std.specs.Option.{option_to_list}
-use Rattle.rc_cell.specs.declared.writes.Tomb.{Tomb}
 use Rattle.rc_cell.specs.Orders.{timestamp_of, rank_of, bytes_of, deletion_time_of, cell_cmp, cell_cmp_total, tomb_cmp}
 use Rattle.rc_cell.specs.Greatest.{greater, greatest-append, greatest-swap, greatest-twice, greatest-one, greatest-two}
 use Rattle.rc_cell.specs.Winner.{is_larger, beats_at_tie, beats, unbeaten, winner, greatest}
@@ -74,9 +73,9 @@ rest-above (Dead ts time) (Dead ts' time') = nat_cmp-above time time'
 pub beats-is_gt : (c d : Cell) → beats c d ≡ is_gt (cell_cmp c d)
 beats-is_gt c d =
     sym (
-      ap is_gt (regrouped (int_cmp (timestamp_of c) (timestamp_of d)) _ _ _)
-      ∙ above_then (int_cmp (timestamp_of c) (timestamp_of d)) (rest_cmp c d)
-      ∙ (λ i. int_cmp-above (timestamp_of c) (timestamp_of d) i || (int_eq (timestamp_of c) (timestamp_of d) && rest-above c d i))
+    ap is_gt (regrouped (int_cmp (timestamp_of c) (timestamp_of d)) _ _ _)
+    ∙ above_then (int_cmp (timestamp_of c) (timestamp_of d)) (rest_cmp c d)
+    ∙ (λ i. int_cmp-above (timestamp_of c) (timestamp_of d) i || (int_eq (timestamp_of c) (timestamp_of d) && rest-above c d i))
     )
 
 -- so the winner is the greatest in that order

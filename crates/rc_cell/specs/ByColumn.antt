@@ -1,6 +1,6 @@
 -- Cells by column: what `winners` has at a column, and that it ascends. Its laws are those of the winner, column by column.
 use Rattle.std.specs.Prelude.{ℕ, Bool, true, false, ◌&&◌, ◌||◌, ◌==◌, List, [], ◌∷◌, ◌++◌, Option, Some, None, is_some, cond, map as list_map, IsTrue, ◌≡◌}
-use Rattle.std.proofs.Common.{refl, sym, ap, ◌∙◌, subst, T}
+use Rattle.std.proofs.Common.{refl, sym, ap, ◌∙◌, T}
 use Rattle.std.specs.declared.cmp.Ordering.{Ordering}
 use Rattle.std.specs.declared.cmp.Ordering.TheVariants.{Less, Equal, Greater}
 use Rattle.std.specs.Ordering.{nat_cmp, is_lt, is_eq, eq_by_cmp}
@@ -76,6 +76,23 @@ tie Greater e = absurd (cc)
 
 pub same_column : (q k : ℕ) → eq_by_cmp nat_cmp q k ≡ true → q ≡ k
 same_column q k e = nat_cmp-IsAntisymmetric q k (tie (nat_cmp q k) e)
+
+pub less : (r : Ordering) → T (is_lt r) → r ≡ Less
+less Less h = refl
+less Equal h = absurd h
+less Greater h = absurd h
+
+not_level : (r : Ordering) → r ≡ Less → is_eq r ≡ false
+not_level Less e = refl
+not_level Equal e = absurd (cc)
+not_level Greater e = absurd (cc)
+
+-- a column below all of a list has no cell there
+pub find-below : (q : ℕ) (es : List (ℕ × Cell)) → T (below_all nat_cmp q es) → find nat_cmp q es ≡ None
+find-below q [] h = refl
+find-below q (e ∷ es) h =
+    ap (λ b. cond b (Some e.1) (find nat_cmp q es)) (not_level (nat_cmp q e.0) (less (nat_cmp q e.0) (first (is_lt (nat_cmp q e.0)) (below_all nat_cmp q es) h)))
+    ∙ find-below q es (second (is_lt (nat_cmp q e.0)) (below_all nat_cmp q es) h)
 
 -- in an ascending list a column has at most one cell
 pub at_column-ascending : (q : ℕ) (es : List (ℕ × Cell)) → T (is_sorted nat_cmp es) → at_column q es ≡ option_to_list (find nat_cmp q es)
@@ -169,9 +186,9 @@ same_winners es fs is = same_cells (winners es) (winners fs) (ascending-winners 
 pub winners-append : (xs ys : List (ℕ × Cell)) → winners (xs ++ ys) ≡ winners (winners xs ++ winners ys)
 winners-append xs ys =
     same_winners _ _ (λ q.
-      ap winner (at_column-append q xs ys)
-      ∙ winner-append (at_column q xs) (at_column q ys)
-      ∙ sym (ap winner (at_column-append q (winners xs) (winners ys)) ∙ (λ i. winner (at_column-winners q xs i ++ at_column-winners q ys i))))
+    ap winner (at_column-append q xs ys)
+    ∙ winner-append (at_column q xs) (at_column q ys)
+    ∙ sym (ap winner (at_column-append q (winners xs) (winners ys)) ∙ (λ i. winner (at_column-winners q xs i ++ at_column-winners q ys i))))
 
 pub winners-swap : (xs ys : List (ℕ × Cell)) → winners (xs ++ ys) ≡ winners (ys ++ xs)
 winners-swap xs ys = same_winners _ _ (λ q. ap winner (at_column-append q xs ys) ∙ winner-swap (at_column q xs) (at_column q ys) ∙ sym (ap winner (at_column-append q ys xs)))

@@ -1,5 +1,5 @@
 -- What a tombstone deletes of a row, and when a row is live.
-use Rattle.std.specs.Prelude.{ℕ, ℤ, Bool, true, false, cond, ◌||◌, is_some, int_lt, List, ◌++◌, Option, Some, None, if◌then◌else◌}
+use Rattle.std.specs.Prelude.{ℕ, ℤ, Bool, true, ◌||◌, is_some, int_lt, List, ◌++◌, Option, Some, None, if◌then◌else◌}
 use Rattle.std.specs.Option.{option_to_list}
 use Rattle.std.specs.List.{filter, list_any}
 use Rattle.rc_cell.specs.declared.writes.Cell.{Cell}
@@ -25,6 +25,10 @@ surviving_marker tomb (Some ts) = if survives tomb ts then Some ts else None
 -- the cells that survive
 abbrev pub surviving_cells : Option Tomb → List (ℕ × Cell) → List (ℕ × Cell)
 surviving_cells tomb cells = filter (λ e. survives tomb (timestamp_of e.1)) cells
+
+abbrev pub surviving_cell : Option Tomb → Option Cell → Option Cell
+surviving_cell tomb None = None
+surviving_cell tomb (Some cell) = if survives tomb (timestamp_of cell) then Some cell else None
 
 -- what a covering tombstone leaves of a row: its own tombstone, and the marker and the cells that survive
 unfoldable pub shadowed_row : Option Tomb → Row → Row

@@ -1,6 +1,6 @@
 -- What `greatest` gives in a total order in which only equal values tie.
-use Rattle.std.specs.Prelude.{Bool, true, false, not, ◌&&◌, ◌||◌, List, [], ◌∷◌, ◌++◌, Option, Some, None, is_some, if◌then◌else◌, cond}
-use Rattle.std.proofs.Common.{◌≡◌, refl, sym, ap, ◌∙◌, subst}
+use Rattle.std.specs.Prelude.{Bool, true, false, not, ◌&&◌, ◌||◌, List, [], ◌∷◌, ◌++◌, Option, Some, None, is_some, cond}
+use Rattle.std.proofs.Common.{◌≡◌, refl, sym, ap, ◌∙◌}
 use Rattle.std.specs.declared.cmp.Ordering.{Ordering}
 use Rattle.std.specs.declared.cmp.Ordering.TheVariants.{Less, Equal, Greater}
 use Rattle.std.specs.Ordering.{is_lt, is_gt, ordering_reverse}
@@ -8,7 +8,7 @@ use Rattle.std.specs.Option.{option_to_list}
 use Rattle.std.specs.List.{filter, list_any, list_all}
 use Rattle.std.specs.Cmp.{IsTotalOrder, upto, tied_itself}
 use Rattle.std.specs.FinMap.{IsAntisymmetric}
-use Rattle.rc_cell.specs.Winner.{first_of, unbeaten, greatest}
+use Rattle.rc_cell.specs.Winner.{first_of, greatest}
 
 -- the greater of two values, where there are any
 abbrev pub greater : {K : Type 0} → (K → K → Ordering) → Option K → Option K → Option K
@@ -199,15 +199,15 @@ module _ {K : Type 0} {R : K → K → Ordering} (o : IsTotalOrder R) where
     pub greatest-append : (xs ys : List K) → greatest R (xs ++ ys) ≡ greatest R (option_to_list (greatest R xs) ++ option_to_list (greatest R ys))
     greatest-append xs ys =
         same_greatest _ _
-          (is_nil-append xs ys ∙ sym (is_nil-append (option_to_list (top R xs)) (option_to_list (top R ys)) ∙ (λ i. is_nil-top xs i && is_nil-top ys i)))
-          (λ x. list_all-append _ xs ys ∙ sym (list_all-append _ (option_to_list (top R xs)) (option_to_list (top R ys)) ∙ (λ i. bounds-top xs x i && bounds-top ys x i)))
+        (is_nil-append xs ys ∙ sym (is_nil-append (option_to_list (top R xs)) (option_to_list (top R ys)) ∙ (λ i. is_nil-top xs i && is_nil-top ys i)))
+        (λ x. list_all-append _ xs ys ∙ sym (list_all-append _ (option_to_list (top R xs)) (option_to_list (top R ys)) ∙ (λ i. bounds-top xs x i && bounds-top ys x i)))
         ∙ sym (λ i. greatest R (option_to_list (greatest-top xs i) ++ option_to_list (greatest-top ys i)))
 
     pub greatest-swap : (xs ys : List K) → greatest R (xs ++ ys) ≡ greatest R (ys ++ xs)
     greatest-swap xs ys =
         same_greatest _ _
-          (is_nil-append xs ys ∙ and_comm (is_nil xs) (is_nil ys) ∙ sym (is_nil-append ys xs))
-          (λ x. list_all-append _ xs ys ∙ and_comm (list_all (λ y. at_most y x) xs) (list_all (λ y. at_most y x) ys) ∙ sym (list_all-append _ ys xs))
+        (is_nil-append xs ys ∙ and_comm (is_nil xs) (is_nil ys) ∙ sym (is_nil-append ys xs))
+        (λ x. list_all-append _ xs ys ∙ and_comm (list_all (λ y. at_most y x) xs) (list_all (λ y. at_most y x) ys) ∙ sym (list_all-append _ ys xs))
 
     pub greatest-twice : (xs : List K) → greatest R (xs ++ xs) ≡ greatest R xs
     greatest-twice xs = same_greatest _ _ (is_nil-append xs xs ∙ and_same _) (λ x. list_all-append _ xs xs ∙ and_same _)

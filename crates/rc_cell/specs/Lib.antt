@@ -4,5 +4,6 @@ pub mod Columns
 pub mod Greatest
 pub mod Laws
 pub mod Orders
+pub mod Survivors
 pub mod Winner
 pub mod Deletion

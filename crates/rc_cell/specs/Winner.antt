@@ -1,5 +1,5 @@
 -- Which write wins: the reconciliation that Cassandra and ScyllaDB share. This is the one place where its rules stand.
-use Rattle.std.specs.Prelude.{ℕ, ℤ, Bool, true, false, not, ◌&&◌, ◌||◌, ◌==◌, nat_lt, int_lt, List, [], ◌∷◌, Option, Some, None, IsTrue}
+use Rattle.std.specs.Prelude.{ℕ, ℤ, Bool, true, false, not, ◌&&◌, ◌||◌, ◌==◌, nat_lt, int_lt, List, [], ◌∷◌, Option, Some, None, IsTrue, ◌≡◌}
 use Rattle.std.specs.declared.cmp.Ordering.{Ordering}
 use Rattle.std.specs.Ordering.{nat_cmp, int_cmp, int_eq, is_gt}
 use Rattle.std.specs.Prelude.{map as list_map}
@@ -38,7 +38,7 @@ first_of (x ∷ xs) = Some x
 
 -- the member of a list that no other member beats; none of an empty list
 abbrev pub unbeaten : {X : Type 0} → (X → X → Bool) → List X → Option X
-unbeaten beaten_by xs = first_of (filter (λ x. list_all (λ y. not (beaten_by y x)) xs) xs)
+unbeaten wins xs = first_of (filter (λ x. list_all (λ y. not (wins y x)) xs) xs)
 
 -- the winner among the cells of a column
 unfoldable pub winner : List Cell → Option Cell
@@ -89,3 +89,7 @@ empty_row = record { marker = None; tomb = None; cells = [] }
 -- a row whose cells strictly ascend by column, as those of every value of the type do
 abbrev pub IsRow : Row → Type 0
 IsRow row = IsTrue (ascending row.cells)
+
+-- a row says no more than another: joined to it, it changes nothing
+abbrev pub SaysNoMore : Row → Row → Type 0
+SaysNoMore row other = joined_row (row ∷ other ∷ []) ≡ other

@@ -1,5 +1,4 @@
-ghost use Rattle.std.specs.Prelude.{◌≡◌, [], ◌∷◌, ◌++◌, IfOk, OnOk, IsTrue};
-ghost use Rattle.std.specs.Prelude.{◌&&◌};
+ghost use Rattle.std.specs.Prelude.{◌≡◌, [], ◌∷◌, ◌++◌, ◌&&◌, IfOk, OnOk, IsTrue};
 ghost use Rattle.std.specs.List.{list_any};
 ghost use Rattle.rc_cell.specs.Columns.{ascending};
 ghost use Rattle.rc_cell.specs.Orders.{timestamp_of, is_live_cell};
@@ -65,7 +64,9 @@ impl Cells {
 
     // The winner of each column among these cells and the others.
     pub(crate) fn joined(&self, alloc: Global, other: &Cells) -> Result<Cells, AllocError>
-        ensures { IfOk result (λ cells. cells ≡ winners (self.now ++ other.now)) }
+        ensures ok { IfOk result (λ cells. cells ≡ winners (self.now ++ other.now)) }
+        ensures ours { IsTrue (ascending self.now) }
+        ensures theirs { IsTrue (ascending other.now) }
     {
         let items = merged(alloc, self.as_slice(), other.as_slice())?;
         Ok(Cells { items })
@@ -83,12 +84,18 @@ impl Cells {
     pub(crate) fn has_live(&self, tomb: Option<Tomb>) -> bool
         ensures { result ≡ list_any (λ e. survives tomb (timestamp_of e.1) && is_live_cell e.1) self.now }
     {
-        self.items.iter().any(|item| is_above(tomb, item.1.ts()) && item.1.is_live())
+        self.items
+            .iter()
+            .any(|item| is_above(tomb, item.1.ts()) && item.1.is_live())
     }
 }
 
 // The pairs whose cells survive the tombstone, each in its own memory.
-fn surviving_of(alloc: Global, items: &[(u8, Cell)], tomb: Option<Tomb>) -> Result<Vec<(u8, Cell)>, AllocError>
+fn surviving_of(
+    alloc: Global,
+    items: &[(u8, Cell)],
+    tomb: Option<Tomb>,
+) -> Result<Vec<(u8, Cell)>, AllocError>
     ensures { IfOk result (λ made. made.items ≡ surviving_cells tomb items.now) }
 {
     let mut made = Vec::new(alloc);
@@ -101,7 +108,11 @@ fn surviving_of(alloc: Global, items: &[(u8, Cell)], tomb: Option<Tomb>) -> Resu
 }
 
 // The winner of each column among ours and theirs, by ascending column, each in its own memory.
-fn merged(alloc: Global, ours: &[(u8, Cell)], theirs: &[(u8, Cell)]) -> Result<Vec<(u8, Cell)>, AllocError>
+fn merged(
+    alloc: Global,
+    ours: &[(u8, Cell)],
+    theirs: &[(u8, Cell)],
+) -> Result<Vec<(u8, Cell)>, AllocError>
     requires ours_ascend { IsTrue (ascending ours.now) }
     requires theirs_ascend { IsTrue (ascending theirs.now) }
     ensures { IfOk result (λ made. made.items ≡ winners (ours.now ++ theirs.now)) }

@@ -8,43 +8,36 @@ ghost use Rattle.rc_cell.specs.Winner.{beats, joined_row, empty_row, IsRow};
 /// A cell beats another by the rules of reconciliation exactly where it is the greater in the order of cells.
 pub fn order_follows_rules()
     ensures { (c d : Cell) → beats c d ≡ is_gt (cell_cmp c d) }
-{
-}
+{}
 
 /// Joining is commutative: of any two lists of rows either may come first.
 pub fn join_is_commutative()
     ensures { (rows others : List Row) → joined_row (rows ++ others) ≡ joined_row (others ++ rows) }
-{
-}
+{}
 
 /// Joining is associative: any two parts of a list of rows may be joined first.
 pub fn join_is_associative()
     ensures { (rows others : List Row) →
-      joined_row (rows ++ others) ≡ joined_row (joined_row rows ∷ joined_row others ∷ []) }
-{
-}
+        joined_row (rows ++ others) ≡ joined_row (joined_row rows ∷ joined_row others ∷ []) }
+{}
 
 /// Joining is idempotent: the same rows once more change nothing.
 pub fn join_is_idempotent()
     ensures { (rows : List Row) → joined_row (rows ++ rows) ≡ joined_row rows }
-{
-}
+{}
 
 /// One row joins to itself.
 pub fn join_of_one()
     ensures { (row : Row) → IsRow row → joined_row (row ∷ []) ≡ row }
-{
-}
+{}
 
 /// No rows join to the empty row.
 pub fn join_of_none()
     ensures { joined_row [] ≡ empty_row }
-{
-}
+{}
 
 /// One more row may be joined to what the others joined to.
 pub fn join_of_one_more()
     ensures { (rows : List Row) (row : Row) → IsRow row →
-      joined_row (rows ++ row ∷ []) ≡ joined_row (joined_row rows ∷ row ∷ []) }
-{
-}
+        joined_row (rows ++ row ∷ []) ≡ joined_row (joined_row rows ∷ row ∷ []) }
+{}

@@ -1,5 +1,5 @@
 ghost use Rattle.std.specs.Prelude.{◌≡◌, [], ◌∷◌, ◌↔◌, IfOk, OnOk, OnErr, IsTrue};
-ghost use Rattle.rc_cell.specs.Winner.{empty_row, joined_row};
+ghost use Rattle.rc_cell.specs.Winner.{empty_row, joined_row, IsRow};
 ghost use Rattle.rc_cell.specs.Deletion.{shadowed_row, surviving_marker, has_life};
 ghost use Rattle.rc_cell.specs.Greatest.{greater};
 
@@ -47,6 +47,7 @@ impl Row {
     pub fn join(&mut self, alloc: Global, other: &Row) -> Result<(), AllocError>
         ensures ok { OnOk result (self.new ≡ joined_row (self.old ∷ other.now ∷ [])) }
         ensures err { OnErr result (self.new ≡ self.old) }
+        ensures ascending { IsRow self.old × IsRow other.now }
     {
         self.cells = self.cells.joined(alloc, &other.cells)?;
         self.marker = greater_of(self.marker, other.marker);
@@ -59,11 +60,13 @@ impl Row {
     pub fn shadow(&self, alloc: Global, cover: Option<Tomb>) -> Result<Row, AllocError>
         ensures { IfOk result (λ row. row ≡ shadowed_row cover self.now) }
     {
-        let tomb = greater_of(cover, self.tomb);
-        let cells = self.cells.surviving(alloc, tomb)?;
+        let in_force = greater_of(cover, self.tomb);
+        let marker = marker_surviving(in_force, self.marker);
+        let tomb = self.tomb;
+        let cells = self.cells.surviving(alloc, in_force)?;
         Ok(Row {
-            marker: marker_surviving(tomb, self.marker),
-            tomb: self.tomb,
+            marker,
+            tomb,
             cells,
         })
     }

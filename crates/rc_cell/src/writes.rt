@@ -1,12 +1,10 @@
-ghost use Rattle.std.specs.Prelude.{◌≡◌, IfOk, IsTrue, ◌↔◌};
+ghost use Rattle.std.specs.Prelude.{◌≡◌, IfOk, refl};
 ghost use Rattle.rc_cell.specs.Orders.{timestamp_of, bytes_of, deletion_time_of, rank_of, is_live_cell, tomb_cmp, tomb_cmp_total, cell_cmp, cell_cmp_total};
-ghost use Rattle.std.specs.Prelude.{refl};
 ghost use Rattle.std.specs.Ordering.{as_partial_cmp, eq_by_cmp};
 ghost use Rattle.std.specs.Cmp.{eq_by_cmp_equiv, partial_equiv_from_equiv, partial_order_from_total};
-
-use crate::values::Value;
 ghost use Rattle.rc_cell.specs.Deletion.{survives};
 
+use crate::values::Value;
 use std::alloc::{AllocError, Global};
 use std::cmp::Ordering;
 

@@ -1,5 +1,5 @@
 -- What pieces in order have at a position.
-use Rattle.std.proofs.Common.{◌≡◌, Bool, true, false, not, ◌&&◌, cond, List, [], ◌∷◌, ◌++◌, map, filter, Option, Some, None, refl, sym, ap, ◌∙◌, subst}
+use Rattle.std.proofs.Common.{◌≡◌, Bool, true, false, not, ◌&&◌, cond, List, [], ◌∷◌, ◌++◌, map, filter, Option, Some, None, refl, sym, ap, ◌∙◌}
 use Rattle.rc_position.specs.declared.positions.Pos.{Pos}
 use Rattle.rc_position.specs.Position.{covers}
 use Rattle.rc_cell.specs.declared.writes.Tomb.{Tomb}
@@ -10,7 +10,7 @@ use Rattle.rc_cell.specs.Beats.{tomb_cmp-IsAntisymmetric}
 use Rattle.rc_ranges.specs.declared.pieces.Piece.{Piece}
 use Rattle.rc_ranges.specs.Cover.{cover, tombs_over, IsCanonical}
 use Rattle.rc_ranges.specs.Sweep.{lt}
-use Rattle.rc_ranges.proofs.Order.{covers-lt, gt-lt, before-lt, lt-trans, lt-le, le-lt}
+use Rattle.rc_ranges.proofs.Order.{covers-lt, gt-lt, before-lt, lt-trans, lt-le}
 use Rattle.rc_ranges.proofs.Greater.{greatest-both}
 
 -- what one piece has there

@@ -1,21 +1,20 @@
 -- One more piece behind pieces in order.
-use Rattle.std.proofs.Common.{◌≡◌, ◌≢◌, Bool, true, false, not, ◌&&◌, cond, List, [], ◌∷◌, ◌++◌, Option, Some, None, refl, sym, ap, ◌∙◌, subst}
+use Rattle.std.proofs.Common.{◌≡◌, Bool, true, false, ◌&&◌, cond, List, [], ◌∷◌, ◌++◌, Some, None, refl, sym, ap, ◌∙◌, subst}
 use Rattle.std.specs.declared.cmp.Ordering.{Ordering}
 use Rattle.std.specs.declared.cmp.Ordering.TheVariants.{Less, Equal, Greater}
-use Rattle.std.specs.Ordering.{is_eq, is_gt}
+use Rattle.std.specs.Ordering.{is_eq}
 use Rattle.std.specs.Cmp.{tied_itself}
 use Rattle.rc_position.specs.declared.positions.Pos.{Pos}
 use Rattle.rc_position.specs.Position.{pos_cmp, IsBefore}
 use Rattle.rc_position.specs.OrderLaws.{pos_cmp_total, pos_cmp_same}
-use Rattle.rc_cell.specs.declared.writes.Tomb.{Tomb}
 use Rattle.rc_cell.specs.Orders.{tomb_cmp, tomb_cmp_total}
 use Rattle.rc_cell.specs.Greatest.{greater}
 use Rattle.rc_cell.specs.Beats.{tomb_cmp-IsAntisymmetric}
 use Rattle.rc_ranges.specs.declared.pieces.Piece.{Piece}
 use Rattle.rc_ranges.specs.Cover.{cover, MayFollow, IsCanonical}
-use Rattle.rc_ranges.specs.Sweep.{lt, goes_on, extended, extended_by}
-use Rattle.rc_ranges.proofs.Order.{gt-lt, before-lt, lt-before, lt-irrefl, lt-asym, lt-trans, le-trans, le-lt, lt-le}
-use Rattle.rc_ranges.proofs.Greater.{greater-none, greater-assoc, greater-same}
+use Rattle.rc_ranges.specs.Sweep.{lt, goes_on, extended}
+use Rattle.rc_ranges.proofs.Order.{gt-lt, before-lt, lt-before, lt-irrefl, lt-asym, lt-trans, le-trans}
+use Rattle.rc_ranges.proofs.Greater.{greater-none, greater-assoc}
 use Rattle.rc_ranges.proofs.Covering.{piece_at, piece_at-inside, piece_at-before, piece_at-behind, cover-none, cover-cons}
 
 -- no piece ends behind the mark

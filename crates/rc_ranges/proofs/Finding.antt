@@ -1,16 +1,15 @@
 -- The piece that covers a position, found among pieces in order.
-use Rattle.std.proofs.Common.{◌≡◌, ℕ, zero, suc, ◌<◌, ◌≤◌, Bool, true, false, not, cond, List, [], ◌∷◌, length, drop, get_or, Option, Some, None, refl, sym, ap, ◌∙◌, subst, arith}
+use Rattle.std.proofs.Common.{◌≡◌, ℕ, zero, suc, ◌<◌, ◌≤◌, Bool, true, false, not, cond, List, [], ◌∷◌, length, drop, get_or, Some, None, refl, sym, ap, ◌∙◌, arith}
 use Rattle.std.specs.declared.cmp.Ordering.{Ordering}
 use Rattle.std.specs.declared.cmp.Ordering.TheVariants.{Less, Equal, Greater}
 use Rattle.std.specs.Ordering.{is_le, is_gt}
 use Rattle.std.specs.List.Sorted.{IsPartitionedBy}
 use Rattle.rc_position.specs.declared.positions.Pos.{Pos}
-use Rattle.rc_position.specs.Position.{pos_cmp, IsBefore}
-use Rattle.rc_cell.specs.declared.writes.Tomb.{Tomb}
+use Rattle.rc_position.specs.Position.{pos_cmp}
 use Rattle.rc_ranges.specs.declared.pieces.Piece.{Piece}
 use Rattle.rc_ranges.specs.Cover.{cover, IsCanonical}
 use Rattle.rc_ranges.specs.Sweep.{lt, in_force}
-use Rattle.rc_ranges.proofs.Order.{gt-lt, before-lt, lt-irrefl, lt-asym, lt-trans, le-trans}
+use Rattle.rc_ranges.proofs.Order.{gt-lt, before-lt, lt-irrefl, lt-asym, le-trans}
 use Rattle.rc_ranges.proofs.Covering.{cover-none, cover-before, cover-inside, cover-behind}
 
 -- whether a piece ends at a position or before

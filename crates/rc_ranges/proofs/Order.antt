@@ -1,9 +1,9 @@
 -- The order of positions as a test, by which goals split.
-use Rattle.std.proofs.Common.{◌≡◌, Bool, true, false, not, ◌&&◌, cond, refl, sym, ap, ◌∙◌, subst}
+use Rattle.std.proofs.Common.{◌≡◌, Bool, true, false, not, ◌&&◌, refl, sym, ap, ◌∙◌}
 use Rattle.std.specs.declared.cmp.Ordering.{Ordering}
 use Rattle.std.specs.declared.cmp.Ordering.TheVariants.{Less, Equal, Greater}
 use Rattle.std.specs.Ordering.{ordering_reverse, is_lt, is_le, is_gt}
-use Rattle.std.specs.Cmp.{tied_itself, upto, alike_right}
+use Rattle.std.specs.Cmp.{tied_itself, upto}
 use Rattle.rc_position.specs.declared.positions.Pos.{Pos}
 use Rattle.rc_position.specs.Position.{pos_cmp, covers, IsBefore}
 use Rattle.rc_position.specs.OrderLaws.{pos_cmp_total, pos_cmp_same}

@@ -1,16 +1,16 @@
 -- What a sweep over two lists of pieces keeps, from one bound to the next.
-use Rattle.std.proofs.Common.{◌≡◌, ℕ, suc, ◌+◌, ◌*◌, ◌<◌, ◌≤◌, ◌⊎◌, inl, inr, Bool, true, false, not, ◌&&◌, cond, List, [], ◌∷◌, length, Option, Some, None, refl, sym, ap, ◌∙◌, subst, arith, ⊎_elim}
+use Rattle.std.proofs.Common.{◌≡◌, ◌+◌, ◌*◌, ◌<◌, ◌≤◌, ◌⊎◌, inl, inr, Bool, true, false, cond, List, [], ◌∷◌, length, Option, Some, None, refl, sym, ap, ◌∙◌, subst, arith, ⊎_elim}
 use Rattle.rc_position.specs.declared.positions.Pos.{Pos}
-use Rattle.rc_position.specs.Position.{pos_cmp, IsBefore}
+use Rattle.rc_position.specs.Position.{IsBefore}
 use Rattle.rc_cell.specs.declared.writes.Tomb.{Tomb}
 use Rattle.rc_cell.specs.Orders.{tomb_cmp}
 use Rattle.rc_cell.specs.Greatest.{greater}
 use Rattle.rc_ranges.specs.declared.pieces.Piece.{Piece}
 use Rattle.rc_ranges.specs.Cover.{cover, IsCanonical, IsJoinOf}
-use Rattle.rc_ranges.specs.Sweep.{lt, in_force, next_bound, rest_from, earlier, bounds_left, extended, extended_by}
-use Rattle.rc_ranges.proofs.Order.{gt-lt, before-lt, lt-before, lt-irrefl, lt-asym, lt-trans, le-trans, le-lt, lt-le}
+use Rattle.rc_ranges.specs.Sweep.{lt, in_force, next_bound, rest_from, earlier, bounds_left, extended_by}
+use Rattle.rc_ranges.proofs.Order.{gt-lt, before-lt, lt-before, lt-irrefl, lt-asym, le-trans, le-lt, lt-le}
 use Rattle.rc_ranges.proofs.Greater.{greater-none}
-use Rattle.rc_ranges.proofs.Covering.{piece_at, piece_at-inside, piece_at-before, piece_at-behind, cover-none, cover-before, cover-inside, cover-behind}
+use Rattle.rc_ranges.proofs.Covering.{piece_at-inside, piece_at-before, cover-none, cover-before, cover-inside, cover-behind}
 use Rattle.rc_ranges.proofs.Extending.{EndBy, EndBy-later, EndBy-cover, cover-extended, IsCanonical-extended, EndBy-extended}
 
 -- the first piece ends behind the mark

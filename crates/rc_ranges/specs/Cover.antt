@@ -2,7 +2,7 @@
 --     cover           the tombstone in force at a position: the greatest of the pieces that cover it
 --     IsCanonical     pieces in order that do not overlap, none of them empty; two that touch have different tombstones
 --     IsJoinOf        at each position the greater tombstone of two lists
-use Rattle.std.specs.Prelude.{◌≡◌, ◌≢◌, Bool, false, List, [], ◌∷◌, map, filter, Option, ◌⊎◌}
+use Rattle.std.specs.Prelude.{◌≡◌, ◌≢◌, false, List, [], ◌∷◌, map, filter, Option, ◌⊎◌}
 use Rattle.std.specs.Ordering.{is_gt}
 use Rattle.rc_position.specs.declared.positions.Pos.{Pos}
 use Rattle.rc_position.specs.Position.{pos_cmp, IsBefore, covers}

@@ -8,3 +8,6 @@ mod sweep;
 
 pub use list::Ranges;
 pub use pieces::Piece;
+
+#[cfg(test)]
+mod tests;

@@ -14,7 +14,7 @@ loop-ours-preserved-in_ok-push-in-Equal c =
 pub returns : goal.returns
 returns c =
     let ended : (length c.loop-ours.ours.now < 1) ⊎ (length c.loop-ours.theirs.now < 1) =
-      elim c.if-ours-lt1.branch [ in_default w ↦ inl (omega arith) | in_default-2 w ↦ inr (grind arith) ] in
+    elim c.if-ours-lt1.branch [ in_default w ↦ inl (omega arith) | in_default-2 w ↦ inr (grind arith) ] in
     c.in_ok-append_copies-2.ensures
     ∙ ap (λ ms. ms ++ c.loop-ours.theirs.now) c.in_ok-append_copies.ensures
     ∙ made-winners _ c.args.ours.now c.args.theirs.now _ _ c.requires.ours_ascend c.requires.theirs_ascend c.loop-ours.invariant ended

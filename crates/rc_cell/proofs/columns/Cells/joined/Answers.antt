@@ -1,5 +1,4 @@
 -- The winners ascend by column.
-use Rattle.std.proofs.Common.{sym, subst}
 use Rattle.rc_cell.specs.ByColumn.{ascending-winners}
 use Rattle.rc_cell.proofs.columns.Cells.joined.Goals as goal
 

@@ -1,0 +1,9 @@
+//! The kinds of objects in a segment, where each of their fields lies, and reading and writing a field.
+#![tactic(auto)]
+
+pub mod field;
+pub mod kind;
+pub mod layout;
+
+pub use field::Field;
+pub use kind::{Kind, fixed_size, link_get, link_put, links};

@@ -1,0 +1,16 @@
+-- Parts of a list of bytes.
+use Rattle.std.specs.Prelude.{◌≡◌, ℕ, ◌+◌, List, ◌++◌, length, map, take, drop, Option, Some}
+use Rattle.circular_buffer.specs.Places.{somes}
+
+-- the bytes from the offset on
+abbrev pub part : ℕ → ℕ → List ℕ → List ℕ
+part offset len bytes = take len (drop offset bytes)
+
+-- the list with these bytes in the place of as many from the offset on
+abbrev pub overwritten : List ℕ → ℕ → List ℕ → List ℕ
+overwritten old offset bytes = take offset old ++ (bytes ++ drop (offset + length bytes) old)
+
+-- there are size bytes, and each of them is set
+pub record IsWhole (size : ℕ) (bytes : List (Option ℕ)) : Type 0 where
+  pub long : length bytes ≡ size
+  pub all_set : bytes ≡ map Some (somes bytes)

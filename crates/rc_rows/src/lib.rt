@@ -1,0 +1,7 @@
+//! Tests that cross crates: worked scripts over the top call, from input bytes to output bytes.
+#![tactic(auto)]
+
+#[cfg(test)]
+mod slow;
+#[cfg(test)]
+mod tests;

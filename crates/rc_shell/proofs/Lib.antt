@@ -1,0 +1,3 @@
+pub mod Serving
+pub mod Ending
+pub mod Cuts

@@ -1,0 +1,74 @@
+//! A run of the program.
+
+ghost use Rattle.std.specs.Prelude.{◌≡◌, ◌^◌, ℕ, List, map, string_bytes};
+ghost use Rattle.rc_machine.specs.Machine.{start};
+ghost use Rattle.rc_shell.specs.Run.{Ran};
+ghost use Rattle.rc_shell.specs.Step.{LineStep};
+ghost use Rattle.rc_shell.specs.Words.{are_run};
+
+use crate::session::{Session, push_last};
+use crate::status::Status;
+use rc_machine::Machine;
+use rc_outside::{Sink, Source, Store};
+use std::alloc::Global;
+
+/// The most input that a run takes: 2^40 bytes.
+const INPUT_LIMIT: u64 = 1 << 40;
+
+/// How many bytes of the input are asked for at once.
+const PIECE: usize = 65_536;
+
+/// The last line of a run whose words are not those of a run.
+const BAD_WORDS: &[u8] = b"! bad words\n";
+
+/// Serves the lines of the input, each answered before the next is read, up to 2^40 bytes.
+pub fn run<W: Store, I: Source, K: Sink>(
+    alloc: Global,
+    words: &[String],
+    store: &mut W,
+    input: &mut I,
+    out: &mut K,
+) -> Status
+    ensures run { Ran LineStep (are_run (map string_bytes words.now)) start (2 ^ 40) result (I.left input.old) (I.left input.new) (K.written out.old) (K.written out.new)
+        (I.faults input.old) (I.faults input.new) (K.faults out.old) (K.faults out.new) }
+    // The store is asked for nothing.
+    ensures store { store.new ≡ store.old }
+{
+    run_with(alloc, words, store, input, out, INPUT_LIMIT)
+}
+
+/// The same for a limit of its own: at most so many bytes of the input are taken.
+pub fn run_with<W: Store, I: Source, K: Sink>(
+    alloc: Global,
+    words: &[String],
+    store: &mut W,
+    input: &mut I,
+    out: &mut K,
+    limit: u64,
+) -> Status
+    ensures run { Ran LineStep (are_run (map string_bytes words.now)) start limit result (I.left input.old) (I.left input.new) (K.written out.old) (K.written out.new)
+        (I.faults input.old) (I.faults input.new) (K.faults out.old) (K.faults out.new) }
+    // The store is asked for nothing.
+    ensures store { store.new ≡ store.old }
+{
+    let _ = store;
+    if !are_run(words) {
+        return push_last(out, BAD_WORDS, Status::BadWords);
+    }
+    match vec![in alloc; 0u8; PIECE] {
+        Ok(mut piece) => Session::new(alloc, Machine::new(alloc)).serve_input(
+            alloc, input, &mut piece, out, limit,
+        ),
+        Err(_) => Status::NoMemory,
+    }
+}
+
+/// Whether the words are those of a run.
+fn are_run(words: &[String]) -> bool
+    ensures { result ≡ are_run (map string_bytes words.now) }
+{
+    match words {
+        [word] => word.as_bytes() == b"run".as_slice(),
+        _ => false,
+    }
+}

@@ -1,0 +1,194 @@
+//! One line after another: bytes come in pieces, each whole line is answered before the next is read.
+
+ghost use Rattle.std.specs.Prelude.{◌≡◌, ℕ, ◌+◌, ◌<◌, ◌≤◌, List, [], ◌∷◌, ◌++◌, length, OnOk, IfErr, OnErr, MatchResult, take, Option, true, IfOk, min};
+ghost use Rattle.std.specs.Io.KnownBytes.{Appends, IsAtEnd};
+ghost use Rattle.rc_outside.specs.Faults.{Rose};
+ghost use Rattle.rc_shell.specs.Lines.{IsLine};
+ghost use Rattle.rc_shell.specs.Feed.{PushedText, ServedLine, ServedLast, Serves, SoFar, TurnGave, EndedBy, kept};
+ghost use Rattle.rc_shell.specs.Run.{Ran};
+
+use crate::server::Server;
+use crate::status::{Status, Stop};
+use rc_lines::LONGEST_LINE;
+use rc_outside::{Sink, SinkErr, Source};
+use std::alloc::Global;
+
+/// The last line of a run whose input failed.
+const INPUT_FAULT: &[u8] = b"! input fault\n";
+
+/// The last line of a run that met the limit of its input.
+const INPUT_LIMIT: &[u8] = b"! input limit\n";
+
+/// A server, the front of the line that is not yet whole, and room for a reply's text.
+#[derive(Drop)]
+pub(crate) struct Session<S> {
+    server: S,
+    held: Vec<u8>,
+    text: Vec<u8>,
+}
+
+/// Pushes a reply's text; an empty one is no push.
+fn push_text<K: Sink>(out: &mut K, text: &[u8]) -> Result<(), Stop>
+    ensures { PushedText (K.written out.old) (K.written out.new) (K.faults out.old) (K.faults out.new) text.now result }
+{
+    if text.is_empty() {
+        return Ok(());
+    }
+    match out.push(text) {
+        Ok(()) => Ok(()),
+        Err(SinkErr::Failed) => Err(Stop::OutputFault),
+        Err(SinkErr::NoMemory) => Err(Stop::NoMemory),
+    }
+}
+
+impl<S: Server> Session<S> {
+    /// A session before the first byte.
+    pub(crate) fn new(alloc: Global, server: S) -> Self
+        ensures server { result.server ≡ server }
+        ensures held { result.held.items ≡ [] }
+    {
+        Session {
+            server,
+            held: Vec::new(alloc),
+            text: Vec::new(alloc),
+        }
+    }
+
+    /// Answers the line of which the front is held, and holds nothing then.
+    fn serve_held<K: Sink>(&mut self, alloc: Global, out: &mut K) -> Result<(), Stop>
+        ensures served { (line : List ℕ) → self.old.held.items ≡ kept line →
+            ServedLine S.step self.old.server line self.new.server (K.written out.old) (K.written out.new) (K.faults out.old) (K.faults out.new) result }
+        ensures held { self.new.held.items ≡ [] }
+    {
+        self.text.clear();
+        let answered = self
+            .server
+            .answer(alloc, self.held.as_slice(), &mut self.text);
+        self.held.clear();
+        match answered {
+            Ok(()) => push_text(out, self.text.as_slice()),
+            Err(_) => Err(Stop::NoMemory),
+        }
+    }
+
+    /// Keeps a byte of the unfinished line, as far as it may be a line that is not too long.
+    fn hold(&mut self, byte: u8) -> Result<(), Stop>
+        ensures server { self.new.server ≡ self.old.server }
+        ensures held { OnOk result ((line : List ℕ) → self.old.held.items ≡ kept line → self.new.held.items ≡ kept (line ++ byte ∷ [])) }
+        ensures memory { IfErr result (λ stop. stop ≡ Stop.NoMemory) }
+    {
+        if self.held.len() <= LONGEST_LINE {
+            return match self.held.push(byte) {
+                Ok(()) => Ok(()),
+                Err(_) => Err(Stop::NoMemory),
+            };
+        }
+        Ok(())
+    }
+
+    /// Serves one byte of the input.
+    fn take_byte<K: Sink>(&mut self, alloc: Global, byte: u8, out: &mut K) -> Result<(), Stop>
+        ensures { (rest : List ℕ) → IsLine rest → self.old.held.items ≡ kept rest →
+            Serves S.step self.old.server rest (byte ∷ []) self.new.server self.new.held.items (K.written out.old) (K.written out.new) (K.faults out.old) (K.faults out.new) result }
+    {
+        if byte == b'\n' {
+            return self.serve_held(alloc, out);
+        }
+        self.hold(byte)
+    }
+
+    /// Serves the bytes of a piece: each whole line is answered, and the last, unfinished one is kept.
+    fn feed<K: Sink>(&mut self, alloc: Global, piece: &[u8], out: &mut K) -> Result<(), Stop>
+        ensures { (rest : List ℕ) → IsLine rest → self.old.held.items ≡ kept rest →
+            Serves S.step self.old.server rest piece.now self.new.server self.new.held.items (K.written out.old) (K.written out.new) (K.faults out.old) (K.faults out.new) result }
+    {
+        for byte in piece {
+            self.take_byte(alloc, *byte, out)?;
+        }
+        Ok(())
+    }
+
+    /// The input is at its end: what is unfinished is a last line, where it is not empty.
+    fn serve_last<K: Sink>(&mut self, alloc: Global, out: &mut K) -> Result<(), Stop>
+        ensures { (rest : List ℕ) → self.old.held.items ≡ kept rest →
+            ServedLast S.step self.old.server rest self.new.server (K.written out.old) (K.written out.new) (K.faults out.old) (K.faults out.new) result }
+    {
+        if self.held.is_empty() {
+            return Ok(());
+        }
+        self.serve_held(alloc, out)
+    }
+
+    /// Takes one piece of the input and serves it: how many bytes it took, or how the run ended.
+    fn turn<I: Source, K: Sink>(
+        &mut self,
+        alloc: Global,
+        input: &mut I,
+        piece: &mut [u8],
+        out: &mut K,
+    ) -> Result<usize, Status>
+        requires { 0 < length piece.old }
+        ensures within { IfOk result (λ count. (0 < count) × (count ≤ length piece.old)) }
+        ensures run { (start : S) (limit count : ℕ) (left written : Option (List ℕ)) (faults faults2 : ℕ) → count + length piece.old ≤ limit →
+            SoFar S.step start self.old.server self.old.held.items count left (I.left input.old) written (K.written out.old) faults (I.faults input.old) faults2 (K.faults out.old) →
+            TurnGave S.step start limit self.new.server self.new.held.items count left (I.left input.new) written (K.written out.new) faults (I.faults input.new) faults2 (K.faults out.new) result }
+    {
+        match input.pull(piece) {
+            Err(_) => Err(push_last(out, INPUT_FAULT, Status::InputFault)),
+            Ok(0) => match self.serve_last(alloc, out) {
+                Ok(()) => Err(Status::Done),
+                Err(stop) => Err(stop.status()),
+            },
+            Ok(count) => match self.feed(alloc, &piece[..count], out) {
+                Ok(()) => Ok(count),
+                Err(stop) => Err(stop.status()),
+            },
+        }
+    }
+
+    /// Serves the input to its end, its fault or the limit.
+    pub(crate) fn serve_input<I: Source, K: Sink>(
+        &mut self,
+        alloc: Global,
+        input: &mut I,
+        piece: &mut [u8],
+        out: &mut K,
+        limit: u64,
+    ) -> Status
+        requires room { 0 < length piece.old }
+        requires fresh { self.old.held.items ≡ [] }
+        ensures { Ran S.step true self.old.server limit result (I.left input.old) (I.left input.new) (K.written out.old) (K.written out.new)
+            (I.faults input.old) (I.faults input.new) (K.faults out.old) (K.faults out.new) }
+    {
+        let mut taken = 0u64;
+        while taken < limit {
+            let room = piece_len(piece.len(), limit - taken);
+            match self.turn(alloc, input, &mut piece[..room], out) {
+                Ok(count) => taken += count as u64,
+                Err(status) => return status,
+            }
+        }
+        push_last(out, INPUT_LIMIT, Status::InputLimit)
+    }
+}
+
+/// How many bytes to ask for: as many as fit, and no more than are left up to the limit.
+fn piece_len(room: usize, left: u64) -> usize
+    ensures { result ≡ min room left }
+{
+    if left < room as u64 {
+        left as usize
+    } else {
+        room
+    }
+}
+
+/// Pushes the last line of a run: the status that is due, unless the output or memory fails.
+pub(crate) fn push_last<K: Sink>(out: &mut K, line: &[u8], status: Status) -> Status
+    ensures { EndedBy status line.now (K.written out.old) (K.written out.new) (K.faults out.old) (K.faults out.new) result }
+{
+    match push_text(out, line) {
+        Ok(()) => status,
+        Err(stop) => stop.status(),
+    }
+}
