@@ -3,9 +3,10 @@
 --     source-determined        mutations that say the same at each place are equal
 --     IsJoinOf-first           any first part of writes may be joined first
 --     IsJoinOf-swap, IsJoinOf-twice       in either order, and the same writes again change nothing
+--     IsJoinOf-none, IsJoinOf-more       no writes join to nothing written; one more is joined to what the others joined to
 --     IsJoinOf-same            writes join to one mutation
 use Rattle.std.specs.Prelude.{◌≡◌, ◌≢◌, false, List, [], ◌∷◌, ◌++◌, Option, Some, None, cond, map as list_map, IsTrue}
-use Rattle.std.proofs.Common.{refl, sym, ap, ◌∙◌, append-nil}
+use Rattle.std.proofs.Common.{arith, refl, sym, ap, ◌∙◌, append-nil}
 use Rattle.std.specs.declared.cmp.Ordering.TheVariants.{Less, Equal, Greater}
 use Rattle.std.specs.Ordering.{is_eq, eq_by_cmp}
 use Rattle.std.specs.Option.{option_to_list}
@@ -18,7 +19,7 @@ use Rattle.rc_cell.specs.declared.writes.Tomb.{Tomb}
 use Rattle.rc_cell.specs.Beats.{tomb_cmp-IsAntisymmetric}
 use Rattle.rc_cell.specs.ByColumn.{test_of}
 use Rattle.rc_cell.specs.Columns.{ascending}
-use Rattle.rc_cell.specs.Greatest.{greater, greatest-append, greatest-swap, greatest-twice, greatest-one, greatest-two}
+use Rattle.rc_cell.specs.Greatest.{greater, greatest-append, greatest-swap, greatest-twice, greatest-none, greatest-one, greatest-two}
 use Rattle.rc_cell.specs.Laws.{IsRow-joined_row, joined_row-none, joined_row-one, joined_row-append, joined_row-swap, joined_row-twice}
 use Rattle.rc_cell.specs.Orders.{tomb_cmp, tomb_cmp_total}
 use Rattle.rc_cell.specs.Winner.{empty_row, greatest, joined_row}
@@ -236,3 +237,16 @@ join-assoc a b c ab bc one other g h ours left theirs right =
 
 pub join-same : (a one : Mutation) → IsMutation a → IsMutation one → IsJoinOf one (a ∷ a ∷ []) → one ≡ a
 join-same a one g h j = IsJoinOf-same one a (a ∷ []) h g (IsJoinOf-twice one (a ∷ []) j) (IsJoinOf-one a g)
+
+-- nothing written is what no writes join to
+pub IsJoinOf-none : IsJoinOf (record { pt = None; statics = empty_row; rows = []; ranges = [] }) []
+IsJoinOf-none = record {
+  head = sym (greatest-none tomb_cmp);
+  statics = sym joined_row-none;
+  rows = sym (joined_rows-rows [] (record { ascend = refl; written = λ k d lt. absurd (omega arith); by_column = λ k d lt. absurd (omega arith) }));
+  ranges = λ x. refl;
+}
+
+-- one more write is joined to what the others joined to
+pub IsJoinOf-more : (m r c : Mutation) (xs : List Mutation) → IsJoinOf m xs → IsJoinOf r (m ∷ c ∷ []) → IsJoinOf r (xs ++ c ∷ [])
+IsJoinOf-more m r c xs j k = IsJoinOf-first m r xs (c ∷ []) j k

@@ -7,6 +7,7 @@ ghost use Rattle.rc_position.specs.declared.comps.Comp.{Comp};
 ghost use Rattle.rc_position.specs.Position.{key_cmp};
 ghost use Rattle.rc_mutation.specs.declared.mutations.Mutation.{Mutation};
 ghost use Rattle.rc_mutation.specs.Source.{IsJoinOf, IsMutation, SameSource};
+ghost use Rattle.rc_cell.specs.Winner.{empty_row};
 ghost use Rattle.rc_mutation.specs.ByKey.{joined_if_any};
 ghost use Rattle.rc_mutation.specs.Rows.{IsRows, joined_rows, rows_at};
 
@@ -72,4 +73,9 @@ pub fn joining_is_associative()
 /// Joining is idempotent.
 pub fn joining_is_idempotent()
     ensures { (a one : Mutation) → IsMutation a → IsMutation one → IsJoinOf one (a ∷ a ∷ []) → one ≡ a }
+{}
+
+/// No writes join to the mutation of which nothing was written.
+pub fn no_writes_join_to_nothing()
+    ensures { IsJoinOf (record { pt = None; statics = empty_row; rows = []; ranges = [] }) [] }
 {}
