@@ -1,5 +1,5 @@
 -- What a list of writes to one partition says at each place of it: the source at a place, picked from all of them.
-use Rattle.std.specs.Prelude.{◌≡◌, List, [], ◌∷◌, ◌++◌, Option, map as list_map, IsTrue}
+use Rattle.std.specs.Prelude.{◌≡◌, List, ◌++◌, Option, map as list_map, IsTrue}
 use Rattle.std.specs.Ordering.{eq_by_cmp}
 use Rattle.std.specs.List.{filter, filter_map, flat_map}
 use Rattle.rc_cell.specs.declared.rows.Row.{Row}
