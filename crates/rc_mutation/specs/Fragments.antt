@@ -25,6 +25,7 @@ begins_at x (p ∷ ps) = eq_by_cmp pos_cmp p.from x
 abbrev pub piece_changes : Piece → List Piece → List (Pos × Option Tomb)
 piece_changes p next = (p.from, Some p.tomb) ∷ cond (begins_at p.to next) [] ((p.to, None) ∷ [])
 
+-- the changes at all pieces, in their order
 abbrev pub changes_of : List Piece → List (Pos × Option Tomb)
 changes_of [] = []
 changes_of (p ∷ ps) = piece_changes p ps ++ changes_of ps
@@ -33,9 +34,11 @@ changes_of (p ∷ ps) = piece_changes p ps ++ changes_of ps
 abbrev pub place_order : (Pos × ℕ) → (Pos × ℕ) → Ordering
 place_order = then_cmp (on (λ p. p.0) pos_cmp) (on (λ p. p.1) nat_cmp)
 
+-- a change at its place
 abbrev pub placed_change : Pos × Option Tomb → (Pos × ℕ) × Frag
 placed_change c = ((c.0, 0), frag.Change c.0 c.1)
 
+-- a row at its place
 abbrev pub placed_row : List Comp × Row → (Pos × ℕ) × Frag
 placed_row e = ((row_pos e.0, 1), frag.Row e.0 e.1)
 
@@ -43,6 +46,7 @@ placed_row e = ((row_pos e.0, 1), frag.Row e.0 e.1)
 abbrev pub in_order : List ((Pos × ℕ) × Frag) → List Frag
 in_order placed = map.values (map.from_entries {R = place_order} placed)
 
+-- whether a list has an element
 abbrev pub has_any : {X : Type 0} → List X → Bool
 has_any [] = false
 has_any (x ∷ xs) = true

@@ -165,6 +165,7 @@ answer-joined m changes slice j =
 abbrev pub own_cover : Mutation → List Comp → Option Tomb
 own_cover m key = greater tomb_cmp m.pt (range_tomb m.ranges (row_pos key))
 
+-- its line for a row in the slice
 abbrev pub own_line : Mutation → Slice → List Comp × Row → Option OutLine
 own_line m slice e = if in_slice slice e.0 then row_line (own_cover m e.0) e.0 e.1 else None
 
