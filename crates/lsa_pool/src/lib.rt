@@ -61,6 +61,7 @@ impl<const S: usize> Pool<S> {
         ensures active { IfOk result (λ p. active_of p ≡ Some 0) }
         ensures free { IfOk result (λ p. free_count p + 1 ≡ segments) }
         ensures live { IfOk result (λ p. live_sum p ≡ 0) }
+        ensures sound { IfOk result (IsSound S) }
     {
         let free = Usage {
             state: State::Free,
@@ -122,6 +123,7 @@ impl<const S: usize> Pool<S> {
         ensures active { active_of self.new ≡ Some result }
         ensures free_left { free_count self.new + 1 ≡ free_count self.old }
         ensures live { live_sum self.new ≡ live_sum self.old }
+        ensures sound { IsSound S self.new }
     {
         self.free_len -= 1;
         let n = self.free_list[self.free_len];
@@ -141,6 +143,7 @@ impl<const S: usize> Pool<S> {
         ensures active { active_of self.new ≡ None }
         ensures free { free_count self.new ≡ free_count self.old }
         ensures live { live_sum self.new ≡ live_sum self.old }
+        ensures sound { IsSound S self.new }
     {
         self.usages[n as usize].state = State::Closed;
         self.active = None;
@@ -154,6 +157,7 @@ impl<const S: usize> Pool<S> {
         ensures active { active_of self.new ≡ active_of self.old }
         ensures free { free_count self.new ≡ free_count self.old + 1 }
         ensures live { live_sum self.new ≡ live_sum self.old }
+        ensures sound { IsSound S self.new }
     {
         self.usages[n as usize] = Usage {
             state: State::Free,
@@ -172,6 +176,7 @@ impl<const S: usize> Pool<S> {
         ensures active { active_of self.new ≡ active_of self.old }
         ensures free { free_count self.new ≡ free_count self.old }
         ensures live { live_sum self.new ≡ live_sum self.old + size }
+        ensures sound { IsSound S self.new }
     {
         let usage = &mut self.usages[n as usize];
         usage.used += size;
@@ -186,6 +191,7 @@ impl<const S: usize> Pool<S> {
         ensures active { active_of self.new ≡ active_of self.old }
         ensures free { free_count self.new ≡ free_count self.old }
         ensures live { live_sum self.new + size ≡ live_sum self.old }
+        ensures sound { IsSound S self.new }
     {
         self.usages[n as usize].live -= size;
     }

@@ -3,5 +3,7 @@
 
 pub mod end;
 mod links;
+mod place;
+mod store;
 
 pub use end::{End, Ref, Root};

@@ -25,3 +25,6 @@ returns-clause-free g c =
     let r = c.index_mut.result.now in
     let count : ◌≡◌ {A = ℕ} (cond (is_state_free (usage_of us n).state) 1 0) 0 = ap (λ s. cond (is_state_free s) 1 0) here in
     omega (arith, count, free_count-set us n (record { state = Closed; used = r.used; live = r.live }) lt, ap free_count c.self.view_is)
+
+pub returns-clause-sound : goal.returns-clause-sound
+returns-clause-sound g c = (invariant_of-self g c).sound

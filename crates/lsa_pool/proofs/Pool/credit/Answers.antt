@@ -14,3 +14,6 @@ invariant_of-self g c =
     let fits : (usage_of us n).used + c.args.size ≤ g.row.S = rw c.self.view_is c.requires.fits in
     credits g.row.S us c.self.inside.free_list.items c.self.inside.free_len c.self.inside.active c.self.invariant n c.args.size was r read
     (omega (arith, fits, ap (λ v. v.used) read))
+
+pub returns-clause-sound : goal.returns-clause-sound
+returns-clause-sound g c = (invariant_of-self g c).sound

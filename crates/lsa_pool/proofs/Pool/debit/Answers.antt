@@ -11,3 +11,6 @@ invariant_of-self g c =
     let busy : (usage_of us n).state ≢ Free = rw c.self.view_is c.requires.not_free in
     let read : r ≡ usage_of us n = get_or_read us n r (within us n busy) c.index_mut.ensures.value nothing in
     debits g.row.S us c.self.inside.free_list.items c.self.inside.free_len c.self.inside.active c.self.invariant n c.args.size busy r read
+
+pub returns-clause-sound : goal.returns-clause-sound
+returns-clause-sound g c = (invariant_of-self g c).sound

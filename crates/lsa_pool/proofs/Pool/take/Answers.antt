@@ -55,3 +55,6 @@ returns-clause-live g c =
     let lt = take_inside g.row.S us c.self.inside.free_list.items c.self.inside.free_len c.self.inside.active c.self.invariant n before counted is in
     let unused = c.self.invariant.sound.empty n free in
     omega (arith, c.self.invariant.sound.live n, unused, live_sum-set us n (record nothing { state = Active }) lt, ap live_sum c.self.view_is)
+
+pub returns-clause-sound : goal.returns-clause-sound
+returns-clause-sound g c = (invariant_of-self g c).sound
