@@ -1,7 +1,7 @@
 //! The store: objects without their links, each at a place in a segment, which the table of places tells by the object's number.
 ghost use Rattle.std.specs.Prelude.{◌≡◌, ◌≢◌, ℕ, ◌+◌, ◌-◌, ◌*◌, ◌/◌, ◌%◌, ◌^◌, ◌<◌, ◌≤◌, [], ◌∷◌, ◌++◌, length, replicate, slice_index, slice_index_or, slice_set, Option, Some, None, IsSome, IsSomeAnd, IfOk};
 ghost use Rattle.lsa_kinds.specs.Kinds.{links_of};
-ghost use Rattle.lsa_pool.specs.Room.{usage_of, free_count, live_sum, active_of, spare_of};
+ghost use Rattle.lsa_pool.specs.Room.{usage_of, free_count, live_sum, active_of, active_room, spare_of};
 ghost use Rattle.lsa_region.specs.Layout.{rounded_size};
 
 use crate::place::Place;
@@ -50,5 +50,28 @@ impl<const S: usize> Store<S> {
             Some(place) => place.kind,
             None => unreachable!(),
         }
+    }
+
+    /// The bytes of an object.
+    pub(crate) fn bytes(&self, number: usize) -> &[u8]
+        requires { IsSome (slice_index_or self.now.bodies number None) }
+        ensures { IsSomeAnd (slice_index_or self.now.bodies number None) (λ body. body.1 ≡ result.now) }
+    {
+        match self.places[number] {
+            Some(place) => self.segments[place.segment as usize].lend(place.start, place.len),
+            None => unreachable!(),
+        }
+    }
+
+    // Closes the active segment, and lets a free one be the active one.
+    fn turn(&mut self)
+        requires { 1 < free_count self.old.usages }
+        ensures bodies { self.new.bodies ≡ self.old.bodies }
+        ensures room { active_room S self.new.usages ≡ S }
+        ensures free { free_count self.new.usages + 1 ≡ free_count self.old.usages }
+        ensures live { live_sum self.new.usages ≡ live_sum self.old.usages }
+    {
+        self.pool.close(self.active);
+        self.active = self.pool.take();
     }
 }
