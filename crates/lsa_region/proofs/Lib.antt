@@ -1,3 +1,4 @@
 pub mod Laid
+pub mod Opening
 pub mod Sets
 pub mod Table

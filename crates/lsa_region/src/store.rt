@@ -1,5 +1,5 @@
 //! The store: objects without their links, each at a place in a segment, which the table of places tells by the object's number.
-ghost use Rattle.std.specs.Prelude.{◌≡◌, ◌≢◌, ℕ, ◌+◌, ◌-◌, ◌*◌, ◌/◌, ◌%◌, ◌^◌, ◌<◌, ◌≤◌, [], ◌∷◌, ◌++◌, length, replicate, slice_index, slice_index_or, slice_set, Option, Some, None, IsSome, IsSomeAnd, IfOk};
+ghost use Rattle.std.specs.Prelude.{◌≡◌, ◌≢◌, ℕ, ◌+◌, ◌-◌, ◌*◌, ◌/◌, ◌%◌, ◌^◌, ◌<◌, ◌≤◌, [], ◌∷◌, ◌++◌, length, replicate, slice_index, slice_index_or, slice_set, Option, Some, None, IsSome, IsSomeAnd, IfOk, vec_len, count_by, is_some};
 ghost use Rattle.lsa_kinds.specs.Kinds.{links_of};
 ghost use Rattle.lsa_pool.specs.Room.{usage_of, free_count, live_sum, active_of, active_room, spare_of};
 ghost use Rattle.lsa_region.specs.Layout.{rounded_size};
@@ -41,6 +41,44 @@ pub(crate) fn size_of_object(kind: Kind, len: usize) -> usize
 }
 
 impl<const S: usize> Store<S> {
+    /// A store of so many segments, all taken now, with no object.
+    pub(crate) fn open(alloc: Global, segments: u32) -> Result<Self, AllocError>
+        requires few { segments ≤ 4096 }
+        requires some { 4 ≤ segments }
+        requires small { S ≤ 2 ^ 27 }
+        requires even { S % 64 ≡ 0 }
+        ensures bodies { IfOk result (λ s. s.bodies ≡ replicate (segments * (S / 32)) None) }
+        ensures spare { IfOk result (λ s. spare_of S s.usages ≡ (segments - 2) * (7 * S / 8) + (S - S / 8)) }
+        ensures free { IfOk result (λ s. free_count s.usages + 1 ≡ segments) }
+        ensures live { IfOk result (λ s. live_sum s.usages ≡ 0) }
+    {
+        let count = segments as usize * (S / 32);
+        Ok(Store {
+            pool: Pool::new(alloc, segments)?,
+            segments: empty_segments(alloc, segments)?,
+            active: 0,
+            places: Vec::from_elem(alloc, None, count)?,
+            vacant: numbers_down(alloc, count)?,
+            vacant_len: count,
+        })
+    }
+
+    /// How many objects there are.
+    pub(crate) fn count(&self) -> usize
+        ensures { result ≡ count_by (λ b. is_some b) self.now.bodies }
+    {
+        self.places.len() - self.vacant_len
+    }
+
+    /// The segments' books.
+    pub(crate) fn pool(&self) -> &Pool<S>
+        ensures value { result.now ≡ self.now.usages }
+        ensures active { IsSome (active_of self.now.usages) }
+        ensures reserve { 0 < free_count self.now.usages }
+    {
+        &self.pool
+    }
+
     /// The kind of an object.
     pub(crate) fn kind(&self, number: usize) -> Kind
         requires { IsSome (slice_index_or self.now.bodies number None) }
@@ -74,4 +112,145 @@ impl<const S: usize> Store<S> {
         self.pool.close(self.active);
         self.active = self.pool.take();
     }
+
+    // Sees to it that the active segment has room for an object of this size.
+    fn make_room(&mut self, size: usize)
+        requires some { 0 < size }
+        requires fits { size ≤ S / 8 }
+        requires spare { size ≤ spare_of S self.old.usages }
+        ensures bodies { self.new.bodies ≡ self.old.bodies }
+        ensures room { size ≤ active_room S self.new.usages }
+        ensures spare { spare_of S self.new.usages ≡ spare_of S self.old.usages }
+        ensures live { live_sum self.new.usages ≡ live_sum self.old.usages }
+    {
+        if self.room() < size {
+            self.turn();
+        }
+    }
+
+    // How many bytes of the active segment are not used.
+    fn room(&self) -> usize
+        ensures room { result ≡ active_room S self.now.usages }
+        ensures even { S % 64 ≡ 0 }
+    {
+        self.segments[self.active as usize].room()
+    }
+
+    /// Makes an object, and gives its number.
+    pub(crate) fn alloc(&mut self, kind: Kind, bytes: &[u8]) -> usize
+        requires fits { rounded_size kind (length bytes.now) ≤ S / 8 }
+        requires spare { rounded_size kind (length bytes.now) ≤ spare_of S self.old.usages }
+        ensures fresh { slice_index_or self.old.bodies result None ≡ None }
+        ensures body { slice_index_or self.new.bodies result None ≡ Some (kind, bytes.now) }
+        ensures others { (r : ℕ) → r ≢ result → slice_index_or self.new.bodies r None ≡ slice_index_or self.old.bodies r None }
+        ensures inside { result < length self.new.bodies }
+        ensures long { length self.new.bodies ≡ length self.old.bodies }
+        ensures spare { spare_of S self.old.usages ≤ spare_of S self.new.usages + rounded_size kind (length bytes.now) }
+        ensures live { live_sum self.new.usages ≡ live_sum self.old.usages + rounded_size kind (length bytes.now) }
+    {
+        let _ = &self.places;
+        let size = size_of_object(kind, bytes.len());
+        self.make_room(size);
+        self.put(kind, bytes, size)
+    }
+
+    // Puts an object into the active segment, which has room.
+    fn put(&mut self, kind: Kind, bytes: &[u8], size: usize) -> usize
+        requires size { size ≡ rounded_size kind (length bytes.now) }
+        requires room { size ≤ active_room S self.old.usages }
+        ensures fresh { slice_index_or self.old.bodies result None ≡ None }
+        ensures body { slice_index_or self.new.bodies result None ≡ Some (kind, bytes.now) }
+        ensures others { (r : ℕ) → r ≢ result → slice_index_or self.new.bodies r None ≡ slice_index_or self.old.bodies r None }
+        ensures inside { result < length self.new.bodies }
+        ensures long { length self.new.bodies ≡ length self.old.bodies }
+        ensures spare { spare_of S self.old.usages ≤ spare_of S self.new.usages + size }
+        ensures live { live_sum self.new.usages ≡ live_sum self.old.usages + size }
+    {
+        let head = 8 + 8 * links(kind);
+        let segment = self.active;
+        let offset = append(&mut self.segments, segment as usize, head, bytes, size - head - bytes.len());
+        self.pool.credit(segment, size);
+        self.vacant_len -= 1;
+        let number = self.vacant[self.vacant_len];
+        self.places[number] = Some(Place {
+            kind,
+            segment,
+            offset,
+            size,
+            start: offset + head,
+            len: bytes.len(),
+        });
+        number
+    }
+
+    /// Gives an object's bytes back.
+    pub(crate) fn free(&mut self, number: usize)
+        requires { IsSome (slice_index_or self.old.bodies number None) }
+        ensures body { slice_index_or self.new.bodies number None ≡ None }
+        ensures others { (r : ℕ) → r ≢ number → slice_index_or self.new.bodies r None ≡ slice_index_or self.old.bodies r None }
+        ensures long { length self.new.bodies ≡ length self.old.bodies }
+        ensures spare { spare_of S self.new.usages ≡ spare_of S self.old.usages }
+        ensures live { live_sum self.new.usages ≤ live_sum self.old.usages }
+    {
+        if let Some(place) = self.places[number] {
+            self.pool.debit(place.segment, place.size);
+            self.places[number] = None;
+            self.vacant[self.vacant_len] = number;
+            self.vacant_len += 1;
+        }
+    }
+}
+
+// Appends zeros, the bytes and zeros again to a segment, and gives the offset of the first zero.
+fn append<const S: usize>(
+    segments: &mut Vec<Segment<S>>,
+    n: usize,
+    head: usize,
+    bytes: &[u8],
+    pad: usize,
+) -> usize
+    requires known { n < length segments.old.items }
+    requires head { head ≤ 72 }
+    requires pad { pad ≤ 8 }
+    requires room { length (slice_index_or segments.old.items n []) + head + length bytes.now + pad ≤ S }
+    ensures offset { result ≡ length (slice_index_or segments.old.items n []) }
+    ensures after { segments.new.items ≡ slice_set segments.old.items n (slice_index_or segments.old.items n [] ++ (replicate head 0 ++ (bytes.now ++ replicate pad 0))) }
+{
+    let segment = &mut segments[n];
+    let offset = segment.push(zeros(head));
+    segment.push(bytes);
+    segment.push(zeros(pad));
+    offset
+}
+
+static ZEROS: [u8; 72] = [0; 72];
+
+// So many zeros.
+fn zeros(count: usize) -> &'static [u8]
+    requires { count ≤ 72 }
+    ensures { result.now ≡ replicate count 0 }
+{
+    &ZEROS[..count]
+}
+
+fn empty_segments<const S: usize>(alloc: Global, count: u32) -> Result<Vec<Segment<S>>, AllocError>
+    requires { S ≤ 2 ^ 27 }
+    ensures { IfOk result (λ v. v.items ≡ replicate count []) }
+{
+    let mut segments = Vec::with_capacity(alloc, count as usize)?;
+    for made in 0..count {
+        segments.push(Segment::new(alloc)?)?;
+    }
+    Ok(segments)
+}
+
+// The numbers below the count, the greatest first.
+fn numbers_down(alloc: Global, count: usize) -> Result<Vec<usize>, AllocError>
+    ensures { IfOk result (λ v. (vec_len v ≡ count) × ((k : ℕ) → k < count → slice_index v.items k + k + 1 ≡ count)) }
+{
+    let mut numbers = Vec::with_capacity(alloc, count)?;
+    for k in 0..count {
+        numbers.push(count - 1 - k)?;
+    }
+    Ok(numbers)
 }
