@@ -1,5 +1,5 @@
 -- The region as its callers see it: what each object is, what each end names, and the numbers.
-use Rattle.std.specs.Prelude.{◌≡◌, ◌≢◌, ℕ, ◌+◌, ◌-◌, ◌^◌, ◌<◌, ◌≤◌, min, List, slice_index_or, length, Option, Some, None, IsSomeAnd}
+use Rattle.std.specs.Prelude.{◌≡◌, ◌≢◌, ℕ, ◌+◌, ◌-◌, ◌*◌, ◌^◌, ◌<◌, ◌≤◌, min, List, slice_index_or, length, Option, Some, None, IsSomeAnd}
 use Rattle.lsa_kinds.specs.declared.kind.Kind.{Kind}
 use Rattle.lsa_kinds.specs.Kinds.{links_of}
 use Rattle.lsa_pool.specs.declared.Usage.{Usage}
@@ -52,3 +52,23 @@ pub record SameObjects (old new : View) : Type 0 where
   pub epoch : new.epoch ≡ old.epoch
   pub moved : new.moved ≡ old.moved
   pub compacted : new.compacted ≡ old.compacted
+
+-- what every region keeps
+pub record IsRegion (v : View) : Type 0 where
+  pub well : IsWell v
+  pub long : length v.table ≡ 8 * length v.bodies
+
+-- a new object with its kind and bytes; all else is as it was
+pub record IsAdded (old new : View) (r : Ref) (kind : Kind) (bytes : List ℕ) : Type 0 where
+  pub fresh : body old r ≡ None
+  pub here : body new r ≡ Some (kind, bytes)
+  pub others : (q : Ref) → q ≢ r → body new q ≡ body old q
+  pub links : (e : End) → link_of new e ≡ link_of old e
+  pub roots : new.roots ≡ old.roots
+
+-- an object is gone; all else is as it was
+pub record IsFreed (old new : View) (r : Ref) : Type 0 where
+  pub here : body new r ≡ None
+  pub others : (q : Ref) → q ≢ r → body new q ≡ body old q
+  pub links : (e : End) → link_of new e ≡ link_of old e
+  pub roots : new.roots ≡ old.roots

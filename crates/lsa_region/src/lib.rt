@@ -4,6 +4,8 @@
 pub mod end;
 mod links;
 mod place;
+mod region;
 mod store;
 
 pub use end::{End, Ref, Root};
+pub use region::Region;

@@ -43,6 +43,8 @@ pub(crate) fn tie(links: &mut Links, a: End, b: End)
     requires differ { a ≢ b }
     ensures tied { IsTied (named_by links.old) (named_by links.new) a b }
     ensures places { (e : End) → HasPlace links.old e → HasPlace links.new e }
+    ensures back { (e : End) → HasPlace links.new e → HasPlace links.old e }
+    ensures long { length links.new.table.items ≡ length links.old.table.items }
 {
     set(links, a, Some(b));
     set(links, b, Some(a));
@@ -54,6 +56,8 @@ pub(crate) fn part(links: &mut Links, a: End, b: End)
     requires second { HasPlace links.old b }
     ensures parted { IsParted (named_by links.old) (named_by links.new) a b }
     ensures places { (e : End) → HasPlace links.old e → HasPlace links.new e }
+    ensures back { (e : End) → HasPlace links.new e → HasPlace links.old e }
+    ensures long { length links.new.table.items ≡ length links.old.table.items }
 {
     set(links, a, None);
     set(links, b, None);

@@ -1,7 +1,9 @@
 //! The store: objects without their links, each at a place in a segment, which the table of places tells by the object's number.
 ghost use Rattle.std.specs.Prelude.{◌≡◌, ◌≢◌, ℕ, ◌+◌, ◌-◌, ◌*◌, ◌/◌, ◌%◌, ◌^◌, ◌<◌, ◌≤◌, [], ◌∷◌, ◌++◌, length, replicate, slice_index, slice_index_or, slice_set, Option, Some, None, IsSome, IsSomeAnd, IfOk, vec_len, count_by, is_some};
 ghost use Rattle.lsa_kinds.specs.Kinds.{links_of};
-ghost use Rattle.lsa_pool.specs.Room.{usage_of, free_count, live_sum, active_of, active_room, spare_of};
+ghost use Rattle.lsa_pool.specs.declared.State.TheVariants.{Active};
+ghost use Rattle.lsa_pool.specs.Account.{IsSound};
+ghost use Rattle.lsa_pool.specs.Room.{nothing, usage_of, free_count, live_sum, active_of, active_room, spare_of};
 ghost use Rattle.lsa_region.specs.Layout.{rounded_size};
 
 use crate::place::Place;
@@ -53,14 +55,18 @@ impl<const S: usize> Store<S> {
         ensures live { IfOk result (λ s. live_sum s.usages ≡ 0) }
     {
         let count = segments as usize * (S / 32);
-        Ok(Store {
-            pool: Pool::new(alloc, segments)?,
-            segments: empty_segments(alloc, segments)?,
-            active: 0,
-            places: Vec::from_elem(alloc, None, count)?,
-            vacant: numbers_down(alloc, count)?,
-            vacant_len: count,
-        })
+        let pool = Pool::new(alloc, segments)?;
+        let blocks = empty_segments(alloc, segments)?;
+        let places = no_places(alloc, count)?;
+        let vacant = numbers_down(alloc, count)?;
+        Ok(assemble(pool, blocks, places, vacant, count))
+    }
+
+    /// How many numbers of objects there are.
+    pub(crate) fn len(&self) -> usize
+        ensures { result ≡ length self.now.bodies }
+    {
+        self.places.len()
     }
 
     /// How many objects there are.
@@ -253,4 +259,45 @@ fn numbers_down(alloc: Global, count: usize) -> Result<Vec<usize>, AllocError>
         numbers.push(count - 1 - k)?;
     }
     Ok(numbers)
+}
+
+fn no_places(alloc: Global, count: usize) -> Result<Vec<Option<Place>>, AllocError>
+    ensures { IfOk result (λ v. v.items ≡ replicate count None) }
+{
+    Vec::from_elem(alloc, None, count)
+}
+
+// A store without objects, of its parts.
+fn assemble<const S: usize>(
+    pool: Pool<S>,
+    segments: Vec<Segment<S>>,
+    places: Vec<Option<Place>>,
+    vacant: Vec<usize>,
+    count: usize,
+) -> Store<S>
+    requires few { length pool ≤ 4096 }
+    requires some { 4 ≤ length pool }
+    requires small { S ≤ 2 ^ 27 }
+    requires even { S % 64 ≡ 0 }
+    requires usages { pool ≡ record nothing { state = Active } ∷ replicate (length pool - 1) nothing }
+    requires active { active_of pool ≡ Some 0 }
+    requires free { free_count pool + 1 ≡ length pool }
+    requires live { live_sum pool ≡ 0 }
+    requires sound { IsSound S pool }
+    requires segments { segments.items ≡ replicate (length pool) [] }
+    requires places { places.items ≡ replicate count None }
+    requires count { count ≡ length pool * (S / 32) }
+    requires long { vec_len vacant ≡ count }
+    requires each { (k : ℕ) → k < count → slice_index vacant.items k + k + 1 ≡ count }
+    ensures bodies { result.bodies ≡ replicate count None }
+    ensures usages { result.usages ≡ pool.entry }
+{
+    Store {
+        pool,
+        segments,
+        active: 0,
+        places,
+        vacant,
+        vacant_len: count,
+    }
 }

@@ -1,0 +1,10 @@
+use Rattle.std.proofs.Common.{◌≡◌, ◌*◌, length, replicate, Option, None, refl, ap, ◌∙◌}
+use Rattle.std.proofs.lemmas.List.{length-replicate}
+use Rattle.lsa_region.specs.Region.{View}
+use Rattle.lsa_region.proofs.Regions.{region-open}
+use Rattle.lsa_region.proofs.region.over.Goals as goal
+
+pub invariant_of-result : goal.invariant_of-result
+invariant_of-result g c =
+    let v : View = record { bodies = c.args.store.bodies; table = c.args.table.items; roots = c.args.roots.items; usages = c.args.store.usages; epoch = 0; moved = 0; compacted = 0 } in
+    region-open v (8 * length c.args.store.bodies) c.requires.table c.requires.roots refl
