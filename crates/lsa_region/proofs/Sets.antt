@@ -1,11 +1,14 @@
 -- Lists after one change, and parts of lists of bytes.
 use Rattle.std.proofs.Common.{◌≡◌, ◌≢◌, ℕ, zero, suc, ◌+◌, ◌-◌, ◌<◌, ◌≤◌, ◌⊎◌, inl, inr, List, [], ◌∷◌, ◌++◌, length, get_or, take, drop, map, Option, Some, None, refl, sym, ap, ◌∙◌, subst, arith, length-append, length-take, length-drop, append_assoc}
-use Rattle.std.specs.Prelude.{IsSome}
+use Rattle.std.specs.Prelude.{IsSome, IsSomeAnd}
 use Rattle.std.proofs.Math.ListN.{set}
 use Rattle.std.proofs.lemmas.List.{get_or-set_same, get_or-set_other, take-append-le, drop-append-le, get_or_read}
 use Rattle.std.proofs.Math.Seq.{drop-append_seam, take-append_seam}
-use Rattle.lsa_segment.specs.Bytes.{part}
+use Rattle.std.proofs.Math.Seq.{drop-append-add, take-append-add, take-add}
+use Rattle.std.proofs.lemmas.List.{drop-take, drop-drop, take-take, take-append-drop}
+use Rattle.lsa_segment.specs.Bytes.{part, overwritten}
 use Rattle.std.proofs.Math.ListN.{get_or-map}
+use Rattle.lsa_kinds.specs.declared.kind.Kind.{Kind}
 use Rattle.lsa_region.specs.declared.place.Place.{Place}
 use Rattle.lsa_region.specs.Layout.{segment_at, place_at, body_at, bodies_of}
 use Rattle.lsa_region.proofs.Table.{decided}
@@ -86,3 +89,41 @@ pub three-pieces : (old a b c s0 s1 s2 z0 z1 : List ℕ) → s0 ≡ old ++ z0 �
 three-pieces old a b c s0 s1 s2 z0 z1 one two three first last =
     three ∙ ap (λ l. l ++ z1) (two ∙ ap (λ l. l ++ b) (one ∙ ap (λ l. old ++ l) first)) ∙ ap (λ l. ((old ++ a) ++ b) ++ l) last
     ∙ append_assoc (old ++ a) b c ∙ append_assoc old a (b ++ c)
+
+-- bytes written within a part are written in the part
+pub part-overwritten : (seg : List ℕ) (start len off : ℕ) (b : List ℕ) → off + length b ≤ len → start + len ≤ length seg
+    → part start len (overwritten seg (start + off) b) ≡ overwritten (part start len seg) off b
+part-overwritten seg start len off b fits inside =
+    let A = take start seg in let R = drop start seg in let X = take off R in let D = drop (start + off + length b) seg in let m = len - off - length b in
+    let A_long : start ≡ length A = omega (arith, length-take start seg) in
+    let X_long : length X ≡ off = omega (arith, length-take off R, length-drop start seg) in
+    let split : take (start + off) seg ≡ A ++ X = take-add start off seg in
+    let parts : len ≡ length X + (length b + m) = omega arith in
+    let cut : len ≡ (off + length b) + m = omega arith in
+    let behind : drop (off + length b) (take len R) ≡ take m D = ap (λ k. drop (off + length b) (take k R)) cut ∙ drop-take (off + length b) m R
+        ∙ ap (take m) (drop-drop (off + length b) start seg ∙ ap (λ k. drop k seg) (omega arith)) in
+    ap (λ l. take len (drop start (l ++ (b ++ D)))) split ∙ ap (λ l. take len (drop start l)) (append_assoc A X (b ++ D))
+    ∙ ap (λ k. take len (drop k (A ++ (X ++ (b ++ D))))) A_long ∙ ap (take len) (drop-append_seam A (X ++ (b ++ D)))
+    ∙ ap (λ k. take k (X ++ (b ++ D))) parts ∙ take-append-add X (b ++ D) (length b + m) ∙ ap (λ l. X ++ l) (take-append-add b D m)
+    ∙ sym (ap (λ l. l ++ (b ++ drop (off + length b) (take len R))) (take-take off len R (omega arith)) ∙ ap (λ l. X ++ (b ++ l)) behind)
+
+-- bytes written apart from a part leave it
+pub part-apart : (seg : List ℕ) (start len at : ℕ) (b : List ℕ) → (start + len ≤ at) ⊎ (at + length b ≤ start) → at + length b ≤ length seg → part start len (overwritten seg at b) ≡ part start len seg
+part-apart seg start len at b (inl le) inside =
+    let front : start + len ≤ length (take at seg) = omega (arith, length-take at seg) in
+    part-append start len (take at seg) (b ++ drop (at + length b) seg) front ∙ sym (part-append start len (take at seg) (drop at seg) front) ∙ ap (part start len) (take-append-drop at seg)
+part-apart seg start len at b (inr le) inside =
+    let far = at + length b in let front = take at seg ++ b in let k = start - far in
+    let front_long : length front ≡ far = omega (arith, length-append (take at seg) b, length-take at seg) in
+    let at_start : start ≡ length front + k = omega arith in let back : far + k ≡ start = omega arith in
+    ap (part start len) (sym (append_assoc (take at seg) b (drop far seg))) ∙ ap (λ j. take len (drop j (front ++ drop far seg))) at_start
+    ∙ ap (take len) (drop-append-add front (drop far seg) k ∙ drop-drop k far seg ∙ ap (λ j. drop j seg) back)
+
+pub length-overwritten : (old : List ℕ) (offset : ℕ) (new : List ℕ) → offset + length new ≤ length old → length (overwritten old offset new) ≡ length old
+length-overwritten old offset new inside =
+    omega (arith, length-append (take offset old) (new ++ drop (offset + length new) old), length-append new (drop (offset + length new) old), length-take offset old, length-drop (offset + length new) old)
+
+pub written-within : (segments : List (List ℕ)) (places : List (Option Place)) (n : ℕ) (P : Kind × List ℕ → Type 0) → IsSomeAnd (get_or (bodies_of segments places) n None) P → n < length places
+written-within segments [] n P h = absurd h
+written-within segments (p ∷ places) zero P h = omega arith
+written-within segments (p ∷ places) (suc n) P h = omega (arith, written-within segments places n P h)

@@ -1,9 +1,10 @@
 -- Where objects lie in the segments, each of size bytes.
-use Rattle.std.specs.Prelude.{◌≡◌, ◌≢◌, ℕ, ◌+◌, ◌-◌, ◌*◌, ◌/◌, ◌%◌, ◌^◌, ◌<◌, ◌≤◌, ◌⊎◌, cond, nat_eq, List, [], length, map, count_by, sum_by, slice_index, slice_index_or, Option, Some, None, is_some}
+use Rattle.std.specs.Prelude.{◌≡◌, ◌≢◌, ℕ, ◌+◌, ◌-◌, ◌*◌, ◌/◌, ◌%◌, ◌^◌, ◌<◌, ◌≤◌, ◌⊎◌, cond, nat_eq, List, [], length, map, count_by, sum_by, slice_index, slice_index_or, Option, Some, None, is_some, nat_le, if◌then◌else◌}
+use Rattle.std.specs.Option.{option_and_then}
 use Rattle.lsa_kinds.specs.declared.kind.Kind.{Kind}
 use Rattle.lsa_kinds.specs.Kinds.{links_of}
 use Rattle.lsa_pool.specs.declared.Usage.{Usage}
-use Rattle.lsa_pool.specs.Room.{usage_of, free_count, live_sum, active_of, spare_of}
+use Rattle.lsa_pool.specs.Room.{usage_of, free_count, live_sum, active_of, spare_of, sparsest_of}
 use Rattle.lsa_pool.specs.Account.{IsSound}
 use Rattle.lsa_segment.specs.Bytes.{part}
 use Rattle.lsa_region.specs.declared.place.Place.{Place}
@@ -75,3 +76,7 @@ pub record IsNumbered (size : ℕ) (us : List Usage) (places : List (Option Plac
 pub record Stored : Type 0 where
   pub bodies : List (Option (Kind × List ℕ))
   pub usages : List Usage
+
+-- the closed segment with least live bytes, the first of such, if that is at most three quarters of a segment
+abbrev pub sparse_of : ℕ → List Usage → Option ℕ
+sparse_of size us = option_and_then (λ n. if nat_le (usage_of us n).live (3 * size / 4) then Some n else None) (sparsest_of us)

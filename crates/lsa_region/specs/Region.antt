@@ -62,6 +62,7 @@ pub record IsRegion (v : View) : Type 0 where
 pub record IsAdded (old new : View) (r : Ref) (kind : Kind) (bytes : List ℕ) : Type 0 where
   pub fresh : body old r ≡ None
   pub here : body new r ≡ Some (kind, bytes)
+  pub unset : (field : ℕ) → link_of new (Obj r field) ≡ None
   pub others : (q : Ref) → q ≢ r → body new q ≡ body old q
   pub links : (e : End) → link_of new e ≡ link_of old e
   pub roots : new.roots ≡ old.roots
@@ -72,3 +73,23 @@ pub record IsFreed (old new : View) (r : Ref) : Type 0 where
   pub others : (q : Ref) → q ≢ r → body new q ≡ body old q
   pub links : (e : End) → link_of new e ≡ link_of old e
   pub roots : new.roots ≡ old.roots
+
+-- a root slot that was not there is there, and names nothing; all else is as it was
+pub record IsRootAdded (old new : View) (r : Root) : Type 0 where
+  pub fresh : slice_index_or old.roots r.number None ≡ None
+  pub here : slice_index_or new.roots r.number None ≡ Some None
+  pub others : (n : ℕ) → n ≢ r.number → slice_index_or new.roots n None ≡ slice_index_or old.roots n None
+
+-- a root slot is gone; all else is as it was
+pub record IsRootDropped (old new : View) (r : Root) : Type 0 where
+  pub here : slice_index_or new.roots r.number None ≡ None
+  pub others : (n : ℕ) → n ≢ r.number → slice_index_or new.roots n None ≡ slice_index_or old.roots n None
+
+-- the objects, the links, the segments and the counts are as they were
+pub record SameButRoots (old new : View) : Type 0 where
+  pub bodies : new.bodies ≡ old.bodies
+  pub table : new.table ≡ old.table
+  pub usages : new.usages ≡ old.usages
+  pub epoch : new.epoch ≡ old.epoch
+  pub moved : new.moved ≡ old.moved
+  pub compacted : new.compacted ≡ old.compacted

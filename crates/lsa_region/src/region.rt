@@ -1,7 +1,8 @@
 //! The region: objects whose links are halves of pairs, and root slots.
-ghost use Rattle.std.specs.Prelude.{◌≡◌, ◌≢◌, ℕ, ◌+◌, ◌-◌, ◌*◌, ◌/◌, ◌%◌, ◌^◌, ◌<◌, ◌≤◌, [], length, replicate, Option, Some, None, IsSome, IsSomeAnd, IfOk, count_by, is_some};
+ghost use Rattle.std.specs.Prelude.{◌≡◌, ◌≢◌, ℕ, ◌+◌, ◌-◌, ◌*◌, ◌/◌, ◌%◌, ◌^◌, ◌<◌, ◌≤◌, [], length, replicate, slice_index_or, Option, Some, None, IsSome, IsSomeAnd, IfOk, OnErr, count_by, is_some};
 ghost use Rattle.lsa_pool.specs.Room.{free_count, live_sum, spare_of};
-ghost use Rattle.lsa_region.specs.Layout.{rounded_size};
+ghost use Rattle.lsa_segment.specs.Bytes.{overwritten};
+ghost use Rattle.lsa_region.specs.Layout.{rounded_size, sparse_of};
 ghost use Rattle.lsa_region.specs.Paired.{IsTied, IsParted};
 
 use crate::end::{End, Ref, Root};
@@ -32,7 +33,7 @@ impl<const S: usize> Model for Region<S> {
 }
 
 impl<const S: usize> Region<S> {
-    ghost use Rattle.lsa_region.specs.Region.{View, body, link_of, IsEnd, IsWell, SameObjects, IsAdded, IsFreed, Risen};
+    ghost use Rattle.lsa_region.specs.Region.{View, body, link_of, IsEnd, IsWell, SameObjects, SameButRoots, IsRootAdded, IsRootDropped, IsAdded, IsFreed, Risen};
 
     /// A region of so many segments, 4 to 4096, all of them taken now. It has no object and no root slot.
     pub fn open(alloc: Global, segments: u32) -> Result<Self, AllocError>
@@ -42,6 +43,8 @@ impl<const S: usize> Region<S> {
         requires even { S % 64 ≡ 0 }
         ensures bodies { IfOk result (λ r. (x : Ref) → body r x ≡ None) }
         ensures roots { IfOk result (λ r. r.roots ≡ []) }
+        ensures unset { IfOk result (λ r. (e : End) → link_of r e ≡ None) }
+        ensures well { IfOk result IsWell }
         ensures spare { IfOk result (λ r. spare_of S r.usages ≡ (segments - 2) * (7 * S / 8) + (S - S / 8)) }
         ensures free { IfOk result (λ r. free_count r.usages + 1 ≡ segments) }
         ensures live { IfOk result (λ r. live_sum r.usages ≡ 0) }
@@ -115,6 +118,22 @@ impl<const S: usize> Region<S> {
         self.store.bytes(r.number)
     }
 
+    /// Writes over bytes of a live object that follow its links, from `offset` on.
+    pub fn write(&mut self, r: Ref, offset: usize, bytes: &[u8])
+        requires { IsSomeAnd (body self.old r) (λ b. offset + length bytes.now ≤ length b.1) }
+        ensures written { IsSomeAnd (body self.old r) (λ b. body self.new r ≡ Some (b.0, overwritten b.1 offset bytes.now)) }
+        ensures others { (q : Ref) → q ≢ r → body self.new q ≡ body self.old q }
+        ensures links { (e : End) → link_of self.new e ≡ link_of self.old e }
+        ensures roots { self.new.roots ≡ self.old.roots }
+        ensures usages { self.new.usages ≡ self.old.usages }
+        ensures epoch { self.new.epoch ≡ self.old.epoch }
+        ensures moved { self.new.moved ≡ self.old.moved }
+        ensures compacted { self.new.compacted ≡ self.old.compacted }
+        ensures well { IsWell self.new }
+    {
+        self.store.write(r.number, offset, bytes);
+    }
+
     /// Makes an object of this kind with these bytes behind its links, all of which are unset. It fits an eighth of a segment
     /// and what is spare, which falls by its rounded size at most.
     pub fn alloc_obj(&mut self, kind: Kind, bytes: &[u8]) -> Ref
@@ -155,12 +174,55 @@ impl<const S: usize> Region<S> {
         self.store.pool().spare()
     }
 
+    /// Makes a root slot that names nothing, perhaps one that was dropped. Want of memory changes nothing.
+    pub fn add_root(&mut self, _alloc: Global) -> Result<Root, AllocError>
+        requires { length self.old.roots < 2 ^ 32 }
+        ensures added { IfOk result (IsRootAdded self.old self.new) }
+        ensures same { SameButRoots self.old self.new }
+        ensures err { OnErr result (self.new.roots ≡ self.old.roots) }
+        ensures well { IsWell self.new }
+    {
+        let number = vacant_root(self.links.roots.as_slice());
+        if number < self.links.roots.len() {
+            self.links.roots[number] = Some(None);
+            return Ok(Root { number });
+        }
+        self.links.roots.push(Some(None))?;
+        Ok(Root { number })
+    }
+
+    /// Drops a root slot that names nothing.
+    pub fn drop_root(&mut self, r: Root)
+        requires there { IsEnd self.old (End.Slot r) }
+        requires unset { link_of self.old (End.Slot r) ≡ None }
+        ensures dropped { IsRootDropped self.old self.new r }
+        ensures same { SameButRoots self.old self.new }
+        ensures well { IsWell self.new }
+    {
+        self.links.roots[r.number] = None;
+    }
+
     /// What a root slot names.
     pub fn root(&self, r: Root) -> Option<End>
         requires { IsEnd self.now (End.Slot r) }
         ensures { result ≡ link_of self.now (End.Slot r) }
     {
         named(&self.links, End::Slot(r))
+    }
+
+    /// How many bytes of objects are live.
+    pub fn live(&self) -> usize
+        ensures { result ≡ live_sum self.now.usages }
+    {
+        self.store.live()
+    }
+
+    /// The closed segment with least live bytes, of several the one with the least number; None exactly where no closed segment
+    /// is sparse.
+    pub fn sparse(&self) -> Option<u32>
+        ensures { result ≡ sparse_of S self.now.usages }
+    {
+        self.store.sparse()
     }
 
     /// How many segments are free.
@@ -199,6 +261,8 @@ fn no_links(alloc: Global, count: usize) -> Result<Vec<Option<End>>, AllocError>
     Vec::from_elem(alloc, None, count)
 }
 
+ghost use Rattle.lsa_region.specs.Region.{link_of, IsWell};
+
 // A region over a store without objects.
 fn over<const S: usize>(
     store: Store<S>,
@@ -209,6 +273,8 @@ fn over<const S: usize>(
     requires roots { roots.items ≡ [] }
     ensures bodies { result.bodies ≡ store.entry.bodies }
     ensures roots { result.roots ≡ [] }
+    ensures unset { (e : End) → link_of result e ≡ None }
+    ensures well { IsWell result }
     ensures usages { result.usages ≡ store.entry.usages }
     ensures counts { (result.epoch ≡ 0) × (result.moved ≡ 0) × (result.compacted ≡ 0) }
 {
@@ -218,5 +284,70 @@ fn over<const S: usize>(
         epoch: 0,
         moved: 0,
         compacted: 0,
+    }
+}
+
+// The first root slot that is not there, or the count of the slots where each is there.
+fn vacant_root(roots: &[Option<Option<End>>]) -> usize
+    ensures within { result ≤ length roots.now }
+    ensures vacant { slice_index_or roots.now result None ≡ None }
+{
+    for (number, slot) in roots.iter().enumerate() {
+        if let None = *slot {
+            return number;
+        }
+    }
+    roots.len()
+}
+
+#[cfg(test)]
+mod tests {
+    use super::*;
+    use std::test::Fail;
+
+    // 46 dummies of 88 bytes fill a segment of 4096 bytes.
+    #[test]
+    fn room_of_ninety_three_dummies(rt: HostRuntime) -> Result<(), Fail> {
+        let mut region = Region::<4096>::open(rt.alloc(), 4)?;
+        let bytes = [7u8; 34];
+        assert_eq!(rt; (region.spare(), region.free(), region.epoch()), (10752, 3, 0));
+        for made in 0..93u64 {
+            assert!(rt; region.spare() >= 88);
+            let dummy = region.alloc_obj(Kind::Dummy, &bytes);
+            assert_eq!(rt; region.kind(dummy), Kind::Dummy);
+            assert_eq!(rt; region.epoch(), made + 1);
+            let spare = region.spare();
+            match made + 1 {
+                1 => assert_eq!(rt; spare, 10664),
+                46 => assert_eq!(rt; spare, 7168),
+                47 => assert_eq!(rt; spare, 7080),
+                93 => assert_eq!(rt; spare, 3496),
+                _ => {}
+            }
+        }
+        assert_eq!(rt; (region.free(), region.objects(), region.live()), (1, 93, 8184));
+        assert_eq!(rt; region.sparse(), None);
+        Ok(())
+    }
+
+    // Two objects and a root slot, written, paired, parted and freed.
+    #[test]
+    fn pairs(rt: HostRuntime) -> Result<(), Fail> {
+        let mut region = Region::<4096>::open(rt.alloc(), 4)?;
+        assert!(rt; region.spare() >= 200);
+        let first = region.alloc_obj(Kind::Static, &[1, 2, 3]);
+        assert!(rt; region.spare() >= 100);
+        let second = region.alloc_obj(Kind::Static, &[4]);
+        region.write(first, 1, &[9]);
+        assert_eq!(rt; region.bytes(first), [1, 9, 3].as_slice());
+        assert_eq!(rt; region.bytes(second), [4].as_slice());
+        region.link(End::Obj(first, 1), End::Obj(second, 0));
+        assert_eq!(rt; region.link_of(End::Obj(second, 0)), Some(End::Obj(first, 1)));
+        let mate = region.unlink(End::Obj(second, 0));
+        assert_eq!(rt; mate, End::Obj(first, 1));
+        assert_eq!(rt; region.link_of(End::Obj(first, 1)), None);
+        assert_eq!(rt; region.objects(), 2);
+        assert_eq!(rt; region.moved(), 0);
+        Ok(())
     }
 }

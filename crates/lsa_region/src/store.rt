@@ -4,7 +4,8 @@ ghost use Rattle.lsa_kinds.specs.Kinds.{links_of};
 ghost use Rattle.lsa_pool.specs.declared.State.TheVariants.{Active};
 ghost use Rattle.lsa_pool.specs.Account.{IsSound};
 ghost use Rattle.lsa_pool.specs.Room.{nothing, usage_of, free_count, live_sum, active_of, active_room, spare_of};
-ghost use Rattle.lsa_region.specs.Layout.{rounded_size};
+ghost use Rattle.lsa_segment.specs.Bytes.{overwritten};
+ghost use Rattle.lsa_region.specs.Layout.{rounded_size, sparse_of};
 
 use crate::place::Place;
 use lsa_kinds::{Kind, links};
@@ -67,6 +68,34 @@ impl<const S: usize> Store<S> {
         ensures { result ≡ length self.now.bodies }
     {
         self.places.len()
+    }
+
+    /// The closed segment with least live bytes, if it is sparse.
+    pub(crate) fn sparse(&self) -> Option<u32>
+        ensures { result ≡ sparse_of S self.now.usages }
+    {
+        let _ = &self.places;
+        match self.pool.sparsest() {
+            Some(n) => {
+                if self.pool.usage(n).live <= 3 * S / 4 {
+                    Some(n)
+                } else {
+                    None
+                }
+            }
+            None => None,
+        }
+    }
+
+    /// How many bytes of objects are live.
+    pub(crate) fn live(&self) -> usize
+        ensures { result ≡ live_sum self.now.usages }
+    {
+        let mut total = 0;
+        for n in 0..self.segments.len() {
+            total += self.pool.usage(n as u32).live;
+        }
+        total
     }
 
     /// How many objects there are.
@@ -203,6 +232,20 @@ impl<const S: usize> Store<S> {
             self.places[number] = None;
             self.vacant[self.vacant_len] = number;
             self.vacant_len += 1;
+        }
+    }
+
+    /// Writes over an object's bytes.
+    pub(crate) fn write(&mut self, number: usize, offset: usize, bytes: &[u8])
+        requires { IsSomeAnd (slice_index_or self.old.bodies number None) (λ body. offset + length bytes.now ≤ length body.1) }
+        ensures body { IsSomeAnd (slice_index_or self.old.bodies number None) (λ body. slice_index_or self.new.bodies number None ≡ Some (body.0, overwritten body.1 offset bytes.now)) }
+        ensures others { (r : ℕ) → r ≢ number → slice_index_or self.new.bodies r None ≡ slice_index_or self.old.bodies r None }
+        ensures long { length self.new.bodies ≡ length self.old.bodies }
+        ensures usages { self.new.usages ≡ self.old.usages }
+    {
+        if let Some(place) = self.places[number] {
+            let segment = &mut self.segments[place.segment as usize];
+            segment.write(place.start + offset, bytes);
         }
     }
 }

@@ -5,7 +5,7 @@ use Rattle.lsa_region.specs.declared.end.End.{End}
 use Rattle.lsa_region.specs.declared.end.End.TheVariants.{Obj}
 use Rattle.lsa_region.specs.Paired.{IsTied, IsParted}
 use Rattle.lsa_region.specs.Region.{View, body, link_of, IsEnd, IsWell, IsRegion, SameObjects, IsAdded, IsFreed}
-use Rattle.lsa_region.proofs.Regions.{ends-keep, region-tie, region-part, region-add, region-free, end-place}
+use Rattle.lsa_region.proofs.Regions.{ends-keep, region-tie, region-part, region-add, region-free, unset-fresh}
 use Rattle.lsa_region.proofs.region.Region.alloc_obj.Goals as goal
 
 pub invariant_of-self : goal.invariant_of-self
@@ -17,6 +17,7 @@ invariant_of-self g c =
     let added : IsAdded v w r c.args.kind c.args.bytes.now = record {
       fresh = e.fresh;
       here = e.body;
+      unset = unset-fresh v r c.self.invariant e.fresh;
       others = λ q ne. e.others q.number (λ same. ne (ap (λ k. record { number = k }) same));
       links = λ end. refl;
       roots = refl;
@@ -32,6 +33,7 @@ returns-clause-added g c =
     let added : IsAdded v w r c.args.kind c.args.bytes.now = record {
       fresh = e.fresh;
       here = e.body;
+      unset = unset-fresh v r c.self.invariant e.fresh;
       others = λ q ne. e.others q.number (λ same. ne (ap (λ k. record { number = k }) same));
       links = λ end. refl;
       roots = refl;

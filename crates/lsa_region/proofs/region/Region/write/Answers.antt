@@ -1,0 +1,21 @@
+use Rattle.std.proofs.Common.{◌≡◌, ◌≢◌, ℕ, ◌*◌, length, get_or, Option, Some, None, refl, sym, ap, ◌∙◌, subst}
+use Rattle.std.specs.Prelude.{IsSome}
+use Rattle.lsa_region.specs.declared.end.Ref.{Ref}
+use Rattle.lsa_region.specs.declared.end.End.{End}
+use Rattle.lsa_region.specs.declared.end.End.TheVariants.{Obj}
+use Rattle.lsa_region.specs.Paired.{IsTied, IsParted}
+use Rattle.lsa_region.specs.Region.{View, body, link_of, IsEnd, IsWell, IsRegion, SameObjects, IsAdded, IsFreed}
+use Rattle.lsa_region.proofs.Regions.{ends-keep, region-tie, region-part, region-add, region-free, region-write, region-root}
+use Rattle.lsa_segment.specs.Bytes.{overwritten}
+use Rattle.lsa_region.proofs.region.Region.write.Goals as goal
+
+pub invariant_of-self : goal.invariant_of-self
+invariant_of-self g c =
+    let i = c.self.inside in
+    let v : View = record { bodies = i.store.bodies; table = i.links.table.items; roots = i.links.roots.items; usages = i.store.usages; epoch = i.epoch; moved = i.moved; compacted = i.compacted } in
+    let s = c.write.new.self in let e = c.write.ensures in
+    let w : View = record { bodies = s.bodies; table = i.links.table.items; roots = i.links.roots.items; usages = s.usages; epoch = i.epoch; moved = i.moved; compacted = i.compacted } in
+    region-write v w c.args.r (λ b. overwritten b.1 c.args.offset c.args.bytes.now) c.self.invariant e.body (λ q ne. e.others q.number (λ same. ne (ap (λ k. record { number = k }) same))) refl refl e.long
+
+pub returns-clause-well : goal.returns-clause-well
+returns-clause-well g c = (invariant_of-self g c).well
