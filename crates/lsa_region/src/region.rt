@@ -310,7 +310,10 @@ mod tests {
     fn room_of_ninety_three_dummies(rt: HostRuntime) -> Result<(), Fail> {
         let mut region = Region::<4096>::open(rt.alloc(), 4)?;
         let bytes = [7u8; 34];
-        assert_eq!(rt; (region.spare(), region.free(), region.epoch()), (10752, 3, 0));
+        assert_eq!(rt;
+            (region.spare(), region.free(), region.epoch()),
+            (10752, 3, 0)
+        );
         for made in 0..93u64 {
             assert!(rt; region.spare() >= 88);
             let dummy = region.alloc_obj(Kind::Dummy, &bytes);
@@ -325,7 +328,10 @@ mod tests {
                 _ => {}
             }
         }
-        assert_eq!(rt; (region.free(), region.objects(), region.live()), (1, 93, 8184));
+        assert_eq!(rt;
+            (region.free(), region.objects(), region.live()),
+            (1, 93, 8184)
+        );
         assert_eq!(rt; region.sparse(), None);
         Ok(())
     }
@@ -337,7 +343,10 @@ mod tests {
         assert!(rt; region.spare() >= 200);
         let object = region.alloc_obj(Kind::Static, &[1, 2, 3]);
         assert_eq!(rt; region.bytes(object), [1, 2, 3].as_slice());
-        assert_eq!(rt; (region.objects(), region.live(), region.moved()), (1, 40, 0));
+        assert_eq!(rt;
+            (region.objects(), region.live(), region.moved()),
+            (1, 40, 0)
+        );
         let root = region.add_root(rt.alloc())?;
         assert_eq!(rt; root.number, 0);
         Ok(())
