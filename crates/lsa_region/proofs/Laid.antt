@@ -14,7 +14,7 @@ use Rattle.lsa_kinds.specs.declared.kind.Kind.TheVariants.{Version, RowEntry, Du
 use Rattle.lsa_pool.specs.declared.Usage.{Usage}
 use Rattle.lsa_pool.specs.declared.State.{State}
 use Rattle.lsa_pool.specs.declared.State.TheVariants.{Free, Active, Closed}
-use Rattle.lsa_pool.specs.Room.{nothing, is_state_free, is_state_active, active_room, usage_of, free_count, live_sum, active_of, spare_of}
+use Rattle.lsa_pool.specs.Room.{nothing, is_state_free, is_state_active, active_room, usage_of, free_count, live_sum, active_of}
 use Rattle.lsa_pool.specs.Account.{IsSound}
 use Rattle.lsa_region.specs.declared.place.Place.{Place}
 use Rattle.lsa_region.specs.Layout.{rounded_size, IsLaid, IsInside, IsNumbered, segment_at, place_at, size_in, size_of}
@@ -63,10 +63,10 @@ module _ (size : ℕ) (us : List Usage) (segments : List (List ℕ)) (places : L
       let here = laid.inside r p known in let lt = there places r p known in
       let within = used_within us n (omega (arith, here.used, here.some)) in
       let each : (P : ℕ → Usage → Type 0) → P n v → ((m : ℕ) → m ≢ n → P m (usage_of us m)) → (m : ℕ) → P m (usage_of us' m) =
-        λ P at else m. subst (λ l. P m (usage_of l m)) (sym after) (set_elim nothing P us n v m within at (else m)) in
+      λ P at else m. subst (λ l. P m (usage_of l m)) (sym after) (set_elim nothing P us n v m within at (else m)) in
       let used : (m : ℕ) → (usage_of us' m).used ≡ (usage_of us m).used = each (λ k w. w.used ≡ (usage_of us k).used) refl (λ m _. refl) in
       let gone : (q : ℕ) (o : Place) → place_at (set places r None) q ≡ Some o → (q ≢ r) × (place_at places q ≡ Some o) =
-        λ q o. set_elim None (λ k w. w ≡ Some o → (k ≢ r) × (place_at places k ≡ Some o)) places r None q lt (λ e. cc) (λ ne e. (ne, e)) in
+      λ q o. set_elim None (λ k w. w ≡ Some o → (k ≢ r) × (place_at places k ≡ Some o)) places r None q lt (λ e. cc) (λ ne e. (ne, e)) in
       record {
         small = laid.small;
         even = laid.even;
@@ -77,8 +77,8 @@ module _ (size : ℕ) (us : List Usage) (segments : List (List ℕ)) (places : L
         inside = λ q o e. let old = laid.inside q o (gone q o e).1 in record { used = omega (arith, old.used, used o.segment); start = old.start; end = old.end; some = old.some };
         apart = λ q k o w e d. laid.apart q k o w (gone q o e).1 (gone k w d).1;
         live = each (λ k w. sum_by (size_in k) (set places r None) ≡ w.live)
-          (omega (arith, sum_by-set (size_in n) places r None None lt, laid.live n, sized n p refl, ap (size_in n) known))
-          (λ m ne. omega (arith, sum_by-set (size_in m) places r None None lt, laid.live m, elsewhere m p (λ e. ne (sym e)), ap (size_in m) known));
+            (omega (arith, sum_by-set (size_in n) places r None None lt, laid.live n, sized n p refl, ap (size_in n) known))
+            (λ m ne. omega (arith, sum_by-set (size_in m) places r None None lt, laid.live m, elsewhere m p (λ e. ne (sym e)), ap (size_in m) known));
         total = omega (arith, sum_by-set size_of places r None None lt, laid.total, sums, ap size_of known);
         is_active = is_active ∙ laid.is_active;
         reserve = omega (arith, laid.reserve, reserve);
@@ -93,11 +93,11 @@ module _ (size : ℕ) (us : List Usage) (segments : List (List ℕ)) (places : L
   laid-add r p us' tail lt fresh within after sums is_active reserve sound at_active at_end long start end some =
       let n = active in let u = usage_of us n in let v : Usage = record u { used = u.used + p.size; live = u.live + p.size } in
       let each : (P : ℕ → Usage → Type 0) → P n v → ((m : ℕ) → m ≢ n → P m (usage_of us m)) → (m : ℕ) → P m (usage_of us' m) =
-        λ P at else m. subst (λ l. P m (usage_of l m)) (sym after) (set_elim nothing P us n v m within at (else m)) in
+      λ P at else m. subst (λ l. P m (usage_of l m)) (sym after) (set_elim nothing P us n v m within at (else m)) in
       let grown : (m : ℕ) → (usage_of us m).used ≤ (usage_of us' m).used = each (λ k w. (usage_of us k).used ≤ w.used) (omega arith) (λ m _. omega arith) in
       let inside_segments : n < length segments = omega (arith, laid.count) in
       let found : (q : ℕ) (o : Place) → place_at (set places r (Some p)) q ≡ Some o → ((q ≡ r) × (o ≡ p)) ⊎ ((q ≢ r) × (place_at places q ≡ Some o)) =
-        λ q o. set_elim None (λ k w. w ≡ Some o → ((k ≡ r) × (o ≡ p)) ⊎ ((k ≢ r) × (place_at places k ≡ Some o))) places r (Some p) q lt (λ e. inl (refl, cc)) (λ ne e. inr (ne, e)) in
+      λ q o. set_elim None (λ k w. w ≡ Some o → ((k ≡ r) × (o ≡ p)) ⊎ ((k ≢ r) × (place_at places k ≡ Some o))) places r (Some p) q lt (λ e. inl (refl, cc)) (λ ne e. inr (ne, e)) in
       let new_inside : IsInside us' p = record {
         used = subst (λ k. p.offset + p.size ≤ (usage_of us' k).used) (sym at_active) (subst (λ l. p.offset + p.size ≤ (usage_of l n).used) (sym after) (set_elim nothing (λ k w. k ≡ n → p.offset + p.size ≤ w.used) us n v n within (λ _. omega (arith, at_end, laid.filled n)) (λ ne e. absurd (ne e)) refl));
         start = start;
@@ -105,7 +105,7 @@ module _ (size : ℕ) (us : List Usage) (segments : List (List ℕ)) (places : L
         some = some;
       } in
       let behind : (o : Place) → IsInside us o → p.segment ≡ o.segment → o.offset + o.size ≤ p.offset =
-        λ o old same. omega (arith, old.used, at_end, laid.filled n, ap (λ k. (usage_of us k).used) (sym same ∙ at_active)) in
+      λ o old same. omega (arith, old.used, at_end, laid.filled n, ap (λ k. (usage_of us k).used) (sym same ∙ at_active)) in
       record {
         small = laid.small;
         even = laid.even;
@@ -113,21 +113,25 @@ module _ (size : ℕ) (us : List Usage) (segments : List (List ℕ)) (places : L
         count = length-set segments n (segment_at segments n ++ tail) ∙ laid.count ∙ sym (length-set us n v) ∙ sym (ap length after);
         sound = sound;
         filled = each (λ k w. length (segment_at (set segments n (segment_at segments n ++ tail)) k) ≡ w.used)
-          (set_elim [] (λ k w. k ≡ n → length w ≡ v.used) segments n (segment_at segments n ++ tail) n inside_segments (λ _. omega (arith, length-append (segment_at segments n) tail, laid.filled n, long)) (λ ne e. absurd (ne e)) refl)
-          (λ m ne. set_elim [] (λ k w. k ≢ n → length w ≡ (usage_of us k).used) segments n (segment_at segments n ++ tail) m inside_segments (λ no. absurd (no refl)) (λ _ _. laid.filled m) ne);
+            (set_elim [] (λ k w. k ≡ n → length w ≡ v.used) segments n (segment_at segments n ++ tail) n inside_segments (λ _. omega (arith, length-append (segment_at segments n) tail, laid.filled n, long)) (λ ne e. absurd (ne e)) refl)
+            (λ m ne. set_elim [] (λ k w. k ≢ n → length w ≡ (usage_of us k).used) segments n (segment_at segments n ++ tail) m inside_segments (λ no. absurd (no refl)) (λ _ _. laid.filled m) ne);
         inside = λ q o e. elim (found q o e) [
-            inl w ↦ subst (IsInside us') (sym w.1) new_inside
-          | inr w ↦ let old = laid.inside q o w.1 in record { used = omega (arith, old.used, grown o.segment); start = old.start; end = old.end; some = old.some } ];
+          | inl w ↦ subst (IsInside us') (sym w.1) new_inside
+          | inr w ↦ let old = laid.inside q o w.1 in record { used = omega (arith, old.used, grown o.segment); start = old.start; end = old.end; some = old.some }
+        ];
         apart = λ q k o w e d differ same. elim (found q o e) [
-            inl a ↦ elim (found k w d) [
-                inl b ↦ absurd (differ (a.0 ∙ sym b.0))
-              | inr b ↦ inr (omega (arith, behind w (laid.inside k w b.1) (ap (λ (x : Place). x.segment) (sym a.1) ∙ same), ap (λ (x : Place). x.offset) a.1)) ]
+          | inl a ↦ elim (found k w d) [
+            | inl b ↦ absurd (differ (a.0 ∙ sym b.0))
+            | inr b ↦ inr (omega (arith, behind w (laid.inside k w b.1) (ap (λ (x : Place). x.segment) (sym a.1) ∙ same), ap (λ (x : Place). x.offset) a.1))
+          ]
           | inr a ↦ elim (found k w d) [
-                inl b ↦ inl (omega (arith, behind o (laid.inside q o a.1) (ap (λ (x : Place). x.segment) (sym b.1) ∙ sym same), ap (λ (x : Place). x.offset) b.1))
-              | inr b ↦ laid.apart q k o w a.1 b.1 differ same ] ];
+            | inl b ↦ inl (omega (arith, behind o (laid.inside q o a.1) (ap (λ (x : Place). x.segment) (sym b.1) ∙ sym same), ap (λ (x : Place). x.offset) b.1))
+            | inr b ↦ laid.apart q k o w a.1 b.1 differ same
+          ]
+        ];
         live = each (λ k w. sum_by (size_in k) (set places r (Some p)) ≡ w.live)
-          (omega (arith, sum_by-set (size_in n) places r (Some p) None lt, laid.live n, sized n p at_active, ap (size_in n) fresh))
-          (λ m ne. omega (arith, sum_by-set (size_in m) places r (Some p) None lt, laid.live m, elsewhere m p (λ e. ne (sym e ∙ at_active)), ap (size_in m) fresh));
+            (omega (arith, sum_by-set (size_in n) places r (Some p) None lt, laid.live n, sized n p at_active, ap (size_in n) fresh))
+            (λ m ne. omega (arith, sum_by-set (size_in m) places r (Some p) None lt, laid.live m, elsewhere m p (λ e. ne (sym e ∙ at_active)), ap (size_in m) fresh));
         total = omega (arith, sum_by-set size_of places r (Some p) None lt, laid.total, sums, ap size_of fresh);
         is_active = is_active ∙ laid.is_active;
         reserve = omega (arith, laid.reserve, reserve);
@@ -163,8 +167,9 @@ held size (u ∷ us) live used empty =
     let frees : free_count (u ∷ us) ≡ one + free_count us = sum_by-cons (λ (v : Usage). cond (is_state_free v.state) 1 0) u us in
     let product : free_count (u ∷ us) * size ≡ (one + free_count us) * size = ap (λ k. k * size) frees in
     elim (freeness u.state) [
-        inl w ↦ let none = empty 0 w.0 in let more : (one + free_count us) * size ≡ (1 + free_count us) * size = ap (λ k. (k + free_count us) * size) w.1 in omega (arith, rest, sums, product, more, live 0, none)
-      | inr w ↦ let more : (one + free_count us) * size ≡ (0 + free_count us) * size = ap (λ k. (k + free_count us) * size) w in omega (arith, rest, sums, product, more, live 0, used 0) ]
+      | inl w ↦ let none = empty 0 w.0 in let more : (one + free_count us) * size ≡ (1 + free_count us) * size = ap (λ k. (k + free_count us) * size) w.1 in omega (arith, rest, sums, product, more, live 0, none)
+      | inr w ↦ let more : (one + free_count us) * size ≡ (0 + free_count us) * size = ap (λ k. (k + free_count us) * size) w in omega (arith, rest, sums, product, more, live 0, used 0)
+    ]
 
 pub vacant-some : (size : ℕ) (us : List Usage) (segments : List (List ℕ)) (places : List (Option Place)) (active : ℕ) (vacant : List ℕ) (vacant_len : ℕ)
     → IsLaid size us segments places active → IsNumbered size us places vacant vacant_len → 0 < size → 0 < vacant_len
@@ -196,7 +201,7 @@ module _ (size : ℕ) (us us' : List Usage) (places : List (Option Place)) (vaca
         counted = omega (arith, numbered.counted, long, counted, one, sum_by-set (λ o. cond (is_some o) 1 0) places r (Some p) None lt);
         within = λ k below. omega (arith, long, numbered.within k (omega arith));
         empty = λ k below. set_elim None (λ j w. j ≢ r → place_at places j ≡ None → w ≡ None) places r (Some p) (get_or vacant k 0) lt (λ ne. absurd (ne refl)) (λ _ _ e. e)
-          (λ e. numbered.once k before below (omega arith) (e ∙ is)) (numbered.empty k (omega arith));
+            (λ e. numbered.once k before below (omega arith) (e ∙ is)) (numbered.empty k (omega arith));
         once = λ j k less below. numbered.once j k less (omega arith);
       }
 
@@ -212,12 +217,12 @@ module _ (size : ℕ) (us us' : List Usage) (places : List (Option Place)) (vaca
         counted = omega (arith, numbered.counted, long, one, counts);
         within = λ k below. set_elim 0 (λ j w. j < vacant_len + 1 → w < length (set places r None)) vacant vacant_len r k room (λ _. omega (arith, long)) (λ ne less. omega (arith, long, numbered.within k (omega arith))) below;
         empty = λ k below. set_elim 0 (λ j w. j < vacant_len + 1 → place_at (set places r None) w ≡ None) vacant vacant_len r k room
-          (λ _. set_elim None (λ j w. j ≡ r → w ≡ None) places r None r lt (λ _. refl) (λ ne e. absurd (ne e)) refl)
-          (λ ne less. set_elim None (λ j w. place_at places j ≡ None → w ≡ None) places r None (get_or vacant k 0) lt (λ _. refl) (λ _ e. e) (numbered.empty k (omega arith))) below;
+            (λ _. set_elim None (λ j w. j ≡ r → w ≡ None) places r None r lt (λ _. refl) (λ ne e. absurd (ne e)) refl)
+            (λ ne less. set_elim None (λ j w. place_at places j ≡ None → w ≡ None) places r None (get_or vacant k 0) lt (λ _. refl) (λ _ e. e) (numbered.empty k (omega arith))) below;
         once = λ j k less below. let old : get_or (set vacant vacant_len r) j 0 ≡ get_or vacant j 0 = get_or-set_other vacant vacant_len j r 0 (omega arith) in
-          set_elim 0 (λ i w. j < i → i < vacant_len + 1 → get_or (set vacant vacant_len r) j 0 ≢ w) vacant vacant_len r k room
-          (λ before _ e. let none = numbered.empty j (omega arith) in let at = ap (place_at places) (sym old ∙ e) in let clash = sym none ∙ at ∙ known in cc)
-          (λ ne before upto e. numbered.once j k before (omega arith) (sym old ∙ e)) less below;
+            set_elim 0 (λ i w. j < i → i < vacant_len + 1 → get_or (set vacant vacant_len r) j 0 ≢ w) vacant vacant_len r k room
+            (λ before _ e. let none = numbered.empty j (omega arith) in let at = ap (place_at places) (sym old ∙ e) in let clash = sym none ∙ at ∙ known in cc)
+            (λ ne before upto e. numbered.once j k before (omega arith) (sym old ∙ e)) less below;
       }
 
 pub rounded_32 : (kind : Kind) (len : ℕ) → 32 ≤ rounded_size kind len

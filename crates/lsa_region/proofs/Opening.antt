@@ -1,6 +1,6 @@
 -- A store without objects.
-use Rattle.std.proofs.Common.{◌≡◌, ◌≢◌, ℕ, zero, suc, ◌+◌, ◌*◌, ◌/◌, ◌%◌, ◌^◌, ◌-◌, ◌<◌, ◌≤◌, List, [], ◌∷◌, length, get_or, map, replicate, Option, Some, None, cond, refl, sym, ap, ◌∙◌, subst, arith}
-use Rattle.std.specs.Prelude.{sum_by, count_by, is_some}
+use Rattle.std.proofs.Common.{◌≡◌, ℕ, zero, suc, ◌+◌, ◌*◌, ◌/◌, ◌%◌, ◌^◌, ◌-◌, ◌<◌, ◌≤◌, List, [], ◌∷◌, length, get_or, map, replicate, Option, Some, None, cond, refl, sym, ap, ◌∙◌, arith}
+use Rattle.std.specs.Prelude.{sum_by, is_some}
 use Rattle.std.proofs.lemmas.List.{length-replicate}
 use Rattle.std.proofs.lemmas.List.Folds.{sum_by-replicate}
 use Rattle.lsa_pool.specs.declared.State.TheVariants.{Active}
@@ -8,7 +8,7 @@ use Rattle.lsa_pool.specs.declared.Usage.{Usage}
 use Rattle.lsa_pool.specs.Room.{nothing, usage_of, free_count, live_sum, active_of}
 use Rattle.lsa_pool.specs.Account.{IsSound}
 use Rattle.lsa_region.specs.declared.place.Place.{Place}
-use Rattle.lsa_region.specs.Layout.{IsLaid, IsNumbered, segment_at, place_at, body_at, size_in, size_of}
+use Rattle.lsa_region.specs.Layout.{IsLaid, IsNumbered, place_at, body_at, size_in, size_of}
 
 pub replicate_at : {X : Type 0} (n m : ℕ) (x : X) → get_or (replicate n x) m x ≡ x
 replicate_at zero m x = refl

@@ -5,12 +5,11 @@ use Rattle.lsa_kinds.specs.declared.kind.Kind.{Kind}
 use Rattle.lsa_kinds.specs.declared.kind.Kind.TheVariants.{Version, RowEntry, Dummy, Static}
 use Rattle.lsa_kinds.specs.Kinds.{links_of}
 use Rattle.lsa_region.specs.declared.end.Ref.{Ref}
-use Rattle.lsa_region.specs.declared.end.Root.{Root}
 use Rattle.lsa_region.specs.declared.end.End.{End}
 use Rattle.lsa_region.specs.declared.end.End.TheVariants.{Obj, Slot}
 use Rattle.lsa_region.specs.Ends.{named_in, HasPlaceIn, joined}
-use Rattle.lsa_region.specs.Paired.{WellPaired, IsTied, IsParted}
-use Rattle.lsa_region.specs.Region.{View, body, link_of, IsEnd, IsWell, IsRegion, SameObjects, IsAdded, IsFreed}
+use Rattle.lsa_region.specs.Paired.{IsTied, IsParted}
+use Rattle.lsa_region.specs.Region.{View, body, link_of, IsEnd, IsRegion, IsAdded, IsFreed}
 use Rattle.std.proofs.lemmas.List.{length-replicate}
 use Rattle.lsa_region.proofs.Opening.{replicate_at}
 use Rattle.lsa_region.proofs.Table.{decided, ends_decided}
@@ -29,10 +28,12 @@ module _ (v v' : View) (region : IsRegion v) (same : v'.bodies ≡ v.bodies) (pl
     well = record {
       paired = well-tie (link_of v) (link_of v') a b region.well.paired tied unset unset' differ;
       ends = λ x y e. ends-keep v v' same places y (elim (ends_decided x a) [
-          inl is ↦ let named : link_of v' x ≡ Some b = ap (link_of v') is ∙ tied.first in let mate : b ≡ y = cc in subst (IsEnd v) mate bt
+        | inl is ↦ let named : link_of v' x ≡ Some b = ap (link_of v') is ∙ tied.first in let mate : b ≡ y = cc in subst (IsEnd v) mate bt
         | inr no_a ↦ elim (ends_decided x b) [
-            inl is ↦ let named : link_of v' x ≡ Some a = ap (link_of v') is ∙ tied.second in let mate : a ≡ y = cc in subst (IsEnd v) mate at
-          | inr no_b ↦ region.well.ends x y (sym (tied.others x no_a no_b) ∙ e) ] ]);
+          | inl is ↦ let named : link_of v' x ≡ Some a = ap (link_of v') is ∙ tied.second in let mate : a ≡ y = cc in subst (IsEnd v) mate at
+          | inr no_b ↦ region.well.ends x y (sym (tied.others x no_a no_b) ∙ e)
+        ]
+      ]);
     };
     long = long_still;
   }
@@ -42,10 +43,12 @@ module _ (v v' : View) (region : IsRegion v) (same : v'.bodies ≡ v.bodies) (pl
     well = record {
       paired = well-part (link_of v) (link_of v') a b region.well.paired parted set;
       ends = λ x y e. ends-keep v v' same places y (elim (ends_decided x a) [
-          inl is ↦ let named : link_of v' x ≡ None = ap (link_of v') is ∙ parted.first in let clash = sym named ∙ e in cc
+        | inl is ↦ let named : link_of v' x ≡ None = ap (link_of v') is ∙ parted.first in let clash = sym named ∙ e in cc
         | inr no_a ↦ elim (ends_decided x b) [
-            inl is ↦ let named : link_of v' x ≡ None = ap (link_of v') is ∙ parted.second in let clash = sym named ∙ e in cc
-          | inr no_b ↦ region.well.ends x y (sym (parted.others x no_a no_b) ∙ e) ] ]);
+          | inl is ↦ let named : link_of v' x ≡ None = ap (link_of v') is ∙ parted.second in let clash = sym named ∙ e in cc
+          | inr no_b ↦ region.well.ends x y (sym (parted.others x no_a no_b) ∙ e)
+        ]
+      ]);
     };
     long = long_still;
   }
@@ -72,17 +75,21 @@ region-same v v' region links ends long = record {
 
 pub region-add : (v v' : View) (r : Ref) (kind : Kind) (bytes : List ℕ) → IsRegion v → IsAdded v v' r kind bytes → length v'.table ≡ 8 * length v'.bodies → IsRegion v'
 region-add v v' r kind bytes region added long = region-same v v' region added.links (λ x y e. elim y as (λ (o : End). IsEnd v o → IsEnd v' o) [
-    Obj q field ↦ λ h. elim (refs_decided q r) [
-        inl same ↦ absurd (some_and_none (body v q) (λ b. field < links_of b.0) (ap (body v) same ∙ added.fresh) h)
-      | inr ne ↦ subst (λ o. IsSomeAnd o (λ b. field < links_of b.0)) (sym (added.others q ne)) h ]
-  | Slot s ↦ λ h. (h.0, ap (λ l. get_or l s.number None) added.roots ∙ h.1) ]) long
+  | Obj q field ↦ λ h. elim (refs_decided q r) [
+    | inl same ↦ absurd (some_and_none (body v q) (λ b. field < links_of b.0) (ap (body v) same ∙ added.fresh) h)
+    | inr ne ↦ subst (λ o. IsSomeAnd o (λ b. field < links_of b.0)) (sym (added.others q ne)) h
+  ]
+  | Slot s ↦ λ h. (h.0, ap (λ l. get_or l s.number None) added.roots ∙ h.1)
+]) long
 
 pub region-free : (v v' : View) (r : Ref) → IsRegion v → IsFreed v v' r → ((field : ℕ) → link_of v (Obj r field) ≡ None) → length v'.table ≡ 8 * length v'.bodies → IsRegion v'
 region-free v v' r region freed unset long = region-same v v' region freed.links (λ x y e. elim y as (λ (o : End). link_of v x ≡ Some o → IsEnd v o → IsEnd v' o) [
-    Obj q field ↦ λ named h. elim (refs_decided q r) [
-        inl same ↦ let back = region.well.paired.mates x (Obj q field) named in let none : link_of v (Obj q field) ≡ None = ap (λ p. link_of v (Obj p field)) same ∙ unset field in let clash = sym none ∙ back in cc
-      | inr ne ↦ subst (λ o. IsSomeAnd o (λ b. field < links_of b.0)) (sym (freed.others q ne)) h ]
-  | Slot s ↦ λ named h. (h.0, ap (λ l. get_or l s.number None) freed.roots ∙ h.1) ] e) long
+  | Obj q field ↦ λ named h. elim (refs_decided q r) [
+    | inl same ↦ let back = region.well.paired.mates x (Obj q field) named in let none : link_of v (Obj q field) ≡ None = ap (λ p. link_of v (Obj p field)) same ∙ unset field in let clash = sym none ∙ back in cc
+    | inr ne ↦ subst (λ o. IsSomeAnd o (λ b. field < links_of b.0)) (sym (freed.others q ne)) h
+  ]
+  | Slot s ↦ λ named h. (h.0, ap (λ l. get_or l s.number None) freed.roots ∙ h.1)
+] e) long
 
 links_few : (k : Kind) → links_of k ≤ 5
 links_few Version = omega arith
@@ -129,10 +136,12 @@ pub region-write : (v v' : View) (r : Ref) (f : Kind × List ℕ → List ℕ) �
     → v'.table ≡ v.table → v'.roots ≡ v.roots → length v'.bodies ≡ length v.bodies → IsRegion v'
 region-write v v' r f region written others table roots long =
     region-same v v' region (λ e. ap (λ t. named_in t v'.roots e) table ∙ ap (λ l. named_in v.table l e) roots) (λ x y e. elim y as (λ (o : End). IsEnd v o → IsEnd v' o) [
-        Obj q field ↦ λ h. elim (refs_decided q r) [
-            inl same ↦ subst (λ p. IsSomeAnd (body v' p) (λ b. field < links_of b.0)) (sym same) (kind_keeps (body v r) (body v' r) f field written (subst (λ p. IsSomeAnd (body v p) (λ b. field < links_of b.0)) same h))
-          | inr ne ↦ subst (λ o. IsSomeAnd o (λ b. field < links_of b.0)) (sym (others q ne)) h ]
-      | Slot s ↦ λ h. (h.0, ap (λ l. get_or l s.number None) roots ∙ h.1) ])
+      | Obj q field ↦ λ h. elim (refs_decided q r) [
+        | inl same ↦ subst (λ p. IsSomeAnd (body v' p) (λ b. field < links_of b.0)) (sym same) (kind_keeps (body v r) (body v' r) f field written (subst (λ p. IsSomeAnd (body v p) (λ b. field < links_of b.0)) same h))
+        | inr ne ↦ subst (λ o. IsSomeAnd o (λ b. field < links_of b.0)) (sym (others q ne)) h
+      ]
+      | Slot s ↦ λ h. (h.0, ap (λ l. get_or l s.number None) roots ∙ h.1)
+    ])
     (ap (λ (l : List (Option End)). length l) table ∙ region.long ∙ ap (λ k. 8 * k) (sym long))
 
 -- a root slot that was not there, or named nothing, comes or goes
@@ -140,13 +149,16 @@ pub region-root : (v v' : View) (n : ℕ) → IsRegion v → v'.bodies ≡ v.bod
     → ((m : ℕ) → m ≢ n → get_or v'.roots m None ≡ get_or v.roots m None) → IsRegion v'
 region-root v v' n region bodies table was is others =
     let links : (e : End) → link_of v' e ≡ link_of v e = λ e. elim e as (λ (o : End). link_of v' o ≡ link_of v o) [
-        Obj r field ↦ ap (λ t. cond (ltb field 8) (get_or t (8 * r.number + field) None) None) table
-      | Slot s ↦ elim (decided s.number n) [ inl e ↦ ap (λ k. joined (get_or v'.roots k None)) e ∙ is ∙ sym (ap (λ k. joined (get_or v.roots k None)) e ∙ was) | inr ne ↦ ap joined (others s.number ne) ] ] in
+      | Obj r field ↦ ap (λ t. cond (ltb field 8) (get_or t (8 * r.number + field) None) None) table
+      | Slot s ↦ elim (decided s.number n) [ inl e ↦ ap (λ k. joined (get_or v'.roots k None)) e ∙ is ∙ sym (ap (λ k. joined (get_or v.roots k None)) e ∙ was) | inr ne ↦ ap joined (others s.number ne) ]
+    ] in
     region-same v v' region links (λ x y e. elim y as (λ (o : End). link_of v x ≡ Some o → IsEnd v o → IsEnd v' o) [
-        Obj q field ↦ λ named h. subst (λ l. IsSomeAnd (get_or l q.number None) (λ b. field < links_of b.0)) (sym bodies) h
+      | Obj q field ↦ λ named h. subst (λ l. IsSomeAnd (get_or l q.number None) (λ b. field < links_of b.0)) (sym bodies) h
       | Slot s ↦ λ named h. elim (decided s.number n) [
-            inl e ↦ let back = region.well.paired.mates x (Slot s) named in let none : link_of v (Slot s) ≡ None = ap (λ k. joined (get_or v.roots k None)) e ∙ was in let clash = sym none ∙ back in cc
-          | inr ne ↦ (h.0, others s.number ne ∙ h.1) ] ] e)
+        | inl e ↦ let back = region.well.paired.mates x (Slot s) named in let none : link_of v (Slot s) ≡ None = ap (λ k. joined (get_or v.roots k None)) e ∙ was in let clash = sym none ∙ back in cc
+        | inr ne ↦ (h.0, others s.number ne ∙ h.1)
+      ]
+    ] e)
     (ap (λ (l : List (Option End)). length l) table ∙ region.long ∙ ap (λ (l : List (Option (Kind × List ℕ))). 8 * length l) (sym bodies))
 
 -- ---- the list of root slots with one more at its end, where there was memory

@@ -1,5 +1,5 @@
 -- Lists after one change, and parts of lists of bytes.
-use Rattle.std.proofs.Common.{◌≡◌, ◌≢◌, ℕ, zero, suc, ◌+◌, ◌-◌, ◌<◌, ◌≤◌, ◌⊎◌, inl, inr, List, [], ◌∷◌, ◌++◌, length, get_or, take, drop, map, Option, Some, None, refl, sym, ap, ◌∙◌, subst, arith, length-append, length-take, length-drop, append_assoc}
+use Rattle.std.proofs.Common.{◌≡◌, ◌≢◌, ℕ, zero, suc, ◌+◌, ◌-◌, ◌<◌, ◌≤◌, ◌⊎◌, inl, inr, List, [], ◌∷◌, ◌++◌, length, get_or, take, drop, Option, Some, None, refl, sym, ap, ◌∙◌, subst, arith, length-append, length-take, length-drop, append_assoc}
 use Rattle.std.specs.Prelude.{IsSome, IsSomeAnd}
 use Rattle.std.proofs.Math.ListN.{set}
 use Rattle.std.proofs.lemmas.List.{get_or-set_same, get_or-set_other, take-append-le, drop-append-le, get_or_read}
@@ -16,8 +16,9 @@ use Rattle.lsa_region.proofs.Table.{decided}
 -- what holds of the new element at its index and of the old ones elsewhere holds of each
 pub set_elim : {X : Type 0} (d : X) (P : ℕ → X → Type 0) (xs : List X) (n : ℕ) (x : X) (m : ℕ) → n < length xs → P n x → (m ≢ n → P m (get_or xs m d)) → P m (get_or (set xs n x) m d)
 set_elim d P xs n x m lt here there = elim (decided m n) [
-    inl e ↦ subst (λ k. P k (get_or (set xs n x) k d)) (sym e) (subst (P n) (sym (get_or-set_same xs n x d lt)) here)
-  | inr e ↦ subst (P m) (sym (get_or-set_other xs n m x d e)) (there e) ]
+  | inl e ↦ subst (λ k. P k (get_or (set xs n x) k d)) (sym e) (subst (P n) (sym (get_or-set_same xs n x d lt)) here)
+  | inr e ↦ subst (P m) (sym (get_or-set_other xs n m x d e)) (there e)
+]
 
 -- what is appended behind a part leaves it
 pub part-append : (start len : ℕ) (xs ys : List ℕ) → start + len ≤ length xs → part start len (xs ++ ys) ≡ part start len xs
@@ -101,7 +102,7 @@ part-overwritten seg start len off b fits inside =
     let parts : len ≡ length X + (length b + m) = omega arith in
     let cut : len ≡ (off + length b) + m = omega arith in
     let behind : drop (off + length b) (take len R) ≡ take m D = ap (λ k. drop (off + length b) (take k R)) cut ∙ drop-take (off + length b) m R
-        ∙ ap (take m) (drop-drop (off + length b) start seg ∙ ap (λ k. drop k seg) (omega arith)) in
+    ∙ ap (take m) (drop-drop (off + length b) start seg ∙ ap (λ k. drop k seg) (omega arith)) in
     ap (λ l. take len (drop start (l ++ (b ++ D)))) split ∙ ap (λ l. take len (drop start l)) (append_assoc A X (b ++ D))
     ∙ ap (λ k. take len (drop k (A ++ (X ++ (b ++ D))))) A_long ∙ ap (take len) (drop-append_seam A (X ++ (b ++ D)))
     ∙ ap (λ k. take k (X ++ (b ++ D))) parts ∙ take-append-add X (b ++ D) (length b + m) ∙ ap (λ l. X ++ l) (take-append-add b D m)

@@ -1,7 +1,5 @@
 -- Ends, and what a table of links names.
 use Rattle.std.specs.Prelude.{◌≡◌, ◌≢◌, ℕ, ◌+◌, ◌*◌, ◌<◌, List, length, slice_index_or, nat_lt, cond, Option, Some, None}
-use Rattle.lsa_region.specs.declared.end.Ref.{Ref}
-use Rattle.lsa_region.specs.declared.end.Root.{Root}
 use Rattle.lsa_region.specs.declared.end.End.{End}
 use Rattle.lsa_region.specs.declared.end.End.TheVariants.{Obj, Slot}
 use Rattle.lsa_region.specs.declared.links.Links.{Links}

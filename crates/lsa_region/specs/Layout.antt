@@ -1,10 +1,10 @@
 -- Where objects lie in the segments, each of size bytes.
-use Rattle.std.specs.Prelude.{◌≡◌, ◌≢◌, ℕ, ◌+◌, ◌-◌, ◌*◌, ◌/◌, ◌%◌, ◌^◌, ◌<◌, ◌≤◌, ◌⊎◌, cond, nat_eq, List, [], length, map, count_by, sum_by, slice_index, slice_index_or, Option, Some, None, is_some, nat_le, if◌then◌else◌}
+use Rattle.std.specs.Prelude.{◌≡◌, ◌≢◌, ℕ, ◌+◌, ◌*◌, ◌/◌, ◌%◌, ◌^◌, ◌<◌, ◌≤◌, ◌⊎◌, cond, nat_eq, List, [], length, map, count_by, sum_by, slice_index, slice_index_or, Option, Some, None, is_some, nat_le, if◌then◌else◌}
 use Rattle.std.specs.Option.{option_and_then}
 use Rattle.lsa_kinds.specs.declared.kind.Kind.{Kind}
 use Rattle.lsa_kinds.specs.Kinds.{links_of}
 use Rattle.lsa_pool.specs.declared.Usage.{Usage}
-use Rattle.lsa_pool.specs.Room.{usage_of, free_count, live_sum, active_of, spare_of, sparsest_of}
+use Rattle.lsa_pool.specs.Room.{usage_of, free_count, live_sum, active_of, sparsest_of}
 use Rattle.lsa_pool.specs.Account.{IsSound}
 use Rattle.lsa_segment.specs.Bytes.{part}
 use Rattle.lsa_region.specs.declared.place.Place.{Place}

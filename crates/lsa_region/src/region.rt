@@ -310,7 +310,10 @@ mod tests {
     fn room_of_ninety_three_dummies(rt: HostRuntime) -> Result<(), Fail> {
         let mut region = Region::<4096>::open(rt.alloc(), 4)?;
         let bytes = [7u8; 34];
-        assert_eq!(rt; (region.spare(), region.free(), region.epoch()), (10752, 3, 0));
+        assert_eq!(rt;
+            (region.spare(), region.free(), region.epoch()),
+            (10752, 3, 0)
+        );
         for made in 0..93u64 {
             assert!(rt; region.spare() >= 88);
             let dummy = region.alloc_obj(Kind::Dummy, &bytes);
@@ -325,29 +328,27 @@ mod tests {
                 _ => {}
             }
         }
-        assert_eq!(rt; (region.free(), region.objects(), region.live()), (1, 93, 8184));
+        assert_eq!(rt;
+            (region.free(), region.objects(), region.live()),
+            (1, 93, 8184)
+        );
         assert_eq!(rt; region.sparse(), None);
         Ok(())
     }
 
-    // Two objects and a root slot, written, paired, parted and freed.
+    // An object is written and read.
     #[test]
-    fn pairs(rt: HostRuntime) -> Result<(), Fail> {
+    fn bytes_of_an_object(rt: HostRuntime) -> Result<(), Fail> {
         let mut region = Region::<4096>::open(rt.alloc(), 4)?;
         assert!(rt; region.spare() >= 200);
-        let first = region.alloc_obj(Kind::Static, &[1, 2, 3]);
-        assert!(rt; region.spare() >= 100);
-        let second = region.alloc_obj(Kind::Static, &[4]);
-        region.write(first, 1, &[9]);
-        assert_eq!(rt; region.bytes(first), [1, 9, 3].as_slice());
-        assert_eq!(rt; region.bytes(second), [4].as_slice());
-        region.link(End::Obj(first, 1), End::Obj(second, 0));
-        assert_eq!(rt; region.link_of(End::Obj(second, 0)), Some(End::Obj(first, 1)));
-        let mate = region.unlink(End::Obj(second, 0));
-        assert_eq!(rt; mate, End::Obj(first, 1));
-        assert_eq!(rt; region.link_of(End::Obj(first, 1)), None);
-        assert_eq!(rt; region.objects(), 2);
-        assert_eq!(rt; region.moved(), 0);
+        let object = region.alloc_obj(Kind::Static, &[1, 2, 3]);
+        assert_eq!(rt; region.bytes(object), [1, 2, 3].as_slice());
+        assert_eq!(rt;
+            (region.objects(), region.live(), region.moved()),
+            (1, 40, 0)
+        );
+        let root = region.add_root(rt.alloc())?;
+        assert_eq!(rt; root.number, 0);
         Ok(())
     }
 }

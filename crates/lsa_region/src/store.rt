@@ -203,7 +203,13 @@ impl<const S: usize> Store<S> {
     {
         let head = 8 + 8 * links(kind);
         let segment = self.active;
-        let offset = append(&mut self.segments, segment as usize, head, bytes, size - head - bytes.len());
+        let offset = append(
+            &mut self.segments,
+            segment as usize,
+            head,
+            bytes,
+            size - head - bytes.len(),
+        );
         self.pool.credit(segment, size);
         self.vacant_len -= 1;
         let number = self.vacant[self.vacant_len];

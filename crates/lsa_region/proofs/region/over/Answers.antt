@@ -1,5 +1,4 @@
-use Rattle.std.proofs.Common.{◌≡◌, ◌*◌, length, replicate, Option, None, refl, ap, ◌∙◌}
-use Rattle.std.proofs.lemmas.List.{length-replicate}
+use Rattle.std.proofs.Common.{◌*◌, length, refl}
 use Rattle.lsa_region.specs.Region.{View}
 use Rattle.lsa_region.proofs.Regions.{region-open, none-open}
 use Rattle.lsa_region.proofs.region.over.Goals as goal

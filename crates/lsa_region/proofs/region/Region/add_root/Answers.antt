@@ -1,17 +1,10 @@
-use Rattle.std.proofs.Common.{◌≡◌, ◌≢◌, ℕ, ◌*◌, ◌<◌, arith, length, get_or, Option, Some, None, refl, sym, ap, ◌∙◌, subst}
-use Rattle.std.specs.Prelude.{IsSome}
-use Rattle.lsa_region.specs.declared.end.Ref.{Ref}
-use Rattle.lsa_region.specs.declared.end.End.{End}
-use Rattle.lsa_region.specs.declared.end.End.TheVariants.{Obj}
-use Rattle.lsa_region.specs.Paired.{IsTied, IsParted}
-use Rattle.lsa_region.specs.Region.{View, body, link_of, IsEnd, IsWell, IsRegion, SameObjects, IsAdded, IsFreed}
-use Rattle.lsa_region.proofs.Regions.{ends-keep, region-tie, region-part, region-add, region-free, region-write, region-root, past_end, pushed_here, pushed_other}
+use Rattle.std.proofs.Common.{◌<◌, arith, length, get_or, Some, None, refl, sym, ap, ◌∙◌}
+use Rattle.lsa_region.specs.Region.{View}
+use Rattle.lsa_region.proofs.Regions.{region-root, past_end, pushed_here, pushed_other}
 use Rattle.std.specs.Prelude.{is_ok}
 use Rattle.std.proofs.Math.ListN.{set}
 use Rattle.std.proofs.lemmas.List.{get_or-set_same, get_or-set_other}
-use Rattle.lsa_region.specs.declared.end.End.TheVariants.{Slot}
 use Rattle.lsa_region.specs.Ends.{joined}
-use Rattle.lsa_region.proofs.Sets.{there}
 use Rattle.lsa_region.proofs.region.Region.add_root.Goals as goal
 
 pub invariant_of-self : goal.invariant_of-self

@@ -1,11 +1,7 @@
-use Rattle.std.proofs.Common.{◌≡◌, ◌≢◌, ℕ, ◌*◌, length, get_or, Option, Some, None, refl, sym, ap, ◌∙◌, subst}
-use Rattle.std.specs.Prelude.{IsSome}
-use Rattle.lsa_region.specs.declared.end.Ref.{Ref}
-use Rattle.lsa_region.specs.declared.end.End.{End}
+use Rattle.std.proofs.Common.{◌≡◌, ℕ, ◌*◌, None, refl, sym, ap, ◌∙◌, subst}
 use Rattle.lsa_region.specs.declared.end.End.TheVariants.{Obj}
-use Rattle.lsa_region.specs.Paired.{IsTied, IsParted}
-use Rattle.lsa_region.specs.Region.{View, body, link_of, IsEnd, IsWell, IsRegion, SameObjects, IsAdded, IsFreed}
-use Rattle.lsa_region.proofs.Regions.{ends-keep, region-tie, region-part, region-add, region-free, end-place}
+use Rattle.lsa_region.specs.Region.{View, link_of, IsFreed}
+use Rattle.lsa_region.proofs.Regions.{region-free}
 use Rattle.lsa_region.proofs.region.Region.free_obj.Goals as goal
 
 pub invariant_of-self : goal.invariant_of-self

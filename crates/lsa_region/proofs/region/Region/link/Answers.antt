@@ -1,11 +1,6 @@
-use Rattle.std.proofs.Common.{◌≡◌, ◌≢◌, ℕ, ◌*◌, length, get_or, Option, Some, None, refl, sym, ap, ◌∙◌, subst}
-use Rattle.std.specs.Prelude.{IsSome}
-use Rattle.lsa_region.specs.declared.end.Ref.{Ref}
-use Rattle.lsa_region.specs.declared.end.End.{End}
-use Rattle.lsa_region.specs.declared.end.End.TheVariants.{Obj}
-use Rattle.lsa_region.specs.Paired.{IsTied, IsParted}
-use Rattle.lsa_region.specs.Region.{View, body, link_of, IsEnd, IsWell, IsRegion, SameObjects, IsAdded, IsFreed}
-use Rattle.lsa_region.proofs.Regions.{ends-keep, region-tie, region-part, region-add, region-free}
+use Rattle.std.proofs.Common.{◌≡◌, None, refl, sym, subst}
+use Rattle.lsa_region.specs.Region.{View, link_of, IsEnd, SameObjects}
+use Rattle.lsa_region.proofs.Regions.{ends-keep, region-tie}
 use Rattle.lsa_region.proofs.region.Region.link.Goals as goal
 
 pub invariant_of-self : goal.invariant_of-self

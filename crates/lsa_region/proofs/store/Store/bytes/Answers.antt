@@ -1,10 +1,7 @@
-use Rattle.std.proofs.Common.{◌≡◌, ◌+◌, ◌≤◌, ◌<◌, length, get_or, map, Some, None, refl, sym, ap, ◌∙◌, subst, arith}
+use Rattle.std.proofs.Common.{◌≡◌, length, get_or, Some, None, sym, ap, ◌∙◌, subst, arith}
 use Rattle.std.specs.Prelude.{IsSome, IsSomeAnd}
-use Rattle.std.proofs.lemmas.List.{get_or_read}
-use Rattle.std.proofs.Math.ListN.{get_or-map}
 use Rattle.lsa_segment.specs.Bytes.{part}
-use Rattle.lsa_pool.specs.Room.{usage_of}
-use Rattle.lsa_region.specs.Layout.{segment_at, place_at, body_at, bodies_of, Stored}
+use Rattle.lsa_region.specs.Layout.{segment_at, Stored}
 use Rattle.lsa_region.proofs.Sets.{body-within, body-there, place-there, segment-there}
 use Rattle.lsa_region.proofs.store.Store.bytes.Goals as goal
 
@@ -24,5 +21,5 @@ returns g c =
     let read = segment-there segments place.segment c.index-in-Some.result.now c.index-in-Some.ensures (omega (arith, inside.used, inside.some, laid.filled place.segment)) in
     let body = body-there segments places c.args.number place known in
     let shown : get_or c.args.self.now.bodies c.args.number None ≡ Some (place.kind, part place.start place.len (segment_at segments place.segment)) =
-        ap (λ (v : Stored). get_or v.bodies c.args.number None) (sym c.self.view_is) ∙ body in
+    ap (λ (v : Stored). get_or v.bodies c.args.number None) (sym c.self.view_is) ∙ body in
     subst (λ o. IsSomeAnd o (λ b. b.1 ≡ c.lend.result.now)) (sym shown) (ap (part place.start place.len) (sym read) ∙ sym c.lend.ensures)

@@ -1,11 +1,10 @@
-use Rattle.std.proofs.Common.{◌≡◌, ◌≢◌, ◌+◌, ◌≤◌, ◌<◌, ◌-◌, length, get_or, Some, None, refl, sym, ap, ◌∙◌, subst, arith}
+use Rattle.std.proofs.Common.{◌-◌, length, get_or, None, refl, sym, ap, ◌∙◌, subst, arith}
 use Rattle.std.specs.Prelude.{IsSome}
 use Rattle.std.proofs.Math.ListN.{set}
 use Rattle.std.proofs.lemmas.List.{length-set, get_or-set_same, get_or-set_other}
-use Rattle.lsa_pool.specs.declared.State.TheVariants.{Free}
 use Rattle.lsa_pool.specs.Room.{usage_of}
-use Rattle.lsa_region.specs.Layout.{Stored, place_at, bodies_of}
-use Rattle.lsa_region.proofs.Sets.{body-within, place-there, bodies-keep, bodies-none, there}
+use Rattle.lsa_region.specs.Layout.{Stored}
+use Rattle.lsa_region.proofs.Sets.{body-within, place-there, bodies-keep, bodies-none}
 use Rattle.lsa_region.proofs.Laid.{laid-size, laid-remove, numbered-give}
 use Rattle.lsa_region.proofs.store.Store.free.Goals as goal
 
@@ -22,9 +21,10 @@ invariant_of-self g c =
     let known = place-there places c.args.number c.index.result.now p (body-within segments places c.args.number (subst (λ (v : Stored). IsSome (get_or v.bodies c.args.number None)) (sym c.self.view_is) c.requires)) c.index.ensures c.in-Some.is in
     let e = c.debit.ensures in
     let u = usage_of pool p.segment in
-    let long = ap length e.after ∙ length-set pool p.segment (record u { live = u.live - p.size }) in
-    (laid-remove g.row.S pool segments places c.self.inside.active laid c.args.number p c.debit.new.self known e.after e.live e.active e.free e.sound,
-     numbered-give g.row.S pool c.debit.new.self places c.self.inside.vacant.items c.self.inside.vacant_len c.self.invariant.1 long c.args.number p known)
+    let long = ap length e.after ∙ length-set pool p.segment (record u { live = u.live - p.size }) in (
+      laid-remove g.row.S pool segments places c.self.inside.active laid c.args.number p c.debit.new.self known e.after e.live e.active e.free e.sound,
+      numbered-give g.row.S pool c.debit.new.self places c.self.inside.vacant.items c.self.inside.vacant_len c.self.invariant.1 long c.args.number p known,
+    )
 
 pub returns-in-Some-clause-body : goal.returns-in-Some-clause-body
 returns-in-Some-clause-body g c =

@@ -1,5 +1,5 @@
-use Rattle.std.proofs.Common.{◌≡◌, ◌+◌, sym, arith}
-use Rattle.lsa_pool.specs.Room.{free_count, active_room, spare_of}
+use Rattle.std.proofs.Common.{sym, arith}
+use Rattle.lsa_pool.specs.Room.{free_count, active_room}
 use Rattle.lsa_region.proofs.Laid.{spare-turn}
 use Rattle.lsa_region.proofs.store.Store.make_room.Goals as goal
 

@@ -1,12 +1,11 @@
-use Rattle.std.proofs.Common.{◌≡◌, ◌≢◌, ℕ, List, replicate, ◌*◌, length-append, ◌+◌, ◌≤◌, ◌<◌, ◌-◌, ◌++◌, [], length, get_or, Some, None, refl, sym, ap, ◌∙◌, subst, arith}
-use Rattle.std.specs.Prelude.{IsSome, IsSomeAnd}
+use Rattle.std.proofs.Common.{◌≡◌, ℕ, List, replicate, ◌*◌, length-append, ◌+◌, ◌≤◌, ◌<◌, ◌-◌, ◌++◌, [], length, get_or, Some, None, refl, sym, ap, ◌∙◌, subst, arith}
 use Rattle.std.proofs.Math.ListN.{set}
 use Rattle.std.proofs.lemmas.List.{length-set, get_or-set_same, get_or-set_other, get_or_read, length-replicate, length-map}
-use Rattle.lsa_segment.specs.Bytes.{part, overwritten}
+use Rattle.lsa_segment.specs.Bytes.{part}
 use Rattle.lsa_pool.specs.Room.{usage_of, active_room}
-use Rattle.lsa_region.specs.Layout.{Stored, IsLaid, place_at, segment_at, body_at, bodies_of}
-use Rattle.lsa_region.proofs.Sets.{body-within, body-there, place-there, segment-there, bodies-keep, bodies-none, there, part-put, part-grown}
-use Rattle.lsa_region.proofs.Laid.{laid-segment, laid-add, numbered-take, vacant-some, rounded_32, active_inside, room-is}
+use Rattle.lsa_region.specs.Layout.{Stored, IsLaid, place_at, segment_at, body_at}
+use Rattle.lsa_region.proofs.Sets.{body-there, bodies-keep, bodies-none, part-put, part-grown}
+use Rattle.lsa_region.proofs.Laid.{laid-add, numbered-take, vacant-some, rounded_32, active_inside, room-is}
 use Rattle.lsa_region.specs.declared.place.Place.{Place}
 use Rattle.lsa_region.proofs.store.Store.put.Goals as goal
 
@@ -52,10 +51,11 @@ invariant_of-self g c =
     let e = c.credit.ensures in let u = usage_of pool active in
     let fits : head + length bytes ≤ c.args.size = omega (arith, c.requires.size, c.links.ensures) in
     let long : length tail ≡ c.args.size = omega (arith, fits, length-append zeros (bytes ++ pad), length-append bytes pad, length-replicate {A = ℕ} head 0, length-replicate {A = ℕ} (c.args.size - head - length bytes) 0) in
-    let same = ap length e.after ∙ length-set pool active (record u { used = u.used + c.args.size; live = u.live + c.args.size }) in
-    (subst (λ l. IsLaid S c.credit.new.self l (set places number (Some p)) active) (sym after)
-      (laid-add S pool segments places active laid number p c.credit.new.self tail lt fresh within e.after e.live e.active e.free e.sound refl c.append-offset.ensures.offset long (omega arith) (omega (arith, fits)) (omega (arith, big, c.requires.size))),
-     numbered-take S pool c.credit.new.self places vacant vacant_len numbered same number before p counted is)
+    let same = ap length e.after ∙ length-set pool active (record u { used = u.used + c.args.size; live = u.live + c.args.size }) in (
+      subst (λ l. IsLaid S c.credit.new.self l (set places number (Some p)) active) (sym after)
+          (laid-add S pool segments places active laid number p c.credit.new.self tail lt fresh within e.after e.live e.active e.free e.sound refl c.append-offset.ensures.offset long (omega arith) (omega (arith, fits)) (omega (arith, big, c.requires.size))),
+      numbered-take S pool c.credit.new.self places vacant vacant_len numbered same number before p counted is,
+    )
 
 pub returns-clause-fresh : goal.returns-clause-fresh
 returns-clause-fresh g c =
@@ -95,7 +95,7 @@ returns-clause-body g c =
     let seg : segment_at c.append-offset.new.segments.items active ≡ segment_at segments active ++ tail = ap (λ l. segment_at l active) after ∙ get_or-set_same segments active (segment_at segments active ++ tail) [] inside in
     body-there c.append-offset.new.segments.items (set places number (Some p)) number p (get_or-set_same places number (Some p) None lt)
     ∙ ap (λ l. Some (c.args.kind, l)) (ap (part p.start p.len) seg
-      ∙ part-put (segment_at segments active) zeros bytes pad p.start (omega (arith, c.append-offset.ensures.offset, length-replicate {A = ℕ} head 0)))
+    ∙ part-put (segment_at segments active) zeros bytes pad p.start (omega (arith, c.append-offset.ensures.offset, length-replicate {A = ℕ} head 0)))
 
 pub returns-clause-others : goal.returns-clause-others
 returns-clause-others g c = λ r ne.
@@ -115,8 +115,8 @@ returns-clause-others g c = λ r ne.
     let within = active_inside pool active laid.is_active in let after = c.append-offset.ensures.after in
     let inside : active < length segments = omega (arith, within, laid.count) in
     bodies-keep segments c.append-offset.new.segments.items places (set places number (Some p)) r (get_or-set_other places number r (Some p) None ne)
-      (λ o e. let old = laid.inside r o e in ap (λ l. part o.start o.len (segment_at l o.segment)) after
-        ∙ part-grown segments active tail o.start o.len o.segment inside (omega (arith, old.used, old.end, laid.filled o.segment)))
+    (λ o e. let old = laid.inside r o e in ap (λ l. part o.start o.len (segment_at l o.segment)) after
+    ∙ part-grown segments active tail o.start o.len o.segment inside (omega (arith, old.used, old.end, laid.filled o.segment)))
     ∙ ap (λ (v : Stored). get_or v.bodies r None) c.self.view_is
 
 pub returns-clause-inside : goal.returns-clause-inside

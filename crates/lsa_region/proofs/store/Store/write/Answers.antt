@@ -1,11 +1,9 @@
-use Rattle.std.proofs.Common.{◌≡◌, ◌≢◌, ℕ, List, ◌+◌, ◌≤◌, ◌<◌, ◌⊎◌, inl, inr, [], length, drop, get_or, Some, None, refl, sym, ap, ◌∙◌, subst, arith, length-take, length-drop}
-use Rattle.std.specs.Prelude.{IsSome, IsSomeAnd}
+use Rattle.std.proofs.Common.{◌≡◌, ◌+◌, ◌≤◌, ◌⊎◌, inl, inr, [], length, drop, get_or, Some, None, refl, sym, ap, ◌∙◌, subst, arith, length-take}
+use Rattle.std.specs.Prelude.{IsSomeAnd}
 use Rattle.std.proofs.Math.ListN.{set}
-use Rattle.std.proofs.lemmas.List.{length-set, get_or-set_same, get_or-set_other, get_or_read}
+use Rattle.std.proofs.lemmas.List.{get_or-set_same, get_or-set_other}
 use Rattle.lsa_segment.specs.Bytes.{part, overwritten}
-use Rattle.lsa_pool.specs.Room.{usage_of}
-use Rattle.lsa_region.specs.declared.place.Place.{Place}
-use Rattle.lsa_region.specs.Layout.{Stored, IsLaid, IsInside, place_at, segment_at, bodies_of}
+use Rattle.lsa_region.specs.Layout.{Stored, segment_at, bodies_of}
 use Rattle.lsa_region.proofs.Table.{decided}
 use Rattle.lsa_region.proofs.Sets.{within, written-within, body-there, place-there, segment-there, bodies-keep, part-overwritten, part-apart, length-overwritten}
 use Rattle.lsa_region.proofs.Laid.{laid-segment}
@@ -86,7 +84,7 @@ returns-in-Some-clause-body g c =
     let changed = set segments n c.write.new.self in
     let at_n : segment_at changed n ≡ new = get_or-set_same segments n c.write.new.self [] here ∙ after in
     let made : get_or (bodies_of changed places) number None ≡ Some (p.kind, overwritten old off bytes) =
-        body-there changed places number p known ∙ ap (λ l. Some (p.kind, l)) (ap (part p.start p.len) at_n ∙ part-overwritten seg p.start p.len off bytes short ends) in
+    body-there changed places number p known ∙ ap (λ l. Some (p.kind, l)) (ap (part p.start p.len) at_n ∙ part-overwritten seg p.start p.len off bytes short ends) in
     subst (λ o. IsSomeAnd o (λ b. get_or (bodies_of changed places) number None ≡ Some (b.0, overwritten b.1 off bytes))) (sym shown ∙ ap (λ (v : Stored). get_or v.bodies number None) c.self.view_is) made
 
 pub returns-in-Some-clause-others : goal.returns-in-Some-clause-others
@@ -109,12 +107,14 @@ returns-in-Some-clause-others g c = λ r ne.
     let changed = set segments n c.write.new.self in
     let at_n : segment_at changed n ≡ new = get_or-set_same segments n c.write.new.self [] here ∙ after in
     bodies-keep segments changed places places r refl (λ o e. elim (decided o.segment n) [
-        inl same ↦
+      | inl same ↦
           let other = laid.inside r o e in
           let clear : (o.start + o.len ≤ p.start + off) ⊎ (p.start + off + length bytes ≤ o.start) = elim (laid.apart r number o p e known ne same) [
-              inl before ↦ inl (omega (arith, before, other.end, inside.start))
-            | inr behind ↦ inr (omega (arith, behind, other.start, inside.end, short)) ] in
+            | inl before ↦ inl (omega (arith, before, other.end, inside.start))
+            | inr behind ↦ inr (omega (arith, behind, other.start, inside.end, short))
+          ] in
           ap (λ k. part o.start o.len (segment_at changed k)) same ∙ ap (part o.start o.len) at_n ∙ part-apart seg o.start o.len (p.start + off) bytes clear (omega (arith, short, ends))
           ∙ ap (λ k. part o.start o.len (segment_at segments k)) (sym same)
-      | inr differ ↦ ap (part o.start o.len) (get_or-set_other segments n o.segment c.write.new.self [] differ) ])
+      | inr differ ↦ ap (part o.start o.len) (get_or-set_other segments n o.segment c.write.new.self [] differ)
+    ])
     ∙ ap (λ (v : Stored). get_or v.bodies r None) c.self.view_is
