@@ -1,21 +1,19 @@
 -- Each reader reads the spellings of its type and nothing else.
-use Rattle.std.proofs.Common.{◌≡◌, ℕ, zero, suc, ◌+◌, ◌^◌, ◌<◌, ◌≤◌, Bool, true, false, ◌&&◌, cond, ltb, List, [], ◌∷◌, ◌++◌, length, take, drop, Option, Some, None, refl, sym, ap, subst, ◌∙◌, append_assoc, arith, ℤ, T}
-use Rattle.std.specs.Prelude.{IfSome, FitsSigned}
-use Rattle.std.specs.Int.{w64}
+use Rattle.std.proofs.Common.{◌≡◌, ℕ, zero, suc, ◌≤◌, false, ltb, List, [], ◌∷◌, ◌++◌, length, Option, Some, None, refl, sym, ap, subst, ◌∙◌, append_assoc, arith}
+use Rattle.std.specs.Prelude.{IfSome}
 use Rattle.std.specs.Option.{option_map, option_and_then}
 use Rattle.std.specs.List.{flat_map, AllByRecursion}
 use Rattle.std.proofs.lemmas.Bool.{ltb-false, le-ltb}
 use Rattle.rc_cell.specs.declared.writes.Cell.{Cell}
 use Rattle.rc_cell.specs.declared.writes.Cell.TheVariants.{Live, Dead}
 use Rattle.rc_cell.specs.declared.writes.Tomb.{Tomb}
-use Rattle.rc_cell.specs.declared.rows.Row.{Row}
 use Rattle.rc_position.specs.declared.comps.Comp.{Comp}
 use Rattle.rc_position.specs.declared.comps.Comp.TheVariants.{Int, Text}
 use Rattle.rc_position.specs.declared.positions.Weight.{Weight}
 use Rattle.rc_position.specs.declared.positions.Weight.TheVariants.{Before, At, After}
 use Rattle.rc_position.specs.declared.positions.Pos.{Pos}
-use Rattle.rc_rowcode.specs.Spelling.{stamp_code, time_code, length_code, optional_code, tomb_code, comp_code, key_code, weight_byte, pos_code, cell_code, entry_code, cells_code, row_code, IsTomb, IsComp, IsKey, IsPos, IsCell, IsEntry, IsCodedRow}
-use Rattle.rc_rowcode.specs.Reading.{Reader, stamp_at, time_at, length_at, bytes_at, optional_at, tomb_at, text_at, comp_at, comps_at, key_at, pos_at, live_at, dead_at, cell_at, entry_at, entries_at, cells_at, row_at}
+use Rattle.rc_rowcode.specs.Spelling.{stamp_code, time_code, length_code, optional_code, tomb_code, comp_code, key_code, weight_byte, pos_code, cell_code, IsTomb, IsComp, IsKey, IsPos, IsCell}
+use Rattle.rc_rowcode.specs.Reading.{Reader, stamp_at, time_at, length_at, bytes_at, optional_at, tomb_at, text_at, comp_at, comps_at, key_at, pos_at, live_at, dead_at, cell_at}
 use Rattle.rc_rowcode.proofs.Fields.{IsBytes, bytes_rest, Took, Codec, bind_some, map_some, guard_some, some_is, time_codec, length_codec, stamp_codec, bytes_took, bytes_again}
 
 -- ---- an optional value

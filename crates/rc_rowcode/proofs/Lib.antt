@@ -4,3 +4,4 @@ pub mod Codecs
 pub mod RowCodec
 pub mod Sizes
 pub mod Read
+pub mod Limits

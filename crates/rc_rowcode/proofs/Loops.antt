@@ -1,6 +1,6 @@
 -- Reading one after the other, as a loop does.
 use Rattle.std.proofs.Common.{◌≡◌, ℕ, suc, ◌-◌, ◌+◌, ◌≤◌, ◌<◌, List, [], ◌∷◌, ◌++◌, Option, Some, None, refl, sym, ap, ◌∙◌, append_assoc, append-nil, arith}
-use Rattle.std.specs.Option.{option_map, option_and_then}
+use Rattle.std.specs.Option.{option_map}
 use Rattle.rc_cell.specs.declared.writes.Cell.{Cell}
 use Rattle.rc_position.specs.declared.comps.Comp.{Comp}
 use Rattle.rc_rowcode.specs.Reading.{comp_at, comps_at, entry_at, entries_at}

@@ -1,11 +1,11 @@
 -- What a reader's answer says of a prefix of the bytes.
-use Rattle.std.proofs.Common.{◌≡◌, ℕ, ◌+◌, ◌-◌, ◌≤◌, List, ◌++◌, length, take, drop, Option, Some, None, refl, sym, ap, subst, ◌∙◌, arith}
+use Rattle.std.proofs.Common.{◌≡◌, ℕ, ◌-◌, ◌≤◌, List, ◌++◌, length, take, drop, Option, Some, None, sym, ap, ◌∙◌, arith}
 use Rattle.std.specs.Option.{option_map}
 use Rattle.std.proofs.lemmas.Option.{none-some, some_pair_parts}
 use Rattle.std.proofs.lemmas.List.{take_at, take-append-drop, length-append}
 use Rattle.rc_rowcode.specs.Spelling.{Reads}
 use Rattle.rc_rowcode.specs.Reading.{Reader}
-use Rattle.rc_rowcode.proofs.Fields.{IsBytes, Took, Codec}
+use Rattle.rc_rowcode.proofs.Fields.{IsBytes, Codec}
 
 -- what is left is no longer than the bytes
 pub left_within : {X : Type 0} {code : X → List ℕ} {is : X → Type 0} {read : Reader X} → Codec code is read → (bytes : List ℕ) (x : X × List ℕ) → IsBytes bytes → read bytes ≡ Some x → length x.1 ≤ length bytes

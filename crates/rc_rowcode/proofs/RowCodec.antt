@@ -1,7 +1,6 @@
 -- Cells by ascending column, and rows: each reader reads the spellings and nothing else.
-use Rattle.std.proofs.Common.{◌≡◌, ℕ, zero, suc, ◌+◌, ◌^◌, ◌<◌, ◌≤◌, Bool, true, false, ◌&&◌, cond, ltb, eqb, List, [], ◌∷◌, ◌++◌, length, take, drop, Option, Some, None, refl, sym, ap, subst, ◌∙◌, append_assoc, arith, ℤ, T}
-use Rattle.std.specs.Prelude.{IfSome, FitsSigned, IsTrue}
-use Rattle.std.specs.Int.{w64}
+use Rattle.std.proofs.Common.{◌≡◌, ℕ, zero, suc, ◌+◌, ◌<◌, ◌≤◌, Bool, true, false, cond, ltb, eqb, List, [], ◌∷◌, ◌++◌, length, Some, None, refl, sym, ap, subst, ◌∙◌, append_assoc, arith, T}
+use Rattle.std.specs.Prelude.{IsTrue}
 use Rattle.std.specs.Option.{option_map, option_and_then}
 use Rattle.std.specs.declared.cmp.Ordering.TheVariants.{Less, Equal, Greater}
 use Rattle.std.specs.Ordering.{nat_cmp, is_lt}
@@ -10,12 +9,11 @@ use Rattle.std.specs.FinMap.{is_sorted}
 use Rattle.std.specs.FinMap.Entries.{below_all}
 use Rattle.std.proofs.lemmas.Bool.{ltb-false, le-ltb, ltb-true, lt-ltb}
 use Rattle.rc_cell.specs.declared.writes.Cell.{Cell}
-use Rattle.rc_cell.specs.declared.writes.Tomb.{Tomb}
 use Rattle.rc_cell.specs.declared.rows.Row.{Row}
 use Rattle.rc_cell.specs.Columns.{ascending}
 use Rattle.rc_cell.specs.ByColumn.{holds, test_of, both, first, second}
-use Rattle.rc_rowcode.specs.Spelling.{stamp_code, optional_code, tomb_code, cell_code, entry_code, cells_code, row_code, IsTomb, IsCell, IsEntry, IsCodedRow}
-use Rattle.rc_rowcode.specs.Reading.{Reader, stamp_at, optional_at, tomb_at, cell_at, entry_at, entries_at, cells_at, row_at}
+use Rattle.rc_rowcode.specs.Spelling.{stamp_code, optional_code, tomb_code, entry_code, cells_code, row_code, IsEntry, IsCodedRow}
+use Rattle.rc_rowcode.specs.Reading.{stamp_at, optional_at, tomb_at, cell_at, entry_at, entries_at, cells_at, row_at}
 use Rattle.rc_rowcode.proofs.Fields.{IsBytes, bytes_rest, Took, Codec, bind_some, map_some, guard_some, some_is, stamp_codec}
 use Rattle.rc_rowcode.proofs.Codecs.{optional_codec, tomb_codec, cell_codec}
 

@@ -1,5 +1,5 @@
 -- How long spellings are.
-use Rattle.std.proofs.Common.{◌≡◌, ℕ, suc, ◌+◌, ◌*◌, ◌^◌, ◌<◌, ◌≤◌, List, [], ◌∷◌, ◌++◌, length, Option, Some, None, refl, sym, ap, ◌∙◌, arith, ℤ, T, length-append}
+use Rattle.std.proofs.Common.{◌≡◌, ℕ, suc, ◌+◌, ◌*◌, ◌<◌, ◌≤◌, List, [], ◌∷◌, ◌++◌, length, refl, arith, ℤ, T, length-append}
 use Rattle.std.specs.Prelude.{IsTrue}
 use Rattle.std.specs.List.{flat_map, AllByRecursion, All}
 use Rattle.std.specs.FinMap.{is_sorted}
@@ -7,12 +7,11 @@ use Rattle.std.specs.Ordering.{nat_cmp}
 use Rattle.std.proofs.lemmas.List.Elements.{recursion_from_All}
 use Rattle.rc_cell.specs.declared.writes.Cell.{Cell}
 use Rattle.rc_cell.specs.declared.writes.Cell.TheVariants.{Live, Dead}
-use Rattle.rc_cell.specs.declared.writes.Tomb.{Tomb}
 use Rattle.rc_cell.specs.Columns.{ascending}
 use Rattle.rc_cell.specs.ByColumn.{test_of, first, second}
 use Rattle.rc_position.specs.declared.comps.Comp.{Comp}
 use Rattle.rc_position.specs.declared.comps.Comp.TheVariants.{Int, Text}
-use Rattle.rc_rowcode.specs.Spelling.{stamp_code, time_code, length_code, tomb_code, comp_code, cell_code, entry_code, CompFits, CellFits, EntryFits}
+use Rattle.rc_rowcode.specs.Spelling.{stamp_code, time_code, length_code, comp_code, cell_code, entry_code, CompFits, CellFits, EntryFits}
 use Rattle.rc_rowcode.proofs.RowCodec.{Above, all_above, above_zero}
 use Rattle.std.specs.FinMap.Entries.{below_all}
 

@@ -1,5 +1,5 @@
 -- What a scratch space is: the bytes put into it, and how many fit.
-use Rattle.std.specs.Prelude.{◌≡◌, ℕ, ◌≤◌, ◌+◌, List, length}
+use Rattle.std.specs.Prelude.{ℕ, ◌≤◌, ◌+◌, List, length}
 
 pub record Space : Type 0 where
   pub bytes : List ℕ

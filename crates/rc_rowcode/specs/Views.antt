@@ -1,5 +1,4 @@
 -- Components and cells that lie in bytes, as the values that they are.
-use Rattle.std.specs.Prelude.{ℕ, List}
 use Rattle.rc_cell.specs.declared.writes.Cell.{Cell}
 use Rattle.rc_cell.specs.declared.writes.Cell.TheVariants.{Live, Dead}
 use Rattle.rc_position.specs.declared.comps.Comp.{Comp}

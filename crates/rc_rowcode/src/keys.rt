@@ -1,6 +1,6 @@
 //! Keys and positions.
 
-ghost use Rattle.std.specs.Prelude.{◌≡◌, ◌≤◌, ◌<◌, ◌+◌, ◌^◌, ◌++◌, ◌∷◌, length, IfOk, OnOk, OnErr};
+ghost use Rattle.std.specs.Prelude.{◌≡◌, ◌≤◌, ◌<◌, ◌+◌, ◌^◌, ◌++◌, ◌∷◌, length, IfOk, OnOk, OnErr, IfSome};
 ghost use Rattle.std.specs.Option.{option_map};
 ghost use Rattle.std.specs.List.{flat_map, AllByRecursion};
 ghost use Rattle.std.specs.Vec.{vec_capacity};
@@ -251,7 +251,9 @@ pub fn write_pos(_alloc: Global, x: &Pos, out: &mut Vec<u8>) -> Result<(), Alloc
 /// The key that the bytes begin with, and the length of its code; none exactly where no prefix of them is a key's code.
 /// The only error is want of memory.
 pub fn read_key(alloc: Global, bytes: &[u8]) -> Result<Option<(Key, usize)>, AllocError>
-    ensures { IfOk result (λ found. Reads key_code IsKey bytes.now found) }
+    ensures value { IfOk result (λ found. Reads key_code IsKey bytes.now found) }
+    ensures limits { IfOk result (λ found. IfSome found (λ x. KeyFits x.0)) }
+    ensures within { IfOk result (λ found. IfSome found (λ x. x.1 ≤ length bytes.now)) }
 {
     let Some((key, rest)) = key_at(alloc, bytes)? else {
         return Ok(None);
@@ -262,7 +264,9 @@ pub fn read_key(alloc: Global, bytes: &[u8]) -> Result<Option<(Key, usize)>, All
 /// The position that the bytes begin with, and the length of its code; none exactly where no prefix of them is a
 /// position's code. The only error is want of memory.
 pub fn read_pos(alloc: Global, bytes: &[u8]) -> Result<Option<(Pos, usize)>, AllocError>
-    ensures { IfOk result (λ found. Reads pos_code IsPos bytes.now found) }
+    ensures value { IfOk result (λ found. Reads pos_code IsPos bytes.now found) }
+    ensures limits { IfOk result (λ found. IfSome found (λ x. KeyFits x.0.prefix)) }
+    ensures within { IfOk result (λ found. IfSome found (λ x. x.1 ≤ length bytes.now)) }
 {
     let Some((x, rest)) = pos_at(alloc, bytes)? else {
         return Ok(None);

@@ -256,7 +256,9 @@ pub fn write_tomb(_alloc: Global, tomb: &Tomb, out: &mut Vec<u8>) -> Result<(), 
 /// The row that the bytes begin with, and the length of its code; none exactly where no prefix of them is a row's code.
 /// The only error is want of memory.
 pub fn read_row(alloc: Global, bytes: &[u8]) -> Result<Option<(Row, usize)>, AllocError>
-    ensures { IfOk result (λ found. Reads row_code IsCodedRow bytes.now found) }
+    ensures value { IfOk result (λ found. Reads row_code IsCodedRow bytes.now found) }
+    ensures limits { IfOk result (λ found. IfSome found (λ x. RowFits x.0)) }
+    ensures within { IfOk result (λ found. IfSome found (λ x. x.1 ≤ length bytes.now)) }
 {
     let Some((row, rest)) = row_at(alloc, bytes)? else {
         return Ok(None);

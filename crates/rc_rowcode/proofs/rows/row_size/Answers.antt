@@ -1,7 +1,5 @@
 -- A row within the limits has a code of at most 8599 bytes.
-use Rattle.std.proofs.Common.{◌≡◌, ◌≤◌, ◌∙◌, length, ap, arith}
-use Rattle.std.specs.List.{flat_map}
-use Rattle.rc_rowcode.specs.Spelling.{entry_code}
+use Rattle.std.proofs.Common.{arith}
 use Rattle.rc_rowcode.proofs.Sizes.{cells_small}
 use Rattle.rc_rowcode.proofs.rows.row_size.Goals as goal
 
