@@ -1,0 +1,4 @@
+pub mod Cell
+pub mod Version
+pub mod Chain
+pub mod Change

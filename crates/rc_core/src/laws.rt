@@ -1,0 +1,3 @@
+//! The laws of what this crate defines, each the contract of a function that does nothing.
+
+pub mod seeing;
