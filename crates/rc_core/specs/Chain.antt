@@ -5,7 +5,7 @@
 --     content          the join of what the versions from the base on hold there; without a base, of all
 --     IsBare           a clustered position with no row in what is seen
 --     IsKnown          flagged and, at a bare position, the open gap behind it flagged too: the gap's base is the base at the spot behind
---     IsEven           at each bare position that is known the tombstone is that of the gap behind it
+--     IsEvenAt         at a bare position that is known the tombstone is that of the gap behind it
 use Rattle.std.specs.Prelude.{◌≡◌, ℕ, suc, Bool, true, false, IsTrue, List, [], ◌∷◌, ◌++◌, Option, Some, None, cond, drop, take, map as list_map}
 use Rattle.std.specs.List.{flat_map}
 use Rattle.rc_cell.specs.declared.rows.Row.{Row}
@@ -19,7 +19,7 @@ use Rattle.rc_core.specs.declared.entries.ChainKind.TheVariants.{Memtable, Cache
 use Rattle.rc_core.specs.declared.entries.Flag.{Flag}
 use Rattle.rc_core.specs.declared.entries.Flag.TheVariants.{Known, Unknown, Inherit}
 use Rattle.rc_core.specs.Cell.{Cell, through}
-use Rattle.rc_core.specs.Version.{Spot, On, Behind, Place, Clustered, Version, answer, end_position}
+use Rattle.rc_core.specs.Version.{Spot, On, Behind, Version, cell_at, end_position}
 
 abbrev pub decides : Flag → Bool
 decides Known = true
@@ -77,21 +77,21 @@ flag_over kind Known = true
 flag_over kind Unknown = false
 flag_over kind Inherit = below_oldest kind
 
--- the cells at a place of the versions up to number j
-abbrev pub cells_upto : List Version → ℕ → Place → List Cell
-cells_upto versions j p = list_map (λ v. answer v p) (take (suc j) versions)
+-- In what follows `versions` are those of a chain up to a pinned one, the oldest first.
+
+abbrev pub cells : Spot → List Version → List Cell
+cells s versions = list_map (λ v. cell_at s v) versions
 
 -- no row is seen at the position
-pub record IsBare (versions : List Version) (j : ℕ) (x : Pos) : Type 0 where
+pub record IsBare (versions : List Version) (x : Pos) : Type 0 where
   pub inside : IsBefore x end_position
-  pub no_row : (content (cells_upto versions j (Clustered (On x)))).0 ≡ empty_row
+  pub no_row : (content (cells (On x) versions)).0 ≡ empty_row
 
 -- a clustered position is known
-pub record IsKnown (kind : ChainKind) (versions : List Version) (j : ℕ) (x : Pos) : Type 0 where
-  pub at : IsTrue (flagged kind (cells_upto versions j (Clustered (On x))))
-  pub gap : IsBare versions j x → IsTrue (flagged kind (cells_upto versions j (Clustered (Behind x))))
+pub record IsKnown (kind : ChainKind) (versions : List Version) (x : Pos) : Type 0 where
+  pub at : IsTrue (flagged kind (cells (On x) versions))
+  pub gap : IsBare versions x → IsTrue (flagged kind (cells (Behind x) versions))
 
-abbrev pub IsEven : ChainKind → List Version → ℕ → Type 0
-IsEven kind versions j =
-    (x : Pos) → IsBare versions j x → IsKnown kind versions j x →
-    (content (cells_upto versions j (Clustered (On x)))).1 ≡ (content (cells_upto versions j (Clustered (Behind x)))).1
+-- the tombstone at a bare position is that of the gap behind it
+abbrev pub IsEvenAt : ChainKind → List Version → Pos → Type 0
+IsEvenAt kind versions x = IsBare versions x → IsKnown kind versions x → (content (cells (On x) versions)).1 ≡ (content (cells (Behind x) versions)).1

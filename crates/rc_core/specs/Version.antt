@@ -1,7 +1,7 @@
 -- What one version answers at each spot of a partition.
---     Spot         the static row, a clustered position, or the open gap right behind one
---     seen         what entries answer at a spot: the entry there, or else the gap before the first entry behind it
---     answer       what a version answers at a spot
+--     Spot         a clustered position, or the open gap right behind one
+--     seen         what entries say of a spot: the entry there, or else the gap before the first entry behind it
+--     static_cell, cell_at    what a version answers at its static row, and at a spot
 --     IsBeforeEnd  the entries reach up to the spot, as those of a version do: its last one is behind every row
 use Rattle.std.specs.Prelude.{◌≡◌, ℕ, List, [], ◌∷◌, Option, Some, None, cond}
 use Rattle.std.specs.declared.cmp.Ordering.{Ordering}
@@ -94,12 +94,9 @@ pub record IsVersion (v : Version) : Type 0 where
   pub ascend : Ascend v.entries
   pub ends : EndsWithDummy v.entries
 
--- the static row, or a clustered spot
-pub data Place : Type 0 where
-  Static : Place
-  Clustered : Spot → Place
+-- what a version answers at its static row, and at a clustered spot
+abbrev pub static_cell : Version → Cell
+static_cell v = cell v.static_flag (option_to_list v.statics) []
 
--- what a version answers at a place
-abbrev pub answer : Version → Place → Cell
-answer v Static = cell v.static_flag (option_to_list v.statics) []
-answer v (Clustered s) = cell_of (seen s v.entries)
+abbrev pub cell_at : Spot → Version → Cell
+cell_at s v = cell_of (seen s v.entries)

@@ -1,3 +1,4 @@
 //! The laws of what this crate defines, each the contract of a function that does nothing.
 
 pub mod seeing;
+pub mod changes;
