@@ -1,2 +1,3 @@
 pub mod Folding
 pub mod Spots
+pub mod Losing

@@ -2,3 +2,4 @@ pub mod Cell
 pub mod Version
 pub mod Chain
 pub mod Change
+pub mod Continuity

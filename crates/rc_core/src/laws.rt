@@ -2,3 +2,4 @@
 
 pub mod seeing;
 pub mod changes;
+pub mod losing;
