@@ -1,3 +1,4 @@
 pub mod Folding
 pub mod Spots
 pub mod Losing
+pub mod Filling

@@ -59,11 +59,11 @@ same_or_lost-through (c ∷ cs) newer a b h = same_or_lost-below c (through (cs 
 pub kept-same : (a b : Cell) → IsKeptOrLost a b → SameOrLost a b
 kept-same a b h = ⊎_elim inl (λ e. inr (ap (λ (c : Cell). c.flag) e)) h
 
-map-append : {A B : Type 0} (f : A → B) (xs : List A) (y : A) (ys : List A) → list_map f (xs ++ y ∷ ys) ≡ list_map f xs ++ f y ∷ list_map f ys
+pub map-append : {A B : Type 0} (f : A → B) (xs : List A) (y : A) (ys : List A) → list_map f (xs ++ y ∷ ys) ≡ list_map f xs ++ f y ∷ list_map f ys
 map-append f [] y ys = refl
 map-append f (x ∷ xs) y ys = ap (λ zs. f x ∷ zs) (map-append f xs y ys)
 
-tombs-same : (older newer : List Version) (v w : Version) → w.pt ≡ v.pt → partition_tombs (older ++ w ∷ newer) ≡ partition_tombs (older ++ v ∷ newer)
+pub tombs-same : (older newer : List Version) (v w : Version) → w.pt ≡ v.pt → partition_tombs (older ++ w ∷ newer) ≡ partition_tombs (older ++ v ∷ newer)
 tombs-same [] newer v w e = ap (λ t. cons_option t (partition_tombs newer)) e
 tombs-same (o ∷ os) newer v w e = ap (cons_option o.pt) (tombs-same os newer v w e)
 

@@ -44,7 +44,7 @@ behind-Less Less e = refl
 behind-Less Equal e = absurd (cc)
 behind-Less Greater e = absurd (cc)
 
-behind-Equal : (r : Ordering) → behind r ≡ Equal → ⊥
+pub behind-Equal : (r : Ordering) → behind r ≡ Equal → ⊥
 behind-Equal Less e = cc
 behind-Equal Equal e = cc
 behind-Equal Greater e = cc
@@ -422,3 +422,7 @@ behind_both s e f es a h =
 
 pub drop-behind : (s : Spot) (bs : List Entry) (e f : Entry) (es : List Entry) → Ascend (bs ++ e ∷ f ∷ es) → (spot_cmp s f.position ≡ Less → ⊥) → seen s (drop_at e.position (bs ++ e ∷ f ∷ es)) ≡ seen s (bs ++ e ∷ f ∷ es)
 drop-behind s bs e f es a h = ap (seen s) (dropped bs e f es a) ∙ seen-same s bs (without_gap f ∷ es) (e ∷ f ∷ es) (behind_both s e f es (ascend-back bs (e ∷ f ∷ es) a).0 h)
+
+pub fill_row-other : (s : Spot) (x : Pos) (row : Row) (tomb : Option Tomb) (es : List Entry) → (spot_cmp s x ≡ Equal → ⊥) → seen s (fill_row x row tomb es) ≡ seen s es
+fill_row-other s x row tomb es off =
+    at_entry-other (λ r. r) (known_with tomb) s x (join_row_at x row es) off ∙ at_entry-other (λ r. Some (joined_onto r row)) (λ m. m) s x (split x es) off ∙ split-seen s x es

@@ -3,3 +3,4 @@
 pub mod seeing;
 pub mod changes;
 pub mod losing;
+pub mod filling;
