@@ -2,3 +2,4 @@ pub mod Folding
 pub mod Spots
 pub mod Losing
 pub mod Filling
+pub mod Merging

@@ -3,3 +3,4 @@ pub mod Version
 pub mod Chain
 pub mod Change
 pub mod Continuity
+pub mod Merge

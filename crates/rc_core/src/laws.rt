@@ -4,3 +4,4 @@ pub mod seeing;
 pub mod changes;
 pub mod losing;
 pub mod filling;
+pub mod merging;
