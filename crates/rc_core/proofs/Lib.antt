@@ -3,3 +3,4 @@ pub mod Spots
 pub mod Losing
 pub mod Filling
 pub mod Merging
+pub mod Putting

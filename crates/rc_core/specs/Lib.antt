@@ -4,3 +4,4 @@ pub mod Chain
 pub mod Change
 pub mod Continuity
 pub mod Merge
+pub mod Plain
