@@ -4,3 +4,4 @@ pub mod Losing
 pub mod Filling
 pub mod Merging
 pub mod Putting
+pub mod Keeping

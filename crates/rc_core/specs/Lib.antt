@@ -5,3 +5,4 @@ pub mod Change
 pub mod Continuity
 pub mod Merge
 pub mod Plain
+pub mod Chains

@@ -1,6 +1,6 @@
 //! What eviction does to what is seen through a chain, and that it keeps continuity.
 
-ghost use Rattle.std.specs.Prelude.{◌≡◌, ◌++◌, ◌∷◌, IsTrue, List, Option};
+ghost use Rattle.std.specs.Prelude.{◌≡◌, ◌++◌, ◌∷◌, IsTrue, List, Option, Some, ℕ};
 ghost use Rattle.rc_mutation.specs.declared.mutations.Mutation.{Mutation};
 ghost use Rattle.rc_position.specs.Position.{IsBefore, Place};
 ghost use Rattle.rc_core.specs.declared.entries.ChainKind.TheVariants.{Cache};
@@ -8,6 +8,7 @@ ghost use Rattle.rc_core.specs.Cell.{Cell, through};
 ghost use Rattle.rc_position.specs.declared.positions.Pos.{Pos};
 ghost use Rattle.rc_core.specs.Version.{IsVersion, Version, end_position};
 ghost use Rattle.rc_core.specs.Chain.{content, flagged};
+ghost use Rattle.rc_core.specs.Chains.{Chain, IsChainContinuous, IsUntouchedFrom, NewestIs, with_versions};
 ghost use Rattle.rc_core.specs.Continuity.{HoldNoMore, IsContinuous, IsEvicted, IsSameOrLost, SameOrLost, with_entries, without_statics};
 ghost use Rattle.rc_core.specs.Change.{drop_at, lose_last_gap};
 
@@ -46,4 +47,13 @@ pub fn each_eviction_is_one()
 pub fn an_eviction_keeps_continuity()
     ensures { (reach : Option Place) (writes : List Mutation) (older newer : List Version) (before now : Version) → IsEvicted before now →
         IsContinuous reach writes (older ++ before ∷ newer) → IsContinuous reach writes (older ++ now ∷ newer) }
+{}
+
+/// Eviction of one object keeps the continuity of the whole chain, where it leaves the version under update untouched from the update's
+/// place on: the dummy there and that version's end dummy cannot be evicted.
+pub fn an_eviction_keeps_the_whole_chain()
+    ensures { (below : ℕ → List Mutation) (c : Chain) (front back : List Version) (before now : Version) → c.versions ≡ front ++ before ∷ back →
+        IsEvicted before now → now.phase ≡ before.phase →
+        ((p : Place) → c.updating ≡ Some p → NewestIs (IsUntouchedFrom p) (front ++ now ∷ back)) →
+        IsChainContinuous below c → IsChainContinuous below (with_versions (front ++ now ∷ back) c) }
 {}

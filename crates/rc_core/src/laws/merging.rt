@@ -57,3 +57,17 @@ pub fn an_update_joins_its_mutation()
         content below ≡ source_at writes x → (joined_row rows, greatest tomb_cmp tombs) ≡ source_at (change ∷ []) x →
         content (below ++ cell Inherit rows tombs ∷ []) ≡ source_at (writes ++ change ∷ []) x }
 {}
+
+/// A unit of merging keeps the continuity of each version from the newer of the two on.
+pub fn a_merged_unit_keeps_continuity()
+    ensures { (reach : Option Place) (writes : List Mutation) (front back : List Version) (older newer older_after newer_after : Version) →
+        IsMerged older newer older_after newer_after → IsContinuous reach writes (front ++ older ∷ newer ∷ back) →
+        IsContinuous reach writes (front ++ older_after ∷ newer_after ∷ back) }
+{}
+
+/// Dropping a version that says nothing keeps the continuity of each newer version, where the next one has its partition tombstone.
+pub fn a_dropped_version_keeps_continuity()
+    ensures { (reach : Option Place) (writes : List Mutation) (front back : List Version) (v next : Version) → IsSilent v →
+        greatest tomb_cmp (option_to_list v.pt ++ option_to_list next.pt) ≡ greatest tomb_cmp (option_to_list next.pt) →
+        IsContinuous reach writes (front ++ v ∷ next ∷ back) → IsContinuous reach writes (front ++ next ∷ back) }
+{}
