@@ -1,0 +1,5 @@
+use Rattle.rc_core.proofs.Spots.{position-reached, gap-reached}
+use Rattle.rc_core.proofs.laws.changes.every_spot_is_reached.Goals as goal
+
+pub returns : goal.returns
+returns c = record { position = position-reached; gap = gap-reached }

@@ -1,0 +1,5 @@
+use Rattle.rc_core.proofs.Keeping.{evicted-chain}
+use Rattle.rc_core.proofs.laws.losing.an_eviction_keeps_the_whole_chain.Goals as goal
+
+pub returns : goal.returns
+returns c = evicted-chain

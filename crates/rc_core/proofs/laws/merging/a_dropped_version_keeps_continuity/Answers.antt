@@ -1,0 +1,5 @@
+use Rattle.rc_core.proofs.Keeping.{dropped-continuous}
+use Rattle.rc_core.proofs.laws.merging.a_dropped_version_keeps_continuity.Goals as goal
+
+pub returns : goal.returns
+returns c = dropped-continuous

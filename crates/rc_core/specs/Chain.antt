@@ -1,0 +1,97 @@
+-- What is seen through a chain of versions, as a reader believes it. Each definition is of the cells that the versions up to a pinned one
+-- answer at a place, the oldest first.
+--     base             the newest version whose flag there is not Inherit
+--     flagged          the base's flag is Known; without a base, the chain is a memtable's
+--     content          the join of what the versions from the base on hold there; without a base, of all
+--     IsBare           a clustered position with no row in what is seen
+--     IsKnown          flagged and, at a bare position, the open gap behind it flagged too: the gap's base is the base at the spot behind
+--     IsEvenAt         at a bare position that is known the tombstone is that of the gap behind it
+use Rattle.std.specs.Prelude.{◌≡◌, ℕ, suc, Bool, true, false, IsTrue, List, [], ◌∷◌, ◌++◌, Option, Some, None, cond, drop, take, map as list_map}
+use Rattle.std.specs.List.{flat_map}
+use Rattle.rc_cell.specs.declared.rows.Row.{Row}
+use Rattle.rc_cell.specs.declared.writes.Tomb.{Tomb}
+use Rattle.rc_cell.specs.Orders.{tomb_cmp}
+use Rattle.rc_cell.specs.Winner.{greatest, joined_row, empty_row}
+use Rattle.rc_position.specs.declared.positions.Pos.{Pos}
+use Rattle.rc_position.specs.Position.{IsBefore}
+use Rattle.rc_core.specs.declared.entries.ChainKind.{ChainKind}
+use Rattle.rc_core.specs.declared.entries.ChainKind.TheVariants.{Memtable, Cache}
+use Rattle.rc_core.specs.declared.entries.Flag.{Flag}
+use Rattle.rc_core.specs.declared.entries.Flag.TheVariants.{Known, Unknown, Inherit}
+use Rattle.rc_core.specs.Cell.{Cell, through}
+use Rattle.rc_core.specs.Version.{Spot, On, Behind, Version, cell_at, end_position}
+
+abbrev pub decides : Flag → Bool
+decides Known = true
+decides Unknown = true
+decides Inherit = false
+
+abbrev pub is_known : Flag → Bool
+is_known Known = true
+is_known Unknown = false
+is_known Inherit = false
+
+abbrev pub newer_first : Flag → Option ℕ → Option ℕ
+newer_first flag (Some i) = Some (suc i)
+newer_first flag None = cond (decides flag) (Some 0) None
+
+-- the number of the newest cell that is not Inherit, counted from the oldest
+abbrev pub base : List Cell → Option ℕ
+base [] = None
+base (c ∷ cs) = newer_first c.flag (base cs)
+
+-- the cells from a number on; all, where there is none
+abbrev pub from_number : Option ℕ → List Cell → List Cell
+from_number (Some i) cells = drop i cells
+from_number None cells = cells
+
+-- the flag of the cell of a number
+abbrev pub first_flag : List Cell → Flag
+first_flag [] = Inherit
+first_flag (c ∷ cs) = c.flag
+
+-- what stands below the oldest version
+abbrev pub below_oldest : ChainKind → Bool
+below_oldest Memtable = true
+below_oldest Cache = false
+
+abbrev pub flagged_from : ChainKind → Option ℕ → List Cell → Bool
+flagged_from kind (Some i) cells = is_known (first_flag (drop i cells))
+flagged_from kind None cells = below_oldest kind
+
+abbrev pub flagged : ChainKind → List Cell → Bool
+flagged kind cells = flagged_from kind (base cells) cells
+
+abbrev pub rows_from : List Cell → List Row
+rows_from cells = flat_map (λ c. c.rows) (from_number (base cells) cells)
+
+abbrev pub tombs_from : List Cell → List Tomb
+tombs_from cells = flat_map (λ c. c.tombs) (from_number (base cells) cells)
+
+abbrev pub content : List Cell → Row × Option Tomb
+content cells = (joined_row (rows_from cells), greatest tomb_cmp (tombs_from cells))
+
+-- the flag as the fold has it, over what stands below the oldest version
+abbrev pub flag_over : ChainKind → Flag → Bool
+flag_over kind Known = true
+flag_over kind Unknown = false
+flag_over kind Inherit = below_oldest kind
+
+-- In what follows `versions` are those of a chain up to a pinned one, the oldest first.
+
+abbrev pub cells : Spot → List Version → List Cell
+cells s versions = list_map (λ v. cell_at s v) versions
+
+-- no row is seen at the position
+pub record IsBare (versions : List Version) (x : Pos) : Type 0 where
+  pub inside : IsBefore x end_position
+  pub no_row : (content (cells (On x) versions)).0 ≡ empty_row
+
+-- a clustered position is known
+pub record IsKnown (kind : ChainKind) (versions : List Version) (x : Pos) : Type 0 where
+  pub at : IsTrue (flagged kind (cells (On x) versions))
+  pub gap : IsBare versions x → IsTrue (flagged kind (cells (Behind x) versions))
+
+-- the tombstone at a bare position is that of the gap behind it
+abbrev pub IsEvenAt : ChainKind → List Version → Pos → Type 0
+IsEvenAt kind versions x = IsBare versions x → IsKnown kind versions x → (content (cells (On x) versions)).1 ≡ (content (cells (Behind x) versions)).1

@@ -1,0 +1,88 @@
+-- Continuity of a whole chain.
+--     Chain               its versions, the oldest first, and which of them are spoken for
+--     IsNeeded            a version that somebody reads or will read: pinned; the newest of an attached chain; the one below the newest under update
+--     IsUntouchedFrom     the version under update says nothing from the update's place on
+--     IsChainContinuous   of a cache chain, and `below` gives the list of mutations of each phase
+--     IsMemtableChain     of a memtable's chain: all flags are Inherit, and the tombstones at bare positions are those of the gaps behind them
+--     IsCarried           a position that is known in the version that a snapshot pins and, before the update's place, in the newest too
+use Rattle.std.specs.Prelude.{◌≡◌, ◌⊎◌, ◌<◌, ℕ, suc, Bool, true, List, [], ◌∷◌, ◌++◌, Option, Some, None, take, length, map as list_map}
+use Rattle.std.proofs.Common.{get_or}
+use Rattle.std.specs.declared.cmp.Ordering.TheVariants.{Less}
+use Rattle.std.specs.List.{list_any}
+use Rattle.rc_position.specs.declared.positions.Pos.{Pos}
+use Rattle.rc_position.specs.Position.{Place, Static, Clustered, place_cmp, IsBefore}
+use Rattle.rc_mutation.specs.declared.mutations.Mutation.{Mutation}
+use Rattle.rc_core.specs.declared.entries.ChainKind.{ChainKind}
+use Rattle.rc_core.specs.declared.entries.ChainKind.TheVariants.{Memtable, Cache}
+use Rattle.rc_core.specs.declared.entries.Flag.TheVariants.{Inherit}
+use Rattle.rc_core.specs.Cell.{nothing}
+use Rattle.rc_core.specs.Version.{Spot, On, Version, cell_at, static_cell, end_position}
+use Rattle.rc_core.specs.Chain.{IsKnown, IsEvenAt}
+use Rattle.rc_core.specs.Continuity.{EachOf, HoldNoMore, IsContinuous, Reached}
+
+pub record Chain : Type 0 where
+  pub kind : ChainKind
+  pub versions : List Version
+  pub attached : Bool
+  -- the place of the update that stands in the newest version; None of a chain that is not under update
+  pub updating : Option Place
+  -- the numbers of the versions that snapshots pin, counted from the oldest
+  pub pins : List ℕ
+
+abbrev pub upto : List Version → ℕ → List Version
+upto versions j = take (suc j) versions
+
+abbrev pub phases : List Version → List ℕ
+phases versions = list_map (λ (v : Version). v.phase) versions
+
+-- the phase of a version
+abbrev pub phase_at : List Version → ℕ → ℕ
+phase_at versions j = get_or (phases versions) j 0
+
+abbrev pub IsPinned : List ℕ → ℕ → Type 0
+IsPinned [] j = ⊥
+IsPinned (p ∷ ps) j = (j ≡ p) ⊎ IsPinned ps j
+
+abbrev pub IsUpdating : Option Place → Type 0
+IsUpdating None = ⊥
+IsUpdating (Some p) = Unit {0}
+
+abbrev pub IsNeeded : Chain → ℕ → Type 0
+IsNeeded c j = IsPinned c.pins j ⊎ ((c.attached ≡ true) × (suc j ≡ length c.versions)) ⊎ (IsUpdating c.updating × (suc (suc j) ≡ length c.versions))
+
+-- the update's place bounds the newest version alone
+abbrev pub HasReach : Chain → ℕ → Option Place → Type 0
+HasReach c j reach = (suc j ≡ length c.versions → reach ≡ c.updating) × ((suc j ≡ length c.versions → ⊥) → reach ≡ None)
+
+pub record IsUntouchedFrom (p : Place) (v : Version) : Type 0 where
+  pub statics : (place_cmp Static p ≡ Less → ⊥) → static_cell v ≡ nothing
+  pub clustered : (x : Pos) → (place_cmp (Clustered x) p ≡ Less → ⊥) → cell_at (On x) v ≡ nothing
+
+-- what holds of the newest version
+abbrev pub NewestIs : (Version → Type 0) → List Version → Type 0
+NewestIs P [] = Unit {0}
+NewestIs P (v ∷ []) = P v
+NewestIs P (v ∷ w ∷ vs) = NewestIs P (w ∷ vs)
+
+pub record IsChainContinuous (below : ℕ → List Mutation) (c : Chain) : Type 0 where
+  pub within : (j : ℕ) → HoldNoMore (below (phase_at c.versions j)) (upto c.versions j)
+  pub needed : (j : ℕ) (reach : Option Place) → HasReach c j reach → IsNeeded c j → IsContinuous reach (below (phase_at c.versions j)) (upto c.versions j)
+  pub ahead : (p : Place) → c.updating ≡ Some p → NewestIs (IsUntouchedFrom p) c.versions
+
+-- all flags of a version are Inherit
+pub record AllInherit (v : Version) : Type 0 where
+  pub statics : (static_cell v).flag ≡ Inherit
+  pub clustered : (s : Spot) → (cell_at s v).flag ≡ Inherit
+
+pub record IsMemtableChain (c : Chain) : Type 0 where
+  pub flags : EachOf AllInherit c.versions
+  pub even : (j : ℕ) → IsPinned c.pins j ⊎ ((c.attached ≡ true) × (suc j ≡ length c.versions)) → (x : Pos) → IsEvenAt Memtable (upto c.versions j) x
+
+-- the chain with other versions
+abbrev pub with_versions : List Version → Chain → Chain
+with_versions versions c = record { kind = c.kind; versions = versions; attached = c.attached; updating = c.updating; pins = c.pins }
+
+-- `pinned` are the versions up to the one that a snapshot pins, and `all` all of them
+abbrev pub IsCarried : Option Place → List Version → List Version → Pos → Type 0
+IsCarried None pinned all x = IsBefore x end_position × IsKnown Cache all x
+IsCarried (Some p) pinned all x = IsBefore x end_position × IsKnown Cache pinned x × (place_cmp (Clustered x) p ≡ Less → IsKnown Cache all x)

@@ -1,0 +1,96 @@
+-- Continuity of a cache chain: what of a version may be believed. `versions` are those up to the version that is spoken of, the oldest
+-- first, and `writes` the list of mutations that the version stands for.
+--     IsWithin          what a version holds, joined into the source, changes nothing
+--     IsContinuous      of a version: nothing beyond the source is held; what is known is the source there; the partition tombstone is
+--                       complete; and the tombstone at a bare known position is that of the gap behind it
+--     IsSameOrLost      each place is seen as before, or it is Unknown
+use Rattle.std.specs.Prelude.{◌≡◌, ◌⊎◌, IsTrue, List, [], ◌∷◌, ◌++◌, Option, Some, None, map as list_map}
+use Rattle.std.specs.Option.{option_to_list}
+use Rattle.std.specs.List.{filter_map}
+use Rattle.rc_cell.specs.declared.rows.Row.{Row}
+use Rattle.rc_cell.specs.declared.writes.Tomb.{Tomb}
+use Rattle.rc_cell.specs.Orders.{tomb_cmp}
+use Rattle.rc_cell.specs.Winner.{greatest, joined_row}
+use Rattle.rc_position.specs.declared.positions.Pos.{Pos}
+use Rattle.rc_position.specs.Position.{Place, Head, Static, Clustered, place_cmp}
+use Rattle.std.specs.declared.cmp.Ordering.TheVariants.{Less}
+use Rattle.rc_mutation.specs.declared.mutations.Mutation.{Mutation}
+use Rattle.rc_mutation.specs.Source.{source_at_head, source_at_static, source_at}
+use Rattle.rc_core.specs.declared.entries.Entry.{Entry}
+use Rattle.rc_core.specs.declared.entries.ChainKind.TheVariants.{Cache}
+use Rattle.rc_core.specs.declared.entries.Flag.TheVariants.{Known, Unknown}
+use Rattle.rc_core.specs.Cell.{Cell, nothing, through}
+use Rattle.rc_core.specs.Version.{Spot, On, Behind, Version, cell_at, static_cell}
+use Rattle.rc_core.specs.Change.{joined_onto}
+use Rattle.rc_core.specs.Chain.{flagged, content, cells, IsEvenAt}
+
+-- the rows and tombstones of a cell, joined into the source, leave it as it is
+abbrev pub IsWithin : Cell → Row × Option Tomb → Type 0
+IsWithin c source = (joined_row (source.0 ∷ c.rows) ≡ source.0) × (greatest tomb_cmp (option_to_list source.1 ++ c.tombs) ≡ source.1)
+
+abbrev pub static_cells : List Version → List Cell
+static_cells versions = list_map static_cell versions
+
+-- the partition tombstones of versions
+abbrev pub partition_tombs : List Version → List Tomb
+partition_tombs versions = filter_map (λ (v : Version). v.pt) versions
+
+-- what holds of each version
+abbrev pub EachOf : (Version → Type 0) → List Version → Type 0
+EachOf P [] = Unit {0}
+EachOf P (v ∷ vs) = P v × EachOf P vs
+
+-- no version holds more than the source, at its static row and at each position
+pub record HoldNoMore (writes : List Mutation) (versions : List Version) : Type 0 where
+  pub statics : EachOf (λ v. IsWithin (static_cell v) (source_at_static writes, None)) versions
+  pub clustered : (x : Pos) → EachOf (λ v. IsWithin (cell_at (On x) v) (source_at writes x)) versions
+
+-- the places that are reached: all, or those before the place of an update
+abbrev pub Reached : Option Place → Place → Type 0
+Reached None x = Unit {0}
+Reached (Some p) x = place_cmp x p ≡ Less
+
+-- `reach` is the place of the update, of a version under update, and None of every other
+pub record IsContinuous (reach : Option Place) (writes : List Mutation) (versions : List Version) : Type 0 where
+  pub within : HoldNoMore writes versions
+  pub statics : Reached reach Static → IsTrue (flagged Cache (static_cells versions)) → content (static_cells versions) ≡ (source_at_static writes, None)
+  pub clustered : (x : Pos) → Reached reach (Clustered x) → IsTrue (flagged Cache (cells (On x) versions)) → content (cells (On x) versions) ≡ source_at writes x
+  pub head : Reached reach Head → greatest tomb_cmp (partition_tombs versions) ≡ source_at_head writes
+  pub even : (x : Pos) → Reached reach (Clustered x) → IsEvenAt Cache versions x
+
+-- one cell of a version lost, or as before
+abbrev pub SameOrLost : Cell → Cell → Type 0
+SameOrLost before now = (now ≡ before) ⊎ (now.flag ≡ Unknown)
+
+-- of versions, what is seen through them at each place
+pub record IsSameOrLost (before now : List Version) : Type 0 where
+  pub statics : SameOrLost (through (static_cells before)) (through (static_cells now))
+  pub clustered : (s : Spot) → SameOrLost (through (cells s before)) (through (cells s now))
+  pub head : greatest tomb_cmp (partition_tombs now) ≡ greatest tomb_cmp (partition_tombs before)
+
+-- a version after eviction of one of its objects: each place is said as before, or lost, with nothing held there
+abbrev pub IsKeptOrLost : Cell → Cell → Type 0
+IsKeptOrLost before now = (now ≡ before) ⊎ (now ≡ record { flag = Unknown; rows = []; tombs = [] })
+
+pub record IsEvicted (before now : Version) : Type 0 where
+  pub statics : IsKeptOrLost (static_cell before) (static_cell now)
+  pub clustered : (s : Spot) → IsKeptOrLost (cell_at s before) (cell_at s now)
+  pub head : now.pt ≡ before.pt
+
+-- ---- the operations on one version
+
+-- the version with other entries
+abbrev pub with_entries : List Entry → Version → Version
+with_entries es v = record { pt = v.pt; statics = v.statics; static_flag = v.static_flag; entries = es; phase = v.phase }
+
+-- the static row filled: what is given is joined, and the flag is Known, also where there is nothing to join
+abbrev pub joined_options : Option Row → Option Row → Option Row
+joined_options old None = old
+joined_options old (Some row) = Some (joined_onto old row)
+
+abbrev pub fill_statics : Option Row → Version → Version
+fill_statics row v = record { pt = v.pt; statics = joined_options v.statics row; static_flag = Known; entries = v.entries; phase = v.phase }
+
+-- its static row evicted
+abbrev pub without_statics : Version → Version
+without_statics v = record { pt = v.pt; statics = None; static_flag = Unknown; entries = v.entries; phase = v.phase }

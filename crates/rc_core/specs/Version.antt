@@ -1,0 +1,102 @@
+-- What one version answers at each spot of a partition.
+--     Spot         a clustered position, or the open gap right behind one
+--     seen         what entries say of a spot: the entry there, or else the gap before the first entry behind it
+--     static_cell, cell_at    what a version answers at its static row, and at a spot
+--     IsBeforeEnd  the entries reach up to the spot, as those of a version do: its last one is behind every row
+use Rattle.std.specs.Prelude.{◌≡◌, ℕ, List, [], ◌∷◌, Option, Some, None, cond}
+use Rattle.std.specs.declared.cmp.Ordering.{Ordering}
+use Rattle.std.specs.declared.cmp.Ordering.TheVariants.{Less, Equal, Greater}
+use Rattle.std.specs.Ordering.{is_lt}
+use Rattle.std.specs.Option.{option_to_list}
+use Rattle.rc_cell.specs.declared.rows.Row.{Row}
+use Rattle.rc_cell.specs.declared.writes.Tomb.{Tomb}
+use Rattle.rc_position.specs.declared.positions.Pos.{Pos}
+use Rattle.rc_position.specs.declared.positions.Weight.TheVariants.{After}
+use Rattle.rc_position.specs.Position.{pos_cmp, IsBefore}
+use Rattle.rc_core.specs.declared.entries.Entry.{Entry}
+use Rattle.rc_core.specs.declared.entries.Flag.{Flag}
+use Rattle.rc_core.specs.declared.entries.Flag.TheVariants.{Inherit}
+use Rattle.rc_core.specs.declared.entries.Mark.{Mark}
+use Rattle.rc_core.specs.Cell.{Cell, cell, nothing}
+
+-- a clustered position, or the open gap right behind it
+pub data Spot : Type 0 where
+  On : Pos → Spot
+  Behind : Pos → Spot
+
+abbrev pub behind : Ordering → Ordering
+behind Less = Less
+behind Equal = Greater
+behind Greater = Greater
+
+-- where a spot stands against a position
+abbrev pub spot_cmp : Spot → Pos → Ordering
+spot_cmp (On x) y = pos_cmp x y
+spot_cmp (Behind x) y = behind (pos_cmp x y)
+
+-- what a version says of a spot: its flag and range tombstone, and its row if it has one there
+pub record Found : Type 0 where
+  pub mark : Mark
+  pub row : Option Row
+
+abbrev pub found : Mark → Option Row → Found
+found mark row = record { mark = mark; row = row }
+
+-- at a spot before an entry its gap answers, at its position itself, and behind it the entries that follow
+abbrev pub entry_answers : Ordering → Entry → Found → Found
+entry_answers Less e rest = found e.gap None
+entry_answers Equal e rest = found e.at e.row
+entry_answers Greater e rest = rest
+
+-- what entries in order of position say of a spot
+abbrev pub seen : Spot → List Entry → Found
+seen s [] = found (record { flag = Inherit; tomb = None }) None
+seen s (e ∷ es) = entry_answers (spot_cmp s e.position) e (seen s es)
+
+abbrev pub cell_of : Found → Cell
+cell_of f = cell f.mark.flag (option_to_list f.row) (option_to_list f.mark.tomb)
+
+-- behind every row
+abbrev pub end_position : Pos
+end_position = record { prefix = []; weight = After }
+
+abbrev pub IsReachedBy : Ordering → Type 0 → Type 0
+IsReachedBy Less rest = Unit {0}
+IsReachedBy Equal rest = Unit {0}
+IsReachedBy Greater rest = rest
+
+-- some entry stands at the spot or behind it
+abbrev pub IsBeforeEnd : Spot → List Entry → Type 0
+IsBeforeEnd s [] = ⊥
+IsBeforeEnd s (e ∷ es) = IsReachedBy (spot_cmp s e.position) (IsBeforeEnd s es)
+
+-- each entry stands before the next
+abbrev pub Ascend : List Entry → Type 0
+Ascend [] = Unit {0}
+Ascend (e ∷ []) = Unit {0}
+Ascend (e ∷ f ∷ es) = IsBefore e.position f.position × Ascend (f ∷ es)
+
+-- the last entry is the end dummy
+abbrev pub EndsWithDummy : List Entry → Type 0
+EndsWithDummy [] = ⊥
+EndsWithDummy (e ∷ []) = (e.position ≡ end_position) × (e.row ≡ None)
+EndsWithDummy (e ∷ f ∷ es) = EndsWithDummy (f ∷ es)
+
+-- a version of a partition
+pub record Version : Type 0 where
+  pub pt : Option Tomb
+  pub statics : Option Row
+  pub static_flag : Flag
+  pub entries : List Entry
+  pub phase : ℕ
+
+pub record IsVersion (v : Version) : Type 0 where
+  pub ascend : Ascend v.entries
+  pub ends : EndsWithDummy v.entries
+
+-- what a version answers at its static row, and at a clustered spot
+abbrev pub static_cell : Version → Cell
+static_cell v = cell v.static_flag (option_to_list v.statics) []
+
+abbrev pub cell_at : Spot → Version → Cell
+cell_at s v = cell_of (seen s v.entries)

@@ -1,0 +1,76 @@
+//! What each change of a version's entries does to what the version says of each spot.
+
+ghost use Rattle.std.specs.declared.cmp.Ordering.TheVariants.{Less};
+ghost use Rattle.std.specs.Prelude.{◌≡◌, ◌≢◌, ◌++◌, ◌∷◌, List, Option, None, Some, cond, ◌⊎◌};
+ghost use Rattle.rc_cell.specs.declared.rows.Row.{Row};
+ghost use Rattle.rc_cell.specs.declared.writes.Tomb.{Tomb};
+ghost use Rattle.rc_position.specs.declared.positions.Pos.{Pos};
+ghost use Rattle.rc_position.specs.Position.{IsBefore, covers};
+ghost use Rattle.rc_core.specs.declared.entries.Entry.{Entry};
+ghost use Rattle.rc_core.specs.declared.entries.Flag.TheVariants.{Known};
+ghost use Rattle.rc_core.specs.declared.entries.Mark.{Mark};
+ghost use Rattle.rc_core.specs.Version.{Ascend, Behind, EndsWithDummy, IsBeforeEnd, On, Spot, end_position, found, seen, spot_cmp};
+ghost use Rattle.rc_core.specs.Change.{change, drop_at, fill_gap, fill_row, join_range, join_row_at, joined_onto, known_with, lose_last_gap, lost_mark, mark, position_of, raised, split};
+
+/// The entries of a version reach every position, and every gap behind a position before the end.
+pub fn every_spot_is_reached()
+    ensures position { (x : Pos) (entries : List Entry) → EndsWithDummy entries → IsBeforeEnd (On x) entries }
+    ensures gap { (x : Pos) (entries : List Entry) → EndsWithDummy entries → IsBefore x end_position → IsBeforeEnd (Behind x) entries }
+{}
+
+/// A split changes nothing that is said anywhere.
+pub fn a_split_changes_nothing()
+    ensures { (s : Spot) (x : Pos) (entries : List Entry) → seen s (split x entries) ≡ seen s entries }
+{}
+
+/// A change puts its function on the flag and the tombstone of each spot from its start on and before its end, and on no other.
+pub fn a_change_is_its_function_inside()
+    ensures { (f : Mark → Mark) (s : Spot) (from to : Pos) (entries : List Entry) → IsBeforeEnd s entries →
+        seen s (change f from to entries) ≡ cond (covers from to (position_of s)) (found (f (seen s entries).mark) (seen s entries).row) (seen s entries) }
+{}
+
+/// A joined range raises the tombstone inside, and leaves flags, rows and all outside.
+pub fn a_joined_range_raises_the_tombstone()
+    ensures { (s : Spot) (from to : Pos) (tomb : Tomb) (entries : List Entry) → IsBeforeEnd s entries →
+        seen s (join_range from to tomb entries) ≡ cond (covers from to (position_of s)) (found (raised (Some tomb) (seen s entries).mark) (seen s entries).row) (seen s entries) }
+{}
+
+/// A filled gap is known inside with its tombstone, and all outside is as before.
+pub fn a_filled_gap_is_known()
+    ensures { (s : Spot) (from to : Pos) (tomb : Option Tomb) (entries : List Entry) → IsBeforeEnd s entries →
+        seen s (fill_gap from to tomb entries) ≡ cond (covers from to (position_of s)) (found (mark Known tomb) (seen s entries).row) (seen s entries) }
+{}
+
+/// A joined row is joined at its position, where flag and tombstone stay; at every other spot nothing changes.
+pub fn a_joined_row_is_joined_at_its_position()
+    ensures there { (x : Pos) (row : Row) (entries : List Entry) → EndsWithDummy entries →
+        seen (On x) (join_row_at x row entries) ≡ found (seen (On x) entries).mark (Some (joined_onto (seen (On x) entries).row row)) }
+    ensures elsewhere { (s : Spot) (x : Pos) (row : Row) (entries : List Entry) → s ≢ On x → seen s (join_row_at x row entries) ≡ seen s entries }
+{}
+
+/// A filled row is joined at its position and known there, its tombstone joined; at every other spot nothing changes.
+pub fn a_filled_row_is_known_at_its_position()
+    ensures there { (x : Pos) (row : Row) (tomb : Option Tomb) (entries : List Entry) → EndsWithDummy entries →
+        seen (On x) (fill_row x row tomb entries) ≡ found (known_with tomb (seen (On x) entries).mark) (Some (joined_onto (seen (On x) entries).row row)) }
+    ensures elsewhere { (s : Spot) (x : Pos) (row : Row) (tomb : Option Tomb) (entries : List Entry) → s ≢ On x → seen s (fill_row x row tomb entries) ≡ seen s entries }
+{}
+
+/// Where an entry before the end is taken out, each spot is as before, or it is Unknown with nothing held there. Lost are exactly the
+/// spots from the entry before it on up to the next one, both not included.
+pub fn a_dropped_entry_is_same_or_lost()
+    ensures each { (s : Spot) (x : Pos) (entries : List Entry) → Ascend entries → EndsWithDummy entries → IsBefore x end_position →
+        (seen s (drop_at x entries) ≡ seen s entries) ⊎ (seen s (drop_at x entries) ≡ found lost_mark None) }
+    ensures lost { (s : Spot) (front : List Entry) (e next : Entry) (back : List Entry) → Ascend (front ++ e ∷ next ∷ back) →
+        (IsBeforeEnd s front → ⊥) → spot_cmp s next.position ≡ Less →
+        seen s (drop_at e.position (front ++ e ∷ next ∷ back)) ≡ found lost_mark None }
+    ensures before { (s : Spot) (front : List Entry) (e next : Entry) (back : List Entry) → Ascend (front ++ e ∷ next ∷ back) →
+        IsBeforeEnd s front → seen s (drop_at e.position (front ++ e ∷ next ∷ back)) ≡ seen s (front ++ e ∷ next ∷ back) }
+    ensures behind { (s : Spot) (front : List Entry) (e next : Entry) (back : List Entry) → Ascend (front ++ e ∷ next ∷ back) →
+        spot_cmp s next.position ≢ Less → seen s (drop_at e.position (front ++ e ∷ next ∷ back)) ≡ seen s (front ++ e ∷ next ∷ back) }
+{}
+
+/// Where the gap before the end dummy is lost, each spot is as before, or it is Unknown with nothing held there.
+pub fn an_evicted_end_dummy_is_same_or_lost()
+    ensures { (s : Spot) (entries : List Entry) →
+        (seen s (lose_last_gap entries) ≡ seen s entries) ⊎ (seen s (lose_last_gap entries) ≡ found lost_mark None) }
+{}
