@@ -59,81 +59,120 @@ fn first_value(lines: &Lines) -> (usize, Option<&[u8]>) {
     (items.len(), first.map(|item| item.1.as_slice()))
 }
 
+// The lines of two writes to one row.
+fn lines_of_two(alloc: Global, first: Row, second: Row) -> Result<Lines, AllocError>
+    requires first { first ≢ empty_row }
+    requires second { second ≢ empty_row }
+{
+    let key = key(alloc, 1)?;
+    let mut rows = Rows::empty(alloc);
+    rows.join_row(alloc, &key, &first)?;
+    rows.join_row(alloc, &key, &second)?;
+    shown_rows(alloc, &rows)
+}
+
 #[test]
-fn gives_the_winners(rt: HostRuntime) -> Result<(), Fail> {
-    let a = rt.alloc();
-    // a marker alone
-    let mut rows = Rows::empty(a);
-    rows.join_row(a, &key(a, 1)?, &inserted(a, 10))?;
-    assert_eq!(rt; first_value(&shown_rows(a, &rows)?), (1, None));
-    // at equal timestamps the larger value wins, in either order
-    let mut rows = Rows::empty(a);
-    rows.join_row(a, &key(a, 1)?, &updated(a, live(a, 10, b"5")?)?)?;
-    rows.join_row(a, &key(a, 1)?, &updated(a, live(a, 10, b"12")?)?)?;
-    assert_eq!(rt;
-        first_value(&shown_rows(a, &rows)?),
-        (1, Some(b"5".as_slice()))
-    );
-    // at equal timestamps a dead cell wins
-    rows.join_row(a, &key(a, 1)?, &updated(a, Cell::Dead { ts: 10, dt: 7 })?)?;
-    assert_eq!(rt; first_value(&shown_rows(a, &rows)?), (0, None));
-    // a row tombstone covers what has its timestamp
-    let mut rows = Rows::empty(a);
-    rows.join_row(a, &key(a, 1)?, &inserted(a, 10))?;
-    rows.join_row(a, &key(a, 1)?, &deleted(a, 10))?;
-    assert_eq!(rt; first_value(&shown_rows(a, &rows)?), (0, None));
+fn gives_a_row_of_a_marker_alone(rt: HostRuntime) -> Result<(), Fail> {
+    let lines = lines_of_two(
+        rt.alloc(),
+        inserted(rt.alloc(), 10),
+        inserted(rt.alloc(), 9),
+    )?;
+    assert_eq!(rt; first_value(&lines), (1, None));
     Ok(())
 }
 
 #[test]
-fn goes_by_the_slice_and_the_ranges(rt: HostRuntime) -> Result<(), Fail> {
-    let a = rt.alloc();
-    let mut change = Mutation::empty(a);
-    change.statics.cells = Cells::from_slice(a, &[(0, live(a, 5, b"x")?)])?;
+fn the_larger_value_wins_a_tie(rt: HostRuntime) -> Result<(), Fail> {
+    let five = updated(rt.alloc(), live(rt.alloc(), 10, b"5")?)?;
+    let twelve = updated(rt.alloc(), live(rt.alloc(), 10, b"12")?)?;
+    let lines = lines_of_two(rt.alloc(), five, twelve)?;
+    assert_eq!(rt; first_value(&lines), (1, Some(b"5".as_slice())));
+    Ok(())
+}
+
+#[test]
+fn a_dead_cell_wins_a_tie(rt: HostRuntime) -> Result<(), Fail> {
+    let five = updated(rt.alloc(), live(rt.alloc(), 10, b"5")?)?;
+    let dead = updated(rt.alloc(), Cell::Dead { ts: 10, dt: 7 })?;
+    let lines = lines_of_two(rt.alloc(), five, dead)?;
+    assert_eq!(rt; first_value(&lines), (0, None));
+    Ok(())
+}
+
+#[test]
+fn a_tombstone_covers_its_own_timestamp(rt: HostRuntime) -> Result<(), Fail> {
+    let lines = lines_of_two(
+        rt.alloc(),
+        inserted(rt.alloc(), 10),
+        deleted(rt.alloc(), 10),
+    )?;
+    assert_eq!(rt; first_value(&lines), (0, None));
+    Ok(())
+}
+
+// A static value of timestamp 5, and rows of timestamp 10 at 1 to 4, under this partition tombstone.
+fn four_rows(alloc: Global, pt: Option<Tomb>) -> Result<Mutation, AllocError> {
+    let mut change = Mutation::empty(alloc);
+    change.pt = pt;
+    change.statics = updated(alloc, live(alloc, 5, b"x")?)?;
     for n in 1..5i64 {
-        change.rows.join_row(a, &key(a, n)?, &inserted(a, 10))?;
+        let key = key(alloc, n)?;
+        change.rows.join_row(alloc, &key, &inserted(alloc, 10))?;
     }
-    let one = key(a, 1)?;
-    let three = key(a, 3)?;
-    let none = Key::empty(a);
-    let whole = Slice {
-        from: start_pos(a, &none, true)?,
-        to: end_pos(a, &none, true)?,
+    Ok(change)
+}
+
+// How many lines they have behind 1, up to 3.
+fn lines_in_slice(alloc: Global, change: &Mutation) -> Result<usize, AllocError> {
+    let slice = Slice {
+        from: start_pos(alloc, &key(alloc, 1)?, false)?,
+        to: end_pos(alloc, &key(alloc, 3)?, true)?,
     };
-    let middle = Slice {
-        from: start_pos(a, &one, false)?,
-        to: end_pos(a, &three, true)?,
-    };
-    assert_eq!(rt;
-        first_value(&answer_of(a, &change, &whole)?),
-        (5, Some(b"x".as_slice()))
-    );
-    assert_eq!(rt; answer_of(a, &change, &middle)?.as_slice().len(), 3);
-    change.pt = Some(Tomb { ts: 5, dt: 7 });
-    assert_eq!(rt; answer_of(a, &change, &middle)?.as_slice().len(), 2);
-    let head = Head {
-        pt: change.pt,
-        statics: change.statics.copy(a)?,
-    };
-    let mut compactor = Compactor::new(a, &head)?;
-    assert!(rt; compactor.first(a)?.is_none());
-    let mut lines = 0u8;
-    for frag in change.fragments(a)?.as_slice() {
-        if compactor.put(a, frag)?.is_some() {
+    Ok(answer_of(alloc, change, &slice)?.as_slice().len())
+}
+
+// How many lines their fragments give.
+fn lines_of_fragments(alloc: Global, change: &Mutation) -> Result<u8, AllocError> {
+    let statics = change.statics.copy(alloc)?;
+    let mut compactor = Compactor::new(
+        alloc,
+        &Head {
+            pt: change.pt,
+            statics,
+        },
+    )?;
+    let mut lines = u8::from(compactor.first(alloc)?.is_some());
+    for frag in change.fragments(alloc)?.as_slice() {
+        if compactor.put(alloc, frag)?.is_some() {
             lines = lines.saturating_add(1);
         }
     }
-    assert_eq!(rt; lines, 4);
+    Ok(lines)
+}
+
+#[test]
+fn gives_the_static_line_whatever_the_slice(rt: HostRuntime) -> Result<(), Fail> {
+    let change = four_rows(rt.alloc(), None)?;
+    assert_eq!(rt; lines_in_slice(rt.alloc(), &change)?, 3);
+    assert_eq!(rt; lines_of_fragments(rt.alloc(), &change)?, 5);
     Ok(())
 }
 
 #[test]
-fn copies(rt: HostRuntime) -> Result<(), Fail> {
-    let a = rt.alloc();
-    let shown = Shown::from_slice(a, &[(3, Value::from_slice(a, b"ann")?)])?;
-    let line = OutLine::Row(key(a, 1)?, shown.copy(a)?);
-    let lines = Lines::from_slice(a, &[OutLine::Static(Shown::empty(a)), line.copy(a)?])?;
-    assert_eq!(rt; lines.copy(a)?.as_slice().len(), 2);
-    assert_eq!(rt; Lines::empty(a).as_slice().len(), 0);
+fn a_partition_tombstone_covers_the_static_row(rt: HostRuntime) -> Result<(), Fail> {
+    let change = four_rows(rt.alloc(), Some(Tomb { ts: 5, dt: 7 }))?;
+    assert_eq!(rt; lines_in_slice(rt.alloc(), &change)?, 2);
+    assert_eq!(rt; lines_of_fragments(rt.alloc(), &change)?, 4);
+    Ok(())
+}
+
+#[test]
+fn copies_lines(rt: HostRuntime) -> Result<(), Fail> {
+    let shown = Shown::from_slice(rt.alloc(), &[(3, Value::from_slice(rt.alloc(), b"ann")?)])?;
+    let line = OutLine::Row(key(rt.alloc(), 1)?, shown.copy(rt.alloc())?);
+    let lines = Lines::from_slice(rt.alloc(), &[line.copy(rt.alloc())?])?;
+    let same = lines.copy(rt.alloc())?;
+    assert_eq!(rt; first_value(&same), (1, Some(b"ann".as_slice())));
     Ok(())
 }
