@@ -1,2 +1,3 @@
+pub mod FragMerge
 pub mod Places
 pub mod RowsMerge

@@ -1,5 +1,5 @@
 -- Two lists of rows by ascending key merged: what the merging loop goes by, and that it gives the joined rows of both.
-use Rattle.std.proofs.Common.{◌⊎◌, ⊎_elim, length, ◌<◌, arith, append_assoc, ◌≡◌, ℕ, Bool, true, false, ◌&&◌, List, [], ◌∷◌, ◌++◌, Option, Some, None, cond, refl, sym, ap, ◌∙◌, subst, T, append-nil}
+use Rattle.std.proofs.Common.{◌⊎◌, ⊎_elim, length, ◌<◌, arith, append_assoc, ◌≡◌, Bool, true, false, List, [], ◌∷◌, ◌++◌, Option, Some, None, cond, refl, sym, ap, ◌∙◌, subst, T, append-nil}
 use Rattle.std.specs.Prelude.{IsTrue, All, ◌≢◌, zero, suc}
 use Rattle.std.specs.declared.cmp.Ordering.{Ordering}
 use Rattle.std.specs.declared.cmp.Ordering.TheVariants.{Less, Equal, Greater}
@@ -57,8 +57,8 @@ below_less : (x y : List Comp) (es : List (List Comp × Row)) → key_cmp x y �
 below_less x y [] p h = tt
 below_less x y (e ∷ es) p h =
     both (is_lt (key_cmp x e.0)) (below_all key_cmp x es)
-      (is_less _ (key_cmp_total.trans x y e.0 p (less (key_cmp y e.0) (first (is_lt (key_cmp y e.0)) (below_all key_cmp y es) h))))
-      (below_less x y es p (second (is_lt (key_cmp y e.0)) (below_all key_cmp y es) h))
+    (is_less _ (key_cmp_total.trans x y e.0 p (less (key_cmp y e.0) (first (is_lt (key_cmp y e.0)) (below_all key_cmp y es) h))))
+    (below_less x y es p (second (is_lt (key_cmp y e.0)) (below_all key_cmp y es) h))
 
 -- a key below the first of an ascending list is below all of it
 below_first : (x : List Comp) (e : List Comp × Row) (es : List (List Comp × Row)) → key_cmp x e.0 ≡ Less → T (is_sorted key_cmp (e ∷ es)) → T (below_all key_cmp x (e ∷ es))
@@ -170,13 +170,13 @@ merge-joined os bs g h =
     let ours : T (is_sorted key_cmp os) = test_of _ g.ascend in
     let theirs : T (is_sorted key_cmp bs) = test_of _ h.ascend in
     same_rows (merge os bs) (joined_rows (os ++ bs)) (sorted-merge os bs ours theirs) (sorted-joined_rows (os ++ bs)) (λ q.
-      find-merge q os bs ours theirs
-      ∙ sym (either-joined (find key_cmp q os) (find key_cmp q bs) (found (λ r. IsTrue (ascending r.cells)) q os g.by_column) (found (λ r. IsTrue (ascending r.cells)) q bs h.by_column))
-      ∙ sym (
-        find-joined_rows q (os ++ bs)
-        ∙ ap joined_if_any (rows_at-append q os bs)
-        ∙ (λ i. joined_if_any (rows_at-ascending q os ours i ++ rows_at-ascending q bs theirs i))
-      ))
+    find-merge q os bs ours theirs
+    ∙ sym (either-joined (find key_cmp q os) (find key_cmp q bs) (found (λ r. IsTrue (ascending r.cells)) q os g.by_column) (found (λ r. IsTrue (ascending r.cells)) q bs h.by_column))
+    ∙ sym (
+    find-joined_rows q (os ++ bs)
+    ∙ ap joined_if_any (rows_at-append q os bs)
+    ∙ (λ i. joined_if_any (rows_at-ascending q os ours i ++ rows_at-ascending q bs theirs i))
+    ))
 
 -- with nothing left on one side, what is left on both is what is left on the other
 merge-ends : (os bs : Entries) → (length os < 1) ⊎ (length bs < 1) → merge os bs ≡ os ++ bs

@@ -18,6 +18,7 @@ use Rattle.rc_position.specs.Position.{key_cmp}
 use Rattle.rc_position.specs.OrderLaws.{key_cmp_total, key_cmp_same}
 use Rattle.rc_mutation.specs.Rows.{rows_at, keys, joined_rows}
 
+-- rows, each with its key
 abbrev pub Entries : Type 0
 Entries = List (List Comp × Row)
 
@@ -25,6 +26,7 @@ Entries = List (List Comp × Row)
 abbrev pub occurs : List Comp → List (List Comp) → Bool
 occurs key ks = list_any (eq_by_cmp key_cmp key) ks
 
+-- the keys of rows, in their order
 abbrev pub keys_of : Entries → List (List Comp)
 keys_of rows = list_map (λ e. e.0) rows
 

@@ -1,4 +1,5 @@
 pub mod ByKey
+pub mod Fragments
 pub mod Place
 pub mod Rows
 pub mod RowsLaws

@@ -1,5 +1,5 @@
 -- What a list of writes to one partition says at each place of it: the source at a place, picked from all of them.
-use Rattle.std.specs.Prelude.{◌≡◌, List, [], ◌∷◌, ◌++◌, Option, map as list_map, IsTrue}
+use Rattle.std.specs.Prelude.{◌≡◌, List, ◌++◌, Option, map as list_map, IsTrue}
 use Rattle.std.specs.Ordering.{eq_by_cmp}
 use Rattle.std.specs.List.{filter, filter_map, flat_map}
 use Rattle.rc_cell.specs.declared.rows.Row.{Row}
@@ -16,16 +16,19 @@ use Rattle.rc_ranges.specs.Cover.{cover as range_tomb}
 use Rattle.rc_mutation.specs.declared.mutations.Mutation.{Mutation}
 pub use Rattle.rc_mutation.specs.Rows.{rows_at, keys, joined_rows, IsRows}
 
--- the partition tombstones of writes, their static rows, their rows each with its key, and their pieces of range tombstones
+-- the partition tombstones of writes
 abbrev pub partition_tombs : List Mutation → List Tomb
 partition_tombs changes = filter_map (λ change. change.pt) changes
 
+-- their static rows
 abbrev pub static_rows : List Mutation → List Row
 static_rows changes = list_map (λ change. change.statics) changes
 
+-- their rows, each with its key
 abbrev pub all_rows : List Mutation → List (List Comp × Row)
 all_rows changes = flat_map (λ change. change.rows) changes
 
+-- their pieces of range tombstones
 abbrev pub all_pieces : List Mutation → List Piece
 all_pieces changes = flat_map (λ change. change.ranges) changes
 

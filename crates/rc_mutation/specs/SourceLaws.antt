@@ -3,15 +3,15 @@
 --     source-determined        mutations that say the same at each place are equal
 --     IsJoinOf-first           any first part of writes may be joined first
 --     IsJoinOf-swap, IsJoinOf-twice       in either order, and the same writes again change nothing
+--     IsJoinOf-none, IsJoinOf-more       no writes join to nothing written; one more is joined to what the others joined to
 --     IsJoinOf-same            writes join to one mutation
-use Rattle.std.specs.Prelude.{◌≡◌, ◌≢◌, ℕ, All, Bool, true, false, List, [], ◌∷◌, ◌++◌, Option, Some, None, cond, map as list_map, IsTrue}
-use Rattle.std.proofs.Common.{refl, sym, ap, ◌∙◌, subst, T, append-nil}
-use Rattle.std.specs.declared.cmp.Ordering.{Ordering}
+use Rattle.std.specs.Prelude.{◌≡◌, ◌≢◌, false, List, [], ◌∷◌, ◌++◌, Option, Some, None, cond, map as list_map, IsTrue}
+use Rattle.std.proofs.Common.{arith, refl, sym, ap, ◌∙◌, append-nil}
 use Rattle.std.specs.declared.cmp.Ordering.TheVariants.{Less, Equal, Greater}
 use Rattle.std.specs.Ordering.{is_eq, eq_by_cmp}
 use Rattle.std.specs.Option.{option_to_list}
-use Rattle.std.specs.List.{filter, filter_map, flat_map, cons_option}
-use Rattle.std.specs.FinMap.{find, is_sorted}
+use Rattle.std.specs.List.{filter, cons_option}
+use Rattle.std.specs.FinMap.{find}
 use Rattle.std.proofs.lemmas.List.Elements.{filter_map-append}
 use Rattle.std.proofs.lemmas.Grind.{flat_map-append}
 use Rattle.rc_cell.specs.declared.rows.Row.{Row}
@@ -19,7 +19,7 @@ use Rattle.rc_cell.specs.declared.writes.Tomb.{Tomb}
 use Rattle.rc_cell.specs.Beats.{tomb_cmp-IsAntisymmetric}
 use Rattle.rc_cell.specs.ByColumn.{test_of}
 use Rattle.rc_cell.specs.Columns.{ascending}
-use Rattle.rc_cell.specs.Greatest.{greater, greatest-append, greatest-swap, greatest-twice, greatest-one, greatest-two}
+use Rattle.rc_cell.specs.Greatest.{greater, greatest-append, greatest-swap, greatest-twice, greatest-none, greatest-one, greatest-two}
 use Rattle.rc_cell.specs.Laws.{IsRow-joined_row, joined_row-none, joined_row-one, joined_row-append, joined_row-swap, joined_row-twice}
 use Rattle.rc_cell.specs.Orders.{tomb_cmp, tomb_cmp_total}
 use Rattle.rc_cell.specs.Winner.{empty_row, greatest, joined_row}
@@ -30,14 +30,13 @@ use Rattle.rc_position.specs.declared.positions.Weight.TheVariants.{Before, At, 
 use Rattle.rc_position.specs.OrderLaws.{pos_cmp_same}
 use Rattle.rc_position.specs.Position.{key_cmp, pos_cmp, row_pos}
 use Rattle.rc_ranges.specs.declared.pieces.Piece.{Piece}
-use Rattle.rc_ranges.specs.Cover.{IsCanonical, IsBoundOf}
 use Rattle.rc_ranges.specs.Cover.{cover as range_tomb}
 use Rattle.rc_ranges.proofs.Covering.{cover-append}
 use Rattle.rc_ranges.proofs.Determined.{determined}
 use Rattle.rc_mutation.specs.declared.mutations.Mutation.{Mutation}
 use Rattle.rc_mutation.specs.ByKey.{rows_at-joined_rows, rows_at-ascending, joined_if_any, same_rows}
-use Rattle.rc_mutation.specs.RowsLaws.{found, joined_rows-again, joined_rows-append, joined_rows-swap, joined_rows-twice}
-use Rattle.rc_mutation.specs.Source.{all_pieces, all_rows, IsJoinOf, IsMutation, IsRows, joined_rows, partition_tombs, rows_at, rows_in, SameSource, source_at, source_at_head, source_at_static, static_rows}
+use Rattle.rc_mutation.specs.RowsLaws.{found, joined_rows-again, joined_rows-append, joined_rows-rows, joined_rows-swap, joined_rows-twice}
+use Rattle.rc_mutation.specs.Source.{all_pieces, all_rows, IsJoinOf, IsMutation, IsRows, joined_rows, partition_tombs, rows_at, rows_in, SameSource, source_at_head, source_at_static, static_rows}
 
 cons_one : {X : Type 0} (s : Option X) → cons_option s [] ≡ option_to_list s
 cons_one None = refl
@@ -88,9 +87,9 @@ IsJoinOf-source m changes is j = record {
   head = head-one m ∙ j.head;
   statics = statics-one m is ∙ j.statics;
   clustered = λ x.
-    let rows : joined_row (rows_in x (m.rows ++ [])) ≡ joined_row (rows_in x (all_rows changes)) = ap (λ rs. joined_row (rows_in x rs)) (append-nil m.rows ∙ j.rows) ∙ rows_in-joined_rows x (all_rows changes) in
-    let tombs : range_tomb (m.ranges ++ []) x ≡ range_tomb (all_pieces changes) x = ap (λ ps. range_tomb ps x) (append-nil m.ranges) ∙ j.ranges x in
-    λ i. (rows i, tombs i);
+      let rows : joined_row (rows_in x (m.rows ++ [])) ≡ joined_row (rows_in x (all_rows changes)) = ap (λ rs. joined_row (rows_in x rs)) (append-nil m.rows ∙ j.rows) ∙ rows_in-joined_rows x (all_rows changes) in
+      let tombs : range_tomb (m.ranges ++ []) x ≡ range_tomb (all_pieces changes) x = ap (λ ps. range_tomb ps x) (append-nil m.ranges) ∙ j.ranges x in
+      λ i. (rows i, tombs i);
 }
 
 -- ---- the source determines the mutation
@@ -107,8 +106,8 @@ found_row rows is q x e = (found (λ r. r ≢ empty_row) q rows is.written x e, 
 rows-determined : (xs ys : List (List Comp × Row)) → IsRows xs → IsRows ys → ((k : List Comp) → joined_row (rows_at k xs) ≡ joined_row (rows_at k ys)) → xs ≡ ys
 rows-determined xs ys g h is =
     same_rows xs ys (test_of _ g.ascend) (test_of _ h.ascend) (λ q.
-      same_found (find key_cmp q xs) (find key_cmp q ys) (found_row xs g q) (found_row ys h q)
-        (ap joined_row (sym (rows_at-ascending q xs (test_of _ g.ascend))) ∙ is q ∙ ap joined_row (rows_at-ascending q ys (test_of _ h.ascend))))
+    same_found (find key_cmp q xs) (find key_cmp q ys) (found_row xs g q) (found_row ys h q)
+    (ap joined_row (sym (rows_at-ascending q xs (test_of _ g.ascend))) ∙ is q ∙ ap joined_row (rows_at-ascending q ys (test_of _ h.ascend))))
 
 -- mutations that say the same at each place are equal
 pub source-determined : (m n : Mutation) → IsMutation m → IsMutation n → SameSource (m ∷ []) (n ∷ []) → m ≡ n
@@ -160,11 +159,11 @@ IsJoinOf-first m r xs ys j k = record {
   statics = k.statics ∙ ap (λ s. joined_row (s ∷ static_rows ys)) j.statics ∙ joined_row-first (static_rows xs) (static_rows ys) ∙ ap joined_row (sym (static_rows-append xs ys));
   rows = k.rows ∙ ap (λ rs. joined_rows (rs ++ all_rows ys)) j.rows ∙ joined_rows-first (all_rows xs) (all_rows ys) ∙ ap joined_rows (sym (all_rows-append xs ys));
   ranges = λ x.
-    k.ranges x
-    ∙ cover-append m.ranges (all_pieces ys) x
-    ∙ ap (λ t. greater tomb_cmp t (range_tomb (all_pieces ys) x)) (j.ranges x)
-    ∙ sym (cover-append (all_pieces xs) (all_pieces ys) x)
-    ∙ ap (λ ps. range_tomb ps x) (sym (all_pieces-append xs ys));
+      k.ranges x
+      ∙ cover-append m.ranges (all_pieces ys) x
+      ∙ ap (λ t. greater tomb_cmp t (range_tomb (all_pieces ys) x)) (j.ranges x)
+      ∙ sym (cover-append (all_pieces xs) (all_pieces ys) x)
+      ∙ ap (λ ps. range_tomb ps x) (sym (all_pieces-append xs ys));
 }
 
 range_tomb-swap : (ps qs : List Piece) (x : Pos) → range_tomb (ps ++ qs) x ≡ range_tomb (qs ++ ps) x
@@ -217,3 +216,37 @@ joined_two m n r pt statics rows ranges = record {
   rows = rows ∙ ap (λ rs. joined_rows (m.rows ++ rs)) (sym (append-nil n.rows));
   ranges = λ x. ranges x ∙ sym (cover-append m.ranges n.ranges x) ∙ ap (λ ps. range_tomb (m.ranges ++ ps) x) (sym (append-nil n.ranges));
 }
+
+-- one mutation joins to itself
+pub IsJoinOf-one : (m : Mutation) → IsMutation m → IsJoinOf m (m ∷ [])
+IsJoinOf-one m is = record {
+  head = sym (head-one m);
+  statics = sym (statics-one m is);
+  rows = sym (ap joined_rows (append-nil m.rows) ∙ joined_rows-rows m.rows is.rows);
+  ranges = λ x. ap (λ ps. range_tomb ps x) (sym (append-nil m.ranges));
+}
+
+pub join-comm : (a b one other : Mutation) → IsMutation one → IsMutation other → IsJoinOf one (a ∷ b ∷ []) → IsJoinOf other (b ∷ a ∷ []) → one ≡ other
+join-comm a b one other g h j k = IsJoinOf-same one other (b ∷ a ∷ []) g h (IsJoinOf-swap one (a ∷ []) (b ∷ []) j) k
+
+pub join-assoc : (a b c ab bc one other : Mutation) → IsMutation one → IsMutation other → IsJoinOf ab (a ∷ b ∷ []) → IsJoinOf one (ab ∷ c ∷ []) → IsJoinOf bc (b ∷ c ∷ []) → IsJoinOf other (a ∷ bc ∷ []) → one ≡ other
+join-assoc a b c ab bc one other g h ours left theirs right =
+    IsJoinOf-same one other (a ∷ b ∷ c ∷ []) g h
+    (IsJoinOf-first ab one (a ∷ b ∷ []) (c ∷ []) ours left)
+    (IsJoinOf-swap other (b ∷ c ∷ []) (a ∷ []) (IsJoinOf-first bc other (b ∷ c ∷ []) (a ∷ []) theirs (IsJoinOf-swap other (a ∷ []) (bc ∷ []) right)))
+
+pub join-same : (a one : Mutation) → IsMutation a → IsMutation one → IsJoinOf one (a ∷ a ∷ []) → one ≡ a
+join-same a one g h j = IsJoinOf-same one a (a ∷ []) h g (IsJoinOf-twice one (a ∷ []) j) (IsJoinOf-one a g)
+
+-- nothing written is what no writes join to
+pub IsJoinOf-none : IsJoinOf (record { pt = None; statics = empty_row; rows = []; ranges = [] }) []
+IsJoinOf-none = record {
+  head = sym (greatest-none tomb_cmp);
+  statics = sym joined_row-none;
+  rows = sym (joined_rows-rows [] (record { ascend = refl; written = λ k d lt. absurd (omega arith); by_column = λ k d lt. absurd (omega arith) }));
+  ranges = λ x. refl;
+}
+
+-- one more write is joined to what the others joined to
+pub IsJoinOf-more : (m r c : Mutation) (xs : List Mutation) → IsJoinOf m xs → IsJoinOf r (m ∷ c ∷ []) → IsJoinOf r (xs ++ c ∷ [])
+IsJoinOf-more m r c xs j k = IsJoinOf-first m r xs (c ∷ []) j k

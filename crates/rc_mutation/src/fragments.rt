@@ -1,9 +1,15 @@
 //! The fragments as which a partition is read.
 
-ghost use Rattle.std.specs.Prelude.{◌≡◌, [], IfOk};
+ghost use Rattle.std.specs.Prelude.{◌≡◌, [], ◌∷◌, ◌++◌, map, IfOk, OnOk, IsTrue};
+ghost use Rattle.std.specs.FinMap.{is_sorted};
+ghost use Rattle.std.specs.Ordering.{is_lt};
+ghost use Rattle.rc_position.specs.Position.{pos_cmp, row_pos};
+ghost use Rattle.rc_mutation.specs.Fragments.{begins_at, changes_of, fragments, in_order, is_written, piece_changes, place_order, placed_change, placed_row, static_fragment};
 
+use crate::mutations::Mutation;
 use rc_cell::{Row, Tomb};
-use rc_position::{Key, Pos};
+use rc_position::{Key, Pos, Weight};
+use rc_ranges::Piece;
 use std::alloc::{AllocError, Global};
 use std::marker::Model;
 
@@ -98,6 +104,158 @@ impl FragList {
     {
         FragList::from_slice(alloc, self.as_slice())
     }
+}
+
+impl Mutation {
+    /// The canonical fragments: the start; the static row, if something was written of it; rows and changes by position,
+    /// where a change names the tombstone in force from its position on and stands before a row at that position; and the
+    /// end. The only error is want of memory.
+    pub fn fragments(&self, alloc: Global) -> Result<FragList, AllocError>
+        ensures { IfOk result (λ list. list ≡ fragments self.now) }
+    {
+        let mut made = Vec::new(alloc);
+        made.push(Frag::Start(self.pt))?;
+        push_statics(alloc, &mut made, &self.statics)?;
+        let changes = changes(alloc, self.ranges.as_slice())?;
+        append_in_order(alloc, &mut made, self.rows.as_slice(), &changes)?;
+        made.push(Frag::End)?;
+        Ok(FragList::of(made))
+    }
+}
+
+// The static row, if something was written of it.
+fn push_statics(alloc: Global, made: &mut Vec<Frag>, statics: &Row) -> Result<(), AllocError>
+    ensures { OnOk result (made.new.items ≡ made.old.items ++ static_fragment statics.now) }
+{
+    if was_written(statics) {
+        let row = statics.copy(alloc)?;
+        made.push(Frag::Static(row))?;
+    }
+    Ok(())
+}
+
+// Whether something was written of the row.
+fn was_written(row: &Row) -> bool
+    ensures { result ≡ is_written row.now }
+{
+    row.marker.is_some() || row.tomb.is_some() || !row.cells.as_slice().is_empty()
+}
+
+// The changes of the tombstone in force, by position.
+fn changes(alloc: Global, pieces: &[Piece]) -> Result<Vec<(Pos, Option<Tomb>)>, AllocError>
+    ensures { IfOk result (λ made. made.items ≡ changes_of pieces.now) }
+{
+    let mut made = Vec::new(alloc);
+    let mut left = pieces;
+    while let [first, rest @ ..] = left {
+        push_piece(alloc, &mut made, first, rest)?;
+        left = rest;
+    }
+    Ok(made)
+}
+
+// The changes at a piece, behind which the next ones stand.
+fn push_piece(
+    alloc: Global,
+    made: &mut Vec<(Pos, Option<Tomb>)>,
+    piece: &Piece,
+    next: &[Piece],
+) -> Result<(), AllocError>
+    ensures { OnOk result (made.new.items ≡ made.old.items ++ piece_changes piece.now next.now) }
+{
+    made.push((piece.from.copy(alloc)?, Some(piece.tomb)))?;
+    if !first_begins_at(&piece.to, next) {
+        made.push((piece.to.copy(alloc)?, None))?;
+    }
+    Ok(())
+}
+
+// Whether the first piece begins at the position.
+fn first_begins_at(x: &Pos, pieces: &[Piece]) -> bool
+    ensures { result ≡ begins_at x.now pieces.now }
+{
+    match pieces {
+        [] => false,
+        [first, _rest @ ..] => first.from == *x,
+    }
+}
+
+// Appends rows and changes, each by ascending position, in the order of their positions.
+fn append_in_order(
+    alloc: Global,
+    made: &mut Vec<Frag>,
+    rows: &[(Key, Row)],
+    changes: &[(Pos, Option<Tomb>)],
+) -> Result<(), AllocError>
+    requires rows { IsTrue (is_sorted place_order (map placed_row rows.now)) }
+    requires changes { IsTrue (is_sorted place_order (map placed_change changes.now)) }
+    ensures { OnOk result (made.new.items ≡ made.old.items ++ in_order (map placed_row rows.now ++ map placed_change changes.now)) }
+{
+    let mut rows = rows;
+    let mut changes = changes;
+    while let ([row, rest @ ..], [change, later @ ..]) = (rows, changes) {
+        if stands_before(alloc, &row.0, &change.0)? {
+            push_row(alloc, made, row)?;
+            rows = rest;
+        } else {
+            push_change(alloc, made, change)?;
+            changes = later;
+        }
+    }
+    append_rows(alloc, made, rows)?;
+    append_changes(alloc, made, changes)
+}
+
+// Whether the row of the key stands before the position.
+fn stands_before(alloc: Global, key: &Key, x: &Pos) -> Result<bool, AllocError>
+    ensures { IfOk result (λ before. before ≡ is_lt (pos_cmp (row_pos key.now) x.now)) }
+{
+    let place = Pos {
+        prefix: key.copy(alloc)?,
+        weight: Weight::At,
+    };
+    Ok(place.cmp(x).is_lt())
+}
+
+fn push_row(alloc: Global, made: &mut Vec<Frag>, row: &(Key, Row)) -> Result<(), AllocError>
+    ensures { OnOk result (made.new.items ≡ made.old.items ++ Frag.Row row.now.0 row.now.1 ∷ []) }
+{
+    let key = row.0.copy(alloc)?;
+    let row = row.1.copy(alloc)?;
+    Ok(made.push(Frag::Row(key, row))?)
+}
+
+fn push_change(
+    alloc: Global,
+    made: &mut Vec<Frag>,
+    change: &(Pos, Option<Tomb>),
+) -> Result<(), AllocError>
+    ensures { OnOk result (made.new.items ≡ made.old.items ++ Frag.Change change.now.0 change.now.1 ∷ []) }
+{
+    let from = change.0.copy(alloc)?;
+    Ok(made.push(Frag::Change(from, change.1))?)
+}
+
+fn append_rows(alloc: Global, made: &mut Vec<Frag>, rows: &[(Key, Row)]) -> Result<(), AllocError>
+    ensures { OnOk result (made.new.items ≡ made.old.items ++ map (λ e. Frag.Row e.0 e.1) rows.now) }
+{
+    for row in rows {
+        push_row(alloc, made, row)?;
+    }
+    Ok(())
+}
+
+fn append_changes(
+    alloc: Global,
+    made: &mut Vec<Frag>,
+    changes: &[(Pos, Option<Tomb>)],
+) -> Result<(), AllocError>
+    ensures { OnOk result (made.new.items ≡ made.old.items ++ map (λ c. Frag.Change c.0 c.1) changes.now) }
+{
+    for change in changes {
+        push_change(alloc, made, change)?;
+    }
+    Ok(())
 }
 
 /// What stands at the head of a partition: its tombstone and its static row.

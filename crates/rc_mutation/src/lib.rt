@@ -6,6 +6,8 @@ mod fragments;
 pub mod laws;
 mod mutations;
 mod rows;
+#[cfg(test)]
+mod tests;
 
 pub use fragments::{Frag, FragList, Head, HeadAt};
 pub use mutations::{Mutation, Partition, Write, greater_tomb};

@@ -4,7 +4,7 @@ ghost use Rattle.std.specs.Prelude.{◌≡◌, [], ◌∷◌, IfOk, OnOk, OnErr}
 ghost use Rattle.rc_cell.specs.Greatest.{greater};
 ghost use Rattle.rc_cell.specs.Orders.{tomb_cmp};
 ghost use Rattle.rc_cell.specs.Winner.{empty_row};
-ghost use Rattle.rc_mutation.specs.Source.{IsJoinOf};
+ghost use Rattle.rc_mutation.specs.Source.{IsJoinOf, IsMutation};
 
 use crate::rows::Rows;
 use rc_cell::{Row, Tomb};
@@ -51,6 +51,16 @@ impl Mutation {
             rows,
             ranges,
         })
+    }
+
+    /// What holds of each mutation, for proofs to cite: the cells of its static row ascend by column, its rows by key, and
+    /// its range tombstones are canonical. It does nothing.
+    pub fn holds_together(&self)
+        ensures { IsMutation self.now }
+    {
+        let _cells = self.statics.cells.as_slice();
+        let _rows = self.rows.as_slice();
+        let _pieces = self.ranges.as_slice();
     }
 
     /// Joins what other writes say of the partition: at each place of it the greatest tombstone, and the rows as one. The

@@ -26,6 +26,7 @@ live_value cover (Dead ts dt) = None
 abbrev pub live_values : Option Tomb → List (ℕ × Cell) → List (ℕ × List ℕ)
 live_values cover cells = filter_map (λ e. option_map (λ value. (e.0, value)) (live_value cover e.1)) cells
 
+-- whether a list has an element
 abbrev pub has_any : {X : Type 0} → List X → Bool
 has_any [] = false
 has_any (x ∷ xs) = true

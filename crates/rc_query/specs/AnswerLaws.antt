@@ -144,10 +144,10 @@ answer-rows changes slice =
     let rows = all_rows changes in
     let statics = ap option_to_list (static_line-joined_row (source_at_head changes) (static_rows changes)) in
     let lines : filter_map (line_at changes) (filter (in_slice slice) (keys rows)) ≡ filter_map (sliced_line changes slice) (joined_rows rows) =
-      filter_map-filter (line_at changes) (in_slice slice) (keys rows)
-      ∙ (λ i. filter_map (λ key. if in_slice slice key then line_at-joined_row changes key i else None) (keys rows))
-      ∙ sym (filter_map-map (sliced_line changes slice) (λ key. (key, joined_row (rows_at key rows))) (keys rows))
-      ∙ ap (filter_map (sliced_line changes slice)) (sym (joined_rows-is rows)) in
+    filter_map-filter (line_at changes) (in_slice slice) (keys rows)
+    ∙ (λ i. filter_map (λ key. if in_slice slice key then line_at-joined_row changes key i else None) (keys rows))
+    ∙ sym (filter_map-map (sliced_line changes slice) (λ key. (key, joined_row (rows_at key rows))) (keys rows))
+    ∙ ap (filter_map (sliced_line changes slice)) (sym (joined_rows-is rows)) in
     λ i. statics i ++ lines i
 
 -- the answer of writes is that of what they join to
@@ -165,6 +165,7 @@ answer-joined m changes slice j =
 abbrev pub own_cover : Mutation → List Comp → Option Tomb
 own_cover m key = greater tomb_cmp m.pt (range_tomb m.ranges (row_pos key))
 
+-- its line for a row in the slice
 abbrev pub own_line : Mutation → Slice → List Comp × Row → Option OutLine
 own_line m slice e = if in_slice slice e.0 then row_line (own_cover m e.0) e.0 e.1 else None
 

@@ -23,7 +23,10 @@ pub fn answer_of(alloc: Global, change: &Mutation, slice: &Slice) -> Result<Line
     ensures { IfOk result (λ lines. lines ≡ answer (change.now ∷ []) slice.now) }
 {
     let mut lines = Vec::new(alloc);
-    push_line(&mut lines, line_of_statics(alloc, change.pt, &change.statics)?)?;
+    push_line(
+        &mut lines,
+        line_of_statics(alloc, change.pt, &change.statics)?,
+    )?;
     append_lines(alloc, &mut lines, change, slice)?;
     Ok(Lines::of(lines))
 }

@@ -2,10 +2,14 @@
 #![tactic(auto)]
 
 mod answers;
+mod compactor;
 pub mod laws;
 mod lines;
 mod shown;
+#[cfg(test)]
+mod tests;
 
 pub use answers::{answer_of, shown_rows};
+pub use compactor::Compactor;
 pub use lines::{Lines, OutLine};
 pub use shown::Shown;

@@ -11,7 +11,7 @@ loop-item-preserved c =
     let i = c.loop-item.item-index in
     let item = c.item-item.result in
     step-append f rows i item c.args.lines.now.items c.loop-item.lines.items c.push_line.new.lines.items c.in_ok-line_in.field-0
-      (subst (λ xs. i < length xs) c.as_slice-item-items.ensures.value c.loop-item-test.true)
-      c.loop-item.invariant
-      (c.in_ok-line_in.ensures ∙ ap f (c.item-item.is ∙ ap (λ xs. get_or xs i item) c.as_slice-item-items.ensures.value))
-      c.in_ok-push_line.ensures
+    (subst (λ xs. i < length xs) c.as_slice-item-items.ensures.value c.loop-item-test.true)
+    c.loop-item.invariant
+    (c.in_ok-line_in.ensures ∙ ap f (c.item-item.is ∙ ap (λ xs. get_or xs i item) c.as_slice-item-items.ensures.value))
+    c.in_ok-push_line.ensures

@@ -1,5 +1,5 @@
 -- The cells ascend, so each is its column's winner.
-use Rattle.std.proofs.Common.{◌≡◌, Bool, [], Option, Some, None, cond, ap, sym, ◌∙◌}
+use Rattle.std.proofs.Common.{◌≡◌, Option, Some, None, cond, ap, sym, ◌∙◌}
 use Rattle.rc_query.specs.declared.lines.OutLine.{OutLine}
 use Rattle.rc_query.specs.declared.lines.OutLine.TheVariants as line
 use Rattle.rc_query.specs.Answer.{has_any, live_values}

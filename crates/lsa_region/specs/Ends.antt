@@ -1,0 +1,40 @@
+-- Ends, and what a table of links names.
+use Rattle.std.specs.Prelude.{◌≡◌, ◌≢◌, ℕ, ◌+◌, ◌*◌, ◌<◌, List, length, slice_index_or, nat_lt, cond, Option, Some, None}
+use Rattle.lsa_region.specs.declared.end.End.{End}
+use Rattle.lsa_region.specs.declared.end.End.TheVariants.{Obj, Slot}
+use Rattle.lsa_region.specs.declared.links.Links.{Links}
+
+-- what a root slot names; nothing where there is no such slot
+abbrev pub joined : Option (Option End) → Option End
+joined None = None
+joined (Some named) = named
+
+abbrev pub root_of : List (Option (Option End)) → ℕ → Option End
+root_of roots n = joined (slice_index_or roots n None)
+
+-- what an end names: the links of an object have eight places in the table
+abbrev pub named_in : List (Option End) → List (Option (Option End)) → End → Option End
+named_in table roots (Obj r field) = cond (nat_lt field 8) (slice_index_or table (8 * r.number + field) None) None
+named_in table roots (Slot root) = root_of roots root.number
+
+-- the end has a place in the table
+abbrev pub HasPlaceIn : List (Option End) → List (Option (Option End)) → End → Type 0
+HasPlaceIn table roots (Obj r field) = (8 * r.number + field < length table) × (field < 8)
+HasPlaceIn table roots (Slot root) = (named : Option End) × (slice_index_or roots root.number None ≡ Some named)
+
+-- the end names this now; every other end names what it did, and the same places are there
+pub record IsSetIn (table : List (Option End)) (roots : List (Option (Option End))) (table' : List (Option End)) (roots' : List (Option (Option End))) (end : End) (named : Option End) : Type 0 where
+  pub here : named_in table' roots' end ≡ named
+  pub others : (other : End) → other ≢ end → named_in table' roots' other ≡ named_in table roots other
+  pub places : (other : End) → HasPlaceIn table roots other → HasPlaceIn table' roots' other
+  pub back : (other : End) → HasPlaceIn table' roots' other → HasPlaceIn table roots other
+  pub long : length table' ≡ length table
+
+abbrev pub named_by : Links → End → Option End
+named_by l = named_in l.table.items l.roots.items
+
+abbrev pub HasPlace : Links → End → Type 0
+HasPlace l = HasPlaceIn l.table.items l.roots.items
+
+abbrev pub IsSet : Links → Links → End → Option End → Type 0
+IsSet old new = IsSetIn old.table.items old.roots.items new.table.items new.roots.items

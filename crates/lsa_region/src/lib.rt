@@ -1,0 +1,11 @@
+//! The region: typed objects in segments, whose links are halves of pairs.
+#![tactic(auto)]
+
+pub mod end;
+mod links;
+mod place;
+mod region;
+mod store;
+
+pub use end::{End, Ref, Root};
+pub use region::Region;

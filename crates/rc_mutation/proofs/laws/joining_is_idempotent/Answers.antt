@@ -1,0 +1,5 @@
+use Rattle.rc_mutation.specs.SourceLaws.{join-same}
+use Rattle.rc_mutation.proofs.laws.joining_is_idempotent.Goals as goal
+
+pub returns : goal.returns
+returns c = join-same

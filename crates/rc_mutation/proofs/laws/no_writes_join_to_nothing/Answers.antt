@@ -1,0 +1,5 @@
+use Rattle.rc_mutation.specs.SourceLaws.{IsJoinOf-none}
+use Rattle.rc_mutation.proofs.laws.no_writes_join_to_nothing.Goals as goal
+
+pub returns : goal.returns
+returns c = IsJoinOf-none

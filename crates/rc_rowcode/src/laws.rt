@@ -1,0 +1,29 @@
+//! Laws of the codes, each the contract of a function that does nothing.
+
+ghost use Rattle.std.specs.Prelude.{◌≡◌, ◌++◌, List, ℕ};
+ghost use Rattle.rc_cell.specs.declared.writes.Tomb.{Tomb};
+ghost use Rattle.rc_cell.specs.declared.rows.Row.{Row};
+ghost use Rattle.rc_position.specs.declared.comps.Comp.{Comp};
+ghost use Rattle.rc_position.specs.declared.positions.Pos.{Pos};
+ghost use Rattle.rc_rowcode.specs.Spelling.{tomb_code, key_code, pos_code, row_code, IsTomb, IsKey, IsPos, IsCodedRow};
+
+/// Each tombstone has one code, and no tombstone's code begins another's: what was written is read again, whatever
+/// follows it.
+pub fn one_code_of_a_tomb()
+    ensures { (a b : Tomb) (x y : List ℕ) → IsTomb a → IsTomb b → tomb_code a ++ x ≡ tomb_code b ++ y → (a ≡ b) × (x ≡ y) }
+{}
+
+/// The same of keys.
+pub fn one_code_of_a_key()
+    ensures { (a b : List Comp) (x y : List ℕ) → IsKey a → IsKey b → key_code a ++ x ≡ key_code b ++ y → (a ≡ b) × (x ≡ y) }
+{}
+
+/// The same of positions.
+pub fn one_code_of_a_position()
+    ensures { (a b : Pos) (x y : List ℕ) → IsPos a → IsPos b → pos_code a ++ x ≡ pos_code b ++ y → (a ≡ b) × (x ≡ y) }
+{}
+
+/// The same of rows.
+pub fn one_code_of_a_row()
+    ensures { (a b : Row) (x y : List ℕ) → IsCodedRow a → IsCodedRow b → row_code a ++ x ≡ row_code b ++ y → (a ≡ b) × (x ≡ y) }
+{}

@@ -1,0 +1,4 @@
+pub mod Lists
+pub mod SchemaText
+pub mod Checks
+pub mod SchemaLaws

@@ -1,0 +1,19 @@
+//! Schemas: their text, and what of keys and rows fits them.
+#![tactic(auto)]
+
+mod checks;
+mod kinds;
+mod laws;
+mod names;
+mod printing;
+mod schemas;
+#[cfg(test)]
+mod tests;
+mod words;
+
+pub use checks::SchemaErr;
+pub use kinds::CkKind;
+pub use laws::{
+    printed_schemas_read_back, read_schemas_are_within_limits, read_schemas_print_back,
+};
+pub use schemas::{Schema, SchemaTextErr};
