@@ -1,30 +1,28 @@
 -- What a fill of the newest version does: what was filled is known, all else is seen as before, and continuity is kept.
-use Rattle.std.specs.Prelude.{◌≡◌, ◌⊎◌, Bool, true, false, IsTrue, List, [], ◌∷◌, ◌++◌, Option, Some, None, cond, map as list_map}
-use Rattle.std.proofs.Common.{append-nil, refl, sym, ap, ◌∙◌, subst, inl}
-use Rattle.std.specs.declared.cmp.Ordering.{Ordering}
+use Rattle.std.specs.Prelude.{◌≡◌, true, false, IsTrue, List, [], ◌∷◌, ◌++◌, Option, Some, None, cond, map as list_map}
+use Rattle.std.proofs.Common.{refl, sym, ap, ◌∙◌, subst, inl}
 use Rattle.std.specs.declared.cmp.Ordering.TheVariants.{Less, Equal, Greater}
 use Rattle.std.specs.Option.{option_to_list}
 use Rattle.rc_cell.specs.declared.rows.Row.{Row}
 use Rattle.rc_cell.specs.declared.writes.Tomb.{Tomb}
 use Rattle.rc_cell.specs.Orders.{tomb_cmp, tomb_cmp_total}
 use Rattle.rc_cell.specs.Beats.{tomb_cmp-IsAntisymmetric}
-use Rattle.rc_cell.specs.Greatest.{greater, greatest-one, greatest-two, greatest-swap, greatest-twice}
-use Rattle.rc_cell.specs.Laws.{joined_row-one, joined_row-comm, joined_row-append, joined_row-none, IsRow-joined_row, joined_row-twice}
+use Rattle.rc_cell.specs.Greatest.{greater, greatest-two, greatest-swap, greatest-twice}
+use Rattle.rc_cell.specs.Laws.{joined_row-comm, joined_row-append, joined_row-none, joined_row-twice}
 use Rattle.rc_cell.specs.Winner.{greatest, joined_row, empty_row}
 use Rattle.rc_position.specs.declared.positions.Pos.{Pos}
-use Rattle.rc_position.specs.Position.{Place, IsBefore, covers, pos_cmp}
+use Rattle.rc_position.specs.Position.{IsBefore, covers, pos_cmp}
 use Rattle.rc_position.specs.OrderLaws.{pos_cmp_same}
 use Rattle.rc_mutation.specs.declared.mutations.Mutation.{Mutation}
 use Rattle.rc_mutation.specs.Source.{source_at_static, source_at, static_rows, rows_in, all_rows}
 use Rattle.rc_core.specs.declared.entries.ChainKind.TheVariants.{Cache}
 use Rattle.rc_core.specs.declared.entries.Flag.{Flag}
 use Rattle.rc_core.specs.declared.entries.Flag.TheVariants.{Known, Unknown, Inherit}
-use Rattle.rc_core.specs.declared.entries.Mark.{Mark}
-use Rattle.rc_core.specs.Cell.{Cell, cell, over, under, through, said, nothing}
-use Rattle.rc_core.specs.Version.{Spot, On, Behind, Version, IsVersion, cell_at, static_cell, Found, found, seen, cell_of, spot_cmp, end_position, EndsWithDummy, IsBeforeEnd}
-use Rattle.rc_core.specs.Change.{mark, fill_gap, fill_row, joined_onto, known_with, position_of}
+use Rattle.rc_core.specs.Cell.{Cell, cell, over, under, through, said}
+use Rattle.rc_core.specs.Version.{Spot, On, Behind, Version, IsVersion, cell_at, static_cell, found, seen, cell_of, spot_cmp, end_position, IsBeforeEnd}
+use Rattle.rc_core.specs.Change.{mark, fill_gap, fill_row, joined_onto, position_of}
 use Rattle.rc_core.specs.Chain.{flagged, content, cells, flag_over, IsBare, IsKnown, IsEvenAt}
-use Rattle.rc_core.specs.Continuity.{IsWithin, static_cells, HoldNoMore, IsContinuous, with_entries, fill_statics, joined_options, partition_tombs}
+use Rattle.rc_core.specs.Continuity.{IsWithin, static_cells, IsContinuous, with_entries, fill_statics, joined_options}
 use Rattle.rc_core.proofs.Folding.{flagged-through, content-through, through-append, under-above}
 use Rattle.rc_core.proofs.Spots.{change-seen, fill_row-there, fill_row-other, behind-Equal, position-reached, gap-reached}
 use Rattle.rc_core.proofs.Losing.{map-append, each-one, each-other, joined-again, tomb-alone, same-content, same-flagged, lost-even, tombs-same}
@@ -115,7 +113,7 @@ module _ (writes : List Mutation) (older : List Version) (v : Version) (i : IsVe
   pub gap-known : (x : Pos) → covers from to x ≡ true → IsKnown Cache (older ++ filled ∷ []) x
   gap-known x c = record {
     at = flagged-known (cell_at (On x)) older filled (is_known_cell (On x) (on x) c);
-    gap = λ bare. flagged-known (cell_at (Behind x)) older filled (is_known_cell (Behind x) (gap x bare.inside) c)
+    gap = λ bare. flagged-known (cell_at (Behind x)) older filled (is_known_cell (Behind x) (gap x bare.inside) c);
   }
 
   module _ (given : (x : Pos) → covers from to x ≡ true → source_at writes x ≡ (empty_row, tomb)) where
@@ -128,10 +126,10 @@ module _ (writes : List Mutation) (older : List Version) (v : Version) (i : IsVe
 
     gap_within : (x : Pos) → IsWithin (cell_at (On x) v) (source_at writes x) → IsWithin (cell_at (On x) filled) (source_at writes x)
     gap_within x w = elim (covers from to x) as (λ b. covers from to x ≡ b → IsWithin (cell_at (On x) filled) (source_at writes x)) [
-        | true ↦ λ c. subst (λ k. IsWithin k (source_at writes x)) (sym (gap_inside (On x) (on x) c))
-            (w.0, ap (λ (a : Row × Option Tomb). greatest tomb_cmp (option_to_list a.1 ++ option_to_list tomb)) (given x c) ∙ itself_within tomb ∙ ap (λ (a : Row × Option Tomb). a.1) (sym (given x c)))
-        | false ↦ λ c. subst (λ k. IsWithin k (source_at writes x)) (sym (gap_outside (On x) (on x) c)) w
-      ] refl
+      | true ↦ λ c. subst (λ k. IsWithin k (source_at writes x)) (sym (gap_inside (On x) (on x) c))
+          (w.0, ap (λ (a : Row × Option Tomb). greatest tomb_cmp (option_to_list a.1 ++ option_to_list tomb)) (given x c) ∙ itself_within tomb ∙ ap (λ (a : Row × Option Tomb). a.1) (sym (given x c)))
+      | false ↦ λ c. subst (λ k. IsWithin k (source_at writes x)) (sym (gap_outside (On x) (on x) c)) w
+    ] refl
 
     inside_content : (x : Pos) → covers from to x ≡ true → IsWithin (cell_at (On x) v) (source_at writes x) → content (cells (On x) (older ++ filled ∷ [])) ≡ source_at writes x
     inside_content x c w =
@@ -142,32 +140,32 @@ module _ (writes : List Mutation) (older : List Version) (v : Version) (i : IsVe
 
     gap_content : (k : IsContinuous None writes (older ++ v ∷ [])) (x : Pos) → IsTrue (flagged Cache (cells (On x) (older ++ filled ∷ []))) → content (cells (On x) (older ++ filled ∷ [])) ≡ source_at writes x
     gap_content k x f = elim (covers from to x) as (λ b. covers from to x ≡ b → content (cells (On x) (older ++ filled ∷ [])) ≡ source_at writes x) [
-        | true ↦ λ c. inside_content x c (each-one _ older [] v (k.within.clustered x))
-        | false ↦ λ c. let e = gap-elsewhere (On x) (on x) c in
-            same-content (cells (On x) (older ++ v ∷ [])) (cells (On x) (older ++ filled ∷ [])) e
-            ∙ k.clustered x tt (sym (same-flagged (cells (On x) (older ++ v ∷ [])) (cells (On x) (older ++ filled ∷ [])) e) ∙ f)
-      ] refl
+      | true ↦ λ c. inside_content x c (each-one _ older [] v (k.within.clustered x))
+      | false ↦ λ c. let e = gap-elsewhere (On x) (on x) c in
+          same-content (cells (On x) (older ++ v ∷ [])) (cells (On x) (older ++ filled ∷ [])) e
+          ∙ k.clustered x tt (sym (same-flagged (cells (On x) (older ++ v ∷ [])) (cells (On x) (older ++ filled ∷ [])) e) ∙ f)
+    ] refl
 
     gap_even : (k : IsContinuous None writes (older ++ v ∷ [])) (x : Pos) → IsEvenAt Cache (older ++ filled ∷ []) x
     gap_even k x bare known = elim (covers from to x) as (λ b. covers from to x ≡ b → (content (cells (On x) (older ++ filled ∷ []))).1 ≡ (content (cells (Behind x) (older ++ filled ∷ []))).1) [
-        | true ↦ λ c.
-            ap (λ (a : Row × Option Tomb). a.1) (content-known (cell_at (On x)) older filled (is_known_cell (On x) (on x) c) ∙ ap said (gap_inside (On x) (on x) c))
-            ∙ ap (λ (a : Row × Option Tomb). a.1) (sym (content-known (cell_at (Behind x)) older filled (is_known_cell (Behind x) (gap x bare.inside) c) ∙ ap said (gap_inside (Behind x) (gap x bare.inside) c)))
-        | false ↦ λ c. even-same (older ++ v ∷ []) (older ++ filled ∷ []) x (gap-elsewhere (On x) (on x) c) (gap-elsewhere (Behind x) (gap x bare.inside) c) (k.even x tt) bare known
-      ] refl
+      | true ↦ λ c.
+          ap (λ (a : Row × Option Tomb). a.1) (content-known (cell_at (On x)) older filled (is_known_cell (On x) (on x) c) ∙ ap said (gap_inside (On x) (on x) c))
+          ∙ ap (λ (a : Row × Option Tomb). a.1) (sym (content-known (cell_at (Behind x)) older filled (is_known_cell (Behind x) (gap x bare.inside) c) ∙ ap said (gap_inside (Behind x) (gap x bare.inside) c)))
+      | false ↦ λ c. even-same (older ++ v ∷ []) (older ++ filled ∷ []) x (gap-elsewhere (On x) (on x) c) (gap-elsewhere (Behind x) (gap x bare.inside) c) (k.even x tt) bare known
+    ] refl
 
     pub gap-continuous : IsContinuous None writes (older ++ v ∷ []) → IsContinuous None writes (older ++ filled ∷ [])
     gap-continuous k = record {
       within = record {
         statics = each-other _ older [] v filled k.within.statics (each-one _ older [] v k.within.statics);
-        clustered = λ x. each-other _ older [] v filled (k.within.clustered x) (gap_within x (each-one _ older [] v (k.within.clustered x)))
+        clustered = λ x. each-other _ older [] v filled (k.within.clustered x) (gap_within x (each-one _ older [] v (k.within.clustered x)));
       };
       statics = λ r f. let e = seen-same static_cell older v filled refl in
           same-content (static_cells (older ++ v ∷ [])) (static_cells (older ++ filled ∷ [])) e
           ∙ k.statics tt (sym (same-flagged (static_cells (older ++ v ∷ [])) (static_cells (older ++ filled ∷ [])) e) ∙ f);
       clustered = λ x r. gap_content k x;
       head = λ r. ap (greatest tomb_cmp) (tombs-same older [] v filled refl) ∙ k.head tt;
-      even = λ x r. gap_even k x
+      even = λ x r. gap_even k x;
     }
 
 -- ---- a filled row
@@ -189,8 +187,10 @@ module _ (writes : List Mutation) (older : List Version) (v : Version) (i : IsVe
     row_said : IsWithin (cell_at (On p) v) (source_at writes p) → said (cell_at (On p) with_filled_row) ≡ source_at writes p
     row_said w =
         ap said there
-        ∙ (λ j. (joined_within (seen (On p) v.entries).row row (ap (λ (a : Row × Option Tomb). joined_row (a.0 ∷ option_to_list (seen (On p) v.entries).row)) (sym given) ∙ w.0 ∙ ap (λ (a : Row × Option Tomb). a.0) given) j,
-            raised_within (seen (On p) v.entries).mark.tomb tomb (ap (λ (a : Row × Option Tomb). greatest tomb_cmp (option_to_list a.1 ++ option_to_list (seen (On p) v.entries).mark.tomb)) (sym given) ∙ w.1 ∙ ap (λ (a : Row × Option Tomb). a.1) given) j))
+        ∙ (λ j. (
+          joined_within (seen (On p) v.entries).row row (ap (λ (a : Row × Option Tomb). joined_row (a.0 ∷ option_to_list (seen (On p) v.entries).row)) (sym given) ∙ w.0 ∙ ap (λ (a : Row × Option Tomb). a.0) given) j,
+          raised_within (seen (On p) v.entries).mark.tomb tomb (ap (λ (a : Row × Option Tomb). greatest tomb_cmp (option_to_list a.1 ++ option_to_list (seen (On p) v.entries).mark.tomb)) (sym given) ∙ w.1 ∙ ap (λ (a : Row × Option Tomb). a.1) given) j,
+        ))
         ∙ sym given
 
     row_content : IsWithin (cell_at (On p) v) (source_at writes p) → content (cells (On p) (older ++ with_filled_row ∷ [])) ≡ source_at writes p
@@ -199,34 +199,35 @@ module _ (writes : List Mutation) (older : List Version) (v : Version) (i : IsVe
     pub row-known : IsContinuous None writes (older ++ v ∷ []) → IsKnown Cache (older ++ with_filled_row ∷ []) p
     row-known k = record {
       at = flagged-known (cell_at (On p)) older with_filled_row known_there;
-      gap = λ bare. absurd (some (ap (λ (a : Row × Option Tomb). a.0) (sym (row_content (each-one _ older [] v (k.within.clustered p)) ∙ given)) ∙ bare.no_row))
+      gap = λ bare. absurd (some (ap (λ (a : Row × Option Tomb). a.0) (sym (row_content (each-one _ older [] v (k.within.clustered p)) ∙ given)) ∙ bare.no_row));
     }
 
     filled_within : IsWithin (cell_at (On p) v) (source_at writes p) → IsWithin (cell_at (On p) with_filled_row) (source_at writes p)
     filled_within w =
         let said_there = row_said w in
-        let rows_there : joined_row (cell_at (On p) with_filled_row).rows ≡ (source_at writes p).0 = ap (λ (a : Row × Option Tomb). a.0) said_there in
-        (adds_nothing (source_at writes p).0 (rows_in p (all_rows writes)) (cell_at (On p) with_filled_row).rows refl rows_there,
-         ap (λ (k : Cell). greatest tomb_cmp (option_to_list (source_at writes p).1 ++ k.tombs)) there
-         ∙ ap (λ t. greatest tomb_cmp (option_to_list (source_at writes p).1 ++ option_to_list t)) (raised_is (seen (On p) v.entries).mark.tomb tomb (ap (λ (a : Row × Option Tomb). greatest tomb_cmp (option_to_list a.1 ++ option_to_list (seen (On p) v.entries).mark.tomb)) (sym given) ∙ w.1 ∙ ap (λ (a : Row × Option Tomb). a.1) given) ∙ ap (λ (a : Row × Option Tomb). a.1) (sym given))
-         ∙ itself_within (source_at writes p).1)
+        let rows_there : joined_row (cell_at (On p) with_filled_row).rows ≡ (source_at writes p).0 = ap (λ (a : Row × Option Tomb). a.0) said_there in (
+          adds_nothing (source_at writes p).0 (rows_in p (all_rows writes)) (cell_at (On p) with_filled_row).rows refl rows_there,
+          ap (λ (k : Cell). greatest tomb_cmp (option_to_list (source_at writes p).1 ++ k.tombs)) there
+              ∙ ap (λ t. greatest tomb_cmp (option_to_list (source_at writes p).1 ++ option_to_list t)) (raised_is (seen (On p) v.entries).mark.tomb tomb (ap (λ (a : Row × Option Tomb). greatest tomb_cmp (option_to_list a.1 ++ option_to_list (seen (On p) v.entries).mark.tomb)) (sym given) ∙ w.1 ∙ ap (λ (a : Row × Option Tomb). a.1) given) ∙ ap (λ (a : Row × Option Tomb). a.1) (sym given))
+              ∙ itself_within (source_at writes p).1,
+        )
 
     within_at : (x : Pos) → IsWithin (cell_at (On p) v) (source_at writes p) → IsWithin (cell_at (On x) v) (source_at writes x) → IsWithin (cell_at (On x) with_filled_row) (source_at writes x)
     within_at x wp w = elim (pos_cmp x p) as (λ r. pos_cmp x p ≡ r → IsWithin (cell_at (On x) with_filled_row) (source_at writes x)) [
-        | Less ↦ λ h. other (λ e. let u : Less ≡ Equal = sym h ∙ e in absurd (cc))
-        | Equal ↦ λ h. subst (λ y. IsWithin (cell_at (On y) with_filled_row) (source_at writes y)) (sym (pos_cmp_same x p h)) (filled_within wp)
-        | Greater ↦ λ h. other (λ e. let u : Greater ≡ Equal = sym h ∙ e in absurd (cc))
-      ] refl
+      | Less ↦ λ h. other (λ e. let u : Less ≡ Equal = sym h ∙ e in absurd (cc))
+      | Equal ↦ λ h. subst (λ y. IsWithin (cell_at (On y) with_filled_row) (source_at writes y)) (sym (pos_cmp_same x p h)) (filled_within wp)
+      | Greater ↦ λ h. other (λ e. let u : Greater ≡ Equal = sym h ∙ e in absurd (cc))
+    ] refl
       where
         other : (spot_cmp (On x) p ≡ Equal → ⊥) → IsWithin (cell_at (On x) with_filled_row) (source_at writes x)
         other h = subst (λ k. IsWithin k (source_at writes x)) (sym (ap cell_of (fill_row-other (On x) p row tomb v.entries h))) w
 
     content_at : (k : IsContinuous None writes (older ++ v ∷ [])) (x : Pos) → IsTrue (flagged Cache (cells (On x) (older ++ with_filled_row ∷ []))) → content (cells (On x) (older ++ with_filled_row ∷ [])) ≡ source_at writes x
     content_at k x f = elim (pos_cmp x p) as (λ r. pos_cmp x p ≡ r → content (cells (On x) (older ++ with_filled_row ∷ [])) ≡ source_at writes x) [
-        | Less ↦ λ h. other (λ e. let u : Less ≡ Equal = sym h ∙ e in absurd (cc))
-        | Equal ↦ λ h. subst (λ y. content (cells (On y) (older ++ with_filled_row ∷ [])) ≡ source_at writes y) (sym (pos_cmp_same x p h)) (row_content (each-one _ older [] v (k.within.clustered p)))
-        | Greater ↦ λ h. other (λ e. let u : Greater ≡ Equal = sym h ∙ e in absurd (cc))
-      ] refl
+      | Less ↦ λ h. other (λ e. let u : Less ≡ Equal = sym h ∙ e in absurd (cc))
+      | Equal ↦ λ h. subst (λ y. content (cells (On y) (older ++ with_filled_row ∷ [])) ≡ source_at writes y) (sym (pos_cmp_same x p h)) (row_content (each-one _ older [] v (k.within.clustered p)))
+      | Greater ↦ λ h. other (λ e. let u : Greater ≡ Equal = sym h ∙ e in absurd (cc))
+    ] refl
       where
         other : (spot_cmp (On x) p ≡ Equal → ⊥) → content (cells (On x) (older ++ with_filled_row ∷ [])) ≡ source_at writes x
         other h = let e = row-elsewhere (On x) h in
@@ -235,10 +236,10 @@ module _ (writes : List Mutation) (older : List Version) (v : Version) (i : IsVe
 
     even_at : (k : IsContinuous None writes (older ++ v ∷ [])) (x : Pos) → IsEvenAt Cache (older ++ with_filled_row ∷ []) x
     even_at k x = elim (pos_cmp x p) as (λ r. pos_cmp x p ≡ r → IsEvenAt Cache (older ++ with_filled_row ∷ []) x) [
-        | Less ↦ λ h. other (λ e. let u : Less ≡ Equal = sym h ∙ e in absurd (cc))
-        | Equal ↦ λ h. λ bare _. absurd (not_bare (subst (λ y. IsBare (older ++ with_filled_row ∷ []) y) (pos_cmp_same x p h) bare))
-        | Greater ↦ λ h. other (λ e. let u : Greater ≡ Equal = sym h ∙ e in absurd (cc))
-      ] refl
+      | Less ↦ λ h. other (λ e. let u : Less ≡ Equal = sym h ∙ e in absurd (cc))
+      | Equal ↦ λ h. λ bare _. absurd (not_bare (subst (λ y. IsBare (older ++ with_filled_row ∷ []) y) (pos_cmp_same x p h) bare))
+      | Greater ↦ λ h. other (λ e. let u : Greater ≡ Equal = sym h ∙ e in absurd (cc))
+    ] refl
       where
         not_bare : IsBare (older ++ with_filled_row ∷ []) p → ⊥
         not_bare bare = some (ap (λ (a : Row × Option Tomb). a.0) (sym (row_content (each-one _ older [] v (k.within.clustered p)) ∙ given)) ∙ bare.no_row)
@@ -250,14 +251,14 @@ module _ (writes : List Mutation) (older : List Version) (v : Version) (i : IsVe
     row-continuous k = record {
       within = record {
         statics = each-other _ older [] v with_filled_row k.within.statics (each-one _ older [] v k.within.statics);
-        clustered = λ x. each-other _ older [] v with_filled_row (k.within.clustered x) (within_at x (each-one _ older [] v (k.within.clustered p)) (each-one _ older [] v (k.within.clustered x)))
+        clustered = λ x. each-other _ older [] v with_filled_row (k.within.clustered x) (within_at x (each-one _ older [] v (k.within.clustered p)) (each-one _ older [] v (k.within.clustered x)));
       };
       statics = λ r f. let e = seen-same static_cell older v with_filled_row refl in
           same-content (static_cells (older ++ v ∷ [])) (static_cells (older ++ with_filled_row ∷ [])) e
           ∙ k.statics tt (sym (same-flagged (static_cells (older ++ v ∷ [])) (static_cells (older ++ with_filled_row ∷ [])) e) ∙ f);
       clustered = λ x r. content_at k x;
       head = λ r. ap (greatest tomb_cmp) (tombs-same older [] v with_filled_row refl) ∙ k.head tt;
-      even = λ x r. even_at k x
+      even = λ x r. even_at k x;
     }
 
 -- ---- a filled static row
@@ -284,12 +285,12 @@ module _ (writes : List Mutation) (older : List Version) (v : Version) (given : 
       record {
         within = record {
           statics = each-other _ older [] v with_statics k.within.statics (adds_nothing (source_at_static writes) (static_rows writes) (static_cell with_statics).rows refl said_there, w.1);
-          clustered = λ x. each-other _ older [] v with_statics (k.within.clustered x) (each-one _ older [] v (k.within.clustered x))
+          clustered = λ x. each-other _ older [] v with_statics (k.within.clustered x) (each-one _ older [] v (k.within.clustered x));
         };
         statics = λ r f. content-known static_cell older with_statics refl ∙ (λ j. (said_there j, tomb-alone None j));
         clustered = λ x r f. let e = seen-same (cell_at (On x)) older v with_statics refl in
             same-content (cells (On x) (older ++ v ∷ [])) (cells (On x) (older ++ with_statics ∷ [])) e
             ∙ k.clustered x tt (sym (same-flagged (cells (On x) (older ++ v ∷ [])) (cells (On x) (older ++ with_statics ∷ [])) e) ∙ f);
         head = λ r. ap (greatest tomb_cmp) (tombs-same older [] v with_statics refl) ∙ k.head tt;
-        even = λ x r. even-same (older ++ v ∷ []) (older ++ with_statics ∷ []) x (seen-same (cell_at (On x)) older v with_statics refl) (seen-same (cell_at (Behind x)) older v with_statics refl) (k.even x tt)
+        even = λ x r. even-same (older ++ v ∷ []) (older ++ with_statics ∷ []) x (seen-same (cell_at (On x)) older v with_statics refl) (seen-same (cell_at (Behind x)) older v with_statics refl) (k.even x tt);
       }

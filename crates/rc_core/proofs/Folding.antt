@@ -1,5 +1,5 @@
 -- Seeing through versions is a fold in a monoid, and gives what the definitions by the base say.
-use Rattle.std.specs.Prelude.{◌≡◌, ◌<◌, ℕ, zero, suc, Bool, true, false, List, [], ◌∷◌, ◌++◌, Option, Some, None, cond, drop}
+use Rattle.std.specs.Prelude.{◌≡◌, ◌<◌, ℕ, zero, suc, true, false, List, [], ◌∷◌, ◌++◌, Option, Some, None, cond, drop}
 use Rattle.std.specs.List.{flat_map}
 use Rattle.std.proofs.Common.{refl, sym, ap, ◌∙◌, subst, arith, append-nil}
 use Rattle.std.proofs.lemmas.List.{append_assoc}
@@ -8,8 +8,8 @@ use Rattle.rc_cell.specs.declared.writes.Tomb.{Tomb}
 use Rattle.rc_core.specs.declared.entries.ChainKind.{ChainKind}
 use Rattle.rc_core.specs.declared.entries.Flag.{Flag}
 use Rattle.rc_core.specs.declared.entries.Flag.TheVariants.{Known, Unknown, Inherit}
-use Rattle.rc_core.specs.Cell.{Cell, cell, nothing, over, under, through, said}
-use Rattle.rc_core.specs.Chain.{base, newer_first, from_number, first_flag, flagged, flagged_from, flag_over, decides, is_known, rows_from, tombs_from, content}
+use Rattle.rc_core.specs.Cell.{Cell, cell, nothing, under, through, said}
+use Rattle.rc_core.specs.Chain.{base, newer_first, from_number, first_flag, flagged, flagged_from, flag_over, decides, is_known, content}
 
 pub same_cell : {f g : Flag} {rs qs : List Row} {ts us : List Tomb} → f ≡ g → rs ≡ qs → ts ≡ us → cell f rs ts ≡ cell g qs us
 same_cell a b c = λ i. cell (a i) (b i) (c i)
@@ -60,9 +60,9 @@ base-found (c ∷ cs) i e =
     elim (base cs) as (λ b. base cs ≡ b → newer_first c.flag b ≡ Some i → decides (first_flag (drop i (c ∷ cs))) ≡ true) [
       | Some k ↦ λ h g. subst (λ n. decides (first_flag (drop n (c ∷ cs))) ≡ true) (ap number g) (base-found cs k h)
       | None ↦ λ h g. elim (decides c.flag) as (λ d. decides c.flag ≡ d → cond d (Some 0) None ≡ Some i → decides (first_flag (drop i (c ∷ cs))) ≡ true) [
-          | true ↦ λ d k. subst (λ n. decides (first_flag (drop n (c ∷ cs))) ≡ true) (ap number k) d
-          | false ↦ λ d k. absurd (cc)
-        ] refl g
+        | true ↦ λ d k. subst (λ n. decides (first_flag (drop n (c ∷ cs))) ≡ true) (ap number k) d
+        | false ↦ λ d k. absurd (cc)
+      ] refl g
     ] refl e
 
 none-decides : (f : Flag) (b : Option ℕ) → newer_first f b ≡ None → decides f ≡ false

@@ -1,5 +1,5 @@
 -- Merging and dropping keep continuity, and eviction keeps that of a whole chain.
-use Rattle.std.specs.Prelude.{◌≡◌, ◌⊎◌, ℕ, zero, suc, Bool, true, List, [], ◌∷◌, ◌++◌, Option, Some, None, take, length, map as list_map}
+use Rattle.std.specs.Prelude.{◌≡◌, ◌⊎◌, ℕ, zero, suc, true, List, [], ◌∷◌, ◌++◌, Option, Some, None, take, length, map as list_map}
 use Rattle.std.proofs.Common.{append-nil, refl, sym, ap, ◌∙◌, subst, ⊎_elim, inl, inr, get_or}
 use Rattle.std.proofs.lemmas.List.{append_assoc}
 use Rattle.std.specs.Option.{option_to_list}
@@ -7,17 +7,16 @@ use Rattle.rc_cell.specs.declared.rows.Row.{Row}
 use Rattle.rc_cell.specs.declared.writes.Tomb.{Tomb}
 use Rattle.rc_cell.specs.Orders.{tomb_cmp}
 use Rattle.rc_cell.specs.Winner.{greatest, joined_row}
-use Rattle.rc_position.specs.declared.positions.Pos.{Pos}
 use Rattle.rc_position.specs.Position.{Place}
 use Rattle.rc_mutation.specs.declared.mutations.Mutation.{Mutation}
-use Rattle.rc_mutation.specs.Source.{source_at, source_at_static, static_rows, rows_in, all_rows}
+use Rattle.rc_mutation.specs.Source.{source_at, static_rows, rows_in, all_rows}
 use Rattle.rc_core.specs.declared.entries.Flag.{Flag}
 use Rattle.rc_core.specs.declared.entries.Flag.TheVariants.{Known, Unknown, Inherit}
-use Rattle.rc_core.specs.Cell.{Cell, cell, nothing, over, under, through, said}
-use Rattle.rc_core.specs.Version.{Spot, On, Version, cell_at, static_cell}
+use Rattle.rc_core.specs.Cell.{Cell, cell, nothing, over, under}
+use Rattle.rc_core.specs.Version.{On, Version, cell_at, static_cell}
 use Rattle.rc_core.specs.Continuity.{IsWithin, EachOf, HoldNoMore, IsContinuous, IsEvicted}
-use Rattle.rc_core.specs.Merge.{Alike, IsSeenAlike, IsPutDown, IsMerged, IsSilent}
-use Rattle.rc_core.specs.Chains.{Chain, upto, phases, phase_at, HasReach, IsNeeded, IsPinned, IsUpdating, NewestIs, IsUntouchedFrom, IsChainContinuous, with_versions}
+use Rattle.rc_core.specs.Merge.{Alike, IsPutDown, IsMerged, IsSilent}
+use Rattle.rc_core.specs.Chains.{Chain, upto, phase_at, IsPinned, IsUpdating, NewestIs, IsUntouchedFrom, IsChainContinuous, with_versions}
 use Rattle.rc_core.proofs.Losing.{joined-again, tomb-alone, map-append, evicted-within, evicted-continuous}
 use Rattle.rc_core.proofs.Merging.{rows_by_parts, tombs_by_parts, merged-seen, dropped-seen, alike-continuous}
 
@@ -25,9 +24,10 @@ use Rattle.rc_core.proofs.Merging.{rows_by_parts, tombs_by_parts, merged-seen, d
 
 within_inherit : (rows : List Row) (t : Option Tomb) (a : Cell) (rs : List Row) (ts : List Tomb) → IsWithin a (joined_row rows, t) → joined_row (joined_row rows ∷ rs) ≡ joined_row rows → greatest tomb_cmp (option_to_list t ++ ts) ≡ t →
     IsWithin (cell a.flag (a.rows ++ rs) (a.tombs ++ ts)) (joined_row rows, t)
-within_inherit rows t a rs ts w e f =
-    (rows_by_parts (joined_row rows ∷ a.rows) rs (joined_row rows ∷ []) rs (w.0 ∙ sym (joined-again rows)) refl ∙ e,
-     ap (greatest tomb_cmp) (sym (append_assoc (option_to_list t) a.tombs ts)) ∙ tombs_by_parts (option_to_list t ++ a.tombs) ts (option_to_list t) ts (w.1 ∙ sym (tomb-alone t)) refl ∙ f)
+within_inherit rows t a rs ts w e f = (
+  rows_by_parts (joined_row rows ∷ a.rows) rs (joined_row rows ∷ []) rs (w.0 ∙ sym (joined-again rows)) refl ∙ e,
+  ap (greatest tomb_cmp) (sym (append_assoc (option_to_list t) a.tombs ts)) ∙ tombs_by_parts (option_to_list t ++ a.tombs) ts (option_to_list t) ts (w.1 ∙ sym (tomb-alone t)) refl ∙ f,
+)
 
 within_under_by : (f : Flag) (rows : List Row) (t : Option Tomb) (a b : Cell) → IsWithin a (joined_row rows, t) → IsWithin b (joined_row rows, t) → IsWithin (over f a b) (joined_row rows, t)
 within_under_by Known rows t a b w x = x
@@ -35,9 +35,10 @@ within_under_by Unknown rows t a b w x = x
 within_under_by Inherit rows t a b w x = within_inherit rows t a b.rows b.tombs w x.0 x.1
 
 within_alike : (source : Row × Option Tomb) (c d : Cell) → Alike c d → IsWithin d source → IsWithin c source
-within_alike source c d h w =
-    (rows_by_parts (source.0 ∷ []) c.rows (source.0 ∷ []) d.rows refl (ap (λ (a : Row × Option Tomb). a.0) h.1) ∙ w.0,
-     tombs_by_parts (option_to_list source.1) c.tombs (option_to_list source.1) d.tombs refl (ap (λ (a : Row × Option Tomb). a.1) h.1) ∙ w.1)
+within_alike source c d h w = (
+  rows_by_parts (source.0 ∷ []) c.rows (source.0 ∷ []) d.rows refl (ap (λ (a : Row × Option Tomb). a.0) h.1) ∙ w.0,
+  tombs_by_parts (option_to_list source.1) c.tombs (option_to_list source.1) d.tombs refl (ap (λ (a : Row × Option Tomb). a.1) h.1) ∙ w.1,
+)
 
 within_nothing : (rows : List Row) (t : Option Tomb) → IsWithin nothing (joined_row rows, t)
 within_nothing rows t = (joined-again rows, ap (greatest tomb_cmp) (append-nil (option_to_list t)) ∙ tomb-alone t)
@@ -59,7 +60,7 @@ each_less P (o ∷ os) newer v h = (h.0, each_less P os newer v h.1)
 pub merged-within : (writes : List Mutation) (older newer : List Version) (a b c d : Version) → IsMerged a b c d → HoldNoMore writes (older ++ a ∷ b ∷ newer) → HoldNoMore writes (older ++ c ∷ d ∷ newer)
 merged-within writes older newer a b c d m h = record {
   statics = each_two _ older newer a b c d h.statics (put_down_within (static_rows writes) None (static_cell a) (static_cell b) (static_cell c) (static_cell d) m.statics);
-  clustered = λ x. each_two _ older newer a b c d (h.clustered x) (put_down_within (rows_in x (all_rows writes)) (source_at writes x).1 (cell_at (On x) a) (cell_at (On x) b) (cell_at (On x) c) (cell_at (On x) d) (m.clustered (On x)))
+  clustered = λ x. each_two _ older newer a b c d (h.clustered x) (put_down_within (rows_in x (all_rows writes)) (source_at writes x).1 (cell_at (On x) a) (cell_at (On x) b) (cell_at (On x) c) (cell_at (On x) d) (m.clustered (On x)));
 }
 
 pub merged-continuous : (reach : Option Place) (writes : List Mutation) (older newer : List Version) (a b c d : Version) → IsMerged a b c d → IsContinuous reach writes (older ++ a ∷ b ∷ newer) → IsContinuous reach writes (older ++ c ∷ d ∷ newer)
@@ -98,13 +99,13 @@ pub evicted-chain : (below : ℕ → List Mutation) (c : Chain) (front back : Li
 evicted-chain below c front back v w vs e ph un k = record {
   within = λ j. subst (λ n. HoldNoMore (below n) (upto (front ++ w ∷ back) j)) (same_phases front back v w ph j)
       (upto_kept (HoldNoMore (below (phase_at (front ++ v ∷ back) j))) front back v w (λ newer. evicted-within (below (phase_at (front ++ v ∷ back) j)) front newer v w e) j
-        (subst (λ us. HoldNoMore (below (phase_at us j)) (upto us j)) vs (k.within j)));
+      (subst (λ us. HoldNoMore (below (phase_at us j)) (upto us j)) vs (k.within j)));
   needed = λ j reach has need. subst (λ n. IsContinuous reach (below n) (upto (front ++ w ∷ back) j)) (same_phases front back v w ph j)
       (upto_kept (IsContinuous reach (below (phase_at (front ++ v ∷ back) j))) front back v w (λ newer. evicted-continuous reach (below (phase_at (front ++ v ∷ back) j)) front newer v w e) j
-        (subst (λ us. IsContinuous reach (below (phase_at us j)) (upto us j)) vs
-          (k.needed j reach (subst (λ n. (suc j ≡ n → reach ≡ c.updating) × ((suc j ≡ n → ⊥) → reach ≡ None)) (sym (len)) has)
-            (subst (λ n. IsPinned c.pins j ⊎ ((c.attached ≡ true) × (suc j ≡ n)) ⊎ (IsUpdating c.updating × (suc (suc j) ≡ n))) (sym len) need))));
-  ahead = un
+      (subst (λ us. IsContinuous reach (below (phase_at us j)) (upto us j)) vs
+      (k.needed j reach (subst (λ n. (suc j ≡ n → reach ≡ c.updating) × ((suc j ≡ n → ⊥) → reach ≡ None)) (sym (len)) has)
+      (subst (λ n. IsPinned c.pins j ⊎ ((c.attached ≡ true) × (suc j ≡ n)) ⊎ (IsUpdating c.updating × (suc (suc j) ≡ n))) (sym len) need))));
+  ahead = un;
 }
   where
     len : length c.versions ≡ length (front ++ w ∷ back)

@@ -1,8 +1,8 @@
 -- What eviction does to what is seen through a chain, and that it keeps continuity.
-use Rattle.std.specs.Prelude.{◌≡◌, ◌⊎◌, ◌<◌, ℕ, zero, suc, Bool, true, false, IsTrue, List, [], ◌∷◌, ◌++◌, Option, Some, None, All, length, map as list_map}
-use Rattle.std.proofs.Common.{append-nil, refl, sym, ap, ◌∙◌, subst, inl, inr, ⊎_elim, arith}
+use Rattle.std.specs.Prelude.{◌≡◌, ◌⊎◌, IsTrue, List, [], ◌∷◌, ◌++◌, Option, None, map as list_map}
+use Rattle.std.proofs.Common.{append-nil, refl, sym, ap, ◌∙◌, subst, inl, inr, ⊎_elim}
 use Rattle.std.specs.Option.{option_to_list}
-use Rattle.std.specs.List.{filter_map, cons_option}
+use Rattle.std.specs.List.{cons_option}
 use Rattle.rc_cell.specs.declared.rows.Row.{Row}
 use Rattle.rc_cell.specs.declared.writes.Tomb.{Tomb}
 use Rattle.rc_cell.specs.Orders.{tomb_cmp, tomb_cmp_total}
@@ -14,17 +14,16 @@ use Rattle.rc_position.specs.declared.positions.Pos.{Pos}
 use Rattle.rc_position.specs.Position.{Place, IsBefore}
 use Rattle.rc_mutation.specs.Source.{source_at_static, source_at, static_rows, rows_in, all_rows}
 use Rattle.rc_mutation.specs.declared.mutations.Mutation.{Mutation}
-use Rattle.rc_core.specs.declared.entries.ChainKind.{ChainKind}
 use Rattle.rc_core.specs.declared.entries.ChainKind.TheVariants.{Cache}
 use Rattle.rc_core.specs.declared.entries.Flag.{Flag}
 use Rattle.rc_core.specs.declared.entries.Flag.TheVariants.{Known, Unknown, Inherit}
-use Rattle.rc_core.specs.Cell.{Cell, cell, over, under, through, lost, said}
-use Rattle.rc_core.specs.Version.{Spot, On, Behind, Version, IsVersion, cell_at, static_cell, Found, found, seen, cell_of, end_position}
+use Rattle.rc_core.specs.Cell.{Cell, over, under, through, lost, said}
+use Rattle.rc_core.specs.Version.{On, Behind, Version, IsVersion, cell_at, static_cell, Found, found, seen, cell_of, end_position}
 use Rattle.rc_core.specs.Change.{drop_at, lose_last_gap, lost_mark}
 use Rattle.rc_core.proofs.Spots.{drop-seen, lose_last-seen}
-use Rattle.rc_core.specs.Chain.{flagged, content, cells, flag_over, IsBare, IsKnown, IsEvenAt}
+use Rattle.rc_core.specs.Chain.{flagged, content, cells, flag_over, IsBare, IsEvenAt}
 use Rattle.rc_core.specs.Continuity.{IsWithin, static_cells, partition_tombs, HoldNoMore, IsContinuous, SameOrLost, IsSameOrLost, IsKeptOrLost, IsEvicted, EachOf, with_entries, without_statics}
-use Rattle.rc_core.proofs.Folding.{flagged-through, content-through, through-append}
+use Rattle.rc_core.proofs.Folding.{flagged-through, content-through}
 
 under_lost : (older newer : Cell) → older.flag ≡ Unknown → (f : Flag) → newer.flag ≡ f → (over f older newer ≡ newer) ⊎ ((over f older newer).flag ≡ Unknown)
 under_lost older newer l Known e = inl refl
@@ -77,7 +76,7 @@ pub evicted-seen : (older newer : List Version) (v w : Version) → IsEvicted v 
 evicted-seen older newer v w h = record {
   statics = through-one static_cell older newer v w (kept-same _ _ h.statics);
   clustered = λ s. through-one (cell_at s) older newer v w (kept-same _ _ (h.clustered s));
-  head = ap (greatest tomb_cmp) (tombs-same older newer v w h.head)
+  head = ap (greatest tomb_cmp) (tombs-same older newer v w h.head);
 }
 
 -- ---- same or lost keeps continuity
@@ -114,7 +113,7 @@ same_or_lost-continuous reach writes before now h within c = record {
   statics = λ r k. let was = known-before (static_cells before) (static_cells now) h.statics k in was.1 ∙ c.statics r was.0;
   clustered = λ x r k. let was = known-before (cells (On x) before) (cells (On x) now) (h.clustered (On x)) k in was.1 ∙ c.clustered x r was.0;
   head = λ r. h.head ∙ c.head r;
-  even = λ x r. lost-even before now x (h.clustered (On x)) (h.clustered (Behind x)) (c.even x r)
+  even = λ x r. lost-even before now x (h.clustered (On x)) (h.clustered (Behind x)) (c.even x r);
 }
 
 -- ---- no more than the source
@@ -142,7 +141,7 @@ kept-within before now source l h w = ⊎_elim (λ e. subst (λ c. IsWithin c so
 pub evicted-within : (writes : List Mutation) (older newer : List Version) (v w : Version) → IsEvicted v w → HoldNoMore writes (older ++ v ∷ newer) → HoldNoMore writes (older ++ w ∷ newer)
 evicted-within writes older newer v w e h = record {
   statics = each-other _ older newer v w h.statics (kept-within (static_cell v) (static_cell w) (source_at_static writes, None) (lost-within (static_rows writes) None) e.statics (each-one _ older newer v h.statics));
-  clustered = λ x. each-other _ older newer v w (h.clustered x) (kept-within (cell_at (On x) v) (cell_at (On x) w) (source_at writes x) (lost-within (rows_in x (all_rows writes)) (source_at writes x).1) (e.clustered (On x)) (each-one _ older newer v (h.clustered x)))
+  clustered = λ x. each-other _ older newer v w (h.clustered x) (kept-within (cell_at (On x) v) (cell_at (On x) w) (source_at writes x) (lost-within (rows_in x (all_rows writes)) (source_at writes x).1) (e.clustered (On x)) (each-one _ older newer v (h.clustered x)));
 }
 
 pub evicted-continuous : (reach : Option Place) (writes : List Mutation) (older newer : List Version) (v w : Version) → IsEvicted v w → IsContinuous reach writes (older ++ v ∷ newer) → IsContinuous reach writes (older ++ w ∷ newer)

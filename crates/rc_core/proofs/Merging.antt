@@ -1,6 +1,6 @@
 -- What the cleaner does to what is seen: nothing; and what an update's fragment joins.
-use Rattle.std.specs.Prelude.{◌≡◌, ◌⊎◌, IsTrue, List, [], ◌∷◌, ◌++◌, Option, Some, None, map as list_map}
-use Rattle.std.proofs.Common.{append-nil, refl, sym, ap, ◌∙◌, subst, ⊎_elim}
+use Rattle.std.specs.Prelude.{◌≡◌, List, [], ◌∷◌, ◌++◌, Option, Some, None, map as list_map}
+use Rattle.std.proofs.Common.{refl, sym, ap, ◌∙◌, subst, ⊎_elim}
 use Rattle.std.proofs.lemmas.List.{append_assoc}
 use Rattle.std.proofs.lemmas.List as lists
 use Rattle.std.proofs.lemmas.List.Elements.{filter_map-append, filter-append}
@@ -21,8 +21,8 @@ use Rattle.rc_position.specs.Position.{Place, pos_cmp, row_pos, covers}
 use Rattle.rc_ranges.specs.declared.pieces.Piece.{Piece}
 use Rattle.rc_ranges.specs.Cover.{cover, tombs_over}
 use Rattle.rc_mutation.specs.declared.mutations.Mutation.{Mutation}
-use Rattle.rc_mutation.specs.Source.{source_at, source_at_static, rows_in, all_rows, all_pieces, static_rows}
-use Rattle.rc_mutation.specs.SourceLaws.{all_rows-append, all_pieces-append, static_rows-append}
+use Rattle.rc_mutation.specs.Source.{source_at, rows_in, all_rows, all_pieces}
+use Rattle.rc_mutation.specs.SourceLaws.{all_rows-append, all_pieces-append}
 use Rattle.rc_core.specs.declared.entries.ChainKind.{ChainKind}
 use Rattle.rc_core.specs.declared.entries.ChainKind.TheVariants.{Cache}
 use Rattle.rc_core.specs.declared.entries.Flag.{Flag}
@@ -71,7 +71,7 @@ pub put_down-seen : (older newer : List Cell) (a b c d : Cell) → IsPutDown a b
 put_down-seen [] newer a b c d h = ⊎_elim
     (λ e. (ap (λ (k : Cell). k.flag) (same e), ap said (same e)))
     (λ e. subst (λ (k : Cell). Alike k (under a (under b (through newer)))) (sym (ap (λ x. under x (under d (through newer))) e.0 ∙ under-below (under d (through newer))))
-        (subst (λ (k : Cell). Alike (under d (through newer)) k) (under-grouping a b (through newer)) (alike-above d (under a b) (through newer) e.1)))
+    (subst (λ (k : Cell). Alike (under d (through newer)) k) (under-grouping a b (through newer)) (alike-above d (under a b) (through newer) e.1)))
     h
   where
     same : (c ≡ a) × (d ≡ b) → under c (under d (through newer)) ≡ under a (under b (through newer))
@@ -112,7 +112,7 @@ merged-seen older newer a b c d h = record {
   clustered = λ s. merged_at (cell_at s) older newer a b c d (h.clustered s);
   head = ap (greatest tomb_cmp) (pts_two older newer c d)
       ∙ around (partition_tombs older) (partition_tombs newer) (option_to_list c.pt ++ option_to_list d.pt) (option_to_list a.pt ++ option_to_list b.pt) h.head
-      ∙ sym (ap (greatest tomb_cmp) (pts_two older newer a b))
+      ∙ sym (ap (greatest tomb_cmp) (pts_two older newer a b));
 }
 
 dropped_at : (f : Version → Cell) (older newer : List Version) (v : Version) → f v ≡ nothing → through (list_map f (older ++ newer)) ≡ through (list_map f (older ++ v ∷ newer))
@@ -129,7 +129,7 @@ dropped-seen older newer v w h t = record {
   clustered = λ s. equal_alike _ _ (dropped_at (cell_at s) older (w ∷ newer) v (h.clustered s));
   head = ap (greatest tomb_cmp) (pts_one older newer w)
       ∙ around (partition_tombs older) (partition_tombs newer) (option_to_list w.pt) (option_to_list v.pt ++ option_to_list w.pt) (sym t)
-      ∙ sym (ap (greatest tomb_cmp) (pts_two older newer v w))
+      ∙ sym (ap (greatest tomb_cmp) (pts_two older newer v w));
 }
 
 silent_end : (r : Ordering) → cell_of (entry_answers r (dummy end_position (mark Inherit None)) (found (mark Inherit None) None)) ≡ nothing
@@ -155,16 +155,16 @@ alike-even kind before now x h even bare known =
     let was_bare : IsBare before x = record { inside = bare.inside; no_row = ap (λ (a : Row × Option Tomb). a.0) (sym on) ∙ bare.no_row } in
     ap (λ (a : Row × Option Tomb). a.1) on
     ∙ even was_bare (record {
-        at = sym (alike-flagged kind (cells (On x) before) (cells (On x) now) (h.clustered (On x))) ∙ known.at;
-        gap = λ _. sym (alike-flagged kind (cells (Behind x) before) (cells (Behind x) now) (h.clustered (Behind x))) ∙ known.gap bare
-      })
+      at = sym (alike-flagged kind (cells (On x) before) (cells (On x) now) (h.clustered (On x))) ∙ known.at;
+      gap = λ _. sym (alike-flagged kind (cells (Behind x) before) (cells (Behind x) now) (h.clustered (Behind x))) ∙ known.gap bare;
+    })
     ∙ ap (λ (a : Row × Option Tomb). a.1) (sym gap)
 
 pub alike-known : (kind : ChainKind) (before now : List Version) (x : Pos) → IsSeenAlike before now → IsKnown kind before x → IsKnown kind now x
 alike-known kind before now x h known = record {
   at = alike-flagged kind (cells (On x) before) (cells (On x) now) (h.clustered (On x)) ∙ known.at;
   gap = λ bare. alike-flagged kind (cells (Behind x) before) (cells (Behind x) now) (h.clustered (Behind x))
-      ∙ known.gap (record { inside = bare.inside; no_row = ap (λ (a : Row × Option Tomb). a.0) (sym (alike-content (cells (On x) before) (cells (On x) now) (h.clustered (On x)))) ∙ bare.no_row })
+      ∙ known.gap (record { inside = bare.inside; no_row = ap (λ (a : Row × Option Tomb). a.0) (sym (alike-content (cells (On x) before) (cells (On x) now) (h.clustered (On x)))) ∙ bare.no_row });
 }
 
 pub alike-seen : (before now : List Version) (s : Spot) → IsSeenAlike before now → content (cells s now) ≡ content (cells s before)
@@ -176,7 +176,7 @@ alike-continuous reach writes before now h within k = record {
   statics = λ r f. alike-content (static_cells before) (static_cells now) h.statics ∙ k.statics r (sym (alike-flagged Cache (static_cells before) (static_cells now) h.statics) ∙ f);
   clustered = λ x r f. alike-content (cells (On x) before) (cells (On x) now) (h.clustered (On x)) ∙ k.clustered x r (sym (alike-flagged Cache (cells (On x) before) (cells (On x) now) (h.clustered (On x))) ∙ f);
   head = λ r. h.head ∙ k.head r;
-  even = λ x r. alike-even Cache before now x h (k.even x r)
+  even = λ x r. alike-even Cache before now x h (k.even x r);
 }
 
 -- ---- what an update's fragments join
@@ -198,7 +198,11 @@ pub update-content : (writes : List Mutation) (change : Mutation) (x : Pos) (cs 
 unfolding cover
 update-content writes change x cs rs ts e f =
     content-through (cs ++ cell Inherit rs ts ∷ []) ∙ ap said (joins_on_top cs rs ts)
-    ∙ (λ i. (rows_by_parts (through cs).rows rs (rows_in x (all_rows writes)) (rows_in x (all_rows (change ∷ []))) (ap (λ (a : Row × Option Tomb). a.0) (sym (content-through cs) ∙ e)) (ap (λ (a : Row × Option Tomb). a.0) f) i,
-             tombs_by_parts (through cs).tombs ts (tombs_over (all_pieces writes) x) (tombs_over (all_pieces (change ∷ [])) x) (ap (λ (a : Row × Option Tomb). a.1) (sym (content-through cs) ∙ e)) (ap (λ (a : Row × Option Tomb). a.1) f) i))
-    ∙ sym (λ i. (joined_row ((ap (rows_in x) (all_rows-append writes (change ∷ [])) ∙ rows_in-append x (all_rows writes) (all_rows (change ∷ []))) i),
-                 greatest tomb_cmp ((ap (λ ps. tombs_over ps x) (all_pieces-append writes (change ∷ [])) ∙ over-append x (all_pieces writes) (all_pieces (change ∷ []))) i)))
+    ∙ (λ i. (
+      rows_by_parts (through cs).rows rs (rows_in x (all_rows writes)) (rows_in x (all_rows (change ∷ []))) (ap (λ (a : Row × Option Tomb). a.0) (sym (content-through cs) ∙ e)) (ap (λ (a : Row × Option Tomb). a.0) f) i,
+      tombs_by_parts (through cs).tombs ts (tombs_over (all_pieces writes) x) (tombs_over (all_pieces (change ∷ [])) x) (ap (λ (a : Row × Option Tomb). a.1) (sym (content-through cs) ∙ e)) (ap (λ (a : Row × Option Tomb). a.1) f) i,
+    ))
+    ∙ sym (λ i. (
+      joined_row ((ap (rows_in x) (all_rows-append writes (change ∷ [])) ∙ rows_in-append x (all_rows writes) (all_rows (change ∷ []))) i),
+      greatest tomb_cmp ((ap (λ ps. tombs_over ps x) (all_pieces-append writes (change ∷ [])) ∙ over-append x (all_pieces writes) (all_pieces (change ∷ []))) i),
+    ))

@@ -3,17 +3,15 @@ use Rattle.std.specs.Prelude.{◌≡◌, ◌+◌, ◌<◌, ◌≤◌, ℕ, zero,
 use Rattle.std.proofs.Common.{refl, sym, ap, ◌∙◌, subst, arith, get_or, set}
 use Rattle.std.specs.Option.{option_to_list}
 use Rattle.rc_cell.specs.declared.writes.Tomb.{Tomb}
-use Rattle.rc_cell.specs.declared.rows.Row.{Row}
 use Rattle.rc_cell.specs.Orders.{tomb_cmp, tomb_cmp_total}
 use Rattle.rc_cell.specs.Beats.{tomb_cmp-IsAntisymmetric}
 use Rattle.rc_cell.specs.Greatest.{greater, greatest-two}
 use Rattle.rc_cell.specs.Winner.{greatest, joined_row}
 use Rattle.rc_core.specs.declared.entries.Entry.{Entry}
-use Rattle.rc_core.specs.declared.entries.Flag.{Flag}
 use Rattle.rc_core.specs.declared.entries.Flag.TheVariants.{Inherit}
 use Rattle.rc_core.specs.declared.entries.Mark.{Mark}
-use Rattle.rc_core.specs.Cell.{Cell, cell, over, under, said}
-use Rattle.rc_core.specs.Change.{mark, lost_mark, without_gap, lose_first_gap}
+use Rattle.rc_core.specs.Cell.{over, under}
+use Rattle.rc_core.specs.Change.{mark, lost_mark, lose_first_gap}
 use Rattle.rc_core.specs.Merge.{Alike}
 use Rattle.rc_core.specs.Plain.{mark_cell}
 use Rattle.rc_core.proofs.Losing.{tomb-alone}

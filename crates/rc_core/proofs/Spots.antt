@@ -3,7 +3,7 @@ use Rattle.std.specs.Prelude.{◌⊎◌, ◌≡◌, Bool, true, false, not, ◌&
 use Rattle.std.proofs.Common.{refl, sym, ap, ◌∙◌, subst}
 use Rattle.std.specs.declared.cmp.Ordering.{Ordering}
 use Rattle.std.specs.declared.cmp.Ordering.TheVariants.{Less, Equal, Greater}
-use Rattle.std.specs.Ordering.{ordering_reverse, is_lt, is_le, is_gt, is_eq, eq_by_cmp}
+use Rattle.std.specs.Ordering.{ordering_reverse, is_lt, is_le, is_gt, is_eq}
 use Rattle.std.specs.Cmp.{tied_itself, upto}
 use Rattle.rc_cell.specs.declared.rows.Row.{Row}
 use Rattle.rc_position.specs.declared.positions.Pos.{Pos}
@@ -15,7 +15,7 @@ use Rattle.rc_core.specs.declared.entries.Mark.{Mark}
 use Rattle.rc_core.specs.Version.{Spot, On, Behind, behind, spot_cmp, Found, found, entry_answers, seen, IsBeforeEnd, IsReachedBy, EndsWithDummy, Ascend, end_position}
 use Rattle.rc_cell.specs.declared.writes.Tomb.{Tomb}
 use Rattle.std.proofs.Common.{inl, inr}
-use Rattle.rc_core.specs.Change.{join_row_at, joined_onto, known_with, fill_row, with_row, with_mark, dummy, split, split_by, changed, change, position_of, at_entry, drop_at, lose_first_gap, lose_last_gap, without_gap, lost_mark}
+use Rattle.rc_core.specs.Change.{join_row_at, joined_onto, known_with, fill_row, dummy, split, split_by, changed, change, position_of, at_entry, drop_at, lose_first_gap, lose_last_gap, without_gap, lost_mark}
 
 -- ---- orders
 
@@ -89,10 +89,10 @@ split-seen s x [] = refl
 split-seen s x (e ∷ es) =
     elim (pos_cmp x e.position) as (λ r. pos_cmp x e.position ≡ r → seen s (split_by r x e es (split x es)) ≡ seen s (e ∷ es)) [
       | Less ↦ λ l. elim (spot_cmp s x) as (λ r. spot_cmp s x ≡ r → entry_answers r (dummy x e.gap) (seen s (e ∷ es)) ≡ seen s (e ∷ es)) [
-          | Less ↦ λ h. sym (ap (λ r. entry_answers r e (seen s es)) (spot-before s x e.position h l))
-          | Equal ↦ λ h. sym (ap (λ r. entry_answers r e (seen s es)) (spot-at s x e.position h l))
-          | Greater ↦ λ h. refl
-        ] refl
+        | Less ↦ λ h. sym (ap (λ r. entry_answers r e (seen s es)) (spot-before s x e.position h l))
+        | Equal ↦ λ h. sym (ap (λ r. entry_answers r e (seen s es)) (spot-at s x e.position h l))
+        | Greater ↦ λ h. refl
+      ] refl
       | Equal ↦ λ _. refl
       | Greater ↦ λ _. ap (entry_answers (spot_cmp s e.position) e) (split-seen s x es)
     ] refl
@@ -121,30 +121,30 @@ Met s q (e ∷ es) = MetBy (spot_cmp s e.position) s q e (Met s q es)
 met-behind : (s : Spot) (q : Pos) (es : List Entry) → spot_cmp s q ≡ Greater → Met s q es
 met-behind s q [] g = tt
 met-behind s q (e ∷ es) g = elim (spot_cmp s e.position) as (λ r. MetBy r s q e (Met s q es)) [
-    | Less ↦ λ l. let u : Less ≡ Greater = sym l ∙ g in absurd (cc)
-    | Equal ↦ tt
-    | Greater ↦ met-behind s q es g
-  ]
+  | Less ↦ λ l. let u : Less ≡ Greater = sym l ∙ g in absurd (cc)
+  | Equal ↦ tt
+  | Greater ↦ met-behind s q es g
+]
 
 met-split : (s : Spot) (x : Pos) (es : List Entry) → Met s x (split x es)
 met-split s x [] = tt
 met-split s x (e ∷ es) =
     elim (pos_cmp x e.position) as (λ r. pos_cmp x e.position ≡ r → Met s x (split_by r x e es (split x es))) [
       | Less ↦ λ l. elim (spot_cmp s x) as (λ r. spot_cmp s x ≡ r → MetBy r s x (dummy x e.gap) (Met s x (e ∷ es))) [
-          | Less ↦ λ h k. ap is_gt (tied_itself pos_cmp_total x)
-          | Equal ↦ λ h. tt
-          | Greater ↦ λ h. met-behind s x (e ∷ es) h
-        ] refl
+        | Less ↦ λ h k. ap is_gt (tied_itself pos_cmp_total x)
+        | Equal ↦ λ h. tt
+        | Greater ↦ λ h. met-behind s x (e ∷ es) h
+      ] refl
       | Equal ↦ λ l. elim (spot_cmp s e.position) as (λ r. spot_cmp s e.position ≡ r → MetBy r s x e (Met s x es)) [
-          | Less ↦ λ h k. ap is_gt (turn_to x e.position Equal l)
-          | Equal ↦ λ h. tt
-          | Greater ↦ λ h. met-behind s x es (subst (λ y. spot_cmp s y ≡ Greater) (sym (pos_cmp_same x e.position l)) h)
-        ] refl
+        | Less ↦ λ h k. ap is_gt (turn_to x e.position Equal l)
+        | Equal ↦ λ h. tt
+        | Greater ↦ λ h. met-behind s x es (subst (λ y. spot_cmp s y ≡ Greater) (sym (pos_cmp_same x e.position l)) h)
+      ] refl
       | Greater ↦ λ l. elim (spot_cmp s e.position) as (λ r. MetBy r s x e (Met s x (split x es))) [
-          | Less ↦ λ k. ap is_gt (turn_to x e.position Greater l)
-          | Equal ↦ tt
-          | Greater ↦ met-split s x es
-        ]
+        | Less ↦ λ k. ap is_gt (turn_to x e.position Greater l)
+        | Equal ↦ tt
+        | Greater ↦ met-split s x es
+      ]
     ] refl
 
 met-kept : (s : Spot) (q x : Pos) (es : List Entry) → Met s q es → Met s q (split x es)
@@ -152,16 +152,16 @@ met-kept s q x [] m = tt
 met-kept s q x (e ∷ es) m =
     elim (pos_cmp x e.position) as (λ r. pos_cmp x e.position ≡ r → Met s q (split_by r x e es (split x es))) [
       | Less ↦ λ l. elim (spot_cmp s x) as (λ r. spot_cmp s x ≡ r → MetBy r s q (dummy x e.gap) (Met s q (e ∷ es))) [
-          | Less ↦ λ h k. upto pos_cmp_total x e.position q (ap is_gt l) (subst (λ r. MetBy r s q e (Met s q es)) (spot-before s x e.position h l) m k)
-          | Equal ↦ λ h. tt
-          | Greater ↦ λ h. m
-        ] refl
+        | Less ↦ λ h k. upto pos_cmp_total x e.position q (ap is_gt l) (subst (λ r. MetBy r s q e (Met s q es)) (spot-before s x e.position h l) m k)
+        | Equal ↦ λ h. tt
+        | Greater ↦ λ h. m
+      ] refl
       | Equal ↦ λ l. m
       | Greater ↦ λ l. elim (spot_cmp s e.position) as (λ r. MetBy r s q e (Met s q es) → MetBy r s q e (Met s q (split x es))) [
-          | Less ↦ λ h. h
-          | Equal ↦ λ h. tt
-          | Greater ↦ λ h. met-kept s q x es h
-        ] m
+        | Less ↦ λ h. h
+        | Equal ↦ λ h. tt
+        | Greater ↦ λ h. met-kept s q x es h
+      ] m
     ] refl
 
 met-test : (s : Spot) (q : Pos) (e : Entry) → spot_cmp s e.position ≡ Less → (spot_cmp s q ≡ Less → is_gt (pos_cmp e.position q) ≡ false) → is_gt (pos_cmp e.position q) ≡ not (is_lt (spot_cmp s q))
@@ -174,9 +174,9 @@ met-test s q e l m =
   where
     beyond : (r : Ordering) → spot_cmp s q ≡ r → (r ≡ Less → ⊥) → is_gt (pos_cmp e.position q) ≡ true
     beyond r h off = elim (is_gt (pos_cmp e.position q)) as (λ b. is_gt (pos_cmp e.position q) ≡ b → b ≡ true) [
-        | true ↦ λ _. refl
-        | false ↦ λ g. absurd (off (sym h ∙ upto_or s e.position q (pos_cmp e.position q) refl l g))
-      ] refl
+      | true ↦ λ _. refl
+      | false ↦ λ g. absurd (off (sym h ∙ upto_or s e.position q (pos_cmp e.position q) refl l g))
+    ] refl
 
 covers-spot : (s : Spot) (from to : Pos) → covers from to (position_of s) ≡ (not (is_lt (spot_cmp s from)) && is_lt (spot_cmp s to))
 covers-spot s from to = λ i. (le_not_gt (pos_cmp from (position_of s)) ∙ ap not (turned from (position_of s) ∙ sym (spot-lt s from))) i && sym (spot-lt s to) i
@@ -200,7 +200,7 @@ changed-seen : (f : Mark → Mark) (s : Spot) (from to : Pos) (es : List Entry) 
 changed-seen f s from to [] b m n = absurd b
 changed-seen f s from to (e ∷ es) b m n =
     elim (spot_cmp s e.position) as (λ r. spot_cmp s e.position ≡ r → IsReachedBy r (IsBeforeEnd s es) → MetBy r s from e (Met s from es) → MetBy r s to e (Met s to es) →
-        entry_answers r (changed f from to e) (seen s (list_map (changed f from to) es)) ≡ cond (covers from to (position_of s)) (with_f f (entry_answers r e (seen s es))) (entry_answers r e (seen s es))) [
+    entry_answers r (changed f from to e) (seen s (list_map (changed f from to) es)) ≡ cond (covers from to (position_of s)) (with_f f (entry_answers r e (seen s es))) (entry_answers r e (seen s es))) [
       | Less ↦ λ l _ k j. choose (is_lt (pos_cmp from e.position) && is_le (pos_cmp e.position to)) (f e.gap) e.gap None ∙ ap (λ c. cond c (found (f e.gap) None) (found e.gap None)) (between s from to e l k j)
       | Equal ↦ λ l _ k j. choose (covers from to e.position) (f e.at) e.at e.row ∙ ap (λ x. cond (covers from to x) (found (f e.at) e.row) (found e.at e.row)) (sym (spot-Equal s e.position l))
       | Greater ↦ λ l h k j. changed-seen f s from to es h k j
@@ -243,10 +243,10 @@ module _ (ro : Option Row → Option Row) (ma : Mark → Mark) where
       elim (pos_cmp x e.position) as (λ r. pos_cmp x e.position ≡ r → seen s (cond (is_eq r) (put e) e ∷ at_entry x put es) ≡ seen s (e ∷ es)) [
         | Less ↦ λ _. ap (entry_answers (spot_cmp s e.position) e) (at_entry-other s x es off)
         | Equal ↦ λ h. elim (spot_cmp s e.position) as (λ r. spot_cmp s e.position ≡ r → entry_answers r (put e) (seen s (at_entry x put es)) ≡ entry_answers r e (seen s es)) [
-            | Less ↦ λ _. refl
-            | Equal ↦ λ k. absurd (off (subst (λ y. spot_cmp s y ≡ Equal) (sym (pos_cmp_same x e.position h)) k))
-            | Greater ↦ λ _. at_entry-other s x es off
-          ] refl
+          | Less ↦ λ _. refl
+          | Equal ↦ λ k. absurd (off (subst (λ y. spot_cmp s y ≡ Equal) (sym (pos_cmp_same x e.position h)) k))
+          | Greater ↦ λ _. at_entry-other s x es off
+        ] refl
         | Greater ↦ λ _. ap (entry_answers (spot_cmp s e.position) e) (at_entry-other s x es off)
       ] refl
 
@@ -275,10 +275,10 @@ nothing_left = found lost_mark None
 
 lost_first : (s : Spot) (e : Entry) (es : List Entry) → (seen s (without_gap e ∷ es) ≡ seen s (e ∷ es)) ⊎ (seen s (without_gap e ∷ es) ≡ nothing_left)
 lost_first s e es = elim (spot_cmp s e.position) as (λ r. (entry_answers r (without_gap e) (seen s es) ≡ entry_answers r e (seen s es)) ⊎ (entry_answers r (without_gap e) (seen s es) ≡ nothing_left)) [
-    | Less ↦ inr refl
-    | Equal ↦ inl refl
-    | Greater ↦ inl refl
-  ]
+  | Less ↦ inr refl
+  | Equal ↦ inl refl
+  | Greater ↦ inl refl
+]
 
 behind_the_first : (s : Spot) (e f : Entry) (es : List Entry) → spot_cmp s f.position ≡ Less → seen s (lose_first_gap (f ∷ es)) ≡ nothing_left
 behind_the_first s e f es l = ap (λ r. entry_answers r (without_gap f) (seen s es)) l
@@ -300,26 +300,26 @@ drop-seen s x (e ∷ f ∷ es) a d b =
   where
     later : (seen s (drop_at x (f ∷ es)) ≡ seen s (f ∷ es)) ⊎ (seen s (drop_at x (f ∷ es)) ≡ nothing_left) → (seen s (e ∷ drop_at x (f ∷ es)) ≡ seen s (e ∷ f ∷ es)) ⊎ (seen s (e ∷ drop_at x (f ∷ es)) ≡ nothing_left)
     later ih = elim (spot_cmp s e.position) as (λ r. (entry_answers r e (seen s (drop_at x (f ∷ es))) ≡ entry_answers r e (seen s (f ∷ es))) ⊎ (entry_answers r e (seen s (drop_at x (f ∷ es))) ≡ nothing_left)) [
-        | Less ↦ inl refl
-        | Equal ↦ inl refl
-        | Greater ↦ ih
-      ]
+      | Less ↦ inl refl
+      | Equal ↦ inl refl
+      | Greater ↦ ih
+    ]
 
     here : (seen s (without_gap f ∷ es) ≡ seen s (e ∷ f ∷ es)) ⊎ (seen s (without_gap f ∷ es) ≡ nothing_left)
     here = elim (spot_cmp s e.position) as (λ r. spot_cmp s e.position ≡ r → (seen s (without_gap f ∷ es) ≡ entry_answers r e (seen s (f ∷ es))) ⊎ (seen s (without_gap f ∷ es) ≡ nothing_left)) [
-        | Less ↦ λ h. inr (behind_the_first s e f es (spot-before s e.position f.position h a.0))
-        | Equal ↦ λ h. inr (behind_the_first s e f es (spot-at s e.position f.position h a.0))
-        | Greater ↦ λ h. lost_first s f es
-      ] refl
+      | Less ↦ λ h. inr (behind_the_first s e f es (spot-before s e.position f.position h a.0))
+      | Equal ↦ λ h. inr (behind_the_first s e f es (spot-at s e.position f.position h a.0))
+      | Greater ↦ λ h. lost_first s f es
+    ] refl
 
 pub lose_last-seen : (s : Spot) (es : List Entry) → (seen s (lose_last_gap es) ≡ seen s es) ⊎ (seen s (lose_last_gap es) ≡ nothing_left)
 lose_last-seen s [] = inl refl
 lose_last-seen s (e ∷ []) = lost_first s e []
 lose_last-seen s (e ∷ f ∷ es) = elim (spot_cmp s e.position) as (λ r. (entry_answers r e (seen s (lose_last_gap (f ∷ es))) ≡ entry_answers r e (seen s (f ∷ es))) ⊎ (entry_answers r e (seen s (lose_last_gap (f ∷ es))) ≡ nothing_left)) [
-    | Less ↦ inl refl
-    | Equal ↦ inl refl
-    | Greater ↦ lose_last-seen s (f ∷ es)
-  ]
+  | Less ↦ inl refl
+  | Equal ↦ inl refl
+  | Greater ↦ lose_last-seen s (f ∷ es)
+]
 
 -- ---- the end
 
@@ -388,18 +388,18 @@ dropped (b ∷ bs) e f es a =
 seen-front : (s : Spot) (bs xs ys : List Entry) → IsBeforeEnd s bs → seen s (bs ++ xs) ≡ seen s (bs ++ ys)
 seen-front s [] xs ys h = absurd h
 seen-front s (b ∷ bs) xs ys h = elim (spot_cmp s b.position) as (λ r. IsReachedBy r (IsBeforeEnd s bs) → entry_answers r b (seen s (bs ++ xs)) ≡ entry_answers r b (seen s (bs ++ ys))) [
-    | Less ↦ λ _. refl
-    | Equal ↦ λ _. refl
-    | Greater ↦ λ k. seen-front s bs xs ys k
-  ] h
+  | Less ↦ λ _. refl
+  | Equal ↦ λ _. refl
+  | Greater ↦ λ k. seen-front s bs xs ys k
+] h
 
 seen-back : (s : Spot) (bs xs : List Entry) → (IsBeforeEnd s bs → ⊥) → seen s (bs ++ xs) ≡ seen s xs
 seen-back s [] xs h = refl
 seen-back s (b ∷ bs) xs h = elim (spot_cmp s b.position) as (λ r. (IsReachedBy r (IsBeforeEnd s bs) → ⊥) → entry_answers r b (seen s (bs ++ xs)) ≡ seen s xs) [
-    | Less ↦ λ k. absurd (k tt)
-    | Equal ↦ λ k. absurd (k tt)
-    | Greater ↦ λ k. seen-back s bs xs k
-  ] h
+  | Less ↦ λ k. absurd (k tt)
+  | Equal ↦ λ k. absurd (k tt)
+  | Greater ↦ λ k. seen-back s bs xs k
+] h
 
 seen-same : (s : Spot) (bs xs ys : List Entry) → seen s xs ≡ seen s ys → seen s (bs ++ xs) ≡ seen s (bs ++ ys)
 seen-same s [] xs ys e = e
@@ -415,10 +415,10 @@ behind_both : (s : Spot) (e f : Entry) (es : List Entry) → pos_cmp e.position 
 behind_both s e f es a h =
     elim (spot_cmp s f.position) as (λ r. (r ≡ Less → ⊥) → entry_answers r (without_gap f) (seen s es) ≡ entry_answers r f (seen s es)) [ Less ↦ λ k. absurd (k refl) | Equal ↦ λ _. refl | Greater ↦ λ _. refl ] h
     ∙ elim (spot_cmp s e.position) as (λ r. spot_cmp s e.position ≡ r → seen s (f ∷ es) ≡ entry_answers r e (seen s (f ∷ es))) [
-        | Less ↦ λ k. absurd (h (spot-before s e.position f.position k a))
-        | Equal ↦ λ k. absurd (h (spot-at s e.position f.position k a))
-        | Greater ↦ λ _. refl
-      ] refl
+      | Less ↦ λ k. absurd (h (spot-before s e.position f.position k a))
+      | Equal ↦ λ k. absurd (h (spot-at s e.position f.position k a))
+      | Greater ↦ λ _. refl
+    ] refl
 
 pub drop-behind : (s : Spot) (bs : List Entry) (e f : Entry) (es : List Entry) → Ascend (bs ++ e ∷ f ∷ es) → (spot_cmp s f.position ≡ Less → ⊥) → seen s (drop_at e.position (bs ++ e ∷ f ∷ es)) ≡ seen s (bs ++ e ∷ f ∷ es)
 drop-behind s bs e f es a h = ap (seen s) (dropped bs e f es a) ∙ seen-same s bs (without_gap f ∷ es) (e ∷ f ∷ es) (behind_both s e f es (ascend-back bs (e ∷ f ∷ es) a).0 h)

@@ -3,7 +3,7 @@
 --     under        an older version's cell with a newer one's over it: Known and Unknown decide, Inherit joins
 --     through      the cells of versions, the oldest first, seen through one another
 --     said         what is held as one: the rows joined, and the greatest tombstone
-use Rattle.std.specs.Prelude.{◌≡◌, List, [], ◌∷◌, ◌++◌, Option}
+use Rattle.std.specs.Prelude.{List, [], ◌∷◌, ◌++◌, Option}
 use Rattle.rc_cell.specs.declared.rows.Row.{Row}
 use Rattle.rc_cell.specs.declared.writes.Tomb.{Tomb}
 use Rattle.rc_cell.specs.Orders.{tomb_cmp}

@@ -6,7 +6,7 @@
 --     IsBare           a clustered position with no row in what is seen
 --     IsKnown          flagged and, at a bare position, the open gap behind it flagged too: the gap's base is the base at the spot behind
 --     IsEvenAt         at a bare position that is known the tombstone is that of the gap behind it
-use Rattle.std.specs.Prelude.{◌≡◌, ℕ, suc, Bool, true, false, IsTrue, List, [], ◌∷◌, ◌++◌, Option, Some, None, cond, drop, take, map as list_map}
+use Rattle.std.specs.Prelude.{◌≡◌, ℕ, suc, Bool, true, false, IsTrue, List, [], ◌∷◌, Option, Some, None, cond, drop, map as list_map}
 use Rattle.std.specs.List.{flat_map}
 use Rattle.rc_cell.specs.declared.rows.Row.{Row}
 use Rattle.rc_cell.specs.declared.writes.Tomb.{Tomb}
@@ -18,7 +18,7 @@ use Rattle.rc_core.specs.declared.entries.ChainKind.{ChainKind}
 use Rattle.rc_core.specs.declared.entries.ChainKind.TheVariants.{Memtable, Cache}
 use Rattle.rc_core.specs.declared.entries.Flag.{Flag}
 use Rattle.rc_core.specs.declared.entries.Flag.TheVariants.{Known, Unknown, Inherit}
-use Rattle.rc_core.specs.Cell.{Cell, through}
+use Rattle.rc_core.specs.Cell.{Cell}
 use Rattle.rc_core.specs.Version.{Spot, On, Behind, Version, cell_at, end_position}
 
 abbrev pub decides : Flag → Bool

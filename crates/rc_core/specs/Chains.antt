@@ -5,10 +5,9 @@
 --     IsChainContinuous   of a cache chain, and `below` gives the list of mutations of each phase
 --     IsMemtableChain     of a memtable's chain: all flags are Inherit, and the tombstones at bare positions are those of the gaps behind them
 --     IsCarried           a position that is known in the version that a snapshot pins and, before the update's place, in the newest too
-use Rattle.std.specs.Prelude.{◌≡◌, ◌⊎◌, ◌<◌, ℕ, suc, Bool, true, List, [], ◌∷◌, ◌++◌, Option, Some, None, take, length, map as list_map}
+use Rattle.std.specs.Prelude.{◌≡◌, ◌⊎◌, ℕ, suc, Bool, true, List, [], ◌∷◌, Option, Some, None, take, length, map as list_map}
 use Rattle.std.proofs.Common.{get_or}
 use Rattle.std.specs.declared.cmp.Ordering.TheVariants.{Less}
-use Rattle.std.specs.List.{list_any}
 use Rattle.rc_position.specs.declared.positions.Pos.{Pos}
 use Rattle.rc_position.specs.Position.{Place, Static, Clustered, place_cmp, IsBefore}
 use Rattle.rc_mutation.specs.declared.mutations.Mutation.{Mutation}
@@ -18,7 +17,7 @@ use Rattle.rc_core.specs.declared.entries.Flag.TheVariants.{Inherit}
 use Rattle.rc_core.specs.Cell.{nothing}
 use Rattle.rc_core.specs.Version.{Spot, On, Version, cell_at, static_cell, end_position}
 use Rattle.rc_core.specs.Chain.{IsKnown, IsEvenAt}
-use Rattle.rc_core.specs.Continuity.{EachOf, HoldNoMore, IsContinuous, Reached}
+use Rattle.rc_core.specs.Continuity.{EachOf, HoldNoMore, IsContinuous}
 
 pub record Chain : Type 0 where
   pub kind : ChainKind

@@ -5,7 +5,7 @@
 --     mark_at      the flag and tombstone at a position
 --     drop_at      an entry taken out: with it goes what the gap before it and the gap before the next entry said
 --     lose_last_gap    the gap before the end dummy lost
-use Rattle.std.specs.Prelude.{◌≡◌, Bool, true, false, ◌&&◌, not, List, [], ◌∷◌, Option, Some, None, cond, map as list_map}
+use Rattle.std.specs.Prelude.{◌&&◌, List, [], ◌∷◌, Option, Some, None, cond, map as list_map}
 use Rattle.std.specs.declared.cmp.Ordering.{Ordering}
 use Rattle.std.specs.declared.cmp.Ordering.TheVariants.{Less, Equal, Greater}
 use Rattle.std.specs.Ordering.{is_lt, is_le, eq_by_cmp}
@@ -18,9 +18,9 @@ use Rattle.rc_position.specs.declared.positions.Pos.{Pos}
 use Rattle.rc_position.specs.Position.{pos_cmp, covers}
 use Rattle.rc_core.specs.declared.entries.Entry.{Entry}
 use Rattle.rc_core.specs.declared.entries.Flag.{Flag}
-use Rattle.rc_core.specs.declared.entries.Flag.TheVariants.{Known, Unknown, Inherit}
+use Rattle.rc_core.specs.declared.entries.Flag.TheVariants.{Known, Unknown}
 use Rattle.rc_core.specs.declared.entries.Mark.{Mark}
-use Rattle.rc_core.specs.Version.{Spot, On, Behind, spot_cmp}
+use Rattle.rc_core.specs.Version.{Spot, On, Behind}
 
 abbrev pub mark : Flag → Option Tomb → Mark
 mark flag tomb = record { flag = flag; tomb = tomb }

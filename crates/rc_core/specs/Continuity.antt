@@ -19,8 +19,8 @@ use Rattle.rc_mutation.specs.Source.{source_at_head, source_at_static, source_at
 use Rattle.rc_core.specs.declared.entries.Entry.{Entry}
 use Rattle.rc_core.specs.declared.entries.ChainKind.TheVariants.{Cache}
 use Rattle.rc_core.specs.declared.entries.Flag.TheVariants.{Known, Unknown}
-use Rattle.rc_core.specs.Cell.{Cell, nothing, through}
-use Rattle.rc_core.specs.Version.{Spot, On, Behind, Version, cell_at, static_cell}
+use Rattle.rc_core.specs.Cell.{Cell, through}
+use Rattle.rc_core.specs.Version.{Spot, On, Version, cell_at, static_cell}
 use Rattle.rc_core.specs.Change.{joined_onto}
 use Rattle.rc_core.specs.Chain.{flagged, content, cells, IsEvenAt}
 

@@ -9,7 +9,6 @@ use Rattle.std.specs.Option.{option_to_list}
 use Rattle.rc_cell.specs.declared.writes.Tomb.{Tomb}
 use Rattle.rc_cell.specs.Orders.{tomb_cmp}
 use Rattle.rc_cell.specs.Winner.{greatest}
-use Rattle.rc_core.specs.declared.entries.Flag.{Flag}
 use Rattle.rc_core.specs.declared.entries.Flag.TheVariants.{Inherit}
 use Rattle.rc_core.specs.Cell.{Cell, nothing, under, through, said}
 use Rattle.rc_core.specs.Version.{Spot, Version, cell_at, static_cell, end_position}

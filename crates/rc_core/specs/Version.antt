@@ -3,10 +3,9 @@
 --     seen         what entries say of a spot: the entry there, or else the gap before the first entry behind it
 --     static_cell, cell_at    what a version answers at its static row, and at a spot
 --     IsBeforeEnd  the entries reach up to the spot, as those of a version do: its last one is behind every row
-use Rattle.std.specs.Prelude.{◌≡◌, ℕ, List, [], ◌∷◌, Option, Some, None, cond}
+use Rattle.std.specs.Prelude.{◌≡◌, ℕ, List, [], ◌∷◌, Option, None}
 use Rattle.std.specs.declared.cmp.Ordering.{Ordering}
 use Rattle.std.specs.declared.cmp.Ordering.TheVariants.{Less, Equal, Greater}
-use Rattle.std.specs.Ordering.{is_lt}
 use Rattle.std.specs.Option.{option_to_list}
 use Rattle.rc_cell.specs.declared.rows.Row.{Row}
 use Rattle.rc_cell.specs.declared.writes.Tomb.{Tomb}
@@ -17,7 +16,7 @@ use Rattle.rc_core.specs.declared.entries.Entry.{Entry}
 use Rattle.rc_core.specs.declared.entries.Flag.{Flag}
 use Rattle.rc_core.specs.declared.entries.Flag.TheVariants.{Inherit}
 use Rattle.rc_core.specs.declared.entries.Mark.{Mark}
-use Rattle.rc_core.specs.Cell.{Cell, cell, nothing}
+use Rattle.rc_core.specs.Cell.{Cell, cell}
 
 -- a clustered position, or the open gap right behind it
 pub data Spot : Type 0 where

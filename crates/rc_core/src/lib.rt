@@ -7,4 +7,10 @@ pub mod laws;
 mod plain;
 
 pub use entries::{ChainKind, Entry, Flag, Mark};
-pub use plain::{drop_entry, filled_mark, flag_under, is_known_in, mark_of_lost, may_populate, put_down, raised_mark};
+pub use plain::{
+    drop_entry, filled_mark, flag_under, is_known_in, mark_of_lost, may_populate, put_down,
+    raised_mark,
+};
+
+#[cfg(test)]
+mod tests;
