@@ -5,3 +5,6 @@ pub mod RowCodec
 pub mod Sizes
 pub mod Read
 pub mod Limits
+pub mod Merging
+pub mod Heads
+pub mod Joins

@@ -166,3 +166,14 @@ row_again r rest fits =
 
 pub row_codec : Codec row_code IsCodedRow row_at
 row_codec = record { took = row_took; again = row_again }
+
+-- ---- the parts of a row's code
+
+pub marker_again : (r : Row) → IsCodedRow r → optional_at stamp_at (row_code r) ≡ Some (r.marker, optional_code tomb_code r.tomb ++ cells_code r.cells)
+marker_again r fits = (optional_codec stamp_codec).again r.marker (optional_code tomb_code r.tomb ++ cells_code r.cells) fits.marker
+
+pub row_tomb_again : (r : Row) → IsCodedRow r → optional_at tomb_at (optional_code tomb_code r.tomb ++ cells_code r.cells) ≡ Some (r.tomb, cells_code r.cells)
+row_tomb_again r fits = (optional_codec tomb_codec).again r.tomb (cells_code r.cells) fits.tomb
+
+pub first_again : (e : ℕ × Cell) (rest : List ℕ) → IsEntry e → entry_at 0 (entry_code e ++ rest) ≡ Some (e, rest)
+first_again e rest fits = entry_again 0 e rest (omega arith) fits

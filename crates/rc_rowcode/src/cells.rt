@@ -3,6 +3,7 @@
 ghost use Rattle.std.specs.Prelude.{◌≡◌, ◌≤◌, ◌<◌, ◌+◌, ◌++◌, ◌∷◌, length, IfOk};
 ghost use Rattle.std.specs.Option.{option_map, IfSome};
 ghost use Rattle.std.specs.Vec.{vec_capacity};
+ghost use Rattle.rc_cell.specs.Orders.{timestamp_of, rank_of, bytes_of, deletion_time_of, cell_cmp};
 ghost use Rattle.rc_rowcode.specs.Spelling.{tomb_code, cell_code, entry_code, CellFits};
 ghost use Rattle.rc_rowcode.specs.Reading.{tomb_at, live_at, dead_at, cell_at, entry_at};
 ghost use Rattle.rc_cell.specs.declared.writes.Cell.TheVariants.{Live, Dead};
@@ -14,6 +15,7 @@ use crate::numbers::{
 };
 use rc_cell::{Cell, Tomb, Value};
 use std::alloc::{AllocError, Global};
+use std::cmp::Ordering;
 
 /// A cell whose value lies elsewhere.
 #[derive(Clone, Copy)]
@@ -50,6 +52,71 @@ impl<'a> CellView<'a> {
     }
 }
 
+impl CellView<'_> {
+    // The write timestamp.
+    fn ts(&self) -> i64
+        ensures { result ≡ timestamp_of (seen_cell self.now) }
+    {
+        match self {
+            CellView::Live { ts, .. } => *ts,
+            CellView::Dead { ts, .. } => *ts,
+        }
+    }
+
+    // 0 of a live cell, and 1 of a dead one, which wins at equal timestamps.
+    fn rank(&self) -> u8
+        ensures { result ≡ rank_of (seen_cell self.now) }
+    {
+        match self {
+            CellView::Live { .. } => 0,
+            CellView::Dead { .. } => 1,
+        }
+    }
+
+    // The deletion time that is compared at equal timestamps, 0 of a live cell.
+    fn deletion_time(&self) -> u32
+        ensures { result ≡ deletion_time_of (seen_cell self.now) }
+    {
+        match self {
+            CellView::Live { .. } => 0,
+            CellView::Dead { dt, .. } => *dt,
+        }
+    }
+
+    // The bytes that are compared at equal timestamps, none of a dead cell.
+    fn value(&self) -> &[u8]
+        ensures { result.now ≡ bytes_of (seen_cell self.now) }
+    {
+        match self {
+            CellView::Live { value, .. } => value,
+            CellView::Dead { .. } => &[],
+        }
+    }
+
+    /// The length of its code.
+    #[tactic(auto, unfolding(crate::specs::Spelling::stamp_code, crate::specs::Spelling::time_code, crate::specs::Spelling::length_code))]
+    pub(crate) fn size(&self) -> usize
+        requires { CellFits (seen_cell self.now) }
+        ensures { result ≡ length (cell_code (seen_cell self.now)) }
+    {
+        match self {
+            CellView::Live { value, .. } => 11 + value.len(),
+            CellView::Dead { .. } => 13,
+        }
+    }
+
+    /// The order of cells, of which the greater wins.
+    pub(crate) fn order(&self, other: &CellView<'_>) -> Ordering
+        ensures { result ≡ cell_cmp (seen_cell self.now) (seen_cell other.now) }
+    {
+        self.ts()
+            .cmp(&other.ts())
+            .then(self.rank().cmp(&other.rank()))
+            .then(self.value().cmp(other.value()))
+            .then(self.deletion_time().cmp(&other.deletion_time()))
+    }
+}
+
 /// The tombstone at the front, and what follows it.
 #[tactic(auto, unfolding(crate::specs::Reading::tomb_at))]
 pub(crate) fn tomb_at(bytes: &[u8]) -> Option<(Tomb, &[u8])>
@@ -62,7 +129,8 @@ pub(crate) fn tomb_at(bytes: &[u8]) -> Option<(Tomb, &[u8])>
 
 #[tactic(auto, unfolding(crate::specs::Reading::live_at))]
 fn live_at(bytes: &[u8]) -> Option<(CellView<'_>, &[u8])>
-    ensures { option_map (λ x. (seen_cell x.0, x.1.now)) result ≡ live_at bytes.now }
+    ensures value { option_map (λ x. (seen_cell x.0, x.1.now)) result ≡ live_at bytes.now }
+    ensures fits { IfSome result (λ x. CellFits (seen_cell x.0)) }
 {
     let (ts, rest) = stamp_at(bytes)?;
     let (count, rest) = length_at(rest)?;
@@ -72,7 +140,8 @@ fn live_at(bytes: &[u8]) -> Option<(CellView<'_>, &[u8])>
 
 #[tactic(auto, unfolding(crate::specs::Reading::dead_at))]
 fn dead_at(bytes: &[u8]) -> Option<(CellView<'_>, &[u8])>
-    ensures { option_map (λ x. (seen_cell x.0, x.1.now)) result ≡ dead_at bytes.now }
+    ensures value { option_map (λ x. (seen_cell x.0, x.1.now)) result ≡ dead_at bytes.now }
+    ensures fits { IfSome result (λ x. CellFits (seen_cell x.0)) }
 {
     let (tomb, rest) = tomb_at(bytes)?;
     Some((
@@ -87,7 +156,8 @@ fn dead_at(bytes: &[u8]) -> Option<(CellView<'_>, &[u8])>
 /// The cell at the front, and what follows it.
 #[tactic(auto, unfolding(crate::specs::Reading::cell_at))]
 fn cell_at(bytes: &[u8]) -> Option<(CellView<'_>, &[u8])>
-    ensures { option_map (λ x. (seen_cell x.0, x.1.now)) result ≡ cell_at bytes.now }
+    ensures value { option_map (λ x. (seen_cell x.0, x.1.now)) result ≡ cell_at bytes.now }
+    ensures fits { IfSome result (λ x. CellFits (seen_cell x.0)) }
 {
     match bytes {
         [] => None,
@@ -102,6 +172,7 @@ fn cell_at(bytes: &[u8]) -> Option<(CellView<'_>, &[u8])>
 pub(crate) fn entry_at(least: u8, bytes: &[u8]) -> Option<(u8, CellView<'_>, &[u8])>
     ensures value { option_map (λ x. ((x.0, seen_cell x.1), x.2.now)) result ≡ entry_at least bytes.now }
     ensures low { IfSome result (λ x. x.0 < 32) }
+    ensures fits { IfSome result (λ x. CellFits (seen_cell x.1)) }
 {
     match bytes {
         [] => None,

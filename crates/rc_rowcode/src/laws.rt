@@ -1,8 +1,9 @@
 //! Laws of the codes, each the contract of a function that does nothing.
 
-ghost use Rattle.std.specs.Prelude.{◌≡◌, ◌++◌, List, ℕ};
+ghost use Rattle.std.specs.Prelude.{◌≡◌, ◌++◌, [], ◌∷◌, List, ℕ};
 ghost use Rattle.rc_cell.specs.declared.writes.Tomb.{Tomb};
 ghost use Rattle.rc_cell.specs.declared.rows.Row.{Row};
+ghost use Rattle.rc_cell.specs.Winner.{joined_row};
 ghost use Rattle.rc_position.specs.declared.comps.Comp.{Comp};
 ghost use Rattle.rc_position.specs.declared.positions.Pos.{Pos};
 ghost use Rattle.rc_rowcode.specs.Spelling.{tomb_code, key_code, pos_code, row_code, IsTomb, IsKey, IsPos, IsCodedRow};
@@ -26,4 +27,9 @@ pub fn one_code_of_a_position()
 /// The same of rows.
 pub fn one_code_of_a_row()
     ensures { (a b : Row) (x y : List ℕ) → IsCodedRow a → IsCodedRow b → row_code a ++ x ≡ row_code b ++ y → (a ≡ b) × (x ≡ y) }
+{}
+
+/// What is joined of two rows that have codes has a code, so codes that were joined can be joined again.
+pub fn joined_row_has_a_code()
+    ensures { (r q : Row) → IsCodedRow r → IsCodedRow q → IsCodedRow (joined_row (r ∷ q ∷ [])) }
 {}

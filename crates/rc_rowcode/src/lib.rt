@@ -2,12 +2,14 @@
 #![tactic(auto)]
 
 mod cells;
+mod join;
 mod keys;
 pub mod laws;
 mod numbers;
 mod rows;
 mod scratch;
 
+pub use join::{join_codes, join_size};
 pub use keys::{key_size, pos_size, read_key, read_pos, write_key, write_pos};
 pub use rows::{read_row, read_tomb, row_size, write_row, write_tomb};
 pub use scratch::Scratch;

@@ -1,7 +1,7 @@
 //! Numbers and runs of bytes, at the front of bytes and at the end of a vector.
 
 ghost use Rattle.std.specs.Prelude.{◌≡◌, ◌≤◌, ◌+◌, ◌++◌, [], ◌∷◌, length};
-ghost use Rattle.std.specs.Option.{option_map};
+ghost use Rattle.std.specs.Option.{option_map, IfSome};
 ghost use Rattle.std.specs.Vec.{vec_capacity};
 ghost use Rattle.rc_rowcode.specs.Spelling.{stamp_code, time_code, length_code};
 ghost use Rattle.rc_rowcode.specs.Reading.{stamp_at, time_at, length_at, bytes_at};
@@ -50,7 +50,8 @@ pub(crate) fn length_at(bytes: &[u8]) -> Option<(u16, &[u8])>
 /// The first `count` bytes, of which there may be at most `most`, and what follows them.
 #[tactic(auto, unfolding(crate::specs::Reading::bytes_at))]
 pub(crate) fn bytes_at(most: usize, count: usize, bytes: &[u8]) -> Option<(&[u8], &[u8])>
-    ensures { option_map (λ x. (x.0.now, x.1.now)) result ≡ bytes_at most count bytes.now }
+    ensures value { option_map (λ x. (x.0.now, x.1.now)) result ≡ bytes_at most count bytes.now }
+    ensures short { IfSome result (λ x. length x.0.now ≤ most) }
 {
     if most < count {
         return None;

@@ -3,12 +3,14 @@
 ghost use Rattle.std.specs.Prelude.{◌≡◌, ◌++◌, ◌≤◌, ◌+◌, [], length, IfOk};
 ghost use Rattle.std.specs.Vec.{vec_capacity};
 ghost use Rattle.rc_rowcode.specs.Spelling.{key_code, pos_code, row_code, KeyFits, RowFits};
+ghost use Rattle.rc_rowcode.specs.Joining.{merged, AreSorted};
 ghost use Rattle.rc_rowcode.specs.Space.{Space, HasRoom};
 
+use crate::join::{Merge, append_parts};
 use crate::keys::{append_key, append_pos};
 use crate::numbers::append;
 use crate::rows::append_row;
-use rc_cell::Row;
+use rc_cell::{Row, Tomb};
 use rc_position::{Key, Pos};
 use std::alloc::{AllocError, Global};
 use std::marker::Model;
@@ -89,5 +91,15 @@ impl Scratch {
         ensures { self.new ≡ record { bytes = self.old.bytes ++ pos_code x.now; size = self.old.size } }
     {
         append_pos(&mut self.items, x);
+    }
+
+    // Appends the code of a row of these parts, which fits.
+    pub(crate) fn put_parts(&mut self, marker: Option<i64>, tomb: Option<Tomb>, merge: Merge<'_>)
+        requires sorted { AreSorted merge }
+        requires few { length (merged merge) ≤ 32 }
+        requires room { HasRoom self.old (length (row_code (record { marker = marker; tomb = tomb; cells = merged merge }))) }
+        ensures { self.new ≡ record { bytes = self.old.bytes ++ row_code (record { marker = marker; tomb = tomb; cells = merged merge.entry }); size = self.old.size } }
+    {
+        append_parts(&mut self.items, marker, tomb, merge);
     }
 }

@@ -1,8 +1,8 @@
 //! Codes worked out by hand from the table of the formats.
 
 use crate::{
-    Scratch, key_size, laws, pos_size, read_key, read_pos, read_row, read_tomb, row_size,
-    write_key, write_pos, write_row, write_tomb,
+    Scratch, join_codes, join_size, key_size, laws, pos_size, read_key, read_pos, read_row,
+    read_tomb, row_size, write_key, write_pos, write_row, write_tomb,
 };
 use rc_position::Weight;
 use std::test::Fail;
@@ -122,10 +122,36 @@ fn scratch_space(rt: HostRuntime) -> Result<(), Fail> {
     Ok(())
 }
 
+// No marker and no tombstone, "xz" at 3 in column 0, and a dead cell (4, 5) in column 5.
+const OTHER: [u8; 32] = [
+    0, 0, 2, 0, 0, 3, 0, 0, 0, 0, 0, 0, 0, 2, 0, 120, 122, 5, 1, 4, 0, 0, 0, 0, 0, 0, 0, 5, 0, 0,
+    0, 9,
+];
+
+// At equal timestamps the larger value wins, also from the other side.
+const JOINED: [u8; 65] = [
+    1, 1, 0, 0, 0, 0, 0, 0, 0, 1, 255, 255, 255, 255, 255, 255, 255, 255, 2, 0, 0, 0, 3, 0, 0, 3,
+    0, 0, 0, 0, 0, 0, 0, 2, 0, 120, 122, 5, 1, 4, 0, 0, 0, 0, 0, 0, 0, 5, 0, 0, 0, 31, 1, 4, 0, 0,
+    0, 0, 0, 0, 0, 5, 0, 0, 0,
+];
+
+#[test]
+fn codes_join(rt: HostRuntime) -> Result<(), Fail> {
+    let (_ours, n) = read_row(rt.alloc(), &LONG)?.ok_or("a row's code")?;
+    let (_theirs, m) = read_row(rt.alloc(), &OTHER)?.ok_or("a row's code")?;
+    let (a, b) = (&LONG[..n], &OTHER[..m]);
+    let mut scratch = Scratch::new(rt.alloc(), 8599)?;
+    assert!(rt; join_size(a, b) == 65 && join_size(b, a) == 65);
+    join_codes(a, b, &mut scratch);
+    assert!(rt; scratch.bytes() == &JOINED[..]);
+    Ok(())
+}
+
 #[test]
 fn no_code_begins_another() {
     laws::one_code_of_a_tomb();
     laws::one_code_of_a_key();
     laws::one_code_of_a_position();
     laws::one_code_of_a_row();
+    laws::joined_row_has_a_code();
 }
