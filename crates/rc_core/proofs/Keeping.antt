@@ -40,7 +40,7 @@ within_alike source c d h w = (
   tombs_by_parts (option_to_list source.1) c.tombs (option_to_list source.1) d.tombs refl (ap (λ (a : Row × Option Tomb). a.1) h.1) ∙ w.1,
 )
 
-within_nothing : (rows : List Row) (t : Option Tomb) → IsWithin nothing (joined_row rows, t)
+pub within_nothing : (rows : List Row) (t : Option Tomb) → IsWithin nothing (joined_row rows, t)
 within_nothing rows t = (joined-again rows, ap (greatest tomb_cmp) (append-nil (option_to_list t)) ∙ tomb-alone t)
 
 put_down_within : (rows : List Row) (t : Option Tomb) (a b c d : Cell) → IsPutDown a b c d → IsWithin a (joined_row rows, t) → IsWithin b (joined_row rows, t) → IsWithin c (joined_row rows, t) × IsWithin d (joined_row rows, t)

@@ -5,3 +5,4 @@ pub mod Filling
 pub mod Merging
 pub mod Putting
 pub mod Keeping
+pub mod Updating

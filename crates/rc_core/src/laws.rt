@@ -5,3 +5,4 @@ pub mod filling;
 pub mod losing;
 pub mod merging;
 pub mod seeing;
+pub mod updating;
