@@ -1,5 +1,5 @@
 -- Merging and dropping keep continuity, and eviction keeps that of a whole chain.
-use Rattle.std.specs.Prelude.{◌≡◌, ◌⊎◌, ℕ, zero, suc, true, List, [], ◌∷◌, ◌++◌, Option, Some, None, take, length, map as list_map}
+use Rattle.std.specs.Prelude.{◌<◌, ◌≡◌, ◌⊎◌, ℕ, zero, suc, true, List, [], ◌∷◌, ◌++◌, Option, Some, None, take, length, map as list_map}
 use Rattle.std.proofs.Common.{append-nil, refl, sym, ap, ◌∙◌, subst, ⊎_elim, inl, inr, get_or}
 use Rattle.std.proofs.lemmas.List.{append_assoc}
 use Rattle.std.specs.Option.{option_to_list}
@@ -97,9 +97,9 @@ pub evicted-chain : (below : ℕ → List Mutation) (c : Chain) (front back : Li
     ((p : Place) → c.updating ≡ Some p → NewestIs (IsUntouchedFrom p) (front ++ w ∷ back)) →
     IsChainContinuous below c → IsChainContinuous below (with_versions (front ++ w ∷ back) c)
 evicted-chain below c front back v w vs e ph un k = record {
-  within = λ j. subst (λ n. HoldNoMore (below n) (upto (front ++ w ∷ back) j)) (same_phases front back v w ph j)
+  within = λ j lt. subst (λ n. HoldNoMore (below n) (upto (front ++ w ∷ back) j)) (same_phases front back v w ph j)
       (upto_kept (HoldNoMore (below (phase_at (front ++ v ∷ back) j))) front back v w (λ newer. evicted-within (below (phase_at (front ++ v ∷ back) j)) front newer v w e) j
-      (subst (λ us. HoldNoMore (below (phase_at us j)) (upto us j)) vs (k.within j)));
+      (subst (λ us. HoldNoMore (below (phase_at us j)) (upto us j)) vs (k.within j (subst (λ n. j < n) (sym len) lt))));
   needed = λ j reach has need. subst (λ n. IsContinuous reach (below n) (upto (front ++ w ∷ back) j)) (same_phases front back v w ph j)
       (upto_kept (IsContinuous reach (below (phase_at (front ++ v ∷ back) j))) front back v w (λ newer. evicted-continuous reach (below (phase_at (front ++ v ∷ back) j)) front newer v w e) j
       (subst (λ us. IsContinuous reach (below (phase_at us j)) (upto us j)) vs

@@ -5,7 +5,7 @@
 --     IsChainContinuous   of a cache chain, and `below` gives the list of mutations of each phase
 --     IsMemtableChain     of a memtable's chain: all flags are Inherit, and the tombstones at bare positions are those of the gaps behind them
 --     IsCarried           a position that is known in the version that a snapshot pins and, before the update's place, in the newest too
-use Rattle.std.specs.Prelude.{◌≡◌, ◌⊎◌, ℕ, suc, Bool, true, List, [], ◌∷◌, Option, Some, None, take, length, map as list_map}
+use Rattle.std.specs.Prelude.{◌<◌, ◌≡◌, ◌⊎◌, ℕ, suc, Bool, true, List, [], ◌∷◌, Option, Some, None, take, length, map as list_map}
 use Rattle.std.proofs.Common.{get_or}
 use Rattle.std.specs.declared.cmp.Ordering.TheVariants.{Less}
 use Rattle.rc_position.specs.declared.positions.Pos.{Pos}
@@ -64,7 +64,7 @@ NewestIs P (v ∷ []) = P v
 NewestIs P (v ∷ w ∷ vs) = NewestIs P (w ∷ vs)
 
 pub record IsChainContinuous (below : ℕ → List Mutation) (c : Chain) : Type 0 where
-  pub within : (j : ℕ) → HoldNoMore (below (phase_at c.versions j)) (upto c.versions j)
+  pub within : (j : ℕ) → j < length c.versions → HoldNoMore (below (phase_at c.versions j)) (upto c.versions j)
   pub needed : (j : ℕ) (reach : Option Place) → HasReach c j reach → IsNeeded c j → IsContinuous reach (below (phase_at c.versions j)) (upto c.versions j)
   pub ahead : (p : Place) → c.updating ≡ Some p → NewestIs (IsUntouchedFrom p) c.versions
 
