@@ -20,10 +20,10 @@ use Rattle.lsa_region.specs.declared.place.Place.{Place}
 use Rattle.lsa_region.specs.Layout.{rounded_size, IsLaid, IsInside, IsNumbered, segment_at, place_at, size_in, size_of}
 use Rattle.lsa_region.proofs.Sets.{set_elim, there}
 
-sized : (n : ℕ) (p : Place) → p.segment ≡ n → size_in n (Some p) ≡ p.size
+pub sized : (n : ℕ) (p : Place) → p.segment ≡ n → size_in n (Some p) ≡ p.size
 sized n p e = ap (λ b. cond b p.size 0) (eq-eqb p.segment n e)
 
-elsewhere : (n : ℕ) (p : Place) → p.segment ≢ n → size_in n (Some p) ≡ 0
+pub elsewhere : (n : ℕ) (p : Place) → p.segment ≢ n → size_in n (Some p) ≡ 0
 elsewhere n p ne = elim (eqb_tells p.segment n) [ inl w ↦ absurd (ne w.1) | inr w ↦ ap (λ b. cond b p.size 0) w.0 ]
 
 -- a segment of which something is used is in the list
@@ -47,7 +47,6 @@ module _ (size : ℕ) (us : List Usage) (segments : List (List ℕ)) (places : L
     live = laid.live;
     total = laid.total;
     is_active = laid.is_active;
-    reserve = laid.reserve;
   }
 
   -- an object takes no more than its segment has live
@@ -57,8 +56,8 @@ module _ (size : ℕ) (us : List Usage) (segments : List (List ℕ)) (places : L
 
   -- an object goes
   pub laid-remove : (r : ℕ) (p : Place) (us' : List Usage) → place_at places r ≡ Some p → us' ≡ set us p.segment (record (usage_of us p.segment) { live = (usage_of us p.segment).live - p.size })
-      → live_sum us' + p.size ≡ live_sum us → active_of us' ≡ active_of us → free_count us' ≡ free_count us → IsSound size us' → IsLaid size us' segments (set places r None) active
-  laid-remove r p us' known after sums is_active reserve sound =
+      → live_sum us' + p.size ≡ live_sum us → active_of us' ≡ active_of us → IsSound size us' → IsLaid size us' segments (set places r None) active
+  laid-remove r p us' known after sums is_active sound =
       let n = p.segment in let u = usage_of us n in let v : Usage = record u { live = u.live - p.size } in
       let here = laid.inside r p known in let lt = there places r p known in
       let within = used_within us n (omega (arith, here.used, here.some)) in
@@ -74,23 +73,22 @@ module _ (size : ℕ) (us : List Usage) (segments : List (List ℕ)) (places : L
         count = laid.count ∙ sym (length-set us n v) ∙ sym (ap length after);
         sound = sound;
         filled = λ m. laid.filled m ∙ sym (used m);
-        inside = λ q o e. let old = laid.inside q o (gone q o e).1 in record { used = omega (arith, old.used, used o.segment); start = old.start; end = old.end; some = old.some };
+        inside = λ q o e. let old = laid.inside q o (gone q o e).1 in record { used = omega (arith, old.used, used o.segment); start = old.start; end = old.end; some = old.some; exact = old.exact; limit = old.limit };
         apart = λ q k o w e d. laid.apart q k o w (gone q o e).1 (gone k w d).1;
         live = each (λ k w. sum_by (size_in k) (set places r None) ≡ w.live)
             (omega (arith, sum_by-set (size_in n) places r None None lt, laid.live n, sized n p refl, ap (size_in n) known))
             (λ m ne. omega (arith, sum_by-set (size_in m) places r None None lt, laid.live m, elsewhere m p (λ e. ne (sym e)), ap (size_in m) known));
         total = omega (arith, sum_by-set size_of places r None None lt, laid.total, sums, ap size_of known);
         is_active = is_active ∙ laid.is_active;
-        reserve = omega (arith, laid.reserve, reserve);
       }
 
   -- an object comes to the end of the active segment
   pub laid-add : (r : ℕ) (p : Place) (us' : List Usage) (tail : List ℕ) → r < length places → place_at places r ≡ None → active < length us
       → us' ≡ set us active (record (usage_of us active) { used = (usage_of us active).used + p.size; live = (usage_of us active).live + p.size })
-      → live_sum us' ≡ live_sum us + p.size → active_of us' ≡ active_of us → free_count us' ≡ free_count us → IsSound size us'
-      → p.segment ≡ active → p.offset ≡ length (segment_at segments active) → length tail ≡ p.size → p.offset ≤ p.start → p.start + p.len ≤ p.offset + p.size → 32 ≤ p.size
+      → live_sum us' ≡ live_sum us + p.size → active_of us' ≡ active_of us → IsSound size us'
+      → p.segment ≡ active → p.offset ≡ length (segment_at segments active) → length tail ≡ p.size → p.offset ≤ p.start → p.start + p.len ≤ p.offset + p.size → 32 ≤ p.size → p.size ≡ rounded_size p.kind p.len → p.size ≤ size / 8
       → IsLaid size us' (set segments active (segment_at segments active ++ tail)) (set places r (Some p)) active
-  laid-add r p us' tail lt fresh within after sums is_active reserve sound at_active at_end long start end some =
+  laid-add r p us' tail lt fresh within after sums is_active sound at_active at_end long start end some exact limit =
       let n = active in let u = usage_of us n in let v : Usage = record u { used = u.used + p.size; live = u.live + p.size } in
       let each : (P : ℕ → Usage → Type 0) → P n v → ((m : ℕ) → m ≢ n → P m (usage_of us m)) → (m : ℕ) → P m (usage_of us' m) =
       λ P at else m. subst (λ l. P m (usage_of l m)) (sym after) (set_elim nothing P us n v m within at (else m)) in
@@ -98,13 +96,15 @@ module _ (size : ℕ) (us : List Usage) (segments : List (List ℕ)) (places : L
       let inside_segments : n < length segments = omega (arith, laid.count) in
       let found : (q : ℕ) (o : Place) → place_at (set places r (Some p)) q ≡ Some o → ((q ≡ r) × (o ≡ p)) ⊎ ((q ≢ r) × (place_at places q ≡ Some o)) =
       λ q o. set_elim None (λ k w. w ≡ Some o → ((k ≡ r) × (o ≡ p)) ⊎ ((k ≢ r) × (place_at places k ≡ Some o))) places r (Some p) q lt (λ e. inl (refl, cc)) (λ ne e. inr (ne, e)) in
-      let new_inside : IsInside us' p = record {
+      let new_inside : IsInside size us' p = record {
         used = subst (λ k. p.offset + p.size ≤ (usage_of us' k).used) (sym at_active) (subst (λ l. p.offset + p.size ≤ (usage_of l n).used) (sym after) (set_elim nothing (λ k w. k ≡ n → p.offset + p.size ≤ w.used) us n v n within (λ _. omega (arith, at_end, laid.filled n)) (λ ne e. absurd (ne e)) refl));
         start = start;
         end = end;
         some = some;
+        exact = exact;
+        limit = limit;
       } in
-      let behind : (o : Place) → IsInside us o → p.segment ≡ o.segment → o.offset + o.size ≤ p.offset =
+      let behind : (o : Place) → IsInside size us o → p.segment ≡ o.segment → o.offset + o.size ≤ p.offset =
       λ o old same. omega (arith, old.used, at_end, laid.filled n, ap (λ k. (usage_of us k).used) (sym same ∙ at_active)) in
       record {
         small = laid.small;
@@ -116,8 +116,8 @@ module _ (size : ℕ) (us : List Usage) (segments : List (List ℕ)) (places : L
             (set_elim [] (λ k w. k ≡ n → length w ≡ v.used) segments n (segment_at segments n ++ tail) n inside_segments (λ _. omega (arith, length-append (segment_at segments n) tail, laid.filled n, long)) (λ ne e. absurd (ne e)) refl)
             (λ m ne. set_elim [] (λ k w. k ≢ n → length w ≡ (usage_of us k).used) segments n (segment_at segments n ++ tail) m inside_segments (λ no. absurd (no refl)) (λ _ _. laid.filled m) ne);
         inside = λ q o e. elim (found q o e) [
-          | inl w ↦ subst (IsInside us') (sym w.1) new_inside
-          | inr w ↦ let old = laid.inside q o w.1 in record { used = omega (arith, old.used, grown o.segment); start = old.start; end = old.end; some = old.some }
+          | inl w ↦ subst (IsInside size us') (sym w.1) new_inside
+          | inr w ↦ let old = laid.inside q o w.1 in record { used = omega (arith, old.used, grown o.segment); start = old.start; end = old.end; some = old.some; exact = old.exact; limit = old.limit }
         ];
         apart = λ q k o w e d differ same. elim (found q o e) [
           | inl a ↦ elim (found k w d) [
@@ -134,7 +134,6 @@ module _ (size : ℕ) (us : List Usage) (segments : List (List ℕ)) (places : L
             (λ m ne. omega (arith, sum_by-set (size_in m) places r (Some p) None lt, laid.live m, elsewhere m p (λ e. ne (sym e ∙ at_active)), ap (size_in m) fresh));
         total = omega (arith, sum_by-set size_of places r (Some p) None lt, laid.total, sums, ap size_of fresh);
         is_active = is_active ∙ laid.is_active;
-        reserve = omega (arith, laid.reserve, reserve);
       }
 
 -- ---- the numbers
@@ -172,11 +171,11 @@ held size (u ∷ us) live used empty =
     ]
 
 pub vacant-some : (size : ℕ) (us : List Usage) (segments : List (List ℕ)) (places : List (Option Place)) (active : ℕ) (vacant : List ℕ) (vacant_len : ℕ)
-    → IsLaid size us segments places active → IsNumbered size us places vacant vacant_len → 0 < size → 0 < vacant_len
-vacant-some size us segments places active vacant vacant_len laid numbered some =
+    → IsLaid size us segments places active → IsNumbered size us places vacant vacant_len → 0 < free_count us → 0 < size → 0 < vacant_len
+vacant-some size us segments places active vacant vacant_len laid numbered reserve some =
     let full = held size us laid.sound.live laid.sound.used laid.sound.empty in
     let each = many places (λ r p e. (laid.inside r p e).some) in
-    omega (arith, full, each, laid.total, numbered.enough, numbered.counted, le_times (free_count us) size laid.reserve)
+    omega (arith, full, each, laid.total, numbered.enough, numbered.counted, le_times (free_count us) size reserve)
 
 -- a turn of the active segment leaves what is spare
 pub spare-turn : (size need before after room room' : ℕ) → size % 64 ≡ 0 → before ≡ after + 1 → room' ≡ size → room < need → need ≤ size / 8

@@ -1,6 +1,10 @@
+pub mod Draining
+pub mod Exchanges
 pub mod Laid
+pub mod Moves
 pub mod Opening
 pub mod Regions
+pub mod Renaming
 pub mod Sets
 pub mod Table
 pub mod Wells

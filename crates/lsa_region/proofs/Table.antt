@@ -54,6 +54,7 @@ set-field table roots r f named inside small =
       places = λ other. elim other as (λ (o : End). HasPlaceIn table roots o → HasPlaceIn table' roots o) [ Obj s g ↦ λ h. (omega (arith, length-set table i named, h.0), h.1) | Slot root ↦ λ h. h ];
       back = λ other. elim other as (λ (o : End). HasPlaceIn table' roots o → HasPlaceIn table roots o) [ Obj s g ↦ λ h. (omega (arith, length-set table i named, h.0), h.1) | Slot root ↦ λ h. h ];
       long = length-set table i named;
+      slots = refl;
     }
 
 root_inside : (roots : List (Option (Option End))) (n : ℕ) (named : Option End) → get_or roots n None ≡ Some named → n < length roots
@@ -85,4 +86,5 @@ set-root table roots root named has =
         ]
       ];
       long = refl;
+      slots = length-set roots n (Some named);
     }

@@ -1,5 +1,6 @@
 -- Ends, and what a table of links names.
-use Rattle.std.specs.Prelude.{◌≡◌, ◌≢◌, ℕ, ◌+◌, ◌*◌, ◌<◌, List, length, slice_index_or, nat_lt, cond, Option, Some, None}
+use Rattle.std.specs.Prelude.{◌≡◌, ◌≢◌, ℕ, ◌+◌, ◌*◌, ◌<◌, Bool, false, ◌&&◌, nat_eq, List, [], ◌∷◌, length, slice_index_or, nat_lt, cond, Option, Some, None}
+use Rattle.lsa_region.specs.declared.end.Ref.{Ref}
 use Rattle.lsa_region.specs.declared.end.End.{End}
 use Rattle.lsa_region.specs.declared.end.End.TheVariants.{Obj, Slot}
 use Rattle.lsa_region.specs.declared.links.Links.{Links}
@@ -9,6 +10,7 @@ abbrev pub joined : Option (Option End) → Option End
 joined None = None
 joined (Some named) = named
 
+-- what the root slot of this number names
 abbrev pub root_of : List (Option (Option End)) → ℕ → Option End
 root_of roots n = joined (slice_index_or roots n None)
 
@@ -29,12 +31,39 @@ pub record IsSetIn (table : List (Option End)) (roots : List (Option (Option End
   pub places : (other : End) → HasPlaceIn table roots other → HasPlaceIn table' roots' other
   pub back : (other : End) → HasPlaceIn table' roots' other → HasPlaceIn table roots other
   pub long : length table' ≡ length table
+  pub slots : length roots' ≡ length roots
 
+-- what an end of the table names
 abbrev pub named_by : Links → End → Option End
 named_by l = named_in l.table.items l.roots.items
 
+-- the end has a place in this table
 abbrev pub HasPlace : Links → End → Type 0
 HasPlace l = HasPlaceIn l.table.items l.roots.items
 
+-- an end of the table names this now, and all else is as it was
 abbrev pub IsSet : Links → Links → End → Option End → Type 0
 IsSet old new = IsSetIn old.table.items old.roots.items new.table.items new.roots.items
+
+-- ---- other names
+
+-- the name of a reference in a list of old and new names: that of its first pair, its own where it has none
+abbrev pub named_as : List (Ref × Ref) → Ref → Ref
+named_as [] r = r
+named_as (pair ∷ names) r = cond (nat_eq pair.0.number r.number) pair.1 (named_as names r)
+
+-- an end, with the new name of its object
+abbrev pub end_as : List (Ref × Ref) → End → End
+end_as names (Obj r field) = Obj (named_as names r) field
+end_as names (Slot root) = Slot root
+
+-- whether two ends are the same
+abbrev pub same_end : End → End → Bool
+same_end (Obj r field) (Obj s other) = nat_eq r.number s.number && nat_eq field other
+same_end (Obj r field) (Slot root) = false
+same_end (Slot root) (Obj r field) = false
+same_end (Slot root) (Slot other) = nat_eq root.number other.number
+
+-- a where it was b, b where it was a, and else the same
+abbrev pub swapped : End → End → End → End
+swapped a b e = cond (same_end e a) b (cond (same_end e b) a e)

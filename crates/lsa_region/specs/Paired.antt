@@ -1,6 +1,8 @@
 -- Pairs of ends, over any way in which ends name ends.
 use Rattle.std.specs.Prelude.{◌≡◌, ◌≢◌, Option, Some, None}
+use Rattle.std.specs.Option.{option_map}
 use Rattle.lsa_region.specs.declared.end.End.{End}
+use Rattle.lsa_region.specs.Ends.{swapped}
 
 -- an end names another one exactly where that one names it, and none names itself
 pub record WellPaired (named : End → Option End) : Type 0 where
@@ -18,3 +20,9 @@ pub record IsParted (old new : End → Option End) (a b : End) : Type 0 where
   pub first : new a ≡ None
   pub second : new b ≡ None
   pub others : (e : End) → e ≢ a → e ≢ b → new e ≡ old e
+
+-- the two ends have changed places: each names what the other one named, and their mates name the other one; two ends that named each other still do
+pub record IsExchanged (old new : End → Option End) (a b : End) : Type 0 where
+  pub first : new a ≡ option_map (swapped a b) (old b)
+  pub second : new b ≡ option_map (swapped a b) (old a)
+  pub others : (e : End) → e ≢ a → e ≢ b → new e ≡ option_map (swapped a b) (old e)

@@ -1,5 +1,6 @@
 -- The region as its callers see it: what each object is, what each end names, and the numbers.
-use Rattle.std.specs.Prelude.{◌≡◌, ◌≢◌, ℕ, ◌+◌, ◌-◌, ◌*◌, ◌^◌, ◌<◌, min, List, slice_index_or, length, Option, Some, None, IsSomeAnd}
+use Rattle.std.specs.Prelude.{◌≡◌, ◌≢◌, ℕ, ◌+◌, ◌-◌, ◌*◌, ◌^◌, ◌<◌, ◌≤◌, ◌⊎◌, min, List, slice_index_or, length, map, count_by, Option, Some, None, is_some, IsSome, IsSomeAnd, Contains, AllPairs}
+use Rattle.std.specs.Option.{option_map}
 use Rattle.lsa_kinds.specs.declared.kind.Kind.{Kind}
 use Rattle.lsa_kinds.specs.Kinds.{links_of}
 use Rattle.lsa_pool.specs.declared.Usage.{Usage}
@@ -7,12 +8,16 @@ use Rattle.lsa_region.specs.declared.end.Ref.{Ref}
 use Rattle.lsa_region.specs.declared.end.Root.{Root}
 use Rattle.lsa_region.specs.declared.end.End.{End}
 use Rattle.lsa_region.specs.declared.end.End.TheVariants.{Obj, Slot}
-use Rattle.lsa_region.specs.Ends.{named_in}
+use Rattle.lsa_pool.specs.Room.{nothing, usage_of, free_count, live_sum}
+use Rattle.lsa_pool.specs.declared.State.TheVariants.{Free}
+use Rattle.lsa_region.specs.Ends.{named_in, named_as, end_as}
+use Rattle.lsa_region.specs.Layout.{Spot, extent, lies_in, bytes_in}
 use Rattle.lsa_region.specs.Paired.{WellPaired}
 
--- the objects by number, the links, the root slots, the segments, and the counts
+-- the objects by number and where they lie, the links, the root slots, the segments, and the counts
 pub record View : Type 0 where
   pub bodies : List (Option (Kind × List ℕ))
+  pub spots : List (Option Spot)
   pub table : List (Option End)
   pub roots : List (Option (Option End))
   pub usages : List Usage
@@ -23,6 +28,14 @@ pub record View : Type 0 where
 -- the kind of an object and the bytes that follow its links; None where there is no such object
 abbrev pub body : View → Ref → Option (Kind × List ℕ)
 body v r = slice_index_or v.bodies r.number None
+
+-- the segment and the offset at which an object lies; None where there is no such object
+abbrev pub spot_of : View → Ref → Option Spot
+spot_of v r = slice_index_or v.spots r.number None
+
+-- how many objects lie in segment n
+abbrev pub objects_in : View → ℕ → ℕ
+objects_in v n = count_by (lies_in n) v.spots
 
 -- what an end names
 abbrev pub link_of : View → End → Option End
@@ -38,6 +51,15 @@ pub record IsWell (v : View) : Type 0 where
   pub paired : WellPaired (link_of v)
   pub ends : (a b : End) → link_of v a ≡ Some b → IsEnd v b
 
+-- each object lies in the used bytes of a segment that is not free, no two overlap, what is live in a segment is what its objects take, and a segment is free
+pub record HasLayout (v : View) : Type 0 where
+  pub placed : (r : Ref) → is_some (spot_of v r) ≡ is_some (body v r)
+  pub used : (r : Ref) (s : Spot) → spot_of v r ≡ Some s → s.offset + extent (body v r) ≤ (usage_of v.usages s.segment).used
+  pub apart : (r q : Ref) (s t : Spot) → spot_of v r ≡ Some s → spot_of v q ≡ Some t → r ≢ q → s.segment ≡ t.segment → (s.offset + extent (body v r) ≤ t.offset) ⊎ (t.offset + extent (body v q) ≤ s.offset)
+  pub live : (n : ℕ) → bytes_in n v.bodies v.spots ≡ (usage_of v.usages n).live
+  pub empty : (n : ℕ) → (usage_of v.usages n).state ≡ Free → (usage_of v.usages n).used ≡ 0
+  pub reserve : 0 < free_count v.usages
+
 -- a count that has risen, or stands at its greatest value
 abbrev pub Risen : ℕ → ℕ → Type 0
 Risen old new = new ≡ min (old + 1) (2 ^ 64 - 1)
@@ -47,6 +69,8 @@ pub record SameObjects (old new : View) : Type 0 where
   pub bodies : (r : Ref) → body new r ≡ body old r
   pub ends : (e : End) → IsEnd old e → IsEnd new e
   pub gone : (e : End) → IsEnd new e → IsEnd old e
+  pub spots : new.spots ≡ old.spots
+  pub slots : length new.roots ≡ length old.roots
   pub usages : new.usages ≡ old.usages
   pub epoch : new.epoch ≡ old.epoch
   pub moved : new.moved ≡ old.moved
@@ -56,6 +80,7 @@ pub record SameObjects (old new : View) : Type 0 where
 pub record IsRegion (v : View) : Type 0 where
   pub well : IsWell v
   pub long : length v.table ≡ 8 * length v.bodies
+  pub reserve : 0 < free_count v.usages
 
 -- a new object with its kind and bytes; all else is as it was
 pub record IsAdded (old new : View) (r : Ref) (kind : Kind) (bytes : List ℕ) : Type 0 where
@@ -63,6 +88,7 @@ pub record IsAdded (old new : View) (r : Ref) (kind : Kind) (bytes : List ℕ) :
   pub here : body new r ≡ Some (kind, bytes)
   pub unset : (field : ℕ) → link_of new (Obj r field) ≡ None
   pub others : (q : Ref) → q ≢ r → body new q ≡ body old q
+  pub spots : (q : Ref) → q ≢ r → spot_of new q ≡ spot_of old q
   pub links : (e : End) → link_of new e ≡ link_of old e
   pub roots : new.roots ≡ old.roots
 
@@ -70,6 +96,7 @@ pub record IsAdded (old new : View) (r : Ref) (kind : Kind) (bytes : List ℕ) :
 pub record IsFreed (old new : View) (r : Ref) : Type 0 where
   pub here : body new r ≡ None
   pub others : (q : Ref) → q ≢ r → body new q ≡ body old q
+  pub spots : (q : Ref) → q ≢ r → spot_of new q ≡ spot_of old q
   pub links : (e : End) → link_of new e ≡ link_of old e
   pub roots : new.roots ≡ old.roots
 
@@ -78,17 +105,46 @@ pub record IsRootAdded (old new : View) (r : Root) : Type 0 where
   pub fresh : slice_index_or old.roots r.number None ≡ None
   pub here : slice_index_or new.roots r.number None ≡ Some None
   pub others : (n : ℕ) → n ≢ r.number → slice_index_or new.roots n None ≡ slice_index_or old.roots n None
+  pub slots : length new.roots ≤ length old.roots + 1
 
 -- a root slot is gone; all else is as it was
 pub record IsRootDropped (old new : View) (r : Root) : Type 0 where
   pub here : slice_index_or new.roots r.number None ≡ None
   pub others : (n : ℕ) → n ≢ r.number → slice_index_or new.roots n None ≡ slice_index_or old.roots n None
+  pub slots : length new.roots ≡ length old.roots
 
 -- the objects, the links, the segments and the counts are as they were
 pub record SameButRoots (old new : View) : Type 0 where
   pub bodies : new.bodies ≡ old.bodies
+  pub spots : new.spots ≡ old.spots
   pub table : new.table ≡ old.table
   pub usages : new.usages ≡ old.usages
   pub epoch : new.epoch ≡ old.epoch
   pub moved : new.moved ≡ old.moved
   pub compacted : new.compacted ≡ old.compacted
+
+-- the list has exactly the references of live objects, each once
+pub record AreLive (v : View) (refs : List Ref) : Type 0 where
+  pub each : (r : Ref) → IsSome (body v r) → Contains refs r
+  pub live : (r : Ref) → Contains refs r → IsSome (body v r)
+  pub once : AllPairs ◌≢◌ refs
+
+-- the objects have new names, one-to-one, and each reference in links and root slots is replaced by its new name; all else is as it was
+pub record Renamed (old new : View) (names : List (Ref × Ref)) : Type 0 where
+  pub before : AreLive old (map (λ pair. pair.0) names)
+  pub after : AreLive new (map (λ pair. pair.1) names)
+  pub bodies : (r : Ref) → IsSome (body old r) → body new (named_as names r) ≡ body old r
+  pub links : (r : Ref) (field : ℕ) → IsSome (body old r) → link_of new (Obj (named_as names r) field) ≡ option_map (end_as names) (link_of old (Obj r field))
+  pub roots : (s : Root) → link_of new (Slot s) ≡ option_map (end_as names) (link_of old (Slot s))
+  pub kept : (s : Root) → IsEnd old (Slot s) → IsEnd new (Slot s)
+  pub known : (s : Root) → IsEnd new (Slot s) → IsEnd old (Slot s)
+  pub slots : length new.roots ≡ length old.roots
+  pub budget : length new.usages ≡ length old.usages
+  pub live : live_sum new.usages ≡ live_sum old.usages
+
+-- the objects of segment n lie elsewhere, under new names, and it is free; those of other segments lie where they lay
+pub record IsEmptied (old new : View) (n : ℕ) (names : List (Ref × Ref)) : Type 0 where
+  pub renamed : Renamed old new names
+  pub stay : (r : Ref) (s : Spot) → spot_of old r ≡ Some s → s.segment ≢ n → spot_of new (named_as names r) ≡ Some s
+  pub gone : (r : Ref) (s : Spot) → spot_of new r ≡ Some s → s.segment ≢ n
+  pub free : usage_of new.usages n ≡ nothing

@@ -5,6 +5,7 @@ pub mod end;
 mod links;
 mod place;
 mod region;
+mod roster;
 mod store;
 
 pub use end::{End, Ref, Root};

@@ -1,12 +1,13 @@
 //! The region: objects whose links are halves of pairs, and root slots.
-ghost use Rattle.std.specs.Prelude.{◌≡◌, ◌≢◌, ℕ, ◌+◌, ◌-◌, ◌*◌, ◌/◌, ◌%◌, ◌^◌, ◌<◌, ◌≤◌, [], length, replicate, slice_index_or, Option, Some, None, IsSome, IsSomeAnd, IfOk, OnErr, count_by, is_some};
+ghost use Rattle.std.specs.Prelude.{◌≡◌, ◌≢◌, ℕ, ◌+◌, ◌-◌, ◌*◌, ◌/◌, ◌%◌, ◌^◌, ◌<◌, ◌≤◌, [], true, false, length, replicate, slice_index_or, Option, Some, None, IsSome, IsSomeAnd, IfOk, OnErr, List, min, count_by, is_some};
+ghost use Rattle.lsa_region.specs.declared.end.Ref.{Ref as Name};
 ghost use Rattle.lsa_pool.specs.Room.{free_count, live_sum, spare_of};
 ghost use Rattle.lsa_segment.specs.Bytes.{overwritten};
 ghost use Rattle.lsa_region.specs.Layout.{rounded_size, sparse_of};
-ghost use Rattle.lsa_region.specs.Paired.{IsTied, IsParted};
+ghost use Rattle.lsa_region.specs.Paired.{IsTied, IsParted, IsExchanged};
 
 use crate::end::{End, Ref, Root};
-use crate::links::{Links, named, part, tie};
+use crate::links::{Links, exchange, named, part, tie};
 use crate::store::Store;
 use lsa_kinds::Kind;
 use std::alloc::{AllocError, Global};
@@ -27,13 +28,13 @@ impl<const S: usize> Model for Region<S> {
 
     ghost Value = { View };
 
-    ghost view = { λ r. record { bodies = r.store.bodies; table = r.links.table.items; roots = r.links.roots.items; usages = r.store.usages; epoch = r.epoch; moved = r.moved; compacted = r.compacted } };
+    ghost view = { λ r. record { bodies = r.store.bodies; spots = r.store.spots; table = r.links.table.items; roots = r.links.roots.items; usages = r.store.usages; epoch = r.epoch; moved = r.moved; compacted = r.compacted } };
 
-    ghost invariant = { λ r. IsRegion (record { bodies = r.store.bodies; table = r.links.table.items; roots = r.links.roots.items; usages = r.store.usages; epoch = r.epoch; moved = r.moved; compacted = r.compacted }) };
+    ghost invariant = { λ r. IsRegion (record { bodies = r.store.bodies; spots = r.store.spots; table = r.links.table.items; roots = r.links.roots.items; usages = r.store.usages; epoch = r.epoch; moved = r.moved; compacted = r.compacted }) };
 }
 
 impl<const S: usize> Region<S> {
-    ghost use Rattle.lsa_region.specs.Region.{View, body, link_of, IsEnd, IsWell, SameObjects, SameButRoots, IsRootAdded, IsRootDropped, IsAdded, IsFreed, Risen};
+    ghost use Rattle.lsa_region.specs.Region.{View, body, link_of, IsEnd, IsWell, HasLayout, SameObjects, SameButRoots, IsRootAdded, IsRootDropped, IsAdded, IsFreed, IsEmptied, Risen, spot_of, objects_in};
 
     /// A region of so many segments, 4 to 4096, all of them taken now. It has no object and no root slot.
     pub fn open(alloc: Global, segments: u32) -> Result<Self, AllocError>
@@ -47,6 +48,7 @@ impl<const S: usize> Region<S> {
         ensures well { IfOk result IsWell }
         ensures spare { IfOk result (λ r. spare_of S r.usages ≡ (segments - 2) * (7 * S / 8) + (S - S / 8)) }
         ensures free { IfOk result (λ r. free_count r.usages + 1 ≡ segments) }
+        ensures budget { IfOk result (λ r. length r.usages ≡ segments) }
         ensures live { IfOk result (λ r. live_sum r.usages ≡ 0) }
         ensures counts { IfOk result (λ r. (r.epoch ≡ 0) × (r.moved ≡ 0) × (r.compacted ≡ 0)) }
     {
@@ -55,11 +57,12 @@ impl<const S: usize> Region<S> {
         Ok(over(store, table, Vec::new(alloc)))
     }
 
-    /// Shows that the ends of the region are paired, and that what is named is there. It does nothing.
+    /// Shows that the ends of the region are paired, that what is named is there, and how objects lie. It does nothing.
     pub fn known(&self)
-        ensures { IsWell self.now }
+        ensures well { IsWell self.now }
+        ensures layout { HasLayout self.now }
     {
-        let _ = &self.links;
+        self.store.known();
     }
 
     /// What an end names, if it is set.
@@ -102,6 +105,18 @@ impl<const S: usize> Region<S> {
         }
     }
 
+    /// Lets two ends, both there, that differ, change places: each names what the other one named. Two ends that name each other stay so.
+    pub fn exchange(&mut self, a: End, b: End)
+        requires first { IsEnd self.old a }
+        requires second { IsEnd self.old b }
+        requires differ { a ≢ b }
+        ensures exchanged { IsExchanged (link_of self.old) (link_of self.new) a b }
+        ensures objects { SameObjects self.old self.new }
+        ensures well { IsWell self.new }
+    {
+        exchange(&mut self.links, a, b);
+    }
+
     /// The kind of a live object.
     pub fn kind(&self, r: Ref) -> Kind
         requires { IsSome (body self.now r) }
@@ -125,6 +140,7 @@ impl<const S: usize> Region<S> {
         ensures others { (q : Ref) → q ≢ r → body self.new q ≡ body self.old q }
         ensures links { (e : End) → link_of self.new e ≡ link_of self.old e }
         ensures roots { self.new.roots ≡ self.old.roots }
+        ensures spots { self.new.spots ≡ self.old.spots }
         ensures usages { self.new.usages ≡ self.old.usages }
         ensures epoch { self.new.epoch ≡ self.old.epoch }
         ensures moved { self.new.moved ≡ self.old.moved }
@@ -143,6 +159,7 @@ impl<const S: usize> Region<S> {
         ensures well { IsWell self.new }
         ensures spare { spare_of S self.old.usages ≤ spare_of S self.new.usages + rounded_size kind (length bytes.now) }
         ensures live { live_sum self.new.usages ≡ live_sum self.old.usages + rounded_size kind (length bytes.now) }
+        ensures budget { length self.new.usages ≡ length self.old.usages }
         ensures epoch { Risen self.old.epoch self.new.epoch }
         ensures moved { self.new.moved ≡ self.old.moved }
         ensures compacted { self.new.compacted ≡ self.old.compacted }
@@ -159,6 +176,9 @@ impl<const S: usize> Region<S> {
         ensures freed { IsFreed self.old self.new r }
         ensures well { IsWell self.new }
         ensures spare { spare_of S self.new.usages ≡ spare_of S self.old.usages }
+        ensures live { IsSomeAnd (body self.old r) (λ b. live_sum self.new.usages + rounded_size b.0 (length b.1) ≡ live_sum self.old.usages) }
+        ensures free { free_count self.new.usages ≡ free_count self.old.usages }
+        ensures budget { length self.new.usages ≡ length self.old.usages }
         ensures epoch { Risen self.old.epoch self.new.epoch }
         ensures moved { self.new.moved ≡ self.old.moved }
         ensures compacted { self.new.compacted ≡ self.old.compacted }
@@ -225,6 +245,24 @@ impl<const S: usize> Region<S> {
         self.store.sparse()
     }
 
+    /// Moves the objects of segment `n`, which `sparse` answers, elsewhere, and frees it. Any reference may have a new name
+    /// afterwards. What is spare rises by an eighth of a segment at least.
+    pub fn evacuate(&mut self, n: u32)
+        requires { sparse_of S self.old.usages ≡ Some n }
+        ensures emptied { (names : List (Name × Name)) × IsEmptied self.old self.new n names }
+        ensures spare { spare_of S self.old.usages + S / 8 ≤ spare_of S self.new.usages }
+        ensures moved { self.new.moved ≡ min (self.old.moved + objects_in self.old n) (2 ^ 64 - 1) }
+        ensures compacted { Risen self.old.compacted self.new.compacted }
+        ensures epoch { Risen self.old.epoch self.new.epoch }
+        ensures well { IsWell self.new }
+    {
+        let epoch = self.epoch.saturating_add(1);
+        let moved = self.store.evacuate(n);
+        self.epoch = epoch;
+        self.moved = self.moved.saturating_add(moved as u64);
+        self.compacted = self.compacted.saturating_add(1);
+    }
+
     /// How many segments are free.
     pub fn free(&self) -> u32
         ensures { result ≡ free_count self.now.usages }
@@ -246,6 +284,13 @@ impl<const S: usize> Region<S> {
         self.epoch
     }
 
+    /// How many segments were emptied.
+    pub fn compacted(&self) -> u64
+        ensures { result ≡ self.now.compacted }
+    {
+        self.compacted
+    }
+
     /// How many objects were moved.
     pub fn moved(&self) -> u64
         ensures { result ≡ self.now.moved }
@@ -261,7 +306,7 @@ fn no_links(alloc: Global, count: usize) -> Result<Vec<Option<End>>, AllocError>
     Vec::from_elem(alloc, None, count)
 }
 
-ghost use Rattle.lsa_region.specs.Region.{link_of, IsWell};
+ghost use Rattle.lsa_region.specs.Region.{body, link_of, IsEnd, IsWell};
 
 // A region over a store without objects.
 fn over<const S: usize>(
@@ -271,7 +316,9 @@ fn over<const S: usize>(
 ) -> Region<S>
     requires table { table.items ≡ replicate (8 * length store.bodies) None }
     requires roots { roots.items ≡ [] }
+    requires reserve { 0 < free_count store.usages }
     ensures bodies { result.bodies ≡ store.entry.bodies }
+    ensures spots { result.spots ≡ store.entry.spots }
     ensures roots { result.roots ≡ [] }
     ensures unset { (e : End) → link_of result e ≡ None }
     ensures well { IsWell result }
@@ -303,22 +350,74 @@ fn vacant_root(roots: &[Option<Option<End>>]) -> usize
 #[cfg(test)]
 mod tests {
     use super::*;
+    use crate::links::same;
+    use lsa_kinds::links;
     use std::test::Fail;
 
-    // 46 dummies of 88 bytes fill a segment of 4096 bytes.
+    const DUMMY: [u8; 34] = [7; 34];
+
+    // Whether there is such an object.
+    fn is_live(region: &Region<4096>, r: Ref) -> bool
+        ensures { result ≡ is_some (body region.now r) }
+    {
+        region.store.has(r.number)
+    }
+
+    // Whether the object is there and has a link of this field number.
+    fn is_end(region: &Region<4096>, r: Ref, field: u8) -> bool
+        ensures yes { result ≡ true → IsEnd region.now (End.Obj r field) }
+        ensures no { result ≡ false → IsEnd region.now (End.Obj r field) → ⊥ }
+    {
+        if !is_live(region, r) {
+            return false;
+        }
+        (field as usize) < links(region.kind(r))
+    }
+
+    // Whether the link is not there or names nothing.
+    fn is_unset(region: &Region<4096>, r: Ref, field: u8) -> bool
+        ensures { result ≡ true → link_of region.now (End.Obj r field) ≡ None }
+    {
+        region.known();
+        if !is_end(region, r, field) {
+            return true;
+        }
+        match region.link_of(End::Obj(r, field)) {
+            Some(_) => false,
+            None => true,
+        }
+    }
+
+    // Whether the object is there and none of its links is set.
+    fn is_loose(region: &Region<4096>, r: Ref) -> bool
+        ensures live { result ≡ true → IsSome (body region.now r) }
+        ensures unset { result ≡ true → (field : ℕ) → link_of region.now (End.Obj r field) ≡ None }
+    {
+        region.known();
+        if !is_live(region, r) {
+            return false;
+        }
+        for field in 0..5 {
+            if !is_unset(region, r, field) {
+                return false;
+            }
+        }
+        true
+    }
+
+    // 46 dummies of 88 bytes fill a segment of 4096 bytes; the first 45 go, and the other one is moved.
     #[test]
     fn room_of_ninety_three_dummies(rt: HostRuntime) -> Result<(), Fail> {
         let mut region = Region::<4096>::open(rt.alloc(), 4)?;
-        let bytes = [7u8; 34];
+        let mut dummies = Vec::new(rt.alloc());
         assert_eq!(rt;
             (region.spare(), region.free(), region.epoch()),
             (10752, 3, 0)
         );
         for made in 0..93u64 {
             assert!(rt; region.spare() >= 88);
-            let dummy = region.alloc_obj(Kind::Dummy, &bytes);
-            assert_eq!(rt; region.kind(dummy), Kind::Dummy);
-            assert_eq!(rt; region.epoch(), made + 1);
+            let dummy = region.alloc_obj(Kind::Dummy, &DUMMY);
+            dummies.push(dummy)?;
             let spare = region.spare();
             match made + 1 {
                 1 => assert_eq!(rt; spare, 10664),
@@ -333,22 +432,339 @@ mod tests {
             (1, 93, 8184)
         );
         assert_eq!(rt; region.sparse(), None);
+        for dummy in dummies.iter().take(45) {
+            assert!(rt; is_loose(&region, *dummy));
+            region.free_obj(*dummy);
+        }
+        assert_eq!(rt; (region.live(), region.spare()), (4224, 3496));
+        assert_eq!(rt; empty_sparse(&mut region), Some(0));
+        assert_eq!(rt;
+            (region.moved(), region.compacted(), region.free()),
+            (1, 1, 2)
+        );
+        assert_eq!(rt;
+            (region.spare(), region.live(), region.epoch()),
+            (6992, 4224, 139)
+        );
+        assert_eq!(rt; region.sparse(), None);
         Ok(())
     }
 
-    // An object is written and read.
+    // Empties the sparse segment, if there is one, and tells which.
+    fn empty_sparse(region: &mut Region<4096>) -> Option<u32> {
+        let sparse = region.sparse();
+        if let Some(n) = sparse {
+            region.evacuate(n);
+        }
+        sparse
+    }
+
+    // Objects are written, read and linked; ends change places.
     #[test]
-    fn bytes_of_an_object(rt: HostRuntime) -> Result<(), Fail> {
+    fn links_of_three_objects(rt: HostRuntime) -> Result<(), Fail> {
         let mut region = Region::<4096>::open(rt.alloc(), 4)?;
-        assert!(rt; region.spare() >= 200);
-        let object = region.alloc_obj(Kind::Static, &[1, 2, 3]);
-        assert_eq!(rt; region.bytes(object), [1, 2, 3].as_slice());
-        assert_eq!(rt;
-            (region.objects(), region.live(), region.moved()),
-            (1, 40, 0)
-        );
         let root = region.add_root(rt.alloc())?;
-        assert_eq!(rt; root.number, 0);
+        let mut made = Vec::new(rt.alloc());
+        for bytes in [[1, 2, 3], [4, 5, 6], [7, 8, 9]] {
+            assert!(rt; region.spare() >= 200);
+            let object = region.alloc_obj(Kind::Static, &bytes);
+            assert!(rt; is_live(&region, object));
+            assert_eq!(rt; region.bytes(object), bytes.as_slice());
+            made.push(object)?;
+        }
+        assert_eq!(rt; (root.number, region.objects(), region.live()), (0, 3, 120));
+        let a = *made.get(0).ok_or(AllocError)?;
+        let b = *made.get(1).ok_or(AllocError)?;
+        let c = *made.get(2).ok_or(AllocError)?;
+        assert!(rt; tie(&mut region, (a, 0), (b, 1)));
+        assert!(rt; tie(&mut region, (b, 0), (c, 1)));
+        assert!(rt; !tie(&mut region, (c, 0), (c, 0)));
+        assert_eq!(rt; mate(&region, (b, 1)), Some(End::Obj(a, 0)));
+        assert!(rt; trade(&mut region, (a, 0), (b, 0)));
+        assert_eq!(rt; mate(&region, (a, 0)), Some(End::Obj(c, 1)));
+        assert_eq!(rt; mate(&region, (b, 1)), Some(End::Obj(b, 0)));
+        assert!(rt; trade(&mut region, (a, 0), (c, 1)));
+        assert_eq!(rt; mate(&region, (a, 0)), Some(End::Obj(c, 1)));
+        assert_eq!(rt; untie(&mut region, (c, 1)), Some(End::Obj(a, 0)));
+        assert_eq!(rt; mate(&region, (a, 0)), None);
+        assert!(rt; !is_loose(&region, b));
+        assert!(rt; is_loose(&region, c));
+        Ok(())
+    }
+
+    // What a link names.
+    fn mate(region: &Region<4096>, a: (Ref, u8)) -> Option<End> {
+        if is_end(region, a.0, a.1) {
+            region.link_of(End::Obj(a.0, a.1))
+        } else {
+            None
+        }
+    }
+
+    // Links two ends, where they can be.
+    fn tie(region: &mut Region<4096>, a: (Ref, u8), b: (Ref, u8)) -> bool {
+        if !is_end(region, a.0, a.1) || !is_end(region, b.0, b.1) {
+            return false;
+        }
+        let (first, second) = (End::Obj(a.0, a.1), End::Obj(b.0, b.1));
+        if let Some(_) = region.link_of(first) {
+            return false;
+        }
+        if let Some(_) = region.link_of(second) {
+            return false;
+        }
+        if same(first, second) {
+            return false;
+        }
+        region.link(first, second);
+        true
+    }
+
+    // Parts a link that is set, and gives its mate.
+    fn untie(region: &mut Region<4096>, a: (Ref, u8)) -> Option<End> {
+        if !is_end(region, a.0, a.1) {
+            return None;
+        }
+        match region.link_of(End::Obj(a.0, a.1)) {
+            Some(_) => Some(region.unlink(End::Obj(a.0, a.1))),
+            None => None,
+        }
+    }
+
+    // Lets two ends change places, where they can.
+    fn trade(region: &mut Region<4096>, a: (Ref, u8), b: (Ref, u8)) -> bool {
+        let (first, second) = (End::Obj(a.0, a.1), End::Obj(b.0, b.1));
+        if !is_end(region, a.0, a.1) || !is_end(region, b.0, b.1) || same(first, second) {
+            return false;
+        }
+        region.exchange(first, second);
+        true
+    }
+
+    static COUNTING: [u8; 64] = [
+        0, 1, 2, 3, 4, 5, 6, 7, 8, 9, 10, 11, 12, 13, 14, 15, 16, 17, 18, 19, 20, 21, 22, 23, 24,
+        25, 26, 27, 28, 29, 30, 31, 32, 33, 34, 35, 36, 37, 38, 39, 40, 41, 42, 43, 44, 45, 46, 47,
+        48, 49, 50, 51, 52, 53, 54, 55, 56, 57, 58, 59, 60, 61, 62, 63,
+    ];
+
+    // 8 to 47 bytes that tell the number.
+    fn sample(number: usize) -> &'static [u8] {
+        let from = number % 16;
+        &COUNTING[from..from + 8 + number % 40]
+    }
+
+    // The plain map: the object at each of 100 seats with the number of its bytes, and which link each of their 500 links names.
+    #[derive(Drop)]
+    struct Plain {
+        objects: Vec<Option<(Ref, usize)>>,
+        mates: Vec<Option<usize>>,
+    }
+
+    // A link by its number among the 500.
+    fn end_at(plain: &Plain, link: usize) -> Option<(Ref, u8)> {
+        match plain.objects.get(link / 5) {
+            Some(Some(object)) => Some((object.0, (link % 5) as u8)),
+            _ => None,
+        }
+    }
+
+    fn set_mate(plain: &mut Plain, link: usize, mate: Option<usize>) {
+        if let Some(place) = plain.mates.get_mut(link) {
+            *place = mate;
+        }
+    }
+
+    fn set_object(plain: &mut Plain, seat: usize, object: Option<(Ref, usize)>) {
+        if let Some(place) = plain.objects.get_mut(seat) {
+            *place = object;
+        }
+    }
+
+    fn object_at(plain: &Plain, seat: usize) -> Option<(Ref, usize)> {
+        match plain.objects.get(seat) {
+            Some(object) => *object,
+            None => None,
+        }
+    }
+
+    fn mate_at(plain: &Plain, link: usize) -> Option<usize> {
+        match plain.mates.get(link) {
+            Some(mate) => *mate,
+            None => None,
+        }
+    }
+
+    // Makes a row entry, where there is room.
+    fn make(region: &mut Region<4096>, bytes: &[u8]) -> Option<Ref> {
+        if bytes.len() > 64 || region.spare() < 120 {
+            return None;
+        }
+        Some(region.alloc_obj(Kind::RowEntry, bytes))
+    }
+
+    // Frees an object, where none of its links is set.
+    fn let_go(region: &mut Region<4096>, r: Ref) -> bool {
+        if !is_loose(region, r) {
+            return false;
+        }
+        region.free_obj(r);
+        true
+    }
+
+    // One call of the region, and the same of the plain map; false where their answers differ.
+    fn step(
+        region: &mut Region<4096>,
+        plain: &mut Plain,
+        what: usize,
+        first: usize,
+        second: usize,
+    ) -> bool {
+        match what {
+            0..=2 => alloc_at(region, plain, first / 5, second),
+            3 | 4 => free_at(region, plain, first / 5),
+            5 => link_at(region, plain, first, second),
+            6 => unlink_at(region, plain, first),
+            _ => {
+                empty_sparse(region);
+                true
+            }
+        }
+    }
+
+    fn alloc_at(region: &mut Region<4096>, plain: &mut Plain, seat: usize, number: usize) -> bool {
+        if let None = object_at(plain, seat) {
+            if let Some(object) = make(region, sample(number)) {
+                set_object(plain, seat, Some((object, number)));
+            }
+        }
+        true
+    }
+
+    fn free_at(region: &mut Region<4096>, plain: &mut Plain, seat: usize) -> bool {
+        let mut loose = true;
+        for field in 0..5 {
+            if let Some(_) = mate_at(plain, 5 * (seat % 100) + field) {
+                loose = false;
+            }
+        }
+        match object_at(plain, seat) {
+            Some(object) => {
+                let gone = let_go(region, object.0);
+                if gone {
+                    set_object(plain, seat, None);
+                }
+                gone == loose
+            }
+            None => loose,
+        }
+    }
+
+    fn link_at(region: &mut Region<4096>, plain: &mut Plain, first: usize, second: usize) -> bool {
+        let (Some(a), Some(b)) = (end_at(plain, first), end_at(plain, second)) else {
+            return true;
+        };
+        let unset = mate_at(plain, first) == None
+            && mate_at(plain, second) == None
+            && first != second;
+        let tied = tie(region, a, b);
+        if tied {
+            set_mate(plain, first, Some(second));
+            set_mate(plain, second, Some(first));
+        }
+        tied == unset
+    }
+
+    fn unlink_at(region: &mut Region<4096>, plain: &mut Plain, link: usize) -> bool {
+        let Some(a) = end_at(plain, link) else {
+            return true;
+        };
+        let parted = untie(region, a);
+        let mate = mate_at(plain, link);
+        if let Some(other) = mate {
+            set_mate(plain, link, None);
+            set_mate(plain, other, None);
+        }
+        names_same(plain, parted, mate)
+    }
+
+    // Whether what is named is the link with the number.
+    fn names_same(plain: &Plain, named: Option<End>, link: Option<usize>) -> bool {
+        match (named, link) {
+            (Some(end), Some(number)) => match end_at(plain, number) {
+                Some(mate) => same(end, End::Obj(mate.0, mate.1)),
+                None => false,
+            },
+            (None, None) => true,
+            _ => false,
+        }
+    }
+
+    // Whether the region has the objects and the links of the plain map, and no others.
+    fn agrees(region: &Region<4096>, plain: &Plain) -> bool {
+        let mut count: usize = 0;
+        for seat in 0..100 {
+            if let Some(object) = object_at(plain, seat) {
+                if !object_agrees(region, plain, seat, object) {
+                    return false;
+                }
+                count = count.saturating_add(1);
+            }
+        }
+        count == region.objects()
+    }
+
+    fn object_agrees(
+        region: &Region<4096>,
+        plain: &Plain,
+        seat: usize,
+        object: (Ref, usize),
+    ) -> bool {
+        if !is_live(region, object.0) || *region.bytes(object.0) != *sample(object.1) {
+            return false;
+        }
+        for field in 0..5u8 {
+            let named = mate(region, (object.0, field));
+            if !names_same(
+                plain,
+                named,
+                mate_at(plain, 5 * (seat % 100) + field as usize),
+            ) {
+                return false;
+            }
+        }
+        true
+    }
+
+    // 10,000 calls of the region and of the plain map.
+    #[test]
+    fn walk_of_ten_thousand_calls(rt: HostRuntime) -> Result<(), Fail> {
+        let mut region = Region::<4096>::open(rt.alloc(), 4)?;
+        let mut plain = Plain {
+            objects: Vec::from_elem(rt.alloc(), None, 100)?,
+            mates: Vec::from_elem(rt.alloc(), None, 500)?,
+        };
+        let mut state: u64 = 1;
+        for call in 0..10_000 {
+            state = state
+                .wrapping_mul(6_364_136_223_846_793_005)
+                .wrapping_add(1_442_695_040_888_963_407);
+            let dice = (state >> 33) as usize;
+            assert!(rt;
+                step(
+                    &mut region,
+                    &mut plain,
+                    dice % 8,
+                    dice / 8 % 500,
+                    dice / 4000 % 500
+                ),
+                "at {call}"
+            );
+            if call % 50 == 0 {
+                assert!(rt; agrees(&region, &plain), "at {call}");
+            }
+        }
+        assert!(rt; region.compacted() > 20 && region.moved() > 1000);
+        assert!(rt; region.moved() > 1000);
         Ok(())
     }
 }

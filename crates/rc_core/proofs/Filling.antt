@@ -51,7 +51,7 @@ content-known f older v k = content-through (list_map f (older ++ v ∷ [])) ∙
 
 -- ---- rows and tombstones within a source
 
-no_rows : (rows : List Row) → joined_row (empty_row ∷ rows) ≡ joined_row rows
+pub no_rows : (rows : List Row) → joined_row (empty_row ∷ rows) ≡ joined_row rows
 unfolding joined_row
 no_rows rows = refl
 
@@ -73,14 +73,14 @@ raised_is : (old tomb : Option Tomb) → greatest tomb_cmp (option_to_list tomb 
 raised_is old tomb w = sym (tomb-alone (greater tomb_cmp old tomb)) ∙ raised_within old tomb w
 
 -- rows that join to what other rows join to add nothing to it
-adds_nothing : (s : Row) (rows ys : List Row) → joined_row rows ≡ s → joined_row ys ≡ s → joined_row (s ∷ ys) ≡ s
+pub adds_nothing : (s : Row) (rows ys : List Row) → joined_row rows ≡ s → joined_row ys ≡ s → joined_row (s ∷ ys) ≡ s
 adds_nothing s rows ys e h =
     let one : joined_row (s ∷ []) ≡ s = ap (λ r. joined_row (r ∷ [])) (sym e) ∙ joined-again rows ∙ e in
     joined_row-append (s ∷ []) ys ∙ (λ j. joined_row (one j ∷ h j ∷ [])) ∙ joined_row-twice (s ∷ []) ∙ one
 
 -- ---- what is as before
 
-even-same : (before now : List Version) (x : Pos) → through (cells (On x) now) ≡ through (cells (On x) before) → through (cells (Behind x) now) ≡ through (cells (Behind x) before) → IsEvenAt Cache before x → IsEvenAt Cache now x
+pub even-same : (before now : List Version) (x : Pos) → through (cells (On x) now) ≡ through (cells (On x) before) → through (cells (Behind x) now) ≡ through (cells (Behind x) before) → IsEvenAt Cache before x → IsEvenAt Cache now x
 even-same before now x e g h = lost-even before now x (inl e) (inl g) h
 
 -- ---- a filled gap

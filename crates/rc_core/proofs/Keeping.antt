@@ -29,7 +29,7 @@ within_inherit rows t a rs ts w e f = (
   ap (greatest tomb_cmp) (sym (append_assoc (option_to_list t) a.tombs ts)) ∙ tombs_by_parts (option_to_list t ++ a.tombs) ts (option_to_list t) ts (w.1 ∙ sym (tomb-alone t)) refl ∙ f,
 )
 
-within_under_by : (f : Flag) (rows : List Row) (t : Option Tomb) (a b : Cell) → IsWithin a (joined_row rows, t) → IsWithin b (joined_row rows, t) → IsWithin (over f a b) (joined_row rows, t)
+pub within_under_by : (f : Flag) (rows : List Row) (t : Option Tomb) (a b : Cell) → IsWithin a (joined_row rows, t) → IsWithin b (joined_row rows, t) → IsWithin (over f a b) (joined_row rows, t)
 within_under_by Known rows t a b w x = x
 within_under_by Unknown rows t a b w x = x
 within_under_by Inherit rows t a b w x = within_inherit rows t a b.rows b.tombs w x.0 x.1
@@ -49,11 +49,11 @@ put_down_within rows t a b c d h w x = ⊎_elim
     (λ e. (subst (λ k. IsWithin k (joined_row rows, t)) (sym e.0) (within_nothing rows t), within_alike (joined_row rows, t) d (under a b) e.1 (within_under_by b.flag rows t a b w x)))
     h
 
-each_two : (P : Version → Type 0) (older newer : List Version) (a b c d : Version) → EachOf P (older ++ a ∷ b ∷ newer) → (P a → P b → P c × P d) → EachOf P (older ++ c ∷ d ∷ newer)
+pub each_two : (P : Version → Type 0) (older newer : List Version) (a b c d : Version) → EachOf P (older ++ a ∷ b ∷ newer) → (P a → P b → P c × P d) → EachOf P (older ++ c ∷ d ∷ newer)
 each_two P [] newer a b c d h p = let q = p h.0 h.1.0 in (q.0, (q.1, h.1.1))
 each_two P (o ∷ os) newer a b c d h p = (h.0, each_two P os newer a b c d h.1 p)
 
-each_less : (P : Version → Type 0) (older newer : List Version) (v : Version) → EachOf P (older ++ v ∷ newer) → EachOf P (older ++ newer)
+pub each_less : (P : Version → Type 0) (older newer : List Version) (v : Version) → EachOf P (older ++ v ∷ newer) → EachOf P (older ++ newer)
 each_less P [] newer v h = h.1
 each_less P (o ∷ os) newer v h = (h.0, each_less P os newer v h.1)
 
@@ -66,11 +66,14 @@ merged-within writes older newer a b c d m h = record {
 pub merged-continuous : (reach : Option Place) (writes : List Mutation) (older newer : List Version) (a b c d : Version) → IsMerged a b c d → IsContinuous reach writes (older ++ a ∷ b ∷ newer) → IsContinuous reach writes (older ++ c ∷ d ∷ newer)
 merged-continuous reach writes older newer a b c d m k = alike-continuous reach writes (older ++ a ∷ b ∷ newer) (older ++ c ∷ d ∷ newer) (merged-seen older newer a b c d m) (merged-within writes older newer a b c d m k.within) k
 
+pub dropped-within : (writes : List Mutation) (older newer : List Version) (v : Version) → HoldNoMore writes (older ++ v ∷ newer) → HoldNoMore writes (older ++ newer)
+dropped-within writes older newer v h = record { statics = each_less _ older newer v h.statics; clustered = λ x. each_less _ older newer v (h.clustered x) }
+
 pub dropped-continuous : (reach : Option Place) (writes : List Mutation) (older newer : List Version) (v w : Version) → IsSilent v → greatest tomb_cmp (option_to_list v.pt ++ option_to_list w.pt) ≡ greatest tomb_cmp (option_to_list w.pt) →
     IsContinuous reach writes (older ++ v ∷ w ∷ newer) → IsContinuous reach writes (older ++ w ∷ newer)
 dropped-continuous reach writes older newer v w s t k =
     alike-continuous reach writes (older ++ v ∷ w ∷ newer) (older ++ w ∷ newer) (dropped-seen older newer v w s t)
-    (record { statics = each_less _ older (w ∷ newer) v k.within.statics; clustered = λ x. each_less _ older (w ∷ newer) v (k.within.clustered x) }) k
+    (dropped-within writes older (w ∷ newer) v k.within) k
 
 -- ---- eviction, of a whole chain
 

@@ -132,7 +132,7 @@ joined-again rows = joined_row-one (joined_row rows) (IsRow-joined_row rows)
 pub tomb-alone : (t : Option Tomb) → greatest tomb_cmp (option_to_list t) ≡ t
 tomb-alone t = greatest-one tomb_cmp_total tomb_cmp-IsAntisymmetric t
 
-lost-within : (rows : List Row) (t : Option Tomb) → IsWithin lost (joined_row rows, t)
+pub lost-within : (rows : List Row) (t : Option Tomb) → IsWithin lost (joined_row rows, t)
 lost-within rows t = (joined-again rows, ap (greatest tomb_cmp) (append-nil (option_to_list t)) ∙ tomb-alone t)
 
 kept-within : (before now : Cell) (source : Row × Option Tomb) → IsWithin lost source → IsKeptOrLost before now → IsWithin before source → IsWithin now source

@@ -21,8 +21,8 @@ use Rattle.rc_position.specs.Position.{Place, pos_cmp, row_pos, covers}
 use Rattle.rc_ranges.specs.declared.pieces.Piece.{Piece}
 use Rattle.rc_ranges.specs.Cover.{cover, tombs_over}
 use Rattle.rc_mutation.specs.declared.mutations.Mutation.{Mutation}
-use Rattle.rc_mutation.specs.Source.{source_at, rows_in, all_rows, all_pieces}
-use Rattle.rc_mutation.specs.SourceLaws.{all_rows-append, all_pieces-append}
+use Rattle.rc_mutation.specs.Source.{source_at, source_at_static, static_rows, rows_in, all_rows, all_pieces}
+use Rattle.rc_mutation.specs.SourceLaws.{static_rows-append, all_rows-append, all_pieces-append}
 use Rattle.rc_core.specs.declared.entries.ChainKind.{ChainKind}
 use Rattle.rc_core.specs.declared.entries.ChainKind.TheVariants.{Cache}
 use Rattle.rc_core.specs.declared.entries.Flag.{Flag}
@@ -34,7 +34,7 @@ use Rattle.rc_core.specs.Chain.{flagged, content, cells, flag_over, IsBare, IsKn
 use Rattle.rc_core.specs.Continuity.{static_cells, partition_tombs, HoldNoMore, IsContinuous}
 use Rattle.rc_core.specs.Merge.{Alike, IsSeenAlike, IsPutDown, IsMerged, IsSilent, new_version}
 use Rattle.rc_core.proofs.Folding.{flagged-through, content-through, through-append, under-above, under-below, under-grouping}
-use Rattle.rc_core.proofs.Losing.{map-append}
+use Rattle.rc_core.proofs.Losing.{map-append, tomb-alone}
 
 greatest_both : (xs ys : List Tomb) → greatest tomb_cmp (xs ++ ys) ≡ greatest tomb_cmp (option_to_list (greatest tomb_cmp xs) ++ option_to_list (greatest tomb_cmp ys))
 greatest_both = greatest-append tomb_cmp_total tomb_cmp-IsAntisymmetric
@@ -54,7 +54,7 @@ alike_above_by Known c d n h = (refl, refl)
 alike_above_by Unknown c d n h = (refl, refl)
 alike_above_by Inherit c d n h = (h.0, said_parts c d n.rows n.tombs h.1)
 
-alike-above : (c d n : Cell) → Alike c d → Alike (under c n) (under d n)
+pub alike-above : (c d n : Cell) → Alike c d → Alike (under c n) (under d n)
 alike-above c d n h = alike_above_by n.flag c d n h
 
 alike_below_by : (f : Flag) (o c d : Cell) → Alike c d → Alike (over f o c) (over f o d)
@@ -91,7 +91,7 @@ merged_at f older newer a b c d h =
     (subst (λ (k : List Cell). Alike (through (list_map f older ++ f c ∷ f d ∷ list_map f newer)) (through k)) (sym (map-two f older newer a b))
     (put_down-seen (list_map f older) (list_map f newer) (f a) (f b) (f c) (f d) h))
 
-cons_is : (t : Option Tomb) (ts : List Tomb) → cons_option t ts ≡ option_to_list t ++ ts
+pub cons_is : (t : Option Tomb) (ts : List Tomb) → cons_option t ts ≡ option_to_list t ++ ts
 cons_is None ts = refl
 cons_is (Some x) ts = refl
 
@@ -100,7 +100,7 @@ pts_two older newer v w =
     filter_map-append (λ (x : Version). x.pt) older (v ∷ w ∷ newer)
     ∙ ap (λ ts. partition_tombs older ++ ts) (cons_is v.pt (cons_option w.pt (partition_tombs newer)) ∙ ap (λ ts. option_to_list v.pt ++ ts) (cons_is w.pt (partition_tombs newer)) ∙ sym (append_assoc (option_to_list v.pt) (option_to_list w.pt) (partition_tombs newer)))
 
-pts_one : (older newer : List Version) (w : Version) → partition_tombs (older ++ w ∷ newer) ≡ partition_tombs older ++ (option_to_list w.pt ++ partition_tombs newer)
+pub pts_one : (older newer : List Version) (w : Version) → partition_tombs (older ++ w ∷ newer) ≡ partition_tombs older ++ (option_to_list w.pt ++ partition_tombs newer)
 pts_one older newer w = filter_map-append (λ (x : Version). x.pt) older (w ∷ newer) ∙ ap (λ ts. partition_tombs older ++ ts) (cons_is w.pt (partition_tombs newer))
 
 around : (front back xs ys : List Tomb) → greatest tomb_cmp xs ≡ greatest tomb_cmp ys → greatest tomb_cmp (front ++ (xs ++ back)) ≡ greatest tomb_cmp (front ++ (ys ++ back))
@@ -119,7 +119,7 @@ dropped_at : (f : Version → Cell) (older newer : List Version) (v : Version) �
 dropped_at f older newer v e =
     ap through (lists.map-append f older newer) ∙ sym (silent-seen (list_map f older) (list_map f newer)) ∙ ap (λ c. through (list_map f older ++ c ∷ list_map f newer)) (sym e) ∙ sym (ap through (map-append f older v newer))
 
-equal_alike : (c d : Cell) → c ≡ d → Alike c d
+pub equal_alike : (c d : Cell) → c ≡ d → Alike c d
 equal_alike c d e = (ap (λ (k : Cell). k.flag) e, ap said e)
 
 pub dropped-seen : (older newer : List Version) (v w : Version) → IsSilent v → greatest tomb_cmp (option_to_list v.pt ++ option_to_list w.pt) ≡ greatest tomb_cmp (option_to_list w.pt) →
@@ -181,7 +181,7 @@ alike-continuous reach writes before now h within k = record {
 
 -- ---- what an update's fragments join
 
-joins_on_top : (cs : List Cell) (rs : List Row) (ts : List Tomb) → through (cs ++ cell Inherit rs ts ∷ []) ≡ cell (through cs).flag ((through cs).rows ++ rs) ((through cs).tombs ++ ts)
+pub joins_on_top : (cs : List Cell) (rs : List Row) (ts : List Tomb) → through (cs ++ cell Inherit rs ts ∷ []) ≡ cell (through cs).flag ((through cs).rows ++ rs) ((through cs).tombs ++ ts)
 joins_on_top cs rs ts = through-append cs (cell Inherit rs ts ∷ []) ∙ ap (under (through cs)) (under-above (cell Inherit rs ts))
 
 pub update-flagged : (kind : ChainKind) (cs : List Cell) (rs : List Row) (ts : List Tomb) → flagged kind (cs ++ cell Inherit rs ts ∷ []) ≡ flagged kind cs
@@ -193,6 +193,15 @@ rows_in-append x xs ys = ap (list_map (λ e. e.1)) (filter-append (λ e. eq_by_c
 over-append : (x : Pos) (xs ys : List Piece) → tombs_over (xs ++ ys) x ≡ tombs_over xs x ++ tombs_over ys x
 over-append x xs ys = ap (list_map (λ (p : Piece). p.tomb)) (filter-append (λ (p : Piece). covers p.from p.to x) xs ys) ∙ lists.map-append (λ (p : Piece). p.tomb) (filter (λ (p : Piece). covers p.from p.to x) xs) (filter (λ (p : Piece). covers p.from p.to x) ys)
 
+-- the source of writes and one more, by what each says
+pub source-more : (writes : List Mutation) (change : Mutation) (x : Pos) → source_at (writes ++ change ∷ []) x ≡
+    (joined_row (rows_in x (all_rows writes) ++ rows_in x (all_rows (change ∷ []))), greatest tomb_cmp (tombs_over (all_pieces writes) x ++ tombs_over (all_pieces (change ∷ [])) x))
+unfolding cover
+source-more writes change x = λ i. (
+  joined_row ((ap (rows_in x) (all_rows-append writes (change ∷ [])) ∙ rows_in-append x (all_rows writes) (all_rows (change ∷ []))) i),
+  greatest tomb_cmp ((ap (λ ps. tombs_over ps x) (all_pieces-append writes (change ∷ [])) ∙ over-append x (all_pieces writes) (all_pieces (change ∷ []))) i),
+)
+
 pub update-content : (writes : List Mutation) (change : Mutation) (x : Pos) (cs : List Cell) (rs : List Row) (ts : List Tomb) →
     content cs ≡ source_at writes x → (joined_row rs, greatest tomb_cmp ts) ≡ source_at (change ∷ []) x → content (cs ++ cell Inherit rs ts ∷ []) ≡ source_at (writes ++ change ∷ []) x
 unfolding cover
@@ -202,7 +211,18 @@ update-content writes change x cs rs ts e f =
       rows_by_parts (through cs).rows rs (rows_in x (all_rows writes)) (rows_in x (all_rows (change ∷ []))) (ap (λ (a : Row × Option Tomb). a.0) (sym (content-through cs) ∙ e)) (ap (λ (a : Row × Option Tomb). a.0) f) i,
       tombs_by_parts (through cs).tombs ts (tombs_over (all_pieces writes) x) (tombs_over (all_pieces (change ∷ [])) x) (ap (λ (a : Row × Option Tomb). a.1) (sym (content-through cs) ∙ e)) (ap (λ (a : Row × Option Tomb). a.1) f) i,
     ))
-    ∙ sym (λ i. (
-      joined_row ((ap (rows_in x) (all_rows-append writes (change ∷ [])) ∙ rows_in-append x (all_rows writes) (all_rows (change ∷ []))) i),
-      greatest tomb_cmp ((ap (λ ps. tombs_over ps x) (all_pieces-append writes (change ∷ [])) ∙ over-append x (all_pieces writes) (all_pieces (change ∷ []))) i),
+    ∙ sym (source-more writes change x)
+
+-- the same of static rows
+pub update-statics : (writes : List Mutation) (change : Mutation) (cs : List Cell) (rs : List Row) (ts : List Tomb) →
+    content cs ≡ (source_at_static writes, None) → ◌≡◌ {A = Row × Option Tomb} (joined_row rs, greatest tomb_cmp ts) (source_at_static (change ∷ []), None) → content (cs ++ cell Inherit rs ts ∷ []) ≡ (source_at_static (writes ++ change ∷ []), None)
+update-statics writes change cs rs ts e f =
+    content-through (cs ++ cell Inherit rs ts ∷ []) ∙ ap said (joins_on_top cs rs ts)
+    ∙ (λ i. (
+      rows_by_parts (through cs).rows rs (static_rows writes) (static_rows (change ∷ [])) (ap (λ (a : Row × Option Tomb). a.0) (sym (content-through cs) ∙ e)) (ap (λ (a : Row × Option Tomb). a.0) f) i,
+      tombs_by_parts (through cs).tombs ts [] [] (ap (λ (a : Row × Option Tomb). a.1) (sym (content-through cs) ∙ e) ∙ no_tombs) (ap (λ (a : Row × Option Tomb). a.1) f ∙ no_tombs) i,
     ))
+    ∙ (λ i. (ap joined_row (sym (static_rows-append writes (change ∷ []))) i, sym no_tombs i))
+  where
+    no_tombs : ◌≡◌ {A = Option Tomb} None (greatest tomb_cmp [])
+    no_tombs = sym (tomb-alone None)

@@ -15,7 +15,7 @@ use Rattle.rc_core.specs.declared.entries.Mark.{Mark}
 use Rattle.rc_core.specs.Version.{Spot, On, Behind, behind, spot_cmp, Found, found, entry_answers, seen, IsBeforeEnd, IsReachedBy, EndsWithDummy, Ascend, end_position}
 use Rattle.rc_cell.specs.declared.writes.Tomb.{Tomb}
 use Rattle.std.proofs.Common.{inl, inr}
-use Rattle.rc_core.specs.Change.{join_row_at, joined_onto, known_with, fill_row, dummy, split, split_by, changed, change, position_of, at_entry, drop_at, lose_first_gap, lose_last_gap, without_gap, lost_mark}
+use Rattle.rc_core.specs.Change.{join_row_at, joined_onto, known_with, fill_row, dummy, split, split_by, changed, change, position_of, at_entry, drop_at, take_out, with_gap, with_first_gap, lose_last_gap, lost_mark}
 
 -- ---- orders
 
@@ -268,54 +268,58 @@ module _ (ro : Option Row → Option Row) (ma : Mark → Mark) where
         | Greater ↦ λ h k. subst (λ r. StandsBy r (StandsAt x (at_entry x put es))) (sym h) (at_entry-stands x es k)
       ] refl st
 
--- ---- what is lost
+-- ---- what is taken out
 
-abbrev nothing_left : Found
-nothing_left = found lost_mark None
+-- what is said where an entry was taken out
+abbrev pub left : Mark → Found
+left m = found m None
 
-lost_first : (s : Spot) (e : Entry) (es : List Entry) → (seen s (without_gap e ∷ es) ≡ seen s (e ∷ es)) ⊎ (seen s (without_gap e ∷ es) ≡ nothing_left)
-lost_first s e es = elim (spot_cmp s e.position) as (λ r. (entry_answers r (without_gap e) (seen s es) ≡ entry_answers r e (seen s es)) ⊎ (entry_answers r (without_gap e) (seen s es) ≡ nothing_left)) [
+marked_first : (m : Mark) (s : Spot) (e : Entry) (es : List Entry) → (seen s (with_gap m e ∷ es) ≡ seen s (e ∷ es)) ⊎ (seen s (with_gap m e ∷ es) ≡ left m)
+marked_first m s e es = elim (spot_cmp s e.position) as (λ r. (entry_answers r (with_gap m e) (seen s es) ≡ entry_answers r e (seen s es)) ⊎ (entry_answers r (with_gap m e) (seen s es) ≡ left m)) [
   | Less ↦ inr refl
   | Equal ↦ inl refl
   | Greater ↦ inl refl
 ]
 
-behind_the_first : (s : Spot) (e f : Entry) (es : List Entry) → spot_cmp s f.position ≡ Less → seen s (lose_first_gap (f ∷ es)) ≡ nothing_left
-behind_the_first s e f es l = ap (λ r. entry_answers r (without_gap f) (seen s es)) l
+behind_the_first : (m : Mark) (s : Spot) (f : Entry) (es : List Entry) → spot_cmp s f.position ≡ Less → seen s (with_first_gap m (f ∷ es)) ≡ left m
+behind_the_first m s f es l = ap (λ r. entry_answers r (with_gap m f) (seen s es)) l
 
-pub drop-seen : (s : Spot) (x : Pos) (es : List Entry) → Ascend es → EndsWithDummy es → IsBefore x end_position → (seen s (drop_at x es) ≡ seen s es) ⊎ (seen s (drop_at x es) ≡ nothing_left)
-drop-seen s x [] a d b = inl refl
-drop-seen s x (e ∷ []) a d b =
-    elim (pos_cmp x e.position) as (λ r. pos_cmp x e.position ≡ r → (seen s (cond (is_eq r) [] (e ∷ [])) ≡ seen s (e ∷ [])) ⊎ (seen s (cond (is_eq r) [] (e ∷ [])) ≡ nothing_left)) [
+pub take_out-seen : (m : Mark) (s : Spot) (x : Pos) (es : List Entry) → Ascend es → EndsWithDummy es → IsBefore x end_position → (seen s (take_out m x es) ≡ seen s es) ⊎ (seen s (take_out m x es) ≡ left m)
+take_out-seen m s x [] a d b = inl refl
+take_out-seen m s x (e ∷ []) a d b =
+    elim (pos_cmp x e.position) as (λ r. pos_cmp x e.position ≡ r → (seen s (cond (is_eq r) [] (e ∷ [])) ≡ seen s (e ∷ [])) ⊎ (seen s (cond (is_eq r) [] (e ∷ [])) ≡ left m)) [
       | Less ↦ λ _. inl refl
       | Equal ↦ λ h. let u : Equal ≡ Less = sym h ∙ ap (pos_cmp x) d.0 ∙ b in absurd (cc)
       | Greater ↦ λ _. inl refl
     ] refl
-drop-seen s x (e ∷ f ∷ es) a d b =
-    elim (pos_cmp x e.position) as (λ r. (seen s (cond (is_eq r) (without_gap f ∷ es) (e ∷ drop_at x (f ∷ es))) ≡ seen s (e ∷ f ∷ es)) ⊎ (seen s (cond (is_eq r) (without_gap f ∷ es) (e ∷ drop_at x (f ∷ es))) ≡ nothing_left)) [
-      | Less ↦ later (drop-seen s x (f ∷ es) a.1 d b)
+take_out-seen m s x (e ∷ f ∷ es) a d b =
+    elim (pos_cmp x e.position) as (λ r. (seen s (cond (is_eq r) (with_gap m f ∷ es) (e ∷ take_out m x (f ∷ es))) ≡ seen s (e ∷ f ∷ es)) ⊎ (seen s (cond (is_eq r) (with_gap m f ∷ es) (e ∷ take_out m x (f ∷ es))) ≡ left m)) [
+      | Less ↦ later (take_out-seen m s x (f ∷ es) a.1 d b)
       | Equal ↦ here
-      | Greater ↦ later (drop-seen s x (f ∷ es) a.1 d b)
+      | Greater ↦ later (take_out-seen m s x (f ∷ es) a.1 d b)
     ]
   where
-    later : (seen s (drop_at x (f ∷ es)) ≡ seen s (f ∷ es)) ⊎ (seen s (drop_at x (f ∷ es)) ≡ nothing_left) → (seen s (e ∷ drop_at x (f ∷ es)) ≡ seen s (e ∷ f ∷ es)) ⊎ (seen s (e ∷ drop_at x (f ∷ es)) ≡ nothing_left)
-    later ih = elim (spot_cmp s e.position) as (λ r. (entry_answers r e (seen s (drop_at x (f ∷ es))) ≡ entry_answers r e (seen s (f ∷ es))) ⊎ (entry_answers r e (seen s (drop_at x (f ∷ es))) ≡ nothing_left)) [
+    later : (seen s (take_out m x (f ∷ es)) ≡ seen s (f ∷ es)) ⊎ (seen s (take_out m x (f ∷ es)) ≡ left m) → (seen s (e ∷ take_out m x (f ∷ es)) ≡ seen s (e ∷ f ∷ es)) ⊎ (seen s (e ∷ take_out m x (f ∷ es)) ≡ left m)
+    later ih = elim (spot_cmp s e.position) as (λ r. (entry_answers r e (seen s (take_out m x (f ∷ es))) ≡ entry_answers r e (seen s (f ∷ es))) ⊎ (entry_answers r e (seen s (take_out m x (f ∷ es))) ≡ left m)) [
       | Less ↦ inl refl
       | Equal ↦ inl refl
       | Greater ↦ ih
     ]
 
-    here : (seen s (without_gap f ∷ es) ≡ seen s (e ∷ f ∷ es)) ⊎ (seen s (without_gap f ∷ es) ≡ nothing_left)
-    here = elim (spot_cmp s e.position) as (λ r. spot_cmp s e.position ≡ r → (seen s (without_gap f ∷ es) ≡ entry_answers r e (seen s (f ∷ es))) ⊎ (seen s (without_gap f ∷ es) ≡ nothing_left)) [
-      | Less ↦ λ h. inr (behind_the_first s e f es (spot-before s e.position f.position h a.0))
-      | Equal ↦ λ h. inr (behind_the_first s e f es (spot-at s e.position f.position h a.0))
-      | Greater ↦ λ h. lost_first s f es
+    here : (seen s (with_gap m f ∷ es) ≡ seen s (e ∷ f ∷ es)) ⊎ (seen s (with_gap m f ∷ es) ≡ left m)
+    here = elim (spot_cmp s e.position) as (λ r. spot_cmp s e.position ≡ r → (seen s (with_gap m f ∷ es) ≡ entry_answers r e (seen s (f ∷ es))) ⊎ (seen s (with_gap m f ∷ es) ≡ left m)) [
+      | Less ↦ λ h. inr (behind_the_first m s f es (spot-before s e.position f.position h a.0))
+      | Equal ↦ λ h. inr (behind_the_first m s f es (spot-at s e.position f.position h a.0))
+      | Greater ↦ λ h. marked_first m s f es
     ] refl
 
-pub lose_last-seen : (s : Spot) (es : List Entry) → (seen s (lose_last_gap es) ≡ seen s es) ⊎ (seen s (lose_last_gap es) ≡ nothing_left)
+pub drop-seen : (s : Spot) (x : Pos) (es : List Entry) → Ascend es → EndsWithDummy es → IsBefore x end_position → (seen s (drop_at x es) ≡ seen s es) ⊎ (seen s (drop_at x es) ≡ found lost_mark None)
+drop-seen = take_out-seen lost_mark
+
+pub lose_last-seen : (s : Spot) (es : List Entry) → (seen s (lose_last_gap es) ≡ seen s es) ⊎ (seen s (lose_last_gap es) ≡ left lost_mark)
 lose_last-seen s [] = inl refl
-lose_last-seen s (e ∷ []) = lost_first s e []
-lose_last-seen s (e ∷ f ∷ es) = elim (spot_cmp s e.position) as (λ r. (entry_answers r e (seen s (lose_last_gap (f ∷ es))) ≡ entry_answers r e (seen s (f ∷ es))) ⊎ (entry_answers r e (seen s (lose_last_gap (f ∷ es))) ≡ nothing_left)) [
+lose_last-seen s (e ∷ []) = marked_first lost_mark s e []
+lose_last-seen s (e ∷ f ∷ es) = elim (spot_cmp s e.position) as (λ r. (entry_answers r e (seen s (lose_last_gap (f ∷ es))) ≡ entry_answers r e (seen s (f ∷ es))) ⊎ (entry_answers r e (seen s (lose_last_gap (f ∷ es))) ≡ left lost_mark)) [
   | Less ↦ inl refl
   | Equal ↦ inl refl
   | Greater ↦ lose_last-seen s (f ∷ es)
@@ -379,11 +383,11 @@ ascend-back : (bs : List Entry) (es : List Entry) → Ascend (bs ++ es) → Asce
 ascend-back [] es a = a
 ascend-back (b ∷ bs) es a = ascend-back bs es (ascend-tail b (bs ++ es) a)
 
-dropped : (bs : List Entry) (e f : Entry) (es : List Entry) → Ascend (bs ++ e ∷ f ∷ es) → drop_at e.position (bs ++ e ∷ f ∷ es) ≡ bs ++ without_gap f ∷ es
-dropped [] e f es a = ap (λ r. cond (is_eq r) (without_gap f ∷ es) (e ∷ drop_at e.position (f ∷ es))) (tied_itself pos_cmp_total e.position)
-dropped (b ∷ bs) e f es a =
-    ap (λ r. cond (is_eq r) (lose_first_gap (bs ++ e ∷ f ∷ es)) (b ∷ drop_at e.position (bs ++ e ∷ f ∷ es))) (turn_to b.position e.position Less (ahead b bs e (f ∷ es) a))
-    ∙ ap (λ xs. b ∷ xs) (dropped bs e f es (ascend-tail b (bs ++ e ∷ f ∷ es) a))
+pub taken_out : (m : Mark) (bs : List Entry) (e f : Entry) (es : List Entry) → Ascend (bs ++ e ∷ f ∷ es) → take_out m e.position (bs ++ e ∷ f ∷ es) ≡ bs ++ with_gap m f ∷ es
+taken_out m [] e f es a = ap (λ r. cond (is_eq r) (with_gap m f ∷ es) (e ∷ take_out m e.position (f ∷ es))) (tied_itself pos_cmp_total e.position)
+taken_out m (b ∷ bs) e f es a =
+    ap (λ r. cond (is_eq r) (with_first_gap m (bs ++ e ∷ f ∷ es)) (b ∷ take_out m e.position (bs ++ e ∷ f ∷ es))) (turn_to b.position e.position Less (ahead b bs e (f ∷ es) a))
+    ∙ ap (λ xs. b ∷ xs) (taken_out m bs e f es (ascend-tail b (bs ++ e ∷ f ∷ es) a))
 
 seen-front : (s : Spot) (bs xs ys : List Entry) → IsBeforeEnd s bs → seen s (bs ++ xs) ≡ seen s (bs ++ ys)
 seen-front s [] xs ys h = absurd h
@@ -405,24 +409,27 @@ seen-same : (s : Spot) (bs xs ys : List Entry) → seen s xs ≡ seen s ys → s
 seen-same s [] xs ys e = e
 seen-same s (b ∷ bs) xs ys e = ap (entry_answers (spot_cmp s b.position) b) (seen-same s bs xs ys e)
 
-pub drop-front : (s : Spot) (bs : List Entry) (e f : Entry) (es : List Entry) → Ascend (bs ++ e ∷ f ∷ es) → IsBeforeEnd s bs → seen s (drop_at e.position (bs ++ e ∷ f ∷ es)) ≡ seen s (bs ++ e ∷ f ∷ es)
-drop-front s bs e f es a h = ap (seen s) (dropped bs e f es a) ∙ seen-front s bs (without_gap f ∷ es) (e ∷ f ∷ es) h
+pub take_out-front : (m : Mark) (s : Spot) (bs : List Entry) (e f : Entry) (es : List Entry) → Ascend (bs ++ e ∷ f ∷ es) → IsBeforeEnd s bs → seen s (take_out m e.position (bs ++ e ∷ f ∷ es)) ≡ seen s (bs ++ e ∷ f ∷ es)
+take_out-front m s bs e f es a h = ap (seen s) (taken_out m bs e f es a) ∙ seen-front s bs (with_gap m f ∷ es) (e ∷ f ∷ es) h
 
-pub drop-between : (s : Spot) (bs : List Entry) (e f : Entry) (es : List Entry) → Ascend (bs ++ e ∷ f ∷ es) → (IsBeforeEnd s bs → ⊥) → spot_cmp s f.position ≡ Less → seen s (drop_at e.position (bs ++ e ∷ f ∷ es)) ≡ found lost_mark None
-drop-between s bs e f es a h l = ap (seen s) (dropped bs e f es a) ∙ seen-back s bs (without_gap f ∷ es) h ∙ ap (λ r. entry_answers r (without_gap f) (seen s es)) l
+pub take_out-between : (m : Mark) (s : Spot) (bs : List Entry) (e f : Entry) (es : List Entry) → Ascend (bs ++ e ∷ f ∷ es) → (IsBeforeEnd s bs → ⊥) → spot_cmp s f.position ≡ Less → seen s (take_out m e.position (bs ++ e ∷ f ∷ es)) ≡ found m None
+take_out-between m s bs e f es a h l = ap (seen s) (taken_out m bs e f es a) ∙ seen-back s bs (with_gap m f ∷ es) h ∙ ap (λ r. entry_answers r (with_gap m f) (seen s es)) l
 
-behind_both : (s : Spot) (e f : Entry) (es : List Entry) → pos_cmp e.position f.position ≡ Less → (spot_cmp s f.position ≡ Less → ⊥) → seen s (without_gap f ∷ es) ≡ seen s (e ∷ f ∷ es)
-behind_both s e f es a h =
-    elim (spot_cmp s f.position) as (λ r. (r ≡ Less → ⊥) → entry_answers r (without_gap f) (seen s es) ≡ entry_answers r f (seen s es)) [ Less ↦ λ k. absurd (k refl) | Equal ↦ λ _. refl | Greater ↦ λ _. refl ] h
+behind_both : (m : Mark) (s : Spot) (e f : Entry) (es : List Entry) → pos_cmp e.position f.position ≡ Less → (spot_cmp s f.position ≡ Less → ⊥) → seen s (with_gap m f ∷ es) ≡ seen s (e ∷ f ∷ es)
+behind_both m s e f es a h =
+    elim (spot_cmp s f.position) as (λ r. (r ≡ Less → ⊥) → entry_answers r (with_gap m f) (seen s es) ≡ entry_answers r f (seen s es)) [ Less ↦ λ k. absurd (k refl) | Equal ↦ λ _. refl | Greater ↦ λ _. refl ] h
     ∙ elim (spot_cmp s e.position) as (λ r. spot_cmp s e.position ≡ r → seen s (f ∷ es) ≡ entry_answers r e (seen s (f ∷ es))) [
       | Less ↦ λ k. absurd (h (spot-before s e.position f.position k a))
       | Equal ↦ λ k. absurd (h (spot-at s e.position f.position k a))
       | Greater ↦ λ _. refl
     ] refl
 
-pub drop-behind : (s : Spot) (bs : List Entry) (e f : Entry) (es : List Entry) → Ascend (bs ++ e ∷ f ∷ es) → (spot_cmp s f.position ≡ Less → ⊥) → seen s (drop_at e.position (bs ++ e ∷ f ∷ es)) ≡ seen s (bs ++ e ∷ f ∷ es)
-drop-behind s bs e f es a h = ap (seen s) (dropped bs e f es a) ∙ seen-same s bs (without_gap f ∷ es) (e ∷ f ∷ es) (behind_both s e f es (ascend-back bs (e ∷ f ∷ es) a).0 h)
+pub take_out-behind : (m : Mark) (s : Spot) (bs : List Entry) (e f : Entry) (es : List Entry) → Ascend (bs ++ e ∷ f ∷ es) → (spot_cmp s f.position ≡ Less → ⊥) → seen s (take_out m e.position (bs ++ e ∷ f ∷ es)) ≡ seen s (bs ++ e ∷ f ∷ es)
+take_out-behind m s bs e f es a h = ap (seen s) (taken_out m bs e f es a) ∙ seen-same s bs (with_gap m f ∷ es) (e ∷ f ∷ es) (behind_both m s e f es (ascend-back bs (e ∷ f ∷ es) a).0 h)
+
+pub join_row-other : (s : Spot) (x : Pos) (row : Row) (es : List Entry) → (spot_cmp s x ≡ Equal → ⊥) → seen s (join_row_at x row es) ≡ seen s es
+join_row-other s x row es off = at_entry-other (λ r. Some (joined_onto r row)) (λ m. m) s x (split x es) off ∙ split-seen s x es
 
 pub fill_row-other : (s : Spot) (x : Pos) (row : Row) (tomb : Option Tomb) (es : List Entry) → (spot_cmp s x ≡ Equal → ⊥) → seen s (fill_row x row tomb es) ≡ seen s es
 fill_row-other s x row tomb es off =
-    at_entry-other (λ r. r) (known_with tomb) s x (join_row_at x row es) off ∙ at_entry-other (λ r. Some (joined_onto r row)) (λ m. m) s x (split x es) off ∙ split-seen s x es
+    at_entry-other (λ r. r) (known_with tomb) s x (join_row_at x row es) off ∙ join_row-other s x row es off

@@ -11,11 +11,13 @@ use Rattle.rc_cell.specs.Winner.{greatest, joined_row}
 use Rattle.rc_core.specs.declared.entries.Flag.{Flag}
 use Rattle.rc_core.specs.declared.entries.Flag.TheVariants.{Known, Unknown, Inherit}
 
+-- what one version answers at one spot: its flag, and the rows and range tombstones that it holds there
 pub record Cell : Type 0 where
   pub flag : Flag
   pub rows : List Row
   pub tombs : List Tomb
 
+-- a cell of these
 abbrev pub cell : Flag → List Row → List Tomb → Cell
 cell flag rows tombs = record { flag = flag; rows = rows; tombs = tombs }
 
@@ -27,6 +29,7 @@ nothing = cell Inherit [] []
 abbrev pub lost : Cell
 lost = cell Unknown [] []
 
+-- an older cell with a newer one over it whose flag is this
 abbrev pub over : Flag → Cell → Cell → Cell
 over Known older newer = newer
 over Unknown older newer = newer

@@ -21,16 +21,19 @@ use Rattle.rc_core.specs.declared.entries.Flag.TheVariants.{Known, Unknown, Inhe
 use Rattle.rc_core.specs.Cell.{Cell}
 use Rattle.rc_core.specs.Version.{Spot, On, Behind, Version, cell_at, end_position}
 
+-- a flag that is not Inherit
 abbrev pub decides : Flag → Bool
 decides Known = true
 decides Unknown = true
 decides Inherit = false
 
+-- the flag Known
 abbrev pub is_known : Flag → Bool
 is_known Known = true
 is_known Unknown = false
 is_known Inherit = false
 
+-- the number of a newer cell that decides, or else 0 where the flag of this one decides
 abbrev pub newer_first : Flag → Option ℕ → Option ℕ
 newer_first flag (Some i) = Some (suc i)
 newer_first flag None = cond (decides flag) (Some 0) None
@@ -55,19 +58,24 @@ abbrev pub below_oldest : ChainKind → Bool
 below_oldest Memtable = true
 below_oldest Cache = false
 
+-- the flag of the base is Known; without a base, what stands below the oldest version is known
 abbrev pub flagged_from : ChainKind → Option ℕ → List Cell → Bool
 flagged_from kind (Some i) cells = is_known (first_flag (drop i cells))
 flagged_from kind None cells = below_oldest kind
 
+-- a place is flagged, by the cells of the versions there
 abbrev pub flagged : ChainKind → List Cell → Bool
 flagged kind cells = flagged_from kind (base cells) cells
 
+-- the rows that the versions from the base on hold there
 abbrev pub rows_from : List Cell → List Row
 rows_from cells = flat_map (λ c. c.rows) (from_number (base cells) cells)
 
+-- their range tombstones there
 abbrev pub tombs_from : List Cell → List Tomb
 tombs_from cells = flat_map (λ c. c.tombs) (from_number (base cells) cells)
 
+-- what a reader takes from a place: the rows from the base on as one, and the greatest tombstone
 abbrev pub content : List Cell → Row × Option Tomb
 content cells = (joined_row (rows_from cells), greatest tomb_cmp (tombs_from cells))
 
@@ -79,6 +87,7 @@ flag_over kind Inherit = below_oldest kind
 
 -- In what follows `versions` are those of a chain up to a pinned one, the oldest first.
 
+-- what each version answers at a spot
 abbrev pub cells : Spot → List Version → List Cell
 cells s versions = list_map (λ v. cell_at s v) versions
 

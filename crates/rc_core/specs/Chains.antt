@@ -19,6 +19,7 @@ use Rattle.rc_core.specs.Version.{Spot, On, Version, cell_at, static_cell, end_p
 use Rattle.rc_core.specs.Chain.{IsKnown, IsEvenAt}
 use Rattle.rc_core.specs.Continuity.{EachOf, HoldNoMore, IsContinuous}
 
+-- the versions of a partition over one another, the oldest first, and what is known of their use
 pub record Chain : Type 0 where
   pub kind : ChainKind
   pub versions : List Version
@@ -28,9 +29,11 @@ pub record Chain : Type 0 where
   -- the numbers of the versions that snapshots pin, counted from the oldest
   pub pins : List ℕ
 
+-- the versions up to the one of a number
 abbrev pub upto : List Version → ℕ → List Version
 upto versions j = take (suc j) versions
 
+-- the phases of versions
 abbrev pub phases : List Version → List ℕ
 phases versions = list_map (λ (v : Version). v.phase) versions
 
@@ -38,14 +41,17 @@ phases versions = list_map (λ (v : Version). v.phase) versions
 abbrev pub phase_at : List Version → ℕ → ℕ
 phase_at versions j = get_or (phases versions) j 0
 
+-- a snapshot pins the version of this number
 abbrev pub IsPinned : List ℕ → ℕ → Type 0
 IsPinned [] j = ⊥
 IsPinned (p ∷ ps) j = (j ≡ p) ⊎ IsPinned ps j
 
+-- an update stands somewhere
 abbrev pub IsUpdating : Option Place → Type 0
 IsUpdating None = ⊥
 IsUpdating (Some p) = Unit {0}
 
+-- somebody reads the version or will: it is pinned, the newest of an attached chain, or the one below the newest under update
 abbrev pub IsNeeded : Chain → ℕ → Type 0
 IsNeeded c j = IsPinned c.pins j ⊎ ((c.attached ≡ true) × (suc j ≡ length c.versions)) ⊎ (IsUpdating c.updating × (suc (suc j) ≡ length c.versions))
 
@@ -53,6 +59,7 @@ IsNeeded c j = IsPinned c.pins j ⊎ ((c.attached ≡ true) × (suc j ≡ length
 abbrev pub HasReach : Chain → ℕ → Option Place → Type 0
 HasReach c j reach = (suc j ≡ length c.versions → reach ≡ c.updating) × ((suc j ≡ length c.versions → ⊥) → reach ≡ None)
 
+-- the version says nothing from a place on
 pub record IsUntouchedFrom (p : Place) (v : Version) : Type 0 where
   pub statics : (place_cmp Static p ≡ Less → ⊥) → static_cell v ≡ nothing
   pub clustered : (x : Pos) → (place_cmp (Clustered x) p ≡ Less → ⊥) → cell_at (On x) v ≡ nothing
@@ -63,6 +70,7 @@ NewestIs P [] = Unit {0}
 NewestIs P (v ∷ []) = P v
 NewestIs P (v ∷ w ∷ vs) = NewestIs P (w ∷ vs)
 
+-- no version holds more than its source, each needed one is continuous, and the one under update is untouched ahead
 pub record IsChainContinuous (below : ℕ → List Mutation) (c : Chain) : Type 0 where
   pub within : (j : ℕ) → j < length c.versions → HoldNoMore (below (phase_at c.versions j)) (upto c.versions j)
   pub needed : (j : ℕ) (reach : Option Place) → HasReach c j reach → IsNeeded c j → IsContinuous reach (below (phase_at c.versions j)) (upto c.versions j)
@@ -73,6 +81,7 @@ pub record AllInherit (v : Version) : Type 0 where
   pub statics : (static_cell v).flag ≡ Inherit
   pub clustered : (s : Spot) → (cell_at s v).flag ≡ Inherit
 
+-- all flags are Inherit, and tombstones are even at each version that is pinned or the newest of an attached chain
 pub record IsMemtableChain (c : Chain) : Type 0 where
   pub flags : EachOf AllInherit c.versions
   pub even : (j : ℕ) → IsPinned c.pins j ⊎ ((c.attached ≡ true) × (suc j ≡ length c.versions)) → (x : Pos) → IsEvenAt Memtable (upto c.versions j) x

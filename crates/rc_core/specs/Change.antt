@@ -22,19 +22,23 @@ use Rattle.rc_core.specs.declared.entries.Flag.TheVariants.{Known, Unknown}
 use Rattle.rc_core.specs.declared.entries.Mark.{Mark}
 use Rattle.rc_core.specs.Version.{Spot, On, Behind}
 
+-- a mark of these
 abbrev pub mark : Flag → Option Tomb → Mark
 mark flag tomb = record { flag = flag; tomb = tomb }
 
+-- an entry without a row, with one mark at it and over the gap before it
 abbrev pub dummy : Pos → Mark → Entry
 dummy x m = record { position = x; row = None; at = m; gap = m }
 
 -- ---- split
 
+-- by where a position stands against the first entry: a dummy before it, nothing to do, or further on
 abbrev pub split_by : Ordering → Pos → Entry → List Entry → List Entry → List Entry
 split_by Less x e es rest = dummy x e.gap ∷ e ∷ es
 split_by Equal x e es rest = e ∷ es
 split_by Greater x e es rest = e ∷ rest
 
+-- a dummy at a position, where no entry stands there, with what the gap there says
 abbrev pub split : Pos → List Entry → List Entry
 split x [] = []
 split x (e ∷ es) = split_by (pos_cmp x e.position) x e es (split x es)
@@ -56,6 +60,7 @@ changed f from to e = record {
   gap = cond (is_lt (pos_cmp from e.position) && is_le (pos_cmp e.position to)) (f e.gap) e.gap;
 }
 
+-- a function on the mark of each spot from one position on and before another
 abbrev pub change : (Mark → Mark) → Pos → Pos → List Entry → List Entry
 change f from to es = list_map (changed f from to) (split to (split from es))
 
@@ -73,13 +78,16 @@ fill_gap from to tomb es = change (λ m. mark Known tomb) from to es
 
 -- ---- one position
 
+-- a row joined to the one that is there, if there is one
 abbrev pub joined_onto : Option Row → Row → Row
 joined_onto None row = row
 joined_onto (Some old) row = joined_row (old ∷ row ∷ [])
 
+-- the entry with a row joined
 abbrev pub with_row : Row → Entry → Entry
 with_row row e = record { position = e.position; row = Some (joined_onto e.row row); at = e.at; gap = e.gap }
 
+-- the entry with a function on the mark at its position
 abbrev pub with_mark : (Mark → Mark) → Entry → Entry
 with_mark f e = record { position = e.position; row = e.row; at = f e.at; gap = e.gap }
 
@@ -95,25 +103,43 @@ join_row_at x row es = at_entry x (with_row row) (split x es)
 abbrev pub known_with : Option Tomb → Mark → Mark
 known_with tomb m = mark Known (greater tomb_cmp m.tomb tomb)
 
+-- a row filled at its position
 abbrev pub fill_row : Pos → Row → Option Tomb → List Entry → List Entry
 fill_row x row tomb es = at_entry x (with_mark (known_with tomb)) (join_row_at x row es)
 
+-- ---- what is taken out
+
+-- the entry with another mark on the gap before it
+abbrev pub with_gap : Mark → Entry → Entry
+with_gap m e = record { position = e.position; row = e.row; at = e.at; gap = m }
+
+-- entries, with another mark on the gap before the first one
+abbrev pub with_first_gap : Mark → List Entry → List Entry
+with_first_gap m [] = []
+with_first_gap m (e ∷ es) = with_gap m e ∷ es
+
+-- the entry at a position taken out: the gap before the next one has this mark then
+abbrev pub take_out : Mark → Pos → List Entry → List Entry
+take_out m x [] = []
+take_out m x (e ∷ es) = cond (eq_by_cmp pos_cmp x e.position) (with_first_gap m es) (e ∷ take_out m x es)
+
 -- ---- what is lost
 
+-- Unknown, and without a tombstone
 abbrev pub lost_mark : Mark
 lost_mark = mark Unknown None
 
+-- the gap before an entry lost
 abbrev pub without_gap : Entry → Entry
-without_gap e = record { position = e.position; row = e.row; at = e.at; gap = lost_mark }
+without_gap = with_gap lost_mark
 
+-- the gap before the first entry lost
 abbrev pub lose_first_gap : List Entry → List Entry
-lose_first_gap [] = []
-lose_first_gap (e ∷ es) = without_gap e ∷ es
+lose_first_gap = with_first_gap lost_mark
 
 -- the entry at a position taken out, as eviction does: the gap before the next one is Unknown then, and without a tombstone
 abbrev pub drop_at : Pos → List Entry → List Entry
-drop_at x [] = []
-drop_at x (e ∷ es) = cond (eq_by_cmp pos_cmp x e.position) (lose_first_gap es) (e ∷ drop_at x es)
+drop_at = take_out lost_mark
 
 -- the end dummy evicted: it stays, and the gap before it is lost
 abbrev pub lose_last_gap : List Entry → List Entry

@@ -28,6 +28,7 @@ use Rattle.rc_core.specs.Chain.{flagged, content, cells, IsEvenAt}
 abbrev pub IsWithin : Cell → Row × Option Tomb → Type 0
 IsWithin c source = (joined_row (source.0 ∷ c.rows) ≡ source.0) × (greatest tomb_cmp (option_to_list source.1 ++ c.tombs) ≡ source.1)
 
+-- what each version answers at its static row
 abbrev pub static_cells : List Version → List Cell
 static_cells versions = list_map static_cell versions
 
@@ -72,6 +73,7 @@ pub record IsSameOrLost (before now : List Version) : Type 0 where
 abbrev pub IsKeptOrLost : Cell → Cell → Type 0
 IsKeptOrLost before now = (now ≡ before) ⊎ (now ≡ record { flag = Unknown; rows = []; tombs = [] })
 
+-- a version that lost one object: each place is as before or lost, and the partition tombstone stays
 pub record IsEvicted (before now : Version) : Type 0 where
   pub statics : IsKeptOrLost (static_cell before) (static_cell now)
   pub clustered : (s : Spot) → IsKeptOrLost (cell_at s before) (cell_at s now)
@@ -88,6 +90,7 @@ abbrev pub joined_options : Option Row → Option Row → Option Row
 joined_options old None = old
 joined_options old (Some row) = Some (joined_onto old row)
 
+-- the version with its static row filled
 abbrev pub fill_statics : Option Row → Version → Version
 fill_statics row v = record { pt = v.pt; statics = joined_options v.statics row; static_flag = Known; entries = v.entries; phase = v.phase }
 

@@ -6,3 +6,8 @@ pub mod Continuity
 pub mod Merge
 pub mod Plain
 pub mod Chains
+pub mod Steps
+pub mod Unit
+pub mod Free
+pub mod Parts
+pub mod Slow

@@ -23,6 +23,7 @@ pub data Spot : Type 0 where
   On : Pos → Spot
   Behind : Pos → Spot
 
+-- where the gap right behind a position stands, by where the position does
 abbrev pub behind : Ordering → Ordering
 behind Less = Less
 behind Equal = Greater
@@ -38,6 +39,7 @@ pub record Found : Type 0 where
   pub mark : Mark
   pub row : Option Row
 
+-- a mark and a row that were found
 abbrev pub found : Mark → Option Row → Found
 found mark row = record { mark = mark; row = row }
 
@@ -52,6 +54,7 @@ abbrev pub seen : Spot → List Entry → Found
 seen s [] = found (record { flag = Inherit; tomb = None }) None
 seen s (e ∷ es) = entry_answers (spot_cmp s e.position) e (seen s es)
 
+-- what was found, as a cell
 abbrev pub cell_of : Found → Cell
 cell_of f = cell f.mark.flag (option_to_list f.row) (option_to_list f.mark.tomb)
 
@@ -59,6 +62,7 @@ cell_of f = cell f.mark.flag (option_to_list f.row) (option_to_list f.mark.tomb)
 abbrev pub end_position : Pos
 end_position = record { prefix = []; weight = After }
 
+-- a spot that stands before an entry or at it is reached; else the rest decides
 abbrev pub IsReachedBy : Ordering → Type 0 → Type 0
 IsReachedBy Less rest = Unit {0}
 IsReachedBy Equal rest = Unit {0}
@@ -89,6 +93,7 @@ pub record Version : Type 0 where
   pub entries : List Entry
   pub phase : ℕ
 
+-- entries ascend, and the last one is the end dummy
 pub record IsVersion (v : Version) : Type 0 where
   pub ascend : Ascend v.entries
   pub ends : EndsWithDummy v.entries
@@ -97,5 +102,6 @@ pub record IsVersion (v : Version) : Type 0 where
 abbrev pub static_cell : Version → Cell
 static_cell v = cell v.static_flag (option_to_list v.statics) []
 
+-- what a version answers at a spot
 abbrev pub cell_at : Spot → Version → Cell
 cell_at s v = cell_of (seen s v.entries)

@@ -4,12 +4,19 @@
 
 mod entries;
 pub mod laws;
+mod parts;
 mod plain;
+mod slow;
 
 pub use entries::{ChainKind, Entry, Flag, Mark};
+pub use parts::Part;
 pub use plain::{
-    drop_entry, filled_mark, flag_under, is_known_in, mark_of_lost, may_populate, put_down,
-    raised_mark,
+    drop_entry, filled_mark, flag_under, is_known_in, join_updated_row, mark_of_lost, may_populate,
+    merge_end, merge_head, put_down, raised_mark,
+};
+pub use slow::{
+    PlainVersion, Seen, Side, base_at, first_part, head_of, is_flagged_at, is_known_at, seen_at,
+    statics_at,
 };
 
 #[cfg(test)]

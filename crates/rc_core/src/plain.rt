@@ -1,16 +1,24 @@
 //! The choices that the crates above make at one place, as plain functions: which flag decides, what a fill, a joined range and an
 //! eviction leave, and where a cell of an older version goes.
 
-ghost use Rattle.std.specs.Prelude.{◌≡◌, ◌+◌, ◌<◌, ◌++◌, length, take, drop, [], IsTrue, ◌↔◌, false, Option};
+ghost use Rattle.std.specs.Prelude.{◌≡◌, ◌+◌, ◌<◌, ◌++◌, length, take, drop, [], HoldsAt, IsTrue, OnErr, OnOk, ◌↔◌, None, Option};
+ghost use Rattle.rc_cell.specs.Greatest.{greater};
+ghost use Rattle.rc_cell.specs.Orders.{tomb_cmp};
+ghost use Rattle.rc_core.specs.Slow.{plain};
 ghost use Rattle.rc_core.specs.Cell.{cell, under};
 ghost use Rattle.rc_core.specs.Chain.{flag_over};
-ghost use Rattle.rc_core.specs.Change.{known_with, lose_first_gap, lost_mark, mark, raised};
+ghost use Rattle.rc_core.specs.Change.{drop_at, known_with, lose_first_gap, lost_mark, mark, raised, with_mark, with_row};
 ghost use Rattle.rc_core.specs.Merge.{Alike};
 ghost use Rattle.rc_core.specs.Plain.{mark_cell};
+ghost use Rattle.rc_core.specs.Chains.{Chain, IsUpdating};
+ghost use Rattle.rc_core.specs.Steps.{MayPopulate};
+ghost use Rattle.rc_core.specs.Version.{Ascend, static_cell};
 
 use crate::entries::{ChainKind, Entry, Flag, Mark};
-use rc_cell::Tomb;
+use crate::slow::PlainVersion;
+use rc_cell::{Row, Tomb};
 use rc_mutation::greater_tomb;
+use std::alloc::{AllocError, Global};
 
 /// The flag that is seen where a newer version lies over an older one: the newer one's, or the older one's where the newer one inherits.
 pub fn flag_under(older: Flag, newer: Flag) -> Flag
@@ -79,19 +87,62 @@ pub fn put_down(older: Mark, newer: Mark) -> Mark
     }
 }
 
-/// Takes out the entry of an index, which is not the last one: the gap before the next entry is Unknown then, without a tombstone.
+/// Takes out the entry of an index, which is not the last one: the gap before the next entry is Unknown then, without a tombstone. Where
+/// entries ascend, this is the entry at its position dropped.
 pub fn drop_entry(entries: &mut Vec<Entry>, index: usize)
     requires { index + 1 < length entries.old.items }
-    ensures { entries.new.items ≡ take index entries.old.items ++ lose_first_gap (drop (index + 1) entries.old.items) }
+    ensures value { entries.new.items ≡ take index entries.old.items ++ lose_first_gap (drop (index + 1) entries.old.items) }
+    ensures dropped { Ascend entries.old.items → HoldsAt (λ e. entries.new.items ≡ drop_at e.position entries.old.items) entries.old.items index }
 {
     let _dropped = entries.remove(index);
     entries[index].gap = mark_of_lost();
 }
 
-/// Whether a snapshot may populate the cache: its version is the newest of an attached chain that is not under update.
+/// Whether a snapshot may populate the cache, of a chain with so many versions: its version is the newest of an attached chain that is not
+/// under update.
 pub fn may_populate(version: usize, versions: usize, attached: bool, updating: bool) -> bool
     requires { version < versions }
-    ensures { IsTrue result ↔ ((version + 1 ≡ versions) × IsTrue attached × (updating ≡ false)) }
+    ensures { (c : Chain) → length c.versions ≡ versions → c.attached ≡ attached → (IsTrue updating ↔ IsUpdating c.updating) → (IsTrue result ↔ MayPopulate c version) }
 {
     version == versions - 1 && attached && !updating
+}
+
+/// A row of an update at the update's place: it is joined, and the tombstone that is in force as the fragments have it; the flag stays. The
+/// only error is want of memory, which leaves the entry as it was.
+pub fn join_updated_row(
+    alloc: Global,
+    entry: &mut Entry,
+    row: Row,
+    in_force: Option<Tomb>,
+) -> Result<(), AllocError>
+    ensures ok { OnOk result (entry.new ≡ with_mark (raised in_force) (with_row row entry.old)) }
+    ensures err { OnErr result (entry.new ≡ entry.old) }
+{
+    match &mut entry.row {
+        Some(old) => old.join(alloc, &row)?,
+        None => entry.row = Some(row),
+    }
+    entry.at = raised_mark(entry.at, in_force);
+    Ok(())
+}
+
+/// The end dummy of a version that has nothing else, put down under that of the next newer one: the gap before it, and its own place.
+pub fn merge_end(older: &Entry, newer: &mut Entry)
+    ensures gap { Alike (mark_cell newer.new.gap) (under (mark_cell older.now.gap) (mark_cell newer.old.gap)) }
+    ensures at { Alike (mark_cell newer.new.at) (under (mark_cell older.now.at) (mark_cell newer.old.at)) }
+    ensures stays { (newer.new.position ≡ newer.old.position) × (newer.new.row ≡ newer.old.row) }
+{
+    newer.gap = put_down(older.gap, newer.gap);
+    newer.at = put_down(older.at, newer.at);
+}
+
+/// The head of a version that has no static row, put down under that of the next newer one: the flag of the static row, and the partition
+/// tombstone.
+pub fn merge_head(older: &PlainVersion, newer: &mut PlainVersion)
+    ensures statics { older.now.statics ≡ None → Alike (static_cell (plain newer.new)) (under (static_cell (plain older.now)) (static_cell (plain newer.old))) }
+    ensures head { newer.new.pt ≡ greater tomb_cmp older.now.pt newer.old.pt }
+    ensures entries { newer.new.entries ≡ newer.old.entries }
+{
+    newer.static_flag = flag_under(older.static_flag, newer.static_flag);
+    newer.pt = greater_tomb(older.pt, newer.pt);
 }

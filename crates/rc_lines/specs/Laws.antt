@@ -1,26 +1,24 @@
 -- Laws of lines, for crates above to cite.
-use Rattle.std.specs.Prelude.{ℕ, ◌+◌, ◌<◌, Bool, true, false, ◌&&◌, nat_lt, List, [], ◌∷◌, length, take, Err, ◌≡◌}
+use Rattle.std.specs.Prelude.{ℕ, ◌+◌, ◌<◌, true, false, nat_lt, List, length, take, Option, Err, ◌≡◌}
 use Rattle.std.proofs.Common.{refl, sym, subst, ap, ◌∙◌, arith}
 use Rattle.std.proofs.lemmas.List.{length-take, take_all}
 use Rattle.std.proofs.lemmas.Bool.Decides.{nat_tests}
-use Rattle.std.specs.Char.{is_ascii_alphanumeric}
-use Rattle.std.specs.List.{list_all}
+use Rattle.rc_schema.specs.Lists.{Lists}
 use Rattle.rc_lines.specs.Grammar.{parse, longest_line}
-use Rattle.rc_lines.specs.Texts.{spelled, spelled_byte}
 use Rattle.rc_lines.specs.declared.commands.Refusal.TheVariants.{BadLine}
 
 front_is_long : (n : ℕ) (line : List ℕ) → n < length line → n < length (take (n + 1) line)
 front_is_long n line long = omega (arith, length-take (n + 1) line)
 
 -- a line that is too long is a bad line, whatever it begins with
-pub long_line : (taken : Bool) (line : List ℕ) → nat_lt longest_line (length line) ≡ true → parse taken line ≡ Err BadLine
+pub long_line : (taken : Option Lists) (line : List ℕ) → nat_lt longest_line (length line) ≡ true → parse taken line ≡ Err BadLine
 unfolding parse
 long_line taken line long = rw long refl
 
 at_limit : (n : ℕ) → n ≡ longest_line → (line : List ℕ) → nat_lt n (length line) ≡ true → nat_lt longest_line (length line) ≡ true
 at_limit n e line long = subst (λ (m : ℕ). nat_lt m (length line) ≡ true) e long
 
-cut_at : (n : ℕ) → n ≡ longest_line → (taken : Bool) (line : List ℕ) → parse taken (take (n + 1) line) ≡ parse taken line
+cut_at : (n : ℕ) → n ≡ longest_line → (taken : Option Lists) (line : List ℕ) → parse taken (take (n + 1) line) ≡ parse taken line
 cut_at n e taken line =
     elim (nat_lt n (length line)) as (λ b. nat_lt n (length line) ≡ b → parse taken (take (n + 1) line) ≡ parse taken line) [
       | true ↦ λ t. (let short : n < length line = grind (arith, nat_tests) in
@@ -30,19 +28,5 @@ cut_at n e taken line =
     ] refl
 
 -- the first bytes of a line, one more than the longest line has, mean what the line means
-pub long_lines_are_cut : (taken : Bool) (line : List ℕ) → parse taken (take 65537 line) ≡ parse taken line
+pub long_lines_are_cut : (taken : Option Lists) (line : List ℕ) → parse taken (take 65537 line) ≡ parse taken line
 long_lines_are_cut taken line = cut_at 65536 refl taken line
-
-both : (b c : Bool) → b && c ≡ true → (b ≡ true) × (c ≡ true)
-both true c h = (refl, h)
-both false c h = cc
-
-plain_byte : (byte : ℕ) → is_ascii_alphanumeric byte ≡ true → spelled_byte byte ≡ byte ∷ []
-plain_byte byte plain = rw plain refl
-
--- letters and digits are printed as themselves
-pub plain_values_stay : (value : List ℕ) → list_all is_ascii_alphanumeric value ≡ true → spelled value ≡ value
-plain_values_stay [] plain = refl
-plain_values_stay (byte ∷ value) plain =
-    let parts = both (is_ascii_alphanumeric byte) (list_all is_ascii_alphanumeric value) plain in
-    rw (plain_byte byte parts.0) (ap (λ rest. byte ∷ rest) (plain_values_stay value parts.1))

@@ -1,5 +1,7 @@
-pub mod Words
-pub mod Numbers
+pub mod Parts
+pub mod Shapes
+pub mod UnderSchema
+pub mod Fits
 pub mod Grammar
 pub mod Texts
 pub mod Laws

@@ -1,78 +1,91 @@
 -- The texts of replies.
-use Rattle.std.specs.Prelude.{ℕ, ◌+◌, ◌/◌, ◌%◌, Bool, ◌||◌, ◌==◌, nat_lt, List, [], ◌∷◌, ◌++◌, flat_map, codes, if◌then◌else◌}
-use Rattle.std.specs.Char.{is_ascii_alphanumeric}
-use Rattle.std.specs.Fmt.{signed_decimal}
-use Rattle.rc_position.specs.declared.comps.Comp.{Comp}
-use Rattle.rc_position.specs.declared.comps.Comp.TheVariants.{Int, Text}
+use Rattle.std.specs.Prelude.{ℕ, Bool, List, [], ◌∷◌, ◌++◌, flat_map, codes, decimal, slice_index_or, if◌then◌else◌}
+use Rattle.rc_schema.specs.Lists.{Lists}
+use Rattle.rc_spelling.specs.Printed.{spelled, key_text}
 use Rattle.rc_query.specs.declared.lines.OutLine.{OutLine}
 use Rattle.rc_query.specs.declared.lines.OutLine.TheVariants.{Static, Row}
+use Rattle.rc_lines.specs.declared.commands.Figures.{Figures}
 use Rattle.rc_lines.specs.declared.commands.Refusal.{Refusal}
-use Rattle.rc_lines.specs.declared.commands.Refusal.TheVariants.{BadLine, NoReader, ReaderInUse}
+use Rattle.rc_lines.specs.declared.commands.Refusal.TheVariants.{BadLine, NoSchema, SchemaDiffers, WrongKey, UnknownColumn, TooLong, NoReader, ReaderInUse, TooManyReaders, FlushInProgress, NothingToFlush, NoFlush, Full, ReadFault, WriteFault, Damaged, NoNumber}
 use Rattle.rc_lines.specs.declared.commands.Reply.{Reply}
-use Rattle.rc_lines.specs.declared.commands.Reply.TheVariants.{Nothing, Fine, Given, Refused}
+use Rattle.rc_lines.specs.declared.commands.Reply.TheVariants.{Nothing, Fine, Given, Going, Done, Stats, Refused}
 
--- the bytes that are printed as themselves: letters, digits, `_`, `.` and `-`
-abbrev pub stands_for_itself : ℕ → Bool
-stands_for_itself byte = is_ascii_alphanumeric byte || (byte == 95 || (byte == 46 || byte == 45))
-
--- a hexadecimal digit, in upper case
-abbrev pub hexadecimal : ℕ → ℕ
-hexadecimal n = if nat_lt n 10 then 48 + n else 55 + n
-
--- a byte as it is printed: itself, or `%` and two hexadecimal digits
-abbrev pub spelled_byte : ℕ → List ℕ
-spelled_byte byte = if stands_for_itself byte then byte ∷ [] else 37 ∷ hexadecimal (byte / 16) ∷ hexadecimal (byte % 16) ∷ []
-
-abbrev pub spelled : List ℕ → List ℕ
-spelled bytes = flat_map spelled_byte bytes
-
--- a text component; `''` stands for the empty text
-abbrev pub text_component : List ℕ → List ℕ
-text_component [] = codes "''"
-text_component (byte ∷ bytes) = spelled (byte ∷ bytes)
-
--- a component: a decimal number, or a text
-abbrev pub component_text : Comp → List ℕ
-component_text (Int number) = signed_decimal number
-component_text (Text bytes) = text_component bytes
-
--- a comma and a component
-abbrev pub other_component : Comp → List ℕ
-other_component component = 44 ∷ component_text component
-
--- the components of a key, with commas between them
-abbrev pub key_text : List Comp → List ℕ
-key_text [] = []
-key_text (first ∷ rest) = component_text first ++ flat_map other_component rest
+-- the name of a column by its number, nothing where the number is no column's
+abbrev pub column_name : List (List ℕ) → ℕ → List ℕ
+column_name names column = slice_index_or names column []
 
 -- ` NAME=VALUE`
-abbrev pub value_text : (ℕ → ℕ) → ℕ × List ℕ → List ℕ
-value_text name_of shown = 32 ∷ name_of shown.0 ∷ 61 ∷ spelled shown.1
-
--- the names of the columns
-abbrev pub column_name : ℕ → ℕ
-column_name column = if column == 0 then 97 else 98
-
-abbrev pub static_name : ℕ → ℕ
-static_name column = 115
+abbrev pub value_text : List (List ℕ) → ℕ × List ℕ → List ℕ
+value_text names shown = 32 ∷ (column_name names shown.0 ++ 61 ∷ spelled shown.1)
 
 -- a line that a reader is given
-abbrev pub line_text : OutLine → List ℕ
-line_text (Static shown) = codes "static" ++ flat_map (value_text static_name) shown ++ 10 ∷ []
-line_text (Row key shown) = codes "row " ++ key_text key ++ flat_map (value_text column_name) shown ++ 10 ∷ []
-
-abbrev pub refusal_text : Refusal → List ℕ
-refusal_text BadLine = codes "? bad line\n"
-refusal_text NoReader = codes "? no reader\n"
-refusal_text ReaderInUse = codes "? reader in use\n"
+abbrev pub line_text : Lists → OutLine → List ℕ
+line_text schema (Static shown) = codes "static" ++ flat_map (value_text schema.statics) shown ++ 10 ∷ []
+line_text schema (Row key shown) = codes "row " ++ key_text key ++ flat_map (value_text schema.cols) shown ++ 10 ∷ []
 
 -- the lines that a reader is given, and whether there are more
-abbrev pub given_text : List OutLine → Bool → List ℕ
-given_text lines more = flat_map line_text lines ++ (if more then codes "more\n" else codes "end\n")
+abbrev pub given_text : Lists → List OutLine → Bool → List ℕ
+given_text schema lines more = flat_map (line_text schema) lines ++ (if more then codes "more\n" else codes "end\n")
 
--- the text of a reply: its lines, each ended by a newline
-unfoldable pub reply_text : Reply → List ℕ
-reply_text Nothing = []
-reply_text Fine = codes "ok\n"
-reply_text (Given lines more) = given_text lines more
-reply_text (Refused refusal) = refusal_text refusal
+-- the text of a damaged table
+unfoldable pub damage_text : ℕ → ℕ → List ℕ
+damage_text file offset = codes "? damaged " ++ decimal file ++ codes " at " ++ decimal offset ++ codes "\n"
+
+-- the text of a refusal that has no number in it
+abbrev pub fixed_text : Refusal → List ℕ
+fixed_text BadLine = codes "? bad line\n"
+fixed_text NoSchema = codes "? no schema\n"
+fixed_text SchemaDiffers = codes "? schema differs\n"
+fixed_text WrongKey = codes "? wrong key\n"
+fixed_text UnknownColumn = codes "? unknown column\n"
+fixed_text TooLong = codes "? too long\n"
+fixed_text NoReader = codes "? no reader\n"
+fixed_text ReaderInUse = codes "? reader in use\n"
+fixed_text TooManyReaders = codes "? too many readers\n"
+fixed_text FlushInProgress = codes "? flush in progress\n"
+fixed_text NothingToFlush = codes "? nothing to flush\n"
+fixed_text NoFlush = codes "? no flush\n"
+fixed_text Full = codes "? full\n"
+fixed_text ReadFault = codes "? read fault\n"
+fixed_text WriteFault = codes "? write fault\n"
+fixed_text (Damaged file offset) = []
+fixed_text NoNumber = codes "? no number\n"
+
+-- the text of a refusal
+abbrev pub refusal_text : Refusal → List ℕ
+refusal_text (Damaged file offset) = damage_text file offset
+refusal_text other = fixed_text other
+
+-- ` NAME=NUMBER`
+unfoldable pub figure_text : List ℕ → ℕ → List ℕ
+figure_text name value = name ++ decimal value
+
+-- the figures of the memory
+unfoldable pub memory_text : Figures → List ℕ
+memory_text f = figure_text (codes " segments=") f.segments ++ figure_text (codes " free=") f.free ++ figure_text (codes " objects=") f.objects ++ figure_text (codes " live=") f.live
+
+-- the figures of what is cached
+unfoldable pub cached_text : Figures → List ℕ
+cached_text f = figure_text (codes " partitions=") f.partitions ++ figure_text (codes " rows=") f.rows ++ figure_text (codes " dummies=") f.dummies
+
+-- the figures of how the cache served
+unfoldable pub served_text : Figures → List ℕ
+served_text f = figure_text (codes " hits=") f.hits ++ figure_text (codes " misses=") f.misses ++ figure_text (codes " evicted=") f.evicted
+
+-- the figures of what was done for it
+unfoldable pub done_text : Figures → List ℕ
+done_text f = figure_text (codes " moved=") f.moved ++ figure_text (codes " skipped=") f.skipped ++ figure_text (codes " asks=") f.asks
+
+-- the line of the figures
+unfoldable pub figures_text : Figures → List ℕ
+figures_text f = codes "stats" ++ memory_text f ++ cached_text f ++ served_text f ++ done_text f ++ codes "\n"
+
+-- the text of a reply under a schema: its lines, each ended by a newline
+unfoldable pub reply_text : Lists → Reply → List ℕ
+reply_text schema Nothing = []
+reply_text schema Fine = codes "ok\n"
+reply_text schema (Given lines more) = given_text schema lines more
+reply_text schema Going = codes "going\n"
+reply_text schema Done = codes "done\n"
+reply_text schema (Stats figures) = figures_text figures
+reply_text schema (Refused refusal) = refusal_text refusal

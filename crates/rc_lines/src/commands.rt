@@ -1,44 +1,145 @@
 //! What a line commands, and what it is answered.
 
+ghost use Rattle.std.specs.Prelude.{◌≡◌, IfOk};
+
 use rc_mutation::Write;
-use rc_position::PartKey;
+use rc_position::{PartKey, Slice};
 use rc_query::Lines;
+use rc_schema::Schema;
+use std::alloc::{AllocError, Global};
 use thiserror::Error;
 
-/// What a line commands.
+/// What a line commands. Ids and counts are from 1 to 4294967295.
 #[derive(Drop)]
 pub enum Command {
     /// An empty line or a comment: nothing to do, and no reply.
     Nothing,
     /// The schema line.
-    SetSchema,
+    SetSchema(Schema),
     /// A write to one partition.
     Put(Write),
-    /// Opens a reader of a partition under an id.
+    /// Opens a reader of a slice of a partition under an id.
     OpenRead {
-        /// From 1 to 64.
+        /// The reader's id.
         id: u32,
         /// The partition's key.
         key: PartKey,
+        /// Which rows the reader is given: those between two bounds, the first below the second.
+        slice: Slice,
     },
     /// Asks a reader for its next lines.
     Read {
-        /// From 1 to 4294967295.
+        /// The reader's id.
         id: u32,
-        /// At most how many lines, from 1 to 4294967295.
+        /// At most how many lines.
         count: u32,
     },
+    /// Closes a reader.
+    Close {
+        /// The reader's id.
+        id: u32,
+    },
+    /// Writes the memtable as a table, and brings the cache up to it.
+    Flush,
+    /// Writes the memtable as a table, and leaves bringing the cache up to it to the steps that follow.
+    FlushBegin,
+    /// Brings the cache up to the table that was written last, a few units further.
+    FlushStep {
+        /// At most how many units.
+        count: u32,
+    },
+    /// Evicts objects of the cache, the least recent first.
+    Evict {
+        /// At most how many objects.
+        count: u32,
+    },
+    /// Compacts sparse segments.
+    Compact {
+        /// At most how many segments.
+        count: u32,
+    },
+    /// Merges versions that nobody reads.
+    Clean {
+        /// At most how many units.
+        count: u32,
+    },
+    /// Asks for the figures of the cache.
+    Stats,
 }
 
-/// Why a line is refused. A refused line changes nothing.
+/// Why a line is refused. A refused line changes nothing, but for `WriteFault`, after which the memtable is sealed and unwritten.
 #[derive(Clone, Copy, Debug, PartialEq, Eq)]
 pub enum Refusal {
     /// The line is not in the grammar, or is too long.
     BadLine,
-    /// `read` of an id that is not open.
+    /// No schema line was taken before.
+    NoSchema,
+    /// A schema line with another schema than the one that was taken.
+    SchemaDiffers,
+    /// A count of components, an int component, or bounds of which the first is not below the second.
+    WrongKey,
+    /// A name is not a column of that sort.
+    UnknownColumn,
+    /// A partition key, a text component or a value passes its limit.
+    TooLong,
+    /// `read` or `close` of an id that is not open.
     NoReader,
     /// `open` of an id that is open.
     ReaderInUse,
+    /// `open` of another id while 64 are open.
+    TooManyReaders,
+    /// `flush` or `flush begin` while a written sealed memtable has units left.
+    FlushInProgress,
+    /// `flush` or `flush begin` with nothing sealed and no write since.
+    NothingToFlush,
+    /// `flush step` with no written sealed memtable.
+    NoFlush,
+    /// A write for which no room could be made.
+    Full,
+    /// The store failed while a table was read.
+    ReadFault,
+    /// The store failed while a table was written.
+    WriteFault,
+    /// A table is not what it was when it was checked or written.
+    Damaged {
+        /// The table's number.
+        file: u32,
+        /// The first byte that does not fit.
+        offset: u64,
+    },
+    /// A flush would write a table, and the largest table number is 4294967295.
+    NoNumber,
+}
+
+/// The figures of a shard's memory and cache. The counts `hits`, `misses`, `evicted`, `moved` and `skipped` stay at 2^64 - 1.
+#[derive(Clone, Copy, Debug, PartialEq, Eq)]
+pub struct Figures {
+    /// Segments that are not free.
+    pub segments: u64,
+    /// Segments that are free.
+    pub free: u64,
+    /// Objects of the region.
+    pub objects: u64,
+    /// The bytes of these objects, each rounded up.
+    pub live: u64,
+    /// Partitions that are found in the cache by their key.
+    pub partitions: u64,
+    /// Row entries over all versions of these partitions.
+    pub rows: u64,
+    /// Dummies over all versions of these partitions, the last ones with them.
+    pub dummies: u64,
+    /// `open` and `read` commands so far that were served without asking the store.
+    pub hits: u64,
+    /// `open` and `read` commands so far for which the store was asked.
+    pub misses: u64,
+    /// Evictions so far, asked for or made for room.
+    pub evicted: u64,
+    /// Objects moved so far.
+    pub moved: u64,
+    /// Fills, openings of a cache entry, update units and cleaner units so far for which no room was found.
+    pub skipped: u64,
+    /// How many ranges of table files were asked for since the shard was opened.
+    pub asks: u64,
 }
 
 /// What a line is answered.
@@ -55,6 +156,12 @@ pub enum Reply {
         /// Whether the reader has lines left.
         more: bool,
     },
+    /// Units of the flush are left.
+    Going,
+    /// No unit of the flush is left.
+    Done,
+    /// The figures.
+    Stats(Figures),
     /// The line is refused.
     Refused(Refusal),
 }
@@ -68,4 +175,38 @@ pub enum LineErr {
     /// Memory ran out.
     #[error("out of memory")]
     NoMemory,
+}
+
+impl Command {
+    /// An equal command of its own memory. The only error is want of memory.
+    pub fn copy(&self, alloc: Global) -> Result<Self, AllocError>
+        ensures { IfOk result (λ command. command ≡ self.now) }
+    {
+        match self {
+            Command::Nothing => Ok(Command::Nothing),
+            Command::SetSchema(schema) => Ok(Command::SetSchema(schema.copy(alloc)?)),
+            Command::Put(write) => Ok(Command::Put(write.copy(alloc)?)),
+            Command::OpenRead { id, key, slice } => {
+                let key = key.copy(alloc)?;
+                let slice = slice.copy(alloc)?;
+                Ok(Command::OpenRead {
+                    id: *id,
+                    key,
+                    slice,
+                })
+            }
+            Command::Read { id, count } => Ok(Command::Read {
+                id: *id,
+                count: *count,
+            }),
+            Command::Close { id } => Ok(Command::Close { id: *id }),
+            Command::Flush => Ok(Command::Flush),
+            Command::FlushBegin => Ok(Command::FlushBegin),
+            Command::FlushStep { count } => Ok(Command::FlushStep { count: *count }),
+            Command::Evict { count } => Ok(Command::Evict { count: *count }),
+            Command::Compact { count } => Ok(Command::Compact { count: *count }),
+            Command::Clean { count } => Ok(Command::Clean { count: *count }),
+            Command::Stats => Ok(Command::Stats),
+        }
+    }
 }

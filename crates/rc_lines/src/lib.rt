@@ -1,18 +1,23 @@
 //! Lines: what a line of the input commands, and the text of each reply.
 #![tactic(auto)]
 
+mod bounds;
+mod cells;
+mod changes;
+mod columns;
 mod commands;
+mod grammar;
+mod keys;
 mod laws;
-mod numbers;
+mod meaning;
 mod parts;
 mod printing;
 mod reading;
+mod shapes;
 #[cfg(test)]
 mod tests;
-mod words;
-mod writes;
 
-pub use commands::{Command, LineErr, Refusal, Reply};
-pub use laws::{long_lines_are_cut, longest_line_is_named, plain_values_print_as_written};
-pub use printing::print_reply;
+pub use commands::{Command, Figures, LineErr, Refusal, Reply};
+pub use laws::{commands_fit_their_schema, long_lines_are_cut, longest_line_is_named};
+pub use printing::{print_refusal, print_reply};
 pub use reading::{LONGEST_LINE, read_line};

@@ -1,94 +1,103 @@
 //! The parts of a line's words.
 
-ghost use Rattle.std.specs.Prelude.{◌≡◌, ◌≤◌, length};
-ghost use Rattle.std.specs.Char.{is_ascii_alphanumeric};
+ghost use Rattle.std.specs.Prelude.{◌≡◌, IfOk};
 ghost use Rattle.std.specs.List.{list_all};
-ghost use Rattle.std.specs.Option.{option_map, option_copied, IfSome};
-ghost use Rattle.rc_lines.specs.Grammar.{plain_of, count_of, stamp_of, column_of, valued, assigned};
+ghost use Rattle.std.specs.Option.{option_copied};
+ghost use Rattle.rc_schema.specs.Lists.{is_name, is_name_byte};
+ghost use Rattle.rc_lines.specs.Parts.{is_word, behind, before, stamp_of, time_of, tomb_of, key_of};
 
-use crate::numbers::{number, signed};
+use rc_cell::Tomb;
+use rc_position::Text;
+use rc_spelling::{number, read_bytes, signed};
+use std::alloc::{AllocError, Global};
 
-/// The word, where it has at least and at most so many bytes and each is an ASCII letter or digit.
-#[tactic(auto, unfolding(crate::specs::Grammar::plain_of))]
-pub(crate) fn plain(word: &[u8], least: usize, most: usize) -> Option<&[u8]>
-    ensures value { option_copied result ≡ plain_of least most word.now }
-    ensures long { IfSome result (λ found. least ≤ length found.now) }
-    ensures short { IfSome result (λ found. length found.now ≤ most) }
+/// Whether two words are the same bytes.
+pub(crate) fn is_word(word: &[u8], text: &[u8]) -> bool
+    ensures { result ≡ is_word word.now text.now }
 {
-    let fits = least <= word.len() && word.len() <= most;
-    if fits && are_plain(word) {
-        Some(word)
-    } else {
-        None
-    }
+    word == text
 }
 
-/// Whether each byte is an ASCII letter or digit.
-fn are_plain(word: &[u8]) -> bool
-    ensures { result ≡ list_all is_ascii_alphanumeric word.now }
+/// What stands behind a text with which the word begins.
+#[tactic(auto, unfolding(crate::specs::Parts::behind))]
+pub(crate) fn behind<'a>(text: &[u8], word: &'a [u8]) -> Option<&'a [u8]>
+    ensures { option_copied result ≡ behind text.now word.now }
 {
-    word.iter().all(|byte| byte.is_ascii_alphanumeric())
+    word.strip_prefix(text)
 }
 
-/// The number that the word is, where it is one from 1 to `most`.
-#[tactic(auto, unfolding(crate::specs::Grammar::count_of))]
-pub(crate) fn count(word: &[u8], most: u32) -> Option<u32>
-    ensures { result ≡ count_of most word.now }
+/// What stands before a text with which the word ends.
+#[tactic(auto, unfolding(crate::specs::Parts::before))]
+pub(crate) fn before<'a>(text: &[u8], word: &'a [u8]) -> Option<&'a [u8]>
+    ensures { option_copied result ≡ before text.now word.now }
 {
-    let value = number(word, u64::from(most))?;
-    if value == 0 {
-        return None;
-    }
-    Some(value as u32)
+    word.strip_suffix(text)
 }
 
-/// The timestamp of `ts=TS`.
-#[tactic(auto, unfolding(crate::specs::Grammar::stamp_of))]
-pub(crate) fn stamp(word: &[u8]) -> Option<i64>
-    ensures { result ≡ stamp_of word.now }
+/// Whether a byte may stand behind the first of a name.
+fn is_name_byte(byte: u8) -> bool
+    ensures { result ≡ is_name_byte byte }
 {
-    if word.starts_with(b"ts=") {
-        signed(&word[3..])
-    } else {
-        None
-    }
+    byte.is_ascii_lowercase() || byte.is_ascii_digit() || byte == b'_'
 }
 
-/// The column of a name.
-#[tactic(auto, unfolding(crate::specs::Grammar::column_of))]
-fn column(name: u8) -> Option<u8>
-    ensures { result ≡ column_of name }
+/// Whether each byte may stand behind the first of a name.
+fn are_name_bytes(bytes: &[u8]) -> bool
+    ensures { result ≡ list_all is_name_byte bytes.now }
 {
-    match name {
-        b'a' => Some(0),
-        b'b' => Some(1),
-        _ => None,
-    }
+    bytes.iter().all(|byte| is_name_byte(*byte))
 }
 
-/// The column and the value of `NAME=VALUE`.
-pub(crate) fn assigned(word: &[u8]) -> Option<(u8, &[u8])>
-    ensures { option_map (λ set. (set.0, set.1.now)) result ≡ assigned word.now }
+/// Whether a word has the form of a column's name.
+pub(crate) fn is_name(word: &[u8]) -> bool
+    ensures { result ≡ is_name word.now }
 {
     match word {
-        [] => None,
-        [_name] => None,
-        [name, equals, value @ ..] => {
-            if *equals == b'=' {
-                valued(*name, value)
-            } else {
-                None
-            }
+        [] => false,
+        [first, rest @ ..] => {
+            first.is_ascii_lowercase() && rest.len() <= 31 && are_name_bytes(rest)
         }
     }
 }
 
-/// The column of the name with the value.
-#[tactic(auto, unfolding(crate::specs::Grammar::valued))]
-fn valued(name: u8, value: &[u8]) -> Option<(u8, &[u8])>
-    ensures { option_map (λ set. (set.0, set.1.now)) result ≡ valued name value.now }
+/// The timestamp of `ts=TS`.
+#[tactic(auto, unfolding(crate::specs::Parts::stamp_of))]
+pub(crate) fn stamp(word: &[u8]) -> Option<i64>
+    ensures { result ≡ stamp_of word.now }
 {
-    let column = column(name)?;
-    let value = plain(value, 0, 256)?;
-    Some((column, value))
+    signed(behind(b"ts=", word)?)
+}
+
+/// The deletion time of `dt=DT`.
+#[tactic(auto, unfolding(crate::specs::Parts::time_of))]
+fn time(word: &[u8]) -> Option<u32>
+    ensures { result ≡ time_of word.now }
+{
+    let time = number(behind(b"dt=", word)?, u64::from(u32::MAX))?;
+    Some(time as u32)
+}
+
+/// The tombstone of `ts=TS dt=DT`.
+#[tactic(auto, unfolding(crate::specs::Parts::tomb_of))]
+pub(crate) fn tomb(when: &[u8], since: &[u8]) -> Option<Tomb>
+    ensures { result ≡ tomb_of when.now since.now }
+{
+    let ts = stamp(when)?;
+    let dt = time(since)?;
+    Some(Tomb { ts, dt })
+}
+
+/// The partition key that a word spells.
+pub(crate) fn key(alloc: Global, word: &[u8]) -> Result<Option<Text>, AllocError>
+    ensures { IfOk result (λ found. found ≡ key_of word.now) }
+{
+    match word {
+        [] => Ok(None),
+        [_first, _rest @ ..] => {
+            let Some(bytes) = read_bytes(alloc, word)? else {
+                return Ok(None);
+            };
+            Ok(Some(Text::from_slice(alloc, bytes.as_slice())?))
+        }
+    }
 }

@@ -1,204 +1,251 @@
 //! The text of a reply.
 
-ghost use Rattle.std.specs.Prelude.{◌≡◌, ◌<◌, ◌++◌, ◌∷◌, flat_map, OnOk, OnErr};
-ghost use Rattle.rc_lines.specs.Texts.{stands_for_itself, hexadecimal, spelled_byte, spelled, component_text, text_component, other_component, key_text, column_name, static_name, value_text, line_text, given_text, refusal_text, reply_text};
+ghost use Rattle.std.specs.Prelude.{◌≡◌, ◌++◌, ◌∷◌, decimal, flat_map, OnOk, OnErr};
+ghost use Rattle.rc_spelling.specs.Printed.{spelled};
+ghost use Rattle.rc_lines.specs.Texts.{column_name, value_text, line_text, given_text, damage_text, fixed_text, refusal_text, figure_text, memory_text, cached_text, served_text, done_text, figures_text, reply_text};
 
-use crate::commands::{Refusal, Reply};
+use crate::commands::{Figures, Refusal, Reply};
 use itoa::Buffer;
 use rc_cell::Value;
-use rc_position::Comp;
+use rc_position::Text;
 use rc_query::OutLine;
+use rc_schema::Schema;
+use rc_spelling::{print_bytes, print_key};
 use std::alloc::{AllocError, Global};
 
-/// Whether a byte is printed as itself.
-fn stands_for_itself(byte: u8) -> bool
-    ensures { result ≡ stands_for_itself byte }
+/// The name of a column by its number, nothing where the number is no column's.
+fn column_name(names: &[Text], column: u8) -> &[u8]
+    ensures { result.now ≡ column_name names.now column }
 {
-    byte.is_ascii_alphanumeric() || byte == b'_' || byte == b'.' || byte == b'-'
-}
-
-/// The hexadecimal digit of a number below 16.
-fn hexadecimal(n: u8) -> u8
-    requires { n < 16 }
-    ensures { result ≡ hexadecimal n }
-{
-    if n < 10 { b'0' + n } else { b'A' - 10 + n }
-}
-
-/// Appends a byte as it is printed.
-fn print_byte(byte: u8, text: &mut Vec<u8>) -> Result<(), AllocError>
-    ensures { OnOk result (text.new.items ≡ text.old.items ++ spelled_byte byte) }
-{
-    if stands_for_itself(byte) {
-        text.push(byte)?;
-        return Ok(());
-    }
-    text.extend_from_slice(&[b'%', hexadecimal(byte / 16), hexadecimal(byte % 16)])
-}
-
-/// Appends bytes as they are printed.
-fn print_spelled(bytes: &[u8], text: &mut Vec<u8>) -> Result<(), AllocError>
-    ensures { OnOk result (text.new.items ≡ text.old.items ++ spelled bytes.now) }
-{
-    for byte in bytes {
-        print_byte(*byte, text)?;
-    }
-    Ok(())
-}
-
-/// Appends a component.
-fn print_component(component: &Comp, text: &mut Vec<u8>) -> Result<(), AllocError>
-    ensures { OnOk result (text.new.items ≡ text.old.items ++ component_text component.now) }
-{
-    match component {
-        Comp::Int(number) => {
-            let mut buffer = Buffer::new();
-            text.extend_from_slice(buffer.format(*number).as_bytes())
-        }
-        Comp::Text(bytes) => print_text(bytes.as_slice(), text),
-    }
-}
-
-/// Appends a text component.
-fn print_text(bytes: &[u8], text: &mut Vec<u8>) -> Result<(), AllocError>
-    ensures { OnOk result (text.new.items ≡ text.old.items ++ text_component bytes.now) }
-{
-    match bytes {
-        [] => text.extend_from_slice(b"''"),
-        [_first, _rest @ ..] => print_spelled(bytes, text),
-    }
-}
-
-/// Appends a comma and a component, for each component.
-fn print_others(components: &[Comp], text: &mut Vec<u8>) -> Result<(), AllocError>
-    ensures { OnOk result (text.new.items ≡ text.old.items ++ flat_map other_component components.now) }
-{
-    for component in components {
-        text.push(b',')?;
-        print_component(component, text)?;
-    }
-    Ok(())
-}
-
-/// Appends the components of a key, with commas between them.
-fn print_key(components: &[Comp], text: &mut Vec<u8>) -> Result<(), AllocError>
-    ensures { OnOk result (text.new.items ≡ text.old.items ++ key_text components.now) }
-{
-    match components {
-        [] => Ok(()),
-        [first, rest @ ..] => {
-            print_component(first, text)?;
-            print_others(rest, text)
-        }
+    match names.get(usize::from(column)) {
+        Some(name) => name.as_slice(),
+        None => b"",
     }
 }
 
 /// Appends ` NAME=VALUE`.
-fn print_value(name: u8, value: &Value, text: &mut Vec<u8>) -> Result<(), AllocError>
-    ensures { OnOk result (text.new.items ≡ text.old.items ++ 32 ∷ name ∷ 61 ∷ spelled value.now) }
+fn print_value(name: &[u8], value: &Value, text: &mut Vec<u8>) -> Result<(), AllocError>
+    ensures { OnOk result (text.new.items ≡ text.old.items ++ 32 ∷ (name.now ++ 61 ∷ spelled value.now)) }
 {
-    text.extend_from_slice(&[b' ', name, b'='])?;
-    print_spelled(value.as_slice(), text)
+    text.push(b' ')?;
+    text.extend_from_slice(name)?;
+    text.push(b'=')?;
+    print_bytes(value.as_slice(), text)
 }
 
-/// The name of a regular column.
-fn column_name(column: u8) -> u8
-    ensures { result ≡ column_name column }
-{
-    if column == 0 { b'a' } else { b'b' }
-}
-
-/// Appends ` NAME=VALUE` for each value of a row.
-fn print_values(shown: &[(u8, Value)], text: &mut Vec<u8>) -> Result<(), AllocError>
-    ensures { OnOk result (text.new.items ≡ text.old.items ++ flat_map (value_text column_name) shown.now) }
+/// Appends ` NAME=VALUE` for each value.
+fn print_values(names: &[Text], shown: &[(u8, Value)], text: &mut Vec<u8>) -> Result<(), AllocError>
+    ensures { OnOk result (text.new.items ≡ text.old.items ++ flat_map (value_text names.now) shown.now) }
 {
     for (column, value) in shown {
-        print_value(column_name(*column), value, text)?;
-    }
-    Ok(())
-}
-
-/// Appends ` NAME=VALUE` for each value of the static row.
-fn print_statics(shown: &[(u8, Value)], text: &mut Vec<u8>) -> Result<(), AllocError>
-    ensures { OnOk result (text.new.items ≡ text.old.items ++ flat_map (value_text static_name) shown.now) }
-{
-    for (_column, value) in shown {
-        print_value(b's', value, text)?;
+        print_value(column_name(names, *column), value, text)?;
     }
     Ok(())
 }
 
 /// Appends a line that a reader is given.
-fn print_line(line: &OutLine, text: &mut Vec<u8>) -> Result<(), AllocError>
-    ensures { OnOk result (text.new.items ≡ text.old.items ++ line_text line.now) }
+fn print_line(schema: &Schema, line: &OutLine, text: &mut Vec<u8>) -> Result<(), AllocError>
+    ensures { OnOk result (text.new.items ≡ text.old.items ++ line_text schema.now line.now) }
 {
     match line {
         OutLine::Static(shown) => {
             text.extend_from_slice(b"static")?;
-            print_statics(shown.as_slice(), text)?;
+            print_values(schema.statics(), shown.as_slice(), text)?;
             text.extend_from_slice(b"\n")
         }
         OutLine::Row(key, shown) => {
             text.extend_from_slice(b"row ")?;
             print_key(key.as_slice(), text)?;
-            print_values(shown.as_slice(), text)?;
+            print_values(schema.cols(), shown.as_slice(), text)?;
             text.extend_from_slice(b"\n")
         }
     }
 }
 
 /// Appends the lines that a reader is given.
-fn print_lines(lines: &[OutLine], text: &mut Vec<u8>) -> Result<(), AllocError>
-    ensures { OnOk result (text.new.items ≡ text.old.items ++ flat_map line_text lines.now) }
+fn print_lines(schema: &Schema, lines: &[OutLine], text: &mut Vec<u8>) -> Result<(), AllocError>
+    ensures { OnOk result (text.new.items ≡ text.old.items ++ flat_map (line_text schema.now) lines.now) }
 {
     for line in lines {
-        print_line(line, text)?;
+        print_line(schema, line, text)?;
     }
     Ok(())
 }
 
-/// The text of a refusal.
-fn refusal_text(refusal: Refusal) -> &'static [u8]
-    ensures { result.now ≡ refusal_text refusal }
-{
-    match refusal {
-        Refusal::BadLine => b"? bad line\n",
-        Refusal::NoReader => b"? no reader\n",
-        Refusal::ReaderInUse => b"? reader in use\n",
-    }
-}
-
 /// Appends the lines that a reader is given, and whether there are more.
-fn print_given(lines: &[OutLine], more: bool, text: &mut Vec<u8>) -> Result<(), AllocError>
-    ensures { OnOk result (text.new.items ≡ text.old.items ++ given_text lines.now more) }
+fn print_given(
+    schema: &Schema,
+    lines: &[OutLine],
+    more: bool,
+    text: &mut Vec<u8>,
+) -> Result<(), AllocError>
+    ensures { OnOk result (text.new.items ≡ text.old.items ++ given_text schema.now lines.now more) }
 {
-    print_lines(lines, text)?;
+    print_lines(schema, lines, text)?;
     if more {
         return text.extend_from_slice(b"more\n");
     }
     text.extend_from_slice(b"end\n")
 }
 
+/// Appends a decimal number.
+fn print_number(number: u64, text: &mut Vec<u8>) -> Result<(), AllocError>
+    ensures { OnOk result (text.new.items ≡ text.old.items ++ decimal number) }
+{
+    let mut buffer = Buffer::new();
+    text.extend_from_slice(buffer.format(number).as_bytes())
+}
+
+/// Appends the text of a damaged table.
+#[tactic(auto, unfolding(crate::specs::Texts::damage_text))]
+fn print_damage(file: u32, offset: u64, text: &mut Vec<u8>) -> Result<(), AllocError>
+    ensures { OnOk result (text.new.items ≡ text.old.items ++ damage_text file offset) }
+{
+    text.extend_from_slice(b"? damaged ")?;
+    print_number(u64::from(file), text)?;
+    text.extend_from_slice(b" at ")?;
+    print_number(offset, text)?;
+    text.extend_from_slice(b"\n")
+}
+
+/// The text of a refusal that has no number in it.
+fn fixed_text(refusal: Refusal) -> &'static [u8]
+    ensures { result.now ≡ fixed_text refusal }
+{
+    match refusal {
+        Refusal::BadLine => b"? bad line\n",
+        Refusal::NoSchema => b"? no schema\n",
+        Refusal::SchemaDiffers => b"? schema differs\n",
+        Refusal::WrongKey => b"? wrong key\n",
+        Refusal::UnknownColumn => b"? unknown column\n",
+        Refusal::TooLong => b"? too long\n",
+        Refusal::NoReader => b"? no reader\n",
+        Refusal::ReaderInUse => b"? reader in use\n",
+        Refusal::TooManyReaders => b"? too many readers\n",
+        Refusal::FlushInProgress => b"? flush in progress\n",
+        Refusal::NothingToFlush => b"? nothing to flush\n",
+        Refusal::NoFlush => b"? no flush\n",
+        Refusal::Full => b"? full\n",
+        Refusal::ReadFault => b"? read fault\n",
+        Refusal::WriteFault => b"? write fault\n",
+        Refusal::Damaged { file: _, offset: _ } => b"",
+        Refusal::NoNumber => b"? no number\n",
+    }
+}
+
+/// Appends the text of a refusal, or a part of it.
+fn print_refused(refusal: Refusal, text: &mut Vec<u8>) -> Result<(), AllocError>
+    ensures { OnOk result (text.new.items ≡ text.old.items ++ refusal_text refusal) }
+{
+    match refusal {
+        Refusal::Damaged { file, offset } => print_damage(file, offset, text),
+        other => text.extend_from_slice(fixed_text(other)),
+    }
+}
+
+/// Appends ` NAME=NUMBER`.
+#[tactic(auto, unfolding(crate::specs::Texts::figure_text))]
+fn print_figure(name: &[u8], value: u64, text: &mut Vec<u8>) -> Result<(), AllocError>
+    ensures { OnOk result (text.new.items ≡ text.old.items ++ figure_text name.now value) }
+{
+    text.extend_from_slice(name)?;
+    print_number(value, text)
+}
+
+/// Appends the figures of the memory.
+#[tactic(auto, unfolding(crate::specs::Texts::memory_text))]
+fn print_memory(figures: &Figures, text: &mut Vec<u8>) -> Result<(), AllocError>
+    ensures { OnOk result (text.new.items ≡ text.old.items ++ memory_text figures.now) }
+{
+    print_figure(b" segments=", figures.segments, text)?;
+    print_figure(b" free=", figures.free, text)?;
+    print_figure(b" objects=", figures.objects, text)?;
+    print_figure(b" live=", figures.live, text)
+}
+
+/// Appends the figures of what is cached.
+#[tactic(auto, unfolding(crate::specs::Texts::cached_text))]
+fn print_cached(figures: &Figures, text: &mut Vec<u8>) -> Result<(), AllocError>
+    ensures { OnOk result (text.new.items ≡ text.old.items ++ cached_text figures.now) }
+{
+    print_figure(b" partitions=", figures.partitions, text)?;
+    print_figure(b" rows=", figures.rows, text)?;
+    print_figure(b" dummies=", figures.dummies, text)?;
+    Ok(())
+}
+
+/// Appends the figures of how the cache served.
+#[tactic(auto, unfolding(crate::specs::Texts::served_text))]
+fn print_served(figures: &Figures, text: &mut Vec<u8>) -> Result<(), AllocError>
+    ensures { OnOk result (text.new.items ≡ text.old.items ++ served_text figures.now) }
+{
+    print_figure(b" hits=", figures.hits, text)?;
+    print_figure(b" misses=", figures.misses, text)?;
+    print_figure(b" evicted=", figures.evicted, text)
+}
+
+/// Appends the figures of what was done for it.
+#[tactic(auto, unfolding(crate::specs::Texts::done_text))]
+fn print_done(figures: &Figures, text: &mut Vec<u8>) -> Result<(), AllocError>
+    ensures { OnOk result (text.new.items ≡ text.old.items ++ done_text figures.now) }
+{
+    print_figure(b" moved=", figures.moved, text)?;
+    print_figure(b" skipped=", figures.skipped, text)?;
+    print_figure(b" asks=", figures.asks, text)
+}
+
+/// Appends the line of the figures.
+#[tactic(auto, unfolding(crate::specs::Texts::figures_text))]
+fn print_figures(figures: &Figures, text: &mut Vec<u8>) -> Result<(), AllocError>
+    ensures { OnOk result (text.new.items ≡ text.old.items ++ figures_text figures.now) }
+{
+    text.extend_from_slice(b"stats")?;
+    print_memory(figures, text)?;
+    print_cached(figures, text)?;
+    print_served(figures, text)?;
+    print_done(figures, text)?;
+    text.extend_from_slice(b"\n")
+}
+
 /// Appends the text of a reply, or a part of it.
 #[tactic(auto, unfolding(crate::specs::Texts::reply_text))]
-fn print_all(reply: &Reply, text: &mut Vec<u8>) -> Result<(), AllocError>
-    ensures { OnOk result (text.new.items ≡ text.old.items ++ reply_text reply.now) }
+fn print_all(schema: &Schema, reply: &Reply, text: &mut Vec<u8>) -> Result<(), AllocError>
+    ensures { OnOk result (text.new.items ≡ text.old.items ++ reply_text schema.now reply.now) }
 {
     match reply {
         Reply::Nothing => Ok(()),
         Reply::Fine => text.extend_from_slice(b"ok\n"),
-        Reply::Given { lines, more } => print_given(lines.as_slice(), *more, text),
-        Reply::Refused(refusal) => text.extend_from_slice(refusal_text(*refusal)),
+        Reply::Given { lines, more } => print_given(schema, lines.as_slice(), *more, text),
+        Reply::Going => text.extend_from_slice(b"going\n"),
+        Reply::Done => text.extend_from_slice(b"done\n"),
+        Reply::Stats(figures) => print_figures(figures, text),
+        Reply::Refused(refusal) => print_refused(*refusal, text),
     }
 }
 
-/// Appends the text of a reply: its lines, each with its newline. The only error is want of memory, and then nothing
-/// was appended.
-pub fn print_reply(alloc: Global, reply: &Reply, out: &mut Vec<u8>) -> Result<(), AllocError>
-    ensures ok { OnOk result (out.new.items ≡ out.old.items ++ reply_text reply.now) }
+/// Appends the text of a reply under the schema whose columns its lines name: its lines, each with its newline. The only
+/// error is want of memory, and then nothing was appended.
+pub fn print_reply(
+    alloc: Global,
+    schema: &Schema,
+    reply: &Reply,
+    out: &mut Vec<u8>,
+) -> Result<(), AllocError>
+    ensures ok { OnOk result (out.new.items ≡ out.old.items ++ reply_text schema.now reply.now) }
     ensures err { OnErr result (out.new.items ≡ out.old.items) }
 {
     let mut text = Vec::new(alloc);
-    print_all(reply, &mut text)?;
+    print_all(schema, reply, &mut text)?;
+    out.extend_from_slice(text.as_slice())
+}
+
+/// Appends the text of a refusal, with its newline, for replies before a schema was taken. The only error is want of memory,
+/// and then nothing was appended.
+pub fn print_refusal(alloc: Global, refusal: Refusal, out: &mut Vec<u8>) -> Result<(), AllocError>
+    ensures ok { OnOk result (out.new.items ≡ out.old.items ++ refusal_text refusal) }
+    ensures err { OnErr result (out.new.items ≡ out.old.items) }
+{
+    let mut text = Vec::new(alloc);
+    print_refused(refusal, &mut text)?;
     out.extend_from_slice(text.as_slice())
 }

@@ -1,27 +1,22 @@
 //! What a line commands.
 
-ghost use Rattle.std.specs.Prelude.{◌≡◌, IfOk, map};
-ghost use Rattle.rc_lines.specs.Words.{words};
-ghost use Rattle.rc_lines.specs.Grammar.{is_word, is_comment, open_of, read_of, short_command_of, long_command_of, command_of, parse, Reads};
+ghost use Rattle.std.specs.Prelude.{◌≡◌, IfOk};
+ghost use Rattle.std.specs.Option.{option_copied};
+ghost use Rattle.rc_lines.specs.Grammar.{is_comment, schema_said, shape_meaning, said, parse, Reads};
+ghost use Rattle.rc_lines.specs.Shapes.{shape_of};
+ghost use Rattle.rc_spelling.specs.Words.{words};
 
 use crate::commands::{Command, LineErr, Refusal};
-use crate::parts::{count, plain};
-use crate::words::words;
-use crate::writes::insert;
-use rc_position::PartKey;
+use crate::grammar::shape;
+use crate::meaning::meaning;
+use crate::parts::behind;
+use crate::shapes::Shape;
+use rc_schema::{Schema, SchemaTextErr};
+use rc_spelling::words;
 use std::alloc::{AllocError, Global};
 
 /// The longest line, in bytes, without its newline.
 pub const LONGEST_LINE: usize = 65_536;
-
-const SCHEMA: &[u8] = b"schema ck=int static=s cols=a,b";
-
-/// Whether two words are the same bytes.
-fn is_word(word: &[u8], text: &[u8]) -> bool
-    ensures { result ≡ is_word word.now text.now }
-{
-    word == text
-}
 
 /// Whether the line is empty or a comment.
 fn is_comment(line: &[u8]) -> bool
@@ -33,95 +28,68 @@ fn is_comment(line: &[u8]) -> bool
     }
 }
 
-/// `open ID KEY`.
-#[tactic(auto, unfolding(crate::specs::Grammar::open_of))]
-fn open(alloc: Global, id: &[u8], key: &[u8]) -> Result<Option<Command>, AllocError>
-    ensures { IfOk result (λ found. found ≡ open_of id.now key.now) }
+/// The schema of a schema line.
+#[tactic(auto, unfolding(crate::specs::Grammar::schema_said))]
+fn schema_said(alloc: Global, line: &[u8]) -> Result<Option<Schema>, AllocError>
+    ensures { IfOk result (λ found. found ≡ schema_said line.now) }
 {
-    let Some(id) = count(id, 64) else {
+    let Some(text) = behind(b"schema ", line) else {
         return Ok(None);
     };
-    let Some(key) = plain(key, 1, 64) else {
-        return Ok(None);
+    match Schema::read(alloc, text) {
+        Ok(schema) => Ok(Some(schema)),
+        Err(SchemaTextErr::Malformed) => Ok(None),
+        Err(SchemaTextErr::NoMemory) => Err(AllocError),
+    }
+}
+
+/// What a line of a shape, or of none, commands.
+fn shape_meaning(
+    alloc: Global,
+    taken: Option<&Schema>,
+    shape: Option<Shape>,
+) -> Result<Result<Command, Refusal>, AllocError>
+    ensures { IfOk result (λ m. m ≡ shape_meaning (option_copied taken.entry) shape) }
+{
+    let Some(shape) = shape else {
+        return Ok(Err(Refusal::BadLine));
     };
-    let key = PartKey::from_slice(alloc, key)?;
-    Ok(Some(Command::OpenRead { id, key }))
+    let Some(schema) = taken else {
+        return Ok(Err(Refusal::NoSchema));
+    };
+    meaning(alloc, schema, shape)
 }
 
-/// `read ID COUNT`.
-#[tactic(auto, unfolding(crate::specs::Grammar::read_of))]
-fn read(id: &[u8], lines: &[u8]) -> Option<Command>
-    ensures { result ≡ read_of id.now lines.now }
-{
-    let id = count(id, u32::MAX)?;
-    let count = count(lines, u32::MAX)?;
-    Some(Command::Read { id, count })
-}
-
-/// A line of three words.
-#[tactic(auto, unfolding(crate::specs::Grammar::short_command_of))]
-fn short_command(
-    alloc: Global,
-    name: &[u8],
-    one: &[u8],
-    other: &[u8],
-) -> Result<Option<Command>, AllocError>
-    ensures { IfOk result (λ found. found ≡ short_command_of name.now one.now other.now) }
-{
-    if is_word(name, b"open") {
-        return open(alloc, one, other);
-    }
-    if is_word(name, b"read") {
-        return Ok(read(one, other));
-    }
-    Ok(None)
-}
-
-/// A line of four words and more.
-#[tactic(auto, unfolding(crate::specs::Grammar::long_command_of))]
-fn long_command(
-    alloc: Global,
-    name: &[u8],
-    key: &[u8],
-    ck: &[u8],
-    when: &[u8],
-    sets: &[&[u8]],
-) -> Result<Option<Command>, AllocError>
-    ensures { IfOk result (λ found. found ≡ long_command_of name.now key.now ck.now when.now (map (λ word. word.now) sets.now)) }
-{
-    if is_word(name, b"insert") {
-        return insert(alloc, key, ck, when, sets);
-    }
-    Ok(None)
-}
-
-/// What the words command.
-fn command(alloc: Global, words: &[&[u8]]) -> Result<Option<Command>, AllocError>
-    ensures { IfOk result (λ found. found ≡ command_of (map (λ word. word.now) words.now)) }
-{
-    match words {
-        [] => Ok(None),
-        [_name] => Ok(None),
-        [_name, _one] => Ok(None),
-        [name, one, other] => short_command(alloc, name, one, other),
-        [name, key, ck, when, sets @ ..] => long_command(alloc, name, key, ck, when, sets),
-    }
-}
-
-/// What a line behind the schema line commands.
-fn worded(alloc: Global, line: &[u8]) -> Result<Option<Command>, AllocError>
-    ensures { IfOk result (λ found. found ≡ command_of (words line.now)) }
+/// What the words of a line say before a schema is known.
+fn shape_of(alloc: Global, line: &[u8]) -> Result<Option<Shape>, AllocError>
+    ensures { IfOk result (λ found. found ≡ shape_of (words line.now)) }
 {
     let found = words(alloc, line)?;
-    command(alloc, found.as_slice())
+    shape(alloc, found.as_slice())
 }
 
-/// What a line commands, given without its newline, where a schema line was taken before it or was not. The line is
-/// refused as a bad line exactly where it is not in the grammar or has more than 65,536 bytes. The only other error is
-/// want of memory.
+/// What a line commands that is neither too long nor a comment.
+fn said(
+    alloc: Global,
+    taken: Option<&Schema>,
+    line: &[u8],
+) -> Result<Result<Command, Refusal>, AllocError>
+    ensures { IfOk result (λ m. m ≡ said (option_copied taken.entry) line.now (schema_said line.now)) }
+{
+    if let Some(schema) = schema_said(alloc, line)? {
+        return Ok(Ok(Command::SetSchema(schema)));
+    }
+    let shape = shape_of(alloc, line)?;
+    shape_meaning(alloc, taken, shape)
+}
+
+/// What a line without its newline commands, under the schema that a schema line before it gave, or under none. The line is
+/// refused as a bad line exactly where it is not in the grammar or has more than 65,536 bytes; else, where no schema was
+/// taken, as wanting one; else, tried over the whole line in this order, for a wrong key, an unknown column, or a length past
+/// its limit. A schema line, an empty line and a comment need no schema. The only other error is want of memory.
 #[tactic(auto, unfolding(crate::specs::Grammar::parse))]
-pub fn read_line(alloc: Global, taken: bool, line: &[u8]) -> Result<Command, LineErr>
-    ensures { Reads result (parse taken line.now) }
+pub fn read_line(alloc: Global, schema: Option<&Schema>, line: &[u8]) -> Result<Command, LineErr>
+    ensures { Reads result (parse (option_copied schema.entry) line.now) }
 {
     if line.len() > LONGEST_LINE {
         return Err(LineErr::Refused(Refusal::BadLine));
@@ -129,15 +97,9 @@ pub fn read_line(alloc: Global, taken: bool, line: &[u8]) -> Result<Command, Lin
     if is_comment(line) {
         return Ok(Command::Nothing);
     }
-    if is_word(line, SCHEMA) {
-        return Ok(Command::SetSchema);
-    }
-    if !taken {
-        return Err(LineErr::Refused(Refusal::BadLine));
-    }
-    match worded(alloc, line) {
-        Ok(Some(command)) => Ok(command),
-        Ok(None) => Err(LineErr::Refused(Refusal::BadLine)),
+    match said(alloc, schema, line) {
+        Ok(Ok(command)) => Ok(command),
+        Ok(Err(refusal)) => Err(LineErr::Refused(refusal)),
         Err(_) => Err(LineErr::NoMemory),
     }
 }

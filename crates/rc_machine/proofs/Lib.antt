@@ -1,2 +1,4 @@
 pub mod Places
-pub mod Changes
+pub mod Numbers
+pub mod Keyed
+pub mod Fixed

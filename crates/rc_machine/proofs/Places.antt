@@ -3,9 +3,10 @@ use Rattle.std.proofs.Common.{◌≡◌, ◌==◌, ℕ, suc, ◌+◌, ◌<◌, �
 use Rattle.std.specs.List.{position, position_or_len}
 use Rattle.std.specs.Map.{lookup, set_value}
 use Rattle.std.proofs.lemmas.Bool.Decides.{nat_tests}
+use Rattle.rc_schema.specs.Lists.{Lists}
 use Rattle.rc_query.specs.declared.lines.OutLine.{OutLine}
 use Rattle.rc_mutation.specs.declared.mutations.Write.{Write}
-use Rattle.rc_machine.specs.Machine.{State, rest_of}
+use Rattle.rc_machine.specs.Machine.{State, rest_of, most_readers}
 
 abbrev pub Readers : Type 0
 Readers = List (ℕ × List OutLine)
@@ -76,8 +77,8 @@ place_none readers id e =
     let past : length readers ≤ place id readers = grind (arith, nat_tests, p) in
     nothing id readers past
 
-pub same_state : {t t' : Bool} {l l' : List Write} {r r' : Readers} → t ≡ t' → l ≡ l' → r ≡ r' → ◌≡◌ {A = State} (record { taken = t; log = l; readers = r }) (record { taken = t'; log = l'; readers = r' })
-same_state e f g = λ i. record { taken = e i; log = f i; readers = g i }
+pub same_state : {s s' : Option Lists} {l l' : List Write} {r r' : Readers} → s ≡ s' → l ≡ l' → r ≡ r' → ◌≡◌ {A = State} (record { schema = s; log = l; readers = r }) (record { schema = s'; log = l'; readers = r' })
+same_state e f g = λ i. record { schema = e i; log = f i; readers = g i }
 
 -- what stands at the place is the rest of the reader
 pub rest_at : (m : State) (id at : ℕ) (d : ℕ × List OutLine) → IsPlaceOf m.readers id at → get_or m.readers at d ≡ d → rest_of id m ≡ Some d.1
@@ -95,3 +96,10 @@ open_some readers id (Some at) e some = let p = place_some readers id at (sym e)
 pub open_none : (readers : Readers) (id : ℕ) (r : Option ℕ) → r ≡ position (λ reader. reader.0 == id) readers → false ≡ is_some r → lookup (λ k. k == id) readers ≡ None
 open_none readers id None e none = place_none readers id (sym e)
 open_none readers id (Some at) e none = absurd (cc)
+
+-- whether as many readers are open as may be
+pub fewer : (n : ℕ) → n < most_readers → nat_lt n most_readers ≡ true
+fewer n h = grind (arith, nat_tests, h)
+
+pub as_many : (n : ℕ) → most_readers ≤ n → nat_lt n most_readers ≡ false
+as_many n h = grind (arith, nat_tests, h)

@@ -1,43 +1,52 @@
 //! The answer that a reader is given when it is opened.
 
-ghost use Rattle.std.specs.Prelude.{◌≡◌, IfOk};
+ghost use Rattle.std.specs.Prelude.{◌≡◌, ◌<◌, [], ◌∷◌, length, IfOk};
+ghost use Rattle.std.specs.List.{All};
 ghost use Rattle.rc_mutation.specs.Source.{IsJoinOf};
-ghost use Rattle.rc_query.specs.Answer.{answer, whole};
-ghost use Rattle.rc_machine.specs.Machine.{changes_of};
+ghost use Rattle.rc_query.specs.Answer.{answer};
+ghost use Rattle.rc_machine.specs.Index.{changes_at};
 
 use rc_mutation::{Mutation, Write};
-use rc_position::{Key, PartKey, Slice, end_pos, start_pos};
+use rc_position::Slice;
 use rc_query::{Lines, answer_of};
 use std::alloc::{AllocError, Global};
 
-/// The lines of a partition's answer, picked from all accepted writes.
-pub(crate) fn answer_now(alloc: Global, log: &[Write], key: &PartKey) -> Result<Lines, AllocError>
-    ensures { IfOk result (λ lines. lines ≡ answer (changes_of key.now log.now) whole) }
+/// The lines of the answer to the writes with these numbers in a slice.
+pub(crate) fn answer_at(
+    alloc: Global,
+    log: &[Write],
+    numbers: &[usize],
+    slice: &Slice,
+) -> Result<Lines, AllocError>
+    requires { All (λ n. n < length log.now) numbers.now }
+    ensures { IfOk result (λ lines. lines ≡ answer (changes_at log.now numbers.now) slice.now) }
 {
-    let change = joined_changes(alloc, log, key)?;
-    let slice = whole_slice(alloc)?;
-    answer_of(alloc, &change, &slice)
+    let change = joined(alloc, log, numbers)?;
+    answer_of(alloc, &change, slice)
 }
 
-/// The slice of all rows.
-fn whole_slice(alloc: Global) -> Result<Slice, AllocError>
-    ensures { IfOk result (λ slice. slice ≡ whole) }
+/// What the writes with these numbers join to: those of each half by themselves, and then both.
+fn joined(alloc: Global, log: &[Write], numbers: &[usize]) -> Result<Mutation, AllocError>
+    requires { All (λ n. n < length log.now) numbers.now }
+    ensures { IfOk result (λ change. IsJoinOf change (changes_at log.now numbers.now)) }
 {
-    let none = Key::empty(alloc);
-    let from = start_pos(alloc, &none, true)?;
-    let to = end_pos(alloc, &none, true)?;
-    Ok(Slice { from, to })
-}
-
-/// What the accepted writes to a partition join to.
-fn joined_changes(alloc: Global, log: &[Write], key: &PartKey) -> Result<Mutation, AllocError>
-    ensures { IfOk result (λ change. IsJoinOf change (changes_of key.now log.now)) }
-{
-    let mut joined = Mutation::empty(alloc);
-    for write in log {
-        if write.key == *key {
-            joined.join(alloc, &write.change)?;
+    match numbers {
+        [] => Ok(Mutation::empty(alloc)),
+        [number] => copied(alloc, &log[*number].change),
+        _ => {
+            let half = numbers.len() / 2;
+            let mut first = joined(alloc, log, &numbers[..half])?;
+            let rest = joined(alloc, log, &numbers[half..])?;
+            first.join(alloc, &rest)?;
+            Ok(first)
         }
     }
-    Ok(joined)
+}
+
+/// A copy of one change, which is what it joins to by itself.
+fn copied(alloc: Global, change: &Mutation) -> Result<Mutation, AllocError>
+    ensures { IfOk result (λ copy. IsJoinOf copy (change.now ∷ [])) }
+{
+    change.holds_together();
+    change.copy(alloc)
 }

@@ -2,7 +2,12 @@
 #![tactic(auto)]
 
 mod answers;
+mod index;
+mod laws;
 mod machine;
 mod readers;
+#[cfg(test)]
+mod tests;
 
+pub use laws::{closed_readers_are_gone, readers_are_fixed};
 pub use machine::Machine;

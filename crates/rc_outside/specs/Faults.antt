@@ -1,5 +1,8 @@
 -- Counts of calls and of faults, kept in 64 bits.
-use Rattle.std.specs.Prelude.{ℕ, ◌+◌, ◌-◌, ◌^◌, ◌≤◌, min}
+use Rattle.std.specs.Prelude.{ℕ, ◌+◌, ◌-◌, ◌^◌, ◌≤◌, min, ⊤, Result, IfErr, OnErr}
+use Rattle.rc_outside.specs.declared.sources.Failed.{Failed}
+use Rattle.rc_outside.specs.declared.stores.StoreErr.{StoreErr}
+use Rattle.rc_outside.specs.declared.stores.StoreErr.TheVariants.{Fault, NoMemory}
 
 -- one more than the count, which stays at its end, 2^64 - 1
 abbrev pub raised : ℕ → ℕ
@@ -12,3 +15,16 @@ Rose before now = raised before ≤ now
 -- the count of faults of an end that never fails
 abbrev pub no_faults : ℕ
 no_faults = 0
+
+-- the count of faults does not fall, and rose where the call failed
+abbrev pub RisesIfFailed : {T : Type 0} → Result T Failed → (before now : ℕ) → Type 0
+RisesIfFailed result before now = (before ≤ now) × OnErr result (Rose before now)
+
+-- so much holds of an error that is a fault
+abbrev pub OnFault : StoreErr → Type 0 → Type 0
+OnFault Fault P = P
+OnFault NoMemory _ = ⊤
+
+-- the count of faults does not fall, and rose where the call answers a fault
+abbrev pub RisesIfFault : {T : Type 0} → Result T StoreErr → (before now : ℕ) → Type 0
+RisesIfFault result before now = (before ≤ now) × IfErr result (λ e. OnFault e (Rose before now))

@@ -1,3 +1,6 @@
+pub mod Failures
 pub mod Faults
+pub mod Files
 pub mod Pushed
 pub mod States
+pub mod TableNames

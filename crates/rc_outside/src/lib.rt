@@ -5,23 +5,34 @@
 //! above can name them.
 //!
 //! Three kinds of ends have these traits: those in memory, whose calls fail where their maker lists them; sure ones,
-//! which never fail; and standard input and standard output, the trusted edge.
+//! which never fail; and the trusted edge: standard input, standard output and the folder of table files.
 #![tactic(auto)]
 
+mod calls;
 mod counts;
+mod files;
+mod folder;
+mod mem_store;
 mod memory;
 mod sinks;
 mod sources;
 mod standard;
 mod stores;
 mod sure;
+mod sure_store;
 
+pub use calls::StoreCall;
+pub use folder::FolderStore;
+pub use mem_store::MemStore;
 pub use memory::{MemSink, MemSource};
 pub use sinks::{Sink, SinkErr};
 pub use sources::{Failed, Source};
 pub use standard::{StdSink, StdSource};
-pub use stores::Store;
-pub use sure::{SureSink, SureSource, SureStore};
+pub use stores::{Store, StoreErr};
+pub use sure::{SureSink, SureSource};
+pub use sure_store::SureStore;
 
+#[cfg(test)]
+mod store_tests;
 #[cfg(test)]
 mod tests;

@@ -5,7 +5,6 @@ ghost use Rattle.rc_outside.specs.Faults.{Rose, no_faults};
 
 use super::sinks::{Sink, SinkErr};
 use super::sources::{Failed, Source};
-use super::stores::Store;
 use std::alloc::{AllocError, Global};
 use std::marker::Model;
 
@@ -114,38 +113,5 @@ impl Sink for SureSink {
         self.written
             .extend_from_slice(piece)
             .map_err(|_| SinkErr::NoMemory)
-    }
-}
-
-/// A store that never fails.
-#[derive(Drop)]
-pub struct SureStore {
-    asks: u64,
-}
-
-impl Model for SureStore {
-    ghost use Rattle.rc_outside.specs.States.{StoreState};
-
-    ghost Value = { StoreState };
-
-    ghost view = { λ s. record { asks = s.asks } };
-}
-
-impl SureStore {
-    /// A store with no files, of which nothing was asked. `AllocError` when memory is refused.
-    pub fn new(_alloc: Global) -> Result<SureStore, AllocError>
-        ensures { IfOk result (λ s. s.asks ≡ 0) }
-    {
-        Ok(SureStore { asks: 0 })
-    }
-}
-
-impl Store for SureStore {
-    ghost faults = { λ _. no_faults };
-
-    ghost asks = { λ s. s.asks };
-
-    fn asks(&self) -> u64 {
-        self.asks
     }
 }

@@ -2,8 +2,7 @@
 ghost use Rattle.std.specs.Prelude.{◌≤◌, ◌<◌};
 
 use super::{
-    Failed, MemSink, MemSource, Sink, SinkErr, Source, StdSink, StdSource, Store, SureSink,
-    SureSource, SureStore,
+    Failed, MemSink, MemSource, Sink, SinkErr, Source, StdSink, StdSource, SureSink, SureSource,
 };
 use std::alloc::{AllocError, Global};
 use std::test::Fail;
@@ -36,10 +35,6 @@ fn answer<S: Sink>(sink: &mut S, piece: &[u8]) -> u8 {
         Err(SinkErr::Failed) => b'!',
         Err(SinkErr::NoMemory) => b'm',
     }
-}
-
-fn asked<S: Store>(store: &S) -> u64 {
-    store.asks()
 }
 
 #[test]
@@ -76,12 +71,6 @@ fn sinks_keep_what_is_pushed(rt: HostRuntime) -> Result<(), Fail> {
     let mut sink = SureSink::new(rt.alloc())?;
     assert_eq!(rt; answers(&mut sink).as_slice(), b"kkk".as_slice());
     assert_eq!(rt; sink.bytes(), b"abcd".as_slice());
-    Ok(())
-}
-
-#[test]
-fn a_new_store_was_asked_for_nothing(rt: HostRuntime) -> Result<(), Fail> {
-    assert_eq!(rt; asked(&SureStore::new(rt.alloc())?), 0);
     Ok(())
 }
 

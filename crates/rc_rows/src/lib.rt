@@ -2,6 +2,10 @@
 #![tactic(auto)]
 
 #[cfg(test)]
+mod mutations;
+#[cfg(test)]
+mod served;
+#[cfg(test)]
 mod slow;
 #[cfg(test)]
 mod tests;

@@ -1,36 +1,18 @@
 //! Scripts whose replies were worked out by hand from the rules.
 
+use crate::served::{served, words_of};
 use crate::slow::OneByte;
 use rc_outside::{MemSink, MemSource, SureSink, SureSource, SureStore};
 use rc_shell::{Status, run, run_with};
 use std::alloc::{AllocError, Global};
 use std::test::Fail;
 
-/// The words of a run.
-fn words_of(alloc: Global, words: &[&str]) -> Result<Vec<String>, AllocError> {
-    let mut made = Vec::new(alloc);
-    for word in words {
-        made.push(String::from_str(alloc, word)?)?;
-    }
-    Ok(made)
-}
-
-/// What a run writes for a script, and how it ends.
-fn served(alloc: Global, words: &[&str], script: &str) -> Result<(Status, Vec<u8>), AllocError> {
-    let words = words_of(alloc, words)?;
-    let mut store = SureStore::new(alloc)?;
-    let mut input = SureSource::new(Vec::from_slice(alloc, script.as_bytes())?);
-    let mut out = SureSink::new(alloc)?;
-    let status = run(alloc, words.as_slice(), &mut store, &mut input, &mut out);
-    Ok((status, Vec::from_slice(alloc, out.bytes())?))
-}
-
 #[test]
 fn scripts(rt: HostRuntime) -> Result<(), Fail> {
     for (script, replies) in [
         ("", ""),
         ("schema ck=int static=s cols=a,b", "ok\n"),
-        ("insert p 1 ts=10 a=5\n", "? bad line\n"),
+        ("insert p 1 ts=10 a=5\n", "? no schema\n"),
         ("# a comment\n\nschema ck=int static=s cols=a,b\n", "ok\n"),
         (
             "schema ck=int static=s cols=a,b\ninsert p 1 ts=10 a=5\nopen 1 p\nread 1 9\n",

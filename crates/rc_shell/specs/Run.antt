@@ -12,12 +12,15 @@ abbrev pub concat : List (List ℕ) → List ℕ
 concat [] = []
 concat (piece ∷ pieces) = piece ++ concat pieces
 
+-- the last line where the words are refused
 abbrev pub bad_words : List ℕ
 bad_words = codes "! bad words\n"
 
+-- the last line where the input failed
 abbrev pub input_fault : List ℕ
 input_fault = codes "! input fault\n"
 
+-- the last line where the limit of the input was met
 abbrev pub input_limit : List ℕ
 input_limit = codes "! input limit\n"
 

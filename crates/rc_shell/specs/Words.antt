@@ -1,6 +1,6 @@
 -- The words behind the program's name.
 use Rattle.std.specs.Prelude.{ℕ, Bool, false, List, [], ◌∷◌, codes}
-use Rattle.rc_lines.specs.Grammar.{is_word}
+use Rattle.rc_lines.specs.Parts.{is_word}
 
 -- whether they are those of a run: the word `run` alone
 abbrev pub are_run : List (List ℕ) → Bool

@@ -2,10 +2,12 @@
 
 ghost use Rattle.std.specs.Prelude.{◌≡◌, ℕ, List, ◌++◌, OnOk};
 ghost use Rattle.rc_shell.specs.Feed.{kept};
-ghost use Rattle.rc_shell.specs.Step.{LineStep};
+ghost use Rattle.std.specs.Option.{option_copied};
+ghost use Rattle.rc_shell.specs.Step.{LineStep, early_text, text_under};
 
-use rc_lines::{LineErr, Reply, print_reply, read_line};
+use rc_lines::{LineErr, Reply, print_refusal, print_reply, read_line};
 use rc_machine::Machine;
+use rc_schema::Schema;
 use std::alloc::{AllocError, Global};
 
 /// Something that answers lines, one after another.
@@ -29,13 +31,38 @@ impl Server for Machine {
     ghost front_decides = { front_decides };
 
     fn answer(&mut self, alloc: Global, line: &[u8], text: &mut Vec<u8>) -> Result<(), AllocError> {
-        match read_line(alloc, self.is_taken(), line) {
+        match read_line(alloc, self.schema(), line) {
             Ok(command) => {
                 let reply = self.serve(alloc, command)?;
-                print_reply(alloc, &reply, text)
+                print_under(alloc, self.schema(), &reply, text)
             }
-            Err(LineErr::Refused(refusal)) => print_reply(alloc, &Reply::Refused(refusal), text),
+            Err(LineErr::Refused(refusal)) => print_refusal(alloc, refusal, text),
             Err(LineErr::NoMemory) => Err(AllocError),
         }
+    }
+}
+
+/// Appends the text of a reply under the schema that was taken; before that only a refusal has one.
+fn print_under(
+    alloc: Global,
+    schema: Option<&Schema>,
+    reply: &Reply,
+    text: &mut Vec<u8>,
+) -> Result<(), AllocError>
+    ensures { OnOk result (text.new.items ≡ text.old.items ++ text_under (option_copied schema.entry) reply.now) }
+{
+    match schema {
+        Some(schema) => print_reply(alloc, schema, reply, text),
+        None => print_early(alloc, reply, text),
+    }
+}
+
+/// Appends the text of a reply before a schema line is taken.
+fn print_early(alloc: Global, reply: &Reply, text: &mut Vec<u8>) -> Result<(), AllocError>
+    ensures { OnOk result (text.new.items ≡ text.old.items ++ early_text reply.now) }
+{
+    match reply {
+        Reply::Refused(refusal) => print_refusal(alloc, *refusal, text),
+        _ => Ok(()),
     }
 }

@@ -3,14 +3,19 @@
 ghost use Rattle.std.specs.declared.cmp.Ordering.TheVariants.{Less};
 ghost use Rattle.std.specs.Prelude.{◌≡◌, ◌≢◌, ◌++◌, ◌∷◌, List, Option, None, Some, cond, ◌⊎◌};
 ghost use Rattle.rc_cell.specs.declared.rows.Row.{Row};
+ghost use Rattle.rc_cell.specs.Greatest.{greater};
+ghost use Rattle.rc_cell.specs.Orders.{tomb_cmp};
+ghost use Rattle.rc_cell.specs.Winner.{greatest};
+ghost use Rattle.rc_core.specs.Continuity.{partition_tombs, with_entries};
+ghost use Rattle.rc_core.specs.Steps.{join_pt};
 ghost use Rattle.rc_cell.specs.declared.writes.Tomb.{Tomb};
 ghost use Rattle.rc_position.specs.declared.positions.Pos.{Pos};
 ghost use Rattle.rc_position.specs.Position.{IsBefore, covers};
 ghost use Rattle.rc_core.specs.declared.entries.Entry.{Entry};
 ghost use Rattle.rc_core.specs.declared.entries.Flag.TheVariants.{Known};
 ghost use Rattle.rc_core.specs.declared.entries.Mark.{Mark};
-ghost use Rattle.rc_core.specs.Version.{Ascend, Behind, EndsWithDummy, IsBeforeEnd, On, Spot, end_position, found, seen, spot_cmp};
-ghost use Rattle.rc_core.specs.Change.{change, drop_at, fill_gap, fill_row, join_range, join_row_at, joined_onto, known_with, lose_last_gap, lost_mark, mark, position_of, raised, split};
+ghost use Rattle.rc_core.specs.Version.{Ascend, Behind, EndsWithDummy, IsBeforeEnd, IsVersion, On, Spot, Version, cell_at, end_position, found, seen, spot_cmp, static_cell};
+ghost use Rattle.rc_core.specs.Change.{change, drop_at, fill_gap, fill_row, join_range, join_row_at, joined_onto, known_with, lose_last_gap, lost_mark, mark, position_of, raised, split, take_out};
 
 /// The entries of a version reach every position, and every gap behind a position before the end.
 pub fn every_spot_is_reached()
@@ -67,6 +72,37 @@ pub fn a_dropped_entry_is_same_or_lost()
         IsBeforeEnd s front → seen s (drop_at e.position (front ++ e ∷ next ∷ back)) ≡ seen s (front ++ e ∷ next ∷ back) }
     ensures behind { (s : Spot) (front : List Entry) (e next : Entry) (back : List Entry) → Ascend (front ++ e ∷ next ∷ back) →
         spot_cmp s next.position ≢ Less → seen s (drop_at e.position (front ++ e ∷ next ∷ back)) ≡ seen s (front ++ e ∷ next ∷ back) }
+{}
+
+/// Where an entry before the end is taken out, and the gap before the next one gets a mark, exactly the spots from the entry before it on
+/// up to the next one, both not included, have this mark and no row.
+pub fn a_taken_out_entry_leaves_the_mark()
+    ensures between { (m : Mark) (s : Spot) (front : List Entry) (e next : Entry) (back : List Entry) → Ascend (front ++ e ∷ next ∷ back) →
+        (IsBeforeEnd s front → ⊥) → spot_cmp s next.position ≡ Less →
+        seen s (take_out m e.position (front ++ e ∷ next ∷ back)) ≡ found m None }
+    ensures before { (m : Mark) (s : Spot) (front : List Entry) (e next : Entry) (back : List Entry) → Ascend (front ++ e ∷ next ∷ back) →
+        IsBeforeEnd s front → seen s (take_out m e.position (front ++ e ∷ next ∷ back)) ≡ seen s (front ++ e ∷ next ∷ back) }
+    ensures behind { (m : Mark) (s : Spot) (front : List Entry) (e next : Entry) (back : List Entry) → Ascend (front ++ e ∷ next ∷ back) →
+        spot_cmp s next.position ≢ Less → seen s (take_out m e.position (front ++ e ∷ next ∷ back)) ≡ seen s (front ++ e ∷ next ∷ back) }
+{}
+
+/// Each change of a version's entries leaves those of a version: they ascend, and the last one is the end dummy. A row stands before the end.
+pub fn each_change_leaves_a_version()
+    ensures stretch { (f : Mark → Mark) (from to : Pos) (v : Version) → IsVersion v → IsVersion (with_entries (change f from to v.entries) v) }
+    ensures split { (x : Pos) (v : Version) → IsVersion v → IsVersion (with_entries (split x v.entries) v) }
+    ensures joined { (x : Pos) (row : Row) (v : Version) → IsBefore x end_position → IsVersion v → IsVersion (with_entries (join_row_at x row v.entries) v) }
+    ensures filled { (x : Pos) (row : Row) (tomb : Option Tomb) (v : Version) → IsBefore x end_position → IsVersion v →
+        IsVersion (with_entries (fill_row x row tomb v.entries) v) }
+    ensures taken_out { (m : Mark) (x : Pos) (v : Version) → IsBefore x end_position → IsVersion v → IsVersion (with_entries (take_out m x v.entries) v) }
+    ensures end_dummy { (v : Version) → IsVersion v → IsVersion (with_entries (lose_last_gap v.entries) v) }
+{}
+
+/// A joined partition tombstone raises that of each newer version, and changes nothing that is said elsewhere.
+pub fn a_joined_partition_tombstone_raises_the_head()
+    ensures head { (older newer : List Version) (v : Version) (tomb : Tomb) →
+        greatest tomb_cmp (partition_tombs (older ++ join_pt tomb v ∷ newer)) ≡ greater tomb_cmp (greatest tomb_cmp (partition_tombs (older ++ v ∷ newer))) (Some tomb) }
+    ensures elsewhere { (v : Version) (tomb : Tomb) (s : Spot) → cell_at s (join_pt tomb v) ≡ cell_at s v }
+    ensures statics { (v : Version) (tomb : Tomb) → static_cell (join_pt tomb v) ≡ static_cell v }
 {}
 
 /// Where the gap before the end dummy is lost, each spot is as before, or it is Unknown with nothing held there.

@@ -1,7 +1,7 @@
 use Rattle.std.proofs.Common.{◌≡◌, ◌++◌, take}
 use Rattle.std.specs.List.{flat_map}
-use Rattle.rc_lines.specs.Texts.{value_text, column_name}
+use Rattle.rc_lines.specs.Texts.{value_text}
 use Rattle.rc_lines.proofs.printing.print_values.Given as goal
 
 abbrev pub invariant-loop-column : goal.invariant-loop-column
-invariant-loop-column l = l.text.items ≡ l.initial.text.items ++ flat_map (value_text column_name) (take l.column-index l.shown)
+invariant-loop-column l = l.text.items ≡ l.initial.text.items ++ flat_map (value_text l.names) (take l.column-index l.shown)

@@ -11,11 +11,11 @@ use Rattle.lsa_region.proofs.region.Region.drop_root.Goals as goal
 pub invariant_of-self : goal.invariant_of-self
 invariant_of-self g c =
     let i = c.self.inside in let roots = i.links.roots.items in
-    let v : View = record { bodies = i.store.bodies; table = i.links.table.items; roots = roots; usages = i.store.usages; epoch = i.epoch; moved = i.moved; compacted = i.compacted } in
+    let v : View = record { bodies = i.store.bodies; spots = i.store.spots; table = i.links.table.items; roots = roots; usages = i.store.usages; epoch = i.epoch; moved = i.moved; compacted = i.compacted } in
     let n = c.args.r.number in let new = set roots n None in
-    let w : View = record { bodies = i.store.bodies; table = i.links.table.items; roots = new; usages = i.store.usages; epoch = i.epoch; moved = i.moved; compacted = i.compacted } in
+    let w : View = record { bodies = i.store.bodies; spots = i.store.spots; table = i.links.table.items; roots = new; usages = i.store.usages; epoch = i.epoch; moved = i.moved; compacted = i.compacted } in
     let has = subst (λ (u : View). IsEnd u (Slot c.args.r)) (sym c.self.view_is) c.requires.there in
-    region-root v w n c.self.invariant refl refl (subst (λ (u : View). link_of u (Slot c.args.r) ≡ None) (sym c.self.view_is) c.requires.unset)
+    region-root v w n c.self.invariant refl refl refl (subst (λ (u : View). link_of u (Slot c.args.r) ≡ None) (sym c.self.view_is) c.requires.unset)
     (ap joined (get_or-set_same roots n None None (there roots n has.0 has.1))) (λ m ne. get_or-set_other roots n m None None ne)
 
 pub returns-clause-well : goal.returns-clause-well

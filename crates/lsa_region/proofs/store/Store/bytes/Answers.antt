@@ -2,8 +2,15 @@ use Rattle.std.proofs.Common.{◌≡◌, length, get_or, Some, None, sym, ap, �
 use Rattle.std.specs.Prelude.{IsSome, IsSomeAnd}
 use Rattle.lsa_segment.specs.Bytes.{part}
 use Rattle.lsa_region.specs.Layout.{segment_at, Stored}
-use Rattle.lsa_region.proofs.Sets.{body-within, body-there, place-there, segment-there}
+use Rattle.lsa_region.proofs.Sets.{within, body-within, body-there, place-there, segment-there}
 use Rattle.lsa_region.proofs.store.Store.bytes.Goals as goal
+
+pub index-requires-in-Some : goal.index-requires-in-Some
+index-requires-in-Some g c =
+    let segments = c.self.inside.segments.items in let places = c.self.inside.places.items in let place = c.in-Some.place in let laid = c.self.invariant.0 in
+    let known = place-there places c.args.number c.index.result.now place (body-within segments places c.args.number (subst (λ (v : Stored). IsSome (get_or v.bodies c.args.number None)) (sym c.self.view_is) c.requires)) c.index.ensures c.in-Some.is in
+    let inside = laid.inside c.args.number place known in
+    omega (arith, within segments place.segment (omega (arith, inside.used, inside.some, laid.filled place.segment)), c.self.inside.segments.ok.0)
 
 pub lend-requires : goal.lend-requires
 lend-requires g c =

@@ -62,7 +62,7 @@ invariant_of-self g c =
     let changed = set segments n c.write.new.self in
     let at_n : segment_at changed n ≡ new = get_or-set_same segments n c.write.new.self [] here ∙ after in
     let long = ap length after ∙ length-overwritten seg (p.start + off) bytes (omega (arith, short, ends)) in
-    (laid-segment S pool segments places c.self.inside.active laid n c.write.new.self here long, c.self.invariant.1)
+    (laid-segment S pool segments places c.self.inside.active laid n c.write.new.self here long, c.self.invariant.1, c.self.invariant.2)
 
 pub returns-in-Some-clause-body : goal.returns-in-Some-clause-body
 returns-in-Some-clause-body g c =

@@ -32,7 +32,7 @@ returns-in_ok-lines-in-Some-clause-may c = rw (rest c) (cc (c.in_ok-lines-in-Som
 pub returns-in_ok-lines-in-Some-clause-next : goal.returns-in_ok-lines-in-Some-clause-next
 returns-in_ok-lines-in-Some-clause-next c =
     let given : List OutLine = drop c.args.count c.index_mut-reader.result.now.1 in
-    same_state (ap (λ m. m.taken) c.self.view_is) (ap (λ m. m.log) c.self.view_is)
+    same_state (ap (λ m. m.schema) c.self.view_is) (ap (λ m. m.log) c.self.view_is)
     (◌∙◌ {A = Readers} (ap (λ m. set m.readers c.in-Some.at (c.index_mut-reader.result.now.0, c.give.new.self)) c.self.view_is)
     (◌∙◌ {A = Readers} (ap (λ (l : List OutLine). set c.args.self.now.readers c.in-Some.at (c.index_mut-reader.result.now.0, l)) c.in_ok-lines-in-Some.ensures.left)
     (◌∙◌ {A = Readers} (written_at c.args.self.now c.args.id c.in-Some.at c.index_mut-reader.result.now given (place c) (there c))

@@ -1,0 +1,8 @@
+use Rattle.std.proofs.Common.{◌++◌, arith}
+use Rattle.lsa_list.proofs.Lists.{recency-same, recent-at}
+use Rattle.lsa_list.proofs.recency.List.touch.Goals as goal
+
+pub push_back-requires : goal.push_back-requires
+push_back-requires g c =
+    let v = c.args.region.now in let xs = c.requires.0 in let ys = c.requires.1 in let l = c.requires.2 in
+    (omega arith, ((xs ++ ys, c.remove.ensures.removed xs ys l), (recency-same v c.remove.new.region c.remove.ensures.objects.bodies c.args.r (recent-at v xs ys c.args.r l.recent), (c.remove.ensures.first_unset, c.remove.ensures.second_unset))))

@@ -1,0 +1,3 @@
+pub mod RenamedLaws
+pub mod Rounds
+pub mod Tightness

@@ -1,0 +1,141 @@
+//! Making room by compaction.
+ghost use Rattle.std.specs.Prelude.{◌≡◌, ℕ, ◌+◌, ◌*◌, ◌/◌, ◌%◌, ◌<◌, ◌≤◌, true, false, IfSome, is_some, List};
+ghost use Rattle.lsa_region.specs.declared.end.Ref.{Ref as Name};
+ghost use Rattle.lsa_region.specs.Layout.{sparse_of};
+ghost use Rattle.lsa_region.specs.Region.{IsWell, Renamed};
+ghost use Rattle.lsa_pool.specs.Room.{free_count, live_sum, spare_of};
+ghost use Rattle.lsa_move.specs.Room.{Tight, closed_count, IsCompacted, Compactions};
+
+use lsa_region::Region;
+
+/// Whether room was made.
+#[derive(Clone, Copy, Debug, PartialEq, Eq)]
+pub enum Ensured {
+    /// There is room.
+    Ready,
+    /// There is not, and no closed segment is sparse.
+    Full,
+}
+
+/// Empties the closed segment with least live bytes: its objects lie elsewhere, under new names, and what is spare rises by an
+/// eighth of a segment at least. False exactly where no closed segment is sparse; then nothing is changed.
+pub fn compact_one<const S: usize>(region: &mut Region<S>) -> bool
+    ensures tells { result ≡ is_some (sparse_of S region.old.usages) }
+    ensures tight { result ≡ false → Tight S region.old.usages }
+    ensures loose { result ≡ true → Tight S region.old.usages → ⊥ }
+    ensures same { result ≡ false → region.new ≡ region.old }
+    ensures compacted { IfSome (sparse_of S region.old.usages) (IsCompacted S region.old region.new) }
+{
+    match region.sparse() {
+        Some(n) => {
+            region.evacuate(n);
+            true
+        }
+        None => false,
+    }
+}
+
+/// Empties segments, the sparsest first, until `need` bytes are spare, or none is sparse. `need` is at most seven eighths of a
+/// segment. Ready exactly where there is room at the end; it does nothing where there is room at once.
+pub fn ensure<const S: usize>(region: &mut Region<S>, need: usize) -> Ensured
+    requires few { need ≤ 7 * S / 8 }
+    requires even { S % 64 ≡ 0 }
+    ensures ready { result ≡ Ensured.Ready → need ≤ spare_of S region.new.usages }
+    ensures full { result ≡ Ensured.Full → spare_of S region.new.usages < need }
+    ensures tight { result ≡ Ensured.Full → Tight S region.new.usages }
+    ensures idle { need ≤ spare_of S region.old.usages → region.new ≡ region.old }
+    ensures rounds { (rounds : ℕ) × Compactions S rounds region.old region.new × (rounds ≤ need / (S / 8) + 1) }
+    ensures compacted { region.new.compacted ≤ region.old.compacted + (need / (S / 8) + 1) }
+    ensures moved { region.old.moved ≤ region.new.moved }
+    ensures renamed { (names : List (Name × Name)) × Renamed region.old region.new names }
+    ensures well { IsWell region.new }
+{
+    region.known();
+    let _ = region.moved();
+    while region.spare() < need {
+        if !compact_one(region) {
+            return Ensured::Full;
+        }
+    }
+    Ensured::Ready
+}
+
+/// Shows how full a tight region without room for `need` bytes is: one segment is free, and each closed one has more than three
+/// quarters live. It does nothing.
+pub fn a_tight_region_is_nearly_full<const S: usize>(region: &Region<S>, _need: usize)
+    requires tight { Tight S region.now.usages }
+    requires few { _need ≤ 7 * S / 8 }
+    requires full { spare_of S region.now.usages < _need }
+    ensures free { free_count region.now.usages ≡ 1 }
+    ensures live { closed_count region.now.usages * (3 * S / 4 + 1) ≤ live_sum region.now.usages }
+{
+    region.known();
+}
+
+#[cfg(test)]
+mod tests {
+    use super::*;
+    use lsa_kinds::Kind;
+    use std::test::Fail;
+
+    const DUMMY: [u8; 34] = [7; 34];
+
+    // Makes a dummy of 88 bytes, where there is room, and frees it at once if it is to go.
+    fn make(region: &mut Region<4096>, goes: bool) {
+        if region.spare() < 88 {
+            return;
+        }
+        let dummy = region.alloc_obj(Kind::Dummy, &DUMMY);
+        if goes {
+            region.free_obj(dummy);
+        }
+    }
+
+    // Makes so many dummies.
+    fn make_all(region: &mut Region<4096>, count: u64, goes: bool) {
+        for _ in 0..count {
+            make(region, goes);
+        }
+    }
+
+    // 46 dummies of 88 bytes fill a segment of 4096 bytes. Of the first 46 only the last one stays, and it is moved.
+    #[test]
+    fn room_by_one_compaction(rt: HostRuntime) -> Result<(), Fail> {
+        let mut region = Region::<4096>::open(rt.alloc(), 4)?;
+        assert_eq!(rt; (region.spare(), region.free()), (10752, 3));
+        for (count, goes, spare) in [
+            (1, true, 10664),
+            (44, true, 7168),
+            (1, false, 7168),
+            (1, false, 7080),
+            (46, false, 3496),
+        ] {
+            make_all(&mut region, count, goes);
+            assert_eq!(rt; region.spare(), spare);
+        }
+        assert_eq!(rt; (region.free(), region.live()), (1, 4224));
+        assert!(rt; compact_one(&mut region));
+        assert_eq!(rt;
+            (region.moved(), region.free(), region.spare()),
+            (1, 2, 6992)
+        );
+        assert!(rt; !compact_one(&mut region));
+        assert_eq!(rt; ensure(&mut region, 3584), Ensured::Ready);
+        assert_eq!(rt; (region.compacted(), region.live()), (1, 4224));
+        Ok(())
+    }
+
+    // 93 dummies stay: the region is tight, and has room for 3496 bytes and no more. Where the first 45 go, room is made.
+    #[test]
+    fn full_where_nothing_is_sparse(rt: HostRuntime) -> Result<(), Fail> {
+        for (gone, answer) in [(0u64, Ensured::Full), (45, Ensured::Ready)] {
+            let mut region = Region::<4096>::open(rt.alloc(), 4)?;
+            make_all(&mut region, gone, true);
+            make_all(&mut region, 93 - gone, false);
+            assert_eq!(rt; ensure(&mut region, 3496), Ensured::Ready);
+            assert_eq!(rt; region.compacted(), 0);
+            assert_eq!(rt; ensure(&mut region, 3584), answer);
+        }
+        Ok(())
+    }
+}

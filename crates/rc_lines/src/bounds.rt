@@ -1,0 +1,106 @@
+//! The bounds of ranges.
+
+ghost use Rattle.std.specs.Prelude.{◌≡◌, IfOk};
+ghost use Rattle.std.specs.Option.{option_copied};
+ghost use Rattle.rc_lines.specs.Parts.{is_word, pieces_of, behind, before, no_bound, bound_at, marked_bound, from_of, to_of, begins_at, ends_at};
+
+use crate::parts::{before, behind, is_word};
+use crate::shapes::{Bound, Pieces};
+use rc_spelling::read_components;
+use std::alloc::{AllocError, Global};
+
+/// No bound.
+pub(crate) fn no_bound(alloc: Global) -> Bound
+    ensures { result ≡ no_bound }
+{
+    Bound {
+        pieces: Pieces::empty(alloc),
+        inclusive: true,
+    }
+}
+
+/// How many components of a word are kept: one more than a schema may have.
+const MOST_PIECES: usize = 5;
+
+/// The first components that a word spells.
+#[tactic(auto, unfolding(crate::specs::Parts::pieces_of))]
+pub(crate) fn pieces(alloc: Global, word: &[u8]) -> Result<Option<Pieces>, AllocError>
+    ensures { IfOk result (λ found. found ≡ pieces_of word.now) }
+{
+    let Some(items) = read_components(alloc, word, MOST_PIECES)? else {
+        return Ok(None);
+    };
+    Ok(Some(Pieces::of(items)))
+}
+
+/// The bound at the prefix that a word spells.
+#[tactic(auto, unfolding(crate::specs::Parts::bound_at))]
+fn bound(alloc: Global, inclusive: bool, ck: &[u8]) -> Result<Option<Bound>, AllocError>
+    ensures { IfOk result (λ found. found ≡ bound_at inclusive ck.now) }
+{
+    let Some(pieces) = pieces(alloc, ck)? else {
+        return Ok(None);
+    };
+    Ok(Some(Bound { pieces, inclusive }))
+}
+
+/// The bound at what stands at one of two marks.
+fn marked(
+    alloc: Global,
+    inclusive: Option<&[u8]>,
+    exclusive: Option<&[u8]>,
+) -> Result<Option<Bound>, AllocError>
+    ensures { IfOk result (λ found. found ≡ marked_bound (option_copied inclusive.entry) (option_copied exclusive.entry)) }
+{
+    if let Some(ck) = inclusive {
+        return bound(alloc, true, ck);
+    }
+    let Some(ck) = exclusive else {
+        return Ok(None);
+    };
+    bound(alloc, false, ck)
+}
+
+/// The bound of FROM.
+#[tactic(auto, unfolding(crate::specs::Parts::from_of))]
+fn from(alloc: Global, word: &[u8]) -> Result<Option<Bound>, AllocError>
+    ensures { IfOk result (λ found. found ≡ from_of word.now) }
+{
+    if is_word(word, b"-") {
+        return Ok(Some(no_bound(alloc)));
+    }
+    marked(alloc, behind(b"[", word), behind(b"(", word))
+}
+
+/// The bound of TO.
+#[tactic(auto, unfolding(crate::specs::Parts::to_of))]
+fn to(alloc: Global, word: &[u8]) -> Result<Option<Bound>, AllocError>
+    ensures { IfOk result (λ found. found ≡ to_of word.now) }
+{
+    if is_word(word, b"-") {
+        return Ok(Some(no_bound(alloc)));
+    }
+    marked(alloc, before(b"]", word), before(b")", word))
+}
+
+/// The bound of `from=FROM`.
+#[tactic(auto, unfolding(crate::specs::Parts::begins_at))]
+pub(crate) fn begins_at(alloc: Global, word: &[u8]) -> Result<Option<Bound>, AllocError>
+    ensures { IfOk result (λ found. found ≡ begins_at word.now) }
+{
+    match behind(b"from=", word) {
+        Some(bound) => from(alloc, bound),
+        None => Ok(None),
+    }
+}
+
+/// The bound of `to=TO`.
+#[tactic(auto, unfolding(crate::specs::Parts::ends_at))]
+pub(crate) fn ends_at(alloc: Global, word: &[u8]) -> Result<Option<Bound>, AllocError>
+    ensures { IfOk result (λ found. found ≡ ends_at word.now) }
+{
+    match behind(b"to=", word) {
+        Some(bound) => to(alloc, bound),
+        None => Ok(None),
+    }
+}

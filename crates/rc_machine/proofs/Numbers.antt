@@ -1,0 +1,125 @@
+-- The numbers of a partition's writes: what one write more changes, and what stands at them.
+use Rattle.std.proofs.Common.{◌≡◌, ℕ, suc, ◌+◌, ◌-◌, ◌<◌, ◌≤◌, Bool, true, false, cond, List, [], ◌∷◌, ◌++◌, length, take, drop, get_or, Some, refl, sym, ap, subst, ◌∙◌, arith, append-nil}
+use Rattle.std.specs.Prelude.{map as list_map}
+use Rattle.std.specs.Option.{option_map}
+use Rattle.std.specs.List.{All, filter, slice_get, cons_option}
+use Rattle.std.specs.Ordering.{eq_by_cmp}
+use Rattle.std.specs.Global.{Vec}
+use Rattle.std.specs.BTreeMap.{BTreeMap}
+use Rattle.std.proofs.Math.ListN.{get_or-append}
+use Rattle.std.proofs.Math.Seq.{get_or-append_seam, take-append_seam}
+use Rattle.std.proofs.lemmas.List.{length-append, map-append, take_rest, take-append-drop}
+use Rattle.std.proofs.lemmas.List.Elements.{All-append, All-cons, filter_map-append, filter-append}
+use Rattle.std.proofs.lemmas.Option.{slice_get-get_or}
+use Rattle.rc_position.specs.Position.{bytes_cmp}
+use Rattle.rc_mutation.specs.declared.mutations.Mutation.{Mutation}
+use Rattle.rc_mutation.specs.declared.mutations.Write.{Write}
+use Rattle.rc_mutation.specs.Source.{IsJoinOf}
+use Rattle.rc_mutation.specs.SourceLaws.{IsJoinOf-first, IsJoinOf-swap}
+use Rattle.rc_machine.specs.Machine.{changes_of}
+use Rattle.rc_machine.specs.Index.{changes_at, numbers_of, IsIndexOf}
+
+-- two joined parts are joined by joining what they join to
+pub joined_halves : (first rest both : Mutation) (xs ys : List Mutation) → IsJoinOf first xs → IsJoinOf rest ys → IsJoinOf both (first ∷ rest ∷ []) → IsJoinOf both (xs ++ ys)
+joined_halves first rest both xs ys j k l =
+    IsJoinOf-swap both ys xs (IsJoinOf-first rest both ys xs k (IsJoinOf-swap both xs (rest ∷ []) (IsJoinOf-first first both xs (rest ∷ []) j l)))
+
+-- what stands at a number within the log
+at_number : (log : List Write) (n : ℕ) (d : Write) → n < length log → option_map (λ (w : Write). w.change) (slice_get log n) ≡ Some (get_or log n d).change
+at_number log n d h = ap (option_map (λ (w : Write). w.change)) (slice_get-get_or log n d h)
+
+pub changes_at-one : (log : List Write) (n : ℕ) (w : Write) → n < length log → w ≡ get_or log n w → changes_at log (n ∷ []) ≡ w.change ∷ []
+changes_at-one log n w h there = ap (λ o. cons_option o []) (at_number log n w h) ∙ ap (λ (v : Write). v.change ∷ []) (sym there)
+
+pub changes_at-append : (log : List Write) (ns ms : List ℕ) → changes_at log (ns ++ ms) ≡ changes_at log ns ++ changes_at log ms
+changes_at-append log ns ms = filter_map-append (λ n. option_map (λ (w : Write). w.change) (slice_get log n)) ns ms
+
+All-tail : (p : ℕ → Type 0) (n : ℕ) (ns : List ℕ) → All p (n ∷ ns) → All p ns
+All-tail p n ns h = λ k d l. h (suc k) d (omega arith)
+
+-- one write more changes nothing at the numbers before
+pub changes_at-more : (log : List Write) (w : Write) (ns : List ℕ) → All (λ n. n < length log) ns → changes_at (log ++ w ∷ []) ns ≡ changes_at log ns
+changes_at-more log w [] h = refl
+changes_at-more log w (n ∷ ns) h =
+    let within : n < length log = h 0 0 (omega arith) in
+    let longer : n < length (log ++ w ∷ []) = omega (arith, length-append log (w ∷ [])) in
+    let same : option_map (λ (v : Write). v.change) (slice_get (log ++ w ∷ []) n) ≡ option_map (λ (v : Write). v.change) (slice_get log n) =
+    at_number (log ++ w ∷ []) n w longer ∙ ap (λ (v : Write). Some v.change) (get_or-append log (w ∷ []) w n within) ∙ sym (at_number log n w within) in
+    ap (λ o. cons_option o (changes_at (log ++ w ∷ []) ns)) same ∙ ap (cons_option (option_map (λ (v : Write). v.change) (slice_get log n))) (changes_at-more log w ns (All-tail (λ n. n < length log) n ns h))
+
+-- the last write stands at the number of those before
+changes_at-last : (log : List Write) (w : Write) → changes_at (log ++ w ∷ []) (length log ∷ []) ≡ w.change ∷ []
+changes_at-last log w =
+    let longer : length log < length (log ++ w ∷ []) = omega (arith, length-append log (w ∷ [])) in
+    changes_at-one (log ++ w ∷ []) (length log) w longer (sym (get_or-append_seam log w [] w))
+
+changes_of-one : (key : List ℕ) (w : Write) → changes_of key (w ∷ []) ≡ cond (eq_by_cmp bytes_cmp w.key key) (w.change ∷ []) []
+changes_of-one key w = elim (eq_by_cmp bytes_cmp w.key key) as (λ b. list_map (λ (v : Write). v.change) (cond b (w ∷ []) []) ≡ cond b (w.change ∷ []) []) [ true ↦ refl | false ↦ refl ]
+
+changes_of-more : (key : List ℕ) (log : List Write) (w : Write) → changes_of key (log ++ w ∷ []) ≡ changes_of key log ++ cond (eq_by_cmp bytes_cmp w.key key) (w.change ∷ []) []
+changes_of-more key log w =
+    ap (list_map (λ (v : Write). v.change)) (filter-append (λ v. eq_by_cmp bytes_cmp v.key key) log (w ∷ []))
+    ∙ map-append (λ (v : Write). v.change) (filter (λ v. eq_by_cmp bytes_cmp v.key key) log) (filter (λ v. eq_by_cmp bytes_cmp v.key key) (w ∷ []))
+    ∙ ap (λ ms. changes_of key log ++ ms) (changes_of-one key w)
+
+all_numbered : (log : List Write) (w : Write) (ns : List ℕ) (b : Bool) → All (λ n. n < length log) ns → All (λ n. n < length (log ++ w ∷ [])) (ns ++ cond b (length log ∷ []) [])
+all_numbered log w ns b h =
+    let more : length (log ++ w ∷ []) ≡ length log + 1 = omega (arith, length-append log (w ∷ [])) in
+    let old : All (λ n. n < length (log ++ w ∷ [])) ns = λ k d l. (let below : get_or ns k d < length log = h k d l in omega arith) in
+    All-append (λ n. n < length (log ++ w ∷ [])) ns (cond b (length log ∷ []) []) old
+    (elim b as (λ b. All (λ n. n < length (log ++ w ∷ [])) (cond b (length log ∷ []) [])) [
+      | true ↦ All-cons (λ n. n < length (log ++ w ∷ [])) (length log) [] (omega arith) (λ k d l. absurd (omega arith))
+      | false ↦ λ k d l. absurd (omega arith)
+    ])
+
+all_changes : (key : List ℕ) (log : List Write) (w : Write) (ns : List ℕ) (b : Bool) → All (λ n. n < length log) ns → changes_at log ns ≡ changes_of key log
+    → changes_at (log ++ w ∷ []) (ns ++ cond b (length log ∷ []) []) ≡ changes_of key log ++ cond b (w.change ∷ []) []
+all_changes key log w ns true h e =
+    changes_at-append (log ++ w ∷ []) ns (length log ∷ []) ∙ ap (λ ms. ms ++ changes_at (log ++ w ∷ []) (length log ∷ [])) (changes_at-more log w ns h ∙ e) ∙ ap (λ ms. changes_of key log ++ ms) (changes_at-last log w)
+all_changes key log w ns false h e =
+    ap (changes_at (log ++ w ∷ [])) (append-nil ns) ∙ changes_at-more log w ns h ∙ e ∙ sym (append-nil (changes_of key log))
+
+-- the number of a write more stands behind the others at its partition's key
+pub index_more : (log : List Write) (w : Write) (index index' : BTreeMap (List ℕ) (Vec ℕ)) → IsIndexOf log index
+    → ((q : List ℕ) → numbers_of index' q ≡ numbers_of index q ++ cond (eq_by_cmp bytes_cmp w.key q) (length log ∷ []) []) → IsIndexOf (log ++ w ∷ []) index'
+index_more log w index index' is put = record {
+  numbered = λ key. subst (λ ns. All (λ n. n < length (log ++ w ∷ [])) ns) (sym (put key)) (all_numbered log w (numbers_of index key) (eq_by_cmp bytes_cmp w.key key) (is.numbered key));
+  changes = λ key.
+      ap (changes_at (log ++ w ∷ [])) (put key) ∙ all_changes key log w (numbers_of index key) (eq_by_cmp bytes_cmp w.key key) (is.numbered key) (is.changes key) ∙ sym (changes_of-more key log w);
+}
+
+-- the same numbers at each key are an index of the same writes
+pub index_same : (log : List Write) (index index' : BTreeMap (List ℕ) (Vec ℕ)) → IsIndexOf log index → ((q : List ℕ) → numbers_of index' q ≡ numbers_of index q) → IsIndexOf log index'
+index_same log index index' is same = record {
+  numbered = λ key. subst (λ ns. All (λ n. n < length log) ns) (sym (same key)) (is.numbered key);
+  changes = λ key. ap (changes_at log) (same key) ∙ is.changes key;
+}
+
+-- the last write is taken back
+pub popped : (log : List Write) (w : Write) (longer shorter : List Write) (n : ℕ) → longer ≡ log ++ w ∷ [] → n ≡ length log + 1 → shorter ≡ take (n - 1) longer → shorter ≡ log
+popped log w longer shorter n more count less =
+    let all : n - 1 ≡ length log = omega arith in
+    less ∙ ap (λ n. take n longer) all ∙ ap (take (length log)) more ∙ take-append_seam log (w ∷ [])
+
+-- no numbers
+pub joined_none : (log : List Write) (m : Mutation) (ns : List ℕ) → length ns < 1 → IsJoinOf m [] → IsJoinOf m (changes_at log ns)
+joined_none log m [] h j = j
+joined_none log m (n ∷ ns) h j = absurd (omega arith)
+
+-- one number
+pub joined_one : (log : List Write) (w : Write) (m : Mutation) (ns : List ℕ) → 1 ≤ length ns → length ns < 2 → All (λ n. n < length log) ns → w ≡ get_or log (get_or ns 0 0) w
+    → IsJoinOf m ((get_or log (get_or ns 0 0) w).change ∷ []) → IsJoinOf m (changes_at log ns)
+joined_one log w m [] g h all there j = absurd (omega arith)
+joined_one log w m (n ∷ []) g h all there j =
+    subst (IsJoinOf m) (ap (λ (v : Write). v.change ∷ []) (sym there) ∙ sym (changes_at-one log n w (all 0 0 (omega arith)) there)) j
+joined_one log w m (n ∷ k ∷ ns) g h all there j = absurd (omega arith)
+
+-- the numbers in two parts
+pub joined_parts : (log : List Write) (first rest both : Mutation) (ns xs ys : List ℕ) → ns ≡ xs ++ ys → IsJoinOf first (changes_at log xs) → IsJoinOf rest (changes_at log ys)
+    → IsJoinOf both (first ∷ rest ∷ []) → IsJoinOf both (changes_at log ns)
+joined_parts log first rest both ns xs ys split j k l =
+    subst (IsJoinOf both) (sym (changes_at-append log xs ys) ∙ ap (changes_at log) (sym split)) (joined_halves first rest both (changes_at log xs) (changes_at log ys) j k l)
+
+-- a list is its first part and the rest
+pub split : (ns : List ℕ) (n : ℕ) → ns ≡ take n ns ++ take (length ns - n) (drop n ns)
+split ns n = sym (take-append-drop n ns) ∙ ap (λ ms. take n ns ++ ms) (sym (take_rest ns n))

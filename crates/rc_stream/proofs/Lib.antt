@@ -1,0 +1,3 @@
+pub mod Passing
+pub mod Says
+pub mod Whole

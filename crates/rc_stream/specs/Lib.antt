@@ -1,0 +1,4 @@
+pub mod Causes
+pub mod Fronts
+pub mod Places
+pub mod Stream

@@ -1,0 +1,109 @@
+// A partition as a stream.
+ghost use Rattle.std.specs.Prelude.{◌≡◌, IfOk, OnOk, OnErr};
+
+use rc_mutation::{Frag, Head};
+use rc_outside::Store;
+use rc_position::Pos;
+use std::alloc::{AllocError, Global};
+use thiserror::Error;
+
+/// Why a call of a stream was refused.
+#[derive(Debug, Drop, Error)]
+pub enum StreamErr {
+    /// The store failed, and its count of faults rose.
+    #[error("a call to the store failed")]
+    Fault,
+    /// The bytes of a file contradict the file as it was checked or written.
+    #[error("file {file} is damaged at {offset}")]
+    Damaged {
+        /// The number of the file.
+        file: u32,
+        /// Where in the file, in bytes.
+        offset: u64,
+    },
+    /// Memory was refused.
+    #[error("out of memory")]
+    NoMemory,
+}
+
+impl From<AllocError> for StreamErr {
+    fn from(_error: AllocError) -> Self
+        ensures { result ≡ StreamErr.NoMemory }
+    {
+        StreamErr::NoMemory
+    }
+}
+
+/// A stream of one partition over a home `H`, where what it reads may be kept, and a store `W`. A contract sees the head
+/// of the partition and the rows and changes that are left. Each call needs that the stream stands over the home and the
+/// store handed in, and keeps it.
+pub trait Frags<H, W: Store> {
+    ghost use Rattle.std.specs.Prelude.{◌≡◌};
+    ghost use Rattle.rc_position.specs.declared.positions.Pos.{Pos};
+    ghost use Rattle.rc_stream.specs.Causes.{Caused};
+    ghost use Rattle.rc_stream.specs.Stream.{Stream, first_upto, sought, took};
+    ghost use Rattle.rc_stream.specs.Places.{Passes, Reaches};
+
+    // what it stands for from its place on
+    ghost seen: { Self → Stream };
+
+    // the positions that are not before its place
+    ghost ahead: { Self → Pos → Type 0 };
+
+    // it stands over this home and this store
+    ghost stands: { Self → H → W → Type 0 };
+
+    /// The head of the partition. The stream is as before. `StreamErr::Fault` when the store fails,
+    /// `StreamErr::Damaged` when bytes of a file contradict it, `StreamErr::NoMemory` when memory is refused.
+    fn head(&mut self, alloc: Global, home: &mut H, store: &mut W) -> Result<Head, StreamErr>
+        requires { stands self.old home.old store.old }
+        ensures head { IfOk result (λ head. head ≡ (seen self.old).head) }
+        ensures seen { seen self.new ≡ seen self.old }
+        ensures ahead { (x : Pos) → ahead self.old x → ahead self.new x }
+        ensures stands { stands self.new home.new store.new }
+        ensures cause { Caused result (W.files store.old) (W.faults store.old) (W.faults store.new) }
+        ensures files { W.files store.new ≡ W.files store.old }
+        ensures building { W.building store.new ≡ W.building store.old };
+
+    /// Goes on to a position that is not before its place: the first is then a change there where a tombstone is in force
+    /// there. `StreamErr::Fault` when the store fails, `StreamErr::Damaged` when bytes of a file contradict it,
+    /// `StreamErr::NoMemory` when memory is refused: then the stream is as it was.
+    fn seek(
+        &mut self,
+        alloc: Global,
+        home: &mut H,
+        store: &mut W,
+        to: &Pos,
+    ) -> Result<(), StreamErr>
+        requires stands { stands self.old home.old store.old }
+        requires ahead { ahead self.old to.now }
+        ensures ok { OnOk result (seen self.new ≡ sought to.now (seen self.old)) }
+        ensures err { OnErr result (seen self.new ≡ seen self.old) }
+        ensures ahead { OnOk result ((x : Pos) → Reaches to.now x → ahead self.new x) }
+        ensures kept { OnErr result ((x : Pos) → ahead self.old x → ahead self.new x) }
+        ensures stands { stands self.new home.new store.new }
+        ensures cause { Caused result (W.files store.old) (W.faults store.old) (W.faults store.new) }
+        ensures files { W.files store.new ≡ W.files store.old }
+        ensures building { W.building store.new ≡ W.building store.old };
+
+    /// Takes the first row or change that is left and gives it, if it stands at `upto` or before it; none exactly where
+    /// no such stands there, and then the stream is as before. `StreamErr::Fault` when the store fails,
+    /// `StreamErr::Damaged` when bytes of a file contradict it, `StreamErr::NoMemory` when memory is refused: then the
+    /// stream is as it was.
+    fn next(
+        &mut self,
+        alloc: Global,
+        home: &mut H,
+        store: &mut W,
+        upto: &Pos,
+    ) -> Result<Option<Frag>, StreamErr>
+        requires { stands self.old home.old store.old }
+        ensures gives { IfOk result (λ got. got ≡ first_upto upto.now (seen self.old).left) }
+        ensures left { IfOk result (λ got. seen self.new ≡ took got (seen self.old)) }
+        ensures err { OnErr result (seen self.new ≡ seen self.old) }
+        ensures ahead { (x : Pos) → Passes result x → ahead self.old x → ahead self.new x }
+        ensures stands { stands self.new home.new store.new }
+        ensures cause { Caused result (W.files store.old) (W.faults store.old) (W.faults store.new) }
+        ensures files { W.files store.new ≡ W.files store.old }
+        ensures building { W.building store.new ≡ W.building store.old };
+}

@@ -1,0 +1,11 @@
+-- The partitions so far are taken into the outline.
+use Rattle.std.proofs.Common.{[], ◌∷◌, take}
+use Rattle.std.specs.List.{flat_map}
+use Rattle.rc_tfile.specs.Items.{HeadItem}
+use Rattle.rc_tfile.specs.Before.{followed_by}
+use Rattle.rc_tfile.specs.Outlined.{IsOutline}
+use Rattle.rc_tfile.specs.TableText.{part_items}
+use Rattle.rc_tfile.proofs.writing.outline_of.Given as goal
+
+abbrev pub invariant-loop-part : goal.invariant-loop-part
+invariant-loop-part l = IsOutline (followed_by (HeadItem l.schema ∷ []) (flat_map part_items (take l.part-index l.parts))) l.outline

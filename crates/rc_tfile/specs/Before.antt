@@ -1,0 +1,71 @@
+-- What stands before an item: the items from the nearest one back to the head, and what they determine.
+use Rattle.std.specs.Prelude.{◌≡◌, ℕ, List, [], ◌∷◌, ◌++◌, length, Option, Some, None, IfSome}
+use Rattle.std.specs.declared.cmp.Ordering.TheVariants.{Less}
+use Rattle.rc_cell.specs.declared.writes.Tomb.{Tomb}
+use Rattle.rc_position.specs.declared.positions.Pos.{Pos}
+use Rattle.rc_position.specs.Position.{bytes_cmp, row_pos, IsBefore}
+use Rattle.rc_tfile.specs.Items.{Item, HeadItem, PartItem, RowItem, ChangeItem, EndItem, StopItem, EntryItem, BlockItem, TailItem, item_code}
+
+-- items, the nearest first
+abbrev pub Before : Type 0
+Before = List Item
+
+-- the bytes of the items, in the order of the file
+abbrev pub text : Before → List ℕ
+text [] = []
+text (x ∷ before) = text before ++ item_code x
+
+-- where the next item begins
+abbrev pub offset : Before → ℕ
+offset before = length (text before)
+
+-- items, and others that come behind them in this order
+abbrev pub followed_by : Before → List Item → Before
+followed_by before [] = before
+followed_by before (x ∷ xs) = followed_by (x ∷ before) xs
+
+-- what may come next: the head; a part or the stop; a fragment or the end of a partition; the directory and the tail
+pub data Place : Type 0 where
+  Start : Place
+  Between : Place
+  Inside : Place
+  Behind : Place
+
+-- where the items lead, by the nearest one
+abbrev pub place : Before → Place
+place [] = Start
+place (HeadItem schema ∷ before) = Between
+place (PartItem key pt statics ∷ before) = Inside
+place (RowItem key row ∷ before) = Inside
+place (ChangeItem x tomb ∷ before) = Inside
+place (EndItem ∷ before) = Between
+place (StopItem ∷ before) = Behind
+place (EntryItem key off blocks ∷ before) = Behind
+place (BlockItem b ∷ before) = Behind
+place (TailItem off parts ∷ before) = Behind
+
+-- the key of the nearest partition
+abbrev pub last_key : Before → Option (List ℕ)
+last_key [] = None
+last_key (PartItem key pt statics ∷ before) = Some key
+last_key (x ∷ before) = last_key before
+
+-- where the nearest fragment of the same partition stands
+abbrev pub last_pos : Before → Option Pos
+last_pos (RowItem key row ∷ before) = Some (row_pos key)
+last_pos (ChangeItem x tomb ∷ before) = Some x
+last_pos before = None
+
+-- the tombstone in force: that of the nearest change of the partition, none where it has none yet
+abbrev pub in_force : Before → Option Tomb
+in_force [] = None
+in_force (ChangeItem x tomb ∷ before) = tomb
+in_force (RowItem key row ∷ before) = in_force before
+in_force (x ∷ before) = None
+
+-- a partition's key is greater than the one before, and a fragment's position than that of the fragment before
+abbrev pub IsNextKey : Before → List ℕ → Type 0
+IsNextKey before key = IfSome (last_key before) (λ last. bytes_cmp last key ≡ Less)
+
+abbrev pub IsNextPos : Before → Pos → Type 0
+IsNextPos before x = IfSome (last_pos before) (λ last. IsBefore last x)

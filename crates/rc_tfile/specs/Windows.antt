@@ -1,0 +1,30 @@
+-- What is read of a file that is looked at from its start on.
+use Rattle.std.specs.Prelude.{◌≡◌, ℕ, ◌+◌, ◌≤◌, List, ◌++◌, length, drop, Option, ◌⊎◌}
+use Rattle.rc_outside.specs.Files.{Files}
+use Rattle.rc_tfile.specs.Checking.{IsContent}
+
+-- a file's number and length, how many of its bytes are read, and those of them that are not yet looked at
+pub record Seen : Type 0 where
+  pub number : ℕ
+  pub size : ℕ
+  pub read : ℕ
+  pub ahead : List ℕ
+
+-- at least as many bytes as an item has
+abbrev pub largest : ℕ
+largest = 65541
+
+-- an item, or all that is left of the file, is ahead
+abbrev pub IsFull : Seen → Type 0
+IsFull w = (w.read ≡ w.size) ⊎ (largest ≤ length w.ahead)
+
+-- of a file with these bytes the front was looked at, and what is ahead follows it
+pub record IsAhead (content front : List ℕ) (w : Seen) : Type 0 where
+  pub unread : List ℕ
+  pub whole : content ≡ front ++ (w.ahead ++ unread)
+  pub size : w.size ≡ length content
+  pub read : w.read ≡ length front + length w.ahead
+
+-- the same of the file that a store tells
+abbrev pub Told : Option Files → List ℕ → Seen → Type 0
+Told files front w = (content : List ℕ) → IsContent files w.number content → IsAhead content front w

@@ -1,0 +1,76 @@
+//! Files read: the schema in the head of one.
+
+ghost use Rattle.std.specs.Prelude.{◌≡◌, ◌≢◌, ◌≤◌, ◌+◌, ℕ, List, [], Err};
+ghost use Rattle.rc_outside.specs.Files.{IsFile};
+ghost use Rattle.rc_tfile.specs.Windows.{Told};
+ghost use Rattle.rc_tfile.specs.Checking.{IsContent, ChecksHead, ChecksSized, RisesIfFault, AsksFew};
+
+use crate::reading::read_head;
+use crate::window::Window;
+use rc_outside::Store;
+use rc_schema::Schema;
+use std::alloc::Global;
+use thiserror::Error;
+
+/// Why a file is not taken as a table.
+#[derive(Debug, Drop, Error)]
+pub enum CheckErr {
+    /// The store failed.
+    #[error("the store failed")]
+    Fault,
+    /// The file is no table.
+    #[error("damaged at {offset}")]
+    Damaged {
+        /// Where the first item begins that does not fit or is not whole, in bytes from the file's start.
+        offset: u64,
+    },
+    /// The file has a well-formed head of another schema.
+    #[error("of another schema")]
+    OtherSchema,
+    /// Memory ran out.
+    #[error("out of memory")]
+    NoMemory,
+}
+
+// The head of the file, which is read into the window.
+fn head_of<W: Store>(
+    alloc: Global,
+    store: &mut W,
+    file: &mut Window,
+) -> Result<(Schema, usize), CheckErr>
+    requires told { Told (W.files store.old) [] file.old }
+    requires file { IsFile (W.files store.old) file.old.number }
+    ensures files { W.files store.new ≡ W.files store.old }
+    ensures building { W.building store.new ≡ W.building store.old }
+    ensures faults { RisesIfFault result (W.faults store.old) (W.faults store.new) }
+    ensures asks { W.asks store.new ≤ W.asks store.old + 1 }
+    ensures never { result ≢ Err CheckErr.OtherSchema }
+    ensures head { (content : List ℕ) → IsContent (W.files store.old) file.old.number content → ChecksSized content result }
+{
+    file.refill(alloc, store)?;
+    match read_head(alloc, file.ahead()) {
+        Ok(Some(found)) => Ok(found),
+        Ok(None) => Err(CheckErr::Damaged { offset: 0 }),
+        Err(_) => Err(CheckErr::NoMemory),
+    }
+}
+
+/// The schema of the head of file `n`, which is there. `CheckErr::Damaged` exactly where the file begins with no head of any
+/// schema; `CheckErr::Fault` when the store fails, and only then. It never answers `CheckErr::OtherSchema`.
+pub fn read_schema<W: Store>(alloc: Global, store: &mut W, n: u32) -> Result<Schema, CheckErr>
+    requires { IsFile (W.files store.old) n }
+    ensures schema { (bytes : List ℕ) → IsContent (W.files store.old) n bytes → ChecksHead bytes result }
+    ensures never { result ≢ Err CheckErr.OtherSchema }
+    ensures files { W.files store.new ≡ W.files store.old }
+    ensures building { W.building store.new ≡ W.building store.old }
+    ensures faults { RisesIfFault result (W.faults store.old) (W.faults store.new) }
+    ensures asks { (bytes : List ℕ) → IsContent (W.files store.old) n bytes → AsksFew (W.asks store.old) (W.asks store.new) bytes }
+{
+    match Window::open(alloc, store, n) {
+        Ok(mut file) => match head_of(alloc, store, &mut file) {
+            Ok((schema, _size)) => Ok(schema),
+            Err(err) => Err(err),
+        },
+        Err(err) => Err(err),
+    }
+}

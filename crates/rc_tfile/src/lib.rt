@@ -1,0 +1,21 @@
+//! Table files: partitions written as one text, with a directory of their blocks at its end. Of a file the head is read.
+#![tactic(auto)]
+
+mod blocks;
+mod checking;
+mod directory;
+mod fitting;
+mod info;
+mod outline;
+mod reading;
+mod spelling;
+mod stepping;
+#[cfg(test)]
+mod tests;
+mod window;
+mod writing;
+
+pub use checking::{CheckErr, read_schema};
+pub use fitting::part_fits;
+pub use info::{PartRef, PartRefs, TableInfo};
+pub use writing::{WriteErr, plan_table, write_table};

@@ -1,0 +1,152 @@
+//! What is known of a table's items so far, and what each further item makes of it. Writing, planning and checking go by it.
+
+ghost use Rattle.std.specs.Prelude.{◌≡◌, ◌+◌, [], ◌∷◌, length, OnOk, IfOk, List, None, Some, Option, false, true};
+ghost use Rattle.rc_cell.specs.declared.rows.Row.{Row};
+ghost use Rattle.rc_cell.specs.declared.writes.Tomb.{Tomb};
+ghost use Rattle.rc_position.specs.declared.comps.Comp.{Comp};
+ghost use Rattle.rc_position.specs.Position.{row_pos};
+ghost use Rattle.rc_schema.specs.Lists.{Lists};
+ghost use Rattle.rc_rowcode.specs.Spelling.{KeyFits};
+ghost use Rattle.rc_tfile.specs.Items.{Item, HeadItem, PartItem, RowItem, ChangeItem, EndItem, StopItem, size_of};
+ghost use Rattle.rc_tfile.specs.Before.{Before};
+ghost use Rattle.rc_tfile.specs.Blocks.{begun};
+ghost use Rattle.rc_tfile.specs.Outlined.{IsOutline, IsListed, IsFragment};
+
+use crate::blocks::{Block, Blocks, Listed};
+use rc_cell::Tomb;
+use rc_position::{PartKey, Pos};
+use std::alloc::{AllocError, Global};
+use std::mem;
+
+/// What the items so far determine.
+#[derive(Drop)]
+pub(crate) struct Outline {
+    /// Where the next item begins.
+    pub(crate) off: u64,
+    /// The key of the last partition.
+    pub(crate) key: Option<PartKey>,
+    /// Whether that partition has not ended.
+    pub(crate) inside: bool,
+    /// Where its part begins.
+    part: u64,
+    /// Where its last fragment stands.
+    pub(crate) last: Option<Pos>,
+    /// The tombstone in force.
+    pub(crate) tomb: Option<Tomb>,
+    /// Its blocks so far.
+    blocks: Blocks,
+    /// What the directory lists of the partitions that have ended.
+    pub(crate) listed: Vec<Listed>,
+}
+
+/// An offset so many bytes further. One past 64 bits, which no file reaches, counts as want of memory.
+pub(crate) fn further(off: u64, size: usize) -> Result<u64, AllocError>
+    ensures { IfOk result (λ n. n ≡ off + size) }
+{
+    match off.checked_add(size as u64) {
+        Some(sum) => Ok(sum),
+        None => Err(AllocError),
+    }
+}
+
+/// A size in 32 bits. A greater one, which no item has, counts as want of memory.
+pub(crate) fn short(size: usize) -> Result<u32, AllocError>
+    ensures { IfOk result (λ n. n ≡ size) }
+{
+    if size > 4_294_967_295 {
+        return Err(AllocError);
+    }
+    Ok(size as u32)
+}
+
+impl Outline {
+    /// Behind a head of so many bytes.
+    pub(crate) fn new(alloc: Global, size: usize) -> Self
+        ensures { (schema : Lists) → size ≡ size_of (HeadItem schema) → IsOutline (HeadItem schema ∷ []) result }
+    {
+        Outline {
+            off: size as u64,
+            key: None,
+            inside: false,
+            part: 0,
+            last: None,
+            tomb: None,
+            blocks: Blocks::empty(alloc),
+            listed: Vec::new(alloc),
+        }
+    }
+
+    /// A part of so many bytes. The only error is want of memory.
+    pub(crate) fn part(
+        &mut self,
+        alloc: Global,
+        key: &PartKey,
+        size: usize,
+    ) -> Result<(), AllocError>
+        ensures { (before : Before) (pt : Option Tomb) (statics : Row) → IsOutline before self.old → size ≡ size_of (PartItem key.now pt statics) →
+            OnOk result (IsOutline (PartItem key.now pt statics ∷ before) self.new) }
+    {
+        let off = further(self.off, size)?;
+        self.key = Some(key.copy(alloc)?);
+        self.inside = true;
+        self.part = self.off;
+        self.last = None;
+        self.tomb = None;
+        self.blocks = Blocks::empty(alloc);
+        self.off = off;
+        Ok(())
+    }
+
+    /// A fragment of so many bytes, from which on this tombstone is in force. The only error is want of memory.
+    pub(crate) fn fragment(
+        &mut self,
+        alloc: Global,
+        x: &Pos,
+        tomb: Option<Tomb>,
+        size: usize,
+    ) -> Result<(), AllocError>
+        requires { KeyFits x.now.prefix }
+        ensures { (before : Before) (item : Item) → IsOutline before self.old → IsFragment before item x.now tomb → size ≡ size_of item →
+            OnOk result (IsOutline (item ∷ before) self.new) }
+    {
+        let off = further(self.off, size)?;
+        let block = Block {
+            off: self.off,
+            len: short(size)?,
+            tomb: self.tomb,
+            first: x.copy(alloc)?,
+        };
+        self.blocks.take_in(block)?;
+        self.last = Some(x.copy(alloc)?);
+        self.inside = true;
+        self.tomb = tomb;
+        self.off = off;
+        Ok(())
+    }
+
+    /// The end of a partition. The only error is want of memory; an end with no partition before it counts as that.
+    pub(crate) fn end(&mut self, alloc: Global) -> Result<(), AllocError>
+        ensures { (before : Before) → IsOutline before self.old → OnOk result (IsOutline (EndItem ∷ before) self.new) }
+    {
+        let Some(key) = &self.key else {
+            return Err(AllocError);
+        };
+        let key = key.copy(alloc)?;
+        let off = further(self.off, 1)?;
+        let blocks = mem::replace(&mut self.blocks, Blocks::empty(alloc));
+        self.listed.push(Listed::new(key, self.part, blocks))?;
+        self.inside = false;
+        self.last = None;
+        self.tomb = None;
+        self.off = off;
+        Ok(())
+    }
+
+    /// The stop. The only error is want of memory.
+    pub(crate) fn stop(&mut self) -> Result<(), AllocError>
+        ensures { (before : Before) → IsOutline before self.old → OnOk result (IsListed (StopItem ∷ before) self.new) }
+    {
+        self.off = further(self.off, 1)?;
+        Ok(())
+    }
+}

@@ -1,0 +1,233 @@
+//! One item after another of a table that is checked.
+
+ghost use Rattle.std.specs.Prelude.{◌≡◌, ◌↔◌, ◌≢◌, IfOk, IfSome, IsTrue, List, ℕ, ◌∷◌, false, true};
+ghost use Rattle.std.specs.declared.cmp.Ordering.TheVariants.{Less};
+ghost use Rattle.rc_position.specs.declared.positions.Weight.TheVariants.{At};
+ghost use Rattle.rc_position.specs.Position.{bytes_cmp, pos_cmp};
+ghost use Rattle.rc_cell.specs.Winner.{empty_row};
+ghost use Rattle.rc_schema.specs.Checks.{checked_prefix, checked_cells};
+ghost use Rattle.rc_tfile.specs.Before.{Before};
+ghost use Rattle.rc_tfile.specs.Outlined.{IsOutline};
+ghost use Rattle.rc_tfile.specs.TableText.{IsStatic, IsRowOf, IsBoundOf};
+ghost use Rattle.rc_tfile.specs.Checking.{Steps};
+
+use crate::outline::Outline;
+use crate::reading::{behind, read_change, read_part, read_row_item};
+use crate::spelling::{CHANGE, END, ROW, STOP};
+use crate::writing::row_pos;
+use rc_cell::{Row, Tomb};
+use rc_position::{Key, PartKey, Pos, Weight};
+use rc_schema::Schema;
+use std::alloc::{AllocError, Global};
+
+/// What the next item is.
+#[derive(Clone, Copy, Debug, PartialEq, Eq)]
+pub(crate) enum Next {
+    /// An item that fits, of so many bytes.
+    Fits(usize),
+    /// The stop.
+    Stops,
+    /// None that fits and is whole.
+    Unfit,
+}
+
+/// The item at the front of the bytes, which is taken into the outline where it fits. The only error is want of memory.
+pub(crate) fn next_item(
+    alloc: Global,
+    bytes: &[u8],
+    schema: &Schema,
+    outline: &mut Outline,
+) -> Result<Next, AllocError>
+    ensures { (before : Before) → IsOutline before outline.old → IfOk result (λ next. Steps schema.now before bytes.now outline.new next) }
+{
+    if outline.inside {
+        next_inside(alloc, bytes, schema, outline)
+    } else {
+        next_between(alloc, bytes, schema, outline)
+    }
+}
+
+// Between two partitions: a part or the stop.
+fn next_between(
+    alloc: Global,
+    bytes: &[u8],
+    schema: &Schema,
+    outline: &mut Outline,
+) -> Result<Next, AllocError>
+    ensures { (before : Before) → IsOutline before outline.old → outline.old.inside ≡ false → IfOk result (λ next. Steps schema.now before bytes.now outline.new next) }
+{
+    if let Some(_rest) = behind(STOP, bytes) {
+        outline.stop()?;
+        return Ok(Next::Stops);
+    }
+    next_part(alloc, bytes, schema, outline)
+}
+
+// Inside a partition: a row, a change or the end.
+fn next_inside(
+    alloc: Global,
+    bytes: &[u8],
+    schema: &Schema,
+    outline: &mut Outline,
+) -> Result<Next, AllocError>
+    ensures { (before : Before) → IsOutline before outline.old → outline.old.inside ≡ true → IfOk result (λ next. Steps schema.now before bytes.now outline.new next) }
+{
+    if let Some(_rest) = behind(ROW, bytes) {
+        return next_row(alloc, bytes, schema, outline);
+    }
+    if let Some(_rest) = behind(CHANGE, bytes) {
+        return next_change(alloc, bytes, schema, outline);
+    }
+    if let Some(_rest) = behind(END, bytes) {
+        return next_end(alloc, bytes, schema, outline);
+    }
+    Ok(Next::Unfit)
+}
+
+// A part, whose key is greater than the one before.
+fn next_part(
+    alloc: Global,
+    bytes: &[u8],
+    schema: &Schema,
+    outline: &mut Outline,
+) -> Result<Next, AllocError>
+    requires { (rest : List ℕ) → bytes.now ≡ 5 ∷ rest → ⊥ }
+    ensures { (before : Before) → IsOutline before outline.old → outline.old.inside ≡ false → IfOk result (λ next. Steps schema.now before bytes.now outline.new next) }
+{
+    let Some((part, size)) = read_part(alloc, bytes)? else {
+        return Ok(Next::Unfit);
+    };
+    if !is_next_key(&outline.key, &part.key) {
+        return Ok(Next::Unfit);
+    }
+    if !is_static(schema, &part.head.statics) {
+        return Ok(Next::Unfit);
+    }
+    outline.part(alloc, &part.key, size)?;
+    Ok(Next::Fits(size))
+}
+
+// A row, which stands behind the fragment before and is a row of the schema, and not empty.
+fn next_row(
+    alloc: Global,
+    bytes: &[u8],
+    schema: &Schema,
+    outline: &mut Outline,
+) -> Result<Next, AllocError>
+    requires { (rest : List ℕ) × (bytes.now ≡ 2 ∷ rest) }
+    ensures { (before : Before) → IsOutline before outline.old → outline.old.inside ≡ true → IfOk result (λ next. Steps schema.now before bytes.now outline.new next) }
+{
+    let Some((keyed, size)) = read_row_item(alloc, bytes)? else {
+        return Ok(Next::Unfit);
+    };
+    if !is_written(&keyed.1) {
+        return Ok(Next::Unfit);
+    }
+    if !is_row_of(schema, &keyed.0, &keyed.1) {
+        return Ok(Next::Unfit);
+    }
+    let x = row_pos(alloc, &keyed.0)?;
+    if !is_next_pos(&outline.last, &x) {
+        return Ok(Next::Unfit);
+    }
+    outline.fragment(alloc, &x, outline.tomb, size)?;
+    Ok(Next::Fits(size))
+}
+
+// A change, which stands behind the fragment before, and changes the tombstone in force.
+fn next_change(
+    alloc: Global,
+    bytes: &[u8],
+    schema: &Schema,
+    outline: &mut Outline,
+) -> Result<Next, AllocError>
+    requires { (rest : List ℕ) × (bytes.now ≡ 3 ∷ rest) }
+    ensures { (before : Before) → IsOutline before outline.old → outline.old.inside ≡ true → IfOk result (λ next. Steps schema.now before bytes.now outline.new next) }
+{
+    let Some((change, size)) = read_change(alloc, bytes)? else {
+        return Ok(Next::Unfit);
+    };
+    if is_same_tomb(change.1, outline.tomb) {
+        return Ok(Next::Unfit);
+    }
+    if !is_bound_of(schema, &change.0) {
+        return Ok(Next::Unfit);
+    }
+    if !is_next_pos(&outline.last, &change.0) {
+        return Ok(Next::Unfit);
+    }
+    outline.fragment(alloc, &change.0, change.1, size)?;
+    Ok(Next::Fits(size))
+}
+
+// The end of a partition, where no tombstone is in force.
+fn next_end(
+    alloc: Global,
+    bytes: &[u8],
+    schema: &Schema,
+    outline: &mut Outline,
+) -> Result<Next, AllocError>
+    requires { (rest : List ℕ) × (bytes.now ≡ 4 ∷ rest) }
+    ensures { (before : Before) → IsOutline before outline.old → outline.old.inside ≡ true → IfOk result (λ next. Steps schema.now before bytes.now outline.new next) }
+{
+    if outline.tomb.is_some() {
+        return Ok(Next::Unfit);
+    }
+    outline.end(alloc)?;
+    Ok(Next::Fits(1))
+}
+
+// Whether a key is greater than the last one.
+fn is_next_key(last: &Option<PartKey>, key: &PartKey) -> bool
+    ensures { IsTrue result ↔ IfSome last.now (λ x. bytes_cmp x key.now ≡ Less) }
+{
+    match last {
+        None => true,
+        Some(last) => last < key,
+    }
+}
+
+// Whether a position is greater than the last one.
+fn is_next_pos(last: &Option<Pos>, x: &Pos) -> bool
+    ensures { IsTrue result ↔ IfSome last.now (λ y. pos_cmp y x.now ≡ Less) }
+{
+    match last {
+        None => true,
+        Some(last) => last < x,
+    }
+}
+
+// Whether something was written of a row.
+fn is_written(row: &Row) -> bool
+    ensures { IsTrue result ↔ (row.now ≢ empty_row) }
+{
+    !row.is_empty()
+}
+
+// Whether two tombstones are the same, or there is neither.
+fn is_same_tomb(tomb: Option<Tomb>, other: Option<Tomb>) -> bool
+    ensures { IsTrue result ↔ (tomb ≡ other) }
+{
+    tomb == other
+}
+
+/// Whether a row is a static row of the schema.
+pub(crate) fn is_static(schema: &Schema, row: &Row) -> bool
+    ensures { IsTrue result ↔ IsStatic schema.now row.now }
+{
+    row.marker.is_none() && row.tomb.is_none() && schema.check_row(row, true).is_ok()
+}
+
+/// Whether a row and its key are of the schema.
+pub(crate) fn is_row_of(schema: &Schema, key: &Key, row: &Row) -> bool
+    ensures { IsTrue result ↔ IsRowOf schema.now key.now row.now }
+{
+    schema.check_prefix(key, true).is_ok() && schema.check_row(row, false).is_ok()
+}
+
+/// Whether a change may stand at a position under the schema.
+pub(crate) fn is_bound_of(schema: &Schema, x: &Pos) -> bool
+    ensures { IsTrue result ↔ IsBoundOf schema.now x.now }
+{
+    x.weight != Weight::At && schema.check_prefix(&x.prefix, false).is_ok()
+}

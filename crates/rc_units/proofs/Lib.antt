@@ -1,0 +1,15 @@
+pub mod Under
+pub mod Onto
+pub mod Cleaning
+pub mod Versions
+pub mod Units
+pub mod Putting
+pub mod Joins
+pub mod Updates
+pub mod Losses
+pub mod Cuts
+pub mod Stretches
+pub mod Whole
+pub mod Writing
+pub mod Chaining
+pub mod Merged

@@ -1,0 +1,120 @@
+-- A split, and a function on each entry that moves none, leave entries in order, with the end dummy last.
+use Rattle.std.specs.Prelude.{◌≡◌, true, false, List, [], ◌∷◌, Option, None, map as list_map}
+use Rattle.std.proofs.Common.{refl, sym, ap, ◌∙◌, subst}
+use Rattle.std.specs.declared.cmp.Ordering.{Ordering}
+use Rattle.std.specs.declared.cmp.Ordering.TheVariants.{Less, Equal, Greater}
+use Rattle.std.specs.Ordering.{is_gt}
+use Rattle.rc_cell.specs.declared.rows.Row.{Row}
+use Rattle.rc_position.specs.declared.positions.Pos.{Pos}
+use Rattle.rc_position.specs.Position.{pos_cmp, IsBefore}
+use Rattle.rc_position.specs.OrderLaws.{pos_cmp_same}
+use Rattle.rc_position.specs.BoundLaws.{last_pos-greatest}
+use Rattle.rc_core.specs.declared.entries.Entry.{Entry}
+use Rattle.rc_core.specs.declared.entries.Flag.{Flag}
+use Rattle.rc_core.specs.Version.{Ascend, EndsWithDummy, Version, IsVersion, end_position}
+use Rattle.rc_core.specs.Change.{split, split_by, lose_first_gap}
+use Rattle.rc_core.specs.Continuity.{with_entries}
+use Rattle.rc_core.proofs.Spots.{turn_to}
+use Rattle.rc_units.specs.Clean.{row_under, onto_by, gap_onto_by, entry_onto, end_onto, merge_entry, end_merged, gap_said}
+use Rattle.rc_units.proofs.Under.{none-under}
+use Rattle.rc_units.proofs.Cleaning.{entry_onto-keeps, end_onto-keeps}
+
+-- ---- split
+
+ahead_split : (x : Pos) (e : Entry) (es : List Entry) → IsBefore e.position x → Ascend (e ∷ es) → Ascend (e ∷ split x es)
+ahead_split x e [] l a = tt
+ahead_split x e (f ∷ fs) l a = elim (pos_cmp x f.position) as (λ r. pos_cmp x f.position ≡ r → Ascend (e ∷ split_by r x f fs (split x fs))) [
+  | Less ↦ λ h. (l, (h, a.1))
+  | Equal ↦ λ h. a
+  | Greater ↦ λ h. (a.0, ahead_split x f fs (turn_to x f.position Greater h) a.1)
+] refl
+
+pub split-ascends : (x : Pos) (es : List Entry) → Ascend es → Ascend (split x es)
+split-ascends x [] a = a
+split-ascends x (e ∷ es) a = elim (pos_cmp x e.position) as (λ r. pos_cmp x e.position ≡ r → Ascend (split_by r x e es (split x es))) [
+  | Less ↦ λ h. (h, a)
+  | Equal ↦ λ h. a
+  | Greater ↦ λ h. ahead_split x e es (turn_to x e.position Greater h) a
+] refl
+
+ends_more : (e : Entry) (es : List Entry) → EndsWithDummy es → EndsWithDummy (e ∷ es)
+ends_more e [] d = absurd d
+ends_more e (f ∷ fs) d = d
+
+pub split-ends : (x : Pos) (es : List Entry) → EndsWithDummy es → EndsWithDummy (split x es)
+split-ends x [] d = d
+split-ends x (e ∷ []) d = elim (pos_cmp x e.position) as (λ r. EndsWithDummy (split_by r x e [] [])) [ Less ↦ d | Equal ↦ d | Greater ↦ d ]
+split-ends x (e ∷ f ∷ fs) d = elim (pos_cmp x e.position) as (λ r. EndsWithDummy (split_by r x e (f ∷ fs) (split x (f ∷ fs)))) [ Less ↦ d | Equal ↦ d | Greater ↦ ends_more e (split x (f ∷ fs)) (split-ends x (f ∷ fs) d) ]
+
+-- ---- a function on each entry
+
+module _ (f : Entry → Entry) (keeps : (y : Entry) → (f y).position ≡ y.position) where
+  pub map-ascends : (es : List Entry) → Ascend es → Ascend (list_map f es)
+  map-ascends [] a = a
+  map-ascends (e ∷ []) a = tt
+  map-ascends (e ∷ g ∷ es) a = ((λ i. pos_cmp (keeps e i) (keeps g i)) ∙ a.0, map-ascends (g ∷ es) a.1)
+
+  pub map-ends : ((y : Entry) → y.position ≡ end_position → y.row ≡ None → (f y).row ≡ None) → (es : List Entry) → EndsWithDummy es → EndsWithDummy (list_map f es)
+  map-ends last [] d = d
+  map-ends last (e ∷ []) d = (keeps e ∙ d.0, last e d.0 d.1)
+  map-ends last (e ∷ g ∷ es) d = map-ends last (g ∷ es) d
+
+-- ---- what the cleaner leaves
+
+no_row_under : (f : Flag) (row : Option Row) → row ≡ None → row_under f None row ≡ None
+no_row_under f row h = ap (row_under f None) h ∙ none-under f
+
+no_row_of : (r : Ordering) (n y : Entry) → y.row ≡ None → (gap_onto_by r n y).row ≡ None
+no_row_of Less n y h = no_row_under y.at.flag y.row h
+no_row_of Equal n y h = h
+no_row_of Greater n y h = h
+
+module _ (e n : Entry) (lt : IsBefore e.position n.position) where
+  entry_last : (r : Ordering) (y : Entry) → pos_cmp y.position e.position ≡ r → y.position ≡ end_position → y.row ≡ None → (onto_by r e y (gap_onto_by (pos_cmp y.position n.position) n y)).row ≡ None
+  entry_last Less y h at_end none = no_row_under y.at.flag y.row none
+  entry_last Equal y h at_end none =
+      let u : true ≡ false = sym (ap is_gt (turn_to e.position n.position Less lt)) ∙ ap (λ q. is_gt (pos_cmp n.position q)) (sym (pos_cmp_same y.position e.position h) ∙ at_end) ∙ last_pos-greatest n.position in absurd (cc)
+  entry_last Greater y h at_end none = no_row_of (pos_cmp y.position n.position) n y none
+
+  merge_entry-ascends : (w : List Entry) → Ascend w → Ascend (merge_entry e n w)
+  merge_entry-ascends w a = map-ascends (entry_onto e n) (entry_onto-keeps e n) (split n.position (split e.position w)) (split-ascends n.position (split e.position w) (split-ascends e.position w a))
+
+  merge_entry-ends : (w : List Entry) → EndsWithDummy w → EndsWithDummy (merge_entry e n w)
+  merge_entry-ends w d = map-ends (entry_onto e n) (entry_onto-keeps e n) (λ y at none. entry_last (pos_cmp y.position e.position) y refl at none) (split n.position (split e.position w)) (split-ends n.position (split e.position w) (split-ends e.position w d))
+
+  pub merge_entry-version : (w : Version) → IsVersion w → IsVersion (with_entries (merge_entry e n w.entries) w)
+  merge_entry-version w i = record { ascend = merge_entry-ascends w.entries i.ascend; ends = merge_entry-ends w.entries i.ends }
+
+end_last : (r : Ordering) (e y : Entry) → e.row ≡ None → y.row ≡ None → (onto_by r e y y).row ≡ None
+end_last Less e y none h = no_row_under y.at.flag y.row h
+end_last Equal e y none h = ap (λ q. row_under y.at.flag q y.row) none ∙ no_row_under y.at.flag y.row h
+end_last Greater e y none h = h
+
+pub end_merged-version : (e : Entry) (v w : Version) → e.row ≡ None → IsVersion w → IsVersion (end_merged e v w)
+end_merged-version e v w none i = record {
+  ascend = map-ascends (end_onto e) (end_onto-keeps e) w.entries i.ascend;
+  ends = map-ends (end_onto e) (end_onto-keeps e) (λ y _ h. end_last (pos_cmp y.position e.position) e y none h) w.entries i.ends;
+}
+
+said_ends : (n : Entry) (back : List Entry) → EndsWithDummy (n ∷ back) → EndsWithDummy (gap_said n ∷ back)
+said_ends n [] d = d
+said_ends n (b ∷ back) d = d
+
+said_ascends : (n : Entry) (back : List Entry) → Ascend (n ∷ back) → Ascend (gap_said n ∷ back)
+said_ascends n [] a = tt
+said_ascends n (b ∷ back) a = a
+
+-- the older version without its first entry
+pub gap_said-version : (v : Version) (e n : Entry) (back : List Entry) → v.entries ≡ e ∷ n ∷ back → IsVersion v → IsVersion (with_entries (gap_said n ∷ back) v)
+gap_said-version v e n back h i = record { ascend = said_ascends n back (subst Ascend h i.ascend).1; ends = said_ends n back (subst EndsWithDummy h i.ends) }
+
+lost_ends : (n : Entry) (back : List Entry) → EndsWithDummy (n ∷ back) → EndsWithDummy (lose_first_gap (n ∷ back))
+lost_ends n [] d = d
+lost_ends n (b ∷ back) d = d
+
+lost_ascends : (n : Entry) (back : List Entry) → Ascend (n ∷ back) → Ascend (lose_first_gap (n ∷ back))
+lost_ascends n [] a = tt
+lost_ascends n (b ∷ back) a = a
+
+pub lost-version : (v : Version) (e n : Entry) (back : List Entry) → v.entries ≡ e ∷ n ∷ back → IsVersion v → IsVersion (with_entries (lose_first_gap (n ∷ back)) v)
+lost-version v e n back h i = record { ascend = lost_ascends n back (subst Ascend h i.ascend).1; ends = lost_ends n back (subst EndsWithDummy h i.ends) }

@@ -1,0 +1,88 @@
+//! What a unit of the cleaner leaves: it changes nothing that is seen, and without room it loses what it takes out.
+
+ghost use Rattle.std.specs.declared.cmp.Ordering.TheVariants.{Less};
+ghost use Rattle.std.specs.Prelude.{◌≡◌, ◌≢◌, ◌++◌, ◌∷◌, [], ℕ, IsTrue, List, None, Option, length};
+ghost use Rattle.rc_position.specs.declared.positions.Pos.{Pos};
+ghost use Rattle.rc_position.specs.Position.{Place};
+ghost use Rattle.rc_mutation.specs.declared.mutations.Mutation.{Mutation};
+ghost use Rattle.rc_core.specs.declared.entries.ChainKind.{ChainKind};
+ghost use Rattle.rc_core.specs.declared.entries.ChainKind.TheVariants.{Cache, Memtable};
+ghost use Rattle.rc_core.specs.declared.entries.Entry.{Entry};
+ghost use Rattle.rc_core.specs.Cell.{under};
+ghost use Rattle.rc_core.specs.Version.{Ascend, EndsWithDummy, Found, IsVersion, Spot, Version, cell_of, found, seen, spot_cmp};
+ghost use Rattle.rc_core.specs.Chain.{IsEvenAt, cells, content, flagged};
+ghost use Rattle.rc_core.specs.Change.{lose_first_gap, lost_mark};
+ghost use Rattle.rc_core.specs.Chains.{AllInherit, IsCarried};
+ghost use Rattle.rc_core.specs.Continuity.{EachOf, IsContinuous, with_entries};
+ghost use Rattle.rc_core.specs.Merge.{Alike, IsMerged, IsSeenAlike, IsSilent};
+ghost use Rattle.rc_units.specs.Clean.{clean_times, cleaned, cleaned_without_room, emptied, end_merged, found_under, gap_said, merge_entry, no_mark, statics_onto, statics_said, units_of};
+
+/// What two versions say of a spot, the older one's put under the newer one's, says what is seen through both.
+pub fn one_cell_goes_under_another()
+    ensures { (older newer : Found) → Alike (cell_of (found_under older newer)) (under (cell_of older) (cell_of newer)) }
+{}
+
+/// With the first entry of the older version, each spot before its successor is put under the newer version's, and says nothing more in the
+/// older one; from the successor on both are as before.
+pub fn a_merged_entry_goes_under_up_to_its_successor()
+    ensures newer { (s : Spot) (e n : Entry) (back newer : List Entry) → Ascend (e ∷ n ∷ back) → EndsWithDummy newer → spot_cmp s n.position ≡ Less →
+        seen s (merge_entry e n newer) ≡ found_under (seen s (e ∷ n ∷ back)) (seen s newer) }
+    ensures older { (s : Spot) (n : Entry) (back : List Entry) → spot_cmp s n.position ≡ Less → seen s (gap_said n ∷ back) ≡ found no_mark None }
+    ensures behind { (s : Spot) (e n : Entry) (back newer : List Entry) → Ascend (e ∷ n ∷ back) → spot_cmp s n.position ≢ Less →
+        (seen s (merge_entry e n newer) ≡ seen s newer) × (seen s (gap_said n ∷ back) ≡ seen s (e ∷ n ∷ back)) }
+{}
+
+/// Each sort of unit puts cells down: the static row; a first entry with its gap and the gap behind it, be it a row or a dummy; and the end
+/// dummy, after which the older version says nothing.
+pub fn each_sort_of_unit_puts_cells_down()
+    ensures statics { (v w : Version) → IsMerged v w (statics_said v) (statics_onto v w) }
+    ensures entry { (v w : Version) (e n : Entry) (back : List Entry) → v.entries ≡ e ∷ n ∷ back → IsVersion v → IsVersion w →
+        IsMerged v w (with_entries (gap_said n ∷ back) v) (with_entries (merge_entry e n w.entries) w) }
+    ensures end_dummy { (v w : Version) (e : Entry) → v.entries ≡ e ∷ [] → IsVersion v → IsVersion w → IsMerged v w (emptied e v) (end_merged e v w) }
+    ensures silent { (e : Entry) (v : Version) → IsSilent (emptied e v) }
+{}
+
+/// A unit leaves versions.
+pub fn a_unit_leaves_versions()
+    ensures { (v w : Version) → IsVersion v → IsVersion w → EachOf IsVersion (cleaned v w) }
+{}
+
+/// A unit changes nothing that is seen through any newer version, and what was carried is carried.
+pub fn a_unit_changes_nothing()
+    ensures seen { (front back : List Version) (v w : Version) → IsVersion v → IsVersion w →
+        IsSeenAlike (front ++ v ∷ w ∷ back) (front ++ (cleaned v w ++ back)) }
+    ensures carried { (updating : Option Place) (front mid back : List Version) (v w : Version) (x : Pos) → IsVersion v → IsVersion w →
+        IsCarried updating (front ++ v ∷ w ∷ mid) (front ++ v ∷ w ∷ back) x → IsCarried updating (front ++ (cleaned v w ++ mid)) (front ++ (cleaned v w ++ back)) x }
+{}
+
+/// A unit keeps the continuity of the newer of both versions and of each above it; and of a memtable's chain that all flags are Inherit, and
+/// that tombstones are even.
+pub fn a_unit_keeps_continuity()
+    ensures cache { (reach : Option Place) (writes : List Mutation) (front back : List Version) (v w : Version) → IsVersion v → IsVersion w →
+        IsContinuous reach writes (front ++ v ∷ w ∷ back) → IsContinuous reach writes (front ++ (cleaned v w ++ back)) }
+    ensures flags { (front back : List Version) (v w : Version) → IsVersion v → IsVersion w →
+        EachOf AllInherit (front ++ v ∷ w ∷ back) → EachOf AllInherit (front ++ (cleaned v w ++ back)) }
+    ensures even { (kind : ChainKind) (front back : List Version) (v w : Version) (x : Pos) → IsVersion v → IsVersion w →
+        IsEvenAt kind (front ++ v ∷ w ∷ back) x → IsEvenAt kind (front ++ (cleaned v w ++ back)) x }
+{}
+
+/// After a unit for the static row, if there is one, and one for each entry the older version is dropped, and nothing that is seen has changed;
+/// nor has it after any number of them.
+pub fn a_whole_merge_drops_the_older_version()
+    ensures alone { (v w : Version) → IsVersion v → IsVersion w → length (clean_times (units_of v) v w) ≡ 1 }
+    ensures seen { (n : ℕ) (front back : List Version) (v w : Version) → IsVersion v → IsVersion w →
+        IsSeenAlike (front ++ v ∷ w ∷ back) (front ++ (clean_times n v w ++ back)) }
+{}
+
+/// Without room a memtable stays as it is. Of a cache what lies around the first entry is lost; what is known then was known before with the
+/// same content, and continuity is kept.
+pub fn without_room_a_unit_loses_what_it_takes_out()
+    ensures memtable { (v w : Version) → cleaned_without_room Memtable v w ≡ v ∷ w ∷ [] }
+    ensures lost { (s : Spot) (n : Entry) (back : List Entry) → spot_cmp s n.position ≡ Less → seen s (lose_first_gap (n ∷ back)) ≡ found lost_mark None }
+    ensures known { (kind : ChainKind) (front back : List Version) (v w : Version) → IsVersion v → IsVersion w → (s : Spot) →
+        IsTrue (flagged Cache (cells s (front ++ (cleaned_without_room kind v w ++ back)))) →
+        IsTrue (flagged Cache (cells s (front ++ v ∷ w ∷ back))) × (content (cells s (front ++ (cleaned_without_room kind v w ++ back))) ≡ content (cells s (front ++ v ∷ w ∷ back))) }
+    ensures kept { (kind : ChainKind) (reach : Option Place) (writes : List Mutation) (front back : List Version) (v w : Version) → IsVersion v → IsVersion w →
+        IsContinuous reach writes (front ++ v ∷ w ∷ back) → IsContinuous reach writes (front ++ (cleaned_without_room kind v w ++ back)) }
+    ensures versions { (kind : ChainKind) (v w : Version) → IsVersion v → IsVersion w → EachOf IsVersion (cleaned_without_room kind v w) }
+{}
