@@ -6,16 +6,19 @@ use Rattle.lsa_pool.specs.declared.State.{State}
 use Rattle.lsa_pool.specs.declared.State.TheVariants.{Free, Active, Closed}
 use Rattle.lsa_pool.specs.declared.Usage.{Usage}
 
+-- the state is Free
 abbrev pub is_state_free : State → Bool
 is_state_free Free = true
 is_state_free Active = false
 is_state_free Closed = false
 
+-- the state is Active
 abbrev pub is_state_active : State → Bool
 is_state_active Free = false
 is_state_active Active = true
 is_state_active Closed = false
 
+-- the state is Closed
 abbrev pub is_state_closed : State → Bool
 is_state_closed Free = false
 is_state_closed Active = false

@@ -21,6 +21,7 @@ abbrev pub if_any : {K : Type 0} → (K → Bool) → Option K → Bool
 if_any p None = true
 if_any p (Some x) = p x
 
+-- there is a value and it passes
 abbrev pub some_passes : {K : Type 0} → (K → Bool) → Option K → Bool
 some_passes p None = false
 some_passes p (Some x) = p x
@@ -97,6 +98,7 @@ pub list_all-append : {K : Type 0} (p : K → Bool) (xs ys : List K) → list_al
 list_all-append p [] ys = refl
 list_all-append p (x ∷ xs) ys = elim (p x) as (λ b. (b && list_all p (xs ++ ys)) ≡ ((b && list_all p xs) && list_all p ys)) [ true ↦ list_all-append p xs ys | false ↦ refl ]
 
+-- the list is empty
 abbrev pub is_nil : {K : Type 0} → List K → Bool
 is_nil [] = true
 is_nil (x ∷ xs) = false

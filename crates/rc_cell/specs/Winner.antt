@@ -52,6 +52,7 @@ greatest cmp xs = unbeaten (λ x y. is_gt (cmp x y)) xs
 abbrev pub markers : List Row → List ℤ
 markers rows = filter_map (λ row. row.marker) rows
 
+-- the rows' tombstones, in the rows' order
 abbrev pub tombs : List Row → List Tomb
 tombs rows = filter_map (λ row. row.tomb) rows
 
@@ -63,6 +64,7 @@ all_cells rows = flat_map (λ row. row.cells) rows
 abbrev pub at_column : ℕ → List (ℕ × Cell) → List Cell
 at_column column cells = list_map (λ e. e.1) (filter (λ e. column == e.0) cells)
 
+-- the cells that the rows have in the column
 abbrev pub cells_at : ℕ → List Row → List Cell
 cells_at column rows = at_column column (all_cells rows)
 

@@ -84,12 +84,14 @@ last_pos-greatest x = greatest x.prefix x.weight
 
 -- ---- all places
 
+-- how far the kind of a place stands from a partition's head
 abbrev place_rank : Place → ℕ
 place_rank Head = 0
 place_rank Static = 1
 place_rank (Clustered x) = 2
 place_rank End = 3
 
+-- the position of a place among the rows
 abbrev clustered : Place → Option Pos
 clustered Head = None
 clustered Static = None

@@ -35,18 +35,22 @@ both_Equal Greater s e = (e, absurd (cc))
 
 -- ---- components: the kind first, then the number, then the bytes
 
+-- 0 for a number, 1 for text
 abbrev kind : Comp → ℕ
 kind (Int a) = 0
 kind (Text b) = 1
 
+-- the number of a component; 0 for text
 abbrev number : Comp → ℤ
 number (Int a) = a
 number (Text b) = pos 0
 
+-- the bytes of a component; none for a number
 abbrev bytes : Comp → List ℕ
 bytes (Int a) = []
 bytes (Text b) = b
 
+-- the order of components, as that of their kinds, numbers and bytes in turn
 abbrev by_parts : Comp → Comp → Ordering
 by_parts = then_cmp (on kind nat_cmp) (then_cmp (on number int_cmp) (on bytes bytes_cmp))
 
@@ -73,10 +77,12 @@ rank Before = 0
 rank At = 1
 rank After = 3
 
+-- a prefix and a weight as a list that is ordered item by item: 2 and the component for each, then the weight's rank
 abbrev marks : List Comp → Weight → List (ℕ × Option Comp)
 marks [] w = (rank w, None) ∷ []
 marks (c ∷ cs) w = (2, Some c) ∷ marks cs w
 
+-- the order of the items of such a list
 abbrev mark_cmp : (ℕ × Option Comp) → (ℕ × Option Comp) → Ordering
 mark_cmp = then_cmp (on (λ m. m.0) nat_cmp) (on (λ m. m.1) (option_cmp comp_cmp))
 
@@ -101,6 +107,7 @@ marks_cmp (c ∷ cs) v [] At = refl
 marks_cmp (c ∷ cs) v [] After = refl
 marks_cmp (c ∷ cs) v (d ∷ ds) w = ap (ordering_then (comp_cmp c d)) (marks_cmp cs v ds w)
 
+-- the list of a position
 abbrev marks_of : Pos → List (ℕ × Option Comp)
 marks_of x = marks x.prefix x.weight
 

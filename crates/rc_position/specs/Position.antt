@@ -22,12 +22,14 @@ use Rattle.rc_position.specs.declared.positions.Pos.{Pos}
 abbrev pub bytes_cmp : List ℕ → List ℕ → Ordering
 bytes_cmp = slice_cmp nat_cmp
 
+-- the order of components: numbers by value, before texts by bytes
 abbrev pub comp_cmp : Comp → Comp → Ordering
 comp_cmp (Int a) (Int b) = int_cmp a b
 comp_cmp (Int a) (Text b) = Less
 comp_cmp (Text a) (Int b) = Greater
 comp_cmp (Text a) (Text b) = bytes_cmp a b
 
+-- the order of weights: before, at, after
 abbrev pub weight_cmp : Weight → Weight → Ordering
 weight_cmp Before Before = Equal
 weight_cmp Before At = Less
@@ -45,12 +47,14 @@ shorter_cmp Before = Less
 shorter_cmp At = Less
 shorter_cmp After = Greater
 
+-- the order of positions, by their prefixes and weights
 abbrev pub prefix_cmp : List Comp → Weight → List Comp → Weight → Ordering
 prefix_cmp [] v [] w = weight_cmp v w
 prefix_cmp [] v (d ∷ ds) w = shorter_cmp v
 prefix_cmp (c ∷ cs) v [] w = ordering_reverse (shorter_cmp w)
 prefix_cmp (c ∷ cs) v (d ∷ ds) w = ordering_then (comp_cmp c d) (prefix_cmp cs v ds w)
 
+-- the order of positions
 unfoldable pub pos_cmp : Pos → Pos → Ordering
 pos_cmp x y = prefix_cmp x.prefix x.weight y.prefix y.weight
 
@@ -58,9 +62,11 @@ pos_cmp x y = prefix_cmp x.prefix x.weight y.prefix y.weight
 abbrev pub row_pos : List Comp → Pos
 row_pos k = record { prefix = k; weight = At }
 
+-- the order of clustering keys: that of their rows' positions
 abbrev pub key_cmp : List Comp → List Comp → Ordering
 key_cmp k l = pos_cmp (row_pos k) (row_pos l)
 
+-- x comes before y
 abbrev pub IsBefore : Pos → Pos → Type 0
 IsBefore x y = pos_cmp x y ≡ Less
 
@@ -82,6 +88,7 @@ end_bound p false = record { prefix = p; weight = Before }
 abbrev pub IsBeforeRows : List Comp → Pos → Type 0
 IsBeforeRows p x = (rest : List Comp) → IsBefore x (row_pos (p ++ rest))
 
+-- x comes after each row whose key begins with p
 abbrev pub IsAfterRows : List Comp → Pos → Type 0
 IsAfterRows p x = (rest : List Comp) → IsBefore (row_pos (p ++ rest)) x
 
@@ -96,6 +103,7 @@ pub data Place : Type 0 where
   Clustered : Pos → Place
   End : Place
 
+-- the order of places: head, static row, the clustered positions, end
 abbrev pub place_cmp : Place → Place → Ordering
 place_cmp Head Head = Equal
 place_cmp Head Static = Less

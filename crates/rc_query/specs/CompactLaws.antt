@@ -36,9 +36,11 @@ use Rattle.rc_query.specs.AnswerLaws.{answer-one, own_cover, own_line, row_line}
 use Rattle.rc_query.specs.Compacting.{after, compacted, compacted_all, fragment_line, fragments_in, is_between, opening}
 use Rattle.rc_position.specs.declared.slices.Slice.{Slice}
 
+-- a row and its key
 abbrev Keyed : Type 0
 Keyed = List Comp × Row
 
+-- from this position on this tombstone is in force
 abbrev Change : Type 0
 Change = Pos × Option Tomb
 
@@ -51,6 +53,7 @@ force tomb (b ∷ bs) x = cond (is_lt (pos_cmp x b.0)) tomb (force b.1 bs x)
 abbrev forced : Option Tomb → Option Tomb → List Change → List Keyed → List OutLine
 forced head tomb bs os = filter_map (λ e. row_line (greater tomb_cmp head (force tomb bs (row_pos e.0))) e.0 e.1) os
 
+-- the lines of fragments that carry their places
 abbrev compacted_merge : Option Tomb → Option Tomb → List ((Pos × ℕ) × Frag) → List OutLine
 compacted_merge head tomb placed = compacted head tomb (list_map fragment_of placed)
 
@@ -91,6 +94,7 @@ from_below x a [] h g = tt
 from_below x a (o ∷ os) h g =
     (later x a.0 o.0 h (less (pos_cmp (row_pos a.0) (row_pos o.0)) (first (is_lt (place_order (row_pos a.0, 1) (row_pos o.0, 1))) (below_all place_order (row_pos a.0, 1) (list_map placed_row os)) g)), from_below x a os h (second (is_lt (place_order (row_pos a.0, 1) (row_pos o.0, 1))) (below_all place_order (row_pos a.0, 1) (list_map placed_row os)) g))
 
+-- the rows ascend
 abbrev SortedRows : List Keyed → Type 0
 SortedRows os = T (is_sorted place_order (list_map placed_row os))
 
@@ -120,6 +124,7 @@ tie Less e = absurd (cc)
 tie Equal e = refl
 tie Greater e = absurd (cc)
 
+-- the change at the end of a range, unless the next range begins there
 abbrev ends : Piece → List Piece → List Change
 ends p qs = cond (begins_at p.to qs) [] ((p.to, None) ∷ [])
 
@@ -190,9 +195,11 @@ compacted-answer m is =
 
 -- ---- a slice of a partition
 
+-- the changes ascend
 abbrev SortedChanges : List Change → Type 0
 SortedChanges cs = T (is_sorted place_order (list_map placed_change cs))
 
+-- the changes come after x
 abbrev Behind : Pos → List Change → Type 0
 Behind x cs = T (below_all place_order (x, 0) (list_map placed_change cs))
 
@@ -281,6 +288,7 @@ and_second : (a b : Bool) → (a && b) ≡ true → b ≡ true
 and_second true b h = h
 and_second false b h = absurd (cc)
 
+-- the changes that a slice shows: the one in force where it begins, then those inside
 abbrev sliced_changes : Slice → List Piece → List Change
 sliced_changes slice ranges = opening slice ranges ++ filter (λ c. is_between slice c.0) (changes_of ranges)
 

@@ -25,6 +25,7 @@ abbrev pub MayFollow : Piece → List Piece → Type 0
 MayFollow p [] = Unit {0}
 MayFollow p (q ∷ qs) = (is_gt (pos_cmp p.to q.from) ≡ false) × (p.to ≡ q.from → p.tomb ≢ q.tomb)
 
+-- ranges of some width that ascend, do not overlap, and meet only where their tombstones differ
 abbrev pub IsCanonical : List Piece → Type 0
 IsCanonical [] = Unit {0}
 IsCanonical (p ∷ ps) = IsBefore p.from p.to × MayFollow p ps × IsCanonical ps

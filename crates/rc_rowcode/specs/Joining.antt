@@ -15,6 +15,7 @@ unfoldable pub listed : ℕ → List ℕ → List (ℕ × Cell)
 listed zero bytes = []
 listed (suc n) bytes = unwrap_or (option_map (λ x. x.0 ∷ listed n x.1) (entry_at 0 bytes)) []
 
+-- the entries as a list
 abbrev pub seen_entries : Entries → List (ℕ × Cell)
 seen_entries s = listed s.count s.bytes.now
 
@@ -26,5 +27,6 @@ seen_row h = record { marker = h.marker; tomb = h.tomb; cells = seen_entries h.c
 abbrev pub merged : Merge → List (ℕ × Cell)
 merged m = winners (seen_entries m.ours ++ seen_entries m.theirs)
 
+-- the entries of both ascend by column
 abbrev pub AreSorted : Merge → Type 0
 AreSorted m = IsTrue (ascending (seen_entries m.ours)) × IsTrue (ascending (seen_entries m.theirs))

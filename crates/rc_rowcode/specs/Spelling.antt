@@ -20,12 +20,15 @@ use Rattle.rc_position.specs.declared.positions.Pos.{Pos}
 
 -- ---- numbers, little-endian: a timestamp in 8 bytes (two's complement), a deletion time in 4, a length in 2
 
+-- a timestamp: 8 bytes, little endian, two's complement
 unfoldable pub stamp_code : ℤ → List ℕ
 stamp_code z = to_le_bytes w64 (cast_unsigned w64 z)
 
+-- a deletion time: 4 bytes, little endian
 unfoldable pub time_code : ℕ → List ℕ
 time_code n = to_le_bytes w32 n
 
+-- a length: 2 bytes, little endian
 unfoldable pub length_code : ℕ → List ℕ
 length_code n = to_le_bytes w16 n
 
@@ -36,24 +39,30 @@ abbrev pub optional_code : {X : Type 0} → (X → List ℕ) → Option X → Li
 optional_code code None = 0 ∷ []
 optional_code code (Some x) = 1 ∷ code x
 
+-- a tombstone: its timestamp, then its deletion time
 abbrev pub tomb_code : Tomb → List ℕ
 tomb_code t = stamp_code t.ts ++ time_code t.dt
 
+-- a component: 0 and the number, or 1, the length in a byte and the text
 abbrev pub comp_code : Comp → List ℕ
 comp_code (Int number) = 0 ∷ stamp_code number
 comp_code (Text bytes) = 1 ∷ length bytes ∷ bytes
 
+-- a key: the number of its components, then these
 abbrev pub key_code : List Comp → List ℕ
 key_code key = length key ∷ flat_map comp_code key
 
+-- the byte of a weight
 abbrev pub weight_byte : Weight → ℕ
 weight_byte Before = 0
 weight_byte At = 1
 weight_byte After = 2
 
+-- a position: its weight, then its prefix
 abbrev pub pos_code : Pos → List ℕ
 pos_code x = weight_byte x.weight ∷ key_code x.prefix
 
+-- a cell: 0, timestamp, length and value, or 1, timestamp and deletion time
 abbrev pub cell_code : Cell → List ℕ
 cell_code (Live ts value) = 0 ∷ (stamp_code ts ++ (length_code (length value) ++ value))
 cell_code (Dead ts dt) = 1 ∷ (stamp_code ts ++ time_code dt)
@@ -62,14 +71,17 @@ cell_code (Dead ts dt) = 1 ∷ (stamp_code ts ++ time_code dt)
 abbrev pub entry_code : ℕ × Cell → List ℕ
 entry_code e = e.0 ∷ cell_code e.1
 
+-- the cells of a row: their number, then each with its column
 abbrev pub cells_code : List (ℕ × Cell) → List ℕ
 cells_code cells = length cells ∷ flat_map entry_code cells
 
+-- a row: marker, tombstone, cells
 abbrev pub row_code : Row → List ℕ
 row_code row = optional_code stamp_code row.marker ++ (optional_code tomb_code row.tomb ++ cells_code row.cells)
 
 -- ---- limits: what can be spelt
 
+-- the component keeps the limit on a text's length
 abbrev pub CompFits : Comp → Type 0
 CompFits (Int number) = ⊤
 CompFits (Text bytes) = length bytes ≤ 64
@@ -78,10 +90,12 @@ CompFits (Text bytes) = length bytes ≤ 64
 abbrev pub KeyFits : List Comp → Type 0
 KeyFits key = (length key ≤ 4) × All CompFits key
 
+-- the cell keeps the limit on a value's length
 abbrev pub CellFits : Cell → Type 0
 CellFits (Live ts value) = length value ≤ 256
 CellFits (Dead ts dt) = ⊤
 
+-- the column is one of 32, and its cell keeps the limit
 abbrev pub EntryFits : ℕ × Cell → Type 0
 EntryFits e = (e.0 < 32) × CellFits e.1
 
@@ -91,23 +105,29 @@ RowFits row = All EntryFits row.cells
 
 -- ---- the values that spellings stand for: within the limits, and each number within its type
 
+-- both numbers of the tombstone are in range
 abbrev pub IsTomb : Tomb → Type 0
 IsTomb t = FitsSigned w64 t.ts × (t.dt < 2 ^ 32)
 
+-- the component's number is in range, its text within the limit
 abbrev pub IsComp : Comp → Type 0
 IsComp (Int number) = FitsSigned w64 number
 IsComp (Text bytes) = length bytes ≤ 64
 
+-- four components at most, each in range
 abbrev pub IsKey : List Comp → Type 0
 IsKey key = (length key ≤ 4) × AllByRecursion IsComp key
 
+-- the prefix is that of a key
 abbrev pub IsPos : Pos → Type 0
 IsPos x = IsKey x.prefix
 
+-- the cell's numbers are in range, its value within the limit
 abbrev pub IsCell : Cell → Type 0
 IsCell (Live ts value) = FitsSigned w64 ts × (length value ≤ 256)
 IsCell (Dead ts dt) = FitsSigned w64 ts × (dt < 2 ^ 32)
 
+-- the column is one of 32, and its cell is in range
 abbrev pub IsEntry : ℕ × Cell → Type 0
 IsEntry e = (e.0 < 32) × IsCell e.1
 

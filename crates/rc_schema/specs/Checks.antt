@@ -15,6 +15,7 @@ use Rattle.rc_schema.specs.Lists.{Lists, is_text}
 abbrev pub column_of : List ℕ → List (List ℕ) → Option ℕ
 column_of name names = position (λ other. is_text other name) names
 
+-- the component is of the kind
 abbrev pub is_of_kind : Comp → CkKind → Bool
 is_of_kind (comps.Int number) Int = true
 is_of_kind (comps.Int number) Text = false

@@ -15,6 +15,7 @@ pub record Lists : Type 0 where
 abbrev pub is_text : List ℕ → List ℕ → Bool
 is_text text other = pointwise nat_eq text other
 
+-- the byte may stand in a name: a lowercase letter, a digit or `_`
 abbrev pub is_name_byte : ℕ → Bool
 is_name_byte byte = is_ascii_lowercase byte || (is_ascii_digit byte || byte == 95)
 

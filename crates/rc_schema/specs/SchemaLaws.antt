@@ -22,6 +22,7 @@ join b c p q = rw (p, q) refl
 
 -- cutting
 
+-- the byte stands nowhere in the word
 abbrev lacks : ℕ → List ℕ → Bool
 lacks c word = list_all (λ x. not (x == c)) word
 
@@ -142,6 +143,7 @@ names_text_lacks (n ∷ ns) h = lacks-join 32 44 refl (n ∷ ns) (names_lack 32 
 
 -- the whole
 
+-- what of a schema its spelling rests on
 record Parts (s : Lists) : Type 0 where
   some_kind : nat_le 1 (length s.ck) ≡ true
   statics : list_all is_name s.statics ≡ true

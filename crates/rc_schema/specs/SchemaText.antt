@@ -7,6 +7,7 @@ use Rattle.rc_schema.specs.declared.schemas.SchemaTextErr.{SchemaTextErr}
 use Rattle.rc_schema.specs.declared.schemas.SchemaTextErr.TheVariants.{Malformed, NoMemory}
 use Rattle.rc_schema.specs.Lists.{Lists, is_text, is_schema}
 
+-- the word of a kind
 abbrev pub kind_text : CkKind → List ℕ
 kind_text Int = codes "int"
 kind_text Text = codes "text"
@@ -28,6 +29,7 @@ schema_text s = join_with_byte 32 ((codes "ck=" ++ kinds_text s.ck) ∷ (codes "
 abbrev pub words : List ℕ → List (List ℕ)
 words text = slice_split (λ byte. byte == 32) text
 
+-- the items of a word, between commas
 abbrev pub items : List ℕ → List (List ℕ)
 items word = slice_split (λ byte. byte == 44) word
 
@@ -35,6 +37,7 @@ items word = slice_split (λ byte. byte == 44) word
 abbrev pub is_kind : List ℕ → Bool
 is_kind word = is_text word (codes "int") || is_text word (codes "text")
 
+-- the kind that a word names
 abbrev pub kind_of : List ℕ → CkKind
 kind_of word = if is_text word (codes "int") then Int else Text
 

@@ -67,5 +67,6 @@ in_force (x ∷ before) = None
 abbrev pub IsNextKey : Before → List ℕ → Type 0
 IsNextKey before key = IfSome (last_key before) (λ last. bytes_cmp last key ≡ Less)
 
+-- the position comes after the last one
 abbrev pub IsNextPos : Before → Pos → Type 0
 IsNextPos before x = IfSome (last_pos before) (λ last. IsBefore last x)

@@ -16,15 +16,19 @@ Starts code is bytes (Some found) = is found.0 × (bytes ≡ code found.0 ++ dro
 abbrev pub part_item : Part → Item
 part_item p = PartItem p.key p.head.pt p.head.statics
 
+-- a partition's head: its tombstone, then its static row
 abbrev pub head_code : Head → List ℕ
 head_code h = optional_code tomb_code h.pt ++ row_code h.statics
 
+-- the numbers of the head are in range
 abbrev pub IsHead : Head → Type 0
 IsHead h = IfSome h.pt IsTomb × IsCodedRow h.statics
 
+-- a partition's begin: its key, then its head
 abbrev pub part_code : Part → List ℕ
 part_code p = bytes_code p.key ++ head_code p.head
 
+-- the key and the head are in range
 abbrev pub IsPart : Part → Type 0
 IsPart p = IsPartKey p.key × IsHead p.head
 
@@ -32,5 +36,6 @@ IsPart p = IsPartKey p.key × IsHead p.head
 abbrev pub text_code : Lists → List ℕ
 text_code schema = length_code (length (schema_text schema)) ++ schema_text schema
 
+-- the schema is one, and its text has fewer than 2^16 bytes
 abbrev pub HasText : Lists → Type 0
 HasText schema = IsTrue (is_schema schema) × (length (schema_text schema) < 2 ^ 16)
