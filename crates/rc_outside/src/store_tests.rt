@@ -152,6 +152,12 @@ fn range<S: Store>(store: &mut S, n: u32, off: u64) -> [u8; 3]
     }
 }
 
+// Takes away what an earlier test left at `tables`, where a folder store keeps its files.
+fn clear(rt: &HostRuntime) {
+    let _folder = fs::remove_dir_all(rt, "tables");
+    let _file = fs::remove_file(rt, "tables");
+}
+
 // Writes files whose names are those of no tables.
 fn write_others(rt: &HostRuntime) -> io::Result<()> {
     let names = [
@@ -180,6 +186,7 @@ fn write_others(rt: &HostRuntime) -> io::Result<()> {
 #[test]
 fn the_folder_keeps_tables(rt: HostRuntime) -> Result<(), Fail> {
     let alloc = rt.alloc();
+    clear(&rt);
     let mut store = FolderStore::new(&rt);
     let absent = listing(&mut store, alloc)?;
     let built = [
@@ -201,6 +208,7 @@ fn the_folder_keeps_tables(rt: HostRuntime) -> Result<(), Fail> {
 #[test]
 fn a_table_that_is_given_up_leaves_nothing(rt: HostRuntime) -> Result<(), Fail> {
     let alloc = rt.alloc();
+    clear(&rt);
     let mut store = FolderStore::new(&rt);
     let begun = said(store.begin(alloc, 3));
     store.abandon();
@@ -212,6 +220,7 @@ fn a_table_that_is_given_up_leaves_nothing(rt: HostRuntime) -> Result<(), Fail> 
 #[test]
 fn a_table_that_is_cut_is_a_fault(rt: HostRuntime) -> Result<(), Fail> {
     let alloc = rt.alloc();
+    clear(&rt);
     let mut store = FolderStore::new(&rt);
     assert_eq!(rt; build(&mut store, alloc, 1, [b"ab", b"cde"]), b'k');
     let whole = (store.size(1).ok(), range(&mut store, 1, 2));
@@ -311,6 +320,7 @@ fn a_name_that_is_no_text_is_a_fault(rt: HostRuntime) -> Result<(), Fail> {
 #[test]
 fn a_folder_that_is_none_is_a_fault(rt: HostRuntime) -> Result<(), Fail> {
     let alloc = rt.alloc();
+    clear(&rt);
     fs::write(&rt, "tables", b"a file")?;
     let mut store = FolderStore::new(&rt);
     let listed = listing(&mut store, alloc)?;
