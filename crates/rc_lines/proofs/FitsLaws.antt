@@ -33,7 +33,7 @@ use Rattle.rc_lines.specs.declared.shapes.Change.{Change}
 use Rattle.rc_lines.specs.declared.shapes.Change.TheVariants.{OfRow, OfStatic, OfRange, OfPartition}
 use Rattle.rc_lines.specs.declared.shapes.Shape.{Shape}
 use Rattle.rc_lines.specs.declared.shapes.Shape.TheVariants.{Plain, Open, Written}
-use Rattle.rc_lines.specs.Fits.{Fits, is_single, fits_key, fits_cells, fits_slice, fits_write}
+use Rattle.rc_lines.specs.Fits.{Fits, is_single, is_bound, fits_bound, fits_key, fits_cells, fits_slice, fits_write}
 use Rattle.rc_lines.specs.Grammar.{longest_line, is_comment, schema_said, shape_meaning, said, parse}
 use Rattle.rc_lines.specs.Shapes.{shape_of}
 use Rattle.rc_lines.specs.UnderSchema.{prefix_of, key_under, between, slice_under, cell_named, columns_from, by_column, are_columns, are_short, have_short_values, is_short_slice, key_said, slice_said, has_wrong_key, has_unknown_column, is_within, is_wrong_change, is_unknown_change, is_short_change, is_partition_key, is_written, rows_said, mutation_of, refusal_of, command_of, unless, meaning}
@@ -149,10 +149,22 @@ is_less Less h = refl
 is_less Equal h = cc
 is_less Greater h = cc
 
-abbrev SliceFits : List CkKind → Slice → Type 0
-SliceFits kinds slice = IsBefore slice.from slice.to × (fits_kinds false kinds slice.from.prefix ≡ true) × (fits_kinds false kinds slice.to.prefix ≡ true)
+-- a bound at a prefix of the schema's kinds
+abbrev BoundFits : List CkKind → Pos → Type 0
+BoundFits kinds x = (is_bound x.weight ≡ true) × (fits_kinds false kinds x.prefix ≡ true)
 
-between_fits : (kinds : List CkKind) (from to : Pos) → fits_kinds false kinds from.prefix ≡ true → fits_kinds false kinds to.prefix ≡ true → If (SliceFits kinds) (between from to)
+abbrev SliceFits : List CkKind → Slice → Type 0
+SliceFits kinds slice = IsBefore slice.from slice.to × BoundFits kinds slice.from × BoundFits kinds slice.to
+
+start_is_bound : (prefix : List Comp) (inclusive : Bool) → is_bound (start_bound prefix inclusive).weight ≡ true
+start_is_bound prefix true = refl
+start_is_bound prefix false = refl
+
+end_is_bound : (prefix : List Comp) (inclusive : Bool) → is_bound (end_bound prefix inclusive).weight ≡ true
+end_is_bound prefix true = refl
+end_is_bound prefix false = refl
+
+between_fits : (kinds : List CkKind) (from to : Pos) → BoundFits kinds from → BoundFits kinds to → If (SliceFits kinds) (between from to)
 unfolding between
 between_fits kinds from to p q =
     elim (is_lt (pos_cmp from to)) as (λ b. is_lt (pos_cmp from to) ≡ b → If (SliceFits kinds) (if b then Some (record { from = from; to = to }) else None)) [
@@ -169,14 +181,17 @@ slice_fits from to kinds =
     (λ f p. with_what (SliceFits kinds) Of (λ t. between (start_bound f from.inclusive) (end_bound t to.inclusive)) (prefix_of to.pieces kinds)
     (of_equal Of (prefix_of to.pieces kinds) (prefix_fits to.pieces kinds))
     (λ t q. between_fits kinds (start_bound f from.inclusive) (end_bound t to.inclusive)
-    (start_fits kinds f from.inclusive (start_bound f from.inclusive) refl p) (end_fits kinds t to.inclusive (end_bound t to.inclusive) refl q)))
+    (start_is_bound f from.inclusive, start_fits kinds f from.inclusive (start_bound f from.inclusive) refl p) (end_is_bound t to.inclusive, end_fits kinds t to.inclusive (end_bound t to.inclusive) refl q)))
+
+bound_fits : (schema : Lists) (x : Pos) → BoundFits schema.ck x → are_short x.prefix ≡ true → fits_bound schema x ≡ true
+bound_fits schema x p short = join (is_bound x.weight) (fits_key false schema x.prefix) p.0 (key_fits false schema x.prefix p.1 short)
 
 slice_stays : (schema : Lists) (o : Option Slice) → If (SliceFits schema.ck) o → is_none o ≡ false → is_short_slice (unwrap_or o whole) ≡ true
     → IsBefore (unwrap_or o whole).from (unwrap_or o whole).to × (fits_slice schema (unwrap_or o whole) ≡ true)
 slice_stays schema None p some short = cc
 slice_stays schema (Some slice) p some short =
     let parts = both (are_short slice.from.prefix) (are_short slice.to.prefix) short in
-    (p.0, join (fits_key false schema slice.from.prefix) (fits_key false schema slice.to.prefix) (key_fits false schema slice.from.prefix p.1 parts.0) (key_fits false schema slice.to.prefix p.2 parts.1))
+    (p.0, join (fits_bound schema slice.from) (fits_bound schema slice.to) (bound_fits schema slice.from p.1 parts.0) (bound_fits schema slice.to p.2 parts.1))
 
 -- writes that fit
 
