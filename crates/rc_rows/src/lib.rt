@@ -8,4 +8,6 @@ mod served;
 #[cfg(test)]
 mod slow;
 #[cfg(test)]
+mod tables;
+#[cfg(test)]
 mod tests;
