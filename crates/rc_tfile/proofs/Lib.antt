@@ -8,3 +8,6 @@ pub mod Starting
 pub mod Heads
 pub mod Unfit
 pub mod Ahead
+pub mod Lengths
+pub mod Turns
+pub mod Awaiting
