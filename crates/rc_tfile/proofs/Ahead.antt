@@ -109,3 +109,7 @@ same_content f g n m content p q is = subst (λ k. IsContent g k content) (sym q
 pub one_read : (w v : Seen) (count : ℕ) → v.read ≡ w.read + count → v.size ≡ w.size → count ≡ min (w.size - w.read) 65541 → w.read < w.size → reads_left v + 1 ≤ reads_left w
 unfolding reads_left
 one_read w v count r s c h = omega (arith, r, s, c, h)
+
+pub some_left : (w : Seen) → w.read < w.size → 1 ≤ reads_left w
+unfolding reads_left
+some_left w h = omega (arith, h)

@@ -66,8 +66,16 @@ entry_within key off blocks h = omega (arith, h, length-append (bytes_code key) 
 
 pub block_within : (b : Block) → KeyFits b.first.prefix → length (item_code (BlockItem b)) ≤ 65541
 block_within b h =
-    omega (arith, length-append (offset_code b.off) (time_code b.len ++ (optional_code tomb_code b.tomb ++ pos_code b.first)), length-append (time_code b.len) (optional_code tomb_code b.tomb ++ pos_code b.first), length-append (optional_code tomb_code b.tomb) (pos_code b.first),
-    length-offset b.off, length-time b.len, tomb_within b.tomb, key_within b.first.prefix h)
+    omega (
+      arith,
+      length-append (offset_code b.off) (time_code b.len ++ (optional_code tomb_code b.tomb ++ pos_code b.first)),
+      length-append (time_code b.len) (optional_code tomb_code b.tomb ++ pos_code b.first),
+      length-append (optional_code tomb_code b.tomb) (pos_code b.first),
+      length-offset b.off,
+      length-time b.len,
+      tomb_within b.tomb,
+      key_within b.first.prefix h,
+    )
 
 pub tail_within : (off parts : ℕ) → length (item_code (TailItem off parts)) ≤ 65541
 tail_within off parts = omega (arith, length-append (offset_code off) (time_code parts ++ codes "RCTE"), length-append (time_code parts) (codes "RCTE"), length-offset off, length-time parts)

@@ -11,3 +11,4 @@ pub mod Ahead
 pub mod Lengths
 pub mod Turns
 pub mod Awaiting
+pub mod Partitions

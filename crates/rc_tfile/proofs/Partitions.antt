@@ -127,12 +127,11 @@ parts_found schema before fit =
     (w.parts, ap (λ b. StopItem ∷ b) w.whole ∙ sym (body_is schema w.parts))
 
 -- so a file that ends with what must come behind them is their table
-pub table_found : (files : Option Files) (n : ℕ) (schema : Lists) (before : Before) (o : Outline) (parts : List PartRef) (bytes : List ℕ) → AllFit schema (StopItem ∷ before) → IsListed (StopItem ∷ before) o → IsWhole files n schema (StopItem ∷ before)
-    → parts ≡ refs_from o.off o.listed.items → IsContent files n bytes → ChecksTable bytes n schema (Ok (record { number = n; parts = parts }))
-table_found files n schema before o parts bytes fit is whole same content =
+pub table_found : (files : Option Files) (k n : ℕ) (schema : Lists) (before : Before) (o : Outline) (parts : List PartRef) (bytes : List ℕ) → AllFit schema (StopItem ∷ before) → IsListed (StopItem ∷ before) o → IsWhole files k schema (StopItem ∷ before)
+    → parts ≡ refs_from o.off o.listed.items → IsContent files k bytes → ChecksTable bytes n schema (Ok (record { number = n; parts = parts }))
+table_found files k n schema before o parts bytes fit is whole same content =
     let found = parts_found schema before fit in
-    let listed : parts ≡ refs (body schema found.0) = same ∙ (λ i. refs_from (is.off i) (is.listed i)) ∙ ap refs found.1 in
-    (
+    let listed : parts ≡ refs (body schema found.0) = same ∙ (λ i. refs_from (is.off i) (is.listed i)) ∙ ap refs found.1 in (
       found.0,
       record {
         spelled = whole.1 bytes content ∙ ap (λ b. text (followed_by b (ending b))) found.1;

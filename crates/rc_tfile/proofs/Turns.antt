@@ -1,6 +1,5 @@
 -- One item more up to the stop, or none that fits.
 use Rattle.std.proofs.Common.{◌≡◌, ◌≢◌, ℕ, ◌+◌, ◌-◌, ◌/◌, ◌<◌, ◌≤◌, Bool, true, false, List, [], ◌∷◌, ◌++◌, length, drop, Option, Some, None, Result, Ok, Err, refl, sym, ap, ◌∙◌, subst, arith, append_assoc, append-nil}
-
 use Rattle.std.proofs.lemmas.List.{drop_at, length-append, length-drop}
 use Rattle.rc_outside.specs.Files.{Files}
 use Rattle.rc_schema.specs.Lists.{Lists}
@@ -8,7 +7,7 @@ use Rattle.rc_tfile.specs.declared.checking.CheckErr.{CheckErr}
 use Rattle.rc_tfile.specs.declared.checking.CheckErr.TheVariants.{Fault, Damaged, OtherSchema, NoMemory}
 use Rattle.rc_tfile.specs.declared.outline.Outline.{Outline}
 use Rattle.rc_tfile.specs.declared.stepping.Next.TheVariants as next
-use Rattle.rc_tfile.specs.Items.{Item, HeadItem, PartItem, RowItem, ChangeItem, EndItem, StopItem, EntryItem, BlockItem, TailItem, item_code, IsItem}
+use Rattle.rc_tfile.specs.Items.{Item, HeadItem, PartItem, RowItem, ChangeItem, EndItem, StopItem, EntryItem, BlockItem, TailItem, item_code, size_of, IsItem}
 use Rattle.rc_tfile.specs.Before.{Before, Place, Start, Between, Inside, Behind, text, offset, place}
 use Rattle.rc_tfile.specs.TableText.{Fits, AllFit, EndsWithTail, IsOtherSchema, FirstDamage}
 use Rattle.rc_tfile.specs.Outlined.{IsOutline, IsListed, place_of}
@@ -62,6 +61,33 @@ head_first schema (x ∷ []) fit h = alone schema x fit.1
 head_first schema (x ∷ y ∷ before) fit h =
     let front = head_first schema (y ∷ before) fit.0 (λ e. absurd cc) in
     (front.0 ++ item_code x, front.1, ap (λ t. t ++ item_code x) front.2 ∙ append_assoc (item_code (HeadItem schema)) front.0 (item_code x))
+
+-- bytes that begin with no head are damaged at the start
+pub head_refused : (bytes : List ℕ) (schema : Lists) (e : CheckErr) → ChecksHead bytes (Err e) → Refuses bytes schema e
+head_refused bytes schema Fault h = tt
+head_refused bytes schema (Damaged off) h = record {
+  before = [];
+  behind = bytes;
+  spelled = refl;
+  fit = tt;
+  here = h.0;
+  unfit = λ x more f e. (let a = alone schema x f in h.1 schema (a.0 ++ more, a.1, e ∙ ap (λ t. t ++ more) a.2 ∙ append_assoc (item_code (HeadItem schema)) a.0 more));
+  not_whole = λ t. absurd t;
+  same_schema = λ o. h.1 o.other (o.more, o.fits, o.head);
+}
+head_refused bytes schema OtherSchema h = absurd h
+head_refused bytes schema NoMemory h = tt
+
+-- behind the head
+pub head_stands : (files : Option Files) (schema found : Lists) (o : Outline) (w v : Seen) (size : ℕ) → Told files [] w → Starts (λ z. item_code (HeadItem z)) (λ z. IsItem (HeadItem z)) w.ahead (Some (found, size)) → found ≡ schema → v ≡ past size w
+    → ((z : Lists) → size ≡ size_of (HeadItem z) → IsOutline (HeadItem z ∷ []) o) → Stands files schema o v
+head_stands files schema found o w v size told starts same p outline =
+    let is : Starts (λ z. item_code (HeadItem z)) (λ z. IsItem (HeadItem z)) w.ahead (Some (schema, size)) = subst (λ z. Starts (λ y. item_code (HeadItem y)) (λ y. IsItem (HeadItem y)) w.ahead (Some (z, size))) same starts in record {
+      before = HeadItem schema ∷ [];
+      fit = (tt, (is.0, (refl, refl)));
+      outline = outline schema is.2;
+      told = told_past files [] (item_code (HeadItem schema)) (drop size w.ahead) w v size told is.1 is.2 p;
+    }
 
 head_free : (z o : Lists) (m k : List ℕ) → IsItem (HeadItem z) → IsItem (HeadItem o) → item_code (HeadItem z) ++ m ≡ item_code (HeadItem o) ++ k → z ≡ o
 head_free z o m k hz ho e = one_schema z o m k hz ho (ap (drop 4) e)

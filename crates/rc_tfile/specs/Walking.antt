@@ -98,3 +98,10 @@ Ends before now (Err e) old new = (front : List ℕ) → Told before front old �
 -- the file has all items that must come behind these, and nothing else
 abbrev pub IsWhole : Option Files → ℕ → Lists → Before → Type 0
 IsWhole files n schema start = AllFit schema (followed_by start (ending start)) × ((bytes : List ℕ) → IsContent files n bytes → bytes ≡ text (followed_by start (ending start)))
+
+-- items that fit up to the stop and what must come behind them are the whole file, and the outline has what the directory lists
+pub record IsWalked (files : Option Files) (n : ℕ) (schema : Lists) (o : Outline) : Type 0 where
+  pub before : Before
+  pub fit : AllFit schema (StopItem ∷ before)
+  pub listed : IsListed (StopItem ∷ before) o
+  pub whole : IsWhole files n schema (StopItem ∷ before)

@@ -289,7 +289,14 @@ fn a_table_is_checked(rt: HostRuntime) -> Result<(), Fail> {
 #[test]
 fn a_table_that_is_cut(rt: HostRuntime) -> Result<(), Fail> {
     let items = [
-        (0, 30), (30, 37), (37, 59), (59, 60), (60, 61), (61, 76), (76, 101), (101, 117),
+        (0, 30),
+        (30, 37),
+        (37, 59),
+        (59, 60),
+        (60, 61),
+        (61, 76),
+        (76, 101),
+        (101, 117),
     ];
     for (begin, end) in items {
         for len in begin..end {

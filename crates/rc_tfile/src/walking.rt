@@ -11,7 +11,7 @@ ghost use Rattle.rc_tfile.specs.Blocks.{entry_items, ending};
 ghost use Rattle.rc_tfile.specs.Outlined.{IsListed};
 ghost use Rattle.rc_tfile.specs.Checking.{IsContent, RisesIfFault, AsksFew};
 ghost use Rattle.rc_tfile.specs.Windows.{IsOpen, Told, bytes_left, reads_left, largest};
-ghost use Rattle.rc_tfile.specs.Walking.{ChecksTable, IsRefused, Stands, Stopped, Walks, Awaits, Expects, Meets, Ends, IsWhole};
+ghost use Rattle.rc_tfile.specs.Walking.{ChecksTable, IsRefused, Stands, Stopped, Walks, Awaits, Expects, Meets, Ends, IsWhole, IsWalked};
 
 use crate::blocks::{Block, Listed};
 use crate::checking::{CheckErr, head_of};
@@ -336,6 +336,29 @@ fn check_ending<W: Store>(
     check_end(alloc, store, file)
 }
 
+// All items of a file that is opened, and what they determine.
+fn check_items<W: Store>(
+    alloc: Global,
+    store: &mut W,
+    file: &mut Window,
+    schema: &Schema,
+) -> Result<Outline, CheckErr>
+    requires open { IsOpen (W.files store.old) file.old }
+    requires start { Told (W.files store.old) [] file.old }
+    ensures files { W.files store.new ≡ W.files store.old }
+    ensures building { W.building store.new ≡ W.building store.old }
+    ensures faults { RisesIfFault result (W.faults store.old) (W.faults store.new) }
+    ensures number { file.new.number ≡ file.old.number }
+    ensures asks { W.asks store.new ≤ W.asks store.old + reads_left file.old }
+    ensures whole { IfOk result (λ outline. IsWalked (W.files store.new) file.new.number schema.now outline) }
+    ensures refused { IfErr result (IsRefused (W.files store.new) file.new.number schema.now) }
+{
+    let mut outline = check_head(alloc, store, file, schema)?;
+    check_parts(alloc, store, file, schema, &mut outline)?;
+    check_ending(alloc, store, file, &outline)?;
+    Ok(outline)
+}
+
 /// Whether file `n`, which is there, is a table of the schema, and where its directory lists each partition. Ok exactly
 /// where it is the text of partitions; `CheckErr::Damaged` with the offset at which the first item begins that does not
 /// fit or is not whole; `CheckErr::OtherSchema` exactly where the file begins with a well-formed head of another schema;
@@ -355,9 +378,7 @@ pub fn check_table<W: Store>(
     ensures asks { (bytes : List ℕ) → IsContent (W.files store.old) n bytes → AsksFew (W.asks store.old) (W.asks store.new) bytes }
 {
     let mut file = Window::open(alloc, store, n)?;
-    let mut outline = check_head(alloc, store, &mut file, schema)?;
-    check_parts(alloc, store, &mut file, schema, &mut outline)?;
-    check_ending(alloc, store, &mut file, &outline)?;
+    let outline = check_items(alloc, store, &mut file, schema)?;
     match refs_of(alloc, outline.off, outline.listed.as_slice()) {
         Ok(parts) => Ok(TableInfo { number: n, parts }),
         Err(_) => Err(CheckErr::NoMemory),

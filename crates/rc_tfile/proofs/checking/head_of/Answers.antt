@@ -1,5 +1,5 @@
 -- What is ahead at the start decides which head the file has.
-use Rattle.std.proofs.Common.{List, ℕ, Some, None, subst, refl}
+use Rattle.std.proofs.Common.{List, ℕ, [], Some, None, subst, refl}
 use Rattle.rc_tfile.specs.Items.{HeadItem, item_code, IsItem}
 use Rattle.rc_tfile.specs.Reading.{Starts}
 use Rattle.rc_tfile.proofs.Ahead.{head_found, no_head, outside_head}

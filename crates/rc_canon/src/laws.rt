@@ -1,0 +1,36 @@
+//! The laws of what this crate defines, each the contract of a function that does nothing.
+
+ghost use Rattle.std.specs.Prelude.{◌≡◌, List, Option, None, IsTrue};
+ghost use Rattle.rc_cell.specs.declared.rows.Row.{Row};
+ghost use Rattle.rc_cell.specs.declared.writes.Tomb.{Tomb};
+ghost use Rattle.rc_cell.specs.Columns.{ascending};
+ghost use Rattle.rc_mutation.specs.declared.fragments.Frag.{Frag};
+ghost use Rattle.rc_mutation.specs.declared.mutations.Mutation.{Mutation};
+ghost use Rattle.rc_mutation.specs.Fragments.{fragments};
+ghost use Rattle.rc_mutation.specs.Source.{IsMutation};
+ghost use Rattle.rc_canon.specs.Canonical.{clustered, IsBounded, IsCanonicalList, IsMutationOf};
+
+/// Each canonical list of rows and changes of tombstone is that of one mutation, whatever its partition tombstone and its
+/// static row are. So who reads such a list has read a mutation's fragments.
+pub fn a_canonical_list_is_that_of_a_mutation()
+    ensures is_of_one { (tomb : Option Tomb) (row : Row) (fs : List Frag) → IsTrue (ascending row.cells) →
+        IsCanonicalList None None fs → (m : Mutation) × IsMutationOf m tomb row fs }
+    ensures and_no_other { (tomb : Option Tomb) (row : Row) (fs : List Frag) (m other : Mutation) →
+        IsMutationOf m tomb row fs → IsMutationOf other tomb row fs → m ≡ other }
+{}
+
+/// The rows and changes of each mutation whose range tombstones begin and end between rows are a canonical list.
+pub fn a_mutation_has_a_canonical_list()
+    ensures { (m : Mutation) → IsMutation m → IsBounded m.ranges → IsCanonicalList None None (clustered m) }
+{}
+
+/// Rows and changes by position determine the rows and the range tombstones.
+pub fn a_list_is_that_of_one_mutation()
+    ensures { (m other : Mutation) → IsMutation m → IsMutation other → clustered m ≡ clustered other →
+        (m.rows ≡ other.rows) × (m.ranges ≡ other.ranges) }
+{}
+
+/// Mutations with the same fragments are equal.
+pub fn fragments_determine_the_mutation()
+    ensures { (m other : Mutation) → IsMutation m → IsMutation other → fragments m ≡ fragments other → m ≡ other }
+{}
