@@ -15,4 +15,4 @@ returns-in_err-check_block-clause-next g c =
     let behind : List Block = take (length c.loop-left.left.now - 1) (drop 1 c.loop-left.left.now) in
     let p = err_from_is_err_and c.from_residual.result c.from_residual.ensures.1 in
     rw (p.1, p.2) (λ schema start more a. c.in_err-check_block.ensures.next schema start (list_map BlockItem behind ++ more)
-    (subst (λ (bs : List Block). Awaits (g.W.Store.files c.loop-left.store.now) schema start (list_map BlockItem bs ++ more) c.loop-left.file.now) left (c.loop-left.invariant.next schema start more a)))
+    (subst (λ (bs : List Block). Awaits (g.W.Store.files c.loop-left.store) schema start (list_map BlockItem bs ++ more) c.loop-left.file) left (c.loop-left.invariant.next schema start more a)))

@@ -14,5 +14,5 @@ returns-in_err-check_listed-clause-next g c =
     let behind : List Entry = take (length c.loop-left.left.now - 1) (drop 1 c.loop-left.left.now) in
     let p = err_from_is_err_and c.from_residual.result c.from_residual.ensures.1 in
     rw (p.1, p.2) (λ schema start more a. c.in_err-check_listed.ensures.next schema start (flat_map entry_items behind ++ more)
-    (subst (λ (l : List Item). Awaits (g.W.Store.files c.loop-left.store.now) schema start l c.loop-left.file.now) (append_assoc (entry_items c.listed-item.result) (flat_map entry_items behind) more)
-    (subst (λ (es : List Entry). Awaits (g.W.Store.files c.loop-left.store.now) schema start (flat_map entry_items es ++ more) c.loop-left.file.now) left (c.loop-left.invariant.next schema start more a))))
+    (subst (λ (l : List Item). Awaits (g.W.Store.files c.loop-left.store) schema start l c.loop-left.file) (append_assoc (entry_items c.listed-item.result) (flat_map entry_items behind) more)
+    (subst (λ (es : List Entry). Awaits (g.W.Store.files c.loop-left.store) schema start (flat_map entry_items es ++ more) c.loop-left.file) left (c.loop-left.invariant.next schema start more a))))
