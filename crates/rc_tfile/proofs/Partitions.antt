@@ -1,7 +1,7 @@
 -- Items that fit, up to the stop, are those of partitions.
 use Rattle.std.proofs.Common.{◌≡◌, ℕ, true, false, cond, List, [], ◌∷◌, ◌++◌, length, Option, Some, None, Result, Ok, refl, sym, ap, ◌∙◌, subst, append-nil, append_assoc}
-use Rattle.std.specs.Prelude.{IsTrue, ⊤}
-use Rattle.std.specs.List.{flat_map}
+use Rattle.std.specs.Prelude.{All, IsTrue, ⊤}
+use Rattle.std.specs.List.{flat_map, AllByRecursion}
 use Rattle.std.proofs.lemmas.Grind.{flat_map-append}
 use Rattle.rc_outside.specs.Files.{Files}
 use Rattle.rc_cell.specs.declared.rows.Row.{Row}
@@ -12,6 +12,7 @@ use Rattle.rc_mutation.specs.declared.fragments.Frag.{Frag}
 use Rattle.rc_mutation.specs.declared.fragments.Frag.TheVariants as frag
 use Rattle.rc_mutation.specs.declared.mutations.Mutation.{Mutation}
 use Rattle.rc_mutation.specs.declared.mutations.Partition.{Partition}
+use Rattle.rc_mutation.specs.Source.{IsMutation}
 use Rattle.rc_mutation.specs.Fragments.{fragments, static_fragment, is_written}
 use Rattle.rc_canon.specs.Canonical.{IsCanonicalList, IsMutationOf}
 use Rattle.rc_canon.proofs.Rebuilt.{is-rebuilt}
@@ -25,17 +26,22 @@ use Rattle.rc_tfile.specs.Info.{refs, refs_from}
 use Rattle.rc_tfile.specs.Outlined.{IsListed}
 use Rattle.rc_tfile.specs.Checking.{IsContent}
 use Rattle.rc_tfile.specs.Walking.{ChecksTable, IsWhole}
-use Rattle.rc_tfile.proofs.Follows.{followed_by-append}
+use Rattle.rc_tfile.proofs.Follows.{followed_by-append, all_append, all_of}
 use Rattle.rc_tfile.proofs.Drafts.{parts_of, body_is}
+
+abbrev HoldsTogether : Partition → Type 0
+HoldsTogether p = IsMutation p.change
 
 -- whole partitions stand behind the head
 record Whole (schema : Lists) (before : Before) : Type 0 where
   parts : List Partition
+  hold : AllByRecursion HoldsTogether parts
   whole : before ≡ parts_of schema parts
 
 -- behind them stands the begin of one more: its part, and rows and changes that can be completed to a canonical list
 record Partial (schema : Lists) (before : Before) : Type 0 where
   parts : List Partition
+  hold : AllByRecursion HoldsTogether parts
   key : List ℕ
   pt : Option Tomb
   statics : Row
@@ -74,16 +80,18 @@ ended schema before none p =
     let m = is-rebuilt p.pt p.statics p.frags p.ascends canonical in
     let part : Partition = record { key = p.key; change = m.0 } in record {
       parts = p.parts ++ part ∷ [];
+      hold = all_append HoldsTogether p.parts (part ∷ []) p.hold (m.1.is_mutation, tt);
       whole = sym (one_part schema p.parts part ∙ ap (followed_by (parts_of schema p.parts)) (part_items_are p.key p.pt p.statics p.frags m.0 m.1)
           ∙ followed_by-append (PartItem p.key p.pt p.statics ∷ parts_of schema p.parts) (flat_map frag_items p.frags) (EndItem ∷ []) ∙ ap (λ b. EndItem ∷ b) (sym p.whole));
     }
 
 shape : (schema : Lists) (before : Before) → AllFit schema before → Shape (place before) schema before
 shape schema [] fit = tt
-shape schema (HeadItem other ∷ before) fit = record { parts = []; whole = λ i. HeadItem (fit.1.1.1 i) ∷ fit.1.1.0 i }
+shape schema (HeadItem other ∷ before) fit = record { parts = []; hold = tt; whole = λ i. HeadItem (fit.1.1.1 i) ∷ fit.1.1.0 i }
 shape schema (PartItem key pt statics ∷ before) fit =
     let w : Whole schema before = subst (λ p. Shape p schema before) fit.1.1.0 (shape schema before fit.0) in record {
       parts = w.parts;
+      hold = w.hold;
       key = key;
       pt = pt;
       statics = statics;
@@ -95,6 +103,7 @@ shape schema (PartItem key pt statics ∷ before) fit =
 shape schema (RowItem key row ∷ before) fit =
     let p : Partial schema before = subst (λ p. Shape p schema before) fit.1.1.0 (shape schema before fit.0) in record {
       parts = p.parts;
+      hold = p.hold;
       key = p.key;
       pt = p.pt;
       statics = p.statics;
@@ -106,6 +115,7 @@ shape schema (RowItem key row ∷ before) fit =
 shape schema (ChangeItem x tomb ∷ before) fit =
     let p : Partial schema before = subst (λ p. Shape p schema before) fit.1.1.0 (shape schema before fit.0) in record {
       parts = p.parts;
+      hold = p.hold;
       key = p.key;
       pt = p.pt;
       statics = p.statics;
@@ -121,10 +131,10 @@ shape schema (BlockItem b ∷ before) fit = tt
 shape schema (TailItem off parts ∷ before) fit = tt
 
 -- items that fit up to the stop are those of some partitions
-pub parts_found : (schema : Lists) (before : Before) → AllFit schema (StopItem ∷ before) → (parts : List Partition) × (StopItem ∷ before ≡ body schema parts)
+pub parts_found : (schema : Lists) (before : Before) → AllFit schema (StopItem ∷ before) → (parts : List Partition) × (StopItem ∷ before ≡ body schema parts) × All HoldsTogether parts
 parts_found schema before fit =
     let w : Whole schema before = subst (λ p. Shape p schema before) fit.1.1 (shape schema before fit.0) in
-    (w.parts, ap (λ b. StopItem ∷ b) w.whole ∙ sym (body_is schema w.parts))
+    (w.parts, ap (λ b. StopItem ∷ b) w.whole ∙ sym (body_is schema w.parts), all_of HoldsTogether w.parts w.hold)
 
 -- so a file that ends with what must come behind them is their table
 pub table_found : (files : Option Files) (k n : ℕ) (schema : Lists) (before : Before) (o : Outline) (parts : List PartRef) (bytes : List ℕ) → AllFit schema (StopItem ∷ before) → IsListed (StopItem ∷ before) o → IsWhole files k schema (StopItem ∷ before)
@@ -133,6 +143,7 @@ table_found files k n schema before o parts bytes fit is whole same content =
     let found = parts_found schema before fit in
     let listed : parts ≡ refs (body schema found.0) = same ∙ (λ i. refs_from (is.off i) (is.listed i)) ∙ ap refs found.1 in (
       found.0,
+      found.2,
       record {
         spelled = whole.1 bytes content ∙ ap (λ b. text (followed_by b (ending b))) found.1;
         fit = subst (λ b. AllFit schema (followed_by b (ending b))) found.1 whole.0;

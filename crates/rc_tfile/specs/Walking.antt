@@ -4,10 +4,11 @@
 --     Awaits, Expects       the items that must come behind the stop, and what was answered of some of them
 --     Meets, Misses         bytes that must come next
 --     Ends, Overruns        nothing may come any more
-use Rattle.std.specs.Prelude.{◌≡◌, ◌≢◌, ℕ, Bool, true, false, List, [], ◌∷◌, ◌++◌, length, Option, Result, Ok, Err, ⊤}
+use Rattle.std.specs.Prelude.{◌≡◌, ◌≢◌, ℕ, Bool, true, false, List, [], ◌∷◌, ◌++◌, length, All, Option, Result, Ok, Err, ⊤}
 use Rattle.rc_outside.specs.Files.{Files}
 use Rattle.rc_schema.specs.Lists.{Lists}
 use Rattle.rc_mutation.specs.declared.mutations.Partition.{Partition}
+use Rattle.rc_mutation.specs.Source.{IsMutation}
 use Rattle.rc_tfile.specs.declared.info.TableInfo.{TableInfo}
 use Rattle.rc_tfile.specs.declared.checking.CheckErr.{CheckErr}
 use Rattle.rc_tfile.specs.declared.checking.CheckErr.TheVariants.{Fault, Damaged, OtherSchema, NoMemory}
@@ -32,9 +33,9 @@ Refuses bytes schema NoMemory = ⊤
 abbrev pub IsRefused : Option Files → ℕ → Lists → CheckErr → Type 0
 IsRefused files n schema e = (bytes : List ℕ) → IsContent files n bytes → Refuses bytes schema e
 
--- what must be answered of these bytes as file n: partitions of which they are the table, or what is wrong with them
+-- what must be answered of these bytes as file n: partitions that hold together, of which they are the table, or what is wrong with them
 abbrev pub ChecksTable : List ℕ → ℕ → Lists → Result TableInfo CheckErr → Type 0
-ChecksTable bytes n schema (Ok info) = (parts : List Partition) × IsTable bytes schema parts × (info ≡ info_of n schema parts)
+ChecksTable bytes n schema (Ok info) = (parts : List Partition) × All (λ p. IsMutation p.change) parts × IsTable bytes schema parts × (info ≡ info_of n schema parts)
 ChecksTable bytes n schema (Err e) = Refuses bytes schema e
 
 -- items that fit stand before what is ahead, and the outline is theirs
