@@ -1,6 +1,6 @@
 -- Reading on in a file: what is read lies in it, and follows what is ahead.
-use Rattle.std.proofs.Common.{◌≡◌, ◌≢◌, Result, Ok, Err, ℕ, ◌+◌, ◌≤◌, ◌⊎◌, ⊎_elim, List, [], ◌∷◌, ◌++◌, append-nil, length, take, drop, Option, Some, None, refl, sym, ap, ◌∙◌, arith, append_assoc}
-use Rattle.std.specs.Prelude.{IsSome, IsSomeAnd}
+use Rattle.std.proofs.Common.{◌≡◌, ◌≢◌, Result, Ok, Err, ℕ, ◌+◌, ◌-◌, ◌<◌, ◌≤◌, ◌⊎◌, ⊎_elim, List, [], ◌∷◌, ◌++◌, append-nil, length, take, drop, Option, Some, None, refl, sym, ap, ◌∙◌, arith, append_assoc, subst}
+use Rattle.std.specs.Prelude.{IsSome, IsSomeAnd, min}
 use Rattle.std.specs.FinMap as map
 use Rattle.std.proofs.lemmas.List.{drop_at, take_at, take-append-drop, take-append-le, length-append}
 use Rattle.rc_outside.specs.Files.{Files, IsFile, IsSizeOf, LiesInFile, AreBytesOf}
@@ -13,15 +13,15 @@ use Rattle.rc_schema.specs.SchemaText.{schema_text}
 use Rattle.rc_tfile.specs.Items.{HeadItem, item_code, IsItem}
 use Rattle.rc_tfile.specs.Reading.{Starts}
 use Rattle.rc_tfile.proofs.Heads.{length_of_length}
-use Rattle.rc_tfile.specs.Windows.{Seen, IsAhead, IsFull, Told}
+use Rattle.rc_tfile.specs.Windows.{Seen, IsAhead, IsFull, IsOpen, Told, reads_left}
 
-pub lies_ahead : (files : Option Files) (front : List ℕ) (w : Seen) (count : ℕ) → IsFile files w.number → Told files front w → w.read + count ≤ w.size → LiesInFile files w.number w.read count
-lies_ahead None front w count file told h = tt
-lies_ahead (Some files) front w count file told h =
+pub lies_ahead : (files : Option Files) (w : Seen) (count : ℕ) → IsOpen files w → w.read + count ≤ w.size → LiesInFile files w.number w.read count
+lies_ahead None w count is h = tt
+lies_ahead (Some files) w count is h =
     elim (map.get files w.number) as (λ o. map.get files w.number ≡ o → IsSome o → IsSomeAnd o (λ bytes. w.read + count ≤ length bytes)) [
-      | Some bytes ↦ λ e _. (let t = told bytes e in omega (arith, t.size, h))
+      | Some bytes ↦ λ e _. (let size : w.size ≡ length bytes = is.1 bytes e in omega (arith, size, h))
       | None ↦ λ e none. absurd cc
-    ] refl file
+    ] refl is.0
 
 pub read_on : (content front ahead unread piece : List ℕ) (read : ℕ) (w : Seen) → content ≡ front ++ (ahead ++ unread) → read ≡ length front + length ahead → w.size ≡ length content → piece ≡ take (length piece) (drop read content)
     → w.read ≡ read + length piece → w.ahead ≡ ahead ++ piece → IsAhead content front w
@@ -39,7 +39,7 @@ pub bytes_told : (files : Option Files) (n off : ℕ) (piece content : List ℕ)
 bytes_told None n off piece content is h = absurd is
 bytes_told (Some files) n off piece content is h = h content is
 
-no_more : (xs : List ℕ) → length xs ≡ 0 → xs ≡ []
+pub no_more : (xs : List ℕ) → length xs ≡ 0 → xs ≡ []
 no_more [] h = refl
 no_more (x ∷ xs) h = absurd (omega (arith, h))
 
@@ -100,3 +100,16 @@ at_start files n content w is size read ahead = record {
   size = size_told files n w.size content is size;
   read = omega (arith, read, ap length ahead);
 }
+
+-- the same file
+pub same_content : (f g : Option Files) (n m : ℕ) (content : List ℕ) → g ≡ f → m ≡ n → IsContent f n content → IsContent g m content
+same_content f g n m content p q is = subst (λ k. IsContent g k content) (sym q) (subst (λ h. IsContent h n content) (sym p) is)
+
+-- a read takes one of those that are left
+pub one_read : (w v : Seen) (count : ℕ) → v.read ≡ w.read + count → v.size ≡ w.size → count ≡ min (w.size - w.read) 65541 → w.read < w.size → reads_left v + 1 ≤ reads_left w
+unfolding reads_left
+one_read w v count r s c h = omega (arith, r, s, c, h)
+
+pub some_left : (w : Seen) → w.read < w.size → 1 ≤ reads_left w
+unfolding reads_left
+some_left w h = omega (arith, h)

@@ -45,3 +45,8 @@ all_behind P (y ∷ xs) ys x n e p both = (λ h k d lt. both.0 h (suc k) d (omeg
 
 pub all_rest : {X : Type 0} (P : X → Type 0) (xs ys : List X) (x : X) → 1 ≤ length xs → x ≡ get_or xs 0 x → P x → All P ys ↔ All P xs → All P ys ↔ All P (take (length xs - 1) (drop 1 xs))
 all_rest P xs ys x n e p both = subst (λ t. All P ys ↔ All P t) (sym (take_rest xs 1)) (all_behind P xs ys x n e p both)
+
+-- a list is its first and the rest
+pub first_and_rest : {X : Type 0} (xs : List X) (x : X) → 1 ≤ length xs → x ≡ get_or xs 0 x → xs ≡ x ∷ take (length xs - 1) (drop 1 xs)
+first_and_rest [] x n e = absurd (omega (arith, n))
+first_and_rest (y ∷ xs) x n e = let r : take (length (y ∷ xs) - 1) (drop 1 (y ∷ xs)) ≡ xs = take_rest (y ∷ xs) 1 in λ i. sym e i ∷ sym r i

@@ -51,3 +51,11 @@ pub text_within : (bytes rest : List ℕ) (len : ℕ) → IsBytes bytes → leng
 text_within bytes rest len fits h enough =
     let t = length_codec.took bytes (len, rest) fits h in
     omega (arith, ap length t.parts, length-append (length_code len) rest, length_of_length len, enough)
+
+-- a schema's text with its length decides the schema
+pub one_schema : (z o : Lists) (m k : List ℕ) → HasText z → HasText o → text_code z ++ m ≡ text_code o ++ k → z ≡ o
+one_schema z o m k hz ho e =
+    let same = some_pair_parts _ _ _ _ (sym (read_length (text_code z ++ m) z m hz refl) ∙ read_length (text_code z ++ m) o k ho e) in
+    let text : schema_text z ≡ schema_text o = sym (take_at (schema_text z) m (length (schema_text z)) refl) ∙ (λ i. take (same.0 i) (same.1 i)) ∙ take_at (schema_text o) k (length (schema_text o)) refl in
+    let back : Some z ≡ Some o = sym (text_reads_back z hz.0) ∙ ap schema_of text ∙ text_reads_back o ho.0 in
+    cc

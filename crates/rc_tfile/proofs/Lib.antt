@@ -8,3 +8,7 @@ pub mod Starting
 pub mod Heads
 pub mod Unfit
 pub mod Ahead
+pub mod Lengths
+pub mod Turns
+pub mod Awaiting
+pub mod Partitions

@@ -27,22 +27,22 @@ due_none (EntryItem key off blocks ∷ before) h = absurd (h refl)
 due_none (BlockItem b ∷ before) h = absurd (h refl)
 due_none (TailItem off parts ∷ before) h = absurd (h refl)
 
-not_due : (before : Before) (x : Item) → (place before ≡ Behind → ⊥) → IsDue before x → ⊥
+pub not_due : (before : Before) (x : Item) → (place before ≡ Behind → ⊥) → IsDue before x → ⊥
 not_due before x h d = (let q : [] ≡ x ∷ d.0 = sym (due_none before h) ∙ d.1 in absurd cc)
 
-between_no_start : Start ≡ Between → ⊥
+pub between_no_start : Start ≡ Between → ⊥
 between_no_start e = absurd cc
 
-between_no_inside : Inside ≡ Between → ⊥
+pub between_no_inside : Inside ≡ Between → ⊥
 between_no_inside e = absurd cc
 
-between_no_behind : Between ≡ Behind → ⊥
+pub between_no_behind : Between ≡ Behind → ⊥
 between_no_behind e = absurd cc
 
-inside_no_start : Start ≡ Inside → ⊥
+pub inside_no_start : Start ≡ Inside → ⊥
 inside_no_start e = absurd cc
 
-inside_no_behind : Inside ≡ Behind → ⊥
+pub inside_no_behind : Inside ≡ Behind → ⊥
 inside_no_behind e = absurd cc
 
 -- the bytes begin with no item that fits behind these items

@@ -9,3 +9,4 @@ pub mod Limits
 pub mod Reading
 pub mod Checking
 pub mod Windows
+pub mod Walking

@@ -1,6 +1,6 @@
 -- What is read of a file that is looked at from its start on.
-use Rattle.std.specs.Prelude.{◌≡◌, ℕ, ◌+◌, ◌≤◌, List, ◌++◌, length, drop, Option, ◌⊎◌}
-use Rattle.rc_outside.specs.Files.{Files}
+use Rattle.std.specs.Prelude.{◌≡◌, ℕ, ◌+◌, ◌-◌, ◌/◌, ◌≤◌, List, ◌++◌, length, drop, Option, ◌⊎◌}
+use Rattle.rc_outside.specs.Files.{Files, IsFile, IsSizeOf}
 use Rattle.rc_tfile.specs.Checking.{IsContent}
 
 -- a file's number and length, how many of its bytes are read, and those of them that are not yet looked at
@@ -28,3 +28,19 @@ pub record IsAhead (content front : List ℕ) (w : Seen) : Type 0 where
 -- the same of the file that a store tells
 abbrev pub Told : Option Files → List ℕ → Seen → Type 0
 Told files front w = (content : List ℕ) → IsContent files w.number content → IsAhead content front w
+
+-- a file that is there, and its length, where the files are told
+abbrev pub IsOpen : Option Files → Seen → Type 0
+IsOpen files w = IsFile files w.number × IsSizeOf files w.number w.size
+
+-- the same file, of whose bytes ahead so many more were looked at
+abbrev pub past : ℕ → Seen → Seen
+past count w = record { number = w.number; size = w.size; read = w.read; ahead = drop count w.ahead }
+
+-- how many bytes are not yet looked at
+abbrev pub bytes_left : Seen → ℕ
+bytes_left w = w.size - w.read + length w.ahead
+
+-- how many reads are left: each takes 65541 bytes, and the last one what is left
+unfoldable pub reads_left : Seen → ℕ
+reads_left w = (w.size - w.read + 65540) / 65541

@@ -1,8 +1,10 @@
 //! Files read: the schema in the head of one.
 
-ghost use Rattle.std.specs.Prelude.{◌≡◌, ◌≢◌, ◌≤◌, ◌+◌, ℕ, List, [], Err};
+ghost use Rattle.std.specs.Prelude.{◌≡◌, ◌≢◌, ◌≤◌, ◌+◌, ℕ, List, [], length, Some, Err, IfOk, OnOk};
 ghost use Rattle.rc_outside.specs.Files.{IsFile};
-ghost use Rattle.rc_tfile.specs.Windows.{Told};
+ghost use Rattle.rc_tfile.specs.Items.{item_code, HeadItem, IsItem};
+ghost use Rattle.rc_tfile.specs.Reading.{Starts};
+ghost use Rattle.rc_tfile.specs.Windows.{IsOpen, Told, reads_left};
 ghost use Rattle.rc_tfile.specs.Checking.{IsContent, ChecksHead, ChecksSized, RisesIfFault, AsksFew};
 
 use crate::reading::read_head;
@@ -32,20 +34,27 @@ pub enum CheckErr {
     NoMemory,
 }
 
-// The head of the file, which is read into the window.
-fn head_of<W: Store>(
+/// The head of the file and its length, read into the window. `CheckErr::Damaged` exactly where the file begins with no head.
+pub(crate) fn head_of<W: Store>(
     alloc: Global,
     store: &mut W,
     file: &mut Window,
 ) -> Result<(Schema, usize), CheckErr>
-    requires told { Told (W.files store.old) [] file.old }
-    requires file { IsFile (W.files store.old) file.old.number }
+    requires open { IsOpen (W.files store.old) file.old }
+    requires start { Told (W.files store.old) [] file.old }
     ensures files { W.files store.new ≡ W.files store.old }
     ensures building { W.building store.new ≡ W.building store.old }
     ensures faults { RisesIfFault result (W.faults store.old) (W.faults store.new) }
-    ensures asks { W.asks store.new ≤ W.asks store.old + 1 }
+    ensures open { OnOk result (IsOpen (W.files store.new) file.new) }
+    ensures told { OnOk result (Told (W.files store.new) [] file.new) }
+    ensures number { file.new.number ≡ file.old.number }
+    ensures asks { W.asks store.new ≤ W.asks store.old + reads_left file.old }
+    ensures spent { OnOk result (W.asks store.new + reads_left file.new ≤ W.asks store.old + reads_left file.old) }
+    ensures once { W.asks store.new ≤ W.asks store.old + 1 }
     ensures never { result ≢ Err CheckErr.OtherSchema }
-    ensures head { (content : List ℕ) → IsContent (W.files store.old) file.old.number content → ChecksSized content result }
+    ensures ahead { IfOk result (λ found. Starts (λ z. item_code (HeadItem z)) (λ z. IsItem (HeadItem z)) file.new.ahead (Some found)) }
+    ensures within { IfOk result (λ found. found.1 ≤ length file.new.ahead) }
+    ensures head { (content : List ℕ) → IsContent (W.files store.new) file.new.number content → ChecksSized content result }
 {
     file.refill(alloc, store)?;
     match read_head(alloc, file.ahead()) {

@@ -1,11 +1,12 @@
 //! The directory of a table: its items spelt, and where it lists each partition. The only error of each call is want of memory.
 
-ghost use Rattle.std.specs.Prelude.{◌≡◌, ◌++◌, IfOk, OnOk, map};
+ghost use Rattle.std.specs.Prelude.{◌≡◌, ◌≤◌, ◌++◌, IfOk, OnOk, map, length};
 ghost use Rattle.std.specs.List.{flat_map, AllByRecursion};
 ghost use Rattle.rc_rowcode.specs.Spelling.{KeyFits};
-ghost use Rattle.rc_tfile.specs.Items.{item_code, BlockItem, TailItem};
+ghost use Rattle.rc_tfile.specs.Items.{item_code, EntryItem, BlockItem, TailItem, IsItem};
 ghost use Rattle.rc_tfile.specs.Blocks.{entry_items};
 ghost use Rattle.rc_tfile.specs.Info.{refs_from, entry_size};
+ghost use Rattle.rc_tfile.specs.Windows.{largest};
 
 use crate::blocks::{Block, Listed};
 use crate::info::{PartRef, PartRefs};
@@ -15,11 +16,38 @@ use std::alloc::{AllocError, Global};
 
 /// The tail: the offset of the first directory item, and how many partitions there are.
 pub(crate) fn tail_of(alloc: Global, off: u64, parts: usize) -> Result<Vec<u8>, AllocError>
-    ensures { IfOk result (λ out. out.items ≡ item_code (TailItem off parts)) }
+    ensures code { IfOk result (λ out. out.items ≡ item_code (TailItem off parts)) }
+    ensures fits { IfOk result (λ _. IsItem (TailItem off parts)) }
+    ensures within { IfOk result (λ out. length out.items ≤ largest) }
 {
     let mut out = Vec::new(alloc);
     let count = short(parts)?;
     append_tail(off, count, &mut out)?;
+    Ok(out)
+}
+
+/// A partition's item in the directory.
+pub(crate) fn entry_of(alloc: Global, listed: &Listed) -> Result<Vec<u8>, AllocError>
+    ensures code { IfOk result (λ out. out.items ≡ item_code (EntryItem listed.now.key listed.now.off (length listed.now.blocks))) }
+    ensures fits { IfOk result (λ _. IsItem (EntryItem listed.now.key listed.now.off (length listed.now.blocks))) }
+    ensures within { IfOk result (λ out. length out.items ≤ largest) }
+{
+    let mut out = Vec::new(alloc);
+    let count = short(listed.blocks().len())?;
+    let _key = listed.key().as_slice();
+    append_entry(listed.key(), listed.off(), count, &mut out)?;
+    Ok(out)
+}
+
+/// A block's item in the directory.
+pub(crate) fn block_of(alloc: Global, block: &Block) -> Result<Vec<u8>, AllocError>
+    requires { KeyFits block.now.first.prefix }
+    ensures code { IfOk result (λ out. out.items ≡ item_code (BlockItem block.now)) }
+    ensures fits { IfOk result (λ _. IsItem (BlockItem block.now)) }
+    ensures within { IfOk result (λ out. length out.items ≤ largest) }
+{
+    let mut out = Vec::new(alloc);
+    append_block(alloc, block, &mut out)?;
     Ok(out)
 }
 

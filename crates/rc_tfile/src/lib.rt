@@ -1,4 +1,5 @@
-//! Table files: partitions written as one text, with a directory of their blocks at its end. Of a file the head is read.
+//! Table files: partitions written as one text, with a directory of their blocks at its end; and files read, their head
+//! alone or whole.
 #![tactic(auto)]
 
 mod blocks;
@@ -12,10 +13,12 @@ mod spelling;
 mod stepping;
 #[cfg(test)]
 mod tests;
+mod walking;
 mod window;
 mod writing;
 
 pub use checking::{CheckErr, read_schema};
 pub use fitting::part_fits;
 pub use info::{PartRef, PartRefs, TableInfo};
+pub use walking::check_table;
 pub use writing::{WriteErr, plan_table, write_table};

@@ -3,7 +3,7 @@
 ghost use Rattle.std.specs.Prelude.{◌≡◌, ◌<◌, ◌^◌, ◌++◌, length, OnOk};
 ghost use Rattle.rc_schema.specs.SchemaText.{schema_text};
 ghost use Rattle.rc_rowcode.specs.Spelling.{length_code, time_code, optional_code, tomb_code, KeyFits, RowFits};
-ghost use Rattle.rc_tfile.specs.Items.{offset_code, bytes_code, item_code, HeadItem, PartItem, RowItem, ChangeItem, EntryItem, BlockItem, TailItem};
+ghost use Rattle.rc_tfile.specs.Items.{offset_code, bytes_code, item_code, HeadItem, PartItem, RowItem, ChangeItem, EntryItem, BlockItem, TailItem, IsItem};
 
 use crate::blocks::Block;
 use rc_cell::{Row, Tomb};
@@ -35,14 +35,16 @@ const BLOCK: u8 = 7;
 
 #[tactic(auto, unfolding(crate::specs::Items::offset_code))]
 fn append_offset(off: u64, out: &mut Vec<u8>) -> Result<(), AllocError>
-    ensures { OnOk result (out.new.items ≡ out.old.items ++ offset_code off) }
+    ensures code { OnOk result (out.new.items ≡ out.old.items ++ offset_code off) }
+    ensures width { off < 2 ^ 64 }
 {
     out.extend_from_slice(&off.to_le_bytes())
 }
 
 #[tactic(auto, unfolding(rc_rowcode::specs::Spelling::time_code))]
 fn append_count(count: u32, out: &mut Vec<u8>) -> Result<(), AllocError>
-    ensures { OnOk result (out.new.items ≡ out.old.items ++ time_code count) }
+    ensures code { OnOk result (out.new.items ≡ out.old.items ++ time_code count) }
+    ensures width { count < 2 ^ 32 }
 {
     out.extend_from_slice(&count.to_le_bytes())
 }
@@ -165,7 +167,8 @@ pub(crate) fn append_block(
     out: &mut Vec<u8>,
 ) -> Result<(), AllocError>
     requires { KeyFits block.now.first.prefix }
-    ensures { OnOk result (out.new.items ≡ out.old.items ++ item_code (BlockItem block.now)) }
+    ensures code { OnOk result (out.new.items ≡ out.old.items ++ item_code (BlockItem block.now)) }
+    ensures fits { OnOk result (IsItem (BlockItem block.now)) }
 {
     out.push(BLOCK)?;
     append_offset(block.off, out)?;

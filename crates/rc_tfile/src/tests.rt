@@ -6,7 +6,7 @@ ghost use Rattle.rc_tfile.specs.TableText.{PartsFit};
 use crate::outline::Outline;
 use crate::reading::read_head;
 use crate::stepping::{Next, next_item};
-use crate::{CheckErr, WriteErr, part_fits, plan_table, read_schema, write_table};
+use crate::{CheckErr, WriteErr, check_table, part_fits, plan_table, read_schema, write_table};
 use rc_cell::{Cells, Row};
 use rc_mutation::{Mutation, Partition};
 use rc_outside::{MemStore, Store, StoreCall, SureStore};
@@ -257,5 +257,84 @@ fn ten_thousand_rows_in_blocks(rt: HostRuntime) -> Result<(), Fail> {
     let plan = plan_table(alloc, &parts, &schema, 7)?;
     let listed = plan.parts.as_slice().first().ok_or("no partition")?;
     assert!(rt; listed.dir_off == 220_039 && listed.dir_len == 1_365);
+    Ok(())
+}
+
+// Where a file of these bytes is damaged; no offset where it is a table.
+fn damage(alloc: Global, bytes: &[u8]) -> Result<Option<u64>, Fail> {
+    let mut store = holding(alloc, bytes)?;
+    if store.file(1).is_none() {
+        return Err("no file".into());
+    }
+    match check_table(alloc, &mut store, 1, &schema(alloc)?) {
+        Ok(_info) => Ok(None),
+        Err(CheckErr::Damaged { offset }) => Ok(Some(offset)),
+        Err(_err) => Err("not checked".into()),
+    }
+}
+
+#[test]
+fn a_table_is_checked(rt: HostRuntime) -> Result<(), Fail> {
+    let alloc = rt.alloc();
+    let mut store = holding(alloc, &TABLE)?;
+    assert!(rt; store.file(1).is_some());
+    let info = check_table(alloc, &mut store, 1, &schema(alloc)?).map_err(|_| "no table")?;
+    let copy = info.copy(alloc)?;
+    let listed = copy.parts.as_slice().first().ok_or("no partition")?;
+    assert!(rt; copy.number == 1 && listed.key.as_slice() == &b"p"[..]);
+    assert!(rt; listed.dir_off == 61 && listed.dir_len == 40 && store.asks() == 1);
+    Ok(())
+}
+
+#[test]
+fn a_table_that_is_cut(rt: HostRuntime) -> Result<(), Fail> {
+    let items = [
+        (0, 30),
+        (30, 37),
+        (37, 59),
+        (59, 60),
+        (60, 61),
+        (61, 76),
+        (76, 101),
+        (101, 117),
+    ];
+    for (begin, end) in items {
+        for len in begin..end {
+            let bytes = TABLE.get(..len).ok_or("too long")?;
+            assert_eq!(rt; damage(rt.alloc(), bytes)?, Some(begin as u64));
+        }
+    }
+    Ok(())
+}
+
+#[test]
+fn a_table_with_a_changed_byte(rt: HostRuntime) -> Result<(), Fail> {
+    for (at, offset) in [(0, 0), (34, 30), (89, 76), (116, 101)] {
+        let mut bytes = Vec::from_slice(rt.alloc(), &TABLE)?;
+        let byte = bytes.get_mut(at).ok_or("too long")?;
+        *byte = byte.wrapping_add(1);
+        assert_eq!(rt; damage(rt.alloc(), &bytes)?, Some(offset));
+    }
+    Ok(())
+}
+
+#[test]
+fn a_byte_behind_the_tail(rt: HostRuntime) -> Result<(), Fail> {
+    let mut bytes = Vec::from_slice(rt.alloc(), &TABLE)?;
+    bytes.push(0)?;
+    assert_eq!(rt; damage(rt.alloc(), &bytes)?, Some(117));
+    let again = with_items(rt.alloc(), &change_after(1), &change_after(2))?;
+    assert_eq!(rt; damage(rt.alloc(), &again)?, Some(62));
+    Ok(())
+}
+
+#[test]
+fn a_table_of_another_schema(rt: HostRuntime) -> Result<(), Fail> {
+    let alloc = rt.alloc();
+    let mut store = holding(alloc, &TABLE)?;
+    assert!(rt; store.file(1).is_some());
+    let other = Schema::read(alloc, b"ck=int static=s cols=a").map_err(|_| "no schema")?;
+    let found = check_table(alloc, &mut store, 1, &other);
+    assert!(rt; matches!(&found, Err(CheckErr::OtherSchema)));
     Ok(())
 }

@@ -1,9 +1,9 @@
 //! A file that is read in pieces, from its start to its end.
 
-ghost use Rattle.std.specs.Prelude.{◌≡◌, ℕ, ◌+◌, ◌≤◌, [], List, IfErr, IfOk, MatchResult, OnOk, length, min};
-ghost use Rattle.rc_outside.specs.Files.{IsFile, LiesInFile};
+ghost use Rattle.std.specs.Prelude.{◌≡◌, ℕ, ◌+◌, ◌≤◌, [], List, Option, IfErr, IfOk, MatchResult, OnOk, length, min};
+ghost use Rattle.rc_outside.specs.Files.{Files, IsFile, LiesInFile};
 ghost use Rattle.rc_tfile.specs.Checking.{IsOutside, RisesIfFault};
-ghost use Rattle.rc_tfile.specs.Windows.{Seen, IsFull, Told};
+ghost use Rattle.rc_tfile.specs.Windows.{Seen, IsFull, IsOpen, Told, past, bytes_left, reads_left};
 
 use crate::checking::CheckErr;
 use rc_outside::Store;
@@ -50,7 +50,8 @@ impl Window {
         ensures building { W.building store.new ≡ W.building store.old }
         ensures faults { RisesIfFault result (W.faults store.old) (W.faults store.new) }
         ensures asks { W.asks store.new ≡ W.asks store.old }
-        ensures told { IfOk result (λ w. Told (W.files store.old) [] w) }
+        ensures told { IfOk result (λ w. Told (W.files store.new) [] w) }
+        ensures open { IfOk result (λ w. IsOpen (W.files store.new) w) }
         ensures start { IfOk result (λ w. (w.number ≡ n) × (w.read ≡ 0)) }
         ensures cause { IfErr result IsOutside }
     {
@@ -74,18 +75,39 @@ impl Window {
         &self.bytes[self.at..]
     }
 
+    /// How many bytes of the file were looked at.
+    pub(crate) fn offset(&self) -> u64
+        ensures { result + length self.now.ahead ≡ self.now.read }
+    {
+        self.end - (self.bytes.len() - self.at) as u64
+    }
+
+    /// Goes past so many bytes, which were looked at.
+    pub(crate) fn advance(&mut self, count: usize)
+        requires { count ≤ length self.old.ahead }
+        ensures value { self.new ≡ past count self.old }
+        ensures left { bytes_left self.new + count ≡ bytes_left self.old }
+        ensures reads { reads_left self.new ≡ reads_left self.old }
+        ensures open { (files : Option Files) → IsOpen files self.old → IsOpen files self.new }
+    {
+        self.at += count;
+    }
+
     /// Reads on, where less is ahead than an item may have. Then an item, or all that is left, is ahead.
     pub(crate) fn refill<W: Store>(&mut self, alloc: Global, store: &mut W) -> Result<(), CheckErr>
-        requires told { (front : List ℕ) × Told (W.files store.old) front self.old }
-        requires file { IsFile (W.files store.old) self.old.number }
+        requires { IsOpen (W.files store.old) self.old }
         ensures files { W.files store.new ≡ W.files store.old }
         ensures building { W.building store.new ≡ W.building store.old }
         ensures faults { RisesIfFault result (W.faults store.old) (W.faults store.new) }
+        ensures open { OnOk result (IsOpen (W.files store.new) self.new) }
         ensures full { OnOk result (IsFull self.new) }
-        ensures told { (front : List ℕ) → Told (W.files store.old) front self.old → OnOk result (Told (W.files store.old) front self.new) }
-        ensures number { OnOk result (self.new.number ≡ self.old.number) }
+        ensures told { (front : List ℕ) → Told (W.files store.old) front self.old → OnOk result (Told (W.files store.new) front self.new) }
+        ensures number { self.new.number ≡ self.old.number }
         ensures cause { IfErr result IsOutside }
-        ensures asks { W.asks store.new ≤ W.asks store.old + 1 }
+        ensures left { OnOk result (bytes_left self.new ≡ bytes_left self.old) }
+        ensures asks { W.asks store.new ≤ W.asks store.old + reads_left self.old }
+        ensures spent { OnOk result (W.asks store.new + reads_left self.new ≤ W.asks store.old + reads_left self.old) }
+        ensures once { W.asks store.new ≤ W.asks store.old + 1 }
     {
         if self.end == self.size {
             return Ok(());
@@ -104,8 +126,10 @@ impl Window {
         ensures files { W.files store.new ≡ W.files store.old }
         ensures building { W.building store.new ≡ W.building store.old }
         ensures faults { RisesIfFault result (W.faults store.old) (W.faults store.new) }
-        ensures told { (front : List ℕ) → Told (W.files store.old) front self.old → OnOk result (Told (W.files store.old) front self.new) }
-        ensures grown { OnOk result ((self.new.read ≡ self.old.read + count) × (length self.new.ahead ≡ length self.old.ahead + count) × (self.new.size ≡ self.old.size) × (self.new.number ≡ self.old.number)) }
+        ensures told { (front : List ℕ) → Told (W.files store.old) front self.old → OnOk result (Told (W.files store.new) front self.new) }
+        ensures grown { OnOk result ((self.new.read ≡ self.old.read + count) × (length self.new.ahead ≡ length self.old.ahead + count)) }
+        ensures number { self.new.number ≡ self.old.number }
+        ensures size { self.new.size ≡ self.old.size }
         ensures cause { IfErr result IsOutside }
         ensures asks { W.asks store.new ≤ W.asks store.old + 1 }
     {

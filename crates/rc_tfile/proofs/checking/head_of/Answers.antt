@@ -1,25 +1,23 @@
 -- What is ahead at the start decides which head the file has.
-use Rattle.std.proofs.Common.{◌≡◌, List, ℕ, [], Some, None, subst, sym, refl}
+use Rattle.std.proofs.Common.{List, ℕ, [], Some, None, subst, refl}
 use Rattle.rc_tfile.specs.Items.{HeadItem, item_code, IsItem}
-use Rattle.rc_tfile.specs.Checking.{IsContent}
 use Rattle.rc_tfile.specs.Reading.{Starts}
-use Rattle.rc_tfile.proofs.Ahead.{head_found, no_head, outside_head, outside_other}
+use Rattle.rc_tfile.proofs.Ahead.{head_found, no_head, outside_head}
 use Rattle.rc_tfile.proofs.checking.head_of.Goals as goal
-
-pub refill-requires-clause-told : goal.refill-requires-clause-told
-refill-requires-clause-told g c = ([], c.requires.told)
-
-pub refill-requires-clause-file : goal.refill-requires-clause-file
-refill-requires-clause-file g c = c.requires.file
 
 pub returns-in-Ok-None-clause-head : goal.returns-in-Ok-None-clause-head
 returns-in-Ok-None-clause-head g c = λ content is.
-    let at = c.in_ok-refill.ensures.told [] c.requires.told content (subst (λ n. IsContent (g.W.Store.files c.args.store.now) n content) (sym c.in_ok-refill.ensures.number) is) in
+    let at = c.in_ok-refill.ensures.told [] c.requires.start content is in
     let none = rw c.in-Ok-None.field-0-is at c.in-Ok-None.ensures.value in
     (refl, no_head content c.refill.new.self at c.in_ok-refill.ensures.full (subst (λ (b : List ℕ). Starts (λ y. item_code (HeadItem y)) (λ y. IsItem (HeadItem y)) b None) c.ahead.ensures.value none))
 
+pub returns-in-Ok-Some-clause-ahead : goal.returns-in-Ok-Some-clause-ahead
+returns-in-Ok-Some-clause-ahead g c =
+    let found = rw c.in-Ok-Some.field-0-is at c.in-Ok-Some.ensures.value in
+    subst (λ (b : List ℕ). Starts (λ y. item_code (HeadItem y)) (λ y. IsItem (HeadItem y)) b (Some (c.in-Ok-Some.found.0, c.in-Ok-Some.found.1))) c.ahead.ensures.value found
+
 pub returns-in-Ok-Some-clause-head : goal.returns-in-Ok-Some-clause-head
 returns-in-Ok-Some-clause-head g c = λ content is.
-    let at = c.in_ok-refill.ensures.told [] c.requires.told content (subst (λ n. IsContent (g.W.Store.files c.args.store.now) n content) (sym c.in_ok-refill.ensures.number) is) in
+    let at = c.in_ok-refill.ensures.told [] c.requires.start content is in
     let found = rw c.in-Ok-Some.field-0-is at c.in-Ok-Some.ensures.value in
     (head_found content c.refill.new.self c.in-Ok-Some.found.0 c.in-Ok-Some.found.1 at (subst (λ (b : List ℕ). Starts (λ y. item_code (HeadItem y)) (λ y. IsItem (HeadItem y)) b (Some (c.in-Ok-Some.found.0, c.in-Ok-Some.found.1))) c.ahead.ensures.value found), found.2)

@@ -1,0 +1,24 @@
+-- Those that are left are still to come.
+use Rattle.std.proofs.Common.{◌≡◌, ◌≤◌, ◌+◌, ◌++◌, List, length}
+use Rattle.std.specs.List.{flat_map}
+use Rattle.rc_tfile.specs.Blocks.{entry_items}
+use Rattle.rc_schema.specs.Lists.{Lists}
+use Rattle.rc_tfile.specs.Items.{Item}
+use Rattle.rc_tfile.specs.Before.{Before}
+use Rattle.rc_tfile.specs.Windows.{IsOpen, reads_left}
+use Rattle.rc_tfile.specs.Walking.{Awaits}
+use Rattle.rc_tfile.proofs.walking.check_directory.Given as goal
+
+abbrev pub invariant-loop-left : goal.invariant-loop-left
+invariant-loop-left g l = record {
+  files : g.W.Store.files l.store ≡ g.W.Store.files l.initial.store;
+  building : g.W.Store.building l.store ≡ g.W.Store.building l.initial.store;
+  faults : g.W.Store.faults l.initial.store ≤ g.W.Store.faults l.store;
+  number : l.file.number ≡ l.initial.file.number;
+  open_file : IsOpen (g.W.Store.files l.store) l.file;
+  asks : g.W.Store.asks l.store + reads_left l.file ≤ g.W.Store.asks l.initial.store + reads_left l.initial.file;
+  next : (schema : Lists) (start : Before) (more : List Item) → Awaits (g.W.Store.files l.initial.store) schema start (flat_map entry_items l.entries ++ more) l.initial.file → Awaits (g.W.Store.files l.store) schema start (flat_map entry_items l.left ++ more) l.file;
+}
+
+abbrev pub decreases-loop-left : goal.decreases-loop-left
+decreases-loop-left g l = length l.left
