@@ -1,8 +1,9 @@
 -- Which commands fit a schema: those that a line under it can give.
 use Rattle.std.specs.Prelude.{ℕ, Bool, true, false, not, ◌&&◌, ◌||◌, nat_le, List, length, IsTrue}
 use Rattle.std.specs.List.{list_all}
-use Rattle.std.specs.Option.{is_some}
+use Rattle.std.specs.Option.{is_some, is_none}
 use Rattle.std.specs.Result.{is_ok}
+use Rattle.rc_cell.specs.declared.rows.Row.{Row}
 use Rattle.rc_cell.specs.declared.writes.Cell.{Cell}
 use Rattle.rc_mutation.specs.declared.mutations.Mutation.{Mutation}
 use Rattle.rc_position.specs.declared.comps.Comp.{Comp}
@@ -35,6 +36,10 @@ fits_key full schema key = is_ok (checked_prefix full schema key)
 abbrev pub fits_cells : Bool → Lists → List (ℕ × Cell) → Bool
 fits_cells is_static schema cells = is_ok (checked_cells is_static schema cells)
 
+-- whether a static row fits: it has cells alone, no marker and no row tombstone, and they fit
+abbrev pub fits_static : Lists → Row → Bool
+fits_static schema row = is_none row.marker && (is_none row.tomb && fits_cells true schema row.cells)
+
 -- whether both bounds of a slice fit
 abbrev pub fits_slice : Lists → Slice → Bool
 fits_slice schema slice = fits_key false schema slice.from.prefix && fits_key false schema slice.to.prefix
@@ -42,7 +47,7 @@ fits_slice schema slice = fits_key false schema slice.from.prefix && fits_key fa
 -- whether each part of a write fits
 abbrev pub fits_write : Lists → Mutation → Bool
 fits_write schema m =
-    fits_cells true schema m.statics.cells
+    fits_static schema m.statics
     && (list_all (λ e. fits_key true schema e.0 && fits_cells false schema e.1.cells) m.rows && list_all (λ p. fits_slice schema (record { from = p.from; to = p.to })) m.ranges)
 
 -- a write to one place

@@ -1,0 +1,5 @@
+pub mod Each
+pub mod Joined
+pub mod Bounds
+pub mod Keys
+pub mod Parts
