@@ -3,19 +3,21 @@
 ghost use Rattle.std.specs.Prelude.{◌≡◌, ◌++◌, IfOk, OnOk, map};
 ghost use Rattle.std.specs.List.{flat_map, AllByRecursion};
 ghost use Rattle.rc_rowcode.specs.Spelling.{KeyFits};
-ghost use Rattle.rc_tfile.specs.Items.{item_code, BlockItem, TailItem};
+ghost use Rattle.rc_tfile.specs.Items.{item_code, BlockItem, TailItem, IsItem};
 ghost use Rattle.rc_tfile.specs.Blocks.{entry_items};
 ghost use Rattle.rc_tfile.specs.Info.{refs_from, entry_size};
 
 use crate::blocks::{Block, Listed};
 use crate::info::{PartRef, PartRefs};
 use crate::outline::{further, short};
+use crate::ranges::block_in_range;
 use crate::spelling::{append_block, append_entry, append_tail};
 use std::alloc::{AllocError, Global};
 
 /// The tail: the offset of the first directory item, and how many partitions there are.
 pub(crate) fn tail_of(alloc: Global, off: u64, parts: usize) -> Result<Vec<u8>, AllocError>
-    ensures { IfOk result (λ out. out.items ≡ item_code (TailItem off parts)) }
+    ensures code { IfOk result (λ out. out.items ≡ item_code (TailItem off parts)) }
+    ensures fits { IfOk result (λ _. IsItem (TailItem off parts)) }
 {
     let mut out = Vec::new(alloc);
     let count = short(parts)?;
@@ -26,10 +28,12 @@ pub(crate) fn tail_of(alloc: Global, off: u64, parts: usize) -> Result<Vec<u8>, 
 // The blocks of a partition in the directory.
 fn spell_blocks(alloc: Global, blocks: &[Block], out: &mut Vec<u8>) -> Result<(), AllocError>
     requires { AllByRecursion (λ b. KeyFits b.first.prefix) blocks.now }
-    ensures { OnOk result (out.new.items ≡ out.old.items ++ flat_map item_code (map BlockItem blocks.now)) }
+    ensures bytes { OnOk result (out.new.items ≡ out.old.items ++ flat_map item_code (map BlockItem blocks.now)) }
+    ensures items { OnOk result (AllByRecursion IsItem (map BlockItem blocks.now)) }
 {
     let mut left = blocks;
     while let [block, rest @ ..] = left {
+        block_in_range(block);
         append_block(alloc, block, out)?;
         left = rest;
     }
@@ -42,7 +46,8 @@ pub(crate) fn spell_entry(
     listed: &Listed,
     out: &mut Vec<u8>,
 ) -> Result<(), AllocError>
-    ensures { OnOk result (out.new.items ≡ out.old.items ++ flat_map item_code (entry_items listed.now)) }
+    ensures bytes { OnOk result (out.new.items ≡ out.old.items ++ flat_map item_code (entry_items listed.now)) }
+    ensures items { OnOk result (AllByRecursion IsItem (entry_items listed.now)) }
 {
     let blocks = listed.blocks();
     let count = short(blocks.len())?;
@@ -52,7 +57,8 @@ pub(crate) fn spell_entry(
 
 /// Where the directory lists each partition, the first at the offset.
 pub(crate) fn refs_of(alloc: Global, off: u64, entries: &[Listed]) -> Result<PartRefs, AllocError>
-    ensures { IfOk result (λ refs. refs ≡ refs_from off entries.now) }
+    ensures refs { IfOk result (λ refs. refs ≡ refs_from off entries.now) }
+    ensures items { IfOk result (λ _. AllByRecursion IsItem (flat_map entry_items entries.now)) }
 {
     let mut refs = PartRefs::empty(alloc);
     let mut next = off;
@@ -72,7 +78,8 @@ pub(crate) fn refs_of(alloc: Global, off: u64, entries: &[Listed]) -> Result<Par
 
 // How many bytes of the directory a partition and its blocks take.
 fn entry_size(alloc: Global, listed: &Listed) -> Result<u32, AllocError>
-    ensures { IfOk result (λ size. size ≡ entry_size listed.now) }
+    ensures size { IfOk result (λ size. size ≡ entry_size listed.now) }
+    ensures items { IfOk result (λ _. AllByRecursion IsItem (entry_items listed.now)) }
 {
     let mut out = Vec::new(alloc);
     spell_entry(alloc, listed, &mut out)?;

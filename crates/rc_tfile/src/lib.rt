@@ -7,6 +7,7 @@ mod directory;
 mod fitting;
 mod info;
 mod outline;
+mod ranges;
 mod reading;
 mod spelling;
 mod stepping;
