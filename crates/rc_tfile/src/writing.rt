@@ -418,6 +418,7 @@ pub fn plan_table(
     let _limits = schema.ck();
     let mut outline = outline_of(alloc, parts, schema)?;
     outline.stop()?;
+    // The tail must have room for the count.
     let _tail = tail_of(alloc, outline.off, outline.listed.len())?;
     let parts = refs_of(alloc, outline.off, outline.listed.as_slice())?;
     Ok(TableInfo { number: n, parts })
