@@ -3,3 +3,4 @@ pub mod Joined
 pub mod Bounds
 pub mod Keys
 pub mod Parts
+pub mod Tables

@@ -2,6 +2,7 @@ pub mod Grouping
 pub mod Outlines
 pub mod Follows
 pub mod Drafts
+pub mod Widths
 pub mod Limiting
 pub mod Checked
 pub mod Starting

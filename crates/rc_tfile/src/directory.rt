@@ -11,6 +11,7 @@ ghost use Rattle.rc_tfile.specs.Windows.{largest};
 use crate::blocks::{Block, Listed};
 use crate::info::{PartRef, PartRefs};
 use crate::outline::{further, short};
+use crate::ranges::block_in_range;
 use crate::spelling::{append_block, append_entry, append_tail};
 use std::alloc::{AllocError, Global};
 
@@ -54,10 +55,12 @@ pub(crate) fn block_of(alloc: Global, block: &Block) -> Result<Vec<u8>, AllocErr
 // The blocks of a partition in the directory.
 fn spell_blocks(alloc: Global, blocks: &[Block], out: &mut Vec<u8>) -> Result<(), AllocError>
     requires { AllByRecursion (λ b. KeyFits b.first.prefix) blocks.now }
-    ensures { OnOk result (out.new.items ≡ out.old.items ++ flat_map item_code (map BlockItem blocks.now)) }
+    ensures bytes { OnOk result (out.new.items ≡ out.old.items ++ flat_map item_code (map BlockItem blocks.now)) }
+    ensures items { OnOk result (AllByRecursion IsItem (map BlockItem blocks.now)) }
 {
     let mut left = blocks;
     while let [block, rest @ ..] = left {
+        block_in_range(block);
         append_block(alloc, block, out)?;
         left = rest;
     }
@@ -70,7 +73,8 @@ pub(crate) fn spell_entry(
     listed: &Listed,
     out: &mut Vec<u8>,
 ) -> Result<(), AllocError>
-    ensures { OnOk result (out.new.items ≡ out.old.items ++ flat_map item_code (entry_items listed.now)) }
+    ensures bytes { OnOk result (out.new.items ≡ out.old.items ++ flat_map item_code (entry_items listed.now)) }
+    ensures items { OnOk result (AllByRecursion IsItem (entry_items listed.now)) }
 {
     let blocks = listed.blocks();
     let count = short(blocks.len())?;
@@ -80,7 +84,8 @@ pub(crate) fn spell_entry(
 
 /// Where the directory lists each partition, the first at the offset.
 pub(crate) fn refs_of(alloc: Global, off: u64, entries: &[Listed]) -> Result<PartRefs, AllocError>
-    ensures { IfOk result (λ refs. refs ≡ refs_from off entries.now) }
+    ensures refs { IfOk result (λ refs. refs ≡ refs_from off entries.now) }
+    ensures items { IfOk result (λ _. AllByRecursion IsItem (flat_map entry_items entries.now)) }
 {
     let mut refs = PartRefs::empty(alloc);
     let mut next = off;
@@ -100,7 +105,8 @@ pub(crate) fn refs_of(alloc: Global, off: u64, entries: &[Listed]) -> Result<Par
 
 // How many bytes of the directory a partition and its blocks take.
 fn entry_size(alloc: Global, listed: &Listed) -> Result<u32, AllocError>
-    ensures { IfOk result (λ size. size ≡ entry_size listed.now) }
+    ensures size { IfOk result (λ size. size ≡ entry_size listed.now) }
+    ensures items { IfOk result (λ _. AllByRecursion IsItem (entry_items listed.now)) }
 {
     let mut out = Vec::new(alloc);
     spell_entry(alloc, listed, &mut out)?;

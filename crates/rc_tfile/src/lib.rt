@@ -8,6 +8,7 @@ mod directory;
 mod fitting;
 mod info;
 mod outline;
+mod ranges;
 mod reading;
 mod spelling;
 mod stepping;

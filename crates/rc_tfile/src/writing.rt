@@ -1,11 +1,11 @@
 //! Tables written, and planned: what their text will be.
 
 ghost use Rattle.std.specs.Prelude.{◌≡◌, ◌++◌, [], ◌∷◌, IfOk, OnOk, MatchResult, IsSome, None, length, All};
-ghost use Rattle.std.specs.List.{flat_map};
+ghost use Rattle.std.specs.List.{flat_map, AllByRecursion};
 ghost use Rattle.rc_position.specs.Position.{row_pos};
 ghost use Rattle.rc_outside.specs.Files.{IsNoFile, grown};
 ghost use Rattle.rc_rowcode.specs.Spelling.{KeyFits, RowFits};
-ghost use Rattle.rc_tfile.specs.Items.{item_code, HeadItem, RowItem, ChangeItem, StopItem, TailItem};
+ghost use Rattle.rc_tfile.specs.Items.{item_code, HeadItem, RowItem, ChangeItem, StopItem, TailItem, IsItem};
 ghost use Rattle.rc_tfile.specs.Before.{Before, followed_by, text};
 ghost use Rattle.rc_tfile.specs.Blocks.{entry_items, ending};
 ghost use Rattle.rc_tfile.specs.Info.{info_of};
@@ -18,6 +18,7 @@ use crate::blocks::Listed;
 use crate::directory::{refs_of, spell_entry, tail_of};
 use crate::info::TableInfo;
 use crate::outline::Outline;
+use crate::ranges::{key_in_range, row_in_range, tomb_in_range};
 use crate::spelling::{END, STOP, append_change, append_head, append_part, append_row};
 use rc_cell::{Row, Tomb};
 use rc_mutation::{Frag, Partition};
@@ -70,7 +71,10 @@ fn spell_row(
     requires row { RowFits row.now }
     ensures outline { (before : Before) → IsOutline before outline.old → OnOk result (IsOutline (RowItem key.now row.now ∷ before) outline.new) }
     ensures bytes { OnOk result (out.new.items ≡ out.old.items ++ item_code (RowItem key.now row.now)) }
+    ensures item { IsItem (RowItem key.now row.now) }
 {
+    key_in_range(key);
+    row_in_range(row);
     let start = out.len();
     append_row(alloc, key, row, out)?;
     let x = row_pos(alloc, key)?;
@@ -88,7 +92,10 @@ fn spell_change(
     requires { KeyFits x.now.prefix }
     ensures outline { (before : Before) → IsOutline before outline.old → OnOk result (IsOutline (ChangeItem x.now tomb ∷ before) outline.new) }
     ensures bytes { OnOk result (out.new.items ≡ out.old.items ++ item_code (ChangeItem x.now tomb)) }
+    ensures item { IsItem (ChangeItem x.now tomb) }
 {
+    key_in_range(&x.prefix);
+    tomb_in_range(tomb);
     let start = out.len();
     append_change(alloc, x, tomb, out)?;
     outline.fragment(alloc, x, tomb, out.len() - start)
@@ -104,6 +111,7 @@ fn spell_fragment(
     requires { FragFits frag.now }
     ensures outline { (before : Before) → IsOutline before outline.old → OnOk result (IsOutline (followed_by before (frag_items frag.now)) outline.new) }
     ensures bytes { OnOk result (out.new.items ≡ out.old.items ++ flat_map item_code (frag_items frag.now)) }
+    ensures items { AllByRecursion IsItem (frag_items frag.now) }
 {
     match frag {
         Frag::Start(_) => Ok(()),
@@ -127,6 +135,7 @@ fn spell_fragments(
     requires { All FragFits frags.now }
     ensures outline { (before : Before) → IsOutline before outline.old → OnOk result (IsOutline (followed_by before (flat_map frag_items frags.now)) outline.new) }
     ensures bytes { OnOk result (out.new.items ≡ out.old.items ++ flat_map item_code (flat_map frag_items frags.now)) }
+    ensures items { OnOk result (AllByRecursion IsItem (flat_map frag_items frags.now)) }
 {
     for frag in frags {
         spell_fragment(alloc, frag, outline, out)?;
@@ -144,10 +153,14 @@ fn spell_part(
     requires { PartLimits part.now }
     ensures outline { (before : Before) → IsOutline before outline.old → OnOk result (IsOutline (followed_by before (part_items part.now)) outline.new) }
     ensures bytes { OnOk result (out.new.items ≡ out.old.items ++ flat_map item_code (part_items part.now)) }
+    ensures items { OnOk result (AllByRecursion IsItem (part_items part.now)) }
 {
     let start = out.len();
     let change = &part.change;
     change.holds_together();
+    tomb_in_range(change.pt);
+    row_in_range(&change.statics);
+    let _key = part.key.as_slice();
     append_part(alloc, &part.key, change.pt, &change.statics, out)?;
     outline.part(alloc, &part.key, out.len() - start)?;
     let list = change.fragments(alloc)?;
@@ -176,7 +189,9 @@ fn write_head<W: Store>(alloc: Global, schema: &Schema, store: &mut W) -> Result
     ensures faults { RisesIfFault result (W.faults store.old) (W.faults store.new) }
     ensures building { OnOk result (W.building store.new ≡ grown (W.building store.old) (item_code (HeadItem schema.now))) }
     ensures outline { IfOk result (λ outline. IsOutline (HeadItem schema.now ∷ []) outline) }
+    ensures item { IfOk result (λ _. IsItem (HeadItem schema.now)) }
 {
+    let _limits = schema.ck();
     let mut out = Vec::new(alloc);
     match append_head(alloc, schema, &mut out) {
         Ok(()) => {
@@ -200,6 +215,7 @@ fn write_part<W: Store>(
     ensures asks { W.asks store.new ≡ W.asks store.old }
     ensures faults { RisesIfFault result (W.faults store.old) (W.faults store.new) }
     ensures building { OnOk result (W.building store.new ≡ grown (W.building store.old) (flat_map item_code (part_items part.now))) }
+    ensures items { OnOk result (AllByRecursion IsItem (part_items part.now)) }
     ensures outline { (before : Before) → IsOutline before outline.old → OnOk result (IsOutline (followed_by before (part_items part.now)) outline.new) }
 {
     let mut out = Vec::new(alloc);
@@ -222,6 +238,7 @@ fn write_parts<W: Store>(
     ensures asks { W.asks store.new ≡ W.asks store.old }
     ensures faults { RisesIfFault result (W.faults store.old) (W.faults store.new) }
     ensures building { OnOk result (W.building store.new ≡ grown (W.building store.old) (flat_map item_code (flat_map part_items parts.now))) }
+    ensures items { OnOk result (AllByRecursion IsItem (flat_map part_items parts.now)) }
     ensures outline { (before : Before) → IsOutline before outline.old → OnOk result (IsOutline (followed_by before (flat_map part_items parts.now)) outline.new) }
 {
     for part in parts {
@@ -237,6 +254,7 @@ fn write_entry<W: Store>(alloc: Global, listed: &Listed, store: &mut W) -> Resul
     ensures asks { W.asks store.new ≡ W.asks store.old }
     ensures faults { RisesIfFault result (W.faults store.old) (W.faults store.new) }
     ensures building { OnOk result (W.building store.new ≡ grown (W.building store.old) (flat_map item_code (entry_items listed.now))) }
+    ensures items { OnOk result (AllByRecursion IsItem (entry_items listed.now)) }
 {
     let mut out = Vec::new(alloc);
     match spell_entry(alloc, listed, &mut out) {
@@ -252,6 +270,7 @@ fn write_entries<W: Store>(alloc: Global, entries: &[Listed], store: &mut W) -> 
     ensures asks { W.asks store.new ≡ W.asks store.old }
     ensures faults { RisesIfFault result (W.faults store.old) (W.faults store.new) }
     ensures building { OnOk result (W.building store.new ≡ grown (W.building store.old) (flat_map item_code (flat_map entry_items entries.now))) }
+    ensures items { OnOk result (AllByRecursion IsItem (flat_map entry_items entries.now)) }
 {
     for listed in entries {
         write_entry(alloc, listed, store)?;
@@ -266,6 +285,7 @@ fn write_tail<W: Store>(alloc: Global, outline: &Outline, store: &mut W) -> Resu
     ensures asks { W.asks store.new ≡ W.asks store.old }
     ensures faults { RisesIfFault result (W.faults store.old) (W.faults store.new) }
     ensures building { OnOk result (W.building store.new ≡ grown (W.building store.old) (item_code (TailItem outline.now.off (length outline.now.listed.items)))) }
+    ensures item { OnOk result (IsItem (TailItem outline.now.off (length outline.now.listed.items))) }
 {
     match tail_of(alloc, outline.off, outline.listed.len()) {
         Ok(out) => append(alloc, store, out.as_slice()),
@@ -281,6 +301,7 @@ fn write_listed<W: Store>(alloc: Global, outline: &Outline, store: &mut W) -> Re
     ensures faults { RisesIfFault result (W.faults store.old) (W.faults store.new) }
     ensures building { (before : Before) → IsListed before outline.now →
         OnOk result (W.building store.new ≡ grown (W.building store.old) (flat_map item_code (StopItem ∷ ending before))) }
+    ensures items { (before : Before) → IsListed before outline.now → OnOk result (AllByRecursion IsItem (ending before)) }
 {
     append(alloc, store, &[STOP])?;
     write_entries(alloc, outline.listed.as_slice(), store)?;
@@ -299,6 +320,7 @@ fn write_ending<W: Store>(
     ensures faults { RisesIfFault result (W.faults store.old) (W.faults store.new) }
     ensures building { (before : Before) → IsOutline before outline.old →
         OnOk result (W.building store.new ≡ grown (W.building store.old) (flat_map item_code (StopItem ∷ ending (StopItem ∷ before)))) }
+    ensures items { (before : Before) → IsOutline before outline.old → OnOk result (AllByRecursion IsItem (ending (StopItem ∷ before))) }
 {
     match outline.stop() {
         Ok(()) => write_listed(alloc, outline, store),
@@ -319,6 +341,7 @@ fn write_items<W: Store>(
     ensures asks { W.asks store.new ≡ W.asks store.old }
     ensures faults { RisesIfFault result (W.faults store.old) (W.faults store.new) }
     ensures building { OnOk result (W.building store.new ≡ grown (W.building store.old) (text (table schema.now parts.now))) }
+    ensures items { OnOk result (AllByRecursion IsItem (table schema.now parts.now)) }
 {
     let _limits = schema.ck();
     let mut outline = write_head(alloc, schema, store)?;
@@ -327,7 +350,8 @@ fn write_items<W: Store>(
 }
 
 /// Writes the table of the partitions as file `n`, which is not there: it is then the one text of the schema and the
-/// partitions. Their keys strictly ascend, and each fits the schema. What was being built before is given up.
+/// partitions, and each number in it is within its width. Their keys strictly ascend, and each fits the schema. What was
+/// being built before is given up.
 /// `WriteErr::Fault` when the store fails, and only then. `WriteErr::NoMemory` when memory is refused, and where a number
 /// passes its width in the format. After either the files are as before. Nothing is being built then, whatever is answered.
 pub fn write_table<W: Store>(
@@ -342,6 +366,7 @@ pub fn write_table<W: Store>(
     ensures files { MatchResult result
         (λ _. W.files store.new ≡ with_file (W.files store.old) n (text (table schema.now parts.now)))
         (λ _. W.files store.new ≡ W.files store.old) }
+    ensures items { OnOk result (AllByRecursion IsItem (table schema.now parts.now)) }
     ensures idle { W.building store.new ≡ None }
     ensures faults { RisesIfFault result (W.faults store.old) (W.faults store.new) }
     ensures asks { W.asks store.new ≡ W.asks store.old }
@@ -363,8 +388,10 @@ pub fn write_table<W: Store>(
 // The outline of a table's partitions.
 fn outline_of(alloc: Global, parts: &[Partition], schema: &Schema) -> Result<Outline, AllocError>
     requires { All PartLimits parts.now }
-    ensures { IfOk result (λ outline. IsOutline (followed_by [] (HeadItem schema.now ∷ flat_map part_items parts.now)) outline) }
+    ensures outline { IfOk result (λ outline. IsOutline (followed_by [] (HeadItem schema.now ∷ flat_map part_items parts.now)) outline) }
+    ensures items { IfOk result (λ _. AllByRecursion IsItem (HeadItem schema.now ∷ flat_map part_items parts.now)) }
 {
+    let _limits = schema.ck();
     let mut out = Vec::new(alloc);
     append_head(alloc, schema, &mut out)?;
     let mut outline = Outline::new(alloc, out.len());
@@ -375,9 +402,9 @@ fn outline_of(alloc: Global, parts: &[Partition], schema: &Schema) -> Result<Out
     Ok(outline)
 }
 
-/// What is known of the table that `write_table` writes of the partitions as file `n`: where its directory lists each. Their
-/// keys strictly ascend, and each fits the schema. The only error is want of memory, which is also answered where a number
-/// passes its width in the format.
+/// What is known of the table that `write_table` writes of the partitions as file `n`: where its directory lists each; and each
+/// number in it is within its width. Their keys strictly ascend, and each fits the schema. The only error is want of memory,
+/// which is also answered where a number passes its width in the format.
 pub fn plan_table(
     alloc: Global,
     parts: &[Partition],
@@ -385,11 +412,14 @@ pub fn plan_table(
     n: u32,
 ) -> Result<TableInfo, AllocError>
     requires { PartsFit schema.now parts.now }
-    ensures { IfOk result (λ info. info ≡ info_of n schema.now parts.now) }
+    ensures info { IfOk result (λ info. info ≡ info_of n schema.now parts.now) }
+    ensures items { IfOk result (λ _. AllByRecursion IsItem (table schema.now parts.now)) }
 {
     let _limits = schema.ck();
     let mut outline = outline_of(alloc, parts, schema)?;
     outline.stop()?;
+    // The tail must have room for the count.
+    let _tail = tail_of(alloc, outline.off, outline.listed.len())?;
     let parts = refs_of(alloc, outline.off, outline.listed.as_slice())?;
     Ok(TableInfo { number: n, parts })
 }

@@ -7,12 +7,14 @@ use Rattle.rc_tfile.specs.Items.{item_code}
 use Rattle.rc_tfile.specs.Blocks.{entry_items}
 use Rattle.rc_tfile.proofs.Follows.{one_more}
 use Rattle.rc_tfile.proofs.Drafts.{grown_more}
+use Rattle.rc_tfile.proofs.Widths.{more_items}
 use Rattle.rc_tfile.proofs.writing.write_entries.Goals as goal
 
 pub loop-listed-preserved : goal.loop-listed-preserved
 loop-listed-preserved g c =
     let done = flat_map entry_items (take c.loop-listed.listed-index c.args.entries.now) in
     let more : flat_map entry_items (take (c.loop-listed.listed-index + 1) c.args.entries.now) ≡ done ++ entry_items c.listed-item.result = one_more entry_items c.args.entries.now c.loop-listed.listed-index c.listed-item.result c.loop-listed-test.true c.listed-item.is in record {
+      items = more_items entry_items _ done c.listed-item.result more c.loop-listed.invariant.items c.in_ok-write_entry.ensures.items;
       built = c.in_ok-write_entry.ensures.building ∙ ap (λ b. grown b (flat_map item_code (entry_items c.listed-item.result))) c.loop-listed.invariant.built
           ∙ grown_more _ (flat_map item_code done) (flat_map item_code (entry_items c.listed-item.result))
           ∙ ap (grown _) (sym (flat_map-append item_code done (entry_items c.listed-item.result)) ∙ ap (flat_map item_code) (sym more));

@@ -1,13 +1,14 @@
 -- The entries so far are written.
 use Rattle.std.proofs.Common.{◌≡◌, ◌≤◌, take}
-use Rattle.std.specs.List.{flat_map}
+use Rattle.std.specs.List.{flat_map, AllByRecursion}
 use Rattle.rc_outside.specs.Files.{grown}
-use Rattle.rc_tfile.specs.Items.{item_code}
+use Rattle.rc_tfile.specs.Items.{item_code, IsItem}
 use Rattle.rc_tfile.specs.Blocks.{entry_items}
 use Rattle.rc_tfile.proofs.writing.write_entries.Given as goal
 
 abbrev pub invariant-loop-listed : goal.invariant-loop-listed
 invariant-loop-listed g l = record {
+  items : AllByRecursion IsItem (flat_map entry_items (take l.listed-index l.entries));
   built : g.W.Store.building l.store ≡ grown (g.W.Store.building l.initial.store) (flat_map item_code (flat_map entry_items (take l.listed-index l.entries)));
   files : g.W.Store.files l.store ≡ g.W.Store.files l.initial.store;
   asks : g.W.Store.asks l.store ≡ g.W.Store.asks l.initial.store;

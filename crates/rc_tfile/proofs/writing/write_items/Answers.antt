@@ -2,6 +2,7 @@
 use Rattle.std.proofs.lemmas.Result.{on_ok_weaker}
 use Rattle.rc_tfile.proofs.Checked.{parts_limits}
 use Rattle.rc_tfile.proofs.Drafts.{table_built, parts_of}
+use Rattle.rc_tfile.proofs.Widths.{table_items}
 use Rattle.rc_tfile.proofs.writing.write_items.Goals as goal
 
 pub write_parts-requires-clause-limits : goal.write_parts-requires-clause-limits
@@ -11,3 +12,8 @@ pub returns-clause-building : goal.returns-clause-building
 returns-clause-building g c =
     on_ok_weaker c.write_ending.result (λ built. table_built _ _ _ _ c.args.schema.now c.args.parts.now c.in_ok-outline.ensures.building c.in_ok-write_parts.ensures.building built)
     (c.write_ending.ensures.building (parts_of c.args.schema.now c.args.parts.now) (c.in_ok-write_parts.ensures.outline _ c.in_ok-outline.ensures.outline))
+
+pub returns-clause-items : goal.returns-clause-items
+returns-clause-items g c =
+    on_ok_weaker c.write_ending.result (λ ending. table_items c.args.schema.now c.args.parts.now c.in_ok-outline.ensures.item c.in_ok-write_parts.ensures.items ending)
+    (c.write_ending.ensures.items (parts_of c.args.schema.now c.args.parts.now) (c.in_ok-write_parts.ensures.outline _ c.in_ok-outline.ensures.outline))
