@@ -11,7 +11,6 @@ ghost use Rattle.rc_tfile.specs.Windows.{largest};
 use crate::blocks::{Block, Listed};
 use crate::info::{PartRef, PartRefs};
 use crate::outline::{further, short};
-use crate::ranges::block_in_range;
 use crate::spelling::{append_block, append_entry, append_tail};
 use std::alloc::{AllocError, Global};
 
@@ -60,7 +59,6 @@ fn spell_blocks(alloc: Global, blocks: &[Block], out: &mut Vec<u8>) -> Result<()
 {
     let mut left = blocks;
     while let [block, rest @ ..] = left {
-        block_in_range(block);
         append_block(alloc, block, out)?;
         left = rest;
     }

@@ -1,33 +1,13 @@
-//! What holds of each block, tombstone, key and row: its numbers are within their widths, so that it has a code. Each
+//! What holds of each tombstone, key and row: its numbers are within their widths, so that it has a code. Each
 //! function here does nothing; it is there for proofs to cite.
 
-ghost use Rattle.std.specs.Prelude.{◌<◌, ◌^◌, IfSome, FitsSigned};
+ghost use Rattle.std.specs.Prelude.{IfSome, FitsSigned};
 ghost use Rattle.std.specs.Int.{w64};
 ghost use Rattle.std.specs.List.{AllByRecursion};
 ghost use Rattle.rc_rowcode.specs.Spelling.{CompFits, CellFits, EntryFits, KeyFits, RowFits, IsTomb, IsComp, IsKey, IsCell, IsEntry, IsCodedRow};
-ghost use Rattle.rc_tfile.specs.Items.{BlockItem, IsItem};
 
-use crate::blocks::Block;
 use rc_cell::{Cell, Row, Tomb};
 use rc_position::{Comp, Key};
-
-// A number of 64 bits.
-fn offset_in_range(off: u64)
-    ensures { off < 2 ^ 64 }
-{}
-
-// A number of 32 bits.
-fn length_in_range(len: u32)
-    ensures { len < 2 ^ 32 }
-{}
-
-/// The offset and the length of a block.
-pub(crate) fn block_in_range(block: &Block)
-    ensures { IsItem (BlockItem block.now) }
-{
-    offset_in_range(block.off);
-    length_in_range(block.len);
-}
 
 /// Both numbers of a tombstone.
 pub(crate) fn tomb_in_range(tomb: Option<Tomb>)

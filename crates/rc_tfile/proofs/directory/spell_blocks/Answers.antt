@@ -14,8 +14,8 @@ loop-left-preserved c =
     let e : left ≡ block ∷ take (length left - 1) (drop 1 left) = split left block c.in-len1-up.len_at_least c.block-item.is in
     let spelled : List Block → List _ = λ bs. flat_map item_code (map BlockItem bs) in record {
       fits = (subst (λ (bs : List Block). AllByRecursion (λ b. KeyFits b.first.prefix) bs) e c.loop-left.invariant.fits).1;
-      items = λ h. c.loop-left.invariant.items (subst (λ (bs : List Block). AreItems (map BlockItem bs)) (sym e) (c.block_in_range.ensures, h));
-      spelt = ap (λ t. t ++ spelled (take (length left - 1) (drop 1 left))) c.in_ok-append_block.ensures
+      items = λ h. c.loop-left.invariant.items (subst (λ (bs : List Block). AreItems (map BlockItem bs)) (sym e) (c.in_ok-append_block.ensures.fits, h));
+      spelt = ap (λ t. t ++ spelled (take (length left - 1) (drop 1 left))) c.in_ok-append_block.ensures.code
           ∙ append_assoc c.loop-left.out.items (item_code (BlockItem block)) (spelled (take (length left - 1) (drop 1 left)))
           ∙ ap (λ bs. c.loop-left.out.items ++ spelled bs) (sym e) ∙ c.loop-left.invariant.spelt;
     }

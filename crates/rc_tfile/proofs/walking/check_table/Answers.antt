@@ -16,7 +16,7 @@ pub returns-in-Ok-clause-table : goal.returns-in-Ok-clause-table
 returns-in-Ok-clause-table g c = λ bytes is.
     let r = c.in_ok-outline.ensures.whole in
     table_found (g.W.Store.files c.check_items.new.store) c.check_items.new.file.number c.args.n c.args.schema.now r.before c.in_ok-outline.outline c.in-Ok.parts bytes r.fit r.listed r.whole
-    (c.in-Ok.ensures ∙ ap (refs_from c.in_ok-outline.outline.off) c.as_slice.ensures.value)
+    (c.in-Ok.ensures.refs ∙ ap (refs_from c.in_ok-outline.outline.off) c.as_slice.ensures.value)
     (same_content (g.W.Store.files c.args.store.now) _ c.args.n _ bytes (c.in_ok-outline.ensures.files ∙ c.in_ok-file.ensures.files) (c.in_ok-outline.ensures.number ∙ c.in_ok-file.ensures.start.0) is)
 
 pub returns-in-Ok-clause-asks : goal.returns-in-Ok-clause-asks
