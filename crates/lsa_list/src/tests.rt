@@ -1,5 +1,5 @@
 //! A list of a thousand objects beside a plain vector of their numbers, while segments are emptied.
-ghost use Rattle.std.specs.Prelude.{◌≡◌, ◌≢◌, ℕ, List as Sequence, [], true, None, IsSome};
+ghost use Rattle.std.specs.Prelude.{◌≡◌, ◌≢◌, ℕ, List as Sequence, ◌∷◌, ◌++◌, true, None, IsSome};
 ghost use Rattle.lsa_region.specs.declared.end.Ref.{Ref as Name};
 ghost use Rattle.lsa_region.specs.Region.{body, link_of, IsEnd};
 ghost use Rattle.lsa_list.specs.Recency.{IsList, IsOneOf};
@@ -38,6 +38,7 @@ impl Model for Beside {
 impl Beside {
     // Makes room for an object with this number, and puts it at the back; false where there is no room. References may have new names.
     fn add(&mut self, number: usize) -> Result<bool, AllocError> {
+        self.region.known();
         if let Ensured::Full = ensure(&mut self.region, 88) {
             return Ok(false);
         }
@@ -53,9 +54,7 @@ impl Beside {
         if place >= self.plain.len() {
             return Ok(());
         }
-        if let Some(r) = nth(self.list, &self.region, place) {
-            self.list.touch(&mut self.region, r);
-        }
+        touch_at(self.list, &mut self.region, place);
         let number = self.plain.remove(place);
         self.plain.push(number)?;
         Ok(())
@@ -66,13 +65,8 @@ impl Beside {
         if place >= self.plain.len() {
             return;
         }
-        let _ = self.plain.remove(place);
-        if let Some(r) = nth(self.list, &self.region, place) {
-            self.list.remove(&mut self.region, r);
-            if is_loose(&self.region, r) {
-                self.region.free_obj(r);
-            }
-        }
+        let _number = self.plain.remove(place);
+        remove_at(self.list, &mut self.region, place);
     }
 
     // Whether the list leads through the objects with the numbers of the vector, and there are no others.
@@ -111,6 +105,40 @@ fn nth(list: List, region: &Region<4096>, place: usize) -> Option<Ref>
         found = after(list, region, found);
     }
     found
+}
+
+// Touches the object at this place of the list, if there is one.
+fn touch_at(list: List, region: &mut Region<4096>, place: usize)
+    requires { (refs : Sequence Name) × IsList list region.old refs }
+    ensures { (refs : Sequence Name) × IsList list region.new refs }
+{
+    match nth(list, region, place) {
+        Some(r) => list.touch(region, r),
+        None => {}
+    }
+}
+
+// Removes the object at this place of the list, if there is one, and frees it.
+fn remove_at(list: List, region: &mut Region<4096>, place: usize)
+    requires { (refs : Sequence Name) × IsList list region.old refs }
+    ensures { (refs : Sequence Name) × IsList list region.new refs }
+{
+    match nth(list, region, place) {
+        Some(r) => discard(list, region, r),
+        None => {}
+    }
+}
+
+// Removes an object of the list, and frees it where no other link of it is set.
+fn discard(list: List, region: &mut Region<4096>, r: Ref)
+    requires { (xs : Sequence Name) × (ys : Sequence Name) × IsList list region.old (xs ++ (r ∷ ys)) }
+    ensures { (refs : Sequence Name) × IsList list region.new refs }
+{
+    list.remove(region, r);
+    if !is_loose(region, r) {
+        return;
+    }
+    region.free_obj(r);
 }
 
 // The number that an object of the list carries.
