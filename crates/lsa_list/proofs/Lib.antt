@@ -1,2 +1,2 @@
 pub mod Lists
-mod Splits
+mod Walks

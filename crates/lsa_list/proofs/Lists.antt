@@ -8,7 +8,7 @@ use Rattle.lsa_region.specs.declared.end.Ref.{Ref}
 use Rattle.lsa_region.specs.declared.end.End.{End}
 use Rattle.lsa_region.specs.declared.end.End.TheVariants.{Obj, Slot}
 use Rattle.lsa_region.specs.Ends.{named_as}
-use Rattle.lsa_region.specs.Region.{View, body, link_of, IsEnd, IsWell, IsAdded, Renamed}
+use Rattle.lsa_region.specs.Region.{View, body, link_of, IsEnd, IsWell, IsAdded, IsFreed, Renamed}
 use Rattle.lsa_path.specs.Path.{IsPath, behind, IsInserted, IsTakenOut}
 use Rattle.lsa_path.specs.Roles.{role_of, LessRecent, MoreRecent}
 use Rattle.lsa_path.proofs.Paths.{same_some, path-end, path-rest, path-last, fresh-start, fresh-behind, path-everywhere}
@@ -172,6 +172,21 @@ fresh_differs v w r kind bytes added q there = added.others q (λ is. let none :
 -- a list stays where an object is made
 pub list-added : (slots : Slots) (v w : View) (r : Ref) (kind : Kind) (bytes : List ℕ) → IsAdded v w r kind bytes → (xs : List Ref) → IsList slots v xs → IsList slots w xs
 list-added slots v w r kind bytes added = list-keep slots v w added.links (fresh_differs v w r kind bytes added)
+
+-- a list stays where an object is freed whose link to the less recent object is unset
+module _ (v w : View) (r : Ref) (freed : IsFreed v w r) (well : IsWell v) (unset : link_of v (Obj r 0) ≡ None) where
+  not-freed : (s : End) (x : Ref) → link_of v s ≡ Some (Obj x 0) → x ≢ r
+  not-freed s x named is = let back : link_of v (Obj r 0) ≡ Some s = subst (λ q. link_of v (Obj q 0) ≡ Some s) is (well.paired.mates s (Obj x 0) named) in let clash : None ≡ Some s = sym unset ∙ back in cc
+
+  recent-freed : (s : End) (xs : List Ref) (f : Option End) → IsPath 0 1 (link_of v) s xs f → AllHaveRecency v xs → AllHaveRecency w xs
+  recent-freed s [] f p h = tt
+  recent-freed s (x ∷ xs) f p h = (subst (λ o. IsSomeAnd o (λ b. b.0 ≢ Version)) (sym (freed.others x (not-freed s x p.0))) h.0, recent-freed (Obj x 1) xs f p.1 h.1)
+
+  pub list-freed : (slots : Slots) (xs : List Ref) → IsList slots v xs → IsList slots w xs
+  list-freed slots xs l = record {
+    path = path-everywhere 0 1 (link_of v) (link_of w) (Slot slots.front) xs (Some (Slot slots.back)) freed.links l.path;
+    recent = recent-freed (Slot slots.front) xs (Some (Slot slots.back)) l.path l.recent;
+  }
 
 -- a list after its objects got other names
 module _ (slots : Slots) (old new : View) (names : List (Ref × Ref)) (renamed : Renamed old new names) (well : IsWell old) where

@@ -1,17 +1,19 @@
--- A region is tight exactly where the search for a sparse segment finds none.
-use Rattle.std.proofs.Common.{◌≡◌, ◌≢◌, ℕ, zero, suc, ◌+◌, ◌-◌, ◌*◌, ◌/◌, ◌<◌, ◌≤◌, List, [], ◌∷◌, length, cond, Option, Some, None, inl, inr, refl, sym, ap, ◌∙◌, subst, arith}
-use Rattle.std.specs.Prelude.{nat_le}
+-- A region is tight exactly where the search for a sparse segment finds none; how much of it is live then.
+use Rattle.std.proofs.Common.{◌≡◌, ◌≢◌, ℕ, zero, suc, ◌+◌, ◌-◌, ◌*◌, ◌/◌, ◌<◌, ◌≤◌, Bool, false, List, [], ◌∷◌, length, cond, Option, Some, None, inl, inr, refl, sym, ap, ◌∙◌, subst, arith}
+use Rattle.std.specs.Prelude.{nat_le, count_by, IsSome}
 use Rattle.std.specs.Option.{option_and_then}
 use Rattle.std.proofs.lemmas.Bool.Decides.{leb_tells}
-use Rattle.std.proofs.lemmas.List.Sums.{sum_by-cons}
+use Rattle.std.proofs.Math.ListN.{set}
+use Rattle.std.proofs.lemmas.List.Sums.{sum_by-cons, sum_by-set}
 use Rattle.lsa_pool.specs.declared.Usage.{Usage}
 use Rattle.lsa_pool.specs.declared.State.{State}
 use Rattle.lsa_pool.specs.declared.State.TheVariants.{Free, Active, Closed}
-use Rattle.lsa_pool.specs.Room.{usage_of, is_state_closed, free_count, live_sum, spare_of}
+use Rattle.lsa_pool.specs.Account.{IsSound}
+use Rattle.lsa_pool.specs.Room.{nothing, usage_of, is_state_free, is_state_active, is_state_closed, free_count, live_sum, active_of, spare_of}
 use Rattle.lsa_pool.specs.Sparsest.{IsBest}
-use Rattle.lsa_pool.proofs.Books.{sparsest-best}
+use Rattle.lsa_pool.proofs.Books.{within, set_elim, sparsest-best}
 use Rattle.lsa_region.specs.Layout.{sparse_of}
-use Rattle.lsa_region.proofs.Moves.{closed-inside, sparse-is}
+use Rattle.lsa_region.proofs.Moves.{active-state, closed-inside, sparse-is}
 use Rattle.lsa_move.specs.Room.{Tight, closed_count}
 
 -- ---- there is a best segment below each number
@@ -101,8 +103,15 @@ tight-not size n us some tight = let s = sparse-is size n us some in absurd (ome
 
 -- ---- how much is live
 
+-- how many segments are in a state
+abbrev count_of : (State → Bool) → List Usage → ℕ
+count_of p us = count_by (λ u. p u.state) us
+
+one-more : (p : State → Bool) (u : Usage) (us : List Usage) (s : State) → u.state ≡ s → count_of p (u ∷ us) ≡ cond (p s) 1 0 + count_of p us
+one-more p u us s e = sum_by-cons (λ (v : Usage). cond (p v.state) 1 0) u us ∙ ap (λ t. cond (p t) 1 0 + count_of p us) e
+
 counted : (u : Usage) (us : List Usage) (s : State) → u.state ≡ s → closed_count (u ∷ us) ≡ cond (is_state_closed s) 1 0 + closed_count us
-counted u us s e = sum_by-cons (λ (v : Usage). cond (is_state_closed v.state) 1 0) u us ∙ ap (λ t. cond (is_state_closed t) 1 0 + closed_count us) e
+counted u us s e = one-more is_state_closed u us s e
 
 closed-more : (q : ℕ) (u : Usage) (us : List Usage) → closed_count us * (q + 1) ≤ live_sum us → (u.state ≡ Closed → q < u.live) → (s : State) → u.state ≡ s → closed_count (u ∷ us) * (q + 1) ≤ live_sum (u ∷ us)
 closed-more q u us others here Closed e = let product : closed_count (u ∷ us) * (q + 1) ≡ (1 + closed_count us) * (q + 1) = ap (λ k. k * (q + 1)) (counted u us Closed e) in
@@ -116,9 +125,6 @@ closed-live : (q : ℕ) (us : List Usage) → ((n : ℕ) → (usage_of us n).sta
 closed-live q [] each = omega arith
 closed-live q (u ∷ us) each = closed-more q u us (closed-live q us (λ n. each (suc n))) (each 0) u.state refl
 
-pub tight-live : (size : ℕ) (us : List Usage) → Tight size us → closed_count us * (3 * size / 4 + 1) ≤ live_sum us
-tight-live size us tight = closed-live (3 * size / 4) us tight
-
 pub tight-free : (size need : ℕ) (us : List Usage) → 0 < free_count us → need ≤ 7 * size / 8 → spare_of size us < need → free_count us ≡ 1
 tight-free size need us some few less = one (free_count us) refl
   where
@@ -130,3 +136,55 @@ tight-free size need us some few less = one (free_count us) refl
     one (suc zero) e = refl
     one (suc (suc k)) e = let frees : (free_count us - 1) * (7 * size / 8) ≡ (k + 1) * (7 * size / 8) = ap (λ j. j * (7 * size / 8)) (pred e) in
         absurd (omega (arith, few, less, frees))
+
+-- ---- how many segments are closed
+
+abbrev Parts : List Usage → Type 0
+Parts us = closed_count us + free_count us + count_of is_state_active us ≡ length us
+
+parts-more : (u : Usage) (us : List Usage) → Parts us → (s : State) → u.state ≡ s → Parts (u ∷ us)
+parts-more u us others Closed e =
+    let closed : closed_count (u ∷ us) ≡ 1 + closed_count us = one-more is_state_closed u us Closed e in let free : free_count (u ∷ us) ≡ 0 + free_count us = one-more is_state_free u us Closed e in
+    let active : count_of is_state_active (u ∷ us) ≡ 0 + count_of is_state_active us = one-more is_state_active u us Closed e in omega (arith, others, closed, free, active)
+parts-more u us others Free e =
+    let closed : closed_count (u ∷ us) ≡ 0 + closed_count us = one-more is_state_closed u us Free e in let free : free_count (u ∷ us) ≡ 1 + free_count us = one-more is_state_free u us Free e in
+    let active : count_of is_state_active (u ∷ us) ≡ 0 + count_of is_state_active us = one-more is_state_active u us Free e in omega (arith, others, closed, free, active)
+parts-more u us others Active e =
+    let closed : closed_count (u ∷ us) ≡ 0 + closed_count us = one-more is_state_closed u us Active e in let free : free_count (u ∷ us) ≡ 0 + free_count us = one-more is_state_free u us Active e in
+    let active : count_of is_state_active (u ∷ us) ≡ 1 + count_of is_state_active us = one-more is_state_active u us Active e in omega (arith, others, closed, free, active)
+
+parts : (us : List Usage) → Parts us
+parts [] = refl
+parts (u ∷ us) = parts-more u us (parts us) u.state refl
+
+not-active : (s : State) → (s ≡ Active → ⊥) → is_state_active s ≡ false
+not-active Free h = refl
+not-active Active h = absurd (h refl)
+not-active Closed h = refl
+
+none-active : (us : List Usage) → ((k : ℕ) → (usage_of us k).state ≡ Active → ⊥) → count_of is_state_active us ≡ 0
+none-active [] none = refl
+none-active (u ∷ us) none =
+    let here : ◌≡◌ {A = ℕ} (cond (is_state_active u.state) 1 0) 0 = ap (λ b. cond b 1 0) (not-active u.state (none 0)) in
+    omega (arith, one-more is_state_active u us u.state refl, here, none-active us (λ k. none (suc k)))
+
+-- one segment is active, and no other
+one-active : (us : List Usage) (n : ℕ) → n < length us → (usage_of us n).state ≡ Active → ((k : ℕ) → (usage_of us k).state ≡ Active → k ≡ n) → count_of is_state_active us ≡ 1
+one-active us n lt here only =
+    let none : (k : ℕ) → (usage_of (set us n nothing) k).state ≡ Active → ⊥ = λ k. set_elim nothing (λ j v. v.state ≡ Active → ⊥) us n nothing k lt (λ e. cc) (λ ne e. ne (only k e)) in
+    let was : ◌≡◌ {A = ℕ} (cond (is_state_active (usage_of us n).state) 1 0) 1 = ap (λ s. cond (is_state_active s) 1 0) here in
+    omega (arith, sum_by-set (λ v. cond (is_state_active v.state) 1 0) us n nothing nothing lt, was, none-active (set us n nothing) none)
+
+some-active : (o : Option ℕ) → IsSome o → (n : ℕ) × (o ≡ Some n)
+some-active None h = cc
+some-active (Some n) h = (n, refl)
+
+pub tight-closed : (size need : ℕ) (us : List Usage) → 0 < free_count us → IsSome (active_of us) → IsSound size us → need ≤ 7 * size / 8 → spare_of size us < need → closed_count us + 2 ≡ length us
+tight-closed size need us some active sound few less =
+    let at = some-active (active_of us) active in let here = active-state us at.0 at.1 in let inside = within us at.0 (λ e. let clash = sym e ∙ here in cc) in
+    omega (arith, parts us, tight-free size need us some few less, one-active us at.0 inside here (λ k e. sound.one_active k at.0 e here))
+
+pub tight-live : (size : ℕ) (us : List Usage) → 4 ≤ length us → Tight size us → closed_count us + 2 ≡ length us → 3 * size / 4 * (length us - 2) < live_sum us
+tight-live size us some tight count =
+    let q = 3 * size / 4 in let closed : length us - 2 ≡ closed_count us = omega (arith, count) in let product : q * (length us - 2) ≡ q * closed_count us = ap (λ k. q * k) closed in
+    omega (arith, product, closed-live q us tight, some, count)

@@ -1,5 +1,5 @@
 //! Making room by compaction.
-ghost use Rattle.std.specs.Prelude.{◌≡◌, ℕ, ◌+◌, ◌*◌, ◌/◌, ◌%◌, ◌<◌, ◌≤◌, true, false, IfSome, is_some, List};
+ghost use Rattle.std.specs.Prelude.{◌≡◌, ℕ, ◌+◌, ◌-◌, ◌*◌, ◌/◌, ◌<◌, ◌≤◌, true, false, length, IfSome, is_some, List};
 ghost use Rattle.lsa_region.specs.declared.end.Ref.{Ref as Name};
 ghost use Rattle.lsa_region.specs.Layout.{sparse_of};
 ghost use Rattle.lsa_region.specs.Region.{IsWell, Renamed};
@@ -39,7 +39,6 @@ pub fn compact_one<const S: usize>(region: &mut Region<S>) -> bool
 /// segment. Ready exactly where there is room at the end; it does nothing where there is room at once.
 pub fn ensure<const S: usize>(region: &mut Region<S>, need: usize) -> Ensured
     requires few { need ≤ 7 * S / 8 }
-    requires even { S % 64 ≡ 0 }
     ensures ready { result ≡ Ensured.Ready → need ≤ spare_of S region.new.usages }
     ensures full { result ≡ Ensured.Full → spare_of S region.new.usages < need }
     ensures tight { result ≡ Ensured.Full → Tight S region.new.usages }
@@ -60,14 +59,15 @@ pub fn ensure<const S: usize>(region: &mut Region<S>, need: usize) -> Ensured
     Ensured::Ready
 }
 
-/// Shows how full a tight region without room for `need` bytes is: one segment is free, and each closed one has more than three
-/// quarters live. It does nothing.
+/// Shows how full a tight region without room for `need` bytes is: one segment is free, all but that and the active one are closed,
+/// and so more than three quarters of all but two segments are live. It does nothing.
 pub fn a_tight_region_is_nearly_full<const S: usize>(region: &Region<S>, _need: usize)
     requires tight { Tight S region.now.usages }
     requires few { _need ≤ 7 * S / 8 }
     requires full { spare_of S region.now.usages < _need }
     ensures free { free_count region.now.usages ≡ 1 }
-    ensures live { closed_count region.now.usages * (3 * S / 4 + 1) ≤ live_sum region.now.usages }
+    ensures closed { closed_count region.now.usages + 2 ≡ length region.now.usages }
+    ensures live { 3 * S / 4 * (length region.now.usages - 2) < live_sum region.now.usages }
 {
     region.known();
 }

@@ -39,6 +39,7 @@ module _ (size : ℕ) (us : List Usage) (segments : List (List ℕ)) (places : L
     small = laid.small;
     even = laid.even;
     few = laid.few;
+    some = laid.some;
     count = length-set segments n bytes ∙ laid.count;
     sound = laid.sound;
     filled = λ m. set_elim [] (λ k v. length v ≡ (usage_of us k).used) segments n bytes m lt (long ∙ laid.filled n) (λ _. laid.filled m);
@@ -70,6 +71,7 @@ module _ (size : ℕ) (us : List Usage) (segments : List (List ℕ)) (places : L
         small = laid.small;
         even = laid.even;
         few = omega (arith, laid.few, ap length after, length-set us n v);
+        some = omega (arith, laid.some, ap length after, length-set us n v);
         count = laid.count ∙ sym (length-set us n v) ∙ sym (ap length after);
         sound = sound;
         filled = λ m. laid.filled m ∙ sym (used m);
@@ -110,6 +112,7 @@ module _ (size : ℕ) (us : List Usage) (segments : List (List ℕ)) (places : L
         small = laid.small;
         even = laid.even;
         few = omega (arith, laid.few, ap length after, length-set us n v);
+        some = omega (arith, laid.some, ap length after, length-set us n v);
         count = length-set segments n (segment_at segments n ++ tail) ∙ laid.count ∙ sym (length-set us n v) ∙ sym (ap length after);
         sound = sound;
         filled = each (λ k w. length (segment_at (set segments n (segment_at segments n ++ tail)) k) ≡ w.used)

@@ -179,6 +179,7 @@ module _ (size : ℕ) (us us' : List Usage) (segments : List (List ℕ)) (places
     small = laid.small;
     even = laid.even;
     few = omega (arith, laid.few, long);
+    some = omega (arith, laid.some, long);
     count = laid.count ∙ sym long;
     sound = sound;
     filled = λ m. laid.filled m ∙ sym (same m).0;
@@ -200,6 +201,7 @@ module _ (size : ℕ) (us us' : List Usage) (segments : List (List ℕ)) (places
         small = laid.small;
         even = laid.even;
         few = omega (arith, laid.few, ap length after, length-set us n nothing);
+        some = omega (arith, laid.some, ap length after, length-set us n nothing);
         count = length-set segments n [] ∙ laid.count ∙ sym (length-set us n nothing) ∙ sym (ap length after);
         sound = sound;
         filled = each (λ k u. length (segment_at (set segments n []) k) ≡ u.used)

@@ -39,6 +39,7 @@ laid-open size n count us small even few some e active live sound =
       small = small;
       even = even;
       few = omega (arith, long);
+      some = omega (arith, long);
       count = length-replicate n [] ∙ sym long;
       sound = sound;
       filled = λ m. ap (λ (l : List ℕ). length l) (replicate_at n m []) ∙ sym (ap (λ l. (usage_of l m).used) e ∙ (first_usage (n - 1) m).0);

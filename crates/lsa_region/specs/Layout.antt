@@ -85,6 +85,7 @@ pub record IsLaid (size : ℕ) (us : List Usage) (segments : List (List ℕ)) (p
   pub small : size ≤ 2 ^ 27
   pub even : size % 64 ≡ 0
   pub few : length us ≤ 4096
+  pub some : 4 ≤ length us
   pub count : length segments ≡ length us
   pub sound : IsSound size us
   pub filled : (n : ℕ) → length (segment_at segments n) ≡ (usage_of us n).used

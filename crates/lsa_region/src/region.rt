@@ -1,7 +1,8 @@
 //! The region: objects whose links are halves of pairs, and root slots.
 ghost use Rattle.std.specs.Prelude.{◌≡◌, ◌≢◌, ℕ, ◌+◌, ◌-◌, ◌*◌, ◌/◌, ◌%◌, ◌^◌, ◌<◌, ◌≤◌, [], true, false, length, replicate, slice_index_or, Option, Some, None, IsSome, IsSomeAnd, IfOk, OnErr, List, min, count_by, is_some};
 ghost use Rattle.lsa_region.specs.declared.end.Ref.{Ref as Name};
-ghost use Rattle.lsa_pool.specs.Room.{free_count, live_sum, spare_of};
+ghost use Rattle.lsa_pool.specs.Account.{IsSound};
+ghost use Rattle.lsa_pool.specs.Room.{active_of, free_count, live_sum, spare_of};
 ghost use Rattle.lsa_segment.specs.Bytes.{overwritten};
 ghost use Rattle.lsa_region.specs.Layout.{rounded_size, sparse_of};
 ghost use Rattle.lsa_region.specs.Paired.{IsTied, IsParted, IsExchanged};
@@ -57,10 +58,17 @@ impl<const S: usize> Region<S> {
         Ok(over(store, table, Vec::new(alloc)))
     }
 
-    /// Shows that the ends of the region are paired, that what is named is there, and how objects lie. It does nothing.
+    /// Shows what every region keeps: ends are paired, and what is named is there; how objects lie; segments have a multiple of 64
+    /// bytes; no more of a segment is used than it has, and no more live than used; one segment is active, and no other; there are
+    /// 4 to 4096 segments. It does nothing.
     pub fn known(&self)
         ensures well { IsWell self.now }
         ensures layout { HasLayout self.now }
+        ensures even { S % 64 ≡ 0 }
+        ensures sound { IsSound S self.now.usages }
+        ensures active { IsSome (active_of self.now.usages) }
+        ensures some { 4 ≤ length self.now.usages }
+        ensures few { length self.now.usages ≤ 4096 }
     {
         self.store.known();
     }

@@ -92,9 +92,14 @@ impl<const S: usize> Store<S> {
         }
     }
 
-    /// Shows where the objects lie. It does nothing.
+    /// Shows where the objects lie, and the books of the segments. It does nothing.
     pub(crate) fn known(&self)
-        ensures { IsPlaced self.now }
+        ensures placed { IsPlaced self.now }
+        ensures even { S % 64 ≡ 0 }
+        ensures sound { IsSound S self.now.usages }
+        ensures active { IsSome (active_of self.now.usages) }
+        ensures some { 4 ≤ length self.now.usages }
+        ensures few { length self.now.usages ≤ 4096 }
     {
         let _ = &self.places;
     }

@@ -33,7 +33,7 @@ loop-region-init g c = making-init g.row.S c.args.need c.args.region.now
 
 pub loop-region-preserved : goal.loop-region-preserved
 loop-region-preserved g c =
-    making-more g.row.S c.args.need c.args.region.now c.loop-region.region c.compact_one.new.region c.requires.few c.requires.even (omega (arith, c.loop-region-test.true, c.spare.ensures)) c.loop-region.invariant
+    making-more g.row.S c.args.need c.args.region.now c.loop-region.region c.compact_one.new.region c.requires.few c.known.ensures.even (omega (arith, c.loop-region-test.true, c.spare.ensures)) c.loop-region.invariant
     (sparse_of g.row.S c.loop-region.region.usages) (sym c.if-not-compact_one.false ∙ c.compact_one.ensures.tells) c.compact_one.ensures.compacted
 
 pub returns-clause-rounds : goal.returns-clause-rounds

@@ -5,7 +5,7 @@ use Rattle.lsa_region.proofs.region.Region.known.Goals as goal
 
 pub returns-clause-layout : goal.returns-clause-layout
 returns-clause-layout g c =
-    let i = c.self.inside in let e = c.known.ensures in
+    let i = c.self.inside in let e = c.known.ensures.placed in
     let v : View = record { bodies = i.store.bodies; spots = i.store.spots; table = i.links.table.items; roots = i.links.roots.items; usages = i.store.usages; epoch = i.epoch; moved = i.moved; compacted = i.compacted } in
     let layout : HasLayout v = record {
       placed = λ r. e.placed r.number;

@@ -1,0 +1,5 @@
+use Rattle.lsa_list.specs.Recency.{IsOneOf}
+use Rattle.lsa_list.proofs.tests.nth.Given as goal
+
+abbrev pub invariant-loop-step : goal.invariant-loop-step
+invariant-loop-step l = IsOneOf l.list l.region l.found
