@@ -1,3 +1,10 @@
+pub mod Determined
+pub mod Joining
+pub mod MergeLaws
+pub mod Merged
+pub mod Ordered
 pub mod Passing
 pub mod Says
+pub mod Seeking
+pub mod Stepping
 pub mod Whole

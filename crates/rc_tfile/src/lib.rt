@@ -21,5 +21,6 @@ mod writing;
 pub use checking::{CheckErr, read_schema};
 pub use fitting::part_fits;
 pub use info::{PartRef, PartRefs, TableInfo};
+pub use reading::{Part, behind, read_change, read_part, read_part_key, read_row_item};
 pub use walking::check_table;
 pub use writing::{WriteErr, plan_table, write_table};

@@ -17,13 +17,15 @@ use std::alloc::{AllocError, Global};
 
 /// A partition's part: its key, tombstone and static row.
 #[derive(Drop)]
-pub(crate) struct Part {
-    pub(crate) key: PartKey,
-    pub(crate) head: Head,
+pub struct Part {
+    /// The partition's key.
+    pub key: PartKey,
+    /// Its tombstone and its static row.
+    pub head: Head,
 }
 
-/// What follows a byte that the bytes begin with.
-pub(crate) fn behind(byte: u8, bytes: &[u8]) -> Option<&[u8]>
+/// What follows a byte that the bytes begin with; none exactly where they begin with another, or are none.
+pub fn behind(byte: u8, bytes: &[u8]) -> Option<&[u8]>
     ensures { MatchOption result ((rest : List ℕ) → bytes.now ≡ byte ∷ rest → ⊥) (λ rest. bytes.now ≡ byte ∷ rest.now) }
 {
     match bytes {
@@ -62,8 +64,9 @@ fn read_optional_tomb(
     Ok(Some((Some(tomb), 1 + size)))
 }
 
-// A partition key behind its length, and the length of both.
-fn read_part_key(alloc: Global, bytes: &[u8]) -> Result<Option<(PartKey, usize)>, AllocError>
+/// The partition key that the bytes begin with, behind its length, and the length of both; none exactly where they begin with
+/// no partition key. The only error is want of memory.
+pub fn read_part_key(alloc: Global, bytes: &[u8]) -> Result<Option<(PartKey, usize)>, AllocError>
     ensures value { IfOk result (λ found. Starts bytes_code IsPartKey bytes.now found) }
     ensures within { IfOk result (λ found. IfSome found (λ x. x.1 ≤ length bytes.now)) }
 {
@@ -108,7 +111,7 @@ fn read_part_rest(alloc: Global, bytes: &[u8]) -> Result<Option<(Part, usize)>, 
 
 /// The part that the bytes begin with, and its length; none exactly where they begin with no part. The only error is want
 /// of memory.
-pub(crate) fn read_part(alloc: Global, bytes: &[u8]) -> Result<Option<(Part, usize)>, AllocError>
+pub fn read_part(alloc: Global, bytes: &[u8]) -> Result<Option<(Part, usize)>, AllocError>
     ensures value { IfOk result (λ found. Starts (λ p. item_code (part_item p)) (λ p. IsItem (part_item p)) bytes.now found) }
     ensures within { IfOk result (λ found. IfSome found (λ x. x.1 ≤ length bytes.now)) }
 {
@@ -138,7 +141,7 @@ fn read_keyed(alloc: Global, bytes: &[u8]) -> Result<Option<((Key, Row), usize)>
 
 /// The row that the bytes begin with, its key, and the length of the item; none exactly where they begin with no row. The
 /// only error is want of memory.
-pub(crate) fn read_row_item(
+pub fn read_row_item(
     alloc: Global,
     bytes: &[u8],
 ) -> Result<Option<((Key, Row), usize)>, AllocError>
@@ -175,7 +178,7 @@ fn read_change_rest(
 
 /// The change that the bytes begin with, and the length of the item; none exactly where they begin with no change. The only
 /// error is want of memory.
-pub(crate) fn read_change(
+pub fn read_change(
     alloc: Global,
     bytes: &[u8],
 ) -> Result<Option<((Pos, Option<Tomb>), usize)>, AllocError>

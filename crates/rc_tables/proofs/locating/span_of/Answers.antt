@@ -1,0 +1,24 @@
+-- Both offsets are those that the directory says.
+use Rattle.std.proofs.Common.{◌≡◌, ℕ, ap, sym, subst, ◌∙◌, Some, None, arith, drop}
+use Rattle.std.proofs.lemmas.List.{take_rest}
+use Rattle.rc_tables.specs.declared.locating.Span.{Span}
+use Rattle.rc_tables.specs.Located.{EndsAt}
+use Rattle.rc_tables.proofs.locating.span_of.Goals as goal
+
+same : (m n : ℕ) → Some m ≡ Some n → m ≡ n
+same m n e = cc
+
+pub returns-in_default-clause-span : goal.returns-in_default-clause-span
+returns-in_default-clause-span c = λ from to at ends le. absurd (let q = sym c.in_default.is ∙ c.in_ok-from.ensures from at in cc)
+
+pub returns-then-to-from-clause-span : goal.returns-then-to-from-clause-span
+returns-then-to-from-clause-span c = λ from to at ends le.
+    let f : c.in-Some.from ≡ from = same c.in-Some.from from (sym c.in-Some.is ∙ c.in_ok-from.ensures from at) in
+    let t : c.in-Some-2.to ≡ to = same c.in-Some-2.to to (sym c.in-Some-2.is ∙ c.in_ok-to.ensures to (subst (λ b. EndsAt c.args.dir b c.args.later.now to) (sym (take_rest c.args.piece.now c.args.here.now.dir_len)) ends)) in
+    absurd (omega (arith, f, t, le, c.if-to-from.true))
+
+pub returns-clause-span : goal.returns-clause-span
+returns-clause-span c = λ from to at ends le.
+    let f : c.in-Some.from ≡ from = same c.in-Some.from from (sym c.in-Some.is ∙ c.in_ok-from.ensures from at) in
+    let t : c.in-Some-2.to ≡ to = same c.in-Some-2.to to (sym c.in-Some-2.is ∙ c.in_ok-to.ensures to (subst (λ b. EndsAt c.args.dir b c.args.later.now to) (sym (take_rest c.args.piece.now c.args.here.now.dir_len)) ends)) in
+    λ i. Some (record { from = f i; to = t i })

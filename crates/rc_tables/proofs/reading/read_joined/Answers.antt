@@ -1,0 +1,47 @@
+-- One table more is joined.
+use Rattle.std.proofs.Common.{◌≡◌, ℕ, ◌+◌, ◌-◌, ◌∷◌, [], List, length, take, drop, refl, ap, sym, subst, ◌∙◌, arith, map as list_map}
+use Rattle.std.proofs.lemmas.List.{take_rest}
+use Rattle.rc_tfile.specs.declared.info.TableInfo.{TableInfo}
+use Rattle.rc_tables.specs.Located.{WhereTold}
+use Rattle.rc_tables.specs.Tables.{AreHeld, listing}
+use Rattle.rc_tables.proofs.Joined.{Joining, Joins, joining_start, joining_on, first_held, listing_first, map_first}
+use Rattle.rc_tables.proofs.reading.read_joined.Goals as goal
+
+pub loop-left-init : goal.loop-left-init
+loop-left-init g c = record {
+  so_far = subst (λ (ts : List TableInfo). Joining (g.W.Store.files c.args.store.now) c.args.key.now c.args.set.now c.empty-joined.result ts) (sym c.tables-left.ensures)
+      (joining_start (g.W.Store.files c.args.store.now) c.args.key.now c.args.set.now c.empty-joined.result c.empty-joined.ensures);
+  files = refl;
+  building = refl;
+  faults = omega arith;
+  asks = omega (arith, ap (listing c.args.key.now) c.tables-left.ensures);
+}
+
+pub join_table-requires : goal.join_table-requires
+join_table-requires g c =
+    let files = g.W.Store.files c.args.store.now in
+    let tables = map_first (λ t. t.value) c.loop-left.left.now c.first-item.result c.in-len1-up.len_at_least c.first-item.is in
+    let so_far = subst (λ (ts : List TableInfo). Joining files c.args.key.now c.args.set.now c.loop-left.joined ts) tables c.loop-left.invariant.so_far in
+    subst (λ f. WhereTold f (AreHeld f (c.as_ref.result.now ∷ []))) (sym c.loop-left.invariant.files)
+    (subst (λ (i : TableInfo). WhereTold files (AreHeld files (i ∷ []))) (sym c.as_ref.ensures)
+    (first_held files c.args.key.now c.args.set.now c.loop-left.joined c.first-item.result.value (list_map (λ t. t.value) (drop 1 c.loop-left.left.now)) c.requires so_far))
+
+pub loop-left-preserved : goal.loop-left-preserved
+loop-left-preserved g c =
+    let files = g.W.Store.files c.args.store.now in
+    let left = c.loop-left.left.now in
+    let info = c.first-item.result.value in
+    let infos = list_map (λ t. t.value) (drop 1 left) in
+    let tables = map_first (λ t. t.value) left c.first-item.result c.in-len1-up.len_at_least c.first-item.is in
+    let so_far = subst (λ (ts : List TableInfo). Joining files c.args.key.now c.args.set.now c.loop-left.joined ts) tables c.loop-left.invariant.so_far in
+    let joins : Joins files c.args.key.now info c.loop-left.joined c.join_table.new.joined =
+    subst (λ f. Joins f c.args.key.now info c.loop-left.joined c.join_table.new.joined) c.loop-left.invariant.files
+    (subst (λ (i : TableInfo). Joins (g.W.Store.files c.loop-left.store) c.args.key.now i c.loop-left.joined c.join_table.new.joined) c.as_ref.ensures c.in_ok-join_table.ensures.joined) in
+    let rest = ap (list_map (λ t. t.value)) (sym (take_rest left 1)) in
+    record {
+      so_far = subst (λ (ts : List TableInfo). Joining files c.args.key.now c.args.set.now c.join_table.new.joined ts) rest (joining_on files c.args.key.now c.args.set.now c.loop-left.joined c.join_table.new.joined info infos so_far joins);
+      files = c.in_ok-join_table.ensures.files ∙ c.loop-left.invariant.files;
+      building = c.in_ok-join_table.ensures.building ∙ c.loop-left.invariant.building;
+      faults = omega (arith, c.in_ok-join_table.ensures.cause, c.loop-left.invariant.faults);
+      asks = omega (arith, c.in_ok-join_table.ensures.asks, c.loop-left.invariant.asks, ap (listing c.args.key.now) tables, listing_first c.args.key.now info infos, ap (listing c.args.key.now) rest, ap (λ (i : TableInfo). listing c.args.key.now (i ∷ [])) c.as_ref.ensures);
+    }

@@ -1,0 +1,4 @@
+pub mod Rebuilt
+pub mod Located
+pub mod Tables
+pub mod Streams

@@ -1,0 +1,68 @@
+-- Which partitions a set of tables holds, and what they say of a key together.
+--     HoldsTables     the tables of a set are those of these partitions, and their files have these texts
+--     changes_at      what the tables say of a key, in the tables' order
+--     IsStreamAt      a stream is that of the join of all that the tables say of a key
+use Rattle.std.specs.Prelude.{◌≡◌, ℕ, Bool, IsTrue, List, [], ◌∷◌, length, map as list_map, filter, All, Option, ⊤}
+use Rattle.std.specs.Ordering.{eq_by_cmp}
+use Rattle.std.specs.List.{flat_map, list_any}
+use Rattle.std.specs.FinMap.{is_sorted}
+use Rattle.rc_outside.specs.Files.{Files}
+use Rattle.rc_position.specs.Position.{bytes_cmp}
+use Rattle.rc_schema.specs.Lists.{Lists}
+use Rattle.rc_mutation.specs.declared.mutations.Mutation.{Mutation}
+use Rattle.rc_mutation.specs.declared.mutations.Partition.{Partition}
+use Rattle.rc_mutation.specs.Fragments.{fragments}
+use Rattle.rc_mutation.specs.Source.{IsJoinOf, IsMutation}
+use Rattle.rc_stream.specs.Stream.{Stream, stream_of}
+use Rattle.rc_tfile.specs.declared.info.TableInfo.{TableInfo}
+use Rattle.rc_tfile.specs.Checking.{IsContent}
+use Rattle.rc_tfile.specs.Info.{info_of}
+use Rattle.rc_tfile.specs.TableText.{IsTable}
+
+-- a table's file has the text of its partitions, whose keys strictly ascend; each says what a mutation says
+pub record IsHeld (files : Option Files) (schema : Lists) (table : ℕ × List Partition) : Type 0 where
+  pub bytes : List ℕ
+  pub content : IsContent files table.0 bytes
+  pub text : IsTable bytes schema table.1
+  pub ascend : IsTrue (is_sorted bytes_cmp (list_map (λ p. (p.key, p.change)) table.1))
+  pub mutations : All (λ p. IsMutation p.change) table.1
+
+-- what is known of tables is what is known of these, each a number and its partitions, and each file has the text of its partitions
+abbrev pub HoldsTables : Option Files → Lists → List TableInfo → List (ℕ × List Partition) → Type 0
+HoldsTables files schema [] [] = ⊤
+HoldsTables files schema [] (table ∷ tables) = ⊥
+HoldsTables files schema (info ∷ infos) [] = ⊥
+HoldsTables files schema (info ∷ infos) (table ∷ tables) = (info ≡ info_of table.0 schema table.1) × IsHeld files schema table × HoldsTables files schema infos tables
+
+-- what partitions say of a key
+abbrev pub changes_in : List ℕ → List Partition → List Mutation
+changes_in key parts = list_map (λ p. p.change) (filter (λ p. eq_by_cmp bytes_cmp key p.key) parts)
+
+-- what tables say of a key, one table behind another
+abbrev pub changes_at : List ℕ → List (ℕ × List Partition) → List Mutation
+changes_at key tables = flat_map (λ table. changes_in key table.1) tables
+
+-- whether a table lists a key
+abbrev pub lists_key : List ℕ → TableInfo → Bool
+lists_key key info = list_any (λ r. eq_by_cmp bytes_cmp key r.key) info.parts
+
+-- how many tables list a key
+abbrev pub listing : List ℕ → List TableInfo → ℕ
+listing key infos = length (filter (lists_key key) infos)
+
+-- a mutation is the join of all that the tables say of a key
+abbrev pub IsJoinedAt : List ℕ → List (ℕ × List Partition) → Mutation → Type 0
+IsJoinedAt key tables m = IsMutation m × IsJoinOf m (changes_at key tables)
+
+-- of a set of tables in these files, a stream is that of a key from the beginning: of the fragments of the join of all that the tables say
+pub record IsStreamAt (files : Option Files) (infos : List TableInfo) (key : List ℕ) (stream : Stream) : Type 0 where
+  pub schema : Lists
+  pub tables : List (ℕ × List Partition)
+  pub join : Mutation
+  pub holds : HoldsTables files schema infos tables
+  pub joined : IsJoinedAt key tables join
+  pub fragments : stream ≡ stream_of (fragments join)
+
+-- the files are those of the tables of a set
+abbrev pub AreHeld : Option Files → List TableInfo → Type 0
+AreHeld files infos = (schema : Lists) × (tables : List (ℕ × List Partition)) × HoldsTables files schema infos tables

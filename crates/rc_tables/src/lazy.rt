@@ -1,0 +1,206 @@
+//! A partition in all tables of a set as a stream.
+
+ghost use Rattle.std.specs.Prelude.{◌≡◌, ◌≤◌, ◌+◌, ◌*◌, IfErr, IfOk, IsSome, None, OnOk, Some};
+ghost use Rattle.rc_stream.specs.Causes.{Caused};
+ghost use Rattle.rc_stream.specs.Stream.{Stream, first_upto};
+ghost use Rattle.rc_tables.specs.Located.{WhereTold};
+ghost use Rattle.rc_tables.specs.Tables.{AreHeld, IsStreamAt, listing};
+ghost use Rattle.rc_tables.specs.Streams.{asks_left, IsReady, left_by, sought_by, StandsFor};
+
+use crate::reading::read_joined;
+use crate::sets::TableSet;
+use rc_mutation::{Frag, Head};
+use rc_outside::Store;
+use rc_position::{PartKey, Pos};
+use rc_stream::{ListFrags, StreamErr};
+use std::alloc::Global;
+use std::marker::Model;
+
+/// A partition in all tables of a set as a stream, from the beginning: what the tables say of it, joined. It is read at its
+/// first call, which asks for at most two ranges of each table that lists the partition's key; later calls ask for none. A
+/// contract sees what is known of the tables, the key, and what is left once it was read.
+#[derive(Drop)]
+pub struct TableFrags {
+    set: TableSet,
+    key: PartKey,
+    list: Option<ListFrags>,
+}
+
+impl Model for TableFrags {
+    ghost use Rattle.rc_tables.specs.Streams.{Lazy};
+
+    ghost Value = { Lazy };
+
+    ghost view = { λ t. record { infos = t.set; key = t.key; read = t.list } };
+}
+
+impl TableFrags {
+    /// The stream of the key's partition in the tables of the set, from the beginning. Nothing is asked for.
+    pub fn lazy(set: TableSet, key: PartKey) -> Self
+        ensures { result ≡ record { infos = set; key = key; read = None } }
+    {
+        TableFrags {
+            set,
+            key,
+            list: None,
+        }
+    }
+
+    /// The head of the partition. The stream is as before. `StreamErr::Fault` when the store fails, `StreamErr::Damaged` where a
+    /// file is not the table that is known, `StreamErr::NoMemory` when memory is refused.
+    pub fn head<W: Store>(&mut self, alloc: Global, store: &mut W) -> Result<Head, StreamErr>
+        requires { IsReady (W.files store.old) self.old }
+        ensures ready { IsReady (W.files store.new) self.new }
+        ensures head { (s : Stream) → StandsFor (W.files store.old) self.old s → IfOk result (λ head. head ≡ s.head) }
+        ensures stands { (s : Stream) → StandsFor (W.files store.old) self.old s → StandsFor (W.files store.new) self.new s }
+        ensures cause { Caused result (W.files store.old) (W.faults store.old) (W.faults store.new) }
+        ensures files { W.files store.new ≡ W.files store.old }
+        ensures building { W.building store.new ≡ W.building store.old }
+        ensures asks { W.asks store.new ≤ W.asks store.old + asks_left self.old }
+    {
+        match self.load(alloc, store) {
+            Ok(()) => self.copy_head(alloc),
+            Err(err) => Err(err),
+        }
+    }
+
+    /// Goes on to a position that is not before its place: the first is then a change there where a tombstone is in force
+    /// there. `StreamErr::Fault` when the store fails, `StreamErr::Damaged` where a file is not the table that is known,
+    /// `StreamErr::NoMemory` when memory is refused: then the stream is as it was.
+    pub fn seek<W: Store>(
+        &mut self,
+        alloc: Global,
+        store: &mut W,
+        to: &Pos,
+    ) -> Result<(), StreamErr>
+        requires { IsReady (W.files store.old) self.old }
+        ensures ready { IsReady (W.files store.new) self.new }
+        ensures stands { (s : Stream) → StandsFor (W.files store.old) self.old s → StandsFor (W.files store.new) self.new (sought_by result to.now s) }
+        ensures cause { Caused result (W.files store.old) (W.faults store.old) (W.faults store.new) }
+        ensures files { W.files store.new ≡ W.files store.old }
+        ensures building { W.building store.new ≡ W.building store.old }
+        ensures asks { W.asks store.new ≤ W.asks store.old + asks_left self.old }
+    {
+        match self.load(alloc, store) {
+            Ok(()) => self.go_on(alloc, to),
+            Err(err) => Err(err),
+        }
+    }
+
+    /// Takes the first row or change that is left and gives it, if it stands at `upto` or before it; none exactly where
+    /// no such stands there, and then the stream is as before. `StreamErr::Fault` when the store fails,
+    /// `StreamErr::Damaged` where a file is not the table that is known, `StreamErr::NoMemory` when memory is refused: then the
+    /// stream is as it was.
+    pub fn next<W: Store>(
+        &mut self,
+        alloc: Global,
+        store: &mut W,
+        upto: &Pos,
+    ) -> Result<Option<Frag>, StreamErr>
+        requires { IsReady (W.files store.old) self.old }
+        ensures ready { IsReady (W.files store.new) self.new }
+        ensures gives { (s : Stream) → StandsFor (W.files store.old) self.old s → IfOk result (λ got. got ≡ first_upto upto.now s.left) }
+        ensures stands { (s : Stream) → StandsFor (W.files store.old) self.old s → StandsFor (W.files store.new) self.new (left_by result s) }
+        ensures cause { Caused result (W.files store.old) (W.faults store.old) (W.faults store.new) }
+        ensures files { W.files store.new ≡ W.files store.old }
+        ensures building { W.building store.new ≡ W.building store.old }
+        ensures asks { W.asks store.new ≤ W.asks store.old + asks_left self.old }
+    {
+        match self.load(alloc, store) {
+            Ok(()) => self.take_first(alloc, upto),
+            Err(err) => Err(err),
+        }
+    }
+
+    // The head of what was read. The only error is want of memory.
+    fn copy_head(&self, alloc: Global) -> Result<Head, StreamErr>
+        ensures head { (s : Stream) → self.now.read ≡ Some s → IfOk result (λ head. head ≡ s.head) }
+        ensures memory { IfErr result (λ e. e ≡ StreamErr.NoMemory) }
+    {
+        let Some(list) = &self.list else {
+            return Err(StreamErr::NoMemory);
+        };
+        match list.copy_head(alloc) {
+            Ok(head) => Ok(head),
+            Err(_) => Err(StreamErr::NoMemory),
+        }
+    }
+
+    // Goes on to the position in what was read. The only error is want of memory.
+    fn go_on(&mut self, alloc: Global, to: &Pos) -> Result<(), StreamErr>
+        ensures left { (s : Stream) → self.old.read ≡ Some s → self.new.read ≡ Some (sought_by result to.now s) }
+        ensures tables { self.new.infos ≡ self.old.infos }
+        ensures key { self.new.key ≡ self.old.key }
+        ensures memory { IfErr result (λ e. e ≡ StreamErr.NoMemory) }
+    {
+        let Some(mut list) = self.list.take() else {
+            return Err(StreamErr::NoMemory);
+        };
+        let went = list.go_on(alloc, to);
+        self.list = Some(list);
+        match went {
+            Ok(()) => Ok(()),
+            Err(_) => Err(StreamErr::NoMemory),
+        }
+    }
+
+    // Takes the first of what was read, if it stands at the position or before it. The only error is want of memory.
+    fn take_first(&mut self, alloc: Global, upto: &Pos) -> Result<Option<Frag>, StreamErr>
+        ensures gives { (s : Stream) → self.old.read ≡ Some s → IfOk result (λ got. got ≡ first_upto upto.now s.left) }
+        ensures left { (s : Stream) → self.old.read ≡ Some s → self.new.read ≡ Some (left_by result s) }
+        ensures tables { self.new.infos ≡ self.old.infos }
+        ensures key { self.new.key ≡ self.old.key }
+        ensures memory { IfErr result (λ e. e ≡ StreamErr.NoMemory) }
+    {
+        let Some(mut list) = self.list.take() else {
+            return Err(StreamErr::NoMemory);
+        };
+        let taken = list.take_first(alloc, upto);
+        self.list = Some(list);
+        match taken {
+            Ok(got) => Ok(got),
+            Err(_) => Err(StreamErr::NoMemory),
+        }
+    }
+
+    // Reads the partition, where it is not read yet.
+    fn load<W: Store>(&mut self, alloc: Global, store: &mut W) -> Result<(), StreamErr>
+        requires { IsReady (W.files store.old) self.old }
+        ensures stands { (s : Stream) → StandsFor (W.files store.old) self.old s → StandsFor (W.files store.old) self.new s }
+        ensures loaded { OnOk result (IsSome self.new.read) }
+        ensures tables { self.new.infos ≡ self.old.infos }
+        ensures key { self.new.key ≡ self.old.key }
+        ensures cause { Caused result (W.files store.old) (W.faults store.old) (W.faults store.new) }
+        ensures files { W.files store.new ≡ W.files store.old }
+        ensures building { W.building store.new ≡ W.building store.old }
+        ensures asks { W.asks store.new ≤ W.asks store.old + asks_left self.old }
+    {
+        if let Some(_list) = &self.list {
+            return Ok(());
+        }
+        let list = read_list(alloc, store, &self.set, &self.key)?;
+        self.list = Some(list);
+        Ok(())
+    }
+}
+
+// The stream of what all tables of the set say of the key.
+fn read_list<W: Store>(
+    alloc: Global,
+    store: &mut W,
+    set: &TableSet,
+    key: &PartKey,
+) -> Result<ListFrags, StreamErr>
+    requires { WhereTold (W.files store.old) (AreHeld (W.files store.old) set.now) }
+    ensures stands { (s : Stream) → IsStreamAt (W.files store.old) set.now key.now s → IfOk result (λ list. s ≡ list) }
+    ensures cause { Caused result (W.files store.old) (W.faults store.old) (W.faults store.new) }
+    ensures files { W.files store.new ≡ W.files store.old }
+    ensures building { W.building store.new ≡ W.building store.old }
+    ensures asks { W.asks store.new ≤ W.asks store.old + 2 * listing key.now set.now }
+{
+    let joined = read_joined(alloc, store, set, key)?;
+    match joined.fragments(alloc) {
+        Ok(list) => Ok(ListFrags::new(list)),
+        Err(_) => Err(StreamErr::NoMemory),
+    }
+}

@@ -1,0 +1,95 @@
+//! A partition read from all tables of a set.
+
+ghost use Rattle.std.specs.Prelude.{◌≡◌, ◌≢◌, ◌≤◌, ◌<◌, ◌+◌, ◌*◌, [], ◌∷◌, ◌++◌, All, ℕ, IfErr, IfOk, IfSome, IfNone, IsTrue, List, length, map, OnOk};
+ghost use Rattle.std.specs.FinMap.{is_sorted};
+ghost use Rattle.std.specs.List.{HoldsAt};
+ghost use Rattle.rc_position.specs.Position.{bytes_cmp};
+ghost use Rattle.rc_schema.specs.Lists.{Lists};
+ghost use Rattle.rc_mutation.specs.declared.mutations.Mutation.{Mutation};
+ghost use Rattle.rc_mutation.specs.declared.mutations.Partition.{Partition};
+ghost use Rattle.rc_mutation.specs.Source.{IsJoinOf};
+ghost use Rattle.rc_stream.specs.Causes.{Caused};
+ghost use Rattle.rc_tables.specs.Located.{WhereTold};
+ghost use Rattle.rc_tables.specs.Tables.{AreHeld, changes_in, HoldsTables, IsJoinedAt, listing};
+
+use crate::partition::read_partition;
+use crate::sets::TableSet;
+use rc_mutation::Mutation;
+use rc_outside::Store;
+use rc_position::PartKey;
+use rc_stream::StreamErr;
+use rc_tfile::{PartRef, TableInfo};
+use std::alloc::Global;
+
+/// What all tables of the set say of the key, joined. Of each table that lists the key at most two ranges are asked for.
+/// `StreamErr::Fault` when the store fails, `StreamErr::Damaged` where a file is not the table that is known,
+/// `StreamErr::NoMemory` when memory is refused.
+pub(crate) fn read_joined<W: Store>(
+    alloc: Global,
+    store: &mut W,
+    set: &TableSet,
+    key: &PartKey,
+) -> Result<Mutation, StreamErr>
+    requires { WhereTold (W.files store.old) (AreHeld (W.files store.old) set.now) }
+    ensures joined { (schema : Lists) (tables : List (ℕ × List Partition)) → HoldsTables (W.files store.old) schema set.now tables → IfOk result (IsJoinedAt key.now tables) }
+    ensures cause { Caused result (W.files store.old) (W.faults store.old) (W.faults store.new) }
+    ensures files { W.files store.new ≡ W.files store.old }
+    ensures building { W.building store.new ≡ W.building store.old }
+    ensures asks { W.asks store.new ≤ W.asks store.old + 2 * listing key.now set.now }
+{
+    let mut joined = Mutation::empty(alloc);
+    let mut left = set.tables();
+    while let [first, rest @ ..] = left {
+        join_table(alloc, store, first.as_ref(), key, &mut joined)?;
+        left = rest;
+    }
+    joined.holds_together();
+    Ok(joined)
+}
+
+// Joins what a table says of the key.
+fn join_table<W: Store>(
+    alloc: Global,
+    store: &mut W,
+    info: &TableInfo,
+    key: &PartKey,
+    joined: &mut Mutation,
+) -> Result<(), StreamErr>
+    requires { WhereTold (W.files store.old) (AreHeld (W.files store.old) (info.now ∷ [])) }
+    ensures joined { (schema : Lists) (table : ℕ × List Partition) (done : List Mutation) → HoldsTables (W.files store.old) schema (info.now ∷ []) (table ∷ []) → IsJoinOf joined.old done
+        → OnOk result (IsJoinOf joined.new (done ++ changes_in key.now table.1)) }
+    ensures cause { Caused result (W.files store.old) (W.faults store.old) (W.faults store.new) }
+    ensures files { W.files store.new ≡ W.files store.old }
+    ensures building { W.building store.new ≡ W.building store.old }
+    ensures asks { W.asks store.new ≤ W.asks store.old + 2 * listing key.now (info.now ∷ []) }
+{
+    let parts = info.parts.as_slice();
+    let Some(at) = find(parts, key) else {
+        return Ok(());
+    };
+    let dir = parts[0].dir_off;
+    let change = read_partition(alloc, store, info.number, dir, &parts[at], &parts[at + 1..])?;
+    match joined.join(alloc, &change) {
+        Ok(()) => Ok(()),
+        Err(_) => Err(StreamErr::NoMemory),
+    }
+}
+
+// Where a table lists the key, if it does.
+fn find(parts: &[PartRef], key: &PartKey) -> Option<usize>
+    ensures found { IfSome result (λ i. (i < length parts.now) × HoldsAt (λ r. r.key ≡ key.now) parts.now i) }
+    ensures absent { IsTrue (is_sorted bytes_cmp (map (λ r. (r.key, r.dir_off)) parts.now)) → IfNone result (All (λ r. r.key ≢ key.now) parts.now) }
+{
+    match place_of(parts, key) {
+        Ok(at) => Some(at),
+        Err(_) => None,
+    }
+}
+
+// Where a table lists the key, or would list it.
+fn place_of(parts: &[PartRef], key: &PartKey) -> Result<usize, usize>
+    ensures found { IfOk result (λ i. (i < length parts.now) × HoldsAt (λ r. r.key ≡ key.now) parts.now i) }
+    ensures absent { IsTrue (is_sorted bytes_cmp (map (λ r. (r.key, r.dir_off)) parts.now)) → IfErr result (λ _. All (λ r. r.key ≢ key.now) parts.now) }
+{
+    parts.binary_search_by(|part| part.key.cmp(key))
+}
