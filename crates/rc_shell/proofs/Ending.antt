@@ -1,18 +1,19 @@
 -- How a run goes on, and how it ends.
-use Rattle.std.proofs.Common.{◌≡◌, ◌≢◌, ℕ, ◌+◌, ◌<◌, ◌≤◌, List, [], ◌∷◌, ◌++◌, length, take, true, false, inl, inr, Option, Result, Ok, Err, refl, sym, ap, subst, ◌∙◌, arith, length-append}
+use Rattle.std.proofs.Common.{◌≡◌, ◌≢◌, ℕ, ◌+◌, ◌<◌, ◌≤◌, List, [], ◌∷◌, ◌++◌, length, take, Bool, true, false, inl, inr, Option, Result, Ok, Err, refl, sym, ap, subst, ◌∙◌, arith, length-append}
 use Rattle.std.proofs.lemmas.List.{append-nil, length-take}
 use Rattle.std.specs.Io.KnownBytes.{Appends, Consumes, Keeps, IsAtEnd}
 use Rattle.std.proofs.KnownBytes.{Appends-trans, Appends-nil, Consumes-trans, Consumes-nil, Consumes-kept}
 use Rattle.rc_outside.specs.Faults.{Rose}
-use Rattle.rc_shell.specs.Lines.{IsLine, last_line}
-use Rattle.rc_shell.specs.Run.{Due, IsWhole, IsRun, Ran, Caused, EndsWith, concat, bad_words, input_fault, input_limit}
-use Rattle.rc_shell.specs.Feed.{ServedLine, ServedLast, Serves, SoFar, EndedBy, kept}
+use Rattle.rc_shell.specs.Lines.{IsLine, IsNext, last_line}
+use Rattle.rc_shell.specs.Run.{IsWhole, IsWritten, Answers, Served, WasRead, Due, Ran, Caused, concat, bad_words, input_fault, input_limit}
+use Rattle.rc_shell.specs.Feed.{FaultsAfter, DueOfLine, DueOfBytes, ServedLine, ServedLast, Serves, SoFar, EndedBy, kept}
 use Rattle.rc_shell.specs.Status.{status_of}
+use Rattle.rc_shell.specs.declared.status.Ending.TheVariants.{BadTable, StoreFault}
 use Rattle.rc_shell.specs.declared.status.Stop.{Stop}
-use Rattle.rc_shell.specs.declared.status.Stop.TheVariants.{NoMemory, OutputFault}
+use Rattle.rc_shell.specs.declared.status.Stop.TheVariants.{NoMemory, OutputFault, Ended}
 use Rattle.rc_shell.specs.declared.status.Status.{Status}
 use Rattle.rc_shell.specs.declared.status.Status.TheVariants as statuses
-use Rattle.rc_shell.proofs.Serving.{serves_more, Answers-append, concat-append, kept-nil}
+use Rattle.rc_shell.proofs.Serving.{serves_more, written_behind, faults_since, Answers-append, concat-append, kept-nil}
 
 take_none : (n : ℕ) (xs : List ℕ) → length (take (n + 1) xs) ≡ 0 → xs ≡ []
 take_none n [] e = refl
@@ -27,269 +28,284 @@ last_line-some : (rest : List ℕ) → rest ≢ [] → last_line rest ≡ rest �
 last_line-some [] some = absurd (some refl)
 last_line-some (x ∷ xs) some = refl
 
-module _ {State : Type 0} (Step : State → List ℕ → List ℕ → State → Type 0) where
+-- why a run ended that stopped in the middle of the input
+caused_by : (stop : Stop) (i i' o o' : ℕ) → i' ≡ i → FaultsAfter stop o o' → Caused (status_of stop) i i' o o'
+caused_by NoMemory i i' o o' same e = e
+caused_by OutputFault i i' o o' same rose = rose
+caused_by (Ended BadTable) i i' o o' same e = (same, e)
+caused_by (Ended StoreFault) i i' o o' same e = (same, e)
+
+next_of_any : (AreLast : Type 0) (more line : List ℕ) → IsNext ⊥ more line → IsNext AreLast more line
+next_of_any AreLast more line (is, inl e) = (is, inl e)
+next_of_any AreLast more line (is, inr e) = absurd e.1
+
+module _ {State Seen : Type 0} (Step : State → List ℕ → List ℕ → State → Type 0) (Ends : State → List ℕ → Status → List ℕ → Seen → Type 0) (Leaves : State → Seen → Type 0) where
   -- nothing is unfinished
-  pub nothing_left : (old : State) (rest held : List ℕ) (before : Option (List ℕ)) (f : ℕ) → held ≡ kept rest → length held ≡ 0
-      → ServedLast Step old rest old before before f f (Ok tt)
-  nothing_left old rest held before f is none =
+  pub nothing_left : (old : State) (rest held : List ℕ) (At : State → Type 0) (after : Seen) (before : Option (List ℕ)) (f : ℕ) → held ≡ kept rest → length held ≡ 0 → At old
+      → ServedLast Step Ends Leaves old rest At after before before f f (Ok tt)
+  nothing_left old rest held At after before f is none at =
       let empty : rest ≡ [] = kept-none rest (ap length (sym is) ∙ none) in
-      ([], rw empty refl, Appends-nil before, refl)
+      ([], old, rw empty refl, at, Appends-nil before, refl)
 
   -- an unfinished line is the last one
-  pub last_served : (old new : State) (rest : List ℕ) (before after : Option (List ℕ)) (f f' : ℕ) (r : Result Unit Stop) → rest ≢ []
-      → ServedLine Step old rest new before after f f' r → ServedLast Step old rest new before after f f' r
-  last_served old new rest before after f f' (Ok u) some s =
-      (s.0 ∷ [], rw (last_line-some rest some) (new, s.1, refl), subst (λ t. Appends before after t) (sym (append-nil s.0)) s.2, s.3)
-  last_served old new rest before after f f' (Err OutputFault) some s =
-      (s.0, s.1, s.2, rw (last_line-some rest some) (new, s.3, refl), s.4, s.5, s.6)
-  last_served old new rest before after f f' (Err NoMemory) some s = s
+  pub last_served : (old : State) (rest : List ℕ) (At : State → Type 0) (after : Seen) (before now : Option (List ℕ)) (f f' : ℕ) (r : Result Unit Stop) → rest ≢ []
+      → ServedLine Step Ends Leaves old rest At after before now f f' r → ServedLast Step Ends Leaves old rest At after before now f f' r
+  last_served old rest At after before now f f' (Ok u) some s =
+      (s.0 ∷ [], s.1, rw (last_line-some rest some) (s.1, s.2, refl), s.3, subst (λ t. Appends before now t) (sym (append-nil s.0)) s.4, s.5)
+  last_served old rest At after before now f f' (Err stop) some s = (some, s.0, s.1, s.2, s.3)
 
   -- what was served so far, as one piece from the start
-  so_far_served : (start now : State) (held : List ℕ) (count : ℕ) (left left' written written' : Option (List ℕ)) (i i' o o' : ℕ)
-      → (s : SoFar Step start now held count left left' written written' i i' o o') → Serves Step start [] s.taken now held written written' o o' (Ok tt)
-  so_far_served start now held count left left' written written' i i' o o' s = (s.text, s.rest, s.fed, s.holds, s.appended, s.output_same)
+  so_far_served : (start : State) (At : State → Type 0) (held : List ℕ) (count : ℕ) (left left' written written' : Option (List ℕ)) (after : Seen) (i i' o o' : ℕ)
+      → (s : SoFar Step Ends Leaves start At held count left left' written written' i i' o o') → Serves Step Ends Leaves start [] s.taken At held after written written' o o' (Ok tt)
+  so_far_served start At held count left left' written written' after i i' o o' s = (s.text, s.rest, s.now, s.fed, s.at, s.holds, s.appended, s.output_same)
 
   -- bytes were served, and the run goes on
-  pub went_on : (start now new : State) (held held' : List ℕ) (count n : ℕ) (left mid left' written between written' : Option (List ℕ)) (i i1 i2 o o1 o2 : ℕ) (bytes : List ℕ)
-      → SoFar Step start now held count left mid written between i i1 o o1
+  pub went_on : (start : State) (At Next : State → Type 0) (held held' : List ℕ) (count n : ℕ) (left mid left' written between written' : Option (List ℕ)) (after : Seen) (i i1 i2 o o1 o2 : ℕ) (bytes : List ℕ)
+      → SoFar Step Ends Leaves start At held count left mid written between i i1 o o1
       → Consumes mid left' bytes → length bytes ≡ n → i2 ≡ i1
-      → ((rest : List ℕ) → IsLine rest → held ≡ kept rest → Serves Step now rest bytes new held' between written' o1 o2 (Ok tt))
-      → SoFar Step start new held' (count + n) left left' written written' i i2 o o2
-  went_on start now new held held' count n left mid left' written between written' i i1 i2 o o1 o2 bytes s took many same serves =
-      let all = serves_more Step start now new [] s.taken bytes held held' written between written' o o1 o2 (Ok tt)
-      (so_far_served start now held count left mid written between i i1 o o1 s) serves in
+      → ((rest : List ℕ) (now : State) → IsLine rest → held ≡ kept rest → At now → Serves Step Ends Leaves now rest bytes Next held' after between written' o1 o2 (Ok tt))
+      → SoFar Step Ends Leaves start Next held' (count + n) left left' written written' i i2 o o2
+  went_on start At Next held held' count n left mid left' written between written' after i i1 i2 o o1 o2 bytes s took many same serves =
+      let all = serves_more Step Ends Leaves start [] s.taken bytes At Next held held' after after written between written' o o1 o2 (Ok tt)
+      (so_far_served start At held count left mid written between after i i1 o o1 s) serves in
       record {
         taken = s.taken ++ bytes;
         text = all.0;
         rest = all.1;
+        now = all.2;
         consumed = Consumes-trans left mid left' s.taken bytes s.consumed took;
-        appended = all.4;
+        appended = all.6;
         counted = length-append s.taken bytes ∙ ap (λ k. k + length bytes) s.counted ∙ ap (λ k. count + k) many;
-        fed = all.2;
-        holds = all.3;
+        fed = all.3;
+        at = all.4;
+        holds = all.5;
         input_same = same ∙ s.input_same;
-        output_same = all.5;
+        output_same = all.7;
       }
 
-  -- bytes were served in part
-  stopped_in : (start new : State) (limit : ℕ) (taken held' : List ℕ) (left left' written written' : Option (List ℕ)) (i i' o o' : ℕ) (stop : Stop)
-      → Consumes left left' taken → length taken ≤ limit → Serves Step start [] taken new held' written written' o o' (Err stop)
-      → Ran Step true start limit (status_of stop) left left' written written' i i' o o'
-  stopped_in start new limit taken held' left left' written written' i i' o o' OutputFault took few s = record {
-    taken = taken;
-    text = s.0;
-    consumed = took;
-    appended = s.2;
-    run = record {
-      due = statuses.NoMemory;
-      before = s.1.texts;
-      last = s.1.last;
-      written = s.1.front;
-      unwritten = s.1.back;
-      pieces = (s.1.lines, s.1.more, s.1.cut, few, (s.1.new, s.1.answered));
-      part = s.1.part;
-      whole = s.1.written;
-    };
-    ended = tt;
-    cause = s.3;
-  }
-  stopped_in start new limit taken held' left left' written written' i i' o o' NoMemory took few s = record {
-    taken = taken;
-    text = s.0;
-    consumed = took;
-    appended = s.2;
-    run = record { pieces = s.1.texts; due = (s.1.lines, s.1.more, s.1.cut, few, (s.1.new, s.1.answered)); whole = s.1.written };
-    ended = tt;
-    cause = s.3;
-  }
+  -- what is due in the middle of the input is due for the run
+  due_run : (start : State) (limit : ℕ) (left : Option (List ℕ)) (taken : List ℕ) (after : Seen) → length taken ≤ limit
+      → (s : Status) (ps : List (List ℕ)) → DueOfBytes Step Ends Leaves start taken after s ps → Due Step Ends Leaves true start limit left taken after s ps
+  due_run start limit left taken after few statuses.NoMemory ps d = (d.0, d.1, d.2, few, d.3)
+  due_run start limit left taken after few statuses.BadTable ps d = (
+    record { texts = d.texts; more = d.more; end = d.end; line = d.line; last = d.last; served = d.served; next = next_of_any (WasRead Step Ends Leaves limit left taken) d.more d.line d.next; ends = d.ends; are = d.are },
+    few,
+  )
+  due_run start limit left taken after few statuses.StoreFault ps d = (
+    record { texts = d.texts; more = d.more; end = d.end; line = d.line; last = d.last; served = d.served; next = next_of_any (WasRead Step Ends Leaves limit left taken) d.more d.line d.next; ends = d.ends; are = d.are },
+    few,
+  )
+  due_run start limit left taken after few s ps d = absurd d
 
-  pub stopped : (start now new : State) (limit : ℕ) (held held' : List ℕ) (count n : ℕ) (left mid left' written between written' : Option (List ℕ)) (i i1 i2 o o1 o2 : ℕ) (bytes : List ℕ) (stop : Stop)
-      → SoFar Step start now held count left mid written between i i1 o o1
-      → Consumes mid left' bytes → length bytes ≡ n → count + n ≤ limit
-      → ((rest : List ℕ) → IsLine rest → held ≡ kept rest → Serves Step now rest bytes new held' between written' o1 o2 (Err stop))
-      → Ran Step true start limit (status_of stop) left left' written written' i i2 o o2
-  stopped start now new limit held held' count n left mid left' written between written' i i1 i2 o o1 o2 bytes stop s took many few serves =
-      let all = serves_more Step start now new [] s.taken bytes held held' written between written' o o1 o2 (Err stop)
-      (so_far_served start now held count left mid written between i i1 o o1 s) serves in
+  -- bytes were served in part
+  stopped_in : (start : State) (limit : ℕ) (taken : List ℕ) (At : State → Type 0) (held' : List ℕ) (left left' written written' : Option (List ℕ)) (after : Seen) (i i' o o' : ℕ) (stop : Stop)
+      → Consumes left left' taken → length taken ≤ limit → i' ≡ i → Serves Step Ends Leaves start [] taken At held' after written written' o o' (Err stop)
+      → Ran Step Ends Leaves true start limit (status_of stop) left left' written written' after i i' o o'
+  stopped_in start limit taken At held' left left' written written' after i i' o o' stop took few same s =
+      let due = due_run start limit left' taken after few in
+      record {
+        taken = taken;
+        text = s.0;
+        consumed = took;
+        appended = s.2;
+        run = written_behind (DueOfBytes Step Ends Leaves start taken after) (Due Step Ends Leaves true start limit left' taken after) [] stop s.0 (due (status_of stop)) (λ t ps d. (t, due t ps d)) s.1;
+        cause = caused_by stop i i' o o' same s.3;
+      }
+
+  pub stopped : (start : State) (limit : ℕ) (At Next : State → Type 0) (held held' : List ℕ) (count n : ℕ) (left mid left' written between written' : Option (List ℕ)) (after : Seen) (i i1 i2 o o1 o2 : ℕ) (bytes : List ℕ) (stop : Stop)
+      → SoFar Step Ends Leaves start At held count left mid written between i i1 o o1
+      → Consumes mid left' bytes → length bytes ≡ n → count + n ≤ limit → i2 ≡ i1
+      → ((rest : List ℕ) (now : State) → IsLine rest → held ≡ kept rest → At now → Serves Step Ends Leaves now rest bytes Next held' after between written' o1 o2 (Err stop))
+      → Ran Step Ends Leaves true start limit (status_of stop) left left' written written' after i i2 o o2
+  stopped start limit At Next held held' count n left mid left' written between written' after i i1 i2 o o1 o2 bytes stop s took many few same serves =
+      let all = serves_more Step Ends Leaves start [] s.taken bytes At Next held held' after after written between written' o o1 o2 (Err stop)
+      (so_far_served start At held count left mid written between after i i1 o o1 s) serves in
       let len : length (s.taken ++ bytes) ≤ limit = omega (arith, length-append s.taken bytes, s.counted, many) in
-      stopped_in start new limit (s.taken ++ bytes) held' left left' written written' i i2 o o2 stop (Consumes-trans left mid left' s.taken bytes s.consumed took) len all
+      stopped_in start limit (s.taken ++ bytes) Next held' left left' written written' after i i2 o o2 stop (Consumes-trans left mid left' s.taken bytes s.consumed took) len (same ∙ s.input_same) all
 
   took_nothing : (left mid left' : Option (List ℕ)) (taken : List ℕ) → Consumes left mid taken → Consumes mid left' [] → Consumes left left' taken
   took_nothing left mid left' taken p q = subst (λ t. Consumes left left' t) (append-nil taken) (Consumes-trans left mid left' taken [] p q)
 
   -- a last line was due, and pushing it was the end
-  last_pushed : (start : State) (limit : ℕ) (due status : Status) (taken line text : List ℕ) (texts : List (List ℕ)) (left left' written between written' : Option (List ℕ)) (i i' o o1 o2 : ℕ)
-      → ((t : List ℕ) → IsWhole Step true start limit taken due t → IsRun Step true start limit taken due t)
-      → EndsWith due left' → (o2 ≡ o → Caused due i i' o o2)
-      → Due Step true start limit taken statuses.NoMemory texts → Due Step true start limit taken due (texts ++ line ∷ [])
+  last_pushed : (right : Bool) (start : State) (limit : ℕ) (due status : Status) (taken line text : List ℕ) (texts : List (List ℕ)) (left left' written between written' : Option (List ℕ)) (after : Seen) (i i' o o1 o2 : ℕ)
+      → ((t : List ℕ) → IsWhole (Due Step Ends Leaves right start limit left' taken after) due t → IsWritten (Due Step Ends Leaves right start limit left' taken after) due t)
+      → (o2 ≡ o → Caused due i i' o o2)
+      → Due Step Ends Leaves right start limit left' taken after due (texts ++ line ∷ [])
       → Consumes left left' taken → Appends written between text → text ≡ concat texts → o1 ≡ o
       → EndedBy due line between written' o1 o2 status
-      → Ran Step true start limit status left left' written written' i i' o o2
-  last_pushed start limit due status taken line text texts left left' written between written' i i' o o1 o2 whole ends caused memory all took app is same (inl e) =
+      → Ran Step Ends Leaves right start limit status left left' written written' after i i' o o2
+  last_pushed right start limit due status taken line text texts left left' written between written' after i i' o o1 o2 whole caused all took app is same (inl e) =
       rw e.0 (record {
         taken = taken;
         text = text ++ line;
         consumed = took;
         appended = Appends-trans written between written' text line app e.1;
         run = whole (text ++ line) (record { pieces = texts ++ line ∷ []; due = all; whole = ap (λ t. t ++ line) is ∙ ap (λ l. concat texts ++ l) (sym (append-nil line)) ∙ sym (concat-append texts (line ∷ [])) });
-        ended = ends;
         cause = caused (e.2 ∙ same);
       })
-  last_pushed start limit due status taken line text texts left left' written between written' i i' o o1 o2 whole ends caused memory all took app is same (inr (inl e)) =
+  last_pushed right start limit due status taken line text texts left left' written between written' after i i' o o1 o2 whole caused all took app is same (inr (inl e)) =
       rw e.0 (record {
         taken = taken;
         text = text ++ e.1.0;
         consumed = took;
         appended = Appends-trans written between written' text e.1.0 app e.1.3;
-        run = record { due = due; before = texts; last = line; written = e.1.0; unwritten = e.1.1; pieces = all; part = e.1.2; whole = ap (λ t. t ++ e.1.0) is };
-        ended = tt;
+        run = record { status = due; before = texts; last = line; written = e.1.0; unwritten = e.1.1; due = all; part = e.1.2; whole = ap (λ t. t ++ e.1.0) is };
         cause = subst (λ n. Rose n o2) same e.2;
       })
-  last_pushed start limit due status taken line text texts left left' written between written' i i' o o1 o2 whole ends caused memory all took app is same (inr (inr e)) =
+  last_pushed right start limit due status taken line text texts left left' written between written' after i i' o o1 o2 whole caused all took app is same (inr (inr e)) =
       rw e.0 (record {
         taken = taken;
         text = text ++ [];
         consumed = took;
         appended = Appends-trans written between written' text [] app e.1;
-        run = record { pieces = texts; due = memory; whole = append-nil text ∙ is };
-        ended = tt;
+        run = inr (record { status = due; before = texts; last = line; written = []; unwritten = line; due = all; part = refl; whole = ap (λ t. t ++ []) is }, refl);
         cause = e.2 ∙ same;
       })
 
   -- the input failed
-  pub input_failed : (start now : State) (limit : ℕ) (held : List ℕ) (count : ℕ) (status : Status) (left mid left' written between written' : Option (List ℕ)) (i i1 i2 o o1 o2 : ℕ)
-      → SoFar Step start now held count left mid written between i i1 o o1 → count < limit → Keeps mid left' → Rose i1 i2
+  pub input_failed : (start : State) (limit : ℕ) (At : State → Type 0) (held : List ℕ) (count : ℕ) (status : Status) (left mid left' written between written' : Option (List ℕ)) (after : Seen) (i i1 i2 o o1 o2 : ℕ)
+      → SoFar Step Ends Leaves start At held count left mid written between i i1 o o1 → ((now : State) → At now → Leaves now after) → count < limit → Keeps mid left' → Rose i1 i2
       → EndedBy statuses.InputFault input_fault between written' o1 o2 status
-      → Ran Step true start limit status left left' written written' i i2 o o2
-  input_failed start now limit held count status left mid left' written between written' i i1 i2 o o1 o2 s few keeps rose e =
+      → Ran Step Ends Leaves true start limit status left left' written written' after i i2 o o2
+  input_failed start limit At held count status left mid left' written between written' after i i1 i2 o o1 o2 s leaves few keeps rose e =
       let less : length s.taken < limit = omega (arith, s.counted) in
-      let most : length s.taken ≤ limit = omega arith in
-      last_pushed start limit statuses.InputFault status s.taken input_fault s.text s.fed.texts left left' written between written' i i2 o o1 o2
-      (λ t w. w) tt (λ same. (subst (λ n. Rose n i2) s.input_same rose, same))
-      (s.fed.lines, s.rest, s.fed.cut, most, (now, s.fed.answered))
-      (s.fed.lines, s.rest, s.fed.texts, s.fed.cut, s.fed.unfinished, less, (now, s.fed.answered), refl)
+      last_pushed true start limit statuses.InputFault status s.taken input_fault s.text s.fed.texts left left' written between written' after i i2 o o1 o2
+      (λ t w. w) (λ same. (subst (λ n. Rose n i2) s.input_same rose, same))
+      (s.fed.texts, s.rest, s.now, s.fed.served, s.fed.unfinished, less, leaves s.now s.at, refl)
       (Consumes-kept left mid left' s.taken s.consumed keeps) s.appended s.fed.written s.output_same e
 
   -- the limit was reached
-  pub limit_reached : (start now : State) (limit count : ℕ) (held : List ℕ) (status : Status) (left left' written between written' : Option (List ℕ)) (i i1 o o1 o2 : ℕ)
-      → SoFar Step start now held count left left' written between i i1 o o1 → count ≡ limit
+  pub limit_reached : (start : State) (At : State → Type 0) (limit count : ℕ) (held : List ℕ) (status : Status) (left left' written between written' : Option (List ℕ)) (after : Seen) (i i1 o o1 o2 : ℕ)
+      → SoFar Step Ends Leaves start At held count left left' written between i i1 o o1 → ((now : State) → At now → Leaves now after) → count ≡ limit
       → EndedBy statuses.InputLimit input_limit between written' o1 o2 status
-      → Ran Step true start limit status left left' written written' i i1 o o2
-  limit_reached start now limit count held status left left' written between written' i i1 o o1 o2 s reached e =
-      let most : length s.taken ≤ limit = omega (arith, s.counted) in
-      last_pushed start limit statuses.InputLimit status s.taken input_limit s.text s.fed.texts left left' written between written' i i1 o o1 o2
-      (λ t w. w) tt (λ same. (s.input_same, same))
-      (s.fed.lines, s.rest, s.fed.cut, most, (now, s.fed.answered))
-      (s.fed.lines, s.rest, s.fed.texts, s.fed.cut, s.fed.unfinished, s.counted ∙ reached, (now, s.fed.answered), refl)
+      → Ran Step Ends Leaves true start limit status left left' written written' after i i1 o o2
+  limit_reached start At limit count held status left left' written between written' after i i1 o o1 o2 s leaves reached e =
+      last_pushed true start limit statuses.InputLimit status s.taken input_limit s.text s.fed.texts left left' written between written' after i i1 o o1 o2
+      (λ t w. w) (λ same. (s.input_same, same))
+      (s.fed.texts, s.rest, s.now, s.fed.served, s.fed.unfinished, s.counted ∙ reached, leaves s.now s.at, refl)
       s.consumed s.appended s.fed.written s.output_same e
 
   -- the end of the input was met, and a last line served
-  pub input_ended : (start now new : State) (limit : ℕ) (held : List ℕ) (count : ℕ) (left mid left' written between written' : Option (List ℕ)) (i i1 i2 o o1 o2 : ℕ)
-      → SoFar Step start now held count left mid written between i i1 o o1 → count < limit → Consumes mid left' [] → IsAtEnd left' → i2 ≡ i1
-      → ((rest : List ℕ) → held ≡ kept rest → ServedLast Step now rest new between written' o1 o2 (Ok tt))
-      → Ran Step true start limit statuses.Done left left' written written' i i2 o o2
-  input_ended start now new limit held count left mid left' written between written' i i1 i2 o o1 o2 s few none at_end same serves =
-      let l = serves s.rest s.holds in
+  pub input_ended : (start : State) (At Next : State → Type 0) (limit : ℕ) (held : List ℕ) (count : ℕ) (left mid left' written between written' : Option (List ℕ)) (after : Seen) (i i1 i2 o o1 o2 : ℕ)
+      → SoFar Step Ends Leaves start At held count left mid written between i i1 o o1 → ((now : State) → Next now → Leaves now after) → count < limit → Consumes mid left' [] → IsAtEnd left' → i2 ≡ i1
+      → ((rest : List ℕ) (now : State) → held ≡ kept rest → At now → ServedLast Step Ends Leaves now rest Next after between written' o1 o2 (Ok tt))
+      → Ran Step Ends Leaves true start limit statuses.Done left left' written written' after i i2 o o2
+  input_ended start At Next limit held count left mid left' written between written' after i i1 i2 o o1 o2 s leaves few none at_end same serves =
+      let l = serves s.rest s.now s.holds s.at in
       let less : length s.taken < limit = omega (arith, s.counted) in
       record {
         taken = s.taken;
         text = s.text ++ concat l.0;
         consumed = took_nothing left mid left' s.taken s.consumed none;
-        appended = Appends-trans written between written' s.text (concat l.0) s.appended l.2;
+        appended = Appends-trans written between written' s.text (concat l.0) s.appended l.4;
         run = record {
           pieces = s.fed.texts ++ l.0;
-          due = (s.fed.lines, s.rest, s.fed.cut, s.fed.unfinished, less, (new, Answers-append Step start now new s.fed.lines (last_line s.rest) s.fed.texts l.0 s.fed.answered l.1));
+          due = (
+            s.fed.served.lines,
+            s.rest,
+            l.1,
+            s.fed.served.cut,
+            s.fed.unfinished,
+            (at_end, less),
+            Answers-append Step start s.now l.1 s.fed.served.lines (last_line s.rest) s.fed.texts l.0 s.fed.served.answered l.2,
+            leaves l.1 l.3,
+          );
           whole = ap (λ t. t ++ concat l.0) s.fed.written ∙ sym (concat-append s.fed.texts l.0);
         };
-        ended = at_end;
-        cause = (same ∙ s.input_same, l.3 ∙ s.output_same);
+        cause = (same ∙ s.input_same, l.5 ∙ s.output_same);
       }
 
+  -- what is due for the last line is due for the run
+  due_last : (start now : State) (limit : ℕ) (left : Option (List ℕ)) (taken rest : List ℕ) (after : Seen) (texts : List (List ℕ)) (stop : Stop) → Served Step start taken texts rest now → IsLine rest → length taken ≤ limit
+      → WasRead Step Ends Leaves limit left taken → (ps : List (List ℕ)) → DueOfLine Step Ends Leaves now rest after (status_of stop) ps
+      → Due Step Ends Leaves true start limit left taken after (status_of stop) (texts ++ ps)
+  due_last start now limit left taken rest after texts NoMemory s line most read ps d =
+      (rest, now, subst (λ ts. Served Step start taken ts rest now) (sym (append-nil texts) ∙ ap (λ t. texts ++ t) (sym d.1)) s, most, d.0)
+  due_last start now limit left taken rest after texts OutputFault s line most read ps d = absurd d
+  due_last start now limit left taken rest after texts (Ended BadTable) s line most read ps d =
+      (record { texts = texts; more = rest; end = now; line = rest; last = d.0; served = s; next = (line, inr (refl, read)); ends = d.1; are = ap (λ t. texts ++ t) d.2 }, most)
+  due_last start now limit left taken rest after texts (Ended StoreFault) s line most read ps d =
+      (record { texts = texts; more = rest; end = now; line = rest; last = d.0; served = s; next = (line, inr (refl, read)); ends = d.1; are = ap (λ t. texts ++ t) d.2 }, most)
+
+  due_last_cut : (start now : State) (limit : ℕ) (left : Option (List ℕ)) (taken rest : List ℕ) (after : Seen) (texts : List (List ℕ)) → rest ≢ [] → Served Step start taken texts rest now → IsLine rest → length taken ≤ limit
+      → WasRead Step Ends Leaves limit left taken → (s : Status) (ps : List (List ℕ)) → DueOfLine Step Ends Leaves now rest after s ps → (t : Status) × Due Step Ends Leaves true start limit left taken after t (texts ++ ps)
+  due_last_cut start now limit left taken rest after texts some s line most read statuses.Done ps d = (
+    statuses.Done,
+    (
+      s.lines,
+      rest,
+      d.1,
+      s.cut,
+      line,
+      read,
+      subst (λ ts. Answers Step start (s.lines ++ last_line rest) (texts ++ ts) d.1) (sym d.4)
+          (Answers-append Step start now d.1 s.lines (last_line rest) texts (d.0 ∷ []) s.answered (rw (last_line-some rest some) (d.1, d.2, refl))),
+      d.3,
+    ),
+  )
+  due_last_cut start now limit left taken rest after texts some s line most read statuses.NoMemory ps d = (statuses.NoMemory, due_last start now limit left taken rest after texts NoMemory s line most read ps d)
+  due_last_cut start now limit left taken rest after texts some s line most read statuses.BadTable ps d = (statuses.BadTable, due_last start now limit left taken rest after texts (Ended BadTable) s line most read ps d)
+  due_last_cut start now limit left taken rest after texts some s line most read statuses.StoreFault ps d = (statuses.StoreFault, due_last start now limit left taken rest after texts (Ended StoreFault) s line most read ps d)
+  due_last_cut start now limit left taken rest after texts some s line most read t ps d = absurd d
+
   -- a last line was not served whole
-  pub end_stopped : (start now new : State) (limit : ℕ) (held : List ℕ) (count : ℕ) (left mid left' written between written' : Option (List ℕ)) (i i1 i2 o o1 o2 : ℕ) (stop : Stop)
-      → SoFar Step start now held count left mid written between i i1 o o1 → count < limit → Consumes mid left' []
-      → ((rest : List ℕ) → held ≡ kept rest → ServedLast Step now rest new between written' o1 o2 (Err stop))
-      → Ran Step true start limit (status_of stop) left left' written written' i i2 o o2
-  end_stopped start now new limit held count left mid left' written between written' i i1 i2 o o1 o2 OutputFault s few none serves =
-      let l = serves s.rest s.holds in
+  pub end_stopped : (start : State) (At Next : State → Type 0) (limit : ℕ) (held : List ℕ) (count : ℕ) (left mid left' written between written' : Option (List ℕ)) (after : Seen) (i i1 i2 o o1 o2 : ℕ) (stop : Stop)
+      → SoFar Step Ends Leaves start At held count left mid written between i i1 o o1 → count < limit → Consumes mid left' [] → IsAtEnd left' → i2 ≡ i1
+      → ((rest : List ℕ) (now : State) → held ≡ kept rest → At now → ServedLast Step Ends Leaves now rest Next after between written' o1 o2 (Err stop))
+      → Ran Step Ends Leaves true start limit (status_of stop) left left' written written' after i i2 o o2
+  end_stopped start At Next limit held count left mid left' written between written' after i i1 i2 o o1 o2 stop s few none at_end same serves =
+      let l = serves s.rest s.now s.holds s.at in
       let less : length s.taken < limit = omega (arith, s.counted) in
+      let most : length s.taken ≤ limit = omega arith in
       record {
         taken = s.taken;
         text = s.text ++ l.1;
         consumed = took_nothing left mid left' s.taken s.consumed none;
-        appended = Appends-trans written between written' s.text l.1 s.appended l.5;
-        run = record {
-          due = statuses.Done;
-          before = s.fed.texts;
-          last = l.0;
-          written = l.1;
-          unwritten = l.2;
-          pieces = (s.fed.lines, s.rest, s.fed.cut, s.fed.unfinished, less, (new, Answers-append Step start now new s.fed.lines (last_line s.rest) s.fed.texts (l.0 ∷ []) s.fed.answered l.3));
-          part = l.4;
-          whole = ap (λ t. t ++ l.1) s.fed.written;
-        };
-        ended = tt;
-        cause = subst (λ n. Rose n o2) s.output_same l.6;
-      }
-  end_stopped start now new limit held count left mid left' written between written' i i1 i2 o o1 o2 NoMemory s few none serves =
-      let l = serves s.rest s.holds in
-      let most : length s.taken ≤ limit = omega (arith, s.counted) in
-      record {
-        taken = s.taken;
-        text = s.text ++ [];
-        consumed = took_nothing left mid left' s.taken s.consumed none;
-        appended = Appends-trans written between written' s.text [] s.appended l.0;
-        run = record { pieces = s.fed.texts; due = (s.fed.lines, s.rest, s.fed.cut, most, (now, s.fed.answered)); whole = append-nil s.text ∙ s.fed.written };
-        ended = tt;
-        cause = l.1 ∙ s.output_same;
+        appended = Appends-trans written between written' s.text l.1 s.appended l.3;
+        run = subst (λ t. IsWritten (Due Step Ends Leaves true start limit left' s.taken after) (status_of stop) (t ++ l.1)) (sym s.fed.written)
+            (written_behind (DueOfLine Step Ends Leaves s.now s.rest after) (Due Step Ends Leaves true start limit left' s.taken after) s.fed.texts stop l.1
+            (due_last start s.now limit left' s.taken s.rest after s.fed.texts stop s.fed.served s.fed.unfinished most (at_end, less))
+            (due_last_cut start s.now limit left' s.taken s.rest after s.fed.texts l.0 s.fed.served s.fed.unfinished most (at_end, less)) l.2);
+        cause = caused_by stop i i2 o o2 (same ∙ s.input_same) (faults_since stop o o1 o2 s.output_same l.4);
       }
 
   -- before the first byte
-  pub nothing_so_far : (start : State) (held : List ℕ) (left written : Option (List ℕ)) (i o : ℕ) → held ≡ []
-      → SoFar Step start start held 0 left left written written i i o o
-  nothing_so_far start held left written i o none = record {
+  pub nothing_so_far : (start : State) (At : State → Type 0) (held : List ℕ) (left written : Option (List ℕ)) (i o : ℕ) → held ≡ [] → At start
+      → SoFar Step Ends Leaves start At held 0 left left written written i i o o
+  nothing_so_far start At held left written i o none at = record {
     taken = [];
     text = [];
     rest = [];
+    now = start;
     consumed = Consumes-nil left;
     appended = Appends-nil written;
     counted = refl;
-    fed = record { lines = []; texts = []; cut = record { whole = refl; each = tt }; unfinished = tt; answered = refl; written = refl };
+    fed = record { texts = []; served = record { lines = []; cut = record { whole = refl; each = tt }; answered = refl }; unfinished = tt; written = refl };
+    at = at;
     holds = none ∙ sym kept-nil;
     input_same = refl;
     output_same = refl;
   }
 
   -- the words were refused
-  pub words_refused : (start : State) (limit : ℕ) (status : Status) (left written written' : Option (List ℕ)) (i o o' : ℕ)
-      → EndedBy statuses.BadWords bad_words written written' o o' status → Ran Step false start limit status left left written written' i i o o'
-  words_refused start limit status left written written' i o o' (inl e) =
-      rw e.0 (record {
-        taken = [];
-        text = bad_words;
-        consumed = Consumes-nil left;
-        appended = e.1;
-        run = record { pieces = bad_words ∷ []; due = (refl, refl); whole = sym (append-nil bad_words) };
-        ended = tt;
-        cause = (refl, e.2);
-      })
-  words_refused start limit status left written written' i o o' (inr (inl e)) =
-      rw e.0 (record {
-        taken = [];
-        text = e.1.0;
-        consumed = Consumes-nil left;
-        appended = e.1.3;
-        run = record { due = statuses.BadWords; before = []; last = bad_words; written = e.1.0; unwritten = e.1.1; pieces = (refl, refl); part = e.1.2; whole = refl };
-        ended = tt;
-        cause = e.2;
-      })
-  words_refused start limit status left written written' i o o' (inr (inr e)) =
-      rw e.0 (record {
-        taken = [];
-        text = [];
-        consumed = Consumes-nil left;
-        appended = e.1;
-        run = record { pieces = []; due = (refl, refl); whole = refl };
-        ended = tt;
-        cause = e.2;
-      })
+  pub words_refused : (start : State) (limit : ℕ) (status : Status) (left written written' : Option (List ℕ)) (after : Seen) (i o o' : ℕ) → Leaves start after
+      → EndedBy statuses.BadWords bad_words written written' o o' status → Ran Step Ends Leaves false start limit status left left written written' after i i o o'
+  words_refused start limit status left written written' after i o o' leaves e =
+      last_pushed false start limit statuses.BadWords status [] bad_words [] [] left left written written written' after i i o o o'
+      (λ t w. w) (λ same. (refl, same)) (refl, leaves, refl) (Consumes-nil left) (Appends-nil written) refl refl e
+
+  -- memory ran out before the first byte
+  pub memory_refused : (start : State) (limit : ℕ) (left written : Option (List ℕ)) (after : Seen) (i o : ℕ) → Leaves start after
+      → Ran Step Ends Leaves true start limit statuses.NoMemory left left written written after i i o o
+  memory_refused start limit left written after i o leaves = record {
+    taken = [];
+    text = [];
+    consumed = Consumes-nil left;
+    appended = Appends-nil written;
+    run = inl (record {
+      pieces = [];
+      due = ([], start, record { lines = []; cut = record { whole = refl; each = tt }; answered = refl }, omega arith, leaves);
+      whole = refl;
+    });
+    cause = refl;
+  }

@@ -1,15 +1,19 @@
 -- Serving a line, a byte, and the bytes of a piece.
-use Rattle.std.proofs.Common.{◌≡◌, ◌≢◌, ℕ, ◌+◌, ◌<◌, ◌≤◌, List, [], ◌∷◌, ◌++◌, length, take, drop, get_or, Option, Result, Ok, Err, OnOk, IfErr, refl, sym, ap, subst, ◌∙◌, append_assoc, arith, length-append}
+use Rattle.std.proofs.Common.{◌≡◌, ◌≢◌, ◌⊎◌, ℕ, ◌+◌, ◌<◌, ◌≤◌, List, [], ◌∷◌, ◌++◌, length, take, drop, get_or, Option, Result, Ok, Err, OnOk, IfErr, inl, inr, refl, sym, ap, subst, ◌∙◌, append_assoc, arith, length-append}
 use Rattle.std.proofs.lemmas.List.{take-append-le, take_all, append-nil, length-take, take_more, take-append-drop}
 use Rattle.std.specs.List.{AllByRecursion}
-use Rattle.std.specs.Io.KnownBytes.{Appends}
 use Rattle.std.proofs.KnownBytes.{Appends-trans, Appends-nil}
 use Rattle.rc_outside.specs.Faults.{Rose}
-use Rattle.rc_shell.specs.Lines.{IsLine, BeginsWithLines, joined_lines}
-use Rattle.rc_shell.specs.Run.{Answers, concat}
-use Rattle.rc_shell.specs.Feed.{PushedText, ServedLine, Serves, kept}
+use Rattle.rc_shell.specs.Lines.{IsLine, BeginsWithLines, IsNext, joined_lines}
+use Rattle.rc_shell.specs.Run.{IsWhole, IsCutOff, IsWritten, Answers, Served, concat}
+use Rattle.rc_shell.specs.Feed.{PushedText, PushedEnding, FaultsAfter, DueOfLine, DueOfBytes, ServedLine, Serves, kept}
+use Rattle.rc_shell.specs.Status.{status_at, status_of}
+use Rattle.rc_shell.specs.declared.status.Status.{Status}
+use Rattle.rc_shell.specs.declared.status.Status.TheVariants as statuses
+use Rattle.rc_shell.specs.declared.status.Ending.{Ending}
+use Rattle.rc_shell.specs.declared.status.Ending.TheVariants.{BadTable, StoreFault}
 use Rattle.rc_shell.specs.declared.status.Stop.{Stop}
-use Rattle.rc_shell.specs.declared.status.Stop.TheVariants.{NoMemory, OutputFault}
+use Rattle.rc_shell.specs.declared.status.Stop.TheVariants.{NoMemory, OutputFault, Ended}
 
 pub AllByRecursion-append : {X : Type 0} (P : X → Type 0) (xs ys : List X) → AllByRecursion P xs → AllByRecursion P ys → AllByRecursion P (xs ++ ys)
 AllByRecursion-append P [] ys p q = q
@@ -55,14 +59,50 @@ pub kept-nil : kept [] ≡ []
 unfolding kept
 kept-nil = refl
 
-module _ {State : Type 0} (Step : State → List ℕ → List ℕ → State → Type 0) where
-  -- a reply that the machine may give, and what pushing it did
-  pub served : (old new : State) (line reply : List ℕ) (before after : Option (List ℕ)) (f f' : ℕ) (r : Result Unit Stop)
-      → Step old line reply new → PushedText before after f f' reply r → ServedLine Step old line new before after f f' r
-  served old new line reply before after f f' (Ok u) s p = (reply, s, p.0, p.1)
-  served old new line reply before after f f' (Err OutputFault) s p = (reply, p.0.0, p.0.1, s, p.0.2, p.0.3, p.1)
-  served old new line reply before after f f' (Err NoMemory) s p = p
+-- the output's faults after a stop, counted from before
+pub faults_since : (stop : Stop) (f f1 f2 : ℕ) → f1 ≡ f → FaultsAfter stop f1 f2 → FaultsAfter stop f f2
+faults_since OutputFault f f1 f2 same rose = subst (λ n. Rose n f2) same rose
+faults_since NoMemory f f1 f2 same e = e ∙ same
+faults_since (Ended ending) f f1 f2 same e = e ∙ same
 
+-- a whole line is the first of longer bytes too
+next_longer : (more line c : List ℕ) → IsNext ⊥ more line → IsNext ⊥ (more ++ c) line
+next_longer more line c (is, inl e) = (is, inl (e.0 ++ c, ap (λ t. t ++ c) e.1 ∙ append_assoc line (10 ∷ e.0) c))
+next_longer more line c (is, inr e) = absurd e.1
+
+-- What is due in place of what was: pieces that are written, and then the same pieces.
+module _ (Was Is : Status → List (List ℕ) → Type 0) (front : List (List ℕ)) where
+  pub whole_behind : (status : Status) (text : List ℕ) → ((ps : List (List ℕ)) → Was status ps → Is status (front ++ ps)) → IsWhole Was status text → IsWhole Is status (concat front ++ text)
+  whole_behind status text each w = record {
+    pieces = front ++ w.pieces;
+    due = each w.pieces w.due;
+    whole = ap (λ t. concat front ++ t) w.whole ∙ sym (concat-append front w.pieces);
+  }
+
+  pub cut_behind : (text : List ℕ) → ((s : Status) (ps : List (List ℕ)) → Was s ps → (now : Status) × Is now (front ++ ps)) → IsCutOff Was text → IsCutOff Is (concat front ++ text)
+  cut_behind text each c = let d = each c.status (c.before ++ c.last ∷ []) c.due in record {
+    status = d.0;
+    before = front ++ c.before;
+    last = c.last;
+    written = c.written;
+    unwritten = c.unwritten;
+    due = subst (λ ps. Is d.0 ps) (sym (append_assoc front c.before (c.last ∷ []))) d.1;
+    part = c.part;
+    whole = ap (λ t. concat front ++ t) c.whole ∙ sym (append_assoc (concat front) (concat c.before) c.written) ∙ ap (λ t. t ++ c.written) (sym (concat-append front c.before));
+  }
+
+  -- so what is written, where serving stopped
+  pub written_behind : (stop : Stop) (text : List ℕ) → ((ps : List (List ℕ)) → Was (status_of stop) ps → Is (status_of stop) (front ++ ps))
+      → ((s : Status) (ps : List (List ℕ)) → Was s ps → (now : Status) × Is now (front ++ ps))
+      → IsWritten Was (status_of stop) text → IsWritten Is (status_of stop) (concat front ++ text)
+  unfolding cut_behind
+  written_behind OutputFault text whole cut w = cut_behind text cut w
+  written_behind NoMemory text whole cut (inl w) = inl (whole_behind statuses.NoMemory text whole w)
+  written_behind NoMemory text whole cut (inr w) = inr (cut_behind text cut w.0, w.1)
+  written_behind (Ended BadTable) text whole cut w = whole_behind statuses.BadTable text whole w
+  written_behind (Ended StoreFault) text whole cut w = whole_behind statuses.StoreFault text whole w
+
+module _ {State : Type 0} (Step : State → List ℕ → List ℕ → State → Type 0) where
   pub Answers-append : (old mid new : State) (xs ys : List (List ℕ)) (ts us : List (List ℕ))
       → Answers Step old xs ts mid → Answers Step mid ys us new → Answers Step old (xs ++ ys) (ts ++ us) new
   Answers-append old mid new [] ys [] us p q = subst (λ s. Answers Step s ys us new) p q
@@ -70,217 +110,249 @@ module _ {State : Type 0} (Step : State → List ℕ → List ℕ → State → 
   Answers-append old mid new [] ys (t ∷ ts) us p q = absurd p
   Answers-append old mid new (x ∷ xs) ys [] us p q = absurd p
 
+  -- lines were served, and then more
+  pub Served-append : (old mid new : State) (rest b c : List ℕ) (ts us : List (List ℕ)) (left more : List ℕ)
+      → Served Step old (rest ++ b) ts left mid → Served Step mid (left ++ c) us more new → Served Step old (rest ++ (b ++ c)) (ts ++ us) more new
+  Served-append old mid new rest b c ts us left more p q = record {
+    lines = p.lines ++ q.lines;
+    cut = cut-append rest b c p.lines q.lines left more p.cut q.cut;
+    answered = Answers-append old mid new p.lines q.lines ts us p.answered q.answered;
+  }
+
+  -- what comes behind does not matter
+  pub Served-longer : (old new : State) (bytes c : List ℕ) (ts : List (List ℕ)) (more : List ℕ)
+      → Served Step old bytes ts more new → Served Step old (bytes ++ c) ts (more ++ c) new
+  Served-longer old new bytes c ts more p = record {
+    lines = p.lines;
+    cut = record { whole = ap (λ t. t ++ c) p.cut.whole ∙ append_assoc (joined_lines p.lines) more c; each = p.cut.each };
+    answered = p.answered;
+  }
+
+  pub Served-none : (old : State) (bytes : List ℕ) → Served Step old bytes [] bytes old
+  Served-none old bytes = record { lines = []; cut = record { whole = refl; each = tt }; answered = refl }
+
+module _ {State Seen : Type 0} (Step : State → List ℕ → List ℕ → State → Type 0) (Ends : State → List ℕ → Status → List ℕ → Seen → Type 0) (Leaves : State → Seen → Type 0) where
+  -- a text that is due was pushed
+  text_pushed : (old : State) (line reply : List ℕ) (At : State → Type 0) (after : Seen) (due : Status) (before now : Option (List ℕ)) (f f' : ℕ) (r : Result Unit Stop)
+      → DueOfLine Step Ends Leaves old line after due (reply ∷ []) → ((u : Unit) → r ≡ Ok u → ⊥) → PushedText before now f f' reply r → ServedLine Step Ends Leaves old line At after before now f f' r
+  text_pushed old line reply At after due before now f f' (Ok u) d not p = absurd (not u refl)
+  text_pushed old line reply At after due before now f f' (Err OutputFault) d not p =
+      (p.0.0, record { status = due; before = []; last = reply; written = p.0.0; unwritten = p.0.1; due = d; part = p.0.2; whole = refl }, p.0.3, p.1)
+  text_pushed old line reply At after due before now f f' (Err NoMemory) d not p =
+      ([], inr (record { status = due; before = []; last = reply; written = []; unwritten = reply; due = d; part = refl; whole = refl }, refl), p.0, p.1)
+  text_pushed old line reply At after due before now f f' (Err (Ended ending)) d not p = absurd p
+
+  -- a reply that the machine may give, and what pushing it did
+  pub served : (old new : State) (line reply : List ℕ) (At : State → Type 0) (after : Seen) (before now : Option (List ℕ)) (f f' : ℕ) (r : Result Unit Stop)
+      → Step old line reply new → At new → Leaves new after → PushedText before now f f' reply r → ServedLine Step Ends Leaves old line At after before now f f' r
+  served old new line reply At after before now f f' (Ok u) s at leaves p = (reply, new, s, at, p.0, p.1)
+  served old new line reply At after before now f f' (Err stop) s at leaves p =
+      text_pushed old line reply At after statuses.Done before now f f' (Err stop) (reply, new, s, leaves, refl) (λ u e. cc) p
+
+  -- a last line, and what pushing it did
+  pub ended : (old : State) (line last : List ℕ) (At : State → Type 0) (after : Seen) (ending : Ending) (before now : Option (List ℕ)) (f f' : ℕ) (stop : Stop)
+      → Ends old line (status_at ending) last after → PushedEnding ending before now f f' last stop → ServedLine Step Ends Leaves old line At after before now f f' (Err stop)
+  ended old line last At after BadTable before now f f' OutputFault e p = text_pushed old line last At after statuses.BadTable before now f f' (Err OutputFault) (last, e, refl) (λ u e. cc) p
+  ended old line last At after BadTable before now f f' NoMemory e p = text_pushed old line last At after statuses.BadTable before now f f' (Err NoMemory) (last, e, refl) (λ u e. cc) p
+  ended old line last At after StoreFault before now f f' OutputFault e p = text_pushed old line last At after statuses.StoreFault before now f f' (Err OutputFault) (last, e, refl) (λ u e. cc) p
+  ended old line last At after StoreFault before now f f' NoMemory e p = text_pushed old line last At after statuses.StoreFault before now f f' (Err NoMemory) (last, e, refl) (λ u e. cc) p
+  ended old line last At after BadTable before now f f' (Ended BadTable) e p = (last, record { pieces = last ∷ []; due = (last, e, refl); whole = sym (append-nil last) }, p.1, p.2)
+  ended old line last At after StoreFault before now f f' (Ended StoreFault) e p = (last, record { pieces = last ∷ []; due = (last, e, refl); whole = sym (append-nil last) }, p.1, p.2)
+  ended old line last At after BadTable before now f f' (Ended StoreFault) e p = absurd (cc)
+  ended old line last At after StoreFault before now f f' (Ended BadTable) e p = absurd (cc)
+
+  -- memory ran out, before a step or behind one
+  pub unserved : (old : State) (line : List ℕ) (At : State → Type 0) (after : Seen) (before : Option (List ℕ)) (f : ℕ)
+      → (Leaves old after ⊎ ((text : List ℕ) × (new : State) × Step old line text new × Leaves new after)) → ServedLine Step Ends Leaves old line At after before before f f (Err NoMemory)
+  unserved old line At after before f (inl leaves) = ([], inl (record { pieces = []; due = (leaves, refl); whole = refl }), Appends-nil before, refl)
+  unserved old line At after before f (inr s) =
+      ([], inr (record { status = statuses.Done; before = []; last = s.0; written = []; unwritten = s.0; due = (s.0, s.1, s.2, s.3, refl); part = refl; whole = refl }, refl), Appends-nil before, refl)
+
+  one_line : (old new : State) (line text : List ℕ) → IsLine line → Step old line text new → Served Step old (line ++ 10 ∷ []) (text ∷ []) [] new
+  one_line old new line text is s = record { lines = line ∷ []; cut = record { whole = sym (append-nil _ ∙ append-nil _); each = (is, tt) }; answered = (new, s, refl) }
+
+  -- what is due for a line is due for its bytes, with a newline behind them
+  due_whole : (old : State) (line : List ℕ) (after : Seen) (stop : Stop) → IsLine line
+      → (ps : List (List ℕ)) → DueOfLine Step Ends Leaves old line after (status_of stop) ps → DueOfBytes Step Ends Leaves old (line ++ 10 ∷ []) after (status_of stop) ps
+  due_whole old line after NoMemory is ps d = (line ++ 10 ∷ [], old, subst (λ ts. Served Step old (line ++ 10 ∷ []) ts (line ++ 10 ∷ []) old) (sym d.1) (Served-none Step old (line ++ 10 ∷ [])), d.0)
+  due_whole old line after OutputFault is ps d = absurd d
+  due_whole old line after (Ended BadTable) is ps d =
+      record { texts = []; more = line ++ 10 ∷ []; end = old; line = line; last = d.0; served = Served-none Step old (line ++ 10 ∷ []); next = (is, inl ([], refl)); ends = d.1; are = d.2 }
+  due_whole old line after (Ended StoreFault) is ps d =
+      record { texts = []; more = line ++ 10 ∷ []; end = old; line = line; last = d.0; served = Served-none Step old (line ++ 10 ∷ []); next = (is, inl ([], refl)); ends = d.1; are = d.2 }
+
+  due_cut : (old : State) (line : List ℕ) (after : Seen) → IsLine line → (s : Status) (ps : List (List ℕ)) → DueOfLine Step Ends Leaves old line after s ps
+      → (now : Status) × DueOfBytes Step Ends Leaves old (line ++ 10 ∷ []) after now ps
+  due_cut old line after is statuses.Done ps d = (statuses.NoMemory, ([], d.1, subst (λ ts. Served Step old (line ++ 10 ∷ []) ts [] d.1) (sym d.4) (one_line old d.1 line d.0 is d.2), d.3))
+  due_cut old line after is statuses.NoMemory ps d = (statuses.NoMemory, due_whole old line after NoMemory is ps d)
+  due_cut old line after is statuses.BadTable ps d = (statuses.BadTable, due_whole old line after (Ended BadTable) is ps d)
+  due_cut old line after is statuses.StoreFault ps d = (statuses.StoreFault, due_whole old line after (Ended StoreFault) is ps d)
+  due_cut old line after is s ps d = absurd d
+
   -- a newline ends the unfinished line
-  pub line_ended : (old new : State) (rest : List ℕ) (held : List ℕ) (before after : Option (List ℕ)) (f f' : ℕ) (r : Result Unit Stop)
-      → IsLine rest → held ≡ [] → ServedLine Step old rest new before after f f' r → Serves Step old rest (10 ∷ []) new held before after f f' r
-  line_ended old new rest held before after f f' (Ok u) line none s = (
+  pub line_ended : (old : State) (rest : List ℕ) (At : State → Type 0) (held : List ℕ) (after : Seen) (before now : Option (List ℕ)) (f f' : ℕ) (r : Result Unit Stop)
+      → IsLine rest → held ≡ [] → ServedLine Step Ends Leaves old rest At after before now f f' r → Serves Step Ends Leaves old rest (10 ∷ []) At held after before now f f' r
+  line_ended old rest At held after before now f f' (Ok u) line none s = (
     s.0,
     [],
-    record {
-      lines = rest ∷ [];
-      texts = s.0 ∷ [];
-      cut = record { whole = sym (append-nil _ ∙ append-nil _); each = (line, tt) };
-      unfinished = tt;
-      answered = (new, s.1, refl);
-      written = sym (append-nil _);
-    },
+    s.1,
+    record { texts = s.0 ∷ []; served = one_line old s.1 rest s.0 line s.2; unfinished = tt; written = sym (append-nil _) },
+    s.3,
     none ∙ sym kept-nil,
+    s.4,
+    s.5,
+  )
+  line_ended old rest At held after before now f f' (Err stop) line none s = (
+    s.0,
+    written_behind (DueOfLine Step Ends Leaves old rest after) (DueOfBytes Step Ends Leaves old (rest ++ 10 ∷ []) after) [] stop s.0 (due_whole old rest after stop line) (due_cut old rest after line) s.1,
     s.2,
     s.3,
   )
-  line_ended old new rest held before after f f' (Err OutputFault) line none s = (
-    s.1,
-    record {
-      lines = rest ∷ [];
-      texts = [];
-      last = s.0;
-      front = s.1;
-      back = s.2;
-      more = [];
-      new = new;
-      cut = record { whole = sym (append-nil _ ∙ append-nil _); each = (line, tt) };
-      answered = (new, s.3, refl);
-      part = s.4;
-      written = refl;
-    },
-    s.5,
-    s.6,
-  )
-  line_ended old new rest held before after f f' (Err NoMemory) line none s = (
-    [],
-    record {
-      lines = [];
-      texts = [];
-      more = rest ++ 10 ∷ [];
-      new = old;
-      cut = record { whole = refl; each = tt };
-      answered = refl;
-      written = refl;
-    },
-    s.0,
-    s.1,
-  )
 
   -- a byte that ends no line
-  pub byte_held : (old new : State) (rest : List ℕ) (b : ℕ) (held : List ℕ) (before after : Option (List ℕ)) (f f' : ℕ)
-      → IsLine rest → b ≢ 10 → new ≡ old → held ≡ kept (rest ++ b ∷ []) → after ≡ before → f' ≡ f → Serves Step old rest (b ∷ []) new held before after f f' (Ok tt)
-  byte_held old new rest b held before after f f' line other same is stays still = (
+  pub byte_held : (old : State) (rest : List ℕ) (b : ℕ) (At : State → Type 0) (held : List ℕ) (after : Seen) (before : Option (List ℕ)) (f : ℕ)
+      → IsLine rest → b ≢ 10 → At old → held ≡ kept (rest ++ b ∷ []) → Serves Step Ends Leaves old rest (b ∷ []) At held after before before f f (Ok tt)
+  byte_held old rest b At held after before f line other at is = (
     [],
     rest ++ b ∷ [],
-    record {
-      lines = [];
-      texts = [];
-      cut = record { whole = refl; each = tt };
-      unfinished = AllByRecursion-append (λ byte. byte ≢ 10) rest (b ∷ []) line (other, tt);
-      answered = same;
-      written = refl;
-    },
-    is,
-    subst (λ a. Appends before a []) (sym stays) (Appends-nil before),
-    still,
-  )
-
-  pub byte_refused : (old : State) (rest : List ℕ) (bytes : List ℕ) (new : State) (held : List ℕ) (before after : Option (List ℕ)) (f f' : ℕ)
-      → after ≡ before → f' ≡ f → Serves Step old rest bytes new held before after f f' (Err NoMemory)
-  byte_refused old rest bytes new held before after f f' stays still = (
-    [],
-    record {
-      lines = [];
-      texts = [];
-      more = rest ++ bytes;
-      new = old;
-      cut = record { whole = refl; each = tt };
-      answered = refl;
-      written = refl;
-    },
-    subst (λ a. Appends before a []) (sym stays) (Appends-nil before),
-    still,
-  )
-
-  -- nothing yet
-  pub nothing_fed : (old : State) (rest : List ℕ) (held : List ℕ) (before : Option (List ℕ)) (f : ℕ)
-      → IsLine rest → held ≡ kept rest → Serves Step old rest [] old held before before f f (Ok tt)
-  nothing_fed old rest held before f line is = (
-    [],
-    rest,
-    record {
-      lines = [];
-      texts = [];
-      cut = record { whole = append-nil rest; each = tt };
-      unfinished = line;
-      answered = refl;
-      written = refl;
-    },
+    old,
+    record { texts = []; served = Served-none Step old (rest ++ b ∷ []); unfinished = AllByRecursion-append (λ byte. byte ≢ 10) rest (b ∷ []) line (other, tt); written = refl },
+    at,
     is,
     Appends-nil before,
     refl,
   )
 
+  pub byte_refused : (old : State) (rest : List ℕ) (bytes : List ℕ) (At : State → Type 0) (held : List ℕ) (after : Seen) (before : Option (List ℕ)) (f : ℕ)
+      → Leaves old after → Serves Step Ends Leaves old rest bytes At held after before before f f (Err NoMemory)
+  byte_refused old rest bytes At held after before f leaves =
+      ([], inl (record { pieces = []; due = (rest ++ bytes, old, Served-none Step old (rest ++ bytes), leaves); whole = refl }), Appends-nil before, refl)
+
+  -- nothing yet
+  pub nothing_fed : (old : State) (rest : List ℕ) (At : State → Type 0) (held : List ℕ) (after : Seen) (before : Option (List ℕ)) (f : ℕ)
+      → IsLine rest → held ≡ kept rest → At old → Serves Step Ends Leaves old rest [] At held after before before f f (Ok tt)
+  nothing_fed old rest At held after before f line is at = (
+    [],
+    rest,
+    old,
+    record { texts = []; served = record { lines = []; cut = record { whole = append-nil rest; each = tt }; answered = refl }; unfinished = line; written = refl },
+    at,
+    is,
+    Appends-nil before,
+    refl,
+  )
+
+  -- what is due for bytes, behind lines that are served
+  pub due_behind : (old mid : State) (rest b c : List ℕ) (left : List ℕ) (ts : List (List ℕ)) (after : Seen) → Served Step old (rest ++ b) ts left mid
+      → (s : Status) (ps : List (List ℕ)) → DueOfBytes Step Ends Leaves mid (left ++ c) after s ps → DueOfBytes Step Ends Leaves old (rest ++ (b ++ c)) after s (ts ++ ps)
+  due_behind old mid rest b c left ts after p statuses.NoMemory ps d = (d.0, d.1, Served-append Step old mid d.1 rest b c ts ps left d.0 p d.2, d.3)
+  due_behind old mid rest b c left ts after p statuses.BadTable ps d = record {
+    texts = ts ++ d.texts;
+    more = d.more;
+    end = d.end;
+    line = d.line;
+    last = d.last;
+    served = Served-append Step old mid d.end rest b c ts d.texts left d.more p d.served;
+    next = d.next;
+    ends = d.ends;
+    are = ap (λ t. ts ++ t) d.are ∙ sym (append_assoc ts d.texts (d.last ∷ []));
+  }
+  due_behind old mid rest b c left ts after p statuses.StoreFault ps d = record {
+    texts = ts ++ d.texts;
+    more = d.more;
+    end = d.end;
+    line = d.line;
+    last = d.last;
+    served = Served-append Step old mid d.end rest b c ts d.texts left d.more p d.served;
+    next = d.next;
+    ends = d.ends;
+    are = ap (λ t. ts ++ t) d.are ∙ sym (append_assoc ts d.texts (d.last ∷ []));
+  }
+  due_behind old mid rest b c left ts after p s ps d = absurd d
+
   -- bytes, and then more
-  pub serves_more : (old mid new : State) (rest b c : List ℕ) (held held' : List ℕ) (before between after : Option (List ℕ)) (f f1 f2 : ℕ) (r : Result Unit Stop)
-      → Serves Step old rest b mid held before between f f1 (Ok tt)
-      → ((left : List ℕ) → IsLine left → held ≡ kept left → Serves Step mid left c new held' between after f1 f2 r)
-      → Serves Step old rest (b ++ c) new held' before after f f2 r
-  serves_more old mid new rest b c held held' before between after f f1 f2 (Ok u) p q =
-      let s = q p.1 p.2.unfinished p.3 in (
+  pub serves_more : (old : State) (rest b c : List ℕ) (At Next : State → Type 0) (held held' : List ℕ) (after next : Seen) (before between now : Option (List ℕ)) (f f1 f2 : ℕ) (r : Result Unit Stop)
+      → Serves Step Ends Leaves old rest b At held after before between f f1 (Ok tt)
+      → ((left : List ℕ) (mid : State) → IsLine left → held ≡ kept left → At mid → Serves Step Ends Leaves mid left c Next held' next between now f1 f2 r)
+      → Serves Step Ends Leaves old rest (b ++ c) Next held' next before now f f2 r
+  serves_more old rest b c At Next held held' after next before between now f f1 f2 (Ok u) p q =
+      let s = q p.1 p.2 p.3.unfinished p.5 p.4 in (
         p.0 ++ s.0,
         s.1,
+        s.2,
         record {
-          lines = p.2.lines ++ s.2.lines;
-          texts = p.2.texts ++ s.2.texts;
-          cut = cut-append rest b c _ _ p.1 s.1 p.2.cut s.2.cut;
-          unfinished = s.2.unfinished;
-          answered = Answers-append old mid new _ _ _ _ p.2.answered s.2.answered;
-          written = ap (λ t. t ++ s.0) p.2.written ∙ ap (λ t. concat p.2.texts ++ t) s.2.written ∙ sym (concat-append p.2.texts s.2.texts);
+          texts = p.3.texts ++ s.3.texts;
+          served = Served-append Step old p.2 s.2 rest b c p.3.texts s.3.texts p.1 s.1 p.3.served s.3.served;
+          unfinished = s.3.unfinished;
+          written = ap (λ t. t ++ s.0) p.3.written ∙ ap (λ t. concat p.3.texts ++ t) s.3.written ∙ sym (concat-append p.3.texts s.3.texts);
         },
-        s.3,
-        Appends-trans before between after p.0 s.0 p.4 s.4,
-        s.5 ∙ p.5,
+        s.4,
+        s.5,
+        Appends-trans before between now p.0 s.0 p.6 s.6,
+        s.7 ∙ p.7,
       )
-  serves_more old mid new rest b c held held' before between after f f1 f2 (Err OutputFault) p q =
-      let s = q p.1 p.2.unfinished p.3 in (
+  serves_more old rest b c At Next held held' after next before between now f f1 f2 (Err stop) p q =
+      let s = q p.1 p.2 p.3.unfinished p.5 p.4 in
+      let due = due_behind old p.2 rest b c p.1 p.3.texts next p.3.served in (
         p.0 ++ s.0,
-        record {
-          lines = p.2.lines ++ s.1.lines;
-          texts = p.2.texts ++ s.1.texts;
-          last = s.1.last;
-          front = s.1.front;
-          back = s.1.back;
-          more = s.1.more;
-          new = s.1.new;
-          cut = cut-append rest b c _ _ p.1 s.1.more p.2.cut s.1.cut;
-          answered = rw append_assoc (Answers-append old mid s.1.new _ _ _ _ p.2.answered s.1.answered);
-          part = s.1.part;
-          written = ap (λ t. t ++ s.0) p.2.written ∙ ap (λ t. concat p.2.texts ++ t) s.1.written ∙ sym (append_assoc (concat p.2.texts) (concat s.1.texts) s.1.front)
-              ∙ ap (λ t. t ++ s.1.front) (sym (concat-append p.2.texts s.1.texts));
-        },
-        Appends-trans before between after p.0 s.0 p.4 s.2,
-        subst (λ n. Rose n f2) p.5 s.3,
-      )
-  serves_more old mid new rest b c held held' before between after f f1 f2 (Err NoMemory) p q =
-      let s = q p.1 p.2.unfinished p.3 in (
-        p.0 ++ s.0,
-        record {
-          lines = p.2.lines ++ s.1.lines;
-          texts = p.2.texts ++ s.1.texts;
-          more = s.1.more;
-          new = s.1.new;
-          cut = cut-append rest b c _ _ p.1 s.1.more p.2.cut s.1.cut;
-          answered = Answers-append old mid s.1.new _ _ _ _ p.2.answered s.1.answered;
-          written = ap (λ t. t ++ s.0) p.2.written ∙ ap (λ t. concat p.2.texts ++ t) s.1.written ∙ sym (concat-append p.2.texts s.1.texts);
-        },
-        Appends-trans before between after p.0 s.0 p.4 s.2,
-        s.3 ∙ p.5,
+        subst (λ t. IsWritten (DueOfBytes Step Ends Leaves old (rest ++ (b ++ c)) next) (status_of stop) (t ++ s.0)) (sym p.3.written)
+            (written_behind (DueOfBytes Step Ends Leaves p.2 (p.1 ++ c) next) (DueOfBytes Step Ends Leaves old (rest ++ (b ++ c)) next) p.3.texts stop s.0 (due (status_of stop)) (λ s ps d. (s, due s ps d)) s.1),
+        Appends-trans before between now p.0 s.0 p.6 s.2,
+        faults_since stop f f1 f2 p.7 s.3,
       )
 
   -- a byte that ends no line was kept, or there was no memory for it
-  pub byte_taken : (old new : State) (rest : List ℕ) (b : ℕ) (held : List ℕ) (before : Option (List ℕ)) (f : ℕ) (r : Result Unit Stop)
-      → IsLine rest → b ≢ 10 → new ≡ old → OnOk r (held ≡ kept (rest ++ b ∷ [])) → IfErr r (λ stop. stop ≡ NoMemory)
-      → Serves Step old rest (b ∷ []) new held before before f f r
-  byte_taken old new rest b held before f (Ok u) line other same is stop = byte_held old new rest b held before before f f line other same is refl refl
-  byte_taken old new rest b held before f (Err NoMemory) line other same is stop = byte_refused old rest (b ∷ []) new held before before f f refl refl
-  byte_taken old new rest b held before f (Err OutputFault) line other same is stop = absurd (cc)
+  pub byte_taken : (old : State) (rest : List ℕ) (b : ℕ) (At : State → Type 0) (held : List ℕ) (after : Seen) (before : Option (List ℕ)) (f : ℕ) (r : Result Unit Stop)
+      → IsLine rest → b ≢ 10 → At old → Leaves old after → OnOk r (held ≡ kept (rest ++ b ∷ [])) → IfErr r (λ stop. stop ≡ NoMemory)
+      → Serves Step Ends Leaves old rest (b ∷ []) At held after before before f f r
+  byte_taken old rest b At held after before f (Ok u) line other at leaves is stop = byte_held old rest b At held after before f line other at is
+  byte_taken old rest b At held after before f (Err NoMemory) line other at leaves is stop = byte_refused old rest (b ∷ []) At held after before f leaves
+  byte_taken old rest b At held after before f (Err OutputFault) line other at leaves is stop = absurd (cc)
+  byte_taken old rest b At held after before f (Err (Ended ending)) line other at leaves is stop = absurd (cc)
+
+  -- what is due does not hang on what stands behind
+  due_longer : (old : State) (bytes c : List ℕ) (after : Seen) (s : Status) (ps : List (List ℕ)) → DueOfBytes Step Ends Leaves old bytes after s ps → DueOfBytes Step Ends Leaves old (bytes ++ c) after s ps
+  due_longer old bytes c after statuses.NoMemory ps d = (d.0 ++ c, d.1, Served-longer Step old d.1 bytes c ps d.0 d.2, d.3)
+  due_longer old bytes c after statuses.BadTable ps d = record {
+    texts = d.texts;
+    more = d.more ++ c;
+    end = d.end;
+    line = d.line;
+    last = d.last;
+    served = Served-longer Step old d.end bytes c d.texts d.more d.served;
+    next = next_longer d.more d.line c d.next;
+    ends = d.ends;
+    are = d.are;
+  }
+  due_longer old bytes c after statuses.StoreFault ps d = record {
+    texts = d.texts;
+    more = d.more ++ c;
+    end = d.end;
+    line = d.line;
+    last = d.last;
+    served = Served-longer Step old d.end bytes c d.texts d.more d.served;
+    next = next_longer d.more d.line c d.next;
+    ends = d.ends;
+    are = d.are;
+  }
+  due_longer old bytes c after s ps d = absurd d
 
   -- what stands behind the place where it stopped does not matter
-  pub stopped_before : (old new : State) (rest b c : List ℕ) (held : List ℕ) (before after : Option (List ℕ)) (f f' : ℕ) (stop : Stop)
-      → Serves Step old rest b new held before after f f' (Err stop) → Serves Step old rest (b ++ c) new held before after f f' (Err stop)
-  stopped_before old new rest b c held before after f f' OutputFault s = (
-    s.0,
-    record {
-      lines = s.1.lines;
-      texts = s.1.texts;
-      last = s.1.last;
-      front = s.1.front;
-      back = s.1.back;
-      more = s.1.more ++ c;
-      new = s.1.new;
-      cut = record { whole = sym (append_assoc rest b c) ∙ ap (λ t. t ++ c) s.1.cut.whole ∙ append_assoc (joined_lines s.1.lines) s.1.more c; each = s.1.cut.each };
-      answered = s.1.answered;
-      part = s.1.part;
-      written = s.1.written;
-    },
-    s.2,
-    s.3,
-  )
-  stopped_before old new rest b c held before after f f' NoMemory s = (
-    s.0,
-    record {
-      lines = s.1.lines;
-      texts = s.1.texts;
-      more = s.1.more ++ c;
-      new = s.1.new;
-      cut = record { whole = sym (append_assoc rest b c) ∙ ap (λ t. t ++ c) s.1.cut.whole ∙ append_assoc (joined_lines s.1.lines) s.1.more c; each = s.1.cut.each };
-      answered = s.1.answered;
-      written = s.1.written;
-    },
-    s.2,
-    s.3,
-  )
+  pub stopped_before : (old : State) (rest b c : List ℕ) (At : State → Type 0) (held : List ℕ) (after : Seen) (before now : Option (List ℕ)) (f f' : ℕ) (stop : Stop)
+      → Serves Step Ends Leaves old rest b At held after before now f f' (Err stop) → Serves Step Ends Leaves old rest (b ++ c) At held after before now f f' (Err stop)
+  stopped_before old rest b c At held after before now f f' stop s =
+      let longer : (t : Status) (ps : List (List ℕ)) → DueOfBytes Step Ends Leaves old (rest ++ b) after t ps → DueOfBytes Step Ends Leaves old (rest ++ (b ++ c)) after t ps
+      = λ t ps d. subst (λ bytes. DueOfBytes Step Ends Leaves old bytes after t ps) (append_assoc rest b c) (due_longer old (rest ++ b) c after t ps d) in (
+        s.0,
+        written_behind (DueOfBytes Step Ends Leaves old (rest ++ b) after) (DueOfBytes Step Ends Leaves old (rest ++ (b ++ c)) after) [] stop s.0 (longer (status_of stop)) (λ t ps d. (t, longer t ps d)) s.1,
+        s.2,
+        s.3,
+      )
 
-  pub stopped_at : (old new : State) (rest piece : List ℕ) (i : ℕ) (held : List ℕ) (before after : Option (List ℕ)) (f f' : ℕ) (stop : Stop) → i < length piece
-      → Serves Step old rest (take i piece ++ get_or piece i 0 ∷ []) new held before after f f' (Err stop) → Serves Step old rest piece new held before after f f' (Err stop)
-  stopped_at old new rest piece i held before after f f' stop within s =
+  pub stopped_at : (old : State) (rest piece : List ℕ) (i : ℕ) (At : State → Type 0) (held : List ℕ) (after : Seen) (before now : Option (List ℕ)) (f f' : ℕ) (stop : Stop) → i < length piece
+      → Serves Step Ends Leaves old rest (take i piece ++ get_or piece i 0 ∷ []) At held after before now f f' (Err stop) → Serves Step Ends Leaves old rest piece At held after before now f f' (Err stop)
+  stopped_at old rest piece i At held after before now f f' stop within s =
       let whole : (take i piece ++ get_or piece i 0 ∷ []) ++ drop (i + 1) piece ≡ piece
       = ap (λ t. t ++ drop (i + 1) piece) (sym (take_more piece i 0 within)) ∙ take-append-drop (i + 1) piece in
-      subst (λ bytes. Serves Step old rest bytes new held before after f f' (Err stop)) whole
-      (stopped_before old new rest (take i piece ++ get_or piece i 0 ∷ []) (drop (i + 1) piece) held before after f f' stop s)
+      subst (λ bytes. Serves Step Ends Leaves old rest bytes At held after before now f f' (Err stop)) whole
+      (stopped_before old rest (take i piece ++ get_or piece i 0 ∷ []) (drop (i + 1) piece) At held after before now f f' stop s)

@@ -1,5 +1,5 @@
 -- How bytes are cut into lines.
-use Rattle.std.specs.Prelude.{◌≡◌, ◌≢◌, ℕ, List, [], ◌∷◌, ◌++◌}
+use Rattle.std.specs.Prelude.{◌≡◌, ◌≢◌, ◌⊎◌, ℕ, List, [], ◌∷◌, ◌++◌}
 use Rattle.std.specs.List.{AllByRecursion}
 
 -- a line has no newline in it
@@ -20,3 +20,7 @@ pub record BeginsWithLines (bytes : List ℕ) (lines : List (List ℕ)) (more : 
 abbrev pub last_line : List ℕ → List (List ℕ)
 last_line [] = []
 last_line (byte ∷ rest) = (byte ∷ rest) ∷ []
+
+-- the bytes begin with this line: a newline ends it; or it is all of them, where these are the last ones
+abbrev pub IsNext : Type 0 → List ℕ → List ℕ → Type 0
+IsNext AreLast bytes line = IsLine line × (((rest : List ℕ) × (bytes ≡ line ++ 10 ∷ rest)) ⊎ ((bytes ≡ line) × AreLast))

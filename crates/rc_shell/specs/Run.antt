@@ -1,11 +1,12 @@
--- A run: what is written for the bytes that were taken, for each exit status.
--- It is said of any machine: a start, and a step from a state by a line to a reply's text and the next state.
-use Rattle.std.specs.Prelude.{◌≡◌, ℕ, ◌<◌, ◌≤◌, List, [], ◌∷◌, ◌++◌, length, Bool, true, false, Option, codes}
+-- A run: what is written for the bytes that were taken, and what is left of the store, for each exit status.
+-- It is said of any machine: a start; a step from a state by a line to a text and the next state; the lines that end a run, each with
+-- a status and a last line; and what may be seen of the store where the machine is left in a state.
+use Rattle.std.specs.Prelude.{◌≡◌, ◌⊎◌, ℕ, ◌<◌, ◌≤◌, List, [], ◌∷◌, ◌++◌, length, Bool, true, false, Option, codes}
 use Rattle.std.specs.Io.KnownBytes.{Appends, Consumes, IsAtEnd}
 use Rattle.rc_outside.specs.Faults.{Rose}
-use Rattle.rc_shell.specs.Lines.{IsLine, BeginsWithLines, last_line}
+use Rattle.rc_shell.specs.Lines.{IsLine, BeginsWithLines, last_line, IsNext}
 use Rattle.rc_shell.specs.declared.status.Status.{Status}
-use Rattle.rc_shell.specs.declared.status.Status.TheVariants.{Done, BadWords, NoMemory, InputFault, OutputFault, InputLimit}
+use Rattle.rc_shell.specs.declared.status.Status.TheVariants.{Done, BadWords, BadTable, NoMemory, InputFault, OutputFault, StoreFault, InputLimit}
 
 -- the pieces one behind another
 abbrev pub concat : List (List ℕ) → List ℕ
@@ -27,21 +28,36 @@ input_limit = codes "! input limit\n"
 -- Why it ended so. The input's count of faults rose where that is the status, and at most where memory or the output failed besides;
 -- the output's rose where that is the status, and nowhere else.
 abbrev pub Caused : Status → ℕ → ℕ → ℕ → ℕ → Type 0
-Caused Done input input' output output' = (input' ≡ input) × (output' ≡ output)
-Caused BadWords input input' output output' = (input' ≡ input) × (output' ≡ output)
 Caused NoMemory input input' output output' = output' ≡ output
 Caused InputFault input input' output output' = Rose input input' × (output' ≡ output)
 Caused OutputFault input input' output output' = Rose output output'
-Caused InputLimit input input' output output' = (input' ≡ input) × (output' ≡ output)
+Caused status input input' output output' = (input' ≡ input) × (output' ≡ output)
 
--- the status 0 comes where the input was read to its end
-abbrev pub EndsWith : Status → Option (List ℕ) → Type 0
-EndsWith Done left = IsAtEnd left
-EndsWith BadWords left = Unit {0}
-EndsWith NoMemory left = Unit {0}
-EndsWith InputFault left = Unit {0}
-EndsWith OutputFault left = Unit {0}
-EndsWith InputLimit left = Unit {0}
+-- What is written of pieces that were due with a status.
+module _ (Due : Status → List (List ℕ) → Type 0) where
+  -- all of them
+  pub record IsWhole (status : Status) (text : List ℕ) : Type 0 where
+    pub pieces : List (List ℕ)
+    pub due : Due status pieces
+    pub whole : text ≡ concat pieces
+
+  -- those that were due with whatever status, the last one in part
+  pub record IsCutOff (text : List ℕ) : Type 0 where
+    pub status : Status
+    pub before : List (List ℕ)
+    pub last : List ℕ
+    pub written : List ℕ
+    pub unwritten : List ℕ
+    pub due : Due status (before ++ last ∷ [])
+    pub part : last ≡ written ++ unwritten
+    pub whole : text ≡ concat before ++ written
+
+  -- what is written where this is the status: all of them; in part where the output failed; and where memory ran out, one more may have
+  -- been due of which nothing is written
+  abbrev pub IsWritten : Status → List ℕ → Type 0
+  IsWritten OutputFault text = IsCutOff text
+  IsWritten NoMemory text = IsWhole NoMemory text ⊎ ((c : IsCutOff text) × (c.written ≡ []))
+  IsWritten status text = IsWhole status text
 
 module _ {State : Type 0} (Step : State → List ℕ → List ℕ → State → Type 0) where
   -- from old the machine may answer these lines with these texts, one after another, and is then new
@@ -51,68 +67,57 @@ module _ {State : Type 0} (Step : State → List ℕ → List ℕ → State → 
   Answers old [] (text ∷ texts) new = ⊥
   Answers old (line ∷ lines) [] new = ⊥
 
-  -- these texts answer these lines, from the start
-  abbrev pub AnswersFrom : State → List (List ℕ) → List (List ℕ) → Type 0
-  AnswersFrom start lines texts = (end : State) × Answers start lines texts end
+  -- the bytes begin with whole lines that may be answered by these texts, and more comes behind them; the machine is then new
+  pub record Served (old : State) (bytes : List ℕ) (texts : List (List ℕ)) (more : List ℕ) (new : State) : Type 0 where
+    pub lines : List (List ℕ)
+    pub cut : BeginsWithLines bytes lines more
+    pub answered : Answers old lines texts new
 
-  -- What was due, piece by piece, where the words are those of a run (true) or not, for the bytes taken and a status.
-  abbrev pub Due : Bool → State → ℕ → List ℕ → Status → List (List ℕ) → Type 0
-  -- the text for each line, the last one without a newline too
-  Due true start limit taken Done pieces =
-      (lines : List (List ℕ)) × (rest : List ℕ) × BeginsWithLines taken lines rest × IsLine rest × (length taken < limit) × AnswersFrom start (lines ++ last_line rest) pieces
-  -- the text for each whole line, then a last line on the fault
-  Due true start limit taken InputFault pieces =
-      (lines : List (List ℕ)) × (rest : List ℕ) × (texts : List (List ℕ)) × BeginsWithLines taken lines rest × IsLine rest × (length taken < limit) × AnswersFrom start lines texts
-      × (pieces ≡ texts ++ input_fault ∷ [])
-  -- the text for each whole line, then a last line on the limit
-  Due true start limit taken InputLimit pieces =
-      (lines : List (List ℕ)) × (rest : List ℕ) × (texts : List (List ℕ)) × BeginsWithLines taken lines rest × IsLine rest × (length taken ≡ limit) × AnswersFrom start lines texts
-      × (pieces ≡ texts ++ input_limit ∷ [])
-  -- the text for each of some first lines
-  Due true start limit taken NoMemory pieces =
-      (lines : List (List ℕ)) × (more : List ℕ) × BeginsWithLines taken lines more × (length taken ≤ limit) × AnswersFrom start lines pieces
-  -- nothing is taken where the words are refused
-  Due false start limit taken BadWords pieces = (taken ≡ []) × (pieces ≡ bad_words ∷ [])
-  Due false start limit taken NoMemory pieces = (taken ≡ []) × (pieces ≡ [])
-  -- no other status comes; what an output fault leaves is said below
-  Due true start limit taken BadWords pieces = ⊥
-  Due true start limit taken OutputFault pieces = ⊥
-  Due false start limit taken Done pieces = ⊥
-  Due false start limit taken InputFault pieces = ⊥
-  Due false start limit taken InputLimit pieces = ⊥
-  Due false start limit taken OutputFault pieces = ⊥
-
-  -- Of what was due, with whatever status, the last piece is written in part, and all before it whole.
-  pub record IsCutOff (right : Bool) (start : State) (limit : ℕ) (taken text : List ℕ) : Type 0 where
-    pub due : Status
-    pub before : List (List ℕ)
+module _ {State Seen : Type 0} (Step : State → List ℕ → List ℕ → State → Type 0) (Ends : State → List ℕ → Status → List ℕ → Seen → Type 0) (Leaves : State → Seen → Type 0) where
+  -- behind whole lines that are answered, a line ends the run: the pieces are the texts and its last line
+  pub record IsEnded (AreLast : Type 0) (start : State) (bytes : List ℕ) (after : Seen) (status : Status) (pieces : List (List ℕ)) : Type 0 where
+    pub texts : List (List ℕ)
+    pub more : List ℕ
+    pub end : State
+    pub line : List ℕ
     pub last : List ℕ
-    pub written : List ℕ
-    pub unwritten : List ℕ
-    pub pieces : Due right start limit taken due (before ++ last ∷ [])
-    pub part : last ≡ written ++ unwritten
-    pub whole : text ≡ concat before ++ written
+    pub served : Served Step start bytes texts more end
+    pub next : IsNext AreLast more line
+    pub ends : Ends end line status last after
+    pub are : pieces ≡ texts ++ last ∷ []
 
-  pub record IsWhole (right : Bool) (start : State) (limit : ℕ) (taken : List ℕ) (status : Status) (text : List ℕ) : Type 0 where
-    pub pieces : List (List ℕ)
-    pub due : Due right start limit taken status pieces
-    pub whole : text ≡ concat pieces
+  -- the input was read to its end, below the limit
+  abbrev pub WasRead : ℕ → Option (List ℕ) → List ℕ → Type 0
+  WasRead limit left taken = IsAtEnd left × (length taken < limit)
 
-  -- what is written where so many bytes were taken and this is the status
-  abbrev pub IsRun : Bool → State → ℕ → List ℕ → Status → List ℕ → Type 0
-  IsRun right start limit taken Done text = IsWhole right start limit taken Done text
-  IsRun right start limit taken BadWords text = IsWhole right start limit taken BadWords text
-  IsRun right start limit taken NoMemory text = IsWhole right start limit taken NoMemory text
-  IsRun right start limit taken InputFault text = IsWhole right start limit taken InputFault text
-  IsRun right start limit taken OutputFault text = IsCutOff right start limit taken text
-  IsRun right start limit taken InputLimit text = IsWhole right start limit taken InputLimit text
+  -- What was due, piece by piece, where the words are those of a run (true) or not: for the bytes that were taken, what the input has
+  -- left, what is seen of the store then, and a status.
+  abbrev pub Due : Bool → State → ℕ → Option (List ℕ) → List ℕ → Seen → Status → List (List ℕ) → Type 0
+  -- the text for each line, the last one without a newline too
+  Due true start limit left taken after Done pieces =
+      (lines : List (List ℕ)) × (rest : List ℕ) × (end : State) × BeginsWithLines taken lines rest × IsLine rest × WasRead limit left taken × Answers Step start (lines ++ last_line rest) pieces end × Leaves end after
+  -- the text for each whole line, then a last line on the fault
+  Due true start limit left taken after InputFault pieces =
+      (texts : List (List ℕ)) × (rest : List ℕ) × (end : State) × Served Step start taken texts rest end × IsLine rest × (length taken < limit) × Leaves end after × (pieces ≡ texts ++ input_fault ∷ [])
+  -- the text for each whole line, then a last line on the limit
+  Due true start limit left taken after InputLimit pieces =
+      (texts : List (List ℕ)) × (rest : List ℕ) × (end : State) × Served Step start taken texts rest end × IsLine rest × (length taken ≡ limit) × Leaves end after × (pieces ≡ texts ++ input_limit ∷ [])
+  -- the text for each of some first lines
+  Due true start limit left taken after NoMemory pieces = (more : List ℕ) × (end : State) × Served Step start taken pieces more end × (length taken ≤ limit) × Leaves end after
+  -- the text for each of some first lines, then the last line for the next one, which ends the run
+  Due true start limit left taken after BadTable pieces = IsEnded (WasRead limit left taken) start taken after BadTable pieces × (length taken ≤ limit)
+  Due true start limit left taken after StoreFault pieces = IsEnded (WasRead limit left taken) start taken after StoreFault pieces × (length taken ≤ limit)
+  -- nothing is taken where the words are refused
+  Due false start limit left taken after BadWords pieces = (taken ≡ []) × Leaves start after × (pieces ≡ bad_words ∷ [])
+  -- nothing else is due
+  Due right start limit left taken after status pieces = ⊥
 
-  -- A run over an input and an output: bytes are taken from the one, and what is written to the other is that of a run, with its cause.
-  pub record Ran (right : Bool) (start : State) (limit : ℕ) (status : Status) (left left' written written' : Option (List ℕ)) (input input' output output' : ℕ) : Type 0 where
+  -- A run over an input, an output and a store: bytes are taken from the one, what is written to the other is that of a run, and after it
+  -- this is seen of the store; with its cause.
+  pub record Ran (right : Bool) (start : State) (limit : ℕ) (status : Status) (left left' written written' : Option (List ℕ)) (after : Seen) (input input' output output' : ℕ) : Type 0 where
     pub taken : List ℕ
     pub text : List ℕ
     pub consumed : Consumes left left' taken
     pub appended : Appends written written' text
-    pub run : IsRun right start limit taken status text
-    pub ended : EndsWith status left'
+    pub run : IsWritten (Due right start limit left' taken after) status text
     pub cause : Caused status input input' output output'

@@ -1,14 +1,13 @@
 //! A run of the program.
 
-ghost use Rattle.std.specs.Prelude.{◌≡◌, ◌^◌, ℕ, List, map, string_bytes};
-ghost use Rattle.rc_machine.specs.Machine.{start};
+ghost use Rattle.std.specs.Prelude.{◌≡◌, ◌^◌, ℕ, List, map, string_bytes, false};
 ghost use Rattle.rc_shell.specs.Run.{Ran};
-ghost use Rattle.rc_shell.specs.Step.{LineStep};
+ghost use Rattle.rc_shell.specs.Step.{LineStep, Ends, Leaves, start};
 ghost use Rattle.rc_shell.specs.Words.{are_run};
 
+use crate::late::LateMachine;
 use crate::session::{Session, push_last};
 use crate::status::Status;
-use rc_machine::Machine;
 use rc_outside::{Sink, Source, Store};
 use std::alloc::Global;
 
@@ -21,7 +20,7 @@ const PIECE: usize = 65_536;
 /// The last line of a run whose words are not those of a run.
 const BAD_WORDS: &[u8] = b"! bad words\n";
 
-/// Serves the lines of the input, each answered before the next is read, up to 2^40 bytes.
+/// Serves the lines of the input over the store, each answered before the next is read, up to 2^40 bytes.
 pub fn run<W: Store, I: Source, K: Sink>(
     alloc: Global,
     words: &[String],
@@ -29,10 +28,10 @@ pub fn run<W: Store, I: Source, K: Sink>(
     input: &mut I,
     out: &mut K,
 ) -> Status
-    ensures run { Ran LineStep (are_run (map string_bytes words.now)) start (2 ^ 40) result (I.left input.old) (I.left input.new) (K.written out.old) (K.written out.new)
-        (I.faults input.old) (I.faults input.new) (K.faults out.old) (K.faults out.new) }
-    // The store is asked for nothing.
-    ensures store { store.new ≡ store.old }
+    ensures run { Ran LineStep Ends Leaves (are_run (map string_bytes words.now)) (start (W.files store.old, W.faults store.old)) (2 ^ 40) result (I.left input.old) (I.left input.new) (K.written out.old) (K.written out.new)
+        (W.files store.new, W.faults store.new) (I.faults input.old) (I.faults input.new) (K.faults out.old) (K.faults out.new) }
+    // The store is asked for nothing where the words are refused.
+    ensures refused { are_run (map string_bytes words.now) ≡ false → store.new ≡ store.old }
 {
     run_with(alloc, words, store, input, out, INPUT_LIMIT)
 }
@@ -46,18 +45,17 @@ pub fn run_with<W: Store, I: Source, K: Sink>(
     out: &mut K,
     limit: u64,
 ) -> Status
-    ensures run { Ran LineStep (are_run (map string_bytes words.now)) start limit result (I.left input.old) (I.left input.new) (K.written out.old) (K.written out.new)
-        (I.faults input.old) (I.faults input.new) (K.faults out.old) (K.faults out.new) }
-    // The store is asked for nothing.
-    ensures store { store.new ≡ store.old }
+    ensures run { Ran LineStep Ends Leaves (are_run (map string_bytes words.now)) (start (W.files store.old, W.faults store.old)) limit result (I.left input.old) (I.left input.new) (K.written out.old) (K.written out.new)
+        (W.files store.new, W.faults store.new) (I.faults input.old) (I.faults input.new) (K.faults out.old) (K.faults out.new) }
+    // The store is asked for nothing where the words are refused.
+    ensures refused { are_run (map string_bytes words.now) ≡ false → store.new ≡ store.old }
 {
-    let _ = store;
     if !are_run(words) {
         return push_last(out, BAD_WORDS, Status::BadWords);
     }
     match vec![in alloc; 0u8; PIECE] {
-        Ok(mut piece) => Session::new(alloc, Machine::new(alloc)).serve_input(
-            alloc, input, &mut piece, out, limit,
+        Ok(mut piece) => Session::new(alloc, LateMachine::new()).serve_input(
+            alloc, store, input, &mut piece, out, limit,
         ),
         Err(_) => Status::NoMemory,
     }

@@ -4,13 +4,15 @@ ghost use Rattle.std.specs.Prelude.{◌≡◌, ℕ, ◌+◌, ◌<◌, ◌≤◌,
 ghost use Rattle.std.specs.Io.KnownBytes.{Appends, IsAtEnd};
 ghost use Rattle.rc_outside.specs.Faults.{Rose};
 ghost use Rattle.rc_shell.specs.Lines.{IsLine};
-ghost use Rattle.rc_shell.specs.Feed.{PushedText, ServedLine, ServedLast, Serves, SoFar, TurnGave, EndedBy, kept};
+ghost use Rattle.rc_shell.specs.Feed.{PushedText, PushedAnswer, ServedLine, ServedLast, Serves, SoFar, TurnGave, EndedBy, kept};
 ghost use Rattle.rc_shell.specs.Run.{Ran};
+ghost use Rattle.rc_shell.specs.Status.{stop_by};
+ghost use Rattle.rc_shell.specs.Step.{Moment, LineStep, Ends, Leaves};
 
 use crate::server::Server;
-use crate::status::{Status, Stop};
+use crate::status::{Ending, Status, Stop};
 use rc_lines::LONGEST_LINE;
-use rc_outside::{Sink, SinkErr, Source};
+use rc_outside::{Sink, SinkErr, Source, Store};
 use std::alloc::Global;
 
 /// The last line of a run whose input failed.
@@ -41,6 +43,27 @@ fn push_text<K: Sink>(out: &mut K, text: &[u8]) -> Result<(), Stop>
     }
 }
 
+/// Pushes what a line is answered: its text, or the last line of a run that it ended, which stops so, unless the output or memory fails.
+fn push_answer<K: Sink>(out: &mut K, text: &[u8], ending: Option<Ending>) -> Result<(), Stop>
+    ensures { PushedAnswer ending (K.written out.old) (K.written out.new) (K.faults out.old) (K.faults out.new) text.now result }
+{
+    let pushed = push_text(out, text);
+    match ending {
+        None => pushed,
+        Some(ending) => Err(stop_by(pushed, ending)),
+    }
+}
+
+/// The stop behind a pushed last line.
+fn stop_by(pushed: Result<(), Stop>, ending: Ending) -> Stop
+    ensures { result ≡ stop_by pushed ending }
+{
+    match pushed {
+        Ok(()) => Stop::Ended(ending),
+        Err(stop) => stop,
+    }
+}
+
 impl<S: Server> Session<S> {
     /// A session before the first byte.
     pub(crate) fn new(alloc: Global, server: S) -> Self
@@ -55,18 +78,26 @@ impl<S: Server> Session<S> {
     }
 
     /// Answers the line of which the front is held, and holds nothing then.
-    fn serve_held<K: Sink>(&mut self, alloc: Global, out: &mut K) -> Result<(), Stop>
-        ensures served { (line : List ℕ) → self.old.held.items ≡ kept line →
-            ServedLine S.step self.old.server line self.new.server (K.written out.old) (K.written out.new) (K.faults out.old) (K.faults out.new) result }
+    fn serve_held<W: Store, K: Sink>(
+        &mut self,
+        alloc: Global,
+        store: &mut W,
+        out: &mut K,
+    ) -> Result<(), Stop>
+        requires stands { (now : Moment) × S.stands self.old.server (W.files store.old) (W.faults store.old) now }
+        ensures served { (line : List ℕ) (old : Moment) → self.old.held.items ≡ kept line → S.stands self.old.server (W.files store.old) (W.faults store.old) old →
+            ServedLine LineStep Ends Leaves old line (S.stands self.new.server (W.files store.new) (W.faults store.new)) (W.files store.new, W.faults store.new)
+            (K.written out.old) (K.written out.new) (K.faults out.old) (K.faults out.new) result }
+        ensures stands { OnOk result ((now : Moment) × S.stands self.new.server (W.files store.new) (W.faults store.new) now) }
         ensures held { self.new.held.items ≡ [] }
     {
         self.text.clear();
         let answered = self
             .server
-            .answer(alloc, self.held.as_slice(), &mut self.text);
+            .answer(alloc, store, self.held.as_slice(), &mut self.text);
         self.held.clear();
         match answered {
-            Ok(()) => push_text(out, self.text.as_slice()),
+            Ok(ending) => push_answer(out, self.text.as_slice(), ending),
             Err(_) => Err(Stop::NoMemory),
         }
     }
@@ -87,69 +118,100 @@ impl<S: Server> Session<S> {
     }
 
     /// Serves one byte of the input.
-    fn take_byte<K: Sink>(&mut self, alloc: Global, byte: u8, out: &mut K) -> Result<(), Stop>
-        ensures { (rest : List ℕ) → IsLine rest → self.old.held.items ≡ kept rest →
-            Serves S.step self.old.server rest (byte ∷ []) self.new.server self.new.held.items (K.written out.old) (K.written out.new) (K.faults out.old) (K.faults out.new) result }
+    fn take_byte<W: Store, K: Sink>(
+        &mut self,
+        alloc: Global,
+        byte: u8,
+        store: &mut W,
+        out: &mut K,
+    ) -> Result<(), Stop>
+        requires stands { (now : Moment) × S.stands self.old.server (W.files store.old) (W.faults store.old) now }
+        ensures served { (rest : List ℕ) (old : Moment) → IsLine rest → self.old.held.items ≡ kept rest → S.stands self.old.server (W.files store.old) (W.faults store.old) old →
+            Serves LineStep Ends Leaves old rest (byte ∷ []) (S.stands self.new.server (W.files store.new) (W.faults store.new)) self.new.held.items (W.files store.new, W.faults store.new)
+            (K.written out.old) (K.written out.new) (K.faults out.old) (K.faults out.new) result }
+        ensures stands { OnOk result ((now : Moment) × S.stands self.new.server (W.files store.new) (W.faults store.new) now) }
     {
         if byte == b'\n' {
-            return self.serve_held(alloc, out);
+            return self.serve_held(alloc, store, out);
         }
         self.hold(byte)
     }
 
     /// Serves the bytes of a piece: each whole line is answered, and the last, unfinished one is kept.
-    fn feed<K: Sink>(&mut self, alloc: Global, piece: &[u8], out: &mut K) -> Result<(), Stop>
-        ensures { (rest : List ℕ) → IsLine rest → self.old.held.items ≡ kept rest →
-            Serves S.step self.old.server rest piece.now self.new.server self.new.held.items (K.written out.old) (K.written out.new) (K.faults out.old) (K.faults out.new) result }
+    fn feed<W: Store, K: Sink>(
+        &mut self,
+        alloc: Global,
+        piece: &[u8],
+        store: &mut W,
+        out: &mut K,
+    ) -> Result<(), Stop>
+        requires stands { (now : Moment) × S.stands self.old.server (W.files store.old) (W.faults store.old) now }
+        ensures served { (rest : List ℕ) (old : Moment) → IsLine rest → self.old.held.items ≡ kept rest → S.stands self.old.server (W.files store.old) (W.faults store.old) old →
+            Serves LineStep Ends Leaves old rest piece.now (S.stands self.new.server (W.files store.new) (W.faults store.new)) self.new.held.items (W.files store.new, W.faults store.new)
+            (K.written out.old) (K.written out.new) (K.faults out.old) (K.faults out.new) result }
+        ensures stands { OnOk result ((now : Moment) × S.stands self.new.server (W.files store.new) (W.faults store.new) now) }
     {
         for byte in piece {
-            self.take_byte(alloc, *byte, out)?;
+            self.take_byte(alloc, *byte, store, out)?;
         }
         Ok(())
     }
 
     /// The input is at its end: what is unfinished is a last line, where it is not empty.
-    fn serve_last<K: Sink>(&mut self, alloc: Global, out: &mut K) -> Result<(), Stop>
-        ensures { (rest : List ℕ) → self.old.held.items ≡ kept rest →
-            ServedLast S.step self.old.server rest self.new.server (K.written out.old) (K.written out.new) (K.faults out.old) (K.faults out.new) result }
+    fn serve_last<W: Store, K: Sink>(
+        &mut self,
+        alloc: Global,
+        store: &mut W,
+        out: &mut K,
+    ) -> Result<(), Stop>
+        requires stands { (now : Moment) × S.stands self.old.server (W.files store.old) (W.faults store.old) now }
+        ensures { (rest : List ℕ) (old : Moment) → self.old.held.items ≡ kept rest → S.stands self.old.server (W.files store.old) (W.faults store.old) old →
+            ServedLast LineStep Ends Leaves old rest (S.stands self.new.server (W.files store.new) (W.faults store.new)) (W.files store.new, W.faults store.new)
+            (K.written out.old) (K.written out.new) (K.faults out.old) (K.faults out.new) result }
     {
         if self.held.is_empty() {
             return Ok(());
         }
-        self.serve_held(alloc, out)
+        self.serve_held(alloc, store, out)
     }
 
     /// Takes one piece of the input and serves it: how many bytes it took, or how the run ended.
-    fn turn<I: Source, K: Sink>(
+    fn turn<W: Store, I: Source, K: Sink>(
         &mut self,
         alloc: Global,
+        store: &mut W,
         input: &mut I,
         piece: &mut [u8],
         out: &mut K,
     ) -> Result<usize, Status>
-        requires { 0 < length piece.old }
+        requires room { 0 < length piece.old }
+        requires stands { (now : Moment) × S.stands self.old.server (W.files store.old) (W.faults store.old) now }
         ensures within { IfOk result (λ count. (0 < count) × (count ≤ length piece.old)) }
-        ensures run { (start : S) (limit count : ℕ) (left written : Option (List ℕ)) (faults faults2 : ℕ) → count + length piece.old ≤ limit →
-            SoFar S.step start self.old.server self.old.held.items count left (I.left input.old) written (K.written out.old) faults (I.faults input.old) faults2 (K.faults out.old) →
-            TurnGave S.step start limit self.new.server self.new.held.items count left (I.left input.new) written (K.written out.new) faults (I.faults input.new) faults2 (K.faults out.new) result }
+        ensures stands { OnOk result ((now : Moment) × S.stands self.new.server (W.files store.new) (W.faults store.new) now) }
+        ensures run { (start : Moment) (limit count : ℕ) (left written : Option (List ℕ)) (faults faults2 : ℕ) → count + length piece.old ≤ limit →
+            SoFar LineStep Ends Leaves start (S.stands self.old.server (W.files store.old) (W.faults store.old)) self.old.held.items count left (I.left input.old) written (K.written out.old)
+            faults (I.faults input.old) faults2 (K.faults out.old) →
+            TurnGave LineStep Ends Leaves start limit (S.stands self.new.server (W.files store.new) (W.faults store.new)) self.new.held.items count left (I.left input.new) written (K.written out.new)
+            (W.files store.new, W.faults store.new) faults (I.faults input.new) faults2 (K.faults out.new) result }
     {
         match input.pull(piece) {
             Err(_) => Err(push_last(out, INPUT_FAULT, Status::InputFault)),
-            Ok(0) => match self.serve_last(alloc, out) {
+            Ok(0) => match self.serve_last(alloc, store, out) {
                 Ok(()) => Err(Status::Done),
                 Err(stop) => Err(stop.status()),
             },
-            Ok(count) => match self.feed(alloc, &piece[..count], out) {
+            Ok(count) => match self.feed(alloc, &piece[..count], store, out) {
                 Ok(()) => Ok(count),
                 Err(stop) => Err(stop.status()),
             },
         }
     }
 
-    /// Serves the input to its end, its fault or the limit.
-    pub(crate) fn serve_input<I: Source, K: Sink>(
+    /// Serves the input to its end, its fault or the limit, or to a line that ends the run.
+    pub(crate) fn serve_input<W: Store, I: Source, K: Sink>(
         &mut self,
         alloc: Global,
+        store: &mut W,
         input: &mut I,
         piece: &mut [u8],
         out: &mut K,
@@ -157,13 +219,15 @@ impl<S: Server> Session<S> {
     ) -> Status
         requires room { 0 < length piece.old }
         requires fresh { self.old.held.items ≡ [] }
-        ensures { Ran S.step true self.old.server limit result (I.left input.old) (I.left input.new) (K.written out.old) (K.written out.new)
+        requires stands { (now : Moment) × S.stands self.old.server (W.files store.old) (W.faults store.old) now }
+        ensures { (start : Moment) → S.stands self.old.server (W.files store.old) (W.faults store.old) start →
+            Ran LineStep Ends Leaves true start limit result (I.left input.old) (I.left input.new) (K.written out.old) (K.written out.new) (W.files store.new, W.faults store.new)
             (I.faults input.old) (I.faults input.new) (K.faults out.old) (K.faults out.new) }
     {
         let mut taken = 0u64;
         while taken < limit {
             let room = piece_len(piece.len(), limit - taken);
-            match self.turn(alloc, input, &mut piece[..room], out) {
+            match self.turn(alloc, store, input, &mut piece[..room], out) {
                 Ok(count) => taken += count as u64,
                 Err(status) => return status,
             }

@@ -1,6 +1,6 @@
 //! How a run ends.
 
-ghost use Rattle.rc_shell.specs.Status.{code_of, status_of};
+ghost use Rattle.rc_shell.specs.Status.{code_of, status_at, status_of};
 ghost use Rattle.std.specs.Prelude.{◌≡◌};
 
 /// How a run ended.
@@ -10,12 +10,16 @@ pub enum Status {
     Done,
     /// 2: the words are not those of a run.
     BadWords,
+    /// 3: a table of the folder is damaged, or has another schema than the schema line.
+    BadTable,
     /// 4: memory ran out.
     NoMemory,
     /// 5: the input failed.
     InputFault,
     /// 6: the output failed.
     OutputFault,
+    /// 7: the store failed while its tables were checked.
+    StoreFault,
     /// 8: the limit of the input was reached.
     InputLimit,
 }
@@ -28,10 +32,31 @@ impl Status {
         match self {
             Status::Done => 0,
             Status::BadWords => 2,
+            Status::BadTable => 3,
             Status::NoMemory => 4,
             Status::InputFault => 5,
             Status::OutputFault => 6,
+            Status::StoreFault => 7,
             Status::InputLimit => 8,
+        }
+    }
+}
+
+/// Why a line ended the run.
+#[derive(Clone, Copy, Debug, PartialEq, Eq)]
+pub enum Ending {
+    BadTable,
+    StoreFault,
+}
+
+impl Ending {
+    /// The status with which a run ends that a line ended so.
+    pub fn status(self) -> Status
+        ensures { result ≡ status_at self }
+    {
+        match self {
+            Ending::BadTable => Status::BadTable,
+            Ending::StoreFault => Status::StoreFault,
         }
     }
 }
@@ -41,6 +66,7 @@ impl Status {
 pub enum Stop {
     NoMemory,
     OutputFault,
+    Ended(Ending),
 }
 
 impl Stop {
@@ -51,6 +77,7 @@ impl Stop {
         match self {
             Stop::NoMemory => Status::NoMemory,
             Stop::OutputFault => Status::OutputFault,
+            Stop::Ended(ending) => ending.status(),
         }
     }
 }

@@ -1,13 +1,17 @@
--- The held front decides what the line is answered, and the reply is what was pushed.
-use Rattle.std.proofs.Common.{◌≡◌, ℕ, List, ◌++◌, ◌∙◌, ap, subst}
+-- The held front decides what the line is answered, and that is what was pushed.
+use Rattle.std.proofs.Common.{◌≡◌, List, ℕ, ◌∙◌}
 use Rattle.rc_shell.specs.Feed.{kept}
-use Rattle.rc_shell.proofs.Serving.{served}
+use Rattle.rc_shell.proofs.Held.{held_answered, held_unserved}
 use Rattle.rc_shell.proofs.session.Session.serve_held.Goals as goal
 
 pub returns-in-Ok-clause-served : goal.returns-in-Ok-clause-served
-returns-in-Ok-clause-served g c = λ line is.
-    let reply = c.in-Ok.ensures.0 in
+returns-in-Ok-clause-served g c = λ line old is at.
     let front : c.as_slice.result.now ≡ kept line = ◌∙◌ {A = List ℕ} c.as_slice.ensures.value is in
-    let pushed : c.as_slice-in-Ok.result.now ≡ reply = ◌∙◌ {A = List ℕ} c.as_slice-in-Ok.ensures.value (◌∙◌ {A = List ℕ} c.in-Ok.ensures.1 (ap (λ t. t ++ reply) c.clear.ensures.items)) in
-    let step = g.met.S.Server.front_decides _ _ line reply (subst (λ l. g.S.Server.step c.args.self.now.server l reply c.answer-answered.new.self) front c.in-Ok.ensures.2) in
-    served g.S.Server.step _ _ line reply _ _ _ _ c.push_text.result step (rw pushed at c.push_text.ensures)
+    held_answered old line c.as_slice.result.now _ _ _ _ _ c.in-Ok.ending _ _ _ _ c.push_answer.result front c.clear.ensures.items c.as_slice-in-Ok.ensures.value
+    (λ m stands. g.met.S.Server.leaves _ _ _ m stands) (c.in-Ok.ensures old at) c.push_answer.ensures
+
+pub returns-in-Err-clause-served : goal.returns-in-Err-clause-served
+returns-in-Err-clause-served g c = λ line old is at.
+    let front : c.as_slice.result.now ≡ kept line = ◌∙◌ {A = List ℕ} c.as_slice.ensures.value is in
+    held_unserved old line c.as_slice.result.now
+    (g.S.Server.stands c.answer-answered.new.self (g.W.Store.files c.answer-answered.new.store) (g.W.Store.faults c.answer-answered.new.store)) _ _ _ front (c.in-Err.ensures old at)
