@@ -1,5 +1,5 @@
 -- What stands at each key after a value is put at one.
-use Rattle.std.proofs.Common.{◌≡◌, ℕ, true, false, cond, List, [], ◌∷◌, ◌++◌, Option, Some, None, unwrap_or, refl, sym, ap, ◌∙◌, append-nil}
+use Rattle.std.proofs.Common.{◌≡◌, ℕ, true, false, cond, List, [], ◌∷◌, ◌++◌, Option, Some, None, unwrap_or, refl, ap, ◌∙◌}
 use Rattle.std.specs.Option.{option_map}
 use Rattle.std.specs.Ordering.{eq_by_cmp, is_eq}
 use Rattle.std.specs.declared.cmp.Ordering.{Ordering}
@@ -8,7 +8,7 @@ use Rattle.std.specs.Global.{Vec}
 use Rattle.std.specs.BTreeMap.{BTreeMap, get}
 use Rattle.rc_position.specs.Position.{bytes_cmp}
 use Rattle.rc_position.specs.OrderLaws.{bytes_cmp_same}
-use Rattle.rc_machine.specs.Index.{numbers_of}
+use Rattle.rc_machine.specs.Index.{found, numbers_of}
 
 -- the key has the value, and each other key what it had
 abbrev pub HasPut : BTreeMap (List ℕ) (Vec ℕ) → BTreeMap (List ℕ) (Vec ℕ) → List ℕ → Vec ℕ → Type 0
@@ -23,27 +23,27 @@ pub key_is : (key q : List ℕ) → eq_by_cmp bytes_cmp key q ≡ true → key �
 key_is key q e = bytes_cmp_same key q (equal_is (bytes_cmp key q) e)
 
 -- a number more at the key
-pub number_put : (old new : BTreeMap (List ℕ) (Vec ℕ)) (key : List ℕ) (value : Vec ℕ) (number : ℕ) → HasPut old new key value → value.items ≡ numbers_of old key ++ number ∷ []
-    → (q : List ℕ) → numbers_of new q ≡ numbers_of old q ++ cond (eq_by_cmp bytes_cmp key q) (number ∷ []) []
-number_put old new key value number put more q =
-    ap (λ (o : Option (Vec ℕ)). unwrap_or (option_map (λ (v : Vec ℕ). v.items) o) []) (put q)
-    ∙ elim (eq_by_cmp bytes_cmp key q) as (λ b. eq_by_cmp bytes_cmp key q ≡ b → unwrap_or (option_map (λ (v : Vec ℕ). v.items) (cond b (Some value) (get bytes_cmp old q))) [] ≡ numbers_of old q ++ cond b (number ∷ []) []) [
-      | true ↦ λ e. more ∙ ap (λ k. numbers_of old k ++ number ∷ []) (key_is key q e)
-      | false ↦ λ e. sym (append-nil (numbers_of old q))
-    ] refl
+pub found_put : (old new : BTreeMap (List ℕ) (Vec ℕ)) (key : List ℕ) (value : Vec ℕ) (number : ℕ) → HasPut old new key value → value.items ≡ numbers_of old key ++ number ∷ []
+    → (q : List ℕ) → found new q ≡ cond (eq_by_cmp bytes_cmp key q) (Some (numbers_of old key ++ number ∷ [])) (found old q)
+found_put old new key value number put more q =
+    ap (option_map (λ (v : Vec ℕ). v.items)) (put q)
+    ∙ elim (eq_by_cmp bytes_cmp key q) as (λ b. option_map (λ (v : Vec ℕ). v.items) (cond b (Some value) (get bytes_cmp old q)) ≡ cond b (Some (numbers_of old key ++ number ∷ [])) (found old q)) [ true ↦ ap Some more | false ↦ refl ]
 
 -- the same numbers at the key
-pub numbers_kept : (old new : BTreeMap (List ℕ) (Vec ℕ)) (key : List ℕ) (value : Vec ℕ) → HasPut old new key value → value.items ≡ numbers_of old key → (q : List ℕ) → numbers_of new q ≡ numbers_of old q
-numbers_kept old new key value put same q =
-    ap (λ (o : Option (Vec ℕ)). unwrap_or (option_map (λ (v : Vec ℕ). v.items) o) []) (put q)
-    ∙ elim (eq_by_cmp bytes_cmp key q) as (λ b. eq_by_cmp bytes_cmp key q ≡ b → unwrap_or (option_map (λ (v : Vec ℕ). v.items) (cond b (Some value) (get bytes_cmp old q))) [] ≡ numbers_of old q) [
-      | true ↦ λ e. same ∙ ap (numbers_of old) (key_is key q e)
+pub found_kept : (old new : BTreeMap (List ℕ) (Vec ℕ)) (key : List ℕ) (value : Vec ℕ) → HasPut old new key value → Some value.items ≡ found old key → (q : List ℕ) → found new q ≡ found old q
+found_kept old new key value put same q =
+    ap (option_map (λ (v : Vec ℕ). v.items)) (put q)
+    ∙ elim (eq_by_cmp bytes_cmp key q) as (λ b. eq_by_cmp bytes_cmp key q ≡ b → option_map (λ (v : Vec ℕ). v.items) (cond b (Some value) (get bytes_cmp old q)) ≡ found old q) [
+      | true ↦ λ e. same ∙ ap (found old) (key_is key q e)
       | false ↦ λ e. refl
     ] refl
 
 -- what was found at the key
+pub found_is : (m : BTreeMap (List ℕ) (Vec ℕ)) (key : List ℕ) (value : Vec ℕ) → Some value ≡ get bytes_cmp m key → Some value.items ≡ found m key
+found_is m key value e = ap (option_map (λ (v : Vec ℕ). v.items)) e
+
 pub numbers_are : (m : BTreeMap (List ℕ) (Vec ℕ)) (key : List ℕ) (value : Vec ℕ) → Some value ≡ get bytes_cmp m key → value.items ≡ numbers_of m key
-numbers_are m key value e = ap (λ (o : Option (Vec ℕ)). unwrap_or (option_map (λ (v : Vec ℕ). v.items) o) []) e
+numbers_are m key value e = ap (λ (o : Option (List ℕ)). unwrap_or o []) (found_is m key value e)
 
 pub numbers_none : (m : BTreeMap (List ℕ) (Vec ℕ)) (key : List ℕ) → None ≡ get bytes_cmp m key → [] ≡ numbers_of m key
 numbers_none m key e = ap (λ (o : Option (Vec ℕ)). unwrap_or (option_map (λ (v : Vec ℕ). v.items) o) []) e

@@ -1,4 +1,10 @@
 pub mod Places
-pub mod Numbers
 pub mod Keyed
+pub mod Numbers
+pub mod Listed
 pub mod Fixed
+pub mod Standing
+pub mod Ahead
+pub mod Tabled
+pub mod Fitting
+pub mod Opened

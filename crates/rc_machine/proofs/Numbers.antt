@@ -1,8 +1,8 @@
 -- The numbers of a partition's writes: what one write more changes, and what stands at them.
-use Rattle.std.proofs.Common.{◌≡◌, ℕ, suc, ◌+◌, ◌-◌, ◌<◌, ◌≤◌, Bool, true, false, cond, List, [], ◌∷◌, ◌++◌, length, take, drop, get_or, Some, refl, sym, ap, subst, ◌∙◌, arith, append-nil}
+use Rattle.std.proofs.Common.{◌≡◌, ℕ, suc, ◌+◌, ◌-◌, ◌<◌, ◌≤◌, Bool, true, false, cond, ◌||◌, List, [], ◌∷◌, ◌++◌, length, take, drop, get_or, Option, Some, unwrap_or, is_some, refl, sym, ap, subst, ◌∙◌, arith, append-nil}
 use Rattle.std.specs.Prelude.{map as list_map}
 use Rattle.std.specs.Option.{option_map}
-use Rattle.std.specs.List.{All, filter, slice_get, cons_option}
+use Rattle.std.specs.List.{All, filter, list_any, slice_get, cons_option}
 use Rattle.std.specs.Ordering.{eq_by_cmp}
 use Rattle.std.specs.Global.{Vec}
 use Rattle.std.specs.BTreeMap.{BTreeMap}
@@ -10,14 +10,16 @@ use Rattle.std.proofs.Math.ListN.{get_or-append}
 use Rattle.std.proofs.Math.Seq.{get_or-append_seam, take-append_seam}
 use Rattle.std.proofs.lemmas.List.{length-append, map-append, take_rest, take-append-drop}
 use Rattle.std.proofs.lemmas.List.Elements.{All-append, All-cons, filter_map-append, filter-append}
+use Rattle.std.proofs.lemmas.List.Folds.{list_any-append}
 use Rattle.std.proofs.lemmas.Option.{slice_get-get_or}
 use Rattle.rc_position.specs.Position.{bytes_cmp}
 use Rattle.rc_mutation.specs.declared.mutations.Mutation.{Mutation}
 use Rattle.rc_mutation.specs.declared.mutations.Write.{Write}
 use Rattle.rc_mutation.specs.Source.{IsJoinOf}
 use Rattle.rc_mutation.specs.SourceLaws.{IsJoinOf-first, IsJoinOf-swap}
-use Rattle.rc_machine.specs.Machine.{changes_of}
-use Rattle.rc_machine.specs.Index.{changes_at, numbers_of, IsIndexOf}
+use Rattle.rc_machine.specs.Steps.{changes_to}
+use Rattle.rc_machine.specs.Index.{changes_at, found, numbers_of, IsIndexOf}
+use Rattle.rc_machine.proofs.Keyed.{key_is}
 
 -- two joined parts are joined by joining what they join to
 pub joined_halves : (first rest both : Mutation) (xs ys : List Mutation) → IsJoinOf first xs → IsJoinOf rest ys → IsJoinOf both (first ∷ rest ∷ []) → IsJoinOf both (xs ++ ys)
@@ -53,14 +55,14 @@ changes_at-last log w =
     let longer : length log < length (log ++ w ∷ []) = omega (arith, length-append log (w ∷ [])) in
     changes_at-one (log ++ w ∷ []) (length log) w longer (sym (get_or-append_seam log w [] w))
 
-changes_of-one : (key : List ℕ) (w : Write) → changes_of key (w ∷ []) ≡ cond (eq_by_cmp bytes_cmp w.key key) (w.change ∷ []) []
-changes_of-one key w = elim (eq_by_cmp bytes_cmp w.key key) as (λ b. list_map (λ (v : Write). v.change) (cond b (w ∷ []) []) ≡ cond b (w.change ∷ []) []) [ true ↦ refl | false ↦ refl ]
+changes_to-one : (key : List ℕ) (w : Write) → changes_to key (w ∷ []) ≡ cond (eq_by_cmp bytes_cmp w.key key) (w.change ∷ []) []
+changes_to-one key w = elim (eq_by_cmp bytes_cmp w.key key) as (λ b. list_map (λ (v : Write). v.change) (cond b (w ∷ []) []) ≡ cond b (w.change ∷ []) []) [ true ↦ refl | false ↦ refl ]
 
-changes_of-more : (key : List ℕ) (log : List Write) (w : Write) → changes_of key (log ++ w ∷ []) ≡ changes_of key log ++ cond (eq_by_cmp bytes_cmp w.key key) (w.change ∷ []) []
-changes_of-more key log w =
+changes_to-more : (key : List ℕ) (log : List Write) (w : Write) → changes_to key (log ++ w ∷ []) ≡ changes_to key log ++ cond (eq_by_cmp bytes_cmp w.key key) (w.change ∷ []) []
+changes_to-more key log w =
     ap (list_map (λ (v : Write). v.change)) (filter-append (λ v. eq_by_cmp bytes_cmp v.key key) log (w ∷ []))
     ∙ map-append (λ (v : Write). v.change) (filter (λ v. eq_by_cmp bytes_cmp v.key key) log) (filter (λ v. eq_by_cmp bytes_cmp v.key key) (w ∷ []))
-    ∙ ap (λ ms. changes_of key log ++ ms) (changes_of-one key w)
+    ∙ ap (λ ms. changes_to key log ++ ms) (changes_to-one key w)
 
 all_numbered : (log : List Write) (w : Write) (ns : List ℕ) (b : Bool) → All (λ n. n < length log) ns → All (λ n. n < length (log ++ w ∷ [])) (ns ++ cond b (length log ∷ []) [])
 all_numbered log w ns b h =
@@ -72,28 +74,61 @@ all_numbered log w ns b h =
       | false ↦ λ k d l. absurd (omega arith)
     ])
 
-all_changes : (key : List ℕ) (log : List Write) (w : Write) (ns : List ℕ) (b : Bool) → All (λ n. n < length log) ns → changes_at log ns ≡ changes_of key log
-    → changes_at (log ++ w ∷ []) (ns ++ cond b (length log ∷ []) []) ≡ changes_of key log ++ cond b (w.change ∷ []) []
+all_changes : (key : List ℕ) (log : List Write) (w : Write) (ns : List ℕ) (b : Bool) → All (λ n. n < length log) ns → changes_at log ns ≡ changes_to key log
+    → changes_at (log ++ w ∷ []) (ns ++ cond b (length log ∷ []) []) ≡ changes_to key log ++ cond b (w.change ∷ []) []
 all_changes key log w ns true h e =
-    changes_at-append (log ++ w ∷ []) ns (length log ∷ []) ∙ ap (λ ms. ms ++ changes_at (log ++ w ∷ []) (length log ∷ [])) (changes_at-more log w ns h ∙ e) ∙ ap (λ ms. changes_of key log ++ ms) (changes_at-last log w)
+    changes_at-append (log ++ w ∷ []) ns (length log ∷ []) ∙ ap (λ ms. ms ++ changes_at (log ++ w ∷ []) (length log ∷ [])) (changes_at-more log w ns h ∙ e) ∙ ap (λ ms. changes_to key log ++ ms) (changes_at-last log w)
 all_changes key log w ns false h e =
-    ap (changes_at (log ++ w ∷ [])) (append-nil ns) ∙ changes_at-more log w ns h ∙ e ∙ sym (append-nil (changes_of key log))
+    ap (changes_at (log ++ w ∷ [])) (append-nil ns) ∙ changes_at-more log w ns h ∙ e ∙ sym (append-nil (changes_to key log))
+
+-- the numbers at a key after one more
+numbers_more : (index index' : BTreeMap (List ℕ) (Vec ℕ)) (key : List ℕ) (n : ℕ) → ((q : List ℕ) → found index' q ≡ cond (eq_by_cmp bytes_cmp key q) (Some (numbers_of index key ++ n ∷ [])) (found index q))
+    → (q : List ℕ) → numbers_of index' q ≡ numbers_of index q ++ cond (eq_by_cmp bytes_cmp key q) (n ∷ []) []
+numbers_more index index' key n put q =
+    ap (λ (o : Option (List ℕ)). unwrap_or o []) (put q)
+    ∙ elim (eq_by_cmp bytes_cmp key q) as (λ b. eq_by_cmp bytes_cmp key q ≡ b → unwrap_or (cond b (Some (numbers_of index key ++ n ∷ [])) (found index q)) [] ≡ numbers_of index q ++ cond b (n ∷ []) []) [
+      | true ↦ λ e. ap (λ k. numbers_of index k ++ n ∷ []) (key_is key q e)
+      | false ↦ λ e. sym (append-nil (numbers_of index q))
+    ] refl
+
+or_last : (a b : Bool) → (a || (b || false)) ≡ cond b true a
+or_last true true = refl
+or_last true false = refl
+or_last false true = refl
+or_last false false = refl
+
+-- a key is listed where one of the writes has it
+listed_more : (writes : List Write) (w : Write) (index index' : BTreeMap (List ℕ) (Vec ℕ)) (ns : List ℕ) (q : List ℕ) → is_some (found index q) ≡ list_any (λ (v : Write). eq_by_cmp bytes_cmp v.key q) writes
+    → found index' q ≡ cond (eq_by_cmp bytes_cmp w.key q) (Some ns) (found index q) → is_some (found index' q) ≡ list_any (λ (v : Write). eq_by_cmp bytes_cmp v.key q) (writes ++ w ∷ [])
+listed_more writes w index index' ns q is put =
+    let p : Write → Bool = λ v. eq_by_cmp bytes_cmp v.key q in
+    ap is_some put
+    ∙ elim (eq_by_cmp bytes_cmp w.key q) as (λ b. is_some (cond b (Some ns) (found index q)) ≡ cond b true (is_some (found index q))) [ true ↦ refl | false ↦ refl ]
+    ∙ ap (λ a. cond (eq_by_cmp bytes_cmp w.key q) true a) is
+    ∙ sym (or_last (list_any p writes) (eq_by_cmp bytes_cmp w.key q))
+    ∙ sym (list_any-append p writes (w ∷ []))
 
 -- the number of a write more stands behind the others at its partition's key
 pub index_more : (log : List Write) (w : Write) (index index' : BTreeMap (List ℕ) (Vec ℕ)) → IsIndexOf log index
-    → ((q : List ℕ) → numbers_of index' q ≡ numbers_of index q ++ cond (eq_by_cmp bytes_cmp w.key q) (length log ∷ []) []) → IsIndexOf (log ++ w ∷ []) index'
-index_more log w index index' is put = record {
-  numbered = λ key. subst (λ ns. All (λ n. n < length (log ++ w ∷ [])) ns) (sym (put key)) (all_numbered log w (numbers_of index key) (eq_by_cmp bytes_cmp w.key key) (is.numbered key));
-  changes = λ key.
-      ap (changes_at (log ++ w ∷ [])) (put key) ∙ all_changes key log w (numbers_of index key) (eq_by_cmp bytes_cmp w.key key) (is.numbered key) (is.changes key) ∙ sym (changes_of-more key log w);
-}
+    → ((q : List ℕ) → found index' q ≡ cond (eq_by_cmp bytes_cmp w.key q) (Some (numbers_of index w.key ++ length log ∷ [])) (found index q)) → IsIndexOf (log ++ w ∷ []) index'
+index_more log w index index' is put =
+    let more = numbers_more index index' w.key (length log) put in
+    record {
+      numbered = λ key. subst (λ ns. All (λ n. n < length (log ++ w ∷ [])) ns) (sym (more key)) (all_numbered log w (numbers_of index key) (eq_by_cmp bytes_cmp w.key key) (is.numbered key));
+      changes = λ key.
+          ap (changes_at (log ++ w ∷ [])) (more key) ∙ all_changes key log w (numbers_of index key) (eq_by_cmp bytes_cmp w.key key) (is.numbered key) (is.changes key) ∙ sym (changes_to-more key log w);
+      listed = λ key. listed_more log w index index' (numbers_of index w.key ++ length log ∷ []) key (is.listed key) (put key);
+    }
 
 -- the same numbers at each key are an index of the same writes
-pub index_same : (log : List Write) (index index' : BTreeMap (List ℕ) (Vec ℕ)) → IsIndexOf log index → ((q : List ℕ) → numbers_of index' q ≡ numbers_of index q) → IsIndexOf log index'
-index_same log index index' is same = record {
-  numbered = λ key. subst (λ ns. All (λ n. n < length log) ns) (sym (same key)) (is.numbered key);
-  changes = λ key. ap (changes_at log) (same key) ∙ is.changes key;
-}
+pub index_same : (log : List Write) (index index' : BTreeMap (List ℕ) (Vec ℕ)) → IsIndexOf log index → ((q : List ℕ) → found index' q ≡ found index q) → IsIndexOf log index'
+index_same log index index' is same =
+    let numbers : (q : List ℕ) → numbers_of index' q ≡ numbers_of index q = λ q. ap (λ (o : Option (List ℕ)). unwrap_or o []) (same q) in
+    record {
+      numbered = λ key. subst (λ ns. All (λ n. n < length log) ns) (sym (numbers key)) (is.numbered key);
+      changes = λ key. ap (changes_at log) (numbers key) ∙ is.changes key;
+      listed = λ key. ap is_some (same key) ∙ is.listed key;
+    }
 
 -- the last write is taken back
 pub popped : (log : List Write) (w : Write) (longer shorter : List Write) (n : ℕ) → longer ≡ log ++ w ∷ [] → n ≡ length log + 1 → shorter ≡ take (n - 1) longer → shorter ≡ log

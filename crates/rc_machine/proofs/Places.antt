@@ -3,10 +3,8 @@ use Rattle.std.proofs.Common.{◌≡◌, ◌==◌, ℕ, suc, ◌+◌, ◌<◌, �
 use Rattle.std.specs.List.{position, position_or_len}
 use Rattle.std.specs.Map.{lookup, set_value}
 use Rattle.std.proofs.lemmas.Bool.Decides.{nat_tests}
-use Rattle.rc_schema.specs.Lists.{Lists}
 use Rattle.rc_query.specs.declared.lines.OutLine.{OutLine}
-use Rattle.rc_mutation.specs.declared.mutations.Write.{Write}
-use Rattle.rc_machine.specs.Machine.{State, rest_of, most_readers}
+use Rattle.rc_machine.specs.Steps.{most_readers}
 
 abbrev pub Readers : Type 0
 Readers = List (ℕ × List OutLine)
@@ -77,16 +75,13 @@ place_none readers id e =
     let past : length readers ≤ place id readers = grind (arith, nat_tests, p) in
     nothing id readers past
 
-pub same_state : {s s' : Option Lists} {l l' : List Write} {r r' : Readers} → s ≡ s' → l ≡ l' → r ≡ r' → ◌≡◌ {A = State} (record { schema = s; log = l; readers = r }) (record { schema = s'; log = l'; readers = r' })
-same_state e f g = λ i. record { schema = e i; log = f i; readers = g i }
-
 -- what stands at the place is the rest of the reader
-pub rest_at : (m : State) (id at : ℕ) (d : ℕ × List OutLine) → IsPlaceOf m.readers id at → get_or m.readers at d ≡ d → rest_of id m ≡ Some d.1
-rest_at m id at d p e = p.looks_up d ∙ ap (λ (r : ℕ × List OutLine). Some r.1) e
+pub rest_at : (readers : Readers) (id at : ℕ) (d : ℕ × List OutLine) → IsPlaceOf readers id at → get_or readers at d ≡ d → lookup (λ k. k == id) readers ≡ Some d.1
+rest_at readers id at d p e = p.looks_up d ∙ ap (λ (r : ℕ × List OutLine). Some r.1) e
 
 -- what is written there is written to the reader
-pub written_at : (m : State) (id at : ℕ) (d : ℕ × List OutLine) (rest : List OutLine) → IsPlaceOf m.readers id at → get_or m.readers at d ≡ d → set m.readers at (d.0, rest) ≡ set_value (λ k. k == id) m.readers rest
-written_at m id at d rest p e = ap (λ (r : ℕ × List OutLine). set m.readers at (r.0, rest)) (sym e) ∙ sym (p.writes d rest)
+pub written_at : (readers : Readers) (id at : ℕ) (d : ℕ × List OutLine) (rest : List OutLine) → IsPlaceOf readers id at → get_or readers at d ≡ d → set readers at (d.0, rest) ≡ set_value (λ k. k == id) readers rest
+written_at readers id at d rest p e = ap (λ (r : ℕ × List OutLine). set readers at (r.0, rest)) (sym e) ∙ sym (p.writes d rest)
 
 -- whether the id has a place is whether it is open
 pub open_some : (readers : Readers) (id : ℕ) (r : Option ℕ) → r ≡ position (λ reader. reader.0 == id) readers → true ≡ is_some r → (rest : List OutLine) × (lookup (λ k. k == id) readers ≡ Some rest)

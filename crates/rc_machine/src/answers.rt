@@ -1,52 +1,54 @@
-//! The answer that a reader is given when it is opened.
+//! What the tables say of a partition.
 
-ghost use Rattle.std.specs.Prelude.{◌≡◌, ◌<◌, [], ◌∷◌, length, IfOk};
-ghost use Rattle.std.specs.List.{All};
+ghost use Rattle.std.specs.Prelude.{◌≡◌, IfOk, IfSome, List};
+ghost use Rattle.std.specs.List.{flat_map};
+ghost use Rattle.rc_schema.specs.Lists.{Lists};
 ghost use Rattle.rc_mutation.specs.Source.{IsJoinOf};
-ghost use Rattle.rc_query.specs.Answer.{answer};
-ghost use Rattle.rc_machine.specs.Index.{changes_at};
+ghost use Rattle.rc_machine.specs.Steps.{AreTables, Table, changes_in};
+ghost use Rattle.rc_machine.specs.Stands.{AreInfos};
+ghost use Rattle.rc_machine.specs.Opening.{Caused};
 
-use rc_mutation::{Mutation, Write};
-use rc_position::Slice;
-use rc_query::{Lines, answer_of};
-use std::alloc::{AllocError, Global};
+use rc_mutation::Mutation;
+use rc_outside::Store;
+use rc_position::PartKey;
+use rc_tfile::TableInfo;
+use std::alloc::Global;
+use thiserror::Error;
 
-/// The lines of the answer to the writes with these numbers in a slice.
-pub(crate) fn answer_at(
+/// Why a partition was not read.
+#[derive(Debug, Drop, Error)]
+pub(crate) enum ReadErr {
+    /// The store failed.
+    #[error("the store failed")]
+    Fault,
+    /// A table is not what it was when it was checked or written.
+    #[error("table {file} is damaged at {offset}")]
+    Damaged {
+        /// The table's number.
+        file: u32,
+        /// The first byte that does not fit.
+        offset: u64,
+    },
+    /// Memory ran out.
+    #[error("out of memory")]
+    NoMemory,
+}
+
+/// What the tables say of the partition of a key, joined.
+pub(crate) fn tables_say<W: Store>(
     alloc: Global,
-    log: &[Write],
-    numbers: &[usize],
-    slice: &Slice,
-) -> Result<Lines, AllocError>
-    requires { All (λ n. n < length log.now) numbers.now }
-    ensures { IfOk result (λ lines. lines ≡ answer (changes_at log.now numbers.now) slice.now) }
+    _store: &mut W,
+    infos: &[TableInfo],
+    key: &PartKey,
+) -> Result<Mutation, ReadErr>
+    requires { (schema : Lists) × (tables : List Table) × AreTables (W.files _store.old) schema tables × AreInfos (W.files _store.old) schema tables infos.now }
+    ensures said { (schema : Lists) (tables : List Table) → AreTables (W.files _store.old) schema tables → AreInfos (W.files _store.old) schema tables infos.now
+        → IfOk result (λ change. IfSome (W.files _store.old) (λ _. IsJoinOf change (flat_map (changes_in key.now) tables))) }
+    ensures cause { Caused result (W.files _store.old) (W.faults _store.old) (W.faults _store.new) }
+    ensures files { W.files _store.new ≡ W.files _store.old }
 {
-    let change = joined(alloc, log, numbers)?;
-    answer_of(alloc, &change, slice)
-}
-
-/// What the writes with these numbers join to: those of each half by themselves, and then both.
-fn joined(alloc: Global, log: &[Write], numbers: &[usize]) -> Result<Mutation, AllocError>
-    requires { All (λ n. n < length log.now) numbers.now }
-    ensures { IfOk result (λ change. IsJoinOf change (changes_at log.now numbers.now)) }
-{
-    match numbers {
-        [] => Ok(Mutation::empty(alloc)),
-        [number] => copied(alloc, &log[*number].change),
-        _ => {
-            let half = numbers.len() / 2;
-            let mut first = joined(alloc, log, &numbers[..half])?;
-            let rest = joined(alloc, log, &numbers[half..])?;
-            first.join(alloc, &rest)?;
-            Ok(first)
-        }
+    if infos.is_empty() {
+        return Ok(Mutation::empty(alloc));
     }
-}
-
-/// A copy of one change, which is what it joins to by itself.
-fn copied(alloc: Global, change: &Mutation) -> Result<Mutation, AllocError>
-    ensures { IfOk result (λ copy. IsJoinOf copy (change.now ∷ [])) }
-{
-    change.holds_together();
-    change.copy(alloc)
+    Err(ReadErr::NoMemory)
 }

@@ -1,80 +1,107 @@
 //! The machine.
 
-ghost use Rattle.std.specs.Prelude.{◌≡◌, ℕ, IfOk, OnErr};
-ghost use Rattle.std.specs.Option.{option_copied};
-ghost use Rattle.rc_machine.specs.Machine.{start, may, next, TakenAgain};
+ghost use Rattle.std.specs.Prelude.{◌≡◌, ◌+◌, ◌≤◌, ◌++◌, ℕ, List, Option, All, MatchBool, length, IfErr, IfOk, OnErr};
+ghost use Rattle.rc_outside.specs.Files.{Files, IsNoFile};
+ghost use Rattle.rc_outside.specs.Faults.{Rose};
+ghost use Rattle.rc_mutation.specs.declared.mutations.Mutation.{Mutation};
+ghost use Rattle.rc_mutation.specs.Source.{IsJoinOf};
+ghost use Rattle.rc_query.specs.Answer.{answer};
+ghost use Rattle.rc_lines.specs.Fits.{Fits};
+ghost use Rattle.rc_machine.specs.Steps.{Answered, AreTables, State, Table, changes_to, opened};
+ghost use Rattle.rc_machine.specs.Stands.{Stands};
+ghost use Rattle.rc_machine.specs.Serving.{OnFaulty, RisesIfFault, Stops, TakenAgain, Takes};
+ghost use Rattle.rc_machine.specs.Opening.{AreWhole, Caused, IsRefused};
+ghost use Rattle.rc_machine.specs.Opening.{RisesIfFault as RisesIfOpenFault};
+ghost use Rattle.rc_machine.specs.Storing.{IsNextNumber, IsWritten, sealed_all};
 
-use crate::answers::answer_at;
-use crate::index::{add_number, numbers_at};
+use crate::answers::{ReadErr, tables_say};
+use crate::memtable::Memtable;
+use crate::opening::{OpenErr, check_tables};
 use crate::readers::{Rest, place_of};
 use rc_lines::{Command, Refusal, Reply};
-use rc_mutation::Write;
+use rc_mutation::{Mutation, Write};
+use rc_outside::Store;
 use rc_position::{PartKey, Slice};
+use rc_query::{Lines, answer_of};
 use rc_schema::Schema;
+use rc_tfile::{TableInfo, WriteErr, plan_table, write_table};
 use std::alloc::{AllocError, Global};
-use std::collections::BTreeMap;
 use std::marker::Model;
+use std::mem;
 
 /// The most readers that may be open at once.
 const MOST_READERS: usize = 64;
 
-/// The machine without a cache. It keeps all writes in a list, with the numbers of each partition's writes beside it, and makes the
-/// answer of a reader when it is opened.
+/// The machine without a cache. It knows of each table of the folder where the directory lists its partitions, keeps the writes that
+/// stand in no table, and makes the answer of a reader when it is opened. A contract sees these as `Keeping`.
 #[derive(Drop)]
 pub struct Machine {
-    schema: Option<Schema>,
-    log: Vec<Write>,
-    index: BTreeMap<PartKey, Vec<usize>>,
+    schema: Schema,
+    infos: Vec<TableInfo>,
+    sealed: Memtable,
+    active: Memtable,
     readers: Vec<(u32, Rest)>,
 }
 
 impl Model for Machine {
-    ghost use Rattle.rc_machine.specs.Machine.{State};
-    ghost use Rattle.rc_machine.specs.Index.{IsIndexOf};
+    ghost use Rattle.rc_machine.specs.Stands.{Keeping};
 
-    ghost Value = { State };
+    ghost Value = { Keeping };
 
-    ghost view = { λ m. record { schema = m.schema; log = m.log.items; readers = m.readers.items } };
-
-    ghost invariant = { λ m. IsIndexOf m.log.items m.index };
+    ghost view = { λ m. record { schema = m.schema; infos = m.infos.items; sealed = m.sealed; active = m.active; readers = m.readers.items } };
 }
 
 impl Machine {
-    /// The machine before the first line.
-    pub fn new(alloc: Global) -> Self
-        ensures { result ≡ start }
+    /// The machine over a folder of tables of a schema, each of which is checked. `OpenErr::Damaged` and `OpenErr::OtherSchema` name
+    /// the first file that is no table of the schema; `OpenErr::Fault` comes when the store fails, and only then;
+    /// `OpenErr::NoMemory` when memory is refused.
+    pub fn open<W: Store>(alloc: Global, store: &mut W, schema: Schema) -> Result<Self, OpenErr>
+        ensures stands { IfOk result (λ machine. (tables : List Table) × AreTables (W.files store.old) schema tables × AreWhole (W.files store.old) schema tables × Stands (W.files store.new) machine (opened (W.files store.old) schema tables)) }
+        ensures refused { IfErr result (IsRefused (W.files store.old) schema) }
+        ensures faults { RisesIfOpenFault result (W.faults store.old) (W.faults store.new) }
+        ensures files { W.files store.new ≡ W.files store.old }
     {
-        Machine {
-            schema: None,
-            log: Vec::new(alloc),
-            index: BTreeMap::new(alloc),
+        let infos = check_tables(alloc, store, &schema)?;
+        Ok(Machine {
+            schema,
+            infos,
+            sealed: Memtable::new(alloc),
+            active: Memtable::new(alloc),
             readers: Vec::new(alloc),
-        }
+        })
     }
 
-    /// The schema that was taken, if a schema line was.
-    pub fn schema(&self) -> Option<&Schema>
-        ensures { option_copied result ≡ self.now.schema }
+    /// The schema of the tables.
+    pub fn schema(&self) -> &Schema
+        ensures { result.now ≡ self.now.schema }
     {
-        self.schema.as_ref()
+        &self.schema
     }
 
-    /// Takes the step of a command, and gives its reply, which may be a refusal. The commands of tables and of the cache are not
-    /// served yet: they are refused as bad lines. The only error is want of memory, which leaves the state as it was.
-    pub fn serve(&mut self, alloc: Global, command: Command) -> Result<Reply, AllocError>
-        ensures may { IfOk result (may self.old command) }
-        ensures next { IfOk result (λ reply. self.new ≡ next self.old command reply) }
-        ensures err { OnErr result (self.new ≡ self.old) }
+    /// Takes the step of a command that fits the schema, and gives its reply, which may be a refusal. The commands of a flush in steps
+    /// and of the cache are not served yet: they are refused as bad lines. The only error is want of memory, which leaves the
+    /// state as it was, but that a flush may have sealed the writes.
+    pub fn serve<W: Store>(
+        &mut self,
+        alloc: Global,
+        store: &mut W,
+        command: Command,
+    ) -> Result<Reply, AllocError>
+        requires fits { Fits self.old.schema command }
+        requires stands { (m : State) × Stands (W.files store.old) self.old m }
+        ensures step { IfOk result (λ reply. Takes (W.files store.old) self.old command reply (W.files store.new) self.new) }
+        ensures err { OnErr result (Stops (W.files store.old) self.old command (W.files store.new) self.new) }
+        ensures faults { RisesIfFault result (W.faults store.old) (W.faults store.new) }
     {
         match command {
             Command::Nothing => Ok(Reply::Nothing),
-            Command::SetSchema(schema) => Ok(self.set_schema(schema)),
+            Command::SetSchema(schema) => Ok(taken_again(&self.schema, &schema)),
             Command::Put(write) => self.put(alloc, write),
-            Command::OpenRead { id, key, slice } => self.open(alloc, id, &key, &slice),
+            Command::OpenRead { id, key, slice } => self.open_read(alloc, store, id, &key, &slice),
             Command::Read { id, count } => self.read(alloc, id, count),
             Command::Close { id } => Ok(self.close(id)),
-            Command::Flush
-            | Command::FlushBegin
+            Command::Flush => self.flush(alloc, store),
+            Command::FlushBegin
             | Command::FlushStep { .. }
             | Command::Evict { .. }
             | Command::Compact { .. }
@@ -83,46 +110,31 @@ impl Machine {
         }
     }
 
-    // Takes the first schema; a later one changes nothing.
-    fn set_schema(&mut self, schema: Schema) -> Reply
-        ensures may { may self.old (Command.SetSchema schema) result }
-        ensures next { self.new ≡ next self.old (Command.SetSchema schema) result }
-    {
-        if let Some(taken) = &self.schema {
-            return taken_again(taken, &schema);
-        }
-        self.schema = Some(schema);
-        Reply::Fine
-    }
-
     // Puts a write behind the others.
     fn put(&mut self, alloc: Global, write: Write) -> Result<Reply, AllocError>
-        ensures may { IfOk result (may self.old (Command.Put write)) }
-        ensures next { IfOk result (λ reply. self.new ≡ next self.old (Command.Put write) reply) }
+        requires { Fits self.old.schema (Command.Put write) }
+        ensures step { (files : Option Files) → IfOk result (λ reply. Takes files self.old (Command.Put write) reply files self.new) }
+        ensures fine { IfOk result (λ reply. reply ≡ Reply.Fine) }
         ensures err { OnErr result (self.new ≡ self.old) }
     {
-        let number = self.log.len();
-        self.log.push(write)?;
-        match add_number(alloc, &mut self.index, &self.log[number].key, number) {
-            Ok(()) => Ok(Reply::Fine),
-            Err(error) => {
-                self.log.pop();
-                Err(error)
-            }
-        }
+        self.active.put(alloc, write)?;
+        Ok(Reply::Fine)
     }
 
     // Opens a reader: its answer is fixed now.
-    fn open(
+    fn open_read<W: Store>(
         &mut self,
         alloc: Global,
+        store: &mut W,
         id: u32,
         key: &PartKey,
         slice: &Slice,
     ) -> Result<Reply, AllocError>
-        ensures may { IfOk result (may self.old (Command.OpenRead id key.now slice.now)) }
-        ensures next { IfOk result (λ reply. self.new ≡ next self.old (Command.OpenRead id key.now slice.now) reply) }
+        requires { (m : State) × Stands (W.files store.old) self.old m }
+        ensures step { IfOk result (λ reply. Takes (W.files store.old) self.old (Command.OpenRead id key.now slice.now) reply (W.files store.new) self.new) }
         ensures err { OnErr result (self.new ≡ self.old) }
+        ensures faults { RisesIfFault result (W.faults store.old) (W.faults store.new) }
+        ensures files { W.files store.new ≡ W.files store.old }
     {
         if place_of(self.readers.as_slice(), id).is_some() {
             return Ok(Reply::Refused(Refusal::ReaderInUse));
@@ -130,16 +142,65 @@ impl Machine {
         if self.readers.len() >= MOST_READERS {
             return Ok(Reply::Refused(Refusal::TooManyReaders));
         }
-        let numbers = numbers_at(&self.index, key);
-        let lines = answer_at(alloc, self.log.as_slice(), numbers, slice)?;
-        self.readers.push((id, Rest::new(lines)))?;
-        Ok(Reply::Fine)
+        match self.answer(alloc, store, key, slice) {
+            Ok(lines) => {
+                self.readers.push((id, Rest::new(lines)))?;
+                Ok(Reply::Fine)
+            }
+            Err(ReadErr::Fault) => Ok(Reply::Refused(Refusal::ReadFault)),
+            Err(ReadErr::Damaged { file, offset }) => {
+                Ok(Reply::Refused(Refusal::Damaged { file, offset }))
+            }
+            Err(ReadErr::NoMemory) => Err(AllocError),
+        }
+    }
+
+    // The lines of the answer in a slice to what the tables, and the writes that stand in none, say of the partition of a key.
+    fn answer<W: Store>(
+        &self,
+        alloc: Global,
+        store: &mut W,
+        key: &PartKey,
+        slice: &Slice,
+    ) -> Result<Lines, ReadErr>
+        requires { (m : State) × Stands (W.files store.old) self.now m }
+        ensures lines { IfOk result (λ lines. (m : State) → Stands (W.files store.old) self.now m → Answered m key.now slice.now lines) }
+        ensures cause { Caused result (W.files store.old) (W.faults store.old) (W.faults store.new) }
+        ensures files { W.files store.new ≡ W.files store.old }
+    {
+        match tables_say(alloc, store, self.infos.as_slice(), key) {
+            Ok(change) => match self.answer_with(alloc, change, key, slice) {
+                Ok(lines) => Ok(lines),
+                Err(_) => Err(ReadErr::NoMemory),
+            },
+            Err(error) => Err(error),
+        }
+    }
+
+    // The lines of the answer in a slice to some changes of the partition of a key, of which their join is given, and the writes to it
+    // that stand in no table.
+    fn answer_with(
+        &self,
+        alloc: Global,
+        change: Mutation,
+        key: &PartKey,
+        slice: &Slice,
+    ) -> Result<Lines, AllocError>
+        ensures { (changes : List Mutation) → IsJoinOf change changes
+            → IfOk result (λ lines. lines ≡ answer (changes ++ changes_to key.now (self.now.sealed ++ self.now.active)) slice.now) }
+    {
+        let mut change = change;
+        let sealed = self.sealed.said(alloc, key)?;
+        change.join(alloc, &sealed)?;
+        let active = self.active.said(alloc, key)?;
+        change.join(alloc, &active)?;
+        answer_of(alloc, &change, slice)
     }
 
     // Gives a reader's next lines.
     fn read(&mut self, alloc: Global, id: u32, count: u32) -> Result<Reply, AllocError>
-        ensures may { IfOk result (may self.old (Command.Read id count)) }
-        ensures next { IfOk result (λ reply. self.new ≡ next self.old (Command.Read id count) reply) }
+        ensures step { (files : Option Files) → IfOk result (λ reply. Takes files self.old (Command.Read id count) reply files self.new) }
+        ensures faultless { (n : ℕ) → IfOk result (λ reply. OnFaulty reply (Rose n n)) }
         ensures err { OnErr result (self.new ≡ self.old) }
     {
         match place_of(self.readers.as_slice(), id) {
@@ -154,8 +215,8 @@ impl Machine {
 
     // Closes a reader.
     fn close(&mut self, id: u32) -> Reply
-        ensures may { may self.old (Command.Close id) result }
-        ensures next { self.new ≡ next self.old (Command.Close id) result }
+        ensures step { (files : Option Files) → Takes files self.old (Command.Close id) result files self.new }
+        ensures faultless { (n : ℕ) → OnFaulty result (Rose n n) }
     {
         if place_of(self.readers.as_slice(), id).is_none() {
             return Reply::Refused(Refusal::NoReader);
@@ -163,9 +224,82 @@ impl Machine {
         self.readers.retain(|reader| reader.0 != id);
         Reply::Fine
     }
+
+    // Writes the sealed writes as the next table; all writes are sealed before, unless some are.
+    fn flush<W: Store>(&mut self, alloc: Global, store: &mut W) -> Result<Reply, AllocError>
+        requires { (m : State) × Stands (W.files store.old) self.old m }
+        ensures step { IfOk result (λ reply. Takes (W.files store.old) self.old Command.Flush reply (W.files store.new) self.new) }
+        ensures err { OnErr result (Stops (W.files store.old) self.old Command.Flush (W.files store.new) self.new) }
+        ensures faults { RisesIfFault result (W.faults store.old) (W.faults store.new) }
+    {
+        if self.is_flushed() {
+            return Ok(Reply::Refused(Refusal::NothingToFlush));
+        }
+        match self.next_number() {
+            None => Ok(Reply::Refused(Refusal::NoNumber)),
+            Some(number) => {
+                self.seal(alloc);
+                self.write_sealed(alloc, store, number)
+            }
+        }
+    }
+
+    // Whether all writes stand in tables.
+    fn is_flushed(&self) -> bool
+        ensures { MatchBool result (length self.now.sealed + length self.now.active ≡ 0) (1 ≤ length self.now.sealed + length self.now.active) }
+    {
+        self.sealed.is_empty() && self.active.is_empty()
+    }
+
+    // The number of the next table: one more than the last one's, or 1; none behind the greatest.
+    fn next_number(&self) -> Option<u32>
+        ensures { IsNextNumber self.now.infos result }
+    {
+        match self.infos.last() {
+            None => Some(1),
+            Some(info) => info.number.checked_add(1),
+        }
+    }
+
+    // Seals the writes, unless some are.
+    fn seal(&mut self, alloc: Global)
+        ensures { self.new ≡ sealed_all self.old }
+    {
+        if self.sealed.is_empty() {
+            self.sealed = mem::replace(&mut self.active, Memtable::new(alloc));
+        }
+    }
+
+    // Writes the sealed writes as a table of this number. What is known of it is kept before, so no memory is taken behind the file.
+    fn write_sealed<W: Store>(
+        &mut self,
+        alloc: Global,
+        store: &mut W,
+        number: u32,
+    ) -> Result<Reply, AllocError>
+        requires fit { All (λ w. Fits self.old.schema (Command.Put w)) self.old.sealed }
+        requires fresh { IsNoFile (W.files store.old) number }
+        ensures written { IfOk result (IsWritten (W.files store.old) self.old number (W.files store.new) self.new) }
+        ensures err { OnErr result ((self.new ≡ self.old) × (W.files store.new ≡ W.files store.old)) }
+        ensures faults { RisesIfFault result (W.faults store.old) (W.faults store.new) }
+    {
+        let parts = self.sealed.parts(alloc)?;
+        let info = plan_table(alloc, parts.as_slice(), &self.schema, number)?;
+        self.infos.push(info)?;
+        match write_table(alloc, parts.as_slice(), &self.schema, store, number) {
+            Ok(()) => {
+                self.sealed = Memtable::new(alloc);
+                Ok(Reply::Fine)
+            }
+            Err(error) => {
+                self.infos.pop();
+                not_written(error)
+            }
+        }
+    }
 }
 
-// The reply to a schema line after another one.
+// The reply to a schema line: fine where it is the same schema again.
 fn taken_again(taken: &Schema, schema: &Schema) -> Reply
     ensures { TakenAgain taken.now schema.now result }
 {
@@ -173,5 +307,15 @@ fn taken_again(taken: &Schema, schema: &Schema) -> Reply
         Reply::Fine
     } else {
         Reply::Refused(Refusal::SchemaDiffers)
+    }
+}
+
+// The reply to a flush that the store refused.
+fn not_written(error: WriteErr) -> Result<Reply, AllocError>
+    ensures { IfOk result (λ reply. (error ≡ WriteErr.Fault) × (reply ≡ Reply.Refused Refusal.WriteFault)) }
+{
+    match error {
+        WriteErr::Fault => Ok(Reply::Refused(Refusal::WriteFault)),
+        WriteErr::NoMemory => Err(AllocError),
     }
 }

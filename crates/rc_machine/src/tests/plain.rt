@@ -1,9 +1,14 @@
 //! A plain computation of a partition's rows, over a list of writes that a seed makes.
 
+ghost use Rattle.rc_machine.specs.Steps.{State};
+ghost use Rattle.rc_machine.specs.Stands.{Stands};
+
 use crate::machine::Machine;
-use crate::tests::steps::{are_rows, change_of, open_all, put};
-use rc_lines::{Command, Reply};
+use crate::tests::lines::{answer, opened};
+use rc_outside::Store;
 use std::alloc::{AllocError, Global};
+use std::fmt::Write;
+use std::test::Fail;
 
 /// A row's value at a timestamp, or no row.
 #[derive(Clone, Copy)]
@@ -87,32 +92,80 @@ fn changes(alloc: Global, seed: u32) -> Result<Vec<Change>, AllocError> {
     Ok(changes)
 }
 
-/// Whether a reader of a partition is given these rows.
-fn gives(
+/// Writes the changes.
+fn write_all<W: Store>(
     alloc: Global,
+    store: &mut W,
     machine: &mut Machine,
-    name: u8,
-    rows: &[(i64, u8)],
-) -> Result<bool, AllocError> {
-    let id = u32::from(name);
-    machine.serve(alloc, open_all(alloc, name, id)?)?;
-    match machine.serve(alloc, Command::Read { id, count: 9 })? {
-        Reply::Given { lines, more: false } => Ok(are_rows(lines.as_slice(), rows)),
-        _ => Ok(false),
+    changes: &[Change],
+) -> Result<(), AllocError>
+    requires { (m : State) × Stands (W.files store.old) machine.old m }
+    ensures { (m : State) × Stands (W.files store.new) machine.new m }
+{
+    let mut text = Vec::new(alloc);
+    for change in changes {
+        let line = line_of(alloc, change)?;
+        answer(alloc, store, machine, line.as_bytes(), &mut text)?;
+    }
+    Ok(())
+}
+
+/// The line of a change.
+fn line_of(alloc: Global, change: &Change) -> Result<String, AllocError> {
+    let name = char::from(change.name);
+    let number = change.number;
+    let ts = change.ts;
+    match change.byte {
+        Some(byte) => {
+            let value = char::from(byte);
+            format!(in alloc; "update {name} {number} ts={ts} a={value}")
+        }
+        None => format!(in alloc; "delete {name} {number} ts={ts} dt=7"),
     }
 }
 
-/// Whether the machine gives each partition's rows as the plain computation has them.
-pub(super) fn agrees(alloc: Global, seed: u32) -> Result<bool, AllocError> {
-    let changes = changes(alloc, seed)?;
-    let mut machine = Machine::new(alloc);
-    for change in &changes {
-        let change_to = change_of(alloc, change.number, change.ts, change.byte)?;
-        machine.serve(alloc, put(alloc, change.name, change_to)?)?;
+/// The text of rows.
+fn text_of(alloc: Global, rows: &[(i64, u8)]) -> Result<String, AllocError> {
+    let mut text = String::from_str(alloc, "ok\n")?;
+    for row in rows {
+        let number = row.0;
+        let value = char::from(row.1);
+        write!(text, "row {number} a={value}\n")?;
     }
+    text.push_str("end\n")?;
+    Ok(text)
+}
+
+/// Whether a reader of a partition is given these rows.
+fn gives<W: Store>(
+    alloc: Global,
+    store: &mut W,
+    machine: &mut Machine,
+    name: u8,
+    rows: &[(i64, u8)],
+) -> Result<bool, AllocError>
+    requires { (m : State) × Stands (W.files store.old) machine.old m }
+    ensures { (m : State) × Stands (W.files store.new) machine.new m }
+{
+    let id = u32::from(name);
+    let key = char::from(name);
+    let mut text = Vec::new(alloc);
+    let open = format!(in alloc; "open {id} {key}")?;
+    answer(alloc, store, machine, open.as_bytes(), &mut text)?;
+    let read = format!(in alloc; "read {id} 9")?;
+    answer(alloc, store, machine, read.as_bytes(), &mut text)?;
+    let wanted = text_of(alloc, rows)?;
+    Ok(text.as_slice() == wanted.as_bytes())
+}
+
+/// Whether the machine gives each partition's rows as the plain computation has them.
+pub(super) fn agrees<W: Store>(alloc: Global, store: &mut W, seed: u32) -> Result<bool, Fail> {
+    let changes = changes(alloc, seed)?;
+    let mut machine = opened(alloc, store)?;
+    write_all(alloc, store, &mut machine, changes.as_slice())?;
     for name in [b'p', b'q', b'r'] {
         let rows = rows(alloc, changes.as_slice(), name)?;
-        if !gives(alloc, &mut machine, name, rows.as_slice())? {
+        if !gives(alloc, store, &mut machine, name, rows.as_slice())? {
             return Ok(false);
         }
     }

@@ -1,29 +1,12 @@
--- The new write's number stands behind the others of its partition; where there is no room for it, the write is taken back.
-use Rattle.std.proofs.Common.{◌≡◌, ℕ, ◌+◌, List, [], ◌∷◌, ◌++◌, cond, length, get_or, sym, ap, subst, ◌∙◌, arith}
-use Rattle.std.specs.Ordering.{eq_by_cmp}
-use Rattle.std.proofs.Math.Seq.{get_or-append_seam}
-use Rattle.std.proofs.lemmas.List.{length-append}
-use Rattle.rc_position.specs.Position.{bytes_cmp}
-use Rattle.rc_mutation.specs.declared.mutations.Write.{Write}
-use Rattle.rc_machine.specs.Index.{numbers_of, IsIndexOf}
-use Rattle.rc_machine.proofs.Numbers.{index_more, index_same, popped}
+-- One write more.
+use Rattle.std.proofs.Common.{sym, subst}
+use Rattle.rc_lines.specs.Fits.{Fits}
+use Rattle.rc_lines.specs.declared.commands.Command.TheVariants.{Put}
+use Rattle.rc_lines.specs.declared.commands.Reply.TheVariants as replies
+use Rattle.rc_machine.specs.Stands.{Keeping}
+use Rattle.rc_machine.proofs.Standing.{from, takes_put}
 use Rattle.rc_machine.proofs.machine.Machine.put.Goals as goal
 
-pub invariant_of-self-in-Ok : goal.invariant_of-self-in-Ok
-invariant_of-self-in-Ok c =
-    let log : List Write = c.self.inside.log.items in
-    let count : c.len-number.result ≡ length log = omega (arith, c.len-number.ensures, c.self.inside.log.ok) in
-    let last : c.index.result.now ≡ c.args.write =
-    ◌∙◌ {A = Write} c.index.ensures (◌∙◌ {A = Write} (ap (λ (ws : List Write). get_or ws c.len-number.result c.index.result.now) c.in_ok-push.ensures.items)
-    (◌∙◌ {A = Write} (ap (λ n. get_or (log ++ c.args.write ∷ []) n c.index.result.now) count) (get_or-append_seam log c.args.write [] c.index.result.now))) in
-    let put : (q : List ℕ) → numbers_of c.add_number.new.index q ≡ numbers_of c.self.inside.index q ++ cond (eq_by_cmp bytes_cmp c.args.write.key q) (length log ∷ []) [] = λ q.
-    ◌∙◌ {A = List ℕ} (c.in-Ok.ensures.ok q) (◌∙◌ {A = List ℕ} (ap (λ (w : Write). numbers_of c.self.inside.index q ++ cond (eq_by_cmp bytes_cmp w.key q) (c.len-number.result ∷ []) []) last)
-    (ap (λ n. numbers_of c.self.inside.index q ++ cond (eq_by_cmp bytes_cmp c.args.write.key q) (n ∷ []) []) count)) in
-    subst (λ (ws : List Write). IsIndexOf ws c.add_number.new.index) (sym c.in_ok-push.ensures.items) (index_more log c.args.write c.self.inside.index c.add_number.new.index c.self.invariant put)
-
-pub invariant_of-self-in-Err : goal.invariant_of-self-in-Err
-invariant_of-self-in-Err c =
-    let log : List Write = c.self.inside.log.items in
-    let count : c.push.new.self.len ≡ length log + 1 = omega (arith, c.push.new.self.ok, ap length c.in_ok-push.ensures.items, length-append log (c.args.write ∷ [])) in
-    let back : c.pop.new.self.items ≡ log = popped log c.args.write c.push.new.self.items c.pop.new.self.items c.push.new.self.len c.in_ok-push.ensures.items count c.pop.ensures.rest in
-    subst (λ (ws : List Write). IsIndexOf ws c.add_number.new.index) (sym back) (index_same log c.self.inside.index c.add_number.new.index c.self.invariant c.in-Err.ensures.err)
+pub returns-clause-step : goal.returns-clause-step
+returns-clause-step c = λ files.
+    from (Put c.args.write) replies.Fine c.self.view_is (takes_put files _ c.args.write c.put.new.self (subst (λ (k : Keeping). Fits k.schema (Put c.args.write)) (sym c.self.view_is) c.requires) c.in_ok-put.ensures.ok)

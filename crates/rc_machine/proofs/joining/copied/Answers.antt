@@ -3,7 +3,7 @@ use Rattle.std.proofs.lemmas.Result.{IfOk-weaker}
 use Rattle.rc_mutation.specs.declared.mutations.Mutation.{Mutation}
 use Rattle.rc_mutation.specs.Source.{IsJoinOf}
 use Rattle.rc_mutation.specs.SourceLaws.{IsJoinOf-one}
-use Rattle.rc_machine.proofs.answers.copied.Goals as goal
+use Rattle.rc_machine.proofs.joining.copied.Goals as goal
 
 pub returns : goal.returns
 returns c =

@@ -5,7 +5,7 @@ use Rattle.rc_mutation.specs.declared.mutations.Mutation.{Mutation}
 use Rattle.rc_mutation.specs.Source.{IsJoinOf}
 use Rattle.rc_mutation.specs.SourceLaws.{IsJoinOf-none}
 use Rattle.rc_machine.proofs.Numbers.{joined_none, joined_one, joined_parts, split}
-use Rattle.rc_machine.proofs.answers.+joined.Goals as goal
+use Rattle.rc_machine.proofs.joining.+joined.Goals as goal
 
 pub returns-in-empty : goal.returns-in-empty
 returns-in-empty n c =
