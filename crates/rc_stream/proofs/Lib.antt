@@ -1,3 +1,9 @@
+pub mod Determined
+pub mod MergeLaws
+pub mod Merged
+pub mod Ordered
 pub mod Passing
 pub mod Says
+pub mod Seeking
+pub mod Stepping
 pub mod Whole

@@ -29,7 +29,7 @@ lt_le p x y Equal s a b h k = absurd (cc)
 lt_le p x y Greater s a b h k = absurd (cc)
 
 -- what a seek passes, a later one passes too
-passed_on : (x y : Pos) (f : Frag) → is_le (pos_cmp x y) ≡ true → is_passed x f ≡ true → is_passed y f ≡ true
+pub passed_on : (x y : Pos) (f : Frag) → is_le (pos_cmp x y) ≡ true → is_passed x f ≡ true → is_passed y f ≡ true
 passed_on x y (frag.Start pt) h e = absurd (cc)
 passed_on x y (frag.Static row) h e = absurd (cc)
 passed_on x y (frag.Row key row) h e = lt_le (row_pos key) x y (pos_cmp (row_pos key) x) (pos_cmp x y) refl refl e h
@@ -49,7 +49,7 @@ no_row y (frag.Row key row) e = ap (λ b. cond b (row ∷ []) []) (ap is_eq (pos
 no_row y (frag.Change from tomb) e = refl
 no_row y frag.End e = refl
 
-force-onward : (x y : Pos) → is_le (pos_cmp x y) ≡ true → (tomb : Option Tomb) (fs : List Frag) → force y tomb fs ≡ force y (force x tomb fs) (onward x fs)
+pub force-onward : (x y : Pos) → is_le (pos_cmp x y) ≡ true → (tomb : Option Tomb) (fs : List Frag) → force y tomb fs ≡ force y (force x tomb fs) (onward x fs)
 force-onward x y h tomb [] = refl
 force-onward x y h tomb (f ∷ fs) =
     elim (is_passed x f) as (λ b. is_passed x f ≡ b → force y tomb (f ∷ fs) ≡ force y (cond b (force x (after tomb f) fs) tomb) (cond b (onward x fs) (f ∷ fs))) [
@@ -57,11 +57,11 @@ force-onward x y h tomb (f ∷ fs) =
       | false ↦ λ e. refl
     ] refl
 
-force-opening : (x y : Pos) → is_le (pos_cmp x y) ≡ true → (tomb : Option Tomb) (fs : List Frag) → force y None (opening x tomb ++ fs) ≡ force y tomb fs
+pub force-opening : (x y : Pos) → is_le (pos_cmp x y) ≡ true → (tomb : Option Tomb) (fs : List Frag) → force y None (opening x tomb ++ fs) ≡ force y tomb fs
 force-opening x y h None fs = refl
 force-opening x y h (Some tomb) fs = ap (λ b. cond b (force y (Some tomb) fs) None) h
 
-rows-onward : (x y : Pos) → is_le (pos_cmp x y) ≡ true → (fs : List Frag) → flat_map (row_at y) (onward x fs) ≡ flat_map (row_at y) fs
+pub rows-onward : (x y : Pos) → is_le (pos_cmp x y) ≡ true → (fs : List Frag) → flat_map (row_at y) (onward x fs) ≡ flat_map (row_at y) fs
 rows-onward x y h [] = refl
 rows-onward x y h (f ∷ fs) =
     elim (is_passed x f) as (λ b. is_passed x f ≡ b → flat_map (row_at y) (cond b (onward x fs) (f ∷ fs)) ≡ flat_map (row_at y) (f ∷ fs)) [
@@ -69,7 +69,7 @@ rows-onward x y h (f ∷ fs) =
       | false ↦ λ e. refl
     ] refl
 
-rows-opening : (x y : Pos) (tomb : Option Tomb) (fs : List Frag) → flat_map (row_at y) (opening x tomb ++ fs) ≡ flat_map (row_at y) fs
+pub rows-opening : (x y : Pos) (tomb : Option Tomb) (fs : List Frag) → flat_map (row_at y) (opening x tomb ++ fs) ≡ flat_map (row_at y) fs
 rows-opening x y None fs = refl
 rows-opening x y (Some tomb) fs = refl
 

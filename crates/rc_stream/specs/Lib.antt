@@ -1,4 +1,5 @@
 pub mod Causes
 pub mod Fronts
+pub mod Merging
 pub mod Places
 pub mod Stream

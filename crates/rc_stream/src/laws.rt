@@ -1,6 +1,11 @@
 //! The laws of what this crate defines, each the contract of a function that does nothing.
 
 ghost use Rattle.std.specs.Prelude.{◌≡◌, ◌++◌, ◌∷◌, List, Some, None, map, IsTrue};
+ghost use Rattle.std.specs.Option.{option_to_list};
+ghost use Rattle.rc_cell.specs.Greatest.{greater};
+ghost use Rattle.rc_cell.specs.Orders.{tomb_cmp};
+ghost use Rattle.rc_mutation.specs.ByKey.{joined_if_any};
+ghost use Rattle.rc_stream.specs.Merging.{IsOrdered, IsTelling, joined_head, merged, rows_here};
 ghost use Rattle.std.specs.Ordering.{is_le};
 ghost use Rattle.rc_position.specs.declared.positions.Pos.{Pos};
 ghost use Rattle.rc_position.specs.Position.{pos_cmp};
@@ -8,7 +13,7 @@ ghost use Rattle.rc_mutation.specs.declared.fragments.Frag.{Frag};
 ghost use Rattle.rc_mutation.specs.declared.mutations.Mutation.{Mutation};
 ghost use Rattle.rc_mutation.specs.Fragments.{changes_of, fragments, in_order, placed_change, placed_row};
 ghost use Rattle.rc_mutation.specs.Source.{IsMutation};
-ghost use Rattle.rc_stream.specs.Stream.{Stream, is_passed, says, sought, stream_of, took};
+ghost use Rattle.rc_stream.specs.Stream.{Stream, force, is_passed, says, sought, stream_of, took};
 
 /// The stream of the fragments of a mutation has its partition tombstone and its static row, and gives its rows and changes
 /// of tombstone by position.
@@ -31,4 +36,40 @@ pub fn a_seek_changes_nothing_from_there_on()
 pub fn a_taken_fragment_changes_nothing_behind()
     ensures { (s : Stream) (f : Frag) (fs : List Frag) (y : Pos) →
         s.left ≡ f ∷ fs → IsTrue (is_passed y f) → says y (took (Some f) s) ≡ says y s }
+{}
+
+/// Two streams merged have the greater partition tombstone and the static rows as one, at each position the row of both as
+/// one, where one of both has any, and the greater of the tombstones in force there.
+pub fn a_merge_says_what_both_say()
+    ensures head { (s t : Stream) → (merged s t).head ≡ joined_head s.head t.head }
+    ensures rows { (s t : Stream) (x : Pos) → IsOrdered s.left → IsOrdered t.left →
+        rows_here x (merged s t).left ≡ option_to_list (joined_if_any (rows_here x s.left ++ rows_here x t.left)) }
+    ensures first { (s t : Stream) → (merged s t).tomb ≡ greater tomb_cmp s.tomb t.tomb }
+    ensures tombs { (s t : Stream) (x : Pos) → IsOrdered s.left → IsOrdered t.left →
+        force x (merged s t).tomb (merged s t).left ≡ greater tomb_cmp (force x s.tomb s.left) (force x t.tomb t.left) }
+{}
+
+/// Two streams merged are canonical: rows and changes by strictly ascending place, and each change tells of a tombstone
+/// that was not in force before it.
+pub fn a_merge_is_canonical()
+    ensures ordered { (s t : Stream) → IsOrdered s.left → IsOrdered t.left → IsOrdered (merged s t).left }
+    ensures telling { (s t : Stream) → IsOrdered s.left → IsOrdered t.left → IsTelling (merged s t).tomb (merged s t).left }
+{}
+
+/// Canonical streams of the same head and the same tombstone before their first that say the same at each position are
+/// equal.
+pub fn a_canonical_stream_is_determined()
+    ensures { (s t : Stream) → IsOrdered s.left → IsOrdered t.left → IsTelling s.tomb s.left → IsTelling t.tomb t.left →
+        s.head ≡ t.head → s.tomb ≡ t.tomb → ((x : Pos) → says x s ≡ says x t) → s ≡ t }
+{}
+
+/// Two streams merged and then sought are both sought and then merged.
+pub fn a_merge_is_sought_in_both()
+    ensures { (s t : Stream) (x : Pos) → IsOrdered s.left → IsOrdered t.left →
+        sought x (merged s t) ≡ merged (sought x s) (sought x t) }
+{}
+
+/// A later seek forgets an earlier one.
+pub fn a_later_seek_forgets_an_earlier()
+    ensures { (s : Stream) (x y : Pos) → IsTrue (is_le (pos_cmp x y)) → sought y (sought x s) ≡ sought y s }
 {}

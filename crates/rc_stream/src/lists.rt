@@ -119,13 +119,15 @@ impl ListFrags {
 }
 
 impl<H, W: Store> Frags<H, W> for ListFrags {
-    ghost use Rattle.std.specs.Prelude.{⊤};
+    ghost use Rattle.std.specs.Prelude.{◌≡◌, ⊤};
 
     ghost seen = { λ s. s };
 
     ghost ahead = { λ _ _. ⊤ };
 
     ghost stands = { λ _ _ _. ⊤ };
+
+    ghost moves = { λ home store home' store'. (home ≡ home') × (store ≡ store') };
 
     fn head(&mut self, alloc: Global, _home: &mut H, _store: &mut W) -> Result<Head, StreamErr> {
         match self.copy_head(alloc) {

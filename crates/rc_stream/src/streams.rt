@@ -53,6 +53,9 @@ pub trait Frags<H, W: Store> {
     // it stands over this home and this store
     ghost stands: { Self → H → W → Type 0 };
 
+    // what a call may make of a home and a store: another home and another store
+    ghost moves: { H → W → H → W → Type 0 };
+
     /// The head of the partition. The stream is as before. `StreamErr::Fault` when the store fails,
     /// `StreamErr::Damaged` when bytes of a file contradict it, `StreamErr::NoMemory` when memory is refused.
     fn head(&mut self, alloc: Global, home: &mut H, store: &mut W) -> Result<Head, StreamErr>
@@ -61,6 +64,7 @@ pub trait Frags<H, W: Store> {
         ensures seen { seen self.new ≡ seen self.old }
         ensures ahead { (x : Pos) → ahead self.old x → ahead self.new x }
         ensures stands { stands self.new home.new store.new }
+        ensures moves { moves home.old store.old home.new store.new }
         ensures cause { Caused result (W.files store.old) (W.faults store.old) (W.faults store.new) }
         ensures files { W.files store.new ≡ W.files store.old }
         ensures building { W.building store.new ≡ W.building store.old };
@@ -82,6 +86,7 @@ pub trait Frags<H, W: Store> {
         ensures ahead { OnOk result ((x : Pos) → Reaches to.now x → ahead self.new x) }
         ensures kept { OnErr result ((x : Pos) → ahead self.old x → ahead self.new x) }
         ensures stands { stands self.new home.new store.new }
+        ensures moves { moves home.old store.old home.new store.new }
         ensures cause { Caused result (W.files store.old) (W.faults store.old) (W.faults store.new) }
         ensures files { W.files store.new ≡ W.files store.old }
         ensures building { W.building store.new ≡ W.building store.old };
@@ -103,6 +108,7 @@ pub trait Frags<H, W: Store> {
         ensures err { OnErr result (seen self.new ≡ seen self.old) }
         ensures ahead { (x : Pos) → Passes result x → ahead self.old x → ahead self.new x }
         ensures stands { stands self.new home.new store.new }
+        ensures moves { moves home.old store.old home.new store.new }
         ensures cause { Caused result (W.files store.old) (W.faults store.old) (W.faults store.new) }
         ensures files { W.files store.new ≡ W.files store.old }
         ensures building { W.building store.new ≡ W.building store.old };
