@@ -1,5 +1,6 @@
 pub mod Causes
 pub mod Fronts
+pub mod Holding
 pub mod Merging
 pub mod Places
 pub mod Stream

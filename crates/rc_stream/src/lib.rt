@@ -2,6 +2,7 @@
 #![tactic(auto)]
 
 pub mod laws;
+mod holding;
 mod lists;
 mod streams;
 #[cfg(test)]
