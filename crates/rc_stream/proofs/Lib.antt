@@ -1,4 +1,6 @@
 pub mod Determined
+pub mod Held
+pub mod Joining
 pub mod MergeLaws
 pub mod Merged
 pub mod Ordered

@@ -68,7 +68,7 @@ static-inner (frag.Row key row ∷ fs) h = static-inner fs h.1
 static-inner (frag.Change from tomb ∷ fs) h = static-inner fs h.1
 static-inner (frag.End ∷ fs) h = absurd (let e = h.0 in cc)
 
-abbrev stream : Option Tomb → Row → List Frag → Stream
+abbrev pub stream : Option Tomb → Row → List Frag → Stream
 stream pt statics left = record { head = record { pt = pt; statics = statics }; tomb = None; left = left }
 
 abbrev same_row : Row → Row → Type 0

@@ -1,5 +1,6 @@
 -- What is held of a stream in front of what it still has: what was looked at and not given.
-use Rattle.std.specs.Prelude.{◌≡◌, ℕ, Bool, true, false, cond, List, [], ◌∷◌, ◌++◌, Option, Some, None, IsTrue, ⊤}
+use Rattle.std.specs.Prelude.{◌≡◌, ℕ, Bool, true, false, cond, ◌&&◌, List, [], ◌∷◌, ◌++◌, Option, Some, None, IsTrue, ⊤}
+use Rattle.std.specs.Ordering.{is_le}
 use Rattle.std.specs.FinMap.Entries.{by_order}
 use Rattle.rc_cell.specs.declared.rows.Row.{Row}
 use Rattle.rc_cell.specs.declared.writes.Tomb.{Tomb}
@@ -13,12 +14,17 @@ use Rattle.rc_mutation.specs.Fragments.{place_order}
 use Rattle.rc_stream.specs.declared.holding.Held.{Held}
 use Rattle.rc_stream.specs.declared.holding.Look.{Look}
 use Rattle.rc_stream.specs.declared.holding.Look.TheVariants as look
+use Rattle.rc_stream.specs.declared.holding.Step.{Step}
+use Rattle.rc_stream.specs.declared.holding.Step.TheVariants as step
 use Rattle.rc_stream.specs.declared.holding.Turn.{Turn}
 use Rattle.rc_stream.specs.declared.holding.Turn.TheVariants as turn
+use Rattle.rc_stream.specs.declared.lists.Front.{Front}
+use Rattle.rc_stream.specs.declared.lists.Front.TheVariants as front
 use Rattle.rc_stream.specs.Fronts.{front_change, front_tomb}
 use Rattle.rc_stream.specs.Places.{Reaches}
-use Rattle.rc_stream.specs.Stream.{Stream, after, is_upto}
-use Rattle.rc_stream.specs.Merging.{IsOrdered, StandsBefore, place_of}
+use Rattle.rc_position.specs.Position.{pos_cmp}
+use Rattle.rc_stream.specs.Stream.{Stream, after, force, is_passed, is_upto, onward, opening, rest}
+use Rattle.rc_stream.specs.Merging.{IsOrdered, StandsBefore, beside, changes_nothing, place_of, together}
 
 -- what was looked at and not given
 abbrev pub looked : Look → List Frag
@@ -67,15 +73,6 @@ abbrev pub first_of : List Frag → Option Frag
 first_of [] = None
 first_of (f ∷ fs) = Some f
 
--- the tombstone that a fragment changes to, if it is a change
-abbrev pub change_of : List Frag → Option (Option Tomb)
-change_of [] = None
-change_of (frag.Start pt ∷ fs) = None
-change_of (frag.Static row ∷ fs) = None
-change_of (frag.Row key row ∷ fs) = None
-change_of (frag.Change from tomb ∷ fs) = Some tomb
-change_of (frag.End ∷ fs) = None
-
 -- whether the first of some fragments stands at x or before it
 abbrev pub begins_upto : Pos → List Frag → Bool
 begins_upto x [] = false
@@ -94,3 +91,104 @@ is_near x turn.Nobody fs gs = false
 is_near x turn.Ours fs gs = begins_upto x fs
 is_near x turn.Theirs fs gs = begins_upto x gs
 is_near x turn.Both fs gs = begins_upto x fs
+
+-- whether a seek to x passes the change that is due, if one is
+abbrev pub front_passed : Pos → Front → Bool
+front_passed x (front.Passed tomb) = true
+front_passed x (front.Due from tomb) = is_le (pos_cmp from x)
+
+-- whether a seek to x passes the last that was taken from the stream
+abbrev pub look_passed : Pos → Look → Bool
+look_passed x look.Open = true
+look_passed x (look.Over z) = is_le (pos_cmp z x)
+look_passed x (look.Next f) = is_passed x f
+
+-- whether a seek to x passes all that is held, so that the stream is to be sought
+abbrev pub passes_held : Pos → Held → Bool
+passes_held x h = front_passed x h.front && look_passed x h.look
+
+-- what was held before, after a seek to x that does not pass all of it
+pub record WentOn (x : Pos) (h now : Held) : Type 0 where
+  pub look : now.look ≡ h.look
+  pub tomb : front_tomb now.front ≡ None
+  pub change : front_change now.front ≡ opening x (force x (front_tomb h.front) (front_change h.front)) ++ onward x (front_change h.front)
+
+-- a fragment is given, unless it changes nothing
+abbrev pub told : Option Tomb → Frag → Step
+told tomb f = cond (changes_nothing tomb f) step.Passed (step.Given f)
+
+-- what the first of fragments comes to that alone stands at its place, where the other stream has this tombstone in force
+abbrev pub alone : Option Tomb → Option Tomb → List Frag → Step
+alone tomb other [] = step.Nothing
+alone tomb other (f ∷ fs) = told (greater tomb_cmp tomb other) (beside other f)
+
+-- what the first of both come to
+abbrev pub paired : Option Tomb → List Frag → List Frag → Step
+paired tomb [] gs = step.Nothing
+paired tomb (f ∷ fs) [] = step.Nothing
+paired tomb (f ∷ fs) (g ∷ gs) = told tomb (together f g)
+
+-- x is not before the fragment that a step gave, if it gave one
+abbrev pub StepReaches : Step → Pos → Type 0
+StepReaches step.Nothing x = ⊤
+StepReaches step.Passed x = ⊤
+StepReaches (step.Given f) x = IsTrue (is_upto x f)
+
+-- the first of what was held was taken in a step
+pub record Took (s : Step) (h now : Held) : Type 0 where
+  pub left : held now ≡ rest (held h)
+  pub tomb : front_tomb now.front ≡ behind_first (front_tomb h.front) (held h)
+  pub from : IsOrdered (held h) → (x : Pos) → StepReaches s x → IsFrom now.look x → IsFrom h.look x
+  pub over : (fs : List Frag) → IsOrdered (held h ++ fs) → StandsOver h.look fs → StandsOver now.look fs
+
+-- a step of a merge: nothing; the first of one, alone at its place; the first of both, at one place
+abbrev pub Does : Turn → Step → Held → Held → Held → Held → Type 0
+Does turn.Nobody s ours theirs ours' theirs' = (s ≡ step.Nothing) × (ours' ≡ ours) × (theirs' ≡ theirs)
+Does turn.Ours s ours theirs ours' theirs' = (s ≡ alone (front_tomb ours.front) (front_tomb theirs.front) (held ours)) × Took s ours ours' × (theirs' ≡ theirs)
+Does turn.Theirs s ours theirs ours' theirs' = (s ≡ alone (front_tomb theirs.front) (front_tomb ours.front) (held theirs)) × (ours' ≡ ours) × Took s theirs theirs'
+Does turn.Both s ours theirs ours' theirs' = (s ≡ paired (greater tomb_cmp (front_tomb ours.front) (front_tomb theirs.front)) (held ours) (held theirs)) × Took s ours ours' × Took s theirs theirs'
+
+-- whose turn it is up to x
+abbrev pub turn_of : Pos → List Frag → List Frag → Turn
+turn_of x fs gs = cond (is_near x (nearer fs gs) fs gs) (nearer fs gs) turn.Nobody
+
+-- the nearer of a position and that of the first of fragments
+abbrev pub bound_of : Pos → List Frag → Pos
+bound_of x [] = x
+bound_of x (f ∷ fs) = cond (is_le (pos_cmp x (place_of f).0)) x (place_of f).0
+
+-- a row of the first of fragments, if it is one
+abbrev pub row_of : List Frag → Option Row
+row_of [] = None
+row_of (frag.Start pt ∷ fs) = None
+row_of (frag.Static row ∷ fs) = None
+row_of (frag.Row key row ∷ fs) = Some row
+row_of (frag.Change from tomb ∷ fs) = None
+row_of (frag.End ∷ fs) = None
+
+-- two rows as one, where there are both
+abbrev pub row_of_both : Option Row → Option Row → Option Row
+row_of_both None other = None
+row_of_both (Some row) None = None
+row_of_both (Some row) (Some other) = Some (joined_row (row ∷ other ∷ []))
+
+-- what was looked at, after the first that is held was taken
+abbrev pub look_taken : Front → Look → Look
+look_taken (front.Due from tomb) l = l
+look_taken (front.Passed tomb) look.Open = look.Open
+look_taken (front.Passed tomb) (look.Over z) = look.Over z
+look_taken (front.Passed tomb) (look.Next f) = look.Open
+
+-- what is kept of a change at z that was passed over
+abbrev pub passed_over : Pos → Look → Look
+passed_over z look.Open = look.Over z
+passed_over z (look.Over x) = look.Over x
+passed_over z (look.Next f) = look.Next f
+
+-- what is kept of a fragment that was passed over, if it is a change
+abbrev pub dropped : Frag → Look → Look
+dropped (frag.Start pt) l = l
+dropped (frag.Static row) l = l
+dropped (frag.Row key row) l = l
+dropped (frag.Change z tomb) l = passed_over z l
+dropped frag.End l = l

@@ -1,6 +1,6 @@
 //! The laws of what this crate defines, each the contract of a function that does nothing.
 
-ghost use Rattle.std.specs.Prelude.{◌≡◌, ◌++◌, ◌∷◌, List, Some, None, map, IsTrue};
+ghost use Rattle.std.specs.Prelude.{◌≡◌, ◌++◌, ◌∷◌, [], List, Some, None, map, IsTrue};
 ghost use Rattle.std.specs.Option.{option_to_list};
 ghost use Rattle.rc_cell.specs.Greatest.{greater};
 ghost use Rattle.rc_cell.specs.Orders.{tomb_cmp};
@@ -12,7 +12,7 @@ ghost use Rattle.rc_position.specs.Position.{pos_cmp};
 ghost use Rattle.rc_mutation.specs.declared.fragments.Frag.{Frag};
 ghost use Rattle.rc_mutation.specs.declared.mutations.Mutation.{Mutation};
 ghost use Rattle.rc_mutation.specs.Fragments.{changes_of, fragments, in_order, placed_change, placed_row};
-ghost use Rattle.rc_mutation.specs.Source.{IsMutation};
+ghost use Rattle.rc_mutation.specs.Source.{IsJoinOf, IsMutation};
 ghost use Rattle.rc_stream.specs.Stream.{Stream, force, is_passed, says, sought, stream_of, took};
 
 /// The stream of the fragments of a mutation has its partition tombstone and its static row, and gives its rows and changes
@@ -47,6 +47,13 @@ pub fn a_merge_says_what_both_say()
     ensures first { (s t : Stream) → (merged s t).tomb ≡ greater tomb_cmp s.tomb t.tomb }
     ensures tombs { (s t : Stream) (x : Pos) → IsOrdered s.left → IsOrdered t.left →
         force x (merged s t).tomb (merged s t).left ≡ greater tomb_cmp (force x s.tomb s.left) (force x t.tomb t.left) }
+{}
+
+/// The streams of the fragments of two mutations, merged, are the stream of the fragments of what both join to.
+pub fn a_merge_is_the_stream_of_the_join()
+    ensures { (one other joined : Mutation) → IsMutation one → IsMutation other → IsMutation joined →
+        IsJoinOf joined (one ∷ other ∷ []) →
+        merged (stream_of (fragments one)) (stream_of (fragments other)) ≡ stream_of (fragments joined) }
 {}
 
 /// Two streams merged are canonical: rows and changes by strictly ascending place, and each change tells of a tombstone

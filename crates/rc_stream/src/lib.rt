@@ -1,8 +1,8 @@
 //! Streams of one partition: its rows and changes of tombstone, taken one after another.
 #![tactic(auto)]
 
-pub mod laws;
 mod holding;
+pub mod laws;
 mod lists;
 mod streams;
 #[cfg(test)]
