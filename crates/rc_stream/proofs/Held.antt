@@ -35,7 +35,7 @@ abbrev or_self : Frag → Option Frag → Frag
 or_self f None = f
 or_self f (Some g) = g
 
-same-some : (f g : Frag) → ◌≡◌ {A = Option Frag} (Some f) (Some g) → f ≡ g
+pub same-some : (f g : Frag) → ◌≡◌ {A = Option Frag} (Some f) (Some g) → f ≡ g
 same-some f g e = ap (or_self f) e
 
 pub alone-is : (tomb other : Option Tomb) (f : Frag) (fs : List Frag) → Some f ≡ first_of fs → told (greater tomb_cmp tomb other) (beside other f) ≡ alone tomb other fs

@@ -7,6 +7,7 @@ ghost use Rattle.rc_mutation.specs.Fragments.{place_order};
 ghost use Rattle.rc_stream.specs.Fronts.{front_change, front_tomb};
 ghost use Rattle.rc_stream.specs.Stream.{rest};
 ghost use Rattle.rc_stream.specs.Merging.{beside, changes_nothing, place_of, same_tomb, together};
+ghost use Rattle.rc_stream.specs.Moving.{holds};
 ghost use Rattle.rc_stream.specs.Holding.{Does, Took, WentOn, alone, begins_upto, behind_first, bound_of, dropped, first_of, held, is_near, look_passed, look_taken, looked, nearer, paired, passed_over, passes_held, row_of, row_of_both, told, turn_of};
 
 use crate::lists::{Front, front_at, passes, row_pos, stands_upto, tomb_after};
@@ -111,6 +112,17 @@ impl Held {
         match &self.front {
             Front::Due(from, _) => Ok(from.cmp(upto).is_le()),
             Front::Passed(_) => self.look.begins_upto(alloc, upto),
+        }
+    }
+
+    /// Holds a fragment that was taken from the stream, if one was.
+    pub(crate) fn hold(&mut self, got: Option<Frag>)
+        ensures front { self.new.front ≡ self.old.front }
+        ensures look { self.new.look ≡ holds got self.old.look }
+    {
+        match got {
+            Some(frag) => self.look = Look::Next(frag),
+            None => {}
         }
     }
 

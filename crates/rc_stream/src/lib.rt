@@ -4,6 +4,8 @@
 mod holding;
 pub mod laws;
 mod lists;
+mod merges;
+mod parts;
 mod streams;
 #[cfg(test)]
 mod tests;
