@@ -4,7 +4,7 @@ ghost use Rattle.rc_cell.specs.Greatest.{is_nil};
 ghost use Rattle.rc_position.specs.declared.positions.Pos.{Pos};
 ghost use Rattle.rc_stream.specs.Causes.{Caused};
 ghost use Rattle.rc_stream.specs.Holding.{Fits, held, whole};
-ghost use Rattle.rc_stream.specs.Moving.{MaySeek, Once};
+ghost use Rattle.rc_stream.specs.Moving.{AskedUpto, MaySeek, Once};
 ghost use Rattle.rc_stream.specs.Places.{Reaches};
 ghost use Rattle.rc_stream.specs.Stream.{first_upto, sought};
 
@@ -27,6 +27,7 @@ pub(crate) fn look_ahead<H, W: Store, A: Frags<H, W>>(
     requires fits { Fits kept.old (A.seen stream.old) }
     ensures whole { whole kept.new (A.seen stream.new) ≡ whole kept.old (A.seen stream.old) }
     ensures fits { Fits kept.new (A.seen stream.new) }
+    ensures no_further { AskedUpto upto.now (A.seen stream.old) (A.seen stream.new) }
     ensures known { OnOk result (held kept.new ≡ [] → first_upto upto.now (A.seen stream.new).left ≡ None) }
     ensures ahead { (x : Pos) → MaySeek (A.ahead stream.old) kept.old.look x → MaySeek (A.ahead stream.new) kept.new.look x }
     ensures stands { A.stands stream.new home.new store.new }
