@@ -1,5 +1,5 @@
 -- What calls one after another make of a home and a store, and of what causes a refusal.
-use Rattle.std.specs.Prelude.{◌≡◌, ◌⊎◌, ℕ, zero, suc, ◌≤◌, ◌<◌, Bool, true, false, Option, Some, None, Result, Ok, Err, IsTrue}
+use Rattle.std.specs.Prelude.{◌≡◌, ◌⊎◌, ℕ, zero, suc, ◌≤◌, ◌<◌, Bool, true, false, List, [], ◌∷◌, ◌++◌, Option, Some, None, Result, Ok, Err, IsTrue}
 use Rattle.std.proofs.Common.{refl, sym, ap, ◌∙◌, subst, arith, inl, inr, ⊎_elim}
 use Rattle.rc_position.specs.declared.positions.Pos.{Pos}
 use Rattle.rc_position.specs.Position.{pos_cmp, row_pos}
@@ -16,7 +16,7 @@ use Rattle.rc_stream.specs.declared.holding.Turn.TheVariants as turn
 use Rattle.rc_stream.specs.declared.streams.StreamErr.{StreamErr}
 use Rattle.rc_stream.specs.declared.streams.StreamErr.TheVariants.{Fault, Damaged, NoMemory}
 use Rattle.rc_stream.specs.Causes.{Caused}
-use Rattle.rc_stream.specs.Merging.{IsOrdered}
+use Rattle.rc_stream.specs.Merging.{IsOrdered, StandsBefore, place_of}
 use Rattle.rc_stream.specs.Places.{Reaches}
 use Rattle.rc_stream.specs.Stream.{is_upto}
 use Rattle.rc_stream.specs.Holding.{Does, IsFrom, StepReaches, Took, held}
@@ -84,3 +84,11 @@ pub reaches-on : (s : Step) (x y : Pos) → Reaches x y → StepReaches s x → 
 reaches-on step.Nothing x y r u = tt
 reaches-on step.Passed x y r u = tt
 reaches-on (step.Given f) x y r u = upto-on x y f r u
+
+before-front : (p : Pos × ℕ) (fs gs : List Frag) → StandsBefore p (fs ++ gs) → StandsBefore p fs
+before-front p [] gs h = tt
+before-front p (f ∷ fs) gs h = (h.0, before-front p fs gs h.1)
+
+pub front-ordered : (fs gs : List Frag) → IsOrdered (fs ++ gs) → IsOrdered fs
+front-ordered [] gs o = tt
+front-ordered (f ∷ fs) gs o = (o.0, before-front (place_of f) fs gs o.1, front-ordered fs gs o.2)

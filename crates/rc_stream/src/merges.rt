@@ -87,7 +87,16 @@ fn round<H, W: Store, A: Frags<H, W>, B: Frags<H, W>>(
     ensures files { W.files store.new ≡ W.files store.old }
     ensures building { W.building store.new ≡ W.building store.old }
 {
-    match look_at_both(alloc, ours, ours_held, theirs, theirs_held, home, store, upto) {
+    match look_at_both(
+        alloc,
+        ours,
+        ours_held,
+        theirs,
+        theirs_held,
+        home,
+        store,
+        upto,
+    ) {
         Ok(()) => match make_step(alloc, ours_held, theirs_held, upto) {
             Ok(step) => Ok(step),
             Err(_) => Err(StreamErr::NoMemory),
