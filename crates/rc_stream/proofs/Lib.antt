@@ -1,9 +1,13 @@
 pub mod Determined
+pub mod Going
+pub mod Held
 pub mod Joining
+pub mod Looking
 pub mod MergeLaws
 pub mod Merged
 pub mod Ordered
 pub mod Passing
+pub mod Rounds
 pub mod Says
 pub mod Seeking
 pub mod Stepping

@@ -2,7 +2,8 @@
 --     IsOrdered       rows and changes by strictly ascending place
 --     IsTelling       no change is to the tombstone that was in force before it
 --     merged          the canonical stream of what two streams say together
-use Rattle.std.specs.Prelude.{◌≡◌, ℕ, Bool, true, false, cond, List, [], ◌∷◌, ◌++◌, Option, Some, None, map as list_map}
+use Rattle.std.specs.Prelude.{◌≡◌, ◌≢◌, ℕ, Bool, true, false, cond, List, [], ◌∷◌, ◌++◌, Option, Some, None, map as list_map}
+use Rattle.std.specs.declared.cmp.Ordering.{Ordering}
 use Rattle.std.specs.declared.cmp.Ordering.TheVariants.{Less}
 use Rattle.std.specs.Ordering.{eq_by_cmp}
 use Rattle.std.specs.List.{flat_map}
@@ -12,6 +13,7 @@ use Rattle.rc_cell.specs.Greatest.{greater}
 use Rattle.rc_cell.specs.Orders.{tomb_cmp}
 use Rattle.rc_cell.specs.Winner.{joined_row, IsRow}
 use Rattle.rc_position.specs.declared.positions.Pos.{Pos}
+use Rattle.rc_position.specs.declared.positions.Weight.{Weight}
 use Rattle.rc_position.specs.declared.positions.Weight.TheVariants.{Before}
 use Rattle.rc_position.specs.Position.{row_pos}
 use Rattle.rc_mutation.specs.declared.fragments.Frag.{Frag}
@@ -98,3 +100,17 @@ joined_head h k = record { pt = greater tomb_cmp h.pt k.pt; statics = joined_row
 -- two streams as one
 unfoldable pub merged : Stream → Stream → Stream
 merged s t = record { head = joined_head s.head t.head; tomb = greater tomb_cmp s.tomb t.tomb; left = merged_left s.tomb s.left t.tomb t.left }
+
+-- a fragment that only one of both has at its place, where the other has this tombstone in force
+abbrev pub beside : Option Tomb → Frag → Frag
+beside other (frag.Start pt) = frag.Start pt
+beside other (frag.Static row) = frag.Static row
+beside other (frag.Row key row) = frag.Row key row
+beside other (frag.Change from next) = frag.Change from (greater tomb_cmp next other)
+beside other frag.End = frag.End
+
+-- two fragments at one place as one
+abbrev pub together : Frag → Frag → Frag
+together (frag.Row key row) (frag.Row key' row') = frag.Row key (joined_row (row ∷ row' ∷ []))
+together (frag.Change from next) (frag.Change from' next') = frag.Change from (greater tomb_cmp next next')
+together f g = f

@@ -1,8 +1,11 @@
 //! Streams of one partition: its rows and changes of tombstone, taken one after another.
 #![tactic(auto)]
 
+mod holding;
 pub mod laws;
 mod lists;
+mod merges;
+mod parts;
 mod streams;
 #[cfg(test)]
 mod tests;

@@ -14,7 +14,7 @@ use std::marker::Model;
 
 /// What comes before the rows and changes of a list that were not passed yet.
 #[derive(Drop)]
-enum Front {
+pub(crate) enum Front {
     /// Nothing: this range tombstone is in force.
     Passed(Option<Tomb>),
     /// A change at this position to this tombstone, which a seek found in force.
@@ -58,8 +58,8 @@ impl ListFrags {
         }
     }
 
-    /// The head of the partition. The only error is want of memory.
-    pub fn copy_head(&self, alloc: Global) -> Result<Head, AllocError>
+    // The head of the partition.
+    fn copy_head(&self, alloc: Global) -> Result<Head, AllocError>
         ensures { IfOk result (λ head. head ≡ self.now.head) }
     {
         let items = self.list.as_slice();
@@ -70,8 +70,8 @@ impl ListFrags {
         })
     }
 
-    /// Goes on to the position. The only error is want of memory: then the stream is as it was.
-    pub fn go_on(&mut self, alloc: Global, to: &Pos) -> Result<(), AllocError>
+    // Goes on to the position.
+    fn go_on(&mut self, alloc: Global, to: &Pos) -> Result<(), AllocError>
         ensures ok { OnOk result (self.new ≡ sought to.now self.old) }
         ensures err { OnErr result (self.new ≡ self.old) }
     {
@@ -88,9 +88,8 @@ impl ListFrags {
         Ok(())
     }
 
-    /// Takes the first that is left, if it stands at `upto` or before it. The only error is want of memory: then the stream is as it
-    /// was.
-    pub fn take_first(&mut self, alloc: Global, upto: &Pos) -> Result<Option<Frag>, AllocError>
+    // Takes the first that is left, if it stands at `upto` or before it.
+    fn take_first(&mut self, alloc: Global, upto: &Pos) -> Result<Option<Frag>, AllocError>
         ensures gives { IfOk result (λ got. got ≡ first_upto upto.now self.old.left) }
         ensures left { IfOk result (λ got. self.new ≡ took got self.old) }
         ensures err { OnErr result (self.new ≡ self.old) }
@@ -232,7 +231,7 @@ fn pass(
 }
 
 // What a seek puts before what it left: a change at the position to the tombstone in force there, if one is.
-fn front_at(alloc: Global, x: &Pos, tomb: Option<Tomb>) -> Result<Front, AllocError>
+pub(crate) fn front_at(alloc: Global, x: &Pos, tomb: Option<Tomb>) -> Result<Front, AllocError>
     ensures tomb { IfOk result (λ front. front_tomb front ≡ None) }
     ensures change { IfOk result (λ front. front_change front ≡ opening x.now tomb) }
 {
@@ -243,7 +242,7 @@ fn front_at(alloc: Global, x: &Pos, tomb: Option<Tomb>) -> Result<Front, AllocEr
 }
 
 // Whether a seek to the position passes the fragment.
-fn passes(alloc: Global, frag: &Frag, to: &Pos) -> Result<bool, AllocError>
+pub(crate) fn passes(alloc: Global, frag: &Frag, to: &Pos) -> Result<bool, AllocError>
     ensures { IfOk result (λ b. b ≡ is_passed to.now frag.now) }
 {
     match frag {
@@ -254,7 +253,7 @@ fn passes(alloc: Global, frag: &Frag, to: &Pos) -> Result<bool, AllocError>
 }
 
 // Whether the fragment is a row or a change at the position or before it.
-fn stands_upto(alloc: Global, frag: &Frag, upto: &Pos) -> Result<bool, AllocError>
+pub(crate) fn stands_upto(alloc: Global, frag: &Frag, upto: &Pos) -> Result<bool, AllocError>
     ensures { IfOk result (λ b. b ≡ is_upto upto.now frag.now) }
 {
     match frag {
@@ -265,7 +264,7 @@ fn stands_upto(alloc: Global, frag: &Frag, upto: &Pos) -> Result<bool, AllocErro
 }
 
 // Where the row of the key stands.
-fn row_pos(alloc: Global, key: &Key) -> Result<Pos, AllocError>
+pub(crate) fn row_pos(alloc: Global, key: &Key) -> Result<Pos, AllocError>
     ensures { IfOk result (λ x. x ≡ row_pos key.now) }
 {
     Ok(Pos {
@@ -288,7 +287,7 @@ fn copy_first(alloc: Global, items: &[Frag], upto: &Pos) -> Result<Option<Frag>,
 }
 
 // The range tombstone in force behind the fragment.
-fn tomb_after(tomb: Option<Tomb>, frag: &Frag) -> Option<Tomb>
+pub(crate) fn tomb_after(tomb: Option<Tomb>, frag: &Frag) -> Option<Tomb>
     ensures { result ≡ after tomb frag.now }
 {
     match frag {

@@ -1,0 +1,94 @@
+-- What calls one after another make of a home and a store, and of what causes a refusal.
+use Rattle.std.specs.Prelude.{◌≡◌, ◌⊎◌, ℕ, zero, suc, ◌≤◌, ◌<◌, Bool, true, false, List, [], ◌∷◌, ◌++◌, Option, Some, None, Result, Ok, Err, IsTrue}
+use Rattle.std.proofs.Common.{refl, sym, ap, ◌∙◌, subst, arith, inl, inr, ⊎_elim}
+use Rattle.rc_position.specs.declared.positions.Pos.{Pos}
+use Rattle.rc_position.specs.Position.{pos_cmp, row_pos}
+use Rattle.std.specs.Ordering.{is_le}
+use Rattle.rc_mutation.specs.declared.fragments.Frag.{Frag}
+use Rattle.rc_mutation.specs.declared.fragments.Frag.TheVariants as frag
+use Rattle.rc_outside.specs.Faults.{Rose}
+use Rattle.rc_outside.specs.Files.{Files}
+use Rattle.rc_stream.specs.declared.holding.Held.{Held}
+use Rattle.rc_stream.specs.declared.holding.Step.{Step}
+use Rattle.rc_stream.specs.declared.holding.Step.TheVariants as step
+use Rattle.rc_stream.specs.declared.holding.Turn.{Turn}
+use Rattle.rc_stream.specs.declared.holding.Turn.TheVariants as turn
+use Rattle.rc_stream.specs.declared.streams.StreamErr.{StreamErr}
+use Rattle.rc_stream.specs.declared.streams.StreamErr.TheVariants.{Fault, Damaged, NoMemory}
+use Rattle.rc_stream.specs.Causes.{Caused}
+use Rattle.rc_stream.specs.Merging.{IsOrdered, StandsBefore, place_of}
+use Rattle.rc_stream.specs.Places.{Reaches}
+use Rattle.rc_stream.specs.Stream.{is_upto}
+use Rattle.rc_stream.specs.Holding.{Does, IsFrom, StepReaches, Took, held}
+use Rattle.rc_stream.specs.Moving.{Either, Keeps, MaySeek, Moved, Moves, Once}
+use Rattle.rc_stream.proofs.Says.{le_le}
+
+pub moved-none : {H W : Type 0} (P Q : H → W → H → W → Type 0) (h : H) (w : W) → Moved P Q h w h w
+moved-none P Q h w = (zero, (refl, refl))
+
+same-states : {H W : Type 0} (P : H → W → Type 0) (h g : H) (w v : W) → h ≡ g → w ≡ v → P h w → P g v
+same-states P h g w v e f p = subst (λ u. P g u) f (subst (λ k. P k w) e p)
+
+pub once-ours : {H W : Type 0} (P Q : H → W → H → W → Type 0) (h : H) (w : W) (g : H) (v : W) → Once P h w g v → Moved P Q h w g v
+once-ours P Q h w g v (inl e) = (zero, e)
+once-ours P Q h w g v (inr m) = (suc zero, (g, v, inl m, (refl, refl)))
+
+pub once-theirs : {H W : Type 0} (P Q : H → W → H → W → Type 0) (h : H) (w : W) (g : H) (v : W) → Once Q h w g v → Moved P Q h w g v
+once-theirs P Q h w g v (inl e) = (zero, e)
+once-theirs P Q h w g v (inr m) = (suc zero, (g, v, inr m, (refl, refl)))
+
+more : {H W : Type 0} (P Q : H → W → H → W → Type 0) (n : ℕ) (h : H) (w : W) (g : H) (v : W) (k : H) (u : W) → Moves (Either P Q) n h w g v → Moved P Q g v k u → Moved P Q h w k u
+more P Q zero h w g v k u m r = same-states (λ a b. Moved P Q a b k u) g h v w (sym m.0) (sym m.1) r
+more P Q (suc n) h w g v k u m r = let s = more P Q n m.0 m.1 g v k u m.3 r in (suc s.0, (m.0, m.1, m.2, s.1))
+
+pub moved-moved : {H W : Type 0} (P Q : H → W → H → W → Type 0) (h : H) (w : W) (g : H) (v : W) (k : H) (u : W) → Moved P Q h w g v → Moved P Q g v k u → Moved P Q h w k u
+moved-moved P Q h w g v k u m r = more P Q m.0 h w g v k u m.1 r
+
+-- a part stands on where the other was called
+pub once-keeps : {H W X : Type 0} (P : H → W → H → W → Type 0) (stands : X → H → W → Type 0) (x : X) (h : H) (w : W) (g : H) (v : W) → Keeps P stands → Once P h w g v → stands x h w → stands x g v
+once-keeps P stands x h w g v keeps (inl e) s = same-states (stands x) h g w v e.0 e.1 s
+once-keeps P stands x h w g v keeps (inr m) s = keeps x h w g v m s
+
+rose_more : (before mid now : ℕ) → before ≤ mid → Rose mid now → Rose before now
+rose_more before mid now h r = omega (arith, h, r)
+
+-- a refusal of a later call has its cause since an earlier one
+pub caused-after : {X : Type 0} (r : Result X StreamErr) (files files' : Option Files) (before mid now : ℕ) → files' ≡ files → before ≤ mid → Caused r files' mid now → Caused r files before now
+caused-after (Ok v) files files' before mid now e h c = omega (arith, h, c)
+caused-after (Err Fault) files files' before mid now e h c = (omega (arith, h, c.0), rose_more before mid now h c.1)
+caused-after (Err (Damaged file offset)) files files' before mid now e h c = (omega (arith, h, c.0), sym e ∙ c.1)
+caused-after (Err NoMemory) files files' before mid now e h c = omega (arith, h, c)
+
+-- ---- from where both go on after a step
+
+pub does-ours : (r : Turn) (s : Step) (o t o' t' : Held) → Does r s o t o' t' → IsOrdered (held o) → (x : Pos) → StepReaches s x → IsFrom o'.look x → IsFrom o.look x
+does-ours turn.Nobody s o t o' t' d k x u h = subst (λ (z : Held). IsFrom z.look x) d.1 h
+does-ours turn.Ours s o t o' t' d k x u h = d.1.from k x u h
+does-ours turn.Theirs s o t o' t' d k x u h = subst (λ (z : Held). IsFrom z.look x) d.1 h
+does-ours turn.Both s o t o' t' d k x u h = d.1.from k x u h
+
+pub does-theirs : (r : Turn) (s : Step) (o t o' t' : Held) → Does r s o t o' t' → IsOrdered (held t) → (x : Pos) → StepReaches s x → IsFrom t'.look x → IsFrom t.look x
+does-theirs turn.Nobody s o t o' t' d k x u h = subst (λ (z : Held). IsFrom z.look x) d.2 h
+does-theirs turn.Ours s o t o' t' d k x u h = subst (λ (z : Held). IsFrom z.look x) d.2 h
+does-theirs turn.Theirs s o t o' t' d k x u h = d.2.from k x u h
+does-theirs turn.Both s o t o' t' d k x u h = d.2.from k x u h
+
+upto-on : (x y : Pos) (f : Frag) → Reaches x y → is_upto x f ≡ true → is_upto y f ≡ true
+upto-on x y (frag.Start pt) r u = absurd (cc)
+upto-on x y (frag.Static row) r u = absurd (cc)
+upto-on x y (frag.Row key row) r u = le_le (row_pos key) x y (pos_cmp (row_pos key) x) (pos_cmp x y) refl refl u r
+upto-on x y (frag.Change from t) r u = le_le from x y (pos_cmp from x) (pos_cmp x y) refl refl u r
+upto-on x y frag.End r u = absurd (cc)
+
+pub reaches-on : (s : Step) (x y : Pos) → Reaches x y → StepReaches s x → StepReaches s y
+reaches-on step.Nothing x y r u = tt
+reaches-on step.Passed x y r u = tt
+reaches-on (step.Given f) x y r u = upto-on x y f r u
+
+before-front : (p : Pos × ℕ) (fs gs : List Frag) → StandsBefore p (fs ++ gs) → StandsBefore p fs
+before-front p [] gs h = tt
+before-front p (f ∷ fs) gs h = (h.0, before-front p fs gs h.1)
+
+pub front-ordered : (fs gs : List Frag) → IsOrdered (fs ++ gs) → IsOrdered fs
+front-ordered [] gs o = tt
+front-ordered (f ∷ fs) gs o = (o.0, before-front (place_of f) fs gs o.1, front-ordered fs gs o.2)

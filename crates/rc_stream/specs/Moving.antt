@@ -1,0 +1,63 @@
+-- How a stream and what is held of it go together over a home and a store.
+use Rattle.std.specs.Prelude.{◌≡◌, ◌⊎◌, ℕ, zero, suc, ◌<◌, ⊤, List, [], Option, Some, None, Result, Ok, Err}
+use Rattle.rc_position.specs.declared.positions.Pos.{Pos}
+use Rattle.rc_mutation.specs.declared.fragments.Frag.{Frag}
+use Rattle.rc_stream.specs.declared.holding.Look.{Look}
+use Rattle.rc_stream.specs.declared.holding.Look.TheVariants as look
+use Rattle.rc_stream.specs.declared.holding.Step.{Step}
+use Rattle.rc_stream.specs.declared.holding.Step.TheVariants as step
+use Rattle.rc_stream.specs.Places.{Reaches}
+use Rattle.rc_stream.specs.Stream.{Stream, first_upto, took}
+use Rattle.rc_stream.specs.declared.streams.StreamErr.{StreamErr}
+use Rattle.rc_stream.specs.Holding.{IsFrom, StepReaches}
+
+-- a home and a store are as they were, or as a call made them
+abbrev pub Once : {H W : Type 0} → (H → W → H → W → Type 0) → H → W → H → W → Type 0
+Once {H} {W} moves h w g v = ((h ≡ g) × (w ≡ v)) ⊎ moves h w g v
+
+-- each position from x on that is not before what was taken is ahead of the stream
+abbrev pub MaySeek : (Pos → Type 0) → Look → Pos → Type 0
+MaySeek ahead l x = (y : Pos) → Reaches x y → IsFrom l y → ahead y
+
+-- what was looked at, after a fragment was taken from the stream, if one was
+abbrev pub holds : Option Frag → Look → Look
+holds None l = l
+holds (Some f) l = look.Next f
+
+-- what a step makes of the stream of a merge: nothing stands up to x; a change was passed over; or the first was taken, which stands there
+abbrev pub StepSays : Step → Pos → Stream → Stream → Type 0
+StepSays step.Nothing x s now = (now ≡ s) × (first_upto x s.left ≡ None)
+StepSays step.Passed x s now = now ≡ s
+StepSays (step.Given f) x s now = (first_upto x s.left ≡ Some f) × (now ≡ took (Some f) s)
+
+-- fewer fragments are left, where a step passed over one
+abbrev pub StepsOn : Step → (now before : ℕ) → Type 0
+StepsOn step.Nothing now before = ⊤
+StepsOn step.Passed now before = now < before
+StepsOn (step.Given f) now before = ⊤
+
+-- a step of one of two kinds
+abbrev pub Either : {H W : Type 0} → (P Q : H → W → H → W → Type 0) → H → W → H → W → Type 0
+Either P Q h w g v = P h w g v ⊎ Q h w g v
+
+-- so many calls, one after another
+abbrev pub Moves : {H W : Type 0} → (H → W → H → W → Type 0) → ℕ → H → W → H → W → Type 0
+Moves moves zero h w g v = (h ≡ g) × (w ≡ v)
+Moves {H} {W} moves (suc n) h w g v = (k : H) × (u : W) × moves h w k u × Moves moves n k u g v
+
+-- what any number of calls of two parts may make of a home and a store
+abbrev pub Moved : {H W : Type 0} → (P Q : H → W → H → W → Type 0) → H → W → H → W → Type 0
+Moved P Q h w g v = (n : ℕ) × Moves (Either P Q) n h w g v
+
+-- what calls of one part may make of home and store leaves another one standing
+abbrev pub Keeps : {H W X : Type 0} → (H → W → H → W → Type 0) → (X → H → W → Type 0) → Type 0
+Keeps {H} {W} {X} moves stands = (t : X) (h : H) (w : W) (g : H) (v : W) → moves h w g v → stands t h w → stands t g v
+
+-- x is not before the fragment that a step gave, if it gave one; any x where it was refused
+abbrev pub RoundReaches : Result Step StreamErr → Pos → Type 0
+RoundReaches (Ok s) x = StepReaches s x
+RoundReaches (Err e) x = ⊤
+
+-- a stream lost nothing, or its first alone, which stands at x or before it
+abbrev pub AskedUpto : Pos → Stream → Stream → Type 0
+AskedUpto x s now = (now ≡ s) ⊎ ((f : Frag) × (first_upto x s.left ≡ Some f) × (now ≡ took (Some f) s))
