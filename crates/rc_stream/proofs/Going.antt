@@ -9,6 +9,7 @@ use Rattle.rc_mutation.specs.declared.fragments.Frag.TheVariants as frag
 use Rattle.rc_outside.specs.Faults.{Rose}
 use Rattle.rc_outside.specs.Files.{Files}
 use Rattle.rc_stream.specs.declared.holding.Held.{Held}
+use Rattle.rc_stream.specs.declared.holding.Look.{Look}
 use Rattle.rc_stream.specs.declared.holding.Step.{Step}
 use Rattle.rc_stream.specs.declared.holding.Step.TheVariants as step
 use Rattle.rc_stream.specs.declared.holding.Turn.{Turn}
@@ -61,34 +62,27 @@ caused-after (Err NoMemory) files files' before mid now e h c = omega (arith, h,
 
 -- ---- from where both go on after a step
 
-pub does-ours : (r : Turn) (s : Step) (o t o' t' : Held) → Does r s o t o' t' → IsOrdered (held o) → (x : Pos) → StepReaches s x → IsFrom o'.look x → IsFrom o.look x
-does-ours turn.Nobody s o t o' t' d k x u h = subst (λ (z : Held). IsFrom z.look x) d.1 h
-does-ours turn.Ours s o t o' t' d k x u h = d.1.from k x u h
-does-ours turn.Theirs s o t o' t' d k x u h = subst (λ (z : Held). IsFrom z.look x) d.1 h
-does-ours turn.Both s o t o' t' d k x u h = d.1.from k x u h
+pub does-ours : (r : Turn) (s : Step) (o t o' t' : Held) → Does r s o t o' t' → (x : Pos) → StepReaches s x → IsFrom o'.look x → IsFrom o.look x
+does-ours turn.Nobody s o t o' t' d x u h = subst (λ (z : Held). IsFrom z.look x) d.1 h
+does-ours turn.Ours s o t o' t' d x u h = d.1.from x u h
+does-ours turn.Theirs s o t o' t' d x u h = subst (λ (z : Held). IsFrom z.look x) d.1 h
+does-ours turn.Both s o t o' t' d x u h = d.1.from x u h
 
-pub does-theirs : (r : Turn) (s : Step) (o t o' t' : Held) → Does r s o t o' t' → IsOrdered (held t) → (x : Pos) → StepReaches s x → IsFrom t'.look x → IsFrom t.look x
-does-theirs turn.Nobody s o t o' t' d k x u h = subst (λ (z : Held). IsFrom z.look x) d.2 h
-does-theirs turn.Ours s o t o' t' d k x u h = subst (λ (z : Held). IsFrom z.look x) d.2 h
-does-theirs turn.Theirs s o t o' t' d k x u h = d.2.from k x u h
-does-theirs turn.Both s o t o' t' d k x u h = d.2.from k x u h
+pub does-theirs : (r : Turn) (s : Step) (o t o' t' : Held) → Does r s o t o' t' → (x : Pos) → StepReaches s x → IsFrom t'.look x → IsFrom t.look x
+does-theirs turn.Nobody s o t o' t' d x u h = subst (λ (z : Held). IsFrom z.look x) d.2 h
+does-theirs turn.Ours s o t o' t' d x u h = subst (λ (z : Held). IsFrom z.look x) d.2 h
+does-theirs turn.Theirs s o t o' t' d x u h = d.2.from x u h
+does-theirs turn.Both s o t o' t' d x u h = d.2.from x u h
 
-upto-on : (x y : Pos) (f : Frag) → Reaches x y → is_upto x f ≡ true → is_upto y f ≡ true
-upto-on x y (frag.Start pt) r u = absurd (cc)
-upto-on x y (frag.Static row) r u = absurd (cc)
-upto-on x y (frag.Row key row) r u = le_le (row_pos key) x y (pos_cmp (row_pos key) x) (pos_cmp x y) refl refl u r
-upto-on x y (frag.Change from t) r u = le_le from x y (pos_cmp from x) (pos_cmp x y) refl refl u r
-upto-on x y frag.End r u = absurd (cc)
+-- a position behind one that is reached is reached
+pub reaches-through : (p x y : Pos) → Reaches x y → Reaches p x → Reaches p y
+reaches-through p x y r u = le_le p x y (pos_cmp p x) (pos_cmp x y) refl refl u r
 
 pub reaches-on : (s : Step) (x y : Pos) → Reaches x y → StepReaches s x → StepReaches s y
 reaches-on step.Nothing x y r u = tt
 reaches-on step.Passed x y r u = tt
-reaches-on (step.Given f) x y r u = upto-on x y f r u
+reaches-on (step.Given f) x y r u = reaches-through (place_of f).0 x y r u
 
-before-front : (p : Pos × ℕ) (fs gs : List Frag) → StandsBefore p (fs ++ gs) → StandsBefore p fs
-before-front p [] gs h = tt
-before-front p (f ∷ fs) gs h = (h.0, before-front p fs gs h.1)
-
-pub front-ordered : (fs gs : List Frag) → IsOrdered (fs ++ gs) → IsOrdered fs
-front-ordered [] gs o = tt
-front-ordered (f ∷ fs) gs o = (o.0, before-front (place_of f) fs gs o.1, front-ordered fs gs o.2)
+-- what may be sought from x on may be sought from each later position on
+pub may-later : (ahead : Pos → Type 0) (l : Look) (x y : Pos) → Reaches x y → MaySeek ahead l x → MaySeek ahead l y
+may-later ahead l x y r may z u from = may z (reaches-through x y z u r) from

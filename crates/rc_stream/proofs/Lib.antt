@@ -12,3 +12,4 @@ pub mod Says
 pub mod Seeking
 pub mod Stepping
 pub mod Whole
+pub mod Wholes

@@ -25,7 +25,6 @@ use Rattle.rc_stream.specs.Holding.{Fits, IsFrom, StandsOver, WentOn, behind, he
 use Rattle.rc_stream.specs.Moving.{MaySeek, holds}
 use Rattle.rc_stream.proofs.Held.{same-some}
 use Rattle.rc_stream.proofs.Ordered.{Lt, not_passed, over, passes-itself, stop}
-use Rattle.rc_stream.proofs.Says.{le_le}
 use Rattle.rc_stream.proofs.Seeking.{sought-ordered}
 
 -- ---- looking
@@ -38,48 +37,29 @@ first-is x (g ∷ gs) f e =
       | false ↦ λ u k. absurd (cc)
     ] refl e
 
-le_then : (r : Ordering) → ordering_then r Less ≡ Less → is_le r ≡ true
-le_then Less e = refl
-le_then Equal e = refl
-le_then Greater e = absurd (cc)
-
-lt_then : (r : Ordering) → ordering_then r Equal ≡ Less → is_le r ≡ true
-lt_then Less e = refl
-lt_then Equal e = absurd (cc)
-lt_then Greater e = absurd (cc)
-
--- a position that is not before a fragment is not before what the fragment stands behind
-through : (z : Pos) (f : Frag) (y : Pos) → IsInner f → Lt (z, 0) (place_of f) → is_upto y f ≡ true → is_le (pos_cmp z y) ≡ true
-through z (frag.Start pt) y i h u = absurd i
-through z (frag.Static row) y i h u = absurd i
-through z (frag.Row key row) y i h u = le_le z (row_pos key) y (pos_cmp z (row_pos key)) (pos_cmp (row_pos key) y) refl refl (le_then (pos_cmp z (row_pos key)) h) u
-through z (frag.Change from tomb) y i h u = le_le z from y (pos_cmp z from) (pos_cmp from y) refl refl (lt_then (pos_cmp z from) h) u
-through z frag.End y i h u = absurd i
-
-old-from : (fr : Front) (l : Look) (f : Frag) (fs : List Frag) (y : Pos) → is_nil (front_change fr ++ looked l) ≡ true → StandsOver l (f ∷ fs) → IsInner f → is_upto y f ≡ true → IsFrom l y
-old-from (front.Due x t) l f fs y n s i u = absurd (cc)
-old-from (front.Passed t) look.Open f fs y n s i u = tt
-old-from (front.Passed t) (look.Over z) f fs y n s i u = through z f y i s.0 u
-old-from (front.Passed t) (look.Next g) f fs y n s i u = absurd (cc)
-
-nothing-held : (xs : List Frag) → is_nil xs ≡ true → xs ≡ []
+pub nothing-held : (xs : List Frag) → is_nil xs ≡ true → xs ≡ []
 nothing-held [] e = refl
 nothing-held (x ∷ xs) e = absurd (cc)
 
 abbrev Kept : (ahead now : Pos → Type 0) → Look → Look → Pos → Type 0
 Kept ahead now old l x = MaySeek ahead old x → MaySeek now l x
 
-ahead-got : (ahead now : Pos → Type 0) (upto : Pos) (got : Option Frag) (s : Stream) (h : Held) → is_nil (held h) ≡ true → Fits h s → got ≡ first_upto upto s.left → ((x : Pos) → Passes (Ok got) x → ahead x → now x) → (x : Pos) → Kept ahead now h.look (holds got h.look) x
-ahead-got ahead now upto None s h n fits e go x may y r from = go y tt (may y r from)
-ahead-got ahead now upto (Some f) s h n fits e go x may y r from =
-    let first = first-is upto s.left f e in
-    let ordered : IsOrdered (f ∷ rest s.left) = subst IsOrdered (ap (λ l. l ++ s.left) (nothing-held (held h) n) ∙ first.0) fits.ordered in
-    go y from (may y r (old-from h.front h.look f (rest s.left) y n (subst (StandsOver h.look) first.0 fits.over) ordered.0 from))
+ahead-got : (ahead now : Pos → Type 0) (got : Option Frag) (fr : Front) (l : Look) → is_nil (front_change fr ++ looked l) ≡ true → ((x : Pos) → Passes (Ok got) x → ahead x → now x) → (x : Pos) → Kept ahead now l (holds got l) x
+ahead-got ahead now None fr l n go x may y r from = go y tt (may y r from)
+ahead-got ahead now (Some f) (front.Due z t) l n go x may y r from = absurd (cc)
+ahead-got ahead now (Some f) (front.Passed t) look.Open n go x may y r from = go y from (may y r tt)
+ahead-got ahead now (Some f) (front.Passed t) (look.Over z) n go x may y r from = go y from.1 (may y r from.0)
+ahead-got ahead now (Some f) (front.Passed t) (look.Next g) n go x may y r from = absurd (cc)
+ahead-got ahead now (Some f) (front.Passed t) (look.Past z g) n go x may y r from = absurd (cc)
 
-pub ahead-looked : (ahead now : Pos → Type 0) (upto : Pos) (got : Option Frag) (s : Stream) (h : Held) (l : Look) → is_nil (held h) ≡ true → Fits h s → got ≡ first_upto upto s.left → l ≡ holds got h.look → ((x : Pos) → Passes (Ok got) x → ahead x → now x) → (x : Pos) → Kept ahead now h.look l x
-ahead-looked ahead now upto got s h l n fits e same go x may = subst (λ m. MaySeek now m x) (sym same) (ahead-got ahead now upto got s h n fits e go x may)
+pub ahead-looked : (ahead now : Pos → Type 0) (got : Option Frag) (h : Held) (l : Look) → is_nil (held h) ≡ true → l ≡ holds got h.look → ((x : Pos) → Passes (Ok got) x → ahead x → now x) → (x : Pos) → Kept ahead now h.look l x
+ahead-looked ahead now got h l n same go x may = subst (λ m. MaySeek now m x) (sym same) (ahead-got ahead now got h.front h.look n go x may)
 
 -- ---- seeking
+
+and_first : (a b : Bool) → (a && b) ≡ true → a ≡ true
+and_first true b h = refl
+and_first false b h = absurd (cc)
 
 and_second : (a b : Bool) → (a && b) ≡ true → b ≡ true
 and_second true b h = h
@@ -90,17 +70,18 @@ lt_le Less e = refl
 lt_le Equal e = refl
 lt_le Greater e = absurd (cc)
 
-passed-upto : (x : Pos) (f : Frag) → is_passed x f ≡ true → is_upto x f ≡ true
-passed-upto x (frag.Start pt) e = absurd (cc)
-passed-upto x (frag.Static row) e = absurd (cc)
-passed-upto x (frag.Row key row) e = lt_le (pos_cmp (row_pos key) x) e
-passed-upto x (frag.Change from tomb) e = e
-passed-upto x frag.End e = absurd (cc)
+passed-place : (x : Pos) (f : Frag) → is_passed x f ≡ true → Reaches (place_of f).0 x
+passed-place x (frag.Start pt) e = absurd (cc)
+passed-place x (frag.Static row) e = absurd (cc)
+passed-place x (frag.Row key row) e = lt_le (pos_cmp (row_pos key) x) e
+passed-place x (frag.Change from tomb) e = e
+passed-place x frag.End e = absurd (cc)
 
 passed-from : (x : Pos) (l : Look) → look_passed x l ≡ true → IsFrom l x
 passed-from x look.Open e = tt
 passed-from x (look.Over z) e = e
-passed-from x (look.Next f) e = passed-upto x f e
+passed-from x (look.Next f) e = passed-place x f e
+passed-from x (look.Past z f) e = (and_first (is_le (pos_cmp z x)) (is_passed x f) e, passed-place x f (and_second (is_le (pos_cmp z x)) (is_passed x f) e))
 
 pub ahead-there : (ahead : Pos → Type 0) (x : Pos) (h : Held) → passes_held x h ≡ true → MaySeek ahead h.look x → ahead x
 ahead-there ahead x h e may = may x (passes-itself x) (passed-from x h.look (and_second (front_passed x h.front) (look_passed x h.look) e))
@@ -137,6 +118,14 @@ unpassed-look : (x : Pos) (t : Option Tomb) (l : Look) (fs : List Frag) → look
 unpassed-look x t look.Open fs e o s = absurd (cc)
 unpassed-look x t (look.Over z) fs e o s = (stop x (z, 0) t fs o s (le_not (pos_cmp z x) e), onward-stop x z fs o s e)
 unpassed-look x t (look.Next f) fs e o s = (ap (λ c. cond c (force x (after t f) fs) t) e, ap (λ c. cond c (onward x fs) (f ∷ fs)) e)
+
+unpassed-look x t (look.Past z f) fs e o s =
+    let n : is_passed x f ≡ false =
+    elim (is_le (pos_cmp z x)) as (λ b. is_le (pos_cmp z x) ≡ b → (b && is_passed x f) ≡ false → is_passed x f ≡ false) [
+      | true ↦ λ _ k. k
+      | false ↦ λ h _. not_passed x f o.0 (over (z, 0) (place_of f) (x, 0) s.0 (le_not (pos_cmp z x) h))
+    ] refl e in
+    (ap (λ c. cond c (force x (after t f) fs) t) n, ap (λ c. cond c (onward x fs) (f ∷ fs)) n)
 
 passed-front : (x : Pos) (t : Option Tomb) (l : Look) (fs : List Frag) → look_passed x l ≡ false → IsOrdered (looked l ++ fs) → StandsOver l fs → ((opening x t ++ []) ++ looked l) ++ fs ≡ opening x (force x t (looked l ++ fs)) ++ onward x (looked l ++ fs)
 passed-front x t l fs e o s =
@@ -177,3 +166,23 @@ fits-within x h now s fits e w = record {
   tomb = fits.tomb ∙ sym (within-behind x h.front h.look) ∙ sym (λ i. behind (w.tomb i) (held-now x h now w i));
   over = subst (λ l. StandsOver l s.left) (sym w.look) fits.over;
 }
+
+-- ---- seeking past all that is held
+
+passed-look : (x : Pos) (t : Option Tomb) (l : Look) (fs : List Frag) → look_passed x l ≡ true → (force x t (looked l ++ fs) ≡ force x (behind t (looked l)) fs) × (onward x (looked l ++ fs) ≡ onward x fs)
+passed-look x t look.Open fs e = (refl, refl)
+passed-look x t (look.Over z) fs e = (refl, refl)
+passed-look x t (look.Next f) fs e = (ap (λ c. cond c (force x (after t f) fs) t) e, ap (λ c. cond c (onward x fs) (f ∷ fs)) e)
+passed-look x t (look.Past z f) fs e = let p = and_second (is_le (pos_cmp z x)) (is_passed x f) e in (ap (λ c. cond c (force x (after t f) fs) t) p, ap (λ c. cond c (onward x fs) (f ∷ fs)) p)
+
+passed-held : (x : Pos) (fr : Front) (l : Look) (fs : List Frag) → (front_passed x fr && look_passed x l) ≡ true → (force x (front_tomb fr) ((front_change fr ++ looked l) ++ fs) ≡ force x (behind (front_tomb fr) (front_change fr ++ looked l)) fs) × (onward x ((front_change fr ++ looked l) ++ fs) ≡ onward x fs)
+passed-held x (front.Passed t) l fs e = passed-look x t l fs e
+passed-held x (front.Due y t) l fs e =
+    let up = and_first (is_le (pos_cmp y x)) (look_passed x l) e in
+    let rest = passed-look x (Some t) l fs (and_second (is_le (pos_cmp y x)) (look_passed x l) e) in
+    (ap (λ c. cond c (force x (Some t) (looked l ++ fs)) None) up ∙ rest.0, ap (λ c. cond c (onward x (looked l ++ fs)) (frag.Change y (Some t) ∷ (looked l ++ fs))) up ∙ rest.1)
+
+pub beyond : (x : Pos) (h : Held) (s : Stream) → Fits h s → passes_held x h ≡ true → sought x (whole h s) ≡ sought x s
+beyond x h s fits e =
+    let p = passed-held x h.front h.look s.left e in
+    λ i. stream s.head None (opening x ((p.0 ∙ ap (λ t. force x t s.left) (sym fits.tomb)) i) ++ p.1 i)

@@ -1,6 +1,6 @@
 -- A step of a merge, by what is held of both, is one of the merged stream.
-use Rattle.std.specs.Prelude.{◌≡◌, ℕ, ◌+◌, ◌<◌, suc, Bool, true, false, cond, List, [], ◌∷◌, ◌++◌, Option, Some, None, IsTrue, ⊤, length, Result, Ok, Err, IfOk}
-use Rattle.std.proofs.Common.{refl, sym, ap, ◌∙◌, subst, arith}
+use Rattle.std.specs.Prelude.{◌≡◌, ℕ, Bool, true, false, cond, List, [], ◌∷◌, ◌++◌, Option, Some, None, IsTrue, ⊤}
+use Rattle.std.proofs.Common.{refl, sym, ap, ◌∙◌, subst}
 use Rattle.std.specs.declared.cmp.Ordering.{Ordering}
 use Rattle.std.specs.declared.cmp.Ordering.TheVariants.{Less, Equal, Greater}
 use Rattle.std.specs.Ordering.{is_le, is_lt, ordering_reverse, ordering_then}
@@ -27,7 +27,7 @@ use Rattle.rc_stream.specs.Fronts.{front_tomb}
 use Rattle.rc_stream.specs.Stream.{Stream, after, first_upto, is_upto, rest, took}
 use Rattle.rc_stream.specs.Merging.{IsInner, IsOrdered, StandsBefore, beside, changes_nothing, joined_head, merged, merged_left, place_of, together}
 use Rattle.rc_stream.specs.Holding.{Does, Fits, Took, alone, behind, behind_first, bound_of, held, is_near, nearer, paired, told, turn_of, whole}
-use Rattle.rc_stream.specs.Moving.{StepSays, StepsOn}
+use Rattle.rc_stream.specs.Moving.{StepSays}
 use Rattle.rc_stream.proofs.Held.{upto-beside, upto-together}
 use Rattle.rc_stream.proofs.Merged.{merged-says}
 use Rattle.rc_stream.proofs.Ordered.{Place, Lt, before-through, over, place_total, place_same}
@@ -203,9 +203,6 @@ theirs-beside t (frag.Row key row) = refl
 theirs-beside t (frag.Change from next) = ap (frag.Change from) (greater-comm t next)
 theirs-beside t frag.End = refl
 
-told-on : (t : Option Tomb) (a : Frag) (n m : ℕ) → n < m → StepsOn (told t a) n m
-told-on t a n m h = elim (changes_nothing t a) as (λ b. StepsOn (cond b step.Passed (step.Given a)) n m) [ true ↦ h | false ↦ tt ]
-
 took-left : (s : Step) (h now : Held) (f : Frag) (ls : List Frag) → held h ≡ f ∷ rest (held h) → Took s h now → held h ++ ls ≡ f ∷ (held now ++ ls)
 took-left s h now f ls e t = ap (λ hs. hs ++ ls) e ∙ ap (λ hs. f ∷ (hs ++ ls)) (sym t.left)
 
@@ -219,21 +216,11 @@ took-fits s h now st f e t fits = record {
   over = t.over st.left fits.ordered fits.over;
 }
 
-one_less : (n m k : ℕ) → n ≡ suc m → m + k < n + k
-one_less n m k e = omega (arith, e)
-
-other_less : (n m k : ℕ) → n ≡ suc m → k + m < k + n
-other_less n m k e = omega (arith, e)
-
-both_less : (n m p q : ℕ) → n ≡ suc m → p ≡ suc q → m + q < n + p
-both_less n m p q e f = omega (arith, e, f)
-
 -- a step of what is held of both is a step of both merged
 pub record Stepped (s : Step) (x : Pos) (sa sb : Stream) (ours theirs ours' theirs' : Held) : Type 0 where
   pub says : StepSays s x (merged (whole ours sa) (whole theirs sb)) (merged (whole ours' sa) (whole theirs' sb))
   pub fits_ours : Fits ours' sa
   pub fits_theirs : Fits theirs' sb
-  pub on : StepsOn s (length (held ours' ++ sa.left) + length (held theirs' ++ sb.left)) (length (held ours ++ sa.left) + length (held theirs ++ sb.left))
 
 module _ (x : Pos) (sa sb : Stream) (ours theirs : Held) (fa : Fits ours sa) (fb : Fits theirs sb) where
   abbrev ta : Option Tomb
@@ -301,7 +288,7 @@ module _ (x : Pos) (sa sb : Stream) (ours theirs : Held) (fa : Fits ours sa) (fb
   by_turn turn.Nobody s ours' theirs' facts d =
       subst (λ r. Stepped r x sa sb ours theirs ours' theirs') (sym d.0)
       (subst (λ h. Stepped step.Nothing x sa sb ours theirs h theirs') (sym d.1)
-      (subst (λ k. Stepped step.Nothing x sa sb ours theirs ours k) (sym d.2) (record { says = nobody-says facts.0 facts.1; fits_ours = fa; fits_theirs = fb; on = tt })))
+      (subst (λ k. Stepped step.Nothing x sa sb ours theirs ours k) (sym d.2) (record { says = nobody-says facts.0 facts.1; fits_ours = fa; fits_theirs = fb })))
   by_turn turn.Ours s ours' theirs' facts d =
       let f = facts.0 in
       let e = facts.1 in
@@ -311,7 +298,6 @@ module _ (x : Pos) (sa sb : Stream) (ours theirs : Held) (fa : Fits ours sa) (fb
         says = subst (λ r. StepSays r x (merged (whole ours sa) (whole theirs sb)) (merged (whole ours' sa) (whole theirs sb))) (sym same) (ours-says s ours' f e facts.2 facts.3 d.1);
         fits_ours = took-fits s ours ours' sa f e d.1 fa;
         fits_theirs = fb;
-        on = subst (λ r. StepsOn r (length (held ours' ++ sa.left) + length (held theirs ++ sb.left)) (length (held ours ++ sa.left) + length (held theirs ++ sb.left))) (sym same) (told-on (greater tomb_cmp ta tb) (beside tb f) _ _ (one_less (length (held ours ++ sa.left)) (length (held ours' ++ sa.left)) (length (held theirs ++ sb.left)) (ap length (took-left s ours ours' f sa.left e d.1))));
       })
   by_turn turn.Theirs s ours' theirs' facts d =
       let g = facts.0 in
@@ -322,7 +308,6 @@ module _ (x : Pos) (sa sb : Stream) (ours theirs : Held) (fa : Fits ours sa) (fb
         says = subst (λ r. StepSays r x (merged (whole ours sa) (whole theirs sb)) (merged (whole ours sa) (whole theirs' sb))) (sym same) (theirs-says s theirs' g e facts.2 facts.3 d.2);
         fits_ours = fa;
         fits_theirs = took-fits s theirs theirs' sb g e d.2 fb;
-        on = subst (λ r. StepsOn r (length (held ours ++ sa.left) + length (held theirs' ++ sb.left)) (length (held ours ++ sa.left) + length (held theirs ++ sb.left))) (sym same) (told-on (greater tomb_cmp tb ta) (beside ta g) _ _ (other_less (length (held theirs ++ sb.left)) (length (held theirs' ++ sb.left)) (length (held ours ++ sa.left)) (ap length (took-left s theirs theirs' g sb.left e d.2))));
       })
   by_turn turn.Both s ours' theirs' facts d =
       let f = facts.0 in
@@ -332,13 +317,7 @@ module _ (x : Pos) (sa sb : Stream) (ours theirs : Held) (fa : Fits ours sa) (fb
         says = subst (λ r. StepSays r x (merged (whole ours sa) (whole theirs sb)) (merged (whole ours' sa) (whole theirs' sb))) (sym same) (both-says s ours' theirs' f g facts.2 facts.3 facts.4 facts.5 d.1 d.2);
         fits_ours = took-fits s ours ours' sa f facts.2 d.1 fa;
         fits_theirs = took-fits s theirs theirs' sb g facts.3 d.2 fb;
-        on = subst (λ r. StepsOn r (length (held ours' ++ sa.left) + length (held theirs' ++ sb.left)) (length (held ours ++ sa.left) + length (held theirs ++ sb.left))) (sym same) (told-on (greater tomb_cmp ta tb) (together f g) _ _ (both_less (length (held ours ++ sa.left)) (length (held ours' ++ sa.left)) (length (held theirs ++ sb.left)) (length (held theirs' ++ sb.left)) (ap length (took-left s ours ours' f sa.left facts.2 d.1)) (ap length (took-left s theirs theirs' g sb.left facts.3 d.2))));
       }
 
   pub stepped : (s : Step) (ours' theirs' : Held) → (held ours ≡ [] → first_upto x sa.left ≡ None) → (held theirs ≡ [] → first_upto (bound_of x (held ours)) sb.left ≡ None) → Does (turn_of x (held ours) (held theirs)) s ours theirs ours' theirs' → Stepped s x sa sb ours theirs ours' theirs'
   stepped s ours' theirs' a b d = by_turn (turn_of x (held ours) (held theirs)) s ours' theirs' (facts x (held ours) sa.left (held theirs) sb.left fa.ordered fb.ordered a b) d
-
--- what holds of each value holds of the value of a result
-pub map-ok : {X E : Type 0} (P Q : X → Type 0) (r : Result X E) → ((v : X) → P v → Q v) → IfOk r P → IfOk r Q
-map-ok P Q (Ok v) f h = f v h
-map-ok P Q (Err e) f h = tt

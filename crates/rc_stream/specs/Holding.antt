@@ -31,6 +31,7 @@ abbrev pub looked : Look → List Frag
 looked look.Open = []
 looked (look.Over z) = []
 looked (look.Next f) = f ∷ []
+looked (look.Past z f) = f ∷ []
 
 -- what is held: the change that is due, and what was looked at
 abbrev pub held : Held → List Frag
@@ -54,13 +55,15 @@ whole h s = record { head = s.head; tomb = front_tomb h.front; left = held h ++ 
 abbrev pub IsFrom : Look → Pos → Type 0
 IsFrom look.Open x = ⊤
 IsFrom (look.Over z) x = Reaches z x
-IsFrom (look.Next f) x = IsTrue (is_upto x f)
+IsFrom (look.Next f) x = Reaches (place_of f).0 x
+IsFrom (look.Past z f) x = Reaches z x × Reaches (place_of f).0 x
 
--- what a stream still has stands behind what was passed over
+-- what was looked at, and what a stream still has, stands behind what was passed over
 abbrev pub StandsOver : Look → List Frag → Type 0
 StandsOver look.Open fs = ⊤
 StandsOver (look.Over z) fs = StandsBefore (z, 0) fs
 StandsOver (look.Next f) fs = ⊤
+StandsOver (look.Past z f) fs = StandsBefore (z, 0) (f ∷ fs)
 
 -- what is held fits the stream behind it
 pub record Fits (h : Held) (s : Stream) : Type 0 where
@@ -102,6 +105,7 @@ abbrev pub look_passed : Pos → Look → Bool
 look_passed x look.Open = true
 look_passed x (look.Over z) = is_le (pos_cmp z x)
 look_passed x (look.Next f) = is_passed x f
+look_passed x (look.Past z f) = is_le (pos_cmp z x) && is_passed x f
 
 -- whether a seek to x passes all that is held, so that the stream is to be sought
 abbrev pub passes_held : Pos → Held → Bool
@@ -132,13 +136,13 @@ paired tomb (f ∷ fs) (g ∷ gs) = told tomb (together f g)
 abbrev pub StepReaches : Step → Pos → Type 0
 StepReaches step.Nothing x = ⊤
 StepReaches step.Passed x = ⊤
-StepReaches (step.Given f) x = IsTrue (is_upto x f)
+StepReaches (step.Given f) x = Reaches (place_of f).0 x
 
 -- the first of what was held was taken in a step
 pub record Took (s : Step) (h now : Held) : Type 0 where
   pub left : held now ≡ rest (held h)
   pub tomb : front_tomb now.front ≡ behind_first (front_tomb h.front) (held h)
-  pub from : IsOrdered (held h) → (x : Pos) → StepReaches s x → IsFrom now.look x → IsFrom h.look x
+  pub from : (x : Pos) → StepReaches s x → IsFrom now.look x → IsFrom h.look x
   pub over : (fs : List Frag) → IsOrdered (held h ++ fs) → StandsOver h.look fs → StandsOver now.look fs
 
 -- a step of a merge: nothing; the first of one, alone at its place; the first of both, at one place
@@ -178,12 +182,18 @@ look_taken (front.Due from tomb) l = l
 look_taken (front.Passed tomb) look.Open = look.Open
 look_taken (front.Passed tomb) (look.Over z) = look.Over z
 look_taken (front.Passed tomb) (look.Next f) = look.Open
+look_taken (front.Passed tomb) (look.Past z f) = look.Over z
+
+-- the later of two positions
+abbrev pub later : Pos → Pos → Pos
+later x y = cond (is_le (pos_cmp x y)) y x
 
 -- what is kept of a change at z that was passed over
 abbrev pub passed_over : Pos → Look → Look
 passed_over z look.Open = look.Over z
-passed_over z (look.Over x) = look.Over x
+passed_over z (look.Over x) = look.Over (later z x)
 passed_over z (look.Next f) = look.Next f
+passed_over z (look.Past x f) = look.Past x f
 
 -- what is kept of a fragment that was passed over, if it is a change
 abbrev pub dropped : Frag → Look → Look

@@ -1,5 +1,5 @@
 -- How a stream and what is held of it go together over a home and a store.
-use Rattle.std.specs.Prelude.{◌≡◌, ◌⊎◌, ℕ, zero, suc, ◌<◌, ⊤, List, [], Option, Some, None, Result, Ok, Err}
+use Rattle.std.specs.Prelude.{◌≡◌, ◌⊎◌, ℕ, zero, suc, ⊤, Option, Some, None, Result, Ok, Err}
 use Rattle.rc_position.specs.declared.positions.Pos.{Pos}
 use Rattle.rc_mutation.specs.declared.fragments.Frag.{Frag}
 use Rattle.rc_stream.specs.declared.holding.Look.{Look}
@@ -9,7 +9,9 @@ use Rattle.rc_stream.specs.declared.holding.Step.TheVariants as step
 use Rattle.rc_stream.specs.Places.{Reaches}
 use Rattle.rc_stream.specs.Stream.{Stream, first_upto, took}
 use Rattle.rc_stream.specs.declared.streams.StreamErr.{StreamErr}
-use Rattle.rc_stream.specs.Holding.{IsFrom, StepReaches}
+use Rattle.rc_stream.specs.declared.holding.Held.{Held}
+use Rattle.rc_stream.specs.Merging.{merged}
+use Rattle.rc_stream.specs.Holding.{Fits, IsFrom, StepReaches, whole}
 
 -- a home and a store are as they were, or as a call made them
 abbrev pub Once : {H W : Type 0} → (H → W → H → W → Type 0) → H → W → H → W → Type 0
@@ -22,19 +24,31 @@ MaySeek ahead l x = (y : Pos) → Reaches x y → IsFrom l y → ahead y
 -- what was looked at, after a fragment was taken from the stream, if one was
 abbrev pub holds : Option Frag → Look → Look
 holds None l = l
-holds (Some f) l = look.Next f
+holds (Some f) look.Open = look.Next f
+holds (Some f) (look.Over z) = look.Past z f
+holds (Some f) (look.Next g) = look.Next f
+holds (Some f) (look.Past z g) = look.Past z f
+
+-- a part stands for one of these streams; with what is held of it put back before it, that is this whole stream
+pub record Holds (seen : Stream → Type 0) (h : Held) (all : Stream) : Type 0 where
+  pub stream : Stream
+  pub stands : seen stream
+  pub fits : Fits h stream
+  pub same : all ≡ whole h stream
+
+-- two parts, each with what is held of it, stand for streams that merge to this one
+pub record HoldBoth (seen : Stream → Type 0) (h : Held) (seen' : Stream → Type 0) (h' : Held) (both : Stream) : Type 0 where
+  pub ours : Stream
+  pub theirs : Stream
+  pub holds_ours : Holds seen h ours
+  pub holds_theirs : Holds seen' h' theirs
+  pub joins : both ≡ merged ours theirs
 
 -- what a step makes of the stream of a merge: nothing stands up to x; a change was passed over; or the first was taken, which stands there
 abbrev pub StepSays : Step → Pos → Stream → Stream → Type 0
 StepSays step.Nothing x s now = (now ≡ s) × (first_upto x s.left ≡ None)
 StepSays step.Passed x s now = now ≡ s
 StepSays (step.Given f) x s now = (first_upto x s.left ≡ Some f) × (now ≡ took (Some f) s)
-
--- fewer fragments are left, where a step passed over one
-abbrev pub StepsOn : Step → (now before : ℕ) → Type 0
-StepsOn step.Nothing now before = ⊤
-StepsOn step.Passed now before = now < before
-StepsOn (step.Given f) now before = ⊤
 
 -- a step of one of two kinds
 abbrev pub Either : {H W : Type 0} → (P Q : H → W → H → W → Type 0) → H → W → H → W → Type 0
@@ -49,15 +63,26 @@ Moves {H} {W} moves (suc n) h w g v = (k : H) × (u : W) × moves h w k u × Mov
 abbrev pub Moved : {H W : Type 0} → (P Q : H → W → H → W → Type 0) → H → W → H → W → Type 0
 Moved P Q h w g v = (n : ℕ) × Moves (Either P Q) n h w g v
 
+-- what a step leaves of the stream of a merge, where this holds of what is left; a refused one leaves it as it was
+abbrev pub StepLeaves : Result Step StreamErr → Pos → Stream → (Stream → Type 0) → Type 0
+StepLeaves (Ok step.Nothing) x s now = now s × (first_upto x s.left ≡ None)
+StepLeaves (Ok step.Passed) x s now = now s
+StepLeaves (Ok (step.Given f)) x s now = now (took (Some f) s) × (first_upto x s.left ≡ Some f)
+StepLeaves (Err e) x s now = now s
+
 -- what calls of one part may make of home and store leaves another one standing
 abbrev pub Keeps : {H W X : Type 0} → (H → W → H → W → Type 0) → (X → H → W → Type 0) → Type 0
 Keeps {H} {W} {X} moves stands = (t : X) (h : H) (w : W) (g : H) (v : W) → moves h w g v → stands t h w → stands t g v
+
+-- what calls of one part may make of home and store leaves each stream that another one stands for
+abbrev pub KeepsSeen : {H W X : Type 0} → (H → W → H → W → Type 0) → (X → H → W → Stream → Type 0) → Type 0
+KeepsSeen {H} {W} {X} moves seen = (t : X) (s : Stream) (h : H) (w : W) (g : H) (v : W) → moves h w g v → seen t h w s → seen t g v s
 
 -- x is not before the fragment that a step gave, if it gave one; any x where it was refused
 abbrev pub RoundReaches : Result Step StreamErr → Pos → Type 0
 RoundReaches (Ok s) x = StepReaches s x
 RoundReaches (Err e) x = ⊤
 
--- a stream lost nothing, or its first alone, which stands at x or before it
-abbrev pub AskedUpto : Pos → Stream → Stream → Type 0
-AskedUpto x s now = (now ≡ s) ⊎ ((f : Frag) × (first_upto x s.left ≡ Some f) × (now ≡ took (Some f) s))
+-- of a stream nothing was taken, or its first alone, which stands at x or before it, where this holds of what is left
+abbrev pub AskedUpto : Pos → Stream → (Stream → Type 0) → Type 0
+AskedUpto x s now = now s ⊎ ((f : Frag) × (first_upto x s.left ≡ Some f) × now (took (Some f) s))

@@ -1,5 +1,5 @@
 // What is held of a stream that is merged with another: what was looked at and not given.
-ghost use Rattle.std.specs.Prelude.{◌≡◌, ◌∷◌, [], true, false, cond, None, IfOk, OnErr, option_map};
+ghost use Rattle.std.specs.Prelude.{◌≡◌, ◌∷◌, [], true, false, cond, None, Some, IfOk, OnErr, option_map};
 ghost use Rattle.rc_cell.specs.Greatest.{greater, is_nil};
 ghost use Rattle.rc_cell.specs.Orders.{tomb_cmp};
 ghost use Rattle.rc_cell.specs.Winner.{joined_row};
@@ -27,6 +27,8 @@ pub(crate) enum Look {
     Over(Pos),
     /// This fragment.
     Next(Frag),
+    /// This fragment; before it a change here was passed over.
+    Past(Pos, Frag),
 }
 
 /// What is held of a stream.
@@ -90,6 +92,7 @@ impl Held {
         match (&self.front, &self.look) {
             (Front::Due(_, _), _) => false,
             (Front::Passed(_), Look::Next(_)) => false,
+            (Front::Passed(_), Look::Past(_, _)) => false,
             (Front::Passed(_), Look::Open) => true,
             (Front::Passed(_), Look::Over(_)) => true,
         }
@@ -121,8 +124,21 @@ impl Held {
         ensures look { self.new.look ≡ holds got self.old.look }
     {
         match got {
-            Some(frag) => self.look = Look::Next(frag),
+            Some(frag) => self.look_at(frag),
             None => {}
+        }
+    }
+
+    // Holds a fragment that was taken from the stream.
+    fn look_at(&mut self, frag: Frag)
+        ensures front { self.new.front ≡ self.old.front }
+        ensures look { self.new.look ≡ holds (Some frag) self.old.look }
+    {
+        match mem::replace(&mut self.look, Look::Open) {
+            Look::Open => self.look = Look::Next(frag),
+            Look::Over(from) => self.look = Look::Past(from, frag),
+            Look::Next(_) => self.look = Look::Next(frag),
+            Look::Past(from, _) => self.look = Look::Past(from, frag),
         }
     }
 
@@ -150,6 +166,11 @@ impl Held {
                 }
                 Look::Next(frag) => {
                     self.front = Front::Passed(tomb_after(tomb, &frag));
+                    Some(frag)
+                }
+                Look::Past(from, frag) => {
+                    self.front = Front::Passed(tomb_after(tomb, &frag));
+                    self.look = Look::Over(from);
                     Some(frag)
                 }
             },
@@ -187,15 +208,17 @@ impl Held {
         }
     }
 
-    // Keeps where the last change stands that was passed over, if nothing that stands behind it was taken.
+    // Keeps where the last change stands that was passed over, if nothing that stands behind it is held.
     fn pass(&mut self, from: Pos)
         ensures front { self.new.front ≡ self.old.front }
         ensures look { self.new.look ≡ passed_over from self.old.look }
     {
         match &self.look {
             Look::Open => self.look = Look::Over(from),
-            Look::Over(_) => {}
+            Look::Over(last) if from.cmp(last).is_le() => {}
+            Look::Over(_) => self.look = Look::Over(from),
             Look::Next(_) => {}
+            Look::Past(_, _) => {}
         }
     }
 
@@ -259,6 +282,8 @@ impl Look {
             Look::Open => Ok(true),
             Look::Over(from) => Ok(from.cmp(to).is_le()),
             Look::Next(frag) => passes(alloc, frag, to),
+            Look::Past(from, _) if from.cmp(to).is_gt() => Ok(false),
+            Look::Past(_, frag) => passes(alloc, frag, to),
         }
     }
 
@@ -270,6 +295,7 @@ impl Look {
             Look::Open => Ok(None),
             Look::Over(_) => Ok(None),
             Look::Next(frag) => copy_row(alloc, frag),
+            Look::Past(_, frag) => copy_row(alloc, frag),
         }
     }
 
@@ -281,6 +307,7 @@ impl Look {
             Look::Open => Ok(None),
             Look::Over(_) => Ok(None),
             Look::Next(frag) => Ok(Some(place(alloc, frag)?)),
+            Look::Past(_, frag) => Ok(Some(place(alloc, frag)?)),
         }
     }
 
@@ -292,6 +319,7 @@ impl Look {
             Look::Open => Ok(false),
             Look::Over(_) => Ok(false),
             Look::Next(frag) => stands_upto(alloc, frag, upto),
+            Look::Past(_, frag) => stands_upto(alloc, frag, upto),
         }
     }
 }

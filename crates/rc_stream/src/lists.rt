@@ -121,11 +121,11 @@ impl ListFrags {
 impl<H, W: Store> Frags<H, W> for ListFrags {
     ghost use Rattle.std.specs.Prelude.{◌≡◌, ⊤};
 
-    ghost seen = { λ s. s };
+    ghost ready = { λ _ _ _. ⊤ };
+
+    ghost seen = { λ list _ _ s. s ≡ list };
 
     ghost ahead = { λ _ _. ⊤ };
-
-    ghost stands = { λ _ _ _. ⊤ };
 
     ghost moves = { λ home store home' store'. (home ≡ home') × (store ≡ store') };
 

@@ -1,15 +1,17 @@
 // Two streams as one.
-ghost use Rattle.std.specs.Prelude.{◌≡◌, ◌+◌, ◌++◌, [], None, IfOk, OnOk, OnErr, length};
+ghost use Rattle.std.specs.Prelude.{◌≡◌, [], None, IfOk, OnOk, OnErr};
 ghost use Rattle.rc_position.specs.declared.positions.Pos.{Pos};
+ghost use Rattle.rc_stream.specs.Calls.{left_by};
 ghost use Rattle.rc_stream.specs.Causes.{Caused};
-ghost use Rattle.rc_stream.specs.Holding.{Fits, bound_of, held, whole};
-ghost use Rattle.rc_stream.specs.Merging.{merged};
-ghost use Rattle.rc_stream.specs.Moving.{AskedUpto, Keeps, MaySeek, Moved, RoundReaches, StepSays, StepsOn};
-ghost use Rattle.rc_stream.specs.Stream.{first_upto};
+ghost use Rattle.rc_stream.specs.Holding.{bound_of, held};
+ghost use Rattle.rc_stream.specs.Moving.{AskedUpto, HoldBoth, Holds, Keeps, KeepsSeen, MaySeek, Moved, RoundReaches, StepLeaves};
+ghost use Rattle.rc_stream.specs.Places.{Passes};
+ghost use Rattle.rc_stream.specs.Stream.{Stream, first_upto, sought};
 
 use crate::holding::{Held, Step, bound, make_step};
-use crate::parts::look_ahead;
+use crate::parts::{go_on, look_ahead};
 use crate::streams::{Frags, StreamErr};
+use rc_mutation::Frag;
 use rc_outside::Store;
 use rc_position::Pos;
 use std::alloc::Global;
@@ -25,23 +27,21 @@ fn look_at_both<H, W: Store, A: Frags<H, W>, B: Frags<H, W>>(
     store: &mut W,
     upto: &Pos,
 ) -> Result<(), StreamErr>
-    requires stands { A.stands ours.old home.old store.old }
-    requires theirs { B.stands theirs.old home.old store.old }
-    requires fits { Fits ours_held.old (A.seen ours.old) }
-    requires fits_theirs { Fits theirs_held.old (B.seen theirs.old) }
-    requires keeps { Keeps B.moves A.stands }
-    requires keeps_theirs { Keeps A.moves B.stands }
-    ensures whole { whole ours_held.new (A.seen ours.new) ≡ whole ours_held.old (A.seen ours.old) }
-    ensures whole_theirs { whole theirs_held.new (B.seen theirs.new) ≡ whole theirs_held.old (B.seen theirs.old) }
-    ensures no_further { AskedUpto (bound_of upto.now (held ours_held.new)) (B.seen theirs.old) (B.seen theirs.new) }
-    ensures known { OnOk result (held ours_held.new ≡ [] → first_upto upto.now (A.seen ours.new).left ≡ None) }
-    ensures known_theirs { OnOk result (held theirs_held.new ≡ [] → first_upto (bound_of upto.now (held ours_held.new)) (B.seen theirs.new).left ≡ None) }
+    requires ready { A.ready ours.old home.old store.old }
+    requires theirs { B.ready theirs.old home.old store.old }
+    requires keeps { Keeps B.moves A.ready }
+    requires keeps_theirs { Keeps A.moves B.ready }
+    requires keeps_seen { KeepsSeen B.moves A.seen }
+    requires keeps_seen_theirs { KeepsSeen A.moves B.seen }
+    ensures holds { (t : Stream) → Holds (A.seen ours.old home.old store.old) ours_held.old t → Holds (A.seen ours.new home.new store.new) ours_held.new t }
+    ensures holds_theirs { (t : Stream) → Holds (B.seen theirs.old home.old store.old) theirs_held.old t → Holds (B.seen theirs.new home.new store.new) theirs_held.new t }
+    ensures no_further { (s : Stream) → B.seen theirs.old home.old store.old s → AskedUpto (bound_of upto.now (held ours_held.new)) s (B.seen theirs.new home.new store.new) }
+    ensures known { OnOk result ((t : Stream) → Holds (A.seen ours.old home.old store.old) ours_held.old t → held ours_held.new ≡ [] → first_upto upto.now t.left ≡ None) }
+    ensures known_theirs { OnOk result ((t : Stream) → Holds (B.seen theirs.old home.old store.old) theirs_held.old t → held theirs_held.new ≡ [] → first_upto (bound_of upto.now (held ours_held.new)) t.left ≡ None) }
     ensures ahead { (x : Pos) → MaySeek (A.ahead ours.old) ours_held.old.look x → MaySeek (A.ahead ours.new) ours_held.new.look x }
     ensures ahead_theirs { (x : Pos) → MaySeek (B.ahead theirs.old) theirs_held.old.look x → MaySeek (B.ahead theirs.new) theirs_held.new.look x }
-    ensures fits { Fits ours_held.new (A.seen ours.new) }
-    ensures fits_theirs { Fits theirs_held.new (B.seen theirs.new) }
-    ensures stands { A.stands ours.new home.new store.new }
-    ensures theirs { B.stands theirs.new home.new store.new }
+    ensures ready { A.ready ours.new home.new store.new }
+    ensures theirs { B.ready theirs.new home.new store.new }
     ensures moves { Moved A.moves B.moves home.old store.old home.new store.new }
     ensures cause { Caused result (W.files store.old) (W.faults store.old) (W.faults store.new) }
     ensures files { W.files store.new ≡ W.files store.old }
@@ -67,21 +67,17 @@ fn round<H, W: Store, A: Frags<H, W>, B: Frags<H, W>>(
     store: &mut W,
     upto: &Pos,
 ) -> Result<Step, StreamErr>
-    requires stands { A.stands ours.old home.old store.old }
-    requires theirs { B.stands theirs.old home.old store.old }
-    requires fits { Fits ours_held.old (A.seen ours.old) }
-    requires fits_theirs { Fits theirs_held.old (B.seen theirs.old) }
-    requires keeps { Keeps B.moves A.stands }
-    requires keeps_theirs { Keeps A.moves B.stands }
-    ensures says { IfOk result (λ s. StepSays s upto.now (merged (whole ours_held.old (A.seen ours.old)) (whole theirs_held.old (B.seen theirs.old))) (merged (whole ours_held.new (A.seen ours.new)) (whole theirs_held.new (B.seen theirs.new)))) }
-    ensures err { OnErr result (merged (whole ours_held.new (A.seen ours.new)) (whole theirs_held.new (B.seen theirs.new)) ≡ merged (whole ours_held.old (A.seen ours.old)) (whole theirs_held.old (B.seen theirs.old))) }
-    ensures on { IfOk result (λ s. StepsOn s (length (held ours_held.new ++ (A.seen ours.new).left) + length (held theirs_held.new ++ (B.seen theirs.new).left)) (length (held ours_held.old ++ (A.seen ours.old).left) + length (held theirs_held.old ++ (B.seen theirs.old).left))) }
+    requires ready { A.ready ours.old home.old store.old }
+    requires theirs { B.ready theirs.old home.old store.old }
+    requires keeps { Keeps B.moves A.ready }
+    requires keeps_theirs { Keeps A.moves B.ready }
+    requires keeps_seen { KeepsSeen B.moves A.seen }
+    requires keeps_seen_theirs { KeepsSeen A.moves B.seen }
+    ensures says { (m : Stream) → HoldBoth (A.seen ours.old home.old store.old) ours_held.old (B.seen theirs.old home.old store.old) theirs_held.old m → StepLeaves result upto.now m (HoldBoth (A.seen ours.new home.new store.new) ours_held.new (B.seen theirs.new home.new store.new) theirs_held.new) }
     ensures ahead { (x : Pos) → RoundReaches result x → MaySeek (A.ahead ours.old) ours_held.old.look x → MaySeek (A.ahead ours.new) ours_held.new.look x }
     ensures ahead_theirs { (x : Pos) → RoundReaches result x → MaySeek (B.ahead theirs.old) theirs_held.old.look x → MaySeek (B.ahead theirs.new) theirs_held.new.look x }
-    ensures fits { Fits ours_held.new (A.seen ours.new) }
-    ensures fits_theirs { Fits theirs_held.new (B.seen theirs.new) }
-    ensures stands { A.stands ours.new home.new store.new }
-    ensures theirs { B.stands theirs.new home.new store.new }
+    ensures ready { A.ready ours.new home.new store.new }
+    ensures theirs { B.ready theirs.new home.new store.new }
     ensures moves { Moved A.moves B.moves home.old store.old home.new store.new }
     ensures cause { Caused result (W.files store.old) (W.faults store.old) (W.faults store.new) }
     ensures files { W.files store.new ≡ W.files store.old }
@@ -101,6 +97,93 @@ fn round<H, W: Store, A: Frags<H, W>, B: Frags<H, W>>(
             Ok(step) => Ok(step),
             Err(_) => Err(StreamErr::NoMemory),
         },
+        Err(error) => Err(error),
+    }
+}
+
+// Takes the first that both say, if it stands at the position or before it: steps until one gives. Streams that never end are
+// given up after 2 ^ 64 changes that change nothing.
+fn next_of_both<H, W: Store, A: Frags<H, W>, B: Frags<H, W>>(
+    alloc: Global,
+    ours: &mut A,
+    ours_held: &mut Held,
+    theirs: &mut B,
+    theirs_held: &mut Held,
+    home: &mut H,
+    store: &mut W,
+    upto: &Pos,
+) -> Result<Option<Frag>, StreamErr>
+    requires ready { A.ready ours.old home.old store.old }
+    requires theirs { B.ready theirs.old home.old store.old }
+    requires keeps { Keeps B.moves A.ready }
+    requires keeps_theirs { Keeps A.moves B.ready }
+    requires keeps_seen { KeepsSeen B.moves A.seen }
+    requires keeps_seen_theirs { KeepsSeen A.moves B.seen }
+    ensures gives { (m : Stream) → HoldBoth (A.seen ours.old home.old store.old) ours_held.old (B.seen theirs.old home.old store.old) theirs_held.old m → IfOk result (λ got. got ≡ first_upto upto.now m.left) }
+    ensures left { (m : Stream) → HoldBoth (A.seen ours.old home.old store.old) ours_held.old (B.seen theirs.old home.old store.old) theirs_held.old m → HoldBoth (A.seen ours.new home.new store.new) ours_held.new (B.seen theirs.new home.new store.new) theirs_held.new (left_by result m) }
+    ensures ahead { (x : Pos) → Passes result x → MaySeek (A.ahead ours.old) ours_held.old.look x → MaySeek (A.ahead ours.new) ours_held.new.look x }
+    ensures ahead_theirs { (x : Pos) → Passes result x → MaySeek (B.ahead theirs.old) theirs_held.old.look x → MaySeek (B.ahead theirs.new) theirs_held.new.look x }
+    ensures ready { A.ready ours.new home.new store.new }
+    ensures theirs { B.ready theirs.new home.new store.new }
+    ensures moves { Moved A.moves B.moves home.old store.old home.new store.new }
+    ensures cause { Caused result (W.files store.old) (W.faults store.old) (W.faults store.new) }
+    ensures files { W.files store.new ≡ W.files store.old }
+    ensures building { W.building store.new ≡ W.building store.old }
+{
+    let mut rounds = u64::MAX;
+    while rounds > 0 {
+        rounds -= 1;
+        match round(
+            alloc,
+            ours,
+            ours_held,
+            theirs,
+            theirs_held,
+            home,
+            store,
+            upto,
+        ) {
+            Ok(Step::Given(frag)) => return Ok(Some(frag)),
+            Ok(Step::Nothing) => return Ok(None),
+            Ok(Step::Passed) => {}
+            Err(error) => return Err(error),
+        }
+    }
+    Err(StreamErr::NoMemory)
+}
+
+// Goes on to a position in both.
+fn go_on_in_both<H, W: Store, A: Frags<H, W>, B: Frags<H, W>>(
+    alloc: Global,
+    ours: &mut A,
+    ours_held: &mut Held,
+    theirs: &mut B,
+    theirs_held: &mut Held,
+    home: &mut H,
+    store: &mut W,
+    to: &Pos,
+) -> Result<(), StreamErr>
+    requires ready { A.ready ours.old home.old store.old }
+    requires theirs { B.ready theirs.old home.old store.old }
+    requires keeps { Keeps B.moves A.ready }
+    requires keeps_theirs { Keeps A.moves B.ready }
+    requires keeps_seen { KeepsSeen B.moves A.seen }
+    requires keeps_seen_theirs { KeepsSeen A.moves B.seen }
+    requires ahead { MaySeek (A.ahead ours.old) ours_held.old.look to.now }
+    requires ahead_theirs { MaySeek (B.ahead theirs.old) theirs_held.old.look to.now }
+    ensures ok { OnOk result ((m : Stream) → HoldBoth (A.seen ours.old home.old store.old) ours_held.old (B.seen theirs.old home.old store.old) theirs_held.old m → HoldBoth (A.seen ours.new home.new store.new) ours_held.new (B.seen theirs.new home.new store.new) theirs_held.new (sought to.now m)) }
+    ensures again { (m : Stream) → HoldBoth (A.seen ours.old home.old store.old) ours_held.old (B.seen theirs.old home.old store.old) theirs_held.old m → ((n : Stream) × HoldBoth (A.seen ours.new home.new store.new) ours_held.new (B.seen theirs.new home.new store.new) theirs_held.new n × (sought to.now n ≡ sought to.now m)) }
+    ensures ahead { MaySeek (A.ahead ours.new) ours_held.new.look to.now }
+    ensures ahead_theirs { MaySeek (B.ahead theirs.new) theirs_held.new.look to.now }
+    ensures ready { A.ready ours.new home.new store.new }
+    ensures theirs { B.ready theirs.new home.new store.new }
+    ensures moves { Moved A.moves B.moves home.old store.old home.new store.new }
+    ensures cause { Caused result (W.files store.old) (W.faults store.old) (W.faults store.new) }
+    ensures files { W.files store.new ≡ W.files store.old }
+    ensures building { W.building store.new ≡ W.building store.old }
+{
+    match go_on(alloc, ours, ours_held, home, store, to) {
+        Ok(()) => go_on(alloc, theirs, theirs_held, home, store, to),
         Err(error) => Err(error),
     }
 }

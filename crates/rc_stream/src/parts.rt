@@ -1,12 +1,11 @@
 // One of two streams that are merged, with what is held of it.
-ghost use Rattle.std.specs.Prelude.{◌≡◌, [], true, None, IfOk, OnOk, OnErr};
-ghost use Rattle.rc_cell.specs.Greatest.{is_nil};
+ghost use Rattle.std.specs.Prelude.{◌≡◌, [], None, OnOk};
 ghost use Rattle.rc_position.specs.declared.positions.Pos.{Pos};
+ghost use Rattle.rc_stream.specs.Calls.{sought_by};
 ghost use Rattle.rc_stream.specs.Causes.{Caused};
-ghost use Rattle.rc_stream.specs.Holding.{Fits, held, whole};
-ghost use Rattle.rc_stream.specs.Moving.{AskedUpto, MaySeek, Once};
-ghost use Rattle.rc_stream.specs.Places.{Reaches};
-ghost use Rattle.rc_stream.specs.Stream.{first_upto, sought};
+ghost use Rattle.rc_stream.specs.Holding.{held};
+ghost use Rattle.rc_stream.specs.Moving.{AskedUpto, Holds, MaySeek, Once};
+ghost use Rattle.rc_stream.specs.Stream.{Stream, first_upto};
 
 use crate::holding::Held;
 use crate::streams::{Frags, StreamErr};
@@ -23,14 +22,12 @@ pub(crate) fn look_ahead<H, W: Store, A: Frags<H, W>>(
     store: &mut W,
     upto: &Pos,
 ) -> Result<(), StreamErr>
-    requires stands { A.stands stream.old home.old store.old }
-    requires fits { Fits kept.old (A.seen stream.old) }
-    ensures whole { whole kept.new (A.seen stream.new) ≡ whole kept.old (A.seen stream.old) }
-    ensures fits { Fits kept.new (A.seen stream.new) }
-    ensures no_further { AskedUpto upto.now (A.seen stream.old) (A.seen stream.new) }
-    ensures known { OnOk result (held kept.new ≡ [] → first_upto upto.now (A.seen stream.new).left ≡ None) }
+    requires { A.ready stream.old home.old store.old }
+    ensures holds { (t : Stream) → Holds (A.seen stream.old home.old store.old) kept.old t → Holds (A.seen stream.new home.new store.new) kept.new t }
+    ensures no_further { (s : Stream) → A.seen stream.old home.old store.old s → AskedUpto upto.now s (A.seen stream.new home.new store.new) }
+    ensures known { OnOk result ((t : Stream) → Holds (A.seen stream.old home.old store.old) kept.old t → held kept.new ≡ [] → first_upto upto.now t.left ≡ None) }
     ensures ahead { (x : Pos) → MaySeek (A.ahead stream.old) kept.old.look x → MaySeek (A.ahead stream.new) kept.new.look x }
-    ensures stands { A.stands stream.new home.new store.new }
+    ensures ready { A.ready stream.new home.new store.new }
     ensures moves { Once A.moves home.old store.old home.new store.new }
     ensures cause { Caused result (W.files store.old) (W.faults store.old) (W.faults store.new) }
     ensures files { W.files store.new ≡ W.files store.old }
@@ -57,15 +54,11 @@ pub(crate) fn go_on<H, W: Store, A: Frags<H, W>>(
     store: &mut W,
     to: &Pos,
 ) -> Result<(), StreamErr>
-    requires stands { A.stands stream.old home.old store.old }
-    requires fits { Fits kept.old (A.seen stream.old) }
+    requires ready { A.ready stream.old home.old store.old }
     requires ahead { MaySeek (A.ahead stream.old) kept.old.look to.now }
-    ensures ok { OnOk result (whole kept.new (A.seen stream.new) ≡ sought to.now (whole kept.old (A.seen stream.old))) }
-    ensures err { OnErr result (whole kept.new (A.seen stream.new) ≡ whole kept.old (A.seen stream.old)) }
-    ensures fits { Fits kept.new (A.seen stream.new) }
+    ensures holds { (t : Stream) → Holds (A.seen stream.old home.old store.old) kept.old t → Holds (A.seen stream.new home.new store.new) kept.new (sought_by result to.now t) }
     ensures ahead { MaySeek (A.ahead stream.new) kept.new.look to.now }
-    ensures kept { OnErr result ((x : Pos) → MaySeek (A.ahead stream.old) kept.old.look x → MaySeek (A.ahead stream.new) kept.new.look x) }
-    ensures stands { A.stands stream.new home.new store.new }
+    ensures ready { A.ready stream.new home.new store.new }
     ensures moves { Once A.moves home.old store.old home.new store.new }
     ensures cause { Caused result (W.files store.old) (W.faults store.old) (W.faults store.new) }
     ensures files { W.files store.new ≡ W.files store.old }

@@ -4,7 +4,7 @@ use Rattle.rc_cell.specs.Greatest.{greater}
 use Rattle.rc_cell.specs.Orders.{tomb_cmp}
 use Rattle.rc_stream.specs.Merging.{beside, changes_nothing}
 use Rattle.rc_stream.specs.Holding.{Took, dropped, held, told}
-use Rattle.rc_stream.proofs.Held.{alone-is, took-none, took-one, dropped-beside, silent-beside, upto-beside}
+use Rattle.rc_stream.proofs.Held.{alone-is, took-none, took-one, dropped-beside, silent-beside, place-beside}
 use Rattle.rc_stream.proofs.holding.Held.step_alone.Goals as goal
 
 pub returns-in-None-clause-took : goal.returns-in-None-clause-took
@@ -25,5 +25,5 @@ returns-in-Some-clause-took c =
     subst (λ s. Took s c.args.self.now c.tell.new.self) (sym (c.tell.ensures.step ∙ ap (told t) c.beside.ensures))
     (took-one c.args.self.now c.take.new.self c.tell.new.self f a t c.in-Some.ensures.gives c.take.ensures.left c.take.ensures.tomb c.take.ensures.look c.tell.ensures.front
     (c.tell.ensures.look ∙ ap (λ b. cond (changes_nothing t b) (dropped b c.take.new.self.look) c.take.new.self.look) c.beside.ensures ∙ ap (λ l. cond (changes_nothing t a) l c.take.new.self.look) (dropped-beside c.args.other f c.take.new.self.look))
-    (λ _ e. silent-beside t c.args.other f e)
-    (λ x _ e. sym (upto-beside c.args.other f x) ∙ e))
+    (silent-beside t c.args.other f)
+    (place-beside c.args.other f))
