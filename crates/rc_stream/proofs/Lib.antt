@@ -1,4 +1,5 @@
 pub mod Determined
+pub mod Due
 pub mod Going
 pub mod Held
 pub mod Joining

@@ -7,7 +7,7 @@ use Rattle.rc_stream.specs.declared.holding.Look.TheVariants as look
 use Rattle.rc_stream.specs.declared.holding.Step.{Step}
 use Rattle.rc_stream.specs.declared.holding.Step.TheVariants as step
 use Rattle.rc_stream.specs.Places.{Reaches}
-use Rattle.rc_stream.specs.Stream.{Stream, first_upto, took}
+use Rattle.rc_stream.specs.Stream.{Stream, first_upto, sought, took}
 use Rattle.rc_stream.specs.declared.streams.StreamErr.{StreamErr}
 use Rattle.rc_stream.specs.declared.holding.Held.{Held}
 use Rattle.rc_stream.specs.Merging.{merged}
@@ -86,3 +86,18 @@ RoundReaches (Err e) x = ⊤
 -- of a stream nothing was taken, or its first alone, which stands at x or before it, where this holds of what is left
 abbrev pub AskedUpto : Pos → Stream → (Stream → Type 0) → Type 0
 AskedUpto x s now = now s ⊎ ((f : Frag) × (first_upto x s.left ≡ Some f) × now (took (Some f) s))
+
+-- two parts, each with what is held of it, stand for streams that merge to this one, or to one that a seek that is due makes this one
+abbrev pub SoughtBoth : (Stream → Type 0) → Held → (Stream → Type 0) → Held → Option Pos → Stream → Type 0
+SoughtBoth seen h seen' h' None s = HoldBoth seen h seen' h' s
+SoughtBoth seen h seen' h' (Some x) s = (t : Stream) × HoldBoth seen h seen' h' t × (s ≡ sought x t)
+
+-- x is ahead of both parts, or not before the seek that is due
+abbrev pub AheadOfBoth : (Pos → Type 0) → Look → (Pos → Type 0) → Look → Option Pos → Pos → Type 0
+AheadOfBoth ahead l ahead' l' None x = MaySeek ahead l x × MaySeek ahead' l' x
+AheadOfBoth ahead l ahead' l' (Some y) x = Reaches y x
+
+-- both parts may be sought to where a seek is due
+abbrev pub IsDueAhead : (Pos → Type 0) → Look → (Pos → Type 0) → Look → Option Pos → Type 0
+IsDueAhead ahead l ahead' l' None = ⊤
+IsDueAhead ahead l ahead' l' (Some x) = MaySeek ahead l x × MaySeek ahead' l' x

@@ -537,7 +537,7 @@ fn joined_rows(alloc: Global, ours: &Held, theirs: &Held) -> Result<Option<Row>,
 }
 
 // Two rows as one.
-fn joined_row(alloc: Global, row: Row, other: &Row) -> Result<Row, AllocError>
+pub(crate) fn joined_row(alloc: Global, row: Row, other: &Row) -> Result<Row, AllocError>
     ensures { IfOk result (λ r. r ≡ joined_row (row ∷ other.now ∷ [])) }
 {
     let mut row = row;

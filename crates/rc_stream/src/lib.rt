@@ -11,4 +11,5 @@ mod streams;
 mod tests;
 
 pub use lists::ListFrags;
+pub use merges::Merge;
 pub use streams::{Frags, StreamErr};
