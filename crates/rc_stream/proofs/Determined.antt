@@ -1,7 +1,6 @@
 -- Ordered fragments in which each change tells something are determined by what they say.
-use Rattle.std.specs.Prelude.{◌≡◌, ℕ, Bool, true, false, cond, List, [], ◌∷◌, ◌++◌, Option, Some, None}
+use Rattle.std.specs.Prelude.{◌≡◌, true, false, cond, List, [], ◌∷◌, ◌++◌, Option, Some, None}
 use Rattle.std.proofs.Common.{refl, sym, ap, ◌∙◌, subst}
-use Rattle.std.specs.declared.cmp.Ordering.{Ordering}
 use Rattle.std.specs.declared.cmp.Ordering.TheVariants.{Less, Equal, Greater}
 use Rattle.std.specs.Ordering.{is_eq, ordering_reverse}
 use Rattle.std.specs.Cmp.{tied_itself}
@@ -14,7 +13,7 @@ use Rattle.rc_mutation.specs.declared.fragments.Frag.{Frag}
 use Rattle.rc_mutation.specs.declared.fragments.Frag.TheVariants as frag
 use Rattle.rc_mutation.specs.Fragments.{place_order}
 use Rattle.rc_stream.specs.Stream.{after, force, is_passed, row_at}
-use Rattle.rc_stream.specs.Merging.{IsInner, IsOrdered, IsTelling, StandsBefore, changes_nothing, place_of, rows_here, same_tomb}
+use Rattle.rc_stream.specs.Merging.{IsOrdered, IsTelling, StandsBefore, changes_nothing, place_of, rows_here, same_tomb}
 use Rattle.rc_stream.proofs.Ordered.{Place, Lt, place_total, place_same, before-through, irreflexive, itself, no_rows, passes-itself, stop, unpassed}
 use Rattle.rc_stream.proofs.Stepping.{other_rank}
 

@@ -1,14 +1,15 @@
 -- A seek that is due in a merge of two parts.
-use Rattle.std.specs.Prelude.{◌≡◌, List, Option, Some, None}
+use Rattle.std.specs.Prelude.{◌≡◌, Option, Some, None, Result, Ok, Err, IfOk}
 use Rattle.std.proofs.Common.{refl, sym, ap, ◌∙◌, subst}
 use Rattle.rc_position.specs.declared.positions.Pos.{Pos}
 use Rattle.rc_mutation.specs.declared.fragments.Head.{Head}
 use Rattle.rc_stream.specs.declared.holding.Held.{Held}
 use Rattle.rc_stream.specs.declared.holding.Look.{Look}
+use Rattle.rc_stream.specs.declared.streams.StreamErr.{StreamErr}
 use Rattle.rc_stream.specs.Places.{Reaches}
 use Rattle.rc_stream.specs.Stream.{Stream, sought}
-use Rattle.rc_stream.specs.Merging.{joined_head, merged}
-use Rattle.rc_stream.specs.Moving.{AheadOfBoth, HoldBoth, Holds, IsDueAhead, MaySeek, SoughtBoth}
+use Rattle.rc_stream.specs.Merging.{joined_head}
+use Rattle.rc_stream.specs.Moving.{AheadOfBoth, HoldBoth, IsDueAhead, MaySeek, SoughtBoth}
 use Rattle.rc_stream.proofs.Going.{may-later}
 use Rattle.rc_stream.proofs.MergeLaws.{head-merged}
 use Rattle.rc_stream.proofs.Seeking.{sought-sought}
@@ -75,3 +76,7 @@ due-on A B A' B' l k (Some x) one other d = (may-on A A' l x one d.0, may-on B B
 pub ahead-on : (A B A' B' : Ahead) (l k : Look) (due : Option Pos) (x : Pos) → ((y : Pos) → A y → A' y) → ((y : Pos) → B y → B' y) → AheadOfBoth A l B k due x → AheadOfBoth A' l B' k due x
 ahead-on A B A' B' l k None x one other r = (may-on A A' l x one r.0, may-on B B' k x other r.1)
 ahead-on A B A' B' l k (Some y) x one other r = r
+
+pub head-result : (P Q : Seen) (h k : Held) (due : Option Pos) (r : Result Head StreamErr) (s : Stream) → ((a b : Stream) → P a → Q b → IfOk r (λ v. v ≡ joined_head a.head b.head)) → SoughtBoth P h Q k due s → IfOk r (λ v. v ≡ s.head)
+head-result P Q h k due (Ok v) s is b = head-sought P Q h k due v s is b
+head-result P Q h k due (Err e) s is b = tt

@@ -1,11 +1,8 @@
 -- What calls one after another make of a home and a store, and of what causes a refusal.
-use Rattle.std.specs.Prelude.{◌≡◌, ◌⊎◌, ℕ, zero, suc, ◌≤◌, ◌<◌, Bool, true, false, List, [], ◌∷◌, ◌++◌, Option, Some, None, Result, Ok, Err, IsTrue}
-use Rattle.std.proofs.Common.{refl, sym, ap, ◌∙◌, subst, arith, inl, inr, ⊎_elim}
+use Rattle.std.specs.Prelude.{◌≡◌, ℕ, zero, suc, ◌≤◌, Option, Result, Ok, Err}
+use Rattle.std.proofs.Common.{refl, sym, ◌∙◌, subst, arith, inl, inr}
 use Rattle.rc_position.specs.declared.positions.Pos.{Pos}
-use Rattle.rc_position.specs.Position.{pos_cmp, row_pos}
-use Rattle.std.specs.Ordering.{is_le}
-use Rattle.rc_mutation.specs.declared.fragments.Frag.{Frag}
-use Rattle.rc_mutation.specs.declared.fragments.Frag.TheVariants as frag
+use Rattle.rc_position.specs.Position.{pos_cmp}
 use Rattle.rc_outside.specs.Faults.{Rose}
 use Rattle.rc_outside.specs.Files.{Files}
 use Rattle.rc_stream.specs.declared.holding.Held.{Held}
@@ -17,10 +14,9 @@ use Rattle.rc_stream.specs.declared.holding.Turn.TheVariants as turn
 use Rattle.rc_stream.specs.declared.streams.StreamErr.{StreamErr}
 use Rattle.rc_stream.specs.declared.streams.StreamErr.TheVariants.{Fault, Damaged, NoMemory}
 use Rattle.rc_stream.specs.Causes.{Caused}
-use Rattle.rc_stream.specs.Merging.{IsOrdered, StandsBefore, place_of}
+use Rattle.rc_stream.specs.Merging.{place_of}
 use Rattle.rc_stream.specs.Places.{Reaches}
-use Rattle.rc_stream.specs.Stream.{is_upto}
-use Rattle.rc_stream.specs.Holding.{Does, IsFrom, StepReaches, Took, held}
+use Rattle.rc_stream.specs.Holding.{Does, IsFrom, StepReaches}
 use Rattle.rc_stream.specs.Moving.{Either, Keeps, MaySeek, Moved, Moves, Once}
 use Rattle.rc_stream.proofs.Says.{le_le}
 

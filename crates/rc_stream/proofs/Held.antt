@@ -1,5 +1,5 @@
 -- The first of what is held was taken.
-use Rattle.std.specs.Prelude.{◌≡◌, ℕ, Bool, true, false, cond, List, [], ◌∷◌, ◌++◌, Option, Some, None, IsTrue, ⊤}
+use Rattle.std.specs.Prelude.{◌≡◌, ℕ, Bool, true, false, cond, List, [], ◌∷◌, ◌++◌, Option, Some, None}
 use Rattle.std.proofs.Common.{refl, sym, ap, ◌∙◌, subst}
 use Rattle.rc_cell.specs.declared.writes.Tomb.{Tomb}
 use Rattle.rc_cell.specs.Greatest.{greater}
@@ -10,7 +10,6 @@ use Rattle.rc_mutation.specs.declared.fragments.Frag.TheVariants as frag
 use Rattle.rc_stream.specs.declared.holding.Held.{Held}
 use Rattle.rc_stream.specs.declared.holding.Look.{Look}
 use Rattle.rc_stream.specs.declared.holding.Look.TheVariants as look
-use Rattle.rc_stream.specs.declared.holding.Step.{Step}
 use Rattle.rc_stream.specs.declared.holding.Step.TheVariants as step
 use Rattle.rc_stream.specs.declared.lists.Front.{Front}
 use Rattle.rc_stream.specs.declared.lists.Front.TheVariants as front
@@ -20,7 +19,7 @@ use Rattle.std.specs.declared.cmp.Ordering.{Ordering}
 use Rattle.std.specs.declared.cmp.Ordering.TheVariants.{Less, Equal, Greater}
 use Rattle.std.specs.FinMap.Entries.{by_order}
 use Rattle.rc_position.specs.Position.{row_pos, pos_cmp}
-use Rattle.std.specs.Ordering.{is_le, is_gt, is_eq, ordering_reverse, ordering_then}
+use Rattle.std.specs.Ordering.{is_le, is_gt, ordering_reverse}
 use Rattle.rc_position.specs.declared.positions.Weight.TheVariants.{Before}
 use Rattle.rc_position.specs.BoundLaws.{first_pos-least}
 use Rattle.rc_position.specs.OrderLaws.{pos_cmp_total}
@@ -31,7 +30,7 @@ use Rattle.rc_stream.specs.declared.holding.Turn.{Turn}
 use Rattle.rc_stream.specs.declared.holding.Turn.TheVariants as turn
 use Rattle.rc_stream.specs.Merging.{IsInner, IsOrdered, StandsBefore, beside, changes_nothing, place_of, together}
 use Rattle.rc_stream.proofs.Ordered.{Place, place_same}
-use Rattle.rc_stream.specs.Holding.{IsFrom, is_near, row_of, turn_of, StandsOver, StepReaches, Took, alone, behind_first, dropped, first_of, held, later, look_taken, looked, nearer, paired, told}
+use Rattle.rc_stream.specs.Holding.{IsFrom, is_near, row_of, turn_of, StandsOver, Took, alone, behind_first, dropped, first_of, held, later, look_taken, looked, nearer, paired, told}
 
 abbrev front_held : Front → Look → List Frag
 front_held fr l = front_change fr ++ looked l

@@ -1,5 +1,5 @@
 -- Two mutations read as streams and merged are the stream of what both join to.
-use Rattle.std.specs.Prelude.{◌≡◌, ◌≢◌, ℕ, zero, suc, ◌<◌, All, Bool, true, false, not, cond, List, [], ◌∷◌, ◌++◌, Option, Some, None, IsTrue, length, map as list_map, filter}
+use Rattle.std.specs.Prelude.{◌≡◌, zero, suc, All, Bool, true, false, cond, List, [], ◌∷◌, ◌++◌, Option, Some, None, IsTrue, length, map as list_map, filter}
 use Rattle.std.proofs.Common.{refl, sym, ap, ◌∙◌, subst, arith, T, append-nil}
 use Rattle.std.specs.declared.cmp.Ordering.{Ordering}
 use Rattle.std.specs.declared.cmp.Ordering.TheVariants.{Less, Equal, Greater}
@@ -29,15 +29,14 @@ use Rattle.rc_ranges.specs.Cover.{cover as range_tomb}
 use Rattle.rc_ranges.specs.Sweep.{lt}
 use Rattle.rc_ranges.proofs.Covering.{cover-append, cover-before, cover-behind, cover-inside, cover-none}
 use Rattle.rc_mutation.specs.declared.fragments.Frag.{Frag}
-use Rattle.rc_mutation.specs.declared.fragments.Frag.TheVariants as frag
 use Rattle.rc_mutation.specs.declared.mutations.Mutation.{Mutation}
-use Rattle.rc_mutation.specs.ByKey.{joined_if_any, rows_at-joined_rows}
+use Rattle.rc_mutation.specs.ByKey.{rows_at-joined_rows}
 use Rattle.rc_mutation.specs.Fragments.{begins_at, changes_of, fragments, in_order, place_order, placed_change, placed_row}
 use Rattle.rc_mutation.specs.Source.{IsJoinOf, IsMutation, joined_rows, rows_in}
 use Rattle.rc_mutation.proofs.FragMerge.{merge, merge_into, merge-in_order, fragment_of, rows-placed, changes-placed}
-use Rattle.rc_stream.specs.Stream.{Stream, after, force, is_passed, row_at, stream_of}
+use Rattle.rc_stream.specs.Stream.{Stream, force, stream_of}
 use Rattle.rc_stream.specs.Merging.{IsInner, IsOrdered, IsTelling, StandsBefore, joined_head, merged, place_of, rows_here, same_tomb}
-use Rattle.rc_stream.proofs.Ordered.{Place, Lt, place_total, place_same}
+use Rattle.rc_stream.proofs.Ordered.{Place, place_total, place_same}
 use Rattle.rc_stream.proofs.Merged.{one_row}
 use Rattle.rc_stream.proofs.MergeLaws.{determined-stream, head-merged, ordered-merged, rows-merged, telling-merged, tomb-merged, tombs-merged}
 use Rattle.rc_stream.proofs.Whole.{stream, stream-of_fragments}

@@ -1,5 +1,5 @@
 -- A stream that is looked at or sought, with what is held of it.
-use Rattle.std.specs.Prelude.{◌≡◌, ℕ, Bool, true, false, cond, ◌&&◌, List, [], ◌∷◌, ◌++◌, Option, Some, None, Result, Ok, IsTrue, ⊤}
+use Rattle.std.specs.Prelude.{◌≡◌, Bool, true, false, cond, ◌&&◌, List, [], ◌∷◌, ◌++◌, Option, Some, None, Ok}
 use Rattle.std.proofs.Common.{refl, sym, ap, ◌∙◌, subst}
 use Rattle.std.specs.declared.cmp.Ordering.{Ordering}
 use Rattle.std.specs.declared.cmp.Ordering.TheVariants.{Less, Equal, Greater}
@@ -11,7 +11,6 @@ use Rattle.rc_position.specs.Position.{pos_cmp, row_pos}
 use Rattle.rc_mutation.specs.declared.fragments.Frag.{Frag}
 use Rattle.rc_mutation.specs.declared.fragments.Frag.TheVariants as frag
 use Rattle.rc_mutation.specs.declared.fragments.Head.{Head}
-use Rattle.rc_mutation.specs.Fragments.{place_order}
 use Rattle.rc_stream.specs.declared.holding.Held.{Held}
 use Rattle.rc_stream.specs.declared.holding.Look.{Look}
 use Rattle.rc_stream.specs.declared.holding.Look.TheVariants as look
@@ -20,11 +19,11 @@ use Rattle.rc_stream.specs.declared.lists.Front.TheVariants as front
 use Rattle.rc_stream.specs.Fronts.{front_change, front_tomb}
 use Rattle.rc_stream.specs.Places.{Passes, Reaches}
 use Rattle.rc_stream.specs.Stream.{Stream, after, first_upto, force, is_passed, is_upto, onward, opening, rest, sought}
-use Rattle.rc_stream.specs.Merging.{IsInner, IsOrdered, StandsBefore, place_of}
+use Rattle.rc_stream.specs.Merging.{IsOrdered, StandsBefore, place_of}
 use Rattle.rc_stream.specs.Holding.{Fits, IsFrom, StandsOver, WentOn, behind, held, look_passed, front_passed, looked, passes_held, whole}
 use Rattle.rc_stream.specs.Moving.{MaySeek, holds}
 use Rattle.rc_stream.proofs.Held.{same-some}
-use Rattle.rc_stream.proofs.Ordered.{Lt, not_passed, over, passes-itself, stop}
+use Rattle.rc_stream.proofs.Ordered.{not_passed, over, passes-itself, stop}
 use Rattle.rc_stream.proofs.Seeking.{sought-ordered}
 
 -- ---- looking
@@ -118,7 +117,6 @@ unpassed-look : (x : Pos) (t : Option Tomb) (l : Look) (fs : List Frag) → look
 unpassed-look x t look.Open fs e o s = absurd (cc)
 unpassed-look x t (look.Over z) fs e o s = (stop x (z, 0) t fs o s (le_not (pos_cmp z x) e), onward-stop x z fs o s e)
 unpassed-look x t (look.Next f) fs e o s = (ap (λ c. cond c (force x (after t f) fs) t) e, ap (λ c. cond c (onward x fs) (f ∷ fs)) e)
-
 unpassed-look x t (look.Past z f) fs e o s =
     let n : is_passed x f ≡ false =
     elim (is_le (pos_cmp z x)) as (λ b. is_le (pos_cmp z x) ≡ b → (b && is_passed x f) ≡ false → is_passed x f ≡ false) [

@@ -1,5 +1,5 @@
 -- A step of a merge, by what is held of both, is one of the merged stream.
-use Rattle.std.specs.Prelude.{◌≡◌, ℕ, Bool, true, false, cond, List, [], ◌∷◌, ◌++◌, Option, Some, None, IsTrue, ⊤}
+use Rattle.std.specs.Prelude.{◌≡◌, true, false, cond, List, [], ◌∷◌, ◌++◌, Option, Some, None}
 use Rattle.std.proofs.Common.{refl, sym, ap, ◌∙◌, subst}
 use Rattle.std.specs.declared.cmp.Ordering.{Ordering}
 use Rattle.std.specs.declared.cmp.Ordering.TheVariants.{Less, Equal, Greater}
@@ -24,9 +24,9 @@ use Rattle.rc_stream.specs.declared.holding.Step.TheVariants as step
 use Rattle.rc_stream.specs.declared.holding.Turn.{Turn}
 use Rattle.rc_stream.specs.declared.holding.Turn.TheVariants as turn
 use Rattle.rc_stream.specs.Fronts.{front_tomb}
-use Rattle.rc_stream.specs.Stream.{Stream, after, first_upto, is_upto, rest, took}
+use Rattle.rc_stream.specs.Stream.{Stream, after, first_upto, is_upto, rest}
 use Rattle.rc_stream.specs.Merging.{IsInner, IsOrdered, StandsBefore, beside, changes_nothing, joined_head, merged, merged_left, place_of, together}
-use Rattle.rc_stream.specs.Holding.{Does, Fits, Took, alone, behind, behind_first, bound_of, held, is_near, nearer, paired, told, turn_of, whole}
+use Rattle.rc_stream.specs.Holding.{Does, Fits, Took, alone, behind, behind_first, bound_of, held, is_near, paired, told, turn_of, whole}
 use Rattle.rc_stream.specs.Moving.{StepSays}
 use Rattle.rc_stream.proofs.Held.{upto-beside, upto-together}
 use Rattle.rc_stream.proofs.Merged.{merged-says}

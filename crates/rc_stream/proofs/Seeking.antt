@@ -1,6 +1,6 @@
 -- A seek of two streams merged is both sought, merged; a later seek forgets an earlier one.
-use Rattle.std.specs.Prelude.{◌≡◌, ℕ, Bool, true, false, cond, List, [], ◌∷◌, ◌++◌, Option, Some, None, IsTrue}
-use Rattle.std.proofs.Common.{refl, sym, ap, ◌∙◌, subst}
+use Rattle.std.specs.Prelude.{◌≡◌, Bool, true, false, cond, List, [], ◌∷◌, ◌++◌, Option, Some, None}
+use Rattle.std.proofs.Common.{refl, sym, ap, ◌∙◌}
 use Rattle.std.specs.declared.cmp.Ordering.{Ordering}
 use Rattle.std.specs.declared.cmp.Ordering.TheVariants.{Less, Equal, Greater}
 use Rattle.std.specs.Ordering.{is_le, is_lt, ordering_reverse, ordering_then}
@@ -17,9 +17,9 @@ use Rattle.rc_mutation.specs.declared.fragments.Frag.TheVariants as frag
 use Rattle.rc_mutation.specs.declared.fragments.Head.{Head}
 use Rattle.rc_mutation.specs.Fragments.{place_order}
 use Rattle.rc_stream.specs.Stream.{Stream, after, force, is_passed, onward, opening, sought}
-use Rattle.rc_stream.specs.Merging.{IsInner, IsOrdered, IsTelling, StandsBefore, changes_nothing, joined_head, merged, merged_left, place_of, rows_here}
-use Rattle.rc_stream.proofs.Ordered.{Place, Lt, place_total, before-through, irreflexive, no_rows, stop, turned}
-use Rattle.rc_stream.proofs.Merged.{Says, merged-says, one_row}
+use Rattle.rc_stream.specs.Merging.{IsInner, IsOrdered, IsTelling, StandsBefore, joined_head, merged, merged_left, place_of, rows_here}
+use Rattle.rc_stream.proofs.Ordered.{Place, Lt, before-through, irreflexive, no_rows, stop, turned}
+use Rattle.rc_stream.proofs.Merged.{merged-says, one_row}
 use Rattle.rc_stream.proofs.Determined.{determined}
 use Rattle.rc_stream.proofs.Says.{force-onward, force-opening, passed_on, rows-onward, rows-opening}
 

@@ -1,9 +1,9 @@
 -- The first of two ordered lists merged, and what is left of both.
-use Rattle.std.specs.Prelude.{◌≡◌, ℕ, Bool, true, false, cond, List, [], ◌∷◌, ◌++◌, Option, Some, None, map as list_map, length}
+use Rattle.std.specs.Prelude.{◌≡◌, ℕ, true, false, cond, List, [], ◌∷◌, ◌++◌, Option, Some, None, map as list_map, length}
 use Rattle.std.proofs.Common.{refl, sym, ap, ◌∙◌, subst, arith}
 use Rattle.std.specs.declared.cmp.Ordering.{Ordering}
 use Rattle.std.specs.declared.cmp.Ordering.TheVariants.{Less, Equal, Greater}
-use Rattle.std.specs.Ordering.{is_eq, is_lt, eq_by_cmp, ordering_reverse}
+use Rattle.std.specs.Ordering.{is_eq, ordering_reverse}
 use Rattle.std.specs.FinMap as map
 use Rattle.std.specs.FinMap.{put}
 use Rattle.std.specs.FinMap.Entries.{by_order}
@@ -18,10 +18,10 @@ use Rattle.rc_position.specs.declared.positions.Pos.{Pos}
 use Rattle.rc_position.specs.Position.{row_pos}
 use Rattle.rc_mutation.specs.declared.fragments.Frag.{Frag}
 use Rattle.rc_mutation.specs.declared.fragments.Frag.TheVariants as frag
-use Rattle.rc_mutation.specs.Fragments.{in_order, place_order}
+use Rattle.rc_mutation.specs.Fragments.{place_order}
 use Rattle.rc_stream.specs.Stream.{after, force, is_passed, row_at}
 use Rattle.rc_stream.specs.Merging.{IsInner, IsOrdered, StandsBefore, beside, both_say, changes_nothing, merged_left, place_of, placed, rows_here, same_tomb, telling, together}
-use Rattle.rc_stream.proofs.Ordered.{Place, Lt, place_total, place_same, before-append, no_row-behind, no_row-passed, no_rows, itself, irreflexive, passed-change, passed-row, passes-itself, stop}
+use Rattle.rc_stream.proofs.Ordered.{Place, Lt, place_total, place_same, before-append, no_row-passed, no_rows, itself, irreflexive, passed-change, passed-row, passes-itself, stop}
 
 abbrev Entries : Type 0
 Entries = List (Place × Frag)

@@ -1,5 +1,5 @@
 -- A part with what is held of it as one stream, and two of them merged.
-use Rattle.std.specs.Prelude.{◌≡◌, ◌⊎◌, Bool, true, false, List, [], ◌∷◌, ◌++◌, Option, Some, None, Result, Ok, Err, OnOk}
+use Rattle.std.specs.Prelude.{◌≡◌, true, false, List, [], ◌∷◌, ◌++◌, Option, Some, None, Result, Ok, Err, OnOk}
 use Rattle.std.proofs.Common.{refl, sym, ap, ◌∙◌, subst, inl, inr}
 use Rattle.rc_cell.specs.declared.writes.Tomb.{Tomb}
 use Rattle.rc_cell.specs.Greatest.{is_nil}
@@ -15,7 +15,7 @@ use Rattle.rc_stream.specs.declared.lists.Front.{Front}
 use Rattle.rc_stream.specs.declared.lists.Front.TheVariants as front
 use Rattle.rc_stream.specs.declared.streams.StreamErr.{StreamErr}
 use Rattle.rc_stream.specs.Calls.{sought_by}
-use Rattle.rc_stream.specs.Fronts.{front_change, front_tomb}
+use Rattle.rc_stream.specs.Fronts.{front_change}
 use Rattle.rc_stream.specs.Stream.{Stream, after, first_upto, rest, sought, took}
 use Rattle.rc_stream.specs.Merging.{IsOrdered, StandsBefore, merged}
 use Rattle.rc_stream.specs.Holding.{Does, Fits, WentOn, bound_of, held, looked, passes_held, turn_of, whole}
@@ -103,13 +103,14 @@ sought-either P Q P' Q' x h k h' k' ra rb m one other b =
     let s = b.ours in
     let t = b.theirs in
     let one' = one s b.holds_ours in
-    let other' = other t b.holds_theirs in
-    (merged (sought_by ra x s) (sought_by rb x t),
-     record { ours = sought_by ra x s; theirs = sought_by rb x t; holds_ours = one'; holds_theirs = other'; joins = refl },
-     sought-merged x (sought_by ra x s) (sought_by rb x t) (ordered P' h' (sought_by ra x s) one') (ordered Q' k' (sought_by rb x t) other')
-     ∙ (λ i. merged (again ra x s i) (again rb x t i))
-     ∙ sym (sought-merged x s t (ordered P h s b.holds_ours) (ordered Q k t b.holds_theirs))
-     ∙ ap (sought x) (sym b.joins))
+    let other' = other t b.holds_theirs in (
+      merged (sought_by ra x s) (sought_by rb x t),
+      record { ours = sought_by ra x s; theirs = sought_by rb x t; holds_ours = one'; holds_theirs = other'; joins = refl },
+      sought-merged x (sought_by ra x s) (sought_by rb x t) (ordered P' h' (sought_by ra x s) one') (ordered Q' k' (sought_by rb x t) other')
+          ∙ (λ i. merged (again ra x s i) (again rb x t i))
+          ∙ sym (sought-merged x s t (ordered P h s b.holds_ours) (ordered Q k t b.holds_theirs))
+          ∙ ap (sought x) (sym b.joins),
+    )
 
 pub sought-both : (P Q P' Q' : Seen) (x : Pos) (h k h' k' : Held) (m : Stream) → ((t : Stream) → Holds P h t → Holds P' h' (sought x t)) → ((t : Stream) → Holds Q k t → Holds Q' k' (sought x t)) → HoldBoth P h Q k m → HoldBoth P' h' Q' k' (sought x m)
 sought-both P Q P' Q' x h k h' k' m one other b = record {

@@ -1,5 +1,5 @@
 -- Both are taken only where both stand at one place.
-use Rattle.std.proofs.Common.{◌≡◌, sym, ◌∙◌}
+use Rattle.std.proofs.Common.{sym, ◌∙◌}
 use Rattle.rc_stream.specs.Holding.{held}
 use Rattle.rc_stream.proofs.Held.{turn-both}
 use Rattle.rc_stream.proofs.holding.make_step.Goals as goal

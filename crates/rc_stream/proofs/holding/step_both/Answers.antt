@@ -1,5 +1,5 @@
 -- The first of both were taken, and told as one.
-use Rattle.std.proofs.Common.{◌≡◌, sym, ap, ◌∙◌, subst, cond}
+use Rattle.std.proofs.Common.{sym, ap, ◌∙◌, subst, cond}
 use Rattle.rc_cell.specs.Greatest.{greater}
 use Rattle.rc_cell.specs.Orders.{tomb_cmp}
 use Rattle.rc_stream.specs.Merging.{changes_nothing, together}

@@ -1,7 +1,6 @@
 -- Each went on, or one that was refused is as it was.
-use Rattle.std.proofs.Common.{◌≡◌, sym, ap, ◌∙◌, Ok, Err}
-use Rattle.rc_stream.specs.declared.streams.StreamErr.{StreamErr}
-use Rattle.rc_stream.specs.Stream.{Stream, sought}
+use Rattle.std.proofs.Common.{Ok, Err}
+use Rattle.rc_stream.specs.Stream.{sought}
 use Rattle.rc_stream.proofs.Going.{moved-moved, once-ours, once-theirs}
 use Rattle.rc_stream.proofs.Wholes.{once-holds, sought-either, sought-ok}
 use Rattle.rc_stream.proofs.merges.go_on_in_both.Goals as goal

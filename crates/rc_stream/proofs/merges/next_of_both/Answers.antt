@@ -1,8 +1,5 @@
 -- A round goes on from where the rounds before it came to.
-use Rattle.std.proofs.Common.{◌≡◌, sym, ap, ◌∙◌, subst, Ok, Err, Some, None, arith}
-use Rattle.rc_stream.specs.declared.holding.Step.TheVariants as step
-use Rattle.rc_stream.specs.declared.streams.StreamErr.{StreamErr}
-use Rattle.rc_stream.specs.declared.holding.Step.{Step}
+use Rattle.std.proofs.Common.{sym, ap, ◌∙◌, subst, Ok, arith}
 use Rattle.rc_stream.specs.Moving.{HoldBoth, RoundReaches, StepLeaves}
 use Rattle.rc_stream.proofs.Going.{moved-moved}
 use Rattle.rc_stream.proofs.merges.next_of_both.Goals as goal

@@ -1,5 +1,4 @@
 -- A step of what is held of both is one of both merged.
-use Rattle.std.proofs.Common.{◌≡◌, sym, ap, ◌∙◌, subst}
 use Rattle.rc_stream.specs.Holding.{held, turn_of}
 use Rattle.rc_stream.proofs.Going.{does-ours, does-theirs, reaches-on}
 use Rattle.rc_stream.proofs.Wholes.{both-on, step-holds}

@@ -1,6 +1,5 @@
 -- Where a seek was due, both went on, or it still is.
-use Rattle.std.proofs.Common.{◌≡◌, sym, ◌∙◌, refl, Some}
-use Rattle.rc_position.specs.declared.positions.Pos.{Pos}
+use Rattle.std.proofs.Common.{sym, ◌∙◌, refl, Some}
 use Rattle.rc_stream.proofs.Due.{refused-seen, settled-ahead}
 use Rattle.rc_stream.proofs.merges.settle.Goals as goal
 

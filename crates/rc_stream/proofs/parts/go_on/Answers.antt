@@ -1,7 +1,7 @@
 -- A seek goes on within what is held, or in the stream.
-use Rattle.std.proofs.Common.{◌≡◌, refl, sym, ap, ◌∙◌}
+use Rattle.std.proofs.Common.{sym, ◌∙◌}
 use Rattle.rc_stream.proofs.Looking.{ahead-there}
-use Rattle.rc_stream.proofs.Wholes.{holds-on, sought-holds, within-holds}
+use Rattle.rc_stream.proofs.Wholes.{sought-holds, within-holds}
 use Rattle.rc_stream.proofs.parts.go_on.Goals as goal
 
 pub seek-requires-clause-ahead : goal.seek-requires-clause-ahead

@@ -1,7 +1,7 @@
 -- What was taken from the stream is held.
-use Rattle.std.proofs.Common.{◌≡◌, sym, ap, ◌∙◌}
+use Rattle.std.proofs.Common.{sym}
 use Rattle.rc_stream.proofs.Looking.{ahead-looked}
-use Rattle.rc_stream.proofs.Wholes.{holds-on, looked-asked, looked-holds, looked-known}
+use Rattle.rc_stream.proofs.Wholes.{looked-asked, looked-holds, looked-known}
 use Rattle.rc_stream.proofs.parts.look_ahead.Goals as goal
 
 pub returns-in-Ok-clause-ahead : goal.returns-in-Ok-clause-ahead
