@@ -58,8 +58,8 @@ impl ListFrags {
         }
     }
 
-    // The head of the partition.
-    fn copy_head(&self, alloc: Global) -> Result<Head, AllocError>
+    /// The head of the partition. The only error is want of memory.
+    pub fn copy_head(&self, alloc: Global) -> Result<Head, AllocError>
         ensures { IfOk result (λ head. head ≡ self.now.head) }
     {
         let items = self.list.as_slice();
@@ -70,8 +70,8 @@ impl ListFrags {
         })
     }
 
-    // Goes on to the position.
-    fn go_on(&mut self, alloc: Global, to: &Pos) -> Result<(), AllocError>
+    /// Goes on to the position. The only error is want of memory: then the stream is as it was.
+    pub fn go_on(&mut self, alloc: Global, to: &Pos) -> Result<(), AllocError>
         ensures ok { OnOk result (self.new ≡ sought to.now self.old) }
         ensures err { OnErr result (self.new ≡ self.old) }
     {
@@ -88,8 +88,9 @@ impl ListFrags {
         Ok(())
     }
 
-    // Takes the first that is left, if it stands at `upto` or before it.
-    fn take_first(&mut self, alloc: Global, upto: &Pos) -> Result<Option<Frag>, AllocError>
+    /// Takes the first that is left, if it stands at `upto` or before it. The only error is want of memory: then the stream is as it
+    /// was.
+    pub fn take_first(&mut self, alloc: Global, upto: &Pos) -> Result<Option<Frag>, AllocError>
         ensures gives { IfOk result (λ got. got ≡ first_upto upto.now self.old.left) }
         ensures left { IfOk result (λ got. self.new ≡ took got self.old) }
         ensures err { OnErr result (self.new ≡ self.old) }
