@@ -4,6 +4,7 @@ use Rattle.rc_position.specs.declared.positions.Pos.{Pos}
 use Rattle.rc_mutation.specs.declared.fragments.Frag.{Frag}
 use Rattle.rc_stream.specs.declared.holding.Look.{Look}
 use Rattle.rc_stream.specs.declared.holding.Look.TheVariants as look
+use Rattle.rc_stream.specs.declared.lists.Front.TheVariants as front
 use Rattle.rc_stream.specs.declared.holding.Step.{Step}
 use Rattle.rc_stream.specs.declared.holding.Step.TheVariants as step
 use Rattle.rc_stream.specs.Places.{Reaches}
@@ -12,6 +13,10 @@ use Rattle.rc_stream.specs.declared.streams.StreamErr.{StreamErr}
 use Rattle.rc_stream.specs.declared.holding.Held.{Held}
 use Rattle.rc_stream.specs.Merging.{merged}
 use Rattle.rc_stream.specs.Holding.{Fits, IsFrom, StepReaches, whole}
+
+-- nothing is held
+abbrev pub nothing_held : Held
+nothing_held = record { front = front.Passed None; look = look.Open }
 
 -- a home and a store are as they were, or as a call made them
 abbrev pub Once : {H W : Type 0} → (H → W → H → W → Type 0) → H → W → H → W → Type 0

@@ -13,6 +13,7 @@ ghost use Rattle.rc_mutation.specs.declared.fragments.Frag.{Frag};
 ghost use Rattle.rc_mutation.specs.declared.mutations.Mutation.{Mutation};
 ghost use Rattle.rc_mutation.specs.Fragments.{changes_of, fragments, in_order, placed_change, placed_row};
 ghost use Rattle.rc_mutation.specs.Source.{IsJoinOf, IsMutation};
+ghost use Rattle.rc_stream.specs.Moving.{nothing_held, SoughtBoth};
 ghost use Rattle.rc_stream.specs.Stream.{Stream, force, is_passed, says, sought, stream_of, took};
 
 /// The stream of the fragments of a mutation has its partition tombstone and its static row, and gives its rows and changes
@@ -79,4 +80,11 @@ pub fn a_merge_is_sought_in_both()
 /// A later seek forgets an earlier one.
 pub fn a_later_seek_forgets_an_earlier()
     ensures { (s : Stream) (x y : Pos) → IsTrue (is_le (pos_cmp x y)) → sought y (sought x s) ≡ sought y s }
+{}
+
+/// Two parts that stand for streams from their beginning, or from where they were sought to, and of which nothing is held,
+/// stand as one for what both streams say together: so does a new merge.
+pub fn a_new_merge_stands_for_both()
+    ensures { (s t : Stream) → s.tomb ≡ None → t.tomb ≡ None → IsOrdered s.left → IsOrdered t.left →
+        SoughtBoth (λ x. x ≡ s) nothing_held (λ x. x ≡ t) nothing_held None (merged s t) }
 {}
