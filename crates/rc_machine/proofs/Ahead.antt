@@ -23,7 +23,7 @@ use Rattle.rc_tfile.specs.declared.info.TableInfo.{TableInfo}
 use Rattle.rc_tfile.specs.Before.{text}
 use Rattle.rc_tfile.specs.Info.{info_of}
 use Rattle.rc_tfile.specs.Stored.{with_file}
-use Rattle.rc_tfile.specs.TableText.{table}
+use Rattle.rc_tfile.specs.TableText.{table, AllFit}
 use Rattle.rc_machine.specs.Steps.{Table, AreTables, IsKept, numbers, after, next_number, last_number}
 use Rattle.rc_machine.specs.Stands.{AreInfos}
 use Rattle.rc_machine.specs.Storing.{IsNextNumber}
@@ -148,20 +148,20 @@ get_new files n bytes =
     ∙ ap (λ b. cond b (Some bytes) (finite.get files n)) ((eq_by_cmp_equiv nat_cmp_total).refl n)
 
 kept_more : (files : Files) (schema : Lists) (n : ℕ) (bytes : List ℕ) (tables : List Table) → finite.get files n ≡ None → All (IsKept files schema) tables → All (IsKept (finite.insert files n bytes) schema) tables
-kept_more files schema n bytes tables none all = λ k d l. (let h = all k d l in (get_other files n _ bytes _ none h.0, h.1))
+kept_more files schema n bytes tables none all = λ k d l. (let h = all k d l in (get_other files n _ bytes _ none h.0, h.1, h.2))
 
 -- one more table, of the next number
-pub tables_more : (files : Option Files) (schema : Lists) (tables : List Table) (n : ℕ) (parts : List Partition) → AreTables files schema tables → n ≡ next_number tables → All (λ p. IsMutation p.change) parts
+pub tables_more : (files : Option Files) (schema : Lists) (tables : List Table) (n : ℕ) (parts : List Partition) → AreTables files schema tables → n ≡ next_number tables → AllFit schema (table schema parts) → All (λ p. IsMutation p.change) parts
     → AreTables (with_file files n (text (table schema parts))) schema (tables ++ (n, parts) ∷ [])
-tables_more None schema tables n parts are e whole =
+tables_more None schema tables n parts are e fit whole =
     subst IsStrictlyIncreasing (sym (map-append (λ (t : Table). t.0) tables ((n, parts) ∷ []))) (increasing_more (numbers tables) n are e)
-tables_more (Some files) schema tables n parts are e whole =
+tables_more (Some files) schema tables n parts are e fit whole =
     let bytes = text (table schema parts) in
     let next : n ≡ after 0 (finite.keys files) = e ∙ ap (after 0) are.0 in
     let none = no_file_next files n next in (
       map-append (λ (t : Table). t.0) tables ((n, parts) ∷ []) ∙ ap (λ ns. ns ++ n ∷ []) are.0 ∙ sym (keys_next files n bytes next),
       All-append (IsKept (finite.insert files n bytes) schema) tables ((n, parts) ∷ []) (kept_more files schema n bytes tables none are.1)
-          (All-cons (IsKept (finite.insert files n bytes) schema) (n, parts) [] (get_new files n bytes, whole) (λ k d l. absurd (omega arith))),
+          (All-cons (IsKept (finite.insert files n bytes) schema) (n, parts) [] (get_new files n bytes, fit, whole) (λ k d l. absurd (omega arith))),
     )
 
 -- ---- what is known of tables

@@ -7,4 +7,5 @@ pub mod Standing
 pub mod Ahead
 pub mod Tabled
 pub mod Fitting
+pub mod Held
 pub mod Opened

@@ -15,9 +15,7 @@ use Rattle.rc_position.specs.declared.slices.Slice.{Slice}
 use Rattle.rc_schema.specs.Lists.{Lists}
 use Rattle.rc_mutation.specs.declared.mutations.Mutation.{Mutation}
 use Rattle.rc_mutation.specs.declared.mutations.Write.{Write}
-use Rattle.rc_cell.specs.Winner.{empty_row}
 use Rattle.rc_mutation.specs.Source.{IsJoinOf}
-use Rattle.rc_mutation.specs.SourceLaws.{IsJoinOf-none}
 use Rattle.rc_query.specs.declared.lines.OutLine.{OutLine}
 use Rattle.rc_query.specs.Answer.{answer}
 use Rattle.rc_query.specs.AnswerLaws.{answer-joined}
@@ -35,7 +33,6 @@ use Rattle.rc_machine.specs.Serving.{Takes, Stops, Leaves, TakenAgain}
 use Rattle.rc_machine.specs.Storing.{sealed_all}
 use Rattle.rc_machine.proofs.Places.{Readers, fewer, as_many}
 use Rattle.rc_machine.proofs.Numbers.{joined_halves}
-use Rattle.rc_machine.proofs.Ahead.{numbers_known}
 
 -- the same with other readers
 abbrev pub reading : Keeping → Readers → Keeping
@@ -172,22 +169,6 @@ answered (Some told) k key slice lines some said is m s =
 
 not_none : (n : ℕ) → (suc n == 0) ≡ false
 not_none n = grind (arith, nat_tests)
-
--- of no tables nothing is said
-no_tables : (tables : List Table) → numbers tables ≡ [] → tables ≡ []
-no_tables [] e = refl
-no_tables (t ∷ ts) e = absurd (cc)
-
-no_infos : (infos : List TableInfo) → true ≡ (length infos == 0) → infos ≡ []
-no_infos [] h = refl
-no_infos (i ∷ is) h = absurd (true≢false (h ∙ not_none (length is)))
-
-pub none_said : (files : Option Files) (schema : Lists) (tables : List Table) (infos : List TableInfo) (key : List ℕ) (m : Mutation) → m ≡ record { pt = None; statics = empty_row; rows = []; ranges = [] }
-    → AreInfos files schema tables infos → true ≡ (length infos == 0) → IfSome files (λ _. IsJoinOf m (flat_map (changes_in key) tables))
-none_said None schema tables infos key m is known h = tt
-none_said (Some told) schema tables infos key m is known h =
-    let none : tables ≡ [] = no_tables tables (sym (numbers_known (Some told) schema tables infos known) ∙ ap (map (λ (i : TableInfo). i.number)) (no_infos infos h)) in
-    subst (λ (ts : List Table). IsJoinOf m (flat_map (changes_in key) ts)) (sym none) (subst (λ (m : Mutation). IsJoinOf m []) (sym is) IsJoinOf-none)
 
 -- ---- sealing
 

@@ -13,7 +13,7 @@ use Rattle.rc_mutation.specs.Fragments.{IsParts}
 use Rattle.rc_tfile.specs.declared.info.TableInfo.{TableInfo}
 use Rattle.rc_tfile.specs.Before.{text}
 use Rattle.rc_tfile.specs.Info.{info_of}
-use Rattle.rc_tfile.specs.TableText.{table}
+use Rattle.rc_tfile.specs.TableText.{table, AllFit}
 use Rattle.rc_lines.specs.Fits.{Fits}
 use Rattle.rc_lines.specs.declared.commands.Command.TheVariants.{Put, Flush}
 use Rattle.rc_lines.specs.declared.commands.Reply.{Reply}
@@ -107,7 +107,7 @@ stands_stored files files' k k' m n i s next =
     subst (λ k. Stands files' k (with_table m (n, parts))) (sym i.keeps) (record {
       schema = s.schema;
       files = (λ j. option_map (λ told. finite.insert told n (text (table (s.schema j) parts))) (s.files j)) ∙ sym i.written;
-      tables = tables_more m.files m.schema m.tables n parts s.tables next i.whole;
+      tables = tables_more m.files m.schema m.tables n parts s.tables next (subst (λ schema. AllFit schema (table schema parts)) (sym s.schema) i.fits) i.whole;
       infos = infos';
       stored = omega (arith, count, sealed);
       log = later_writes m (sealed_all k).sealed (sealed_all k).active (sealing m) s1.log sealed;

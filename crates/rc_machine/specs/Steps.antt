@@ -17,7 +17,7 @@ use Rattle.rc_mutation.specs.Source.{IsMutation}
 use Rattle.rc_query.specs.declared.lines.OutLine.{OutLine}
 use Rattle.rc_query.specs.Answer.{answer}
 use Rattle.rc_tfile.specs.Before.{text}
-use Rattle.rc_tfile.specs.TableText.{table, IsTable, IsOtherSchema, FirstDamage}
+use Rattle.rc_tfile.specs.TableText.{table, AllFit, IsTable, IsOtherSchema, FirstDamage}
 use Rattle.rc_lines.specs.declared.commands.Command.{Command}
 use Rattle.rc_lines.specs.declared.commands.Command.TheVariants.{Nothing, SetSchema, Put, OpenRead, Read, Close, Flush, FlushBegin, FlushStep, Evict, Compact, Clean, Stats}
 use Rattle.rc_lines.specs.declared.commands.Refusal.{Refusal}
@@ -45,9 +45,9 @@ pub record State : Type 0 where
 abbrev pub numbers : List Table → List ℕ
 numbers tables = list_map (λ t. t.0) tables
 
--- the table's file is there and is its text, and each of its partitions is one that writes can make
+-- the table's file is there and is its text, each of its items fits, and each of its partitions is one that writes can make
 abbrev pub IsKept : Files → Lists → Table → Type 0
-IsKept files schema t = (map.get files t.0 ≡ Some (text (table schema t.1))) × All (λ p. IsMutation p.change) t.1
+IsKept files schema t = (map.get files t.0 ≡ Some (text (table schema t.1))) × AllFit schema (table schema t.1) × All (λ p. IsMutation p.change) t.1
 
 -- the tables are those of a folder: each file is one; of a folder that is not told, they have ascending numbers
 abbrev pub AreTables : Option Files → Lists → List Table → Type 0

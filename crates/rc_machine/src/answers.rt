@@ -11,6 +11,8 @@ ghost use Rattle.rc_machine.specs.Opening.{Caused};
 use rc_mutation::Mutation;
 use rc_outside::Store;
 use rc_position::PartKey;
+use rc_stream::StreamErr;
+use rc_tables::read_tables;
 use rc_tfile::TableInfo;
 use std::alloc::Global;
 use thiserror::Error;
@@ -37,18 +39,20 @@ pub(crate) enum ReadErr {
 /// What the tables say of the partition of a key, joined.
 pub(crate) fn tables_say<W: Store>(
     alloc: Global,
-    _store: &mut W,
+    store: &mut W,
     infos: &[TableInfo],
     key: &PartKey,
 ) -> Result<Mutation, ReadErr>
-    requires { (schema : Lists) × (tables : List Table) × AreTables (W.files _store.old) schema tables × AreInfos (W.files _store.old) schema tables infos.now }
-    ensures said { (schema : Lists) (tables : List Table) → AreTables (W.files _store.old) schema tables → AreInfos (W.files _store.old) schema tables infos.now
-        → IfOk result (λ change. IfSome (W.files _store.old) (λ _. IsJoinOf change (flat_map (changes_in key.now) tables))) }
-    ensures cause { Caused result (W.files _store.old) (W.faults _store.old) (W.faults _store.new) }
-    ensures files { W.files _store.new ≡ W.files _store.old }
+    requires { (schema : Lists) × (tables : List Table) × AreTables (W.files store.old) schema tables × AreInfos (W.files store.old) schema tables infos.now }
+    ensures said { (schema : Lists) (tables : List Table) → AreTables (W.files store.old) schema tables → AreInfos (W.files store.old) schema tables infos.now
+        → IfOk result (λ change. IfSome (W.files store.old) (λ _. IsJoinOf change (flat_map (changes_in key.now) tables))) }
+    ensures cause { Caused result (W.files store.old) (W.faults store.old) (W.faults store.new) }
+    ensures files { W.files store.new ≡ W.files store.old }
 {
-    if infos.is_empty() {
-        return Ok(Mutation::empty(alloc));
+    match read_tables(alloc, store, infos, key) {
+        Ok(change) => Ok(change),
+        Err(StreamErr::Fault) => Err(ReadErr::Fault),
+        Err(StreamErr::Damaged { file, offset }) => Err(ReadErr::Damaged { file, offset }),
+        Err(StreamErr::NoMemory) => Err(ReadErr::NoMemory),
     }
-    Err(ReadErr::NoMemory)
 }

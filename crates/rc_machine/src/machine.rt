@@ -10,7 +10,7 @@ ghost use Rattle.rc_lines.specs.Fits.{Fits};
 ghost use Rattle.rc_machine.specs.Steps.{Answered, AreTables, State, Table, changes_to, opened};
 ghost use Rattle.rc_machine.specs.Stands.{Stands};
 ghost use Rattle.rc_machine.specs.Serving.{OnFaulty, RisesIfFault, Stops, TakenAgain, Takes};
-ghost use Rattle.rc_machine.specs.Opening.{AreWhole, Caused, IsRefused};
+ghost use Rattle.rc_machine.specs.Opening.{Caused, IsRefused};
 ghost use Rattle.rc_machine.specs.Opening.{RisesIfFault as RisesIfOpenFault};
 ghost use Rattle.rc_machine.specs.Storing.{IsNextNumber, IsWritten, sealed_all};
 
@@ -56,7 +56,7 @@ impl Machine {
     /// the first file that is no table of the schema; `OpenErr::Fault` comes when the store fails, and only then;
     /// `OpenErr::NoMemory` when memory is refused.
     pub fn open<W: Store>(alloc: Global, store: &mut W, schema: Schema) -> Result<Self, OpenErr>
-        ensures stands { IfOk result (λ machine. (tables : List Table) × AreTables (W.files store.old) schema tables × AreWhole (W.files store.old) schema tables × Stands (W.files store.new) machine (opened (W.files store.old) schema tables)) }
+        ensures stands { IfOk result (λ machine. (tables : List Table) × AreTables (W.files store.old) schema tables × Stands (W.files store.new) machine (opened (W.files store.old) schema tables)) }
         ensures refused { IfErr result (IsRefused (W.files store.old) schema) }
         ensures faults { RisesIfOpenFault result (W.faults store.old) (W.faults store.new) }
         ensures files { W.files store.new ≡ W.files store.old }

@@ -5,7 +5,7 @@ ghost use Rattle.rc_outside.specs.Files.{AreNumbers, IsFile};
 ghost use Rattle.rc_tfile.specs.declared.info.TableInfo.{TableInfo};
 ghost use Rattle.rc_machine.specs.Steps.{AreTables, Table};
 ghost use Rattle.rc_machine.specs.Stands.{AreInfos};
-ghost use Rattle.rc_machine.specs.Opening.{AreWhole, IsBadFile, IsChecked, IsRefused, RisesIfFault};
+ghost use Rattle.rc_machine.specs.Opening.{IsBadFile, IsChecked, IsRefused, RisesIfFault};
 
 use rc_outside::{Store, StoreErr};
 use rc_schema::Schema;
@@ -94,7 +94,7 @@ fn check_each<W: Store>(
     schema: &Schema,
 ) -> Result<Vec<TableInfo>, OpenErr>
     requires { AreNumbers (W.files store.old) numbers.now }
-    ensures tables { IfOk result (λ infos. (tables : List Table) × AreTables (W.files store.old) schema.now tables × AreInfos (W.files store.old) schema.now tables infos.items × AreWhole (W.files store.old) schema.now tables) }
+    ensures tables { IfOk result (λ infos. (tables : List Table) × AreTables (W.files store.old) schema.now tables × AreInfos (W.files store.old) schema.now tables infos.items) }
     ensures refused { IfErr result (IsRefused (W.files store.old) schema.now) }
     ensures faults { RisesIfFault result (W.faults store.old) (W.faults store.new) }
     ensures files { W.files store.new ≡ W.files store.old }
@@ -116,7 +116,7 @@ pub(crate) fn check_tables<W: Store>(
     store: &mut W,
     schema: &Schema,
 ) -> Result<Vec<TableInfo>, OpenErr>
-    ensures tables { IfOk result (λ infos. (tables : List Table) × AreTables (W.files store.old) schema.now tables × AreInfos (W.files store.old) schema.now tables infos.items × AreWhole (W.files store.old) schema.now tables) }
+    ensures tables { IfOk result (λ infos. (tables : List Table) × AreTables (W.files store.old) schema.now tables × AreInfos (W.files store.old) schema.now tables infos.items) }
     ensures refused { IfErr result (IsRefused (W.files store.old) schema.now) }
     ensures faults { RisesIfFault result (W.faults store.old) (W.faults store.new) }
     ensures files { W.files store.new ≡ W.files store.old }

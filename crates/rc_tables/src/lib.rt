@@ -3,6 +3,7 @@
 
 mod decoding;
 mod lazy;
+mod listed;
 mod locating;
 mod partition;
 mod reading;
@@ -12,4 +13,5 @@ mod sets;
 mod tests;
 
 pub use lazy::TableFrags;
+pub use listed::read_tables;
 pub use sets::TableSet;

@@ -47,8 +47,8 @@ pub(crate) fn read_joined<W: Store>(
     Ok(joined)
 }
 
-// Joins what a table says of the key.
-fn join_table<W: Store>(
+/// Joins what a table says of the key.
+pub(crate) fn join_table<W: Store>(
     alloc: Global,
     store: &mut W,
     info: &TableInfo,
