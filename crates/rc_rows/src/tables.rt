@@ -137,14 +137,24 @@ fn a_flush_that_fails_is_written_next(rt: HostRuntime) -> Result<(), Fail> {
     Ok(())
 }
 
-// The lines but those that tell a fault, and those that a command gets which is sent again after it was done.
+// A line that tells a fault of the store.
+fn tells_fault(line: &[u8]) -> bool {
+    line == b"? read fault".as_slice() || line == b"? write fault".as_slice()
+}
+
+// A line that a command gets which is sent again after it was done.
+fn tells_repeat(line: &[u8]) -> bool {
+    line == b"? nothing to flush".as_slice() || line == b"? reader in use".as_slice()
+}
+
+// How many lines tell a fault, and the lines but those and those of commands that are sent again.
 fn without_faults(alloc: Global, text: &[u8]) -> Result<(usize, Vec<u8>), AllocError> {
-    let mut faults = 0;
+    let mut faults = 0usize;
     let mut kept = Vec::new(alloc);
     for line in text.split(|byte| *byte == b'\n') {
-        if line == b"? read fault" || line == b"? write fault" {
-            faults += 1;
-        } else if line != b"? nothing to flush" && line != b"? reader in use" {
+        if tells_fault(line) {
+            faults = faults.saturating_add(1);
+        } else if !tells_repeat(line) {
             kept.extend_from_slice(line)?;
             kept.push(b'\n')?;
         }
