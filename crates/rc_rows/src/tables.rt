@@ -10,13 +10,16 @@ use std::test::Fail;
 const SCHEMA: &str = "schema ck=int static=s cols=a,b\n";
 
 /// The table of one write, `insert p 1 ts=10`.
-const ONE_ROW: &[u8] = b"RCT1\x18\x00ck=int static=s cols=a,b\x01\x01p\x00\x00\x00\x00\x02\x01\x00\x01\x00\x00\x00\x00\x00\x00\x00\x01\x0a\x00\x00\x00\x00\x00\x00\x00\x00\x00\x04\x05\x06\x01p\x1e\x00\x00\x00\x00\x00\x00\x00\x01\x00\x00\x00\x07\x25\x00\x00\x00\x00\x00\x00\x00\x16\x00\x00\x00\x00\x01\x01\x00\x01\x00\x00\x00\x00\x00\x00\x00\x3d\x00\x00\x00\x00\x00\x00\x00\x01\x00\x00\x00RCTE";
+const ONE_ROW: &[u8] =
+    b"RCT1\x18\x00ck=int static=s cols=a,b\x01\x01p\x00\x00\x00\x00\x02\x01\x00\x01\x00\x00\x00\x00\x00\x00\x00\x01\x0a\x00\x00\x00\x00\x00\x00\x00\x00\x00\x04\x05\x06\x01p\x1e\x00\x00\x00\x00\x00\x00\x00\x01\x00\x00\x00\x07\x25\x00\x00\x00\x00\x00\x00\x00\x16\x00\x00\x00\x00\x01\x01\x00\x01\x00\x00\x00\x00\x00\x00\x00\x3d\x00\x00\x00\x00\x00\x00\x00\x01\x00\x00\x00RCTE";
 
 /// No table: its second change is to the tombstone in force.
-const SAME_TOMBSTONE: &[u8] = b"RCT1\x18\x00ck=int static=s cols=a,b\x01\x01p\x00\x00\x00\x00\x03\x02\x01\x00\x01\x00\x00\x00\x00\x00\x00\x00\x01\x14\x00\x00\x00\x00\x00\x00\x00\x07\x00\x00\x00\x03\x02\x01\x00\x02\x00\x00\x00\x00\x00\x00\x00\x01\x14\x00\x00\x00\x00\x00\x00\x00\x07\x00\x00\x00\x04\x05";
+const SAME_TOMBSTONE: &[u8] =
+    b"RCT1\x18\x00ck=int static=s cols=a,b\x01\x01p\x00\x00\x00\x00\x03\x02\x01\x00\x01\x00\x00\x00\x00\x00\x00\x00\x01\x14\x00\x00\x00\x00\x00\x00\x00\x07\x00\x00\x00\x03\x02\x01\x00\x02\x00\x00\x00\x00\x00\x00\x00\x01\x14\x00\x00\x00\x00\x00\x00\x00\x07\x00\x00\x00\x04\x05";
 
 /// The table of no partitions.
-const EMPTY: &[u8] = b"RCT1\x18\x00ck=int static=s cols=a,b\x05\x1f\x00\x00\x00\x00\x00\x00\x00\x00\x00\x00\x00RCTE";
+const EMPTY: &[u8] =
+    b"RCT1\x18\x00ck=int static=s cols=a,b\x05\x1f\x00\x00\x00\x00\x00\x00\x00\x00\x00\x00\x00RCTE";
 
 /// What a run over the store writes for a script, and how it ends.
 fn served_over<W: Store>(
@@ -50,9 +53,21 @@ fn folders_of_one_file(rt: HostRuntime) -> Result<(), Fail> {
     for (number, file, schema, status, text) in [
         (1u32, ONE_ROW, SCHEMA, Status::Done, "ok\nok\nrow 1\nend\n"),
         (7, EMPTY, SCHEMA, Status::Done, "ok\nok\nend\n"),
-        (1, &ONE_ROW[..116], SCHEMA, Status::BadTable, "! table 1 damaged at 101\n"),
+        (
+            1,
+            &ONE_ROW[..116],
+            SCHEMA,
+            Status::BadTable,
+            "! table 1 damaged at 101\n",
+        ),
         (2, b"", SCHEMA, Status::BadTable, "! table 2 damaged at 0\n"),
-        (1, SAME_TOMBSTONE, SCHEMA, Status::BadTable, "! table 1 damaged at 62\n"),
+        (
+            1,
+            SAME_TOMBSTONE,
+            SCHEMA,
+            Status::BadTable,
+            "! table 1 damaged at 62\n",
+        ),
         (
             1,
             ONE_ROW,
@@ -111,7 +126,8 @@ fn flushes(rt: HostRuntime) -> Result<(), Fail> {
 fn ordinary_use(rt: HostRuntime) -> Result<(), Fail> {
     let alloc = rt.alloc();
     let mut store = MemStore::new(alloc)?;
-    let script = "schema ck=text,int static=owner cols=temp,state\nstatic dev7 ts=100 owner=ann\ninsert dev7 2024-05-01,1 ts=100 temp=21 state=ok\ninsert dev7 2024-05-01,2 ts=101 temp=22\nflush\nupdate dev7 2024-05-01,2 ts=102 temp=23\ndelrange dev7 from=- to=2024-05-01) ts=99 dt=50\ninsert dev7 2024-04-30,9 ts=98 temp=5\nflush\nopen 1 dev7\nread 1 10\n";
+    let script =
+        "schema ck=text,int static=owner cols=temp,state\nstatic dev7 ts=100 owner=ann\ninsert dev7 2024-05-01,1 ts=100 temp=21 state=ok\ninsert dev7 2024-05-01,2 ts=101 temp=22\nflush\nupdate dev7 2024-05-01,2 ts=102 temp=23\ndelrange dev7 from=- to=2024-05-01) ts=99 dt=50\ninsert dev7 2024-04-30,9 ts=98 temp=5\nflush\nopen 1 dev7\nread 1 10\n";
     let (status, text) = served_over(alloc, &mut store, script)?;
     assert_eq!(rt; status, Status::Done);
     assert_eq!(rt;
@@ -127,10 +143,14 @@ fn a_flush_that_fails_is_written_next(rt: HostRuntime) -> Result<(), Fail> {
     let alloc = rt.alloc();
     let mut store = MemStore::new(alloc)?;
     store.fail_nth(StoreCall::Finish, 1)?;
-    let script = "schema ck=int static=s cols=a,b\ninsert p 1 ts=10\nflush\ninsert p 2 ts=1\nflush\nopen 1 p\nread 1 9\nflush\n";
+    let script =
+        "schema ck=int static=s cols=a,b\ninsert p 1 ts=10\nflush\ninsert p 2 ts=1\nflush\nopen 1 p\nread 1 9\nflush\n";
     let (status, text) = served_over(alloc, &mut store, script)?;
     assert_eq!(rt; status, Status::Done);
-    assert_eq!(rt; text.as_slice(), b"ok\nok\n? write fault\nok\nok\nok\nrow 1\nrow 2\nend\nok\n".as_slice());
+    assert_eq!(rt;
+        text.as_slice(),
+        b"ok\nok\n? write fault\nok\nok\nok\nrow 1\nrow 2\nend\nok\n".as_slice()
+    );
     assert!(rt; store.file(1) == Some(ONE_ROW));
     assert!(rt; store.file(2).is_some());
     assert!(rt; store.file(3).is_none());
@@ -164,12 +184,14 @@ fn without_faults(alloc: Global, text: &[u8]) -> Result<(usize, Vec<u8>), AllocE
 
 // Two flushes, and a reader that is paused before the second one: each flush and each open is sent twice, so that where the first one is
 // refused the second is right.
-const TWO_FLUSHES: &str = "schema ck=int static=s cols=a,b\ninsert p 1 ts=1 a=u\ninsert p 2 ts=1\nflush\nflush\nopen 1 p\nopen 1 p\nread 1 1\nupdate p 1 ts=2 b=v\nflush\nflush\nread 1 9\nopen 2 p\nopen 2 p\nread 2 9\n";
+const TWO_FLUSHES: &str =
+    "schema ck=int static=s cols=a,b\ninsert p 1 ts=1 a=u\ninsert p 2 ts=1\nflush\nflush\nopen 1 p\nopen 1 p\nread 1 1\nupdate p 1 ts=2 b=v\nflush\nflush\nread 1 9\nopen 2 p\nopen 2 p\nread 2 9\n";
 
 #[test]
 fn each_call_fails_in_turn(rt: HostRuntime) -> Result<(), Fail> {
     let alloc = rt.alloc();
-    let wanted = b"ok\nok\nok\nok\nok\nrow 1 a=u\nmore\nok\nok\nrow 2\nend\nok\nrow 1 a=u b=v\nrow 2\nend\n\n";
+    let wanted =
+        b"ok\nok\nok\nok\nok\nrow 1 a=u\nmore\nok\nok\nrow 2\nend\nok\nrow 1 a=u b=v\nrow 2\nend\n\n";
     for (kind, calls) in [
         (StoreCall::ReadAt, 6u64),
         (StoreCall::Begin, 2),
@@ -182,7 +204,11 @@ fn each_call_fails_in_turn(rt: HostRuntime) -> Result<(), Fail> {
             let (status, text) = served_over(alloc, &mut store, TWO_FLUSHES)?;
             let (faults, kept) = without_faults(alloc, text.as_slice())?;
             assert_eq!(rt; status, Status::Done, "{kind:?} {nth}");
-            assert_eq!(rt; (faults, kept.as_slice()), (1, wanted.as_slice()), "{kind:?} {nth}");
+            assert_eq!(rt;
+                (faults, kept.as_slice()),
+                (1, wanted.as_slice()),
+                "{kind:?} {nth}"
+            );
         }
     }
     Ok(())
