@@ -18,9 +18,8 @@ use Rattle.rc_schema.specs.Lists.{Lists}
 use Rattle.rc_mutation.specs.declared.mutations.Partition.{Partition}
 use Rattle.rc_tfile.specs.declared.info.TableInfo.{TableInfo}
 use Rattle.rc_tfile.specs.Info.{info_of}
-use Rattle.rc_tfile.specs.Before.{text}
 use Rattle.rc_tfile.specs.Checking.{IsContent}
-use Rattle.rc_tfile.specs.TableText.{table, IsTable, IsOtherSchema, FirstDamage}
+use Rattle.rc_tfile.specs.TableText.{IsTable, IsOtherSchema, FirstDamage}
 use Rattle.rc_tfile.specs.Walking.{ChecksTable}
 use Rattle.rc_machine.specs.declared.opening.OpenErr.{OpenErr}
 use Rattle.rc_machine.specs.declared.opening.OpenErr.TheVariants.{Fault, Damaged, OtherSchema, NoMemory}
@@ -113,7 +112,7 @@ first_bad told schema all done rest infos n damage h e d bytes here bad = record
   earlier = λ k more l found.
       let keys : map (λ (e : ℕ × List ℕ). e.0) (finite.entries told) ≡ numbers d.tables ++ n ∷ rest = sym h.1 ∙ e ∙ ap (λ ns. ns ++ n ∷ rest) (sym d.numbered) in
       let t = earlier told schema d.tables (finite.entries told) n k rest more d.kept (finite.entries_sorted told) keys l (sym (finite.get-entries told k) ∙ found) in
-      (t.0, record { spelled = sym (same_bytes (text (table schema t.0)) more (finite.get told k) t.1.0 found); fit = t.1.1 });
+      (t.0, subst (λ bytes. IsTable bytes schema t.0) (same_bytes t.1.0 more (finite.get told k) t.1.1 found) t.1.2);
 }
 
 -- the first file that is no table
@@ -167,8 +166,8 @@ pub is_checked : (files : Option Files) (schema : Lists) (n : ℕ) (info : Table
 is_checked None schema n info there h = refl
 is_checked (Some told) schema n info there h =
     let content = content_of (finite.get told n) there in
-    let checked = h content.0 content.1 in
-    (checked.0, (content.1 ∙ ap Some checked.2.spelled, checked.2.fit, checked.1), numbered n info (info_of n schema checked.0) checked.3)
+    let table = h content.0 content.1 in
+    (table.0, (content.0, content.1, table.2, table.1), numbered n info (info_of n schema table.0) table.3)
 
 -- a file that was refused
 pub is_damaged : (files : Option Files) (schema : Lists) (n offset : ℕ) → IsFile files n → ((bytes : List ℕ) → IsContent files n bytes → FirstDamage bytes schema offset) → IsBadFile files schema n (Damaged n offset)

@@ -15,24 +15,28 @@ use Rattle.rc_position.specs.declared.slices.Slice.{Slice}
 use Rattle.rc_schema.specs.Lists.{Lists}
 use Rattle.rc_mutation.specs.declared.mutations.Mutation.{Mutation}
 use Rattle.rc_mutation.specs.declared.mutations.Write.{Write}
+use Rattle.rc_cell.specs.Winner.{empty_row}
 use Rattle.rc_mutation.specs.Source.{IsJoinOf}
+use Rattle.rc_mutation.specs.SourceLaws.{IsJoinOf-none}
 use Rattle.rc_query.specs.declared.lines.OutLine.{OutLine}
 use Rattle.rc_query.specs.Answer.{answer}
 use Rattle.rc_query.specs.AnswerLaws.{answer-joined}
 use Rattle.rc_tfile.specs.declared.info.TableInfo.{TableInfo}
 use Rattle.rc_tfile.specs.Info.{info_of}
+use Rattle.rc_tables.specs.Tables.{HoldsTables, IsJoinedAt, changes_at}
 use Rattle.rc_lines.specs.Fits.{Fits}
 use Rattle.rc_lines.specs.declared.commands.Command.{Command}
 use Rattle.rc_lines.specs.declared.commands.Command.TheVariants.{Nothing, SetSchema, Put, OpenRead, Read, Close, Flush}
 use Rattle.rc_lines.specs.declared.commands.Reply.{Reply}
 use Rattle.rc_lines.specs.declared.commands.Reply.TheVariants as replies
 use Rattle.rc_lines.specs.declared.commands.Refusal.TheVariants.{NoReader, ReaderInUse, TooManyReaders, ReadFault, Damaged}
-use Rattle.rc_machine.specs.Steps.{State, Table, Steps, Answered, AreTables, numbers, after, next_number, most_readers, last_number, sealing, with_readers, with_sealed, with_write, changes_in, changes_to, changes_of}
+use Rattle.rc_machine.specs.Steps.{State, Table, Steps, Answered, AreTables, numbers, after, next_number, most_readers, last_number, sealing, with_readers, with_sealed, with_write, changes_to, changes_of}
 use Rattle.rc_machine.specs.Stands.{Keeping, Stands, AreInfos}
 use Rattle.rc_machine.specs.Serving.{Takes, Stops, Leaves, TakenAgain}
 use Rattle.rc_machine.specs.Storing.{sealed_all}
 use Rattle.rc_machine.proofs.Places.{Readers, fewer, as_many}
 use Rattle.rc_machine.proofs.Numbers.{joined_halves}
+use Rattle.rc_machine.proofs.Held.{holds}
 
 -- the same with other readers
 abbrev pub reading : Keeping → Readers → Keeping
@@ -157,15 +161,14 @@ answered_with older later key slice lines some sealed both active all changes is
 
 -- what the tables say and the writes that stand in none
 pub answered : (files : Option Files) (k : Keeping) (key : List ℕ) (slice : Slice) (lines : List OutLine) (some : Mutation)
-    → ((schema : Lists) (tables : List Table) → AreTables files schema tables → AreInfos files schema tables k.infos → IfSome files (λ _. IsJoinOf some (flat_map (changes_in key) tables)))
+    → ((schema : Lists) (tables : List Table) → HoldsTables files schema k.infos tables → IsJoinedAt key tables some)
     → ((changes : List Mutation) → IsJoinOf some changes → lines ≡ answer (changes ++ changes_to key (k.sealed ++ k.active)) slice)
     → (m : State) → Stands files k m → Answered m key slice lines
 answered None k key slice lines some said is m s = subst (λ (files : Option Files). IfSome files (λ _. lines ≡ answer (changes_of key m) slice)) (sym s.files) tt
 answered (Some told) k key slice lines some said is m s =
-    let of_tables : IsJoinOf some (flat_map (changes_in key) m.tables) =
-    said m.schema m.tables (subst (λ files. AreTables files m.schema m.tables) s.files s.tables) (subst (λ files. AreInfos files m.schema m.tables k.infos) s.files s.infos) in
+    let joined = said m.schema m.tables (holds told k m s) in
     subst (λ (files : Option Files). IfSome files (λ _. lines ≡ answer (changes_of key m) slice)) (sym s.files)
-    (is (flat_map (changes_in key) m.tables) of_tables ∙ ap (λ ws. answer (flat_map (changes_in key) m.tables ++ changes_to key ws) slice) s.log)
+    (is (changes_at key m.tables) joined.1 ∙ ap (λ ws. answer (changes_at key m.tables ++ changes_to key ws) slice) s.log)
 
 not_none : (n : ℕ) → (suc n == 0) ≡ false
 not_none n = grind (arith, nat_tests)

@@ -1,4 +1,4 @@
--- What opening a machine, and reading tables, must answer.
+-- What opening a machine must answer.
 use Rattle.std.specs.FinMap as map
 use Rattle.std.specs.Prelude.{◌≡◌, ℕ, ◌≤◌, List, Option, None, Some, Result, IfErr, IfSome, ⊤}
 use Rattle.rc_outside.specs.Files.{Files}
@@ -9,8 +9,6 @@ use Rattle.rc_tfile.specs.declared.info.TableInfo.{TableInfo}
 use Rattle.rc_tfile.specs.Info.{info_of}
 use Rattle.rc_machine.specs.declared.opening.OpenErr.{OpenErr}
 use Rattle.rc_machine.specs.declared.opening.OpenErr.TheVariants as open_err
-use Rattle.rc_machine.specs.declared.answers.ReadErr.{ReadErr}
-use Rattle.rc_machine.specs.declared.answers.ReadErr.TheVariants as read_err
 use Rattle.rc_machine.specs.Steps.{IsBad, IsFirstBad, IsKept}
 
 -- what a refusal says of the folder, where it is told: the first file that is no table of the schema is this one
@@ -40,13 +38,3 @@ OnFault e P = ⊤
 -- the count of faults does not fall, and rose where a fault is answered
 abbrev pub RisesIfFault : {T : Type 0} → Result T OpenErr → (before now : ℕ) → Type 0
 RisesIfFault result before now = (before ≤ now) × IfErr result (λ e. OnFault e (Rose before now))
-
--- what a refused read says: the count of faults rose, or the folder is not told and a table is not what it was
-abbrev pub IsCaused : Option Files → (before now : ℕ) → ReadErr → Type 0
-IsCaused files before now read_err.Fault = Rose before now
-IsCaused files before now (read_err.Damaged file offset) = files ≡ None
-IsCaused files before now read_err.NoMemory = ⊤
-
--- the count of faults does not fall, and a refusal has its cause
-abbrev pub Caused : {T : Type 0} → Result T ReadErr → Option Files → (before now : ℕ) → Type 0
-Caused result files before now = (before ≤ now) × IfErr result (IsCaused files before now)

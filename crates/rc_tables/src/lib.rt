@@ -3,7 +3,6 @@
 
 mod decoding;
 mod lazy;
-mod listed;
 mod locating;
 mod partition;
 mod reading;
@@ -13,5 +12,5 @@ mod sets;
 mod tests;
 
 pub use lazy::TableFrags;
-pub use listed::read_tables;
+pub use reading::read_joined;
 pub use sets::TableSet;
