@@ -46,7 +46,7 @@ pub record State : Type 0 where
 abbrev pub numbers : List Table → List ℕ
 numbers tables = list_map (λ t. t.0) tables
 
--- the table's file is there and is its text, and each of its partitions is one that writes can make
+-- the table's file is there and is its text, and each of its partitions holds together
 abbrev pub IsKept : Files → Lists → Table → Type 0
 IsKept files schema t = (bytes : List ℕ) × (map.get files t.0 ≡ Some bytes) × IsTable bytes schema t.1 × All (λ p. IsMutation p.change) t.1
 
@@ -59,11 +59,12 @@ AreTables (Some files) schema tables = (numbers tables ≡ map.keys files) × Al
 abbrev pub opened : Option Files → Lists → List Table → State
 opened files schema tables = record { schema = schema; files = files; tables = tables; log = []; stored = 0; sealed = 0; readers = [] }
 
--- the file is the first of the folder that is no table of the schema: it has another schema, or its first damage is at an offset
+-- the bytes are no table of the schema: they have another schema, or their first damage is at an offset
 abbrev pub IsBad : Lists → Option ℕ → List ℕ → Type 0
 IsBad schema (Some off) bytes = FirstDamage bytes schema off
 IsBad schema None bytes = IsOtherSchema bytes schema
 
+-- file n is the first of the folder, by number, that is no table of the schema
 pub record IsFirstBad (files : Files) (schema : Lists) (n : ℕ) (damage : Option ℕ) : Type 0 where
   pub bytes : List ℕ
   pub here : map.get files n ≡ Some bytes
@@ -103,13 +104,15 @@ next_number tables = after 0 (numbers tables)
 abbrev pub sealing : State → ℕ
 sealing m = if m.stored == m.sealed then length m.log else m.sealed
 
--- the state with the open readers, with the writes sealed up to a number, and with a write behind the others
+-- the state with these open readers
 abbrev pub with_readers : State → List (ℕ × List OutLine) → State
 with_readers m readers = record { schema = m.schema; files = m.files; tables = m.tables; log = m.log; stored = m.stored; sealed = m.sealed; readers = readers }
 
+-- the state with the writes sealed up to a number
 abbrev pub with_sealed : State → ℕ → State
 with_sealed m n = record { schema = m.schema; files = m.files; tables = m.tables; log = m.log; stored = m.stored; sealed = n; readers = m.readers }
 
+-- the state with a write behind the others
 abbrev pub with_write : State → Write → State
 with_write m w = record { schema = m.schema; files = m.files; tables = m.tables; log = m.log ++ w ∷ []; stored = m.stored; sealed = m.sealed; readers = m.readers }
 
