@@ -227,3 +227,27 @@ fn a_store_that_fails_at_once(rt: HostRuntime) -> Result<(), Fail> {
     }
     Ok(())
 }
+
+// A table of three rows is read while one call fails; the first call of all is the check's. Each open is sent twice.
+#[test]
+fn each_read_fails_in_turn(rt: HostRuntime) -> Result<(), Fail> {
+    let alloc = rt.alloc();
+    let rows =
+        "schema ck=int static=s cols=a,b\ninsert p 1 ts=1 a=u\ninsert p 2 ts=1 a=v\ninsert p 3 ts=1 a=w\nflush\n";
+    let reads = "schema ck=int static=s cols=a,b\nopen 1 p\nopen 1 p\nread 1 9\n";
+    let wanted = b"ok\nok\nrow 1 a=u\nrow 2 a=v\nrow 3 a=w\nend\n\n";
+    for (nth, faults) in [(2u64, 1usize), (3, 1), (4, 0)] {
+        let mut store = MemStore::new(alloc)?;
+        let (stored, _text) = served_over(alloc, &mut store, rows)?;
+        store.fail_nth(StoreCall::ReadAt, nth)?;
+        let (status, text) = served_over(alloc, &mut store, reads)?;
+        let (found, kept) = without_faults(alloc, text.as_slice())?;
+        assert_eq!(rt;
+            (stored, status, found),
+            (Status::Done, Status::Done, faults),
+            "{nth}"
+        );
+        assert_eq!(rt; kept.as_slice(), wanted.as_slice(), "{nth}");
+    }
+    Ok(())
+}
