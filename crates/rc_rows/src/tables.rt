@@ -187,29 +187,39 @@ fn without_faults(alloc: Global, text: &[u8]) -> Result<(usize, Vec<u8>), AllocE
 const TWO_FLUSHES: &str =
     "schema ck=int static=s cols=a,b\ninsert p 1 ts=1 a=u\ninsert p 2 ts=1\nflush\nflush\nopen 1 p\nopen 1 p\nread 1 1\nupdate p 1 ts=2 b=v\nflush\nflush\nread 1 9\nopen 2 p\nopen 2 p\nread 2 9\n";
 
+// What the script is answered without the faults and the commands that are sent again.
+const TWO_FLUSHES_REPLIES: &[u8] =
+    b"ok\nok\nok\nok\nok\nrow 1 a=u\nmore\nok\nok\nrow 2\nend\nok\nrow 1 a=u b=v\nrow 2\nend\n\n";
+
+// Whether one fault is told and all else is right where the nth call of a kind fails.
+fn is_right(alloc: Global, kind: StoreCall, nth: u64) -> Result<bool, AllocError> {
+    let mut store = MemStore::new(alloc)?;
+    store.fail_nth(kind, nth)?;
+    let (status, text) = served_over(alloc, &mut store, TWO_FLUSHES)?;
+    let (faults, kept) = without_faults(alloc, text.as_slice())?;
+    Ok(status == Status::Done && faults == 1 && kept.as_slice() == TWO_FLUSHES_REPLIES)
+}
+
+// How many of the first calls of a kind may fail so.
+fn right_runs(alloc: Global, kind: StoreCall, calls: u64) -> Result<u64, AllocError> {
+    let mut right = 0u64;
+    for nth in 1..=calls {
+        if is_right(alloc, kind, nth)? {
+            right = right.saturating_add(1);
+        }
+    }
+    Ok(right)
+}
+
 #[test]
 fn each_call_fails_in_turn(rt: HostRuntime) -> Result<(), Fail> {
-    let alloc = rt.alloc();
-    let wanted =
-        b"ok\nok\nok\nok\nok\nrow 1 a=u\nmore\nok\nok\nrow 2\nend\nok\nrow 1 a=u b=v\nrow 2\nend\n\n";
     for (kind, calls) in [
         (StoreCall::ReadAt, 6u64),
         (StoreCall::Begin, 2),
         (StoreCall::Append, 8),
         (StoreCall::Finish, 2),
     ] {
-        for nth in 1..=calls {
-            let mut store = MemStore::new(alloc)?;
-            store.fail_nth(kind, nth)?;
-            let (status, text) = served_over(alloc, &mut store, TWO_FLUSHES)?;
-            let (faults, kept) = without_faults(alloc, text.as_slice())?;
-            assert_eq!(rt; status, Status::Done, "{kind:?} {nth}");
-            assert_eq!(rt;
-                (faults, kept.as_slice()),
-                (1, wanted.as_slice()),
-                "{kind:?} {nth}"
-            );
-        }
+        assert_eq!(rt; right_runs(rt.alloc(), kind, calls)?, calls, "{kind:?}");
     }
     Ok(())
 }
