@@ -1,10 +1,16 @@
 pub mod Determined
+pub mod Due
+pub mod Going
+pub mod Held
 pub mod Joining
+pub mod Looking
 pub mod MergeLaws
 pub mod Merged
 pub mod Ordered
 pub mod Passing
+pub mod Rounds
 pub mod Says
 pub mod Seeking
 pub mod Stepping
 pub mod Whole
+pub mod Wholes

@@ -14,7 +14,7 @@ use Rattle.rc_mutation.specs.declared.fragments.Frag.{Frag}
 use Rattle.rc_mutation.specs.declared.fragments.Frag.TheVariants as frag
 use Rattle.rc_stream.specs.Stream.{Stream, after, force, is_passed, onward, opening, rest, row_at, says, sought, took}
 
-le_le : (p x y : Pos) (r s : Ordering) → pos_cmp p x ≡ r → pos_cmp x y ≡ s → is_le r ≡ true → is_le s ≡ true → is_le (pos_cmp p y) ≡ true
+pub le_le : (p x y : Pos) (r s : Ordering) → pos_cmp p x ≡ r → pos_cmp x y ≡ s → is_le r ≡ true → is_le s ≡ true → is_le (pos_cmp p y) ≡ true
 le_le p x y Less Less a b h k = ap is_le (pos_cmp_total.trans p x y a b)
 le_le p x y Less Equal a b h k = subst (λ z. is_le (pos_cmp p z) ≡ true) (pos_cmp_same x y b) (ap is_le a)
 le_le p x y Less Greater a b h k = absurd (cc)

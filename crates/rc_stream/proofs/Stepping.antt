@@ -20,7 +20,7 @@ use Rattle.rc_mutation.specs.declared.fragments.Frag.{Frag}
 use Rattle.rc_mutation.specs.declared.fragments.Frag.TheVariants as frag
 use Rattle.rc_mutation.specs.Fragments.{place_order}
 use Rattle.rc_stream.specs.Stream.{after, force, is_passed, row_at}
-use Rattle.rc_stream.specs.Merging.{IsInner, IsOrdered, StandsBefore, both_say, changes_nothing, merged_left, place_of, placed, rows_here, same_tomb, telling}
+use Rattle.rc_stream.specs.Merging.{IsInner, IsOrdered, StandsBefore, beside, both_say, changes_nothing, merged_left, place_of, placed, rows_here, same_tomb, telling, together}
 use Rattle.rc_stream.proofs.Ordered.{Place, Lt, place_total, place_same, before-append, no_row-passed, no_rows, itself, irreflexive, passed-change, passed-row, passes-itself, stop}
 
 abbrev Entries : Type 0
@@ -148,26 +148,12 @@ telling-tell tomb f fs =
       | false ↦ λ e. refl
     ] refl
 
--- a fragment that only one of both has at its place, where the other has this tombstone in force
-abbrev pub beside : Option Tomb → Frag → Frag
-beside other (frag.Start pt) = frag.Start pt
-beside other (frag.Static row) = frag.Static row
-beside other (frag.Row key row) = frag.Row key row
-beside other (frag.Change from next) = frag.Change from (greater tomb_cmp next other)
-beside other frag.End = frag.End
-
 abbrev pub beside_theirs : Option Tomb → Frag → Frag
 beside_theirs tomb (frag.Start pt) = frag.Start pt
 beside_theirs tomb (frag.Static row) = frag.Static row
 beside_theirs tomb (frag.Row key row) = frag.Row key row
 beside_theirs tomb (frag.Change from next) = frag.Change from (greater tomb_cmp tomb next)
 beside_theirs tomb frag.End = frag.End
-
--- two fragments at one place
-abbrev pub together : Frag → Frag → Frag
-together (frag.Row key row) (frag.Row key' row') = frag.Row key (joined_row (row ∷ row' ∷ []))
-together (frag.Change from next) (frag.Change from' next') = frag.Change from (greater tomb_cmp next next')
-together f g = f
 
 row_itself : (key : _) (row : Row) → row_at (row_pos key) (frag.Row key row) ≡ row ∷ []
 row_itself key row = ap (λ b. cond b (row ∷ []) []) (itself (row_pos key))

@@ -5,7 +5,7 @@ use Rattle.rc_position.specs.declared.positions.Pos.{Pos}
 use Rattle.rc_position.specs.Position.{pos_cmp}
 use Rattle.rc_mutation.specs.declared.fragments.Frag.{Frag}
 use Rattle.rc_stream.specs.declared.streams.StreamErr.{StreamErr}
-use Rattle.rc_stream.specs.Stream.{is_upto}
+use Rattle.rc_stream.specs.Merging.{place_of}
 
 -- x is not before the position
 abbrev pub Reaches : Pos → Pos → Type 0
@@ -13,6 +13,6 @@ Reaches to x = IsTrue (is_le (pos_cmp to x))
 
 -- x is not before the fragment that was given, if one was
 abbrev pub Passes : Result (Option Frag) StreamErr → Pos → Type 0
-Passes (Ok (Some f)) x = IsTrue (is_upto x f)
+Passes (Ok (Some f)) x = Reaches (place_of f).0 x
 Passes (Ok None) x = ⊤
 Passes (Err e) x = ⊤

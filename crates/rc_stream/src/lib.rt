@@ -1,11 +1,15 @@
 //! Streams of one partition: its rows and changes of tombstone, taken one after another.
 #![tactic(auto)]
 
+mod holding;
 pub mod laws;
 mod lists;
+mod merges;
+mod parts;
 mod streams;
 #[cfg(test)]
 mod tests;
 
 pub use lists::ListFrags;
+pub use merges::Merge;
 pub use streams::{Frags, StreamErr};

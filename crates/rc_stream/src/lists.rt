@@ -14,7 +14,7 @@ use std::marker::Model;
 
 /// What comes before the rows and changes of a list that were not passed yet.
 #[derive(Drop)]
-enum Front {
+pub(crate) enum Front {
     /// Nothing: this range tombstone is in force.
     Passed(Option<Tomb>),
     /// A change at this position to this tombstone, which a seek found in force.
@@ -122,11 +122,11 @@ impl ListFrags {
 impl<H, W: Store> Frags<H, W> for ListFrags {
     ghost use Rattle.std.specs.Prelude.{◌≡◌, ⊤};
 
-    ghost seen = { λ s. s };
+    ghost ready = { λ _ _ _. ⊤ };
+
+    ghost seen = { λ list _ _ s. s ≡ list };
 
     ghost ahead = { λ _ _. ⊤ };
-
-    ghost stands = { λ _ _ _. ⊤ };
 
     ghost moves = { λ home store home' store'. (home ≡ home') × (store ≡ store') };
 
@@ -232,7 +232,7 @@ fn pass(
 }
 
 // What a seek puts before what it left: a change at the position to the tombstone in force there, if one is.
-fn front_at(alloc: Global, x: &Pos, tomb: Option<Tomb>) -> Result<Front, AllocError>
+pub(crate) fn front_at(alloc: Global, x: &Pos, tomb: Option<Tomb>) -> Result<Front, AllocError>
     ensures tomb { IfOk result (λ front. front_tomb front ≡ None) }
     ensures change { IfOk result (λ front. front_change front ≡ opening x.now tomb) }
 {
@@ -243,7 +243,7 @@ fn front_at(alloc: Global, x: &Pos, tomb: Option<Tomb>) -> Result<Front, AllocEr
 }
 
 // Whether a seek to the position passes the fragment.
-fn passes(alloc: Global, frag: &Frag, to: &Pos) -> Result<bool, AllocError>
+pub(crate) fn passes(alloc: Global, frag: &Frag, to: &Pos) -> Result<bool, AllocError>
     ensures { IfOk result (λ b. b ≡ is_passed to.now frag.now) }
 {
     match frag {
@@ -254,7 +254,7 @@ fn passes(alloc: Global, frag: &Frag, to: &Pos) -> Result<bool, AllocError>
 }
 
 // Whether the fragment is a row or a change at the position or before it.
-fn stands_upto(alloc: Global, frag: &Frag, upto: &Pos) -> Result<bool, AllocError>
+pub(crate) fn stands_upto(alloc: Global, frag: &Frag, upto: &Pos) -> Result<bool, AllocError>
     ensures { IfOk result (λ b. b ≡ is_upto upto.now frag.now) }
 {
     match frag {
@@ -265,7 +265,7 @@ fn stands_upto(alloc: Global, frag: &Frag, upto: &Pos) -> Result<bool, AllocErro
 }
 
 // Where the row of the key stands.
-fn row_pos(alloc: Global, key: &Key) -> Result<Pos, AllocError>
+pub(crate) fn row_pos(alloc: Global, key: &Key) -> Result<Pos, AllocError>
     ensures { IfOk result (λ x. x ≡ row_pos key.now) }
 {
     Ok(Pos {
@@ -288,7 +288,7 @@ fn copy_first(alloc: Global, items: &[Frag], upto: &Pos) -> Result<Option<Frag>,
 }
 
 // The range tombstone in force behind the fragment.
-fn tomb_after(tomb: Option<Tomb>, frag: &Frag) -> Option<Tomb>
+pub(crate) fn tomb_after(tomb: Option<Tomb>, frag: &Frag) -> Option<Tomb>
     ensures { result ≡ after tomb frag.now }
 {
     match frag {

@@ -34,24 +34,26 @@ impl From<AllocError> for StreamErr {
     }
 }
 
-/// A stream of one partition over a home `H`, where what it reads may be kept, and a store `W`. A contract sees the head
-/// of the partition and the rows and changes that are left. Each call needs that the stream stands over the home and the
-/// store handed in, and keeps it.
+/// A stream of one partition over a home `H`, where what it reads may be kept, and a store `W`. A contract sees the stream
+/// that it stands for over them: the head of the partition and the rows and changes that are left. Over a store that does
+/// not tell its files it may stand for none, and then nothing is said of what is given. Each call needs that the stream is
+/// ready over the home and the store handed in, and keeps it.
 pub trait Frags<H, W: Store> {
     ghost use Rattle.std.specs.Prelude.{◌≡◌};
     ghost use Rattle.rc_position.specs.declared.positions.Pos.{Pos};
+    ghost use Rattle.rc_stream.specs.Calls.{left_by, sought_by};
     ghost use Rattle.rc_stream.specs.Causes.{Caused};
-    ghost use Rattle.rc_stream.specs.Stream.{Stream, first_upto, sought, took};
+    ghost use Rattle.rc_stream.specs.Stream.{Stream, first_upto};
     ghost use Rattle.rc_stream.specs.Places.{Passes, Reaches};
 
-    // what it stands for from its place on
-    ghost seen: { Self → Stream };
+    // its calls may be made over this home and this store
+    ghost ready: { Self → H → W → Type 0 };
+
+    // over this home and this store it stands for this stream, from its place on
+    ghost seen: { Self → H → W → Stream → Type 0 };
 
     // the positions that are not before its place
     ghost ahead: { Self → Pos → Type 0 };
-
-    // it stands over this home and this store
-    ghost stands: { Self → H → W → Type 0 };
 
     // what a call may make of a home and a store: another home and another store
     ghost moves: { H → W → H → W → Type 0 };
@@ -59,11 +61,11 @@ pub trait Frags<H, W: Store> {
     /// The head of the partition. The stream is as before. `StreamErr::Fault` when the store fails,
     /// `StreamErr::Damaged` when bytes of a file contradict it, `StreamErr::NoMemory` when memory is refused.
     fn head(&mut self, alloc: Global, home: &mut H, store: &mut W) -> Result<Head, StreamErr>
-        requires { stands self.old home.old store.old }
-        ensures head { IfOk result (λ head. head ≡ (seen self.old).head) }
-        ensures seen { seen self.new ≡ seen self.old }
+        requires { ready self.old home.old store.old }
+        ensures head { (s : Stream) → seen self.old home.old store.old s → IfOk result (λ head. head ≡ s.head) }
+        ensures seen { (s : Stream) → seen self.old home.old store.old s → seen self.new home.new store.new s }
         ensures ahead { (x : Pos) → ahead self.old x → ahead self.new x }
-        ensures stands { stands self.new home.new store.new }
+        ensures ready { ready self.new home.new store.new }
         ensures moves { moves home.old store.old home.new store.new }
         ensures cause { Caused result (W.files store.old) (W.faults store.old) (W.faults store.new) }
         ensures files { W.files store.new ≡ W.files store.old }
@@ -79,13 +81,12 @@ pub trait Frags<H, W: Store> {
         store: &mut W,
         to: &Pos,
     ) -> Result<(), StreamErr>
-        requires stands { stands self.old home.old store.old }
+        requires ready { ready self.old home.old store.old }
         requires ahead { ahead self.old to.now }
-        ensures ok { OnOk result (seen self.new ≡ sought to.now (seen self.old)) }
-        ensures err { OnErr result (seen self.new ≡ seen self.old) }
+        ensures seen { (s : Stream) → seen self.old home.old store.old s → seen self.new home.new store.new (sought_by result to.now s) }
         ensures ahead { OnOk result ((x : Pos) → Reaches to.now x → ahead self.new x) }
         ensures kept { OnErr result ((x : Pos) → ahead self.old x → ahead self.new x) }
-        ensures stands { stands self.new home.new store.new }
+        ensures ready { ready self.new home.new store.new }
         ensures moves { moves home.old store.old home.new store.new }
         ensures cause { Caused result (W.files store.old) (W.faults store.old) (W.faults store.new) }
         ensures files { W.files store.new ≡ W.files store.old }
@@ -102,12 +103,11 @@ pub trait Frags<H, W: Store> {
         store: &mut W,
         upto: &Pos,
     ) -> Result<Option<Frag>, StreamErr>
-        requires { stands self.old home.old store.old }
-        ensures gives { IfOk result (λ got. got ≡ first_upto upto.now (seen self.old).left) }
-        ensures left { IfOk result (λ got. seen self.new ≡ took got (seen self.old)) }
-        ensures err { OnErr result (seen self.new ≡ seen self.old) }
+        requires { ready self.old home.old store.old }
+        ensures gives { (s : Stream) → seen self.old home.old store.old s → IfOk result (λ got. got ≡ first_upto upto.now s.left) }
+        ensures seen { (s : Stream) → seen self.old home.old store.old s → seen self.new home.new store.new (left_by result s) }
         ensures ahead { (x : Pos) → Passes result x → ahead self.old x → ahead self.new x }
-        ensures stands { stands self.new home.new store.new }
+        ensures ready { ready self.new home.new store.new }
         ensures moves { moves home.old store.old home.new store.new }
         ensures cause { Caused result (W.files store.old) (W.faults store.old) (W.faults store.new) }
         ensures files { W.files store.new ≡ W.files store.old }

@@ -1,5 +1,5 @@
 -- The rows and changes of a mutation give its rows and its ranges again.
-use Rattle.std.proofs.Common.{◌≡◌, ℕ, zero, suc, ◌+◌, ◌-◌, ◌<◌, ◌≤◌, Bool, true, false, cond, List, [], ◌∷◌, ◌++◌, length, get_or, take, drop, Option, Some, None, refl, sym, ap, ◌∙◌, subst, arith, append-nil, append_assoc, map as list_map}
+use Rattle.std.proofs.Common.{◌≡◌, zero, suc, ◌-◌, ◌<◌, ◌≤◌, Bool, true, false, cond, List, [], ◌∷◌, ◌++◌, length, get_or, take, drop, Option, Some, None, refl, sym, ap, ◌∙◌, subst, arith, append-nil, append_assoc, map as list_map}
 use Rattle.std.specs.Prelude.{◌≢◌, ◌↔◌, IsTrue, not}
 use Rattle.std.specs.declared.cmp.Ordering.{Ordering}
 use Rattle.std.specs.declared.cmp.Ordering.TheVariants.{Less, Equal, Greater}
@@ -25,7 +25,7 @@ use Rattle.rc_mutation.specs.Fragments.{begins_at, changes_of, placed_change, pl
 use Rattle.rc_mutation.specs.Rows.{joined_rows, IsRows}
 use Rattle.rc_mutation.specs.RowsLaws.{joined_rows-append, joined_rows-rows}
 use Rattle.rc_mutation.proofs.FragMerge.{merge, merge_into, fragment_of}
-use Rattle.rc_tables.specs.Rebuilt.{AllWritten, between, begun, changes_among, ended, pieces_between, rows_among}
+use Rattle.rc_tables.specs.Rebuilt.{AllWritten, between, changes_among, pieces_between, rows_among}
 use Rattle.rc_tables.proofs.Listing.{between-merge}
 
 abbrev Keyed : Type 0

@@ -1,8 +1,7 @@
 -- One table after another is joined.
-use Rattle.std.proofs.Common.{◌≡◌, ℕ, ◌+◌, ◌-◌, ◌≤◌, ◌<◌, true, false, cond, List, [], ◌∷◌, ◌++◌, length, get_or, take, drop, Option, Some, None, refl, sym, ap, ◌∙◌, subst, arith, append-nil, append_assoc, map as list_map}
+use Rattle.std.proofs.Common.{◌≡◌, ℕ, ◌+◌, ◌≤◌, ◌<◌, true, false, cond, List, [], ◌∷◌, ◌++◌, length, get_or, drop, Option, Some, None, refl, sym, ap, ◌∙◌, subst, arith, append-nil, append_assoc, map as list_map}
 use Rattle.std.specs.Prelude.{◌≢◌, All, IsTrue, filter}
 use Rattle.std.specs.FinMap.{is_sorted}
-use Rattle.std.specs.List.{HoldsAt}
 use Rattle.rc_cell.specs.Winner.{empty_row}
 use Rattle.rc_outside.specs.Files.{Files}
 use Rattle.rc_position.specs.Position.{bytes_cmp}

@@ -1,22 +1,21 @@
 -- Where a partition lies in a table: what the directory says of it, and its items.
 use Rattle.std.proofs.Common.{◌≡◌, ℕ, zero, suc, ◌+◌, ◌≤◌, ◌<◌, ◌^◌, List, [], ◌∷◌, ◌++◌, length, take, drop, Option, Some, None, refl, sym, ap, ◌∙◌, subst, arith, append-nil, append_assoc, length-append, map as list_map}
-use Rattle.std.specs.Prelude.{All, min}
+use Rattle.std.specs.Prelude.{min}
 use Rattle.std.specs.List.{flat_map, AllByRecursion}
-use Rattle.std.specs.FinMap as map
 use Rattle.std.proofs.lemmas.Grind.{flat_map-append}
-use Rattle.std.proofs.lemmas.List.{drop_at, drop-take, length-take-le}
+use Rattle.std.proofs.lemmas.List.{drop_at, drop-take}
 use Rattle.rc_rowcode.specs.Spelling.{time_code}
-use Rattle.rc_outside.specs.Files.{Files, LiesInFile, AreBytesOf}
+use Rattle.rc_outside.specs.Files.{Files, AreBytesOf}
 use Rattle.rc_schema.specs.Lists.{Lists}
 use Rattle.rc_mutation.specs.declared.mutations.Partition.{Partition}
 use Rattle.rc_mutation.specs.Source.{IsMutation}
 use Rattle.rc_tfile.specs.declared.info.PartRef.{PartRef}
-use Rattle.rc_tfile.specs.Items.{Item, HeadItem, PartItem, EndItem, StopItem, EntryItem, BlockItem, TailItem, item_code, offset_code, IsItem}
+use Rattle.rc_tfile.specs.Items.{Item, HeadItem, StopItem, EntryItem, BlockItem, TailItem, item_code, offset_code, IsItem}
 use Rattle.rc_tfile.specs.Before.{Before, text, offset, followed_by}
 use Rattle.rc_tfile.specs.Blocks.{Entry, entries, entry_items, ending}
 use Rattle.rc_tfile.specs.Checking.{IsContent}
 use Rattle.rc_tfile.specs.Info.{refs, refs_from, entry_size}
-use Rattle.rc_tfile.specs.TableText.{AllFit, IsTable, body, table, part_items}
+use Rattle.rc_tfile.specs.TableText.{AllFit, body, table, part_items}
 use Rattle.rc_tfile.proofs.Follows.{followed_by-append, text-followed_by, by_recursion}
 use Rattle.rc_tfile.proofs.Drafts.{parts_of, body_is}
 use Rattle.rc_tables.specs.Located.{IsLocated, IsSpan, IsEntryAt, EndsAt, glimpsed}

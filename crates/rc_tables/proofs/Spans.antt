@@ -1,7 +1,6 @@
 -- What is read of the directory gives the span of a partition, and lies in the file.
-use Rattle.std.proofs.Common.{◌≡◌, ℕ, ◌+◌, ◌-◌, ◌≤◌, ◌<◌, ◌^◌, List, [], ◌∷◌, ◌++◌, length, take, drop, Option, Some, None, refl, sym, ap, ◌∙◌, subst, arith, append_assoc}
+use Rattle.std.proofs.Common.{◌≡◌, ℕ, ◌+◌, ◌-◌, ◌≤◌, ◌<◌, ◌^◌, List, ◌∷◌, ◌++◌, length, take, drop, Option, Some, None, refl, sym, ap, ◌∙◌, subst, arith, append_assoc}
 use Rattle.std.specs.Prelude.{IsSomeAnd}
-use Rattle.std.specs.FinMap as map
 use Rattle.std.specs.List.{flat_map, AllByRecursion}
 use Rattle.std.proofs.lemmas.List.{drop_at, take_at, length-append}
 use Rattle.rc_outside.specs.Files.{Files, LiesInFile, AreBytesOf}
@@ -10,8 +9,7 @@ use Rattle.rc_mutation.specs.declared.mutations.Mutation.{Mutation}
 use Rattle.rc_mutation.specs.declared.mutations.Partition.{Partition}
 use Rattle.rc_mutation.specs.Source.{IsMutation}
 use Rattle.rc_tfile.specs.declared.info.PartRef.{PartRef}
-use Rattle.rc_tfile.specs.Checking.{IsContent}
-use Rattle.rc_tfile.specs.Items.{EntryItem, item_code, bytes_code, offset_code, IsItem, IsPartKey}
+use Rattle.rc_tfile.specs.Items.{item_code, bytes_code, offset_code, IsItem, IsPartKey}
 use Rattle.rc_tfile.specs.Reading.{Starts}
 use Rattle.rc_tfile.specs.TableText.{part_items}
 use Rattle.rc_tfile.specs.Before.{offset}

@@ -1,5 +1,5 @@
 -- The rows and changes of a partition as a table spells them, and what they say: its rows by key, and its ranges between changes.
-use Rattle.std.specs.Prelude.{◌≢◌, All, ℕ, List, [], ◌∷◌, ◌++◌, Option, Some, None, map as list_map, if◌then◌else◌, nat_lt, length, take, ⊤}
+use Rattle.std.specs.Prelude.{◌≢◌, All, ℕ, List, [], ◌∷◌, ◌++◌, Option, Some, None, map as list_map, if◌then◌else◌, nat_lt, length, take}
 use Rattle.std.specs.Option.{option_map}
 use Rattle.std.specs.Int.{w64, from_le_bytes}
 use Rattle.rc_cell.specs.declared.rows.Row.{Row}

@@ -1,10 +1,7 @@
 -- A stream over tables, which is read at its first call.
-use Rattle.std.specs.Prelude.{◌≡◌, ℕ, ◌*◌, List, Option, Some, None, Result, Ok, Err}
+use Rattle.std.specs.Prelude.{◌≡◌, ℕ, ◌*◌, List, Option, Some, None}
 use Rattle.rc_outside.specs.Files.{Files}
-use Rattle.rc_position.specs.declared.positions.Pos.{Pos}
-use Rattle.rc_mutation.specs.declared.fragments.Frag.{Frag}
-use Rattle.rc_stream.specs.declared.streams.StreamErr.{StreamErr}
-use Rattle.rc_stream.specs.Stream.{Stream, sought, took}
+use Rattle.rc_stream.specs.Stream.{Stream}
 use Rattle.rc_tfile.specs.declared.info.TableInfo.{TableInfo}
 use Rattle.rc_tables.specs.Located.{WhereTold}
 use Rattle.rc_tables.specs.Tables.{AreHeld, IsStreamAt, listing}
@@ -36,13 +33,3 @@ to_ask (Some read) tables = 0
 -- the same of a stream
 abbrev pub asks_left : Lazy → ℕ
 asks_left t = to_ask t.read (listing t.key t.infos)
-
--- what a call for the next leaves: the stream without what was given, and the same stream where it was refused
-abbrev pub left_by : Result (Option Frag) StreamErr → Stream → Stream
-left_by (Ok got) stream = took got stream
-left_by (Err e) stream = stream
-
--- what a seek leaves: the stream sought to the position, and the same stream where it was refused
-abbrev pub sought_by : Result (Unit {0}) StreamErr → Pos → Stream → Stream
-sought_by (Ok _) x stream = sought x stream
-sought_by (Err e) x stream = stream

@@ -1,18 +1,19 @@
 //! A partition in all tables of a set as a stream.
 
 ghost use Rattle.std.specs.Prelude.{◌≡◌, ◌≤◌, ◌+◌, ◌*◌, IfErr, IfOk, IsSome, None, OnOk, Some};
+ghost use Rattle.rc_stream.specs.Calls.{left_by, sought_by};
 ghost use Rattle.rc_stream.specs.Causes.{Caused};
 ghost use Rattle.rc_stream.specs.Stream.{Stream, first_upto};
 ghost use Rattle.rc_tables.specs.Located.{WhereTold};
 ghost use Rattle.rc_tables.specs.Tables.{AreHeld, IsStreamAt, listing};
-ghost use Rattle.rc_tables.specs.Streams.{asks_left, IsReady, left_by, sought_by, StandsFor};
+ghost use Rattle.rc_tables.specs.Streams.{asks_left, IsReady, StandsFor};
 
 use crate::reading::read_joined;
 use crate::sets::TableSet;
 use rc_mutation::{Frag, Head};
 use rc_outside::Store;
 use rc_position::{PartKey, Pos};
-use rc_stream::{ListFrags, StreamErr};
+use rc_stream::{Frags, ListFrags, StreamErr};
 use std::alloc::Global;
 use std::marker::Model;
 
@@ -181,6 +182,43 @@ impl TableFrags {
         let list = read_list(alloc, store, &self.set, &self.key)?;
         self.list = Some(list);
         Ok(())
+    }
+}
+
+impl<H, W: Store> Frags<H, W> for TableFrags {
+    ghost use Rattle.std.specs.Prelude.{◌≡◌, ⊤};
+    ghost use Rattle.rc_tables.specs.Streams.{IsReady, StandsFor};
+
+    ghost ready = { λ t _ store. IsReady (W.files store) t };
+
+    ghost seen = { λ t _ store s. StandsFor (W.files store) t s };
+
+    ghost ahead = { λ _ _. ⊤ };
+
+    ghost moves = { λ home store home' store'. (home ≡ home') × (W.files store' ≡ W.files store) × (W.building store' ≡ W.building store) };
+
+    fn head(&mut self, alloc: Global, _home: &mut H, store: &mut W) -> Result<Head, StreamErr> {
+        self.head(alloc, store)
+    }
+
+    fn seek(
+        &mut self,
+        alloc: Global,
+        _home: &mut H,
+        store: &mut W,
+        to: &Pos,
+    ) -> Result<(), StreamErr> {
+        self.seek(alloc, store, to)
+    }
+
+    fn next(
+        &mut self,
+        alloc: Global,
+        _home: &mut H,
+        store: &mut W,
+        upto: &Pos,
+    ) -> Result<Option<Frag>, StreamErr> {
+        self.next(alloc, store, upto)
     }
 }
 

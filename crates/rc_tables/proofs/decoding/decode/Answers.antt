@@ -1,5 +1,5 @@
 -- The part is read, the rows and changes behind it, and both are those of the mutation.
-use Rattle.std.proofs.Common.{◌≡◌, ◌++◌, ◌∷◌, [], ℕ, List, ap, sym, subst, ◌∙◌, None, Some, Option, true, false, length, take, drop, ◌-◌}
+use Rattle.std.proofs.Common.{◌≡◌, ◌++◌, ◌∷◌, [], ℕ, List, ap, sym, ◌∙◌, Some, Option, true, false, length, take, drop, ◌-◌}
 use Rattle.std.specs.Prelude.{not}
 use Rattle.std.specs.Cmp.{tied_itself}
 use Rattle.std.specs.List.{flat_map}

@@ -1,8 +1,8 @@
 -- One fragment more, or none, or the end.
-use Rattle.std.proofs.Common.{◌≡◌, ◌∷◌, ◌++◌, [], ℕ, List, ap, sym, subst, refl, ◌∙◌, None, Some, true, false, length, take, drop, ◌-◌}
+use Rattle.std.proofs.Common.{◌≡◌, ◌∷◌, ◌++◌, [], ℕ, List, ap, sym, subst, ◌∙◌, None, Some, true, false, length, take, drop, ◌-◌}
 use Rattle.std.proofs.lemmas.List.{take_rest}
 use Rattle.rc_mutation.specs.declared.fragments.Frag.{Frag}
-use Rattle.rc_tables.proofs.Spelled.{Finds, Going, going_start, going_on, going_stops, going_ends}
+use Rattle.rc_tables.proofs.Spelled.{Finds, Going, going_on, going_stops, going_ends}
 use Rattle.rc_tables.proofs.decoding.read_fragments.Goals as goal
 
 no_end : {P : Type 0} → false ≡ true → P

@@ -1,7 +1,6 @@
 -- What is read of the directory gives the span.
-use Rattle.std.proofs.Common.{◌≡◌, ◌+◌, ℕ, ap, sym, subst, ◌∙◌, Some, None, arith, List, length}
-use Rattle.rc_outside.specs.Files.{LiesInFile, AreBytesOf}
-use Rattle.rc_tables.specs.Located.{glimpsed}
+use Rattle.std.proofs.Common.{◌+◌, ℕ, ap, sym, subst, ◌∙◌, List, length}
+use Rattle.rc_outside.specs.Files.{AreBytesOf}
 use Rattle.rc_tables.proofs.Spans.{directory_lies, span_found, none_found}
 use Rattle.rc_tables.proofs.locating.locate.Goals as goal
 

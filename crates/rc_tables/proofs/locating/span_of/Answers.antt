@@ -1,7 +1,6 @@
 -- Both offsets are those that the directory says.
-use Rattle.std.proofs.Common.{◌≡◌, ℕ, ap, sym, subst, ◌∙◌, Some, None, arith, drop}
+use Rattle.std.proofs.Common.{◌≡◌, ℕ, sym, subst, ◌∙◌, Some, arith}
 use Rattle.std.proofs.lemmas.List.{take_rest}
-use Rattle.rc_tables.specs.declared.locating.Span.{Span}
 use Rattle.rc_tables.specs.Located.{EndsAt}
 use Rattle.rc_tables.proofs.locating.span_of.Goals as goal
 

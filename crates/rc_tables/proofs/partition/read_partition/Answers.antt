@@ -1,5 +1,5 @@
 -- The span is the partition's, and its bytes give what it says.
-use Rattle.std.proofs.Common.{◌≡◌, ◌-◌, ℕ, List, length, ap, sym, subst, ◌∙◌, Some, None, arith}
+use Rattle.std.proofs.Common.{◌≡◌, ◌-◌, ℕ, List, length, ap, sym, subst, ◌∙◌, Some, arith}
 use Rattle.rc_outside.specs.Files.{LiesInFile, AreBytesOf}
 use Rattle.rc_mutation.specs.declared.mutations.Mutation.{Mutation}
 use Rattle.rc_tables.proofs.Spans.{partition_lies, decoded, none_decoded}

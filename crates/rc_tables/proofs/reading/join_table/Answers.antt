@@ -1,5 +1,5 @@
 -- What was read of the table is what it says of the key.
-use Rattle.std.proofs.Common.{◌≡◌, ℕ, ◌+◌, ◌-◌, ◌<◌, ◌∷◌, [], List, length, get_or, take, drop, ap, sym, subst, ◌∙◌, arith, map as list_map}
+use Rattle.std.proofs.Common.{◌≡◌, ◌+◌, ◌-◌, ◌<◌, ◌∷◌, List, length, get_or, take, drop, ap, sym, subst, ◌∙◌, arith, map as list_map}
 use Rattle.std.specs.Prelude.{◌≢◌, All, IsTrue}
 use Rattle.std.specs.FinMap.{is_sorted}
 use Rattle.std.specs.List.{HoldsAt}

@@ -1,5 +1,5 @@
 -- One table more is joined.
-use Rattle.std.proofs.Common.{◌≡◌, ℕ, ◌+◌, ◌-◌, ◌∷◌, [], List, length, take, drop, refl, ap, sym, subst, ◌∙◌, arith, map as list_map}
+use Rattle.std.proofs.Common.{◌∷◌, [], List, drop, refl, ap, sym, subst, ◌∙◌, arith, map as list_map}
 use Rattle.std.proofs.lemmas.List.{take_rest}
 use Rattle.rc_tfile.specs.declared.info.TableInfo.{TableInfo}
 use Rattle.rc_tables.specs.Located.{WhereTold}

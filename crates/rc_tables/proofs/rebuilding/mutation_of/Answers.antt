@@ -1,10 +1,9 @@
 -- The rows and ranges are those of the mutation.
-use Rattle.std.proofs.Common.{◌≡◌, ap, sym, subst, ◌∙◌, Some, None, List}
+use Rattle.std.proofs.Common.{◌≡◌, ap, sym, ◌∙◌, Some, List}
 use Rattle.rc_cell.specs.declared.rows.Row.{Row}
 use Rattle.rc_position.specs.declared.comps.Comp.{Comp}
 use Rattle.rc_ranges.specs.declared.pieces.Piece.{Piece}
 use Rattle.rc_mutation.specs.declared.fragments.Head.{Head}
-use Rattle.rc_mutation.specs.declared.mutations.Mutation.{Mutation}
 use Rattle.rc_tables.specs.Rebuilt.{rows_among}
 use Rattle.rc_tables.proofs.Apart.{rows_ready, ranges_ready, rows_between}
 use Rattle.rc_tables.proofs.rebuilding.mutation_of.Goals as goal

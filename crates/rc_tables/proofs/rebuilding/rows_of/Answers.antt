@@ -1,6 +1,5 @@
 -- One row more, an empty one, or the end.
-use Rattle.std.proofs.Common.{◌≡◌, true, false, ap, sym, subst, ◌∙◌, Some}
-use Rattle.std.specs.Prelude.{IsTrue}
+use Rattle.std.proofs.Common.{◌≡◌, true, false, ap, sym, ◌∙◌, Some}
 use Rattle.rc_tables.proofs.Apart.{first_written, one_joined, all_joined}
 use Rattle.rc_tables.proofs.rebuilding.rows_of.Goals as goal
 

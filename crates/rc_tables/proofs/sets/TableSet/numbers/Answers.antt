@@ -1,5 +1,5 @@
 -- At first all tables are left.
-use Rattle.std.proofs.Common.{◌++◌, ◌∙◌, ap, map as list_map, ℕ}
+use Rattle.std.proofs.Common.{◌++◌, ◌∙◌, ap, map as list_map}
 use Rattle.rc_tables.proofs.sets.TableSet.numbers.Goals as goal
 
 pub loop-left-init : goal.loop-left-init

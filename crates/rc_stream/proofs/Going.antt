@@ -1,0 +1,84 @@
+-- What calls one after another make of a home and a store, and of what causes a refusal.
+use Rattle.std.specs.Prelude.{◌≡◌, ℕ, zero, suc, ◌≤◌, Option, Result, Ok, Err}
+use Rattle.std.proofs.Common.{refl, sym, ◌∙◌, subst, arith, inl, inr}
+use Rattle.rc_position.specs.declared.positions.Pos.{Pos}
+use Rattle.rc_position.specs.Position.{pos_cmp}
+use Rattle.rc_outside.specs.Faults.{Rose}
+use Rattle.rc_outside.specs.Files.{Files}
+use Rattle.rc_stream.specs.declared.holding.Held.{Held}
+use Rattle.rc_stream.specs.declared.holding.Look.{Look}
+use Rattle.rc_stream.specs.declared.holding.Step.{Step}
+use Rattle.rc_stream.specs.declared.holding.Step.TheVariants as step
+use Rattle.rc_stream.specs.declared.holding.Turn.{Turn}
+use Rattle.rc_stream.specs.declared.holding.Turn.TheVariants as turn
+use Rattle.rc_stream.specs.declared.streams.StreamErr.{StreamErr}
+use Rattle.rc_stream.specs.declared.streams.StreamErr.TheVariants.{Fault, Damaged, NoMemory}
+use Rattle.rc_stream.specs.Causes.{Caused}
+use Rattle.rc_stream.specs.Merging.{place_of}
+use Rattle.rc_stream.specs.Places.{Reaches}
+use Rattle.rc_stream.specs.Holding.{Does, IsFrom, StepReaches}
+use Rattle.rc_stream.specs.Moving.{Either, Keeps, MaySeek, Moved, Moves, Once}
+use Rattle.rc_stream.proofs.Says.{le_le}
+
+pub moved-none : {H W : Type 0} (P Q : H → W → H → W → Type 0) (h : H) (w : W) → Moved P Q h w h w
+moved-none P Q h w = (zero, (refl, refl))
+
+same-states : {H W : Type 0} (P : H → W → Type 0) (h g : H) (w v : W) → h ≡ g → w ≡ v → P h w → P g v
+same-states P h g w v e f p = subst (λ u. P g u) f (subst (λ k. P k w) e p)
+
+pub once-ours : {H W : Type 0} (P Q : H → W → H → W → Type 0) (h : H) (w : W) (g : H) (v : W) → Once P h w g v → Moved P Q h w g v
+once-ours P Q h w g v (inl e) = (zero, e)
+once-ours P Q h w g v (inr m) = (suc zero, (g, v, inl m, (refl, refl)))
+
+pub once-theirs : {H W : Type 0} (P Q : H → W → H → W → Type 0) (h : H) (w : W) (g : H) (v : W) → Once Q h w g v → Moved P Q h w g v
+once-theirs P Q h w g v (inl e) = (zero, e)
+once-theirs P Q h w g v (inr m) = (suc zero, (g, v, inr m, (refl, refl)))
+
+more : {H W : Type 0} (P Q : H → W → H → W → Type 0) (n : ℕ) (h : H) (w : W) (g : H) (v : W) (k : H) (u : W) → Moves (Either P Q) n h w g v → Moved P Q g v k u → Moved P Q h w k u
+more P Q zero h w g v k u m r = same-states (λ a b. Moved P Q a b k u) g h v w (sym m.0) (sym m.1) r
+more P Q (suc n) h w g v k u m r = let s = more P Q n m.0 m.1 g v k u m.3 r in (suc s.0, (m.0, m.1, m.2, s.1))
+
+pub moved-moved : {H W : Type 0} (P Q : H → W → H → W → Type 0) (h : H) (w : W) (g : H) (v : W) (k : H) (u : W) → Moved P Q h w g v → Moved P Q g v k u → Moved P Q h w k u
+moved-moved P Q h w g v k u m r = more P Q m.0 h w g v k u m.1 r
+
+-- a part stands on where the other was called
+pub once-keeps : {H W X : Type 0} (P : H → W → H → W → Type 0) (stands : X → H → W → Type 0) (x : X) (h : H) (w : W) (g : H) (v : W) → Keeps P stands → Once P h w g v → stands x h w → stands x g v
+once-keeps P stands x h w g v keeps (inl e) s = same-states (stands x) h g w v e.0 e.1 s
+once-keeps P stands x h w g v keeps (inr m) s = keeps x h w g v m s
+
+rose_more : (before mid now : ℕ) → before ≤ mid → Rose mid now → Rose before now
+rose_more before mid now h r = omega (arith, h, r)
+
+-- a refusal of a later call has its cause since an earlier one
+pub caused-after : {X : Type 0} (r : Result X StreamErr) (files files' : Option Files) (before mid now : ℕ) → files' ≡ files → before ≤ mid → Caused r files' mid now → Caused r files before now
+caused-after (Ok v) files files' before mid now e h c = omega (arith, h, c)
+caused-after (Err Fault) files files' before mid now e h c = (omega (arith, h, c.0), rose_more before mid now h c.1)
+caused-after (Err (Damaged file offset)) files files' before mid now e h c = (omega (arith, h, c.0), sym e ∙ c.1)
+caused-after (Err NoMemory) files files' before mid now e h c = omega (arith, h, c)
+
+-- ---- from where both go on after a step
+
+pub does-ours : (r : Turn) (s : Step) (o t o' t' : Held) → Does r s o t o' t' → (x : Pos) → StepReaches s x → IsFrom o'.look x → IsFrom o.look x
+does-ours turn.Nobody s o t o' t' d x u h = subst (λ (z : Held). IsFrom z.look x) d.1 h
+does-ours turn.Ours s o t o' t' d x u h = d.1.from x u h
+does-ours turn.Theirs s o t o' t' d x u h = subst (λ (z : Held). IsFrom z.look x) d.1 h
+does-ours turn.Both s o t o' t' d x u h = d.1.from x u h
+
+pub does-theirs : (r : Turn) (s : Step) (o t o' t' : Held) → Does r s o t o' t' → (x : Pos) → StepReaches s x → IsFrom t'.look x → IsFrom t.look x
+does-theirs turn.Nobody s o t o' t' d x u h = subst (λ (z : Held). IsFrom z.look x) d.2 h
+does-theirs turn.Ours s o t o' t' d x u h = subst (λ (z : Held). IsFrom z.look x) d.2 h
+does-theirs turn.Theirs s o t o' t' d x u h = d.2.from x u h
+does-theirs turn.Both s o t o' t' d x u h = d.2.from x u h
+
+-- a position behind one that is reached is reached
+pub reaches-through : (p x y : Pos) → Reaches x y → Reaches p x → Reaches p y
+reaches-through p x y r u = le_le p x y (pos_cmp p x) (pos_cmp x y) refl refl u r
+
+pub reaches-on : (s : Step) (x y : Pos) → Reaches x y → StepReaches s x → StepReaches s y
+reaches-on step.Nothing x y r u = tt
+reaches-on step.Passed x y r u = tt
+reaches-on (step.Given f) x y r u = reaches-through (place_of f).0 x y r u
+
+-- what may be sought from x on may be sought from each later position on
+pub may-later : (ahead : Pos → Type 0) (l : Look) (x y : Pos) → Reaches x y → MaySeek ahead l x → MaySeek ahead l y
+may-later ahead l x y r may z u from = may z (reaches-through x y z u r) from

@@ -1,0 +1,103 @@
+-- How a stream and what is held of it go together over a home and a store.
+use Rattle.std.specs.Prelude.{◌≡◌, ◌⊎◌, ℕ, zero, suc, ⊤, Option, Some, None, Result, Ok, Err}
+use Rattle.rc_position.specs.declared.positions.Pos.{Pos}
+use Rattle.rc_mutation.specs.declared.fragments.Frag.{Frag}
+use Rattle.rc_stream.specs.declared.holding.Look.{Look}
+use Rattle.rc_stream.specs.declared.holding.Look.TheVariants as look
+use Rattle.rc_stream.specs.declared.holding.Step.{Step}
+use Rattle.rc_stream.specs.declared.holding.Step.TheVariants as step
+use Rattle.rc_stream.specs.Places.{Reaches}
+use Rattle.rc_stream.specs.Stream.{Stream, first_upto, sought, took}
+use Rattle.rc_stream.specs.declared.streams.StreamErr.{StreamErr}
+use Rattle.rc_stream.specs.declared.holding.Held.{Held}
+use Rattle.rc_stream.specs.Merging.{merged}
+use Rattle.rc_stream.specs.Holding.{Fits, IsFrom, StepReaches, whole}
+
+-- a home and a store are as they were, or as a call made them
+abbrev pub Once : {H W : Type 0} → (H → W → H → W → Type 0) → H → W → H → W → Type 0
+Once {H} {W} moves h w g v = ((h ≡ g) × (w ≡ v)) ⊎ moves h w g v
+
+-- each position from x on that is not before what was taken is ahead of the stream
+abbrev pub MaySeek : (Pos → Type 0) → Look → Pos → Type 0
+MaySeek ahead l x = (y : Pos) → Reaches x y → IsFrom l y → ahead y
+
+-- what was looked at, after a fragment was taken from the stream, if one was
+abbrev pub holds : Option Frag → Look → Look
+holds None l = l
+holds (Some f) look.Open = look.Next f
+holds (Some f) (look.Over z) = look.Past z f
+holds (Some f) (look.Next g) = look.Next f
+holds (Some f) (look.Past z g) = look.Past z f
+
+-- a part stands for one of these streams; with what is held of it put back before it, that is this whole stream
+pub record Holds (seen : Stream → Type 0) (h : Held) (all : Stream) : Type 0 where
+  pub stream : Stream
+  pub stands : seen stream
+  pub fits : Fits h stream
+  pub same : all ≡ whole h stream
+
+-- two parts, each with what is held of it, stand for streams that merge to this one
+pub record HoldBoth (seen : Stream → Type 0) (h : Held) (seen' : Stream → Type 0) (h' : Held) (both : Stream) : Type 0 where
+  pub ours : Stream
+  pub theirs : Stream
+  pub holds_ours : Holds seen h ours
+  pub holds_theirs : Holds seen' h' theirs
+  pub joins : both ≡ merged ours theirs
+
+-- what a step makes of the stream of a merge: nothing stands up to x; a change was passed over; or the first was taken, which stands there
+abbrev pub StepSays : Step → Pos → Stream → Stream → Type 0
+StepSays step.Nothing x s now = (now ≡ s) × (first_upto x s.left ≡ None)
+StepSays step.Passed x s now = now ≡ s
+StepSays (step.Given f) x s now = (first_upto x s.left ≡ Some f) × (now ≡ took (Some f) s)
+
+-- a step of one of two kinds
+abbrev pub Either : {H W : Type 0} → (P Q : H → W → H → W → Type 0) → H → W → H → W → Type 0
+Either P Q h w g v = P h w g v ⊎ Q h w g v
+
+-- so many calls, one after another
+abbrev pub Moves : {H W : Type 0} → (H → W → H → W → Type 0) → ℕ → H → W → H → W → Type 0
+Moves moves zero h w g v = (h ≡ g) × (w ≡ v)
+Moves {H} {W} moves (suc n) h w g v = (k : H) × (u : W) × moves h w k u × Moves moves n k u g v
+
+-- what any number of calls of two parts may make of a home and a store
+abbrev pub Moved : {H W : Type 0} → (P Q : H → W → H → W → Type 0) → H → W → H → W → Type 0
+Moved P Q h w g v = (n : ℕ) × Moves (Either P Q) n h w g v
+
+-- what a step leaves of the stream of a merge, where this holds of what is left; a refused one leaves it as it was
+abbrev pub StepLeaves : Result Step StreamErr → Pos → Stream → (Stream → Type 0) → Type 0
+StepLeaves (Ok step.Nothing) x s now = now s × (first_upto x s.left ≡ None)
+StepLeaves (Ok step.Passed) x s now = now s
+StepLeaves (Ok (step.Given f)) x s now = now (took (Some f) s) × (first_upto x s.left ≡ Some f)
+StepLeaves (Err e) x s now = now s
+
+-- what calls of one part may make of home and store leaves another one standing
+abbrev pub Keeps : {H W X : Type 0} → (H → W → H → W → Type 0) → (X → H → W → Type 0) → Type 0
+Keeps {H} {W} {X} moves stands = (t : X) (h : H) (w : W) (g : H) (v : W) → moves h w g v → stands t h w → stands t g v
+
+-- what calls of one part may make of home and store leaves each stream that another one stands for
+abbrev pub KeepsSeen : {H W X : Type 0} → (H → W → H → W → Type 0) → (X → H → W → Stream → Type 0) → Type 0
+KeepsSeen {H} {W} {X} moves seen = (t : X) (s : Stream) (h : H) (w : W) (g : H) (v : W) → moves h w g v → seen t h w s → seen t g v s
+
+-- x is not before the fragment that a step gave, if it gave one; any x where it was refused
+abbrev pub RoundReaches : Result Step StreamErr → Pos → Type 0
+RoundReaches (Ok s) x = StepReaches s x
+RoundReaches (Err e) x = ⊤
+
+-- of a stream nothing was taken, or its first alone, which stands at x or before it, where this holds of what is left
+abbrev pub AskedUpto : Pos → Stream → (Stream → Type 0) → Type 0
+AskedUpto x s now = now s ⊎ ((f : Frag) × (first_upto x s.left ≡ Some f) × now (took (Some f) s))
+
+-- two parts, each with what is held of it, stand for streams that merge to this one, or to one that a seek that is due makes this one
+abbrev pub SoughtBoth : (Stream → Type 0) → Held → (Stream → Type 0) → Held → Option Pos → Stream → Type 0
+SoughtBoth seen h seen' h' None s = HoldBoth seen h seen' h' s
+SoughtBoth seen h seen' h' (Some x) s = (t : Stream) × HoldBoth seen h seen' h' t × (s ≡ sought x t)
+
+-- x is ahead of both parts, or not before the seek that is due
+abbrev pub AheadOfBoth : (Pos → Type 0) → Look → (Pos → Type 0) → Look → Option Pos → Pos → Type 0
+AheadOfBoth ahead l ahead' l' None x = MaySeek ahead l x × MaySeek ahead' l' x
+AheadOfBoth ahead l ahead' l' (Some y) x = Reaches y x
+
+-- both parts may be sought to where a seek is due
+abbrev pub IsDueAhead : (Pos → Type 0) → Look → (Pos → Type 0) → Look → Option Pos → Type 0
+IsDueAhead ahead l ahead' l' None = ⊤
+IsDueAhead ahead l ahead' l' (Some x) = MaySeek ahead l x × MaySeek ahead' l' x
