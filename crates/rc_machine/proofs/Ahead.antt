@@ -10,7 +10,7 @@ use Rattle.std.specs.FinMap as finite
 use Rattle.std.specs.FinMap.{find, put, is_sorted, nat_cmp-IsAntisymmetric}
 use Rattle.std.specs.FinMap.Entries.{below_all, by_order}
 use Rattle.std.proofs.lemmas.Bool.Decides.{nat_tests}
-use Rattle.std.proofs.lemmas.List.{length-append, map-append}
+use Rattle.std.proofs.lemmas.List.{length-append, length-map, map-append}
 use Rattle.std.proofs.lemmas.List.Elements.{All-append, All-cons, All-head, All-tail}
 use Rattle.std.proofs.Math.ListN.{get_or-append}
 use Rattle.std.proofs.Math.Seq.{get_or-append_seam}
@@ -23,7 +23,7 @@ use Rattle.rc_tfile.specs.declared.info.TableInfo.{TableInfo}
 use Rattle.rc_tfile.specs.Before.{text}
 use Rattle.rc_tfile.specs.Info.{info_of}
 use Rattle.rc_tfile.specs.Stored.{with_file}
-use Rattle.rc_tfile.specs.TableText.{table}
+use Rattle.rc_tfile.specs.TableText.{table, IsTable}
 use Rattle.rc_machine.specs.Steps.{Table, AreTables, IsKept, numbers, after, next_number, last_number}
 use Rattle.rc_machine.specs.Stands.{AreInfos}
 use Rattle.rc_machine.specs.Storing.{IsNextNumber}
@@ -148,20 +148,20 @@ get_new files n bytes =
     ∙ ap (λ b. cond b (Some bytes) (finite.get files n)) ((eq_by_cmp_equiv nat_cmp_total).refl n)
 
 kept_more : (files : Files) (schema : Lists) (n : ℕ) (bytes : List ℕ) (tables : List Table) → finite.get files n ≡ None → All (IsKept files schema) tables → All (IsKept (finite.insert files n bytes) schema) tables
-kept_more files schema n bytes tables none all = λ k d l. (let h = all k d l in (get_other files n _ bytes _ none h.0, h.1))
+kept_more files schema n bytes tables none all = λ k d l. (let h = all k d l in (h.0, get_other files n _ bytes h.0 none h.1, h.2, h.3))
 
 -- one more table, of the next number
-pub tables_more : (files : Option Files) (schema : Lists) (tables : List Table) (n : ℕ) (parts : List Partition) → AreTables files schema tables → n ≡ next_number tables → All (λ p. IsMutation p.change) parts
+pub tables_more : (files : Option Files) (schema : Lists) (tables : List Table) (n : ℕ) (parts : List Partition) → AreTables files schema tables → n ≡ next_number tables → IsTable (text (table schema parts)) schema parts → All (λ p. IsMutation p.change) parts
     → AreTables (with_file files n (text (table schema parts))) schema (tables ++ (n, parts) ∷ [])
-tables_more None schema tables n parts are e whole =
+tables_more None schema tables n parts are e is whole =
     subst IsStrictlyIncreasing (sym (map-append (λ (t : Table). t.0) tables ((n, parts) ∷ []))) (increasing_more (numbers tables) n are e)
-tables_more (Some files) schema tables n parts are e whole =
+tables_more (Some files) schema tables n parts are e is whole =
     let bytes = text (table schema parts) in
     let next : n ≡ after 0 (finite.keys files) = e ∙ ap (after 0) are.0 in
     let none = no_file_next files n next in (
       map-append (λ (t : Table). t.0) tables ((n, parts) ∷ []) ∙ ap (λ ns. ns ++ n ∷ []) are.0 ∙ sym (keys_next files n bytes next),
       All-append (IsKept (finite.insert files n bytes) schema) tables ((n, parts) ∷ []) (kept_more files schema n bytes tables none are.1)
-          (All-cons (IsKept (finite.insert files n bytes) schema) (n, parts) [] (get_new files n bytes, whole) (λ k d l. absurd (omega arith))),
+          (All-cons (IsKept (finite.insert files n bytes) schema) (n, parts) [] (bytes, get_new files n bytes, is, whole) (λ k d l. absurd (omega arith))),
     )
 
 -- ---- what is known of tables
@@ -186,23 +186,30 @@ infos_more (Some files) files' schema tables infos n bytes parts h e =
 
 -- ---- the number of the next table
 
-get_none : {X : Type 0} (xs : List X) (k : ℕ) (x : X) → length xs ≤ k → Some x ≡ slice_get xs k → ⊥
-get_none [] k x h e = absurd (cc)
-get_none (y ∷ ys) zero x h e = absurd (omega (arith, h))
-get_none (y ∷ ys) (suc k) x h e = get_none ys k x (omega (arith, h)) e
-
 -- one more than the last of numbers is one more than the number that stands last
-after_get : {X : Type 0} (f : X → ℕ) (a : ℕ) (xs : List X) (k : ℕ) (x : X) → suc k ≡ length xs → Some x ≡ slice_get xs k → after a (map f xs) ≡ f x + 1
-after_get f a [] k x e h = absurd (omega (arith, e))
-after_get f a (y ∷ []) zero x e h = ap (λ (o : Option _). unwrap_or (option_map (λ z. f z + 1) o) 0) (sym h)
-after_get f a (y ∷ []) (suc k) x e h = absurd (omega (arith, e))
-after_get f a (y ∷ z ∷ zs) zero x e h = absurd (omega (arith, e))
-after_get f a (y ∷ z ∷ zs) (suc k) x e h = after_get f (f y) (z ∷ zs) k x (omega (arith, e)) h
+after_get : (a : ℕ) (ns : List ℕ) (k n : ℕ) → suc k ≡ length ns → Some n ≡ slice_get ns k → after a ns ≡ n + 1
+after_get a [] k n e h = absurd (omega (arith, e))
+after_get a (y ∷ []) zero n e h = ap (λ (o : Option ℕ). unwrap_or (option_map (λ z. z + 1) o) 0) (sym h)
+after_get a (y ∷ []) (suc k) n e h = absurd (omega (arith, e))
+after_get a (y ∷ z ∷ zs) zero n e h = absurd (omega (arith, e))
+after_get a (y ∷ z ∷ zs) (suc k) n e h = after_get y (z ∷ zs) k n (omega (arith, e)) h
 
-last_info : (infos : List TableInfo) (info : TableInfo) → Some info ≡ slice_get infos (length infos - 1) → after 0 (map (λ (i : TableInfo). i.number) infos) ≡ info.number + 1
-last_info [] info h = absurd (cc)
-last_info (i ∷ is) info h = after_get (λ (i : TableInfo). i.number) 0 (i ∷ is) (length (i ∷ is) - 1) info (omega arith) h
+get_some : (ns : List ℕ) (k : ℕ) → k < length ns → None ≡ slice_get ns k → ⊥
+get_some [] k l h = absurd (omega (arith, l))
+get_some (n ∷ ns) zero l h = absurd (cc)
+get_some (n ∷ ns) (suc k) l h = get_some ns k (omega (arith, l)) h
 
-pub number_after : (infos : List TableInfo) (info : TableInfo) (r : Option ℕ) → Some info ≡ slice_get infos (length infos - 1) → SomeIff r (info.number + 1 < 2 ^ 32) (info.number + 1) → IsNextNumber infos r
-number_after infos info None h is = (let last = last_info infos info h in omega (arith, last, is))
-number_after infos info (Some n) h is = (let last = last_info infos info h in (is.1 ∙ sym last, omega (arith, is.0, is.1)))
+abbrev numbers_in : List TableInfo → List ℕ
+numbers_in infos = map (λ (i : TableInfo). i.number) infos
+
+last_number_of : (infos : List TableInfo) (n : ℕ) → Some n ≡ slice_get (numbers_in infos) (length infos - 1) → after 0 (numbers_in infos) ≡ n + 1
+last_number_of [] n h = absurd (cc)
+last_number_of (i ∷ is) n h = after_get 0 (numbers_in (i ∷ is)) (length (i ∷ is) - 1) n (omega (arith, length-map (i ∷ is) (λ (i : TableInfo). i.number))) h
+
+pub number_after : (infos : List TableInfo) (n : ℕ) (r : Option ℕ) → Some n ≡ slice_get (numbers_in infos) (length infos - 1) → SomeIff r (n + 1 < 2 ^ 32) (n + 1) → IsNextNumber infos r
+number_after infos n None h is = (let last = last_number_of infos n h in omega (arith, last, is))
+number_after infos n (Some next) h is = (let last = last_number_of infos n h in (is.1 ∙ sym last, omega (arith, is.0, is.1)))
+
+pub number_first : (infos : List TableInfo) → None ≡ slice_get (numbers_in infos) (length infos - 1) → IsNextNumber infos (Some 1)
+number_first [] h = (refl, omega arith)
+number_first (i ∷ is) h = absurd (get_some (numbers_in (i ∷ is)) (length (i ∷ is) - 1) (omega (arith, length-map (i ∷ is) (λ (i : TableInfo). i.number))) h)

@@ -3,6 +3,7 @@ pub mod Keyed
 pub mod Numbers
 pub mod Listed
 pub mod Fixed
+pub mod Held
 pub mod Standing
 pub mod Ahead
 pub mod Tabled

@@ -18,7 +18,7 @@ use Rattle.rc_mutation.specs.declared.mutations.Write.{Write}
 use Rattle.rc_mutation.specs.Source.{IsJoinOf}
 use Rattle.rc_mutation.specs.SourceLaws.{IsJoinOf-first, IsJoinOf-swap}
 use Rattle.rc_machine.specs.Steps.{changes_to}
-use Rattle.rc_machine.specs.Index.{changes_at, found, numbers_of, IsIndexOf}
+use Rattle.rc_machine.specs.Index.{changes_numbered, found, numbers_of, IsIndexOf}
 use Rattle.rc_machine.proofs.Keyed.{key_is}
 
 -- two joined parts are joined by joining what they join to
@@ -30,30 +30,30 @@ joined_halves first rest both xs ys j k l =
 at_number : (log : List Write) (n : ℕ) (d : Write) → n < length log → option_map (λ (w : Write). w.change) (slice_get log n) ≡ Some (get_or log n d).change
 at_number log n d h = ap (option_map (λ (w : Write). w.change)) (slice_get-get_or log n d h)
 
-pub changes_at-one : (log : List Write) (n : ℕ) (w : Write) → n < length log → w ≡ get_or log n w → changes_at log (n ∷ []) ≡ w.change ∷ []
-changes_at-one log n w h there = ap (λ o. cons_option o []) (at_number log n w h) ∙ ap (λ (v : Write). v.change ∷ []) (sym there)
+pub changes_numbered-one : (log : List Write) (n : ℕ) (w : Write) → n < length log → w ≡ get_or log n w → changes_numbered log (n ∷ []) ≡ w.change ∷ []
+changes_numbered-one log n w h there = ap (λ o. cons_option o []) (at_number log n w h) ∙ ap (λ (v : Write). v.change ∷ []) (sym there)
 
-pub changes_at-append : (log : List Write) (ns ms : List ℕ) → changes_at log (ns ++ ms) ≡ changes_at log ns ++ changes_at log ms
-changes_at-append log ns ms = filter_map-append (λ n. option_map (λ (w : Write). w.change) (slice_get log n)) ns ms
+pub changes_numbered-append : (log : List Write) (ns ms : List ℕ) → changes_numbered log (ns ++ ms) ≡ changes_numbered log ns ++ changes_numbered log ms
+changes_numbered-append log ns ms = filter_map-append (λ n. option_map (λ (w : Write). w.change) (slice_get log n)) ns ms
 
 All-tail : (p : ℕ → Type 0) (n : ℕ) (ns : List ℕ) → All p (n ∷ ns) → All p ns
 All-tail p n ns h = λ k d l. h (suc k) d (omega arith)
 
 -- one write more changes nothing at the numbers before
-pub changes_at-more : (log : List Write) (w : Write) (ns : List ℕ) → All (λ n. n < length log) ns → changes_at (log ++ w ∷ []) ns ≡ changes_at log ns
-changes_at-more log w [] h = refl
-changes_at-more log w (n ∷ ns) h =
+pub changes_numbered-more : (log : List Write) (w : Write) (ns : List ℕ) → All (λ n. n < length log) ns → changes_numbered (log ++ w ∷ []) ns ≡ changes_numbered log ns
+changes_numbered-more log w [] h = refl
+changes_numbered-more log w (n ∷ ns) h =
     let within : n < length log = h 0 0 (omega arith) in
     let longer : n < length (log ++ w ∷ []) = omega (arith, length-append log (w ∷ [])) in
     let same : option_map (λ (v : Write). v.change) (slice_get (log ++ w ∷ []) n) ≡ option_map (λ (v : Write). v.change) (slice_get log n) =
     at_number (log ++ w ∷ []) n w longer ∙ ap (λ (v : Write). Some v.change) (get_or-append log (w ∷ []) w n within) ∙ sym (at_number log n w within) in
-    ap (λ o. cons_option o (changes_at (log ++ w ∷ []) ns)) same ∙ ap (cons_option (option_map (λ (v : Write). v.change) (slice_get log n))) (changes_at-more log w ns (All-tail (λ n. n < length log) n ns h))
+    ap (λ o. cons_option o (changes_numbered (log ++ w ∷ []) ns)) same ∙ ap (cons_option (option_map (λ (v : Write). v.change) (slice_get log n))) (changes_numbered-more log w ns (All-tail (λ n. n < length log) n ns h))
 
 -- the last write stands at the number of those before
-changes_at-last : (log : List Write) (w : Write) → changes_at (log ++ w ∷ []) (length log ∷ []) ≡ w.change ∷ []
-changes_at-last log w =
+changes_numbered-last : (log : List Write) (w : Write) → changes_numbered (log ++ w ∷ []) (length log ∷ []) ≡ w.change ∷ []
+changes_numbered-last log w =
     let longer : length log < length (log ++ w ∷ []) = omega (arith, length-append log (w ∷ [])) in
-    changes_at-one (log ++ w ∷ []) (length log) w longer (sym (get_or-append_seam log w [] w))
+    changes_numbered-one (log ++ w ∷ []) (length log) w longer (sym (get_or-append_seam log w [] w))
 
 changes_to-one : (key : List ℕ) (w : Write) → changes_to key (w ∷ []) ≡ cond (eq_by_cmp bytes_cmp w.key key) (w.change ∷ []) []
 changes_to-one key w = elim (eq_by_cmp bytes_cmp w.key key) as (λ b. list_map (λ (v : Write). v.change) (cond b (w ∷ []) []) ≡ cond b (w.change ∷ []) []) [ true ↦ refl | false ↦ refl ]
@@ -74,12 +74,12 @@ all_numbered log w ns b h =
       | false ↦ λ k d l. absurd (omega arith)
     ])
 
-all_changes : (key : List ℕ) (log : List Write) (w : Write) (ns : List ℕ) (b : Bool) → All (λ n. n < length log) ns → changes_at log ns ≡ changes_to key log
-    → changes_at (log ++ w ∷ []) (ns ++ cond b (length log ∷ []) []) ≡ changes_to key log ++ cond b (w.change ∷ []) []
+all_changes : (key : List ℕ) (log : List Write) (w : Write) (ns : List ℕ) (b : Bool) → All (λ n. n < length log) ns → changes_numbered log ns ≡ changes_to key log
+    → changes_numbered (log ++ w ∷ []) (ns ++ cond b (length log ∷ []) []) ≡ changes_to key log ++ cond b (w.change ∷ []) []
 all_changes key log w ns true h e =
-    changes_at-append (log ++ w ∷ []) ns (length log ∷ []) ∙ ap (λ ms. ms ++ changes_at (log ++ w ∷ []) (length log ∷ [])) (changes_at-more log w ns h ∙ e) ∙ ap (λ ms. changes_to key log ++ ms) (changes_at-last log w)
+    changes_numbered-append (log ++ w ∷ []) ns (length log ∷ []) ∙ ap (λ ms. ms ++ changes_numbered (log ++ w ∷ []) (length log ∷ [])) (changes_numbered-more log w ns h ∙ e) ∙ ap (λ ms. changes_to key log ++ ms) (changes_numbered-last log w)
 all_changes key log w ns false h e =
-    ap (changes_at (log ++ w ∷ [])) (append-nil ns) ∙ changes_at-more log w ns h ∙ e ∙ sym (append-nil (changes_to key log))
+    ap (changes_numbered (log ++ w ∷ [])) (append-nil ns) ∙ changes_numbered-more log w ns h ∙ e ∙ sym (append-nil (changes_to key log))
 
 -- the numbers at a key after one more
 numbers_more : (index index' : BTreeMap (List ℕ) (Vec ℕ)) (key : List ℕ) (n : ℕ) → ((q : List ℕ) → found index' q ≡ cond (eq_by_cmp bytes_cmp key q) (Some (numbers_of index key ++ n ∷ [])) (found index q))
@@ -116,7 +116,7 @@ index_more log w index index' is put =
     record {
       numbered = λ key. subst (λ ns. All (λ n. n < length (log ++ w ∷ [])) ns) (sym (more key)) (all_numbered log w (numbers_of index key) (eq_by_cmp bytes_cmp w.key key) (is.numbered key));
       changes = λ key.
-          ap (changes_at (log ++ w ∷ [])) (more key) ∙ all_changes key log w (numbers_of index key) (eq_by_cmp bytes_cmp w.key key) (is.numbered key) (is.changes key) ∙ sym (changes_to-more key log w);
+          ap (changes_numbered (log ++ w ∷ [])) (more key) ∙ all_changes key log w (numbers_of index key) (eq_by_cmp bytes_cmp w.key key) (is.numbered key) (is.changes key) ∙ sym (changes_to-more key log w);
       listed = λ key. listed_more log w index index' (numbers_of index w.key ++ length log ∷ []) key (is.listed key) (put key);
     }
 
@@ -126,7 +126,7 @@ index_same log index index' is same =
     let numbers : (q : List ℕ) → numbers_of index' q ≡ numbers_of index q = λ q. ap (λ (o : Option (List ℕ)). unwrap_or o []) (same q) in
     record {
       numbered = λ key. subst (λ ns. All (λ n. n < length log) ns) (sym (numbers key)) (is.numbered key);
-      changes = λ key. ap (changes_at log) (numbers key) ∙ is.changes key;
+      changes = λ key. ap (changes_numbered log) (numbers key) ∙ is.changes key;
       listed = λ key. ap is_some (same key) ∙ is.listed key;
     }
 
@@ -137,23 +137,23 @@ popped log w longer shorter n more count less =
     less ∙ ap (λ n. take n longer) all ∙ ap (take (length log)) more ∙ take-append_seam log (w ∷ [])
 
 -- no numbers
-pub joined_none : (log : List Write) (m : Mutation) (ns : List ℕ) → length ns < 1 → IsJoinOf m [] → IsJoinOf m (changes_at log ns)
+pub joined_none : (log : List Write) (m : Mutation) (ns : List ℕ) → length ns < 1 → IsJoinOf m [] → IsJoinOf m (changes_numbered log ns)
 joined_none log m [] h j = j
 joined_none log m (n ∷ ns) h j = absurd (omega arith)
 
 -- one number
 pub joined_one : (log : List Write) (w : Write) (m : Mutation) (ns : List ℕ) → 1 ≤ length ns → length ns < 2 → All (λ n. n < length log) ns → w ≡ get_or log (get_or ns 0 0) w
-    → IsJoinOf m ((get_or log (get_or ns 0 0) w).change ∷ []) → IsJoinOf m (changes_at log ns)
+    → IsJoinOf m ((get_or log (get_or ns 0 0) w).change ∷ []) → IsJoinOf m (changes_numbered log ns)
 joined_one log w m [] g h all there j = absurd (omega arith)
 joined_one log w m (n ∷ []) g h all there j =
-    subst (IsJoinOf m) (ap (λ (v : Write). v.change ∷ []) (sym there) ∙ sym (changes_at-one log n w (all 0 0 (omega arith)) there)) j
+    subst (IsJoinOf m) (ap (λ (v : Write). v.change ∷ []) (sym there) ∙ sym (changes_numbered-one log n w (all 0 0 (omega arith)) there)) j
 joined_one log w m (n ∷ k ∷ ns) g h all there j = absurd (omega arith)
 
 -- the numbers in two parts
-pub joined_parts : (log : List Write) (first rest both : Mutation) (ns xs ys : List ℕ) → ns ≡ xs ++ ys → IsJoinOf first (changes_at log xs) → IsJoinOf rest (changes_at log ys)
-    → IsJoinOf both (first ∷ rest ∷ []) → IsJoinOf both (changes_at log ns)
+pub joined_parts : (log : List Write) (first rest both : Mutation) (ns xs ys : List ℕ) → ns ≡ xs ++ ys → IsJoinOf first (changes_numbered log xs) → IsJoinOf rest (changes_numbered log ys)
+    → IsJoinOf both (first ∷ rest ∷ []) → IsJoinOf both (changes_numbered log ns)
 joined_parts log first rest both ns xs ys split j k l =
-    subst (IsJoinOf both) (sym (changes_at-append log xs ys) ∙ ap (changes_at log) (sym split)) (joined_halves first rest both (changes_at log xs) (changes_at log ys) j k l)
+    subst (IsJoinOf both) (sym (changes_numbered-append log xs ys) ∙ ap (changes_numbered log) (sym split)) (joined_halves first rest both (changes_numbered log xs) (changes_numbered log ys) j k l)
 
 -- a list is its first part and the rest
 pub split : (ns : List ℕ) (n : ℕ) → ns ≡ take n ns ++ take (length ns - n) (drop n ns)

@@ -18,22 +18,21 @@ use Rattle.rc_schema.specs.Lists.{Lists}
 use Rattle.rc_mutation.specs.declared.mutations.Partition.{Partition}
 use Rattle.rc_tfile.specs.declared.info.TableInfo.{TableInfo}
 use Rattle.rc_tfile.specs.Info.{info_of}
-use Rattle.rc_tfile.specs.Before.{text}
 use Rattle.rc_tfile.specs.Checking.{IsContent}
-use Rattle.rc_tfile.specs.TableText.{table, IsTable, IsOtherSchema, FirstDamage}
+use Rattle.rc_tfile.specs.TableText.{IsTable, IsOtherSchema, FirstDamage}
 use Rattle.rc_tfile.specs.Walking.{ChecksTable}
 use Rattle.rc_machine.specs.declared.opening.OpenErr.{OpenErr}
 use Rattle.rc_machine.specs.declared.opening.OpenErr.TheVariants.{Fault, Damaged, OtherSchema, NoMemory}
-use Rattle.rc_machine.specs.Steps.{State, Table, AreTables, IsBad, IsFirstBad, numbers, opened}
+use Rattle.rc_machine.specs.Steps.{State, Table, AreTables, IsKept, IsBad, IsFirstBad, numbers, opened}
 use Rattle.rc_machine.specs.Stands.{Keeping, Stands, AreInfos}
-use Rattle.rc_machine.specs.Opening.{IsWhole, AreWhole, IsChecked, IsBadFile, IsRefused}
+use Rattle.rc_machine.specs.Opening.{IsChecked, IsBadFile, IsRefused}
 use Rattle.rc_machine.proofs.Ahead.{first_T, second_T, less_of, apart_under, not_none}
 
 -- the first files are tables, and this is known of them
 pub record Done (files : Option Files) (schema : Lists) (done : List ℕ) (known : List TableInfo) : Type 0 where
   pub tables : List Table
   pub numbered : numbers tables ≡ done
-  pub kept : IfSome files (λ told. All (IsWhole told schema) tables)
+  pub kept : IfSome files (λ told. All (IsKept told schema) tables)
   pub infos : AreInfos files schema tables known
 
 pub done_none : (files : Option Files) (schema : Lists) → Done files schema [] []
@@ -50,14 +49,14 @@ done_more None schema done infos n info is d = record {
 done_more (Some told) schema done infos n info is d = record {
   tables = d.tables ++ (n, is.0) ∷ [];
   numbered = map-append (λ (t : Table). t.0) d.tables ((n, is.0) ∷ []) ∙ ap (λ ns. ns ++ n ∷ []) d.numbered;
-  kept = All-append (IsWhole told schema) d.tables ((n, is.0) ∷ []) d.kept (All-cons (IsWhole told schema) (n, is.0) [] is.1 (λ k d l. absurd (omega arith)));
+  kept = All-append (IsKept told schema) d.tables ((n, is.0) ∷ []) d.kept (All-cons (IsKept told schema) (n, is.0) [] is.1 (λ k d l. absurd (omega arith)));
   infos = (λ j. d.infos j ++ is.2 j ∷ []) ∙ sym (map-append (λ (t : Table). info_of t.0 schema t.1) d.tables ((n, is.0) ∷ []));
 }
 
 -- all files are tables
-pub done_all : (files : Option Files) (schema : Lists) (all : List ℕ) (infos : List TableInfo) → AreNumbers files all → Done files schema all infos → (tables : List Table) × AreTables files schema tables × AreInfos files schema tables infos × AreWhole files schema tables
-done_all None schema all infos h d = (d.tables, subst IsStrictlyIncreasing (sym d.numbered) h, d.infos, tt)
-done_all (Some told) schema all infos h d = (d.tables, (d.numbered ∙ h.1, (λ k e l. (d.kept k e l).0)), d.infos, (λ k e l. (d.kept k e l).1))
+pub done_all : (files : Option Files) (schema : Lists) (all : List ℕ) (infos : List TableInfo) → AreNumbers files all → Done files schema all infos → (tables : List Table) × AreTables files schema tables × AreInfos files schema tables infos
+done_all None schema all infos h d = (d.tables, subst IsStrictlyIncreasing (sym d.numbered) h, d.infos)
+done_all (Some told) schema all infos h d = (d.tables, (d.numbered ∙ h.1, d.kept), d.infos)
 
 or_right : (a b : Bool) → b ≡ true → (a || b) ≡ true
 or_right true b h = refl
@@ -86,8 +85,8 @@ tail_is : (k q : ℕ) (ks qs : List ℕ) → ◌≡◌ {A = List ℕ} (k ∷ ks)
 tail_is k q ks qs e = cc
 
 -- a file of a lower number is one of the tables so far
-earlier : (told : Files) (schema : Lists) (tables : List Table) (es : List (ℕ × List ℕ)) (n k : ℕ) (rest more : List ℕ) → All (IsWhole told schema) tables → T (is_sorted nat_cmp es)
-    → map (λ (e : ℕ × List ℕ). e.0) es ≡ numbers tables ++ n ∷ rest → k < n → find nat_cmp k es ≡ Some more → (parts : List Partition) × IsWhole told schema (k, parts)
+earlier : (told : Files) (schema : Lists) (tables : List Table) (es : List (ℕ × List ℕ)) (n k : ℕ) (rest more : List ℕ) → All (IsKept told schema) tables → T (is_sorted nat_cmp es)
+    → map (λ (e : ℕ × List ℕ). e.0) es ≡ numbers tables ++ n ∷ rest → k < n → find nat_cmp k es ≡ Some more → (parts : List Partition) × IsKept told schema (k, parts)
 earlier told schema [] [] n k rest more kept up e l found = absurd (cc)
 earlier told schema [] (f ∷ fs) n k rest more kept up e l found =
     let here : f.0 ≡ n = head_is f.0 n _ rest e in
@@ -96,9 +95,9 @@ earlier told schema [] (f ∷ fs) n k rest more kept up e l found =
 earlier told schema (t ∷ ts) [] n k rest more kept up e l found = absurd (cc)
 earlier told schema (t ∷ ts) (f ∷ fs) n k rest more kept up e l found =
     let here : f.0 ≡ t.0 = head_is f.0 t.0 _ _ e in
-    elim (eq_by_cmp nat_cmp k f.0) as (λ b. eq_by_cmp nat_cmp k f.0 ≡ b → cond b (Some f.1) (find nat_cmp k fs) ≡ Some more → (parts : List Partition) × IsWhole told schema (k, parts)) [
-      | true ↦ λ b _. (t.1, subst (λ j. IsWhole told schema (j, t.1)) (sym (same_column k f.0 b ∙ here)) (All-head (IsWhole told schema) t ts kept))
-      | false ↦ λ b g. earlier told schema ts fs n k rest more (All-tail (IsWhole told schema) t ts kept) (second_T (below_all nat_cmp f.0 fs) (is_sorted nat_cmp fs) up) (tail_is f.0 t.0 _ _ e) l g
+    elim (eq_by_cmp nat_cmp k f.0) as (λ b. eq_by_cmp nat_cmp k f.0 ≡ b → cond b (Some f.1) (find nat_cmp k fs) ≡ Some more → (parts : List Partition) × IsKept told schema (k, parts)) [
+      | true ↦ λ b _. (t.1, subst (λ j. IsKept told schema (j, t.1)) (sym (same_column k f.0 b ∙ here)) (All-head (IsKept told schema) t ts kept))
+      | false ↦ λ b g. earlier told schema ts fs n k rest more (All-tail (IsKept told schema) t ts kept) (second_T (below_all nat_cmp f.0 fs) (is_sorted nat_cmp fs) up) (tail_is f.0 t.0 _ _ e) l g
     ] refl found
 
 same_bytes : (bytes more : List ℕ) (o : Option (List ℕ)) → o ≡ Some bytes → o ≡ Some more → bytes ≡ more
@@ -113,7 +112,7 @@ first_bad told schema all done rest infos n damage h e d bytes here bad = record
   earlier = λ k more l found.
       let keys : map (λ (e : ℕ × List ℕ). e.0) (finite.entries told) ≡ numbers d.tables ++ n ∷ rest = sym h.1 ∙ e ∙ ap (λ ns. ns ++ n ∷ rest) (sym d.numbered) in
       let t = earlier told schema d.tables (finite.entries told) n k rest more d.kept (finite.entries_sorted told) keys l (sym (finite.get-entries told k) ∙ found) in
-      (t.0, record { spelled = sym (same_bytes (text (table schema t.0)) more (finite.get told k) t.1.0.0 found); fit = t.1.1 });
+      (t.0, subst (λ bytes. IsTable bytes schema t.0) (same_bytes t.1.0 more (finite.get told k) t.1.1 found) t.1.2);
 }
 
 -- the first file that is no table
@@ -167,8 +166,8 @@ pub is_checked : (files : Option Files) (schema : Lists) (n : ℕ) (info : Table
 is_checked None schema n info there h = refl
 is_checked (Some told) schema n info there h =
     let content = content_of (finite.get told n) there in
-    let checked = h content.0 content.1 in
-    (checked.0, ((content.1 ∙ ap Some checked.2.spelled, checked.1), checked.2.fit), numbered n info (info_of n schema checked.0) checked.3)
+    let table = h content.0 content.1 in
+    (table.0, (content.0, content.1, table.2, table.1), numbered n info (info_of n schema table.0) table.3)
 
 -- a file that was refused
 pub is_damaged : (files : Option Files) (schema : Lists) (n offset : ℕ) → IsFile files n → ((bytes : List ℕ) → IsContent files n bytes → FirstDamage bytes schema offset) → IsBadFile files schema n (Damaged n offset)

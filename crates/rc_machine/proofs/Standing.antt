@@ -23,19 +23,20 @@ use Rattle.rc_query.specs.Answer.{answer}
 use Rattle.rc_query.specs.AnswerLaws.{answer-joined}
 use Rattle.rc_tfile.specs.declared.info.TableInfo.{TableInfo}
 use Rattle.rc_tfile.specs.Info.{info_of}
+use Rattle.rc_tables.specs.Tables.{HoldsTables, IsJoinedAt, changes_at}
 use Rattle.rc_lines.specs.Fits.{Fits}
 use Rattle.rc_lines.specs.declared.commands.Command.{Command}
 use Rattle.rc_lines.specs.declared.commands.Command.TheVariants.{Nothing, SetSchema, Put, OpenRead, Read, Close, Flush}
 use Rattle.rc_lines.specs.declared.commands.Reply.{Reply}
 use Rattle.rc_lines.specs.declared.commands.Reply.TheVariants as replies
 use Rattle.rc_lines.specs.declared.commands.Refusal.TheVariants.{NoReader, ReaderInUse, TooManyReaders, ReadFault, Damaged}
-use Rattle.rc_machine.specs.Steps.{State, Table, Steps, Answered, AreTables, numbers, after, next_number, most_readers, last_number, sealing, with_readers, with_sealed, with_write, changes_in, changes_to, changes_of}
+use Rattle.rc_machine.specs.Steps.{State, Table, Steps, Answered, AreTables, numbers, after, next_number, most_readers, last_number, sealing, with_readers, with_sealed, with_write, changes_to, changes_of}
 use Rattle.rc_machine.specs.Stands.{Keeping, Stands, AreInfos}
 use Rattle.rc_machine.specs.Serving.{Takes, Stops, Leaves, TakenAgain}
 use Rattle.rc_machine.specs.Storing.{sealed_all}
 use Rattle.rc_machine.proofs.Places.{Readers, fewer, as_many}
 use Rattle.rc_machine.proofs.Numbers.{joined_halves}
-use Rattle.rc_machine.proofs.Ahead.{numbers_known}
+use Rattle.rc_machine.proofs.Held.{holds}
 
 -- the same with other readers
 abbrev pub reading : Keeping → Readers → Keeping
@@ -160,34 +161,17 @@ answered_with older later key slice lines some sealed both active all changes is
 
 -- what the tables say and the writes that stand in none
 pub answered : (files : Option Files) (k : Keeping) (key : List ℕ) (slice : Slice) (lines : List OutLine) (some : Mutation)
-    → ((schema : Lists) (tables : List Table) → AreTables files schema tables → AreInfos files schema tables k.infos → IfSome files (λ _. IsJoinOf some (flat_map (changes_in key) tables)))
+    → ((schema : Lists) (tables : List Table) → HoldsTables files schema k.infos tables → IsJoinedAt key tables some)
     → ((changes : List Mutation) → IsJoinOf some changes → lines ≡ answer (changes ++ changes_to key (k.sealed ++ k.active)) slice)
     → (m : State) → Stands files k m → Answered m key slice lines
 answered None k key slice lines some said is m s = subst (λ (files : Option Files). IfSome files (λ _. lines ≡ answer (changes_of key m) slice)) (sym s.files) tt
 answered (Some told) k key slice lines some said is m s =
-    let of_tables : IsJoinOf some (flat_map (changes_in key) m.tables) =
-    said m.schema m.tables (subst (λ files. AreTables files m.schema m.tables) s.files s.tables) (subst (λ files. AreInfos files m.schema m.tables k.infos) s.files s.infos) in
+    let joined = said m.schema m.tables (holds told k m s) in
     subst (λ (files : Option Files). IfSome files (λ _. lines ≡ answer (changes_of key m) slice)) (sym s.files)
-    (is (flat_map (changes_in key) m.tables) of_tables ∙ ap (λ ws. answer (flat_map (changes_in key) m.tables ++ changes_to key ws) slice) s.log)
+    (is (changes_at key m.tables) joined.1 ∙ ap (λ ws. answer (changes_at key m.tables ++ changes_to key ws) slice) s.log)
 
 not_none : (n : ℕ) → (suc n == 0) ≡ false
 not_none n = grind (arith, nat_tests)
-
--- of no tables nothing is said
-no_tables : (tables : List Table) → numbers tables ≡ [] → tables ≡ []
-no_tables [] e = refl
-no_tables (t ∷ ts) e = absurd (cc)
-
-no_infos : (infos : List TableInfo) → true ≡ (length infos == 0) → infos ≡ []
-no_infos [] h = refl
-no_infos (i ∷ is) h = absurd (true≢false (h ∙ not_none (length is)))
-
-pub none_said : (files : Option Files) (schema : Lists) (tables : List Table) (infos : List TableInfo) (key : List ℕ) (m : Mutation) → m ≡ record { pt = None; statics = empty_row; rows = []; ranges = [] }
-    → AreInfos files schema tables infos → true ≡ (length infos == 0) → IfSome files (λ _. IsJoinOf m (flat_map (changes_in key) tables))
-none_said None schema tables infos key m is known h = tt
-none_said (Some told) schema tables infos key m is known h =
-    let none : tables ≡ [] = no_tables tables (sym (numbers_known (Some told) schema tables infos known) ∙ ap (map (λ (i : TableInfo). i.number)) (no_infos infos h)) in
-    subst (λ (ts : List Table). IsJoinOf m (flat_map (changes_in key) ts)) (sym none) (subst (λ (m : Mutation). IsJoinOf m []) (sym is) IsJoinOf-none)
 
 -- ---- sealing
 

@@ -13,7 +13,7 @@ use Rattle.rc_mutation.specs.Fragments.{IsParts}
 use Rattle.rc_tfile.specs.declared.info.TableInfo.{TableInfo}
 use Rattle.rc_tfile.specs.Before.{text}
 use Rattle.rc_tfile.specs.Info.{info_of}
-use Rattle.rc_tfile.specs.TableText.{table}
+use Rattle.rc_tfile.specs.TableText.{table, IsTable}
 use Rattle.rc_lines.specs.Fits.{Fits}
 use Rattle.rc_lines.specs.declared.commands.Command.TheVariants.{Put, Flush}
 use Rattle.rc_lines.specs.declared.commands.Reply.{Reply}
@@ -99,6 +99,7 @@ stands_stored : (files files' : Option Files) (k k' : Keeping) (m : State) (n : 
 stands_stored files files' k k' m n i s next =
     let s1 = stands_sealed files k m s in
     let parts = i.parts in
+    let table' : IsTable (text (table m.schema parts)) m.schema parts = subst (λ schema. IsTable (text (table schema parts)) schema parts) (sym s.schema) i.is_table in
     let infos' : AreInfos (with_table m (n, parts)).files m.schema (with_table m (n, parts)).tables (k.infos ++ info_of n k.schema parts ∷ []) =
     subst (λ schema. AreInfos (with_table m (n, parts)).files m.schema (with_table m (n, parts)).tables (k.infos ++ info_of n schema parts ∷ [])) s.schema
     (infos_more m.files (with_table m (n, parts)).files m.schema m.tables k.infos n (text (table m.schema parts)) parts s.infos refl) in
@@ -107,7 +108,7 @@ stands_stored files files' k k' m n i s next =
     subst (λ k. Stands files' k (with_table m (n, parts))) (sym i.keeps) (record {
       schema = s.schema;
       files = (λ j. option_map (λ told. finite.insert told n (text (table (s.schema j) parts))) (s.files j)) ∙ sym i.written;
-      tables = tables_more m.files m.schema m.tables n parts s.tables next i.whole;
+      tables = tables_more m.files m.schema m.tables n parts s.tables next table' i.whole;
       infos = infos';
       stored = omega (arith, count, sealed);
       log = later_writes m (sealed_all k).sealed (sealed_all k).active (sealing m) s1.log sealed;

@@ -13,8 +13,8 @@ use Rattle.rc_mutation.specs.Source.{IsJoinOf, IsMutation}
 use Rattle.rc_machine.specs.Steps.{changes_to}
 
 -- what the writes with these numbers say, in the numbers' order
-abbrev pub changes_at : List Write → List ℕ → List Mutation
-changes_at writes numbers = filter_map (λ n. option_map (λ w. w.change) (slice_get writes n)) numbers
+abbrev pub changes_numbered : List Write → List ℕ → List Mutation
+changes_numbered writes numbers = filter_map (λ n. option_map (λ w. w.change) (slice_get writes n)) numbers
 
 -- the numbers that stand at a key, if any do
 abbrev pub found : BTreeMap (List ℕ) (Vec ℕ) → List ℕ → Option (List ℕ)
@@ -27,7 +27,7 @@ numbers_of index key = unwrap_or (found index key) []
 -- at each key of a write stand the numbers of the partition's writes, in order, and at no other key
 pub record IsIndexOf (writes : List Write) (index : BTreeMap (List ℕ) (Vec ℕ)) : Type 0 where
   pub numbered : (key : List ℕ) → All (λ n. n < length writes) (numbers_of index key)
-  pub changes : (key : List ℕ) → changes_at writes (numbers_of index key) ≡ changes_to key writes
+  pub changes : (key : List ℕ) → changes_numbered writes (numbers_of index key) ≡ changes_to key writes
   pub listed : (key : List ℕ) → is_some (found index key) ≡ list_any (λ w. eq_by_cmp bytes_cmp w.key key) writes
 
 -- a partition says what its writes join to

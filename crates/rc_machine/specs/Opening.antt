@@ -1,18 +1,15 @@
--- What opening a machine, and reading tables, must answer.
+-- What opening a machine must answer.
 use Rattle.std.specs.FinMap as map
-use Rattle.std.specs.Prelude.{◌≡◌, ℕ, ◌≤◌, List, Option, None, Some, Result, IfErr, IfSome, All, ⊤}
+use Rattle.std.specs.Prelude.{◌≡◌, ℕ, ◌≤◌, List, Option, None, Some, Result, IfErr, IfSome, ⊤}
 use Rattle.rc_outside.specs.Files.{Files}
 use Rattle.rc_outside.specs.Faults.{Rose}
 use Rattle.rc_schema.specs.Lists.{Lists}
 use Rattle.rc_mutation.specs.declared.mutations.Partition.{Partition}
 use Rattle.rc_tfile.specs.declared.info.TableInfo.{TableInfo}
 use Rattle.rc_tfile.specs.Info.{info_of}
-use Rattle.rc_tfile.specs.TableText.{table, AllFit}
 use Rattle.rc_machine.specs.declared.opening.OpenErr.{OpenErr}
 use Rattle.rc_machine.specs.declared.opening.OpenErr.TheVariants as open_err
-use Rattle.rc_machine.specs.declared.answers.ReadErr.{ReadErr}
-use Rattle.rc_machine.specs.declared.answers.ReadErr.TheVariants as read_err
-use Rattle.rc_machine.specs.Steps.{Table, IsBad, IsFirstBad, IsKept}
+use Rattle.rc_machine.specs.Steps.{IsBad, IsFirstBad, IsKept}
 
 -- what a refusal says of the folder, where it is told: the first file that is no table of the schema is this one
 abbrev pub IsRefused : Option Files → Lists → OpenErr → Type 0
@@ -21,18 +18,10 @@ IsRefused files schema (open_err.Damaged table offset) = IfSome files (λ told. 
 IsRefused files schema (open_err.OtherSchema table) = IfSome files (λ told. IsFirstBad told schema table None)
 IsRefused files schema open_err.NoMemory = ⊤
 
--- the table's file is there, and each of its items fits
-abbrev pub IsWhole : Files → Lists → Table → Type 0
-IsWhole files schema t = IsKept files schema t × AllFit schema (table schema t.1)
-
--- the tables' items fit, where the folder is told
-abbrev pub AreWhole : Option Files → Lists → List Table → Type 0
-AreWhole files schema tables = IfSome files (λ _. All (λ t. AllFit schema (table schema t.1)) tables)
-
 -- file n is a table of partitions, where the folder is told, and this is known of it
 abbrev pub IsChecked : Option Files → Lists → ℕ → TableInfo → Type 0
 IsChecked None schema n info = info.number ≡ n
-IsChecked (Some files) schema n info = (parts : List Partition) × IsWhole files schema (n, parts) × (info ≡ info_of n schema parts)
+IsChecked (Some files) schema n info = (parts : List Partition) × IsKept files schema (n, parts) × (info ≡ info_of n schema parts)
 
 -- what a refusal says of file n, where the folder is told: it is no table of the schema
 abbrev pub IsBadFile : Option Files → Lists → ℕ → OpenErr → Type 0
@@ -49,13 +38,3 @@ OnFault e P = ⊤
 -- the count of faults does not fall, and rose where a fault is answered
 abbrev pub RisesIfFault : {T : Type 0} → Result T OpenErr → (before now : ℕ) → Type 0
 RisesIfFault result before now = (before ≤ now) × IfErr result (λ e. OnFault e (Rose before now))
-
--- what a refused read says: the count of faults rose, or the folder is not told and a table is not what it was
-abbrev pub IsCaused : Option Files → (before now : ℕ) → ReadErr → Type 0
-IsCaused files before now read_err.Fault = Rose before now
-IsCaused files before now (read_err.Damaged file offset) = files ≡ None
-IsCaused files before now read_err.NoMemory = ⊤
-
--- the count of faults does not fall, and a refusal has its cause
-abbrev pub Caused : {T : Type 0} → Result T ReadErr → Option Files → (before now : ℕ) → Type 0
-Caused result files before now = (before ≤ now) × IfErr result (IsCaused files before now)

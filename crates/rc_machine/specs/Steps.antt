@@ -1,7 +1,7 @@
 -- The machine without a cache, over a folder of tables: its state, and one step.
 use Rattle.std.specs.Prelude.{◌≡◌, ◌≢◌, ℕ, ◌+◌, ◌-◌, ◌<◌, ◌==◌, ◌⊎◌, Bool, false, not, nat_lt, List, [], ◌∷◌, ◌++◌, length, take, drop, map as list_map, Option, Some, None, IfSome, MatchBool, MatchOption, option_map, All, if◌then◌else◌}
 use Rattle.std.specs.Ordering.{eq_by_cmp}
-use Rattle.std.specs.List.{filter, flat_map}
+use Rattle.std.specs.List.{filter}
 use Rattle.std.specs.List.Sorted.{IsStrictlyIncreasing}
 use Rattle.std.specs.Map.{lookup, set_value}
 use Rattle.std.specs.FinMap as map
@@ -18,6 +18,7 @@ use Rattle.rc_query.specs.declared.lines.OutLine.{OutLine}
 use Rattle.rc_query.specs.Answer.{answer}
 use Rattle.rc_tfile.specs.Before.{text}
 use Rattle.rc_tfile.specs.TableText.{table, IsTable, IsOtherSchema, FirstDamage}
+use Rattle.rc_tables.specs.Tables.{changes_at}
 use Rattle.rc_lines.specs.declared.commands.Command.{Command}
 use Rattle.rc_lines.specs.declared.commands.Command.TheVariants.{Nothing, SetSchema, Put, OpenRead, Read, Close, Flush, FlushBegin, FlushStep, Evict, Compact, Clean, Stats}
 use Rattle.rc_lines.specs.declared.commands.Refusal.{Refusal}
@@ -45,9 +46,9 @@ pub record State : Type 0 where
 abbrev pub numbers : List Table → List ℕ
 numbers tables = list_map (λ t. t.0) tables
 
--- the table's file is there and is its text, and each of its partitions is one that writes can make
+-- the table's file is there and is its text, and each of its partitions holds together
 abbrev pub IsKept : Files → Lists → Table → Type 0
-IsKept files schema t = (map.get files t.0 ≡ Some (text (table schema t.1))) × All (λ p. IsMutation p.change) t.1
+IsKept files schema t = (bytes : List ℕ) × (map.get files t.0 ≡ Some bytes) × IsTable bytes schema t.1 × All (λ p. IsMutation p.change) t.1
 
 -- the tables are those of a folder: each file is one; of a folder that is not told, they have ascending numbers
 abbrev pub AreTables : Option Files → Lists → List Table → Type 0
@@ -58,11 +59,12 @@ AreTables (Some files) schema tables = (numbers tables ≡ map.keys files) × Al
 abbrev pub opened : Option Files → Lists → List Table → State
 opened files schema tables = record { schema = schema; files = files; tables = tables; log = []; stored = 0; sealed = 0; readers = [] }
 
--- the file is the first of the folder that is no table of the schema: it has another schema, or its first damage is at an offset
+-- the bytes are no table of the schema: they have another schema, or their first damage is at an offset
 abbrev pub IsBad : Lists → Option ℕ → List ℕ → Type 0
 IsBad schema (Some off) bytes = FirstDamage bytes schema off
 IsBad schema None bytes = IsOtherSchema bytes schema
 
+-- file n is the first of the folder, by number, that is no table of the schema
 pub record IsFirstBad (files : Files) (schema : Lists) (n : ℕ) (damage : Option ℕ) : Type 0 where
   pub bytes : List ℕ
   pub here : map.get files n ≡ Some bytes
@@ -73,13 +75,9 @@ pub record IsFirstBad (files : Files) (schema : Lists) (n : ℕ) (damage : Optio
 abbrev pub changes_to : List ℕ → List Write → List Mutation
 changes_to key log = list_map (λ w. w.change) (filter (λ w. eq_by_cmp bytes_cmp w.key key) log)
 
--- what a table says of a partition
-abbrev pub changes_in : List ℕ → Table → List Mutation
-changes_in key t = list_map (λ p. p.change) (filter (λ p. eq_by_cmp bytes_cmp p.key key) t.1)
-
 -- what is said of a partition: in tables, by number, and then by the writes that stand in none
 abbrev pub changes_of : List ℕ → State → List Mutation
-changes_of key m = flat_map (changes_in key) m.tables ++ changes_to key (drop m.stored m.log)
+changes_of key m = changes_at key m.tables ++ changes_to key (drop m.stored m.log)
 
 -- what a reader has not given yet, where the id is open
 abbrev pub rest_of : ℕ → State → Option (List OutLine)
@@ -106,13 +104,15 @@ next_number tables = after 0 (numbers tables)
 abbrev pub sealing : State → ℕ
 sealing m = if m.stored == m.sealed then length m.log else m.sealed
 
--- the state with the open readers, with the writes sealed up to a number, and with a write behind the others
+-- the state with these open readers
 abbrev pub with_readers : State → List (ℕ × List OutLine) → State
 with_readers m readers = record { schema = m.schema; files = m.files; tables = m.tables; log = m.log; stored = m.stored; sealed = m.sealed; readers = readers }
 
+-- the state with the writes sealed up to a number
 abbrev pub with_sealed : State → ℕ → State
 with_sealed m n = record { schema = m.schema; files = m.files; tables = m.tables; log = m.log; stored = m.stored; sealed = n; readers = m.readers }
 
+-- the state with a write behind the others
 abbrev pub with_write : State → Write → State
 with_write m w = record { schema = m.schema; files = m.files; tables = m.tables; log = m.log ++ w ∷ []; stored = m.stored; sealed = m.sealed; readers = m.readers }
 

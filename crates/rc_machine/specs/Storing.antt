@@ -7,7 +7,7 @@ use Rattle.rc_mutation.specs.Source.{IsMutation}
 use Rattle.rc_tfile.specs.Before.{text}
 use Rattle.rc_tfile.specs.Info.{info_of}
 use Rattle.rc_tfile.specs.Stored.{with_file}
-use Rattle.rc_tfile.specs.TableText.{table}
+use Rattle.rc_tfile.specs.TableText.{table, IsTable}
 use Rattle.rc_tfile.specs.declared.info.TableInfo.{TableInfo}
 use Rattle.rc_lines.specs.declared.commands.Refusal.TheVariants.{WriteFault}
 use Rattle.rc_lines.specs.declared.commands.Reply.{Reply}
@@ -30,6 +30,7 @@ pub record IsStored (files : Option Files) (k : Keeping) (n : ℕ) (files' : Opt
   pub parts : List Partition
   pub of_writes : IsParts parts k.sealed
   pub whole : All (λ p. IsMutation p.change) parts
+  pub is_table : IsTable (text (table k.schema parts)) k.schema parts
   pub written : files' ≡ with_file files n (text (table k.schema parts))
   pub keeps : k' ≡ record { schema = k.schema; infos = k.infos ++ info_of n k.schema parts ∷ []; sealed = []; active = k.active; readers = k.readers }
 

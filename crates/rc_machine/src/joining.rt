@@ -3,7 +3,7 @@
 ghost use Rattle.std.specs.Prelude.{◌≡◌, ◌<◌, [], ◌∷◌, length, IfOk};
 ghost use Rattle.std.specs.List.{All};
 ghost use Rattle.rc_mutation.specs.Source.{IsJoinOf};
-ghost use Rattle.rc_machine.specs.Index.{changes_at};
+ghost use Rattle.rc_machine.specs.Index.{changes_numbered};
 
 use rc_mutation::{Mutation, Write};
 use std::alloc::{AllocError, Global};
@@ -15,7 +15,7 @@ pub(crate) fn joined(
     numbers: &[usize],
 ) -> Result<Mutation, AllocError>
     requires { All (λ n. n < length log.now) numbers.now }
-    ensures { IfOk result (λ change. IsJoinOf change (changes_at log.now numbers.now)) }
+    ensures { IfOk result (λ change. IsJoinOf change (changes_numbered log.now numbers.now)) }
 {
     match numbers {
         [] => Ok(Mutation::empty(alloc)),

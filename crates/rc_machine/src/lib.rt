@@ -1,7 +1,6 @@
 //! The machine without a cache, over a folder of tables: a plain, slow program that takes one step after another.
 #![tactic(auto)]
 
-mod answers;
 mod index;
 mod joining;
 mod laws;
@@ -9,8 +8,6 @@ mod machine;
 mod memtable;
 mod opening;
 mod readers;
-#[cfg(test)]
-mod tests;
 
 pub use laws::{closed_readers_are_gone, readers_are_fixed};
 pub use machine::Machine;

@@ -6,15 +6,15 @@ ghost use Rattle.rc_outside.specs.Faults.{Rose};
 ghost use Rattle.rc_mutation.specs.declared.mutations.Mutation.{Mutation};
 ghost use Rattle.rc_mutation.specs.Source.{IsJoinOf};
 ghost use Rattle.rc_query.specs.Answer.{answer};
+ghost use Rattle.rc_stream.specs.Causes.{Caused};
 ghost use Rattle.rc_lines.specs.Fits.{Fits};
 ghost use Rattle.rc_machine.specs.Steps.{Answered, AreTables, State, Table, changes_to, opened};
 ghost use Rattle.rc_machine.specs.Stands.{Stands};
 ghost use Rattle.rc_machine.specs.Serving.{OnFaulty, RisesIfFault, Stops, TakenAgain, Takes};
-ghost use Rattle.rc_machine.specs.Opening.{AreWhole, Caused, IsRefused};
+ghost use Rattle.rc_machine.specs.Opening.{IsRefused};
 ghost use Rattle.rc_machine.specs.Opening.{RisesIfFault as RisesIfOpenFault};
 ghost use Rattle.rc_machine.specs.Storing.{IsNextNumber, IsWritten, sealed_all};
 
-use crate::answers::{ReadErr, tables_say};
 use crate::memtable::Memtable;
 use crate::opening::{OpenErr, check_tables};
 use crate::readers::{Rest, place_of};
@@ -24,7 +24,9 @@ use rc_outside::Store;
 use rc_position::{PartKey, Slice};
 use rc_query::{Lines, answer_of};
 use rc_schema::Schema;
-use rc_tfile::{TableInfo, WriteErr, plan_table, write_table};
+use rc_stream::StreamErr;
+use rc_tables::{TableSet, read_joined};
+use rc_tfile::{WriteErr, plan_table, write_table};
 use std::alloc::{AllocError, Global};
 use std::marker::Model;
 use std::mem;
@@ -37,7 +39,7 @@ const MOST_READERS: usize = 64;
 #[derive(Drop)]
 pub struct Machine {
     schema: Schema,
-    infos: Vec<TableInfo>,
+    tables: TableSet,
     sealed: Memtable,
     active: Memtable,
     readers: Vec<(u32, Rest)>,
@@ -48,7 +50,7 @@ impl Model for Machine {
 
     ghost Value = { Keeping };
 
-    ghost view = { λ m. record { schema = m.schema; infos = m.infos.items; sealed = m.sealed; active = m.active; readers = m.readers.items } };
+    ghost view = { λ m. record { schema = m.schema; infos = m.tables; sealed = m.sealed; active = m.active; readers = m.readers.items } };
 }
 
 impl Machine {
@@ -56,15 +58,15 @@ impl Machine {
     /// the first file that is no table of the schema; `OpenErr::Fault` comes when the store fails, and only then;
     /// `OpenErr::NoMemory` when memory is refused.
     pub fn open<W: Store>(alloc: Global, store: &mut W, schema: Schema) -> Result<Self, OpenErr>
-        ensures stands { IfOk result (λ machine. (tables : List Table) × AreTables (W.files store.old) schema tables × AreWhole (W.files store.old) schema tables × Stands (W.files store.new) machine (opened (W.files store.old) schema tables)) }
+        ensures stands { IfOk result (λ machine. (tables : List Table) × AreTables (W.files store.old) schema tables × Stands (W.files store.new) machine (opened (W.files store.old) schema tables)) }
         ensures refused { IfErr result (IsRefused (W.files store.old) schema) }
         ensures faults { RisesIfOpenFault result (W.faults store.old) (W.faults store.new) }
         ensures files { W.files store.new ≡ W.files store.old }
     {
-        let infos = check_tables(alloc, store, &schema)?;
+        let tables = check_tables(alloc, store, &schema)?;
         Ok(Machine {
             schema,
-            infos,
+            tables,
             sealed: Memtable::new(alloc),
             active: Memtable::new(alloc),
             readers: Vec::new(alloc),
@@ -147,11 +149,11 @@ impl Machine {
                 self.readers.push((id, Rest::new(lines)))?;
                 Ok(Reply::Fine)
             }
-            Err(ReadErr::Fault) => Ok(Reply::Refused(Refusal::ReadFault)),
-            Err(ReadErr::Damaged { file, offset }) => {
+            Err(StreamErr::Fault) => Ok(Reply::Refused(Refusal::ReadFault)),
+            Err(StreamErr::Damaged { file, offset }) => {
                 Ok(Reply::Refused(Refusal::Damaged { file, offset }))
             }
-            Err(ReadErr::NoMemory) => Err(AllocError),
+            Err(StreamErr::NoMemory) => Err(AllocError),
         }
     }
 
@@ -162,18 +164,16 @@ impl Machine {
         store: &mut W,
         key: &PartKey,
         slice: &Slice,
-    ) -> Result<Lines, ReadErr>
+    ) -> Result<Lines, StreamErr>
         requires { (m : State) × Stands (W.files store.old) self.now m }
         ensures lines { IfOk result (λ lines. (m : State) → Stands (W.files store.old) self.now m → Answered m key.now slice.now lines) }
         ensures cause { Caused result (W.files store.old) (W.faults store.old) (W.faults store.new) }
         ensures files { W.files store.new ≡ W.files store.old }
     {
-        match tables_say(alloc, store, self.infos.as_slice(), key) {
-            Ok(change) => match self.answer_with(alloc, change, key, slice) {
-                Ok(lines) => Ok(lines),
-                Err(_) => Err(ReadErr::NoMemory),
-            },
-            Err(error) => Err(error),
+        let change = read_joined(alloc, store, &self.tables, key)?;
+        match self.answer_with(alloc, change, key, slice) {
+            Ok(lines) => Ok(lines),
+            Err(_) => Err(StreamErr::NoMemory),
         }
     }
 
@@ -255,9 +255,9 @@ impl Machine {
     fn next_number(&self) -> Option<u32>
         ensures { IsNextNumber self.now.infos result }
     {
-        match self.infos.last() {
+        match self.tables.last_number() {
             None => Some(1),
-            Some(info) => info.number.checked_add(1),
+            Some(number) => number.checked_add(1),
         }
     }
 
@@ -270,7 +270,7 @@ impl Machine {
         }
     }
 
-    // Writes the sealed writes as a table of this number. What is known of it is kept before, so no memory is taken behind the file.
+    // Writes the sealed writes as a table of this number. What is known of it is set out before, so no memory is taken behind the file.
     fn write_sealed<W: Store>(
         &mut self,
         alloc: Global,
@@ -285,16 +285,14 @@ impl Machine {
     {
         let parts = self.sealed.parts(alloc)?;
         let info = plan_table(alloc, parts.as_slice(), &self.schema, number)?;
-        self.infos.push(info)?;
+        let tables = self.tables.with(alloc, info)?;
         match write_table(alloc, parts.as_slice(), &self.schema, store, number) {
             Ok(()) => {
+                self.tables = tables;
                 self.sealed = Memtable::new(alloc);
                 Ok(Reply::Fine)
             }
-            Err(error) => {
-                self.infos.pop();
-                not_written(error)
-            }
+            Err(error) => not_written(error),
         }
     }
 }

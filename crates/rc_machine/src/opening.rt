@@ -5,10 +5,11 @@ ghost use Rattle.rc_outside.specs.Files.{AreNumbers, IsFile};
 ghost use Rattle.rc_tfile.specs.declared.info.TableInfo.{TableInfo};
 ghost use Rattle.rc_machine.specs.Steps.{AreTables, Table};
 ghost use Rattle.rc_machine.specs.Stands.{AreInfos};
-ghost use Rattle.rc_machine.specs.Opening.{AreWhole, IsBadFile, IsChecked, IsRefused, RisesIfFault};
+ghost use Rattle.rc_machine.specs.Opening.{IsBadFile, IsChecked, IsRefused, RisesIfFault};
 
 use rc_outside::{Store, StoreErr};
 use rc_schema::Schema;
+use rc_tables::TableSet;
 use rc_tfile::{CheckErr, TableInfo, check_table};
 use std::alloc::Global;
 use thiserror::Error;
@@ -69,44 +70,49 @@ fn add_checked<W: Store>(
     store: &mut W,
     n: u32,
     schema: &Schema,
-    infos: &mut Vec<TableInfo>,
+    tables: &mut TableSet,
 ) -> Result<(), OpenErr>
     requires { IsFile (W.files store.old) n }
-    ensures added { OnOk result ((info : TableInfo) × IsChecked (W.files store.old) schema.now n info × (infos.new.items ≡ infos.old.items ++ info ∷ [])) }
+    ensures added { OnOk result ((info : TableInfo) × IsChecked (W.files store.old) schema.now n info × (tables.new ≡ tables.old ++ info ∷ [])) }
     ensures bad { IfErr result (IsBadFile (W.files store.old) schema.now n) }
     ensures faults { RisesIfFault result (W.faults store.old) (W.faults store.new) }
     ensures files { W.files store.new ≡ W.files store.old }
 {
     match checked(alloc, store, n, schema) {
-        Ok(info) => match infos.push(info) {
-            Ok(()) => Ok(()),
+        Ok(info) => match tables.with(alloc, info) {
+            Ok(more) => {
+                *tables = more;
+                Ok(())
+            }
             Err(_) => Err(OpenErr::NoMemory),
         },
         Err(error) => Err(error),
     }
 }
 
-// What is known of each of the files with these numbers, which are all of the folder's.
+// What is known of each of the files with these numbers, which are all of the folder's, put behind no tables.
 fn check_each<W: Store>(
     alloc: Global,
     store: &mut W,
     numbers: &[u32],
     schema: &Schema,
-) -> Result<Vec<TableInfo>, OpenErr>
-    requires { AreNumbers (W.files store.old) numbers.now }
-    ensures tables { IfOk result (λ infos. (tables : List Table) × AreTables (W.files store.old) schema.now tables × AreInfos (W.files store.old) schema.now tables infos.items × AreWhole (W.files store.old) schema.now tables) }
+    none: TableSet,
+) -> Result<TableSet, OpenErr>
+    requires all { AreNumbers (W.files store.old) numbers.now }
+    requires none { none ≡ [] }
+    ensures tables { IfOk result (λ infos. (tables : List Table) × AreTables (W.files store.old) schema.now tables × AreInfos (W.files store.old) schema.now tables infos) }
     ensures refused { IfErr result (IsRefused (W.files store.old) schema.now) }
     ensures faults { RisesIfFault result (W.faults store.old) (W.faults store.new) }
     ensures files { W.files store.new ≡ W.files store.old }
 {
-    let mut infos = Vec::new(alloc);
+    let mut tables = none;
     for n in numbers {
-        match add_checked(alloc, store, *n, schema, &mut infos) {
+        match add_checked(alloc, store, *n, schema, &mut tables) {
             Ok(()) => {}
             Err(error) => return Err(error),
         }
     }
-    Ok(infos)
+    Ok(tables)
 }
 
 /// What is known of each table of the folder, by ascending number. The first file that is no table of the schema is named;
@@ -115,14 +121,17 @@ pub(crate) fn check_tables<W: Store>(
     alloc: Global,
     store: &mut W,
     schema: &Schema,
-) -> Result<Vec<TableInfo>, OpenErr>
-    ensures tables { IfOk result (λ infos. (tables : List Table) × AreTables (W.files store.old) schema.now tables × AreInfos (W.files store.old) schema.now tables infos.items × AreWhole (W.files store.old) schema.now tables) }
+) -> Result<TableSet, OpenErr>
+    ensures tables { IfOk result (λ infos. (tables : List Table) × AreTables (W.files store.old) schema.now tables × AreInfos (W.files store.old) schema.now tables infos) }
     ensures refused { IfErr result (IsRefused (W.files store.old) schema.now) }
     ensures faults { RisesIfFault result (W.faults store.old) (W.faults store.new) }
     ensures files { W.files store.new ≡ W.files store.old }
 {
     match store.numbers(alloc) {
-        Ok(numbers) => check_each(alloc, store, numbers.as_slice(), schema),
+        Ok(numbers) => match TableSet::empty(alloc) {
+            Ok(none) => check_each(alloc, store, numbers.as_slice(), schema, none),
+            Err(_) => Err(OpenErr::NoMemory),
+        },
         Err(StoreErr::Fault) => Err(OpenErr::Fault),
         Err(StoreErr::NoMemory) => Err(OpenErr::NoMemory),
     }

@@ -4,6 +4,8 @@
 #[cfg(test)]
 mod mutations;
 #[cfg(test)]
+mod plain;
+#[cfg(test)]
 mod served;
 #[cfg(test)]
 mod slow;

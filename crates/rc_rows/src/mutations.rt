@@ -93,7 +93,7 @@ fn sessions(rt: HostRuntime) -> Result<(), Fail> {
         // What is not built yet is a bad line, and needs the schema like any other.
         (
             "flush\nschema ck=int static=s cols=a,b\nflush\nflush begin\nflush step 1\nevict 1\ncompact 1\nclean 1\nstats\n",
-            "? no schema\nok\n? bad line\n? bad line\n? bad line\n? bad line\n? bad line\n? bad line\n? bad line\n",
+            "? no schema\nok\n? nothing to flush\n? bad line\n? bad line\n? bad line\n? bad line\n? bad line\n? bad line\n",
         ),
     ] {
         let (status, written) = served(rt.alloc(), &["run"], script)?;

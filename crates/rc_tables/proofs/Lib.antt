@@ -5,3 +5,5 @@ pub mod Spelled
 pub mod Spans
 pub mod Searching
 pub mod Joined
+pub mod Ascending
+pub mod Numbered

@@ -27,7 +27,7 @@ both_parts : {X : Type 0} (P : X → Type 0) (xs ys : List X) → AllByRecursion
 both_parts P [] ys h = (tt, h)
 both_parts P (x ∷ xs) ys h = (let r = both_parts P xs ys h.1 in ((h.0, r.0), r.1))
 
-front_fits : (schema : Lists) (xs : List Item) (b : Before) → AllFit schema (followed_by b xs) → AllFit schema b
+pub front_fits : (schema : Lists) (xs : List Item) (b : Before) → AllFit schema (followed_by b xs) → AllFit schema b
 front_fits schema [] b h = h
 front_fits schema (x ∷ xs) b h = (front_fits schema xs (x ∷ b) h).0
 

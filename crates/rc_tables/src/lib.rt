@@ -12,4 +12,5 @@ mod sets;
 mod tests;
 
 pub use lazy::TableFrags;
+pub use reading::read_joined;
 pub use sets::TableSet;

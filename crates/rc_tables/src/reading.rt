@@ -24,7 +24,7 @@ use std::alloc::Global;
 /// What all tables of the set say of the key, joined. Of each table that lists the key at most two ranges are asked for.
 /// `StreamErr::Fault` when the store fails, `StreamErr::Damaged` where a file is not the table that is known,
 /// `StreamErr::NoMemory` when memory is refused.
-pub(crate) fn read_joined<W: Store>(
+pub fn read_joined<W: Store>(
     alloc: Global,
     store: &mut W,
     set: &TableSet,

@@ -1,6 +1,7 @@
 //! Lists of tables that several readers share.
 
-ghost use Rattle.std.specs.Prelude.{◌≡◌, [], ◌∷◌, ◌++◌, IfOk, map};
+ghost use Rattle.std.specs.Prelude.{◌≡◌, ◌-◌, [], ◌∷◌, ◌++◌, IfOk, length, map};
+ghost use Rattle.std.specs.List.{slice_get};
 
 use rc_tfile::TableInfo;
 use std::alloc::{AllocError, Global};
@@ -52,6 +53,16 @@ impl TableSet {
             left = rest;
         }
         Ok(numbers)
+    }
+
+    /// The number of the last table; none where there are no tables.
+    pub fn last_number(&self) -> Option<u32>
+        ensures { result ≡ slice_get (map (λ t. t.number) self.now) (length self.now - 1) }
+    {
+        match self.tables().last() {
+            None => None,
+            Some(last) => Some(last.number),
+        }
     }
 
     /// The same tables, shared. No memory is taken. The only error is a full count of those who share them, which is

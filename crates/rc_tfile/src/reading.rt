@@ -141,10 +141,7 @@ fn read_keyed(alloc: Global, bytes: &[u8]) -> Result<Option<((Key, Row), usize)>
 
 /// The row that the bytes begin with, its key, and the length of the item; none exactly where they begin with no row. The
 /// only error is want of memory.
-pub fn read_row_item(
-    alloc: Global,
-    bytes: &[u8],
-) -> Result<Option<((Key, Row), usize)>, AllocError>
+pub fn read_row_item(alloc: Global, bytes: &[u8]) -> Result<Option<((Key, Row), usize)>, AllocError>
     ensures value { IfOk result (λ found. Starts (λ e. item_code (RowItem e.0 e.1)) (λ e. IsItem (RowItem e.0 e.1)) bytes.now found) }
     ensures limits { IfOk result (λ found. IfSome found (λ x. KeyFits x.0.0)) }
     ensures within { IfOk result (λ found. IfSome found (λ x. x.1 ≤ length bytes.now)) }

@@ -5,7 +5,7 @@ use Rattle.rc_machine.proofs.opening.check_each.Given as goal
 
 abbrev pub invariant-loop-n : goal.invariant-loop-n
 invariant-loop-n g l = record {
-  done : Done (g.W.Store.files l.initial.store) l.schema (take l.n-index l.numbers) l.infos.items;
+  done : Done (g.W.Store.files l.initial.store) l.schema (take l.n-index l.numbers) l.tables;
   files : g.W.Store.files l.store ≡ g.W.Store.files l.initial.store;
   faults : g.W.Store.faults l.initial.store ≤ g.W.Store.faults l.store;
 }

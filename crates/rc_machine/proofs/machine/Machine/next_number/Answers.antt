@@ -1,12 +1,12 @@
 -- The last table's number and one.
-use Rattle.std.proofs.Common.{◌≡◌, ◌-◌, List, length, Some, slice_get, ap, subst, ◌∙◌}
-use Rattle.rc_tfile.specs.declared.info.TableInfo.{TableInfo}
+use Rattle.std.proofs.Common.{Some, subst}
+use Rattle.rc_machine.specs.Stands.{Keeping}
 use Rattle.rc_machine.specs.Storing.{IsNextNumber}
-use Rattle.rc_machine.proofs.Ahead.{number_after}
+use Rattle.rc_machine.proofs.Ahead.{number_after, number_first}
 use Rattle.rc_machine.proofs.machine.Machine.next_number.Goals as goal
 
 pub returns-in-Some : goal.returns-in-Some
-returns-in-Some c =
-    let infos_are : c.deref.result.now ≡ c.args.self.now.infos = ◌∙◌ {A = List TableInfo} c.deref.ensures.value (ap (λ k. k.infos) c.self.view_is) in
-    subst (λ (infos : List TableInfo). IsNextNumber infos c.checked_add.result) infos_are
-    (number_after c.deref.result.now c.in-Some.info.now c.checked_add.result c.in-Some.ensures.value c.checked_add.ensures)
+returns-in-Some c = subst (λ (k : Keeping). IsNextNumber k.infos c.checked_add.result) c.self.view_is (number_after c.self.inside.tables c.in-Some.number c.checked_add.result c.in-Some.ensures c.checked_add.ensures)
+
+pub returns-in-None : goal.returns-in-None
+returns-in-None c = subst (λ (k : Keeping). IsNextNumber k.infos (Some 1)) c.self.view_is (number_first c.self.inside.tables c.in-None.ensures)

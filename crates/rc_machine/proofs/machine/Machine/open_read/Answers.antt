@@ -1,13 +1,13 @@
 -- The id is open where it has a place.
-use Rattle.std.proofs.Common.{◌≡◌, ◌==◌, ◌<◌, ◌≤◌, length, List, ℕ, Option, None, Some, [], ◌∷◌, ◌++◌, ◌∙◌, ap, subst, sym, arith}
+use Rattle.std.proofs.Common.{◌≡◌, ◌==◌, ◌<◌, ◌≤◌, length, List, ℕ, Option, None, Some, Err, [], ◌∷◌, ◌++◌, ◌∙◌, ap, subst, sym, arith}
 use Rattle.std.specs.List.{position}
 use Rattle.std.specs.Map.{lookup}
 use Rattle.rc_query.specs.declared.lines.OutLine.{OutLine}
 use Rattle.rc_lines.specs.declared.commands.Command.TheVariants.{OpenRead}
 use Rattle.rc_lines.specs.declared.commands.Reply.TheVariants as replies
 use Rattle.rc_lines.specs.declared.commands.Refusal.TheVariants.{ReaderInUse, TooManyReaders, ReadFault, Damaged}
-use Rattle.rc_machine.specs.declared.answers.ReadErr.{ReadErr}
-use Rattle.rc_machine.specs.Opening.{IsCaused}
+use Rattle.rc_stream.specs.declared.streams.StreamErr.{StreamErr}
+use Rattle.rc_stream.specs.Causes.{Caused}
 use Rattle.rc_machine.specs.Steps.{State, most_readers, Answered}
 use Rattle.rc_machine.specs.Stands.{Keeping, Stands}
 use Rattle.rc_machine.proofs.Places.{Readers, open_some, open_none}
@@ -45,5 +45,5 @@ pub returns-in-Err-Damaged-clause-step : goal.returns-in-Err-Damaged-clause-step
 returns-in-Err-Damaged-clause-step g c =
     let shut = open_none c.self.inside.readers.items c.args.id c.place_of.result (subst (λ (rs : Readers). c.place_of.result ≡ position (λ reader. reader.0 == c.args.id) rs) c.as_slice.ensures.value c.place_of.ensures) c.if-is_some.ensures in
     let few : length c.self.inside.readers.items < most_readers = omega (arith, c.if-len-ge-MOST_READERS.false, c.len.ensures, c.self.inside.readers.ok) in
-    let cause : g.W.Store.files c.args.store.now ≡ None = subst (λ (e : ReadErr). IsCaused (g.W.Store.files c.args.store.now) (g.W.Store.faults c.args.store.now) (g.W.Store.faults c.answer.new.store) e) c.in-Err-Damaged.field-0-is c.in-Err-Damaged.ensures.cause.1 in
+    let cause : g.W.Store.files c.args.store.now ≡ None = (subst (λ (e : StreamErr). Caused {T = List OutLine} (Err e) (g.W.Store.files c.args.store.now) (g.W.Store.faults c.args.store.now) (g.W.Store.faults c.answer.new.store)) c.in-Err-Damaged.field-0-is c.in-Err-Damaged.ensures.cause).1 in
     stay (OpenRead c.args.id c.args.key.now c.args.slice.now) (replies.Refused (Damaged c.in-Err-Damaged.file c.in-Err-Damaged.offset)) c.self.view_is (to_files (OpenRead c.args.id c.args.key.now c.args.slice.now) (replies.Refused (Damaged c.in-Err-Damaged.file c.in-Err-Damaged.offset)) c.answer.ensures.files (takes_damaged (g.W.Store.files c.args.store.now) _ c.args.id c.args.key.now c.args.slice.now c.in-Err-Damaged.file c.in-Err-Damaged.offset shut few cause))

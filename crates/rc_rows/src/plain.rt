@@ -1,14 +1,13 @@
-//! A plain computation of a partition's rows, over a list of writes that a seed makes.
+//! A plain computation of partitions' rows beside the program, over scripts that seeds make.
 
-ghost use Rattle.rc_machine.specs.Steps.{State};
-ghost use Rattle.rc_machine.specs.Stands.{Stands};
-
-use crate::machine::Machine;
-use crate::tests::lines::{answer, opened};
-use rc_outside::Store;
+use crate::served::served;
+use rc_shell::Status;
 use std::alloc::{AllocError, Global};
 use std::fmt::Write;
 use std::test::Fail;
+
+/// The partitions of these scripts.
+const NAMES: [u8; 3] = [b'p', b'q', b'r'];
 
 /// A row's value at a timestamp, or no row.
 #[derive(Clone, Copy)]
@@ -92,24 +91,6 @@ fn changes(alloc: Global, seed: u32) -> Result<Vec<Change>, AllocError> {
     Ok(changes)
 }
 
-/// Writes the changes.
-fn write_all<W: Store>(
-    alloc: Global,
-    store: &mut W,
-    machine: &mut Machine,
-    changes: &[Change],
-) -> Result<(), AllocError>
-    requires { (m : State) × Stands (W.files store.old) machine.old m }
-    ensures { (m : State) × Stands (W.files store.new) machine.new m }
-{
-    let mut text = Vec::new(alloc);
-    for change in changes {
-        let line = line_of(alloc, change)?;
-        answer(alloc, store, machine, line.as_bytes(), &mut text)?;
-    }
-    Ok(())
-}
-
 /// The line of a change.
 fn line_of(alloc: Global, change: &Change) -> Result<String, AllocError> {
     let name = char::from(change.name);
@@ -124,50 +105,64 @@ fn line_of(alloc: Global, change: &Change) -> Result<String, AllocError> {
     }
 }
 
-/// The text of rows.
-fn text_of(alloc: Global, rows: &[(i64, u8)]) -> Result<String, AllocError> {
-    let mut text = String::from_str(alloc, "ok\n")?;
+/// What a reader of a partition with these rows is given, from its opening to its closing.
+fn append_given(rows: &[(i64, u8)], text: &mut String) -> Result<(), AllocError> {
+    text.push_str("ok\n")?;
     for row in rows {
         let number = row.0;
         let value = char::from(row.1);
         write!(text, "row {number} a={value}\n")?;
     }
-    text.push_str("end\n")?;
+    text.push_str("end\nok\n")
+}
+
+/// The script of changes, with a flush behind each sixteenth, and then a reader of each partition.
+fn script_of(alloc: Global, changes: &[Change]) -> Result<String, AllocError> {
+    let mut script = String::from_str(alloc, "schema ck=int static=- cols=a\n")?;
+    let mut written = 0u8;
+    for change in changes {
+        let line = line_of(alloc, change)?;
+        write!(script, "{line}\n")?;
+        written = written.wrapping_add(1) & 15;
+        if written == 0 {
+            script.push_str("flush\n")?;
+        }
+    }
+    for name in NAMES {
+        let key = char::from(name);
+        write!(script, "open 1 {key}\nread 1 9\nclose 1\n")?;
+    }
+    Ok(script)
+}
+
+/// What the program must print for it: `ok` for the schema line, for each change and each flush, and the rows of each partition.
+fn wanted(alloc: Global, changes: &[Change]) -> Result<String, AllocError> {
+    let mut text = String::from_str(alloc, "ok\n")?;
+    let mut written = 0u8;
+    for _ in changes {
+        text.push_str("ok\n")?;
+        written = written.wrapping_add(1) & 15;
+        if written == 0 {
+            text.push_str("ok\n")?;
+        }
+    }
+    for name in NAMES {
+        let rows = rows(alloc, changes, name)?;
+        append_given(rows.as_slice(), &mut text)?;
+    }
     Ok(text)
 }
 
-/// Whether a reader of a partition is given these rows.
-fn gives<W: Store>(
-    alloc: Global,
-    store: &mut W,
-    machine: &mut Machine,
-    name: u8,
-    rows: &[(i64, u8)],
-) -> Result<bool, AllocError>
-    requires { (m : State) × Stands (W.files store.old) machine.old m }
-    ensures { (m : State) × Stands (W.files store.new) machine.new m }
-{
-    let id = u32::from(name);
-    let key = char::from(name);
-    let mut text = Vec::new(alloc);
-    let open = format!(in alloc; "open {id} {key}")?;
-    answer(alloc, store, machine, open.as_bytes(), &mut text)?;
-    let read = format!(in alloc; "read {id} 9")?;
-    answer(alloc, store, machine, read.as_bytes(), &mut text)?;
-    let wanted = text_of(alloc, rows)?;
-    Ok(text.as_slice() == wanted.as_bytes())
-}
-
-/// Whether the machine gives each partition's rows as the plain computation has them.
-pub(super) fn agrees<W: Store>(alloc: Global, store: &mut W, seed: u32) -> Result<bool, Fail> {
-    let changes = changes(alloc, seed)?;
-    let mut machine = opened(alloc, store)?;
-    write_all(alloc, store, &mut machine, changes.as_slice())?;
-    for name in [b'p', b'q', b'r'] {
-        let rows = rows(alloc, changes.as_slice(), name)?;
-        if !gives(alloc, store, &mut machine, name, rows.as_slice())? {
-            return Ok(false);
-        }
+#[test]
+fn agrees_with_a_plain_computation(rt: HostRuntime) -> Result<(), Fail> {
+    let alloc = rt.alloc();
+    for seed in 1..9u32 {
+        let changes = changes(alloc, seed)?;
+        let script = script_of(alloc, changes.as_slice())?;
+        let wanted = wanted(alloc, changes.as_slice())?;
+        let (status, text) = served(alloc, &["run"], script.as_str())?;
+        assert_eq!(rt; status, Status::Done, "{seed}");
+        assert_eq!(rt; text.as_slice(), wanted.as_bytes(), "{seed}");
     }
-    Ok(true)
+    Ok(())
 }
