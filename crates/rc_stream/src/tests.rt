@@ -1,5 +1,5 @@
 // What no clause says of streams: that a call can succeed, over a home and a store of concrete types.
-use crate::{Frags, ListFrags, Merge, StreamErr};
+use crate::{Frags, ListFrags, StreamErr};
 use rc_cell::{Cells, Row, Tomb};
 use rc_mutation::{Frag, Mutation};
 use rc_outside::SureStore;
@@ -65,42 +65,5 @@ fn seeks_in_a_range(rt: HostRuntime) -> Result<(), Fail> {
         seen.push(said(stream.next(rt.alloc(), &mut home, &mut store, upto)))?;
     }
     assert_eq!(rt; seen.as_slice(), b"krc-kcrer-".as_slice());
-    Ok(())
-}
-
-// A row 3 with the timestamp.
-fn one_row(alloc: Global, ts: i64) -> Result<Mutation, AllocError> {
-    let mut made = Mutation::empty(alloc);
-    let row = Row {
-        marker: Some(ts),
-        tomb: None,
-        cells: Cells::empty(alloc),
-    };
-    made.rows
-        .join_row(alloc, &Key::from_slice(alloc, &[Comp::Int(3)])?, &row)?;
-    Ok(made)
-}
-
-#[test]
-fn merges_two(rt: HostRuntime) -> Result<(), Fail> {
-    let mut store = SureStore::new(rt.alloc())?;
-    let mut home = ();
-    let ours = ListFrags::new(mutation(rt.alloc(), 3)?.fragments(rt.alloc())?);
-    let theirs = ListFrags::new(one_row(rt.alloc(), 5)?.fragments(rt.alloc())?);
-    let mut stream = Merge::new(ours, theirs);
-    let middle = pos(rt.alloc(), 3, Weight::At)?;
-    let end = pos(rt.alloc(), 9, Weight::At)?;
-    let head = stream.head(rt.alloc(), &mut home, &mut store);
-    let mut seen = Vec::new(rt.alloc());
-    seen.push(if head.is_ok() { b'k' } else { b'?' })?;
-    for upto in [&middle, &middle] {
-        seen.push(said(stream.next(rt.alloc(), &mut home, &mut store, upto)))?;
-    }
-    let sought = stream.seek(rt.alloc(), &mut home, &mut store, &middle);
-    seen.push(if sought.is_ok() { b'k' } else { b'?' })?;
-    for upto in [&middle, &middle, &middle, &end, &end, &end, &end] {
-        seen.push(said(stream.next(rt.alloc(), &mut home, &mut store, upto)))?;
-    }
-    assert_eq!(rt; seen.as_slice(), b"krckcr-rer-".as_slice());
     Ok(())
 }
