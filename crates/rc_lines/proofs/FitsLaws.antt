@@ -19,7 +19,8 @@ use Rattle.rc_position.specs.declared.comps.Comp.{Comp}
 use Rattle.rc_position.specs.declared.positions.Pos.{Pos}
 use Rattle.rc_position.specs.declared.slices.Slice.{Slice}
 use Rattle.rc_position.specs.Position.{pos_cmp, start_bound, end_bound, IsBefore}
-use Rattle.rc_query.specs.Answer.{has_any, whole}
+use Rattle.rc_mutation.specs.Fragments.{has_any, is_written}
+use Rattle.rc_query.specs.Answer.{whole}
 use Rattle.rc_schema.specs.declared.kinds.CkKind.{CkKind}
 use Rattle.rc_schema.specs.Checks.{column_of, are_of_kinds, fits_kinds, columns, checked_prefix, checked_cells}
 use Rattle.rc_schema.specs.Lists.{Lists, is_text}
@@ -36,7 +37,7 @@ use Rattle.rc_lines.specs.declared.shapes.Shape.TheVariants.{Plain, Open, Writte
 use Rattle.rc_lines.specs.Fits.{Fits, is_single, is_bound, fits_bound, fits_key, fits_cells, fits_slice, fits_write}
 use Rattle.rc_lines.specs.Grammar.{longest_line, is_comment, schema_said, shape_meaning, said, parse}
 use Rattle.rc_lines.specs.Shapes.{shape_of}
-use Rattle.rc_lines.specs.UnderSchema.{prefix_of, key_under, between, slice_under, cell_named, columns_from, by_column, are_columns, are_short, have_short_values, is_short_slice, key_said, slice_said, has_wrong_key, has_unknown_column, is_within, is_wrong_change, is_unknown_change, is_short_change, is_partition_key, is_written, rows_said, mutation_of, refusal_of, command_of, unless, meaning}
+use Rattle.rc_lines.specs.UnderSchema.{prefix_of, key_under, between, slice_under, cell_named, columns_from, by_column, are_columns, are_short, have_short_values, is_short_slice, key_said, slice_said, has_wrong_key, has_unknown_column, is_within, is_wrong_change, is_unknown_change, is_short_change, is_partition_key, rows_said, mutation_of, refusal_of, command_of, unless, meaning}
 use Rattle.rc_lines.proofs.Fitting.{prefix_fits, prefix_is_as_long, columns_are_known, start_fits, end_fits}
 use Rattle.rc_lines.proofs.Said.{If, Said, SaidShape, shape_said}
 

@@ -6,7 +6,7 @@ use Rattle.std.specs.declared.option.Option.TheVariants.{Some, None}
 use Rattle.std.specs.Option.{option_map, option_or, is_some}
 use Rattle.rc_cell.specs.declared.writes.Cell.{Cell}
 use Rattle.rc_cell.specs.declared.writes.Tomb.{Tomb}
-use Rattle.rc_query.specs.Answer.{has_any}
+use Rattle.rc_mutation.specs.Fragments.{has_any}
 use Rattle.rc_schema.specs.Lists.{Lists}
 use Rattle.rc_spelling.specs.Numbers.{count_of}
 use Rattle.rc_lines.specs.declared.commands.Command.{Command}

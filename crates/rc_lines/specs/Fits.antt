@@ -12,12 +12,11 @@ use Rattle.rc_position.specs.declared.positions.Weight.{Weight}
 use Rattle.rc_position.specs.declared.positions.Weight.TheVariants.{Before, At, After}
 use Rattle.rc_position.specs.declared.slices.Slice.{Slice}
 use Rattle.rc_position.specs.Position.{IsBefore}
-use Rattle.rc_query.specs.Answer.{has_any}
+use Rattle.rc_mutation.specs.Fragments.{has_any, is_written}
 use Rattle.rc_schema.specs.Lists.{Lists}
 use Rattle.rc_schema.specs.Checks.{checked_prefix, checked_cells}
 use Rattle.rc_lines.specs.declared.commands.Command.{Command}
 use Rattle.rc_lines.specs.declared.commands.Command.TheVariants.{Put, OpenRead}
-use Rattle.rc_lines.specs.UnderSchema.{is_written}
 
 -- whether just one of four holds
 abbrev pub just_one : Bool → Bool → Bool → Bool → Bool

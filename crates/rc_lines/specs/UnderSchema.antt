@@ -1,5 +1,5 @@
 -- What a line means under a schema: its command, or the first cause, over the whole line, why it is refused.
-use Rattle.std.specs.Prelude.{ℕ, Bool, true, false, not, ◌&&◌, ◌||◌, ◌+◌, ◌==◌, nat_le, List, [], ◌∷◌, ◌++◌, length, Option, Some, None, Result, Ok, Err, if◌then◌else◌, option_and_then}
+use Rattle.std.specs.Prelude.{ℕ, Bool, true, false, not, ◌&&◌, ◌+◌, ◌==◌, nat_le, List, [], ◌∷◌, ◌++◌, length, Option, Some, None, Result, Ok, Err, if◌then◌else◌, option_and_then}
 use Rattle.std.specs.List.{list_all}
 use Rattle.std.specs.Option.{option_map, option_to_list, is_some, is_none, unwrap_or}
 use Rattle.std.specs.Ordering.{is_lt}
@@ -12,7 +12,8 @@ use Rattle.rc_position.specs.declared.comps.Comp.TheVariants as comps
 use Rattle.rc_position.specs.declared.positions.Pos.{Pos}
 use Rattle.rc_position.specs.declared.slices.Slice.{Slice}
 use Rattle.rc_position.specs.Position.{pos_cmp, start_bound, end_bound}
-use Rattle.rc_query.specs.Answer.{has_any, whole}
+use Rattle.rc_mutation.specs.Fragments.{is_written}
+use Rattle.rc_query.specs.Answer.{whole}
 use Rattle.rc_schema.specs.declared.kinds.CkKind.{CkKind}
 use Rattle.rc_schema.specs.declared.kinds.CkKind.TheVariants.{Int, Text}
 use Rattle.rc_schema.specs.Lists.{Lists, is_text}
@@ -145,10 +146,6 @@ refusal_of schema shape =
     else if has_unknown_column schema shape then Some UnknownColumn
     else if is_within schema shape then None
     else Some TooLong
-
--- whether something is written of a row
-abbrev pub is_written : Row → Bool
-is_written row = is_some row.marker || (is_some row.tomb || has_any row.cells)
 
 -- the row of a key, if something is written of it
 abbrev pub rows_said : List Comp → Row → List (List Comp × Row)

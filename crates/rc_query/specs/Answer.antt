@@ -1,5 +1,5 @@
 -- What a reader is given of a partition: lines, picked from all writes to it.
-use Rattle.std.specs.Prelude.{ℕ, Bool, true, false, ◌||◌, List, [], ◌∷◌, ◌++◌, Option, Some, None, if◌then◌else◌}
+use Rattle.std.specs.Prelude.{ℕ, Bool, ◌||◌, List, [], ◌++◌, Option, Some, None, if◌then◌else◌}
 use Rattle.std.specs.Option.{option_map, option_to_list}
 use Rattle.std.specs.List.{filter, filter_map, list_any}
 use Rattle.rc_cell.specs.declared.rows.Row.{Row}
@@ -13,6 +13,7 @@ use Rattle.rc_position.specs.declared.slices.Slice.{Slice}
 use Rattle.rc_position.specs.declared.positions.Weight.TheVariants.{Before, After}
 use Rattle.rc_position.specs.Position.{covers, row_pos}
 use Rattle.rc_mutation.specs.declared.mutations.Mutation.{Mutation}
+use Rattle.rc_mutation.specs.Fragments.{has_any}
 use Rattle.rc_mutation.specs.Source.{all_rows, cover, keys, rows_at, source_at_head, static_rows}
 use Rattle.rc_query.specs.declared.lines.OutLine.{OutLine}
 use Rattle.rc_query.specs.declared.lines.OutLine.TheVariants as line
@@ -25,11 +26,6 @@ live_value cover (Dead ts dt) = None
 -- the live values of cells, one a column
 abbrev pub live_values : Option Tomb → List (ℕ × Cell) → List (ℕ × List ℕ)
 live_values cover cells = filter_map (λ e. option_map (λ value. (e.0, value)) (live_value cover e.1)) cells
-
--- whether a list has an element
-abbrev pub has_any : {X : Type 0} → List X → Bool
-has_any [] = false
-has_any (x ∷ xs) = true
 
 -- the static line of static rows under the partition tombstone: the live values of their columns' winners, if there is one
 abbrev pub static_line : Option Tomb → List Row → Option OutLine

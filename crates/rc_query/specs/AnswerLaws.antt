@@ -29,7 +29,8 @@ use Rattle.rc_mutation.specs.ByKey.{joined_rows-is}
 use Rattle.rc_mutation.specs.RowsLaws.{joined_rows-again, joined_rows-rows}
 use Rattle.rc_query.specs.declared.lines.OutLine.{OutLine}
 use Rattle.rc_query.specs.declared.lines.OutLine.TheVariants as line
-use Rattle.rc_query.specs.Answer.{live_values, has_any, in_slice, line_of, line_at, static_line, answer}
+use Rattle.rc_mutation.specs.Fragments.{has_any}
+use Rattle.rc_query.specs.Answer.{live_values, in_slice, line_of, line_at, static_line, answer}
 
 less_lt : (a b : Bool) → cond a Less (cond b Greater Equal) ≡ Less → a ≡ true
 less_lt true b e = refl

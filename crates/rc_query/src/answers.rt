@@ -5,7 +5,8 @@ ghost use Rattle.std.specs.Option.{option_to_list};
 ghost use Rattle.std.specs.List.{cons_option, filter_map, list_any};
 ghost use Rattle.rc_cell.specs.Deletion.{survives};
 ghost use Rattle.rc_mutation.specs.Rows.{IsRows};
-ghost use Rattle.rc_query.specs.Answer.{answer, has_any, live_value, live_values, rows_alone, static_line, whole};
+ghost use Rattle.rc_mutation.specs.Fragments.{has_any};
+ghost use Rattle.rc_query.specs.Answer.{answer, live_value, live_values, rows_alone, static_line, whole};
 ghost use Rattle.rc_query.specs.AnswerLaws.{own_line, row_line};
 
 use crate::lines::{Lines, OutLine};

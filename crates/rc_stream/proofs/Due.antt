@@ -80,3 +80,11 @@ ahead-on A B A' B' l k (Some y) x one other r = r
 pub head-result : (P Q : Seen) (h k : Held) (due : Option Pos) (r : Result Head StreamErr) (s : Stream) → ((a b : Stream) → P a → Q b → IfOk r (λ v. v ≡ joined_head a.head b.head)) → SoughtBoth P h Q k due s → IfOk r (λ v. v ≡ s.head)
 head-result P Q h k due (Ok v) s is b = head-sought P Q h k due v s is b
 head-result P Q h k due (Err e) s is b = tt
+
+-- where no seek is due, none need be ahead
+pub not-due : (A B : Ahead) (l k : Look) (due : Option Pos) → due ≡ None → IsDueAhead A l B k due
+not-due A B l k due e = subst (IsDueAhead A l B k) (sym e) tt
+
+-- and each position is ahead that is ahead of both
+pub ahead-none : (A B : Ahead) (l k : Look) (due : Option Pos) (x : Pos) → due ≡ None → MaySeek A l x → MaySeek B k x → AheadOfBoth A l B k due x
+ahead-none A B l k due x e a b = subst (λ d. AheadOfBoth A l B k d x) (sym e) (a, b)

@@ -1,3 +1,4 @@
+pub mod Asked
 pub mod Determined
 pub mod Due
 pub mod Going

@@ -69,7 +69,7 @@ none-upto : (x : Pos) (f : Frag) (fs : List Frag) → first_upto x (f ∷ fs) �
 none-upto x f fs e = elim (is_upto x f) as (λ b. cond b (Some f) None ≡ None → b ≡ false) [ true ↦ λ k. absurd (cc) | false ↦ λ k. refl ] e
 
 -- where none stands up to x, all stand behind it
-all-past : (x : Pos) (fs : List Frag) → IsOrdered fs → first_upto x fs ≡ None → StandsBefore (x, 1) fs
+pub all-past : (x : Pos) (fs : List Frag) → IsOrdered fs → first_upto x fs ≡ None → StandsBefore (x, 1) fs
 all-past x [] o e = tt
 all-past x (f ∷ fs) o e = let a = past x f o.0 (none-upto x f fs e) in (a, before-through (x, 1) (place_of f) fs a o.1)
 

@@ -23,12 +23,12 @@ use Rattle.rc_stream.specs.Stream.{after, force, is_passed, row_at}
 use Rattle.rc_stream.specs.Merging.{IsInner, IsOrdered, StandsBefore, beside, both_say, changes_nothing, merged_left, place_of, placed, rows_here, same_tomb, telling, together}
 use Rattle.rc_stream.proofs.Ordered.{Place, Lt, place_total, place_same, before-append, no_row-passed, no_rows, itself, irreflexive, passed-change, passed-row, passes-itself, stop}
 
-abbrev Entries : Type 0
+abbrev pub Entries : Type 0
 Entries = List (Place × Frag)
 
 -- ---- the entries of fragments, by place
 
-abbrev ents : List Frag → Entries
+abbrev pub ents : List Frag → Entries
 ents fs = map.entries (map.from_entries {R = place_order} (list_map placed fs))
 
 abbrev keys_behind : Place → Entries → Type 0
@@ -39,10 +39,10 @@ no_length : (es : Entries) → length es ≡ 0 → es ≡ []
 no_length [] e = refl
 no_length (x ∷ es) e = absurd (omega arith)
 
-ents-none : ents [] ≡ []
+pub ents-none : ents [] ≡ []
 ents-none = no_length (ents []) (sym (map.len-entries (map.empty {K = Place} {X = Frag} {R = place_order})) ∙ map.len-empty place_order Frag)
 
-ents-cons : (f : Frag) (fs : List Frag) → ents (f ∷ fs) ≡ put place_order (place_of f) f (ents fs)
+pub ents-cons : (f : Frag) (fs : List Frag) → ents (f ∷ fs) ≡ put place_order (place_of f) f (ents fs)
 ents-cons f fs = map.entries-insert place_total (map.from_entries {R = place_order} (list_map placed fs)) (place_of f) f
 
 behind-put : (q p : Place) (v : Frag) (es : Entries) → Lt q p → keys_behind q es → keys_behind q (put place_order p v es)
@@ -77,7 +77,7 @@ first-ents g (f ∷ fs) gs b c =
     ∙ put-second (place_of f) (place_of g) f g (ents (fs ++ gs)) b.0
     ∙ ap (λ es. (place_of g, g) ∷ es) (sym (ents-cons f (fs ++ gs)))
 
-abbrev values : Entries → List Frag
+abbrev pub values : Entries → List Frag
 values es = list_map (λ e. e.1) es
 
 before-put : (q p : Place) (v : Frag) (es : Entries) → Lt q (place_of v) → StandsBefore q (values es) → StandsBefore q (values (put place_order p v es))

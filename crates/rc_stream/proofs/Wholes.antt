@@ -19,13 +19,13 @@ use Rattle.rc_stream.specs.Fronts.{front_change}
 use Rattle.rc_stream.specs.Stream.{Stream, after, first_upto, rest, sought, took}
 use Rattle.rc_stream.specs.Merging.{IsOrdered, StandsBefore, merged}
 use Rattle.rc_stream.specs.Holding.{Does, Fits, WentOn, bound_of, held, looked, passes_held, turn_of, whole}
-use Rattle.rc_stream.specs.Moving.{AskedUpto, HoldBoth, Holds, KeepsSeen, Once, StepLeaves, StepSays, holds}
+use Rattle.rc_stream.specs.Moving.{HoldBoth, Holds, KeepsSeen, Once, StepLeaves, StepSays, holds}
 use Rattle.rc_stream.proofs.Looking.{beyond, first-is, fits-sought, fits-within, none_held, nothing-held, within}
 use Rattle.rc_stream.proofs.Ordered.{passes-itself}
 use Rattle.rc_stream.proofs.Rounds.{stepped}
 use Rattle.rc_stream.proofs.Seeking.{sought-merged, sought-sought}
 
-abbrev Seen : Type 1
+abbrev pub Seen : Type 1
 Seen = Stream → Type 0
 
 pub holds-on : (P Q : Seen) (h : Held) (t : Stream) → ((s : Stream) → P s → Q s) → Holds P h t → Holds Q h t
@@ -73,10 +73,6 @@ pub looked-known : (P : Seen) (x : Pos) (got : Option Frag) (h now : Held) (t : 
 looked-known P x None h now t n l gives k e = ap (λ (u : Stream). first_upto x u.left) k.same ∙ ap (λ hs. first_upto x (hs ++ k.stream.left)) (nothing-held (held h) n) ∙ sym (gives k.stream k.stands)
 looked-known P x (Some f) h now t n l gives k e = absurd (something f (front_change now.front) h.look (ap (λ m. front_change now.front ++ looked m) (sym l) ∙ e))
 
-pub looked-asked : (P Q : Seen) (x : Pos) (got : Option Frag) → ((s : Stream) → P s → got ≡ first_upto x s.left) → ((s : Stream) → P s → Q (took got s)) → (s : Stream) → P s → AskedUpto x s Q
-looked-asked P Q x None gives go s p = inl (go s p)
-looked-asked P Q x (Some f) gives go s p = inr (f, sym (gives s p), go s p)
-
 -- ---- seeking
 
 pub within-holds : (P : Seen) (x : Pos) (h now : Held) (t : Stream) → passes_held x h ≡ false → WentOn x h now → Holds P h t → Holds P now (sought x t)
@@ -90,7 +86,7 @@ sought-holds P Q x h now t e none go k = record {
   same = ap (sought x) k.same ∙ beyond x h k.stream k.fits e ∙ ap (λ (m : Held). whole m (sought x k.stream)) (sym none);
 }
 
-ordered : (P : Seen) (h : Held) (t : Stream) → Holds P h t → IsOrdered t.left
+pub ordered : (P : Seen) (h : Held) (t : Stream) → Holds P h t → IsOrdered t.left
 ordered P h t k = subst (λ (u : Stream). IsOrdered u.left) (sym k.same) k.fits.ordered
 
 again : (r : Result (Unit {0}) StreamErr) (x : Pos) (t : Stream) → sought x (sought_by r x t) ≡ sought x t

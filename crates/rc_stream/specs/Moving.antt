@@ -1,5 +1,5 @@
 -- How a stream and what is held of it go together over a home and a store.
-use Rattle.std.specs.Prelude.{◌≡◌, ◌⊎◌, ℕ, zero, suc, ⊤, Option, Some, None, Result, Ok, Err}
+use Rattle.std.specs.Prelude.{◌≡◌, ◌⊎◌, ℕ, zero, suc, ⊤, List, [], Option, Some, None, Result, Ok, Err}
 use Rattle.rc_position.specs.declared.positions.Pos.{Pos}
 use Rattle.rc_mutation.specs.declared.fragments.Frag.{Frag}
 use Rattle.rc_stream.specs.declared.holding.Look.{Look}
@@ -88,9 +88,28 @@ abbrev pub RoundReaches : Result Step StreamErr → Pos → Type 0
 RoundReaches (Ok s) x = StepReaches s x
 RoundReaches (Err e) x = ⊤
 
--- of a stream nothing was taken, or its first alone, which stands at x or before it, where this holds of what is left
+-- of the streams that a part stands for, this one
+abbrev pub Only : (Stream → Type 0) → Stream → Stream → Type 0
+Only seen s t = seen t × (t ≡ s)
+
+-- a look at the next up to x, where these are held, took nothing of a stream, or where none is held its first, which stands there, where this holds of what is left; a refused one took nothing
+abbrev pub LookTakes : {T : Type 0} → Result T StreamErr → Pos → List Frag → Stream → (Stream → Type 0) → Type 0
+LookTakes (Ok _) x hs s now = now s ⊎ ((f : Frag) × (hs ≡ []) × (first_upto x s.left ≡ Some f) × now (took (Some f) s))
+LookTakes (Err e) x hs s now = now s
+
+-- so many first fragments were taken of a stream, each at x or before it, where this holds of what is left
+abbrev pub TakenUpto : ℕ → Pos → Stream → (Stream → Type 0) → Type 0
+TakenUpto zero x s now = now s
+TakenUpto (suc n) x s now = (f : Frag) × (first_upto x s.left ≡ Some f) × TakenUpto n x (took (Some f) s) now
+
+-- of a stream nothing was taken that stands behind x, where this holds of what is left
 abbrev pub AskedUpto : Pos → Stream → (Stream → Type 0) → Type 0
-AskedUpto x s now = now s ⊎ ((f : Frag) × (first_upto x s.left ≡ Some f) × now (took (Some f) s))
+AskedUpto x s now = (n : ℕ) × TakenUpto n x s now
+
+-- a seek that is due went on in a stream, or was not needed there, where this holds of it
+abbrev pub WentTo : Option Pos → Stream → (Stream → Type 0) → Type 0
+WentTo None s now = now s
+WentTo (Some x) s now = now s ⊎ now (sought x s)
 
 -- two parts, each with what is held of it, stand for streams that merge to this one, or to one that a seek that is due makes this one
 abbrev pub SoughtBoth : (Stream → Type 0) → Held → (Stream → Type 0) → Held → Option Pos → Stream → Type 0

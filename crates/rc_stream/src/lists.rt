@@ -130,6 +130,8 @@ impl<H, W: Store> Frags<H, W> for ListFrags {
 
     ghost moves = { λ home store home' store'. (home ≡ home') × (store ≡ store') };
 
+    ghost asks = { λ _ _ _ _ _ _ _. ⊤ };
+
     fn head(&mut self, alloc: Global, _home: &mut H, _store: &mut W) -> Result<Head, StreamErr> {
         match self.copy_head(alloc) {
             Ok(head) => Ok(head),

@@ -1,10 +1,10 @@
 // Two streams as one.
-ghost use Rattle.std.specs.Prelude.{◌≡◌, [], None, IfOk, OnOk, OnErr};
+ghost use Rattle.std.specs.Prelude.{◌≡◌, [], None, Some, IfOk, OnOk, OnErr};
 ghost use Rattle.rc_position.specs.declared.positions.Pos.{Pos};
 ghost use Rattle.rc_stream.specs.Calls.{left_by};
 ghost use Rattle.rc_stream.specs.Causes.{Caused};
 ghost use Rattle.rc_stream.specs.Holding.{bound_of, held};
-ghost use Rattle.rc_stream.specs.Moving.{AheadOfBoth, AskedUpto, HoldBoth, Holds, IsDueAhead, Keeps, KeepsSeen, MaySeek, Moved, RoundReaches, SoughtBoth, StepLeaves};
+ghost use Rattle.rc_stream.specs.Moving.{AheadOfBoth, AskedUpto, HoldBoth, Holds, IsDueAhead, Keeps, KeepsSeen, LookTakes, MaySeek, Moved, Only, RoundReaches, SoughtBoth, StepLeaves, WentTo};
 ghost use Rattle.rc_stream.specs.Merging.{joined_head};
 ghost use Rattle.rc_stream.specs.Places.{Passes};
 ghost use Rattle.rc_stream.specs.Stream.{Stream, first_upto, sought};
@@ -37,7 +37,7 @@ fn look_at_both<H, W: Store, A: Frags<H, W>, B: Frags<H, W>>(
     requires keeps_seen_theirs { KeepsSeen A.moves B.seen }
     ensures holds { (t : Stream) → Holds (A.seen ours.old home.old store.old) ours_held.old t → Holds (A.seen ours.new home.new store.new) ours_held.new t }
     ensures holds_theirs { (t : Stream) → Holds (B.seen theirs.old home.old store.old) theirs_held.old t → Holds (B.seen theirs.new home.new store.new) theirs_held.new t }
-    ensures no_further { (s : Stream) → B.seen theirs.old home.old store.old s → AskedUpto (bound_of upto.now (held ours_held.new)) s (B.seen theirs.new home.new store.new) }
+    ensures no_further { (s : Stream) → B.seen theirs.old home.old store.old s → LookTakes result (bound_of upto.now (held ours_held.new)) (held theirs_held.old) s (λ z. (t : Stream) → Holds (Only (B.seen theirs.old home.old store.old) s) theirs_held.old t → Holds (Only (B.seen theirs.new home.new store.new) z) theirs_held.new t) }
     ensures known { OnOk result ((t : Stream) → Holds (A.seen ours.old home.old store.old) ours_held.old t → held ours_held.new ≡ [] → first_upto upto.now t.left ≡ None) }
     ensures known_theirs { OnOk result ((t : Stream) → Holds (B.seen theirs.old home.old store.old) theirs_held.old t → held theirs_held.new ≡ [] → first_upto (bound_of upto.now (held ours_held.new)) t.left ≡ None) }
     ensures ahead { (x : Pos) → MaySeek (A.ahead ours.old) ours_held.old.look x → MaySeek (A.ahead ours.new) ours_held.new.look x }
@@ -76,6 +76,7 @@ fn round<H, W: Store, A: Frags<H, W>, B: Frags<H, W>>(
     requires keeps_seen { KeepsSeen B.moves A.seen }
     requires keeps_seen_theirs { KeepsSeen A.moves B.seen }
     ensures says { (m : Stream) → HoldBoth (A.seen ours.old home.old store.old) ours_held.old (B.seen theirs.old home.old store.old) theirs_held.old m → StepLeaves result upto.now m (HoldBoth (A.seen ours.new home.new store.new) ours_held.new (B.seen theirs.new home.new store.new) theirs_held.new) }
+    ensures no_further { (m s : Stream) → HoldBoth (A.seen ours.old home.old store.old) ours_held.old (Only (B.seen theirs.old home.old store.old) s) theirs_held.old m → AskedUpto (bound_of upto.now m.left) s (λ z. StepLeaves result upto.now m (HoldBoth (A.seen ours.new home.new store.new) ours_held.new (Only (B.seen theirs.new home.new store.new) z) theirs_held.new)) }
     ensures ahead { (x : Pos) → RoundReaches result x → MaySeek (A.ahead ours.old) ours_held.old.look x → MaySeek (A.ahead ours.new) ours_held.new.look x }
     ensures ahead_theirs { (x : Pos) → RoundReaches result x → MaySeek (B.ahead theirs.old) theirs_held.old.look x → MaySeek (B.ahead theirs.new) theirs_held.new.look x }
     ensures ready { A.ready ours.new home.new store.new }
@@ -123,6 +124,7 @@ fn next_of_both<H, W: Store, A: Frags<H, W>, B: Frags<H, W>>(
     requires keeps_seen_theirs { KeepsSeen A.moves B.seen }
     ensures gives { (m : Stream) → HoldBoth (A.seen ours.old home.old store.old) ours_held.old (B.seen theirs.old home.old store.old) theirs_held.old m → IfOk result (λ got. got ≡ first_upto upto.now m.left) }
     ensures left { (m : Stream) → HoldBoth (A.seen ours.old home.old store.old) ours_held.old (B.seen theirs.old home.old store.old) theirs_held.old m → HoldBoth (A.seen ours.new home.new store.new) ours_held.new (B.seen theirs.new home.new store.new) theirs_held.new (left_by result m) }
+    ensures no_further { (m s : Stream) → HoldBoth (A.seen ours.old home.old store.old) ours_held.old (Only (B.seen theirs.old home.old store.old) s) theirs_held.old m → AskedUpto (bound_of upto.now m.left) s (B.seen theirs.new home.new store.new) }
     ensures ahead { (x : Pos) → Passes result x → MaySeek (A.ahead ours.old) ours_held.old.look x → MaySeek (A.ahead ours.new) ours_held.new.look x }
     ensures ahead_theirs { (x : Pos) → Passes result x → MaySeek (B.ahead theirs.old) theirs_held.old.look x → MaySeek (B.ahead theirs.new) theirs_held.new.look x }
     ensures ready { A.ready ours.new home.new store.new }
@@ -175,6 +177,8 @@ fn go_on_in_both<H, W: Store, A: Frags<H, W>, B: Frags<H, W>>(
     requires ahead_theirs { MaySeek (B.ahead theirs.old) theirs_held.old.look to.now }
     ensures ok { OnOk result ((m : Stream) → HoldBoth (A.seen ours.old home.old store.old) ours_held.old (B.seen theirs.old home.old store.old) theirs_held.old m → HoldBoth (A.seen ours.new home.new store.new) ours_held.new (B.seen theirs.new home.new store.new) theirs_held.new (sought to.now m)) }
     ensures again { (m : Stream) → HoldBoth (A.seen ours.old home.old store.old) ours_held.old (B.seen theirs.old home.old store.old) theirs_held.old m → ((n : Stream) × HoldBoth (A.seen ours.new home.new store.new) ours_held.new (B.seen theirs.new home.new store.new) theirs_held.new n × (sought to.now n ≡ sought to.now m)) }
+    ensures no_further { OnOk result ((m s : Stream) → HoldBoth (A.seen ours.old home.old store.old) ours_held.old (Only (B.seen theirs.old home.old store.old) s) theirs_held.old m → WentTo (Some to.now) s (λ z. HoldBoth (A.seen ours.new home.new store.new) ours_held.new (Only (B.seen theirs.new home.new store.new) z) theirs_held.new (sought to.now m))) }
+    ensures kept { OnErr result ((s : Stream) → B.seen theirs.old home.old store.old s → B.seen theirs.new home.new store.new s) }
     ensures ahead { MaySeek (A.ahead ours.new) ours_held.new.look to.now }
     ensures ahead_theirs { MaySeek (B.ahead theirs.new) theirs_held.new.look to.now }
     ensures ready { A.ready ours.new home.new store.new }
@@ -210,6 +214,8 @@ fn settle<H, W: Store, A: Frags<H, W>, B: Frags<H, W>>(
     requires due { IsDueAhead (A.ahead ours.old) ours_held.old.look (B.ahead theirs.old) theirs_held.old.look due.old }
     ensures ok { OnOk result (due.new ≡ None) }
     ensures seen { (s : Stream) → SoughtBoth (A.seen ours.old home.old store.old) ours_held.old (B.seen theirs.old home.old store.old) theirs_held.old due.old s → SoughtBoth (A.seen ours.new home.new store.new) ours_held.new (B.seen theirs.new home.new store.new) theirs_held.new due.new s }
+    ensures no_further { OnOk result ((m s : Stream) → SoughtBoth (A.seen ours.old home.old store.old) ours_held.old (Only (B.seen theirs.old home.old store.old) s) theirs_held.old due.old m → WentTo due.old s (λ z. HoldBoth (A.seen ours.new home.new store.new) ours_held.new (Only (B.seen theirs.new home.new store.new) z) theirs_held.new m)) }
+    ensures kept { OnErr result ((s : Stream) → B.seen theirs.old home.old store.old s → B.seen theirs.new home.new store.new s) }
     ensures ahead { (x : Pos) → AheadOfBoth (A.ahead ours.old) ours_held.old.look (B.ahead theirs.old) theirs_held.old.look due.old x → AheadOfBoth (A.ahead ours.new) ours_held.new.look (B.ahead theirs.new) theirs_held.new.look due.new x }
     ensures due { IsDueAhead (A.ahead ours.new) ours_held.new.look (B.ahead theirs.new) theirs_held.new.look due.new }
     ensures ready { A.ready ours.new home.new store.new }
@@ -292,7 +298,7 @@ fn joined_head(alloc: Global, head: Head, other: &Head) -> Result<Head, AllocErr
 }
 
 /// Two streams of one partition as one: the canonical stream of what both say together. Of `theirs` nothing is taken that stands
-/// behind the next of `ours`. It is ready where both are, and where what the calls of each may make of a home and a store
+/// behind what is given, or behind `upto` where nothing is (`asks`). It is ready where both are, and where what the calls of each may make of a home and a store
 /// leaves the other one ready and what it stands for.
 #[derive(Drop)]
 pub struct Merge<A, B> {
@@ -319,7 +325,9 @@ impl<A, B> Merge<A, B> {
 }
 
 impl<H, W: Store, A: Frags<H, W>, B: Frags<H, W>> Frags<H, W> for Merge<A, B> {
-    ghost use Rattle.rc_stream.specs.Moving.{AheadOfBoth, IsDueAhead, Keeps, KeepsSeen, Moved, SoughtBoth};
+    ghost use Rattle.rc_stream.specs.Holding.{bound_of};
+    ghost use Rattle.rc_stream.specs.Moving.{AheadOfBoth, AskedUpto, IsDueAhead, Keeps, KeepsSeen, Moved, Only, SoughtBoth, WentTo};
+    ghost use Rattle.rc_stream.specs.Stream.{Stream};
 
     ghost ready = { λ m home store.
         A.ready m.ours home store × B.ready m.theirs home store
@@ -331,6 +339,11 @@ impl<H, W: Store, A: Frags<H, W>, B: Frags<H, W>> Frags<H, W> for Merge<A, B> {
     ghost ahead = { λ m x. AheadOfBoth (A.ahead m.ours) m.ours_held.look (B.ahead m.theirs) m.theirs_held.look m.due x };
 
     ghost moves = { λ home store home' store'. Moved A.moves B.moves home store home' store' };
+
+    // of the second part nothing is taken that stands behind the first that both say, or behind the position
+    ghost asks = { λ m home store upto m' home' store'. (s v : Stream) →
+        SoughtBoth (A.seen m.ours home store) m.ours_held (Only (B.seen m.theirs home store) s) m.theirs_held m.due v →
+        WentTo m.due s (λ z. AskedUpto (bound_of upto v.left) z (B.seen m'.theirs home' store')) };
 
     fn head(&mut self, alloc: Global, home: &mut H, store: &mut W) -> Result<Head, StreamErr> {
         head_of_both(alloc, &mut self.ours, &mut self.theirs, home, store)

@@ -58,6 +58,9 @@ pub trait Frags<H, W: Store> {
     // what a call may make of a home and a store: another home and another store
     ghost moves: { H → W → H → W → Type 0 };
 
+    // what a call for the next up to a position may make of a stream, its home and its store
+    ghost asks: { Self → H → W → Pos → Self → H → W → Type 0 };
+
     /// The head of the partition. The stream is as before. `StreamErr::Fault` when the store fails,
     /// `StreamErr::Damaged` when bytes of a file contradict it, `StreamErr::NoMemory` when memory is refused.
     fn head(&mut self, alloc: Global, home: &mut H, store: &mut W) -> Result<Head, StreamErr>
@@ -109,6 +112,7 @@ pub trait Frags<H, W: Store> {
         ensures ahead { (x : Pos) → Passes result x → ahead self.old x → ahead self.new x }
         ensures ready { ready self.new home.new store.new }
         ensures moves { moves home.old store.old home.new store.new }
+        ensures asks { asks self.old home.old store.old upto.now self.new home.new store.new }
         ensures cause { Caused result (W.files store.old) (W.faults store.old) (W.faults store.new) }
         ensures files { W.files store.new ≡ W.files store.old }
         ensures building { W.building store.new ≡ W.building store.old };

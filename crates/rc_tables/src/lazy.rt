@@ -186,8 +186,8 @@ impl TableFrags {
 }
 
 impl<H, W: Store> Frags<H, W> for TableFrags {
-    ghost use Rattle.std.specs.Prelude.{◌≡◌, ⊤};
-    ghost use Rattle.rc_tables.specs.Streams.{IsReady, StandsFor};
+    ghost use Rattle.std.specs.Prelude.{◌≡◌, ◌+◌, ◌≤◌, ⊤};
+    ghost use Rattle.rc_tables.specs.Streams.{IsReady, StandsFor, asks_left};
 
     ghost ready = { λ t _ store. IsReady (W.files store) t };
 
@@ -196,6 +196,8 @@ impl<H, W: Store> Frags<H, W> for TableFrags {
     ghost ahead = { λ _ _. ⊤ };
 
     ghost moves = { λ home store home' store'. (home ≡ home') × (W.files store' ≡ W.files store) × (W.building store' ≡ W.building store) };
+
+    ghost asks = { λ t _ store _ _ _ store'. W.asks store' ≤ W.asks store + asks_left t };
 
     fn head(&mut self, alloc: Global, _home: &mut H, store: &mut W) -> Result<Head, StreamErr> {
         self.head(alloc, store)

@@ -4,7 +4,8 @@ use Rattle.std.specs.List.{cons_option, list_any}
 use Rattle.rc_cell.specs.Deletion.{survives}
 use Rattle.rc_query.specs.declared.lines.OutLine.{OutLine}
 use Rattle.rc_query.specs.declared.lines.OutLine.TheVariants as line
-use Rattle.rc_query.specs.Answer.{has_any, live_values}
+use Rattle.rc_mutation.specs.Fragments.{has_any}
+use Rattle.rc_query.specs.Answer.{live_values}
 use Rattle.rc_query.proofs.Steps.{row_line-ascending}
 use Rattle.rc_query.proofs.answers.line_of_row.Goals as goal
 

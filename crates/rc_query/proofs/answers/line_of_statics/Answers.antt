@@ -2,7 +2,8 @@
 use Rattle.std.proofs.Common.{◌≡◌, Option, Some, None, cond, ap, sym, ◌∙◌}
 use Rattle.rc_query.specs.declared.lines.OutLine.{OutLine}
 use Rattle.rc_query.specs.declared.lines.OutLine.TheVariants as line
-use Rattle.rc_query.specs.Answer.{has_any, live_values}
+use Rattle.rc_mutation.specs.Fragments.{has_any}
+use Rattle.rc_query.specs.Answer.{live_values}
 use Rattle.rc_query.proofs.Steps.{static_line-ascending}
 use Rattle.rc_query.proofs.answers.line_of_statics.Goals as goal
 

@@ -2,12 +2,14 @@
 use Rattle.std.proofs.Common.{◌≡◌, ◌≤◌}
 use Rattle.rc_position.specs.declared.positions.Pos.{Pos}
 use Rattle.rc_stream.specs.Stream.{Stream}
-use Rattle.rc_stream.specs.Moving.{HoldBoth, MaySeek, Moved}
+use Rattle.rc_stream.specs.Holding.{bound_of}
+use Rattle.rc_stream.specs.Moving.{AskedUpto, HoldBoth, MaySeek, Moved, Only}
 use Rattle.rc_stream.proofs.merges.next_of_both.Given as goal
 
 abbrev pub invariant-loop-rounds : goal.invariant-loop-rounds
 invariant-loop-rounds g l = record {
   says : (m : Stream) → HoldBoth (g.A.Frags.seen l.initial.ours l.initial.home l.initial.store) l.initial.ours_held (g.B.Frags.seen l.initial.theirs l.initial.home l.initial.store) l.initial.theirs_held m → HoldBoth (g.A.Frags.seen l.ours l.home l.store) l.ours_held (g.B.Frags.seen l.theirs l.home l.store) l.theirs_held m;
+  asked : (m s : Stream) → HoldBoth (g.A.Frags.seen l.initial.ours l.initial.home l.initial.store) l.initial.ours_held (Only (g.B.Frags.seen l.initial.theirs l.initial.home l.initial.store) s) l.initial.theirs_held m → AskedUpto (bound_of l.upto m.left) s (λ z. HoldBoth (g.A.Frags.seen l.ours l.home l.store) l.ours_held (Only (g.B.Frags.seen l.theirs l.home l.store) z) l.theirs_held m);
   ahead : (x : Pos) → MaySeek (g.A.Frags.ahead l.initial.ours) l.initial.ours_held.look x → MaySeek (g.A.Frags.ahead l.ours) l.ours_held.look x;
   ahead_theirs : (x : Pos) → MaySeek (g.B.Frags.ahead l.initial.theirs) l.initial.theirs_held.look x → MaySeek (g.B.Frags.ahead l.theirs) l.theirs_held.look x;
   ready : g.A.Frags.ready l.ours l.home l.store;
