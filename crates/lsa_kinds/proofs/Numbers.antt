@@ -1,9 +1,9 @@
 -- Reading and writing a number a byte at a time.
-use Rattle.std.proofs.Common.{◌≡◌, ℕ, zero, suc, ◌+◌, ◌*◌, ◌-◌, ◌/◌, ◌%◌, ◌^◌, ◌<◌, ◌≤◌, inl, inr, List, [], ◌∷◌, ◌++◌, length, get_or, take, drop, sym, ap, ◌∙◌, arith, length-drop, length-take}
+use Rattle.std.proofs.Common.{◌≡◌, ℕ, zero, suc, ◌+◌, ◌*◌, ◌-◌, ◌/◌, ◌%◌, ◌^◌, ◌<◌, ◌≤◌, List, [], ◌∷◌, ◌++◌, length, get_or, take, drop, ap, ◌∙◌, arith, length-drop, length-take}
 use Rattle.std.proofs.Math.ListN.{set}
-use Rattle.std.proofs.Math.Nat.{one-le-pow, pow-suc, div-add-mod}
-use Rattle.std.proofs.lemmas.List.{get_or-drop, get_or-take, drop_more, drop-take, take-take, drop-drop, length-take-le, drop-set-add, take_more_set}
-use Rattle.lsa_kinds.specs.Fields.{number, number_at, IsApart}
+use Rattle.std.proofs.Math.Nat.{one-le-pow, pow-suc}
+use Rattle.std.proofs.lemmas.List.{get_or-drop, get_or-take, drop_more, length-take-le, drop-set-add, take_more_set}
+use Rattle.lsa_kinds.specs.Fields.{number, spelled}
 
 pub number-bound : (bytes : List ℕ) (width : ℕ) → ((k : ℕ) → get_or bytes k 0 < 256) → length bytes ≤ width → number bytes < 256 ^ width
 number-bound [] width small short = omega (arith, one-le-pow width 256 (omega arith))
@@ -39,34 +39,9 @@ pub field_number : (offset width index : ℕ) (bytes : List ℕ) → index < wid
     → number (drop index (take width (drop offset bytes))) ≡ get_or bytes (offset + index) 0 + 256 * number (drop (index + 1) (take width (drop offset bytes)))
 field_number offset width index bytes below inside = ap number (field_from offset width index bytes below inside)
 
--- the bytes of a number, the least significant one first
-abbrev pub spelled : ℕ → ℕ → List ℕ
-spelled zero value = []
-spelled (suc width) value = value % 256 ∷ spelled width (value / 256)
-
-pub number-spelled : (width value : ℕ) → value < 256 ^ width → number (spelled width value) ≡ value
-number-spelled zero value fits = omega arith
-number-spelled (suc width) value fits =
-    omega (arith, number-spelled width (value / 256) (omega (arith, pow-suc 256 width, div-add-mod value 256)), div-add-mod value 256)
-
 pub spelled-next : (width index value : ℕ) → index < width → spelled (width - index) value ≡ value % 256 ∷ spelled (width - (index + 1)) (value / 256)
 spelled-next width index value below =
     let next : width - index ≡ suc (width - (index + 1)) = omega arith in ap (λ k. spelled k value) next
-
--- what lies before a field or behind it stays, as other fields show
-take_within : (other width offset : ℕ) (bytes : List ℕ) → other + width ≤ offset → take width (drop other bytes) ≡ drop other (take (other + width) (take offset bytes))
-take_within other width offset bytes le = sym (drop-take other width bytes) ∙ ap (drop other) (sym (take-take (other + width) offset bytes le))
-
-drop_within : (other offset : ℕ) (bytes : List ℕ) → offset ≤ other → drop other bytes ≡ drop (other - offset) (drop offset bytes)
-drop_within other offset bytes le =
-    let same : other ≡ offset + (other - offset) = omega arith in ap (λ k. drop k bytes) same ∙ sym (drop-drop (other - offset) offset bytes)
-
-pub other_fields : (old new : List ℕ) (offset width : ℕ) → take offset new ≡ take offset old → drop (offset + width) new ≡ drop (offset + width) old
-    → (other other_width : ℕ) → IsApart offset width other other_width → number_at other other_width new ≡ number_at other other_width old
-other_fields old new offset width before behind other other_width (inl le) =
-    ap number (take_within other other_width offset new le ∙ ap (λ bs. drop other (take (other + other_width) bs)) before ∙ sym (take_within other other_width offset old le))
-other_fields old new offset width before behind other other_width (inr le) =
-    ap (λ bs. number (take other_width bs)) (drop_within other (offset + width) new le ∙ ap (drop (other - (offset + width))) behind ∙ sym (drop_within other (offset + width) old le))
 
 -- one more byte of the field is written
 pub write_more : (offset index byte : ℕ) (bytes : List ℕ) → offset + index < length bytes

@@ -1,10 +1,15 @@
 -- Numbers in the bytes of an object.
-use Rattle.std.specs.Prelude.{◌≡◌, ℕ, ◌+◌, ◌*◌, ◌≤◌, ◌⊎◌, List, [], ◌∷◌, take, drop}
+use Rattle.std.specs.Prelude.{◌≡◌, ℕ, zero, suc, ◌+◌, ◌*◌, ◌/◌, ◌%◌, ◌≤◌, ◌⊎◌, List, [], ◌∷◌, take, drop}
 
 -- the number that bytes spell, the least significant byte first
 abbrev pub number : List ℕ → ℕ
 number [] = 0
 number (byte ∷ bytes) = byte + 256 * number bytes
+
+-- the bytes that spell a number in so many bytes, the least significant one first
+abbrev pub spelled : ℕ → ℕ → List ℕ
+spelled zero value = []
+spelled (suc width) value = value % 256 ∷ spelled width (value / 256)
 
 -- the number in the field of this width at this offset
 abbrev pub number_at : ℕ → ℕ → List ℕ → ℕ

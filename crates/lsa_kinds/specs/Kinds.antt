@@ -1,6 +1,7 @@
 -- The layout of each kind of object: a header of 8 bytes, the links, each of 8 bytes, then the kind's own fields.
-use Rattle.std.specs.Prelude.{ℕ, ◌+◌, ◌*◌}
+use Rattle.std.specs.Prelude.{ℕ, ◌+◌, ◌*◌, ◌≤◌, List, [], ◌∷◌, All, AllPairs}
 use Rattle.lsa_kinds.specs.declared.kind.Kind.{Kind}
+use Rattle.lsa_kinds.specs.Fields.{IsApart}
 use Rattle.lsa_kinds.specs.declared.kind.Kind.TheVariants.{Version, RowEntry, Dummy, Static}
 
 -- the number of a kind in an object's first byte
@@ -27,3 +28,22 @@ fixed_size_of Static = 32
 -- where a link lies in its object
 abbrev pub link_offset : ℕ → ℕ
 link_offset field = 8 + 8 * field
+
+-- where each of an entry's own fields begins behind the links, and how many bytes it takes
+abbrev pub entry_fields : List (ℕ × ℕ)
+entry_fields = (0, 1) ∷ (1, 1) ∷ (4, 4) ∷ (8, 8) ∷ (16, 8) ∷ (24, 4) ∷ (28, 4) ∷ []
+
+-- where each of a kind's own fields begins behind the links, and how many bytes it takes
+abbrev pub fields_of : Kind → List (ℕ × ℕ)
+fields_of Version = (0, 1) ∷ (4, 4) ∷ (8, 8) ∷ (16, 8) ∷ []
+fields_of RowEntry = entry_fields
+fields_of Dummy = entry_fields
+fields_of Static = []
+
+-- no two of these fields have a byte in common
+abbrev pub AreApart : List (ℕ × ℕ) → Type 0
+AreApart fields = AllPairs (λ f g. IsApart f.0 f.1 g.0 g.1) fields
+
+-- each of these fields lies behind the links of an object of the kind, however short that is
+abbrev pub AreInside : Kind → List (ℕ × ℕ) → Type 0
+AreInside kind fields = All (λ f. 8 + 8 * links_of kind + f.0 + f.1 ≤ fixed_size_of kind) fields

@@ -1,13 +1,20 @@
-//! A field of an object: a number in some of the object's bytes.
-ghost use Rattle.std.specs.Prelude.{◌≡◌, ◌+◌, ◌^◌, ◌<◌, ◌≤◌, length};
-ghost use Rattle.lsa_kinds.specs.Fields.{number_at, IsPut};
+//! A field: a number in some of the bytes of an object.
+ghost use Rattle.std.specs.Prelude.{◌≡◌, ◌+◌, ◌^◌, ◌<◌, ◌≤◌, length, take, drop};
+ghost use Rattle.lsa_kinds.specs.Fields.{number_at, spelled, IsPut};
 
-/// The field of `WIDTH` bytes, 1 to 8, at `OFFSET` in an object. It holds a number below 256 ^ `WIDTH`, the least
+/// The field of `WIDTH` bytes, 1 to 8, at `OFFSET` in some bytes. It holds a number below 256 ^ `WIDTH`, the least
 /// significant byte first.
 pub struct Field<const OFFSET: usize, const WIDTH: usize>;
 
 impl<const OFFSET: usize, const WIDTH: usize> Field<OFFSET, WIDTH> {
-    /// The number that the field holds in an object with these bytes.
+    /// Where the field begins, and how many bytes it takes.
+    pub fn place() -> (usize, usize)
+        ensures { result ≡ (OFFSET, WIDTH) }
+    {
+        (OFFSET, WIDTH)
+    }
+
+    /// The number that the field holds in these bytes.
     pub fn get(bytes: &[u8]) -> u64
         requires inside { OFFSET + WIDTH ≤ length bytes.now }
         requires width { WIDTH ≤ 8 }
@@ -25,7 +32,8 @@ impl<const OFFSET: usize, const WIDTH: usize> Field<OFFSET, WIDTH> {
         requires inside { OFFSET + WIDTH ≤ length bytes.old }
         requires width { WIDTH ≤ 8 }
         requires fits { value < 256 ^ WIDTH }
-        ensures { IsPut bytes.old bytes.new OFFSET WIDTH value }
+        ensures bytes { take WIDTH (drop OFFSET bytes.new) ≡ spelled WIDTH value }
+        ensures put { IsPut bytes.old bytes.new OFFSET WIDTH value }
     {
         let mut rest = value;
         for index in 0..WIDTH {
@@ -33,4 +41,13 @@ impl<const OFFSET: usize, const WIDTH: usize> Field<OFFSET, WIDTH> {
             rest /= 256;
         }
     }
+}
+
+/// The bytes of a number, the least significant one first.
+pub fn spell(value: u64) -> [u8; 8]
+    ensures { result ≡ spelled 8 value }
+{
+    let mut bytes = [0; 8];
+    Field::<0, 8>::put(&mut bytes, value);
+    bytes
 }

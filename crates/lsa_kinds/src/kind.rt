@@ -1,5 +1,5 @@
 //! The kinds of objects: how many links each has, where they lie, and how long an object is at least.
-ghost use Rattle.std.specs.Prelude.{◌≡◌, ◌<◌, ◌≤◌, length, MatchOption};
+ghost use Rattle.std.specs.Prelude.{◌≡◌, ◌+◌, ◌*◌, ◌<◌, ◌≤◌, length, MatchOption};
 ghost use Rattle.lsa_kinds.specs.Fields.{number_at, IsPut};
 ghost use Rattle.lsa_kinds.specs.Kinds.{code_of, links_of, fixed_size_of, link_offset};
 
@@ -102,19 +102,19 @@ pub fn fixed_size(kind: Kind) -> usize
     by_kind!(kind, size_of_kind)
 }
 
-/// The number in a link of an object of this kind that has these bytes.
+/// The number in a link of an object of this kind, of which these bytes have the header and the links at least.
 pub fn link_get(kind: Kind, field: usize, bytes: &[u8]) -> u64
     requires known { field < links_of kind }
-    requires inside { fixed_size_of kind ≤ length bytes.now }
+    requires inside { 8 + 8 * links_of kind ≤ length bytes.now }
     ensures { result ≡ number_at (link_offset field) 8 bytes.now }
 {
     by_kind!(kind, read_link, field, bytes)
 }
 
-/// Writes a number into a link of an object of this kind. Every other byte stays, and so every other link.
+/// Writes a number into a link of an object of this kind, of which these bytes have the header and the links at least. Every other byte stays, and so every other link.
 pub fn link_put(kind: Kind, field: usize, bytes: &mut [u8], value: u64)
     requires known { field < links_of kind }
-    requires inside { fixed_size_of kind ≤ length bytes.old }
+    requires inside { 8 + 8 * links_of kind ≤ length bytes.old }
     ensures { IsPut bytes.old bytes.new (link_offset field) 8 value }
 {
     by_kind!(kind, write_link, field, bytes, value)

@@ -1,6 +1,12 @@
-//! Where the fields of each kind of object lie, other than the links. Every object begins with the fields of `header`.
+//! Where the fields of each kind of object lie. Every object begins with the fields of `header`, and its links follow. The offsets of a
+//! kind's own fields count from behind the links, as those of a region's `bytes` and `write` do.
+ghost use Rattle.std.specs.Prelude.{◌≡◌, slice_get};
+ghost use Rattle.lsa_kinds.specs.declared.kind.Kind.TheVariants.{Version};
+ghost use Rattle.lsa_kinds.specs.Kinds.{fields_of, entry_fields};
 
-/// The first 8 bytes of every object.
+use crate::kind::Kind;
+
+/// The first 8 bytes of every object: these offsets count from its beginning.
 pub mod header {
     use crate::field::Field;
 
@@ -15,13 +21,13 @@ pub mod version {
     use crate::field::Field;
 
     /// Bit 0 says that there is a partition tombstone; bits 1 and 2 are the static row's flag.
-    pub type Flags = Field<40, 1>;
+    pub type Flags = Field<0, 1>;
     /// The partition tombstone's deletion time, in seconds.
-    pub type TombstoneDeletionTime = Field<44, 4>;
+    pub type TombstoneDeletionTime = Field<4, 4>;
     /// The partition tombstone's timestamp, in two's complement.
-    pub type TombstoneTimestamp = Field<48, 8>;
+    pub type TombstoneTimestamp = Field<8, 8>;
     /// The phase of the version.
-    pub type Phase = Field<56, 8>;
+    pub type Phase = Field<16, 8>;
 }
 
 /// An entry of a version: a row entry or a dummy.
@@ -30,19 +36,57 @@ pub mod entry {
 
     /// Bits 0 and 1 are the flag at the entry's position, 2 and 3 that of the gap before it; bit 4 says that there is a
     /// tombstone at the position, bit 5 that there is one over the gap.
-    pub type Flags = Field<48, 1>;
+    pub type Flags = Field<0, 1>;
     /// The balance of the tree at this entry.
-    pub type Balance = Field<49, 1>;
+    pub type Balance = Field<1, 1>;
     /// The deletion time of the tombstone at the position.
-    pub type TombstoneAtDeletionTime = Field<52, 4>;
+    pub type TombstoneAtDeletionTime = Field<4, 4>;
     /// The timestamp of the tombstone at the position, in two's complement.
-    pub type TombstoneAtTimestamp = Field<56, 8>;
+    pub type TombstoneAtTimestamp = Field<8, 8>;
     /// The timestamp of the tombstone over the gap, in two's complement.
-    pub type TombstoneGapTimestamp = Field<64, 8>;
+    pub type TombstoneGapTimestamp = Field<16, 8>;
     /// The deletion time of the tombstone over the gap.
-    pub type TombstoneGapDeletionTime = Field<72, 4>;
-    /// How many bytes the position takes. The position begins at byte 80, and the row follows it.
-    pub type PositionSize = Field<76, 4>;
+    pub type TombstoneGapDeletionTime = Field<24, 4>;
+    /// How many bytes the position takes. The position begins at byte 32, and the row follows it.
+    pub type PositionSize = Field<28, 4>;
+}
+
+/// Where a kind's own field of this number begins behind the links, and how many bytes it takes; None past its last one.
+pub fn field_of(kind: Kind, number: usize) -> Option<(usize, usize)>
+    ensures { result ≡ slice_get (fields_of kind) number }
+{
+    match kind {
+        Kind::Version => version_field(number),
+        Kind::RowEntry | Kind::Dummy => entry_field(number),
+        Kind::Static => None,
+    }
+}
+
+fn version_field(number: usize) -> Option<(usize, usize)>
+    ensures { result ≡ slice_get (fields_of Version) number }
+{
+    match number {
+        0 => Some(version::Flags::place()),
+        1 => Some(version::TombstoneDeletionTime::place()),
+        2 => Some(version::TombstoneTimestamp::place()),
+        3 => Some(version::Phase::place()),
+        _ => None,
+    }
+}
+
+fn entry_field(number: usize) -> Option<(usize, usize)>
+    ensures { result ≡ slice_get entry_fields number }
+{
+    match number {
+        0 => Some(entry::Flags::place()),
+        1 => Some(entry::Balance::place()),
+        2 => Some(entry::TombstoneAtDeletionTime::place()),
+        3 => Some(entry::TombstoneAtTimestamp::place()),
+        4 => Some(entry::TombstoneGapTimestamp::place()),
+        5 => Some(entry::TombstoneGapDeletionTime::place()),
+        6 => Some(entry::PositionSize::place()),
+        _ => None,
+    }
 }
 
 #[cfg(test)]
@@ -79,21 +123,21 @@ mod tests {
     fn header_and_version(rt: HostRuntime) {
         written!(rt; header, KindCode, 0, 1, 255);
         written!(rt; header, Size, 4, 4, 4294967295);
-        written!(rt; version, Flags, 40, 1, 255);
-        written!(rt; version, TombstoneDeletionTime, 44, 4, 4294967295);
-        written!(rt; version, TombstoneTimestamp, 48, 8, 18446744073709551615);
-        written!(rt; version, Phase, 56, 8, 18446744073709551615);
+        written!(rt; version, Flags, 0, 1, 255);
+        written!(rt; version, TombstoneDeletionTime, 4, 4, 4294967295);
+        written!(rt; version, TombstoneTimestamp, 8, 8, 18446744073709551615);
+        written!(rt; version, Phase, 16, 8, 18446744073709551615);
     }
 
     #[test]
     fn entries(rt: HostRuntime) {
-        written!(rt; entry, Flags, 48, 1, 255);
-        written!(rt; entry, Balance, 49, 1, 255);
-        written!(rt; entry, TombstoneAtDeletionTime, 52, 4, 4294967295);
-        written!(rt; entry, TombstoneAtTimestamp, 56, 8, 18446744073709551615);
-        written!(rt; entry, TombstoneGapTimestamp, 64, 8, 18446744073709551615);
-        written!(rt; entry, TombstoneGapDeletionTime, 72, 4, 4294967295);
-        written!(rt; entry, PositionSize, 76, 4, 4294967295);
+        written!(rt; entry, Flags, 0, 1, 255);
+        written!(rt; entry, Balance, 1, 1, 255);
+        written!(rt; entry, TombstoneAtDeletionTime, 4, 4, 4294967295);
+        written!(rt; entry, TombstoneAtTimestamp, 8, 8, 18446744073709551615);
+        written!(rt; entry, TombstoneGapTimestamp, 16, 8, 18446744073709551615);
+        written!(rt; entry, TombstoneGapDeletionTime, 24, 4, 4294967295);
+        written!(rt; entry, PositionSize, 28, 4, 4294967295);
     }
 
     #[test]

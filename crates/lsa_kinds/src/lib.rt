@@ -3,7 +3,8 @@
 
 pub mod field;
 pub mod kind;
+pub mod laws;
 pub mod layout;
 
-pub use field::Field;
+pub use field::{Field, spell};
 pub use kind::{Kind, fixed_size, link_get, link_put, links};

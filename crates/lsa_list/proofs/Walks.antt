@@ -8,10 +8,10 @@ use Rattle.lsa_kinds.specs.Kinds.{links_of}
 use Rattle.lsa_region.specs.declared.end.Ref.{Ref}
 use Rattle.lsa_region.specs.Ends.{named_as}
 use Rattle.lsa_region.specs.Region.{View, body, IsWell, IsAdded, Renamed}
-use Rattle.lsa_path.proofs.Renamed.{some-there}
+use Rattle.lsa_path.specs.laws.Renamed.{some-there}
 use Rattle.lsa_list.specs.declared.recency.List.{List as Slots}
 use Rattle.lsa_list.specs.Recency.{IsList, IsOneOf, first}
-use Rattle.lsa_list.proofs.Lists.{recent-at, list-added, list-renamed}
+use Rattle.lsa_list.specs.laws.Lists.{recent-at, list-added, list-renamed}
 
 module _ (slots : Slots) (v : View) where
   pub one-first : (refs : List Ref) → IsList slots v refs → (o : Option Ref) → o ≡ first refs → IsOneOf slots v o

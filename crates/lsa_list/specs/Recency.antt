@@ -1,5 +1,7 @@
 -- The recency list: the references on the path between its two root slots, the least recent first.
-use Rattle.std.specs.Prelude.{◌≢◌, List, [], ◌∷◌, ◌++◌, Option, Some, None, IsSomeAnd, IfSome, ⊤}
+use Rattle.std.specs.Prelude.{◌≢◌, ℕ, List, [], ◌∷◌, ◌++◌, Option, Some, None, IsSomeAnd, IfSome, ⊤}
+use Rattle.std.specs.Option.{option_map}
+use Rattle.lsa_kinds.specs.declared.kind.Kind.{Kind}
 use Rattle.lsa_kinds.specs.declared.kind.Kind.TheVariants.{Version}
 use Rattle.lsa_region.specs.declared.end.Ref.{Ref}
 use Rattle.lsa_region.specs.declared.end.End.{End}
@@ -8,6 +10,10 @@ use Rattle.lsa_region.specs.Region.{View, body, link_of}
 use Rattle.lsa_path.specs.Path.{IsPath}
 use Rattle.lsa_path.specs.Roles.{role_of, LessRecent, MoreRecent}
 use Rattle.lsa_list.specs.declared.recency.List.{List as Slots}
+
+-- the kind of an object; None where there is no such object
+abbrev pub kind_of : View → Ref → Option Kind
+kind_of v r = option_map (λ b. b.0) (body v r)
 
 -- the object is there and has a link to the less recent object and one to the more recent one: any but a version has
 abbrev pub HasRecency : View → Ref → Type 0

@@ -71,7 +71,7 @@ impl Beside {
 
     // Whether the list leads through the objects with the numbers of the vector, and there are no others.
     fn agrees(&self) -> bool {
-        self.region.objects() == self.plain.len()
+        self.region.objects() == self.plain.len() as u64
             && leads_through(self.list, &self.region, self.plain.as_slice())
     }
 }

@@ -1,84 +1,16 @@
--- Each region is renamed to itself, and a region renamed twice is renamed once.
-use Rattle.std.proofs.Common.{◌≡◌, ◌≢◌, ℕ, zero, suc, ◌<◌, true, List, [], ◌∷◌, length, get_or, map, Option, Some, None, cond, inl, inr, refl, sym, ap, ◌∙◌, subst, ◌⊎◌, arith}
-use Rattle.std.specs.Prelude.{is_some, IsSome, IsSomeAnd, Contains, AllPairs}
+-- A region renamed twice is renamed once.
+use Rattle.std.proofs.Common.{◌≡◌, ◌≢◌, ℕ, ◌<◌, List, [], ◌∷◌, length, get_or, map, Option, Some, None, refl, sym, ap, ◌∙◌, subst, arith}
+use Rattle.std.specs.Prelude.{IsSome, IsSomeAnd, Contains, AllPairs}
 use Rattle.std.specs.Option.{option_map}
-use Rattle.std.proofs.lemmas.Bool.{eq-eqb}
-use Rattle.std.proofs.lemmas.Bool.Decides.{eqb_tells}
 use Rattle.std.proofs.lemmas.List.{get_or-map, length-map}
 use Rattle.lsa_kinds.specs.declared.kind.Kind.{Kind}
 use Rattle.lsa_kinds.specs.Kinds.{links_of}
-use Rattle.lsa_pool.specs.declared.Usage.{Usage}
-use Rattle.lsa_pool.specs.Room.{nothing, usage_of}
 use Rattle.lsa_region.specs.declared.end.Ref.{Ref}
 use Rattle.lsa_region.specs.declared.end.End.{End}
 use Rattle.lsa_region.specs.declared.end.End.TheVariants.{Obj, Slot}
 use Rattle.lsa_region.specs.Ends.{named_as, end_as}
-use Rattle.lsa_region.specs.Layout.{Spot, extent}
-use Rattle.lsa_region.specs.Region.{View, body, link_of, spot_of, IsEnd, IsWell, HasLayout, AreLive, Renamed}
-use Rattle.lsa_region.proofs.Laid.{rounded_32}
-use Rattle.lsa_region.proofs.Renaming.{emptied}
-
-abbrev ref : ℕ → Ref
-ref n = record { number = n }
-
-none : Ref × Ref
-none = (record { number = 0 }, record { number = 0 })
-
--- ---- one list of names
-
-named-at : (names : List (Ref × Ref)) (j : ℕ) (d : Ref × Ref) → AllPairs ◌≢◌ (map (λ pair. pair.0) names) → j < length names → named_as names (get_or names j d).0 ≡ (get_or names j d).1
-named-at [] j d once lt = absurd (omega arith)
-named-at (pair ∷ names) zero d once lt = ap (λ t. cond t pair.1 (named_as names pair.0)) (eq-eqb pair.0.number pair.0.number refl)
-named-at (pair ∷ names) (suc j) d once lt = elim (eqb_tells pair.0.number (get_or names j d).0.number) [
-  | inl w ↦ absurd (once 0 (suc j) pair.0 (omega arith) (omega (arith, lt, length-map names (λ (p : Ref × Ref). p.0))) (same_ref pair.0 (get_or names j d).0 w.1 ∙ sym (get_or-map (λ (p : Ref × Ref). p.0) names j d pair.0 (omega (arith, lt)))))
-  | inr w ↦ ap (λ t. cond t pair.1 (named_as names (get_or names j d).0)) w.0 ∙ named-at names j d (λ a b e less within. once (suc a) (suc b) e (omega (arith, less)) (omega (arith, within))) (omega (arith, lt))
-]
-  where
-    same_ref : (r q : Ref) → r.number ≡ q.number → r ≡ q
-    same_ref r q same = ap (λ (n : ℕ). ref n) same
-
-module _ (v w : View) (names : List (Ref × Ref)) (renamed : Renamed v w names) where
-  -- where a live object stands in the list
-  place : (r : Ref) → IsSome (body v r) → (j : ℕ) × (j < length names) × ((d : Ref × Ref) → (get_or names j d).0 ≡ r) × ((d : Ref × Ref) → (get_or names j d).1 ≡ named_as names r)
-  place r live = let h = renamed.before.each r live in
-      let lt : h.0 < length names = omega (arith, h.1, length-map names (λ (p : Ref × Ref). p.0)) in
-      let is : (d : Ref × Ref) → (get_or names h.0 d).0 ≡ r = λ d. sym (get_or-map (λ (p : Ref × Ref). p.0) names h.0 d r lt) ∙ h.2 in
-      (h.0, lt, is, λ d. sym (named-at names h.0 d renamed.before.once lt) ∙ ap (named_as names) (is d))
-
-  goes : (r : Ref) → IsSome (body v r) → IsSome (body w (named_as names r))
-  goes r live = subst IsSome (sym (renamed.bodies r live)) live
-
-  -- what is live now came from what was live
-  came : (q : Ref) → IsSome (body w q) → (r : Ref) × IsSome (body v r) × (named_as names r ≡ q)
-  came q live = let h = renamed.after.each q live in
-      let lt : h.0 < length names = omega (arith, h.1, length-map names (λ (p : Ref × Ref). p.1)) in (
-        (get_or names h.0 none).0,
-        renamed.before.live (get_or names h.0 none).0 (h.0, omega (arith, lt, length-map names (λ (p : Ref × Ref). p.0)), get_or-map (λ (p : Ref × Ref). p.0) names h.0 none (get_or names h.0 none).0 lt),
-        named-at names h.0 none renamed.before.once lt ∙ sym (get_or-map (λ (p : Ref × Ref). p.1) names h.0 none q lt) ∙ h.2,
-      )
-
-  apart : (r q : Ref) (i j : ℕ) → i < j → j < length names → (get_or names i none).1 ≡ (get_or names j none).1 → r ≡ q
-  apart r q i j less lt same = absurd (renamed.after.once i j r less (omega (arith, lt, length-map names (λ (p : Ref × Ref). p.1)))
-      (get_or-map (λ (p : Ref × Ref). p.1) names i none r (omega (arith, less, lt)) ∙ same ∙ sym (get_or-map (λ (p : Ref × Ref). p.1) names j none r lt)))
-
-  one-to-one : (r q : Ref) → IsSome (body v r) → IsSome (body v q) → named_as names r ≡ named_as names q → r ≡ q
-  one-to-one r q live other same = let p = place r live in let o = place q other in
-      let alike : (get_or names p.0 none).1 ≡ (get_or names o.0 none).1 = p.3 none ∙ same ∙ sym (o.3 none) in
-      elim (order p.0 o.0) [
-        | inl less ↦ apart r q p.0 o.0 less o.1 alike
-        | inr (inl less) ↦ apart r q o.0 p.0 less p.1 (sym alike)
-        | inr (inr is) ↦ sym (p.2 none) ∙ ap (λ n. (get_or names n none).0) is ∙ o.2 none
-      ]
-    where
-      order : (i j : ℕ) → (i < j) ⊎ ((j < i) ⊎ (i ≡ j))
-      order zero zero = inr (inr refl)
-      order zero (suc j) = inl (omega arith)
-      order (suc i) zero = inr (inl (omega arith))
-      order (suc i) (suc j) = elim (order i j) [
-        | inl less ↦ inl (omega (arith, less))
-        | inr (inl less) ↦ inr (inl (omega (arith, less)))
-        | inr (inr is) ↦ inr (inr (ap (λ n. suc n) is))
-      ]
+use Rattle.lsa_region.specs.Region.{View, body, link_of, IsEnd, IsWell, AreLive, Renamed}
+use Rattle.lsa_region.specs.laws.Names.{none, named-at, place, goes, came, one-to-one}
 
 -- ---- two lists of names
 
@@ -153,21 +85,3 @@ module _ (a b c : View) (first second : List (Ref × Ref)) (ab : Renamed a b fir
     budget = bc.budget ∙ ab.budget;
     live = bc.live ∙ ab.live;
   }
-
--- ---- the same names
-
-past : (us : List Usage) → usage_of us (length us) ≡ nothing
-past [] = refl
-past (u ∷ us) = past us
-
-taken : (o : Option (Kind × List ℕ)) → is_some o ≡ true → 0 < extent o
-taken None h = cc
-taken (Some b) h = omega (arith, rounded_32 b.0 (length b.1))
-
-pub renamed-same : (v : View) → HasLayout v → (names : List (Ref × Ref)) × Renamed v v names
-renamed-same v layout = let e = emptied v v (λ r. refl) refl refl (length v.usages) refl refl (λ r s is _. is) gone (past v.usages) in (e.0, e.1.renamed)
-  where
-    gone : (r : Ref) (s : Spot) → spot_of v r ≡ Some s → s.segment ≢ length v.usages
-    gone r s is at = let none_used : (usage_of v.usages s.segment).used ≡ 0 = ap (λ n. (usage_of v.usages n).used) at ∙ ap (λ (u : Usage). u.used) (past v.usages) in
-        let some = taken (body v r) (sym (layout.placed r) ∙ ap (λ o. is_some o) is) in
-        absurd (omega (arith, layout.used r s is, none_used, some))

@@ -25,7 +25,7 @@ pub record IsCompacted (size : ℕ) (old new : View) (n : ℕ) : Type 0 where
   pub epoch : Risen old.epoch new.epoch
   pub well : IsWell new
 
--- so many segments were emptied, one after the other, each the sparsest at its time
-abbrev pub Compactions : ℕ → ℕ → View → View → Type 0
-Compactions size zero old new = new ≡ old
-Compactions size (suc rounds) old new = (mid : View) × (n : ℕ) × Compactions size rounds old mid × IsCompacted size mid new n
+-- so many segments were emptied, one after the other, each the sparsest at its time, and each while fewer bytes than needed were spare
+abbrev pub Compactions : ℕ → ℕ → ℕ → View → View → Type 0
+Compactions size need zero old new = new ≡ old
+Compactions size need (suc rounds) old new = (mid : View) × (n : ℕ) × Compactions size need rounds old mid × (spare_of size mid.usages < need) × IsCompacted size mid new n

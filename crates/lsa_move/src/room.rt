@@ -18,14 +18,18 @@ pub enum Ensured {
 }
 
 /// Empties the closed segment with least live bytes: its objects lie elsewhere, under new names, and what is spare rises by an
-/// eighth of a segment at least. False exactly where no closed segment is sparse; then nothing is changed.
+/// eighth of a segment at least. False exactly where no closed segment is sparse; then nothing is changed. Whatever it answers, the region is
+/// the old one under new names.
 pub fn compact_one<const S: usize>(region: &mut Region<S>) -> bool
     ensures tells { result ≡ is_some (sparse_of S region.old.usages) }
     ensures tight { result ≡ false → Tight S region.old.usages }
     ensures loose { result ≡ true → Tight S region.old.usages → ⊥ }
     ensures same { result ≡ false → region.new ≡ region.old }
     ensures compacted { IfSome (sparse_of S region.old.usages) (IsCompacted S region.old region.new) }
+    ensures renamed { (names : List (Name × Name)) × Renamed region.old region.new names }
+    ensures well { IsWell region.new }
 {
+    region.known();
     match region.sparse() {
         Some(n) => {
             region.evacuate(n);
@@ -43,7 +47,7 @@ pub fn ensure<const S: usize>(region: &mut Region<S>, need: usize) -> Ensured
     ensures full { result ≡ Ensured.Full → spare_of S region.new.usages < need }
     ensures tight { result ≡ Ensured.Full → Tight S region.new.usages }
     ensures idle { need ≤ spare_of S region.old.usages → region.new ≡ region.old }
-    ensures rounds { (rounds : ℕ) × Compactions S rounds region.old region.new × (rounds ≤ need / (S / 8) + 1) }
+    ensures rounds { (rounds : ℕ) × Compactions S need rounds region.old region.new × (rounds ≤ need / (S / 8) + 1) }
     ensures compacted { region.new.compacted ≤ region.old.compacted + (need / (S / 8) + 1) }
     ensures moved { region.old.moved ≤ region.new.moved }
     ensures renamed { (names : List (Name × Name)) × Renamed region.old region.new names }

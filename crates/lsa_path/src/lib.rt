@@ -1,7 +1,7 @@
-//! Paths along links, from which lists, ordered lists and chains are made: an object is put into one, or taken out of it.
+//! Paths along links, from which lists, ordered lists and chains are made: an object is put into one, taken out of it, or exchanged for another.
 #![tactic(auto)]
 
 pub mod laws;
 mod path;
 
-pub use path::{insert_behind, take_out};
+pub use path::{exchange_objects, insert_behind, take_out};

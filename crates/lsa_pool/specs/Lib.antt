@@ -1,3 +1,4 @@
 pub mod Room
 pub mod Account
 pub mod Sparsest
+pub mod laws

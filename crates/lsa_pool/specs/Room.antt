@@ -48,6 +48,14 @@ active_of us = position (λ u. is_state_active u.state) us
 abbrev pub active_room : ℕ → List Usage → ℕ
 active_room size us = option_map_or (λ n. size - (usage_of us n).used) (active_of us) 0
 
+-- closed, and three quarters of its size bytes are live at most
+abbrev pub is_sparse : ℕ → Usage → Bool
+is_sparse size u = is_state_closed u.state && nat_le u.live (3 * size / 4)
+
+-- how many segments are sparse
+abbrev pub sparse_count : ℕ → List Usage → ℕ
+sparse_count size us = count_by (is_sparse size) us
+
 -- How many bytes may surely still be taken, whatever the sizes of the objects, each of size / 8 at most: one free segment is
 -- held in reserve, and up to an eighth of a segment may be lost at its end.
 abbrev pub spare_of : ℕ → List Usage → ℕ

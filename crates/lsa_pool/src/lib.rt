@@ -2,11 +2,14 @@
 #![tactic(auto)]
 
 ghost use Rattle.std.specs.Prelude.{◌≡◌, ◌≢◌, ℕ, ◌+◌, ◌-◌, ◌*◌, ◌/◌, ◌%◌, ◌^◌, ◌<◌, ◌≤◌, [], ◌∷◌, length, replicate, slice_index, slice_set, vec_len, Option, Some, None, IsSome, IsNone, IfOk, IfSome};
-ghost use Rattle.lsa_pool.specs.Room.{nothing, usage_of, free_count, live_sum, active_of, spare_of, sparsest_of};
+ghost use Rattle.lsa_pool.specs.Room.{nothing, usage_of, free_count, live_sum, active_of, spare_of, sparse_count, sparsest_of};
 ghost use Rattle.lsa_pool.specs.Account.{IsSound};
+
+mod tally;
 
 use std::alloc::{AllocError, Global};
 use std::marker::Model;
+use tally::{FREE, Tally};
 
 /// What a segment is used for.
 #[derive(Clone, Copy, Debug, PartialEq, Eq)]
@@ -33,7 +36,7 @@ pub struct Usage {
 /// The usages of the segments of `S` bytes each, by number from 0. `S` is a multiple of 64, from 4096 to 2 ^ 27.
 #[derive(Drop)]
 pub struct Pool<const S: usize> {
-    usages: Vec<Usage>,
+    usages: Tally<S>,
     free_list: Vec<u32>,
     free_len: usize,
     active: Option<u32>,
@@ -46,9 +49,9 @@ impl<const S: usize> Model for Pool<S> {
 
     ghost Value = { List Usage };
 
-    ghost view = { λ p. p.usages.items };
+    ghost view = { λ p. p.usages };
 
-    ghost invariant = { λ p. IsKept S p.usages.items p.free_list.items p.free_len p.active };
+    ghost invariant = { λ p. IsKept S p.usages p.free_list.items p.free_len p.active };
 }
 
 impl<const S: usize> Pool<S> {
@@ -63,17 +66,8 @@ impl<const S: usize> Pool<S> {
         ensures live { IfOk result (λ p. live_sum p ≡ 0) }
         ensures sound { IfOk result (IsSound S) }
     {
-        let free = Usage {
-            state: State::Free,
-            used: 0,
-            live: 0,
-        };
-        let mut usages = Vec::from_elem(alloc, free, segments as usize)?;
-        usages[0] = Usage {
-            state: State::Active,
-            used: 0,
-            live: 0,
-        };
+        let mut usages = Tally::new(alloc, segments)?;
+        usages.set(0, EMPTY);
         let free_list = descending(alloc, segments)?;
         Ok(Pool {
             usages,
@@ -89,8 +83,7 @@ impl<const S: usize> Pool<S> {
         ensures value { result ≡ usage_of self.now n }
         ensures sound { IsSound S self.now }
     {
-        let _ = &self.usages;
-        self.usages[n as usize]
+        self.usages.get(n)
     }
 
     /// How many bytes may surely still be taken, whatever the sizes of the objects.
@@ -100,7 +93,7 @@ impl<const S: usize> Pool<S> {
         ensures { result ≡ spare_of S self.now }
     {
         let room = match self.active {
-            Some(n) => S - self.usages[n as usize].used,
+            Some(n) => S - self.usages.get(n).used,
             None => 0,
         };
         (self.free_len - 1) * (7 * S / 8) + room.saturating_sub(S / 8)
@@ -127,11 +120,7 @@ impl<const S: usize> Pool<S> {
     {
         self.free_len -= 1;
         let n = self.free_list[self.free_len];
-        self.usages[n as usize] = Usage {
-            state: State::Active,
-            used: 0,
-            live: 0,
-        };
+        self.usages.set(n, EMPTY);
         self.active = Some(n);
         n
     }
@@ -145,7 +134,13 @@ impl<const S: usize> Pool<S> {
         ensures live { live_sum self.new ≡ live_sum self.old }
         ensures sound { IsSound S self.new }
     {
-        self.usages[n as usize].state = State::Closed;
+        let usage = self.usages.get(n);
+        let closed = Usage {
+            state: State::Closed,
+            used: usage.used,
+            live: usage.live,
+        };
+        self.usages.set(n, closed);
         self.active = None;
     }
 
@@ -159,11 +154,7 @@ impl<const S: usize> Pool<S> {
         ensures live { live_sum self.new ≡ live_sum self.old }
         ensures sound { IsSound S self.new }
     {
-        self.usages[n as usize] = Usage {
-            state: State::Free,
-            used: 0,
-            live: 0,
-        };
+        self.usages.set(n, FREE);
         self.free_list[self.free_len] = n;
         self.free_len += 1;
     }
@@ -178,9 +169,13 @@ impl<const S: usize> Pool<S> {
         ensures live { live_sum self.new ≡ live_sum self.old + size }
         ensures sound { IsSound S self.new }
     {
-        let usage = &mut self.usages[n as usize];
-        usage.used += size;
-        usage.live += size;
+        let usage = self.usages.get(n);
+        let more = Usage {
+            state: usage.state,
+            used: usage.used + size,
+            live: usage.live + size,
+        };
+        self.usages.set(n, more);
     }
 
     /// Takes `size` bytes off the live ones of segment `n`, which is not free.
@@ -193,22 +188,57 @@ impl<const S: usize> Pool<S> {
         ensures live { live_sum self.new + size ≡ live_sum self.old }
         ensures sound { IsSound S self.new }
     {
-        self.usages[n as usize].live -= size;
+        let usage = self.usages.get(n);
+        let less = Usage {
+            state: usage.state,
+            used: usage.used,
+            live: usage.live - size,
+        };
+        self.usages.set(n, less);
     }
 
     /// The closed segment with least live, of several the one with the least number; None exactly where none is closed.
     pub fn sparsest(&self) -> Option<u32>
         ensures { result ≡ sparsest_of self.now }
     {
-        let mut best = None;
-        for number in 0..self.usages.len() {
-            best = sparser(self.usages.as_slice(), number, best);
-        }
-        best
+        least_live(self.usages.as_slice())
+    }
+
+    /// How many bytes of objects are live in all.
+    pub fn live(&self) -> usize
+        ensures { result ≡ live_sum self.now }
+    {
+        self.usages.live()
+    }
+
+    /// How many segments are sparse: closed, with three quarters of their bytes live at most.
+    pub fn sparse(&self) -> usize
+        ensures { result ≡ sparse_count S self.now }
+    {
+        self.usages.sparse()
     }
 }
 
+// An active segment of which nothing is used.
+const EMPTY: Usage = Usage {
+    state: State::Active,
+    used: 0,
+    live: 0,
+};
+
 ghost use Rattle.lsa_pool.specs.Sparsest.{IsBest};
+
+// The closed segment with least live, the first of such.
+fn least_live(usages: &[Usage]) -> Option<u32>
+    requires few { length usages.now ≤ 4096 }
+    ensures { result ≡ sparsest_of usages.now }
+{
+    let mut best = None;
+    for number in 0..usages.len() {
+        best = sparser(usages, number, best);
+    }
+    best
+}
 
 // Of the best segment below `number` and segment `number` the better one.
 fn sparser(usages: &[Usage], number: usize, best: Option<u32>) -> Option<u32>

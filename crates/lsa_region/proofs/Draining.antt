@@ -1,16 +1,15 @@
 -- A segment is drained: what holds when the first numbers of its roster were looked at.
-use Rattle.std.proofs.Common.{◌≡◌, ◌≢◌, ℕ, zero, suc, ◌+◌, ◌<◌, ◌≤◌, ◌⊎◌, inl, inr, List, [], ◌∷◌, length, get_or, Bool, true, false, cond, Option, Some, None, refl, sym, ap, ◌∙◌, subst, arith}
+use Rattle.std.proofs.Common.{◌≡◌, ◌≢◌, ℕ, zero, suc, ◌+◌, ◌<◌, ◌≤◌, inl, inr, List, [], ◌∷◌, length, get_or, true, false, cond, Option, Some, None, refl, sym, ap, ◌∙◌, subst, arith}
 use Rattle.std.specs.Prelude.{count_by, IsSomeAnd, Contains}
 use Rattle.std.proofs.Math.ListN.{set}
-use Rattle.std.proofs.lemmas.List.{get_or-set_same, get_or-set_other}
 use Rattle.std.proofs.lemmas.List.Sums.{sum_by-set, sum_by-cons}
 use Rattle.std.proofs.lemmas.Bool.{eqb-true, eq-eqb, ne_eqb}
 use Rattle.lsa_pool.specs.declared.Usage.{Usage}
 use Rattle.lsa_pool.specs.declared.State.TheVariants.{Closed}
 use Rattle.lsa_pool.specs.Room.{usage_of}
-use Rattle.lsa_region.specs.Layout.{Spot, Stored, IsRelieved, segment_at, lies_in, stock_of}
-use Rattle.lsa_region.proofs.Table.{decided}
-use Rattle.lsa_region.proofs.Sets.{set_elim, there}
+use Rattle.lsa_pool.specs.laws.Usages.{decided, set_elim}
+use Rattle.lsa_region.specs.Layout.{Spot, Stored, IsRelieved, segment_at, lies_in}
+use Rattle.lsa_region.proofs.Sets.{there}
 
 pub record IsDraining (size : ℕ) (old new : Stored) (n index moved : ℕ) : Type 0 where
   pub bodies : (r : ℕ) → get_or new.bodies r None ≡ get_or old.bodies r None

@@ -6,19 +6,19 @@ use Rattle.std.proofs.lemmas.Bool.{eq-eqb}
 use Rattle.std.proofs.lemmas.Bool.Decides.{eqb_tells}
 use Rattle.std.proofs.lemmas.List.Sums.{sum_by-set, sum_by-cons}
 use Rattle.std.proofs.Math.ListN.{set}
-use Rattle.std.proofs.lemmas.List.{length-set, get_or-set_other}
+use Rattle.std.proofs.lemmas.List.{length-set}
 use Rattle.std.proofs.lemmas.List.Quantifiers.{position-Some}
 use Rattle.std.specs.Option.{option_map_or}
-use Rattle.lsa_kinds.specs.declared.kind.Kind.{Kind}
-use Rattle.lsa_kinds.specs.declared.kind.Kind.TheVariants.{Version, RowEntry, Dummy, Static}
 use Rattle.lsa_pool.specs.declared.Usage.{Usage}
 use Rattle.lsa_pool.specs.declared.State.{State}
 use Rattle.lsa_pool.specs.declared.State.TheVariants.{Free, Active, Closed}
 use Rattle.lsa_pool.specs.Room.{nothing, is_state_free, is_state_active, active_room, usage_of, free_count, live_sum, active_of}
 use Rattle.lsa_pool.specs.Account.{IsSound}
+use Rattle.lsa_pool.specs.laws.Usages.{set_elim}
 use Rattle.lsa_region.specs.declared.place.Place.{Place}
 use Rattle.lsa_region.specs.Layout.{rounded_size, IsLaid, IsInside, IsNumbered, segment_at, place_at, size_in, size_of}
-use Rattle.lsa_region.proofs.Sets.{set_elim, there}
+use Rattle.lsa_region.proofs.Sets.{there}
+use Rattle.lsa_region.proofs.Vacancies.{vacancy-take, vacancy-give}
 
 pub sized : (n : ℕ) (p : Place) → p.segment ≡ n → size_in n (Some p) ≡ p.size
 sized n p e = ap (λ b. cond b p.size 0) (eq-eqb p.segment n e)
@@ -178,7 +178,7 @@ pub vacant-some : (size : ℕ) (us : List Usage) (segments : List (List ℕ)) (p
 vacant-some size us segments places active vacant vacant_len laid numbered reserve some =
     let full = held size us laid.sound.live laid.sound.used laid.sound.empty in
     let each = many places (λ r p e. (laid.inside r p e).some) in
-    omega (arith, full, each, laid.total, numbered.enough, numbered.counted, le_times (free_count us) size reserve)
+    omega (arith, full, each, laid.total, numbered.enough, numbered.vacancy.counted, le_times (free_count us) size reserve)
 
 -- a turn of the active segment leaves what is spare
 pub spare-turn : (size need before after room room' : ℕ) → size % 64 ≡ 0 → before ≡ after + 1 → room' ≡ size → room < need → need ≤ size / 8
@@ -192,46 +192,16 @@ spare-turn size need before (suc m) room room' even one whole short small enough
 
 module _ (size : ℕ) (us us' : List Usage) (places : List (Option Place)) (vacant : List ℕ) (vacant_len : ℕ) (numbered : IsNumbered size us places vacant vacant_len) (same : length us' ≡ length us) where
   pub numbered-take : (r before : ℕ) (p : Place) → vacant_len ≡ before + 1 → r ≡ get_or vacant before 0 → IsNumbered size us' (set places r (Some p)) vacant before
-  numbered-take r before p counted is =
-      let lt : r < length places = omega (arith, numbered.within before (omega arith)) in
-      let fresh : place_at places r ≡ None = ap (place_at places) is ∙ numbered.empty before (omega arith) in
-      let long = length-set places r (Some p) in
-      let one : ◌≡◌ {A = ℕ} (cond (is_some (place_at places r)) 1 0) 0 = ap (λ o. cond (is_some o) 1 0) fresh in
-      record {
-        long = numbered.long ∙ sym long;
-        enough = subst (λ k. k * size ≤ 32 * length (set places r (Some p))) (sym same) (omega (arith, numbered.enough, long));
-        counted = omega (arith, numbered.counted, long, counted, one, sum_by-set (λ o. cond (is_some o) 1 0) places r (Some p) None lt);
-        within = λ k below. omega (arith, long, numbered.within k (omega arith));
-        empty = λ k below. set_elim None (λ j w. j ≢ r → place_at places j ≡ None → w ≡ None) places r (Some p) (get_or vacant k 0) lt (λ ne. absurd (ne refl)) (λ _ _ e. e)
-            (λ e. numbered.once k before below (omega arith) (e ∙ is)) (numbered.empty k (omega arith));
-        once = λ j k less below. numbered.once j k less (omega arith);
-      }
+  numbered-take r before p counted is = record {
+    enough = subst (λ k. k * size ≤ 32 * length (set places r (Some p))) (sym same) (omega (arith, numbered.enough, length-set places r (Some p)));
+    vacancy = vacancy-take places vacant vacant_len numbered.vacancy r before p counted is;
+  }
 
   pub numbered-give : (r : ℕ) (p : Place) → place_at places r ≡ Some p → IsNumbered size us' (set places r None) (set vacant vacant_len r) (vacant_len + 1)
-  numbered-give r p known =
-      let lt = there places r p known in let long = length-set places r None in
-      let one : ◌≡◌ {A = ℕ} (cond (is_some (place_at places r)) 1 0) 1 = ap (λ o. cond (is_some o) 1 0) known in
-      let counts = sum_by-set (λ o. cond (is_some o) 1 0) places r None None lt in
-      let room : vacant_len < length vacant = omega (arith, numbered.counted, numbered.long, one, counts) in
-      record {
-        long = length-set vacant vacant_len r ∙ numbered.long ∙ sym long;
-        enough = subst (λ k. k * size ≤ 32 * length (set places r None)) (sym same) (omega (arith, numbered.enough, long));
-        counted = omega (arith, numbered.counted, long, one, counts);
-        within = λ k below. set_elim 0 (λ j w. j < vacant_len + 1 → w < length (set places r None)) vacant vacant_len r k room (λ _. omega (arith, long)) (λ ne less. omega (arith, long, numbered.within k (omega arith))) below;
-        empty = λ k below. set_elim 0 (λ j w. j < vacant_len + 1 → place_at (set places r None) w ≡ None) vacant vacant_len r k room
-            (λ _. set_elim None (λ j w. j ≡ r → w ≡ None) places r None r lt (λ _. refl) (λ ne e. absurd (ne e)) refl)
-            (λ ne less. set_elim None (λ j w. place_at places j ≡ None → w ≡ None) places r None (get_or vacant k 0) lt (λ _. refl) (λ _ e. e) (numbered.empty k (omega arith))) below;
-        once = λ j k less below. let old : get_or (set vacant vacant_len r) j 0 ≡ get_or vacant j 0 = get_or-set_other vacant vacant_len j r 0 (omega arith) in
-            set_elim 0 (λ i w. j < i → i < vacant_len + 1 → get_or (set vacant vacant_len r) j 0 ≢ w) vacant vacant_len r k room
-            (λ before _ e. let none = numbered.empty j (omega arith) in let at = ap (place_at places) (sym old ∙ e) in let clash = sym none ∙ at ∙ known in cc)
-            (λ ne before upto e. numbered.once j k before (omega arith) (sym old ∙ e)) less below;
-      }
-
-pub rounded_32 : (kind : Kind) (len : ℕ) → 32 ≤ rounded_size kind len
-rounded_32 Version len = omega arith
-rounded_32 RowEntry len = omega arith
-rounded_32 Dummy len = omega arith
-rounded_32 Static len = omega arith
+  numbered-give r p known = record {
+    enough = subst (λ k. k * size ≤ 32 * length (set places r None)) (sym same) (omega (arith, numbered.enough, length-set places r None));
+    vacancy = vacancy-give places vacant vacant_len numbered.vacancy r p known;
+  }
 
 pub active_inside : (us : List Usage) (n : ℕ) → active_of us ≡ Some n → n < length us
 active_inside us n e = (position-Some (λ u. is_state_active u.state) us n nothing e).0

@@ -1,5 +1,4 @@
 pub mod Draining
-pub mod Exchanges
 pub mod Laid
 pub mod Moves
 pub mod Opening
@@ -8,3 +7,6 @@ pub mod Renaming
 pub mod Sets
 pub mod Table
 pub mod Wells
+pub mod Vacancies
+pub mod SlotsLaws
+pub mod Summed

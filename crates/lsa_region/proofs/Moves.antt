@@ -1,26 +1,23 @@
 -- Objects move from one segment to another: the layout, the numbers and the rosters after each step, and what is spare.
-use Rattle.std.proofs.Common.{◌≡◌, ◌≢◌, ℕ, zero, suc, ◌+◌, ◌-◌, ◌*◌, ◌/◌, ◌%◌, ◌<◌, ◌≤◌, ◌⊎◌, inl, inr, List, [], ◌∷◌, ◌++◌, length, get_or, map, take, drop, Bool, true, false, cond, ◌&&◌, Option, Some, None, refl, sym, ap, ◌∙◌, subst, arith, length-append, length-take, length-drop}
-use Rattle.std.specs.Prelude.{sum_by, count_by, is_some, All, Contains, nat_eq, nat_le, not, ◌||◌, IsSome, IsSomeAnd}
+use Rattle.std.proofs.Common.{◌≡◌, ◌≢◌, ℕ, zero, suc, ◌+◌, ◌-◌, ◌*◌, ◌/◌, ◌%◌, ◌<◌, ◌≤◌, inl, inr, List, [], ◌∷◌, ◌++◌, length, get_or, map, take, drop, cond, Option, Some, None, refl, sym, ap, ◌∙◌, subst, arith, length-append, length-take, length-drop}
+use Rattle.std.specs.Prelude.{sum_by, is_some, All, Contains, nat_eq, IsSome, IsSomeAnd}
 use Rattle.std.proofs.Math.ListN.{set, get_or-map, drop_of_length-le}
 use Rattle.std.proofs.Math.Seq.{take-length, drop-append-add}
-use Rattle.std.proofs.lemmas.List.{get_or_read, drop-take, drop-drop, take-take, length-set, length-map, get_or-set_same, get_or-set_other, set-set, set-append_left, set-append_right, take-append-drop, append-nil}
-use Rattle.std.proofs.lemmas.List.Sums.{sum_by-set, sum_by-cons}
-use Rattle.std.proofs.lemmas.List.Elements.{All-push, All-nil, All-weaker, Contains-push, Contains-append_left}
-use Rattle.std.proofs.lemmas.List.Quantifiers.{position-Some}
-use Rattle.std.specs.Option.{option_map_or, option_and_then}
-use Rattle.std.specs.List.{list_all}
-use Rattle.std.proofs.lemmas.Bool.{leb-true}
+use Rattle.std.proofs.lemmas.List.{get_or_read, drop-take, drop-drop, take-take, length-set, get_or-set_same, get_or-set_other, set-set, set-append_left, set-append_right, take-append-drop, append-nil}
+use Rattle.std.proofs.lemmas.List.Sums.{sum_by-cons}
+use Rattle.std.proofs.lemmas.List.Elements.{All-push, All-nil, Contains-push, Contains-append_left}
+use Rattle.std.specs.Option.{option_map_or}
 use Rattle.lsa_segment.specs.Bytes.{part}
 use Rattle.lsa_pool.specs.declared.Usage.{Usage}
-use Rattle.lsa_pool.specs.declared.State.{State}
-use Rattle.lsa_pool.specs.declared.State.TheVariants.{Free, Active, Closed}
-use Rattle.lsa_pool.specs.Room.{nothing, is_state_closed, is_state_active, is_sparsest, usage_of, free_count, live_sum, active_of, active_room, spare_of, sparsest_of}
+use Rattle.lsa_pool.specs.declared.State.TheVariants.{Active, Closed}
+use Rattle.lsa_pool.specs.Room.{nothing, usage_of, free_count, live_sum, active_of, active_room, spare_of}
 use Rattle.lsa_pool.specs.Account.{IsSound}
 use Rattle.lsa_region.specs.declared.place.Place.{Place}
-use Rattle.lsa_region.specs.Layout.{Spot, rounded_size, extent, bytes_in, body_at, bodies_of, IsPlaced, IsLaid, IsInside, IsNumbered, IsRostered, IsTurned, IsCarried, IsRelieved, segment_at, place_at, spot_at, lies_in, size_in, size_of, sparse_of, stock_of}
-use Rattle.lsa_region.proofs.Table.{decided}
-use Rattle.lsa_region.proofs.Sets.{set_elim, there, body-there, bodies-keep, part-grown}
-use Rattle.lsa_region.proofs.Laid.{sized, elsewhere, spare-turn, active_inside, room-is, laid-size, laid-remove, laid-add}
+use Rattle.lsa_region.specs.Layout.{Spot, rounded_size, extent, bytes_in, body_at, bodies_of, IsPlaced, IsLaid, IsInside, IsNumbered, IsRostered, IsTurned, IsCarried, IsRelieved, segment_at, place_at, spot_at, size_in, stock_of, size_of}
+use Rattle.lsa_pool.specs.laws.Usages.{active-state, closed-inside, decided, set_elim}
+use Rattle.lsa_region.proofs.Vacancies.{vacancy-same}
+use Rattle.lsa_region.proofs.Sets.{there, body-there, bodies-keep, part-grown}
+use Rattle.lsa_region.proofs.Laid.{elsewhere, spare-turn, active_inside, room-is, laid-size, laid-remove, laid-add}
 
 -- ---- slices that were parted and joined again
 
@@ -115,48 +112,8 @@ spare-rises size live old mid new even sparse reserve stock free room =
 
 -- ---- the sparsest segment
 
-is_closed : (s : State) → is_state_closed s ≡ true → s ≡ Closed
-is_closed Free e = cc
-is_closed Active e = cc
-is_closed Closed e = refl
-
-is_active_state : (s : State) → is_state_active s ≡ true → s ≡ Active
-is_active_state Free e = cc
-is_active_state Active e = refl
-is_active_state Closed e = cc
-
-pub active-state : (us : List Usage) (n : ℕ) → active_of us ≡ Some n → (usage_of us n).state ≡ Active
-active-state us n e = is_active_state (usage_of us n).state (position-Some (λ u. is_state_active u.state) us n nothing e).1
-
--- a closed segment is one of the list, and not the active one
-pub closed-inside : (us : List Usage) (n : ℕ) → (usage_of us n).state ≡ Closed → n < length us
-closed-inside [] n e = cc
-closed-inside (u ∷ us) zero e = omega arith
-closed-inside (u ∷ us) (suc n) e = omega (arith, closed-inside us n e)
-
 pub closed-apart : (us : List Usage) (n a : ℕ) → (usage_of us n).state ≡ Closed → active_of us ≡ Some a → n ≢ a
 closed-apart us n a closed active same = let e = active-state us a active in let d : (usage_of us a).state ≡ Closed = ap (λ k. (usage_of us k).state) (sym same) ∙ closed in let clash = sym e ∙ d in cc
-
-pick : (b : Bool) (m n : ℕ) → (cond b (Some m) None ≡ Some n) → (b ≡ true) × (m ≡ n)
-pick true m n e = (refl, cc)
-pick false m n e = cc
-
-both_true : (a b : Bool) → a && b ≡ true → a ≡ true
-both_true true b e = refl
-both_true false b e = cc
-
-sparsest_closed : (us : List Usage) (u : Usage) → is_sparsest us u ≡ true → u.state ≡ Closed
-sparsest_closed us u e = is_closed u.state (both_true (is_state_closed u.state) (list_all (λ other. not (is_state_closed other.state) || nat_le u.live other.live) us) e)
-
-pub sparse-is : (size n : ℕ) (us : List Usage) → sparse_of size us ≡ Some n → ((usage_of us n).state ≡ Closed) × ((usage_of us n).live ≤ 3 * size / 4)
-sparse-is size n us e = elim (sparsest_of us) as (λ (o : Option ℕ). sparsest_of us ≡ o → option_and_then (λ m. cond (nat_le (usage_of us m).live (3 * size / 4)) (Some m) None) o ≡ Some n → ((usage_of us n).state ≡ Closed) × ((usage_of us n).live ≤ 3 * size / 4)) [
-  | None ↦ λ is none. cc
-  | Some m ↦ λ is some.
-      let w = pick (nat_le (usage_of us m).live (3 * size / 4)) m n some in
-      let at = position-Some (is_sparsest us) us m nothing is in
-      let closed : (usage_of us m).state ≡ Closed = sparsest_closed us (usage_of us m) at.1 in
-      subst (λ k. ((usage_of us k).state ≡ Closed) × ((usage_of us k).live ≤ 3 * size / 4)) w.1 (closed, leb-true (usage_of us m).live (3 * size / 4) w.0)
-] refl e
 
 -- ---- the layout
 
@@ -228,21 +185,14 @@ none-live n (o ∷ places) h = omega (arith, sum_by-cons (size_in n) o places, n
 
 module _ (size : ℕ) (us us' : List Usage) (places : List (Option Place)) (vacant : List ℕ) (vacant_len : ℕ) (numbered : IsNumbered size us places vacant vacant_len) (same : length us' ≡ length us) where
   pub numbered-same : IsNumbered size us' places vacant vacant_len
-  numbered-same = record { long = numbered.long; enough = subst (λ k. k * size ≤ 32 * length places) (sym same) numbered.enough; counted = numbered.counted; within = numbered.within; empty = numbered.empty; once = numbered.once }
+  numbered-same = record { enough = subst (λ k. k * size ≤ 32 * length places) (sym same) numbered.enough; vacancy = numbered.vacancy }
 
   -- an object lies elsewhere
   pub numbered-keep : (r : ℕ) (p p' : Place) → place_at places r ≡ Some p → IsNumbered size us' (set places r (Some p')) vacant vacant_len
-  numbered-keep r p p' known =
-      let lt = there places r p known in let long = length-set places r (Some p') in
-      let one : ◌≡◌ {A = ℕ} (cond (is_some (place_at places r)) 1 0) 1 = ap (λ o. cond (is_some o) 1 0) known in
-      record {
-        long = numbered.long ∙ sym long;
-        enough = subst (λ k. k * size ≤ 32 * length (set places r (Some p'))) (sym same) (omega (arith, numbered.enough, long));
-        counted = omega (arith, numbered.counted, long, one, sum_by-set (λ o. cond (is_some o) 1 0) places r (Some p') None lt);
-        within = λ k below. omega (arith, long, numbered.within k below);
-        empty = λ k below. set_elim None (λ j w. place_at places j ≡ None → w ≡ None) places r (Some p') (get_or vacant k 0) lt (λ e. let clash = sym known ∙ e in cc) (λ _ e. e) (numbered.empty k below);
-        once = numbered.once;
-      }
+  numbered-keep r p p' known = record {
+    enough = subst (λ k. k * size ≤ 32 * length (set places r (Some p'))) (sym same) (omega (arith, numbered.enough, length-set places r (Some p')));
+    vacancy = vacancy-same places vacant vacant_len numbered.vacancy r p p' known;
+  }
 
 module _ (us us' : List Usage) (places : List (Option Place)) (rosters : List (List ℕ)) (rostered : IsRostered us places rosters) where
   pub rostered-same : length us' ≡ length us → ((m : ℕ) → (usage_of us m).used ≤ (usage_of us' m).used) → IsRostered us' places rosters
@@ -390,6 +340,16 @@ placed size us segments rosters places active laid =
       live = λ n. bytes-sum n segments places (λ r p e. sym (body-size size us segments p (laid.inside r p e) (laid.filled p.segment))) ∙ laid.live n;
       empty = laid.sound.empty;
     }
+
+-- the objects take what is live
+pub taken-total : (size : ℕ) (us : List Usage) (segments : List (List ℕ)) (places : List (Option Place)) (active : ℕ) → IsLaid size us segments places active → sum_by extent (bodies_of segments places) ≡ live_sum us
+taken-total size us segments places active laid = extents segments places (λ r p e. sym (body-size size us segments p (laid.inside r p e) (laid.filled p.segment))) ∙ laid.total
+  where
+    extents : (segments : List (List ℕ)) (places : List (Option Place)) → ((r : ℕ) (p : Place) → place_at places r ≡ Some p → extent (body_at segments (Some p)) ≡ p.size) → sum_by extent (bodies_of segments places) ≡ sum_by size_of places
+    extents segments [] sizes = refl
+    extents segments (None ∷ places) sizes = omega (arith, sum_by-cons extent None (bodies_of segments places), sum_by-cons size_of None places, extents segments places (λ r p e. sizes (suc r) p e))
+    extents segments (Some p ∷ places) sizes =
+        omega (arith, sizes 0 p refl, sum_by-cons extent (body_at segments (Some p)) (bodies_of segments places), sum_by-cons size_of (Some p) places, extents segments places (λ r o e. sizes (suc r) o e))
 
 -- ---- an object is carried to the end of the active segment
 

@@ -6,10 +6,10 @@ use Rattle.std.proofs.lemmas.List.{length-replicate}
 use Rattle.std.proofs.lemmas.List.Folds.{sum_by-replicate}
 use Rattle.lsa_pool.specs.declared.State.TheVariants.{Active}
 use Rattle.lsa_pool.specs.declared.Usage.{Usage}
-use Rattle.lsa_pool.specs.Room.{nothing, usage_of, free_count, live_sum, active_of}
+use Rattle.lsa_pool.specs.Room.{nothing, usage_of, live_sum, active_of}
 use Rattle.lsa_pool.specs.Account.{IsSound}
 use Rattle.lsa_region.specs.declared.place.Place.{Place}
-use Rattle.lsa_region.specs.Layout.{Spot, IsLaid, IsNumbered, IsRostered, segment_at, place_at, body_at, spot_at, size_in, size_of}
+use Rattle.lsa_region.specs.Layout.{IsLaid, IsNumbered, IsRostered, segment_at, place_at, body_at, spot_at, size_in, size_of}
 
 pub replicate_at : {X : Type 0} (n m : ℕ) (x : X) → get_or (replicate n x) m x ≡ x
 replicate_at zero m x = refl
@@ -55,12 +55,14 @@ pub numbered-open : (size n count : ℕ) (us : List Usage) (vacant : List ℕ) �
 numbered-open size n count us vacant even long is length_is each =
     let q = size / 32 in let whole : size ≡ 32 * q = omega arith in let product : n * size ≡ n * (32 * q) = ap (λ k. n * k) whole in let us_product : length us * size ≡ n * size = ap (λ k. k * size) long in
     let places_long = length-replicate {A = Option Place} count None in record {
-      long = length_is ∙ sym places_long;
       enough = omega (arith, places_long, product, us_product, is);
-      counted = omega (arith, places_long, no_sum (λ (o : Option Place). cond (is_some o) 1 0) count None refl);
-      within = λ k below. omega (arith, places_long, each k below);
-      empty = λ k below. replicate_at count (get_or vacant k 0) None;
-      once = λ j k less below e. omega (arith, each j (omega arith), each k below);
+      vacancy = record {
+        long = omega (arith, length_is, places_long);
+        counted = omega (arith, places_long, no_sum (λ (o : Option Place). cond (is_some o) 1 0) count None refl);
+        within = λ k below. omega (arith, places_long, each k below);
+        empty = λ k below. replicate_at count (get_or vacant k 0) None;
+        once = λ j k less below e. omega (arith, each j (omega arith), each k below);
+      };
     }
 
 pub rostered-open : (n count : ℕ) (us : List Usage) → length us ≡ n → IsRostered us (replicate count None) (replicate n [])

@@ -1,21 +1,27 @@
 -- What every region keeps, after each change.
-use Rattle.std.proofs.Common.{◌≡◌, ◌≢◌, ℕ, zero, suc, ◌+◌, ◌*◌, ◌<◌, ◌≤◌, ◌⊎◌, inl, inr, List, [], ◌∷◌, ◌++◌, length, get_or, arith, Bool, true, false, cond, ltb, replicate, Option, Some, None, refl, sym, ap, ◌∙◌, subst}
-use Rattle.std.specs.Prelude.{IsSomeAnd}
+use Rattle.std.proofs.Common.{◌≡◌, ◌≢◌, ℕ, zero, suc, ◌+◌, ◌*◌, ◌<◌, inl, inr, List, [], ◌∷◌, length, get_or, arith, Bool, true, false, cond, ltb, replicate, Option, Some, None, refl, sym, ap, ◌∙◌, subst, ◌⊎◌}
+use Rattle.std.specs.Prelude.{IsSomeAnd, count_by, is_some}
+use Rattle.std.proofs.Math.ListN.{set}
+use Rattle.std.proofs.lemmas.List.{length-set, get_or-set_same, get_or-set_other}
+use Rattle.std.proofs.lemmas.List.Sums.{sum_by-cons}
 use Rattle.lsa_kinds.specs.declared.kind.Kind.{Kind}
-use Rattle.lsa_kinds.specs.declared.kind.Kind.TheVariants.{Version, RowEntry, Dummy, Static}
 use Rattle.lsa_kinds.specs.Kinds.{links_of}
 use Rattle.lsa_pool.specs.Room.{free_count}
+use Rattle.lsa_pool.specs.laws.Usages.{decided}
 use Rattle.lsa_region.specs.declared.end.Ref.{Ref}
+use Rattle.lsa_region.specs.declared.end.Root.{Root}
 use Rattle.lsa_region.specs.declared.end.End.{End}
 use Rattle.lsa_region.specs.declared.end.End.TheVariants.{Obj, Slot}
-use Rattle.lsa_region.specs.Ends.{named_in, HasPlaceIn, joined, swapped}
+use Rattle.lsa_region.specs.Ends.{named_in, HasPlaceIn, joined, swapped, slots_in, IsSlotMade, IsSlotDropped}
 use Rattle.lsa_region.specs.Paired.{IsTied, IsParted, IsExchanged}
-use Rattle.lsa_region.specs.Region.{View, body, link_of, IsEnd, IsWell, IsRegion, IsAdded, IsFreed}
+use Rattle.lsa_region.specs.Region.{View, body, link_of, IsEnd, IsRegion, IsAdded, IsFreed, IsWritten, spot_of, IsRootAdded, IsRootDropped, objects}
 use Rattle.std.proofs.lemmas.List.{length-replicate}
+use Rattle.lsa_region.proofs.Vacancies.{count-set}
 use Rattle.lsa_region.proofs.Opening.{replicate_at}
-use Rattle.lsa_region.proofs.Table.{decided, ends_decided}
+use Rattle.lsa_region.specs.laws.Ends.{refs_decided, some_and_none, body_inside, none_unless}
+use Rattle.lsa_region.specs.laws.Ends.{ends_decided}
 use Rattle.lsa_region.proofs.Wells.{well-tie, well-part}
-use Rattle.lsa_region.proofs.Exchanges.{exchanged-well, exchanged-from, swapped-holds}
+use Rattle.lsa_region.specs.laws.Exchanges.{exchanged-well, exchanged-from, swapped-holds}
 
 pub ends-keep : (v v' : View) → v'.bodies ≡ v.bodies → ((e : End) → HasPlaceIn v.table v.roots e → HasPlaceIn v'.table v'.roots e) → (e : End) → IsEnd v e → IsEnd v' e
 ends-keep v v' same places (Obj r field) h = subst (λ l. IsSomeAnd (get_or l r.number None) (λ b. field < links_of b.0)) (sym same) h
@@ -67,13 +73,6 @@ module _ (v v' : View) (region : IsRegion v) (same : v'.bodies ≡ v.bodies) (pl
     reserve = reserve;
   }
 
-refs_decided : (q r : Ref) → (q ≡ r) ⊎ (q ≢ r)
-refs_decided q r = elim (decided q.number r.number) [ inl e ↦ inl (ap (λ n. record { number = n }) e) | inr ne ↦ inr (λ e. ne (ap (λ (x : Ref). x.number) e)) ]
-
-some_and_none : {X : Type 0} (o : Option X) (P : X → Type 0) → o ≡ None → IsSomeAnd o P → ⊥
-some_and_none None P e h = h
-some_and_none (Some x) P e h = cc
-
 -- links that are as they were stay well, where what is named is there still
 pub region-same : (v v' : View) → IsRegion v → ((e : End) → link_of v' e ≡ link_of v e) → ((x y : End) → link_of v x ≡ Some y → IsEnd v y → IsEnd v' y) → length v'.table ≡ 8 * length v'.bodies → 0 < free_count v'.usages → IsRegion v'
 region-same v v' region links ends long reserve = record {
@@ -88,35 +87,118 @@ region-same v v' region links ends long reserve = record {
   reserve = reserve;
 }
 
+kept_slot : (v v' : View) (s : Root) → v'.roots ≡ v.roots → IsEnd v (Slot s) → IsEnd v' (Slot s)
+kept_slot v v' s roots h = (h.0, ap (λ l. get_or l s.number None) roots ∙ h.1)
+
+kept_object : (v v' : View) (q : Ref) (field : ℕ) → body v' q ≡ body v q → IsEnd v (Obj q field) → IsEnd v' (Obj q field)
+kept_object v v' q field same h = subst (λ o. IsSomeAnd o (λ b. field < links_of b.0)) (sym same) h
+
+own_link : (o : Option (Kind × List ℕ)) (kind : Kind) (bytes : List ℕ) (field : ℕ) → o ≡ Some (kind, bytes) → field < links_of kind → IsSomeAnd o (λ b. field < links_of b.0)
+own_link o kind bytes field is lt = subst (λ w. IsSomeAnd w (λ b. field < links_of b.0)) (sym is) lt
+
+link_own : (o : Option (Kind × List ℕ)) (kind : Kind) (bytes : List ℕ) (field : ℕ) → o ≡ Some (kind, bytes) → IsSomeAnd o (λ b. field < links_of b.0) → field < links_of kind
+link_own o kind bytes field is h = subst (λ w. IsSomeAnd w (λ b. field < links_of b.0)) is h
+
+-- an object is added: which ends are there
+pub added : (v v' : View) (r : Ref) (kind : Kind) (bytes : List ℕ) → body v r ≡ None → body v' r ≡ Some (kind, bytes) → ((field : ℕ) → link_of v' (Obj r field) ≡ None) → ((q : Ref) → q ≢ r → body v' q ≡ body v q) → ((q : Ref) → q ≢ r → spot_of v' q ≡ spot_of v q)
+    → v'.table ≡ v.table → v'.roots ≡ v.roots → IsAdded v v' r kind bytes
+added v v' r kind bytes fresh here unset others spots table roots = record {
+  fresh = fresh;
+  here = here;
+  unset = unset;
+  others = others;
+  spots = spots;
+  links = λ e. ap (λ t. named_in t v'.roots e) table ∙ ap (λ l. named_in v.table l e) roots;
+  own = λ field lt. own_link (body v' r) kind bytes field here lt;
+  exact = λ field h. link_own (body v' r) kind bytes field here h;
+  ends = λ e. elim e as (λ (o : End). IsEnd v o → IsEnd v' o) [
+    | Obj q field ↦ λ h. elim (refs_decided q r) [
+      | inl same ↦ absurd (some_and_none (body v q) (λ b. field < links_of b.0) (ap (body v) same ∙ fresh) h)
+      | inr ne ↦ kept_object v v' q field (others q ne) h
+    ]
+    | Slot s ↦ λ h. kept_slot v v' s roots h
+  ];
+  gone = λ e. elim e as (λ (o : End). ((field : ℕ) → o ≢ Obj r field) → IsEnd v' o → IsEnd v o) [
+    | Obj q field ↦ λ other h. elim (refs_decided q r) [
+      | inl same ↦ absurd (other field (ap (λ p. Obj p field) same))
+      | inr ne ↦ kept_object v' v q field (sym (others q ne)) h
+    ]
+    | Slot s ↦ λ other h. kept_slot v' v s (sym roots) h
+  ];
+  slots = ap slots_in roots;
+}
+
+-- an object is freed
+pub freed : (v v' : View) (r : Ref) → body v' r ≡ None → ((q : Ref) → q ≢ r → body v' q ≡ body v q) → ((q : Ref) → q ≢ r → spot_of v' q ≡ spot_of v q) → v'.table ≡ v.table → v'.roots ≡ v.roots → IsFreed v v' r
+freed v v' r here others spots table roots = record {
+  here = here;
+  others = others;
+  spots = spots;
+  links = λ e. ap (λ t. named_in t v'.roots e) table ∙ ap (λ l. named_in v.table l e) roots;
+  lost = λ field h. some_and_none (body v' r) (λ b. field < links_of b.0) here h;
+  ends = λ e. elim e as (λ (o : End). ((field : ℕ) → o ≢ Obj r field) → IsEnd v o → IsEnd v' o) [
+    | Obj q field ↦ λ other h. elim (refs_decided q r) [
+      | inl same ↦ absurd (other field (ap (λ p. Obj p field) same))
+      | inr ne ↦ kept_object v v' q field (others q ne) h
+    ]
+    | Slot s ↦ λ other h. kept_slot v v' s roots h
+  ];
+  gone = λ e. elim e as (λ (o : End). IsEnd v' o → IsEnd v o) [
+    | Obj q field ↦ λ h. elim (refs_decided q r) [
+      | inl same ↦ absurd (some_and_none (body v' q) (λ b. field < links_of b.0) (ap (body v') same ∙ here) h)
+      | inr ne ↦ kept_object v' v q field (sym (others q ne)) h
+    ]
+    | Slot s ↦ λ h. kept_slot v' v s (sym roots) h
+  ];
+  slots = ap slots_in roots;
+}
+
+kind_keeps : (o o' : Option (Kind × List ℕ)) (change : List ℕ → List ℕ) (field : ℕ) → IsSomeAnd o (λ b. o' ≡ Some (b.0, change b.1)) → IsSomeAnd o (λ b. field < links_of b.0) → IsSomeAnd o' (λ b. field < links_of b.0)
+kind_keeps None o' change field e h = absurd h
+kind_keeps (Some b) o' change field e h = subst (λ o. IsSomeAnd o (λ b. field < links_of b.0)) (sym e) h
+
+kind_kept : (o o' : Option (Kind × List ℕ)) (change : List ℕ → List ℕ) (field : ℕ) → IsSomeAnd o (λ b. o' ≡ Some (b.0, change b.1)) → IsSomeAnd o' (λ b. field < links_of b.0) → IsSomeAnd o (λ b. field < links_of b.0)
+kind_kept None o' change field e h = absurd e
+kind_kept (Some b) o' change field e h = subst (λ o. IsSomeAnd o (λ b. field < links_of b.0)) e h
+
+-- bytes of an object are written
+pub written : (v v' : View) (r : Ref) (change : List ℕ → List ℕ) → IsSomeAnd (body v r) (λ b. body v' r ≡ Some (b.0, change b.1)) → ((q : Ref) → q ≢ r → body v' q ≡ body v q) → ((q : Ref) → spot_of v' q ≡ spot_of v q)
+    → v'.table ≡ v.table → v'.roots ≡ v.roots → v'.usages ≡ v.usages → v'.epoch ≡ v.epoch → v'.moved ≡ v.moved → v'.compacted ≡ v.compacted → IsWritten v v' r change
+written v v' r change here others spots table roots usages epoch moved compacted = record {
+  here = here;
+  others = others;
+  spots = spots;
+  links = λ e. ap (λ t. named_in t v'.roots e) table ∙ ap (λ l. named_in v.table l e) roots;
+  ends = λ e. elim e as (λ (o : End). IsEnd v o → IsEnd v' o) [
+    | Obj q field ↦ λ h. elim (refs_decided q r) [
+      | inl same ↦ subst (λ p. IsSomeAnd (body v' p) (λ b. field < links_of b.0)) (sym same) (kind_keeps (body v r) (body v' r) change field here (subst (λ p. IsSomeAnd (body v p) (λ b. field < links_of b.0)) same h))
+      | inr ne ↦ kept_object v v' q field (others q ne) h
+    ]
+    | Slot s ↦ λ h. kept_slot v v' s roots h
+  ];
+  gone = λ e. elim e as (λ (o : End). IsEnd v' o → IsEnd v o) [
+    | Obj q field ↦ λ h. elim (refs_decided q r) [
+      | inl same ↦ subst (λ p. IsSomeAnd (body v p) (λ b. field < links_of b.0)) (sym same) (kind_kept (body v r) (body v' r) change field here (subst (λ p. IsSomeAnd (body v' p) (λ b. field < links_of b.0)) same h))
+      | inr ne ↦ kept_object v' v q field (sym (others q ne)) h
+    ]
+    | Slot s ↦ λ h. kept_slot v' v s (sym roots) h
+  ];
+  slots = ap slots_in roots;
+  usages = usages;
+  epoch = epoch;
+  moved = moved;
+  compacted = compacted;
+}
+
 pub region-add : (v v' : View) (r : Ref) (kind : Kind) (bytes : List ℕ) → IsRegion v → IsAdded v v' r kind bytes → length v'.table ≡ 8 * length v'.bodies → 0 < free_count v'.usages → IsRegion v'
-region-add v v' r kind bytes region added long reserve = region-same v v' region added.links (λ x y e. elim y as (λ (o : End). IsEnd v o → IsEnd v' o) [
-  | Obj q field ↦ λ h. elim (refs_decided q r) [
-    | inl same ↦ absurd (some_and_none (body v q) (λ b. field < links_of b.0) (ap (body v) same ∙ added.fresh) h)
-    | inr ne ↦ subst (λ o. IsSomeAnd o (λ b. field < links_of b.0)) (sym (added.others q ne)) h
-  ]
-  | Slot s ↦ λ h. (h.0, ap (λ l. get_or l s.number None) added.roots ∙ h.1)
-]) long reserve
+region-add v v' r kind bytes region is long reserve = region-same v v' region is.links (λ x y _ h. is.ends y h) long reserve
 
 pub region-free : (v v' : View) (r : Ref) → IsRegion v → IsFreed v v' r → ((field : ℕ) → link_of v (Obj r field) ≡ None) → length v'.table ≡ 8 * length v'.bodies → 0 < free_count v'.usages → IsRegion v'
-region-free v v' r region freed unset long reserve = region-same v v' region freed.links (λ x y e. elim y as (λ (o : End). link_of v x ≡ Some o → IsEnd v o → IsEnd v' o) [
-  | Obj q field ↦ λ named h. elim (refs_decided q r) [
-    | inl same ↦ let back = region.well.paired.mates x (Obj q field) named in let none : link_of v (Obj q field) ≡ None = ap (λ p. link_of v (Obj p field)) same ∙ unset field in let clash = sym none ∙ back in cc
-    | inr ne ↦ subst (λ o. IsSomeAnd o (λ b. field < links_of b.0)) (sym (freed.others q ne)) h
-  ]
-  | Slot s ↦ λ named h. (h.0, ap (λ l. get_or l s.number None) freed.roots ∙ h.1)
-] e) long reserve
+region-free v v' r region is unset long reserve = region-same v v' region is.links (λ x y named h. is.ends y (λ field same.
+    let back = region.well.paired.mates x y named in let none : link_of v y ≡ None = ap (link_of v) same ∙ unset field in let clash = sym none ∙ back in cc) h) long reserve
 
-links_few : (k : Kind) → links_of k ≤ 5
-links_few Version = omega arith
-links_few RowEntry = omega arith
-links_few Dummy = omega arith
-links_few Static = omega arith
-
-body_inside : (bodies : List (Option (Kind × List ℕ))) (n field : ℕ) → IsSomeAnd (get_or bodies n None) (λ b. field < links_of b.0) → (n < length bodies) × (field < 5)
-body_inside [] n field h = absurd h
-body_inside (None ∷ bodies) zero field h = absurd h
-body_inside (Some b ∷ bodies) zero field h = (omega arith, omega (arith, links_few b.0, h))
-body_inside (b ∷ bodies) (suc n) field h = let w = body_inside bodies n field h in (omega (arith, w.0), w.1)
+pub region-write : (v v' : View) (r : Ref) (change : List ℕ → List ℕ) → IsRegion v → IsWritten v v' r change → length v'.table ≡ 8 * length v'.bodies → 0 < free_count v'.usages → IsRegion v'
+region-write v v' r change region is long reserve = region-same v v' region is.links (λ x y _ h. is.ends y h) long reserve
 
 -- an end that is there has a place in the table
 pub end-place : (v : View) → IsRegion v → (e : End) → IsEnd v e → HasPlaceIn v.table v.roots e
@@ -144,73 +226,106 @@ region-open v n table roots long reserve =
       reserve = reserve;
     }
 
-kind_keeps : (o o' : Option (Kind × List ℕ)) (f : Kind × List ℕ → List ℕ) (field : ℕ) → IsSomeAnd o (λ b. o' ≡ Some (b.0, f b)) → IsSomeAnd o (λ b. field < links_of b.0) → IsSomeAnd o' (λ b. field < links_of b.0)
-kind_keeps None o' f field e h = absurd h
-kind_keeps (Some b) o' f field e h = subst (λ o. IsSomeAnd o (λ b. field < links_of b.0)) (sym e) h
+-- ---- a root slot comes or goes
 
-pub region-write : (v v' : View) (r : Ref) (f : Kind × List ℕ → List ℕ) → IsRegion v → IsSomeAnd (body v r) (λ b. body v' r ≡ Some (b.0, f b)) → ((q : Ref) → q ≢ r → body v' q ≡ body v q)
-    → v'.table ≡ v.table → v'.roots ≡ v.roots → length v'.bodies ≡ length v.bodies → v'.usages ≡ v.usages → IsRegion v'
-region-write v v' r f region written others table roots long usages =
-    region-same v v' region (λ e. ap (λ t. named_in t v'.roots e) table ∙ ap (λ l. named_in v.table l e) roots) (λ x y e. elim y as (λ (o : End). IsEnd v o → IsEnd v' o) [
-      | Obj q field ↦ λ h. elim (refs_decided q r) [
-        | inl same ↦ subst (λ p. IsSomeAnd (body v' p) (λ b. field < links_of b.0)) (sym same) (kind_keeps (body v r) (body v' r) f field written (subst (λ p. IsSomeAnd (body v p) (λ b. field < links_of b.0)) same h))
-        | inr ne ↦ subst (λ o. IsSomeAnd o (λ b. field < links_of b.0)) (sym (others q ne)) h
-      ]
-      | Slot s ↦ λ h. (h.0, ap (λ l. get_or l s.number None) roots ∙ h.1)
-    ])
-    (ap (λ (l : List (Option End)). length l) table ∙ region.long ∙ ap (λ k. 8 * k) (sym long)) (subst (λ l. 0 < free_count l) (sym usages) region.reserve)
+module _ (v v' : View) (bodies : v'.bodies ≡ v.bodies) (table : v'.table ≡ v.table) where
+  same_ends : (n : ℕ) → ((m : ℕ) → m ≢ n → get_or v'.roots m None ≡ get_or v.roots m None) → (e : End) → e ≢ Slot (record { number = n }) → IsEnd v e → IsEnd v' e
+  same_ends n others (Obj q field) other h = subst (λ l. IsSomeAnd (get_or l q.number None) (λ b. field < links_of b.0)) (sym bodies) h
+  same_ends n others (Slot s) other h = (h.0, others s.number (λ e. other (ap (λ k. Slot (record { number = k })) e)) ∙ h.1)
 
--- a root slot that was not there, or named nothing, comes or goes
-pub region-root : (v v' : View) (n : ℕ) → IsRegion v → v'.bodies ≡ v.bodies → v'.table ≡ v.table → v'.usages ≡ v.usages → joined (get_or v.roots n None) ≡ None → joined (get_or v'.roots n None) ≡ None
-    → ((m : ℕ) → m ≢ n → get_or v'.roots m None ≡ get_or v.roots m None) → IsRegion v'
-region-root v v' n region bodies table usages was is others =
-    let links : (e : End) → link_of v' e ≡ link_of v e = λ e. elim e as (λ (o : End). link_of v' o ≡ link_of v o) [
-      | Obj r field ↦ ap (λ t. cond (ltb field 8) (get_or t (8 * r.number + field) None) None) table
-      | Slot s ↦ elim (decided s.number n) [ inl e ↦ ap (λ k. joined (get_or v'.roots k None)) e ∙ is ∙ sym (ap (λ k. joined (get_or v.roots k None)) e ∙ was) | inr ne ↦ ap joined (others s.number ne) ]
-    ] in
-    region-same v v' region links (λ x y e. elim y as (λ (o : End). link_of v x ≡ Some o → IsEnd v o → IsEnd v' o) [
-      | Obj q field ↦ λ named h. subst (λ l. IsSomeAnd (get_or l q.number None) (λ b. field < links_of b.0)) (sym bodies) h
-      | Slot s ↦ λ named h. elim (decided s.number n) [
-        | inl e ↦ let back = region.well.paired.mates x (Slot s) named in let none : link_of v (Slot s) ≡ None = ap (λ k. joined (get_or v.roots k None)) e ∙ was in let clash = sym none ∙ back in cc
-        | inr ne ↦ (h.0, others s.number ne ∙ h.1)
-      ]
-    ] e)
-    (ap (λ (l : List (Option End)). length l) table ∙ region.long ∙ ap (λ (l : List (Option (Kind × List ℕ))). 8 * length l) (sym bodies)) (subst (λ l. 0 < free_count l) (sym usages) region.reserve)
+  same_links : (n : ℕ) → joined (get_or v.roots n None) ≡ None → joined (get_or v'.roots n None) ≡ None → ((m : ℕ) → m ≢ n → get_or v'.roots m None ≡ get_or v.roots m None) → (e : End) → link_of v' e ≡ link_of v e
+  same_links n was is others (Obj r field) = ap (λ t. cond (ltb field 8) (get_or t (8 * r.number + field) None) None) table
+  same_links n was is others (Slot s) = elim (decided s.number n) [
+    | inl e ↦ ap (λ k. joined (get_or v'.roots k None)) e ∙ is ∙ sym (ap (λ k. joined (get_or v.roots k None)) e ∙ was)
+    | inr ne ↦ ap joined (others s.number ne)
+  ]
 
--- ---- the list of root slots with one more at its end, where there was memory
-pub past_end : (roots : List (Option (Option End))) → get_or roots (length roots) None ≡ None
-past_end [] = refl
-past_end (x ∷ roots) = past_end roots
+same_slot : (e : End) (n : ℕ) → (e ≡ Slot (record { number = n })) ⊎ (e ≢ Slot (record { number = n }))
+same_slot e n = ends_decided e (Slot (record { number = n }))
 
-push_here : (roots : List (Option (Option End))) (x : Option (Option End)) → get_or (roots ++ x ∷ []) (length roots) None ≡ x
-push_here [] x = refl
-push_here (y ∷ roots) x = push_here roots x
+pub root-added : (v v' : View) (n : ℕ) → v'.bodies ≡ v.bodies → v'.table ≡ v.table → IsSlotMade v.roots v'.roots n → IsRootAdded v v' (record { number = n })
+root-added v v' n bodies table made =
+    let links = same_links v v' bodies table n (ap joined made.fresh) (ap joined made.here) made.others in
+    let back : (e : End) → e ≢ Slot (record { number = n }) → IsEnd v' e → IsEnd v e = same_ends v' v (sym bodies) (sym table) n (λ m ne. sym (made.others m ne)) in
+    let fresh : IsEnd v (Slot (record { number = n })) → ⊥ = λ h. let clash = sym made.fresh ∙ h.1 in cc in
+    record {
+      fresh = fresh;
+      here = (None, made.here);
+      unset = ap joined made.here;
+      links = links;
+      ends = λ e h. elim (same_slot e n) [ inl is ↦ absurd (fresh (subst (IsEnd v) is h)) | inr ne ↦ same_ends v v' bodies table n made.others e ne h ];
+      gone = back;
+      there = made.there;
+      bound = made.bound;
+    }
 
-push_other : (roots : List (Option (Option End))) (x : Option (Option End)) (m : ℕ) → m ≢ length roots → get_or (roots ++ x ∷ []) m None ≡ get_or roots m None
-push_other [] x zero ne = absurd (ne refl)
-push_other [] x (suc m) ne = refl
-push_other (y ∷ roots) x zero ne = refl
-push_other (y ∷ roots) x (suc m) ne = push_other roots x m (λ e. ne (ap (λ k. suc k) e))
+pub root-dropped : (v v' : View) (n : ℕ) → v'.bodies ≡ v.bodies → v'.table ≡ v.table → joined (get_or v.roots n None) ≡ None → IsSlotDropped v.roots v'.roots n → IsRootDropped v v' (record { number = n })
+root-dropped v v' n bodies table unset dropped =
+    let links = same_links v v' bodies table n unset (ap joined dropped.here) dropped.others in
+    let gone : IsEnd v' (Slot (record { number = n })) → ⊥ = λ h. let clash = sym dropped.here ∙ h.1 in cc in
+    record {
+      here = gone;
+      links = links;
+      ends = same_ends v v' bodies table n dropped.others;
+      gone = λ e h. elim (same_slot e n) [ inl is ↦ absurd (gone (subst (IsEnd v') is h)) | inr ne ↦ same_ends v' v (sym bodies) (sym table) n (λ m other. sym (dropped.others m other)) e ne h ];
+      there = dropped.there;
+      bound = dropped.bound;
+    }
 
-pub pushed_here : (b : Bool) (roots new : List (Option (Option End))) → new ≡ cond b (roots ++ Some None ∷ []) roots → joined (get_or new (length roots) None) ≡ None
-pushed_here true roots new e = ap (λ l. joined (get_or l (length roots) None)) e ∙ ap joined (push_here roots (Some None))
-pushed_here false roots new e = ap (λ l. joined (get_or l (length roots) None)) e ∙ ap joined (past_end roots)
+same_long : (v v' : View) → IsRegion v → v'.bodies ≡ v.bodies → v'.table ≡ v.table → length v'.table ≡ 8 * length v'.bodies
+same_long v v' region bodies table = ap (λ (l : List (Option End)). length l) table ∙ region.long ∙ ap (λ (l : List (Option (Kind × List ℕ))). 8 * length l) (sym bodies)
 
-pub pushed_other : (b : Bool) (roots new : List (Option (Option End))) → new ≡ cond b (roots ++ Some None ∷ []) roots → (m : ℕ) → m ≢ length roots → get_or new m None ≡ get_or roots m None
-pushed_other true roots new e m ne = ap (λ l. get_or l m None) e ∙ push_other roots (Some None) m ne
-pushed_other false roots new e m ne = ap (λ l. get_or l m None) e
+pub region-root-added : (v v' : View) (r : Root) → IsRegion v → v'.bodies ≡ v.bodies → v'.table ≡ v.table → v'.usages ≡ v.usages → IsRootAdded v v' r → IsRegion v'
+region-root-added v v' r region bodies table usages is =
+    region-same v v' region is.links (λ x y _ h. is.ends y h) (same_long v v' region bodies table) (subst (λ l. 0 < free_count l) (sym usages) region.reserve)
 
-none_unless : (o : Option End) → ((y : End) → o ≡ Some y → ⊥) → o ≡ None
-none_unless None h = refl
-none_unless (Some y) h = absurd (h y refl)
+pub region-root-dropped : (v v' : View) (r : Root) → IsRegion v → v'.bodies ≡ v.bodies → v'.table ≡ v.table → v'.usages ≡ v.usages → link_of v (Slot r) ≡ None → IsRootDropped v v' r → IsRegion v'
+region-root-dropped v v' r region bodies table usages unset is =
+    region-same v v' region is.links (λ x y named h. is.ends y (λ same.
+    let back = region.well.paired.mates x y named in let none : link_of v y ≡ None = ap (link_of v) same ∙ unset in let clash = sym none ∙ back in cc) h)
+    (same_long v v' region bodies table) (subst (λ l. 0 < free_count l) (sym usages) region.reserve)
 
--- an end that is not there names nothing
-pub no-end : (v : View) → IsWell v → (e : End) → (IsEnd v e → ⊥) → link_of v e ≡ None
-no-end v well e gone = none_unless (link_of v e) (λ y is. gone (well.ends y e (well.paired.mates e y is)))
+-- ---- how many objects there are
 
--- no kind has a link of number 5 or more
-pub few-links : (v : View) (r : Ref) (field : ℕ) → IsEnd v (Obj r field) → field < 5
-few-links v r field h = (body_inside v.bodies r.number field h).1
+count_same : {X : Type 0} (xs ys : List (Option X)) → length ys ≡ length xs → ((m : ℕ) → is_some (get_or ys m None) ≡ is_some (get_or xs m None)) → count_by (λ o. is_some o) ys ≡ count_by (λ o. is_some o) xs
+count_same [] [] long same = refl
+count_same [] (y ∷ ys) long same = absurd (omega (arith, long))
+count_same (x ∷ xs) [] long same = absurd (omega (arith, long))
+count_same {X} (x ∷ xs) (y ∷ ys) long same =
+    let f : Option X → ℕ = λ o. cond (is_some o) 1 0 in
+    let first : f y ≡ f x = ap (λ b. cond b 1 0) (same 0) in
+    omega (arith, sum_by-cons f x xs, sum_by-cons f y ys, first, count_same xs ys (omega (arith, long)) (λ m. same (suc m)))
+
+-- one that was not there is there
+pub count-more : {X : Type 0} (xs ys : List (Option X)) (n : ℕ) → length ys ≡ length xs → n < length ys → get_or xs n None ≡ None → is_some (get_or ys n None) ≡ true → ((m : ℕ) → m ≢ n → get_or ys m None ≡ get_or xs m None)
+    → count_by (λ o. is_some o) ys ≡ count_by (λ o. is_some o) xs + 1
+count-more {X} xs ys n long lt fresh here others =
+    let was : ◌≡◌ {A = ℕ} (cond (is_some (get_or ys n None)) 1 0) 1 = ap (λ b. cond b 1 0) here in
+    let same = count_same xs (set ys n None) (omega (arith, length-set ys n None, long)) (λ m. elim (decided m n) [
+      | inl e ↦ ap (λ o. is_some o) (ap (λ k. get_or (set ys n None) k None) e ∙ get_or-set_same ys n None None lt ∙ sym fresh ∙ ap (λ k. get_or xs k None) (sym e))
+      | inr ne ↦ ap (λ o. is_some o) (get_or-set_other ys n m None None ne ∙ others m ne)
+    ]) in
+    omega (arith, same, was, count-set ys n None lt)
+
+some_inside : {X : Type 0} (xs : List (Option X)) (n : ℕ) → is_some (get_or xs n None) ≡ true → n < length xs
+some_inside [] n e = cc
+some_inside (x ∷ xs) zero e = omega arith
+some_inside (x ∷ xs) (suc n) e = omega (arith, some_inside xs n e)
+
+-- one that was there is not there
+pub count-less : {X : Type 0} (xs ys : List (Option X)) (n : ℕ) → length ys ≡ length xs → is_some (get_or xs n None) ≡ true → get_or ys n None ≡ None → ((m : ℕ) → m ≢ n → get_or ys m None ≡ get_or xs m None)
+    → count_by (λ o. is_some o) ys + 1 ≡ count_by (λ o. is_some o) xs
+count-less xs ys n long here gone others = sym (count-more ys xs n (sym long) (some_inside xs n here) gone here (λ m ne. sym (others m ne)))
+
+some_kept : (o o' : Option (Kind × List ℕ)) (change : List ℕ → List ℕ) → IsSomeAnd o (λ b. o' ≡ Some (b.0, change b.1)) → is_some o' ≡ is_some o
+some_kept None o' change h = absurd h
+some_kept (Some b) o' change h = ap (λ o. is_some o) h
+
+pub count-written : (v v' : View) (r : Ref) (change : List ℕ → List ℕ) → length v'.bodies ≡ length v.bodies → IsWritten v v' r change → objects v' ≡ objects v
+count-written v v' r change long is = count_same v.bodies v'.bodies long (λ m. elim (decided m r.number) [
+  | inl e ↦ ap (λ k. is_some (get_or v'.bodies k None)) e ∙ some_kept (body v r) (body v' r) change is.here ∙ ap (λ k. is_some (get_or v.bodies k None)) (sym e)
+  | inr ne ↦ ap (λ o. is_some o) (is.others (record { number = m }) (λ same. ne (ap (λ (x : Ref). x.number) same)))
+])
 
 -- an object that is not there has no link that is set
 pub unset-fresh : (v : View) (r : Ref) → IsRegion v → body v r ≡ None → (field : ℕ) → link_of v (Obj r field) ≡ None

@@ -1,8 +1,8 @@
 -- Lists after one change, and parts of lists of bytes.
-use Rattle.std.proofs.Common.{◌≡◌, ◌≢◌, ℕ, zero, suc, ◌+◌, ◌-◌, ◌<◌, ◌≤◌, ◌⊎◌, inl, inr, List, [], ◌∷◌, ◌++◌, length, get_or, take, drop, Option, Some, None, refl, sym, ap, ◌∙◌, subst, arith, length-append, length-take, length-drop, append_assoc}
+use Rattle.std.proofs.Common.{◌≡◌, ℕ, zero, suc, ◌+◌, ◌-◌, ◌<◌, ◌≤◌, ◌⊎◌, inl, inr, List, [], ◌∷◌, ◌++◌, length, get_or, take, drop, Option, Some, None, refl, sym, ap, ◌∙◌, arith, length-append, length-take, length-drop, append_assoc}
 use Rattle.std.specs.Prelude.{IsSome, IsSomeAnd}
 use Rattle.std.proofs.Math.ListN.{set}
-use Rattle.std.proofs.lemmas.List.{get_or-set_same, get_or-set_other, take-append-le, drop-append-le, get_or_read}
+use Rattle.std.proofs.lemmas.List.{take-append-le, drop-append-le, get_or_read}
 use Rattle.std.proofs.Math.Seq.{drop-append_seam, take-append_seam}
 use Rattle.std.proofs.Math.Seq.{drop-append-add, take-append-add, take-add}
 use Rattle.std.proofs.lemmas.List.{drop-take, drop-drop, take-take, take-append-drop}
@@ -11,14 +11,7 @@ use Rattle.std.proofs.Math.ListN.{get_or-map}
 use Rattle.lsa_kinds.specs.declared.kind.Kind.{Kind}
 use Rattle.lsa_region.specs.declared.place.Place.{Place}
 use Rattle.lsa_region.specs.Layout.{segment_at, place_at, body_at, bodies_of}
-use Rattle.lsa_region.proofs.Table.{decided}
-
--- what holds of the new element at its index and of the old ones elsewhere holds of each
-pub set_elim : {X : Type 0} (d : X) (P : ℕ → X → Type 0) (xs : List X) (n : ℕ) (x : X) (m : ℕ) → n < length xs → P n x → (m ≢ n → P m (get_or xs m d)) → P m (get_or (set xs n x) m d)
-set_elim d P xs n x m lt here there = elim (decided m n) [
-  | inl e ↦ subst (λ k. P k (get_or (set xs n x) k d)) (sym e) (subst (P n) (sym (get_or-set_same xs n x d lt)) here)
-  | inr e ↦ subst (P m) (sym (get_or-set_other xs n m x d e)) (there e)
-]
+use Rattle.lsa_pool.specs.laws.Usages.{set_elim}
 
 -- what is appended behind a part leaves it
 pub part-append : (start len : ℕ) (xs ys : List ℕ) → start + len ≤ length xs → part start len (xs ++ ys) ≡ part start len xs

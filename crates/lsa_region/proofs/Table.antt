@@ -1,5 +1,6 @@
 -- Ends are told apart, and a table of links changes at one end.
 use Rattle.std.proofs.Common.{◌≡◌, ◌≢◌, ℕ, zero, suc, ◌+◌, ◌*◌, ◌<◌, ◌⊎◌, inl, inr, List, [], ◌∷◌, length, get_or, Option, Some, None, cond, refl, sym, ap, ◌∙◌, arith}
+use Rattle.std.specs.Prelude.{count_by, is_some}
 use Rattle.std.proofs.Math.ListN.{set}
 use Rattle.std.proofs.lemmas.List.{length-set, get_or-set_same, get_or-set_other}
 use Rattle.std.proofs.lemmas.Bool.{lt-ltb, le-ltb, cases_lt}
@@ -7,28 +8,9 @@ use Rattle.lsa_region.specs.declared.end.Ref.{Ref}
 use Rattle.lsa_region.specs.declared.end.Root.{Root}
 use Rattle.lsa_region.specs.declared.end.End.{End}
 use Rattle.lsa_region.specs.declared.end.End.TheVariants.{Obj, Slot}
-use Rattle.lsa_region.specs.Ends.{named_in, HasPlaceIn, IsSetIn, joined}
-
-pub decided : (m n : ℕ) → (m ≡ n) ⊎ (m ≢ n)
-decided zero zero = inl refl
-decided zero (suc n) = inr (omega arith)
-decided (suc m) zero = inr (omega arith)
-decided (suc m) (suc n) = elim (decided m n) [ inl e ↦ inl (ap (λ k. suc k) e) | inr e ↦ inr (λ x. e (omega arith)) ]
-
-pub ends_decided : (a b : End) → (a ≡ b) ⊎ (a ≢ b)
-ends_decided (Obj r f) (Obj s g) = elim (decided r.number s.number) [
-  | inl e ↦ elim (decided f g) [
-    | inl d ↦ inl (ap (λ n. Obj (record { number = n }) f) e ∙ ap (λ k. Obj s k) d)
-    | inr d ↦ inr (λ same. d (cc))
-  ]
-  | inr e ↦ inr (λ same. let inner : r ≡ s = cc in e (ap (λ (x : Ref). x.number) inner))
-]
-ends_decided (Obj r f) (Slot s) = inr (λ same. cc)
-ends_decided (Slot r) (Obj s g) = inr (λ same. cc)
-ends_decided (Slot r) (Slot s) = elim (decided r.number s.number) [
-  | inl e ↦ inl (ap (λ n. Slot (record { number = n })) e)
-  | inr e ↦ inr (λ same. let inner : r ≡ s = cc in e (ap (λ (x : Root). x.number) inner))
-]
+use Rattle.lsa_pool.specs.laws.Usages.{decided}
+use Rattle.lsa_region.specs.Ends.{SlotCounts, slots_in, named_in, HasPlaceIn, IsSetIn, joined}
+use Rattle.lsa_region.proofs.Vacancies.{count-set}
 
 -- the place of a link of an object is its alone
 apart : (r s f g : ℕ) → f < 8 → g < 8 → 8 * s + g ≡ 8 * r + f → (s ≡ r) × (g ≡ f)
@@ -62,6 +44,16 @@ root_inside [] n named e = cc
 root_inside (x ∷ roots) zero named e = omega arith
 root_inside (x ∷ roots) (suc n) named e = omega (arith, root_inside roots n named e)
 
+-- as many slots are there where one that is there names something else
+slots-set : (roots : List (Option (Option End))) (n : ℕ) (was named : Option End) → get_or roots n None ≡ Some was → slots_in (set roots n (Some named)) ≡ slots_in roots
+slots-set roots n was named known =
+    let lt = root_inside roots n was known in
+    let one : ◌≡◌ {A = ℕ} (cond (is_some (get_or roots n None)) 1 0) 1 = ap (λ o. cond (is_some o) 1 0) known in
+    let counts : count_by (λ s. is_some s) (set roots n (Some named)) ≡ count_by (λ s. is_some s) roots = omega (arith, one, count-set roots n (Some named) lt) in
+    let first : slots_in (set roots n (Some named)) ≡ record { there = count_by (λ s. is_some s) roots; bound = length (set roots n (Some named)) } = ap (λ k. record { there = k; bound = length (set roots n (Some named)) }) counts in
+    let second : ◌≡◌ {A = SlotCounts} (record { there = count_by (λ s. is_some s) roots; bound = length (set roots n (Some named)) }) (slots_in roots) = ap (λ k. record { there = count_by (λ s. is_some s) roots; bound = k }) (length-set roots n (Some named)) in
+    first ∙ second
+
 pub set-root : (table : List (Option End)) (roots : List (Option (Option End))) (root : Root) (named : Option End) → HasPlaceIn table roots (Slot root)
     → IsSetIn table roots table (set roots root.number (Some named)) (Slot root) named
 set-root table roots root named has =
@@ -86,5 +78,5 @@ set-root table roots root named has =
         ]
       ];
       long = refl;
-      slots = length-set roots n (Some named);
+      slots = slots-set roots n has.0 named has.1;
     }

@@ -2,7 +2,7 @@
 use Rattle.std.proofs.Common.{◌≡◌, ◌≢◌, inl, inr, Option, Some, None, sym, ap, ◌∙◌}
 use Rattle.lsa_region.specs.declared.end.End.{End}
 use Rattle.lsa_region.specs.Paired.{WellPaired, IsTied, IsParted}
-use Rattle.lsa_region.proofs.Table.{ends_decided}
+use Rattle.lsa_region.specs.laws.Ends.{ends_decided}
 
 pub well-tie : (old new : End → Option End) (a b : End) → WellPaired old → IsTied old new a b → old a ≡ None → old b ≡ None → a ≢ b → WellPaired new
 well-tie old new a b well tied unset unset' differ = record {

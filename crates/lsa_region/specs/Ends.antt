@@ -1,5 +1,5 @@
 -- Ends, and what a table of links names.
-use Rattle.std.specs.Prelude.{◌≡◌, ◌≢◌, ℕ, ◌+◌, ◌*◌, ◌<◌, Bool, false, ◌&&◌, nat_eq, List, [], ◌∷◌, length, slice_index_or, nat_lt, cond, Option, Some, None}
+use Rattle.std.specs.Prelude.{◌≡◌, ◌≢◌, ℕ, ◌+◌, ◌*◌, ◌<◌, Bool, false, ◌&&◌, nat_eq, max, List, [], ◌∷◌, length, slice_index_or, nat_lt, cond, count_by, is_some, Option, Some, None}
 use Rattle.lsa_region.specs.declared.end.Ref.{Ref}
 use Rattle.lsa_region.specs.declared.end.End.{End}
 use Rattle.lsa_region.specs.declared.end.End.TheVariants.{Obj, Slot}
@@ -13,6 +13,30 @@ joined (Some named) = named
 -- what the root slot of this number names
 abbrev pub root_of : List (Option (Option End)) → ℕ → Option End
 root_of roots n = joined (slice_index_or roots n None)
+
+-- how many root slots are there, and the bound below which the number of each lies
+pub record SlotCounts : Type 0 where
+  pub there : ℕ
+  pub bound : ℕ
+
+-- those of a list of root slots
+abbrev pub slots_in : List (Option (Option End)) → SlotCounts
+slots_in roots = record { there = count_by (λ s. is_some s) roots; bound = length roots }
+
+-- the slot of this number was not there, and names nothing now; the bound rises only where each slot below it was there
+pub record IsSlotMade (old new : List (Option (Option End))) (n : ℕ) : Type 0 where
+  pub fresh : slice_index_or old n None ≡ None
+  pub here : slice_index_or new n None ≡ Some None
+  pub others : (m : ℕ) → m ≢ n → slice_index_or new m None ≡ slice_index_or old m None
+  pub there : (slots_in new).there ≡ (slots_in old).there + 1
+  pub bound : (slots_in new).bound ≡ max (slots_in old).bound ((slots_in old).there + 1)
+
+-- the slot of this number is gone
+pub record IsSlotDropped (old new : List (Option (Option End))) (n : ℕ) : Type 0 where
+  pub here : slice_index_or new n None ≡ None
+  pub others : (m : ℕ) → m ≢ n → slice_index_or new m None ≡ slice_index_or old m None
+  pub there : (slots_in new).there + 1 ≡ (slots_in old).there
+  pub bound : (slots_in new).bound ≡ (slots_in old).bound
 
 -- what an end names: the links of an object have eight places in the table
 abbrev pub named_in : List (Option End) → List (Option (Option End)) → End → Option End
@@ -31,19 +55,19 @@ pub record IsSetIn (table : List (Option End)) (roots : List (Option (Option End
   pub places : (other : End) → HasPlaceIn table roots other → HasPlaceIn table' roots' other
   pub back : (other : End) → HasPlaceIn table' roots' other → HasPlaceIn table roots other
   pub long : length table' ≡ length table
-  pub slots : length roots' ≡ length roots
+  pub slots : slots_in roots' ≡ slots_in roots
 
 -- what an end of the table names
 abbrev pub named_by : Links → End → Option End
-named_by l = named_in l.table.items l.roots.items
+named_by l = named_in l.table.items l.roots
 
 -- the end has a place in this table
 abbrev pub HasPlace : Links → End → Type 0
-HasPlace l = HasPlaceIn l.table.items l.roots.items
+HasPlace l = HasPlaceIn l.table.items l.roots
 
 -- an end of the table names this now, and all else is as it was
 abbrev pub IsSet : Links → Links → End → Option End → Type 0
-IsSet old new = IsSetIn old.table.items old.roots.items new.table.items new.roots.items
+IsSet old new = IsSetIn old.table.items old.roots new.table.items new.roots
 
 -- ---- other names
 

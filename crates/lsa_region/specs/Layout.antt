@@ -95,14 +95,18 @@ pub record IsLaid (size : ℕ) (us : List Usage) (segments : List (List ℕ)) (p
   pub total : sum_by size_of places ≡ live_sum us
   pub is_active : active_of us ≡ Some active
 
--- the first vacant_len numbers of the list are those of no object, each once, and there are enough of them
-pub record IsNumbered (size : ℕ) (us : List Usage) (places : List (Option Place)) (vacant : List ℕ) (vacant_len : ℕ) : Type 0 where
-  pub long : length vacant ≡ length places
-  pub enough : length us * size ≤ 32 * length places
-  pub counted : vacant_len + count_by (λ p. is_some p) places ≡ length places
-  pub within : (k : ℕ) → k < vacant_len → slice_index vacant k < length places
-  pub empty : (k : ℕ) → k < vacant_len → place_at places (slice_index vacant k) ≡ None
+-- the first vacant_len numbers of the list are those at which nothing is, each once
+pub record IsVacancy {X : Type 0} (xs : List (Option X)) (vacant : List ℕ) (vacant_len : ℕ) : Type 0 where
+  pub long : length xs ≤ length vacant
+  pub counted : vacant_len + count_by (λ p. is_some p) xs ≡ length xs
+  pub within : (k : ℕ) → k < vacant_len → slice_index vacant k < length xs
+  pub empty : (k : ℕ) → k < vacant_len → slice_index_or xs (slice_index vacant k) None ≡ None
   pub once : (j k : ℕ) → j < k → k < vacant_len → slice_index vacant j ≢ slice_index vacant k
+
+-- the vacant numbers are those of no object, and there are enough numbers
+pub record IsNumbered (size : ℕ) (us : List Usage) (places : List (Option Place)) (vacant : List ℕ) (vacant_len : ℕ) : Type 0 where
+  pub enough : length us * size ≤ 32 * length places
+  pub vacancy : IsVacancy places vacant vacant_len
 
 -- the roster of a segment has the number of each object that lies there, and perhaps others, one at most for 32 used bytes
 pub record IsRostered (us : List Usage) (places : List (Option Place)) (rosters : List (List ℕ)) : Type 0 where

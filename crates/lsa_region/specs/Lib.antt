@@ -2,3 +2,4 @@ pub mod Ends
 pub mod Layout
 pub mod Paired
 pub mod Region
+pub mod laws

@@ -1,5 +1,5 @@
 -- The region as its callers see it: what each object is, what each end names, and the numbers.
-use Rattle.std.specs.Prelude.{◌≡◌, ◌≢◌, ℕ, ◌+◌, ◌-◌, ◌*◌, ◌^◌, ◌<◌, ◌≤◌, ◌⊎◌, min, List, slice_index_or, length, map, count_by, Option, Some, None, is_some, IsSome, IsSomeAnd, Contains, AllPairs}
+use Rattle.std.specs.Prelude.{◌≡◌, ◌≢◌, ℕ, ◌+◌, ◌-◌, ◌*◌, ◌^◌, ◌<◌, ◌≤◌, ◌⊎◌, min, max, List, slice_index_or, length, map, count_by, sum_by, Option, Some, None, is_some, IsSome, IsSomeAnd, Contains, AllPairs}
 use Rattle.std.specs.Option.{option_map}
 use Rattle.lsa_kinds.specs.declared.kind.Kind.{Kind}
 use Rattle.lsa_kinds.specs.Kinds.{links_of}
@@ -10,7 +10,7 @@ use Rattle.lsa_region.specs.declared.end.End.{End}
 use Rattle.lsa_region.specs.declared.end.End.TheVariants.{Obj, Slot}
 use Rattle.lsa_pool.specs.Room.{nothing, usage_of, free_count, live_sum}
 use Rattle.lsa_pool.specs.declared.State.TheVariants.{Free}
-use Rattle.lsa_region.specs.Ends.{named_in, named_as, end_as}
+use Rattle.lsa_region.specs.Ends.{SlotCounts, slots_in, named_in, named_as, end_as}
 use Rattle.lsa_region.specs.Layout.{Spot, extent, lies_in, bytes_in}
 use Rattle.lsa_region.specs.Paired.{WellPaired}
 
@@ -32,6 +32,18 @@ body v r = slice_index_or v.bodies r.number None
 -- the segment and the offset at which an object lies; None where there is no such object
 abbrev pub spot_of : View → Ref → Option Spot
 spot_of v r = slice_index_or v.spots r.number None
+
+-- how many objects there are
+abbrev pub objects : View → ℕ
+objects v = count_by (λ b. is_some b) v.bodies
+
+-- how many bytes of objects are live
+abbrev pub live_bytes : View → ℕ
+live_bytes v = live_sum v.usages
+
+-- how many root slots are there, and the bound below which the number of each lies
+abbrev pub slots_of : View → SlotCounts
+slots_of v = slots_in v.roots
 
 -- how many objects lie in segment n
 abbrev pub objects_in : View → ℕ → ℕ
@@ -69,8 +81,8 @@ pub record SameObjects (old new : View) : Type 0 where
   pub bodies : (r : Ref) → body new r ≡ body old r
   pub ends : (e : End) → IsEnd old e → IsEnd new e
   pub gone : (e : End) → IsEnd new e → IsEnd old e
-  pub spots : new.spots ≡ old.spots
-  pub slots : length new.roots ≡ length old.roots
+  pub spots : (r : Ref) → spot_of new r ≡ spot_of old r
+  pub slots : slots_of new ≡ slots_of old
   pub usages : new.usages ≡ old.usages
   pub epoch : new.epoch ≡ old.epoch
   pub moved : new.moved ≡ old.moved
@@ -82,7 +94,7 @@ pub record IsRegion (v : View) : Type 0 where
   pub long : length v.table ≡ 8 * length v.bodies
   pub reserve : 0 < free_count v.usages
 
--- a new object with its kind and bytes; all else is as it was
+-- a new object with its kind and bytes, and the links of its kind, all unset; all else is as it was
 pub record IsAdded (old new : View) (r : Ref) (kind : Kind) (bytes : List ℕ) : Type 0 where
   pub fresh : body old r ≡ None
   pub here : body new r ≡ Some (kind, bytes)
@@ -90,34 +102,61 @@ pub record IsAdded (old new : View) (r : Ref) (kind : Kind) (bytes : List ℕ) :
   pub others : (q : Ref) → q ≢ r → body new q ≡ body old q
   pub spots : (q : Ref) → q ≢ r → spot_of new q ≡ spot_of old q
   pub links : (e : End) → link_of new e ≡ link_of old e
-  pub roots : new.roots ≡ old.roots
+  pub own : (field : ℕ) → field < links_of kind → IsEnd new (Obj r field)
+  pub exact : (field : ℕ) → IsEnd new (Obj r field) → field < links_of kind
+  pub ends : (e : End) → IsEnd old e → IsEnd new e
+  pub gone : (e : End) → ((field : ℕ) → e ≢ Obj r field) → IsEnd new e → IsEnd old e
+  pub slots : slots_of new ≡ slots_of old
 
--- an object is gone; all else is as it was
+-- an object is gone, and its links with it; all else is as it was
 pub record IsFreed (old new : View) (r : Ref) : Type 0 where
   pub here : body new r ≡ None
   pub others : (q : Ref) → q ≢ r → body new q ≡ body old q
   pub spots : (q : Ref) → q ≢ r → spot_of new q ≡ spot_of old q
   pub links : (e : End) → link_of new e ≡ link_of old e
-  pub roots : new.roots ≡ old.roots
+  pub lost : (field : ℕ) → IsEnd new (Obj r field) → ⊥
+  pub ends : (e : End) → ((field : ℕ) → e ≢ Obj r field) → IsEnd old e → IsEnd new e
+  pub gone : (e : End) → IsEnd new e → IsEnd old e
+  pub slots : slots_of new ≡ slots_of old
 
--- a root slot that was not there is there, and names nothing; all else is as it was
+-- the bytes behind the links of an object are changed; all else is as it was
+pub record IsWritten (old new : View) (r : Ref) (change : List ℕ → List ℕ) : Type 0 where
+  pub here : IsSomeAnd (body old r) (λ b. body new r ≡ Some (b.0, change b.1))
+  pub others : (q : Ref) → q ≢ r → body new q ≡ body old q
+  pub spots : (q : Ref) → spot_of new q ≡ spot_of old q
+  pub links : (e : End) → link_of new e ≡ link_of old e
+  pub ends : (e : End) → IsEnd old e → IsEnd new e
+  pub gone : (e : End) → IsEnd new e → IsEnd old e
+  pub slots : slots_of new ≡ slots_of old
+  pub usages : new.usages ≡ old.usages
+  pub epoch : new.epoch ≡ old.epoch
+  pub moved : new.moved ≡ old.moved
+  pub compacted : new.compacted ≡ old.compacted
+
+-- A root slot that was not there is there, and names nothing; every other end is as it was. A dropped slot is used again: the bound rises only where each slot below it was there.
 pub record IsRootAdded (old new : View) (r : Root) : Type 0 where
-  pub fresh : slice_index_or old.roots r.number None ≡ None
-  pub here : slice_index_or new.roots r.number None ≡ Some None
-  pub others : (n : ℕ) → n ≢ r.number → slice_index_or new.roots n None ≡ slice_index_or old.roots n None
-  pub slots : length new.roots ≤ length old.roots + 1
+  pub fresh : IsEnd old (Slot r) → ⊥
+  pub here : IsEnd new (Slot r)
+  pub unset : link_of new (Slot r) ≡ None
+  pub links : (e : End) → link_of new e ≡ link_of old e
+  pub ends : (e : End) → IsEnd old e → IsEnd new e
+  pub gone : (e : End) → e ≢ Slot r → IsEnd new e → IsEnd old e
+  pub there : (slots_of new).there ≡ (slots_of old).there + 1
+  pub bound : (slots_of new).bound ≡ max (slots_of old).bound ((slots_of old).there + 1)
 
--- a root slot is gone; all else is as it was
+-- a root slot is gone; every other end is as it was
 pub record IsRootDropped (old new : View) (r : Root) : Type 0 where
-  pub here : slice_index_or new.roots r.number None ≡ None
-  pub others : (n : ℕ) → n ≢ r.number → slice_index_or new.roots n None ≡ slice_index_or old.roots n None
-  pub slots : length new.roots ≡ length old.roots
+  pub here : IsEnd new (Slot r) → ⊥
+  pub links : (e : End) → link_of new e ≡ link_of old e
+  pub ends : (e : End) → e ≢ Slot r → IsEnd old e → IsEnd new e
+  pub gone : (e : End) → IsEnd new e → IsEnd old e
+  pub there : (slots_of new).there + 1 ≡ (slots_of old).there
+  pub bound : (slots_of new).bound ≡ (slots_of old).bound
 
--- the objects, the links, the segments and the counts are as they were
+-- the objects, the segments and the counts are as they were
 pub record SameButRoots (old new : View) : Type 0 where
-  pub bodies : new.bodies ≡ old.bodies
-  pub spots : new.spots ≡ old.spots
-  pub table : new.table ≡ old.table
+  pub bodies : (r : Ref) → body new r ≡ body old r
+  pub spots : (r : Ref) → spot_of new r ≡ spot_of old r
   pub usages : new.usages ≡ old.usages
   pub epoch : new.epoch ≡ old.epoch
   pub moved : new.moved ≡ old.moved
@@ -129,6 +168,13 @@ pub record AreLive (v : View) (refs : List Ref) : Type 0 where
   pub live : (r : Ref) → Contains refs r → IsSome (body v r)
   pub once : AllPairs ◌≢◌ refs
 
+-- What is live is what the objects take: exactly, over a list of all of them, and at least over references each once. So with their count.
+pub record IsSummed (v : View) : Type 0 where
+  pub whole : (refs : List Ref) → AreLive v refs → sum_by (λ r. extent (body v r)) refs ≡ live_bytes v
+  pub most : (refs : List Ref) → AllPairs ◌≢◌ refs → sum_by (λ r. extent (body v r)) refs ≤ live_bytes v
+  pub all : (refs : List Ref) → AreLive v refs → length refs ≡ objects v
+  pub few : (refs : List Ref) → AllPairs ◌≢◌ refs → ((r : Ref) → Contains refs r → IsSome (body v r)) → length refs ≤ objects v
+
 -- the objects have new names, one-to-one, and each reference in links and root slots is replaced by its new name; all else is as it was
 pub record Renamed (old new : View) (names : List (Ref × Ref)) : Type 0 where
   pub before : AreLive old (map (λ pair. pair.0) names)
@@ -138,7 +184,7 @@ pub record Renamed (old new : View) (names : List (Ref × Ref)) : Type 0 where
   pub roots : (s : Root) → link_of new (Slot s) ≡ option_map (end_as names) (link_of old (Slot s))
   pub kept : (s : Root) → IsEnd old (Slot s) → IsEnd new (Slot s)
   pub known : (s : Root) → IsEnd new (Slot s) → IsEnd old (Slot s)
-  pub slots : length new.roots ≡ length old.roots
+  pub slots : slots_of new ≡ slots_of old
   pub budget : length new.usages ≡ length old.usages
   pub live : live_sum new.usages ≡ live_sum old.usages
 

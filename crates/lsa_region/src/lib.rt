@@ -2,10 +2,12 @@
 #![tactic(auto)]
 
 pub mod end;
+pub mod laws;
 mod links;
 mod place;
 mod region;
 mod roster;
+mod slots;
 mod store;
 
 pub use end::{End, Ref, Root};

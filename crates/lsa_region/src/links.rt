@@ -1,14 +1,15 @@
 //! The table of links: what each link of an object and each root slot names.
 ghost use Rattle.std.specs.Prelude.{◌≡◌, ◌≢◌, ℕ, ◌+◌, ◌*◌, ◌^◌, ◌<◌, ◌≤◌, length, replicate, true, false, Option, Some, None, IfOk, IfSome};
-ghost use Rattle.lsa_region.specs.Ends.{named_by, HasPlace, IsSet, same_end};
+ghost use Rattle.lsa_region.specs.Ends.{named_by, slots_in, HasPlace, IsSet, same_end};
 ghost use Rattle.lsa_region.specs.Paired.{WellPaired, IsTied, IsParted, IsExchanged};
 
 use crate::end::End;
+use crate::slots::Slots;
 
 #[derive(Drop)]
 pub struct Links {
     pub(crate) table: Vec<Option<End>>,
-    pub(crate) roots: Vec<Option<Option<End>>>,
+    pub(crate) roots: Slots,
 }
 
 /// What an end names.
@@ -18,10 +19,7 @@ pub(crate) fn named(links: &Links, end: End) -> Option<End>
 {
     match end {
         End::Obj(object, field) => links.table[8 * object.number + field as usize],
-        End::Slot(root) => match links.roots[root.number] {
-            Some(named) => named,
-            None => None,
-        },
+        End::Slot(root) => links.roots.get(root.number),
     }
 }
 
@@ -32,7 +30,7 @@ pub(crate) fn set(links: &mut Links, end: End, named: Option<End>)
 {
     match end {
         End::Obj(object, field) => links.table[8 * object.number + field as usize] = named,
-        End::Slot(root) => links.roots[root.number] = Some(named),
+        End::Slot(root) => links.roots.set(root.number, named),
     }
 }
 
@@ -45,7 +43,7 @@ pub(crate) fn tie(links: &mut Links, a: End, b: End)
     ensures places { (e : End) → HasPlace links.old e → HasPlace links.new e }
     ensures back { (e : End) → HasPlace links.new e → HasPlace links.old e }
     ensures long { length links.new.table.items ≡ length links.old.table.items }
-    ensures slots { length links.new.roots.items ≡ length links.old.roots.items }
+    ensures slots { slots_in links.new.roots ≡ slots_in links.old.roots }
 {
     set(links, a, Some(b));
     set(links, b, Some(a));
@@ -59,7 +57,7 @@ pub(crate) fn part(links: &mut Links, a: End, b: End)
     ensures places { (e : End) → HasPlace links.old e → HasPlace links.new e }
     ensures back { (e : End) → HasPlace links.new e → HasPlace links.old e }
     ensures long { length links.new.table.items ≡ length links.old.table.items }
-    ensures slots { length links.new.roots.items ≡ length links.old.roots.items }
+    ensures slots { slots_in links.new.roots ≡ slots_in links.old.roots }
 {
     set(links, a, None);
     set(links, b, None);
@@ -98,7 +96,7 @@ fn point(links: &mut Links, end: End, mate: Option<End>)
     ensures places { (e : End) → HasPlace links.old e → HasPlace links.new e }
     ensures back { (e : End) → HasPlace links.new e → HasPlace links.old e }
     ensures long { length links.new.table.items ≡ length links.old.table.items }
-    ensures slots { length links.new.roots.items ≡ length links.old.roots.items }
+    ensures slots { slots_in links.new.roots ≡ slots_in links.old.roots }
 {
     set(links, end, mate);
     if let Some(other) = mate {
@@ -117,7 +115,7 @@ pub(crate) fn exchange(links: &mut Links, a: End, b: End)
     ensures places { (e : End) → HasPlace links.old e → HasPlace links.new e }
     ensures back { (e : End) → HasPlace links.new e → HasPlace links.old e }
     ensures long { length links.new.table.items ≡ length links.old.table.items }
-    ensures slots { length links.new.roots.items ≡ length links.old.roots.items }
+    ensures slots { slots_in links.new.roots ≡ slots_in links.old.roots }
 {
     let first = named(links, a);
     let second = named(links, b);

@@ -1,5 +1,5 @@
 //! The store: objects without their links, each at a place in a segment, which the table of places tells by the object's number.
-ghost use Rattle.std.specs.Prelude.{◌≡◌, ◌≢◌, ℕ, ◌+◌, ◌-◌, ◌*◌, ◌/◌, ◌%◌, ◌^◌, ◌<◌, ◌≤◌, [], ◌∷◌, ◌++◌, length, true, Contains, replicate, slice_index, slice_index_or, slice_set, Option, Some, None, IsSome, IsSomeAnd, IfOk, vec_len, count_by, is_some};
+ghost use Rattle.std.specs.Prelude.{◌≡◌, ◌≢◌, ℕ, ◌+◌, ◌-◌, ◌*◌, ◌/◌, ◌%◌, ◌^◌, ◌<◌, ◌≤◌, [], ◌∷◌, ◌++◌, length, true, Contains, replicate, slice_index, slice_index_or, slice_set, Option, Some, None, IsSome, IsSomeAnd, IfOk, vec_len, count_by, sum_by, is_some};
 ghost use Rattle.lsa_kinds.specs.Kinds.{links_of};
 ghost use Rattle.lsa_pool.specs.declared.State.TheVariants.{Active, Closed};
 ghost use Rattle.lsa_pool.specs.Account.{IsSound};
@@ -80,21 +80,19 @@ impl<const S: usize> Store<S> {
         ensures { result ≡ sparse_of S self.now.usages }
     {
         let _ = &self.places;
+        if self.pool.sparse() == 0 {
+            return None;
+        }
         match self.pool.sparsest() {
-            Some(n) => {
-                if self.pool.usage(n).live <= 3 * S / 4 {
-                    Some(n)
-                } else {
-                    None
-                }
-            }
-            None => None,
+            Some(n) if self.pool.usage(n).live <= 3 * S / 4 => Some(n),
+            _ => None,
         }
     }
 
     /// Shows where the objects lie, and the books of the segments. It does nothing.
     pub(crate) fn known(&self)
         ensures placed { IsPlaced self.now }
+        ensures total { sum_by extent self.now.bodies ≡ live_sum self.now.usages }
         ensures even { S % 64 ≡ 0 }
         ensures sound { IsSound S self.now.usages }
         ensures active { IsSome (active_of self.now.usages) }
@@ -102,17 +100,6 @@ impl<const S: usize> Store<S> {
         ensures few { length self.now.usages ≤ 4096 }
     {
         let _ = &self.places;
-    }
-
-    /// How many bytes of objects are live.
-    pub(crate) fn live(&self) -> usize
-        ensures { result ≡ live_sum self.now.usages }
-    {
-        let mut total = 0;
-        for n in 0..self.segments.len() {
-            total += self.pool.usage(n as u32).live;
-        }
-        total
     }
 
     /// How many objects there are.

@@ -1,5 +1,5 @@
 -- Parts of a list of bytes.
-use Rattle.std.specs.Prelude.{◌≡◌, ℕ, ◌+◌, List, ◌++◌, length, map, take, drop, Option, Some}
+use Rattle.std.specs.Prelude.{◌≡◌, ℕ, ◌+◌, ◌-◌, ◌≤◌, List, ◌++◌, length, map, take, drop, replicate, Option, Some, None}
 use Rattle.circular_buffer.specs.Places.{somes}
 
 -- the bytes from the offset on
@@ -10,7 +10,12 @@ part offset len bytes = take len (drop offset bytes)
 abbrev pub overwritten : List ℕ → ℕ → List ℕ → List ℕ
 overwritten old offset bytes = take offset old ++ (bytes ++ drop (offset + length bytes) old)
 
--- there are size bytes, and each of them is set
-pub record IsWhole (size : ℕ) (bytes : List (Option ℕ)) : Type 0 where
-  pub long : length bytes ≡ size
-  pub all_set : bytes ≡ map Some (somes bytes)
+-- size bytes, of which the first ones are set to these, and the others are unset
+abbrev pub filled : ℕ → List ℕ → List (Option ℕ)
+filled size bytes = map Some bytes ++ replicate (size - length bytes) None
+
+-- there are size bytes, of which the first ones are set, as many as set says, and no others
+pub record IsFilled (size set : ℕ) (bytes : List (Option ℕ)) : Type 0 where
+  pub front : bytes ≡ filled size (somes bytes)
+  pub count : length (somes bytes) ≡ set
+  pub most : set ≤ size

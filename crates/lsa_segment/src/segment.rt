@@ -6,7 +6,7 @@ use crate::block::Block;
 use std::alloc::{AllocError, Global};
 use std::marker::Model;
 
-/// A segment of `S` bytes, at most 2 ^ 27, seen as the list of those that are used.
+/// A segment of `S` bytes, at most 2 ^ 27, seen as the list of those that are used. None of them is written before it is used.
 #[derive(Drop)]
 pub struct Segment<const S: usize> {
     block: Block<S>,
@@ -20,7 +20,7 @@ impl<const S: usize> Model for Segment<S> {
 
     ghost view = { λ s. take s.used s.block };
 
-    ghost invariant = { λ s. (s.used ≤ S) × (length s.block ≡ S) };
+    ghost invariant = { λ s. (s.used ≤ length s.block) × (length s.block ≤ S) };
 }
 
 impl<const S: usize> Segment<S> {
@@ -113,6 +113,12 @@ mod tests {
         assert_eq!(rt; segment.room(), 64);
         assert_eq!(rt; segment.push(&[5]), 0);
         assert_eq!(rt; segment.lend(0, 1), [5].as_slice());
+        // Over the five bytes that were written before, and behind them.
+        other.clear();
+        assert_eq!(rt; other.push(&bytes[..8]), 0);
+        assert_eq!(rt; other.lend(0, 8), &bytes[..8]);
+        assert_eq!(rt; other.push(&[3]), 8);
+        assert_eq!(rt; other.lend(7, 2), [7, 3].as_slice());
         Ok(())
     }
 }

@@ -1,5 +1,1 @@
-pub mod Listed
-pub mod Merging
-pub mod Pieces
-pub mod Rebuilt
 pub mod Same

@@ -14,10 +14,11 @@ use Rattle.rc_mutation.specs.declared.fragments.Frag.TheVariants as frag
 use Rattle.rc_mutation.specs.declared.mutations.Mutation.{Mutation}
 use Rattle.rc_mutation.specs.Fragments.{changes_of, fragments, has_any, is_written, placed_change, placed_row}
 use Rattle.rc_mutation.specs.Source.{IsMutation}
-use Rattle.rc_mutation.proofs.FragMerge.{merge, merge_into, merge-in_order, fragment_of, rows-placed, changes-placed}
+use Rattle.rc_mutation.specs.Laws.Written.{unwritten}
+use Rattle.rc_mutation.specs.Laws.FragMerge.{merge, merge_into, merge-in_order, fragment_of, rows-placed, changes-placed}
 use Rattle.rc_canon.specs.Canonical.{clustered, IsMutationOf}
-use Rattle.rc_canon.proofs.Merging.{Keyed, Change, rows_in, changes_in}
-use Rattle.rc_canon.proofs.Pieces.{pieces_in, pieces_from}
+use Rattle.rc_canon.specs.Laws.Merging.{Keyed, Change, rows_in, changes_in}
+use Rattle.rc_canon.specs.Laws.Pieces.{pieces_in, pieces_from}
 
 -- ---- rows and changes of both merged
 
@@ -155,31 +156,6 @@ static_in-merge_into a os ih (b ∷ bs) =
 static_in-merge : (os : List Keyed) (bs : List Change) → static_in (ended (list_map fragment_of (merge os bs))) ≡ empty_row
 static_in-merge [] bs = static_in-changes bs
 static_in-merge (a ∷ os) bs = static_in-merge_into a os (static_in-merge os) bs
-
-or_first : (a b : Bool) → (a || b) ≡ false → a ≡ false
-or_first true b e = e
-or_first false b e = refl
-
-or_second : (a b : Bool) → (a || b) ≡ false → b ≡ false
-or_second true b e = absurd (cc)
-or_second false b e = e
-
-no_value : {X : Type 0} (o : Option X) → is_some o ≡ false → o ≡ None
-no_value None e = refl
-no_value (Some x) e = absurd (cc)
-
-no_elements : {X : Type 0} (xs : List X) → has_any xs ≡ false → xs ≡ []
-no_elements [] e = refl
-no_elements (x ∷ xs) e = absurd (cc)
-
--- a row of which nothing was written is the empty one
-unwritten : (row : Row) → is_written row ≡ false → row ≡ empty_row
-unwritten row e =
-    let later = or_second (is_some row.marker) (is_some row.tomb || has_any row.cells) e in
-    let marker = no_value row.marker (or_first (is_some row.marker) (is_some row.tomb || has_any row.cells) e) in
-    let tomb = no_value row.tomb (or_first (is_some row.tomb) (has_any row.cells) later) in
-    let cells = no_elements row.cells (or_second (is_some row.tomb) (has_any row.cells) later) in
-    λ i. record { marker = marker i; tomb = tomb i; cells = cells i }
 
 head_of-fragments : (m : Mutation) → head_of (fragments m) ≡ m.pt
 unfolding fragments

@@ -8,13 +8,14 @@ ghost use Rattle.rc_mutation.specs.declared.fragments.Frag.{Frag};
 ghost use Rattle.rc_mutation.specs.declared.mutations.Mutation.{Mutation};
 ghost use Rattle.rc_mutation.specs.Fragments.{fragments};
 ghost use Rattle.rc_mutation.specs.Source.{IsMutation};
+ghost use Rattle.rc_mutation.specs.Statics.{has_cells_alone};
 ghost use Rattle.rc_canon.specs.Canonical.{clustered, IsBounded, IsCanonicalList, IsMutationOf};
 
-/// Each canonical list of rows and changes of tombstone is that of one mutation, whatever its partition tombstone and its
-/// static row are. So who reads such a list has read a mutation's fragments.
+/// Each canonical list of rows and changes of tombstone is that of one mutation, whatever its partition tombstone is and its
+/// static row, which has cells alone. So who reads such a list has read a mutation's fragments.
 pub fn a_canonical_list_is_that_of_a_mutation()
     ensures is_of_one { (tomb : Option Tomb) (row : Row) (fs : List Frag) → IsTrue (ascending row.cells) →
-        IsCanonicalList None None fs → (m : Mutation) × IsMutationOf m tomb row fs }
+        IsTrue (has_cells_alone row) → IsCanonicalList None None fs → (m : Mutation) × IsMutationOf m tomb row fs }
     ensures and_no_other { (tomb : Option Tomb) (row : Row) (fs : List Frag) (m other : Mutation) →
         IsMutationOf m tomb row fs → IsMutationOf other tomb row fs → m ≡ other }
 {}

@@ -1,3 +1,1 @@
 pub mod Deleted
-pub mod Joined
-pub mod Merge

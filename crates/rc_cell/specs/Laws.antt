@@ -1,4 +1,7 @@
 -- The laws of joining rows, for crates above to cite: any split of the rows may be joined first, in either order, and again.
+pub mod Each
+pub mod Joined
+pub mod Merge
 use Rattle.std.specs.Prelude.{ℕ, ℤ, List, [], ◌∷◌, ◌++◌, Option, Some, None, ◌≡◌}
 use Rattle.std.proofs.Common.{refl, sym, ap, ◌∙◌, append-nil}
 use Rattle.std.specs.Ordering.{nat_cmp, int_cmp}

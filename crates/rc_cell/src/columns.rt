@@ -47,6 +47,14 @@ impl Cells {
         Ok(Cells { items })
     }
 
+    /// The cells of these pairs, whose columns strictly ascend, in the memory that holds them.
+    pub fn from_vec(items: Vec<(u8, Cell)>) -> Self
+        requires { IsTrue (ascending items.items) }
+        ensures { result ≡ items.items }
+    {
+        Cells { items }
+    }
+
     /// The pairs by strictly ascending column.
     pub fn as_slice(&self) -> &[(u8, Cell)]
         ensures value { result.now ≡ self.now }

@@ -1,5 +1,6 @@
-ghost use Rattle.std.specs.Prelude.{◌≡◌, [], ◌∷◌, ◌++◌, List, IsTrue};
+ghost use Rattle.std.specs.Prelude.{◌≡◌, ℕ, Bool, true, None, [], ◌∷◌, ◌++◌, List, IsTrue};
 ghost use Rattle.std.specs.Ordering.{is_gt};
+ghost use Rattle.std.specs.List.{list_all, AllByRecursion};
 ghost use Rattle.rc_cell.specs.declared.rows.Row.{Row};
 ghost use Rattle.rc_cell.specs.declared.writes.Cell.{Cell};
 ghost use Rattle.rc_cell.specs.Orders.{cell_cmp};
@@ -40,4 +41,16 @@ pub fn join_of_none()
 pub fn join_of_one_more()
     ensures { (rows : List Row) (row : Row) → IsRow row →
         joined_row (rows ++ row ∷ []) ≡ joined_row (joined_row rows ∷ row ∷ []) }
+{}
+
+/// Each cell of a joined row is a cell of one of the rows: a test that each of theirs passes is passed by each of its.
+pub fn join_adds_no_cell()
+    ensures { (test : (ℕ × Cell) → Bool) (rows : List Row) →
+        list_all (λ row. list_all test row.cells) rows ≡ true → list_all test (joined_row rows).cells ≡ true }
+{}
+
+/// Rows without a marker join to one without a marker, and rows without a tombstone to one without a tombstone.
+pub fn join_adds_no_marker_or_tombstone()
+    ensures marker { (rows : List Row) → AllByRecursion (λ row. row.marker ≡ None) rows → (joined_row rows).marker ≡ None }
+    ensures tomb { (rows : List Row) → AllByRecursion (λ row. row.tomb ≡ None) rows → (joined_row rows).tomb ≡ None }
 {}

@@ -3,18 +3,10 @@ use std::alloc::{AllocError, Global};
 use std::cmp::Ordering;
 use std::test::Fail;
 
-// A timestamp, and a value, or none and a deletion time.
-type Written = (i64, Option<&'static str>, u32);
-
-fn cell_of(alloc: Global, written: Written) -> Result<Cell, AllocError> {
-    let (ts, value, dt) = written;
-    match value {
-        Some(text) => {
-            let value = Value::from_slice(alloc, text.as_bytes())?;
-            Ok(Cell::Live { ts, value })
-        }
-        None => Ok(Cell::Dead { ts, dt }),
-    }
+// A live cell of these bytes.
+fn cell_of(alloc: Global, ts: i64, bytes: &[u8]) -> Result<Cell, AllocError> {
+    let value = Value::from_vec(Vec::from_slice(alloc, bytes)?);
+    Ok(Cell::Live { ts, value })
 }
 
 fn row_of(
@@ -24,7 +16,7 @@ fn row_of(
     column: u8,
     cell: &Cell,
 ) -> Result<Row, AllocError> {
-    let cells = Cells::from_slice(alloc, &[(column, cell.copy(alloc)?)])?;
+    let cells = Cells::from_vec(Vec::from_array(alloc, [(column, cell.copy(alloc)?)])?);
     let tomb = tomb_of(tomb);
     Ok(Row {
         marker,
@@ -57,53 +49,22 @@ fn wins(alloc: Global, winner: &Cell, loser: &Cell) -> Result<bool, AllocError> 
     Ok(holds(&joined, winner) && holds(&turned, winner) && loser < winner)
 }
 
-// Each first one wins over the second.
-const WINS: [(Written, Written); 9] = [
-    ((10, Some("5"), 0), (10, Some("12"), 0)),
-    ((10, Some("ab"), 0), (10, Some("a"), 0)),
-    ((10, Some("0"), 0), (10, Some(""), 0)),
-    ((10, Some("é"), 0), (10, Some("z"), 0)),
-    ((10, None, 0), (10, Some("5"), 0)),
-    ((11, Some(""), 0), (10, None, 7)),
-    ((10, None, 8), (10, None, 7)),
-    ((i64::MAX, Some(""), 0), (i64::MIN, Some("z"), 0)),
-    ((-1, None, 0), (-2, Some("z"), 0)),
-];
-
 #[test]
 fn the_winner_of_two_writes(rt: HostRuntime) -> Result<(), Fail> {
     let alloc = rt.alloc();
-    for (winner, loser) in &WINS {
-        let won = wins(alloc, &cell_of(alloc, *winner)?, &cell_of(alloc, *loser)?)?;
-        assert!(rt; won);
-    }
+    let dead = Cell::Dead { ts: 10, dt: 8 };
+    let live = cell_of(alloc, 10, b"5")?;
+    assert!(rt; wins(alloc, &dead, &live)?);
     Ok(())
 }
-
-// The timestamps of a row's marker, of its tombstone (deletion time 7), and its cell; that of the cover; and whether it is live.
-const LIVES: [(Option<i64>, Option<i64>, Written, Option<i64>, bool); 10] = [
-    (None, None, (10, Some("5"), 0), None, true),
-    (None, None, (10, Some("5"), 0), Some(9), true),
-    (None, None, (10, Some("5"), 0), Some(10), false),
-    (Some(10), Some(10), (10, Some("5"), 0), None, false),
-    (Some(10), Some(10), (10, Some("5"), 0), Some(3), false),
-    (Some(11), Some(10), (10, Some("5"), 0), Some(3), true),
-    (None, None, (12, None, 7), None, false),
-    (Some(12), None, (12, None, 7), Some(11), true),
-    (None, None, (i64::MIN, Some("x"), 0), None, true),
-    (None, None, (i64::MIN, Some("x"), 0), Some(i64::MIN), false),
-];
 
 #[test]
 fn a_tombstone_deletes_up_to_its_timestamp(rt: HostRuntime) -> Result<(), Fail> {
     let alloc = rt.alloc();
-    for (marker, tomb, written, cover, wanted) in &LIVES {
-        let row = row_of(alloc, *marker, *tomb, 3, &cell_of(alloc, *written)?)?;
-        let cover = tomb_of(*cover);
-        let left = row.shadow(alloc, cover)?;
-        assert!(rt; row.is_live(cover) == *wanted);
-        assert!(rt; left.is_live(None) == *wanted);
-    }
+    let row = row_of(alloc, None, None, 3, &cell_of(alloc, 10, b"5")?)?;
+    let left = row.shadow(alloc, tomb_of(Some(9)))?;
+    assert!(rt; left.is_live(None) && row.is_live(tomb_of(Some(9))));
+    assert!(rt; !row.is_live(tomb_of(Some(10))));
     Ok(())
 }
 
@@ -152,4 +113,6 @@ fn orders_and_laws(rt: HostRuntime) {
     laws::join_of_none();
     laws::join_of_one();
     laws::join_of_one_more();
+    laws::join_adds_no_cell();
+    laws::join_adds_no_marker_or_tombstone();
 }

@@ -26,6 +26,13 @@ impl Value {
         Ok(Value { items })
     }
 
+    /// The value of these bytes, in the memory that holds them.
+    pub fn from_vec(items: Vec<u8>) -> Self
+        ensures { result ≡ items.items }
+    {
+        Value { items }
+    }
+
     /// The bytes in order.
     pub fn as_slice(&self) -> &[u8]
         ensures { result.now ≡ self.now }

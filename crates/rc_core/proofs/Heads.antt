@@ -11,8 +11,8 @@ use Rattle.rc_cell.specs.Winner.{greatest}
 use Rattle.rc_core.specs.Version.{Version}
 use Rattle.rc_core.specs.Continuity.{partition_tombs}
 use Rattle.rc_core.specs.Steps.{join_pt}
-use Rattle.rc_core.proofs.Losing.{tomb-alone}
-use Rattle.rc_core.proofs.Merging.{tombs_by_parts, pts_one}
+use Rattle.rc_core.specs.laws.Losing.{tomb-alone}
+use Rattle.rc_core.specs.laws.Merging.{tombs_by_parts, pts_one}
 
 -- a tombstone joined in the midst of others is joined to all
 joined_within : (front back : List Tomb) (old : Option Tomb) (t : Tomb) → greatest tomb_cmp (front ++ (option_to_list (greater tomb_cmp old (Some t)) ++ back)) ≡ greatest tomb_cmp ((front ++ (option_to_list old ++ back)) ++ t ∷ [])

@@ -26,9 +26,10 @@ use Rattle.rc_core.specs.Version.{Spot, On, Behind, behind, Version, cell_at, ce
 use Rattle.rc_core.specs.Change.{position_of}
 use Rattle.rc_core.specs.Chain.{flagged, content, cells, IsBare, IsKnown, IsEvenAt}
 use Rattle.rc_core.specs.Continuity.{EachOf, IsContinuous}
-use Rattle.rc_core.specs.Parts.{IsClear, HasEntryAt, SomeHasEntryAt, IsReach, IsFirstPart}
-use Rattle.rc_core.proofs.Folding.{content-through}
-use Rattle.rc_core.proofs.Spots.{turn_to, spot-before, spot-at, Less-spot}
+use Rattle.rc_core.specs.AtPlace.{HasEntryAt}
+use Rattle.rc_core.specs.Parts.{IsClear, SomeHasEntryAt, IsReach, IsFirstPart}
+use Rattle.rc_core.specs.laws.Folding.{content-through}
+use Rattle.rc_core.specs.laws.Spots.{turn_to, spot-before, spot-at, Less-spot}
 
 -- ---- one gap
 

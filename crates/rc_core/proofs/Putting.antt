@@ -1,6 +1,6 @@
 -- What the plain functions leave.
-use Rattle.std.specs.Prelude.{◌≡◌, ◌+◌, ◌<◌, ◌≤◌, ℕ, zero, suc, List, [], ◌∷◌, ◌++◌, Option, take, drop, length}
-use Rattle.std.proofs.Common.{refl, sym, ap, ◌∙◌, subst, arith, get_or, set}
+use Rattle.std.specs.Prelude.{◌≡◌, ◌+◌, ◌<◌, ◌≤◌, ℕ, zero, suc, List, [], ◌∷◌, ◌++◌, Option, None, take, drop, length}
+use Rattle.std.proofs.Common.{refl, sym, ap, ◌∙◌, subst, arith, get_or, set, slice_set}
 use Rattle.std.specs.Option.{option_to_list}
 use Rattle.rc_cell.specs.declared.writes.Tomb.{Tomb}
 use Rattle.rc_cell.specs.Orders.{tomb_cmp, tomb_cmp_total}
@@ -14,7 +14,8 @@ use Rattle.rc_core.specs.Cell.{over, under}
 use Rattle.rc_core.specs.Change.{mark, lost_mark, lose_first_gap}
 use Rattle.rc_core.specs.Merge.{Alike}
 use Rattle.rc_core.specs.Plain.{mark_cell}
-use Rattle.rc_core.proofs.Losing.{tomb-alone}
+use Rattle.rc_core.specs.Steps.{released}
+use Rattle.rc_core.specs.laws.Losing.{tomb-alone}
 
 put_tomb : (s t u : Option Tomb) → u ≡ greater tomb_cmp s t → greatest tomb_cmp (option_to_list u) ≡ greatest tomb_cmp (option_to_list s ++ option_to_list t)
 put_tomb s t u e = tomb-alone u ∙ e ∙ sym (greatest-two tomb_cmp_total tomb_cmp-IsAntisymmetric s t)
@@ -45,3 +46,10 @@ pub dropped_left : (xs ys : List Entry) (i : ℕ) (r : Entry) (d : Entry) (m : M
 dropped_left xs ys i r d m e s l lt h =
     set_lost ys i r d m e lt h
     ∙ (λ j. (ap (take i) s ∙ take_front i xs (drop (i + 1) xs) l) j ++ lose_first_gap ((ap (drop i) s ∙ drop_front i xs (drop (i + 1) xs) l) j))
+
+-- ---- a pin released
+
+pub released_is : (pins : List (Option ℕ)) (i : ℕ) → i < length pins → slice_set pins i None ≡ released i pins
+released_is [] i l = absurd (omega (arith, l))
+released_is (p ∷ ps) zero l = refl
+released_is (p ∷ ps) (suc i) l = ap (λ xs. p ∷ xs) (released_is ps i (omega (arith, l)))

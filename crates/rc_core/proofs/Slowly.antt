@@ -27,11 +27,11 @@ use Rattle.rc_core.specs.declared.entries.ChainKind.{ChainKind}
 use Rattle.rc_core.specs.declared.slow.PlainVersion.{PlainVersion}
 use Rattle.rc_core.specs.declared.slow.Seen.{Seen}
 use Rattle.rc_core.specs.Slow.{plain, seen_cell}
-use Rattle.rc_core.proofs.Folding.{flagged-through, content-through, under-below, under-grouping}
-use Rattle.rc_core.proofs.Losing.{joined-again, tomb-alone}
-use Rattle.rc_core.proofs.Merging.{rows_by_parts, tombs_by_parts, cons_is, alike-above}
+use Rattle.rc_core.specs.laws.Folding.{flagged-through, content-through, under-below, under-grouping}
+use Rattle.rc_core.specs.laws.Losing.{joined-again, tomb-alone}
+use Rattle.rc_core.specs.laws.Merging.{rows_by_parts, tombs_by_parts, cons_is, alike-above}
 use Rattle.rc_core.specs.Continuity.{partition_tombs}
-use Rattle.rc_core.proofs.Filling.{no_rows}
+use Rattle.rc_core.specs.laws.Filling.{no_rows}
 
 alike_trans : (a b c : Cell) → Alike a b → Alike b c → Alike a c
 alike_trans a b c h k = (h.0 ∙ k.0, h.1 ∙ k.1)

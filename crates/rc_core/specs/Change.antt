@@ -91,6 +91,10 @@ with_row row e = record { position = e.position; row = Some (joined_onto e.row r
 abbrev pub with_mark : (Mark → Mark) → Entry → Entry
 with_mark f e = record { position = e.position; row = e.row; at = f e.at; gap = e.gap }
 
+-- the entry with a function on both of its marks
+abbrev pub with_marks : (Mark → Mark) → Entry → Entry
+with_marks f e = record { position = e.position; row = e.row; at = f e.at; gap = f e.gap }
+
 -- what is done to the entry at a position, where one stands
 abbrev pub at_entry : Pos → (Entry → Entry) → List Entry → List Entry
 at_entry x f es = list_map (λ e. cond (eq_by_cmp pos_cmp x e.position) (f e) e) es

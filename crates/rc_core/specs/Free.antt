@@ -1,5 +1,5 @@
 -- The objects of a detached chain that nobody pins go one at a time.
-use Rattle.std.specs.Prelude.{◌≡◌, false, [], None}
+use Rattle.std.specs.Prelude.{◌≡◌, ℕ, false, None}
 use Rattle.rc_position.specs.declared.positions.Pos.{Pos}
 use Rattle.rc_core.specs.declared.entries.ChainKind.{ChainKind}
 use Rattle.rc_core.specs.declared.entries.ChainKind.TheVariants.{Memtable, Cache}
@@ -8,13 +8,13 @@ use Rattle.rc_core.specs.declared.entries.Mark.{Mark}
 use Rattle.rc_core.specs.Version.{Version}
 use Rattle.rc_core.specs.Change.{lost_mark, mark, take_out}
 use Rattle.rc_core.specs.Continuity.{with_entries}
-use Rattle.rc_core.specs.Chains.{Chain}
+use Rattle.rc_core.specs.Chains.{Chain, IsPinned}
 
 -- a chain that nobody finds by its key, and nobody reads
 pub record IsLeft (c : Chain) : Type 0 where
   pub detached : c.attached ≡ false
   pub settled : c.updating ≡ None
-  pub unpinned : c.pins ≡ []
+  pub unpinned : (j : ℕ) → IsPinned c.pins j → ⊥
 
 -- what is said where an object was freed: in a cache chain that it may be missing, and in a memtable's nothing
 abbrev pub freed_mark : ChainKind → Mark

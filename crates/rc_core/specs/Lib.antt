@@ -5,9 +5,12 @@ pub mod Change
 pub mod Continuity
 pub mod Merge
 pub mod Plain
+pub mod AtPlace
 pub mod Chains
 pub mod Steps
 pub mod Unit
 pub mod Free
 pub mod Parts
+pub mod StandsFor
 pub mod Slow
+pub mod laws

@@ -8,17 +8,13 @@ use Rattle.rc_core.specs.declared.parts.Part.{Part}
 use Rattle.rc_core.specs.declared.parts.Part.TheVariants.{Row, Gap, Missing, End}
 use Rattle.rc_core.specs.Version.{On, Version}
 use Rattle.rc_core.specs.Chain.{content, cells, IsBare, IsKnown}
+use Rattle.rc_core.specs.AtPlace.{HasEntryAt}
 use Rattle.rc_core.specs.Continuity.{EachOf}
 
 -- no entry stands behind one position and before another
 abbrev pub IsClear : Pos → Pos → List Entry → Type 0
 IsClear from to [] = Unit {0}
 IsClear from to (e ∷ es) = (IsBefore from e.position → IsBefore e.position to → ⊥) × IsClear from to es
-
--- an entry stands at a position
-abbrev pub HasEntryAt : Pos → List Entry → Type 0
-HasEntryAt x [] = ⊥
-HasEntryAt x (e ∷ es) = (e.position ≡ x) ⊎ HasEntryAt x es
 
 -- an entry of some version stands there
 abbrev pub SomeHasEntryAt : Pos → List Version → Type 0

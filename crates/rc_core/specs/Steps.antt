@@ -1,5 +1,5 @@
 -- What is done to a chain as a whole: to its newest version, to its pins, to its place in the cache.
-use Rattle.std.specs.Prelude.{◌<◌, ◌≡◌, ◌++◌, ℕ, zero, suc, true, false, List, [], ◌∷◌, Option, Some, None, take, drop, length, map as list_map}
+use Rattle.std.specs.Prelude.{◌<◌, ◌≡◌, ◌++◌, ℕ, zero, suc, true, false, List, [], ◌∷◌, Option, Some, None, option_map, take, drop, length, map as list_map}
 use Rattle.rc_cell.specs.declared.rows.Row.{Row}
 use Rattle.rc_cell.specs.declared.writes.Tomb.{Tomb}
 use Rattle.rc_cell.specs.Orders.{tomb_cmp}
@@ -11,9 +11,11 @@ use Rattle.rc_mutation.specs.Source.{source_at, source_at_static}
 use Rattle.rc_position.specs.declared.positions.Pos.{Pos}
 use Rattle.rc_position.specs.Position.{Place, Head}
 use Rattle.rc_core.specs.declared.entries.ChainKind.{ChainKind}
+use Rattle.rc_core.specs.declared.entries.Entry.{Entry}
+use Rattle.rc_core.specs.declared.entries.Flag.{Flag}
 use Rattle.rc_core.specs.declared.entries.Flag.TheVariants.{Known, Unknown}
 use Rattle.rc_core.specs.Version.{Version, IsVersion, end_position}
-use Rattle.rc_core.specs.Change.{dummy, mark, fill_gap, fill_row, join_range, join_row_at}
+use Rattle.rc_core.specs.Change.{dummy, mark, at_entry, fill_gap, fill_row, join_range, join_row_at}
 use Rattle.rc_core.specs.Continuity.{EachOf, with_entries, joined_options}
 use Rattle.rc_core.specs.Merge.{new_version}
 use Rattle.rc_core.specs.Chains.{Chain, IsPinned, IsUpdating, IsCarried, with_versions}
@@ -48,6 +50,16 @@ on_newest f (v ∷ w ∷ vs) = v ∷ on_newest f (w ∷ vs)
 abbrev pub with_newest : (Version → Version) → Chain → Chain
 with_newest f c = with_versions (on_newest f c.versions) c
 
+-- something done to the version of a number, counted from the oldest
+abbrev pub on_version : ℕ → (Version → Version) → List Version → List Version
+on_version j f [] = []
+on_version zero f (v ∷ vs) = f v ∷ vs
+on_version (suc j) f (v ∷ vs) = v ∷ on_version j f vs
+
+-- the chain with something done to the version of a number
+abbrev pub with_version : ℕ → (Version → Version) → Chain → Chain
+with_version j f c = with_versions (on_version j f c.versions) c
+
 -- a version with a gap filled
 abbrev pub gap_filled : Pos → Pos → Option Tomb → Version → Version
 gap_filled from to tomb v = with_entries (fill_gap from to tomb v.entries) v
@@ -72,6 +84,38 @@ join_pt tomb v = record { pt = greater tomb_cmp v.pt (Some tomb); statics = v.st
 abbrev pub join_statics : Row → Version → Version
 join_statics row v = record { pt = v.pt; statics = joined_options v.statics (Some row); static_flag = v.static_flag; entries = v.entries; phase = v.phase }
 
+-- a version with another static row, and another flag of it
+abbrev pub set_statics : Option Row → Flag → Version → Version
+set_statics row flag v = record { pt = v.pt; statics = row; static_flag = flag; entries = v.entries; phase = v.phase }
+
+-- a version with another flag of its static row
+abbrev pub set_static_flag : Flag → Version → Version
+set_static_flag flag v = set_statics v.statics flag v
+
+-- a version with a static row joined, which has this flag then
+abbrev pub join_flagged_statics : Row → Flag → Version → Version
+join_flagged_statics row flag v = set_statics (joined_options v.statics (Some row)) flag v
+
+-- an entry with other flags, or other range tombstones, at its position and over the gap before it
+abbrev pub with_flags : Flag → Flag → Entry → Entry
+with_flags at gap e = record { position = e.position; row = e.row; at = mark at e.at.tomb; gap = mark gap e.gap.tomb }
+
+-- the same of range tombstones
+abbrev pub with_tombs : Option Tomb → Option Tomb → Entry → Entry
+with_tombs at gap e = record { position = e.position; row = e.row; at = mark e.at.flag at; gap = mark e.gap.flag gap }
+
+-- a version whose entry at a position has other flags
+abbrev pub set_flags : Pos → Flag → Flag → Version → Version
+set_flags x at gap v = with_entries (at_entry x (with_flags at gap) v.entries) v
+
+-- a version whose entry at a position has other range tombstones
+abbrev pub set_tombs : Pos → Option Tomb → Option Tomb → Version → Version
+set_tombs x at gap v = with_entries (at_entry x (with_tombs at gap) v.entries) v
+
+-- a version of its end dummy alone, whose flags are all this one
+abbrev pub version_of : Flag → Option Tomb → ℕ → Version
+version_of flag pt phase = record { pt = pt; statics = None; static_flag = flag; entries = dummy end_position (mark flag None) ∷ []; phase = phase }
+
 -- a version with another phase
 abbrev pub with_phase : ℕ → Version → Version
 with_phase phase v = record { pt = v.pt; statics = v.statics; static_flag = v.static_flag; entries = v.entries; phase = phase }
@@ -95,25 +139,49 @@ all_but n versions = take n versions ++ drop (suc n) versions
 
 -- the version of number n dropped: the newer ones, and the pins of these, have numbers less by one
 abbrev pub drop_version : ℕ → Chain → Chain
-drop_version n c = record { kind = c.kind; versions = all_but n c.versions; attached = c.attached; updating = c.updating; pins = list_map (renumbered n) c.pins }
+drop_version n c = record { kind = c.kind; versions = all_but n c.versions; attached = c.attached; updating = c.updating; pins = list_map (option_map (renumbered n)) c.pins }
 
 -- ---- pins, and the place in the cache
 
 -- the chain with other pins
-abbrev pub with_pins : List ℕ → Chain → Chain
+abbrev pub with_pins : List (Option ℕ) → Chain → Chain
 with_pins pins c = record { kind = c.kind; versions = c.versions; attached = c.attached; updating = c.updating; pins = pins }
 
 -- a snapshot pins the newest version, or while the chain is under update the one below it
 abbrev pub IsSnapshotOf : Chain → ℕ → Type 0
 IsSnapshotOf c pin = (c.updating ≡ None → suc pin ≡ length c.versions) × (IsUpdating c.updating → suc (suc pin) ≡ length c.versions)
 
--- a snapshot: its pin stands last in the list of pins
-abbrev pub snapshot : ℕ → Chain → Chain
-snapshot pin c = with_pins (c.pins ++ pin ∷ []) c
+-- the version that the snapshot of a number pins; None where the number is free
+abbrev pub pin_at : List (Option ℕ) → ℕ → Option ℕ
+pin_at [] i = None
+pin_at (p ∷ ps) zero = p
+pin_at (p ∷ ps) (suc i) = pin_at ps i
 
--- the pin of place i in the list of pins is taken back
+-- the least number that is free
+abbrev pub free_number : List (Option ℕ) → ℕ
+free_number [] = zero
+free_number (None ∷ ps) = zero
+free_number (Some p ∷ ps) = suc (free_number ps)
+
+-- the pins with one of a version more, at the least number that is free
+abbrev pub pinned : ℕ → List (Option ℕ) → List (Option ℕ)
+pinned version [] = Some version ∷ []
+pinned version (None ∷ ps) = Some version ∷ ps
+pinned version (Some p ∷ ps) = Some p ∷ pinned version ps
+
+-- the pins with the number i free
+abbrev pub released : ℕ → List (Option ℕ) → List (Option ℕ)
+released i [] = []
+released zero (p ∷ ps) = None ∷ ps
+released (suc i) (p ∷ ps) = p ∷ released i ps
+
+-- a snapshot of the version of a number
+abbrev pub snapshot : ℕ → Chain → Chain
+snapshot version c = with_pins (pinned version c.pins) c
+
+-- the snapshot of number i is taken back
 abbrev pub release : ℕ → Chain → Chain
-release i c = with_pins (take i c.pins ++ drop (suc i) c.pins) c
+release i c = with_pins (released i c.pins) c
 
 -- the chain with an update that stands at a place, or with none
 abbrev pub with_updating : Option Place → Chain → Chain

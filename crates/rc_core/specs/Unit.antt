@@ -12,6 +12,7 @@ use Rattle.rc_core.specs.declared.entries.Flag.TheVariants.{Inherit}
 use Rattle.rc_core.specs.Cell.{Cell, lost, said}
 use Rattle.rc_core.specs.Version.{Spot, On, Behind, Version, cell_at, static_cell, end_position}
 use Rattle.rc_core.specs.Change.{position_of}
+use Rattle.rc_core.specs.AtPlace.{HasItsPlace}
 
 -- a place from `from` on and before `to`
 pub record IsStretch (from to place : Place) : Type 0 where
@@ -33,7 +34,7 @@ abbrev pub Adds : Cell → Row × Option Tomb → Type 0
 Adds c source = (c.flag ≡ Inherit) × (said c ≡ source)
 
 -- from the update's place p on and before its next place q the version holds what the update's mutation says, and every flag is
--- Inherit; elsewhere nothing changes
+-- Inherit; elsewhere nothing changes; and the next place is marked by an entry, the last one but for the end dummy
 pub record IsUnit (p q : Place) (change : Mutation) (before now : Version) : Type 0 where
   pub head : IsStretch p q Head → now.pt ≡ change.pt
   pub head_left : (IsStretch p q Head → ⊥) → now.pt ≡ before.pt
@@ -41,6 +42,7 @@ pub record IsUnit (p q : Place) (change : Mutation) (before now : Version) : Typ
   pub statics_left : (IsStretch p q Static → ⊥) → static_cell now ≡ static_cell before
   pub clustered : (s : Spot) → IsInside s → IsStretch p q (Clustered (position_of s)) → Adds (cell_at s now) (source_at_spot (change ∷ []) s)
   pub clustered_left : (s : Spot) → (IsStretch p q (Clustered (position_of s)) → ⊥) → cell_at s now ≡ cell_at s before
+  pub place : HasItsPlace q now.entries
 
 -- the rest of the partition given up, where there is no room: from the update's place on, which is not the head, each place is lost, and
 -- elsewhere nothing changes

@@ -8,6 +8,8 @@ pub mod losing;
 pub mod memtables;
 pub mod merging;
 pub mod pinning;
+pub mod placing;
 pub mod reading;
 pub mod seeing;
+pub mod surgery;
 pub mod updating;

@@ -5,14 +5,16 @@
 mod entries;
 pub mod laws;
 mod parts;
+mod place;
 mod plain;
 mod slow;
 
 pub use entries::{ChainKind, Entry, Flag, Mark};
 pub use parts::Part;
+pub use place::is_at_place;
 pub use plain::{
-    drop_entry, filled_mark, flag_under, is_known_in, join_updated_row, mark_of_lost, may_populate,
-    merge_end, merge_head, put_down, raised_mark,
+    drop_entry, evict_under_update, filled_mark, flag_under, is_known_in, join_updated_row,
+    mark_of_lost, may_populate, merge_end, merge_head, put_down, raised_mark, release_pin,
 };
 pub use slow::{
     PlainVersion, Seen, Side, base_at, first_part, head_of, is_flagged_at, is_known_at, seen_at,

@@ -1,28 +1,31 @@
 //! The choices that the crates above make at one place, as plain functions: which flag decides, what a fill, a joined range and an
 //! eviction leave, and where a cell of an older version goes.
 
-ghost use Rattle.std.specs.Prelude.{◌≡◌, ◌+◌, ◌<◌, ◌++◌, length, take, drop, [], HoldsAt, IsTrue, OnErr, OnOk, ◌↔◌, None, Option};
-ghost use Rattle.rc_cell.specs.Greatest.{greater};
-ghost use Rattle.rc_cell.specs.Orders.{tomb_cmp};
+ghost use Rattle.std.specs.Prelude.{◌≡◌, ◌+◌, ◌<◌, ◌++◌, ◌⊎◌, length, take, drop, [], HoldsAt, IsTrue, OnErr, OnOk, false, ◌↔◌, None, Option};
 ghost use Rattle.rc_core.specs.Slow.{plain};
 ghost use Rattle.rc_core.specs.Cell.{cell, under};
 ghost use Rattle.rc_core.specs.Chain.{flag_over};
 ghost use Rattle.rc_core.specs.Change.{drop_at, known_with, lose_first_gap, lost_mark, mark, raised, with_mark, with_row};
+ghost use Rattle.rc_core.specs.Continuity.{with_entries};
 ghost use Rattle.rc_core.specs.Merge.{Alike};
-ghost use Rattle.rc_core.specs.Plain.{mark_cell};
+ghost use Rattle.rc_core.specs.Plain.{end_under, head_under, mark_cell, mark_under};
 ghost use Rattle.rc_core.specs.Chains.{Chain, IsUpdating};
-ghost use Rattle.rc_core.specs.Steps.{MayPopulate};
-ghost use Rattle.rc_core.specs.Version.{Ascend, static_cell};
+ghost use Rattle.rc_core.specs.AtPlace.{IsAtPlace};
+ghost use Rattle.rc_core.specs.Steps.{MayPopulate, released};
+ghost use Rattle.rc_core.specs.Version.{Ascend, IsVersion, static_cell};
+ghost use Rattle.rc_position.specs.Position.{Clustered};
 
 use crate::entries::{ChainKind, Entry, Flag, Mark};
 use crate::slow::PlainVersion;
 use rc_cell::{Row, Tomb};
 use rc_mutation::greater_tomb;
+use rc_position::Pos;
 use std::alloc::{AllocError, Global};
 
 /// The flag that is seen where a newer version lies over an older one: the newer one's, or the older one's where the newer one inherits.
 pub fn flag_under(older: Flag, newer: Flag) -> Flag
-    ensures { result ≡ (under (cell older [] []) (cell newer [] [])).flag }
+    ensures rule { result ≡ Rattle.rc_core.specs.Plain.flag_under older newer }
+    ensures seen { result ≡ (under (cell older [] []) (cell newer [] [])).flag }
 {
     match newer {
         Flag::Known => Flag::Known,
@@ -76,7 +79,8 @@ pub fn mark_of_lost() -> Mark
 /// The newer version's mark after the older one's has gone under it: where it inherits it takes the flag and the greater tombstone;
 /// where it is Known or Unknown it stays as it is, and what the older version held there is dropped.
 pub fn put_down(older: Mark, newer: Mark) -> Mark
-    ensures { Alike (mark_cell result) (under (mark_cell older) (mark_cell newer)) }
+    ensures rule { result ≡ mark_under older newer }
+    ensures seen { Alike (mark_cell result) (under (mark_cell older) (mark_cell newer)) }
 {
     match newer.flag {
         Flag::Inherit => Mark {
@@ -96,6 +100,30 @@ pub fn drop_entry(entries: &mut Vec<Entry>, index: usize)
 {
     let _dropped = entries.remove(index);
     entries[index].gap = mark_of_lost();
+}
+
+/// Evicts the entry of an index of a version under update that stands at the update's place, which is clustered. False exactly of the last entry, which is the end dummy, and
+/// of the dummy at the place: these stay. All else that the version says stays, and it stands at the place before and after.
+pub fn evict_under_update(place: &Pos, version: &mut PlainVersion, index: usize) -> bool
+    requires { index < length version.old.entries.items }
+    ensures place { IsVersion (plain version.old) → IsAtPlace (Clustered place.now) (plain version.old) → IsAtPlace (Clustered place.now) (plain version.new) }
+    ensures stays { result ≡ false → version.new ≡ version.old }
+    ensures only { result ≡ false ↔ ((index + 1 ≡ length version.old.entries.items) ⊎ HoldsAt (λ e. e.position ≡ place.now) version.old.entries.items index) }
+    ensures goes { IsTrue result → Ascend version.old.entries.items → HoldsAt (λ e. plain version.new ≡ with_entries (drop_at e.position version.old.entries.items) (plain version.old)) version.old.entries.items index }
+{
+    if index + 1 == version.entries.len() || version.entries[index].position == *place {
+        return false;
+    }
+    drop_entry(&mut version.entries, index);
+    true
+}
+
+/// The number of a snapshot becomes free; the other snapshots keep theirs.
+pub fn release_pin(pins: &mut Vec<Option<usize>>, number: usize)
+    requires { number < length pins.old.items }
+    ensures { pins.new.items ≡ released number pins.old.items }
+{
+    pins[number] = None;
 }
 
 /// Whether a snapshot may populate the cache, of a chain with so many versions: its version is the newest of an attached chain that is not
@@ -127,20 +155,21 @@ pub fn join_updated_row(
 }
 
 /// The end dummy of a version that has nothing else, put down under that of the next newer one: the gap before it, and its own place.
+/// Its position stays, and so does what it has of a row.
 pub fn merge_end(older: &Entry, newer: &mut Entry)
     ensures gap { Alike (mark_cell newer.new.gap) (under (mark_cell older.now.gap) (mark_cell newer.old.gap)) }
     ensures at { Alike (mark_cell newer.new.at) (under (mark_cell older.now.at) (mark_cell newer.old.at)) }
-    ensures stays { (newer.new.position ≡ newer.old.position) × (newer.new.row ≡ newer.old.row) }
+    ensures whole { newer.new ≡ end_under older.now newer.old }
 {
     newer.gap = put_down(older.gap, newer.gap);
     newer.at = put_down(older.at, newer.at);
 }
 
 /// The head of a version that has no static row, put down under that of the next newer one: the flag of the static row, and the partition
-/// tombstone.
+/// tombstone. All else that the newer version says, its own static row among it, and its phase stay.
 pub fn merge_head(older: &PlainVersion, newer: &mut PlainVersion)
     ensures statics { older.now.statics ≡ None → Alike (static_cell (plain newer.new)) (under (static_cell (plain older.now)) (static_cell (plain newer.old))) }
-    ensures head { newer.new.pt ≡ greater tomb_cmp older.now.pt newer.old.pt }
+    ensures whole { plain newer.new ≡ head_under (plain older.now) (plain newer.old) }
     ensures entries { newer.new.entries ≡ newer.old.entries }
 {
     newer.static_flag = flag_under(older.static_flag, newer.static_flag);

@@ -1,7 +1,8 @@
 use super::{
-    ChainKind, Entry, Flag, Mark, Part, PlainVersion, Side, base_at, first_part, flag_under,
-    head_of, is_flagged_at, is_known_at, is_known_in, join_updated_row, may_populate, merge_end,
-    merge_head, put_down, raised_mark, seen_at, statics_at,
+    ChainKind, Entry, Flag, Mark, Part, PlainVersion, Side, base_at, evict_under_update,
+    first_part, flag_under, head_of, is_at_place, is_flagged_at, is_known_at, is_known_in,
+    join_updated_row, may_populate, merge_end, merge_head, put_down, raised_mark, release_pin,
+    seen_at, statics_at,
 };
 use rc_cell::{Cells, Row, Tomb};
 use rc_position::{Comp, Key, Pos, Weight};
@@ -164,33 +165,18 @@ fn told(
 // Chains of one to three versions, worked out by hand from what flags mean.
 #[test]
 fn chains_by_hand(rt: HostRuntime) -> Result<(), Fail> {
-    let table: [(ChainKind, &[Line], i64, (bool, i64, i64)); 12] = [
-        // an opened cache: nothing is known but the static row
-        (ChainKind::Cache, &[(0, 0, U, 0, U, 0)], 2, (false, 0, 0)),
-        // a gap filled from 1 on and before 3 with a tombstone of 5: 1 and 2 are known, 3 is not
-        (
-            ChainKind::Cache,
-            &[(1, 0, K, 5, U, 0), (3, 0, U, 0, K, 5), (0, 0, U, 0, U, 0)],
-            2,
-            (true, 0, 5),
-        ),
-        (
-            ChainKind::Cache,
-            &[(1, 0, K, 5, U, 0), (3, 0, U, 0, K, 5), (0, 0, U, 0, U, 0)],
-            3,
-            (false, 0, 0),
-        ),
-        // a row that is known needs no known gap behind it
-        (
-            ChainKind::Cache,
-            &[(2, 7, K, 0, U, 0), (0, 0, U, 0, U, 0)],
-            2,
-            (true, 7, 0),
-        ),
-        // a bare position does
+    let table: [(ChainKind, &[Line], i64, (bool, i64, i64)); 4] = [
+        // a bare position is known only with the gap behind it
         (
             ChainKind::Cache,
             &[(2, 0, K, 0, U, 0), (0, 0, U, 0, U, 0)],
+            2,
+            (false, 0, 0),
+        ),
+        // evicted from the newer version: the older row is not believed
+        (
+            ChainKind::Cache,
+            &[(2, 7, K, 0, U, 0), (0, 0, U, 0, U, 0), (0, 0, I, 0, U, 0)],
             2,
             (false, 0, 0),
         ),
@@ -205,60 +191,6 @@ fn chains_by_hand(rt: HostRuntime) -> Result<(), Fail> {
             ],
             2,
             (true, 9, 4),
-        ),
-        // an update over an unknown row
-        (
-            ChainKind::Cache,
-            &[(0, 0, U, 0, U, 0), (2, 9, I, 4, I, 0), (0, 0, I, 0, I, 0)],
-            2,
-            (false, 9, 4),
-        ),
-        // evicted from the newer version: the older row is not believed
-        (
-            ChainKind::Cache,
-            &[(2, 7, K, 0, U, 0), (0, 0, U, 0, U, 0), (0, 0, I, 0, U, 0)],
-            2,
-            (false, 0, 0),
-        ),
-        // filled into the newer version: the older row is not joined
-        (
-            ChainKind::Cache,
-            &[
-                (2, 9, K, 0, U, 0),
-                (0, 0, U, 0, U, 0),
-                (2, 7, K, 0, U, 0),
-                (0, 0, U, 0, U, 0),
-            ],
-            2,
-            (true, 7, 0),
-        ),
-        // three versions: the middle one decides for the newest
-        (
-            ChainKind::Cache,
-            &[
-                (2, 7, K, 5, K, 5),
-                (0, 0, U, 0, K, 5),
-                (2, 0, U, 0, I, 0),
-                (0, 0, I, 0, I, 0),
-                (2, 9, I, 0, I, 0),
-                (0, 0, I, 0, I, 0),
-            ],
-            2,
-            (false, 9, 0),
-        ),
-        // and inherits itself elsewhere
-        (
-            ChainKind::Cache,
-            &[
-                (2, 7, K, 5, K, 5),
-                (0, 0, U, 0, K, 5),
-                (2, 0, U, 0, I, 0),
-                (0, 0, I, 0, I, 0),
-                (2, 9, I, 0, I, 0),
-                (0, 0, I, 0, I, 0),
-            ],
-            1,
-            (true, 0, 5),
         ),
         // a memtable of two versions: all is known, and all is joined
         (
@@ -280,174 +212,54 @@ fn chains_by_hand(rt: HostRuntime) -> Result<(), Fail> {
     Ok(())
 }
 
-// Readings that are wrong: the chain that is right says at the number what it has to, and the wrong one says something else.
-#[test]
-fn wrong_readings_show(rt: HostRuntime) -> Result<(), Fail> {
-    let table: [(ChainKind, &[Line], &[Line], i64, (bool, i64, i64)); 16] = [
-        // the cleaner takes an entry out and leaves the gap behind it as it is: its tombstone spreads
-        (
-            ChainKind::Memtable,
-            &[(0, 0, I, 0, I, 0), (2, 5, I, 0, I, 0), (0, 0, I, 0, I, 3)],
-            &[(0, 0, I, 0, I, 3), (2, 5, I, 0, I, 0), (0, 0, I, 0, I, 0)],
-            1,
-            (true, 0, 0),
-        ),
-        // the cleaner leaves the Unknown of a dropped entry
-        (
-            ChainKind::Memtable,
-            &[(0, 0, I, 0, I, 0), (2, 5, I, 0, I, 0), (0, 0, I, 0, I, 0)],
-            &[(0, 0, I, 0, U, 0), (2, 5, I, 0, I, 0), (0, 0, I, 0, I, 0)],
-            3,
-            (true, 0, 0),
-        ),
-        // a version is dropped, and the flag of the gap before its end dummy is not merged
-        (
-            ChainKind::Cache,
-            &[(0, 0, I, 0, K, 0)],
-            &[(0, 0, I, 0, I, 0)],
-            1,
-            (true, 0, 0),
-        ),
-        // the cleaner joins an older row under an Unknown
-        (
-            ChainKind::Cache,
-            &[(0, 0, U, 0, U, 0), (2, 0, U, 0, I, 0), (0, 0, I, 0, I, 0)],
-            &[(0, 0, U, 0, U, 0), (2, 5, U, 0, I, 0), (0, 0, I, 0, I, 0)],
-            2,
-            (false, 0, 0),
-        ),
-        // and marks it Known
-        (
-            ChainKind::Cache,
-            &[(0, 0, U, 0, U, 0), (2, 0, U, 0, I, 0), (0, 0, I, 0, I, 0)],
-            &[(0, 0, U, 0, U, 0), (2, 5, K, 0, I, 0), (0, 0, I, 0, I, 0)],
-            2,
-            (false, 0, 0),
-        ),
-        // the part behind a merged entry is merged up to the next entry of the newer version
-        (
-            ChainKind::Memtable,
-            &[
-                (0, 0, I, 0, I, 0),
-                (1, 0, I, 4, I, 0),
-                (3, 0, I, 0, I, 4),
-                (5, 0, I, 0, I, 0),
-                (0, 0, I, 0, I, 0),
-            ],
-            &[
-                (0, 0, I, 0, I, 0),
-                (1, 0, I, 4, I, 0),
-                (5, 0, I, 0, I, 4),
-                (0, 0, I, 0, I, 0),
-            ],
-            4,
-            (true, 0, 0),
-        ),
-        // an updated row takes the tombstone of the gap before it, which was evicted, for the one in force
-        (
-            ChainKind::Cache,
-            &[(0, 0, K, 0, K, 0), (3, 7, I, 5, U, 0), (0, 0, I, 0, I, 5)],
-            &[(0, 0, K, 0, K, 0), (3, 7, I, 0, U, 0), (0, 0, I, 0, I, 5)],
-            3,
-            (true, 7, 5),
-        ),
-        // an update makes no dummy at its next place, and the tombstone in force goes on to the end
-        (
-            ChainKind::Cache,
-            &[
-                (0, 0, K, 0, K, 0),
-                (1, 0, I, 5, I, 0),
-                (3, 0, I, 0, I, 5),
-                (0, 0, I, 0, I, 0),
-            ],
-            &[(0, 0, K, 0, K, 0), (1, 0, I, 5, I, 0), (0, 0, I, 0, I, 5)],
-            4,
-            (true, 0, 0),
-        ),
-        // an update marks its row Known
-        (
-            ChainKind::Cache,
-            &[(0, 0, U, 0, U, 0), (2, 7, I, 0, I, 0), (0, 0, I, 0, I, 0)],
-            &[(0, 0, U, 0, U, 0), (2, 7, K, 0, I, 0), (0, 0, I, 0, I, 0)],
-            2,
-            (false, 7, 0),
-        ),
-        // an update without room loses the gap before the end alone, and not the dummy at its place
-        (
-            ChainKind::Cache,
-            &[(0, 0, K, 0, K, 0), (2, 0, U, 0, I, 0), (0, 0, U, 0, U, 0)],
-            &[
-                (2, 5, K, 0, K, 0),
-                (0, 0, K, 0, K, 0),
-                (2, 0, I, 0, I, 0),
-                (0, 0, U, 0, U, 0),
-            ],
-            2,
-            (false, 0, 0),
-        ),
-        // a filled gap has no dummy where it begins
-        (
-            ChainKind::Cache,
-            &[(3, 0, K, 0, U, 0), (5, 0, U, 0, K, 0), (0, 0, U, 0, U, 0)],
-            &[(5, 0, U, 0, K, 0), (0, 0, U, 0, U, 0)],
-            1,
-            (false, 0, 0),
-        ),
-        // the flags at the dummies within a filled gap stay
-        (
-            ChainKind::Cache,
-            &[
-                (1, 0, K, 0, U, 0),
-                (3, 0, K, 0, K, 0),
-                (5, 0, U, 0, K, 0),
-                (0, 0, U, 0, U, 0),
-            ],
-            &[
-                (1, 0, K, 0, U, 0),
-                (3, 0, U, 0, K, 0),
-                (5, 0, U, 0, K, 0),
-                (0, 0, U, 0, U, 0),
-            ],
-            3,
-            (true, 0, 0),
-        ),
-        // an evicted row leaves a gap that inherits
-        (
-            ChainKind::Cache,
-            &[(0, 0, K, 0, K, 0), (0, 0, I, 0, U, 0)],
-            &[(0, 0, K, 0, K, 0), (0, 0, I, 0, I, 0)],
-            2,
-            (false, 0, 0),
-        ),
-        // and a gap that keeps its tombstone
-        (
-            ChainKind::Cache,
-            &[(0, 0, K, 0, U, 0)],
-            &[(0, 0, K, 0, U, 2)],
-            1,
-            (false, 0, 0),
-        ),
-        // an old snapshot, whose source has no row at 2, fills the newest version
-        (
-            ChainKind::Cache,
-            &[(0, 0, K, 0, K, 0), (2, 7, I, 0, I, 0), (0, 0, I, 0, I, 0)],
-            &[(0, 0, K, 0, K, 0), (2, 0, K, 0, K, 0), (0, 0, I, 0, K, 0)],
-            2,
-            (true, 7, 0),
-        ),
-        // an object freed of a memtable leaves Unknown
-        (
-            ChainKind::Memtable,
-            &[(0, 0, I, 0, I, 0)],
-            &[(0, 0, I, 0, U, 0)],
-            1,
-            (true, 0, 0),
-        ),
-    ];
-    for (kind, right, wrong, number, expected) in table {
-        assert_eq!(rt; told(rt.alloc(), kind, right, number)?, expected);
-        assert!(rt; told(rt.alloc(), kind, wrong, number)? != expected);
+// The one version of these entries.
+fn one_of(alloc: Global, lines: &[Line]) -> Result<PlainVersion, AllocError> {
+    let mut entries = Vec::new(alloc);
+    for line in lines {
+        entries.push(entry_of(alloc, line)?)?;
     }
+    Ok(version_with(entries))
+}
+
+// A version under update at 2: the dummy before the place may be evicted; that at the place and the end dummy stay.
+#[test]
+fn the_dummy_at_the_place_stays(rt: HostRuntime) -> Result<(), Fail> {
+    let place = place_of(rt.alloc(), 2)?;
+    let mut version = one_of(
+        rt.alloc(),
+        &[(1, 9, I, 0, I, 0), (2, 0, I, 0, I, 4), (0, 0, I, 0, I, 0)],
+    )?;
+    assert!(rt; is_at_place(&place, &version));
+    assert!(rt; evict_under_update(&place, &mut version, 0));
+    assert!(rt; is_at_place(&place, &version));
+    assert!(rt; version.entries.len() == 2 && !evict_under_update(&place, &mut version, 0));
+    assert!(rt; version.entries.len() == 2 && !evict_under_update(&place, &mut version, 1));
+    Ok(())
+}
+
+// Two versions that look lawful where no position is asked for: a listed dummy behind the place, whose eviction would leave an Unknown there, and a
+// tombstone on the gap right behind the place, which no position stands in.
+#[test]
+fn what_would_go_wrong_behind_the_place_is_refused(rt: HostRuntime) -> Result<(), Fail> {
+    let place = place_of(rt.alloc(), 2)?;
+    let dummy = one_of(
+        rt.alloc(),
+        &[(2, 0, I, 0, I, 0), (3, 0, I, 0, I, 0), (0, 0, I, 0, I, 0)],
+    )?;
+    assert!(rt; !is_at_place(&place, &dummy));
+    let tomb = one_of(rt.alloc(), &[(2, 0, I, 0, I, 0), (0, 0, I, 0, I, 4)])?;
+    assert!(rt; !is_at_place(&place, &tomb));
+    Ok(())
+}
+
+// Two snapshots: the first is released, and the second keeps its number.
+#[test]
+fn a_released_pin_leaves_the_others(rt: HostRuntime) -> Result<(), Fail> {
+    let mut pins = Vec::new(rt.alloc());
+    pins.push(Some(3_usize))?;
+    pins.push(Some(5_usize))?;
+    release_pin(&mut pins, 0);
+    assert!(rt; pins.len() == 2 && pins[0].is_none() && pins[1] == Some(5));
     Ok(())
 }
 

@@ -17,7 +17,7 @@ ghost use Rattle.rc_tfile.specs.TableText.{table, PartsFit, AllFit, IsTable};
 /// static row, rows and range bounds of the schema.
 pub fn parts_of_fitting_writes_fit()
     ensures { (schema : Lists) (parts : List Partition) (writes : List Write) → IsParts parts writes →
-        All (λ p. IsMutation p.change) parts → All (λ w. Fits schema (Put w)) writes → PartsFit schema parts }
+        All (λ w. Fits schema (Put w)) writes → PartsFit schema parts }
 {}
 
 /// Partitions that a table of a schema can hold make a table of it, if each item of theirs is within its limits, as `write_table`

@@ -1,4 +1,9 @@
 -- Laws of lines, for crates above to cite.
+pub mod Fitting
+pub mod Said
+pub mod Tests
+pub mod FitsLaws
+pub mod Plain
 use Rattle.std.specs.Prelude.{ℕ, ◌+◌, ◌<◌, true, false, nat_lt, List, length, take, Option, Err, ◌≡◌}
 use Rattle.std.proofs.Common.{refl, sym, subst, ap, ◌∙◌, arith}
 use Rattle.std.proofs.lemmas.List.{length-take, take_all}

@@ -5,3 +5,4 @@ pub mod Fits
 pub mod Grammar
 pub mod Texts
 pub mod Laws
+pub mod Plain

@@ -25,7 +25,7 @@ fn live(alloc: Global, ts: i64, value: &[u8]) -> Result<Option<Cell>, AllocError
     let Some(bytes) = read_bytes(alloc, value)? else {
         return Ok(None);
     };
-    let value = Value::from_slice(alloc, bytes.as_slice())?;
+    let value = Value::from_vec(bytes);
     Ok(Some(Cell::Live { ts, value }))
 }
 

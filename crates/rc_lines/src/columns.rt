@@ -81,7 +81,7 @@ fn by_column(
 }
 
 /// The cells of a line, by column.
-#[tactic(auto, using(crate::proofs::Fitting::columns_ascend, crate::proofs::Fitting::columns_are_known))]
+#[tactic(auto, using(crate::specs::Laws::Fitting::columns_ascend, crate::specs::Laws::Fitting::columns_are_known))]
 pub(crate) fn cells_by_column(
     alloc: Global,
     schema: &Schema,
@@ -92,6 +92,5 @@ pub(crate) fn cells_by_column(
     ensures known { IfOk result (λ made. IsTrue (list_all (λ e. nat_lt e.0 (columns is_static schema.now)) made)) }
 {
     let items = by_column(alloc, column_names(schema, is_static), cells)?;
-    let cells = Cells::from_slice(alloc, items.as_slice())?;
-    Ok(cells)
+    Ok(Cells::from_vec(items))
 }

@@ -50,7 +50,7 @@ fn components(
 }
 
 /// The prefix of a key whose components' bytes these are.
-#[tactic(auto, using(crate::proofs::Fitting::prefix_fits, crate::proofs::Fitting::prefix_is_as_long))]
+#[tactic(auto, using(crate::specs::Laws::Fitting::prefix_fits, crate::specs::Laws::Fitting::prefix_is_as_long))]
 fn prefix(alloc: Global, pieces: &Pieces, kinds: &[CkKind]) -> Result<Option<Key>, AllocError>
     ensures value { IfOk result (λ found. found ≡ prefix_of pieces.now kinds.now) }
     ensures fits { IfOk result (λ found. IfSome found (λ key. IsTrue (are_of_kinds key kinds.now))) }
@@ -59,7 +59,7 @@ fn prefix(alloc: Global, pieces: &Pieces, kinds: &[CkKind]) -> Result<Option<Key
     let Some(components) = components(alloc, pieces.as_slice(), kinds)? else {
         return Ok(None);
     };
-    Ok(Some(Key::from_slice(alloc, components.as_slice())?))
+    Ok(Some(Key::from_vec(components)))
 }
 
 /// The full key whose components' bytes these are.
@@ -94,7 +94,7 @@ fn between(from: Pos, to: Pos) -> Option<Slice>
 }
 
 /// The positions between two bounds.
-#[tactic(auto, using(crate::proofs::Fitting::start_fits, crate::proofs::Fitting::end_fits), unfolding(crate::specs::UnderSchema::slice_under))]
+#[tactic(auto, using(crate::specs::Laws::Fitting::start_fits, crate::specs::Laws::Fitting::end_fits), unfolding(crate::specs::UnderSchema::slice_under))]
 pub(crate) fn slice(
     alloc: Global,
     from: &Bound,

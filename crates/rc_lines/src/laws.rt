@@ -5,6 +5,7 @@ ghost use Rattle.rc_schema.specs.Lists.{Lists};
 ghost use Rattle.rc_lines.specs.declared.commands.Command.{Command};
 ghost use Rattle.rc_lines.specs.Fits.{Fits};
 ghost use Rattle.rc_lines.specs.Grammar.{longest_line, parse};
+ghost use Rattle.rc_lines.specs.Plain.{HasCounts, plain_line};
 
 use crate::reading::LONGEST_LINE;
 
@@ -21,7 +22,13 @@ pub fn long_lines_are_cut()
 
 /// Each command that a line gives under a schema fits it: a write is single and fits the schema, and the bounds of a reader
 /// fit it, the first below the second.
-#[tactic(auto, using(crate::proofs::FitsLaws::commands_fit))]
+#[tactic(auto, using(crate::specs::Laws::FitsLaws::commands_fit))]
 pub fn commands_fit_their_schema()
     ensures { (schema : Lists) (line : List ℕ) (command : Command) → parse (Some schema) line ≡ Ok command → Fits schema command }
+{}
+
+/// The line of each command that names no partition and no schema is read back as it, where its ids and counts are from 1 to
+/// 4,294,967,295.
+pub fn plain_commands_read_back()
+    ensures { (schema : Lists) (command : Command) (line : List ℕ) → plain_line command ≡ Some line → HasCounts command → parse (Some schema) line ≡ Ok command }
 {}

@@ -13,7 +13,7 @@ use crate::commands::{Command, Refusal};
 use crate::keys::{full_key, slice};
 use crate::shapes::{Bound, Change, Named, Pieces, Shape};
 use rc_cell::{Row, Tomb};
-use rc_mutation::{Mutation, Rows, Write};
+use rc_mutation::{Mutation, Rows, Statics, Write};
 use rc_position::{Key, PartKey, Slice, Text};
 use rc_ranges::{Piece, Ranges};
 use rc_schema::Schema;
@@ -64,7 +64,7 @@ fn rows(alloc: Global, key: Key, row: Row) -> Result<Rows, AllocError>
     if row.is_empty() {
         return Ok(Rows::empty(alloc));
     }
-    Rows::from_slice(alloc, &[(key, row)])
+    Rows::of_one(alloc, key, row)
 }
 
 /// What is written to a row.
@@ -117,7 +117,7 @@ fn static_change(
         return Ok(Err(Refusal::TooLong));
     }
     let mut mutation = Mutation::empty(alloc);
-    mutation.statics = row;
+    mutation.statics = Statics::from_cells(row.cells);
     Ok(Ok(mutation))
 }
 
@@ -153,7 +153,9 @@ fn ranges(alloc: Global, slice: Slice, tomb: Tomb) -> Result<Ranges, AllocError>
         to: slice.to,
         tomb,
     };
-    Ranges::from_slice(alloc, &[piece])
+    let mut pieces = Vec::new(alloc);
+    pieces.push(piece)?;
+    Ok(Ranges::from_vec(pieces))
 }
 
 /// What is written to the whole partition.

@@ -97,7 +97,7 @@ pub(crate) fn key(alloc: Global, word: &[u8]) -> Result<Option<Text>, AllocError
             let Some(bytes) = read_bytes(alloc, word)? else {
                 return Ok(None);
             };
-            Ok(Some(Text::from_slice(alloc, bytes.as_slice())?))
+            Ok(Some(Text::from_vec(bytes)))
         }
     }
 }

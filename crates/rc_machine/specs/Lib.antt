@@ -1,6 +1,9 @@
+pub mod State
+pub mod Tables
+pub mod Room
 pub mod Steps
-pub mod Stands
-pub mod Index
+pub mod Built
+pub mod Standing
 pub mod Serving
-pub mod Opening
-pub mod Storing
+pub mod Flushed
+pub mod Laws

@@ -1,35 +1,46 @@
--- What a call of the machine does, whatever state it stood for.
+-- What a call that serves a command does, whatever it keeps and whatever state that stood for.
 --     Takes, Stops      it takes a step, or memory runs out
---     RisesIfFault      a reply that says so comes only where the store failed
-use Rattle.std.specs.Prelude.{◌≡◌, ◌≢◌, ℕ, ◌≤◌, ◌⊎◌, Option, Result, IfOk, ⊤}
+--     bound_of          how many ranges it may ask for
+--     RisesIfFault      a reply that tells a fault comes only where the store failed
+use Rattle.std.specs.Prelude.{◌≡◌, ℕ, ◌+◌, ◌*◌, ◌/◌, ◌≤◌, ◌⊎◌, List, [], ◌∷◌, length, Option, Result, IfOk, ⊤}
 use Rattle.rc_outside.specs.Files.{Files}
 use Rattle.rc_outside.specs.Faults.{Rose}
-use Rattle.rc_schema.specs.Lists.{Lists}
 use Rattle.rc_lines.specs.declared.commands.Command.{Command}
-use Rattle.rc_lines.specs.declared.commands.Command.TheVariants.{Flush}
+use Rattle.rc_lines.specs.declared.commands.Command.TheVariants.{OpenRead, Flush, FlushBegin}
 use Rattle.rc_lines.specs.declared.commands.Refusal.{Refusal}
-use Rattle.rc_lines.specs.declared.commands.Refusal.TheVariants.{ReadFault, SchemaDiffers, WriteFault}
+use Rattle.rc_lines.specs.declared.commands.Refusal.TheVariants.{ReadFault, WriteFault}
 use Rattle.rc_lines.specs.declared.commands.Reply.{Reply}
-use Rattle.rc_lines.specs.declared.commands.Reply.TheVariants.{Fine, Refused}
-use Rattle.rc_machine.specs.Steps.{State, Steps, sealing, with_sealed}
-use Rattle.rc_machine.specs.Stands.{Keeping, Stands}
-
--- the reply to a schema line: fine where it is the schema again
-abbrev pub TakenAgain : Lists → Lists → Reply → Type 0
-TakenAgain taken schema reply = ((taken ≡ schema) × (reply ≡ Fine)) ⊎ ((taken ≢ schema) × (reply ≡ Refused SchemaDiffers))
-
--- a command is answered by a step to a state for which the machine stands then
-abbrev pub Takes : Option Files → Keeping → Command → Reply → Option Files → Keeping → Type 0
-Takes files k command reply files' k' = (m : State) → Stands files k m → (next : State) × Steps m command reply next × Stands files' k' next
+use Rattle.rc_lines.specs.declared.commands.Reply.TheVariants.{Refused}
+use Rattle.rc_tfile.specs.declared.info.TableInfo.{TableInfo}
+use Rattle.rc_tables.specs.Tables.{listing}
+use Rattle.rc_machine.specs.State.{State}
+use Rattle.rc_machine.specs.Steps.{Steps, sealing}
 
 -- what want of memory leaves: a flush may have sealed the writes, nothing else changes
-abbrev pub Leaves : State → Command → State → Type 0
-Leaves m Flush left = (left ≡ m) ⊎ (left ≡ with_sealed m (sealing m))
-Leaves m command left = left ≡ m
+abbrev pub IsLeft : State → Command → State → Type 0
+IsLeft m Flush left = (left ≡ m) ⊎ (left ≡ record m { sealed = sealing m })
+IsLeft m FlushBegin left = (left ≡ m) ⊎ (left ≡ record m { sealed = sealing m })
+IsLeft m command left = left ≡ m
 
--- memory ran out
-abbrev pub Stops : Option Files → Keeping → Command → Option Files → Keeping → Type 0
-Stops files k command files' k' = (m : State) → Stands files k m → (left : State) × Leaves m command left × Stands files' k' left
+-- What is kept stands over a store's files for a state, in a way of its own.
+module _ {Kept : Type 0} (Stands : Option Files → Kept → State → Type 0) where
+  -- a command is answered by a step to a state for which what is kept stands then
+  abbrev pub Takes : Option Files → Kept → Command → Reply → Option Files → Kept → Type 0
+  Takes files k command reply files' k' = (m : State) → Stands files k m → (next : State) × Steps m command reply next × Stands files' k' next
+
+  -- memory ran out
+  abbrev pub Stops : Option Files → Kept → Command → Option Files → Kept → Type 0
+  Stops files k command files' k' = (m : State) → Stands files k m → (left : State) × IsLeft m command left × Stands files' k' left
+
+-- at most so many ranges of files with these bytes are asked for while each is checked
+abbrev pub checks_of : List (List ℕ) → ℕ
+checks_of [] = 0
+checks_of (bytes ∷ files) = (length bytes / 2048 + 2) + checks_of files
+
+-- at most so many ranges of table files are asked for by a command: an open reads its partition from each table that lists it
+abbrev pub bound_of : List TableInfo → Command → ℕ
+bound_of infos (OpenRead id key slice) = 2 * listing key infos
+bound_of infos command = 0
 
 -- a refusal that says that the store failed
 abbrev pub OnFault : Refusal → Type 0 → Type 0

@@ -1,87 +1,40 @@
--- The machine without a cache, over a folder of tables: its state, and one step.
-use Rattle.std.specs.Prelude.{◌≡◌, ◌≢◌, ℕ, ◌+◌, ◌-◌, ◌<◌, ◌==◌, ◌⊎◌, Bool, false, not, nat_lt, List, [], ◌∷◌, ◌++◌, length, take, drop, map as list_map, Option, Some, None, IfSome, MatchBool, MatchOption, option_map, All, if◌then◌else◌}
-use Rattle.std.specs.Ordering.{eq_by_cmp}
-use Rattle.std.specs.List.{filter}
-use Rattle.std.specs.List.Sorted.{IsStrictlyIncreasing}
-use Rattle.std.specs.Map.{lookup, set_value}
+-- The machine without a cache: one step, by cases of the command.
+--     IsSaid, Opens     what the tables say to a reader that is opened
+--     Gives             the lines that a reader is given next
+--     Stores            how sealed writes become a table
+--     Steps, After      one step, and several
+use Rattle.std.specs.Prelude.{◌≡◌, ◌≢◌, ℕ, ◌+◌, ◌-◌, ◌≤◌, ◌==◌, ◌⊎◌, Bool, true, false, not, nat_lt, List, [], ◌∷◌, ◌++◌, length, take, drop, Option, Some, None, MatchBool, MatchOption, option_map, if◌then◌else◌}
+use Rattle.std.specs.List.{filter, AllByRecursion}
+use Rattle.std.specs.Map.{set_value}
 use Rattle.std.specs.FinMap as map
-use Rattle.rc_outside.specs.Files.{Files}
-use Rattle.rc_position.specs.Position.{bytes_cmp}
+use Rattle.rc_position.specs.declared.comps.Comp.{Comp}
+use Rattle.rc_position.specs.declared.positions.Pos.{Pos}
+use Rattle.rc_position.specs.declared.positions.Weight.TheVariants.{After as AfterKey}
 use Rattle.rc_position.specs.declared.slices.Slice.{Slice}
 use Rattle.rc_schema.specs.Lists.{Lists}
 use Rattle.rc_mutation.specs.declared.mutations.Mutation.{Mutation}
 use Rattle.rc_mutation.specs.declared.mutations.Partition.{Partition}
 use Rattle.rc_mutation.specs.declared.mutations.Write.{Write}
-use Rattle.rc_mutation.specs.Fragments.{IsParts}
-use Rattle.rc_mutation.specs.Source.{IsMutation}
+use Rattle.rc_mutation.specs.Fragments.{IsParts, units}
 use Rattle.rc_query.specs.declared.lines.OutLine.{OutLine}
+use Rattle.rc_query.specs.declared.lines.OutLine.TheVariants as out_line
 use Rattle.rc_query.specs.Answer.{answer}
+use Rattle.rc_tfile.specs.declared.info.TableInfo.{TableInfo}
 use Rattle.rc_tfile.specs.Before.{text}
-use Rattle.rc_tfile.specs.TableText.{table, IsTable, IsOtherSchema, FirstDamage}
-use Rattle.rc_tables.specs.Tables.{changes_at}
+use Rattle.rc_tfile.specs.Info.{info_of}
+use Rattle.rc_tfile.specs.TableText.{table, IsTable}
+use Rattle.rc_stream.specs.declared.streams.StreamErr.TheVariants as stream_err
+use Rattle.rc_tables.specs.Located.{SaysOf}
+use Rattle.rc_tables.specs.Tables.{IsDamageOf, changes_at, listing}
 use Rattle.rc_lines.specs.declared.commands.Command.{Command}
 use Rattle.rc_lines.specs.declared.commands.Command.TheVariants.{Nothing, SetSchema, Put, OpenRead, Read, Close, Flush, FlushBegin, FlushStep, Evict, Compact, Clean, Stats}
+use Rattle.rc_lines.specs.declared.commands.Figures.{Figures}
 use Rattle.rc_lines.specs.declared.commands.Refusal.{Refusal}
 use Rattle.rc_lines.specs.declared.commands.Reply.{Reply}
 use Rattle.rc_lines.specs.declared.commands.Reply.TheVariants as replies
-use Rattle.rc_lines.specs.declared.commands.Refusal.TheVariants.{BadLine, SchemaDiffers, NoReader, ReaderInUse, TooManyReaders, NothingToFlush, NoNumber, ReadFault, WriteFault, Damaged}
-
--- a table: its number, and its partitions by ascending key
-abbrev pub Table : Type 0
-Table = ℕ × List Partition
-
--- the machine's state: the schema; the folder's files, where the store tells them; the tables, by ascending number; all accepted writes, in
--- order; how many of them stand in tables; how many stand in tables or are sealed for the next one; and of each open reader, by its id, the
--- lines that it has not given yet
-pub record State : Type 0 where
-  pub schema : Lists
-  pub files : Option Files
-  pub tables : List Table
-  pub log : List Write
-  pub stored : ℕ
-  pub sealed : ℕ
-  pub readers : List (ℕ × List OutLine)
-
--- the numbers of tables
-abbrev pub numbers : List Table → List ℕ
-numbers tables = list_map (λ t. t.0) tables
-
--- the table's file is there and is its text, and each of its partitions holds together
-abbrev pub IsKept : Files → Lists → Table → Type 0
-IsKept files schema t = (bytes : List ℕ) × (map.get files t.0 ≡ Some bytes) × IsTable bytes schema t.1 × All (λ p. IsMutation p.change) t.1
-
--- the tables are those of a folder: each file is one; of a folder that is not told, they have ascending numbers
-abbrev pub AreTables : Option Files → Lists → List Table → Type 0
-AreTables None schema tables = IsStrictlyIncreasing (numbers tables)
-AreTables (Some files) schema tables = (numbers tables ≡ map.keys files) × All (IsKept files schema) tables
-
--- the machine as it is opened over a folder of tables
-abbrev pub opened : Option Files → Lists → List Table → State
-opened files schema tables = record { schema = schema; files = files; tables = tables; log = []; stored = 0; sealed = 0; readers = [] }
-
--- the bytes are no table of the schema: they have another schema, or their first damage is at an offset
-abbrev pub IsBad : Lists → Option ℕ → List ℕ → Type 0
-IsBad schema (Some off) bytes = FirstDamage bytes schema off
-IsBad schema None bytes = IsOtherSchema bytes schema
-
--- file n is the first of the folder, by number, that is no table of the schema
-pub record IsFirstBad (files : Files) (schema : Lists) (n : ℕ) (damage : Option ℕ) : Type 0 where
-  pub bytes : List ℕ
-  pub here : map.get files n ≡ Some bytes
-  pub bad : IsBad schema damage bytes
-  pub earlier : (k : ℕ) (more : List ℕ) → k < n → map.get files k ≡ Some more → (parts : List Partition) × IsTable more schema parts
-
--- what a partition's writes say, in order
-abbrev pub changes_to : List ℕ → List Write → List Mutation
-changes_to key log = list_map (λ w. w.change) (filter (λ w. eq_by_cmp bytes_cmp w.key key) log)
-
--- what is said of a partition: in tables, by number, and then by the writes that stand in none
-abbrev pub changes_of : List ℕ → State → List Mutation
-changes_of key m = changes_at key m.tables ++ changes_to key (drop m.stored m.log)
-
--- what a reader has not given yet, where the id is open
-abbrev pub rest_of : ℕ → State → Option (List OutLine)
-rest_of id m = lookup (λ k. k == id) m.readers
+use Rattle.rc_lines.specs.declared.commands.Refusal.TheVariants.{SchemaDiffers, NoReader, ReaderInUse, TooManyReaders, FlushInProgress, NothingToFlush, NoFlush, NoNumber, Full, ReadFault, WriteFault, Damaged}
+use Rattle.rc_machine.specs.State.{State, Reader, Table, numbers, unstored, recent_changes, reader_of}
+use Rattle.rc_machine.specs.Room.{MayBeFull}
 
 -- at most so many readers are open at once
 abbrev pub most_readers : ℕ
@@ -100,84 +53,113 @@ after n (k ∷ ks) = after k ks
 abbrev pub next_number : List Table → ℕ
 next_number tables = after 0 (numbers tables)
 
--- how many writes stand in tables or in the next one, once what is not sealed yet is sealed, unless something is
-abbrev pub sealing : State → ℕ
-sealing m = if m.stored == m.sealed then length m.log else m.sealed
-
--- the state with these open readers
-abbrev pub with_readers : State → List (ℕ × List OutLine) → State
-with_readers m readers = record { schema = m.schema; files = m.files; tables = m.tables; log = m.log; stored = m.stored; sealed = m.sealed; readers = readers }
-
--- the state with the writes sealed up to a number
-abbrev pub with_sealed : State → ℕ → State
-with_sealed m n = record { schema = m.schema; files = m.files; tables = m.tables; log = m.log; stored = m.stored; sealed = n; readers = m.readers }
-
--- the state with a write behind the others
-abbrev pub with_write : State → Write → State
-with_write m w = record { schema = m.schema; files = m.files; tables = m.tables; log = m.log ++ w ∷ []; stored = m.stored; sealed = m.sealed; readers = m.readers }
-
--- the state in which the sealed writes stand in one more table, with its file
-abbrev pub with_table : State → Table → State
-with_table m t = record {
-  schema = m.schema;
-  files = option_map (λ files. map.insert files t.0 (text (table m.schema t.1))) m.files;
-  tables = m.tables ++ t ∷ [];
-  log = m.log;
-  stored = sealing m;
-  sealed = sealing m;
-  readers = m.readers;
-}
-
 -- a refusal that changes nothing
 abbrev pub Refuses : State → Refusal → Reply → State → Type 0
 Refuses m refusal reply new = (reply ≡ replies.Refused refusal) × (new ≡ m)
 
--- the lines of a reader that is opened: the answer, where the folder is told
-abbrev pub Answered : State → List ℕ → Slice → List OutLine → Type 0
-Answered m key slice lines = IfSome m.files (λ _. lines ≡ answer (changes_of key m) slice)
+-- a command is done, and this is the next state
+abbrev pub Does : State → Reply → State → Type 0
+Does next reply new = (reply ≡ replies.Fine) × (new ≡ next)
 
--- a reader is opened: its answer is fixed now. Or the store fails; or, where the folder is not told, a table is not what it was
+-- What the tables say of a partition to a reader: exactly what they hold, where the folder is told. Else what they hold is not known, and
+-- each that lists the key may say anything once that a table of the schema can hold; where none lists it they say nothing.
+abbrev pub IsSaid : State → List ℕ → List Mutation → Type 0
+IsSaid m key said = MatchOption m.files ((length said ≤ listing key m.infos) × AllByRecursion (SaysOf m.schema key) said) (λ files. said ≡ changes_at key m.tables)
+
+-- a table is not what it was: the folder is not told, and what was read of a table that lists the key contradicts what is known of it
+abbrev pub MayBeDamaged : State → List ℕ → (file offset : ℕ) → Type 0
+MayBeDamaged m key file offset = (m.files ≡ None) × IsDamageOf m.schema key m.infos (stream_err.Damaged file offset)
+
+-- a reader as it is opened, with its answer
+abbrev pub reader_with : State → List ℕ → Slice → List OutLine → Reader
+reader_with m key slice lines = record { key = key; slice = slice; place = slice.from; rest = lines; first = if m.stored == length m.log then None else Some m.stored }
+
+-- A reader is opened: its answer is fixed now, to what the tables say and then the writes that stand in none. Or the store fails; or,
+-- where the folder is not told, a table is not what it was.
 abbrev pub Opens : State → ℕ → List ℕ → Slice → Reply → State → Type 0
 Opens m id key slice reply new =
-    ((lines : List OutLine) × Answered m key slice lines × (reply ≡ replies.Fine) × (new ≡ with_readers m (m.readers ++ (id, lines) ∷ [])))
+    ((said : List Mutation) × IsSaid m key said × Does (record m { readers = m.readers ++ (id, reader_with m key slice (answer (said ++ recent_changes key m) slice)) ∷ [] }) reply new)
     ⊎ (Refuses m ReadFault reply new
-    ⊎ ((file : ℕ) × (offset : ℕ) × (m.files ≡ None) × Refuses m (Damaged file offset) reply new))
+    ⊎ ((file : ℕ) × (offset : ℕ) × MayBeDamaged m key file offset × Refuses m (Damaged file offset) reply new))
 
--- a reader gives its next lines, and whether there are more
-abbrev pub Gives : State → ℕ → ℕ → List OutLine → Reply → State → Type 0
-Gives m id count rest reply new =
-    (reply ≡ replies.Given (take count rest) (nat_lt count (length rest))) × (new ≡ with_readers m (set_value (λ k. k == id) m.readers (drop count rest)))
+-- the position behind lines that were given, of which the first begin behind x: behind the last row
+abbrev pub behind : Pos → List OutLine → Pos
+behind x [] = x
+behind x (out_line.Static shown ∷ lines) = behind x lines
+behind x (out_line.Row key shown ∷ lines) = behind (record { prefix = key; weight = AfterKey }) lines
 
--- the writes that are sealed, or would be, become the next table; or the store fails, and they stay sealed
-abbrev pub Stores : State → Reply → State → Type 0
-Stores m reply new =
-    ((parts : List Partition) × IsParts parts (take (sealing m - m.stored) (drop m.stored m.log)) × (reply ≡ replies.Fine) × (new ≡ with_table m (next_number m.tables, parts)))
-    ⊎ ((reply ≡ replies.Refused WriteFault) × (new ≡ with_sealed m (sealing m)))
+-- a reader that was given its next lines: it stands behind them, or at its slice's end where none are left
+abbrev pub reader_past : ℕ → Reader → Reader
+reader_past count r = record r { place = if nat_lt count (length r.rest) then behind r.place (take count r.rest) else r.slice.to; rest = drop count r.rest }
 
--- a flush: there is something to flush, and a number for its table
-abbrev pub Flushes : State → Reply → State → Type 0
-Flushes m reply new =
-    MatchBool (m.stored == length m.log) (Refuses m NothingToFlush reply new)
-    (MatchBool (nat_lt last_number (next_number m.tables)) (Refuses m NoNumber reply new) (Stores m reply new))
+-- A reader gives its next lines, and whether there are more. Or the store fails; or, where the folder is not told, a table is not what it was.
+abbrev pub Gives : State → ℕ → ℕ → Reader → Reply → State → Type 0
+Gives m id count r reply new =
+    ((reply ≡ replies.Given (take count r.rest) (nat_lt count (length r.rest))) × (new ≡ record m { readers = set_value (λ k. k == id) m.readers (reader_past count r) }))
+    ⊎ (Refuses m ReadFault reply new
+    ⊎ ((file : ℕ) × (offset : ℕ) × MayBeDamaged m r.key file offset × Refuses m (Damaged file offset) reply new))
+
+-- how many writes stand in tables or in the next one, once what is not sealed yet is sealed, unless something is
+abbrev pub sealing : State → ℕ
+sealing m = if m.stored == m.sealed then length m.log else m.sealed
+
+-- the writes that are sealed, or would be
+abbrev pub to_flush : State → List Write
+to_flush m = take (sealing m - m.stored) (unstored m)
+
+-- Partitions are what a flush writes: the parts of the writes that are sealed or would be, and the text of a table.
+pub record IsFlushed (m : State) (parts : List Partition) : Type 0 where
+  pub of_writes : IsParts parts (to_flush m)
+  pub is_table : IsTable (text (table m.schema parts)) m.schema parts
+
+-- the state in which the sealed writes stand in one more table, with its file, and the cache does not have it yet
+abbrev pub with_table : State → List Partition → State
+with_table m parts = record m {
+  files = option_map (λ files. map.insert files (next_number m.tables) (text (table m.schema parts))) m.files;
+  tables = m.tables ++ (next_number m.tables, parts) ∷ [];
+  infos = m.infos ++ info_of (next_number m.tables) m.schema parts ∷ [];
+  sealed = sealing m;
+  written = true;
+  left = units parts;
+}
+
+-- the state once the cache has the last table: the sealed writes stand in tables
+abbrev pub without_sealed : State → State
+without_sealed m = record m { stored = m.sealed; written = false; left = 0 }
+
+-- The sealed writes become the next table, and the state goes on from there; or the store fails, and they stay sealed.
+abbrev pub Stores : State → (State → State) → Reply → State → Type 0
+Stores m on reply new =
+    ((parts : List Partition) × IsFlushed m parts × Does (on (with_table m parts)) reply new)
+    ⊎ ((reply ≡ replies.Refused WriteFault) × (new ≡ record m { sealed = sealing m }))
+
+-- a flush begins: none is in progress, there is something to flush, and a number for its table
+abbrev pub Flushes : State → (State → State) → Reply → State → Type 0
+Flushes m on reply new =
+    MatchBool m.written (Refuses m FlushInProgress reply new)
+    (MatchBool (m.stored == length m.log) (Refuses m NothingToFlush reply new)
+    (MatchBool (nat_lt last_number (next_number m.tables)) (Refuses m NoNumber reply new) (Stores m on reply new)))
 
 -- from a state a command may be answered by the reply, and the other state is next
 abbrev pub Steps : State → Command → Reply → State → Type 0
 Steps m Nothing reply new = (reply ≡ replies.Nothing) × (new ≡ m)
-Steps m (SetSchema schema) reply new = ((m.schema ≡ schema) × (reply ≡ replies.Fine) × (new ≡ m)) ⊎ ((m.schema ≢ schema) × Refuses m SchemaDiffers reply new)
-Steps m (Put w) reply new = (reply ≡ replies.Fine) × (new ≡ with_write m w)
+Steps m (SetSchema schema) reply new = ((m.schema ≡ schema) × Does m reply new) ⊎ ((m.schema ≢ schema) × Refuses m SchemaDiffers reply new)
+Steps m (Put w) reply new = Does (record m { log = m.log ++ w ∷ [] }) reply new ⊎ (MayBeFull m w × Refuses m Full reply new)
 Steps m (OpenRead id key slice) reply new =
-    MatchOption (rest_of id m) (MatchBool (nat_lt (length m.readers) most_readers) (Opens m id key slice reply new) (Refuses m TooManyReaders reply new)) (λ rest. Refuses m ReaderInUse reply new)
-Steps m (Read id count) reply new = MatchOption (rest_of id m) (Refuses m NoReader reply new) (λ rest. Gives m id count rest reply new)
+    MatchOption (reader_of id m) (MatchBool (nat_lt (length m.readers) most_readers) (Opens m id key slice reply new) (Refuses m TooManyReaders reply new)) (λ r. Refuses m ReaderInUse reply new)
+Steps m (Read id count) reply new = MatchOption (reader_of id m) (Refuses m NoReader reply new) (λ r. Gives m id count r reply new)
 Steps m (Close id) reply new =
-    MatchOption (rest_of id m) (Refuses m NoReader reply new) (λ rest. (reply ≡ replies.Fine) × (new ≡ with_readers m (filter (λ reader. not (reader.0 == id)) m.readers)))
-Steps m Flush reply new = Flushes m reply new
--- the commands of a flush in steps and of the cache are not served yet
-Steps m FlushBegin reply new = Refuses m BadLine reply new
-Steps m (FlushStep count) reply new = Refuses m BadLine reply new
-Steps m (Evict count) reply new = Refuses m BadLine reply new
-Steps m (Compact count) reply new = Refuses m BadLine reply new
-Steps m (Clean count) reply new = Refuses m BadLine reply new
-Steps m Stats reply new = Refuses m BadLine reply new
+    MatchOption (reader_of id m) (Refuses m NoReader reply new) (λ r. Does (record m { readers = filter (λ reader. not (reader.0 == id)) m.readers }) reply new)
+Steps m Flush reply new = Flushes m without_sealed reply new
+Steps m FlushBegin reply new = Flushes m (λ next. next) reply new
+Steps m (FlushStep count) reply new =
+    MatchBool m.written
+    (MatchBool (nat_lt count m.left) ((reply ≡ replies.Going) × (new ≡ record m { left = m.left - count })) ((reply ≡ replies.Done) × (new ≡ without_sealed m)))
+    (Refuses m NoFlush reply new)
+Steps m (Evict count) reply new = Does m reply new
+Steps m (Compact count) reply new = Does m reply new
+Steps m (Clean count) reply new = Does m reply new
+Steps m Stats reply new = (figures : Figures) × (reply ≡ replies.Stats figures) × (new ≡ m)
 
 -- the state after steps, each a command with its reply
 abbrev pub After : State → List (Command × Reply) → State → Type 0

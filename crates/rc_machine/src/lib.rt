@@ -1,14 +1,6 @@
-//! The machine without a cache, over a folder of tables: a plain, slow program that takes one step after another.
+//! The meaning of the program: the machine without a cache, over a folder of tables, as definitions, and laws of its steps. No code.
 #![tactic(auto)]
 
-mod index;
-mod joining;
 mod laws;
-mod machine;
-mod memtable;
-mod opening;
-mod readers;
 
-pub use laws::{closed_readers_are_gone, readers_are_fixed};
-pub use machine::Machine;
-pub use opening::OpenErr;
+pub use laws::{closed_readers_are_gone, readers_are_fixed, tables_hold_what_was_flushed};

@@ -1,3 +1,3 @@
-pub mod FragMerge
 pub mod Places
 pub mod RowsMerge
+pub mod Alone

@@ -1,5 +1,5 @@
 -- The canonical fragments of a mutation, as which a partition is read; the parts of writes, and their units.
-use Rattle.std.specs.Prelude.{◌≡◌, All, ℕ, Bool, true, false, cond, ◌||◌, is_some, List, [], ◌∷◌, ◌++◌, Option, Some, None, length, map as list_map, filter, sum_by}
+use Rattle.std.specs.Prelude.{◌≡◌, All, ℕ, Bool, true, false, cond, ◌||◌, is_some, List, [], ◌∷◌, ◌++◌, Option, Some, None, length, map as list_map, sum_by}
 use Rattle.std.specs.declared.cmp.Ordering.{Ordering}
 use Rattle.std.specs.Ordering.{nat_cmp, eq_by_cmp, on, then_cmp}
 use Rattle.std.specs.FinMap as map
@@ -14,7 +14,7 @@ use Rattle.rc_mutation.specs.declared.fragments.Frag.TheVariants as frag
 use Rattle.rc_mutation.specs.declared.mutations.Mutation.{Mutation}
 use Rattle.rc_mutation.specs.declared.mutations.Partition.{Partition}
 use Rattle.rc_mutation.specs.declared.mutations.Write.{Write}
-use Rattle.rc_mutation.specs.Source.{SameSource}
+use Rattle.rc_mutation.specs.Source.{changes_to, IsMutation, SameSource}
 
 -- whether the first of some pieces begins at x
 abbrev pub begins_at : Pos → List Piece → Bool
@@ -66,13 +66,10 @@ fragments m =
     ++ in_order (list_map placed_row m.rows ++ list_map placed_change (changes_of m.ranges))
     ++ frag.End ∷ []
 
--- the writes to one partition
-abbrev pub changes_to : List ℕ → List Write → List Mutation
-changes_to key writes = list_map (λ w. w.change) (filter (λ w. eq_by_cmp bytes_cmp key w.key) writes)
-
--- the parts of writes: the keys that occur, ascending, each once, each with a mutation that says at each place what its writes say
+-- the parts of writes: the keys that occur, ascending, each once, each with the mutation that says at each place what its writes say
 pub record IsParts (parts : List Partition) (writes : List Write) : Type 0 where
   pub keys : list_map (λ p. p.key) parts ≡ map.keys (map.from_entries {R = bytes_cmp} (list_map (λ w. (w.key, w.change)) writes))
+  pub mutations : All (λ p. IsMutation p.change) parts
   pub changes : All (λ p. SameSource (p.change ∷ []) (changes_to p.key writes)) parts
 
 -- the units of parts: how many fragments they have

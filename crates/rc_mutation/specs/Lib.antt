@@ -4,4 +4,7 @@ pub mod Place
 pub mod Rows
 pub mod RowsLaws
 pub mod Source
+pub mod Slices
 pub mod SourceLaws
+pub mod Statics
+pub mod Laws

@@ -1,5 +1,5 @@
 -- What a list of writes to one partition says at each place of it: the source at a place, picked from all of them.
-use Rattle.std.specs.Prelude.{◌≡◌, List, ◌++◌, Option, map as list_map, IsTrue}
+use Rattle.std.specs.Prelude.{◌≡◌, ℕ, List, ◌++◌, Option, map as list_map, IsTrue}
 use Rattle.std.specs.Ordering.{eq_by_cmp}
 use Rattle.std.specs.List.{filter, filter_map, flat_map}
 use Rattle.rc_cell.specs.declared.rows.Row.{Row}
@@ -9,12 +9,18 @@ use Rattle.rc_cell.specs.Orders.{tomb_cmp}
 use Rattle.rc_cell.specs.Winner.{greatest, joined_row, tombs}
 use Rattle.rc_position.specs.declared.comps.Comp.{Comp}
 use Rattle.rc_position.specs.declared.positions.Pos.{Pos}
-use Rattle.rc_position.specs.Position.{pos_cmp, row_pos}
+use Rattle.rc_position.specs.Position.{bytes_cmp, pos_cmp, row_pos}
 use Rattle.rc_ranges.specs.declared.pieces.Piece.{Piece}
 use Rattle.rc_ranges.specs.Cover.{tombs_over, IsCanonical}
 use Rattle.rc_ranges.specs.Cover.{cover as range_tomb}
 use Rattle.rc_mutation.specs.declared.mutations.Mutation.{Mutation}
+use Rattle.rc_mutation.specs.declared.mutations.Write.{Write}
 pub use Rattle.rc_mutation.specs.Rows.{rows_at, keys, joined_rows, IsRows}
+pub use Rattle.rc_mutation.specs.Statics.{has_cells_alone}
+
+-- what is written of the partition of a key, in the order of the writes
+abbrev pub changes_to : List ℕ → List Write → List Mutation
+changes_to key writes = list_map (λ w. w.change) (filter (λ w. eq_by_cmp bytes_cmp w.key key) writes)
 
 -- the partition tombstones of writes
 abbrev pub partition_tombs : List Mutation → List Tomb
@@ -66,8 +72,9 @@ pub record IsJoinOf (mutation : Mutation) (changes : List Mutation) : Type 0 whe
   pub rows : mutation.rows ≡ joined_rows (all_rows changes)
   pub ranges : (x : Pos) → range_tomb mutation.ranges x ≡ range_tomb (all_pieces changes) x
 
--- what holds of each mutation that the program has: the cells of its static row ascend, its rows are by key, its ranges canonical
+-- what holds of each mutation that the program has: its static row has cells alone, and they ascend; its rows are by key, its ranges canonical
 pub record IsMutation (mutation : Mutation) : Type 0 where
+  pub alone : IsTrue (has_cells_alone mutation.statics)
   pub statics : IsTrue (ascending mutation.statics.cells)
   pub rows : IsRows mutation.rows
   pub ranges : IsCanonical mutation.ranges

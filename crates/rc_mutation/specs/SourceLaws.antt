@@ -31,8 +31,8 @@ use Rattle.rc_position.specs.OrderLaws.{pos_cmp_same}
 use Rattle.rc_position.specs.Position.{key_cmp, pos_cmp, row_pos}
 use Rattle.rc_ranges.specs.declared.pieces.Piece.{Piece}
 use Rattle.rc_ranges.specs.Cover.{cover as range_tomb}
-use Rattle.rc_ranges.proofs.Covering.{cover-append}
-use Rattle.rc_ranges.proofs.Determined.{determined}
+use Rattle.rc_ranges.specs.Laws.Covering.{cover-append}
+use Rattle.rc_ranges.specs.Laws.Determined.{determined}
 use Rattle.rc_mutation.specs.declared.mutations.Mutation.{Mutation}
 use Rattle.rc_mutation.specs.ByKey.{rows_at-joined_rows, rows_at-ascending, joined_if_any, same_rows}
 use Rattle.rc_mutation.specs.RowsLaws.{found, joined_rows-again, joined_rows-append, joined_rows-rows, joined_rows-swap, joined_rows-twice}
@@ -103,7 +103,8 @@ same_found (Some x) (Some y) g h e = ap Some (sym (joined_row-one x (g x refl).1
 found_row : (rows : List (List Comp × Row)) → IsRows rows → (q : List Comp) (x : Row) → find key_cmp q rows ≡ Some x → (x ≢ empty_row) × IsTrue (ascending x.cells)
 found_row rows is q x e = (found (λ r. r ≢ empty_row) q rows is.written x e, found (λ r. IsTrue (ascending r.cells)) q rows is.by_column x e)
 
-rows-determined : (xs ys : List (List Comp × Row)) → IsRows xs → IsRows ys → ((k : List Comp) → joined_row (rows_at k xs) ≡ joined_row (rows_at k ys)) → xs ≡ ys
+-- rows that say the same at each key are equal
+pub rows-determined : (xs ys : List (List Comp × Row)) → IsRows xs → IsRows ys → ((k : List Comp) → joined_row (rows_at k xs) ≡ joined_row (rows_at k ys)) → xs ≡ ys
 rows-determined xs ys g h is =
     same_rows xs ys (test_of _ g.ascend) (test_of _ h.ascend) (λ q.
     same_found (find key_cmp q xs) (find key_cmp q ys) (found_row xs g q) (found_row ys h q)

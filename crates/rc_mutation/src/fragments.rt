@@ -8,7 +8,7 @@ ghost use Rattle.rc_mutation.specs.Fragments.{begins_at, changes_of, fragments, 
 
 use crate::mutations::Mutation;
 use rc_cell::{Row, Tomb};
-use rc_position::{Key, Pos, Weight};
+use rc_position::{Key, Pos};
 use rc_ranges::Piece;
 use std::alloc::{AllocError, Global};
 use std::marker::Model;
@@ -115,7 +115,7 @@ impl Mutation {
     {
         let mut made = Vec::new(alloc);
         made.push(Frag::Start(self.pt))?;
-        push_statics(alloc, &mut made, &self.statics)?;
+        push_statics(alloc, &mut made, self.statics.as_row())?;
         let changes = changes(alloc, self.ranges.as_slice())?;
         append_in_order(alloc, &mut made, self.rows.as_slice(), &changes)?;
         made.push(Frag::End)?;
@@ -194,7 +194,7 @@ fn append_in_order(
     let mut rows = rows;
     let mut changes = changes;
     while let ([row, rest @ ..], [change, later @ ..]) = (rows, changes) {
-        if stands_before(alloc, &row.0, &change.0)? {
+        if stands_before(&row.0, &change.0) {
             push_row(alloc, made, row)?;
             rows = rest;
         } else {
@@ -207,14 +207,10 @@ fn append_in_order(
 }
 
 // Whether the row of the key stands before the position.
-fn stands_before(alloc: Global, key: &Key, x: &Pos) -> Result<bool, AllocError>
-    ensures { IfOk result (λ before. before ≡ is_lt (pos_cmp (row_pos key.now) x.now)) }
+fn stands_before(key: &Key, x: &Pos) -> bool
+    ensures { result ≡ is_lt (pos_cmp (row_pos key.now) x.now) }
 {
-    let place = Pos {
-        prefix: key.copy(alloc)?,
-        weight: Weight::At,
-    };
-    Ok(place.cmp(x).is_lt())
+    key.compare_with_pos(x).is_lt()
 }
 
 fn push_row(alloc: Global, made: &mut Vec<Frag>, row: &(Key, Row)) -> Result<(), AllocError>

@@ -6,6 +6,9 @@ ghost use Rattle.rc_cell.specs.declared.rows.Row.{Row};
 ghost use Rattle.rc_position.specs.declared.comps.Comp.{Comp};
 ghost use Rattle.rc_position.specs.Position.{key_cmp};
 ghost use Rattle.rc_mutation.specs.declared.mutations.Mutation.{Mutation};
+ghost use Rattle.rc_mutation.specs.declared.mutations.Partition.{Partition};
+ghost use Rattle.rc_mutation.specs.declared.mutations.Write.{Write};
+ghost use Rattle.rc_mutation.specs.Fragments.{IsParts, units};
 ghost use Rattle.rc_mutation.specs.Source.{IsJoinOf, IsMutation, SameSource};
 ghost use Rattle.rc_cell.specs.Winner.{empty_row};
 ghost use Rattle.rc_mutation.specs.ByKey.{joined_if_any};
@@ -78,4 +81,12 @@ pub fn joining_is_idempotent()
 /// No writes join to the mutation of which nothing was written.
 pub fn no_writes_join_to_nothing()
     ensures { IsJoinOf (record { pt = None; statics = empty_row; rows = []; ranges = [] }) [] }
+{}
+
+/// Writes have one list of parts, and so one number of units: lists that are parts of the same writes are equal.
+pub fn parts_of_writes_are_determined()
+    ensures parts { (parts others : List Partition) (writes : List Write) → IsParts parts writes → IsParts others writes →
+        parts ≡ others }
+    ensures units { (parts others : List Partition) (writes : List Write) → IsParts parts writes → IsParts others writes →
+        units parts ≡ units others }
 {}

@@ -6,9 +6,11 @@ mod fragments;
 pub mod laws;
 mod mutations;
 mod rows;
+mod statics;
 #[cfg(test)]
 mod tests;
 
 pub use fragments::{Frag, FragList, Head, HeadAt};
 pub use mutations::{Mutation, Partition, Write, greater_tomb};
 pub use rows::Rows;
+pub use statics::Statics;

@@ -7,7 +7,8 @@ ghost use Rattle.rc_cell.specs.Winner.{empty_row};
 ghost use Rattle.rc_mutation.specs.Source.{IsJoinOf, IsMutation};
 
 use crate::rows::Rows;
-use rc_cell::{Row, Tomb};
+use crate::statics::Statics;
+use rc_cell::Tomb;
 use rc_position::PartKey;
 use rc_ranges::Ranges;
 use std::alloc::{AllocError, Global};
@@ -17,8 +18,8 @@ use std::alloc::{AllocError, Global};
 pub struct Mutation {
     /// The partition tombstone.
     pub pt: Option<Tomb>,
-    /// The static row. It has no marker and no tombstone; the partition tombstone alone covers it.
-    pub statics: Row,
+    /// The static row.
+    pub statics: Statics,
     /// The rows by clustering key.
     pub rows: Rows,
     /// The range tombstones.
@@ -32,7 +33,7 @@ impl Mutation {
     {
         Mutation {
             pt: None,
-            statics: Row::empty(alloc),
+            statics: Statics::empty(alloc),
             rows: Rows::empty(alloc),
             ranges: Ranges::empty(alloc),
         }
@@ -53,12 +54,12 @@ impl Mutation {
         })
     }
 
-    /// What holds of each mutation, for proofs to cite: the cells of its static row ascend by column, its rows by key, and
-    /// its range tombstones are canonical. It does nothing.
+    /// What holds of each mutation, for proofs to cite: its static row has cells alone, which ascend by column; its rows
+    /// ascend by key; and its range tombstones are canonical. It does nothing.
     pub fn holds_together(&self)
         ensures { IsMutation self.now }
     {
-        let _cells = self.statics.cells.as_slice();
+        let _cells = self.statics.as_row();
         let _rows = self.rows.as_slice();
         let _pieces = self.ranges.as_slice();
     }

@@ -55,6 +55,18 @@ impl Rows {
         Ok(Rows { items })
     }
 
+    /// The row of one key, of which something was written, in the memory that holds both. The only error is want of
+    /// memory.
+    pub fn of_one(alloc: Global, key: Key, row: Row) -> Result<Self, AllocError>
+        requires { row ≢ empty_row }
+        ensures { IfOk result (λ rows. rows ≡ (key, row) ∷ []) }
+    {
+        let _cells = row.cells.as_slice();
+        let mut items = Vec::new(alloc);
+        items.push((key, row))?;
+        Ok(Rows { items })
+    }
+
     /// The pairs by strictly ascending key.
     pub fn as_slice(&self) -> &[(Key, Row)]
         ensures value { result.now ≡ self.now }

@@ -1,17 +1,19 @@
 //! Clustering keys and their prefixes.
 
-ghost use Rattle.std.specs.Prelude.{◌≡◌, [], IfOk, IsTrue, ◌↔◌};
+ghost use Rattle.std.specs.Prelude.{◌≡◌, ◌+◌, [], IfOk, IsTrue, ◌↔◌};
 ghost use Rattle.std.specs.Cmp.{partial_equiv_from_equiv, eq_by_cmp_equiv, partial_order_from_total};
 ghost use Rattle.std.specs.Ordering.{eq_by_cmp, as_partial_cmp};
 ghost use Rattle.std.proofs.Common.{refl};
-ghost use Rattle.rc_position.specs.Position.{key_cmp};
+ghost use Rattle.rc_position.specs.Position.{key_cmp, pos_cmp, row_pos};
 ghost use Rattle.rc_position.specs.OrderLaws.{key_cmp_total};
 
 use crate::comps::Comp;
-use crate::positions::{Weight, compare};
+use crate::positions::{Pos, Weight, compare};
+use crate::steps::Steps;
 use std::alloc::{AllocError, Global};
 use std::cmp::Ordering;
 use std::marker::Model;
+use std::sync::ledger::Ledger;
 
 /// A clustering key or a prefix of one: components, the most significant first.
 /// Keys are ordered as the positions of their rows are.
@@ -50,6 +52,13 @@ impl Key {
         Ok(Key { items: copies })
     }
 
+    /// The key of these components, in the memory that holds them.
+    pub fn from_vec(items: Vec<Comp>) -> Self
+        ensures { result ≡ items.items }
+    {
+        Key { items }
+    }
+
     /// Its components.
     pub fn as_slice(&self) -> &[Comp]
         ensures { result.now ≡ self.now }
@@ -62,6 +71,23 @@ impl Key {
         ensures { IfOk result (λ k. k ≡ self.now) }
     {
         Key::from_slice(alloc, self.as_slice())
+    }
+
+    /// The order of the position of its row to a position. It takes no memory.
+    #[tactic(auto, unfolding(crate::specs::Position::pos_cmp))]
+    pub fn compare_with_pos(&self, x: &Pos) -> Ordering
+        ensures { result ≡ pos_cmp (row_pos self.now) x.now }
+    {
+        compare(self.as_slice(), Weight::At, x.prefix.as_slice(), x.weight)
+    }
+
+    /// The order of the position of its row to a position, counted as one comparison. It takes no memory.
+    pub fn compare_with_pos_counted<L: Ledger>(&self, x: &Pos, steps: &mut Steps<L>) -> Ordering
+        ensures value { result ≡ pos_cmp (row_pos self.now) x.now }
+        ensures counted { steps.new ≡ steps.old + 1 }
+    {
+        steps.count();
+        self.compare_with_pos(x)
     }
 }
 

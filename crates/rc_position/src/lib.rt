@@ -6,12 +6,14 @@ mod keys;
 pub mod laws;
 mod positions;
 mod slices;
+mod steps;
 mod texts;
 
 pub use comps::Comp;
 pub use keys::Key;
 pub use positions::{Pos, Weight, end_pos, start_pos};
 pub use slices::Slice;
+pub use steps::Steps;
 pub use texts::{PartKey, Text};
 
 #[cfg(test)]

@@ -1,6 +1,6 @@
 //! Positions at and between the rows of one partition.
 
-ghost use Rattle.std.specs.Prelude.{◌≡◌, IfOk, IsTrue, ◌↔◌, MatchBool};
+ghost use Rattle.std.specs.Prelude.{◌≡◌, ◌+◌, IfOk, IsTrue, ◌↔◌, MatchBool};
 ghost use Rattle.std.specs.Cmp.{partial_equiv_from_equiv, eq_by_cmp_equiv, partial_order_from_total};
 ghost use Rattle.std.specs.Ordering.{eq_by_cmp, as_partial_cmp, ordering_reverse};
 ghost use Rattle.std.proofs.Common.{refl};
@@ -9,8 +9,10 @@ ghost use Rattle.rc_position.specs.OrderLaws.{pos_cmp_total};
 
 use crate::comps::Comp;
 use crate::keys::Key;
+use crate::steps::Steps;
 use std::alloc::{AllocError, Global};
 use std::cmp::Ordering;
+use std::sync::ledger::Ledger;
 
 /// Where a position stands at its prefix.
 #[derive(Clone, Copy, Debug, PartialEq, Eq, PartialOrd, Ord)]
@@ -42,15 +44,26 @@ impl Pos {
             weight: self.weight,
         })
     }
+
+    /// Its order to another, counted as one comparison. It takes no memory.
+    pub fn compare_counted<L: Ledger>(&self, other: &Pos, steps: &mut Steps<L>) -> Ordering
+        ensures value { result ≡ pos_cmp self.now other.now }
+        ensures counted { steps.new ≡ steps.old + 1 }
+    {
+        steps.count();
+        self.cmp(other)
+    }
 }
 
-// A position against each longer one that begins with its prefix.
-fn compare_shorter(weight: Weight) -> Ordering
-    ensures { result ≡ shorter_cmp weight }
-{
-    match weight {
-        Weight::Before | Weight::At => Ordering::Less,
-        Weight::After => Ordering::Greater,
+impl Weight {
+    /// The order of a position of this weight to each longer one that begins with its prefix.
+    pub fn compare_with_longer(self) -> Ordering
+        ensures { result ≡ shorter_cmp self }
+    {
+        match self {
+            Weight::Before | Weight::At => Ordering::Less,
+            Weight::After => Ordering::Greater,
+        }
     }
 }
 
@@ -68,8 +81,8 @@ pub(crate) fn compare(
     loop {
         match (xs, ys) {
             ([], []) => return left_weight.cmp(&right_weight),
-            ([], [_first, _rest @ ..]) => return compare_shorter(left_weight),
-            ([_first, _rest @ ..], []) => return compare_shorter(right_weight).reverse(),
+            ([], [_first, _rest @ ..]) => return left_weight.compare_with_longer(),
+            ([_first, _rest @ ..], []) => return right_weight.compare_with_longer().reverse(),
             ([x, xs_rest @ ..], [y, ys_rest @ ..]) => match x.cmp(y) {
                 Ordering::Equal => {
                     xs = xs_rest;

@@ -35,6 +35,13 @@ impl Text {
         })
     }
 
+    /// The text of these bytes, in the memory that holds them.
+    pub fn from_vec(items: Vec<u8>) -> Self
+        ensures { result ≡ items.items }
+    {
+        Text { items }
+    }
+
     /// Its bytes.
     pub fn as_slice(&self) -> &[u8]
         ensures { result.now ≡ self.now }
@@ -117,6 +124,15 @@ impl PartKey {
         Ok(PartKey {
             items: Vec::from_slice(alloc, items)?,
         })
+    }
+
+    /// The partition key of these bytes, of which there are 1 to 64, in the memory that holds them.
+    pub fn from_vec(items: Vec<u8>) -> Self
+        requires not_empty { 1 ≤ length items.items }
+        requires short { length items.items ≤ 64 }
+        ensures { result ≡ items.items }
+    {
+        PartKey { items }
     }
 
     /// Its bytes, of which there are 1 to 64.

@@ -1,5 +1,5 @@
 -- What a reader is given of a partition: lines, picked from all writes to it.
-use Rattle.std.specs.Prelude.{ℕ, Bool, ◌||◌, List, [], ◌++◌, Option, Some, None, if◌then◌else◌}
+use Rattle.std.specs.Prelude.{ℕ, ◌||◌, List, [], ◌++◌, Option, Some, None, if◌then◌else◌}
 use Rattle.std.specs.Option.{option_map, option_to_list}
 use Rattle.std.specs.List.{filter, filter_map, list_any}
 use Rattle.rc_cell.specs.declared.rows.Row.{Row}
@@ -9,9 +9,10 @@ use Rattle.rc_cell.specs.declared.writes.Tomb.{Tomb}
 use Rattle.rc_cell.specs.Deletion.{survives}
 use Rattle.rc_cell.specs.Winner.{all_cells, empty_row, markers, winners}
 use Rattle.rc_position.specs.declared.comps.Comp.{Comp}
+use Rattle.rc_position.specs.declared.positions.Pos.{Pos}
 use Rattle.rc_position.specs.declared.slices.Slice.{Slice}
 use Rattle.rc_position.specs.declared.positions.Weight.TheVariants.{Before, After}
-use Rattle.rc_position.specs.Position.{covers, row_pos}
+pub use Rattle.rc_mutation.specs.Slices.{in_slice}
 use Rattle.rc_mutation.specs.declared.mutations.Mutation.{Mutation}
 use Rattle.rc_mutation.specs.Fragments.{has_any}
 use Rattle.rc_mutation.specs.Source.{all_rows, cover, keys, rows_at, source_at_head, static_rows}
@@ -44,15 +45,21 @@ line_of cover key rows =
 abbrev pub line_at : List Mutation → List Comp → Option OutLine
 line_at changes key = line_of (cover changes key) key (rows_at key (all_rows changes))
 
--- whether the row of a key stands in a slice
-abbrev pub in_slice : Slice → List Comp → Bool
-in_slice slice key = covers slice.from slice.to (row_pos key)
+-- the lines of the keys that occur and stand in the slice, ascending, each once
+abbrev pub row_lines : List Mutation → Slice → List OutLine
+row_lines changes slice = filter_map (line_at changes) (filter (in_slice slice) (keys (all_rows changes)))
 
--- the static line, whatever the slice; then the lines of the keys that occur and stand in the slice, ascending, each once
+-- the static line, whatever the slice; then the row lines
 unfoldable pub answer : List Mutation → Slice → List OutLine
-answer changes slice =
-    option_to_list (static_line (source_at_head changes) (static_rows changes))
-    ++ filter_map (line_at changes) (filter (in_slice slice) (keys (all_rows changes)))
+answer changes slice = option_to_list (static_line (source_at_head changes) (static_rows changes)) ++ row_lines changes slice
+
+-- the part of a slice before a position
+abbrev pub sliced_before : Slice → Pos → Slice
+sliced_before slice x = record { from = slice.from; to = x }
+
+-- the part of a slice from a position on
+abbrev pub sliced_from : Slice → Pos → Slice
+sliced_from slice x = record { from = x; to = slice.to }
 
 -- all clustered positions
 abbrev pub whole : Slice

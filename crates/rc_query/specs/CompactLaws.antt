@@ -22,14 +22,14 @@ use Rattle.rc_ranges.specs.declared.pieces.Piece.{Piece}
 use Rattle.rc_ranges.specs.Cover.{IsCanonical}
 use Rattle.rc_ranges.specs.Cover.{cover as range_tomb}
 use Rattle.rc_ranges.specs.Sweep.{lt}
-use Rattle.rc_ranges.proofs.Order.{le-trans, lt-le, lt-trans}
-use Rattle.rc_ranges.proofs.Covering.{cover-none, cover-before, cover-inside, cover-behind}
+use Rattle.rc_ranges.specs.Laws.Order.{le-trans, lt-le, lt-trans}
+use Rattle.rc_ranges.specs.Laws.Covering.{cover-none, cover-before, cover-inside, cover-behind}
 use Rattle.rc_mutation.specs.declared.fragments.Frag.{Frag}
 use Rattle.rc_mutation.specs.declared.fragments.Frag.TheVariants as frag
 use Rattle.rc_mutation.specs.declared.mutations.Mutation.{Mutation}
 use Rattle.rc_mutation.specs.Fragments.{begins_at, changes_of, fragments, in_order, place_order, placed_change, placed_row, is_written}
 use Rattle.rc_mutation.specs.Source.{IsMutation}
-use Rattle.rc_mutation.proofs.FragMerge.{merge, merge_into, merge-in_order, fragment_of, rows-placed, changes-placed}
+use Rattle.rc_mutation.specs.Laws.FragMerge.{merge, merge_into, merge-in_order, fragment_of, rows-placed, changes-placed}
 use Rattle.rc_query.specs.declared.lines.OutLine.{OutLine}
 use Rattle.rc_query.specs.Answer.{answer, in_slice, static_line, whole}
 use Rattle.rc_query.specs.AnswerLaws.{answer-one, own_cover, own_line, row_line}

@@ -2,3 +2,4 @@ pub mod Answer
 pub mod AnswerLaws
 pub mod CompactLaws
 pub mod Compacting
+pub mod Laws

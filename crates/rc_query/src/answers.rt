@@ -6,14 +6,14 @@ ghost use Rattle.std.specs.List.{cons_option, filter_map, list_any};
 ghost use Rattle.rc_cell.specs.Deletion.{survives};
 ghost use Rattle.rc_mutation.specs.Rows.{IsRows};
 ghost use Rattle.rc_mutation.specs.Fragments.{has_any};
-ghost use Rattle.rc_query.specs.Answer.{answer, live_value, live_values, rows_alone, static_line, whole};
+ghost use Rattle.rc_query.specs.Answer.{answer, in_slice, live_value, live_values, rows_alone, static_line, whole};
 ghost use Rattle.rc_query.specs.AnswerLaws.{own_line, row_line};
 
 use crate::lines::{Lines, OutLine};
 use crate::shown::Shown;
 use rc_cell::{Cell, Row, Tomb, Value};
-use rc_mutation::{Mutation, Rows, greater_tomb};
-use rc_position::{Key, Pos, Slice, Weight, end_pos, start_pos};
+use rc_mutation::{Mutation, Rows, Statics, greater_tomb};
+use rc_position::{Key, Slice, end_pos, start_pos};
 use rc_ranges::Ranges;
 use std::alloc::{AllocError, Global};
 
@@ -26,7 +26,7 @@ pub fn answer_of(alloc: Global, change: &Mutation, slice: &Slice) -> Result<Line
     let mut lines = Vec::new(alloc);
     push_line(
         &mut lines,
-        line_of_statics(alloc, change.pt, &change.statics)?,
+        line_of_statics(alloc, change.pt, change.statics.as_row())?,
     )?;
     append_lines(alloc, &mut lines, change, slice)?;
     Ok(Lines::of(lines))
@@ -44,7 +44,7 @@ pub fn shown_rows(alloc: Global, rows: &Rows) -> Result<Lines, AllocError>
     };
     let change = Mutation {
         pt: None,
-        statics: Row::empty(alloc),
+        statics: Statics::empty(alloc),
         rows: rows.copy(alloc)?,
         ranges: Ranges::empty(alloc),
     };
@@ -87,16 +87,20 @@ fn line_in(
 ) -> Result<Option<OutLine>, AllocError>
     ensures { IfOk result (λ line. line ≡ own_line change.now slice.now (key.now, row.now)) }
 {
-    let place = Pos {
-        prefix: key.copy(alloc)?,
-        weight: Weight::At,
-    };
-    if slice.has(&place) {
-        let outer = greater_tomb(change.pt, change.ranges.at(&place));
+    if has_row(slice, key) {
+        let outer = greater_tomb(change.pt, change.ranges.at_row(key));
         line_of_row(alloc, outer, key, row)
     } else {
         Ok(None)
     }
+}
+
+// Whether the row of the key stands in the slice.
+#[tactic(auto, using(crate::proofs::Steps::turned_ge))]
+fn has_row(slice: &Slice, key: &Key) -> bool
+    ensures { result ≡ in_slice slice.now key.now }
+{
+    key.compare_with_pos(&slice.from).is_ge() && key.compare_with_pos(&slice.to).is_lt()
 }
 
 // The static line under the partition tombstone, if it has one.

@@ -3,7 +3,7 @@ ghost use Rattle.rc_cell.specs.Winner.{empty_row};
 
 use crate::{Compactor, Lines, OutLine, Shown, answer_of, shown_rows};
 use rc_cell::{Cell, Cells, Row, Tomb, Value};
-use rc_mutation::{Head, Mutation, Rows};
+use rc_mutation::{Head, Mutation, Rows, Statics};
 use rc_position::{Comp, Key, Slice, end_pos, start_pos};
 use std::alloc::{AllocError, Global};
 use std::test::Fail;
@@ -115,7 +115,7 @@ fn a_tombstone_covers_its_own_timestamp(rt: HostRuntime) -> Result<(), Fail> {
 fn four_rows(alloc: Global, pt: Option<Tomb>) -> Result<Mutation, AllocError> {
     let mut change = Mutation::empty(alloc);
     change.pt = pt;
-    change.statics = updated(alloc, live(alloc, 5, b"x")?)?;
+    change.statics = Statics::from_cells(updated(alloc, live(alloc, 5, b"x")?)?.cells);
     for n in 1..5i64 {
         let key = key(alloc, n)?;
         change.rows.join_row(alloc, &key, &inserted(alloc, 10))?;
@@ -134,7 +134,7 @@ fn lines_in_slice(alloc: Global, change: &Mutation) -> Result<usize, AllocError>
 
 // How many lines their fragments give.
 fn lines_of_fragments(alloc: Global, change: &Mutation) -> Result<u8, AllocError> {
-    let statics = change.statics.copy(alloc)?;
+    let statics = change.statics.as_row().copy(alloc)?;
     let mut compactor = Compactor::new(
         alloc,
         &Head {

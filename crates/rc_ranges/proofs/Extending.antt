@@ -13,9 +13,9 @@ use Rattle.rc_cell.specs.Beats.{tomb_cmp-IsAntisymmetric}
 use Rattle.rc_ranges.specs.declared.pieces.Piece.{Piece}
 use Rattle.rc_ranges.specs.Cover.{cover, MayFollow, IsCanonical}
 use Rattle.rc_ranges.specs.Sweep.{lt, goes_on, extended}
-use Rattle.rc_ranges.proofs.Order.{gt-lt, before-lt, lt-before, lt-irrefl, lt-asym, lt-trans, le-trans}
-use Rattle.rc_ranges.proofs.Greater.{greater-none, greater-assoc}
-use Rattle.rc_ranges.proofs.Covering.{piece_at, piece_at-inside, piece_at-before, piece_at-behind, cover-none, cover-cons}
+use Rattle.rc_ranges.specs.Laws.Order.{gt-lt, before-lt, lt-before, lt-irrefl, lt-asym, lt-trans, le-trans}
+use Rattle.rc_ranges.specs.Laws.Greater.{greater-none, greater-assoc}
+use Rattle.rc_ranges.specs.Laws.Covering.{piece_at, piece_at-inside, piece_at-before, piece_at-behind, cover-none, cover-cons}
 
 -- no piece ends behind the mark
 abbrev pub EndBy : List Piece → Pos → Type 0

@@ -1,16 +1,17 @@
 -- The piece that covers a position, found among pieces in order.
-use Rattle.std.proofs.Common.{◌≡◌, ℕ, zero, suc, ◌<◌, ◌≤◌, Bool, true, false, not, cond, List, [], ◌∷◌, length, drop, get_or, Some, None, refl, sym, ap, ◌∙◌, arith}
+use Rattle.std.proofs.Common.{◌≡◌, ℕ, zero, suc, ◌<◌, ◌≤◌, Bool, true, false, not, cond, List, [], ◌∷◌, length, drop, get_or, Some, None, refl, sym, ap, ◌∙◌, subst, arith}
 use Rattle.std.specs.declared.cmp.Ordering.{Ordering}
 use Rattle.std.specs.declared.cmp.Ordering.TheVariants.{Less, Equal, Greater}
-use Rattle.std.specs.Ordering.{is_le, is_gt}
+use Rattle.std.specs.Ordering.{is_ge, is_le, is_gt, ordering_reverse}
 use Rattle.std.specs.List.Sorted.{IsPartitionedBy}
 use Rattle.rc_position.specs.declared.positions.Pos.{Pos}
 use Rattle.rc_position.specs.Position.{pos_cmp}
+use Rattle.rc_position.specs.OrderLaws.{pos_cmp_total}
 use Rattle.rc_ranges.specs.declared.pieces.Piece.{Piece}
 use Rattle.rc_ranges.specs.Cover.{cover, IsCanonical}
 use Rattle.rc_ranges.specs.Sweep.{lt, in_force}
-use Rattle.rc_ranges.proofs.Order.{gt-lt, before-lt, lt-irrefl, lt-asym, le-trans}
-use Rattle.rc_ranges.proofs.Covering.{cover-none, cover-before, cover-inside, cover-behind}
+use Rattle.rc_ranges.specs.Laws.Order.{gt-lt, before-lt, lt-irrefl, lt-asym, le-trans}
+use Rattle.rc_ranges.specs.Laws.Covering.{cover-none, cover-before, cover-inside, cover-behind}
 
 -- whether a piece ends at a position or before
 abbrev pub ends_by : Pos → Piece → Bool
@@ -75,3 +76,23 @@ cover-point (p ∷ ps) (suc i) x c below above =
     let ends : lt x p.to ≡ false = ends_by-so x p (below 0 p (omega arith) (omega arith)) in
     cover-behind p ps x ends
     ∙ cover-point ps i x c.2 (λ k d h g. below (suc k) d (omega arith) (omega arith)) (λ k d h g. above (suc k) d (omega arith) (omega arith))
+
+-- whether a position is where a piece ends or behind it
+abbrev pub ended : Pos → Piece → Bool
+ended x p = is_ge (pos_cmp x p.to)
+
+turn_ge : (r : Ordering) → is_ge (ordering_reverse r) ≡ is_le r
+turn_ge Less = refl
+turn_ge Equal = refl
+turn_ge Greater = refl
+
+-- that is where the piece ends by the position
+pub ended-ends_by : (x : Pos) (p : Piece) → ended x p ≡ ends_by x p
+ended-ends_by x p = ap is_ge (pos_cmp_total.antisymm x p.to) ∙ turn_ge (pos_cmp p.to x)
+
+-- so what holds of the one holds of the other
+pub by_ended : (P : (Piece → Bool) → Type 0) (x : Pos) → P (ends_by x) → P (ended x)
+by_ended P x h = subst P (λ i p. (sym (ended-ends_by x p)) i) h
+
+pub by_ends : (P : (Piece → Bool) → Type 0) (x : Pos) → P (ended x) → P (ends_by x)
+by_ends P x h = subst P (λ i p. ended-ends_by x p i) h

@@ -8,9 +8,9 @@ use Rattle.rc_cell.specs.Greatest.{greater}
 use Rattle.rc_ranges.specs.declared.pieces.Piece.{Piece}
 use Rattle.rc_ranges.specs.Cover.{cover, IsCanonical, IsJoinOf}
 use Rattle.rc_ranges.specs.Sweep.{lt, in_force, next_bound, rest_from, earlier, bounds_left, extended_by}
-use Rattle.rc_ranges.proofs.Order.{gt-lt, before-lt, lt-before, lt-irrefl, lt-asym, le-trans, le-lt, lt-le}
-use Rattle.rc_ranges.proofs.Greater.{greater-none}
-use Rattle.rc_ranges.proofs.Covering.{piece_at-inside, piece_at-before, cover-none, cover-before, cover-inside, cover-behind}
+use Rattle.rc_ranges.specs.Laws.Order.{gt-lt, before-lt, lt-before, lt-irrefl, lt-asym, le-trans, le-lt, lt-le}
+use Rattle.rc_ranges.specs.Laws.Greater.{greater-none}
+use Rattle.rc_ranges.specs.Laws.Covering.{piece_at-inside, piece_at-before, cover-none, cover-before, cover-inside, cover-behind}
 use Rattle.rc_ranges.proofs.Extending.{EndBy, EndBy-later, EndBy-cover, cover-extended, IsCanonical-extended, EndBy-extended}
 
 -- the first piece ends behind the mark

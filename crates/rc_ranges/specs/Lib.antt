@@ -1,2 +1,3 @@
 pub mod Cover
 pub mod Sweep
+pub mod Laws

@@ -1,13 +1,13 @@
 //! The canonical list of pieces.
 
 ghost use Rattle.std.specs.Prelude.{◌≡◌, [], ◌∷◌, IfOk, OnOk, OnErr};
-ghost use Rattle.rc_position.specs.Position.{IsBefore};
+ghost use Rattle.rc_position.specs.Position.{IsBefore, row_pos};
 ghost use Rattle.rc_ranges.specs.Cover.{cover, IsCanonical, IsJoinOf};
 
 use crate::pieces::Piece;
-use crate::sweep::{joined, tomb_in_force};
+use crate::sweep::{joined, tomb_in_force, tomb_in_force_at_row};
 use rc_cell::Tomb;
-use rc_position::Pos;
+use rc_position::{Key, Pos};
 use std::alloc::{AllocError, Global};
 use std::marker::Model;
 
@@ -50,6 +50,14 @@ impl Ranges {
             copies.push(piece.copy(alloc)?)?;
         }
         Ok(Ranges { items: copies })
+    }
+
+    /// The range tombstones of these pieces, in the memory that holds them.
+    pub fn from_vec(items: Vec<Piece>) -> Self
+        requires { IsCanonical items.items }
+        ensures { result ≡ items.items }
+    {
+        Ranges { items }
     }
 
     /// The pieces, in order.
@@ -98,6 +106,13 @@ impl Ranges {
     {
         tomb_at(self.items.as_slice(), x)
     }
+
+    /// The tombstone in force at the row of a key, none where no piece covers it. It takes no memory.
+    pub fn at_row(&self, key: &Key) -> Option<Tomb>
+        ensures { result ≡ cover self.now (row_pos key.now) }
+    {
+        tomb_at_row(self.items.as_slice(), key)
+    }
 }
 
 // The tombstone of the piece that covers the position. Only the first that ends behind it can.
@@ -107,4 +122,13 @@ fn tomb_at(pieces: &[Piece], x: &Pos) -> Option<Tomb>
 {
     let first = pieces.partition_point(|piece| piece.to <= *x);
     tomb_in_force(&pieces[first..], x)
+}
+
+// The tombstone of the piece that covers the row of the key. Only the first that ends behind it can.
+fn tomb_at_row(pieces: &[Piece], key: &Key) -> Option<Tomb>
+    requires { IsCanonical pieces.now }
+    ensures { result ≡ cover pieces.now (row_pos key.now) }
+{
+    let first = pieces.partition_point(|piece| key.compare_with_pos(&piece.to).is_ge());
+    tomb_in_force_at_row(&pieces[first..], key)
 }

@@ -4,6 +4,7 @@ ghost use Rattle.std.specs.Prelude.{◌≡◌, [], ◌∷◌, ◌++◌, IfOk, On
 ghost use Rattle.std.specs.Option.{option_copied};
 ghost use Rattle.rc_cell.specs.Orders.{tomb_cmp};
 ghost use Rattle.rc_cell.specs.Greatest.{greater};
+ghost use Rattle.rc_position.specs.Position.{row_pos};
 ghost use Rattle.rc_ranges.specs.Cover.{IsCanonical, IsJoinOf};
 ghost use Rattle.rc_ranges.specs.Sweep.{in_force, next_bound, rest_from, earlier, goes_on, extended, extended_by};
 
@@ -32,6 +33,23 @@ pub(crate) fn tomb_in_force(pieces: &[Piece], mark: &Pos) -> Option<Tomb>
         [] => None,
         [first, _rest @ ..] => {
             if *mark < first.from {
+                None
+            } else {
+                Some(first.tomb)
+            }
+        }
+    }
+}
+
+// The tombstone from the row of the key up to the next bound.
+#[tactic(auto, unfolding(crate::specs::Sweep::lt))]
+pub(crate) fn tomb_in_force_at_row(pieces: &[Piece], key: &Key) -> Option<Tomb>
+    ensures { result ≡ in_force pieces.now (row_pos key.now) }
+{
+    match pieces {
+        [] => None,
+        [first, _rest @ ..] => {
+            if key.compare_with_pos(&first.from).is_lt() {
                 None
             } else {
                 Some(first.tomb)

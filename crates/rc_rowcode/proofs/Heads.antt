@@ -9,7 +9,7 @@ use Rattle.rc_cell.specs.Laws.{same_row}
 use Rattle.rc_rowcode.specs.Spelling.{optional_code, tomb_code, entry_code, cells_code, row_code, IsEntry, IsCodedRow}
 use Rattle.rc_rowcode.specs.Reading.{stamp_at, optional_at, tomb_at}
 use Rattle.rc_rowcode.specs.Joining.{listed}
-use Rattle.rc_rowcode.proofs.RowCodec.{marker_again, row_tomb_again, first_again}
+use Rattle.rc_rowcode.specs.Laws.RowCodec.{marker_again, row_tomb_again, first_again}
 
 listed_coded : (es : List (ℕ × Cell)) → AllByRecursion IsEntry es → listed (length es) (flat_map entry_code es) ≡ es
 unfolding listed

@@ -1,10 +1,5 @@
 pub mod Loops
-pub mod Fields
-pub mod Codecs
-pub mod RowCodec
-pub mod Sizes
-pub mod Read
-pub mod Limits
 pub mod Merging
 pub mod Heads
 pub mod Joins
+pub mod Comparing

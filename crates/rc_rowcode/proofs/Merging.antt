@@ -10,7 +10,7 @@ use Rattle.rc_cell.specs.declared.writes.Cell.{Cell}
 use Rattle.rc_cell.specs.Columns.{ascending}
 use Rattle.rc_cell.specs.Winner.{winner, winners}
 use Rattle.rc_cell.specs.ByColumn.{holds, test_of, second, winners-ascending}
-use Rattle.rc_cell.proofs.Merge.{pick, merge, merge-winners, picked, winner-pair}
+use Rattle.rc_cell.specs.Laws.Merge.{pick, merge, merge-winners, picked, winner-pair}
 use Rattle.rc_cell.specs.Orders.{cell_cmp}
 use Rattle.rc_rowcode.specs.Reading.{entry_at}
 use Rattle.rc_rowcode.specs.Joining.{listed}

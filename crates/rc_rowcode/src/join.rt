@@ -13,7 +13,7 @@ ghost use Rattle.rc_rowcode.specs.Joining.{listed, seen_entries, seen_row, merge
 ghost use Rattle.rc_rowcode.specs.Space.{Space, HasRoom};
 
 use crate::cells::{CellView, append_entry, entry_at};
-use crate::numbers::append_byte;
+use crate::numbers::{append_byte, byte_at};
 use crate::rows::{
     append_marker, append_row_tomb, marker_at, marker_size, row_tomb_at, row_tomb_size,
 };
@@ -164,16 +164,6 @@ fn append_merged(out: &mut Vec<u8>, merge: Merge<'_>)
     }
 }
 
-// A count at the front, and what follows it.
-fn counted(bytes: &[u8]) -> Option<(u8, &[u8])>
-    ensures { MatchOption result (bytes.now ≡ []) (λ x. bytes.now ≡ x.0 ∷ x.1.now) }
-{
-    match bytes {
-        [] => None,
-        [count, rest @ ..] => Some((*count, rest)),
-    }
-}
-
 // A row's code, taken apart; any parts of other bytes.
 fn head_of(bytes: &[u8]) -> Head<'_>
     ensures { (r : Row) → IsCodedRow r → bytes.now ≡ row_code r → seen_row result ≡ r }
@@ -192,7 +182,7 @@ fn head_of(bytes: &[u8]) -> Head<'_>
     let Some((tomb, rest)) = row_tomb_at(rest) else {
         return nothing;
     };
-    let Some((count, rest)) = counted(rest) else {
+    let Some((count, rest)) = byte_at(rest) else {
         return nothing;
     };
     Head {
@@ -252,11 +242,13 @@ pub fn join_codes(a: &[u8], b: &[u8], out: &mut Scratch)
     out.put_parts(marker, tomb, merge);
 }
 
-/// The length of the code of the joined row of two row codes. Both must be row codes. It takes no memory.
+/// The length of the code of the joined row of two row codes, at most that of both together. Both must be row codes. It
+/// takes no memory.
 pub fn join_size(a: &[u8], b: &[u8]) -> usize
     requires ours { IsCode row_code IsCodedRow a.now }
     requires theirs { IsCode row_code IsCodedRow b.now }
     ensures small { result ≤ 8599 }
+    ensures together { result ≤ length a.now + length b.now }
     ensures value { (r q : Row) → IsCodedRow r → IsCodedRow q → a.now ≡ row_code r → b.now ≡ row_code q → result ≡ length (row_code (joined_row (r ∷ q ∷ []))) }
 {
     let ours = head_of(a);

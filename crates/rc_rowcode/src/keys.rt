@@ -4,13 +4,16 @@ ghost use Rattle.std.specs.Prelude.{◌≡◌, ◌≤◌, ◌<◌, ◌+◌, ◌^
 ghost use Rattle.std.specs.Option.{option_map};
 ghost use Rattle.std.specs.List.{flat_map, AllByRecursion};
 ghost use Rattle.std.specs.Vec.{vec_capacity};
+ghost use Rattle.rc_position.specs.Position.{comp_cmp};
 ghost use Rattle.rc_rowcode.specs.Spelling.{comp_code, key_code, weight_byte, pos_code, CompFits, KeyFits, IsKey, IsPos, Reads};
 ghost use Rattle.rc_rowcode.specs.Reading.{text_at, comp_at, comps_at, key_at, pos_at};
 ghost use Rattle.rc_rowcode.specs.Views.{seen_comp};
 
 use crate::numbers::{append, append_byte, append_stamp, bytes_at, stamp_at};
+use crate::widths::key_in_range;
 use rc_position::{Comp, Key, Pos, Text, Weight};
 use std::alloc::{AllocError, Global};
+use std::cmp::Ordering;
 
 /// A component whose text lies elsewhere.
 #[derive(Clone, Copy)]
@@ -19,7 +22,31 @@ pub(crate) enum CompView<'a> {
     Text(&'a [u8]),
 }
 
+impl<'a> CompView<'a> {
+    /// The component, with its text in place.
+    pub(crate) fn of(comp: &'a Comp) -> Self
+        ensures { seen_comp result ≡ comp.now }
+    {
+        match comp {
+            Comp::Int(number) => CompView::Int(*number),
+            Comp::Text(text) => CompView::Text(text.as_slice()),
+        }
+    }
+}
+
 impl CompView<'_> {
+    /// The order of components.
+    pub(crate) fn order(&self, other: &CompView<'_>) -> Ordering
+        ensures { result ≡ comp_cmp (seen_comp self.now) (seen_comp other.now) }
+    {
+        match (self, other) {
+            (CompView::Int(a), CompView::Int(b)) => a.cmp(b),
+            (CompView::Int(_), CompView::Text(_)) => Ordering::Less,
+            (CompView::Text(_), CompView::Int(_)) => Ordering::Greater,
+            (CompView::Text(a), CompView::Text(b)) => a.cmp(b),
+        }
+    }
+
     /// An equal component of its own memory, or want of memory.
     fn copy(&self, alloc: Global) -> Result<Comp, AllocError>
         ensures { IfOk result (λ comp. comp ≡ seen_comp self.now) }
@@ -44,8 +71,9 @@ fn text_at(bytes: &[u8]) -> Option<(CompView<'_>, &[u8])>
     }
 }
 
+/// The component at the front, and what follows it.
 #[tactic(auto, unfolding(crate::specs::Reading::comp_at))]
-fn comp_at(bytes: &[u8]) -> Option<(CompView<'_>, &[u8])>
+pub(crate) fn comp_at(bytes: &[u8]) -> Option<(CompView<'_>, &[u8])>
     ensures { option_map (λ x. (seen_comp x.0, x.1.now)) result ≡ comp_at bytes.now }
 {
     match bytes {
@@ -93,8 +121,7 @@ fn key_at(alloc: Global, bytes: &[u8]) -> Result<Option<(Key, &[u8])>, AllocErro
             let Some((comps, rest)) = comps_at(alloc, *count, rest)? else {
                 return Ok(None);
             };
-            let key = Key::from_slice(alloc, comps.as_slice())?;
-            Ok(Some((key, rest)))
+            Ok(Some((Key::from_vec(comps), rest)))
         }
     }
 }
@@ -213,7 +240,9 @@ pub fn key_size(key: &Key) -> usize
     requires { KeyFits key.now }
     ensures value { result ≡ length (key_code key.now) }
     ensures small { result ≤ 265 }
+    ensures coded { IsKey key.now }
 {
+    key_in_range(key);
     1 + comps_size(key.as_slice())
 }
 
@@ -222,6 +251,7 @@ pub fn pos_size(pos: &Pos) -> usize
     requires { KeyFits pos.now.prefix }
     ensures value { result ≡ length (pos_code pos.now) }
     ensures small { result ≤ 266 }
+    ensures coded { IsPos pos.now }
 {
     1 + key_size(&pos.prefix)
 }
@@ -231,6 +261,7 @@ pub fn write_key(_alloc: Global, key: &Key, out: &mut Vec<u8>) -> Result<(), All
     requires { KeyFits key.now }
     ensures ok { OnOk result (out.new.items ≡ out.old.items ++ key_code key.now) }
     ensures err { OnErr result (out.new.items ≡ out.old.items) }
+    ensures coded { IsKey key.now }
 {
     out.reserve(key_size(key))?;
     append_key(out, key);
@@ -242,6 +273,7 @@ pub fn write_pos(_alloc: Global, x: &Pos, out: &mut Vec<u8>) -> Result<(), Alloc
     requires { KeyFits x.now.prefix }
     ensures ok { OnOk result (out.new.items ≡ out.old.items ++ pos_code x.now) }
     ensures err { OnErr result (out.new.items ≡ out.old.items) }
+    ensures coded { IsPos x.now }
 {
     out.reserve(pos_size(x))?;
     append_pos(out, x);

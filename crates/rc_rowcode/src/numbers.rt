@@ -1,10 +1,20 @@
 //! Numbers and runs of bytes, at the front of bytes and at the end of a vector.
 
-ghost use Rattle.std.specs.Prelude.{◌≡◌, ◌≤◌, ◌+◌, ◌++◌, [], ◌∷◌, length};
+ghost use Rattle.std.specs.Prelude.{◌≡◌, ◌≤◌, ◌+◌, ◌++◌, [], ◌∷◌, length, MatchOption};
 ghost use Rattle.std.specs.Option.{option_map, IfSome};
 ghost use Rattle.std.specs.Vec.{vec_capacity};
 ghost use Rattle.rc_rowcode.specs.Spelling.{stamp_code, time_code, length_code};
 ghost use Rattle.rc_rowcode.specs.Reading.{stamp_at, time_at, length_at, bytes_at};
+
+/// The first byte, and what follows it.
+pub(crate) fn byte_at(bytes: &[u8]) -> Option<(u8, &[u8])>
+    ensures { MatchOption result (bytes.now ≡ []) (λ x. bytes.now ≡ x.0 ∷ x.1.now) }
+{
+    match bytes {
+        [] => None,
+        [byte, rest @ ..] => Some((*byte, rest)),
+    }
+}
 
 /// The timestamp at the front, and what follows it.
 #[tactic(auto, unfolding(crate::specs::Reading::stamp_at))]

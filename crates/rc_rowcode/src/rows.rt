@@ -10,6 +10,7 @@ ghost use Rattle.rc_rowcode.specs.Reading.{stamp_at, tomb_at, optional_at, entri
 
 use crate::cells::{CellView, append_entry, append_tomb, entry_at, tomb_at};
 use crate::numbers::{append_byte, append_stamp, stamp_at};
+use crate::widths::{row_in_range, tomb_in_range};
 use rc_cell::{Cell, Cells, Row, Tomb};
 use std::alloc::{AllocError, Global};
 
@@ -80,8 +81,7 @@ fn cells_at(alloc: Global, bytes: &[u8]) -> Result<Option<(Cells, &[u8])>, Alloc
             let Some((cells, rest)) = entries_at(alloc, *count, rest)? else {
                 return Ok(None);
             };
-            let cells = Cells::from_slice(alloc, cells.as_slice())?;
-            Ok(Some((cells, rest)))
+            Ok(Some((Cells::from_vec(cells), rest)))
         }
     }
 }
@@ -221,21 +221,25 @@ pub(crate) fn row_tomb_size(tomb: Option<Tomb>) -> usize
     }
 }
 
-/// The length of a row's code, in bytes.
+/// The length of a row's code, in bytes. What it spells is a row that has a code, so the code can be joined.
 pub fn row_size(row: &Row) -> usize
     requires { RowFits row.now }
     ensures value { result ≡ length (row_code row.now) }
     ensures small { result ≤ 8599 }
+    ensures coded { IsCodedRow row.now }
 {
+    row_in_range(row);
     let cells = 1 + entries_size(row.cells.as_slice());
     marker_size(row.marker) + row_tomb_size(row.tomb) + cells
 }
 
-/// Appends the row's code. The only error is want of memory, and then nothing is appended.
+/// Appends the row's code, which can be joined with others. The only error is want of memory, and then nothing is
+/// appended.
 pub fn write_row(_alloc: Global, row: &Row, out: &mut Vec<u8>) -> Result<(), AllocError>
     requires { RowFits row.now }
     ensures ok { OnOk result (out.new.items ≡ out.old.items ++ row_code row.now) }
     ensures err { OnErr result (out.new.items ≡ out.old.items) }
+    ensures coded { IsCodedRow row.now }
 {
     out.reserve(row_size(row))?;
     append_row(out, row);
@@ -247,7 +251,9 @@ pub fn write_row(_alloc: Global, row: &Row, out: &mut Vec<u8>) -> Result<(), All
 pub fn write_tomb(_alloc: Global, tomb: &Tomb, out: &mut Vec<u8>) -> Result<(), AllocError>
     ensures ok { OnOk result (out.new.items ≡ out.old.items ++ tomb_code tomb.now) }
     ensures err { OnErr result (out.new.items ≡ out.old.items) }
+    ensures coded { IsTomb tomb.now }
 {
+    tomb_in_range(Some(*tomb));
     out.reserve(12)?;
     append_tomb(out, *tomb);
     Ok(())

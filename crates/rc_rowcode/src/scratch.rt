@@ -2,7 +2,7 @@
 
 ghost use Rattle.std.specs.Prelude.{◌≡◌, ◌++◌, ◌≤◌, ◌+◌, [], length, IfOk};
 ghost use Rattle.std.specs.Vec.{vec_capacity};
-ghost use Rattle.rc_rowcode.specs.Spelling.{key_code, pos_code, row_code, KeyFits, RowFits};
+ghost use Rattle.rc_rowcode.specs.Spelling.{key_code, pos_code, row_code, KeyFits, RowFits, IsKey, IsPos, IsCodedRow};
 ghost use Rattle.rc_rowcode.specs.Joining.{merged, AreSorted};
 ghost use Rattle.rc_rowcode.specs.Space.{Space, HasRoom};
 
@@ -10,6 +10,7 @@ use crate::join::{Merge, append_parts};
 use crate::keys::{append_key, append_pos};
 use crate::numbers::append;
 use crate::rows::append_row;
+use crate::widths::{key_in_range, pos_in_range, row_in_range};
 use rc_cell::{Row, Tomb};
 use rc_position::{Key, Pos};
 use std::alloc::{AllocError, Global};
@@ -66,12 +67,14 @@ impl Scratch {
         append(&mut self.items, bytes);
     }
 
-    /// Appends the code of a row, which fits.
+    /// Appends the code of a row, which fits. It can be joined with others.
     pub fn put_row(&mut self, row: &Row)
         requires limits { RowFits row.now }
         requires room { HasRoom self.old (length (row_code row.now)) }
-        ensures { self.new ≡ record { bytes = self.old.bytes ++ row_code row.now; size = self.old.size } }
+        ensures value { self.new ≡ record { bytes = self.old.bytes ++ row_code row.now; size = self.old.size } }
+        ensures coded { IsCodedRow row.now }
     {
+        row_in_range(row);
         append_row(&mut self.items, row);
     }
 
@@ -79,8 +82,10 @@ impl Scratch {
     pub fn put_key(&mut self, key: &Key)
         requires limits { KeyFits key.now }
         requires room { HasRoom self.old (length (key_code key.now)) }
-        ensures { self.new ≡ record { bytes = self.old.bytes ++ key_code key.now; size = self.old.size } }
+        ensures value { self.new ≡ record { bytes = self.old.bytes ++ key_code key.now; size = self.old.size } }
+        ensures coded { IsKey key.now }
     {
+        key_in_range(key);
         append_key(&mut self.items, key);
     }
 
@@ -88,8 +93,10 @@ impl Scratch {
     pub fn put_pos(&mut self, x: &Pos)
         requires limits { KeyFits x.now.prefix }
         requires room { HasRoom self.old (length (pos_code x.now)) }
-        ensures { self.new ≡ record { bytes = self.old.bytes ++ pos_code x.now; size = self.old.size } }
+        ensures value { self.new ≡ record { bytes = self.old.bytes ++ pos_code x.now; size = self.old.size } }
+        ensures coded { IsPos x.now }
     {
+        pos_in_range(x);
         append_pos(&mut self.items, x);
     }
 

@@ -1,10 +1,10 @@
 //! A plain computation of partitions' rows beside the program, over scripts that seeds make.
 
-use crate::served::served;
-use rc_shell::Status;
+use crate::case::Case;
+use crate::running::outcome_of;
+use rc_outside::MemStore;
 use std::alloc::{AllocError, Global};
 use std::fmt::Write;
-use std::test::Fail;
 
 /// The partitions of these scripts.
 const NAMES: [u8; 3] = [b'p', b'q', b'r'];
@@ -153,16 +153,14 @@ fn wanted(alloc: Global, changes: &[Change]) -> Result<String, AllocError> {
     Ok(text)
 }
 
-#[test]
-fn agrees_with_a_plain_computation(rt: HostRuntime) -> Result<(), Fail> {
-    let alloc = rt.alloc();
-    for seed in 1..9u32 {
-        let changes = changes(alloc, seed)?;
-        let script = script_of(alloc, changes.as_slice())?;
-        let wanted = wanted(alloc, changes.as_slice())?;
-        let (status, text) = served(alloc, &["run"], script.as_str())?;
-        assert_eq!(rt; status, Status::Done, "{seed}");
-        assert_eq!(rt; text.as_slice(), wanted.as_bytes(), "{seed}");
-    }
-    Ok(())
+/// Whether the program gives for the script of a seed what the plain computation does.
+pub(crate) fn is_agreed(alloc: Global, seed: u32) -> Result<bool, AllocError> {
+    let changes = changes(alloc, seed)?;
+    let script = script_of(alloc, changes.as_slice())?;
+    let wanted = wanted(alloc, changes.as_slice())?;
+    let mut case = Case::new(alloc, "a seed")?;
+    case.input.extend_from_slice(script.as_bytes())?;
+    let mut store = MemStore::new(alloc)?;
+    let found = outcome_of(alloc, &case, &mut store)?;
+    Ok(found.status == 0 && found.text.as_slice() == wanted.as_bytes())
 }

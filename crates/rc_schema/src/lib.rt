@@ -15,5 +15,7 @@ pub use checks::SchemaErr;
 pub use kinds::CkKind;
 pub use laws::{
     printed_schemas_read_back, read_schemas_are_within_limits, read_schemas_print_back,
+    what_fits_is_no_larger_than_the_largest, what_fits_is_within_the_limits,
+    what_fits_joins_to_what_fits,
 };
 pub use schemas::{Schema, SchemaTextErr};

@@ -4,7 +4,9 @@ ghost use Rattle.std.specs.Prelude.{◌≡◌, ◌↔◌, ◌++◌, ◌&&◌, If
 ghost use Rattle.std.specs.List.{list_all, join_with_byte};
 ghost use Rattle.rc_schema.specs.Lists.{Lists, are_few, are_names, is_schema};
 ghost use Rattle.rc_schema.specs.SchemaText.{schema_text, kind_text, names_text, lists_named, are_listed, listed, marked, schema_of_words, schema_of, Reads};
+ghost use Rattle.rc_rowcode.specs.Spelling.{KeyFits, RowFits};
 ghost use Rattle.rc_schema.specs.Checks.{column_of, checked_prefix, checked_cells, columns};
+ghost use Rattle.rc_schema.specs.Largest.{component_size, components_size, largest_entry, largest_static};
 
 use crate::checks::{SchemaErr, are_known, are_short, fits_kinds, have_short_values};
 use crate::kinds::CkKind;
@@ -13,6 +15,7 @@ use crate::printing::{print_kinds, print_names};
 use crate::words::{are_kinds, items, kinds, names, words};
 use rc_cell::Row;
 use rc_position::{Key, Text};
+use rc_rowcode::up8;
 use std::alloc::{AllocError, Global};
 use std::marker::Model;
 use thiserror::Error;
@@ -202,7 +205,7 @@ impl Schema {
         print_names(self.statics.as_slice(), &mut text)?;
         text.extend_from_slice(b" cols=")?;
         print_names(self.cols.as_slice(), &mut text)?;
-        Text::from_slice(alloc, text.as_slice())
+        Ok(Text::from_vec(text))
     }
 
     /// An equal schema. The only error is want of memory.
@@ -269,12 +272,30 @@ impl Schema {
         column_of(self.statics.as_slice(), name)
     }
 
+    /// The bytes of the largest entry of a row that fits the schema.
+    pub fn largest_entry(&self) -> usize
+        ensures value { result ≡ largest_entry self.now }
+        ensures small { result ≤ 8952 }
+    {
+        let position = 2 + components_size(self.ck.as_slice());
+        up8(80 + position + 9 + 13 + 1 + 268 * self.cols.len())
+    }
+
+    /// The bytes of the largest static row that fits the schema.
+    pub fn largest_static(&self) -> usize
+        ensures value { result ≡ largest_static self.now }
+        ensures small { result ≤ 2184 }
+    {
+        up8(32 + 1 + 1 + 1 + 268 * self.statics.len())
+    }
+
     /// Whether a clustering key, or where it need not be full a prefix of one, fits the schema. Refused as a wrong key
     /// exactly where a count or a kind of components differs, and else as too long exactly where a text component has
     /// more than 64 bytes.
     #[tactic(auto, unfolding(crate::specs::Checks::checked_prefix))]
     pub fn check_prefix(&self, key: &Key, full: bool) -> Result<(), SchemaErr>
-        ensures { result ≡ checked_prefix full self.now key.now }
+        ensures value { result ≡ checked_prefix full self.now key.now }
+        ensures limits { OnOk result (KeyFits key.now) }
     {
         if !fits_kinds(full, self.ck.as_slice(), key.as_slice()) {
             return Err(SchemaErr::WrongKey);
@@ -290,7 +311,8 @@ impl Schema {
     /// 256 bytes.
     #[tactic(auto, unfolding(crate::specs::Checks::checked_cells))]
     pub fn check_row(&self, row: &Row, is_static: bool) -> Result<(), SchemaErr>
-        ensures { result ≡ checked_cells is_static self.now row.now.cells }
+        ensures value { result ≡ checked_cells is_static self.now row.now.cells }
+        ensures limits { OnOk result (RowFits row.now) }
     {
         let columns = if is_static {
             self.statics.len()
@@ -325,6 +347,32 @@ fn place_of(names: &[Text], name: &[u8]) -> Option<usize>
     names
         .iter()
         .position(|other| is_text(other.as_slice(), name))
+}
+
+/// The length of the longest code of a component of a kind.
+fn component_size(kind: CkKind) -> usize
+    ensures value { result ≡ component_size kind }
+    ensures small { result ≤ 66 }
+{
+    match kind {
+        CkKind::Int => 9,
+        CkKind::Text => 66,
+    }
+}
+
+/// The length of the longest codes of components of some kinds, together.
+fn components_size(kinds: &[CkKind]) -> usize
+    requires { length kinds.now ≤ 4 }
+    ensures value { result ≡ components_size kinds.now }
+    ensures small { result ≤ 264 }
+{
+    let mut left = kinds;
+    let mut total = 0;
+    while let [kind, rest @ ..] = left {
+        total += component_size(*kind);
+        left = rest;
+    }
+    total
 }
 
 /// Whether two lists of kinds are the same.

@@ -26,7 +26,7 @@ more false s mid e n le rose later = as_many (2 ^ 64 - 1) s mid e n le later
 
 counted : (old new : Moment) (lines texts : List (List ℕ)) → Answers LineStep old lines texts new → min (old.faults + told_in texts) (2 ^ 64 - 1) ≤ new.faults
 counted old new [] [] a = subst (λ (m : Moment). min (old.faults + 0) (2 ^ 64 - 1) ≤ m.faults) (sym a) (none_more (2 ^ 64 - 1) old.faults)
-counted old new (line ∷ lines) (text ∷ texts) a = more (tells_fault text) old.faults a.0.faults new.faults (told_in texts) a.1.1.0 a.1.1.1 (counted a.0 new lines texts a.2)
+counted old new (line ∷ lines) (text ∷ texts) a = more (tells_fault text) old.faults a.0.faults new.faults (told_in texts) a.1.counts.0 a.1.counts.1 (counted a.0 new lines texts a.2)
 counted old new [] (text ∷ texts) a = absurd a
 counted old new (line ∷ lines) [] a = absurd a
 

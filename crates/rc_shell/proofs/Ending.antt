@@ -1,19 +1,22 @@
 -- How a run goes on, and how it ends.
-use Rattle.std.proofs.Common.{◌≡◌, ◌≢◌, ℕ, ◌+◌, ◌<◌, ◌≤◌, List, [], ◌∷◌, ◌++◌, length, take, Bool, true, false, inl, inr, Option, Result, Ok, Err, refl, sym, ap, subst, ◌∙◌, arith, length-append}
+use Rattle.std.proofs.Common.{◌≡◌, ◌≢◌, ℕ, ◌+◌, ◌<◌, ◌≤◌, List, [], ◌∷◌, ◌++◌, length, take, inl, inr, Option, Result, Ok, Err, refl, sym, ap, subst, ◌∙◌, append_assoc, arith, length-append}
 use Rattle.std.proofs.lemmas.List.{append-nil, length-take}
 use Rattle.std.specs.Io.KnownBytes.{Appends, Consumes, Keeps, IsAtEnd}
 use Rattle.std.proofs.KnownBytes.{Appends-trans, Appends-nil, Consumes-trans, Consumes-nil, Consumes-kept}
 use Rattle.rc_outside.specs.Faults.{Rose}
 use Rattle.rc_shell.specs.Lines.{IsLine, IsNext, last_line}
-use Rattle.rc_shell.specs.Run.{IsWhole, IsWritten, Answers, Served, WasRead, Due, Ran, Caused, concat, bad_words, input_fault, input_limit}
+use Rattle.rc_shell.specs.Run.{IsWhole, IsWritten, Answers, Served, IsEnded, WasRead, Due, Ran, Caused, concat, bad_words, input_fault, input_limit, piece_size}
 use Rattle.rc_shell.specs.Feed.{FaultsAfter, DueOfLine, DueOfBytes, ServedLine, ServedLast, Serves, SoFar, EndedBy, kept}
 use Rattle.rc_shell.specs.Status.{status_of}
 use Rattle.rc_shell.specs.declared.status.Ending.TheVariants.{BadTable, StoreFault}
 use Rattle.rc_shell.specs.declared.status.Stop.{Stop}
 use Rattle.rc_shell.specs.declared.status.Stop.TheVariants.{NoMemory, OutputFault, Ended}
+use Rattle.rc_shell.specs.declared.words.Words.{Words}
+use Rattle.rc_shell.specs.declared.words.Words.TheVariants.{Run, Refused}
 use Rattle.rc_shell.specs.declared.status.Status.{Status}
 use Rattle.rc_shell.specs.declared.status.Status.TheVariants as statuses
-use Rattle.rc_shell.proofs.Serving.{serves_more, written_behind, faults_since, Answers-append, concat-append, kept-nil}
+use Rattle.rc_shell.proofs.Near.{near_cut, near_line}
+use Rattle.rc_shell.proofs.Serving.{serves_more, written_behind, faults_since, Answers-append, Served-append, concat-append, kept-nil}
 
 take_none : (n : ℕ) (xs : List ℕ) → length (take (n + 1) xs) ≡ 0 → xs ≡ []
 take_none n [] e = refl
@@ -39,7 +42,7 @@ next_of_any : (AreLast : Type 0) (more line : List ℕ) → IsNext ⊥ more line
 next_of_any AreLast more line (is, inl e) = (is, inl e)
 next_of_any AreLast more line (is, inr e) = absurd e.1
 
-module _ {State Seen : Type 0} (Step : State → List ℕ → List ℕ → State → Type 0) (Ends : State → List ℕ → Status → List ℕ → Seen → Type 0) (Leaves : State → Seen → Type 0) where
+module _ {State Seen : Type 0} (Step : State → List ℕ → List ℕ → State → Type 0) (Ends : State → List ℕ → Status → List ℕ → Seen → Type 0) (Leaves : State → Seen → Type 0) (segments : ℕ) where
   -- nothing is unfinished
   pub nothing_left : (old : State) (rest held : List ℕ) (At : State → Type 0) (after : Seen) (before : Option (List ℕ)) (f : ℕ) → held ≡ kept rest → length held ≡ 0 → At old
       → ServedLast Step Ends Leaves old rest At after before before f f (Ok tt)
@@ -83,58 +86,68 @@ module _ {State Seen : Type 0} (Step : State → List ℕ → List ℕ → State
         output_same = all.7;
       }
 
-  -- what is due in the middle of the input is due for the run
-  due_run : (start : State) (limit : ℕ) (left : Option (List ℕ)) (taken : List ℕ) (after : Seen) → length taken ≤ limit
-      → (s : Status) (ps : List (List ℕ)) → DueOfBytes Step Ends Leaves start taken after s ps → Due Step Ends Leaves true start limit left taken after s ps
-  due_run start limit left taken after few statuses.NoMemory ps d = (d.0, d.1, d.2, few, d.3)
-  due_run start limit left taken after few statuses.BadTable ps d = (
-    record { texts = d.texts; more = d.more; end = d.end; line = d.line; last = d.last; served = d.served; next = next_of_any (WasRead Step Ends Leaves limit left taken) d.more d.line d.next; ends = d.ends; are = d.are },
-    few,
-  )
-  due_run start limit left taken after few statuses.StoreFault ps d = (
-    record { texts = d.texts; more = d.more; end = d.end; line = d.line; last = d.last; served = d.served; next = next_of_any (WasRead Step Ends Leaves limit left taken) d.more d.line d.next; ends = d.ends; are = d.are },
-    few,
-  )
-  due_run start limit left taken after few s ps d = absurd d
+  -- a line that ends the run, behind whole lines and an unfinished one
+  ended_run : (start now : State) (limit : ℕ) (left : Option (List ℕ)) (taken rest bytes : List ℕ) (after : Seen) (texts : List (List ℕ)) → Served Step start taken texts rest now
+      → (s : Status) (ps : List (List ℕ)) → IsEnded Step Ends Leaves ⊥ now (rest ++ bytes) after s ps
+      → IsEnded Step Ends Leaves (WasRead Step Ends Leaves limit left (taken ++ bytes)) start (taken ++ bytes) after s (texts ++ ps)
+  ended_run start now limit left taken rest bytes after texts p s ps d = record {
+    texts = texts ++ d.texts;
+    more = d.more;
+    end = d.end;
+    line = d.line;
+    last = d.last;
+    served = Served-append Step start now d.end [] taken bytes texts d.texts rest d.more p d.served;
+    next = next_of_any (WasRead Step Ends Leaves limit left (taken ++ bytes)) d.more d.line d.next;
+    ends = d.ends;
+    are = ap (λ t. texts ++ t) d.are ∙ sym (append_assoc texts d.texts (d.last ∷ []));
+  }
+
+  -- what is due for bytes, behind whole lines and an unfinished one, is due for the run
+  due_run : (start now : State) (limit : ℕ) (left : Option (List ℕ)) (taken rest bytes : List ℕ) (after : Seen) (texts : List (List ℕ)) → Served Step start taken texts rest now → IsLine rest
+      → length bytes ≤ piece_size → length (taken ++ bytes) ≤ limit
+      → (s : Status) (ps : List (List ℕ)) → DueOfBytes Step Ends Leaves now (rest ++ bytes) after s ps → Due Step Ends Leaves (Run segments) start limit left (taken ++ bytes) after s (texts ++ ps)
+  unfolding ended_run
+  due_run start now limit left taken rest bytes after texts p line small few statuses.NoMemory ps d =
+      (d.0, d.1, Served-append Step start now d.1 [] taken bytes texts ps rest d.0 p d.2, few, near_cut rest bytes d.2.lines d.0 line small d.2.cut, d.3)
+  due_run start now limit left taken rest bytes after texts p line small few statuses.BadTable ps d =
+      (ended_run start now limit left taken rest bytes after texts p statuses.BadTable ps d, few, near_cut rest bytes d.served.lines d.more line small d.served.cut)
+  due_run start now limit left taken rest bytes after texts p line small few statuses.StoreFault ps d =
+      (ended_run start now limit left taken rest bytes after texts p statuses.StoreFault ps d, few, near_cut rest bytes d.served.lines d.more line small d.served.cut)
+  due_run start now limit left taken rest bytes after texts p line small few s ps d = absurd d
 
   -- bytes were served in part
-  stopped_in : (start : State) (limit : ℕ) (taken : List ℕ) (At : State → Type 0) (held' : List ℕ) (left left' written written' : Option (List ℕ)) (after : Seen) (i i' o o' : ℕ) (stop : Stop)
-      → Consumes left left' taken → length taken ≤ limit → i' ≡ i → Serves Step Ends Leaves start [] taken At held' after written written' o o' (Err stop)
-      → Ran Step Ends Leaves true start limit (status_of stop) left left' written written' after i i' o o'
-  stopped_in start limit taken At held' left left' written written' after i i' o o' stop took few same s =
-      let due = due_run start limit left' taken after few in
-      record {
-        taken = taken;
-        text = s.0;
-        consumed = took;
-        appended = s.2;
-        run = written_behind (DueOfBytes Step Ends Leaves start taken after) (Due Step Ends Leaves true start limit left' taken after) [] stop s.0 (due (status_of stop)) (λ t ps d. (t, due t ps d)) s.1;
-        cause = caused_by stop i i' o o' same s.3;
-      }
-
   pub stopped : (start : State) (limit : ℕ) (At Next : State → Type 0) (held held' : List ℕ) (count n : ℕ) (left mid left' written between written' : Option (List ℕ)) (after : Seen) (i i1 i2 o o1 o2 : ℕ) (bytes : List ℕ) (stop : Stop)
       → SoFar Step Ends Leaves start At held count left mid written between i i1 o o1
-      → Consumes mid left' bytes → length bytes ≡ n → count + n ≤ limit → i2 ≡ i1
+      → Consumes mid left' bytes → length bytes ≡ n → count + n ≤ limit → length bytes ≤ piece_size → i2 ≡ i1
       → ((rest : List ℕ) (now : State) → IsLine rest → held ≡ kept rest → At now → Serves Step Ends Leaves now rest bytes Next held' after between written' o1 o2 (Err stop))
-      → Ran Step Ends Leaves true start limit (status_of stop) left left' written written' after i i2 o o2
-  stopped start limit At Next held held' count n left mid left' written between written' after i i1 i2 o o1 o2 bytes stop s took many few same serves =
-      let all = serves_more Step Ends Leaves start [] s.taken bytes At Next held held' after after written between written' o o1 o2 (Err stop)
-      (so_far_served start At held count left mid written between after i i1 o o1 s) serves in
+      → Ran Step Ends Leaves (Run segments) start limit (status_of stop) left left' written written' after i i2 o o2
+  stopped start limit At Next held held' count n left mid left' written between written' after i i1 i2 o o1 o2 bytes stop s took many few small same serves =
+      let l = serves s.rest s.now s.fed.unfinished s.holds s.at in
       let len : length (s.taken ++ bytes) ≤ limit = omega (arith, length-append s.taken bytes, s.counted, many) in
-      stopped_in start limit (s.taken ++ bytes) Next held' left left' written written' after i i2 o o2 stop (Consumes-trans left mid left' s.taken bytes s.consumed took) len (same ∙ s.input_same) all
+      let due = due_run start s.now limit left' s.taken s.rest bytes after s.fed.texts s.fed.served s.fed.unfinished small len in
+      record {
+        taken = s.taken ++ bytes;
+        text = s.text ++ l.0;
+        consumed = Consumes-trans left mid left' s.taken bytes s.consumed took;
+        appended = Appends-trans written between written' s.text l.0 s.appended l.2;
+        run = subst (λ t. IsWritten (Due Step Ends Leaves (Run segments) start limit left' (s.taken ++ bytes) after) (status_of stop) (t ++ l.0)) (sym s.fed.written)
+            (written_behind (DueOfBytes Step Ends Leaves s.now (s.rest ++ bytes) after) (Due Step Ends Leaves (Run segments) start limit left' (s.taken ++ bytes) after) s.fed.texts stop l.0
+            (due (status_of stop)) (λ t ps d. (t, due t ps d)) l.1);
+        cause = caused_by stop i i2 o o2 (same ∙ s.input_same) (faults_since stop o o1 o2 s.output_same l.3);
+      }
 
   took_nothing : (left mid left' : Option (List ℕ)) (taken : List ℕ) → Consumes left mid taken → Consumes mid left' [] → Consumes left left' taken
   took_nothing left mid left' taken p q = subst (λ t. Consumes left left' t) (append-nil taken) (Consumes-trans left mid left' taken [] p q)
 
   -- a last line was due, and pushing it was the end
-  last_pushed : (right : Bool) (start : State) (limit : ℕ) (due status : Status) (taken line text : List ℕ) (texts : List (List ℕ)) (left left' written between written' : Option (List ℕ)) (after : Seen) (i i' o o1 o2 : ℕ)
-      → ((t : List ℕ) → IsWhole (Due Step Ends Leaves right start limit left' taken after) due t → IsWritten (Due Step Ends Leaves right start limit left' taken after) due t)
+  last_pushed : (words : Words) (start : State) (limit : ℕ) (due status : Status) (taken line text : List ℕ) (texts : List (List ℕ)) (left left' written between written' : Option (List ℕ)) (after : Seen) (i i' o o1 o2 : ℕ)
+      → ((t : List ℕ) → IsWhole (Due Step Ends Leaves words start limit left' taken after) due t → IsWritten (Due Step Ends Leaves words start limit left' taken after) due t)
       → (o2 ≡ o → Caused due i i' o o2)
-      → Due Step Ends Leaves right start limit left' taken after due (texts ++ line ∷ [])
+      → Due Step Ends Leaves words start limit left' taken after due (texts ++ line ∷ [])
       → Consumes left left' taken → Appends written between text → text ≡ concat texts → o1 ≡ o
       → EndedBy due line between written' o1 o2 status
-      → Ran Step Ends Leaves right start limit status left left' written written' after i i' o o2
-  last_pushed right start limit due status taken line text texts left left' written between written' after i i' o o1 o2 whole caused all took app is same (inl e) =
+      → Ran Step Ends Leaves words start limit status left left' written written' after i i' o o2
+  last_pushed words start limit due status taken line text texts left left' written between written' after i i' o o1 o2 whole caused all took app is same (inl e) =
       rw e.0 (record {
         taken = taken;
         text = text ++ line;
@@ -143,7 +156,7 @@ module _ {State Seen : Type 0} (Step : State → List ℕ → List ℕ → State
         run = whole (text ++ line) (record { pieces = texts ++ line ∷ []; due = all; whole = ap (λ t. t ++ line) is ∙ ap (λ l. concat texts ++ l) (sym (append-nil line)) ∙ sym (concat-append texts (line ∷ [])) });
         cause = caused (e.2 ∙ same);
       })
-  last_pushed right start limit due status taken line text texts left left' written between written' after i i' o o1 o2 whole caused all took app is same (inr (inl e)) =
+  last_pushed words start limit due status taken line text texts left left' written between written' after i i' o o1 o2 whole caused all took app is same (inr (inl e)) =
       rw e.0 (record {
         taken = taken;
         text = text ++ e.1.0;
@@ -152,7 +165,7 @@ module _ {State Seen : Type 0} (Step : State → List ℕ → List ℕ → State
         run = record { status = due; before = texts; last = line; written = e.1.0; unwritten = e.1.1; due = all; part = e.1.2; whole = ap (λ t. t ++ e.1.0) is };
         cause = subst (λ n. Rose n o2) same e.2;
       })
-  last_pushed right start limit due status taken line text texts left left' written between written' after i i' o o1 o2 whole caused all took app is same (inr (inr e)) =
+  last_pushed words start limit due status taken line text texts left left' written between written' after i i' o o1 o2 whole caused all took app is same (inr (inr e)) =
       rw e.0 (record {
         taken = taken;
         text = text ++ [];
@@ -166,10 +179,10 @@ module _ {State Seen : Type 0} (Step : State → List ℕ → List ℕ → State
   pub input_failed : (start : State) (limit : ℕ) (At : State → Type 0) (held : List ℕ) (count : ℕ) (status : Status) (left mid left' written between written' : Option (List ℕ)) (after : Seen) (i i1 i2 o o1 o2 : ℕ)
       → SoFar Step Ends Leaves start At held count left mid written between i i1 o o1 → ((now : State) → At now → Leaves now after) → count < limit → Keeps mid left' → Rose i1 i2
       → EndedBy statuses.InputFault input_fault between written' o1 o2 status
-      → Ran Step Ends Leaves true start limit status left left' written written' after i i2 o o2
+      → Ran Step Ends Leaves (Run segments) start limit status left left' written written' after i i2 o o2
   input_failed start limit At held count status left mid left' written between written' after i i1 i2 o o1 o2 s leaves few keeps rose e =
       let less : length s.taken < limit = omega (arith, s.counted) in
-      last_pushed true start limit statuses.InputFault status s.taken input_fault s.text s.fed.texts left left' written between written' after i i2 o o1 o2
+      last_pushed (Run segments) start limit statuses.InputFault status s.taken input_fault s.text s.fed.texts left left' written between written' after i i2 o o1 o2
       (λ t w. w) (λ same. (subst (λ n. Rose n i2) s.input_same rose, same))
       (s.fed.texts, s.rest, s.now, s.fed.served, s.fed.unfinished, less, leaves s.now s.at, refl)
       (Consumes-kept left mid left' s.taken s.consumed keeps) s.appended s.fed.written s.output_same e
@@ -178,9 +191,9 @@ module _ {State Seen : Type 0} (Step : State → List ℕ → List ℕ → State
   pub limit_reached : (start : State) (At : State → Type 0) (limit count : ℕ) (held : List ℕ) (status : Status) (left left' written between written' : Option (List ℕ)) (after : Seen) (i i1 o o1 o2 : ℕ)
       → SoFar Step Ends Leaves start At held count left left' written between i i1 o o1 → ((now : State) → At now → Leaves now after) → count ≡ limit
       → EndedBy statuses.InputLimit input_limit between written' o1 o2 status
-      → Ran Step Ends Leaves true start limit status left left' written written' after i i1 o o2
+      → Ran Step Ends Leaves (Run segments) start limit status left left' written written' after i i1 o o2
   limit_reached start At limit count held status left left' written between written' after i i1 o o1 o2 s leaves reached e =
-      last_pushed true start limit statuses.InputLimit status s.taken input_limit s.text s.fed.texts left left' written between written' after i i1 o o1 o2
+      last_pushed (Run segments) start limit statuses.InputLimit status s.taken input_limit s.text s.fed.texts left left' written between written' after i i1 o o1 o2
       (λ t w. w) (λ same. (s.input_same, same))
       (s.fed.texts, s.rest, s.now, s.fed.served, s.fed.unfinished, s.counted ∙ reached, leaves s.now s.at, refl)
       s.consumed s.appended s.fed.written s.output_same e
@@ -189,7 +202,7 @@ module _ {State Seen : Type 0} (Step : State → List ℕ → List ℕ → State
   pub input_ended : (start : State) (At Next : State → Type 0) (limit : ℕ) (held : List ℕ) (count : ℕ) (left mid left' written between written' : Option (List ℕ)) (after : Seen) (i i1 i2 o o1 o2 : ℕ)
       → SoFar Step Ends Leaves start At held count left mid written between i i1 o o1 → ((now : State) → Next now → Leaves now after) → count < limit → Consumes mid left' [] → IsAtEnd left' → i2 ≡ i1
       → ((rest : List ℕ) (now : State) → held ≡ kept rest → At now → ServedLast Step Ends Leaves now rest Next after between written' o1 o2 (Ok tt))
-      → Ran Step Ends Leaves true start limit statuses.Done left left' written written' after i i2 o o2
+      → Ran Step Ends Leaves (Run segments) start limit statuses.Done left left' written written' after i i2 o o2
   input_ended start At Next limit held count left mid left' written between written' after i i1 i2 o o1 o2 s leaves few none at_end same serves =
       let l = serves s.rest s.now s.holds s.at in
       let less : length s.taken < limit = omega (arith, s.counted) in
@@ -218,17 +231,17 @@ module _ {State Seen : Type 0} (Step : State → List ℕ → List ℕ → State
   -- what is due for the last line is due for the run
   due_last : (start now : State) (limit : ℕ) (left : Option (List ℕ)) (taken rest : List ℕ) (after : Seen) (texts : List (List ℕ)) (stop : Stop) → Served Step start taken texts rest now → IsLine rest → length taken ≤ limit
       → WasRead Step Ends Leaves limit left taken → (ps : List (List ℕ)) → DueOfLine Step Ends Leaves now rest after (status_of stop) ps
-      → Due Step Ends Leaves true start limit left taken after (status_of stop) (texts ++ ps)
+      → Due Step Ends Leaves (Run segments) start limit left taken after (status_of stop) (texts ++ ps)
   due_last start now limit left taken rest after texts NoMemory s line most read ps d =
-      (rest, now, subst (λ ts. Served Step start taken ts rest now) (sym (append-nil texts) ∙ ap (λ t. texts ++ t) (sym d.1)) s, most, d.0)
+      (rest, now, subst (λ ts. Served Step start taken ts rest now) (sym (append-nil texts) ∙ ap (λ t. texts ++ t) (sym d.1)) s, most, near_line rest line, d.0)
   due_last start now limit left taken rest after texts OutputFault s line most read ps d = absurd d
   due_last start now limit left taken rest after texts (Ended BadTable) s line most read ps d =
-      (record { texts = texts; more = rest; end = now; line = rest; last = d.0; served = s; next = (line, inr (refl, read)); ends = d.1; are = ap (λ t. texts ++ t) d.2 }, most)
+      (record { texts = texts; more = rest; end = now; line = rest; last = d.0; served = s; next = (line, inr (refl, read)); ends = d.1; are = ap (λ t. texts ++ t) d.2 }, most, near_line rest line)
   due_last start now limit left taken rest after texts (Ended StoreFault) s line most read ps d =
-      (record { texts = texts; more = rest; end = now; line = rest; last = d.0; served = s; next = (line, inr (refl, read)); ends = d.1; are = ap (λ t. texts ++ t) d.2 }, most)
+      (record { texts = texts; more = rest; end = now; line = rest; last = d.0; served = s; next = (line, inr (refl, read)); ends = d.1; are = ap (λ t. texts ++ t) d.2 }, most, near_line rest line)
 
   due_last_cut : (start now : State) (limit : ℕ) (left : Option (List ℕ)) (taken rest : List ℕ) (after : Seen) (texts : List (List ℕ)) → rest ≢ [] → Served Step start taken texts rest now → IsLine rest → length taken ≤ limit
-      → WasRead Step Ends Leaves limit left taken → (s : Status) (ps : List (List ℕ)) → DueOfLine Step Ends Leaves now rest after s ps → (t : Status) × Due Step Ends Leaves true start limit left taken after t (texts ++ ps)
+      → WasRead Step Ends Leaves limit left taken → (s : Status) (ps : List (List ℕ)) → DueOfLine Step Ends Leaves now rest after s ps → (t : Status) × Due Step Ends Leaves (Run segments) start limit left taken after t (texts ++ ps)
   due_last_cut start now limit left taken rest after texts some s line most read statuses.Done ps d = (
     statuses.Done,
     (
@@ -252,7 +265,7 @@ module _ {State Seen : Type 0} (Step : State → List ℕ → List ℕ → State
   pub end_stopped : (start : State) (At Next : State → Type 0) (limit : ℕ) (held : List ℕ) (count : ℕ) (left mid left' written between written' : Option (List ℕ)) (after : Seen) (i i1 i2 o o1 o2 : ℕ) (stop : Stop)
       → SoFar Step Ends Leaves start At held count left mid written between i i1 o o1 → count < limit → Consumes mid left' [] → IsAtEnd left' → i2 ≡ i1
       → ((rest : List ℕ) (now : State) → held ≡ kept rest → At now → ServedLast Step Ends Leaves now rest Next after between written' o1 o2 (Err stop))
-      → Ran Step Ends Leaves true start limit (status_of stop) left left' written written' after i i2 o o2
+      → Ran Step Ends Leaves (Run segments) start limit (status_of stop) left left' written written' after i i2 o o2
   end_stopped start At Next limit held count left mid left' written between written' after i i1 i2 o o1 o2 stop s few none at_end same serves =
       let l = serves s.rest s.now s.holds s.at in
       let less : length s.taken < limit = omega (arith, s.counted) in
@@ -262,8 +275,8 @@ module _ {State Seen : Type 0} (Step : State → List ℕ → List ℕ → State
         text = s.text ++ l.1;
         consumed = took_nothing left mid left' s.taken s.consumed none;
         appended = Appends-trans written between written' s.text l.1 s.appended l.3;
-        run = subst (λ t. IsWritten (Due Step Ends Leaves true start limit left' s.taken after) (status_of stop) (t ++ l.1)) (sym s.fed.written)
-            (written_behind (DueOfLine Step Ends Leaves s.now s.rest after) (Due Step Ends Leaves true start limit left' s.taken after) s.fed.texts stop l.1
+        run = subst (λ t. IsWritten (Due Step Ends Leaves (Run segments) start limit left' s.taken after) (status_of stop) (t ++ l.1)) (sym s.fed.written)
+            (written_behind (DueOfLine Step Ends Leaves s.now s.rest after) (Due Step Ends Leaves (Run segments) start limit left' s.taken after) s.fed.texts stop l.1
             (due_last start s.now limit left' s.taken s.rest after s.fed.texts stop s.fed.served s.fed.unfinished most (at_end, less))
             (due_last_cut start s.now limit left' s.taken s.rest after s.fed.texts l.0 s.fed.served s.fed.unfinished most (at_end, less)) l.2);
         cause = caused_by stop i i2 o o2 (same ∙ s.input_same) (faults_since stop o o1 o2 s.output_same l.4);
@@ -289,14 +302,14 @@ module _ {State Seen : Type 0} (Step : State → List ℕ → List ℕ → State
 
   -- the words were refused
   pub words_refused : (start : State) (limit : ℕ) (status : Status) (left written written' : Option (List ℕ)) (after : Seen) (i o o' : ℕ) → Leaves start after
-      → EndedBy statuses.BadWords bad_words written written' o o' status → Ran Step Ends Leaves false start limit status left left written written' after i i o o'
+      → EndedBy statuses.BadWords bad_words written written' o o' status → Ran Step Ends Leaves Refused start limit status left left written written' after i i o o'
   words_refused start limit status left written written' after i o o' leaves e =
-      last_pushed false start limit statuses.BadWords status [] bad_words [] [] left left written written written' after i i o o o'
+      last_pushed Refused start limit statuses.BadWords status [] bad_words [] [] left left written written written' after i i o o o'
       (λ t w. w) (λ same. (refl, same)) (refl, leaves, refl) (Consumes-nil left) (Appends-nil written) refl refl e
 
   -- memory ran out before the first byte
   pub memory_refused : (start : State) (limit : ℕ) (left written : Option (List ℕ)) (after : Seen) (i o : ℕ) → Leaves start after
-      → Ran Step Ends Leaves true start limit statuses.NoMemory left left written written after i i o o
+      → Ran Step Ends Leaves (Run segments) start limit statuses.NoMemory left left written written after i i o o
   memory_refused start limit left written after i o leaves = record {
     taken = [];
     text = [];
@@ -304,7 +317,7 @@ module _ {State Seen : Type 0} (Step : State → List ℕ → List ℕ → State
     appended = Appends-nil written;
     run = inl (record {
       pieces = [];
-      due = ([], start, record { lines = []; cut = record { whole = refl; each = tt }; answered = refl }, omega arith, leaves);
+      due = ([], start, record { lines = []; cut = record { whole = refl; each = tt }; answered = refl }, omega arith, near_line [] tt, leaves);
       whole = refl;
     });
     cause = refl;

@@ -2,11 +2,38 @@
 use Rattle.std.proofs.Common.{◌≡◌, ◌⊎◌, ℕ, List, [], ◌++◌, inl, inr, Option, Some, None, Result, Ok, Err, refl, ap, subst, ◌∙◌}
 use Rattle.rc_shell.specs.Feed.{Answered, PushedText, PushedEnding, PushedAnswer, ServedLine, kept}
 use Rattle.rc_shell.specs.Status.{status_at, stop_by}
-use Rattle.rc_shell.specs.Step.{Moment, Seen, LineStep, Ends, Leaves, front_decides, front_ends}
+use Rattle.rc_lines.specs.Laws.{long_lines_are_cut}
+use Rattle.rc_lines.specs.declared.commands.Command.TheVariants.{SetSchema}
+use Rattle.rc_shell.specs.Step.{Moment, Stage, Waiting, Serving, Seen, LineStep, StageStep, MayAsk, Ends, EndsAt, Leaves, meaning_at, taken_schema, served as meaning_served}
+use Rattle.rc_shell.specs.declared.status.Status.{Status}
 use Rattle.rc_shell.specs.declared.status.Ending.{Ending}
 use Rattle.rc_shell.specs.declared.status.Stop.{Stop}
 use Rattle.rc_shell.specs.declared.status.Stop.TheVariants.{NoMemory, OutputFault, Ended}
 use Rattle.rc_shell.proofs.Serving.{served, ended, unserved}
+
+-- the front of a line that is kept means what the line means
+front_means : (stage : Stage) (line : List ℕ) → meaning_at stage (kept line) ≡ meaning_at stage line
+unfolding kept
+front_means stage line = ap meaning_served (long_lines_are_cut (taken_schema stage) line)
+
+-- it decides what the line is answered
+front_decides : (old new : Moment) (line text : List ℕ) → LineStep old (kept line) text new → LineStep old line text new
+front_decides old new line text s = record {
+  stage = subst (λ meaning. StageStep old.segments old.stage meaning text new.stage) (front_means old.stage line) s.stage;
+  counts = s.counts;
+  asks = (s.asks.0, subst (λ meaning. MayAsk old.stage meaning s.asks.0) (front_means old.stage line) s.asks.1, s.asks.2, s.asks.3);
+  segments = s.segments;
+  figures = s.figures;
+}
+
+end_of_front : (stage : Stage) (line : List ℕ) (status : Status) (last : List ℕ) (before now : ℕ) → EndsAt stage (kept line) status last before now → EndsAt stage line status last before now
+unfolding kept
+end_of_front (Waiting files) line status last before now e = (e.0, subst (λ meaning. meaning ≡ Ok (SetSchema e.0)) (long_lines_are_cut None line) e.1, e.2)
+end_of_front (Serving m) line status last before now e = e
+
+-- and whether it ends the run
+front_ends : (old : Moment) (line : List ℕ) (status : Status) (last : List ℕ) (store : Seen) → Ends old (kept line) status last store → Ends old line status last store
+front_ends old line status last store e = (e.0, end_of_front old.stage line status last old.faults store.1 e.1)
 
 -- what was pushed is the text, which stands behind nothing
 pushed_is : (empty items pushed text : List ℕ) → empty ≡ [] → pushed ≡ items → items ≡ empty ++ text → pushed ≡ text

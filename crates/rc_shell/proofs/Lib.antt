@@ -1,3 +1,4 @@
+pub mod Near
 pub mod Serving
 pub mod Ending
 pub mod Cuts
@@ -6,3 +7,8 @@ pub mod Held
 pub mod Told
 pub mod Staged
 pub mod Counted
+pub mod Asked
+pub mod Lined
+pub mod Served
+pub mod Undamaged
+pub mod Flushing

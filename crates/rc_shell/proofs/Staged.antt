@@ -1,186 +1,289 @@
 -- What a line is answered before a schema line was taken, and behind it.
-use Rattle.std.proofs.Common.{◌≡◌, ◌⊎◌, ℕ, ◌≤◌, Bool, true, false, not, ◌==◌, nat_lt, IfSome, List, [], ◌++◌, length, inl, inr, Option, Some, None, Result, Ok, Err, IsErr, MatchBool, MatchOption, refl, sym, ap, subst, ◌∙◌, le_refl}
-use Rattle.std.specs.List.{filter}
+use Rattle.std.proofs.Common.{◌≡◌, ℕ, ◌+◌, ◌*◌, ◌≤◌, Bool, true, false, IfSome, List, [], ◌++◌, length, inl, inr, Option, Some, None, Result, Ok, Err, IsErr, refl, sym, ap, subst, ◌∙◌, le_refl, arith}
+use Rattle.std.specs.FinMap as map
 use Rattle.std.proofs.lemmas.List.{append-nil}
 use Rattle.std.specs.declared.alloc.AllocError.{AllocError}
 use Rattle.rc_outside.specs.Files.{Files}
 use Rattle.rc_outside.specs.Faults.{Rose}
-use Rattle.rc_position.specs.declared.slices.Slice.{Slice}
 use Rattle.rc_schema.specs.Lists.{Lists}
+use Rattle.rc_tfile.specs.declared.info.TableInfo.{TableInfo}
 use Rattle.rc_lines.specs.declared.commands.Command.{Command}
 use Rattle.rc_lines.specs.declared.commands.Command.TheVariants.{Nothing, SetSchema, Put, OpenRead, Read, Close, Flush, FlushBegin, FlushStep, Evict, Compact, Clean, Stats}
 use Rattle.rc_lines.specs.declared.commands.Refusal.{Refusal}
-use Rattle.rc_lines.specs.declared.commands.Refusal.TheVariants.{TooManyReaders, ReaderInUse, NoReader, NothingToFlush, NoNumber}
 use Rattle.rc_lines.specs.declared.commands.Reply.{Reply}
 use Rattle.rc_lines.specs.declared.commands.Reply.TheVariants as replies
 use Rattle.rc_lines.specs.Grammar.{parse}
 use Rattle.rc_lines.specs.Texts.{reply_text, refusal_text}
-use Rattle.rc_machine.specs.Steps.{State, Table, AreTables, IsFirstBad, Steps, Opens as OpensReader, Gives, Stores, Refuses, opened, with_readers, rest_of, most_readers, next_number, last_number}
-use Rattle.rc_machine.specs.Stands.{Keeping, Stands}
-use Rattle.rc_machine.specs.Serving.{OnFaulty}
+use Rattle.rc_machine.specs.State.{State, Table, opened}
+use Rattle.rc_machine.specs.Steps.{Steps}
+use Rattle.rc_machine.specs.Tables.{AreTables, AreListed, IsFirstBad}
+use Rattle.rc_machine.specs.Serving.{IsLeft, OnFaulty, bound_of, checks_of}
+use Rattle.rc_machine.specs.Laws.Asking.{few_asked}
+use Rattle.rc_machine.specs.Laws.Changes.{change_of}
+use Rattle.rc_machine.specs.Laws.Holding.{schema_stays}
+use Rattle.rc_plain.specs.Stands.{Keeping, Stands}
 use Rattle.rc_shell.specs.Feed.{Answered}
-use Rattle.rc_shell.specs.Step.{Moment, Seen, Waiting, Serving, Opens, Takes, LineStep, Ends, Leaves, StandsFor, schema_set, bad_table, start, tells_fault}
+use Rattle.rc_shell.specs.Step.{Moment, Stage, Seen, Waiting, Serving, EarlyStep, MachineStep, StageStep, LineStep, Ends, EndsAt, Leaves, MayAsk, MayHaveAsked, Counts, files_of, meaning_at, served, store_fault, start, bad_table, tells_fault}
+use Rattle.rc_shell.specs.Late.{StandsFor, asked_nothing, schema_set, stood_leaves}
 use Rattle.rc_shell.specs.declared.status.Ending.{Ending}
-use Rattle.rc_shell.specs.declared.status.Ending.TheVariants.{BadTable}
+use Rattle.rc_shell.specs.declared.status.Ending.TheVariants.{BadTable, StoreFault}
+use Rattle.rc_shell.specs.declared.status.Status.TheVariants as statuses
+use Rattle.rc_shell.specs.declared.words.Words.{Words}
 use Rattle.rc_shell.proofs.Early.{early}
+use Rattle.rc_shell.proofs.Served.{served_ok, served_is}
 use Rattle.rc_shell.proofs.Told.{told, plain}
-
--- a machine keeps its schema
-stays_opening : (m : State) (b : Bool) (id : ℕ) (key : List ℕ) (reply : Reply) (new : State) → (more : Type 0) → (more → new.schema ≡ m.schema) → MatchBool b more (Refuses m TooManyReaders reply new) → new.schema ≡ m.schema
-stays_opening m true id key reply new more f s = f s
-stays_opening m false id key reply new more f s = ap (λ x. x.schema) s.1
-
-stays_storing : (m : State) (reply : Reply) (new : State) → Stores m reply new → new.schema ≡ m.schema
-stays_storing m reply new (inl s) = ap (λ x. x.schema) s.3
-stays_storing m reply new (inr s) = ap (λ x. x.schema) s.1
-
-stays_flushing : (m : State) (none many : Bool) (reply : Reply) (new : State) → MatchBool none (Refuses m NothingToFlush reply new) (MatchBool many (Refuses m NoNumber reply new) (Stores m reply new)) → new.schema ≡ m.schema
-stays_flushing m true many reply new s = ap (λ x. x.schema) s.1
-stays_flushing m false true reply new s = ap (λ x. x.schema) s.1
-stays_flushing m false false reply new s = stays_storing m reply new s
-
-stays_open : (m : State) (id : ℕ) (key : List ℕ) (slice : Slice) (reply : Reply) (new : State) → OpensReader m id key slice reply new → new.schema ≡ m.schema
-stays_open m id key slice reply new (inl s) = ap (λ x. x.schema) s.3
-stays_open m id key slice reply new (inr (inl s)) = ap (λ x. x.schema) s.1
-stays_open m id key slice reply new (inr (inr s)) = ap (λ x. x.schema) s.3.1
-
-pub schema_stays : (m : State) (command : Command) (reply : Reply) (new : State) → Steps m command reply new → new.schema ≡ m.schema
-schema_stays m Nothing reply new s = ap (λ x. x.schema) s.1
-schema_stays m (SetSchema schema) reply new (inl s) = ap (λ x. x.schema) s.2
-schema_stays m (SetSchema schema) reply new (inr s) = ap (λ x. x.schema) s.1.1
-schema_stays m (Put w) reply new s = ap (λ x. x.schema) s.1
-schema_stays m (OpenRead id key slice) reply new s =
-    elim (rest_of id m) as (λ r. MatchOption r (MatchBool (nat_lt (length m.readers) most_readers) (OpensReader m id key slice reply new) (Refuses m TooManyReaders reply new)) (λ rest. Refuses m ReaderInUse reply new) → new.schema ≡ m.schema) [
-      | None ↦ λ t. stays_opening m (nat_lt (length m.readers) most_readers) id key reply new (OpensReader m id key slice reply new) (stays_open m id key slice reply new) t
-      | Some rest ↦ λ t. ap (λ x. x.schema) t.1
-    ] s
-schema_stays m (Read id count) reply new s =
-    elim (rest_of id m) as (λ r. MatchOption r (Refuses m NoReader reply new) (λ rest. Gives m id count rest reply new) → new.schema ≡ m.schema) [
-      | None ↦ λ t. ap (λ x. x.schema) t.1
-      | Some rest ↦ λ t. ap (λ x. x.schema) t.1
-    ] s
-schema_stays m (Close id) reply new s =
-    elim (rest_of id m) as (λ r. MatchOption r (Refuses m NoReader reply new) (λ rest. (reply ≡ replies.Fine) × (new ≡ with_readers m (filter (λ reader. not (reader.0 == id)) m.readers))) → new.schema ≡ m.schema) [
-      | None ↦ λ t. ap (λ x. x.schema) t.1
-      | Some rest ↦ λ t. ap (λ x. x.schema) t.1
-    ] s
-schema_stays m Flush reply new s = stays_flushing m (m.stored == length m.log) (nat_lt last_number (next_number m.tables)) reply new s
-schema_stays m FlushBegin reply new s = ap (λ x. x.schema) s.1
-schema_stays m (FlushStep count) reply new s = ap (λ x. x.schema) s.1
-schema_stays m (Evict count) reply new s = ap (λ x. x.schema) s.1
-schema_stays m (Compact count) reply new s = ap (λ x. x.schema) s.1
-schema_stays m (Clean count) reply new s = ap (λ x. x.schema) s.1
-schema_stays m Stats reply new s = ap (λ x. x.schema) s.1
 
 clash : (b : Bool) → b ≡ false → b ≡ true → ⊥
 clash b e f = cc
 
+-- the moment behind a line
+next_moment : Moment → Stage → ℕ → ℕ → ℕ → Moment
+next_moment old stage faults asks bound = record { stage = stage; segments = old.segments; faults = faults; asks = asks; bound = old.bound + bound; figures = old.figures }
+
+line_step : (old : Moment) (line text : List ℕ) (was stage : Stage) (faults asks bound : ℕ) → old.stage ≡ was → StageStep old.segments was (meaning_at was line) text stage → Counts text old.faults faults
+    → MayAsk was (meaning_at was line) bound → asks ≤ old.asks + bound → LineStep old line text (next_moment old stage faults asks bound)
+unfolding next_moment
+line_step old line text was stage faults asks bound e step counts may most = record {
+  stage = subst (λ st. StageStep old.segments st (meaning_at st line) text stage) (sym e) step;
+  counts = counts;
+  asks = (bound, subst (λ st. MayAsk st (meaning_at st line) bound) (sym e) may, refl, most);
+  segments = refl;
+  figures = refl;
+}
+
+-- it stands where the stage does and the counts are the store's
+waits : (old : Moment) (store : Seen) (bound : ℕ) → StandsFor None store (next_moment old (Waiting store.0) store.1 store.2 bound)
+unfolding next_moment
+waits old store bound = (refl, refl, refl)
+
+serves : (old : Moment) (store : Seen) (bound : ℕ) (k : Keeping) (m : State) → Stands store.0 k m → StandsFor (Some k) store (next_moment old (Serving m) store.1 store.2 bound)
+unfolding next_moment
+serves old store bound k m s = (m, s, refl, refl, refl)
+
+leaves_behind : (old : Moment) (store : Seen) (bound : ℕ) (m : State) → store.0 ≡ m.files → Leaves (next_moment old (Serving m) store.1 store.2 bound) store
+unfolding next_moment
+leaves_behind old store bound m same = (same, le_refl store.1, asked_nothing (Serving m) store.2)
+
+no_more : (old : Moment) (asks : ℕ) → old.asks ≡ asks → asks ≤ old.asks + 0
+no_more old asks e = omega (arith, e)
+
+nothing_asked : (files : Option Files) → MayAsk (Waiting files) (Ok Nothing) 0
+nothing_asked None = refl
+nothing_asked (Some files) = refl
+
+refused_unasked : (files : Option Files) (refusal : Refusal) → MayAsk (Waiting files) (Err refusal) 0
+refused_unasked None refusal = refl
+refused_unasked (Some files) refusal = refl
+
+-- the count of faults over a line whose text tells none
+uncounted : (text : List ℕ) (before now : ℕ) → tells_fault text ≡ false → before ≤ now → Counts text before now
+uncounted text before now none le = (le, λ t. absurd (clash (tells_fault text) none t))
+
+le_same : (a b : ℕ) → a ≡ b → a ≤ b
+le_same a b e = omega (arith, e)
+
+parsed : (line : List ℕ) (command : Command) → served (parse None line) ≡ Ok command → parse None line ≡ Ok command
+parsed line command p = served_ok (parse None line) command p
+
+-- a refused line tells no fault
+plain_served : (taken : Option Lists) (line : List ℕ) (refusal : Refusal) → served (parse taken line) ≡ Err refusal → tells_fault (refusal_text refusal) ≡ false
+plain_served taken line refusal p = served_is (λ r. tells_fault (refusal_text r) ≡ false) refl (parse taken line) (plain taken line) refusal p
+
+-- at most so many ranges were asked for while the files were checked, where they are told
+abbrev pub Checks : Option Files → ℕ → ℕ → Type 0
+Checks files before now = IfSome files (λ told. now ≤ before + checks_of (map.values told))
+
+may_have_checked : (files : Option Files) (before now : ℕ) → Checks files before now → MayHaveAsked (Waiting files) before now
+may_have_checked None before now checks = tt
+may_have_checked (Some files) before now checks = checks
+
+-- the store is left so where nothing was opened
+left_waiting : (store store' : Seen) (old : Moment) → StandsFor None store old → store'.0 ≡ store.0 → store.1 ≤ store'.1 → Checks store.0 store.2 store'.2 → Leaves old store'
+left_waiting store store' old s same le checks = (
+  same ∙ ap files_of (sym s.0),
+  subst (λ n. n ≤ store'.1) (sym s.1) le,
+  subst (λ st. MayHaveAsked st old.asks store'.2) (sym s.0) (subst (λ n. MayHaveAsked (Waiting store.0) n store'.2) (sym s.2) (may_have_checked store.0 store.2 store'.2 checks)),
+)
+
 -- a line that means nothing, before a schema line
-pub none_answered : (place : Option Keeping) (files : Option Files) (faults : ℕ) (line : List ℕ) (command : Command) (items : List ℕ) → place ≡ None → parse None line ≡ Ok command → schema_set command ≡ None
-    → Answered LineStep Ends Leaves (start (files, faults)) line (StandsFor place files faults) (files, faults) items items (Ok None)
-none_answered place files faults line command items free p none =
-    let is : command ≡ Nothing = elim (early line command p) as (λ e. command ≡ Nothing) [
+pub none_answered : (place : Option Keeping) (store : Seen) (old : Moment) (line : List ℕ) (command : Command) (items : List ℕ) → place ≡ None → StandsFor None store old → served (parse None line) ≡ Ok command → schema_set command ≡ None
+    → Answered LineStep Ends Leaves old line (StandsFor place store) store items items (Ok None)
+none_answered place store old line command items free s p none =
+    let is : command ≡ Nothing = elim (early line command (parsed line command p)) as (λ e. command ≡ Nothing) [
       | inl e ↦ e
       | inr e ↦ absurd (let n : schema_set (SetSchema e.0) ≡ None = subst (λ c. schema_set c ≡ None) e.1 none in cc)
-    ] in (
+    ] in
+    let means : served (parse None line) ≡ Ok Nothing = p ∙ ap (λ c. Ok c) is in
+    let asked = no_more old store.2 s.2 in (
       [],
-      start (files, faults),
-      (subst (λ meaning. Opens files meaning [] (Waiting files)) (sym (p ∙ ap (λ c. Ok c) is)) (refl, refl), (le_refl faults, λ t. absurd (cc))),
-      subst (λ k. StandsFor k files faults (start (files, faults))) (sym free) refl,
+      next_moment old (Waiting store.0) store.1 store.2 0,
+      line_step old line [] (Waiting store.0) (Waiting store.0) store.1 store.2 0 s.0 (subst (λ meaning. EarlyStep old.segments store.0 meaning [] (Waiting store.0)) (sym means) (refl, refl))
+          (uncounted [] old.faults store.1 refl (le_same old.faults store.1 s.1)) (subst (λ meaning. MayAsk (Waiting store.0) meaning 0) (sym means) (nothing_asked store.0)) asked,
+      subst (λ k. StandsFor k store (next_moment old (Waiting store.0) store.1 store.2 0)) (sym free) (waits old store 0),
       sym (append-nil items),
     )
 
 -- a schema line, by its meaning
-pub schema_line : (line : List ℕ) (command : Command) (schema : Lists) → parse None line ≡ Ok command → schema_set command ≡ Some schema → parse None line ≡ Ok (SetSchema schema)
-schema_line line command schema p some = elim (early line command p) as (λ e. parse None line ≡ Ok (SetSchema schema)) [
+pub schema_line : (line : List ℕ) (command : Command) (schema : Lists) → served (parse None line) ≡ Ok command → schema_set command ≡ Some schema → parse None line ≡ Ok (SetSchema schema)
+schema_line line command schema p some = elim (early line command (parsed line command p)) as (λ e. parse None line ≡ Ok (SetSchema schema)) [
   | inl e ↦ absurd (let n : schema_set Nothing ≡ Some schema = subst (λ c. schema_set c ≡ Some schema) e some in cc)
   | inr e ↦ (let n : schema_set (SetSchema e.0) ≡ Some schema = subst (λ c. schema_set c ≡ Some schema) e.1 some in
-      let same : e.0 ≡ schema = cc in p ∙ ap (λ c. Ok c) (e.1 ∙ ap (λ z. SetSchema z) same))
+      let same : e.0 ≡ schema = cc in parsed line command p ∙ ap (λ c. Ok c) (e.1 ∙ ap (λ z. SetSchema z) same))
 ]
 
 -- a line that is refused, before a schema line
-pub refused_answered : (place : Option Keeping) (files : Option Files) (faults : ℕ) (line : List ℕ) (refusal : Refusal) (before now : List ℕ) → place ≡ None → parse None line ≡ Err refusal → now ≡ before ++ refusal_text refusal
-    → Answered LineStep Ends Leaves (start (files, faults)) line (StandsFor place files faults) (files, faults) before now (Ok None)
-refused_answered place files faults line refusal before now free p e = (
-  refusal_text refusal,
-  start (files, faults),
-  (subst (λ meaning. Opens files meaning (refusal_text refusal) (Waiting files)) (sym p) (refl, refl), (le_refl faults, λ t. absurd (clash (tells_fault (refusal_text refusal)) (plain None line refusal p) t))),
-  subst (λ k. StandsFor k files faults (start (files, faults))) (sym free) refl,
-  e,
-)
-
--- the first schema line, over tables of the schema
-pub opened_answered : (files files' : Option Files) (faults faults' : ℕ) (schema : Lists) (k : Keeping) (tables : List Table) (line before now : List ℕ)
-    → parse None line ≡ Ok (SetSchema schema) → AreTables files schema tables → Stands files' k (opened files schema tables) → faults ≤ faults' → now ≡ before ++ reply_text k.schema replies.Fine
-    → Answered LineStep Ends Leaves (start (files, faults)) line (StandsFor (Some k) files' faults') (files', faults') before now (Ok None)
-opened_answered files files' faults faults' schema k tables line before now p are stands le e = (
-  reply_text schema replies.Fine,
-  record { stage = Serving (opened files schema tables); faults = faults' },
-  (subst (λ meaning. Opens files meaning (reply_text schema replies.Fine) (Serving (opened files schema tables))) (sym p) (tables, are, refl, refl), (le, λ t. told schema replies.Fine (Rose faults faults') tt t)),
-  (opened files schema tables, stands, refl),
-  e ∙ ap (λ z. before ++ reply_text z replies.Fine) (sym stands.schema),
-)
-
--- the first schema line, over a bad table
-pub bad_answered : (files files' : Option Files) (faults faults' : ℕ) (schema : Lists) (At : Moment → Type 0) (n : ℕ) (damage : Option ℕ) (line before now : List ℕ)
-    → parse None line ≡ Ok (SetSchema schema) → files' ≡ files → IfSome files (λ f. IsFirstBad f schema n damage) → faults ≤ faults' → now ≡ before ++ bad_table n damage
-    → Answered LineStep Ends Leaves (start (files, faults)) line At (files', faults') before now (Ok (Some BadTable))
-bad_answered files files' faults faults' schema At n damage line before now p same first le e = (bad_table n damage, ((same, le), (schema, p, (n, damage, first, refl))), e)
-
--- a command, once the machine is open
-pub command_step : (m next : State) (k k' : Keeping) (files files' : Option Files) (faults faults' : ℕ) (line : List ℕ) (command : Command) (reply : Reply)
-    → parse (Some k.schema) line ≡ Ok command → Stands files k m → Steps m command reply next → Stands files' k' next → faults ≤ faults' → OnFaulty reply (Rose faults faults')
-    → LineStep (record { stage = Serving m; faults = faults }) line (reply_text k'.schema reply) (record { stage = Serving next; faults = faults' })
-command_step m next k k' files files' faults faults' line command reply p s step s' le faulty =
-    let same : k'.schema ≡ m.schema = sym s'.schema ∙ schema_stays m command reply next step in (
-      subst (λ meaning. Takes m meaning (reply_text k'.schema reply) (Serving next)) (sym (ap (λ z. parse (Some z) line) s.schema ∙ p)) (reply, next, step, ap (λ z. reply_text z reply) same, refl),
-      (le, λ t. told k'.schema reply (Rose faults faults') faulty t),
+pub refused_answered : (place : Option Keeping) (store : Seen) (old : Moment) (line : List ℕ) (refusal : Refusal) (before now : List ℕ) → place ≡ None → StandsFor None store old → served (parse None line) ≡ Err refusal
+    → now ≡ before ++ refusal_text refusal → Answered LineStep Ends Leaves old line (StandsFor place store) store before now (Ok None)
+refused_answered place store old line refusal before now free s p e =
+    let asked = no_more old store.2 s.2 in (
+      refusal_text refusal,
+      next_moment old (Waiting store.0) store.1 store.2 0,
+      line_step old line (refusal_text refusal) (Waiting store.0) (Waiting store.0) store.1 store.2 0 s.0 (subst (λ meaning. EarlyStep old.segments store.0 meaning (refusal_text refusal) (Waiting store.0)) (sym p) (refl, refl))
+          (uncounted (refusal_text refusal) old.faults store.1 (plain_served None line refusal p) (le_same old.faults store.1 s.1)) (subst (λ meaning. MayAsk (Waiting store.0) meaning 0) (sym p) (refused_unasked store.0 refusal)) asked,
+      subst (λ k. StandsFor k store (next_moment old (Waiting store.0) store.1 store.2 0)) (sym free) (waits old store 0),
+      e,
     )
 
-pub command_answered : (m : State) (k k' : Keeping) (files files' : Option Files) (faults faults' : ℕ) (line before now : List ℕ) (command : Command) (reply : Reply)
-    → parse (Some k.schema) line ≡ Ok command → Stands files k m → ((next : State) × Steps m command reply next × Stands files' k' next) → faults ≤ faults' → OnFaulty reply (Rose faults faults')
-    → now ≡ before ++ reply_text k'.schema reply
-    → Answered LineStep Ends Leaves (record { stage = Serving m; faults = faults }) line (StandsFor (Some k') files' faults') (files', faults') before now (Ok None)
-command_answered m k k' files files' faults faults' line before now command reply p s step le faulty e = (
-  reply_text k'.schema reply,
-  record { stage = Serving step.0; faults = faults' },
-  command_step m step.0 k k' files files' faults faults' line command reply p s step.1 step.2 le faulty,
-  (step.0, step.2, refl),
-  e,
-)
+-- the bound that a schema line adds: the files' where they are told, else what was asked
+bound_at : Option Files → ℕ → ℕ → ℕ
+bound_at None before now = now
+bound_at (Some files) before now = checks_of (map.values files)
 
--- its reply found no memory
-pub command_unanswered : (m : State) (k k' : Keeping) (files files' : Option Files) (faults faults' : ℕ) (line : List ℕ) (command : Command) (reply : Reply)
-    → parse (Some k.schema) line ≡ Ok command → Stands files k m → ((next : State) × Steps m command reply next × Stands files' k' next) → faults ≤ faults' → OnFaulty reply (Rose faults faults')
-    → Leaves (record { stage = Serving m; faults = faults }) (files', faults')
-    ⊎ ((text : List ℕ) × (new : Moment) × LineStep (record { stage = Serving m; faults = faults }) line text new × Leaves new (files', faults'))
-command_unanswered m k k' files files' faults faults' line command reply p s step le faulty = inr (
-  reply_text k'.schema reply,
-  record { stage = Serving step.0; faults = faults' },
-  command_step m step.0 k k' files files' faults faults' line command reply p s step.1 step.2 le faulty,
-  (sym step.2.files, le_refl faults'),
-)
+may_check : (files : Option Files) (schema : Lists) (before now : ℕ) → MayAsk (Waiting files) (Ok (SetSchema schema)) (bound_at files before now)
+unfolding bound_at
+may_check None schema before now = tt
+may_check (Some files) schema before now = refl
+
+checked : (files : Option Files) (before now : ℕ) → Checks files before now → now ≤ before + bound_at files before now
+unfolding bound_at
+checked None before now c = omega arith
+checked (Some files) before now c = c
+
+-- the first schema line, over tables of the schema
+pub opened_answered : (store store' : Seen) (old : Moment) (schema : Lists) (k : Keeping) (tables : List Table) (infos : List TableInfo) (line before now : List ℕ)
+    → StandsFor None store old → parse None line ≡ Ok (SetSchema schema) → AreTables store.0 schema tables → AreListed store.0 schema tables infos → ((segments : ℕ) → Stands store'.0 k (opened segments store.0 schema tables infos))
+    → store.1 ≤ store'.1 → Checks store.0 store.2 store'.2 → now ≡ before ++ reply_text k.schema replies.Fine
+    → Answered LineStep Ends Leaves old line (StandsFor (Some k) store') store' before now (Ok None)
+opened_answered store store' old schema k tables infos line before now s p are listed stands le checks e =
+    let means : served (parse None line) ≡ Ok (SetSchema schema) = ap served p in
+    let bound : ℕ = bound_at store.0 store.2 store'.2 in (
+      reply_text schema replies.Fine,
+      next_moment old (Serving (opened old.segments store.0 schema tables infos)) store'.1 store'.2 bound,
+      line_step old line (reply_text schema replies.Fine) (Waiting store.0) (Serving (opened old.segments store.0 schema tables infos)) store'.1 store'.2 bound s.0
+          (subst (λ meaning. EarlyStep old.segments store.0 meaning (reply_text schema replies.Fine) (Serving (opened old.segments store.0 schema tables infos))) (sym means) (tables, infos, are, listed, refl, refl))
+          (subst (λ n. n ≤ store'.1) (sym s.1) le, λ t. told schema replies.Fine (Rose old.faults store'.1) tt t)
+          (subst (λ meaning. MayAsk (Waiting store.0) meaning bound) (sym means) (may_check store.0 schema store.2 store'.2))
+          (subst (λ n. store'.2 ≤ n + bound) (sym s.2) (checked store.0 store.2 store'.2 checks)),
+      serves old store' bound k (opened old.segments store.0 schema tables infos) (stands old.segments),
+      e ∙ ap (λ z. before ++ reply_text z replies.Fine) (sym (stands old.segments).over.schema),
+    )
+
+-- the first schema line, over a bad table
+pub bad_answered : (store store' : Seen) (old : Moment) (schema : Lists) (At : Moment → Type 0) (n : ℕ) (damage : Option ℕ) (line before now : List ℕ)
+    → StandsFor None store old → parse None line ≡ Ok (SetSchema schema) → store'.0 ≡ store.0 → IfSome store.0 (λ f. IsFirstBad f schema n damage) → store.1 ≤ store'.1 → Checks store.0 store.2 store'.2 → now ≡ before ++ bad_table n damage
+    → Answered LineStep Ends Leaves old line At store' before now (Ok (Some BadTable))
+bad_answered store store' old schema At n damage line before now s p same first le checks e =
+    (bad_table n damage, (left_waiting store store' old s same le checks, subst (λ st. EndsAt st line statuses.BadTable (bad_table n damage) old.faults store'.1) (sym s.0) (schema, p, (n, damage, first, refl))), e)
+
+-- the first schema line, while the store failed
+pub fault_answered : (store store' : Seen) (old : Moment) (schema : Lists) (At : Moment → Type 0) (line before now : List ℕ)
+    → StandsFor None store old → parse None line ≡ Ok (SetSchema schema) → store'.0 ≡ store.0 → Rose store.1 store'.1 → store.1 ≤ store'.1 → Checks store.0 store.2 store'.2 → now ≡ before ++ store_fault
+    → Answered LineStep Ends Leaves old line At store' before now (Ok (Some StoreFault))
+fault_answered store store' old schema At line before now s p same rose le checks e =
+    (store_fault, (left_waiting store store' old s same le checks, subst (λ st. EndsAt st line statuses.StoreFault store_fault old.faults store'.1) (sym s.0) (schema, p, (refl, subst (λ n. Rose n store'.1) (sym s.1) rose))), e)
+
+-- memory ran out before the machine was open
+pub unopened_answered : (store store' : Seen) (old : Moment) (line : List ℕ) (At : Moment → Type 0) (before now : List ℕ) (r : Result (Option Ending) AllocError) → IsErr r
+    → StandsFor None store old → store'.0 ≡ store.0 → store.1 ≤ store'.1 → Checks store.0 store.2 store'.2 → Answered LineStep Ends Leaves old line At store' before now r
+unopened_answered store store' old line At before now (Err e) is s same le checks = inl (left_waiting store store' old s same le checks)
+unopened_answered store store' old line At before now (Ok x) is s same le checks = absurd (cc)
+
+-- What a command did, once the machine is open.
+pub record Served (store store' : Seen) (k k' : Keeping) (m : State) (command : Command) (reply : Reply) : Type 0 where
+  pub next : State
+  pub step : Steps m command reply next
+  pub stands : Stands store'.0 k' next
+  pub faults : store.1 ≤ store'.1
+  pub faulty : OnFaulty reply (Rose store.1 store'.1)
+  pub asks : store'.2 ≤ store.2 + bound_of k.infos command
+
+module _ (store store' : Seen) (k k' : Keeping) (old : Moment) (line : List ℕ) (command : Command) (reply : Reply) (s : StandsFor (Some k) store old)
+    (p : served (parse (Some k.schema) line) ≡ Ok command) (d : Served store store' k k' s.0 command reply) where
+  means : served (parse (Some (s.0).schema) line) ≡ Ok command
+  means = ap (λ z. served (parse (Some z) line)) s.1.over.schema ∙ p
+
+  same_schema : k'.schema ≡ (s.0).schema
+  same_schema = sym d.stands.over.schema ∙ schema_stays s.0 command reply d.next (change_of s.0 command reply d.next d.step)
+
+  command_step : LineStep old line (reply_text k'.schema reply) (next_moment old (Serving d.next) store'.1 store'.2 (bound_of k.infos command))
+  command_step =
+      line_step old line (reply_text k'.schema reply) (Serving s.0) (Serving d.next) store'.1 store'.2 (bound_of k.infos command) s.2
+      (subst (λ meaning. MachineStep s.0 meaning (reply_text k'.schema reply) (Serving d.next)) (sym means) (reply, d.next, d.step, ap (λ z. reply_text z reply) same_schema, refl))
+      (subst (λ n. n ≤ store'.1) (sym s.3) d.faults, λ t. told k'.schema reply (Rose old.faults store'.1) (subst (λ n. OnFaulty reply (Rose n store'.1)) (sym s.3) d.faulty) t)
+      (subst (λ meaning. MayAsk (Serving s.0) meaning (bound_of k.infos command)) (sym means) (ap (λ infos. bound_of infos command) (sym s.1.over.infos)))
+      (subst (λ n. store'.2 ≤ n + bound_of k.infos command) (sym s.4) d.asks)
+
+  pub command_answered : (before now : List ℕ) → now ≡ before ++ reply_text k'.schema reply → Answered LineStep Ends Leaves old line (StandsFor (Some k') store') store' before now (Ok None)
+  command_answered before now e =
+      (reply_text k'.schema reply, next_moment old (Serving d.next) store'.1 store'.2 (bound_of k.infos command), command_step, serves old store' (bound_of k.infos command) k' d.next d.stands, e)
+
+  -- its reply found no memory
+  pub command_unanswered : (before now : List ℕ) (r : Result (Option Ending) AllocError) → IsErr r → Answered LineStep Ends Leaves old line (StandsFor (Some k') store') store' before now r
+  command_unanswered before now (Err e) is =
+      inr (reply_text k'.schema reply, next_moment old (Serving d.next) store'.1 store'.2 (bound_of k.infos command), command_step, leaves_behind old store' (bound_of k.infos command) d.next (sym d.stands.over.files))
+  command_unanswered before now (Ok x) is = absurd (cc)
+
+-- what is left where memory ran out has the state's files
+pub left_files : (m : State) (command : Command) (left : State) → IsLeft m command left → left.files ≡ m.files
+left_files m Flush left (inl e) = ap (λ (s : State). s.files) e
+left_files m Flush left (inr e) = ap (λ (s : State). s.files) e
+left_files m FlushBegin left (inl e) = ap (λ (s : State). s.files) e
+left_files m FlushBegin left (inr e) = ap (λ (s : State). s.files) e
+left_files m Nothing left e = ap (λ (s : State). s.files) e
+left_files m (SetSchema schema) left e = ap (λ (s : State). s.files) e
+left_files m (Put w) left e = ap (λ (s : State). s.files) e
+left_files m (OpenRead id key slice) left e = ap (λ (s : State). s.files) e
+left_files m (Read id count) left e = ap (λ (s : State). s.files) e
+left_files m (Close id) left e = ap (λ (s : State). s.files) e
+left_files m (FlushStep count) left e = ap (λ (s : State). s.files) e
+left_files m (Evict count) left e = ap (λ (s : State). s.files) e
+left_files m (Compact count) left e = ap (λ (s : State). s.files) e
+left_files m (Clean count) left e = ap (λ (s : State). s.files) e
+left_files m Stats left e = ap (λ (s : State). s.files) e
+
+-- memory ran out in a command
+pub stopped_answered : (store store' : Seen) (k k' : Keeping) (old : Moment) (line : List ℕ) (command : Command) (before now : List ℕ) (r : Result (Option Ending) AllocError) → IsErr r → StandsFor (Some k) store old
+    → store'.0 ≡ store.0 → store.1 ≤ store'.1 → store'.2 ≤ store.2 + bound_of k.infos command → Answered LineStep Ends Leaves old line (StandsFor (Some k') store') store' before now r
+stopped_answered store store' k k' old line command before now (Err e) is s same le asks =
+    let few : store'.2 ≤ old.asks + 2 * length (s.0).infos =
+    subst (λ infos. store'.2 ≤ old.asks + 2 * length infos) (sym s.1.over.infos) (subst (λ n. store'.2 ≤ n + 2 * length k.infos) (sym s.4) (omega (arith, asks, few_asked k.infos command))) in
+    inl (same ∙ sym s.1.over.files ∙ ap files_of (sym s.2), subst (λ n. n ≤ store'.1) (sym s.3) le, subst (λ st. MayHaveAsked st old.asks store'.2) (sym s.2) few)
+stopped_answered store store' k k' old line command before now (Ok x) is s same le asks = absurd (cc)
 
 -- a line that is refused, once the machine is open
-pub refusal_answered : (m : State) (k : Keeping) (files : Option Files) (faults : ℕ) (line before now : List ℕ) (refusal : Refusal) → parse (Some k.schema) line ≡ Err refusal → Stands files k m
-    → now ≡ before ++ refusal_text refusal
-    → Answered LineStep Ends Leaves (record { stage = Serving m; faults = faults }) line (StandsFor (Some k) files faults) (files, faults) before now (Ok None)
-refusal_answered m k files faults line before now refusal p s e = (
-  refusal_text refusal,
-  record { stage = Serving m; faults = faults },
-  (
-    subst (λ meaning. Takes m meaning (refusal_text refusal) (Serving m)) (sym (ap (λ z. parse (Some z) line) s.schema ∙ p)) (refl, refl),
-    (le_refl faults, λ t. absurd (clash (tells_fault (refusal_text refusal)) (plain (Some k.schema) line refusal p) t)),
-  ),
-  (m, s, refl),
-  e,
-)
+pub refusal_answered : (store : Seen) (k : Keeping) (old : Moment) (line before now : List ℕ) (refusal : Refusal) → StandsFor (Some k) store old → served (parse (Some k.schema) line) ≡ Err refusal
+    → now ≡ before ++ refusal_text refusal → Answered LineStep Ends Leaves old line (StandsFor (Some k) store) store before now (Ok None)
+refusal_answered store k old line before now refusal s p e =
+    let means : served (parse (Some (s.0).schema) line) ≡ Err refusal = ap (λ z. served (parse (Some z) line)) s.1.over.schema ∙ p in
+    let asked = no_more old store.2 s.4 in (
+      refusal_text refusal,
+      next_moment old (Serving s.0) store.1 store.2 0,
+      line_step old line (refusal_text refusal) (Serving s.0) (Serving s.0) store.1 store.2 0 s.2 (subst (λ meaning. MachineStep s.0 meaning (refusal_text refusal) (Serving s.0)) (sym means) (refl, refl))
+          (uncounted (refusal_text refusal) old.faults store.1 (plain_served (Some k.schema) line refusal p) (le_same old.faults store.1 s.3)) (subst (λ meaning. MayAsk (Serving s.0) meaning 0) (sym means) refl) asked,
+      serves old store 0 k s.0 s.1,
+      e,
+    )
+
+-- memory ran out before the line's command was known
+pub unread_answered : (store : Seen) (k : Option Keeping) (old : Moment) (line before now : List ℕ) (At : Moment → Type 0) (r : Result (Option Ending) AllocError) → IsErr r → Leaves old store
+    → Answered LineStep Ends Leaves old line At store before now r
+unread_answered store k old line before now At (Err e) is l = inl l
+unread_answered store k old line before now At (Ok x) is l = absurd (cc)
 
 -- before the first line the program stands for the start
-pub begins_stood : (place : Option Keeping) (files : Option Files) (faults : ℕ) → place ≡ None → StandsFor place files faults (start (files, faults))
-begins_stood place files faults free = subst (λ k. StandsFor k files faults (start (files, faults))) (sym free) refl
+pub begins_stood : (place : Option Keeping) (words : Words) (store : Seen) → place ≡ None → StandsFor place store (start words store)
+begins_stood place words store free = subst (λ k. StandsFor k store (start words store)) (sym free) (refl, refl, refl)
 
-pub memory_answered : (old : Moment) (line : List ℕ) (At : Moment → Type 0) (after : Seen) (before now : List ℕ) (r : Result (Option Ending) AllocError) → IsErr r
-    → (Leaves old after ⊎ ((text : List ℕ) × (new : Moment) × LineStep old line text new × Leaves new after)) → Answered LineStep Ends Leaves old line At after before now r
-memory_answered old line At after before now (Err e) is l = l
-memory_answered old line At after before now (Ok x) is l = absurd (cc)
+-- and the store is left as it was
+pub begins_left : (words : Words) (store : Seen) → Leaves (start words store) store
+begins_left words store = stood_leaves None store (start words store) (refl, refl, refl)

@@ -33,43 +33,44 @@ told schema Going P p t = absurd (cc)
 told schema Done P p t = absurd (cc)
 told schema (Stats figures) P p t = absurd (cc)
 
--- the text of the refusal tells no fault
-abbrev pub IsPlain : Refusal → Type 0
-IsPlain refusal = tells_fault (refusal_text refusal) ≡ false
+-- What holds of each refusal of a line holds of the refusal of a line that is parsed.
+module _ (P : Refusal → Type 0) (bad : P BadLine) (no_schema : P NoSchema) (wrong : P WrongKey) (unknown : P UnknownColumn) (long : P TooLong) where
+  cause_is : (key column short : Bool) (refusal : Refusal) → (if key then Some WrongKey else if column then Some UnknownColumn else if short then None else Some TooLong) ≡ Some refusal → P refusal
+  cause_is true column short refusal e = let is : WrongKey ≡ refusal = cc in subst P is wrong
+  cause_is false true short refusal e = let is : UnknownColumn ≡ refusal = cc in subst P is unknown
+  cause_is false false true refusal e = absurd (cc)
+  cause_is false false false refusal e = let is : TooLong ≡ refusal = cc in subst P is long
 
-cause_plain : (key column short : Bool) (refusal : Refusal) → (if key then Some WrongKey else if column then Some UnknownColumn else if short then None else Some TooLong) ≡ Some refusal → IsPlain refusal
-cause_plain true column short refusal e = let is : WrongKey ≡ refusal = cc in subst IsPlain is refl
-cause_plain false true short refusal e = let is : UnknownColumn ≡ refusal = cc in subst IsPlain is refl
-cause_plain false false true refusal e = absurd (cc)
-cause_plain false false false refusal e = let is : TooLong ≡ refusal = cc in subst IsPlain is refl
+  unless_is : (cause : Option Refusal) (command : Command) (refusal : Refusal) → ((x : Refusal) → cause ≡ Some x → P x) → unless cause command ≡ Err refusal → P refusal
+  unless_is None command refusal f e = absurd (cc)
+  unless_is (Some cause) command refusal f e = f refusal (cc)
 
-unless_plain : (cause : Option Refusal) (command : Command) (refusal : Refusal) → ((x : Refusal) → cause ≡ Some x → IsPlain x) → unless cause command ≡ Err refusal → IsPlain refusal
-unless_plain None command refusal f e = absurd (cc)
-unless_plain (Some cause) command refusal f e = f refusal (cc)
+  shape_is : (taken : Option Lists) (line : List ℕ) (refusal : Refusal) → shape_meaning taken (shape_of (words line)) ≡ Err refusal → P refusal
+  unfolding meaning refusal_of
+  shape_is None line refusal e = elim (shape_of (words line)) as (λ shape. shape_meaning None shape ≡ Err refusal → P refusal) [
+    | None ↦ λ n. (let is : BadLine ≡ refusal = cc in subst P is bad)
+    | Some shape ↦ λ n. (let is : NoSchema ≡ refusal = cc in subst P is no_schema)
+  ] e
+  shape_is (Some schema) line refusal e = elim (shape_of (words line)) as (λ shape. shape_meaning (Some schema) shape ≡ Err refusal → P refusal) [
+    | None ↦ λ n. (let is : BadLine ≡ refusal = cc in subst P is bad)
+    | Some shape ↦ λ n. unless_is (refusal_of schema shape) (command_of schema shape) refusal
+        (λ x cause. cause_is (has_wrong_key schema shape) (has_unknown_column schema shape) (is_within schema shape) x cause) n
+  ] e
 
-shape_plain : (taken : Option Lists) (line : List ℕ) (refusal : Refusal) → shape_meaning taken (shape_of (words line)) ≡ Err refusal → IsPlain refusal
-unfolding meaning refusal_of
-shape_plain None line refusal e = elim (shape_of (words line)) as (λ shape. shape_meaning None shape ≡ Err refusal → IsPlain refusal) [
-  | None ↦ λ n. (let is : BadLine ≡ refusal = cc in subst IsPlain is refl)
-  | Some shape ↦ λ n. (let is : NoSchema ≡ refusal = cc in subst IsPlain is refl)
-] e
-shape_plain (Some schema) line refusal e = elim (shape_of (words line)) as (λ shape. shape_meaning (Some schema) shape ≡ Err refusal → IsPlain refusal) [
-  | None ↦ λ n. (let is : BadLine ≡ refusal = cc in subst IsPlain is refl)
-  | Some shape ↦ λ n. unless_plain (refusal_of schema shape) (command_of schema shape) refusal
-      (λ x cause. cause_plain (has_wrong_key schema shape) (has_unknown_column schema shape) (is_within schema shape) x cause) n
-] e
+  said_is : (taken : Option Lists) (line : List ℕ) (found : Option Lists) (refusal : Refusal) → said taken line found ≡ Err refusal → P refusal
+  said_is taken line (Some schema) refusal e = absurd (cc)
+  said_is taken line None refusal e = shape_is taken line refusal e
 
-said_plain : (taken : Option Lists) (line : List ℕ) (found : Option Lists) (refusal : Refusal) → said taken line found ≡ Err refusal → IsPlain refusal
-said_plain taken line (Some schema) refusal e = absurd (cc)
-said_plain taken line None refusal e = shape_plain taken line refusal e
+  line_is : (much comment : Bool) (later : Result Command Refusal) (refusal : Refusal) → (later ≡ Err refusal → P refusal)
+      → (if much then Err BadLine else if comment then Ok nothing else later) ≡ Err refusal → P refusal
+  line_is true comment later refusal f e = let is : BadLine ≡ refusal = cc in subst P is bad
+  line_is false true later refusal f e = absurd (cc)
+  line_is false false later refusal f e = f e
 
-line_plain : (long comment : Bool) (later : Result Command Refusal) (refusal : Refusal) → (later ≡ Err refusal → IsPlain refusal)
-    → (if long then Err BadLine else if comment then Ok nothing else later) ≡ Err refusal → IsPlain refusal
-line_plain true comment later refusal f e = let is : BadLine ≡ refusal = cc in subst IsPlain is refl
-line_plain false true later refusal f e = absurd (cc)
-line_plain false false later refusal f e = f e
+  pub of_line : (taken : Option Lists) (line : List ℕ) (refusal : Refusal) → parse taken line ≡ Err refusal → P refusal
+  unfolding parse
+  of_line taken line refusal e = line_is (nat_lt longest_line (length line)) (is_comment line) (said taken line (schema_said line)) refusal (said_is taken line (schema_said line) refusal) e
 
 -- no line is refused for a fault
-pub plain : (taken : Option Lists) (line : List ℕ) (refusal : Refusal) → parse taken line ≡ Err refusal → IsPlain refusal
-unfolding parse
-plain taken line refusal e = line_plain (nat_lt longest_line (length line)) (is_comment line) (said taken line (schema_said line)) refusal (said_plain taken line (schema_said line) refusal) e
+pub plain : (taken : Option Lists) (line : List ℕ) (refusal : Refusal) → parse taken line ≡ Err refusal → tells_fault (refusal_text refusal) ≡ false
+plain = of_line (λ refusal. tells_fault (refusal_text refusal) ≡ false) refl refl refl refl refl

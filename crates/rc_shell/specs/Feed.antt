@@ -1,5 +1,5 @@
 -- What serving the bytes of a piece did, given what stood unfinished before it.
-use Rattle.std.specs.Prelude.{◌≡◌, ◌≢◌, ℕ, List, [], ◌∷◌, ◌++◌, length, take, Option, Some, None, Result, Ok, Err, ◌⊎◌, ◌+◌, true}
+use Rattle.std.specs.Prelude.{◌≡◌, ◌≢◌, ℕ, List, [], ◌∷◌, ◌++◌, length, take, Option, Some, None, Result, Ok, Err, ◌⊎◌, ◌+◌}
 use Rattle.std.specs.Io.KnownBytes.{Appends, Consumes}
 use Rattle.std.specs.declared.alloc.AllocError.{AllocError}
 use Rattle.rc_outside.specs.Faults.{Rose}
@@ -12,6 +12,7 @@ use Rattle.rc_shell.specs.declared.status.Status.TheVariants as statuses
 use Rattle.rc_shell.specs.declared.status.Ending.{Ending}
 use Rattle.rc_shell.specs.declared.status.Stop.{Stop}
 use Rattle.rc_shell.specs.declared.status.Stop.TheVariants.{NoMemory, OutputFault, Ended}
+use Rattle.rc_shell.specs.declared.words.Words.TheVariants.{Run}
 
 -- what is kept of an unfinished line: one byte more than the longest line has
 unfoldable pub kept : List ℕ → List ℕ
@@ -23,20 +24,20 @@ FaultsAfter OutputFault before now = Rose before now
 FaultsAfter stop before now = now ≡ before
 
 -- a front of the text was written
-abbrev pub IsPartOf : List ℕ → Option (List ℕ) → Option (List ℕ) → Type 0
-IsPartOf text old new = (front : List ℕ) × (back : List ℕ) × (text ≡ front ++ back) × Appends old new front
+abbrev pub IsFrontPushed : List ℕ → Option (List ℕ) → Option (List ℕ) → Type 0
+IsFrontPushed text old new = (front : List ℕ) × (back : List ℕ) × (text ≡ front ++ back) × Appends old new front
 
 -- What pushing a text did: it was written whole, or in part where the output failed, or not at all.
 abbrev pub PushedText : Option (List ℕ) → Option (List ℕ) → ℕ → ℕ → List ℕ → Result Unit Stop → Type 0
 PushedText old new before now text (Ok _) = Appends old new text × (now ≡ before)
-PushedText old new before now text (Err OutputFault) = IsPartOf text old new × Rose before now
+PushedText old new before now text (Err OutputFault) = IsFrontPushed text old new × Rose before now
 PushedText old new before now text (Err NoMemory) = Appends old new [] × (now ≡ before)
 PushedText old new before now text (Err (Ended ending)) = ⊥
 
 -- What pushing the last line of an ending did.
 abbrev pub PushedEnding : Ending → Option (List ℕ) → Option (List ℕ) → ℕ → ℕ → List ℕ → Stop → Type 0
 PushedEnding ending old new before now line (Ended other) = (other ≡ ending) × Appends old new line × (now ≡ before)
-PushedEnding ending old new before now line OutputFault = IsPartOf line old new × Rose before now
+PushedEnding ending old new before now line OutputFault = IsFrontPushed line old new × Rose before now
 PushedEnding ending old new before now line NoMemory = Appends old new [] × (now ≡ before)
 
 -- What pushing what a line is answered did: its text, or the last line of an ending.
@@ -49,7 +50,7 @@ PushedAnswer (Some ending) old new before now line (Ok _) = ⊥
 abbrev pub EndedBy : Status → List ℕ → Option (List ℕ) → Option (List ℕ) → ℕ → ℕ → Status → Type 0
 EndedBy due line old new before now status =
     ((status ≡ due) × Appends old new line × (now ≡ before))
-    ⊎ (((status ≡ statuses.OutputFault) × IsPartOf line old new × Rose before now)
+    ⊎ (((status ≡ statuses.OutputFault) × IsFrontPushed line old new × Rose before now)
     ⊎ ((status ≡ statuses.NoMemory) × Appends old new [] × (now ≡ before)))
 
 module _ {State Seen : Type 0} (Step : State → List ℕ → List ℕ → State → Type 0) (Ends : State → List ℕ → Status → List ℕ → Seen → Type 0) (Leaves : State → Seen → Type 0) where
@@ -122,4 +123,4 @@ module _ {State Seen : Type 0} (Step : State → List ℕ → List ℕ → State
   TurnGave start limit At held count left left' written written' after input input' output output' (Ok n) =
       SoFar start At held (count + n) left left' written written' input input' output output'
   TurnGave start limit At held count left left' written written' after input input' output output' (Err status) =
-      Ran Step Ends Leaves true start limit status left left' written written' after input input' output output'
+      (segments : ℕ) → Ran Step Ends Leaves (Run segments) start limit status left left' written written' after input input' output output'

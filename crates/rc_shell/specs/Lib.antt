@@ -4,3 +4,5 @@ pub mod Feed
 pub mod Status
 pub mod Step
 pub mod Words
+pub mod Holding
+pub mod Late

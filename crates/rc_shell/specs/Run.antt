@@ -1,10 +1,12 @@
 -- A run: what is written for the bytes that were taken, and what is left of the store, for each exit status.
 -- It is said of any machine: a start; a step from a state by a line to a text and the next state; the lines that end a run, each with
 -- a status and a last line; and what may be seen of the store where the machine is left in a state.
-use Rattle.std.specs.Prelude.{◌≡◌, ◌⊎◌, ℕ, ◌<◌, ◌≤◌, List, [], ◌∷◌, ◌++◌, length, Bool, true, false, Option, codes}
+use Rattle.std.specs.Prelude.{◌≡◌, ◌⊎◌, ℕ, ◌<◌, ◌≤◌, List, [], ◌∷◌, ◌++◌, length, Option, codes}
 use Rattle.std.specs.Io.KnownBytes.{Appends, Consumes, IsAtEnd}
 use Rattle.rc_outside.specs.Faults.{Rose}
 use Rattle.rc_shell.specs.Lines.{IsLine, BeginsWithLines, last_line, IsNext}
+use Rattle.rc_shell.specs.declared.words.Words.{Words}
+use Rattle.rc_shell.specs.declared.words.Words.TheVariants.{Run, Refused}
 use Rattle.rc_shell.specs.declared.status.Status.{Status}
 use Rattle.rc_shell.specs.declared.status.Status.TheVariants.{Done, BadWords, BadTable, NoMemory, InputFault, OutputFault, StoreFault, InputLimit}
 
@@ -32,6 +34,15 @@ Caused NoMemory input input' output output' = output' ≡ output
 Caused InputFault input input' output output' = Rose input input' × (output' ≡ output)
 Caused OutputFault input input' output output' = Rose output output'
 Caused status input input' output output' = (input' ≡ input) × (output' ≡ output)
+
+-- so many bytes of the input are asked for at once, at most: a piece
+abbrev pub piece_size : ℕ
+piece_size = 65536
+
+-- Behind each newline in the bytes that were taken and not answered stand fewer than a piece: so at most a piece was taken ahead of the line that
+-- is answered next.
+abbrev pub IsNear : List ℕ → Type 0
+IsNear more = (line rest : List ℕ) → more ≡ line ++ 10 ∷ rest → length rest < piece_size
 
 -- What is written of pieces that were due with a status.
 module _ (Due : Status → List (List ℕ) → Type 0) where
@@ -90,34 +101,34 @@ module _ {State Seen : Type 0} (Step : State → List ℕ → List ℕ → State
   abbrev pub WasRead : ℕ → Option (List ℕ) → List ℕ → Type 0
   WasRead limit left taken = IsAtEnd left × (length taken < limit)
 
-  -- What was due, piece by piece, where the words are those of a run (true) or not: for the bytes that were taken, what the input has
-  -- left, what is seen of the store then, and a status.
-  abbrev pub Due : Bool → State → ℕ → Option (List ℕ) → List ℕ → Seen → Status → List (List ℕ) → Type 0
+  -- What was due, piece by piece, by the words: for the bytes that were taken, what the input has left, what is seen of the store then, and a
+  -- status.
+  abbrev pub Due : Words → State → ℕ → Option (List ℕ) → List ℕ → Seen → Status → List (List ℕ) → Type 0
   -- the text for each line, the last one without a newline too
-  Due true start limit left taken after Done pieces =
+  Due (Run segments) start limit left taken after Done pieces =
       (lines : List (List ℕ)) × (rest : List ℕ) × (end : State) × BeginsWithLines taken lines rest × IsLine rest × WasRead limit left taken × Answers Step start (lines ++ last_line rest) pieces end × Leaves end after
   -- the text for each whole line, then a last line on the fault
-  Due true start limit left taken after InputFault pieces =
+  Due (Run segments) start limit left taken after InputFault pieces =
       (texts : List (List ℕ)) × (rest : List ℕ) × (end : State) × Served Step start taken texts rest end × IsLine rest × (length taken < limit) × Leaves end after × (pieces ≡ texts ++ input_fault ∷ [])
   -- the text for each whole line, then a last line on the limit
-  Due true start limit left taken after InputLimit pieces =
+  Due (Run segments) start limit left taken after InputLimit pieces =
       (texts : List (List ℕ)) × (rest : List ℕ) × (end : State) × Served Step start taken texts rest end × IsLine rest × (length taken ≡ limit) × Leaves end after × (pieces ≡ texts ++ input_limit ∷ [])
   -- the text for each of some first lines
-  Due true start limit left taken after NoMemory pieces = (more : List ℕ) × (end : State) × Served Step start taken pieces more end × (length taken ≤ limit) × Leaves end after
+  Due (Run segments) start limit left taken after NoMemory pieces = (more : List ℕ) × (end : State) × Served Step start taken pieces more end × (length taken ≤ limit) × IsNear more × Leaves end after
   -- the text for each of some first lines, then the last line for the next one, which ends the run
-  Due true start limit left taken after BadTable pieces = IsEnded (WasRead limit left taken) start taken after BadTable pieces × (length taken ≤ limit)
-  Due true start limit left taken after StoreFault pieces = IsEnded (WasRead limit left taken) start taken after StoreFault pieces × (length taken ≤ limit)
+  Due (Run segments) start limit left taken after BadTable pieces = (e : IsEnded (WasRead limit left taken) start taken after BadTable pieces) × (length taken ≤ limit) × IsNear e.more
+  Due (Run segments) start limit left taken after StoreFault pieces = (e : IsEnded (WasRead limit left taken) start taken after StoreFault pieces) × (length taken ≤ limit) × IsNear e.more
   -- nothing is taken where the words are refused
-  Due false start limit left taken after BadWords pieces = (taken ≡ []) × Leaves start after × (pieces ≡ bad_words ∷ [])
+  Due Refused start limit left taken after BadWords pieces = (taken ≡ []) × Leaves start after × (pieces ≡ bad_words ∷ [])
   -- nothing else is due
-  Due right start limit left taken after status pieces = ⊥
+  Due words start limit left taken after status pieces = ⊥
 
   -- A run over an input, an output and a store: bytes are taken from the one, what is written to the other is that of a run, and after it
   -- this is seen of the store; with its cause.
-  pub record Ran (right : Bool) (start : State) (limit : ℕ) (status : Status) (left left' written written' : Option (List ℕ)) (after : Seen) (input input' output output' : ℕ) : Type 0 where
+  pub record Ran (words : Words) (start : State) (limit : ℕ) (status : Status) (left left' written written' : Option (List ℕ)) (after : Seen) (input input' output output' : ℕ) : Type 0 where
     pub taken : List ℕ
     pub text : List ℕ
     pub consumed : Consumes left left' taken
     pub appended : Appends written written' text
-    pub run : IsWritten (Due right start limit left' taken after) status text
+    pub run : IsWritten (Due words start limit left' taken after) status text
     pub cause : Caused status input input' output output'

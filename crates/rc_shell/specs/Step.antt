@@ -1,22 +1,30 @@
 -- One line: its meaning, what it does at each stage of a run, and its text.
-use Rattle.std.specs.Prelude.{◌≡◌, ℕ, ◌≤◌, ◌||◌, Bool, List, [], ◌++◌, Option, Some, None, Result, Ok, Err, IfSome, IsTrue, codes, decimal}
-use Rattle.std.proofs.Common.{subst, sym, refl, le_refl}
+--     Moment              what holds between two lines
+--     LineStep            what a line is answered, and the next moment
+--     Ends                the lines that end the run
+use Rattle.std.specs.Prelude.{◌≡◌, ℕ, ◌+◌, ◌*◌, ◌≤◌, ◌||◌, Bool, List, [], ◌++◌, length, Option, Some, None, Result, Ok, Err, IfSome, IsTrue, ⊤, codes, decimal, if◌then◌else◌}
+use Rattle.std.specs.FinMap as map
 use Rattle.rc_outside.specs.Faults.{Rose}
 use Rattle.rc_outside.specs.Files.{Files}
 use Rattle.rc_schema.specs.Lists.{Lists}
+use Rattle.rc_tfile.specs.declared.info.TableInfo.{TableInfo}
 use Rattle.rc_lines.specs.declared.commands.Command.{Command}
 use Rattle.rc_lines.specs.declared.commands.Command.TheVariants.{Nothing, SetSchema}
+use Rattle.rc_lines.specs.declared.commands.Figures.{Figures}
 use Rattle.rc_lines.specs.declared.commands.Refusal.{Refusal}
-use Rattle.rc_lines.specs.declared.commands.Refusal.TheVariants.{ReadFault, WriteFault}
+use Rattle.rc_lines.specs.declared.commands.Refusal.TheVariants.{BadLine, ReadFault, WriteFault}
 use Rattle.rc_lines.specs.declared.commands.Reply.{Reply}
 use Rattle.rc_lines.specs.declared.commands.Reply.TheVariants.{Fine}
 use Rattle.rc_lines.specs.Grammar.{parse}
-use Rattle.rc_lines.specs.Laws.{long_lines_are_cut}
 use Rattle.rc_lines.specs.Parts.{is_word}
 use Rattle.rc_lines.specs.Texts.{reply_text, refusal_text}
-use Rattle.rc_machine.specs.Steps.{State, Table, AreTables, IsFirstBad, Steps, opened}
-use Rattle.rc_machine.specs.Stands.{Keeping, Stands}
-use Rattle.rc_shell.specs.Feed.{kept}
+use Rattle.rc_machine.specs.Built.{is_built}
+use Rattle.rc_machine.specs.State.{State, Table, opened}
+use Rattle.rc_machine.specs.Serving.{bound_of, checks_of}
+use Rattle.rc_machine.specs.Steps.{Steps}
+use Rattle.rc_machine.specs.Tables.{AreTables, AreListed, IsFirstBad}
+use Rattle.rc_shell.specs.Words.{segments_of}
+use Rattle.rc_shell.specs.declared.words.Words.{Words}
 use Rattle.rc_shell.specs.declared.status.Status.{Status}
 use Rattle.rc_shell.specs.declared.status.Status.TheVariants.{BadTable, StoreFault}
 
@@ -25,44 +33,83 @@ pub data Stage : Type 0 where
   Waiting : Option Files → Stage
   Serving : State → Stage
 
--- a moment of a run: its stage, and the store's count of faults
+-- a moment of a run: its stage; the budget, in segments; the store's count of faults, and how many ranges it was asked for; at most how many the
+-- lines so far may have asked for; and the figures that were told last
 pub record Moment : Type 0 where
   pub stage : Stage
+  pub segments : ℕ
   pub faults : ℕ
+  pub asks : ℕ
+  pub bound : ℕ
+  pub figures : Option Figures
 
--- what is seen of a store: its files, where it tells them, and its count of faults
+-- what is seen of a store: its files, where it tells them, its count of faults, and how many ranges it was asked for
 abbrev pub Seen : Type 0
-Seen = Option Files × ℕ
+Seen = Option Files × ℕ × ℕ
 
--- a run begins over a store
-abbrev pub start : Seen → Moment
-start store = record { stage = Waiting store.0; faults = store.1 }
+-- a run begins over a store, by its words
+abbrev pub start : Words → Seen → Moment
+start words store = record { stage = Waiting store.0; segments = segments_of words; faults = store.1; asks = store.2; bound = 0; figures = None }
 
 -- the files of the store at a stage
 abbrev pub files_of : Stage → Option Files
 files_of (Waiting files) = files
 files_of (Serving m) = m.files
 
--- at this moment the store has the stage's files; its count of faults may rise still
+-- At most so many ranges were asked for since a moment at this stage: as many as one more line may ask for, which was not answered. Before a
+-- schema line was taken these are the check of each file, where they are told, and then two for each table.
+abbrev pub MayHaveAsked : Stage → ℕ → ℕ → Type 0
+MayHaveAsked (Waiting None) before now = ⊤
+MayHaveAsked (Waiting (Some files)) before now = now ≤ before + checks_of (map.values files)
+MayHaveAsked (Serving m) before now = now ≤ before + 2 * length m.infos
+
+-- at this moment the store has the stage's files; its count of faults may rise still, and so may what is asked for, by one more line's
 abbrev pub Leaves : Moment → Seen → Type 0
-Leaves now store = (store.0 ≡ files_of now.stage) × (now.faults ≤ store.1)
+Leaves now store = (store.0 ≡ files_of now.stage) × (now.faults ≤ store.1) × MayHaveAsked now.stage now.asks store.2
+
+-- a line of a command that is not served is a bad line
+abbrev pub served : Result Command Refusal → Result Command Refusal
+served (Ok command) = if is_built command then Ok command else Err BadLine
+served (Err refusal) = Err refusal
+
+-- the schema that was taken
+abbrev pub taken_schema : Stage → Option Lists
+taken_schema (Waiting files) = None
+taken_schema (Serving m) = Some m.schema
+
+-- what a line means at a stage
+abbrev pub meaning_at : Stage → List ℕ → Result Command Refusal
+meaning_at stage line = served (parse (taken_schema stage) line)
 
 -- what a line does before a schema line was taken, by its meaning: a schema line opens the machine over the folder's tables
-abbrev pub Opens : Option Files → Result Command Refusal → List ℕ → Stage → Type 0
-Opens files (Ok Nothing) text new = (text ≡ []) × (new ≡ Waiting files)
-Opens files (Ok (SetSchema schema)) text new = (tables : List Table) × AreTables files schema tables × (text ≡ reply_text schema Fine) × (new ≡ Serving (opened files schema tables))
-Opens files (Ok command) text new = ⊥
-Opens files (Err refusal) text new = (text ≡ refusal_text refusal) × (new ≡ Waiting files)
+abbrev pub EarlyStep : ℕ → Option Files → Result Command Refusal → List ℕ → Stage → Type 0
+EarlyStep segments files (Ok Nothing) text new = (text ≡ []) × (new ≡ Waiting files)
+EarlyStep segments files (Ok (SetSchema schema)) text new =
+    (tables : List Table) × (infos : List TableInfo) × AreTables files schema tables × AreListed files schema tables infos × (text ≡ reply_text schema Fine) × (new ≡ Serving (opened segments files schema tables infos))
+EarlyStep segments files (Ok command) text new = ⊥
+EarlyStep segments files (Err refusal) text new = (text ≡ refusal_text refusal) × (new ≡ Waiting files)
 
 -- what a line does then: a command takes a step of the machine, and a refused line changes nothing
-abbrev pub Takes : State → Result Command Refusal → List ℕ → Stage → Type 0
-Takes m (Ok command) text new = (reply : Reply) × (next : State) × Steps m command reply next × (text ≡ reply_text m.schema reply) × (new ≡ Serving next)
-Takes m (Err refusal) text new = (text ≡ refusal_text refusal) × (new ≡ Serving m)
+abbrev pub MachineStep : State → Result Command Refusal → List ℕ → Stage → Type 0
+MachineStep m (Ok command) text new = (reply : Reply) × (next : State) × Steps m command reply next × (text ≡ reply_text m.schema reply) × (new ≡ Serving next)
+MachineStep m (Err refusal) text new = (text ≡ refusal_text refusal) × (new ≡ Serving m)
 
--- what a line does at a stage
-abbrev pub StageStep : Stage → List ℕ → List ℕ → Stage → Type 0
-StageStep (Waiting files) line text new = Opens files (parse None line) text new
-StageStep (Serving m) line text new = Takes m (parse (Some m.schema) line) text new
+-- what a line does at a stage, by its meaning
+abbrev pub StageStep : ℕ → Stage → Result Command Refusal → List ℕ → Stage → Type 0
+StageStep segments (Waiting files) meaning text new = EarlyStep segments files meaning text new
+StageStep segments (Serving m) meaning text new = MachineStep m meaning text new
+
+-- At most so many ranges may be asked for by a line, by its meaning: before a schema line was taken by the check of each file, where they
+-- are told, and by as many as it takes where they are not; then by what its command may ask for.
+abbrev pub MayAsk : Stage → Result Command Refusal → ℕ → Type 0
+MayAsk (Waiting (Some files)) (Ok (SetSchema schema)) bound = bound ≡ checks_of (map.values files)
+MayAsk (Waiting None) (Ok (SetSchema schema)) bound = ⊤
+MayAsk (Serving m) (Ok command) bound = bound ≡ bound_of m.infos command
+MayAsk stage meaning bound = bound ≡ 0
+
+-- the ranges that were asked for over a line: at most as many as it may ask for, which are added to the bound so far
+abbrev pub Asks : Moment → Result Command Refusal → Moment → Type 0
+Asks old meaning new = (bound : ℕ) × MayAsk old.stage meaning bound × (new.bound ≡ old.bound + bound) × (new.asks ≤ old.asks + bound)
 
 -- whether a reply's text tells a fault of the store
 abbrev pub tells_fault : List ℕ → Bool
@@ -73,8 +120,12 @@ abbrev pub Counts : List ℕ → ℕ → ℕ → Type 0
 Counts text before now = (before ≤ now) × (IsTrue (tells_fault text) → Rose before now)
 
 -- from old the line may be answered by the text, and new is next
-abbrev pub LineStep : Moment → List ℕ → List ℕ → Moment → Type 0
-LineStep old line text new = StageStep old.stage line text new.stage × Counts text old.faults new.faults
+pub record LineStep (old : Moment) (line text : List ℕ) (new : Moment) : Type 0 where
+  pub stage : StageStep old.segments old.stage (meaning_at old.stage line) text new.stage
+  pub counts : Counts text old.faults new.faults
+  pub asks : Asks old (meaning_at old.stage line) new
+  pub segments : new.segments ≡ old.segments
+  pub figures : new.figures ≡ old.figures
 
 -- the last line where a table is damaged at an offset
 unfoldable pub damaged_table : ℕ → ℕ → List ℕ
@@ -107,36 +158,3 @@ EndsAt (Serving m) line status last before now = ⊥
 -- at this moment the line ends the run with a status and a last line, and leaves the store so
 abbrev pub Ends : Moment → List ℕ → Status → List ℕ → Seen → Type 0
 Ends old line status last store = Leaves old store × EndsAt old.stage line status last old.faults store.1
-
--- the schema of a schema line
-abbrev pub schema_set : Command → Option Lists
-schema_set (SetSchema schema) = Some schema
-schema_set command = None
-
--- what the program keeps over a store stands for a moment: nothing before a schema line was taken, then what the machine keeps
-abbrev pub StandsFor : Option Keeping → Option Files → ℕ → Moment → Type 0
-StandsFor None files faults now = now ≡ record { stage = Waiting files; faults = faults }
-StandsFor (Some keeping) files faults now = (m : State) × Stands files keeping m × (now ≡ record { stage = Serving m; faults = faults })
-
-step_of_front : (stage : Stage) (line text : List ℕ) (new : Stage) → StageStep stage (kept line) text new → StageStep stage line text new
-unfolding kept
-step_of_front (Waiting files) line text new s = subst (λ meaning. Opens files meaning text new) (long_lines_are_cut None line) s
-step_of_front (Serving m) line text new s = subst (λ meaning. Takes m meaning text new) (long_lines_are_cut (Some m.schema) line) s
-
--- the front of a line that is kept decides what the line is answered
-pub front_decides : (old new : Moment) (line text : List ℕ) → LineStep old (kept line) text new → LineStep old line text new
-front_decides old new line text s = (step_of_front old.stage line text new.stage s.0, s.1)
-
-end_of_front : (stage : Stage) (line : List ℕ) (status : Status) (last : List ℕ) (before now : ℕ) → EndsAt stage (kept line) status last before now → EndsAt stage line status last before now
-unfolding kept
-end_of_front (Waiting files) line status last before now e = (e.0, subst (λ meaning. meaning ≡ Ok (SetSchema e.0)) (long_lines_are_cut None line) e.1, e.2)
-end_of_front (Serving m) line status last before now e = e
-
--- and whether it ends the run
-pub front_ends : (old : Moment) (line : List ℕ) (status : Status) (last : List ℕ) (store : Seen) → Ends old (kept line) status last store → Ends old line status last store
-front_ends old line status last store e = (e.0, end_of_front old.stage line status last old.faults store.1 e.1)
-
--- the moment for which the program stands has the store's files
-pub stood_leaves : (kept : Option Keeping) (files : Option Files) (faults : ℕ) (now : Moment) → StandsFor kept files faults now → Leaves now (files, faults)
-stood_leaves None files faults now s = subst (λ m. Leaves m (files, faults)) (sym s) (refl, le_refl faults)
-stood_leaves (Some keeping) files faults now s = subst (λ m. Leaves m (files, faults)) (sym s.2) (sym s.1.files, le_refl faults)

@@ -1,9 +1,20 @@
--- The words behind the program's name.
-use Rattle.std.specs.Prelude.{ℕ, Bool, false, List, [], ◌∷◌, codes}
+-- What the words behind the program's name ask for.
+use Rattle.std.specs.Prelude.{ℕ, List, [], ◌∷◌, codes, if◌then◌else◌}
 use Rattle.rc_lines.specs.Parts.{is_word}
+use Rattle.rc_shell.specs.declared.words.Words.{Words}
+use Rattle.rc_shell.specs.declared.words.Words.TheVariants.{Run, Refused}
 
--- whether they are those of a run: the word `run` alone
-abbrev pub are_run : List (List ℕ) → Bool
-are_run [] = false
-are_run (word ∷ []) = is_word word (codes "run")
-are_run (word ∷ other ∷ words) = false
+-- the budget where the words name none: 32 segments
+abbrev pub usual_segments : ℕ
+usual_segments = 32
+
+-- the word `run` alone is a run; all other words are refused
+abbrev pub words_of : List (List ℕ) → Words
+words_of [] = Refused
+words_of (word ∷ []) = if is_word word (codes "run") then Run usual_segments else Refused
+words_of (word ∷ other ∷ words) = Refused
+
+-- the budget of a run, in segments
+abbrev pub segments_of : Words → ℕ
+segments_of (Run segments) = segments
+segments_of Refused = 0

@@ -1,20 +1,22 @@
 //! The program's server: a machine that the first schema line opens.
 
-ghost use Rattle.std.specs.Prelude.{◌≡◌, ℕ, List, ◌++◌, None, Some, Ok, Option, OnOk, decimal};
-ghost use Rattle.rc_outside.specs.Files.{Files};
+ghost use Rattle.std.specs.Prelude.{◌≡◌, ℕ, List, ◌++◌, None, Some, Ok, OnOk, IfOk, decimal, IsTrue};
+ghost use Rattle.std.specs.Option.{option_copied};
 ghost use Rattle.rc_lines.specs.declared.commands.Command.TheVariants.{SetSchema};
-ghost use Rattle.rc_lines.specs.Grammar.{parse};
-ghost use Rattle.rc_machine.specs.Steps.{State};
-ghost use Rattle.rc_machine.specs.Stands.{Stands};
+ghost use Rattle.rc_lines.specs.Grammar.{parse, Reads};
+ghost use Rattle.rc_machine.specs.State.{State};
+ghost use Rattle.rc_machine.specs.Built.{is_built};
+ghost use Rattle.rc_plain.specs.Stands.{Stands};
 ghost use Rattle.rc_shell.specs.Feed.{Answered};
-ghost use Rattle.rc_shell.specs.Step.{Moment, Serving, LineStep, Ends, Leaves, StandsFor, damaged_table, other_table, schema_set, start};
+ghost use Rattle.rc_shell.specs.Step.{Moment, LineStep, Ends, Leaves, damaged_table, other_table, served};
+ghost use Rattle.rc_shell.specs.Late.{StandsFor, schema_set};
 
 use crate::server::Server;
 use crate::status::Ending;
 use itoa::Buffer;
-use rc_lines::{Command, LineErr, Reply, print_refusal, print_reply, read_line};
-use rc_machine::{Machine, OpenErr};
+use rc_lines::{Command, LineErr, Refusal, Reply, print_refusal, print_reply, read_line};
 use rc_outside::Store;
+use rc_plain::{OpenErr, Plain, is_built};
 use rc_schema::Schema;
 use std::alloc::{AllocError, Global};
 
@@ -24,13 +26,13 @@ const STORE_FAULT: &[u8] = b"! store fault\n";
 /// A machine that the first schema line opens over the store.
 #[derive(Drop)]
 pub(crate) struct LateMachine {
-    machine: Option<Machine>,
+    machine: Option<Plain>,
 }
 
 impl Server for LateMachine {
-    ghost use Rattle.rc_shell.specs.Step.{StandsFor, stood_leaves};
+    ghost use Rattle.rc_shell.specs.Late.{StandsFor, stood_leaves};
 
-    ghost stands = { λ server files faults now. StandsFor server.machine files faults now };
+    ghost stands = { λ server store now. StandsFor server.machine store now };
 
     ghost leaves = { λ server. stood_leaves server.machine };
 
@@ -57,18 +59,36 @@ impl LateMachine {
     }
 }
 
+/// The command of a line, under the schema that was taken, where the program serves it: a line of any other command is a bad line.
+fn read_served(alloc: Global, schema: Option<&Schema>, line: &[u8]) -> Result<Command, LineErr>
+    ensures reads { Reads result (served (parse (option_copied schema.entry) line.now)) }
+    ensures built { IfOk result (λ command. IsTrue (is_built command)) }
+{
+    match read_line(alloc, schema, line) {
+        Ok(command) => {
+            if is_built(&command) {
+                Ok(command)
+            } else {
+                Err(LineErr::Refused(Refusal::BadLine))
+            }
+        }
+        Err(error) => Err(error),
+    }
+}
+
 /// Answers a line before a schema line was taken.
 fn begin<W: Store>(
     alloc: Global,
-    place: &mut Option<Machine>,
+    place: &mut Option<Plain>,
     store: &mut W,
     line: &[u8],
     text: &mut Vec<u8>,
 ) -> Result<Option<Ending>, AllocError>
     requires { place.old ≡ None }
-    ensures { Answered LineStep Ends Leaves (start (W.files store.old, W.faults store.old)) line.now (StandsFor place.new (W.files store.new) (W.faults store.new)) (W.files store.new, W.faults store.new) text.old.items text.new.items result }
+    ensures { (old : Moment) → StandsFor None (W.files store.old, W.faults store.old, W.asks store.old) old →
+        Answered LineStep Ends Leaves old line.now (StandsFor place.new (W.files store.new, W.faults store.new, W.asks store.new)) (W.files store.new, W.faults store.new, W.asks store.new) text.old.items text.new.items result }
 {
-    match read_line(alloc, None, line) {
+    match read_served(alloc, None, line) {
         Ok(command) => match schema_set(command) {
             Some(schema) => open(alloc, place, store, schema, text),
             None => Ok(None),
@@ -105,16 +125,16 @@ fn schema_set(command: Command) -> Option<Schema>
 /// Opens the machine by the first schema line.
 fn open<W: Store>(
     alloc: Global,
-    place: &mut Option<Machine>,
+    place: &mut Option<Plain>,
     store: &mut W,
     schema: Schema,
     text: &mut Vec<u8>,
 ) -> Result<Option<Ending>, AllocError>
     requires { place.old ≡ None }
-    ensures { (line : List ℕ) → parse None line ≡ Ok (SetSchema schema) →
-        Answered LineStep Ends Leaves (start (W.files store.old, W.faults store.old)) line (StandsFor place.new (W.files store.new) (W.faults store.new)) (W.files store.new, W.faults store.new) text.old.items text.new.items result }
+    ensures { (old : Moment) (line : List ℕ) → StandsFor None (W.files store.old, W.faults store.old, W.asks store.old) old → parse None line ≡ Ok (SetSchema schema) →
+        Answered LineStep Ends Leaves old line (StandsFor place.new (W.files store.new, W.faults store.new, W.asks store.new)) (W.files store.new, W.faults store.new, W.asks store.new) text.old.items text.new.items result }
 {
-    match Machine::open(alloc, store, schema) {
+    match Plain::open(alloc, store, schema) {
         Ok(machine) => {
             print_reply(alloc, machine.schema(), &Reply::Fine, text)?;
             *place = Some(machine);
@@ -169,16 +189,16 @@ fn print_other_schema(table: u32, text: &mut Vec<u8>) -> Result<(), AllocError>
 /// Answers a line once the machine is open.
 fn serve<W: Store>(
     alloc: Global,
-    machine: &mut Machine,
+    machine: &mut Plain,
     store: &mut W,
     line: &[u8],
     text: &mut Vec<u8>,
 ) -> Result<Option<Ending>, AllocError>
     requires { (m : State) × Stands (W.files store.old) machine.old m }
-    ensures { (m : State) → Stands (W.files store.old) machine.old m →
-        Answered LineStep Ends Leaves (record { stage = Serving m; faults = W.faults store.old }) line.now (StandsFor (Some machine.new) (W.files store.new) (W.faults store.new)) (W.files store.new, W.faults store.new) text.old.items text.new.items result }
+    ensures { (old : Moment) → StandsFor (Some machine.old) (W.files store.old, W.faults store.old, W.asks store.old) old →
+        Answered LineStep Ends Leaves old line.now (StandsFor (Some machine.new) (W.files store.new, W.faults store.new, W.asks store.new)) (W.files store.new, W.faults store.new, W.asks store.new) text.old.items text.new.items result }
 {
-    match read_line(alloc, Some(machine.schema()), line) {
+    match read_served(alloc, Some(machine.schema()), line) {
         Ok(command) => {
             let reply = machine.serve(alloc, store, command)?;
             print_reply(alloc, machine.schema(), &reply, text)?;

@@ -1,9 +1,13 @@
-//! Laws of a run.
+//! Laws of a run, each the contract of a function that does nothing.
 
-ghost use Rattle.std.specs.Prelude.{◌≡◌, ℕ, ◌+◌, ◌-◌, ◌^◌, ◌≤◌, List, min, count_by};
-ghost use Rattle.rc_shell.specs.Run.{Answers};
-ghost use Rattle.rc_shell.specs.Step.{Moment, LineStep, tells_fault};
+ghost use Rattle.std.specs.Prelude.{◌≡◌, ℕ, ◌+◌, List, Option, Some, All, false};
+ghost use Rattle.rc_outside.specs.Files.{Files};
+ghost use Rattle.rc_shell.specs.Run.{Ran};
+ghost use Rattle.rc_shell.specs.Step.{Seen, LineStep, Ends, Leaves, MayHaveAsked, start};
 ghost use Rattle.rc_shell.specs.Lines.{IsLine, BeginsWithLines};
+ghost use Rattle.rc_shell.specs.Holding.{OfLines, HoldsFlushed, tells_damage};
+ghost use Rattle.rc_shell.specs.declared.status.Status.{Status};
+ghost use Rattle.rc_shell.specs.declared.words.Words.{Words};
 
 /// The whole lines of the bytes that were taken, and the unfinished rest behind them, are determined by the bytes: so it does
 /// not matter in which pieces they came.
@@ -11,8 +15,30 @@ pub fn lines_are_determined()
     ensures { (bytes : List ℕ) (lines others : List (List ℕ)) (rest more : List ℕ) → BeginsWithLines bytes lines rest → IsLine rest → BeginsWithLines bytes others more → IsLine more → (lines ≡ others) × (rest ≡ more) }
 {}
 
-/// Each reply that tells a fault of the store has a rise of its own in the store's count of faults, up to the count's end: so there are
-/// at most as many as the count rose.
-pub fn faults_are_counted()
-    ensures { (old new : Moment) (lines texts : List (List ℕ)) → Answers LineStep old lines texts new → min (old.faults + count_by tells_fault texts) (2 ^ 64 - 1) ≤ new.faults }
+/// A run answers some first lines of the bytes that it takes, and writes their texts and perhaps a last line, up to where the output fails. Each reply
+/// that tells a fault of the store, and the status of a fault of the store, has a rise of its own in the store's count of faults, up to the
+/// count's end: so there are at most as many as the count rose.
+pub fn runs_answer_lines()
+    ensures { (words : Words) (before after : Seen) (limit : ℕ) (status : Status) (left left2 written written2 : Option (List ℕ)) (input input2 output output2 : ℕ)
+        (r : Ran LineStep Ends Leaves words (start words before) limit status left left2 written written2 after input input2 output output2) → OfLines words before after status r.taken r.text }
+{}
+
+/// What the files hold after a run: those that were there, and one for each flush; each file that was not there before is the text of a table of the
+/// schema that says, at each place of each of its partitions, exactly what the writes say that were flushed to it. Where the store tells its files.
+pub fn files_hold_what_was_flushed()
+    ensures { (words : Words) (before after : Seen) (status : Status) (taken written : List ℕ) (files files2 : Files) (l : OfLines words before after status taken written) →
+        before.0 ≡ Some files → after.0 ≡ Some files2 → HoldsFlushed l.lines l.texts files files2 }
+{}
+
+/// Where the store tells its files no reply tells a damaged table.
+pub fn told_files_are_never_damaged()
+    ensures { (words : Words) (before after : Seen) (status : Status) (taken written : List ℕ) (files : Files) (l : OfLines words before after status taken written) →
+        before.0 ≡ Some files → All (λ text. tells_damage text ≡ false) l.texts }
+{}
+
+/// Over a run the store is asked for at most as many ranges as the lines that were answered may ask for (`asks`), and one more, which was not answered:
+/// two for each table; before the schema line, where the store tells its files, as many as the check of each may ask for.
+pub fn asks_are_bounded()
+    ensures { (words : Words) (before after : Seen) (status : Status) (taken written : List ℕ) (l : OfLines words before after status taken written) →
+        MayHaveAsked l.end.stage (before.2 + l.end.bound) after.2 }
 {}

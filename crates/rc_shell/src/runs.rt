@@ -1,13 +1,14 @@
 //! A run of the program.
 
-ghost use Rattle.std.specs.Prelude.{◌≡◌, ◌^◌, ℕ, List, map, string_bytes, false};
+ghost use Rattle.std.specs.Prelude.{◌≡◌, ◌^◌, ℕ, List, map, string_bytes};
 ghost use Rattle.rc_shell.specs.Run.{Ran};
 ghost use Rattle.rc_shell.specs.Step.{LineStep, Ends, Leaves, start};
-ghost use Rattle.rc_shell.specs.Words.{are_run};
+ghost use Rattle.rc_shell.specs.Words.{words_of};
 
 use crate::late::LateMachine;
 use crate::session::{Session, push_last};
 use crate::status::Status;
+use crate::words::{Words, words_of};
 use rc_outside::{Sink, Source, Store};
 use std::alloc::Global;
 
@@ -28,10 +29,10 @@ pub fn run<W: Store, I: Source, K: Sink>(
     input: &mut I,
     out: &mut K,
 ) -> Status
-    ensures run { Ran LineStep Ends Leaves (are_run (map string_bytes words.now)) (start (W.files store.old, W.faults store.old)) (2 ^ 40) result (I.left input.old) (I.left input.new) (K.written out.old) (K.written out.new)
-        (W.files store.new, W.faults store.new) (I.faults input.old) (I.faults input.new) (K.faults out.old) (K.faults out.new) }
+    ensures run { Ran LineStep Ends Leaves (words_of (map string_bytes words.now)) (start (words_of (map string_bytes words.now)) (W.files store.old, W.faults store.old, W.asks store.old)) (2 ^ 40) result (I.left input.old) (I.left input.new) (K.written out.old) (K.written out.new)
+        (W.files store.new, W.faults store.new, W.asks store.new) (I.faults input.old) (I.faults input.new) (K.faults out.old) (K.faults out.new) }
     // The store is asked for nothing where the words are refused.
-    ensures refused { are_run (map string_bytes words.now) ≡ false → store.new ≡ store.old }
+    ensures refused { words_of (map string_bytes words.now) ≡ Words.Refused → store.new ≡ store.old }
 {
     run_with(alloc, words, store, input, out, INPUT_LIMIT)
 }
@@ -45,28 +46,18 @@ pub fn run_with<W: Store, I: Source, K: Sink>(
     out: &mut K,
     limit: u64,
 ) -> Status
-    ensures run { Ran LineStep Ends Leaves (are_run (map string_bytes words.now)) (start (W.files store.old, W.faults store.old)) limit result (I.left input.old) (I.left input.new) (K.written out.old) (K.written out.new)
-        (W.files store.new, W.faults store.new) (I.faults input.old) (I.faults input.new) (K.faults out.old) (K.faults out.new) }
+    ensures run { Ran LineStep Ends Leaves (words_of (map string_bytes words.now)) (start (words_of (map string_bytes words.now)) (W.files store.old, W.faults store.old, W.asks store.old)) limit result (I.left input.old) (I.left input.new) (K.written out.old) (K.written out.new)
+        (W.files store.new, W.faults store.new, W.asks store.new) (I.faults input.old) (I.faults input.new) (K.faults out.old) (K.faults out.new) }
     // The store is asked for nothing where the words are refused.
-    ensures refused { are_run (map string_bytes words.now) ≡ false → store.new ≡ store.old }
+    ensures refused { words_of (map string_bytes words.now) ≡ Words.Refused → store.new ≡ store.old }
 {
-    if !are_run(words) {
-        return push_last(out, BAD_WORDS, Status::BadWords);
-    }
-    match vec![in alloc; 0u8; PIECE] {
-        Ok(mut piece) => Session::new(alloc, LateMachine::new()).serve_input(
-            alloc, store, input, &mut piece, out, limit,
-        ),
-        Err(_) => Status::NoMemory,
-    }
-}
-
-/// Whether the words are those of a run.
-fn are_run(words: &[String]) -> bool
-    ensures { result ≡ are_run (map string_bytes words.now) }
-{
-    match words {
-        [word] => word.as_bytes() == b"run".as_slice(),
-        _ => false,
+    match words_of(words) {
+        Words::Refused => push_last(out, BAD_WORDS, Status::BadWords),
+        Words::Run { .. } => match vec![in alloc; 0u8; PIECE] {
+            Ok(mut piece) => Session::new(alloc, LateMachine::new()).serve_input(
+                alloc, store, input, &mut piece, out, limit,
+            ),
+            Err(_) => Status::NoMemory,
+        },
     }
 }

@@ -1,9 +1,8 @@
 //! What answers the lines.
 
-ghost use Rattle.std.specs.Prelude.{◌≡◌, ℕ, List, ◌++◌, OnOk, Option};
-ghost use Rattle.rc_outside.specs.Files.{Files};
+ghost use Rattle.std.specs.Prelude.{◌≡◌, ℕ, List, ◌++◌, OnOk};
 ghost use Rattle.rc_shell.specs.Feed.{Answered, kept};
-ghost use Rattle.rc_shell.specs.Step.{Moment, LineStep, Ends, Leaves};
+ghost use Rattle.rc_shell.specs.Step.{Moment, Seen, LineStep, Ends, Leaves};
 
 use crate::status::Ending;
 use rc_outside::Store;
@@ -11,8 +10,8 @@ use std::alloc::{AllocError, Global};
 
 /// Something that answers lines over a store, one after another.
 pub(crate) trait Server {
-    /// Over a store with these files and this count of faults the server stands for a moment of a run.
-    ghost stands: { Self → Option Files → ℕ → Moment → Type 0 };
+    /// Over a store of which this is seen the server stands for a moment of a run.
+    ghost stands: { Self → Seen → Moment → Type 0 };
 
     /// Answers one line, without its newline: the text of its reply goes to the end of `text`; where the line ends the run, it is the run's
     /// last line. Want of memory leaves the store as before the line, or as a step by the line leaves it.
@@ -23,10 +22,10 @@ pub(crate) trait Server {
         line: &[u8],
         text: &mut Vec<u8>,
     ) -> Result<Option<Ending>, AllocError>
-        requires { (now : Moment) × stands self.old (W.files store.old) (W.faults store.old) now }
-        ensures { (old : Moment) → stands self.old (W.files store.old) (W.faults store.old) old →
-            Answered LineStep Ends Leaves old line.now (stands self.new (W.files store.new) (W.faults store.new)) (W.files store.new, W.faults store.new) text.old.items text.new.items result };
+        requires { (now : Moment) × stands self.old (W.files store.old, W.faults store.old, W.asks store.old) now }
+        ensures { (old : Moment) → stands self.old (W.files store.old, W.faults store.old, W.asks store.old) old →
+            Answered LineStep Ends Leaves old line.now (stands self.new (W.files store.new, W.faults store.new, W.asks store.new)) (W.files store.new, W.faults store.new, W.asks store.new) text.old.items text.new.items result };
 
     /// Its moment has the store's files.
-    ghost leaves: { (server : Self) (files : Option Files) (faults : ℕ) (now : Moment) → stands server files faults now → Leaves now (files, faults) };
+    ghost leaves: { (server : Self) (store : Seen) (now : Moment) → stands server store now → Leaves now store };
 }

@@ -5,9 +5,10 @@ ghost use Rattle.std.specs.Io.KnownBytes.{Appends, IsAtEnd};
 ghost use Rattle.rc_outside.specs.Faults.{Rose};
 ghost use Rattle.rc_shell.specs.Lines.{IsLine};
 ghost use Rattle.rc_shell.specs.Feed.{PushedText, PushedAnswer, ServedLine, ServedLast, Serves, SoFar, TurnGave, EndedBy, kept};
-ghost use Rattle.rc_shell.specs.Run.{Ran};
+ghost use Rattle.rc_shell.specs.Run.{Ran, piece_size};
 ghost use Rattle.rc_shell.specs.Status.{stop_by};
 ghost use Rattle.rc_shell.specs.Step.{Moment, LineStep, Ends, Leaves};
+ghost use Rattle.rc_shell.specs.declared.words.Words.TheVariants.{Run};
 
 use crate::server::Server;
 use crate::status::{Ending, Status, Stop};
@@ -84,11 +85,11 @@ impl<S: Server> Session<S> {
         store: &mut W,
         out: &mut K,
     ) -> Result<(), Stop>
-        requires stands { (now : Moment) × S.stands self.old.server (W.files store.old) (W.faults store.old) now }
-        ensures served { (line : List ℕ) (old : Moment) → self.old.held.items ≡ kept line → S.stands self.old.server (W.files store.old) (W.faults store.old) old →
-            ServedLine LineStep Ends Leaves old line (S.stands self.new.server (W.files store.new) (W.faults store.new)) (W.files store.new, W.faults store.new)
+        requires stands { (now : Moment) × S.stands self.old.server (W.files store.old, W.faults store.old, W.asks store.old) now }
+        ensures served { (line : List ℕ) (old : Moment) → self.old.held.items ≡ kept line → S.stands self.old.server (W.files store.old, W.faults store.old, W.asks store.old) old →
+            ServedLine LineStep Ends Leaves old line (S.stands self.new.server (W.files store.new, W.faults store.new, W.asks store.new)) (W.files store.new, W.faults store.new, W.asks store.new)
             (K.written out.old) (K.written out.new) (K.faults out.old) (K.faults out.new) result }
-        ensures stands { OnOk result ((now : Moment) × S.stands self.new.server (W.files store.new) (W.faults store.new) now) }
+        ensures stands { OnOk result ((now : Moment) × S.stands self.new.server (W.files store.new, W.faults store.new, W.asks store.new) now) }
         ensures held { self.new.held.items ≡ [] }
     {
         self.text.clear();
@@ -125,11 +126,11 @@ impl<S: Server> Session<S> {
         store: &mut W,
         out: &mut K,
     ) -> Result<(), Stop>
-        requires stands { (now : Moment) × S.stands self.old.server (W.files store.old) (W.faults store.old) now }
-        ensures served { (rest : List ℕ) (old : Moment) → IsLine rest → self.old.held.items ≡ kept rest → S.stands self.old.server (W.files store.old) (W.faults store.old) old →
-            Serves LineStep Ends Leaves old rest (byte ∷ []) (S.stands self.new.server (W.files store.new) (W.faults store.new)) self.new.held.items (W.files store.new, W.faults store.new)
+        requires stands { (now : Moment) × S.stands self.old.server (W.files store.old, W.faults store.old, W.asks store.old) now }
+        ensures served { (rest : List ℕ) (old : Moment) → IsLine rest → self.old.held.items ≡ kept rest → S.stands self.old.server (W.files store.old, W.faults store.old, W.asks store.old) old →
+            Serves LineStep Ends Leaves old rest (byte ∷ []) (S.stands self.new.server (W.files store.new, W.faults store.new, W.asks store.new)) self.new.held.items (W.files store.new, W.faults store.new, W.asks store.new)
             (K.written out.old) (K.written out.new) (K.faults out.old) (K.faults out.new) result }
-        ensures stands { OnOk result ((now : Moment) × S.stands self.new.server (W.files store.new) (W.faults store.new) now) }
+        ensures stands { OnOk result ((now : Moment) × S.stands self.new.server (W.files store.new, W.faults store.new, W.asks store.new) now) }
     {
         if byte == b'\n' {
             return self.serve_held(alloc, store, out);
@@ -145,11 +146,11 @@ impl<S: Server> Session<S> {
         store: &mut W,
         out: &mut K,
     ) -> Result<(), Stop>
-        requires stands { (now : Moment) × S.stands self.old.server (W.files store.old) (W.faults store.old) now }
-        ensures served { (rest : List ℕ) (old : Moment) → IsLine rest → self.old.held.items ≡ kept rest → S.stands self.old.server (W.files store.old) (W.faults store.old) old →
-            Serves LineStep Ends Leaves old rest piece.now (S.stands self.new.server (W.files store.new) (W.faults store.new)) self.new.held.items (W.files store.new, W.faults store.new)
+        requires stands { (now : Moment) × S.stands self.old.server (W.files store.old, W.faults store.old, W.asks store.old) now }
+        ensures served { (rest : List ℕ) (old : Moment) → IsLine rest → self.old.held.items ≡ kept rest → S.stands self.old.server (W.files store.old, W.faults store.old, W.asks store.old) old →
+            Serves LineStep Ends Leaves old rest piece.now (S.stands self.new.server (W.files store.new, W.faults store.new, W.asks store.new)) self.new.held.items (W.files store.new, W.faults store.new, W.asks store.new)
             (K.written out.old) (K.written out.new) (K.faults out.old) (K.faults out.new) result }
-        ensures stands { OnOk result ((now : Moment) × S.stands self.new.server (W.files store.new) (W.faults store.new) now) }
+        ensures stands { OnOk result ((now : Moment) × S.stands self.new.server (W.files store.new, W.faults store.new, W.asks store.new) now) }
     {
         for byte in piece {
             self.take_byte(alloc, *byte, store, out)?;
@@ -164,9 +165,9 @@ impl<S: Server> Session<S> {
         store: &mut W,
         out: &mut K,
     ) -> Result<(), Stop>
-        requires stands { (now : Moment) × S.stands self.old.server (W.files store.old) (W.faults store.old) now }
-        ensures { (rest : List ℕ) (old : Moment) → self.old.held.items ≡ kept rest → S.stands self.old.server (W.files store.old) (W.faults store.old) old →
-            ServedLast LineStep Ends Leaves old rest (S.stands self.new.server (W.files store.new) (W.faults store.new)) (W.files store.new, W.faults store.new)
+        requires stands { (now : Moment) × S.stands self.old.server (W.files store.old, W.faults store.old, W.asks store.old) now }
+        ensures { (rest : List ℕ) (old : Moment) → self.old.held.items ≡ kept rest → S.stands self.old.server (W.files store.old, W.faults store.old, W.asks store.old) old →
+            ServedLast LineStep Ends Leaves old rest (S.stands self.new.server (W.files store.new, W.faults store.new, W.asks store.new)) (W.files store.new, W.faults store.new, W.asks store.new)
             (K.written out.old) (K.written out.new) (K.faults out.old) (K.faults out.new) result }
     {
         if self.held.is_empty() {
@@ -185,14 +186,15 @@ impl<S: Server> Session<S> {
         out: &mut K,
     ) -> Result<usize, Status>
         requires room { 0 < length piece.old }
-        requires stands { (now : Moment) × S.stands self.old.server (W.files store.old) (W.faults store.old) now }
+        requires small { length piece.old ≤ piece_size }
+        requires stands { (now : Moment) × S.stands self.old.server (W.files store.old, W.faults store.old, W.asks store.old) now }
         ensures within { IfOk result (λ count. (0 < count) × (count ≤ length piece.old)) }
-        ensures stands { OnOk result ((now : Moment) × S.stands self.new.server (W.files store.new) (W.faults store.new) now) }
+        ensures stands { OnOk result ((now : Moment) × S.stands self.new.server (W.files store.new, W.faults store.new, W.asks store.new) now) }
         ensures run { (start : Moment) (limit count : ℕ) (left written : Option (List ℕ)) (faults faults2 : ℕ) → count + length piece.old ≤ limit →
-            SoFar LineStep Ends Leaves start (S.stands self.old.server (W.files store.old) (W.faults store.old)) self.old.held.items count left (I.left input.old) written (K.written out.old)
+            SoFar LineStep Ends Leaves start (S.stands self.old.server (W.files store.old, W.faults store.old, W.asks store.old)) self.old.held.items count left (I.left input.old) written (K.written out.old)
             faults (I.faults input.old) faults2 (K.faults out.old) →
-            TurnGave LineStep Ends Leaves start limit (S.stands self.new.server (W.files store.new) (W.faults store.new)) self.new.held.items count left (I.left input.new) written (K.written out.new)
-            (W.files store.new, W.faults store.new) faults (I.faults input.new) faults2 (K.faults out.new) result }
+            TurnGave LineStep Ends Leaves start limit (S.stands self.new.server (W.files store.new, W.faults store.new, W.asks store.new)) self.new.held.items count left (I.left input.new) written (K.written out.new)
+            (W.files store.new, W.faults store.new, W.asks store.new) faults (I.faults input.new) faults2 (K.faults out.new) result }
     {
         match input.pull(piece) {
             Err(_) => Err(push_last(out, INPUT_FAULT, Status::InputFault)),
@@ -218,10 +220,11 @@ impl<S: Server> Session<S> {
         limit: u64,
     ) -> Status
         requires room { 0 < length piece.old }
+        requires small { length piece.old ≤ piece_size }
         requires fresh { self.old.held.items ≡ [] }
-        requires stands { (now : Moment) × S.stands self.old.server (W.files store.old) (W.faults store.old) now }
-        ensures { (start : Moment) → S.stands self.old.server (W.files store.old) (W.faults store.old) start →
-            Ran LineStep Ends Leaves true start limit result (I.left input.old) (I.left input.new) (K.written out.old) (K.written out.new) (W.files store.new, W.faults store.new)
+        requires stands { (now : Moment) × S.stands self.old.server (W.files store.old, W.faults store.old, W.asks store.old) now }
+        ensures { (start : Moment) → S.stands self.old.server (W.files store.old, W.faults store.old, W.asks store.old) start →
+            (segments : ℕ) → Ran LineStep Ends Leaves (Run segments) start limit result (I.left input.old) (I.left input.new) (K.written out.old) (K.written out.new) (W.files store.new, W.faults store.new, W.asks store.new)
             (I.faults input.old) (I.faults input.new) (K.faults out.old) (K.faults out.new) }
     {
         let mut taken = 0u64;

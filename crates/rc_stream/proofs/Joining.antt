@@ -27,13 +27,13 @@ use Rattle.rc_ranges.specs.declared.pieces.Piece.{Piece}
 use Rattle.rc_ranges.specs.Cover.{IsCanonical, MayFollow}
 use Rattle.rc_ranges.specs.Cover.{cover as range_tomb}
 use Rattle.rc_ranges.specs.Sweep.{lt}
-use Rattle.rc_ranges.proofs.Covering.{cover-append, cover-before, cover-behind, cover-inside, cover-none}
+use Rattle.rc_ranges.specs.Laws.Covering.{cover-append, cover-before, cover-behind, cover-inside, cover-none}
 use Rattle.rc_mutation.specs.declared.fragments.Frag.{Frag}
 use Rattle.rc_mutation.specs.declared.mutations.Mutation.{Mutation}
 use Rattle.rc_mutation.specs.ByKey.{rows_at-joined_rows}
 use Rattle.rc_mutation.specs.Fragments.{begins_at, changes_of, fragments, in_order, place_order, placed_change, placed_row}
 use Rattle.rc_mutation.specs.Source.{IsJoinOf, IsMutation, joined_rows, rows_in}
-use Rattle.rc_mutation.proofs.FragMerge.{merge, merge_into, merge-in_order, fragment_of, rows-placed, changes-placed}
+use Rattle.rc_mutation.specs.Laws.FragMerge.{merge, merge_into, merge-in_order, fragment_of, rows-placed, changes-placed}
 use Rattle.rc_stream.specs.Stream.{Stream, force, stream_of}
 use Rattle.rc_stream.specs.Merging.{IsInner, IsOrdered, IsTelling, StandsBefore, joined_head, merged, place_of, rows_here, same_tomb}
 use Rattle.rc_stream.proofs.Ordered.{Place, place_total, place_same}
@@ -108,7 +108,7 @@ own-changes (b ∷ bs) = (refl, tt, own-changes bs)
 abbrev lines : Mutation → List Frag
 lines m = in_order (list_map placed_row m.rows ++ list_map placed_change (changes_of m.ranges))
 
-ordered-lines : (m : Mutation) → IsMutation m → IsOrdered (lines m)
+pub ordered-lines : (m : Mutation) → IsMutation m → IsOrdered (lines m)
 ordered-lines m is =
     let all = list_map placed_row m.rows ++ list_map placed_change (changes_of m.ranges) in
     ordered-own (ents all) (map.entries_sorted (map.from_entries {R = place_order} all)) (own-ents all (own-rows m.rows is.rows.by_column (list_map placed_change (changes_of m.ranges)) (own-changes (changes_of m.ranges))))

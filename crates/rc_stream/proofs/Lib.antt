@@ -1,6 +1,8 @@
-pub mod Asked
+pub mod Blaming
+pub mod Chains
 pub mod Determined
 pub mod Due
+pub mod Ending
 pub mod Going
 pub mod Held
 pub mod Joining
@@ -12,6 +14,7 @@ pub mod Passing
 pub mod Rounds
 pub mod Says
 pub mod Seeking
+pub mod Showing
 pub mod Stepping
 pub mod Whole
 pub mod Wholes

@@ -4,16 +4,15 @@ use Rattle.std.proofs.Common.{refl, sym, ap, ◌∙◌, subst}
 use Rattle.std.specs.declared.cmp.Ordering.{Ordering}
 use Rattle.std.specs.declared.cmp.Ordering.TheVariants.{Less, Equal, Greater}
 use Rattle.std.specs.Ordering.{is_le, is_lt, ordering_reverse, ordering_then}
-use Rattle.std.specs.Option.{option_to_list}
 use Rattle.std.specs.FinMap.Entries.{by_order}
 use Rattle.std.specs.Cmp.{tied_itself}
 use Rattle.rc_cell.specs.declared.writes.Tomb.{Tomb}
-use Rattle.rc_cell.specs.Beats.{tomb_cmp-IsAntisymmetric}
-use Rattle.rc_cell.specs.Greatest.{greater, greatest-swap, greatest-two}
-use Rattle.rc_cell.specs.Orders.{tomb_cmp, tomb_cmp_total}
+use Rattle.rc_cell.specs.Greatest.{greater}
+use Rattle.rc_cell.specs.Orders.{tomb_cmp}
 use Rattle.rc_position.specs.declared.positions.Pos.{Pos}
 use Rattle.rc_position.specs.Position.{pos_cmp, row_pos}
 use Rattle.rc_position.specs.OrderLaws.{pos_cmp_total}
+use Rattle.rc_ranges.specs.Laws.Greater.{greater-comm}
 use Rattle.rc_mutation.specs.declared.fragments.Frag.{Frag}
 use Rattle.rc_mutation.specs.declared.fragments.Frag.TheVariants as frag
 use Rattle.rc_mutation.specs.declared.fragments.Head.{Head}
@@ -26,7 +25,8 @@ use Rattle.rc_stream.specs.declared.holding.Turn.TheVariants as turn
 use Rattle.rc_stream.specs.Fronts.{front_tomb}
 use Rattle.rc_stream.specs.Stream.{Stream, after, first_upto, is_upto, rest}
 use Rattle.rc_stream.specs.Merging.{IsInner, IsOrdered, StandsBefore, beside, changes_nothing, joined_head, merged, merged_left, place_of, together}
-use Rattle.rc_stream.specs.Holding.{Does, Fits, Took, alone, behind, behind_first, bound_of, held, is_near, paired, told, turn_of, whole}
+use Rattle.rc_stream.specs.Places.{bound_of}
+use Rattle.rc_stream.specs.Holding.{Does, Fits, IsStepUpto, Took, alone, begins_upto, nearer, behind, behind_first, held, is_near, paired, told, turn_of, whole}
 use Rattle.rc_stream.specs.Moving.{StepSays}
 use Rattle.rc_stream.proofs.Held.{upto-beside, upto-together}
 use Rattle.rc_stream.proofs.Merged.{merged-says}
@@ -190,12 +190,6 @@ told-says h t u a x l m e now up =
           (ap (first_upto x) k ∙ ap (λ b. cond b (Some a) None) up, λ i. stream h (sym now i) (left i))
     ] refl e
 
-greater-comm : (s t : Option Tomb) → greater tomb_cmp s t ≡ greater tomb_cmp t s
-greater-comm s t =
-    sym (greatest-two tomb_cmp_total tomb_cmp-IsAntisymmetric s t)
-    ∙ greatest-swap tomb_cmp_total tomb_cmp-IsAntisymmetric (option_to_list s) (option_to_list t)
-    ∙ greatest-two tomb_cmp_total tomb_cmp-IsAntisymmetric t s
-
 theirs-beside : (t : Option Tomb) (g : Frag) → beside_theirs t g ≡ beside t g
 theirs-beside t (frag.Start pt) = refl
 theirs-beside t (frag.Static row) = refl
@@ -321,3 +315,31 @@ module _ (x : Pos) (sa sb : Stream) (ours theirs : Held) (fa : Fits ours sa) (fb
 
   pub stepped : (s : Step) (ours' theirs' : Held) → (held ours ≡ [] → first_upto x sa.left ≡ None) → (held theirs ≡ [] → first_upto (bound_of x (held ours)) sb.left ≡ None) → Does (turn_of x (held ours) (held theirs)) s ours theirs ours' theirs' → Stepped s x sa sb ours theirs ours' theirs'
   stepped s ours' theirs' a b d = by_turn (turn_of x (held ours) (held theirs)) s ours' theirs' (facts x (held ours) sa.left (held theirs) sb.left fa.ordered fb.ordered a b) d
+
+-- ---- what a step gives stands up to the position
+
+told-upto : (x : Pos) (t : Option Tomb) (f : Frag) → is_upto x f ≡ true → IsStepUpto x (told t f)
+told-upto x t f u = elim (changes_nothing t f) as (λ b. IsStepUpto x (cond b step.Passed (step.Given f))) [ true ↦ tt | false ↦ u ]
+
+alone-upto : (x : Pos) (t other : Option Tomb) (fs : List Frag) → begins_upto x fs ≡ true → IsStepUpto x (alone t other fs)
+alone-upto x t other [] u = tt
+alone-upto x t other (f ∷ fs) u = told-upto x (greater tomb_cmp t other) (beside other f) (upto-beside other f x ∙ u)
+
+paired-upto : (x : Pos) (t : Option Tomb) (fs gs : List Frag) → begins_upto x fs ≡ true → IsStepUpto x (paired t fs gs)
+paired-upto x t [] gs u = tt
+paired-upto x t (f ∷ fs) [] u = tt
+paired-upto x t (f ∷ fs) (g ∷ gs) u = told-upto x t (together f g) (upto-together f g x ∙ u)
+
+turn-upto : (x : Pos) (r : Turn) (s : Step) (o t o' t' : Held) → is_near x r (held o) (held t) ≡ true → Does r s o t o' t' → IsStepUpto x s
+turn-upto x turn.Nobody s o t o' t' n d = subst (IsStepUpto x) (sym d.0) tt
+turn-upto x turn.Ours s o t o' t' n d = subst (IsStepUpto x) (sym d.0) (alone-upto x (front_tomb o.front) (front_tomb t.front) (held o) n)
+turn-upto x turn.Theirs s o t o' t' n d = subst (IsStepUpto x) (sym d.0) (alone-upto x (front_tomb t.front) (front_tomb o.front) (held t) n)
+turn-upto x turn.Both s o t o' t' n d = subst (IsStepUpto x) (sym d.0) (paired-upto x (greater tomb_cmp (front_tomb o.front) (front_tomb t.front)) (held o) (held t) n)
+
+pub step-upto : (x : Pos) (s : Step) (o t o' t' : Held) → Does (turn_of x (held o) (held t)) s o t o' t' → IsStepUpto x s
+step-upto x s o t o' t' =
+    let r = nearer (held o) (held t) in
+    elim (is_near x r (held o) (held t)) as (λ b. is_near x r (held o) (held t) ≡ b → Does (cond b r turn.Nobody) s o t o' t' → IsStepUpto x s) [
+      | true ↦ λ n d. turn-upto x r s o t o' t' n d
+      | false ↦ λ n d. subst (IsStepUpto x) (sym d.0) tt
+    ] refl

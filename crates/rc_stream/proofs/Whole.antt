@@ -14,7 +14,7 @@ use Rattle.rc_mutation.specs.declared.fragments.Frag.TheVariants as frag
 use Rattle.rc_mutation.specs.declared.mutations.Mutation.{Mutation}
 use Rattle.rc_mutation.specs.Fragments.{changes_of, fragments, in_order, is_written, placed_change, placed_row, static_fragment}
 use Rattle.rc_mutation.specs.Source.{IsMutation}
-use Rattle.rc_mutation.proofs.FragMerge.{merge, merge_into, merge-in_order, fragment_of, rows-placed, changes-placed}
+use Rattle.rc_mutation.specs.Laws.FragMerge.{merge, merge_into, merge-in_order, fragment_of, rows-placed, changes-placed}
 use Rattle.rc_stream.specs.Stream.{Stream, body, clustered, is_clustered, static_of, stream_of}
 
 abbrev Keyed : Type 0

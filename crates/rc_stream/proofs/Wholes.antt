@@ -18,7 +18,8 @@ use Rattle.rc_stream.specs.Calls.{sought_by}
 use Rattle.rc_stream.specs.Fronts.{front_change}
 use Rattle.rc_stream.specs.Stream.{Stream, after, first_upto, rest, sought, took}
 use Rattle.rc_stream.specs.Merging.{IsOrdered, StandsBefore, merged}
-use Rattle.rc_stream.specs.Holding.{Does, Fits, WentOn, bound_of, held, looked, passes_held, turn_of, whole}
+use Rattle.rc_stream.specs.Places.{bound_of}
+use Rattle.rc_stream.specs.Holding.{Does, Fits, WentOn, held, looked, passes_held, turn_of, whole}
 use Rattle.rc_stream.specs.Moving.{HoldBoth, Holds, KeepsSeen, Once, StepLeaves, StepSays, holds}
 use Rattle.rc_stream.proofs.Looking.{beyond, first-is, fits-sought, fits-within, none_held, nothing-held, within}
 use Rattle.rc_stream.proofs.Ordered.{passes-itself}
@@ -154,3 +155,6 @@ both-on P Q P' Q' h k h' k' m one other b = record {
 pub sought-ok : (P Q P' Q' : Seen) (x : Pos) (h k h' k' : Held) (r : Result (Unit {0}) StreamErr) → ((t : Stream) → Holds P h t → Holds P' h' (sought x t)) → ((t : Stream) → Holds Q k t → Holds Q' k' (sought_by r x t)) → OnOk r ((m : Stream) → HoldBoth P h Q k m → HoldBoth P' h' Q' k' (sought x m))
 sought-ok P Q P' Q' x h k h' k' (Ok u) one other = λ m b. sought-both P Q P' Q' x h k h' k' m one other b
 sought-ok P Q P' Q' x h k h' k' (Err e) one other = tt
+
+pub both : (P Q : Seen) (h k : Held) (m s t : Stream) → Holds P h s → Holds Q k t → m ≡ merged s t → HoldBoth P h Q k m
+both P Q h k m s t a b e = record { ours = s; theirs = t; holds_ours = a; holds_theirs = b; joins = e }

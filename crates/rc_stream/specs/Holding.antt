@@ -1,5 +1,5 @@
 -- What is held of a stream in front of what it still has: what was looked at and not given.
-use Rattle.std.specs.Prelude.{◌≡◌, Bool, true, false, cond, ◌&&◌, List, [], ◌∷◌, ◌++◌, Option, Some, None, ⊤}
+use Rattle.std.specs.Prelude.{◌≡◌, IsTrue, Bool, true, false, cond, ◌&&◌, List, [], ◌∷◌, ◌++◌, Option, Some, None, ⊤}
 use Rattle.std.specs.Ordering.{is_le}
 use Rattle.std.specs.FinMap.Entries.{by_order}
 use Rattle.rc_cell.specs.declared.rows.Row.{Row}
@@ -138,6 +138,12 @@ StepReaches step.Nothing x = ⊤
 StepReaches step.Passed x = ⊤
 StepReaches (step.Given f) x = Reaches (place_of f).0 x
 
+-- the fragment that a step gave stands at x or before it, if it gave one
+abbrev pub IsStepUpto : Pos → Step → Type 0
+IsStepUpto x step.Nothing = ⊤
+IsStepUpto x step.Passed = ⊤
+IsStepUpto x (step.Given f) = IsTrue (is_upto x f)
+
 -- the first of what was held was taken in a step
 pub record Took (s : Step) (h now : Held) : Type 0 where
   pub left : held now ≡ rest (held h)
@@ -155,11 +161,6 @@ Does turn.Both s ours theirs ours' theirs' = (s ≡ paired (greater tomb_cmp (fr
 -- whose turn it is up to x
 abbrev pub turn_of : Pos → List Frag → List Frag → Turn
 turn_of x fs gs = cond (is_near x (nearer fs gs) fs gs) (nearer fs gs) turn.Nobody
-
--- the nearer of a position and that of the first of fragments
-abbrev pub bound_of : Pos → List Frag → Pos
-bound_of x [] = x
-bound_of x (f ∷ fs) = cond (is_le (pos_cmp x (place_of f).0)) x (place_of f).0
 
 -- a row of the first of fragments, if it is one
 abbrev pub row_of : List Frag → Option Row

@@ -1,8 +1,12 @@
 pub mod Calls
 pub mod Causes
+pub mod Did
 pub mod Fronts
 pub mod Holding
 pub mod Merging
 pub mod Moving
 pub mod Places
+pub mod Showing
+pub mod Snapshot
 pub mod Stream
+pub mod laws

@@ -88,29 +88,6 @@ abbrev pub RoundReaches : Result Step StreamErr → Pos → Type 0
 RoundReaches (Ok s) x = StepReaches s x
 RoundReaches (Err e) x = ⊤
 
--- of the streams that a part stands for, this one
-abbrev pub Only : (Stream → Type 0) → Stream → Stream → Type 0
-Only seen s t = seen t × (t ≡ s)
-
--- a look at the next up to x, where these are held, took nothing of a stream, or where none is held its first, which stands there, where this holds of what is left; a refused one took nothing
-abbrev pub LookTakes : {T : Type 0} → Result T StreamErr → Pos → List Frag → Stream → (Stream → Type 0) → Type 0
-LookTakes (Ok _) x hs s now = now s ⊎ ((f : Frag) × (hs ≡ []) × (first_upto x s.left ≡ Some f) × now (took (Some f) s))
-LookTakes (Err e) x hs s now = now s
-
--- so many first fragments were taken of a stream, each at x or before it, where this holds of what is left
-abbrev pub TakenUpto : ℕ → Pos → Stream → (Stream → Type 0) → Type 0
-TakenUpto zero x s now = now s
-TakenUpto (suc n) x s now = (f : Frag) × (first_upto x s.left ≡ Some f) × TakenUpto n x (took (Some f) s) now
-
--- of a stream nothing was taken that stands behind x, where this holds of what is left
-abbrev pub AskedUpto : Pos → Stream → (Stream → Type 0) → Type 0
-AskedUpto x s now = (n : ℕ) × TakenUpto n x s now
-
--- a seek that is due went on in a stream, or was not needed there, where this holds of it
-abbrev pub WentTo : Option Pos → Stream → (Stream → Type 0) → Type 0
-WentTo None s now = now s
-WentTo (Some x) s now = now s ⊎ now (sought x s)
-
 -- two parts, each with what is held of it, stand for streams that merge to this one, or to one that a seek that is due makes this one
 abbrev pub SoughtBoth : (Stream → Type 0) → Held → (Stream → Type 0) → Held → Option Pos → Stream → Type 0
 SoughtBoth seen h seen' h' None s = HoldBoth seen h seen' h' s

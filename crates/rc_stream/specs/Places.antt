@@ -1,5 +1,5 @@
--- Where a stream may be sought to.
-use Rattle.std.specs.Prelude.{Option, Some, None, Result, Ok, Err, ⊤, IsTrue}
+-- Positions along a stream.
+use Rattle.std.specs.Prelude.{cond, List, [], ◌∷◌, Option, Some, None, Result, Ok, Err, ⊤, IsTrue}
 use Rattle.std.specs.Ordering.{is_le}
 use Rattle.rc_position.specs.declared.positions.Pos.{Pos}
 use Rattle.rc_position.specs.Position.{pos_cmp}
@@ -16,3 +16,8 @@ abbrev pub Passes : Result (Option Frag) StreamErr → Pos → Type 0
 Passes (Ok (Some f)) x = Reaches (place_of f).0 x
 Passes (Ok None) x = ⊤
 Passes (Err e) x = ⊤
+
+-- the nearer of a position and that of the first of fragments
+abbrev pub bound_of : Pos → List Frag → Pos
+bound_of x [] = x
+bound_of x (f ∷ fs) = cond (is_le (pos_cmp x (place_of f).0)) x (place_of f).0

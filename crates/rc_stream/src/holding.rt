@@ -8,7 +8,8 @@ ghost use Rattle.rc_stream.specs.Fronts.{front_change, front_tomb};
 ghost use Rattle.rc_stream.specs.Stream.{rest};
 ghost use Rattle.rc_stream.specs.Merging.{beside, changes_nothing, place_of, same_tomb, together};
 ghost use Rattle.rc_stream.specs.Moving.{holds};
-ghost use Rattle.rc_stream.specs.Holding.{Does, Took, WentOn, alone, begins_upto, behind_first, bound_of, dropped, first_of, held, is_near, look_passed, look_taken, looked, nearer, paired, passed_over, passes_held, row_of, row_of_both, told, turn_of};
+ghost use Rattle.rc_stream.specs.Places.{bound_of};
+ghost use Rattle.rc_stream.specs.Holding.{Does, Took, WentOn, alone, begins_upto, behind_first, dropped, first_of, held, is_near, look_passed, look_taken, looked, nearer, paired, passed_over, passes_held, row_of, row_of_both, told, turn_of};
 
 use crate::lists::{Front, front_at, passes, row_pos, stands_upto, tomb_after};
 use rc_cell::{Row, Tomb};

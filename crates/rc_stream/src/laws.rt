@@ -1,6 +1,6 @@
 //! The laws of what this crate defines, each the contract of a function that does nothing.
 
-ghost use Rattle.std.specs.Prelude.{◌≡◌, ◌++◌, ◌∷◌, [], List, Some, None, map, IsTrue};
+ghost use Rattle.std.specs.Prelude.{◌≡◌, ◌++◌, ◌∷◌, [], ℕ, Bool, List, Some, None, map, IsTrue};
 ghost use Rattle.std.specs.Option.{option_to_list};
 ghost use Rattle.rc_cell.specs.Greatest.{greater};
 ghost use Rattle.rc_cell.specs.Orders.{tomb_cmp};
@@ -13,13 +13,22 @@ ghost use Rattle.rc_mutation.specs.declared.fragments.Frag.{Frag};
 ghost use Rattle.rc_mutation.specs.declared.mutations.Mutation.{Mutation};
 ghost use Rattle.rc_mutation.specs.Fragments.{changes_of, fragments, in_order, placed_change, placed_row};
 ghost use Rattle.rc_mutation.specs.Source.{IsJoinOf, IsMutation};
-ghost use Rattle.rc_stream.specs.Moving.{nothing_held, SoughtBoth};
+ghost use Rattle.rc_stream.specs.Did.{IsNewMerge, IsQuiet, Spends, both_left, both_settled};
+ghost use Rattle.rc_stream.specs.declared.merges.Merge.{Merge};
+ghost use Rattle.rc_stream.specs.Moving.{Keeps, KeepsSeen};
+ghost use Rattle.rc_stream.specs.Places.{Reaches};
+ghost use Rattle.rc_stream.specs.Showing.{EitherSpot, IsFromStart, MergesTwo};
 ghost use Rattle.rc_stream.specs.Stream.{Stream, force, is_passed, says, sought, stream_of, took};
 
+use crate::merges::Merge;
+use crate::streams::Frags;
+use rc_outside::Store;
+
 /// The stream of the fragments of a mutation has its partition tombstone and its static row, and gives its rows and changes
-/// of tombstone by position.
+/// of tombstone by position; it is whole.
 pub fn the_stream_of_a_mutation()
-    ensures { (m : Mutation) → IsMutation m →
+    ensures whole { (m : Mutation) → IsMutation m → IsFromStart (stream_of (fragments m)) }
+    ensures fragments { (m : Mutation) → IsMutation m →
         stream_of (fragments m) ≡ record {
           head = record { pt = m.pt; statics = m.statics };
           tomb = None;
@@ -82,9 +91,27 @@ pub fn a_later_seek_forgets_an_earlier()
     ensures { (s : Stream) (x y : Pos) → IsTrue (is_le (pos_cmp x y)) → sought y (sought x s) ≡ sought y s }
 {}
 
-/// Two parts that stand for streams from their beginning, or from where they were sought to, and of which nothing is held,
-/// stand as one for what both streams say together: so does a new merge.
-pub fn a_new_merge_stands_for_both()
-    ensures { (s t : Stream) → s.tomb ≡ None → t.tomb ≡ None → IsOrdered s.left → IsOrdered t.left →
-        SoughtBoth (λ x. x ≡ s) nothing_held (λ x. x ≡ t) nothing_held None (merged s t) }
+/// A new merge of two parts stands for what both say together, whichever streams the parts stand for, from their beginning or from
+/// where they were sought to. It is ready where both are and the calls of each leave the other ready and what it stands for; and each
+/// position is ahead of it from which on both may be sought. It is fresh where both are, might stand for what two streams merge to for
+/// which the parts might stand, and may name as damaged what they may.
+pub fn a_new_merge_stands_for_both<H, W: Store, A: Frags<H, W>, B: Frags<H, W>>()
+    ensures seen { (a : A) (b : B) (m : Merge A B) (h : H) (w : W) (s t : Stream) → IsNewMerge a b m → A.seen a h w s → B.seen b h w t →
+        s.tomb ≡ None → t.tomb ≡ None → IsOrdered s.left → IsOrdered t.left → ⟦<Merge<A, B> as Frags<H, W>>⟧.seen m h w (merged s t) }
+    ensures ready { (a : A) (b : B) (m : Merge A B) (h : H) (w : W) → IsNewMerge a b m → A.ready a h w → B.ready b h w →
+        Keeps B.moves A.ready → Keeps A.moves B.ready → KeepsSeen B.moves A.seen → KeepsSeen A.moves B.seen → ⟦<Merge<A, B> as Frags<H, W>>⟧.ready m h w }
+    ensures ahead { (a : A) (b : B) (m : Merge A B) (x : Pos) → IsNewMerge a b m → ((y : Pos) → Reaches x y → A.ahead a y) → ((y : Pos) → Reaches x y → B.ahead b y) →
+        ⟦<Merge<A, B> as Frags<H, W>>⟧.ahead m x }
+    ensures fresh { (a : A) (b : B) (m : Merge A B) → IsNewMerge a b m → A.fresh a → B.fresh b → ⟦<Merge<A, B> as Frags<H, W>>⟧.fresh m }
+    ensures might { (a : A) (b : B) (m : Merge A B) (s : Stream) → IsNewMerge a b m → ⟦<Merge<A, B> as Frags<H, W>>⟧.might m s → MergesTwo (A.might a) (B.might b) s }
+    ensures damage { (a : A) (b : B) (m : Merge A B) (file offset : ℕ) → IsNewMerge a b m → ⟦<Merge<A, B> as Frags<H, W>>⟧.damage m file offset → EitherSpot (A.damage a) (B.damage b) file offset }
+{}
+
+/// Where what the two parts of a merge may still ask for bounds what their calls do, their sum bounds what those of the merge do. Where
+/// parts that are settled ask for nothing, so does the merge; a head that was answered settles it.
+pub fn a_merge_asks_for_what_its_parts_do<H, W: Store, A: Frags<H, W>, B: Frags<H, W>>()
+    ensures spends { (left : A → ℕ) (left' : B → ℕ) (asks : W → ℕ) → Spends A.did left asks → Spends B.did left' asks →
+        Spends ⟦<Merge<A, B> as Frags<H, W>>⟧.did (both_left left left') asks }
+    ensures quiet { (settled : A → Bool) (settled' : B → Bool) (asks : W → ℕ) → IsQuiet A.did settled asks → IsQuiet B.did settled' asks →
+        IsQuiet ⟦<Merge<A, B> as Frags<H, W>>⟧.did (both_settled settled settled') asks }
 {}

@@ -1,7 +1,9 @@
 //! Streams of one partition: its rows and changes of tombstone, taken one after another.
 #![tactic(auto)]
 
+mod fillers;
 mod holding;
+mod known;
 pub mod laws;
 mod lists;
 mod merges;
@@ -10,6 +12,8 @@ mod streams;
 #[cfg(test)]
 mod tests;
 
+pub use fillers::{Fill, Filler};
+pub use known::Known;
 pub use lists::ListFrags;
 pub use merges::Merge;
 pub use streams::{Frags, StreamErr};

@@ -1,6 +1,6 @@
 // A list of fragments as a stream.
 ghost use Rattle.rc_stream.specs.Fronts.{front_tomb, front_change};
-ghost use Rattle.std.specs.Prelude.{◌≡◌, ◌+◌, ◌≤◌, Some, None, drop, length, IfOk, OnOk, OnErr};
+ghost use Rattle.std.specs.Prelude.{◌≡◌, ◌+◌, ◌≤◌, Some, None, drop, length, IfOk, IfSome, IsTrue, OnOk, OnErr};
 ghost use Rattle.rc_position.specs.Position.{row_pos};
 ghost use Rattle.rc_stream.specs.Stream.{after, body, clustered, first_upto, force, is_passed, is_upto, onward, opening, start_of, static_of, stream_of, sought, took};
 
@@ -92,6 +92,7 @@ impl ListFrags {
     /// was.
     pub fn take_first(&mut self, alloc: Global, upto: &Pos) -> Result<Option<Frag>, AllocError>
         ensures gives { IfOk result (λ got. got ≡ first_upto upto.now self.old.left) }
+        ensures upto { IfOk result (λ got. IfSome got (λ f. IsTrue (is_upto upto.now f))) }
         ensures left { IfOk result (λ got. self.new ≡ took got self.old) }
         ensures err { OnErr result (self.new ≡ self.old) }
     {
@@ -121,6 +122,7 @@ impl ListFrags {
 
 impl<H, W: Store> Frags<H, W> for ListFrags {
     ghost use Rattle.std.specs.Prelude.{◌≡◌, ⊤};
+    ghost use Rattle.rc_stream.specs.Showing.{IsFromStart};
 
     ghost ready = { λ _ _ _. ⊤ };
 
@@ -130,7 +132,13 @@ impl<H, W: Store> Frags<H, W> for ListFrags {
 
     ghost moves = { λ home store home' store'. (home ≡ home') × (store ≡ store') };
 
-    ghost asks = { λ _ _ _ _ _ _ _. ⊤ };
+    ghost did = { λ _ home store _ _ _ home' store'. (home ≡ home') × (store ≡ store') };
+
+    ghost fresh = { λ list. IsFromStart list };
+
+    ghost might = { λ list s. s ≡ list };
+
+    ghost damage = { λ _ _ _. ⊥ };
 
     fn head(&mut self, alloc: Global, _home: &mut H, _store: &mut W) -> Result<Head, StreamErr> {
         match self.copy_head(alloc) {

@@ -1,13 +1,15 @@
 // Two streams as one.
-ghost use Rattle.std.specs.Prelude.{◌≡◌, [], None, Some, IfOk, OnOk, OnErr};
+ghost use Rattle.std.specs.Prelude.{◌≡◌, [], None, Some, IfOk, IfSome, IsTrue, OnOk};
 ghost use Rattle.rc_position.specs.declared.positions.Pos.{Pos};
 ghost use Rattle.rc_stream.specs.Calls.{left_by};
 ghost use Rattle.rc_stream.specs.Causes.{Caused};
-ghost use Rattle.rc_stream.specs.Holding.{bound_of, held};
-ghost use Rattle.rc_stream.specs.Moving.{AheadOfBoth, AskedUpto, HoldBoth, Holds, IsDueAhead, Keeps, KeepsSeen, LookTakes, MaySeek, Moved, Only, RoundReaches, SoughtBoth, StepLeaves, WentTo};
+ghost use Rattle.rc_stream.specs.Did.{Chain, Covers, HeadsOnce, IsNewMerge, OneCall, answered};
+ghost use Rattle.rc_stream.specs.Holding.{IsStepUpto, held};
+ghost use Rattle.rc_stream.specs.Moving.{AheadOfBoth, HoldBoth, Holds, IsDueAhead, Keeps, KeepsSeen, MaySeek, Moved, RoundReaches, SoughtBoth, StepLeaves};
 ghost use Rattle.rc_stream.specs.Merging.{joined_head};
-ghost use Rattle.rc_stream.specs.Places.{Passes};
-ghost use Rattle.rc_stream.specs.Stream.{Stream, first_upto, sought};
+ghost use Rattle.rc_stream.specs.Places.{Passes, bound_of};
+ghost use Rattle.rc_stream.specs.Showing.{Blames, EitherSpot, ShowsBoth};
+ghost use Rattle.rc_stream.specs.Stream.{Stream, first_upto, is_upto, sought};
 
 use crate::holding::{Held, Look, Step, bound, joined_row, make_step};
 use crate::lists::Front;
@@ -37,7 +39,7 @@ fn look_at_both<H, W: Store, A: Frags<H, W>, B: Frags<H, W>>(
     requires keeps_seen_theirs { KeepsSeen A.moves B.seen }
     ensures holds { (t : Stream) → Holds (A.seen ours.old home.old store.old) ours_held.old t → Holds (A.seen ours.new home.new store.new) ours_held.new t }
     ensures holds_theirs { (t : Stream) → Holds (B.seen theirs.old home.old store.old) theirs_held.old t → Holds (B.seen theirs.new home.new store.new) theirs_held.new t }
-    ensures no_further { (s : Stream) → B.seen theirs.old home.old store.old s → LookTakes result (bound_of upto.now (held ours_held.new)) (held theirs_held.old) s (λ z. (t : Stream) → Holds (Only (B.seen theirs.old home.old store.old) s) theirs_held.old t → Holds (Only (B.seen theirs.new home.new store.new) z) theirs_held.new t) }
+    ensures did { (y : Pos) → Covers (HoldBoth (A.seen ours.old home.old store.old) ours_held.old (B.seen theirs.old home.old store.old) theirs_held.old) upto.now y → Chain (OneCall A.did B.did None y) (answered result) (ours.old, theirs.old, home.old, store.old) (ours.new, theirs.new, home.new, store.new) }
     ensures known { OnOk result ((t : Stream) → Holds (A.seen ours.old home.old store.old) ours_held.old t → held ours_held.new ≡ [] → first_upto upto.now t.left ≡ None) }
     ensures known_theirs { OnOk result ((t : Stream) → Holds (B.seen theirs.old home.old store.old) theirs_held.old t → held theirs_held.new ≡ [] → first_upto (bound_of upto.now (held ours_held.new)) t.left ≡ None) }
     ensures ahead { (x : Pos) → MaySeek (A.ahead ours.old) ours_held.old.look x → MaySeek (A.ahead ours.new) ours_held.new.look x }
@@ -45,6 +47,7 @@ fn look_at_both<H, W: Store, A: Frags<H, W>, B: Frags<H, W>>(
     ensures ready { A.ready ours.new home.new store.new }
     ensures theirs { B.ready theirs.new home.new store.new }
     ensures moves { Moved A.moves B.moves home.old store.old home.new store.new }
+    ensures damage { Blames (EitherSpot (A.damage ours.old) (B.damage theirs.old)) (EitherSpot (A.damage ours.new) (B.damage theirs.new)) result }
     ensures cause { Caused result (W.files store.old) (W.faults store.old) (W.faults store.new) }
     ensures files { W.files store.new ≡ W.files store.old }
     ensures building { W.building store.new ≡ W.building store.old }
@@ -76,12 +79,14 @@ fn round<H, W: Store, A: Frags<H, W>, B: Frags<H, W>>(
     requires keeps_seen { KeepsSeen B.moves A.seen }
     requires keeps_seen_theirs { KeepsSeen A.moves B.seen }
     ensures says { (m : Stream) → HoldBoth (A.seen ours.old home.old store.old) ours_held.old (B.seen theirs.old home.old store.old) theirs_held.old m → StepLeaves result upto.now m (HoldBoth (A.seen ours.new home.new store.new) ours_held.new (B.seen theirs.new home.new store.new) theirs_held.new) }
-    ensures no_further { (m s : Stream) → HoldBoth (A.seen ours.old home.old store.old) ours_held.old (Only (B.seen theirs.old home.old store.old) s) theirs_held.old m → AskedUpto (bound_of upto.now m.left) s (λ z. StepLeaves result upto.now m (HoldBoth (A.seen ours.new home.new store.new) ours_held.new (Only (B.seen theirs.new home.new store.new) z) theirs_held.new)) }
+    ensures upto { IfOk result (IsStepUpto upto.now) }
+    ensures did { (y : Pos) → Covers (HoldBoth (A.seen ours.old home.old store.old) ours_held.old (B.seen theirs.old home.old store.old) theirs_held.old) upto.now y → Chain (OneCall A.did B.did None y) (answered result) (ours.old, theirs.old, home.old, store.old) (ours.new, theirs.new, home.new, store.new) }
     ensures ahead { (x : Pos) → RoundReaches result x → MaySeek (A.ahead ours.old) ours_held.old.look x → MaySeek (A.ahead ours.new) ours_held.new.look x }
     ensures ahead_theirs { (x : Pos) → RoundReaches result x → MaySeek (B.ahead theirs.old) theirs_held.old.look x → MaySeek (B.ahead theirs.new) theirs_held.new.look x }
     ensures ready { A.ready ours.new home.new store.new }
     ensures theirs { B.ready theirs.new home.new store.new }
     ensures moves { Moved A.moves B.moves home.old store.old home.new store.new }
+    ensures damage { Blames (EitherSpot (A.damage ours.old) (B.damage theirs.old)) (EitherSpot (A.damage ours.new) (B.damage theirs.new)) result }
     ensures cause { Caused result (W.files store.old) (W.faults store.old) (W.faults store.new) }
     ensures files { W.files store.new ≡ W.files store.old }
     ensures building { W.building store.new ≡ W.building store.old }
@@ -124,12 +129,14 @@ fn next_of_both<H, W: Store, A: Frags<H, W>, B: Frags<H, W>>(
     requires keeps_seen_theirs { KeepsSeen A.moves B.seen }
     ensures gives { (m : Stream) → HoldBoth (A.seen ours.old home.old store.old) ours_held.old (B.seen theirs.old home.old store.old) theirs_held.old m → IfOk result (λ got. got ≡ first_upto upto.now m.left) }
     ensures left { (m : Stream) → HoldBoth (A.seen ours.old home.old store.old) ours_held.old (B.seen theirs.old home.old store.old) theirs_held.old m → HoldBoth (A.seen ours.new home.new store.new) ours_held.new (B.seen theirs.new home.new store.new) theirs_held.new (left_by result m) }
-    ensures no_further { (m s : Stream) → HoldBoth (A.seen ours.old home.old store.old) ours_held.old (Only (B.seen theirs.old home.old store.old) s) theirs_held.old m → AskedUpto (bound_of upto.now m.left) s (B.seen theirs.new home.new store.new) }
+    ensures upto { IfOk result (λ got. IfSome got (λ f. IsTrue (is_upto upto.now f))) }
+    ensures did { (y : Pos) → Covers (HoldBoth (A.seen ours.old home.old store.old) ours_held.old (B.seen theirs.old home.old store.old) theirs_held.old) upto.now y → Chain (OneCall A.did B.did None y) (answered result) (ours.old, theirs.old, home.old, store.old) (ours.new, theirs.new, home.new, store.new) }
     ensures ahead { (x : Pos) → Passes result x → MaySeek (A.ahead ours.old) ours_held.old.look x → MaySeek (A.ahead ours.new) ours_held.new.look x }
     ensures ahead_theirs { (x : Pos) → Passes result x → MaySeek (B.ahead theirs.old) theirs_held.old.look x → MaySeek (B.ahead theirs.new) theirs_held.new.look x }
     ensures ready { A.ready ours.new home.new store.new }
     ensures theirs { B.ready theirs.new home.new store.new }
     ensures moves { Moved A.moves B.moves home.old store.old home.new store.new }
+    ensures damage { Blames (EitherSpot (A.damage ours.old) (B.damage theirs.old)) (EitherSpot (A.damage ours.new) (B.damage theirs.new)) result }
     ensures cause { Caused result (W.files store.old) (W.faults store.old) (W.faults store.new) }
     ensures files { W.files store.new ≡ W.files store.old }
     ensures building { W.building store.new ≡ W.building store.old }
@@ -177,13 +184,13 @@ fn go_on_in_both<H, W: Store, A: Frags<H, W>, B: Frags<H, W>>(
     requires ahead_theirs { MaySeek (B.ahead theirs.old) theirs_held.old.look to.now }
     ensures ok { OnOk result ((m : Stream) → HoldBoth (A.seen ours.old home.old store.old) ours_held.old (B.seen theirs.old home.old store.old) theirs_held.old m → HoldBoth (A.seen ours.new home.new store.new) ours_held.new (B.seen theirs.new home.new store.new) theirs_held.new (sought to.now m)) }
     ensures again { (m : Stream) → HoldBoth (A.seen ours.old home.old store.old) ours_held.old (B.seen theirs.old home.old store.old) theirs_held.old m → ((n : Stream) × HoldBoth (A.seen ours.new home.new store.new) ours_held.new (B.seen theirs.new home.new store.new) theirs_held.new n × (sought to.now n ≡ sought to.now m)) }
-    ensures no_further { OnOk result ((m s : Stream) → HoldBoth (A.seen ours.old home.old store.old) ours_held.old (Only (B.seen theirs.old home.old store.old) s) theirs_held.old m → WentTo (Some to.now) s (λ z. HoldBoth (A.seen ours.new home.new store.new) ours_held.new (Only (B.seen theirs.new home.new store.new) z) theirs_held.new (sought to.now m))) }
-    ensures kept { OnErr result ((s : Stream) → B.seen theirs.old home.old store.old s → B.seen theirs.new home.new store.new s) }
+    ensures did { (y : Pos) → Chain (OneCall A.did B.did (Some to.now) y) (answered result) (ours.old, theirs.old, home.old, store.old) (ours.new, theirs.new, home.new, store.new) }
     ensures ahead { MaySeek (A.ahead ours.new) ours_held.new.look to.now }
     ensures ahead_theirs { MaySeek (B.ahead theirs.new) theirs_held.new.look to.now }
     ensures ready { A.ready ours.new home.new store.new }
     ensures theirs { B.ready theirs.new home.new store.new }
     ensures moves { Moved A.moves B.moves home.old store.old home.new store.new }
+    ensures damage { Blames (EitherSpot (A.damage ours.old) (B.damage theirs.old)) (EitherSpot (A.damage ours.new) (B.damage theirs.new)) result }
     ensures cause { Caused result (W.files store.old) (W.faults store.old) (W.faults store.new) }
     ensures files { W.files store.new ≡ W.files store.old }
     ensures building { W.building store.new ≡ W.building store.old }
@@ -214,13 +221,13 @@ fn settle<H, W: Store, A: Frags<H, W>, B: Frags<H, W>>(
     requires due { IsDueAhead (A.ahead ours.old) ours_held.old.look (B.ahead theirs.old) theirs_held.old.look due.old }
     ensures ok { OnOk result (due.new ≡ None) }
     ensures seen { (s : Stream) → SoughtBoth (A.seen ours.old home.old store.old) ours_held.old (B.seen theirs.old home.old store.old) theirs_held.old due.old s → SoughtBoth (A.seen ours.new home.new store.new) ours_held.new (B.seen theirs.new home.new store.new) theirs_held.new due.new s }
-    ensures no_further { OnOk result ((m s : Stream) → SoughtBoth (A.seen ours.old home.old store.old) ours_held.old (Only (B.seen theirs.old home.old store.old) s) theirs_held.old due.old m → WentTo due.old s (λ z. HoldBoth (A.seen ours.new home.new store.new) ours_held.new (Only (B.seen theirs.new home.new store.new) z) theirs_held.new m)) }
-    ensures kept { OnErr result ((s : Stream) → B.seen theirs.old home.old store.old s → B.seen theirs.new home.new store.new s) }
+    ensures did { (y : Pos) → Chain (OneCall A.did B.did due.old y) (answered result) (ours.old, theirs.old, home.old, store.old) (ours.new, theirs.new, home.new, store.new) }
     ensures ahead { (x : Pos) → AheadOfBoth (A.ahead ours.old) ours_held.old.look (B.ahead theirs.old) theirs_held.old.look due.old x → AheadOfBoth (A.ahead ours.new) ours_held.new.look (B.ahead theirs.new) theirs_held.new.look due.new x }
     ensures due { IsDueAhead (A.ahead ours.new) ours_held.new.look (B.ahead theirs.new) theirs_held.new.look due.new }
     ensures ready { A.ready ours.new home.new store.new }
     ensures theirs { B.ready theirs.new home.new store.new }
     ensures moves { Moved A.moves B.moves home.old store.old home.new store.new }
+    ensures damage { Blames (EitherSpot (A.damage ours.old) (B.damage theirs.old)) (EitherSpot (A.damage ours.new) (B.damage theirs.new)) result }
     ensures cause { Caused result (W.files store.old) (W.faults store.old) (W.faults store.new) }
     ensures files { W.files store.new ≡ W.files store.old }
     ensures building { W.building store.new ≡ W.building store.old }
@@ -263,6 +270,11 @@ fn head_of_both<H, W: Store, A: Frags<H, W>, B: Frags<H, W>>(
     requires keeps_seen { KeepsSeen B.moves A.seen }
     requires keeps_seen_theirs { KeepsSeen A.moves B.seen }
     ensures head { (s t : Stream) → A.seen ours.old home.old store.old s → B.seen theirs.old home.old store.old t → IfOk result (λ head. head ≡ joined_head s.head t.head) }
+    ensures shown { A.fresh ours.old → B.fresh theirs.old → IfOk result (ShowsBoth (A.might ours.old) (A.seen ours.new home.new store.new) (B.might theirs.old) (B.seen theirs.new home.new store.new)) }
+    ensures fresh { A.fresh ours.old → A.fresh ours.new }
+    ensures fresh_theirs { B.fresh theirs.old → B.fresh theirs.new }
+    ensures might { (s : Stream) → A.might ours.new s → A.might ours.old s }
+    ensures might_theirs { (t : Stream) → B.might theirs.new t → B.might theirs.old t }
     ensures seen { (s : Stream) → A.seen ours.old home.old store.old s → A.seen ours.new home.new store.new s }
     ensures seen_theirs { (t : Stream) → B.seen theirs.old home.old store.old t → B.seen theirs.new home.new store.new t }
     ensures ahead { (x : Pos) → A.ahead ours.old x → A.ahead ours.new x }
@@ -270,6 +282,8 @@ fn head_of_both<H, W: Store, A: Frags<H, W>, B: Frags<H, W>>(
     ensures ready { A.ready ours.new home.new store.new }
     ensures theirs { B.ready theirs.new home.new store.new }
     ensures moves { Moved A.moves B.moves home.old store.old home.new store.new }
+    ensures did { HeadsOnce A.did B.did (answered result) (ours.old, theirs.old, home.old, store.old) (ours.new, theirs.new, home.new, store.new) }
+    ensures damage { Blames (EitherSpot (A.damage ours.old) (B.damage theirs.old)) (EitherSpot (A.damage ours.new) (B.damage theirs.new)) result }
     ensures cause { Caused result (W.files store.old) (W.faults store.old) (W.faults store.new) }
     ensures files { W.files store.new ≡ W.files store.old }
     ensures building { W.building store.new ≡ W.building store.old }
@@ -297,9 +311,10 @@ fn joined_head(alloc: Global, head: Head, other: &Head) -> Result<Head, AllocErr
     })
 }
 
-/// Two streams of one partition as one: the canonical stream of what both say together. Of `theirs` nothing is taken that stands
-/// behind what is given, or behind `upto` where nothing is (`asks`). It is ready where both are, and where what the calls of each may make of a home and a store
-/// leaves the other one ready and what it stands for.
+/// Two streams of one partition as one: the canonical stream of what both say together. A call is a chain of calls of the two, of
+/// which a refused one is the last (`did`): for the head each is asked once; for the next `theirs` is asked no further than what is
+/// given, or than `upto` where nothing is. It is ready where both are, and where what the calls of each may make of a home and a
+/// store leaves the other one ready and what it stands for.
 #[derive(Drop)]
 pub struct Merge<A, B> {
     ours: A,
@@ -312,7 +327,7 @@ pub struct Merge<A, B> {
 impl<A, B> Merge<A, B> {
     /// The two as one, from where they are.
     pub fn new(a: A, b: B) -> Self
-        ensures { result ≡ record { ours = a; ours_held = record { front = Front.Passed None; look = Look.Open }; theirs = b; theirs_held = record { front = Front.Passed None; look = Look.Open }; due = None } }
+        ensures { IsNewMerge a b result }
     {
         Merge {
             ours: a,
@@ -325,9 +340,10 @@ impl<A, B> Merge<A, B> {
 }
 
 impl<H, W: Store, A: Frags<H, W>, B: Frags<H, W>> Frags<H, W> for Merge<A, B> {
-    ghost use Rattle.rc_stream.specs.Holding.{bound_of};
-    ghost use Rattle.rc_stream.specs.Moving.{AheadOfBoth, AskedUpto, IsDueAhead, Keeps, KeepsSeen, Moved, Only, SoughtBoth, WentTo};
-    ghost use Rattle.rc_stream.specs.Stream.{Stream};
+    ghost use Rattle.std.specs.Prelude.{◌≡◌, None};
+    ghost use Rattle.rc_stream.specs.Did.{merge_did};
+    ghost use Rattle.rc_stream.specs.Showing.{EitherSpot, MergesTwo};
+    ghost use Rattle.rc_stream.specs.Moving.{AheadOfBoth, IsDueAhead, Keeps, KeepsSeen, Moved, SoughtBoth, nothing_held};
 
     ghost ready = { λ m home store.
         A.ready m.ours home store × B.ready m.theirs home store
@@ -340,10 +356,14 @@ impl<H, W: Store, A: Frags<H, W>, B: Frags<H, W>> Frags<H, W> for Merge<A, B> {
 
     ghost moves = { λ home store home' store'. Moved A.moves B.moves home store home' store' };
 
-    // of the second part nothing is taken that stands behind the first that both say, or behind the position
-    ghost asks = { λ m home store upto m' home' store'. (s v : Stream) →
-        SoughtBoth (A.seen m.ours home store) m.ours_held (Only (B.seen m.theirs home store) s) m.theirs_held m.due v →
-        WentTo m.due s (λ z. AskedUpto (bound_of upto v.left) z (B.seen m'.theirs home' store')) };
+    // its parts were called, one call after another
+    ghost did = { λ m home store c ok m' home' store'. merge_did A.did B.did m home store c ok m' home' store' };
+
+    ghost fresh = { λ m. A.fresh m.ours × B.fresh m.theirs × (m.ours_held ≡ nothing_held) × (m.theirs_held ≡ nothing_held) × (m.due ≡ None) };
+
+    ghost might = { λ m s. MergesTwo (A.might m.ours) (B.might m.theirs) s };
+
+    ghost damage = { λ m file offset. EitherSpot (A.damage m.ours) (B.damage m.theirs) file offset };
 
     fn head(&mut self, alloc: Global, home: &mut H, store: &mut W) -> Result<Head, StreamErr> {
         head_of_both(alloc, &mut self.ours, &mut self.theirs, home, store)

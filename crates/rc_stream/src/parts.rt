@@ -1,10 +1,12 @@
 // One of two streams that are merged, with what is held of it.
-ghost use Rattle.std.specs.Prelude.{◌≡◌, [], None, Some, OnOk, OnErr};
+ghost use Rattle.std.specs.Prelude.{◌≡◌, [], None, OnOk};
 ghost use Rattle.rc_position.specs.declared.positions.Pos.{Pos};
 ghost use Rattle.rc_stream.specs.Calls.{sought_by};
 ghost use Rattle.rc_stream.specs.Causes.{Caused};
 ghost use Rattle.rc_stream.specs.Holding.{held};
-ghost use Rattle.rc_stream.specs.Moving.{Holds, LookTakes, MaySeek, Once, Only, WentTo};
+ghost use Rattle.rc_stream.specs.Did.{Covers, OnceDid, answered, Call.OfNext, Call.OfSeek};
+ghost use Rattle.rc_stream.specs.Moving.{Holds, MaySeek, Once};
+ghost use Rattle.rc_stream.specs.Showing.{Blames};
 ghost use Rattle.rc_stream.specs.Stream.{Stream, first_upto};
 
 use crate::holding::Held;
@@ -24,11 +26,12 @@ pub(crate) fn look_ahead<H, W: Store, A: Frags<H, W>>(
 ) -> Result<(), StreamErr>
     requires { A.ready stream.old home.old store.old }
     ensures holds { (t : Stream) → Holds (A.seen stream.old home.old store.old) kept.old t → Holds (A.seen stream.new home.new store.new) kept.new t }
-    ensures no_further { (s : Stream) → A.seen stream.old home.old store.old s → LookTakes result upto.now (held kept.old) s (λ z. (t : Stream) → Holds (Only (A.seen stream.old home.old store.old) s) kept.old t → Holds (Only (A.seen stream.new home.new store.new) z) kept.new t) }
+    ensures did { (y : Pos) → (held kept.old ≡ [] → Covers (A.seen stream.old home.old store.old) upto.now y) → OnceDid A.did stream.old home.old store.old (OfNext y) (answered result) stream.new home.new store.new }
     ensures known { OnOk result ((t : Stream) → Holds (A.seen stream.old home.old store.old) kept.old t → held kept.new ≡ [] → first_upto upto.now t.left ≡ None) }
     ensures ahead { (x : Pos) → MaySeek (A.ahead stream.old) kept.old.look x → MaySeek (A.ahead stream.new) kept.new.look x }
     ensures ready { A.ready stream.new home.new store.new }
     ensures moves { Once A.moves home.old store.old home.new store.new }
+    ensures damage { Blames (A.damage stream.old) (A.damage stream.new) result }
     ensures cause { Caused result (W.files store.old) (W.faults store.old) (W.faults store.new) }
     ensures files { W.files store.new ≡ W.files store.old }
     ensures building { W.building store.new ≡ W.building store.old }
@@ -57,11 +60,11 @@ pub(crate) fn go_on<H, W: Store, A: Frags<H, W>>(
     requires ready { A.ready stream.old home.old store.old }
     requires ahead { MaySeek (A.ahead stream.old) kept.old.look to.now }
     ensures holds { (t : Stream) → Holds (A.seen stream.old home.old store.old) kept.old t → Holds (A.seen stream.new home.new store.new) kept.new (sought_by result to.now t) }
-    ensures no_further { (s : Stream) → WentTo (Some to.now) s (λ z. (t : Stream) → Holds (Only (A.seen stream.old home.old store.old) s) kept.old t → Holds (Only (A.seen stream.new home.new store.new) z) kept.new (sought_by result to.now t)) }
-    ensures kept { OnErr result ((s : Stream) → A.seen stream.old home.old store.old s → A.seen stream.new home.new store.new s) }
+    ensures did { OnceDid A.did stream.old home.old store.old (OfSeek to.now) (answered result) stream.new home.new store.new }
     ensures ahead { MaySeek (A.ahead stream.new) kept.new.look to.now }
     ensures ready { A.ready stream.new home.new store.new }
     ensures moves { Once A.moves home.old store.old home.new store.new }
+    ensures damage { Blames (A.damage stream.old) (A.damage stream.new) result }
     ensures cause { Caused result (W.files store.old) (W.faults store.old) (W.faults store.new) }
     ensures files { W.files store.new ≡ W.files store.old }
     ensures building { W.building store.new ≡ W.building store.old }

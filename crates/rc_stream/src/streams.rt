@@ -1,5 +1,5 @@
 // A partition as a stream.
-ghost use Rattle.std.specs.Prelude.{◌≡◌, IfOk, OnOk, OnErr};
+ghost use Rattle.std.specs.Prelude.{◌≡◌, IfOk, IfSome, IsTrue, OnOk, OnErr};
 
 use rc_mutation::{Frag, Head};
 use rc_outside::Store;
@@ -36,15 +36,18 @@ impl From<AllocError> for StreamErr {
 
 /// A stream of one partition over a home `H`, where what it reads may be kept, and a store `W`. A contract sees the stream
 /// that it stands for over them: the head of the partition and the rows and changes that are left. Over a store that does
-/// not tell its files it may stand for none, and then nothing is said of what is given. Each call needs that the stream is
-/// ready over the home and the store handed in, and keeps it.
+/// not tell its files it may stand for none as yet. Once its head was answered, at its beginning, it stands over any store for one stream
+/// that is in order, of those that it might stand for (`shown`), and all that is said of the stream it stands for holds of that one. Each
+/// call needs that the stream is ready over the home and the store handed in, and keeps it.
 pub trait Frags<H, W: Store> {
-    ghost use Rattle.std.specs.Prelude.{◌≡◌};
+    ghost use Rattle.std.specs.Prelude.{◌≡◌, ℕ, Bool};
     ghost use Rattle.rc_position.specs.declared.positions.Pos.{Pos};
     ghost use Rattle.rc_stream.specs.Calls.{left_by, sought_by};
+    ghost use Rattle.rc_stream.specs.Did.{Call, Covers, answered, Call.OfHead, Call.OfNext, Call.OfSeek};
     ghost use Rattle.rc_stream.specs.Causes.{Caused};
-    ghost use Rattle.rc_stream.specs.Stream.{Stream, first_upto};
+    ghost use Rattle.rc_stream.specs.Stream.{Stream, first_upto, is_upto};
     ghost use Rattle.rc_stream.specs.Places.{Passes, Reaches};
+    ghost use Rattle.rc_stream.specs.Showing.{Blames, ShowsOne};
 
     // its calls may be made over this home and this store
     ghost ready: { Self → H → W → Type 0 };
@@ -58,18 +61,32 @@ pub trait Frags<H, W: Store> {
     // what a call may make of a home and a store: another home and another store
     ghost moves: { H → W → H → W → Type 0 };
 
-    // what a call for the next up to a position may make of a stream, its home and its store
-    ghost asks: { Self → H → W → Pos → Self → H → W → Type 0 };
+    // what a call, answered or refused, does to a stream, its home and its store
+    ghost did: { Self → H → W → Call → Bool → Self → H → W → Type 0 };
+
+    // it is at its beginning, and made of streams in order
+    ghost fresh: { Self → Type 0 };
+
+    // the streams of which it turns out to stand for one, whatever the store holds
+    ghost might: { Self → Stream → Type 0 };
+
+    // the files and the offsets in them that its calls may name as damaged
+    ghost damage: { Self → ℕ → ℕ → Type 0 };
 
     /// The head of the partition. The stream is as before. `StreamErr::Fault` when the store fails,
     /// `StreamErr::Damaged` when bytes of a file contradict it, `StreamErr::NoMemory` when memory is refused.
     fn head(&mut self, alloc: Global, home: &mut H, store: &mut W) -> Result<Head, StreamErr>
         requires { ready self.old home.old store.old }
         ensures head { (s : Stream) → seen self.old home.old store.old s → IfOk result (λ head. head ≡ s.head) }
+        ensures shown { fresh self.old → IfOk result (ShowsOne (might self.old) (seen self.new home.new store.new)) }
+        ensures fresh { fresh self.old → fresh self.new }
+        ensures might { (s : Stream) → might self.new s → might self.old s }
         ensures seen { (s : Stream) → seen self.old home.old store.old s → seen self.new home.new store.new s }
         ensures ahead { (x : Pos) → ahead self.old x → ahead self.new x }
         ensures ready { ready self.new home.new store.new }
         ensures moves { moves home.old store.old home.new store.new }
+        ensures did { did self.old home.old store.old OfHead (answered result) self.new home.new store.new }
+        ensures damage { Blames (damage self.old) (damage self.new) result }
         ensures cause { Caused result (W.files store.old) (W.faults store.old) (W.faults store.new) }
         ensures files { W.files store.new ≡ W.files store.old }
         ensures building { W.building store.new ≡ W.building store.old };
@@ -91,6 +108,8 @@ pub trait Frags<H, W: Store> {
         ensures kept { OnErr result ((x : Pos) → ahead self.old x → ahead self.new x) }
         ensures ready { ready self.new home.new store.new }
         ensures moves { moves home.old store.old home.new store.new }
+        ensures did { did self.old home.old store.old (OfSeek to.now) (answered result) self.new home.new store.new }
+        ensures damage { Blames (damage self.old) (damage self.new) result }
         ensures cause { Caused result (W.files store.old) (W.faults store.old) (W.faults store.new) }
         ensures files { W.files store.new ≡ W.files store.old }
         ensures building { W.building store.new ≡ W.building store.old };
@@ -108,11 +127,13 @@ pub trait Frags<H, W: Store> {
     ) -> Result<Option<Frag>, StreamErr>
         requires { ready self.old home.old store.old }
         ensures gives { (s : Stream) → seen self.old home.old store.old s → IfOk result (λ got. got ≡ first_upto upto.now s.left) }
+        ensures upto { IfOk result (λ got. IfSome got (λ f. IsTrue (is_upto upto.now f))) }
         ensures seen { (s : Stream) → seen self.old home.old store.old s → seen self.new home.new store.new (left_by result s) }
         ensures ahead { (x : Pos) → Passes result x → ahead self.old x → ahead self.new x }
         ensures ready { ready self.new home.new store.new }
         ensures moves { moves home.old store.old home.new store.new }
-        ensures asks { asks self.old home.old store.old upto.now self.new home.new store.new }
+        ensures did { (y : Pos) → Covers (seen self.old home.old store.old) upto.now y → did self.old home.old store.old (OfNext y) (answered result) self.new home.new store.new }
+        ensures damage { Blames (damage self.old) (damage self.new) result }
         ensures cause { Caused result (W.files store.old) (W.faults store.old) (W.faults store.new) }
         ensures files { W.files store.new ≡ W.files store.old }
         ensures building { W.building store.new ≡ W.building store.old };

@@ -94,33 +94,6 @@ fn given_from<S: Frags<(), SureStore>>(
     }
 }
 
-#[test]
-fn seeks_in_a_range(rt: HostRuntime) -> Result<(), Fail> {
-    let mut store = SureStore::new(rt.alloc())?;
-    let mut home = ();
-    let mut stream = ListFrags::new(mutation(rt.alloc(), 3)?.fragments(rt.alloc())?);
-    let middle = pos(rt.alloc(), 3, Weight::At)?;
-    let end = pos(rt.alloc(), 9, Weight::At)?;
-    let head = stream.head(rt.alloc(), &mut home, &mut store);
-    assert!(rt; head.is_ok());
-    let before = given(rt.alloc(), &mut stream, &mut store, &[&middle; 3])?;
-    assert_eq!(rt; before.as_slice(), b"rc-".as_slice());
-    let behind = given_from(rt.alloc(), &mut stream, &mut store, &middle, &[&end; 5])?;
-    assert_eq!(rt; behind.as_slice(), b"crer-".as_slice());
-    Ok(())
-}
-
-#[test]
-fn merges_two(rt: HostRuntime) -> Result<(), Fail> {
-    let mut store = SureStore::new(rt.alloc())?;
-    let ours = ListFrags::new(mutation(rt.alloc(), 3)?.fragments(rt.alloc())?);
-    let mut stream = Merge::new(ours, one_row(rt.alloc(), 5)?);
-    let end = pos(rt.alloc(), 9, Weight::At)?;
-    let seen = given(rt.alloc(), &mut stream, &mut store, &[&end; 7])?;
-    assert_eq!(rt; seen.as_slice(), b"rcrrer-".as_slice());
-    Ok(())
-}
-
 // What two lists as one give from a seek on.
 fn merged_from(
     alloc: Global,
@@ -142,5 +115,38 @@ fn merges_two_from_a_seek(rt: HostRuntime) -> Result<(), Fail> {
     let end = pos(rt.alloc(), 9, Weight::At)?;
     let seen = merged_from(rt.alloc(), ours, theirs, &middle, &[&end; 6])?;
     assert_eq!(rt; seen.as_slice(), b"crrer-".as_slice());
+    Ok(())
+}
+
+// So many range tombstones, each over one key alone, and one over all these keys that is greater.
+fn under_one(alloc: Global, count: i64) -> Result<(ListFrags, ListFrags), AllocError> {
+    let mut many = Mutation::empty(alloc);
+    for n in 0..count {
+        let from = pos(alloc, n, Weight::Before)?;
+        let to = pos(alloc, n, Weight::After)?;
+        if from < to {
+            many.ranges.add(alloc, &from, &to, Tomb { ts: 1, dt: 1 })?;
+        }
+    }
+    let mut one = Mutation::empty(alloc);
+    let from = pos(alloc, -1, Weight::Before)?;
+    let to = pos(alloc, count, Weight::After)?;
+    if from < to {
+        one.ranges.add(alloc, &from, &to, Tomb { ts: 9, dt: 1 })?;
+    }
+    Ok((
+        ListFrags::new(many.fragments(alloc)?),
+        ListFrags::new(one.fragments(alloc)?),
+    ))
+}
+
+#[test]
+fn passes_over_changes_that_change_nothing(rt: HostRuntime) -> Result<(), Fail> {
+    // 512 ranges are 1,024 changes
+    let (many, one) = under_one(rt.alloc(), 512)?;
+    let begin = pos(rt.alloc(), -2, Weight::At)?;
+    let end = pos(rt.alloc(), 999, Weight::At)?;
+    let seen = merged_from(rt.alloc(), many, one, &begin, &[&end; 3])?;
+    assert_eq!(rt; seen.as_slice(), b"ce-".as_slice());
     Ok(())
 }

@@ -24,7 +24,7 @@ use Rattle.rc_mutation.specs.Source.{IsMutation}
 use Rattle.rc_mutation.specs.Fragments.{begins_at, changes_of, placed_change, placed_row}
 use Rattle.rc_mutation.specs.Rows.{joined_rows, IsRows}
 use Rattle.rc_mutation.specs.RowsLaws.{joined_rows-append, joined_rows-rows}
-use Rattle.rc_mutation.proofs.FragMerge.{merge, merge_into, fragment_of}
+use Rattle.rc_mutation.specs.Laws.FragMerge.{merge, merge_into, fragment_of}
 use Rattle.rc_tables.specs.Rebuilt.{AllWritten, between, changes_among, pieces_between, rows_among}
 use Rattle.rc_tables.proofs.Listing.{between-merge}
 
@@ -139,7 +139,7 @@ mapped_twice made more (Some ps) = ap Some (append_assoc made more ps)
 
 -- ---- the loop over rows
 
-front_first : (x : Frag) (xs : List Frag) → 1 ≤ length xs → x ≡ get_or xs 0 x → xs ≡ x ∷ drop 1 xs
+pub front_first : (x : Frag) (xs : List Frag) → 1 ≤ length xs → x ≡ get_or xs 0 x → xs ≡ x ∷ drop 1 xs
 front_first x [] n e = absurd (omega (arith, n))
 front_first x (y ∷ ys) n e = ap (λ z. z ∷ ys) (sym e)
 

@@ -1,9 +1,11 @@
-pub mod Listing
-pub mod Places
 pub mod Apart
-pub mod Spelled
-pub mod Spans
-pub mod Searching
+pub mod Blamed
+pub mod Coming
 pub mod Joined
-pub mod Ascending
+pub mod Listing
 pub mod Numbered
+pub mod Places
+pub mod Searching
+pub mod Settling
+pub mod Spans
+pub mod Spelled

@@ -16,14 +16,14 @@ use Rattle.rc_mutation.specs.declared.mutations.Mutation.{Mutation}
 use Rattle.rc_mutation.specs.declared.mutations.Partition.{Partition}
 use Rattle.rc_mutation.specs.Source.{IsMutation}
 use Rattle.rc_mutation.specs.Fragments.{changes_of, fragments, is_written, placed_change, placed_row, static_fragment}
-use Rattle.rc_mutation.proofs.FragMerge.{merge, merge_into, merge-in_order, fragment_of, rows-placed, changes-placed}
+use Rattle.rc_mutation.specs.Laws.FragMerge.{merge, merge_into, merge-in_order, fragment_of, rows-placed, changes-placed}
 use Rattle.rc_stream.specs.Stream.{is_clustered}
 use Rattle.rc_tfile.specs.Items.{PartItem, RowItem, ChangeItem, EndItem, item_code}
 use Rattle.rc_tfile.specs.Before.{Before, offset, followed_by, last_key}
 use Rattle.rc_tfile.specs.Blocks.{Entry, entries, entry, entry_items, blocks, part_offset}
 use Rattle.rc_tfile.specs.Info.{refs_from, entry_size}
 use Rattle.rc_tfile.specs.TableText.{frag_items, part_items}
-use Rattle.rc_tfile.proofs.Follows.{followed_by-append}
+use Rattle.rc_tfile.specs.laws.Follows.{followed_by-append}
 use Rattle.rc_tables.specs.Rebuilt.{between}
 
 -- ---- rows and changes

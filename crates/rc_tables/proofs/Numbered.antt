@@ -1,5 +1,5 @@
 -- The number of the last of some tables, which are shown in another form.
-use Rattle.std.proofs.Common.{◌≡◌, ℕ, ◌-◌, List, [], ◌∷◌, length, Option, refl, sym, ap, subst, ◌∙◌, option_map, slice_get, map as list_map}
+use Rattle.std.proofs.Common.{◌≡◌, ◌-◌, List, [], ◌∷◌, length, refl, sym, ap, subst, ◌∙◌, option_map, slice_get, map as list_map}
 use Rattle.std.proofs.lemmas.List.{length-map}
 use Rattle.std.proofs.lemmas.Option.{slice_get-map}
 use Rattle.rc_tfile.specs.declared.info.TableInfo.{TableInfo}

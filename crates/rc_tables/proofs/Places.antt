@@ -7,19 +7,23 @@ use Rattle.std.proofs.lemmas.List.{drop_at, drop-take}
 use Rattle.rc_rowcode.specs.Spelling.{time_code}
 use Rattle.rc_outside.specs.Files.{Files, AreBytesOf}
 use Rattle.rc_schema.specs.Lists.{Lists}
+use Rattle.rc_mutation.specs.declared.fragments.Frag.{Frag}
+use Rattle.rc_mutation.specs.declared.fragments.Frag.TheVariants as frag
 use Rattle.rc_mutation.specs.declared.mutations.Partition.{Partition}
 use Rattle.rc_mutation.specs.Source.{IsMutation}
 use Rattle.rc_tfile.specs.declared.info.PartRef.{PartRef}
-use Rattle.rc_tfile.specs.Items.{Item, HeadItem, StopItem, EntryItem, BlockItem, TailItem, item_code, offset_code, IsItem}
-use Rattle.rc_tfile.specs.Before.{Before, text, offset, followed_by}
+use Rattle.rc_tfile.specs.Items.{Item, HeadItem, PartItem, RowItem, ChangeItem, EndItem, StopItem, EntryItem, BlockItem, TailItem, item_code, offset_code, IsItem}
+use Rattle.rc_tfile.specs.Before.{Before, text, offset, followed_by, in_force, last_pos}
 use Rattle.rc_tfile.specs.Blocks.{Entry, entries, entry_items, ending}
 use Rattle.rc_tfile.specs.Checking.{IsContent}
 use Rattle.rc_tfile.specs.Info.{refs, refs_from, entry_size}
-use Rattle.rc_tfile.specs.TableText.{AllFit, body, table, part_items}
-use Rattle.rc_tfile.proofs.Follows.{followed_by-append, text-followed_by, by_recursion}
-use Rattle.rc_tfile.proofs.Drafts.{parts_of, body_is}
+use Rattle.rc_tfile.specs.TableText.{AllFit, IsStatic, body, frag_items, table, part_items}
+use Rattle.rc_tfile.specs.laws.Follows.{followed_by-append, text-followed_by, by_recursion}
+use Rattle.rc_tfile.specs.laws.Drafts.{parts_of, body_is}
 use Rattle.rc_tables.specs.Located.{IsLocated, IsSpan, IsEntryAt, EndsAt, glimpsed}
-use Rattle.rc_tables.proofs.Listing.{entry_of, entries_behind, entries_are, entries_behind-append, length-entries, listing, listing-append, refs_from-append, length-refs}
+use Rattle.rc_tables.specs.Rebuilt.{AllCome, between}
+use Rattle.rc_tables.specs.laws.Ascending.{front_fits}
+use Rattle.rc_tables.proofs.Listing.{Inner, between-inner, items_of, entry_of, entries_behind, entries_are, entries_behind-append, length-entries, listing, listing-append, refs_from-append, length-refs}
 
 -- ---- what fits
 
@@ -27,9 +31,18 @@ both_parts : {X : Type 0} (P : X → Type 0) (xs ys : List X) → AllByRecursion
 both_parts P [] ys h = (tt, h)
 both_parts P (x ∷ xs) ys h = (let r = both_parts P xs ys h.1 in ((h.0, r.0), r.1))
 
-pub front_fits : (schema : Lists) (xs : List Item) (b : Before) → AllFit schema (followed_by b xs) → AllFit schema b
-front_fits schema [] b h = h
-front_fits schema (x ∷ xs) b h = (front_fits schema xs (x ∷ b) h).0
+-- rows and changes that fit where they stand, up to the end of a partition, come one behind another
+come_of_fit : (schema : Lists) (fs : List Frag) (b : Before) → Inner fs → AllFit schema (followed_by b (flat_map frag_items fs ++ EndItem ∷ [])) → AllCome schema (in_force b) (last_pos b) fs
+come_of_fit schema [] b inner h = h.1.1.1
+come_of_fit schema (frag.Start pt ∷ fs) b inner h = absurd (let e = inner.0 in cc)
+come_of_fit schema (frag.Static row ∷ fs) b inner h = absurd (let e = inner.0 in cc)
+come_of_fit schema (frag.Row key row ∷ fs) b inner h =
+    let one = (front_fits schema (flat_map frag_items fs ++ EndItem ∷ []) (RowItem key row ∷ b) h).1.1 in
+    ((one.1, one.3, one.2), come_of_fit schema fs (RowItem key row ∷ b) inner.1 h)
+come_of_fit schema (frag.Change x tomb ∷ fs) b inner h =
+    let one = (front_fits schema (flat_map frag_items fs ++ EndItem ∷ []) (ChangeItem x tomb ∷ b) h).1.1 in
+    ((one.1, one.3, one.2), come_of_fit schema fs (ChangeItem x tomb ∷ b) inner.1 h)
+come_of_fit schema (frag.End ∷ fs) b inner h = absurd (let e = inner.0 in cc)
 
 items_fit : (schema : Lists) (xs : List Item) (b : Before) → AllFit schema (followed_by b xs) → AllByRecursion IsItem xs
 items_fit schema [] b h = tt
@@ -125,6 +138,18 @@ module _ (schema : Lists) (before : List Partition) (p : Partition) (behind : Li
       let bodies : AllFit schema (StopItem ∷ parts_of schema parts) = subst (λ (b : Before). AllFit schema b) (body_is schema parts) (front_fits schema (ending (body schema parts)) (body schema parts) fit) in
       let there : AllFit schema (followed_by front onward) = subst (λ (b : Before). AllFit schema b) parts_split bodies.0 in
       both_parts IsItem (part_items p) (flat_map part_items behind) (items_fit schema onward front there)
+
+  -- its static row is of the schema, and its rows and changes come one behind another
+  pub part_comes : AllFit schema (table schema parts) → IsMutation p.change → IsStatic schema p.change.statics × AllCome schema None None (between p.change)
+  part_comes fit is =
+      let bodies : AllFit schema (StopItem ∷ parts_of schema parts) = subst (λ (b : Before). AllFit schema b) (body_is schema parts) (front_fits schema (ending (body schema parts)) (body schema parts) fit) in
+      let there : AllFit schema (followed_by front onward) = subst (λ (b : Before). AllFit schema b) parts_split bodies.0 in
+      let begun : Before = PartItem p.key p.change.pt p.change.statics ∷ front in
+      let frags : List Item = flat_map frag_items (between p.change) ++ EndItem ∷ [] in
+      let rest = flat_map part_items behind in
+      let split : followed_by front onward ≡ followed_by (followed_by begun frags) rest = ap (λ (xs : List Item). followed_by begun (xs ++ rest)) (items_of p.change) ∙ followed_by-append begun frags rest in
+      let mine : AllFit schema (followed_by begun frags) = front_fits schema rest (followed_by begun frags) (subst (λ (b : Before). AllFit schema b) split there) in
+      ((front_fits schema frags begun mine).1.1.2, come_of_fit schema (between p.change) begun (between-inner p.change is) mine)
 
 -- ---- what is read
 
@@ -276,6 +301,10 @@ module _ (files : Option Files) (n at : ℕ) (here : PartRef) (behind : List Par
   -- the values of its items are within their limits
   pub items_there : AllByRecursion IsItem (part_items p)
   items_there = (part_items_fit is.schema is.before p is.behind is.table.fit).0
+
+  -- and come as those of a table of the schema
+  pub comes_there : IsStatic is.schema p.change.statics × AllCome is.schema None None (between p.change)
+  comes_there = part_comes is.schema is.before p is.behind is.table.fit ((both_parts (λ (q : Partition). IsMutation q.change) is.before (p ∷ is.behind) are).1.0)
 
   -- what is read of the directory lies in the file
   pub reads_within : here.dir_off + (here.dir_len + glimpsed behind) ≤ length is.bytes

@@ -28,9 +28,9 @@ use Rattle.rc_tfile.specs.Before.{Before, offset, followed_by}
 use Rattle.rc_tfile.specs.Blocks.{Entry, entries}
 use Rattle.rc_tfile.specs.Info.{refs, refs_from, info_of, entry_size}
 use Rattle.rc_tfile.specs.TableText.{IsTable, body, part_items}
-use Rattle.rc_tfile.proofs.Drafts.{body_is}
-use Rattle.rc_tfile.proofs.Follows.{by_recursion}
-use Rattle.rc_tables.specs.Located.{IsLocated}
+use Rattle.rc_tfile.specs.laws.Drafts.{body_is}
+use Rattle.rc_tfile.specs.laws.Follows.{by_recursion}
+use Rattle.rc_tables.specs.Located.{IsLocatedOf}
 use Rattle.rc_tables.specs.Tables.{IsHeld, changes_in, listing}
 use Rattle.rc_tables.proofs.Listing.{entry_of, entries_behind, entries_are, length-entries, length-refs}
 
@@ -185,7 +185,7 @@ module _ (files : Option Files) (schema : Lists) (table : ℕ × List Partition)
   dir_is x some e = first_off (entries_behind start table.1) at_dir (subst (λ rs. 0 < length rs) parts_are some) x (e ∙ ap (λ rs. get_or rs 0 x) parts_are)
 
   pub located : (i : ℕ) (here : PartRef) (behind : List PartRef) (at : ℕ) → i < length info.parts → here ≡ get_or info.parts i here → behind ≡ drop (i + 1) info.parts → at ≡ at_dir
-      → (p : Partition) × IsLocated files info.number at (here ∷ behind) p × (changes_in p.key table.1 ≡ p.change ∷ [])
+      → (p : Partition) × IsLocatedOf files schema info.number at (here ∷ behind) p × (changes_in p.key table.1 ≡ p.change ∷ [])
   located i here behind at lt is rest e =
       let split = split_at table.1 i (omega (arith, lt, same_size)) in
       let p = split.0 in
@@ -194,16 +194,19 @@ module _ (files : Option Files) (schema : Lists) (table : ℕ × List Partition)
       let size : length before ≡ i = length-take-le i table.1 (omega (arith, lt, same_size)) in
       let listed : here ∷ behind ≡ drop i info.parts = (λ j. is j ∷ rest j) ∙ sym (drop_more info.parts i here lt) in (
         p,
-        record {
-          schema = schema;
-          before = before;
-          behind = later;
-          bytes = held.bytes;
-          content = subst (λ n. IsContent files n held.bytes) (sym (ap (λ (t : TableInfo). t.number) same)) held.content;
-          table = subst (λ (ps : List Partition). IsTable held.bytes schema ps) split.1 held.text;
-          mutations = subst (λ (ps : List Partition). All (λ q. IsMutation q.change) ps) split.1 held.mutations;
-          directory = e ∙ ap (λ ps. offset (body schema ps)) split.1;
-          refs = listed ∙ ap (drop i) (parts_refs ∙ ap (λ ps. refs (body schema ps)) split.1) ∙ ap (λ k. drop k (refs (body schema (before ++ p ∷ later)))) (sym size);
-        },
+        (
+          record {
+            schema = schema;
+            before = before;
+            behind = later;
+            bytes = held.bytes;
+            content = subst (λ n. IsContent files n held.bytes) (sym (ap (λ (t : TableInfo). t.number) same)) held.content;
+            table = subst (λ (ps : List Partition). IsTable held.bytes schema ps) split.1 held.text;
+            mutations = subst (λ (ps : List Partition). All (λ q. IsMutation q.change) ps) split.1 held.mutations;
+            directory = e ∙ ap (λ ps. offset (body schema ps)) split.1;
+            refs = listed ∙ ap (drop i) (parts_refs ∙ ap (λ ps. refs (body schema ps)) split.1) ∙ ap (λ k. drop k (refs (body schema (before ++ p ∷ later)))) (sym size);
+          },
+          refl,
+        ),
         ap (changes_in p.key) split.1 ∙ one_change before p later (subst (λ (ps : List Partition). IsTrue (is_sorted bytes_cmp (pairs ps))) split.1 held.ascend),
       )

@@ -1,24 +1,27 @@
 -- What is read of the directory gives the span of a partition, and lies in the file.
-use Rattle.std.proofs.Common.{◌≡◌, ℕ, ◌+◌, ◌-◌, ◌≤◌, ◌<◌, ◌^◌, List, ◌∷◌, ◌++◌, length, take, drop, Option, Some, None, refl, sym, ap, ◌∙◌, subst, arith, append_assoc}
-use Rattle.std.specs.Prelude.{IsSomeAnd}
+use Rattle.std.proofs.Common.{◌≡◌, ℕ, ◌+◌, ◌-◌, ◌≤◌, ◌<◌, ◌^◌, List, ◌∷◌, ◌++◌, length, take, drop, Option, Some, None, refl, sym, ap, ◌∙◌, subst, arith, append_assoc, inl}
+use Rattle.std.specs.Prelude.{◌↔◌, IsSomeAnd}
 use Rattle.std.specs.List.{flat_map, AllByRecursion}
 use Rattle.std.proofs.lemmas.List.{drop_at, take_at, length-append}
 use Rattle.rc_outside.specs.Files.{Files, LiesInFile, AreBytesOf}
 use Rattle.rc_rowcode.specs.Spelling.{time_code}
 use Rattle.rc_mutation.specs.declared.mutations.Mutation.{Mutation}
 use Rattle.rc_mutation.specs.declared.mutations.Partition.{Partition}
-use Rattle.rc_mutation.specs.Source.{IsMutation}
 use Rattle.rc_tfile.specs.declared.info.PartRef.{PartRef}
 use Rattle.rc_tfile.specs.Items.{item_code, bytes_code, offset_code, IsItem, IsPartKey}
 use Rattle.rc_tfile.specs.Reading.{Starts}
-use Rattle.rc_tfile.specs.TableText.{part_items}
+use Rattle.rc_schema.specs.Lists.{Lists}
+use Rattle.rc_stream.specs.declared.streams.StreamErr.{StreamErr}
+use Rattle.rc_stream.specs.declared.streams.StreamErr.TheVariants.{Fault, Damaged, NoMemory}
+use Rattle.rc_tfile.specs.TableText.{IsStatic, part_items}
 use Rattle.rc_tfile.specs.Before.{offset}
-use Rattle.rc_tfile.proofs.Starting.{key_free, rest_of}
+use Rattle.rc_tfile.specs.laws.Starting.{key_free, rest_of}
 use Rattle.std.proofs.lemmas.Nat.{from_le_bytes-to_le_bytes_8}
 use Rattle.rc_tables.specs.declared.locating.Span.{Span}
-use Rattle.rc_tables.specs.Located.{IsLocated, IsSpan, IsEntryAt, EndsAt, glimpsed, WhereTold}
-use Rattle.rc_tables.specs.Rebuilt.{number_at}
-use Rattle.rc_tables.proofs.Places.{where_from, where_to, begins_there, ends_there, in_order, lies_there, reads_within, key_is, is_mutation, items_there}
+use Rattle.rc_tables.specs.Located.{Contradicts, IsAtSpan, IsLocated, IsLocatedOf, IsOutside, IsSpan, IsEntryAt, EndsAt, SaysNoPart, SaysNoSpan, SaysOf, SaysSpan, glimpsed, WhereTold}
+use Rattle.rc_tables.specs.Rebuilt.{AllCome, IsPartOf, between, number_at}
+use Rattle.rc_tables.proofs.Places.{where_from, where_to, begins_there, ends_there, in_order, lies_there, reads_within, key_is, is_mutation, items_there, comes_there}
+use Rattle.rc_tables.proofs.Coming.{part_fits}
 use Rattle.rc_tables.proofs.Spelled.{found_is}
 
 some_is : (s t : Span) → Some s ≡ Some t → s ≡ t
@@ -106,22 +109,66 @@ partition_lies (Some files) n at here behind from to count told spans e =
     let span = spans told.0 told.1 in
     span_lies (Some files) n from to count told.0 span (omega (arith, e, span.ends))
 
--- what reads each partition of this key from its bytes reads this one
-pub decoded : (files : Option Files) (n at : ℕ) (here : PartRef) (behind : List PartRef) (p : Partition) (from to : ℕ) (piece : List ℕ) (found : Option Mutation)
-    → IsLocated files n at (here ∷ behind) p → IsSpan files n p from to → length piece ≡ to - from → AreBytesOf files n from piece
-    → ((m : Mutation) → IsMutation m → AllByRecursion IsItem (part_items (record { key = here.key; change = m })) → piece ≡ flat_map item_code (part_items (record { key = here.key; change = m })) → found ≡ Some m)
-    → found ≡ Some p.change
-decoded files n at here behind p from to piece found is span size read reads =
+-- the table is that of the schema
+pub unlocated : (files : Option Files) (schema : Lists) (n at : ℕ) (listed : List PartRef) → WhereTold files ((p : Partition) × IsLocatedOf files schema n at listed p) → WhereTold files ((p : Partition) × IsLocated files n at listed p)
+unlocated None schema n at listed h = tt
+unlocated (Some files) schema n at listed h = (h.0, h.1.0)
+
+-- its bytes are the items of the key's part
+part_there : (files : Option Files) (schema : Lists) (n at : ℕ) (here : PartRef) (behind : List PartRef) (p : Partition) (from to : ℕ) (piece : List ℕ)
+    → IsLocatedOf files schema n at (here ∷ behind) p → IsSpan files n p from to → length piece ≡ to - from → AreBytesOf files n from piece → IsPartOf schema here.key p.change piece
+part_there files schema n at here behind p from to piece of span size read =
+    let is = of.0 in
     let key = sym (key_is files n at here behind p is) in
-    reads p.change (is_mutation files n at here behind p is)
-    (subst (λ k. AllByRecursion IsItem (part_items (record { key = k; change = p.change }))) key (items_there files n at here behind p is))
-    (span_read files n from to p piece span (omega (arith, size, span.ends)) read ∙ ap (λ k. flat_map item_code (part_items (record { key = k; change = p.change }))) key)
+    let come = comes_there files n at here behind p is in
+    record {
+      mutation = is_mutation files n at here behind p is;
+      statics = subst (λ z. IsStatic z p.change.statics) of.1 come.0;
+      come = subst (λ z. AllCome z None None (between p.change)) of.1 come.1;
+      items = subst (λ k. AllByRecursion IsItem (part_items (record { key = k; change = p.change }))) key (items_there files n at here behind p is);
+      spelled = span_read files n from to p piece span (omega (arith, size, span.ends)) read ∙ ap (λ k. flat_map item_code (part_items (record { key = k; change = p.change }))) key;
+    }
+
+-- what reads exactly what bytes say of the key reads this partition
+pub decoded : (files : Option Files) (schema : Lists) (n at : ℕ) (here : PartRef) (behind : List PartRef) (p : Partition) (from to : ℕ) (piece : List ℕ) (found : Option Mutation)
+    → IsLocatedOf files schema n at (here ∷ behind) p → IsSpan files n p from to → length piece ≡ to - from → AreBytesOf files n from piece
+    → ((m : Mutation) → (found ≡ Some m) ↔ IsPartOf schema here.key m piece) → found ≡ Some p.change
+decoded files schema n at here behind p from to piece found of span size read exact = (exact p.change).1 (part_there files schema n at here behind p from to piece of span size read)
 
 -- so where a file is told and is the table, some partition is read
-pub none_decoded : (files : Option Files) (n at : ℕ) (here : PartRef) (behind : List PartRef) (from to : ℕ) (piece : List ℕ) (found : Option Mutation)
-    → WhereTold files ((p : Partition) × IsLocated files n at (here ∷ behind) p) → ((p : Partition) → IsLocated files n at (here ∷ behind) p → IsSpan files n p from to) → length piece ≡ to - from → AreBytesOf files n from piece
-    → ((m : Mutation) → IsMutation m → AllByRecursion IsItem (part_items (record { key = here.key; change = m })) → piece ≡ flat_map item_code (part_items (record { key = here.key; change = m })) → found ≡ Some m)
-    → found ≡ None → files ≡ None
-none_decoded None n at here behind from to piece found told spans size read reads there = refl
-none_decoded (Some files) n at here behind from to piece found told spans size read reads there =
-    absurd (let q = sym there ∙ decoded (Some files) n at here behind told.0 from to piece found told.1 (spans told.0 told.1) size read reads in cc)
+pub none_decoded : (files : Option Files) (schema : Lists) (n at : ℕ) (here : PartRef) (behind : List PartRef) (from to : ℕ) (piece : List ℕ) (found : Option Mutation)
+    → WhereTold files ((p : Partition) × IsLocatedOf files schema n at (here ∷ behind) p) → ((p : Partition) → IsLocated files n at (here ∷ behind) p → IsSpan files n p from to) → length piece ≡ to - from → AreBytesOf files n from piece
+    → ((m : Mutation) → (found ≡ Some m) ↔ IsPartOf schema here.key m piece) → found ≡ None → files ≡ None
+none_decoded None schema n at here behind from to piece found told spans size read exact there = refl
+none_decoded (Some files) schema n at here behind from to piece found told spans size read exact there =
+    absurd (let q = sym there ∙ decoded (Some files) schema n at here behind told.0 from to piece found told.1 (spans told.0 told.1.0) size read exact in cc)
+
+-- ---- damage
+
+pub at_span : (schema : Lists) (n at : ℕ) (here : PartRef) (behind : List PartRef) (e : StreamErr) → IsAtSpan n at here behind e → Contradicts schema n at here behind e
+at_span schema n at here behind Fault h = tt
+at_span schema n at here behind (Damaged file offset) h = (h.0, inl (h.1, h.2))
+at_span schema n at here behind NoMemory h = tt
+
+pub outside_part : (schema : Lists) (n at : ℕ) (here : PartRef) (behind : List PartRef) (e : StreamErr) → IsOutside e → Contradicts schema n at here behind e
+outside_part schema n at here behind Fault h = tt
+outside_part schema n at here behind (Damaged file offset) h = absurd h
+outside_part schema n at here behind NoMemory h = tt
+
+pub outside_span : (n at : ℕ) (here : PartRef) (behind : List PartRef) (e : StreamErr) → IsOutside e → IsAtSpan n at here behind e
+outside_span n at here behind Fault h = tt
+outside_span n at here behind (Damaged file offset) h = absurd h
+outside_span n at here behind NoMemory h = tt
+
+-- where no span is found, the bytes say none
+pub no_span : (at : ℕ) (here : PartRef) (behind : List PartRef) (piece : List ℕ) (found : Option Span) → length piece ≡ here.dir_len + glimpsed behind
+    → ((from to : ℕ) → IsEntryAt piece here.key from → EndsAt at (drop here.dir_len piece) behind to → from ≤ to → found ≡ Some (record { from = from; to = to })) → found ≡ None → SaysNoSpan at here behind
+no_span at here behind piece found size finds there = record { piece = piece; size = size; none = λ from to b e o. absurd (let q = sym there ∙ finds from to b e o in cc) }
+
+-- where no partition is found, they are no part's
+pub no_part : (schema : Lists) (at : ℕ) (here : PartRef) (behind : List PartRef) (from to : ℕ) (bytes : List ℕ) (found : Option Mutation) → SaysSpan at here behind from to → length bytes ≡ to - from
+    → ((m : Mutation) → (found ≡ Some m) ↔ IsPartOf schema here.key m bytes) → found ≡ None → SaysNoPart schema at here behind from
+no_part schema at here behind from to bytes found said count exact there = record { to = to; said = said; bytes = bytes; count = count; none = λ m p. absurd (let q = sym there ∙ (exact m).1 p in cc) }
+
+pub says : (schema : Lists) (key bytes : List ℕ) (m : Mutation) → IsPartOf schema key m bytes → SaysOf schema key m
+says schema key bytes m p = (p.mutation, part_fits schema key m p.mutation p.statics p.come)

@@ -17,7 +17,7 @@ use Rattle.rc_tfile.specs.declared.reading.Part.{Part}
 use Rattle.rc_tfile.specs.Items.{Item, PartItem, RowItem, ChangeItem, EndItem, item_code, bytes_code, IsItem, IsPartKey}
 use Rattle.rc_tfile.specs.Reading.{Starts, part_item}
 use Rattle.rc_tfile.specs.TableText.{frag_items, part_items}
-use Rattle.rc_tfile.proofs.Starting.{PrefixFree, IsOptional, rest_of, both_free, key_free, full_key_free, pos_free, row_free, optional_free}
+use Rattle.rc_tfile.specs.laws.Starting.{PrefixFree, IsOptional, rest_of, both_free, key_free, full_key_free, pos_free, row_free, optional_free}
 use Rattle.rc_tables.specs.Rebuilt.{between, frag_code, IsSpelled}
 use Rattle.rc_tables.proofs.Listing.{Inner, between-inner, items_of}
 
@@ -165,9 +165,20 @@ all_made fs made left end (g ∷ gs) p is e =
 pub going_ends : (bytes : List ℕ) (made : List Frag) (left : List ℕ) → Going bytes made left → left ≡ 4 ∷ [] → (fs : List Frag) → AllByRecursion IsSpelled fs → bytes ≡ flat_map frag_code fs ++ 4 ∷ [] → made ≡ fs
 going_ends bytes made left going end fs is e = (let r = going fs is e in all_made fs made left end r.0 r.1 r.2 r.3)
 
+-- what was read so far spells the front of the bytes
+pub text_on : (bytes : List ℕ) (made : List Frag) (left : List ℕ) (frag : Frag) (size : ℕ) → bytes ≡ flat_map frag_code made ++ left → left ≡ frag_code frag ++ drop size left → bytes ≡ flat_map frag_code (made ++ frag ∷ []) ++ drop size left
+text_on bytes made left frag size e h =
+    e ∙ ap (λ t. flat_map frag_code made ++ t) h
+    ∙ sym (append_assoc (flat_map frag_code made) (frag_code frag) (drop size left))
+    ∙ ap (λ t. t ++ drop size left) (sym (flat_map-append frag_code made (frag ∷ []) ∙ ap (λ t. flat_map frag_code made ++ t) (append-nil (frag_code frag))))
+
+pub spelled_on : (made : List Frag) (frag : Frag) → AllByRecursion IsSpelled made → IsSpelled frag → AllByRecursion IsSpelled (made ++ frag ∷ [])
+spelled_on [] frag h k = (k, tt)
+spelled_on (f ∷ made) frag h k = (h.0, spelled_on made frag h.1 k)
+
 -- ---- the items of a partition
 
-code_of : (fs : List Frag) → Inner fs → flat_map item_code (flat_map frag_items fs) ≡ flat_map frag_code fs
+pub code_of : (fs : List Frag) → Inner fs → flat_map item_code (flat_map frag_items fs) ≡ flat_map frag_code fs
 code_of [] h = refl
 code_of (frag.Start pt ∷ fs) h = absurd (let e = h.0 in cc)
 code_of (frag.Static row ∷ fs) h = absurd (let e = h.0 in cc)
@@ -182,6 +193,14 @@ spelled_of (frag.Static row ∷ fs) xs h is = absurd (let e = h.0 in cc)
 spelled_of (frag.Row key row ∷ fs) xs h is = (is.0, spelled_of fs xs h.1 is.1)
 spelled_of (frag.Change x tomb ∷ fs) xs h is = (is.0, spelled_of fs xs h.1 is.1)
 spelled_of (frag.End ∷ fs) xs h is = absurd (let e = h.0 in cc)
+
+items_of_spelled : (fs : List Frag) → Inner fs → AllByRecursion IsSpelled fs → AllByRecursion IsItem (flat_map frag_items fs ++ EndItem ∷ [])
+items_of_spelled [] h is = (tt, tt)
+items_of_spelled (frag.Start pt ∷ fs) h is = absurd is.0
+items_of_spelled (frag.Static row ∷ fs) h is = absurd is.0
+items_of_spelled (frag.Row key row ∷ fs) h is = (is.0, items_of_spelled fs h.1 is.1)
+items_of_spelled (frag.Change x tomb ∷ fs) h is = (is.0, items_of_spelled fs h.1 is.1)
+items_of_spelled (frag.End ∷ fs) h is = absurd is.0
 
 -- a partition's bytes: its part, its rows and changes, and its end
 pub record IsPartBytes (bytes key : List ℕ) (m : Mutation) : Type 0 where
@@ -198,3 +217,12 @@ part_bytes bytes key m is items e =
       parts = e ∙ ap (λ xs. item_code (PartItem key m.pt m.statics) ++ flat_map item_code xs) (items_of m) ∙ ap (λ t. item_code (PartItem key m.pt m.statics) ++ t) rest;
       spelled = spelled_of (between m) (EndItem ∷ []) inner (subst (λ (xs : List Item). AllByRecursion IsItem xs) (items_of m) items.1);
     }
+
+-- and such bytes are its items
+pub items_spelled : (bytes key : List ℕ) (m : Mutation) → IsMutation m → IsPartBytes bytes key m → AllByRecursion IsItem (part_items (record { key = key; change = m })) × (bytes ≡ flat_map item_code (part_items (record { key = key; change = m })))
+items_spelled bytes key m is b =
+    let inner = between-inner m is in
+    let rest : flat_map item_code (flat_map frag_items (between m) ++ EndItem ∷ []) ≡ flat_map frag_code (between m) ++ 4 ∷ [] = flat_map-append item_code (flat_map frag_items (between m)) (EndItem ∷ []) ∙ ap (λ t. t ++ 4 ∷ []) (code_of (between m) inner) in (
+      (b.part, subst (λ (xs : List Item). AllByRecursion IsItem xs) (sym (items_of m)) (items_of_spelled (between m) inner b.spelled)),
+      b.parts ∙ ap (λ t. item_code (PartItem key m.pt m.statics) ++ t) (sym rest) ∙ ap (λ xs. item_code (PartItem key m.pt m.statics) ++ flat_map item_code xs) (sym (items_of m)),
+    )

@@ -2,3 +2,4 @@ pub mod Rebuilt
 pub mod Located
 pub mod Tables
 pub mod Streams
+pub mod laws

@@ -1,5 +1,5 @@
 -- Where a partition lies in a table file.
-use Rattle.std.specs.Prelude.{◌≡◌, ℕ, ◌+◌, ◌<◌, ◌^◌, min, List, [], ◌∷◌, ◌++◌, length, drop, All, Option, Some, None, ⊤}
+use Rattle.std.specs.Prelude.{◌≡◌, ◌⊎◌, ℕ, ◌+◌, ◌-◌, ◌<◌, ◌≤◌, ◌^◌, min, List, [], ◌∷◌, ◌++◌, length, drop, All, Option, Some, None, ⊤}
 use Rattle.std.specs.List.{flat_map}
 use Rattle.rc_outside.specs.Files.{Files}
 use Rattle.rc_schema.specs.Lists.{Lists}
@@ -10,7 +10,11 @@ use Rattle.rc_tfile.specs.Items.{item_code, EntryItem}
 use Rattle.rc_tfile.specs.Before.{offset}
 use Rattle.rc_tfile.specs.Checking.{IsContent}
 use Rattle.rc_tfile.specs.Info.{refs}
-use Rattle.rc_tfile.specs.TableText.{IsTable, body, part_items}
+use Rattle.rc_mutation.specs.declared.mutations.Mutation.{Mutation}
+use Rattle.rc_stream.specs.declared.streams.StreamErr.{StreamErr}
+use Rattle.rc_stream.specs.declared.streams.StreamErr.TheVariants.{Fault, Damaged, NoMemory}
+use Rattle.rc_tfile.specs.TableText.{IsTable, PartFits, body, part_items}
+use Rattle.rc_tables.specs.Rebuilt.{IsPartOf}
 
 -- so much is owed where the files are told
 abbrev pub WhereTold : Option Files → Type 0 → Type 0
@@ -28,6 +32,10 @@ pub record IsLocated (files : Option Files) (n dir : ℕ) (listed : List PartRef
   pub mutations : All (λ q. IsMutation q.change) (before ++ p ∷ behind)
   pub directory : dir ≡ offset (body schema (before ++ p ∷ behind))
   pub refs : listed ≡ drop (length before) (refs (body schema (before ++ p ∷ behind)))
+
+-- the same of a table of this schema
+abbrev pub IsLocatedOf : Option Files → Lists → ℕ → ℕ → List PartRef → Partition → Type 0
+IsLocatedOf files schema n dir listed p = (is : IsLocated files n dir listed p) × (is.schema ≡ schema)
 
 -- the items of p lie in file n from one offset up to another
 pub record IsSpan (files : Option Files) (n : ℕ) (p : Partition) (from to : ℕ) : Type 0 where
@@ -50,3 +58,49 @@ IsEntryAt bytes key off = (blocks : ℕ) × (more : List ℕ) × (off < 2 ^ 64) 
 abbrev pub EndsAt : ℕ → List ℕ → List PartRef → ℕ → Type 0
 EndsAt dir bytes [] to = dir ≡ to + 1
 EndsAt dir bytes (r ∷ rs) to = IsEntryAt bytes r.key to
+
+-- a mutation says of a key what a table of the schema can hold
+abbrev pub SaysOf : Lists → List ℕ → Mutation → Type 0
+SaysOf schema key m = IsMutation m × PartFits schema (record { key = key; change = m })
+
+-- bytes of the directory, as many as are read, contradict the table as checked: they do not say where the items of a partition lie
+pub record SaysNoSpan (dir : ℕ) (here : PartRef) (later : List PartRef) : Type 0 where
+  pub piece : List ℕ
+  pub size : length piece ≡ here.dir_len + glimpsed later
+  pub none : (from to : ℕ) → IsEntryAt piece here.key from → EndsAt dir (drop here.dir_len piece) later to → from ≤ to → ⊥
+
+-- bytes of the directory, as many as are read, say of no other offsets than these that the items of a partition lie from one up to the other
+pub record SaysSpan (dir : ℕ) (here : PartRef) (later : List PartRef) (from to : ℕ) : Type 0 where
+  pub piece : List ℕ
+  pub size : length piece ≡ here.dir_len + glimpsed later
+  pub begins : (x : ℕ) → IsEntryAt piece here.key x → x ≡ from
+  pub ends : (x : ℕ) → EndsAt dir (drop here.dir_len piece) later x → x ≡ to
+  pub order : from ≤ to
+
+-- bytes of a file contradict the table as checked: from this offset on, where the directory says that the items of a key's part lie, they are
+-- not such items, of the schema
+pub record SaysNoPart (schema : Lists) (dir : ℕ) (here : PartRef) (later : List PartRef) (from : ℕ) : Type 0 where
+  pub to : ℕ
+  pub said : SaysSpan dir here later from to
+  pub bytes : List ℕ
+  pub count : length bytes ≡ to - from
+  pub none : (m : Mutation) → IsPartOf schema here.key m bytes → ⊥
+
+-- the store failed, or memory was refused
+abbrev pub IsOutside : StreamErr → Type 0
+IsOutside Fault = ⊤
+IsOutside (Damaged file offset) = ⊥
+IsOutside NoMemory = ⊤
+
+-- Damaged names file n, and where bytes of the directory begin that were read and contradict the table as checked
+abbrev pub IsAtSpan : ℕ → ℕ → PartRef → List PartRef → StreamErr → Type 0
+IsAtSpan n dir here later Fault = ⊤
+IsAtSpan n dir here later (Damaged file offset) = (file ≡ n) × (offset ≡ here.dir_off) × SaysNoSpan dir here later
+IsAtSpan n dir here later NoMemory = ⊤
+
+-- Damaged names file n, and where bytes begin that were read and contradict the table as checked: what its directory says of a partition, or
+-- the items of the partition
+abbrev pub Contradicts : Lists → ℕ → ℕ → PartRef → List PartRef → StreamErr → Type 0
+Contradicts schema n dir here later Fault = ⊤
+Contradicts schema n dir here later (Damaged file offset) = (file ≡ n) × (((offset ≡ here.dir_off) × SaysNoSpan dir here later) ⊎ SaysNoPart schema dir here later offset)
+Contradicts schema n dir here later NoMemory = ⊤

@@ -1,5 +1,6 @@
 -- The rows and changes of a partition as a table spells them, and what they say: its rows by key, and its ranges between changes.
-use Rattle.std.specs.Prelude.{◌≢◌, All, ℕ, List, [], ◌∷◌, ◌++◌, Option, Some, None, map as list_map, if◌then◌else◌, nat_lt, length, take}
+use Rattle.std.specs.Prelude.{◌≡◌, ◌≢◌, All, ℕ, List, [], ◌∷◌, ◌++◌, Option, Some, None, map as list_map, if◌then◌else◌, nat_lt, length, take}
+use Rattle.std.specs.List.{flat_map, AllByRecursion}
 use Rattle.std.specs.Option.{option_map}
 use Rattle.std.specs.Int.{w64, from_le_bytes}
 use Rattle.rc_cell.specs.declared.rows.Row.{Row}
@@ -12,6 +13,13 @@ use Rattle.rc_mutation.specs.declared.fragments.Frag.{Frag}
 use Rattle.rc_mutation.specs.declared.fragments.Frag.TheVariants as frag
 use Rattle.rc_mutation.specs.declared.mutations.Mutation.{Mutation}
 use Rattle.rc_mutation.specs.Fragments.{changes_of, in_order, placed_change, placed_row}
+use Rattle.rc_mutation.specs.Source.{IsMutation}
+use Rattle.rc_canon.specs.Canonical.{IsNext}
+use Rattle.rc_position.specs.Position.{row_pos}
+use Rattle.rc_schema.specs.Lists.{Lists}
+use Rattle.rc_stream.specs.Stream.{after}
+use Rattle.rc_stream.specs.Merging.{place_of}
+use Rattle.rc_tfile.specs.TableText.{IsBoundOf, IsRowOf, IsStatic, part_items}
 use Rattle.rc_tfile.specs.Items.{RowItem, ChangeItem, item_code, IsItem}
 
 -- the spelling of a row or a change; the other fragments have none of their own
@@ -75,3 +83,25 @@ pieces_between (c ∷ cs) start = option_map (λ ps. ended start c.0 ++ ps) (pie
 -- a number in eight bytes at the front, if there are as many
 unfoldable pub number_at : List ℕ → Option ℕ
 number_at bytes = if nat_lt (length bytes) 8 then None else Some (from_le_bytes w64 (take 8 bytes))
+
+-- a row or a change of the schema may stand behind a last position, with a tombstone in force there: it stands behind it; something was
+-- written of a row; a change has another tombstone than the one in force
+abbrev pub MayCome : Lists → Option Tomb → Option Pos → Frag → Type 0
+MayCome schema tomb last (frag.Start pt) = ⊥
+MayCome schema tomb last (frag.Static row) = ⊥
+MayCome schema tomb last (frag.Row key row) = IsNext last (row_pos key) × (row ≢ empty_row) × IsRowOf schema key row
+MayCome schema tomb last (frag.Change x next) = IsNext last x × (next ≢ tomb) × IsBoundOf schema x
+MayCome schema tomb last frag.End = ⊥
+
+-- rows and changes of the schema, each of which may stand behind those before it; at the end no tombstone is in force
+abbrev pub AllCome : Lists → Option Tomb → Option Pos → List Frag → Type 0
+AllCome schema tomb last [] = tomb ≡ None
+AllCome schema tomb last (f ∷ fs) = MayCome schema tomb last f × AllCome schema (after tomb f) (Some (place_of f).0) fs
+
+-- bytes are the items of a key's part: they say what a mutation says, each within the limits, of the schema, and where it may stand
+pub record IsPartOf (schema : Lists) (key : List ℕ) (m : Mutation) (bytes : List ℕ) : Type 0 where
+  pub mutation : IsMutation m
+  pub statics : IsStatic schema m.statics
+  pub come : AllCome schema None None (between m)
+  pub items : AllByRecursion IsItem (part_items (record { key = key; change = m }))
+  pub spelled : bytes ≡ flat_map item_code (part_items (record { key = key; change = m }))

@@ -2,9 +2,9 @@
 --     HoldsTables     the tables of a set are those of these partitions, and their files have these texts
 --     changes_at      what the tables say of a key, in the tables' order
 --     IsStreamAt      a stream is that of the join of all that the tables say of a key
-use Rattle.std.specs.Prelude.{◌≡◌, ℕ, Bool, IsTrue, List, [], ◌∷◌, length, map as list_map, filter, All, Option, ⊤}
+use Rattle.std.specs.Prelude.{◌≡◌, ◌⊎◌, ℕ, ◌≤◌, Bool, IsTrue, List, [], ◌∷◌, ◌++◌, length, drop, map as list_map, filter, All, Option, ⊤}
 use Rattle.std.specs.Ordering.{eq_by_cmp}
-use Rattle.std.specs.List.{flat_map, list_any}
+use Rattle.std.specs.List.{flat_map, list_any, AllByRecursion}
 use Rattle.std.specs.FinMap.{is_sorted}
 use Rattle.rc_outside.specs.Files.{Files}
 use Rattle.rc_position.specs.Position.{bytes_cmp}
@@ -14,10 +14,14 @@ use Rattle.rc_mutation.specs.declared.mutations.Partition.{Partition}
 use Rattle.rc_mutation.specs.Fragments.{fragments}
 use Rattle.rc_mutation.specs.Source.{IsJoinOf, IsMutation}
 use Rattle.rc_stream.specs.Stream.{Stream, stream_of}
+use Rattle.rc_stream.specs.declared.streams.StreamErr.{StreamErr}
+use Rattle.rc_stream.specs.declared.streams.StreamErr.TheVariants.{Fault, Damaged, NoMemory}
+use Rattle.rc_tfile.specs.declared.info.PartRef.{PartRef}
 use Rattle.rc_tfile.specs.declared.info.TableInfo.{TableInfo}
 use Rattle.rc_tfile.specs.Checking.{IsContent}
 use Rattle.rc_tfile.specs.Info.{info_of}
 use Rattle.rc_tfile.specs.TableText.{IsTable}
+use Rattle.rc_tables.specs.Located.{Contradicts, SaysOf}
 
 -- a table's file has the text of its partitions, whose keys strictly ascend; each says what a mutation says
 pub record IsHeld (files : Option Files) (schema : Lists) (table : ℕ × List Partition) : Type 0 where
@@ -54,15 +58,43 @@ listing key infos = length (filter (lists_key key) infos)
 abbrev pub IsJoinedAt : List ℕ → List (ℕ × List Partition) → Mutation → Type 0
 IsJoinedAt key tables m = IsMutation m × IsJoinOf m (changes_at key tables)
 
--- of a set of tables in these files, a stream is that of a key from the beginning: of the fragments of the join of all that the tables say
-pub record IsStreamAt (files : Option Files) (infos : List TableInfo) (key : List ℕ) (stream : Stream) : Type 0 where
-  pub schema : Lists
+-- of a set of tables of a schema in these files, a stream is that of a key from the beginning: of the fragments of the join of all that the tables say
+pub record IsStreamAt (files : Option Files) (schema : Lists) (infos : List TableInfo) (key : List ℕ) (stream : Stream) : Type 0 where
   pub tables : List (ℕ × List Partition)
   pub join : Mutation
   pub holds : HoldsTables files schema infos tables
   pub joined : IsJoinedAt key tables join
   pub fragments : stream ≡ stream_of (fragments join)
 
--- the files are those of the tables of a set
-abbrev pub AreHeld : Option Files → List TableInfo → Type 0
-AreHeld files infos = (schema : Lists) × (tables : List (ℕ × List Partition)) × HoldsTables files schema infos tables
+-- the files are those of the tables of a set, of a schema
+abbrev pub AreHeld : Option Files → Lists → List TableInfo → Type 0
+AreHeld files schema infos = (tables : List (ℕ × List Partition)) × HoldsTables files schema infos tables
+
+-- a mutation is the join of some changes of a key, at most one of each table that lists it, each of which a table of the schema can hold
+pub record IsSomeJoin (schema : Lists) (infos : List TableInfo) (key : List ℕ) (m : Mutation) : Type 0 where
+  pub changes : List Mutation
+  pub joined : IsJoinOf m changes
+  pub count : length changes ≤ listing key infos
+  pub fit : AllByRecursion (SaysOf schema key) changes
+
+-- some changes of a key were joined to a mutation, at most one of each table that lists it
+pub record JoinsSome (schema : Lists) (infos : List TableInfo) (key : List ℕ) (old now : Mutation) : Type 0 where
+  pub changes : List Mutation
+  pub joined : (done : List Mutation) → IsJoinOf old done → IsJoinOf now (done ++ changes)
+  pub count : length changes ≤ listing key infos
+  pub fit : AllByRecursion (SaysOf schema key) changes
+
+-- Damaged names a table that lists the key; bytes that were read of it contradict it as checked
+abbrev pub IsDamageIn : Lists → List ℕ → TableInfo → StreamErr → Type 0
+IsDamageIn schema key info e = (dir : ℕ) × (i : ℕ) × (here : PartRef) × (later : List PartRef) × (drop i info.parts ≡ here ∷ later) × (here.key ≡ key) × Contradicts schema info.number dir here later e
+
+-- of some table of a set this holds
+abbrev pub InSome : (TableInfo → Type 0) → List TableInfo → Type 0
+InSome P [] = ⊥
+InSome P (info ∷ infos) = P info ⊎ InSome P infos
+
+-- where Damaged is answered of a key, it names some table of the set that lists it
+abbrev pub IsDamageOf : Lists → List ℕ → List TableInfo → StreamErr → Type 0
+IsDamageOf schema key infos Fault = ⊤
+IsDamageOf schema key infos (Damaged file offset) = InSome (λ info. IsDamageIn schema key info (Damaged file offset)) infos
+IsDamageOf schema key infos NoMemory = ⊤

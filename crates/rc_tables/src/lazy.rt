@@ -1,28 +1,35 @@
 //! A partition in all tables of a set as a stream.
 
-ghost use Rattle.std.specs.Prelude.{◌≡◌, ◌≤◌, ◌+◌, ◌*◌, IfErr, IfOk, IsSome, None, OnOk, Some};
+ghost use Rattle.std.specs.Prelude.{◌≡◌, ◌≤◌, ◌+◌, ◌*◌, IfErr, IfOk, IfSome, IsSome, IsTrue, None, OnOk, Some};
 ghost use Rattle.rc_stream.specs.Calls.{left_by, sought_by};
 ghost use Rattle.rc_stream.specs.Causes.{Caused};
-ghost use Rattle.rc_stream.specs.Stream.{Stream, first_upto};
+ghost use Rattle.rc_stream.specs.Stream.{Stream, first_upto, is_upto, sought, took};
 ghost use Rattle.rc_tables.specs.Located.{WhereTold};
-ghost use Rattle.rc_tables.specs.Tables.{AreHeld, IsStreamAt, listing};
-ghost use Rattle.rc_tables.specs.Streams.{asks_left, IsReady, StandsFor};
+ghost use Rattle.rc_stream.specs.Did.{answered};
+ghost use Rattle.rc_tables.specs.Tables.{AreHeld, IsDamageOf, IsStreamAt, listing};
+ghost use Rattle.rc_tables.specs.Streams.{DidAsk, IsReady, IsSomeStream, MayBe, SameTables, Settled, StandsFor};
 
 use crate::reading::read_joined;
 use crate::sets::TableSet;
 use rc_mutation::{Frag, Head};
 use rc_outside::Store;
 use rc_position::{PartKey, Pos};
+use rc_schema::Schema;
+use rc_stream::laws::the_stream_of_a_mutation;
 use rc_stream::{Frags, ListFrags, StreamErr};
 use std::alloc::Global;
 use std::marker::Model;
+use std::rc::Rc;
 
 /// A partition in all tables of a set as a stream, from the beginning: what the tables say of it, joined. It is read at its
-/// first call, which asks for at most two ranges of each table that lists the partition's key; later calls ask for none. A
-/// contract sees what is known of the tables, the key, and what is left once it was read.
+/// first call that is answered, which asks for at most two ranges of each table that lists the partition's key; later calls ask for
+/// none (`asks`). Whatever the files hold, what it gives is the stream of some join of changes, at most one of each such table, each
+/// within the limits and of the schema (`some`). A contract sees what is known of the tables, their schema, the key, and what is left
+/// once it was read.
 #[derive(Drop)]
 pub struct TableFrags {
     set: TableSet,
+    schema: Rc<Schema>,
     key: PartKey,
     list: Option<ListFrags>,
 }
@@ -32,16 +39,18 @@ impl Model for TableFrags {
 
     ghost Value = { Lazy };
 
-    ghost view = { λ t. record { infos = t.set; key = t.key; read = t.list } };
+    ghost view = { λ t. record { infos = t.set; schema = t.schema.value; key = t.key; read = t.list } };
 }
 
 impl TableFrags {
-    /// The stream of the key's partition in the tables of the set, from the beginning. Nothing is asked for.
-    pub fn lazy(set: TableSet, key: PartKey) -> Self
-        ensures { result ≡ record { infos = set; key = key; read = None } }
+    /// The stream of the key's partition in the tables of the set, which are of the schema, from the beginning. Nothing is asked
+    /// for.
+    pub fn lazy(set: TableSet, schema: Rc<Schema>, key: PartKey) -> Self
+        ensures { result ≡ record { infos = set; schema = schema.value; key = key; read = None } }
     {
         TableFrags {
             set,
+            schema,
             key,
             list: None,
         }
@@ -53,11 +62,15 @@ impl TableFrags {
         requires { IsReady (W.files store.old) self.old }
         ensures ready { IsReady (W.files store.new) self.new }
         ensures head { (s : Stream) → StandsFor (W.files store.old) self.old s → IfOk result (λ head. head ≡ s.head) }
+        ensures some { IfOk result (λ head. (s : Stream) × Settled self.old self.new s s × (head ≡ s.head)) }
+        ensures might { (s : Stream) → MayBe self.new s → MayBe self.old s }
         ensures stands { (s : Stream) → StandsFor (W.files store.old) self.old s → StandsFor (W.files store.new) self.new s }
+        ensures tables { SameTables self.old self.new }
+        ensures damaged { IfErr result (IsDamageOf self.old.schema self.old.key self.old.infos) }
         ensures cause { Caused result (W.files store.old) (W.faults store.old) (W.faults store.new) }
         ensures files { W.files store.new ≡ W.files store.old }
         ensures building { W.building store.new ≡ W.building store.old }
-        ensures asks { W.asks store.new ≤ W.asks store.old + asks_left self.old }
+        ensures asks { DidAsk (answered result) self.old (W.asks store.old) self.new (W.asks store.new) }
     {
         match self.load(alloc, store) {
             Ok(()) => self.copy_head(alloc),
@@ -76,11 +89,14 @@ impl TableFrags {
     ) -> Result<(), StreamErr>
         requires { IsReady (W.files store.old) self.old }
         ensures ready { IsReady (W.files store.new) self.new }
+        ensures some { OnOk result ((s : Stream) × Settled self.old self.new s (sought to.now s)) }
         ensures stands { (s : Stream) → StandsFor (W.files store.old) self.old s → StandsFor (W.files store.new) self.new (sought_by result to.now s) }
+        ensures tables { SameTables self.old self.new }
+        ensures damaged { IfErr result (IsDamageOf self.old.schema self.old.key self.old.infos) }
         ensures cause { Caused result (W.files store.old) (W.faults store.old) (W.faults store.new) }
         ensures files { W.files store.new ≡ W.files store.old }
         ensures building { W.building store.new ≡ W.building store.old }
-        ensures asks { W.asks store.new ≤ W.asks store.old + asks_left self.old }
+        ensures asks { DidAsk (answered result) self.old (W.asks store.old) self.new (W.asks store.new) }
     {
         match self.load(alloc, store) {
             Ok(()) => self.go_on(alloc, to),
@@ -101,11 +117,15 @@ impl TableFrags {
         requires { IsReady (W.files store.old) self.old }
         ensures ready { IsReady (W.files store.new) self.new }
         ensures gives { (s : Stream) → StandsFor (W.files store.old) self.old s → IfOk result (λ got. got ≡ first_upto upto.now s.left) }
+        ensures upto { IfOk result (λ got. IfSome got (λ f. IsTrue (is_upto upto.now f))) }
+        ensures some { IfOk result (λ got. (s : Stream) × Settled self.old self.new s (took got s) × (got ≡ first_upto upto.now s.left)) }
         ensures stands { (s : Stream) → StandsFor (W.files store.old) self.old s → StandsFor (W.files store.new) self.new (left_by result s) }
+        ensures tables { SameTables self.old self.new }
+        ensures damaged { IfErr result (IsDamageOf self.old.schema self.old.key self.old.infos) }
         ensures cause { Caused result (W.files store.old) (W.faults store.old) (W.faults store.new) }
         ensures files { W.files store.new ≡ W.files store.old }
         ensures building { W.building store.new ≡ W.building store.old }
-        ensures asks { W.asks store.new ≤ W.asks store.old + asks_left self.old }
+        ensures asks { DidAsk (answered result) self.old (W.asks store.old) self.new (W.asks store.new) }
     {
         match self.load(alloc, store) {
             Ok(()) => self.take_first(alloc, upto),
@@ -131,7 +151,9 @@ impl TableFrags {
     fn go_on(&mut self, alloc: Global, to: &Pos) -> Result<(), StreamErr>
         ensures left { (s : Stream) → self.old.read ≡ Some s → self.new.read ≡ Some (sought_by result to.now s) }
         ensures tables { self.new.infos ≡ self.old.infos }
+        ensures schema { self.new.schema ≡ self.old.schema }
         ensures key { self.new.key ≡ self.old.key }
+        ensures read { IsSome self.old.read → IsSome self.new.read }
         ensures memory { IfErr result (λ e. e ≡ StreamErr.NoMemory) }
     {
         let Some(mut list) = self.list.take() else {
@@ -148,9 +170,12 @@ impl TableFrags {
     // Takes the first of what was read, if it stands at the position or before it. The only error is want of memory.
     fn take_first(&mut self, alloc: Global, upto: &Pos) -> Result<Option<Frag>, StreamErr>
         ensures gives { (s : Stream) → self.old.read ≡ Some s → IfOk result (λ got. got ≡ first_upto upto.now s.left) }
+        ensures upto { IfOk result (λ got. IfSome got (λ f. IsTrue (is_upto upto.now f))) }
         ensures left { (s : Stream) → self.old.read ≡ Some s → self.new.read ≡ Some (left_by result s) }
         ensures tables { self.new.infos ≡ self.old.infos }
+        ensures schema { self.new.schema ≡ self.old.schema }
         ensures key { self.new.key ≡ self.old.key }
+        ensures read { IsSome self.old.read → IsSome self.new.read }
         ensures memory { IfErr result (λ e. e ≡ StreamErr.NoMemory) }
     {
         let Some(mut list) = self.list.take() else {
@@ -169,25 +194,29 @@ impl TableFrags {
         requires { IsReady (W.files store.old) self.old }
         ensures stands { (s : Stream) → StandsFor (W.files store.old) self.old s → StandsFor (W.files store.old) self.new s }
         ensures loaded { OnOk result (IsSome self.new.read) }
+        ensures some { OnOk result ((s : Stream) × Settled self.old self.new s s) }
+        ensures might { (s : Stream) → MayBe self.new s → MayBe self.old s }
         ensures tables { self.new.infos ≡ self.old.infos }
+        ensures schema { self.new.schema ≡ self.old.schema }
         ensures key { self.new.key ≡ self.old.key }
+        ensures damaged { IfErr result (IsDamageOf self.old.schema self.old.key self.old.infos) }
         ensures cause { Caused result (W.files store.old) (W.faults store.old) (W.faults store.new) }
         ensures files { W.files store.new ≡ W.files store.old }
         ensures building { W.building store.new ≡ W.building store.old }
-        ensures asks { W.asks store.new ≤ W.asks store.old + asks_left self.old }
+        ensures asks { DidAsk (answered result) self.old (W.asks store.old) self.new (W.asks store.new) }
     {
         if let Some(_list) = &self.list {
             return Ok(());
         }
-        let list = read_list(alloc, store, &self.set, &self.key)?;
+        let list = read_list(alloc, store, &self.set, self.schema.as_ref(), &self.key)?;
         self.list = Some(list);
         Ok(())
     }
 }
 
 impl<H, W: Store> Frags<H, W> for TableFrags {
-    ghost use Rattle.std.specs.Prelude.{◌≡◌, ◌+◌, ◌≤◌, ⊤};
-    ghost use Rattle.rc_tables.specs.Streams.{IsReady, StandsFor, asks_left};
+    ghost use Rattle.std.specs.Prelude.{◌≡◌, ⊤};
+    ghost use Rattle.rc_tables.specs.Streams.{DidAsk, IsFresh, IsReady, MayBe, MayBlame, StandsFor};
 
     ghost ready = { λ t _ store. IsReady (W.files store) t };
 
@@ -197,9 +226,16 @@ impl<H, W: Store> Frags<H, W> for TableFrags {
 
     ghost moves = { λ home store home' store'. (home ≡ home') × (W.files store' ≡ W.files store) × (W.building store' ≡ W.building store) };
 
-    ghost asks = { λ t _ store _ _ _ store'. W.asks store' ≤ W.asks store + asks_left t };
+    ghost did = { λ t _ store _ ok t' _ store'. DidAsk ok t (W.asks store) t' (W.asks store') };
+
+    ghost fresh = { λ t. IsFresh t };
+
+    ghost might = { λ t s. MayBe t s };
+
+    ghost damage = { λ t file offset. MayBlame t file offset };
 
     fn head(&mut self, alloc: Global, _home: &mut H, store: &mut W) -> Result<Head, StreamErr> {
+        the_stream_of_a_mutation();
         self.head(alloc, store)
     }
 
@@ -229,16 +265,19 @@ fn read_list<W: Store>(
     alloc: Global,
     store: &mut W,
     set: &TableSet,
+    schema: &Schema,
     key: &PartKey,
 ) -> Result<ListFrags, StreamErr>
-    requires { WhereTold (W.files store.old) (AreHeld (W.files store.old) set.now) }
-    ensures stands { (s : Stream) → IsStreamAt (W.files store.old) set.now key.now s → IfOk result (λ list. s ≡ list) }
+    requires { WhereTold (W.files store.old) (AreHeld (W.files store.old) schema.now set.now) }
+    ensures stands { (s : Stream) → IsStreamAt (W.files store.old) schema.now set.now key.now s → IfOk result (λ list. s ≡ list) }
+    ensures some { IfOk result (IsSomeStream schema.now set.now key.now) }
+    ensures damaged { IfErr result (IsDamageOf schema.now key.now set.now) }
     ensures cause { Caused result (W.files store.old) (W.faults store.old) (W.faults store.new) }
     ensures files { W.files store.new ≡ W.files store.old }
     ensures building { W.building store.new ≡ W.building store.old }
     ensures asks { W.asks store.new ≤ W.asks store.old + 2 * listing key.now set.now }
 {
-    let joined = read_joined(alloc, store, set, key)?;
+    let joined = read_joined(alloc, store, set, schema, key)?;
     match joined.fragments(alloc) {
         Ok(list) => Ok(ListFrags::new(list)),
         Err(_) => Err(StreamErr::NoMemory),

@@ -1,11 +1,11 @@
 //! Where a partition lies in a table file, by the file's directory.
 
-ghost use Rattle.std.specs.Prelude.{◌≡◌, ◌≤◌, ◌+◌, ℕ, ◌∷◌, drop, IfOk, IfSome, Some, length};
+ghost use Rattle.std.specs.Prelude.{◌≡◌, ◌≤◌, ◌+◌, ℕ, ◌∷◌, drop, IfErr, IfOk, IfSome, Some, length};
 ghost use Rattle.rc_mutation.specs.declared.mutations.Partition.{Partition};
 ghost use Rattle.rc_outside.specs.Files.{LiesInFile, AreBytesOf};
 ghost use Rattle.rc_stream.specs.Causes.{Caused};
 ghost use Rattle.rc_tables.specs.Rebuilt.{number_at};
-ghost use Rattle.rc_tables.specs.Located.{EndsAt, glimpsed, IsEntryAt, IsLocated, IsSpan, WhereTold};
+ghost use Rattle.rc_tables.specs.Located.{EndsAt, glimpsed, IsAtSpan, IsEntryAt, IsLocated, IsOutside, IsSpan, SaysSpan, WhereTold};
 
 use rc_outside::Store;
 use rc_position::PartKey;
@@ -38,6 +38,7 @@ pub(crate) fn read_range<W: Store>(
 ) -> Result<Vec<u8>, StreamErr>
     requires { LiesInFile (W.files store.old) n off count }
     ensures bytes { IfOk result (λ piece. AreBytesOf (W.files store.old) n off piece.items) }
+    ensures outside { IfErr result IsOutside }
     ensures size { IfOk result (λ piece. length piece.items ≡ count) }
     ensures cause { Caused result (W.files store.old) (W.faults store.old) (W.faults store.new) }
     ensures files { W.files store.new ≡ W.files store.old }
@@ -73,6 +74,8 @@ pub(crate) fn locate<W: Store>(
     requires { WhereTold (W.files store.old) ((p : Partition) × IsLocated (W.files store.old) n dir (here.now ∷ later.now) p) }
     ensures span { (p : Partition) → IsLocated (W.files store.old) n dir (here.now ∷ later.now) p → IfOk result (λ span. IsSpan (W.files store.old) n p span.from span.to) }
     ensures order { IfOk result (λ span. span.from ≤ span.to) }
+    ensures said { IfOk result (λ span. SaysSpan dir here.now later.now span.from span.to) }
+    ensures damaged { IfErr result (IsAtSpan n dir here.now later.now) }
     ensures cause { Caused result (W.files store.old) (W.faults store.old) (W.faults store.new) }
     ensures files { W.files store.new ≡ W.files store.old }
     ensures building { W.building store.new ≡ W.building store.old }
@@ -112,6 +115,8 @@ pub(crate) fn span_of(
     requires { here.now.dir_len ≤ length piece.now }
     ensures span { (from to : ℕ) → IsEntryAt piece.now here.now.key from → EndsAt dir (drop here.now.dir_len piece.now) later.now to → from ≤ to
         → IfOk result (λ found. found ≡ Some (record { from = from; to = to })) }
+    ensures begins { (from : ℕ) → IsEntryAt piece.now here.now.key from → IfOk result (λ found. IfSome found (λ span. from ≡ span.from)) }
+    ensures ends { (to : ℕ) → EndsAt dir (drop here.now.dir_len piece.now) later.now to → IfOk result (λ found. IfSome found (λ span. to ≡ span.to)) }
     ensures order { IfOk result (λ found. IfSome found (λ span. span.from ≤ span.to)) }
 {
     let Some(from) = part_offset(alloc, piece, &here.key)? else {

@@ -4,34 +4,39 @@ ghost use Rattle.std.specs.Prelude.{◌≡◌, ◌≢◌, ◌≤◌, ◌<◌, �
 ghost use Rattle.std.specs.FinMap.{is_sorted};
 ghost use Rattle.std.specs.List.{HoldsAt};
 ghost use Rattle.rc_position.specs.Position.{bytes_cmp};
-ghost use Rattle.rc_schema.specs.Lists.{Lists};
 ghost use Rattle.rc_mutation.specs.declared.mutations.Mutation.{Mutation};
 ghost use Rattle.rc_mutation.specs.declared.mutations.Partition.{Partition};
-ghost use Rattle.rc_mutation.specs.Source.{IsJoinOf};
+ghost use Rattle.rc_mutation.specs.Source.{IsJoinOf, IsMutation};
 ghost use Rattle.rc_stream.specs.Causes.{Caused};
 ghost use Rattle.rc_tables.specs.Located.{WhereTold};
-ghost use Rattle.rc_tables.specs.Tables.{AreHeld, changes_in, HoldsTables, IsJoinedAt, listing};
+ghost use Rattle.rc_tables.specs.Tables.{AreHeld, changes_in, HoldsTables, IsDamageOf, IsJoinedAt, IsSomeJoin, JoinsSome, listing};
 
 use crate::partition::read_partition;
 use crate::sets::TableSet;
 use rc_mutation::Mutation;
 use rc_outside::Store;
 use rc_position::PartKey;
+use rc_schema::Schema;
 use rc_stream::StreamErr;
 use rc_tfile::{PartRef, TableInfo};
 use std::alloc::Global;
 
-/// What all tables of the set say of the key, joined. Of each table that lists the key at most two ranges are asked for.
-/// `StreamErr::Fault` when the store fails, `StreamErr::Damaged` where a file is not the table that is known,
-/// `StreamErr::NoMemory` when memory is refused.
+/// What all tables of the set, which are of the schema, say of the key, joined: whatever the files hold, the join of some changes,
+/// at most one of each table that lists the key, each within the limits and of the schema. Of each table that lists the key at most
+/// two ranges are asked for. `StreamErr::Fault` when the store fails, `StreamErr::Damaged` where bytes that were read of a file
+/// contradict the table that is known, `StreamErr::NoMemory` when memory is refused.
 pub fn read_joined<W: Store>(
     alloc: Global,
     store: &mut W,
     set: &TableSet,
+    schema: &Schema,
     key: &PartKey,
 ) -> Result<Mutation, StreamErr>
-    requires { WhereTold (W.files store.old) (AreHeld (W.files store.old) set.now) }
-    ensures joined { (schema : Lists) (tables : List (ℕ × List Partition)) → HoldsTables (W.files store.old) schema set.now tables → IfOk result (IsJoinedAt key.now tables) }
+    requires { WhereTold (W.files store.old) (AreHeld (W.files store.old) schema.now set.now) }
+    ensures joined { (tables : List (ℕ × List Partition)) → HoldsTables (W.files store.old) schema.now set.now tables → IfOk result (IsJoinedAt key.now tables) }
+    ensures some { IfOk result (IsSomeJoin schema.now set.now key.now) }
+    ensures mutation { IfOk result IsMutation }
+    ensures damaged { IfErr result (IsDamageOf schema.now key.now set.now) }
     ensures cause { Caused result (W.files store.old) (W.faults store.old) (W.faults store.new) }
     ensures files { W.files store.new ≡ W.files store.old }
     ensures building { W.building store.new ≡ W.building store.old }
@@ -40,7 +45,7 @@ pub fn read_joined<W: Store>(
     let mut joined = Mutation::empty(alloc);
     let mut left = set.tables();
     while let [first, rest @ ..] = left {
-        join_table(alloc, store, first.as_ref(), key, &mut joined)?;
+        join_table(alloc, store, first.as_ref(), schema, key, &mut joined)?;
         left = rest;
     }
     joined.holds_together();
@@ -52,12 +57,15 @@ fn join_table<W: Store>(
     alloc: Global,
     store: &mut W,
     info: &TableInfo,
+    schema: &Schema,
     key: &PartKey,
     joined: &mut Mutation,
 ) -> Result<(), StreamErr>
-    requires { WhereTold (W.files store.old) (AreHeld (W.files store.old) (info.now ∷ [])) }
-    ensures joined { (schema : Lists) (table : ℕ × List Partition) (done : List Mutation) → HoldsTables (W.files store.old) schema (info.now ∷ []) (table ∷ []) → IsJoinOf joined.old done
+    requires { WhereTold (W.files store.old) (AreHeld (W.files store.old) schema.now (info.now ∷ [])) }
+    ensures joined { (table : ℕ × List Partition) (done : List Mutation) → HoldsTables (W.files store.old) schema.now (info.now ∷ []) (table ∷ []) → IsJoinOf joined.old done
         → OnOk result (IsJoinOf joined.new (done ++ changes_in key.now table.1)) }
+    ensures some { OnOk result (JoinsSome schema.now (info.now ∷ []) key.now joined.old joined.new) }
+    ensures damaged { IfErr result (IsDamageOf schema.now key.now (info.now ∷ [])) }
     ensures cause { Caused result (W.files store.old) (W.faults store.old) (W.faults store.new) }
     ensures files { W.files store.new ≡ W.files store.old }
     ensures building { W.building store.new ≡ W.building store.old }
@@ -68,7 +76,15 @@ fn join_table<W: Store>(
         return Ok(());
     };
     let dir = parts[0].dir_off;
-    let change = read_partition(alloc, store, info.number, dir, &parts[at], &parts[at + 1..])?;
+    let change = read_partition(
+        alloc,
+        store,
+        info.number,
+        dir,
+        &parts[at],
+        &parts[at + 1..],
+        schema,
+    )?;
     match joined.join(alloc, &change) {
         Ok(()) => Ok(()),
         Err(_) => Err(StreamErr::NoMemory),

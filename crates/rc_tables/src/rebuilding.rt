@@ -11,7 +11,7 @@ ghost use Rattle.rc_mutation.specs.Source.{IsMutation};
 ghost use Rattle.rc_tables.specs.Rebuilt.{AllWritten, between, begun, changes_among, ended, pieces_between, rows_among};
 
 use rc_cell::Tomb;
-use rc_mutation::{Frag, Head, Mutation, Rows};
+use rc_mutation::{Frag, Head, Mutation, Rows, Statics};
 use rc_position::Pos;
 use rc_ranges::{Piece, Ranges};
 use std::alloc::{AllocError, Global};
@@ -31,9 +31,12 @@ pub(crate) fn mutation_of(
     let Some(ranges) = ranges_of(alloc, frags)? else {
         return Ok(None);
     };
+    let Some(statics) = Statics::from_row(head.statics) else {
+        return Ok(None);
+    };
     Ok(Some(Mutation {
         pt: head.pt,
-        statics: head.statics,
+        statics,
         rows,
         ranges,
     }))

@@ -17,7 +17,7 @@ use Rattle.rc_tfile.specs.Checking.{IsContent, IsOutside}
 use Rattle.rc_tfile.specs.Windows.{Seen, IsAhead, IsFull, Told, past}
 use Rattle.rc_tfile.specs.Walking.{Refuses, IsRefused, Stopped, Awaits, Expects, Meets, Misses, Ends, Overruns, IsWhole}
 use Rattle.std.proofs.lemmas.List.{length-append}
-use Rattle.rc_tfile.proofs.Follows.{followed_by-append, all_append}
+use Rattle.rc_tfile.specs.laws.Follows.{followed_by-append, all_append}
 use Rattle.rc_tfile.proofs.Ahead.{ahead_decides, no_more}
 use Rattle.rc_tfile.proofs.Turns.{told_past, offset_is, first_damage}
 

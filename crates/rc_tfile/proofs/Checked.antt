@@ -16,7 +16,7 @@ use Rattle.rc_mutation.specs.declared.mutations.Partition.{Partition}
 use Rattle.rc_rowcode.specs.Spelling.{CompFits, CellFits, EntryFits, KeyFits, RowFits}
 use Rattle.rc_tfile.specs.Limits.{PartLimits}
 use Rattle.rc_tfile.specs.TableText.{IsStatic, IsRowOf, IsBoundOf, PartFits, PartsFit}
-use Rattle.rc_tfile.proofs.Follows.{all_of, by_recursion, all_weaker}
+use Rattle.rc_tfile.specs.laws.Follows.{all_of, by_recursion, all_weaker}
 
 both : (b c : Bool) → b && c ≡ true → (b ≡ true) × (c ≡ true)
 both true c h = (refl, h)

@@ -7,8 +7,8 @@ use Rattle.rc_position.specs.declared.comps.Comp.{Comp}
 use Rattle.rc_position.specs.declared.positions.Pos.{Pos}
 use Rattle.rc_schema.specs.Lists.{Lists}
 use Rattle.rc_rowcode.specs.Spelling.{stamp_code, time_code, tomb_code, optional_code, key_code, pos_code, cells_code, row_code, IsKey, IsPos, KeyFits, IsCodedRow}
-use Rattle.rc_rowcode.proofs.Sizes.{length-stamp, length-time, key_small, cells_small}
-use Rattle.rc_rowcode.proofs.Limits.{key_limits, row_limits}
+use Rattle.rc_rowcode.specs.Laws.Sizes.{length-stamp, length-time, key_small, cells_small}
+use Rattle.rc_rowcode.specs.Laws.Limits.{key_limits, row_limits}
 use Rattle.rc_tfile.specs.declared.blocks.Block.{Block}
 use Rattle.rc_tfile.specs.Items.{Item, HeadItem, PartItem, RowItem, ChangeItem, EndItem, StopItem, EntryItem, BlockItem, TailItem, item_code, offset_code, bytes_code, IsItem}
 use Rattle.rc_tfile.specs.Before.{Before, Behind, place}

@@ -1,11 +1,8 @@
 pub mod Grouping
 pub mod Outlines
-pub mod Follows
-pub mod Drafts
 pub mod Widths
 pub mod Limiting
 pub mod Checked
-pub mod Starting
 pub mod Heads
 pub mod Unfit
 pub mod Ahead

@@ -15,10 +15,10 @@ use Rattle.rc_mutation.specs.declared.mutations.Mutation.{Mutation}
 use Rattle.rc_mutation.specs.declared.mutations.Partition.{Partition}
 use Rattle.rc_mutation.specs.Source.{IsMutation}
 use Rattle.rc_mutation.specs.Fragments.{fragments, static_fragment, is_written, begins_at, changes_of, placed_change, placed_row, in_order}
-use Rattle.rc_mutation.proofs.FragMerge.{merge, merge_into, fragment_of, merge-in_order, rows-placed, changes-placed}
+use Rattle.rc_mutation.specs.Laws.FragMerge.{merge, merge_into, fragment_of, merge-in_order, rows-placed, changes-placed}
 use Rattle.rc_rowcode.specs.Spelling.{KeyFits, RowFits}
 use Rattle.rc_tfile.specs.Limits.{FragFits, PartLimits}
-use Rattle.rc_tfile.proofs.Follows.{all_of, by_recursion, all_append}
+use Rattle.rc_tfile.specs.laws.Follows.{all_of, by_recursion, all_append}
 
 abbrev RowLimits : List Comp × Row → Type 0
 RowLimits e = KeyFits e.0 × RowFits e.1

@@ -1,6 +1,7 @@
 -- Items that fit, up to the stop, are those of partitions.
 use Rattle.std.proofs.Common.{◌≡◌, ℕ, true, false, cond, List, [], ◌∷◌, ◌++◌, length, Option, Some, None, Result, Ok, refl, sym, ap, ◌∙◌, subst, append-nil, append_assoc}
-use Rattle.std.specs.Prelude.{All, IsTrue, ⊤}
+use Rattle.std.specs.Prelude.{All, IsTrue, ⊤, ◌&&◌}
+use Rattle.std.specs.Option.{is_none}
 use Rattle.std.specs.List.{flat_map, AllByRecursion}
 use Rattle.std.proofs.lemmas.Grind.{flat_map-append}
 use Rattle.rc_outside.specs.Files.{Files}
@@ -13,9 +14,10 @@ use Rattle.rc_mutation.specs.declared.fragments.Frag.TheVariants as frag
 use Rattle.rc_mutation.specs.declared.mutations.Mutation.{Mutation}
 use Rattle.rc_mutation.specs.declared.mutations.Partition.{Partition}
 use Rattle.rc_mutation.specs.Source.{IsMutation}
+use Rattle.rc_mutation.specs.Statics.{has_cells_alone}
 use Rattle.rc_mutation.specs.Fragments.{fragments, static_fragment, is_written}
 use Rattle.rc_canon.specs.Canonical.{IsCanonicalList, IsMutationOf}
-use Rattle.rc_canon.proofs.Rebuilt.{is-rebuilt}
+use Rattle.rc_canon.specs.Laws.Rebuilt.{is-rebuilt}
 use Rattle.rc_tfile.specs.declared.info.PartRef.{PartRef}
 use Rattle.rc_tfile.specs.declared.outline.Outline.{Outline}
 use Rattle.rc_tfile.specs.Items.{Item, HeadItem, PartItem, RowItem, ChangeItem, EndItem, StopItem, EntryItem, BlockItem, TailItem}
@@ -26,8 +28,8 @@ use Rattle.rc_tfile.specs.Info.{refs, refs_from}
 use Rattle.rc_tfile.specs.Outlined.{IsListed}
 use Rattle.rc_tfile.specs.Checking.{IsContent}
 use Rattle.rc_tfile.specs.Walking.{ChecksTable, IsWhole}
-use Rattle.rc_tfile.proofs.Follows.{followed_by-append, all_append, all_of}
-use Rattle.rc_tfile.proofs.Drafts.{parts_of, body_is}
+use Rattle.rc_tfile.specs.laws.Follows.{followed_by-append, all_append, all_of}
+use Rattle.rc_tfile.specs.laws.Drafts.{parts_of, body_is}
 
 abbrev HoldsTogether : Partition → Type 0
 HoldsTogether p = IsMutation p.change
@@ -48,6 +50,7 @@ record Partial (schema : Lists) (before : Before) : Type 0 where
   frags : List Frag
   whole : before ≡ followed_by (PartItem key pt statics ∷ parts_of schema parts) (flat_map frag_items frags)
   ascends : IsTrue (ascending statics.cells)
+  alone : IsTrue (has_cells_alone statics)
   goes : (more : List Frag) → IsCanonicalList (in_force before) (last_pos before) more → IsCanonicalList None None (frags ++ more)
 
 abbrev Shape : Place → Lists → Before → Type 0
@@ -77,7 +80,7 @@ one_part schema parts p =
 ended : (schema : Lists) (before : Before) → in_force before ≡ None → Partial schema before → Whole schema (EndItem ∷ before)
 ended schema before none p =
     let canonical : IsCanonicalList None None p.frags = subst (λ fs. IsCanonicalList None None fs) (append-nil p.frags) (p.goes [] none) in
-    let m = is-rebuilt p.pt p.statics p.frags p.ascends canonical in
+    let m = is-rebuilt p.pt p.statics p.frags p.ascends p.alone canonical in
     let part : Partition = record { key = p.key; change = m.0 } in record {
       parts = p.parts ++ part ∷ [];
       hold = all_append HoldsTogether p.parts (part ∷ []) p.hold (m.1.is_mutation, tt);
@@ -98,6 +101,7 @@ shape schema (PartItem key pt statics ∷ before) fit =
       frags = [];
       whole = ap (λ b. PartItem key pt statics ∷ b) w.whole;
       ascends = fit.1.0.1.1.ascending;
+      alone = λ i. is_none (fit.1.1.2.0 i) && is_none (fit.1.1.2.1 i);
       goes = λ more h. h;
     }
 shape schema (RowItem key row ∷ before) fit =
@@ -110,6 +114,7 @@ shape schema (RowItem key row ∷ before) fit =
       frags = p.frags ++ frag.Row key row ∷ [];
       whole = ap (λ b. RowItem key row ∷ b) p.whole ∙ sym (one_frag (PartItem p.key p.pt p.statics ∷ parts_of schema p.parts) p.frags (frag.Row key row));
       ascends = p.ascends;
+      alone = p.alone;
       goes = λ more h. subst (λ fs. IsCanonicalList None None fs) (sym (append_assoc p.frags (frag.Row key row ∷ []) more)) (p.goes (frag.Row key row ∷ more) (fit.1.1.1, fit.1.1.3, fit.1.0.1.ascending, h));
     }
 shape schema (ChangeItem x tomb ∷ before) fit =
@@ -122,6 +127,7 @@ shape schema (ChangeItem x tomb ∷ before) fit =
       frags = p.frags ++ frag.Change x tomb ∷ [];
       whole = ap (λ b. ChangeItem x tomb ∷ b) p.whole ∙ sym (one_frag (PartItem p.key p.pt p.statics ∷ parts_of schema p.parts) p.frags (frag.Change x tomb));
       ascends = p.ascends;
+      alone = p.alone;
       goes = λ more h. subst (λ fs. IsCanonicalList None None fs) (sym (append_assoc p.frags (frag.Change x tomb ∷ []) more)) (p.goes (frag.Change x tomb ∷ more) (fit.1.1.1, fit.1.1.2.0, fit.1.1.3, h));
     }
 shape schema (EndItem ∷ before) fit = ended schema before fit.1.1.1 (subst (λ p. Shape p schema before) fit.1.1.0 (shape schema before fit.0))

@@ -12,7 +12,7 @@ use Rattle.rc_tfile.specs.Items.{Item, HeadItem, PartItem, RowItem, ChangeItem, 
 use Rattle.rc_tfile.specs.Before.{Before, Place, Start, Between, Inside, Behind, place, in_force}
 use Rattle.rc_tfile.specs.Blocks.{due}
 use Rattle.rc_tfile.specs.TableText.{Fits, IsDue}
-use Rattle.rc_tfile.proofs.Starting.{PrefixFree, IsOptional, rest_of, both_free, key_free, full_key_free, pos_free, row_free, optional_free}
+use Rattle.rc_tfile.specs.laws.Starting.{PrefixFree, IsOptional, rest_of, both_free, key_free, full_key_free, pos_free, row_free, optional_free}
 
 -- nothing is due before the stop
 due_none : (before : Before) → (place before ≡ Behind → ⊥) → due before ≡ []

@@ -10,8 +10,8 @@ use Rattle.rc_tfile.specs.Before.{Before, offset, followed_by}
 use Rattle.rc_tfile.specs.Blocks.{Entry, entries, entry_items, ending}
 use Rattle.rc_tfile.specs.Outlined.{IsListed}
 use Rattle.rc_tfile.specs.TableText.{part_items, table}
-use Rattle.rc_tfile.proofs.Follows.{all_append}
-use Rattle.rc_tfile.proofs.Drafts.{parts_of, body_is}
+use Rattle.rc_tfile.specs.laws.Follows.{all_append}
+use Rattle.rc_tfile.specs.laws.Drafts.{parts_of, body_is}
 
 -- they are items
 abbrev pub AreItems : List Item → Type 0

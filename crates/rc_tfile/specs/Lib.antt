@@ -10,3 +10,4 @@ pub mod Reading
 pub mod Checking
 pub mod Windows
 pub mod Walking
+pub mod laws

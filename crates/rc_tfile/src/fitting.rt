@@ -51,7 +51,7 @@ pub fn part_fits(part: &Partition, schema: &Schema) -> bool
     ensures { IsTrue result ↔ PartFits schema.now part.now }
 {
     let change = &part.change;
-    if !is_static(schema, &change.statics) {
+    if !is_static(schema, change.statics.as_row()) {
         return false;
     }
     if !rows_fit(change.rows.as_slice(), schema) {

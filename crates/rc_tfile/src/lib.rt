@@ -22,5 +22,6 @@ pub use checking::{CheckErr, read_schema};
 pub use fitting::part_fits;
 pub use info::{PartRef, PartRefs, TableInfo};
 pub use reading::{Part, behind, read_change, read_part, read_part_key, read_row_item};
+pub use stepping::{is_bound_of, is_row_of, is_static};
 pub use walking::check_table;
 pub use writing::{WriteErr, plan_table, write_table};

@@ -212,21 +212,21 @@ fn is_same_tomb(tomb: Option<Tomb>, other: Option<Tomb>) -> bool
 }
 
 /// Whether a row is a static row of the schema.
-pub(crate) fn is_static(schema: &Schema, row: &Row) -> bool
+pub fn is_static(schema: &Schema, row: &Row) -> bool
     ensures { IsTrue result ↔ IsStatic schema.now row.now }
 {
     row.marker.is_none() && row.tomb.is_none() && schema.check_row(row, true).is_ok()
 }
 
 /// Whether a row and its key are of the schema.
-pub(crate) fn is_row_of(schema: &Schema, key: &Key, row: &Row) -> bool
+pub fn is_row_of(schema: &Schema, key: &Key, row: &Row) -> bool
     ensures { IsTrue result ↔ IsRowOf schema.now key.now row.now }
 {
     schema.check_prefix(key, true).is_ok() && schema.check_row(row, false).is_ok()
 }
 
 /// Whether a change may stand at a position under the schema.
-pub(crate) fn is_bound_of(schema: &Schema, x: &Pos) -> bool
+pub fn is_bound_of(schema: &Schema, x: &Pos) -> bool
     ensures { IsTrue result ↔ IsBoundOf schema.now x.now }
 {
     x.weight != Weight::At && schema.check_prefix(&x.prefix, false).is_ok()

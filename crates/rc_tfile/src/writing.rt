@@ -159,9 +159,10 @@ fn spell_part(
     let change = &part.change;
     change.holds_together();
     tomb_in_range(change.pt);
-    row_in_range(&change.statics);
+    let statics = change.statics.as_row();
+    row_in_range(statics);
     let _key = part.key.as_slice();
-    append_part(alloc, &part.key, change.pt, &change.statics, out)?;
+    append_part(alloc, &part.key, change.pt, statics, out)?;
     outline.part(alloc, &part.key, out.len() - start)?;
     let list = change.fragments(alloc)?;
     spell_fragments(alloc, list.as_slice(), outline, out)

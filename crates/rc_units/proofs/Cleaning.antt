@@ -15,8 +15,9 @@ use Rattle.rc_core.specs.Version.{Spot, On, Behind, spot_cmp, Found, found, entr
 use Rattle.rc_core.specs.Change.{dummy, split}
 use Rattle.rc_core.specs.Continuity.{with_entries}
 use Rattle.rc_core.specs.Merge.{Alike, IsPutDown, IsMerged, IsSilent}
-use Rattle.rc_core.proofs.Spots.{turned, turn_to, behind-Equal, spot-Less, spot-before, spot-at, split-seen, split-reaches, position-reached, gap-reached}
-use Rattle.rc_units.specs.Clean.{mark_under, found_under, onto_by, gap_onto_by, entry_onto, end_onto, merge_entry, merge_end, gap_said, no_mark, statics_said, statics_onto, end_merged, emptied}
+use Rattle.rc_core.specs.laws.Spots.{turned, turn_to, behind-Equal, spot-Less, spot-before, spot-at, split-seen, split-reaches, position-reached, gap-reached}
+use Rattle.rc_units.specs.Clean.{onto_by, gap_onto_by, entry_onto, end_onto, merge_entry, merge_end, gap_said, statics_said, statics_onto, end_merged, emptied}
+use Rattle.rc_core.specs.Plain.{mark_under, found_under, no_mark}
 use Rattle.rc_units.proofs.Under.{none-under, found-alike, statics-alike, pt_again}
 use Rattle.rc_units.proofs.Onto.{GapIs, CutAt, gap-any, cut-split, cut-kept, on-spot, spot-between, map-seen, nothing_found}
 

@@ -1,21 +1,27 @@
--- A unit of an update leaves a version, in which an entry stands at the next place.
+-- A unit of an update leaves a version, in which an entry stands at the next place, and none behind it but the end dummy.
 use Rattle.std.specs.Prelude.{◌≡◌, List, [], ◌∷◌, Option, map as list_map}
-use Rattle.std.proofs.Common.{refl, ap}
+use Rattle.std.proofs.Common.{refl, sym, ap, ◌∙◌, subst}
+use Rattle.std.specs.declared.cmp.Ordering.{Ordering}
+use Rattle.std.specs.Cmp.{tied_itself}
+use Rattle.rc_position.specs.OrderLaws.{pos_cmp_total}
+use Rattle.rc_position.specs.BoundLaws.{place_cmp_total, place_cmp_same}
 use Rattle.std.specs.declared.cmp.Ordering.TheVariants.{Less, Equal, Greater}
-use Rattle.std.specs.Ordering.{eq_by_cmp}
+use Rattle.std.specs.Ordering.{eq_by_cmp, ordering_reverse}
 use Rattle.std.specs.Prelude.{true, false, cond}
 use Rattle.rc_cell.specs.declared.rows.Row.{Row}
 use Rattle.rc_cell.specs.declared.writes.Tomb.{Tomb}
 use Rattle.rc_position.specs.declared.positions.Pos.{Pos}
-use Rattle.rc_position.specs.Position.{Place, Head, Static, Clustered, End, pos_cmp, row_pos}
+use Rattle.rc_position.specs.Position.{Place, Head, Static, Clustered, End, place_cmp, pos_cmp, row_pos}
 use Rattle.rc_mutation.specs.declared.fragments.Frag.{Frag}
 use Rattle.rc_mutation.specs.declared.fragments.Frag.TheVariants as frag
 use Rattle.rc_core.specs.declared.entries.Entry.{Entry}
 use Rattle.rc_core.specs.declared.entries.Mark.{Mark}
 use Rattle.rc_core.specs.Version.{Ascend, EndsWithDummy, Version, IsVersion, end_position}
-use Rattle.rc_core.specs.Change.{change, changed, join_row_at, raised, split, split_by, with_row}
-use Rattle.rc_core.proofs.Spots.{StandsAt, StandsBy, split-stands, position-reached}
-use Rattle.rc_units.specs.Update.{IsCut, Precedes, raise_upto, split_at, updated}
+use Rattle.rc_core.specs.Change.{change, changed, dummy, join_row_at, raised, split, split_by, with_row}
+use Rattle.rc_core.specs.laws.Spots.{StandsAt, StandsBy, split-stands, position-reached}
+use Rattle.rc_core.specs.AtPlace.{EachEntry, EndsBehind, HasItsPlace, StandsAtPlace}
+use Rattle.rc_core.specs.laws.Placed.{each-map, each-split, each-wider, has-stands, stands-has}
+use Rattle.rc_units.specs.Update.{place_of, Precedes, raise_upto, split_at, updated}
 use Rattle.rc_units.proofs.Putting.{row-ends}
 use Rattle.rc_units.proofs.Versions.{split-ascends, split-ends, map-ascends, map-ends}
 
@@ -88,23 +94,95 @@ stands-changed f q p x (e ∷ es) st =
       | Greater ↦ λ h. stands-changed f q p x es h
     ] st
 
-cut-at : (p : Place) (es : List Entry) → EndsWithDummy es → IsCut p (split_at p es)
-cut-at Head es d = refl
-cut-at Static es d = refl
-cut-at (Clustered x) es d = stands-split x (split x es) (split-stands x es (position-reached x es d))
-cut-at End es d = refl
+-- an entry stands at the place, so that a split there makes none
+abbrev pub IsCut : Place → List Entry → Type 0
+IsCut p entries = split_at p entries ≡ entries
 
-cut-raised : (tomb : Option Tomb) (q : Pos) (p : Place) (es : List Entry) → EndsWithDummy es → IsCut p (raise_upto tomb q p es)
-cut-raised tomb q Head es d = refl
-cut-raised tomb q Static es d = refl
-cut-raised tomb q (Clustered x) es d =
-    stands-split x (change (raised tomb) q x es)
+pub place-cut : (p : Place) (es : List Entry) → Ascend es → HasItsPlace p es → IsCut p es
+place-cut Head es a h = refl
+place-cut Static es a h = refl
+place-cut (Clustered x) es a h = stands-split x es (has-stands x es a h.stands)
+place-cut End es a h = refl
+
+stands_at : (p : Place) (es : List Entry) → EndsWithDummy es → StandsAtPlace p (split_at p es)
+stands_at Head es d = tt
+stands_at Static es d = tt
+stands_at (Clustered x) es d = stands-has x (split x es) (split-stands x es (position-reached x es d))
+stands_at End es d = tt
+
+stands_raised : (tomb : Option Tomb) (q : Pos) (p : Place) (es : List Entry) → EndsWithDummy es → StandsAtPlace p (raise_upto tomb q p es)
+stands_raised tomb q Head es d = tt
+stands_raised tomb q Static es d = tt
+stands_raised tomb q (Clustered x) es d =
+    stands-has x (change (raised tomb) q x es)
     (stands-changed (raised tomb) q x x (split x (split q es)) (split-stands x (split q es) (position-reached x (split q es) (split-ends q es d))))
-cut-raised tomb q End es d = refl
+stands_raised tomb q End es d = tt
 
-pub updated-cut : (force : Option Tomb) (f : Frag) (next : Place) (v : Version) → Precedes f next → IsVersion v → IsCut next (updated force f next v).entries
-updated-cut force (frag.Start pt) next v p i = cut-at next v.entries i.ends
-updated-cut force (frag.Static row) next v p i = cut-at next v.entries i.ends
-updated-cut force (frag.Row key row) next v p i = cut-raised force (row_pos key) next (join_row_at (row_pos key) row v.entries) (row-ends key row v.entries i.ends)
-updated-cut force (frag.Change from tomb) next v p i = cut-raised tomb from next v.entries i.ends
-updated-cut force frag.End next v p i = absurd p
+-- ---- none stands behind it but the end dummy
+
+pub turned_place : (p q : Place) → place_cmp p q ≡ Less → place_cmp q p ≡ Greater
+turned_place p q l = place_cmp_total.antisymm q p ∙ ap ordering_reverse l
+
+itself_behind : (x : Pos) (m : Mark) → EndsBehind (Clustered x) (dummy x m)
+itself_behind x m l = let u : Less ≡ Equal = sym l ∙ tied_itself pos_cmp_total x in absurd (cc)
+
+last_split : (p : Place) (es : List Entry) → EachEntry (EndsBehind p) es → EachEntry (EndsBehind p) (split_at p es)
+last_split Head es h = h
+last_split Static es h = h
+last_split (Clustered x) es h = each-split (EndsBehind (Clustered x)) x (itself_behind x) es h
+last_split End es h = h
+
+-- a position that is not behind the place may get a dummy
+not_behind : (p : Place) (q : Pos) → (place_cmp (Clustered q) p ≡ Greater → ⊥) → (m : Mark) → EndsBehind p (dummy q m)
+not_behind p q off m l = absurd (off (turned_place p (Clustered q) l))
+
+last_raised : (tomb : Option Tomb) (q : Pos) (p : Place) (es : List Entry) → (place_cmp (Clustered q) p ≡ Greater → ⊥) → EachEntry (EndsBehind p) es → EachEntry (EndsBehind p) (raise_upto tomb q p es)
+last_raised tomb q Head es off h = h
+last_raised tomb q Static es off h = h
+last_raised tomb q (Clustered x) es off h =
+    each-map (EndsBehind (Clustered x)) (changed (raised tomb) q x) (λ _ k. k) (split x (split q es))
+    (each-split (EndsBehind (Clustered x)) x (itself_behind x) (split q es) (each-split (EndsBehind (Clustered x)) q (not_behind (Clustered x) q off) es h))
+last_raised tomb q End es off h =
+    each-map (EndsBehind End) (changed (raised tomb) q end_position) (λ _ k. k) (split end_position (split q es))
+    (each-split (EndsBehind End) end_position (λ _ _. refl) (split q es) (each-split (EndsBehind End) q (not_behind End q off) es h))
+
+row_joined_behind : (p : Place) (q : Pos) (row : Row) (es : List Entry) → (place_cmp (Clustered q) p ≡ Greater → ⊥) → EachEntry (EndsBehind p) es → EachEntry (EndsBehind p) (join_row_at q row es)
+row_joined_behind p q row es off h =
+    each-map (EndsBehind p) (λ e. cond (eq_by_cmp pos_cmp q e.position) (with_row row e) e)
+    (λ e k. elim (eq_by_cmp pos_cmp q e.position) as (λ b. EndsBehind p (cond b (with_row row e) e)) [ true ↦ k | false ↦ k ])
+    (split q es) (each-split (EndsBehind p) q (not_behind p q off) es h)
+
+not_greater : (r : Ordering) → r ≡ Less → r ≡ Greater → ⊥
+not_greater Less e g = cc
+not_greater Equal e g = cc
+not_greater Greater e g = cc
+
+pub precedes-le : (f : Frag) (p : Place) → Precedes f p → place_cmp (place_of f) p ≡ Greater → ⊥
+precedes-le (frag.Start pt) p h = not_greater (place_cmp Head p) h
+precedes-le (frag.Static row) p h = not_greater (place_cmp Static p) h
+precedes-le (frag.Row key row) p h = not_greater (place_cmp (place_of (frag.Row key row)) p) h
+precedes-le (frag.Change from tomb) p h = h
+precedes-le frag.End p h = absurd h
+
+-- what stands behind the next place stands behind the place
+behind_next : (p q : Place) → (place_cmp p q ≡ Greater → ⊥) → (x : Place) → place_cmp q x ≡ Less → place_cmp p x ≡ Less
+behind_next p q off x l = by (place_cmp p q) refl
+  where
+    by : (r : Ordering) → place_cmp p q ≡ r → place_cmp p x ≡ Less
+    by Less e = place_cmp_total.trans p q x e l
+    by Equal e = subst (λ z. place_cmp z x ≡ Less) (sym (place_cmp_same p q e)) l
+    by Greater e = absurd (off e)
+
+pub updated-place : (force : Option Tomb) (f : Frag) (next : Place) (v : Version) → Precedes f next → IsVersion v → HasItsPlace (place_of f) v.entries → HasItsPlace next (updated force f next v).entries
+updated-place force f next v p i h = by f p (each-wider (EndsBehind (place_of f)) (EndsBehind next) (λ e k l. k (behind_next (place_of f) next (precedes-le f next p) (Clustered e.position) l)) v.entries h.last)
+  where
+    by : (f : Frag) → Precedes f next → EachEntry (EndsBehind next) v.entries → HasItsPlace next (updated force f next v).entries
+    by (frag.Start pt) p b = record { stands = stands_at next v.entries i.ends; last = last_split next v.entries b }
+    by (frag.Static row) p b = record { stands = stands_at next v.entries i.ends; last = last_split next v.entries b }
+    by (frag.Row key row) p b = record {
+      stands = stands_raised force (row_pos key) next (join_row_at (row_pos key) row v.entries) (row-ends key row v.entries i.ends);
+      last = last_raised force (row_pos key) next (join_row_at (row_pos key) row v.entries) (precedes-le (frag.Row key row) next p)
+          (row_joined_behind next (row_pos key) row v.entries (precedes-le (frag.Row key row) next p) b);
+    }
+    by (frag.Change from tomb) p b = record { stands = stands_raised tomb from next v.entries i.ends; last = last_raised tomb from next v.entries p b }
+    by frag.End p b = absurd p

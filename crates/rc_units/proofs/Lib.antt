@@ -4,12 +4,13 @@ pub mod Cleaning
 pub mod Versions
 pub mod Units
 pub mod Putting
-pub mod Joins
 pub mod Updates
 pub mod Losses
 pub mod Cuts
-pub mod Stretches
+pub mod Fragmented
 pub mod Whole
 pub mod Writing
 pub mod Chaining
-pub mod Merged
+pub mod Silent
+pub mod Cleaned
+pub mod Ending

@@ -12,7 +12,7 @@ use Rattle.rc_core.specs.declared.entries.Entry.{Entry}
 use Rattle.rc_core.specs.declared.entries.Flag.TheVariants.{Inherit}
 use Rattle.rc_core.specs.Version.{Spot, On, Behind, behind, spot_cmp, Found, found, entry_answers, seen, IsBeforeEnd, IsReachedBy}
 use Rattle.rc_core.specs.Change.{mark, split, split_by}
-use Rattle.rc_core.proofs.Spots.{turn_to, behind-Equal, spot-Less, spot-before}
+use Rattle.rc_core.specs.laws.Spots.{turn_to, behind-Equal, spot-Less, spot-before}
 
 -- ---- the gap that answers
 

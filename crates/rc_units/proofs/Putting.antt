@@ -21,8 +21,10 @@ use Rattle.rc_core.specs.declared.entries.Mark.{Mark}
 use Rattle.rc_core.specs.Cell.{cell, nothing}
 use Rattle.rc_core.specs.Version.{Spot, On, Behind, Found, found, seen, behind, entry_answers, cell_of, cell_at, IsBeforeEnd, EndsWithDummy, Version, IsVersion, end_position}
 use Rattle.rc_core.specs.Change.{mark, split, change, joined_onto, raised, join_row_at, with_row, position_of}
-use Rattle.rc_core.proofs.Spots.{turned, turn_to, with_f, change-seen, split-seen, position-reached, gap-reached, join_row-there, join_row-elsewhere}
-use Rattle.rc_units.specs.Update.{place_of, fragment_cell_at, Precedes, IsWithinPlaces, IsSilentFrom, split_at, raise_upto, updated}
+use Rattle.rc_core.specs.laws.Spots.{turned, turn_to, with_f, change-seen, split-seen, position-reached, gap-reached, join_row-there, join_row-elsewhere}
+use Rattle.rc_core.specs.AtPlace.{IsSilentFrom}
+use Rattle.rc_core.specs.Unit.{IsStretch}
+use Rattle.rc_units.specs.Update.{place_of, fragment_cell_at, Precedes, split_at, raise_upto, updated}
 use Rattle.rc_units.proofs.Onto.{nothing_found}
 use Rattle.rc_units.proofs.Versions.{split-ends, map-ends}
 
@@ -223,20 +225,20 @@ row_within force next v i key row (On x) e off l h =
     elsewhere k = join_row-elsewhere (On x) (row_pos key) row v.entries (λ g. let u : Greater ≡ Equal = sym k ∙ ap (λ z. pos_cmp (position_of z) (row_pos key)) g ∙ tied_itself pos_cmp_total (row_pos key) in cc) ∙ e
 
 module _ (force : Option Tomb) (next : Place) (v : Version) (i : IsVersion v) (s : Spot) (l : IsBefore (position_of s) end_position) where
-  pub unit-within : (f : Frag) → Precedes f next → IsSilentFrom (place_of f) v → IsWithinPlaces (place_of f) next (Clustered (position_of s)) → cell_at s (updated force f next v) ≡ fragment_cell_at force f s
-  unit-within (frag.Start pt) p silent w = ap cell_of (split_seen_at s next v.entries) ∙ silent.clustered s w.0 ∙ nothing_said s
+  pub unit-within : (f : Frag) → Precedes f next → IsSilentFrom (place_of f) v → IsStretch (place_of f) next (Clustered (position_of s)) → cell_at s (updated force f next v) ≡ fragment_cell_at force f s
+  unit-within (frag.Start pt) p silent w = ap cell_of (split_seen_at s next v.entries) ∙ silent.clustered s w.begun ∙ nothing_said s
     where
       nothing_said : (s : Spot) → nothing ≡ fragment_cell_at force (frag.Start pt) s
       nothing_said (On x) = refl
       nothing_said (Behind x) = refl
-  unit-within (frag.Static row) p silent w = ap cell_of (split_seen_at s next v.entries) ∙ silent.clustered s w.0 ∙ nothing_said s
+  unit-within (frag.Static row) p silent w = ap cell_of (split_seen_at s next v.entries) ∙ silent.clustered s w.begun ∙ nothing_said s
     where
       nothing_said : (s : Spot) → nothing ≡ fragment_cell_at force (frag.Static row) s
       nothing_said (On x) = refl
       nothing_said (Behind x) = refl
-  unit-within (frag.Row key row) p silent w = row_within force next v i key row s (cell-nothing (seen s v.entries) (silent.clustered s w.0)) w.0 l w.1
+  unit-within (frag.Row key row) p silent w = row_within force next v i key row s (cell-nothing (seen s v.entries) (silent.clustered s w.begun)) w.begun l w.short
   unit-within (frag.Change from tomb) p silent w =
-      ap cell_of (raised-nothing force next v i s tomb from v.entries i.ends None (cell-nothing (seen s v.entries) (silent.clustered s w.0)) w.0 l w.1) ∙ said_of s
+      ap cell_of (raised-nothing force next v i s tomb from v.entries i.ends None (cell-nothing (seen s v.entries) (silent.clustered s w.begun)) w.begun l w.short) ∙ said_of s
     where
       said_of : (s : Spot) → cell Inherit [] (option_to_list tomb) ≡ fragment_cell_at force (frag.Change from tomb) s
       said_of (On x) = refl

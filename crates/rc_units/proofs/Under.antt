@@ -8,7 +8,7 @@ use Rattle.rc_cell.specs.Orders.{tomb_cmp, tomb_cmp_total}
 use Rattle.rc_cell.specs.Beats.{tomb_cmp-IsAntisymmetric}
 use Rattle.rc_cell.specs.Greatest.{greater, greatest-two}
 use Rattle.rc_cell.specs.Winner.{greatest, joined_row}
-use Rattle.rc_ranges.proofs.Greater.{greatest-both, greater-assoc, greater-same}
+use Rattle.rc_ranges.specs.Laws.Greater.{greatest-both, greater-assoc, greater-same}
 use Rattle.rc_core.specs.declared.entries.Flag.{Flag}
 use Rattle.rc_core.specs.declared.entries.Flag.TheVariants.{Known, Unknown, Inherit}
 use Rattle.rc_core.specs.declared.entries.Mark.{Mark}
@@ -17,8 +17,8 @@ use Rattle.rc_core.specs.Version.{Found, found, cell_of}
 use Rattle.rc_core.specs.Change.{mark}
 use Rattle.rc_core.specs.Continuity.{joined_options}
 use Rattle.rc_core.specs.Merge.{Alike}
-use Rattle.rc_core.proofs.Losing.{joined-again, tomb-alone}
-use Rattle.rc_units.specs.Clean.{mark_by, row_under, found_under, flag_under}
+use Rattle.rc_core.specs.laws.Losing.{joined-again, tomb-alone}
+use Rattle.rc_core.specs.Plain.{mark_by, row_under, found_under, flag_under}
 
 -- the greater of two tombstones says what both say
 pub greater_says : (s t : Option Tomb) → greatest tomb_cmp (option_to_list (greater tomb_cmp s t)) ≡ greatest tomb_cmp (option_to_list s ++ option_to_list t)

@@ -25,11 +25,11 @@ use Rattle.rc_core.specs.Chain.{cells, content, flagged, flag_over, IsEvenAt}
 use Rattle.rc_core.specs.Change.{drop_at, without_gap, lose_first_gap, lost_mark}
 use Rattle.rc_core.specs.Continuity.{EachOf, IsContinuous, IsEvicted, IsSameOrLost, with_entries, without_statics}
 use Rattle.rc_core.specs.Merge.{Alike, IsSeenAlike, IsMerged, IsPutDown, IsSilent}
-use Rattle.rc_core.proofs.Folding.{flagged-through}
-use Rattle.rc_core.proofs.Updating.{carried}
-use Rattle.rc_core.proofs.Losing.{entry-evicted, statics-evicted, evicted-continuous, evicted-seen, known-before}
-use Rattle.rc_core.proofs.Merging.{merged-seen, dropped-seen, alike-seen, alike-even}
-use Rattle.rc_core.proofs.Keeping.{merged-continuous, dropped-continuous}
+use Rattle.rc_core.specs.laws.Folding.{flagged-through}
+use Rattle.rc_core.specs.laws.Updating.{carried}
+use Rattle.rc_core.specs.laws.Losing.{entry-evicted, statics-evicted, evicted-continuous, evicted-seen, known-before}
+use Rattle.rc_core.specs.laws.Merging.{merged-seen, dropped-seen, alike-seen, alike-even}
+use Rattle.rc_core.specs.laws.Keeping.{merged-continuous, dropped-continuous}
 use Rattle.rc_units.specs.Clean.{cleaned, cleaned_by, entry_cleaned, cache_cleaned_by, cleaned_without_room, further, clean_times, units_of, static_units, gap_said, merge_entry, end_merged, emptied, statics_said, statics_onto}
 use Rattle.rc_units.proofs.Under.{pt_known}
 use Rattle.rc_units.proofs.Cleaning.{statics-merged, entry-merged, end-merged, emptied-silent}
@@ -56,7 +56,7 @@ alike-both us vs ws h k = record {
 pub first_before : (v : Version) (e n : Entry) (back : List Entry) → v.entries ≡ e ∷ n ∷ back → IsVersion v → IsBefore e.position n.position
 first_before v e n back h i = (subst Ascend h i.ascend).0
 
-last_is_dummy : (v : Version) (e : Entry) → v.entries ≡ e ∷ [] → IsVersion v → e.row ≡ None
+pub last_is_dummy : (v : Version) (e : Entry) → v.entries ≡ e ∷ [] → IsVersion v → e.row ≡ None
 last_is_dummy v e h i = (subst EndsWithDummy h i.ends).1
 
 pub no_entries : (v : Version) → v.entries ≡ [] → IsVersion v → ⊥

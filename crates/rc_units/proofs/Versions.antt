@@ -14,8 +14,9 @@ use Rattle.rc_core.specs.declared.entries.Flag.{Flag}
 use Rattle.rc_core.specs.Version.{Ascend, EndsWithDummy, Version, IsVersion, end_position}
 use Rattle.rc_core.specs.Change.{split, split_by, lose_first_gap}
 use Rattle.rc_core.specs.Continuity.{with_entries}
-use Rattle.rc_core.proofs.Spots.{turn_to}
-use Rattle.rc_units.specs.Clean.{row_under, onto_by, gap_onto_by, entry_onto, end_onto, merge_entry, end_merged, gap_said}
+use Rattle.rc_core.specs.laws.Spots.{turn_to}
+use Rattle.rc_units.specs.Clean.{onto_by, gap_onto_by, entry_onto, end_onto, merge_entry, end_merged, gap_said}
+use Rattle.rc_core.specs.Plain.{row_under}
 use Rattle.rc_units.proofs.Under.{none-under}
 use Rattle.rc_units.proofs.Cleaning.{entry_onto-keeps, end_onto-keeps}
 

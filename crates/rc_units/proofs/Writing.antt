@@ -18,8 +18,8 @@ use Rattle.rc_core.specs.Change.{mark}
 use Rattle.rc_core.specs.Merge.{Alike}
 use Rattle.rc_core.specs.Plain.{mark_cell}
 use Rattle.rc_core.specs.Version.{end_position}
-use Rattle.rc_core.proofs.Losing.{tomb-alone}
-use Rattle.rc_units.specs.Clean.{mark_by, mark_under}
+use Rattle.rc_core.specs.laws.Losing.{tomb-alone}
+use Rattle.rc_core.specs.Plain.{mark_by, mark_under}
 use Rattle.rc_units.proofs.Under.{greater_says}
 
 -- ---- elements written in place

@@ -1,38 +1,30 @@
--- Units on a whole chain.
---     with_update      the chain with other versions and another place of the update
---     detached         the chain that is no longer found by its key
---     PinsBelow        the versions that are pinned have numbers below one
---     chain_left       the chain after a unit of the cleaner; a dropped version takes its number with it
-use Rattle.std.specs.Prelude.{◌<◌, ◌++◌, ℕ, zero, suc, false, List, [], ◌∷◌, Option, None, length, map as list_map}
-use Rattle.rc_position.specs.Position.{Place}
-use Rattle.rc_core.specs.Chains.{Chain, IsPinned}
-use Rattle.rc_core.specs.Version.{Version}
+-- A unit of the cleaner on a whole chain.
+--     chain_left         the chain after a unit; a dropped version takes its number with it
+--     number_left        the number that a version has then
+--     IsKnownAsBefore    what is known through some versions was known through others, with the same content
+--     units_counted      the objects that the versions have left which count; Counts: which do in a chain
+use Rattle.std.specs.Prelude.{◌≡◌, ◌+◌, ◌++◌, ℕ, zero, suc, Bool, true, IsTrue, List, [], ◌∷◌, Option, cond, length, option_map, map as list_map}
+use Rattle.rc_cell.specs.Orders.{tomb_cmp}
+use Rattle.rc_cell.specs.Winner.{greatest}
+use Rattle.rc_core.specs.declared.entries.ChainKind.TheVariants.{Cache}
+use Rattle.rc_core.specs.Chain.{cells, content, flagged}
+use Rattle.rc_core.specs.Chains.{Chain}
+use Rattle.rc_core.specs.Continuity.{partition_tombs, static_cells}
+use Rattle.rc_core.specs.Steps.{renumbered}
+use Rattle.rc_core.specs.Version.{Spot, Version}
+use Rattle.rc_units.specs.Clean.{MayMerge, units_of}
 
--- the chain with other versions, whose update is at another place, or over
-abbrev pub with_update : List Version → Option Place → Chain → Chain
-with_update versions updating c = record { kind = c.kind; versions = versions; attached = c.attached; updating = updating; pins = c.pins }
+-- the number of a version, once a unit left these of the version of number i and the next
+abbrev pub number_left : List Version → ℕ → ℕ → ℕ
+number_left [] i j = j
+number_left (w ∷ []) i j = renumbered i j
+number_left (v ∷ w ∷ more) i j = j
 
--- the chain that is no longer found by its key, nor under update
-abbrev pub detached : Chain → Chain
-detached c = record { kind = c.kind; versions = c.versions; attached = false; updating = None; pins = c.pins }
-
--- each version that is pinned has a number below n
-abbrev pub PinsBelow : ℕ → List ℕ → Type 0
-PinsBelow n pins = (j : ℕ) → IsPinned pins j → j < n
-
--- ---- the cleaner
-
--- the number of a version once that of number i is dropped
-abbrev pub number_without : ℕ → ℕ → ℕ
-number_without i zero = zero
-number_without zero (suc p) = p
-number_without (suc i) (suc p) = suc (number_without i p)
-
--- the pins, where a unit on version i left these of two versions
-abbrev pub pins_without : List Version → ℕ → List ℕ → List ℕ
-pins_without [] i pins = pins
-pins_without (w ∷ []) i pins = list_map (number_without i) pins
-pins_without (v ∷ w ∷ more) i pins = pins
+-- the pins then
+abbrev pub pins_left : List Version → ℕ → List (Option ℕ) → List (Option ℕ)
+pins_left [] i pins = pins
+pins_left (w ∷ []) i pins = list_map (option_map (renumbered i)) pins
+pins_left (v ∷ w ∷ more) i pins = pins
 
 -- the chain with the versions that a unit left of the two between `front` and `back`
 abbrev pub chain_left : List Version → List Version → List Version → Chain → Chain
@@ -41,5 +33,23 @@ chain_left front left back c = record {
   versions = front ++ (left ++ back);
   attached = c.attached;
   updating = c.updating;
-  pins = pins_without left (length front) c.pins;
+  pins = pins_left left (length front) c.pins;
 }
+
+-- what is known now was known before with the same content, and the head stays
+pub record IsKnownAsBefore (before now : List Version) : Type 0 where
+  pub statics : IsTrue (flagged Cache (static_cells now)) → IsTrue (flagged Cache (static_cells before)) × (content (static_cells now) ≡ content (static_cells before))
+  pub clustered : (s : Spot) → IsTrue (flagged Cache (cells s now)) → IsTrue (flagged Cache (cells s before)) × (content (cells s now) ≡ content (cells s before))
+  pub head : greatest tomb_cmp (partition_tombs now) ≡ greatest tomb_cmp (partition_tombs before)
+
+-- ---- that cleaning ends
+
+-- these are the numbers of the versions that the cleaner has left to merge
+pub record Counts (c : Chain) (counts : ℕ → Bool) : Type 0 where
+  pub sound : (j : ℕ) → counts j ≡ true → MayMerge c j
+  pub complete : (j : ℕ) → MayMerge c j → counts j ≡ true
+
+-- the objects of the versions of such numbers, one unit for each
+abbrev pub units_counted : (ℕ → Bool) → List Version → ℕ
+units_counted counts [] = zero
+units_counted counts (v ∷ vs) = cond (counts zero) (units_of v) zero + units_counted (λ j. counts (suc j)) vs

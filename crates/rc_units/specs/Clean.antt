@@ -1,6 +1,4 @@
 -- A unit of the cleaner: a part of a version that nobody reads goes under the next newer version.
---     mark_under, row_under    a flag with its tombstone, and a row, under those of a newer version at the same place
---     found_under              what the older version says of a spot under what the newer one says there
 --     onto_by                  what an entry of the newer version takes from an entry that is merged, by where it stands against it
 --     merge_entry, merge_end   the newer version's entries, after the first entry, or the end dummy, has gone under them
 --     cleaned                  the two versions after a unit, or the newer one alone where the older one is dropped
@@ -16,36 +14,13 @@ use Rattle.rc_position.specs.Position.{pos_cmp}
 use Rattle.rc_core.specs.declared.entries.ChainKind.{ChainKind}
 use Rattle.rc_core.specs.declared.entries.ChainKind.TheVariants.{Memtable, Cache}
 use Rattle.rc_core.specs.declared.entries.Entry.{Entry}
-use Rattle.rc_core.specs.declared.entries.Flag.{Flag}
-use Rattle.rc_core.specs.declared.entries.Flag.TheVariants.{Known, Unknown, Inherit}
+use Rattle.rc_core.specs.declared.entries.Flag.TheVariants.{Inherit}
 use Rattle.rc_core.specs.declared.entries.Mark.{Mark}
-use Rattle.rc_core.specs.Version.{Found, found, Version}
-use Rattle.rc_core.specs.Change.{dummy, mark, split, lose_first_gap}
+use Rattle.rc_core.specs.Version.{Version}
+use Rattle.rc_core.specs.Change.{dummy, split, lose_first_gap}
 use Rattle.rc_core.specs.Chains.{Chain, IsPinned, IsUpdating}
-use Rattle.rc_core.specs.Continuity.{joined_options, with_entries, without_statics}
-
--- ---- one place
-
--- a flag and a tombstone under those of a newer version, which decide where its flag does; where it inherits it takes the flag, and of the
--- tombstones the greater
-abbrev pub mark_by : Flag → Mark → Mark → Mark
-mark_by Known older newer = newer
-mark_by Unknown older newer = newer
-mark_by Inherit older newer = mark older.flag (greater tomb_cmp older.tomb newer.tomb)
-
--- by the flag of the newer version
-abbrev pub mark_under : Mark → Mark → Mark
-mark_under older newer = mark_by newer.flag older newer
-
--- a row under that of a newer version, whose flag there is given
-abbrev pub row_under : Flag → Option Row → Option Row → Option Row
-row_under Known older newer = newer
-row_under Unknown older newer = newer
-row_under Inherit older newer = joined_options older newer
-
--- what one version says of a spot, under what a newer one says of it
-abbrev pub found_under : Found → Found → Found
-found_under older newer = found (mark_under older.mark newer.mark) (row_under newer.mark.flag older.row newer.row)
+use Rattle.rc_core.specs.Plain.{flag_under, mark_under, no_mark, row_under}
+use Rattle.rc_core.specs.Continuity.{with_entries, without_statics}
 
 -- ---- one entry of the newer version
 
@@ -87,19 +62,9 @@ merge_entry e n newer = list_map (entry_onto e n) (split n.position (split e.pos
 abbrev pub merge_end : Entry → List Entry → List Entry
 merge_end e newer = list_map (end_onto e) newer
 
--- a mark that says nothing
-abbrev pub no_mark : Mark
-no_mark = mark Inherit None
-
 -- the successor of a merged entry: the gap before it says nothing more
 abbrev pub gap_said : Entry → Entry
 gap_said n = record { position = n.position; row = n.row; at = n.at; gap = no_mark }
-
--- the static row's flag under that of a newer version
-abbrev pub flag_under : Flag → Flag → Flag
-flag_under older Known = Known
-flag_under older Unknown = Unknown
-flag_under older Inherit = older
 
 -- the older version once its static row was merged: it has none, and says nothing of it
 abbrev pub statics_said : Version → Version

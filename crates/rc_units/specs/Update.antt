@@ -2,10 +2,9 @@
 --     place_of             where a fragment stands; the update's place is that of its next fragment
 --     force_after          the range tombstone in force behind a fragment
 --     fragment_cell, ..    what a fragment says at the places from its own on and before the next one's
---     IsStretch            a fragment says there what the mutation says; AreStretches: each of some fragments does
+--     IsFragmentOf         a fragment says there what the mutation says; AreFragmentsOf: each of some fragments does
 --     updated, updated_by  the newest version after a unit, and after units one after another
 --     lost_from            the same without room: from the place on everything is Unknown
---     IsSilentFrom, IsCut  of the version under update: it says nothing from the place on, and an entry stands there
 use Rattle.std.specs.Prelude.{◌≡◌, ◌&&◌, Bool, List, [], ◌∷◌, Option, Some, None, cond, map as list_map}
 use Rattle.std.specs.declared.cmp.Ordering.TheVariants.{Less, Greater}
 use Rattle.std.specs.Option.{option_to_list}
@@ -23,10 +22,11 @@ use Rattle.rc_mutation.specs.declared.mutations.Mutation.{Mutation}
 use Rattle.rc_mutation.specs.Source.{source_at, source_at_head, source_at_static}
 use Rattle.rc_core.specs.declared.entries.Entry.{Entry}
 use Rattle.rc_core.specs.declared.entries.Flag.TheVariants.{Unknown, Inherit}
-use Rattle.rc_core.specs.Cell.{Cell, cell, nothing, said}
-use Rattle.rc_core.specs.Version.{Spot, On, Behind, Version, cell_at, end_position, static_cell}
-use Rattle.rc_core.specs.Change.{change, join_row_at, joined_onto, lost_mark, position_of, raised, split}
+use Rattle.rc_core.specs.Cell.{Cell, cell, said}
+use Rattle.rc_core.specs.Version.{Spot, On, Behind, Version, end_position}
+use Rattle.rc_core.specs.Change.{change, join_row_at, joined_onto, lost_mark, raised, split}
 use Rattle.rc_core.specs.Continuity.{with_entries}
+use Rattle.rc_core.specs.Unit.{IsStretch}
 
 -- ---- fragments
 
@@ -87,22 +87,18 @@ Precedes (frag.Row key row) p = place_cmp (Clustered (row_pos key)) p ≡ Less
 Precedes (frag.Change from next) p = place_cmp (Clustered from) p ≡ Greater → ⊥
 Precedes frag.End p = ⊥
 
--- x stands at `from` or behind it, and before `to`
-abbrev pub IsWithinPlaces : Place → Place → Place → Type 0
-IsWithinPlaces from to x = (place_cmp x from ≡ Less → ⊥) × (place_cmp x to ≡ Less)
-
 -- from its own place on and before the next place a fragment says what the mutation says
-pub record IsStretch (change : Mutation) (force : Option Tomb) (f : Frag) (next : Place) : Type 0 where
+pub record IsFragmentOf (change : Mutation) (force : Option Tomb) (f : Frag) (next : Place) : Type 0 where
   pub precedes : Precedes f next
   pub head : place_of f ≡ Head → source_at_head (change ∷ []) ≡ fragment_head f
-  pub statics : IsWithinPlaces (place_of f) next Static → joined_row (fragment_statics f) ≡ source_at_static (change ∷ [])
-  pub clustered : (x : Pos) → IsBefore x end_position → IsWithinPlaces (place_of f) next (Clustered x) → said (fragment_cell force f x) ≡ source_at (change ∷ []) x
+  pub statics : IsStretch (place_of f) next Static → joined_row (fragment_statics f) ≡ source_at_static (change ∷ [])
+  pub clustered : (x : Pos) → IsBefore x end_position → IsStretch (place_of f) next (Clustered x) → said (fragment_cell force f x) ≡ source_at (change ∷ []) x
 
 -- each of some fragments says so up to the next one
-abbrev pub AreStretches : Mutation → Option Tomb → List Frag → Type 0
-AreStretches change force [] = Unit {0}
-AreStretches change force (f ∷ []) = Unit {0}
-AreStretches change force (f ∷ g ∷ fs) = IsStretch change force f (place_of g) × AreStretches change (force_after force f) (g ∷ fs)
+abbrev pub AreFragmentsOf : Mutation → Option Tomb → List Frag → Type 0
+AreFragmentsOf change force [] = Unit {0}
+AreFragmentsOf change force (f ∷ []) = Unit {0}
+AreFragmentsOf change force (f ∷ g ∷ fs) = IsFragmentOf change force f (place_of g) × AreFragmentsOf change (force_after force f) (g ∷ fs)
 
 -- ---- a unit with room
 
@@ -176,15 +172,3 @@ statics_lost p v = cond (is_le (place_cmp p Static)) (record { pt = v.pt; static
 -- the newest version after everything from the place on was lost: the static row too, where the place is at it
 abbrev pub lost_from : Place → Version → Version
 lost_from p v = with_entries (list_map (lost_behind p) v.entries) (statics_lost p v)
-
--- ---- the version under update
-
--- from the place on the version says nothing: all is Inherit, and nothing is held
-pub record IsSilentFrom (p : Place) (v : Version) : Type 0 where
-  pub head : (place_cmp Head p ≡ Less → ⊥) → v.pt ≡ None
-  pub statics : (place_cmp Static p ≡ Less → ⊥) → static_cell v ≡ nothing
-  pub clustered : (s : Spot) → (place_cmp (Clustered (position_of s)) p ≡ Less → ⊥) → cell_at s v ≡ nothing
-
--- an entry stands at the place, so that a split there makes none
-abbrev pub IsCut : Place → List Entry → Type 0
-IsCut p entries = split_at p entries ≡ entries

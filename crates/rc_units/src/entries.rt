@@ -5,7 +5,8 @@ ghost use Rattle.std.specs.Ordering.{eq_by_cmp};
 ghost use Rattle.rc_position.specs.Position.{pos_cmp};
 ghost use Rattle.rc_core.specs.Change.{at_entry, dummy, join_row_at, joined_onto, split, with_row};
 ghost use Rattle.rc_core.specs.Continuity.{joined_options};
-ghost use Rattle.rc_units.specs.Clean.{mark_under, onto_at, onto_gap, row_under};
+ghost use Rattle.rc_units.specs.Clean.{onto_at, onto_gap};
+ghost use Rattle.rc_core.specs.Plain.{mark_under, row_under};
 
 use rc_cell::Row;
 use rc_core::{Entry, Flag, Mark, put_down};
@@ -166,19 +167,12 @@ pub fn put_row_down(
     }
 }
 
-// A mark of the older version under one of the newer version.
-fn put_mark_down(older: Mark, newer: Mark) -> Mark
-    ensures { result ≡ mark_under older newer }
-{
-    put_down(older, newer)
-}
-
 // The entry with a mark put under its gap's.
 pub(crate) fn put_under_gap(alloc: Global, gap: Mark, entry: &Entry) -> Result<Entry, AllocError>
     ensures { IfOk result (λ made. made ≡ onto_gap gap entry.now) }
 {
     let mut made = copy_entry(alloc, entry)?;
-    made.gap = put_mark_down(gap, entry.gap);
+    made.gap = put_down(gap, entry.gap);
     Ok(made)
 }
 
@@ -197,7 +191,7 @@ pub(crate) fn put_under(
     Ok(Entry {
         position,
         row,
-        at: put_mark_down(at, entry.at),
-        gap: put_mark_down(gap, entry.gap),
+        at: put_down(at, entry.at),
+        gap: put_down(gap, entry.gap),
     })
 }

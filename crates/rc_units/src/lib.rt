@@ -2,11 +2,13 @@
 //! Definitions and laws; and plain functions over vectors, which the crates above may be tested against.
 #![tactic(auto)]
 
+mod choose;
 mod clean;
 mod entries;
 pub mod laws;
 mod update;
 
+pub use choose::{may_merge, next_to_clean};
 pub use clean::{close_gap, merge_end_dummy, merge_first_entry, merge_onto};
 pub use entries::{copy_entries, copy_entry, join_row, put_row_down, split_entries};
 pub use update::{force_behind, lose_rest, put_fragment, raise_entries};

@@ -7,17 +7,24 @@ use std::process::ExitCode;
 use std::{env, io};
 
 fn main(rt: HostRuntime) -> ExitCode {
-    // The words can be refused by the host only for want of memory.
-    let status = serve(&rt).unwrap_or(Status::NoMemory);
+    let status = match words_of(&rt) {
+        Ok(words) => serve(&rt, words.as_slice()),
+        // A word that is not UTF-8: refused as no words are.
+        Err(error) if error.kind() == io::ErrorKind::InvalidData => serve(&rt, &[]),
+        Err(_) => Status::NoMemory,
+    };
     ExitCode::from(status.code())
 }
 
-/// Serves standard input to standard output.
-fn serve(rt: &HostRuntime) -> io::Result<Status> {
-    let alloc = rt.alloc();
-    let words = env::args(rt)?.skip(1).collect::<Vec<String>>(alloc)?;
+/// The words behind the program's name. `InvalidData` where one is not UTF-8; the only other error is want of memory.
+fn words_of(rt: &HostRuntime) -> io::Result<Vec<String>> {
+    Ok(env::args(rt)?.skip(1).collect::<Vec<String>>(rt.alloc())?)
+}
+
+/// Serves standard input to standard output, as the words ask for.
+fn serve(rt: &HostRuntime, words: &[String]) -> Status {
     let mut store = FolderStore::new(rt);
     let mut input = StdSource::new(rt);
     let mut out = StdSink::new(rt);
-    Ok(run(alloc, words.as_slice(), &mut store, &mut input, &mut out))
+    run(rt.alloc(), words, &mut store, &mut input, &mut out)
 }

@@ -8,7 +8,7 @@ ghost use Rattle.rc_cell.specs.declared.writes.Tomb.{Tomb};
 ghost use Rattle.rc_cell.specs.Orders.{tomb_cmp};
 ghost use Rattle.rc_cell.specs.Winner.{empty_row, greatest};
 ghost use Rattle.rc_position.specs.declared.positions.Pos.{Pos};
-ghost use Rattle.rc_position.specs.Position.{End, IsBefore, Place, covers};
+ghost use Rattle.rc_position.specs.Position.{End, Place, covers};
 ghost use Rattle.rc_mutation.specs.declared.mutations.Mutation.{Mutation};
 ghost use Rattle.rc_mutation.specs.Source.{source_at};
 ghost use Rattle.rc_core.specs.Chains.{Chain, IsChainContinuous, IsNeeded, phase_at, with_versions};
@@ -16,12 +16,12 @@ ghost use Rattle.rc_core.specs.Continuity.{fill_statics};
 ghost use Rattle.rc_core.specs.Merge.{IsMerged, IsSilent};
 ghost use Rattle.rc_core.specs.Steps.{IsCarriedIn, IsChain, MayPopulate, begin_update, drop_version, gap_filled, row_filled, with_newest, with_updating};
 ghost use Rattle.rc_core.specs.Unit.{IsUnit};
-ghost use Rattle.rc_core.specs.Version.{Version, end_position};
+ghost use Rattle.rc_core.specs.Version.{Version};
 
 /// A filled gap is carried, and what was carried is carried after it.
 pub fn a_filled_gap_is_carried()
     ensures filled { (c : Chain) (pin : ℕ) → MayPopulate c pin → IsChain c → (from to : Pos) (tomb : Option Tomb) (x : Pos) →
-        IsBefore x end_position → covers from to x ≡ true → IsCarriedIn (with_newest (gap_filled from to tomb) c) x }
+        covers from to x ≡ true → IsCarriedIn (with_newest (gap_filled from to tomb) c) x }
     ensures kept { (c : Chain) (pin : ℕ) → MayPopulate c pin → IsChain c → (from to : Pos) (tomb : Option Tomb) (x : Pos) →
         IsCarriedIn c x → IsCarriedIn (with_newest (gap_filled from to tomb) c) x }
 {}
@@ -30,7 +30,7 @@ pub fn a_filled_gap_is_carried()
 pub fn a_filled_row_is_carried()
     ensures filled { (c : Chain) (pin : ℕ) → MayPopulate c pin → IsChain c → (below : ℕ → List Mutation) (p : Pos) (row : Row) (tomb : Option Tomb) →
         source_at (below (phase_at c.versions pin)) p ≡ (row, tomb) → row ≢ empty_row → IsChainContinuous below c →
-        IsBefore p end_position → IsCarriedIn (with_newest (row_filled p row tomb) c) p }
+        IsCarriedIn (with_newest (row_filled p row tomb) c) p }
     ensures kept { (c : Chain) (pin : ℕ) → MayPopulate c pin → IsChain c → (below : ℕ → List Mutation) (p : Pos) (row : Row) (tomb : Option Tomb) →
         source_at (below (phase_at c.versions pin)) p ≡ (row, tomb) → row ≢ empty_row → IsChainContinuous below c →
         (x : Pos) → IsCarriedIn c x → IsCarriedIn (with_newest (row_filled p row tomb) c) x }

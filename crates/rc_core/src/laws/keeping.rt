@@ -14,7 +14,7 @@ ghost use Rattle.rc_core.specs.declared.entries.ChainKind.TheVariants.{Cache};
 ghost use Rattle.rc_core.specs.Chains.{Chain, IsChainContinuous, IsNeeded, phase_at, upto, with_versions};
 ghost use Rattle.rc_core.specs.Continuity.{fill_statics};
 ghost use Rattle.rc_core.specs.Merge.{IsMerged, IsSeenAlike, IsSilent};
-ghost use Rattle.rc_core.specs.Steps.{IsChain, MayPopulate, add_version, drop_version, gap_filled, new_chain, opened, renumbered, row_filled, with_newest, with_phase};
+ghost use Rattle.rc_core.specs.Steps.{IsCarriedIn, IsChain, MayPopulate, add_version, drop_version, gap_filled, new_chain, on_newest, opened, renumbered, row_filled, with_newest, with_phase};
 ghost use Rattle.rc_core.specs.Version.{IsVersion, Version, end_position};
 
 /// A cache chain that is opened with the source's head, its static row known also where there is none, is continuous.
@@ -60,11 +60,26 @@ pub fn a_filled_static_row_keeps_the_whole_chain()
     ensures form { (c : Chain) (pin : ℕ) (given : Option Row) → MayPopulate c pin → IsChain c → IsChain (with_newest (fill_statics given) c) }
 {}
 
+/// What lies below counts by what it says, and at the phases of the chain's versions alone: another list there that says the same, and any list
+/// at another phase, keep the whole chain continuous.
+pub fn what_lies_below_counts_by_its_source()
+    ensures { (below other : ℕ → List Mutation) (c : Chain) → IsChain c →
+        ((j : ℕ) → j < length c.versions → SameSource (below (phase_at c.versions j)) (other (phase_at c.versions j))) →
+        IsChainContinuous below c → IsChainContinuous other c }
+{}
+
 /// A phase whose mutations say the same at each place may be given to the newest version of an attached chain.
 pub fn a_new_phase_keeps_the_whole_chain()
     ensures { (below : ℕ → List Mutation) (c : Chain) (newest to : ℕ) → suc newest ≡ length c.versions → IsChain c → c.attached ≡ true →
         SameSource (below (phase_at c.versions newest)) (below to) →
         IsChainContinuous below c → IsChainContinuous below (with_newest (with_phase to) c) }
+{}
+
+/// A new phase of the newest version changes nothing that is seen: a chain is left, and what was carried is carried.
+pub fn a_new_phase_changes_nothing_that_is_seen()
+    ensures seen { (versions : List Version) (newest to : ℕ) → suc newest ≡ length versions → IsSeenAlike versions (on_newest (with_phase to) versions) }
+    ensures form { (c : Chain) (newest to : ℕ) → suc newest ≡ length c.versions → IsChain c → IsChain (with_newest (with_phase to) c) }
+    ensures carried { (c : Chain) (newest to : ℕ) (x : Pos) → suc newest ≡ length c.versions → IsCarriedIn c x → IsCarriedIn (with_newest (with_phase to) c) x }
 {}
 
 /// A unit of merging keeps the continuity of the whole chain, where nobody needs the older of the two versions: no snapshot pins it, and

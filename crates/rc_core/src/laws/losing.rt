@@ -1,14 +1,15 @@
 //! What eviction does to what is seen through a chain, and that it keeps continuity.
 
-ghost use Rattle.std.specs.Prelude.{◌≡◌, ◌++◌, ◌∷◌, IsTrue, List, Option, Some, ℕ};
+ghost use Rattle.std.specs.Prelude.{◌≡◌, ◌≢◌, ◌++◌, ◌∷◌, [], IsTrue, List, None, Option, Some, ℕ};
 ghost use Rattle.rc_mutation.specs.declared.mutations.Mutation.{Mutation};
-ghost use Rattle.rc_position.specs.Position.{IsBefore, Place};
+ghost use Rattle.rc_position.specs.Position.{Clustered, IsBefore, Place};
 ghost use Rattle.rc_core.specs.declared.entries.ChainKind.TheVariants.{Cache};
 ghost use Rattle.rc_core.specs.Cell.{Cell, through};
 ghost use Rattle.rc_position.specs.declared.positions.Pos.{Pos};
 ghost use Rattle.rc_core.specs.Version.{IsVersion, Version, end_position};
 ghost use Rattle.rc_core.specs.Chain.{content, flagged};
-ghost use Rattle.rc_core.specs.Chains.{Chain, IsChainContinuous, IsUntouchedFrom, NewestIs, with_versions};
+ghost use Rattle.rc_core.specs.Chains.{Chain, IsChainContinuous, IsUpdating, NewestIs, with_versions};
+ghost use Rattle.rc_core.specs.AtPlace.{HasEntryAt, IsAtPlace};
 ghost use Rattle.rc_core.specs.Continuity.{HoldNoMore, IsContinuous, IsEvicted, IsSameOrLost, SameOrLost, with_entries, without_statics};
 ghost use Rattle.rc_core.specs.Change.{drop_at, lose_last_gap};
 
@@ -49,11 +50,22 @@ pub fn an_eviction_keeps_continuity()
         IsContinuous reach writes (older ++ before ∷ newer) → IsContinuous reach writes (older ++ now ∷ newer) }
 {}
 
-/// Eviction of one object keeps the continuity of the whole chain, where it leaves the version under update untouched from the update's
-/// place on: the dummy there and that version's end dummy cannot be evicted.
+/// Whatever loses one object of a version, and leaves the version under update at the update's place, keeps the continuity of the whole chain.
 pub fn an_eviction_keeps_the_whole_chain()
     ensures { (below : ℕ → List Mutation) (c : Chain) (front back : List Version) (before now : Version) → c.versions ≡ front ++ before ∷ back →
         IsEvicted before now → now.phase ≡ before.phase →
-        ((p : Place) → c.updating ≡ Some p → NewestIs (IsUntouchedFrom p) (front ++ now ∷ back)) →
+        ((p : Place) → c.updating ≡ Some p → NewestIs (IsAtPlace p) (front ++ now ∷ back)) →
         IsChainContinuous below c → IsChainContinuous below (with_versions (front ++ now ∷ back) c) }
+{}
+
+/// Each eviction that may happen keeps the continuity of the whole chain: of a row entry or an inner dummy, but for the dummy at the update's
+/// place; of an end dummy, but for that of the version under update; of a static row.
+pub fn each_eviction_keeps_the_whole_chain()
+    ensures entry { (below : ℕ → List Mutation) (c : Chain) (front back : List Version) (v : Version) → c.versions ≡ front ++ v ∷ back → IsChainContinuous below c →
+        (x : Pos) → IsVersion v → HasEntryAt x v.entries → IsBefore x end_position → (back ≡ [] → c.updating ≢ Some (Clustered x)) →
+        IsChainContinuous below (with_versions (front ++ with_entries (drop_at x v.entries) v ∷ back) c) }
+    ensures end_dummy { (below : ℕ → List Mutation) (c : Chain) (front back : List Version) (v : Version) → c.versions ≡ front ++ v ∷ back → IsChainContinuous below c →
+        (back ≡ [] → IsUpdating c.updating → ⊥) → IsChainContinuous below (with_versions (front ++ with_entries (lose_last_gap v.entries) v ∷ back) c) }
+    ensures statics { (below : ℕ → List Mutation) (c : Chain) (front back : List Version) (v : Version) → c.versions ≡ front ++ v ∷ back → IsChainContinuous below c →
+        v.statics ≢ None → IsChainContinuous below (with_versions (front ++ without_statics v ∷ back) c) }
 {}

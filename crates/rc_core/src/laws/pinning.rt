@@ -1,16 +1,48 @@
 //! Snapshots, their release, and a chain that is detached: no cell changes, and the whole chain stays continuous. Then the objects of a
 //! chain that nobody finds or reads go, one at a time.
 
-ghost use Rattle.std.specs.Prelude.{◌≡◌, ◌++◌, ◌∷◌, ◌⊎◌, ℕ, true, List, None};
+ghost use Rattle.std.specs.Prelude.{◌≡◌, ◌≢◌, ◌++◌, ◌∷◌, ◌⊎◌, ℕ, suc, true, List, None, Option, Some, length, map, option_map};
 ghost use Rattle.rc_mutation.specs.declared.mutations.Mutation.{Mutation};
-ghost use Rattle.rc_core.specs.Chains.{Chain, IsChainContinuous, IsMemtableChain, with_versions};
+ghost use Rattle.rc_core.specs.Chains.{Chain, IsChainContinuous, IsMemtableChain, IsNeeded, IsPinned, with_versions};
 ghost use Rattle.rc_position.specs.declared.positions.Pos.{Pos};
 ghost use Rattle.rc_position.specs.Position.{IsBefore};
 ghost use Rattle.rc_core.specs.declared.entries.ChainKind.{ChainKind};
 ghost use Rattle.rc_core.specs.declared.entries.ChainKind.TheVariants.{Cache, Memtable};
 ghost use Rattle.rc_core.specs.Free.{IsLeft, free_entry, free_statics, freed_mark};
 ghost use Rattle.rc_core.specs.Version.{IsVersion, Spot, Version, cell_at, cell_of, end_position, found};
-ghost use Rattle.rc_core.specs.Steps.{IsChain, IsSnapshotOf, detach, release, snapshot};
+ghost use Rattle.rc_core.specs.Steps.{IsChain, IsSnapshotOf, detach, free_number, pin_at, pinned, release, released, renumbered, snapshot, with_pins};
+
+/// A snapshot gets a number that was free, and the numbers of others stay, then and while others are released. A version is pinned where some
+/// number has it.
+pub fn a_snapshots_number_stays()
+    ensures free { (pins : List (Option ℕ)) → pin_at pins (free_number pins) ≡ None }
+    ensures given { (version : ℕ) (pins : List (Option ℕ)) → pin_at (pinned version pins) (free_number pins) ≡ Some version }
+    ensures others { (version : ℕ) (pins : List (Option ℕ)) (i : ℕ) → i ≢ free_number pins → pin_at (pinned version pins) i ≡ pin_at pins i }
+    ensures released { (i : ℕ) (pins : List (Option ℕ)) → pin_at (released i pins) i ≡ None }
+    ensures kept { (i k : ℕ) (pins : List (Option ℕ)) → k ≢ i → pin_at (released i pins) k ≡ pin_at pins k }
+    ensures dropped { (n i : ℕ) (pins : List (Option ℕ)) → pin_at (map (option_map (renumbered n)) pins) i ≡ option_map (renumbered n) (pin_at pins i) }
+    ensures pinned { (pins : List (Option ℕ)) (i j : ℕ) → pin_at pins i ≡ Some j → IsPinned pins j }
+    ensures numbered { (pins : List (Option ℕ)) (j : ℕ) → IsPinned pins j → (i : ℕ) × (pin_at pins i ≡ Some j) }
+{}
+
+/// Pins that pin no other version than those of before keep all that is said of a chain.
+pub fn fewer_pins_keep_the_whole_chain()
+    ensures chain { (below : ℕ → List Mutation) (c : Chain) (pins : List (Option ℕ)) → ((j : ℕ) → IsPinned pins j → IsNeeded c j) →
+        IsChainContinuous below c → IsChainContinuous below (with_pins pins c) }
+    ensures form { (c : Chain) (pins : List (Option ℕ)) → ((j : ℕ) → IsPinned pins j → IsPinned c.pins j) → IsChain c → IsChain (with_pins pins c) }
+    ensures memtable { (c : Chain) (pins : List (Option ℕ)) → ((j : ℕ) → IsPinned pins j → IsPinned c.pins j) →
+        IsMemtableChain c → IsMemtableChain (with_pins pins c) }
+{}
+
+/// Pins that pin besides those of before the version which a snapshot pins keep all that is said of an attached chain.
+pub fn one_more_pin_keeps_the_whole_chain()
+    ensures chain { (below : ℕ → List Mutation) (c : Chain) (pins : List (Option ℕ)) (version : ℕ) → c.attached ≡ true → IsSnapshotOf c version →
+        ((j : ℕ) → IsPinned pins j → IsPinned c.pins j ⊎ (j ≡ version)) → IsChainContinuous below c → IsChainContinuous below (with_pins pins c) }
+    ensures form { (c : Chain) (pins : List (Option ℕ)) (version : ℕ) → IsSnapshotOf c version →
+        ((j : ℕ) → IsPinned pins j → IsPinned c.pins j ⊎ (j ≡ version)) → IsChain c → IsChain (with_pins pins c) }
+    ensures memtable { (c : Chain) (pins : List (Option ℕ)) (version : ℕ) → c.attached ≡ true → suc version ≡ length c.versions →
+        ((j : ℕ) → IsPinned pins j → IsPinned c.pins j ⊎ (j ≡ version)) → IsMemtableChain c → IsMemtableChain (with_pins pins c) }
+{}
 
 /// A snapshot of an attached chain pins a version that was continuous before.
 pub fn a_snapshot_keeps_the_whole_chain()

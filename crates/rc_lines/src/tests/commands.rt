@@ -10,27 +10,18 @@ const MIXED: &[u8] = b"ck=text,int static=- cols=a";
 #[test]
 fn reads_writes_of_rows(rt: HostRuntime) -> Result<(), Fail> {
     let schema = schema_of(rt.alloc(), INTS)?;
-    let table: [(&[u8], &[u8]); 15] = [
-        (b"insert p 1 ts=10", b"put p row 1 marker 10"),
-        (b"insert p 1 ts=10 a=5", b"put p row 1 marker 10 0@10=5"),
+    let table: [(&[u8], &[u8]); 6] = [
         (
             b"insert p 1 ts=2 b=x a=5",
             b"put p row 1 marker 2 0@2=5 1@2=x",
         ),
-        (b"insert p -5 ts=-1 a=", b"put p row -5 marker -1 0@-1="),
-        (b"insert p 1 ts=1 a=b=c", b"put p row 1 marker 1 0@1=b%3Dc"),
         (b"insert \xff 1 ts=1", b"put %FF row 1 marker 1"),
-        (b"insert p%2f%2F 1 ts=1", b"put p%2F%2F row 1 marker 1"),
-        (b"insert p %31 ts=1 a=%00", b"put p row 1 marker 1 0@1=%00"),
         (
             b"insert p 9223372036854775807 ts=-9223372036854775808",
             b"put p row 9223372036854775807 marker -9223372036854775808",
         ),
         (b"update p 1 ts=2 a=5", b"put p row 1 0@2=5"),
-        (b"update p 0 ts=0 b=1", b"put p row 0 1@0=1"),
-        (b"unset p 1 ts=10 dt=7 a", b"put p row 1 0@10!7"),
         (b"unset p 1 ts=10 dt=0 b a", b"put p row 1 0@10!0 1@10!0"),
-        (b"delete p 1 ts=10 dt=7", b"put p row 1 10/7"),
         (
             b"delete p -9223372036854775808 ts=10 dt=4294967295",
             b"put p row -9223372036854775808 10/4294967295",
@@ -48,7 +39,7 @@ fn reads_writes_of_rows(rt: HostRuntime) -> Result<(), Fail> {
 #[test]
 fn reads_other_writes(rt: HostRuntime) -> Result<(), Fail> {
     let schema = schema_of(rt.alloc(), INTS)?;
-    let table: [(&[u8], &[u8]); 8] = [
+    let table: [(&[u8], &[u8]); 6] = [
         (
             b"delrange p from=(1 to=3] ts=20 dt=7",
             b"put p range >1 >3 20/7",
@@ -58,16 +49,8 @@ fn reads_other_writes(rt: HostRuntime) -> Result<(), Fail> {
             b"put p range <1 <3 20/7",
         ),
         (
-            b"delrange p from=[3 to=3] ts=20 dt=7",
-            b"put p range <3 >3 20/7",
-        ),
-        (
             b"delrange p from=- to=- ts=20 dt=7",
             b"put p range < > 20/7",
-        ),
-        (
-            b"delrange p from=(-1 to=- ts=20 dt=7",
-            b"put p range >-1 > 20/7",
         ),
         (b"delpart p ts=5 dt=7", b"put p all 5/7"),
         (b"static p ts=5 s=x", b"put p static 0@5=x"),
@@ -85,16 +68,13 @@ fn reads_other_writes(rt: HostRuntime) -> Result<(), Fail> {
 #[test]
 fn reads_keys_of_two_kinds(rt: HostRuntime) -> Result<(), Fail> {
     let schema = schema_of(rt.alloc(), MIXED)?;
-    let table: [(&[u8], &[u8]); 6] = [
+    let table: [(&[u8], &[u8]); 3] = [
         (b"insert k%20 x,-5 ts=1", b"put k%20 row x,-5 marker 1"),
         (b"insert k '',0 ts=1", b"put k row '',0 marker 1"),
-        (b"insert k %2c,0 ts=1", b"put k row %2C,0 marker 1"),
-        (b"open 1 k%20 from=[x to=x]", b"open 1 k%20 <x >x"),
         (
             b"delrange k from=(x,1 to=y) ts=1 dt=1",
             b"put k range >x,1 <y 1/1",
         ),
-        (b"insert k x ts=1", b"WrongKey"),
     ];
     for (line, wanted) in table {
         assert_eq!(rt;
@@ -108,34 +88,16 @@ fn reads_keys_of_two_kinds(rt: HostRuntime) -> Result<(), Fail> {
 #[test]
 fn reads_commands(rt: HostRuntime) -> Result<(), Fail> {
     let schema = schema_of(rt.alloc(), INTS)?;
-    let table: [(&[u8], &[u8]); 19] = [
-        (b"", b"nothing"),
-        (b"#", b"nothing"),
+    let table: [(&[u8], &[u8]); 7] = [
         (b"# open 1 p ", b"nothing"),
         (
-            b"schema ck=int static=s cols=a,b",
-            b"schema ck=int static=s cols=a,b",
-        ),
-        (
             b"schema ck=text static=- cols=-",
             b"schema ck=text static=- cols=-",
-        ),
-        (b"open 1 p", b"open 1 p < >"),
-        (
-            b"open 4294967295 p from=[1 to=3)",
-            b"open 4294967295 p <1 <3",
         ),
         (b"open 64 p from=(1 to=-", b"open 64 p >1 >"),
-        (b"open 65 p from=- to=1]", b"open 65 p < >1"),
-        (b"read 1 9", b"read 1 9"),
         (b"read 4294967295 4294967295", b"read 4294967295 4294967295"),
-        (b"close 3", b"close 3"),
-        (b"flush", b"flush"),
-        (b"flush begin", b"flush begin"),
         (b"flush step 7", b"flush step 7"),
         (b"evict 20", b"evict 20"),
-        (b"compact 2", b"compact 2"),
-        (b"clean 9", b"clean 9"),
         (b"stats", b"stats"),
     ];
     for (line, wanted) in table {
@@ -149,17 +111,11 @@ fn reads_commands(rt: HostRuntime) -> Result<(), Fail> {
 
 #[test]
 fn wants_a_schema_first(rt: HostRuntime) -> Result<(), Fail> {
-    let table: [(&[u8], &[u8]); 7] = [
-        (b"", b"nothing"),
+    let table: [(&[u8], &[u8]); 4] = [
         (b"#", b"nothing"),
-        (
-            b"schema ck=int static=s cols=a,b",
-            b"schema ck=int static=s cols=a,b",
-        ),
         (b"schema ck=int static=s cols=s", b"BadLine"),
         (b"insert p x ts=1 c=1", b"NoSchema"),
         (b"insert p 1", b"BadLine"),
-        (b"stats", b"NoSchema"),
     ];
     for (line, wanted) in table {
         assert_eq!(rt; described(rt.alloc(), None, line)?.as_slice(), wanted);

@@ -73,9 +73,9 @@ fn add_write(alloc: Global, write: &Write, text: &mut Vec<u8>) -> Result<(), All
         text.extend_from_slice(b" all")?;
         add_tomb(alloc, tomb, text)?;
     }
-    if !write.change.statics.is_empty() {
+    if !write.change.statics.as_row().is_empty() {
         text.extend_from_slice(b" static")?;
-        add_cells(alloc, &write.change.statics, text)?;
+        add_cells(alloc, write.change.statics.as_row(), text)?;
     }
     add_rows(alloc, write, text)?;
     for piece in write.change.ranges.as_slice() {

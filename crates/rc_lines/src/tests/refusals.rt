@@ -10,48 +10,14 @@ const INTS: &[u8] = b"ck=int static=s cols=a,b";
 #[test]
 fn refuses_bad_rows(rt: HostRuntime) -> Result<(), Fail> {
     let schema = schema_of(rt.alloc(), INTS)?;
-    let lines: [&[u8]; 41] = [
-        b"insert",
-        b"insert p",
-        b"insert p 1",
-        b"insert p 1 ts=",
-        b"insert p 1 TS=1",
+    let lines: [&[u8]; 7] = [
         b"insert p 1 ts=1 ",
-        b" insert p 1 ts=1",
-        b"insert p  1 ts=1",
-        b"insert p\t1 ts=1",
         b"insert  1 ts=1",
-        b"insert p 1 ts=-0",
         b"insert p 1 ts=01",
-        b"insert p 1 ts=+1",
-        b"insert p 1 ts=9223372036854775808",
-        b"insert p 1 ts=1 a",
-        b"insert p 1 ts=1 A=1",
-        b"insert p 1 ts=1 1a=1",
-        b"insert p 1 ts=1 =1",
         b"insert p 1 ts=1 a23456789012345678901234567890123=1",
-        b"insert p 1 ts=1 a=%",
         b"insert p 1 ts=1 a=%4",
-        b"insert p 1 ts=1 a=%zz",
-        b"insert p 1 ts=1 a=\x7f",
-        b"insert p 1 ts=1 a=[",
         b"insert p 1 ts=1 a=1 a=2",
-        b"insert p 1 ts=1 c=1 a=1 c=2",
-        b"insert % 1 ts=1",
-        b"insert '' 1 ts=1",
-        b"insert p a,,b ts=1",
-        b"insert p ,a ts=1",
-        b"insert p 1, ts=1",
-        b"insert p ' ts=1",
-        b"update p 1 ts=1",
-        b"unset p 1 ts=1 a",
         b"unset p 1 ts=1 dt=1",
-        b"unset p 1 ts=1 dt=1 a a",
-        b"unset p 1 ts=1 dt=1 a=1",
-        b"unset p 1 ts=1 dt=-1 a",
-        b"unset p 1 ts=1 dt=4294967296 a",
-        b"delete p 1 ts=1",
-        b"delete p 1 ts=1 dt=1 a",
     ];
     for line in lines {
         assert_eq!(rt;
@@ -65,41 +31,13 @@ fn refuses_bad_rows(rt: HostRuntime) -> Result<(), Fail> {
 #[test]
 fn refuses_other_bad_lines(rt: HostRuntime) -> Result<(), Fail> {
     let schema = schema_of(rt.alloc(), INTS)?;
-    let lines: [&[u8]; 35] = [
+    let lines: [&[u8]; 7] = [
         b"delrange p from=1 to=- ts=1 dt=1",
-        b"delrange p from=[ to=- ts=1 dt=1",
-        b"delrange p from=- to=[1 ts=1 dt=1",
         b"delrange p to=- from=- ts=1 dt=1",
-        b"delrange p from=- to=- ts=1",
         b"delpart p ts=1",
-        b"delpart p ts=1 dt=1 x",
-        b"static p ts=1",
-        b"unstatic p ts=1 dt=1",
-        b"unstatic p ts=1 dt=1 s s",
-        b"open 0 p",
-        b"open 01 p",
         b"open 4294967296 p",
-        b"open 1",
-        b"open 1 p q",
-        b"open 1 p from=-",
-        b"open 1 p from=- to=- x",
         b"read 1 0",
-        b"read 0 1",
-        b"read 1",
-        b"close 0",
-        b"close",
-        b"flush now",
-        b"flush step",
         b"flush step 0",
-        b"flush begin 1",
-        b"evict 0",
-        b"compact -1",
-        b"clean x",
-        b"stats 1",
-        b"walk",
-        b"Insert p 1 ts=1",
-        b"schema",
-        b"schema ck=int static=s cols=a,b ",
         b"schema ck=int static=s cols=s",
     ];
     for line in lines {
@@ -114,24 +52,12 @@ fn refuses_other_bad_lines(rt: HostRuntime) -> Result<(), Fail> {
 #[test]
 fn refuses_wrong_keys_first(rt: HostRuntime) -> Result<(), Fail> {
     let schema = schema_of(rt.alloc(), INTS)?;
-    let table: [(&[u8], &[u8]); 18] = [
+    let table: [(&[u8], &[u8]); 6] = [
         (b"insert p x ts=1 c=1", b"WrongKey"),
-        (b"insert p 1,2 ts=1", b"WrongKey"),
-        (b"insert p 1,2,3,4,5 ts=1", b"WrongKey"),
-        (b"insert p '' ts=1", b"WrongKey"),
         (b"insert p -0 ts=1", b"WrongKey"),
-        (b"insert p 007 ts=1", b"WrongKey"),
-        (b"insert p 9223372036854775808 ts=1", b"WrongKey"),
         (b"insert p -9223372036854775809 ts=1", b"WrongKey"),
-        (b"delrange p from=[3 to=1] ts=1 dt=1", b"WrongKey"),
         (b"delrange p from=(1 to=1] ts=1 dt=1", b"WrongKey"),
-        (b"delrange p from=[1,2 to=- ts=1 dt=1", b"WrongKey"),
-        (b"open 1 p from=[2 to=2)", b"WrongKey"),
-        (b"open 1 p from=- to=x)", b"WrongKey"),
-        (b"insert p 1 ts=1 c=1", b"UnknownColumn"),
         (b"insert p 1 ts=1 s=1", b"UnknownColumn"),
-        (b"unset p 1 ts=1 dt=1 a zz_9", b"UnknownColumn"),
-        (b"static p ts=1 a=1", b"UnknownColumn"),
         (b"unstatic p ts=1 dt=1 s a", b"UnknownColumn"),
     ];
     for (line, wanted) in table {
@@ -161,15 +87,10 @@ fn is_refused(
 #[test]
 fn keeps_the_limits(rt: HostRuntime) -> Result<(), Fail> {
     let schema = schema_of(rt.alloc(), b"ck=text static=s cols=a,b")?;
-    let table: [(&[u8], usize, &[u8], &[u8]); 9] = [
-        (b"open 1 ", 64, b"", b"TooLong"),
+    let table: [(&[u8], usize, &[u8], &[u8]); 4] = [
         (b"insert ", 64, b" 1 ts=1", b"TooLong"),
-        (b"insert p ", 64, b" ts=1", b"TooLong"),
         (b"delrange p from=[", 64, b" to=- ts=1 dt=1", b"TooLong"),
-        (b"open 1 p from=- to=", 64, b"]", b"TooLong"),
-        (b"insert p 1 ts=1 b=", 256, b" a=1", b"TooLong"),
         (b"static p ts=1 s=", 256, b"", b"TooLong"),
-        (b"#", 65_535, b"", b"BadLine"),
         (b"insert p 1 ts=1 a=", 65_518, b"", b"BadLine"),
     ];
     for (before, most, after, refusal) in table {
@@ -188,11 +109,9 @@ fn keeps_the_limits(rt: HostRuntime) -> Result<(), Fail> {
 #[test]
 fn tries_lengths_last(rt: HostRuntime) -> Result<(), Fail> {
     let schema = schema_of(rt.alloc(), INTS)?;
-    let table: [(&[u8], &[u8], &[u8]); 4] = [
+    let table: [(&[u8], &[u8], &[u8]); 2] = [
         (b"insert ", b" 1,2 ts=1 c=1", b"WrongKey"),
-        (b"insert ", b" 1 ts=1 c=1", b"UnknownColumn"),
         (b"insert p 1 ts=1 c=", b"", b"UnknownColumn"),
-        (b"open 1 ", b" from=[2 to=1]", b"WrongKey"),
     ];
     for (before, after, refusal) in table {
         assert!(rt;

@@ -19,10 +19,8 @@ fn printed(alloc: Global, schema: &Schema, reply: &Reply) -> Result<Vec<u8>, All
 #[test]
 fn prints_short_replies(rt: HostRuntime) -> Result<(), Fail> {
     let schema = Schema::read(rt.alloc(), b"ck=int static=s cols=a,b")?;
-    let table: [(Reply, &[u8]); 5] = [
+    let table: [(Reply, &[u8]); 3] = [
         (Reply::Nothing, b"> "),
-        (Reply::Fine, b"> ok\n"),
-        (Reply::Going, b"> going\n"),
         (Reply::Done, b"> done\n"),
         (Reply::Refused(Refusal::NoReader), b"> ? no reader\n"),
     ];
@@ -34,22 +32,9 @@ fn prints_short_replies(rt: HostRuntime) -> Result<(), Fail> {
 
 #[test]
 fn prints_refusals(rt: HostRuntime) -> Result<(), Fail> {
-    let table: [(Refusal, &[u8]); 17] = [
+    let table: [(Refusal, &[u8]); 3] = [
         (Refusal::BadLine, b"? bad line\n"),
-        (Refusal::NoSchema, b"? no schema\n"),
-        (Refusal::SchemaDiffers, b"? schema differs\n"),
-        (Refusal::WrongKey, b"? wrong key\n"),
-        (Refusal::UnknownColumn, b"? unknown column\n"),
-        (Refusal::TooLong, b"? too long\n"),
-        (Refusal::NoReader, b"? no reader\n"),
-        (Refusal::ReaderInUse, b"? reader in use\n"),
         (Refusal::TooManyReaders, b"? too many readers\n"),
-        (Refusal::FlushInProgress, b"? flush in progress\n"),
-        (Refusal::NothingToFlush, b"? nothing to flush\n"),
-        (Refusal::NoFlush, b"? no flush\n"),
-        (Refusal::Full, b"? full\n"),
-        (Refusal::ReadFault, b"? read fault\n"),
-        (Refusal::WriteFault, b"? write fault\n"),
         (
             Refusal::Damaged {
                 file: 4_294_967_295,
@@ -57,7 +42,6 @@ fn prints_refusals(rt: HostRuntime) -> Result<(), Fail> {
             },
             b"? damaged 4294967295 at 18446744073709551615\n",
         ),
-        (Refusal::NoNumber, b"? no number\n"),
     ];
     for (refusal, wanted) in table {
         let mut out = Vec::new(rt.alloc());

@@ -1,58 +1,110 @@
-//! Units of an update and of the cleaner on a whole chain: each keeps its continuity.
+//! Units of an update and of the cleaner on a whole chain: what each keeps.
 
 ghost use Rattle.std.specs.declared.cmp.Ordering.TheVariants.{Less};
-ghost use Rattle.std.specs.Prelude.{◌≡◌, ◌++◌, ◌∷◌, [], ℕ, List, None, Option, Some, length, true};
+ghost use Rattle.std.specs.Prelude.{◌≡◌, ◌<◌, ◌++◌, ◌∷◌, [], Bool, ℕ, List, None, Option, Some, length, option_map, suc, true};
 ghost use Rattle.rc_cell.specs.declared.writes.Tomb.{Tomb};
-ghost use Rattle.rc_position.specs.Position.{End, Head, Place, place_cmp};
+ghost use Rattle.rc_position.specs.declared.positions.Pos.{Pos};
+ghost use Rattle.rc_position.specs.Position.{Head, Place, place_cmp};
 ghost use Rattle.rc_mutation.specs.declared.fragments.Frag.{Frag};
 ghost use Rattle.rc_mutation.specs.declared.fragments.Frag.TheVariants.{Start};
 ghost use Rattle.rc_mutation.specs.declared.mutations.Mutation.{Mutation};
+ghost use Rattle.rc_mutation.specs.Source.{SameSource};
 ghost use Rattle.rc_core.specs.declared.entries.ChainKind.TheVariants.{Cache};
 ghost use Rattle.rc_core.specs.Version.{IsVersion, Version};
-ghost use Rattle.rc_core.specs.Chains.{Chain, IsChainContinuous};
-ghost use Rattle.rc_core.specs.Merge.{new_version};
-ghost use Rattle.rc_units.specs.Chained.{PinsBelow, chain_left, detached, with_update};
+ghost use Rattle.rc_core.specs.Chains.{Chain, IsChainContinuous, IsMemtableChain, IsNeeded, upto, with_versions};
+ghost use Rattle.rc_core.specs.Merge.{IsSeenAlike, new_version};
+ghost use Rattle.rc_core.specs.StandsFor.{StandsFor};
+ghost use Rattle.rc_core.specs.Steps.{IsCarriedIn, IsChain, pin_at, with_updating};
+ghost use Rattle.rc_units.specs.Chained.{Counts, IsKnownAsBefore, chain_left, number_left, pins_left, units_counted};
 ghost use Rattle.rc_units.specs.Clean.{MayMerge, cleaned, cleaned_without_room};
-ghost use Rattle.rc_units.specs.Update.{IsCut, IsSilentFrom, IsStretch, lost_from, place_of, updated};
+ghost use Rattle.rc_units.specs.Update.{IsFragmentOf, lost_from, place_of, updated};
 
-/// The begin of an update keeps the continuity of the whole chain: the unit of the start, over an attached chain that is not under update.
+/// The unit of the start, over an attached chain that is not under update, keeps the whole chain continuous, and carries what was carried. What the new
+/// phase says counts by its source.
 pub fn an_update_begins_on_the_whole_chain()
-    ensures { (below : ℕ → List Mutation) (change : Mutation) (c : Chain) (front : List Version) (u : Version) (phase : ℕ) (pt : Option Tomb) (next : Place) →
-        c.versions ≡ front ++ u ∷ [] → below phase ≡ below u.phase ++ change ∷ [] → c.attached ≡ true → c.updating ≡ None → PinsBelow (length (front ++ u ∷ [])) c.pins →
-        IsStretch change None (Start pt) next → IsChainContinuous below c →
-        IsChainContinuous below (with_update ((front ++ u ∷ []) ++ updated None (Start pt) next (new_version None phase) ∷ []) (Some next) c) }
+    ensures chain { (below : ℕ → List Mutation) (change : Mutation) (c : Chain) (front : List Version) (under : Version) (phase : ℕ) → c.versions ≡ front ++ under ∷ [] →
+        IsChain c → c.attached ≡ true → c.updating ≡ None → SameSource (below under.phase ++ change ∷ []) (below phase) → IsChainContinuous below c →
+        (pt : Option Tomb) (next : Place) → IsFragmentOf change None (Start pt) next →
+        IsChainContinuous below (with_updating (Some next) (with_versions (front ++ under ∷ updated None (Start pt) next (new_version None phase) ∷ []) c)) }
+    ensures form { (below : ℕ → List Mutation) (change : Mutation) (c : Chain) (front : List Version) (under : Version) (phase : ℕ) → c.versions ≡ front ++ under ∷ [] →
+        IsChain c → c.attached ≡ true → c.updating ≡ None → SameSource (below under.phase ++ change ∷ []) (below phase) → IsChainContinuous below c →
+        (pt : Option Tomb) (next : Place) → IsFragmentOf change None (Start pt) next →
+        IsChain (with_updating (Some next) (with_versions (front ++ under ∷ updated None (Start pt) next (new_version None phase) ∷ []) c)) }
+    ensures carried { (below : ℕ → List Mutation) (change : Mutation) (c : Chain) (front : List Version) (under : Version) (phase : ℕ) → c.versions ≡ front ++ under ∷ [] →
+        IsChain c → c.attached ≡ true → c.updating ≡ None → SameSource (below under.phase ++ change ∷ []) (below phase) → IsChainContinuous below c →
+        (pt : Option Tomb) (next : Place) → IsFragmentOf change None (Start pt) next → (x : Pos) → IsCarriedIn c x →
+        IsCarriedIn (with_updating (Some next) (with_versions (front ++ under ∷ updated None (Start pt) next (new_version None phase) ∷ []) c)) x }
 {}
 
-/// A unit with room keeps the continuity of the whole chain, where nobody pins the version under update.
+/// A unit with room goes from the place of its fragment to the next one's: the whole chain stays continuous, and what was carried is carried.
 pub fn a_unit_with_room_keeps_the_whole_chain()
-    ensures { (below : ℕ → List Mutation) (change : Mutation) (c : Chain) (front : List Version) (u v : Version) (force : Option Tomb) (f : Frag) (next : Place) →
-        c.versions ≡ (front ++ u ∷ []) ++ v ∷ [] → below v.phase ≡ below u.phase ++ change ∷ [] → c.attached ≡ true → PinsBelow (length (front ++ u ∷ [])) c.pins →
-        c.updating ≡ Some (place_of f) → IsVersion v → IsSilentFrom (place_of f) v → IsStretch change force f next →
-        IsChainContinuous below c → IsChainContinuous below (with_update ((front ++ u ∷ []) ++ updated force f next v ∷ []) (Some next) c) }
+    ensures chain { (below : ℕ → List Mutation) (change : Mutation) (c : Chain) (front : List Version) (under v : Version) → c.versions ≡ front ++ under ∷ v ∷ [] → IsChain c →
+        (force : Option Tomb) (f : Frag) (next : Place) → c.updating ≡ Some (place_of f) → IsFragmentOf change force f next → c.attached ≡ true →
+        SameSource (below under.phase ++ change ∷ []) (below v.phase) → IsChainContinuous below c →
+        IsChainContinuous below (with_updating (Some next) (with_versions (front ++ under ∷ updated force f next v ∷ []) c)) }
+    ensures form { (below : ℕ → List Mutation) (change : Mutation) (c : Chain) (front : List Version) (under v : Version) → c.versions ≡ front ++ under ∷ v ∷ [] → IsChain c →
+        (force : Option Tomb) (f : Frag) (next : Place) → c.updating ≡ Some (place_of f) → IsFragmentOf change force f next →
+        IsChain (with_updating (Some next) (with_versions (front ++ under ∷ updated force f next v ∷ []) c)) }
+    ensures carried { (below : ℕ → List Mutation) (change : Mutation) (c : Chain) (front : List Version) (under v : Version) → c.versions ≡ front ++ under ∷ v ∷ [] → IsChain c →
+        (force : Option Tomb) (f : Frag) (next : Place) → c.updating ≡ Some (place_of f) → IsFragmentOf change force f next → IsChainContinuous below c →
+        (x : Pos) → IsCarriedIn c x → IsCarriedIn (with_updating (Some next) (with_versions (front ++ under ∷ updated force f next v ∷ []) c)) x }
 {}
 
-/// The end of an update keeps the continuity of the whole chain.
-pub fn an_update_ends_on_the_whole_chain()
-    ensures { (below : ℕ → List Mutation) (change : Mutation) (c : Chain) (front : List Version) (u v : Version) →
-        c.versions ≡ (front ++ u ∷ []) ++ v ∷ [] → below v.phase ≡ below u.phase ++ change ∷ [] → c.attached ≡ true → PinsBelow (length (front ++ u ∷ [])) c.pins →
-        c.updating ≡ Some End → IsChainContinuous below c → IsChainContinuous below (with_update ((front ++ u ∷ []) ++ v ∷ []) None c) }
-{}
-
-/// A unit without room keeps the continuity of the whole chain: from the place on everything is lost and the chain is no longer under update, or at
-/// the head the chain is detached.
+/// A unit without room, its place behind the head, loses everything from the place on: the chain is no longer under update, and stays continuous.
 pub fn a_unit_without_room_keeps_the_whole_chain()
-    ensures lost { (below : ℕ → List Mutation) (change : Mutation) (c : Chain) (front : List Version) (u v : Version) (p : Place) →
-        c.versions ≡ (front ++ u ∷ []) ++ v ∷ [] → below v.phase ≡ below u.phase ++ change ∷ [] → c.attached ≡ true → PinsBelow (length (front ++ u ∷ [])) c.pins →
-        c.updating ≡ Some p → place_cmp Head p ≡ Less → IsVersion v → IsSilentFrom p v → IsCut p v.entries →
-        IsChainContinuous below c → IsChainContinuous below (with_update ((front ++ u ∷ []) ++ lost_from p v ∷ []) None c) }
-    ensures detached { (below : ℕ → List Mutation) (c : Chain) → c.updating ≡ None → IsChainContinuous below c → IsChainContinuous below (detached c) }
+    ensures chain { (below : ℕ → List Mutation) (c : Chain) (older : List Version) (v : Version) → c.versions ≡ older ++ v ∷ [] → IsChain c → (p : Place) →
+        c.attached ≡ true → c.updating ≡ Some p → place_cmp Head p ≡ Less → IsChainContinuous below c →
+        IsChainContinuous below (with_updating None (with_versions (older ++ lost_from p v ∷ []) c)) }
+    ensures form { (below : ℕ → List Mutation) (c : Chain) (older : List Version) (v : Version) → c.versions ≡ older ++ v ∷ [] → IsChain c → (p : Place) →
+        IsChain (with_updating None (with_versions (older ++ lost_from p v ∷ []) c)) }
 {}
 
-/// A unit of the cleaner keeps the continuity of the whole chain, on a version that nobody pins, that is not the newest, and not the one below the newest of
-/// a chain under update; with room, and without it on a cache's chain. A version that is dropped takes its number with it.
+/// A unit of the cleaner with room, on a version that may be merged, keeps all that is said of a chain: that it is one, its continuity, what is carried, the form of
+/// a memtable's chain and the writes that it stands for.
 pub fn a_unit_of_the_cleaner_keeps_the_whole_chain()
-    ensures with_room { (below : ℕ → List Mutation) (c : Chain) (front back : List Version) (v w : Version) → c.versions ≡ front ++ v ∷ w ∷ back → MayMerge c (length front) →
-        IsVersion v → IsVersion w → IsChainContinuous below c → IsChainContinuous below (chain_left front (cleaned v w) back c) }
-    ensures without_room { (below : ℕ → List Mutation) (c : Chain) (front back : List Version) (v w : Version) → c.versions ≡ front ++ v ∷ w ∷ back → MayMerge c (length front) →
-        IsVersion v → IsVersion w → IsChainContinuous below c → IsChainContinuous below (chain_left front (cleaned_without_room Cache v w) back c) }
+    ensures chain { (c : Chain) (front back : List Version) (v w : Version) → c.versions ≡ front ++ v ∷ w ∷ back → MayMerge c (length front) → IsVersion v → IsVersion w →
+        (below : ℕ → List Mutation) → IsChainContinuous below c → IsChainContinuous below (chain_left front (cleaned v w) back c) }
+    ensures form { (c : Chain) (front back : List Version) (v w : Version) → c.versions ≡ front ++ v ∷ w ∷ back → MayMerge c (length front) → IsVersion v → IsVersion w →
+        IsChain c → IsChain (chain_left front (cleaned v w) back c) }
+    ensures carried { (c : Chain) (front back : List Version) (v w : Version) → c.versions ≡ front ++ v ∷ w ∷ back → MayMerge c (length front) → IsVersion v → IsVersion w →
+        (x : Pos) → IsCarriedIn c x → IsCarriedIn (chain_left front (cleaned v w) back c) x }
+    ensures memtable { (c : Chain) (front back : List Version) (v w : Version) → c.versions ≡ front ++ v ∷ w ∷ back → MayMerge c (length front) → IsVersion v → IsVersion w →
+        IsMemtableChain c → IsMemtableChain (chain_left front (cleaned v w) back c) }
+    ensures stands { (c : Chain) (front back : List Version) (v w : Version) → c.versions ≡ front ++ v ∷ w ∷ back → MayMerge c (length front) → IsVersion v → IsVersion w →
+        (writes : List Mutation) → StandsFor writes c.versions → StandsFor writes (chain_left front (cleaned v w) back c).versions }
+{}
+
+/// After a unit of the cleaner with room the same is seen at each version that is needed, under the number that it has then, and it is needed still. A
+/// snapshot's own number stays: it pins the same version.
+pub fn a_unit_of_the_cleaner_changes_nothing_that_is_read()
+    ensures seen { (c : Chain) (front back : List Version) (v w : Version) → c.versions ≡ front ++ v ∷ w ∷ back → MayMerge c (length front) → IsVersion v → IsVersion w →
+        (j : ℕ) → IsNeeded c j → IsSeenAlike (upto c.versions j) (upto (chain_left front (cleaned v w) back c).versions (number_left (cleaned v w) (length front) j)) }
+    ensures needed { (c : Chain) (front back : List Version) (v w : Version) → c.versions ≡ front ++ v ∷ w ∷ back → MayMerge c (length front) → IsVersion v → IsVersion w →
+        (j : ℕ) → IsNeeded c j → IsNeeded (chain_left front (cleaned v w) back c) (number_left (cleaned v w) (length front) j) }
+    ensures pins { (left : List Version) (n i : ℕ) (pins : List (Option ℕ)) → pin_at (pins_left left n pins) i ≡ option_map (number_left left n) (pin_at pins i) }
+{}
+
+/// Without room a unit of the cleaner on a cache chain keeps it a chain and continuous; at each version that is needed what is known then was known before with the
+/// same content, and the head stays.
+pub fn a_unit_of_the_cleaner_without_room_keeps_the_whole_chain()
+    ensures chain { (c : Chain) (front back : List Version) (v w : Version) → c.versions ≡ front ++ v ∷ w ∷ back → MayMerge c (length front) → IsVersion v → IsVersion w →
+        (below : ℕ → List Mutation) → IsChainContinuous below c → IsChainContinuous below (chain_left front (cleaned_without_room Cache v w) back c) }
+    ensures form { (c : Chain) (front back : List Version) (v w : Version) → c.versions ≡ front ++ v ∷ w ∷ back → MayMerge c (length front) → IsVersion v → IsVersion w →
+        IsChain c → IsChain (chain_left front (cleaned_without_room Cache v w) back c) }
+    ensures known { (c : Chain) (front back : List Version) (v w : Version) → c.versions ≡ front ++ v ∷ w ∷ back → MayMerge c (length front) → IsVersion v → IsVersion w →
+        (j : ℕ) → IsNeeded c j →
+        IsKnownAsBefore (upto c.versions j) (upto (chain_left front (cleaned_without_room Cache v w) back c).versions (number_left (cleaned_without_room Cache v w) (length front) j)) }
+    ensures needed { (c : Chain) (front back : List Version) (v w : Version) → c.versions ≡ front ++ v ∷ w ∷ back → MayMerge c (length front) → IsVersion v → IsVersion w →
+        (j : ℕ) → IsNeeded c j → IsNeeded (chain_left front (cleaned_without_room Cache v w) back c) (number_left (cleaned_without_room Cache v w) (length front) j) }
+{}
+
+/// Cleaning ends: where the newest version of a run that counts is merged, as the next newer one may not be, fewer objects count after the unit, with room and
+/// without it on a cache chain. What the newer version took from it does not count.
+pub fn a_unit_of_the_cleaner_leaves_less()
+    ensures with_room { (c : Chain) (front back : List Version) (v w : Version) → c.versions ≡ front ++ v ∷ w ∷ back → MayMerge c (length front) → (MayMerge c (suc (length front)) → ⊥) →
+        (counts : ℕ → Bool) → Counts c counts → IsVersion v → (after : ℕ → Bool) → Counts (chain_left front (cleaned v w) back c) after →
+        units_counted after (chain_left front (cleaned v w) back c).versions < units_counted counts c.versions }
+    ensures without_room { (c : Chain) (front back : List Version) (v w : Version) → c.versions ≡ front ++ v ∷ w ∷ back → MayMerge c (length front) → (MayMerge c (suc (length front)) → ⊥) →
+        (counts : ℕ → Bool) → Counts c counts → IsVersion v → (after : ℕ → Bool) → Counts (chain_left front (cleaned_without_room Cache v w) back c) after →
+        units_counted after (chain_left front (cleaned_without_room Cache v w) back c).versions < units_counted counts c.versions }
 {}

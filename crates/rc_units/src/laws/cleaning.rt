@@ -1,21 +1,18 @@
 //! What a unit of the cleaner leaves: it changes nothing that is seen, and without room it loses what it takes out.
 
-ghost use Rattle.std.specs.declared.cmp.Ordering.TheVariants.{Less};
-ghost use Rattle.std.specs.Prelude.{◌≡◌, ◌≢◌, ◌++◌, ◌∷◌, [], ℕ, IsTrue, List, None, Option, length};
-ghost use Rattle.rc_position.specs.declared.positions.Pos.{Pos};
-ghost use Rattle.rc_position.specs.Position.{Place};
-ghost use Rattle.rc_mutation.specs.declared.mutations.Mutation.{Mutation};
+ghost use Rattle.std.specs.declared.cmp.Ordering.TheVariants.{Greater, Less};
+ghost use Rattle.std.specs.Prelude.{◌≡◌, ◌≢◌, ◌++◌, ◌∷◌, [], ℕ, List, None, length};
+ghost use Rattle.rc_position.specs.Position.{IsBefore, pos_cmp};
 ghost use Rattle.rc_core.specs.declared.entries.ChainKind.{ChainKind};
-ghost use Rattle.rc_core.specs.declared.entries.ChainKind.TheVariants.{Cache, Memtable};
+ghost use Rattle.rc_core.specs.declared.entries.ChainKind.TheVariants.{Memtable};
 ghost use Rattle.rc_core.specs.declared.entries.Entry.{Entry};
 ghost use Rattle.rc_core.specs.Cell.{under};
 ghost use Rattle.rc_core.specs.Version.{Ascend, EndsWithDummy, Found, IsVersion, Spot, Version, cell_of, found, seen, spot_cmp};
-ghost use Rattle.rc_core.specs.Chain.{IsEvenAt, cells, content, flagged};
 ghost use Rattle.rc_core.specs.Change.{lose_first_gap, lost_mark};
-ghost use Rattle.rc_core.specs.Chains.{AllInherit, IsCarried};
-ghost use Rattle.rc_core.specs.Continuity.{EachOf, IsContinuous, with_entries};
+ghost use Rattle.rc_core.specs.Continuity.{EachOf, with_entries};
 ghost use Rattle.rc_core.specs.Merge.{Alike, IsMerged, IsSeenAlike, IsSilent};
-ghost use Rattle.rc_units.specs.Clean.{clean_times, cleaned, cleaned_without_room, emptied, end_merged, found_under, gap_said, merge_entry, no_mark, statics_onto, statics_said, units_of};
+ghost use Rattle.rc_units.specs.Clean.{clean_times, cleaned, cleaned_without_room, emptied, end_merged, entry_onto, gap_said, merge_entry, statics_onto, statics_said, units_of};
+ghost use Rattle.rc_core.specs.Plain.{found_under, no_mark};
 
 /// What two versions say of a spot, the older one's put under the newer one's, says what is seen through both.
 pub fn one_cell_goes_under_another()
@@ -47,23 +44,19 @@ pub fn a_unit_leaves_versions()
     ensures { (v w : Version) → IsVersion v → IsVersion w → EachOf IsVersion (cleaned v w) }
 {}
 
-/// A unit changes nothing that is seen through any newer version, and what was carried is carried.
+/// A unit changes nothing that is seen through any newer version.
 pub fn a_unit_changes_nothing()
-    ensures seen { (front back : List Version) (v w : Version) → IsVersion v → IsVersion w →
+    ensures { (front back : List Version) (v w : Version) → IsVersion v → IsVersion w →
         IsSeenAlike (front ++ v ∷ w ∷ back) (front ++ (cleaned v w ++ back)) }
-    ensures carried { (updating : Option Place) (front mid back : List Version) (v w : Version) (x : Pos) → IsVersion v → IsVersion w →
-        IsCarried updating (front ++ v ∷ w ∷ mid) (front ++ v ∷ w ∷ back) x → IsCarried updating (front ++ (cleaned v w ++ mid)) (front ++ (cleaned v w ++ back)) x }
 {}
 
-/// A unit keeps the continuity of the newer of both versions and of each above it; and of a memtable's chain that all flags are Inherit, and
-/// that tombstones are even.
-pub fn a_unit_keeps_continuity()
-    ensures cache { (reach : Option Place) (writes : List Mutation) (front back : List Version) (v w : Version) → IsVersion v → IsVersion w →
-        IsContinuous reach writes (front ++ v ∷ w ∷ back) → IsContinuous reach writes (front ++ (cleaned v w ++ back)) }
-    ensures flags { (front back : List Version) (v w : Version) → IsVersion v → IsVersion w →
-        EachOf AllInherit (front ++ v ∷ w ∷ back) → EachOf AllInherit (front ++ (cleaned v w ++ back)) }
-    ensures even { (kind : ChainKind) (front back : List Version) (v w : Version) (x : Pos) → IsVersion v → IsVersion w →
-        IsEvenAt kind (front ++ v ∷ w ∷ back) x → IsEvenAt kind (front ++ (cleaned v w ++ back)) x }
+/// A gap that says nothing changes nothing: no entry of the newer version before a merged entry whose gap says nothing, none between it and its successor where
+/// the successor's gap says nothing, and none behind the successor. So a merge walks no further than it must.
+pub fn a_gap_that_says_nothing_changes_nothing()
+    ensures spot { (newer : Found) → found_under (found no_mark None) newer ≡ newer }
+    ensures before { (e n y : Entry) → e.gap ≡ no_mark → pos_cmp y.position e.position ≡ Less → entry_onto e n y ≡ y }
+    ensures between { (e n y : Entry) → n.gap ≡ no_mark → pos_cmp y.position e.position ≡ Greater → entry_onto e n y ≡ y }
+    ensures behind { (e n y : Entry) → IsBefore e.position n.position → pos_cmp y.position n.position ≡ Greater → entry_onto e n y ≡ y }
 {}
 
 /// After a unit for the static row, if there is one, and one for each entry the older version is dropped, and nothing that is seen has changed;
@@ -74,15 +67,9 @@ pub fn a_whole_merge_drops_the_older_version()
         IsSeenAlike (front ++ v ∷ w ∷ back) (front ++ (clean_times n v w ++ back)) }
 {}
 
-/// Without room a memtable stays as it is. Of a cache what lies around the first entry is lost; what is known then was known before with the
-/// same content, and continuity is kept.
+/// Without room a memtable stays as it is. Of a cache what lies around the first entry is lost.
 pub fn without_room_a_unit_loses_what_it_takes_out()
     ensures memtable { (v w : Version) → cleaned_without_room Memtable v w ≡ v ∷ w ∷ [] }
     ensures lost { (s : Spot) (n : Entry) (back : List Entry) → spot_cmp s n.position ≡ Less → seen s (lose_first_gap (n ∷ back)) ≡ found lost_mark None }
-    ensures known { (kind : ChainKind) (front back : List Version) (v w : Version) → IsVersion v → IsVersion w → (s : Spot) →
-        IsTrue (flagged Cache (cells s (front ++ (cleaned_without_room kind v w ++ back)))) →
-        IsTrue (flagged Cache (cells s (front ++ v ∷ w ∷ back))) × (content (cells s (front ++ (cleaned_without_room kind v w ++ back))) ≡ content (cells s (front ++ v ∷ w ∷ back))) }
-    ensures kept { (kind : ChainKind) (reach : Option Place) (writes : List Mutation) (front back : List Version) (v w : Version) → IsVersion v → IsVersion w →
-        IsContinuous reach writes (front ++ v ∷ w ∷ back) → IsContinuous reach writes (front ++ (cleaned_without_room kind v w ++ back)) }
     ensures versions { (kind : ChainKind) (v w : Version) → IsVersion v → IsVersion w → EachOf IsVersion (cleaned_without_room kind v w) }
 {}

@@ -1,4 +1,4 @@
-use Rattle.lsa_list.proofs.Lists.{list-freed}
+use Rattle.lsa_list.specs.laws.Lists.{list-freed}
 use Rattle.lsa_list.proofs.laws.a_list_stays_where_an_object_is_freed.Goals as goal
 
 pub returns : goal.returns

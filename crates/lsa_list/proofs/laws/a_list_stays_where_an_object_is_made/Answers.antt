@@ -1,4 +1,4 @@
-use Rattle.lsa_list.proofs.Lists.{list-added}
+use Rattle.lsa_list.specs.laws.Lists.{list-added}
 use Rattle.lsa_list.proofs.laws.a_list_stays_where_an_object_is_made.Goals as goal
 
 pub returns : goal.returns

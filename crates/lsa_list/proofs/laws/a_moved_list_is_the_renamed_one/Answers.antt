@@ -1,4 +1,4 @@
-use Rattle.lsa_list.proofs.Lists.{list-renamed}
+use Rattle.lsa_list.specs.laws.Lists.{list-renamed}
 use Rattle.lsa_list.proofs.laws.a_moved_list_is_the_renamed_one.Goals as goal
 
 pub returns : goal.returns

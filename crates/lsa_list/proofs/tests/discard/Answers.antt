@@ -1,5 +1,5 @@
 use Rattle.std.proofs.Common.{IsSome, ◌++◌, sym, subst, arith}
-use Rattle.lsa_list.proofs.Lists.{list-freed}
+use Rattle.lsa_list.specs.laws.Lists.{list-freed}
 use Rattle.lsa_list.proofs.Walks.{one-there}
 use Rattle.lsa_list.proofs.tests.discard.Goals as goal
 

@@ -1,7 +1,7 @@
 use Rattle.std.proofs.Common.{inl, inr, arith}
 use Rattle.std.proofs.lemmas.Bool.{cases_lt}
 use Rattle.lsa_region.specs.declared.end.End.TheVariants.{Obj}
-use Rattle.lsa_region.proofs.Regions.{no-end, few-links}
+use Rattle.lsa_region.specs.laws.Ends.{no-end, few-links}
 use Rattle.lsa_list.proofs.tests.is_loose.Goals as goal
 
 pub returns : goal.returns

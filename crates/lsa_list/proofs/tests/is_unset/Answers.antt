@@ -1,7 +1,7 @@
 use Rattle.std.proofs.Common.{arith}
 use Rattle.lsa_region.specs.declared.end.End.TheVariants.{Obj}
 use Rattle.lsa_region.specs.Region.{body}
-use Rattle.lsa_region.proofs.Regions.{no-end}
+use Rattle.lsa_region.specs.laws.Ends.{no-end}
 use Rattle.lsa_list.proofs.Walks.{past}
 use Rattle.lsa_list.proofs.tests.is_unset.Goals as goal
 

@@ -1,4 +1,5 @@
-use Rattle.std.proofs.Common.{sym, subst, ◌∙◌, arith}
+use Rattle.std.proofs.Common.{sym, subst, ◌∙◌, ◌<◌, arith}
+use Rattle.lsa_pool.specs.Room.{spare_of}
 use Rattle.lsa_region.specs.Layout.{sparse_of}
 use Rattle.lsa_region.specs.Region.{View}
 use Rattle.lsa_move.specs.Room.{Tight}
@@ -55,3 +56,25 @@ returns-then-not-compact_one-clause-moved g c =
 
 pub returns-clause-moved : goal.returns-clause-moved
 returns-clause-moved g c = made-moved g.row.S c.args.need c.args.region.now c.loop-region.region (omega (arith, c.moved.ensures, c.moved.type_inv)) c.loop-region.invariant
+
+pub returns-then-not-compact_one-clause-ready : goal.returns-then-not-compact_one-clause-ready
+returns-then-not-compact_one-clause-ready g c = λ e. cc
+
+pub returns-then-not-compact_one-clause-full : goal.returns-then-not-compact_one-clause-full
+returns-then-not-compact_one-clause-full g c = λ _.
+    subst (λ (v : View). spare_of g.row.S v.usages < c.args.need) (sym (c.compact_one.ensures.same c.if-not-compact_one.true)) (omega (arith, c.loop-region-test.true, c.spare.ensures))
+
+pub returns-then-not-compact_one-clause-idle : goal.returns-then-not-compact_one-clause-idle
+returns-then-not-compact_one-clause-idle g c = (subst (λ v. IsMakingRoom g.row.S c.args.need c.args.region.now v) (sym (c.compact_one.ensures.same c.if-not-compact_one.true)) c.loop-region.invariant).idle
+
+pub returns-clause-ready : goal.returns-clause-ready
+returns-clause-ready g c = λ _. omega (arith, c.loop-region-test.false, c.spare.ensures)
+
+pub returns-clause-full : goal.returns-clause-full
+returns-clause-full g c = λ e. cc
+
+pub returns-clause-tight : goal.returns-clause-tight
+returns-clause-tight g c = λ e. cc
+
+pub returns-clause-idle : goal.returns-clause-idle
+returns-clause-idle g c = c.loop-region.invariant.idle

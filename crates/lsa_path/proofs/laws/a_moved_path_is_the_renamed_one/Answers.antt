@@ -1,6 +1,8 @@
-use Rattle.lsa_region.specs.declared.end.End.TheVariants.{Slot}
-use Rattle.lsa_path.proofs.Renamed.{path-renamed}
+use Rattle.lsa_path.specs.laws.Renamed.{path-renamed, end-live}
 use Rattle.lsa_path.proofs.laws.a_moved_path_is_the_renamed_one.Goals as goal
 
-pub returns : goal.returns
-returns c = λ old new names i o start refs f renamed well p. path-renamed old new names renamed well i o (Slot start) refs f tt p
+pub returns-clause-moved : goal.returns-clause-moved
+returns-clause-moved c = λ old new names i o start refs f renamed well live p. path-renamed old new names renamed well i o start refs f live p
+
+pub returns-clause-there : goal.returns-clause-there
+returns-clause-there c = λ v e h. end-live v e h

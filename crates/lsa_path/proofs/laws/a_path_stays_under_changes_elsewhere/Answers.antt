@@ -1,4 +1,4 @@
-use Rattle.lsa_path.proofs.Paths.{path-same}
+use Rattle.lsa_path.specs.laws.Paths.{path-same}
 use Rattle.lsa_path.proofs.laws.a_path_stays_under_changes_elsewhere.Goals as goal
 
 pub returns : goal.returns

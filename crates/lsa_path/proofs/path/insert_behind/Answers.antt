@@ -1,8 +1,9 @@
 use Rattle.std.proofs.Common.{sym, ◌∙◌, arith}
 use Rattle.lsa_region.specs.declared.end.End.TheVariants.{Obj}
 use Rattle.lsa_region.specs.Region.{link_of}
-use Rattle.lsa_path.proofs.Paths.{path-inserted, same_field}
-use Rattle.lsa_path.proofs.Steps.{first-unset, second-unset, mate-unset, mate-differs, inserted-between, inserted-last}
+use Rattle.lsa_path.specs.laws.Paths.{path-inserted, same_field}
+use Rattle.lsa_path.specs.laws.Beside.{inserted-beside}
+use Rattle.lsa_path.specs.laws.Steps.{first-unset, second-unset, mate-unset, mate-differs, inserted-between, inserted-last}
 use Rattle.lsa_path.proofs.path.insert_behind.Goals as goal
 
 pub link-requires : goal.link-requires
@@ -60,3 +61,9 @@ returns-in-None-clause-inserted g c =
 
 pub returns-in-None-clause-path : goal.returns-in-None-clause-path
 returns-in-None-clause-path g c = λ start xs ys finish out out' p is. path-inserted c.args.toward c.args.onward c.requires.differ (link_of c.args.region.now) c.known.ensures.well.paired (link_of c.link-in-None.new.self) c.args.a c.args.r (returns-in-None-clause-inserted g c) c.requires.first_unset start xs ys finish out out' p is
+
+pub returns-in-Some-clause-beside : goal.returns-in-Some-clause-beside
+returns-in-Some-clause-beside g c = λ start xs ys finish p is e off start_apart finish_apart. inserted-beside c.args.toward c.args.onward (link_of c.args.region.now) e off (link_of c.link-in-Some.new.self) c.args.a c.args.r (returns-in-Some-clause-inserted g c) start xs ys finish start_apart finish_apart p is
+
+pub returns-in-None-clause-beside : goal.returns-in-None-clause-beside
+returns-in-None-clause-beside g c = λ start xs ys finish p is e off start_apart finish_apart. inserted-beside c.args.toward c.args.onward (link_of c.args.region.now) e off (link_of c.link-in-None.new.self) c.args.a c.args.r (returns-in-None-clause-inserted g c) start xs ys finish start_apart finish_apart p is

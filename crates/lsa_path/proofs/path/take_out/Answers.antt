@@ -1,8 +1,9 @@
 use Rattle.std.proofs.Common.{◌≢◌, sym, ◌∙◌, arith}
 use Rattle.lsa_region.specs.declared.end.End.TheVariants.{Obj}
 use Rattle.lsa_region.specs.Region.{link_of}
-use Rattle.lsa_path.proofs.Paths.{path-taken, same_field}
-use Rattle.lsa_path.proofs.Steps.{taken-last, taken-between, before-unset, ends-differ}
+use Rattle.lsa_path.specs.laws.Paths.{path-taken, same_field}
+use Rattle.lsa_path.specs.laws.Beside.{taken-beside}
+use Rattle.lsa_path.specs.laws.Steps.{taken-last, taken-between, before-unset, ends-differ}
 use Rattle.lsa_path.proofs.path.take_out.Goals as goal
 
 pub link-requires : goal.link-requires
@@ -43,3 +44,9 @@ returns-in-None-clause-taken g c =
 
 pub returns-in-None-clause-path : goal.returns-in-None-clause-path
 returns-in-None-clause-path g c = λ start xs ys finish out out' p. path-taken c.args.toward c.args.onward c.requires.differ (link_of c.args.region.now) c.known.ensures.well.paired (link_of c.unlink-mate.new.self) c.args.r (returns-in-None-clause-taken g c) start xs ys finish out out' p
+
+pub returns-in-Some-clause-beside : goal.returns-in-Some-clause-beside
+returns-in-Some-clause-beside g c = λ start xs ys finish p e off start_apart finish_apart. taken-beside c.args.toward c.args.onward (link_of c.args.region.now) e off c.known.ensures.well.paired (link_of c.link.new.self) c.args.r (returns-in-Some-clause-taken g c) start xs ys finish start_apart finish_apart p
+
+pub returns-in-None-clause-beside : goal.returns-in-None-clause-beside
+returns-in-None-clause-beside g c = λ start xs ys finish p e off start_apart finish_apart. taken-beside c.args.toward c.args.onward (link_of c.args.region.now) e off c.known.ensures.well.paired (link_of c.unlink-mate.new.self) c.args.r (returns-in-None-clause-taken g c) start xs ys finish start_apart finish_apart p

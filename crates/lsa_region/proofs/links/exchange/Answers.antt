@@ -1,7 +1,6 @@
-use Rattle.std.proofs.Common.{◌≡◌, ◌≢◌, Option, Some, None, true, false, refl, sym, ap, ◌∙◌, subst}
-use Rattle.lsa_region.specs.declared.end.End.{End}
+use Rattle.std.proofs.Common.{sym, ◌∙◌}
 use Rattle.lsa_region.specs.Ends.{named_by, HasPlace}
-use Rattle.lsa_region.proofs.Exchanges.{exchanged, exchanged-tied, all-some}
+use Rattle.lsa_region.specs.laws.Exchanges.{exchanged, exchanged-tied, all-some}
 use Rattle.lsa_region.proofs.links.exchange.Goals as goal
 
 pub point-requires-clause-second : goal.point-requires-clause-second

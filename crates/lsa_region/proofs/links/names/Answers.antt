@@ -1,7 +1,6 @@
-use Rattle.std.proofs.Common.{◌≡◌, ◌≢◌, Option, Some, None, true, false, refl, sym, ap, ◌∙◌}
-use Rattle.lsa_region.specs.declared.end.End.{End}
+use Rattle.std.proofs.Common.{◌≡◌, Some, true, sym, ap, ◌∙◌}
 use Rattle.lsa_region.specs.Ends.{same_end}
-use Rattle.lsa_region.proofs.Exchanges.{same_equal, same_itself}
+use Rattle.lsa_region.specs.laws.Exchanges.{same_equal, same_itself}
 use Rattle.lsa_region.proofs.links.names.Goals as goal
 
 pub returns-in-Some-clause-yes : goal.returns-in-Some-clause-yes

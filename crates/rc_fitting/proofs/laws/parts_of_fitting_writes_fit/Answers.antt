@@ -1,4 +1,4 @@
-use Rattle.rc_fitting.proofs.Parts.{parts_fit}
+use Rattle.rc_fitting.specs.Laws.Parts.{parts_fit}
 use Rattle.rc_fitting.proofs.laws.parts_of_fitting_writes_fit.Goals as goal
 
 pub returns : goal.returns

@@ -35,4 +35,4 @@ pub returns-then-is_empty : goal.returns-then-is_empty
 returns-then-is_empty c = c.empty.ensures ∙ unwritten c.args.key c.args.row (c.is_empty.ensures.0 c.if-is_empty.true)
 
 pub returns : goal.returns
-returns c = same c.from_slice.result ((c.args.key, c.args.row) ∷ []) (rows_said c.args.key c.args.row) c.from_slice.ensures (written c.args.key c.args.row (λ e. let f = c.is_empty.ensures.1 e in cc))
+returns c = same c.of_one.result ((c.args.key, c.args.row) ∷ []) (rows_said c.args.key c.args.row) c.of_one.ensures (written c.args.key c.args.row (λ e. let f = c.is_empty.ensures.1 e in cc))

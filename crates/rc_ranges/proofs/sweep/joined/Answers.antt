@@ -2,7 +2,7 @@ use Rattle.std.proofs.Common.{◌≡◌, Some, None, sym, ap, ◌∙◌}
 use Rattle.std.specs.Option.{option_copied}
 use Rattle.rc_position.specs.BoundLaws.{first_pos-least}
 use Rattle.rc_ranges.specs.Sweep.{earlier, next_bound}
-use Rattle.rc_ranges.proofs.Order.{gt-lt}
+use Rattle.rc_ranges.specs.Laws.Order.{gt-lt}
 use Rattle.rc_ranges.proofs.Sweeping.{IsSwept-none, IsSwept-more, IsSwept-all, bounds-fall}
 use Rattle.rc_ranges.proofs.sweep.joined.Goals as goal
 

@@ -1,6 +1,6 @@
 -- Reading gives back what was written.
-use Rattle.rc_rowcode.proofs.RowCodec.{row_codec}
-use Rattle.rc_rowcode.proofs.Read.{one_spelling}
+use Rattle.rc_rowcode.specs.Laws.RowCodec.{row_codec}
+use Rattle.rc_rowcode.specs.Laws.Read.{one_spelling}
 use Rattle.rc_rowcode.proofs.laws.one_code_of_a_row.Goals as goal
 
 pub returns : goal.returns

@@ -1,34 +1,43 @@
 -- A command is answered by its reply, and a refused line by its refusal.
-use Rattle.std.proofs.Common.{◌≡◌, ◌++◌, ◌∙◌, ap, subst, Some, Ok, Err}
-use Rattle.rc_lines.proofs.FitsLaws.{commands_fit}
+use Rattle.std.proofs.Common.{◌≡◌, ◌++◌, ◌∙◌, ap, sym, subst, Some, Ok, Err}
+use Rattle.rc_lines.specs.Laws.FitsLaws.{commands_fit}
 use Rattle.rc_lines.specs.Grammar.{parse, Reads}
 use Rattle.rc_lines.specs.Texts.{reply_text}
-use Rattle.rc_shell.specs.Step.{Serving, StandsFor}
-use Rattle.rc_shell.proofs.Staged.{command_answered, command_unanswered, memory_answered, refusal_answered}
+use Rattle.rc_shell.specs.Step.{served}
+use Rattle.rc_shell.proofs.Served.{served_ok}
+use Rattle.rc_shell.proofs.Staged.{command_answered, command_unanswered, left_files, refusal_answered, stopped_answered}
 use Rattle.rc_shell.proofs.late.serve.Goals as goal
 
 pub serve-requires-clause-fits : goal.serve-requires-clause-fits
 serve-requires-clause-fits g c =
-    commands_fit c.args.machine.now.schema c.args.line.now c.in-Ok.command (subst (λ z. parse (Some z) c.args.line.now ≡ Ok c.in-Ok.command) c.schema.ensures c.in-Ok.ensures)
+    commands_fit c.args.machine.now.schema c.args.line.now c.in-Ok.command
+    (served_ok (parse (Some c.args.machine.now.schema) c.args.line.now) c.in-Ok.command (subst (λ z. served (parse (Some z) c.args.line.now) ≡ Ok c.in-Ok.command) c.schema.ensures c.in-Ok.ensures.reads))
 
 pub returns-in_err-print_reply-in-Ok : goal.returns-in_err-print_reply-in-Ok
-returns-in_err-print_reply-in-Ok g c = λ m s.
-    memory_answered (record { stage = Serving m; faults = g.W.Store.faults c.args.store.now }) c.args.line.now (StandsFor (Some c.serve.new.self) (g.W.Store.files c.serve.new.store) (g.W.Store.faults c.serve.new.store))
-    (g.W.Store.files c.serve.new.store, g.W.Store.faults c.serve.new.store) c.args.text.now.items c.print_reply.new.out.items c.from_residual-in_err-print_reply-in-Ok.result c.from_residual-in_err-print_reply-in-Ok.ensures.0
-    (command_unanswered m c.args.machine.now c.serve.new.self (g.W.Store.files c.args.store.now) (g.W.Store.files c.serve.new.store) (g.W.Store.faults c.args.store.now) (g.W.Store.faults c.serve.new.store)
-    c.args.line.now c.in-Ok.command c.in_ok-reply-in-Ok.reply (subst (λ z. parse (Some z) c.args.line.now ≡ Ok c.in-Ok.command) c.schema.ensures c.in-Ok.ensures) s
-    (c.in_ok-reply-in-Ok.ensures.step m s) c.in_ok-reply-in-Ok.ensures.faults.0 c.in_ok-reply-in-Ok.ensures.faults.1)
+returns-in_err-print_reply-in-Ok g c = λ old s.
+    let step = c.in_ok-reply-in-Ok.ensures.step s.0 s.1 in
+    command_unanswered (g.W.Store.files c.args.store.now, g.W.Store.faults c.args.store.now, g.W.Store.asks c.args.store.now) (g.W.Store.files c.serve.new.store, g.W.Store.faults c.serve.new.store, g.W.Store.asks c.serve.new.store)
+    c.args.machine.now c.serve.new.self old c.args.line.now c.in-Ok.command c.in_ok-reply-in-Ok.reply s (subst (λ z. served (parse (Some z) c.args.line.now) ≡ Ok c.in-Ok.command) c.schema.ensures c.in-Ok.ensures.reads)
+    (record { next = step.0; step = step.1; stands = step.2; faults = c.in_ok-reply-in-Ok.ensures.faults.0; faulty = c.in_ok-reply-in-Ok.ensures.faults.1; asks = c.in_ok-reply-in-Ok.ensures.asks })
+    c.args.text.now.items c.print_reply.new.out.items c.from_residual-in_err-print_reply-in-Ok.result c.from_residual-in_err-print_reply-in-Ok.ensures.0
 
 pub returns-in_ok-print_reply-in-Ok : goal.returns-in_ok-print_reply-in-Ok
-returns-in_ok-print_reply-in-Ok g c = λ m s.
-    command_answered m c.args.machine.now c.serve.new.self (g.W.Store.files c.args.store.now) (g.W.Store.files c.serve.new.store) (g.W.Store.faults c.args.store.now) (g.W.Store.faults c.serve.new.store)
-    c.args.line.now c.args.text.now.items c.print_reply.new.out.items c.in-Ok.command c.in_ok-reply-in-Ok.reply
-    (subst (λ z. parse (Some z) c.args.line.now ≡ Ok c.in-Ok.command) c.schema.ensures c.in-Ok.ensures) s
-    (c.in_ok-reply-in-Ok.ensures.step m s) c.in_ok-reply-in-Ok.ensures.faults.0 c.in_ok-reply-in-Ok.ensures.faults.1
-    (c.in_ok-print_reply-in-Ok.ensures.ok ∙ ap (λ z. c.args.text.now.items ++ reply_text z c.in_ok-reply-in-Ok.reply) c.schema-in-Ok.ensures)
+returns-in_ok-print_reply-in-Ok g c = λ old s.
+    let step = c.in_ok-reply-in-Ok.ensures.step s.0 s.1 in
+    command_answered (g.W.Store.files c.args.store.now, g.W.Store.faults c.args.store.now, g.W.Store.asks c.args.store.now) (g.W.Store.files c.serve.new.store, g.W.Store.faults c.serve.new.store, g.W.Store.asks c.serve.new.store)
+    c.args.machine.now c.serve.new.self old c.args.line.now c.in-Ok.command c.in_ok-reply-in-Ok.reply s (subst (λ z. served (parse (Some z) c.args.line.now) ≡ Ok c.in-Ok.command) c.schema.ensures c.in-Ok.ensures.reads)
+    (record { next = step.0; step = step.1; stands = step.2; faults = c.in_ok-reply-in-Ok.ensures.faults.0; faulty = c.in_ok-reply-in-Ok.ensures.faults.1; asks = c.in_ok-reply-in-Ok.ensures.asks })
+    c.args.text.now.items c.print_reply.new.out.items (c.in_ok-print_reply-in-Ok.ensures.ok ∙ ap (λ z. c.args.text.now.items ++ reply_text z c.in_ok-reply-in-Ok.reply) c.schema-in-Ok.ensures)
 
 pub returns-in_ok-print_refusal-in-Err-Refused : goal.returns-in_ok-print_refusal-in-Err-Refused
-returns-in_ok-print_refusal-in-Err-Refused g c = λ m s.
-    refusal_answered m c.args.machine.now (g.W.Store.files c.args.store.now) (g.W.Store.faults c.args.store.now) c.args.line.now c.args.text.now.items c.print_refusal.new.out.items c.in-Err-Refused.refusal
-    (subst (λ z. parse (Some z) c.args.line.now ≡ Err c.in-Err-Refused.refusal) c.schema.ensures
-    (subst (λ e. Reads (Err e) (parse (Some c.schema.result.now) c.args.line.now)) c.in-Err-Refused.field-0-is c.in-Err-Refused.ensures)) s c.in_ok-print_refusal-in-Err-Refused.ensures.ok
+returns-in_ok-print_refusal-in-Err-Refused g c = λ old s.
+    refusal_answered (g.W.Store.files c.args.store.now, g.W.Store.faults c.args.store.now, g.W.Store.asks c.args.store.now) c.args.machine.now old c.args.line.now c.args.text.now.items c.print_refusal.new.out.items c.in-Err-Refused.refusal s
+    (subst (λ z. served (parse (Some z) c.args.line.now) ≡ Err c.in-Err-Refused.refusal) c.schema.ensures
+    (subst (λ e. Reads (Err e) (served (parse (Some c.schema.result.now) c.args.line.now))) c.in-Err-Refused.field-0-is c.in-Err-Refused.ensures.reads)) c.in_ok-print_refusal-in-Err-Refused.ensures.ok
+
+pub returns-in_err-reply-in-Ok : goal.returns-in_err-reply-in-Ok
+returns-in_err-reply-in-Ok g c = λ old s.
+    let stops = c.in_err-reply-in-Ok.ensures.err s.0 s.1 in
+    stopped_answered (g.W.Store.files c.args.store.now, g.W.Store.faults c.args.store.now, g.W.Store.asks c.args.store.now) (g.W.Store.files c.serve.new.store, g.W.Store.faults c.serve.new.store, g.W.Store.asks c.serve.new.store)
+    c.args.machine.now c.serve.new.self old c.args.line.now c.in-Ok.command c.args.text.now.items c.args.text.now.items c.from_residual.result c.from_residual.ensures.0 s
+    (sym stops.2.over.files ∙ left_files s.0 c.in-Ok.command stops.0 stops.1 ∙ s.1.over.files) c.in_err-reply-in-Ok.ensures.faults.0 c.in_err-reply-in-Ok.ensures.asks

@@ -1,30 +1,30 @@
 -- The words were refused, and that was said; memory ran out; or the input was served.
-use Rattle.std.proofs.Common.{◌≡◌, true, false, map, string_bytes, arith, refl, ap, ◌∙◌, le_refl}
-use Rattle.std.proofs.lemmas.Bool.Decides.{nat_tests}
-use Rattle.rc_shell.specs.Step.{LineStep, Ends, Leaves, start}
-use Rattle.rc_shell.specs.Words.{are_run}
+use Rattle.std.proofs.Common.{◌≡◌, map, string_bytes, sym, ap, ◌∙◌}
+use Rattle.rc_shell.specs.Step.{Seen, LineStep, Ends, Leaves, start}
+use Rattle.rc_shell.specs.Words.{words_of}
+use Rattle.rc_shell.specs.declared.words.Words.TheVariants.{Run, Refused}
 use Rattle.rc_shell.proofs.Ending.{words_refused, memory_refused}
-use Rattle.rc_shell.proofs.Staged.{begins_stood}
+use Rattle.rc_shell.proofs.Staged.{begins_left, begins_stood}
 use Rattle.rc_shell.proofs.runs.run_with.Goals as goal
 
-pub returns-then-not-are_run-clause-run : goal.returns-then-not-are_run-clause-run
-returns-then-not-are_run-clause-run g c =
-    let no : are_run (map string_bytes c.args.words.now) ≡ false = grind (arith, nat_tests) in
-    rw no (words_refused LineStep Ends Leaves (start _) c.args.limit c.push_last.result _ _ _ _ _ _ _ (refl, le_refl _) c.push_last.ensures)
+pub returns-in-Refused-clause-run : goal.returns-in-Refused-clause-run
+returns-in-Refused-clause-run g c =
+    let is : words_of (map string_bytes c.args.words.now) ≡ Refused = sym c.words_of.ensures ∙ c.in-Refused.is in
+    rw is (words_refused LineStep Ends Leaves 0 (start Refused _) c.args.limit c.push_last.result _ _ _ _ _ _ _ (begins_left Refused _) c.push_last.ensures)
 
 pub returns-in-Ok-clause-run : goal.returns-in-Ok-clause-run
 returns-in-Ok-clause-run g c =
-    let yes : are_run (map string_bytes c.args.words.now) ≡ true = grind (arith, nat_tests) in
-    rw yes (c.serve_input.ensures (start _)
-    (begins_stood c.new-in-Ok.result.server.machine (g.W.Store.files c.args.store.now) (g.W.Store.faults c.args.store.now) (ap (λ s. s.machine) c.new-in-Ok.ensures.server ∙ c.new.ensures)))
+    let is : words_of (map string_bytes c.args.words.now) ≡ Run c.in-Run.segments = sym c.words_of.ensures ∙ c.in-Run.is in
+    let store : Seen = (g.W.Store.files c.args.store.now, g.W.Store.faults c.args.store.now, g.W.Store.asks c.args.store.now) in
+    rw is (c.serve_input.ensures (start (Run c.in-Run.segments) store)
+    (begins_stood c.new-in-Ok.result.server.machine (Run c.in-Run.segments) store (ap (λ s. s.machine) c.new-in-Ok.ensures.server ∙ c.new.ensures)) c.in-Run.segments)
 
 pub returns-in-Err-clause-run : goal.returns-in-Err-clause-run
 returns-in-Err-clause-run g c =
-    let yes : are_run (map string_bytes c.args.words.now) ≡ true = grind (arith, nat_tests) in
-    rw yes (memory_refused LineStep Ends Leaves (start _) c.args.limit _ _ _ _ _ (refl, le_refl _))
+    let is : words_of (map string_bytes c.args.words.now) ≡ Run c.in-Run.segments = sym c.words_of.ensures ∙ c.in-Run.is in
+    rw is (memory_refused LineStep Ends Leaves c.in-Run.segments (start (Run c.in-Run.segments) _) c.args.limit _ _ _ _ _ (begins_left (Run c.in-Run.segments) _))
 
 pub serve_input-requires-clause-stands : goal.serve_input-requires-clause-stands
-serve_input-requires-clause-stands g c = (
-  start (g.W.Store.files c.args.store.now, g.W.Store.faults c.args.store.now),
-  begins_stood c.new-in-Ok.result.server.machine (g.W.Store.files c.args.store.now) (g.W.Store.faults c.args.store.now) (ap (λ s. s.machine) c.new-in-Ok.ensures.server ∙ c.new.ensures),
-)
+serve_input-requires-clause-stands g c =
+    let store : Seen = (g.W.Store.files c.args.store.now, g.W.Store.faults c.args.store.now, g.W.Store.asks c.args.store.now) in
+    (start Refused store, begins_stood c.new-in-Ok.result.server.machine Refused store (ap (λ s. s.machine) c.new-in-Ok.ensures.server ∙ c.new.ensures))

@@ -1,9 +1,8 @@
 -- A seek goes on within what is held, or in the stream.
-use Rattle.std.proofs.Common.{sym, ◌∙◌, inl, inr}
-use Rattle.rc_stream.specs.Moving.{Only}
-use Rattle.rc_stream.proofs.Asked.{goes-on}
+use Rattle.std.proofs.Common.{sym, ◌∙◌, inr}
 use Rattle.rc_stream.proofs.Looking.{ahead-there}
 use Rattle.rc_stream.proofs.Wholes.{sought-holds, within-holds}
+use Rattle.rc_stream.proofs.Blaming.{blames-err, blames-ok}
 use Rattle.rc_stream.proofs.parts.go_on.Goals as goal
 
 pub seek-requires-clause-ahead : goal.seek-requires-clause-ahead
@@ -15,8 +14,8 @@ returns-in-Ok-clause-holds g c = λ t k. sought-holds (g.A.Frags.seen c.args.str
 pub returns-in-Ok-false-clause-holds : goal.returns-in-Ok-false-clause-holds
 returns-in-Ok-false-clause-holds g c = λ t k. within-holds (g.A.Frags.seen c.args.stream.now c.args.home.now c.args.store.now) c.args.to.now c.args.kept.now c.go_on.new.self t (sym c.in-Ok-false.ensures.passes ∙ c.in-Ok-false.field-0-test) (c.in-Ok-false.ensures.within c.in-Ok-false.field-0-test) k
 
-pub returns-in-Ok-clause-no_further : goal.returns-in-Ok-clause-no_further
-returns-in-Ok-clause-no_further g c = λ s. inr (λ t k. goes-on (g.A.Frags.seen c.args.stream.now c.args.home.now c.args.store.now) (g.A.Frags.seen c.seek.new.self c.seek.new.home c.seek.new.store) c.args.to.now c.args.kept.now c.empty.result (sym c.in-Ok-true.ensures.passes ∙ c.in-Ok-true.field-0-test) c.empty.ensures c.in-Ok.ensures.seen s t k)
+pub returns-in-Ok-clause-did : goal.returns-in-Ok-clause-did
+returns-in-Ok-clause-did g c = inr c.in-Ok.ensures.did
 
-pub returns-in-Ok-false-clause-no_further : goal.returns-in-Ok-false-clause-no_further
-returns-in-Ok-false-clause-no_further g c = λ s. inl (λ t k. within-holds (Only (g.A.Frags.seen c.args.stream.now c.args.home.now c.args.store.now) s) c.args.to.now c.args.kept.now c.go_on.new.self t (sym c.in-Ok-false.ensures.passes ∙ c.in-Ok-false.field-0-test) (c.in-Ok-false.ensures.within c.in-Ok-false.field-0-test) k)
+pub returns-in-Ok-clause-damage : goal.returns-in-Ok-clause-damage
+returns-in-Ok-clause-damage g c = blames-ok (g.A.Frags.damage c.args.stream.now) (g.A.Frags.damage c.seek.new.self) _ tt c.in-Ok.ensures.damage

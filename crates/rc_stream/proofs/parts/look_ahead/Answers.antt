@@ -1,8 +1,9 @@
 -- What was taken from the stream is held.
-use Rattle.std.proofs.Common.{sym}
-use Rattle.rc_stream.proofs.Looking.{ahead-looked}
-use Rattle.rc_stream.proofs.Asked.{looked-takes, only-on}
+use Rattle.std.proofs.Common.{sym, inl, inr}
+use Rattle.rc_stream.specs.Holding.{held}
+use Rattle.rc_stream.proofs.Looking.{ahead-looked, nothing-held}
 use Rattle.rc_stream.proofs.Wholes.{looked-holds, looked-known}
+use Rattle.rc_stream.proofs.Blaming.{blames-err, blames-ok}
 use Rattle.rc_stream.proofs.parts.look_ahead.Goals as goal
 
 pub returns-in-Ok-clause-ahead : goal.returns-in-Ok-clause-ahead
@@ -14,8 +15,14 @@ returns-in-Ok-clause-holds g c = λ t k. looked-holds (g.A.Frags.seen c.args.str
 pub returns-in-Ok-clause-known : goal.returns-in-Ok-clause-known
 returns-in-Ok-clause-known g c = λ t k. looked-known (g.A.Frags.seen c.args.stream.now c.args.home.now c.args.store.now) c.args.upto.now c.in-Ok.got c.args.kept.now c.hold.new.self t (sym c.if-not-is_empty.ensures) c.hold.ensures.look c.in-Ok.ensures.gives k
 
-pub returns-in-Ok-clause-no_further : goal.returns-in-Ok-clause-no_further
-returns-in-Ok-clause-no_further g c = looked-takes (g.A.Frags.seen c.args.stream.now c.args.home.now c.args.store.now) (g.A.Frags.seen c.next.new.self c.next.new.home c.next.new.store) c.args.upto.now c.in-Ok.got c.args.kept.now c.hold.new.self (sym c.if-not-is_empty.ensures) c.hold.ensures.front c.hold.ensures.look c.in-Ok.ensures.gives c.in-Ok.ensures.seen
+pub returns-in-Ok-clause-did : goal.returns-in-Ok-clause-did
+returns-in-Ok-clause-did g c = λ y covers. inr (c.in-Ok.ensures.did y (covers (nothing-held (held c.args.kept.now) (sym c.if-not-is_empty.ensures))))
 
-pub returns-in-Err-clause-no_further : goal.returns-in-Err-clause-no_further
-returns-in-Err-clause-no_further g c = λ s p t k. only-on (g.A.Frags.seen c.args.stream.now c.args.home.now c.args.store.now) (g.A.Frags.seen c.next.new.self c.next.new.home c.next.new.store) s c.args.kept.now t (c.in-Err.ensures.seen s p) k
+pub returns-in-Err-clause-did : goal.returns-in-Err-clause-did
+returns-in-Err-clause-did g c = λ y covers. inr (c.in-Err.ensures.did y (covers (nothing-held (held c.args.kept.now) (sym c.if-not-is_empty.ensures))))
+
+pub returns-in-Ok-clause-damage : goal.returns-in-Ok-clause-damage
+returns-in-Ok-clause-damage g c = blames-ok (g.A.Frags.damage c.args.stream.now) (g.A.Frags.damage c.next.new.self) _ tt c.in-Ok.ensures.damage
+
+pub returns-in-Err-clause-damage : goal.returns-in-Err-clause-damage
+returns-in-Err-clause-damage g c = blames-err (g.A.Frags.damage c.args.stream.now) (g.A.Frags.damage c.next.new.self) c.in-Err.error c.in-Err.ensures.damage

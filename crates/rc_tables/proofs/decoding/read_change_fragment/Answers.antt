@@ -12,3 +12,8 @@ pub returns-clause-value : goal.returns-clause-value
 returns-clause-value c =
     let h : StartsChange c.args.bytes.now (Some (c.in-Some.change, c.in-Some.size)) = subst (λ f. StartsChange c.args.bytes.now f) c.in-Some.is c.in_ok-change.ensures.value in
     change_found c.args.bytes.now c.in-Some.change c.in-Some.size h
+
+pub returns-clause-starts : goal.returns-clause-starts
+returns-clause-starts c =
+    let h : StartsChange c.args.bytes.now (Some (c.in-Some.change, c.in-Some.size)) = subst (λ f. StartsChange c.args.bytes.now f) c.in-Some.is c.in_ok-change.ensures.value in
+    (h.0, h.1)

@@ -21,3 +21,9 @@ returns-clause-span c = λ from to at ends le.
     let f : c.in-Some.from ≡ from = same c.in-Some.from from (sym c.in-Some.is ∙ c.in_ok-from.ensures from at) in
     let t : c.in-Some-2.to ≡ to = same c.in-Some-2.to to (sym c.in-Some-2.is ∙ c.in_ok-to.ensures to (subst (λ b. EndsAt c.args.dir b c.args.later.now to) (sym (take_rest c.args.piece.now c.args.here.now.dir_len)) ends)) in
     λ i. Some (record { from = f i; to = t i })
+
+pub returns-clause-begins : goal.returns-clause-begins
+returns-clause-begins c = λ from at. sym (same c.in-Some.from from (sym c.in-Some.is ∙ c.in_ok-from.ensures from at))
+
+pub returns-clause-ends : goal.returns-clause-ends
+returns-clause-ends c = λ to ends. sym (same c.in-Some-2.to to (sym c.in-Some-2.is ∙ c.in_ok-to.ensures to (subst (λ b. EndsAt c.args.dir b c.args.later.now to) (sym (take_rest c.args.piece.now c.args.here.now.dir_len)) ends)))

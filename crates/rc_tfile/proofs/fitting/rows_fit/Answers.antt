@@ -1,6 +1,6 @@
 -- The first of those that are left fits.
 use Rattle.rc_tfile.specs.TableText.{IsRowOf}
-use Rattle.rc_tfile.proofs.Follows.{all_rest}
+use Rattle.rc_tfile.specs.laws.Follows.{all_rest}
 use Rattle.rc_tfile.proofs.fitting.rows_fit.Goals as goal
 
 pub loop-left-preserved : goal.loop-left-preserved

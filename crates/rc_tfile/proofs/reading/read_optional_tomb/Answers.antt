@@ -2,7 +2,7 @@
 use Rattle.std.proofs.Common.{subst, None}
 use Rattle.rc_rowcode.specs.Spelling.{tomb_code, IsTomb}
 use Rattle.rc_tfile.specs.Reading.{Starts}
-use Rattle.rc_tfile.proofs.Starting.{from_reads, tomb_missing}
+use Rattle.rc_tfile.specs.laws.Starting.{from_reads, tomb_missing}
 use Rattle.rc_tfile.proofs.reading.read_optional_tomb.Goals as goal
 
 pub returns-in_default-2-clause-value : goal.returns-in_default-2-clause-value

@@ -6,7 +6,7 @@ use Rattle.rc_rowcode.specs.Spelling.{KeyFits}
 use Rattle.rc_tfile.specs.declared.blocks.Block.{Block}
 use Rattle.rc_tfile.specs.Items.{BlockItem}
 use Rattle.rc_tfile.specs.Walking.{Awaits}
-use Rattle.rc_tfile.proofs.Follows.{first_and_rest}
+use Rattle.rc_tfile.specs.laws.Follows.{first_and_rest}
 use Rattle.rc_tfile.proofs.walking.check_blocks.Goals as goal
 
 pub returns-in_err-check_block-clause-next : goal.returns-in_err-check_block-clause-next

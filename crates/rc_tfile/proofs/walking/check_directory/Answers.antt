@@ -5,7 +5,7 @@ use Rattle.std.proofs.lemmas.Result.{err_from_is_err_and}
 use Rattle.rc_tfile.specs.Items.{Item}
 use Rattle.rc_tfile.specs.Blocks.{Entry, entry_items}
 use Rattle.rc_tfile.specs.Walking.{Awaits}
-use Rattle.rc_tfile.proofs.Follows.{first_and_rest}
+use Rattle.rc_tfile.specs.laws.Follows.{first_and_rest}
 use Rattle.rc_tfile.proofs.walking.check_directory.Goals as goal
 
 pub returns-in_err-check_listed-clause-next : goal.returns-in_err-check_listed-clause-next

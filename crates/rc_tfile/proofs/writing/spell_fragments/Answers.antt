@@ -6,7 +6,7 @@ use Rattle.rc_tfile.specs.Items.{item_code}
 use Rattle.rc_tfile.specs.Before.{followed_by}
 use Rattle.rc_tfile.specs.Outlined.{IsOutline}
 use Rattle.rc_tfile.specs.TableText.{frag_items}
-use Rattle.rc_tfile.proofs.Follows.{one_more, followed_by-append}
+use Rattle.rc_tfile.specs.laws.Follows.{one_more, followed_by-append}
 use Rattle.rc_tfile.proofs.Widths.{more_items}
 use Rattle.rc_tfile.proofs.writing.spell_fragments.Goals as goal
 

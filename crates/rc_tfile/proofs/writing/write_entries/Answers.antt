@@ -5,8 +5,8 @@ use Rattle.std.proofs.lemmas.Grind.{flat_map-append}
 use Rattle.rc_outside.specs.Files.{grown}
 use Rattle.rc_tfile.specs.Items.{item_code}
 use Rattle.rc_tfile.specs.Blocks.{entry_items}
-use Rattle.rc_tfile.proofs.Follows.{one_more}
-use Rattle.rc_tfile.proofs.Drafts.{grown_more}
+use Rattle.rc_tfile.specs.laws.Follows.{one_more}
+use Rattle.rc_tfile.specs.laws.Drafts.{grown_more}
 use Rattle.rc_tfile.proofs.Widths.{more_items}
 use Rattle.rc_tfile.proofs.writing.write_entries.Goals as goal
 

@@ -8,8 +8,8 @@ use Rattle.rc_tfile.specs.Before.{followed_by}
 use Rattle.rc_tfile.specs.Limits.{PartLimits}
 use Rattle.rc_tfile.specs.Outlined.{IsOutline}
 use Rattle.rc_tfile.specs.TableText.{part_items}
-use Rattle.rc_tfile.proofs.Follows.{one_more, followed_by-append}
-use Rattle.rc_tfile.proofs.Drafts.{grown_more}
+use Rattle.rc_tfile.specs.laws.Follows.{one_more, followed_by-append}
+use Rattle.rc_tfile.specs.laws.Drafts.{grown_more}
 use Rattle.rc_tfile.proofs.Widths.{more_items}
 use Rattle.rc_tfile.proofs.writing.write_parts.Goals as goal
 

@@ -1,8 +1,9 @@
 use Rattle.std.proofs.Common.{◌≡◌, ℕ, ◌+◌, ◌-◌, ◌%◌, ◌/◌, ◌<◌, ◌≤◌, ◌++◌, List, [], ◌∷◌, length, take, drop, refl, sym, ap, ◌∙◌, append_assoc, arith}
 use Rattle.std.proofs.Math.ListN.{set}
 use Rattle.std.proofs.lemmas.List.{append-nil, drop-set-lt, take-set-le}
-use Rattle.lsa_kinds.specs.Fields.{number}
-use Rattle.lsa_kinds.proofs.Numbers.{spelled, spelled-next, write_more, number-spelled, other_fields}
+use Rattle.lsa_kinds.specs.Fields.{number, spelled}
+use Rattle.lsa_kinds.specs.laws.Fields.{number-spelled, other_fields}
+use Rattle.lsa_kinds.proofs.Numbers.{spelled-next, write_more}
 use Rattle.lsa_kinds.proofs.field.Field.put.Goals as goal
 
 pub loop-index-init : goal.loop-index-init
@@ -35,12 +36,14 @@ at_end offset width index value rest bytes e written =
     let front : take index (drop offset bytes) ≡ take width (drop offset bytes) = ap (λ k. take k (drop offset bytes)) e in
     sym (append-nil (take width (drop offset bytes))) ∙ ap (λ bs. bs ++ []) (sym front) ∙ ap (λ k. take index (drop offset bytes) ++ spelled k rest) (sym none) ∙ written
 
-pub returns : goal.returns
-returns g c =
-    let before = c.loop-index.invariant.before in let behind = c.loop-index.invariant.behind in
-    let e : c.loop-index.index ≡ g.row.WIDTH = omega arith in record {
-      written = ap number (at_end g.row.OFFSET g.row.WIDTH c.loop-index.index c.args.value c.loop-index.rest c.loop-index.bytes e c.loop-index.invariant.written)
-          ∙ number-spelled g.row.WIDTH c.args.value c.requires.fits;
+pub returns-clause-bytes : goal.returns-clause-bytes
+returns-clause-bytes g c =
+    at_end g.row.OFFSET g.row.WIDTH c.loop-index.index c.args.value c.loop-index.rest c.loop-index.bytes (omega arith) c.loop-index.invariant.written
+
+pub returns-clause-put : goal.returns-clause-put
+returns-clause-put g c =
+    let before = c.loop-index.invariant.before in let behind = c.loop-index.invariant.behind in record {
+      written = ap number (returns-clause-bytes g c) ∙ number-spelled g.row.WIDTH c.args.value c.requires.fits;
       before = before;
       behind = behind;
       others = other_fields c.args.bytes.now c.loop-index.bytes g.row.OFFSET g.row.WIDTH before behind;

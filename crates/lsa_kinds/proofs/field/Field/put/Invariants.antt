@@ -1,5 +1,5 @@
 use Rattle.std.proofs.Common.{◌≡◌, ◌++◌, ◌+◌, ◌-◌, drop, take}
-use Rattle.lsa_kinds.proofs.Numbers.{spelled}
+use Rattle.lsa_kinds.specs.Fields.{spelled}
 use Rattle.lsa_kinds.proofs.field.Field.put.Given as goal
 
 abbrev pub invariant-loop-index : goal.invariant-loop-index

@@ -3,9 +3,9 @@ use Rattle.std.proofs.lemmas.List.{append-nil}
 use Rattle.lsa_region.specs.declared.end.End.TheVariants.{Obj, Slot}
 use Rattle.lsa_region.specs.Region.{link_of}
 use Rattle.lsa_path.specs.Path.{IsPath}
-use Rattle.lsa_path.proofs.Paths.{same_some}
-use Rattle.lsa_path.proofs.Steps.{set-unset}
-use Rattle.lsa_list.proofs.Lists.{fields_differ, recency-ends, recent-append, recent-same, finish-there, last-named, inserted-elsewhere}
+use Rattle.lsa_path.specs.laws.Paths.{same_some}
+use Rattle.lsa_path.specs.laws.Steps.{set-unset}
+use Rattle.lsa_list.specs.laws.Lists.{fields_differ, recency-ends, recent-append, recent-same, finish-there, last-named, inserted-elsewhere}
 use Rattle.lsa_list.proofs.recency.List.push_back.Goals as goal
 
 pub root-requires : goal.root-requires

@@ -1,7 +1,7 @@
 use Rattle.std.proofs.Common.{Some, ap, is_some, arith}
 use Rattle.lsa_region.specs.declared.end.End.TheVariants.{Slot}
 use Rattle.lsa_region.specs.Region.{link_of}
-use Rattle.lsa_list.proofs.Lists.{fields_differ, recency-ends, recent-at, recent-drop, recent-same, here-named, here-apart, taken-elsewhere}
+use Rattle.lsa_list.specs.laws.Lists.{fields_differ, recency-ends, recent-at, recent-drop, recent-same, here-named, here-apart, taken-elsewhere}
 use Rattle.lsa_list.proofs.recency.List.remove.Goals as goal
 
 pub take_out-requires : goal.take_out-requires

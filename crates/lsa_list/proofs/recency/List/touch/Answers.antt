@@ -1,5 +1,5 @@
 use Rattle.std.proofs.Common.{◌++◌, arith}
-use Rattle.lsa_list.proofs.Lists.{recency-same, recent-at}
+use Rattle.lsa_list.specs.laws.Lists.{recency-same, recent-at}
 use Rattle.lsa_list.proofs.recency.List.touch.Goals as goal
 
 pub push_back-requires : goal.push_back-requires

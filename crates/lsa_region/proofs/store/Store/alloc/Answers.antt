@@ -1,7 +1,5 @@
-use Rattle.std.proofs.Common.{◌≡◌, ◌+◌, ◌*◌, ◌/◌, ◌<◌, ◌≤◌, length, sym, ap, ◌∙◌, subst, arith}
-use Rattle.lsa_pool.specs.Room.{free_count, spare_of}
-use Rattle.lsa_region.specs.Layout.{rounded_size, stock_of}
-use Rattle.lsa_region.proofs.Laid.{rounded_32}
+use Rattle.std.proofs.Common.{length, arith}
+use Rattle.lsa_region.specs.laws.Sizes.{rounded_32}
 use Rattle.lsa_region.proofs.Moves.{spare-turned, stock-reserve}
 use Rattle.lsa_region.proofs.store.Store.alloc.Goals as goal
 

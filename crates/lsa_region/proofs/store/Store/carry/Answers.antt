@@ -1,4 +1,4 @@
-use Rattle.std.proofs.Common.{◌≡◌, ◌≢◌, ℕ, ◌+◌, ◌-◌, ◌<◌, ◌≤◌, ◌/◌, ◌++◌, List, [], ◌∷◌, length, get_or, None, Some, refl, sym, ap, ◌∙◌, subst, arith}
+use Rattle.std.proofs.Common.{◌≡◌, ℕ, ◌+◌, ◌-◌, ◌≤◌, ◌++◌, [], ◌∷◌, length, get_or, None, Some, sym, ap, ◌∙◌, subst, arith}
 use Rattle.std.specs.Prelude.{IsSomeAnd}
 use Rattle.std.proofs.Math.ListN.{set}
 use Rattle.std.proofs.lemmas.List.{map-set, get_or_read}
@@ -6,10 +6,11 @@ use Rattle.lsa_segment.specs.Bytes.{part}
 use Rattle.lsa_pool.specs.declared.State.TheVariants.{Closed}
 use Rattle.lsa_pool.specs.Room.{usage_of, active_room, active_of}
 use Rattle.lsa_region.specs.declared.place.Place.{Place}
-use Rattle.lsa_region.specs.Layout.{Stored, Spot, IsLaid, IsRostered, IsCarried, extent, segment_at, place_at, spot_at, bodies_of}
+use Rattle.lsa_region.specs.Layout.{Stored, Spot, IsLaid, IsRostered, IsCarried, extent, segment_at, spot_at, bodies_of}
 use Rattle.lsa_region.proofs.Sets.{place-there}
 use Rattle.lsa_region.proofs.Laid.{active_inside, room-is}
-use Rattle.lsa_region.proofs.Moves.{some-within, spot-there, closed-place, closed-inside, closed-apart, body-extent, used-debit, roster-room, numbered-keep, carried-budget, carried-laid, carried-bodies, carried-books, carried-rostered}
+use Rattle.lsa_pool.specs.laws.Usages.{closed-inside}
+use Rattle.lsa_region.proofs.Moves.{some-within, spot-there, closed-place, closed-apart, body-extent, used-debit, roster-room, numbered-keep, carried-budget, carried-laid, carried-bodies, carried-books, carried-rostered}
 use Rattle.lsa_region.proofs.store.Store.carry.Goals as goal
 
 pub copy_between-offset-requires : goal.copy_between-offset-requires

@@ -1,8 +1,5 @@
-use Rattle.std.proofs.Common.{◌≡◌, ◌+◌, ◌<◌, ◌≤◌, length, get_or, None, true, refl, sym, ap, ◌∙◌, subst, arith}
-use Rattle.std.specs.Prelude.{IsSomeAnd}
-use Rattle.lsa_pool.specs.declared.State.TheVariants.{Closed}
-use Rattle.lsa_pool.specs.Room.{usage_of}
-use Rattle.lsa_region.specs.Layout.{Spot, Stored, segment_at, stock_of}
+use Rattle.std.proofs.Common.{◌+◌, ◌<◌, length, get_or, None, sym, ap, ◌∙◌, subst, arith}
+use Rattle.lsa_region.specs.Layout.{Stored, stock_of}
 use Rattle.lsa_region.proofs.Draining.{IsDraining, draining-init, draining-skip, draining-move, drained, drained-count, lies, some-closed}
 use Rattle.lsa_region.proofs.store.Store.drain.Goals.{then-lies_in, else-lies_in}
 use Rattle.lsa_region.proofs.store.Store.drain.Goals as goal

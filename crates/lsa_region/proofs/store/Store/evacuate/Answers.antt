@@ -1,7 +1,7 @@
-use Rattle.std.proofs.Common.{◌≡◌, ◌+◌, ◌/◌, ◌*◌, ◌<◌, ◌≤◌, refl, sym, ap, ◌∙◌, subst, arith}
-use Rattle.lsa_pool.specs.Room.{usage_of, free_count, spare_of}
-use Rattle.lsa_region.specs.Layout.{stock_of}
-use Rattle.lsa_region.proofs.Moves.{sparse-is, stock-reserve, spare-rises}
+use Rattle.std.proofs.Common.{◌∙◌, arith}
+use Rattle.lsa_pool.specs.Room.{usage_of}
+use Rattle.lsa_region.specs.laws.Sparse.{sparse-is}
+use Rattle.lsa_region.proofs.Moves.{stock-reserve, spare-rises}
 use Rattle.lsa_region.proofs.store.Store.evacuate.Goals as goal
 
 pub drain-moved-requires : goal.drain-moved-requires

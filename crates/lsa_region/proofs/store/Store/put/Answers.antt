@@ -5,7 +5,8 @@ use Rattle.lsa_segment.specs.Bytes.{part}
 use Rattle.lsa_pool.specs.Room.{usage_of, active_room, free_count}
 use Rattle.lsa_region.specs.Layout.{Stored, IsLaid, IsRostered, place_at, segment_at, body_at}
 use Rattle.lsa_region.proofs.Sets.{body-there, bodies-keep, bodies-none, part-put, part-grown}
-use Rattle.lsa_region.proofs.Laid.{laid-add, numbered-take, vacant-some, rounded_32, active_inside, room-is}
+use Rattle.lsa_region.specs.laws.Sizes.{rounded_32}
+use Rattle.lsa_region.proofs.Laid.{laid-add, numbered-take, vacant-some, active_inside, room-is}
 use Rattle.lsa_region.proofs.Moves.{rostered-push, used-credit, roster-room, spots-other}
 use Rattle.lsa_region.specs.declared.place.Place.{Place}
 use Rattle.lsa_region.proofs.store.Store.put.Goals as goal
@@ -29,8 +30,8 @@ index_mut-requires g c =
     let big = rounded_32 c.args.kind (length c.args.bytes.now) in
     let some : 0 < vacant_len = vacant-some S pool segments places active vacant vacant_len laid numbered (subst (λ (v : Stored). 0 < free_count v.usages) (sym c.self.view_is) c.requires.reserve) (omega (arith, big, room, c.requires.size, c.requires.room, room-is S pool active laid.is_active)) in
     let before = vacant_len - 1 in let counted : vacant_len ≡ before + 1 = omega arith in let number = c.index-number.result.now in
-    let is = get_or_read vacant before number (omega (arith, numbered.counted, numbered.long)) c.index-number.ensures 0 in
-    let lt : number < length places = omega (arith, numbered.within before (omega arith)) in
+    let is = get_or_read vacant before number (omega (arith, numbered.vacancy.counted, numbered.vacancy.long)) c.index-number.ensures 0 in
+    let lt : number < length places = omega (arith, numbered.vacancy.within before (omega arith)) in
     omega (arith, lt, c.self.inside.places.ok.0)
 
 pub invariant_of-self : goal.invariant_of-self
@@ -42,9 +43,9 @@ invariant_of-self g c =
     let big = rounded_32 c.args.kind (length c.args.bytes.now) in
     let some : 0 < vacant_len = vacant-some S pool segments places active vacant vacant_len laid numbered (subst (λ (v : Stored). 0 < free_count v.usages) (sym c.self.view_is) c.requires.reserve) (omega (arith, big, room, c.requires.size, c.requires.room, room-is S pool active laid.is_active)) in
     let before = vacant_len - 1 in let counted : vacant_len ≡ before + 1 = omega arith in let number = c.index-number.result.now in
-    let is = get_or_read vacant before number (omega (arith, numbered.counted, numbered.long)) c.index-number.ensures 0 in
-    let lt : number < length places = omega (arith, numbered.within before (omega arith)) in
-    let fresh : place_at places number ≡ None = ap (place_at places) is ∙ numbered.empty before (omega arith) in
+    let is = get_or_read vacant before number (omega (arith, numbered.vacancy.counted, numbered.vacancy.long)) c.index-number.ensures 0 in
+    let lt : number < length places = omega (arith, numbered.vacancy.within before (omega arith)) in
+    let fresh : place_at places number ≡ None = ap (place_at places) is ∙ numbered.vacancy.empty before (omega arith) in
     let bytes = c.args.bytes.now in let head = 8 + 8 * c.links.result in
     let p : Place = record { kind = c.args.kind; segment = active; offset = c.append-offset.result; size = c.args.size; start = c.append-offset.result + head; len = length bytes } in
     let zeros : List ℕ = replicate head 0 in let pad : List ℕ = replicate (c.args.size - head - length bytes) 0 in let tail = zeros ++ (bytes ++ pad) in
@@ -71,9 +72,9 @@ returns-clause-fresh g c =
     let big = rounded_32 c.args.kind (length c.args.bytes.now) in
     let some : 0 < vacant_len = vacant-some S pool segments places active vacant vacant_len laid numbered (subst (λ (v : Stored). 0 < free_count v.usages) (sym c.self.view_is) c.requires.reserve) (omega (arith, big, room, c.requires.size, c.requires.room, room-is S pool active laid.is_active)) in
     let before = vacant_len - 1 in let counted : vacant_len ≡ before + 1 = omega arith in let number = c.index-number.result.now in
-    let is = get_or_read vacant before number (omega (arith, numbered.counted, numbered.long)) c.index-number.ensures 0 in
-    let lt : number < length places = omega (arith, numbered.within before (omega arith)) in
-    let fresh : place_at places number ≡ None = ap (place_at places) is ∙ numbered.empty before (omega arith) in
+    let is = get_or_read vacant before number (omega (arith, numbered.vacancy.counted, numbered.vacancy.long)) c.index-number.ensures 0 in
+    let lt : number < length places = omega (arith, numbered.vacancy.within before (omega arith)) in
+    let fresh : place_at places number ≡ None = ap (place_at places) is ∙ numbered.vacancy.empty before (omega arith) in
     let bytes = c.args.bytes.now in let head = 8 + 8 * c.links.result in
     let p : Place = record { kind = c.args.kind; segment = active; offset = c.append-offset.result; size = c.args.size; start = c.append-offset.result + head; len = length bytes } in
     let zeros : List ℕ = replicate head 0 in let pad : List ℕ = replicate (c.args.size - head - length bytes) 0 in let tail = zeros ++ (bytes ++ pad) in
@@ -89,9 +90,9 @@ returns-clause-body g c =
     let big = rounded_32 c.args.kind (length c.args.bytes.now) in
     let some : 0 < vacant_len = vacant-some S pool segments places active vacant vacant_len laid numbered (subst (λ (v : Stored). 0 < free_count v.usages) (sym c.self.view_is) c.requires.reserve) (omega (arith, big, room, c.requires.size, c.requires.room, room-is S pool active laid.is_active)) in
     let before = vacant_len - 1 in let counted : vacant_len ≡ before + 1 = omega arith in let number = c.index-number.result.now in
-    let is = get_or_read vacant before number (omega (arith, numbered.counted, numbered.long)) c.index-number.ensures 0 in
-    let lt : number < length places = omega (arith, numbered.within before (omega arith)) in
-    let fresh : place_at places number ≡ None = ap (place_at places) is ∙ numbered.empty before (omega arith) in
+    let is = get_or_read vacant before number (omega (arith, numbered.vacancy.counted, numbered.vacancy.long)) c.index-number.ensures 0 in
+    let lt : number < length places = omega (arith, numbered.vacancy.within before (omega arith)) in
+    let fresh : place_at places number ≡ None = ap (place_at places) is ∙ numbered.vacancy.empty before (omega arith) in
     let bytes = c.args.bytes.now in let head = 8 + 8 * c.links.result in
     let p : Place = record { kind = c.args.kind; segment = active; offset = c.append-offset.result; size = c.args.size; start = c.append-offset.result + head; len = length bytes } in
     let zeros : List ℕ = replicate head 0 in let pad : List ℕ = replicate (c.args.size - head - length bytes) 0 in let tail = zeros ++ (bytes ++ pad) in
@@ -111,9 +112,9 @@ returns-clause-others g c = λ r ne.
     let big = rounded_32 c.args.kind (length c.args.bytes.now) in
     let some : 0 < vacant_len = vacant-some S pool segments places active vacant vacant_len laid numbered (subst (λ (v : Stored). 0 < free_count v.usages) (sym c.self.view_is) c.requires.reserve) (omega (arith, big, room, c.requires.size, c.requires.room, room-is S pool active laid.is_active)) in
     let before = vacant_len - 1 in let counted : vacant_len ≡ before + 1 = omega arith in let number = c.index-number.result.now in
-    let is = get_or_read vacant before number (omega (arith, numbered.counted, numbered.long)) c.index-number.ensures 0 in
-    let lt : number < length places = omega (arith, numbered.within before (omega arith)) in
-    let fresh : place_at places number ≡ None = ap (place_at places) is ∙ numbered.empty before (omega arith) in
+    let is = get_or_read vacant before number (omega (arith, numbered.vacancy.counted, numbered.vacancy.long)) c.index-number.ensures 0 in
+    let lt : number < length places = omega (arith, numbered.vacancy.within before (omega arith)) in
+    let fresh : place_at places number ≡ None = ap (place_at places) is ∙ numbered.vacancy.empty before (omega arith) in
     let bytes = c.args.bytes.now in let head = 8 + 8 * c.links.result in
     let p : Place = record { kind = c.args.kind; segment = active; offset = c.append-offset.result; size = c.args.size; start = c.append-offset.result + head; len = length bytes } in
     let zeros : List ℕ = replicate head 0 in let pad : List ℕ = replicate (c.args.size - head - length bytes) 0 in let tail = zeros ++ (bytes ++ pad) in
@@ -133,9 +134,9 @@ returns-clause-inside g c =
     let big = rounded_32 c.args.kind (length c.args.bytes.now) in
     let some : 0 < vacant_len = vacant-some S pool segments places active vacant vacant_len laid numbered (subst (λ (v : Stored). 0 < free_count v.usages) (sym c.self.view_is) c.requires.reserve) (omega (arith, big, room, c.requires.size, c.requires.room, room-is S pool active laid.is_active)) in
     let before = vacant_len - 1 in let counted : vacant_len ≡ before + 1 = omega arith in let number = c.index-number.result.now in
-    let is = get_or_read vacant before number (omega (arith, numbered.counted, numbered.long)) c.index-number.ensures 0 in
-    let lt : number < length places = omega (arith, numbered.within before (omega arith)) in
-    let fresh : place_at places number ≡ None = ap (place_at places) is ∙ numbered.empty before (omega arith) in
+    let is = get_or_read vacant before number (omega (arith, numbered.vacancy.counted, numbered.vacancy.long)) c.index-number.ensures 0 in
+    let lt : number < length places = omega (arith, numbered.vacancy.within before (omega arith)) in
+    let fresh : place_at places number ≡ None = ap (place_at places) is ∙ numbered.vacancy.empty before (omega arith) in
     let bytes = c.args.bytes.now in let head = 8 + 8 * c.links.result in
     let p : Place = record { kind = c.args.kind; segment = active; offset = c.append-offset.result; size = c.args.size; start = c.append-offset.result + head; len = length bytes } in
     let zeros : List ℕ = replicate head 0 in let pad : List ℕ = replicate (c.args.size - head - length bytes) 0 in let tail = zeros ++ (bytes ++ pad) in

@@ -6,9 +6,10 @@ use Rattle.lsa_pool.specs.declared.Usage.{Usage}
 use Rattle.lsa_pool.specs.declared.State.TheVariants.{Closed}
 use Rattle.lsa_pool.specs.Room.{nothing, usage_of, active_room}
 use Rattle.lsa_region.specs.declared.place.Place.{Place}
-use Rattle.lsa_region.specs.Layout.{Spot, Stored, IsLaid, IsRostered, place_at, segment_at}
+use Rattle.lsa_region.specs.Layout.{Stored, IsLaid, IsRostered, place_at}
 use Rattle.lsa_region.proofs.Sets.{bodies-keep}
-use Rattle.lsa_region.proofs.Moves.{spot-there, closed-inside, closed-apart, none-live, laid-release, numbered-same, rostered-release, room-same}
+use Rattle.lsa_pool.specs.laws.Usages.{closed-inside}
+use Rattle.lsa_region.proofs.Moves.{spot-there, closed-apart, none-live, laid-release, numbered-same, rostered-release, room-same}
 use Rattle.lsa_region.proofs.store.Store.release.Goals as goal
 
 pub give-requires : goal.give-requires

@@ -1,9 +1,7 @@
-use Rattle.std.proofs.Common.{◌≡◌, ◌≢◌, ℕ, get_or, None, Some, refl, sym, ap, ◌∙◌, subst, arith}
+use Rattle.std.proofs.Common.{◌≡◌, get_or, None, Some, refl, sym, ap, ◌∙◌, subst}
 use Rattle.std.specs.Prelude.{IsSomeAnd}
 use Rattle.std.proofs.Math.ListN.{set}
 use Rattle.lsa_pool.specs.declared.Usage.{Usage}
-use Rattle.lsa_pool.specs.declared.State.TheVariants.{Closed}
-use Rattle.lsa_pool.specs.Room.{usage_of}
 use Rattle.lsa_region.specs.Layout.{Spot, IsCarried, extent, segment_at}
 use Rattle.lsa_region.proofs.Moves.{closed-apart, relieved-some}
 use Rattle.lsa_region.proofs.store.Store.relocate.Goals as goal

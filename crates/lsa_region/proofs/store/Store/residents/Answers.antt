@@ -1,4 +1,4 @@
-use Rattle.std.proofs.Common.{◌≡◌, get_or, None, sym, ap, ◌∙◌, subst}
+use Rattle.std.proofs.Common.{get_or, None, ap, ◌∙◌, subst}
 use Rattle.std.specs.Prelude.{Contains}
 use Rattle.lsa_region.specs.Layout.{Stored, segment_at}
 use Rattle.lsa_region.proofs.Moves.{place-of-spot}

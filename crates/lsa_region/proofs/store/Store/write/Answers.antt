@@ -3,8 +3,8 @@ use Rattle.std.specs.Prelude.{IsSomeAnd}
 use Rattle.std.proofs.Math.ListN.{set}
 use Rattle.std.proofs.lemmas.List.{get_or-set_same, get_or-set_other}
 use Rattle.lsa_segment.specs.Bytes.{part, overwritten}
+use Rattle.lsa_pool.specs.laws.Usages.{decided}
 use Rattle.lsa_region.specs.Layout.{Stored, segment_at, bodies_of}
-use Rattle.lsa_region.proofs.Table.{decided}
 use Rattle.lsa_region.proofs.Sets.{within, written-within, body-there, place-there, segment-there, bodies-keep, part-overwritten, part-apart, length-overwritten}
 use Rattle.lsa_region.proofs.Laid.{laid-segment}
 use Rattle.lsa_region.proofs.store.Store.write.Goals as goal

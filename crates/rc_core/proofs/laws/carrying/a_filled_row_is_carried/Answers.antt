@@ -1,4 +1,4 @@
-use Rattle.rc_core.proofs.Carrying.{row-carried, row-filled-carried}
+use Rattle.rc_core.specs.laws.Carrying.{row-carried, row-filled-carried}
 use Rattle.rc_core.proofs.laws.carrying.a_filled_row_is_carried.Goals as goal
 
 pub returns : goal.returns

@@ -1,5 +1,5 @@
 use Rattle.rc_core.specs.Change.{lost_mark}
-use Rattle.rc_core.proofs.Spots.{drop-seen, take_out-between, take_out-front, take_out-behind}
+use Rattle.rc_core.specs.laws.Spots.{drop-seen, take_out-between, take_out-front, take_out-behind}
 use Rattle.rc_core.proofs.laws.changes.a_dropped_entry_is_same_or_lost.Goals as goal
 
 pub returns : goal.returns

@@ -1,6 +1,6 @@
 use Rattle.std.specs.Prelude.{Some}
 use Rattle.rc_core.specs.Change.{raised}
-use Rattle.rc_core.proofs.Spots.{change-seen}
+use Rattle.rc_core.specs.laws.Spots.{change-seen}
 use Rattle.rc_core.proofs.laws.changes.a_joined_range_raises_the_tombstone.Goals as goal
 
 pub returns : goal.returns

@@ -1,4 +1,4 @@
-use Rattle.rc_core.proofs.Order.{change-is, split-is, join_row-is, fill_row-is, take_out-is, lose_last-is}
+use Rattle.rc_core.specs.laws.Order.{change-is, split-is, join_row-is, fill_row-is, take_out-is, lose_last-is}
 use Rattle.rc_core.proofs.laws.changes.each_change_leaves_a_version.Goals as goal
 
 pub returns : goal.returns

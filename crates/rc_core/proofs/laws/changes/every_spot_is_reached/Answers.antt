@@ -1,4 +1,4 @@
-use Rattle.rc_core.proofs.Spots.{position-reached, gap-reached}
+use Rattle.rc_core.specs.laws.Spots.{position-reached, gap-reached}
 use Rattle.rc_core.proofs.laws.changes.every_spot_is_reached.Goals as goal
 
 pub returns : goal.returns

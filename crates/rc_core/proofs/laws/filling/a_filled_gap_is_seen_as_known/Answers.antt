@@ -1,5 +1,5 @@
 use Rattle.std.specs.Prelude.{[]}
-use Rattle.rc_core.proofs.Filling.{gap-known, gap-elsewhere}
+use Rattle.rc_core.specs.laws.Filling.{gap-known, gap-elsewhere}
 use Rattle.rc_core.proofs.laws.filling.a_filled_gap_is_seen_as_known.Goals as goal
 
 pub returns : goal.returns

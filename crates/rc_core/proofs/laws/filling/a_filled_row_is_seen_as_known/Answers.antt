@@ -1,6 +1,6 @@
 use Rattle.std.specs.Prelude.{[]}
-use Rattle.rc_core.proofs.Spots.{not_at}
-use Rattle.rc_core.proofs.Filling.{row-known, row-elsewhere}
+use Rattle.rc_core.specs.laws.Spots.{not_at}
+use Rattle.rc_core.specs.laws.Filling.{row-known, row-elsewhere}
 use Rattle.rc_core.proofs.laws.filling.a_filled_row_is_seen_as_known.Goals as goal
 
 pub returns : goal.returns

@@ -1,4 +1,4 @@
-use Rattle.rc_core.proofs.Filling.{row-continuous}
+use Rattle.rc_core.specs.laws.Filling.{row-continuous}
 use Rattle.rc_core.proofs.laws.filling.a_filled_row_keeps_continuity.Goals as goal
 
 pub returns : goal.returns

@@ -1,4 +1,4 @@
-use Rattle.rc_core.proofs.Merged.{dropped-whole, dropped-form, dropped-seen-each}
+use Rattle.rc_core.specs.laws.Merged.{dropped-whole, dropped-form, dropped-seen-each}
 use Rattle.rc_core.proofs.laws.keeping.a_dropped_version_keeps_the_whole_chain.Goals as goal
 
 pub returns : goal.returns

@@ -1,4 +1,4 @@
-use Rattle.rc_core.proofs.Populating.{row-populated, row-form}
+use Rattle.rc_core.specs.laws.Populating.{row-populated, row-form}
 use Rattle.rc_core.proofs.laws.keeping.a_filled_row_keeps_the_whole_chain.Goals as goal
 
 pub returns : goal.returns

@@ -1,4 +1,4 @@
-use Rattle.rc_core.proofs.Populating.{statics-populated, statics-form}
+use Rattle.rc_core.specs.laws.Populating.{statics-populated, statics-form}
 use Rattle.rc_core.proofs.laws.keeping.a_filled_static_row_keeps_the_whole_chain.Goals as goal
 
 pub returns : goal.returns

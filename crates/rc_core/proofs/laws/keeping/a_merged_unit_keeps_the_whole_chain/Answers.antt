@@ -1,4 +1,4 @@
-use Rattle.rc_core.proofs.Merged.{merged-whole, merged-form, merged-seen-each}
+use Rattle.rc_core.specs.laws.Merged.{merged-whole, merged-form, merged-seen-each}
 use Rattle.rc_core.proofs.laws.keeping.a_merged_unit_keeps_the_whole_chain.Goals as goal
 
 pub returns : goal.returns

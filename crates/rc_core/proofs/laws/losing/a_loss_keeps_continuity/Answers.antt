@@ -1,4 +1,4 @@
-use Rattle.rc_core.proofs.Losing.{same_or_lost-continuous}
+use Rattle.rc_core.specs.laws.Losing.{same_or_lost-continuous}
 use Rattle.rc_core.proofs.laws.losing.a_loss_keeps_continuity.Goals as goal
 
 pub returns : goal.returns

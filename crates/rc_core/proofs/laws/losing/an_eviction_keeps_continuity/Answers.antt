@@ -1,4 +1,4 @@
-use Rattle.rc_core.proofs.Losing.{evicted-continuous}
+use Rattle.rc_core.specs.laws.Losing.{evicted-continuous}
 use Rattle.rc_core.proofs.laws.losing.an_eviction_keeps_continuity.Goals as goal
 
 pub returns : goal.returns

@@ -1,4 +1,4 @@
-use Rattle.rc_core.proofs.Keeping.{evicted-chain}
+use Rattle.rc_core.specs.laws.Keeping.{evicted-chain}
 use Rattle.rc_core.proofs.laws.losing.an_eviction_keeps_the_whole_chain.Goals as goal
 
 pub returns : goal.returns

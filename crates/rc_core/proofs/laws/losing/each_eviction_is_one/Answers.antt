@@ -1,4 +1,4 @@
-use Rattle.rc_core.proofs.Losing.{entry-evicted, end-evicted, statics-evicted}
+use Rattle.rc_core.specs.laws.Losing.{entry-evicted, end-evicted, statics-evicted}
 use Rattle.rc_core.proofs.laws.losing.each_eviction_is_one.Goals as goal
 
 pub returns : goal.returns

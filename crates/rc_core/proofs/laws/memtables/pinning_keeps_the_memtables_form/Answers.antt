@@ -1,4 +1,4 @@
-use Rattle.rc_core.proofs.MemtableChains.{released-memtable, snapshot-memtable, detached-memtable}
+use Rattle.rc_core.specs.laws.MemtableChains.{released-memtable, snapshot-memtable, detached-memtable}
 use Rattle.rc_core.proofs.laws.memtables.pinning_keeps_the_memtables_form.Goals as goal
 
 pub returns : goal.returns

@@ -1,4 +1,4 @@
-use Rattle.rc_core.proofs.Updates.{detached-chain, detached-form}
+use Rattle.rc_core.specs.laws.Updates.{detached-chain, detached-form}
 use Rattle.rc_core.proofs.laws.pinning.a_detached_chain_stays_continuous.Goals as goal
 
 pub returns : goal.returns

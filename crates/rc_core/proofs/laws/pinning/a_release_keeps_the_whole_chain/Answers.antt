@@ -1,4 +1,4 @@
-use Rattle.rc_core.proofs.Updates.{released-chain, released-form}
+use Rattle.rc_core.specs.laws.Updates.{released-chain, released-form}
 use Rattle.rc_core.proofs.laws.pinning.a_release_keeps_the_whole_chain.Goals as goal
 
 pub returns : goal.returns

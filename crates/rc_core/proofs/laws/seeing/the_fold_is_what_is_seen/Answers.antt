@@ -1,4 +1,4 @@
-use Rattle.rc_core.proofs.Folding.{flagged-through, content-through}
+use Rattle.rc_core.specs.laws.Folding.{flagged-through, content-through}
 use Rattle.rc_core.proofs.laws.seeing.the_fold_is_what_is_seen.Goals as goal
 
 pub returns : goal.returns

@@ -1,5 +1,5 @@
-use Rattle.rc_core.proofs.Updates.{ended-chain}
+use Rattle.rc_core.specs.laws.Updates.{ended-chain, ended-form}
 use Rattle.rc_core.proofs.laws.updating.an_ended_update_keeps_the_whole_chain.Goals as goal
 
 pub returns : goal.returns
-returns c = ended-chain
+returns c = record { chain = ended-chain; form = ended-form }

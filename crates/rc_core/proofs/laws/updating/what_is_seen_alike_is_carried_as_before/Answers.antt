@@ -1,4 +1,4 @@
-use Rattle.rc_core.proofs.Updating.{carried}
+use Rattle.rc_core.specs.laws.Updating.{carried}
 use Rattle.rc_core.proofs.laws.updating.what_is_seen_alike_is_carried_as_before.Goals as goal
 
 pub returns : goal.returns

@@ -3,7 +3,7 @@ use Rattle.std.proofs.Common.{[], ◌∷◌, ◌++◌, map, IsTrue, subst, sym, 
 use Rattle.std.specs.FinMap.{is_sorted}
 use Rattle.rc_mutation.specs.declared.fragments.Frag.TheVariants as frag
 use Rattle.rc_mutation.specs.Fragments.{changes_of, fragments, in_order, place_order, placed_change, placed_row, static_fragment}
-use Rattle.rc_mutation.proofs.FragMerge.{rows-placed, changes-placed}
+use Rattle.rc_mutation.specs.Laws.FragMerge.{rows-placed, changes-placed}
 use Rattle.rc_mutation.proofs.mutations.Mutation.fragments.Goals as goal
 
 pub append_in_order-requires-clause-rows : goal.append_in_order-requires-clause-rows
@@ -26,4 +26,4 @@ returns c =
     (c.in_ok-append_in_order.ensures
     ∙ (λ i. c.push_statics.new.made.items ++ in_order (map placed_row (rows i) ++ map placed_change (changes i)))
     ∙ ap (λ fs. fs ++ in_order (map placed_row m.rows ++ map placed_change (changes_of m.ranges)))
-    (c.in_ok-push_statics.ensures ∙ ap (λ fs. fs ++ static_fragment m.statics) (c.in_ok-push.ensures.items ∙ ap (λ fs. fs ++ frag.Start m.pt ∷ []) c.new-made.ensures.items)))
+    (c.in_ok-push_statics.ensures ∙ (λ i. c.push.new.self.items ++ static_fragment (c.as_row.ensures.value i)) ∙ ap (λ fs. fs ++ static_fragment m.statics) (c.in_ok-push.ensures.items ∙ ap (λ fs. fs ++ frag.Start m.pt ∷ []) c.new-made.ensures.items)))

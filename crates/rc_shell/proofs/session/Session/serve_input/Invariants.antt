@@ -6,9 +6,9 @@ use Rattle.rc_shell.proofs.session.Session.serve_input.Given as goal
 
 abbrev pub invariant-loop-taken : goal.invariant-loop-taken
 invariant-loop-taken g l = (l.taken ≤ l.limit)
-    × ((now : Moment) × g.S.Server.stands l.self.server (g.W.Store.files l.store) (g.W.Store.faults l.store) now)
-    × ((start : Moment) → g.S.Server.stands l.initial.self.server (g.W.Store.files l.initial.store) (g.W.Store.faults l.initial.store) start →
-    SoFar LineStep Ends Leaves start (g.S.Server.stands l.self.server (g.W.Store.files l.store) (g.W.Store.faults l.store)) l.self.held.items l.taken
+    × ((now : Moment) × g.S.Server.stands l.self.server (g.W.Store.files l.store, g.W.Store.faults l.store, g.W.Store.asks l.store) now)
+    × ((start : Moment) → g.S.Server.stands l.initial.self.server (g.W.Store.files l.initial.store, g.W.Store.faults l.initial.store, g.W.Store.asks l.initial.store) start →
+    SoFar LineStep Ends Leaves start (g.S.Server.stands l.self.server (g.W.Store.files l.store, g.W.Store.faults l.store, g.W.Store.asks l.store)) l.self.held.items l.taken
     (g.I.Source.left l.initial.input) (g.I.Source.left l.input) (g.K.Sink.written l.initial.out) (g.K.Sink.written l.out)
     (g.I.Source.faults l.initial.input) (g.I.Source.faults l.input) (g.K.Sink.faults l.initial.out) (g.K.Sink.faults l.out))
 

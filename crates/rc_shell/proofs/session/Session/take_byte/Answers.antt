@@ -11,6 +11,6 @@ returns-then-byte-eq10-clause-served g c = λ rest old line is at.
 pub returns-clause-served : goal.returns-clause-served
 returns-clause-served g c = λ rest old line is at.
     byte_taken LineStep Ends Leaves old rest c.args.byte _ _ _ _ _ c.hold.result line c.if-byte-eq10.false
-    (subst (λ s. g.S.Server.stands s (g.W.Store.files c.args.store.now) (g.W.Store.faults c.args.store.now) old) (sym c.hold.ensures.server) at)
-    (g.met.S.Server.leaves c.args.self.now.server (g.W.Store.files c.args.store.now) (g.W.Store.faults c.args.store.now) old at)
+    (subst (λ s. g.S.Server.stands s (g.W.Store.files c.args.store.now, g.W.Store.faults c.args.store.now, g.W.Store.asks c.args.store.now) old) (sym c.hold.ensures.server) at)
+    (g.met.S.Server.leaves c.args.self.now.server (g.W.Store.files c.args.store.now, g.W.Store.faults c.args.store.now, g.W.Store.asks c.args.store.now) old at)
     (on_ok_weaker c.hold.result (λ held. held rest is) c.hold.ensures.held) c.hold.ensures.memory

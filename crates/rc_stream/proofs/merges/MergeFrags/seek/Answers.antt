@@ -1,9 +1,11 @@
 -- The seek is due in place of an earlier one.
-use Rattle.std.proofs.Common.{sym, subst, Some}
+use Rattle.std.proofs.Common.{refl, sym, subst, Some}
 use Rattle.rc_position.specs.declared.positions.Pos.{Pos}
 use Rattle.rc_stream.specs.Moving.{MaySeek, SoughtBoth}
 use Rattle.rc_stream.specs.Stream.{sought}
 use Rattle.rc_stream.proofs.Due.{sought-due, sought-later}
+use Rattle.rc_stream.specs.Showing.{EitherSpot}
+use Rattle.rc_stream.proofs.Blaming.{blames-none}
 use Rattle.rc_stream.proofs.merges.MergeFrags.seek.Goals as goal
 
 pub returns-in-Ok-clause-seen : goal.returns-in-Ok-clause-seen
@@ -29,3 +31,15 @@ returns-in-Ok-clause-ready g c =
       subst (λ (z : Pos). MaySeek A m.ours_held.look z × MaySeek B m.theirs_held.look z) (sym c.in-Ok.ensures)
           (sought-due A B m.ours_held.look m.theirs_held.look m.due c.args.to.now r.6 c.requires.ahead),
     )
+
+pub returns-in-Ok-clause-did : goal.returns-in-Ok-clause-did
+returns-in-Ok-clause-did g c = record { calls = refl }
+
+pub returns-in-Err-clause-did : goal.returns-in-Err-clause-did
+returns-in-Err-clause-did g c = record { calls = refl }
+
+pub returns-in-Ok-clause-damage : goal.returns-in-Ok-clause-damage
+returns-in-Ok-clause-damage g c = blames-none (EitherSpot (g.A.Frags.damage c.args.self.now.ours) (g.B.Frags.damage c.args.self.now.theirs)) _ tt
+
+pub returns-in-Err-clause-damage : goal.returns-in-Err-clause-damage
+returns-in-Err-clause-damage g c = blames-none (EitherSpot (g.A.Frags.damage c.args.self.now.ours) (g.B.Frags.damage c.args.self.now.theirs)) _ tt

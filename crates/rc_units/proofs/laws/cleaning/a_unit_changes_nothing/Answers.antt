@@ -1,5 +1,5 @@
-use Rattle.rc_units.proofs.Units.{unit-seen, unit-carried}
+use Rattle.rc_units.proofs.Units.{unit-seen}
 use Rattle.rc_units.proofs.laws.cleaning.a_unit_changes_nothing.Goals as goal
 
 pub returns : goal.returns
-returns c = record { seen = unit-seen; carried = unit-carried }
+returns c = unit-seen

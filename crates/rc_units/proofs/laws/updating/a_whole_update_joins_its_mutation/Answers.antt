@@ -1,9 +1,9 @@
 use Rattle.std.specs.Prelude.{[]}
-use Rattle.rc_units.proofs.Whole.{whole-continuous, whole-carried}
+use Rattle.rc_units.proofs.Whole.{whole-continuous, whole-known}
 use Rattle.rc_units.proofs.laws.updating.a_whole_update_joins_its_mutation.Goals as goal
 
 pub returns : goal.returns
 returns c = record {
   kept = λ writes change older phase is k. whole-continuous writes change older phase is k;
-  carried = λ change pinned older phase x is h. whole-carried [] change older phase is pinned x h;
+  known = λ change older phase x is h. whole-known [] change older phase is x h;
 }

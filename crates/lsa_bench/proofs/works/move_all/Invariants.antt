@@ -1,0 +1,6 @@
+use Rattle.lsa_region.specs.declared.end.End.TheVariants.{Slot}
+use Rattle.lsa_region.specs.Region.{IsEnd}
+use Rattle.lsa_bench.proofs.works.move_all.Given as goal
+
+abbrev pub invariant-loop-made : goal.invariant-loop-made
+invariant-loop-made l = IsEnd l.region (Slot l.slot)

@@ -1,0 +1,4 @@
+pub mod Middles
+pub mod Reading
+pub mod Changes
+pub mod Objects

@@ -1,0 +1,35 @@
+//! The answers to cases.
+
+use std::cmp::Ordering;
+
+/// What is printed for a case.
+#[derive(Drop)]
+pub(crate) enum Answer {
+    /// A word or two.
+    Word(&'static str),
+    /// A number of bytes.
+    Size(usize),
+    /// Bytes in hexadecimal.
+    Bytes(String),
+    /// The line is no case.
+    NoCase,
+}
+
+/// The word of an order.
+pub(crate) fn order_word(order: Ordering) -> Answer {
+    Answer::Word(match order {
+        Ordering::Less => "less",
+        Ordering::Equal => "equal",
+        Ordering::Greater => "greater",
+    })
+}
+
+/// One of two words.
+pub(crate) fn either(holds: bool, yes: &'static str, no: &'static str) -> Answer {
+    Answer::Word(if holds { yes } else { no })
+}
+
+/// Whether a word is this one.
+pub(crate) fn says(word: &[u8], text: &str) -> bool {
+    word == text.as_bytes()
+}

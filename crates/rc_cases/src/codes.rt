@@ -1,0 +1,132 @@
+//! Cases of codes, in hexadecimal with `_` where it helps. `code KIND HEX` reads a code at the front of bytes and writes it
+//! again; its answer is the code's length, or `none`. `join HEX HEX` joins two rows by their codes.
+
+use crate::answers::{Answer, says};
+use rc_rowcode::{
+    Scratch, join_codes, join_size, key_size, pos_size, read_key, read_pos, read_row, read_tomb,
+    row_size, write_key, write_pos, write_row, write_tomb,
+};
+use std::alloc::{AllocError, Global};
+
+// The value of a hexadecimal digit.
+fn digit_of(byte: u8) -> Option<u8> {
+    match byte {
+        b'0'..=b'9' => Some(byte - b'0'),
+        b'a'..=b'f' => Some(byte - b'a' + 10),
+        _ => None,
+    }
+}
+
+// The bytes of a hexadecimal word, without its `_`.
+fn bytes_of(alloc: Global, word: &[u8]) -> Result<Option<Vec<u8>>, AllocError> {
+    let mut bytes = Vec::new(alloc);
+    let mut high = None;
+    for byte in word {
+        if *byte == b'_' {
+            continue;
+        }
+        let Some(digit) = digit_of(*byte) else {
+            return Ok(None);
+        };
+        match high {
+            None => high = Some(digit),
+            Some(first) => {
+                bytes.push((first % 16) * 16 + digit % 16)?;
+                high = None;
+            }
+        }
+    }
+    Ok(Some(bytes))
+}
+
+// The length of what was read, if it was written again as it was read.
+fn again(bytes: &[u8], written: &[u8], sizes: (usize, usize)) -> Answer {
+    if sizes.0 != sizes.1 || !bytes.starts_with(written) || written.len() != sizes.0 {
+        return Answer::Word("differs");
+    }
+    Answer::Size(sizes.0)
+}
+
+/// The length of the code at the front of bytes.
+pub(crate) fn reads(alloc: Global, kind: &[u8], word: &[u8]) -> Result<Answer, AllocError> {
+    let Some(bytes) = bytes_of(alloc, word)? else {
+        return Ok(Answer::NoCase);
+    };
+    let bytes = bytes.as_slice();
+    if says(kind, "row") {
+        return reads_row(alloc, bytes);
+    }
+    if says(kind, "key") {
+        return reads_key(alloc, bytes);
+    }
+    if says(kind, "position") {
+        return reads_pos(alloc, bytes);
+    }
+    if says(kind, "tombstone") {
+        return reads_tomb(alloc, bytes);
+    }
+    Ok(Answer::NoCase)
+}
+
+fn reads_row(alloc: Global, bytes: &[u8]) -> Result<Answer, AllocError> {
+    let Some((row, size)) = read_row(alloc, bytes)? else {
+        return Ok(Answer::Word("none"));
+    };
+    let mut out = Vec::new(alloc);
+    write_row(alloc, &row, &mut out)?;
+    Ok(again(bytes, out.as_slice(), (size, row_size(&row))))
+}
+
+fn reads_key(alloc: Global, bytes: &[u8]) -> Result<Answer, AllocError> {
+    let Some((key, size)) = read_key(alloc, bytes)? else {
+        return Ok(Answer::Word("none"));
+    };
+    let mut out = Vec::new(alloc);
+    write_key(alloc, &key, &mut out)?;
+    Ok(again(bytes, out.as_slice(), (size, key_size(&key))))
+}
+
+fn reads_pos(alloc: Global, bytes: &[u8]) -> Result<Answer, AllocError> {
+    let Some((x, size)) = read_pos(alloc, bytes)? else {
+        return Ok(Answer::Word("none"));
+    };
+    let mut out = Vec::new(alloc);
+    write_pos(alloc, &x, &mut out)?;
+    Ok(again(bytes, out.as_slice(), (size, pos_size(&x))))
+}
+
+fn reads_tomb(alloc: Global, bytes: &[u8]) -> Result<Answer, AllocError> {
+    let Some((tomb, size)) = read_tomb(alloc, bytes)? else {
+        return Ok(Answer::Word("none"));
+    };
+    let mut out = Vec::new(alloc);
+    write_tomb(alloc, &tomb, &mut out)?;
+    Ok(again(bytes, out.as_slice(), (size, 12)))
+}
+
+/// The code of two rows joined, by their codes alone.
+pub(crate) fn joins(alloc: Global, first: &[u8], second: &[u8]) -> Result<Answer, AllocError> {
+    let Some(first) = bytes_of(alloc, first)? else {
+        return Ok(Answer::NoCase);
+    };
+    let Some(second) = bytes_of(alloc, second)? else {
+        return Ok(Answer::NoCase);
+    };
+    let Some((ours, _)) = read_row(alloc, first.as_slice())? else {
+        return Ok(Answer::Word("none"));
+    };
+    let Some((theirs, _)) = read_row(alloc, second.as_slice())? else {
+        return Ok(Answer::Word("none"));
+    };
+    let mut a = Vec::new(alloc);
+    write_row(alloc, &ours, &mut a)?;
+    let mut b = Vec::new(alloc);
+    write_row(alloc, &theirs, &mut b)?;
+    let mut out = Scratch::new(alloc, 8599)?;
+    let size = join_size(a.as_slice(), b.as_slice());
+    join_codes(a.as_slice(), b.as_slice(), &mut out);
+    if out.bytes().len() != size {
+        return Ok(Answer::Word("differs"));
+    }
+    Ok(Answer::Bytes(hex::encode(alloc, out.bytes())?))
+}

@@ -1,0 +1,97 @@
+//! Cases of values, codes and schemas: a line of standard input is a case, and what is printed for it is its answer.
+//! The answers were worked out by hand from the rules. An empty line or one that begins with `#` is no case.
+#![tactic(auto)]
+
+mod answers;
+mod codes;
+mod positions;
+mod rows;
+mod schemas;
+
+use answers::{Answer, says};
+use std::alloc::{AllocError, Global};
+use std::io;
+
+/// The answer to a case.
+fn answer(alloc: Global, line: &[u8]) -> Result<Answer, AllocError> {
+    if let Some(text) = line.strip_prefix(b"schema ") {
+        return schemas::reads(alloc, text);
+    }
+    let words = rc_spelling::words(alloc, line)?;
+    match words.as_slice() {
+        [kind, first, second] => two(alloc, kind, first, second),
+        [kind, first, second, third] => three(alloc, kind, first, second, third),
+        [kind, first, second, third, fourth] => four(alloc, kind, first, second, third, fourth),
+        _ => Ok(Answer::NoCase),
+    }
+}
+
+/// The answer to a case of two words.
+fn two(alloc: Global, kind: &[u8], first: &[u8], second: &[u8]) -> Result<Answer, AllocError> {
+    if says(kind, "code") {
+        return codes::reads(alloc, first, second);
+    }
+    if says(kind, "join") {
+        return codes::joins(alloc, first, second);
+    }
+    if says(kind, "wins") {
+        return rows::wins(alloc, first, second);
+    }
+    Ok(Answer::NoCase)
+}
+
+/// The answer to a case of three words.
+fn three(
+    alloc: Global,
+    kind: &[u8],
+    first: &[u8],
+    second: &[u8],
+    third: &[u8],
+) -> Result<Answer, AllocError> {
+    if says(kind, "within") {
+        return positions::within(alloc, first, second, third);
+    }
+    if says(kind, "key") {
+        return schemas::checks_key(alloc, first, second, third);
+    }
+    if says(kind, "row") {
+        return schemas::checks_row(alloc, first, second, third);
+    }
+    Ok(Answer::NoCase)
+}
+
+/// The answer to a case of four words.
+fn four(
+    alloc: Global,
+    kind: &[u8],
+    first: &[u8],
+    second: &[u8],
+    third: &[u8],
+    fourth: &[u8],
+) -> Result<Answer, AllocError> {
+    if says(kind, "order") {
+        return positions::order(alloc, first, second, third, fourth);
+    }
+    if says(kind, "life") {
+        return rows::life(alloc, first, second, third, fourth);
+    }
+    Ok(Answer::NoCase)
+}
+
+fn main(rt: HostRuntime) -> io::Result<()> {
+    let alloc = rt.alloc();
+    for line in rt.lines(alloc) {
+        let line = line?;
+        let line = line.as_bytes();
+        if line.is_empty() || line.starts_with(b"#") {
+            continue;
+        }
+        match answer(alloc, line)? {
+            Answer::Word(word) => println!(rt; "{word}")?,
+            Answer::Size(size) => println!(rt; "{size}")?,
+            Answer::Bytes(text) => println!(rt; "{text}")?,
+            Answer::NoCase => println!(rt; "no case")?,
+        }
+    }
+    Ok(())
+}

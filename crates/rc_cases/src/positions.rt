@@ -1,0 +1,150 @@
+//! Cases of positions. `order KEY WEIGHT KEY WEIGHT` compares two of them in each way that there is; `within FROM TO KEY`
+//! asks whether the row of a key is in a range. A key is its components with commas between them, or `*`.
+
+use crate::answers::{Answer, either, order_word, says};
+use rc_position::{Comp, Key, Pos, Slice, Text, Weight, end_pos, start_pos};
+use rc_rowcode::{compare_code_with_key, compare_code_with_pos, compare_codes};
+use rc_spelling::{read_components, signed};
+use std::alloc::{AllocError, Global};
+use std::cmp::Ordering;
+
+/// The key that a word spells: a component that is a number is an int.
+pub(crate) fn key_of(alloc: Global, word: &[u8]) -> Result<Option<Key>, AllocError> {
+    let mut comps = Vec::new(alloc);
+    if says(word, "*") {
+        return Ok(Some(Key::from_vec(comps)));
+    }
+    let Some(spelled) = read_components(alloc, word, 5)? else {
+        return Ok(None);
+    };
+    for bytes in spelled {
+        match signed(bytes.as_slice()) {
+            Some(number) => comps.push(Comp::Int(number))?,
+            None => comps.push(Comp::Text(Text::from_vec(bytes)))?,
+        }
+    }
+    Ok(Some(Key::from_vec(comps)))
+}
+
+fn weight_of(word: &[u8]) -> Option<Weight> {
+    if says(word, "before") {
+        return Some(Weight::Before);
+    }
+    if says(word, "at") {
+        return Some(Weight::At);
+    }
+    if says(word, "after") {
+        return Some(Weight::After);
+    }
+    None
+}
+
+fn pos_of(alloc: Global, key: &[u8], weight: &[u8]) -> Result<Option<Pos>, AllocError> {
+    let Some(prefix) = key_of(alloc, key)? else {
+        return Ok(None);
+    };
+    match weight_of(weight) {
+        Some(weight) => Ok(Some(Pos { prefix, weight })),
+        None => Ok(None),
+    }
+}
+
+// A count as a byte; 255 of one that passes it.
+fn byte_of(count: usize) -> u8 {
+    u8::try_from(count).unwrap_or(255)
+}
+
+// The code of a position, spelt by hand from the table of the formats.
+fn code_of(alloc: Global, x: &Pos) -> Result<Vec<u8>, AllocError> {
+    let mut code = Vec::new(alloc);
+    code.push(match x.weight {
+        Weight::Before => 0,
+        Weight::At => 1,
+        Weight::After => 2,
+    })?;
+    code.push(byte_of(x.prefix.as_slice().len()))?;
+    for comp in x.prefix.as_slice() {
+        match comp {
+            Comp::Int(number) => {
+                code.push(0)?;
+                code.extend_from_slice(&number.to_le_bytes())?;
+            }
+            Comp::Text(text) => {
+                code.push(1)?;
+                code.push(byte_of(text.as_slice().len()))?;
+                code.extend_from_slice(text.as_slice())?;
+            }
+        }
+    }
+    Ok(code)
+}
+
+// Whether each way to compare gives this order.
+fn all_give(order: Ordering, x: &Pos, y: &Pos, a: &[u8], b: &[u8]) -> bool {
+    let codes = compare_codes(a, b) == order && compare_codes(b, a) == order.reverse();
+    let mixed = compare_code_with_pos(a, y) == order && x.cmp(y) == order;
+    let keys = match y.weight {
+        Weight::At => {
+            compare_code_with_key(a, &y.prefix) == order
+                && y.prefix.compare_with_pos(x) == order.reverse()
+        }
+        _ => true,
+    };
+    codes && mixed && keys
+}
+
+/// How two positions are ordered, or that ways to compare them differ.
+pub(crate) fn order(
+    alloc: Global,
+    left: &[u8],
+    left_weight: &[u8],
+    right: &[u8],
+    right_weight: &[u8],
+) -> Result<Answer, AllocError> {
+    let Some(x) = pos_of(alloc, left, left_weight)? else {
+        return Ok(Answer::NoCase);
+    };
+    let Some(y) = pos_of(alloc, right, right_weight)? else {
+        return Ok(Answer::NoCase);
+    };
+    let a = code_of(alloc, &x)?;
+    let b = code_of(alloc, &y)?;
+    let order = x.cmp(&y);
+    if !all_give(order, &x, &y, a.as_slice(), b.as_slice()) {
+        return Ok(Answer::Word("differs"));
+    }
+    Ok(order_word(order))
+}
+
+/// Whether the row of a key is in a range: `[` and `]` stand at inclusive bounds, `(` and `)` at exclusive ones.
+pub(crate) fn within(
+    alloc: Global,
+    from: &[u8],
+    to: &[u8],
+    key: &[u8],
+) -> Result<Answer, AllocError> {
+    let Some((opening, first)) = from.split_first() else {
+        return Ok(Answer::NoCase);
+    };
+    let Some((closing, last)) = to.split_last() else {
+        return Ok(Answer::NoCase);
+    };
+    let Some(first) = key_of(alloc, first)? else {
+        return Ok(Answer::NoCase);
+    };
+    let Some(last) = key_of(alloc, last)? else {
+        return Ok(Answer::NoCase);
+    };
+    let Some(x) = pos_of(alloc, key, b"at")? else {
+        return Ok(Answer::NoCase);
+    };
+    let slice = Slice {
+        from: start_pos(alloc, &first, *opening == b'[')?,
+        to: end_pos(alloc, &last, *closing == b']')?,
+    };
+    let same = slice.copy(alloc)?;
+    if slice.has(&x) != same.has(&x) {
+        return Ok(Answer::Word("differs"));
+    }
+    Ok(either(slice.has(&x), "in", "out"))
+}

@@ -1,0 +1,105 @@
+//! Cases of rows. `wins CELL CELL` joins two cells of one column in both orders; `life MARKER TOMB CELL COVER` asks whether a
+//! row of one cell is live under a cover. A cell is TS=VALUE, or TS!DT where it is dead; `-` is no timestamp.
+
+use crate::answers::{Answer, either};
+use rc_cell::{Cell, Cells, Row, Tomb, Value};
+use rc_spelling::{number, read_bytes, signed};
+use std::alloc::{AllocError, Global};
+
+/// The cell that a word spells.
+pub(crate) fn cell_of(alloc: Global, word: &[u8]) -> Result<Option<Cell>, AllocError> {
+    match word.iter().position(|byte| *byte == b'=' || *byte == b'!') {
+        Some(mark) => cell_at(alloc, word, mark),
+        None => Ok(None),
+    }
+}
+
+// The cell of a word with its mark at this place.
+fn cell_at(alloc: Global, word: &[u8], mark: usize) -> Result<Option<Cell>, AllocError> {
+    if word.len() <= mark {
+        return Ok(None);
+    }
+    let (stamp, rest) = word.split_at(mark);
+    let Some(ts) = signed(stamp) else {
+        return Ok(None);
+    };
+    match rest {
+        [b'=', spelled @ ..] => match read_bytes(alloc, spelled)? {
+            Some(bytes) => Ok(Some(Cell::Live {
+                ts,
+                value: Value::from_vec(bytes),
+            })),
+            None => Ok(None),
+        },
+        [_mark, time @ ..] => match number(time, 4294967295) {
+            Some(dt) => Ok(Some(Cell::Dead { ts, dt: dt as u32 })),
+            None => Ok(None),
+        },
+        [] => Ok(None),
+    }
+}
+
+// A row of one cell.
+fn row_of(alloc: Global, cell: &Cell) -> Result<Row, AllocError> {
+    Ok(Row {
+        marker: None,
+        tomb: None,
+        cells: Cells::from_vec(Vec::from_array(alloc, [(3, cell.copy(alloc)?)])?),
+    })
+}
+
+// Whether the row's one cell is this one.
+fn holds(row: &Row, wanted: &Cell) -> bool {
+    match row.cells.as_slice() {
+        [(_column, cell)] => cell == wanted,
+        _ => false,
+    }
+}
+
+/// Which of two cells wins, or that orders of joining differ.
+pub(crate) fn wins(alloc: Global, first: &[u8], second: &[u8]) -> Result<Answer, AllocError> {
+    let Some(first) = cell_of(alloc, first)? else {
+        return Ok(Answer::NoCase);
+    };
+    let Some(second) = cell_of(alloc, second)? else {
+        return Ok(Answer::NoCase);
+    };
+    let mut joined = row_of(alloc, &first)?;
+    joined.join(alloc, &row_of(alloc, &second)?)?;
+    let mut turned = row_of(alloc, &second)?;
+    turned.join(alloc, &row_of(alloc, &first)?)?;
+    if holds(&joined, &first) && holds(&turned, &first) && second < first {
+        return Ok(Answer::Word("first"));
+    }
+    if holds(&joined, &second) && holds(&turned, &second) && first < second {
+        return Ok(Answer::Word("second"));
+    }
+    Ok(Answer::Word("differs"))
+}
+
+fn tomb_of(word: &[u8]) -> Option<Tomb> {
+    let ts = signed(word)?;
+    Some(Tomb { ts, dt: 7 })
+}
+
+/// Whether a row of one cell is live under a cover.
+pub(crate) fn life(
+    alloc: Global,
+    marker: &[u8],
+    tomb: &[u8],
+    cell: &[u8],
+    cover: &[u8],
+) -> Result<Answer, AllocError> {
+    let Some(cell) = cell_of(alloc, cell)? else {
+        return Ok(Answer::NoCase);
+    };
+    let mut row = row_of(alloc, &cell)?;
+    row.marker = signed(marker);
+    row.tomb = tomb_of(tomb);
+    let cover = tomb_of(cover);
+    let left = row.shadow(alloc, cover)?;
+    if row.is_live(cover) != left.is_live(None) {
+        return Ok(Answer::Word("differs"));
+    }
+    Ok(either(row.is_live(cover), "live", "gone"))
+}

@@ -1,0 +1,81 @@
+//! Cases of schemas. `schema TEXT` reads a schema's text; `key KINDS full KEY` and `key KINDS prefix KEY` check a key;
+//! `row regular COLUMN CELL` and `row static COLUMN CELL` check a row of one cell under one static and two regular columns.
+
+use crate::answers::{Answer, either, says};
+use crate::positions::key_of;
+use crate::rows::cell_of;
+use rc_cell::{Cells, Row};
+use rc_schema::{Schema, SchemaErr, SchemaTextErr};
+use rc_spelling::number;
+use std::alloc::{AllocError, Global};
+
+/// Whether a text gives a schema, whose own text and whose copy's it then is.
+pub(crate) fn reads(alloc: Global, text: &[u8]) -> Result<Answer, AllocError> {
+    let Some(schema) = schema_of(alloc, text)? else {
+        return Ok(Answer::Word("no schema"));
+    };
+    let copy = schema.copy(alloc)?;
+    let own = schema.text(alloc)?;
+    let same = own.as_slice() == text && copy.text(alloc)?.as_slice() == text;
+    Ok(either(same && schema.is_same(&copy), "a schema", "differs"))
+}
+
+fn schema_of(alloc: Global, text: &[u8]) -> Result<Option<Schema>, AllocError> {
+    match Schema::read(alloc, text) {
+        Ok(schema) => Ok(Some(schema)),
+        Err(SchemaTextErr::Malformed) => Ok(None),
+        Err(SchemaTextErr::NoMemory) => Err(AllocError),
+    }
+}
+
+fn checked(found: Result<(), SchemaErr>) -> Answer {
+    Answer::Word(match found {
+        Ok(()) => "fits",
+        Err(SchemaErr::WrongKey) => "wrong key",
+        Err(SchemaErr::UnknownColumn) => "unknown column",
+        Err(SchemaErr::TooLong) => "too long",
+    })
+}
+
+/// What is wrong with a key, or with a prefix of one.
+pub(crate) fn checks_key(
+    alloc: Global,
+    kinds: &[u8],
+    full: &[u8],
+    key: &[u8],
+) -> Result<Answer, AllocError> {
+    let mut text = Vec::from_slice(alloc, b"ck=")?;
+    text.extend_from_slice(kinds)?;
+    text.extend_from_slice(b" static=s cols=a,b")?;
+    let Some(schema) = schema_of(alloc, text.as_slice())? else {
+        return Ok(Answer::NoCase);
+    };
+    let Some(key) = key_of(alloc, key)? else {
+        return Ok(Answer::NoCase);
+    };
+    Ok(checked(schema.check_prefix(&key, says(full, "full"))))
+}
+
+/// What is wrong with a row of one cell.
+pub(crate) fn checks_row(
+    alloc: Global,
+    place: &[u8],
+    column: &[u8],
+    cell: &[u8],
+) -> Result<Answer, AllocError> {
+    let Some(schema) = schema_of(alloc, b"ck=int static=s cols=a,b")? else {
+        return Ok(Answer::NoCase);
+    };
+    let Some(column) = number(column, 255) else {
+        return Ok(Answer::NoCase);
+    };
+    let Some(cell) = cell_of(alloc, cell)? else {
+        return Ok(Answer::NoCase);
+    };
+    let row = Row {
+        marker: None,
+        tomb: None,
+        cells: Cells::from_vec(Vec::from_array(alloc, [(column as u8, cell)])?),
+    };
+    Ok(checked(schema.check_row(&row, says(place, "static"))))
+}

@@ -1,0 +1,65 @@
+-- A version under update, as it stands at the update's place.
+--     IsSilentFrom     from a place on it says nothing, at no spot: neither at positions nor over gaps, nor at the head
+--     HasItsPlace      where the place is clustered an entry stands at it; behind the place none stands but the end dummy
+--     IsAtPlace        both
+use Rattle.std.specs.Prelude.{◌≡◌, ◌⊎◌, List, [], ◌∷◌, None}
+use Rattle.std.specs.declared.cmp.Ordering.{Ordering}
+use Rattle.std.specs.declared.cmp.Ordering.TheVariants.{Less, Equal, Greater}
+use Rattle.rc_position.specs.declared.positions.Pos.{Pos}
+use Rattle.rc_position.specs.Position.{Place, Head, Static, Clustered, End, place_cmp, pos_cmp}
+use Rattle.rc_core.specs.declared.entries.Entry.{Entry}
+use Rattle.rc_core.specs.Cell.{nothing}
+use Rattle.rc_core.specs.Version.{Spot, Version, cell_at, static_cell, end_position}
+use Rattle.rc_core.specs.Change.{position_of}
+use Rattle.rc_core.specs.Plain.{no_mark}
+
+-- what holds of each entry
+abbrev pub EachEntry : (Entry → Type 0) → List Entry → Type 0
+EachEntry P [] = Unit {0}
+EachEntry P (e ∷ es) = P e × EachEntry P es
+
+-- an entry stands at a position
+abbrev pub HasEntryAt : Pos → List Entry → Type 0
+HasEntryAt x [] = ⊥
+HasEntryAt x (e ∷ es) = (e.position ≡ x) ⊎ HasEntryAt x es
+
+-- from a place on a version says nothing: all is Inherit, and nothing is held
+pub record IsSilentFrom (p : Place) (v : Version) : Type 0 where
+  pub head : (place_cmp Head p ≡ Less → ⊥) → v.pt ≡ None
+  pub statics : (place_cmp Static p ≡ Less → ⊥) → static_cell v ≡ nothing
+  pub clustered : (s : Spot) → (place_cmp (Clustered (position_of s)) p ≡ Less → ⊥) → cell_at s v ≡ nothing
+
+-- an entry stands at the place, where it is clustered
+abbrev pub StandsAtPlace : Place → List Entry → Type 0
+StandsAtPlace Head entries = Unit {0}
+StandsAtPlace Static entries = Unit {0}
+StandsAtPlace (Clustered x) entries = HasEntryAt x entries
+StandsAtPlace End entries = Unit {0}
+
+-- an entry that stands behind the place is the end dummy
+abbrev pub EndsBehind : Place → Entry → Type 0
+EndsBehind p e = place_cmp p (Clustered e.position) ≡ Less → e.position ≡ end_position
+
+-- an entry stands at the place, where it is clustered, and none stands behind it but the end dummy
+pub record HasItsPlace (p : Place) (entries : List Entry) : Type 0 where
+  pub stands : StandsAtPlace p entries
+  pub last : EachEntry (EndsBehind p) entries
+
+-- a version under update at the update's place: silent from there on, and its last inner entry marks the place
+pub record IsAtPlace (p : Place) (v : Version) : Type 0 where
+  pub silent : IsSilentFrom p v
+  pub place : HasItsPlace p v.entries
+
+-- an entry says nothing at its own position
+abbrev pub SaysNothingAt : Entry → Type 0
+SaysNothingAt e = (e.at ≡ no_mark) × (e.row ≡ None)
+
+-- by where an entry stands against the place: at it and behind it nothing is said, and behind it stands the end dummy alone
+abbrev pub FitsBy : Ordering → Entry → Type 0
+FitsBy Less e = Unit {0}
+FitsBy Equal e = SaysNothingAt e
+FitsBy Greater e = SaysNothingAt e × (e.gap ≡ no_mark) × (e.position ≡ end_position)
+
+-- an entry as it may stand in a version at a place that is clustered
+abbrev pub FitsPlace : Pos → Entry → Type 0
+FitsPlace p e = FitsBy (pos_cmp e.position p) e

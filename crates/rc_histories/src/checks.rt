@@ -1,0 +1,557 @@
+//! The definitions of continuity, tried at every position of the universe.
+
+use crate::chain::{Chain, Place, alone, upto};
+use crate::source::{Said, Source, is_same_row};
+use crate::tally::Tally;
+use crate::universe::{Universe, behind_key, end_position, start_position};
+use rc_cell::{Row, Tomb};
+use rc_core::{
+    ChainKind, Entry, Flag, Part, PlainVersion, Seen, Side, base_at, first_part, head_of,
+    is_at_place, is_known_at, is_known_in, seen_at, statics_at,
+};
+use rc_mutation::greater_tomb;
+use rc_position::{Pos, Weight};
+use std::alloc::{AllocError, Global};
+use std::cmp::Ordering;
+
+/// Every definition of a chain, where `sources` is what the writes say of each phase.
+pub(crate) fn check_chain(
+    alloc: Global,
+    universe: &Universe,
+    sources: &[Source],
+    chain: &Chain,
+    tally: &mut Tally,
+) -> Result<(), AllocError> {
+    check_form(alloc, chain, tally);
+    for number in 0..chain.versions.len() {
+        let versions = upto(chain.versions.as_slice(), number);
+        let phase = match versions.last() {
+            Some(version) => version.phase as usize,
+            None => 0,
+        };
+        if let Some(source) = sources.get(phase) {
+            check_version(alloc, universe, source, chain, number, tally)?;
+        } else {
+            tally.expect(false, "a version has a phase that no source has");
+        }
+    }
+    check_place(alloc, chain, tally)
+}
+
+// Versions end with their end dummies, and snapshots pin versions that there are, and not the one under update.
+fn check_form(alloc: Global, chain: &Chain, tally: &mut Tally) {
+    let end = end_position(alloc);
+    for version in &chain.versions {
+        tally.expect(
+            is_version(&end, version),
+            "entries ascend and end with the end dummy",
+        );
+    }
+    for pin in &chain.pins {
+        if let Some(number) = pin {
+            let newest = chain.is_newest(*number);
+            tally.expect(
+                *number < chain.versions.len() && !(newest && chain.is_updating()),
+                "a snapshot pins a version that is not under update",
+            );
+        }
+    }
+}
+
+// Whether entries ascend, and the last one is the end dummy.
+fn is_version(end: &Pos, version: &PlainVersion) -> bool {
+    let mut last: Option<&Entry> = None;
+    for entry in &version.entries {
+        if let Some(before) = last
+            && before.position >= entry.position
+        {
+            return false;
+        }
+        last = Some(entry);
+    }
+    match last {
+        Some(entry) => entry.position == *end && entry.row.is_none(),
+        None => false,
+    }
+}
+
+// The version under update stands at the update's place.
+fn check_place(alloc: Global, chain: &Chain, tally: &mut Tally) -> Result<(), AllocError> {
+    let (Some(update), Some(version)) = (&chain.update, chain.versions.last()) else {
+        return Ok(());
+    };
+    let silent_end = match version.entries.as_slice() {
+        [end] => is_at_place(&end.position, version) && is_silent_gap(end.gap.flag, end.gap.tomb),
+        _ => false,
+    };
+    let silent_statics = version.statics.is_none() && !is_deciding(version.static_flag);
+    let holds = match update.place(alloc)? {
+        Place::Head => version.pt.is_none() && silent_statics && silent_end,
+        Place::Static => silent_statics && silent_end,
+        Place::At(place) => is_at_place(&place, version),
+        Place::End => true,
+    };
+    tally.expect(holds, "the version under update stands at its place");
+    Ok(())
+}
+
+fn is_silent_gap(flag: Flag, tomb: Option<Tomb>) -> bool {
+    tomb.is_none() && !is_deciding(flag)
+}
+
+fn is_deciding(flag: Flag) -> bool {
+    match flag {
+        Flag::Known | Flag::Unknown => true,
+        Flag::Inherit => false,
+    }
+}
+
+// What is asked of one version of a chain.
+fn check_version(
+    alloc: Global,
+    universe: &Universe,
+    source: &Source,
+    chain: &Chain,
+    number: usize,
+    tally: &mut Tally,
+) -> Result<(), AllocError> {
+    let versions = upto(chain.versions.as_slice(), number);
+    let needed = chain.is_needed(number);
+    let reach = chain.reach(alloc, number)?;
+    match chain.kind {
+        ChainKind::Cache => {
+            check_within(alloc, source, versions, tally)?;
+            if needed {
+                check_head(alloc, source, versions, &reach, tally)?;
+            }
+        }
+        ChainKind::Memtable => {
+            check_inherits(alloc, universe, chain, number, tally)?;
+            if needed {
+                check_writes(alloc, source, versions, tally)?;
+            }
+        }
+    }
+    for x in &universe.all {
+        check_base(alloc, versions, x, tally)?;
+        if needed && is_reached(&reach, x) {
+            check_position(alloc, chain.kind, source, versions, x, tally)?;
+        }
+    }
+    if needed && reach.is_none() {
+        check_reading(alloc, chain.kind, source, versions, tally)?;
+    }
+    Ok(())
+}
+
+fn is_reached(reach: &Option<Place>, x: &Pos) -> bool {
+    match reach {
+        Some(place) => place.is_past(x),
+        None => true,
+    }
+}
+
+// No version holds more than the source.
+fn check_within(
+    alloc: Global,
+    source: &Source,
+    versions: &[PlainVersion],
+    tally: &mut Tally,
+) -> Result<(), AllocError> {
+    for number in 0..versions.len() {
+        let one = alone(versions, number);
+        let statics = statics_at(alloc, one)?;
+        let within = is_within(alloc, &statics, &source.statics, None)?;
+        tally.expect(within, "no version holds more than the source: static row");
+        for said in &source.places {
+            let seen = seen_at(alloc, one, &said.position, Side::On)?;
+            let within = is_within(alloc, &seen, &said.row, said.tomb)?;
+            tally.expect(within, "no version holds more than the source");
+        }
+    }
+    Ok(())
+}
+
+// Whether what is seen, joined into a row and a tombstone, leaves them as they are.
+fn is_within(
+    alloc: Global,
+    seen: &Seen,
+    row: &Row,
+    tomb: Option<Tomb>,
+) -> Result<bool, AllocError> {
+    let mut joined = row.copy(alloc)?;
+    joined.join(alloc, &seen.row)?;
+    Ok(is_same_row(&joined, row) && greater_tomb(tomb, seen.tomb) == tomb)
+}
+
+// The partition tombstone is complete, and the static row too where it is flagged, as far as the update's place has come.
+fn check_head(
+    alloc: Global,
+    source: &Source,
+    versions: &[PlainVersion],
+    reach: &Option<Place>,
+    tally: &mut Tally,
+) -> Result<(), AllocError> {
+    let (head, statics) = match reach {
+        Some(place) => (place.is_past_head(), place.is_past_statics()),
+        None => (true, true),
+    };
+    if head {
+        tally.expect(
+            head_of(versions) == source.pt,
+            "the partition tombstone is the source's",
+        );
+    }
+    let seen = statics_at(alloc, versions)?;
+    if statics && is_known_in(ChainKind::Cache, seen.flag) {
+        tally.expect(
+            is_same_row(&seen.row, &source.statics),
+            "a known static row is the source's",
+        );
+    }
+    Ok(())
+}
+
+// A position that is flagged is the source's, and one that is known and bare has the tombstone of the gap behind it.
+fn check_position(
+    alloc: Global,
+    kind: ChainKind,
+    source: &Source,
+    versions: &[PlainVersion],
+    x: &Pos,
+    tally: &mut Tally,
+) -> Result<(), AllocError> {
+    let seen = seen_at(alloc, versions, x, Side::On)?;
+    if !is_known_in(kind, seen.flag) {
+        return Ok(());
+    }
+    if let Some(said) = source.at(x) {
+        tally.expect(
+            is_same_row(&seen.row, &said.row) && seen.tomb == said.tomb,
+            "what is flagged is the source's",
+        );
+    }
+    let known = is_known_at(alloc, kind, versions, x)?;
+    if known && seen.row.is_empty() && *x < end_position(alloc) {
+        let behind = seen_at(alloc, versions, x, Side::Behind)?;
+        tally.expect(
+            behind.tomb == seen.tomb,
+            "the tombstone at a bare known position is that of the gap behind it",
+        );
+    }
+    Ok(())
+}
+
+// What is seen is what the versions from the base on hold, and the flag that of the base.
+fn check_base(
+    alloc: Global,
+    versions: &[PlainVersion],
+    x: &Pos,
+    tally: &mut Tally,
+) -> Result<(), AllocError> {
+    for side in [Side::On, Side::Behind] {
+        let base = base_at(versions, x, side);
+        let mut joined = Seen {
+            flag: Flag::Inherit,
+            row: Row::empty(alloc),
+            tomb: None,
+        };
+        for number in base.unwrap_or(0)..versions.len() {
+            let one = seen_at(alloc, alone(versions, number), x, side)?;
+            if Some(number) == base {
+                joined.flag = one.flag;
+            }
+            joined.row.join(alloc, &one.row)?;
+            joined.tomb = greater_tomb(joined.tomb, one.tomb);
+        }
+        let seen = seen_at(alloc, versions, x, side)?;
+        tally.expect(
+            is_same_seen(&seen, &joined),
+            "what is seen is what stands from the base on",
+        );
+    }
+    Ok(())
+}
+
+/// Whether the same is seen.
+pub(crate) fn is_same_seen(seen: &Seen, other: &Seen) -> bool {
+    let flags = is_known_in(ChainKind::Cache, seen.flag)
+        == is_known_in(ChainKind::Cache, other.flag)
+        && is_deciding(seen.flag) == is_deciding(other.flag);
+    flags && seen.tomb == other.tomb && is_same_row(&seen.row, &other.row)
+}
+
+// All flags of a version of a memtable's chain are Inherit.
+fn check_inherits(
+    alloc: Global,
+    universe: &Universe,
+    chain: &Chain,
+    number: usize,
+    tally: &mut Tally,
+) -> Result<(), AllocError> {
+    let one = alone(chain.versions.as_slice(), number);
+    let statics = statics_at(alloc, one)?;
+    let mut inherits = !is_deciding(statics.flag);
+    for x in &universe.all {
+        if base_at(one, x, Side::On).is_some() || base_at(one, x, Side::Behind).is_some() {
+            inherits = false;
+        }
+    }
+    tally.expect(inherits, "all flags of a memtable are Inherit");
+    Ok(())
+}
+
+// A memtable's chain stands for its writes, and every place is known.
+fn check_writes(
+    alloc: Global,
+    source: &Source,
+    versions: &[PlainVersion],
+    tally: &mut Tally,
+) -> Result<(), AllocError> {
+    let statics = statics_at(alloc, versions)?;
+    tally.expect(
+        is_same_row(&statics.row, &source.statics) && head_of(versions) == source.pt,
+        "the head and the static row of a memtable are those of its writes",
+    );
+    for said in &source.places {
+        tally.expect(
+            is_known_at(alloc, ChainKind::Memtable, versions, &said.position)?,
+            "every place of a memtable is known",
+        );
+    }
+    Ok(())
+}
+
+// The parts from the start to the end: each one that is not missing says what the source says.
+fn check_reading(
+    alloc: Global,
+    kind: ChainKind,
+    source: &Source,
+    versions: &[PlainVersion],
+    tally: &mut Tally,
+) -> Result<(), AllocError> {
+    let end = end_position(alloc);
+    let mut place = start_position(alloc);
+    for _ in 0..64 {
+        let part = part_at(alloc, kind, versions, &place, &end)?;
+        let Some(next) = check_part(alloc, source, &place, part, tally)? else {
+            return Ok(());
+        };
+        tally.expect(place < next, "a part ends behind its beginning");
+        place = next;
+    }
+    tally.expect(false, "a reader comes to the end");
+    Ok(())
+}
+
+// The first part from a place on; the end where the place is behind it.
+fn part_at(
+    alloc: Global,
+    kind: ChainKind,
+    versions: &[PlainVersion],
+    place: &Pos,
+    end: &Pos,
+) -> Result<Part, AllocError> {
+    match place.cmp(end) {
+        Ordering::Less | Ordering::Equal => first_part(alloc, kind, versions, place, end),
+        Ordering::Greater => Ok(Part::End),
+    }
+}
+
+// One part against the source; where the next one begins.
+fn check_part(
+    alloc: Global,
+    source: &Source,
+    from: &Pos,
+    part: Part,
+    tally: &mut Tally,
+) -> Result<Option<Pos>, AllocError> {
+    match part {
+        Part::Row { key, row, tomb } => {
+            let at = Pos {
+                prefix: key.copy(alloc)?,
+                weight: Weight::At,
+            };
+            let holds = match source.at(&at) {
+                Some(said) => is_same_row(&said.row, &row) && said.tomb == tomb,
+                None => false,
+            };
+            tally.expect(holds && at == *from, "a row that is read is the source's");
+            Ok(Some(behind_key(alloc, &key)?))
+        }
+        Part::Gap { to, tomb } => {
+            for said in &source.places {
+                if *from <= said.position && said.position < to {
+                    tally.expect(is_gap(said, tomb), "a gap that is read is the source's");
+                }
+            }
+            Ok(Some(to))
+        }
+        Part::Missing { to } => Ok(Some(to)),
+        Part::End => Ok(None),
+    }
+}
+
+fn is_gap(said: &Said, tomb: Option<Tomb>) -> bool {
+    said.row.is_empty() && said.tomb == tomb
+}
+
+/// What is seen of one place.
+#[derive(Drop)]
+pub(crate) struct Sight {
+    /// The position; none of the static row.
+    position: Option<Pos>,
+    /// Whether it is the gap right behind the position.
+    behind: bool,
+    /// What is seen.
+    seen: Seen,
+}
+
+/// What is seen of a version that somebody needs: at each position and over the gap behind it, and the static row last.
+#[derive(Drop)]
+pub(crate) struct Picture {
+    /// In order.
+    pub(crate) sights: Vec<Sight>,
+}
+
+/// Pictures of the versions of a chain that somebody needs, the oldest first.
+pub(crate) fn pictures(
+    alloc: Global,
+    universe: &Universe,
+    chain: &Chain,
+) -> Result<Vec<Picture>, AllocError> {
+    let mut made = Vec::new(alloc);
+    for number in 0..chain.versions.len() {
+        if chain.is_needed(number) {
+            made.push(picture_of(alloc, universe, upto(chain.versions.as_slice(), number))?)?;
+        }
+    }
+    Ok(made)
+}
+
+fn picture_of(
+    alloc: Global,
+    universe: &Universe,
+    versions: &[PlainVersion],
+) -> Result<Picture, AllocError> {
+    let mut sights = Vec::new(alloc);
+    for x in &universe.all {
+        sights.push(Sight {
+            position: Some(x.copy(alloc)?),
+            behind: false,
+            seen: seen_at(alloc, versions, x, Side::On)?,
+        })?;
+        sights.push(Sight {
+            position: Some(x.copy(alloc)?),
+            behind: true,
+            seen: seen_at(alloc, versions, x, Side::Behind)?,
+        })?;
+    }
+    sights.push(Sight {
+        position: None,
+        behind: false,
+        seen: statics_at(alloc, versions)?,
+    })?;
+    Ok(Picture { sights })
+}
+
+/// What a step may do to what is seen.
+#[derive(Drop)]
+pub(crate) enum Effect {
+    /// Nothing changes in any version.
+    Nothing,
+    /// What is known was known before, and is the same.
+    Less,
+    /// From one position on and before another everything is known, in the newest version; else nothing changes.
+    Between(Pos, Pos),
+    /// One position is known, in the newest version; else nothing changes.
+    Row(Pos),
+    /// The static row of the newest version is known; else nothing changes.
+    Statics,
+    /// Other versions are needed than before, or the newest has gone on.
+    Open,
+}
+
+/// What was seen before a step against what is seen now.
+pub(crate) fn check_effect(
+    kind: ChainKind,
+    effect: &Effect,
+    before: &[Picture],
+    now: &[Picture],
+    tally: &mut Tally,
+) {
+    if let Effect::Open = effect {
+        return;
+    }
+    tally.expect(
+        before.len() == now.len(),
+        "the versions that are needed stay",
+    );
+    let mut left = now.len();
+    for (old, new) in before.iter().zip(now.iter()) {
+        left = left.saturating_sub(1);
+        for (was, is) in old.sights.iter().zip(new.sights.iter()) {
+            tally.expect(
+                keeps(kind, effect, left == 0, was, is),
+                "what a step does not touch stays",
+            );
+        }
+    }
+}
+
+// Whether a place is seen as the effect of a step has it.
+fn keeps(kind: ChainKind, effect: &Effect, newest: bool, was: &Sight, is: &Sight) -> bool {
+    let known_now = is_known_in(kind, is.seen.flag);
+    let same = known_now == is_known_in(kind, was.seen.flag)
+        && !(newest && is_filled(effect, is))
+        && is.seen.tomb == was.seen.tomb
+        && is_same_row(&is.seen.row, &was.seen.row);
+    let touched = match effect {
+        Effect::Less => !known_now,
+        _ => known_now && newest && is_filled(effect, is),
+    };
+    same || touched
+}
+
+// Whether a place is one that a fill makes known.
+fn is_filled(effect: &Effect, sight: &Sight) -> bool {
+    match (effect, &sight.position) {
+        (Effect::Between(from, to), Some(x)) => *from <= *x && *x < *to,
+        (Effect::Row(at), Some(x)) => *at == *x && !sight.behind,
+        (Effect::Statics, None) => true,
+        _ => false,
+    }
+}
+
+/// At each position of the universe whether it is carried: known in the version that a snapshot pins and, before the update's place, in the
+/// newest too.
+pub(crate) fn carried(
+    alloc: Global,
+    universe: &Universe,
+    chain: &Chain,
+) -> Result<Vec<bool>, AllocError> {
+    let mut made = Vec::new(alloc);
+    if !chain.attached || chain.versions.is_empty() {
+        return Ok(made);
+    }
+    let all = chain.versions.as_slice();
+    let newest = all.len().saturating_sub(1);
+    let reach = chain.reach(alloc, newest)?;
+    let pinned = match chain.snapshot_version() {
+        Some(number) => upto(all, number),
+        None => all,
+    };
+    for x in &universe.all {
+        let before = is_known_at(alloc, chain.kind, pinned, x)?;
+        let over = !is_reached(&reach, x) || is_known_at(alloc, chain.kind, all, x)?;
+        made.push(before && over)?;
+    }
+    Ok(made)
+}
+
+/// Carried positions stay carried.
+pub(crate) fn check_carried(before: &[bool], now: &[bool], tally: &mut Tally) {
+    for (was, is) in before.iter().zip(now.iter()) {
+        tally.expect(!*was || *is, "what is carried stays carried");
+    }
+}

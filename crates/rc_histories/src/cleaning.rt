@@ -1,0 +1,172 @@
+//! The cleaner: a part of a version that nobody reads goes under the next newer one, or is lost where there is no room; and the objects of
+//! a chain that nobody finds or reads are freed one at a time.
+
+use crate::chain::Chain;
+use crate::checks::Effect;
+use crate::evicting::is_left;
+use crate::history::{History, Step};
+use rc_core::{
+    ChainKind, Flag, Mark, PlainVersion, drop_entry, flag_under, mark_of_lost, merge_head,
+};
+use rc_units::{
+    close_gap, may_merge, merge_end_dummy, merge_first_entry, next_to_clean, put_row_down,
+};
+use std::alloc::{AllocError, Global};
+
+/// A unit of the cleaner, of the version that comes next or of another that it may merge.
+pub(crate) fn clean(alloc: Global, history: &mut History) -> Result<Option<Step>, AllocError> {
+    let room = !history.chance.happens(12);
+    let chain = &mut history.chain;
+    let versions = chain.versions.len();
+    let updating = chain.is_updating();
+    let some = history.chance.index(versions);
+    let next = next_to_clean(versions, chain.pins.as_slice(), updating);
+    let other = some < versions && may_merge(some, versions, chain.pins.as_slice(), updating);
+    let number = if other { Some(some) } else { next };
+    let Some(number) = number else {
+        return Ok(None);
+    };
+    if number >= versions {
+        return Ok(None);
+    }
+    let mut older = chain.versions.remove(number);
+    let Some(newer) = chain.versions.get_mut(number) else {
+        return Ok(None);
+    };
+    let step = merge(alloc, chain.kind, room, &mut older, newer)?;
+    if step.dropped {
+        renumber(&mut chain.pins, number);
+    } else if number <= chain.versions.len() {
+        chain.versions.insert(number, older)?;
+    }
+    Ok(Some(step))
+}
+
+// The pins of newer versions, once one is gone.
+fn renumber(pins: &mut Vec<Option<usize>>, gone: usize) {
+    for pin in pins.iter_mut() {
+        if let Some(number) = *pin
+            && number > gone
+        {
+            *pin = Some(number - 1);
+        }
+    }
+}
+
+// One unit: the static row first, then the first entry, and the end dummy last, with which the older version is dropped.
+fn merge(
+    alloc: Global,
+    kind: ChainKind,
+    room: bool,
+    older: &mut PlainVersion,
+    newer: &mut PlainVersion,
+) -> Result<Step, AllocError> {
+    let room = match kind {
+        ChainKind::Memtable => true,
+        ChainKind::Cache => room,
+    };
+    if older.statics.is_some() {
+        if !room {
+            older.statics = None;
+            older.static_flag = Flag::Unknown;
+            return Ok(Step::new("unit of the cleaner without room", Effect::Less));
+        }
+        merge_statics(alloc, older, newer)?;
+        return Ok(Step::carrying("unit of the cleaner: static row", Effect::Nothing));
+    }
+    if older.entries.len() > 1 {
+        if !room {
+            drop_entry(&mut older.entries, 0);
+            return Ok(Step::new("unit of the cleaner without room", Effect::Less));
+        }
+        merge_entry(alloc, older, newer)?;
+    }
+    if older.entries.len() > 1 {
+        return Ok(Step::carrying("unit of the cleaner: entry", Effect::Nothing));
+    }
+    merge_end(alloc, older, newer)?;
+    Ok(Step {
+        kind: "unit of the cleaner: version dropped",
+        effect: Effect::Nothing,
+        carries: true,
+        dropped: true,
+    })
+}
+
+fn merge_statics(
+    alloc: Global,
+    older: &mut PlainVersion,
+    newer: &mut PlainVersion,
+) -> Result<(), AllocError> {
+    newer.statics = put_row_down(alloc, &older.statics, newer.static_flag, &newer.statics)?;
+    newer.static_flag = flag_under(older.static_flag, newer.static_flag);
+    older.statics = None;
+    older.static_flag = Flag::Inherit;
+    Ok(())
+}
+
+fn merge_entry(
+    alloc: Global,
+    older: &mut PlainVersion,
+    newer: &mut PlainVersion,
+) -> Result<(), AllocError> {
+    if let [first, next, ..] = older.entries.as_slice() {
+        newer.entries = merge_first_entry(alloc, first, next, newer.entries.as_slice())?;
+    }
+    if older.entries.len() > 1 {
+        drop_entry(&mut older.entries, 0);
+    }
+    if let Some(next) = older.entries.first_mut() {
+        close_gap(next);
+    }
+    Ok(())
+}
+
+fn merge_end(
+    alloc: Global,
+    older: &mut PlainVersion,
+    newer: &mut PlainVersion,
+) -> Result<(), AllocError> {
+    if let Some(end) = older.entries.first() {
+        newer.entries = merge_end_dummy(alloc, end, newer.entries.as_slice())?;
+    }
+    merge_head(older, newer);
+    Ok(())
+}
+
+/// The next object of a chain that nobody finds by its key or reads.
+pub(crate) fn free(history: &mut History) -> Option<Step> {
+    let chain = &mut history.chain;
+    if !is_left(chain) {
+        return None;
+    }
+    free_object(chain);
+    if chain.versions.is_empty() {
+        chain.pins.truncate(0);
+    }
+    Some(Step::new("object freed", Effect::Open))
+}
+
+fn free_object(chain: &mut Chain) {
+    let freed = match chain.kind {
+        ChainKind::Cache => mark_of_lost(),
+        ChainKind::Memtable => Mark {
+            flag: Flag::Inherit,
+            tomb: None,
+        },
+    };
+    let Some(version) = chain.versions.first_mut() else {
+        return;
+    };
+    if version.statics.is_some() {
+        version.statics = None;
+        version.static_flag = freed.flag;
+    } else if version.entries.len() > 1 {
+        drop_entry(&mut version.entries, 0);
+        if let Some(next) = version.entries.first_mut() {
+            next.gap = freed;
+        }
+    } else {
+        let _version = chain.versions.remove(0);
+    }
+}

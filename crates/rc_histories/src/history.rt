@@ -1,0 +1,227 @@
+//! A history: a chain, what the writes of each phase say, and one random lawful step after another.
+
+use crate::chain::{Chain, version_of};
+use crate::chance::Chance;
+use crate::checks::{Effect, carried, check_carried, check_chain, check_effect, pictures};
+use crate::cleaning::{clean, free};
+use crate::evicting::evict;
+use crate::filling::{fill_gap, fill_row, fill_statics};
+use crate::source::{Source, some_mutation};
+use crate::tally::Tally;
+use crate::universe::Universe;
+use crate::updating::{begin, relabel, unit};
+use crate::writing::write;
+use rc_core::{ChainKind, Flag, release_pin};
+use std::alloc::{AllocError, Global};
+
+/// A step that was taken.
+#[derive(Drop)]
+pub(crate) struct Step {
+    /// Its kind.
+    pub(crate) kind: &'static str,
+    /// What it may do to what is seen.
+    pub(crate) effect: Effect,
+    /// Whether what is carried before it is carried behind it.
+    pub(crate) carries: bool,
+    /// Whether a version was dropped.
+    pub(crate) dropped: bool,
+}
+
+impl Step {
+    /// A step which drops no version.
+    pub(crate) fn new(kind: &'static str, effect: Effect) -> Self {
+        Step {
+            kind,
+            effect,
+            carries: false,
+            dropped: false,
+        }
+    }
+
+    /// A step which drops no version, and keeps what is carried.
+    pub(crate) fn carrying(kind: &'static str, effect: Effect) -> Self {
+        Step {
+            kind,
+            effect,
+            carries: true,
+            dropped: false,
+        }
+    }
+}
+
+/// A chain and what the writes say.
+#[derive(Drop)]
+pub(crate) struct History {
+    /// The positions.
+    pub(crate) universe: Universe,
+    /// What the writes of each phase say. The newest version of an attached chain stands for the last.
+    pub(crate) sources: Vec<Source>,
+    /// The chain.
+    pub(crate) chain: Chain,
+    /// What decides the steps.
+    pub(crate) chance: Chance,
+    /// What was done and found.
+    pub(crate) tally: Tally,
+}
+
+impl History {
+    /// No chain yet; of a cache some writes below it.
+    pub(crate) fn new(
+        alloc: Global,
+        kind: ChainKind,
+        seed: u64,
+        tally: Tally,
+    ) -> Result<Self, AllocError> {
+        let universe = Universe::new(alloc)?;
+        let mut chance = Chance::new(seed);
+        let mut source = Source::empty(alloc, &universe)?;
+        if let ChainKind::Cache = kind {
+            source.add(alloc, &some_mutation(alloc, &universe, &mut chance)?)?;
+        }
+        let sources = vec![in alloc; source]?;
+        Ok(History {
+            universe,
+            sources,
+            chain: Chain::none(alloc, kind),
+            chance,
+            tally,
+        })
+    }
+
+    /// One step, if what chance takes is lawful now, and every definition after it.
+    pub(crate) fn step(&mut self, alloc: Global) -> Result<(), AllocError> {
+        let before = pictures(alloc, &self.universe, &self.chain)?;
+        let carried_before = carried(alloc, &self.universe, &self.chain)?;
+        let Some(step) = self.take_step(alloc)? else {
+            return Ok(());
+        };
+        self.tally.count(step.kind);
+        check_chain(
+            alloc,
+            &self.universe,
+            self.sources.as_slice(),
+            &self.chain,
+            &mut self.tally,
+        )?;
+        let now = pictures(alloc, &self.universe, &self.chain)?;
+        check_effect(
+            self.chain.kind,
+            &step.effect,
+            before.as_slice(),
+            now.as_slice(),
+            &mut self.tally,
+        );
+        if step.carries {
+            let carried_now = carried(alloc, &self.universe, &self.chain)?;
+            check_carried(
+                carried_before.as_slice(),
+                carried_now.as_slice(),
+                &mut self.tally,
+            );
+        }
+        Ok(())
+    }
+
+    fn take_step(&mut self, alloc: Global) -> Result<Option<Step>, AllocError> {
+        if self.chain.versions.is_empty() {
+            return open(alloc, self);
+        }
+        match self.chance.below(100) {
+            0..10 => snapshot(self),
+            10..18 => Ok(release(self)),
+            18 => Ok(detach(self)),
+            19..28 => Ok(free(self)),
+            28..50 => clean(alloc, self),
+            chance => match self.chain.kind {
+                ChainKind::Memtable => write(alloc, self),
+                ChainKind::Cache => take_cache_step(alloc, self, chance),
+            },
+        }
+    }
+}
+
+fn take_cache_step(
+    alloc: Global,
+    history: &mut History,
+    chance: u32,
+) -> Result<Option<Step>, AllocError> {
+    if history.chain.is_updating() && chance < 85 {
+        return unit(alloc, history);
+    }
+    match chance {
+        0..58 => begin(alloc, history),
+        58 | 59 => relabel(alloc, history),
+        60 | 61 => fill_statics(alloc, history),
+        62..75 => fill_gap(alloc, history),
+        75..85 => fill_row(alloc, history),
+        _ => evict(alloc, history),
+    }
+}
+
+// A chain is opened: of a cache its head is filled.
+fn open(alloc: Global, history: &mut History) -> Result<Option<Step>, AllocError> {
+    let phase = match history.chain.kind {
+        ChainKind::Cache => history.sources.len().saturating_sub(1),
+        ChainKind::Memtable => {
+            let empty = Source::empty(alloc, &history.universe)?;
+            history.sources.push(empty)?;
+            history.sources.len().saturating_sub(1)
+        }
+    };
+    let flag = match history.chain.kind {
+        ChainKind::Cache => Flag::Unknown,
+        ChainKind::Memtable => Flag::Inherit,
+    };
+    let mut version = version_of(alloc, flag, phase)?;
+    if let (ChainKind::Cache, Some(source)) = (history.chain.kind, history.sources.last()) {
+        version.pt = source.pt;
+        version.static_flag = Flag::Known;
+        if !source.statics.is_empty() {
+            version.statics = Some(source.statics.copy(alloc)?);
+        }
+    }
+    history.chain.versions.push(version)?;
+    history.chain.attached = true;
+    Ok(Some(Step::new("open", Effect::Open)))
+}
+
+// A snapshot, at a number that is free.
+fn snapshot(history: &mut History) -> Result<Option<Step>, AllocError> {
+    let chain = &mut history.chain;
+    let Some(version) = chain.snapshot_version() else {
+        return Ok(None);
+    };
+    if !chain.attached {
+        return Ok(None);
+    }
+    for pin in chain.pins.iter_mut() {
+        if pin.is_none() {
+            *pin = Some(version);
+            return Ok(Some(Step::carrying("snapshot", Effect::Open)));
+        }
+    }
+    if chain.pins.len() > 3 {
+        return Ok(None);
+    }
+    chain.pins.push(Some(version))?;
+    Ok(Some(Step::carrying("snapshot", Effect::Open)))
+}
+
+fn release(history: &mut History) -> Option<Step> {
+    let number = history.chance.index(history.chain.pins.len());
+    if number >= history.chain.pins.len() || history.chain.pins[number].is_none() {
+        return None;
+    }
+    release_pin(&mut history.chain.pins, number);
+    Some(Step::carrying("release", Effect::Open))
+}
+
+// The chain is no longer found by its key, and an update that stands in it ends.
+fn detach(history: &mut History) -> Option<Step> {
+    if !history.chain.attached {
+        return None;
+    }
+    history.chain.attached = false;
+    history.chain.update = None;
+    Some(Step::new("detach", Effect::Open))
+}

@@ -1,0 +1,65 @@
+//! Random histories of chains of versions: some thousands of lawful steps over the plain functions, and after each of them every definition
+//! of continuity, tried at every position of a small partition. What is printed is how often each kind of step was taken, and what was found.
+#![tactic(auto)]
+
+mod chain;
+mod chance;
+mod checks;
+mod cleaning;
+mod evicting;
+mod filling;
+mod history;
+mod source;
+mod tally;
+mod universe;
+mod updating;
+mod writing;
+
+use history::History;
+use rc_core::ChainKind;
+use std::alloc::{AllocError, Global};
+use std::io;
+use tally::Tally;
+
+/// How many histories are replayed.
+const HISTORIES: u64 = 110;
+
+/// How many steps of each are tried.
+const STEPS: u32 = 90;
+
+// One history more; what it did and found is added.
+fn replay(alloc: Global, seed: u64, tally: Tally) -> Result<Tally, AllocError> {
+    let kind = if seed % 4 == 3 {
+        ChainKind::Memtable
+    } else {
+        ChainKind::Cache
+    };
+    let mut history = History::new(alloc, kind, seed, tally)?;
+    for _ in 0..STEPS {
+        if history.tally.broken.is_none() {
+            history.step(alloc)?;
+        }
+    }
+    Ok(history.tally)
+}
+
+fn main(rt: HostRuntime) -> io::Result<()> {
+    let mut tally = Tally::new(rt.alloc())?;
+    let mut last = 0;
+    for seed in 0..HISTORIES {
+        if tally.broken.is_none() {
+            tally = replay(rt.alloc(), seed, tally)?;
+            last = seed;
+        }
+    }
+    for line in &tally.steps {
+        let (kind, count) = *line;
+        println!(rt; "{kind}: {count}")?;
+    }
+    let (steps, checks) = (tally.total(), tally.checks);
+    println!(rt; "{HISTORIES} histories, {steps} steps, {checks} checks")?;
+    match tally.broken {
+        None => println!(rt; "every definition held"),
+        Some(what) => println!(rt; "broken in history {last}: {what}"),
+    }
+}

@@ -1,0 +1,221 @@
+//! What writes say of a partition, as a plain table: at each position of the universe a row and a range tombstone.
+
+use crate::chance::Chance;
+use crate::universe::{KEYS, Universe, position};
+use rc_cell::{Cell, Cells, Row, Tomb};
+use rc_mutation::{Mutation, Statics, greater_tomb};
+use rc_position::{Pos, Weight};
+use std::alloc::{AllocError, Global};
+use std::cmp::Ordering;
+
+/// What writes say of one position.
+#[derive(Drop)]
+pub(crate) struct Said {
+    /// Where.
+    pub(crate) position: Pos,
+    /// The rows as one.
+    pub(crate) row: Row,
+    /// The greatest range tombstone.
+    pub(crate) tomb: Option<Tomb>,
+}
+
+/// What writes say of a partition.
+#[derive(Drop)]
+pub(crate) struct Source {
+    /// The greatest partition tombstone.
+    pub(crate) pt: Option<Tomb>,
+    /// The static rows as one.
+    pub(crate) statics: Row,
+    /// At each position of the universe, in order.
+    pub(crate) places: Vec<Said>,
+}
+
+impl Source {
+    /// Of no writes.
+    pub(crate) fn empty(alloc: Global, universe: &Universe) -> Result<Self, AllocError> {
+        let mut places = Vec::new(alloc);
+        for x in &universe.all {
+            places.push(Said {
+                position: x.copy(alloc)?,
+                row: Row::empty(alloc),
+                tomb: None,
+            })?;
+        }
+        Ok(Source {
+            pt: None,
+            statics: Row::empty(alloc),
+            places,
+        })
+    }
+
+    /// An equal table.
+    pub(crate) fn copy(&self, alloc: Global) -> Result<Self, AllocError> {
+        let mut places = Vec::new(alloc);
+        for said in &self.places {
+            places.push(Said {
+                position: said.position.copy(alloc)?,
+                row: said.row.copy(alloc)?,
+                tomb: said.tomb,
+            })?;
+        }
+        Ok(Source {
+            pt: self.pt,
+            statics: self.statics.copy(alloc)?,
+            places,
+        })
+    }
+
+    /// One more row written.
+    pub(crate) fn add_row(&mut self, alloc: Global, at: &Pos, row: &Row) -> Result<(), AllocError> {
+        for said in self.places.iter_mut() {
+            if said.position == *at {
+                said.row.join(alloc, row)?;
+            }
+        }
+        Ok(())
+    }
+
+    /// One more range tombstone written, from one position on and before another.
+    pub(crate) fn add_range(&mut self, from: &Pos, to: &Pos, tomb: Tomb) {
+        for said in self.places.iter_mut() {
+            if *from <= said.position && said.position < *to {
+                said.tomb = greater_tomb(said.tomb, Some(tomb));
+            }
+        }
+    }
+
+    /// Another mutation written.
+    pub(crate) fn add(&mut self, alloc: Global, change: &Mutation) -> Result<(), AllocError> {
+        self.pt = greater_tomb(self.pt, change.pt);
+        self.statics.join(alloc, change.statics.as_row())?;
+        for (key, row) in change.rows.as_slice() {
+            let at = Pos {
+                prefix: key.copy(alloc)?,
+                weight: Weight::At,
+            };
+            self.add_row(alloc, &at, row)?;
+        }
+        for piece in change.ranges.as_slice() {
+            self.add_range(&piece.from, &piece.to, piece.tomb);
+        }
+        Ok(())
+    }
+
+    /// What is said at a position of the universe.
+    pub(crate) fn at(&self, x: &Pos) -> Option<&Said> {
+        for said in &self.places {
+            if said.position == *x {
+                return Some(said);
+            }
+        }
+        None
+    }
+}
+
+/// Whether two rows are one.
+pub(crate) fn is_same_row(row: &Row, other: &Row) -> bool {
+    row.marker == other.marker
+        && row.tomb == other.tomb
+        && row.cells.as_slice() == other.cells.as_slice()
+}
+
+/// A tombstone of some timestamp.
+pub(crate) fn some_tomb(chance: &mut Chance) -> Tomb {
+    Tomb {
+        ts: 1 + i64::from(chance.below(5)),
+        dt: chance.below(2),
+    }
+}
+
+/// One cell, which deletes a column.
+pub(crate) fn some_cells(alloc: Global, chance: &mut Chance) -> Result<Cells, AllocError> {
+    let column = if chance.happens(50) { 0 } else { 1 };
+    let ts = 1 + i64::from(chance.below(5));
+    Cells::from_slice(alloc, &[(column, Cell::Dead { ts, dt: 0 })])
+}
+
+/// A row of which something is written: a marker, a tombstone, or a cell.
+pub(crate) fn some_row(alloc: Global, chance: &mut Chance) -> Result<Row, AllocError> {
+    let marker = 1 + i64::from(chance.below(5));
+    let mut row = Row::empty(alloc);
+    match chance.below(4) {
+        0 => row.tomb = Some(some_tomb(chance)),
+        1 => row.cells = some_cells(alloc, chance)?,
+        _ => row.marker = Some(marker),
+    }
+    Ok(row)
+}
+
+/// Two bounds of the universe, the lesser first; none where chance takes one twice.
+pub(crate) fn some_bounds<'a>(
+    chance: &mut Chance,
+    bounds: &'a [Pos],
+) -> Option<(&'a Pos, &'a Pos)> {
+    let first = bounds.get(chance.index(bounds.len()))?;
+    let second = bounds.get(chance.index(bounds.len()))?;
+    match first.cmp(second) {
+        Ordering::Less => Some((first, second)),
+        Ordering::Equal => None,
+        Ordering::Greater => Some((second, first)),
+    }
+}
+
+/// What an update writes: at the head, of the static row, rows and range tombstones, each or none.
+pub(crate) fn some_mutation(
+    alloc: Global,
+    universe: &Universe,
+    chance: &mut Chance,
+) -> Result<Mutation, AllocError> {
+    let mut change = Mutation::empty(alloc);
+    if chance.happens(25) {
+        change.pt = Some(some_tomb(chance));
+    }
+    if chance.happens(50) {
+        change.statics = Statics::from_cells(some_cells(alloc, chance)?);
+    }
+    for number in KEYS {
+        if chance.happens(40) {
+            add_row(
+                alloc,
+                &mut change,
+                &position(alloc, number, Weight::At)?,
+                chance,
+            )?;
+        }
+    }
+    for _ in 0..chance.below(3) {
+        add_range(alloc, &mut change, universe, chance)?;
+    }
+    Ok(change)
+}
+
+// Some row at a position.
+fn add_row(
+    alloc: Global,
+    change: &mut Mutation,
+    at: &Pos,
+    chance: &mut Chance,
+) -> Result<(), AllocError> {
+    let row = some_row(alloc, chance)?;
+    if !row.is_empty() {
+        change.rows.join_row(alloc, &at.prefix, &row)?;
+    }
+    Ok(())
+}
+
+// Some range tombstone.
+fn add_range(
+    alloc: Global,
+    change: &mut Mutation,
+    universe: &Universe,
+    chance: &mut Chance,
+) -> Result<(), AllocError> {
+    let tomb = some_tomb(chance);
+    let Some((from, to)) = some_bounds(chance, universe.bounds.as_slice()) else {
+        return Ok(());
+    };
+    match from.cmp(to) {
+        Ordering::Less => change.ranges.add(alloc, from, to, tomb),
+        Ordering::Equal | Ordering::Greater => Ok(()),
+    }
+}

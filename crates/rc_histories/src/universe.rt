@@ -1,0 +1,94 @@
+//! The positions of a small partition: those at which a history does something, and some between them, where it never does.
+
+use rc_position::{Comp, Key, Pos, Weight};
+use std::alloc::{AllocError, Global};
+
+/// The keys of the rows.
+pub(crate) const KEYS: [i64; 3] = [1, 3, 4];
+
+/// The positions of a partition.
+#[derive(Drop)]
+pub(crate) struct Universe {
+    /// Where the definitions are tried, in order.
+    pub(crate) all: Vec<Pos>,
+    /// Where a range may begin or end, in order.
+    pub(crate) bounds: Vec<Pos>,
+    /// Where a gap that is filled may begin or end, in order: the bounds, and the rows.
+    pub(crate) stops: Vec<Pos>,
+}
+
+/// The position of a number.
+pub(crate) fn position(alloc: Global, number: i64, weight: Weight) -> Result<Pos, AllocError> {
+    Ok(Pos {
+        prefix: Key::from_slice(alloc, &[Comp::Int(number)])?,
+        weight,
+    })
+}
+
+/// Before every row.
+pub(crate) fn start_position(alloc: Global) -> Pos {
+    Pos {
+        prefix: Key::empty(alloc),
+        weight: Weight::Before,
+    }
+}
+
+/// Behind every row.
+pub(crate) fn end_position(alloc: Global) -> Pos {
+    Pos {
+        prefix: Key::empty(alloc),
+        weight: Weight::After,
+    }
+}
+
+/// Right behind the rows of a key.
+pub(crate) fn behind_key(alloc: Global, key: &Key) -> Result<Pos, AllocError> {
+    Ok(Pos {
+        prefix: key.copy(alloc)?,
+        weight: Weight::After,
+    })
+}
+
+impl Universe {
+    /// The positions at the keys and their bounds; for the definitions also rows that nobody writes, one of them longer than a key.
+    pub(crate) fn new(alloc: Global) -> Result<Self, AllocError> {
+        let mut all = vec![in alloc; start_position(alloc), position(alloc, 0, Weight::At)?]?;
+        let mut bounds = vec![in alloc; start_position(alloc)]?;
+        let mut stops = vec![in alloc; start_position(alloc)]?;
+        for number in KEYS {
+            push_key(alloc, &mut all, number)?;
+            bounds.push(position(alloc, number, Weight::Before)?)?;
+            bounds.push(position(alloc, number, Weight::After)?)?;
+            for weight in [Weight::Before, Weight::At, Weight::After] {
+                stops.push(position(alloc, number, weight)?)?;
+            }
+        }
+        all.push(position(alloc, 5, Weight::At)?)?;
+        all.push(end_position(alloc))?;
+        bounds.push(end_position(alloc))?;
+        stops.push(end_position(alloc))?;
+        Ok(Universe { all, bounds, stops })
+    }
+}
+
+// The positions at a key: its bounds, its row, a longer one at 3, and behind 1 the row of 2, which nobody writes.
+fn push_key(alloc: Global, all: &mut Vec<Pos>, number: i64) -> Result<(), AllocError> {
+    all.push(position(alloc, number, Weight::Before)?)?;
+    all.push(position(alloc, number, Weight::At)?)?;
+    if number == 3 {
+        all.push(longer(alloc, number)?)?;
+    }
+    all.push(position(alloc, number, Weight::After)?)?;
+    if number == 1 {
+        all.push(position(alloc, 2, Weight::At)?)?;
+    }
+    Ok(())
+}
+
+// A row whose key begins with a number, between the row of the number and what is right behind its rows.
+fn longer(alloc: Global, number: i64) -> Result<Pos, AllocError> {
+    Ok(Pos {
+        prefix: Key::from_slice(alloc, &[Comp::Int(number), Comp::Int(0)])?,
+        weight: Weight::At,
+    })
+}

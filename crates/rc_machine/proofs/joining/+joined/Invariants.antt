@@ -1,6 +1,0 @@
--- Each half is shorter.
-use Rattle.std.proofs.Common.{length}
-use Rattle.rc_machine.proofs.joining.+joined.Given as goal
-
-abbrev pub decreases-joined : goal.decreases-joined
-decreases-joined l = length l.numbers.now

@@ -1,0 +1,78 @@
+-- The machine without a cache, over a folder of tables: its state.
+--     Table, Reader, State    what it holds
+--     opened                  as it is opened over a folder
+--     changes_of              what is said of a partition
+use Rattle.std.specs.Prelude.{ℕ, ◌==◌, Bool, false, List, [], ◌++◌, drop, map as list_map, Option}
+use Rattle.std.specs.Map.{lookup}
+use Rattle.rc_outside.specs.Files.{Files}
+use Rattle.rc_position.specs.declared.positions.Pos.{Pos}
+use Rattle.rc_position.specs.declared.slices.Slice.{Slice}
+use Rattle.rc_schema.specs.Lists.{Lists}
+use Rattle.rc_mutation.specs.declared.mutations.Mutation.{Mutation}
+use Rattle.rc_mutation.specs.declared.mutations.Partition.{Partition}
+use Rattle.rc_mutation.specs.declared.mutations.Write.{Write}
+use Rattle.rc_mutation.specs.Source.{changes_to}
+use Rattle.rc_query.specs.declared.lines.OutLine.{OutLine}
+use Rattle.rc_tfile.specs.declared.info.TableInfo.{TableInfo}
+
+-- a table: its number, and its partitions by ascending key
+abbrev pub Table : Type 0
+Table = ℕ × List Partition
+
+-- an open reader: the partition and the slice that it reads; the position up to which it has given its lines; the lines that it has not given
+-- yet; and the number of the first write that stood in no table when it was opened, if there was one
+pub record Reader : Type 0 where
+  pub key : List ℕ
+  pub slice : Slice
+  pub place : Pos
+  pub rest : List OutLine
+  pub first : Option ℕ
+
+-- the machine's state: the schema; the budget of memory, in segments; the folder's files, where the store tells them; the tables, by
+-- ascending number, and what the directory of each lists; all accepted writes, in order; how many of them stand in tables, and how many
+-- stand in tables or are sealed for the next one; whether that one is written already, and how many of its fragments the cache does not
+-- have yet; and the open readers, by their ids
+pub record State : Type 0 where
+  pub schema : Lists
+  pub segments : ℕ
+  pub files : Option Files
+  pub tables : List Table
+  pub infos : List TableInfo
+  pub log : List Write
+  pub stored : ℕ
+  pub sealed : ℕ
+  pub written : Bool
+  pub left : ℕ
+  pub readers : List (ℕ × Reader)
+
+-- the numbers of tables
+abbrev pub numbers : List Table → List ℕ
+numbers tables = list_map (λ t. t.0) tables
+
+-- the machine as it is opened over a folder of tables
+abbrev pub opened : ℕ → Option Files → Lists → List Table → List TableInfo → State
+opened segments files schema tables infos = record {
+  schema = schema;
+  segments = segments;
+  files = files;
+  tables = tables;
+  infos = infos;
+  log = [];
+  stored = 0;
+  sealed = 0;
+  written = false;
+  left = 0;
+  readers = [];
+}
+
+-- the writes that stand in no table, or only in one that the cache does not have yet
+abbrev pub unstored : State → List Write
+unstored m = drop m.stored m.log
+
+-- what they say of a partition, in order
+abbrev pub recent_changes : List ℕ → State → List Mutation
+recent_changes key m = changes_to key (unstored m)
+
+-- an open reader, where the id is open
+abbrev pub reader_of : ℕ → State → Option Reader
+reader_of id m = lookup (λ k. k == id) m.readers

@@ -1,0 +1,6 @@
+-- The law is two lemmas.
+use Rattle.rc_mutation.specs.Laws.PartsLaws.{parts-determined, units-determined}
+use Rattle.rc_mutation.proofs.laws.parts_of_writes_are_determined.Goals as goal
+
+pub returns : goal.returns
+returns c = record { parts = parts-determined; units = units-determined }

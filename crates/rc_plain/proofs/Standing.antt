@@ -1,0 +1,327 @@
+-- For which state the plain program stands after each step.
+use Rattle.std.proofs.Common.{◌≡◌, ◌≢◌, ◌==◌, ℕ, suc, ◌+◌, ◌-◌, ◌<◌, ◌≤◌, inl, inr, Bool, true, false, cond, not, List, [], ◌∷◌, ◌++◌, length, take, drop, map, Option, Some, None, MatchOption, nat_lt, option_map, unwrap_or, if◌then◌else◌, refl, sym, ap, subst, ◌∙◌, arith, append-nil, append_assoc}
+use Rattle.std.specs.List.{filter, AllByRecursion}
+use Rattle.std.specs.Map.{lookup, set_value}
+use Rattle.std.specs.Ordering.{eq_by_cmp}
+use Rattle.std.proofs.Math.Seq.{drop-append-le}
+use Rattle.std.proofs.lemmas.Bool.Decides.{nat_tests}
+use Rattle.std.proofs.lemmas.List.{length-append, length-drop, length-map, map-append}
+use Rattle.std.proofs.lemmas.List.Elements.{All-append, All-cons, filter-append}
+use Rattle.rc_outside.specs.Files.{Files}
+use Rattle.rc_position.specs.Position.{bytes_cmp}
+use Rattle.rc_position.specs.declared.slices.Slice.{Slice}
+use Rattle.rc_schema.specs.Lists.{Lists}
+use Rattle.rc_mutation.specs.declared.mutations.Mutation.{Mutation}
+use Rattle.rc_mutation.specs.declared.mutations.Write.{Write}
+use Rattle.rc_mutation.specs.Source.{changes_to}
+use Rattle.rc_mutation.specs.Source.{IsJoinOf}
+use Rattle.rc_query.specs.declared.lines.OutLine.{OutLine}
+use Rattle.rc_query.specs.Answer.{answer}
+use Rattle.rc_query.specs.AnswerLaws.{answer-joined}
+use Rattle.rc_stream.specs.declared.streams.StreamErr.{StreamErr}
+use Rattle.rc_stream.specs.declared.streams.StreamErr.TheVariants as stream_err
+use Rattle.rc_tfile.specs.declared.info.TableInfo.{TableInfo}
+use Rattle.rc_tables.specs.Located.{SaysOf}
+use Rattle.rc_tables.specs.Tables.{HoldsTables, IsDamageOf, IsJoinedAt, IsSomeJoin, changes_at, listing}
+use Rattle.rc_lines.specs.Fits.{Fits}
+use Rattle.rc_lines.specs.declared.commands.Command.{Command}
+use Rattle.rc_lines.specs.declared.commands.Command.TheVariants.{Nothing, SetSchema, Put, OpenRead, Read, Close, Flush, FlushBegin}
+use Rattle.rc_lines.specs.declared.commands.Reply.{Reply}
+use Rattle.rc_lines.specs.declared.commands.Reply.TheVariants as replies
+use Rattle.rc_lines.specs.declared.commands.Refusal.TheVariants.{SchemaDiffers, NoReader, ReaderInUse, TooManyReaders, ReadFault, Damaged}
+use Rattle.rc_machine.specs.State.{State, Reader, Table, recent_changes}
+use Rattle.rc_machine.specs.Steps.{MayBeDamaged, most_readers, reader_with, reader_past, sealing}
+use Rattle.rc_machine.specs.Serving.{Takes, Stops, IsLeft}
+use Rattle.rc_plain.specs.Stands.{Keeping, Stands, rests}
+use Rattle.rc_plain.specs.Answering.{IsAnswer}
+use Rattle.rc_plain.specs.Storing.{sealed_all}
+use Rattle.rc_plain.proofs.Places.{Readers, fewer, as_many}
+use Rattle.rc_plain.proofs.Numbers.{joined_halves}
+use Rattle.rc_plain.proofs.Held.{holds}
+
+-- ---- what readers have not given yet
+
+rests_lookup : (id : ℕ) (readers : List (ℕ × Reader)) → lookup (λ q. q == id) (rests readers) ≡ option_map (λ (r : Reader). r.rest) (lookup (λ q. q == id) readers)
+rests_lookup id [] = refl
+rests_lookup id (r ∷ rs) =
+    elim (r.0 == id) as (λ b. cond b (Some r.1.rest) (lookup (λ q. q == id) (rests rs)) ≡ option_map (λ (r : Reader). r.rest) (cond b (Some r.1) (lookup (λ q. q == id) rs))) [
+      | true ↦ refl
+      | false ↦ rests_lookup id rs
+    ]
+
+not_there : (o : Option Reader) → option_map (λ (r : Reader). r.rest) o ≡ None → o ≡ None
+not_there None e = refl
+not_there (Some r) e = absurd (cc)
+
+there : (o : Option Reader) (rest : List OutLine) → option_map (λ (r : Reader). r.rest) o ≡ Some rest → (r : Reader) × (o ≡ Some r) × (r.rest ≡ rest)
+there None rest e = absurd (cc)
+there (Some r) rest e = (r, refl, ap (λ (o : Option (List OutLine)). unwrap_or o []) e)
+
+rests_set : (id : ℕ) (readers : List (ℕ × Reader)) (r : Reader) → rests (set_value (λ q. q == id) readers r) ≡ set_value (λ q. q == id) (rests readers) r.rest
+rests_set id [] r = refl
+rests_set id (x ∷ xs) r =
+    elim (x.0 == id) as (λ b. rests (cond b ((x.0, r) ∷ xs) (x ∷ set_value (λ q. q == id) xs r)) ≡ cond b ((x.0, r.rest) ∷ rests xs) ((x.0, x.1.rest) ∷ set_value (λ q. q == id) (rests xs) r.rest)) [
+      | true ↦ refl
+      | false ↦ ap (λ rs. (x.0, x.1.rest) ∷ rs) (rests_set id xs r)
+    ]
+
+rests_filter : (id : ℕ) (readers : List (ℕ × Reader)) → rests (filter (λ reader. not (reader.0 == id)) readers) ≡ filter (λ reader. not (reader.0 == id)) (rests readers)
+rests_filter id [] = refl
+rests_filter id (x ∷ xs) =
+    elim (x.0 == id) as (λ b. rests (cond (not b) (x ∷ filter (λ reader. not (reader.0 == id)) xs) (filter (λ reader. not (reader.0 == id)) xs)) ≡ cond (not b) ((x.0, x.1.rest) ∷ filter (λ reader. not (reader.0 == id)) (rests xs)) (filter (λ reader. not (reader.0 == id)) (rests xs))) [
+      | true ↦ rests_filter id xs
+      | false ↦ ap (λ rs. (x.0, x.1.rest) ∷ rs) (rests_filter id xs)
+    ]
+
+open_none : (files : Option Files) (k : Keeping) (m : State) (id : ℕ) → Stands files k m → lookup (λ q. q == id) k.readers ≡ None → lookup (λ q. q == id) m.readers ≡ None
+open_none files k m id s e = not_there (lookup (λ q. q == id) m.readers) (sym (rests_lookup id m.readers) ∙ ap (lookup (λ q. q == id)) s.readers ∙ e)
+
+open_some : (files : Option Files) (k : Keeping) (m : State) (id : ℕ) (rest : List OutLine) → Stands files k m → lookup (λ q. q == id) k.readers ≡ Some rest → (r : Reader) × (lookup (λ q. q == id) m.readers ≡ Some r) × (r.rest ≡ rest)
+open_some files k m id rest s e = there (lookup (λ q. q == id) m.readers) rest (sym (rests_lookup id m.readers) ∙ ap (lookup (λ q. q == id)) s.readers ∙ e)
+
+count_is : (files : Option Files) (k : Keeping) (m : State) → Stands files k m → length m.readers ≡ length k.readers
+count_is files k m s = sym (length-map m.readers (λ (r : ℕ × Reader). (r.0, r.1.rest))) ∙ ap length s.readers
+
+-- the same with other readers
+abbrev pub reading : Keeping → Readers → Keeping
+reading k readers = record k { readers = readers }
+
+stands_reading : (files : Option Files) (k : Keeping) (m : State) (given : List (ℕ × Reader)) (readers : Readers) → rests given ≡ readers → Stands files k m → Stands files (reading k readers) (record m { readers = given })
+stands_reading files k m given readers e s = record {
+  over = record { schema = s.over.schema; files = s.over.files; infos = s.over.infos; tables = s.over.tables; listed = s.over.listed; stored = s.over.stored; sealed = s.over.sealed; fit = s.over.fit };
+  log = s.log;
+  sealed = s.sealed;
+  whole = s.whole;
+  left = s.left;
+  readers = e;
+}
+
+-- ---- a write
+
+-- the same with later writes
+abbrev pub writing : Keeping → List Write → Keeping
+writing k active = record k { active = active }
+
+stored_within : (files : Option Files) (k : Keeping) (m : State) → Stands files k m → m.stored ≤ length m.log
+stored_within files k m s = omega (arith, s.over.stored, s.over.sealed)
+
+stands_writing : (files : Option Files) (k : Keeping) (m : State) (w : Write) → Fits k.schema (Put w) → Stands files k m → Stands files (writing k (k.active ++ w ∷ [])) (record m { log = m.log ++ w ∷ [] })
+stands_writing files k m w fits s =
+    let longer : length (m.log ++ w ∷ []) ≡ length m.log + 1 = length-append m.log (w ∷ []) in
+    record {
+      over = record {
+        schema = s.over.schema;
+        files = s.over.files;
+        infos = s.over.infos;
+        tables = s.over.tables;
+        listed = s.over.listed;
+        stored = s.over.stored;
+        sealed = omega (arith, s.over.sealed, longer);
+        fit =
+            All-append (λ w. Fits m.schema (Put w)) m.log (w ∷ []) s.over.fit
+            (All-cons (λ w. Fits m.schema (Put w)) w [] (subst (λ schema. Fits schema (Put w)) (sym s.over.schema) fits) (λ i d l. absurd (omega arith)));
+      };
+      log = sym (append_assoc k.sealed k.active (w ∷ [])) ∙ ap (λ ws. ws ++ w ∷ []) s.log ∙ sym (drop-append-le m.stored m.log (w ∷ []) (stored_within files k m s));
+      sealed = s.sealed;
+      whole = s.whole;
+      left = s.left;
+      readers = s.readers;
+    }
+
+pub takes_put : (files : Option Files) (k : Keeping) (w : Write) (active : List Write) → Fits k.schema (Put w) → active ≡ k.active ++ w ∷ [] → Takes Stands files k (Put w) replies.Fine files (writing k active)
+takes_put files k w active fits more = λ m s.
+    (record m { log = m.log ++ w ∷ [] }, inl (refl, refl), subst (λ active. Stands files (writing k active) (record m { log = m.log ++ w ∷ [] })) (sym more) (stands_writing files k m w fits s))
+
+-- ---- steps that change nothing
+
+pub takes_nothing : (files : Option Files) (k : Keeping) → Takes Stands files k Nothing replies.Nothing files k
+takes_nothing files k = λ m s. (m, (refl, refl), s)
+
+pub takes_schema : (files : Option Files) (k : Keeping) (schema : Lists) → k.schema ≡ schema → Takes Stands files k (SetSchema schema) replies.Fine files k
+takes_schema files k schema e = λ m s. (m, inl (s.over.schema ∙ e, (refl, refl)), s)
+
+pub takes_other_schema : (files : Option Files) (k : Keeping) (schema : Lists) → k.schema ≢ schema → Takes Stands files k (SetSchema schema) (replies.Refused SchemaDiffers) files k
+takes_other_schema files k schema h = λ m s. (m, inr ((λ e. h (sym s.over.schema ∙ e)), (refl, refl)), s)
+
+pub takes_in_use : (files : Option Files) (k : Keeping) (id : ℕ) (key : List ℕ) (slice : Slice) (rest : List OutLine) → lookup (λ q. q == id) k.readers ≡ Some rest
+    → Takes Stands files k (OpenRead id key slice) (replies.Refused ReaderInUse) files k
+takes_in_use files k id key slice rest e = λ m s. (m, rw ((open_some files k m id rest s e).1) (refl, refl), s)
+
+pub takes_too_many : (files : Option Files) (k : Keeping) (id : ℕ) (key : List ℕ) (slice : Slice) → lookup (λ q. q == id) k.readers ≡ None → most_readers ≤ length k.readers
+    → Takes Stands files k (OpenRead id key slice) (replies.Refused TooManyReaders) files k
+takes_too_many files k id key slice e many = λ m s.
+    (m, rw (open_none files k m id s e, as_many (length m.readers) (subst (λ n. most_readers ≤ n) (sym (count_is files k m s)) many)) (refl, refl), s)
+
+few : (files : Option Files) (k : Keeping) (m : State) → Stands files k m → length k.readers < most_readers → nat_lt (length m.readers) most_readers ≡ true
+few files k m s h = fewer (length m.readers) (subst (λ n. n < most_readers) (sym (count_is files k m s)) h)
+
+pub takes_fault : (files : Option Files) (k : Keeping) (id : ℕ) (key : List ℕ) (slice : Slice) → lookup (λ q. q == id) k.readers ≡ None → length k.readers < most_readers
+    → Takes Stands files k (OpenRead id key slice) (replies.Refused ReadFault) files k
+takes_fault files k id key slice e h = λ m s. (m, rw (open_none files k m id s e, few files k m s h) (inr (inl (refl, refl))), s)
+
+pub takes_damaged : (files : Option Files) (k : Keeping) (id : ℕ) (key : List ℕ) (slice : Slice) (file offset : ℕ) → lookup (λ q. q == id) k.readers ≡ None → length k.readers < most_readers
+    → files ≡ None → IsDamageOf k.schema key k.infos (stream_err.Damaged file offset) → Takes Stands files k (OpenRead id key slice) (replies.Refused (Damaged file offset)) files k
+takes_damaged files k id key slice file offset e h none damage = λ m s.
+    let here : MayBeDamaged m key file offset = (
+      s.over.files ∙ none,
+      subst (λ (schema : Lists). IsDamageOf schema key m.infos (stream_err.Damaged file offset)) (sym s.over.schema)
+          (subst (λ (infos : List TableInfo). IsDamageOf k.schema key infos (stream_err.Damaged file offset)) (sym s.over.infos) damage),
+    ) in
+    (m, rw (open_none files k m id s e, few files k m s h) (inr (inr (file, offset, here, (refl, refl)))), s)
+
+-- ---- readers
+
+pub takes_open : (files : Option Files) (k : Keeping) (id : ℕ) (key : List ℕ) (slice : Slice) (lines : List OutLine) (readers : Readers) → lookup (λ q. q == id) k.readers ≡ None → length k.readers < most_readers
+    → ((m : State) → Stands files k m → IsAnswer m key slice lines) → readers ≡ k.readers ++ (id, lines) ∷ [] → Takes Stands files k (OpenRead id key slice) replies.Fine files (reading k readers)
+takes_open files k id key slice lines readers e h answered more = λ m s.
+    let said = answered m s in
+    let reader : Reader = reader_with m key slice (answer (said.0 ++ recent_changes key m) slice) in
+    let given : List (ℕ × Reader) = m.readers ++ (id, reader) ∷ [] in
+    let left : rests given ≡ readers = map-append (λ (r : ℕ × Reader). (r.0, r.1.rest)) m.readers ((id, reader) ∷ []) ∙ (λ j. s.readers j ++ (id, sym said.2 j) ∷ []) ∙ sym more in
+    (record m { readers = given }, rw (open_none files k m id s e, few files k m s h) (inl (said.0, said.1, (refl, refl))), stands_reading files k m given readers left s)
+
+pub takes_no_read : (files : Option Files) (k : Keeping) (id count : ℕ) → lookup (λ q. q == id) k.readers ≡ None → Takes Stands files k (Read id count) (replies.Refused NoReader) files k
+takes_no_read files k id count e = λ m s. (m, rw (open_none files k m id s e) (refl, refl), s)
+
+pub takes_read : (files : Option Files) (k : Keeping) (id count : ℕ) (rest lines : List OutLine) (more : Bool) (readers : Readers) → lookup (λ q. q == id) k.readers ≡ Some rest → lines ≡ take count rest → more ≡ nat_lt count (length rest)
+    → readers ≡ set_value (λ q. q == id) k.readers (drop count rest) → Takes Stands files k (Read id count) (replies.Given lines more) files (reading k readers)
+takes_read files k id count rest lines more readers e first left set = λ m s.
+    let r = open_some files k m id rest s e in
+    let past : Reader = reader_past count r.0 in
+    let given : List (ℕ × Reader) = set_value (λ q. q == id) m.readers past in
+    let lines_are : lines ≡ take count r.0.rest = first ∙ ap (take count) (sym r.2) in
+    let more_is : more ≡ nat_lt count (length r.0.rest) = left ∙ ap (λ (l : List OutLine). nat_lt count (length l)) (sym r.2) in
+    let reply : replies.Given lines more ≡ replies.Given (take count r.0.rest) (nat_lt count (length r.0.rest)) = λ i. replies.Given (lines_are i) (more_is i) in
+    let kept : rests given ≡ readers = rests_set id m.readers past ∙ (λ i. set_value (λ q. q == id) (s.readers i) (drop count (r.2 i))) ∙ sym set in
+    (record m { readers = given }, rw r.1 (inl (reply, refl)), stands_reading files k m given readers kept s)
+
+pub takes_no_close : (files : Option Files) (k : Keeping) (id : ℕ) → lookup (λ q. q == id) k.readers ≡ None → Takes Stands files k (Close id) (replies.Refused NoReader) files k
+takes_no_close files k id e = λ m s. (m, rw (open_none files k m id s e) (refl, refl), s)
+
+pub takes_close : (files : Option Files) (k : Keeping) (id : ℕ) (rest : List OutLine) (readers : Readers) → lookup (λ q. q == id) k.readers ≡ Some rest → readers ≡ filter (λ reader. not (reader.0 == id)) k.readers
+    → Takes Stands files k (Close id) replies.Fine files (reading k readers)
+takes_close files k id rest readers e kept = λ m s.
+    let r = open_some files k m id rest s e in
+    let given : List (ℕ × Reader) = filter (λ reader. not (reader.0 == id)) m.readers in
+    let left : rests given ≡ readers = rests_filter id m.readers ∙ ap (filter (λ reader. not (reader.0 == id))) s.readers ∙ sym kept in
+    (record m { readers = given }, rw r.1 (refl, refl), stands_reading files k m given readers left s)
+
+-- ---- answers
+
+changes_to-append : (key : List ℕ) (xs ys : List Write) → changes_to key (xs ++ ys) ≡ changes_to key xs ++ changes_to key ys
+changes_to-append key xs ys =
+    ap (map (λ (w : Write). w.change)) (filter-append (λ (w : Write). eq_by_cmp bytes_cmp w.key key) xs ys)
+    ∙ map-append (λ (w : Write). w.change) (filter (λ w. eq_by_cmp bytes_cmp w.key key) xs) (filter (λ w. eq_by_cmp bytes_cmp w.key key) ys)
+
+-- some changes and what both memtables say, joined
+pub answered_with : (older later : List Write) (key : List ℕ) (slice : Slice) (lines : List OutLine) (some sealed both active all : Mutation) (changes : List Mutation) → IsJoinOf some changes
+    → IsJoinOf sealed (changes_to key older) → IsJoinOf both (some ∷ sealed ∷ []) → IsJoinOf active (changes_to key later) → IsJoinOf all (both ∷ active ∷ []) → lines ≡ answer (all ∷ []) slice
+    → lines ≡ answer (changes ++ changes_to key (older ++ later)) slice
+answered_with older later key slice lines some sealed both active all changes is_some is_sealed is_both is_active is_all is =
+    let first : IsJoinOf both (changes ++ changes_to key older) = joined_halves some sealed both changes (changes_to key older) is_some is_sealed is_both in
+    let whole : IsJoinOf all ((changes ++ changes_to key older) ++ changes_to key later) = joined_halves both active all (changes ++ changes_to key older) (changes_to key later) first is_active is_all in
+    let same : (changes ++ changes_to key older) ++ changes_to key later ≡ changes ++ changes_to key (older ++ later) =
+    append_assoc changes (changes_to key older) (changes_to key later) ∙ ap (λ cs. changes ++ cs) (sym (changes_to-append key older later)) in
+    is ∙ sym (answer-joined all (changes ++ changes_to key (older ++ later)) slice (subst (IsJoinOf all) same whole))
+
+-- what the tables say, or some changes where the folder is not told, and the writes that stand in none
+pub answered : (files : Option Files) (k : Keeping) (key : List ℕ) (slice : Slice) (lines : List OutLine) (join : Mutation)
+    → ((tables : List Table) → HoldsTables files k.schema k.infos tables → IsJoinedAt key tables join)
+    → IsSomeJoin k.schema k.infos key join
+    → ((changes : List Mutation) → IsJoinOf join changes → lines ≡ answer (changes ++ changes_to key (k.sealed ++ k.active)) slice)
+    → (m : State) → Stands files k m → IsAnswer m key slice lines
+answered None k key slice lines join joined some is m s =
+    let fewer : length some.changes ≤ listing key m.infos = subst (λ (infos : List TableInfo). length some.changes ≤ listing key infos) (sym s.over.infos) some.count in
+    let fit : AllByRecursion (SaysOf m.schema key) some.changes = subst (λ schema. AllByRecursion (SaysOf schema key) some.changes) (sym s.over.schema) some.fit in (
+      some.changes,
+      subst (λ (files : Option Files). MatchOption files ((length some.changes ≤ listing key m.infos) × AllByRecursion (SaysOf m.schema key) some.changes) (λ _. some.changes ≡ changes_at key m.tables)) (sym s.over.files) (fewer, fit),
+      is some.changes some.joined ∙ ap (λ ws. answer (some.changes ++ changes_to key ws) slice) s.log,
+    )
+answered (Some told) k key slice lines join joined some is m s =
+    let all = joined m.tables (holds told k m s) in
+    let said = changes_at key m.tables in (
+      said,
+      subst (λ (files : Option Files). MatchOption files ((length said ≤ listing key m.infos) × AllByRecursion (SaysOf m.schema key) said) (λ _. said ≡ changes_at key m.tables)) (sym s.over.files) refl,
+      is said all.1 ∙ ap (λ ws. answer (said ++ changes_to key ws) slice) s.log,
+    )
+
+-- a damage of what is kept inside is one of what is seen
+pub damage_seen : (inside now : Keeping) (key : List ℕ) (e : StreamErr) → inside ≡ now → IsDamageOf inside.schema key inside.infos e → IsDamageOf now.schema key now.infos e
+damage_seen inside now key e is damage = subst (λ (k : Keeping). IsDamageOf k.schema key k.infos e) is damage
+
+not_none : (n : ℕ) → (suc n == 0) ≡ false
+not_none n = grind (arith, nat_tests)
+
+-- ---- sealing
+
+log_sealed : (sealed active : List Write) → (if length sealed == 0 then active else sealed) ++ (if length sealed == 0 then [] else active) ≡ sealed ++ active
+log_sealed [] active = append-nil active
+log_sealed (w ∷ ws) active = ap (λ (b : Bool). (if b then active else w ∷ ws) ++ (if b then [] else active)) (not_none (length ws))
+
+sealing_at : (m : State) (b : Bool) → (m.stored == m.sealed) ≡ b → sealing m ≡ cond b (length m.log) m.sealed
+sealing_at m b e = ap (λ b. cond b (length m.log) m.sealed) e
+
+pub all_from : (log rest : List Write) (n : ℕ) → n ≤ length log → rest ≡ drop n log → length log ≡ n + length rest
+all_from log rest n h e = (let count : length rest ≡ length log - n = ap length e ∙ length-drop n log in omega arith)
+
+-- so many writes there are
+pub log_length : (files : Option Files) (k : Keeping) (m : State) → Stands files k m → length m.log ≡ m.stored + (length k.sealed + length k.active)
+log_length files k m s =
+    let count : length m.log ≡ m.stored + length (k.sealed ++ k.active) = all_from m.log (k.sealed ++ k.active) m.stored (stored_within files k m s) s.log in
+    omega (arith, count, length-append k.sealed k.active)
+
+sealing_is : (m : State) (sealed active : List Write) → m.stored ≤ length m.log → sealed ++ active ≡ drop m.stored m.log → m.sealed ≡ m.stored + length sealed → sealing m ≡ m.stored + length (if length sealed == 0 then active else sealed)
+sealing_is m [] active h log is =
+    let t : (m.stored == m.sealed) ≡ true = grind (arith, nat_tests, is) in
+    sealing_at m true t ∙ all_from m.log active m.stored h log
+sealing_is m (w ∷ ws) active h log is =
+    let t : (m.stored == m.sealed) ≡ false = grind (arith, nat_tests, is) in
+    sealing_at m false t ∙ is ∙ ap (λ (b : Bool). m.stored + length (if b then active else w ∷ ws)) (sym (not_none (length ws)))
+
+sealing_within : (m : State) (b : Bool) → (m.stored == m.sealed) ≡ b → m.sealed ≤ length m.log → sealing m ≤ length m.log
+sealing_within m true e h = (let all = sealing_at m true e in omega (arith, all))
+sealing_within m false e h = (let all = sealing_at m false e in omega (arith, all, h))
+
+-- the writes are sealed
+pub stands_sealed : (files : Option Files) (k : Keeping) (m : State) → Stands files k m → Stands files (sealed_all k) (record m { sealed = sealing m })
+stands_sealed files k m s =
+    let is : sealing m ≡ m.stored + length (sealed_all k).sealed = sealing_is m k.sealed k.active (stored_within files k m s) s.log s.sealed in
+    record {
+      over = record {
+        schema = s.over.schema;
+        files = s.over.files;
+        infos = s.over.infos;
+        tables = s.over.tables;
+        listed = s.over.listed;
+        stored = omega (arith, is);
+        sealed = sealing_within m (m.stored == m.sealed) refl s.over.sealed;
+        fit = s.over.fit;
+      };
+      log = log_sealed k.sealed k.active ∙ s.log;
+      sealed = is;
+      whole = s.whole;
+      left = s.left;
+      readers = s.readers;
+    }
+
+-- ---- want of memory
+
+left_same : (m : State) (command : Command) → IsLeft m command m
+left_same m Flush = inl refl
+left_same m FlushBegin = inl refl
+left_same m command = refl
+
+pub stops_same : (files files' : Option Files) (k k' : Keeping) (command : Command) → k' ≡ k → files' ≡ files → Stops Stands files k command files' k'
+stops_same files files' k k' command same still = λ m s.
+    (m, left_same m command, subst (λ files. Stands files k' m) (sym still) (subst (λ k. Stands files k m) (sym same) s))
+
+-- ---- from what the program keeps inside
+
+pub from : {files files' : Option Files} {k old k' : Keeping} (command : Command) (reply : Reply) → k ≡ old → Takes Stands files k command reply files' k' → Takes Stands files old command reply files' k'
+from {files} {files'} {k} {old} {k'} command reply e t = subst (λ k. Takes Stands files k command reply files' k') e t
+
+pub to_files : {files files' : Option Files} {k k' : Keeping} (command : Command) (reply : Reply) → files' ≡ files → Takes Stands files k command reply files k' → Takes Stands files k command reply files' k'
+to_files {files} {files'} {k} {k'} command reply e t = subst (λ now. Takes Stands files k command reply now k') (sym e) t
+
+pub stay : {files files' : Option Files} {k old : Keeping} (command : Command) (reply : Reply) → k ≡ old → Takes Stands files k command reply files' k → Takes Stands files old command reply files' old
+stay {files} {files'} {k} {old} command reply e t = subst (λ k. Takes Stands files k command reply files' k) e t

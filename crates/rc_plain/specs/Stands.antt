@@ -1,0 +1,31 @@
+-- What the plain program keeps, and for which state of the machine it stands.
+use Rattle.std.specs.Prelude.{◌≡◌, ℕ, ◌+◌, false, List, ◌++◌, length, map as list_map, Option}
+use Rattle.rc_outside.specs.Files.{Files}
+use Rattle.rc_schema.specs.Lists.{Lists}
+use Rattle.rc_mutation.specs.declared.mutations.Write.{Write}
+use Rattle.rc_query.specs.declared.lines.OutLine.{OutLine}
+use Rattle.rc_tfile.specs.declared.info.TableInfo.{TableInfo}
+use Rattle.rc_machine.specs.State.{State, Reader, unstored}
+use Rattle.rc_machine.specs.Standing.{IsOver}
+
+-- the schema; what is known of each table; the writes that stand in no table: those that are sealed, and the later ones; and of each open
+-- reader the lines that it has not given yet
+pub record Keeping : Type 0 where
+  pub schema : Lists
+  pub infos : List TableInfo
+  pub sealed : List Write
+  pub active : List Write
+  pub readers : List (ℕ × List OutLine)
+
+-- what open readers have not given yet
+abbrev pub rests : List (ℕ × Reader) → List (ℕ × List OutLine)
+rests readers = list_map (λ r. (r.0, r.1.rest)) readers
+
+-- over a store with these files the program stands for the state: a flush is whole, so nothing that is written is left to the cache
+pub record Stands (told : Option Files) (k : Keeping) (m : State) : Type 0 where
+  pub over : IsOver told k.schema k.infos m
+  pub log : k.sealed ++ k.active ≡ unstored m
+  pub sealed : m.sealed ≡ m.stored + length k.sealed
+  pub whole : m.written ≡ false
+  pub left : m.left ≡ 0
+  pub readers : rests m.readers ≡ k.readers

@@ -1,0 +1,14 @@
+//! The machine without a cache, over a folder of tables, as a plain, slow program that takes one step after another.
+#![tactic(auto)]
+
+mod built;
+mod index;
+mod joining;
+mod memtable;
+mod opening;
+mod plain;
+mod readers;
+
+pub use built::is_built;
+pub use opening::OpenErr;
+pub use plain::Plain;

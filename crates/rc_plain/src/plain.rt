@@ -1,0 +1,335 @@
+//! The plain program.
+
+ghost use Rattle.std.specs.Prelude.{◌≡◌, ◌+◌, ◌*◌, ◌≤◌, ◌++◌, ℕ, List, Option, All, IsTrue, MatchBool, length, IfErr, IfOk, IfSome, OnErr};
+ghost use Rattle.std.specs.FinMap.{values};
+ghost use Rattle.rc_outside.specs.Files.{Files, IsNoFile};
+ghost use Rattle.rc_outside.specs.Faults.{Rose};
+ghost use Rattle.rc_mutation.specs.declared.mutations.Mutation.{Mutation};
+ghost use Rattle.rc_mutation.specs.Source.{changes_to, IsJoinOf};
+ghost use Rattle.rc_query.specs.Answer.{answer};
+ghost use Rattle.rc_stream.specs.Causes.{Caused};
+ghost use Rattle.rc_tfile.specs.declared.info.TableInfo.{TableInfo};
+ghost use Rattle.rc_tables.specs.Tables.{IsDamageOf, listing};
+ghost use Rattle.rc_lines.specs.Fits.{Fits};
+ghost use Rattle.rc_machine.specs.State.{State, Table, opened};
+ghost use Rattle.rc_machine.specs.Tables.{AreListed, AreTables};
+ghost use Rattle.rc_machine.specs.Built.{is_built};
+ghost use Rattle.rc_machine.specs.Serving.{OnFaulty, RisesIfFault, Stops, Takes, bound_of, checks_of};
+ghost use Rattle.rc_plain.specs.Answering.{IsAnswer};
+ghost use Rattle.rc_plain.specs.Opening.{IsRefused};
+ghost use Rattle.rc_plain.specs.Opening.{RisesIfFault as RisesIfOpenFault};
+ghost use Rattle.rc_plain.specs.Stands.{Stands};
+ghost use Rattle.rc_plain.specs.Storing.{IsNextNumber, IsWritten, sealed_all};
+
+use crate::memtable::Memtable;
+use crate::opening::{OpenErr, check_tables};
+use crate::readers::{Rest, place_of};
+use rc_lines::{Command, Refusal, Reply};
+use rc_mutation::{Mutation, Write};
+use rc_outside::Store;
+use rc_position::{PartKey, Slice};
+use rc_query::{Lines, answer_of};
+use rc_schema::Schema;
+use rc_stream::StreamErr;
+use rc_tables::{TableSet, read_joined};
+use rc_tfile::{WriteErr, plan_table, write_table};
+use std::alloc::{AllocError, Global};
+use std::marker::Model;
+use std::mem;
+
+/// The most readers that may be open at once.
+const MOST_READERS: usize = 64;
+
+/// A plain, slow program that takes one step of the machine after another. It knows of each table of the folder where the directory
+/// lists its partitions, keeps the writes that stand in no table, and makes the whole answer of a reader when it is opened. A contract
+/// sees these as `Keeping`.
+#[derive(Drop)]
+pub struct Plain {
+    schema: Schema,
+    tables: TableSet,
+    sealed: Memtable,
+    active: Memtable,
+    readers: Vec<(u32, Rest)>,
+}
+
+impl Model for Plain {
+    ghost use Rattle.rc_plain.specs.Stands.{Keeping};
+
+    ghost Value = { Keeping };
+
+    ghost view = { λ m. record { schema = m.schema; infos = m.tables; sealed = m.sealed; active = m.active; readers = m.readers.items } };
+}
+
+impl Plain {
+    /// The program over a folder of tables of a schema, each of which is checked: it stands for the machine as it is opened over them,
+    /// whatever that one's budget of segments. `OpenErr::Damaged` and `OpenErr::OtherSchema` name the first file that is no table of the
+    /// schema; `OpenErr::Fault` comes when the store fails, and only then; `OpenErr::NoMemory` when memory is refused.
+    pub fn open<W: Store>(alloc: Global, store: &mut W, schema: Schema) -> Result<Self, OpenErr>
+        ensures stands { IfOk result (λ plain. (tables : List Table) × (infos : List TableInfo) × AreTables (W.files store.old) schema tables × AreListed (W.files store.old) schema tables infos
+            × ((segments : ℕ) → Stands (W.files store.new) plain (opened segments (W.files store.old) schema tables infos))) }
+        ensures refused { IfErr result (IsRefused (W.files store.old) schema) }
+        ensures faults { RisesIfOpenFault result (W.faults store.old) (W.faults store.new) }
+        ensures files { W.files store.new ≡ W.files store.old }
+        ensures asks { IfSome (W.files store.old) (λ told. W.asks store.new ≤ W.asks store.old + checks_of (values told)) }
+    {
+        let tables = check_tables(alloc, store, &schema)?;
+        Ok(Plain {
+            schema,
+            tables,
+            sealed: Memtable::new(alloc),
+            active: Memtable::new(alloc),
+            readers: Vec::new(alloc),
+        })
+    }
+
+    /// The schema of the tables.
+    pub fn schema(&self) -> &Schema
+        ensures { result.now ≡ self.now.schema }
+    {
+        &self.schema
+    }
+
+    /// Takes the step of a command that fits the schema and is one of those that are built, and gives its reply, which may be a refusal.
+    /// The only error is want of memory, which leaves the state as it was, but that a flush may have sealed the writes.
+    pub fn serve<W: Store>(
+        &mut self,
+        alloc: Global,
+        store: &mut W,
+        command: Command,
+    ) -> Result<Reply, AllocError>
+        requires fits { Fits self.old.schema command }
+        requires built { IsTrue (is_built command) }
+        requires stands { (m : State) × Stands (W.files store.old) self.old m }
+        ensures step { IfOk result (λ reply. Takes Stands (W.files store.old) self.old command reply (W.files store.new) self.new) }
+        ensures err { OnErr result (Stops Stands (W.files store.old) self.old command (W.files store.new) self.new) }
+        ensures faults { RisesIfFault result (W.faults store.old) (W.faults store.new) }
+        ensures asks { W.asks store.new ≤ W.asks store.old + bound_of self.old.infos command }
+    {
+        match command {
+            Command::Nothing => Ok(Reply::Nothing),
+            Command::SetSchema(schema) => Ok(self.set_schema(&schema)),
+            Command::Put(write) => self.put(alloc, write),
+            Command::OpenRead { id, key, slice } => self.open_read(alloc, store, id, &key, &slice),
+            Command::Read { id, count } => self.read(alloc, id, count),
+            Command::Close { id } => Ok(self.close(id)),
+            Command::Flush => self.flush(alloc, store),
+            Command::FlushBegin
+            | Command::FlushStep { .. }
+            | Command::Evict { .. }
+            | Command::Compact { .. }
+            | Command::Clean { .. }
+            | Command::Stats => unreachable!(),
+        }
+    }
+
+    // The reply to a schema line: fine where it is the same schema again.
+    fn set_schema(&self, schema: &Schema) -> Reply
+        ensures step { (files : Option Files) → Takes Stands files self.now (Command.SetSchema schema.now) result files self.now }
+        ensures faultless { (n : ℕ) → OnFaulty result (Rose n n) }
+    {
+        if self.schema.is_same(schema) {
+            Reply::Fine
+        } else {
+            Reply::Refused(Refusal::SchemaDiffers)
+        }
+    }
+
+    // Puts a write behind the others.
+    fn put(&mut self, alloc: Global, write: Write) -> Result<Reply, AllocError>
+        requires { Fits self.old.schema (Command.Put write) }
+        ensures step { (files : Option Files) → IfOk result (λ reply. Takes Stands files self.old (Command.Put write) reply files self.new) }
+        ensures fine { IfOk result (λ reply. reply ≡ Reply.Fine) }
+        ensures err { OnErr result (self.new ≡ self.old) }
+    {
+        self.active.put(alloc, write)?;
+        Ok(Reply::Fine)
+    }
+
+    // Opens a reader: its answer is fixed now.
+    fn open_read<W: Store>(
+        &mut self,
+        alloc: Global,
+        store: &mut W,
+        id: u32,
+        key: &PartKey,
+        slice: &Slice,
+    ) -> Result<Reply, AllocError>
+        requires { (m : State) × Stands (W.files store.old) self.old m }
+        ensures step { IfOk result (λ reply. Takes Stands (W.files store.old) self.old (Command.OpenRead id key.now slice.now) reply (W.files store.new) self.new) }
+        ensures err { OnErr result (self.new ≡ self.old) }
+        ensures faults { RisesIfFault result (W.faults store.old) (W.faults store.new) }
+        ensures files { W.files store.new ≡ W.files store.old }
+        ensures asks { W.asks store.new ≤ W.asks store.old + 2 * listing key.now self.old.infos }
+    {
+        if place_of(self.readers.as_slice(), id).is_some() {
+            return Ok(Reply::Refused(Refusal::ReaderInUse));
+        }
+        if self.readers.len() >= MOST_READERS {
+            return Ok(Reply::Refused(Refusal::TooManyReaders));
+        }
+        match self.answer(alloc, store, key, slice) {
+            Ok(lines) => {
+                self.readers.push((id, Rest::new(lines)))?;
+                Ok(Reply::Fine)
+            }
+            Err(StreamErr::Fault) => Ok(Reply::Refused(Refusal::ReadFault)),
+            Err(StreamErr::Damaged { file, offset }) => {
+                Ok(Reply::Refused(Refusal::Damaged { file, offset }))
+            }
+            Err(StreamErr::NoMemory) => Err(AllocError),
+        }
+    }
+
+    // The lines of the answer in a slice to what the tables, and the writes that stand in none, say of the partition of a key.
+    fn answer<W: Store>(
+        &self,
+        alloc: Global,
+        store: &mut W,
+        key: &PartKey,
+        slice: &Slice,
+    ) -> Result<Lines, StreamErr>
+        requires { (m : State) × Stands (W.files store.old) self.now m }
+        ensures lines { IfOk result (λ lines. (m : State) → Stands (W.files store.old) self.now m → IsAnswer m key.now slice.now lines) }
+        ensures damaged { IfErr result (IsDamageOf self.now.schema key.now self.now.infos) }
+        ensures cause { Caused result (W.files store.old) (W.faults store.old) (W.faults store.new) }
+        ensures files { W.files store.new ≡ W.files store.old }
+        ensures asks { W.asks store.new ≤ W.asks store.old + 2 * listing key.now self.now.infos }
+    {
+        let change = read_joined(alloc, store, &self.tables, &self.schema, key)?;
+        match self.answer_with(alloc, change, key, slice) {
+            Ok(lines) => Ok(lines),
+            Err(_) => Err(StreamErr::NoMemory),
+        }
+    }
+
+    // The lines of the answer in a slice to some changes of the partition of a key, of which their join is given, and the writes to it
+    // that stand in no table.
+    fn answer_with(
+        &self,
+        alloc: Global,
+        change: Mutation,
+        key: &PartKey,
+        slice: &Slice,
+    ) -> Result<Lines, AllocError>
+        ensures { (changes : List Mutation) → IsJoinOf change changes
+            → IfOk result (λ lines. lines ≡ answer (changes ++ changes_to key.now (self.now.sealed ++ self.now.active)) slice.now) }
+    {
+        let mut change = change;
+        let sealed = self.sealed.said(alloc, key)?;
+        change.join(alloc, &sealed)?;
+        let active = self.active.said(alloc, key)?;
+        change.join(alloc, &active)?;
+        answer_of(alloc, &change, slice)
+    }
+
+    // Gives a reader's next lines.
+    fn read(&mut self, alloc: Global, id: u32, count: u32) -> Result<Reply, AllocError>
+        ensures step { (files : Option Files) → IfOk result (λ reply. Takes Stands files self.old (Command.Read id count) reply files self.new) }
+        ensures faultless { (n : ℕ) → IfOk result (λ reply. OnFaulty reply (Rose n n)) }
+        ensures err { OnErr result (self.new ≡ self.old) }
+    {
+        match place_of(self.readers.as_slice(), id) {
+            None => Ok(Reply::Refused(Refusal::NoReader)),
+            Some(at) => {
+                let reader = &mut self.readers[at];
+                let (lines, more) = reader.1.give(alloc, count)?;
+                Ok(Reply::Given { lines, more })
+            }
+        }
+    }
+
+    // Closes a reader.
+    fn close(&mut self, id: u32) -> Reply
+        ensures step { (files : Option Files) → Takes Stands files self.old (Command.Close id) result files self.new }
+        ensures faultless { (n : ℕ) → OnFaulty result (Rose n n) }
+    {
+        if place_of(self.readers.as_slice(), id).is_none() {
+            return Reply::Refused(Refusal::NoReader);
+        }
+        self.readers.retain(|reader| reader.0 != id);
+        Reply::Fine
+    }
+
+    // Writes the sealed writes as the next table; all writes are sealed before, unless some are.
+    fn flush<W: Store>(&mut self, alloc: Global, store: &mut W) -> Result<Reply, AllocError>
+        requires { (m : State) × Stands (W.files store.old) self.old m }
+        ensures step { IfOk result (λ reply. Takes Stands (W.files store.old) self.old Command.Flush reply (W.files store.new) self.new) }
+        ensures err { OnErr result (Stops Stands (W.files store.old) self.old Command.Flush (W.files store.new) self.new) }
+        ensures faults { RisesIfFault result (W.faults store.old) (W.faults store.new) }
+        ensures asks { W.asks store.new ≡ W.asks store.old }
+    {
+        if self.is_flushed() {
+            return Ok(Reply::Refused(Refusal::NothingToFlush));
+        }
+        match self.next_number() {
+            None => Ok(Reply::Refused(Refusal::NoNumber)),
+            Some(number) => {
+                self.seal(alloc);
+                self.write_sealed(alloc, store, number)
+            }
+        }
+    }
+
+    // Whether all writes stand in tables.
+    fn is_flushed(&self) -> bool
+        ensures { MatchBool result (length self.now.sealed + length self.now.active ≡ 0) (1 ≤ length self.now.sealed + length self.now.active) }
+    {
+        self.sealed.is_empty() && self.active.is_empty()
+    }
+
+    // The number of the next table: one more than the last one's, or 1; none behind the greatest.
+    fn next_number(&self) -> Option<u32>
+        ensures { IsNextNumber self.now.infos result }
+    {
+        match self.tables.last_number() {
+            None => Some(1),
+            Some(number) => number.checked_add(1),
+        }
+    }
+
+    // Seals the writes, unless some are.
+    fn seal(&mut self, alloc: Global)
+        ensures { self.new ≡ sealed_all self.old }
+    {
+        if self.sealed.is_empty() {
+            self.sealed = mem::replace(&mut self.active, Memtable::new(alloc));
+        }
+    }
+
+    // Writes the sealed writes as a table of this number. What is known of it is set out before, so no memory is taken behind the file.
+    fn write_sealed<W: Store>(
+        &mut self,
+        alloc: Global,
+        store: &mut W,
+        number: u32,
+    ) -> Result<Reply, AllocError>
+        requires fit { All (λ w. Fits self.old.schema (Command.Put w)) self.old.sealed }
+        requires fresh { IsNoFile (W.files store.old) number }
+        ensures written { IfOk result (IsWritten (W.files store.old) self.old number (W.files store.new) self.new) }
+        ensures err { OnErr result ((self.new ≡ self.old) × (W.files store.new ≡ W.files store.old)) }
+        ensures faults { RisesIfFault result (W.faults store.old) (W.faults store.new) }
+        ensures asks { W.asks store.new ≡ W.asks store.old }
+    {
+        let parts = self.sealed.parts(alloc)?;
+        let info = plan_table(alloc, parts.as_slice(), &self.schema, number)?;
+        let tables = self.tables.with(alloc, info)?;
+        match write_table(alloc, parts.as_slice(), &self.schema, store, number) {
+            Ok(()) => {
+                self.tables = tables;
+                self.sealed = Memtable::new(alloc);
+                Ok(Reply::Fine)
+            }
+            Err(error) => not_written(error),
+        }
+    }
+}
+
+// The reply to a flush that the store refused.
+fn not_written(error: WriteErr) -> Result<Reply, AllocError>
+    ensures { IfOk result (λ reply. (error ≡ WriteErr.Fault) × (reply ≡ Reply.Refused Refusal.WriteFault)) }
+{
+    match error {
+        WriteErr::Fault => Ok(Reply::Refused(Refusal::WriteFault)),
+        WriteErr::NoMemory => Err(AllocError),
+    }
+}

@@ -1,0 +1,4 @@
+-- The laws of answers, for crates above to cite.
+pub mod Cuts
+pub mod Life
+pub mod SameAnswer

@@ -1,0 +1,205 @@
+//! The lines of a case.
+
+use crate::case::{Case, Stored};
+use rc_outside::{MemStore, StoreCall};
+use rc_spelling::{read_bytes, read_components};
+use std::alloc::{AllocError, Global};
+use std::fmt::Write;
+
+/// Bytes with names.
+pub(crate) type Named = Vec<(String, Vec<u8>)>;
+
+/// Bytes and the name that stands before them, none where there are none.
+pub(crate) fn named(alloc: Global, text: &str) -> Result<(String, Vec<u8>), AllocError> {
+    let (name, word) = text.split_once(' ').unwrap_or((text, ""));
+    let bytes = match read_bytes(alloc, word.as_bytes())? {
+        Some(bytes) => bytes,
+        None => Vec::new(alloc),
+    };
+    Ok((String::from_str(alloc, name)?, bytes))
+}
+
+// The bytes of a name.
+fn bytes_of<'a>(names: &'a Named, name: &str) -> Option<&'a [u8]> {
+    for pair in names {
+        if pair.0.as_str() == name {
+            return Some(pair.1.as_slice());
+        }
+    }
+    None
+}
+
+fn call_of(name: &str) -> Option<StoreCall> {
+    match name {
+        "numbers" => Some(StoreCall::Numbers),
+        "size" => Some(StoreCall::Size),
+        "read_at" => Some(StoreCall::ReadAt),
+        "begin" => Some(StoreCall::Begin),
+        "append" => Some(StoreCall::Append),
+        "finish" => Some(StoreCall::Finish),
+        _ => None,
+    }
+}
+
+// A call of the store and a number.
+fn call_and_number(text: &str) -> Option<(StoreCall, u64)> {
+    let (name, number) = text.split_once(' ')?;
+    let call = call_of(name)?;
+    let number = number.parse::<u64>().ok()?;
+    Some((call, number))
+}
+
+// A number and what stands behind it.
+fn number_and_rest(text: &str) -> Option<(u32, &str)> {
+    let (number, rest) = text.split_once(' ')?;
+    let number = number.parse::<u32>().ok()?;
+    Some((number, rest))
+}
+
+// Appends a line, with a number at its `#`.
+fn append_line(text: &mut Vec<u8>, line: &str, number: u32) -> Result<(), AllocError> {
+    let mut made = String::new(*text.allocator());
+    match line.split_once('#') {
+        Some((before, behind)) => write!(made, "{before}{number}{behind}\n")?,
+        None => write!(made, "{line}\n")?,
+    }
+    text.extend_from_slice(made.as_bytes())
+}
+
+// The words of a line; whether it gives some.
+fn take_words(alloc: Global, case: &mut Case, text: &str) -> Result<bool, AllocError> {
+    case.words = Vec::new(alloc);
+    let Some(components) = read_components(alloc, text.as_bytes(), 5)? else {
+        return Ok(text.is_empty());
+    };
+    for bytes in components {
+        match String::from_utf8(bytes) {
+            Ok(word) => case.words.push(word)?,
+            Err(_) => return Ok(false),
+        }
+    }
+    Ok(true)
+}
+
+// A file of the store: its number, its name and how many of its first bytes; whether the line gives one.
+fn take_file(
+    alloc: Global,
+    names: &Named,
+    store: &mut MemStore,
+    text: &str,
+) -> Result<bool, AllocError> {
+    let Some((number, rest)) = number_and_rest(text) else {
+        return Ok(false);
+    };
+    let (name, count) = match rest.split_once(' ') {
+        Some((name, count)) => (name, count.parse::<usize>().unwrap_or(0)),
+        None => (rest, usize::MAX),
+    };
+    let Some(bytes) = bytes_of(names, name) else {
+        return Ok(false);
+    };
+    let count = count.min(bytes.len());
+    store.put_file(number, Vec::from_slice(alloc, &bytes[..count])?)?;
+    Ok(true)
+}
+
+// What the store must have; whether the line says it.
+fn take_stored(
+    alloc: Global,
+    names: &Named,
+    case: &mut Case,
+    text: &str,
+) -> Result<bool, AllocError> {
+    let Some((number, name)) = number_and_rest(text) else {
+        return Ok(false);
+    };
+    let stored = match name {
+        "any" => Stored::Something,
+        "none" => Stored::Nothing,
+        _ => match bytes_of(names, name) {
+            Some(bytes) => Stored::Bytes(Vec::from_slice(alloc, bytes)?),
+            None => return Ok(false),
+        },
+    };
+    case.wanted.files.push((number, stored))?;
+    Ok(true)
+}
+
+// So many lines of the input or of what is written; whether it gives some.
+fn take_lines(case: &mut Case, count: u32, text: &str) -> Result<bool, AllocError> {
+    let Some((mark, line)) = text.split_once(' ') else {
+        return Ok(false);
+    };
+    for number in 0..count {
+        let number = number.saturating_add(1);
+        match mark {
+            "<" => append_line(&mut case.input, line, number)?,
+            ">" => append_line(&mut case.wanted.text, line, number)?,
+            _ => return Ok(false),
+        }
+    }
+    Ok(true)
+}
+
+// A number of a case; whether the line gives one.
+fn take_number(case: &mut Case, kind: &str, number: u64) -> Result<bool, AllocError> {
+    match kind {
+        "pull" => case.pulls.push(number)?,
+        "push" => case.pushes.push(number)?,
+        "limit" => case.limit = Some(number),
+        "status" => case.wanted.status = number,
+        "faults" => case.wanted.faults = Some(number),
+        _ => return Ok(false),
+    }
+    Ok(true)
+}
+
+// A failing call of the store, or one in turn; whether the line gives one.
+fn take_call(
+    case: &mut Case,
+    store: &mut MemStore,
+    kind: &str,
+    text: &str,
+) -> Result<bool, AllocError> {
+    let Some((call, number)) = call_and_number(text) else {
+        return Ok(false);
+    };
+    match kind {
+        "fail" => store.fail_nth(call, number)?,
+        _ => case.turns.push((call, number))?,
+    }
+    Ok(true)
+}
+
+/// A line of a case; whether it is one.
+pub(crate) fn take_line(
+    alloc: Global,
+    names: &Named,
+    case: &mut Case,
+    store: &mut MemStore,
+    line: &str,
+) -> Result<bool, AllocError> {
+    let (kind, text) = line.split_once(' ').unwrap_or((line, ""));
+    match kind {
+        "<" => append_bytes(&mut case.input, text, "\n")?,
+        "<-" => append_bytes(&mut case.input, text, "")?,
+        ">" => append_bytes(&mut case.wanted.text, text, "\n")?,
+        "slow" => case.slow = true,
+        "words" => return take_words(alloc, case, text),
+        "file" => return take_file(alloc, names, store, text),
+        "stored" => return take_stored(alloc, names, case, text),
+        "fail" | "each" => return take_call(case, store, kind, text),
+        _ => match (kind.parse::<u32>(), text.parse::<u64>()) {
+            (Ok(count), _) => return take_lines(case, count, text),
+            (_, Ok(number)) => return take_number(case, kind, number),
+            _ => return Ok(false),
+        },
+    }
+    Ok(true)
+}
+
+// Appends a line and its end.
+fn append_bytes(text: &mut Vec<u8>, line: &str, end: &str) -> Result<(), AllocError> {
+    text.extend_from_slice(line.as_bytes())?;
+    text.extend_from_slice(end.as_bytes())
+}

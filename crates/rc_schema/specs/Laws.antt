@@ -1,0 +1,2 @@
+-- The laws of the checks, for crates above to cite.
+pub mod Fitting

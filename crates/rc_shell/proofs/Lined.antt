@@ -1,0 +1,172 @@
+-- A run is one of lines that were answered, and perhaps a last line.
+use Rattle.std.proofs.Common.{◌≡◌, inl, inr, ℕ, ◌+◌, ◌-◌, ◌^◌, ◌≤◌, min, List, [], ◌∷◌, ◌++◌, Option, refl, sym, ap, subst, ◌∙◌, append_assoc, append-nil, arith}
+use Rattle.std.specs.List.{count_by}
+use Rattle.rc_outside.specs.Faults.{Rose}
+use Rattle.rc_shell.specs.Lines.{last_line}
+use Rattle.rc_shell.specs.Run.{Answers, IsWhole, IsCutOff, IsWritten, IsEnded, IsNear, Due, WasRead, concat, input_fault, input_limit, bad_words}
+use Rattle.rc_shell.specs.Step.{Moment, Stage, Waiting, Serving, Seen, LineStep, Ends, EndsAt, Leaves, start, tells_fault}
+use Rattle.rc_shell.specs.Holding.{OfLines, AreFirstLines, fault_of}
+use Rattle.rc_shell.specs.declared.status.Status.{Status}
+use Rattle.rc_shell.specs.declared.status.Status.TheVariants as statuses
+use Rattle.rc_shell.specs.declared.words.Words.{Words}
+use Rattle.rc_shell.specs.declared.words.Words.TheVariants.{Run, Refused}
+use Rattle.rc_shell.proofs.Counted.{faults_are_counted_lem}
+use Rattle.rc_shell.proofs.Near.{near_line}
+use Rattle.rc_shell.proofs.Serving.{concat-append}
+
+-- what was due, as texts of lines and perhaps a last line
+pub record Pieces (words : Words) (before after : Seen) (status : Status) (taken : List ℕ) (pieces : List (List ℕ)) : Type 0 where
+  pub lines : List (List ℕ)
+  pub texts : List (List ℕ)
+  pub last : List ℕ
+  pub end : Moment
+  pub first : AreFirstLines taken lines
+  pub answered : Answers LineStep (start words before) lines texts end
+  pub are : concat pieces ≡ concat texts ++ last
+  pub leaves : Leaves end after
+  pub faults : min (before.1 + (count_by tells_fault texts + fault_of status)) (2 ^ 64 - 1) ≤ after.1
+
+counted_further : (m b c f e a : ℕ) → min (b + c) m ≤ e → e ≤ a → f ≡ 0 → min (b + (c + f)) m ≤ a
+counted_further m b c f e a few le none = omega arith
+
+one_further : (m b c e a : ℕ) → min (b + c) m ≤ e → min (e + 1) m ≤ a → min (b + (c + 1)) m ≤ a
+one_further m b c e a few rose = omega arith
+
+fewer : (m b c f a : ℕ) → min (b + (c + f)) m ≤ a → min (b + (c + 0)) m ≤ a
+fewer m b c f a few = omega arith
+
+-- the store's count rose where its fault ended the run
+store_rose : (stage : Stage) (line last : List ℕ) (before now : ℕ) → EndsAt stage line statuses.StoreFault last before now → Rose before now
+store_rose (Waiting files) line last before now e = e.2.1
+store_rose (Serving m) line last before now e = absurd e
+
+one_last : (texts : List (List ℕ)) (last : List ℕ) → concat (texts ++ last ∷ []) ≡ concat texts ++ last
+one_last texts last = concat-append texts (last ∷ []) ∙ ap (λ t. concat texts ++ t) (append-nil last)
+
+module _ (words : Words) (before after : Seen) (taken : List ℕ) where
+  -- lines were answered
+  no_fault : (status : Status) (texts lines : List (List ℕ)) (end : Moment) → fault_of status ≡ 0 → Answers LineStep (start words before) lines texts end → Leaves end after
+      → min (before.1 + (count_by tells_fault texts + fault_of status)) (2 ^ 64 - 1) ≤ after.1
+  no_fault status texts lines end none a l =
+      counted_further (2 ^ 64 - 1) before.1 (count_by tells_fault texts) (fault_of status) end.faults after.1 (faults_are_counted_lem (start words before) end lines texts a) l.1 none
+
+  ended : (limit : ℕ) (AreLast : Type 0) (status : Status) (pieces : List (List ℕ)) → (e : IsEnded LineStep Ends Leaves AreLast (start words before) taken after status pieces)
+      → IsNear e.more → min (before.1 + (count_by tells_fault e.texts + fault_of status)) (2 ^ 64 - 1) ≤ after.1 → Pieces words before after status taken pieces
+  ended limit AreLast status pieces e near faults = record {
+    lines = e.served.lines;
+    texts = e.texts;
+    last = e.last;
+    end = e.end;
+    first = (e.served.lines, e.more, e.served.cut, near, inl refl);
+    answered = e.served.answered;
+    are = ap concat e.are ∙ one_last e.texts e.last;
+    leaves = e.ends.0;
+    faults = faults;
+  }
+
+of_due : (words : Words) (before after : Seen) (limit : ℕ) (left : Option (List ℕ)) (taken : List ℕ) (status : Status) (pieces : List (List ℕ))
+    → Due LineStep Ends Leaves words (start words before) limit left taken after status pieces → Pieces words before after status taken pieces
+of_due (Run n) before after limit left taken statuses.Done pieces d = record {
+  lines = d.0 ++ last_line d.1;
+  texts = pieces;
+  last = [];
+  end = d.2;
+  first = (d.0, d.1, d.3, near_line d.1 d.4, inr refl);
+  answered = d.6;
+  are = sym (append-nil (concat pieces));
+  leaves = d.7;
+  faults = no_fault (Run n) before after taken statuses.Done pieces (d.0 ++ last_line d.1) d.2 refl d.6 d.7;
+}
+of_due (Run n) before after limit left taken statuses.InputFault pieces d = record {
+  lines = d.3.lines;
+  texts = d.0;
+  last = input_fault;
+  end = d.2;
+  first = (d.3.lines, d.1, d.3.cut, near_line d.1 d.4, inl refl);
+  answered = d.3.answered;
+  are = ap concat d.7 ∙ one_last d.0 input_fault;
+  leaves = d.6;
+  faults = no_fault (Run n) before after taken statuses.InputFault d.0 d.3.lines d.2 refl d.3.answered d.6;
+}
+of_due (Run n) before after limit left taken statuses.InputLimit pieces d = record {
+  lines = d.3.lines;
+  texts = d.0;
+  last = input_limit;
+  end = d.2;
+  first = (d.3.lines, d.1, d.3.cut, near_line d.1 d.4, inl refl);
+  answered = d.3.answered;
+  are = ap concat d.7 ∙ one_last d.0 input_limit;
+  leaves = d.6;
+  faults = no_fault (Run n) before after taken statuses.InputLimit d.0 d.3.lines d.2 refl d.3.answered d.6;
+}
+of_due (Run n) before after limit left taken statuses.NoMemory pieces d = record {
+  lines = d.2.lines;
+  texts = pieces;
+  last = [];
+  end = d.1;
+  first = (d.2.lines, d.0, d.2.cut, d.4, inl refl);
+  answered = d.2.answered;
+  are = sym (append-nil (concat pieces));
+  leaves = d.5;
+  faults = no_fault (Run n) before after taken statuses.NoMemory pieces d.2.lines d.1 refl d.2.answered d.5;
+}
+of_due (Run n) before after limit left taken statuses.BadTable pieces d =
+    ended (Run n) before after taken limit (WasRead LineStep Ends Leaves limit left taken) statuses.BadTable pieces d.0 d.2
+    (no_fault (Run n) before after taken statuses.BadTable d.0.texts d.0.served.lines d.0.end refl d.0.served.answered d.0.ends.0)
+of_due (Run n) before after limit left taken statuses.StoreFault pieces d =
+    ended (Run n) before after taken limit (WasRead LineStep Ends Leaves limit left taken) statuses.StoreFault pieces d.0 d.2
+    (one_further (2 ^ 64 - 1) before.1 (count_by tells_fault d.0.texts) d.0.end.faults after.1 (faults_are_counted_lem (start (Run n) before) d.0.end d.0.served.lines d.0.texts d.0.served.answered)
+    (store_rose d.0.end.stage d.0.line d.0.last d.0.end.faults after.1 d.0.ends.1))
+of_due (Run n) before after limit left taken statuses.BadWords pieces d = absurd d
+of_due (Run n) before after limit left taken statuses.OutputFault pieces d = absurd d
+of_due Refused before after limit left taken statuses.BadWords pieces d = record {
+  lines = [];
+  texts = [];
+  last = bad_words;
+  end = start Refused before;
+  first = ([], taken, record { whole = refl; each = tt }, subst IsNear (sym d.0) (near_line [] tt), inl refl);
+  answered = refl;
+  are = ap concat d.2 ∙ append-nil bad_words;
+  leaves = d.1;
+  faults = no_fault Refused before after taken statuses.BadWords [] [] (start Refused before) refl refl d.1;
+}
+of_due Refused before after limit left taken statuses.Done pieces d = absurd d
+of_due Refused before after limit left taken statuses.InputFault pieces d = absurd d
+of_due Refused before after limit left taken statuses.InputLimit pieces d = absurd d
+of_due Refused before after limit left taken statuses.NoMemory pieces d = absurd d
+of_due Refused before after limit left taken statuses.BadTable pieces d = absurd d
+of_due Refused before after limit left taken statuses.StoreFault pieces d = absurd d
+of_due Refused before after limit left taken statuses.OutputFault pieces d = absurd d
+
+module _ (words : Words) (before after : Seen) (limit : ℕ) (left : Option (List ℕ)) (taken : List ℕ) where
+  written_whole : (status : Status) (text : List ℕ) → IsWhole (Due LineStep Ends Leaves words (start words before) limit left taken after) status text → OfLines words before after status taken text
+  written_whole status text w =
+      let p = of_due words before after limit left taken status w.pieces w.due in
+      record { lines = p.lines; texts = p.texts; last = p.last; unwritten = []; end = p.end; first = p.first; answered = p.answered; told = append-nil text ∙ w.whole ∙ p.are; leaves = p.leaves; faults = p.faults }
+
+  written_part : (status : Status) (text : List ℕ) → fault_of status ≡ 0 → IsCutOff (Due LineStep Ends Leaves words (start words before) limit left taken after) text → OfLines words before after status taken text
+  written_part status text none c =
+      let p = of_due words before after limit left taken c.status (c.before ++ c.last ∷ []) c.due in
+      record {
+        lines = p.lines;
+        texts = p.texts;
+        last = p.last;
+        unwritten = c.unwritten;
+        end = p.end;
+        first = p.first;
+        answered = p.answered;
+        told = ap (λ t. t ++ c.unwritten) c.whole ∙ append_assoc (concat c.before) c.written c.unwritten ∙ ap (λ t. concat c.before ++ t) (sym c.part) ∙ sym (one_last c.before c.last) ∙ p.are;
+        leaves = p.leaves;
+        faults = rw none (fewer (2 ^ 64 - 1) before.1 (count_by tells_fault p.texts) (fault_of c.status) after.1 p.faults);
+      }
+
+  pub of_written : (status : Status) (text : List ℕ) → IsWritten (Due LineStep Ends Leaves words (start words before) limit left taken after) status text → OfLines words before after status taken text
+  of_written statuses.OutputFault text w = written_part statuses.OutputFault text refl w
+  of_written statuses.NoMemory text (inl w) = written_whole statuses.NoMemory text w
+  of_written statuses.NoMemory text (inr w) = written_part statuses.NoMemory text refl w.0
+  of_written statuses.Done text w = written_whole statuses.Done text w
+  of_written statuses.BadWords text w = written_whole statuses.BadWords text w
+  of_written statuses.BadTable text w = written_whole statuses.BadTable text w
+  of_written statuses.InputFault text w = written_whole statuses.InputFault text w
+  of_written statuses.StoreFault text w = written_whole statuses.StoreFault text w
+  of_written statuses.InputLimit text w = written_whole statuses.InputLimit text w

@@ -1,0 +1,57 @@
+-- A snapshot that is read by its parts, and what fills it.
+--     IsPartFrom     the first part from a place on
+--     Answers        why a fill was answered so
+use Rattle.std.specs.Prelude.{◌≡◌, ◌⊎◌, ◌↔◌, ℕ, ◌≤◌, ◌<◌, Option, Result, Ok, Err, ⊤}
+use Rattle.rc_cell.specs.declared.rows.Row.{Row}
+use Rattle.rc_cell.specs.declared.writes.Tomb.{Tomb}
+use Rattle.rc_cell.specs.Winner.{empty_row}
+use Rattle.rc_position.specs.declared.positions.Pos.{Pos}
+use Rattle.rc_position.specs.declared.positions.Weight.TheVariants.{After}
+use Rattle.rc_position.specs.Position.{IsBefore, row_pos}
+use Rattle.rc_core.specs.declared.parts.Part.{Part}
+use Rattle.rc_core.specs.declared.parts.Part.TheVariants as part
+use Rattle.std.specs.declared.alloc.AllocError.{AllocError}
+use Rattle.rc_stream.specs.declared.fillers.Fill.{Fill}
+use Rattle.rc_stream.specs.declared.fillers.Fill.TheVariants.{Filled, Skipped, NotNewest}
+use Rattle.rc_stream.specs.Places.{Reaches}
+
+-- what is at a position: the row, empty where there is none, and the range tombstone in force
+abbrev pub There : Type 0
+There = Row × Option Tomb
+
+-- from one position on and before another this holds of each
+abbrev pub Throughout : Pos → Pos → (Pos → Type 0) → Type 0
+Throughout from to P = (x : Pos) → Reaches from x → IsBefore x to → P x
+
+-- a part ends at `to`, behind its place, at the bound or before it
+abbrev pub Ends : Pos → Pos → Pos → Type 0
+Ends x upto to = IsBefore x to × Reaches to upto
+
+-- the first part from x on, up to a bound, where this is known
+abbrev pub IsPartFrom : (Pos → There → Type 0) → Pos → Pos → Part → Type 0
+IsPartFrom knows x upto (part.Row key row tomb) = IsBefore x upto × (x ≡ row_pos key) × knows x (row, tomb)
+IsPartFrom knows x upto (part.Gap to tomb) = Ends x upto to × Throughout x to (λ y. knows y (empty_row, tomb))
+IsPartFrom knows x upto (part.Missing to) = Ends x upto to × ((v : There) → knows x v → ⊥)
+IsPartFrom knows x upto part.End = x ≡ upto
+
+-- the place behind a part: behind a row, at the end of a gap, else as it was
+abbrev pub place_behind : Result Part AllocError → Pos → Pos
+place_behind (Ok (part.Row key row tomb)) x = record { prefix = key; weight = After }
+place_behind (Ok (part.Gap to tomb)) x = to
+place_behind (Ok (part.Missing to)) x = x
+place_behind (Ok part.End) x = x
+place_behind (Err e) x = x
+
+-- the same is known before and after
+abbrev pub SameKnown : (Pos → There → Type 0) → (Pos → There → Type 0) → Type 0
+SameKnown knows now = (x : Pos) (v : There) → knows x v ↔ now x v
+
+-- a fill was not taken exactly where the snapshot may not be filled, and was skipped only where something was lost
+abbrev pub Answers : Fill → Type 0 → (before now : ℕ) → Type 0
+Answers Filled may before now = may
+Answers Skipped may before now = may × (before < now)
+Answers NotNewest may before now = may → ⊥
+
+-- so much is owed where the snapshot may be filled and nothing was lost
+abbrev pub Unlost : Type 0 → (before now : ℕ) → Type 0 → Type 0
+Unlost may before now P = may → before ≡ now → P

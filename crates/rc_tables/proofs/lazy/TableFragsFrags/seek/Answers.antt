@@ -1,0 +1,6 @@
+-- What is named are tables of the set.
+use Rattle.rc_tables.proofs.Blamed.{blames_tables}
+use Rattle.rc_tables.proofs.lazy.TableFragsFrags.seek.Goals as goal
+
+pub returns-clause-damage : goal.returns-clause-damage
+returns-clause-damage g c = blames_tables c.args.self.now c.seek.new.self c.seek.result c.seek.ensures.tables c.seek.ensures.damaged

@@ -1,0 +1,2 @@
+-- Laws of what this crate defines, for the proofs of other crates.
+pub mod Ascending

@@ -1,0 +1,3 @@
+-- The laws of writes, for crates above to cite.
+pub mod OnePlace
+pub mod Within

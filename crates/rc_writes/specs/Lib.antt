@@ -1,0 +1,4 @@
+pub mod Allowed
+pub mod Laws
+pub mod Limits
+pub mod Single
