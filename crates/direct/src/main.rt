@@ -1,10 +1,13 @@
-//! An example for embedders: the machine called directly, with no run around it.
+//! The plain machine as a program: called directly, with no run around it. It is an example for embedders, and what `kit/conform` compares the program
+//! `rowcache` with.
 //!
-//! A program has a loop, a store and replies of its own. Each line of standard input is one call of the machine: its reply comes back as a value, of
-//! which the rows are counted, and is printed. At the end it says how many rows were given and how many tables were written.
+//! It has a loop, a store and replies of its own. All of its input is read first. The first schema line opens the machine over the tables of the folder;
+//! each line behind it is one call of the machine, whose reply comes back as a value, of which the rows are counted, and is printed. At the end it says
+//! on standard error how many rows were given and how many tables written. The status is 0, or 3 where the tables cannot be opened.
 #![tactic(auto)]
 
 mod calls;
+mod early;
 mod stores;
 
 ghost use Rattle.rc_machine.specs.State.{State};
@@ -12,41 +15,56 @@ ghost use Rattle.rc_plain.specs.Stands.{Stands};
 
 use anyhow::Result;
 use calls::answer;
+use early::{last_line, schema_of};
 use rc_lines::{Reply, print_reply};
-use rc_outside::{Sink, StdSink, Store, SureStore};
+use rc_outside::{FolderStore, Sink, StdSink, Store};
 use rc_plain::Plain;
-use rc_schema::Schema;
+use std::alloc::Global;
+use std::io::{BufRead, BufReader};
+use std::process::ExitCode;
 use stores::Written;
 
-/// The schema of the shard. A line may give it again.
-const SCHEMA: &[u8] = b"ck=int static=s cols=a,b";
+/// The status where a table of the folder is damaged, or of another schema.
+const BAD_TABLE: u8 = 3;
 
-fn main(rt: HostRuntime) -> Result<()> {
+fn main(rt: HostRuntime) -> Result<ExitCode> {
     let alloc = rt.alloc();
-    let mut store = Written::new(SureStore::new(alloc)?);
-    let schema = Schema::read(alloc, SCHEMA)?;
-    let mut machine = Plain::open(alloc, &mut store, schema)?;
+    let lines = BufReader::new(alloc, rt.stdin())?
+        .split(alloc, b'\n')
+        .collect::<std::io::Result<Vec<Vec<u8>>>>(alloc)??;
     let mut out = StdSink::new(&rt);
-    let rows = serve(&rt, &mut machine, &mut store, &mut out)?;
-    let line = format!(in alloc; "{rows} rows given, {} tables written\n", store.written())?;
-    out.push(line.as_bytes())?;
-    Ok(())
+    let Some((schema, rest)) = schema_of(alloc, lines.as_slice(), &mut out)? else {
+        return Ok(ExitCode::SUCCESS);
+    };
+    let mut store = Written::new(FolderStore::new(&rt));
+    match Plain::open(alloc, &mut store, schema) {
+        Ok(mut machine) => {
+            out.push(b"ok\n")?;
+            let rows = serve(alloc, &mut machine, &mut store, rest, &mut out)?;
+            eprintln!(rt; "{rows} rows given, {} tables written", store.written())?;
+            Ok(ExitCode::SUCCESS)
+        }
+        Err(error) => {
+            out.push(last_line(alloc, &error)?.as_bytes())?;
+            Ok(ExitCode::from(BAD_TABLE))
+        }
+    }
 }
 
-/// Answers each line of standard input, and gives the number of rows in all replies. Ends where a line cannot be read, memory runs out or the output fails.
+/// Answers the lines behind the first schema line, and gives the number of rows in all replies. Ends where memory runs out or the output fails.
 fn serve<W: Store, K: Sink>(
-    rt: &HostRuntime,
+    alloc: Global,
     machine: &mut Plain,
     store: &mut W,
+    lines: &[Vec<u8>],
     out: &mut K,
 ) -> Result<u64>
     requires { (m : State) × Stands (W.files store.old) machine.old m }
 {
-    let alloc = rt.alloc();
     let mut text = Vec::new(alloc);
     let mut rows = 0u64;
-    for line in rt.lines(alloc) {
-        let reply = answer(alloc, machine, store, line?.as_bytes())?;
+    for line in lines {
+        let reply = answer(alloc, machine, store, line.as_slice())?;
         rows = rows.saturating_add(rows_of(&reply));
         text.clear();
         print_reply(alloc, machine.schema(), &reply, &mut text)?;

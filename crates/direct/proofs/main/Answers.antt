@@ -3,4 +3,4 @@ use Rattle.rc_machine.specs.State.{opened}
 use Rattle.direct.proofs.main.Goals as goal
 
 pub serve-requires : goal.serve-requires
-serve-requires c = let s = c.in_ok-machine.ensures.stands in (opened 0 _ _ s.0 s.1, s.4 0)
+serve-requires c = let s = c.in-Ok.ensures.stands in (opened 0 _ _ s.0 s.1, s.4 0)
