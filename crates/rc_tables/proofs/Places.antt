@@ -20,7 +20,7 @@ use Rattle.rc_tfile.specs.Info.{refs, refs_from, entry_size}
 use Rattle.rc_tfile.specs.TableText.{AllFit, IsStatic, body, frag_items, table, part_items}
 use Rattle.rc_tfile.specs.laws.Follows.{followed_by-append, text-followed_by, by_recursion}
 use Rattle.rc_tfile.specs.laws.Drafts.{parts_of, body_is}
-use Rattle.rc_tables.specs.Located.{IsLocated, IsSpan, IsEntryAt, EndsAt, glimpsed}
+use Rattle.rc_tables.specs.Located.{IsLocated, IsSpan, IsEntryAt, EndsAt, MayLie, glimpsed}
 use Rattle.rc_tables.specs.Rebuilt.{AllCome, between}
 use Rattle.rc_tables.specs.laws.Ascending.{front_fits}
 use Rattle.rc_tables.proofs.Listing.{Inner, between-inner, items_of, entry_of, entries_behind, entries_are, entries_behind-append, length-entries, listing, listing-append, refs_from-append, length-refs}
@@ -274,9 +274,18 @@ module _ (files : Option Files) (n at : ℕ) (here : PartRef) (behind : List Par
       subst (λ d. EndsAt d (drop here.dir_len piece) behind (offset where_to)) (sym is.directory)
       (subst (λ rs. EndsAt (dir is.schema is.before p is.behind) (drop here.dir_len piece) rs (offset where_to)) (sym refs_are.1) there)
 
-  -- the partition does not end before it begins
-  pub in_order : offset where_from ≤ offset where_to
-  in_order = omega (arith, next_offset is.schema is.before p is.behind)
+  -- the partition does not end before it begins, and the stop stands before the directory
+  pub in_order : MayLie at (offset where_from) (offset where_to)
+  in_order =
+      let mid = flat_map item_code (part_items p) in
+      let others = flat_map item_code (flat_map part_items is.behind) in
+      let whole = body is.schema (is.before ++ p ∷ is.behind) in
+      let size : offset whole ≡ length (text whole) = refl in
+      let lies : offset where_to ≡ offset where_from + length mid = next_offset is.schema is.before p is.behind in
+      let front : offset where_from ≡ length (text where_from) = refl in (
+        omega (arith, lies),
+        omega (arith, lies, size, front, is.directory, ap length (body_split is.schema is.before p is.behind), length-append (text where_from) (mid ++ (others ++ 5 ∷ [])), length-append mid (others ++ 5 ∷ []), length-append others (5 ∷ [])),
+      )
 
   -- its items lie there
   pub lies_there : IsSpan files n p (offset where_from) (offset where_to)

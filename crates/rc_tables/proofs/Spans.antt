@@ -18,7 +18,7 @@ use Rattle.rc_tfile.specs.Before.{offset}
 use Rattle.rc_tfile.specs.laws.Starting.{key_free, rest_of}
 use Rattle.std.proofs.lemmas.Nat.{from_le_bytes-to_le_bytes_8}
 use Rattle.rc_tables.specs.declared.locating.Span.{Span}
-use Rattle.rc_tables.specs.Located.{Contradicts, IsAtSpan, IsLocated, IsLocatedOf, IsOutside, IsSpan, IsEntryAt, EndsAt, SaysNoPart, SaysNoSpan, SaysOf, SaysSpan, glimpsed, WhereTold}
+use Rattle.rc_tables.specs.Located.{Contradicts, IsAtSpan, IsLocated, IsLocatedOf, IsOutside, IsSpan, IsEntryAt, EndsAt, MayLie, SaysNoPart, SaysNoSpan, SaysOf, SaysSpan, glimpsed, WhereTold}
 use Rattle.rc_tables.specs.Rebuilt.{AllCome, IsPartOf, between, number_at}
 use Rattle.rc_tables.proofs.Places.{where_from, where_to, begins_there, ends_there, in_order, lies_there, reads_within, key_is, is_mutation, items_there, comes_there}
 use Rattle.rc_tables.proofs.Coming.{part_fits}
@@ -30,7 +30,7 @@ some_is s t e = cc
 -- what answers the offsets that the directory says answers the span of the partition
 pub span_found : (files : Option Files) (n at : ℕ) (here : PartRef) (behind : List PartRef) (p : Partition) (piece : List ℕ) (found : Option Span) (span : Span)
     → IsLocated files n at (here ∷ behind) p → AreBytesOf files n here.dir_off piece → length piece ≡ here.dir_len + glimpsed behind
-    → ((from to : ℕ) → IsEntryAt piece here.key from → EndsAt at (drop here.dir_len piece) behind to → from ≤ to → found ≡ Some (record { from = from; to = to }))
+    → ((from to : ℕ) → IsEntryAt piece here.key from → EndsAt at (drop here.dir_len piece) behind to → MayLie at from to → found ≡ Some (record { from = from; to = to }))
     → found ≡ Some span → IsSpan files n p span.from span.to
 span_found files n at here behind p piece found span is read size finds there =
     let from = offset (where_from files n at here behind p is) in
@@ -43,7 +43,7 @@ span_found files n at here behind p piece found span is read size finds there =
 -- where a file is told and is the table, some span is found
 pub none_found : (files : Option Files) (n at : ℕ) (here : PartRef) (behind : List PartRef) (piece : List ℕ) (found : Option Span)
     → WhereTold files ((p : Partition) × IsLocated files n at (here ∷ behind) p) → AreBytesOf files n here.dir_off piece → length piece ≡ here.dir_len + glimpsed behind
-    → ((from to : ℕ) → IsEntryAt piece here.key from → EndsAt at (drop here.dir_len piece) behind to → from ≤ to → found ≡ Some (record { from = from; to = to }))
+    → ((from to : ℕ) → IsEntryAt piece here.key from → EndsAt at (drop here.dir_len piece) behind to → MayLie at from to → found ≡ Some (record { from = from; to = to }))
     → found ≡ None → files ≡ None
 none_found None n at here behind piece found told read size finds there = refl
 none_found (Some files) n at here behind piece found told read size finds there =
@@ -162,7 +162,7 @@ outside_span n at here behind NoMemory h = tt
 
 -- where no span is found, the bytes say none
 pub no_span : (at : ℕ) (here : PartRef) (behind : List PartRef) (piece : List ℕ) (found : Option Span) → length piece ≡ here.dir_len + glimpsed behind
-    → ((from to : ℕ) → IsEntryAt piece here.key from → EndsAt at (drop here.dir_len piece) behind to → from ≤ to → found ≡ Some (record { from = from; to = to })) → found ≡ None → SaysNoSpan at here behind
+    → ((from to : ℕ) → IsEntryAt piece here.key from → EndsAt at (drop here.dir_len piece) behind to → MayLie at from to → found ≡ Some (record { from = from; to = to })) → found ≡ None → SaysNoSpan at here behind
 no_span at here behind piece found size finds there = record { piece = piece; size = size; none = λ from to b e o. absurd (let q = sym there ∙ finds from to b e o in cc) }
 
 -- where no partition is found, they are no part's

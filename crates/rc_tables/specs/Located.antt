@@ -59,6 +59,10 @@ abbrev pub EndsAt : ℕ → List ℕ → List PartRef → ℕ → Type 0
 EndsAt dir bytes [] to = dir ≡ to + 1
 EndsAt dir bytes (r ∷ rs) to = IsEntryAt bytes r.key to
 
+-- the items of a partition may lie from one offset up to another: these are in order, and before the directory that begins at an offset
+abbrev pub MayLie : ℕ → ℕ → ℕ → Type 0
+MayLie dir from to = (from ≤ to) × (to < dir)
+
 -- a mutation says of a key what a table of the schema can hold
 abbrev pub SaysOf : Lists → List ℕ → Mutation → Type 0
 SaysOf schema key m = IsMutation m × PartFits schema (record { key = key; change = m })
@@ -67,7 +71,7 @@ SaysOf schema key m = IsMutation m × PartFits schema (record { key = key; chang
 pub record SaysNoSpan (dir : ℕ) (here : PartRef) (later : List PartRef) : Type 0 where
   pub piece : List ℕ
   pub size : length piece ≡ here.dir_len + glimpsed later
-  pub none : (from to : ℕ) → IsEntryAt piece here.key from → EndsAt dir (drop here.dir_len piece) later to → from ≤ to → ⊥
+  pub none : (from to : ℕ) → IsEntryAt piece here.key from → EndsAt dir (drop here.dir_len piece) later to → MayLie dir from to → ⊥
 
 -- bytes of the directory, as many as are read, say of no other offsets than these that the items of a partition lie from one up to the other
 pub record SaysSpan (dir : ℕ) (here : PartRef) (later : List PartRef) (from to : ℕ) : Type 0 where
@@ -75,7 +79,7 @@ pub record SaysSpan (dir : ℕ) (here : PartRef) (later : List PartRef) (from to
   pub size : length piece ≡ here.dir_len + glimpsed later
   pub begins : (x : ℕ) → IsEntryAt piece here.key x → x ≡ from
   pub ends : (x : ℕ) → EndsAt dir (drop here.dir_len piece) later x → x ≡ to
-  pub order : from ≤ to
+  pub order : MayLie dir from to
 
 -- bytes of a file contradict the table as checked: from this offset on, where the directory says that the items of a key's part lie, they are
 -- not such items, of the schema

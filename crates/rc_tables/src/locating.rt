@@ -5,7 +5,7 @@ ghost use Rattle.rc_mutation.specs.declared.mutations.Partition.{Partition};
 ghost use Rattle.rc_outside.specs.Files.{LiesInFile, AreBytesOf};
 ghost use Rattle.rc_stream.specs.Causes.{Caused};
 ghost use Rattle.rc_tables.specs.Rebuilt.{number_at};
-ghost use Rattle.rc_tables.specs.Located.{EndsAt, glimpsed, IsAtSpan, IsEntryAt, IsLocated, IsOutside, IsSpan, SaysSpan, WhereTold};
+ghost use Rattle.rc_tables.specs.Located.{EndsAt, glimpsed, IsAtSpan, IsEntryAt, IsLocated, IsOutside, IsSpan, MayLie, SaysSpan, WhereTold};
 
 use rc_outside::Store;
 use rc_position::PartKey;
@@ -73,7 +73,7 @@ pub(crate) fn locate<W: Store>(
 ) -> Result<Span, StreamErr>
     requires { WhereTold (W.files store.old) ((p : Partition) × IsLocated (W.files store.old) n dir (here.now ∷ later.now) p) }
     ensures span { (p : Partition) → IsLocated (W.files store.old) n dir (here.now ∷ later.now) p → IfOk result (λ span. IsSpan (W.files store.old) n p span.from span.to) }
-    ensures order { IfOk result (λ span. span.from ≤ span.to) }
+    ensures order { IfOk result (λ span. MayLie dir span.from span.to) }
     ensures said { IfOk result (λ span. SaysSpan dir here.now later.now span.from span.to) }
     ensures damaged { IfErr result (IsAtSpan n dir here.now later.now) }
     ensures cause { Caused result (W.files store.old) (W.faults store.old) (W.faults store.new) }
@@ -103,8 +103,8 @@ fn glimpse(refs: &[PartRef]) -> usize
     }
 }
 
-/// Where the items of a partition lie, by what the directory says of it and of the next; none where it does not say so. The only
-/// error is want of memory.
+/// Where the items of a partition lie, by what the directory says of it and of the next; none where it does not say so, or says that they lie where
+/// none can, so that no more is asked for than lies before the directory. The only error is want of memory.
 pub(crate) fn span_of(
     alloc: Global,
     piece: &[u8],
@@ -113,11 +113,11 @@ pub(crate) fn span_of(
     later: &[PartRef],
 ) -> Result<Option<Span>, AllocError>
     requires { here.now.dir_len ≤ length piece.now }
-    ensures span { (from to : ℕ) → IsEntryAt piece.now here.now.key from → EndsAt dir (drop here.now.dir_len piece.now) later.now to → from ≤ to
+    ensures span { (from to : ℕ) → IsEntryAt piece.now here.now.key from → EndsAt dir (drop here.now.dir_len piece.now) later.now to → MayLie dir from to
         → IfOk result (λ found. found ≡ Some (record { from = from; to = to })) }
     ensures begins { (from : ℕ) → IsEntryAt piece.now here.now.key from → IfOk result (λ found. IfSome found (λ span. from ≡ span.from)) }
     ensures ends { (to : ℕ) → EndsAt dir (drop here.now.dir_len piece.now) later.now to → IfOk result (λ found. IfSome found (λ span. to ≡ span.to)) }
-    ensures order { IfOk result (λ found. IfSome found (λ span. span.from ≤ span.to)) }
+    ensures order { IfOk result (λ found. IfSome found (λ span. MayLie dir span.from span.to)) }
 {
     let Some(from) = part_offset(alloc, piece, &here.key)? else {
         return Ok(None);
@@ -126,6 +126,9 @@ pub(crate) fn span_of(
         return Ok(None);
     };
     if to < from {
+        return Ok(None);
+    }
+    if dir <= to {
         return Ok(None);
     }
     Ok(Some(Span { from, to }))

@@ -1,8 +1,9 @@
 -- What is read of the directory gives the span.
-use Rattle.std.specs.Prelude.{◌≡◌, ◌≤◌, Option, IfSome}
+use Rattle.std.specs.Prelude.{◌≡◌, Option, IfSome}
 use Rattle.std.proofs.Common.{◌+◌, ℕ, ap, refl, sym, subst, ◌∙◌, List, length}
 use Rattle.rc_outside.specs.Files.{AreBytesOf}
 use Rattle.rc_tables.specs.declared.locating.Span.{Span}
+use Rattle.rc_tables.specs.Located.{MayLie}
 use Rattle.rc_tables.proofs.Spans.{directory_lies, no_span, none_found, span_found}
 use Rattle.rc_tables.proofs.locating.locate.Goals as goal
 
@@ -36,5 +37,5 @@ returns-in-Ok-Some-clause-said g c =
       size = size;
       begins = λ x at. subst (λ (o : Option Span). IfSome o (λ span. x ≡ span.from)) found (c.in-Ok-Some.ensures.begins x at);
       ends = λ x at. subst (λ (o : Option Span). IfSome o (λ span. x ≡ span.to)) found (c.in-Ok-Some.ensures.ends x at);
-      order = subst (λ (o : Option Span). IfSome o (λ span. span.from ≤ span.to)) found c.in-Ok-Some.ensures.order;
+      order = subst (λ (o : Option Span). IfSome o (λ span. MayLie c.args.dir span.from span.to)) found c.in-Ok-Some.ensures.order;
     }

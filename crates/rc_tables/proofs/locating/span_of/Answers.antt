@@ -14,7 +14,12 @@ pub returns-then-to-from-clause-span : goal.returns-then-to-from-clause-span
 returns-then-to-from-clause-span c = λ from to at ends le.
     let f : c.in-Some.from ≡ from = same c.in-Some.from from (sym c.in-Some.is ∙ c.in_ok-from.ensures from at) in
     let t : c.in-Some-2.to ≡ to = same c.in-Some-2.to to (sym c.in-Some-2.is ∙ c.in_ok-to.ensures to (subst (λ b. EndsAt c.args.dir b c.args.later.now to) (sym (take_rest c.args.piece.now c.args.here.now.dir_len)) ends)) in
-    absurd (omega (arith, f, t, le, c.if-to-from.true))
+    absurd (omega (arith, f, t, le.0, c.if-to-from.true))
+
+pub returns-then-dir-to-clause-span : goal.returns-then-dir-to-clause-span
+returns-then-dir-to-clause-span c = λ from to at ends le.
+    let t : c.in-Some-2.to ≡ to = same c.in-Some-2.to to (sym c.in-Some-2.is ∙ c.in_ok-to.ensures to (subst (λ b. EndsAt c.args.dir b c.args.later.now to) (sym (take_rest c.args.piece.now c.args.here.now.dir_len)) ends)) in
+    absurd (omega (arith, t, le.1, c.if-dir-to.true))
 
 pub returns-clause-span : goal.returns-clause-span
 returns-clause-span c = λ from to at ends le.
