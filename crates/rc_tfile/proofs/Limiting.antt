@@ -12,12 +12,12 @@ use Rattle.rc_ranges.specs.declared.pieces.Piece.{Piece}
 use Rattle.rc_mutation.specs.declared.fragments.Frag.{Frag}
 use Rattle.rc_mutation.specs.declared.fragments.Frag.TheVariants as frag
 use Rattle.rc_mutation.specs.declared.mutations.Mutation.{Mutation}
-use Rattle.rc_mutation.specs.declared.mutations.Partition.{Partition}
 use Rattle.rc_mutation.specs.Source.{IsMutation}
 use Rattle.rc_mutation.specs.Fragments.{fragments, static_fragment, is_written, begins_at, changes_of, placed_change, placed_row, in_order}
 use Rattle.rc_mutation.specs.Laws.FragMerge.{merge, merge_into, fragment_of, merge-in_order, rows-placed, changes-placed}
 use Rattle.rc_rowcode.specs.Spelling.{KeyFits, RowFits}
-use Rattle.rc_tfile.specs.Limits.{FragFits, PartLimits}
+use Rattle.rc_writes.specs.Limits.{IsWithinLimits}
+use Rattle.rc_tfile.specs.Limits.{FragFits}
 use Rattle.rc_tfile.specs.laws.Follows.{all_of, by_recursion, all_append}
 
 abbrev RowLimits : List Comp × Row → Type 0
@@ -64,10 +64,9 @@ merged_fit (a ∷ os) bs g h = merged_into a os g.0 g.1 (λ cs k. merged_fit os 
 statics_fit : (row : Row) → AllByRecursion FragFits (static_fragment row)
 statics_fit row = elim (is_written row) as (λ b. AllByRecursion FragFits (cond b (frag.Static row ∷ []) [])) [ true ↦ (tt, tt) | false ↦ tt ]
 
-pub fragments_fit : (p : Partition) → IsMutation p.change → PartLimits p → All FragFits (fragments p.change)
+pub fragments_fit : (m : Mutation) → IsMutation m → IsWithinLimits m → All FragFits (fragments m)
 unfolding fragments
-fragments_fit p is h =
-    let m = p.change in
+fragments_fit m is h =
     let front = frag.Start m.pt ∷ static_fragment m.statics in
     let mid = in_order (list_map placed_row m.rows ++ list_map placed_change (changes_of m.ranges)) in
     let middle : AllByRecursion FragFits mid = subst (λ (fs : List Frag). AllByRecursion FragFits fs) (merge-in_order m.rows (changes_of m.ranges) (rows-placed m.rows is.rows.ascend) (changes-placed m.ranges is.ranges)) (merged_fit m.rows (changes_of m.ranges) (by_recursion RowLimits m.rows h.rows) (changes_fit m.ranges (by_recursion PieceLimits m.ranges h.ranges))) in

@@ -27,7 +27,8 @@ use Rattle.rc_canon.specs.Laws.Listed.{listed}
 use Rattle.rc_tfile.specs.Items.{Item, HeadItem, PartItem, RowItem, ChangeItem, EndItem, StopItem, EntryItem, BlockItem, TailItem, IsItem}
 use Rattle.rc_tfile.specs.Before.{Before, Between, Inside, text, followed_by, place, last_key, last_pos, in_force, IsNextKey}
 use Rattle.rc_tfile.specs.Blocks.{Entry, entries, entry_items, ending, rest, due}
-use Rattle.rc_tfile.specs.TableText.{IsRowOf, IsBoundOf, MayStand, AllFit, frag_items, part_items, body, table, IsTable, PartFits, PartsFit}
+use Rattle.rc_writes.specs.Allowed.{ChangeFits, IsBoundOf, IsRowOf}
+use Rattle.rc_tfile.specs.TableText.{MayStand, AllFit, frag_items, part_items, body, table, IsTable, PartsFit}
 use Rattle.rc_tfile.specs.laws.Drafts.{parts_of, body_is}
 use Rattle.rc_fitting.specs.Laws.Each.{Each, each_append, each_of_all}
 
@@ -190,9 +191,8 @@ module _ (schema : Lists) where
   merged_fit [] bs g h = only_changes bs h
   merged_fit (a ∷ os) bs g h = merged_into a os g.0 g.1 (λ cs k. merged_fit os cs g.1 k) bs h
 
-  clustered_fit : (p : Partition) → IsMutation p.change → PartFits schema p → Each IsFragOf (clustered p.change)
-  clustered_fit p is fits =
-      let m = p.change in
+  clustered_fit : (m : Mutation) → IsMutation m → ChangeFits schema m → Each IsFragOf (clustered m)
+  clustered_fit m is fits =
       subst (λ (fs : List Frag). Each IsFragOf fs) (merge-in_order m.rows (changes_of m.ranges) (rows-placed m.rows is.rows.ascend) (changes-placed m.ranges is.ranges))
       (merged_fit m.rows (changes_of m.ranges) (each_of_all IsKeyedOf m.rows fits.rows) (changes_fit m.ranges (each_of_all IsPieceOf m.ranges fits.ranges)))
 
@@ -214,17 +214,17 @@ module _ (schema : Lists) where
 
   -- ---- the partitions
 
-  part_stands : (p : Partition) (before : Before) → place before ≡ Between → IsNextKey before p.key → IsMutation p.change → PartFits schema p → Stand before (part_items p)
+  part_stands : (p : Partition) (before : Before) → place before ≡ Between → IsNextKey before p.key → IsMutation p.change → ChangeFits schema p.change → Stand before (part_items p)
   part_stands p before b k is fits =
       let start = PartItem p.key p.change.pt p.change.statics ∷ before in
       let bounded : IsBounded p.change.ranges = λ j d lt. (let q = fits.ranges j d lt in (q.0.0, q.1.0)) in (
         (b, k, fits.statics),
         subst (λ (xs : List Item). Stand start xs) (sym (shown p.change))
-            (frags_stand (clustered p.change) None None start refl refl refl (listed p.change is bounded) (clustered_fit p is fits)),
+            (frags_stand (clustered p.change) None None start refl refl refl (listed p.change is bounded) (clustered_fit p.change is fits)),
       )
 
   parts_stand : (parts : List Partition) (before : Before) → place before ≡ Between → NextKey before parts → T (is_sorted bytes_cmp (list_map (λ (p : Partition). (p.key, p.change)) parts))
-      → Each (λ p. IsMutation p.change) parts → Each (PartFits schema) parts → Stand before (flat_map part_items parts ++ StopItem ∷ [])
+      → Each (λ p. IsMutation p.change) parts → Each (λ p. ChangeFits schema p.change) parts → Stand before (flat_map part_items parts ++ StopItem ∷ [])
   parts_stand [] before b k s is fits = (b, tt)
   parts_stand (p ∷ ps) before b k s is fits =
       let later = list_map (λ (q : Partition). (q.key, q.change)) ps in
@@ -257,7 +257,7 @@ module _ (schema : Lists) where
   table_stands parts fits is =
       let front : AllStand (body schema parts) =
       stand_all (HeadItem schema ∷ []) (flat_map part_items parts ++ StopItem ∷ []) (tt, (refl, refl))
-      (parts_stand parts (HeadItem schema ∷ []) refl (first_key parts) (test_of _ fits.ascend) (each_of_all (λ p. IsMutation p.change) parts is) (each_of_all (PartFits schema) parts fits.each)) in
+      (parts_stand parts (HeadItem schema ∷ []) refl (first_key parts) (test_of _ fits.ascend) (each_of_all (λ p. IsMutation p.change) parts is) (each_of_all (λ p. ChangeFits schema p.change) parts fits.each)) in
       let stop = StopItem ∷ parts_of schema parts in
       let last : Stand (body schema parts) (ending (body schema parts)) = subst (λ (b : Before). Stand b (ending b)) (sym (body_is schema parts)) (due_stand (ending stop) stop refl (ending_behind stop)) in
       stand_all (body schema parts) (ending (body schema parts)) front last
