@@ -13,6 +13,7 @@ use Rattle.rc_mutation.specs.Source.{IsJoinOf}
 use Rattle.rc_mutation.specs.SourceLaws.{IsJoinOf-none, IsJoinOf-more}
 use Rattle.rc_tfile.specs.declared.info.PartRef.{PartRef}
 use Rattle.rc_tfile.specs.declared.info.TableInfo.{TableInfo}
+use Rattle.rc_tfile.specs.laws.Follows.{all_append}
 use Rattle.rc_tables.specs.Located.{IsLocatedOf, SaysOf, WhereTold}
 use Rattle.rc_stream.specs.declared.streams.StreamErr.{StreamErr}
 use Rattle.rc_stream.specs.declared.streams.StreamErr.TheVariants.{Fault, Damaged, NoMemory}
@@ -115,10 +116,6 @@ pub record SomeSoFar (schema : Lists) (key : List ℕ) (all : List TableInfo) (j
 
 pub some_start : (schema : Lists) (key : List ℕ) (all : List TableInfo) (joined : Mutation) → joined ≡ record { pt = None; statics = empty_row; rows = []; ranges = [] } → SomeSoFar schema key all joined all
 some_start schema key all joined e = record { changes = []; joins = subst (λ (m : Mutation). IsJoinOf m []) (sym e) IsJoinOf-none; count = omega arith; fit = tt }
-
-all_append : (P : Mutation → Type 0) (xs ys : List Mutation) → AllByRecursion P xs → AllByRecursion P ys → AllByRecursion P (xs ++ ys)
-all_append P [] ys h k = k
-all_append P (x ∷ xs) ys h k = (h.0, all_append P xs ys h.1 k)
 
 pub some_on : (schema : Lists) (key : List ℕ) (all : List TableInfo) (joined more : Mutation) (info : TableInfo) (infos : List TableInfo) → SomeSoFar schema key all joined (info ∷ infos) → JoinsSome schema (info ∷ []) key joined more → SomeSoFar schema key all more infos
 some_on schema key all joined more info infos so_far joins = record {

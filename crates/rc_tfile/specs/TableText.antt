@@ -17,7 +17,7 @@ use Rattle.rc_mutation.specs.Fragments.{fragments}
 use Rattle.rc_writes.specs.Allowed.{IsStaticOf, IsRowOf, IsBoundOf, ChangeFits}
 use Rattle.rc_tfile.specs.Items.{Item, HeadItem, PartItem, RowItem, ChangeItem, EndItem, StopItem, EntryItem, BlockItem, TailItem, item_code, IsItem}
 use Rattle.rc_tfile.specs.Before.{Before, text, offset, followed_by, Between, Inside, place, in_force, IsNextKey, IsNextPos}
-use Rattle.rc_tfile.specs.Blocks.{entries, ending, due}
+use Rattle.rc_tfile.specs.Blocks.{ending, due}
 
 -- the item is the next of those that must come
 abbrev pub IsDue : Before → Item → Type 0

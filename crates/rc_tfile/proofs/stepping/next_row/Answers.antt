@@ -1,5 +1,5 @@
 -- What was read is the only row that may come; it fits where it is not empty, of the schema, and behind the fragment before.
-use Rattle.std.proofs.Common.{◌≡◌, drop, refl, sym, ap, subst, ◌∙◌}
+use Rattle.std.proofs.Common.{◌≡◌, drop, sym, ap, subst, ◌∙◌}
 use Rattle.std.specs.Prelude.{IfSome}
 use Rattle.std.specs.declared.cmp.Ordering.TheVariants.{Less}
 use Rattle.rc_position.specs.Position.{pos_cmp, row_pos}

@@ -1,5 +1,5 @@
 -- The outline's references are those of the table.
-use Rattle.std.proofs.Common.{ap, sym, subst, arith, ◌∙◌}
+use Rattle.std.proofs.Common.{ap, subst, arith, ◌∙◌}
 use Rattle.std.specs.List.{flat_map}
 use Rattle.rc_tfile.specs.Blocks.{entry_items}
 use Rattle.rc_tfile.specs.Info.{refs_from}
