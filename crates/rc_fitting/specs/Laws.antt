@@ -1,7 +1,6 @@
--- What was written under a schema fits a table of it, and what fits makes one: the laws, for crates above to cite.
+-- What was written under a schema fits a table of it: the laws, for crates above to cite.
 pub mod Each
 pub mod Bounds
 pub mod Joined
 pub mod Keys
 pub mod Parts
-pub mod Tables

@@ -64,7 +64,7 @@ Does next reply new = (reply ≡ replies.Fine) × (new ≡ next)
 -- What the tables say of a partition to a reader: exactly what they hold, where the folder is told. Else what they hold is not known, and
 -- each that lists the key may say anything once that a table of the schema can hold; where none lists it they say nothing.
 abbrev pub IsSaid : State → List ℕ → List Mutation → Type 0
-IsSaid m key said = MatchOption m.files ((length said ≤ listing key m.infos) × AllByRecursion (SaysOf m.schema key) said) (λ files. said ≡ changes_at key m.tables)
+IsSaid m key said = MatchOption m.files ((length said ≤ listing key m.infos) × AllByRecursion (SaysOf m.schema) said) (λ files. said ≡ changes_at key m.tables)
 
 -- a table is not what it was: the folder is not told, and what was read of a table that lists the key contradicts what is known of it
 abbrev pub MayBeDamaged : State → List ℕ → (file offset : ℕ) → Type 0

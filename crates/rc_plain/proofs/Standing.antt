@@ -232,16 +232,16 @@ pub answered : (files : Option Files) (k : Keeping) (key : List ℕ) (slice : Sl
     → (m : State) → Stands files k m → IsAnswer m key slice lines
 answered None k key slice lines join joined some is m s =
     let fewer : length some.changes ≤ listing key m.infos = subst (λ (infos : List TableInfo). length some.changes ≤ listing key infos) (sym s.over.infos) some.count in
-    let fit : AllByRecursion (SaysOf m.schema key) some.changes = subst (λ schema. AllByRecursion (SaysOf schema key) some.changes) (sym s.over.schema) some.fit in (
+    let fit : AllByRecursion (SaysOf m.schema) some.changes = subst (λ schema. AllByRecursion (SaysOf schema) some.changes) (sym s.over.schema) some.fit in (
       some.changes,
-      subst (λ (files : Option Files). MatchOption files ((length some.changes ≤ listing key m.infos) × AllByRecursion (SaysOf m.schema key) some.changes) (λ _. some.changes ≡ changes_at key m.tables)) (sym s.over.files) (fewer, fit),
+      subst (λ (files : Option Files). MatchOption files ((length some.changes ≤ listing key m.infos) × AllByRecursion (SaysOf m.schema) some.changes) (λ _. some.changes ≡ changes_at key m.tables)) (sym s.over.files) (fewer, fit),
       is some.changes some.joined ∙ ap (λ ws. answer (some.changes ++ changes_to key ws) slice) s.log,
     )
 answered (Some told) k key slice lines join joined some is m s =
     let all = joined m.tables (holds told k m s) in
     let said = changes_at key m.tables in (
       said,
-      subst (λ (files : Option Files). MatchOption files ((length said ≤ listing key m.infos) × AllByRecursion (SaysOf m.schema key) said) (λ _. said ≡ changes_at key m.tables)) (sym s.over.files) refl,
+      subst (λ (files : Option Files). MatchOption files ((length said ≤ listing key m.infos) × AllByRecursion (SaysOf m.schema) said) (λ _. said ≡ changes_at key m.tables)) (sym s.over.files) refl,
       is said all.1 ∙ ap (λ ws. answer (said ++ changes_to key ws) slice) s.log,
     )
 

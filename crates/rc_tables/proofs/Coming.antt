@@ -21,7 +21,8 @@ use Rattle.rc_stream.specs.Merging.{place_of}
 use Rattle.rc_tfile.specs.declared.reading.Part.{Part}
 use Rattle.rc_cell.specs.Columns.{ascending}
 use Rattle.rc_tfile.specs.Items.{IsItem, PartItem, item_code}
-use Rattle.rc_tfile.specs.TableText.{IsBoundOf, IsRowOf, IsStatic, PartFits}
+use Rattle.rc_writes.specs.Allowed.{ChangeFits, IsBoundOf, IsRowOf, IsStaticOf}
+use Rattle.rc_tfile.specs.laws.Follows.{all_of}
 use Rattle.rc_tables.specs.Rebuilt.{AllCome, IsPartOf, IsSpelled, MayCome, between, begun, changes_among, ended, frag_code, pieces_between, rows_among}
 use Rattle.rc_tables.proofs.Apart.{front_first, ranges_between, rows_between}
 use Rattle.rc_tables.proofs.Spelled.{IsPartBytes, IsPartItem, code_of_part, items_spelled}
@@ -87,14 +88,9 @@ module _ (schema : Lists) where
   come_pieces [] (Some start) s h = tt
   come_pieces (c ∷ cs) start s h = one_piece start c.0 (pieces_between cs (begun c.0 c.1)) s h.0 (come_pieces cs (begun c.0 c.1) (begun_here c.0 c.1 h.0) h.1)
 
-all_of : {X : Type 0} (P : X → Type 0) (xs : List X) → AllByRecursion P xs → All P xs
-all_of P [] h k d lt = absurd (omega arith)
-all_of P (x ∷ xs) h zero d lt = h.0
-all_of P (x ∷ xs) h (suc k) d lt = all_of P xs h.1 k d (omega arith)
-
 -- what is said by items that come so fits the schema
-pub part_fits : (schema : Lists) (key : List ℕ) (m : Mutation) → IsMutation m → IsStatic schema m.statics → AllCome schema None None (between m) → PartFits schema (record { key = key; change = m })
-part_fits schema key m is statics h = record {
+pub change_fits : (schema : Lists) (m : Mutation) → IsMutation m → IsStaticOf schema m.statics → AllCome schema None None (between m) → ChangeFits schema m
+change_fits schema m is statics h = record {
   statics = statics;
   rows = all_of (IsRowHere schema) m.rows (subst (AllByRecursion (IsRowHere schema)) (rows_between m is) (come_rows schema None None (between m) h));
   ranges = all_of (IsPieceHere schema) m.ranges (subst (λ o. IfSome o (AllByRecursion (IsPieceHere schema))) (ranges_between m is) (come_pieces schema (changes_among (between m)) None tt (come_changes schema None None (between m) h)));
@@ -110,7 +106,7 @@ some_same : {X : Type 0} (x y : X) → Some x ≡ Some y → x ≡ y
 some_same x y e = cc
 
 module _ (schema : Lists) (key bytes : List ℕ) (part : Part) (size : ℕ) (fs : List Frag) (law : Law)
-    (same : part.key ≡ key) (is : IsPartItem part) (front : bytes ≡ code_of_part part ++ drop size bytes) (statics : IsStatic schema part.head.statics)
+    (same : part.key ≡ key) (is : IsPartItem part) (front : bytes ≡ code_of_part part ++ drop size bytes) (statics : IsStaticOf schema part.head.statics)
     (rest : drop size bytes ≡ flat_map frag_code fs ++ 4 ∷ []) (spelled : AllByRecursion IsSpelled fs) (come : AllCome schema None None fs) where
   there : (m : Mutation) × IsMutationOf m part.head.pt part.head.statics fs
   there = law part.head.pt part.head.statics fs is.1.1.ascending (λ i. is_none (statics.0 i) && is_none (statics.1 i)) (canonical schema None None fs spelled come)
@@ -130,7 +126,7 @@ module _ (schema : Lists) (key bytes : List ℕ) (part : Part) (size : ℕ) (fs 
       let items = items_spelled bytes key there.0 m.is_mutation part_bytes_there in
       record {
         mutation = m.is_mutation;
-        statics = subst (IsStatic schema) (sym m.statics) statics;
+        statics = subst (IsStaticOf schema) (sym m.statics) statics;
         come = subst (AllCome schema None None) (sym m.rows_and_changes) come;
         items = items.0;
         spelled = items.1;

@@ -13,6 +13,7 @@ use Rattle.rc_mutation.specs.Source.{IsJoinOf}
 use Rattle.rc_mutation.specs.SourceLaws.{IsJoinOf-none, IsJoinOf-more}
 use Rattle.rc_tfile.specs.declared.info.PartRef.{PartRef}
 use Rattle.rc_tfile.specs.declared.info.TableInfo.{TableInfo}
+use Rattle.rc_tfile.specs.laws.Follows.{all_append}
 use Rattle.rc_tables.specs.Located.{IsLocatedOf, SaysOf, WhereTold}
 use Rattle.rc_stream.specs.declared.streams.StreamErr.{StreamErr}
 use Rattle.rc_stream.specs.declared.streams.StreamErr.TheVariants.{Fault, Damaged, NoMemory}
@@ -111,21 +112,17 @@ pub record SomeSoFar (schema : Lists) (key : List ℕ) (all : List TableInfo) (j
   pub changes : List Mutation
   pub joins : IsJoinOf joined changes
   pub count : length changes + listing key left ≤ listing key all
-  pub fit : AllByRecursion (SaysOf schema key) changes
+  pub fit : AllByRecursion (SaysOf schema) changes
 
 pub some_start : (schema : Lists) (key : List ℕ) (all : List TableInfo) (joined : Mutation) → joined ≡ record { pt = None; statics = empty_row; rows = []; ranges = [] } → SomeSoFar schema key all joined all
 some_start schema key all joined e = record { changes = []; joins = subst (λ (m : Mutation). IsJoinOf m []) (sym e) IsJoinOf-none; count = omega arith; fit = tt }
-
-all_append : (P : Mutation → Type 0) (xs ys : List Mutation) → AllByRecursion P xs → AllByRecursion P ys → AllByRecursion P (xs ++ ys)
-all_append P [] ys h k = k
-all_append P (x ∷ xs) ys h k = (h.0, all_append P xs ys h.1 k)
 
 pub some_on : (schema : Lists) (key : List ℕ) (all : List TableInfo) (joined more : Mutation) (info : TableInfo) (infos : List TableInfo) → SomeSoFar schema key all joined (info ∷ infos) → JoinsSome schema (info ∷ []) key joined more → SomeSoFar schema key all more infos
 some_on schema key all joined more info infos so_far joins = record {
   changes = so_far.changes ++ joins.changes;
   joins = joins.joined so_far.changes so_far.joins;
   count = omega (arith, so_far.count, joins.count, listing_first key info infos, length-append so_far.changes joins.changes);
-  fit = all_append (SaysOf schema key) so_far.changes joins.changes so_far.fit joins.fit;
+  fit = all_append (SaysOf schema) so_far.changes joins.changes so_far.fit joins.fit;
 }
 
 pub some_ends : (schema : Lists) (key : List ℕ) (all : List TableInfo) (joined : Mutation) → SomeSoFar schema key all joined [] → IsSomeJoin schema all key joined
@@ -136,7 +133,7 @@ pub joins_nothing : (schema : Lists) (key : List ℕ) (info : TableInfo) (joined
 joins_nothing schema key info joined = record { changes = []; joined = λ done is. subst (λ (ms : List Mutation). IsJoinOf joined ms) (sym (append-nil done)) is; count = omega arith; fit = tt }
 
 -- one change was joined of a table that lists it
-pub joins_said : (schema : Lists) (key : List ℕ) (info : TableInfo) (joined more change : Mutation) → 1 ≤ listing key (info ∷ []) → IsJoinOf more (joined ∷ change ∷ []) → SaysOf schema key change → JoinsSome schema (info ∷ []) key joined more
+pub joins_said : (schema : Lists) (key : List ℕ) (info : TableInfo) (joined more change : Mutation) → 1 ≤ listing key (info ∷ []) → IsJoinOf more (joined ∷ change ∷ []) → SaysOf schema change → JoinsSome schema (info ∷ []) key joined more
 joins_said schema key info joined more change one join says = record { changes = change ∷ []; joined = λ done is. IsJoinOf-more joined more change done is join; count = omega (arith, one); fit = (says, tt) }
 
 -- damage of one table is damage of a set that it is in

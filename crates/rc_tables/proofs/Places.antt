@@ -17,7 +17,8 @@ use Rattle.rc_tfile.specs.Before.{Before, text, offset, followed_by, in_force, l
 use Rattle.rc_tfile.specs.Blocks.{Entry, entries, entry_items, ending}
 use Rattle.rc_tfile.specs.Checking.{IsContent}
 use Rattle.rc_tfile.specs.Info.{refs, refs_from, entry_size}
-use Rattle.rc_tfile.specs.TableText.{AllFit, IsStatic, body, frag_items, table, part_items}
+use Rattle.rc_writes.specs.Allowed.{IsStaticOf}
+use Rattle.rc_tfile.specs.TableText.{AllFit, body, frag_items, table, part_items}
 use Rattle.rc_tfile.specs.laws.Follows.{followed_by-append, text-followed_by, by_recursion}
 use Rattle.rc_tfile.specs.laws.Drafts.{parts_of, body_is}
 use Rattle.rc_tables.specs.Located.{IsLocated, IsSpan, IsEntryAt, EndsAt, MayLie, glimpsed}
@@ -140,7 +141,7 @@ module _ (schema : Lists) (before : List Partition) (p : Partition) (behind : Li
       both_parts IsItem (part_items p) (flat_map part_items behind) (items_fit schema onward front there)
 
   -- its static row is of the schema, and its rows and changes come one behind another
-  pub part_comes : AllFit schema (table schema parts) → IsMutation p.change → IsStatic schema p.change.statics × AllCome schema None None (between p.change)
+  pub part_comes : AllFit schema (table schema parts) → IsMutation p.change → IsStaticOf schema p.change.statics × AllCome schema None None (between p.change)
   part_comes fit is =
       let bodies : AllFit schema (StopItem ∷ parts_of schema parts) = subst (λ (b : Before). AllFit schema b) (body_is schema parts) (front_fits schema (ending (body schema parts)) (body schema parts) fit) in
       let there : AllFit schema (followed_by front onward) = subst (λ (b : Before). AllFit schema b) parts_split bodies.0 in
@@ -312,7 +313,7 @@ module _ (files : Option Files) (n at : ℕ) (here : PartRef) (behind : List Par
   items_there = (part_items_fit is.schema is.before p is.behind is.table.fit).0
 
   -- and come as those of a table of the schema
-  pub comes_there : IsStatic is.schema p.change.statics × AllCome is.schema None None (between p.change)
+  pub comes_there : IsStaticOf is.schema p.change.statics × AllCome is.schema None None (between p.change)
   comes_there = part_comes is.schema is.before p is.behind is.table.fit ((both_parts (λ (q : Partition). IsMutation q.change) is.before (p ∷ is.behind) are).1.0)
 
   -- what is read of the directory lies in the file

@@ -13,7 +13,8 @@ use Rattle.rc_tfile.specs.Reading.{Starts}
 use Rattle.rc_schema.specs.Lists.{Lists}
 use Rattle.rc_stream.specs.declared.streams.StreamErr.{StreamErr}
 use Rattle.rc_stream.specs.declared.streams.StreamErr.TheVariants.{Fault, Damaged, NoMemory}
-use Rattle.rc_tfile.specs.TableText.{IsStatic, part_items}
+use Rattle.rc_writes.specs.Allowed.{IsStaticOf}
+use Rattle.rc_tfile.specs.TableText.{part_items}
 use Rattle.rc_tfile.specs.Before.{offset}
 use Rattle.rc_tfile.specs.laws.Starting.{key_free, rest_of}
 use Rattle.std.proofs.lemmas.Nat.{from_le_bytes-to_le_bytes_8}
@@ -21,7 +22,7 @@ use Rattle.rc_tables.specs.declared.locating.Span.{Span}
 use Rattle.rc_tables.specs.Located.{Contradicts, IsAtSpan, IsLocated, IsLocatedOf, IsOutside, IsSpan, IsEntryAt, EndsAt, MayLie, SaysNoPart, SaysNoSpan, SaysOf, SaysSpan, glimpsed, WhereTold}
 use Rattle.rc_tables.specs.Rebuilt.{AllCome, IsPartOf, between, number_at}
 use Rattle.rc_tables.proofs.Places.{where_from, where_to, begins_there, ends_there, in_order, lies_there, reads_within, key_is, is_mutation, items_there, comes_there}
-use Rattle.rc_tables.proofs.Coming.{part_fits}
+use Rattle.rc_tables.proofs.Coming.{change_fits}
 use Rattle.rc_tables.proofs.Spelled.{found_is}
 
 some_is : (s t : Span) → Some s ≡ Some t → s ≡ t
@@ -123,7 +124,7 @@ part_there files schema n at here behind p from to piece of span size read =
     let come = comes_there files n at here behind p is in
     record {
       mutation = is_mutation files n at here behind p is;
-      statics = subst (λ z. IsStatic z p.change.statics) of.1 come.0;
+      statics = subst (λ z. IsStaticOf z p.change.statics) of.1 come.0;
       come = subst (λ z. AllCome z None None (between p.change)) of.1 come.1;
       items = subst (λ k. AllByRecursion IsItem (part_items (record { key = k; change = p.change }))) key (items_there files n at here behind p is);
       spelled = span_read files n from to p piece span (omega (arith, size, span.ends)) read ∙ ap (λ k. flat_map item_code (part_items (record { key = k; change = p.change }))) key;
@@ -170,5 +171,5 @@ pub no_part : (schema : Lists) (at : ℕ) (here : PartRef) (behind : List PartRe
     → ((m : Mutation) → (found ≡ Some m) ↔ IsPartOf schema here.key m bytes) → found ≡ None → SaysNoPart schema at here behind from
 no_part schema at here behind from to bytes found said count exact there = record { to = to; said = said; bytes = bytes; count = count; none = λ m p. absurd (let q = sym there ∙ (exact m).1 p in cc) }
 
-pub says : (schema : Lists) (key bytes : List ℕ) (m : Mutation) → IsPartOf schema key m bytes → SaysOf schema key m
-says schema key bytes m p = (p.mutation, part_fits schema key m p.mutation p.statics p.come)
+pub says : (schema : Lists) (key bytes : List ℕ) (m : Mutation) → IsPartOf schema key m bytes → SaysOf schema m
+says schema key bytes m p = (p.mutation, change_fits schema m p.mutation p.statics p.come)

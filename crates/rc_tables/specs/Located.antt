@@ -13,7 +13,8 @@ use Rattle.rc_tfile.specs.Info.{refs}
 use Rattle.rc_mutation.specs.declared.mutations.Mutation.{Mutation}
 use Rattle.rc_stream.specs.declared.streams.StreamErr.{StreamErr}
 use Rattle.rc_stream.specs.declared.streams.StreamErr.TheVariants.{Fault, Damaged, NoMemory}
-use Rattle.rc_tfile.specs.TableText.{IsTable, PartFits, body, part_items}
+use Rattle.rc_writes.specs.Allowed.{ChangeFits}
+use Rattle.rc_tfile.specs.TableText.{IsTable, body, part_items}
 use Rattle.rc_tables.specs.Rebuilt.{IsPartOf}
 
 -- so much is owed where the files are told
@@ -63,9 +64,9 @@ EndsAt dir bytes (r ∷ rs) to = IsEntryAt bytes r.key to
 abbrev pub MayLie : ℕ → ℕ → ℕ → Type 0
 MayLie dir from to = (from ≤ to) × (to < dir)
 
--- a mutation says of a key what a table of the schema can hold
-abbrev pub SaysOf : Lists → List ℕ → Mutation → Type 0
-SaysOf schema key m = IsMutation m × PartFits schema (record { key = key; change = m })
+-- a mutation that a table of the schema can hold
+abbrev pub SaysOf : Lists → Mutation → Type 0
+SaysOf schema m = IsMutation m × ChangeFits schema m
 
 -- bytes of the directory, as many as are read, contradict the table as checked: they do not say where the items of a partition lie
 pub record SaysNoSpan (dir : ℕ) (here : PartRef) (later : List PartRef) : Type 0 where

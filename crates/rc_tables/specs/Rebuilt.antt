@@ -19,7 +19,8 @@ use Rattle.rc_position.specs.Position.{row_pos}
 use Rattle.rc_schema.specs.Lists.{Lists}
 use Rattle.rc_stream.specs.Stream.{after}
 use Rattle.rc_stream.specs.Merging.{place_of}
-use Rattle.rc_tfile.specs.TableText.{IsBoundOf, IsRowOf, IsStatic, part_items}
+use Rattle.rc_writes.specs.Allowed.{IsBoundOf, IsRowOf, IsStaticOf}
+use Rattle.rc_tfile.specs.TableText.{part_items}
 use Rattle.rc_tfile.specs.Items.{RowItem, ChangeItem, item_code, IsItem}
 
 -- the spelling of a row or a change; the other fragments have none of their own
@@ -101,7 +102,7 @@ AllCome schema tomb last (f ∷ fs) = MayCome schema tomb last f × AllCome sche
 -- bytes are the items of a key's part: they say what a mutation says, each within the limits, of the schema, and where it may stand
 pub record IsPartOf (schema : Lists) (key : List ℕ) (m : Mutation) (bytes : List ℕ) : Type 0 where
   pub mutation : IsMutation m
-  pub statics : IsStatic schema m.statics
+  pub statics : IsStaticOf schema m.statics
   pub come : AllCome schema None None (between m)
   pub items : AllByRecursion IsItem (part_items (record { key = key; change = m }))
   pub spelled : bytes ≡ flat_map item_code (part_items (record { key = key; change = m }))

@@ -75,14 +75,14 @@ pub record IsSomeJoin (schema : Lists) (infos : List TableInfo) (key : List ℕ)
   pub changes : List Mutation
   pub joined : IsJoinOf m changes
   pub count : length changes ≤ listing key infos
-  pub fit : AllByRecursion (SaysOf schema key) changes
+  pub fit : AllByRecursion (SaysOf schema) changes
 
 -- some changes of a key were joined to a mutation, at most one of each table that lists it
 pub record JoinsSome (schema : Lists) (infos : List TableInfo) (key : List ℕ) (old now : Mutation) : Type 0 where
   pub changes : List Mutation
   pub joined : (done : List Mutation) → IsJoinOf old done → IsJoinOf now (done ++ changes)
   pub count : length changes ≤ listing key infos
-  pub fit : AllByRecursion (SaysOf schema key) changes
+  pub fit : AllByRecursion (SaysOf schema) changes
 
 -- Damaged names a table that lists the key; bytes that were read of it contradict it as checked
 abbrev pub IsDamageIn : Lists → List ℕ → TableInfo → StreamErr → Type 0

@@ -13,8 +13,8 @@ ghost use Rattle.rc_cell.specs.Winner.{empty_row};
 ghost use Rattle.rc_canon.specs.Canonical.{IsNext};
 ghost use Rattle.rc_stream.specs.Stream.{after};
 ghost use Rattle.rc_stream.specs.Merging.{place_of};
+ghost use Rattle.rc_writes.specs.Allowed.{IsBoundOf, IsRowOf};
 ghost use Rattle.rc_tfile.specs.Items.{ChangeItem, item_code, IsItem, RowItem};
-ghost use Rattle.rc_tfile.specs.TableText.{IsBoundOf, IsRowOf};
 ghost use Rattle.rc_tables.specs.Rebuilt.{AllCome, frag_code, IsPartOf, IsSpelled, MayCome};
 
 use crate::rebuilding::mutation_of;
@@ -23,7 +23,8 @@ use rc_cell::{Row, Tomb};
 use rc_mutation::{Frag, Mutation};
 use rc_position::{Key, PartKey, Pos, Weight};
 use rc_schema::Schema;
-use rc_tfile::{behind, is_bound_of, is_row_of, is_static, read_change, read_part, read_row_item};
+use rc_tfile::{behind, read_change, read_part, read_row_item};
+use rc_writes::{is_bound_of, is_row_of, is_static_of};
 use std::alloc::{AllocError, Global};
 
 /// What ends a partition.
@@ -48,7 +49,7 @@ pub(crate) fn decode(
     if part.key != *key {
         return Ok(None);
     }
-    if !is_static(schema, &part.head.statics) {
+    if !is_static_of(schema, &part.head.statics) {
         return Ok(None);
     }
     let Some(frags) = read_fragments(alloc, &bytes[size..])? else {

@@ -28,7 +28,7 @@ pub(crate) fn read_partition<W: Store>(
 ) -> Result<Mutation, StreamErr>
     requires { WhereTold (W.files store.old) ((p : Partition) × IsLocatedOf (W.files store.old) schema.now n dir (here.now ∷ later.now) p) }
     ensures change { (p : Partition) → IsLocatedOf (W.files store.old) schema.now n dir (here.now ∷ later.now) p → IfOk result (λ m. m ≡ p.change) }
-    ensures fits { IfOk result (SaysOf schema.now here.now.key) }
+    ensures fits { IfOk result (SaysOf schema.now) }
     ensures damaged { IfErr result (Contradicts schema.now n dir here.now later.now) }
     ensures cause { Caused result (W.files store.old) (W.faults store.old) (W.faults store.new) }
     ensures files { W.files store.new ≡ W.files store.old }

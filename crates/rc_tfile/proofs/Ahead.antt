@@ -1,9 +1,9 @@
 -- Reading on in a file: what is read lies in it, and follows what is ahead.
-use Rattle.std.proofs.Common.{◌≡◌, ◌≢◌, Result, Ok, Err, ℕ, ◌+◌, ◌-◌, ◌<◌, ◌≤◌, ◌⊎◌, ⊎_elim, List, [], ◌∷◌, ◌++◌, append-nil, length, take, drop, Option, Some, None, refl, sym, ap, ◌∙◌, arith, append_assoc, subst}
+use Rattle.std.proofs.Common.{◌≡◌, ◌≢◌, Result, Err, ℕ, ◌+◌, ◌-◌, ◌<◌, ◌≤◌, ⊎_elim, List, [], ◌∷◌, ◌++◌, append-nil, length, take, drop, Option, Some, None, refl, sym, ap, ◌∙◌, arith, append_assoc, subst}
 use Rattle.std.specs.Prelude.{IsSome, IsSomeAnd, min}
 use Rattle.std.specs.FinMap as map
 use Rattle.std.proofs.lemmas.List.{drop_at, take_at, take-append-drop, take-append-le, length-append}
-use Rattle.rc_outside.specs.Files.{Files, IsFile, IsSizeOf, LiesInFile, AreBytesOf}
+use Rattle.rc_outside.specs.Files.{Files, IsSizeOf, LiesInFile, AreBytesOf}
 use Rattle.rc_tfile.specs.Checking.{IsContent, HasHead, ChecksHead, IsOutside}
 use Rattle.rc_tfile.specs.declared.checking.CheckErr.{CheckErr}
 use Rattle.rc_tfile.specs.declared.checking.CheckErr.TheVariants.{Fault, Damaged, OtherSchema, NoMemory}
@@ -13,7 +13,7 @@ use Rattle.rc_schema.specs.SchemaText.{schema_text}
 use Rattle.rc_tfile.specs.Items.{HeadItem, item_code, IsItem}
 use Rattle.rc_tfile.specs.Reading.{Starts}
 use Rattle.rc_tfile.proofs.Heads.{length_of_length}
-use Rattle.rc_tfile.specs.Windows.{Seen, IsAhead, IsFull, IsOpen, Told, reads_left}
+use Rattle.rc_tfile.specs.Windows.{Seen, IsAhead, IsFull, IsOpen, reads_left}
 
 pub lies_ahead : (files : Option Files) (w : Seen) (count : ℕ) → IsOpen files w → w.read + count ≤ w.size → LiesInFile files w.number w.read count
 lies_ahead None w count is h = tt

@@ -1,5 +1,5 @@
 -- The items that must come behind the stop, one after another.
-use Rattle.std.proofs.Common.{◌≡◌, ◌≢◌, ℕ, ◌+◌, ◌≤◌, List, [], ◌∷◌, ◌++◌, length, map as list_map, Option, Result, Ok, Err, refl, sym, ap, ◌∙◌, subst, arith, append_assoc, append-nil, ◌⊎◌, ⊎_elim}
+use Rattle.std.proofs.Common.{◌≡◌, ◌≢◌, ℕ, ◌+◌, ◌≤◌, List, [], ◌∷◌, ◌++◌, length, map as list_map, Option, Result, Ok, Err, refl, sym, ap, ◌∙◌, subst, arith, append_assoc, append-nil, ⊎_elim}
 use Rattle.std.specs.Prelude.{MatchResult, ⊤}
 use Rattle.std.specs.List.{flat_map, AllByRecursion}
 use Rattle.rc_outside.specs.Files.{Files}
@@ -9,17 +9,17 @@ use Rattle.rc_tfile.specs.declared.checking.CheckErr.{CheckErr}
 use Rattle.rc_tfile.specs.declared.checking.CheckErr.TheVariants.{Fault, Damaged, OtherSchema, NoMemory}
 use Rattle.rc_tfile.specs.declared.outline.Outline.{Outline}
 use Rattle.rc_tfile.specs.Items.{Item, HeadItem, PartItem, RowItem, ChangeItem, EndItem, StopItem, EntryItem, BlockItem, TailItem, item_code, IsItem}
-use Rattle.rc_tfile.specs.Before.{Before, Place, Start, Between, Inside, Behind, text, offset, place, followed_by}
+use Rattle.rc_tfile.specs.Before.{Before, Start, Between, Inside, Behind, text, offset, place, followed_by}
 use Rattle.rc_tfile.specs.Blocks.{Entry, entries, entry_items, ending, due, rest}
-use Rattle.rc_tfile.specs.TableText.{Fits, AllFit, EndsWithTail, FirstDamage, IsDue, MayStand}
+use Rattle.rc_tfile.specs.TableText.{Fits, AllFit, EndsWithTail, IsDue, MayStand}
 use Rattle.rc_tfile.specs.Outlined.{IsListed}
 use Rattle.rc_tfile.specs.Checking.{IsContent, IsOutside}
-use Rattle.rc_tfile.specs.Windows.{Seen, IsAhead, IsFull, Told, past}
-use Rattle.rc_tfile.specs.Walking.{Refuses, IsRefused, Stopped, Awaits, Expects, Meets, Misses, Ends, Overruns, IsWhole}
+use Rattle.rc_tfile.specs.Windows.{Seen, IsFull, Told}
+use Rattle.rc_tfile.specs.Walking.{Refuses, IsRefused, Awaits, Expects, Meets, Misses, Ends, Overruns, IsWhole}
 use Rattle.std.proofs.lemmas.List.{length-append}
 use Rattle.rc_tfile.specs.laws.Follows.{followed_by-append, all_append}
 use Rattle.rc_tfile.proofs.Ahead.{ahead_decides, no_more}
-use Rattle.rc_tfile.proofs.Turns.{told_past, offset_is, first_damage}
+use Rattle.rc_tfile.proofs.Turns.{offset_is, first_damage}
 
 -- ---- bytes that must come next
 

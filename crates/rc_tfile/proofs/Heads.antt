@@ -1,12 +1,11 @@
 -- A schema's text behind its length.
-use Rattle.std.proofs.Common.{◌≡◌, ◌<◌, ◌≤◌, ◌^◌, ℕ, ◌+◌, List, ◌++◌, length, take, drop, Option, Some, None, refl, sym, ap, ◌∙◌, subst, arith, append_assoc}
-use Rattle.std.specs.Prelude.{IsTrue}
+use Rattle.std.proofs.Common.{◌≡◌, ◌<◌, ◌≤◌, ℕ, ◌+◌, List, ◌++◌, length, take, drop, Some, None, refl, sym, ap, ◌∙◌, arith, append_assoc}
 use Rattle.std.proofs.lemmas.Option.{none-some, some_pair_parts}
 use Rattle.std.proofs.lemmas.List.{take_at, drop_at, take-append-drop, length-append, length-take-le}
 use Rattle.rc_rowcode.specs.Spelling.{length_code}
 use Rattle.rc_rowcode.specs.Reading.{length_at}
 use Rattle.rc_rowcode.specs.Laws.Fields.{IsBytes, length_codec}
-use Rattle.rc_schema.specs.Lists.{Lists, is_schema}
+use Rattle.rc_schema.specs.Lists.{Lists}
 use Rattle.rc_schema.specs.SchemaText.{schema_text, schema_of}
 use Rattle.rc_schema.specs.SchemaLaws.{text_reads_back, read_is_the_text, read_is_within}
 use Rattle.rc_tfile.specs.Reading.{Starts, text_code, HasText}

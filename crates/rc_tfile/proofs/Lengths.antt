@@ -1,12 +1,12 @@
 -- How long items are.
-use Rattle.std.proofs.Common.{◌≡◌, ℕ, ◌+◌, ◌≤◌, List, [], ◌∷◌, ◌++◌, length, Option, Some, None, refl, arith, ℤ, length-append}
-use Rattle.std.specs.Prelude.{IfSome, codes}
+use Rattle.std.proofs.Common.{◌≡◌, ℕ, ◌≤◌, List, ◌++◌, length, Option, Some, None, refl, arith, ℤ, length-append}
+use Rattle.std.specs.Prelude.{codes}
 use Rattle.rc_cell.specs.declared.rows.Row.{Row}
 use Rattle.rc_cell.specs.declared.writes.Tomb.{Tomb}
 use Rattle.rc_position.specs.declared.comps.Comp.{Comp}
 use Rattle.rc_position.specs.declared.positions.Pos.{Pos}
 use Rattle.rc_schema.specs.Lists.{Lists}
-use Rattle.rc_rowcode.specs.Spelling.{stamp_code, time_code, tomb_code, optional_code, key_code, pos_code, cells_code, row_code, IsKey, IsPos, KeyFits, IsCodedRow}
+use Rattle.rc_rowcode.specs.Spelling.{stamp_code, time_code, tomb_code, optional_code, key_code, pos_code, cells_code, row_code, KeyFits, IsCodedRow}
 use Rattle.rc_rowcode.specs.Laws.Sizes.{length-stamp, length-time, key_small, cells_small}
 use Rattle.rc_rowcode.specs.Laws.Limits.{key_limits, row_limits}
 use Rattle.rc_tfile.specs.declared.blocks.Block.{Block}

@@ -2,7 +2,6 @@ pub mod Grouping
 pub mod Outlines
 pub mod Widths
 pub mod Limiting
-pub mod Checked
 pub mod Heads
 pub mod Unfit
 pub mod Ahead

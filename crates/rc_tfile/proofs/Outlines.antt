@@ -1,14 +1,14 @@
 -- What a further item makes of an outline.
-use Rattle.std.proofs.Common.{◌≡◌, ℕ, ◌+◌, true, false, List, [], ◌∷◌, ◌++◌, Option, Some, None, length, refl, sym, ap, ◌∙◌, arith, length-append}
+use Rattle.std.proofs.Common.{◌≡◌, ℕ, ◌+◌, true, false, List, [], ◌∷◌, ◌++◌, Option, Some, None, refl, sym, ap, ◌∙◌, arith, length-append}
 use Rattle.std.specs.Option.{unwrap_or}
 use Rattle.rc_cell.specs.declared.writes.Tomb.{Tomb}
 use Rattle.rc_position.specs.declared.positions.Pos.{Pos}
 use Rattle.rc_tfile.specs.declared.blocks.Block.{Block}
 use Rattle.rc_tfile.specs.declared.outline.Outline.{Outline}
 use Rattle.rc_tfile.specs.Items.{Item, HeadItem, PartItem, RowItem, ChangeItem, EndItem, StopItem, EntryItem, BlockItem, TailItem, item_code, size_of}
-use Rattle.rc_tfile.specs.Before.{Before, text, offset, last_key, in_force}
-use Rattle.rc_tfile.specs.Blocks.{Entry, with_fragment, entry, entries}
-use Rattle.rc_tfile.specs.Outlined.{IsOutline, IsListed, IsFragment}
+use Rattle.rc_tfile.specs.Before.{Before, text, offset, last_key}
+use Rattle.rc_tfile.specs.Blocks.{Entry, with_fragment, entry}
+use Rattle.rc_tfile.specs.Outlined.{IsOutline, IsFragment}
 
 pub offset_more : (before : Before) (x : Item) (off size next : ℕ) → off ≡ offset before → size ≡ size_of x → next ≡ off + size → next ≡ offset (x ∷ before)
 offset_more before x off size next p q r = omega (arith, p, q, r, length-append (text before) (item_code x))

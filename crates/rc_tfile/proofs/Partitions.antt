@@ -1,5 +1,5 @@
 -- Items that fit, up to the stop, are those of partitions.
-use Rattle.std.proofs.Common.{◌≡◌, ℕ, true, false, cond, List, [], ◌∷◌, ◌++◌, length, Option, Some, None, Result, Ok, refl, sym, ap, ◌∙◌, subst, append-nil, append_assoc}
+use Rattle.std.proofs.Common.{◌≡◌, ℕ, true, false, cond, List, [], ◌∷◌, ◌++◌, Option, None, Ok, refl, sym, ap, ◌∙◌, subst, append-nil, append_assoc}
 use Rattle.std.specs.Prelude.{All, IsTrue, ⊤, ◌&&◌}
 use Rattle.std.specs.Option.{is_none}
 use Rattle.std.specs.List.{flat_map, AllByRecursion}
@@ -20,10 +20,10 @@ use Rattle.rc_canon.specs.Canonical.{IsCanonicalList, IsMutationOf}
 use Rattle.rc_canon.specs.Laws.Rebuilt.{is-rebuilt}
 use Rattle.rc_tfile.specs.declared.info.PartRef.{PartRef}
 use Rattle.rc_tfile.specs.declared.outline.Outline.{Outline}
-use Rattle.rc_tfile.specs.Items.{Item, HeadItem, PartItem, RowItem, ChangeItem, EndItem, StopItem, EntryItem, BlockItem, TailItem}
+use Rattle.rc_tfile.specs.Items.{HeadItem, PartItem, RowItem, ChangeItem, EndItem, StopItem, EntryItem, BlockItem, TailItem}
 use Rattle.rc_tfile.specs.Before.{Before, Place, Start, Between, Inside, Behind, place, text, followed_by, last_pos, in_force}
 use Rattle.rc_tfile.specs.Blocks.{ending}
-use Rattle.rc_tfile.specs.TableText.{AllFit, IsTable, frag_items, part_items, body}
+use Rattle.rc_tfile.specs.TableText.{AllFit, frag_items, part_items, body}
 use Rattle.rc_tfile.specs.Info.{refs, refs_from}
 use Rattle.rc_tfile.specs.Outlined.{IsListed}
 use Rattle.rc_tfile.specs.Checking.{IsContent}

@@ -1,6 +1,6 @@
 -- One item more up to the stop, or none that fits.
-use Rattle.std.proofs.Common.{◌≡◌, ◌≢◌, ℕ, ◌+◌, ◌-◌, ◌/◌, ◌<◌, ◌≤◌, Bool, true, false, List, [], ◌∷◌, ◌++◌, length, drop, Option, Some, None, Result, Ok, Err, refl, sym, ap, ◌∙◌, subst, arith, append_assoc, append-nil}
-use Rattle.std.proofs.lemmas.List.{drop_at, length-append, length-drop}
+use Rattle.std.proofs.Common.{◌≡◌, ◌≢◌, ℕ, ◌+◌, ◌≤◌, Bool, true, false, List, [], ◌∷◌, ◌++◌, length, drop, Option, Some, Err, refl, sym, ap, ◌∙◌, subst, arith, append_assoc, append-nil}
+use Rattle.std.proofs.lemmas.List.{drop_at, length-append}
 use Rattle.rc_outside.specs.Files.{Files}
 use Rattle.rc_schema.specs.Lists.{Lists}
 use Rattle.rc_tfile.specs.declared.checking.CheckErr.{CheckErr}
@@ -8,13 +8,13 @@ use Rattle.rc_tfile.specs.declared.checking.CheckErr.TheVariants.{Fault, Damaged
 use Rattle.rc_tfile.specs.declared.outline.Outline.{Outline}
 use Rattle.rc_tfile.specs.declared.stepping.Next.TheVariants as next
 use Rattle.rc_tfile.specs.Items.{Item, HeadItem, PartItem, RowItem, ChangeItem, EndItem, StopItem, EntryItem, BlockItem, TailItem, item_code, size_of, IsItem}
-use Rattle.rc_tfile.specs.Before.{Before, Place, Start, Between, Inside, Behind, text, offset, place}
+use Rattle.rc_tfile.specs.Before.{Before, Start, Behind, text, offset, place}
 use Rattle.rc_tfile.specs.TableText.{Fits, AllFit, EndsWithTail, IsOtherSchema, FirstDamage}
-use Rattle.rc_tfile.specs.Outlined.{IsOutline, IsListed, place_of}
-use Rattle.rc_tfile.specs.Checking.{IsContent, HasHead, ChecksHead, IsOutside, Steps, AsksFew}
+use Rattle.rc_tfile.specs.Outlined.{IsOutline, place_of}
+use Rattle.rc_tfile.specs.Checking.{ChecksHead, Steps, AsksFew}
 use Rattle.rc_tfile.specs.Reading.{Starts}
 use Rattle.rc_tfile.specs.Windows.{Seen, IsAhead, IsFull, Told, past, reads_left}
-use Rattle.rc_tfile.specs.Walking.{Refuses, IsRefused, Stands, Stopped, Walks}
+use Rattle.rc_tfile.specs.Walking.{Refuses, IsRefused, Stands, Stopped}
 use Rattle.rc_tfile.proofs.Ahead.{ahead_decides}
 use Rattle.rc_tfile.proofs.Heads.{one_schema}
 use Rattle.rc_tfile.proofs.Unfit.{Nothing, between_no_start, inside_no_start}

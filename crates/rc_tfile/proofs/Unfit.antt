@@ -1,15 +1,14 @@
 -- Which items may stand where, and that the bytes decide which item it is.
-use Rattle.std.proofs.Common.{◌≡◌, ◌≢◌, ℕ, ◌+◌, Bool, arith, List, [], ◌∷◌, ◌++◌, length, drop, Option, Some, None, true, false, refl, sym, ap, ◌∙◌, subst}
-use Rattle.std.specs.Prelude.{IfSome, IsTrue}
+use Rattle.std.proofs.Common.{◌≡◌, ℕ, Bool, arith, List, [], ◌∷◌, ◌++◌, Option, None, true, false, refl, sym, ap, ◌∙◌, subst}
+use Rattle.std.specs.Prelude.{IsTrue}
 use Rattle.rc_cell.specs.declared.rows.Row.{Row}
 use Rattle.rc_cell.specs.declared.writes.Tomb.{Tomb}
 use Rattle.rc_position.specs.declared.comps.Comp.{Comp}
 use Rattle.rc_position.specs.declared.positions.Pos.{Pos}
-use Rattle.rc_position.specs.Position.{row_pos}
 use Rattle.rc_schema.specs.Lists.{Lists}
-use Rattle.rc_rowcode.specs.Spelling.{optional_code, tomb_code, key_code, pos_code, row_code, IsTomb, IsKey, IsPos, IsCodedRow}
+use Rattle.rc_rowcode.specs.Spelling.{optional_code, tomb_code, key_code, pos_code, row_code, IsKey, IsPos, IsCodedRow}
 use Rattle.rc_tfile.specs.Items.{Item, HeadItem, PartItem, RowItem, ChangeItem, EndItem, StopItem, EntryItem, BlockItem, TailItem, item_code, bytes_code, IsItem, IsPartKey}
-use Rattle.rc_tfile.specs.Before.{Before, Place, Start, Between, Inside, Behind, place, in_force}
+use Rattle.rc_tfile.specs.Before.{Before, Start, Between, Inside, Behind, place, in_force}
 use Rattle.rc_tfile.specs.Blocks.{due}
 use Rattle.rc_tfile.specs.TableText.{Fits, IsDue}
 use Rattle.rc_tfile.specs.laws.Starting.{PrefixFree, IsOptional, rest_of, both_free, key_free, full_key_free, pos_free, row_free, optional_free}

@@ -1,11 +1,9 @@
 -- What reading a file must answer, given what it holds.
-use Rattle.std.specs.Prelude.{◌≡◌, ℕ, ◌+◌, ◌/◌, ◌≤◌, List, [], ◌∷◌, ◌++◌, length, drop, Option, None, Some, Result, Ok, Err, IfErr, ◌⊎◌, ⊤}
+use Rattle.std.specs.Prelude.{◌≡◌, ℕ, ◌+◌, ◌/◌, ◌≤◌, List, ◌∷◌, ◌++◌, length, Option, None, Some, Result, Ok, Err, IfErr, ⊤}
 use Rattle.std.specs.FinMap as map
 use Rattle.rc_outside.specs.Files.{Files}
 use Rattle.rc_outside.specs.Faults.{Rose}
 use Rattle.rc_schema.specs.Lists.{Lists}
-use Rattle.rc_mutation.specs.declared.mutations.Partition.{Partition}
-use Rattle.rc_tfile.specs.declared.info.TableInfo.{TableInfo}
 use Rattle.rc_tfile.specs.declared.checking.CheckErr.{CheckErr}
 use Rattle.rc_tfile.specs.declared.checking.CheckErr.TheVariants.{Fault, Damaged, OtherSchema, NoMemory}
 use Rattle.rc_tfile.specs.declared.outline.Outline.{Outline}
@@ -13,8 +11,7 @@ use Rattle.rc_tfile.specs.declared.stepping.Next.{Next}
 use Rattle.rc_tfile.specs.declared.stepping.Next.TheVariants as next
 use Rattle.rc_tfile.specs.Items.{Item, HeadItem, StopItem, item_code, size_of, IsItem}
 use Rattle.rc_tfile.specs.Before.{Before}
-use Rattle.rc_tfile.specs.TableText.{Fits, IsTable, IsOtherSchema, FirstDamage}
-use Rattle.rc_tfile.specs.Info.{info_of}
+use Rattle.rc_tfile.specs.TableText.{Fits}
 use Rattle.rc_tfile.specs.Outlined.{IsOutline, IsListed}
 
 -- file n has these bytes, where the files are told

@@ -1,5 +1,5 @@
 -- What an outline keeps of the items so far.
-use Rattle.std.specs.Prelude.{◌≡◌, Bool, true, false, List, Option, None, Some}
+use Rattle.std.specs.Prelude.{◌≡◌, Bool, true, false, Option}
 use Rattle.rc_cell.specs.declared.writes.Tomb.{Tomb}
 use Rattle.rc_position.specs.declared.positions.Pos.{Pos}
 use Rattle.rc_position.specs.Position.{row_pos}

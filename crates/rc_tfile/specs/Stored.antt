@@ -1,5 +1,5 @@
 -- What a store holds while a table is written, and what it holds then.
-use Rattle.std.specs.Prelude.{◌≡◌, ℕ, ◌≤◌, List, Option, Some, Result, Ok, Err, option_map, IfErr, ⊤}
+use Rattle.std.specs.Prelude.{ℕ, ◌≤◌, List, Option, Some, Result, option_map, IfErr, ⊤}
 use Rattle.std.specs.FinMap as map
 use Rattle.rc_outside.specs.Files.{Files, Draft}
 use Rattle.rc_outside.specs.Faults.{Rose}

@@ -4,36 +4,20 @@
 --     FirstDamage        the first item that does not fit or is not whole begins at an offset
 --     IsOtherSchema      a well-formed head of another schema
 --     PartsFit           the partitions that a table can hold
-use Rattle.std.specs.Prelude.{◌≡◌, ◌≢◌, ℕ, true, false, List, [], ◌∷◌, ◌++◌, map as list_map, All, IsTrue, Option, None, Result, Ok, ⊤}
+use Rattle.std.specs.Prelude.{◌≡◌, ◌≢◌, ℕ, List, [], ◌∷◌, ◌++◌, map as list_map, All, IsTrue, None, ⊤}
 use Rattle.std.specs.List.{flat_map}
 use Rattle.std.specs.FinMap.{is_sorted}
-use Rattle.rc_cell.specs.declared.rows.Row.{Row}
 use Rattle.rc_cell.specs.Winner.{empty_row}
-use Rattle.rc_position.specs.declared.comps.Comp.{Comp}
-use Rattle.rc_position.specs.declared.positions.Pos.{Pos}
-use Rattle.rc_position.specs.declared.positions.Weight.TheVariants.{At}
 use Rattle.rc_position.specs.Position.{bytes_cmp, row_pos}
-use Rattle.rc_schema.specs.Lists.{Lists, is_schema}
-use Rattle.rc_schema.specs.Checks.{checked_prefix, checked_cells}
+use Rattle.rc_schema.specs.Lists.{Lists}
 use Rattle.rc_mutation.specs.declared.fragments.Frag.{Frag}
 use Rattle.rc_mutation.specs.declared.fragments.Frag.TheVariants as frag
 use Rattle.rc_mutation.specs.declared.mutations.Partition.{Partition}
 use Rattle.rc_mutation.specs.Fragments.{fragments}
+use Rattle.rc_writes.specs.Allowed.{IsStaticOf, IsRowOf, IsBoundOf, ChangeFits}
 use Rattle.rc_tfile.specs.Items.{Item, HeadItem, PartItem, RowItem, ChangeItem, EndItem, StopItem, EntryItem, BlockItem, TailItem, item_code, IsItem}
 use Rattle.rc_tfile.specs.Before.{Before, text, offset, followed_by, Between, Inside, place, in_force, IsNextKey, IsNextPos}
-use Rattle.rc_tfile.specs.Blocks.{entries, ending, due}
-
--- a static row: no marker, no tombstone, static columns, values within the limits
-abbrev pub IsStatic : Lists → Row → Type 0
-IsStatic schema row = (row.marker ≡ None) × (row.tomb ≡ None) × (checked_cells true schema row.cells ≡ Ok tt)
-
--- a row of the schema: a full key of its kinds, regular columns, values within the limits
-abbrev pub IsRowOf : Lists → List Comp → Row → Type 0
-IsRowOf schema key row = (checked_prefix true schema key ≡ Ok tt) × (checked_cells false schema row.cells ≡ Ok tt)
-
--- a position at which a change may stand: before or after the keys with a prefix of the schema's kinds
-abbrev pub IsBoundOf : Lists → Pos → Type 0
-IsBoundOf schema x = (x.weight ≢ At) × (checked_prefix false schema x.prefix ≡ Ok tt)
+use Rattle.rc_tfile.specs.Blocks.{ending, due}
 
 -- the item is the next of those that must come
 abbrev pub IsDue : Before → Item → Type 0
@@ -42,7 +26,7 @@ IsDue before x = (more : List Item) × (due before ≡ x ∷ more)
 -- an item may stand behind others
 abbrev pub MayStand : Lists → Before → Item → Type 0
 MayStand schema before (HeadItem other) = (before ≡ []) × (other ≡ schema)
-MayStand schema before (PartItem key pt statics) = (place before ≡ Between) × IsNextKey before key × IsStatic schema statics
+MayStand schema before (PartItem key pt statics) = (place before ≡ Between) × IsNextKey before key × IsStaticOf schema statics
 MayStand schema before (RowItem key row) = (place before ≡ Inside) × IsNextPos before (row_pos key) × IsRowOf schema key row × (row ≢ empty_row)
 MayStand schema before (ChangeItem x tomb) = (place before ≡ Inside) × IsNextPos before x × IsBoundOf schema x × (tomb ≢ in_force before)
 MayStand schema before EndItem = (place before ≡ Inside) × (in_force before ≡ None)
@@ -109,13 +93,7 @@ pub record FirstDamage (bytes : List ℕ) (schema : Lists) (off : ℕ) : Type 0 
   pub not_whole : EndsWithTail before → behind ≢ []
   pub same_schema : IsOtherSchema bytes schema → ⊥
 
--- a partition that a table of the schema can hold
-pub record PartFits (schema : Lists) (p : Partition) : Type 0 where
-  pub statics : IsStatic schema p.change.statics
-  pub rows : All (λ e. IsRowOf schema e.0 e.1) p.change.rows
-  pub ranges : All (λ q. IsBoundOf schema q.from × IsBoundOf schema q.to) p.change.ranges
-
--- partitions that a table of the schema can hold: keys strictly ascend, and each fits
+-- partitions that a table of the schema can hold: keys strictly ascend, and what each says fits the schema
 pub record PartsFit (schema : Lists) (parts : List Partition) : Type 0 where
   pub ascend : IsTrue (is_sorted bytes_cmp (list_map (λ p. (p.key, p.change)) parts))
-  pub each : All (PartFits schema) parts
+  pub each : All (λ p. ChangeFits schema p.change) parts

@@ -1,4 +1,5 @@
 -- Laws of what this crate defines, for the proofs of other crates.
 pub mod Follows
 pub mod Drafts
+pub mod Standing
 pub mod Starting

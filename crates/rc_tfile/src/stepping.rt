@@ -2,13 +2,11 @@
 
 ghost use Rattle.std.specs.Prelude.{◌≡◌, ◌↔◌, ◌≢◌, IfOk, IfSome, IsTrue, List, ℕ, ◌∷◌, false, true};
 ghost use Rattle.std.specs.declared.cmp.Ordering.TheVariants.{Less};
-ghost use Rattle.rc_position.specs.declared.positions.Weight.TheVariants.{At};
 ghost use Rattle.rc_position.specs.Position.{bytes_cmp, pos_cmp};
 ghost use Rattle.rc_cell.specs.Winner.{empty_row};
-ghost use Rattle.rc_schema.specs.Checks.{checked_prefix, checked_cells};
+ghost use Rattle.rc_writes.specs.Allowed.{IsRowOf};
 ghost use Rattle.rc_tfile.specs.Before.{Before};
 ghost use Rattle.rc_tfile.specs.Outlined.{IsOutline};
-ghost use Rattle.rc_tfile.specs.TableText.{IsStatic, IsRowOf, IsBoundOf};
 ghost use Rattle.rc_tfile.specs.Checking.{Steps};
 
 use crate::outline::Outline;
@@ -16,8 +14,9 @@ use crate::reading::{behind, read_change, read_part, read_row_item};
 use crate::spelling::{CHANGE, END, ROW, STOP};
 use crate::writing::row_pos;
 use rc_cell::{Row, Tomb};
-use rc_position::{Key, PartKey, Pos, Weight};
+use rc_position::{Key, PartKey, Pos};
 use rc_schema::Schema;
+use rc_writes::{is_bound_of, is_row_of, is_static_of};
 use std::alloc::{AllocError, Global};
 
 /// What the next item is.
@@ -100,7 +99,7 @@ fn next_part(
     if !is_next_key(&outline.key, &part.key) {
         return Ok(Next::Unfit);
     }
-    if !is_static(schema, &part.head.statics) {
+    if !is_static_of(schema, &part.head.statics) {
         return Ok(Next::Unfit);
     }
     outline.part(alloc, &part.key, size)?;
@@ -120,10 +119,7 @@ fn next_row(
     let Some((keyed, size)) = read_row_item(alloc, bytes)? else {
         return Ok(Next::Unfit);
     };
-    if !is_written(&keyed.1) {
-        return Ok(Next::Unfit);
-    }
-    if !is_row_of(schema, &keyed.0, &keyed.1) {
+    if !is_written_of(schema, &keyed.0, &keyed.1) {
         return Ok(Next::Unfit);
     }
     let x = row_pos(alloc, &keyed.0)?;
@@ -197,11 +193,11 @@ fn is_next_pos(last: &Option<Pos>, x: &Pos) -> bool
     }
 }
 
-// Whether something was written of a row.
-fn is_written(row: &Row) -> bool
-    ensures { IsTrue result ↔ (row.now ≢ empty_row) }
+// Whether a row and its key are of the schema, and something was written of it.
+fn is_written_of(schema: &Schema, key: &Key, row: &Row) -> bool
+    ensures { IsTrue result ↔ (IsRowOf schema.now key.now row.now × (row.now ≢ empty_row)) }
 {
-    !row.is_empty()
+    is_row_of(schema, key, row) && !row.is_empty()
 }
 
 // Whether two tombstones are the same, or there is neither.
@@ -209,25 +205,4 @@ fn is_same_tomb(tomb: Option<Tomb>, other: Option<Tomb>) -> bool
     ensures { IsTrue result ↔ (tomb ≡ other) }
 {
     tomb == other
-}
-
-/// Whether a row is a static row of the schema.
-pub fn is_static(schema: &Schema, row: &Row) -> bool
-    ensures { IsTrue result ↔ IsStatic schema.now row.now }
-{
-    row.marker.is_none() && row.tomb.is_none() && schema.check_row(row, true).is_ok()
-}
-
-/// Whether a row and its key are of the schema.
-pub fn is_row_of(schema: &Schema, key: &Key, row: &Row) -> bool
-    ensures { IsTrue result ↔ IsRowOf schema.now key.now row.now }
-{
-    schema.check_prefix(key, true).is_ok() && schema.check_row(row, false).is_ok()
-}
-
-/// Whether a change may stand at a position under the schema.
-pub fn is_bound_of(schema: &Schema, x: &Pos) -> bool
-    ensures { IsTrue result ↔ IsBoundOf schema.now x.now }
-{
-    x.weight != Weight::At && schema.check_prefix(&x.prefix, false).is_ok()
 }

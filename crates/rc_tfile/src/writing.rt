@@ -5,25 +5,26 @@ ghost use Rattle.std.specs.List.{flat_map, AllByRecursion};
 ghost use Rattle.rc_position.specs.Position.{row_pos};
 ghost use Rattle.rc_outside.specs.Files.{IsNoFile, grown};
 ghost use Rattle.rc_rowcode.specs.Spelling.{KeyFits, RowFits};
+ghost use Rattle.rc_writes.specs.Limits.{IsWithinLimits};
 ghost use Rattle.rc_tfile.specs.Items.{item_code, HeadItem, RowItem, ChangeItem, StopItem, TailItem, IsItem};
 ghost use Rattle.rc_tfile.specs.Before.{Before, followed_by, text};
 ghost use Rattle.rc_tfile.specs.Blocks.{entry_items, ending};
 ghost use Rattle.rc_tfile.specs.Info.{info_of};
 ghost use Rattle.rc_tfile.specs.Outlined.{IsListed, IsOutline};
 ghost use Rattle.rc_tfile.specs.Stored.{with_file, write_err_of, RisesIfFault};
-ghost use Rattle.rc_tfile.specs.Limits.{FragFits, PartLimits};
+ghost use Rattle.rc_tfile.specs.Limits.{FragFits};
 ghost use Rattle.rc_tfile.specs.TableText.{frag_items, part_items, table, PartsFit};
 
 use crate::blocks::Listed;
 use crate::directory::{refs_of, spell_entry, tail_of};
 use crate::info::TableInfo;
 use crate::outline::Outline;
-use crate::ranges::{key_in_range, row_in_range, tomb_in_range};
 use crate::spelling::{END, STOP, append_change, append_head, append_part, append_row};
 use rc_cell::{Row, Tomb};
 use rc_mutation::{Frag, Partition};
 use rc_outside::{Store, StoreErr};
 use rc_position::{Key, Pos, Weight};
+use rc_rowcode::{key_in_range, row_in_range, tomb_in_range};
 use rc_schema::Schema;
 use std::alloc::{AllocError, Global};
 use thiserror::Error;
@@ -150,7 +151,7 @@ fn spell_part(
     outline: &mut Outline,
     out: &mut Vec<u8>,
 ) -> Result<(), AllocError>
-    requires { PartLimits part.now }
+    requires { IsWithinLimits part.now.change }
     ensures outline { (before : Before) → IsOutline before outline.old → OnOk result (IsOutline (followed_by before (part_items part.now)) outline.new) }
     ensures bytes { OnOk result (out.new.items ≡ out.old.items ++ flat_map item_code (part_items part.now)) }
     ensures items { OnOk result (AllByRecursion IsItem (part_items part.now)) }
@@ -210,7 +211,7 @@ fn write_part<W: Store>(
     outline: &mut Outline,
     store: &mut W,
 ) -> Result<(), WriteErr>
-    requires limits { PartLimits part.now }
+    requires limits { IsWithinLimits part.now.change }
     requires building { IsSome (W.building store.old) }
     ensures files { W.files store.new ≡ W.files store.old }
     ensures asks { W.asks store.new ≡ W.asks store.old }
@@ -233,7 +234,7 @@ fn write_parts<W: Store>(
     outline: &mut Outline,
     store: &mut W,
 ) -> Result<(), WriteErr>
-    requires limits { All PartLimits parts.now }
+    requires limits { All (λ p. IsWithinLimits p.change) parts.now }
     requires building { IsSome (W.building store.old) }
     ensures files { W.files store.new ≡ W.files store.old }
     ensures asks { W.asks store.new ≡ W.asks store.old }
@@ -388,7 +389,7 @@ pub fn write_table<W: Store>(
 
 // The outline of a table's partitions.
 fn outline_of(alloc: Global, parts: &[Partition], schema: &Schema) -> Result<Outline, AllocError>
-    requires { All PartLimits parts.now }
+    requires { All (λ p. IsWithinLimits p.change) parts.now }
     ensures outline { IfOk result (λ outline. IsOutline (followed_by [] (HeadItem schema.now ∷ flat_map part_items parts.now)) outline) }
     ensures items { IfOk result (λ _. AllByRecursion IsItem (HeadItem schema.now ∷ flat_map part_items parts.now)) }
 {

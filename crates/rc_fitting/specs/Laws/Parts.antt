@@ -30,7 +30,7 @@ use Rattle.rc_mutation.specs.SourceLaws.{statics-one}
 use Rattle.rc_lines.specs.declared.commands.Command.TheVariants.{Put}
 use Rattle.rc_lines.specs.Fits.{Fits}
 use Rattle.rc_writes.specs.Allowed.{ChangeFits, IsBoundOf, IsRowOf, IsStaticOf}
-use Rattle.rc_tfile.specs.TableText.{PartFits, PartsFit}
+use Rattle.rc_tfile.specs.TableText.{PartsFit}
 use Rattle.rc_fitting.specs.Laws.Bounds.{bounds_kept, start}
 use Rattle.rc_fitting.specs.Laws.Each.{Each, all_of_each, both, each_filter, each_flat_map, each_map, each_of_all, each_of_test, each_so, test_of_each}
 use Rattle.rc_fitting.specs.Laws.Joined.{joined_marker, joined_tomb, each_joined, rows_said}
@@ -127,18 +127,17 @@ module _ (schema : Lists) (m : Mutation) (changes : List Mutation) (is : IsMutat
       (λ x. ap (λ ps. cover ps x) (sym (append-nil m.ranges)) ∙ ap (λ (s : Row × Option Tomb). s.1) (same.clustered x))
       (start_fits schema)
 
-part_fits : (schema : Lists) (p : Partition) (writes : List Write) → IsMutation p.change → SameSource (p.change ∷ []) (changes_to p.key writes) → All (WriteFits schema) writes → PartFits schema p
-part_fits schema p writes is same h =
-    let fit = changes_fit schema p.key writes h in
-    record {
-      statics = statics_fit schema p.change (changes_to p.key writes) is same fit;
-      rows = all_of_each (λ e. IsRowOf schema e.0 e.1) p.change.rows (rows_fit schema p.change (changes_to p.key writes) is same fit);
-      ranges = all_of_each (λ q. IsBoundOf schema q.from × IsBoundOf schema q.to) p.change.ranges (bounds_fit schema p.change (changes_to p.key writes) is same fit);
-    }
+  -- a mutation that says what changes that fit say fits
+  pub same_fits : ChangeFits schema m
+  same_fits = record {
+    statics = statics_fit;
+    rows = all_of_each (λ e. IsRowOf schema e.0 e.1) m.rows rows_fit;
+    ranges = all_of_each (λ q. IsBoundOf schema q.from × IsBoundOf schema q.to) m.ranges bounds_fit;
+  }
 
 -- the parts of writes that fit a schema are partitions that a table of it can hold
 pub parts_fit : (schema : Lists) (parts : List Partition) (writes : List Write) → IsParts parts writes → All (λ w. Fits schema (Put w)) writes → PartsFit schema parts
 parts_fit schema parts writes is h = record {
   ascend = ascend_as bytes_cmp (λ p. p.key) (λ p. p.change) parts (map.from_entries {R = bytes_cmp} (list_map (λ w. (w.key, w.change)) writes)) is.keys;
-  each = λ k d lt. part_fits schema (slice_index_or parts k d) writes (is.mutations k d lt) (is.changes k d lt) h;
+  each = λ k d lt. (let p = slice_index_or parts k d in same_fits schema p.change (changes_to p.key writes) (is.mutations k d lt) (is.changes k d lt) (changes_fit schema p.key writes h));
 }

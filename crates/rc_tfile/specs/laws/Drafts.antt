@@ -12,7 +12,7 @@ use Rattle.rc_tfile.specs.Before.{Before, text, offset, followed_by}
 use Rattle.rc_tfile.specs.TableText.{part_items, body, table}
 use Rattle.rc_tfile.specs.Info.{refs, refs_from}
 use Rattle.rc_tfile.specs.laws.Follows.{followed_by-append, text-followed_by}
-use Rattle.rc_tfile.specs.Blocks.{Entry, entries, entry_items, ending}
+use Rattle.rc_tfile.specs.Blocks.{entries, entry_items, ending}
 use Rattle.rc_tfile.specs.Outlined.{IsListed}
 use Rattle.rc_tfile.specs.Stored.{with_file}
 

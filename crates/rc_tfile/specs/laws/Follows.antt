@@ -1,6 +1,6 @@
 -- Items that come one behind another, and what holds of all of a list.
-use Rattle.std.proofs.Common.{◌≡◌, ℕ, zero, suc, ◌+◌, ◌-◌, ◌<◌, ◌≤◌, List, [], ◌∷◌, ◌++◌, length, get_or, take, drop, refl, sym, ap, ◌∙◌, subst, arith, append-nil, append_assoc}
-use Rattle.std.specs.Prelude.{All, ◌↔◌}
+use Rattle.std.proofs.Common.{◌≡◌, ℕ, zero, suc, ◌+◌, ◌-◌, ◌<◌, ◌≤◌, List, [], ◌∷◌, ◌++◌, length, get_or, take, drop, refl, sym, ap, ◌∙◌, arith, append-nil, append_assoc}
+use Rattle.std.specs.Prelude.{All}
 use Rattle.std.specs.List.{flat_map, AllByRecursion}
 use Rattle.std.proofs.lemmas.Grind.{flat_map-append}
 use Rattle.std.proofs.lemmas.List.{take_more, take_rest}
@@ -33,18 +33,6 @@ by_recursion P (x ∷ xs) h = (h 0 x (omega arith), by_recursion P xs (λ k d lt
 pub all_append : {X : Type 0} (P : X → Type 0) (xs ys : List X) → AllByRecursion P xs → AllByRecursion P ys → AllByRecursion P (xs ++ ys)
 all_append P [] ys h g = g
 all_append P (x ∷ xs) ys h g = (h.0, all_append P xs ys h.1 g)
-
-pub all_weaker : {X : Type 0} (P Q : X → Type 0) → ((x : X) → P x → Q x) → (xs : List X) → AllByRecursion P xs → AllByRecursion Q xs
-all_weaker P Q f [] h = tt
-all_weaker P Q f (x ∷ xs) h = (f x h.0, all_weaker P Q f xs h.1)
-
--- the first is settled, so all hold where the rest do
-all_behind : {X : Type 0} (P : X → Type 0) (xs ys : List X) (x : X) → 1 ≤ length xs → x ≡ get_or xs 0 x → P x → All P ys ↔ All P xs → All P ys ↔ All P (drop 1 xs)
-all_behind P [] ys x n e p both = absurd (omega (arith, n))
-all_behind P (y ∷ xs) ys x n e p both = (λ h k d lt. both.0 h (suc k) d (omega (arith, lt)), λ h. both.1 (all_of P (y ∷ xs) (subst P e p, by_recursion P xs h)))
-
-pub all_rest : {X : Type 0} (P : X → Type 0) (xs ys : List X) (x : X) → 1 ≤ length xs → x ≡ get_or xs 0 x → P x → All P ys ↔ All P xs → All P ys ↔ All P (take (length xs - 1) (drop 1 xs))
-all_rest P xs ys x n e p both = subst (λ t. All P ys ↔ All P t) (sym (take_rest xs 1)) (all_behind P xs ys x n e p both)
 
 -- a list is its first and the rest
 pub first_and_rest : {X : Type 0} (xs : List X) (x : X) → 1 ≤ length xs → x ≡ get_or xs 0 x → xs ≡ x ∷ take (length xs - 1) (drop 1 xs)

@@ -1,4 +1,4 @@
-use Rattle.rc_fitting.specs.Laws.Tables.{parts_make_a_table, text_is_a_table}
+use Rattle.rc_tfile.specs.laws.Standing.{parts_make_a_table, text_is_a_table}
 use Rattle.rc_fitting.proofs.laws.fitting_parts_make_a_table.Goals as goal
 
 pub returns-clause-items_fit : goal.returns-clause-items_fit

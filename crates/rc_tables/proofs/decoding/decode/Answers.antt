@@ -17,7 +17,7 @@ use Rattle.rc_tfile.specs.Reading.{Starts}
 use Rattle.std.proofs.Common.{None, refl, subst}
 use Rattle.std.specs.Prelude.{IfSome}
 use Rattle.std.specs.List.{AllByRecursion}
-use Rattle.rc_tfile.specs.TableText.{IsStatic}
+use Rattle.rc_writes.specs.Allowed.{IsStaticOf}
 use Rattle.rc_tables.specs.Rebuilt.{AllCome, IsSpelled, between, frag_code}
 use Rattle.rc_tables.proofs.Coming.{decoded_exactly, none_found}
 use Rattle.rc_tables.proofs.Spelled.{IsPartBytes, part_bytes, found_is, part_free, code_of_part, IsPartItem}
@@ -73,10 +73,10 @@ returns-then-ne c = none_found c.args.schema.now c.args.key.now c.args.bytes.now
     let key : c.in-Some.part.key ≡ c.args.key.now = ap (λ (x : Part). x.key) same in
     clash (c.if-ne.ensures ∙ ap (λ k. not (eq_by_cmp bytes_cmp k c.args.key.now)) key ∙ ap (λ o. not (is_eq o)) (tied_itself bytes_cmp_total c.args.key.now)))
 
-pub returns-then-not-is_static : goal.returns-then-not-is_static
-returns-then-not-is_static c = none_found c.args.schema.now c.args.key.now c.args.bytes.now (λ m p.
+pub returns-then-not-is_static_of : goal.returns-then-not-is_static_of
+returns-then-not-is_static_of c = none_found c.args.schema.now c.args.key.now c.args.bytes.now (λ m p.
     let same = part_is c.args.bytes.now c.args.key.now m c.in-Some.part c.in-Some.size c.in_ok-part.field-0 (part_bytes c.args.bytes.now c.args.key.now m p.mutation p.items p.spelled) c.in_ok-part.ensures.value c.in-Some.is in
-    clash (sym (c.is_static.ensures.1 (subst (λ (x : Part). IsStatic c.args.schema.now x.head.statics) (sym same) p.statics)) ∙ c.if-not-is_static.true))
+    clash (sym (c.is_static_of.ensures.1 (subst (λ (x : Part). IsStaticOf c.args.schema.now x.head.statics) (sym same) p.statics)) ∙ c.if-not-is_static_of.true))
 
 pub returns-in_default-2 : goal.returns-in_default-2
 returns-in_default-2 c = none_found c.args.schema.now c.args.key.now c.args.bytes.now (λ m p.
@@ -106,7 +106,7 @@ returns c =
     let starts = subst (λ f. Starts code_of_part IsPartItem bytes f) c.in-Some.is c.in_ok-part.ensures.value in
     let read = subst (λ f. IfSome f (λ v. AllByRecursion IsSpelled v.items × (take (length bytes - size) (drop size bytes) ≡ flat_map frag_code v.items ++ 4 ∷ []))) c.in-Some-2.is c.in_ok-frags.ensures.spelled in
     let come = subst (AllCome c.args.schema.now None None) c.as_slice.ensures.value (c.in_ok-all_come.ensures.0 c.if-not-branch.false) in
-    decoded_exactly c.args.schema.now c.args.key.now bytes part size fs c.a_canonical_list_is_that_of_a_mutation.ensures.is_of_one (same_key part.key c.args.key.now c.if-ne.ensures) starts.0 starts.1 (c.is_static.ensures.0 c.if-not-is_static.false) (sym (take_rest bytes size) ∙ read.1) read.0 come
+    decoded_exactly c.args.schema.now c.args.key.now bytes part size fs c.a_canonical_list_is_that_of_a_mutation.ensures.is_of_one (same_key part.key c.args.key.now c.if-ne.ensures) starts.0 starts.1 (c.is_static_of.ensures.0 c.if-not-is_static_of.false) (sym (take_rest bytes size) ∙ read.1) read.0 come
     c.mutation_of.result (λ m is e h. c.mutation_of.ensures m is (c.as_slice-2.ensures.value ∙ e) h)
     (λ m p.
     let b = part_bytes bytes c.args.key.now m p.mutation p.items p.spelled in

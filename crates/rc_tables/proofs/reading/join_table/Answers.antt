@@ -8,7 +8,7 @@ use Rattle.std.proofs.lemmas.Result.{err_from_is_err_and}
 use Rattle.rc_position.specs.Position.{bytes_cmp}
 use Rattle.rc_mutation.specs.declared.mutations.Partition.{Partition}
 use Rattle.rc_tfile.specs.declared.info.PartRef.{PartRef}
-use Rattle.rc_tables.specs.Located.{IsLocatedOf, SaysOf, WhereTold}
+use Rattle.rc_tables.specs.Located.{IsLocatedOf, WhereTold}
 use Rattle.rc_tables.proofs.Joined.{damage_one, joins_none, joins_nothing, joins_one, joins_said, listed_there}
 use Rattle.rc_tables.proofs.Searching.{counted}
 use Rattle.rc_tables.proofs.reading.join_table.Goals as goal
@@ -68,13 +68,10 @@ returns-in_default-clause-some g c = joins_nothing c.args.schema.now c.args.key.
 
 pub returns-in-Ok-clause-some : goal.returns-in-Ok-clause-some
 returns-in-Ok-clause-some g c =
-    let parts = c.as_slice-parts.result.now in
     let at = c.in-Some.at in
-    let here = c.index-parts-at.result in
     let same = c.as_slice-parts.ensures in
     let one = counted c.args.key.now c.args.info.now at (subst (λ (rs : List PartRef). at < length rs) same c.in-Some.ensures.found.0) (subst (λ (rs : List PartRef). HoldsAt (λ r. r.key ≡ c.args.key.now) rs at) same c.in-Some.ensures.found.1) in
-    let listed : here.key ≡ c.args.key.now = ap (λ (r : PartRef). r.key) c.index-parts-at.is ∙ c.in-Some.ensures.found.1 here in
-    joins_said c.args.schema.now c.args.key.now c.args.info.now c.args.joined.now c.join.new.self c.in_ok-change.change (omega (arith, one)) c.in-Ok.ensures.ok (subst (λ k. SaysOf c.args.schema.now k c.in_ok-change.change) listed c.in_ok-change.ensures.fits)
+    joins_said c.args.schema.now c.args.key.now c.args.info.now c.args.joined.now c.join.new.self c.in_ok-change.change (omega (arith, one)) c.in-Ok.ensures.ok c.in_ok-change.ensures.fits
 
 pub returns-in_err-change-clause-damaged : goal.returns-in_err-change-clause-damaged
 returns-in_err-change-clause-damaged g c =

@@ -2,7 +2,7 @@
 use Rattle.std.proofs.Common.{List, ℕ, [], Some, None, subst, refl}
 use Rattle.rc_tfile.specs.Items.{HeadItem, item_code, IsItem}
 use Rattle.rc_tfile.specs.Reading.{Starts}
-use Rattle.rc_tfile.proofs.Ahead.{head_found, no_head, outside_head}
+use Rattle.rc_tfile.proofs.Ahead.{head_found, no_head}
 use Rattle.rc_tfile.proofs.checking.head_of.Goals as goal
 
 pub returns-in-Ok-None-clause-head : goal.returns-in-Ok-None-clause-head

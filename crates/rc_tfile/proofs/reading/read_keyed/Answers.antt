@@ -1,11 +1,10 @@
 -- One value behind the other.
 use Rattle.std.proofs.Common.{subst, drop, Some, None}
-use Rattle.rc_rowcode.specs.Spelling.{optional_code, tomb_code, key_code, pos_code, row_code, IsTomb, IsKey, IsPos, IsCodedRow}
+use Rattle.rc_rowcode.specs.Spelling.{key_code, row_code, IsKey, IsCodedRow}
 use Rattle.rc_rowcode.specs.Spelling.{Reads}
 use Rattle.std.proofs.lemmas.List.{take_rest}
-use Rattle.rc_tfile.specs.Items.{bytes_code, IsPartKey}
-use Rattle.rc_tfile.specs.Reading.{Starts, head_code, IsHead}
-use Rattle.rc_tfile.specs.laws.Starting.{IsOptional, from_reads, first_missing, second_missing, both_there, optional_free, key_free, full_key_free, pos_free}
+use Rattle.rc_tfile.specs.Reading.{Starts}
+use Rattle.rc_tfile.specs.laws.Starting.{from_reads, first_missing, second_missing, both_there, full_key_free}
 use Rattle.rc_tfile.proofs.reading.read_keyed.Goals as goal
 
 pub returns-in_default-2-clause-value : goal.returns-in_default-2-clause-value

@@ -1,6 +1,5 @@
 -- The length decides which bytes are the text, and the text which schema it is.
 use Rattle.std.proofs.Common.{sym, arith}
-use Rattle.rc_rowcode.specs.Laws.Fields.{IsBytes}
 use Rattle.rc_tfile.proofs.Heads.{no_length, too_short, no_schema, schema_there, text_within}
 use Rattle.rc_tfile.proofs.reading.read_schema_text.Goals as goal
 

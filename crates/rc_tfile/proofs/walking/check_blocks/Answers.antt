@@ -1,8 +1,6 @@
 -- The first of those that are left comes next.
-use Rattle.std.proofs.Common.{◌≡◌, ◌-◌, ◌∷◌, ◌++◌, List, length, take, drop, map as list_map, subst, ◌∙◌, arith}
-use Rattle.std.specs.List.{AllByRecursion}
+use Rattle.std.proofs.Common.{◌-◌, ◌++◌, List, length, take, drop, map as list_map, subst}
 use Rattle.std.proofs.lemmas.Result.{err_from_is_err_and}
-use Rattle.rc_rowcode.specs.Spelling.{KeyFits}
 use Rattle.rc_tfile.specs.declared.blocks.Block.{Block}
 use Rattle.rc_tfile.specs.Items.{BlockItem}
 use Rattle.rc_tfile.specs.Walking.{Awaits}

@@ -1,6 +1,5 @@
 -- Items that fit and are whole are the table of partitions.
-use Rattle.std.proofs.Common.{◌≤◌, ◌+◌, ◌∙◌, ap, arith}
-use Rattle.rc_tfile.specs.Windows.{reads_left}
+use Rattle.std.proofs.Common.{◌∙◌, ap, arith}
 use Rattle.rc_tfile.specs.Info.{refs_from}
 use Rattle.rc_tfile.proofs.Ahead.{same_content}
 use Rattle.rc_tfile.proofs.Turns.{few_reads}

@@ -3,7 +3,8 @@ use Rattle.std.proofs.Common.{◌≡◌, ◌+◌, ◌++◌, [], ◌∷◌, take,
 use Rattle.std.specs.List.{flat_map}
 use Rattle.rc_tfile.specs.Items.{HeadItem}
 use Rattle.rc_tfile.specs.Before.{followed_by}
-use Rattle.rc_tfile.specs.Limits.{PartLimits}
+use Rattle.rc_mutation.specs.declared.mutations.Partition.{Partition}
+use Rattle.rc_writes.specs.Limits.{IsWithinLimits}
 use Rattle.rc_tfile.specs.Outlined.{IsOutline}
 use Rattle.rc_tfile.specs.TableText.{part_items}
 use Rattle.rc_tfile.specs.laws.Follows.{one_more, followed_by-append}
@@ -11,7 +12,7 @@ use Rattle.rc_tfile.proofs.Widths.{more_items}
 use Rattle.rc_tfile.proofs.writing.outline_of.Goals as goal
 
 pub spell_part-requires : goal.spell_part-requires
-spell_part-requires c = subst PartLimits (sym c.part-item.is) (c.requires c.loop-part.part-index c.part-item.result c.loop-part-test.true)
+spell_part-requires c = subst (λ (p : Partition). IsWithinLimits p.change) (sym c.part-item.is) (c.requires c.loop-part.part-index c.part-item.result c.loop-part-test.true)
 
 pub loop-part-preserved : goal.loop-part-preserved
 loop-part-preserved c =

@@ -1,15 +1,15 @@
 -- The outline's references are those of the table.
-use Rattle.std.proofs.Common.{ap, sym, subst, arith, ◌∙◌}
+use Rattle.std.proofs.Common.{ap, subst, arith, ◌∙◌}
 use Rattle.std.specs.List.{flat_map}
 use Rattle.rc_tfile.specs.Blocks.{entry_items}
 use Rattle.rc_tfile.specs.Info.{refs_from}
-use Rattle.rc_tfile.proofs.Checked.{parts_limits}
+use Rattle.rc_writes.specs.Laws.Within.{change-within}
 use Rattle.rc_tfile.specs.laws.Drafts.{refs_are, parts_of}
 use Rattle.rc_tfile.proofs.Widths.{AreItems, ending_items, table_items}
 use Rattle.rc_tfile.proofs.writing.plan_table.Goals as goal
 
 pub outline_of-requires : goal.outline_of-requires
-outline_of-requires c = parts_limits c.args.schema.now c.args.parts.now c.ck-limits.ensures.limits c.requires
+outline_of-requires c = λ k d lt. change-within c.args.schema.now _ c.ck-limits.ensures.limits (c.requires.each k d lt)
 
 pub returns-clause-info : goal.returns-clause-info
 returns-clause-info c =

@@ -6,4 +6,4 @@ use Rattle.rc_tfile.proofs.Limiting.{fragments_fit}
 use Rattle.rc_tfile.proofs.writing.spell_part.Goals as goal
 
 pub spell_fragments-requires : goal.spell_fragments-requires
-spell_fragments-requires c = subst (λ fs. All FragFits fs) (sym (c.as_slice.ensures ∙ c.in_ok-list.ensures)) (fragments_fit c.args.part.now c.holds_together.ensures c.requires)
+spell_fragments-requires c = subst (λ fs. All FragFits fs) (sym (c.as_slice.ensures ∙ c.in_ok-list.ensures)) (fragments_fit c.args.part.now.change c.holds_together.ensures c.requires)

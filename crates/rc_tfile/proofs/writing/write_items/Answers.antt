@@ -1,12 +1,12 @@
 -- The pieces in order are the text of the table.
 use Rattle.std.proofs.lemmas.Result.{on_ok_weaker}
-use Rattle.rc_tfile.proofs.Checked.{parts_limits}
+use Rattle.rc_writes.specs.Laws.Within.{change-within}
 use Rattle.rc_tfile.specs.laws.Drafts.{table_built, parts_of}
 use Rattle.rc_tfile.proofs.Widths.{table_items}
 use Rattle.rc_tfile.proofs.writing.write_items.Goals as goal
 
 pub write_parts-requires-clause-limits : goal.write_parts-requires-clause-limits
-write_parts-requires-clause-limits g c = parts_limits c.args.schema.now c.args.parts.now c.ck-limits.ensures.limits c.requires.fit
+write_parts-requires-clause-limits g c = λ k d lt. change-within c.args.schema.now _ c.ck-limits.ensures.limits (c.requires.fit.each k d lt)
 
 pub returns-clause-building : goal.returns-clause-building
 returns-clause-building g c =

@@ -5,7 +5,8 @@ use Rattle.std.proofs.lemmas.Grind.{flat_map-append}
 use Rattle.rc_outside.specs.Files.{grown}
 use Rattle.rc_tfile.specs.Items.{item_code}
 use Rattle.rc_tfile.specs.Before.{followed_by}
-use Rattle.rc_tfile.specs.Limits.{PartLimits}
+use Rattle.rc_mutation.specs.declared.mutations.Partition.{Partition}
+use Rattle.rc_writes.specs.Limits.{IsWithinLimits}
 use Rattle.rc_tfile.specs.Outlined.{IsOutline}
 use Rattle.rc_tfile.specs.TableText.{part_items}
 use Rattle.rc_tfile.specs.laws.Follows.{one_more, followed_by-append}
@@ -14,7 +15,7 @@ use Rattle.rc_tfile.proofs.Widths.{more_items}
 use Rattle.rc_tfile.proofs.writing.write_parts.Goals as goal
 
 pub write_part-requires-clause-limits : goal.write_part-requires-clause-limits
-write_part-requires-clause-limits g c = subst PartLimits (sym c.part-item.is) (c.requires.limits c.loop-part.part-index c.part-item.result c.loop-part-test.true)
+write_part-requires-clause-limits g c = subst (λ (p : Partition). IsWithinLimits p.change) (sym c.part-item.is) (c.requires.limits c.loop-part.part-index c.part-item.result c.loop-part-test.true)
 
 pub loop-part-preserved : goal.loop-part-preserved
 loop-part-preserved g c =

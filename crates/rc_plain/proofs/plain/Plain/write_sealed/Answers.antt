@@ -13,7 +13,7 @@ use Rattle.rc_lines.specs.declared.commands.Command.TheVariants.{Put}
 use Rattle.rc_lines.specs.declared.commands.Reply.TheVariants as replies
 use Rattle.rc_plain.specs.Stands.{Keeping}
 use Rattle.rc_plain.specs.Storing.{IsStored, IsWritten}
-use Rattle.rc_fitting.specs.Laws.Tables.{text_is_a_table}
+use Rattle.rc_tfile.specs.laws.Standing.{text_is_a_table}
 use Rattle.rc_plain.proofs.Fitting.{parts_fit}
 use Rattle.rc_plain.proofs.plain.Plain.write_sealed.Goals as goal
 

@@ -1,5 +1,5 @@
 -- The partition's entry comes behind those that are listed.
-use Rattle.std.proofs.Common.{rules, refl, ap, ◌∙◌, ◌++◌, ◌∷◌, [], sym, Some, arith}
+use Rattle.std.proofs.Common.{rules, refl, ap, ◌∙◌, ◌++◌, ◌∷◌, [], sym, Some}
 use Rattle.rc_tfile.proofs.Outlines.{ended}
 use Rattle.rc_tfile.proofs.outline.Outline.end.Goals as goal
 

@@ -1,4 +1,4 @@
-use Rattle.std.proofs.Common.{refl, ap, ◌∙◌, sym}
+use Rattle.std.proofs.Common.{refl, ap, ◌∙◌}
 use Rattle.std.proofs.Common.{Some}
 use Rattle.rc_tfile.specs.Blocks.{with_fragment}
 use Rattle.rc_tfile.proofs.Outlines.{fragment_taken}

@@ -1,5 +1,5 @@
 -- What was read follows what was ahead.
-use Rattle.std.proofs.Common.{◌≡◌, ◌++◌, ◌+◌, List, ℕ, drop, length, subst, sym, refl, ap, ◌∙◌, arith}
+use Rattle.std.proofs.Common.{◌≡◌, ◌++◌, drop, subst, sym, ap, ◌∙◌, arith}
 use Rattle.std.proofs.lemmas.List.{take_rest, take_at}
 use Rattle.rc_tfile.specs.Windows.{Seen, Told}
 use Rattle.rc_tfile.specs.Checking.{IsContent}

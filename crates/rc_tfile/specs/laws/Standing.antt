@@ -22,14 +22,67 @@ use Rattle.rc_mutation.specs.declared.mutations.Partition.{Partition}
 use Rattle.rc_mutation.specs.Fragments.{fragments, is_written, begins_at, changes_of, placed_change, placed_row}
 use Rattle.rc_mutation.specs.Source.{IsMutation}
 use Rattle.rc_mutation.specs.Laws.FragMerge.{merge, merge_into, fragment_of, merge-in_order, rows-placed, changes-placed}
+use Rattle.rc_writes.specs.Allowed.{ChangeFits, IsBoundOf, IsRowOf}
 use Rattle.rc_canon.specs.Canonical.{clustered, IsBounded, IsCanonicalList}
 use Rattle.rc_canon.specs.Laws.Listed.{listed}
 use Rattle.rc_tfile.specs.Items.{Item, HeadItem, PartItem, RowItem, ChangeItem, EndItem, StopItem, EntryItem, BlockItem, TailItem, IsItem}
 use Rattle.rc_tfile.specs.Before.{Before, Between, Inside, text, followed_by, place, last_key, last_pos, in_force, IsNextKey}
 use Rattle.rc_tfile.specs.Blocks.{Entry, entries, entry_items, ending, rest, due}
-use Rattle.rc_tfile.specs.TableText.{IsRowOf, IsBoundOf, MayStand, AllFit, frag_items, part_items, body, table, IsTable, PartFits, PartsFit}
+use Rattle.rc_tfile.specs.TableText.{MayStand, AllFit, frag_items, part_items, body, table, IsTable, PartsFit}
 use Rattle.rc_tfile.specs.laws.Drafts.{parts_of, body_is}
-use Rattle.rc_fitting.specs.Laws.Each.{Each, each_append, each_of_all}
+use Rattle.rc_tfile.specs.laws.Follows.{all_append, by_recursion}
+
+-- what holds of the fragment of each row, and of each change at a bound of a range, holds of all rows and changes of a mutation
+module _ (P : Frag → Type 0) where
+  abbrev AtRow : List Comp × Row → Type 0
+  AtRow e = P (frag.Row e.0 e.1)
+
+  abbrev AtBound : Pos → Type 0
+  AtBound x = (tomb : Option Tomb) → P (frag.Change x tomb)
+
+  abbrev AtBounds : Piece → Type 0
+  AtBounds q = AtBound q.from × AtBound q.to
+
+  abbrev AtChange : Pos × Option Tomb → Type 0
+  AtChange c = P (frag.Change c.0 c.1)
+
+  changes_so : (ps : List Piece) → AllByRecursion AtBounds ps → AllByRecursion AtChange (changes_of ps)
+  changes_so [] h = tt
+  changes_so (p ∷ ps) h = (
+    h.0.0 (Some p.tomb),
+    elim (begins_at p.to ps) as (λ b. AllByRecursion AtChange (cond b [] ((p.to, None) ∷ []) ++ changes_of ps)) [
+      | true ↦ changes_so ps h.1
+      | false ↦ (h.0.1 None, changes_so ps h.1)
+    ],
+  )
+
+  only_changes : (bs : List (Pos × Option Tomb)) → AllByRecursion AtChange bs → AllByRecursion P (list_map fragment_of (list_map placed_change bs))
+  only_changes [] h = tt
+  only_changes (b ∷ bs) h = (h.0, only_changes bs h.1)
+
+  only_rows : (os : List (List Comp × Row)) → AllByRecursion AtRow os → AllByRecursion P (list_map fragment_of (list_map placed_row os))
+  only_rows [] h = tt
+  only_rows (o ∷ os) h = (h.0, only_rows os h.1)
+
+  merged_into : (a : List Comp × Row) (os : List (List Comp × Row)) → AtRow a → AllByRecursion AtRow os
+      → ((bs : List (Pos × Option Tomb)) → AllByRecursion AtChange bs → AllByRecursion P (list_map fragment_of (merge os bs)))
+      → (bs : List (Pos × Option Tomb)) → AllByRecursion AtChange bs → AllByRecursion P (list_map fragment_of (merge_into a os (merge os) bs))
+  merged_into a os p g ih [] h = (p, only_rows os g)
+  merged_into a os p g ih (b ∷ bs) h =
+      elim (is_lt (pos_cmp (row_pos a.0) b.0)) as (λ r. AllByRecursion P (list_map fragment_of (cond r (placed_row a ∷ merge os (b ∷ bs)) (placed_change b ∷ merge_into a os (merge os) bs)))) [
+        | true ↦ (p, ih (b ∷ bs) h)
+        | false ↦ (h.0, merged_into a os p g ih bs h.1)
+      ]
+
+  merged_so : (os : List (List Comp × Row)) (bs : List (Pos × Option Tomb)) → AllByRecursion AtRow os → AllByRecursion AtChange bs → AllByRecursion P (list_map fragment_of (merge os bs))
+  merged_so [] bs g h = only_changes bs h
+  merged_so (a ∷ os) bs g h = merged_into a os g.0 g.1 (λ cs k. merged_so os cs g.1 k) bs h
+
+  -- all rows and changes of a mutation
+  pub clustered_so : (m : Mutation) → IsMutation m → All AtRow m.rows → All AtBounds m.ranges → AllByRecursion P (clustered m)
+  clustered_so m is rows bounds =
+      subst (λ (fs : List Frag). AllByRecursion P fs) (merge-in_order m.rows (changes_of m.ranges) (rows-placed m.rows is.rows.ascend) (changes-placed m.ranges is.ranges))
+      (merged_so m.rows (changes_of m.ranges) (by_recursion AtRow m.rows rows) (changes_so m.ranges (by_recursion AtBounds m.ranges bounds)))
 
 less : (r : Ordering) → T (is_lt r) → r ≡ Less
 less Less h = refl
@@ -105,16 +158,16 @@ IsBehindStop (EntryItem key off count) = ⊤
 IsBehindStop (BlockItem b) = ⊤
 IsBehindStop (TailItem off parts) = ⊤
 
-all_of_map : {B : Type 0} (f : B → Item) → ((b : B) → IsBehindStop (f b)) → (bs : List B) → Each IsBehindStop (list_map f bs)
+all_of_map : {B : Type 0} (f : B → Item) → ((b : B) → IsBehindStop (f b)) → (bs : List B) → AllByRecursion IsBehindStop (list_map f bs)
 all_of_map f h [] = tt
 all_of_map f h (b ∷ bs) = (h b, all_of_map f h bs)
 
-entries_behind : (es : List Entry) → Each IsBehindStop (flat_map entry_items es)
+entries_behind : (es : List Entry) → AllByRecursion IsBehindStop (flat_map entry_items es)
 entries_behind [] = tt
-entries_behind (e ∷ es) = each_append IsBehindStop (entry_items e) (flat_map entry_items es) (tt, all_of_map BlockItem (λ b. tt) e.blocks) (entries_behind es)
+entries_behind (e ∷ es) = all_append IsBehindStop (entry_items e) (flat_map entry_items es) (tt, all_of_map BlockItem (λ b. tt) e.blocks) (entries_behind es)
 
-ending_behind : (before : Before) → Each IsBehindStop (ending before)
-ending_behind before = each_append IsBehindStop (flat_map entry_items (entries before)) _ (entries_behind (entries before)) (tt, tt)
+ending_behind : (before : Before) → AllByRecursion IsBehindStop (ending before)
+ending_behind before = all_append IsBehindStop (flat_map entry_items (entries before)) _ (entries_behind (entries before)) (tt, tt)
 
 module _ (schema : Lists) where
   -- each item may stand where it does
@@ -149,55 +202,11 @@ module _ (schema : Lists) where
   IsFragOf (frag.Change x tomb) = IsBoundOf schema x
   IsFragOf frag.End = ⊤
 
-  abbrev IsKeyedOf : List Comp × Row → Type 0
-  IsKeyedOf e = IsRowOf schema e.0 e.1
-
-  abbrev IsChangeOf : Pos × Option Tomb → Type 0
-  IsChangeOf c = IsBoundOf schema c.0
-
-  abbrev IsPieceOf : Piece → Type 0
-  IsPieceOf q = IsBoundOf schema q.from × IsBoundOf schema q.to
-
-  changes_fit : (ps : List Piece) → Each IsPieceOf ps → Each IsChangeOf (changes_of ps)
-  changes_fit [] h = tt
-  changes_fit (p ∷ ps) h = (
-    h.0.0,
-    elim (begins_at p.to ps) as (λ b. Each IsChangeOf (cond b [] ((p.to, None) ∷ []) ++ changes_of ps)) [
-      | true ↦ changes_fit ps h.1
-      | false ↦ (h.0.1, changes_fit ps h.1)
-    ],
-  )
-
-  only_changes : (bs : List (Pos × Option Tomb)) → Each IsChangeOf bs → Each IsFragOf (list_map fragment_of (list_map placed_change bs))
-  only_changes [] h = tt
-  only_changes (b ∷ bs) h = (h.0, only_changes bs h.1)
-
-  only_rows : (os : List (List Comp × Row)) → Each IsKeyedOf os → Each IsFragOf (list_map fragment_of (list_map placed_row os))
-  only_rows [] h = tt
-  only_rows (o ∷ os) h = (h.0, only_rows os h.1)
-
-  merged_into : (a : List Comp × Row) (os : List (List Comp × Row)) → IsKeyedOf a → Each IsKeyedOf os
-      → ((bs : List (Pos × Option Tomb)) → Each IsChangeOf bs → Each IsFragOf (list_map fragment_of (merge os bs)))
-      → (bs : List (Pos × Option Tomb)) → Each IsChangeOf bs → Each IsFragOf (list_map fragment_of (merge_into a os (merge os) bs))
-  merged_into a os p g ih [] h = (p, only_rows os g)
-  merged_into a os p g ih (b ∷ bs) h =
-      elim (is_lt (pos_cmp (row_pos a.0) b.0)) as (λ r. Each IsFragOf (list_map fragment_of (cond r (placed_row a ∷ merge os (b ∷ bs)) (placed_change b ∷ merge_into a os (merge os) bs)))) [
-        | true ↦ (p, ih (b ∷ bs) h)
-        | false ↦ (h.0, merged_into a os p g ih bs h.1)
-      ]
-
-  merged_fit : (os : List (List Comp × Row)) (bs : List (Pos × Option Tomb)) → Each IsKeyedOf os → Each IsChangeOf bs → Each IsFragOf (list_map fragment_of (merge os bs))
-  merged_fit [] bs g h = only_changes bs h
-  merged_fit (a ∷ os) bs g h = merged_into a os g.0 g.1 (λ cs k. merged_fit os cs g.1 k) bs h
-
-  clustered_fit : (p : Partition) → IsMutation p.change → PartFits schema p → Each IsFragOf (clustered p.change)
-  clustered_fit p is fits =
-      let m = p.change in
-      subst (λ (fs : List Frag). Each IsFragOf fs) (merge-in_order m.rows (changes_of m.ranges) (rows-placed m.rows is.rows.ascend) (changes-placed m.ranges is.ranges))
-      (merged_fit m.rows (changes_of m.ranges) (each_of_all IsKeyedOf m.rows fits.rows) (changes_fit m.ranges (each_of_all IsPieceOf m.ranges fits.ranges)))
+  clustered_fit : (m : Mutation) → IsMutation m → ChangeFits schema m → AllByRecursion IsFragOf (clustered m)
+  clustered_fit m is fits = clustered_so IsFragOf m is fits.rows (λ k d lt. (let q = fits.ranges k d lt in (λ tomb. q.0, λ tomb. q.1)))
 
   -- a canonical list of rows and changes, and the end, may stand behind a place with that tombstone in force and that last position
-  frags_stand : (fs : List Frag) (tomb : Option Tomb) (last : Option Pos) (before : Before) → place before ≡ Inside → in_force before ≡ tomb → last_pos before ≡ last → IsCanonicalList tomb last fs → Each IsFragOf fs
+  frags_stand : (fs : List Frag) (tomb : Option Tomb) (last : Option Pos) (before : Before) → place before ≡ Inside → in_force before ≡ tomb → last_pos before ≡ last → IsCanonicalList tomb last fs → AllByRecursion IsFragOf fs
       → Stand before (flat_map frag_items (ended fs))
   frags_stand [] tomb last before p f l c h = ((p, f ∙ c), tt)
   frags_stand (frag.Start pt ∷ fs) tomb last before p f l c h = absurd c
@@ -214,17 +223,17 @@ module _ (schema : Lists) where
 
   -- ---- the partitions
 
-  part_stands : (p : Partition) (before : Before) → place before ≡ Between → IsNextKey before p.key → IsMutation p.change → PartFits schema p → Stand before (part_items p)
+  part_stands : (p : Partition) (before : Before) → place before ≡ Between → IsNextKey before p.key → IsMutation p.change → ChangeFits schema p.change → Stand before (part_items p)
   part_stands p before b k is fits =
       let start = PartItem p.key p.change.pt p.change.statics ∷ before in
       let bounded : IsBounded p.change.ranges = λ j d lt. (let q = fits.ranges j d lt in (q.0.0, q.1.0)) in (
         (b, k, fits.statics),
         subst (λ (xs : List Item). Stand start xs) (sym (shown p.change))
-            (frags_stand (clustered p.change) None None start refl refl refl (listed p.change is bounded) (clustered_fit p is fits)),
+            (frags_stand (clustered p.change) None None start refl refl refl (listed p.change is bounded) (clustered_fit p.change is fits)),
       )
 
   parts_stand : (parts : List Partition) (before : Before) → place before ≡ Between → NextKey before parts → T (is_sorted bytes_cmp (list_map (λ (p : Partition). (p.key, p.change)) parts))
-      → Each (λ p. IsMutation p.change) parts → Each (PartFits schema) parts → Stand before (flat_map part_items parts ++ StopItem ∷ [])
+      → AllByRecursion (λ p. IsMutation p.change) parts → AllByRecursion (λ p. ChangeFits schema p.change) parts → Stand before (flat_map part_items parts ++ StopItem ∷ [])
   parts_stand [] before b k s is fits = (b, tt)
   parts_stand (p ∷ ps) before b k s is fits =
       let later = list_map (λ (q : Partition). (q.key, q.change)) ps in
@@ -236,7 +245,7 @@ module _ (schema : Lists) where
       is.1 fits.1))
 
   -- what is due may stand, one item behind another
-  due_stand : (xs : List Item) (before : Before) → due before ≡ xs → Each IsBehindStop xs → Stand before xs
+  due_stand : (xs : List Item) (before : Before) → due before ≡ xs → AllByRecursion IsBehindStop xs → Stand before xs
   due_stand [] before e h = tt
   due_stand (EntryItem key off count ∷ xs) before e h = ((xs, e), due_stand xs (EntryItem key off count ∷ before) (ap rest e) h.1)
   due_stand (BlockItem b ∷ xs) before e h = ((xs, e), due_stand xs (BlockItem b ∷ before) (ap rest e) h.1)
@@ -257,7 +266,7 @@ module _ (schema : Lists) where
   table_stands parts fits is =
       let front : AllStand (body schema parts) =
       stand_all (HeadItem schema ∷ []) (flat_map part_items parts ++ StopItem ∷ []) (tt, (refl, refl))
-      (parts_stand parts (HeadItem schema ∷ []) refl (first_key parts) (test_of _ fits.ascend) (each_of_all (λ p. IsMutation p.change) parts is) (each_of_all (PartFits schema) parts fits.each)) in
+      (parts_stand parts (HeadItem schema ∷ []) refl (first_key parts) (test_of _ fits.ascend) (by_recursion (λ p. IsMutation p.change) parts is) (by_recursion (λ p. ChangeFits schema p.change) parts fits.each)) in
       let stop = StopItem ∷ parts_of schema parts in
       let last : Stand (body schema parts) (ending (body schema parts)) = subst (λ (b : Before). Stand b (ending b)) (sym (body_is schema parts)) (due_stand (ending stop) stop refl (ending_behind stop)) in
       stand_all (body schema parts) (ending (body schema parts)) front last
