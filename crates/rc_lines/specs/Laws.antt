@@ -4,6 +4,9 @@ pub mod Said
 pub mod Tests
 pub mod FitsLaws
 pub mod Plain
+pub mod Spaces
+pub mod Spelled
+pub mod Sayable
 use Rattle.std.specs.Prelude.{ℕ, ◌+◌, ◌<◌, true, false, nat_lt, List, length, take, Option, Err, ◌≡◌}
 use Rattle.std.proofs.Common.{refl, sym, subst, ap, ◌∙◌, arith}
 use Rattle.std.proofs.lemmas.List.{length-take, take_all}

@@ -1,11 +1,15 @@
 //! Laws of lines, each the contract of a function that does nothing.
 
-ghost use Rattle.std.specs.Prelude.{◌≡◌, List, ℕ, Ok, Option, Some, take};
+ghost use Rattle.std.specs.Prelude.{◌≡◌, ◌≤◌, List, ℕ, length, Ok, Option, Some, take};
 ghost use Rattle.rc_schema.specs.Lists.{Lists};
 ghost use Rattle.rc_lines.specs.declared.commands.Command.{Command};
 ghost use Rattle.rc_lines.specs.Fits.{Fits};
-ghost use Rattle.rc_lines.specs.Grammar.{longest_line, parse};
+ghost use Rattle.rc_lines.specs.Grammar.{longest_line, parse, shape_meaning};
 ghost use Rattle.rc_lines.specs.Plain.{HasCounts, plain_line};
+ghost use Rattle.rc_lines.specs.Sayable.{IsSayable, shape_line};
+ghost use Rattle.rc_lines.specs.Shapes.{shape_of};
+ghost use Rattle.rc_lines.specs.declared.shapes.Shape.{Shape};
+ghost use Rattle.rc_spelling.specs.Words.{words};
 
 use crate::reading::LONGEST_LINE;
 
@@ -31,4 +35,15 @@ pub fn commands_fit_their_schema()
 /// 4,294,967,295.
 pub fn plain_commands_read_back()
     ensures { (schema : Lists) (command : Command) (line : List ℕ) → plain_line command ≡ Some line → HasCounts command → parse (Some schema) line ≡ Ok command }
+{}
+
+/// What one line can say before a schema is known has a line that says it.
+pub fn sayable_lines_read_back()
+    ensures { (shape : Shape) (line : List ℕ) → shape_line shape ≡ Some line → IsSayable shape → shape_of (words line) ≡ Some shape }
+{}
+
+/// That line commands what it means under the schema that was taken, if one was, where it is not longer than the longest line.
+pub fn sayable_lines_are_meant()
+    ensures { (taken : Option Lists) (shape : Shape) (line : List ℕ) → shape_line shape ≡ Some line → IsSayable shape → length line ≤ longest_line →
+        parse taken line ≡ shape_meaning taken (Some shape) }
 {}
