@@ -7,6 +7,8 @@ pub mod Plain
 pub mod Spaces
 pub mod Spelled
 pub mod Sayable
+pub mod Columns
+pub mod Lines
 use Rattle.std.specs.Prelude.{ℕ, ◌+◌, ◌<◌, true, false, nat_lt, List, length, take, Option, Err, ◌≡◌}
 use Rattle.std.proofs.Common.{refl, sym, subst, ap, ◌∙◌, arith}
 use Rattle.std.proofs.lemmas.List.{length-take, take_all}

@@ -7,3 +7,4 @@ pub mod Texts
 pub mod Laws
 pub mod Plain
 pub mod Sayable
+pub mod Lines

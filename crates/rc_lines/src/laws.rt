@@ -1,10 +1,11 @@
 //! Laws of lines, each the contract of a function that does nothing.
 
-ghost use Rattle.std.specs.Prelude.{◌≡◌, ◌≤◌, List, ℕ, length, Ok, Option, Some, take};
-ghost use Rattle.rc_schema.specs.Lists.{Lists};
+ghost use Rattle.std.specs.Prelude.{◌≡◌, ◌≤◌, List, ℕ, length, IsTrue, Ok, Option, Some, take};
+ghost use Rattle.rc_schema.specs.Lists.{Lists, is_schema};
 ghost use Rattle.rc_lines.specs.declared.commands.Command.{Command};
 ghost use Rattle.rc_lines.specs.Fits.{Fits};
 ghost use Rattle.rc_lines.specs.Grammar.{longest_line, parse, shape_meaning};
+ghost use Rattle.rc_lines.specs.Lines.{IsSayableCommand, command_line};
 ghost use Rattle.rc_lines.specs.Plain.{HasCounts, plain_line};
 ghost use Rattle.rc_lines.specs.Sayable.{IsSayable, shape_line};
 ghost use Rattle.rc_lines.specs.Shapes.{shape_of};
@@ -46,4 +47,11 @@ pub fn sayable_lines_read_back()
 pub fn sayable_lines_are_meant()
     ensures { (taken : Option Lists) (shape : Shape) (line : List ℕ) → shape_line shape ≡ Some line → IsSayable shape → length line ≤ longest_line →
         parse taken line ≡ shape_meaning taken (Some shape) }
+{}
+
+/// The line of each command that fits the schema, and that one line can say, is read back as it under that schema, where it is not
+/// longer than the longest line.
+pub fn commands_read_back()
+    ensures { (schema : Lists) (command : Command) (line : List ℕ) → IsTrue (is_schema schema) → Fits schema command → IsSayableCommand command →
+        command_line schema command ≡ Some line → length line ≤ longest_line → parse (Some schema) line ≡ Ok command }
 {}
