@@ -8,6 +8,7 @@ pub mod Spaces
 pub mod Spelled
 pub mod Sayable
 pub mod Columns
+pub mod Lengths
 pub mod Lines
 use Rattle.std.specs.Prelude.{ℕ, ◌+◌, ◌<◌, true, false, nat_lt, List, length, take, Option, Err, ◌≡◌}
 use Rattle.std.proofs.Common.{refl, sym, subst, ap, ◌∙◌, arith}

@@ -49,9 +49,8 @@ pub fn sayable_lines_are_meant()
         parse taken line ≡ shape_meaning taken (Some shape) }
 {}
 
-/// The line of each command that fits the schema, and that one line can say, is read back as it under that schema, where it is not
-/// longer than the longest line.
+/// The line of each command that fits the schema, and that one line can say, is read back as it under that schema.
 pub fn commands_read_back()
     ensures { (schema : Lists) (command : Command) (line : List ℕ) → IsTrue (is_schema schema) → Fits schema command → IsSayableCommand command →
-        command_line schema command ≡ Some line → length line ≤ longest_line → parse (Some schema) line ≡ Ok command }
+        command_line schema command ≡ Some line → parse (Some schema) line ≡ Ok command }
 {}

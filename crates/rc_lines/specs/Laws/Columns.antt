@@ -215,3 +215,11 @@ apart names low (e ∷ cells) d are asc = rw (no_other names e.0 (e.0 + 1) cells
 
 pub names_apart : (names : List (List ℕ)) (cells : List (ℕ × Cell)) → are_distinct_by is_text names ≡ true → AreBelow (length names) cells → is_sorted nat_cmp cells ≡ true → are_distinct (cells_said names cells) ≡ true
 names_apart names cells d are sorted = apart names 0 cells d are (all_ascend cells sorted)
+
+few_left : (n low : ℕ) (cells : List (ℕ × Cell)) → low ≤ n → AreBelow n cells → Ascends low cells → low + length cells ≤ n
+few_left n low [] h are asc = omega arith
+few_left n low (e ∷ cells) h are asc = omega (arith, asc.0, are.0, few_left n (e.0 + 1) cells (omega (arith, are.0)) are.1 asc.1)
+
+-- there are at most as many cells as columns
+pub few_cells : (n : ℕ) (cells : List (ℕ × Cell)) → AreBelow n cells → is_sorted nat_cmp cells ≡ true → length cells ≤ n
+few_cells n cells are sorted = omega (arith, few_left n 0 cells (omega arith) are (all_ascend cells sorted))

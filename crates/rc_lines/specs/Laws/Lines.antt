@@ -41,7 +41,7 @@ use Rattle.rc_schema.specs.Lists.{Lists, is_name, is_text, are_distinct_by, are_
 use Rattle.rc_schema.specs.SchemaLaws.{text_reads_back}
 use Rattle.rc_schema.specs.SchemaText.{schema_text}
 use Rattle.rc_spelling.specs.NumberLaws.{signed_back}
-use Rattle.rc_spelling.specs.Printed.{AreBytes, IsComponent, bytes_of_component}
+use Rattle.rc_spelling.specs.Printed.{AreBytes, IsComponent, bytes_of_component, spelled}
 use Rattle.rc_writes.specs.Allowed.{ChangeFits, IsBoundOf, IsRowOf, IsStaticOf}
 use Rattle.rc_writes.specs.Laws.OnePlace.{single-place}
 use Rattle.rc_writes.specs.Single.{IsOnePlace, row_alone, static_alone, range_alone, partition_alone}
@@ -59,7 +59,8 @@ use Rattle.rc_lines.specs.Lines.{pieces_said, is_before, start_said, end_said, c
 use Rattle.rc_lines.specs.Parts.{behind}
 use Rattle.rc_lines.specs.Sayable.{stamped, shape_line, IsKey, IsPrefix, IsLimit, IsStamped, IsNamed, AreCells, IsSayable, IsSayableChange}
 use Rattle.rc_lines.specs.UnderSchema.{component_of, prefix_of, key_under, between, slice_under, by_column, are_columns, is_partition_key, are_short, have_short_values, is_short_slice, key_said, slice_said, is_wrong_change, is_unknown_change, is_short_change, rows_said, mutation_of, refusal_of, unless, meaning}
-use Rattle.rc_lines.specs.Laws.Columns.{AreBelow, columns_back, known, is_named, names_apart}
+use Rattle.rc_lines.specs.Laws.Columns.{AreBelow, columns_back, known, is_named, names_apart, few_cells}
+use Rattle.rc_lines.specs.Laws.Lengths.{IsShortPrefix, spelled_short, partition_short, piece_short, open_short, row_short, static_short, schema_short}
 use Rattle.rc_lines.specs.Laws.Plain.{plain_back}
 use Rattle.rc_lines.specs.Laws.Sayable.{meaning_back}
 
@@ -183,12 +184,17 @@ schema_names schema h =
     let apart = front_distinct schema.statics schema.cols tests.1 in
     ((names.0, apart.0), (names.1, apart.1))
 
-few_kinds : (schema : Lists) → is_schema schema ≡ true → (1 ≤ length schema.ck) × (length schema.ck ≤ 4)
-few_kinds schema h =
+-- how many kinds and columns a schema has
+abbrev AreFew : Lists → Type 0
+AreFew schema = ((1 ≤ length schema.ck) × (length schema.ck ≤ 4)) × ((length schema.statics ≤ 8) × (length schema.cols ≤ 32))
+
+few_names : (schema : Lists) → is_schema schema ≡ true → AreFew schema
+few_names schema h =
     let halves = both (are_few (length schema.ck) (length schema.statics) (length schema.cols)) (are_names (schema.statics ++ schema.cols)) h in
     let few = both (nat_le 1 (length schema.ck) && nat_le (length schema.ck) 4) (nat_le (length schema.statics) 8 && nat_le (length schema.cols) 32) halves.0 in
     let ck = both (nat_le 1 (length schema.ck)) (nat_le (length schema.ck) 4) few.0 in
-    (up_to 1 (length schema.ck) ck.0, up_to (length schema.ck) 4 ck.1)
+    let names = both (nat_le (length schema.statics) 8) (nat_le (length schema.cols) 32) few.1 in
+    ((up_to 1 (length schema.ck) ck.0, up_to (length schema.ck) 4 ck.1), (up_to (length schema.statics) 8 names.0, up_to (length schema.cols) 32 names.1))
 
 -- ---- what is written means the write
 
@@ -329,50 +335,69 @@ row_written key ck names None None (e ∷ cells) line h = refl
 
 -- ---- the commands
 
--- what the line of a write says is sayable, and means the write
+-- what the line of a write says is sayable, and means the write; and the line is not too long
 abbrev IsBack : Lists → List ℕ → Mutation → Type 0
 IsBack schema key m = (line : List ℕ) → shape_line (Written key (change_said schema m)) ≡ Some line
-    → IsSayable (Written key (change_said schema m)) × (meaning schema (Written key (change_said schema m)) ≡ Ok (Put (record { key = key; change = m })))
+    → IsSayable (Written key (change_said schema m)) × ((meaning schema (Written key (change_said schema m)) ≡ Ok (Put (record { key = key; change = m }))) × (length line ≤ 65536))
 
 module _ (schema : Lists) (is : is_schema schema ≡ true) (key : List ℕ) (is_key : IsPartitionKey key) where
+  key_short : length (spelled key) ≤ 192
+  key_short = omega (arith, spelled_short key, up_to (length key) 64 (both (nat_le 1 (length key)) (nat_le (length key) 64) is_key.1).1)
+
   row_back : (ck : List Comp) (row : Row) → ChangeFits schema (row_alone ck row) → IsSayableWrite (row_alone ck row) → IsBack schema key (row_alone ck row)
   row_back ck row fits can line made =
       let fit = All-head (λ e. IsRowOf schema e.0 e.1) (ck, row) [] fits.rows in
       let prefix = prefix_passes true schema ck fit.0 in
       let kinds = both (are_of_kinds ck schema.ck) (length ck == length schema.ck) prefix.0 in
-      let few = few_kinds schema is in
+      let few = few_names schema is in
       let full : length ck ≡ length schema.ck = (let test = kinds.1 in grind (arith, nat_tests)) in
+      let most : length ck ≤ 4 = omega (arith, full, few.0.1) in
       let names = (schema_names schema is).1 in
-      let below = are_below (length schema.cols) row.cells (cells_pass false schema row.cells fit.1).0 in
+      let tests = cells_pass false schema row.cells fit.1 in
+      let below = are_below (length schema.cols) row.cells tests.0 in
+      let count : length row.cells ≤ 32 = omega (arith, few_cells (length schema.cols) row.cells below can.rows.0.1.0, few.1.1) in
       ((key_sayable key is_key,
-        row_sayable (pieces_said ck) schema.cols row.marker row.tomb row row.cells (prefix_sayable ck can.rows.0.0 (omega (arith, full, few.0)) (omega (arith, full, few.1))) names below refl can.rows.0.1.0 can.rows.0.1.1),
-      row_meant schema key ck row names is_key.1 fit can.rows.0.0 can.rows.0.1.0 (row_written key (pieces_said ck) schema.cols row.marker row.tomb row.cells line made))
+        row_sayable (pieces_said ck) schema.cols row.marker row.tomb row row.cells (prefix_sayable ck can.rows.0.0 (omega (arith, full, few.0.0)) most) names below refl can.rows.0.1.0 can.rows.0.1.1),
+      (row_meant schema key ck row names is_key.1 fit can.rows.0.0 can.rows.0.1.0 (row_written key (pieces_said ck) schema.cols row.marker row.tomb row.cells line made),
+      row_short key line key_short schema.cols names.0 few.1.1 ck row.marker row.tomb row.cells (prefix.1, (can.rows.0.0, most)) below tests.1 count can.rows.0.1.1 made))
 
   static_back : (row : Row) → ChangeFits schema (static_alone row) → IsSayableWrite (static_alone row) → IsBack schema key (static_alone row)
   static_back row fits can line made =
+      let few = few_names schema is in
       let names = (schema_names schema is).0 in
-      let below = are_below (length schema.statics) row.cells (cells_pass true schema row.cells fits.statics.2).0 in
+      let tests = cells_pass true schema row.cells fits.statics.2 in
+      let below = are_below (length schema.statics) row.cells tests.0 in
+      let few_columns : length schema.statics ≤ 32 = omega (arith, few.1.0) in
+      let count : length row.cells ≤ 32 = omega (arith, few_cells (length schema.statics) row.cells below can.statics.0, few.1.0) in
       let one : HasOneStamp None None row.cells =
           subst (λ (t : Option Tomb). HasOneStamp None t row.cells) fits.statics.1 (subst (λ (ts : Option ℤ). HasOneStamp ts row.tomb row.cells) fits.statics.0 can.statics.1) in
-      ((key_sayable key is_key, static_sayable schema.statics row row.cells names below refl can.statics.0 one), static_meant schema key row names is_key.1 fits.statics can.statics.0)
+      ((key_sayable key is_key, static_sayable schema.statics row row.cells names below refl can.statics.0 one),
+      (static_meant schema key row names is_key.1 fits.statics can.statics.0,
+      static_short key line key_short schema.statics names.0 few_columns row.cells below tests.1 count one made))
+
+  -- a prefix of the schema's kinds
+  few_components : (prefix : List Comp) → checked_prefix false schema prefix ≡ Ok tt → AreComponents prefix → IsShortPrefix prefix
+  few_components prefix h is_said =
+      let tests = prefix_passes false schema prefix h in
+      let most = at_most prefix schema.ck (both (are_of_kinds prefix schema.ck) true tests.0).0 in
+      (tests.1, (is_said, omega (arith, most, (few_names schema is).0.1)))
 
   bounds_sayable : (from to : Pos) → IsBoundOf schema from → IsBoundOf schema to → AreComponents from.prefix → AreComponents to.prefix → IsBefore from to
       → IsLimit (is_before from.weight) (pieces_said from.prefix) × IsLimit (not (is_before to.weight)) (pieces_said to.prefix)
   bounds_sayable from to f t c d before =
-      let few = (few_kinds schema is).1 in
-      let most = at_most from.prefix schema.ck (both (are_of_kinds from.prefix schema.ck) true (prefix_passes false schema from.prefix f.1).0).0 in
-      let more = at_most to.prefix schema.ck (both (are_of_kinds to.prefix schema.ck) true (prefix_passes false schema to.prefix t.1).0).0 in
-      (start_sayable from to before f.0 c (omega (arith, most, few)), end_sayable from to before t.0 d (omega (arith, more, few)))
+      (start_sayable from to before f.0 c (few_components from.prefix f.1 c).1.1, end_sayable from to before t.0 d (few_components to.prefix t.1 d).1.1)
 
   range_back : (piece : Piece) → ChangeFits schema (range_alone piece) → IsSayableWrite (range_alone piece) → IsBack schema key (range_alone piece)
   range_back piece fits can line made =
       let fit = All-head (λ q. IsBoundOf schema q.from × IsBoundOf schema q.to) piece [] fits.ranges in
       let one = can.ranges.0 in
       let bounds = bounds_sayable piece.from piece.to fit.0 fit.1 one.1.0 one.1.1.0 one.0 in
-      ((key_sayable key is_key, (bounds.0, bounds.1, one.1.1.1)), range_meant schema key piece is_key.1 fit.0 fit.1 one.1.0 one.1.1.0 one.0)
+      ((key_sayable key is_key, (bounds.0, bounds.1, one.1.1.1)),
+      (range_meant schema key piece is_key.1 fit.0 fit.1 one.1.0 one.1.1.0 one.0,
+      piece_short key line key_short piece.from piece.to piece.tomb (few_components piece.from.prefix fit.0.1 one.1.0) (few_components piece.to.prefix fit.1.1 one.1.1.0) one.1.1.1 made))
 
   partition_back : (tomb : Tomb) → IsSayableWrite (partition_alone tomb) → IsBack schema key (partition_alone tomb)
-  partition_back tomb can line made = ((key_sayable key is_key, can.pt), partition_meant schema key tomb is_key.1)
+  partition_back tomb can line made = ((key_sayable key is_key, can.pt), (partition_meant schema key tomb is_key.1, partition_short key line key_short tomb can.pt made))
 
   place_back : (m : Mutation) → IsOnePlace m → ChangeFits schema m → IsSayableWrite m → IsBack schema key m
   place_back m (inl (ck, row, e)) = subst (λ (m : Mutation). ChangeFits schema m → IsSayableWrite m → IsBack schema key m) (sym e) (row_back ck row)
@@ -395,33 +420,36 @@ module _ (schema : Lists) (is : is_schema schema ≡ true) (key : List ℕ) (is_
 same_line : (made line : List ℕ) → ◌≡◌ {A = Option (List ℕ)} (Some made) (Some line) → made ≡ line
 same_line made line e = cc
 
-schema_back : (schema lists : Lists) (line : List ℕ) → is_schema lists ≡ true → command_line schema (SetSchema lists) ≡ Some line → length line ≤ longest_line → parse (Some schema) line ≡ Ok (SetSchema lists)
+schema_back : (schema lists : Lists) (line : List ℕ) → is_schema lists ≡ true → command_line schema (SetSchema lists) ≡ Some line → parse (Some schema) line ≡ Ok (SetSchema lists)
 unfolding parse schema_said behind
-schema_back schema lists line is e short =
+schema_back schema lists line is e =
+    let few = few_names lists is in
+    let names = schema_names lists is in
     let made : codes "schema " ++ schema_text lists ≡ line = same_line (codes "schema " ++ schema_text lists) line e in
     let fits : nat_lt longest_line (length (codes "schema " ++ schema_text lists)) ≡ false =
-        (let few : length (codes "schema " ++ schema_text lists) ≤ longest_line = subst (λ (l : List ℕ). length l ≤ longest_line) (sym made) short in grind (arith, nat_tests)) in
+        (let short : length (codes "schema " ++ schema_text lists) ≤ 65536 = schema_short lists few.0.1 few.1.0 few.1.1 names.0.0 names.1.0 in grind (arith, nat_tests)) in
     subst (λ (l : List ℕ). parse (Some schema) l ≡ Ok (SetSchema lists)) made
     ((λ i. if fits i then Err BadLine else said (Some schema) (codes "schema " ++ schema_text lists) (text_reads_back lists is i)))
 
 -- the line of a command that fits the schema is read back as it
-pub command_back : (schema : Lists) (command : Command) (line : List ℕ) → is_schema schema ≡ true → Fits schema command → IsSayableCommand command → command_line schema command ≡ Some line → length line ≤ longest_line
+pub command_back : (schema : Lists) (command : Command) (line : List ℕ) → is_schema schema ≡ true → Fits schema command → IsSayableCommand command → command_line schema command ≡ Some line
     → parse (Some schema) line ≡ Ok command
-command_back schema Nothing line is fits can e short = plain_back schema Nothing line e can
-command_back schema (SetSchema lists) line is fits can e short = schema_back schema lists line can e short
-command_back schema (Put write) line is fits can e short =
+command_back schema Nothing line is fits can e = plain_back schema Nothing line e can
+command_back schema (SetSchema lists) line is fits can e = schema_back schema lists line can e
+command_back schema (Put write) line is fits can e =
     let back = place_back schema is write.key can.0 write.change (single-place write.change fits.0) fits.1 can.1 line e in
-    meaning_back (Some schema) (Written write.key (change_said schema write.change)) line e back.0 short ∙ back.1
-command_back schema (OpenRead id key slice) line is fits can e short =
+    meaning_back (Some schema) (Written write.key (change_said schema write.change)) line e back.0 back.1.1 ∙ back.1.0
+command_back schema (OpenRead id key slice) line is fits can e =
     let bounds = bounds_sayable schema is key can.1.0 slice.from slice.to fits.1 fits.2 can.1.1.0 can.1.1.1 fits.0 in
+    let short = open_short key line (key_short schema is key can.1.0) id slice.from slice.to can.0 (few_components schema is key can.1.0 slice.from.prefix fits.1.1 can.1.1.0) (few_components schema is key can.1.0 slice.to.prefix fits.2.1 can.1.1.1) e in
     meaning_back (Some schema) (Open id key (start_said slice.from) (end_said slice.to)) line e (can.0, key_sayable key can.1.0, bounds.0, bounds.1) short
     ∙ open_meant schema is key can.1.0 id slice fits can.1.1.0 can.1.1.1
-command_back schema (Read id count) line is fits can e short = plain_back schema (Read id count) line e can
-command_back schema (Close id) line is fits can e short = plain_back schema (Close id) line e can
-command_back schema Flush line is fits can e short = plain_back schema Flush line e can
-command_back schema FlushBegin line is fits can e short = plain_back schema FlushBegin line e can
-command_back schema (FlushStep count) line is fits can e short = plain_back schema (FlushStep count) line e can
-command_back schema (Evict count) line is fits can e short = plain_back schema (Evict count) line e can
-command_back schema (Compact count) line is fits can e short = plain_back schema (Compact count) line e can
-command_back schema (Clean count) line is fits can e short = plain_back schema (Clean count) line e can
-command_back schema Stats line is fits can e short = plain_back schema Stats line e can
+command_back schema (Read id count) line is fits can e = plain_back schema (Read id count) line e can
+command_back schema (Close id) line is fits can e = plain_back schema (Close id) line e can
+command_back schema Flush line is fits can e = plain_back schema Flush line e can
+command_back schema FlushBegin line is fits can e = plain_back schema FlushBegin line e can
+command_back schema (FlushStep count) line is fits can e = plain_back schema (FlushStep count) line e can
+command_back schema (Evict count) line is fits can e = plain_back schema (Evict count) line e can
+command_back schema (Compact count) line is fits can e = plain_back schema (Compact count) line e can
+command_back schema (Clean count) line is fits can e = plain_back schema (Clean count) line e can
+command_back schema Stats line is fits can e = plain_back schema Stats line e can
