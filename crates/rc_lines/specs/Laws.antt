@@ -1,4 +1,5 @@
 -- Laws of lines, for crates above to cite.
+pub mod Halves
 pub mod Fitting
 pub mod Said
 pub mod Tests

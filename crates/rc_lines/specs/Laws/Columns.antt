@@ -1,5 +1,5 @@
 -- Cells with the names of their columns are put back into the columns of these names.
-use Rattle.std.proofs.Common.{◌≡◌, ◌≤◌, ◌<◌, ℕ, zero, suc, ◌+◌, Bool, true, false, cond, not, ◌&&◌, ◌||◌, ◌==◌, nat_eq, nat_lt, List, [], ◌∷◌, ◌++◌, length, get_or, refl, sym, subst, ap, ◌∙◌, arith, append_assoc}
+use Rattle.std.proofs.Common.{◌≡◌, ◌≤◌, ◌<◌, ℕ, zero, suc, ◌+◌, Bool, true, false, cond, not, ◌||◌, ◌==◌, nat_eq, nat_lt, List, [], ◌∷◌, ◌++◌, length, get_or, refl, sym, subst, ap, ◌∙◌, arith, append_assoc}
 use Rattle.std.specs.Prelude.{if◌then◌else◌, map as list_map}
 use Rattle.std.specs.declared.option.Option.{Option}
 use Rattle.std.specs.declared.option.Option.TheVariants.{Some, None}
@@ -16,10 +16,7 @@ use Rattle.rc_schema.specs.Lists.{is_text, is_name, are_distinct_by}
 use Rattle.rc_lines.specs.Lines.{cells_said}
 use Rattle.rc_lines.specs.Parts.{are_distinct}
 use Rattle.rc_lines.specs.UnderSchema.{cell_named, columns_from, by_column, are_columns}
-
-both : (b c : Bool) → b && c ≡ true → (b ≡ true) × (c ≡ true)
-both true c h = (refl, h)
-both false c h = absurd (cc)
+use Rattle.rc_lines.specs.Laws.Halves.{both}
 
 -- ---- names that are distinct
 
@@ -97,7 +94,7 @@ to_numbers : (names front rest : List (List ℕ)) (column : ℕ) (cells : List (
 to_numbers names front [] column cells d are e at = refl
 to_numbers names front (name ∷ rest) column cells d are e at =
     let seam : (get_or names column [] ≡ name) × (column < length names) =
-        subst (λ (n : ℕ). (get_or names n [] ≡ name) × (n < length names)) (sym at) (subst (λ (all : List (List ℕ)). (get_or all (length front) [] ≡ name) × (length front < length all)) e (at_seam front name rest)) in
+    subst (λ (n : ℕ). (get_or names n [] ≡ name) × (n < length names)) (sym at) (subst (λ (all : List (List ℕ)). (get_or all (length front) [] ≡ name) × (length front < length all)) e (at_seam front name rest)) in
     let here : cell_named name (cells_said names cells) ≡ cell_at column cells = ap (λ n. cell_named n (cells_said names cells)) (sym seam.0) ∙ by_number names column cells d seam.1 are in
     let next : column + 1 ≡ length (front ++ name ∷ []) = ap (λ (n : ℕ). n + 1) at ∙ one_more front name in
     let more = to_numbers names (front ++ name ∷ []) rest (column + 1) cells d are (append_assoc front (name ∷ []) rest ∙ e) next in
@@ -158,7 +155,7 @@ all_found column (name ∷ names) (e ∷ cells) asc are =
       | true ↦ λ t. (let same : e.0 ≡ column = grind (arith, nat_tests) in
           let here : cell_at column (e ∷ cells) ≡ Some e.1 = ap (λ b. cond b (Some e.1) (cell_at column cells)) t in
           let rest : cells_from (column + 1) names (e ∷ cells) ≡ cells =
-              passed (column + 1) names e cells (omega (arith, same)) ∙ all_found (column + 1) names cells (subst (λ (n : ℕ). Ascends (n + 1) cells) same asc.1) below.1 in
+          passed (column + 1) names e cells (omega (arith, same)) ∙ all_found (column + 1) names cells (subst (λ (n : ℕ). Ascends (n + 1) cells) same asc.1) below.1 in
           (λ i. option_to_list (option_map (λ cell. (column, cell)) (here i)) ++ rest i) ∙ ap (λ (n : ℕ). (n, e.1) ∷ cells) (sym same))
       | false ↦ λ f. (let more : column + 1 ≤ e.0 = (let least : column ≤ e.0 = asc.0 in grind (arith, nat_tests)) in
           let here : cell_at column (e ∷ cells) ≡ None = none_at column (column + 1) (e ∷ cells) (omega arith) (more, asc.1) in
@@ -194,13 +191,10 @@ known names (e ∷ cells) are =
     let here : is_some (column_of name names) ≡ true = some_if (prefix_len (λ other. not (is_text other name)) names) (length names) (found_at name names e.0 are.0 (same_name name)) in
     rw here (known names cells are.1)
 
-name_at : (names : List (List ℕ)) (j : ℕ) → list_all is_name names ≡ true → j < length names → is_name (get_or names j []) ≡ true
+pub name_at : (names : List (List ℕ)) (j : ℕ) → list_all is_name names ≡ true → j < length names → is_name (get_or names j []) ≡ true
 name_at [] j h within = absurd (omega arith)
 name_at (name ∷ names) zero h within = (both (is_name name) (list_all is_name names) h).0
 name_at (name ∷ names) (suc j) h within = name_at names j (both (is_name name) (list_all is_name names) h).1 (omega arith)
-
-pub is_named : (names : List (List ℕ)) (column : ℕ) → list_all is_name names ≡ true → column < length names → is_name (get_or names column []) ≡ true
-is_named names column h within = name_at names column h within
 
 no_other : (names : List (List ℕ)) (column low : ℕ) (cells : List (ℕ × Cell)) → are_distinct_by is_text names ≡ true → column < length names → AreBelow (length names) cells → column < low → Ascends low cells
     → list_any (is_text (get_or names column [])) (list_map (λ e. e.0) (cells_said names cells)) ≡ false

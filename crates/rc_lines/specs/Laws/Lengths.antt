@@ -1,15 +1,12 @@
 -- The line of a command that fits the schema is not too long.
-use Rattle.std.proofs.Common.{◌≡◌, ◌≤◌, ◌<◌, ◌^◌, ◌*◌, ◌/◌, ◌%◌, ℕ, ℤ, pos, negsuc, suc, ◌+◌, Bool, true, false, cond, not, ◌&&◌, ◌||◌, nat_le, List, [], ◌∷◌, ◌++◌, flat_map, length, get_or, refl, subst, ◌∙◌, arith}
+use Rattle.std.proofs.Common.{◌≡◌, ◌≤◌, ◌*◌, ◌/◌, ◌%◌, ℕ, ℤ, pos, negsuc, suc, ◌+◌, Bool, true, false, cond, not, ◌&&◌, ◌||◌, nat_le, List, [], ◌∷◌, ◌++◌, flat_map, length, get_or, subst, arith}
 use Rattle.std.specs.Prelude.{codes, map as list_map}
 use Rattle.std.specs.declared.option.Option.{Option}
 use Rattle.std.specs.declared.option.Option.TheVariants.{Some, None}
 use Rattle.std.specs.Fmt.{decimal, signed_decimal}
-use Rattle.std.specs.FinMap.{is_sorted}
 use Rattle.std.specs.Int.{w64}
 use Rattle.std.specs.Int.RustNames.{FitsSigned}
-use Rattle.std.specs.List.{AllByRecursion, list_all, join_with_byte}
-use Rattle.std.specs.Ordering.{nat_cmp}
-use Rattle.std.proofs.lemmas.Bool.Decides.{nat_tests}
+use Rattle.std.specs.List.{list_all, join_with_byte}
 use Rattle.std.proofs.lemmas.Fmt.{length-decimal-le}
 use Rattle.std.proofs.lemmas.Int.{ints}
 use Rattle.std.proofs.lemmas.List.{length-append}
@@ -26,23 +23,17 @@ use Rattle.rc_schema.specs.declared.kinds.CkKind.{CkKind}
 use Rattle.rc_schema.specs.declared.kinds.CkKind.TheVariants.{Int, Text}
 use Rattle.rc_schema.specs.Lists.{Lists, is_name, is_name_byte}
 use Rattle.rc_schema.specs.SchemaText.{kind_text, kinds_text, names_text, schema_text}
-use Rattle.rc_spelling.specs.Printed.{AreBytes, IsComponent, bytes_of_component, stands_for_itself, hexadecimal, spelled_byte, spelled, text_component, other_component}
+use Rattle.rc_spelling.specs.Printed.{IsComponent, bytes_of_component, stands_for_itself, hexadecimal, spelled_byte, spelled, text_component, other_component}
 use Rattle.rc_lines.specs.declared.shapes.Change.TheVariants.{OfRow, OfStatic, OfRange, OfPartition}
 use Rattle.rc_lines.specs.declared.shapes.Shape.TheVariants.{Open, Written}
 use Rattle.rc_lines.specs.declared.shapes.Stamp.{Stamp}
 use Rattle.rc_lines.specs.declared.shapes.Stamp.TheVariants.{Alive, Gone}
-use Rattle.rc_lines.specs.Lines.{pieces_said, is_before, start_said, end_said, cells_said, AreComponents, AreStamped, HasOneStamp}
+use Rattle.rc_lines.specs.Lines.{pieces_said, is_before, start_said, end_said, cells_said, AreComponents, HasOneStamp}
 use Rattle.rc_lines.specs.Plain.{IsCount}
 use Rattle.rc_lines.specs.Sayable.{prefix_word, from_text, to_text, range_words, slice_words, stamp_words, stamped, behind_name, cell_word, cells_words, cells_verb, shape_line, IsStamp}
 use Rattle.rc_lines.specs.UnderSchema.{are_short, have_short_values}
-use Rattle.rc_lines.specs.Laws.Columns.{AreBelow, is_named}
-
-both : (b c : Bool) → b && c ≡ true → (b ≡ true) × (c ≡ true)
-both true c h = (refl, h)
-both false c h = absurd (cc)
-
-up_to : (n m : ℕ) → nat_le n m ≡ true → n ≤ m
-up_to n m h = grind (arith, nat_tests)
+use Rattle.rc_lines.specs.Laws.Columns.{AreBelow, name_at}
+use Rattle.rc_lines.specs.Laws.Halves.{both, up_to}
 
 -- ---- words
 
@@ -98,15 +89,23 @@ others_short : (prefix : List Comp) → are_short prefix ≡ true → AreCompone
 others_short [] h is = omega arith
 others_short (component ∷ prefix) h is =
     let halves = both (is_short component) (list_all is_short prefix) h in
-    omega (arith, length-append (text_component (bytes_of_component component)) (flat_map other_component (list_map (λ piece. comps.Text piece) (pieces_said prefix))),
-      component_short component halves.0 is.0, others_short prefix halves.1 is.1)
+    omega (
+      arith,
+      length-append (text_component (bytes_of_component component)) (flat_map other_component (list_map (λ piece. comps.Text piece) (pieces_said prefix))),
+      component_short component halves.0 is.0,
+      others_short prefix halves.1 is.1,
+    )
 
 pub prefix_short : (prefix : List Comp) → are_short prefix ≡ true → AreComponents prefix → length (prefix_word (pieces_said prefix)) ≤ 195 * length prefix
 prefix_short [] h is = omega arith
 prefix_short (component ∷ prefix) h is =
     let halves = both (is_short component) (list_all is_short prefix) h in
-    omega (arith, length-append (text_component (bytes_of_component component)) (flat_map other_component (list_map (λ piece. comps.Text piece) (pieces_said prefix))),
-      component_short component halves.0 is.0, others_short prefix halves.1 is.1)
+    omega (
+      arith,
+      length-append (text_component (bytes_of_component component)) (flat_map other_component (list_map (λ piece. comps.Text piece) (pieces_said prefix))),
+      component_short component halves.0 is.0,
+      others_short prefix halves.1 is.1,
+    )
 
 from_short : (inclusive : Bool) (prefix : List Comp) → are_short prefix ≡ true → AreComponents prefix → length (from_text inclusive (pieces_said prefix)) ≤ 195 * length prefix + 1
 from_short inclusive [] h is = omega arith
@@ -159,7 +158,7 @@ cells_short : (names : List (List ℕ)) (cells : List (ℕ × Cell)) → list_al
 cells_short names [] h below short = omega arith
 cells_short names (e ∷ cells) h below short =
     let halves = both (has_short_value e.1) (list_all (λ e. has_short_value e.1) cells) short in
-    omega (arith, length-append (get_or names e.0 []) (behind_name e.1), name_short (get_or names e.0 []) (is_named names e.0 h below.0), value_short e.1 halves.0, cells_short names cells h below.1 halves.1)
+    omega (arith, length-append (get_or names e.0 []) (behind_name e.1), name_short (get_or names e.0 []) (name_at names e.0 h below.0), value_short e.1 halves.0, cells_short names cells h below.1 halves.1)
 
 -- ---- the lines
 
@@ -227,5 +226,14 @@ names_short (name ∷ names) h = omega (arith, joined_short 44 (name ∷ names),
 pub schema_short : (s : Lists) → length s.ck ≤ 4 → length s.statics ≤ 8 → length s.cols ≤ 32 → list_all is_name s.statics ≡ true → list_all is_name s.cols ≡ true → length (codes "schema " ++ schema_text s) ≤ 65536
 unfolding schema_text
 schema_short s ck statics cols p q =
-    omega (arith, joined_short 32 ((codes "ck=" ++ kinds_text s.ck) ∷ (codes "static=" ++ names_text s.statics) ∷ (codes "cols=" ++ names_text s.cols) ∷ []),
-      joined_short 44 (list_map kind_text s.ck), kinds_short s.ck, names_short s.statics p, names_short s.cols q, ck, statics, cols)
+    omega (
+      arith,
+      joined_short 32 ((codes "ck=" ++ kinds_text s.ck) ∷ (codes "static=" ++ names_text s.statics) ∷ (codes "cols=" ++ names_text s.cols) ∷ []),
+      joined_short 44 (list_map kind_text s.ck),
+      kinds_short s.ck,
+      names_short s.statics p,
+      names_short s.cols q,
+      ck,
+      statics,
+      cols,
+    )

@@ -1,6 +1,6 @@
 -- The line of a command that fits the schema is read back as it.
-use Rattle.std.proofs.Common.{◌≡◌, ◌≢◌, ◌≤◌, ◌<◌, ◌^◌, ℕ, ℤ, pos, negsuc, zero, suc, ◌+◌, Bool, true, false, not, ◌&&◌, ◌||◌, ◌==◌, nat_lt, nat_le, List, [], ◌∷◌, ◌++◌, length, refl, sym, subst, ap, ◌∙◌, inl, inr, arith}
-use Rattle.std.specs.Prelude.{codes, map as list_map, if◌then◌else◌, option_and_then, Result, Ok, Err, IfSome}
+use Rattle.std.proofs.Common.{◌≡◌, ◌≢◌, ◌≤◌, ◌<◌, ◌^◌, ℕ, ℤ, pos, negsuc, suc, Bool, true, false, not, ◌&&◌, ◌||◌, ◌==◌, nat_lt, nat_le, List, [], ◌∷◌, ◌++◌, length, refl, sym, subst, ap, ◌∙◌, inl, inr, arith}
+use Rattle.std.specs.Prelude.{codes, if◌then◌else◌, option_and_then, Result, Ok, Err}
 use Rattle.std.specs.declared.option.Option.{Option}
 use Rattle.std.specs.declared.option.Option.TheVariants.{Some, None}
 use Rattle.std.specs.declared.cmp.Ordering.TheVariants.{Less}
@@ -9,7 +9,7 @@ use Rattle.std.specs.FinMap.{is_sorted}
 use Rattle.std.specs.Int.{w64}
 use Rattle.std.specs.Int.RustNames.{FitsSigned}
 use Rattle.std.specs.List.{AllByRecursion, list_all, list_any}
-use Rattle.std.specs.Option.{option_map, is_none, is_some, unwrap_or}
+use Rattle.std.specs.Option.{option_map, is_none, unwrap_or}
 use Rattle.std.specs.Ordering.{nat_cmp, is_lt}
 use Rattle.std.specs.Str.Parse.{AllDigits}
 use Rattle.std.proofs.lemmas.Bool.Decides.{nat_tests}
@@ -19,7 +19,6 @@ use Rattle.std.proofs.lemmas.List.Elements.{All-head}
 use Rattle.std.proofs.lemmas.Str.Parse.{digit_from_value}
 use Rattle.rc_cell.specs.declared.rows.Row.{Row}
 use Rattle.rc_cell.specs.declared.writes.Cell.{Cell}
-use Rattle.rc_cell.specs.declared.writes.Cell.TheVariants.{Live, Dead}
 use Rattle.rc_cell.specs.declared.writes.Tomb.{Tomb}
 use Rattle.rc_cell.specs.Winner.{empty_row, IsRow}
 use Rattle.rc_mutation.specs.declared.mutations.Mutation.{Mutation}
@@ -49,27 +48,21 @@ use Rattle.rc_lines.specs.declared.commands.Command.{Command}
 use Rattle.rc_lines.specs.declared.commands.Command.TheVariants.{Nothing, SetSchema, Put, OpenRead, Read, Close, Flush, FlushBegin, FlushStep, Evict, Compact, Clean, Stats}
 use Rattle.rc_lines.specs.declared.commands.Refusal.TheVariants.{BadLine, WrongKey, UnknownColumn, TooLong}
 use Rattle.rc_lines.specs.declared.shapes.Change.{Change}
-use Rattle.rc_lines.specs.declared.shapes.Change.TheVariants.{OfRow, OfStatic, OfRange, OfPartition}
+use Rattle.rc_lines.specs.declared.shapes.Change.TheVariants.{OfRow, OfStatic, OfPartition}
 use Rattle.rc_lines.specs.declared.shapes.Shape.TheVariants.{Open, Written}
 use Rattle.rc_lines.specs.declared.shapes.Stamp.{Stamp}
-use Rattle.rc_lines.specs.declared.shapes.Stamp.TheVariants.{Alive, Gone}
+use Rattle.rc_lines.specs.declared.shapes.Stamp.TheVariants.{Alive}
 use Rattle.rc_lines.specs.Fits.{Fits}
-use Rattle.rc_lines.specs.Grammar.{longest_line, is_comment, schema_said, said, parse}
-use Rattle.rc_lines.specs.Lines.{pieces_said, is_before, start_said, end_said, cells_said, change_said, command_line, IsPartitionKey, AreComponents, AreStamped, HasOneStamp, IsSayableRow, IsSayableWrite, IsSayableCommand}
+use Rattle.rc_lines.specs.Grammar.{longest_line, schema_said, said, parse}
+use Rattle.rc_lines.specs.Lines.{pieces_said, is_before, start_said, end_said, cells_said, change_said, command_line, IsPartitionKey, AreComponents, AreStamped, HasOneStamp, IsSayableWrite, IsSayableCommand}
 use Rattle.rc_lines.specs.Parts.{behind}
 use Rattle.rc_lines.specs.Sayable.{stamped, shape_line, IsKey, IsPrefix, IsLimit, IsStamped, IsNamed, AreCells, IsSayable, IsSayableChange}
-use Rattle.rc_lines.specs.UnderSchema.{component_of, prefix_of, key_under, between, slice_under, by_column, are_columns, is_partition_key, are_short, have_short_values, is_short_slice, key_said, slice_said, is_wrong_change, is_unknown_change, is_short_change, rows_said, mutation_of, refusal_of, unless, meaning}
-use Rattle.rc_lines.specs.Laws.Columns.{AreBelow, columns_back, known, is_named, names_apart, few_cells}
+use Rattle.rc_lines.specs.UnderSchema.{component_of, prefix_of, key_under, between, slice_under, by_column, is_partition_key, are_short, have_short_values, is_short_slice, is_wrong_change, is_unknown_change, is_short_change, rows_said, mutation_of, refusal_of, unless, meaning}
+use Rattle.rc_lines.specs.Laws.Columns.{AreBelow, columns_back, known, name_at, names_apart, few_cells}
 use Rattle.rc_lines.specs.Laws.Lengths.{IsShortPrefix, spelled_short, partition_short, piece_short, open_short, row_short, static_short, schema_short}
 use Rattle.rc_lines.specs.Laws.Plain.{plain_back}
 use Rattle.rc_lines.specs.Laws.Sayable.{meaning_back}
-
-both : (b c : Bool) → b && c ≡ true → (b ≡ true) × (c ≡ true)
-both true c h = (refl, h)
-both false c h = absurd (cc)
-
-join : (b c : Bool) → b ≡ true → c ≡ true → b && c ≡ true
-join b c p q = rw (p, q) refl
+use Rattle.rc_lines.specs.Laws.Halves.{both, join, up_to}
 
 -- ---- keys, prefixes and slices are put back
 
@@ -140,9 +133,6 @@ cells_pass is_static schema cells h = passes (list_all (λ e. nat_lt e.0 (column
 
 within : (n m : ℕ) → nat_lt n m ≡ true → n < m
 within n m h = grind (arith, nat_tests)
-
-up_to : (n m : ℕ) → nat_le n m ≡ true → n ≤ m
-up_to n m h = grind (arith, nat_tests)
 
 are_below : (n : ℕ) (cells : List (ℕ × Cell)) → list_all (λ e. nat_lt e.0 n) cells ≡ true → AreBelow n cells
 are_below n [] h = tt
@@ -215,7 +205,7 @@ row_meant schema key ck row names short_key is comps_are sorted written =
     written_back schema key (change_said schema (row_alone ck row)) (row_alone ck row) (ap is_none p) (ap not (known schema.cols row.cells below)) short_key
     ((λ i. are_short (unwrap_or (p i) []) && have_short_values (q i)) ∙ join (are_short ck) (have_short_values row.cells) prefix.1 tests.1)
     ((λ i. record { pt = None; statics = empty_row; rows = rows_said (unwrap_or (p i) []) (record { marker = row.marker; tomb = row.tomb; cells = q i }); ranges = [] })
-      ∙ ap (λ b. record { pt = None; statics = empty_row; rows = if b then (ck, row) ∷ [] else []; ranges = [] }) written)
+    ∙ ap (λ b. record { pt = None; statics = empty_row; rows = if b then (ck, row) ∷ [] else []; ranges = [] }) written)
 
 static_meant : (schema : Lists) (key : List ℕ) (row : Row) → AreNames schema.statics → is_partition_key key ≡ true → IsStaticOf schema row → IsRow row
     → meaning schema (Written key (change_said schema (static_alone row))) ≡ Ok (Put (record { key = key; change = static_alone row }))
@@ -233,7 +223,7 @@ range_meant schema key piece short_key f t c d before =
     let from = prefix_passes false schema piece.from.prefix f.1 in
     let to = prefix_passes false schema piece.to.prefix t.1 in
     let p : slice_under (start_said piece.from) (end_said piece.to) schema.ck ≡ Some (record { from = piece.from; to = piece.to }) =
-        slice_back piece.from piece.to schema.ck (both _ _ from.0).0 (both _ _ to.0).0 f.0 t.0 c d before in
+    slice_back piece.from piece.to schema.ck (both _ _ from.0).0 (both _ _ to.0).0 f.0 t.0 c d before in
     written_back schema key (change_said schema (range_alone piece)) (range_alone piece) (ap is_none p) refl short_key
     ((λ i. is_short_slice (unwrap_or (p i) whole)) ∙ join (are_short piece.from.prefix) (are_short piece.to.prefix) from.1 to.1)
     (λ i. record { pt = None; statics = empty_row; rows = []; ranges = record { from = (unwrap_or (p i) whole).from; to = (unwrap_or (p i) whole).to; tomb = piece.tomb } ∷ [] })
@@ -304,7 +294,7 @@ end_sayable from to before out is few =
 named_cells : (stamp : Stamp) (names : List (List ℕ)) (cells : List (ℕ × Cell)) → list_all is_name names ≡ true → AreBelow (length names) cells → AllByRecursion (λ e. IsStamped stamp e.1) cells
     → AllByRecursion (IsNamed stamp) (cells_said names cells)
 named_cells stamp names [] h below are = tt
-named_cells stamp names (e ∷ cells) h below are = ((is_named names e.0 h below.0, are.0), named_cells stamp names cells h below.1 are.1)
+named_cells stamp names (e ∷ cells) h below are = ((name_at names e.0 h below.0, are.0), named_cells stamp names cells h below.1 are.1)
 
 cells_sayable : (stamp : Stamp) (names : List (List ℕ)) (row : Row) (cells : List (ℕ × Cell)) → AreNames names → AreBelow (length names) cells → row.cells ≡ cells → IsRow row → AreStamped stamp cells
     → AreCells stamp (cells_said names cells)
@@ -355,11 +345,16 @@ module _ (schema : Lists) (is : is_schema schema ≡ true) (key : List ℕ) (is_
       let names = (schema_names schema is).1 in
       let tests = cells_pass false schema row.cells fit.1 in
       let below = are_below (length schema.cols) row.cells tests.0 in
-      let count : length row.cells ≤ 32 = omega (arith, few_cells (length schema.cols) row.cells below can.rows.0.1.0, few.1.1) in
-      ((key_sayable key is_key,
-        row_sayable (pieces_said ck) schema.cols row.marker row.tomb row row.cells (prefix_sayable ck can.rows.0.0 (omega (arith, full, few.0.0)) most) names below refl can.rows.0.1.0 can.rows.0.1.1),
-      (row_meant schema key ck row names is_key.1 fit can.rows.0.0 can.rows.0.1.0 (row_written key (pieces_said ck) schema.cols row.marker row.tomb row.cells line made),
-      row_short key line key_short schema.cols names.0 few.1.1 ck row.marker row.tomb row.cells (prefix.1, (can.rows.0.0, most)) below tests.1 count can.rows.0.1.1 made))
+      let count : length row.cells ≤ 32 = omega (arith, few_cells (length schema.cols) row.cells below can.rows.0.1.0, few.1.1) in (
+        (
+          key_sayable key is_key,
+          row_sayable (pieces_said ck) schema.cols row.marker row.tomb row row.cells (prefix_sayable ck can.rows.0.0 (omega (arith, full, few.0.0)) most) names below refl can.rows.0.1.0 can.rows.0.1.1,
+        ),
+        (
+          row_meant schema key ck row names is_key.1 fit can.rows.0.0 can.rows.0.1.0 (row_written key (pieces_said ck) schema.cols row.marker row.tomb row.cells line made),
+          row_short key line key_short schema.cols names.0 few.1.1 ck row.marker row.tomb row.cells (prefix.1, (can.rows.0.0, most)) below tests.1 count can.rows.0.1.1 made,
+        ),
+      )
 
   static_back : (row : Row) → ChangeFits schema (static_alone row) → IsSayableWrite (static_alone row) → IsBack schema key (static_alone row)
   static_back row fits can line made =
@@ -370,10 +365,13 @@ module _ (schema : Lists) (is : is_schema schema ≡ true) (key : List ℕ) (is_
       let few_columns : length schema.statics ≤ 32 = omega (arith, few.1.0) in
       let count : length row.cells ≤ 32 = omega (arith, few_cells (length schema.statics) row.cells below can.statics.0, few.1.0) in
       let one : HasOneStamp None None row.cells =
-          subst (λ (t : Option Tomb). HasOneStamp None t row.cells) fits.statics.1 (subst (λ (ts : Option ℤ). HasOneStamp ts row.tomb row.cells) fits.statics.0 can.statics.1) in
-      ((key_sayable key is_key, static_sayable schema.statics row row.cells names below refl can.statics.0 one),
-      (static_meant schema key row names is_key.1 fits.statics can.statics.0,
-      static_short key line key_short schema.statics names.0 few_columns row.cells below tests.1 count one made))
+      subst (λ (t : Option Tomb). HasOneStamp None t row.cells) fits.statics.1 (subst (λ (ts : Option ℤ). HasOneStamp ts row.tomb row.cells) fits.statics.0 can.statics.1) in (
+        (key_sayable key is_key, static_sayable schema.statics row row.cells names below refl can.statics.0 one),
+        (
+          static_meant schema key row names is_key.1 fits.statics can.statics.0,
+          static_short key line key_short schema.statics names.0 few_columns row.cells below tests.1 count one made,
+        ),
+      )
 
   -- a prefix of the schema's kinds
   few_components : (prefix : List Comp) → checked_prefix false schema prefix ≡ Ok tt → AreComponents prefix → IsShortPrefix prefix
@@ -391,10 +389,13 @@ module _ (schema : Lists) (is : is_schema schema ≡ true) (key : List ℕ) (is_
   range_back piece fits can line made =
       let fit = All-head (λ q. IsBoundOf schema q.from × IsBoundOf schema q.to) piece [] fits.ranges in
       let one = can.ranges.0 in
-      let bounds = bounds_sayable piece.from piece.to fit.0 fit.1 one.1.0 one.1.1.0 one.0 in
-      ((key_sayable key is_key, (bounds.0, bounds.1, one.1.1.1)),
-      (range_meant schema key piece is_key.1 fit.0 fit.1 one.1.0 one.1.1.0 one.0,
-      piece_short key line key_short piece.from piece.to piece.tomb (few_components piece.from.prefix fit.0.1 one.1.0) (few_components piece.to.prefix fit.1.1 one.1.1.0) one.1.1.1 made))
+      let bounds = bounds_sayable piece.from piece.to fit.0 fit.1 one.1.0 one.1.1.0 one.0 in (
+        (key_sayable key is_key, (bounds.0, bounds.1, one.1.1.1)),
+        (
+          range_meant schema key piece is_key.1 fit.0 fit.1 one.1.0 one.1.1.0 one.0,
+          piece_short key line key_short piece.from piece.to piece.tomb (few_components piece.from.prefix fit.0.1 one.1.0) (few_components piece.to.prefix fit.1.1 one.1.1.0) one.1.1.1 made,
+        ),
+      )
 
   partition_back : (tomb : Tomb) → IsSayableWrite (partition_alone tomb) → IsBack schema key (partition_alone tomb)
   partition_back tomb can line made = ((key_sayable key is_key, can.pt), (partition_meant schema key tomb is_key.1, partition_short key line key_short tomb can.pt made))
@@ -412,7 +413,7 @@ module _ (schema : Lists) (is : is_schema schema ≡ true) (key : List ℕ) (is_
       let from = prefix_passes false schema slice.from.prefix fits.1.1 in
       let to = prefix_passes false schema slice.to.prefix fits.2.1 in
       let p : slice_under (start_said slice.from) (end_said slice.to) schema.ck ≡ Some slice =
-          slice_back slice.from slice.to schema.ck (both (are_of_kinds slice.from.prefix schema.ck) true from.0).0 (both (are_of_kinds slice.to.prefix schema.ck) true to.0).0 fits.1.0 fits.2.0 c d fits.0 in
+      slice_back slice.from slice.to schema.ck (both (are_of_kinds slice.from.prefix schema.ck) true from.0).0 (both (are_of_kinds slice.to.prefix schema.ck) true to.0).0 fits.1.0 fits.2.0 c d fits.0 in
       let short = join (are_short slice.from.prefix) (are_short slice.to.prefix) from.1 to.1 in
       (λ i. unless (if is_none (p i) then Some WrongKey else if is_key.1 i && is_short_slice (unwrap_or (p i) whole) then None else Some TooLong) (OpenRead id key (unwrap_or (p i) whole)))
       ∙ (λ i. unless (if short i then None else Some TooLong) (OpenRead id key slice))
@@ -427,7 +428,7 @@ schema_back schema lists line is e =
     let names = schema_names lists is in
     let made : codes "schema " ++ schema_text lists ≡ line = same_line (codes "schema " ++ schema_text lists) line e in
     let fits : nat_lt longest_line (length (codes "schema " ++ schema_text lists)) ≡ false =
-        (let short : length (codes "schema " ++ schema_text lists) ≤ 65536 = schema_short lists few.0.1 few.1.0 few.1.1 names.0.0 names.1.0 in grind (arith, nat_tests)) in
+    (let short : length (codes "schema " ++ schema_text lists) ≤ 65536 = schema_short lists few.0.1 few.1.0 few.1.1 names.0.0 names.1.0 in grind (arith, nat_tests)) in
     subst (λ (l : List ℕ). parse (Some schema) l ≡ Ok (SetSchema lists)) made
     ((λ i. if fits i then Err BadLine else said (Some schema) (codes "schema " ++ schema_text lists) (text_reads_back lists is i)))
 

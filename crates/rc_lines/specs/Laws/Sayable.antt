@@ -1,5 +1,5 @@
 -- What one line can say has a line that is read back as it.
-use Rattle.std.proofs.Common.{◌≡◌, ℕ, ℤ, ◌≤◌, Bool, true, false, cond, not, ◌&&◌, ◌||◌, ◌==◌, nat_lt, List, [], ◌∷◌, ◌++◌, length, refl, ap, sym, subst, ◌∙◌, arith}
+use Rattle.std.proofs.Common.{◌≡◌, ℕ, ℤ, ◌≤◌, Bool, true, false, cond, not, ◌||◌, ◌==◌, nat_lt, List, [], ◌∷◌, ◌++◌, length, refl, ap, sym, subst, ◌∙◌, arith}
 use Rattle.std.specs.Prelude.{codes, map as list_map, Ok, Err, if◌then◌else◌, option_and_then}
 use Rattle.std.specs.declared.option.Option.{Option}
 use Rattle.std.specs.declared.option.Option.TheVariants.{Some, None}
@@ -30,8 +30,9 @@ use Rattle.rc_lines.specs.Parts.{behind, cells_of, some_cells_of, no_bound}
 use Rattle.rc_lines.specs.Plain.{IsCount}
 use Rattle.rc_lines.specs.Sayable.{prefix_word, from_text, to_text, range_words, slice_words, stamp_words, stamped, behind_name, cell_word, cells_words, cells_verb, shape_line, IsKey, IsPrefix, IsLimit, IsBound, IsStamp, IsNamed, AreCells, IsSayable, IsSayableChange}
 use Rattle.rc_lines.specs.Shapes.{shape_of, row_of, inserted, updated, removed, deleted, range_deleted, partition_deleted, static_set, static_removed, cell_change_of, deletion_of, opened, counted_of}
-use Rattle.rc_lines.specs.Laws.Spaces.{IsSpaceless, words_back, both_spaceless, both, number_spaceless, signed_spaceless, spelled_spaceless, prefix_spaceless, name_spaceless}
+use Rattle.rc_lines.specs.Laws.Spaces.{IsSpaceless, words_back, both_spaceless, number_spaceless, signed_spaceless, spelled_spaceless, prefix_spaceless, name_spaceless}
 use Rattle.rc_lines.specs.Laws.Spelled.{stamp_back, tomb_back, key_back, prefix_back, begin_back, end_back, cells_back, some_cells_back, count_back}
+use Rattle.rc_lines.specs.Laws.Halves.{both}
 
 -- ---- writes of tombstones
 
@@ -70,8 +71,8 @@ unfolding cell_change_of deletion_of inserted
 insert_back key ck ts cells k c are =
     written key (OfRow ck (Some ts) None cells) _ _ (key_back key k)
     (ap (λ o. option_or o None)
-      (ap (option_and_then (λ ts. row_of (prefix_word ck) (Some ts) None (cells_of (Alive ts) (list_map cell_word cells)))) (stamp_back ts are.0)
-      ∙ row_back ck (Some ts) None cells _ c (cells_back (Alive ts) cells are)))
+    (ap (option_and_then (λ ts. row_of (prefix_word ck) (Some ts) None (cells_of (Alive ts) (list_map cell_word cells)))) (stamp_back ts are.0)
+    ∙ row_back ck (Some ts) None cells _ c (cells_back (Alive ts) cells are)))
 
 cells_row_back : (key : List ℕ) (ck : List (List ℕ)) (stamp : Stamp) (cell : List ℕ × Cell) (cells : List (List ℕ × Cell)) → IsKey key → IsPrefix ck → AreCells stamp (cell ∷ cells)
     → shape_of (cells_verb false stamp ∷ spelled key ∷ prefix_word ck ∷ cells_words stamp (cell ∷ cells)) ≡ Some (Written key (OfRow ck None None (cell ∷ cells)))
@@ -79,13 +80,13 @@ unfolding cell_change_of deletion_of updated removed
 cells_row_back key ck (Alive ts) cell cells k c are =
     written key (OfRow ck None None (cell ∷ cells)) _ _ (key_back key k)
     (ap (λ o. option_or o None)
-      (ap (option_and_then (λ ts. row_of (prefix_word ck) None None (some_cells_of (Alive ts) (list_map cell_word (cell ∷ cells))))) (stamp_back ts are.0)
-      ∙ row_back ck None None (cell ∷ cells) _ c (some_cells_back (Alive ts) cell cells are)))
+    (ap (option_and_then (λ ts. row_of (prefix_word ck) None None (some_cells_of (Alive ts) (list_map cell_word (cell ∷ cells))))) (stamp_back ts are.0)
+    ∙ row_back ck None None (cell ∷ cells) _ c (some_cells_back (Alive ts) cell cells are)))
 cells_row_back key ck (Gone tomb) cell cells k c are =
     written key (OfRow ck None None (cell ∷ cells)) _ _ (key_back key k)
     (ap (λ o. option_or o None)
-      (ap (option_and_then (λ tomb. row_of (prefix_word ck) None None (some_cells_of (Gone tomb) (list_map cell_word (cell ∷ cells))))) (tomb_back tomb are.0)
-      ∙ row_back ck None None (cell ∷ cells) _ c (some_cells_back (Gone tomb) cell cells are)))
+    (ap (option_and_then (λ tomb. row_of (prefix_word ck) None None (some_cells_of (Gone tomb) (list_map cell_word (cell ∷ cells))))) (tomb_back tomb are.0)
+    ∙ row_back ck None None (cell ∷ cells) _ c (some_cells_back (Gone tomb) cell cells are)))
 
 static_back : (key : List ℕ) (stamp : Stamp) (cell : List ℕ × Cell) (cells : List (List ℕ × Cell)) → IsKey key → AreCells stamp (cell ∷ cells)
     → shape_of (cells_verb true stamp ∷ spelled key ∷ cells_words stamp (cell ∷ cells)) ≡ Some (Written key (OfStatic (cell ∷ cells)))
@@ -93,12 +94,12 @@ unfolding cell_change_of deletion_of static_set static_removed
 static_back key (Alive ts) cell cells k are =
     written key (OfStatic (cell ∷ cells)) _ _ (key_back key k)
     (ap (λ o. option_or o None)
-      (λ i. option_and_then (λ ts. option_map (λ cells. OfStatic cells) (some_cells_of (Alive ts) (list_map cell_word (cell ∷ cells)))) (stamp_back ts are.0 i))
+    (λ i. option_and_then (λ ts. option_map (λ cells. OfStatic cells) (some_cells_of (Alive ts) (list_map cell_word (cell ∷ cells)))) (stamp_back ts are.0 i))
     ∙ ap (λ o. option_or (option_map (λ cells. OfStatic cells) o) None) (some_cells_back (Alive ts) cell cells are))
 static_back key (Gone tomb) cell cells k are =
     written key (OfStatic (cell ∷ cells)) _ _ (key_back key k)
     (ap (λ o. option_or o None)
-      (λ i. option_and_then (λ tomb. option_map (λ cells. OfStatic cells) (some_cells_of (Gone tomb) (list_map cell_word (cell ∷ cells)))) (tomb_back tomb are.0 i))
+    (λ i. option_and_then (λ tomb. option_map (λ cells. OfStatic cells) (some_cells_of (Gone tomb) (list_map cell_word (cell ∷ cells)))) (tomb_back tomb are.0 i))
     ∙ ap (λ o. option_or (option_map (λ cells. OfStatic cells) o) None) (some_cells_back (Gone tomb) cell cells are))
 
 -- ---- openings
@@ -123,7 +124,7 @@ whole_opened id key from to n k f t =
 
 open_back : (id : ℕ) (key : List ℕ) (a b : Bool) (from to : List (List ℕ)) → IsCount id → IsKey key → IsLimit a from → IsLimit b to
     → shape_of (codes "open" ∷ decimal id ∷ spelled key ∷ slice_words (record { pieces = from; inclusive = a }) (record { pieces = to; inclusive = b }))
-      ≡ Some (Open id key (record { pieces = from; inclusive = a }) (record { pieces = to; inclusive = b }))
+    ≡ Some (Open id key (record { pieces = from; inclusive = a }) (record { pieces = to; inclusive = b }))
 open_back id key a b [] [] n k f t = whole_opened id key a b n k f t
 open_back id key a b [] (piece ∷ to) n k f t = range_opened id key (record { pieces = []; inclusive = a }) (record { pieces = piece ∷ to; inclusive = b }) n k f t
 open_back id key a b (piece ∷ from) to n k f t = range_opened id key (record { pieces = piece ∷ from; inclusive = a }) (record { pieces = to; inclusive = b }) n k f t
@@ -141,9 +142,10 @@ behind_text text word h is = All-append (λ byte. (byte == 32) ≡ false) text w
 
 stamp_spaceless : (stamp : Stamp) → IsStamp stamp → AllByRecursion IsSpaceless (stamp_words stamp)
 stamp_spaceless (Alive ts) is = (behind_text (codes "ts=") (signed_decimal ts) refl (signed_spaceless ts is), tt)
-stamp_spaceless (Gone tomb) is =
-    (behind_text (codes "ts=") (signed_decimal tomb.ts) refl (signed_spaceless tomb.ts is.0),
-    (behind_text (codes "dt=") (decimal tomb.dt) refl (number_spaceless tomb.dt (omega (arith, is.1))), tt))
+stamp_spaceless (Gone tomb) is = (
+  behind_text (codes "ts=") (signed_decimal tomb.ts) refl (signed_spaceless tomb.ts is.0),
+  (behind_text (codes "dt=") (decimal tomb.dt) refl (number_spaceless tomb.dt (omega (arith, is.1))), tt),
+)
 
 value_spaceless : (cell : Cell) → IsSpaceless (behind_name cell)
 value_spaceless (Live ts value) = All-cons (λ byte. (byte == 32) ≡ false) 61 (spelled value) refl (spelled_spaceless value)
@@ -168,9 +170,10 @@ to_spaceless true (piece ∷ pieces) = All-append (λ byte. (byte == 32) ≡ fal
 to_spaceless false (piece ∷ pieces) = All-append (λ byte. (byte == 32) ≡ false) (prefix_word (piece ∷ pieces)) (41 ∷ []) (prefix_spaceless (piece ∷ pieces)) (plain_word (41 ∷ []) refl)
 
 range_spaceless : (from to : Bound) → AllByRecursion IsSpaceless (range_words from to)
-range_spaceless from to =
-    (behind_text (codes "from=") (from_text from.inclusive from.pieces) refl (from_spaceless from.inclusive from.pieces),
-    (behind_text (codes "to=") (to_text to.inclusive to.pieces) refl (to_spaceless to.inclusive to.pieces), tt))
+range_spaceless from to = (
+  behind_text (codes "from=") (from_text from.inclusive from.pieces) refl (from_spaceless from.inclusive from.pieces),
+  (behind_text (codes "to=") (to_text to.inclusive to.pieces) refl (to_spaceless to.inclusive to.pieces), tt),
+)
 
 slice_spaceless : (from to : Bound) → AllByRecursion IsSpaceless (slice_words from to)
 slice_spaceless from to =

@@ -1,11 +1,11 @@
 -- Words joined by one space are the words of the line, where none of them has a space.
-use Rattle.std.proofs.Common.{◌≡◌, ℕ, ℤ, pos, negsuc, ◌<◌, ◌^◌, ◌/◌, ◌%◌, zero, suc, Bool, true, false, cond, ◌&&◌, ◌==◌, List, [], ◌∷◌, ◌++◌, flat_map, refl, ap, ◌∙◌, arith}
+use Rattle.std.proofs.Common.{◌≡◌, ℕ, ℤ, pos, negsuc, ◌<◌, ◌^◌, ◌/◌, ◌%◌, suc, true, false, cond, ◌==◌, List, [], ◌∷◌, ◌++◌, flat_map, refl, ap, ◌∙◌, arith}
 use Rattle.std.specs.Prelude.{All, map as list_map}
 use Rattle.std.specs.Char.{is_ascii_lowercase}
 use Rattle.std.specs.Fmt.{decimal, signed_decimal}
 use Rattle.std.specs.Int.{w64}
 use Rattle.std.specs.Int.RustNames.{FitsSigned}
-use Rattle.std.specs.List.{AllByRecursion, list_all, slice_split, join_with_byte}
+use Rattle.std.specs.List.{AllByRecursion, list_all, join_with_byte}
 use Rattle.std.specs.Str.Parse.{AllDigits}
 use Rattle.std.proofs.lemmas.Bool.Decides.{nat_tests}
 use Rattle.std.proofs.lemmas.Fmt.{decimal_is_IsNumeral}
@@ -15,9 +15,10 @@ use Rattle.std.proofs.lemmas.List.Splits.{slice_split_none, slice_split_at}
 use Rattle.std.proofs.lemmas.Str.Parse.{digit_from_value}
 use Rattle.rc_position.specs.declared.comps.Comp.TheVariants.{Text}
 use Rattle.rc_schema.specs.Lists.{is_name, is_name_byte}
-use Rattle.rc_spelling.specs.Printed.{stands_for_itself, hexadecimal, spelled_byte, spelled, text_component, other_component, key_text}
+use Rattle.rc_spelling.specs.Printed.{stands_for_itself, hexadecimal, spelled_byte, spelled, text_component, other_component}
 use Rattle.rc_spelling.specs.Words.{words}
 use Rattle.rc_lines.specs.Sayable.{prefix_word}
+use Rattle.rc_lines.specs.Laws.Halves.{both}
 
 -- no byte of the word is a space
 abbrev pub IsSpaceless : List ℕ → Type 0
@@ -89,10 +90,6 @@ name_byte byte h = (grind (arith, nat_tests), grind (arith, nat_tests))
 
 first_byte : (byte : ℕ) → is_ascii_lowercase byte ≡ true → ((byte == 32) ≡ false) × ((byte == 61) ≡ false)
 first_byte byte h = (grind (arith, nat_tests), grind (arith, nat_tests))
-
-pub both : (b c : Bool) → b && c ≡ true → (b ≡ true) × (c ≡ true)
-both true c h = (refl, h)
-both false c h = absurd (cc)
 
 -- neither a space nor `=`
 abbrev pub IsPlainByte : ℕ → Type 0

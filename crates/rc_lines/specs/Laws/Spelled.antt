@@ -1,5 +1,5 @@
 -- Each part of a line that says something is read back as it.
-use Rattle.std.proofs.Common.{◌≡◌, ℕ, ℤ, ◌<◌, ◌≤◌, ◌+◌, ◌-◌, zero, suc, Bool, true, false, cond, not, ◌&&◌, ◌==◌, List, [], ◌∷◌, ◌++◌, length, take, drop, refl, ap, sym, subst, ◌∙◌, arith, append-nil}
+use Rattle.std.proofs.Common.{◌≡◌, ℕ, ℤ, ◌≤◌, ◌+◌, ◌-◌, Bool, true, false, cond, not, ◌==◌, List, [], ◌∷◌, ◌++◌, length, take, drop, refl, ap, sym, ◌∙◌, arith, append-nil}
 use Rattle.std.specs.Prelude.{codes, nat_eq, nat_lt, map as list_map, option_and_then}
 use Rattle.std.specs.declared.option.Option.{Option}
 use Rattle.std.specs.declared.option.Option.TheVariants.{Some, None}
@@ -11,7 +11,7 @@ use Rattle.std.specs.Option.{option_map}
 use Rattle.std.proofs.lemmas.Bool.Decides.{nat_tests}
 use Rattle.std.proofs.lemmas.List.{length-append, take_all}
 use Rattle.std.proofs.Math.Seq.{drop-append_seam, take-append_seam, drop-append-add}
-use lib.Pointwise.{pointwise, pointwise_long}
+use lib.Pointwise.{pointwise_long}
 use Rattle.rc_cell.specs.declared.writes.Cell.{Cell}
 use Rattle.rc_cell.specs.declared.writes.Cell.TheVariants.{Live, Dead}
 use Rattle.rc_cell.specs.declared.writes.Tomb.{Tomb}
@@ -25,9 +25,8 @@ use Rattle.rc_spelling.specs.Printed.{AreBytes, IsComponent, bytes_of_component,
 use Rattle.rc_spelling.specs.Spelling.{bytes_spelled, components_spelled}
 use Rattle.rc_lines.specs.declared.shapes.Bound.{Bound}
 use Rattle.rc_lines.specs.declared.shapes.Stamp.{Stamp}
-use Rattle.rc_lines.specs.declared.shapes.Stamp.TheVariants.{Alive, Gone}
 use Rattle.rc_lines.specs.Parts.{is_word, behind, before, stamp_of, time_of, tomb_of, key_of, live_of, named, split_set, set_of, cell_of, each_cell_of, are_distinct, cells_of, some_cells_of, no_bound, pieces_of, bound_at, marked_bound, from_of, to_of, begins_at, ends_at}
-use Rattle.rc_lines.specs.Sayable.{prefix_word, from_text, to_text, stamped, behind_name, cell_word, IsKey, IsPrefix, IsLimit, IsBound, IsStamp, IsStamped, IsNamed, AreCells}
+use Rattle.rc_lines.specs.Sayable.{prefix_word, from_text, to_text, cell_word, IsKey, IsPrefix, IsLimit, IsBound, IsStamped, IsNamed, AreCells}
 use Rattle.rc_lines.specs.Laws.Spaces.{name_plain, IsPlainByte}
 
 -- ---- stamps
@@ -143,15 +142,16 @@ mark_at [] rest h = refl
 mark_at (byte ∷ name) rest h =
     ap (λ b. cond (not b) (1 + position_or_len (λ byte. byte == 61) (name ++ 61 ∷ rest)) 0) h.0.1 ∙ omega (arith, mark_at name rest h.1)
 
-split_back : (name rest : List ℕ) → AllByRecursion IsPlainByte name → split_set (name ++ 61 ∷ rest) ≡ Some (name, rest)
+split_at : (word front rest : List ℕ) (n : ℕ) → position (λ byte. byte == 61) word ≡ Some n → take n word ≡ front → drop (n + 1) word ≡ rest → split_set word ≡ Some (front, rest)
 unfolding split_set
+split_at word front rest n p q r = ap (option_map (λ n. (take n word, drop (n + 1) word))) p ∙ (λ i. Some (q i, r i))
+
+split_back : (name rest : List ℕ) → AllByRecursion IsPlainByte name → split_set (name ++ 61 ∷ rest) ≡ Some (name, rest)
 split_back name rest h =
-    let at = mark_at name rest h in
     let within : nat_lt (length name) (length (name ++ 61 ∷ rest)) ≡ true = (let all : length (name ++ 61 ∷ rest) ≡ length name + length (61 ∷ rest) = length-append name (61 ∷ rest) in grind (arith, nat_tests)) in
     let found : position (λ byte. byte == 61) (name ++ 61 ∷ rest) ≡ Some (length name) =
-        ap (λ n. cond (nat_lt n (length (name ++ 61 ∷ rest))) (Some n) None) at ∙ ap (λ b. cond b (Some (length name)) None) within in
-    ap (option_map (λ n. (take n (name ++ 61 ∷ rest), drop (n + 1) (name ++ 61 ∷ rest)))) found
-    ∙ (λ i. Some (take-append_seam name (61 ∷ rest) i, drop-append-add name (61 ∷ rest) 1 i))
+    ap (λ n. cond (nat_lt n (length (name ++ 61 ∷ rest))) (Some n) None) (mark_at name rest h) ∙ ap (λ b. cond b (Some (length name)) None) within in
+    split_at (name ++ 61 ∷ rest) name rest (length name) found (take-append_seam name (61 ∷ rest)) (drop-append-add name (61 ∷ rest) 1)
 
 named_back : (name : List ℕ) (cell : Cell) → is_name name ≡ true → named name (Some cell) ≡ Some (name, cell)
 unfolding named
