@@ -11,6 +11,7 @@ pub mod Sayable
 pub mod Columns
 pub mod Lengths
 pub mod Lines
+pub mod Users
 use Rattle.std.specs.Prelude.{ℕ, ◌+◌, ◌<◌, true, false, nat_lt, List, length, take, Option, Err, ◌≡◌}
 use Rattle.std.proofs.Common.{refl, sym, subst, ap, ◌∙◌, arith}
 use Rattle.std.proofs.lemmas.List.{length-take, take_all}

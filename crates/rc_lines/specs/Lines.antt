@@ -1,8 +1,10 @@
 -- The line of a command under a schema, for each command that one line can say.
-use Rattle.std.specs.Prelude.{ℕ, ℤ, Bool, true, false, not, List, [], ◌∷◌, ◌++◌, map as list_map, codes, Option, Some, None, IfSome, IsTrue}
+use Rattle.std.specs.Prelude.{ℕ, ℤ, Bool, true, false, not, List, [], ◌∷◌, ◌++◌, map as list_map, flat_map, codes, Option, Some, None, IfSome, IsTrue}
+use Rattle.std.specs.Fmt.{decimal, signed_decimal}
 use Rattle.std.specs.List.{AllByRecursion}
 use Rattle.rc_cell.specs.declared.rows.Row.{Row}
 use Rattle.rc_cell.specs.declared.writes.Cell.{Cell}
+use Rattle.rc_cell.specs.declared.writes.Cell.TheVariants.{Live}
 use Rattle.rc_cell.specs.declared.writes.Tomb.{Tomb}
 use Rattle.rc_cell.specs.Winner.{IsRow}
 use Rattle.rc_mutation.specs.declared.mutations.Mutation.{Mutation}
@@ -15,7 +17,7 @@ use Rattle.rc_ranges.specs.declared.pieces.Piece.{Piece}
 use Rattle.rc_rowcode.specs.Spelling.{IsTomb}
 use Rattle.rc_schema.specs.Lists.{Lists, is_schema}
 use Rattle.rc_schema.specs.SchemaText.{schema_text}
-use Rattle.rc_spelling.specs.Printed.{AreBytes, IsComponent, bytes_of_component}
+use Rattle.rc_spelling.specs.Printed.{AreBytes, IsComponent, bytes_of_component, spelled, key_text}
 use Rattle.rc_lines.specs.declared.commands.Command.{Command}
 use Rattle.rc_lines.specs.declared.commands.Command.TheVariants.{SetSchema, Put, OpenRead}
 use Rattle.rc_lines.specs.declared.shapes.Bound.{Bound}
@@ -25,8 +27,8 @@ use Rattle.rc_lines.specs.declared.shapes.Shape.TheVariants.{Open, Written}
 use Rattle.rc_lines.specs.declared.shapes.Stamp.{Stamp}
 use Rattle.rc_lines.specs.declared.shapes.Stamp.TheVariants.{Alive}
 use Rattle.rc_lines.specs.Plain.{IsCount, HasCounts, plain_line}
-use Rattle.rc_lines.specs.Sayable.{stamped, shape_line, IsStamp, IsStamped}
-use Rattle.rc_lines.specs.Texts.{column_name}
+use Rattle.rc_lines.specs.Sayable.{stamped, shape_line, IsStampInRange, IsStamped}
+use Rattle.rc_lines.specs.Texts.{column_name, value_text}
 use Rattle.rc_lines.specs.UnderSchema.{is_partition_key}
 
 -- ---- the line
@@ -71,7 +73,40 @@ command_line schema (Put write) = shape_line (Written write.key (change_said sch
 command_line schema (OpenRead id key slice) = shape_line (Open id key (start_said slice.from) (end_said slice.to))
 command_line schema other = plain_line other
 
+-- ` ts=TS dt=DT`
+abbrev pub tomb_text : Tomb → List ℕ
+tomb_text tomb = codes " ts=" ++ (signed_decimal tomb.ts ++ (codes " dt=" ++ decimal tomb.dt))
+
+-- `delpart KEY ts=TS dt=DT`
+abbrev pub delpart_text : List ℕ → Tomb → List ℕ
+delpart_text key tomb = codes "delpart " ++ (spelled key ++ tomb_text tomb)
+
+-- `delete KEY CK ts=TS dt=DT`, the key as replies print it
+abbrev pub delete_text : List ℕ → List Comp → Tomb → List ℕ
+delete_text key ck tomb = codes "delete " ++ (spelled key ++ 32 ∷ (key_text ck ++ tomb_text tomb))
+
+-- `insert KEY CK ts=TS NAME=VALUE ..`, the key and the values as replies print them
+abbrev pub insert_text : List (List ℕ) → List ℕ → List Comp → ℤ → List (ℕ × List ℕ) → List ℕ
+insert_text names key ck ts values =
+    codes "insert " ++ (spelled key ++ 32 ∷ (key_text ck ++ (codes " ts=" ++ (signed_decimal ts ++ flat_map (value_text names) values))))
+
+-- live cells of one timestamp, from columns with values
+abbrev pub live_cells : ℤ → List (ℕ × List ℕ) → List (ℕ × Cell)
+live_cells ts values = list_map (λ shown. (shown.0, Live ts shown.1)) values
+
+-- a row of a tombstone alone
+abbrev pub dead_row : Tomb → Row
+dead_row tomb = record { marker = None; tomb = Some tomb; cells = [] }
+
+-- a row with a marker and live cells of one timestamp
+abbrev pub live_row : ℤ → List (ℕ × List ℕ) → Row
+live_row ts values = record { marker = Some ts; tomb = None; cells = live_cells ts values }
+
 -- ---- what one line can say
+
+-- columns with values that are bytes
+abbrev pub AreValues : List (ℕ × List ℕ) → Type 0
+AreValues values = AllByRecursion (λ shown. AreBytes shown.1) values
 
 -- a partition key: 1 to 64 bytes
 abbrev pub IsPartitionKey : List ℕ → Type 0
@@ -83,7 +118,7 @@ AreComponents prefix = AllByRecursion IsComponent prefix
 
 -- cells of one stamp
 abbrev pub AreStamped : Stamp → List (ℕ × Cell) → Type 0
-AreStamped stamp cells = IsStamp stamp × AllByRecursion (λ e. IsStamped stamp e.1) cells
+AreStamped stamp cells = IsStampInRange stamp × AllByRecursion (λ e. IsStamped stamp e.1) cells
 
 -- a marker and live cells have one timestamp; cells without a marker have one timestamp, and one deletion time or none
 abbrev pub HasOneStamp : Option ℤ → Option Tomb → List (ℕ × Cell) → Type 0

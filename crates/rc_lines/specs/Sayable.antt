@@ -98,8 +98,8 @@ shape_line shape = option_map (join_with_byte 32) (shape_words shape)
 -- ---- what it says
 
 -- a partition key: one byte and more
-abbrev pub IsKey : List ℕ → Type 0
-IsKey key = AreBytes key × (1 ≤ length key)
+abbrev pub IsSomeKey : List ℕ → Type 0
+IsSomeKey key = AreBytes key × (1 ≤ length key)
 
 -- one to five components; no schema has five
 abbrev pub IsPrefix : List (List ℕ) → Type 0
@@ -115,9 +115,9 @@ abbrev pub IsBound : Bound → Type 0
 IsBound bound = IsLimit bound.inclusive bound.pieces
 
 -- a timestamp, or both numbers of a tombstone, within their widths
-abbrev pub IsStamp : Stamp → Type 0
-IsStamp (Alive ts) = FitsSigned w64 ts
-IsStamp (Gone tomb) = IsTomb tomb
+abbrev pub IsStampInRange : Stamp → Type 0
+IsStampInRange (Alive ts) = FitsSigned w64 ts
+IsStampInRange (Gone tomb) = IsTomb tomb
 
 -- a cell of a stamp; its value is bytes
 abbrev pub IsStamped : Stamp → Cell → Type 0
@@ -125,26 +125,26 @@ IsStamped stamp (Live ts value) = (stamp ≡ Alive ts) × AreBytes value
 IsStamped stamp (Dead ts dt) = stamp ≡ Gone (record { ts = ts; dt = dt })
 
 -- a column's name with such a cell
-abbrev pub IsNamed : Stamp → List ℕ × Cell → Type 0
-IsNamed stamp e = (is_name e.0 ≡ true) × IsStamped stamp e.1
+abbrev pub IsNamedCell : Stamp → List ℕ × Cell → Type 0
+IsNamedCell stamp e = (is_name e.0 ≡ true) × IsStamped stamp e.1
 
 -- cells of one stamp, no name twice
-abbrev pub AreCells : Stamp → List (List ℕ × Cell) → Type 0
-AreCells stamp cells = IsStamp stamp × (AllByRecursion (IsNamed stamp) cells × (are_distinct cells ≡ true))
+abbrev pub AreSayableCells : Stamp → List (List ℕ × Cell) → Type 0
+AreSayableCells stamp cells = IsStampInRange stamp × (AllByRecursion (IsNamedCell stamp) cells × (are_distinct cells ≡ true))
 
 -- what one line can write
 abbrev pub IsSayableChange : Change → Type 0
-IsSayableChange (OfRow ck (Some ts) tomb cells) = IsPrefix ck × AreCells (Alive ts) cells
+IsSayableChange (OfRow ck (Some ts) tomb cells) = IsPrefix ck × AreSayableCells (Alive ts) cells
 IsSayableChange (OfRow ck None (Some tomb) cells) = IsPrefix ck × IsTomb tomb
 IsSayableChange (OfRow ck None None []) = Unit {0}
-IsSayableChange (OfRow ck None None (cell ∷ cells)) = IsPrefix ck × AreCells (stamped cell.1) (cell ∷ cells)
+IsSayableChange (OfRow ck None None (cell ∷ cells)) = IsPrefix ck × AreSayableCells (stamped cell.1) (cell ∷ cells)
 IsSayableChange (OfStatic []) = Unit {0}
-IsSayableChange (OfStatic (cell ∷ cells)) = AreCells (stamped cell.1) (cell ∷ cells)
+IsSayableChange (OfStatic (cell ∷ cells)) = AreSayableCells (stamped cell.1) (cell ∷ cells)
 IsSayableChange (OfRange from to tomb) = IsBound from × IsBound to × IsTomb tomb
 IsSayableChange (OfPartition tomb) = IsTomb tomb
 
 -- what one line can say: numbers within their widths, bytes, names, and cells of one stamp
 abbrev pub IsSayable : Shape → Type 0
 IsSayable (Plain command) = Unit {0}
-IsSayable (Open id key from to) = IsCount id × IsKey key × IsBound from × IsBound to
-IsSayable (Written key change) = IsKey key × IsSayableChange change
+IsSayable (Open id key from to) = IsCount id × IsSomeKey key × IsBound from × IsBound to
+IsSayable (Written key change) = IsSomeKey key × IsSayableChange change

@@ -66,17 +66,17 @@ abbrev pub AreBelow : ℕ → List (ℕ × Cell) → Type 0
 AreBelow n cells = AllByRecursion (λ e. e.0 < n) cells
 
 -- the first cell of a column
-abbrev cell_at : ℕ → List (ℕ × Cell) → Option Cell
-cell_at column [] = None
-cell_at column (e ∷ cells) = if e.0 == column then Some e.1 else cell_at column cells
+abbrev numbered_cell : ℕ → List (ℕ × Cell) → Option Cell
+numbered_cell column [] = None
+numbered_cell column (e ∷ cells) = if e.0 == column then Some e.1 else numbered_cell column cells
 
 -- the cells of as many columns as there are names, from a number on
-abbrev cells_from : ℕ → List (List ℕ) → List (ℕ × Cell) → List (ℕ × Cell)
-cells_from column [] cells = []
-cells_from column (name ∷ names) cells = option_to_list (option_map (λ cell. (column, cell)) (cell_at column cells)) ++ cells_from (column + 1) names cells
+abbrev numbered_cells : ℕ → List (List ℕ) → List (ℕ × Cell) → List (ℕ × Cell)
+numbered_cells column [] cells = []
+numbered_cells column (name ∷ names) cells = option_to_list (option_map (λ cell. (column, cell)) (numbered_cell column cells)) ++ numbered_cells (column + 1) names cells
 
 by_number : (names : List (List ℕ)) (column : ℕ) (cells : List (ℕ × Cell)) → are_distinct_by is_text names ≡ true → column < length names → AreBelow (length names) cells
-    → cell_named (get_or names column []) (cells_said names cells) ≡ cell_at column cells
+    → cell_named (get_or names column []) (cells_said names cells) ≡ numbered_cell column cells
 by_number names column [] d p are = refl
 by_number names column (e ∷ cells) d p are =
     λ i. cond (distinct_at names e.0 column d are.0 p i) (Some e.1) (by_number names column cells d p are.1 i)
@@ -90,12 +90,12 @@ one_more [] name = refl
 one_more (first ∷ front) name = omega (arith, one_more front name)
 
 to_numbers : (names front rest : List (List ℕ)) (column : ℕ) (cells : List (ℕ × Cell)) → are_distinct_by is_text names ≡ true → AreBelow (length names) cells → front ++ rest ≡ names → column ≡ length front
-    → columns_from column rest (cells_said names cells) ≡ cells_from column rest cells
+    → columns_from column rest (cells_said names cells) ≡ numbered_cells column rest cells
 to_numbers names front [] column cells d are e at = refl
 to_numbers names front (name ∷ rest) column cells d are e at =
     let seam : (get_or names column [] ≡ name) × (column < length names) =
     subst (λ (n : ℕ). (get_or names n [] ≡ name) × (n < length names)) (sym at) (subst (λ (all : List (List ℕ)). (get_or all (length front) [] ≡ name) × (length front < length all)) e (at_seam front name rest)) in
-    let here : cell_named name (cells_said names cells) ≡ cell_at column cells = ap (λ n. cell_named n (cells_said names cells)) (sym seam.0) ∙ by_number names column cells d seam.1 are in
+    let here : cell_named name (cells_said names cells) ≡ numbered_cell column cells = ap (λ n. cell_named n (cells_said names cells)) (sym seam.0) ∙ by_number names column cells d seam.1 are in
     let next : column + 1 ≡ length (front ++ name ∷ []) = ap (λ (n : ℕ). n + 1) at ∙ one_more front name in
     let more = to_numbers names (front ++ name ∷ []) rest (column + 1) cells d are (append_assoc front (name ∷ []) rest ∙ e) next in
     λ i. option_to_list (option_map (λ cell. (column, cell)) (here i)) ++ more i
@@ -129,36 +129,36 @@ unlike x y h = grind (arith, nat_tests)
 unlike_less : (x y : ℕ) → y < x → (y == x) ≡ false
 unlike_less x y h = grind (arith, nat_tests)
 
-none_at : (column low : ℕ) (cells : List (ℕ × Cell)) → column < low → Ascends low cells → cell_at column cells ≡ None
+none_at : (column low : ℕ) (cells : List (ℕ × Cell)) → column < low → Ascends low cells → numbered_cell column cells ≡ None
 none_at column low [] h asc = refl
 none_at column low (e ∷ cells) h asc =
-    ap (λ b. cond b (Some e.1) (cell_at column cells)) (unlike column e.0 (omega (arith, asc.0))) ∙ none_at column (e.0 + 1) cells (omega (arith, asc.0)) asc.1
+    ap (λ b. cond b (Some e.1) (numbered_cell column cells)) (unlike column e.0 (omega (arith, asc.0))) ∙ none_at column (e.0 + 1) cells (omega (arith, asc.0)) asc.1
 
-passed : (column : ℕ) (names : List (List ℕ)) (e : ℕ × Cell) (cells : List (ℕ × Cell)) → e.0 < column → cells_from column names (e ∷ cells) ≡ cells_from column names cells
+passed : (column : ℕ) (names : List (List ℕ)) (e : ℕ × Cell) (cells : List (ℕ × Cell)) → e.0 < column → numbered_cells column names (e ∷ cells) ≡ numbered_cells column names cells
 passed column [] e cells h = refl
 passed column (name ∷ names) e cells h =
-    let other : cell_at column (e ∷ cells) ≡ cell_at column cells = ap (λ b. cond b (Some e.1) (cell_at column cells)) (unlike_less column e.0 h) in
+    let other : numbered_cell column (e ∷ cells) ≡ numbered_cell column cells = ap (λ b. cond b (Some e.1) (numbered_cell column cells)) (unlike_less column e.0 h) in
     λ i. option_to_list (option_map (λ cell. (column, cell)) (other i)) ++ passed (column + 1) names e cells (omega arith) i
 
-none_left : (column : ℕ) (names : List (List ℕ)) → cells_from column names [] ≡ []
+none_left : (column : ℕ) (names : List (List ℕ)) → numbered_cells column names [] ≡ []
 none_left column [] = refl
 none_left column (name ∷ names) = none_left (column + 1) names
 
 -- the cells of all columns are the cells
-all_found : (column : ℕ) (names : List (List ℕ)) (cells : List (ℕ × Cell)) → Ascends column cells → AreBelow (column + length names) cells → cells_from column names cells ≡ cells
+all_found : (column : ℕ) (names : List (List ℕ)) (cells : List (ℕ × Cell)) → Ascends column cells → AreBelow (column + length names) cells → numbered_cells column names cells ≡ cells
 all_found column names [] asc are = none_left column names
 all_found column [] (e ∷ cells) asc are = absurd (omega (arith, asc.0, are.0))
 all_found column (name ∷ names) (e ∷ cells) asc are =
     let total : column + length (name ∷ names) ≡ column + 1 + length names = omega arith in
     let below = subst (λ (n : ℕ). AreBelow n (e ∷ cells)) total are in
-    elim (e.0 == column) as (λ b. (e.0 == column) ≡ b → cells_from column (name ∷ names) (e ∷ cells) ≡ e ∷ cells) [
+    elim (e.0 == column) as (λ b. (e.0 == column) ≡ b → numbered_cells column (name ∷ names) (e ∷ cells) ≡ e ∷ cells) [
       | true ↦ λ t. (let same : e.0 ≡ column = grind (arith, nat_tests) in
-          let here : cell_at column (e ∷ cells) ≡ Some e.1 = ap (λ b. cond b (Some e.1) (cell_at column cells)) t in
-          let rest : cells_from (column + 1) names (e ∷ cells) ≡ cells =
+          let here : numbered_cell column (e ∷ cells) ≡ Some e.1 = ap (λ b. cond b (Some e.1) (numbered_cell column cells)) t in
+          let rest : numbered_cells (column + 1) names (e ∷ cells) ≡ cells =
           passed (column + 1) names e cells (omega (arith, same)) ∙ all_found (column + 1) names cells (subst (λ (n : ℕ). Ascends (n + 1) cells) same asc.1) below.1 in
           (λ i. option_to_list (option_map (λ cell. (column, cell)) (here i)) ++ rest i) ∙ ap (λ (n : ℕ). (n, e.1) ∷ cells) (sym same))
       | false ↦ λ f. (let more : column + 1 ≤ e.0 = (let least : column ≤ e.0 = asc.0 in grind (arith, nat_tests)) in
-          let here : cell_at column (e ∷ cells) ≡ None = none_at column (column + 1) (e ∷ cells) (omega arith) (more, asc.1) in
+          let here : numbered_cell column (e ∷ cells) ≡ None = none_at column (column + 1) (e ∷ cells) (omega arith) (more, asc.1) in
           λ i. option_to_list (option_map (λ cell. (column, cell)) (here i)) ++ all_found (column + 1) names (e ∷ cells) (more, asc.1) below i)
     ] refl
 

@@ -30,7 +30,7 @@ use Rattle.rc_lines.specs.declared.shapes.Stamp.{Stamp}
 use Rattle.rc_lines.specs.declared.shapes.Stamp.TheVariants.{Alive, Gone}
 use Rattle.rc_lines.specs.Lines.{pieces_said, is_before, start_said, end_said, cells_said, AreComponents, HasOneStamp}
 use Rattle.rc_lines.specs.Plain.{IsCount}
-use Rattle.rc_lines.specs.Sayable.{prefix_word, from_text, to_text, range_words, slice_words, stamp_words, stamped, behind_name, cell_word, cells_words, cells_verb, shape_line, IsStamp}
+use Rattle.rc_lines.specs.Sayable.{prefix_word, from_text, to_text, range_words, slice_words, stamp_words, stamped, behind_name, cell_word, cells_words, cells_verb, shape_line, IsStampInRange}
 use Rattle.rc_lines.specs.UnderSchema.{are_short, have_short_values}
 use Rattle.rc_lines.specs.Laws.Columns.{AreBelow, name_at}
 use Rattle.rc_lines.specs.Laws.Halves.{both, up_to}
@@ -133,7 +133,7 @@ slice_short from to f t =
       | false ↦ omega arith
     ]
 
-stamp_short : (stamp : Stamp) → IsStamp stamp → total (stamp_words stamp) ≤ 40
+stamp_short : (stamp : Stamp) → IsStampInRange stamp → total (stamp_words stamp) ≤ 40
 stamp_short (Alive ts) is = omega (arith, signed_short ts is)
 stamp_short (Gone tomb) is = omega (arith, signed_short tomb.ts is.0, count_short tomb.dt (omega (arith, is.1)))
 
@@ -179,7 +179,7 @@ module _ (key line : List ℕ) (key_short : length (spelled key) ≤ 192) where
       line_short (codes "open" ∷ decimal id ∷ spelled key ∷ slice_words (start_said from) (end_said to)) line e (omega (arith, key_short, count_short id n.1, slice_short from to f t))
 
   module _ (names : List (List ℕ)) (h : list_all is_name names ≡ true) (few : length names ≤ 32) where
-    words_short : (stamp : Stamp) (cells : List (ℕ × Cell)) → AreBelow (length names) cells → have_short_values cells ≡ true → length cells ≤ 32 → IsStamp stamp
+    words_short : (stamp : Stamp) (cells : List (ℕ × Cell)) → AreBelow (length names) cells → have_short_values cells ≡ true → length cells ≤ 32 → IsStampInRange stamp
         → total (cells_words stamp (cells_said names cells)) ≤ 25704
     words_short stamp cells below short count is =
         omega (arith, total_append (stamp_words stamp) (list_map cell_word (cells_said names cells)), stamp_short stamp is, cells_short names cells h below short, count)

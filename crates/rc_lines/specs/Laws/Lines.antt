@@ -56,7 +56,7 @@ use Rattle.rc_lines.specs.Fits.{Fits}
 use Rattle.rc_lines.specs.Grammar.{longest_line, schema_said, said, parse}
 use Rattle.rc_lines.specs.Lines.{pieces_said, is_before, start_said, end_said, cells_said, change_said, command_line, IsPartitionKey, AreComponents, AreStamped, HasOneStamp, IsSayableWrite, IsSayableCommand}
 use Rattle.rc_lines.specs.Parts.{behind}
-use Rattle.rc_lines.specs.Sayable.{stamped, shape_line, IsKey, IsPrefix, IsLimit, IsStamped, IsNamed, AreCells, IsSayable, IsSayableChange}
+use Rattle.rc_lines.specs.Sayable.{stamped, shape_line, IsSomeKey, IsPrefix, IsLimit, IsStamped, IsNamedCell, AreSayableCells, IsSayable, IsSayableChange}
 use Rattle.rc_lines.specs.UnderSchema.{component_of, prefix_of, key_under, between, slice_under, by_column, is_partition_key, are_short, have_short_values, is_short_slice, is_wrong_change, is_unknown_change, is_short_change, rows_said, mutation_of, refusal_of, unless, meaning}
 use Rattle.rc_lines.specs.Laws.Columns.{AreBelow, columns_back, known, name_at, names_apart, few_cells}
 use Rattle.rc_lines.specs.Laws.Lengths.{IsShortPrefix, spelled_short, partition_short, piece_short, open_short, row_short, static_short, schema_short}
@@ -292,12 +292,12 @@ end_sayable from to before out is few =
     limit_sayable (not (is_before to.weight)) to.prefix is few (λ e. last_weight to.weight from.prefix from.weight (subst (λ (p : List Comp). prefix_cmp from.prefix from.weight p to.weight ≡ Less) e before) out)
 
 named_cells : (stamp : Stamp) (names : List (List ℕ)) (cells : List (ℕ × Cell)) → list_all is_name names ≡ true → AreBelow (length names) cells → AllByRecursion (λ e. IsStamped stamp e.1) cells
-    → AllByRecursion (IsNamed stamp) (cells_said names cells)
+    → AllByRecursion (IsNamedCell stamp) (cells_said names cells)
 named_cells stamp names [] h below are = tt
 named_cells stamp names (e ∷ cells) h below are = ((name_at names e.0 h below.0, are.0), named_cells stamp names cells h below.1 are.1)
 
 cells_sayable : (stamp : Stamp) (names : List (List ℕ)) (row : Row) (cells : List (ℕ × Cell)) → AreNames names → AreBelow (length names) cells → row.cells ≡ cells → IsRow row → AreStamped stamp cells
-    → AreCells stamp (cells_said names cells)
+    → AreSayableCells stamp (cells_said names cells)
 cells_sayable stamp names row cells h below e sorted are =
     (are.0, (named_cells stamp names cells h.0 below are.1, names_apart names cells h.1 below (subst (λ (cs : List (ℕ × Cell)). is_sorted nat_cmp cs ≡ true) e sorted)))
 
@@ -313,7 +313,7 @@ static_sayable : (names : List (List ℕ)) (row : Row) (cells : List (ℕ × Cel
 static_sayable names row [] h below e sorted one = tt
 static_sayable names row (c ∷ cells) h below e sorted one = cells_sayable (stamped c.1) names row (c ∷ cells) h below e sorted one
 
-key_sayable : (key : List ℕ) → IsPartitionKey key → IsKey key
+key_sayable : (key : List ℕ) → IsPartitionKey key → IsSomeKey key
 key_sayable key is = (is.0, up_to 1 (length key) (both (nat_le 1 (length key)) (nat_le (length key) 64) is.1).0)
 
 row_written : (key : List ℕ) (ck names : List (List ℕ)) (marker : Option ℤ) (tomb : Option Tomb) (cells : List (ℕ × Cell)) (line : List ℕ)

@@ -26,7 +26,7 @@ use Rattle.rc_spelling.specs.Spelling.{bytes_spelled, components_spelled}
 use Rattle.rc_lines.specs.declared.shapes.Bound.{Bound}
 use Rattle.rc_lines.specs.declared.shapes.Stamp.{Stamp}
 use Rattle.rc_lines.specs.Parts.{is_word, behind, before, stamp_of, time_of, tomb_of, key_of, live_of, named, split_set, set_of, cell_of, each_cell_of, are_distinct, cells_of, some_cells_of, no_bound, pieces_of, bound_at, marked_bound, from_of, to_of, begins_at, ends_at}
-use Rattle.rc_lines.specs.Sayable.{prefix_word, from_text, to_text, cell_word, IsKey, IsPrefix, IsLimit, IsBound, IsStamped, IsNamed, AreCells}
+use Rattle.rc_lines.specs.Sayable.{prefix_word, from_text, to_text, cell_word, IsSomeKey, IsPrefix, IsLimit, IsBound, IsStamped, IsNamedCell, AreSayableCells}
 use Rattle.rc_lines.specs.Laws.Spaces.{name_plain, IsPlainByte}
 
 -- ---- stamps
@@ -53,7 +53,7 @@ some_key [] [] h some = absurd (omega arith)
 some_key [] (byte ∷ key) h some = absurd (cc)
 some_key (byte ∷ word) key h some = h
 
-pub key_back : (key : List ℕ) → IsKey key → key_of (spelled key) ≡ Some key
+pub key_back : (key : List ℕ) → IsSomeKey key → key_of (spelled key) ≡ Some key
 key_back key is = some_key (spelled key) key (printed_bytes_read_back key is.0) is.1
 
 texts : (pieces : List (List ℕ)) → AllByRecursion AreBytes pieces → AllByRecursion IsComponent (list_map (λ piece. Text piece) pieces)
@@ -176,18 +176,18 @@ both_cells : (one : Option (List ℕ × Cell)) (others : Option (List (List ℕ 
     → option_and_then (λ cell. option_map (λ cells. cell ∷ cells) others) one ≡ Some (cell ∷ cells)
 both_cells one others cell cells p q = λ i. option_and_then (λ cell. option_map (λ cells. cell ∷ cells) (q i)) (p i)
 
-each_back : (stamp : Stamp) (cells : List (List ℕ × Cell)) → AllByRecursion (IsNamed stamp) cells → each_cell_of stamp (list_map cell_word cells) ≡ Some cells
+each_back : (stamp : Stamp) (cells : List (List ℕ × Cell)) → AllByRecursion (IsNamedCell stamp) cells → each_cell_of stamp (list_map cell_word cells) ≡ Some cells
 each_back stamp [] are = refl
 each_back stamp (cell ∷ cells) are =
     both_cells (cell_of stamp (cell_word cell)) (each_cell_of stamp (list_map cell_word cells)) cell cells (cell_back stamp cell.0 cell.1 are.0.0 are.0.1) (each_back stamp cells are.1)
 
-pub cells_back : (stamp : Stamp) (cells : List (List ℕ × Cell)) → AreCells stamp cells → cells_of stamp (list_map cell_word cells) ≡ Some cells
+pub cells_back : (stamp : Stamp) (cells : List (List ℕ × Cell)) → AreSayableCells stamp cells → cells_of stamp (list_map cell_word cells) ≡ Some cells
 unfolding cells_of
 cells_back stamp cells are =
     ap (option_and_then (λ cells. cond (are_distinct cells) (Some cells) None)) (each_back stamp cells are.1.0)
     ∙ ap (λ b. cond b (Some cells) None) are.1.1
 
-pub some_cells_back : (stamp : Stamp) (cell : List ℕ × Cell) (cells : List (List ℕ × Cell)) → AreCells stamp (cell ∷ cells)
+pub some_cells_back : (stamp : Stamp) (cell : List ℕ × Cell) (cells : List (List ℕ × Cell)) → AreSayableCells stamp (cell ∷ cells)
     → some_cells_of stamp (list_map cell_word (cell ∷ cells)) ≡ Some (cell ∷ cells)
 some_cells_back stamp cell cells are = cells_back stamp (cell ∷ cells) are
 
