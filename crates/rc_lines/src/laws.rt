@@ -53,7 +53,7 @@ pub fn sayable_lines_read_back()
     ensures { (shape : Shape) (line : List ℕ) → shape_line shape ≡ Some line → IsSayable shape → shape_of (words line) ≡ Some shape }
 {}
 
-/// That line commands what it means under the schema that was taken, if one was, where it is not longer than the longest line.
+/// The line of what one line can say commands what it means under the schema that was taken, if one was, where it is not too long.
 pub fn sayable_lines_are_meant()
     ensures { (taken : Option Lists) (shape : Shape) (line : List ℕ) → shape_line shape ≡ Some line → IsSayable shape → length line ≤ longest_line →
         parse taken line ≡ shape_meaning taken (Some shape) }
