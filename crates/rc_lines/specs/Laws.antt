@@ -1,9 +1,17 @@
 -- Laws of lines, for crates above to cite.
+pub mod Halves
 pub mod Fitting
 pub mod Said
 pub mod Tests
 pub mod FitsLaws
 pub mod Plain
+pub mod Spaces
+pub mod Spelled
+pub mod Sayable
+pub mod Columns
+pub mod Lengths
+pub mod Lines
+pub mod Users
 use Rattle.std.specs.Prelude.{ℕ, ◌+◌, ◌<◌, true, false, nat_lt, List, length, take, Option, Err, ◌≡◌}
 use Rattle.std.proofs.Common.{refl, sym, subst, ap, ◌∙◌, arith}
 use Rattle.std.proofs.lemmas.List.{length-take, take_all}

@@ -6,3 +6,5 @@ pub mod Grammar
 pub mod Texts
 pub mod Laws
 pub mod Plain
+pub mod Sayable
+pub mod Lines

@@ -1,11 +1,26 @@
 //! Laws of lines, each the contract of a function that does nothing.
 
-ghost use Rattle.std.specs.Prelude.{◌≡◌, List, ℕ, Ok, Option, Some, take};
-ghost use Rattle.rc_schema.specs.Lists.{Lists};
+ghost use Rattle.std.specs.Prelude.{◌≡◌, ◌≤◌, List, ℕ, ℤ, length, true, IsTrue, Ok, Option, Some, take};
+ghost use Rattle.std.specs.Int.{w64};
+ghost use Rattle.std.specs.Int.RustNames.{FitsSigned};
+ghost use Rattle.rc_cell.specs.declared.writes.Tomb.{Tomb};
+ghost use Rattle.rc_cell.specs.Winner.{IsRow};
+ghost use Rattle.rc_position.specs.declared.comps.Comp.{Comp};
+ghost use Rattle.rc_rowcode.specs.Spelling.{IsTomb};
+ghost use Rattle.rc_schema.specs.Checks.{checked_prefix};
+ghost use Rattle.rc_schema.specs.Lists.{Lists, is_schema};
+ghost use Rattle.rc_spelling.specs.Words.{words};
+ghost use Rattle.rc_writes.specs.Allowed.{IsRowOf};
+ghost use Rattle.rc_writes.specs.Single.{partition_alone, row_alone};
 ghost use Rattle.rc_lines.specs.declared.commands.Command.{Command};
+ghost use Rattle.rc_lines.specs.declared.commands.Command.TheVariants.{Put};
+ghost use Rattle.rc_lines.specs.declared.shapes.Shape.{Shape};
 ghost use Rattle.rc_lines.specs.Fits.{Fits};
-ghost use Rattle.rc_lines.specs.Grammar.{longest_line, parse};
+ghost use Rattle.rc_lines.specs.Grammar.{longest_line, parse, shape_meaning};
+ghost use Rattle.rc_lines.specs.Lines.{AreComponents, AreValues, IsPartitionKey, IsSayableCommand, command_line, dead_row, delete_text, delpart_text, insert_text, live_row};
 ghost use Rattle.rc_lines.specs.Plain.{HasCounts, plain_line};
+ghost use Rattle.rc_lines.specs.Sayable.{IsSayable, shape_line};
+ghost use Rattle.rc_lines.specs.Shapes.{shape_of};
 
 use crate::reading::LONGEST_LINE;
 
@@ -31,4 +46,42 @@ pub fn commands_fit_their_schema()
 /// 4,294,967,295.
 pub fn plain_commands_read_back()
     ensures { (schema : Lists) (command : Command) (line : List ℕ) → plain_line command ≡ Some line → HasCounts command → parse (Some schema) line ≡ Ok command }
+{}
+
+/// What one line can say before a schema is known has a line that says it.
+pub fn sayable_lines_read_back()
+    ensures { (shape : Shape) (line : List ℕ) → shape_line shape ≡ Some line → IsSayable shape → shape_of (words line) ≡ Some shape }
+{}
+
+/// The line of what one line can say commands what it means under the schema that was taken, if one was, where it is not too long.
+pub fn sayable_lines_are_meant()
+    ensures { (taken : Option Lists) (shape : Shape) (line : List ℕ) → shape_line shape ≡ Some line → IsSayable shape → length line ≤ longest_line →
+        parse taken line ≡ shape_meaning taken (Some shape) }
+{}
+
+/// The line of each command that fits the schema, and that one line can say, is read back as it under that schema.
+pub fn commands_read_back()
+    ensures { (schema : Lists) (command : Command) (line : List ℕ) → IsTrue (is_schema schema) → Fits schema command → IsSayableCommand command →
+        command_line schema command ≡ Some line → parse (Some schema) line ≡ Ok command }
+{}
+
+/// An insert, with its key and values as replies print them, writes a marker and live cells of its timestamp to the row, and
+/// nothing else.
+pub fn inserts_read_back()
+    ensures { (schema : Lists) (key : List ℕ) (ck : List Comp) (ts : ℤ) (values : List (ℕ × List ℕ)) → IsTrue (is_schema schema) → IsPartitionKey key →
+        AreComponents ck → FitsSigned w64 ts → AreValues values → IsRowOf schema ck (live_row ts values) → IsRow (live_row ts values) →
+        parse (Some schema) (insert_text schema.cols key ck ts values) ≡ Ok (Put (record { key = key; change = row_alone ck (live_row ts values) })) }
+{}
+
+/// The deletion of a row, with its key as replies print it, writes its tombstone, and nothing else.
+pub fn deletes_read_back()
+    ensures { (schema : Lists) (key : List ℕ) (ck : List Comp) (tomb : Tomb) → IsTrue (is_schema schema) → IsPartitionKey key → AreComponents ck → IsTomb tomb →
+        checked_prefix true schema ck ≡ Ok tt →
+        parse (Some schema) (delete_text key ck tomb) ≡ Ok (Put (record { key = key; change = row_alone ck (dead_row tomb) })) }
+{}
+
+/// The deletion of a partition writes its tombstone, and nothing else.
+pub fn partition_deletes_read_back()
+    ensures { (schema : Lists) (key : List ℕ) (tomb : Tomb) → IsTrue (is_schema schema) → IsPartitionKey key → IsTomb tomb →
+        parse (Some schema) (delpart_text key tomb) ≡ Ok (Put (record { key = key; change = partition_alone tomb })) }
 {}

@@ -18,6 +18,10 @@ mod shapes;
 mod tests;
 
 pub use commands::{Command, Figures, LineErr, Refusal, Reply};
-pub use laws::{commands_fit_their_schema, long_lines_are_cut, longest_line_is_named};
+pub use laws::{
+    commands_fit_their_schema, commands_read_back, deletes_read_back, inserts_read_back,
+    long_lines_are_cut, longest_line_is_named, partition_deletes_read_back,
+    plain_commands_read_back, sayable_lines_are_meant, sayable_lines_read_back,
+};
 pub use printing::{print_refusal, print_reply};
 pub use reading::{LONGEST_LINE, read_line};

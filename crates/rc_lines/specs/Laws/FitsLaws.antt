@@ -42,13 +42,7 @@ use Rattle.rc_lines.specs.Shapes.{shape_of}
 use Rattle.rc_lines.specs.UnderSchema.{prefix_of, key_under, between, slice_under, cell_named, columns_from, by_column, are_columns, are_short, have_short_values, is_short_slice, key_said, slice_said, has_wrong_key, has_unknown_column, is_within, is_wrong_change, is_unknown_change, is_short_change, is_partition_key, rows_said, mutation_of, refusal_of, command_of, unless, meaning}
 use Rattle.rc_lines.specs.Laws.Fitting.{prefix_fits, prefix_is_as_long, columns_are_known, start_fits, end_fits}
 use Rattle.rc_lines.specs.Laws.Said.{If, Said, SaidShape, shape_said}
-
-both : (b c : Bool) → b && c ≡ true → (b ≡ true) × (c ≡ true)
-both true c h = (refl, h)
-both false c h = cc
-
-join : (b c : Bool) → b ≡ true → c ≡ true → b && c ≡ true
-join b c p q = rw (p, q) refl
+use Rattle.rc_lines.specs.Laws.Halves.{both, join}
 
 not_false : (b : Bool) → not b ≡ false → b ≡ true
 not_false true h = refl

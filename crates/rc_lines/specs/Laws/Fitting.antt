@@ -1,5 +1,5 @@
 -- What is read under a schema fits it.
-use Rattle.std.proofs.Common.{◌≡◌, ◌≤◌, ◌<◌, ℕ, ℤ, suc, ◌+◌, Bool, true, false, ◌&&◌, nat_lt, List, [], ◌∷◌, ◌++◌, length, refl, ap, arith, subst, IsTrue}
+use Rattle.std.proofs.Common.{◌≡◌, ◌≤◌, ◌<◌, ℕ, ℤ, suc, ◌+◌, Bool, true, false, nat_lt, List, [], ◌∷◌, ◌++◌, length, refl, ap, arith, subst, IsTrue}
 use Rattle.std.specs.declared.option.Option.{Option}
 use Rattle.std.specs.declared.option.Option.TheVariants.{Some, None}
 use Rattle.std.specs.List.{list_all}
@@ -21,9 +21,7 @@ use Rattle.rc_schema.specs.Checks.{is_of_kind, are_of_kinds, fits_kinds, columns
 use Rattle.rc_schema.specs.Lists.{Lists}
 use Rattle.rc_spelling.specs.Numbers.{signed_of}
 use Rattle.rc_lines.specs.UnderSchema.{component_of, prefix_of, cell_named, columns_said, columns_from, by_column}
-
-both : (b c : Bool) → b ≡ true → c ≡ true → b && c ≡ true
-both b c p q = rw (p, q) refl
+use Rattle.rc_lines.specs.Laws.Halves.{join}
 
 -- a key that came of an option
 abbrev Fits : Option (List Comp) → List (List ℕ) → List CkKind → Type 0
@@ -47,7 +45,7 @@ fits_more : (first : Option Comp) (rest : Option (List Comp)) (piece : List ℕ)
     OfKind first kind → Fits rest pieces kinds → Fits (option_and_then (λ component. option_map (λ key. component ∷ key) rest) first) (piece ∷ pieces) (kind ∷ kinds)
 fits_more None rest piece pieces kind kinds p q = tt
 fits_more (Some component) None piece pieces kind kinds p q = tt
-fits_more (Some component) (Some key) piece pieces kind kinds p q = (both (is_of_kind component kind) (are_of_kinds key kinds) p q.0, ap (λ (n : ℕ). suc n) q.1)
+fits_more (Some component) (Some key) piece pieces kind kinds p q = (join (is_of_kind component kind) (are_of_kinds key kinds) p q.0, ap (λ (n : ℕ). suc n) q.1)
 
 fits : (pieces : List (List ℕ)) (kinds : List CkKind) → Fits (prefix_of pieces kinds) pieces kinds
 fits [] kinds = (refl, refl)
@@ -68,7 +66,7 @@ less x y h = (let e : nat_lt x y ≡ true = grind (arith, nat_tests) in rw e ref
 below_step : (x column : ℕ) (o : Option Cell) (rest : List (ℕ × Cell)) → x < column → below_all nat_cmp x rest ≡ true
     → below_all nat_cmp x (option_to_list (option_map (λ cell. (column, cell)) o) ++ rest) ≡ true
 below_step x column None rest h p = p
-below_step x column (Some cell) rest h p = both (is_lt (nat_cmp x column)) (below_all nat_cmp x rest) (less x column h) p
+below_step x column (Some cell) rest h p = join (is_lt (nat_cmp x column)) (below_all nat_cmp x rest) (less x column h) p
 
 below : (x column : ℕ) (names : List (List ℕ)) (cells : List (List ℕ × Cell)) → x < column → below_all nat_cmp x (columns_from column names cells) ≡ true
 below x column [] cells h = refl
@@ -78,7 +76,7 @@ below x column (name ∷ names) cells h =
 sorted_step : (column : ℕ) (o : Option Cell) (rest : List (ℕ × Cell)) → below_all nat_cmp column rest ≡ true → is_sorted nat_cmp rest ≡ true
     → is_sorted nat_cmp (option_to_list (option_map (λ cell. (column, cell)) o) ++ rest) ≡ true
 sorted_step column None rest p q = q
-sorted_step column (Some cell) rest p q = both (below_all nat_cmp column rest) (is_sorted nat_cmp rest) p q
+sorted_step column (Some cell) rest p q = join (below_all nat_cmp column rest) (is_sorted nat_cmp rest) p q
 
 sorted : (column : ℕ) (names : List (List ℕ)) (cells : List (List ℕ × Cell)) → is_sorted nat_cmp (columns_from column names cells) ≡ true
 sorted column [] cells = refl
@@ -88,7 +86,7 @@ sorted column (name ∷ names) cells =
 known_step : (n column : ℕ) (o : Option Cell) (rest : List (ℕ × Cell)) → column < n → list_all (λ e. nat_lt e.0 n) rest ≡ true
     → list_all (λ e. nat_lt e.0 n) (option_to_list (option_map (λ cell. (column, cell)) o) ++ rest) ≡ true
 known_step n column None rest h p = p
-known_step n column (Some cell) rest h p = both (nat_lt column n) (list_all (λ e. nat_lt e.0 n) rest) (grind (arith, nat_tests)) p
+known_step n column (Some cell) rest h p = join (nat_lt column n) (list_all (λ e. nat_lt e.0 n) rest) (grind (arith, nat_tests)) p
 
 known : (n column : ℕ) (names : List (List ℕ)) (cells : List (List ℕ × Cell)) → column + length names ≤ n → list_all (λ e. nat_lt e.0 n) (columns_from column names cells) ≡ true
 known n column [] cells h = refl
@@ -109,10 +107,10 @@ columns_are_known false schema cells = known (length schema.cols) 0 schema.cols 
 
 pub start_fits : (kinds : List CkKind) (prefix : List Comp) (inclusive : Bool) (x : Pos) → x ≡ start_bound prefix inclusive → are_of_kinds prefix kinds ≡ true
     → fits_kinds false kinds x.prefix ≡ true
-start_fits kinds prefix true x e h = rw e (both (are_of_kinds prefix kinds) true h refl)
-start_fits kinds prefix false x e h = rw e (both (are_of_kinds prefix kinds) true h refl)
+start_fits kinds prefix true x e h = rw e (join (are_of_kinds prefix kinds) true h refl)
+start_fits kinds prefix false x e h = rw e (join (are_of_kinds prefix kinds) true h refl)
 
 pub end_fits : (kinds : List CkKind) (prefix : List Comp) (inclusive : Bool) (x : Pos) → x ≡ end_bound prefix inclusive → are_of_kinds prefix kinds ≡ true
     → fits_kinds false kinds x.prefix ≡ true
-end_fits kinds prefix true x e h = rw e (both (are_of_kinds prefix kinds) true h refl)
-end_fits kinds prefix false x e h = rw e (both (are_of_kinds prefix kinds) true h refl)
+end_fits kinds prefix true x e h = rw e (join (are_of_kinds prefix kinds) true h refl)
+end_fits kinds prefix false x e h = rw e (join (are_of_kinds prefix kinds) true h refl)

@@ -1,20 +1,16 @@
 -- Each command that names no partition has a line, which is read back as it.
-use Rattle.std.proofs.Common.{◌≡◌, ◌≤◌, ◌<◌, ◌^◌, ◌+◌, ℕ, zero, suc, false, ◌==◌, nat_lt, List, [], ◌∷◌, ◌++◌, length, refl, ap, ◌∙◌, subst, arith}
+use Rattle.std.proofs.Common.{◌≡◌, ◌≤◌, ◌<◌, ◌^◌, ◌+◌, ℕ, false, ◌==◌, nat_lt, List, [], ◌∷◌, ◌++◌, length, refl, ap, ◌∙◌, subst, arith}
 use Rattle.std.specs.Prelude.{All, codes, Ok, Err, if◌then◌else◌, option_and_then}
 use Rattle.std.specs.declared.option.Option.{Option}
 use Rattle.std.specs.declared.option.Option.TheVariants.{Some, None}
 use Rattle.std.specs.Fmt.{decimal}
 use Rattle.std.specs.List.{slice_split}
 use Rattle.std.specs.Option.{option_map, option_or}
-use Rattle.std.specs.Str.Parse.{AllDigits}
 use Rattle.std.proofs.lemmas.Bool.Decides.{nat_tests}
-use Rattle.std.proofs.lemmas.Fmt.{decimal_is_IsNumeral, length-decimal-le}
+use Rattle.std.proofs.lemmas.Fmt.{length-decimal-le}
 use Rattle.std.proofs.lemmas.List.Splits.{slice_split_none, slice_split_at}
-use Rattle.std.proofs.lemmas.Str.Parse.{digit_from_value}
 use Rattle.std.proofs.lemmas.List.{length-append}
 use Rattle.rc_schema.specs.Lists.{Lists}
-use Rattle.rc_spelling.specs.NumberLaws.{decimal_number}
-use Rattle.rc_spelling.specs.Numbers.{count_of}
 use Rattle.rc_spelling.specs.Words.{words}
 use Rattle.rc_lines.specs.declared.commands.Command.{Command}
 use Rattle.rc_lines.specs.declared.commands.Command.TheVariants.{Nothing, SetSchema, Put, OpenRead, Read, Close, Flush, FlushBegin, FlushStep, Evict, Compact, Clean, Stats}
@@ -25,6 +21,8 @@ use Rattle.rc_lines.specs.Parts.{behind}
 use Rattle.rc_lines.specs.Plain.{HasCounts, IsCount, plain_line}
 use Rattle.rc_lines.specs.Shapes.{shape_of, bare_of, told_of, numbered_of, counted_of, read_of, step_of, write_of}
 use Rattle.rc_lines.specs.UnderSchema.{meaning, refusal_of}
+use Rattle.rc_lines.specs.Laws.Spaces.{number_spaceless}
+use Rattle.rc_lines.specs.Laws.Spelled.{count_back}
 
 -- a line of one shape that is the same under each schema
 told : (schema : Lists) (line : List ℕ) (command : Command) → length line ≤ 65536 → is_comment line ≡ false → schema_said line ≡ None → shape_of (words line) ≡ Some (Plain command) → parse (Some schema) line ≡ Ok command
@@ -38,26 +36,14 @@ told schema line command short said_some no_schema shape =
 small : (n : ℕ) → n ≤ 4294967295 → n < 2 ^ 64
 small n h = omega arith
 
-no_space : (ds : List ℕ) → AllDigits 10 ds → All (λ x. (x == 32) ≡ false) ds
-no_space [] d k x lt = absurd (omega arith)
-no_space (c ∷ cs) d zero x lt = let within = digit_from_value c d.0 in grind (arith, nat_tests)
-no_space (c ∷ cs) d (suc k) x lt = no_space cs d.1 k x (omega arith)
-
 count_word : (n : ℕ) → IsCount n → All (λ x. (x == 32) ≡ false) (decimal n)
-count_word n is = no_space (decimal n) (decimal_is_IsNumeral n (small n is.1)).0.1
+count_word n is = number_spaceless n (small n is.1)
 
 one_word : (n : ℕ) → IsCount n → slice_split (λ byte. byte == 32) (decimal n) ≡ decimal n ∷ []
 one_word n is = slice_split_none (λ byte. byte == 32) (decimal n) (count_word n is)
 
 two_words : (n m : ℕ) → IsCount n → IsCount m → slice_split (λ byte. byte == 32) (decimal n ++ 32 ∷ decimal m) ≡ decimal n ∷ decimal m ∷ []
 two_words n m is other = slice_split_at (λ byte. byte == 32) (decimal n) 32 (decimal m) (count_word n is) refl ∙ ap (λ ws. decimal n ∷ ws) (one_word m other)
-
-count_back : (n : ℕ) → IsCount n → count_of 4294967295 (decimal n) ≡ Some n
-unfolding count_of
-count_back n is =
-    let some : n == 0 ≡ false = (let least : 1 ≤ n = is.0 in grind (arith, nat_tests)) in
-    ap (option_and_then (λ value. if value == 0 then None else Some value)) (decimal_number 4294967295 n (small n is.1) is.1)
-    ∙ ap (λ b. if b then None else Some n) some
 
 few_digits : (n : ℕ) → IsCount n → length (decimal n) ≤ 10
 few_digits n is = length-decimal-le 10 n (omega arith) (let most : n ≤ 4294967295 = is.1 in omega arith) (small n is.1)
@@ -86,35 +72,35 @@ module _ (schema : Lists) where
     close_back =
         told schema (codes "close " ++ decimal n) (Close n) (let most = few in omega arith) refl refl
         (ap (λ ws. shape_of (codes "close" ∷ ws)) (one_word n is)
-        ∙ ap (λ o. option_or (option_map (λ command. Plain command) (option_and_then (told_of (codes "close")) o)) (write_of (codes "close") (decimal n ∷ []))) (count_back n is))
+        ∙ ap (λ o. option_or (option_map (λ command. Plain command) (option_and_then (told_of (codes "close")) o)) (write_of (codes "close") (decimal n ∷ []))) (count_back n is.0 is.1))
 
     evict_back : parse (Some schema) (codes "evict " ++ decimal n) ≡ Ok (Evict n)
     unfolding schema_said behind numbered_of told_of
     evict_back =
         told schema (codes "evict " ++ decimal n) (Evict n) (let most = few in omega arith) refl refl
         (ap (λ ws. shape_of (codes "evict" ∷ ws)) (one_word n is)
-        ∙ ap (λ o. option_or (option_map (λ command. Plain command) (option_and_then (told_of (codes "evict")) o)) (write_of (codes "evict") (decimal n ∷ []))) (count_back n is))
+        ∙ ap (λ o. option_or (option_map (λ command. Plain command) (option_and_then (told_of (codes "evict")) o)) (write_of (codes "evict") (decimal n ∷ []))) (count_back n is.0 is.1))
 
     compact_back : parse (Some schema) (codes "compact " ++ decimal n) ≡ Ok (Compact n)
     unfolding schema_said behind numbered_of told_of
     compact_back =
         told schema (codes "compact " ++ decimal n) (Compact n) (let most = few in omega arith) refl refl
         (ap (λ ws. shape_of (codes "compact" ∷ ws)) (one_word n is)
-        ∙ ap (λ o. option_or (option_map (λ command. Plain command) (option_and_then (told_of (codes "compact")) o)) (write_of (codes "compact") (decimal n ∷ []))) (count_back n is))
+        ∙ ap (λ o. option_or (option_map (λ command. Plain command) (option_and_then (told_of (codes "compact")) o)) (write_of (codes "compact") (decimal n ∷ []))) (count_back n is.0 is.1))
 
     clean_back : parse (Some schema) (codes "clean " ++ decimal n) ≡ Ok (Clean n)
     unfolding schema_said behind numbered_of told_of
     clean_back =
         told schema (codes "clean " ++ decimal n) (Clean n) (let most = few in omega arith) refl refl
         (ap (λ ws. shape_of (codes "clean" ∷ ws)) (one_word n is)
-        ∙ ap (λ o. option_or (option_map (λ command. Plain command) (option_and_then (told_of (codes "clean")) o)) (write_of (codes "clean") (decimal n ∷ []))) (count_back n is))
+        ∙ ap (λ o. option_or (option_map (λ command. Plain command) (option_and_then (told_of (codes "clean")) o)) (write_of (codes "clean") (decimal n ∷ []))) (count_back n is.0 is.1))
 
     step_back : parse (Some schema) (codes "flush step " ++ decimal n) ≡ Ok (FlushStep n)
     unfolding schema_said behind counted_of step_of
     step_back =
         told schema (codes "flush step " ++ decimal n) (FlushStep n) (let most = few in omega arith) refl refl
         (ap (λ ws. shape_of (codes "flush" ∷ codes "step" ∷ ws)) (one_word n is)
-        ∙ ap (λ o. option_or (option_map (λ command. Plain command) (option_map (λ n. FlushStep n) o)) (write_of (codes "flush") (codes "step" ∷ decimal n ∷ []))) (count_back n is))
+        ∙ ap (λ o. option_or (option_map (λ command. Plain command) (option_map (λ n. FlushStep n) o)) (write_of (codes "flush") (codes "step" ∷ decimal n ∷ []))) (count_back n is.0 is.1))
 
     module _ (m : ℕ) (other : IsCount m) where
       long_enough : length (decimal n ++ 32 ∷ decimal m) ≤ 21
@@ -129,7 +115,7 @@ module _ (schema : Lists) where
       read_back =
           told schema (codes "read " ++ (decimal n ++ 32 ∷ decimal m)) (Read n m) (let most = long_enough in omega arith) refl refl
           (ap (λ ws. shape_of (codes "read" ∷ ws)) (two_words n m is other)
-          ∙ (λ i. option_or (option_map (λ command. Plain command) (option_and_then (λ a. option_map (λ b. Read a b) (count_back m other i)) (count_back n is i))) (write_of (codes "read") (decimal n ∷ decimal m ∷ []))))
+          ∙ (λ i. option_or (option_map (λ command. Plain command) (option_and_then (λ a. option_map (λ b. Read a b) (count_back m other.0 other.1 i)) (count_back n is.0 is.1 i))) (write_of (codes "read") (decimal n ∷ decimal m ∷ []))))
 
 at_line : (schema : Lists) (command : Command) (made line : List ℕ) → ◌≡◌ {A = Option (List ℕ)} (Some made) (Some line) → parse (Some schema) made ≡ Ok command → parse (Some schema) line ≡ Ok command
 at_line schema command made line e h = let same : made ≡ line = cc in subst (λ l. parse (Some schema) l ≡ Ok command) same h

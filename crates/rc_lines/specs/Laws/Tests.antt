@@ -18,6 +18,7 @@ use Rattle.rc_schema.specs.Lists.{Lists}
 use Rattle.rc_schema.specs.Checks.{checked_prefix, checked_cells}
 use Rattle.rc_writes.specs.Allowed.{ChangeFits, IsBoundOf, IsRowOf, IsStaticOf}
 use Rattle.rc_writes.specs.Laws.Within.{all_within}
+use Rattle.rc_lines.specs.Laws.Halves.{both}
 
 -- whether a key, or where it need not be full a prefix of one, fits a schema
 abbrev pub fits_key : Bool → Lists → List Comp → Bool
@@ -52,10 +53,6 @@ fits_slice schema slice = fits_bound schema slice.from && fits_bound schema slic
 -- whether each part of a write fits
 abbrev pub fits_write : Lists → Mutation → Bool
 fits_write schema m = fits_static schema m.statics && (list_all (fits_row schema) m.rows && list_all (λ p. fits_slice schema (record { from = p.from; to = p.to })) m.ranges)
-
-both : (b c : Bool) → b && c ≡ true → (b ≡ true) × (c ≡ true)
-both true c h = (refl, h)
-both false c h = absurd (cc)
 
 fine : (r : Result (Unit {0}) SchemaErr) → is_ok r ≡ true → r ≡ Ok tt
 fine (Ok u) h = refl
