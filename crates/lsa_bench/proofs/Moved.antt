@@ -1,6 +1,6 @@
 -- What a move leaves as it was.
 use Rattle.std.proofs.Common.{◌≡◌, ℕ, zero, suc, ◌<◌, ◌≤◌, ⊎_elim, inl, inr, List, Option, Some, None, IsSome, refl, sym, ap, ◌∙◌, subst, arith}
-use Rattle.std.specs.Prelude.{◌⊎◌, ◌+◌, ◌*◌, ◌/◌, ◌-◌, ◌^◌, min, length, IsSomeAnd}
+use Rattle.std.specs.Prelude.{◌⊎◌, ◌+◌, ◌*◌, ◌/◌, ◌-◌, ◌%◌, ◌^◌, Bool, true, false, cond, nat_eq, min, length, IsSomeAnd}
 use Rattle.std.specs.Option.{option_map, option_map_or}
 use Rattle.lsa_kinds.specs.declared.kind.Kind.{Kind}
 use Rattle.lsa_pool.specs.Room.{spare_of, usage_of}
@@ -9,10 +9,10 @@ use Rattle.lsa_region.specs.declared.end.Root.{Root}
 use Rattle.lsa_region.specs.declared.end.End.{End}
 use Rattle.lsa_region.specs.declared.end.End.TheVariants.{Obj, Slot}
 use Rattle.lsa_region.specs.Ends.{end_as}
-use Rattle.lsa_region.specs.Region.{View, body, link_of, IsEnd, IsWell, Renamed}
+use Rattle.lsa_region.specs.Region.{View, body, link_of, IsEnd, IsWell, Renamed, Risen}
 use Rattle.lsa_region.specs.laws.Sparse.{sparse-is}
 use Rattle.lsa_move.specs.Room.{Tight, Compactions}
-use Rattle.lsa_bench.specs.Works.{named_object, length_of}
+use Rattle.lsa_bench.specs.Works.{named_object, length_of, IsStep, Steps}
 
 -- ---- an object that a slot names is as long as before
 
@@ -87,3 +87,25 @@ asked-more size need old mid new asked full (suc found) before few one less tigh
     zero_or_more : (n : ℕ) → (n ≡ 0) ⊎ (0 < n)
     zero_or_more zero = inl refl
     zero_or_more (suc n) = inr (omega arith)
+
+-- ---- steps
+
+-- the epoch after a dummy was made, and after it went again
+pub made-gone : (goes : Bool) (a b c : ℕ) → goes ≡ true → Risen a b → Risen b c → c ≡ min (a + cond goes 2 1) (2 ^ 64 - 1)
+made-gone true a b c is first second = omega (arith, first, second)
+made-gone false a b c is first second = cc is
+
+pub made-stays : (goes : Bool) (a b : ℕ) → goes ≡ false → Risen a b → b ≡ min (a + cond goes 2 1) (2 ^ 64 - 1)
+made-stays true a b is first = cc is
+made-stays false a b is first = omega (arith, first)
+
+pub steps-none : (v : View) → Steps 0 v v
+unfolding Steps
+steps-none v = refl
+
+next_step : (n : ℕ) (old mid new : View) → Steps n old mid → IsStep (nat_eq (n % 2) 0) mid new → Steps (suc n) old new
+unfolding Steps
+next_step n old mid new steps step = (mid, steps, step)
+
+pub steps-more : (n : ℕ) (old mid new : View) → Steps n old mid → IsStep (nat_eq (n % 2) 0) mid new → Steps (n + 1) old new
+steps-more n old mid new steps step = subst (λ k. Steps k old new) (omega arith) (next_step n old mid new steps step)

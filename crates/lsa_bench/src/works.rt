@@ -1,12 +1,12 @@
 //! The works: a region is filled, asked for room while it is full, its segments are emptied, and root slots come and go.
-ghost use Rattle.std.specs.Prelude.{◌≡◌, ◌↔◌, ℕ, ◌+◌, ◌*◌, ◌-◌, ◌^◌, ◌<◌, ◌≤◌, true, false, None, IsSome, IfSome, IfOk, cond};
+ghost use Rattle.std.specs.Prelude.{◌≡◌, ◌↔◌, ℕ, ◌+◌, ◌*◌, ◌-◌, ◌^◌, ◌<◌, ◌≤◌, true, false, Some, None, IsSome, IfSome, IfOk, cond, min, max};
 ghost use Rattle.lsa_pool.specs.Room.{spare_of};
 ghost use Rattle.lsa_region.specs.Layout.{sparse_of};
 ghost use Rattle.lsa_region.specs.declared.end.Root.{Root as Slot};
 ghost use Rattle.lsa_region.specs.declared.end.Ref.{Ref as Name};
 ghost use Rattle.lsa_region.specs.Region.{body, link_of, live_bytes, objects, IsEnd, IsWell, Renamed, slots_of};
-ghost use Rattle.lsa_bench.specs.Works.{named_object, length_of};
-ghost use Rattle.lsa_move.specs.Room.{Tight, Compactions};
+ghost use Rattle.lsa_bench.specs.Works.{named_object, length_of, IsStep, Steps};
+ghost use Rattle.lsa_move.specs.Room.{Tight, IsCompacted, Compactions};
 
 use lsa_kinds::Kind;
 use lsa_move::{Ensured, compact_one, ensure};
@@ -21,6 +21,7 @@ pub fn make(region: &mut Region<4096>, goes: bool) -> bool
     ensures none { result ≡ false → region.new ≡ region.old }
     ensures objects { result ≡ true → objects region.new ≡ objects region.old + cond goes 0 1 }
     ensures live { result ≡ true → live_bytes region.new ≡ live_bytes region.old + cond goes 0 88 }
+    ensures epoch { result ≡ true → region.new.epoch ≡ min (region.old.epoch + cond goes 2 1) (2 ^ 64 - 1) }
     ensures slots { (s : Slot) → IsEnd region.old (End.Slot s) → IsEnd region.new (End.Slot s) }
 {
     if region.spare() < 88 {
@@ -88,10 +89,11 @@ pub fn keep_slots(region: &mut Region<4096>, alloc: Global, count: u32) -> Resul
     Ok(())
 }
 
-/// Makes a root slot and drops it, so many times.
+/// Makes a root slot and drops it, so many times. However often that is, there is one number more at most: the dropped slot is used again.
 pub fn change_slots(region: &mut Region<4096>, alloc: Global, times: u32) -> Result<(), AllocError>
     requires { (slots_of region.old).there < 2 ^ 32 }
-    ensures { IfOk result (λ _. (slots_of region.new).there ≡ (slots_of region.old).there) }
+    ensures there { IfOk result (λ _. (slots_of region.new).there ≡ (slots_of region.old).there) }
+    ensures again { IfOk result (λ _. 0 < times → (slots_of region.new).bound ≡ max (slots_of region.old).bound ((slots_of region.old).there + 1)) }
 {
     for changed in 0..times {
         let slot = region.add_root(alloc)?;
@@ -130,6 +132,8 @@ fn size_of(region: &Region<4096>, object: Option<Ref>) -> usize
 pub fn stays_over_a_move(region: &mut Region<4096>, slot: Root) -> bool
     requires { IsEnd region.old (End.Slot slot) }
     ensures stays { result ≡ true }
+    ensures emptied { IfSome (sparse_of 4096 region.old.usages) (IsCompacted 4096 region.old region.new) }
+    ensures same { sparse_of 4096 region.old.usages ≡ None → region.new ≡ region.old }
     ensures there { IsEnd region.new (End.Slot slot) }
 {
     region.known();
@@ -140,9 +144,11 @@ pub fn stays_over_a_move(region: &mut Region<4096>, slot: Root) -> bool
     size == size_of(region, after)
 }
 
-// Makes a dummy, or empties a segment where there is no room; false where none is sparse.
+// Makes a dummy, or empties a segment where there is no room; false where none is sparse, and then nothing is changed.
 fn make_or_move(region: &mut Region<4096>, slot: Root, goes: bool) -> bool
     requires { IsEnd region.old (End.Slot slot) }
+    ensures step { result ≡ true → IsStep goes region.old region.new }
+    ensures same { result ≡ false → region.new ≡ region.old }
     ensures there { IsEnd region.new (End.Slot slot) }
     ensures full { result ≡ false → spare_of 4096 region.new.usages < 88 }
     ensures tight { result ≡ false → sparse_of 4096 region.new.usages ≡ None }
@@ -160,6 +166,7 @@ fn make_or_move(region: &mut Region<4096>, slot: Root, goes: bool) -> bool
 /// many steps that took.
 pub fn move_all(region: &mut Region<4096>, slot: Root) -> u64
     requires { IsEnd region.old (End.Slot slot) }
+    ensures steps { Steps result region.old region.new }
     ensures there { IsEnd region.new (End.Slot slot) }
     ensures full { result < 2 ^ 64 - 1 → spare_of 4096 region.new.usages < 88 }
     ensures tight { result < 2 ^ 64 - 1 → sparse_of 4096 region.new.usages ≡ None }
@@ -172,10 +179,12 @@ pub fn move_all(region: &mut Region<4096>, slot: Root) -> u64
     u64::MAX
 }
 
-/// A root slot that names a link of a new object.
+/// A root slot that names a link of a new object; None only where there is no room for that.
 pub fn hold(region: &mut Region<4096>, alloc: Global) -> Result<Option<Root>, AllocError>
     requires { (slots_of region.old).there < 2 ^ 32 }
-    ensures { IfOk result (λ s. IfSome s (λ slot. IsEnd region.new (End.Slot slot))) }
+    ensures full { IfOk result (λ s. s ≡ None → spare_of 4096 region.old.usages < 88) }
+    ensures there { IfOk result (λ s. IfSome s (λ slot. IsEnd region.new (End.Slot slot))) }
+    ensures names { IfOk result (λ s. IfSome s (λ slot. (object : Name) × (body region.old object ≡ None) × (link_of region.new (End.Slot slot) ≡ Some (End.Obj object 0)))) }
 {
     if region.spare() < 88 {
         return Ok(None);
