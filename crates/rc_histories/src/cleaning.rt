@@ -26,7 +26,24 @@ pub(crate) fn clean(alloc: Global, history: &mut History) -> Result<Option<Step>
     let Some(number) = number else {
         return Ok(None);
     };
-    if number >= versions {
+    let before = units_left(chain);
+    let step = clean_version(alloc, chain, number, room)?;
+    let ends = next != Some(number) || units_left(chain) < before;
+    history.tally.expect(
+        ends,
+        "less is left to clean after a unit of what comes next",
+    );
+    Ok(step)
+}
+
+// A unit of the version of a number, which the next newer one takes in.
+fn clean_version(
+    alloc: Global,
+    chain: &mut Chain,
+    number: usize,
+    room: bool,
+) -> Result<Option<Step>, AllocError> {
+    if number >= chain.versions.len() {
         return Ok(None);
     }
     let mut older = chain.versions.remove(number);
@@ -40,6 +57,24 @@ pub(crate) fn clean(alloc: Global, history: &mut History) -> Result<Option<Step>
         chain.versions.insert(number, older)?;
     }
     Ok(Some(step))
+}
+
+// The objects of the versions that may be merged.
+fn units_left(chain: &Chain) -> usize {
+    let versions = chain.versions.len();
+    let updating = chain.is_updating();
+    let mut left = 0_usize;
+    for number in 0..versions {
+        if may_merge(number, versions, chain.pins.as_slice(), updating)
+            && let Some(version) = chain.versions.get(number)
+        {
+            left = left.saturating_add(version.entries.len());
+            if version.statics.is_some() {
+                left = left.saturating_add(1);
+            }
+        }
+    }
+    left
 }
 
 // The pins of newer versions, once one is gone.
@@ -84,7 +119,7 @@ fn merge(
     if older.entries.len() > 1 {
         return Ok(Step::carrying("unit of the cleaner: entry", Effect::Nothing));
     }
-    merge_end(alloc, older, newer)?;
+    merge_rest(alloc, older, newer)?;
     Ok(Step {
         kind: "unit of the cleaner: version dropped",
         effect: Effect::Nothing,
@@ -122,7 +157,7 @@ fn merge_entry(
     Ok(())
 }
 
-fn merge_end(
+fn merge_rest(
     alloc: Global,
     older: &mut PlainVersion,
     newer: &mut PlainVersion,

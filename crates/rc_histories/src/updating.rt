@@ -155,7 +155,7 @@ fn is_over_nothing(fragment: &Frag, next: &Place) -> bool {
 }
 
 // Two versions that stand at no place, though no position shows it before a further step: with a dummy behind the place, which could be
-// evicted; and with a tombstone on the gap right behind the place.
+// evicted; and with a tombstone on a gap behind the place in which no position stands, where the place is before a key.
 fn refuse_spoiled(
     alloc: Global,
     place: &Place,
@@ -180,8 +180,18 @@ fn refuse_spoiled(
         );
     }
     let mut with_tomb = copy_entries(alloc, version.entries.as_slice())?;
-    if let Some(end) = with_tomb.last_mut() {
-        end.gap.tomb = Some(Tomb { ts: 9, dt: 0 });
+    if place.weight == Weight::Before {
+        let row = Pos {
+            prefix: place.prefix.copy(alloc)?,
+            weight: Weight::At,
+        };
+        with_tomb = split_entries(alloc, &row, with_tomb.as_slice())?;
+    }
+    for entry in with_tomb.iter_mut() {
+        if entry.position > *place {
+            entry.gap.tomb = Some(Tomb { ts: 9, dt: 0 });
+            break;
+        }
     }
     tally.expect(
         !is_at_place(place, &of_entries(with_tomb)),

@@ -9,9 +9,9 @@ use Rattle.rc_position.specs.declared.positions.Pos.{Pos}
 use Rattle.rc_mutation.specs.declared.mutations.Mutation.{Mutation}
 use Rattle.rc_core.specs.declared.entries.Entry.{Entry}
 use Rattle.rc_core.specs.declared.entries.ChainKind.TheVariants.{Cache}
-use Rattle.rc_core.specs.Version.{Version, IsVersion, EndsWithDummy}
+use Rattle.rc_core.specs.Version.{Behind, EndsWithDummy, IsVersion, On, Version}
 use Rattle.rc_core.specs.Cell.{Cell, through}
-use Rattle.rc_core.specs.Chain.{cells, content, flag_over, flagged}
+use Rattle.rc_core.specs.Chain.{IsKnown, cells, content, flag_over, flagged}
 use Rattle.rc_core.specs.Chains.{Chain, IsChainContinuous, IsMemtableChain, IsNeeded, IsPinned, IsUpdating, NewestIs, phase_at, upto, with_versions}
 use Rattle.rc_core.specs.AtPlace.{IsAtPlace}
 use Rattle.rc_core.specs.Change.{lose_first_gap}
@@ -330,3 +330,14 @@ module _ (c : Chain) (front back : List Version) (v w : Version) (vs : c.version
 
   pub lost-needed : (k : ℕ) → IsNeeded c k → IsNeeded (chain_left front (cleaned_without_room Cache v w) back c) (number_left (cleaned_without_room Cache v w) (length front) k)
   lost-needed = knows.needed
+
+-- ---- at a position
+
+pub as_before-known : (before now : List Version) (x : Pos) → IsKnownAsBefore before now → IsKnown Cache now x → IsKnown Cache before x × (content (cells (On x) now) ≡ content (cells (On x) before))
+as_before-known before now x k h = let e = (k.clustered (On x) h.at).1 in (
+  record {
+    at = (k.clustered (On x) h.at).0;
+    gap = λ b. (k.clustered (Behind x) (h.gap (record { inside = b.inside; no_row = ap (λ c. c.0) e ∙ b.no_row }))).0;
+  },
+  e,
+)

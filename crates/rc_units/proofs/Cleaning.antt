@@ -16,7 +16,7 @@ use Rattle.rc_core.specs.Change.{dummy, split}
 use Rattle.rc_core.specs.Continuity.{with_entries}
 use Rattle.rc_core.specs.Merge.{Alike, IsPutDown, IsMerged, IsSilent}
 use Rattle.rc_core.specs.laws.Spots.{turned, turn_to, behind-Equal, spot-Less, spot-before, spot-at, split-seen, split-reaches, position-reached, gap-reached}
-use Rattle.rc_units.specs.Clean.{onto_by, gap_onto_by, entry_onto, end_onto, merge_entry, merge_end, gap_said, statics_said, statics_onto, end_merged, emptied}
+use Rattle.rc_units.specs.Clean.{onto_by, gap_onto_by, entry_onto, end_onto, merge_entry, merge_end_dummy, gap_said, statics_said, statics_onto, end_merged, emptied}
 use Rattle.rc_core.specs.Plain.{mark_under, found_under, no_mark}
 use Rattle.rc_units.proofs.Under.{none-under, found-alike, statics-alike, pt_again}
 use Rattle.rc_units.proofs.Onto.{GapIs, CutAt, gap-any, cut-split, cut-kept, on-spot, spot-between, map-seen, nothing_found}
@@ -219,21 +219,21 @@ module _ (e : Entry) (at_end : e.position ≡ end_position) (s : Spot) where
   none_behind : (y : Pos) → (spot_cmp s e.position ≡ Less → ⊥) → spot_cmp s y ≡ Less → ⊥
   none_behind y off l = let u : true ≡ false = sym (ap is_gt (behind_it e.position y (spot-between s e.position y off l))) ∙ upto_end y in cc
 
-  end_before : (w : List Entry) → spot_cmp s e.position ≡ Less → IsBeforeEnd s w → seen s (merge_end e w) ≡ found_under (found e.gap None) (seen s w)
+  end_before : (w : List Entry) → spot_cmp s e.position ≡ Less → IsBeforeEnd s w → seen s (merge_end_dummy e w) ≡ found_under (found e.gap None) (seen s w)
   end_before w h b =
       map-seen (end_onto e) (end_onto-keeps e) s (found_under (found e.gap None)) (λ _. Unit {0})
       (λ y l _. upto_gap (pos_cmp y.position e.position) e y y (upto_end y.position))
       (λ y l. ap (λ r. says (onto_by r e y y)) (on-spot s y.position e.position l ∙ h))
       w (inl b) (gap-any (λ _. Unit {0}) s w (λ _. tt))
 
-  end_at : (w : List Entry) → spot_cmp s e.position ≡ Equal → IsBeforeEnd s w → seen s (merge_end e w) ≡ found_under (found e.at e.row) (seen s w)
+  end_at : (w : List Entry) → spot_cmp s e.position ≡ Equal → IsBeforeEnd s w → seen s (merge_end_dummy e w) ≡ found_under (found e.at e.row) (seen s w)
   end_at w h b =
       map-seen (end_onto e) (end_onto-keeps e) s (found_under (found e.at e.row)) (λ _. Unit {0})
       (λ y l _. absurd (none_behind y.position (λ k. let v : Less ≡ Equal = sym k ∙ h in cc) l))
       (λ y l. ap (λ r. says (onto_by r e y y)) (on-spot s y.position e.position l ∙ h))
       w (inl b) (gap-any (λ _. Unit {0}) s w (λ _. tt))
 
-  end_behind : (w : List Entry) → spot_cmp s e.position ≡ Greater → seen s (merge_end e w) ≡ seen s w
+  end_behind : (w : List Entry) → spot_cmp s e.position ≡ Greater → seen s (merge_end_dummy e w) ≡ seen s w
   end_behind w h =
       map-seen (end_onto e) (end_onto-keeps e) s (λ a. a) (λ _. Unit {0})
       (λ y l _. absurd (none_behind y.position (λ k. let v : Less ≡ Greater = sym k ∙ h in cc) l))
@@ -247,8 +247,8 @@ at_the_end (Behind x) q w k d = absurd (behind-Equal (pos_cmp x q) k)
 pub end-merged : (v w : Version) (e : Entry) → v.entries ≡ e ∷ [] → IsVersion v → IsVersion w → IsMerged v w (emptied e v) (end_merged e v w)
 end-merged v w e h i j = record {
   statics = inr (refl, statics-alike v.static_flag w.static_flag v.statics w.statics);
-  clustered = λ s. subst (λ es. IsPutDown (cell_of (seen s es)) (cell_at s w) (cell_at s (emptied e v)) (cell_of (seen s (merge_end e w.entries)))) (sym h)
-      (elim (spot_cmp s e.position) as (λ r. spot_cmp s e.position ≡ r → IsPutDown (cell_of (entry_answers r e nothing_found)) (cell_at s w) (cell_at s (emptied e v)) (cell_of (seen s (merge_end e w.entries)))) [
+  clustered = λ s. subst (λ es. IsPutDown (cell_of (seen s es)) (cell_at s w) (cell_at s (emptied e v)) (cell_of (seen s (merge_end_dummy e w.entries)))) (sym h)
+      (elim (spot_cmp s e.position) as (λ r. spot_cmp s e.position ≡ r → IsPutDown (cell_of (entry_answers r e nothing_found)) (cell_at s w) (cell_at s (emptied e v)) (cell_of (seen s (merge_end_dummy e w.entries)))) [
         | Less ↦ λ k. put_seen (found e.gap None) (seen s w.entries) _ _ (silent_answers (spot_cmp s e.position) e.position) (end_before e at_end s w.entries k (reached_before s e.position w.entries k j.ends))
         | Equal ↦ λ k. put_seen (found e.at e.row) (seen s w.entries) _ _ (silent_answers (spot_cmp s e.position) e.position) (end_at e at_end s w.entries k (at_the_end s e.position w.entries k j.ends))
         | Greater ↦ λ k. kept_seen nothing_found (seen s w.entries) _ _ (silent_answers (spot_cmp s e.position) e.position) (end_behind e at_end s w.entries k)

@@ -18,59 +18,33 @@ use Rattle.rc_core.specs.declared.entries.Entry.{Entry}
 use Rattle.rc_core.specs.declared.entries.Mark.{Mark}
 use Rattle.rc_core.specs.Version.{Ascend, EndsWithDummy, Version, IsVersion, end_position}
 use Rattle.rc_core.specs.Change.{change, changed, dummy, join_row_at, raised, split, split_by, with_row}
+use Rattle.rc_core.specs.Continuity.{with_entries}
+use Rattle.rc_core.specs.laws.Order.{change-is, split-ends, split-is}
 use Rattle.rc_core.specs.laws.Spots.{StandsAt, StandsBy, split-stands, position-reached}
 use Rattle.rc_core.specs.AtPlace.{EachEntry, EndsBehind, HasItsPlace, StandsAtPlace}
 use Rattle.rc_core.specs.laws.Placed.{each-map, each-split, each-wider, has-stands, stands-has}
 use Rattle.rc_units.specs.Update.{place_of, Precedes, raise_upto, split_at, updated}
-use Rattle.rc_units.proofs.Putting.{row-ends}
-use Rattle.rc_units.proofs.Versions.{split-ascends, split-ends, map-ascends, map-ends}
+use Rattle.rc_units.proofs.Putting.{row-is}
 
 -- ---- a version
 
-at-ascends : (p : Place) (es : List Entry) → Ascend es → Ascend (split_at p es)
-at-ascends Head es a = a
-at-ascends Static es a = a
-at-ascends (Clustered x) es a = split-ascends x es a
-at-ascends End es a = a
+split_at-is : (p : Place) (v : Version) → IsVersion v → IsVersion (with_entries (split_at p v.entries) v)
+split_at-is Head v i = i
+split_at-is Static v i = i
+split_at-is (Clustered x) v i = split-is x v i
+split_at-is End v i = i
 
-at-ends : (p : Place) (es : List Entry) → EndsWithDummy es → EndsWithDummy (split_at p es)
-at-ends Head es d = d
-at-ends Static es d = d
-at-ends (Clustered x) es d = split-ends x es d
-at-ends End es d = d
-
-change-ascends : (f : Mark → Mark) (q p : Pos) (es : List Entry) → Ascend es → Ascend (change f q p es)
-change-ascends f q p es a = map-ascends (changed f q p) (λ y. refl) (split p (split q es)) (split-ascends p (split q es) (split-ascends q es a))
-
-change-ends : (f : Mark → Mark) (q p : Pos) (es : List Entry) → EndsWithDummy es → EndsWithDummy (change f q p es)
-change-ends f q p es d = map-ends (changed f q p) (λ y. refl) (λ y _ none. none) (split p (split q es)) (split-ends p (split q es) (split-ends q es d))
-
-raise-ascends : (tomb : Option Tomb) (q : Pos) (p : Place) (es : List Entry) → Ascend es → Ascend (raise_upto tomb q p es)
-raise-ascends tomb q Head es a = a
-raise-ascends tomb q Static es a = a
-raise-ascends tomb q (Clustered x) es a = change-ascends (raised tomb) q x es a
-raise-ascends tomb q End es a = change-ascends (raised tomb) q end_position es a
-
-raise-ends : (tomb : Option Tomb) (q : Pos) (p : Place) (es : List Entry) → EndsWithDummy es → EndsWithDummy (raise_upto tomb q p es)
-raise-ends tomb q Head es d = d
-raise-ends tomb q Static es d = d
-raise-ends tomb q (Clustered x) es d = change-ends (raised tomb) q x es d
-raise-ends tomb q End es d = change-ends (raised tomb) q end_position es d
-
-row-ascends : (q : Pos) (row : Row) (es : List Entry) → Ascend es → Ascend (join_row_at q row es)
-row-ascends q row es a =
-    map-ascends (λ e. cond (eq_by_cmp pos_cmp q e.position) (with_row row e) e)
-    (λ y. elim (eq_by_cmp pos_cmp q y.position) as (λ b. (cond b (with_row row y) y).position ≡ y.position) [ true ↦ refl | false ↦ refl ])
-    (split q es) (split-ascends q es a)
+raise-is : (tomb : Option Tomb) (q : Pos) (p : Place) (v : Version) → IsVersion v → IsVersion (with_entries (raise_upto tomb q p v.entries) v)
+raise-is tomb q Head v i = i
+raise-is tomb q Static v i = i
+raise-is tomb q (Clustered x) v i = change-is (raised tomb) q x v i
+raise-is tomb q End v i = change-is (raised tomb) q end_position v i
 
 pub updated-version : (force : Option Tomb) (f : Frag) (next : Place) (v : Version) → IsVersion v → IsVersion (updated force f next v)
-updated-version force (frag.Start pt) next v i = record { ascend = at-ascends next v.entries i.ascend; ends = at-ends next v.entries i.ends }
-updated-version force (frag.Static row) next v i = record { ascend = at-ascends next v.entries i.ascend; ends = at-ends next v.entries i.ends }
-updated-version force (frag.Row key row) next v i = record {
-  ascend = raise-ascends force (row_pos key) next (join_row_at (row_pos key) row v.entries) (row-ascends (row_pos key) row v.entries i.ascend);
-  ends = raise-ends force (row_pos key) next (join_row_at (row_pos key) row v.entries) (row-ends key row v.entries i.ends);
-}
-updated-version force (frag.Change from tomb) next v i = record { ascend = raise-ascends tomb from next v.entries i.ascend; ends = raise-ends tomb from next v.entries i.ends }
+updated-version force (frag.Start pt) next v i = record { ascend = (split_at-is next v i).ascend; ends = (split_at-is next v i).ends }
+updated-version force (frag.Static row) next v i = record { ascend = (split_at-is next v i).ascend; ends = (split_at-is next v i).ends }
+updated-version force (frag.Row key row) next v i = raise-is force (row_pos key) next (with_entries (join_row_at (row_pos key) row v.entries) v) (row-is key row v i)
+updated-version force (frag.Change from tomb) next v i = raise-is tomb from next v i
 updated-version force frag.End next v i = i
 
 -- ---- the next place
@@ -180,7 +154,7 @@ updated-place force f next v p i h = by f p (each-wider (EndsBehind (place_of f)
     by (frag.Start pt) p b = record { stands = stands_at next v.entries i.ends; last = last_split next v.entries b }
     by (frag.Static row) p b = record { stands = stands_at next v.entries i.ends; last = last_split next v.entries b }
     by (frag.Row key row) p b = record {
-      stands = stands_raised force (row_pos key) next (join_row_at (row_pos key) row v.entries) (row-ends key row v.entries i.ends);
+      stands = stands_raised force (row_pos key) next (join_row_at (row_pos key) row v.entries) (row-is key row v i).ends;
       last = last_raised force (row_pos key) next (join_row_at (row_pos key) row v.entries) (precedes-le (frag.Row key row) next p)
           (row_joined_behind next (row_pos key) row v.entries (precedes-le (frag.Row key row) next p) b);
     }

@@ -36,6 +36,13 @@ not_true false h = refl
 
 -- ---- what a unit takes
 
+pub some_units : (v : Version) → IsVersion v → zero < units_of v
+some_units v i = by v.entries refl
+  where
+    by : (es : List Entry) → v.entries ≡ es → zero < units_of v
+    by [] h = absurd (no_entries v h i)
+    by (e ∷ es) h = omega (arith, ap length h)
+
 -- of two versions the older one has fewer units; or it is gone
 abbrev Lessens : Version → List Version → Type 0
 Lessens v [] = ⊥
@@ -163,15 +170,8 @@ module _ (c : Chain) (front back : List Version) (v w : Version) (vs : c.version
   lessened some (u ∷ x ∷ y ∷ more) l after now = absurd l
 
   module _ (i : IsVersion v) where
-    some_units : zero < units_of v
-    some_units = by v.entries refl
-      where
-        by : (es : List Entry) → v.entries ≡ es → zero < units_of v
-        by [] h = absurd (no_entries v h i)
-        by (e ∷ es) h = omega (arith, ap length h)
-
     pub cleaned-ends : (after : ℕ → Bool) → Counts (chain_left front (cleaned v w) back c) after → units_counted after (chain_left front (cleaned v w) back c).versions < units_counted counts c.versions
-    cleaned-ends after now = lessened some_units (cleaned v w) (cleaned_less v w i) after now
+    cleaned-ends after now = lessened (some_units v i) (cleaned v w) (cleaned_less v w i) after now
 
     pub lost-ends : (after : ℕ → Bool) → Counts (chain_left front (cleaned_without_room Cache v w) back c) after → units_counted after (chain_left front (cleaned_without_room Cache v w) back c).versions < units_counted counts c.versions
-    lost-ends after now = lessened some_units (cleaned_without_room Cache v w) (lost_less v w i) after now
+    lost-ends after now = lessened (some_units v i) (cleaned_without_room Cache v w) (lost_less v w i) after now

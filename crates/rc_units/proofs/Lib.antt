@@ -14,3 +14,4 @@ pub mod Chaining
 pub mod Silent
 pub mod Cleaned
 pub mod Ending
+pub mod Freed

@@ -14,6 +14,7 @@ use Rattle.rc_core.specs.Cell.{lost}
 use Rattle.rc_core.specs.Version.{Spot, On, Behind, found, seen, spot_cmp, Version, IsVersion, EndsWithDummy, cell_of, static_cell, end_position}
 use Rattle.rc_core.specs.Change.{lost_mark, position_of}
 use Rattle.rc_core.specs.laws.GivenUp.{at_itself}
+use Rattle.rc_core.specs.laws.Order.{ascend-map}
 use Rattle.rc_core.specs.laws.Spots.{turned, spot-Less, Less-spot, spot-Equal}
 use Rattle.rc_core.specs.AtPlace.{IsAtPlace}
 use Rattle.rc_core.specs.Unit.{IsGivenUp}
@@ -21,7 +22,7 @@ use Rattle.rc_units.specs.Update.{is_from, lost_behind, lost_from}
 use Rattle.rc_units.proofs.Cuts.{IsCut, place-cut, turned_place}
 use Rattle.rc_units.proofs.Onto.{GapIs, GapBy, CutAt, gap-any, cut-split, map-seen}
 use Rattle.rc_units.proofs.Putting.{and_false, not_less, before_end, reached_inside}
-use Rattle.rc_units.proofs.Versions.{map-ascends, map-ends}
+use Rattle.rc_units.proofs.Versions.{map-ends}
 
 -- ---- places
 
@@ -80,7 +81,7 @@ module _ (p : Place) (s : Spot) (es : List Entry) where
 
 pub lost_from-version : (p : Place) (v : Version) → IsVersion v → IsVersion (lost_from p v)
 lost_from-version p v i = record {
-  ascend = map-ascends (lost_behind p) (λ y. refl) v.entries i.ascend;
+  ascend = ascend-map (lost_behind p) (λ y. refl) v.entries i.ascend;
   ends = map-ends (lost_behind p) (λ y. refl) (λ y _ none. no_row (is_from p y.position) y.row none) v.entries i.ends;
 }
   where

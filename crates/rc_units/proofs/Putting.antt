@@ -4,7 +4,7 @@ use Rattle.std.proofs.Common.{refl, sym, ap, ◌∙◌, subst, ⊎_elim, inl, in
 use Rattle.std.specs.declared.cmp.Ordering.{Ordering}
 use Rattle.std.specs.declared.cmp.Ordering.TheVariants.{Less, Equal, Greater}
 use Rattle.std.specs.Option.{option_to_list}
-use Rattle.std.specs.Ordering.{is_lt, is_le, is_gt, is_eq, eq_by_cmp}
+use Rattle.std.specs.Ordering.{is_lt, is_le, is_gt, is_eq}
 use Rattle.std.specs.Cmp.{tied_itself}
 use Rattle.rc_cell.specs.declared.rows.Row.{Row}
 use Rattle.rc_cell.specs.declared.writes.Tomb.{Tomb}
@@ -20,13 +20,14 @@ use Rattle.rc_core.specs.declared.entries.Flag.TheVariants.{Inherit}
 use Rattle.rc_core.specs.declared.entries.Mark.{Mark}
 use Rattle.rc_core.specs.Cell.{cell, nothing}
 use Rattle.rc_core.specs.Version.{Spot, On, Behind, Found, found, seen, behind, entry_answers, cell_of, cell_at, IsBeforeEnd, EndsWithDummy, Version, IsVersion, end_position}
-use Rattle.rc_core.specs.Change.{mark, split, change, joined_onto, raised, join_row_at, with_row, position_of}
+use Rattle.rc_core.specs.Change.{mark, change, joined_onto, raised, join_row_at, position_of}
+use Rattle.rc_core.specs.Continuity.{with_entries}
+use Rattle.rc_core.specs.laws.Order.{join_row-is}
 use Rattle.rc_core.specs.laws.Spots.{turned, turn_to, with_f, change-seen, split-seen, position-reached, gap-reached, join_row-there, join_row-elsewhere}
 use Rattle.rc_core.specs.AtPlace.{IsSilentFrom}
 use Rattle.rc_core.specs.Unit.{IsStretch}
 use Rattle.rc_units.specs.Update.{place_of, fragment_cell_at, Precedes, split_at, raise_upto, updated}
 use Rattle.rc_units.proofs.Onto.{nothing_found}
-use Rattle.rc_units.proofs.Versions.{split-ends, map-ends}
 
 -- ---- orders
 
@@ -131,16 +132,9 @@ module _ (tomb : Option Tomb) (q : Pos) (es : List Entry) (d : EndsWithDummy es)
 
 -- ---- a row
 
-no_tie : (k : List Comp) → is_eq (pos_cmp (row_pos k) end_position) ≡ false
-no_tie k = ap is_eq (row_before_end k)
-
--- a joined row leaves the end dummy last
-pub row-ends : (key : List Comp) (row : Row) (es : List Entry) → EndsWithDummy es → EndsWithDummy (join_row_at (row_pos key) row es)
-row-ends key row es d =
-    map-ends (λ e. cond (eq_by_cmp pos_cmp (row_pos key) e.position) (with_row row e) e)
-    (λ y. elim (eq_by_cmp pos_cmp (row_pos key) y.position) as (λ b. (cond b (with_row row y) y).position ≡ y.position) [ true ↦ refl | false ↦ refl ])
-    (λ y at none. ap (λ b. (cond b (with_row row y) y).row) (ap (λ z. eq_by_cmp pos_cmp (row_pos key) z) at ∙ no_tie key) ∙ none)
-    (split (row_pos key) es) (split-ends (row_pos key) es d)
+-- a joined row leaves a version
+pub row-is : (key : List Comp) (row : Row) (v : Version) → IsVersion v → IsVersion (with_entries (join_row_at (row_pos key) row v.entries) v)
+row-is key row v i = join_row-is (row_pos key) row v (row_before_end key) i
 
 -- ---- a fragment
 
@@ -172,7 +166,7 @@ module _ (force : Option Tomb) (next : Place) (v : Version) (i : IsVersion v) (s
   unit-before (frag.Start pt) p l = split_seen_at s next v.entries
   unit-before (frag.Static row) p l = split_seen_at s next v.entries
   unit-before (frag.Row key row) p l =
-      raise-before force (row_pos key) (join_row_at (row_pos key) row v.entries) (row-ends key row v.entries i.ends) s next l
+      raise-before force (row_pos key) (join_row_at (row_pos key) row v.entries) (row-is key row v i).ends s next l
       ∙ join_row-elsewhere s (row_pos key) row v.entries (not_on s (row_pos key) (apart (position_of s) (row_pos key) l))
   unit-before (frag.Change from tomb) p l = raise-before tomb from v.entries i.ends s next l
   unit-before frag.End p l = refl
@@ -181,7 +175,7 @@ module _ (force : Option Tomb) (next : Place) (v : Version) (i : IsVersion v) (s
   unit-behind (frag.Start pt) p off = split_seen_at s next v.entries
   unit-behind (frag.Static row) p off = split_seen_at s next v.entries
   unit-behind (frag.Row key row) p off =
-      raise-behind force (row_pos key) (join_row_at (row_pos key) row v.entries) (row-ends key row v.entries i.ends) s next off
+      raise-behind force (row_pos key) (join_row_at (row_pos key) row v.entries) (row-is key row v i).ends s next off
       ∙ join_row-elsewhere s (row_pos key) row v.entries (not_on s (row_pos key) (λ e. off (ap (λ x. place_cmp (Clustered x) next) e ∙ p)))
   unit-behind (frag.Change from tomb) p off = raise-behind tomb from v.entries i.ends s next off
   unit-behind frag.End p off = refl
@@ -190,7 +184,7 @@ module _ (force : Option Tomb) (next : Place) (v : Version) (i : IsVersion v) (s
   unit-end (frag.Start pt) p off = split_seen_at s next v.entries
   unit-end (frag.Static row) p off = split_seen_at s next v.entries
   unit-end (frag.Row key row) p off =
-      raise-end force (row_pos key) (join_row_at (row_pos key) row v.entries) (row-ends key row v.entries i.ends) s next off
+      raise-end force (row_pos key) (join_row_at (row_pos key) row v.entries) (row-is key row v i).ends s next off
       ∙ join_row-elsewhere s (row_pos key) row v.entries (not_on s (row_pos key) (λ e. off (ap (λ x. pos_cmp x end_position) e ∙ row_before_end key)))
   unit-end (frag.Change from tomb) p off = raise-end tomb from v.entries i.ends s next off
   unit-end frag.End p off = refl
@@ -206,13 +200,13 @@ row_within : (force : Option Tomb) (next : Place) (v : Version) (i : IsVersion v
     (pos_cmp (position_of s) (row_pos key) ≡ Less → ⊥) → IsBefore (position_of s) end_position → place_cmp (Clustered (position_of s)) next ≡ Less →
     cell_at s (updated force (frag.Row key row) next v) ≡ fragment_cell_at force (frag.Row key row) s
 row_within force next v i key row (Behind x) e off l h =
-    ap cell_of (raised-nothing force next v i (Behind x) force (row_pos key) (join_row_at (row_pos key) row v.entries) (row-ends key row v.entries i.ends) None
+    ap cell_of (raised-nothing force next v i (Behind x) force (row_pos key) (join_row_at (row_pos key) row v.entries) (row-is key row v i).ends None
     (join_row-elsewhere (Behind x) (row_pos key) row v.entries (λ e. cc) ∙ e) off l h)
 row_within force next v i key row (On x) e off l h =
     elim (pos_cmp x (row_pos key)) as (λ r. pos_cmp x (row_pos key) ≡ r → cell_at (On x) (updated force (frag.Row key row) next v) ≡ cell Inherit (cond (is_eq r) (row ∷ []) []) (option_to_list force)) [
       | Less ↦ λ k. absurd (off k)
-      | Equal ↦ λ k. ap cell_of (raised-nothing force next v i (On x) force (row_pos key) (join_row_at (row_pos key) row v.entries) (row-ends key row v.entries i.ends) (Some row) (there k) off l h)
-      | Greater ↦ λ k. ap cell_of (raised-nothing force next v i (On x) force (row_pos key) (join_row_at (row_pos key) row v.entries) (row-ends key row v.entries i.ends) None (elsewhere k) off l h)
+      | Equal ↦ λ k. ap cell_of (raised-nothing force next v i (On x) force (row_pos key) (join_row_at (row_pos key) row v.entries) (row-is key row v i).ends (Some row) (there k) off l h)
+      | Greater ↦ λ k. ap cell_of (raised-nothing force next v i (On x) force (row_pos key) (join_row_at (row_pos key) row v.entries) (row-is key row v i).ends None (elsewhere k) off l h)
     ] refl
   where
     there : pos_cmp x (row_pos key) ≡ Equal → seen (On x) (join_row_at (row_pos key) row v.entries) ≡ found (mark Inherit None) (Some row)

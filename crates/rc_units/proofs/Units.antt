@@ -29,7 +29,7 @@ use Rattle.rc_core.specs.laws.Folding.{flagged-through}
 use Rattle.rc_core.specs.laws.Updating.{carried}
 use Rattle.rc_core.specs.laws.Losing.{entry-evicted, statics-evicted, evicted-continuous, evicted-seen, known-before}
 use Rattle.rc_core.specs.laws.Merging.{merged-seen, dropped-seen, alike-seen, alike-even}
-use Rattle.rc_core.specs.laws.Keeping.{merged-continuous, dropped-continuous}
+use Rattle.rc_core.specs.laws.Keeping.{dropped-continuous, each_less, each_two, merged-continuous}
 use Rattle.rc_units.specs.Clean.{cleaned, cleaned_by, entry_cleaned, cache_cleaned_by, cleaned_without_room, further, clean_times, units_of, static_units, gap_said, merge_entry, end_merged, emptied, statics_said, statics_onto}
 use Rattle.rc_units.proofs.Under.{pt_known}
 use Rattle.rc_units.proofs.Cleaning.{statics-merged, entry-merged, end-merged, emptied-silent}
@@ -276,13 +276,5 @@ inherit_two a b c d m h k = (
   record { statics = (alike_inherit _ _ _ _ m.statics h.statics k.statics).1; clustered = λ s. (alike_inherit _ _ _ _ (m.clustered s) (h.clustered s) (k.clustered s)).1 },
 )
 
-each_inherit : (front back : List Version) (a b c d : Version) → IsMerged a b c d → EachOf AllInherit (front ++ a ∷ b ∷ back) → EachOf AllInherit (front ++ c ∷ d ∷ back)
-each_inherit [] back a b c d m h = let q = inherit_two a b c d m h.0 h.1.0 in (q.0, (q.1, h.1.1))
-each_inherit (o ∷ os) back a b c d m h = (h.0, each_inherit os back a b c d m h.1)
-
-each_less : (front back : List Version) (a b : Version) → EachOf AllInherit (front ++ a ∷ b ∷ back) → EachOf AllInherit (front ++ b ∷ back)
-each_less [] back a b h = h.1
-each_less (o ∷ os) back a b h = (h.0, each_less os back a b h.1)
-
 pub unit-inherits : (front back : List Version) (v w : Version) → IsVersion v → IsVersion w → EachOf AllInherit (front ++ v ∷ w ∷ back) → EachOf AllInherit (front ++ (cleaned v w ++ back))
-unit-inherits front back v w i j h = unit-kept (EachOf AllInherit) front back (λ a b c d m k. each_inherit front back a b c d m k) (λ a b s t k. each_less front back a b k) v w i j h
+unit-inherits front back v w i j h = unit-kept (EachOf AllInherit) front back (λ a b c d m k. each_two AllInherit front back a b c d k (inherit_two a b c d m)) (λ a b s t k. each_less AllInherit front (b ∷ back) a k) v w i j h

@@ -1,60 +1,28 @@
--- A split, and a function on each entry that moves none, leave entries in order, with the end dummy last.
+-- What the cleaner leaves are versions: entries in order, with the end dummy last.
 use Rattle.std.specs.Prelude.{◌≡◌, true, false, List, [], ◌∷◌, Option, None, map as list_map}
 use Rattle.std.proofs.Common.{refl, sym, ap, ◌∙◌, subst}
 use Rattle.std.specs.declared.cmp.Ordering.{Ordering}
 use Rattle.std.specs.declared.cmp.Ordering.TheVariants.{Less, Equal, Greater}
 use Rattle.std.specs.Ordering.{is_gt}
 use Rattle.rc_cell.specs.declared.rows.Row.{Row}
-use Rattle.rc_position.specs.declared.positions.Pos.{Pos}
 use Rattle.rc_position.specs.Position.{pos_cmp, IsBefore}
 use Rattle.rc_position.specs.OrderLaws.{pos_cmp_same}
 use Rattle.rc_position.specs.BoundLaws.{last_pos-greatest}
 use Rattle.rc_core.specs.declared.entries.Entry.{Entry}
 use Rattle.rc_core.specs.declared.entries.Flag.{Flag}
 use Rattle.rc_core.specs.Version.{Ascend, EndsWithDummy, Version, IsVersion, end_position}
-use Rattle.rc_core.specs.Change.{split, split_by, lose_first_gap}
+use Rattle.rc_core.specs.Change.{split, lose_first_gap}
 use Rattle.rc_core.specs.Continuity.{with_entries}
+use Rattle.rc_core.specs.laws.Order.{ascend-map, split-ascends, split-ends}
 use Rattle.rc_core.specs.laws.Spots.{turn_to}
 use Rattle.rc_units.specs.Clean.{onto_by, gap_onto_by, entry_onto, end_onto, merge_entry, end_merged, gap_said}
 use Rattle.rc_core.specs.Plain.{row_under}
 use Rattle.rc_units.proofs.Under.{none-under}
 use Rattle.rc_units.proofs.Cleaning.{entry_onto-keeps, end_onto-keeps}
 
--- ---- split
-
-ahead_split : (x : Pos) (e : Entry) (es : List Entry) → IsBefore e.position x → Ascend (e ∷ es) → Ascend (e ∷ split x es)
-ahead_split x e [] l a = tt
-ahead_split x e (f ∷ fs) l a = elim (pos_cmp x f.position) as (λ r. pos_cmp x f.position ≡ r → Ascend (e ∷ split_by r x f fs (split x fs))) [
-  | Less ↦ λ h. (l, (h, a.1))
-  | Equal ↦ λ h. a
-  | Greater ↦ λ h. (a.0, ahead_split x f fs (turn_to x f.position Greater h) a.1)
-] refl
-
-pub split-ascends : (x : Pos) (es : List Entry) → Ascend es → Ascend (split x es)
-split-ascends x [] a = a
-split-ascends x (e ∷ es) a = elim (pos_cmp x e.position) as (λ r. pos_cmp x e.position ≡ r → Ascend (split_by r x e es (split x es))) [
-  | Less ↦ λ h. (h, a)
-  | Equal ↦ λ h. a
-  | Greater ↦ λ h. ahead_split x e es (turn_to x e.position Greater h) a
-] refl
-
-ends_more : (e : Entry) (es : List Entry) → EndsWithDummy es → EndsWithDummy (e ∷ es)
-ends_more e [] d = absurd d
-ends_more e (f ∷ fs) d = d
-
-pub split-ends : (x : Pos) (es : List Entry) → EndsWithDummy es → EndsWithDummy (split x es)
-split-ends x [] d = d
-split-ends x (e ∷ []) d = elim (pos_cmp x e.position) as (λ r. EndsWithDummy (split_by r x e [] [])) [ Less ↦ d | Equal ↦ d | Greater ↦ d ]
-split-ends x (e ∷ f ∷ fs) d = elim (pos_cmp x e.position) as (λ r. EndsWithDummy (split_by r x e (f ∷ fs) (split x (f ∷ fs)))) [ Less ↦ d | Equal ↦ d | Greater ↦ ends_more e (split x (f ∷ fs)) (split-ends x (f ∷ fs) d) ]
-
 -- ---- a function on each entry
 
 module _ (f : Entry → Entry) (keeps : (y : Entry) → (f y).position ≡ y.position) where
-  pub map-ascends : (es : List Entry) → Ascend es → Ascend (list_map f es)
-  map-ascends [] a = a
-  map-ascends (e ∷ []) a = tt
-  map-ascends (e ∷ g ∷ es) a = ((λ i. pos_cmp (keeps e i) (keeps g i)) ∙ a.0, map-ascends (g ∷ es) a.1)
-
   pub map-ends : ((y : Entry) → y.position ≡ end_position → y.row ≡ None → (f y).row ≡ None) → (es : List Entry) → EndsWithDummy es → EndsWithDummy (list_map f es)
   map-ends last [] d = d
   map-ends last (e ∷ []) d = (keeps e ∙ d.0, last e d.0 d.1)
@@ -78,7 +46,7 @@ module _ (e n : Entry) (lt : IsBefore e.position n.position) where
   entry_last Greater y h at_end none = no_row_of (pos_cmp y.position n.position) n y none
 
   merge_entry-ascends : (w : List Entry) → Ascend w → Ascend (merge_entry e n w)
-  merge_entry-ascends w a = map-ascends (entry_onto e n) (entry_onto-keeps e n) (split n.position (split e.position w)) (split-ascends n.position (split e.position w) (split-ascends e.position w a))
+  merge_entry-ascends w a = ascend-map (entry_onto e n) (entry_onto-keeps e n) (split n.position (split e.position w)) (split-ascends n.position (split e.position w) (split-ascends e.position w a))
 
   merge_entry-ends : (w : List Entry) → EndsWithDummy w → EndsWithDummy (merge_entry e n w)
   merge_entry-ends w d = map-ends (entry_onto e n) (entry_onto-keeps e n) (λ y at none. entry_last (pos_cmp y.position e.position) y refl at none) (split n.position (split e.position w)) (split-ends n.position (split e.position w) (split-ends e.position w d))
@@ -93,7 +61,7 @@ end_last Greater e y none h = h
 
 pub end_merged-version : (e : Entry) (v w : Version) → e.row ≡ None → IsVersion w → IsVersion (end_merged e v w)
 end_merged-version e v w none i = record {
-  ascend = map-ascends (end_onto e) (end_onto-keeps e) w.entries i.ascend;
+  ascend = ascend-map (end_onto e) (end_onto-keeps e) w.entries i.ascend;
   ends = map-ends (end_onto e) (end_onto-keeps e) (λ y _ h. end_last (pos_cmp y.position e.position) e y none h) w.entries i.ends;
 }
 

@@ -3,6 +3,7 @@
 --     number_left        the number that a version has then
 --     IsKnownAsBefore    what is known through some versions was known through others, with the same content
 --     units_counted      the objects that the versions have left which count; Counts: which do in a chain
+--     objects_of         all objects of versions: of a chain that nobody finds or reads each one counts
 use Rattle.std.specs.Prelude.{◌≡◌, ◌+◌, ◌++◌, ℕ, zero, suc, Bool, true, IsTrue, List, [], ◌∷◌, Option, cond, length, option_map, map as list_map}
 use Rattle.rc_cell.specs.Orders.{tomb_cmp}
 use Rattle.rc_cell.specs.Winner.{greatest}
@@ -53,3 +54,8 @@ pub record Counts (c : Chain) (counts : ℕ → Bool) : Type 0 where
 abbrev pub units_counted : (ℕ → Bool) → List Version → ℕ
 units_counted counts [] = zero
 units_counted counts (v ∷ vs) = cond (counts zero) (units_of v) zero + units_counted (λ j. counts (suc j)) vs
+
+-- the objects of versions: their static rows and entries
+abbrev pub objects_of : List Version → ℕ
+objects_of [] = zero
+objects_of (v ∷ vs) = units_of v + objects_of vs

@@ -1,6 +1,6 @@
 -- A unit of the cleaner: a part of a version that nobody reads goes under the next newer version.
 --     onto_by                  what an entry of the newer version takes from an entry that is merged, by where it stands against it
---     merge_entry, merge_end   the newer version's entries, after the first entry, or the end dummy, has gone under them
+--     merge_entry, merge_end_dummy    the newer version's entries, after the first entry, or the end dummy, has gone under them
 --     cleaned                  the two versions after a unit, or the newer one alone where the older one is dropped
 --     cleaned_without_room     the same where there is no room for dummies
 --     clean_times              after as many units as are asked for
@@ -59,8 +59,8 @@ abbrev pub merge_entry : Entry → Entry → List Entry → List Entry
 merge_entry e n newer = list_map (entry_onto e n) (split n.position (split e.position newer))
 
 -- the newer version's entries with the older one's end dummy under them
-abbrev pub merge_end : Entry → List Entry → List Entry
-merge_end e newer = list_map (end_onto e) newer
+abbrev pub merge_end_dummy : Entry → List Entry → List Entry
+merge_end_dummy e newer = list_map (end_onto e) newer
 
 -- the successor of a merged entry: the gap before it says nothing more
 abbrev pub gap_said : Entry → Entry
@@ -87,7 +87,7 @@ end_merged e v w = record {
   pt = greater tomb_cmp v.pt w.pt;
   statics = row_under w.static_flag v.statics w.statics;
   static_flag = flag_under v.static_flag w.static_flag;
-  entries = merge_end e w.entries;
+  entries = merge_end_dummy e w.entries;
   phase = w.phase;
 }
 

@@ -2,7 +2,7 @@
 
 ghost use Rattle.std.specs.Prelude.{◌≡◌, IfOk};
 ghost use Rattle.rc_position.specs.Position.{pos_cmp};
-ghost use Rattle.rc_units.specs.Clean.{end_onto, entry_onto, gap_onto_by, gap_said, merge_end, merge_entry};
+ghost use Rattle.rc_units.specs.Clean.{end_onto, entry_onto, gap_onto_by, gap_said, merge_entry};
 
 use crate::entries::{copy_entry, put_under, put_under_gap, split_entries};
 use rc_core::{Entry, Flag, Mark};
@@ -61,7 +61,7 @@ pub fn merge_end_dummy(
     end: &Entry,
     newer: &[Entry],
 ) -> Result<Vec<Entry>, AllocError>
-    ensures { IfOk result (λ made. made.items ≡ merge_end end.now newer.now) }
+    ensures { IfOk result (λ made. made.items ≡ Rattle.rc_units.specs.Clean.merge_end_dummy end.now newer.now) }
 {
     let mut made = Vec::new(alloc);
     for entry in newer {

@@ -1,9 +1,9 @@
 use super::{
-    close_gap, force_behind, join_row, lose_rest, merge_end_dummy, merge_first_entry, merge_onto,
-    put_fragment,
+    close_gap, copy_entries, force_behind, join_row, lose_rest, merge_end_dummy, merge_first_entry,
+    merge_onto, put_fragment,
 };
 use rc_cell::{Cells, Row, Tomb};
-use rc_core::{Entry, Flag, Mark};
+use rc_core::{Entry, Flag, Mark, PlainVersion, is_at_place};
 use rc_mutation::Frag;
 use rc_position::{Comp, Key, Pos, Weight};
 use std::alloc::{AllocError, Global};
@@ -232,5 +232,50 @@ fn a_last_entry_merged_alone_leaves_a_gap_that_is_not_unknown(rt: HostRuntime) -
     assert_eq!(rt; letter(end.gap.flag), 'U');
     close_gap(&mut end);
     assert_eq!(rt; letter(end.gap.flag), 'I');
+    Ok(())
+}
+
+fn under_update(entries: Vec<Entry>) -> PlainVersion {
+    PlainVersion {
+        pt: None,
+        statics: None,
+        static_flag: Flag::Inherit,
+        entries,
+        phase: 0,
+    }
+}
+
+// A tombstone from before the key 2 on: its unit puts it on the gap between that and the row's own place, which holds no position, and leaves a
+// dummy there. The version stands at the row's place then. At the place before it, where no position would show the tombstone, it is refused.
+#[test]
+fn a_tombstone_on_a_gap_of_no_position_is_refused_behind_the_place(
+    rt: HostRuntime,
+) -> Result<(), Fail> {
+    let alloc = rt.alloc();
+    let row = row_place(alloc, 2)?;
+    let before = Pos {
+        prefix: key(alloc, 2)?,
+        weight: Weight::Before,
+    };
+    let new = vec![in alloc; end_entry(alloc, plain(Flag::Inherit), plain(Flag::Inherit))]?;
+    let begun = put_fragment(alloc, None, &Frag::Start(None), &before, &new)?;
+    let change = Frag::Change(before.copy(alloc)?, Some(Tomb { ts: 8, dt: 0 }));
+    let mut gone_on = put_fragment(alloc, None, &change, &row, &begun)?;
+    assert!(rt; is_at_place(&before, &under_update(begun)));
+    assert!(rt; is_at_place(&row, &under_update(copy_entries(alloc, &gone_on)?)));
+    if let Some(dummy) = gone_on.first_mut() {
+        dummy.at = plain(Flag::Inherit);
+    }
+    let all = seen(alloc, &gone_on)?;
+    assert_eq!(rt;
+        all.as_slice(),
+        [
+            ('I', 0, 'I', 0, 0),
+            ('I', 8, 'I', 0, 0),
+            ('I', 0, 'I', 0, 0)
+        ]
+        .as_slice()
+    );
+    assert!(rt; !is_at_place(&before, &under_update(gone_on)));
     Ok(())
 }

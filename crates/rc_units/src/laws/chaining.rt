@@ -1,7 +1,7 @@
 //! Units of an update and of the cleaner on a whole chain: what each keeps.
 
 ghost use Rattle.std.specs.declared.cmp.Ordering.TheVariants.{Less};
-ghost use Rattle.std.specs.Prelude.{◌≡◌, ◌<◌, ◌++◌, ◌∷◌, [], Bool, ℕ, List, None, Option, Some, length, option_map, suc, true};
+ghost use Rattle.std.specs.Prelude.{◌≡◌, ◌≢◌, ◌<◌, ◌++◌, ◌∷◌, [], Bool, ℕ, List, None, Option, Some, length, option_map, suc, true};
 ghost use Rattle.rc_cell.specs.declared.writes.Tomb.{Tomb};
 ghost use Rattle.rc_position.specs.declared.positions.Pos.{Pos};
 ghost use Rattle.rc_position.specs.Position.{Head, Place, place_cmp};
@@ -9,13 +9,17 @@ ghost use Rattle.rc_mutation.specs.declared.fragments.Frag.{Frag};
 ghost use Rattle.rc_mutation.specs.declared.fragments.Frag.TheVariants.{Start};
 ghost use Rattle.rc_mutation.specs.declared.mutations.Mutation.{Mutation};
 ghost use Rattle.rc_mutation.specs.Source.{SameSource};
+ghost use Rattle.rc_core.specs.declared.entries.ChainKind.{ChainKind};
 ghost use Rattle.rc_core.specs.declared.entries.ChainKind.TheVariants.{Cache};
-ghost use Rattle.rc_core.specs.Version.{IsVersion, Version};
+ghost use Rattle.rc_core.specs.Version.{IsVersion, On, Version};
+ghost use Rattle.rc_core.specs.AtPlace.{HasEntryAt};
+ghost use Rattle.rc_core.specs.Chain.{IsKnown, cells, content};
+ghost use Rattle.rc_core.specs.Free.{free_entry, free_statics};
 ghost use Rattle.rc_core.specs.Chains.{Chain, IsChainContinuous, IsMemtableChain, IsNeeded, upto, with_versions};
 ghost use Rattle.rc_core.specs.Merge.{IsSeenAlike, new_version};
 ghost use Rattle.rc_core.specs.StandsFor.{StandsFor};
 ghost use Rattle.rc_core.specs.Steps.{IsCarriedIn, IsChain, pin_at, with_updating};
-ghost use Rattle.rc_units.specs.Chained.{Counts, IsKnownAsBefore, chain_left, number_left, pins_left, units_counted};
+ghost use Rattle.rc_units.specs.Chained.{Counts, IsKnownAsBefore, chain_left, number_left, objects_of, pins_left, units_counted};
 ghost use Rattle.rc_units.specs.Clean.{MayMerge, cleaned, cleaned_without_room};
 ghost use Rattle.rc_units.specs.Update.{IsFragmentOf, lost_from, place_of, updated};
 
@@ -107,4 +111,19 @@ pub fn a_unit_of_the_cleaner_leaves_less()
     ensures without_room { (c : Chain) (front back : List Version) (v w : Version) → c.versions ≡ front ++ v ∷ w ∷ back → MayMerge c (length front) → (MayMerge c (suc (length front)) → ⊥) →
         (counts : ℕ → Bool) → Counts c counts → IsVersion v → (after : ℕ → Bool) → Counts (chain_left front (cleaned_without_room Cache v w) back c) after →
         units_counted after (chain_left front (cleaned_without_room Cache v w) back c).versions < units_counted counts c.versions }
+{}
+
+/// Freeing ends: of a chain that nobody finds or reads there is one object less after each that is freed, an entry, a static row, or a version with its end dummy.
+pub fn a_freed_object_leaves_less()
+    ensures entry { (kind : ChainKind) (front back : List Version) (v : Version) (x : Pos) → HasEntryAt x v.entries →
+        objects_of (front ++ free_entry kind x v ∷ back) < objects_of (front ++ v ∷ back) }
+    ensures statics { (kind : ChainKind) (front back : List Version) (v : Version) → v.statics ≢ None →
+        objects_of (front ++ free_statics kind v ∷ back) < objects_of (front ++ v ∷ back) }
+    ensures version { (front back : List Version) (v : Version) → IsVersion v → objects_of (front ++ back) < objects_of (front ++ v ∷ back) }
+{}
+
+/// What is known as before was known at the position before, with the same content: it was flagged there, and where no row is seen the gap behind it was too.
+pub fn what_is_known_as_before_was_known()
+    ensures { (before now : List Version) (x : Pos) → IsKnownAsBefore before now → IsKnown Cache now x →
+        IsKnown Cache before x × (content (cells (On x) now) ≡ content (cells (On x) before)) }
 {}
