@@ -1,7 +1,8 @@
 //! The cases as standard input lists them, line by line.
 
-use crate::files::{Change, change_of};
+use crate::files::{Change, change_of, number_and_rest};
 use crate::readings::{Reading, read_alone, read_counts, read_merged};
+use crate::sweeps::{Sums, Sweep, Ways};
 use crate::telling::tell_asked;
 use crate::watched::Folder;
 use crate::words::{key_of, mutation_of, position};
@@ -77,6 +78,8 @@ impl Desk {
             "table" => self.add_table(alloc, folder, line),
             "behind" => self.keep_change(alloc, text),
             "read" => self.read(alloc, folder, text),
+            "cuts" => self.sweep(alloc, folder, Ways::Cuts, text),
+            "bits" => self.sweep(alloc, folder, Ways::Bits, text),
             _ => self.change_now(alloc, folder, line),
         }
     }
@@ -159,6 +162,23 @@ impl Desk {
         }))
     }
 
+    // The stream of a partition, and how it is read.
+    fn opened(
+        &mut self,
+        alloc: Global,
+        key: &str,
+        first: &str,
+        last: &str,
+    ) -> Result<Option<(TableFrags, Reading)>, AllocError> {
+        let Some(tables) = self.tables_at(alloc, key)? else {
+            return Ok(None);
+        };
+        match self.reading(alloc, first, last)? {
+            Some(reading) => Ok(Some((tables, reading))),
+            None => Ok(None),
+        }
+    }
+
     // A partition is read, with as many lists as are named; whether the line says how.
     fn read(
         &mut self,
@@ -170,16 +190,80 @@ impl Desk {
         let [key, first, last, lists @ ..] = words.as_slice() else {
             return Ok(false);
         };
-        let Some(tables) = self.tables_at(alloc, key)? else {
-            return Ok(false);
-        };
-        let Some(reading) = self.reading(alloc, first, last)? else {
+        let Some((tables, reading)) = self.opened(alloc, key, first, last)? else {
             return Ok(false);
         };
         folder.forget();
         let read = read_lists(alloc, folder, tables, &reading, lists, &mut self.text)?;
         tell_asked(folder.asked(), &mut self.text)?;
         Ok(read)
+    }
+
+    // What a reading of the tables alone tells; none where the words do not say which.
+    fn told_of(
+        &mut self,
+        alloc: Global,
+        folder: &mut Folder<'_>,
+        words: &[&str],
+    ) -> Result<Option<String>, AllocError> {
+        let [key, first, last] = words else {
+            return Ok(None);
+        };
+        let Some((tables, reading)) = self.opened(alloc, key, first, last)? else {
+            return Ok(None);
+        };
+        let mut told = String::new(alloc);
+        folder.forget();
+        read_alone(alloc, folder, tables, &reading, &mut told)?;
+        Ok(Some(told))
+    }
+
+    // A file is another one in each of some ways in turn, and is read each time; whether each was.
+    fn sweep(
+        &mut self,
+        alloc: Global,
+        folder: &mut Folder<'_>,
+        ways: Ways,
+        text: &str,
+    ) -> Result<bool, AllocError> {
+        let Some((number, text)) = number_and_rest(text) else {
+            return Ok(false);
+        };
+        let words = text.split(' ').collect::<Vec<&str>>(alloc)?;
+        let Some(sweep) = Sweep::new(alloc, folder, number, ways)? else {
+            return Ok(false);
+        };
+        match self.swept(alloc, folder, &sweep, words.as_slice())? {
+            Some(sums) => {
+                sums.tell(&mut self.text)?;
+                Ok(sweep.restore(alloc, folder))
+            }
+            None => Ok(false),
+        }
+    }
+
+    // What these readings came to.
+    fn swept(
+        &mut self,
+        alloc: Global,
+        folder: &mut Folder<'_>,
+        sweep: &Sweep,
+        words: &[&str],
+    ) -> Result<Option<Sums>, AllocError> {
+        let Some(before) = self.told_of(alloc, folder, words)? else {
+            return Ok(None);
+        };
+        let mut sums = Sums::new();
+        for way in 0..sweep.count() {
+            if !sweep.change(alloc, folder, way)? {
+                return Ok(None);
+            }
+            match self.told_of(alloc, folder, words)? {
+                Some(told) => sums.add(told.as_str(), before.as_str()),
+                None => return Ok(None),
+            }
+        }
+        Ok(Some(sums))
     }
 }
 

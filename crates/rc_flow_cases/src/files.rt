@@ -44,8 +44,8 @@ fn fit(parts: &[Partition], schema: &Schema) -> bool
     }
 }
 
-/// Writes the table of the partitions; whether they fit the schema and the table was written.
-pub(crate) fn write_parts(
+// Writes the table of the partitions; whether they fit the schema and the table was written.
+fn write_parts(
     alloc: Global,
     folder: &mut Folder<'_>,
     schema: &Schema,
@@ -55,8 +55,8 @@ pub(crate) fn write_parts(
     fit(parts, schema) && write_table(alloc, parts, schema, folder, number).is_ok()
 }
 
-// The bytes of a file; none where the folder does not give them.
-fn bytes_of(
+/// The bytes of a file; none where the folder does not give them.
+pub(crate) fn bytes_of(
     alloc: Global,
     folder: &mut Folder<'_>,
     number: u32,
@@ -71,8 +71,8 @@ fn bytes_of(
     }
 }
 
-// A file has these bytes from now on; whether it was written.
-fn put_bytes(alloc: Global, folder: &mut Folder<'_>, number: u32, bytes: &[u8]) -> bool {
+/// A file has these bytes from now on; whether it was written.
+pub(crate) fn put_bytes(alloc: Global, folder: &mut Folder<'_>, number: u32, bytes: &[u8]) -> bool {
     folder.abandon();
     folder.begin(alloc, number).is_ok()
         && folder.append(alloc, bytes).is_ok()
@@ -133,8 +133,8 @@ impl Change {
     }
 }
 
-// A number and what stands behind it.
-fn number_and_rest(text: &str) -> Option<(u32, &str)> {
+/// A number and what stands behind it.
+pub(crate) fn number_and_rest(text: &str) -> Option<(u32, &str)> {
     let (number, rest) = text.split_once(' ')?;
     let number = number.parse::<u32>().ok()?;
     Some((number, rest))

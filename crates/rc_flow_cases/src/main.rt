@@ -1,10 +1,11 @@
-//! Partitions read through streams from the table files of a real folder, which are replaced, cut and changed between their check and their reading:
-//! standard input lists the cases, and says how. What is printed is what each reading gave, and which ranges of the files it asked for.
+//! Partitions read as streams from table files of a real folder, which are replaced, cut and changed between their check and their reading: standard
+//! input lists the cases, and says how. What is printed is what each reading gave, and which ranges of the files it asked for.
 #![tactic(auto)]
 
 mod desk;
 mod files;
 mod readings;
+mod sweeps;
 mod telling;
 mod walking;
 mod watched;
