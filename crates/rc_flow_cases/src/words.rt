@@ -1,0 +1,121 @@
+//! What the words of a line spell. A partition is `KEY:ITEM,ITEM`; an item is `ROW@TS`, the range tombstone `FROM-TO@TS` from before the one row up to
+//! behind the other, or the partition tombstone `all@TS`.
+
+use rc_cell::{Cells, Row, Tomb};
+use rc_mutation::{Mutation, Partition};
+use rc_position::{Comp, Key, PartKey, Pos, Weight};
+use std::alloc::{AllocError, Global};
+
+/// The deletion time of every tombstone here.
+const DELETED: u32 = 7;
+
+/// The position of a row, or before or behind it.
+pub(crate) fn position(alloc: Global, number: i64, weight: Weight) -> Result<Pos, AllocError> {
+    Ok(Pos {
+        prefix: Key::from_slice(alloc, &[Comp::Int(number)])?,
+        weight,
+    })
+}
+
+/// The partition key of a word.
+pub(crate) fn key_of(alloc: Global, word: &str) -> Result<Option<PartKey>, AllocError> {
+    let bytes = word.as_bytes();
+    if bytes.is_empty() || bytes.len() > 64 {
+        return Ok(None);
+    }
+    Ok(Some(PartKey::from_slice(alloc, bytes)?))
+}
+
+// Joins a row with a marker; whether the word is one.
+fn join_row(alloc: Global, change: &mut Mutation, word: &str, ts: i64) -> Result<bool, AllocError> {
+    let Ok(number) = word.parse::<i64>() else {
+        return Ok(false);
+    };
+    let key = Key::from_slice(alloc, &[Comp::Int(number)])?;
+    let row = Row {
+        marker: Some(ts),
+        tomb: None,
+        cells: Cells::empty(alloc),
+    };
+    change.rows.join_row(alloc, &key, &row)?;
+    Ok(true)
+}
+
+// Joins a range tombstone; whether the words are the ends of one.
+fn join_range(
+    alloc: Global,
+    change: &mut Mutation,
+    first: &str,
+    last: &str,
+    tomb: Tomb,
+) -> Result<bool, AllocError> {
+    let (Ok(first), Ok(last)) = (first.parse::<i64>(), last.parse::<i64>()) else {
+        return Ok(false);
+    };
+    let from = position(alloc, first, Weight::Before)?;
+    let to = position(alloc, last, Weight::After)?;
+    if from < to {
+        change.ranges.add(alloc, &from, &to, tomb)?;
+        return Ok(true);
+    }
+    Ok(false)
+}
+
+// Joins an item; whether the word is one.
+fn join_item(alloc: Global, change: &mut Mutation, item: &str) -> Result<bool, AllocError> {
+    let Some((place, ts)) = item.split_once('@') else {
+        return Ok(false);
+    };
+    let Ok(ts) = ts.parse::<i64>() else {
+        return Ok(false);
+    };
+    let tomb = Tomb { ts, dt: DELETED };
+    if place == "all" {
+        change.pt = Some(tomb);
+        return Ok(true);
+    }
+    match place.split_once('-') {
+        Some((first, last)) => join_range(alloc, change, first, last, tomb),
+        None => join_row(alloc, change, place, ts),
+    }
+}
+
+/// What the items between commas say; none where one is no item.
+pub(crate) fn mutation_of(alloc: Global, items: &str) -> Result<Option<Mutation>, AllocError> {
+    let mut change = Mutation::empty(alloc);
+    for item in items.split(',') {
+        if !join_item(alloc, &mut change, item)? {
+            return Ok(None);
+        }
+    }
+    Ok(Some(change))
+}
+
+/// The partition of a word.
+pub(crate) fn partition_of(alloc: Global, word: &str) -> Result<Option<Partition>, AllocError> {
+    let Some((key, items)) = word.split_once(':') else {
+        return Ok(None);
+    };
+    let Some(key) = key_of(alloc, key)? else {
+        return Ok(None);
+    };
+    match mutation_of(alloc, items)? {
+        Some(change) => Ok(Some(Partition { key, change })),
+        None => Ok(None),
+    }
+}
+
+/// The partitions of the words of a text; none where one is no partition.
+pub(crate) fn partitions_of(
+    alloc: Global,
+    text: &str,
+) -> Result<Option<Vec<Partition>>, AllocError> {
+    let mut parts = Vec::new(alloc);
+    for word in text.split(' ') {
+        match partition_of(alloc, word)? {
+            Some(part) => parts.push(part)?,
+            None => return Ok(None),
+        }
+    }
+    Ok(Some(parts))
+}
