@@ -12,6 +12,8 @@ pub mod Columns
 pub mod Lengths
 pub mod Lines
 pub mod Users
+pub mod Heard
+pub mod HeardLines
 use Rattle.std.specs.Prelude.{ℕ, ◌+◌, ◌<◌, true, false, nat_lt, List, length, take, Option, Err, ◌≡◌}
 use Rattle.std.proofs.Common.{refl, sym, subst, ap, ◌∙◌, arith}
 use Rattle.std.proofs.lemmas.List.{length-take, take_all}

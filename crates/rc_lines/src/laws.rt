@@ -1,6 +1,6 @@
 //! Laws of lines, each the contract of a function that does nothing.
 
-ghost use Rattle.std.specs.Prelude.{◌≡◌, ◌≤◌, List, ℕ, ℤ, length, true, IsTrue, Ok, Option, Some, take};
+ghost use Rattle.std.specs.Prelude.{◌≡◌, ◌≤◌, List, ℕ, ℤ, length, true, IsTrue, is_some, Ok, Option, Some, take};
 ghost use Rattle.std.specs.Int.{w64};
 ghost use Rattle.std.specs.Int.RustNames.{FitsSigned};
 ghost use Rattle.rc_cell.specs.declared.writes.Tomb.{Tomb};
@@ -9,6 +9,7 @@ ghost use Rattle.rc_position.specs.declared.comps.Comp.{Comp};
 ghost use Rattle.rc_rowcode.specs.Spelling.{IsTomb};
 ghost use Rattle.rc_schema.specs.Checks.{checked_prefix};
 ghost use Rattle.rc_schema.specs.Lists.{Lists, is_schema};
+ghost use Rattle.rc_spelling.specs.Printed.{AreBytes};
 ghost use Rattle.rc_spelling.specs.Words.{words};
 ghost use Rattle.rc_writes.specs.Allowed.{IsRowOf};
 ghost use Rattle.rc_writes.specs.Single.{partition_alone, row_alone};
@@ -63,6 +64,18 @@ pub fn sayable_lines_are_meant()
 pub fn commands_read_back()
     ensures { (schema : Lists) (command : Command) (line : List ℕ) → IsTrue (is_schema schema) → Fits schema command → IsSayableCommand command →
         command_line schema command ≡ Some line → parse (Some schema) line ≡ Ok command }
+{}
+
+/// Each command that a line of bytes gives under a schema is one that one line can say, and has a line.
+pub fn lines_give_what_one_line_can_say()
+    ensures { (schema : Lists) (line : List ℕ) (command : Command) → AreBytes line → parse (Some schema) line ≡ Ok command →
+        IsSayableCommand command × IsTrue (is_some (command_line schema command)) }
+{}
+
+/// Each command that a line of bytes gives under a schema has its one line, which gives it too.
+pub fn each_command_has_its_line()
+    ensures { (schema : Lists) (line : List ℕ) (command : Command) → IsTrue (is_schema schema) → AreBytes line → parse (Some schema) line ≡ Ok command →
+        (own : List ℕ) × (command_line schema command ≡ Some own) × (parse (Some schema) own ≡ Ok command) }
 {}
 
 /// An insert, with its key and values as replies print them, writes a marker and live cells of its timestamp to the row, and

@@ -41,7 +41,7 @@ use Rattle.rc_lines.specs.Grammar.{longest_line, is_comment, schema_said, shape_
 use Rattle.rc_lines.specs.Shapes.{shape_of}
 use Rattle.rc_lines.specs.UnderSchema.{prefix_of, key_under, between, slice_under, cell_named, columns_from, by_column, are_columns, are_short, have_short_values, is_short_slice, key_said, slice_said, has_wrong_key, has_unknown_column, is_within, is_wrong_change, is_unknown_change, is_short_change, is_partition_key, rows_said, mutation_of, refusal_of, command_of, unless, meaning}
 use Rattle.rc_lines.specs.Laws.Fitting.{prefix_fits, prefix_is_as_long, columns_are_known, start_fits, end_fits}
-use Rattle.rc_lines.specs.Laws.Said.{If, Said, SaidShape, shape_said}
+use Rattle.rc_lines.specs.Laws.Said.{If, after, Said, SaidShape, shape_said}
 use Rattle.rc_lines.specs.Laws.Halves.{both, join}
 
 not_false : (b : Bool) → not b ≡ false → b ≡ true
@@ -51,10 +51,6 @@ not_false false h = cc
 of_equal : {X : Type 0} (P : X → Type 0) (o : Option X) → ((x : X) → o ≡ Some x → P x) → If P o
 of_equal P None h = tt
 of_equal P (Some x) h = h x refl
-
-with_what : {X Y : Type 0} (P : Y → Type 0) (Q : X → Type 0) (f : X → Option Y) (o : Option X) → If Q o → ((x : X) → Q x → If P (f x)) → If P (option_and_then f o)
-with_what P Q f None q h = tt
-with_what P Q f (Some x) q h = h x q
 
 if_some : {X : Type 0} (b : Bool) (o : Option X) (x : X) → (if b then o else None) ≡ Some x → (b ≡ true) × (o ≡ Some x)
 if_some true o x h = (refl, h)
@@ -141,7 +137,7 @@ full_fits pieces kinds key h =
     join (are_of_kinds key kinds) (length key == length kinds) (prefix_fits pieces kinds key parts.1)
     (subst (λ (n : ℕ). n == length kinds ≡ true) (sym (prefix_is_as_long pieces kinds key parts.1)) parts.0)
 
-is_less : (r : Ordering) → is_lt r ≡ true → r ≡ Less
+pub is_less : (r : Ordering) → is_lt r ≡ true → r ≡ Less
 is_less Less h = refl
 is_less Equal h = cc
 is_less Greater h = cc
@@ -174,9 +170,9 @@ slice_fits : (from to : Bound) (kinds : List CkKind) → If (SliceFits kinds) (s
 unfolding slice_under
 slice_fits from to kinds =
     let Of : List Comp → Type 0 = λ key. are_of_kinds key kinds ≡ true in
-    with_what (SliceFits kinds) Of (λ f. option_and_then (λ t. between (start_bound f from.inclusive) (end_bound t to.inclusive)) (prefix_of to.pieces kinds)) (prefix_of from.pieces kinds)
+    after (SliceFits kinds) Of (λ f. option_and_then (λ t. between (start_bound f from.inclusive) (end_bound t to.inclusive)) (prefix_of to.pieces kinds)) (prefix_of from.pieces kinds)
     (of_equal Of (prefix_of from.pieces kinds) (prefix_fits from.pieces kinds))
-    (λ f p. with_what (SliceFits kinds) Of (λ t. between (start_bound f from.inclusive) (end_bound t to.inclusive)) (prefix_of to.pieces kinds)
+    (λ f p. after (SliceFits kinds) Of (λ t. between (start_bound f from.inclusive) (end_bound t to.inclusive)) (prefix_of to.pieces kinds)
     (of_equal Of (prefix_of to.pieces kinds) (prefix_fits to.pieces kinds))
     (λ t q. between_fits kinds (start_bound f from.inclusive) (end_bound t to.inclusive)
     (start_is_bound f from.inclusive, start_fits kinds f from.inclusive (start_bound f from.inclusive) refl p) (end_is_bound t to.inclusive, end_fits kinds t to.inclusive (end_bound t to.inclusive) refl q)))
@@ -235,7 +231,7 @@ change_fits schema (OfRange from to tomb) said wrong unknown short =
 change_fits schema (OfPartition tomb) said wrong unknown short = partition_alone schema tomb
 
 -- what is not refused has none of the causes
-no_cause : (a b s : Bool) (made command : Command) → unless (if a then Some WrongKey else if b then Some UnknownColumn else if s then None else Some TooLong) made ≡ Ok command
+pub no_cause : (a b s : Bool) (made command : Command) → unless (if a then Some WrongKey else if b then Some UnknownColumn else if s then None else Some TooLong) made ≡ Ok command
     → (a ≡ false) × (b ≡ false) × (s ≡ true) × (made ≡ command)
 no_cause true b s made command h = cc
 no_cause false true s made command h = cc
@@ -265,22 +261,23 @@ shape_meaning_fits : (schema : Lists) (o : Option Shape) (command : Command) →
 shape_meaning_fits schema None command p h = cc
 shape_meaning_fits schema (Some shape) command p h = meaning_fits schema shape command p h
 
-same_command : (made command : Command) → ◌≡◌ {A = Result Command Refusal} (Ok made) (Ok command) → made ≡ command
+pub same_command : (made command : Command) → ◌≡◌ {A = Result Command Refusal} (Ok made) (Ok command) → made ≡ command
 same_command made command h = cc
 
 said_fits : (schema : Lists) (line : List ℕ) (o : Option Lists) (command : Command) → said (Some schema) line o ≡ Ok command → Fits schema command
 said_fits schema line (Some lists) command h = subst (Fits schema) (same_command (SetSchema lists) command h) tt
 said_fits schema line None command h = shape_meaning_fits schema (shape_of (words line)) command (shape_said (words line)) h
 
-line_cases : (schema : Lists) (a b : Bool) (r : Result Command Refusal) (command : Command) → ((c : Command) → r ≡ Ok c → Fits schema c)
-    → (if a then Err BadLine else if b then Ok Nothing else r) ≡ Ok command → Fits schema command
-line_cases schema true b r command f h = cc
-line_cases schema false true r command f h = subst (Fits schema) (same_command Nothing command h) tt
-line_cases schema false false r command f h = f command h
+-- what a line commands, by its length and its first byte
+pub line_cases : (P : Command → Type 0) (a b : Bool) (r : Result Command Refusal) (command : Command) → P Nothing → (r ≡ Ok command → P command)
+    → (if a then Err BadLine else if b then Ok Nothing else r) ≡ Ok command → P command
+line_cases P true b r command p f h = absurd (cc)
+line_cases P false true r command p f h = subst P (same_command Nothing command h) p
+line_cases P false false r command p f h = f h
 
 -- each command that a line gives under a schema fits it
 pub commands_fit : (schema : Lists) (line : List ℕ) (command : Command) → parse (Some schema) line ≡ Ok command → Fits schema command
 unfolding parse
 commands_fit schema line command h =
-    line_cases schema (nat_lt longest_line (length line)) (is_comment line) (said (Some schema) line (schema_said line)) command
-    (said_fits schema line (schema_said line)) h
+    line_cases (Fits schema) (nat_lt longest_line (length line)) (is_comment line) (said (Some schema) line (schema_said line)) command tt
+    (said_fits schema line (schema_said line) command) h

@@ -31,19 +31,27 @@ pub and_then : {X Y : Type 0} (P : Y → Type 0) (f : X → Option Y) (o : Optio
 and_then P f None h = tt
 and_then P f (Some x) h = h x
 
-mapped : {X Y : Type 0} (P : Y → Type 0) (f : X → Y) (o : Option X) → If (λ x. P (f x)) o → If P (option_map f o)
+pub after : {X Y : Type 0} (P : Y → Type 0) (Q : X → Type 0) (f : X → Option Y) (o : Option X) → If Q o → ((x : X) → Q x → If P (f x)) → If P (option_and_then f o)
+after P Q f None q h = tt
+after P Q f (Some x) q h = h x q
+
+pub made : {X Y : Type 0} (P : Y → Type 0) (Q : X → Type 0) (f : X → Y) (o : Option X) → If Q o → ((x : X) → Q x → P (f x)) → If P (option_map f o)
+made P Q f None q h = tt
+made P Q f (Some x) q h = h x q
+
+pub mapped : {X Y : Type 0} (P : Y → Type 0) (f : X → Y) (o : Option X) → If (λ x. P (f x)) o → If P (option_map f o)
 mapped P f None h = tt
 mapped P f (Some x) h = h
 
-always : {X : Type 0} (P : X → Type 0) (o : Option X) → ((x : X) → P x) → If P o
+pub always : {X : Type 0} (P : X → Type 0) (o : Option X) → ((x : X) → P x) → If P o
 always P None h = tt
 always P (Some x) h = h x
 
-chosen : {X : Type 0} (P : X → Type 0) (b : Bool) (one other : Option X) → If P one → If P other → If P (if b then one else other)
+pub chosen : {X : Type 0} (P : X → Type 0) (b : Bool) (one other : Option X) → If P one → If P other → If P (if b then one else other)
 chosen P true one other p q = p
 chosen P false one other p q = q
 
-either : {X : Type 0} (P : X → Type 0) (one other : Option X) → If P one → If P other → If P (option_or one other)
+pub either : {X : Type 0} (P : X → Type 0) (one other : Option X) → If P one → If P other → If P (option_or one other)
 either P None other p q = q
 either P (Some x) other p q = p
 

@@ -185,20 +185,20 @@ slice_spaceless from to =
 -- ---- the lines
 
 -- the line says the shape, and is neither a comment nor a schema line
-abbrev Says : List ℕ → Shape → Type 0
-Says line shape = (shape_of (words line) ≡ Some shape) × (is_comment line ≡ false) × (schema_said line ≡ None)
+abbrev IsSpoken : List ℕ → Shape → Type 0
+IsSpoken line shape = (shape_of (words line) ≡ Some shape) × (is_comment line ≡ false) × (schema_said line ≡ None)
 
 line_said : (verb word : List ℕ) (rest : List (List ℕ)) (line : List ℕ) (shape : Shape) → ◌≡◌ {A = Option (List ℕ)} (Some (join_with_byte 32 (verb ∷ word ∷ rest))) (Some line)
     → IsSpaceless verb → IsSpaceless word → AllByRecursion IsSpaceless rest → shape_of (verb ∷ word ∷ rest) ≡ Some shape
-    → is_comment (join_with_byte 32 (verb ∷ word ∷ rest)) ≡ false → schema_said (join_with_byte 32 (verb ∷ word ∷ rest)) ≡ None → Says line shape
+    → is_comment (join_with_byte 32 (verb ∷ word ∷ rest)) ≡ false → schema_said (join_with_byte 32 (verb ∷ word ∷ rest)) ≡ None → IsSpoken line shape
 line_said verb word rest line shape e v w r h comment none =
     let same : join_with_byte 32 (verb ∷ word ∷ rest) ≡ line = cc in
-    subst (λ l. Says l shape) same (ap shape_of (words_back verb (word ∷ rest) (v, (w, r))) ∙ h, comment, none)
+    subst (λ l. IsSpoken l shape) same (ap shape_of (words_back verb (word ∷ rest) (v, (w, r))) ∙ h, comment, none)
 
 row_said : (key : List ℕ) (ck : List (List ℕ)) (stamp : Stamp) (cell : List ℕ × Cell) (cells : List (List ℕ × Cell)) (line : List ℕ) → IsSomeKey key
     → IsPrefix ck × AreSayableCells stamp (cell ∷ cells)
     → ◌≡◌ {A = Option (List ℕ)} (Some (join_with_byte 32 (cells_verb false stamp ∷ spelled key ∷ prefix_word ck ∷ cells_words stamp (cell ∷ cells)))) (Some line)
-    → Says line (Written key (OfRow ck None None (cell ∷ cells)))
+    → IsSpoken line (Written key (OfRow ck None None (cell ∷ cells)))
 unfolding schema_said behind
 row_said key ck (Alive ts) cell cells line k is e =
     line_said (codes "update") (spelled key) (prefix_word ck ∷ cells_words (Alive ts) (cell ∷ cells)) line _ e (plain_word (codes "update") refl) (spelled_spaceless key)
@@ -209,7 +209,7 @@ row_said key ck (Gone tomb) cell cells line k is e =
 
 static_said : (key : List ℕ) (stamp : Stamp) (cell : List ℕ × Cell) (cells : List (List ℕ × Cell)) (line : List ℕ) → IsSomeKey key → AreSayableCells stamp (cell ∷ cells)
     → ◌≡◌ {A = Option (List ℕ)} (Some (join_with_byte 32 (cells_verb true stamp ∷ spelled key ∷ cells_words stamp (cell ∷ cells)))) (Some line)
-    → Says line (Written key (OfStatic (cell ∷ cells)))
+    → IsSpoken line (Written key (OfStatic (cell ∷ cells)))
 unfolding schema_said behind
 static_said key (Alive ts) cell cells line k is e =
     line_said (codes "static") (spelled key) (cells_words (Alive ts) (cell ∷ cells)) line _ e (plain_word (codes "static") refl) (spelled_spaceless key)
@@ -218,7 +218,7 @@ static_said key (Gone tomb) cell cells line k is e =
     line_said (codes "unstatic") (spelled key) (cells_words (Gone tomb) (cell ∷ cells)) line _ e (plain_word (codes "unstatic") refl) (spelled_spaceless key)
     (all_spaceless (Gone tomb) (cell ∷ cells) is) (static_back key (Gone tomb) cell cells k is) refl refl
 
-change_said : (key : List ℕ) (change : Change) (line : List ℕ) → IsSomeKey key → IsSayableChange change → shape_line (Written key change) ≡ Some line → Says line (Written key change)
+change_said : (key : List ℕ) (change : Change) (line : List ℕ) → IsSomeKey key → IsSayableChange change → shape_line (Written key change) ≡ Some line → IsSpoken line (Written key change)
 unfolding schema_said behind
 change_said key (OfRow ck (Some ts) None cells) line k is e =
     line_said (codes "insert") (spelled key) (prefix_word ck ∷ cells_words (Alive ts) cells) line _ e (plain_word (codes "insert") refl) (spelled_spaceless key)
@@ -240,7 +240,7 @@ change_said key (OfPartition tomb) line k is e =
     line_said (codes "delpart") (spelled key) (stamp_words (Gone tomb)) line _ e (plain_word (codes "delpart") refl) (spelled_spaceless key)
     (stamp_spaceless (Gone tomb) is) (delpart_back key tomb k is) refl refl
 
-said_all : (shape : Shape) (line : List ℕ) → shape_line shape ≡ Some line → IsSayable shape → Says line shape
+said_all : (shape : Shape) (line : List ℕ) → shape_line shape ≡ Some line → IsSayable shape → IsSpoken line shape
 unfolding schema_said behind
 said_all (Plain command) line e is = absurd (cc)
 said_all (Open id key from to) line e is =
