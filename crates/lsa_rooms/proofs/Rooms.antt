@@ -20,11 +20,11 @@ use Rattle.lsa_path.specs.laws.Beside.{path-aside}
 use Rattle.lsa_path.specs.laws.Members.{member-cases, member-first, member-later, member-here, all-from_members}
 use Rattle.lsa_path.specs.laws.Passing.{path-entered, path-beside}
 use Rattle.lsa_path.specs.laws.Paths.{path-same, path-rest, path-everywhere, all_behind}
-use Rattle.lsa_path.specs.laws.Renamed.{path-renamed, some-there}
+use Rattle.lsa_path.specs.laws.Renamed.{path-renamed}
 use Rattle.lsa_list.specs.declared.recency.List.{List as Slots}
 use Rattle.lsa_list.specs.Recency.{IsList, IsElsewhere, kind_of}
 use Rattle.lsa_list.specs.laws.Lists.{recent-same, list-stays, list-unlinked, list-inserted, list-taken, list-renamed, path-elsewhere, kind_written}
-use Rattle.lsa_rooms.specs.Room.{Stands, IsTopped, IsFirst}
+use Rattle.lsa_rooms.specs.Room.{Stands, IsFirst}
 
 -- an object of a kind has its links
 has_link : (o : Option (Kind × List ℕ)) (kind : Kind) (f : ℕ) → option_map (λ b. b.0) o ≡ Some kind → f < links_of kind → IsSomeAnd o (λ b. f < links_of b.0)

@@ -1,11 +1,11 @@
-use Rattle.std.proofs.Common.{◌++◌, None, sym, ap, ◌∙◌, arith}
+use Rattle.std.proofs.Common.{None, sym, ap, ◌∙◌, arith}
 use Rattle.lsa_kinds.specs.declared.kind.Kind.TheVariants.{Dummy}
 use Rattle.lsa_region.specs.declared.end.End.TheVariants.{Obj}
 use Rattle.lsa_region.specs.Region.{link_of}
 use Rattle.std.specs.Option.{option_map}
 use Rattle.lsa_path.specs.Path.{exchanged_end}
 use Rattle.lsa_path.specs.laws.Exchanged.{exchanged-toward, exchanged-onward, other-second}
-use Rattle.lsa_path.specs.laws.Members.{member-here, member-later}
+use Rattle.lsa_path.specs.laws.Members.{member-here}
 use Rattle.lsa_path.specs.laws.Passing.{path-entered}
 use Rattle.lsa_rooms.proofs.Rooms.{kind-end, stands-exchanged, kinds-with, kinds-without, in-longer}
 use Rattle.lsa_rooms.proofs.room.replace.Goals as goal
