@@ -1,5 +1,5 @@
 -- Units of an update on a whole chain: each is one of the core.
-use Rattle.std.specs.Prelude.{◌≡◌, ℕ, suc, true, List, [], ◌∷◌, ◌++◌, Option, Some, None, length}
+use Rattle.std.specs.Prelude.{◌≡◌, ℕ, suc, true, false, IsTrue, cond, List, [], ◌∷◌, ◌++◌, Option, Some, None, length}
 use Rattle.std.proofs.Common.{refl, sym, ap, ◌∙◌, subst, arith}
 use Rattle.std.proofs.lemmas.List.{append_assoc}
 use Rattle.std.specs.declared.cmp.Ordering.TheVariants.{Less}
@@ -12,7 +12,7 @@ use Rattle.rc_mutation.specs.declared.mutations.Mutation.{Mutation}
 use Rattle.rc_mutation.specs.Source.{SameSource}
 use Rattle.rc_core.specs.Version.{Version, IsVersion}
 use Rattle.rc_core.specs.AtPlace.{IsAtPlace}
-use Rattle.rc_core.specs.Chains.{Chain, IsChainContinuous, IsUpdating, NewestIs, phase_at, with_versions}
+use Rattle.rc_core.specs.Chains.{Chain, IsChainContinuous, IsUpdating, NewestIs, Shown, at_place, phase_at, with_versions}
 use Rattle.rc_core.specs.Continuity.{EachOf}
 use Rattle.rc_core.specs.Merge.{new_version}
 use Rattle.rc_core.specs.Steps.{IsCarriedIn, IsChain, begin_update, with_updating}
@@ -111,3 +111,11 @@ module _ (below : ℕ → List Mutation) (change : Mutation) (c : Chain) (front 
 
     pub begin-carried : (x : Pos) → IsCarriedIn c x → IsCarriedIn unit_begun x
     begin-carried x h = unit-carried-in below change begun front under (new_version None phase) begun_versions begun_form None (frag.Start pt) next refl st begun_continuous x (begun-carried c phase x none h)
+
+-- ---- a chain as it is shown
+
+pub shown-updating : (p : Place) (c : Shown) → (IsTrue c.updating → IsUpdating (at_place p c).updating) × (IsUpdating (at_place p c).updating → IsTrue c.updating)
+shown-updating p c = elim c.updating as (λ b. (IsTrue b → IsUpdating (cond b (Some p) None)) × (IsUpdating (cond b (Some p) None) → IsTrue b)) [
+  | true ↦ (λ _. tt, λ _. refl)
+  | false ↦ (λ h. let u : false ≡ true = h in absurd (cc), λ u. absurd u)
+]

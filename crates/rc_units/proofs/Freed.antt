@@ -1,4 +1,4 @@
--- That freeing ends: of a chain that nobody finds or reads there is one object less after each that is freed.
+-- Of a chain that nobody finds or reads one object after another is freed: a chain is left, of one object less.
 use Rattle.std.specs.Prelude.{◌<◌, ◌≡◌, ◌+◌, List, [], ◌∷◌, ◌++◌, Option, Some, None, cond, length}
 use Rattle.std.proofs.Common.{refl, sym, ap, ◌∙◌, subst, ⊎_elim, arith}
 use Rattle.std.specs.declared.cmp.Ordering.{Ordering}
@@ -7,15 +7,22 @@ use Rattle.std.specs.Ordering.{is_eq}
 use Rattle.std.specs.Cmp.{tied_itself}
 use Rattle.rc_cell.specs.declared.rows.Row.{Row}
 use Rattle.rc_position.specs.declared.positions.Pos.{Pos}
-use Rattle.rc_position.specs.Position.{pos_cmp}
+use Rattle.rc_position.specs.Position.{IsBefore, pos_cmp}
 use Rattle.rc_position.specs.OrderLaws.{pos_cmp_total}
 use Rattle.rc_core.specs.declared.entries.ChainKind.{ChainKind}
 use Rattle.rc_core.specs.declared.entries.Entry.{Entry}
 use Rattle.rc_core.specs.declared.entries.Mark.{Mark}
 use Rattle.rc_core.specs.AtPlace.{HasEntryAt}
+use Rattle.rc_core.specs.Chains.{Chain, IsUpdating, with_versions}
 use Rattle.rc_core.specs.Change.{take_out, with_first_gap}
-use Rattle.rc_core.specs.Free.{free_entry, free_statics, freed_mark}
-use Rattle.rc_core.specs.Version.{Version, IsVersion}
+use Rattle.rc_core.specs.Continuity.{EachOf}
+use Rattle.rc_core.specs.Free.{IsLeft, free_entry, free_statics, freed_mark}
+use Rattle.rc_core.specs.Steps.{IsChain}
+use Rattle.rc_core.specs.Version.{IsVersion, Version, end_position}
+use Rattle.rc_core.specs.laws.Freeing.{replaced-form}
+use Rattle.rc_core.specs.laws.Keeping.{each_less}
+use Rattle.rc_core.specs.laws.Losing.{each-one}
+use Rattle.rc_core.specs.laws.Order.{take_out-is}
 use Rattle.rc_units.specs.Chained.{objects_of}
 use Rattle.rc_units.specs.Clean.{static_units, units_of}
 use Rattle.rc_units.proofs.Ending.{some_units}
@@ -59,3 +66,22 @@ statics-less kind front back v some = replaced-less front back (free_statics kin
 
 pub version-less : (front back : List Version) (v : Version) → IsVersion v → objects_of (front ++ back) < objects_of (front ++ v ∷ back)
 version-less front back v i = omega (arith, some_units v i, objects-append front back, objects-append front (v ∷ back))
+
+-- ---- a chain is left
+
+module _ (c : Chain) (front back : List Version) (v : Version) (vs : c.versions ≡ front ++ v ∷ back) (ch : IsChain c) where
+  is_version : IsVersion v
+  is_version = each-one IsVersion front back v (subst (EachOf IsVersion) vs ch.versions)
+
+  pub entry-form : (kind : ChainKind) (x : Pos) → IsBefore x end_position → IsChain (with_versions (front ++ free_entry kind x v ∷ back) c)
+  entry-form kind x b = replaced-form c front back v (free_entry kind x v) vs (take_out-is (freed_mark kind) x v b is_version) ch
+
+  pub statics-form : (kind : ChainKind) → IsChain (with_versions (front ++ free_statics kind v ∷ back) c)
+  statics-form kind = replaced-form c front back v (free_statics kind v) vs (record { ascend = is_version.ascend; ends = is_version.ends }) ch
+
+  pub version-form : IsLeft c → IsChain (with_versions (front ++ back) c)
+  version-form l = record {
+    versions = each_less IsVersion front back v (subst (EachOf IsVersion) vs ch.versions);
+    pins = λ j p. absurd (l.unpinned j p);
+    unpinned = λ u. absurd (subst IsUpdating l.settled u);
+  }

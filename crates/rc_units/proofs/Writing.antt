@@ -1,6 +1,7 @@
 -- What the plain functions make: one element after another, and in place.
 use Rattle.std.specs.Prelude.{◌≡◌, ◌+◌, ◌<◌, ◌≤◌, ℕ, zero, suc, true, not, ◌==◌, List, [], ◌∷◌, ◌++◌, Option, drop, length, take, map as list_map}
 use Rattle.std.proofs.Common.{refl, sym, ap, ◌∙◌, subst, arith, slice_index_or, slice_set}
+use Rattle.std.proofs.lemmas.List.{take_all}
 use Rattle.std.specs.Ordering.{is_lt}
 use Rattle.rc_cell.specs.declared.rows.Row.{Row}
 use Rattle.rc_cell.specs.declared.writes.Tomb.{Tomb}
@@ -21,6 +22,11 @@ use Rattle.rc_core.specs.Version.{end_position}
 use Rattle.rc_core.specs.laws.Losing.{tomb-alone}
 use Rattle.rc_core.specs.Plain.{mark_by, mark_under}
 use Rattle.rc_units.proofs.Under.{greater_says}
+
+-- ---- each element made
+
+pub all-made : {A B : Type 0} (f : A → B) (made : List B) (items : List A) (n : ℕ) → length items ≤ n → made ≡ list_map f (take n items) → made ≡ list_map f items
+all-made f made items n le e = e ∙ ap (list_map f) (take_all n items le)
 
 -- ---- elements written in place
 

@@ -1,21 +1,21 @@
 //! Units of an update and of the cleaner on a whole chain: what each keeps.
 
 ghost use Rattle.std.specs.declared.cmp.Ordering.TheVariants.{Less};
-ghost use Rattle.std.specs.Prelude.{◌≡◌, ◌≢◌, ◌<◌, ◌++◌, ◌∷◌, [], Bool, ℕ, List, None, Option, Some, length, option_map, suc, true};
+ghost use Rattle.std.specs.Prelude.{◌≡◌, ◌≢◌, ◌↔◌, ◌<◌, ◌++◌, ◌∷◌, [], Bool, ℕ, IsTrue, List, None, Option, Some, length, option_map, suc, true};
 ghost use Rattle.rc_cell.specs.declared.writes.Tomb.{Tomb};
 ghost use Rattle.rc_position.specs.declared.positions.Pos.{Pos};
-ghost use Rattle.rc_position.specs.Position.{Head, Place, place_cmp};
+ghost use Rattle.rc_position.specs.Position.{Head, IsBefore, Place, place_cmp};
 ghost use Rattle.rc_mutation.specs.declared.fragments.Frag.{Frag};
 ghost use Rattle.rc_mutation.specs.declared.fragments.Frag.TheVariants.{Start};
 ghost use Rattle.rc_mutation.specs.declared.mutations.Mutation.{Mutation};
 ghost use Rattle.rc_mutation.specs.Source.{SameSource};
 ghost use Rattle.rc_core.specs.declared.entries.ChainKind.{ChainKind};
 ghost use Rattle.rc_core.specs.declared.entries.ChainKind.TheVariants.{Cache};
-ghost use Rattle.rc_core.specs.Version.{IsVersion, On, Version};
+ghost use Rattle.rc_core.specs.Version.{IsVersion, On, Version, end_position};
 ghost use Rattle.rc_core.specs.AtPlace.{HasEntryAt};
 ghost use Rattle.rc_core.specs.Chain.{IsKnown, cells, content};
-ghost use Rattle.rc_core.specs.Free.{free_entry, free_statics};
-ghost use Rattle.rc_core.specs.Chains.{Chain, IsChainContinuous, IsMemtableChain, IsNeeded, upto, with_versions};
+ghost use Rattle.rc_core.specs.Free.{IsLeft, free_entry, free_statics};
+ghost use Rattle.rc_core.specs.Chains.{Chain, IsChainContinuous, IsMemtableChain, IsNeeded, IsUpdating, Shown, at_place, upto, with_versions};
 ghost use Rattle.rc_core.specs.Merge.{IsSeenAlike, new_version};
 ghost use Rattle.rc_core.specs.StandsFor.{StandsFor};
 ghost use Rattle.rc_core.specs.Steps.{IsCarriedIn, IsChain, pin_at, with_updating};
@@ -126,4 +126,23 @@ pub fn a_freed_object_leaves_less()
 pub fn what_is_known_as_before_was_known()
     ensures { (before now : List Version) (x : Pos) → IsKnownAsBefore before now → IsKnown Cache now x →
         IsKnown Cache before x × (content (cells (On x) now) ≡ content (cells (On x) before)) }
+{}
+
+/// An object freed of a chain leaves a chain: an entry before the end, a static row, and of one that nobody finds or reads a version.
+pub fn a_freed_object_leaves_a_chain()
+    ensures entry { (c : Chain) (front back : List Version) (v : Version) → c.versions ≡ front ++ v ∷ back → IsChain c → (kind : ChainKind) (x : Pos) → IsBefore x end_position →
+        IsChain (with_versions (front ++ free_entry kind x v ∷ back) c) }
+    ensures statics { (c : Chain) (front back : List Version) (v : Version) → c.versions ≡ front ++ v ∷ back → IsChain c → (kind : ChainKind) →
+        IsChain (with_versions (front ++ free_statics kind v ∷ back) c) }
+    ensures version { (c : Chain) (front back : List Version) (v : Version) → c.versions ≡ front ++ v ∷ back → IsChain c → IsLeft c → IsChain (with_versions (front ++ back) c) }
+{}
+
+/// What is put over versions is not seen below: a new version, that of an update, and what a unit makes of it leave what is seen at each older one.
+pub fn what_is_put_over_is_not_seen_below()
+    ensures { (versions over : List Version) (j : ℕ) → j < length versions → upto (versions ++ over) j ≡ upto versions j }
+{}
+
+/// A chain as it is shown says whether it is under update: so it is with the update's place beside it, wherever that is.
+pub fn a_shown_chain_says_whether_it_is_under_update()
+    ensures { (p : Place) (c : Shown) → IsTrue c.updating ↔ IsUpdating (at_place p c).updating }
 {}
