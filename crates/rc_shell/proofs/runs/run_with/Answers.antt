@@ -1,5 +1,5 @@
 -- The words were refused, and that was said; memory ran out; or the input was served.
-use Rattle.std.proofs.Common.{◌≡◌, map, string_bytes, sym, ap, ◌∙◌}
+use Rattle.std.proofs.Common.{◌≡◌, map, string_bytes, sym, ap, ◌∙◌, arith}
 use Rattle.rc_shell.specs.Step.{Seen, LineStep, Ends, Leaves, start}
 use Rattle.rc_shell.specs.Words.{words_of}
 use Rattle.rc_shell.specs.declared.words.Words.TheVariants.{Run, Refused}
@@ -28,3 +28,6 @@ pub serve_input-requires-clause-stands : goal.serve_input-requires-clause-stands
 serve_input-requires-clause-stands g c =
     let store : Seen = (g.W.Store.files c.args.store.now, g.W.Store.faults c.args.store.now, g.W.Store.asks c.args.store.now) in
     (start Refused store, begins_stood c.new-in-Ok.result.server.machine Refused store (ap (λ s. s.machine) c.new-in-Ok.ensures.server ∙ c.new.ensures))
+
+pub serve_input-requires-clause-small : goal.serve_input-requires-clause-small
+serve_input-requires-clause-small g c = omega (arith, c.in-Ok.ensures, c.deref_mut.ensures.len)
