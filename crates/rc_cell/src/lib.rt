@@ -11,6 +11,3 @@ pub use columns::Cells;
 pub use rows::Row;
 pub use values::Value;
 pub use writes::{Cell, Tomb};
-
-#[cfg(test)]
-mod tests;

@@ -20,6 +20,3 @@ pub use slow::{
     PlainVersion, Seen, Side, base_at, first_part, head_of, is_flagged_at, is_known_at, seen_at,
     statics_at,
 };
-
-#[cfg(test)]
-mod tests;

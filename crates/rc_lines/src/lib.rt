@@ -14,8 +14,6 @@ mod parts;
 mod printing;
 mod reading;
 mod shapes;
-#[cfg(test)]
-mod tests;
 
 pub use commands::{Command, Figures, LineErr, Refusal, Reply};
 pub use laws::{

@@ -7,8 +7,6 @@ pub mod laws;
 mod mutations;
 mod rows;
 mod statics;
-#[cfg(test)]
-mod tests;
 
 pub use fragments::{Frag, FragList, Head, HeadAt};
 pub use mutations::{Mutation, Partition, Write, greater_tomb};

@@ -31,8 +31,3 @@ pub use standard::{StdSink, StdSource};
 pub use stores::{Store, StoreErr};
 pub use sure::{SureSink, SureSource};
 pub use sure_store::SureStore;
-
-#[cfg(test)]
-mod store_tests;
-#[cfg(test)]
-mod tests;

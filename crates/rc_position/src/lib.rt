@@ -15,6 +15,3 @@ pub use positions::{Pos, Weight, end_pos, start_pos};
 pub use slices::Slice;
 pub use steps::Steps;
 pub use texts::{PartKey, Text};
-
-#[cfg(test)]
-mod tests;

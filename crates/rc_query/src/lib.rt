@@ -6,8 +6,6 @@ mod compactor;
 pub mod laws;
 mod lines;
 mod shown;
-#[cfg(test)]
-mod tests;
 
 pub use answers::{answer_of, shown_rows};
 pub use compactor::Compactor;

@@ -8,6 +8,3 @@ mod sweep;
 
 pub use list::Ranges;
 pub use pieces::Piece;
-
-#[cfg(test)]
-mod tests;

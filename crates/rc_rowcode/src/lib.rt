@@ -22,6 +22,3 @@ pub use objects::{VERSION_SIZE, dummy_size, entry_size, static_size, up8};
 pub use rows::{read_row, read_tomb, row_size, write_row, write_tomb};
 pub use scratch::Scratch;
 pub use widths::{key_in_range, pos_in_range, row_in_range, tomb_in_range};
-
-#[cfg(test)]
-mod tests;

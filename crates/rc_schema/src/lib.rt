@@ -7,8 +7,6 @@ mod laws;
 mod names;
 mod printing;
 mod schemas;
-#[cfg(test)]
-mod tests;
 mod words;
 
 pub use checks::SchemaErr;

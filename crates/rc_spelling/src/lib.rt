@@ -6,8 +6,6 @@ mod laws;
 mod numbers;
 mod printing;
 mod reading;
-#[cfg(test)]
-mod tests;
 
 pub use cutting::words;
 pub use laws::{

@@ -9,8 +9,6 @@ mod lists;
 mod merges;
 mod parts;
 mod streams;
-#[cfg(test)]
-mod tests;
 
 pub use fillers::{Fill, Filler};
 pub use known::Known;

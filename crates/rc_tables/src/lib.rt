@@ -8,8 +8,6 @@ mod partition;
 mod reading;
 mod rebuilding;
 mod sets;
-#[cfg(test)]
-mod tests;
 
 pub use lazy::TableFrags;
 pub use reading::read_joined;

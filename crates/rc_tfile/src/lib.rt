@@ -11,8 +11,6 @@ mod outline;
 mod reading;
 mod spelling;
 mod stepping;
-#[cfg(test)]
-mod tests;
 mod walking;
 mod window;
 mod writing;

@@ -12,6 +12,3 @@ pub use choose::{may_merge, next_to_clean};
 pub use clean::{close_gap, merge_end_dummy, merge_first_entry, merge_onto};
 pub use entries::{copy_entries, copy_entry, join_row, put_row_down, split_entries};
 pub use update::{force_behind, lose_rest, put_fragment, raise_entries};
-
-#[cfg(test)]
-mod tests;
