@@ -35,3 +35,6 @@ returns-clause-found c = λ fs is e. ap Some (going_ends c.args.bytes.now c.loop
 
 pub returns-clause-spelled : goal.returns-clause-spelled
 returns-clause-spelled c = (c.loop-left.invariant.spelled, c.loop-left.invariant.text ∙ ap (λ t. flat_map frag_code c.loop-left.made.items ++ t) (c.is_end.ensures.0 c.loop-left-test.false))
+
+pub returns-in_default-clause-spelled : goal.returns-in_default-clause-spelled
+returns-in_default-clause-spelled c = tt
