@@ -1,11 +1,11 @@
-use super::{
-    close_gap, copy_entries, force_behind, join_row, lose_rest, merge_end_dummy, merge_first_entry,
-    merge_onto, put_fragment,
-};
 use rc_cell::{Cells, Row, Tomb};
 use rc_core::{Entry, Flag, Mark, PlainVersion, is_at_place};
 use rc_mutation::Frag;
 use rc_position::{Comp, Key, Pos, Weight};
+use rc_units::{
+    close_gap, copy_entries, force_behind, join_row, lose_rest, merge_end_dummy, merge_first_entry,
+    merge_onto, put_fragment,
+};
 use std::alloc::{AllocError, Global};
 use std::test::Fail;
 

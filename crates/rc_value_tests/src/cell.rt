@@ -1,4 +1,4 @@
-use super::{Cell, Cells, Row, Tomb, Value, laws};
+use rc_cell::{Cell, Cells, Row, Tomb, Value, laws};
 use std::alloc::{AllocError, Global};
 use std::cmp::Ordering;
 use std::test::Fail;

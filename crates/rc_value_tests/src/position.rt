@@ -2,12 +2,7 @@
 
 ghost use Rattle.std.specs.Prelude.{◌≡◌};
 
-use crate::comps::Comp;
-use crate::keys::Key;
-use crate::positions::{Pos, Weight, end_pos, start_pos};
-use crate::slices::Slice;
-use crate::steps::Steps;
-use crate::texts::{PartKey, Text};
+use rc_position::{Comp, Key, PartKey, Pos, Slice, Steps, Text, Weight, end_pos, start_pos};
 use std::alloc::{AllocError, Global};
 use std::cmp::Ordering;
 use std::marker::Brand;

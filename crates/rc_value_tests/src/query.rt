@@ -1,10 +1,10 @@
 ghost use Rattle.std.specs.Prelude.{◌≢◌, IfOk};
 ghost use Rattle.rc_cell.specs.Winner.{empty_row};
 
-use crate::{Compactor, Lines, OutLine, Shown, answer_of, shown_rows};
 use rc_cell::{Cell, Cells, Row, Tomb, Value};
 use rc_mutation::{Head, Mutation, Rows, Statics};
 use rc_position::{Comp, Key, Slice, end_pos, start_pos};
+use rc_query::{Compactor, Lines, OutLine, Shown, answer_of, shown_rows};
 use std::alloc::{AllocError, Global};
 use std::test::Fail;
 

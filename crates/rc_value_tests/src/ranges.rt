@@ -1,8 +1,8 @@
 //! Overlapping ranges worked out by hand, and many of them.
 
-use crate::list::Ranges;
 use rc_cell::Tomb;
 use rc_position::{Comp, Key, Pos, Weight};
+use rc_ranges::Ranges;
 use std::alloc::{AllocError, Global};
 use std::process::Abort;
 use std::test::Fail;

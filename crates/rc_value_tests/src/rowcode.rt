@@ -1,6 +1,6 @@
 //! Each call once, with codes worked out by hand from the table of the formats. The tables of cases are read by a program.
 
-use crate::{
+use rc_rowcode::{
     Scratch, compare_code_with_key, compare_code_with_pos, compare_codes, dummy_size, entry_size,
     join_codes, join_size, key_size, laws, pos_size, read_key, read_pos, read_row, read_tomb,
     row_size, static_size, write_key, write_pos, write_row, write_tomb,

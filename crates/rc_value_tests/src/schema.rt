@@ -1,10 +1,9 @@
 //! Each call once, with answers worked out by hand from the grammar and the limits. The tables of cases are read by a
 //! program.
 
-use crate::checks::SchemaErr;
-use crate::schemas::{Schema, SchemaTextErr};
 use rc_cell::{Cell, Cells, Row};
 use rc_position::{Comp, Key, Text};
+use rc_schema::{Schema, SchemaErr, SchemaTextErr};
 use std::test::Fail;
 
 #[test]

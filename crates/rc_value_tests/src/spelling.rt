@@ -1,10 +1,9 @@
 //! Words whose meaning was worked out by hand from the grammar, and keys as they are printed.
 
-use crate::cutting::words;
-use crate::numbers::{count, number, signed};
-use crate::printing::{print_bytes, print_key};
-use crate::reading::{read_bytes, read_components};
 use rc_position::{Comp, Text};
+use rc_spelling::{
+    count, number, print_bytes, print_key, read_bytes, read_components, signed, words,
+};
 use std::alloc::{AllocError, Global};
 use std::test::Fail;
 

@@ -1,8 +1,7 @@
 //! Commands and refusals in short words, for tables.
 
-use crate::commands::{Command, LineErr};
-use crate::reading::read_line;
 use rc_cell::{Cell, Row, Tomb};
+use rc_lines::{Command, LineErr, read_line};
 use rc_mutation::Write;
 use rc_position::{Pos, Weight};
 use rc_schema::{Schema, SchemaTextErr};

@@ -1,8 +1,7 @@
 //! The texts of replies.
 
-use crate::commands::{Figures, Refusal, Reply};
-use crate::printing::{print_refusal, print_reply};
 use rc_cell::Value;
+use rc_lines::{Figures, Refusal, Reply, print_refusal, print_reply};
 use rc_position::{Comp, Key, Text};
 use rc_query::{Lines, OutLine, Shown};
 use rc_schema::Schema;

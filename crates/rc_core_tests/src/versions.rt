@@ -1,10 +1,10 @@
-use super::{
+use rc_cell::{Cells, Row, Tomb};
+use rc_core::{
     ChainKind, Entry, Flag, Mark, Part, PlainVersion, Side, base_at, evict_under_update,
     first_part, flag_under, head_of, is_at_place, is_flagged_at, is_known_at, is_known_in,
     join_updated_row, may_populate, merge_end, merge_head, put_down, raised_mark, release_pin,
     seen_at, statics_at,
 };
-use rc_cell::{Cells, Row, Tomb};
 use rc_position::{Comp, Key, Pos, Weight};
 use std::alloc::{AllocError, Global};
 use std::cmp::Ordering;
