@@ -128,5 +128,5 @@ pub(crate) fn joins(alloc: Global, first: &[u8], second: &[u8]) -> Result<Answer
     if out.bytes().len() != size {
         return Ok(Answer::Word("differs"));
     }
-    Ok(Answer::Bytes(hex::encode(alloc, out.bytes())?))
+    Ok(Answer::Text(hex::encode(alloc, out.bytes())?))
 }

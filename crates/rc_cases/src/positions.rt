@@ -26,7 +26,8 @@ pub(crate) fn key_of(alloc: Global, word: &[u8]) -> Result<Option<Key>, AllocErr
     Ok(Some(Key::from_vec(comps)))
 }
 
-fn weight_of(word: &[u8]) -> Option<Weight> {
+/// The weight of a word.
+pub(crate) fn weight_of(word: &[u8]) -> Option<Weight> {
     if says(word, "before") {
         return Some(Weight::Before);
     }

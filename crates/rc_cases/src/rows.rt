@@ -77,7 +77,8 @@ pub(crate) fn wins(alloc: Global, first: &[u8], second: &[u8]) -> Result<Answer,
     Ok(Answer::Word("differs"))
 }
 
-fn tomb_of(word: &[u8]) -> Option<Tomb> {
+/// The tombstone of a timestamp; none of `-`.
+pub(crate) fn tomb_of(word: &[u8]) -> Option<Tomb> {
     let ts = signed(word)?;
     Some(Tomb { ts, dt: 7 })
 }

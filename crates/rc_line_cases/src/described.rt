@@ -1,4 +1,4 @@
-//! Commands and refusals in short words, for tables.
+//! Commands and refusals in short words.
 
 use rc_cell::{Cell, Row, Tomb};
 use rc_lines::{Command, LineErr, read_line};
@@ -8,13 +8,13 @@ use rc_schema::{Schema, SchemaTextErr};
 use rc_spelling::{print_bytes, print_key};
 use std::alloc::{AllocError, Global};
 
-/// The schema of a text, none of an empty one.
-pub(crate) fn schema_of(alloc: Global, text: &[u8]) -> Result<Option<Schema>, SchemaTextErr> {
-    if text.is_empty() {
-        return Ok(None);
+/// The schema of a text; none where it is the text of none.
+pub(crate) fn schema_of(alloc: Global, text: &[u8]) -> Result<Option<Schema>, AllocError> {
+    match Schema::read(alloc, text) {
+        Ok(schema) => Ok(Some(schema)),
+        Err(SchemaTextErr::Malformed) => Ok(None),
+        Err(SchemaTextErr::NoMemory) => Err(AllocError),
     }
-    let schema = Schema::read(alloc, text)?;
-    Ok(Some(schema))
 }
 
 // Appends ` ` and a tombstone, as `10/7`.
