@@ -1,3 +1,5 @@
+//! Which write wins, and what rows come to, by hand.
+
 use rc_cell::{Cell, Cells, Row, Tomb, Value, laws};
 use std::alloc::{AllocError, Global};
 use std::cmp::Ordering;

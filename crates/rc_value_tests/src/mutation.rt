@@ -1,3 +1,5 @@
+//! Writes of many rows joined, and each copy once.
+
 ghost use Rattle.std.specs.Prelude.{◌≢◌};
 ghost use Rattle.rc_cell.specs.Winner.{empty_row};
 
