@@ -6,7 +6,7 @@ use crate::answers::{Answer, says};
 use crate::positions::weight_of;
 use rc_cell::Tomb;
 use rc_position::{Comp, Key, Pos, Weight};
-use rc_ranges::Ranges;
+use rc_ranges::{Piece, Ranges};
 use rc_spelling::signed;
 use std::alloc::{AllocError, Global};
 
@@ -75,20 +75,31 @@ fn number_of(x: &Pos) -> i64 {
     }
 }
 
-// The spans of a list; a deletion time other than 7 is told.
+// A piece as a span; a deletion time other than 7 is told.
+fn piece_told(alloc: Global, piece: &Piece) -> Result<String, AllocError> {
+    let (from, to) = (number_of(&piece.from), number_of(&piece.to));
+    let Tomb { ts, dt } = piece.tomb;
+    let other = if dt == 7 { "" } else { " of another time" };
+    format!(in alloc; "{from}:{to}@{ts}{other}")
+}
+
+// The spans of a list, with spaces between them.
 fn told(alloc: Global, ranges: &Ranges) -> Result<String, AllocError> {
     let mut text = String::new(alloc);
     for piece in ranges.as_slice() {
-        let (from, to) = (number_of(&piece.from), number_of(&piece.to));
-        let ts = piece.tomb.ts;
-        let word = if piece.tomb.dt == 7 {
-            format!(in alloc; "{from}:{to}@{ts} ")?
-        } else {
-            format!(in alloc; "{from}:{to}@{ts}, of another time ")?
-        };
-        text.push_str(word.as_str())?;
+        if !text.is_empty() {
+            text.push_str(" ")?;
+        }
+        text.push_str(piece_told(alloc, piece)?.as_str())?;
     }
-    String::from_str(alloc, text.as_str().trim_end())
+    Ok(text)
+}
+
+// The tombstones of spans, the first one joined last.
+fn joined_of(alloc: Global, first: &[u8], others: &[&[u8]]) -> Result<Ranges, AllocError> {
+    let mut joined = ranges_of(alloc, others)?;
+    joined.join(alloc, &ranges_of(alloc, &[first])?)?;
+    Ok(joined)
 }
 
 /// What spans come to, added one after another or joined to the first one, or that these differ.
@@ -97,9 +108,7 @@ pub(crate) fn adds(alloc: Global, spans: &[&[u8]]) -> Result<Answer, AllocError>
         return Ok(Answer::NoCase);
     };
     let added = told(alloc, &ranges_of(alloc, spans)?)?;
-    let mut joined = ranges_of(alloc, others)?;
-    joined.join(alloc, &ranges_of(alloc, &[*first])?)?;
-    let joined = told(alloc, &joined)?;
+    let joined = told(alloc, &joined_of(alloc, first, others)?)?;
     if added.as_str() != joined.as_str() {
         return Ok(Answer::Word("differs"));
     }
@@ -125,18 +134,25 @@ pub(crate) fn over(
     };
     let x = pos(alloc, number, weight)?;
     let ranges = ranges_of(alloc, spans)?;
+    match found(alloc, &ranges, &x)? {
+        None => Ok(Answer::Word("differs")),
+        Some(None) => Ok(Answer::Word("none")),
+        Some(Some(ts)) => Ok(Answer::Text(format!(in alloc; "{ts}")?)),
+    }
+}
+
+// The timestamp of the tombstone at a position; none where a copy of the list, or the list at the row, has another.
+fn found(alloc: Global, ranges: &Ranges, x: &Pos) -> Result<Option<Option<i64>>, AllocError> {
     let copy = Ranges::from_slice(alloc, ranges.copy(alloc)?.as_slice())?;
-    let found = stamp(ranges.at(&x));
-    let at_row = match weight {
+    let found = stamp(ranges.at(x));
+    let at_row = match x.weight {
         Weight::At => stamp(ranges.at_row(&x.prefix)),
         Weight::Before | Weight::After => found,
     };
-    if stamp(copy.at(&x)) != found || at_row != found {
-        return Ok(Answer::Word("differs"));
-    }
-    match found {
-        Some(ts) => Ok(Answer::Text(format!(in alloc; "{ts}")?)),
-        None => Ok(Answer::Word("none")),
+    if stamp(copy.at(x)) == found && at_row == found {
+        Ok(Some(found))
+    } else {
+        Ok(None)
     }
 }
 
@@ -155,19 +171,23 @@ fn in_pairs(alloc: Global, all: &[Ranges]) -> Result<Vec<Ranges>, AllocError> {
     Ok(pairs)
 }
 
+fn stamp_of(word: &[u8], from: i64) -> i64 {
+    if says(word, "rise") {
+        return from;
+    }
+    if says(word, "fall") {
+        return !from;
+    }
+    5
+}
+
 // 10,000 lists of one span over ten numbers each, which begin one number after another.
 fn many_of(alloc: Global, word: &[u8]) -> Result<Vec<Ranges>, AllocError> {
     let mut all = Vec::new(alloc);
     for from in 0..10_000i64 {
-        let ts = if says(word, "rise") {
-            from
-        } else if says(word, "fall") {
-            !from
-        } else {
-            5
-        };
-        let mut ranges = Ranges::empty(alloc);
         let to = from.saturating_add(10);
+        let ts = stamp_of(word, from);
+        let mut ranges = Ranges::empty(alloc);
         add_span(alloc, &mut ranges, Span { from, to, ts })?;
         all.push(ranges)?;
     }

@@ -19,3 +19,8 @@ pub(crate) fn cut_at(text: &[u8], mark: u8) -> (&[u8], &[u8]) {
 pub(crate) fn first_word(text: &[u8]) -> (&[u8], &[u8]) {
     cut_at(text, b' ')
 }
+
+/// Whether a word is this one.
+pub(crate) fn says(word: &[u8], text: &str) -> bool {
+    word == text.as_bytes()
+}

@@ -1,7 +1,7 @@
 //! Cases of lines. `line LINE` asks what a line commands; `long N LINE` asks it of the line with so many `x` at its `#`, and `names N LINE` of the
 //! line with so many cells there, of names that no schema has.
 
-use crate::cutting::{cut_at, first_word};
+use crate::cutting::{cut_at, first_word, says};
 use rc_spelling::count;
 use std::alloc::{AllocError, Global};
 
@@ -11,12 +11,16 @@ pub(crate) fn line_of(
     kind: &[u8],
     text: &[u8],
 ) -> Result<Option<Vec<u8>>, AllocError> {
-    match kind {
-        b"line" => Ok(Some(Vec::from_slice(alloc, text)?)),
-        b"long" => filled(alloc, text, push_letters),
-        b"names" => filled(alloc, text, push_names),
-        _ => Ok(None),
+    if says(kind, "line") {
+        return Ok(Some(Vec::from_slice(alloc, text)?));
     }
+    if says(kind, "long") {
+        return filled(alloc, text, push_letters);
+    }
+    if says(kind, "names") {
+        return filled(alloc, text, push_names);
+    }
+    Ok(None)
 }
 
 // The line with so many of what is pushed at its `#`.

@@ -2,7 +2,7 @@
 //! `stats N..` the figures in their order; `more LINE..` and `end LINE..` a reader's lines, each of which is `static` or a key, and for each
 //! value `:COLUMN=VALUE`.
 
-use crate::cutting::{cut_at, first_word};
+use crate::cutting::{cut_at, first_word, says};
 use crate::spelled::comps_of;
 use rc_cell::Value;
 use rc_lines::{Figures, Refusal, Reply, print_refusal, print_reply};
@@ -18,14 +18,22 @@ pub(crate) fn reply_of(
     kind: &[u8],
     text: &[u8],
 ) -> Result<Option<Reply>, AllocError> {
-    match kind {
-        b"reply" => Ok(short(text)),
-        b"refused" => Ok(refusal_of(text).map(|why| Reply::Refused(why))),
-        b"stats" => figures(alloc, text),
-        b"more" => given(alloc, text, true),
-        b"end" => given(alloc, text, false),
-        _ => Ok(None),
+    if says(kind, "reply") {
+        return Ok(short(text));
     }
+    if says(kind, "refused") {
+        return Ok(refused(text));
+    }
+    if says(kind, "stats") {
+        return figures(alloc, text);
+    }
+    if says(kind, "more") {
+        return given(alloc, text, true);
+    }
+    if says(kind, "end") {
+        return given(alloc, text, false);
+    }
+    Ok(None)
 }
 
 /// The text of a reply behind what was there before; a refusal is printed alone, too.
@@ -53,35 +61,45 @@ pub(crate) fn printed(
 }
 
 fn short(text: &[u8]) -> Option<Reply> {
-    match text {
-        b"Nothing" => Some(Reply::Nothing),
-        b"Fine" => Some(Reply::Fine),
-        b"Going" => Some(Reply::Going),
-        b"Done" => Some(Reply::Done),
-        _ => None,
+    if says(text, "Fine") {
+        return Some(Reply::Fine);
     }
+    if says(text, "Going") {
+        return Some(Reply::Going);
+    }
+    if says(text, "Done") {
+        return Some(Reply::Done);
+    }
+    Some(Reply::Nothing)
 }
 
-fn refusal_of(text: &[u8]) -> Option<Refusal> {
-    match text {
-        b"BadLine" => Some(Refusal::BadLine),
-        b"NoSchema" => Some(Refusal::NoSchema),
-        b"SchemaDiffers" => Some(Refusal::SchemaDiffers),
-        b"WrongKey" => Some(Refusal::WrongKey),
-        b"UnknownColumn" => Some(Refusal::UnknownColumn),
-        b"TooLong" => Some(Refusal::TooLong),
-        b"NoReader" => Some(Refusal::NoReader),
-        b"ReaderInUse" => Some(Refusal::ReaderInUse),
-        b"TooManyReaders" => Some(Refusal::TooManyReaders),
-        b"FlushInProgress" => Some(Refusal::FlushInProgress),
-        b"NothingToFlush" => Some(Refusal::NothingToFlush),
-        b"NoFlush" => Some(Refusal::NoFlush),
-        b"Full" => Some(Refusal::Full),
-        b"ReadFault" => Some(Refusal::ReadFault),
-        b"WriteFault" => Some(Refusal::WriteFault),
-        b"NoNumber" => Some(Refusal::NoNumber),
-        _ => damaged(text),
+// The refusals that say nothing but why.
+const REFUSALS: [(&str, Refusal); 16] = [
+    ("BadLine", Refusal::BadLine),
+    ("NoSchema", Refusal::NoSchema),
+    ("SchemaDiffers", Refusal::SchemaDiffers),
+    ("WrongKey", Refusal::WrongKey),
+    ("UnknownColumn", Refusal::UnknownColumn),
+    ("TooLong", Refusal::TooLong),
+    ("NoReader", Refusal::NoReader),
+    ("ReaderInUse", Refusal::ReaderInUse),
+    ("TooManyReaders", Refusal::TooManyReaders),
+    ("FlushInProgress", Refusal::FlushInProgress),
+    ("NothingToFlush", Refusal::NothingToFlush),
+    ("NoFlush", Refusal::NoFlush),
+    ("Full", Refusal::Full),
+    ("ReadFault", Refusal::ReadFault),
+    ("WriteFault", Refusal::WriteFault),
+    ("NoNumber", Refusal::NoNumber),
+];
+
+fn refused(text: &[u8]) -> Option<Reply> {
+    for (name, refusal) in REFUSALS {
+        if says(text, name) {
+            return Some(Reply::Refused(refusal));
+        }
     }
+    Some(Reply::Refused(damaged(text)?))
 }
 
 fn damaged(text: &[u8]) -> Option<Refusal> {
@@ -99,43 +117,32 @@ fn figures(alloc: Global, text: &[u8]) -> Result<Option<Reply>, AllocError> {
     for word in words(alloc, text)?.as_slice() {
         all.push(number(word, u64::MAX).unwrap_or(0))?;
     }
-    Ok(figures_of(all.as_slice()).map(|found| Reply::Stats(found)))
+    Ok(Some(Reply::Stats(figures_of(all.as_slice()))))
 }
 
-fn figures_of(all: &[u64]) -> Option<Figures> {
-    match all {
-        [
-            segments,
-            free,
-            objects,
-            live,
-            partitions,
-            rows,
-            dummies,
-            hits,
-            misses,
-            evicted,
-            moved,
-            skipped,
-            asks,
-        ] => {
-            Some(Figures {
-                segments: *segments,
-                free: *free,
-                objects: *objects,
-                live: *live,
-                partitions: *partitions,
-                rows: *rows,
-                dummies: *dummies,
-                hits: *hits,
-                misses: *misses,
-                evicted: *evicted,
-                moved: *moved,
-                skipped: *skipped,
-                asks: *asks,
-            })
-        }
-        _ => None,
+// The number at a place; 0 where there is none.
+fn at(all: &[u64], place: usize) -> u64 {
+    match all.get(place) {
+        Some(number) => *number,
+        None => 0,
+    }
+}
+
+fn figures_of(all: &[u64]) -> Figures {
+    Figures {
+        segments: at(all, 0),
+        free: at(all, 1),
+        objects: at(all, 2),
+        live: at(all, 3),
+        partitions: at(all, 4),
+        rows: at(all, 5),
+        dummies: at(all, 6),
+        hits: at(all, 7),
+        misses: at(all, 8),
+        evicted: at(all, 9),
+        moved: at(all, 10),
+        skipped: at(all, 11),
+        asks: at(all, 12),
     }
 }
 
@@ -154,7 +161,7 @@ fn given(alloc: Global, text: &[u8], more: bool) -> Result<Option<Reply>, AllocE
 fn line_of(alloc: Global, word: &[u8]) -> Result<OutLine, AllocError> {
     let (name, values) = cut_at(word, b':');
     let shown = shown_of(alloc, values)?;
-    if name == b"static".as_slice() {
+    if says(name, "static") {
         return Ok(OutLine::Static(shown));
     }
     Ok(OutLine::Row(Key::from_vec(comps_of(alloc, name)?), shown))

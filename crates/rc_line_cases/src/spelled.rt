@@ -2,6 +2,7 @@
 //! `number WORD` tells the word as a number, as a count and as a number with a sign; `words LINE` how many words a line has; `print BYTES` and
 //! `key KEY` how they are printed, behind a `>`.
 
+use crate::cutting::says;
 use rc_position::{Comp, Text};
 use rc_spelling::{
     count, number, print_bytes, print_key, read_bytes, read_components, signed, words,
@@ -10,15 +11,25 @@ use std::alloc::{AllocError, Global};
 
 /// What is told of a word; none where it is no such case.
 pub(crate) fn told(alloc: Global, kind: &[u8], text: &[u8]) -> Result<Option<Vec<u8>>, AllocError> {
-    match kind {
-        b"bytes" => bytes_told(alloc, text),
-        b"parts" => parts_told(alloc, text),
-        b"number" => numbers_told(alloc, text),
-        b"words" => words_told(alloc, text),
-        b"print" => printed_bytes(alloc, text),
-        b"key" => printed_key(alloc, text),
-        _ => Ok(None),
+    if says(kind, "bytes") {
+        return bytes_told(alloc, text);
     }
+    if says(kind, "parts") {
+        return parts_told(alloc, text);
+    }
+    if says(kind, "number") {
+        return numbers_told(alloc, text);
+    }
+    if says(kind, "words") {
+        return words_told(alloc, text);
+    }
+    if says(kind, "print") {
+        return printed_bytes(alloc, text);
+    }
+    if says(kind, "key") {
+        return printed_key(alloc, text);
+    }
+    Ok(None)
 }
 
 fn text_of(alloc: Global, text: &str) -> Result<Option<Vec<u8>>, AllocError> {
