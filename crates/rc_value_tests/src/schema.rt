@@ -18,16 +18,20 @@ fn reads_and_prints(rt: HostRuntime) -> Result<(), Fail> {
 }
 
 #[test]
-fn checks(rt: HostRuntime) -> Result<(), Fail> {
+fn checks_keys(rt: HostRuntime) -> Result<(), Fail> {
     let a = rt.alloc();
     let schema = Schema::read(a, b"ck=int static=s cols=a,b")?;
     let wrong = Key::from_vec(Vec::from_array(a, [Comp::Text(Text::from_vec(Vec::new(a)))])?);
     assert!(rt; schema.check_prefix(&wrong, true) == Err(SchemaErr::WrongKey));
-    let row = Row {
-        marker: None,
-        tomb: None,
-        cells: Cells::from_slice(a, &[(1, Cell::Dead { ts: 1, dt: 2 })])?,
-    };
+    Ok(())
+}
+
+#[test]
+fn checks_rows(rt: HostRuntime) -> Result<(), Fail> {
+    let a = rt.alloc();
+    let schema = Schema::read(a, b"ck=int static=s cols=a,b")?;
+    let mut row = Row::empty(a);
+    row.cells = Cells::from_slice(a, &[(1, Cell::Dead { ts: 1, dt: 2 })])?;
     assert!(rt; schema.check_row(&row, false) == Ok(()));
     assert!(rt; schema.check_row(&row, true) == Err(SchemaErr::UnknownColumn));
     assert!(rt; schema.col(b"b") == Some(1) && schema.static_col(b"b") == None);
