@@ -9,8 +9,8 @@ pub(crate) enum Answer {
     Word(&'static str),
     /// A number of bytes.
     Size(usize),
-    /// Bytes in hexadecimal.
-    Bytes(String),
+    /// Bytes in hexadecimal, or some words.
+    Text(String),
     /// The line is no case.
     NoCase,
 }

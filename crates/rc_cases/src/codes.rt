@@ -1,6 +1,9 @@
 //! Cases of codes, in hexadecimal with `_` where it helps. `code KIND HEX` reads a code at the front of bytes and writes it
 //! again; its answer is the code's length, or `none`. `join HEX HEX` joins two rows by their codes.
 
+ghost use Rattle.std.specs.Prelude.{IfOk, IfSome};
+ghost use Rattle.rc_rowcode.specs.Spelling.{row_code, IsCode, IsCodedRow};
+
 use crate::answers::{Answer, says};
 use rc_rowcode::{
     Scratch, join_codes, join_size, key_size, pos_size, read_key, read_pos, read_row, read_tomb,
@@ -104,29 +107,42 @@ fn reads_tomb(alloc: Global, bytes: &[u8]) -> Result<Answer, AllocError> {
     Ok(again(bytes, out.as_slice(), (size, 12)))
 }
 
-/// The code of two rows joined, by their codes alone.
-pub(crate) fn joins(alloc: Global, first: &[u8], second: &[u8]) -> Result<Answer, AllocError> {
-    let Some(first) = bytes_of(alloc, first)? else {
-        return Ok(Answer::NoCase);
+// The code of the row that begins with the bytes of a word; none where there is no such row.
+fn row_coded(alloc: Global, word: &[u8]) -> Result<Option<Vec<u8>>, AllocError>
+    ensures { IfOk result (λ found. IfSome found (λ code. IsCode row_code IsCodedRow code.items)) }
+{
+    let Some(bytes) = bytes_of(alloc, word)? else {
+        return Ok(None);
     };
-    let Some(second) = bytes_of(alloc, second)? else {
-        return Ok(Answer::NoCase);
+    let Some((row, _)) = read_row(alloc, bytes.as_slice())? else {
+        return Ok(None);
     };
-    let Some((ours, _)) = read_row(alloc, first.as_slice())? else {
-        return Ok(Answer::Word("none"));
-    };
-    let Some((theirs, _)) = read_row(alloc, second.as_slice())? else {
-        return Ok(Answer::Word("none"));
-    };
-    let mut a = Vec::new(alloc);
-    write_row(alloc, &ours, &mut a)?;
-    let mut b = Vec::new(alloc);
-    write_row(alloc, &theirs, &mut b)?;
+    let mut code = Vec::new(alloc);
+    write_row(alloc, &row, &mut code)?;
+    Ok(Some(code))
+}
+
+// The code of two rows joined, by their codes alone.
+fn joined(alloc: Global, a: &[u8], b: &[u8]) -> Result<Answer, AllocError>
+    requires ours { IsCode row_code IsCodedRow a.now }
+    requires theirs { IsCode row_code IsCodedRow b.now }
+{
     let mut out = Scratch::new(alloc, 8599)?;
-    let size = join_size(a.as_slice(), b.as_slice());
-    join_codes(a.as_slice(), b.as_slice(), &mut out);
+    let size = join_size(a, b);
+    join_codes(a, b, &mut out);
     if out.bytes().len() != size {
         return Ok(Answer::Word("differs"));
     }
-    Ok(Answer::Bytes(hex::encode(alloc, out.bytes())?))
+    Ok(Answer::Text(hex::encode(alloc, out.bytes())?))
+}
+
+/// The code of two rows joined.
+pub(crate) fn joins(alloc: Global, first: &[u8], second: &[u8]) -> Result<Answer, AllocError> {
+    let Some(a) = row_coded(alloc, first)? else {
+        return Ok(Answer::Word("none"));
+    };
+    let Some(b) = row_coded(alloc, second)? else {
+        return Ok(Answer::Word("none"));
+    };
+    joined(alloc, a.as_slice(), b.as_slice())
 }

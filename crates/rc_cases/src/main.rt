@@ -5,8 +5,10 @@
 mod answers;
 mod codes;
 mod positions;
+mod ranges;
 mod rows;
 mod schemas;
+mod shown;
 
 use answers::{Answer, says};
 use std::alloc::{AllocError, Global};
@@ -19,11 +21,27 @@ fn answer(alloc: Global, line: &[u8]) -> Result<Answer, AllocError> {
     }
     let words = rc_spelling::words(alloc, line)?;
     match words.as_slice() {
+        [kind, spans @ ..] if says(kind, "adds") => ranges::adds(alloc, spans),
+        [kind, number, weight, spans @ ..] if says(kind, "over") => {
+            ranges::over(alloc, number, weight, spans)
+        }
+        [kind, word] => one(alloc, kind, word),
         [kind, first, second] => two(alloc, kind, first, second),
         [kind, first, second, third] => three(alloc, kind, first, second, third),
         [kind, first, second, third, fourth] => four(alloc, kind, first, second, third, fourth),
         _ => Ok(Answer::NoCase),
     }
+}
+
+/// The answer to a case of one word.
+fn one(alloc: Global, kind: &[u8], word: &[u8]) -> Result<Answer, AllocError> {
+    if says(kind, "many") {
+        return ranges::many(alloc, word);
+    }
+    if says(kind, "slice") {
+        return shown::slice(alloc, word);
+    }
+    Ok(Answer::NoCase)
 }
 
 /// The answer to a case of two words.
@@ -36,6 +54,9 @@ fn two(alloc: Global, kind: &[u8], first: &[u8], second: &[u8]) -> Result<Answer
     }
     if says(kind, "wins") {
         return rows::wins(alloc, first, second);
+    }
+    if says(kind, "shows") {
+        return shown::shows(alloc, first, second);
     }
     Ok(Answer::NoCase)
 }
@@ -89,7 +110,7 @@ fn main(rt: HostRuntime) -> io::Result<()> {
         match answer(alloc, line)? {
             Answer::Word(word) => println!(rt; "{word}")?,
             Answer::Size(size) => println!(rt; "{size}")?,
-            Answer::Bytes(text) => println!(rt; "{text}")?,
+            Answer::Text(text) => println!(rt; "{text}")?,
             Answer::NoCase => println!(rt; "no case")?,
         }
     }

@@ -26,7 +26,8 @@ pub(crate) fn key_of(alloc: Global, word: &[u8]) -> Result<Option<Key>, AllocErr
     Ok(Some(Key::from_vec(comps)))
 }
 
-fn weight_of(word: &[u8]) -> Option<Weight> {
+/// The weight of a word.
+pub(crate) fn weight_of(word: &[u8]) -> Option<Weight> {
     if says(word, "before") {
         return Some(Weight::Before);
     }
@@ -93,7 +94,18 @@ fn all_give(order: Ordering, x: &Pos, y: &Pos, a: &[u8], b: &[u8]) -> bool {
     codes && mixed && keys
 }
 
-/// How two positions are ordered, or that ways to compare them differ.
+// How two positions are ordered, or that ways to compare them differ.
+fn compared(alloc: Global, x: &Pos, y: &Pos) -> Result<Answer, AllocError> {
+    let a = code_of(alloc, x)?;
+    let b = code_of(alloc, y)?;
+    let order = x.cmp(y);
+    if !all_give(order, x, y, a.as_slice(), b.as_slice()) {
+        return Ok(Answer::Word("differs"));
+    }
+    Ok(order_word(order))
+}
+
+/// How two positions are ordered.
 pub(crate) fn order(
     alloc: Global,
     left: &[u8],
@@ -107,13 +119,38 @@ pub(crate) fn order(
     let Some(y) = pos_of(alloc, right, right_weight)? else {
         return Ok(Answer::NoCase);
     };
-    let a = code_of(alloc, &x)?;
-    let b = code_of(alloc, &y)?;
-    let order = x.cmp(&y);
-    if !all_give(order, &x, &y, a.as_slice(), b.as_slice()) {
+    compared(alloc, &x, &y)
+}
+
+// The position where a range begins: `[` stands at an inclusive bound.
+fn start_of(alloc: Global, word: &[u8]) -> Result<Option<Pos>, AllocError> {
+    let Some((opening, spelled)) = word.split_first() else {
+        return Ok(None);
+    };
+    match key_of(alloc, spelled)? {
+        Some(key) => Ok(Some(start_pos(alloc, &key, *opening == b'[')?)),
+        None => Ok(None),
+    }
+}
+
+// The position where a range ends: `]` stands at an inclusive bound.
+fn end_of(alloc: Global, word: &[u8]) -> Result<Option<Pos>, AllocError> {
+    let Some((closing, spelled)) = word.split_last() else {
+        return Ok(None);
+    };
+    match key_of(alloc, spelled)? {
+        Some(key) => Ok(Some(end_pos(alloc, &key, *closing == b']')?)),
+        None => Ok(None),
+    }
+}
+
+// Whether a position is in a range, or that it is not in the copy.
+fn found(alloc: Global, slice: &Slice, x: &Pos) -> Result<Answer, AllocError> {
+    let same = slice.copy(alloc)?;
+    if slice.has(x) != same.has(x) {
         return Ok(Answer::Word("differs"));
     }
-    Ok(order_word(order))
+    Ok(either(slice.has(x), "in", "out"))
 }
 
 /// Whether the row of a key is in a range: `[` and `]` stand at inclusive bounds, `(` and `)` at exclusive ones.
@@ -123,28 +160,11 @@ pub(crate) fn within(
     to: &[u8],
     key: &[u8],
 ) -> Result<Answer, AllocError> {
-    let Some((opening, first)) = from.split_first() else {
-        return Ok(Answer::NoCase);
-    };
-    let Some((closing, last)) = to.split_last() else {
-        return Ok(Answer::NoCase);
-    };
-    let Some(first) = key_of(alloc, first)? else {
-        return Ok(Answer::NoCase);
-    };
-    let Some(last) = key_of(alloc, last)? else {
-        return Ok(Answer::NoCase);
-    };
     let Some(x) = pos_of(alloc, key, b"at")? else {
         return Ok(Answer::NoCase);
     };
-    let slice = Slice {
-        from: start_pos(alloc, &first, *opening == b'[')?,
-        to: end_pos(alloc, &last, *closing == b']')?,
-    };
-    let same = slice.copy(alloc)?;
-    if slice.has(&x) != same.has(&x) {
-        return Ok(Answer::Word("differs"));
+    match (start_of(alloc, from)?, end_of(alloc, to)?) {
+        (Some(from), Some(to)) => found(alloc, &Slice { from, to }, &x),
+        _ => Ok(Answer::NoCase),
     }
-    Ok(either(slice.has(&x), "in", "out"))
 }

@@ -64,20 +64,30 @@ pub(crate) fn wins(alloc: Global, first: &[u8], second: &[u8]) -> Result<Answer,
     let Some(second) = cell_of(alloc, second)? else {
         return Ok(Answer::NoCase);
     };
-    let mut joined = row_of(alloc, &first)?;
-    joined.join(alloc, &row_of(alloc, &second)?)?;
-    let mut turned = row_of(alloc, &second)?;
-    turned.join(alloc, &row_of(alloc, &first)?)?;
-    if holds(&joined, &first) && holds(&turned, &first) && second < first {
+    winner(alloc, &first, &second)
+}
+
+// The row of one cell joined with that of another.
+fn joined_row(alloc: Global, cell: &Cell, other: &Cell) -> Result<Row, AllocError> {
+    let mut joined = row_of(alloc, cell)?;
+    joined.join(alloc, &row_of(alloc, other)?)?;
+    Ok(joined)
+}
+
+fn winner(alloc: Global, first: &Cell, second: &Cell) -> Result<Answer, AllocError> {
+    let joined = joined_row(alloc, first, second)?;
+    let turned = joined_row(alloc, second, first)?;
+    if holds(&joined, first) && holds(&turned, first) && second < first {
         return Ok(Answer::Word("first"));
     }
-    if holds(&joined, &second) && holds(&turned, &second) && first < second {
+    if holds(&joined, second) && holds(&turned, second) && first < second {
         return Ok(Answer::Word("second"));
     }
     Ok(Answer::Word("differs"))
 }
 
-fn tomb_of(word: &[u8]) -> Option<Tomb> {
+/// The tombstone of a timestamp; none of `-`.
+pub(crate) fn tomb_of(word: &[u8]) -> Option<Tomb> {
     let ts = signed(word)?;
     Some(Tomb { ts, dt: 7 })
 }
@@ -96,7 +106,10 @@ pub(crate) fn life(
     let mut row = row_of(alloc, &cell)?;
     row.marker = signed(marker);
     row.tomb = tomb_of(tomb);
-    let cover = tomb_of(cover);
+    covered(alloc, &row, tomb_of(cover))
+}
+
+fn covered(alloc: Global, row: &Row, cover: Option<Tomb>) -> Result<Answer, AllocError> {
     let left = row.shadow(alloc, cover)?;
     if row.is_live(cover) != left.is_live(None) {
         return Ok(Answer::Word("differs"));

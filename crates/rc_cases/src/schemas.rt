@@ -15,9 +15,12 @@ pub(crate) fn reads(alloc: Global, text: &[u8]) -> Result<Answer, AllocError> {
         return Ok(Answer::Word("no schema"));
     };
     let copy = schema.copy(alloc)?;
-    let own = schema.text(alloc)?;
-    let same = own.as_slice() == text && copy.text(alloc)?.as_slice() == text;
+    let same = has_text(alloc, &schema, text)? && has_text(alloc, &copy, text)?;
     Ok(either(same && schema.is_same(&copy), "a schema", "differs"))
+}
+
+fn has_text(alloc: Global, schema: &Schema, text: &[u8]) -> Result<bool, AllocError> {
+    Ok(schema.text(alloc)?.as_slice() == text)
 }
 
 fn schema_of(alloc: Global, text: &[u8]) -> Result<Option<Schema>, AllocError> {
@@ -37,6 +40,14 @@ fn checked(found: Result<(), SchemaErr>) -> Answer {
     })
 }
 
+// The schema with these kinds of components, one static and two regular columns.
+fn schema_with(alloc: Global, kinds: &[u8]) -> Result<Option<Schema>, AllocError> {
+    let mut text = Vec::from_slice(alloc, b"ck=")?;
+    text.extend_from_slice(kinds)?;
+    text.extend_from_slice(b" static=s cols=a,b")?;
+    schema_of(alloc, text.as_slice())
+}
+
 /// What is wrong with a key, or with a prefix of one.
 pub(crate) fn checks_key(
     alloc: Global,
@@ -44,10 +55,7 @@ pub(crate) fn checks_key(
     full: &[u8],
     key: &[u8],
 ) -> Result<Answer, AllocError> {
-    let mut text = Vec::from_slice(alloc, b"ck=")?;
-    text.extend_from_slice(kinds)?;
-    text.extend_from_slice(b" static=s cols=a,b")?;
-    let Some(schema) = schema_of(alloc, text.as_slice())? else {
+    let Some(schema) = schema_with(alloc, kinds)? else {
         return Ok(Answer::NoCase);
     };
     let Some(key) = key_of(alloc, key)? else {
@@ -63,19 +71,24 @@ pub(crate) fn checks_row(
     column: &[u8],
     cell: &[u8],
 ) -> Result<Answer, AllocError> {
-    let Some(schema) = schema_of(alloc, b"ck=int static=s cols=a,b")? else {
+    let Some(row) = row_of(alloc, column, cell)? else {
         return Ok(Answer::NoCase);
     };
+    match schema_with(alloc, b"int")? {
+        Some(schema) => Ok(checked(schema.check_row(&row, says(place, "static")))),
+        None => Ok(Answer::NoCase),
+    }
+}
+
+// A row of one cell.
+fn row_of(alloc: Global, column: &[u8], cell: &[u8]) -> Result<Option<Row>, AllocError> {
     let Some(column) = number(column, 255) else {
-        return Ok(Answer::NoCase);
+        return Ok(None);
     };
     let Some(cell) = cell_of(alloc, cell)? else {
-        return Ok(Answer::NoCase);
+        return Ok(None);
     };
-    let row = Row {
-        marker: None,
-        tomb: None,
-        cells: Cells::from_vec(Vec::from_array(alloc, [(column as u8, cell)])?),
-    };
-    Ok(checked(schema.check_row(&row, says(place, "static"))))
+    let mut row = Row::empty(alloc);
+    row.cells = Cells::from_vec(Vec::from_array(alloc, [(column as u8, cell)])?);
+    Ok(Some(row))
 }

@@ -1,4 +1,6 @@
-use super::{Cell, Cells, Row, Tomb, Value, laws};
+//! Which write wins, and what rows come to, by hand.
+
+use rc_cell::{Cell, Cells, Row, Tomb, Value, laws};
 use std::alloc::{AllocError, Global};
 use std::cmp::Ordering;
 use std::test::Fail;
@@ -40,13 +42,17 @@ fn holds(row: &Row, wanted: &Cell) -> bool {
     }
 }
 
+// The row of one cell joined with that of another.
+fn joined(alloc: Global, cell: &Cell, other: &Cell) -> Result<Row, AllocError> {
+    let mut row = row_of(alloc, None, None, 3, cell)?;
+    row.join(alloc, &row_of(alloc, None, None, 3, other)?)?;
+    Ok(row)
+}
+
 // Whether the first cell wins over the second: in both orders of joining, and in the order of cells.
 fn wins(alloc: Global, winner: &Cell, loser: &Cell) -> Result<bool, AllocError> {
-    let mut joined = row_of(alloc, None, None, 3, winner)?;
-    joined.join(alloc, &row_of(alloc, None, None, 3, loser)?)?;
-    let mut turned = row_of(alloc, None, None, 3, loser)?;
-    turned.join(alloc, &row_of(alloc, None, None, 3, winner)?)?;
-    Ok(holds(&joined, winner) && holds(&turned, winner) && loser < winner)
+    let wins = holds(&joined(alloc, winner, loser)?, winner);
+    Ok(wins && holds(&joined(alloc, loser, winner)?, winner) && loser < winner)
 }
 
 #[test]
@@ -68,25 +74,43 @@ fn a_tombstone_deletes_up_to_its_timestamp(rt: HostRuntime) -> Result<(), Fail> 
     Ok(())
 }
 
+// Joins a row of one cell, and perhaps a tombstone.
+fn join_cell(
+    alloc: Global,
+    row: &mut Row,
+    tomb: Option<i64>,
+    column: u8,
+    cell: &Cell,
+) -> Result<(), AllocError> {
+    row.join(alloc, &row_of(alloc, None, tomb, column, cell)?)
+}
+
+const OLDER: Cell = Cell::Dead { ts: 1, dt: 1 };
+
+const NEWER: Cell = Cell::Dead { ts: 1, dt: 2 };
+
+// A row of three columns, of which that of 3 is written twice.
+fn three_columns(alloc: Global) -> Result<Row, AllocError> {
+    let mut row = row_of(alloc, Some(i64::MIN), None, 3, &OLDER)?;
+    join_cell(alloc, &mut row, Some(4), 255, &OLDER)?;
+    join_cell(alloc, &mut row, Some(3), 0, &OLDER)?;
+    join_cell(alloc, &mut row, None, 3, &NEWER)?;
+    Ok(row)
+}
+
 #[test]
 fn rows_join_by_column(rt: HostRuntime) -> Result<(), Fail> {
-    let alloc = rt.alloc();
-    let older = Cell::Dead { ts: 1, dt: 1 };
-    let newer = Cell::Dead { ts: 1, dt: 2 };
-    let mut row = row_of(alloc, Some(i64::MIN), None, 3, &older)?;
-    row.join(alloc, &row_of(alloc, None, Some(4), 255, &older)?)?;
-    row.join(alloc, &row_of(alloc, None, Some(3), 0, &older)?)?;
-    row.join(alloc, &row_of(alloc, None, None, 3, &newer)?)?;
+    let row = three_columns(rt.alloc())?;
     assert!(rt; row.marker == Some(i64::MIN) && row.tomb == tomb_of(Some(4)));
-    let copy = row.copy(alloc)?;
+    let copy = row.copy(rt.alloc())?;
     match copy.cells.as_slice() {
         [first, second, third] => {
             assert!(rt; first.0 == 0 && second.0 == 3 && third.0 == 255);
-            assert!(rt; second.1 == newer);
+            assert!(rt; second.1 == NEWER);
         }
         _ => panic!(rt; "three columns"),
     }
-    assert!(rt; !copy.is_empty() && Row::empty(alloc).is_empty());
+    assert!(rt; !copy.is_empty() && Row::empty(rt.alloc()).is_empty());
     Ok(())
 }
 

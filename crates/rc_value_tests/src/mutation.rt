@@ -1,8 +1,10 @@
+//! Writes of many rows joined, and each copy once.
+
 ghost use Rattle.std.specs.Prelude.{◌≢◌};
 ghost use Rattle.rc_cell.specs.Winner.{empty_row};
 
-use crate::{FragList, Head, HeadAt, Mutation, Partition, Write};
 use rc_cell::{Cells, Row};
+use rc_mutation::{FragList, Head, HeadAt, Mutation, Partition, Write};
 use rc_position::{Comp, Key, PartKey};
 use std::alloc::{AllocError, Global};
 use std::test::Fail;

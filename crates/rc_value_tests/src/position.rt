@@ -2,12 +2,7 @@
 
 ghost use Rattle.std.specs.Prelude.{◌≡◌};
 
-use crate::comps::Comp;
-use crate::keys::Key;
-use crate::positions::{Pos, Weight, end_pos, start_pos};
-use crate::slices::Slice;
-use crate::steps::Steps;
-use crate::texts::{PartKey, Text};
+use rc_position::{Comp, Key, PartKey, Pos, Slice, Steps, Text, Weight, end_pos, start_pos};
 use std::alloc::{AllocError, Global};
 use std::cmp::Ordering;
 use std::marker::Brand;
@@ -57,9 +52,15 @@ fn texts_in_the_memory_that_holds_them(rt: HostRuntime) -> Result<(), Fail> {
     let a = rt.alloc();
     let name = Text::from_vec(Vec::from_slice(a, b"owner")?);
     assert!(rt; ordered(&name, &name.copy(a)?) == (Ordering::Equal, true));
-    let partition = PartKey::from_vec(Vec::from_slice(a, b"dev7")?);
-    assert!(rt; ordered(&partition, &partition.copy(a)?) == (Ordering::Equal, true));
     let key = Key::from_vec(Vec::from_array(a, [Comp::Int(2), Comp::Text(name)])?);
+    assert!(rt; ordered(&key, &key.copy(a)?) == (Ordering::Equal, true));
+    Ok(())
+}
+
+#[test]
+fn copies_the_key_of_a_partition(rt: HostRuntime) -> Result<(), Fail> {
+    let a = rt.alloc();
+    let key = PartKey::from_vec(Vec::from_slice(a, b"dev7")?);
     assert!(rt; ordered(&key, &key.copy(a)?) == (Ordering::Equal, true));
     Ok(())
 }

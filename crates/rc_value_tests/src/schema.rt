@@ -1,10 +1,9 @@
 //! Each call once, with answers worked out by hand from the grammar and the limits. The tables of cases are read by a
 //! program.
 
-use crate::checks::SchemaErr;
-use crate::schemas::{Schema, SchemaTextErr};
 use rc_cell::{Cell, Cells, Row};
 use rc_position::{Comp, Key, Text};
+use rc_schema::{Schema, SchemaErr, SchemaTextErr};
 use std::test::Fail;
 
 #[test]
@@ -19,16 +18,20 @@ fn reads_and_prints(rt: HostRuntime) -> Result<(), Fail> {
 }
 
 #[test]
-fn checks(rt: HostRuntime) -> Result<(), Fail> {
+fn checks_keys(rt: HostRuntime) -> Result<(), Fail> {
     let a = rt.alloc();
     let schema = Schema::read(a, b"ck=int static=s cols=a,b")?;
     let wrong = Key::from_vec(Vec::from_array(a, [Comp::Text(Text::from_vec(Vec::new(a)))])?);
     assert!(rt; schema.check_prefix(&wrong, true) == Err(SchemaErr::WrongKey));
-    let row = Row {
-        marker: None,
-        tomb: None,
-        cells: Cells::from_slice(a, &[(1, Cell::Dead { ts: 1, dt: 2 })])?,
-    };
+    Ok(())
+}
+
+#[test]
+fn checks_rows(rt: HostRuntime) -> Result<(), Fail> {
+    let a = rt.alloc();
+    let schema = Schema::read(a, b"ck=int static=s cols=a,b")?;
+    let mut row = Row::empty(a);
+    row.cells = Cells::from_slice(a, &[(1, Cell::Dead { ts: 1, dt: 2 })])?;
     assert!(rt; schema.check_row(&row, false) == Ok(()));
     assert!(rt; schema.check_row(&row, true) == Err(SchemaErr::UnknownColumn));
     assert!(rt; schema.col(b"b") == Some(1) && schema.static_col(b"b") == None);

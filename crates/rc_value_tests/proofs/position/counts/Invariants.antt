@@ -1,5 +1,5 @@
 -- The ledger is the new one.
-use Rattle.rc_position.proofs.tests.counts.Given as goal
+use Rattle.rc_value_tests.proofs.position.counts.Given as goal
 
 abbrev pub ghosts-counted : goal.ghosts-counted
 ghosts-counted g a = record { name = a.blank.name; parts = 1 }

@@ -1,0 +1,207 @@
+//! Cases of range tombstones. `adds SPAN..` adds them one after another, and joins the others and the first one too; its answer is what they come to.
+//! `over NUMBER WEIGHT SPAN..` asks for the tombstone at a position. A span is FROM:TO@TS, from one number on and before another. `many WORD` joins
+//! 10,000 spans over ten numbers each, two lists at a time: their timestamps rise, fall or are the same.
+
+use crate::answers::{Answer, says};
+use crate::positions::weight_of;
+use rc_cell::Tomb;
+use rc_position::{Comp, Key, Pos, Weight};
+use rc_ranges::{Piece, Ranges};
+use rc_spelling::signed;
+use std::alloc::{AllocError, Global};
+
+// From one number on, before another, with a timestamp.
+#[derive(Clone, Copy)]
+struct Span {
+    from: i64,
+    to: i64,
+    ts: i64,
+}
+
+fn pos(alloc: Global, number: i64, weight: Weight) -> Result<Pos, AllocError> {
+    Ok(Pos {
+        prefix: Key::from_slice(alloc, &[Comp::Int(number)])?,
+        weight,
+    })
+}
+
+// What stands before the first such byte, and behind it.
+fn cut_at(word: &[u8], mark: u8) -> Option<(&[u8], &[u8])> {
+    let place = word.iter().position(|byte| *byte == mark)?;
+    if word.len() <= place {
+        return None;
+    }
+    let (before, rest) = word.split_at(place);
+    let (_mark, behind) = rest.split_first()?;
+    Some((before, behind))
+}
+
+fn span_of(word: &[u8]) -> Option<Span> {
+    let (from, rest) = cut_at(word, b':')?;
+    let (to, ts) = cut_at(rest, b'@')?;
+    Some(Span {
+        from: signed(from)?,
+        to: signed(to)?,
+        ts: signed(ts)?,
+    })
+}
+
+// Adds the tombstone of a span; nothing where it is empty.
+fn add_span(alloc: Global, ranges: &mut Ranges, span: Span) -> Result<(), AllocError> {
+    let from = pos(alloc, span.from, Weight::Before)?;
+    let to = pos(alloc, span.to, Weight::Before)?;
+    if from < to {
+        ranges.add(alloc, &from, &to, Tomb { ts: span.ts, dt: 7 })?;
+    }
+    Ok(())
+}
+
+// The tombstones of spans, added one after another.
+fn ranges_of(alloc: Global, spans: &[&[u8]]) -> Result<Ranges, AllocError> {
+    let mut ranges = Ranges::empty(alloc);
+    for word in spans {
+        if let Some(span) = span_of(word) {
+            add_span(alloc, &mut ranges, span)?;
+        }
+    }
+    Ok(ranges)
+}
+
+// The number of a position before a row, or of no such one -1.
+fn number_of(x: &Pos) -> i64 {
+    match (x.prefix.as_slice(), x.weight) {
+        ([Comp::Int(number)], Weight::Before) => *number,
+        _ => -1,
+    }
+}
+
+// A piece as a span; a deletion time other than 7 is told.
+fn piece_told(alloc: Global, piece: &Piece) -> Result<String, AllocError> {
+    let (from, to) = (number_of(&piece.from), number_of(&piece.to));
+    let Tomb { ts, dt } = piece.tomb;
+    let other = if dt == 7 { "" } else { " of another time" };
+    format!(in alloc; "{from}:{to}@{ts}{other}")
+}
+
+// The spans of a list, with spaces between them.
+fn told(alloc: Global, ranges: &Ranges) -> Result<String, AllocError> {
+    let mut text = String::new(alloc);
+    for piece in ranges.as_slice() {
+        if !text.is_empty() {
+            text.push_str(" ")?;
+        }
+        text.push_str(piece_told(alloc, piece)?.as_str())?;
+    }
+    Ok(text)
+}
+
+// The tombstones of spans, the first one joined last.
+fn joined_of(alloc: Global, first: &[u8], others: &[&[u8]]) -> Result<Ranges, AllocError> {
+    let mut joined = ranges_of(alloc, others)?;
+    joined.join(alloc, &ranges_of(alloc, &[first])?)?;
+    Ok(joined)
+}
+
+/// What spans come to, added one after another or joined to the first one, or that these differ.
+pub(crate) fn adds(alloc: Global, spans: &[&[u8]]) -> Result<Answer, AllocError> {
+    let [first, others @ ..] = spans else {
+        return Ok(Answer::NoCase);
+    };
+    let added = told(alloc, &ranges_of(alloc, spans)?)?;
+    let joined = told(alloc, &joined_of(alloc, first, others)?)?;
+    if added.as_str() != joined.as_str() {
+        return Ok(Answer::Word("differs"));
+    }
+    Ok(Answer::Text(added))
+}
+
+fn stamp(tomb: Option<Tomb>) -> Option<i64> {
+    match tomb {
+        Some(tomb) => Some(tomb.ts),
+        None => None,
+    }
+}
+
+/// The timestamp of the tombstone at a position, in a list, in its copy and at a row, or that these differ.
+pub(crate) fn over(
+    alloc: Global,
+    number: &[u8],
+    weight: &[u8],
+    spans: &[&[u8]],
+) -> Result<Answer, AllocError> {
+    let (Some(number), Some(weight)) = (signed(number), weight_of(weight)) else {
+        return Ok(Answer::NoCase);
+    };
+    let x = pos(alloc, number, weight)?;
+    let ranges = ranges_of(alloc, spans)?;
+    match found(alloc, &ranges, &x)? {
+        None => Ok(Answer::Word("differs")),
+        Some(None) => Ok(Answer::Word("none")),
+        Some(Some(ts)) => Ok(Answer::Text(format!(in alloc; "{ts}")?)),
+    }
+}
+
+// The timestamp of the tombstone at a position; none where a copy of the list, or the list at the row, has another.
+fn found(alloc: Global, ranges: &Ranges, x: &Pos) -> Result<Option<Option<i64>>, AllocError> {
+    let copy = Ranges::from_slice(alloc, ranges.copy(alloc)?.as_slice())?;
+    let found = stamp(ranges.at(x));
+    let at_row = match x.weight {
+        Weight::At => stamp(ranges.at_row(&x.prefix)),
+        Weight::Before | Weight::After => found,
+    };
+    if stamp(copy.at(x)) == found && at_row == found {
+        Ok(Some(found))
+    } else {
+        Ok(None)
+    }
+}
+
+// Two at a time, and the last alone where their count is odd.
+fn in_pairs(alloc: Global, all: &[Ranges]) -> Result<Vec<Ranges>, AllocError> {
+    let mut pairs = Vec::new(alloc);
+    for pair in all.chunks(2) {
+        if let [first, others @ ..] = pair {
+            let mut both = first.copy(alloc)?;
+            for other in others {
+                both.join(alloc, other)?;
+            }
+            pairs.push(both)?;
+        }
+    }
+    Ok(pairs)
+}
+
+fn stamp_of(word: &[u8], from: i64) -> i64 {
+    if says(word, "rise") {
+        return from;
+    }
+    if says(word, "fall") {
+        return !from;
+    }
+    5
+}
+
+// 10,000 lists of one span over ten numbers each, which begin one number after another.
+fn many_of(alloc: Global, word: &[u8]) -> Result<Vec<Ranges>, AllocError> {
+    let mut all = Vec::new(alloc);
+    for from in 0..10_000i64 {
+        let to = from.saturating_add(10);
+        let ts = stamp_of(word, from);
+        let mut ranges = Ranges::empty(alloc);
+        add_span(alloc, &mut ranges, Span { from, to, ts })?;
+        all.push(ranges)?;
+    }
+    Ok(all)
+}
+
+/// How many pieces many spans come to.
+pub(crate) fn many(alloc: Global, word: &[u8]) -> Result<Answer, AllocError> {
+    let mut all = many_of(alloc, word)?;
+    for _round in 0..14 {
+        all = in_pairs(alloc, all.as_slice())?;
+    }
+    match all.as_slice() {
+        [one] => Ok(Answer::Size(one.as_slice().len())),
+        _ => Ok(Answer::Word("differs")),
+    }
+}

@@ -1,0 +1,7 @@
+//! Tests of the core and of its units: each of their public functions on its happy path.
+#![tactic(auto)]
+
+#[cfg(test)]
+mod units;
+#[cfg(test)]
+mod versions;

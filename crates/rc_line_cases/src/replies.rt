@@ -1,0 +1,195 @@
+//! Cases of replies, which are printed behind a `>`. `reply WORD` is a short one; `refused WHY` a refusal, `refused Damaged FILE OFFSET` one of them;
+//! `stats N..` the figures in their order; `more LINE..` and `end LINE..` a reader's lines, each of which is `static` or a key, and for each
+//! value `:COLUMN=VALUE`.
+
+use crate::cutting::{cut_at, first_word, says};
+use crate::spelled::comps_of;
+use rc_cell::Value;
+use rc_lines::{Figures, Refusal, Reply, print_refusal, print_reply};
+use rc_position::Key;
+use rc_query::{Lines, OutLine, Shown};
+use rc_schema::Schema;
+use rc_spelling::{number, read_bytes, words};
+use std::alloc::{AllocError, Global};
+
+/// The reply of a case; none where it is no case of a reply.
+pub(crate) fn reply_of(
+    alloc: Global,
+    kind: &[u8],
+    text: &[u8],
+) -> Result<Option<Reply>, AllocError> {
+    if says(kind, "reply") {
+        return Ok(short(text));
+    }
+    if says(kind, "refused") {
+        return Ok(refused(text));
+    }
+    if says(kind, "stats") {
+        return figures(alloc, text);
+    }
+    if says(kind, "more") {
+        return given(alloc, text, true);
+    }
+    if says(kind, "end") {
+        return given(alloc, text, false);
+    }
+    Ok(None)
+}
+
+/// The text of a reply behind what was there before; a refusal is printed alone, too.
+pub(crate) fn printed(
+    alloc: Global,
+    schema: Option<&Schema>,
+    reply: &Reply,
+) -> Result<Vec<u8>, AllocError> {
+    let mut text = Vec::from_slice(alloc, b">")?;
+    let Some(schema) = schema else {
+        return Vec::from_slice(alloc, b"no case");
+    };
+    print_reply(alloc, schema, reply, &mut text)?;
+    if let Reply::Refused(refusal) = reply {
+        let mut same = Vec::from_slice(alloc, b">")?;
+        print_refusal(alloc, *refusal, &mut same)?;
+        if same.as_slice() != text.as_slice() {
+            return Vec::from_slice(alloc, b"differs");
+        }
+    }
+    if let Some(b'\n') = text.as_slice().last() {
+        text.pop();
+    }
+    Ok(text)
+}
+
+fn short(text: &[u8]) -> Option<Reply> {
+    if says(text, "Fine") {
+        return Some(Reply::Fine);
+    }
+    if says(text, "Going") {
+        return Some(Reply::Going);
+    }
+    if says(text, "Done") {
+        return Some(Reply::Done);
+    }
+    Some(Reply::Nothing)
+}
+
+// The refusals that say nothing but why.
+const REFUSALS: [(&str, Refusal); 16] = [
+    ("BadLine", Refusal::BadLine),
+    ("NoSchema", Refusal::NoSchema),
+    ("SchemaDiffers", Refusal::SchemaDiffers),
+    ("WrongKey", Refusal::WrongKey),
+    ("UnknownColumn", Refusal::UnknownColumn),
+    ("TooLong", Refusal::TooLong),
+    ("NoReader", Refusal::NoReader),
+    ("ReaderInUse", Refusal::ReaderInUse),
+    ("TooManyReaders", Refusal::TooManyReaders),
+    ("FlushInProgress", Refusal::FlushInProgress),
+    ("NothingToFlush", Refusal::NothingToFlush),
+    ("NoFlush", Refusal::NoFlush),
+    ("Full", Refusal::Full),
+    ("ReadFault", Refusal::ReadFault),
+    ("WriteFault", Refusal::WriteFault),
+    ("NoNumber", Refusal::NoNumber),
+];
+
+fn refused(text: &[u8]) -> Option<Reply> {
+    for (name, refusal) in REFUSALS {
+        if says(text, name) {
+            return Some(Reply::Refused(refusal));
+        }
+    }
+    Some(Reply::Refused(damaged(text)?))
+}
+
+fn damaged(text: &[u8]) -> Option<Refusal> {
+    let (file, offset) = first_word(text.strip_prefix(b"Damaged ")?);
+    let file = number(file, 4_294_967_295)?;
+    let offset = number(offset, u64::MAX)?;
+    Some(Refusal::Damaged {
+        file: u32::try_from(file).ok()?,
+        offset,
+    })
+}
+
+fn figures(alloc: Global, text: &[u8]) -> Result<Option<Reply>, AllocError> {
+    let mut all = Vec::new(alloc);
+    for word in words(alloc, text)?.as_slice() {
+        all.push(number(word, u64::MAX).unwrap_or(0))?;
+    }
+    Ok(Some(Reply::Stats(figures_of(all.as_slice()))))
+}
+
+// The number at a place; 0 where there is none.
+fn at(all: &[u64], place: usize) -> u64 {
+    match all.get(place) {
+        Some(number) => *number,
+        None => 0,
+    }
+}
+
+fn figures_of(all: &[u64]) -> Figures {
+    Figures {
+        segments: at(all, 0),
+        free: at(all, 1),
+        objects: at(all, 2),
+        live: at(all, 3),
+        partitions: at(all, 4),
+        rows: at(all, 5),
+        dummies: at(all, 6),
+        hits: at(all, 7),
+        misses: at(all, 8),
+        evicted: at(all, 9),
+        moved: at(all, 10),
+        skipped: at(all, 11),
+        asks: at(all, 12),
+    }
+}
+
+fn given(alloc: Global, text: &[u8], more: bool) -> Result<Option<Reply>, AllocError> {
+    let mut lines = Vec::new(alloc);
+    if !text.is_empty() {
+        for word in words(alloc, text)?.as_slice() {
+            lines.push(line_of(alloc, word)?)?;
+        }
+    }
+    let lines = Lines::from_slice(alloc, lines.as_slice())?;
+    Ok(Some(Reply::Given { lines, more }))
+}
+
+// The line of a word.
+fn line_of(alloc: Global, word: &[u8]) -> Result<OutLine, AllocError> {
+    let (name, values) = cut_at(word, b':');
+    let shown = shown_of(alloc, values)?;
+    if says(name, "static") {
+        return Ok(OutLine::Static(shown));
+    }
+    Ok(OutLine::Row(Key::from_vec(comps_of(alloc, name)?), shown))
+}
+
+// Values with `:` between them.
+fn shown_of(alloc: Global, text: &[u8]) -> Result<Shown, AllocError> {
+    let mut all = Vec::new(alloc);
+    let mut left = text;
+    for _ in 0..text.len() {
+        if left.is_empty() {
+            break;
+        }
+        let (value, rest) = cut_at(left, b':');
+        if let Some(pair) = value_of(alloc, value)? {
+            all.push(pair)?;
+        }
+        left = rest;
+    }
+    Shown::from_slice(alloc, all.as_slice())
+}
+
+// A column and its value.
+fn value_of(alloc: Global, text: &[u8]) -> Result<Option<(u8, Value)>, AllocError> {
+    let (column, spelled) = cut_at(text, b'=');
+    let column = number(column, 255).and_then(|column| u8::try_from(column).ok());
+    match (column, read_bytes(alloc, spelled)?) {
+        (Some(column), Some(bytes)) => Ok(Some((column, Value::from_vec(bytes)))),
+        _ => Ok(None),
+    }
+}
