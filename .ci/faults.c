@@ -5,6 +5,7 @@
 
        error E     the call is not made, and fails with the number E (malloc and realloc: they give nothing)
        on E        the same for that call and all later ones
+       late E      the call is made, and fails with the number E
        short K     a read, a write or a listing moves at most K bytes
        shorts K    the same for that call and all later ones
        zero 0      the call is not made, and gives 0: nothing was written, or the file is at its end
@@ -111,9 +112,14 @@ static int fails(const struct rule *rule) {
     return 0;
 }
 
+/* Does what comes behind a call, and gives its result. */
 static long behind(const struct rule *rule, long result) {
     if (is(rule, "killed"))
         die();
+    if (is(rule, "late")) {
+        errno = (int)rule->number;
+        return -1;
+    }
     return result;
 }
 
@@ -152,11 +158,12 @@ int openat(int folder, const char *path, int flags, ...) {
 
 int close(int file) {
     struct rule rule = acting("close");
-    int is_wrong = fails(&rule);
-    int error = errno;
+    int is_wrong = fails(&rule), error = errno;
     long closed = behind(&rule, syscall(SYS_close, file));
+    if (!is_wrong)
+        return (int)closed;
     errno = error;
-    return is_wrong ? -1 : (int)closed;
+    return -1;
 }
 
 off_t lseek(int file, off_t to, int from) {
