@@ -116,65 +116,32 @@ fn check_version(
     tally: &mut Tally,
 ) -> Result<(), AllocError> {
     let versions = upto(chain.versions.as_slice(), number);
+    let needed = chain.is_needed(number);
+    let reach = chain.reach(alloc, number)?;
+    match chain.kind {
+        ChainKind::Cache => {
+            check_within(alloc, source, versions, tally)?;
+            if needed {
+                check_head(alloc, source, versions, &reach, tally)?;
+            }
+        }
+        ChainKind::Memtable => {
+            check_inherits(alloc, universe, chain, number, tally)?;
+            if needed {
+                check_writes(alloc, source, versions, tally)?;
+            }
+        }
+    }
     for x in &universe.all {
         check_base(alloc, versions, x, tally)?;
-    }
-    match chain.kind {
-        ChainKind::Cache => check_within(alloc, source, versions, tally)?,
-        ChainKind::Memtable => check_inherits(alloc, universe, chain, number, tally)?,
-    }
-    if !chain.is_needed(number) {
-        return Ok(());
-    }
-    match chain.reach(alloc, number)? {
-        Some(place) => check_up_to(alloc, universe, source, versions, &place, tally),
-        None => check_whole(alloc, universe, chain.kind, source, versions, tally),
-    }
-}
-
-// What is asked of the version under update of a cache that somebody needs, before the update's place.
-fn check_up_to(
-    alloc: Global,
-    universe: &Universe,
-    source: &Source,
-    versions: &[PlainVersion],
-    place: &Place,
-    tally: &mut Tally,
-) -> Result<(), AllocError> {
-    if place.is_past_head() {
-        check_pt(source, versions, tally);
-    }
-    if place.is_past_statics() {
-        check_statics(alloc, source, versions, tally)?;
-    }
-    for x in &universe.all {
-        if place.is_past(x) {
-            check_position(alloc, ChainKind::Cache, source, versions, x, tally)?;
+        if needed && is_reached(&reach, x) {
+            check_position(alloc, chain.kind, source, versions, x, tally)?;
         }
+    }
+    if needed && reach.is_none() {
+        check_reading(alloc, chain.kind, source, versions, tally)?;
     }
     Ok(())
-}
-
-// What is asked of another version that somebody needs.
-fn check_whole(
-    alloc: Global,
-    universe: &Universe,
-    kind: ChainKind,
-    source: &Source,
-    versions: &[PlainVersion],
-    tally: &mut Tally,
-) -> Result<(), AllocError> {
-    match kind {
-        ChainKind::Cache => {
-            check_pt(source, versions, tally);
-            check_statics(alloc, source, versions, tally)?;
-        }
-        ChainKind::Memtable => check_writes(alloc, source, versions, tally)?,
-    }
-    for x in &universe.all {
-        check_position(alloc, kind, source, versions, x, tally)?;
-    }
-    check_reading(alloc, kind, source, versions, tally)
 }
 
 fn is_reached(reach: &Option<Place>, x: &Pos) -> bool {
@@ -192,24 +159,15 @@ fn check_within(
     tally: &mut Tally,
 ) -> Result<(), AllocError> {
     for number in 0..versions.len() {
-        check_one_within(alloc, source, alone(versions, number), tally)?;
-    }
-    Ok(())
-}
-
-// One version does not hold more than the source.
-fn check_one_within(
-    alloc: Global,
-    source: &Source,
-    one: &[PlainVersion],
-    tally: &mut Tally,
-) -> Result<(), AllocError> {
-    let within = is_within(alloc, &statics_at(alloc, one)?, &source.statics, None)?;
-    tally.expect(within, "no version holds more than the source: static row");
-    for said in &source.places {
-        let seen = seen_at(alloc, one, &said.position, Side::On)?;
-        let within = is_within(alloc, &seen, &said.row, said.tomb)?;
-        tally.expect(within, "no version holds more than the source");
+        let one = alone(versions, number);
+        let statics = statics_at(alloc, one)?;
+        let within = is_within(alloc, &statics, &source.statics, None)?;
+        tally.expect(within, "no version holds more than the source: static row");
+        for said in &source.places {
+            let seen = seen_at(alloc, one, &said.position, Side::On)?;
+            let within = is_within(alloc, &seen, &said.row, said.tomb)?;
+            tally.expect(within, "no version holds more than the source");
+        }
     }
     Ok(())
 }
@@ -226,23 +184,26 @@ fn is_within(
     Ok(is_same_row(&joined, row) && greater_tomb(tomb, seen.tomb) == tomb)
 }
 
-// The partition tombstone is complete.
-fn check_pt(source: &Source, versions: &[PlainVersion], tally: &mut Tally) {
-    tally.expect(
-        head_of(versions) == source.pt,
-        "the partition tombstone is the source's",
-    );
-}
-
-// The static row is complete where it is flagged.
-fn check_statics(
+// The partition tombstone is complete, and the static row too where it is flagged, as far as the update's place has come.
+fn check_head(
     alloc: Global,
     source: &Source,
     versions: &[PlainVersion],
+    reach: &Option<Place>,
     tally: &mut Tally,
 ) -> Result<(), AllocError> {
+    let (head, statics) = match reach {
+        Some(place) => (place.is_past_head(), place.is_past_statics()),
+        None => (true, true),
+    };
+    if head {
+        tally.expect(
+            head_of(versions) == source.pt,
+            "the partition tombstone is the source's",
+        );
+    }
     let seen = statics_at(alloc, versions)?;
-    if is_known_in(ChainKind::Cache, seen.flag) {
+    if statics && is_known_in(ChainKind::Cache, seen.flag) {
         tally.expect(
             is_same_row(&seen.row, &source.statics),
             "a known static row is the source's",
@@ -270,7 +231,8 @@ fn check_position(
             "what is flagged is the source's",
         );
     }
-    if seen.row.is_empty() && *x < end_position(alloc) && is_known_at(alloc, kind, versions, x)? {
+    let known = is_known_at(alloc, kind, versions, x)?;
+    if known && seen.row.is_empty() && *x < end_position(alloc) {
         let behind = seen_at(alloc, versions, x, Side::Behind)?;
         tally.expect(
             behind.tomb == seen.tomb,
@@ -287,48 +249,28 @@ fn check_base(
     x: &Pos,
     tally: &mut Tally,
 ) -> Result<(), AllocError> {
-    check_base_of(alloc, versions, x, Side::On, tally)?;
-    check_base_of(alloc, versions, x, Side::Behind, tally)
-}
-
-fn check_base_of(
-    alloc: Global,
-    versions: &[PlainVersion],
-    x: &Pos,
-    side: Side,
-    tally: &mut Tally,
-) -> Result<(), AllocError> {
-    let joined = joined_from_base(alloc, versions, x, side)?;
-    let seen = seen_at(alloc, versions, x, side)?;
-    tally.expect(
-        is_same_seen(&seen, &joined),
-        "what is seen is what stands from the base on",
-    );
-    Ok(())
-}
-
-// What the versions from the base on hold, and the flag of the base.
-fn joined_from_base(
-    alloc: Global,
-    versions: &[PlainVersion],
-    x: &Pos,
-    side: Side,
-) -> Result<Seen, AllocError> {
-    let base = base_at(versions, x, side);
-    let mut joined = Seen {
-        flag: Flag::Inherit,
-        row: Row::empty(alloc),
-        tomb: None,
-    };
-    for number in base.unwrap_or(0)..versions.len() {
-        let one = seen_at(alloc, alone(versions, number), x, side)?;
-        if Some(number) == base {
-            joined.flag = one.flag;
+    for side in [Side::On, Side::Behind] {
+        let base = base_at(versions, x, side);
+        let mut joined = Seen {
+            flag: Flag::Inherit,
+            row: Row::empty(alloc),
+            tomb: None,
+        };
+        for number in base.unwrap_or(0)..versions.len() {
+            let one = seen_at(alloc, alone(versions, number), x, side)?;
+            if Some(number) == base {
+                joined.flag = one.flag;
+            }
+            joined.row.join(alloc, &one.row)?;
+            joined.tomb = greater_tomb(joined.tomb, one.tomb);
         }
-        joined.row.join(alloc, &one.row)?;
-        joined.tomb = greater_tomb(joined.tomb, one.tomb);
+        let seen = seen_at(alloc, versions, x, side)?;
+        tally.expect(
+            is_same_seen(&seen, &joined),
+            "what is seen is what stands from the base on",
+        );
     }
-    Ok(joined)
+    Ok(())
 }
 
 /// Whether the same is seen.
@@ -426,14 +368,15 @@ fn check_part(
 ) -> Result<Option<Pos>, AllocError> {
     match part {
         Part::Row { key, row, tomb } => {
-            let holds = match source.at(from) {
+            let at = Pos {
+                prefix: key.copy(alloc)?,
+                weight: Weight::At,
+            };
+            let holds = match source.at(&at) {
                 Some(said) => is_same_row(&said.row, &row) && said.tomb == tomb,
                 None => false,
             };
-            tally.expect(
-                holds && from.weight == Weight::At && from.prefix == key,
-                "a row that is read is the source's",
-            );
+            tally.expect(holds && at == *from, "a row that is read is the source's");
             Ok(Some(behind_key(alloc, &key)?))
         }
         Part::Gap { to, tomb } => {
@@ -493,8 +436,16 @@ fn picture_of(
 ) -> Result<Picture, AllocError> {
     let mut sights = Vec::new(alloc);
     for x in &universe.all {
-        sights.push(sight_of(alloc, versions, x, Side::On)?)?;
-        sights.push(sight_of(alloc, versions, x, Side::Behind)?)?;
+        sights.push(Sight {
+            position: Some(x.copy(alloc)?),
+            behind: false,
+            seen: seen_at(alloc, versions, x, Side::On)?,
+        })?;
+        sights.push(Sight {
+            position: Some(x.copy(alloc)?),
+            behind: true,
+            seen: seen_at(alloc, versions, x, Side::Behind)?,
+        })?;
     }
     sights.push(Sight {
         position: None,
@@ -502,25 +453,6 @@ fn picture_of(
         seen: statics_at(alloc, versions)?,
     })?;
     Ok(Picture { sights })
-}
-
-// What is seen of one side of a position.
-fn sight_of(
-    alloc: Global,
-    versions: &[PlainVersion],
-    x: &Pos,
-    side: Side,
-) -> Result<Sight, AllocError> {
-    let seen = seen_at(alloc, versions, x, side)?;
-    let behind = match side {
-        Side::On => false,
-        Side::Behind => true,
-    };
-    Ok(Sight {
-        position: Some(x.copy(alloc)?),
-        behind,
-        seen,
-    })
 }
 
 /// What a step may do to what is seen.

@@ -2,7 +2,7 @@
 
 use crate::chain::{Chain, version_of};
 use crate::chance::Chance;
-use crate::checks::{Effect, Picture, carried, check_carried, check_chain, check_effect, pictures};
+use crate::checks::{Effect, carried, check_carried, check_chain, check_effect, pictures};
 use crate::cleaning::{clean, free};
 use crate::evicting::evict;
 use crate::filling::{fill_gap, fill_row, fill_statics};
@@ -11,7 +11,7 @@ use crate::tally::Tally;
 use crate::universe::Universe;
 use crate::updating::{begin, relabel, unit};
 use crate::writing::write;
-use rc_core::{ChainKind, Flag, PlainVersion, release_pin};
+use rc_core::{ChainKind, Flag, release_pin};
 use std::alloc::{AllocError, Global};
 
 /// A step that was taken.
@@ -74,7 +74,11 @@ impl History {
     ) -> Result<Self, AllocError> {
         let universe = Universe::new(alloc)?;
         let mut chance = Chance::new(seed);
-        let sources = below(alloc, kind, &universe, &mut chance)?;
+        let mut source = Source::empty(alloc, &universe)?;
+        if let ChainKind::Cache = kind {
+            source.add(alloc, &some_mutation(alloc, &universe, &mut chance)?)?;
+        }
+        let sources = vec![in alloc; source]?;
         Ok(History {
             universe,
             sources,
@@ -99,35 +103,22 @@ impl History {
             &self.chain,
             &mut self.tally,
         )?;
-        self.check_pictures(alloc, &step.effect, before.as_slice())?;
-        if step.carries {
-            self.check_carrying(alloc, carried_before.as_slice())?;
-        }
-        Ok(())
-    }
-
-    // What was seen before a step against what is seen now.
-    fn check_pictures(
-        &mut self,
-        alloc: Global,
-        effect: &Effect,
-        before: &[Picture],
-    ) -> Result<(), AllocError> {
         let now = pictures(alloc, &self.universe, &self.chain)?;
         check_effect(
             self.chain.kind,
-            effect,
-            before,
+            &step.effect,
+            before.as_slice(),
             now.as_slice(),
             &mut self.tally,
         );
-        Ok(())
-    }
-
-    // What was carried before a step against what is carried now.
-    fn check_carrying(&mut self, alloc: Global, before: &[bool]) -> Result<(), AllocError> {
-        let now = carried(alloc, &self.universe, &self.chain)?;
-        check_carried(before, now.as_slice(), &mut self.tally);
+        if step.carries {
+            let carried_now = carried(alloc, &self.universe, &self.chain)?;
+            check_carried(
+                carried_before.as_slice(),
+                carried_now.as_slice(),
+                &mut self.tally,
+            );
+        }
         Ok(())
     }
 
@@ -147,22 +138,6 @@ impl History {
             },
         }
     }
-}
-
-// What the writes below a chain say: of a cache some, of a memtable none.
-fn below(
-    alloc: Global,
-    kind: ChainKind,
-    universe: &Universe,
-    chance: &mut Chance,
-) -> Result<Vec<Source>, AllocError> {
-    let mut source = Source::empty(alloc, universe)?;
-    if let ChainKind::Cache = kind {
-        source.add(alloc, &some_mutation(alloc, universe, chance)?)?;
-    }
-    let mut sources = Vec::new(alloc);
-    sources.push(source)?;
-    Ok(sources)
 }
 
 fn take_cache_step(
@@ -185,31 +160,29 @@ fn take_cache_step(
 
 // A chain is opened: of a cache its head is filled.
 fn open(alloc: Global, history: &mut History) -> Result<Option<Step>, AllocError> {
-    let version = match history.chain.kind {
-        ChainKind::Cache => filled_head(alloc, history.sources.as_slice())?,
+    let phase = match history.chain.kind {
+        ChainKind::Cache => history.sources.len().saturating_sub(1),
         ChainKind::Memtable => {
             let empty = Source::empty(alloc, &history.universe)?;
             history.sources.push(empty)?;
-            let phase = history.sources.len().saturating_sub(1);
-            version_of(alloc, Flag::Inherit, phase)?
+            history.sources.len().saturating_sub(1)
         }
     };
-    history.chain.versions.push(version)?;
-    history.chain.attached = true;
-    Ok(Some(Step::new("open", Effect::Open)))
-}
-
-// A version of a cache in which what the last writes say of the head and the static row is known.
-fn filled_head(alloc: Global, sources: &[Source]) -> Result<PlainVersion, AllocError> {
-    let mut version = version_of(alloc, Flag::Unknown, sources.len().saturating_sub(1))?;
-    if let Some(source) = sources.last() {
+    let flag = match history.chain.kind {
+        ChainKind::Cache => Flag::Unknown,
+        ChainKind::Memtable => Flag::Inherit,
+    };
+    let mut version = version_of(alloc, flag, phase)?;
+    if let (ChainKind::Cache, Some(source)) = (history.chain.kind, history.sources.last()) {
         version.pt = source.pt;
         version.static_flag = Flag::Known;
         if !source.statics.is_empty() {
             version.statics = Some(source.statics.copy(alloc)?);
         }
     }
-    Ok(version)
+    history.chain.versions.push(version)?;
+    history.chain.attached = true;
+    Ok(Some(Step::new("open", Effect::Open)))
 }
 
 // A snapshot, at a number that is free.

@@ -19,25 +19,6 @@ pub(crate) struct Said {
     pub(crate) tomb: Option<Tomb>,
 }
 
-impl Said {
-    /// Nothing at a position.
-    pub(crate) fn nothing(alloc: Global, x: &Pos) -> Result<Self, AllocError> {
-        Ok(Said {
-            position: x.copy(alloc)?,
-            row: Row::empty(alloc),
-            tomb: None,
-        })
-    }
-
-    /// The same.
-    pub(crate) fn copy(&self, alloc: Global) -> Result<Self, AllocError> {
-        let mut said = Said::nothing(alloc, &self.position)?;
-        said.row = self.row.copy(alloc)?;
-        said.tomb = self.tomb;
-        Ok(said)
-    }
-}
-
 /// What writes say of a partition.
 #[derive(Drop)]
 pub(crate) struct Source {
@@ -54,7 +35,11 @@ impl Source {
     pub(crate) fn empty(alloc: Global, universe: &Universe) -> Result<Self, AllocError> {
         let mut places = Vec::new(alloc);
         for x in &universe.all {
-            places.push(Said::nothing(alloc, x)?)?;
+            places.push(Said {
+                position: x.copy(alloc)?,
+                row: Row::empty(alloc),
+                tomb: None,
+            })?;
         }
         Ok(Source {
             pt: None,
@@ -67,20 +52,17 @@ impl Source {
     pub(crate) fn copy(&self, alloc: Global) -> Result<Self, AllocError> {
         let mut places = Vec::new(alloc);
         for said in &self.places {
-            places.push(said.copy(alloc)?)?;
+            places.push(Said {
+                position: said.position.copy(alloc)?,
+                row: said.row.copy(alloc)?,
+                tomb: said.tomb,
+            })?;
         }
         Ok(Source {
             pt: self.pt,
             statics: self.statics.copy(alloc)?,
             places,
         })
-    }
-
-    /// The table with another mutation written.
-    pub(crate) fn with(&self, alloc: Global, change: &Mutation) -> Result<Self, AllocError> {
-        let mut source = self.copy(alloc)?;
-        source.add(alloc, change)?;
-        Ok(source)
     }
 
     /// One more row written.

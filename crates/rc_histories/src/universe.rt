@@ -52,47 +52,23 @@ pub(crate) fn behind_key(alloc: Global, key: &Key) -> Result<Pos, AllocError> {
 impl Universe {
     /// The positions at the keys and their bounds; for the definitions also rows that nobody writes, one of them longer than a key.
     pub(crate) fn new(alloc: Global) -> Result<Self, AllocError> {
-        Ok(Universe {
-            all: all_of(alloc)?,
-            bounds: bounds_of(alloc)?,
-            stops: stops_of(alloc)?,
-        })
+        let mut all = vec![in alloc; start_position(alloc), position(alloc, 0, Weight::At)?]?;
+        let mut bounds = vec![in alloc; start_position(alloc)]?;
+        let mut stops = vec![in alloc; start_position(alloc)]?;
+        for number in KEYS {
+            push_key(alloc, &mut all, number)?;
+            bounds.push(position(alloc, number, Weight::Before)?)?;
+            bounds.push(position(alloc, number, Weight::After)?)?;
+            for weight in [Weight::Before, Weight::At, Weight::After] {
+                stops.push(position(alloc, number, weight)?)?;
+            }
+        }
+        all.push(position(alloc, 5, Weight::At)?)?;
+        all.push(end_position(alloc))?;
+        bounds.push(end_position(alloc))?;
+        stops.push(end_position(alloc))?;
+        Ok(Universe { all, bounds, stops })
     }
-}
-
-fn all_of(alloc: Global) -> Result<Vec<Pos>, AllocError> {
-    let mut all = Vec::new(alloc);
-    all.push(start_position(alloc))?;
-    all.push(position(alloc, 0, Weight::At)?)?;
-    for number in KEYS {
-        push_key(alloc, &mut all, number)?;
-    }
-    all.push(position(alloc, 5, Weight::At)?)?;
-    all.push(end_position(alloc))?;
-    Ok(all)
-}
-
-fn bounds_of(alloc: Global) -> Result<Vec<Pos>, AllocError> {
-    let mut bounds = Vec::new(alloc);
-    bounds.push(start_position(alloc))?;
-    for number in KEYS {
-        bounds.push(position(alloc, number, Weight::Before)?)?;
-        bounds.push(position(alloc, number, Weight::After)?)?;
-    }
-    bounds.push(end_position(alloc))?;
-    Ok(bounds)
-}
-
-fn stops_of(alloc: Global) -> Result<Vec<Pos>, AllocError> {
-    let mut stops = Vec::new(alloc);
-    stops.push(start_position(alloc))?;
-    for number in KEYS {
-        stops.push(position(alloc, number, Weight::Before)?)?;
-        stops.push(position(alloc, number, Weight::At)?)?;
-        stops.push(position(alloc, number, Weight::After)?)?;
-    }
-    stops.push(end_position(alloc))?;
-    Ok(stops)
 }
 
 // The positions at a key: its bounds, its row, a longer one at 3, and behind 1 the row of 2, which nobody writes.

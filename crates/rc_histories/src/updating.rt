@@ -6,10 +6,10 @@ use crate::filling::join_statics;
 use crate::history::{History, Step};
 use crate::source::some_mutation;
 use crate::tally::Tally;
-use crate::universe::{behind_key, end_position, start_position};
+use crate::universe::{end_position, start_position};
 use rc_cell::Tomb;
 use rc_core::{Entry, Flag, PlainVersion, is_at_place};
-use rc_mutation::{Frag, FragList, greater_tomb};
+use rc_mutation::{Frag, greater_tomb};
 use rc_position::{Pos, Weight};
 use rc_units::{copy_entries, force_behind, lose_rest, put_fragment, split_entries};
 use std::alloc::{AllocError, Global};
@@ -23,33 +23,22 @@ pub(crate) fn begin(alloc: Global, history: &mut History) -> Result<Option<Step>
     let Some(last) = history.sources.last() else {
         return Ok(None);
     };
-    let source = last.with(alloc, &change)?;
+    let mut source = last.copy(alloc)?;
+    source.add(alloc, &change)?;
+    let phase = history.sources.len();
     history.sources.push(source)?;
     if !history.chain.attached || history.chance.happens(5) {
         history.chain.attached = false;
         return Ok(Some(Step::new("update begun without room", Effect::Open)));
     }
-    open_update(alloc, history, change.fragments(alloc)?)?;
-    Ok(Some(Step::carrying("update begun", Effect::Open)))
-}
-
-// A version of the newest phase, in which an update of these fragments stands.
-fn open_update(
-    alloc: Global,
-    history: &mut History,
-    fragments: FragList,
-) -> Result<(), AllocError> {
-    let phase = history.sources.len().saturating_sub(1);
-    history
-        .chain
-        .versions
-        .push(version_of(alloc, Flag::Inherit, phase)?)?;
+    let version = version_of(alloc, Flag::Inherit, phase)?;
+    history.chain.versions.push(version)?;
     history.chain.update = Some(Update {
-        fragments,
+        fragments: change.fragments(alloc)?,
         next: 0,
         force: None,
     });
-    Ok(())
+    Ok(Some(Step::carrying("update begun", Effect::Open)))
 }
 
 /// A flush that does not name the partition: the newest version of an attached chain stands for the new phase.
@@ -77,49 +66,21 @@ pub(crate) fn unit(alloc: Global, history: &mut History) -> Result<Option<Step>,
     let Some(mut update) = history.chain.update.take() else {
         return Ok(None);
     };
+    let place = update.place(alloc)?;
+    if let Place::End = place {
+        return Ok(Some(Step::carrying("update ended", Effect::Open)));
+    }
     let Some(version) = history.chain.versions.last_mut() else {
         return Ok(None);
     };
-    let step = match take_unit(alloc, &mut update, version, room, &mut history.tally)? {
-        Taken::Ended => Step::carrying("update ended", Effect::Open),
-        Taken::Lost => Step::new("unit without room", Effect::Open),
-        Taken::Put(kind) => {
-            history.chain.update = Some(update);
-            Step::carrying(kind, Effect::Open)
-        }
-    };
-    Ok(Some(step))
-}
-
-// What a unit did.
-enum Taken {
-    // There was none left.
-    Ended,
-    // There was no room, and the rest was lost.
-    Lost,
-    // A fragment was put in, by a unit of this kind.
-    Put(&'static str),
-}
-
-// A unit with room or without.
-fn take_unit(
-    alloc: Global,
-    update: &mut Update,
-    version: &mut PlainVersion,
-    room: bool,
-    tally: &mut Tally,
-) -> Result<Taken, AllocError> {
-    let place = update.place(alloc)?;
-    if let Place::End = place {
-        return Ok(Taken::Ended);
-    }
     if !room && place.is_past_head() {
         lose(alloc, &place, version);
-        return Ok(Taken::Lost);
+        return Ok(Some(Step::new("unit without room", Effect::Open)));
     }
-    let kind = put_next(alloc, update, version)?;
-    refuse_spoiled(alloc, &update.place(alloc)?, version, tally)?;
-    Ok(Taken::Put(kind))
+    let kind = put_next(alloc, &mut update, version)?;
+    refuse_spoiled(alloc, &update.place(alloc)?, version, &mut history.tally)?;
+    history.chain.update = Some(update);
+    Ok(Some(Step::carrying(kind, Effect::Open)))
 }
 
 // The next fragment goes into the version; what kind of unit that is.
@@ -207,55 +168,36 @@ fn refuse_spoiled(
     if *place >= end_position(alloc) {
         return Ok(());
     }
-    refuse_dummy(alloc, place, version.entries.as_slice(), tally)?;
-    let with_tomb = with_tomb_behind(alloc, place, version.entries.as_slice())?;
-    tally.expect(
-        !is_at_place(place, &of_entries(with_tomb)),
-        "a tombstone behind the place is refused",
-    );
-    Ok(())
-}
-
-// With a dummy right behind the rows of the place's key.
-fn refuse_dummy(
-    alloc: Global,
-    place: &Pos,
-    entries: &[Entry],
-    tally: &mut Tally,
-) -> Result<(), AllocError> {
-    let behind = behind_key(alloc, &place.prefix)?;
+    let behind = Pos {
+        prefix: place.prefix.copy(alloc)?,
+        weight: Weight::After,
+    };
     if *place < behind && behind < end_position(alloc) {
-        let with_dummy = split_entries(alloc, &behind, entries)?;
+        let with_dummy = split_entries(alloc, &behind, version.entries.as_slice())?;
         tally.expect(
             !is_at_place(place, &of_entries(with_dummy)),
             "a dummy behind the place is refused",
         );
     }
-    Ok(())
-}
-
-// With a tombstone on the first gap behind the place: before a key that up to its row.
-fn with_tomb_behind(
-    alloc: Global,
-    place: &Pos,
-    entries: &[Entry],
-) -> Result<Vec<Entry>, AllocError> {
-    let mut made = if place.weight == Weight::Before {
+    let mut with_tomb = copy_entries(alloc, version.entries.as_slice())?;
+    if place.weight == Weight::Before {
         let row = Pos {
             prefix: place.prefix.copy(alloc)?,
             weight: Weight::At,
         };
-        split_entries(alloc, &row, entries)?
-    } else {
-        copy_entries(alloc, entries)?
-    };
-    for entry in made.iter_mut() {
+        with_tomb = split_entries(alloc, &row, with_tomb.as_slice())?;
+    }
+    for entry in with_tomb.iter_mut() {
         if entry.position > *place {
             entry.gap.tomb = Some(Tomb { ts: 9, dt: 0 });
             break;
         }
     }
-    Ok(made)
+    tally.expect(
+        !is_at_place(place, &of_entries(with_tomb)),
+        "a tombstone behind the place is refused",
+    );
+    Ok(())
 }
 
 // A version of these entries alone.

@@ -33,35 +33,51 @@ fn every(alloc: Global, step: i16) -> Result<Mutation, AllocError> {
     Ok(made)
 }
 
+// 10,000 of each, of which 3,334 are both: the multiples of 6 below 20,000.
+fn both(alloc: Global) -> Result<Mutation, AllocError> {
+    let mut ours = every(alloc, 2)?;
+    ours.join(alloc, &every(alloc, 3)?)?;
+    Ok(ours)
+}
+
 #[test]
 fn joins_ten_thousand_rows(rt: HostRuntime) -> Result<(), Fail> {
-    let mut ours = every(rt.alloc(), 2)?;
-    ours.join(rt.alloc(), &every(rt.alloc(), 3)?)?;
-    // 10,000 of each, of which 3,334 are both: the multiples of 6 below 20,000. The fragments have a start and an end
-    let list = ours.fragments(rt.alloc())?;
-    assert_eq!(rt; list.as_slice().len(), 16_668);
+    // the fragments have a start and an end
+    let list = both(rt.alloc())?.fragments(rt.alloc())?;
+    assert!(rt; list.as_slice().len() == 16_668);
     Ok(())
+}
+
+// The key of a partition to which nothing was written.
+fn key_of(alloc: Global) -> Result<PartKey, AllocError> {
+    PartKey::from_slice(alloc, b"p")
 }
 
 #[test]
 fn copies_writes(rt: HostRuntime) -> Result<(), Fail> {
-    let key = PartKey::from_slice(rt.alloc(), b"p")?;
-    let change = Mutation::empty(rt.alloc());
-    let write = Write { key, change };
-    let same = write.copy(rt.alloc())?;
-    assert_eq!(rt; same.key.as_slice().len(), 1);
+    let write = Write {
+        key: key_of(rt.alloc())?,
+        change: Mutation::empty(rt.alloc()),
+    };
+    assert!(rt; write.copy(rt.alloc())?.key.as_slice().len() == 1);
     Ok(())
 }
 
 #[test]
 fn copies_partitions(rt: HostRuntime) -> Result<(), Fail> {
-    let key = PartKey::from_slice(rt.alloc(), b"p")?;
-    let change = Mutation::empty(rt.alloc());
-    let part = Partition { key, change };
-    let same = part.copy(rt.alloc())?;
-    let list = same.change.fragments(rt.alloc())?;
-    let other = FragList::from_slice(rt.alloc(), list.as_slice())?;
-    assert_eq!(rt; other.copy(rt.alloc())?.as_slice().len(), 2);
+    let part = Partition {
+        key: key_of(rt.alloc())?,
+        change: Mutation::empty(rt.alloc()),
+    };
+    assert!(rt; part.copy(rt.alloc())?.key.as_slice().len() == 1);
+    Ok(())
+}
+
+#[test]
+fn copies_fragments(rt: HostRuntime) -> Result<(), Fail> {
+    let list = Mutation::empty(rt.alloc()).fragments(rt.alloc())?;
+    let same = FragList::from_slice(rt.alloc(), list.as_slice())?;
+    assert!(rt; same.copy(rt.alloc())?.as_slice().len() == 2);
     Ok(())
 }
 

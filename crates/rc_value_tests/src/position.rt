@@ -35,15 +35,33 @@ fn orders_and_copies(rt: HostRuntime) -> Result<(), Fail> {
     Ok(())
 }
 
+// The keys behind 1, up to 3.
+fn behind_one(alloc: Global) -> Result<Slice, AllocError> {
+    let one = Key::from_slice(alloc, &[Comp::Int(1)])?;
+    let three = Key::from_slice(alloc, &[Comp::Int(3)])?;
+    let from = start_pos(alloc, &one, false)?;
+    Ok(Slice {
+        from,
+        to: end_pos(alloc, &three, true)?,
+    })
+}
+
+// Whether a slice has the row of a number.
+fn has(alloc: Global, slice: &Slice, number: i64) -> Result<bool, AllocError> {
+    Ok(slice.has(&pos(alloc, number, Weight::At)?))
+}
+
 #[test]
 fn holds_the_keys_of_a_range(rt: HostRuntime) -> Result<(), Fail> {
-    let a = rt.alloc();
-    let slice = Slice {
-        from: start_pos(a, &pos(a, 1, Weight::At)?.prefix, false)?,
-        to: end_pos(a, &pos(a, 3, Weight::At)?.prefix, true)?,
-    };
-    let same = slice.copy(a)?;
-    assert!(rt; !slice.has(&pos(a, 1, Weight::At)?) && same.has(&pos(a, 3, Weight::At)?));
+    let slice = behind_one(rt.alloc())?;
+    assert!(rt; !has(rt.alloc(), &slice, 1)? && has(rt.alloc(), &slice, 3)?);
+    Ok(())
+}
+
+#[test]
+fn copies_ranges_of_keys(rt: HostRuntime) -> Result<(), Fail> {
+    let same = behind_one(rt.alloc())?.copy(rt.alloc())?;
+    assert!(rt; has(rt.alloc(), &same, 3)?);
     Ok(())
 }
 
