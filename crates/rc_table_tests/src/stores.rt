@@ -62,20 +62,14 @@ fn tell_range(
     store: &mut FolderStore<'_, HostRuntime>,
     n: u32,
     off: u64,
-    text: &mut String,
+    text: &mut Vec<u8>,
 ) -> Result<(), AllocError> {
     let mut bytes = [0; 3];
     match store.read_at(n, off, &mut bytes) {
-        Ok(()) => tell_bytes(&bytes, text)?,
-        Err(_) => text.push('!')?,
+        Ok(()) => text.extend_from_slice(&bytes)?,
+        Err(_) => text.push(b'!')?,
     }
-    text.push('|')
-}
-
-fn tell_bytes(bytes: &[u8], text: &mut String) -> Result<(), AllocError> {
-    for byte in bytes {
-        text.push(char::from(*byte))?;
-    }
+    text.push(b'|')?;
     Ok(())
 }
 
@@ -85,15 +79,14 @@ fn clear(rt: &HostRuntime) {
     let _file = fs::remove_file(rt, "tables");
 }
 
-// Names of no tables, with bars between them.
+// Files with the names of no tables, with bars between them.
 const OTHERS: &str =
-    "0.tbl|01.tbl|+1.tbl|-1.tbl|4294967296.tbl|1.tbl.tbl|.tbl|a.tbl| 1.tbl|1.tmp|1|1.TBL|1.tbl |tbl";
+    "tables/0.tbl|tables/01.tbl|tables/+1.tbl|tables/-1.tbl|tables/4294967296.tbl|tables/1.tbl.tbl|tables/.tbl|tables/a.tbl|tables/ 1.tbl|tables/1.tmp|tables/1|tables/1.TBL|tables/1.tbl |tables/tbl";
 
-// Writes files of these names.
+// Writes these files.
 fn write_others(rt: &HostRuntime) -> io::Result<()> {
-    for name in OTHERS.split('|') {
-        let path = format!(in rt.alloc(); "tables/{name}")?;
-        fs::write(rt, path.as_str(), b"other")?;
+    for path in OTHERS.split('|') {
+        fs::write(rt, path, b"other")?;
     }
     Ok(())
 }
@@ -139,7 +132,7 @@ fn a_table_that_is_cut_is_a_fault(rt: HostRuntime) -> Result<(), Fail> {
     let mut store = FolderStore::new(&rt);
     assert_eq!(rt; build(&mut store, alloc, 1, [b"ab", b"cde"]), b'k');
     assert_eq!(rt; store.size(1).ok(), Some(5));
-    let mut told = String::new(alloc);
+    let mut told = Vec::new(alloc);
     tell_range(&mut store, 1, 2, &mut told)?;
     File::options()
         .write(true)
@@ -148,7 +141,7 @@ fn a_table_that_is_cut_is_a_fault(rt: HostRuntime) -> Result<(), Fail> {
     tell_range(&mut store, 1, 2, &mut told)?;
     tell_range(&mut store, 1, 1, &mut told)?;
     tell_range(&mut store, 2, 0, &mut told)?;
-    assert_eq!(rt; told.as_str(), "cde|!|bcd|!|");
+    assert_eq!(rt; told.as_slice(), b"cde|!|bcd|!|".as_slice());
     assert_eq!(rt; (store.size(2).ok(), store.asks()), (None, 4));
     Ok(())
 }
