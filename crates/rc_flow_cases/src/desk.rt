@@ -193,7 +193,7 @@ impl Desk {
         let Some((tables, reading)) = self.opened(alloc, key, first, last)? else {
             return Ok(false);
         };
-        folder.forget();
+        folder.forget(alloc);
         let read = read_lists(alloc, folder, tables, &reading, lists, &mut self.text)?;
         tell_asked(folder.asked(), &mut self.text)?;
         Ok(read)
@@ -213,7 +213,7 @@ impl Desk {
             return Ok(None);
         };
         let mut told = String::new(alloc);
-        folder.forget();
+        folder.forget(alloc);
         read_alone(alloc, folder, tables, &reading, &mut told)?;
         Ok(Some(told))
     }

@@ -1,5 +1,7 @@
 //! A partition read through a stream.
 
+ghost use Rattle.rc_tables.specs.Streams.{IsReady};
+
 use crate::files::Change;
 use crate::telling::{tell_counts, tell_refusal};
 use crate::walking::{read_head, read_rest};
@@ -9,7 +11,7 @@ use rc_outside::Store;
 use rc_position::Pos;
 use rc_schema::Schema;
 use rc_stream::laws::a_new_merge_stands_for_both;
-use rc_stream::{Frags, ListFrags, Merge};
+use rc_stream::{Frags, ListFrags, Merge, StreamErr};
 use rc_tables::TableFrags;
 use std::alloc::{AllocError, Global};
 use std::rc::Rc;
@@ -90,6 +92,27 @@ pub(crate) fn read_merged(
     read_on(alloc, answered, &mut stream, folder, reading, text)
 }
 
+// For how many ranges two lists and the tables as one stream ask, at the head and in all.
+fn counts<W: Store>(
+    alloc: Global,
+    store: &mut W,
+    one: ListFrags,
+    two: ListFrags,
+    tables: TableFrags,
+    reading: &Reading,
+) -> Result<(u64, u64), StreamErr>
+    requires { IsReady (W.files store.old) tables }
+{
+    let before = store.asks();
+    match read_through(alloc, store, one, two, tables, &reading.from, &reading.upto) {
+        Ok((at_head, in_all)) => Ok((
+            at_head.saturating_sub(before),
+            in_all.saturating_sub(before),
+        )),
+        Err(error) => Err(error),
+    }
+}
+
 /// Tells for how many ranges two lists and the tables as one stream ask, at the head and in all.
 pub(crate) fn read_counts(
     alloc: Global,
@@ -100,21 +123,8 @@ pub(crate) fn read_counts(
     reading: &Reading,
     text: &mut String,
 ) -> Result<(), AllocError> {
-    let before = folder.asks();
-    match read_through(
-        alloc,
-        folder,
-        one,
-        two,
-        tables,
-        &reading.from,
-        &reading.upto,
-    ) {
-        Ok((at_head, in_all)) => tell_counts(
-            at_head.saturating_sub(before),
-            in_all.saturating_sub(before),
-            text,
-        ),
+    match counts(alloc, folder, one, two, tables, reading) {
+        Ok((at_head, in_all)) => tell_counts(at_head, in_all, text),
         Err(error) => tell_refusal(&error, text),
     }
 }

@@ -10,9 +10,9 @@ use std::fmt::Write;
 
 // The number that a key is.
 fn number_of(key: &Key) -> i64 {
-    match key.as_slice() {
-        [Comp::Int(number), ..] => *number,
-        _ => i64::MIN,
+    match key.as_slice().first() {
+        Some(Comp::Int(number)) => *number,
+        Some(Comp::Text(_)) | None => i64::MIN,
     }
 }
 
@@ -25,10 +25,23 @@ fn word_of(weight: Weight) -> &'static str {
     }
 }
 
+// A number with its sign.
+fn tell_number(number: i64, text: &mut String) -> Result<(), AllocError> {
+    if number < 0 {
+        text.push('-')?;
+    }
+    let size = number.unsigned_abs();
+    write!(text, "{size}")
+}
+
 // A tombstone, at the end of a line.
 fn tell_tomb(tomb: Option<Tomb>, text: &mut String) -> Result<(), AllocError> {
     match tomb {
-        Some(tomb) => write!(text, "deleted@{}\n", tomb.ts),
+        Some(tomb) => {
+            text.push_str("deleted@")?;
+            tell_number(tomb.ts, text)?;
+            text.push('\n')
+        }
         None => text.push_str("not deleted\n"),
     }
 }
@@ -43,12 +56,18 @@ pub(crate) fn tell_head(head: &Head, text: &mut String) -> Result<(), AllocError
 pub(crate) fn tell_frag(frag: &Frag, text: &mut String) -> Result<(), AllocError> {
     match frag {
         Frag::Row(key, row) => {
-            let (number, ts) = (number_of(key), row.marker.unwrap_or(i64::MIN));
-            write!(text, "row {number}@{ts}\n")
+            text.push_str("row ")?;
+            tell_number(number_of(key), text)?;
+            text.push('@')?;
+            tell_number(row.marker.unwrap_or(i64::MIN), text)?;
+            text.push('\n')
         }
         Frag::Change(from, tomb) => {
-            let (word, number) = (word_of(from.weight), number_of(&from.prefix));
-            write!(text, "from {word} {number}: ")?;
+            text.push_str("from ")?;
+            text.push_str(word_of(from.weight))?;
+            text.push(' ')?;
+            tell_number(number_of(&from.prefix), text)?;
+            text.push_str(": ")?;
             tell_tomb(*tomb, text)
         }
         Frag::Start(_) | Frag::Static(_) | Frag::End => text.push_str(

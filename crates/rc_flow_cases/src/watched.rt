@@ -42,8 +42,8 @@ impl<W> Watched<W> {
     }
 
     /// Forgets them.
-    pub(crate) fn forget(&mut self) {
-        self.asked.clear();
+    pub(crate) fn forget(&mut self, alloc: Global) {
+        self.asked = Vec::new(alloc);
     }
 }
 

@@ -1,5 +1,5 @@
 //! What the words of a line spell. A partition is `KEY:ITEM,ITEM`; an item is `ROW@TS`, the range tombstone `FROM-TO@TS` from before the one row up to
-//! behind the other, or the partition tombstone `all@TS`.
+//! behind the other, `FROM..TO@TS`, which is a range tombstone over each row alone, or the partition tombstone `all@TS`.
 
 use rc_cell::{Cells, Row, Tomb};
 use rc_mutation::{Mutation, Partition};
@@ -41,17 +41,14 @@ fn join_row(alloc: Global, change: &mut Mutation, word: &str, ts: i64) -> Result
     Ok(true)
 }
 
-// Joins a range tombstone; whether the words are the ends of one.
+// Joins a range tombstone from before the one row up to behind the other; whether they are the ends of one.
 fn join_range(
     alloc: Global,
     change: &mut Mutation,
-    first: &str,
-    last: &str,
+    first: i64,
+    last: i64,
     tomb: Tomb,
 ) -> Result<bool, AllocError> {
-    let (Ok(first), Ok(last)) = (first.parse::<i64>(), last.parse::<i64>()) else {
-        return Ok(false);
-    };
     let from = position(alloc, first, Weight::Before)?;
     let to = position(alloc, last, Weight::After)?;
     if from < to {
@@ -59,6 +56,45 @@ fn join_range(
         return Ok(true);
     }
     Ok(false)
+}
+
+// Joins a range tombstone over each of some rows alone.
+fn join_each(
+    alloc: Global,
+    change: &mut Mutation,
+    first: i64,
+    last: i64,
+    tomb: Tomb,
+) -> Result<bool, AllocError> {
+    for number in first..=last {
+        if !join_range(alloc, change, number, number, tomb)? {
+            return Ok(false);
+        }
+    }
+    Ok(true)
+}
+
+// The numbers of two words.
+fn numbers_of((first, last): (&str, &str)) -> Option<(i64, i64)> {
+    let first = first.parse::<i64>().ok()?;
+    let last = last.parse::<i64>().ok()?;
+    Some((first, last))
+}
+
+// Joins a row, a range tombstone or some; whether the word is a place of such.
+fn join_place(
+    alloc: Global,
+    change: &mut Mutation,
+    place: &str,
+    tomb: Tomb,
+) -> Result<bool, AllocError> {
+    if let Some((first, last)) = place.split_once("..").and_then(numbers_of) {
+        return join_each(alloc, change, first, last, tomb);
+    }
+    match place.split_once('-').and_then(numbers_of) {
+        Some((first, last)) => join_range(alloc, change, first, last, tomb),
+        None => join_row(alloc, change, place, tomb.ts),
+    }
 }
 
 // Joins an item; whether the word is one.
@@ -74,10 +110,7 @@ fn join_item(alloc: Global, change: &mut Mutation, item: &str) -> Result<bool, A
         change.pt = Some(tomb);
         return Ok(true);
     }
-    match place.split_once('-') {
-        Some((first, last)) => join_range(alloc, change, first, last, tomb),
-        None => join_row(alloc, change, place, ts),
-    }
+    join_place(alloc, change, place, tomb)
 }
 
 /// What the items between commas say; none where one is no item.

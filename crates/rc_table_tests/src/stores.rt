@@ -1,8 +1,8 @@
-// What no clause says of stores: that a call can succeed, which names the folder's tables have, and what the host does.
+// What no clause says of the folder: that a call can succeed, which names its tables have, and what the host does.
 ghost use Rattle.std.specs.Prelude.{◌≡◌, None};
-ghost use Rattle.rc_outside.specs.Files.{IsNoFile, LiesInFile};
+ghost use Rattle.rc_outside.specs.Files.{IsNoFile};
 
-use super::{Failed, FolderStore, MemStore, Store, StoreCall, StoreErr, SureStore};
+use rc_outside::{FolderStore, Store, StoreErr};
 use std::alloc::{AllocError, Allocator, Global};
 use std::fmt::Write;
 use std::fs::{self, File, Metadata, OpenOptions};
@@ -16,14 +16,6 @@ fn said<T: Drop>(answer: Result<T, StoreErr>) -> u8 {
         Ok(_) => b'k',
         Err(StoreErr::Fault) => b'!',
         Err(StoreErr::NoMemory) => b'm',
-    }
-}
-
-// `k` for Ok, `!` for a fault.
-fn told<T: Drop>(answer: Result<T, Failed>) -> u8 {
-    match answer {
-        Ok(_) => b'k',
-        Err(Failed) => b'!',
     }
 }
 
@@ -49,81 +41,6 @@ fn build<S: Store>(store: &mut S, alloc: Global, n: u32, pieces: [&[u8]; 2]) -> 
     said(store.finish(alloc))
 }
 
-// What the call says on a store that has file 1, in which nothing is being built and that has no file `n`: `-` where
-// it has not, or another call was refused before.
-fn attempt(store: &mut MemStore, alloc: Global, call: StoreCall, n: u32) -> u8
-    requires { store.old.building ≡ None }
-    ensures { store.new.building ≡ None }
-{
-    if store.file(1).is_none() || store.file(n).is_some() {
-        return b'-';
-    }
-    match call {
-        StoreCall::Numbers => said(store.numbers(alloc)),
-        StoreCall::Size => told(store.size(1)),
-        StoreCall::ReadAt => told(store.read_at(1, 0, &mut [])),
-        StoreCall::Begin => {
-            let answer = said(store.begin(alloc, n));
-            store.abandon();
-            answer
-        }
-        StoreCall::Append => {
-            if store.begin(alloc, n).is_err() {
-                return b'-';
-            }
-            let answer = said(store.append(alloc, b"a"));
-            store.abandon();
-            answer
-        }
-        StoreCall::Finish => build(store, alloc, n, [b"a", b"b"]),
-    }
-}
-
-#[test]
-fn a_listed_call_fails_once(rt: HostRuntime) -> Result<(), Fail> {
-    let alloc = rt.alloc();
-    let kinds = [
-        StoreCall::Numbers,
-        StoreCall::Size,
-        StoreCall::ReadAt,
-        StoreCall::Begin,
-        StoreCall::Append,
-        StoreCall::Finish,
-    ];
-    let rows = [(0, b"kkk"), (1, b"!kk"), (2, b"k!k"), (4, b"kkk")];
-    for kind in kinds {
-        for (nth, want) in rows {
-            let mut store = MemStore::new(alloc)?;
-            store.put_file(1, b"one".to_vec(alloc)?)?;
-            store.fail_nth(kind, nth)?;
-            let said = [
-                attempt(&mut store, alloc, kind, 2),
-                attempt(&mut store, alloc, kind, 3),
-                attempt(&mut store, alloc, kind, 4),
-            ];
-            assert_eq!(rt; said.as_slice(), want.as_slice(), "{kind:?} at {nth}");
-        }
-    }
-    Ok(())
-}
-
-#[test]
-fn a_sure_store_keeps_files(rt: HostRuntime) -> Result<(), Fail> {
-    let alloc = rt.alloc();
-    let mut store = SureStore::new(alloc)?;
-    store.put_file(7, b"old".to_vec(alloc)?)?;
-    store.put_file(7, b"seven".to_vec(alloc)?)?;
-    if store.file(3).is_none() {
-        assert_eq!(rt; build(&mut store, alloc, 3, [b"ab", b"cde"]), b'k');
-    }
-    assert_eq!(rt; said(store.numbers(alloc)), b'k');
-    assert!(rt; store.file(3) == Some(b"abcde".as_slice()));
-    assert!(rt; store.file(7) == Some(b"seven".as_slice()));
-    assert!(rt; store.file(4).is_none());
-    assert_eq!(rt; store.asks(), 0);
-    Ok(())
-}
-
 // What `numbers` gives: each number and a comma; `!` where it is refused.
 fn listing<S: Store>(store: &mut S, alloc: Global) -> Result<String, AllocError>
     ensures { S.building store.new ≡ S.building store.old }
@@ -140,16 +57,20 @@ fn listing<S: Store>(store: &mut S, alloc: Global) -> Result<String, AllocError>
     Ok(text)
 }
 
-// The three bytes of file `n` from the offset on; `!!!` for a fault.
-fn range<S: Store>(store: &mut S, n: u32, off: u64) -> [u8; 3]
-    requires { LiesInFile (S.files store.old) n off 3 }
-    ensures { S.building store.new ≡ S.building store.old }
-{
+// Tells the three bytes of file `n` from the offset on, or `!` for a fault; and then a bar.
+fn tell_range(
+    store: &mut FolderStore<'_, HostRuntime>,
+    n: u32,
+    off: u64,
+    text: &mut Vec<u8>,
+) -> Result<(), AllocError> {
     let mut bytes = [0; 3];
     match store.read_at(n, off, &mut bytes) {
-        Ok(()) => bytes,
-        Err(Failed) => *b"!!!",
+        Ok(()) => text.extend_from_slice(&bytes)?,
+        Err(_) => text.push(b'!')?,
     }
+    text.push(b'|')?;
+    Ok(())
 }
 
 // Takes away what an earlier test left at `tables`, where a folder store keeps its files.
@@ -158,27 +79,14 @@ fn clear(rt: &HostRuntime) {
     let _file = fs::remove_file(rt, "tables");
 }
 
-// Writes files whose names are those of no tables.
+// Files with the names of no tables, with bars between them.
+const OTHERS: &str =
+    "tables/0.tbl|tables/01.tbl|tables/+1.tbl|tables/-1.tbl|tables/4294967296.tbl|tables/1.tbl.tbl|tables/.tbl|tables/a.tbl|tables/ 1.tbl|tables/1.tmp|tables/1|tables/1.TBL|tables/1.tbl |tables/tbl";
+
+// Writes these files.
 fn write_others(rt: &HostRuntime) -> io::Result<()> {
-    let names = [
-        "0.tbl",
-        "01.tbl",
-        "+1.tbl",
-        "-1.tbl",
-        "4294967296.tbl",
-        "1.tbl.tbl",
-        ".tbl",
-        "a.tbl",
-        " 1.tbl",
-        "1.tmp",
-        "1",
-        "1.TBL",
-        "1.tbl ",
-        "tbl",
-    ];
-    for name in names {
-        let path = format!(in rt.alloc(); "tables/{name}")?;
-        fs::write(rt, path.as_str(), b"other")?;
+    for path in OTHERS.split('|') {
+        fs::write(rt, path, b"other")?;
     }
     Ok(())
 }
@@ -223,19 +131,18 @@ fn a_table_that_is_cut_is_a_fault(rt: HostRuntime) -> Result<(), Fail> {
     clear(&rt);
     let mut store = FolderStore::new(&rt);
     assert_eq!(rt; build(&mut store, alloc, 1, [b"ab", b"cde"]), b'k');
-    let whole = (store.size(1).ok(), range(&mut store, 1, 2));
+    assert_eq!(rt; store.size(1).ok(), Some(5));
+    let mut told = Vec::new(alloc);
+    tell_range(&mut store, 1, 2, &mut told)?;
     File::options()
         .write(true)
         .open(&rt, "tables/1.tbl")?
         .set_len(4)?;
-    let cut = [
-        range(&mut store, 1, 2),
-        range(&mut store, 1, 1),
-        range(&mut store, 2, 0),
-    ];
-    assert_eq!(rt; whole, (Some(5), *b"cde"));
-    assert_eq!(rt; cut, [*b"!!!", *b"bcd", *b"!!!"]);
-    assert_eq!(rt; (told(store.size(2)), store.asks()), (b'!', 4));
+    tell_range(&mut store, 1, 2, &mut told)?;
+    tell_range(&mut store, 1, 1, &mut told)?;
+    tell_range(&mut store, 2, 0, &mut told)?;
+    assert_eq!(rt; told.as_slice(), b"cde|!|bcd|!|".as_slice());
+    assert_eq!(rt; (store.size(2).ok(), store.asks()), (None, 4));
     Ok(())
 }
 
