@@ -1,5 +1,5 @@
 -- What each call of a store leaves, from what its parts left.
-use Rattle.std.proofs.Common.{◌≡◌, ◌≢◌, ℕ, ◌+◌, ◌-◌, ◌*◌, ◌/◌, ◌^◌, ◌<◌, ◌≤◌, List, [], ◌∷◌, ◌++◌, length, take, drop, replicate, get_or, cond, Bool, true, false, Option, Some, None, refl, sym, ap, ◌∙◌, subst, arith, length-append, length-take, length-drop}
+use Rattle.std.proofs.Common.{◌≡◌, ℕ, ◌+◌, ◌-◌, ◌*◌, ◌/◌, ◌<◌, ◌≤◌, List, [], ◌∷◌, ◌++◌, length, take, drop, replicate, get_or, cond, Bool, true, false, Option, Some, None, refl, sym, ap, ◌∙◌, subst, arith, length-append, length-take, length-drop}
 use Rattle.std.specs.Prelude.{is_some, IsSome, IsSomeAnd}
 use Rattle.std.proofs.Math.ListN.{set}
 use Rattle.std.proofs.lemmas.List.{length-replicate, length-set, get_or-set_other}
@@ -16,12 +16,11 @@ use Rattle.lsa_pool.specs.Room.{nothing, usage_of, free_count, live_sum, active_
 use Rattle.lsa_pool.specs.Account.{IsSound}
 use Rattle.lsa_pool.specs.laws.Usages.{closed-inside}
 use Rattle.lsa_yard.specs.Cells.{Cell, up8, size_of, extent, cell_at, links_size, fresh, with_link, with_bytes, gap_of, IsChanged}
-use Rattle.lsa_yard.specs.Spelled.{IsProper}
 use Rattle.lsa_store.specs.declared.place.Ref.{Ref}
 use Rattle.lsa_store.specs.Objects.{cells_of, cell_in, body_in, rounded_size, live_size, one_if_live, live_in, live_count, object_count, IsChangedIn, IsPutIn}
 use Rattle.lsa_store.specs.Stock.{IsGivenBack}
 use Rattle.lsa_store.specs.Stored.{Stored, IsStored, IsFitting}
-use Rattle.lsa_store.specs.laws.Places.{and_there, there_and, standing, changed-sum, changed-total, put-total}
+use Rattle.lsa_store.specs.laws.Places.{there_and, standing, changed-sum, changed-total, put-total}
 use Rattle.lsa_store.specs.laws.Words.{IsObjectIn, object, fresh-size}
 use Rattle.lsa_store.specs.laws.Written.{object-and, and-object, fitting-at, lie-size}
 use Rattle.lsa_store.specs.laws.Books.{active_inside, room-is, used-debit, room-same, closed-apart}

@@ -1,26 +1,23 @@
 -- What every store keeps, after each change.
-use Rattle.std.proofs.Common.{◌≡◌, ◌≢◌, ℕ, zero, suc, ◌+◌, ◌-◌, ◌*◌, ◌/◌, ◌%◌, ◌^◌, ◌<◌, ◌≤◌, Bool, true, false, inl, inr, List, [], ◌∷◌, ◌++◌, length, drop, replicate, get_or, cond, Option, Some, None, refl, sym, ap, ◌∙◌, subst, arith}
-use Rattle.std.specs.Prelude.{sum_by, is_some, All, IsSome, IsSomeAnd}
+use Rattle.std.proofs.Common.{◌≡◌, ◌≢◌, ℕ, zero, suc, ◌+◌, ◌-◌, ◌*◌, ◌%◌, ◌^◌, ◌<◌, ◌≤◌, List, [], ◌∷◌, ◌++◌, length, replicate, get_or, Some, refl, sym, ap, ◌∙◌, subst, arith}
+use Rattle.std.specs.Prelude.{is_some, All, IsSome}
 use Rattle.std.proofs.Math.ListN.{set}
 use Rattle.std.proofs.lemmas.List.{length-set, length-replicate, get_or_read, get_or-set_same, get_or-set_other}
-use Rattle.std.proofs.lemmas.List.Sums.{sum_by-cons, sum_by_push}
+use Rattle.std.proofs.lemmas.List.Sums.{sum_by-cons}
 use Rattle.std.proofs.lemmas.List.Folds.{sum_by-replicate}
-use Rattle.std.proofs.lemmas.List.Elements.{All-nil, All-cons, All-head, All-tail, All-push, All-get_or}
-use Rattle.lsa_kinds.specs.declared.kind.Kind.{Kind}
-use Rattle.lsa_kinds.specs.Kinds.{links_of}
+use Rattle.std.proofs.lemmas.List.Elements.{All-nil, All-cons, All-head, All-tail, All-push}
 use Rattle.lsa_pool.specs.declared.Usage.{Usage}
 use Rattle.lsa_pool.specs.declared.State.TheVariants.{Active}
-use Rattle.lsa_pool.specs.Room.{nothing, usage_of, live_sum, active_of, active_room}
+use Rattle.lsa_pool.specs.Room.{nothing, usage_of, active_of}
 use Rattle.lsa_pool.specs.Account.{IsSound}
 use Rattle.lsa_pool.specs.laws.Usages.{set_elim}
-use Rattle.lsa_yard.specs.Cells.{Cell, size_of, extent, cell_at, body_at, body_of, fresh, IsReplaced}
-use Rattle.lsa_yard.specs.Spelled.{IsProper}
-use Rattle.lsa_yard.specs.laws.Reading.{size-least, extent-append}
-use Rattle.lsa_yard.specs.laws.Changes.{replaced-sums, replaced-extent, split}
+use Rattle.lsa_yard.specs.Cells.{Cell, size_of, extent, IsReplaced}
+use Rattle.lsa_yard.specs.laws.Changes.{replaced-sums}
 use Rattle.lsa_store.specs.declared.place.Ref.{Ref}
-use Rattle.lsa_store.specs.Objects.{cells_of, cell_in, live_size, one_if_live, live_in, live_count, object_count, IsChangedIn, IsPutIn}
+use Rattle.lsa_store.specs.Objects.{cells_of, cell_in, live_size, live_in, live_count, object_count, IsChangedIn, IsPutIn}
 use Rattle.lsa_store.specs.Stored.{Stored, IsStored, IsFitting}
-use Rattle.lsa_store.specs.laws.Places.{changed-is, changed-each, changed-elsewhere, changed-extent, changed-sum, put-each, put-elsewhere, put-extent, put-sum, standing}
+use Rattle.lsa_store.specs.laws.Sums.{count-within}
+use Rattle.lsa_store.specs.laws.Places.{changed-is, changed-each, changed-elsewhere, changed-extent, changed-sum, put-each, put-elsewhere, put-extent, put-sum}
 
 -- ---- what a list of yards shows
 
@@ -29,17 +26,9 @@ yard-is cells n y lt e = get_or_read cells n y lt e []
 
 -- ---- how many objects there are
 
-most_live : (cells : List Cell) → live_count cells ≤ extent cells
-most_live [] = omega arith
-most_live (c ∷ cells) = omega (arith, sum_by-cons one_if_live c cells, most_live cells, size-least c, most_one (is_some c.kind))
-  where
-    most_one : (b : Bool) → cond b 1 0 ≤ 1
-    most_one true = omega arith
-    most_one false = omega arith
-
 few_in : (cells : List (List Cell)) → ((n : ℕ) → extent (cells_of cells n) ≤ 2 ^ 27) → object_count cells ≤ length cells * 2 ^ 27
 few_in [] within = omega arith
-few_in (x ∷ cells) within = omega (arith, sum_by-cons live_count x cells, most_live x, within 0, few_in cells (λ n. within (suc n)))
+few_in (x ∷ cells) within = omega (arith, sum_by-cons live_count x cells, count-within x, within 0, few_in cells (λ n. within (suc n)))
 
 -- there are never so many objects that their number does not fit
 pub few-objects : (size : ℕ) (s : Stored) → IsStored size s → object_count s.cells ≤ 2 ^ 39

@@ -1,6 +1,6 @@
 -- What stands in segments, by segment and offset.
-use Rattle.std.specs.Prelude.{◌≡◌, ℕ, ◌+◌, ◌*◌, ◌<◌, cond, nat_lt, List, [], ◌∷◌, ◌++◌, length, slice_index_or, slice_set, count_by, sum_by, Option, Some, None, is_some}
-use Rattle.std.specs.Option.{option_map, option_map_or}
+use Rattle.std.specs.Prelude.{◌≡◌, ℕ, ◌+◌, ◌*◌, ◌<◌, cond, nat_lt, List, [], ◌∷◌, ◌++◌, length, slice_index_or, slice_set, sum_by, Option, Some, None, is_some}
+use Rattle.std.specs.Option.{option_map_or}
 use Rattle.lsa_kinds.specs.declared.kind.Kind.{Kind}
 use Rattle.lsa_kinds.specs.Kinds.{links_of}
 use Rattle.lsa_yard.specs.Cells.{Cell, up8, size_of, extent, cell_at, body_at, link_in, IsChanged}

@@ -1,7 +1,6 @@
 -- Where cells stand, and what a change of one of them, or one more, leaves of the others.
-use Rattle.std.proofs.Common.{◌≡◌, ◌≢◌, ℕ, zero, suc, ◌+◌, ◌<◌, ◌≤◌, ◌⊎◌, inl, inr, List, [], ◌∷◌, ◌++◌, length, get_or, Option, Some, None, refl, sym, ap, subst, ◌∙◌, arith}
+use Rattle.std.proofs.Common.{◌≡◌, ◌≢◌, ℕ, zero, suc, ◌+◌, ◌<◌, ◌⊎◌, inl, inr, List, [], ◌∷◌, ◌++◌, length, Option, Some, None, refl, sym, ap, subst, ◌∙◌, arith}
 use Rattle.std.specs.Prelude.{sum_by, IsSomeAnd}
-use Rattle.std.proofs.Math.ListN.{set}
 use Rattle.std.proofs.lemmas.List.{get_or-set_same, get_or-set_other}
 use Rattle.std.proofs.lemmas.List.Sums.{sum_by-set, sum_by_push}
 use Rattle.lsa_pool.specs.laws.Usages.{decided, set_elim}
@@ -13,15 +12,15 @@ use Rattle.lsa_store.specs.Objects.{cells_of, cell_in, IsChangedIn, IsPutIn}
 
 -- ---- places
 
-pub same_ref : (r q : Ref) → r.segment ≡ q.segment → r.offset ≡ q.offset → r ≡ q
-same_ref r q e f = ap (λ (n : ℕ). record { segment = n; offset = r.offset }) e ∙ ap (λ (n : ℕ). record { segment = q.segment; offset = n }) f
+pub ref-equal : (r q : Ref) → r.segment ≡ q.segment → r.offset ≡ q.offset → r ≡ q
+ref-equal r q e f = ap (λ (n : ℕ). record { segment = n; offset = r.offset }) e ∙ ap (λ (n : ℕ). record { segment = q.segment; offset = n }) f
 
 -- two places are one, or lie in two segments, or at two offsets of one
 pub apart_refs : (q r : Ref) → (q ≡ r) ⊎ ((q.segment ≢ r.segment) ⊎ ((q.segment ≡ r.segment) × (q.offset ≢ r.offset)))
 apart_refs q r = elim (decided q.segment r.segment) [
   | inr ne ↦ inr (inl ne)
   | inl e ↦ elim (decided q.offset r.offset) [
-    | inl f ↦ inl (same_ref q r e f)
+    | inl f ↦ inl (ref-equal q r e f)
     | inr ne ↦ inr (inr (e, ne))
   ]
 ]

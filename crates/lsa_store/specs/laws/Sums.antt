@@ -1,17 +1,17 @@
 -- Sums over the objects of a list of places, each once.
-use Rattle.std.proofs.Common.{◌≡◌, ◌≢◌, ℕ, zero, suc, ◌+◌, ◌-◌, ◌<◌, ◌≤◌, inl, inr, List, [], ◌∷◌, ◌++◌, length, get_or, Option, Some, None, refl, sym, ap, ◌∙◌, subst, arith}
+use Rattle.std.proofs.Common.{◌≡◌, ◌≢◌, ℕ, zero, suc, ◌+◌, ◌-◌, ◌<◌, ◌≤◌, inl, inr, Bool, true, false, cond, List, [], ◌∷◌, ◌++◌, length, get_or, Option, Some, None, refl, sym, ap, ◌∙◌, subst, arith}
 use Rattle.std.specs.Prelude.{◌*◌, sum_by, is_some, drop, IsSome, Contains, AllPairs}
 use Rattle.std.specs.Option.{option_map, option_map_or, option_and_then}
 use Rattle.std.proofs.Math.ListN.{set}
-use Rattle.std.proofs.lemmas.List.Sums.{sum_by-cons}
+use Rattle.std.proofs.lemmas.List.Sums.{sum_by-cons, sum_by-append}
 use Rattle.lsa_pool.specs.laws.Usages.{decided}
 use Rattle.lsa_kinds.specs.declared.kind.Kind.{Kind}
 use Rattle.lsa_kinds.specs.Kinds.{links_of}
-use Rattle.lsa_yard.specs.Cells.{Cell, size_of, cell_at, body_of, gap_of}
+use Rattle.lsa_yard.specs.Cells.{Cell, size_of, extent, cell_at, body_of, gap_of}
 use Rattle.lsa_yard.specs.laws.Reading.{size-least}
 use Rattle.lsa_yard.specs.laws.Changes.{split, at-behind}
 use Rattle.lsa_store.specs.declared.place.Ref.{Ref}
-use Rattle.lsa_store.specs.Objects.{cells_of, cell_in, body_in, IsChangedIn}
+use Rattle.lsa_store.specs.Objects.{cells_of, cell_in, body_in, one_if_live, live_count, IsChangedIn}
 use Rattle.lsa_store.specs.laws.Places.{changed-here, changed-others, changed-total, and_there}
 
 -- two lists of as many elements, each of which counts as much as the other's
@@ -21,6 +21,20 @@ sums-same f g d e [] (y ∷ ys) long same = absurd (omega (arith, long))
 sums-same f g d e (x ∷ xs) [] long same = absurd (omega (arith, long))
 sums-same f g d e (x ∷ xs) (y ∷ ys) long same =
     omega (arith, sum_by-cons f x xs, sum_by-cons g y ys, same 0, sums-same f g d e xs ys (omega (arith, long)) (λ n. same (suc n)))
+
+-- no more objects are among cells than the cells take bytes
+pub count-within : (cells : List Cell) → live_count cells ≤ extent cells
+count-within [] = omega arith
+count-within (c ∷ cells) = omega (arith, sum_by-cons one_if_live c cells, count-within cells, size-least c, most_one (is_some c.kind))
+  where
+    most_one : (b : Bool) → cond b 1 0 ≤ 1
+    most_one true = omega arith
+    most_one false = omega arith
+
+-- a cell counts no more than all of them
+pub part-of-sum : (g : Cell → ℕ) (cells : List Cell) (offset : ℕ) (c : Cell) → cell_at cells offset ≡ Some c → g c ≤ sum_by g cells
+part-of-sum g cells offset c e =
+    let s = split cells offset c e in omega (arith, ap (sum_by g) s.is, sum_by-append g s.before (c ∷ s.behind), sum_by-cons g c s.behind)
 
 -- an object becomes a gap
 freed : (cells : List (List Cell)) (r : Ref) (c : Cell) → cell_in cells r ≡ Some c → (new : List (List Cell)) × IsChangedIn cells new r gap_of
@@ -105,20 +119,20 @@ module _ (weight : Cell → ℕ) (gap : (c : Cell) → c.kind ≡ None → weigh
   weigh-most refs cells once = let left = left_of refs cells once in omega (arith, left.1.total)
 
   -- where nothing that begins weighs anything, all weighs nothing
-  none_in : (cells : List Cell) → ((offset : ℕ) → option_map_or weight (cell_at cells offset) 0 ≡ 0) → sum_by weight cells ≡ 0
-  none_in [] none = refl
-  none_in (c ∷ cells) none =
-      let rest = none_in cells (λ offset.
+  pub none-in : (cells : List Cell) → ((offset : ℕ) → option_map_or weight (cell_at cells offset) 0 ≡ 0) → sum_by weight cells ≡ 0
+  none-in [] none = refl
+  none-in (c ∷ cells) none =
+      let rest = none-in cells (λ offset.
       let back : size_of c + offset - size_of c ≡ offset = omega arith in
       ap (λ o. option_map_or weight o 0) (ap (cell_at cells) (sym back) ∙ sym (at-behind c cells (size_of c + offset) (omega arith))) ∙ none (size_of c + offset)) in
       omega (arith, sum_by-cons weight c cells, none 0, rest)
 
   none_weighs : (cells : List (List Cell)) → ((n offset : ℕ) → option_map_or weight (cell_at (cells_of cells n) offset) 0 ≡ 0) → sum_by (sum_by weight) cells ≡ 0
   none_weighs [] none = refl
-  none_weighs (x ∷ cells) none = omega (arith, sum_by-cons (sum_by weight) x cells, none_in x (none 0), none_weighs cells (λ n. none (suc n)))
+  none_weighs (x ∷ cells) none = omega (arith, sum_by-cons (sum_by weight) x cells, none-in x (none 0), none_weighs cells (λ n. none (suc n)))
 
   -- what weighs anything is an object
-  weighs-object : (cells : List (List Cell)) (q : Ref) → weight_at cells q ≢ 0 → IsSome (body_in cells q)
+  pub weighs-object : (cells : List (List Cell)) (q : Ref) → weight_at cells q ≢ 0 → IsSome (body_in cells q)
   weighs-object cells q ne = at (cell_in cells q) ne
     where
       of : (c : Cell) (k : Option Kind) → c.kind ≡ k → weight c ≢ 0 → IsSome (body_of c)

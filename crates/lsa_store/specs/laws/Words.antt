@@ -1,15 +1,14 @@
 -- The numbers in links and the bytes behind them, after each change of a cell.
-use Rattle.std.proofs.Common.{◌≡◌, ◌≢◌, ℕ, ◌+◌, ◌*◌, ◌^◌, ◌<◌, ◌≤◌, inl, inr, List, ◌++◌, length, drop, replicate, cond, Option, Some, None, refl, sym, ap, subst, ◌∙◌, arith, length-append, length-drop}
-use Rattle.std.specs.Prelude.{nat_lt, IsSome, IsSomeAnd}
+use Rattle.std.proofs.Common.{◌≡◌, ◌≢◌, ℕ, ◌+◌, ◌*◌, ◌^◌, ◌<◌, ◌≤◌, inl, inr, List, length, drop, replicate, cond, Option, Some, None, refl, sym, ap, subst, ◌∙◌, arith, length-append, length-drop}
+use Rattle.std.specs.Prelude.{IsSome, IsSomeAnd}
 use Rattle.std.specs.Option.{option_map, option_and_then, option_map_or}
 use Rattle.std.proofs.lemmas.Bool.{lt-ltb, le-ltb, cases_lt}
 use Rattle.std.proofs.lemmas.List.{length-replicate}
 use Rattle.lsa_kinds.specs.declared.kind.Kind.{Kind}
 use Rattle.lsa_kinds.specs.Kinds.{links_of}
-use Rattle.lsa_segment.specs.Bytes.{overwritten}
 use Rattle.lsa_yard.specs.Cells.{Cell, up8, size_of, links_size, body_of, link_in, fresh, with_link, with_bytes, gap_of}
 use Rattle.lsa_yard.specs.Spelled.{IsProper}
-use Rattle.lsa_yard.specs.laws.Objects.{body-linked, link-here, link-others, body-written, link-written, body-fresh, link-fresh}
+use Rattle.lsa_yard.specs.laws.Objects.{body-linked, link-here, link-others, link-written, link-fresh}
 use Rattle.lsa_store.specs.declared.place.Ref.{Ref}
 use Rattle.lsa_store.specs.Objects.{cell_in, body_in, word_of, word_in, link_count, rounded_size}
 

@@ -10,13 +10,13 @@ use Rattle.lsa_pool.specs.declared.Usage.{Usage}
 use Rattle.lsa_pool.specs.Room.{nothing, usage_of, live_sum}
 use Rattle.lsa_pool.specs.laws.Usages.{decided}
 use Rattle.lsa_segment.specs.Bytes.{overwritten}
-use Rattle.lsa_yard.specs.Cells.{Cell, size_of, extent, cell_at, body_of, fresh, with_link, with_bytes, gap_of}
+use Rattle.lsa_yard.specs.Cells.{Cell, size_of, cell_at, body_of, fresh, with_link, with_bytes, gap_of}
 use Rattle.lsa_yard.specs.laws.Changes.{split, at-within, at-apart, at-even}
 use Rattle.lsa_yard.specs.laws.Objects.{body-fresh, body-written}
 use Rattle.lsa_store.specs.declared.place.Ref.{Ref}
 use Rattle.lsa_store.specs.Objects.{cells_of, cell_in, body_in, word_in, one_if_live, live_in, object_count, rounded_size, IsChangedIn, IsPutIn}
 use Rattle.lsa_store.specs.Stored.{Stored, IsStored, IsFitting}
-use Rattle.lsa_store.specs.laws.Places.{same_ref, apart_refs, and_there, there_and, changed-here, changed-others, changed-total, put-fresh, put-here, put-others, put-total}
+use Rattle.lsa_store.specs.laws.Places.{ref-equal, apart_refs, and_there, there_and, changed-here, changed-others, changed-total, put-fresh, put-here, put-others, put-total}
 use Rattle.lsa_store.specs.laws.Words.{IsObjectIn, object, word-there, word-none, word-same, body-there, body-same, word-gap, word-fresh, word-set, word-set-others, body-set, object-size, word-written}
 use Rattle.lsa_store.specs.laws.Sums.{sums-same}
 
@@ -174,7 +174,7 @@ module _ (size : ℕ) (s : Stored) (stored : IsStored size s) where
       elim (cases_lt r.offset q.offset) [
         | inl lt ↦ inl (at-apart cells r.offset q.offset c d e there lt)
         | inr le ↦ elim (decided r.offset q.offset) [
-          | inl at ↦ absurd (ne (same_ref r q same at))
+          | inl at ↦ absurd (ne (ref-equal r q same at))
           | inr other ↦ inr (at-apart cells q.offset r.offset d c there e (omega (arith, le, other)))
         ]
       ]

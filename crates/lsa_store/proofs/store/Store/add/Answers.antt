@@ -1,4 +1,4 @@
-use Rattle.std.proofs.Common.{◌≤◌, ◌/◌, length, subst, arith}
+use Rattle.std.proofs.Common.{subst, arith}
 use Rattle.lsa_store.specs.Stock.{IsTaken}
 use Rattle.lsa_store.specs.laws.Books.{taken}
 use Rattle.lsa_store.proofs.store.Store.add.Goals as goal

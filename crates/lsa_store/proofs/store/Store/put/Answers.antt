@@ -1,6 +1,5 @@
 use Rattle.std.proofs.Common.{◌+◌, ◌++◌, ◌∷◌, [], ap, ◌∙◌, arith}
 use Rattle.lsa_yard.specs.Cells.{fresh}
-use Rattle.lsa_store.specs.Stored.{Stored}
 use Rattle.lsa_store.specs.laws.Books.{active_inside}
 use Rattle.lsa_store.proofs.Stores.{yard-is, few-objects}
 use Rattle.lsa_store.proofs.Calls.{put-store, put-count}

@@ -1,9 +1,6 @@
-use Rattle.std.proofs.Common.{◌≡◌, ap, sym, ◌∙◌, arith, subst}
-use Rattle.std.specs.Prelude.{is_some}
-use Rattle.std.proofs.Math.ListN.{set}
-use Rattle.lsa_pool.specs.declared.State.TheVariants.{Closed}
-use Rattle.lsa_pool.specs.Room.{usage_of, active_room}
-use Rattle.lsa_store.specs.Stored.{Stored, IsStored}
+use Rattle.std.proofs.Common.{ap, ◌∙◌}
+use Rattle.lsa_pool.specs.Room.{active_room}
+use Rattle.lsa_store.specs.Stored.{Stored}
 use Rattle.lsa_store.proofs.Calls.{released-store, released-room}
 use Rattle.lsa_store.proofs.store.Store.release.Goals as goal
 
