@@ -822,14 +822,12 @@ mod tests {
         region.add_root(alloc)
     }
 
-    // 10,000 calls of the region and of the plain map.
-    #[test]
-    fn walk_of_ten_thousand_calls(rt: HostRuntime) -> Result<(), Fail> {
-        let mut region = Region::<4096>::open(rt.alloc(), 4)?;
+    // 10,000 calls of the region and of the plain map; whether they agreed, and many objects were moved.
+    fn walk(region: &mut Region<4096>, alloc: Global) -> Result<bool, AllocError> {
         let mut plain = Plain {
-            slots: slots(&mut region, rt.alloc(), 100)?,
-            objects: Vec::from_elem(rt.alloc(), None, 100)?,
-            mates: Vec::from_elem(rt.alloc(), None, 400)?,
+            slots: slots(region, alloc, 100)?,
+            objects: Vec::from_elem(alloc, None, 100)?,
+            mates: Vec::from_elem(alloc, None, 400)?,
         };
         let mut state: u64 = 1;
         for call in 0..10_000 {
@@ -837,21 +835,28 @@ mod tests {
                 .wrapping_mul(6_364_136_223_846_793_005)
                 .wrapping_add(1_442_695_040_888_963_407);
             let dice = (state >> 33) as usize;
-            assert!(rt;
-                step(
-                    &mut region,
-                    &mut plain,
-                    dice % 8,
-                    dice / 8 % 400,
-                    dice / 4000 % 400
-                ),
-                "at {call}"
-            );
-            if call % 50 == 0 {
-                assert!(rt; agrees(&region, &plain), "at {call}");
+            let (what, first, second) = (dice % 8, dice / 8 % 400, dice / 4000 % 400);
+            if !step(region, &mut plain, what, first, second) {
+                return Ok(false);
+            }
+            if call % 50 == 0 && !agrees(region, &plain) {
+                return Ok(false);
             }
         }
-        assert!(rt; region.compacted() > 20 && region.moved() > 1000);
+        Ok(agrees(region, &plain) && region.compacted() > 20 && region.moved() > 1000)
+    }
+
+    #[test]
+    fn walk_of_ten_thousand_calls(rt: HostRuntime) -> Result<(), Fail> {
+        let mut region = Region::<4096>::open(rt.alloc(), 4)?;
+        assert!(rt; walk(&mut region, rt.alloc())?);
+        Ok(())
+    }
+
+    #[test]
+    fn walk_over_sixty_four_segments(rt: HostRuntime) -> Result<(), Fail> {
+        let mut region = Region::<4096>::open(rt.alloc(), 64)?;
+        assert!(rt; walk(&mut region, rt.alloc())?);
         Ok(())
     }
 }
