@@ -6,7 +6,11 @@ use Rattle.std.proofs.lemmas.List.{length-set, get_or-set_other}
 use Rattle.std.proofs.lemmas.List.Sums.{sum_by-set, sum_by-cons, count_by-le-length}
 use Rattle.lsa_pool.specs.laws.Usages.{set_elim}
 use Rattle.lsa_region.specs.Layout.{IsVacancy}
-use Rattle.lsa_region.proofs.Sets.{there}
+
+pub there : {X : Type 0} (xs : List (Option X)) (n : ℕ) (x : X) → get_or xs n None ≡ Some x → n < length xs
+there [] n x e = cc
+there (y ∷ xs) zero x e = omega arith
+there (y ∷ xs) (suc n) x e = omega (arith, there xs n x e)
 
 pub count-set : {X : Type 0} (xs : List (Option X)) (n : ℕ) (x : Option X) → n < length xs
     → count_by (λ o. is_some o) (set xs n x) + cond (is_some (get_or xs n None)) 1 0 ≡ count_by (λ o. is_some o) xs + cond (is_some x) 1 0

@@ -1,9 +1,14 @@
--- Ends, and what a table of links names.
-use Rattle.std.specs.Prelude.{◌≡◌, ◌≢◌, ℕ, ◌+◌, ◌*◌, ◌<◌, Bool, false, ◌&&◌, nat_eq, max, List, [], ◌∷◌, length, slice_index_or, nat_lt, cond, count_by, is_some, Option, Some, None}
-use Rattle.lsa_region.specs.declared.end.Ref.{Ref}
+-- Ends, and what each of them names.
+use Rattle.std.specs.Prelude.{◌≡◌, ◌≢◌, ℕ, ◌+◌, ◌<◌, Bool, false, ◌&&◌, nat_eq, max, List, [], ◌∷◌, length, slice_index_or, cond, count_by, is_some, Option, Some, None, IsSomeAnd}
+use Rattle.std.specs.Option.{option_map}
+use Rattle.lsa_kinds.specs.Kinds.{links_of}
+use Rattle.lsa_yard.specs.Cells.{Cell, size_of, extent}
+use Rattle.lsa_store.specs.declared.place.Ref.{Ref}
+use Rattle.lsa_store.specs.Objects.{cells_of, cell_in, body_in, word_in, live_count, object_count}
+use Rattle.lsa_region.specs.declared.end.Root.{Root}
 use Rattle.lsa_region.specs.declared.end.End.{End}
 use Rattle.lsa_region.specs.declared.end.End.TheVariants.{Obj, Slot}
-use Rattle.lsa_region.specs.declared.links.Links.{Links}
+use Rattle.lsa_region.specs.Codes.{end_of}
 
 -- what a root slot names; nothing where there is no such slot
 abbrev pub joined : Option (Option End) → Option End
@@ -38,43 +43,43 @@ pub record IsSlotDropped (old new : List (Option (Option End))) (n : ℕ) : Type
   pub there : (slots_in new).there + 1 ≡ (slots_in old).there
   pub bound : (slots_in new).bound ≡ (slots_in old).bound
 
--- what an end names: the links of an object have eight places in the table
-abbrev pub named_in : List (Option End) → List (Option (Option End)) → End → Option End
-named_in table roots (Obj r field) = cond (nat_lt field 8) (slice_index_or table (8 * r.number + field) None) None
-named_in table roots (Slot root) = root_of roots root.number
+-- what an end names: a link of an object tells it by the number that stands in it
+abbrev pub named_in : List (List Cell) → List (Option (Option End)) → End → Option End
+named_in cells roots (Obj r field) = end_of (word_in cells r field)
+named_in cells roots (Slot root) = root_of roots root.number
 
--- the end has a place in the table
-abbrev pub HasPlaceIn : List (Option End) → List (Option (Option End)) → End → Type 0
-HasPlaceIn table roots (Obj r field) = (8 * r.number + field < length table) × (field < 8)
-HasPlaceIn table roots (Slot root) = (named : Option End) × (slice_index_or roots root.number None ≡ Some named)
+-- the end is there: a link of the kind of an object, or a root slot
+abbrev pub IsEndIn : List (List Cell) → List (Option (Option End)) → End → Type 0
+IsEndIn cells roots (Obj r field) = IsSomeAnd (body_in cells r) (λ b. field < links_of b.0)
+IsEndIn cells roots (Slot root) = (named : Option End) × (slice_index_or roots root.number None ≡ Some named)
 
--- the end names this now; every other end names what it did, and the same places are there
-pub record IsSetIn (table : List (Option End)) (roots : List (Option (Option End))) (table' : List (Option End)) (roots' : List (Option (Option End))) (end : End) (named : Option End) : Type 0 where
-  pub here : named_in table' roots' end ≡ named
-  pub others : (other : End) → other ≢ end → named_in table' roots' other ≡ named_in table roots other
-  pub places : (other : End) → HasPlaceIn table roots other → HasPlaceIn table' roots' other
-  pub back : (other : End) → HasPlaceIn table' roots' other → HasPlaceIn table roots other
-  pub long : length table' ≡ length table
+-- the same cells stand at the same places, objects with the same kinds and bytes; their links may be others
+pub record IsSameShape (old new : List (List Cell)) : Type 0 where
+  pub bodies : (r : Ref) → body_in new r ≡ body_in old r
+  pub sizes : (r : Ref) → option_map (λ c. size_of c) (cell_in new r) ≡ option_map (λ c. size_of c) (cell_in old r)
+  pub ends : (n : ℕ) → extent (cells_of new n) ≡ extent (cells_of old n)
+  pub counts : (n : ℕ) → live_count (cells_of new n) ≡ live_count (cells_of old n)
+  pub count : object_count new ≡ object_count old
+
+-- the end names this now; every other end names what it did, and all else is as it was
+pub record IsSetIn (cells : List (List Cell)) (roots : List (Option (Option End))) (cells' : List (List Cell)) (roots' : List (Option (Option End))) (end : End) (named : Option End) : Type 0 where
+  pub here : named_in cells' roots' end ≡ named
+  pub others : (other : End) → other ≢ end → named_in cells' roots' other ≡ named_in cells roots other
+  pub ends : (other : End) → IsEndIn cells roots other → IsEndIn cells' roots' other
+  pub back : (other : End) → IsEndIn cells' roots' other → IsEndIn cells roots other
+  pub shape : IsSameShape cells cells'
   pub slots : slots_in roots' ≡ slots_in roots
 
--- what an end of the table names
-abbrev pub named_by : Links → End → Option End
-named_by l = named_in l.table.items l.roots
-
--- the end has a place in this table
-abbrev pub HasPlace : Links → End → Type 0
-HasPlace l = HasPlaceIn l.table.items l.roots
-
--- an end of the table names this now, and all else is as it was
-abbrev pub IsSet : Links → Links → End → Option End → Type 0
-IsSet old new = IsSetIn old.table.items old.roots new.table.items new.roots
-
 -- ---- other names
+
+-- whether two references are the same
+abbrev pub same_ref : Ref → Ref → Bool
+same_ref r s = nat_eq r.segment s.segment && nat_eq r.offset s.offset
 
 -- the name of a reference in a list of old and new names: that of its first pair, its own where it has none
 abbrev pub named_as : List (Ref × Ref) → Ref → Ref
 named_as [] r = r
-named_as (pair ∷ names) r = cond (nat_eq pair.0.number r.number) pair.1 (named_as names r)
+named_as (pair ∷ names) r = cond (same_ref pair.0 r) pair.1 (named_as names r)
 
 -- an end, with the new name of its object
 abbrev pub end_as : List (Ref × Ref) → End → End
@@ -83,7 +88,7 @@ end_as names (Slot root) = Slot root
 
 -- whether two ends are the same
 abbrev pub same_end : End → End → Bool
-same_end (Obj r field) (Obj s other) = nat_eq r.number s.number && nat_eq field other
+same_end (Obj r field) (Obj s other) = same_ref r s && nat_eq field other
 same_end (Obj r field) (Slot root) = false
 same_end (Slot root) (Obj r field) = false
 same_end (Slot root) (Slot other) = nat_eq root.number other.number
@@ -91,3 +96,12 @@ same_end (Slot root) (Slot other) = nat_eq root.number other.number
 -- a where it was b, b where it was a, and else the same
 abbrev pub swapped : End → End → End → End
 swapped a b e = cond (same_end e a) b (cond (same_end e b) a e)
+
+-- r where it was q, q where it was r, and else the same
+abbrev pub swapped_ref : Ref → Ref → Ref → Ref
+swapped_ref r q x = cond (same_ref x r) q (cond (same_ref x q) r x)
+
+-- an end, with another name of its object
+abbrev pub end_by : (Ref → Ref) → End → End
+end_by there (Obj r field) = Obj (there r) field
+end_by there (Slot root) = Slot root

@@ -1,24 +1,24 @@
 -- The region as its callers see it: what each object is, what each end names, and the numbers.
-use Rattle.std.specs.Prelude.{◌≡◌, ◌≢◌, ℕ, ◌+◌, ◌-◌, ◌*◌, ◌^◌, ◌<◌, ◌≤◌, ◌⊎◌, min, max, List, slice_index_or, length, map, count_by, sum_by, Option, Some, None, is_some, IsSome, IsSomeAnd, Contains, AllPairs}
+use Rattle.std.specs.Prelude.{◌≡◌, ◌≢◌, ℕ, ◌+◌, ◌-◌, ◌*◌, ◌^◌, ◌<◌, ◌≤◌, ◌⊎◌, min, max, List, length, map, sum_by, Option, Some, None, is_some, IsSome, IsSomeAnd, Contains, AllPairs}
 use Rattle.std.specs.Option.{option_map}
 use Rattle.lsa_kinds.specs.declared.kind.Kind.{Kind}
 use Rattle.lsa_kinds.specs.Kinds.{links_of}
 use Rattle.lsa_pool.specs.declared.Usage.{Usage}
-use Rattle.lsa_region.specs.declared.end.Ref.{Ref}
+use Rattle.lsa_pool.specs.declared.State.TheVariants.{Free}
+use Rattle.lsa_pool.specs.Room.{nothing, usage_of, free_count, live_sum}
+use Rattle.lsa_yard.specs.Cells.{Cell}
+use Rattle.lsa_store.specs.declared.place.Ref.{Ref}
+use Rattle.lsa_store.specs.Objects.{cells_of, body_in, live_in, live_count, object_count}
 use Rattle.lsa_region.specs.declared.end.Root.{Root}
 use Rattle.lsa_region.specs.declared.end.End.{End}
 use Rattle.lsa_region.specs.declared.end.End.TheVariants.{Obj, Slot}
-use Rattle.lsa_pool.specs.Room.{nothing, usage_of, free_count, live_sum}
-use Rattle.lsa_pool.specs.declared.State.TheVariants.{Free}
-use Rattle.lsa_region.specs.Ends.{SlotCounts, slots_in, named_in, named_as, end_as}
-use Rattle.lsa_region.specs.Layout.{Spot, extent, lies_in, bytes_in}
+use Rattle.lsa_region.specs.Ends.{SlotCounts, slots_in, named_in, IsEndIn, named_as, end_as}
+use Rattle.lsa_region.specs.Layout.{Spot, extent}
 use Rattle.lsa_region.specs.Paired.{WellPaired}
 
--- the objects by number and where they lie, the links, the root slots, the segments, and the counts
+-- the cells of each segment, which are the objects and their links, the root slots, the segments' books, and the counts
 pub record View : Type 0 where
-  pub bodies : List (Option (Kind × List ℕ))
-  pub spots : List (Option Spot)
-  pub table : List (Option End)
+  pub cells : List (List Cell)
   pub roots : List (Option (Option End))
   pub usages : List Usage
   pub epoch : ℕ
@@ -27,15 +27,15 @@ pub record View : Type 0 where
 
 -- the kind of an object and the bytes that follow its links; None where there is no such object
 abbrev pub body : View → Ref → Option (Kind × List ℕ)
-body v r = slice_index_or v.bodies r.number None
+body v r = body_in v.cells r
 
 -- the segment and the offset at which an object lies; None where there is no such object
 abbrev pub spot_of : View → Ref → Option Spot
-spot_of v r = slice_index_or v.spots r.number None
+spot_of v r = option_map (λ b. record { segment = r.segment; offset = r.offset }) (body v r)
 
 -- how many objects there are
 abbrev pub objects : View → ℕ
-objects v = count_by (λ b. is_some b) v.bodies
+objects v = object_count v.cells
 
 -- how many bytes of objects are live
 abbrev pub live_bytes : View → ℕ
@@ -47,16 +47,15 @@ slots_of v = slots_in v.roots
 
 -- how many objects lie in segment n
 abbrev pub objects_in : View → ℕ → ℕ
-objects_in v n = count_by (lies_in n) v.spots
+objects_in v n = live_count (cells_of v.cells n)
 
 -- what an end names
 abbrev pub link_of : View → End → Option End
-link_of v = named_in v.table v.roots
+link_of v = named_in v.cells v.roots
 
 -- the end is there: a link of the kind of a live object, or a root slot
 abbrev pub IsEnd : View → End → Type 0
-IsEnd v (Obj r field) = IsSomeAnd (body v r) (λ b. field < links_of b.0)
-IsEnd v (Slot s) = (named : Option End) × (slice_index_or v.roots s.number None ≡ Some named)
+IsEnd v = IsEndIn v.cells v.roots
 
 -- ends are paired, and what is named is there
 pub record IsWell (v : View) : Type 0 where
@@ -68,7 +67,7 @@ pub record HasLayout (v : View) : Type 0 where
   pub placed : (r : Ref) → is_some (spot_of v r) ≡ is_some (body v r)
   pub used : (r : Ref) (s : Spot) → spot_of v r ≡ Some s → s.offset + extent (body v r) ≤ (usage_of v.usages s.segment).used
   pub apart : (r q : Ref) (s t : Spot) → spot_of v r ≡ Some s → spot_of v q ≡ Some t → r ≢ q → s.segment ≡ t.segment → (s.offset + extent (body v r) ≤ t.offset) ⊎ (t.offset + extent (body v q) ≤ s.offset)
-  pub live : (n : ℕ) → bytes_in n v.bodies v.spots ≡ (usage_of v.usages n).live
+  pub live : (n : ℕ) → live_in (cells_of v.cells n) ≡ (usage_of v.usages n).live
   pub empty : (n : ℕ) → (usage_of v.usages n).state ≡ Free → (usage_of v.usages n).used ≡ 0
   pub reserve : 0 < free_count v.usages
 
@@ -91,7 +90,6 @@ pub record SameObjects (old new : View) : Type 0 where
 -- what every region keeps
 pub record IsRegion (v : View) : Type 0 where
   pub well : IsWell v
-  pub long : length v.table ≡ 8 * length v.bodies
   pub reserve : 0 < free_count v.usages
 
 -- a new object with its kind and bytes, and the links of its kind, all unset; all else is as it was

@@ -1,7 +1,6 @@
 pub mod Ends
 pub mod Exchanges
 pub mod Fields
-pub mod Live
 pub mod Names
+pub mod Refs
 pub mod Sizes
-pub mod Sparse

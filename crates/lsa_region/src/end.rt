@@ -1,11 +1,6 @@
-//! References to objects, root slots, and the ends of pairs.
+//! Root slots, and the ends of pairs.
 
-/// The name of a live object. It may change whenever objects move.
-#[derive(Clone, Copy, Debug, PartialEq, Eq)]
-pub struct Ref {
-    /// The object's number.
-    pub number: usize,
-}
+use lsa_store::Ref;
 
 /// A root slot: an end of a pair that lies in no object.
 #[derive(Clone, Copy, Debug, PartialEq, Eq)]

@@ -1,14 +1,14 @@
 //! The region: typed objects in segments, whose links are halves of pairs.
 #![tactic(auto)]
 
+mod code;
 pub mod end;
 pub mod laws;
 mod links;
-mod place;
+mod mover;
 mod region;
-mod roster;
 mod slots;
-mod store;
 
-pub use end::{End, Ref, Root};
+pub use end::{End, Root};
+pub use lsa_store::Ref;
 pub use region::Region;

@@ -1,66 +1,73 @@
-//! The table of links: what each link of an object and each root slot names.
-ghost use Rattle.std.specs.Prelude.{◌≡◌, ◌≢◌, ℕ, ◌+◌, ◌*◌, ◌^◌, ◌<◌, ◌≤◌, length, replicate, true, false, Option, Some, None, IfOk, IfSome};
-ghost use Rattle.lsa_region.specs.Ends.{named_by, slots_in, HasPlace, IsSet, same_end};
+//! The links in objects, and the root slots: what each of these ends names.
+ghost use Rattle.std.specs.Prelude.{◌≡◌, ◌≢◌, ℕ, ◌+◌, ◌*◌, ◌^◌, ◌<◌, ◌≤◌, length, true, false, Option, Some, None, IfOk, IfSome};
+ghost use Rattle.lsa_region.specs.Ends.{named_in, slots_in, IsEndIn, IsSetIn, IsSameShape, same_ref, same_end};
 ghost use Rattle.lsa_region.specs.Paired.{WellPaired, IsTied, IsParted, IsExchanged};
 
+use crate::code::{code, end as told};
 use crate::end::End;
 use crate::slots::Slots;
-
-#[derive(Drop)]
-pub struct Links {
-    pub(crate) table: Vec<Option<End>>,
-    pub(crate) roots: Slots,
-}
+use lsa_store::{Ref, Store};
 
 /// What an end names.
-pub(crate) fn named(links: &Links, end: End) -> Option<End>
-    requires { HasPlace links.now end }
-    ensures { result ≡ named_by links.now end }
+pub(crate) fn named<const S: usize>(store: &Store<S>, roots: &Slots, end: End) -> Option<End>
+    requires { IsEndIn store.now.cells roots.now end }
+    ensures { result ≡ named_in store.now.cells roots.now end }
 {
     match end {
-        End::Obj(object, field) => links.table[8 * object.number + field as usize],
-        End::Slot(root) => links.roots.get(root.number),
+        End::Obj(object, field) => told(store.word(object, field as usize)),
+        End::Slot(root) => roots.get(root.number),
     }
 }
 
 /// Lets an end name another one, or nothing.
-pub(crate) fn set(links: &mut Links, end: End, named: Option<End>)
-    requires { HasPlace links.old end }
-    ensures { IsSet links.old links.new end named }
+pub(crate) fn set<const S: usize>(
+    store: &mut Store<S>,
+    roots: &mut Slots,
+    end: End,
+    named: Option<End>,
+)
+    requires end { IsEndIn store.old.cells roots.old end }
+    requires named { IfSome named (IsEndIn store.old.cells roots.old) }
+    ensures set { IsSetIn store.old.cells roots.old store.new.cells roots.new end named }
+    ensures usages { store.new.usages ≡ store.old.usages }
 {
+    store.known();
+    roots.known();
     match end {
-        End::Obj(object, field) => links.table[8 * object.number + field as usize] = named,
-        End::Slot(root) => links.roots.set(root.number, named),
+        End::Obj(object, field) => store.set_word(object, field as usize, code(named)),
+        End::Slot(root) => roots.set(root.number, named),
     }
 }
 
 /// Ties two ends to each other.
-pub(crate) fn tie(links: &mut Links, a: End, b: End)
-    requires first { HasPlace links.old a }
-    requires second { HasPlace links.old b }
+pub(crate) fn tie<const S: usize>(store: &mut Store<S>, roots: &mut Slots, a: End, b: End)
+    requires first { IsEndIn store.old.cells roots.old a }
+    requires second { IsEndIn store.old.cells roots.old b }
     requires differ { a ≢ b }
-    ensures tied { IsTied (named_by links.old) (named_by links.new) a b }
-    ensures places { (e : End) → HasPlace links.old e → HasPlace links.new e }
-    ensures back { (e : End) → HasPlace links.new e → HasPlace links.old e }
-    ensures long { length links.new.table.items ≡ length links.old.table.items }
-    ensures slots { slots_in links.new.roots ≡ slots_in links.old.roots }
+    ensures tied { IsTied (named_in store.old.cells roots.old) (named_in store.new.cells roots.new) a b }
+    ensures ends { (e : End) → IsEndIn store.old.cells roots.old e → IsEndIn store.new.cells roots.new e }
+    ensures back { (e : End) → IsEndIn store.new.cells roots.new e → IsEndIn store.old.cells roots.old e }
+    ensures shape { IsSameShape store.old.cells store.new.cells }
+    ensures usages { store.new.usages ≡ store.old.usages }
+    ensures slots { slots_in roots.new ≡ slots_in roots.old }
 {
-    set(links, a, Some(b));
-    set(links, b, Some(a));
+    set(store, roots, a, Some(b));
+    set(store, roots, b, Some(a));
 }
 
 /// Parts two ends.
-pub(crate) fn part(links: &mut Links, a: End, b: End)
-    requires first { HasPlace links.old a }
-    requires second { HasPlace links.old b }
-    ensures parted { IsParted (named_by links.old) (named_by links.new) a b }
-    ensures places { (e : End) → HasPlace links.old e → HasPlace links.new e }
-    ensures back { (e : End) → HasPlace links.new e → HasPlace links.old e }
-    ensures long { length links.new.table.items ≡ length links.old.table.items }
-    ensures slots { slots_in links.new.roots ≡ slots_in links.old.roots }
+pub(crate) fn part<const S: usize>(store: &mut Store<S>, roots: &mut Slots, a: End, b: End)
+    requires first { IsEndIn store.old.cells roots.old a }
+    requires second { IsEndIn store.old.cells roots.old b }
+    ensures parted { IsParted (named_in store.old.cells roots.old) (named_in store.new.cells roots.new) a b }
+    ensures ends { (e : End) → IsEndIn store.old.cells roots.old e → IsEndIn store.new.cells roots.new e }
+    ensures back { (e : End) → IsEndIn store.new.cells roots.new e → IsEndIn store.old.cells roots.old e }
+    ensures shape { IsSameShape store.old.cells store.new.cells }
+    ensures usages { store.new.usages ≡ store.old.usages }
+    ensures slots { slots_in roots.new ≡ slots_in roots.old }
 {
-    set(links, a, None);
-    set(links, b, None);
+    set(store, roots, a, None);
+    set(store, roots, b, None);
 }
 
 /// Whether the two are the same end.
@@ -68,10 +75,17 @@ pub(crate) fn same(a: End, b: End) -> bool
     ensures { result ≡ same_end a b }
 {
     match (a, b) {
-        (End::Obj(r, field), End::Obj(s, other)) => r.number == s.number && field == other,
+        (End::Obj(r, field), End::Obj(s, other)) => same_object(r, s) && field == other,
         (End::Slot(r), End::Slot(s)) => r.number == s.number,
         _ => false,
     }
+}
+
+// Whether the two name the same object.
+fn same_object(r: Ref, s: Ref) -> bool
+    ensures { result ≡ same_ref r s }
+{
+    r.segment == s.segment && r.offset == s.offset
 }
 
 // Whether what is named is this end.
@@ -86,41 +100,43 @@ fn names(named: Option<End>, end: End) -> bool
 }
 
 // Lets an end name another one, or nothing, and that one name it.
-fn point(links: &mut Links, end: End, mate: Option<End>)
-    requires first { HasPlace links.old end }
-    requires second { IfSome mate (HasPlace links.old) }
+fn point<const S: usize>(store: &mut Store<S>, roots: &mut Slots, end: End, mate: Option<End>)
+    requires first { IsEndIn store.old.cells roots.old end }
+    requires second { IfSome mate (IsEndIn store.old.cells roots.old) }
     requires differ { mate ≢ Some end }
-    ensures here { named_by links.new end ≡ mate }
-    ensures mates { (other : End) → mate ≡ Some other → named_by links.new other ≡ Some end }
-    ensures others { (e : End) → e ≢ end → mate ≢ Some e → named_by links.new e ≡ named_by links.old e }
-    ensures places { (e : End) → HasPlace links.old e → HasPlace links.new e }
-    ensures back { (e : End) → HasPlace links.new e → HasPlace links.old e }
-    ensures long { length links.new.table.items ≡ length links.old.table.items }
-    ensures slots { slots_in links.new.roots ≡ slots_in links.old.roots }
+    ensures here { named_in store.new.cells roots.new end ≡ mate }
+    ensures mates { (other : End) → mate ≡ Some other → named_in store.new.cells roots.new other ≡ Some end }
+    ensures others { (e : End) → e ≢ end → mate ≢ Some e → named_in store.new.cells roots.new e ≡ named_in store.old.cells roots.old e }
+    ensures ends { (e : End) → IsEndIn store.old.cells roots.old e → IsEndIn store.new.cells roots.new e }
+    ensures back { (e : End) → IsEndIn store.new.cells roots.new e → IsEndIn store.old.cells roots.old e }
+    ensures shape { IsSameShape store.old.cells store.new.cells }
+    ensures usages { store.new.usages ≡ store.old.usages }
+    ensures slots { slots_in roots.new ≡ slots_in roots.old }
 {
-    set(links, end, mate);
+    set(store, roots, end, mate);
     if let Some(other) = mate {
-        set(links, other, Some(end));
+        set(store, roots, other, Some(end));
     }
 }
 
-/// Lets two ends of a table of pairs change places.
-pub(crate) fn exchange(links: &mut Links, a: End, b: End)
-    requires first { HasPlace links.old a }
-    requires second { HasPlace links.old b }
+/// Lets two ends, of which each that is set is one of a pair, change places.
+pub(crate) fn exchange<const S: usize>(store: &mut Store<S>, roots: &mut Slots, a: End, b: End)
+    requires first { IsEndIn store.old.cells roots.old a }
+    requires second { IsEndIn store.old.cells roots.old b }
     requires differ { a ≢ b }
-    requires paired { WellPaired (named_by links.old) }
-    requires mates { (e other : End) → named_by links.old e ≡ Some other → HasPlace links.old other }
-    ensures exchanged { IsExchanged (named_by links.old) (named_by links.new) a b }
-    ensures places { (e : End) → HasPlace links.old e → HasPlace links.new e }
-    ensures back { (e : End) → HasPlace links.new e → HasPlace links.old e }
-    ensures long { length links.new.table.items ≡ length links.old.table.items }
-    ensures slots { slots_in links.new.roots ≡ slots_in links.old.roots }
+    requires paired { WellPaired (named_in store.old.cells roots.old) }
+    requires mates { (e other : End) → named_in store.old.cells roots.old e ≡ Some other → IsEndIn store.old.cells roots.old other }
+    ensures exchanged { IsExchanged (named_in store.old.cells roots.old) (named_in store.new.cells roots.new) a b }
+    ensures ends { (e : End) → IsEndIn store.old.cells roots.old e → IsEndIn store.new.cells roots.new e }
+    ensures back { (e : End) → IsEndIn store.new.cells roots.new e → IsEndIn store.old.cells roots.old e }
+    ensures shape { IsSameShape store.old.cells store.new.cells }
+    ensures usages { store.new.usages ≡ store.old.usages }
+    ensures slots { slots_in roots.new ≡ slots_in roots.old }
 {
-    let first = named(links, a);
-    let second = named(links, b);
+    let first = named(store, roots, a);
+    let second = named(store, roots, b);
     if !names(first, b) {
-        point(links, a, second);
-        point(links, b, first);
+        point(store, roots, a, second);
+        point(store, roots, b, first);
     }
 }

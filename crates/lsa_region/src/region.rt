@@ -1,19 +1,21 @@
 //! The region: objects whose links are halves of pairs, and root slots.
 ghost use Rattle.std.specs.Prelude.{◌≡◌, ◌≢◌, ℕ, ◌+◌, ◌-◌, ◌*◌, ◌/◌, ◌%◌, ◌^◌, ◌<◌, ◌≤◌, [], true, false, length, replicate, slice_index_or, Option, Some, None, IsSome, IsSomeAnd, IfOk, OnErr, List, min, count_by, is_some};
-ghost use Rattle.lsa_region.specs.declared.end.Ref.{Ref as Name};
+ghost use Rattle.lsa_store.specs.declared.place.Ref.{Ref as Name};
 ghost use Rattle.lsa_region.specs.declared.end.Root.{Root as Slot};
 ghost use Rattle.lsa_pool.specs.Account.{IsSound};
 ghost use Rattle.lsa_pool.specs.Room.{active_of, free_count, live_sum, spare_of};
 ghost use Rattle.lsa_kinds.specs.Fields.{spelled, IsPut};
 ghost use Rattle.lsa_segment.specs.Bytes.{overwritten};
-ghost use Rattle.lsa_region.specs.Layout.{rounded_size, sparse_of};
+ghost use Rattle.lsa_store.specs.Objects.{cells_of, rounded_size};
+ghost use Rattle.lsa_store.specs.Stock.{sparse_of};
 ghost use Rattle.lsa_region.specs.Paired.{IsTied, IsParted, IsExchanged};
 
-use crate::end::{End, Ref, Root};
-use crate::links::{Links, exchange, named, part, tie};
+use crate::end::{End, Root};
+use crate::links::{exchange, named, part, tie};
+use crate::mover;
 use crate::slots::Slots;
-use crate::store::Store;
 use lsa_kinds::{Kind, spell};
+use lsa_store::{Ref, Store};
 use std::alloc::{AllocError, Global};
 use std::marker::Model;
 
@@ -21,7 +23,7 @@ use std::marker::Model;
 #[derive(Drop)]
 pub struct Region<const S: usize> {
     store: Store<S>,
-    links: Links,
+    roots: Slots,
     epoch: u64,
     moved: u64,
     compacted: u64,
@@ -32,9 +34,9 @@ impl<const S: usize> Model for Region<S> {
 
     ghost Value = { View };
 
-    ghost view = { λ r. record { bodies = r.store.bodies; spots = r.store.spots; table = r.links.table.items; roots = r.links.roots; usages = r.store.usages; epoch = r.epoch; moved = r.moved; compacted = r.compacted } };
+    ghost view = { λ r. record { cells = r.store.cells; roots = r.roots; usages = r.store.usages; epoch = r.epoch; moved = r.moved; compacted = r.compacted } };
 
-    ghost invariant = { λ r. IsRegion (record { bodies = r.store.bodies; spots = r.store.spots; table = r.links.table.items; roots = r.links.roots; usages = r.store.usages; epoch = r.epoch; moved = r.moved; compacted = r.compacted }) };
+    ghost invariant = { λ r. IsRegion (record { cells = r.store.cells; roots = r.roots; usages = r.store.usages; epoch = r.epoch; moved = r.moved; compacted = r.compacted }) };
 }
 
 impl<const S: usize> Region<S> {
@@ -56,9 +58,7 @@ impl<const S: usize> Region<S> {
         ensures live { IfOk result (λ r. live_bytes r ≡ 0) }
         ensures counts { IfOk result (λ r. (r.epoch ≡ 0) × (r.moved ≡ 0) × (r.compacted ≡ 0)) }
     {
-        let store = Store::open(alloc, segments)?;
-        let table = no_links(alloc, 8 * store.len())?;
-        Ok(over(store, table, Slots::new(alloc)))
+        Ok(over(Store::open(alloc, segments)?, Slots::new(alloc)))
     }
 
     /// Shows what every region keeps: ends are paired, and what is named is there; how objects lie; what is live is what they take; the
@@ -77,7 +77,7 @@ impl<const S: usize> Region<S> {
         ensures few { length self.now.usages ≤ 4096 }
     {
         self.store.known();
-        self.links.roots.known();
+        self.roots.known();
     }
 
     /// What an end names, if it is set.
@@ -85,7 +85,7 @@ impl<const S: usize> Region<S> {
         requires { IsEnd self.now a }
         ensures { result ≡ link_of self.now a }
     {
-        named(&self.links, a)
+        named(&self.store, &self.roots, a)
     }
 
     /// Pairs two ends, both there and unset, that differ.
@@ -99,7 +99,7 @@ impl<const S: usize> Region<S> {
         ensures objects { SameObjects self.old self.new }
         ensures well { IsWell self.new }
     {
-        tie(&mut self.links, a, b);
+        tie(&mut self.store, &mut self.roots, a, b);
     }
 
     /// Parts an end that is set from its mate, and gives the mate.
@@ -111,9 +111,9 @@ impl<const S: usize> Region<S> {
         ensures objects { SameObjects self.old self.new }
         ensures well { IsWell self.new }
     {
-        match named(&self.links, a) {
+        match named(&self.store, &self.roots, a) {
             Some(b) => {
-                part(&mut self.links, a, b);
+                part(&mut self.store, &mut self.roots, a, b);
                 b
             }
             None => unreachable!(),
@@ -129,7 +129,7 @@ impl<const S: usize> Region<S> {
         ensures objects { SameObjects self.old self.new }
         ensures well { IsWell self.new }
     {
-        exchange(&mut self.links, a, b);
+        exchange(&mut self.store, &mut self.roots, a, b);
     }
 
     /// The kind of a live object.
@@ -137,7 +137,7 @@ impl<const S: usize> Region<S> {
         requires { IsSome (body self.now r) }
         ensures { IsSomeAnd (body self.now r) (λ b. b.0 ≡ result) }
     {
-        self.store.kind(r.number)
+        self.store.kind(r)
     }
 
     /// The bytes of a live object that follow its links.
@@ -145,7 +145,7 @@ impl<const S: usize> Region<S> {
         requires { IsSome (body self.now r) }
         ensures { IsSomeAnd (body self.now r) (λ b. b.1 ≡ result.now) }
     {
-        self.store.bytes(r.number)
+        self.store.bytes(r)
     }
 
     /// Writes over bytes of a live object that follow its links, from `offset` on.
@@ -155,7 +155,8 @@ impl<const S: usize> Region<S> {
         ensures count { objects self.new ≡ objects self.old }
         ensures well { IsWell self.new }
     {
-        self.store.write(r.number, offset, bytes);
+        self.store.known();
+        self.store.write(r, offset, bytes);
     }
 
     /// Writes a number into a field of a live object, which begins at `field.0` behind the object's links and takes `field.1` bytes, 8 at most.
@@ -187,9 +188,9 @@ impl<const S: usize> Region<S> {
         ensures moved { self.new.moved ≡ self.old.moved }
         ensures compacted { self.new.compacted ≡ self.old.compacted }
     {
-        let number = self.store.alloc(kind, bytes);
+        let r = self.store.add(kind, bytes);
         self.epoch = self.epoch.saturating_add(1);
-        Ref { number }
+        r
     }
 
     /// Frees a live object of which no link is set.
@@ -207,7 +208,7 @@ impl<const S: usize> Region<S> {
         ensures moved { self.new.moved ≡ self.old.moved }
         ensures compacted { self.new.compacted ≡ self.old.compacted }
     {
-        self.store.free(r.number);
+        self.store.kill(r);
         self.epoch = self.epoch.saturating_add(1);
     }
 
@@ -226,7 +227,7 @@ impl<const S: usize> Region<S> {
         ensures err { OnErr result (self.new ≡ self.old) }
         ensures well { IsWell self.new }
     {
-        match self.links.roots.make() {
+        match self.roots.make() {
             Ok(number) => Ok(Root { number }),
             Err(error) => Err(error),
         }
@@ -240,7 +241,7 @@ impl<const S: usize> Region<S> {
         ensures same { SameButRoots self.old self.new }
         ensures well { IsWell self.new }
     {
-        self.links.roots.remove(r.number);
+        self.roots.remove(r.number);
     }
 
     /// What a root slot names.
@@ -248,7 +249,7 @@ impl<const S: usize> Region<S> {
         requires { IsEnd self.now (End.Slot r) }
         ensures { result ≡ link_of self.now (End.Slot r) }
     {
-        named(&self.links, End::Slot(r))
+        named(&self.store, &self.roots, End::Slot(r))
     }
 
     /// How many bytes of objects are live.
@@ -278,7 +279,7 @@ impl<const S: usize> Region<S> {
         ensures well { IsWell self.new }
     {
         let epoch = self.epoch.saturating_add(1);
-        let moved = self.store.evacuate(n);
+        let moved = mover::evacuate(&mut self.store, &mut self.roots, n);
         self.epoch = epoch;
         self.moved = self.moved.saturating_add(moved as u64);
         self.compacted = self.compacted.saturating_add(1);
@@ -320,22 +321,15 @@ impl<const S: usize> Region<S> {
     }
 }
 
-// So many places for links, all unset.
-fn no_links(alloc: Global, count: usize) -> Result<Vec<Option<End>>, AllocError>
-    ensures { IfOk result (λ v. v.items ≡ replicate count None) }
-{
-    Vec::from_elem(alloc, None, count)
-}
-
 ghost use Rattle.lsa_region.specs.Region.{body, link_of, IsEnd, IsWell};
 
-// A region over a store without objects.
-fn over<const S: usize>(store: Store<S>, table: Vec<Option<End>>, roots: Slots) -> Region<S>
-    requires table { table.items ≡ replicate (8 * length store.bodies) None }
+// A region over a store in which nothing stands.
+fn over<const S: usize>(store: Store<S>, roots: Slots) -> Region<S>
+    requires cells { (n : ℕ) → cells_of store.cells n ≡ [] }
     requires roots { roots ≡ [] }
     requires reserve { 0 < free_count store.usages }
-    ensures bodies { result.bodies ≡ store.entry.bodies }
-    ensures spots { result.spots ≡ store.entry.spots }
+    ensures cells { result.cells ≡ store.entry.cells }
+    ensures bodies { (x : Name) → body result x ≡ None }
     ensures roots { result.roots ≡ [] }
     ensures unset { (e : End) → link_of result e ≡ None }
     ensures well { IsWell result }
@@ -344,7 +338,7 @@ fn over<const S: usize>(store: Store<S>, table: Vec<Option<End>>, roots: Slots) 
 {
     Region {
         store,
-        links: Links { table, roots },
+        roots,
         epoch: 0,
         moved: 0,
         compacted: 0,
@@ -364,7 +358,7 @@ mod tests {
     fn is_live(region: &Region<4096>, r: Ref) -> bool
         ensures { result ≡ is_some (body region.now r) }
     {
-        region.store.has(r.number)
+        region.store.has(r)
     }
 
     // Whether the end is there.
@@ -383,7 +377,7 @@ mod tests {
         ensures yes { result ≡ true → IsEnd region.now (End.Slot slot) }
         ensures no { result ≡ false → IsEnd region.now (End.Slot slot) → ⊥ }
     {
-        region.links.roots.has(slot.number)
+        region.roots.has(slot.number)
     }
 
     // Whether the object is there and has a link of this field number.
@@ -822,20 +816,18 @@ mod tests {
     }
 
     fn one_slot(region: &mut Region<4096>, alloc: Global) -> Result<Root, AllocError> {
-        if region.links.roots.len() >= 1000 {
+        if region.roots.len() >= 1000 {
             return Err(AllocError);
         }
         region.add_root(alloc)
     }
 
-    // 10,000 calls of the region and of the plain map.
-    #[test]
-    fn walk_of_ten_thousand_calls(rt: HostRuntime) -> Result<(), Fail> {
-        let mut region = Region::<4096>::open(rt.alloc(), 4)?;
+    // 10,000 calls of the region and of the plain map; whether they agreed, and many objects were moved.
+    fn walk(region: &mut Region<4096>, alloc: Global) -> Result<bool, AllocError> {
         let mut plain = Plain {
-            slots: slots(&mut region, rt.alloc(), 100)?,
-            objects: Vec::from_elem(rt.alloc(), None, 100)?,
-            mates: Vec::from_elem(rt.alloc(), None, 400)?,
+            slots: slots(region, alloc, 100)?,
+            objects: Vec::from_elem(alloc, None, 100)?,
+            mates: Vec::from_elem(alloc, None, 400)?,
         };
         let mut state: u64 = 1;
         for call in 0..10_000 {
@@ -843,21 +835,28 @@ mod tests {
                 .wrapping_mul(6_364_136_223_846_793_005)
                 .wrapping_add(1_442_695_040_888_963_407);
             let dice = (state >> 33) as usize;
-            assert!(rt;
-                step(
-                    &mut region,
-                    &mut plain,
-                    dice % 8,
-                    dice / 8 % 400,
-                    dice / 4000 % 400
-                ),
-                "at {call}"
-            );
-            if call % 50 == 0 {
-                assert!(rt; agrees(&region, &plain), "at {call}");
+            let (what, first, second) = (dice % 8, dice / 8 % 400, dice / 4000 % 400);
+            if !step(region, &mut plain, what, first, second) {
+                return Ok(false);
+            }
+            if call % 50 == 0 && !agrees(region, &plain) {
+                return Ok(false);
             }
         }
-        assert!(rt; region.compacted() > 20 && region.moved() > 1000);
+        Ok(agrees(region, &plain) && region.compacted() > 20 && region.moved() > 1000)
+    }
+
+    #[test]
+    fn walk_of_ten_thousand_calls(rt: HostRuntime) -> Result<(), Fail> {
+        let mut region = Region::<4096>::open(rt.alloc(), 4)?;
+        assert!(rt; walk(&mut region, rt.alloc())?);
+        Ok(())
+    }
+
+    #[test]
+    fn walk_over_sixty_four_segments(rt: HostRuntime) -> Result<(), Fail> {
+        let mut region = Region::<4096>::open(rt.alloc(), 64)?;
+        assert!(rt; walk(&mut region, rt.alloc())?);
         Ok(())
     }
 }

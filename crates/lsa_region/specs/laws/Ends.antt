@@ -5,22 +5,20 @@ use Rattle.lsa_kinds.specs.declared.kind.Kind.{Kind}
 use Rattle.lsa_kinds.specs.declared.kind.Kind.TheVariants.{Version, RowEntry, Dummy, Static}
 use Rattle.lsa_kinds.specs.Kinds.{links_of}
 use Rattle.lsa_pool.specs.laws.Usages.{decided}
-use Rattle.lsa_region.specs.declared.end.Ref.{Ref}
+use Rattle.lsa_store.specs.declared.place.Ref.{Ref}
 use Rattle.lsa_region.specs.declared.end.End.{End}
 use Rattle.lsa_region.specs.declared.end.Root.{Root}
 use Rattle.lsa_region.specs.declared.end.End.TheVariants.{Obj, Slot}
 use Rattle.lsa_region.specs.Region.{View, body, link_of, IsEnd, IsWell}
-
-pub refs_decided : (q r : Ref) → (q ≡ r) ⊎ (q ≢ r)
-refs_decided q r = elim (decided q.number r.number) [ inl e ↦ inl (ap (λ n. record { number = n }) e) | inr ne ↦ inr (λ e. ne (ap (λ (x : Ref). x.number) e)) ]
+use Rattle.lsa_region.specs.laws.Refs.{refs_decided}
 
 pub ends_decided : (a b : End) → (a ≡ b) ⊎ (a ≢ b)
-ends_decided (Obj r f) (Obj s g) = elim (decided r.number s.number) [
+ends_decided (Obj r f) (Obj s g) = elim (refs_decided r s) [
   | inl e ↦ elim (decided f g) [
-    | inl d ↦ inl (ap (λ n. Obj (record { number = n }) f) e ∙ ap (λ k. Obj s k) d)
+    | inl d ↦ inl (ap (λ x. Obj x f) e ∙ ap (λ k. Obj s k) d)
     | inr d ↦ inr (λ same. d (cc))
   ]
-  | inr e ↦ inr (λ same. let inner : r ≡ s = cc in e (ap (λ (x : Ref). x.number) inner))
+  | inr e ↦ inr (λ same. e (cc))
 ]
 ends_decided (Obj r f) (Slot s) = inr (λ same. cc)
 ends_decided (Slot r) (Obj s g) = inr (λ same. cc)
@@ -33,17 +31,15 @@ pub some_and_none : {X : Type 0} (o : Option X) (P : X → Type 0) → o ≡ Non
 some_and_none None P e h = h
 some_and_none (Some x) P e h = cc
 
-links_few : (k : Kind) → links_of k ≤ 5
+pub links_few : (k : Kind) → links_of k ≤ 5
 links_few Version = omega arith
 links_few RowEntry = omega arith
 links_few Dummy = omega arith
 links_few Static = omega arith
 
-pub body_inside : (bodies : List (Option (Kind × List ℕ))) (n field : ℕ) → IsSomeAnd (get_or bodies n None) (λ b. field < links_of b.0) → (n < length bodies) × (field < 5)
-body_inside [] n field h = absurd h
-body_inside (None ∷ bodies) zero field h = absurd h
-body_inside (Some b ∷ bodies) zero field h = (omega arith, omega (arith, links_few b.0, h))
-body_inside (b ∷ bodies) (suc n) field h = let w = body_inside bodies n field h in (omega (arith, w.0), w.1)
+few_of : (o : Option (Kind × List ℕ)) (field : ℕ) → IsSomeAnd o (λ b. field < links_of b.0) → field < 5
+few_of None field h = absurd h
+few_of (Some b) field h = omega (arith, links_few b.0, h)
 
 pub none_unless : (o : Option End) → ((y : End) → o ≡ Some y → ⊥) → o ≡ None
 none_unless None h = refl
@@ -55,7 +51,7 @@ no-end v well e gone = none_unless (link_of v e) (λ y is. gone (well.ends y e (
 
 -- no kind has a link of number 5 or more
 pub few-links : (v : View) (r : Ref) (field : ℕ) → IsEnd v (Obj r field) → field < 5
-few-links v r field h = (body_inside v.bodies r.number field h).1
+few-links v r field h = few_of (body v r) field h
 
 none_past : (o : Option (Kind × List ℕ)) (kind : Kind) (bytes : List ℕ) (field : ℕ) → o ≡ Some (kind, bytes) → links_of kind ≤ field → IsSomeAnd o (λ b. field < links_of b.0) → ⊥
 none_past None kind bytes field is past h = absurd h

@@ -5,29 +5,21 @@ use Rattle.std.proofs.lemmas.Bool.{eqb-true, eq-eqb}
 use Rattle.std.specs.Prelude.{nat_eq, IfSome}
 use Rattle.lsa_region.specs.declared.end.End.{End}
 use Rattle.lsa_region.specs.declared.end.End.TheVariants.{Obj, Slot}
-use Rattle.lsa_region.specs.Ends.{same_end, swapped}
+use Rattle.lsa_region.specs.Ends.{same_ref, same_end, swapped}
 use Rattle.lsa_region.specs.Paired.{WellPaired, IsExchanged}
+use Rattle.lsa_region.specs.laws.Refs.{both, not_true, ref-itself, ref-told}
 use Rattle.lsa_region.specs.laws.Ends.{ends_decided}
 
-both : (a b : Bool) → a && b ≡ true → (a ≡ true) × (b ≡ true)
-both true true e = (refl, refl)
-both true false e = cc
-both false b e = cc
-
 pub same_itself : (a : End) → same_end a a ≡ true
-same_itself (Obj r f) = ap (λ b. b && nat_eq f f) (eq-eqb r.number r.number refl) ∙ eq-eqb f f refl
+same_itself (Obj r f) = ap (λ b. b && nat_eq f f) (ref-itself r) ∙ eq-eqb f f refl
 same_itself (Slot r) = eq-eqb r.number r.number refl
 
 pub same_equal : (a b : End) → same_end a b ≡ true → a ≡ b
 same_equal (Obj r f) (Obj s g) e =
-    let w = both (nat_eq r.number s.number) (nat_eq f g) e in ap (λ n. Obj (record { number = n }) f) (eqb-true r.number s.number w.0) ∙ ap (λ k. Obj s k) (eqb-true f g w.1)
+    let w = both (same_ref r s) (nat_eq f g) e in ap (λ x. Obj x f) (ref-told r s w.0) ∙ ap (λ k. Obj s k) (eqb-true f g w.1)
 same_equal (Obj r f) (Slot s) e = cc
 same_equal (Slot r) (Obj s g) e = cc
 same_equal (Slot r) (Slot s) e = ap (λ n. Slot (record { number = n })) (eqb-true r.number s.number e)
-
-not_true : (b : Bool) → (b ≡ true → ⊥) → b ≡ false
-not_true true h = absurd (h refl)
-not_true false h = refl
 
 differ_false : (a b : End) → a ≢ b → same_end a b ≡ false
 differ_false a b ne = not_true (same_end a b) (λ e. ne (same_equal a b e))

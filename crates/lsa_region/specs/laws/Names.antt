@@ -1,35 +1,40 @@
 -- Laws of renaming: a name is given to each live object, and each live object has its name from one; a region is renamed to itself.
-use Rattle.std.proofs.Common.{◌≡◌, ◌≢◌, ℕ, zero, suc, ◌+◌, ◌<◌, List, [], ◌∷◌, length, get_or, map, Option, Some, None, cond, inl, inr, refl, sym, ap, ◌∙◌, subst, ◌⊎◌, arith}
-use Rattle.std.specs.Prelude.{IsSome, AllPairs}
-use Rattle.std.specs.Option.{option_map}
-use Rattle.std.proofs.lemmas.Bool.{eq-eqb}
-use Rattle.std.proofs.lemmas.Bool.Decides.{eqb_tells}
+use Rattle.std.proofs.Common.{◌≡◌, ◌≢◌, ℕ, zero, suc, ◌+◌, ◌-◌, ◌*◌, ◌<◌, ◌≤◌, List, [], ◌∷◌, ◌++◌, length, get_or, map, drop, Option, Some, None, cond, inl, inr, refl, sym, ap, ◌∙◌, subst, ◌⊎◌, arith}
+use Rattle.std.specs.Prelude.{is_some, IsSome, IsSomeAnd, Contains, AllPairs}
+use Rattle.std.specs.Option.{option_map, option_and_then}
+use Rattle.std.proofs.lemmas.Bool.{cases_lt}
 use Rattle.std.proofs.lemmas.List.{get_or-map, length-map}
+use Rattle.std.proofs.lemmas.List.Elements.{Contains-append_left, Contains-append_right, Contains-append_cases}
 use Rattle.lsa_kinds.specs.declared.kind.Kind.{Kind}
-use Rattle.lsa_region.specs.declared.end.Ref.{Ref}
+use Rattle.lsa_kinds.specs.Kinds.{links_of}
+use Rattle.lsa_yard.specs.Cells.{Cell, size_of, cell_at, body_of, body_at}
+use Rattle.lsa_yard.specs.laws.Reading.{size-least}
+use Rattle.lsa_yard.specs.laws.Changes.{at-inside, at-behind}
+use Rattle.lsa_store.specs.declared.place.Ref.{Ref}
+use Rattle.lsa_store.specs.Objects.{body_in}
 use Rattle.lsa_region.specs.declared.end.End.{End}
 use Rattle.lsa_region.specs.declared.end.End.TheVariants.{Obj, Slot}
-use Rattle.lsa_region.specs.Ends.{named_as, end_as}
-use Rattle.lsa_region.specs.Region.{View, body, link_of, AreLive, Renamed}
-
-abbrev pub ref : ℕ → Ref
-ref n = record { number = n }
+use Rattle.lsa_region.specs.Ends.{same_ref, named_as, end_as}
+use Rattle.lsa_region.specs.Region.{View, body, link_of, IsEnd, IsWell, AreLive, Renamed}
+use Rattle.lsa_region.specs.laws.Refs.{refs_decided, ref-itself, ref-false}
 
 pub none : Ref × Ref
-none = (record { number = 0 }, record { number = 0 })
+none = (record { segment = 0; offset = 0 }, record { segment = 0; offset = 0 })
+
+get_or-default : (refs : List Ref) (j : ℕ) (d e : Ref) → j < length refs → get_or refs j d ≡ get_or refs j e
+get_or-default [] j d e lt = absurd (omega arith)
+get_or-default (r ∷ refs) zero d e lt = refl
+get_or-default (r ∷ refs) (suc j) d e lt = get_or-default refs j d e (omega (arith, lt))
 
 -- ---- one list of names
 
 pub named-at : (names : List (Ref × Ref)) (j : ℕ) (d : Ref × Ref) → AllPairs ◌≢◌ (map (λ pair. pair.0) names) → j < length names → named_as names (get_or names j d).0 ≡ (get_or names j d).1
 named-at [] j d once lt = absurd (omega arith)
-named-at (pair ∷ names) zero d once lt = ap (λ t. cond t pair.1 (named_as names pair.0)) (eq-eqb pair.0.number pair.0.number refl)
-named-at (pair ∷ names) (suc j) d once lt = elim (eqb_tells pair.0.number (get_or names j d).0.number) [
-  | inl w ↦ absurd (once 0 (suc j) pair.0 (omega arith) (omega (arith, lt, length-map names (λ (p : Ref × Ref). p.0))) (same_ref pair.0 (get_or names j d).0 w.1 ∙ sym (get_or-map (λ (p : Ref × Ref). p.0) names j d pair.0 (omega (arith, lt)))))
-  | inr w ↦ ap (λ t. cond t pair.1 (named_as names (get_or names j d).0)) w.0 ∙ named-at names j d (λ a b e less within. once (suc a) (suc b) e (omega (arith, less)) (omega (arith, within))) (omega (arith, lt))
+named-at (pair ∷ names) zero d once lt = ap (λ t. cond t pair.1 (named_as names pair.0)) (ref-itself pair.0)
+named-at (pair ∷ names) (suc j) d once lt = elim (refs_decided pair.0 (get_or names j d).0) [
+  | inl w ↦ absurd (once 0 (suc j) pair.0 (omega arith) (omega (arith, lt, length-map names (λ (p : Ref × Ref). p.0))) (w ∙ sym (get_or-map (λ (p : Ref × Ref). p.0) names j d pair.0 (omega (arith, lt)))))
+  | inr w ↦ ap (λ t. cond t pair.1 (named_as names (get_or names j d).0)) (ref-false pair.0 (get_or names j d).0 w) ∙ named-at names j d (λ a b e less within. once (suc a) (suc b) e (omega (arith, less)) (omega (arith, within))) (omega (arith, lt))
 ]
-  where
-    same_ref : (r q : Ref) → r.number ≡ q.number → r ≡ q
-    same_ref r q same = ap (λ (n : ℕ). ref n) same
 
 module _ (v w : View) (names : List (Ref × Ref)) (renamed : Renamed v w names) where
   -- where a live object stands in the list
@@ -74,89 +79,210 @@ module _ (v w : View) (names : List (Ref × Ref)) (renamed : Renamed v w names) 
         | inr (inr is) ↦ inr (inr (ap (λ n. suc n) is))
       ]
 
--- ---- each object keeps its own name
+-- ---- lists in which no two are the same
 
-abbrev pub refs_from : ℕ → List (Option (Kind × List ℕ)) → List Ref
+once-cons : (r : Ref) (refs : List Ref) → (Contains refs r → ⊥) → AllPairs ◌≢◌ refs → AllPairs ◌≢◌ (r ∷ refs)
+once-cons r refs new once i zero d less lt = absurd (omega arith)
+once-cons r refs new once zero (suc j) d less lt = λ same.
+    let within : j < length refs = omega (arith, lt) in new (j, within, get_or-default refs j r d within ∙ sym same)
+once-cons r refs new once (suc i) (suc j) d less lt = once i j d (omega (arith, less)) (omega (arith, lt))
+
+once-append : (xs ys : List Ref) → AllPairs ◌≢◌ xs → AllPairs ◌≢◌ ys → ((r : Ref) → Contains xs r → Contains ys r → ⊥) → AllPairs ◌≢◌ (xs ++ ys)
+once-append [] ys ones others apart = others
+once-append (x ∷ xs) ys ones others apart =
+    once-cons x (xs ++ ys)
+    (λ h. elim (Contains-append_cases xs ys x h) [
+      | inl w ↦ ones 0 (suc w.0) x (omega arith) (omega (arith, w.1)) (sym w.2)
+      | inr w ↦ apart x (0, omega arith, refl) w
+    ])
+    (once-append xs ys (λ i j d less lt. ones (suc i) (suc j) d (omega (arith, less)) (omega (arith, lt))) others (λ r h w. apart r (suc h.0, omega (arith, h.1), h.2) w))
+
+-- ---- the references of all objects
+
+abbrev pub ref : ℕ → ℕ → Ref
+ref n offset = record { segment = n; offset = offset }
+
+-- a cell's reference, where it is an object
+abbrev pub ref_of : Option Kind → ℕ → ℕ → List Ref
+ref_of None n offset = []
+ref_of (Some kind) n offset = ref n offset ∷ []
+
+-- the objects among cells of segment n, of which the first begins at the offset
+abbrev pub refs_in : ℕ → ℕ → List Cell → List Ref
+refs_in n offset [] = []
+refs_in n offset (c ∷ cells) = ref_of c.kind n offset ++ refs_in n (offset + size_of c) cells
+
+-- the objects of segments, of which the first is segment n
+abbrev pub refs_from : ℕ → List (List Cell) → List Ref
 refs_from n [] = []
-refs_from n (None ∷ bodies) = refs_from (suc n) bodies
-refs_from n (Some b ∷ bodies) = ref n ∷ refs_from (suc n) bodies
+refs_from n (l ∷ cells) = refs_in n 0 l ++ refs_from (suc n) cells
 
-abbrev pub own_names : ℕ → List (Option (Kind × List ℕ)) → List (Ref × Ref)
-own_names n [] = []
-own_names n (None ∷ bodies) = own_names (suc n) bodies
-own_names n (Some b ∷ bodies) = (ref n, ref n) ∷ own_names (suc n) bodies
+some_kind : (c : Cell) (kind : Kind) → c.kind ≡ Some kind → IsSome (body_of c)
+some_kind c kind e = ap (λ k. is_some {T = Kind × List ℕ} (option_map (λ (kind : Kind). (kind, drop (8 * links_of kind) c.rest)) k)) e
 
-pub firsts : (n : ℕ) (bodies : List (Option (Kind × List ℕ))) → map (λ pair. pair.0) (own_names n bodies) ≡ refs_from n bodies
-firsts n [] = refl
-firsts n (None ∷ bodies) = firsts (suc n) bodies
-firsts n (Some b ∷ bodies) = ap (λ l. ref n ∷ l) (firsts (suc n) bodies)
+kind_some : (c : Cell) → IsSome (body_of c) → (kind : Kind) × (c.kind ≡ Some kind)
+kind_some c some = of c.kind refl
+  where
+    of : (k : Option Kind) → c.kind ≡ k → (kind : Kind) × (c.kind ≡ Some kind)
+    of None e = let none : body_of c ≡ None = ap (option_map (λ (kind : Kind). (kind, drop (8 * links_of kind) c.rest))) e in cc
+    of (Some kind) e = (kind, e)
 
-pub seconds : (n : ℕ) (bodies : List (Option (Kind × List ℕ))) → map (λ pair. pair.1) (own_names n bodies) ≡ refs_from n bodies
-seconds n [] = refl
-seconds n (None ∷ bodies) = seconds (suc n) bodies
-seconds n (Some b ∷ bodies) = ap (λ l. ref n ∷ l) (seconds (suc n) bodies)
+in_one : (o : Option Kind) (n offset : ℕ) (q : Ref) → Contains (ref_of o n offset) q → IsSome o × (q ≡ ref n offset)
+in_one None n offset q h = absurd (omega (arith, h.1))
+in_one (Some kind) n offset q h = (refl, only h.0 h.1 h.2)
+  where
+    only : (k : ℕ) → k < length (ref n offset ∷ []) → get_or (ref n offset ∷ []) k q ≡ q → q ≡ ref n offset
+    only zero lt e = sym e
+    only (suc k) lt e = absurd (omega (arith, lt))
 
-pub own : (n : ℕ) (bodies : List (Option (Kind × List ℕ))) (r : Ref) → named_as (own_names n bodies) r ≡ r
-own n [] r = refl
-own n (None ∷ bodies) r = own (suc n) bodies r
-own n (Some b ∷ bodies) r = elim (eqb_tells n r.number) [
-  | inl w ↦ ap (λ t. cond t (ref n) (named_as (own_names (suc n) bodies) r)) w.0 ∙ ap (λ k. ref k) w.1
-  | inr w ↦ ap (λ t. cond t (ref n) (named_as (own_names (suc n) bodies) r)) w.0 ∙ own (suc n) bodies r
+record IsListed (n offset : ℕ) (cells : List Cell) (q : Ref) : Type 0 where
+  pub segment : q.segment ≡ n
+  pub behind : offset ≤ q.offset
+  pub live : IsSome (body_at cells (q.offset - offset))
+
+in_cells : (n offset : ℕ) (cells : List Cell) (q : Ref) → Contains (refs_in n offset cells) q → IsListed n offset cells q
+in_cells n offset [] q h = absurd (omega (arith, h.1))
+in_cells n offset (c ∷ cells) q h = elim (Contains-append_cases (ref_of c.kind n offset) (refs_in n (offset + size_of c) cells) q h) [
+  | inl w ↦
+      let at = in_one c.kind n offset q w in let kind = some_of c.kind at.0 in let here : q.offset ≡ offset = ap (λ (x : Ref). x.offset) at.1 in
+      let first : q.offset - offset ≡ 0 = omega (arith, here) in
+      record { segment = ap (λ (x : Ref). x.segment) at.1; behind = omega (arith, here); live = subst (λ k. IsSome (body_at (c ∷ cells) k)) (sym first) (some_kind c kind.0 kind.1) }
+  | inr w ↦
+      let l = in_cells n (offset + size_of c) cells q w in let far : size_of c ≤ q.offset - offset = omega (arith, l.behind) in
+      let same : q.offset - offset - size_of c ≡ q.offset - (offset + size_of c) = omega arith in record {
+        segment = l.segment;
+        behind = omega (arith, l.behind);
+        live = subst IsSome (sym (ap (option_and_then body_of) (at-behind c cells (q.offset - offset) far ∙ ap (cell_at cells) same))) l.live;
+      }
+]
+  where
+    some_of : (o : Option Kind) → IsSome o → (kind : Kind) × (o ≡ Some kind)
+    some_of None e = cc
+    some_of (Some kind) e = (kind, refl)
+
+cells_in : (n offset : ℕ) (cells : List Cell) (x : ℕ) → IsSome (body_at cells x) → Contains (refs_in n offset cells) (ref n (offset + x))
+cells_in n offset [] x some = cc
+cells_in n offset (c ∷ cells) zero some =
+    let kind = kind_some c some in let here : offset + 0 ≡ offset = omega arith in
+    let first : Contains (ref_of c.kind n offset) (ref n offset) = subst (λ k. Contains (ref_of k n offset) (ref n offset)) (sym kind.1) (0, omega arith, refl) in
+    subst (λ k. Contains (ref_of c.kind n offset ++ refs_in n (offset + size_of c) cells) (ref n k)) (sym here) (Contains-append_left (ref_of c.kind n offset) (refs_in n (offset + size_of c) cells) (ref n offset) first)
+cells_in n offset (c ∷ cells) (suc x) some = elim (cases_lt (suc x) (size_of c)) [
+  | inl inside ↦ let none = ap (option_and_then body_of) (at-inside c cells (suc x) (omega arith) inside) in cc
+  | inr far ↦
+      let rest = cells_in n (offset + size_of c) cells (suc x - size_of c) (subst IsSome (ap (option_and_then body_of) (at-behind c cells (suc x) far)) some) in
+      let there : offset + size_of c + (suc x - size_of c) ≡ offset + suc x = omega arith in
+      Contains-append_right (ref_of c.kind n offset) (refs_in n (offset + size_of c) cells) (ref n (offset + suc x)) (subst (λ k. Contains (refs_in n (offset + size_of c) cells) (ref n k)) there rest)
 ]
 
-own_end : (bodies : List (Option (Kind × List ℕ))) (e : End) → end_as (own_names 0 bodies) e ≡ e
-own_end bodies (Obj r field) = ap (λ q. Obj q field) (own 0 bodies r)
-own_end bodies (Slot s) = refl
+one_once : (o : Option Kind) (n offset : ℕ) → AllPairs ◌≢◌ (ref_of o n offset)
+one_once None n offset i j d less lt = absurd (omega (arith, lt))
+one_once (Some kind) n offset i j d less lt = absurd (omega (arith, less, lt))
 
-pub own_option : (bodies : List (Option (Kind × List ℕ))) (o : Option End) → option_map (end_as (own_names 0 bodies)) o ≡ o
-own_option bodies None = refl
-own_option bodies (Some e) = ap (λ x. Some x) (own_end bodies e)
+once_in : (n offset : ℕ) (cells : List Cell) → AllPairs ◌≢◌ (refs_in n offset cells)
+once_in n offset [] i j d less lt = absurd (omega (arith, lt))
+once_in n offset (c ∷ cells) i j d less lt =
+    once-append (ref_of c.kind n offset) (refs_in n (offset + size_of c) cells) (one_once c.kind n offset) (once_in n (offset + size_of c) cells)
+    (λ q h w. let here : q.offset ≡ offset = ap (λ (x : Ref). x.offset) (in_one c.kind n offset q h).1 in omega (arith, here, (in_cells n (offset + size_of c) cells q w).behind, size-least c)) i j d less lt
 
--- each live object is in the list, what is in the list is live, and the numbers rise
-listed : (n k : ℕ) (bodies : List (Option (Kind × List ℕ))) → IsSome (get_or bodies k None) → (j : ℕ) × (j < length (refs_from n bodies)) × ((d : Ref) → get_or (refs_from n bodies) j d ≡ ref (n + k))
-listed n k [] h = cc
-listed n zero (None ∷ bodies) h = cc
-listed n (suc k) (None ∷ bodies) h = let w = listed (suc n) k bodies h in (w.0, w.1, (λ d. w.2 d ∙ ap (λ m. ref m) (omega arith)))
-listed n zero (Some b ∷ bodies) h = (0, omega arith, (λ d. ap (λ m. ref m) (omega arith)))
-listed n (suc k) (Some b ∷ bodies) h = let w = listed (suc n) k bodies h in (suc w.0, omega (arith, w.1), (λ d. w.2 d ∙ ap (λ m. ref m) (omega arith)))
+record IsListedFrom (n : ℕ) (cells : List (List Cell)) (q : Ref) : Type 0 where
+  pub behind : n ≤ q.segment
+  pub live : IsSome (body_in cells (ref (q.segment - n) q.offset))
 
-live : (n j : ℕ) (d : Ref) (bodies : List (Option (Kind × List ℕ))) → j < length (refs_from n bodies) → (k : ℕ) × (get_or (refs_from n bodies) j d ≡ ref (n + k)) × IsSome (get_or bodies k None)
-live n j d [] lt = absurd (omega arith)
-live n j d (None ∷ bodies) lt = let w = live (suc n) j d bodies lt in (suc w.0, w.1 ∙ ap (λ m. ref m) (omega arith), w.2)
-live n zero d (Some b ∷ bodies) lt = (0, ap (λ m. ref m) (omega arith), refl)
-live n (suc j) d (Some b ∷ bodies) lt = let w = live (suc n) j d bodies (omega arith) in (suc w.0, w.1 ∙ ap (λ m. ref m) (omega arith), w.2)
+in_from : (n : ℕ) (cells : List (List Cell)) (q : Ref) → Contains (refs_from n cells) q → IsListedFrom n cells q
+in_from n [] q h = absurd (omega (arith, h.1))
+in_from n (l ∷ cells) q h = elim (Contains-append_cases (refs_in n 0 l) (refs_from (suc n) cells) q h) [
+  | inl w ↦
+      let at = in_cells n 0 l q w in let first : q.segment - n ≡ 0 = omega (arith, at.segment) in let whole : q.offset - 0 ≡ q.offset = omega arith in
+      record { behind = omega (arith, at.segment); live = subst (λ k. IsSome (body_in (l ∷ cells) (ref k q.offset))) (sym first) (subst (λ k. IsSome (body_at l k)) whole at.live) }
+  | inr w ↦
+      let at = in_from (suc n) cells q w in let next : q.segment - n ≡ suc (q.segment - suc n) = omega (arith, at.behind) in
+      record { behind = omega (arith, at.behind); live = subst (λ k. IsSome (body_in (l ∷ cells) (ref k q.offset))) (sym next) at.live }
+]
 
-rising : (n : ℕ) (bodies : List (Option (Kind × List ℕ))) → AllPairs ◌≢◌ (refs_from n bodies)
-rising n [] i j d less lt = absurd (omega arith)
-rising n (None ∷ bodies) i j d less lt = rising (suc n) bodies i j d less lt
-rising n (Some b ∷ bodies) i zero d less lt = absurd (omega arith)
-rising n (Some b ∷ bodies) zero (suc j) d less lt = λ same. let w = live (suc n) j d bodies (omega arith) in let numbers : n ≡ suc n + w.0 = ap (λ (r : Ref). r.number) (same ∙ w.1) in absurd (omega (arith, numbers))
-rising n (Some b ∷ bodies) (suc i) (suc j) d less lt = rising (suc n) bodies i j d (omega arith) (omega arith)
+from_in : (n : ℕ) (cells : List (List Cell)) (m x : ℕ) → IsSome (body_in cells (ref m x)) → Contains (refs_from n cells) (ref (n + m) x)
+from_in n [] m x some = cc
+from_in n (l ∷ cells) zero x some =
+    let here : n + 0 ≡ n = omega arith in let whole : 0 + x ≡ x = omega arith in
+    subst (λ k. Contains (refs_in n 0 l ++ refs_from (suc n) cells) (ref k x)) (sym here) (Contains-append_left (refs_in n 0 l) (refs_from (suc n) cells) (ref n x) (subst (λ k. Contains (refs_in n 0 l) (ref n k)) whole (cells_in n 0 l x some)))
+from_in n (l ∷ cells) (suc m) x some =
+    let there : suc n + m ≡ n + suc m = omega arith in
+    Contains-append_right (refs_in n 0 l) (refs_from (suc n) cells) (ref (n + suc m) x) (subst (λ k. Contains (refs_from (suc n) cells) (ref k x)) there (from_in (suc n) cells m x some))
 
-pub are_live : (v : View) → AreLive v (refs_from 0 v.bodies)
+once_from : (n : ℕ) (cells : List (List Cell)) → AllPairs ◌≢◌ (refs_from n cells)
+once_from n [] i j d less lt = absurd (omega (arith, lt))
+once_from n (l ∷ cells) i j d less lt =
+    once-append (refs_in n 0 l) (refs_from (suc n) cells) (once_in n 0 l) (once_from (suc n) cells)
+    (λ q h w. omega (arith, (in_cells n 0 l q h).segment, (in_from (suc n) cells q w).behind)) i j d less lt
+
+-- the references of all objects of a region
+abbrev pub all_refs : View → List Ref
+all_refs v = refs_from 0 v.cells
+
+pub are_live : (v : View) → AreLive v (all_refs v)
 are_live v = record {
-  each = λ r h. let w = listed 0 r.number v.bodies h in (w.0, w.1, w.2 r ∙ ap (λ m. ref m) (omega arith));
-  live = λ r h. let w = live 0 h.0 r v.bodies h.1 in let is : r ≡ ref w.0 = sym h.2 ∙ w.1 ∙ ap (λ m. ref m) (omega arith) in subst (λ q. IsSome (body v q)) (sym is) w.2;
-  once = rising 0 v.bodies;
+  each = λ r h. let same : 0 + r.segment ≡ r.segment = omega arith in subst (λ k. Contains (refs_from 0 v.cells) (ref k r.offset)) same (from_in 0 v.cells r.segment r.offset h);
+  live = λ r h. let same : r.segment - 0 ≡ r.segment = omega arith in subst (λ k. IsSome (body_in v.cells (ref k r.offset))) same (in_from 0 v.cells r h).live;
+  once = once_from 0 v.cells;
 }
 
-pub same_live : (v w : View) (refs : List Ref) → ((r : Ref) → body w r ≡ body v r) → AreLive v refs → AreLive w refs
-same_live v w refs same are = record { each = λ r h. are.each r (subst IsSome (same r) h); live = λ r h. subst IsSome (sym (same r)) (are.live r h); once = are.once }
+-- ---- the names that a function gives
+
+abbrev pub names_of : (Ref → Ref) → List Ref → List (Ref × Ref)
+names_of there refs = map (λ r. (r, there r)) refs
+
+pub firsts : (there : Ref → Ref) (refs : List Ref) → map (λ pair. pair.0) (names_of there refs) ≡ refs
+firsts there [] = refl
+firsts there (r ∷ refs) = ap (λ l. r ∷ l) (firsts there refs)
+
+pub seconds : (there : Ref → Ref) (refs : List Ref) → map (λ pair. pair.1) (names_of there refs) ≡ map there refs
+seconds there [] = refl
+seconds there (r ∷ refs) = ap (λ l. there r ∷ l) (seconds there refs)
+
+pub named-by : (there : Ref → Ref) (refs : List Ref) (r : Ref) → Contains refs r → named_as (names_of there refs) r ≡ there r
+named-by there [] r h = absurd (omega (arith, h.1))
+named-by there (x ∷ refs) r h = elim (refs_decided x r) [
+  | inl e ↦ ap (λ t. cond t (there x) (named_as (names_of there refs) r)) (ap (same_ref x) (sym e) ∙ ref-itself x) ∙ ap there e
+  | inr ne ↦ ap (λ t. cond t (there x) (named_as (names_of there refs) r)) (ref-false x r ne) ∙ named-by there refs r (rest h.0 h.1 h.2 ne)
+]
+  where
+    rest : (k : ℕ) → k < length (x ∷ refs) → get_or (x ∷ refs) k r ≡ r → x ≢ r → Contains refs r
+    rest zero lt is ne = absurd (ne is)
+    rest (suc k) lt is ne = (k, omega (arith, lt), is)
+
+-- what a function leaves as it was
+pub mapped : (o : Option End) (f : End → End) → ((y : End) → o ≡ Some y → f y ≡ y) → o ≡ option_map f o
+mapped None f same = refl
+mapped (Some y) f same = ap (λ z. Some z) (sym (same y refl))
+
+pub some_and : {X : Type 0} (o : Option X) (P : X → Type 0) → IsSomeAnd o P → IsSome o
+some_and None P p = absurd p
+some_and (Some x) P p = refl
 
 -- a region is renamed to itself
-pub renamed-same : (v : View) → (names : List (Ref × Ref)) × Renamed v v names
-renamed-same v = (
-  own_names 0 v.bodies,
-  record {
-    before = subst (AreLive v) (sym (firsts 0 v.bodies)) (are_live v);
-    after = subst (AreLive v) (sym (seconds 0 v.bodies)) (are_live v);
-    bodies = λ r _. ap (body v) (own 0 v.bodies r);
-    links = λ r field _. ap (λ q. link_of v (Obj q field)) (own 0 v.bodies r) ∙ sym (own_option v.bodies (link_of v (Obj r field)));
-    roots = λ s. sym (own_option v.bodies (link_of v (Slot s)));
-    kept = λ s h. h;
-    known = λ s h. h;
-    slots = refl;
-    budget = refl;
-    live = refl;
-  },
-)
+pub renamed-same : (v : View) → IsWell v → (names : List (Ref × Ref)) × Renamed v v names
+renamed-same v well =
+    let refs = all_refs v in let live = are_live v in let names = names_of (λ r. r) refs in
+    let own : (r : Ref) → IsSome (body v r) → named_as names r ≡ r = λ r some. named-by (λ r. r) refs r (live.each r some) in
+    let own_end : (e : End) → IsEnd v e → end_as names e ≡ e = λ e. elim e as (λ (o : End). IsEnd v o → end_as names o ≡ o) [
+      | Obj r field ↦ λ h. ap (λ q. Obj q field) (own r (some_and (body v r) (λ b. field < links_of b.0) h))
+      | Slot s ↦ λ h. refl
+    ] in
+    let own_option : (e : End) → link_of v e ≡ option_map (end_as names) (link_of v e) = λ e. mapped (link_of v e) (end_as names) (λ y is. own_end y (well.ends e y is)) in (
+      names,
+      record {
+        before = subst (AreLive v) (sym (firsts (λ r. r) refs)) live;
+        after = subst (AreLive v) (sym (seconds (λ r. r) refs ∙ map_id refs)) live;
+        bodies = λ r some. ap (body v) (own r some);
+        links = λ r field some. ap (λ q. link_of v (Obj q field)) (own r some) ∙ own_option (Obj r field);
+        roots = λ s. own_option (Slot s);
+        kept = λ s h. h;
+        known = λ s h. h;
+        slots = refl;
+        budget = refl;
+        live = refl;
+      },
+    )
+  where
+    map_id : (refs : List Ref) → map (λ r. r) refs ≡ refs
+    map_id [] = refl
+    map_id (r ∷ refs) = ap (λ l. r ∷ l) (map_id refs)

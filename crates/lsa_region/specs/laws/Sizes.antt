@@ -2,7 +2,7 @@
 use Rattle.std.proofs.Common.{ℕ, ◌≤◌, arith}
 use Rattle.lsa_kinds.specs.declared.kind.Kind.{Kind}
 use Rattle.lsa_kinds.specs.declared.kind.Kind.TheVariants.{Version, RowEntry, Dummy, Static}
-use Rattle.lsa_region.specs.Layout.{rounded_size}
+use Rattle.lsa_store.specs.Objects.{rounded_size}
 
 -- an object takes its header and three links at least
 pub rounded_32 : (kind : Kind) (len : ℕ) → 32 ≤ rounded_size kind len

@@ -1,7 +1,0 @@
-use Rattle.std.proofs.Common.{sym, ap, ◌∙◌}
-use Rattle.lsa_region.specs.Layout.{Stored, sparse_of}
-use Rattle.lsa_region.specs.laws.Sparse.{sparse-none}
-use Rattle.lsa_region.proofs.store.Store.sparse.Goals as goal
-
-pub returns-then-sparse-eq0 : goal.returns-then-sparse-eq0
-returns-then-sparse-eq0 g c = sym (ap (λ (v : Stored). sparse_of g.row.S v.usages) (sym c.self.view_is) ∙ sparse-none g.row.S c.self.inside.pool (sym c.sparse.ensures ∙ c.if-sparse-eq0.true))

@@ -1,0 +1,4 @@
+pub mod Objects
+pub mod Stock
+pub mod Stored
+pub mod laws
