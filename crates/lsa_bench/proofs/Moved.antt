@@ -4,13 +4,13 @@ use Rattle.std.specs.Prelude.{◌⊎◌, ◌+◌, ◌*◌, ◌/◌, ◌-◌, ◌
 use Rattle.std.specs.Option.{option_map, option_map_or}
 use Rattle.lsa_kinds.specs.declared.kind.Kind.{Kind}
 use Rattle.lsa_pool.specs.Room.{spare_of, usage_of}
-use Rattle.lsa_region.specs.declared.end.Ref.{Ref}
+use Rattle.lsa_store.specs.declared.place.Ref.{Ref}
 use Rattle.lsa_region.specs.declared.end.Root.{Root}
 use Rattle.lsa_region.specs.declared.end.End.{End}
 use Rattle.lsa_region.specs.declared.end.End.TheVariants.{Obj, Slot}
 use Rattle.lsa_region.specs.Ends.{end_as}
 use Rattle.lsa_region.specs.Region.{View, body, link_of, IsEnd, IsWell, Renamed, Risen}
-use Rattle.lsa_region.specs.laws.Sparse.{sparse-is}
+use Rattle.lsa_store.specs.laws.Sparse.{sparse-is}
 use Rattle.lsa_move.specs.Room.{Tight, Compactions}
 use Rattle.lsa_bench.specs.Works.{named_object, length_of, IsStep, Steps}
 

@@ -1,9 +1,9 @@
 //! The works: a region is filled, asked for room while it is full, its segments are emptied, and root slots come and go.
 ghost use Rattle.std.specs.Prelude.{◌≡◌, ◌↔◌, ℕ, ◌+◌, ◌*◌, ◌-◌, ◌^◌, ◌<◌, ◌≤◌, true, false, Some, None, IsSome, IfSome, IfOk, cond, min, max};
 ghost use Rattle.lsa_pool.specs.Room.{spare_of};
-ghost use Rattle.lsa_region.specs.Layout.{sparse_of};
+ghost use Rattle.lsa_store.specs.Stock.{sparse_of};
 ghost use Rattle.lsa_region.specs.declared.end.Root.{Root as Slot};
-ghost use Rattle.lsa_region.specs.declared.end.Ref.{Ref as Name};
+ghost use Rattle.lsa_store.specs.declared.place.Ref.{Ref as Name};
 ghost use Rattle.lsa_region.specs.Region.{body, link_of, live_bytes, objects, IsEnd, IsWell, Renamed, slots_of};
 ghost use Rattle.lsa_bench.specs.Works.{named_object, length_of, IsStep, Steps};
 ghost use Rattle.lsa_move.specs.Room.{Tight, IsCompacted, Compactions};

@@ -4,14 +4,14 @@ use Rattle.std.specs.Prelude.{min, IfSome, is_some}
 use Rattle.std.proofs.Math.Nat.{min-le_left, min-le_right, le-min}
 use Rattle.std.proofs.lemmas.Nat.{le-div}
 use Rattle.lsa_pool.specs.Room.{spare_of}
-use Rattle.lsa_region.specs.declared.end.Ref.{Ref}
+use Rattle.lsa_store.specs.declared.place.Ref.{Ref}
 use Rattle.lsa_region.specs.Region.{View, IsWell, HasLayout, Renamed, objects_in}
 use Rattle.lsa_move.specs.Room.{IsCompacted, Compactions}
 use Rattle.lsa_region.specs.laws.Names.{renamed-same}
 use Rattle.lsa_move.proofs.RenamedLaws.{composed, renamed-twice}
 
 renamed-rounds : (size need rounds : ℕ) (old new : View) → IsWell old → HasLayout old → Compactions size need rounds old new → (names : List (Ref × Ref)) × Renamed old new names
-renamed-rounds size need zero old new well layout same = subst (λ v. (names : List (Ref × Ref)) × Renamed old v names) (sym same) (renamed-same old)
+renamed-rounds size need zero old new well layout same = subst (λ v. (names : List (Ref × Ref)) × Renamed old v names) (sym same) (renamed-same old well)
 renamed-rounds size need (suc rounds) old new well layout done =
     let first = renamed-rounds size need rounds old done.0 well layout done.2 in let second = done.4.emptied in
     (composed second.0 first.0, renamed-twice old done.0 new first.0 second.0 first.1 second.1.renamed well)

@@ -7,13 +7,14 @@ use Rattle.std.proofs.lemmas.Bool.{cases_lt}
 use Rattle.lsa_kinds.specs.declared.kind.Kind.{Kind}
 use Rattle.lsa_kinds.specs.declared.kind.Kind.TheVariants.{Version, RowEntry, Dummy, Static}
 use Rattle.lsa_kinds.specs.Kinds.{links_of}
-use Rattle.lsa_region.specs.declared.end.Ref.{Ref}
+use Rattle.lsa_store.specs.declared.place.Ref.{Ref}
 use Rattle.lsa_region.specs.declared.end.Root.{Root}
 use Rattle.lsa_region.specs.declared.end.End.{End}
 use Rattle.lsa_region.specs.declared.end.End.TheVariants.{Obj, Slot}
 use Rattle.lsa_region.specs.Ends.{named_as}
 use Rattle.lsa_region.specs.Region.{View, body, link_of, IsEnd, IsWell, SameObjects, IsAdded, IsFreed, Renamed}
-use Rattle.lsa_region.specs.laws.Ends.{refs_decided, some_and_none, no-end}
+use Rattle.lsa_region.specs.laws.Ends.{some_and_none, no-end}
+use Rattle.lsa_region.specs.laws.Refs.{refs_decided}
 use Rattle.lsa_path.specs.Path.{IsPath, IsOutside, IsOutsideOrUnset, IsInserted, IsTakenOut, AllOnward, behind}
 use Rattle.lsa_path.specs.Roles.{role_of, version_role, LessRecent, MoreRecent}
 use Rattle.lsa_path.specs.laws.Beside.{path-aside}

@@ -1,7 +1,7 @@
 -- A chain of versions, an ordered list of entries and a recency list in one region.
 use Rattle.std.specs.Prelude.{◌≡◌, ◌≢◌, List, [], ◌∷◌, Some, None, Contains}
 use Rattle.lsa_kinds.specs.declared.kind.Kind.TheVariants.{Version, Dummy}
-use Rattle.lsa_region.specs.declared.end.Ref.{Ref}
+use Rattle.lsa_store.specs.declared.place.Ref.{Ref}
 use Rattle.lsa_region.specs.declared.end.Root.{Root}
 use Rattle.lsa_region.specs.declared.end.End.TheVariants.{Obj, Slot}
 use Rattle.lsa_region.specs.Region.{View, link_of}

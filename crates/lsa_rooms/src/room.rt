@@ -1,6 +1,6 @@
 //! Steps of one structure beside the others.
 ghost use Rattle.std.specs.Prelude.{◌≡◌, ◌≢◌, List as Sequence, [], ◌∷◌, ◌++◌, Option, Some, None, Contains};
-ghost use Rattle.lsa_region.specs.declared.end.Ref.{Ref as Name};
+ghost use Rattle.lsa_store.specs.declared.place.Ref.{Ref as Name};
 ghost use Rattle.lsa_region.specs.declared.end.Root.{Root as Place};
 ghost use Rattle.lsa_region.specs.Region.{link_of, IsEnd, IsWell, SameObjects};
 ghost use Rattle.std.specs.Option.{option_map};

@@ -1,7 +1,7 @@
 //! Three entries in order, a recency list and two versions in one region, moved, changed and taken apart.
 ghost use Rattle.std.specs.Prelude.{◌≡◌, ◌≢◌, ℕ, ◌≤◌, List as Sequence, [], ◌∷◌, ◌++◌, true, Option, Some, None};
 ghost use Rattle.lsa_pool.specs.Room.{spare_of};
-ghost use Rattle.lsa_region.specs.declared.end.Ref.{Ref as Name};
+ghost use Rattle.lsa_store.specs.declared.place.Ref.{Ref as Name};
 ghost use Rattle.lsa_region.specs.declared.end.Root.{Root as Place};
 ghost use Rattle.lsa_region.specs.Region.{link_of, IsEnd};
 ghost use Rattle.lsa_list.specs.declared.recency.List.{List as Slots};

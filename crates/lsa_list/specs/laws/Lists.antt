@@ -5,14 +5,14 @@ use Rattle.std.specs.Option.{option_map}
 use Rattle.lsa_kinds.specs.declared.kind.Kind.{Kind}
 use Rattle.lsa_kinds.specs.declared.kind.Kind.TheVariants.{Version, RowEntry, Dummy, Static}
 use Rattle.lsa_kinds.specs.Kinds.{links_of}
-use Rattle.lsa_region.specs.declared.end.Ref.{Ref}
+use Rattle.lsa_store.specs.declared.place.Ref.{Ref}
 use Rattle.lsa_region.specs.declared.end.Root.{Root}
 use Rattle.lsa_region.specs.declared.end.End.{End}
 use Rattle.lsa_region.specs.declared.end.End.TheVariants.{Obj, Slot}
 use Rattle.lsa_region.specs.Ends.{named_as}
 use Rattle.lsa_region.specs.Paired.{IsExchanged}
 use Rattle.lsa_region.specs.Region.{View, body, link_of, IsEnd, IsWell, SameObjects, IsAdded, IsFreed, Renamed}
-use Rattle.lsa_region.specs.laws.Ends.{refs_decided}
+use Rattle.lsa_region.specs.laws.Refs.{refs_decided}
 use Rattle.lsa_path.specs.Path.{IsPath, behind, AllOnward, IsInserted, IsTakenOut}
 use Rattle.lsa_path.specs.Roles.{role_of, role_at, role_in, LessRecent, MoreRecent}
 use Rattle.lsa_path.specs.laws.Paths.{same_some, path-end, path-rest, path-last, fresh-start, fresh-behind, path-same, path-everywhere, all_map}

@@ -1,14 +1,13 @@
 -- A path after two ends changed places, or two objects.
-use Rattle.std.proofs.Common.{◌≡◌, ◌≢◌, ℕ, List, [], ◌∷◌, ◌++◌, Option, Some, None, cond, eqb, inl, inr, refl, sym, ap, ◌∙◌, subst, map}
+use Rattle.std.proofs.Common.{◌≡◌, ◌≢◌, ℕ, List, [], ◌∷◌, ◌++◌, Option, Some, None, cond, inl, inr, refl, sym, ap, ◌∙◌, subst, map}
 use Rattle.std.specs.Prelude.{Contains}
 use Rattle.std.specs.Option.{option_map}
-use Rattle.std.proofs.lemmas.Bool.{eq-eqb, ne_eqb}
-use Rattle.lsa_region.specs.declared.end.Ref.{Ref}
+use Rattle.lsa_store.specs.declared.place.Ref.{Ref}
 use Rattle.lsa_region.specs.declared.end.End.{End}
 use Rattle.lsa_region.specs.declared.end.End.TheVariants.{Obj, Slot}
-use Rattle.lsa_region.specs.Ends.{named_as, swapped}
+use Rattle.lsa_region.specs.Ends.{same_ref, named_as, swapped}
 use Rattle.lsa_region.specs.Paired.{WellPaired, IsExchanged}
-use Rattle.lsa_region.specs.laws.Ends.{refs_decided}
+use Rattle.lsa_region.specs.laws.Refs.{refs_decided, ref-itself, ref-false}
 use Rattle.lsa_region.specs.laws.Exchanges.{swap-first, swap-second, swap-other, map_other, at_end, swap_twice}
 use Rattle.lsa_path.specs.Path.{IsPath, IsOutside, IsOutsideOrUnset, AllOnward, exchanged_end, each_other}
 use Rattle.lsa_path.specs.laws.Members.{all-from_members, map-split}
@@ -31,21 +30,15 @@ module _ (i o : ℕ) (old new : End → Option End) (a b : End) (ex : IsExchange
       (all-from_members o (λ e. (e ≢ a) × (e ≢ b)) xs (λ r h. ((λ same. outside-onward i o a r out_a (sym same)), (λ same. outside-onward i o b r out_b (sym same))))) p
 
 -- the names of two objects, each the other's
-abbrev ref : ℕ → Ref
-ref n = record { number = n }
-
-same_number : (r q : Ref) → r.number ≡ q.number → r ≡ q
-same_number r q e = ap (λ n. ref n) e
-
 module _ (r q : Ref) (apart : r ≢ q) where
   pub other-first : named_as (each_other r q) r ≡ q
-  other-first = ap (λ t. cond t q (cond (eqb q.number r.number) r r)) (eq-eqb r.number r.number refl)
+  other-first = ap (λ t. cond t q (cond (same_ref q r) r r)) (ref-itself r)
 
   pub other-second : named_as (each_other r q) q ≡ r
-  other-second = ap (λ t. cond t q (cond (eqb q.number q.number) r q)) (ne_eqb r.number q.number (λ e. apart (same_number r q e))) ∙ ap (λ t. cond t r q) (eq-eqb q.number q.number refl)
+  other-second = ap (λ t. cond t q (cond (same_ref q q) r q)) (ref-false r q apart) ∙ ap (λ t. cond t r q) (ref-itself q)
 
   pub other-none : (x : Ref) → x ≢ r → x ≢ q → named_as (each_other r q) x ≡ x
-  other-none x no_r no_q = ap (λ t. cond t q (cond (eqb q.number x.number) r x)) (ne_eqb r.number x.number (λ e. no_r (sym (same_number r x e)))) ∙ ap (λ t. cond t r x) (ne_eqb q.number x.number (λ e. no_q (sym (same_number q x e))))
+  other-none x no_r no_q = ap (λ t. cond t q (cond (same_ref q x) r x)) (ref-false r x (λ e. no_r (sym e))) ∙ ap (λ t. cond t r x) (ref-false q x (λ e. no_q (sym e)))
 
   -- one field of both
   swapped-field : (f : ℕ) (x : Ref) → swapped (Obj r f) (Obj q f) (Obj x f) ≡ Obj (named_as (each_other r q) x) f

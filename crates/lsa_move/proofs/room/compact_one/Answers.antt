@@ -13,4 +13,4 @@ pub returns-in-Some-clause-renamed : goal.returns-in-Some-clause-renamed
 returns-in-Some-clause-renamed g c = let e = c.evacuate.ensures.emptied in (e.0, e.1.renamed)
 
 pub returns-in-None-clause-renamed : goal.returns-in-None-clause-renamed
-returns-in-None-clause-renamed g c = renamed-same c.args.region.now
+returns-in-None-clause-renamed g c = renamed-same c.args.region.now c.known.ensures.well
