@@ -76,21 +76,24 @@ static void die(void) {
     syscall(SYS_kill, syscall(SYS_getpid), SIGKILL);
 }
 
-/* What the rules say of this call; no way where none acts. */
+/* The first rule that acts at this call; one with no way where none does. */
 static struct rule acting(const char *call) {
     struct rule none = {"", "", 0, 0, 0};
     if (count < 0)
         read_rules();
-    for (int at = 0; at < count; at++) {
-        struct rule *rule = &rules[at];
-        if (strcmp(rule->call, call) || ++rule->seen < rule->nth)
+    const struct rule *first = NULL;
+    for (struct rule *rule = rules; rule < rules + count; rule++) {
+        if (strcmp(rule->call, call))
             continue;
-        if (rule->seen > rule->nth && strcmp(rule->way, "on") && strcmp(rule->way, "shorts"))
-            continue;
-        tell(call);
-        return *rule;
+        rule->seen++;
+        int goes_on = !strcmp(rule->way, "on") || !strcmp(rule->way, "shorts");
+        if (!first && (rule->seen == rule->nth || (goes_on && rule->seen > rule->nth)))
+            first = rule;
     }
-    return none;
+    if (!first)
+        return none;
+    tell(call);
+    return *first;
 }
 
 static int is(const struct rule *rule, const char *way) {
