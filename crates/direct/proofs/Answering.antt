@@ -15,7 +15,7 @@ use Rattle.rc_machine.specs.Serving.{Takes, Stops}
 use Rattle.rc_machine.specs.State.{State}
 use Rattle.rc_machine.specs.Steps.{Steps, Refuses}
 use Rattle.rc_plain.specs.Stands.{Keeping, Stands}
-use Rattle.direct.specs.Answered.{IsAnswered}
+use Rattle.direct.specs.calls.Answered.{IsAnswered}
 
 -- whatever state the program stood for, the line is answered by a reply, and it stands for the next one
 abbrev pub Answers : Option Files → Keeping → List ℕ → Option Files → Keeping → Reply → Type 0

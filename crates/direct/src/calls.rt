@@ -4,7 +4,7 @@ ghost use Rattle.std.specs.Prelude.{◌≡◌, Some, IfOk};
 ghost use Rattle.rc_lines.specs.Grammar.{parse};
 ghost use Rattle.rc_machine.specs.State.{State};
 ghost use Rattle.rc_plain.specs.Stands.{Stands};
-ghost use Rattle.direct.specs.Answered.{IsAnswered};
+ghost use Rattle.direct.specs.calls.Answered.{IsAnswered};
 
 use rc_lines::{LineErr, Refusal, Reply, read_line};
 use rc_outside::Store;

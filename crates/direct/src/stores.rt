@@ -32,7 +32,7 @@ impl<W> Written<W> {
 }
 
 impl<W: Store> Store for Written<W> {
-    ghost use Rattle.rc_outside.specs.Faults.{RisesIfFault};
+    ghost use Rattle.rc_outside.specs.Faults.{RisesIfFault, OnFault};
 
     ghost files = { λ s. W.files s.inner };
 
@@ -69,7 +69,7 @@ impl<W: Store> Store for Written<W> {
             (λ _. W.files self.new.inner ≡ with_draft (W.files self.old.inner) (W.building self.old.inner))
             (λ _. W.files self.new.inner ≡ W.files self.old.inner) }
         ensures building { W.building self.new.inner ≡ None }
-        ensures faults { RisesIfFault result (W.faults self.old.inner) (W.faults self.new.inner) }
+        ensures faults { RisesIfFault OnFault result (W.faults self.old.inner) (W.faults self.new.inner) }
         ensures asks { W.asks self.new.inner ≡ W.asks self.old.inner }
         ensures counted { OnOk result (self.new.written ≡ raised self.old.written) }
     {

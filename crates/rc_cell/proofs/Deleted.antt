@@ -9,7 +9,7 @@ use Rattle.rc_cell.specs.Orders.{timestamp_of, is_live_cell, tomb_cmp}
 use Rattle.rc_cell.specs.Deletion.{survives, surviving_marker, surviving_cells, shadowed_row, has_life}
 use Rattle.rc_cell.specs.Greatest.{greater}
 use Rattle.rc_cell.specs.Survivors.{in_force-greater}
-use Rattle.rc_cell.specs.Laws.{same_row}
+use Rattle.rc_cell.specs.laws.{same_row}
 
 -- what a body of `shadow` has made is the shadowed row
 pub shadowed_of : (cover : Option Tomb) (row : Row) {tomb : Option Tomb} {m : Option ℤ} {es : List (ℕ × Cell)} → tomb ≡ greater tomb_cmp cover row.tomb → m ≡ surviving_marker tomb row.marker → es ≡ surviving_cells tomb row.cells → ◌≡◌ {A = Row} (record { marker = m; tomb = row.tomb; cells = es }) (shadowed_row cover row)

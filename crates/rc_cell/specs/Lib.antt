@@ -2,7 +2,7 @@ pub mod Beats
 pub mod ByColumn
 pub mod Columns
 pub mod Greatest
-pub mod Laws
+pub mod laws
 pub mod Orders
 pub mod Survivors
 pub mod Winner

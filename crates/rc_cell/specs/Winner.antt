@@ -1,8 +1,7 @@
 -- Which write wins: the reconciliation that Cassandra and ScyllaDB share. This is the one place where its rules stand.
-use Rattle.std.specs.Prelude.{ℕ, ℤ, Bool, true, false, not, ◌&&◌, ◌||◌, ◌==◌, nat_lt, int_lt, List, [], ◌∷◌, Option, Some, None, IsTrue, ◌≡◌}
+use Rattle.std.specs.Prelude.{ℕ, ℤ, Bool, true, false, not, ◌&&◌, ◌||◌, ◌==◌, nat_lt, int_lt, List, [], ◌∷◌, Option, Some, None, IsTrue, ◌≡◌, map as list_map}
 use Rattle.std.specs.declared.cmp.Ordering.{Ordering}
 use Rattle.std.specs.Ordering.{nat_cmp, int_cmp, int_eq, is_gt}
-use Rattle.std.specs.Prelude.{map as list_map}
 use Rattle.std.specs.Option.{option_map}
 use Rattle.std.specs.List.{filter, filter_map, flat_map, list_all}
 use Rattle.std.specs.FinMap as map

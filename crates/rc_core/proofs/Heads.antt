@@ -9,7 +9,7 @@ use Rattle.rc_cell.specs.Beats.{tomb_cmp-IsAntisymmetric}
 use Rattle.rc_cell.specs.Greatest.{greater, greatest-two, greatest-swap}
 use Rattle.rc_cell.specs.Winner.{greatest}
 use Rattle.rc_core.specs.Version.{Version}
-use Rattle.rc_core.specs.Continuity.{partition_tombs}
+use Rattle.rc_core.specs.Continuity.{version_tombs}
 use Rattle.rc_core.specs.Steps.{join_pt}
 use Rattle.rc_core.specs.laws.Losing.{tomb-alone}
 use Rattle.rc_core.specs.laws.Merging.{tombs_by_parts, pts_one}
@@ -24,10 +24,10 @@ joined_within front back old t =
     ∙ ap (greatest tomb_cmp) (sym (append_assoc (option_to_list old) back (t ∷ []))))
     ∙ ap (greatest tomb_cmp) (sym (append_assoc front (option_to_list old ++ back) (t ∷ [])))
 
-pub joined-head : (older newer : List Version) (v : Version) (t : Tomb) → greatest tomb_cmp (partition_tombs (older ++ join_pt t v ∷ newer)) ≡ greater tomb_cmp (greatest tomb_cmp (partition_tombs (older ++ v ∷ newer))) (Some t)
+pub joined-head : (older newer : List Version) (v : Version) (t : Tomb) → greatest tomb_cmp (version_tombs (older ++ join_pt t v ∷ newer)) ≡ greater tomb_cmp (greatest tomb_cmp (version_tombs (older ++ v ∷ newer))) (Some t)
 joined-head older newer v t =
     ap (greatest tomb_cmp) (pts_one older newer (join_pt t v))
-    ∙ joined_within (partition_tombs older) (partition_tombs newer) v.pt t
+    ∙ joined_within (version_tombs older) (version_tombs newer) v.pt t
     ∙ ap (λ ts. greatest tomb_cmp (ts ++ t ∷ [])) (sym (pts_one older newer v))
-    ∙ tombs_by_parts (partition_tombs (older ++ v ∷ newer)) (t ∷ []) (option_to_list (greatest tomb_cmp (partition_tombs (older ++ v ∷ newer)))) (t ∷ []) (sym (tomb-alone (greatest tomb_cmp (partition_tombs (older ++ v ∷ newer))))) refl
-    ∙ greatest-two tomb_cmp_total tomb_cmp-IsAntisymmetric (greatest tomb_cmp (partition_tombs (older ++ v ∷ newer))) (Some t)
+    ∙ tombs_by_parts (version_tombs (older ++ v ∷ newer)) (t ∷ []) (option_to_list (greatest tomb_cmp (version_tombs (older ++ v ∷ newer)))) (t ∷ []) (sym (tomb-alone (greatest tomb_cmp (version_tombs (older ++ v ∷ newer))))) refl
+    ∙ greatest-two tomb_cmp_total tomb_cmp-IsAntisymmetric (greatest tomb_cmp (version_tombs (older ++ v ∷ newer))) (Some t)

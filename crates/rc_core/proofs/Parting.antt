@@ -7,11 +7,11 @@ use Rattle.std.specs.Ordering.{is_lt, is_le}
 use Rattle.std.specs.Cmp.{tied_itself}
 use Rattle.rc_cell.specs.declared.rows.Row as rows
 use Rattle.rc_cell.specs.declared.writes.Tomb.{Tomb}
-use Rattle.rc_cell.specs.Laws.{joined_row-none}
+use Rattle.rc_cell.specs.laws.{joined_row-none}
 use Rattle.rc_cell.specs.Winner.{empty_row, joined_row}
 use Rattle.rc_position.specs.declared.positions.Pos.{Pos}
 use Rattle.rc_position.specs.Position.{pos_cmp, covers, IsBefore}
-use Rattle.rc_position.specs.OrderLaws.{pos_cmp_total, pos_cmp_same}
+use Rattle.rc_position.specs.laws.Orders.{pos_cmp_total, pos_cmp_same}
 use Rattle.rc_mutation.specs.declared.mutations.Mutation.{Mutation}
 use Rattle.rc_mutation.specs.Source.{source_at}
 use Rattle.rc_core.specs.declared.entries.ChainKind.{ChainKind}
@@ -21,10 +21,10 @@ use Rattle.rc_core.specs.declared.entries.Flag.{Flag}
 use Rattle.rc_core.specs.declared.entries.Flag.TheVariants.{Known, Unknown, Inherit}
 use Rattle.rc_core.specs.declared.parts.Part.{Part}
 use Rattle.rc_core.specs.declared.parts.Part.TheVariants.{Row, Gap, Missing, End}
-use Rattle.rc_core.specs.Cell.{Cell, over, through}
-use Rattle.rc_core.specs.Version.{Spot, On, Behind, behind, Version, cell_at, cell_of, entry_answers, seen, spot_cmp}
+use Rattle.rc_core.specs.SpotState.{SpotState, over, through}
+use Rattle.rc_core.specs.Version.{Spot, On, Behind, gap_ordering, Version, state_at, state_of, entry_answers, seen, spot_cmp}
 use Rattle.rc_core.specs.Change.{position_of}
-use Rattle.rc_core.specs.Chain.{flagged, content, cells, IsBare, IsKnown, IsEvenAt}
+use Rattle.rc_core.specs.Chain.{flagged, content, states_at, IsBare, IsKnown, IsEvenAt}
 use Rattle.rc_core.specs.Continuity.{EachOf, IsContinuous}
 use Rattle.rc_core.specs.AtPlace.{HasEntryAt}
 use Rattle.rc_core.specs.Parts.{IsClear, SomeHasEntryAt, IsReach, IsFirstPart}
@@ -55,7 +55,7 @@ sooner y to q Greater e off l = pos_cmp_total.trans y to q l (turn_to q to Great
 
 seen_in_gap : (x to : Pos) (s : Spot) (es : List Entry) → InGap x to s → IsClear x to es → seen s es ≡ seen (Behind x) es
 seen_in_gap x to s [] g c = refl
-seen_in_gap x to s (e ∷ es) g c = elim (pos_cmp x e.position) as (λ r. pos_cmp x e.position ≡ r → entry_answers (spot_cmp s e.position) e (seen s es) ≡ entry_answers (behind r) e (seen (Behind x) es)) [
+seen_in_gap x to s (e ∷ es) g c = elim (pos_cmp x e.position) as (λ r. pos_cmp x e.position ≡ r → entry_answers (spot_cmp s e.position) e (seen s es) ≡ entry_answers (gap_ordering r) e (seen (Behind x) es)) [
   | Less ↦ λ l. ap (λ r. entry_answers r e (seen s es)) (Less-spot s e.position (sooner (position_of s) to e.position (pos_cmp e.position to) refl (c.0 l) g.1))
   | Equal ↦ λ l. ap (λ r. entry_answers r e (seen s es)) (further s x e.position Equal l (λ h. let u : Equal ≡ Less = h in cc) g.0) ∙ seen_in_gap x to s es g c.1
   | Greater ↦ λ l. ap (λ r. entry_answers r e (seen s es)) (further s x e.position Greater l (λ h. let u : Greater ≡ Less = h in cc) g.0) ∙ seen_in_gap x to s es g c.1
@@ -64,32 +64,32 @@ seen_in_gap x to s (e ∷ es) g c = elim (pos_cmp x e.position) as (λ r. pos_cm
 -- over a gap no version holds a row
 no_row_behind : (x : Pos) (es : List Entry) → (seen (Behind x) es).row ≡ None
 no_row_behind x [] = refl
-no_row_behind x (e ∷ es) = elim (pos_cmp x e.position) as (λ r. (entry_answers (behind r) e (seen (Behind x) es)).row ≡ None) [ Less ↦ refl | Equal ↦ no_row_behind x es | Greater ↦ no_row_behind x es ]
+no_row_behind x (e ∷ es) = elim (pos_cmp x e.position) as (λ r. (entry_answers (gap_ordering r) e (seen (Behind x) es)).row ≡ None) [ Less ↦ refl | Equal ↦ no_row_behind x es | Greater ↦ no_row_behind x es ]
 
-no_rows_over : (f : Flag) (a b : Cell) → a.rows ≡ [] → b.rows ≡ [] → (over f a b).rows ≡ []
+no_rows_over : (f : Flag) (a b : SpotState) → a.rows ≡ [] → b.rows ≡ [] → (over f a b).rows ≡ []
 no_rows_over Known a b e h = h
 no_rows_over Unknown a b e h = h
 no_rows_over Inherit a b e h = (λ i. e i ++ h i)
 
-no_rows_through : (x : Pos) (versions : List Version) → (through (cells (Behind x) versions)).rows ≡ []
+no_rows_through : (x : Pos) (versions : List Version) → (through (states_at (Behind x) versions)).rows ≡ []
 no_rows_through x [] = refl
-no_rows_through x (v ∷ vs) = no_rows_over (through (cells (Behind x) vs)).flag (cell_at (Behind x) v) (through (cells (Behind x) vs)) (ap row_list (no_row_behind x v.entries)) (no_rows_through x vs)
+no_rows_through x (v ∷ vs) = no_rows_over (through (states_at (Behind x) vs)).flag (state_at (Behind x) v) (through (states_at (Behind x) vs)) (ap row_list (no_row_behind x v.entries)) (no_rows_through x vs)
   where
     row_list : Option rows.Row → List rows.Row
     row_list None = []
     row_list (Some r) = r ∷ []
 
-pub bare_gap : (x : Pos) (versions : List Version) → content (cells (Behind x) versions) ≡ (empty_row, (content (cells (Behind x) versions)).1)
-bare_gap x versions = λ i. ((ap (λ (a : rows.Row × Option Tomb). a.0) (content-through (cells (Behind x) versions)) ∙ ap joined_row (no_rows_through x versions) ∙ joined_row-none) i, (content (cells (Behind x) versions)).1)
+pub bare_gap : (x : Pos) (versions : List Version) → content (states_at (Behind x) versions) ≡ (empty_row, (content (states_at (Behind x) versions)).1)
+bare_gap x versions = λ i. ((ap (λ (a : rows.Row × Option Tomb). a.0) (content-through (states_at (Behind x) versions)) ∙ ap joined_row (no_rows_through x versions) ∙ joined_row-none) i, (content (states_at (Behind x) versions)).1)
 
-cells_in_gap : (x to : Pos) (s : Spot) (versions : List Version) → InGap x to s → EachOf (λ v. IsClear x to v.entries) versions → cells s versions ≡ cells (Behind x) versions
-cells_in_gap x to s [] g c = refl
-cells_in_gap x to s (v ∷ vs) g c = λ i. cell_of (seen_in_gap x to s v.entries g c.0 i) ∷ cells_in_gap x to s vs g c.1 i
+states_in_gap : (x to : Pos) (s : Spot) (versions : List Version) → InGap x to s → EachOf (λ v. IsClear x to v.entries) versions → states_at s versions ≡ states_at (Behind x) versions
+states_in_gap x to s [] g c = refl
+states_in_gap x to s (v ∷ vs) g c = λ i. state_of (seen_in_gap x to s v.entries g c.0 i) ∷ states_in_gap x to s vs g c.1 i
 
 -- ---- a gap is the same at each of its places
 
 abbrev SeenAt : ChainKind → List Version → Option Tomb → Pos → Type 0
-SeenAt kind versions tomb y = (content (cells (On y) versions) ≡ (empty_row, tomb)) × IsKnown kind versions y
+SeenAt kind versions tomb y = (content (states_at (On y) versions) ≡ (empty_row, tomb)) × IsKnown kind versions y
 
 module _ (kind : ChainKind) (versions : List Version) (x upto to : Pos) (tomb : Option Tomb) (p : IsFirstPart kind versions x upto (Gap to tomb)) (even : IsEvenAt kind versions x) where
   known : IsKnown kind versions x
@@ -101,7 +101,7 @@ module _ (kind : ChainKind) (versions : List Version) (x upto to : Pos) (tomb : 
   reach : IsReach versions x upto to
   reach = p.3
 
-  tomb_is : (content (cells (On x) versions)).1 ≡ tomb
+  tomb_is : (content (states_at (On x) versions)).1 ≡ tomb
   tomb_is = p.4
 
   here : SeenAt kind versions tomb x
@@ -110,9 +110,9 @@ module _ (kind : ChainKind) (versions : List Version) (x upto to : Pos) (tomb : 
   there : (y : Pos) → IsBefore x y → IsBefore y to → SeenAt kind versions tomb y
   there y l m =
       let on : InGap x to (On y) = (turn_to x y Less l, m) in
-      let gap : InGap x to (Behind y) = (ap behind (turn_to x y Less l), m) in
-      let same = cells_in_gap x to (On y) versions on reach.clear in
-      let same_gap = cells_in_gap x to (Behind y) versions gap reach.clear in (
+      let gap : InGap x to (Behind y) = (ap gap_ordering (turn_to x y Less l), m) in
+      let same = states_in_gap x to (On y) versions on reach.clear in
+      let same_gap = states_in_gap x to (Behind y) versions gap reach.clear in (
         ap content same ∙ bare_gap x versions ∙ (λ i. (empty_row, (sym (even bare known) ∙ tomb_is) i)),
         record { at = ap (flagged kind) same ∙ known.gap bare; gap = λ _. ap (flagged kind) same_gap ∙ known.gap bare },
       )

@@ -10,19 +10,19 @@ use Rattle.rc_cell.specs.Winner.{greatest, joined_row}
 use Rattle.rc_core.specs.declared.entries.Entry.{Entry}
 use Rattle.rc_core.specs.declared.entries.Flag.TheVariants.{Inherit}
 use Rattle.rc_core.specs.declared.entries.Mark.{Mark}
-use Rattle.rc_core.specs.Cell.{over, under}
+use Rattle.rc_core.specs.SpotState.{over, under}
 use Rattle.rc_core.specs.Change.{mark, lost_mark, lose_first_gap}
 use Rattle.rc_core.specs.Merge.{Alike}
-use Rattle.rc_core.specs.Plain.{mark_cell}
+use Rattle.rc_core.specs.Plain.{mark_state}
 use Rattle.rc_core.specs.Steps.{released}
 use Rattle.rc_core.specs.laws.Losing.{tomb-alone}
 
 put_tomb : (s t u : Option Tomb) → u ≡ greater tomb_cmp s t → greatest tomb_cmp (option_to_list u) ≡ greatest tomb_cmp (option_to_list s ++ option_to_list t)
 put_tomb s t u e = tomb-alone u ∙ e ∙ sym (greatest-two tomb_cmp_total tomb_cmp-IsAntisymmetric s t)
 
-pub put_alike : (older newer : Mark) (u : Option Tomb) → newer.flag ≡ Inherit → u ≡ greater tomb_cmp older.tomb newer.tomb → Alike (mark_cell (mark older.flag u)) (under (mark_cell older) (mark_cell newer))
+pub put_alike : (older newer : Mark) (u : Option Tomb) → newer.flag ≡ Inherit → u ≡ greater tomb_cmp older.tomb newer.tomb → Alike (mark_state (mark older.flag u)) (under (mark_state older) (mark_state newer))
 put_alike older newer u f e =
-    subst (λ g. Alike (mark_cell (mark older.flag u)) (over g (mark_cell older) (mark_cell newer))) (sym f)
+    subst (λ g. Alike (mark_state (mark older.flag u)) (over g (mark_state older) (mark_state newer))) (sym f)
     (refl, λ i. (joined_row [], put_tomb older.tomb newer.tomb u e i))
 
 set_lost : (ys : List Entry) (i : ℕ) (r : Entry) (d : Entry) (m : Mark) → m ≡ lost_mark → i < length ys → r ≡ get_or ys i d →

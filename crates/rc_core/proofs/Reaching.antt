@@ -6,8 +6,8 @@ use Rattle.std.specs.declared.cmp.Ordering.TheVariants.{Less, Equal, Greater}
 use Rattle.std.specs.Ordering.{is_gt}
 use Rattle.rc_position.specs.declared.positions.Pos.{Pos}
 use Rattle.rc_position.specs.Position.{pos_cmp, IsBefore}
-use Rattle.rc_position.specs.OrderLaws.{pos_cmp_total, pos_cmp_same}
-use Rattle.rc_position.specs.BoundLaws.{last_pos-greatest}
+use Rattle.rc_position.specs.laws.Orders.{pos_cmp_total, pos_cmp_same}
+use Rattle.rc_position.specs.laws.Bounds.{last_pos-greatest}
 use Rattle.rc_core.specs.declared.entries.Entry.{Entry}
 use Rattle.rc_core.specs.declared.slow.PlainVersion.{PlainVersion}
 use Rattle.rc_core.specs.Slow.{plain}

@@ -17,37 +17,37 @@ use Rattle.rc_position.specs.Position.{pos_cmp, prefix_cmp, IsBefore}
 use Rattle.std.specs.declared.cmp.Ordering.TheVariants.{Less, Equal}
 use Rattle.rc_core.specs.declared.entries.Flag.{Flag}
 use Rattle.rc_core.specs.declared.entries.Flag.TheVariants.{Known, Unknown, Inherit}
-use Rattle.rc_core.specs.Cell.{Cell, cell, nothing, over, under, through, said}
-use Rattle.rc_core.specs.Chain.{decides, newer_first, cells, content, flagged, flag_over, IsBare, IsKnown}
+use Rattle.rc_core.specs.SpotState.{SpotState, spot_state, silent, over, under, through, joined_state}
+use Rattle.rc_core.specs.Chain.{decides, newer_first, states_at, content, flagged, flag_over, IsBare, IsKnown}
 use Rattle.rc_core.specs.Merge.{Alike}
-use Rattle.rc_core.specs.Version.{Spot, On, Behind, Version, static_cell, cell_of, entry_answers, found, seen, spot_cmp, end_position}
-use Rattle.rc_core.specs.Plain.{mark_cell}
+use Rattle.rc_core.specs.Version.{Spot, On, Behind, Version, static_state, state_of, entry_answers, found, seen, spot_cmp, end_position}
+use Rattle.rc_core.specs.Plain.{mark_state}
 use Rattle.rc_core.specs.declared.entries.Entry.{Entry}
 use Rattle.rc_core.specs.declared.entries.ChainKind.{ChainKind}
 use Rattle.rc_core.specs.declared.slow.PlainVersion.{PlainVersion}
 use Rattle.rc_core.specs.declared.slow.Seen.{Seen}
-use Rattle.rc_core.specs.Slow.{plain, seen_cell}
+use Rattle.rc_core.specs.Slow.{plain, seen_state}
 use Rattle.rc_core.specs.laws.Folding.{flagged-through, content-through, under-below, under-grouping}
 use Rattle.rc_core.specs.laws.Losing.{joined-again, tomb-alone}
 use Rattle.rc_core.specs.laws.Merging.{rows_by_parts, tombs_by_parts, cons_is, alike-above}
-use Rattle.rc_core.specs.Continuity.{partition_tombs}
+use Rattle.rc_core.specs.Continuity.{version_tombs}
 use Rattle.rc_core.specs.laws.Filling.{no_rows}
 
-alike_trans : (a b c : Cell) → Alike a b → Alike b c → Alike a c
+alike_trans : (a b c : SpotState) → Alike a b → Alike b c → Alike a c
 alike_trans a b c h k = (h.0 ∙ k.0, h.1 ∙ k.1)
 
-row_said : (c d : Cell) (rows : List Row) → said c ≡ said d → said (cell c.flag (c.rows ++ rows) c.tombs) ≡ said (cell d.flag (d.rows ++ rows) d.tombs)
+row_said : (c d : SpotState) (rows : List Row) → joined_state c ≡ joined_state d → joined_state (spot_state c.flag (c.rows ++ rows) c.tombs) ≡ joined_state (spot_state d.flag (d.rows ++ rows) d.tombs)
 row_said c d rows e = λ i. (rows_by_parts c.rows rows d.rows rows (ap (λ (a : Row × Option Tomb). a.0) e) refl i, ap (λ (a : Row × Option Tomb). a.1) e i)
 
 -- ---- a mark laid over
 
 pub marked_inherit : (f : Flag) (r : Row) (t m u : Option Tomb) (g : Flag) → decides g ≡ false → u ≡ greater tomb_cmp t m →
-    Alike (cell f (r ∷ []) (option_to_list u)) (over g (cell f (r ∷ []) (option_to_list t)) (cell g [] (option_to_list m)))
+    Alike (spot_state f (r ∷ []) (option_to_list u)) (over g (spot_state f (r ∷ []) (option_to_list t)) (spot_state g [] (option_to_list m)))
 marked_inherit f r t m u Known e h = absurd (cc)
 marked_inherit f r t m u Unknown e h = absurd (cc)
 marked_inherit f r t m u Inherit e h = (refl, λ i. (joined_row (r ∷ []), (tomb-alone u ∙ h ∙ sym (greatest-two tomb_cmp_total tomb_cmp-IsAntisymmetric t m)) i))
 
-pub marked_decides : (below : Cell) (r : Row) (m : Option Tomb) (g : Flag) → decides g ≡ true → r ≡ empty_row → Alike (cell g (r ∷ []) (option_to_list m)) (over g below (cell g [] (option_to_list m)))
+pub marked_decides : (below : SpotState) (r : Row) (m : Option Tomb) (g : Flag) → decides g ≡ true → r ≡ empty_row → Alike (spot_state g (r ∷ []) (option_to_list m)) (over g below (spot_state g [] (option_to_list m)))
 marked_decides below r m Known e h = (refl, λ i. ((ap (λ q. joined_row (q ∷ [])) h ∙ no_rows []) i, greatest tomb_cmp (option_to_list m)))
 marked_decides below r m Unknown e h = (refl, λ i. ((ap (λ q. joined_row (q ∷ [])) h ∙ no_rows []) i, greatest tomb_cmp (option_to_list m)))
 marked_decides below r m Inherit e h = absurd (cc)
@@ -108,21 +108,21 @@ next_base n found Inherit None = refl
 -- ---- a version laid over what is seen
 
 -- a row at the place, under a mark
-pub row_over : (below marked joined : Cell) (f : Flag) (rows : List Row) (tombs : List Tomb) → Alike marked (over f below (cell f [] tombs)) → Alike joined (cell marked.flag (marked.rows ++ rows) marked.tombs) →
-    Alike joined (over f below (cell f rows tombs))
-row_over below marked joined Known rows tombs a b = (b.0 ∙ a.0, b.1 ∙ row_said marked (cell Known [] tombs) rows a.1)
-row_over below marked joined Unknown rows tombs a b = (b.0 ∙ a.0, b.1 ∙ row_said marked (cell Unknown [] tombs) rows a.1)
-row_over below marked joined Inherit rows tombs a b = (b.0 ∙ a.0, b.1 ∙ row_said marked (cell below.flag (below.rows ++ []) (below.tombs ++ tombs)) rows a.1 ∙ (λ i. (joined_row (append-nil below.rows i ++ rows), greatest tomb_cmp (below.tombs ++ tombs))))
+pub row_over : (below marked joined : SpotState) (f : Flag) (rows : List Row) (tombs : List Tomb) → Alike marked (over f below (spot_state f [] tombs)) → Alike joined (spot_state marked.flag (marked.rows ++ rows) marked.tombs) →
+    Alike joined (over f below (spot_state f rows tombs))
+row_over below marked joined Known rows tombs a b = (b.0 ∙ a.0, b.1 ∙ row_said marked (spot_state Known [] tombs) rows a.1)
+row_over below marked joined Unknown rows tombs a b = (b.0 ∙ a.0, b.1 ∙ row_said marked (spot_state Unknown [] tombs) rows a.1)
+row_over below marked joined Inherit rows tombs a b = (b.0 ∙ a.0, b.1 ∙ row_said marked (spot_state below.flag (below.rows ++ []) (below.tombs ++ tombs)) rows a.1 ∙ (λ i. (joined_row (append-nil below.rows i ++ rows), greatest tomb_cmp (below.tombs ++ tombs))))
 
 -- the entry at the place answers
-pub over_here : (below marked joined : Cell) (s : Spot) (left all : List Entry) (first : Entry) → 1 ≤ length left → first ≡ get_or left 0 first → spot_cmp s first.position ≡ Equal → seen s left ≡ seen s all →
-    Alike marked (under below (mark_cell first.at)) → Alike joined (cell marked.flag (marked.rows ++ option_to_list first.row) marked.tombs) → Alike joined (under below (cell_of (seen s all)))
+pub over_here : (below marked joined : SpotState) (s : Spot) (left all : List Entry) (first : Entry) → 1 ≤ length left → first ≡ get_or left 0 first → spot_cmp s first.position ≡ Equal → seen s left ≡ seen s all →
+    Alike marked (under below (mark_state first.at)) → Alike joined (spot_state marked.flag (marked.rows ++ option_to_list first.row) marked.tombs) → Alike joined (under below (state_of (seen s all)))
 over_here below marked joined s [] all first l e c h a b = absurd (omega (arith, l))
 over_here below marked joined s (x ∷ xs) all first l e c h a b =
-    subst (λ f. Alike joined (under below (cell_of f))) (sym (ap (λ r. entry_answers r x (seen s xs)) (sym (ap (λ (y : Entry). spot_cmp s y.position) e) ∙ c) ∙ ap (λ (y : Entry). found y.at y.row) (sym e)) ∙ h)
+    subst (λ f. Alike joined (under below (state_of f))) (sym (ap (λ r. entry_answers r x (seen s xs)) (sym (ap (λ (y : Entry). spot_cmp s y.position) e) ∙ c) ∙ ap (λ (y : Entry). found y.at y.row) (sym e)) ∙ h)
     (row_over below marked joined first.at.flag (option_to_list first.row) (option_to_list first.at.tomb) a b)
 
-pub laid_next : (seen next : Cell) (f : Version → Cell) (left : List PlainVersion) (first : PlainVersion) (all : Cell) → 1 ≤ length left → first ≡ get_or left 0 first → Alike next (under seen (f (plain first))) →
+pub laid_next : (seen next : SpotState) (f : Version → SpotState) (left : List PlainVersion) (first : PlainVersion) (all : SpotState) → 1 ≤ length left → first ≡ get_or left 0 first → Alike next (under seen (f (plain first))) →
     Alike (under seen (through (list_map f (list_map plain left)))) all → Alike (under next (through (list_map f (list_map plain (take (length left - 1) (drop 1 left)))))) all
 laid_next seen next f [] first all l e a h = absurd (omega (arith, l))
 laid_next seen next f (v ∷ vs) first all l e a h =
@@ -131,50 +131,50 @@ laid_next seen next f (v ∷ vs) first all l e a h =
     (subst (λ c. Alike c all) (sym (under-grouping seen (f (plain first)) (through (list_map f (list_map plain vs))) ∙ ap (λ u. under seen (under (f (plain u)) (through (list_map f (list_map plain vs))))) e)) h))
 
 -- a static row under its flag
-pub statics_over : (below marked joined : Cell) (v : PlainVersion) → Alike marked (under below (cell v.static_flag [] [])) → Alike joined (cell marked.flag (marked.rows ++ option_to_list v.statics) marked.tombs) → Alike joined (under below (static_cell (plain v)))
+pub statics_over : (below marked joined : SpotState) (v : PlainVersion) → Alike marked (under below (spot_state v.static_flag [] [])) → Alike joined (spot_state marked.flag (marked.rows ++ option_to_list v.statics) marked.tombs) → Alike joined (under below (static_state (plain v)))
 statics_over below marked joined v a b = row_over below marked joined v.static_flag (option_to_list v.statics) [] a b
 
 -- the greatest partition tombstone so far, with those of what is left
 pub head_next : (now next : Option Tomb) (left : List PlainVersion) (first : PlainVersion) (all : Option Tomb) → 1 ≤ length left → first ≡ get_or left 0 first → next ≡ greater tomb_cmp now first.pt →
-    greatest tomb_cmp (option_to_list now ++ partition_tombs (list_map plain left)) ≡ all → greatest tomb_cmp (option_to_list next ++ partition_tombs (list_map plain (take (length left - 1) (drop 1 left)))) ≡ all
+    greatest tomb_cmp (option_to_list now ++ version_tombs (list_map plain left)) ≡ all → greatest tomb_cmp (option_to_list next ++ version_tombs (list_map plain (take (length left - 1) (drop 1 left)))) ≡ all
 head_next now next [] first all l e n h = absurd (omega (arith, l))
 head_next now next (v ∷ vs) first all l e n h =
-    ap (λ us. greatest tomb_cmp (option_to_list next ++ partition_tombs (list_map plain us))) (take_rest (v ∷ vs) 1)
-    ∙ tombs_by_parts (option_to_list next) (partition_tombs (list_map plain vs)) (option_to_list now ++ option_to_list v.pt) (partition_tombs (list_map plain vs))
+    ap (λ us. greatest tomb_cmp (option_to_list next ++ version_tombs (list_map plain us))) (take_rest (v ∷ vs) 1)
+    ∙ tombs_by_parts (option_to_list next) (version_tombs (list_map plain vs)) (option_to_list now ++ option_to_list v.pt) (version_tombs (list_map plain vs))
     (tomb-alone next ∙ n ∙ ap (λ (u : PlainVersion). greater tomb_cmp now u.pt) e ∙ sym (greatest-two tomb_cmp_total tomb_cmp-IsAntisymmetric now v.pt)) refl
-    ∙ ap (greatest tomb_cmp) (append_assoc (option_to_list now) (option_to_list v.pt) (partition_tombs (list_map plain vs)))
-    ∙ ap (λ ts. greatest tomb_cmp (option_to_list now ++ ts)) (sym (cons_is v.pt (partition_tombs (list_map plain vs))))
+    ∙ ap (greatest tomb_cmp) (append_assoc (option_to_list now) (option_to_list v.pt) (version_tombs (list_map plain vs)))
+    ∙ ap (λ ts. greatest tomb_cmp (option_to_list now ++ ts)) (sym (cons_is v.pt (version_tombs (list_map plain vs))))
     ∙ h
 
-pub head_last : (now : Option Tomb) (left : List PlainVersion) (all : Option Tomb) → length left < 1 → greatest tomb_cmp (option_to_list now ++ partition_tombs (list_map plain left)) ≡ all → now ≡ all
+pub head_last : (now : Option Tomb) (left : List PlainVersion) (all : Option Tomb) → length left < 1 → greatest tomb_cmp (option_to_list now ++ version_tombs (list_map plain left)) ≡ all → now ≡ all
 head_last now [] all l h = sym (tomb-alone now) ∙ ap (greatest tomb_cmp) (sym (append-nil (option_to_list now))) ∙ h
 head_last now (v ∷ vs) all l h = absurd (omega (arith, l))
 
-pub laid_first : (r : Row) (all : Cell) → r ≡ empty_row → Alike (under (cell Inherit (r ∷ []) []) all) all
-laid_first r all e = alike_trans (under (cell Inherit (r ∷ []) []) all) (under nothing all) all (alike-above (cell Inherit (r ∷ []) []) nothing all (refl, λ i. ((ap (λ q. joined_row (q ∷ [])) e ∙ no_rows []) i, greatest tomb_cmp []))) (subst (λ c. Alike c all) (sym (under-below all)) (refl, refl))
+pub laid_first : (r : Row) (all : SpotState) → r ≡ empty_row → Alike (under (spot_state Inherit (r ∷ []) []) all) all
+laid_first r all e = alike_trans (under (spot_state Inherit (r ∷ []) []) all) (under silent all) all (alike-above (spot_state Inherit (r ∷ []) []) silent all (refl, λ i. ((ap (λ q. joined_row (q ∷ [])) e ∙ no_rows []) i, greatest tomb_cmp []))) (subst (λ c. Alike c all) (sym (under-below all)) (refl, refl))
 
-pub content_of : (seen : Seen) (row : Row) (tomb : Option Tomb) (cs : List Cell) → Alike (seen_cell seen) (through cs) → row ≡ joined_row (seen.row ∷ []) → tomb ≡ seen.tomb → ◌≡◌ {A = Row × Option Tomb} (row, tomb) (content cs)
+pub content_of : (seen : Seen) (row : Row) (tomb : Option Tomb) (cs : List SpotState) → Alike (seen_state seen) (through cs) → row ≡ joined_row (seen.row ∷ []) → tomb ≡ seen.tomb → ◌≡◌ {A = Row × Option Tomb} (row, tomb) (content cs)
 content_of seen row tomb cs a e f = (λ i. (e i, (f ∙ sym (tomb-alone seen.tomb)) i)) ∙ a.1 ∙ sym (content-through cs)
 
 -- ---- what is known
 
-pub is_flagged : (kind : ChainKind) (cs : List Cell) (f : Flag) (b : Bool) → b ≡ flag_over kind f → f ≡ (through cs).flag → b ≡ flagged kind cs
+pub is_flagged : (kind : ChainKind) (cs : List SpotState) (f : Flag) (b : Bool) → b ≡ flag_over kind f → f ≡ (through cs).flag → b ≡ flagged kind cs
 is_flagged kind cs f b e h = e ∙ ap (flag_over kind) h ∙ sym (flagged-through kind cs)
 
-pub not_known : (kind : ChainKind) (versions : List Version) (x : Pos) (b : Bool) → b ≡ flagged kind (cells (On x) versions) → b ≡ false → (IsTrue false → IsKnown kind versions x) × (IsKnown kind versions x → IsTrue false)
+pub not_known : (kind : ChainKind) (versions : List Version) (x : Pos) (b : Bool) → b ≡ flagged kind (states_at (On x) versions) → b ≡ false → (IsTrue false → IsKnown kind versions x) × (IsKnown kind versions x → IsTrue false)
 not_known kind versions x b e h = (λ u. absurd (cc), λ k. sym h ∙ e ∙ k.at)
 
-pub known_with_row : (kind : ChainKind) (versions : List Version) (x : Pos) (b : Bool) → b ≡ flagged kind (cells (On x) versions) → b ≡ true → (IsBare versions x → ⊥) → (IsTrue true → IsKnown kind versions x) × (IsKnown kind versions x → IsTrue true)
+pub known_with_row : (kind : ChainKind) (versions : List Version) (x : Pos) (b : Bool) → b ≡ flagged kind (states_at (On x) versions) → b ≡ true → (IsBare versions x → ⊥) → (IsTrue true → IsKnown kind versions x) × (IsKnown kind versions x → IsTrue true)
 known_with_row kind versions x b e h off = (λ _. record { at = sym e ∙ h; gap = λ bare. absurd (off bare) }, λ _. refl)
 
-pub known_with_gap : (kind : ChainKind) (versions : List Version) (x : Pos) (b g : Bool) → b ≡ flagged kind (cells (On x) versions) → b ≡ true → IsBare versions x → g ≡ flagged kind (cells (Behind x) versions) → (IsTrue g → IsKnown kind versions x) × (IsKnown kind versions x → IsTrue g)
+pub known_with_gap : (kind : ChainKind) (versions : List Version) (x : Pos) (b g : Bool) → b ≡ flagged kind (states_at (On x) versions) → b ≡ true → IsBare versions x → g ≡ flagged kind (states_at (Behind x) versions) → (IsTrue g → IsKnown kind versions x) × (IsKnown kind versions x → IsTrue g)
 known_with_gap kind versions x b g e h bare d = (λ t. record { at = sym e ∙ h; gap = λ _. sym d ∙ t }, λ k. d ∙ k.gap bare)
 
 -- a row is seen, where what is seen is not empty
-pub not_bare : (versions : List Version) (x : Pos) (row : Row) (tomb : Option Tomb) (b : Bool) → ◌≡◌ {A = Row × Option Tomb} (row, tomb) (content (cells (On x) versions)) → (row ≡ empty_row → IsTrue b) → b ≡ false → IsBare versions x → ⊥
+pub not_bare : (versions : List Version) (x : Pos) (row : Row) (tomb : Option Tomb) (b : Bool) → ◌≡◌ {A = Row × Option Tomb} (row, tomb) (content (states_at (On x) versions)) → (row ≡ empty_row → IsTrue b) → b ≡ false → IsBare versions x → ⊥
 not_bare versions x row tomb b e is h bare = let u : false ≡ true = sym h ∙ is (ap (λ (a : Row × Option Tomb). a.0) e ∙ bare.no_row) in cc
 
-pub bare_there : (versions : List Version) (x : Pos) (row : Row) (tomb : Option Tomb) → ◌≡◌ {A = Row × Option Tomb} (row, tomb) (content (cells (On x) versions)) → row ≡ empty_row → IsBefore x end_position → IsBare versions x
+pub bare_there : (versions : List Version) (x : Pos) (row : Row) (tomb : Option Tomb) → ◌≡◌ {A = Row × Option Tomb} (row, tomb) (content (states_at (On x) versions)) → row ≡ empty_row → IsBefore x end_position → IsBare versions x
 bare_there versions x row tomb e h l = record { inside = l; no_row = ap (λ (a : Row × Option Tomb). a.0) (sym e) ∙ h }
 
 pub beyond_end : (versions : List Version) (x : Pos) (b : Bool) → (IsBefore x end_position → IsTrue b) → b ≡ false → IsBare versions x → ⊥

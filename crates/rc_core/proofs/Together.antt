@@ -7,14 +7,14 @@ use Rattle.std.specs.Ordering.{is_le, is_lt, is_eq, is_gt}
 use Rattle.rc_cell.specs.declared.rows.Row.{Row}
 use Rattle.rc_cell.specs.declared.writes.Tomb.{Tomb}
 use Rattle.rc_cell.specs.Orders.{tomb_cmp}
-use Rattle.rc_cell.specs.Laws.{joined_row-none}
+use Rattle.rc_cell.specs.laws.{joined_row-none}
 use Rattle.rc_cell.specs.Winner.{greatest, joined_row, empty_row}
 use Rattle.rc_position.specs.declared.comps.Comp.{Comp}
 use Rattle.rc_position.specs.declared.positions.Pos.{Pos}
 use Rattle.rc_position.specs.declared.positions.Weight.TheVariants.{After}
 use Rattle.rc_position.specs.Position.{pos_cmp, row_pos, covers, IsBefore}
-use Rattle.rc_position.specs.OrderLaws.{pos_cmp_total, pos_cmp_same}
-use Rattle.rc_position.specs.BoundLaws.{After-rows, last_pos-greatest}
+use Rattle.rc_position.specs.laws.Orders.{pos_cmp_total, pos_cmp_same}
+use Rattle.rc_position.specs.laws.Bounds.{After-rows, last_pos-greatest}
 use Rattle.rc_ranges.specs.declared.pieces.Piece.{Piece}
 use Rattle.rc_ranges.specs.Cover.{tombs_over}
 use Rattle.rc_mutation.specs.declared.mutations.Mutation.{Mutation}
@@ -23,11 +23,11 @@ use Rattle.rc_core.specs.declared.entries.ChainKind.TheVariants.{Memtable}
 use Rattle.rc_core.specs.declared.parts.Part.{Part}
 use Rattle.rc_core.specs.declared.parts.Part.TheVariants as part
 use Rattle.rc_core.specs.Version.{On, Version, end_position}
-use Rattle.rc_core.specs.Chain.{cells, rows_from, IsEvenAt}
+use Rattle.rc_core.specs.Chain.{states_at, rows_from, IsEvenAt}
 use Rattle.rc_core.specs.Chains.{AllInherit}
 use Rattle.rc_core.specs.Continuity.{EachOf}
 use Rattle.rc_core.specs.Parts.{IsFirstPart}
-use Rattle.rc_core.specs.StandsFor.{StandsFor, ArePartsFrom, IsWholeAt, piece_of, piece_over, pieces_from, place_after, row_of, rows_of}
+use Rattle.rc_core.specs.StandsFor.{StandsFor, ArePartsFrom, IsWholeAt, piece_of, piece_over, part_pieces, place_after, row_in_part, rows_of}
 use Rattle.rc_core.specs.laws.Losing.{joined-again, tomb-alone}
 use Rattle.rc_core.specs.laws.Merging.{over-append, rows_in-append}
 use Rattle.rc_core.specs.laws.Spots.{turn_to}
@@ -76,9 +76,9 @@ module _ (writes : List Mutation) (versions : List Version) (st : StandsFor writ
   later (part.Missing to) x upto y p l = absurd (p.1 (memtable-known versions inherits x))
   later part.End x upto y p l = l
 
-  pieces_ahead : (ps : List Part) (x upto y : Pos) → ArePartsFrom versions x upto ps → IsBefore y x → tombs_over (pieces_from x ps) y ≡ []
+  pieces_ahead : (ps : List Part) (x upto y : Pos) → ArePartsFrom versions x upto ps → IsBefore y x → tombs_over (part_pieces x ps) y ≡ []
   pieces_ahead [] x upto y a l = refl
-  pieces_ahead (p ∷ ps) x upto y a l = over-append y (piece_of p x) (pieces_from (place_after p x) ps) ∙ (λ i. first p i ++ pieces_ahead ps (place_after p x) upto y a.1 (later p x upto y a.0 l) i)
+  pieces_ahead (p ∷ ps) x upto y a l = over-append y (piece_of p x) (part_pieces (place_after p x) ps) ∙ (λ i. first p i ++ pieces_ahead ps (place_after p x) upto y a.1 (later p x upto y a.0 l) i)
     where
       first : (p : Part) → tombs_over (piece_of p x) y ≡ []
       first (part.Row key row tomb) = piece_ahead x (after key) y tomb l
@@ -88,9 +88,9 @@ module _ (writes : List Mutation) (versions : List Version) (st : StandsFor writ
 
   rows_ahead : (ps : List Part) (x upto y : Pos) → ArePartsFrom versions x upto ps → IsBefore y x → rows_in y (rows_of ps) ≡ []
   rows_ahead [] x upto y a l = refl
-  rows_ahead (p ∷ ps) x upto y a l = rows_in-append y (row_of p) (rows_of ps) ∙ (λ i. first p a.0 i ++ rows_ahead ps (place_after p x) upto y a.1 (later p x upto y a.0 l) i)
+  rows_ahead (p ∷ ps) x upto y a l = rows_in-append y (row_in_part p) (rows_of ps) ∙ (λ i. first p a.0 i ++ rows_ahead ps (place_after p x) upto y a.1 (later p x upto y a.0 l) i)
     where
-      first : (p : Part) → IsFirstPart Memtable versions x upto p → rows_in y (row_of p) ≡ []
+      first : (p : Part) → IsFirstPart Memtable versions x upto p → rows_in y (row_in_part p) ≡ []
       first (part.Row key row tomb) q = rows_off y key row (ap is_eq (subst (IsBefore y) (row_place x upto key row tomb q) l))
       first (part.Gap to tomb) q = refl
       first (part.Missing to) q = refl
@@ -98,14 +98,14 @@ module _ (writes : List Mutation) (versions : List Version) (st : StandsFor writ
 
   -- what parts say at a position
   abbrev told : List Part → Pos → Pos → Row × Option Tomb
-  told ps x y = (joined_row (rows_in y (rows_of ps)), greatest tomb_cmp (tombs_over (pieces_from x ps) y))
+  told ps x y = (joined_row (rows_in y (rows_of ps)), greatest tomb_cmp (tombs_over (part_pieces x ps) y))
 
   -- a position behind a part, and one in it
   told_beyond : (p : Part) (ps : List Part) (x upto y : Pos) → IsFirstPart Memtable versions x upto p → is_lt (pos_cmp y (place_after p x)) ≡ false → is_le (pos_cmp x y) ≡ true → is_lt (pos_cmp y upto) ≡ true →
       told (p ∷ ps) x y ≡ told ps (place_after p x) y
   told_beyond p ps x upto y q e c d = λ i. (joined_row (rows i), greatest tomb_cmp (tombs i))
     where
-      first_rows : (p : Part) → IsFirstPart Memtable versions x upto p → is_lt (pos_cmp y (place_after p x)) ≡ false → rows_in y (row_of p) ≡ []
+      first_rows : (p : Part) → IsFirstPart Memtable versions x upto p → is_lt (pos_cmp y (place_after p x)) ≡ false → rows_in y (row_in_part p) ≡ []
       first_rows (part.Row key row tomb) q e = rows_off y key row (by (pos_cmp y (row_pos key)) refl)
         where
           by : (r : Ordering) → pos_cmp y (row_pos key) ≡ r → is_eq r ≡ false
@@ -123,20 +123,20 @@ module _ (writes : List Mutation) (versions : List Version) (st : StandsFor writ
       first_tombs part.End e = refl
 
       rows : rows_in y (rows_of (p ∷ ps)) ≡ rows_in y (rows_of ps)
-      rows = rows_in-append y (row_of p) (rows_of ps) ∙ ap (λ rs. rs ++ rows_in y (rows_of ps)) (first_rows p q e)
+      rows = rows_in-append y (row_in_part p) (rows_of ps) ∙ ap (λ rs. rs ++ rows_in y (rows_of ps)) (first_rows p q e)
 
-      tombs : tombs_over (pieces_from x (p ∷ ps)) y ≡ tombs_over (pieces_from (place_after p x) ps) y
-      tombs = over-append y (piece_of p x) (pieces_from (place_after p x) ps) ∙ ap (λ ts. ts ++ tombs_over (pieces_from (place_after p x) ps) y) (first_tombs p e)
+      tombs : tombs_over (part_pieces x (p ∷ ps)) y ≡ tombs_over (part_pieces (place_after p x) ps) y
+      tombs = over-append y (piece_of p x) (part_pieces (place_after p x) ps) ∙ ap (λ ts. ts ++ tombs_over (part_pieces (place_after p x) ps) y) (first_tombs p e)
 
   -- the first part alone, where the others stand ahead
-  told_first : (p : Part) (ps : List Part) (x upto y : Pos) → ArePartsFrom versions x upto (p ∷ ps) → IsBefore y (place_after p x) → told (p ∷ ps) x y ≡ (joined_row (rows_in y (row_of p)), greatest tomb_cmp (tombs_over (piece_of p x) y))
+  told_first : (p : Part) (ps : List Part) (x upto y : Pos) → ArePartsFrom versions x upto (p ∷ ps) → IsBefore y (place_after p x) → told (p ∷ ps) x y ≡ (joined_row (rows_in y (row_in_part p)), greatest tomb_cmp (tombs_over (piece_of p x) y))
   told_first p ps x upto y a l = λ i. (
-    joined_row ((rows_in-append y (row_of p) (rows_of ps) ∙ ap (λ rs. rows_in y (row_of p) ++ rs) (rows_ahead ps (place_after p x) upto y a.1 l) ∙ append-nil (rows_in y (row_of p))) i),
-    greatest tomb_cmp ((over-append y (piece_of p x) (pieces_from (place_after p x) ps) ∙ ap (λ ts. tombs_over (piece_of p x) y ++ ts) (pieces_ahead ps (place_after p x) upto y a.1 l) ∙ append-nil (tombs_over (piece_of p x) y)) i),
+    joined_row ((rows_in-append y (row_in_part p) (rows_of ps) ∙ ap (λ rs. rows_in y (row_in_part p) ++ rs) (rows_ahead ps (place_after p x) upto y a.1 l) ∙ append-nil (rows_in y (row_in_part p))) i),
+    greatest tomb_cmp ((over-append y (piece_of p x) (part_pieces (place_after p x) ps) ∙ ap (λ ts. tombs_over (piece_of p x) y ++ ts) (pieces_ahead ps (place_after p x) upto y a.1 l) ∙ append-nil (tombs_over (piece_of p x) y)) i),
   )
 
   in_part : (p : Part) (x upto y : Pos) → IsFirstPart Memtable versions x upto p → is_le (pos_cmp x y) ≡ true → IsBefore y (place_after p x) → is_lt (pos_cmp y upto) ≡ true →
-      ◌≡◌ {A = Row × Option Tomb} (joined_row (rows_in y (row_of p)), greatest tomb_cmp (tombs_over (piece_of p x) y)) (source_at writes y)
+      ◌≡◌ {A = Row × Option Tomb} (joined_row (rows_in y (row_in_part p)), greatest tomb_cmp (tombs_over (piece_of p x) y)) (source_at writes y)
   in_part (part.Gap to tomb) x upto y q c l d =
       let cov : covers x to y ≡ true = λ i. c i && is_lt (l i) in
       (λ i. (joined_row-none i, piece_here x to y tomb cov i)) ∙ sym (gap-seen Memtable versions x upto to tomb q (even x) y cov).0 ∙ st.clustered y
@@ -152,7 +152,7 @@ module _ (writes : List Mutation) (versions : List Version) (st : StandsFor writ
       at_key = ap (source_at writes) (sym place) ∙ sym (st.clustered x) ∙ q.4
 
       row_is : joined_row (row ∷ []) ≡ row
-      row_is = let e : joined_row (rows_from (cells (On x) versions)) ≡ row = ap (λ (a : Row × Option Tomb). a.0) q.4 in subst (λ r. joined_row (r ∷ []) ≡ r) e (joined-again (rows_from (cells (On x) versions)))
+      row_is = let e : joined_row (rows_from (states_at (On x) versions)) ≡ row = ap (λ (a : Row × Option Tomb). a.0) q.4 in subst (λ r. joined_row (r ∷ []) ≡ r) e (joined-again (rows_from (states_at (On x) versions)))
 
       by : (r : Ordering) → pos_cmp x y ≡ r → ◌≡◌ {A = Row × Option Tomb} (joined_row (rows_in y ((key, row) ∷ [])), greatest tomb_cmp (tombs_over (piece_over x (after key) tomb) y)) (source_at writes y)
       by Less e = let beyond : IsBefore (row_pos key) y = subst (λ z. IsBefore z y) place e in

@@ -8,8 +8,8 @@ use Rattle.std.specs.declared.cmp.Ordering.TheVariants.{Less, Equal, Greater}
 use Rattle.rc_position.specs.declared.positions.Pos.{Pos}
 use Rattle.rc_position.specs.Position.{Place, Head, Static, Clustered, End, place_cmp, pos_cmp}
 use Rattle.rc_core.specs.declared.entries.Entry.{Entry}
-use Rattle.rc_core.specs.Cell.{nothing}
-use Rattle.rc_core.specs.Version.{Spot, Version, cell_at, static_cell, end_position}
+use Rattle.rc_core.specs.SpotState.{silent}
+use Rattle.rc_core.specs.Version.{Spot, Version, state_at, static_state, end_position}
 use Rattle.rc_core.specs.Change.{position_of}
 use Rattle.rc_core.specs.Plain.{no_mark}
 
@@ -26,8 +26,8 @@ HasEntryAt x (e ∷ es) = (e.position ≡ x) ⊎ HasEntryAt x es
 -- from a place on a version says nothing: all is Inherit, and nothing is held
 pub record IsSilentFrom (p : Place) (v : Version) : Type 0 where
   pub head : (place_cmp Head p ≡ Less → ⊥) → v.pt ≡ None
-  pub statics : (place_cmp Static p ≡ Less → ⊥) → static_cell v ≡ nothing
-  pub clustered : (s : Spot) → (place_cmp (Clustered (position_of s)) p ≡ Less → ⊥) → cell_at s v ≡ nothing
+  pub statics : (place_cmp Static p ≡ Less → ⊥) → static_state v ≡ silent
+  pub clustered : (s : Spot) → (place_cmp (Clustered (position_of s)) p ≡ Less → ⊥) → state_at s v ≡ silent
 
 -- an entry stands at the place, where it is clustered
 abbrev pub StandsAtPlace : Place → List Entry → Type 0

@@ -1,4 +1,4 @@
--- What is seen through a chain of versions, as a reader believes it. Each definition is of the cells that the versions up to a pinned one
+-- What is seen through a chain of versions, as a reader believes it. Each definition is of the states that the versions up to a pinned one
 -- answer at a place, the oldest first.
 --     base             the newest version whose flag there is not Inherit
 --     flagged          the base's flag is Known; without a base, the chain is a memtable's
@@ -18,8 +18,8 @@ use Rattle.rc_core.specs.declared.entries.ChainKind.{ChainKind}
 use Rattle.rc_core.specs.declared.entries.ChainKind.TheVariants.{Memtable, Cache}
 use Rattle.rc_core.specs.declared.entries.Flag.{Flag}
 use Rattle.rc_core.specs.declared.entries.Flag.TheVariants.{Known, Unknown, Inherit}
-use Rattle.rc_core.specs.Cell.{Cell}
-use Rattle.rc_core.specs.Version.{Spot, On, Behind, Version, cell_at, end_position}
+use Rattle.rc_core.specs.SpotState.{SpotState}
+use Rattle.rc_core.specs.Version.{Spot, On, Behind, Version, state_at, end_position}
 
 -- a flag that is not Inherit
 abbrev pub decides : Flag → Bool
@@ -33,23 +33,23 @@ is_known Known = true
 is_known Unknown = false
 is_known Inherit = false
 
--- the number of a newer cell that decides, or else 0 where the flag of this one decides
+-- the number of a newer state that decides, or else 0 where the flag of this one decides
 abbrev pub newer_first : Flag → Option ℕ → Option ℕ
 newer_first flag (Some i) = Some (suc i)
 newer_first flag None = cond (decides flag) (Some 0) None
 
--- the number of the newest cell that is not Inherit, counted from the oldest
-abbrev pub base : List Cell → Option ℕ
+-- the number of the newest state that is not Inherit, counted from the oldest
+abbrev pub base : List SpotState → Option ℕ
 base [] = None
 base (c ∷ cs) = newer_first c.flag (base cs)
 
--- the cells from a number on; all, where there is none
-abbrev pub from_number : Option ℕ → List Cell → List Cell
-from_number (Some i) cells = drop i cells
-from_number None cells = cells
+-- the states from a number on; all, where there is none
+abbrev pub from_number : Option ℕ → List SpotState → List SpotState
+from_number (Some i) states = drop i states
+from_number None states = states
 
--- the flag of the cell of a number
-abbrev pub first_flag : List Cell → Flag
+-- the flag of the state of a number
+abbrev pub first_flag : List SpotState → Flag
 first_flag [] = Inherit
 first_flag (c ∷ cs) = c.flag
 
@@ -59,25 +59,25 @@ below_oldest Memtable = true
 below_oldest Cache = false
 
 -- the flag of the base is Known; without a base, what stands below the oldest version is known
-abbrev pub flagged_from : ChainKind → Option ℕ → List Cell → Bool
-flagged_from kind (Some i) cells = is_known (first_flag (drop i cells))
-flagged_from kind None cells = below_oldest kind
+abbrev pub flagged_from : ChainKind → Option ℕ → List SpotState → Bool
+flagged_from kind (Some i) states = is_known (first_flag (drop i states))
+flagged_from kind None states = below_oldest kind
 
--- a place is flagged, by the cells of the versions there
-abbrev pub flagged : ChainKind → List Cell → Bool
-flagged kind cells = flagged_from kind (base cells) cells
+-- a place is flagged, by the states of the versions there
+abbrev pub flagged : ChainKind → List SpotState → Bool
+flagged kind states = flagged_from kind (base states) states
 
 -- the rows that the versions from the base on hold there
-abbrev pub rows_from : List Cell → List Row
-rows_from cells = flat_map (λ c. c.rows) (from_number (base cells) cells)
+abbrev pub rows_from : List SpotState → List Row
+rows_from states = flat_map (λ c. c.rows) (from_number (base states) states)
 
 -- their range tombstones there
-abbrev pub tombs_from : List Cell → List Tomb
-tombs_from cells = flat_map (λ c. c.tombs) (from_number (base cells) cells)
+abbrev pub tombs_from : List SpotState → List Tomb
+tombs_from states = flat_map (λ c. c.tombs) (from_number (base states) states)
 
 -- what a reader takes from a place: the rows from the base on as one, and the greatest tombstone
-abbrev pub content : List Cell → Row × Option Tomb
-content cells = (joined_row (rows_from cells), greatest tomb_cmp (tombs_from cells))
+abbrev pub content : List SpotState → Row × Option Tomb
+content states = (joined_row (rows_from states), greatest tomb_cmp (tombs_from states))
 
 -- the flag as the fold has it, over what stands below the oldest version
 abbrev pub flag_over : ChainKind → Flag → Bool
@@ -88,19 +88,19 @@ flag_over kind Inherit = below_oldest kind
 -- In what follows `versions` are those of a chain up to a pinned one, the oldest first.
 
 -- what each version answers at a spot
-abbrev pub cells : Spot → List Version → List Cell
-cells s versions = list_map (λ v. cell_at s v) versions
+abbrev pub states_at : Spot → List Version → List SpotState
+states_at s versions = list_map (λ v. state_at s v) versions
 
 -- no row is seen at the position
 pub record IsBare (versions : List Version) (x : Pos) : Type 0 where
   pub inside : IsBefore x end_position
-  pub no_row : (content (cells (On x) versions)).0 ≡ empty_row
+  pub no_row : (content (states_at (On x) versions)).0 ≡ empty_row
 
 -- a clustered position is known
 pub record IsKnown (kind : ChainKind) (versions : List Version) (x : Pos) : Type 0 where
-  pub at : IsTrue (flagged kind (cells (On x) versions))
-  pub gap : IsBare versions x → IsTrue (flagged kind (cells (Behind x) versions))
+  pub at : IsTrue (flagged kind (states_at (On x) versions))
+  pub gap : IsBare versions x → IsTrue (flagged kind (states_at (Behind x) versions))
 
 -- the tombstone at a bare position is that of the gap behind it
 abbrev pub IsEvenAt : ChainKind → List Version → Pos → Type 0
-IsEvenAt kind versions x = IsBare versions x → IsKnown kind versions x → (content (cells (On x) versions)).1 ≡ (content (cells (Behind x) versions)).1
+IsEvenAt kind versions x = IsBare versions x → IsKnown kind versions x → (content (states_at (On x) versions)).1 ≡ (content (states_at (Behind x) versions)).1

@@ -14,7 +14,7 @@ use Rattle.rc_mutation.specs.declared.mutations.Mutation.{Mutation}
 use Rattle.rc_core.specs.declared.entries.ChainKind.{ChainKind}
 use Rattle.rc_core.specs.declared.entries.ChainKind.TheVariants.{Memtable, Cache}
 use Rattle.rc_core.specs.declared.entries.Flag.TheVariants.{Inherit}
-use Rattle.rc_core.specs.Version.{Spot, Version, cell_at, static_cell}
+use Rattle.rc_core.specs.Version.{Spot, Version, state_at, static_state}
 use Rattle.rc_core.specs.AtPlace.{IsAtPlace}
 use Rattle.rc_core.specs.Chain.{IsKnown, IsEvenAt}
 use Rattle.rc_core.specs.Continuity.{EachOf, HoldNoMore, IsContinuous}
@@ -73,8 +73,8 @@ pub record IsChainContinuous (below : ℕ → List Mutation) (c : Chain) : Type 
 
 -- all flags of a version are Inherit
 pub record AllInherit (v : Version) : Type 0 where
-  pub statics : (static_cell v).flag ≡ Inherit
-  pub clustered : (s : Spot) → (cell_at s v).flag ≡ Inherit
+  pub statics : (static_state v).flag ≡ Inherit
+  pub clustered : (s : Spot) → (state_at s v).flag ≡ Inherit
 
 -- all flags are Inherit, and tombstones are even at each version that is pinned or the newest of an attached chain
 pub record IsMemtableChain (c : Chain) : Type 0 where

@@ -65,12 +65,12 @@ abbrev pub change : (Mark → Mark) → Pos → Pos → List Entry → List Entr
 change f from to es = list_map (changed f from to) (split to (split from es))
 
 -- the flag stays, and of the tombstones the greater
-abbrev pub raised : Option Tomb → Mark → Mark
-raised tomb m = mark m.flag (greater tomb_cmp m.tomb tomb)
+abbrev pub raised_mark : Option Tomb → Mark → Mark
+raised_mark tomb m = mark m.flag (greater tomb_cmp m.tomb tomb)
 
 -- a range tombstone joined
 abbrev pub join_range : Pos → Pos → Tomb → List Entry → List Entry
-join_range from to tomb es = change (raised (Some tomb)) from to es
+join_range from to tomb es = change (raised_mark (Some tomb)) from to es
 
 -- a gap filled: from `from` on and before `to` it is known that there are no rows, and this tombstone
 abbrev pub fill_gap : Pos → Pos → Option Tomb → List Entry → List Entry

@@ -19,22 +19,22 @@ use Rattle.rc_mutation.specs.Source.{source_at_head, source_at_static, source_at
 use Rattle.rc_core.specs.declared.entries.Entry.{Entry}
 use Rattle.rc_core.specs.declared.entries.ChainKind.TheVariants.{Cache}
 use Rattle.rc_core.specs.declared.entries.Flag.TheVariants.{Known, Unknown}
-use Rattle.rc_core.specs.Cell.{Cell, through}
-use Rattle.rc_core.specs.Version.{Spot, On, Version, cell_at, static_cell}
+use Rattle.rc_core.specs.SpotState.{SpotState, through}
+use Rattle.rc_core.specs.Version.{Spot, On, Version, state_at, static_state}
 use Rattle.rc_core.specs.Change.{joined_onto}
-use Rattle.rc_core.specs.Chain.{flagged, content, cells, IsEvenAt}
+use Rattle.rc_core.specs.Chain.{flagged, content, states_at, IsEvenAt}
 
--- the rows and tombstones of a cell, joined into the source, leave it as it is
-abbrev pub IsWithin : Cell → Row × Option Tomb → Type 0
+-- the rows and tombstones of a state, joined into the source, leave it as it is
+abbrev pub IsWithin : SpotState → Row × Option Tomb → Type 0
 IsWithin c source = (joined_row (source.0 ∷ c.rows) ≡ source.0) × (greatest tomb_cmp (option_to_list source.1 ++ c.tombs) ≡ source.1)
 
 -- what each version answers at its static row
-abbrev pub static_cells : List Version → List Cell
-static_cells versions = list_map static_cell versions
+abbrev pub static_states : List Version → List SpotState
+static_states versions = list_map static_state versions
 
 -- the partition tombstones of versions
-abbrev pub partition_tombs : List Version → List Tomb
-partition_tombs versions = filter_map (λ (v : Version). v.pt) versions
+abbrev pub version_tombs : List Version → List Tomb
+version_tombs versions = filter_map (λ (v : Version). v.pt) versions
 
 -- what holds of each version
 abbrev pub EachOf : (Version → Type 0) → List Version → Type 0
@@ -43,8 +43,8 @@ EachOf P (v ∷ vs) = P v × EachOf P vs
 
 -- no version holds more than the source, at its static row and at each position
 pub record HoldNoMore (writes : List Mutation) (versions : List Version) : Type 0 where
-  pub statics : EachOf (λ v. IsWithin (static_cell v) (source_at_static writes, None)) versions
-  pub clustered : (x : Pos) → EachOf (λ v. IsWithin (cell_at (On x) v) (source_at writes x)) versions
+  pub statics : EachOf (λ v. IsWithin (static_state v) (source_at_static writes, None)) versions
+  pub clustered : (x : Pos) → EachOf (λ v. IsWithin (state_at (On x) v) (source_at writes x)) versions
 
 -- the places that are reached: all, or those before the place of an update
 abbrev pub Reached : Option Place → Place → Type 0
@@ -54,29 +54,29 @@ Reached (Some p) x = place_cmp x p ≡ Less
 -- `reach` is the place of the update, of a version under update, and None of every other
 pub record IsContinuous (reach : Option Place) (writes : List Mutation) (versions : List Version) : Type 0 where
   pub within : HoldNoMore writes versions
-  pub statics : Reached reach Static → IsTrue (flagged Cache (static_cells versions)) → content (static_cells versions) ≡ (source_at_static writes, None)
-  pub clustered : (x : Pos) → Reached reach (Clustered x) → IsTrue (flagged Cache (cells (On x) versions)) → content (cells (On x) versions) ≡ source_at writes x
-  pub head : Reached reach Head → greatest tomb_cmp (partition_tombs versions) ≡ source_at_head writes
+  pub statics : Reached reach Static → IsTrue (flagged Cache (static_states versions)) → content (static_states versions) ≡ (source_at_static writes, None)
+  pub clustered : (x : Pos) → Reached reach (Clustered x) → IsTrue (flagged Cache (states_at (On x) versions)) → content (states_at (On x) versions) ≡ source_at writes x
+  pub head : Reached reach Head → greatest tomb_cmp (version_tombs versions) ≡ source_at_head writes
   pub even : (x : Pos) → Reached reach (Clustered x) → IsEvenAt Cache versions x
 
--- one cell of a version lost, or as before
-abbrev pub SameOrLost : Cell → Cell → Type 0
+-- one state of a version lost, or as before
+abbrev pub SameOrLost : SpotState → SpotState → Type 0
 SameOrLost before now = (now ≡ before) ⊎ (now.flag ≡ Unknown)
 
 -- of versions, what is seen through them at each place
 pub record IsSameOrLost (before now : List Version) : Type 0 where
-  pub statics : SameOrLost (through (static_cells before)) (through (static_cells now))
-  pub clustered : (s : Spot) → SameOrLost (through (cells s before)) (through (cells s now))
-  pub head : greatest tomb_cmp (partition_tombs now) ≡ greatest tomb_cmp (partition_tombs before)
+  pub statics : SameOrLost (through (static_states before)) (through (static_states now))
+  pub clustered : (s : Spot) → SameOrLost (through (states_at s before)) (through (states_at s now))
+  pub head : greatest tomb_cmp (version_tombs now) ≡ greatest tomb_cmp (version_tombs before)
 
 -- a version after eviction of one of its objects: each place is said as before, or lost, with nothing held there
-abbrev pub IsKeptOrLost : Cell → Cell → Type 0
+abbrev pub IsKeptOrLost : SpotState → SpotState → Type 0
 IsKeptOrLost before now = (now ≡ before) ⊎ (now ≡ record { flag = Unknown; rows = []; tombs = [] })
 
 -- a version that lost one object: each place is as before or lost, and the partition tombstone stays
 pub record IsEvicted (before now : Version) : Type 0 where
-  pub statics : IsKeptOrLost (static_cell before) (static_cell now)
-  pub clustered : (s : Spot) → IsKeptOrLost (cell_at s before) (cell_at s now)
+  pub statics : IsKeptOrLost (static_state before) (static_state now)
+  pub clustered : (s : Spot) → IsKeptOrLost (state_at s before) (state_at s now)
   pub head : now.pt ≡ before.pt
 
 -- ---- the operations on one version

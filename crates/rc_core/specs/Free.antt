@@ -11,7 +11,7 @@ use Rattle.rc_core.specs.Continuity.{with_entries}
 use Rattle.rc_core.specs.Chains.{Chain, IsPinned}
 
 -- a chain that nobody finds by its key, and nobody reads
-pub record IsLeft (c : Chain) : Type 0 where
+pub record IsAbandoned (c : Chain) : Type 0 where
   pub detached : c.attached ≡ false
   pub settled : c.updating ≡ None
   pub unpinned : (j : ℕ) → IsPinned c.pins j → ⊥

@@ -1,4 +1,4 @@
-pub mod Cell
+pub mod SpotState
 pub mod Version
 pub mod Chain
 pub mod Change

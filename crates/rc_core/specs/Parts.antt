@@ -7,7 +7,7 @@ use Rattle.rc_core.specs.declared.entries.Entry.{Entry}
 use Rattle.rc_core.specs.declared.parts.Part.{Part}
 use Rattle.rc_core.specs.declared.parts.Part.TheVariants.{Row, Gap, Missing, End}
 use Rattle.rc_core.specs.Version.{On, Version}
-use Rattle.rc_core.specs.Chain.{content, cells, IsBare, IsKnown}
+use Rattle.rc_core.specs.Chain.{content, states_at, IsBare, IsKnown}
 use Rattle.rc_core.specs.AtPlace.{HasEntryAt}
 use Rattle.rc_core.specs.Continuity.{EachOf}
 
@@ -37,7 +37,7 @@ pub record IsNearer (x to found : Pos) (entries : List Entry) : Type 0 where
 
 -- the first part from x on, up to a bound
 abbrev pub IsFirstPart : ChainKind → List Version → Pos → Pos → Part → Type 0
-IsFirstPart kind versions x upto (Row key row tomb) = IsBefore x upto × IsKnown kind versions x × (IsBare versions x → ⊥) × (key ≡ x.prefix) × (content (cells (On x) versions) ≡ (row, tomb))
-IsFirstPart kind versions x upto (Gap to tomb) = IsBefore x upto × IsKnown kind versions x × IsBare versions x × IsReach versions x upto to × ((content (cells (On x) versions)).1 ≡ tomb)
+IsFirstPart kind versions x upto (Row key row tomb) = IsBefore x upto × IsKnown kind versions x × (IsBare versions x → ⊥) × (key ≡ x.prefix) × (content (states_at (On x) versions) ≡ (row, tomb))
+IsFirstPart kind versions x upto (Gap to tomb) = IsBefore x upto × IsKnown kind versions x × IsBare versions x × IsReach versions x upto to × ((content (states_at (On x) versions)).1 ≡ tomb)
 IsFirstPart kind versions x upto (Missing to) = IsBefore x upto × (IsKnown kind versions x → ⊥) × IsReach versions x upto to
 IsFirstPart kind versions x upto End = x ≡ upto

@@ -1,5 +1,5 @@
--- A flag and a tombstone as a cell, and one such under another.
---     mark_cell                the cell of a gap, or of a position without a row
+-- A flag and a tombstone as a state, and one such under another.
+--     mark_state                the state of a gap, or of a position without a row
 --     mark_under, row_under    what one version says of a spot, under what a newer one says there: its flag and tombstone, and its row
 --     found_under              both
 --     flag_under, head_under   the same of the flag of a static row, and of all that a version says at its head
@@ -12,14 +12,14 @@ use Rattle.rc_core.specs.declared.entries.Entry.{Entry}
 use Rattle.rc_core.specs.declared.entries.Flag.{Flag}
 use Rattle.rc_core.specs.declared.entries.Flag.TheVariants.{Known, Unknown, Inherit}
 use Rattle.rc_core.specs.declared.entries.Mark.{Mark}
-use Rattle.rc_core.specs.Cell.{Cell, cell}
-use Rattle.rc_core.specs.Version.{Found, found, Version}
+use Rattle.rc_core.specs.SpotState.{SpotState, spot_state}
+use Rattle.rc_core.specs.Version.{Finding, found, Version}
 use Rattle.rc_core.specs.Change.{mark}
 use Rattle.rc_core.specs.Continuity.{joined_options}
 
--- the cell of a gap, or of a position without a row
-abbrev pub mark_cell : Mark → Cell
-mark_cell m = cell m.flag [] (option_to_list m.tomb)
+-- the state of a gap, or of a position without a row
+abbrev pub mark_state : Mark → SpotState
+mark_state m = spot_state m.flag [] (option_to_list m.tomb)
 
 -- a flag and a tombstone under those of a newer version, which decide where its flag does; where it inherits it takes the flag, and of the
 -- tombstones the greater
@@ -39,7 +39,7 @@ row_under Unknown older newer = newer
 row_under Inherit older newer = joined_options older newer
 
 -- what one version says of a spot, under what a newer one says of it
-abbrev pub found_under : Found → Found → Found
+abbrev pub found_under : Finding → Finding → Finding
 found_under older newer = found (mark_under older.mark newer.mark) (row_under newer.mark.flag older.row newer.row)
 
 -- a flag that says nothing, and no tombstone

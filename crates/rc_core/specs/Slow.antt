@@ -6,7 +6,7 @@ use Rattle.rc_core.specs.declared.slow.PlainVersion.{PlainVersion}
 use Rattle.rc_core.specs.declared.slow.Seen.{Seen}
 use Rattle.rc_core.specs.declared.slow.Side.{Side}
 use Rattle.rc_core.specs.declared.slow.Side.TheVariants as side
-use Rattle.rc_core.specs.Cell.{Cell, cell}
+use Rattle.rc_core.specs.SpotState.{SpotState, spot_state}
 use Rattle.rc_core.specs.Version.{Spot, On, Behind, Version}
 
 -- a version of plain vectors
@@ -18,6 +18,6 @@ abbrev pub spot_at : Side → Pos → Spot
 spot_at side.On x = On x
 spot_at side.Behind x = Behind x
 
--- what is seen, as a cell
-abbrev pub seen_cell : Seen → Cell
-seen_cell s = cell s.flag (s.row ∷ []) (option_to_list s.tomb)
+-- what is seen, as a state
+abbrev pub seen_state : Seen → SpotState
+seen_state s = spot_state s.flag (s.row ∷ []) (option_to_list s.tomb)

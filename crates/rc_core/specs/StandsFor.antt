@@ -2,7 +2,7 @@
 --     StandsFor        at the head, the static row and each position what is seen is what the writes say there
 --     written_..       a write of one thing: a row at a key, a range tombstone, a static row, a partition tombstone
 --     ArePartsFrom     parts one after another, from a place up to a bound
---     rows_of, pieces_from     the rows of parts, and their range tombstones, each over its gap or its row
+--     rows_of, part_pieces     the rows of parts, and their range tombstones, each over its gap or its row
 use Rattle.std.specs.Prelude.{◌≡◌, List, [], ◌∷◌, ◌++◌, Option, Some, None}
 use Rattle.rc_cell.specs.declared.rows.Row.{Row}
 use Rattle.rc_cell.specs.declared.writes.Tomb.{Tomb}
@@ -19,15 +19,15 @@ use Rattle.rc_core.specs.declared.entries.ChainKind.TheVariants.{Memtable}
 use Rattle.rc_core.specs.declared.parts.Part.{Part}
 use Rattle.rc_core.specs.declared.parts.Part.TheVariants as part
 use Rattle.rc_core.specs.Version.{On, Version}
-use Rattle.rc_core.specs.Chain.{content, cells}
-use Rattle.rc_core.specs.Continuity.{static_cells, partition_tombs}
+use Rattle.rc_core.specs.Chain.{content, states_at}
+use Rattle.rc_core.specs.Continuity.{static_states, version_tombs}
 use Rattle.rc_core.specs.Parts.{IsFirstPart}
 
 -- at each place what is seen through the versions is what the writes say
 pub record StandsFor (writes : List Mutation) (versions : List Version) : Type 0 where
-  pub head : greatest tomb_cmp (partition_tombs versions) ≡ source_at_head writes
-  pub statics : content (static_cells versions) ≡ (source_at_static writes, None)
-  pub clustered : (x : Pos) → content (cells (On x) versions) ≡ source_at writes x
+  pub head : greatest tomb_cmp (version_tombs versions) ≡ source_at_head writes
+  pub statics : content (static_states versions) ≡ (source_at_static writes, None)
+  pub clustered : (x : Pos) → content (states_at (On x) versions) ≡ source_at writes x
 
 -- ---- writes of one thing
 
@@ -62,16 +62,16 @@ ArePartsFrom versions x upto [] = x ≡ upto
 ArePartsFrom versions x upto (p ∷ ps) = IsFirstPart Memtable versions x upto p × ArePartsFrom versions (place_after p x) upto ps
 
 -- the row of a part
-abbrev pub row_of : Part → List (List Comp × Row)
-row_of (part.Row key row tomb) = (key, row) ∷ []
-row_of (part.Gap to tomb) = []
-row_of (part.Missing to) = []
-row_of part.End = []
+abbrev pub row_in_part : Part → List (List Comp × Row)
+row_in_part (part.Row key row tomb) = (key, row) ∷ []
+row_in_part (part.Gap to tomb) = []
+row_in_part (part.Missing to) = []
+row_in_part part.End = []
 
 -- the rows of parts
 abbrev pub rows_of : List Part → List (List Comp × Row)
 rows_of [] = []
-rows_of (p ∷ ps) = row_of p ++ rows_of ps
+rows_of (p ∷ ps) = row_in_part p ++ rows_of ps
 
 -- a tombstone over a stretch, where there is one
 abbrev pub piece_over : Pos → Pos → Option Tomb → List Piece
@@ -86,9 +86,9 @@ piece_of (part.Missing to) x = []
 piece_of part.End x = []
 
 -- the range tombstones of parts
-abbrev pub pieces_from : Pos → List Part → List Piece
-pieces_from x [] = []
-pieces_from x (p ∷ ps) = piece_of p x ++ pieces_from (place_after p x) ps
+abbrev pub part_pieces : Pos → List Part → List Piece
+part_pieces x [] = []
+part_pieces x (p ∷ ps) = piece_of p x ++ part_pieces (place_after p x) ps
 
 -- the writes say the same from the position of a key up to what is behind it, but for the row itself: no range of theirs begins or ends there
 abbrev pub IsWholeAt : List Mutation → List Comp → Type 0

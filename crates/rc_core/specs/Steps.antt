@@ -215,8 +215,8 @@ IsCarriedIn c x = IsCarried c.updating (pinned_by_snapshot c.updating c.versions
 -- ---- new chains
 
 -- the only version of a new cache chain: its head is given, and all else is Unknown
-abbrev pub opened : Option Tomb → Option Row → ℕ → Version
-opened pt statics phase = record { pt = pt; statics = statics; static_flag = Known; entries = dummy end_position (mark Unknown None) ∷ []; phase = phase }
+abbrev pub opened_version : Option Tomb → Option Row → ℕ → Version
+opened_version pt statics phase = record { pt = pt; statics = statics; static_flag = Known; entries = dummy end_position (mark Unknown None) ∷ []; phase = phase }
 
 -- a chain of one version, attached and pinned by nobody
 abbrev pub new_chain : ChainKind → Version → Chain

@@ -9,8 +9,8 @@ use Rattle.rc_position.specs.Position.{Place, Head, Static, Clustered, place_cmp
 use Rattle.rc_mutation.specs.declared.mutations.Mutation.{Mutation}
 use Rattle.rc_mutation.specs.Source.{source_at_static, source_at}
 use Rattle.rc_core.specs.declared.entries.Flag.TheVariants.{Inherit}
-use Rattle.rc_core.specs.Cell.{Cell, lost, said}
-use Rattle.rc_core.specs.Version.{Spot, On, Behind, Version, cell_at, static_cell, end_position}
+use Rattle.rc_core.specs.SpotState.{SpotState, lost, joined_state}
+use Rattle.rc_core.specs.Version.{Spot, On, Behind, Version, state_at, static_state, end_position}
 use Rattle.rc_core.specs.Change.{position_of}
 use Rattle.rc_core.specs.AtPlace.{HasItsPlace}
 
@@ -29,27 +29,27 @@ abbrev pub IsInside : Spot → Type 0
 IsInside (On x) = Unit {0}
 IsInside (Behind x) = IsBefore x end_position
 
--- a cell inherits, and holds what this says
-abbrev pub Adds : Cell → Row × Option Tomb → Type 0
-Adds c source = (c.flag ≡ Inherit) × (said c ≡ source)
+-- a state inherits, and holds what this says
+abbrev pub Adds : SpotState → Row × Option Tomb → Type 0
+Adds c source = (c.flag ≡ Inherit) × (joined_state c ≡ source)
 
 -- from the update's place p on and before its next place q the version holds what the update's mutation says, and every flag is
 -- Inherit; elsewhere nothing changes; and the next place is marked by an entry, the last one but for the end dummy
 pub record IsUnit (p q : Place) (change : Mutation) (before now : Version) : Type 0 where
   pub head : IsStretch p q Head → now.pt ≡ change.pt
   pub head_left : (IsStretch p q Head → ⊥) → now.pt ≡ before.pt
-  pub statics : IsStretch p q Static → Adds (static_cell now) (source_at_static (change ∷ []), None)
-  pub statics_left : (IsStretch p q Static → ⊥) → static_cell now ≡ static_cell before
-  pub clustered : (s : Spot) → IsInside s → IsStretch p q (Clustered (position_of s)) → Adds (cell_at s now) (source_at_spot (change ∷ []) s)
-  pub clustered_left : (s : Spot) → (IsStretch p q (Clustered (position_of s)) → ⊥) → cell_at s now ≡ cell_at s before
+  pub statics : IsStretch p q Static → Adds (static_state now) (source_at_static (change ∷ []), None)
+  pub statics_left : (IsStretch p q Static → ⊥) → static_state now ≡ static_state before
+  pub clustered : (s : Spot) → IsInside s → IsStretch p q (Clustered (position_of s)) → Adds (state_at s now) (source_at_spot (change ∷ []) s)
+  pub clustered_left : (s : Spot) → (IsStretch p q (Clustered (position_of s)) → ⊥) → state_at s now ≡ state_at s before
   pub place : HasItsPlace q now.entries
 
 -- the rest of the partition given up, where there is no room: from the update's place on, which is not the head, each place is lost, and
 -- elsewhere nothing changes
 pub record IsGivenUp (p : Place) (before now : Version) : Type 0 where
   pub head : now.pt ≡ before.pt
-  pub statics : (place_cmp Static p ≡ Less → ⊥) → static_cell now ≡ lost
-  pub statics_left : place_cmp Static p ≡ Less → static_cell now ≡ static_cell before
-  pub clustered : (x : Pos) → (place_cmp (Clustered x) p ≡ Less → ⊥) → IsBefore x end_position → (cell_at (On x) now ≡ lost) × (cell_at (Behind x) now ≡ lost)
-  pub clustered_left : (s : Spot) → place_cmp (Clustered (position_of s)) p ≡ Less → cell_at s now ≡ cell_at s before
-  pub at_end : (cell_at (On end_position) now ≡ cell_at (On end_position) before) ⊎ (cell_at (On end_position) now ≡ lost)
+  pub statics : (place_cmp Static p ≡ Less → ⊥) → static_state now ≡ lost
+  pub statics_left : place_cmp Static p ≡ Less → static_state now ≡ static_state before
+  pub clustered : (x : Pos) → (place_cmp (Clustered x) p ≡ Less → ⊥) → IsBefore x end_position → (state_at (On x) now ≡ lost) × (state_at (Behind x) now ≡ lost)
+  pub clustered_left : (s : Spot) → place_cmp (Clustered (position_of s)) p ≡ Less → state_at s now ≡ state_at s before
+  pub at_end : (state_at (On end_position) now ≡ state_at (On end_position) before) ⊎ (state_at (On end_position) now ≡ lost)

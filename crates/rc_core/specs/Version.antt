@@ -1,7 +1,7 @@
 -- What one version answers at each spot of a partition.
 --     Spot         a clustered position, or the open gap right behind one
 --     seen         what entries say of a spot: the entry there, or else the gap before the first entry behind it
---     static_cell, cell_at    what a version answers at its static row, and at a spot
+--     static_state, state_at    what a version answers at its static row, and at a spot
 --     IsBeforeEnd  the entries reach up to the spot, as those of a version do: its last one is behind every row
 use Rattle.std.specs.Prelude.{◌≡◌, ℕ, List, [], ◌∷◌, Option, None}
 use Rattle.std.specs.declared.cmp.Ordering.{Ordering}
@@ -16,7 +16,7 @@ use Rattle.rc_core.specs.declared.entries.Entry.{Entry}
 use Rattle.rc_core.specs.declared.entries.Flag.{Flag}
 use Rattle.rc_core.specs.declared.entries.Flag.TheVariants.{Inherit}
 use Rattle.rc_core.specs.declared.entries.Mark.{Mark}
-use Rattle.rc_core.specs.Cell.{Cell, cell}
+use Rattle.rc_core.specs.SpotState.{SpotState, spot_state}
 
 -- a clustered position, or the open gap right behind it
 pub data Spot : Type 0 where
@@ -24,39 +24,39 @@ pub data Spot : Type 0 where
   Behind : Pos → Spot
 
 -- where the gap right behind a position stands, by where the position does
-abbrev pub behind : Ordering → Ordering
-behind Less = Less
-behind Equal = Greater
-behind Greater = Greater
+abbrev pub gap_ordering : Ordering → Ordering
+gap_ordering Less = Less
+gap_ordering Equal = Greater
+gap_ordering Greater = Greater
 
 -- where a spot stands against a position
 abbrev pub spot_cmp : Spot → Pos → Ordering
 spot_cmp (On x) y = pos_cmp x y
-spot_cmp (Behind x) y = behind (pos_cmp x y)
+spot_cmp (Behind x) y = gap_ordering (pos_cmp x y)
 
 -- what a version says of a spot: its flag and range tombstone, and its row if it has one there
-pub record Found : Type 0 where
+pub record Finding : Type 0 where
   pub mark : Mark
   pub row : Option Row
 
 -- a mark and a row that were found
-abbrev pub found : Mark → Option Row → Found
+abbrev pub found : Mark → Option Row → Finding
 found mark row = record { mark = mark; row = row }
 
 -- at a spot before an entry its gap answers, at its position itself, and behind it the entries that follow
-abbrev pub entry_answers : Ordering → Entry → Found → Found
+abbrev pub entry_answers : Ordering → Entry → Finding → Finding
 entry_answers Less e rest = found e.gap None
 entry_answers Equal e rest = found e.at e.row
 entry_answers Greater e rest = rest
 
 -- what entries in order of position say of a spot
-abbrev pub seen : Spot → List Entry → Found
+abbrev pub seen : Spot → List Entry → Finding
 seen s [] = found (record { flag = Inherit; tomb = None }) None
 seen s (e ∷ es) = entry_answers (spot_cmp s e.position) e (seen s es)
 
--- what was found, as a cell
-abbrev pub cell_of : Found → Cell
-cell_of f = cell f.mark.flag (option_to_list f.row) (option_to_list f.mark.tomb)
+-- what was found, as a state
+abbrev pub state_of : Finding → SpotState
+state_of f = spot_state f.mark.flag (option_to_list f.row) (option_to_list f.mark.tomb)
 
 -- behind every row
 abbrev pub end_position : Pos
@@ -99,9 +99,9 @@ pub record IsVersion (v : Version) : Type 0 where
   pub ends : EndsWithDummy v.entries
 
 -- what a version answers at its static row, and at a clustered spot
-abbrev pub static_cell : Version → Cell
-static_cell v = cell v.static_flag (option_to_list v.statics) []
+abbrev pub static_state : Version → SpotState
+static_state v = spot_state v.static_flag (option_to_list v.statics) []
 
 -- what a version answers at a spot
-abbrev pub cell_at : Spot → Version → Cell
-cell_at s v = cell_of (seen s v.entries)
+abbrev pub state_at : Spot → Version → SpotState
+state_at s v = state_of (seen s v.entries)

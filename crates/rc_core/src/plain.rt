@@ -1,18 +1,18 @@
 //! The choices that the crates above make at one place, as plain functions: which flag decides, what a fill, a joined range and an
-//! eviction leave, and where a cell of an older version goes.
+//! eviction leave, and where a state of an older version goes.
 
 ghost use Rattle.std.specs.Prelude.{◌≡◌, ◌+◌, ◌<◌, ◌++◌, ◌⊎◌, length, take, drop, [], HoldsAt, IsTrue, OnErr, OnOk, false, ◌↔◌, None, Option};
 ghost use Rattle.rc_core.specs.Slow.{plain};
-ghost use Rattle.rc_core.specs.Cell.{cell, under};
+ghost use Rattle.rc_core.specs.SpotState.{spot_state, under};
 ghost use Rattle.rc_core.specs.Chain.{flag_over};
-ghost use Rattle.rc_core.specs.Change.{drop_at, known_with, lose_first_gap, lost_mark, mark, raised, with_mark, with_row};
+ghost use Rattle.rc_core.specs.Change.{drop_at, known_with, lose_first_gap, lost_mark, mark, raised_mark, with_mark, with_row};
 ghost use Rattle.rc_core.specs.Continuity.{with_entries};
 ghost use Rattle.rc_core.specs.Merge.{Alike};
-ghost use Rattle.rc_core.specs.Plain.{end_under, head_under, mark_cell, mark_under};
+ghost use Rattle.rc_core.specs.Plain.{end_under, head_under, mark_state, mark_under};
 ghost use Rattle.rc_core.specs.Chains.{Chain, IsUpdating};
 ghost use Rattle.rc_core.specs.AtPlace.{IsAtPlace};
 ghost use Rattle.rc_core.specs.Steps.{MayPopulate, released};
-ghost use Rattle.rc_core.specs.Version.{Ascend, IsVersion, static_cell};
+ghost use Rattle.rc_core.specs.Version.{Ascend, IsVersion, static_state};
 ghost use Rattle.rc_position.specs.Position.{Clustered};
 
 use crate::entries::{ChainKind, Entry, Flag, Mark};
@@ -25,7 +25,7 @@ use std::alloc::{AllocError, Global};
 /// The flag that is seen where a newer version lies over an older one: the newer one's, or the older one's where the newer one inherits.
 pub fn flag_under(older: Flag, newer: Flag) -> Flag
     ensures rule { result ≡ Rattle.rc_core.specs.Plain.flag_under older newer }
-    ensures seen { result ≡ (under (cell older [] []) (cell newer [] [])).flag }
+    ensures seen { result ≡ (under (spot_state older [] []) (spot_state newer [] [])).flag }
 {
     match newer {
         Flag::Known => Flag::Known,
@@ -48,7 +48,7 @@ pub fn is_known_in(kind: ChainKind, flag: Flag) -> bool
 
 /// The mark with a range tombstone joined: the flag stays, and the greater tombstone stands.
 pub fn raised_mark(old: Mark, tomb: Option<Tomb>) -> Mark
-    ensures { result ≡ raised tomb old }
+    ensures { result ≡ raised_mark tomb old }
 {
     Mark {
         flag: old.flag,
@@ -80,7 +80,7 @@ pub fn mark_of_lost() -> Mark
 /// where it is Known or Unknown it stays as it is, and what the older version held there is dropped.
 pub fn put_down(older: Mark, newer: Mark) -> Mark
     ensures rule { result ≡ mark_under older newer }
-    ensures seen { Alike (mark_cell result) (under (mark_cell older) (mark_cell newer)) }
+    ensures seen { Alike (mark_state result) (under (mark_state older) (mark_state newer)) }
 {
     match newer.flag {
         Flag::Inherit => Mark {
@@ -143,7 +143,7 @@ pub fn join_updated_row(
     row: Row,
     in_force: Option<Tomb>,
 ) -> Result<(), AllocError>
-    ensures ok { OnOk result (entry.new ≡ with_mark (raised in_force) (with_row row entry.old)) }
+    ensures ok { OnOk result (entry.new ≡ with_mark (raised_mark in_force) (with_row row entry.old)) }
     ensures err { OnErr result (entry.new ≡ entry.old) }
 {
     match &mut entry.row {
@@ -157,8 +157,8 @@ pub fn join_updated_row(
 /// The end dummy of a version that has nothing else, put down under that of the next newer one: the gap before it, and its own place.
 /// Its position stays, and so does what it has of a row.
 pub fn merge_end(older: &Entry, newer: &mut Entry)
-    ensures gap { Alike (mark_cell newer.new.gap) (under (mark_cell older.now.gap) (mark_cell newer.old.gap)) }
-    ensures at { Alike (mark_cell newer.new.at) (under (mark_cell older.now.at) (mark_cell newer.old.at)) }
+    ensures gap { Alike (mark_state newer.new.gap) (under (mark_state older.now.gap) (mark_state newer.old.gap)) }
+    ensures at { Alike (mark_state newer.new.at) (under (mark_state older.now.at) (mark_state newer.old.at)) }
     ensures whole { newer.new ≡ end_under older.now newer.old }
 {
     newer.gap = put_down(older.gap, newer.gap);
@@ -168,7 +168,7 @@ pub fn merge_end(older: &Entry, newer: &mut Entry)
 /// The head of a version that has no static row, put down under that of the next newer one: the flag of the static row, and the partition
 /// tombstone. All else that the newer version says, its own static row among it, and its phase stay.
 pub fn merge_head(older: &PlainVersion, newer: &mut PlainVersion)
-    ensures statics { older.now.statics ≡ None → Alike (static_cell (plain newer.new)) (under (static_cell (plain older.now)) (static_cell (plain newer.old))) }
+    ensures statics { older.now.statics ≡ None → Alike (static_state (plain newer.new)) (under (static_state (plain older.now)) (static_state (plain newer.old))) }
     ensures whole { plain newer.new ≡ head_under (plain older.now) (plain newer.old) }
     ensures entries { newer.new.entries ≡ newer.old.entries }
 {

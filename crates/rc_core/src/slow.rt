@@ -8,13 +8,13 @@ ghost use Rattle.rc_cell.specs.Winner.{greatest, joined_row};
 ghost use Rattle.rc_position.specs.Position.{IsBefore, pos_cmp};
 ghost use Rattle.std.specs.declared.cmp.Ordering.TheVariants.{Greater};
 ghost use Rattle.rc_core.specs.Parts.{IsFirstPart, IsNearer, IsReach};
-ghost use Rattle.rc_core.specs.Cell.{cell, through, under};
-ghost use Rattle.rc_core.specs.Chain.{IsKnown, base, cells, content, flagged};
-ghost use Rattle.rc_core.specs.Continuity.{partition_tombs, static_cells};
+ghost use Rattle.rc_core.specs.SpotState.{spot_state, through, under};
+ghost use Rattle.rc_core.specs.Chain.{IsKnown, base, states_at, content, flagged};
+ghost use Rattle.rc_core.specs.Continuity.{version_tombs, static_states};
 ghost use Rattle.rc_core.specs.Merge.{Alike};
-ghost use Rattle.rc_core.specs.Plain.{mark_cell};
-ghost use Rattle.rc_core.specs.Slow.{plain, seen_cell, spot_at};
-ghost use Rattle.rc_core.specs.Version.{cell_of, end_position, seen, spot_cmp};
+ghost use Rattle.rc_core.specs.Plain.{mark_state};
+ghost use Rattle.rc_core.specs.Slow.{plain, seen_state, spot_at};
+ghost use Rattle.rc_core.specs.Version.{state_of, end_position, seen, spot_cmp};
 
 use crate::entries::{ChainKind, Entry, Flag, Mark};
 use crate::parts::Part;
@@ -72,7 +72,7 @@ fn side_cmp(x: &Pos, side: Side, position: &Pos) -> Ordering
 
 // A mark over what is seen below it.
 fn marked(alloc: Global, below: Seen, mark: Mark) -> Seen
-    ensures { Alike (seen_cell result) (under (seen_cell below) (mark_cell mark)) }
+    ensures { Alike (seen_state result) (under (seen_state below) (mark_state mark)) }
 {
     if decides(mark.flag) {
         return Seen {
@@ -90,7 +90,7 @@ fn marked(alloc: Global, below: Seen, mark: Mark) -> Seen
 
 // A row joined to what is seen.
 fn with_row(alloc: Global, seen: Seen, row: &Option<Row>) -> Result<Seen, AllocError>
-    ensures { IfOk result (λ s. Alike (seen_cell s) (cell seen.flag (seen.row ∷ option_to_list row.now) (option_to_list seen.tomb))) }
+    ensures { IfOk result (λ s. Alike (seen_state s) (spot_state seen.flag (seen.row ∷ option_to_list row.now) (option_to_list seen.tomb))) }
 {
     match row {
         Some(row) => {
@@ -110,7 +110,7 @@ fn lay_over(
     x: &Pos,
     side: Side,
 ) -> Result<Seen, AllocError>
-    ensures { IfOk result (λ s. Alike (seen_cell s) (under (seen_cell below) (cell_of (seen (spot_at side x.now) entries.now)))) }
+    ensures { IfOk result (λ s. Alike (seen_state s) (under (seen_state below) (state_of (seen (spot_at side x.now) entries.now)))) }
 {
     let mut left = entries;
     while let [first, rest @ ..] = left {
@@ -138,7 +138,7 @@ fn as_one(alloc: Global, seen: Seen) -> Result<Seen, AllocError>
 
 // The versions laid over one another, the oldest first.
 fn laid(alloc: Global, versions: &[PlainVersion], x: &Pos, side: Side) -> Result<Seen, AllocError>
-    ensures { IfOk result (λ s. Alike (seen_cell s) (through (cells (spot_at side x.now) (map plain versions.now)))) }
+    ensures { IfOk result (λ s. Alike (seen_state s) (through (states_at (spot_at side x.now) (map plain versions.now)))) }
 {
     let mut seen = Seen {
         flag: Flag::Inherit,
@@ -161,15 +161,15 @@ pub fn seen_at(
     x: &Pos,
     side: Side,
 ) -> Result<Seen, AllocError>
-    ensures flag { IfOk result (λ s. s.flag ≡ (through (cells (spot_at side x.now) (map plain versions.now))).flag) }
-    ensures content { IfOk result (λ s. (s.row, s.tomb) ≡ content (cells (spot_at side x.now) (map plain versions.now))) }
+    ensures flag { IfOk result (λ s. s.flag ≡ (through (states_at (spot_at side x.now) (map plain versions.now))).flag) }
+    ensures content { IfOk result (λ s. (s.row, s.tomb) ≡ content (states_at (spot_at side x.now) (map plain versions.now))) }
 {
     as_one(alloc, laid(alloc, versions, x, side)?)
 }
 
 // The static rows laid over one another, the oldest first.
 fn laid_statics(alloc: Global, versions: &[PlainVersion]) -> Result<Seen, AllocError>
-    ensures { IfOk result (λ s. Alike (seen_cell s) (through (static_cells (map plain versions.now)))) }
+    ensures { IfOk result (λ s. Alike (seen_state s) (through (static_states (map plain versions.now)))) }
 {
     let mut seen = Seen {
         flag: Flag::Inherit,
@@ -191,15 +191,15 @@ fn laid_statics(alloc: Global, versions: &[PlainVersion]) -> Result<Seen, AllocE
 /// What is seen of the static row through versions, the oldest first: the flag of the newest that does not inherit there, and the content.
 /// The only error is want of memory.
 pub fn statics_at(alloc: Global, versions: &[PlainVersion]) -> Result<Seen, AllocError>
-    ensures flag { IfOk result (λ s. s.flag ≡ (through (static_cells (map plain versions.now))).flag) }
-    ensures content { IfOk result (λ s. (s.row, s.tomb) ≡ content (static_cells (map plain versions.now))) }
+    ensures flag { IfOk result (λ s. s.flag ≡ (through (static_states (map plain versions.now))).flag) }
+    ensures content { IfOk result (λ s. (s.row, s.tomb) ≡ content (static_states (map plain versions.now))) }
 {
     as_one(alloc, laid_statics(alloc, versions)?)
 }
 
 /// The greatest partition tombstone of versions.
 pub fn head_of(versions: &[PlainVersion]) -> Option<Tomb>
-    ensures { result ≡ greatest tomb_cmp (partition_tombs (map plain versions.now)) }
+    ensures { result ≡ greatest tomb_cmp (version_tombs (map plain versions.now)) }
 {
     let mut pt = None;
     let mut left = versions;
@@ -212,7 +212,7 @@ pub fn head_of(versions: &[PlainVersion]) -> Option<Tomb>
 
 /// The number of the newest version, the oldest being 0, that does not inherit at a position or over the gap behind it; none where all do.
 pub fn base_at(versions: &[PlainVersion], x: &Pos, side: Side) -> Option<usize>
-    ensures { result ≡ base (cells (spot_at side x.now) (map plain versions.now)) }
+    ensures { result ≡ base (states_at (spot_at side x.now) (map plain versions.now)) }
 {
     let mut found = None;
     let mut number = 0;
@@ -271,7 +271,7 @@ pub fn is_flagged_at(
     x: &Pos,
     side: Side,
 ) -> Result<bool, AllocError>
-    ensures { IfOk result (λ b. b ≡ flagged kind (cells (spot_at side x.now) (map plain versions.now))) }
+    ensures { IfOk result (λ b. b ≡ flagged kind (states_at (spot_at side x.now) (map plain versions.now))) }
 {
     Ok(is_known_in(kind, seen_at(alloc, versions, x, side)?.flag))
 }

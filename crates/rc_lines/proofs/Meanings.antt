@@ -4,7 +4,7 @@ use Rattle.std.specs.Prelude.{if◌then◌else◌, Result, Ok, Err}
 use Rattle.std.specs.declared.option.Option.{Option}
 use Rattle.std.specs.declared.option.Option.TheVariants.{Some, None}
 use Rattle.rc_mutation.specs.declared.mutations.Mutation.{Mutation}
-use Rattle.rc_schema.specs.Lists.{Lists}
+use Rattle.rc_schema.specs.SchemaValue.{SchemaValue}
 use Rattle.rc_lines.specs.declared.commands.Command.{Command}
 use Rattle.rc_lines.specs.declared.commands.Command.TheVariants.{Put}
 use Rattle.rc_lines.specs.declared.commands.Refusal.{Refusal}
@@ -29,7 +29,7 @@ cases false false true false m key = refl
 cases false false false true m key = refl
 cases false false false false m key = refl
 
-pub write_told : (schema : Lists) (key : List ℕ) (change : Change) →
+pub write_told : (schema : SchemaValue) (key : List ℕ) (change : Change) →
     meaning schema (Written key change) ≡ told (change_meaning schema change) (if is_partition_key key then Some key else None)
 unfolding meaning refusal_of change_meaning
 write_told schema key change =

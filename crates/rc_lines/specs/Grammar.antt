@@ -1,6 +1,6 @@
 -- What a line commands.
 use Rattle.std.specs.Prelude.{ℕ, Bool, true, ◌==◌, nat_lt, List, [], ◌∷◌, length, codes, Option, Some, None, Result, Ok, Err, ⊤, ◌≡◌, if◌then◌else◌, option_and_then}
-use Rattle.rc_schema.specs.Lists.{Lists}
+use Rattle.rc_schema.specs.SchemaValue.{SchemaValue}
 use Rattle.rc_schema.specs.SchemaText.{schema_of}
 use Rattle.rc_spelling.specs.Words.{words}
 use Rattle.rc_lines.specs.declared.commands.Command.{Command}
@@ -10,7 +10,7 @@ use Rattle.rc_lines.specs.declared.commands.Refusal.TheVariants.{BadLine, NoSche
 use Rattle.rc_lines.specs.declared.commands.LineErr.{LineErr}
 use Rattle.rc_lines.specs.declared.commands.LineErr.TheVariants as errors
 use Rattle.rc_lines.specs.declared.shapes.Shape.{Shape}
-use Rattle.rc_lines.specs.Parts.{behind}
+use Rattle.rc_lines.specs.Parts.{without_front}
 use Rattle.rc_lines.specs.Shapes.{shape_of}
 use Rattle.rc_lines.specs.UnderSchema.{meaning}
 
@@ -24,29 +24,29 @@ is_comment [] = true
 is_comment (first ∷ rest) = first == 35
 
 -- the schema of a schema line, `schema TEXT`
-unfoldable pub schema_said : List ℕ → Option Lists
-schema_said line = option_and_then schema_of (behind (codes "schema ") line)
+unfoldable pub schema_said : List ℕ → Option SchemaValue
+schema_said line = option_and_then schema_of (without_front (codes "schema ") line)
 
 -- what a line of a shape, or of none, commands under a schema, or under none
-abbrev pub shape_meaning : Option Lists → Option Shape → Result Command Refusal
+abbrev pub shape_meaning : Option SchemaValue → Option Shape → Result Command Refusal
 shape_meaning taken None = Err BadLine
 shape_meaning None (Some shape) = Err NoSchema
 shape_meaning (Some schema) (Some shape) = meaning schema shape
 
 -- what a line commands that is neither too long nor a comment
-abbrev pub said : Option Lists → List ℕ → Option Lists → Result Command Refusal
-said taken line (Some schema) = Ok (SetSchema schema)
-said taken line None = shape_meaning taken (shape_of (words line))
+abbrev pub line_meaning : Option SchemaValue → List ℕ → Option SchemaValue → Result Command Refusal
+line_meaning taken line (Some schema) = Ok (SetSchema schema)
+line_meaning taken line None = shape_meaning taken (shape_of (words line))
 
 -- what a line commands under the schema that was taken, if one was, or why it is refused
-unfoldable pub parse : Option Lists → List ℕ → Result Command Refusal
+unfoldable pub parse : Option SchemaValue → List ℕ → Result Command Refusal
 parse taken line =
     if nat_lt longest_line (length line) then Err BadLine
     else if is_comment line then Ok Nothing
-    else said taken line (schema_said line)
+    else line_meaning taken line (schema_said line)
 
 -- what reading a line gave is its meaning, unless memory ran out
-abbrev pub Reads : Result Command LineErr → Result Command Refusal → Type 0
-Reads (Ok command) meaning = meaning ≡ Ok command
-Reads (Err (errors.Refused refusal)) meaning = meaning ≡ Err refusal
-Reads (Err errors.NoMemory) meaning = ⊤
+abbrev pub ReadsLine : Result Command LineErr → Result Command Refusal → Type 0
+ReadsLine (Ok command) meaning = meaning ≡ Ok command
+ReadsLine (Err (errors.Refused refusal)) meaning = meaning ≡ Err refusal
+ReadsLine (Err errors.NoMemory) meaning = ⊤

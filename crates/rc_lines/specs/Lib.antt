@@ -4,7 +4,7 @@ pub mod UnderSchema
 pub mod Fits
 pub mod Grammar
 pub mod Texts
-pub mod Laws
+pub mod laws
 pub mod Plain
 pub mod Sayable
 pub mod Lines

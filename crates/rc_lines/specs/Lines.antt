@@ -15,9 +15,9 @@ use Rattle.rc_position.specs.declared.positions.Weight.TheVariants.{Before, At, 
 use Rattle.rc_position.specs.Position.{IsBefore}
 use Rattle.rc_ranges.specs.declared.pieces.Piece.{Piece}
 use Rattle.rc_rowcode.specs.Spelling.{IsTomb}
-use Rattle.rc_schema.specs.Lists.{Lists, is_schema}
+use Rattle.rc_schema.specs.SchemaValue.{SchemaValue, is_schema}
 use Rattle.rc_schema.specs.SchemaText.{schema_text}
-use Rattle.rc_spelling.specs.Printed.{AreBytes, IsComponent, bytes_of_component, spelled, key_text}
+use Rattle.rc_spelling.specs.Printed.{AreBytes, IsComponent, bytes_of_component, printed, key_text}
 use Rattle.rc_lines.specs.declared.commands.Command.{Command}
 use Rattle.rc_lines.specs.declared.commands.Command.TheVariants.{SetSchema, Put, OpenRead}
 use Rattle.rc_lines.specs.declared.shapes.Bound.{Bound}
@@ -56,18 +56,18 @@ abbrev pub cells_said : List (List ℕ) → List (ℕ × Cell) → List (List �
 cells_said names cells = list_map (λ e. (column_name names e.0, e.1)) cells
 
 -- what a line says of a write, by its parts: of the partition, or of a row, or of a range, or of the static row
-abbrev pub parts_said : Lists → Option Tomb → List (List Comp × Row) → List Piece → Row → Change
+abbrev pub parts_said : SchemaValue → Option Tomb → List (List Comp × Row) → List Piece → Row → Change
 parts_said schema (Some tomb) rows ranges statics = OfPartition tomb
 parts_said schema None (e ∷ rows) ranges statics = OfRow (pieces_said e.0) e.1.marker e.1.tomb (cells_said schema.cols e.1.cells)
 parts_said schema None [] (range ∷ ranges) statics = OfRange (start_said range.from) (end_said range.to) range.tomb
 parts_said schema None [] [] statics = OfStatic (cells_said schema.statics statics.cells)
 
 -- what a line says of a write to one place
-abbrev pub change_said : Lists → Mutation → Change
+abbrev pub change_said : SchemaValue → Mutation → Change
 change_said schema m = parts_said schema m.pt m.rows m.ranges m.statics
 
 -- the line of a command, and none of a write that takes more than one line
-abbrev pub command_line : Lists → Command → Option (List ℕ)
+abbrev pub command_line : SchemaValue → Command → Option (List ℕ)
 command_line schema (SetSchema lists) = Some (codes "schema " ++ schema_text lists)
 command_line schema (Put write) = shape_line (Written write.key (change_said schema write.change))
 command_line schema (OpenRead id key slice) = shape_line (Open id key (start_said slice.from) (end_said slice.to))
@@ -79,16 +79,16 @@ tomb_text tomb = codes " ts=" ++ (signed_decimal tomb.ts ++ (codes " dt=" ++ dec
 
 -- `delpart KEY ts=TS dt=DT`
 abbrev pub delpart_text : List ℕ → Tomb → List ℕ
-delpart_text key tomb = codes "delpart " ++ (spelled key ++ tomb_text tomb)
+delpart_text key tomb = codes "delpart " ++ (printed key ++ tomb_text tomb)
 
 -- `delete KEY CK ts=TS dt=DT`, the key as replies print it
 abbrev pub delete_text : List ℕ → List Comp → Tomb → List ℕ
-delete_text key ck tomb = codes "delete " ++ (spelled key ++ 32 ∷ (key_text ck ++ tomb_text tomb))
+delete_text key ck tomb = codes "delete " ++ (printed key ++ 32 ∷ (key_text ck ++ tomb_text tomb))
 
 -- `insert KEY CK ts=TS NAME=VALUE ..`, the key and the values as replies print them
 abbrev pub insert_text : List (List ℕ) → List ℕ → List Comp → ℤ → List (ℕ × List ℕ) → List ℕ
 insert_text names key ck ts values =
-    codes "insert " ++ (spelled key ++ 32 ∷ (key_text ck ++ (codes " ts=" ++ (signed_decimal ts ++ flat_map (value_text names) values))))
+    codes "insert " ++ (printed key ++ 32 ∷ (key_text ck ++ (codes " ts=" ++ (signed_decimal ts ++ flat_map (value_text names) values))))
 
 -- live cells of one timestamp, from columns with values
 abbrev pub live_cells : ℤ → List (ℕ × List ℕ) → List (ℕ × Cell)

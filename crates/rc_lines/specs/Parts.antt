@@ -2,37 +2,33 @@
 use Rattle.std.specs.Prelude.{ℕ, ℤ, Bool, true, false, ◌+◌, ◌-◌, ◌==◌, nat_eq, List, [], ◌∷◌, length, take, drop, map as list_map, codes, Option, Some, None, if◌then◌else◌, option_and_then}
 use Rattle.std.specs.List.{position}
 use Rattle.std.specs.Option.{option_map}
-use lib.Pointwise.{pointwise}
 use Rattle.rc_cell.specs.declared.writes.Cell.{Cell}
 use Rattle.rc_cell.specs.declared.writes.Cell.TheVariants.{Live, Dead}
 use Rattle.rc_cell.specs.declared.writes.Tomb.{Tomb}
-use Rattle.rc_schema.specs.Lists.{is_name, is_text, are_distinct_by}
+use Rattle.rc_schema.specs.SchemaValue.{is_name, are_distinct_by}
+use Rattle.rc_spelling.specs.Words.{is_word}
 use Rattle.rc_spelling.specs.Numbers.{number_of, signed_of}
 use Rattle.rc_spelling.specs.Spelling.{bytes_spelled, components_spelled}
 use Rattle.rc_lines.specs.declared.shapes.Bound.{Bound}
 use Rattle.rc_lines.specs.declared.shapes.Stamp.{Stamp}
 use Rattle.rc_lines.specs.declared.shapes.Stamp.TheVariants.{Alive, Gone}
 
--- whether two words are the same bytes
-abbrev pub is_word : List ℕ → List ℕ → Bool
-is_word word text = pointwise nat_eq word text
-
 -- what stands behind a text with which a word begins
-unfoldable pub behind : List ℕ → List ℕ → Option (List ℕ)
-behind text word = if is_word (take (length text) word) text then Some (drop (length text) word) else None
+unfoldable pub without_front : List ℕ → List ℕ → Option (List ℕ)
+without_front text word = if is_word (take (length text) word) text then Some (drop (length text) word) else None
 
 -- what stands before a text with which a word ends
-unfoldable pub before : List ℕ → List ℕ → Option (List ℕ)
-before text word =
+unfoldable pub without_back : List ℕ → List ℕ → Option (List ℕ)
+without_back text word =
     if is_word (drop (length word - length text) word) text then Some (take (length word - length text) word) else None
 
 -- a timestamp, `ts=TS`: a signed number within 64 bits
 unfoldable pub stamp_of : List ℕ → Option ℤ
-stamp_of word = option_and_then signed_of (behind (codes "ts=") word)
+stamp_of word = option_and_then signed_of (without_front (codes "ts=") word)
 
 -- a deletion time, `dt=DT`: a number within 32 bits
 unfoldable pub time_of : List ℕ → Option ℕ
-time_of word = option_and_then (number_of 4294967295) (behind (codes "dt=") word)
+time_of word = option_and_then (number_of 4294967295) (without_front (codes "dt=") word)
 
 -- a tombstone, `ts=TS dt=DT`
 unfoldable pub tomb_of : List ℕ → List ℕ → Option Tomb
@@ -60,27 +56,27 @@ unfoldable pub set_of : ℤ → List ℕ → Option (List ℕ × Cell)
 set_of ts word = option_and_then (λ parts. named parts.0 (live_of ts parts.1)) (split_set word)
 
 -- what a word says of a column: `NAME=VALUE` where its line has a timestamp, and NAME where it has a tombstone
-abbrev pub cell_of : Stamp → List ℕ → Option (List ℕ × Cell)
-cell_of (Alive ts) word = set_of ts word
-cell_of (Gone tomb) word = named word (Some (Dead tomb.ts tomb.dt))
+abbrev pub cell_said : Stamp → List ℕ → Option (List ℕ × Cell)
+cell_said (Alive ts) word = set_of ts word
+cell_said (Gone tomb) word = named word (Some (Dead tomb.ts tomb.dt))
 
 -- what each word says of a column
 abbrev pub each_cell_of : Stamp → List (List ℕ) → Option (List (List ℕ × Cell))
 each_cell_of stamp [] = Some []
-each_cell_of stamp (word ∷ words) = option_and_then (λ cell. option_map (λ cells. cell ∷ cells) (each_cell_of stamp words)) (cell_of stamp word)
+each_cell_of stamp (word ∷ words) = option_and_then (λ cell. option_map (λ cells. cell ∷ cells) (each_cell_of stamp words)) (cell_said stamp word)
 
 -- whether no name stands there twice
 abbrev pub are_distinct : List (List ℕ × Cell) → Bool
-are_distinct cells = are_distinct_by is_text (list_map (λ e. e.0) cells)
+are_distinct cells = are_distinct_by is_word (list_map (λ e. e.0) cells)
 
 -- the columns that words speak of, none of them twice
-unfoldable pub cells_of : Stamp → List (List ℕ) → Option (List (List ℕ × Cell))
-cells_of stamp words = option_and_then (λ cells. if are_distinct cells then Some cells else None) (each_cell_of stamp words)
+unfoldable pub cells_said : Stamp → List (List ℕ) → Option (List (List ℕ × Cell))
+cells_said stamp words = option_and_then (λ cells. if are_distinct cells then Some cells else None) (each_cell_of stamp words)
 
 -- the same of at least one word
 abbrev pub some_cells_of : Stamp → List (List ℕ) → Option (List (List ℕ × Cell))
 some_cells_of stamp [] = None
-some_cells_of stamp (word ∷ words) = cells_of stamp (word ∷ words)
+some_cells_of stamp (word ∷ words) = cells_said stamp (word ∷ words)
 
 -- no bound: the empty prefix, inclusive
 abbrev pub no_bound : Bound
@@ -101,16 +97,16 @@ marked_bound None exclusive = option_and_then (bound_at false) exclusive
 
 -- FROM: `-`, `[CK` or `(CK`
 unfoldable pub from_of : List ℕ → Option Bound
-from_of word = if is_word word (codes "-") then Some no_bound else marked_bound (behind (codes "[") word) (behind (codes "(") word)
+from_of word = if is_word word (codes "-") then Some no_bound else marked_bound (without_front (codes "[") word) (without_front (codes "(") word)
 
 -- TO: `-`, `CK]` or `CK)`
 unfoldable pub to_of : List ℕ → Option Bound
-to_of word = if is_word word (codes "-") then Some no_bound else marked_bound (before (codes "]") word) (before (codes ")") word)
+to_of word = if is_word word (codes "-") then Some no_bound else marked_bound (without_back (codes "]") word) (without_back (codes ")") word)
 
 -- where a range begins, `from=FROM`
-unfoldable pub begins_at : List ℕ → Option Bound
-begins_at word = option_and_then from_of (behind (codes "from=") word)
+unfoldable pub range_start : List ℕ → Option Bound
+range_start word = option_and_then from_of (without_front (codes "from=") word)
 
 -- where a range ends, `to=TO`
-unfoldable pub ends_at : List ℕ → Option Bound
-ends_at word = option_and_then to_of (behind (codes "to=") word)
+unfoldable pub range_end : List ℕ → Option Bound
+range_end word = option_and_then to_of (without_front (codes "to=") word)

@@ -10,8 +10,8 @@ use Rattle.rc_cell.specs.declared.writes.Cell.TheVariants.{Live, Dead}
 use Rattle.rc_mutation.specs.Fragments.{has_any}
 use Rattle.rc_position.specs.declared.comps.Comp.TheVariants.{Text}
 use Rattle.rc_rowcode.specs.Spelling.{IsTomb}
-use Rattle.rc_schema.specs.Lists.{is_name}
-use Rattle.rc_spelling.specs.Printed.{AreBytes, spelled, key_text}
+use Rattle.rc_schema.specs.SchemaValue.{is_name}
+use Rattle.rc_spelling.specs.Printed.{AreBytes, printed, key_text}
 use Rattle.rc_lines.specs.declared.shapes.Bound.{Bound}
 use Rattle.rc_lines.specs.declared.shapes.Change.{Change}
 use Rattle.rc_lines.specs.declared.shapes.Change.TheVariants.{OfRow, OfStatic, OfRange, OfPartition}
@@ -54,7 +54,7 @@ stamped (Dead ts dt) = Gone (record { ts = ts; dt = dt })
 
 -- what stands behind the name of a cell: `=VALUE`, or nothing where the cell is dead
 abbrev pub behind_name : Cell → List ℕ
-behind_name (Live ts value) = 61 ∷ spelled value
+behind_name (Live ts value) = 61 ∷ printed value
 behind_name (Dead ts dt) = []
 
 -- a name with its cell
@@ -88,8 +88,8 @@ slice_words from to = if has_any from.pieces || has_any to.pieces then range_wor
 -- the words of a shape; a command that is the same under each schema has its `plain_line`
 abbrev pub shape_words : Shape → Option (List (List ℕ))
 shape_words (Plain command) = None
-shape_words (Open id key from to) = Some (codes "open" ∷ decimal id ∷ spelled key ∷ slice_words from to)
-shape_words (Written key change) = change_words (spelled key) change
+shape_words (Open id key from to) = Some (codes "open" ∷ decimal id ∷ printed key ∷ slice_words from to)
+shape_words (Written key change) = change_words (printed key) change
 
 -- the line of a shape: its words with one space between them
 abbrev pub shape_line : Shape → Option (List ℕ)

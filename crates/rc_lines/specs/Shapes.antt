@@ -12,32 +12,33 @@ use Rattle.rc_lines.specs.declared.shapes.Change.TheVariants.{OfRow, OfStatic, O
 use Rattle.rc_lines.specs.declared.shapes.Shape.{Shape}
 use Rattle.rc_lines.specs.declared.shapes.Shape.TheVariants.{Plain, Open, Written}
 use Rattle.rc_lines.specs.declared.shapes.Stamp.TheVariants.{Alive, Gone}
-use Rattle.rc_lines.specs.Parts.{is_word, pieces_of, stamp_of, tomb_of, key_of, cells_of, some_cells_of, no_bound, begins_at, ends_at}
+use Rattle.rc_lines.specs.Parts.{pieces_of, stamp_of, tomb_of, key_of, cells_said, some_cells_of, no_bound, range_start, range_end}
+use Rattle.rc_spelling.specs.Words.{is_word}
 
 -- what is written to the row of CK
-unfoldable pub row_of : List ℕ → Option ℤ → Option Tomb → Option (List (List ℕ × Cell)) → Option Change
-row_of ck marker tomb cells = option_and_then (λ pieces. option_map (λ named. OfRow pieces marker tomb named) cells) (pieces_of ck)
+unfoldable pub row_change : List ℕ → Option ℤ → Option Tomb → Option (List (List ℕ × Cell)) → Option Change
+row_change ck marker tomb cells = option_and_then (λ pieces. option_map (λ named. OfRow pieces marker tomb named) cells) (pieces_of ck)
 
 -- `insert KEY CK ts=TS`, then any number of `NAME=VALUE`: a marker and live cells
 unfoldable pub inserted : List ℕ → List ℕ → List (List ℕ) → Option Change
-inserted ck stamp sets = option_and_then (λ ts. row_of ck (Some ts) None (cells_of (Alive ts) sets)) (stamp_of stamp)
+inserted ck stamp sets = option_and_then (λ ts. row_change ck (Some ts) None (cells_said (Alive ts) sets)) (stamp_of stamp)
 
 -- `update KEY CK ts=TS`, then at least one `NAME=VALUE`: live cells
-unfoldable pub updated : List ℕ → List ℕ → List (List ℕ) → Option Change
-updated ck stamp sets = option_and_then (λ ts. row_of ck None None (some_cells_of (Alive ts) sets)) (stamp_of stamp)
+unfoldable pub update_change : List ℕ → List ℕ → List (List ℕ) → Option Change
+update_change ck stamp sets = option_and_then (λ ts. row_change ck None None (some_cells_of (Alive ts) sets)) (stamp_of stamp)
 
 -- `unset KEY CK ts=TS dt=DT`, then at least one NAME: dead cells
 unfoldable pub removed : List ℕ → List ℕ → List ℕ → List (List ℕ) → Option Change
-removed ck stamp time names = option_and_then (λ tomb. row_of ck None None (some_cells_of (Gone tomb) names)) (tomb_of stamp time)
+removed ck stamp time names = option_and_then (λ tomb. row_change ck None None (some_cells_of (Gone tomb) names)) (tomb_of stamp time)
 
 -- `delete KEY CK ts=TS dt=DT`: a row tombstone
 unfoldable pub deleted : List ℕ → List ℕ → List ℕ → Option Change
-deleted ck stamp time = option_and_then (λ tomb. row_of ck None (Some tomb) (Some [])) (tomb_of stamp time)
+deleted ck stamp time = option_and_then (λ tomb. row_change ck None (Some tomb) (Some [])) (tomb_of stamp time)
 
 -- `delrange KEY from=FROM to=TO ts=TS dt=DT`: a range tombstone
 unfoldable pub range_deleted : List ℕ → List ℕ → List ℕ → List ℕ → Option Change
 range_deleted from to stamp time =
-    option_and_then (λ f. option_and_then (λ t. option_map (λ tomb. OfRange f t tomb) (tomb_of stamp time)) (ends_at to)) (begins_at from)
+    option_and_then (λ f. option_and_then (λ t. option_map (λ tomb. OfRange f t tomb) (tomb_of stamp time)) (range_end to)) (range_start from)
 
 -- `delpart KEY ts=TS dt=DT`: a partition tombstone
 unfoldable pub partition_deleted : List ℕ → List ℕ → Option Change
@@ -61,7 +62,7 @@ insert_of (ck ∷ stamp ∷ sets) = inserted ck stamp sets
 abbrev pub update_of : List (List ℕ) → Option Change
 update_of [] = None
 update_of (ck ∷ []) = None
-update_of (ck ∷ stamp ∷ sets) = updated ck stamp sets
+update_of (ck ∷ stamp ∷ sets) = update_change ck stamp sets
 
 -- `unset`, by the words behind KEY
 abbrev pub unset_of : List (List ℕ) → Option Change
@@ -95,9 +96,9 @@ delpart_of (stamp ∷ time ∷ []) = partition_deleted stamp time
 delpart_of (stamp ∷ time ∷ more ∷ words) = None
 
 -- `static`, by the words behind KEY
-abbrev pub static_of : List (List ℕ) → Option Change
-static_of [] = None
-static_of (stamp ∷ sets) = static_set stamp sets
+abbrev pub static_change : List (List ℕ) → Option Change
+static_change [] = None
+static_change (stamp ∷ sets) = static_set stamp sets
 
 -- `unstatic`, by the words behind KEY
 abbrev pub unstatic_of : List (List ℕ) → Option Change
@@ -111,7 +112,7 @@ cell_change_of verb words =
     if is_word verb (codes "insert") then insert_of words
     else if is_word verb (codes "update") then update_of words
     else if is_word verb (codes "unset") then unset_of words
-    else if is_word verb (codes "static") then static_of words
+    else if is_word verb (codes "static") then static_change words
     else if is_word verb (codes "unstatic") then unstatic_of words
     else None
 
@@ -133,17 +134,17 @@ write_of verb [] = None
 write_of verb (key ∷ words) = option_and_then (λ k. option_map (λ change. Written k change) (change_of verb words)) (key_of key)
 
 -- `open ID KEY` between two bounds
-unfoldable pub opened : List ℕ → List ℕ → Option Bound → Option Bound → Option Shape
-opened id key from to =
+unfoldable pub open_shape : List ℕ → List ℕ → Option Bound → Option Bound → Option Shape
+open_shape id key from to =
     option_and_then (λ i. option_and_then (λ k. option_and_then (λ f. option_map (λ t. Open i k f t) to) from) (key_of key)) (count_of 4294967295 id)
 
 -- `open ID KEY`, or `open ID KEY from=FROM to=TO`
 abbrev pub open_of : List (List ℕ) → Option Shape
 open_of [] = None
 open_of (id ∷ []) = None
-open_of (id ∷ key ∷ []) = opened id key (Some no_bound) (Some no_bound)
+open_of (id ∷ key ∷ []) = open_shape id key (Some no_bound) (Some no_bound)
 open_of (id ∷ key ∷ from ∷ []) = None
-open_of (id ∷ key ∷ from ∷ to ∷ []) = opened id key (begins_at from) (ends_at to)
+open_of (id ∷ key ∷ from ∷ to ∷ []) = open_shape id key (range_start from) (range_end to)
 open_of (id ∷ key ∷ from ∷ to ∷ more ∷ words) = None
 
 -- a command of one word

@@ -1,7 +1,7 @@
 -- The texts of replies.
 use Rattle.std.specs.Prelude.{ℕ, Bool, List, [], ◌∷◌, ◌++◌, flat_map, codes, decimal, slice_index_or, if◌then◌else◌}
-use Rattle.rc_schema.specs.Lists.{Lists}
-use Rattle.rc_spelling.specs.Printed.{spelled, key_text}
+use Rattle.rc_schema.specs.SchemaValue.{SchemaValue}
+use Rattle.rc_spelling.specs.Printed.{printed, key_text}
 use Rattle.rc_query.specs.declared.lines.OutLine.{OutLine}
 use Rattle.rc_query.specs.declared.lines.OutLine.TheVariants.{Static, Row}
 use Rattle.rc_lines.specs.declared.commands.Figures.{Figures}
@@ -16,15 +16,15 @@ column_name names column = slice_index_or names column []
 
 -- ` NAME=VALUE`
 abbrev pub value_text : List (List ℕ) → ℕ × List ℕ → List ℕ
-value_text names shown = 32 ∷ (column_name names shown.0 ++ 61 ∷ spelled shown.1)
+value_text names shown = 32 ∷ (column_name names shown.0 ++ 61 ∷ printed shown.1)
 
 -- a line that a reader is given
-abbrev pub line_text : Lists → OutLine → List ℕ
+abbrev pub line_text : SchemaValue → OutLine → List ℕ
 line_text schema (Static shown) = codes "static" ++ flat_map (value_text schema.statics) shown ++ 10 ∷ []
 line_text schema (Row key shown) = codes "row " ++ key_text key ++ flat_map (value_text schema.cols) shown ++ 10 ∷ []
 
 -- the lines that a reader is given, and whether there are more
-abbrev pub given_text : Lists → List OutLine → Bool → List ℕ
+abbrev pub given_text : SchemaValue → List OutLine → Bool → List ℕ
 given_text schema lines more = flat_map (line_text schema) lines ++ (if more then codes "more\n" else codes "end\n")
 
 -- the text of a damaged table
@@ -81,7 +81,7 @@ unfoldable pub figures_text : Figures → List ℕ
 figures_text f = codes "stats" ++ memory_text f ++ cached_text f ++ served_text f ++ done_text f ++ codes "\n"
 
 -- the text of a reply under a schema: its lines, each ended by a newline
-unfoldable pub reply_text : Lists → Reply → List ℕ
+unfoldable pub reply_text : SchemaValue → Reply → List ℕ
 reply_text schema Nothing = []
 reply_text schema Fine = codes "ok\n"
 reply_text schema (Given lines more) = given_text schema lines more

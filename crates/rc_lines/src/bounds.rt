@@ -2,7 +2,8 @@
 
 ghost use Rattle.std.specs.Prelude.{◌≡◌, IfOk};
 ghost use Rattle.std.specs.Option.{option_copied};
-ghost use Rattle.rc_lines.specs.Parts.{is_word, pieces_of, behind, before, no_bound, bound_at, marked_bound, from_of, to_of, begins_at, ends_at};
+ghost use Rattle.rc_lines.specs.Parts.{pieces_of, without_front, without_back, no_bound, bound_at, marked_bound, from_of, to_of, range_start, range_end};
+ghost use Rattle.rc_spelling.specs.Words.{is_word};
 
 use crate::parts::{before, behind, is_word};
 use crate::shapes::{Bound, Pieces};
@@ -84,9 +85,9 @@ fn to(alloc: Global, word: &[u8]) -> Result<Option<Bound>, AllocError>
 }
 
 /// The bound of `from=FROM`.
-#[tactic(auto, unfolding(crate::specs::Parts::begins_at))]
+#[tactic(auto, unfolding(crate::specs::Parts::range_start))]
 pub(crate) fn begins_at(alloc: Global, word: &[u8]) -> Result<Option<Bound>, AllocError>
-    ensures { IfOk result (λ found. found ≡ begins_at word.now) }
+    ensures { IfOk result (λ found. found ≡ range_start word.now) }
 {
     match behind(b"from=", word) {
         Some(bound) => from(alloc, bound),
@@ -95,9 +96,9 @@ pub(crate) fn begins_at(alloc: Global, word: &[u8]) -> Result<Option<Bound>, All
 }
 
 /// The bound of `to=TO`.
-#[tactic(auto, unfolding(crate::specs::Parts::ends_at))]
+#[tactic(auto, unfolding(crate::specs::Parts::range_end))]
 pub(crate) fn ends_at(alloc: Global, word: &[u8]) -> Result<Option<Bound>, AllocError>
-    ensures { IfOk result (λ found. found ≡ ends_at word.now) }
+    ensures { IfOk result (λ found. found ≡ range_end word.now) }
 {
     match behind(b"to=", word) {
         Some(bound) => to(alloc, bound),

@@ -6,8 +6,9 @@ ghost use Rattle.std.specs.BTreeSet.{IsFromIterResult};
 ghost use Rattle.std.specs.Cmp.Lexicographic.{slice_cmp};
 ghost use Rattle.std.specs.Option.{option_map, IfSome};
 ghost use Rattle.std.specs.Ordering.{nat_cmp};
-ghost use Rattle.rc_schema.specs.Lists.{is_text, are_distinct_by};
-ghost use Rattle.rc_lines.specs.Parts.{live_of, named, set_of, split_set, cell_of, each_cell_of, are_distinct, cells_of, some_cells_of};
+ghost use Rattle.rc_schema.specs.SchemaValue.{are_distinct_by};
+ghost use Rattle.rc_spelling.specs.Words.{is_word};
+ghost use Rattle.rc_lines.specs.Parts.{live_of, named, set_of, split_set, cell_said, each_cell_of, are_distinct, cells_said, some_cells_of};
 
 use crate::parts::is_name;
 use crate::shapes::{Named, Stamp};
@@ -77,7 +78,7 @@ fn set(alloc: Global, ts: i64, word: &[u8]) -> Result<Option<(Text, Cell)>, Allo
 
 /// What a word says of a column.
 fn cell(alloc: Global, stamp: Stamp, word: &[u8]) -> Result<Option<(Text, Cell)>, AllocError>
-    ensures { IfOk result (λ found. found ≡ cell_of stamp word.now) }
+    ensures { IfOk result (λ found. found ≡ cell_said stamp word.now) }
 {
     match stamp {
         Stamp::Alive(ts) => set(alloc, ts, word),
@@ -136,7 +137,7 @@ fn text_set<'a>(alloc: Global, texts: &[&'a [u8]]) -> Result<BTreeSet<&'a [u8]>,
 /// Whether no text stands there twice. The work is that of a sort.
 #[tactic(auto, using(crate::proofs::Distinct::distinct_tested))]
 fn are_all_distinct(alloc: Global, texts: &[&[u8]]) -> Result<bool, AllocError>
-    ensures { IfOk result (λ b. b ≡ are_distinct_by is_text (map (λ text. text.now) texts.now)) }
+    ensures { IfOk result (λ b. b ≡ are_distinct_by is_word (map (λ text. text.now) texts.now)) }
 {
     let set = text_set(alloc, texts)?;
     Ok(set.len() == texts.len())
@@ -151,13 +152,13 @@ fn are_distinct(alloc: Global, cells: &[(Text, Cell)]) -> Result<bool, AllocErro
 }
 
 /// The columns that words speak of, where none is named twice.
-#[tactic(auto, unfolding(crate::specs::Parts::cells_of))]
+#[tactic(auto, unfolding(crate::specs::Parts::cells_said))]
 pub(crate) fn cells(
     alloc: Global,
     stamp: Stamp,
     words: &[&[u8]],
 ) -> Result<Option<Named>, AllocError>
-    ensures { IfOk result (λ found. found ≡ cells_of stamp (map (λ word. word.now) words.now)) }
+    ensures { IfOk result (λ found. found ≡ cells_said stamp (map (λ word. word.now) words.now)) }
 {
     let Some(items) = each_cell(alloc, stamp, words)? else {
         return Ok(None);

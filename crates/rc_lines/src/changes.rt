@@ -1,7 +1,7 @@
 //! What a line writes, by its words.
 
 ghost use Rattle.std.specs.Prelude.{◌≡◌, IfOk, map};
-ghost use Rattle.rc_lines.specs.Shapes.{row_of, inserted, updated, removed, deleted, range_deleted, partition_deleted, static_set, static_removed, insert_of, update_of, unset_of, delete_of, delrange_of, delpart_of, static_of, unstatic_of, cell_change_of, deletion_of, change_of};
+ghost use Rattle.rc_lines.specs.Shapes.{row_change, inserted, update_change, removed, deleted, range_deleted, partition_deleted, static_set, static_removed, insert_of, update_of, unset_of, delete_of, delrange_of, delpart_of, static_change, unstatic_of, cell_change_of, deletion_of, change_of};
 
 use crate::bounds::{begins_at, ends_at, pieces};
 use crate::cells::{cells, some_cells};
@@ -11,7 +11,7 @@ use rc_cell::Tomb;
 use std::alloc::{AllocError, Global};
 
 /// What is written to the row of CK.
-#[tactic(auto, unfolding(crate::specs::Shapes::row_of))]
+#[tactic(auto, unfolding(crate::specs::Shapes::row_change))]
 fn row(
     alloc: Global,
     ck: &[u8],
@@ -19,7 +19,7 @@ fn row(
     tomb: Option<Tomb>,
     cells: Option<Named>,
 ) -> Result<Option<Change>, AllocError>
-    ensures { IfOk result (λ found. found ≡ row_of ck.now marker tomb cells) }
+    ensures { IfOk result (λ found. found ≡ row_change ck.now marker tomb cells) }
 {
     let Some(ck) = pieces(alloc, ck)? else {
         return Ok(None);
@@ -53,14 +53,14 @@ fn inserted(
 }
 
 /// Live cells.
-#[tactic(auto, unfolding(crate::specs::Shapes::updated))]
+#[tactic(auto, unfolding(crate::specs::Shapes::update_change))]
 fn updated(
     alloc: Global,
     ck: &[u8],
     when: &[u8],
     sets: &[&[u8]],
 ) -> Result<Option<Change>, AllocError>
-    ensures { IfOk result (λ found. found ≡ updated ck.now when.now (map (λ word. word.now) sets.now)) }
+    ensures { IfOk result (λ found. found ≡ update_change ck.now when.now (map (λ word. word.now) sets.now)) }
 {
     let Some(ts) = stamp(when) else {
         return Ok(None);
@@ -243,7 +243,7 @@ fn delpart(words: &[&[u8]]) -> Option<Change>
 
 /// The words behind `static KEY`: a timestamp, and at least one `NAME=VALUE`.
 fn set_static(alloc: Global, words: &[&[u8]]) -> Result<Option<Change>, AllocError>
-    ensures { IfOk result (λ found. found ≡ static_of (map (λ word. word.now) words.now)) }
+    ensures { IfOk result (λ found. found ≡ static_change (map (λ word. word.now) words.now)) }
 {
     match words {
         [] => Ok(None),

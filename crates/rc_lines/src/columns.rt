@@ -3,7 +3,7 @@
 ghost use Rattle.std.specs.Prelude.{◌≡◌, ◌≤◌, IfOk, IsTrue, length, nat_lt};
 ghost use Rattle.std.specs.List.{list_all};
 ghost use Rattle.std.specs.Option.{option_copied, is_some};
-ghost use Rattle.rc_schema.specs.Checks.{column_of, columns};
+ghost use Rattle.rc_schema.specs.Checks.{column_of, column_count};
 ghost use Rattle.rc_lines.specs.UnderSchema.{cell_named, by_column, are_columns, columns_said};
 
 use crate::parts::is_word;
@@ -81,7 +81,7 @@ fn by_column(
 }
 
 /// The cells of a line, by column.
-#[tactic(auto, using(crate::specs::Laws::Fitting::columns_ascend, crate::specs::Laws::Fitting::columns_are_known))]
+#[tactic(auto, using(crate::specs::laws::Fitting::columns_ascend, crate::specs::laws::Fitting::columns_are_known))]
 pub(crate) fn cells_by_column(
     alloc: Global,
     schema: &Schema,
@@ -89,7 +89,7 @@ pub(crate) fn cells_by_column(
     cells: &[(Text, Cell)],
 ) -> Result<Cells, AllocError>
     ensures value { IfOk result (λ made. made ≡ by_column (columns_said is_static schema.now) cells.now) }
-    ensures known { IfOk result (λ made. IsTrue (list_all (λ e. nat_lt e.0 (columns is_static schema.now)) made)) }
+    ensures known { IfOk result (λ made. IsTrue (list_all (λ e. nat_lt e.0 (column_count is_static schema.now)) made)) }
 {
     let items = by_column(alloc, column_names(schema, is_static), cells)?;
     Ok(Cells::from_vec(items))

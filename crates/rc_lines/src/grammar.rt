@@ -1,7 +1,7 @@
 //! What a line says before a schema is known, by its words.
 
 ghost use Rattle.std.specs.Prelude.{◌≡◌, IfOk, map};
-ghost use Rattle.rc_lines.specs.Shapes.{bare_of, begin_of, told_of, numbered_of, read_of, step_of, counted_of, plain_of, opened, open_of, write_of, shape_of};
+ghost use Rattle.rc_lines.specs.Shapes.{bare_of, begin_of, told_of, numbered_of, read_of, step_of, counted_of, plain_of, open_shape, open_of, write_of, shape_of};
 
 use crate::bounds::{begins_at, ends_at, no_bound};
 use crate::changes::change;
@@ -116,7 +116,7 @@ fn plain(verb: &[u8], words: &[&[u8]]) -> Option<Command>
 }
 
 /// `open ID KEY` between two bounds.
-#[tactic(auto, unfolding(crate::specs::Shapes::opened))]
+#[tactic(auto, unfolding(crate::specs::Shapes::open_shape))]
 fn opened(
     alloc: Global,
     id: &[u8],
@@ -124,7 +124,7 @@ fn opened(
     from: Option<Bound>,
     to: Option<Bound>,
 ) -> Result<Option<Shape>, AllocError>
-    ensures { IfOk result (λ found. found ≡ opened id.now word.now from to) }
+    ensures { IfOk result (λ found. found ≡ open_shape id.now word.now from to) }
 {
     let Some(id) = count(id, u32::MAX) else {
         return Ok(None);

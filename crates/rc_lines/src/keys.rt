@@ -4,7 +4,7 @@ ghost use Rattle.std.specs.Prelude.{◌≡◌, IfOk, IsTrue, false, length, map,
 ghost use Rattle.std.specs.Option.{option_map, IfSome};
 ghost use Rattle.rc_position.specs.Position.{IsBefore};
 ghost use Rattle.rc_schema.specs.Checks.{are_of_kinds, fits_kinds};
-ghost use Rattle.rc_lines.specs.UnderSchema.{component_of, prefix_of, key_under, between, slice_under};
+ghost use Rattle.rc_lines.specs.UnderSchema.{component_of, prefix_of, key_under, slice_between, slice_under};
 
 use crate::shapes::{Bound, Pieces};
 use rc_position::{Comp, Key, Pos, Slice, Text, end_pos, start_pos};
@@ -50,7 +50,7 @@ fn components(
 }
 
 /// The prefix of a key whose components' bytes these are.
-#[tactic(auto, using(crate::specs::Laws::Fitting::prefix_fits, crate::specs::Laws::Fitting::prefix_is_as_long))]
+#[tactic(auto, using(crate::specs::laws::Fitting::prefix_fits, crate::specs::laws::Fitting::prefix_is_as_long))]
 fn prefix(alloc: Global, pieces: &Pieces, kinds: &[CkKind]) -> Result<Option<Key>, AllocError>
     ensures value { IfOk result (λ found. found ≡ prefix_of pieces.now kinds.now) }
     ensures fits { IfOk result (λ found. IfSome found (λ key. IsTrue (are_of_kinds key kinds.now))) }
@@ -79,9 +79,9 @@ pub(crate) fn full_key(
 }
 
 /// The positions between two of which the first is below the second.
-#[tactic(auto, unfolding(crate::specs::UnderSchema::between))]
+#[tactic(auto, unfolding(crate::specs::UnderSchema::slice_between))]
 fn between(from: Pos, to: Pos) -> Option<Slice>
-    ensures value { result ≡ between from to }
+    ensures value { result ≡ slice_between from to }
     ensures begins { IfSome result (λ slice. slice.from ≡ from) }
     ensures ends { IfSome result (λ slice. slice.to ≡ to) }
     ensures ascends { IfSome result (λ slice. IsBefore slice.from slice.to) }
@@ -94,7 +94,7 @@ fn between(from: Pos, to: Pos) -> Option<Slice>
 }
 
 /// The positions between two bounds.
-#[tactic(auto, using(crate::specs::Laws::Fitting::start_fits, crate::specs::Laws::Fitting::end_fits), unfolding(crate::specs::UnderSchema::slice_under))]
+#[tactic(auto, using(crate::specs::laws::Fitting::start_fits, crate::specs::laws::Fitting::end_fits), unfolding(crate::specs::UnderSchema::slice_under))]
 pub(crate) fn slice(
     alloc: Global,
     from: &Bound,

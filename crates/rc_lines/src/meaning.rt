@@ -3,7 +3,7 @@
 ghost use Rattle.std.specs.Prelude.{◌≡◌, [], ◌∷◌, IfOk, IsTrue, None, Some, false, if◌then◌else◌, nat_lt};
 ghost use Rattle.std.specs.List.{list_all};
 ghost use Rattle.rc_position.specs.Position.{IsBefore};
-ghost use Rattle.rc_schema.specs.Checks.{columns, fits_kinds};
+ghost use Rattle.rc_schema.specs.Checks.{column_count, fits_kinds};
 ghost use Rattle.rc_lines.specs.declared.shapes.Change.TheVariants.{OfRow, OfStatic, OfRange, OfPartition};
 ghost use Rattle.rc_lines.specs.declared.shapes.Shape.TheVariants.{Open, Written};
 ghost use Rattle.rc_lines.specs.UnderSchema.{is_partition_key, are_short, have_short_values, is_short_slice, rows_said, change_meaning, meaning};
@@ -51,7 +51,7 @@ fn is_short_slice(schema: &Schema, slice: &Slice) -> bool
 /// Whether each value of a row is within the limits.
 #[tactic(auto, unfolding(rc_schema::specs::Checks::checked_cells))]
 fn is_short_row(schema: &Schema, row: &Row, is_static: bool) -> bool
-    requires { IsTrue (list_all (λ e. nat_lt e.0 (columns is_static schema.now)) row.now.cells) }
+    requires { IsTrue (list_all (λ e. nat_lt e.0 (column_count is_static schema.now)) row.now.cells) }
     ensures { result ≡ have_short_values row.now.cells }
 {
     schema.check_row(row, is_static).is_ok()

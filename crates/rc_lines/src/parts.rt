@@ -3,8 +3,9 @@
 ghost use Rattle.std.specs.Prelude.{◌≡◌, IfOk};
 ghost use Rattle.std.specs.List.{list_all};
 ghost use Rattle.std.specs.Option.{option_copied};
-ghost use Rattle.rc_schema.specs.Lists.{is_name, is_name_byte};
-ghost use Rattle.rc_lines.specs.Parts.{is_word, behind, before, stamp_of, time_of, tomb_of, key_of};
+ghost use Rattle.rc_schema.specs.SchemaValue.{is_name, is_name_byte};
+ghost use Rattle.rc_lines.specs.Parts.{without_front, without_back, stamp_of, time_of, tomb_of, key_of};
+ghost use Rattle.rc_spelling.specs.Words.{is_word};
 
 use rc_cell::Tomb;
 use rc_position::Text;
@@ -19,17 +20,17 @@ pub(crate) fn is_word(word: &[u8], text: &[u8]) -> bool
 }
 
 /// What stands behind a text with which the word begins.
-#[tactic(auto, unfolding(crate::specs::Parts::behind))]
+#[tactic(auto, unfolding(crate::specs::Parts::without_front))]
 pub(crate) fn behind<'a>(text: &[u8], word: &'a [u8]) -> Option<&'a [u8]>
-    ensures { option_copied result ≡ behind text.now word.now }
+    ensures { option_copied result ≡ without_front text.now word.now }
 {
     word.strip_prefix(text)
 }
 
 /// What stands before a text with which the word ends.
-#[tactic(auto, unfolding(crate::specs::Parts::before))]
+#[tactic(auto, unfolding(crate::specs::Parts::without_back))]
 pub(crate) fn before<'a>(text: &[u8], word: &'a [u8]) -> Option<&'a [u8]>
-    ensures { option_copied result ≡ before text.now word.now }
+    ensures { option_copied result ≡ without_back text.now word.now }
 {
     word.strip_suffix(text)
 }

@@ -1,7 +1,7 @@
 //! The text of a reply.
 
 ghost use Rattle.std.specs.Prelude.{◌≡◌, ◌++◌, ◌∷◌, decimal, flat_map, OnOk, OnErr};
-ghost use Rattle.rc_spelling.specs.Printed.{spelled};
+ghost use Rattle.rc_spelling.specs.Printed.{printed};
 ghost use Rattle.rc_lines.specs.Texts.{column_name, value_text, line_text, given_text, damage_text, fixed_text, refusal_text, figure_text, memory_text, cached_text, served_text, done_text, figures_text, reply_text};
 
 use crate::commands::{Figures, Refusal, Reply};
@@ -25,7 +25,7 @@ fn column_name(names: &[Text], column: u8) -> &[u8]
 
 /// Appends ` NAME=VALUE`.
 fn print_value(name: &[u8], value: &Value, text: &mut Vec<u8>) -> Result<(), AllocError>
-    ensures { OnOk result (text.new.items ≡ text.old.items ++ 32 ∷ (name.now ++ 61 ∷ spelled value.now)) }
+    ensures { OnOk result (text.new.items ≡ text.old.items ++ 32 ∷ (name.now ++ 61 ∷ printed value.now)) }
 {
     text.push(b' ')?;
     text.extend_from_slice(name)?;

@@ -2,7 +2,7 @@
 
 ghost use Rattle.std.specs.Prelude.{◌≡◌, IfOk};
 ghost use Rattle.std.specs.Option.{option_copied};
-ghost use Rattle.rc_lines.specs.Grammar.{is_comment, schema_said, shape_meaning, said, parse, Reads};
+ghost use Rattle.rc_lines.specs.Grammar.{is_comment, schema_said, shape_meaning, line_meaning, parse, ReadsLine};
 ghost use Rattle.rc_lines.specs.Shapes.{shape_of};
 ghost use Rattle.rc_spelling.specs.Words.{words};
 
@@ -74,7 +74,7 @@ fn said(
     taken: Option<&Schema>,
     line: &[u8],
 ) -> Result<Result<Command, Refusal>, AllocError>
-    ensures { IfOk result (λ m. m ≡ said (option_copied taken.entry) line.now (schema_said line.now)) }
+    ensures { IfOk result (λ m. m ≡ line_meaning (option_copied taken.entry) line.now (schema_said line.now)) }
 {
     if let Some(schema) = schema_said(alloc, line)? {
         return Ok(Ok(Command::SetSchema(schema)));
@@ -89,7 +89,7 @@ fn said(
 /// its limit. A schema line, an empty line and a comment need no schema. The only other error is want of memory.
 #[tactic(auto, unfolding(crate::specs::Grammar::parse))]
 pub fn read_line(alloc: Global, schema: Option<&Schema>, line: &[u8]) -> Result<Command, LineErr>
-    ensures { Reads result (parse (option_copied schema.entry) line.now) }
+    ensures { ReadsLine result (parse (option_copied schema.entry) line.now) }
 {
     if line.len() > LONGEST_LINE {
         return Err(LineErr::Refused(Refusal::BadLine));

@@ -3,7 +3,7 @@ use Rattle.std.proofs.Common.{◌≡◌, ◌==◌, ℕ, ◌-◌, MatchBool, nat_
 use Rattle.std.specs.List.{filter, list_all}
 use Rattle.std.specs.Map.{lookup, set_value}
 use Rattle.std.proofs.lemmas.Map.Entries.{lookup-filter-keys}
-use Rattle.rc_schema.specs.Lists.{Lists}
+use Rattle.rc_schema.specs.SchemaValue.{SchemaValue}
 use Rattle.rc_position.specs.declared.slices.Slice.{Slice}
 use Rattle.rc_lines.specs.declared.commands.Command.{Command}
 use Rattle.rc_lines.specs.declared.commands.Command.TheVariants.{Nothing, SetSchema, Put, OpenRead, Read, Close, Flush, FlushBegin, FlushStep, Evict, Compact, Clean, Stats}
@@ -12,7 +12,7 @@ use Rattle.rc_lines.specs.declared.commands.Refusal.TheVariants.{NoReader, Reade
 use Rattle.rc_lines.specs.declared.commands.Reply.{Reply}
 use Rattle.rc_lines.specs.declared.commands.Reply.TheVariants as replies
 use Rattle.rc_machine.specs.State.{State, Reader, reader_of}
-use Rattle.rc_machine.specs.Steps.{Steps, After, Refuses, Opens, Gives, Stores, is_of, most_readers, last_number, next_number, with_table, without_sealed}
+use Rattle.rc_machine.specs.Steps.{Steps, AfterSteps, Refuses, Opens, Gives, Stores, is_of, most_readers, last_number, next_number, with_table, without_sealed}
 
 abbrev Readers : Type 0
 Readers = List (ℕ × Reader)
@@ -124,7 +124,7 @@ both : (a b : Bool) → (not a && b) ≡ true → (a ≡ false) × (b ≡ true)
 both false b h = (refl, h)
 both true b h = absurd (cc)
 
-pub fixed_after : (m : State) (id : ℕ) (r : Reader) (steps : List (Command × Reply)) (new : State) → reader_of id m ≡ Some r → list_all (λ step. not (is_of id step.0)) steps ≡ true → After m steps new → reader_of id new ≡ Some r
+pub fixed_after : (m : State) (id : ℕ) (r : Reader) (steps : List (Command × Reply)) (new : State) → reader_of id m ≡ Some r → list_all (λ step. not (is_of id step.0)) steps ≡ true → AfterSteps m steps new → reader_of id new ≡ Some r
 fixed_after m id r [] new e h s = ap (λ (m : State). reader_of id m) s ∙ e
 fixed_after m id r (step ∷ steps) new e h s =
     let h' = both (is_of id step.0) (list_all (λ step. not (is_of id step.0)) steps) h in

@@ -3,26 +3,26 @@
 use Rattle.std.specs.Prelude.{◌≡◌, ℕ, ◌≤◌, List, [], ◌∷◌, ◌++◌, length, take, map as list_map, Option, All, option_map, ⊤, if◌then◌else◌}
 use Rattle.std.specs.FinMap as map
 use Rattle.rc_outside.specs.Files.{Files}
-use Rattle.rc_schema.specs.Lists.{Lists}
+use Rattle.rc_schema.specs.SchemaValue.{SchemaValue}
 use Rattle.rc_mutation.specs.declared.mutations.Write.{Write}
 use Rattle.rc_mutation.specs.Fragments.{IsParts}
 use Rattle.rc_tfile.specs.Before.{text}
-use Rattle.rc_tfile.specs.TableText.{table, IsTable}
+use Rattle.rc_tfile.specs.TableText.{whole_table, IsTable}
 use Rattle.rc_lines.specs.declared.commands.Command.{Command}
 use Rattle.rc_lines.specs.declared.commands.Command.TheVariants.{Put}
 use Rattle.rc_lines.specs.declared.commands.Reply.{Reply}
 use Rattle.rc_lines.specs.declared.commands.Reply.TheVariants.{Fine}
 use Rattle.rc_machine.specs.State.{State, Table, numbers}
-use Rattle.rc_machine.specs.Steps.{after}
+use Rattle.rc_machine.specs.Steps.{number_after}
 
 -- a table, and the writes that were flushed to it
 abbrev pub Flush : Type 0
 Flush = Table × List Write
 
 -- the table of a schema holds the parts of these writes
-pub record IsFlushOf (schema : Lists) (flush : Flush) : Type 0 where
+pub record IsFlushOf (schema : SchemaValue) (flush : Flush) : Type 0 where
   pub of_writes : IsParts flush.0.1 flush.1
-  pub is_table : IsTable (text (table schema flush.0.1)) schema flush.0.1
+  pub is_table : IsTable (text (whole_table schema flush.0.1)) schema flush.0.1
 
 -- the tables of flushes
 abbrev pub tables_of : List Flush → List Table
@@ -34,14 +34,14 @@ writes_of [] = []
 writes_of (flush ∷ flushes) = flush.1 ++ writes_of flushes
 
 -- files with the texts of more tables
-abbrev pub files_with : Lists → Files → List Table → Files
+abbrev pub files_with : SchemaValue → Files → List Table → Files
 files_with schema files [] = files
-files_with schema files (t ∷ tables) = files_with schema (map.insert files t.0 (text (table schema t.1))) tables
+files_with schema files (t ∷ tables) = files_with schema (map.insert files t.0 (text (whole_table schema t.1))) tables
 
 -- numbers are next, one behind another: each is one more than the last before it
 abbrev pub AreNext : List ℕ → List ℕ → Type 0
 AreNext before [] = ⊤
-AreNext before (n ∷ ns) = (n ≡ after 0 before) × AreNext (before ++ n ∷ []) ns
+AreNext before (n ∷ ns) = (n ≡ number_after 0 before) × AreNext (before ++ n ∷ []) ns
 
 -- how many of the accepted writes stand in tables
 abbrev pub in_tables : State → ℕ

@@ -6,4 +6,4 @@ pub mod Built
 pub mod Standing
 pub mod Serving
 pub mod Flushed
-pub mod Laws
+pub mod laws

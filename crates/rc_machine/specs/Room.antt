@@ -1,6 +1,6 @@
 -- When a write may be refused for want of room: the weight of writes, and which of them are held.
 --     weight      what a write may take of the memory for rows, in bytes
---     held        the writes that the memory for rows has to hold
+--     held_writes        the writes that the memory for rows has to hold
 --     MayBeFull   they and this write, with what readers pin, pass three quarters of all segments but two
 use Rattle.std.specs.Prelude.{ℕ, ◌+◌, ◌-◌, ◌*◌, ◌/◌, ◌<◌, ◌==◌, min, List, [], ◌∷◌, ◌++◌, length, drop, if◌then◌else◌}
 use Rattle.std.specs.List.{filter_map}
@@ -51,8 +51,8 @@ least n [] = n
 least n (k ∷ ks) = min k (least n ks)
 
 -- the writes that are held: those from the least mark on, none where there is no mark
-abbrev pub held : State → List Write
-held m = drop (least (length m.log) (marks m)) m.log
+abbrev pub held_writes : State → List Write
+held_writes m = drop (least (length m.log) (marks m)) m.log
 
 -- the weight of writes
 abbrev pub weight_of : List Write → ℕ
@@ -61,4 +61,4 @@ weight_of (w ∷ ws) = weight w.change + weight_of ws
 
 -- a write may be refused for want of room: what is held, the write, and what readers pin pass three quarters of all segments but two
 abbrev pub MayBeFull : State → Write → Type 0
-MayBeFull m w = (3 * segment_size / 4) * (m.segments - 2) < weight_of (held m) + (weight w.change + 512 * (length m.readers + 2))
+MayBeFull m w = (3 * segment_size / 4) * (m.segments - 2) < weight_of (held_writes m) + (weight w.change + 512 * (length m.readers + 2))

@@ -1,7 +1,7 @@
 -- What a call that serves a command does, whatever it keeps and whatever state that stood for.
 --     Takes, Stops      it takes a step, or memory runs out
---     bound_of          how many ranges it may ask for
---     RisesIfFault      a reply that tells a fault comes only where the store failed
+--     most_asks          how many ranges it may ask for
+--     FaultsAreCounted      a reply that tells a fault comes only where the store failed
 use Rattle.std.specs.Prelude.{◌≡◌, ℕ, ◌+◌, ◌*◌, ◌/◌, ◌≤◌, ◌⊎◌, List, [], ◌∷◌, length, Option, Result, IfOk, ⊤}
 use Rattle.rc_outside.specs.Files.{Files}
 use Rattle.rc_outside.specs.Faults.{Rose}
@@ -38,21 +38,21 @@ checks_of [] = 0
 checks_of (bytes ∷ files) = (length bytes / 2048 + 2) + checks_of files
 
 -- at most so many ranges of table files are asked for by a command: an open reads its partition from each table that lists it
-abbrev pub bound_of : List TableInfo → Command → ℕ
-bound_of infos (OpenRead id key slice) = 2 * listing key infos
-bound_of infos command = 0
+abbrev pub most_asks : List TableInfo → Command → ℕ
+most_asks infos (OpenRead id key slice) = 2 * listing key infos
+most_asks infos command = 0
 
 -- a refusal that says that the store failed
-abbrev pub OnFault : Refusal → Type 0 → Type 0
-OnFault ReadFault P = P
-OnFault WriteFault P = P
-OnFault refusal P = ⊤
+abbrev pub OnRefusedFault : Refusal → Type 0 → Type 0
+OnRefusedFault ReadFault P = P
+OnRefusedFault WriteFault P = P
+OnRefusedFault refusal P = ⊤
 
 -- so much holds of a reply that says that the store failed
 abbrev pub OnFaulty : Reply → Type 0 → Type 0
-OnFaulty (Refused refusal) P = OnFault refusal P
+OnFaulty (Refused refusal) P = OnRefusedFault refusal P
 OnFaulty reply P = ⊤
 
 -- the count of faults does not fall, and rose where a reply says that the store failed
-abbrev pub RisesIfFault : {E : Type 0} → Result Reply E → (before now : ℕ) → Type 0
-RisesIfFault result before now = (before ≤ now) × IfOk result (λ reply. OnFaulty reply (Rose before now))
+abbrev pub FaultsAreCounted : {E : Type 0} → Result Reply E → (before now : ℕ) → Type 0
+FaultsAreCounted result before now = (before ≤ now) × IfOk result (λ reply. OnFaulty reply (Rose before now))

@@ -1,13 +1,13 @@
 -- The machine without a cache, over a folder of tables: its state.
 --     Table, Reader, State    what it holds
---     opened                  as it is opened over a folder
+--     opened_state                  as it is opened over a folder
 --     changes_of              what is said of a partition
 use Rattle.std.specs.Prelude.{ℕ, ◌==◌, Bool, false, List, [], ◌++◌, drop, map as list_map, Option}
 use Rattle.std.specs.Map.{lookup}
 use Rattle.rc_outside.specs.Files.{Files}
 use Rattle.rc_position.specs.declared.positions.Pos.{Pos}
 use Rattle.rc_position.specs.declared.slices.Slice.{Slice}
-use Rattle.rc_schema.specs.Lists.{Lists}
+use Rattle.rc_schema.specs.SchemaValue.{SchemaValue}
 use Rattle.rc_mutation.specs.declared.mutations.Mutation.{Mutation}
 use Rattle.rc_mutation.specs.declared.mutations.Partition.{Partition}
 use Rattle.rc_mutation.specs.declared.mutations.Write.{Write}
@@ -33,7 +33,7 @@ pub record Reader : Type 0 where
 -- stand in tables or are sealed for the next one; whether that one is written already, and how many of its fragments the cache does not
 -- have yet; and the open readers, by their ids
 pub record State : Type 0 where
-  pub schema : Lists
+  pub schema : SchemaValue
   pub segments : ℕ
   pub files : Option Files
   pub tables : List Table
@@ -50,8 +50,8 @@ abbrev pub numbers : List Table → List ℕ
 numbers tables = list_map (λ t. t.0) tables
 
 -- the machine as it is opened over a folder of tables
-abbrev pub opened : ℕ → Option Files → Lists → List Table → List TableInfo → State
-opened segments files schema tables infos = record {
+abbrev pub opened_state : ℕ → Option Files → SchemaValue → List Table → List TableInfo → State
+opened_state segments files schema tables infos = record {
   schema = schema;
   segments = segments;
   files = files;

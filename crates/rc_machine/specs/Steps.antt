@@ -2,7 +2,7 @@
 --     IsSaid, Opens     what the tables say to a reader that is opened
 --     Gives             the lines that a reader is given next
 --     Stores            how sealed writes become a table
---     Steps, After      one step, and several
+--     Steps, AfterSteps      one step, and several
 use Rattle.std.specs.Prelude.{◌≡◌, ◌≢◌, ℕ, ◌+◌, ◌-◌, ◌≤◌, ◌==◌, ◌⊎◌, Bool, true, false, not, nat_lt, List, [], ◌∷◌, ◌++◌, length, take, drop, Option, Some, None, MatchBool, MatchOption, option_map, if◌then◌else◌}
 use Rattle.std.specs.List.{filter, AllByRecursion}
 use Rattle.std.specs.Map.{set_value}
@@ -11,7 +11,7 @@ use Rattle.rc_position.specs.declared.comps.Comp.{Comp}
 use Rattle.rc_position.specs.declared.positions.Pos.{Pos}
 use Rattle.rc_position.specs.declared.positions.Weight.TheVariants.{After as AfterKey}
 use Rattle.rc_position.specs.declared.slices.Slice.{Slice}
-use Rattle.rc_schema.specs.Lists.{Lists}
+use Rattle.rc_schema.specs.SchemaValue.{SchemaValue}
 use Rattle.rc_mutation.specs.declared.mutations.Mutation.{Mutation}
 use Rattle.rc_mutation.specs.declared.mutations.Partition.{Partition}
 use Rattle.rc_mutation.specs.declared.mutations.Write.{Write}
@@ -22,7 +22,7 @@ use Rattle.rc_query.specs.Answer.{answer}
 use Rattle.rc_tfile.specs.declared.info.TableInfo.{TableInfo}
 use Rattle.rc_tfile.specs.Before.{text}
 use Rattle.rc_tfile.specs.Info.{info_of}
-use Rattle.rc_tfile.specs.TableText.{table, IsTable}
+use Rattle.rc_tfile.specs.TableText.{whole_table, IsTable}
 use Rattle.rc_stream.specs.declared.streams.StreamErr.TheVariants as stream_err
 use Rattle.rc_tables.specs.Located.{SaysOf}
 use Rattle.rc_tables.specs.Tables.{IsDamageOf, changes_at, listing}
@@ -45,13 +45,13 @@ abbrev pub last_number : ℕ
 last_number = 4294967295
 
 -- one more than the last of numbers, or than n where there are none
-abbrev pub after : ℕ → List ℕ → ℕ
-after n [] = n + 1
-after n (k ∷ ks) = after k ks
+abbrev pub number_after : ℕ → List ℕ → ℕ
+number_after n [] = n + 1
+number_after n (k ∷ ks) = number_after k ks
 
 -- the number of the next table: one more than the last one's, or 1
 abbrev pub next_number : List Table → ℕ
-next_number tables = after 0 (numbers tables)
+next_number tables = number_after 0 (numbers tables)
 
 -- a refusal that changes nothing
 abbrev pub Refuses : State → Refusal → Reply → State → Type 0
@@ -83,14 +83,14 @@ Opens m id key slice reply new =
     ⊎ ((file : ℕ) × (offset : ℕ) × MayBeDamaged m key file offset × Refuses m (Damaged file offset) reply new))
 
 -- the position behind lines that were given, of which the first begin behind x: behind the last row
-abbrev pub behind : Pos → List OutLine → Pos
-behind x [] = x
-behind x (out_line.Static shown ∷ lines) = behind x lines
-behind x (out_line.Row key shown ∷ lines) = behind (record { prefix = key; weight = AfterKey }) lines
+abbrev pub position_behind : Pos → List OutLine → Pos
+position_behind x [] = x
+position_behind x (out_line.Static shown ∷ lines) = position_behind x lines
+position_behind x (out_line.Row key shown ∷ lines) = position_behind (record { prefix = key; weight = AfterKey }) lines
 
 -- a reader that was given its next lines: it stands behind them, or at its slice's end where none are left
 abbrev pub reader_past : ℕ → Reader → Reader
-reader_past count r = record r { place = if nat_lt count (length r.rest) then behind r.place (take count r.rest) else r.slice.to; rest = drop count r.rest }
+reader_past count r = record r { place = if nat_lt count (length r.rest) then position_behind r.place (take count r.rest) else r.slice.to; rest = drop count r.rest }
 
 -- A reader gives its next lines, and whether there are more. Or the store fails; or, where the folder is not told, a table is not what it was.
 abbrev pub Gives : State → ℕ → ℕ → Reader → Reply → State → Type 0
@@ -110,12 +110,12 @@ to_flush m = take (sealing m - m.stored) (unstored m)
 -- Partitions are what a flush writes: the parts of the writes that are sealed or would be, and the text of a table.
 pub record IsFlushed (m : State) (parts : List Partition) : Type 0 where
   pub of_writes : IsParts parts (to_flush m)
-  pub is_table : IsTable (text (table m.schema parts)) m.schema parts
+  pub is_table : IsTable (text (whole_table m.schema parts)) m.schema parts
 
 -- the state in which the sealed writes stand in one more table, with its file, and the cache does not have it yet
 abbrev pub with_table : State → List Partition → State
 with_table m parts = record m {
-  files = option_map (λ files. map.insert files (next_number m.tables) (text (table m.schema parts))) m.files;
+  files = option_map (λ files. map.insert files (next_number m.tables) (text (whole_table m.schema parts))) m.files;
   tables = m.tables ++ (next_number m.tables, parts) ∷ [];
   infos = m.infos ++ info_of (next_number m.tables) m.schema parts ∷ [];
   sealed = sealing m;
@@ -162,9 +162,9 @@ Steps m (Clean count) reply new = Does m reply new
 Steps m Stats reply new = (figures : Figures) × (reply ≡ replies.Stats figures) × (new ≡ m)
 
 -- the state after steps, each a command with its reply
-abbrev pub After : State → List (Command × Reply) → State → Type 0
-After m [] new = new ≡ m
-After m (step ∷ steps) new = (next : State) × Steps m step.0 step.1 next × After next steps new
+abbrev pub AfterSteps : State → List (Command × Reply) → State → Type 0
+AfterSteps m [] new = new ≡ m
+AfterSteps m (step ∷ steps) new = (next : State) × Steps m step.0 step.1 next × AfterSteps next steps new
 
 -- whether a command reads from a reader or closes it
 abbrev pub is_of : ℕ → Command → Bool

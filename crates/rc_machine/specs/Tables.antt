@@ -3,7 +3,7 @@ use Rattle.std.specs.Prelude.{◌≡◌, ℕ, ◌<◌, List, map as list_map, Op
 use Rattle.std.specs.List.Sorted.{IsStrictlyIncreasing}
 use Rattle.std.specs.FinMap as map
 use Rattle.rc_outside.specs.Files.{Files}
-use Rattle.rc_schema.specs.Lists.{Lists}
+use Rattle.rc_schema.specs.SchemaValue.{SchemaValue}
 use Rattle.rc_mutation.specs.declared.mutations.Partition.{Partition}
 use Rattle.rc_mutation.specs.Source.{IsMutation}
 use Rattle.rc_tfile.specs.declared.info.TableInfo.{TableInfo}
@@ -12,26 +12,26 @@ use Rattle.rc_tfile.specs.TableText.{IsTable, IsOtherSchema, FirstDamage}
 use Rattle.rc_machine.specs.State.{Table, numbers}
 
 -- the table's file is there and is its text, and each of its partitions says what a mutation says
-abbrev pub IsKept : Files → Lists → Table → Type 0
-IsKept files schema t = (bytes : List ℕ) × (map.get files t.0 ≡ Some bytes) × IsTable bytes schema t.1 × All (λ p. IsMutation p.change) t.1
+abbrev pub IsStoredTable : Files → SchemaValue → Table → Type 0
+IsStoredTable files schema t = (bytes : List ℕ) × (map.get files t.0 ≡ Some bytes) × IsTable bytes schema t.1 × All (λ p. IsMutation p.change) t.1
 
 -- the tables are those of a folder: each file is one, and no other is. Of a folder that is not told, they have ascending numbers
-abbrev pub AreTables : Option Files → Lists → List Table → Type 0
+abbrev pub AreTables : Option Files → SchemaValue → List Table → Type 0
 AreTables None schema tables = IsStrictlyIncreasing (numbers tables)
-AreTables (Some files) schema tables = (numbers tables ≡ map.keys files) × All (IsKept files schema) tables
+AreTables (Some files) schema tables = (numbers tables ≡ map.keys files) × All (IsStoredTable files schema) tables
 
 -- the directories of the tables list so. Of a folder that is not told, what is known of them is what was read or written
-abbrev pub AreListed : Option Files → Lists → List Table → List TableInfo → Type 0
+abbrev pub AreListed : Option Files → SchemaValue → List Table → List TableInfo → Type 0
 AreListed None schema tables infos = list_map (λ i. i.number) infos ≡ numbers tables
 AreListed (Some files) schema tables infos = infos ≡ list_map (λ t. info_of t.0 schema t.1) tables
 
 -- the bytes are no table of the schema: their first damage is at an offset, or they have another schema
-abbrev pub IsBad : Lists → Option ℕ → List ℕ → Type 0
+abbrev pub IsBad : SchemaValue → Option ℕ → List ℕ → Type 0
 IsBad schema (Some off) bytes = FirstDamage bytes schema off
 IsBad schema None bytes = IsOtherSchema bytes schema
 
 -- file n is the first of the folder, by number, that is no table of the schema
-pub record IsFirstBad (files : Files) (schema : Lists) (n : ℕ) (damage : Option ℕ) : Type 0 where
+pub record IsFirstBad (files : Files) (schema : SchemaValue) (n : ℕ) (damage : Option ℕ) : Type 0 where
   pub bytes : List ℕ
   pub here : map.get files n ≡ Some bytes
   pub bad : IsBad schema damage bytes

@@ -3,12 +3,12 @@
 ghost use Rattle.std.specs.Prelude.{◌≡◌, ◌++◌, ℕ, List, [], Option, Some, None, false, true, not};
 ghost use Rattle.std.specs.List.{list_all};
 ghost use Rattle.rc_outside.specs.Files.{Files};
-ghost use Rattle.rc_schema.specs.Lists.{Lists};
+ghost use Rattle.rc_schema.specs.SchemaValue.{SchemaValue};
 ghost use Rattle.rc_tfile.specs.declared.info.TableInfo.{TableInfo};
 ghost use Rattle.rc_lines.specs.declared.commands.Command.{Command};
 ghost use Rattle.rc_lines.specs.declared.commands.Reply.{Reply};
-ghost use Rattle.rc_machine.specs.State.{State, Reader, Table, opened, reader_of};
-ghost use Rattle.rc_machine.specs.Steps.{Steps, After, is_of};
+ghost use Rattle.rc_machine.specs.State.{State, Reader, Table, opened_state, reader_of};
+ghost use Rattle.rc_machine.specs.Steps.{Steps, AfterSteps, is_of};
 ghost use Rattle.rc_machine.specs.Flushed.{Flush, HasFlushed, accepted};
 
 /// An open reader stays as it is in each step, and over any steps, that neither read from it nor close it: no write, no flush, no refusal and no
@@ -17,7 +17,7 @@ pub fn readers_are_fixed()
     ensures step { (m : State) (id : ℕ) (r : Reader) (command : Command) (reply : Reply) (new : State) →
         reader_of id m ≡ Some r → is_of id command ≡ false → Steps m command reply new → reader_of id new ≡ Some r }
     ensures steps { (m : State) (id : ℕ) (r : Reader) (steps : List (Command × Reply)) (new : State) →
-        reader_of id m ≡ Some r → list_all (λ step. not (is_of id step.0)) steps ≡ true → After m steps new → reader_of id new ≡ Some r }
+        reader_of id m ≡ Some r → list_all (λ step. not (is_of id step.0)) steps ≡ true → AfterSteps m steps new → reader_of id new ≡ Some r }
 {}
 
 /// A reader that was closed is not open.
@@ -29,6 +29,6 @@ pub fn closed_readers_are_gone()
 /// the folder, and then those that were flushed, which hold the first of the accepted writes, one run of them behind another: each table has the
 /// parts of its run, and its file is the table's text.
 pub fn tables_hold_what_was_flushed()
-    ensures { (segments : ℕ) (files : Option Files) (schema : Lists) (tables : List Table) (infos : List TableInfo) (steps : List (Command × Reply)) (m : State) →
-        After (opened segments files schema tables infos) steps m → ((flushes : List Flush) × HasFlushed (opened segments files schema tables infos) m flushes) × (m.log ≡ accepted steps) }
+    ensures { (segments : ℕ) (files : Option Files) (schema : SchemaValue) (tables : List Table) (infos : List TableInfo) (steps : List (Command × Reply)) (m : State) →
+        AfterSteps (opened_state segments files schema tables infos) steps m → ((flushes : List Flush) × HasFlushed (opened_state segments files schema tables infos) m flushes) × (m.log ≡ accepted steps) }
 {}

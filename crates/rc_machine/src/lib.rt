@@ -1,6 +1,8 @@
 //! The meaning of the program: the machine without a cache, over a folder of tables, as definitions, and laws of its steps. No code.
 #![tactic(auto)]
 
+mod fitting;
 mod laws;
 
+pub use fitting::{fitting_parts_make_a_table, parts_of_fitting_writes_fit};
 pub use laws::{closed_readers_are_gone, readers_are_fixed, tables_hold_what_was_flushed};

@@ -1,3 +1,4 @@
 pub mod Places
 pub mod RowsMerge
 pub mod Alone
+pub mod Same

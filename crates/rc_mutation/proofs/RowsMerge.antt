@@ -10,14 +10,14 @@ use Rattle.std.specs.FinMap.Entries.{below_all}
 use Rattle.rc_cell.specs.declared.rows.Row.{Row}
 use Rattle.rc_cell.specs.Columns.{ascending}
 use Rattle.rc_cell.specs.ByColumn.{test_of, both, first, second}
-use Rattle.rc_cell.specs.Laws.{joined_row-one}
+use Rattle.rc_cell.specs.laws.{joined_row-one}
 use Rattle.rc_cell.specs.Winner.{empty_row, joined_row}
 use Rattle.rc_position.specs.declared.comps.Comp.{Comp}
 use Rattle.rc_position.specs.Position.{key_cmp}
-use Rattle.rc_position.specs.OrderLaws.{key_cmp_total, key_cmp_same}
+use Rattle.rc_position.specs.laws.Orders.{key_cmp_total, key_cmp_same}
 use Rattle.rc_mutation.specs.Rows.{joined_rows, IsRows}
-use Rattle.rc_mutation.specs.ByKey.{Entries, same_key, rows_at-append, rows_at-ascending, same_rows, joined_if_any, find-joined_rows, sorted-joined_rows}
-use Rattle.rc_mutation.specs.RowsLaws.{found, IsRows-joined_rows}
+use Rattle.rc_mutation.specs.ByKey.{KeyedRows, same_key, rows_at-append, rows_at-ascending, same_rows, joined_if_any, find-joined_rows, sorted-joined_rows}
+use Rattle.rc_mutation.specs.laws.JoinedRows.{found, IsRows-joined_rows}
 
 -- what two rows at one key join to
 abbrev pub pair : Row → Row → Row
@@ -165,7 +165,7 @@ either-joined (Some x) None g h = ap Some (joined_row-one x (g x refl))
 either-joined (Some x) (Some y) g h = refl
 
 -- two lists by ascending key merged are the joined rows of both
-pub merge-joined : (os bs : Entries) → IsRows os → IsRows bs → merge os bs ≡ joined_rows (os ++ bs)
+pub merge-joined : (os bs : KeyedRows) → IsRows os → IsRows bs → merge os bs ≡ joined_rows (os ++ bs)
 merge-joined os bs g h =
     let ours : T (is_sorted key_cmp os) = test_of _ g.ascend in
     let theirs : T (is_sorted key_cmp bs) = test_of _ h.ascend in
@@ -179,22 +179,22 @@ merge-joined os bs g h =
     ))
 
 -- with nothing left on one side, what is left on both is what is left on the other
-merge-ends : (os bs : Entries) → (length os < 1) ⊎ (length bs < 1) → merge os bs ≡ os ++ bs
+merge-ends : (os bs : KeyedRows) → (length os < 1) ⊎ (length bs < 1) → merge os bs ≡ os ++ bs
 merge-ends [] bs h = refl
 merge-ends (a ∷ os) [] h = sym (append-nil (a ∷ os))
 merge-ends (a ∷ os) (b ∷ bs) h = ⊎_elim (λ e. absurd (omega arith)) (λ e. absurd (omega arith)) h
 
 -- what the loop made, with what it left, is the joined rows
-pub made-joined : (made ours theirs os bs : Entries) → IsRows ours → IsRows theirs → made ++ merge os bs ≡ merge ours theirs → (length os < 1) ⊎ (length bs < 1) → (made ++ os) ++ bs ≡ joined_rows (ours ++ theirs)
+pub made-joined : (made ours theirs os bs : KeyedRows) → IsRows ours → IsRows theirs → made ++ merge os bs ≡ merge ours theirs → (length os < 1) ⊎ (length bs < 1) → (made ++ os) ++ bs ≡ joined_rows (ours ++ theirs)
 made-joined made ours theirs os bs g h e ended =
     append_assoc made os bs ∙ ap (λ ms. made ++ ms) (sym (merge-ends os bs ended)) ∙ e ∙ merge-joined ours theirs g h
 
-all-append : (P : List Comp × Row → Type 0) (xs ys : Entries) → All P xs → All P ys → All P (xs ++ ys)
+all-append : (P : List Comp × Row → Type 0) (xs ys : KeyedRows) → All P xs → All P ys → All P (xs ++ ys)
 all-append P [] ys g h k d lt = h k d lt
 all-append P (x ∷ xs) ys g h zero d lt = g 0 x (omega arith)
 all-append P (x ∷ xs) ys g h (suc k) d lt = all-append P xs ys (λ k d lt. g (suc k) d (omega arith)) h k d (omega arith)
 
 -- they ascend, and something was written of each
-pub joined-rows : (os bs : Entries) → IsRows os → IsRows bs → IsRows (joined_rows (os ++ bs))
+pub joined-rows : (os bs : KeyedRows) → IsRows os → IsRows bs → IsRows (joined_rows (os ++ bs))
 joined-rows os bs g h =
     IsRows-joined_rows (os ++ bs) (all-append (λ e. IsTrue (ascending e.1.cells)) os bs g.by_column h.by_column) (all-append (λ e. e.1 ≢ empty_row) os bs g.written h.written)

@@ -75,3 +75,11 @@ pub record IsParts (parts : List Partition) (writes : List Write) : Type 0 where
 -- the units of parts: how many fragments they have
 abbrev pub units : List Partition → ℕ
 units parts = sum_by (λ p. length (fragments p.change)) parts
+
+-- the range tombstone in force behind a fragment
+abbrev pub tomb_after : Option Tomb → Frag → Option Tomb
+tomb_after tomb (frag.Start pt) = tomb
+tomb_after tomb (frag.Static row) = tomb
+tomb_after tomb (frag.Row key row) = tomb
+tomb_after tomb (frag.Change from next) = next
+tomb_after tomb frag.End = tomb

@@ -1,10 +1,9 @@
 pub mod ByKey
+pub mod Canonical
 pub mod Fragments
 pub mod Place
 pub mod Rows
-pub mod RowsLaws
 pub mod Source
 pub mod Slices
-pub mod SourceLaws
 pub mod Statics
-pub mod Laws
+pub mod laws

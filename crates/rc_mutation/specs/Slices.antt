@@ -18,8 +18,8 @@ abbrev pub in_slice : Slice → List Comp → Bool
 in_slice slice key = covers slice.from slice.to (row_pos key)
 
 -- where a range tombstone is in force at the start of a slice, a change to it there
-abbrev pub opening : Slice → List Piece → List (Pos × Option Tomb)
-opening slice ranges = option_to_list (option_map (λ tomb. (slice.from, Some tomb)) (range_tomb ranges slice.from))
+abbrev pub opening_change : Slice → List Piece → List (Pos × Option Tomb)
+opening_change slice ranges = option_to_list (option_map (λ tomb. (slice.from, Some tomb)) (range_tomb ranges slice.from))
 
 -- whether a position stands behind the start of a slice and before its end
 abbrev pub is_between : Slice → Pos → Bool
@@ -29,4 +29,4 @@ is_between slice x = is_lt (pos_cmp slice.from x) && is_lt (pos_cmp x slice.to)
 abbrev pub fragments_in : Slice → Mutation → List Frag
 fragments_in slice m =
     in_order (list_map placed_row (filter (λ e. in_slice slice e.0) m.rows)
-    ++ list_map placed_change (opening slice m.ranges ++ filter (λ c. is_between slice c.0) (changes_of m.ranges)))
+    ++ list_map placed_change (opening_change slice m.ranges ++ filter (λ c. is_between slice c.0) (changes_of m.ranges)))

@@ -11,8 +11,7 @@ use Rattle.rc_position.specs.declared.comps.Comp.{Comp}
 use Rattle.rc_position.specs.declared.positions.Pos.{Pos}
 use Rattle.rc_position.specs.Position.{bytes_cmp, pos_cmp, row_pos}
 use Rattle.rc_ranges.specs.declared.pieces.Piece.{Piece}
-use Rattle.rc_ranges.specs.Cover.{tombs_over, IsCanonical}
-use Rattle.rc_ranges.specs.Cover.{cover as range_tomb}
+use Rattle.rc_ranges.specs.Cover.{tombs_over, IsCanonical, cover as range_tomb}
 use Rattle.rc_mutation.specs.declared.mutations.Mutation.{Mutation}
 use Rattle.rc_mutation.specs.declared.mutations.Write.{Write}
 pub use Rattle.rc_mutation.specs.Rows.{rows_at, keys, joined_rows, IsRows}
@@ -55,8 +54,8 @@ abbrev pub source_at : List Mutation → Pos → Row × Option Tomb
 source_at changes x = (joined_row (rows_in x (all_rows changes)), range_tomb (all_pieces changes) x)
 
 -- the greatest of the tombstones that cover the row of a key: of the partition, of ranges and of the row
-abbrev pub cover : List Mutation → List Comp → Option Tomb
-cover changes key = greatest tomb_cmp (partition_tombs changes ++ tombs_over (all_pieces changes) (row_pos key) ++ tombs (rows_at key (all_rows changes)))
+abbrev pub row_cover : List Mutation → List Comp → Option Tomb
+row_cover changes key = greatest tomb_cmp (partition_tombs changes ++ tombs_over (all_pieces changes) (row_pos key) ++ tombs (rows_at key (all_rows changes)))
 
 -- two lists of writes say the same at each place
 pub record SameSource (changes others : List Mutation) : Type 0 where

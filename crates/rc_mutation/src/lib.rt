@@ -2,6 +2,7 @@
 //! how writes are joined, and the fragments as which a partition is read.
 #![tactic(auto)]
 
+pub mod canonical;
 mod fragments;
 pub mod laws;
 mod mutations;

@@ -32,8 +32,8 @@ abbrev pub is_due : StoreCall → Failures → Bool
 is_due call fails = list_any (λ f. same_call f.0 call && (f.1 == 1)) fails
 
 -- a listed failure after a call of this kind: it is one call nearer where it is of this kind
-abbrev pub nearer : StoreCall → StoreCall × ℕ → StoreCall × ℕ
-nearer call (kind, nth) = (kind, if same_call kind call then nth - 1 else nth)
+abbrev pub one_call_nearer : StoreCall → StoreCall × ℕ → StoreCall × ℕ
+one_call_nearer call (kind, nth) = (kind, if same_call kind call then nth - 1 else nth)
 
 -- a store in memory: its files, the file that is being built, how many ranges of files were asked for so far, the calls
 -- that are to fail, and how many have failed so far
@@ -53,7 +53,7 @@ mem_code =
 
 -- the store after a call of this kind was counted, and failed where it was due
 abbrev pub counted : StoreCall → MemState → MemState
-counted call s = record s { fails = map (nearer call) s.fails; faults = if is_due call s.fails then raised s.faults else s.faults }
+counted call s = record s { fails = map (one_call_nearer call) s.fails; faults = if is_due call s.fails then raised s.faults else s.faults }
 
 -- the answer is a fault
 abbrev pub is_fault : {T : Type 0} → Result T StoreErr → Bool

@@ -25,6 +25,6 @@ abbrev pub OnFault : StoreErr → Type 0 → Type 0
 OnFault Fault P = P
 OnFault NoMemory _ = ⊤
 
--- the count of faults does not fall, and rose where the call answers a fault
-abbrev pub RisesIfFault : {T : Type 0} → Result T StoreErr → (before now : ℕ) → Type 0
-RisesIfFault result before now = (before ≤ now) × IfErr result (λ e. OnFault e (Rose before now))
+-- the count of faults does not fall, and rose where the call answers an error that is a fault, as the first argument says of its kind of error
+abbrev pub RisesIfFault : {T E : Type 0} → (E → Type 0 → Type 0) → Result T E → (before now : ℕ) → Type 0
+RisesIfFault IfFault result before now = (before ≤ now) × IfErr result (λ e. IfFault e (Rose before now))

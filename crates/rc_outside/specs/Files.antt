@@ -43,8 +43,8 @@ AreBytesOf None n off piece = ⊤
 AreBytesOf (Some files) n off piece = (bytes : List ℕ) → map.get files n ≡ Some bytes → piece ≡ take (length piece) (drop off bytes)
 
 -- what is being built after `begin`: file n with no bytes, told where the files are
-abbrev pub begun : Option Files → ℕ → Option (Option Draft)
-begun files n = Some (option_map (λ _. (n, [])) files)
+abbrev pub new_draft : Option Files → ℕ → Option (Option Draft)
+new_draft files n = Some (option_map (λ _. (n, [])) files)
 
 -- what is being built after `append`: it grew by the piece
 abbrev pub grown : Option (Option Draft) → List ℕ → Option (Option Draft)

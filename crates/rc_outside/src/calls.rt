@@ -1,7 +1,7 @@
 // The kinds of calls of a store, and which of them are to fail.
 ghost use Rattle.std.specs.Prelude.{◌≡◌, ◌==◌, ◌&&◌, ℕ, List, map};
 ghost use Rattle.std.specs.List.{list_any};
-ghost use Rattle.rc_outside.specs.Failures.{same_call, is_due, nearer};
+ghost use Rattle.rc_outside.specs.Failures.{same_call, is_due, one_call_nearer};
 
 /// The kinds of calls of a store that can be made to fail.
 #[derive(Clone, Copy, Debug, PartialEq, Eq)]
@@ -38,7 +38,7 @@ pub(crate) fn is_listed(fails: &[(StoreCall, u64)], call: StoreCall) -> bool
 
 /// Brings each listed failure of this kind one call nearer.
 pub(crate) fn draw_nearer(fails: &mut [(StoreCall, u64)], call: StoreCall)
-    ensures { fails.new ≡ map (nearer call) fails.old }
+    ensures { fails.new ≡ map (one_call_nearer call) fails.old }
 {
     for failure in fails.iter_mut() {
         *failure = after(*failure, call);
@@ -47,7 +47,7 @@ pub(crate) fn draw_nearer(fails: &mut [(StoreCall, u64)], call: StoreCall)
 
 /// A listed failure after a call of this kind.
 fn after(failure: (StoreCall, u64), call: StoreCall) -> (StoreCall, u64)
-    ensures { result ≡ nearer call failure }
+    ensures { result ≡ one_call_nearer call failure }
 {
     let (kind, nth) = failure;
     if kind.is(call) {

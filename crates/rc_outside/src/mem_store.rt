@@ -2,7 +2,7 @@
 ghost use Rattle.std.specs.Prelude.{◌≡◌, ◌++◌, ◌∷◌, ℕ, ◌≤◌, [], List, None, Some, Ok, Err, length, is_err, IsSome, IfOk, OnOk, OnErr, MatchResult, option_map, if◌then◌else◌};
 ghost use Rattle.std.specs.FinMap as map;
 ghost use Rattle.rc_outside.specs.Files.{IsFile, IsNoFile, LiesInFile, AreNumbers, IsSizeOf, AreBytesOf};
-ghost use Rattle.rc_outside.specs.Faults.{RisesIfFailed, RisesIfFault};
+ghost use Rattle.rc_outside.specs.Faults.{RisesIfFailed, RisesIfFault, OnFault};
 
 use super::calls::{StoreCall, draw_nearer, is_listed};
 use super::counts::raise;
@@ -96,7 +96,7 @@ impl MemStore {
     fn count_building(&mut self, call: StoreCall) -> Result<(), StoreErr>
         ensures ok { OnOk result (self.new ≡ counted call self.old) }
         ensures err { OnErr result (let now = counted call self.old in self.new ≡ record now { building = None }) }
-        ensures faults { RisesIfFault result self.old.faults self.new.faults }
+        ensures faults { RisesIfFault OnFault result self.old.faults self.new.faults }
         ensures due { result ≡ (if is_due call self.old.fails then Err StoreErr.Fault else Ok tt) }
     {
         match self.count(call) {
@@ -122,7 +122,7 @@ impl Store for MemStore {
 
     fn numbers(&mut self, alloc: Global) -> Result<Vec<u32>, StoreErr>
         ensures numbers { IfOk result (λ v. AreNumbers (Some self.old.files) v.items) }
-        ensures faults { RisesIfFault result self.old.faults self.new.faults }
+        ensures faults { RisesIfFault OnFault result self.old.faults self.new.faults }
         ensures listed { is_fault result ≡ is_due StoreCall.Numbers self.old.fails }
         ensures state { self.new ≡ counted StoreCall.Numbers self.old }
     {
@@ -160,7 +160,7 @@ impl Store for MemStore {
     fn begin(&mut self, alloc: Global, n: u32) -> Result<(), StoreErr>
         requires idle { self.old.building ≡ None }
         requires fresh { IsNoFile (Some self.old.files) n }
-        ensures faults { RisesIfFault result self.old.faults self.new.faults }
+        ensures faults { RisesIfFault OnFault result self.old.faults self.new.faults }
         ensures listed { is_fault result ≡ is_due StoreCall.Begin self.old.fails }
         ensures state { self.new ≡ after_begin self.old n result }
     {
@@ -170,7 +170,7 @@ impl Store for MemStore {
 
     fn append(&mut self, alloc: Global, piece: &[u8]) -> Result<(), StoreErr>
         requires { IsSome self.old.building }
-        ensures faults { RisesIfFault result self.old.faults self.new.faults }
+        ensures faults { RisesIfFault OnFault result self.old.faults self.new.faults }
         ensures listed { is_fault result ≡ is_due StoreCall.Append self.old.fails }
         ensures state { self.new ≡ after_append self.old piece.now result }
     {
@@ -180,7 +180,7 @@ impl Store for MemStore {
 
     fn finish(&mut self, alloc: Global) -> Result<(), StoreErr>
         requires { IsSome self.old.building }
-        ensures faults { RisesIfFault result self.old.faults self.new.faults }
+        ensures faults { RisesIfFault OnFault result self.old.faults self.new.faults }
         ensures listed { is_fault result ≡ is_due StoreCall.Finish self.old.fails }
         ensures state { self.new ≡ after_finish self.old result }
     {

@@ -1,6 +1,6 @@
 // Where files lie.
 ghost use Rattle.std.specs.Prelude.{◌≡◌, ℕ, ◌≤◌, Option, None, length, IsSome, IfOk, OnOk, MatchResult};
-ghost use Rattle.rc_outside.specs.Files.{Files, Draft, IsFile, IsNoFile, LiesInFile, AreNumbers, IsSizeOf, AreBytesOf, begun, grown, with_draft, unless_refused};
+ghost use Rattle.rc_outside.specs.Files.{Files, Draft, IsFile, IsNoFile, LiesInFile, AreNumbers, IsSizeOf, AreBytesOf, new_draft, grown, with_draft, unless_refused};
 ghost use Rattle.rc_outside.specs.Faults.{raised};
 
 use super::sources::Failed;
@@ -21,7 +21,7 @@ pub enum StoreErr {
 /// A folder of numbered files that is read by ranges and grows by whole files. At most one file is being built at a
 /// time: it is among the files only once it is finished.
 pub trait Store {
-    ghost use Rattle.rc_outside.specs.Faults.{RisesIfFailed, RisesIfFault};
+    ghost use Rattle.rc_outside.specs.Faults.{RisesIfFailed, RisesIfFault, OnFault};
 
     // the files, where the store tells them
     ghost files: { Self → Option Files };
@@ -41,7 +41,7 @@ pub trait Store {
         ensures numbers { IfOk result (λ v. AreNumbers (files self.old) v.items) }
         ensures files { files self.new ≡ files self.old }
         ensures building { building self.new ≡ building self.old }
-        ensures faults { RisesIfFault result (faults self.old) (faults self.new) }
+        ensures faults { RisesIfFault OnFault result (faults self.old) (faults self.new) }
         ensures asks { asks self.new ≡ asks self.old };
 
     /// The length in bytes of file `n`, which is there. `Failed` when the outside fails: then the count of faults rose.
@@ -70,8 +70,8 @@ pub trait Store {
         requires idle { building self.old ≡ None }
         requires fresh { IsNoFile (files self.old) n }
         ensures files { files self.new ≡ files self.old }
-        ensures building { building self.new ≡ unless_refused result (begun (files self.old) n) }
-        ensures faults { RisesIfFault result (faults self.old) (faults self.new) }
+        ensures building { building self.new ≡ unless_refused result (new_draft (files self.old) n) }
+        ensures faults { RisesIfFault OnFault result (faults self.old) (faults self.new) }
         ensures asks { asks self.new ≡ asks self.old };
 
     /// Appends the piece to the file that is being built. `StoreErr::Fault` when the outside fails,
@@ -80,7 +80,7 @@ pub trait Store {
         requires { IsSome (building self.old) }
         ensures files { files self.new ≡ files self.old }
         ensures building { building self.new ≡ unless_refused result (grown (building self.old) piece.now) }
-        ensures faults { RisesIfFault result (faults self.old) (faults self.new) }
+        ensures faults { RisesIfFault OnFault result (faults self.old) (faults self.new) }
         ensures asks { asks self.new ≡ asks self.old };
 
     /// Puts the file that is being built among the files; then nothing is being built. `StoreErr::Fault` when the
@@ -92,7 +92,7 @@ pub trait Store {
             (λ _. files self.new ≡ with_draft (files self.old) (building self.old))
             (λ _. files self.new ≡ files self.old) }
         ensures building { building self.new ≡ None }
-        ensures faults { RisesIfFault result (faults self.old) (faults self.new) }
+        ensures faults { RisesIfFault OnFault result (faults self.old) (faults self.new) }
         ensures asks { asks self.new ≡ asks self.old };
 
     /// Gives up what is being built, if something is. Never refused.

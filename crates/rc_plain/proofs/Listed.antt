@@ -15,15 +15,14 @@ use Rattle.std.proofs.lemmas.List.{map-append}
 use Rattle.std.proofs.lemmas.List.Elements.{All-append, All-cons}
 use Rattle.std.proofs.lemmas.Map.Keys.{sorted_head, sorted_tail}
 use Rattle.rc_position.specs.Position.{bytes_cmp}
-use Rattle.rc_position.specs.OrderLaws.{bytes_cmp_total, bytes_cmp_same}
+use Rattle.rc_position.specs.laws.Orders.{bytes_cmp_total, bytes_cmp_same}
 use Rattle.rc_mutation.specs.declared.mutations.Mutation.{Mutation}
 use Rattle.rc_mutation.specs.declared.mutations.Partition.{Partition}
 use Rattle.rc_mutation.specs.declared.mutations.Write.{Write}
 use Rattle.rc_mutation.specs.Fragments.{IsParts}
-use Rattle.rc_mutation.specs.Source.{changes_to}
-use Rattle.rc_mutation.specs.Source.{IsJoinOf, IsMutation, SameSource}
-use Rattle.rc_mutation.specs.SourceLaws.{IsJoinOf-source}
-use Rattle.rc_plain.specs.Index.{IsIndexOf, IsPartOf}
+use Rattle.rc_mutation.specs.Source.{changes_to, IsJoinOf, IsMutation, SameSource}
+use Rattle.rc_mutation.specs.laws.Sources.{IsJoinOf-source}
+use Rattle.rc_plain.specs.calls.Index.{IsIndexOf, IsPartitionOf}
 use Rattle.rc_plain.proofs.Keyed.{turned}
 
 -- keys, each with nothing
@@ -108,7 +107,7 @@ part_says part writes is j = IsJoinOf-source part.change (changes_to part.key wr
 
 -- a partition for each key of the index
 pub parts_are : (parts : List Partition) (writes : List Write) (index : BTreeMap (List ℕ) (Vec ℕ)) → IsIndexOf writes index → IsStrictlySortedBy bytes_cmp (keys index) → map (λ (p : Partition). p.key) parts ≡ keys index
-    → All (λ p. IsPartOf p writes) parts → IsParts parts writes
+    → All (λ p. IsPartitionOf p writes) parts → IsParts parts writes
 parts_are parts writes index is up keyed all = record {
   keys = keyed ∙ keys_are writes index is up;
   mutations = λ k d l. (all k d l).0;
@@ -124,5 +123,5 @@ one_more parts part writes done left later key is next here =
     ∙ ap (λ ks. map (λ (p : Partition). p.key) parts ++ ks) (sym next)
     ∙ is
 
-pub part_more : (parts : List Partition) (part : Partition) (writes : List Write) → All (λ p. IsPartOf p writes) parts → IsPartOf part writes → All (λ p. IsPartOf p writes) (parts ++ part ∷ [])
-part_more parts part writes all is = All-append (λ p. IsPartOf p writes) parts (part ∷ []) all (All-cons (λ p. IsPartOf p writes) part [] is (λ k d l. absurd (omega arith)))
+pub part_more : (parts : List Partition) (part : Partition) (writes : List Write) → All (λ p. IsPartitionOf p writes) parts → IsPartitionOf part writes → All (λ p. IsPartitionOf p writes) (parts ++ part ∷ [])
+part_more parts part writes all is = All-append (λ p. IsPartitionOf p writes) parts (part ∷ []) all (All-cons (λ p. IsPartitionOf p writes) part [] is (λ k d l. absurd (omega arith)))

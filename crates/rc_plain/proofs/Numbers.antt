@@ -16,8 +16,8 @@ use Rattle.rc_position.specs.Position.{bytes_cmp}
 use Rattle.rc_mutation.specs.declared.mutations.Mutation.{Mutation}
 use Rattle.rc_mutation.specs.declared.mutations.Write.{Write}
 use Rattle.rc_mutation.specs.Source.{IsJoinOf, changes_to}
-use Rattle.rc_mutation.specs.SourceLaws.{IsJoinOf-first, IsJoinOf-swap}
-use Rattle.rc_plain.specs.Index.{changes_numbered, found, numbers_of, IsIndexOf}
+use Rattle.rc_mutation.specs.laws.Sources.{IsJoinOf-first, IsJoinOf-swap}
+use Rattle.rc_plain.specs.calls.Index.{changes_numbered, numbers_at_key, numbers_of, IsIndexOf}
 use Rattle.rc_plain.proofs.Keyed.{key_is}
 
 -- two joined parts are joined by joining what they join to
@@ -81,11 +81,11 @@ all_changes key log w ns false h e =
     ap (changes_numbered (log ++ w ∷ [])) (append-nil ns) ∙ changes_numbered-more log w ns h ∙ e ∙ sym (append-nil (changes_to key log))
 
 -- the numbers at a key after one more
-numbers_more : (index index' : BTreeMap (List ℕ) (Vec ℕ)) (key : List ℕ) (n : ℕ) → ((q : List ℕ) → found index' q ≡ cond (eq_by_cmp bytes_cmp key q) (Some (numbers_of index key ++ n ∷ [])) (found index q))
+numbers_more : (index index' : BTreeMap (List ℕ) (Vec ℕ)) (key : List ℕ) (n : ℕ) → ((q : List ℕ) → numbers_at_key index' q ≡ cond (eq_by_cmp bytes_cmp key q) (Some (numbers_of index key ++ n ∷ [])) (numbers_at_key index q))
     → (q : List ℕ) → numbers_of index' q ≡ numbers_of index q ++ cond (eq_by_cmp bytes_cmp key q) (n ∷ []) []
 numbers_more index index' key n put q =
     ap (λ (o : Option (List ℕ)). unwrap_or o []) (put q)
-    ∙ elim (eq_by_cmp bytes_cmp key q) as (λ b. eq_by_cmp bytes_cmp key q ≡ b → unwrap_or (cond b (Some (numbers_of index key ++ n ∷ [])) (found index q)) [] ≡ numbers_of index q ++ cond b (n ∷ []) []) [
+    ∙ elim (eq_by_cmp bytes_cmp key q) as (λ b. eq_by_cmp bytes_cmp key q ≡ b → unwrap_or (cond b (Some (numbers_of index key ++ n ∷ [])) (numbers_at_key index q)) [] ≡ numbers_of index q ++ cond b (n ∷ []) []) [
       | true ↦ λ e. ap (λ k. numbers_of index k ++ n ∷ []) (key_is key q e)
       | false ↦ λ e. sym (append-nil (numbers_of index q))
     ] refl
@@ -97,19 +97,19 @@ or_last false true = refl
 or_last false false = refl
 
 -- a key is listed where one of the writes has it
-listed_more : (writes : List Write) (w : Write) (index index' : BTreeMap (List ℕ) (Vec ℕ)) (ns : List ℕ) (q : List ℕ) → is_some (found index q) ≡ list_any (λ (v : Write). eq_by_cmp bytes_cmp v.key q) writes
-    → found index' q ≡ cond (eq_by_cmp bytes_cmp w.key q) (Some ns) (found index q) → is_some (found index' q) ≡ list_any (λ (v : Write). eq_by_cmp bytes_cmp v.key q) (writes ++ w ∷ [])
+listed_more : (writes : List Write) (w : Write) (index index' : BTreeMap (List ℕ) (Vec ℕ)) (ns : List ℕ) (q : List ℕ) → is_some (numbers_at_key index q) ≡ list_any (λ (v : Write). eq_by_cmp bytes_cmp v.key q) writes
+    → numbers_at_key index' q ≡ cond (eq_by_cmp bytes_cmp w.key q) (Some ns) (numbers_at_key index q) → is_some (numbers_at_key index' q) ≡ list_any (λ (v : Write). eq_by_cmp bytes_cmp v.key q) (writes ++ w ∷ [])
 listed_more writes w index index' ns q is put =
     let p : Write → Bool = λ v. eq_by_cmp bytes_cmp v.key q in
     ap is_some put
-    ∙ elim (eq_by_cmp bytes_cmp w.key q) as (λ b. is_some (cond b (Some ns) (found index q)) ≡ cond b true (is_some (found index q))) [ true ↦ refl | false ↦ refl ]
+    ∙ elim (eq_by_cmp bytes_cmp w.key q) as (λ b. is_some (cond b (Some ns) (numbers_at_key index q)) ≡ cond b true (is_some (numbers_at_key index q))) [ true ↦ refl | false ↦ refl ]
     ∙ ap (λ a. cond (eq_by_cmp bytes_cmp w.key q) true a) is
     ∙ sym (or_last (list_any p writes) (eq_by_cmp bytes_cmp w.key q))
     ∙ sym (list_any-append p writes (w ∷ []))
 
 -- the number of a write more stands behind the others at its partition's key
 pub index_more : (log : List Write) (w : Write) (index index' : BTreeMap (List ℕ) (Vec ℕ)) → IsIndexOf log index
-    → ((q : List ℕ) → found index' q ≡ cond (eq_by_cmp bytes_cmp w.key q) (Some (numbers_of index w.key ++ length log ∷ [])) (found index q)) → IsIndexOf (log ++ w ∷ []) index'
+    → ((q : List ℕ) → numbers_at_key index' q ≡ cond (eq_by_cmp bytes_cmp w.key q) (Some (numbers_of index w.key ++ length log ∷ [])) (numbers_at_key index q)) → IsIndexOf (log ++ w ∷ []) index'
 index_more log w index index' is put =
     let more = numbers_more index index' w.key (length log) put in
     record {
@@ -120,7 +120,7 @@ index_more log w index index' is put =
     }
 
 -- the same numbers at each key are an index of the same writes
-pub index_same : (log : List Write) (index index' : BTreeMap (List ℕ) (Vec ℕ)) → IsIndexOf log index → ((q : List ℕ) → found index' q ≡ found index q) → IsIndexOf log index'
+pub index_same : (log : List Write) (index index' : BTreeMap (List ℕ) (Vec ℕ)) → IsIndexOf log index → ((q : List ℕ) → numbers_at_key index' q ≡ numbers_at_key index q) → IsIndexOf log index'
 index_same log index index' is same =
     let numbers : (q : List ℕ) → numbers_of index' q ≡ numbers_of index q = λ q. ap (λ (o : Option (List ℕ)). unwrap_or o []) (same q) in
     record {

@@ -13,7 +13,7 @@ use Rattle.std.proofs.lemmas.List.{length-map, map-append}
 use Rattle.std.proofs.lemmas.List.Elements.{All-append, All-cons, All-head, All-tail}
 use Rattle.rc_cell.specs.ByColumn.{same_column}
 use Rattle.rc_outside.specs.Files.{Files, IsFile, AreNumbers}
-use Rattle.rc_schema.specs.Lists.{Lists}
+use Rattle.rc_schema.specs.SchemaValue.{SchemaValue}
 use Rattle.rc_mutation.specs.declared.mutations.Partition.{Partition}
 use Rattle.rc_tfile.specs.declared.info.TableInfo.{TableInfo}
 use Rattle.rc_tfile.specs.Info.{info_of}
@@ -22,25 +22,25 @@ use Rattle.rc_tfile.specs.TableText.{IsTable, IsOtherSchema, FirstDamage}
 use Rattle.rc_tfile.specs.Walking.{ChecksTable}
 use Rattle.rc_plain.specs.declared.opening.OpenErr.{OpenErr}
 use Rattle.rc_plain.specs.declared.opening.OpenErr.TheVariants.{Fault, Damaged, OtherSchema, NoMemory}
-use Rattle.rc_machine.specs.State.{Table, numbers, opened}
-use Rattle.rc_machine.specs.Tables.{AreListed, AreTables, IsKept, IsBad, IsFirstBad}
+use Rattle.rc_machine.specs.State.{Table, numbers, opened_state}
+use Rattle.rc_machine.specs.Tables.{AreListed, AreTables, IsStoredTable, IsBad, IsFirstBad}
 use Rattle.rc_machine.specs.Serving.{checks_of}
-use Rattle.rc_machine.specs.Laws.Folder.{apart, apart_under, first_T, less_of, not_none, second_T}
+use Rattle.rc_machine.specs.laws.Folder.{apart, apart_under, first_T, less_of, not_none, second_T}
 use Rattle.rc_plain.specs.Stands.{Stands}
-use Rattle.rc_plain.specs.Opening.{IsChecked, IsBadFile, IsRefused}
+use Rattle.rc_plain.specs.Opening.{IsChecked, IsBadFile, IsOpeningRefused}
 
 -- the first files are tables, and this is known of them
-pub record Done (files : Option Files) (schema : Lists) (done : List ℕ) (known : List TableInfo) : Type 0 where
+pub record Done (files : Option Files) (schema : SchemaValue) (done : List ℕ) (known : List TableInfo) : Type 0 where
   pub tables : List Table
   pub numbered : numbers tables ≡ done
-  pub kept : IfSome files (λ told. All (IsKept told schema) tables)
+  pub kept : IfSome files (λ told. All (IsStoredTable told schema) tables)
   pub infos : AreListed files schema tables known
 
-pub done_none : (files : Option Files) (schema : Lists) → Done files schema [] []
+pub done_none : (files : Option Files) (schema : SchemaValue) → Done files schema [] []
 done_none None schema = record { tables = []; numbered = refl; kept = tt; infos = refl }
 done_none (Some told) schema = record { tables = []; numbered = refl; kept = λ k d l. absurd (omega arith); infos = refl }
 
-pub done_more : (files : Option Files) (schema : Lists) (done : List ℕ) (infos : List TableInfo) (n : ℕ) (info : TableInfo) → IsChecked files schema n info → Done files schema done infos → Done files schema (done ++ n ∷ []) (infos ++ info ∷ [])
+pub done_more : (files : Option Files) (schema : SchemaValue) (done : List ℕ) (infos : List TableInfo) (n : ℕ) (info : TableInfo) → IsChecked files schema n info → Done files schema done infos → Done files schema (done ++ n ∷ []) (infos ++ info ∷ [])
 done_more None schema done infos n info is d = record {
   tables = d.tables ++ (n, []) ∷ [];
   numbered = map-append (λ (t : Table). t.0) d.tables ((n, []) ∷ []) ∙ ap (λ ns. ns ++ n ∷ []) d.numbered;
@@ -50,12 +50,12 @@ done_more None schema done infos n info is d = record {
 done_more (Some told) schema done infos n info is d = record {
   tables = d.tables ++ (n, is.0) ∷ [];
   numbered = map-append (λ (t : Table). t.0) d.tables ((n, is.0) ∷ []) ∙ ap (λ ns. ns ++ n ∷ []) d.numbered;
-  kept = All-append (IsKept told schema) d.tables ((n, is.0) ∷ []) d.kept (All-cons (IsKept told schema) (n, is.0) [] is.1 (λ k d l. absurd (omega arith)));
+  kept = All-append (IsStoredTable told schema) d.tables ((n, is.0) ∷ []) d.kept (All-cons (IsStoredTable told schema) (n, is.0) [] is.1 (λ k d l. absurd (omega arith)));
   infos = (λ j. d.infos j ++ is.2 j ∷ []) ∙ sym (map-append (λ (t : Table). info_of t.0 schema t.1) d.tables ((n, is.0) ∷ []));
 }
 
 -- all files are tables
-pub done_all : (files : Option Files) (schema : Lists) (all : List ℕ) (infos : List TableInfo) → AreNumbers files all → Done files schema all infos → (tables : List Table) × AreTables files schema tables × AreListed files schema tables infos
+pub done_all : (files : Option Files) (schema : SchemaValue) (all : List ℕ) (infos : List TableInfo) → AreNumbers files all → Done files schema all infos → (tables : List Table) × AreTables files schema tables × AreListed files schema tables infos
 done_all None schema all infos h d = (d.tables, subst IsStrictlyIncreasing (sym d.numbered) h, d.infos)
 done_all (Some told) schema all infos h d = (d.tables, (d.numbered ∙ h.1, d.kept), d.infos)
 
@@ -86,8 +86,8 @@ tail_is : (k q : ℕ) (ks qs : List ℕ) → ◌≡◌ {A = List ℕ} (k ∷ ks)
 tail_is k q ks qs e = cc
 
 -- a file of a lower number is one of the tables so far
-earlier : (told : Files) (schema : Lists) (tables : List Table) (es : List (ℕ × List ℕ)) (n k : ℕ) (rest more : List ℕ) → All (IsKept told schema) tables → T (is_sorted nat_cmp es)
-    → map (λ (e : ℕ × List ℕ). e.0) es ≡ numbers tables ++ n ∷ rest → k < n → find nat_cmp k es ≡ Some more → (parts : List Partition) × IsKept told schema (k, parts)
+earlier : (told : Files) (schema : SchemaValue) (tables : List Table) (es : List (ℕ × List ℕ)) (n k : ℕ) (rest more : List ℕ) → All (IsStoredTable told schema) tables → T (is_sorted nat_cmp es)
+    → map (λ (e : ℕ × List ℕ). e.0) es ≡ numbers tables ++ n ∷ rest → k < n → find nat_cmp k es ≡ Some more → (parts : List Partition) × IsStoredTable told schema (k, parts)
 earlier told schema [] [] n k rest more kept up e l found = absurd (cc)
 earlier told schema [] (f ∷ fs) n k rest more kept up e l found =
     let here : f.0 ≡ n = head_is f.0 n _ rest e in
@@ -96,15 +96,15 @@ earlier told schema [] (f ∷ fs) n k rest more kept up e l found =
 earlier told schema (t ∷ ts) [] n k rest more kept up e l found = absurd (cc)
 earlier told schema (t ∷ ts) (f ∷ fs) n k rest more kept up e l found =
     let here : f.0 ≡ t.0 = head_is f.0 t.0 _ _ e in
-    elim (eq_by_cmp nat_cmp k f.0) as (λ b. eq_by_cmp nat_cmp k f.0 ≡ b → cond b (Some f.1) (find nat_cmp k fs) ≡ Some more → (parts : List Partition) × IsKept told schema (k, parts)) [
-      | true ↦ λ b _. (t.1, subst (λ j. IsKept told schema (j, t.1)) (sym (same_column k f.0 b ∙ here)) (All-head (IsKept told schema) t ts kept))
-      | false ↦ λ b g. earlier told schema ts fs n k rest more (All-tail (IsKept told schema) t ts kept) (second_T (below_all nat_cmp f.0 fs) (is_sorted nat_cmp fs) up) (tail_is f.0 t.0 _ _ e) l g
+    elim (eq_by_cmp nat_cmp k f.0) as (λ b. eq_by_cmp nat_cmp k f.0 ≡ b → cond b (Some f.1) (find nat_cmp k fs) ≡ Some more → (parts : List Partition) × IsStoredTable told schema (k, parts)) [
+      | true ↦ λ b _. (t.1, subst (λ j. IsStoredTable told schema (j, t.1)) (sym (same_column k f.0 b ∙ here)) (All-head (IsStoredTable told schema) t ts kept))
+      | false ↦ λ b g. earlier told schema ts fs n k rest more (All-tail (IsStoredTable told schema) t ts kept) (second_T (below_all nat_cmp f.0 fs) (is_sorted nat_cmp fs) up) (tail_is f.0 t.0 _ _ e) l g
     ] refl found
 
 same_bytes : (bytes more : List ℕ) (o : Option (List ℕ)) → o ≡ Some bytes → o ≡ Some more → bytes ≡ more
 same_bytes bytes more o e h = ap (λ o. unwrap_or o bytes) (sym e ∙ h)
 
-first_bad : (told : Files) (schema : Lists) (all done rest : List ℕ) (infos : List TableInfo) (n : ℕ) (damage : Option ℕ) → AreNumbers (Some told) all → all ≡ done ++ n ∷ rest → Done (Some told) schema done infos
+first_bad : (told : Files) (schema : SchemaValue) (all done rest : List ℕ) (infos : List TableInfo) (n : ℕ) (damage : Option ℕ) → AreNumbers (Some told) all → all ≡ done ++ n ∷ rest → Done (Some told) schema done infos
     → (bytes : List ℕ) → finite.get told n ≡ Some bytes → IsBad schema damage bytes → IsFirstBad told schema n damage
 first_bad told schema all done rest infos n damage h e d bytes here bad = record {
   bytes = bytes;
@@ -117,7 +117,7 @@ first_bad told schema all done rest infos n damage h e d bytes here bad = record
 }
 
 -- the first file that is no table
-pub refused : (files : Option Files) (schema : Lists) (all done rest : List ℕ) (infos : List TableInfo) (n : ℕ) (e : OpenErr) → AreNumbers files all → all ≡ done ++ n ∷ rest → Done files schema done infos → IsBadFile files schema n e → IsRefused files schema e
+pub refused : (files : Option Files) (schema : SchemaValue) (all done rest : List ℕ) (infos : List TableInfo) (n : ℕ) (e : OpenErr) → AreNumbers files all → all ≡ done ++ n ∷ rest → Done files schema done infos → IsBadFile files schema n e → IsOpeningRefused files schema e
 refused files schema all done rest infos n Fault h is d bad = tt
 refused None schema all done rest infos n (Damaged table offset) h is d bad = tt
 refused (Some told) schema all done rest infos n (Damaged table offset) h is d bad =
@@ -128,8 +128,8 @@ refused (Some told) schema all done rest infos n (OtherSchema table) h is d bad 
 refused files schema all done rest infos n NoMemory h is d bad = tt
 
 -- the program that is opened
-pub stands_opened : (files : Option Files) (schema : Lists) (tables : List Table) (infos : List TableInfo) → AreTables files schema tables → AreListed files schema tables infos
-    → (segments : ℕ) → Stands files (record { schema = schema; infos = infos; sealed = []; active = []; readers = [] }) (opened segments files schema tables infos)
+pub stands_opened : (files : Option Files) (schema : SchemaValue) (tables : List Table) (infos : List TableInfo) → AreTables files schema tables → AreListed files schema tables infos
+    → (segments : ℕ) → Stands files (record { schema = schema; infos = infos; sealed = []; active = []; readers = [] }) (opened_state segments files schema tables infos)
 stands_opened files schema tables infos are known segments = record {
   over = record { schema = refl; files = refl; infos = refl; tables = are; listed = known; stored = omega (arith); sealed = omega (arith); fit = λ k d l. absurd (omega arith) };
   log = refl;
@@ -144,7 +144,7 @@ pub cut : (all : List ℕ) (i : ℕ) → i < length all → all ≡ take i all +
 cut all i h = split_at all i 0 h
 
 -- one file more
-pub done_next : (files : Option Files) (schema : Lists) (all : List ℕ) (i : ℕ) (infos : List TableInfo) (info : TableInfo) → i < length all → IsChecked files schema (get_or all i 0) info → Done files schema (take i all) infos
+pub done_next : (files : Option Files) (schema : SchemaValue) (all : List ℕ) (i : ℕ) (infos : List TableInfo) (info : TableInfo) → i < length all → IsChecked files schema (get_or all i 0) info → Done files schema (take i all) infos
     → Done files schema (take (i + 1) all) (infos ++ info ∷ [])
 done_next files schema all i infos info h is d =
     let one : i + 1 ≡ suc i = omega arith in
@@ -160,7 +160,7 @@ numbered : (n : ℕ) (info other : TableInfo) → info ≡ other → ◌≡◌ {
 numbered n info other e = λ j. record { number = n; parts = (e j).parts }
 
 -- a file that was checked
-pub is_checked : (files : Option Files) (schema : Lists) (n : ℕ) (info : TableInfo) → IsFile files n → ((bytes : List ℕ) → IsContent files n bytes → ChecksTable bytes n schema (Ok info)) → IsChecked files schema n (record { number = n; parts = info.parts })
+pub is_checked : (files : Option Files) (schema : SchemaValue) (n : ℕ) (info : TableInfo) → IsFile files n → ((bytes : List ℕ) → IsContent files n bytes → ChecksTable bytes n schema (Ok info)) → IsChecked files schema n (record { number = n; parts = info.parts })
 is_checked None schema n info there h = refl
 is_checked (Some told) schema n info there h =
     let content = content_of (finite.get told n) there in
@@ -168,11 +168,11 @@ is_checked (Some told) schema n info there h =
     (table.0, (content.0, content.1, table.2, table.1), numbered n info (info_of n schema table.0) table.3)
 
 -- a file that was refused
-pub is_damaged : (files : Option Files) (schema : Lists) (n offset : ℕ) → IsFile files n → ((bytes : List ℕ) → IsContent files n bytes → FirstDamage bytes schema offset) → IsBadFile files schema n (Damaged n offset)
+pub is_damaged : (files : Option Files) (schema : SchemaValue) (n offset : ℕ) → IsFile files n → ((bytes : List ℕ) → IsContent files n bytes → FirstDamage bytes schema offset) → IsBadFile files schema n (Damaged n offset)
 is_damaged None schema n offset there h = (refl, tt)
 is_damaged (Some told) schema n offset there h = (let content = content_of (finite.get told n) there in (refl, (content.0, content.1, h content.0 content.1)))
 
-pub is_other : (files : Option Files) (schema : Lists) (n : ℕ) → IsFile files n → ((bytes : List ℕ) → IsContent files n bytes → IsOtherSchema bytes schema) → IsBadFile files schema n (OtherSchema n)
+pub is_other : (files : Option Files) (schema : SchemaValue) (n : ℕ) → IsFile files n → ((bytes : List ℕ) → IsContent files n bytes → IsOtherSchema bytes schema) → IsBadFile files schema n (OtherSchema n)
 is_other None schema n there h = (refl, tt)
 is_other (Some told) schema n there h = (let content = content_of (finite.get told n) there in (refl, (content.0, content.1, h content.0 content.1)))
 

@@ -10,20 +10,19 @@ use Rattle.std.proofs.lemmas.List.Elements.{All-append, All-cons, filter-append}
 use Rattle.rc_outside.specs.Files.{Files}
 use Rattle.rc_position.specs.Position.{bytes_cmp}
 use Rattle.rc_position.specs.declared.slices.Slice.{Slice}
-use Rattle.rc_schema.specs.Lists.{Lists}
+use Rattle.rc_schema.specs.SchemaValue.{SchemaValue}
 use Rattle.rc_mutation.specs.declared.mutations.Mutation.{Mutation}
 use Rattle.rc_mutation.specs.declared.mutations.Write.{Write}
-use Rattle.rc_mutation.specs.Source.{changes_to}
-use Rattle.rc_mutation.specs.Source.{IsJoinOf}
+use Rattle.rc_mutation.specs.Source.{changes_to, IsJoinOf}
 use Rattle.rc_query.specs.declared.lines.OutLine.{OutLine}
 use Rattle.rc_query.specs.Answer.{answer}
-use Rattle.rc_query.specs.AnswerLaws.{answer-joined}
+use Rattle.rc_query.specs.laws.Answers.{answer-joined}
 use Rattle.rc_stream.specs.declared.streams.StreamErr.{StreamErr}
 use Rattle.rc_stream.specs.declared.streams.StreamErr.TheVariants as stream_err
 use Rattle.rc_tfile.specs.declared.info.TableInfo.{TableInfo}
 use Rattle.rc_tables.specs.Located.{SaysOf}
 use Rattle.rc_tables.specs.Tables.{HoldsTables, IsDamageOf, IsJoinedAt, IsSomeJoin, changes_at, listing}
-use Rattle.rc_lines.specs.Fits.{Fits}
+use Rattle.rc_lines.specs.Fits.{CommandFits}
 use Rattle.rc_lines.specs.declared.commands.Command.{Command}
 use Rattle.rc_lines.specs.declared.commands.Command.TheVariants.{Nothing, SetSchema, Put, OpenRead, Read, Close, Flush, FlushBegin}
 use Rattle.rc_lines.specs.declared.commands.Reply.{Reply}
@@ -33,8 +32,8 @@ use Rattle.rc_machine.specs.State.{State, Reader, Table, recent_changes}
 use Rattle.rc_machine.specs.Steps.{MayBeDamaged, most_readers, reader_with, reader_past, sealing}
 use Rattle.rc_machine.specs.Serving.{Takes, Stops, IsLeft}
 use Rattle.rc_plain.specs.Stands.{Keeping, Stands, rests}
-use Rattle.rc_plain.specs.Answering.{IsAnswer}
-use Rattle.rc_plain.specs.Storing.{sealed_all}
+use Rattle.rc_plain.specs.calls.Answering.{IsAnswer}
+use Rattle.rc_plain.specs.calls.Storing.{sealed_all}
 use Rattle.rc_plain.proofs.Places.{Readers, fewer, as_many}
 use Rattle.rc_plain.proofs.Numbers.{joined_halves}
 use Rattle.rc_plain.proofs.Held.{holds}
@@ -105,7 +104,7 @@ writing k active = record k { active = active }
 stored_within : (files : Option Files) (k : Keeping) (m : State) → Stands files k m → m.stored ≤ length m.log
 stored_within files k m s = omega (arith, s.over.stored, s.over.sealed)
 
-stands_writing : (files : Option Files) (k : Keeping) (m : State) (w : Write) → Fits k.schema (Put w) → Stands files k m → Stands files (writing k (k.active ++ w ∷ [])) (record m { log = m.log ++ w ∷ [] })
+stands_writing : (files : Option Files) (k : Keeping) (m : State) (w : Write) → CommandFits k.schema (Put w) → Stands files k m → Stands files (writing k (k.active ++ w ∷ [])) (record m { log = m.log ++ w ∷ [] })
 stands_writing files k m w fits s =
     let longer : length (m.log ++ w ∷ []) ≡ length m.log + 1 = length-append m.log (w ∷ []) in
     record {
@@ -118,8 +117,8 @@ stands_writing files k m w fits s =
         stored = s.over.stored;
         sealed = omega (arith, s.over.sealed, longer);
         fit =
-            All-append (λ w. Fits m.schema (Put w)) m.log (w ∷ []) s.over.fit
-            (All-cons (λ w. Fits m.schema (Put w)) w [] (subst (λ schema. Fits schema (Put w)) (sym s.over.schema) fits) (λ i d l. absurd (omega arith)));
+            All-append (λ w. CommandFits m.schema (Put w)) m.log (w ∷ []) s.over.fit
+            (All-cons (λ w. CommandFits m.schema (Put w)) w [] (subst (λ schema. CommandFits schema (Put w)) (sym s.over.schema) fits) (λ i d l. absurd (omega arith)));
       };
       log = sym (append_assoc k.sealed k.active (w ∷ [])) ∙ ap (λ ws. ws ++ w ∷ []) s.log ∙ sym (drop-append-le m.stored m.log (w ∷ []) (stored_within files k m s));
       sealed = s.sealed;
@@ -128,7 +127,7 @@ stands_writing files k m w fits s =
       readers = s.readers;
     }
 
-pub takes_put : (files : Option Files) (k : Keeping) (w : Write) (active : List Write) → Fits k.schema (Put w) → active ≡ k.active ++ w ∷ [] → Takes Stands files k (Put w) replies.Fine files (writing k active)
+pub takes_put : (files : Option Files) (k : Keeping) (w : Write) (active : List Write) → CommandFits k.schema (Put w) → active ≡ k.active ++ w ∷ [] → Takes Stands files k (Put w) replies.Fine files (writing k active)
 takes_put files k w active fits more = λ m s.
     (record m { log = m.log ++ w ∷ [] }, inl (refl, refl), subst (λ active. Stands files (writing k active) (record m { log = m.log ++ w ∷ [] })) (sym more) (stands_writing files k m w fits s))
 
@@ -137,10 +136,10 @@ takes_put files k w active fits more = λ m s.
 pub takes_nothing : (files : Option Files) (k : Keeping) → Takes Stands files k Nothing replies.Nothing files k
 takes_nothing files k = λ m s. (m, (refl, refl), s)
 
-pub takes_schema : (files : Option Files) (k : Keeping) (schema : Lists) → k.schema ≡ schema → Takes Stands files k (SetSchema schema) replies.Fine files k
+pub takes_schema : (files : Option Files) (k : Keeping) (schema : SchemaValue) → k.schema ≡ schema → Takes Stands files k (SetSchema schema) replies.Fine files k
 takes_schema files k schema e = λ m s. (m, inl (s.over.schema ∙ e, (refl, refl)), s)
 
-pub takes_other_schema : (files : Option Files) (k : Keeping) (schema : Lists) → k.schema ≢ schema → Takes Stands files k (SetSchema schema) (replies.Refused SchemaDiffers) files k
+pub takes_other_schema : (files : Option Files) (k : Keeping) (schema : SchemaValue) → k.schema ≢ schema → Takes Stands files k (SetSchema schema) (replies.Refused SchemaDiffers) files k
 takes_other_schema files k schema h = λ m s. (m, inr ((λ e. h (sym s.over.schema ∙ e)), (refl, refl)), s)
 
 pub takes_in_use : (files : Option Files) (k : Keeping) (id : ℕ) (key : List ℕ) (slice : Slice) (rest : List OutLine) → lookup (λ q. q == id) k.readers ≡ Some rest
@@ -164,7 +163,7 @@ pub takes_damaged : (files : Option Files) (k : Keeping) (id : ℕ) (key : List 
 takes_damaged files k id key slice file offset e h none damage = λ m s.
     let here : MayBeDamaged m key file offset = (
       s.over.files ∙ none,
-      subst (λ (schema : Lists). IsDamageOf schema key m.infos (stream_err.Damaged file offset)) (sym s.over.schema)
+      subst (λ (schema : SchemaValue). IsDamageOf schema key m.infos (stream_err.Damaged file offset)) (sym s.over.schema)
           (subst (λ (infos : List TableInfo). IsDamageOf k.schema key infos (stream_err.Damaged file offset)) (sym s.over.infos) damage),
     ) in
     (m, rw (open_none files k m id s e, few files k m s h) (inr (inr (file, offset, here, (refl, refl)))), s)

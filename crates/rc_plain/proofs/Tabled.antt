@@ -10,28 +10,28 @@ use Rattle.rc_mutation.specs.Fragments.{IsParts}
 use Rattle.rc_tfile.specs.declared.info.TableInfo.{TableInfo}
 use Rattle.rc_tfile.specs.Before.{text}
 use Rattle.rc_tfile.specs.Info.{info_of}
-use Rattle.rc_tfile.specs.TableText.{table, IsTable}
-use Rattle.rc_lines.specs.Fits.{Fits}
+use Rattle.rc_tfile.specs.TableText.{whole_table, IsTable}
+use Rattle.rc_lines.specs.Fits.{CommandFits}
 use Rattle.rc_lines.specs.declared.commands.Command.TheVariants.{Put, Flush}
 use Rattle.rc_lines.specs.declared.commands.Reply.{Reply}
 use Rattle.rc_lines.specs.declared.commands.Reply.TheVariants as replies
 use Rattle.rc_lines.specs.declared.commands.Refusal.TheVariants.{FlushInProgress, NothingToFlush, NoNumber, WriteFault}
 use Rattle.rc_machine.specs.State.{State}
-use Rattle.rc_machine.specs.Steps.{Flushes, IsFlushed, Stores, Refuses, after, next_number, last_number, sealing, with_table, without_sealed}
+use Rattle.rc_machine.specs.Steps.{Flushes, IsFlushed, Stores, Refuses, number_after, next_number, last_number, sealing, with_table, without_sealed}
 use Rattle.rc_machine.specs.Serving.{Takes, Stops}
-use Rattle.rc_machine.specs.Laws.Folder.{is_no_file}
+use Rattle.rc_machine.specs.laws.Folder.{is_no_file}
 use Rattle.rc_plain.specs.Stands.{Keeping, Stands}
-use Rattle.rc_plain.specs.Storing.{sealed_all, IsStored, IsNextNumber, IsWritten}
+use Rattle.rc_plain.specs.calls.Storing.{sealed_all, IsTableStored, IsNextNumber, IsFlushAnswered}
 use Rattle.rc_plain.proofs.Standing.{log_length, stands_sealed}
 use Rattle.rc_plain.proofs.Ahead.{numbers_known, tables_more, listed_more}
 
 -- the number of the next table is the state's
-next_is : (files : Option Files) (k : Keeping) (m : State) (n : ℕ) → Stands files k m → n ≡ after 0 (map (λ (i : TableInfo). i.number) k.infos) → n ≡ next_number m.tables
+next_is : (files : Option Files) (k : Keeping) (m : State) (n : ℕ) → Stands files k m → n ≡ number_after 0 (map (λ (i : TableInfo). i.number) k.infos) → n ≡ next_number m.tables
 next_is files k m n s e =
-    e ∙ ap (λ (infos : List TableInfo). after 0 (map (λ (i : TableInfo). i.number) infos)) (sym s.over.infos) ∙ ap (after 0) (numbers_known m.files m.schema m.tables m.infos s.over.listed)
+    e ∙ ap (λ (infos : List TableInfo). number_after 0 (map (λ (i : TableInfo). i.number) infos)) (sym s.over.infos) ∙ ap (number_after 0) (numbers_known m.files m.schema m.tables m.infos s.over.listed)
 
 -- it is no file's
-pub fresh : (files : Option Files) (k : Keeping) (n : ℕ) → (m : State) × Stands files k m → n ≡ after 0 (map (λ (i : TableInfo). i.number) k.infos) → IsNoFile files n
+pub fresh : (files : Option Files) (k : Keeping) (n : ℕ) → (m : State) × Stands files k m → n ≡ number_after 0 (map (λ (i : TableInfo). i.number) k.infos) → IsNoFile files n
 fresh files k n stands e =
     let m = stands.0 in
     let s = stands.1 in
@@ -57,7 +57,7 @@ takes_no_flush files k none = λ m s. (m, flushes without_sealed m _ m true (nat
 
 pub takes_no_number : (files : Option Files) (k : Keeping) → 1 ≤ length k.sealed + length k.active → IsNextNumber k.infos None → Takes Stands files k Flush (replies.Refused NoNumber) files k
 takes_no_number files k some past = λ m s.
-    let next : after 0 (map (λ (i : TableInfo). i.number) k.infos) ≡ next_number m.tables = next_is files k m _ s refl in
+    let next : number_after 0 (map (λ (i : TableInfo). i.number) k.infos) ≡ next_number m.tables = next_is files k m _ s refl in
     let late : nat_lt last_number (next_number m.tables) ≡ true = grind (arith, nat_tests, past, next) in
     (m, flushes without_sealed m _ m false true s.whole (some_left files k m s some) late (refl, refl), s)
 
@@ -72,8 +72,8 @@ pub takes_write_fault : (files files' : Option Files) (k k' : Keeping) (n : ℕ)
     → Takes Stands files k Flush (replies.Refused WriteFault) files' k'
 takes_write_fault files files' k k' n some is same still = λ m s.
     let sealed : State = record m { sealed = sealing m } in
-    let after : Stands files' k' sealed = subst (λ files. Stands files k' sealed) (sym still) (subst (λ k. Stands files k sealed) (sym same) (stands_sealed files k m s)) in
-    (sealed, flushes without_sealed m _ _ false false s.whole (some_left files k m s some) (in_time files k m n s is) (inr (refl, refl)), after)
+    let number_after : Stands files' k' sealed = subst (λ files. Stands files k' sealed) (sym still) (subst (λ k. Stands files k sealed) (sym same) (stands_sealed files k m s)) in
+    (sealed, flushes without_sealed m _ _ false false s.whole (some_left files k m s some) (in_time files k m n s is) (inr (refl, refl)), number_after)
 
 -- want of memory: the writes stay sealed
 pub stops_sealed : (files files' : Option Files) (k k' : Keeping) → k' ≡ sealed_all k → files' ≡ files → Stops Stands files k Flush files' k'
@@ -92,15 +92,15 @@ later_writes m sealed active n log is =
     sym (drop-append_seam sealed active) ∙ ap (λ ws. drop (length sealed) ws) log ∙ drop-drop (length sealed) m.stored m.log ∙ ap (λ j. drop j m.log) (sym is)
 
 -- what was written is what the state's flush writes
-flushed : (files files' : Option Files) (k k' : Keeping) (m : State) (n : ℕ) (i : IsStored files (sealed_all k) n files' k') → Stands files k m → IsFlushed m i.parts
+flushed : (files files' : Option Files) (k k' : Keeping) (m : State) (n : ℕ) (i : IsTableStored files (sealed_all k) n files' k') → Stands files k m → IsFlushed m i.parts
 flushed files files' k k' m n i s =
     let s1 = stands_sealed files k m s in
     record {
       of_writes = subst (IsParts i.parts) (first_writes m (sealed_all k).sealed (sealed_all k).active (sealing m) s1.log s1.sealed) i.of_writes;
-      is_table = subst (λ schema. IsTable (text (table schema i.parts)) schema i.parts) (sym s.over.schema) i.is_table;
+      is_table = subst (λ schema. IsTable (text (whole_table schema i.parts)) schema i.parts) (sym s.over.schema) i.is_table;
     }
 
-stands_stored : (files files' : Option Files) (k k' : Keeping) (m : State) (n : ℕ) (i : IsStored files (sealed_all k) n files' k') → Stands files k m → n ≡ next_number m.tables → Stands files' k' (without_sealed (with_table m i.parts))
+stands_stored : (files files' : Option Files) (k k' : Keeping) (m : State) (n : ℕ) (i : IsTableStored files (sealed_all k) n files' k') → Stands files k m → n ≡ next_number m.tables → Stands files' k' (without_sealed (with_table m i.parts))
 stands_stored files files' k k' m n i s next =
     let s1 = stands_sealed files k m s in
     let parts = i.parts in
@@ -110,10 +110,10 @@ stands_stored files files' k k' m n i s next =
     subst (λ k. Stands files' k new) (sym i.keeps) (record {
       over = record {
         schema = s.over.schema;
-        files = (λ j. option_map (λ told. finite.insert told (number j) (text (table (s.over.schema j) parts))) (s.over.files j)) ∙ sym i.written;
+        files = (λ j. option_map (λ told. finite.insert told (number j) (text (whole_table (s.over.schema j) parts))) (s.over.files j)) ∙ sym i.written;
         infos = λ j. s.over.infos j ++ info_of (number j) (s.over.schema j) parts ∷ [];
         tables = tables_more m.files m.schema m.tables (next_number m.tables) parts s.over.tables refl f.is_table f.of_writes.mutations;
-        listed = listed_more m.files new.files m.schema m.tables m.infos (next_number m.tables) (text (table m.schema parts)) parts s.over.listed refl;
+        listed = listed_more m.files new.files m.schema m.tables m.infos (next_number m.tables) (text (whole_table m.schema parts)) parts s.over.listed refl;
         stored = omega (arith);
         sealed = s1.over.sealed;
         fit = s.over.fit;
@@ -126,7 +126,7 @@ stands_stored files files' k k' m n i s next =
     })
 
 -- the sealed writes stand in the next table
-pub takes_stored : (files files' : Option Files) (k k' : Keeping) (n : ℕ) → 1 ≤ length k.sealed + length k.active → IsNextNumber k.infos (Some n) → IsStored files (sealed_all k) n files' k' → Takes Stands files k Flush replies.Fine files' k'
+pub takes_stored : (files files' : Option Files) (k k' : Keeping) (n : ℕ) → 1 ≤ length k.sealed + length k.active → IsNextNumber k.infos (Some n) → IsTableStored files (sealed_all k) n files' k' → Takes Stands files k Flush replies.Fine files' k'
 takes_stored files files' k k' n some is i = λ m s.
     let next : n ≡ next_number m.tables = next_is files k m n s is.0 in (
       without_sealed (with_table m i.parts),
@@ -135,19 +135,19 @@ takes_stored files files' k k' n some is i = λ m s.
     )
 
 -- the sealed writes fit the schema
-pub sealed_fit : (files : Option Files) (k : Keeping) → (m : State) × Stands files k m → All (λ w. Fits k.schema (Put w)) (sealed_all k).sealed
+pub sealed_fit : (files : Option Files) (k : Keeping) → (m : State) × Stands files k m → All (λ w. CommandFits k.schema (Put w)) (sealed_all k).sealed
 sealed_fit files k stands =
     let m = stands.0 in
     let s1 = stands_sealed files k m stands.1 in
-    let rest : All (λ w. Fits m.schema (Put w)) ((sealed_all k).sealed ++ (sealed_all k).active) = subst (All (λ w. Fits m.schema (Put w))) (sym s1.log) (All-drop (λ w. Fits m.schema (Put w)) m.stored m.log s1.over.fit) in
-    let first : All (λ w. Fits m.schema (Put w)) (sealed_all k).sealed = subst (All (λ w. Fits m.schema (Put w))) (take-append_seam (sealed_all k).sealed (sealed_all k).active) (All-take (λ w. Fits m.schema (Put w)) (length (sealed_all k).sealed) ((sealed_all k).sealed ++ (sealed_all k).active) rest) in
-    subst (λ schema. All (λ w. Fits schema (Put w)) (sealed_all k).sealed) s1.over.schema first
+    let rest : All (λ w. CommandFits m.schema (Put w)) ((sealed_all k).sealed ++ (sealed_all k).active) = subst (All (λ w. CommandFits m.schema (Put w))) (sym s1.log) (All-drop (λ w. CommandFits m.schema (Put w)) m.stored m.log s1.over.fit) in
+    let first : All (λ w. CommandFits m.schema (Put w)) (sealed_all k).sealed = subst (All (λ w. CommandFits m.schema (Put w))) (take-append_seam (sealed_all k).sealed (sealed_all k).active) (All-take (λ w. CommandFits m.schema (Put w)) (length (sealed_all k).sealed) ((sealed_all k).sealed ++ (sealed_all k).active) rest) in
+    subst (λ schema. All (λ w. CommandFits schema (Put w)) (sealed_all k).sealed) s1.over.schema first
 
 -- what was answered of the table
-pub takes_written : (files files' : Option Files) (k sealed k' : Keeping) (n : ℕ) (reply : Reply) → sealed ≡ sealed_all k → 1 ≤ length k.sealed + length k.active → IsNextNumber k.infos (Some n) → IsWritten files sealed n files' k' reply
+pub takes_written : (files files' : Option Files) (k sealed k' : Keeping) (n : ℕ) (reply : Reply) → sealed ≡ sealed_all k → 1 ≤ length k.sealed + length k.active → IsNextNumber k.infos (Some n) → IsFlushAnswered files sealed n files' k' reply
     → Takes Stands files k Flush reply files' k'
 takes_written files files' k sealed k' n reply e some is (inl w) =
-    subst (λ reply. Takes Stands files k Flush reply files' k') (sym w.0) (takes_stored files files' k k' n some is (subst (λ k. IsStored files k n files' k') e w.1))
+    subst (λ reply. Takes Stands files k Flush reply files' k') (sym w.0) (takes_stored files files' k k' n some is (subst (λ k. IsTableStored files k n files' k') e w.1))
 takes_written files files' k sealed k' n reply e some is (inr w) =
     subst (λ reply. Takes Stands files k Flush reply files' k') (sym w.0) (takes_write_fault files files' k k' n some is (w.1 ∙ e) w.2)
 

@@ -1,5 +1,3 @@
+pub mod calls
 pub mod Stands
-pub mod Answering
-pub mod Index
 pub mod Opening
-pub mod Storing

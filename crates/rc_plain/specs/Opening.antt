@@ -3,38 +3,34 @@ use Rattle.std.specs.FinMap as map
 use Rattle.std.specs.Prelude.{◌≡◌, ℕ, ◌≤◌, List, Option, None, Some, Result, IfErr, IfSome, ⊤}
 use Rattle.rc_outside.specs.Files.{Files}
 use Rattle.rc_outside.specs.Faults.{Rose}
-use Rattle.rc_schema.specs.Lists.{Lists}
+use Rattle.rc_schema.specs.SchemaValue.{SchemaValue}
 use Rattle.rc_mutation.specs.declared.mutations.Partition.{Partition}
 use Rattle.rc_tfile.specs.declared.info.TableInfo.{TableInfo}
 use Rattle.rc_tfile.specs.Info.{info_of}
 use Rattle.rc_plain.specs.declared.opening.OpenErr.{OpenErr}
 use Rattle.rc_plain.specs.declared.opening.OpenErr.TheVariants as open_err
-use Rattle.rc_machine.specs.Tables.{IsBad, IsFirstBad, IsKept}
+use Rattle.rc_machine.specs.Tables.{IsBad, IsFirstBad, IsStoredTable}
 
 -- what a refusal says of the folder, where it is told: the first file that is no table of the schema is this one
-abbrev pub IsRefused : Option Files → Lists → OpenErr → Type 0
-IsRefused files schema open_err.Fault = ⊤
-IsRefused files schema (open_err.Damaged table offset) = IfSome files (λ told. IsFirstBad told schema table (Some offset))
-IsRefused files schema (open_err.OtherSchema table) = IfSome files (λ told. IsFirstBad told schema table None)
-IsRefused files schema open_err.NoMemory = ⊤
+abbrev pub IsOpeningRefused : Option Files → SchemaValue → OpenErr → Type 0
+IsOpeningRefused files schema open_err.Fault = ⊤
+IsOpeningRefused files schema (open_err.Damaged table offset) = IfSome files (λ told. IsFirstBad told schema table (Some offset))
+IsOpeningRefused files schema (open_err.OtherSchema table) = IfSome files (λ told. IsFirstBad told schema table None)
+IsOpeningRefused files schema open_err.NoMemory = ⊤
 
 -- file n is a table of partitions, where the folder is told, and this is known of it
-abbrev pub IsChecked : Option Files → Lists → ℕ → TableInfo → Type 0
+abbrev pub IsChecked : Option Files → SchemaValue → ℕ → TableInfo → Type 0
 IsChecked None schema n info = info.number ≡ n
-IsChecked (Some files) schema n info = (parts : List Partition) × IsKept files schema (n, parts) × (info ≡ info_of n schema parts)
+IsChecked (Some files) schema n info = (parts : List Partition) × IsStoredTable files schema (n, parts) × (info ≡ info_of n schema parts)
 
 -- what a refusal says of file n, where the folder is told: it is no table of the schema
-abbrev pub IsBadFile : Option Files → Lists → ℕ → OpenErr → Type 0
+abbrev pub IsBadFile : Option Files → SchemaValue → ℕ → OpenErr → Type 0
 IsBadFile files schema n open_err.Fault = ⊤
 IsBadFile files schema n (open_err.Damaged table offset) = (table ≡ n) × IfSome files (λ told. (bytes : List ℕ) × (map.get told n ≡ Some bytes) × IsBad schema (Some offset) bytes)
 IsBadFile files schema n (open_err.OtherSchema table) = (table ≡ n) × IfSome files (λ told. (bytes : List ℕ) × (map.get told n ≡ Some bytes) × IsBad schema None bytes)
 IsBadFile files schema n open_err.NoMemory = ⊤
 
 -- so much holds of an error that is a fault
-abbrev pub OnFault : OpenErr → Type 0 → Type 0
-OnFault open_err.Fault P = P
-OnFault e P = ⊤
-
--- the count of faults does not fall, and rose where a fault is answered
-abbrev pub RisesIfFault : {T : Type 0} → Result T OpenErr → (before now : ℕ) → Type 0
-RisesIfFault result before now = (before ≤ now) × IfErr result (λ e. OnFault e (Rose before now))
+abbrev pub OnOpenFault : OpenErr → Type 0 → Type 0
+OnOpenFault open_err.Fault P = P
+OnOpenFault e P = ⊤

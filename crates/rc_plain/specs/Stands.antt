@@ -1,7 +1,7 @@
 -- What the plain program keeps, and for which state of the machine it stands.
 use Rattle.std.specs.Prelude.{◌≡◌, ℕ, ◌+◌, false, List, ◌++◌, length, map as list_map, Option}
 use Rattle.rc_outside.specs.Files.{Files}
-use Rattle.rc_schema.specs.Lists.{Lists}
+use Rattle.rc_schema.specs.SchemaValue.{SchemaValue}
 use Rattle.rc_mutation.specs.declared.mutations.Write.{Write}
 use Rattle.rc_query.specs.declared.lines.OutLine.{OutLine}
 use Rattle.rc_tfile.specs.declared.info.TableInfo.{TableInfo}
@@ -11,7 +11,7 @@ use Rattle.rc_machine.specs.Standing.{IsOver}
 -- the schema; what is known of each table; the writes that stand in no table: those that are sealed, and the later ones; and of each open
 -- reader the lines that it has not given yet
 pub record Keeping : Type 0 where
-  pub schema : Lists
+  pub schema : SchemaValue
   pub infos : List TableInfo
   pub sealed : List Write
   pub active : List Write

@@ -3,7 +3,7 @@
 ghost use Rattle.std.specs.Prelude.{◌≡◌, ℕ, List, [], ◌∷◌, ◌++◌, Some, cond, IfOk, OnOk, OnErr};
 ghost use Rattle.std.specs.Ordering.{eq_by_cmp};
 ghost use Rattle.rc_position.specs.Position.{bytes_cmp};
-ghost use Rattle.rc_plain.specs.Index.{found, numbers_of};
+ghost use Rattle.rc_plain.specs.calls.Index.{numbers_at_key, numbers_of};
 
 use rc_position::PartKey;
 use std::alloc::{AllocError, Global};
@@ -26,8 +26,8 @@ pub(crate) fn add_number(
     key: &PartKey,
     number: usize,
 ) -> Result<(), AllocError>
-    ensures ok { OnOk result ((q : List ℕ) → found index.new q ≡ cond (eq_by_cmp bytes_cmp key.now q) (Some (numbers_of index.old key.now ++ number ∷ [])) (found index.old q)) }
-    ensures err { OnErr result ((q : List ℕ) → found index.new q ≡ found index.old q) }
+    ensures ok { OnOk result ((q : List ℕ) → numbers_at_key index.new q ≡ cond (eq_by_cmp bytes_cmp key.now q) (Some (numbers_of index.old key.now ++ number ∷ [])) (numbers_at_key index.old q)) }
+    ensures err { OnErr result ((q : List ℕ) → numbers_at_key index.new q ≡ numbers_at_key index.old q) }
 {
     match index.get_mut(key) {
         Some(numbers) => Ok(numbers.push(number)?),

@@ -3,7 +3,7 @@
 ghost use Rattle.std.specs.Prelude.{◌≡◌, ◌<◌, [], ◌∷◌, length, IfOk};
 ghost use Rattle.std.specs.List.{All};
 ghost use Rattle.rc_mutation.specs.Source.{IsJoinOf};
-ghost use Rattle.rc_plain.specs.Index.{changes_numbered};
+ghost use Rattle.rc_plain.specs.calls.Index.{changes_numbered};
 
 use rc_mutation::{Mutation, Write};
 use std::alloc::{AllocError, Global};

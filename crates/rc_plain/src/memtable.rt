@@ -3,7 +3,7 @@
 ghost use Rattle.std.specs.Prelude.{◌≡◌, [], ◌∷◌, ◌++◌, ◌==◌, length, All, IfOk, OnOk, OnErr};
 ghost use Rattle.rc_mutation.specs.Fragments.{IsParts};
 ghost use Rattle.rc_mutation.specs.Source.{IsJoinOf, changes_to};
-ghost use Rattle.rc_plain.specs.Index.{IsIndexOf, IsPartOf};
+ghost use Rattle.rc_plain.specs.calls.Index.{IsIndexOf, IsPartitionOf};
 
 use crate::index::{add_number, numbers_at};
 use crate::joining::joined;
@@ -23,7 +23,7 @@ pub(crate) struct Memtable {
 impl Model for Memtable {
     ghost use Rattle.std.specs.Prelude.{List};
     ghost use Rattle.rc_mutation.specs.declared.mutations.Write.{Write};
-    ghost use Rattle.rc_plain.specs.Index.{IsIndexOf};
+    ghost use Rattle.rc_plain.specs.calls.Index.{IsIndexOf};
 
     ghost Value = { List Write };
 
@@ -103,7 +103,7 @@ fn part_of(
 ) -> Result<Partition, AllocError>
     requires { IsIndexOf writes.now index.now }
     ensures key { IfOk result (λ part. part.key ≡ key.now) }
-    ensures change { IfOk result (λ part. IsPartOf part writes.now) }
+    ensures change { IfOk result (λ part. IsPartitionOf part writes.now) }
 {
     let change = said_of(alloc, writes, index, key)?;
     change.holds_together();

@@ -8,7 +8,8 @@ ghost use Rattle.rc_tfile.specs.Checking.{IsContent, AsksFew};
 ghost use Rattle.rc_machine.specs.State.{Table};
 ghost use Rattle.rc_machine.specs.Tables.{AreListed, AreTables};
 ghost use Rattle.rc_machine.specs.Serving.{checks_of};
-ghost use Rattle.rc_plain.specs.Opening.{IsBadFile, IsChecked, IsRefused, RisesIfFault};
+ghost use Rattle.rc_outside.specs.Faults.{RisesIfFault};
+ghost use Rattle.rc_plain.specs.Opening.{IsBadFile, IsChecked, IsOpeningRefused, OnOpenFault};
 
 use rc_outside::{Store, StoreErr};
 use rc_schema::Schema;
@@ -52,7 +53,7 @@ fn checked<W: Store>(
     requires { IsFile (W.files store.old) n }
     ensures table { IfOk result (IsChecked (W.files store.old) schema.now n) }
     ensures bad { IfErr result (IsBadFile (W.files store.old) schema.now n) }
-    ensures faults { RisesIfFault result (W.faults store.old) (W.faults store.new) }
+    ensures faults { RisesIfFault OnOpenFault result (W.faults store.old) (W.faults store.new) }
     ensures files { W.files store.new ≡ W.files store.old }
     ensures asks { (bytes : List ℕ) → IsContent (W.files store.old) n bytes → AsksFew (W.asks store.old) (W.asks store.new) bytes }
 {
@@ -79,7 +80,7 @@ fn add_checked<W: Store>(
     requires { IsFile (W.files store.old) n }
     ensures added { OnOk result ((info : TableInfo) × IsChecked (W.files store.old) schema.now n info × (tables.new ≡ tables.old ++ info ∷ [])) }
     ensures bad { IfErr result (IsBadFile (W.files store.old) schema.now n) }
-    ensures faults { RisesIfFault result (W.faults store.old) (W.faults store.new) }
+    ensures faults { RisesIfFault OnOpenFault result (W.faults store.old) (W.faults store.new) }
     ensures files { W.files store.new ≡ W.files store.old }
     ensures asks { (bytes : List ℕ) → IsContent (W.files store.old) n bytes → AsksFew (W.asks store.old) (W.asks store.new) bytes }
 {
@@ -106,8 +107,8 @@ fn check_each<W: Store>(
     requires all { AreNumbers (W.files store.old) numbers.now }
     requires none { none ≡ [] }
     ensures tables { IfOk result (λ infos. (tables : List Table) × AreTables (W.files store.old) schema.now tables × AreListed (W.files store.old) schema.now tables infos) }
-    ensures refused { IfErr result (IsRefused (W.files store.old) schema.now) }
-    ensures faults { RisesIfFault result (W.faults store.old) (W.faults store.new) }
+    ensures refused { IfErr result (IsOpeningRefused (W.files store.old) schema.now) }
+    ensures faults { RisesIfFault OnOpenFault result (W.faults store.old) (W.faults store.new) }
     ensures files { W.files store.new ≡ W.files store.old }
     ensures asks { IfSome (W.files store.old) (λ told. W.asks store.new ≤ W.asks store.old + checks_of (values told)) }
 {
@@ -129,8 +130,8 @@ pub(crate) fn check_tables<W: Store>(
     schema: &Schema,
 ) -> Result<TableSet, OpenErr>
     ensures tables { IfOk result (λ infos. (tables : List Table) × AreTables (W.files store.old) schema.now tables × AreListed (W.files store.old) schema.now tables infos) }
-    ensures refused { IfErr result (IsRefused (W.files store.old) schema.now) }
-    ensures faults { RisesIfFault result (W.faults store.old) (W.faults store.new) }
+    ensures refused { IfErr result (IsOpeningRefused (W.files store.old) schema.now) }
+    ensures faults { RisesIfFault OnOpenFault result (W.faults store.old) (W.faults store.new) }
     ensures files { W.files store.new ≡ W.files store.old }
     ensures asks { IfSome (W.files store.old) (λ told. W.asks store.new ≤ W.asks store.old + checks_of (values told)) }
 {

@@ -3,23 +3,22 @@
 ghost use Rattle.std.specs.Prelude.{◌≡◌, ◌+◌, ◌*◌, ◌≤◌, ◌++◌, ℕ, List, Option, All, IsTrue, MatchBool, length, IfErr, IfOk, IfSome, OnErr};
 ghost use Rattle.std.specs.FinMap.{values};
 ghost use Rattle.rc_outside.specs.Files.{Files, IsNoFile};
-ghost use Rattle.rc_outside.specs.Faults.{Rose};
+ghost use Rattle.rc_outside.specs.Faults.{Rose, RisesIfFault};
 ghost use Rattle.rc_mutation.specs.declared.mutations.Mutation.{Mutation};
 ghost use Rattle.rc_mutation.specs.Source.{changes_to, IsJoinOf};
 ghost use Rattle.rc_query.specs.Answer.{answer};
 ghost use Rattle.rc_stream.specs.Causes.{Caused};
 ghost use Rattle.rc_tfile.specs.declared.info.TableInfo.{TableInfo};
 ghost use Rattle.rc_tables.specs.Tables.{IsDamageOf, listing};
-ghost use Rattle.rc_lines.specs.Fits.{Fits};
-ghost use Rattle.rc_machine.specs.State.{State, Table, opened};
+ghost use Rattle.rc_lines.specs.Fits.{CommandFits};
+ghost use Rattle.rc_machine.specs.State.{State, Table, opened_state};
 ghost use Rattle.rc_machine.specs.Tables.{AreListed, AreTables};
 ghost use Rattle.rc_machine.specs.Built.{is_built};
-ghost use Rattle.rc_machine.specs.Serving.{OnFaulty, RisesIfFault, Stops, Takes, bound_of, checks_of};
-ghost use Rattle.rc_plain.specs.Answering.{IsAnswer};
-ghost use Rattle.rc_plain.specs.Opening.{IsRefused};
-ghost use Rattle.rc_plain.specs.Opening.{RisesIfFault as RisesIfOpenFault};
+ghost use Rattle.rc_machine.specs.Serving.{FaultsAreCounted, OnFaulty, Stops, Takes, most_asks, checks_of};
+ghost use Rattle.rc_plain.specs.calls.Answering.{IsAnswer};
+ghost use Rattle.rc_plain.specs.Opening.{IsOpeningRefused, OnOpenFault};
 ghost use Rattle.rc_plain.specs.Stands.{Stands};
-ghost use Rattle.rc_plain.specs.Storing.{IsNextNumber, IsWritten, sealed_all};
+ghost use Rattle.rc_plain.specs.calls.Storing.{IsNextNumber, IsFlushAnswered, sealed_all};
 
 use crate::memtable::Memtable;
 use crate::opening::{OpenErr, check_tables};
@@ -66,9 +65,9 @@ impl Plain {
     /// schema; `OpenErr::Fault` comes when the store fails, and only then; `OpenErr::NoMemory` when memory is refused.
     pub fn open<W: Store>(alloc: Global, store: &mut W, schema: Schema) -> Result<Self, OpenErr>
         ensures stands { IfOk result (λ plain. (tables : List Table) × (infos : List TableInfo) × AreTables (W.files store.old) schema tables × AreListed (W.files store.old) schema tables infos
-            × ((segments : ℕ) → Stands (W.files store.new) plain (opened segments (W.files store.old) schema tables infos))) }
-        ensures refused { IfErr result (IsRefused (W.files store.old) schema) }
-        ensures faults { RisesIfOpenFault result (W.faults store.old) (W.faults store.new) }
+            × ((segments : ℕ) → Stands (W.files store.new) plain (opened_state segments (W.files store.old) schema tables infos))) }
+        ensures refused { IfErr result (IsOpeningRefused (W.files store.old) schema) }
+        ensures faults { RisesIfFault OnOpenFault result (W.faults store.old) (W.faults store.new) }
         ensures files { W.files store.new ≡ W.files store.old }
         ensures asks { IfSome (W.files store.old) (λ told. W.asks store.new ≤ W.asks store.old + checks_of (values told)) }
     {
@@ -97,13 +96,13 @@ impl Plain {
         store: &mut W,
         command: Command,
     ) -> Result<Reply, AllocError>
-        requires fits { Fits self.old.schema command }
+        requires fits { CommandFits self.old.schema command }
         requires built { IsTrue (is_built command) }
         requires stands { (m : State) × Stands (W.files store.old) self.old m }
         ensures step { IfOk result (λ reply. Takes Stands (W.files store.old) self.old command reply (W.files store.new) self.new) }
         ensures err { OnErr result (Stops Stands (W.files store.old) self.old command (W.files store.new) self.new) }
-        ensures faults { RisesIfFault result (W.faults store.old) (W.faults store.new) }
-        ensures asks { W.asks store.new ≤ W.asks store.old + bound_of self.old.infos command }
+        ensures faults { FaultsAreCounted result (W.faults store.old) (W.faults store.new) }
+        ensures asks { W.asks store.new ≤ W.asks store.old + most_asks self.old.infos command }
     {
         match command {
             Command::Nothing => Ok(Reply::Nothing),
@@ -136,7 +135,7 @@ impl Plain {
 
     // Puts a write behind the others.
     fn put(&mut self, alloc: Global, write: Write) -> Result<Reply, AllocError>
-        requires { Fits self.old.schema (Command.Put write) }
+        requires { CommandFits self.old.schema (Command.Put write) }
         ensures step { (files : Option Files) → IfOk result (λ reply. Takes Stands files self.old (Command.Put write) reply files self.new) }
         ensures fine { IfOk result (λ reply. reply ≡ Reply.Fine) }
         ensures err { OnErr result (self.new ≡ self.old) }
@@ -157,7 +156,7 @@ impl Plain {
         requires { (m : State) × Stands (W.files store.old) self.old m }
         ensures step { IfOk result (λ reply. Takes Stands (W.files store.old) self.old (Command.OpenRead id key.now slice.now) reply (W.files store.new) self.new) }
         ensures err { OnErr result (self.new ≡ self.old) }
-        ensures faults { RisesIfFault result (W.faults store.old) (W.faults store.new) }
+        ensures faults { FaultsAreCounted result (W.faults store.old) (W.faults store.new) }
         ensures files { W.files store.new ≡ W.files store.old }
         ensures asks { W.asks store.new ≤ W.asks store.old + 2 * listing key.now self.old.infos }
     {
@@ -255,7 +254,7 @@ impl Plain {
         requires { (m : State) × Stands (W.files store.old) self.old m }
         ensures step { IfOk result (λ reply. Takes Stands (W.files store.old) self.old Command.Flush reply (W.files store.new) self.new) }
         ensures err { OnErr result (Stops Stands (W.files store.old) self.old Command.Flush (W.files store.new) self.new) }
-        ensures faults { RisesIfFault result (W.faults store.old) (W.faults store.new) }
+        ensures faults { FaultsAreCounted result (W.faults store.old) (W.faults store.new) }
         ensures asks { W.asks store.new ≡ W.asks store.old }
     {
         if self.is_flushed() {
@@ -303,11 +302,11 @@ impl Plain {
         store: &mut W,
         number: u32,
     ) -> Result<Reply, AllocError>
-        requires fit { All (λ w. Fits self.old.schema (Command.Put w)) self.old.sealed }
+        requires fit { All (λ w. CommandFits self.old.schema (Command.Put w)) self.old.sealed }
         requires fresh { IsNoFile (W.files store.old) number }
-        ensures written { IfOk result (IsWritten (W.files store.old) self.old number (W.files store.new) self.new) }
+        ensures written { IfOk result (IsFlushAnswered (W.files store.old) self.old number (W.files store.new) self.new) }
         ensures err { OnErr result ((self.new ≡ self.old) × (W.files store.new ≡ W.files store.old)) }
-        ensures faults { RisesIfFault result (W.faults store.old) (W.faults store.new) }
+        ensures faults { FaultsAreCounted result (W.faults store.old) (W.faults store.new) }
         ensures asks { W.asks store.new ≡ W.asks store.old }
     {
         let parts = self.sealed.parts(alloc)?;

@@ -1,3 +1,2 @@
 pub mod Position
-pub mod OrderLaws
-pub mod BoundLaws
+pub mod laws

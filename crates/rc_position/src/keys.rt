@@ -5,7 +5,7 @@ ghost use Rattle.std.specs.Cmp.{partial_equiv_from_equiv, eq_by_cmp_equiv, parti
 ghost use Rattle.std.specs.Ordering.{eq_by_cmp, as_partial_cmp};
 ghost use Rattle.std.proofs.Common.{refl};
 ghost use Rattle.rc_position.specs.Position.{key_cmp, pos_cmp, row_pos};
-ghost use Rattle.rc_position.specs.OrderLaws.{key_cmp_total};
+ghost use Rattle.rc_position.specs.laws.Orders.{key_cmp_total};
 
 use crate::comps::Comp;
 use crate::positions::{Pos, Weight, compare};

@@ -5,7 +5,7 @@ ghost use Rattle.std.specs.Cmp.{partial_equiv_from_equiv, eq_by_cmp_equiv, parti
 ghost use Rattle.std.specs.Ordering.{eq_by_cmp, as_partial_cmp, ordering_reverse};
 ghost use Rattle.std.proofs.Common.{refl};
 ghost use Rattle.rc_position.specs.Position.{pos_cmp, prefix_cmp, shorter_cmp, start_bound, end_bound, IsBeforeRows, IsAfterRows};
-ghost use Rattle.rc_position.specs.OrderLaws.{pos_cmp_total};
+ghost use Rattle.rc_position.specs.laws.Orders.{pos_cmp_total};
 
 use crate::comps::Comp;
 use crate::keys::Key;

@@ -5,7 +5,7 @@ ghost use Rattle.std.specs.Cmp.{partial_equiv_from_equiv, eq_by_cmp_equiv, parti
 ghost use Rattle.std.specs.Ordering.{eq_by_cmp, as_partial_cmp};
 ghost use Rattle.std.proofs.Common.{refl};
 ghost use Rattle.rc_position.specs.Position.{bytes_cmp};
-ghost use Rattle.rc_position.specs.OrderLaws.{bytes_cmp_total};
+ghost use Rattle.rc_position.specs.laws.Orders.{bytes_cmp_total};
 
 use std::alloc::{AllocError, Global};
 use std::cmp::Ordering;

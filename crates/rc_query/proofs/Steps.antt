@@ -21,11 +21,11 @@ use Rattle.rc_cell.specs.Winner.{winners}
 use Rattle.rc_position.specs.declared.comps.Comp.{Comp}
 use Rattle.rc_position.specs.declared.positions.Pos.{Pos}
 use Rattle.rc_position.specs.Position.{pos_cmp}
-use Rattle.rc_position.specs.OrderLaws.{pos_cmp_total}
+use Rattle.rc_position.specs.laws.Orders.{pos_cmp_total}
 use Rattle.rc_query.specs.declared.lines.OutLine.TheVariants as line
 use Rattle.rc_mutation.specs.Fragments.{has_any}
 use Rattle.rc_query.specs.Answer.{line_of, live_values, static_line}
-use Rattle.rc_query.specs.AnswerLaws.{row_line}
+use Rattle.rc_query.specs.laws.Answers.{row_line}
 
 cons_one : {X : Type 0} (o : Option X) → cons_option o [] ≡ option_to_list o
 cons_one None = refl

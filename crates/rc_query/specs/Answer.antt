@@ -15,7 +15,7 @@ use Rattle.rc_position.specs.declared.positions.Weight.TheVariants.{Before, Afte
 pub use Rattle.rc_mutation.specs.Slices.{in_slice}
 use Rattle.rc_mutation.specs.declared.mutations.Mutation.{Mutation}
 use Rattle.rc_mutation.specs.Fragments.{has_any}
-use Rattle.rc_mutation.specs.Source.{all_rows, cover, keys, rows_at, source_at_head, static_rows}
+use Rattle.rc_mutation.specs.Source.{all_rows, row_cover, keys, rows_at, source_at_head, static_rows}
 use Rattle.rc_query.specs.declared.lines.OutLine.{OutLine}
 use Rattle.rc_query.specs.declared.lines.OutLine.TheVariants as line
 
@@ -43,7 +43,7 @@ line_of cover key rows =
 
 -- the line of a key
 abbrev pub line_at : List Mutation → List Comp → Option OutLine
-line_at changes key = line_of (cover changes key) key (rows_at key (all_rows changes))
+line_at changes key = line_of (row_cover changes key) key (rows_at key (all_rows changes))
 
 -- the lines of the keys that occur and stand in the slice, ascending, each once
 abbrev pub row_lines : List Mutation → Slice → List OutLine
@@ -62,8 +62,8 @@ abbrev pub sliced_from : Slice → Pos → Slice
 sliced_from slice x = record { from = x; to = slice.to }
 
 -- all clustered positions
-abbrev pub whole : Slice
-whole = record { from = record { prefix = []; weight = Before }; to = record { prefix = []; weight = After } }
+abbrev pub whole_slice : Slice
+whole_slice = record { from = record { prefix = []; weight = Before }; to = record { prefix = []; weight = After } }
 
 -- a mutation that has rows alone
 abbrev pub rows_alone : List (List Comp × Row) → Mutation

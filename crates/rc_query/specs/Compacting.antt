@@ -10,16 +10,9 @@ use Rattle.rc_mutation.specs.declared.fragments.Frag.TheVariants as frag
 use Rattle.rc_mutation.specs.declared.fragments.Head.{Head}
 use Rattle.rc_query.specs.declared.lines.OutLine.{OutLine}
 use Rattle.rc_query.specs.Answer.{static_line}
-pub use Rattle.rc_mutation.specs.Slices.{fragments_in, is_between, opening}
-use Rattle.rc_query.specs.AnswerLaws.{row_line}
-
--- the range tombstone in force behind a fragment
-abbrev pub after : Option Tomb → Frag → Option Tomb
-after tomb (frag.Start head) = tomb
-after tomb (frag.Static row) = tomb
-after tomb (frag.Row key row) = tomb
-after tomb (frag.Change from next) = next
-after tomb frag.End = tomb
+pub use Rattle.rc_mutation.specs.Slices.{fragments_in, is_between, opening_change}
+use Rattle.rc_query.specs.laws.Answers.{row_line}
+use Rattle.rc_mutation.specs.Fragments.{tomb_after}
 
 -- the line of a fragment under the partition tombstone and the range tombstone in force
 abbrev pub fragment_line : Option Tomb → Option Tomb → Frag → Option OutLine
@@ -32,7 +25,7 @@ fragment_line head tomb frag.End = None
 -- the lines of fragments, one after another
 abbrev pub compacted : Option Tomb → Option Tomb → List Frag → List OutLine
 compacted head tomb [] = []
-compacted head tomb (f ∷ fs) = cons_option (fragment_line head tomb f) (compacted head (after tomb f) fs)
+compacted head tomb (f ∷ fs) = cons_option (fragment_line head tomb f) (compacted head (tomb_after tomb f) fs)
 
 -- the static line first
 abbrev pub compacted_all : Head → List Frag → List OutLine

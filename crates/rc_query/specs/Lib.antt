@@ -1,5 +1,3 @@
 pub mod Answer
-pub mod AnswerLaws
-pub mod CompactLaws
 pub mod Compacting
-pub mod Laws
+pub mod laws

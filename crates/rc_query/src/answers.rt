@@ -6,8 +6,8 @@ ghost use Rattle.std.specs.List.{cons_option, filter_map, list_any};
 ghost use Rattle.rc_cell.specs.Deletion.{survives};
 ghost use Rattle.rc_mutation.specs.Rows.{IsRows};
 ghost use Rattle.rc_mutation.specs.Fragments.{has_any};
-ghost use Rattle.rc_query.specs.Answer.{answer, in_slice, live_value, live_values, rows_alone, static_line, whole};
-ghost use Rattle.rc_query.specs.AnswerLaws.{own_line, row_line};
+ghost use Rattle.rc_query.specs.Answer.{answer, in_slice, live_value, live_values, rows_alone, static_line, whole_slice};
+ghost use Rattle.rc_query.specs.laws.Answers.{own_line, row_line};
 
 use crate::lines::{Lines, OutLine};
 use crate::shown::Shown;
@@ -35,7 +35,7 @@ pub fn answer_of(alloc: Global, change: &Mutation, slice: &Slice) -> Result<Line
 /// The lines that a reader of a whole partition is given of rows, where nothing else was written. The only error is want of
 /// memory.
 pub fn shown_rows(alloc: Global, rows: &Rows) -> Result<Lines, AllocError>
-    ensures { IfOk result (λ lines. lines ≡ answer (rows_alone rows.now ∷ []) whole) }
+    ensures { IfOk result (λ lines. lines ≡ answer (rows_alone rows.now ∷ []) whole_slice) }
 {
     let none = Key::empty(alloc);
     let slice = Slice {

@@ -2,7 +2,8 @@
 
 ghost use Rattle.std.specs.Prelude.{◌≡◌, [], ◌∷◌, IfOk, OnOk, OnErr};
 ghost use Rattle.rc_query.specs.Answer.{static_line};
-ghost use Rattle.rc_query.specs.Compacting.{after, fragment_line};
+ghost use Rattle.rc_query.specs.Compacting.{fragment_line};
+ghost use Rattle.rc_mutation.specs.Fragments.{tomb_after};
 
 use crate::answers::{line_of_row, line_of_statics};
 use crate::lines::OutLine;
@@ -51,7 +52,7 @@ impl Compactor {
     /// memory, which leaves the compactor as it was.
     pub fn put(&mut self, alloc: Global, frag: &Frag) -> Result<Option<OutLine>, AllocError>
         ensures line { IfOk result (λ line. line ≡ fragment_line self.old.0.pt self.old.1 frag.now) }
-        ensures state { OnOk result (self.new ≡ (self.old.0, after self.old.1 frag.now)) }
+        ensures state { OnOk result (self.new ≡ (self.old.0, tomb_after self.old.1 frag.now)) }
         ensures err { OnErr result (self.new ≡ self.old) }
     {
         match frag {

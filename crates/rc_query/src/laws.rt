@@ -13,8 +13,8 @@ ghost use Rattle.rc_position.specs.declared.slices.Slice.{Slice};
 ghost use Rattle.rc_mutation.specs.declared.mutations.Mutation.{Mutation};
 ghost use Rattle.rc_mutation.specs.Source.{IsJoinOf, IsMutation, SameSource};
 ghost use Rattle.rc_mutation.specs.Fragments.{fragments};
-ghost use Rattle.rc_query.specs.Answer.{answer, row_lines, sliced_before, sliced_from, whole};
-ghost use Rattle.rc_query.specs.AnswerLaws.{row_line};
+ghost use Rattle.rc_query.specs.Answer.{answer, row_lines, sliced_before, sliced_from, whole_slice};
+ghost use Rattle.rc_query.specs.laws.Answers.{row_line};
 ghost use Rattle.rc_query.specs.Compacting.{compacted_all, fragments_in};
 
 /// The answer of writes is the answer of what they join to.
@@ -25,8 +25,8 @@ pub fn answer_of_joined_writes()
 
 /// The compactor over the head and the canonical fragments of a mutation, whole or in a slice, gives its answer there.
 pub fn compactor_gives_the_answer()
-    ensures whole { (mutation : Mutation) → IsMutation mutation →
-        compacted_all (record { pt = mutation.pt; statics = mutation.statics }) (fragments mutation) ≡ answer (mutation ∷ []) whole }
+    ensures whole_slice { (mutation : Mutation) → IsMutation mutation →
+        compacted_all (record { pt = mutation.pt; statics = mutation.statics }) (fragments mutation) ≡ answer (mutation ∷ []) whole_slice }
     ensures slice { (mutation : Mutation) (slice : Slice) → IsMutation mutation →
         compacted_all (record { pt = mutation.pt; statics = mutation.statics }) (fragments_in slice mutation) ≡ answer (mutation ∷ []) slice }
 {}

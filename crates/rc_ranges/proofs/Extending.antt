@@ -6,16 +6,16 @@ use Rattle.std.specs.Ordering.{is_eq}
 use Rattle.std.specs.Cmp.{tied_itself}
 use Rattle.rc_position.specs.declared.positions.Pos.{Pos}
 use Rattle.rc_position.specs.Position.{pos_cmp, IsBefore}
-use Rattle.rc_position.specs.OrderLaws.{pos_cmp_total, pos_cmp_same}
+use Rattle.rc_position.specs.laws.Orders.{pos_cmp_total, pos_cmp_same}
 use Rattle.rc_cell.specs.Orders.{tomb_cmp, tomb_cmp_total}
 use Rattle.rc_cell.specs.Greatest.{greater}
 use Rattle.rc_cell.specs.Beats.{tomb_cmp-IsAntisymmetric}
 use Rattle.rc_ranges.specs.declared.pieces.Piece.{Piece}
 use Rattle.rc_ranges.specs.Cover.{cover, MayFollow, IsCanonical}
-use Rattle.rc_ranges.specs.Sweep.{lt, goes_on, extended}
-use Rattle.rc_ranges.specs.Laws.Order.{gt-lt, before-lt, lt-before, lt-irrefl, lt-asym, lt-trans, le-trans}
-use Rattle.rc_ranges.specs.Laws.Greater.{greater-none, greater-assoc}
-use Rattle.rc_ranges.specs.Laws.Covering.{piece_at, piece_at-inside, piece_at-before, piece_at-behind, cover-none, cover-cons}
+use Rattle.rc_ranges.specs.calls.Sweep.{lt, goes_on, extended}
+use Rattle.rc_ranges.specs.laws.Order.{gt-lt, before-lt, lt-before, lt-irrefl, lt-asym, lt-trans, le-trans}
+use Rattle.rc_ranges.specs.laws.Greater.{greater-none, greater-assoc}
+use Rattle.rc_ranges.specs.laws.Covering.{piece_at, piece_at-inside, piece_at-before, piece_at-behind, cover-none, cover-cons}
 
 -- no piece ends behind the mark
 abbrev pub EndBy : List Piece → Pos → Type 0

@@ -6,12 +6,12 @@ use Rattle.std.specs.Ordering.{is_ge, is_le, is_gt, ordering_reverse}
 use Rattle.std.specs.List.Sorted.{IsPartitionedBy}
 use Rattle.rc_position.specs.declared.positions.Pos.{Pos}
 use Rattle.rc_position.specs.Position.{pos_cmp}
-use Rattle.rc_position.specs.OrderLaws.{pos_cmp_total}
+use Rattle.rc_position.specs.laws.Orders.{pos_cmp_total}
 use Rattle.rc_ranges.specs.declared.pieces.Piece.{Piece}
 use Rattle.rc_ranges.specs.Cover.{cover, IsCanonical}
-use Rattle.rc_ranges.specs.Sweep.{lt, in_force}
-use Rattle.rc_ranges.specs.Laws.Order.{gt-lt, before-lt, lt-irrefl, lt-asym, le-trans}
-use Rattle.rc_ranges.specs.Laws.Covering.{cover-none, cover-before, cover-inside, cover-behind}
+use Rattle.rc_ranges.specs.calls.Sweep.{lt, sweep_tomb}
+use Rattle.rc_ranges.specs.laws.Order.{gt-lt, before-lt, lt-irrefl, lt-asym, le-trans}
+use Rattle.rc_ranges.specs.laws.Covering.{cover-none, cover-before, cover-inside, cover-behind}
 
 -- whether a piece ends at a position or before
 abbrev pub ends_by : Pos → Piece → Bool
@@ -63,7 +63,7 @@ IsPartitionedBy-ends xs x c i j d h k e =
     ∙ ap not (le-trans (get_or xs i d).to (get_or xs j d).to x (rise xs c i j d h k) (ends_by-so x (get_or xs j d) e))
 
 -- the first that does not is the one that may cover it
-pub cover-point : (xs : List Piece) (i : ℕ) (x : Pos) → IsCanonical xs → ((k : ℕ) (d : Piece) → 0 ≤ k → k < i → ends_by x (get_or xs k d) ≡ true) → ((k : ℕ) (d : Piece) → i ≤ k → k < length xs → ends_by x (get_or xs k d) ≡ false) → cover xs x ≡ in_force (drop i xs) x
+pub cover-point : (xs : List Piece) (i : ℕ) (x : Pos) → IsCanonical xs → ((k : ℕ) (d : Piece) → 0 ≤ k → k < i → ends_by x (get_or xs k d) ≡ true) → ((k : ℕ) (d : Piece) → i ≤ k → k < length xs → ends_by x (get_or xs k d) ≡ false) → cover xs x ≡ sweep_tomb (drop i xs) x
 cover-point [] zero x c below above = cover-none x
 cover-point [] (suc i) x c below above = cover-none x
 cover-point (p ∷ ps) zero x c below above =

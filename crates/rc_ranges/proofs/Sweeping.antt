@@ -6,11 +6,11 @@ use Rattle.rc_cell.specs.declared.writes.Tomb.{Tomb}
 use Rattle.rc_cell.specs.Orders.{tomb_cmp}
 use Rattle.rc_cell.specs.Greatest.{greater}
 use Rattle.rc_ranges.specs.declared.pieces.Piece.{Piece}
-use Rattle.rc_ranges.specs.Cover.{cover, IsCanonical, IsJoinOf}
-use Rattle.rc_ranges.specs.Sweep.{lt, in_force, next_bound, rest_from, earlier, bounds_left, extended_by}
-use Rattle.rc_ranges.specs.Laws.Order.{gt-lt, before-lt, lt-before, lt-irrefl, lt-asym, le-trans, le-lt, lt-le}
-use Rattle.rc_ranges.specs.Laws.Greater.{greater-none}
-use Rattle.rc_ranges.specs.Laws.Covering.{piece_at-inside, piece_at-before, cover-none, cover-before, cover-inside, cover-behind}
+use Rattle.rc_ranges.specs.Cover.{cover, IsCanonical, IsRangeJoinOf}
+use Rattle.rc_ranges.specs.calls.Sweep.{lt, sweep_tomb, next_bound, rest_from, earlier, bounds_left, extended_by}
+use Rattle.rc_ranges.specs.laws.Order.{gt-lt, before-lt, lt-before, lt-irrefl, lt-asym, le-trans, le-lt, lt-le}
+use Rattle.rc_ranges.specs.laws.Greater.{greater-none}
+use Rattle.rc_ranges.specs.laws.Covering.{piece_at-inside, piece_at-before, cover-none, cover-before, cover-inside, cover-behind}
 use Rattle.rc_ranges.proofs.Extending.{EndBy, EndBy-later, EndBy-cover, cover-extended, IsCanonical-extended, EndBy-extended}
 
 -- the first piece ends behind the mark
@@ -30,7 +30,7 @@ no_both false e f = cc
 -- ---- one list
 
 -- from the mark up to the next bound nothing changes
-pub cover-in_force : (xs : List Piece) (m n : Pos) → IsCanonical xs → IsUpTo n (next_bound xs m) → (x : Pos) → lt x m ≡ false → lt x n ≡ true → cover xs x ≡ in_force xs m
+pub cover-in_force : (xs : List Piece) (m n : Pos) → IsCanonical xs → IsUpTo n (next_bound xs m) → (x : Pos) → lt x m ≡ false → lt x n ≡ true → cover xs x ≡ sweep_tomb xs m
 cover-in_force [] m n c u x e f = cover-none x
 cover-in_force (p ∷ ps) m n c u x e f =
     elim (lt m p.from) as (λ b. lt m p.from ≡ b → lt (cond b p.from p.to) n ≡ false → cover (p ∷ ps) x ≡ cond b None (Some p.tomb)) [
@@ -223,7 +223,7 @@ module _ (ours theirs made xs ys : List Piece) (m n : Pos) (h : IsSwept ours the
   mark-behind = ⊎_elim (next_bound-behind xs m n h.ours_end) (next_bound-behind ys m n h.theirs_end) (earlier-one (next_bound xs m) (next_bound ys m) n next)
 
   abbrev both : Option Tomb
-  both = greater tomb_cmp (in_force xs m) (in_force ys m)
+  both = greater tomb_cmp (sweep_tomb xs m) (sweep_tomb ys m)
 
   done_more : (x : Pos) → lt x n ≡ true → cover (extended_by made m n both) x ≡ greater tomb_cmp (cover ours x) (cover theirs x)
   done_more x f =
@@ -262,7 +262,7 @@ module _ (ours theirs made xs ys : List Piece) (m n : Pos) (h : IsSwept ours the
       (λ e. let falls : bounds_left (rest_from ys n) n < bounds_left ys m = bounds_left-falls ys m n mark-behind e in omega arith)
       (earlier-one (next_bound xs m) (next_bound ys m) n next)
 
-pub IsSwept-all : (ours theirs made xs ys : List Piece) (m : Pos) → IsSwept ours theirs made xs ys m → earlier (next_bound xs m) (next_bound ys m) ≡ None → IsJoinOf made ours theirs
+pub IsSwept-all : (ours theirs made xs ys : List Piece) (m : Pos) → IsSwept ours theirs made xs ys m → earlier (next_bound xs m) (next_bound ys m) ≡ None → IsRangeJoinOf made ours theirs
 IsSwept-all ours theirs made xs ys m h none x =
     let empty = earlier-none xs ys m none in
     elim (lt x m) as (λ b. lt x m ≡ b → cover made x ≡ greater tomb_cmp (cover ours x) (cover theirs x)) [

@@ -1,7 +1,7 @@
 -- Range tombstones: what deletes a position.
 --     cover           the tombstone in force at a position: the greatest of the pieces that cover it
 --     IsCanonical     pieces in order that do not overlap, none of them empty; two that touch have different tombstones
---     IsJoinOf        at each position the greater tombstone of two lists
+--     IsRangeJoinOf        at each position the greater tombstone of two lists
 use Rattle.std.specs.Prelude.{◌≡◌, ◌≢◌, false, List, [], ◌∷◌, map, filter, Option, ◌⊎◌}
 use Rattle.std.specs.Ordering.{is_gt}
 use Rattle.rc_position.specs.declared.positions.Pos.{Pos}
@@ -31,8 +31,8 @@ IsCanonical [] = Unit {0}
 IsCanonical (p ∷ ps) = IsBefore p.from p.to × MayFollow p ps × IsCanonical ps
 
 -- at each position the pieces have the greater of the tombstones that two other lists have there
-abbrev pub IsJoinOf : List Piece → List Piece → List Piece → Type 0
-IsJoinOf pieces ours theirs = (x : Pos) → cover pieces x ≡ greater tomb_cmp (cover ours x) (cover theirs x)
+abbrev pub IsRangeJoinOf : List Piece → List Piece → List Piece → Type 0
+IsRangeJoinOf pieces ours theirs = (x : Pos) → cover pieces x ≡ greater tomb_cmp (cover ours x) (cover theirs x)
 
 -- x is where some piece begins or ends
 abbrev pub IsBoundOf : Pos → List Piece → Type 0

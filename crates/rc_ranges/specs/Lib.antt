@@ -1,3 +1,3 @@
+pub mod calls
 pub mod Cover
-pub mod Sweep
-pub mod Laws
+pub mod laws

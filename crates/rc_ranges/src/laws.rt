@@ -6,7 +6,7 @@ ghost use Rattle.rc_position.specs.Position.{covers};
 ghost use Rattle.rc_cell.specs.Orders.{tomb_cmp};
 ghost use Rattle.rc_cell.specs.Greatest.{greater};
 ghost use Rattle.rc_ranges.specs.declared.pieces.Piece.{Piece};
-ghost use Rattle.rc_ranges.specs.Cover.{cover, IsCanonical, IsJoinOf, IsBoundOf};
+ghost use Rattle.rc_ranges.specs.Cover.{cover, IsCanonical, IsRangeJoinOf, IsBoundOf};
 
 /// Canonical lists that agree wherever a piece of one of them begins or ends are one list. So each way of deleting the
 /// positions of a partition by range tombstones has one canonical list.
@@ -30,16 +30,16 @@ pub fn pieces_together_have_the_greater()
 /// Joining is commutative.
 pub fn join_is_commutative()
     ensures { (ours theirs one other : List Piece) → IsCanonical one → IsCanonical other →
-        IsJoinOf one ours theirs → IsJoinOf other theirs ours → one ≡ other }
+        IsRangeJoinOf one ours theirs → IsRangeJoinOf other theirs ours → one ≡ other }
 {}
 
 /// Joining is associative.
 pub fn join_is_associative()
     ensures { (a b c ab bc one other : List Piece) → IsCanonical one → IsCanonical other →
-        IsJoinOf ab a b → IsJoinOf one ab c → IsJoinOf bc b c → IsJoinOf other a bc → one ≡ other }
+        IsRangeJoinOf ab a b → IsRangeJoinOf one ab c → IsRangeJoinOf bc b c → IsRangeJoinOf other a bc → one ≡ other }
 {}
 
 /// Joining is idempotent.
 pub fn join_is_idempotent()
-    ensures { (ours one : List Piece) → IsCanonical ours → IsCanonical one → IsJoinOf one ours ours → one ≡ ours }
+    ensures { (ours one : List Piece) → IsCanonical ours → IsCanonical one → IsRangeJoinOf one ours ours → one ≡ ours }
 {}

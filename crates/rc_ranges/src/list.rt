@@ -2,7 +2,7 @@
 
 ghost use Rattle.std.specs.Prelude.{◌≡◌, [], ◌∷◌, IfOk, OnOk, OnErr};
 ghost use Rattle.rc_position.specs.Position.{IsBefore, row_pos};
-ghost use Rattle.rc_ranges.specs.Cover.{cover, IsCanonical, IsJoinOf};
+ghost use Rattle.rc_ranges.specs.Cover.{cover, IsCanonical, IsRangeJoinOf};
 
 use crate::pieces::Piece;
 use crate::sweep::{joined, tomb_in_force, tomb_in_force_at_row};
@@ -79,7 +79,7 @@ impl Ranges {
     /// Want of memory leaves the ranges as they were.
     pub fn add(&mut self, alloc: Global, from: &Pos, to: &Pos, tomb: Tomb) -> Result<(), AllocError>
         requires { IsBefore from.now to.now }
-        ensures ok { OnOk result (IsJoinOf self.new self.old (record { from = from.now; to = to.now; tomb = tomb } ∷ [])) }
+        ensures ok { OnOk result (IsRangeJoinOf self.new self.old (record { from = from.now; to = to.now; tomb = tomb } ∷ [])) }
         ensures err { OnErr result (self.new ≡ self.old) }
         ensures canonical { IsCanonical self.new }
     {
@@ -92,7 +92,7 @@ impl Ranges {
     /// Adds all pieces of others: at each position the greater tombstone stands. The work is linear in the pieces of both.
     /// Want of memory leaves the ranges as they were.
     pub fn join(&mut self, alloc: Global, other: &Ranges) -> Result<(), AllocError>
-        ensures ok { OnOk result (IsJoinOf self.new self.old other.now) }
+        ensures ok { OnOk result (IsRangeJoinOf self.new self.old other.now) }
         ensures err { OnErr result (self.new ≡ self.old) }
         ensures canonical { IsCanonical self.new }
     {

@@ -5,8 +5,8 @@ ghost use Rattle.std.specs.Option.{option_copied};
 ghost use Rattle.rc_cell.specs.Orders.{tomb_cmp};
 ghost use Rattle.rc_cell.specs.Greatest.{greater};
 ghost use Rattle.rc_position.specs.Position.{row_pos};
-ghost use Rattle.rc_ranges.specs.Cover.{IsCanonical, IsJoinOf};
-ghost use Rattle.rc_ranges.specs.Sweep.{in_force, next_bound, rest_from, earlier, goes_on, extended, extended_by};
+ghost use Rattle.rc_ranges.specs.Cover.{IsCanonical, IsRangeJoinOf};
+ghost use Rattle.rc_ranges.specs.calls.Sweep.{sweep_tomb, next_bound, rest_from, earlier, goes_on, extended, extended_by};
 
 use crate::pieces::Piece;
 use rc_cell::Tomb;
@@ -25,9 +25,9 @@ fn greater_of(ours: Option<Tomb>, theirs: Option<Tomb>) -> Option<Tomb>
 }
 
 // The tombstone from the mark up to the next bound.
-#[tactic(auto, unfolding(crate::specs::Sweep::lt))]
+#[tactic(auto, unfolding(crate::specs::calls::Sweep::lt))]
 pub(crate) fn tomb_in_force(pieces: &[Piece], mark: &Pos) -> Option<Tomb>
-    ensures { result ≡ in_force pieces.now mark.now }
+    ensures { result ≡ sweep_tomb pieces.now mark.now }
 {
     match pieces {
         [] => None,
@@ -42,9 +42,9 @@ pub(crate) fn tomb_in_force(pieces: &[Piece], mark: &Pos) -> Option<Tomb>
 }
 
 // The tombstone from the row of the key up to the next bound.
-#[tactic(auto, unfolding(crate::specs::Sweep::lt))]
+#[tactic(auto, unfolding(crate::specs::calls::Sweep::lt))]
 pub(crate) fn tomb_in_force_at_row(pieces: &[Piece], key: &Key) -> Option<Tomb>
-    ensures { result ≡ in_force pieces.now (row_pos key.now) }
+    ensures { result ≡ sweep_tomb pieces.now (row_pos key.now) }
 {
     match pieces {
         [] => None,
@@ -59,7 +59,7 @@ pub(crate) fn tomb_in_force_at_row(pieces: &[Piece], key: &Key) -> Option<Tomb>
 }
 
 // The next bound behind the mark.
-#[tactic(auto, unfolding(crate::specs::Sweep::lt))]
+#[tactic(auto, unfolding(crate::specs::calls::Sweep::lt))]
 fn bound_behind<'a>(pieces: &'a [Piece], mark: &Pos) -> Option<&'a Pos>
     ensures { option_copied result ≡ next_bound pieces.now mark.now }
 {
@@ -76,7 +76,7 @@ fn bound_behind<'a>(pieces: &'a [Piece], mark: &Pos) -> Option<&'a Pos>
 }
 
 // The pieces without the first, if that ends at the mark or before.
-#[tactic(auto, unfolding(crate::specs::Sweep::lt))]
+#[tactic(auto, unfolding(crate::specs::calls::Sweep::lt))]
 fn pieces_from<'a>(pieces: &'a [Piece], mark: &Pos) -> &'a [Piece]
     ensures { result.now ≡ rest_from pieces.now mark.now }
 {
@@ -87,7 +87,7 @@ fn pieces_from<'a>(pieces: &'a [Piece], mark: &Pos) -> &'a [Piece]
 }
 
 // The earlier of two bounds, where there are any.
-#[tactic(auto, unfolding(crate::specs::Sweep::lt))]
+#[tactic(auto, unfolding(crate::specs::calls::Sweep::lt))]
 fn earlier_of<'a>(ours: Option<&'a Pos>, theirs: Option<&'a Pos>) -> Option<&'a Pos>
     ensures { option_copied result ≡ earlier (option_copied ours.entry) (option_copied theirs.entry) }
 {
@@ -167,7 +167,7 @@ pub(crate) fn joined(
     requires ours_canonical { IsCanonical ours.now }
     requires theirs_canonical { IsCanonical theirs.now }
     ensures canonical { IfOk result (λ made. IsCanonical made.items) }
-    ensures join { IfOk result (λ made. IsJoinOf made.items ours.now theirs.now) }
+    ensures join { IfOk result (λ made. IsRangeJoinOf made.items ours.now theirs.now) }
 {
     let first = Pos {
         prefix: Key::empty(alloc),

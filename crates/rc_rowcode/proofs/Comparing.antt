@@ -5,20 +5,20 @@ use Rattle.rc_position.specs.declared.comps.Comp.{Comp}
 use Rattle.rc_position.specs.declared.positions.Weight.{Weight}
 use Rattle.rc_position.specs.declared.positions.Pos.{Pos}
 use Rattle.rc_rowcode.specs.Spelling.{comp_code, weight_byte, pos_code, IsComp, IsPos}
-use Rattle.rc_rowcode.specs.Reading.{comp_at}
-use Rattle.rc_rowcode.specs.Comparing.{listed_comps}
-use Rattle.rc_rowcode.specs.Laws.Codecs.{comp_codec}
+use Rattle.rc_rowcode.specs.calls.Reading.{parse_component}
+use Rattle.rc_rowcode.specs.calls.Comparing.{listed_comps}
+use Rattle.rc_rowcode.specs.laws.Codecs.{comp_codec}
 
 pub comps_end : (n : ℕ) (bytes : List ℕ) → n ≡ 0 → listed_comps n bytes ≡ []
 unfolding listed_comps
 comps_end n bytes e = ap (λ k. listed_comps k bytes) e
 
-pub comps_stuck : (n : ℕ) (bytes : List ℕ) → comp_at bytes ≡ None → listed_comps n bytes ≡ []
+pub comps_stuck : (n : ℕ) (bytes : List ℕ) → parse_component bytes ≡ None → listed_comps n bytes ≡ []
 unfolding listed_comps
 comps_stuck zero bytes e = refl
 comps_stuck (suc n) bytes e = rw e refl
 
-pub comps_step : (n : ℕ) (bytes : List ℕ) (x : Comp) (rest : List ℕ) → 0 < n → comp_at bytes ≡ Some (x, rest) → listed_comps n bytes ≡ x ∷ listed_comps (n - 1) rest
+pub comps_step : (n : ℕ) (bytes : List ℕ) (x : Comp) (rest : List ℕ) → 0 < n → parse_component bytes ≡ Some (x, rest) → listed_comps n bytes ≡ x ∷ listed_comps (n - 1) rest
 unfolding listed_comps
 comps_step zero bytes x rest lt e = absurd (omega arith)
 comps_step (suc n) bytes x rest lt e =

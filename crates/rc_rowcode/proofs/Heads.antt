@@ -5,34 +5,34 @@ use Rattle.std.proofs.lemmas.Option.{none-some, some_pair_parts}
 use Rattle.rc_cell.specs.declared.writes.Cell.{Cell}
 use Rattle.rc_cell.specs.declared.writes.Tomb.{Tomb}
 use Rattle.rc_cell.specs.declared.rows.Row.{Row}
-use Rattle.rc_cell.specs.Laws.{same_row}
+use Rattle.rc_cell.specs.laws.{same_row}
 use Rattle.rc_rowcode.specs.Spelling.{optional_code, tomb_code, entry_code, cells_code, row_code, IsEntry, IsCodedRow}
-use Rattle.rc_rowcode.specs.Reading.{stamp_at, optional_at, tomb_at}
-use Rattle.rc_rowcode.specs.Joining.{listed}
-use Rattle.rc_rowcode.specs.Laws.RowCodec.{marker_again, row_tomb_again, first_again}
+use Rattle.rc_rowcode.specs.calls.Reading.{parse_stamp, parse_optional, parse_tomb}
+use Rattle.rc_rowcode.specs.calls.Joining.{listed}
+use Rattle.rc_rowcode.specs.laws.RowCodec.{marker_again, row_tomb_again, first_again}
 
 listed_coded : (es : List (ℕ × Cell)) → AllByRecursion IsEntry es → listed (length es) (flat_map entry_code es) ≡ es
 unfolding listed
 listed_coded [] fits = refl
 listed_coded (e ∷ es) fits = rw (first_again e (flat_map entry_code es) fits.0, listed_coded es fits.1) refl
 
-pub no_marker : (bytes : List ℕ) (r : Row) → IsCodedRow r → bytes ≡ row_code r → None ≡ optional_at stamp_at bytes → ⊥
-no_marker bytes r fits e h = none-some (r.marker, optional_code tomb_code r.tomb ++ cells_code r.cells) (h ∙ ap (optional_at stamp_at) e ∙ marker_again r fits)
+pub no_marker : (bytes : List ℕ) (r : Row) → IsCodedRow r → bytes ≡ row_code r → None ≡ parse_optional parse_stamp bytes → ⊥
+no_marker bytes r fits e h = none-some (r.marker, optional_code tomb_code r.tomb ++ cells_code r.cells) (h ∙ ap (parse_optional parse_stamp) e ∙ marker_again r fits)
 
-marker_read : (bytes : List ℕ) (r : Row) (m : Option ℤ) (rest : List ℕ) → IsCodedRow r → bytes ≡ row_code r → Some (m, rest) ≡ optional_at stamp_at bytes → (m ≡ r.marker) × (rest ≡ optional_code tomb_code r.tomb ++ cells_code r.cells)
-marker_read bytes r m rest fits e h = some_pair_parts m r.marker rest (optional_code tomb_code r.tomb ++ cells_code r.cells) (h ∙ ap (optional_at stamp_at) e ∙ marker_again r fits)
+marker_read : (bytes : List ℕ) (r : Row) (m : Option ℤ) (rest : List ℕ) → IsCodedRow r → bytes ≡ row_code r → Some (m, rest) ≡ parse_optional parse_stamp bytes → (m ≡ r.marker) × (rest ≡ optional_code tomb_code r.tomb ++ cells_code r.cells)
+marker_read bytes r m rest fits e h = some_pair_parts m r.marker rest (optional_code tomb_code r.tomb ++ cells_code r.cells) (h ∙ ap (parse_optional parse_stamp) e ∙ marker_again r fits)
 
-pub no_tomb : (bytes : List ℕ) (r : Row) (m : Option ℤ) (rest : List ℕ) → IsCodedRow r → bytes ≡ row_code r → Some (m, rest) ≡ optional_at stamp_at bytes → None ≡ optional_at tomb_at rest → ⊥
-no_tomb bytes r m rest fits e h g = none-some (r.tomb, cells_code r.cells) (g ∙ ap (optional_at tomb_at) (marker_read bytes r m rest fits e h).1 ∙ row_tomb_again r fits)
+pub no_tomb : (bytes : List ℕ) (r : Row) (m : Option ℤ) (rest : List ℕ) → IsCodedRow r → bytes ≡ row_code r → Some (m, rest) ≡ parse_optional parse_stamp bytes → None ≡ parse_optional parse_tomb rest → ⊥
+no_tomb bytes r m rest fits e h g = none-some (r.tomb, cells_code r.cells) (g ∙ ap (parse_optional parse_tomb) (marker_read bytes r m rest fits e h).1 ∙ row_tomb_again r fits)
 
-tomb_read : (bytes : List ℕ) (r : Row) (m : Option ℤ) (rest : List ℕ) (t : Option Tomb) (behind : List ℕ) → IsCodedRow r → bytes ≡ row_code r → Some (m, rest) ≡ optional_at stamp_at bytes → Some (t, behind) ≡ optional_at tomb_at rest
+tomb_read : (bytes : List ℕ) (r : Row) (m : Option ℤ) (rest : List ℕ) (t : Option Tomb) (behind : List ℕ) → IsCodedRow r → bytes ≡ row_code r → Some (m, rest) ≡ parse_optional parse_stamp bytes → Some (t, behind) ≡ parse_optional parse_tomb rest
     → (t ≡ r.tomb) × (behind ≡ cells_code r.cells)
-tomb_read bytes r m rest t behind fits e h g = some_pair_parts t r.tomb behind (cells_code r.cells) (g ∙ ap (optional_at tomb_at) (marker_read bytes r m rest fits e h).1 ∙ row_tomb_again r fits)
+tomb_read bytes r m rest t behind fits e h g = some_pair_parts t r.tomb behind (cells_code r.cells) (g ∙ ap (parse_optional parse_tomb) (marker_read bytes r m rest fits e h).1 ∙ row_tomb_again r fits)
 
 not_empty : (n : ℕ) (l : List ℕ) → [] ≡ n ∷ l → ⊥
 not_empty n l e = cc
 
-pub no_count : (bytes : List ℕ) (r : Row) (m : Option ℤ) (rest : List ℕ) (t : Option Tomb) (behind : List ℕ) → IsCodedRow r → bytes ≡ row_code r → Some (m, rest) ≡ optional_at stamp_at bytes → Some (t, behind) ≡ optional_at tomb_at rest → behind ≡ [] → ⊥
+pub no_count : (bytes : List ℕ) (r : Row) (m : Option ℤ) (rest : List ℕ) (t : Option Tomb) (behind : List ℕ) → IsCodedRow r → bytes ≡ row_code r → Some (m, rest) ≡ parse_optional parse_stamp bytes → Some (t, behind) ≡ parse_optional parse_tomb rest → behind ≡ [] → ⊥
 no_count bytes r m rest t behind fits e h g none = not_empty (length r.cells) (flat_map entry_code r.cells) (sym none ∙ (tomb_read bytes r m rest t behind fits e h g).1)
 
 first_same : (n k : ℕ) (l s : List ℕ) → n ∷ l ≡ k ∷ s → n ≡ k
@@ -41,7 +41,7 @@ first_same n k l s e = cc
 rest_same : (n k : ℕ) (l s : List ℕ) → n ∷ l ≡ k ∷ s → l ≡ s
 rest_same n k l s e = cc
 
-pub whole_head : (bytes : List ℕ) (r : Row) (m : Option ℤ) (rest : List ℕ) (t : Option Tomb) (behind : List ℕ) (n : ℕ) (cells : List ℕ) → IsCodedRow r → bytes ≡ row_code r → Some (m, rest) ≡ optional_at stamp_at bytes → Some (t, behind) ≡ optional_at tomb_at rest
+pub whole_head : (bytes : List ℕ) (r : Row) (m : Option ℤ) (rest : List ℕ) (t : Option Tomb) (behind : List ℕ) (n : ℕ) (cells : List ℕ) → IsCodedRow r → bytes ≡ row_code r → Some (m, rest) ≡ parse_optional parse_stamp bytes → Some (t, behind) ≡ parse_optional parse_tomb rest
     → behind ≡ n ∷ cells → ◌≡◌ {A = Row} (record { marker = m; tomb = t; cells = listed n cells }) r
 whole_head bytes r m rest t behind n cells fits e h g b =
     let read = tomb_read bytes r m rest t behind fits e h g in

@@ -14,13 +14,13 @@ use Rattle.rc_cell.specs.Orders.{cell_cmp, tomb_cmp}
 use Rattle.rc_cell.specs.Winner.{winners, joined_row}
 use Rattle.rc_cell.specs.Greatest.{greater}
 use Rattle.rc_cell.specs.ByColumn.{ascending-winners}
-use Rattle.rc_cell.specs.Laws.Joined.{joined_of}
-use Rattle.rc_cell.specs.Laws.Merge.{pick, merge, merge_into, merge-winners}
+use Rattle.rc_cell.specs.laws.Joined.{joined_of}
+use Rattle.rc_cell.specs.laws.Merge.{pick, merge, merge_into, merge-winners}
 use Rattle.rc_rowcode.specs.Spelling.{stamp_code, tomb_code, optional_code, entry_code, cells_code, row_code, IsTomb, IsCell, IsEntry, IsCodedRow}
-use Rattle.rc_rowcode.specs.Joining.{seen_entries, seen_row}
+use Rattle.rc_rowcode.specs.calls.Joining.{seen_entries, seen_row}
 use Rattle.rc_rowcode.specs.declared.join.Head.{Head}
-use Rattle.rc_rowcode.specs.Laws.Limits.{entries_limits}
-use Rattle.rc_rowcode.specs.Laws.Sizes.{few_columns, entries_small}
+use Rattle.rc_rowcode.specs.laws.Limits.{entries_limits}
+use Rattle.rc_rowcode.specs.laws.Sizes.{few_columns, entries_small}
 
 picked_is : (b : Bool) (c d : Cell) → IsCell c → IsCell d → IsCell (cond b d c)
 picked_is true c d p q = q

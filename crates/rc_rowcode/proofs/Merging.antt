@@ -10,10 +10,10 @@ use Rattle.rc_cell.specs.declared.writes.Cell.{Cell}
 use Rattle.rc_cell.specs.Columns.{ascending}
 use Rattle.rc_cell.specs.Winner.{winner, winners}
 use Rattle.rc_cell.specs.ByColumn.{holds, test_of, second, winners-ascending}
-use Rattle.rc_cell.specs.Laws.Merge.{pick, merge, merge-winners, picked, winner-pair}
+use Rattle.rc_cell.specs.laws.Merge.{pick, merge, merge-winners, picked, winner-pair}
 use Rattle.rc_cell.specs.Orders.{cell_cmp}
-use Rattle.rc_rowcode.specs.Reading.{entry_at}
-use Rattle.rc_rowcode.specs.Joining.{listed}
+use Rattle.rc_rowcode.specs.calls.Reading.{parse_entry}
+use Rattle.rc_rowcode.specs.calls.Joining.{listed}
 
 abbrev Cells : Type 0
 Cells = List (ℕ × Cell)
@@ -27,12 +27,12 @@ pub listed_end : (n : ℕ) (bytes : List ℕ) → n ≡ 0 → listed n bytes ≡
 unfolding listed
 listed_end n bytes e = ap (λ k. listed k bytes) e
 
-pub listed_stuck : (n : ℕ) (bytes : List ℕ) → entry_at 0 bytes ≡ None → listed n bytes ≡ []
+pub listed_stuck : (n : ℕ) (bytes : List ℕ) → parse_entry 0 bytes ≡ None → listed n bytes ≡ []
 unfolding listed
 listed_stuck zero bytes e = refl
 listed_stuck (suc n) bytes e = rw e refl
 
-pub listed_step : (n : ℕ) (bytes : List ℕ) (x : ℕ × Cell) (rest : List ℕ) → 0 < n → entry_at 0 bytes ≡ Some (x, rest) → listed n bytes ≡ x ∷ listed (n - 1) rest
+pub listed_step : (n : ℕ) (bytes : List ℕ) (x : ℕ × Cell) (rest : List ℕ) → 0 < n → parse_entry 0 bytes ≡ Some (x, rest) → listed n bytes ≡ x ∷ listed (n - 1) rest
 unfolding listed
 listed_step zero bytes x rest lt e = absurd (omega arith)
 listed_step (suc n) bytes x rest lt e =

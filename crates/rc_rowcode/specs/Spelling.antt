@@ -3,7 +3,7 @@
 --     KeyFits, PosFits, RowFits                                                     within the limits: what can be spelt
 --     IsTomb, IsKey, IsPos, IsCodedRow                                              the values that spellings stand for
 --     IsCode                                                                        some value has this spelling
---     Reads                                                                         what reading the front of bytes must answer
+--     ReadsPrefix                                                                         what reading the front of bytes must answer
 use Rattle.std.specs.Prelude.{◌≡◌, ℕ, ◌<◌, ◌≤◌, ◌^◌, ℤ, List, [], ◌∷◌, ◌++◌, length, take, Option, Some, None, IfSome, FitsSigned, ⊤}
 use Rattle.std.specs.Int.{w16, w32, w64, to_le_bytes, cast_unsigned}
 use Rattle.std.specs.List.{flat_map, AllByRecursion, All}
@@ -143,6 +143,6 @@ abbrev pub IsCode : {X : Type 0} → (X → List ℕ) → (X → Type 0) → Lis
 IsCode {X} code is bytes = (x : X) × is x × (bytes ≡ code x)
 
 -- ---- reading: the value and the length of the prefix that is a spelling, and none exactly where no prefix is one
-abbrev pub Reads : {X : Type 0} → (X → List ℕ) → (X → Type 0) → List ℕ → Option (X × ℕ) → Type 0
-Reads {X} code is bytes None = (x : X) (n : ℕ) → is x → take n bytes ≡ code x → ⊥
-Reads code is bytes (Some found) = is found.0 × (take found.1 bytes ≡ code found.0) × (found.1 ≡ length (code found.0))
+abbrev pub ReadsPrefix : {X : Type 0} → (X → List ℕ) → (X → Type 0) → List ℕ → Option (X × ℕ) → Type 0
+ReadsPrefix {X} code is bytes None = (x : X) (n : ℕ) → is x → take n bytes ≡ code x → ⊥
+ReadsPrefix code is bytes (Some found) = is found.0 × (take found.1 bytes ≡ code found.0) × (found.1 ≡ length (code found.0))

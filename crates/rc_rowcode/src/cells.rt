@@ -5,9 +5,9 @@ ghost use Rattle.std.specs.Option.{option_map, IfSome};
 ghost use Rattle.std.specs.Vec.{vec_capacity};
 ghost use Rattle.rc_cell.specs.Orders.{timestamp_of, rank_of, bytes_of, deletion_time_of, cell_cmp};
 ghost use Rattle.rc_rowcode.specs.Spelling.{tomb_code, cell_code, entry_code, CellFits};
-ghost use Rattle.rc_rowcode.specs.Reading.{tomb_at, live_at, dead_at, cell_at, entry_at};
+ghost use Rattle.rc_rowcode.specs.calls.Reading.{parse_tomb, parse_live, parse_dead, parse_cell, parse_entry};
 ghost use Rattle.rc_cell.specs.declared.writes.Cell.TheVariants.{Live, Dead};
-ghost use Rattle.rc_rowcode.specs.Views.{seen_cell};
+ghost use Rattle.rc_rowcode.specs.calls.Views.{seen_cell};
 
 use crate::numbers::{
     append, append_byte, append_length, append_stamp, append_time, bytes_at, length_at, stamp_at,
@@ -118,18 +118,18 @@ impl CellView<'_> {
 }
 
 /// The tombstone at the front, and what follows it.
-#[tactic(auto, unfolding(crate::specs::Reading::tomb_at))]
+#[tactic(auto, unfolding(crate::specs::calls::Reading::parse_tomb))]
 pub(crate) fn tomb_at(bytes: &[u8]) -> Option<(Tomb, &[u8])>
-    ensures { option_map (λ x. (x.0, x.1.now)) result ≡ tomb_at bytes.now }
+    ensures { option_map (λ x. (x.0, x.1.now)) result ≡ parse_tomb bytes.now }
 {
     let (ts, rest) = stamp_at(bytes)?;
     let (dt, rest) = time_at(rest)?;
     Some((Tomb { ts, dt }, rest))
 }
 
-#[tactic(auto, unfolding(crate::specs::Reading::live_at))]
+#[tactic(auto, unfolding(crate::specs::calls::Reading::parse_live))]
 fn live_at(bytes: &[u8]) -> Option<(CellView<'_>, &[u8])>
-    ensures value { option_map (λ x. (seen_cell x.0, x.1.now)) result ≡ live_at bytes.now }
+    ensures value { option_map (λ x. (seen_cell x.0, x.1.now)) result ≡ parse_live bytes.now }
     ensures fits { IfSome result (λ x. CellFits (seen_cell x.0)) }
 {
     let (ts, rest) = stamp_at(bytes)?;
@@ -138,9 +138,9 @@ fn live_at(bytes: &[u8]) -> Option<(CellView<'_>, &[u8])>
     Some((CellView::Live { ts, value }, rest))
 }
 
-#[tactic(auto, unfolding(crate::specs::Reading::dead_at))]
+#[tactic(auto, unfolding(crate::specs::calls::Reading::parse_dead))]
 fn dead_at(bytes: &[u8]) -> Option<(CellView<'_>, &[u8])>
-    ensures value { option_map (λ x. (seen_cell x.0, x.1.now)) result ≡ dead_at bytes.now }
+    ensures value { option_map (λ x. (seen_cell x.0, x.1.now)) result ≡ parse_dead bytes.now }
     ensures fits { IfSome result (λ x. CellFits (seen_cell x.0)) }
 {
     let (tomb, rest) = tomb_at(bytes)?;
@@ -154,9 +154,9 @@ fn dead_at(bytes: &[u8]) -> Option<(CellView<'_>, &[u8])>
 }
 
 /// The cell at the front, and what follows it.
-#[tactic(auto, unfolding(crate::specs::Reading::cell_at))]
+#[tactic(auto, unfolding(crate::specs::calls::Reading::parse_cell))]
 fn cell_at(bytes: &[u8]) -> Option<(CellView<'_>, &[u8])>
-    ensures value { option_map (λ x. (seen_cell x.0, x.1.now)) result ≡ cell_at bytes.now }
+    ensures value { option_map (λ x. (seen_cell x.0, x.1.now)) result ≡ parse_cell bytes.now }
     ensures fits { IfSome result (λ x. CellFits (seen_cell x.0)) }
 {
     match bytes {
@@ -168,9 +168,9 @@ fn cell_at(bytes: &[u8]) -> Option<(CellView<'_>, &[u8])>
 }
 
 /// The column at the front, from `least` to 31, its cell, and what follows them.
-#[tactic(auto, unfolding(crate::specs::Reading::entry_at))]
+#[tactic(auto, unfolding(crate::specs::calls::Reading::parse_entry))]
 pub(crate) fn entry_at(least: u8, bytes: &[u8]) -> Option<(u8, CellView<'_>, &[u8])>
-    ensures value { option_map (λ x. ((x.0, seen_cell x.1), x.2.now)) result ≡ entry_at least bytes.now }
+    ensures value { option_map (λ x. ((x.0, seen_cell x.1), x.2.now)) result ≡ parse_entry least bytes.now }
     ensures low { IfSome result (λ x. x.0 < 32) }
     ensures fits { IfSome result (λ x. CellFits (seen_cell x.1)) }
 {

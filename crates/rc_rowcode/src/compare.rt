@@ -5,8 +5,8 @@ ghost use Rattle.rc_position.specs.declared.positions.Weight.{Weight};
 ghost use Rattle.rc_position.specs.declared.positions.Pos.{Pos};
 ghost use Rattle.rc_position.specs.Position.{pos_cmp, row_pos, prefix_cmp};
 ghost use Rattle.rc_rowcode.specs.Spelling.{weight_byte, pos_code, IsPos};
-ghost use Rattle.rc_rowcode.specs.Views.{seen_comp};
-ghost use Rattle.rc_rowcode.specs.Comparing.{listed_comps, seen_comps, seen_pos};
+ghost use Rattle.rc_rowcode.specs.calls.Views.{seen_comp};
+ghost use Rattle.rc_rowcode.specs.calls.Comparing.{listed_comps, seen_comps, seen_pos};
 
 use crate::keys::{CompView, comp_at};
 use crate::numbers::byte_at;

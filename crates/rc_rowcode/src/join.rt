@@ -8,8 +8,8 @@ ghost use Rattle.rc_cell.specs.Orders.{cell_cmp};
 ghost use Rattle.rc_cell.specs.Winner.{winner, joined_row};
 ghost use Rattle.rc_cell.specs.Greatest.{greater};
 ghost use Rattle.rc_rowcode.specs.Spelling.{entry_code, row_code, CellFits, IsCodedRow, IsCode};
-ghost use Rattle.rc_rowcode.specs.Views.{seen_cell};
-ghost use Rattle.rc_rowcode.specs.Joining.{listed, seen_entries, seen_row, merged, AreSorted};
+ghost use Rattle.rc_rowcode.specs.calls.Views.{seen_cell};
+ghost use Rattle.rc_rowcode.specs.calls.Joining.{listed, seen_entries, seen_row, merged_cells, AreSorted};
 ghost use Rattle.rc_rowcode.specs.Space.{Space, HasRoom};
 
 use crate::cells::{CellView, append_entry, entry_at};
@@ -76,7 +76,7 @@ fn winning<'a>(ours: CellView<'a>, theirs: CellView<'a>) -> CellView<'a>
 // The cell of the least column that is left, the winner where both have it, and what is left behind it.
 fn step(left: Merge<'_>) -> Option<(u8, CellView<'_>, Merge<'_>)>
     requires { AreSorted left }
-    ensures value { MatchOption result (merged left.entry ≡ []) (λ x. merged left.entry ≡ (x.0, seen_cell x.1) ∷ merged x.2) }
+    ensures value { MatchOption result (merged_cells left.entry ≡ []) (λ x. merged_cells left.entry ≡ (x.0, seen_cell x.1) ∷ merged_cells x.2) }
     ensures sorted { IfSome result (λ x. AreSorted x.2) }
     ensures fits { IfSome result (λ x. CellFits (seen_cell x.1)) }
 {
@@ -123,8 +123,8 @@ fn step(left: Merge<'_>) -> Option<(u8, CellView<'_>, Merge<'_>)>
 // How many columns are left in all.
 fn count_merged(merge: Merge<'_>) -> usize
     requires sorted { AreSorted merge }
-    requires few { length (merged merge) < 2 ^ 32 }
-    ensures { result ≡ length (merged merge.entry) }
+    requires few { length (merged_cells merge) < 2 ^ 32 }
+    ensures { result ≡ length (merged_cells merge.entry) }
 {
     let mut left = merge;
     let mut total = 0;
@@ -138,8 +138,8 @@ fn count_merged(merge: Merge<'_>) -> usize
 // The length of the codes of the winners.
 fn size_merged(merge: Merge<'_>) -> usize
     requires sorted { AreSorted merge }
-    requires small { length (flat_map entry_code (merged merge)) < 2 ^ 32 }
-    ensures { result ≡ length (flat_map entry_code (merged merge.entry)) }
+    requires small { length (flat_map entry_code (merged_cells merge)) < 2 ^ 32 }
+    ensures { result ≡ length (flat_map entry_code (merged_cells merge.entry)) }
 {
     let mut left = merge;
     let mut total = 0;
@@ -153,8 +153,8 @@ fn size_merged(merge: Merge<'_>) -> usize
 // Appends the codes of the winners, for which there is room.
 fn append_merged(out: &mut Vec<u8>, merge: Merge<'_>)
     requires sorted { AreSorted merge }
-    requires enough { length out.old.items + length (flat_map entry_code (merged merge)) ≤ vec_capacity out.old }
-    ensures items { out.new.items ≡ out.old.items ++ flat_map entry_code (merged merge.entry) }
+    requires enough { length out.old.items + length (flat_map entry_code (merged_cells merge)) ≤ vec_capacity out.old }
+    ensures items { out.new.items ≡ out.old.items ++ flat_map entry_code (merged_cells merge.entry) }
     ensures room { vec_capacity out.old ≤ vec_capacity out.new }
 {
     let mut left = merge;
@@ -211,9 +211,9 @@ pub(crate) fn append_parts(
     merge: Merge<'_>,
 )
     requires sorted { AreSorted merge }
-    requires few { length (merged merge) ≤ 32 }
-    requires enough { length out.old.items + length (row_code (record { marker = marker; tomb = tomb; cells = merged merge })) ≤ vec_capacity out.old }
-    ensures items { out.new.items ≡ out.old.items ++ row_code (record { marker = marker; tomb = tomb; cells = merged merge.entry }) }
+    requires few { length (merged_cells merge) ≤ 32 }
+    requires enough { length out.old.items + length (row_code (record { marker = marker; tomb = tomb; cells = merged_cells merge })) ≤ vec_capacity out.old }
+    ensures items { out.new.items ≡ out.old.items ++ row_code (record { marker = marker; tomb = tomb; cells = merged_cells merge.entry }) }
     ensures room { vec_capacity out.old ≤ vec_capacity out.new }
 {
     append_marker(out, marker);

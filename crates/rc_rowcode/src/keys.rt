@@ -5,9 +5,9 @@ ghost use Rattle.std.specs.Option.{option_map};
 ghost use Rattle.std.specs.List.{flat_map, AllByRecursion};
 ghost use Rattle.std.specs.Vec.{vec_capacity};
 ghost use Rattle.rc_position.specs.Position.{comp_cmp};
-ghost use Rattle.rc_rowcode.specs.Spelling.{comp_code, key_code, weight_byte, pos_code, CompFits, KeyFits, IsKey, IsPos, Reads};
-ghost use Rattle.rc_rowcode.specs.Reading.{text_at, comp_at, comps_at, key_at, pos_at};
-ghost use Rattle.rc_rowcode.specs.Views.{seen_comp};
+ghost use Rattle.rc_rowcode.specs.Spelling.{comp_code, key_code, weight_byte, pos_code, CompFits, KeyFits, IsKey, IsPos, ReadsPrefix};
+ghost use Rattle.rc_rowcode.specs.calls.Reading.{parse_text, parse_component, parse_components, parse_key, parse_position};
+ghost use Rattle.rc_rowcode.specs.calls.Views.{seen_comp};
 
 use crate::numbers::{append, append_byte, append_stamp, bytes_at, stamp_at};
 use crate::widths::key_in_range;
@@ -58,9 +58,9 @@ impl CompView<'_> {
     }
 }
 
-#[tactic(auto, unfolding(crate::specs::Reading::text_at))]
+#[tactic(auto, unfolding(crate::specs::calls::Reading::parse_text))]
 fn text_at(bytes: &[u8]) -> Option<(CompView<'_>, &[u8])>
-    ensures { option_map (λ x. (seen_comp x.0, x.1.now)) result ≡ text_at bytes.now }
+    ensures { option_map (λ x. (seen_comp x.0, x.1.now)) result ≡ parse_text bytes.now }
 {
     match bytes {
         [] => None,
@@ -72,9 +72,9 @@ fn text_at(bytes: &[u8]) -> Option<(CompView<'_>, &[u8])>
 }
 
 /// The component at the front, and what follows it.
-#[tactic(auto, unfolding(crate::specs::Reading::comp_at))]
+#[tactic(auto, unfolding(crate::specs::calls::Reading::parse_component))]
 pub(crate) fn comp_at(bytes: &[u8]) -> Option<(CompView<'_>, &[u8])>
-    ensures { option_map (λ x. (seen_comp x.0, x.1.now)) result ≡ comp_at bytes.now }
+    ensures { option_map (λ x. (seen_comp x.0, x.1.now)) result ≡ parse_component bytes.now }
 {
     match bytes {
         [] => None,
@@ -93,7 +93,7 @@ fn comps_at(
     count: u8,
     bytes: &[u8],
 ) -> Result<Option<(Vec<Comp>, &[u8])>, AllocError>
-    ensures { IfOk result (λ found. option_map (λ x. (x.0.items, x.1.now)) found ≡ comps_at count bytes.now) }
+    ensures { IfOk result (λ found. option_map (λ x. (x.0.items, x.1.now)) found ≡ parse_components count bytes.now) }
 {
     let mut comps = Vec::new(alloc);
     let mut rest = bytes;
@@ -108,9 +108,9 @@ fn comps_at(
 }
 
 /// The key at the front, and what follows it.
-#[tactic(auto, unfolding(crate::specs::Reading::key_at))]
+#[tactic(auto, unfolding(crate::specs::calls::Reading::parse_key))]
 fn key_at(alloc: Global, bytes: &[u8]) -> Result<Option<(Key, &[u8])>, AllocError>
-    ensures { IfOk result (λ found. option_map (λ x. (x.0, x.1.now)) found ≡ key_at bytes.now) }
+    ensures { IfOk result (λ found. option_map (λ x. (x.0, x.1.now)) found ≡ parse_key bytes.now) }
 {
     match bytes {
         [] => Ok(None),
@@ -127,9 +127,9 @@ fn key_at(alloc: Global, bytes: &[u8]) -> Result<Option<(Key, &[u8])>, AllocErro
 }
 
 /// The position at the front, and what follows it.
-#[tactic(auto, unfolding(crate::specs::Reading::pos_at))]
+#[tactic(auto, unfolding(crate::specs::calls::Reading::parse_position))]
 fn pos_at(alloc: Global, bytes: &[u8]) -> Result<Option<(Pos, &[u8])>, AllocError>
-    ensures { IfOk result (λ found. option_map (λ x. (x.0, x.1.now)) found ≡ pos_at bytes.now) }
+    ensures { IfOk result (λ found. option_map (λ x. (x.0, x.1.now)) found ≡ parse_position bytes.now) }
 {
     let (weight, rest) = match bytes {
         [0, rest @ ..] => (Weight::Before, rest),
@@ -283,7 +283,7 @@ pub fn write_pos(_alloc: Global, x: &Pos, out: &mut Vec<u8>) -> Result<(), Alloc
 /// The key that the bytes begin with, and the length of its code; none exactly where no prefix of them is a key's code.
 /// The only error is want of memory.
 pub fn read_key(alloc: Global, bytes: &[u8]) -> Result<Option<(Key, usize)>, AllocError>
-    ensures value { IfOk result (λ found. Reads key_code IsKey bytes.now found) }
+    ensures value { IfOk result (λ found. ReadsPrefix key_code IsKey bytes.now found) }
     ensures limits { IfOk result (λ found. IfSome found (λ x. KeyFits x.0)) }
     ensures within { IfOk result (λ found. IfSome found (λ x. x.1 ≤ length bytes.now)) }
 {
@@ -296,7 +296,7 @@ pub fn read_key(alloc: Global, bytes: &[u8]) -> Result<Option<(Key, usize)>, All
 /// The position that the bytes begin with, and the length of its code; none exactly where no prefix of them is a
 /// position's code. The only error is want of memory.
 pub fn read_pos(alloc: Global, bytes: &[u8]) -> Result<Option<(Pos, usize)>, AllocError>
-    ensures value { IfOk result (λ found. Reads pos_code IsPos bytes.now found) }
+    ensures value { IfOk result (λ found. ReadsPrefix pos_code IsPos bytes.now found) }
     ensures limits { IfOk result (λ found. IfSome found (λ x. KeyFits x.0.prefix)) }
     ensures within { IfOk result (λ found. IfSome found (λ x. x.1 ≤ length bytes.now)) }
 {

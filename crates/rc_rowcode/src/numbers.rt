@@ -4,7 +4,7 @@ ghost use Rattle.std.specs.Prelude.{◌≡◌, ◌≤◌, ◌+◌, ◌++◌, [],
 ghost use Rattle.std.specs.Option.{option_map, IfSome};
 ghost use Rattle.std.specs.Vec.{vec_capacity};
 ghost use Rattle.rc_rowcode.specs.Spelling.{stamp_code, time_code, length_code};
-ghost use Rattle.rc_rowcode.specs.Reading.{stamp_at, time_at, length_at, bytes_at};
+ghost use Rattle.rc_rowcode.specs.calls.Reading.{parse_stamp, parse_time, parse_length, parse_bytes};
 
 /// The first byte, and what follows it.
 pub(crate) fn byte_at(bytes: &[u8]) -> Option<(u8, &[u8])>
@@ -17,9 +17,9 @@ pub(crate) fn byte_at(bytes: &[u8]) -> Option<(u8, &[u8])>
 }
 
 /// The timestamp at the front, and what follows it.
-#[tactic(auto, unfolding(crate::specs::Reading::stamp_at))]
+#[tactic(auto, unfolding(crate::specs::calls::Reading::parse_stamp))]
 pub(crate) fn stamp_at(bytes: &[u8]) -> Option<(i64, &[u8])>
-    ensures { option_map (λ x. (x.0, x.1.now)) result ≡ stamp_at bytes.now }
+    ensures { option_map (λ x. (x.0, x.1.now)) result ≡ parse_stamp bytes.now }
 {
     if bytes.len() < 8 {
         return None;
@@ -32,9 +32,9 @@ pub(crate) fn stamp_at(bytes: &[u8]) -> Option<(i64, &[u8])>
 }
 
 /// The deletion time at the front, and what follows it.
-#[tactic(auto, unfolding(crate::specs::Reading::time_at))]
+#[tactic(auto, unfolding(crate::specs::calls::Reading::parse_time))]
 pub(crate) fn time_at(bytes: &[u8]) -> Option<(u32, &[u8])>
-    ensures { option_map (λ x. (x.0, x.1.now)) result ≡ time_at bytes.now }
+    ensures { option_map (λ x. (x.0, x.1.now)) result ≡ parse_time bytes.now }
 {
     if bytes.len() < 4 {
         return None;
@@ -45,9 +45,9 @@ pub(crate) fn time_at(bytes: &[u8]) -> Option<(u32, &[u8])>
 }
 
 /// The length of a value at the front, and what follows it.
-#[tactic(auto, unfolding(crate::specs::Reading::length_at))]
+#[tactic(auto, unfolding(crate::specs::calls::Reading::parse_length))]
 pub(crate) fn length_at(bytes: &[u8]) -> Option<(u16, &[u8])>
-    ensures { option_map (λ x. (x.0, x.1.now)) result ≡ length_at bytes.now }
+    ensures { option_map (λ x. (x.0, x.1.now)) result ≡ parse_length bytes.now }
 {
     if bytes.len() < 2 {
         return None;
@@ -58,9 +58,9 @@ pub(crate) fn length_at(bytes: &[u8]) -> Option<(u16, &[u8])>
 }
 
 /// The first `count` bytes, of which there may be at most `most`, and what follows them.
-#[tactic(auto, unfolding(crate::specs::Reading::bytes_at))]
+#[tactic(auto, unfolding(crate::specs::calls::Reading::parse_bytes))]
 pub(crate) fn bytes_at(most: usize, count: usize, bytes: &[u8]) -> Option<(&[u8], &[u8])>
-    ensures value { option_map (λ x. (x.0.now, x.1.now)) result ≡ bytes_at most count bytes.now }
+    ensures value { option_map (λ x. (x.0.now, x.1.now)) result ≡ parse_bytes most count bytes.now }
     ensures short { IfSome result (λ x. length x.0.now ≤ most) }
 {
     if most < count {

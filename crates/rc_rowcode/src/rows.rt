@@ -5,8 +5,8 @@ ghost use Rattle.std.specs.Option.{option_map};
 ghost use Rattle.std.specs.List.{flat_map, AllByRecursion};
 ghost use Rattle.std.specs.Vec.{vec_capacity};
 ghost use Rattle.rc_cell.specs.Columns.{ascending};
-ghost use Rattle.rc_rowcode.specs.Spelling.{stamp_code, tomb_code, optional_code, entry_code, cells_code, row_code, EntryFits, RowFits, IsTomb, IsCodedRow, Reads};
-ghost use Rattle.rc_rowcode.specs.Reading.{stamp_at, tomb_at, optional_at, entries_at, cells_at, row_at};
+ghost use Rattle.rc_rowcode.specs.Spelling.{stamp_code, tomb_code, optional_code, entry_code, cells_code, row_code, EntryFits, RowFits, IsTomb, IsCodedRow, ReadsPrefix};
+ghost use Rattle.rc_rowcode.specs.calls.Reading.{parse_stamp, parse_tomb, parse_optional, parse_entries, parse_cells, parse_row};
 
 use crate::cells::{CellView, append_entry, append_tomb, entry_at, tomb_at};
 use crate::numbers::{append_byte, append_stamp, stamp_at};
@@ -15,9 +15,9 @@ use rc_cell::{Cell, Cells, Row, Tomb};
 use std::alloc::{AllocError, Global};
 
 /// The marker at the front, if there is one, and what follows it.
-#[tactic(auto, unfolding(crate::specs::Reading::optional_at))]
+#[tactic(auto, unfolding(crate::specs::calls::Reading::parse_optional))]
 pub(crate) fn marker_at(bytes: &[u8]) -> Option<(Option<i64>, &[u8])>
-    ensures { option_map (λ x. (x.0, x.1.now)) result ≡ optional_at stamp_at bytes.now }
+    ensures { option_map (λ x. (x.0, x.1.now)) result ≡ parse_optional parse_stamp bytes.now }
 {
     match bytes {
         [] => None,
@@ -31,9 +31,9 @@ pub(crate) fn marker_at(bytes: &[u8]) -> Option<(Option<i64>, &[u8])>
 }
 
 /// The row's tombstone at the front, if there is one, and what follows it.
-#[tactic(auto, unfolding(crate::specs::Reading::optional_at))]
+#[tactic(auto, unfolding(crate::specs::calls::Reading::parse_optional))]
 pub(crate) fn row_tomb_at(bytes: &[u8]) -> Option<(Option<Tomb>, &[u8])>
-    ensures { option_map (λ x. (x.0, x.1.now)) result ≡ optional_at tomb_at bytes.now }
+    ensures { option_map (λ x. (x.0, x.1.now)) result ≡ parse_optional parse_tomb bytes.now }
 {
     match bytes {
         [] => None,
@@ -52,7 +52,7 @@ fn entries_at(
     count: u8,
     bytes: &[u8],
 ) -> Result<Option<(Vec<(u8, Cell)>, &[u8])>, AllocError>
-    ensures value { IfOk result (λ found. option_map (λ x. (x.0.items, x.1.now)) found ≡ entries_at count 0 bytes.now) }
+    ensures value { IfOk result (λ found. option_map (λ x. (x.0.items, x.1.now)) found ≡ parse_entries count 0 bytes.now) }
     ensures ascending { IfOk result (λ found. IfSome found (λ x. IsTrue (ascending x.0.items))) }
 {
     let mut cells = Vec::new(alloc);
@@ -71,9 +71,9 @@ fn entries_at(
 }
 
 /// The cells at the front, and what follows them.
-#[tactic(auto, unfolding(crate::specs::Reading::cells_at))]
+#[tactic(auto, unfolding(crate::specs::calls::Reading::parse_cells))]
 fn cells_at(alloc: Global, bytes: &[u8]) -> Result<Option<(Cells, &[u8])>, AllocError>
-    ensures { IfOk result (λ found. option_map (λ x. (x.0, x.1.now)) found ≡ cells_at bytes.now) }
+    ensures { IfOk result (λ found. option_map (λ x. (x.0, x.1.now)) found ≡ parse_cells bytes.now) }
 {
     match bytes {
         [] => Ok(None),
@@ -87,9 +87,9 @@ fn cells_at(alloc: Global, bytes: &[u8]) -> Result<Option<(Cells, &[u8])>, Alloc
 }
 
 /// The row at the front, and what follows it.
-#[tactic(auto, unfolding(crate::specs::Reading::row_at))]
+#[tactic(auto, unfolding(crate::specs::calls::Reading::parse_row))]
 fn row_at(alloc: Global, bytes: &[u8]) -> Result<Option<(Row, &[u8])>, AllocError>
-    ensures { IfOk result (λ found. option_map (λ x. (x.0, x.1.now)) found ≡ row_at bytes.now) }
+    ensures { IfOk result (λ found. option_map (λ x. (x.0, x.1.now)) found ≡ parse_row bytes.now) }
 {
     let Some((marker, rest)) = marker_at(bytes) else {
         return Ok(None);
@@ -262,7 +262,7 @@ pub fn write_tomb(_alloc: Global, tomb: &Tomb, out: &mut Vec<u8>) -> Result<(), 
 /// The row that the bytes begin with, and the length of its code; none exactly where no prefix of them is a row's code.
 /// The only error is want of memory.
 pub fn read_row(alloc: Global, bytes: &[u8]) -> Result<Option<(Row, usize)>, AllocError>
-    ensures value { IfOk result (λ found. Reads row_code IsCodedRow bytes.now found) }
+    ensures value { IfOk result (λ found. ReadsPrefix row_code IsCodedRow bytes.now found) }
     ensures limits { IfOk result (λ found. IfSome found (λ x. RowFits x.0)) }
     ensures within { IfOk result (λ found. IfSome found (λ x. x.1 ≤ length bytes.now)) }
 {
@@ -275,7 +275,7 @@ pub fn read_row(alloc: Global, bytes: &[u8]) -> Result<Option<(Row, usize)>, All
 /// The tombstone that the bytes begin with, and the length of its code, 12; none exactly where no prefix of them is a
 /// tombstone's code, as where there are fewer bytes. It takes no memory.
 pub fn read_tomb(_alloc: Global, bytes: &[u8]) -> Result<Option<(Tomb, usize)>, AllocError>
-    ensures value { IfOk result (λ found. Reads tomb_code IsTomb bytes.now found) }
+    ensures value { IfOk result (λ found. ReadsPrefix tomb_code IsTomb bytes.now found) }
     ensures answers { IsOk result }
 {
     let Some((tomb, rest)) = tomb_at(bytes) else {

@@ -3,7 +3,7 @@
 ghost use Rattle.std.specs.Prelude.{◌≡◌, ◌++◌, ◌≤◌, ◌+◌, [], length, IfOk};
 ghost use Rattle.std.specs.Vec.{vec_capacity};
 ghost use Rattle.rc_rowcode.specs.Spelling.{key_code, pos_code, row_code, KeyFits, RowFits, IsKey, IsPos, IsCodedRow};
-ghost use Rattle.rc_rowcode.specs.Joining.{merged, AreSorted};
+ghost use Rattle.rc_rowcode.specs.calls.Joining.{merged_cells, AreSorted};
 ghost use Rattle.rc_rowcode.specs.Space.{Space, HasRoom};
 
 use crate::join::{Merge, append_parts};
@@ -103,9 +103,9 @@ impl Scratch {
     // Appends the code of a row of these parts, which fits.
     pub(crate) fn put_parts(&mut self, marker: Option<i64>, tomb: Option<Tomb>, merge: Merge<'_>)
         requires sorted { AreSorted merge }
-        requires few { length (merged merge) ≤ 32 }
-        requires room { HasRoom self.old (length (row_code (record { marker = marker; tomb = tomb; cells = merged merge }))) }
-        ensures { self.new ≡ record { bytes = self.old.bytes ++ row_code (record { marker = marker; tomb = tomb; cells = merged merge.entry }); size = self.old.size } }
+        requires few { length (merged_cells merge) ≤ 32 }
+        requires room { HasRoom self.old (length (row_code (record { marker = marker; tomb = tomb; cells = merged_cells merge }))) }
+        ensures { self.new ≡ record { bytes = self.old.bytes ++ row_code (record { marker = marker; tomb = tomb; cells = merged_cells merge.entry }); size = self.old.size } }
     {
         append_parts(&mut self.items, marker, tomb, merge);
     }

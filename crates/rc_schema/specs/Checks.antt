@@ -9,11 +9,12 @@ use Rattle.rc_schema.specs.declared.kinds.CkKind.{CkKind}
 use Rattle.rc_schema.specs.declared.kinds.CkKind.TheVariants.{Int, Text}
 use Rattle.rc_schema.specs.declared.checks.SchemaErr.{SchemaErr}
 use Rattle.rc_schema.specs.declared.checks.SchemaErr.TheVariants.{WrongKey, UnknownColumn, TooLong}
-use Rattle.rc_schema.specs.Lists.{Lists, is_text}
+use Rattle.rc_schema.specs.SchemaValue.{SchemaValue}
+use Rattle.rc_spelling.specs.Words.{is_word}
 
 -- the number of a name among names
 abbrev pub column_of : List ℕ → List (List ℕ) → Option ℕ
-column_of name names = position (λ other. is_text other name) names
+column_of name names = position (λ other. is_word other name) names
 
 -- the component is of the kind
 abbrev pub is_of_kind : Comp → CkKind → Bool
@@ -43,15 +44,15 @@ has_short_value (Live ts value) = nat_le (length value) 256
 has_short_value (Dead ts dt) = true
 
 -- what is wrong with a key, or with a prefix of one
-unfoldable pub checked_prefix : Bool → Lists → List Comp → Result (Unit {0}) SchemaErr
+unfoldable pub checked_prefix : Bool → SchemaValue → List Comp → Result (Unit {0}) SchemaErr
 checked_prefix full schema key =
     if fits_kinds full schema.ck key then (if list_all is_short key then Ok tt else Err TooLong) else Err WrongKey
 
 -- how many columns a row may have
-abbrev pub columns : Bool → Lists → ℕ
-columns is_static schema = if is_static then length schema.statics else length schema.cols
+abbrev pub column_count : Bool → SchemaValue → ℕ
+column_count is_static schema = if is_static then length schema.statics else length schema.cols
 
 -- what is wrong with the cells of a row
-unfoldable pub checked_cells : Bool → Lists → List (ℕ × Cell) → Result (Unit {0}) SchemaErr
+unfoldable pub checked_cells : Bool → SchemaValue → List (ℕ × Cell) → Result (Unit {0}) SchemaErr
 checked_cells is_static schema cells =
-    if list_all (λ e. nat_lt e.0 (columns is_static schema)) cells then (if list_all (λ e. has_short_value e.1) cells then Ok tt else Err TooLong) else Err UnknownColumn
+    if list_all (λ e. nat_lt e.0 (column_count is_static schema)) cells then (if list_all (λ e. has_short_value e.1) cells then Ok tt else Err TooLong) else Err UnknownColumn

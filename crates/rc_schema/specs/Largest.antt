@@ -3,7 +3,7 @@ use Rattle.std.specs.Prelude.{ℕ, ◌+◌, ◌*◌, List, [], ◌∷◌, length
 use Rattle.rc_rowcode.specs.Objects.{up8}
 use Rattle.rc_schema.specs.declared.kinds.CkKind.{CkKind}
 use Rattle.rc_schema.specs.declared.kinds.CkKind.TheVariants.{Int, Text}
-use Rattle.rc_schema.specs.Lists.{Lists}
+use Rattle.rc_schema.specs.SchemaValue.{SchemaValue}
 
 -- the longest code of a component of the kind: of a number, or of a text of 64 bytes
 abbrev pub component_size : CkKind → ℕ
@@ -24,9 +24,9 @@ abbrev pub cells_size : ℕ → ℕ
 cells_size columns = 268 * columns
 
 -- the largest entry: of the longest position, and a row with a marker, a tombstone and a live cell of each column
-abbrev pub largest_entry : Lists → ℕ
+abbrev pub largest_entry : SchemaValue → ℕ
 largest_entry s = up8 (80 + (position_size s.ck + (9 + (13 + (1 + cells_size (length s.cols))))))
 
 -- the largest static row, which has no marker and no tombstone
-abbrev pub largest_static : Lists → ℕ
+abbrev pub largest_static : SchemaValue → ℕ
 largest_static s = up8 (32 + (1 + (1 + (1 + cells_size (length s.statics)))))

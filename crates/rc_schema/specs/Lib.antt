@@ -1,6 +1,5 @@
-pub mod Lists
+pub mod SchemaValue
 pub mod SchemaText
 pub mod Checks
-pub mod SchemaLaws
 pub mod Largest
-pub mod Laws
+pub mod laws

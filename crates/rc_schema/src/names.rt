@@ -2,13 +2,14 @@
 
 ghost use Rattle.std.specs.Prelude.{◌≡◌, ◌++◌, IfOk, map};
 ghost use Rattle.std.specs.List.{list_all, list_any};
-ghost use Rattle.rc_schema.specs.Lists.{is_text, is_name_byte, is_name, are_distinct_by, are_names};
+ghost use Rattle.rc_schema.specs.SchemaValue.{is_name_byte, is_name, are_distinct_by, are_names};
+ghost use Rattle.rc_spelling.specs.Words.{is_word};
 
 use std::alloc::{AllocError, Global};
 
 /// Whether two texts are the same bytes.
 pub(crate) fn is_text(text: &[u8], other: &[u8]) -> bool
-    ensures { result ≡ is_text text.now other.now }
+    ensures { result ≡ is_word text.now other.now }
 {
     text == other
 }
@@ -41,14 +42,14 @@ fn is_name(text: &[u8]) -> bool
 
 /// Whether the name stands among others.
 fn is_among(name: &[u8], others: &[&[u8]]) -> bool
-    ensures { result ≡ list_any (λ other. is_text name.now other.now) others.now }
+    ensures { result ≡ list_any (λ other. is_word name.now other.now) others.now }
 {
     others.iter().any(|other| is_text(name, other))
 }
 
 /// Whether no name stands there twice.
 fn are_distinct(names: &[&[u8]]) -> bool
-    ensures { result ≡ are_distinct_by (λ x y. is_text x.now y.now) names.now }
+    ensures { result ≡ are_distinct_by (λ x y. is_word x.now y.now) names.now }
 {
     let mut rest = names;
     loop {

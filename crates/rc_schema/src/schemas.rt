@@ -2,10 +2,10 @@
 
 ghost use Rattle.std.specs.Prelude.{◌≡◌, ◌↔◌, ◌++◌, ◌&&◌, IfOk, IsTrue, OnOk, Some, None, map, nat_le, length, ◌≤◌, ◌<◌, IfSome};
 ghost use Rattle.std.specs.List.{list_all, join_with_byte};
-ghost use Rattle.rc_schema.specs.Lists.{Lists, are_few, are_names, is_schema};
-ghost use Rattle.rc_schema.specs.SchemaText.{schema_text, kind_text, names_text, lists_named, are_listed, listed, marked, schema_of_words, schema_of, Reads};
+ghost use Rattle.rc_schema.specs.SchemaValue.{SchemaValue, are_few, are_names, is_schema};
+ghost use Rattle.rc_schema.specs.SchemaText.{schema_text, kind_text, names_text, lists_named, are_listed, schema_listed, marked, schema_of_words, schema_of, ReadsSchema};
 ghost use Rattle.rc_rowcode.specs.Spelling.{KeyFits, RowFits};
-ghost use Rattle.rc_schema.specs.Checks.{column_of, checked_prefix, checked_cells, columns};
+ghost use Rattle.rc_schema.specs.Checks.{column_of, checked_prefix, checked_cells, column_count};
 ghost use Rattle.rc_schema.specs.Largest.{component_size, components_size, largest_entry, largest_static};
 
 use crate::checks::{SchemaErr, are_known, are_short, fits_kinds, have_short_values};
@@ -42,9 +42,9 @@ pub struct Schema {
 
 impl Model for Schema {
     ghost use Rattle.std.specs.Prelude.{IsTrue};
-    ghost use Rattle.rc_schema.specs.Lists.{Lists, is_schema};
+    ghost use Rattle.rc_schema.specs.SchemaValue.{SchemaValue, is_schema};
 
-    ghost Value = { Lists };
+    ghost Value = { SchemaValue };
 
     ghost view = { λ s. record { ck = s.ck.items; statics = s.statics.items; cols = s.cols.items } };
 
@@ -118,14 +118,14 @@ fn made(
 }
 
 /// The schema of KINDS, NAMES and NAMES.
-#[tactic(auto, unfolding(crate::specs::SchemaText::listed))]
+#[tactic(auto, unfolding(crate::specs::SchemaText::schema_listed))]
 fn listed(
     alloc: Global,
     ck: &[u8],
     statics: &[u8],
     cols: &[u8],
 ) -> Result<Option<Schema>, AllocError>
-    ensures { IfOk result (λ found. found ≡ listed ck.now statics.now cols.now) }
+    ensures { IfOk result (λ found. found ≡ schema_listed ck.now statics.now cols.now) }
 {
     let ck = items(alloc, ck)?;
     let statics = names(alloc, statics)?;
@@ -185,7 +185,7 @@ impl Schema {
     /// The schema of its text, `ck=KINDS static=NAMES cols=NAMES`. Malformed exactly where the text is not in that form
     /// or passes a limit; else the only error is want of memory.
     pub fn read(alloc: Global, text: &[u8]) -> Result<Self, SchemaTextErr>
-        ensures { Reads result (schema_of text.now) }
+        ensures { ReadsSchema result (schema_of text.now) }
     {
         match found(alloc, text) {
             Ok(Some(schema)) => Ok(schema),

@@ -2,7 +2,8 @@
 
 ghost use Rattle.std.specs.Prelude.{◌≡◌, IfOk, IsTrue, map, ◌==◌, codes};
 ghost use Rattle.std.specs.List.{list_all, slice_split};
-ghost use Rattle.rc_schema.specs.SchemaText.{words, items, is_kind, kind_of, names_of, begins};
+ghost use Rattle.rc_schema.specs.SchemaText.{items, is_kind, kind_named, names_of, begins};
+ghost use Rattle.rc_spelling.specs.Words.{words};
 
 use crate::kinds::CkKind;
 use crate::names::is_text;
@@ -48,7 +49,7 @@ pub(crate) fn are_kinds(words: &[&[u8]]) -> bool
 
 /// The kind that a word names.
 fn kind(word: &[u8]) -> CkKind
-    ensures { result ≡ kind_of word.now }
+    ensures { result ≡ kind_named word.now }
 {
     if is_text(word, b"int") {
         CkKind::Int
@@ -59,7 +60,7 @@ fn kind(word: &[u8]) -> CkKind
 
 /// The kinds that words name.
 pub(crate) fn kinds(alloc: Global, words: &[&[u8]]) -> Result<Vec<CkKind>, AllocError>
-    ensures { IfOk result (λ made. made.items ≡ map (λ word. kind_of word.now) words.now) }
+    ensures { IfOk result (λ made. made.items ≡ map (λ word. kind_named word.now) words.now) }
 {
     words.iter().map(|word| kind(word)).collect(alloc)
 }

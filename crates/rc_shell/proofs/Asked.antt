@@ -2,7 +2,7 @@
 use Rattle.std.proofs.Common.{◌≡◌, ℕ, ◌+◌, ◌-◌, ◌≤◌, List, [], ◌∷◌, Some, None, sym, subst, le_refl, arith}
 use Rattle.rc_shell.specs.Run.{Answers}
 use Rattle.rc_shell.specs.Holding.{OfLines}
-use Rattle.rc_shell.specs.Step.{Moment, Stage, Seen, Waiting, Serving, LineStep, MayHaveAsked, start}
+use Rattle.rc_shell.specs.Step.{Moment, Stage, StoreView, Waiting, Serving, LineStep, MayHaveAsked, start_moment}
 use Rattle.rc_shell.specs.declared.status.Status.{Status}
 use Rattle.rc_shell.specs.declared.words.Words.{Words}
 
@@ -31,7 +31,7 @@ none_before : (a b n : ℕ) → n ≤ a + (b - 0) → n ≤ a + b
 none_before a b n le = omega (arith, le)
 
 -- so of a run
-pub asked_of_run : (words : Words) (before after : Seen) (status : Status) (taken written : List ℕ) (l : OfLines words before after status taken written)
+pub asked_of_run : (words : Words) (before after : StoreView) (status : Status) (taken written : List ℕ) (l : OfLines words before after status taken written)
     → MayHaveAsked l.end.stage (before.2 + l.end.bound) after.2
 asked_of_run words before after status taken written l =
-    further_asked l.end.stage before.2 l.end.asks l.end.bound after.2 (none_before before.2 l.end.bound l.end.asks (asked (start words before) l.end l.lines l.texts l.answered).1) l.leaves.2
+    further_asked l.end.stage before.2 l.end.asks l.end.bound after.2 (none_before before.2 l.end.bound l.end.asks (asked (start_moment words before) l.end l.lines l.texts l.answered).1) l.leaves.2

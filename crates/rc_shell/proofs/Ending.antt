@@ -4,9 +4,9 @@ use Rattle.std.proofs.lemmas.List.{append-nil, length-take}
 use Rattle.std.specs.Io.KnownBytes.{Appends, Consumes, Keeps, IsAtEnd}
 use Rattle.std.proofs.KnownBytes.{Appends-trans, Appends-nil, Consumes-trans, Consumes-nil, Consumes-kept}
 use Rattle.rc_outside.specs.Faults.{Rose}
-use Rattle.rc_shell.specs.Lines.{IsLine, IsNext, last_line}
-use Rattle.rc_shell.specs.Run.{IsWhole, IsWritten, Answers, Served, IsEnded, WasRead, Due, Ran, Caused, concat, bad_words, input_fault, input_limit, piece_size}
-use Rattle.rc_shell.specs.Feed.{FaultsAfter, DueOfLine, DueOfBytes, ServedLine, ServedLast, Serves, SoFar, EndedBy, kept}
+use Rattle.rc_shell.specs.Lines.{IsLine, IsNextLine, last_line}
+use Rattle.rc_shell.specs.Run.{IsWhole, IsWritten, Answers, Served, IsEnded, WasRead, Due, Ran, EndedBecause, concat, bad_words, input_fault, input_limit, piece_size}
+use Rattle.rc_shell.specs.calls.Feed.{FaultsAfter, DueOfLine, DueOfBytes, ServedLine, ServedLast, Serves, SoFar, EndedBy, kept}
 use Rattle.rc_shell.specs.Status.{status_of}
 use Rattle.rc_shell.specs.declared.status.Ending.TheVariants.{BadTable, StoreFault}
 use Rattle.rc_shell.specs.declared.status.Stop.{Stop}
@@ -32,13 +32,13 @@ last_line-some [] some = absurd (some refl)
 last_line-some (x ∷ xs) some = refl
 
 -- why a run ended that stopped in the middle of the input
-caused_by : (stop : Stop) (i i' o o' : ℕ) → i' ≡ i → FaultsAfter stop o o' → Caused (status_of stop) i i' o o'
+caused_by : (stop : Stop) (i i' o o' : ℕ) → i' ≡ i → FaultsAfter stop o o' → EndedBecause (status_of stop) i i' o o'
 caused_by NoMemory i i' o o' same e = e
 caused_by OutputFault i i' o o' same rose = rose
 caused_by (Ended BadTable) i i' o o' same e = (same, e)
 caused_by (Ended StoreFault) i i' o o' same e = (same, e)
 
-next_of_any : (AreLast : Type 0) (more line : List ℕ) → IsNext ⊥ more line → IsNext AreLast more line
+next_of_any : (AreLast : Type 0) (more line : List ℕ) → IsNextLine ⊥ more line → IsNextLine AreLast more line
 next_of_any AreLast more line (is, inl e) = (is, inl e)
 next_of_any AreLast more line (is, inr e) = absurd e.1
 
@@ -142,7 +142,7 @@ module _ {State Seen : Type 0} (Step : State → List ℕ → List ℕ → State
   -- a last line was due, and pushing it was the end
   last_pushed : (words : Words) (start : State) (limit : ℕ) (due status : Status) (taken line text : List ℕ) (texts : List (List ℕ)) (left left' written between written' : Option (List ℕ)) (after : Seen) (i i' o o1 o2 : ℕ)
       → ((t : List ℕ) → IsWhole (Due Step Ends Leaves words start limit left' taken after) due t → IsWritten (Due Step Ends Leaves words start limit left' taken after) due t)
-      → (o2 ≡ o → Caused due i i' o o2)
+      → (o2 ≡ o → EndedBecause due i i' o o2)
       → Due Step Ends Leaves words start limit left' taken after due (texts ++ line ∷ [])
       → Consumes left left' taken → Appends written between text → text ≡ concat texts → o1 ≡ o
       → EndedBy due line between written' o1 o2 status

@@ -4,47 +4,46 @@ use Rattle.std.specs.Prelude.{All, codes, if◌then◌else◌}
 use Rattle.std.specs.FinMap as finite
 use Rattle.std.proofs.lemmas.List.{take-append-drop}
 use Rattle.rc_outside.specs.Files.{Files}
-use Rattle.rc_schema.specs.Lists.{Lists}
+use Rattle.rc_schema.specs.SchemaValue.{SchemaValue}
 use Rattle.rc_mutation.specs.declared.mutations.Write.{Write}
-use Rattle.rc_spelling.specs.Words.{words}
+use Rattle.rc_spelling.specs.Words.{words, is_word}
 use Rattle.rc_tfile.specs.declared.info.TableInfo.{TableInfo}
 use Rattle.rc_lines.specs.declared.commands.Command.{Command}
 use Rattle.rc_lines.specs.declared.commands.Command.TheVariants.{Nothing, SetSchema, Put, OpenRead, Read, Close, Flush as FlushAll, FlushBegin, FlushStep, Evict, Compact, Clean, Stats}
 use Rattle.rc_lines.specs.declared.commands.Refusal.{Refusal}
 use Rattle.rc_lines.specs.declared.commands.Refusal.TheVariants.{BadLine, NoSchema, SchemaDiffers, WrongKey, UnknownColumn, TooLong, NoReader, ReaderInUse, TooManyReaders, FlushInProgress, NothingToFlush, NoFlush, Full, ReadFault, WriteFault, Damaged, NoNumber}
 use Rattle.rc_lines.specs.declared.commands.Reply.{Reply}
-use Rattle.rc_lines.specs.Grammar.{longest_line, is_comment, schema_said, shape_meaning, said, parse}
+use Rattle.rc_lines.specs.Grammar.{longest_line, is_comment, schema_said, shape_meaning, line_meaning, parse}
 use Rattle.rc_lines.specs.Shapes.{shape_of}
-use Rattle.rc_lines.specs.Parts.{is_word}
 use Rattle.rc_lines.specs.Texts.{reply_text, refusal_text, damage_text}
 use Rattle.rc_tfile.specs.TableText.{IsTable}
-use Rattle.rc_machine.specs.State.{State, Table, numbers, opened}
+use Rattle.rc_machine.specs.State.{State, Table, numbers, opened_state}
 use Rattle.rc_machine.specs.Steps.{Steps}
 use Rattle.rc_machine.specs.Tables.{AreTables}
 use Rattle.rc_machine.specs.Flushed.{Flush, HasFlushed, IsFlushOf, AreNext, accepted_by, tables_of, writes_of, files_with, in_tables}
-use Rattle.rc_machine.specs.Laws.Folder.{IsPut, files_kept, files_new, one_of, writes_around}
-use Rattle.rc_machine.specs.Laws.Changes.{change_of}
-use Rattle.rc_machine.specs.Laws.Holding.{holds_at_first, holds_on, grows, schema_stays}
+use Rattle.rc_machine.specs.laws.Folder.{IsPut, files_kept, files_new, one_of, writes_around}
+use Rattle.rc_machine.specs.laws.Changes.{change_of}
+use Rattle.rc_machine.specs.laws.Holding.{holds_at_first, holds_on, grows, schema_stays}
 use Rattle.rc_shell.specs.Run.{Answers}
-use Rattle.rc_shell.specs.Step.{Moment, Stage, Seen, Waiting, Serving, EarlyStep, MachineStep, StageStep, LineStep, files_of, meaning_at, served, start}
+use Rattle.rc_shell.specs.Step.{Moment, Stage, StoreView, Waiting, Serving, EarlyStep, MachineStep, StageStep, LineStep, files_of, meaning_at, served, start_moment}
 use Rattle.rc_shell.specs.Holding.{OfLines, HoldsFlushed, IsFlushedFile, IsRunOf, write_accepted, accepted_writes}
 use Rattle.rc_shell.specs.declared.status.Status.{Status}
 use Rattle.rc_shell.specs.declared.words.Words.{Words}
 use Rattle.rc_shell.proofs.Served.{served_ok}
 
 -- the machine that is served at a stage was opened over files, and has flushed so far; it holds the accepted writes
-pub record Serves (files : Option Files) (m : State) (all : Lists → List Write) : Type 0 where
+pub record Serves (files : Option Files) (m : State) (all : SchemaValue → List Write) : Type 0 where
   pub segments : ℕ
-  pub schema : Lists
+  pub schema : SchemaValue
   pub tables : List Table
   pub infos : List TableInfo
   pub are : AreTables files schema tables
   pub flushes : List Flush
-  pub has : HasFlushed (opened segments files schema tables infos) m flushes
+  pub has : HasFlushed (opened_state segments files schema tables infos) m flushes
   pub log : m.log ≡ all m.schema
 
-abbrev pub AtStage : Option Files → Stage → (Lists → List Write) → Type 0
-AtStage files (Waiting now) all = (now ≡ files) × ((schema : Lists) → all schema ≡ [])
+abbrev pub AtStage : Option Files → Stage → (SchemaValue → List Write) → Type 0
+AtStage files (Waiting now) all = (now ≡ files) × ((schema : SchemaValue) → all schema ≡ [])
 AtStage files (Serving m) all = Serves files m all
 
 -- a refusal does not say that a write was accepted
@@ -85,20 +84,20 @@ unaccepted (Ok (Clean count)) text other = refl
 unaccepted (Ok Stats) text other = refl
 
 -- a schema line accepts no write under any schema
-no_write_said : (line : List ℕ) (found : Option Lists) (schema z : Lists) (text : List ℕ) → said None line found ≡ Ok (SetSchema schema) → write_accepted (said (Some z) line found) text ≡ []
+no_write_said : (line : List ℕ) (found : Option SchemaValue) (schema z : SchemaValue) (text : List ℕ) → line_meaning None line found ≡ Ok (SetSchema schema) → write_accepted (line_meaning (Some z) line found) text ≡ []
 no_write_said line (Some other) schema z text e = refl
 no_write_said line None schema z text e = absurd (elim (shape_of (words line)) as (λ shape. shape_meaning None shape ≡ Ok (SetSchema schema) → ⊥) [ None ↦ λ n. cc | Some shape ↦ λ n. cc ] e)
 
-no_write_meant : (long comment : Bool) (early late : Result Command Refusal) (schema : Lists) (text : List ℕ) → (early ≡ Ok (SetSchema schema) → write_accepted late text ≡ [])
+no_write_meant : (long comment : Bool) (early late : Result Command Refusal) (schema : SchemaValue) (text : List ℕ) → (early ≡ Ok (SetSchema schema) → write_accepted late text ≡ [])
     → (if long then Err BadLine else if comment then Ok Nothing else early) ≡ Ok (SetSchema schema) → write_accepted (if long then Err BadLine else if comment then Ok Nothing else late) text ≡ []
 no_write_meant true comment early late schema text f e = refl
 no_write_meant false true early late schema text f e = refl
 no_write_meant false false early late schema text f e = f e
 
-no_write_at_schema : (line : List ℕ) (schema z : Lists) (text : List ℕ) → parse None line ≡ Ok (SetSchema schema) → write_accepted (parse (Some z) line) text ≡ []
+no_write_at_schema : (line : List ℕ) (schema z : SchemaValue) (text : List ℕ) → parse None line ≡ Ok (SetSchema schema) → write_accepted (parse (Some z) line) text ≡ []
 unfolding parse
 no_write_at_schema line schema z text e =
-    no_write_meant (nat_lt longest_line (length line)) (is_comment line) (said None line (schema_said line)) (said (Some z) line (schema_said line)) schema text (no_write_said line (schema_said line) schema z text) e
+    no_write_meant (nat_lt longest_line (length line)) (is_comment line) (line_meaning None line (schema_said line)) (line_meaning (Some z) line (schema_said line)) schema text (no_write_said line (schema_said line) schema z text) e
 
 -- what a step accepts is what the text says
 taken_write : (m : State) (command : Command) (reply : Reply) (new : State) → Steps m command reply new → write_accepted (Ok command) (reply_text m.schema reply) ≡ accepted_by command reply
@@ -123,17 +122,17 @@ none_more : (before line : List Write) → before ≡ [] → line ≡ [] → bef
 none_more before line e f = ap (λ ws. ws ++ line) e ∙ f
 
 -- what is accepted behind a line
-abbrev and_line : (Lists → List Write) → List ℕ → List ℕ → Lists → List Write
+abbrev and_line : (SchemaValue → List Write) → List ℕ → List ℕ → SchemaValue → List Write
 and_line all line text schema = all schema ++ write_accepted (parse (Some schema) line) text
 
-module _ (files : Option Files) (segments : ℕ) (line text : List ℕ) (all : Lists → List Write) where
+module _ (files : Option Files) (segments : ℕ) (line text : List ℕ) (all : SchemaValue → List Write) where
   -- the machine waits still
-  waits : (new : Stage) → new ≡ Waiting files → ((schema : Lists) → all schema ≡ []) → is_word text (codes "ok\n") ≡ false → AtStage files new (and_line all line text)
+  waits : (new : Stage) → new ≡ Waiting files → ((schema : SchemaValue) → all schema ≡ []) → is_word text (codes "ok\n") ≡ false → AtStage files new (and_line all line text)
   waits new e none other = subst (λ st. AtStage files st (and_line all line text)) (sym e) (refl, λ schema. none_more (all schema) _ (none schema) (unaccepted (parse (Some schema) line) text other))
 
   -- the machine is opened
-  opens : (new : Stage) (schema : Lists) (tables : List Table) (infos : List TableInfo) → AreTables files schema tables → new ≡ Serving (opened segments files schema tables infos) → parse None line ≡ Ok (SetSchema schema)
-      → ((schema : Lists) → all schema ≡ []) → AtStage files new (and_line all line text)
+  opens : (new : Stage) (schema : SchemaValue) (tables : List Table) (infos : List TableInfo) → AreTables files schema tables → new ≡ Serving (opened_state segments files schema tables infos) → parse None line ≡ Ok (SetSchema schema)
+      → ((schema : SchemaValue) → all schema ≡ []) → AtStage files new (and_line all line text)
   opens new schema tables infos are e p none = subst (λ st. AtStage files st (and_line all line text)) (sym e) (record {
     segments = segments;
     schema = schema;
@@ -141,11 +140,11 @@ module _ (files : Option Files) (segments : ℕ) (line text : List ℕ) (all : L
     infos = infos;
     are = are;
     flushes = [];
-    has = holds_at_first (opened segments files schema tables infos) refl refl refl;
+    has = holds_at_first (opened_state segments files schema tables infos) refl refl refl;
     log = sym (none_more (all schema) _ (none schema) (no_write_at_schema line schema schema text p));
   })
 
-  waiting : (meaning : Result Command Refusal) (new : Stage) → served (parse None line) ≡ meaning → ((schema : Lists) → all schema ≡ []) → EarlyStep segments files meaning text new → AtStage files new (and_line all line text)
+  waiting : (meaning : Result Command Refusal) (new : Stage) → served (parse None line) ≡ meaning → ((schema : SchemaValue) → all schema ≡ []) → EarlyStep segments files meaning text new → AtStage files new (and_line all line text)
   waiting (Ok Nothing) new p none s = waits new s.1 none (ap (λ t. is_word t (codes "ok\n")) s.0)
   waiting (Ok (SetSchema schema)) new p none s = opens new schema s.0 s.1 s.2 s.5 (served_ok (parse None line) (SetSchema schema) p) none
   waiting (Err refusal) new p none s = waits new s.1 none (ap (λ t. is_word t (codes "ok\n")) s.0 ∙ not_ok refusal)
@@ -157,7 +156,7 @@ module _ (files : Option Files) (segments : ℕ) (line text : List ℕ) (all : L
         → AtStage files new (and_line all line text)
     takes command reply next new p step e f =
         let change = change_of m command reply next step in
-        let more = holds_on (opened h.segments files h.schema h.tables h.infos) m command reply next h.flushes h.has change in
+        let more = holds_on (opened_state h.segments files h.schema h.tables h.infos) m command reply next h.flushes h.has change in
         let same : next.schema ≡ m.schema = schema_stays m command reply next change in
         let accepts : write_accepted (parse (Some m.schema) line) text ≡ accepted_by command reply =
         ap (λ meaning. write_accepted meaning text) p ∙ ap (λ t. write_accepted (Ok command) t) e ∙ taken_write m command reply next step in
@@ -193,17 +192,17 @@ module _ (files : Option Files) (segments : ℕ) (line text : List ℕ) (all : L
   at_step (Waiting now) new at s = waiting (meaning_at (Waiting now) line) new refl at.1 (subst (λ f. EarlyStep segments f (meaning_at (Waiting now) line) text new) at.0 s)
   at_step (Serving m) new at s = serving m at (meaning_at (Serving m) line) new refl s
 
-regroup : (all : Lists → List Write) (line text : List ℕ) (lines texts : List (List ℕ)) (schema : Lists)
+regroup : (all : SchemaValue → List Write) (line text : List ℕ) (lines texts : List (List ℕ)) (schema : SchemaValue)
     → and_line all line text schema ++ accepted_writes schema lines texts ≡ all schema ++ accepted_writes schema (line ∷ lines) (text ∷ texts)
 regroup all line text lines texts schema = append_assoc (all schema) (write_accepted (parse (Some schema) line) text) (accepted_writes schema lines texts)
 
 -- the same lists of writes serve
-alike : (files : Option Files) (stage : Stage) (all other : Lists → List Write) → ((schema : Lists) → all schema ≡ other schema) → AtStage files stage all → AtStage files stage other
+alike : (files : Option Files) (stage : Stage) (all other : SchemaValue → List Write) → ((schema : SchemaValue) → all schema ≡ other schema) → AtStage files stage all → AtStage files stage other
 alike files (Waiting now) all other same at = (at.0, λ schema. sym (same schema) ∙ at.1 schema)
 alike files (Serving m) all other same at =
     record { segments = at.segments; schema = at.schema; tables = at.tables; infos = at.infos; are = at.are; flushes = at.flushes; has = at.has; log = at.log ∙ same m.schema }
 
-pub at_end : (files : Option Files) (old new : Moment) (lines texts : List (List ℕ)) (all : Lists → List Write) → AtStage files old.stage all → Answers LineStep old lines texts new
+pub at_end : (files : Option Files) (old new : Moment) (lines texts : List (List ℕ)) (all : SchemaValue → List Write) → AtStage files old.stage all → Answers LineStep old lines texts new
     → AtStage files new.stage (λ schema. all schema ++ accepted_writes schema lines texts)
 at_end files old new [] [] all at a =
     subst (λ (m : Moment). AtStage files m.stage (λ schema. all schema ++ accepted_writes schema [] [])) (sym a) (alike files old.stage all (λ schema. all schema ++ []) (λ schema. sym (append-nil (all schema))) at)
@@ -222,7 +221,7 @@ first_run all writes front back n e = (
 )
 
 -- what the files are, once the machine was opened over them
-module _ (files files2 : Files) (m : State) (all : Lists → List Write) (h : Serves (Some files) m all) (now : Some files2 ≡ m.files) where
+module _ (files files2 : Files) (m : State) (all : SchemaValue → List Write) (h : Serves (Some files) m all) (now : Some files2 ≡ m.files) where
   holds : Files
   holds = files_with h.schema files (tables_of h.flushes)
 
@@ -258,7 +257,7 @@ module _ (files files2 : Files) (m : State) (all : Lists → List Write) (h : Se
       either (inl same) = inl same
       either (inr p) = inr (put_file bytes p)
 
-no_schema : Lists
+no_schema : SchemaValue
 no_schema = record { ck = []; statics = []; cols = [] }
 
 finish : (files files2 : Files) (lines texts : List (List ℕ)) (stage : Stage) → AtStage (Some files) stage (λ schema. accepted_writes schema lines texts) → Some files2 ≡ files_of stage → HoldsFlushed lines texts files files2
@@ -286,9 +285,9 @@ finish files files2 lines texts (Serving m) at e = record {
   new = are_new files files2 m (λ schema. accepted_writes schema lines texts) at e;
 }
 
-pub files_hold : (words : Words) (before after : Seen) (status : Status) (taken written : List ℕ) (files files2 : Files) (l : OfLines words before after status taken written) → before.0 ≡ Some files → after.0 ≡ Some files2
+pub files_hold : (words : Words) (before after : StoreView) (status : Status) (taken written : List ℕ) (files files2 : Files) (l : OfLines words before after status taken written) → before.0 ≡ Some files → after.0 ≡ Some files2
     → HoldsFlushed l.lines l.texts files files2
 files_hold words before after status taken written files files2 l first last =
     finish files files2 l.lines l.texts l.end.stage
-    (at_end (Some files) (start words before) l.end l.lines l.texts (λ schema. []) (first, λ schema. refl) l.answered)
+    (at_end (Some files) (start_moment words before) l.end l.lines l.texts (λ schema. []) (first, λ schema. refl) l.answered)
     (sym last ∙ l.leaves.0)

@@ -1,10 +1,10 @@
 -- The front of a line that is held is answered, and what it is answered is pushed.
 use Rattle.std.proofs.Common.{◌≡◌, ◌⊎◌, ℕ, List, [], ◌++◌, inl, inr, Option, Some, None, Result, Ok, Err, refl, ap, subst, ◌∙◌}
-use Rattle.rc_shell.specs.Feed.{Answered, PushedText, PushedEnding, PushedAnswer, ServedLine, kept}
+use Rattle.rc_shell.specs.calls.Feed.{Answered, PushedText, PushedEnding, PushedAnswer, ServedLine, kept}
 use Rattle.rc_shell.specs.Status.{status_at, stop_by}
-use Rattle.rc_lines.specs.Laws.{long_lines_are_cut}
+use Rattle.rc_lines.specs.laws.{long_lines_are_cut}
 use Rattle.rc_lines.specs.declared.commands.Command.TheVariants.{SetSchema}
-use Rattle.rc_shell.specs.Step.{Moment, Stage, Waiting, Serving, Seen, LineStep, StageStep, MayAsk, Ends, EndsAt, Leaves, meaning_at, taken_schema, served as meaning_served}
+use Rattle.rc_shell.specs.Step.{Moment, Stage, Waiting, Serving, StoreView, LineStep, StageStep, MayAsk, EndsRun, EndsRunAt, LeavesStore, meaning_at, taken_schema, served as meaning_served}
 use Rattle.rc_shell.specs.declared.status.Status.{Status}
 use Rattle.rc_shell.specs.declared.status.Ending.{Ending}
 use Rattle.rc_shell.specs.declared.status.Stop.{Stop}
@@ -26,40 +26,40 @@ front_decides old new line text s = record {
   figures = s.figures;
 }
 
-end_of_front : (stage : Stage) (line : List ℕ) (status : Status) (last : List ℕ) (before now : ℕ) → EndsAt stage (kept line) status last before now → EndsAt stage line status last before now
+end_of_front : (stage : Stage) (line : List ℕ) (status : Status) (last : List ℕ) (before now : ℕ) → EndsRunAt stage (kept line) status last before now → EndsRunAt stage line status last before now
 unfolding kept
 end_of_front (Waiting files) line status last before now e = (e.0, subst (λ meaning. meaning ≡ Ok (SetSchema e.0)) (long_lines_are_cut None line) e.1, e.2)
 end_of_front (Serving m) line status last before now e = e
 
 -- and whether it ends the run
-front_ends : (old : Moment) (line : List ℕ) (status : Status) (last : List ℕ) (store : Seen) → Ends old (kept line) status last store → Ends old line status last store
+front_ends : (old : Moment) (line : List ℕ) (status : Status) (last : List ℕ) (store : StoreView) → EndsRun old (kept line) status last store → EndsRun old line status last store
 front_ends old line status last store e = (e.0, end_of_front old.stage line status last old.faults store.1 e.1)
 
 -- what was pushed is the text, which stands behind nothing
 pushed_is : (empty items pushed text : List ℕ) → empty ≡ [] → pushed ≡ items → items ≡ empty ++ text → pushed ≡ text
 pushed_is empty items pushed text none is e = is ∙ e ∙ ap (λ t. t ++ text) none
 
-pub held_answered : (old : Moment) (line front : List ℕ) (At : Moment → Type 0) (after : Seen) (empty items pushed : List ℕ) (ending : Option Ending)
+pub held_answered : (old : Moment) (line front : List ℕ) (At : Moment → Type 0) (after : StoreView) (empty items pushed : List ℕ) (ending : Option Ending)
     (before now : Option (List ℕ)) (f f' : ℕ) (r : Result Unit Stop)
-    → front ≡ kept line → empty ≡ [] → pushed ≡ items → ((m : Moment) → At m → Leaves m after)
-    → Answered LineStep Ends Leaves old front At after empty items (Ok ending) → PushedAnswer ending before now f f' pushed r
-    → ServedLine LineStep Ends Leaves old line At after before now f f' r
+    → front ≡ kept line → empty ≡ [] → pushed ≡ items → ((m : Moment) → At m → LeavesStore m after)
+    → Answered LineStep EndsRun LeavesStore old front At after empty items (Ok ending) → PushedAnswer ending before now f f' pushed r
+    → ServedLine LineStep EndsRun LeavesStore old line At after before now f f' r
 held_answered old line front At after empty items pushed None before now f f' r is none same leaves a p =
     let text : pushed ≡ a.0 = pushed_is empty items pushed a.0 none same a.4 in
-    served LineStep Ends Leaves old a.1 line a.0 At after before now f f' r
+    served LineStep EndsRun LeavesStore old a.1 line a.0 At after before now f f' r
     (front_decides old a.1 line a.0 (subst (λ l. LineStep old l a.0 a.1) is a.2)) a.3 (leaves a.1 a.3) (subst (λ t. PushedText before now f f' t r) text p)
 held_answered old line front At after empty items pushed (Some ending) before now f f' (Err stop) is none same leaves a p =
     let text : pushed ≡ a.0 = pushed_is empty items pushed a.0 none same a.2 in
-    ended LineStep Ends Leaves old line a.0 At after ending before now f f' stop
-    (front_ends old line (status_at ending) a.0 after (subst (λ l. Ends old l (status_at ending) a.0 after) is a.1)) (subst (λ t. PushedEnding ending before now f f' t stop) text p)
+    ended LineStep EndsRun LeavesStore old line a.0 At after ending before now f f' stop
+    (front_ends old line (status_at ending) a.0 after (subst (λ l. EndsRun old l (status_at ending) a.0 after) is a.1)) (subst (λ t. PushedEnding ending before now f f' t stop) text p)
 held_answered old line front At after empty items pushed (Some ending) before now f f' (Ok u) is none same leaves a p = absurd p
 
-pub held_unserved : (old : Moment) (line front : List ℕ) (At : Moment → Type 0) (after : Seen) (before : Option (List ℕ)) (f : ℕ)
-    → front ≡ kept line → (Leaves old after ⊎ ((text : List ℕ) × (new : Moment) × LineStep old front text new × Leaves new after))
-    → ServedLine LineStep Ends Leaves old line At after before before f f (Err NoMemory)
-held_unserved old line front At after before f is (inl leaves) = unserved LineStep Ends Leaves old line At after before f (inl leaves)
+pub held_unserved : (old : Moment) (line front : List ℕ) (At : Moment → Type 0) (after : StoreView) (before : Option (List ℕ)) (f : ℕ)
+    → front ≡ kept line → (LeavesStore old after ⊎ ((text : List ℕ) × (new : Moment) × LineStep old front text new × LeavesStore new after))
+    → ServedLine LineStep EndsRun LeavesStore old line At after before before f f (Err NoMemory)
+held_unserved old line front At after before f is (inl leaves) = unserved LineStep EndsRun LeavesStore old line At after before f (inl leaves)
 held_unserved old line front At after before f is (inr s) =
-    unserved LineStep Ends Leaves old line At after before f (inr (s.0, s.1, front_decides old s.1 line s.0 (subst (λ l. LineStep old l s.0 s.1) is s.2), s.3))
+    unserved LineStep EndsRun LeavesStore old line At after before f (inr (s.0, s.1, front_decides old s.1 line s.0 (subst (λ l. LineStep old l s.0 s.1) is s.2), s.3))
 
 -- the text or the last line was pushed as a text
 pub pushed_answer : (ending : Ending) (before now : Option (List ℕ)) (f f' : ℕ) (text : List ℕ) (r : Result Unit Stop) → PushedText before now f f' text r

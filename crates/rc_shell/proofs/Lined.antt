@@ -4,7 +4,7 @@ use Rattle.std.specs.List.{count_by}
 use Rattle.rc_outside.specs.Faults.{Rose}
 use Rattle.rc_shell.specs.Lines.{last_line}
 use Rattle.rc_shell.specs.Run.{Answers, IsWhole, IsCutOff, IsWritten, IsEnded, IsNear, Due, WasRead, concat, input_fault, input_limit, bad_words}
-use Rattle.rc_shell.specs.Step.{Moment, Stage, Waiting, Serving, Seen, LineStep, Ends, EndsAt, Leaves, start, tells_fault}
+use Rattle.rc_shell.specs.Step.{Moment, Stage, Waiting, Serving, StoreView, LineStep, EndsRun, EndsRunAt, LeavesStore, start_moment, tells_fault}
 use Rattle.rc_shell.specs.Holding.{OfLines, AreFirstLines, fault_of}
 use Rattle.rc_shell.specs.declared.status.Status.{Status}
 use Rattle.rc_shell.specs.declared.status.Status.TheVariants as statuses
@@ -15,15 +15,15 @@ use Rattle.rc_shell.proofs.Near.{near_line}
 use Rattle.rc_shell.proofs.Serving.{concat-append}
 
 -- what was due, as texts of lines and perhaps a last line
-pub record Pieces (words : Words) (before after : Seen) (status : Status) (taken : List ℕ) (pieces : List (List ℕ)) : Type 0 where
+pub record Pieces (words : Words) (before after : StoreView) (status : Status) (taken : List ℕ) (pieces : List (List ℕ)) : Type 0 where
   pub lines : List (List ℕ)
   pub texts : List (List ℕ)
   pub last : List ℕ
   pub end : Moment
   pub first : AreFirstLines taken lines
-  pub answered : Answers LineStep (start words before) lines texts end
+  pub answered : Answers LineStep (start_moment words before) lines texts end
   pub are : concat pieces ≡ concat texts ++ last
-  pub leaves : Leaves end after
+  pub leaves : LeavesStore end after
   pub faults : min (before.1 + (count_by tells_fault texts + fault_of status)) (2 ^ 64 - 1) ≤ after.1
 
 counted_further : (m b c f e a : ℕ) → min (b + c) m ≤ e → e ≤ a → f ≡ 0 → min (b + (c + f)) m ≤ a
@@ -36,21 +36,21 @@ fewer : (m b c f a : ℕ) → min (b + (c + f)) m ≤ a → min (b + (c + 0)) m 
 fewer m b c f a few = omega arith
 
 -- the store's count rose where its fault ended the run
-store_rose : (stage : Stage) (line last : List ℕ) (before now : ℕ) → EndsAt stage line statuses.StoreFault last before now → Rose before now
+store_rose : (stage : Stage) (line last : List ℕ) (before now : ℕ) → EndsRunAt stage line statuses.StoreFault last before now → Rose before now
 store_rose (Waiting files) line last before now e = e.2.1
 store_rose (Serving m) line last before now e = absurd e
 
 one_last : (texts : List (List ℕ)) (last : List ℕ) → concat (texts ++ last ∷ []) ≡ concat texts ++ last
 one_last texts last = concat-append texts (last ∷ []) ∙ ap (λ t. concat texts ++ t) (append-nil last)
 
-module _ (words : Words) (before after : Seen) (taken : List ℕ) where
+module _ (words : Words) (before after : StoreView) (taken : List ℕ) where
   -- lines were answered
-  no_fault : (status : Status) (texts lines : List (List ℕ)) (end : Moment) → fault_of status ≡ 0 → Answers LineStep (start words before) lines texts end → Leaves end after
+  no_fault : (status : Status) (texts lines : List (List ℕ)) (end : Moment) → fault_of status ≡ 0 → Answers LineStep (start_moment words before) lines texts end → LeavesStore end after
       → min (before.1 + (count_by tells_fault texts + fault_of status)) (2 ^ 64 - 1) ≤ after.1
   no_fault status texts lines end none a l =
-      counted_further (2 ^ 64 - 1) before.1 (count_by tells_fault texts) (fault_of status) end.faults after.1 (faults_are_counted_lem (start words before) end lines texts a) l.1 none
+      counted_further (2 ^ 64 - 1) before.1 (count_by tells_fault texts) (fault_of status) end.faults after.1 (faults_are_counted_lem (start_moment words before) end lines texts a) l.1 none
 
-  ended : (limit : ℕ) (AreLast : Type 0) (status : Status) (pieces : List (List ℕ)) → (e : IsEnded LineStep Ends Leaves AreLast (start words before) taken after status pieces)
+  ended : (limit : ℕ) (AreLast : Type 0) (status : Status) (pieces : List (List ℕ)) → (e : IsEnded LineStep EndsRun LeavesStore AreLast (start_moment words before) taken after status pieces)
       → IsNear e.more → min (before.1 + (count_by tells_fault e.texts + fault_of status)) (2 ^ 64 - 1) ≤ after.1 → Pieces words before after status taken pieces
   ended limit AreLast status pieces e near faults = record {
     lines = e.served.lines;
@@ -64,8 +64,8 @@ module _ (words : Words) (before after : Seen) (taken : List ℕ) where
     faults = faults;
   }
 
-of_due : (words : Words) (before after : Seen) (limit : ℕ) (left : Option (List ℕ)) (taken : List ℕ) (status : Status) (pieces : List (List ℕ))
-    → Due LineStep Ends Leaves words (start words before) limit left taken after status pieces → Pieces words before after status taken pieces
+of_due : (words : Words) (before after : StoreView) (limit : ℕ) (left : Option (List ℕ)) (taken : List ℕ) (status : Status) (pieces : List (List ℕ))
+    → Due LineStep EndsRun LeavesStore words (start_moment words before) limit left taken after status pieces → Pieces words before after status taken pieces
 of_due (Run n) before after limit left taken statuses.Done pieces d = record {
   lines = d.0 ++ last_line d.1;
   texts = pieces;
@@ -111,11 +111,11 @@ of_due (Run n) before after limit left taken statuses.NoMemory pieces d = record
   faults = no_fault (Run n) before after taken statuses.NoMemory pieces d.2.lines d.1 refl d.2.answered d.5;
 }
 of_due (Run n) before after limit left taken statuses.BadTable pieces d =
-    ended (Run n) before after taken limit (WasRead LineStep Ends Leaves limit left taken) statuses.BadTable pieces d.0 d.2
+    ended (Run n) before after taken limit (WasRead LineStep EndsRun LeavesStore limit left taken) statuses.BadTable pieces d.0 d.2
     (no_fault (Run n) before after taken statuses.BadTable d.0.texts d.0.served.lines d.0.end refl d.0.served.answered d.0.ends.0)
 of_due (Run n) before after limit left taken statuses.StoreFault pieces d =
-    ended (Run n) before after taken limit (WasRead LineStep Ends Leaves limit left taken) statuses.StoreFault pieces d.0 d.2
-    (one_further (2 ^ 64 - 1) before.1 (count_by tells_fault d.0.texts) d.0.end.faults after.1 (faults_are_counted_lem (start (Run n) before) d.0.end d.0.served.lines d.0.texts d.0.served.answered)
+    ended (Run n) before after taken limit (WasRead LineStep EndsRun LeavesStore limit left taken) statuses.StoreFault pieces d.0 d.2
+    (one_further (2 ^ 64 - 1) before.1 (count_by tells_fault d.0.texts) d.0.end.faults after.1 (faults_are_counted_lem (start_moment (Run n) before) d.0.end d.0.served.lines d.0.texts d.0.served.answered)
     (store_rose d.0.end.stage d.0.line d.0.last d.0.end.faults after.1 d.0.ends.1))
 of_due (Run n) before after limit left taken statuses.BadWords pieces d = absurd d
 of_due (Run n) before after limit left taken statuses.OutputFault pieces d = absurd d
@@ -123,12 +123,12 @@ of_due Refused before after limit left taken statuses.BadWords pieces d = record
   lines = [];
   texts = [];
   last = bad_words;
-  end = start Refused before;
+  end = start_moment Refused before;
   first = ([], taken, record { whole = refl; each = tt }, subst IsNear (sym d.0) (near_line [] tt), inl refl);
   answered = refl;
   are = ap concat d.2 ∙ append-nil bad_words;
   leaves = d.1;
-  faults = no_fault Refused before after taken statuses.BadWords [] [] (start Refused before) refl refl d.1;
+  faults = no_fault Refused before after taken statuses.BadWords [] [] (start_moment Refused before) refl refl d.1;
 }
 of_due Refused before after limit left taken statuses.Done pieces d = absurd d
 of_due Refused before after limit left taken statuses.InputFault pieces d = absurd d
@@ -138,13 +138,13 @@ of_due Refused before after limit left taken statuses.BadTable pieces d = absurd
 of_due Refused before after limit left taken statuses.StoreFault pieces d = absurd d
 of_due Refused before after limit left taken statuses.OutputFault pieces d = absurd d
 
-module _ (words : Words) (before after : Seen) (limit : ℕ) (left : Option (List ℕ)) (taken : List ℕ) where
-  written_whole : (status : Status) (text : List ℕ) → IsWhole (Due LineStep Ends Leaves words (start words before) limit left taken after) status text → OfLines words before after status taken text
+module _ (words : Words) (before after : StoreView) (limit : ℕ) (left : Option (List ℕ)) (taken : List ℕ) where
+  written_whole : (status : Status) (text : List ℕ) → IsWhole (Due LineStep EndsRun LeavesStore words (start_moment words before) limit left taken after) status text → OfLines words before after status taken text
   written_whole status text w =
       let p = of_due words before after limit left taken status w.pieces w.due in
       record { lines = p.lines; texts = p.texts; last = p.last; unwritten = []; end = p.end; first = p.first; answered = p.answered; told = append-nil text ∙ w.whole ∙ p.are; leaves = p.leaves; faults = p.faults }
 
-  written_part : (status : Status) (text : List ℕ) → fault_of status ≡ 0 → IsCutOff (Due LineStep Ends Leaves words (start words before) limit left taken after) text → OfLines words before after status taken text
+  written_part : (status : Status) (text : List ℕ) → fault_of status ≡ 0 → IsCutOff (Due LineStep EndsRun LeavesStore words (start_moment words before) limit left taken after) text → OfLines words before after status taken text
   written_part status text none c =
       let p = of_due words before after limit left taken c.status (c.before ++ c.last ∷ []) c.due in
       record {
@@ -160,7 +160,7 @@ module _ (words : Words) (before after : Seen) (limit : ℕ) (left : Option (Lis
         faults = rw none (fewer (2 ^ 64 - 1) before.1 (count_by tells_fault p.texts) (fault_of c.status) after.1 p.faults);
       }
 
-  pub of_written : (status : Status) (text : List ℕ) → IsWritten (Due LineStep Ends Leaves words (start words before) limit left taken after) status text → OfLines words before after status taken text
+  pub of_written : (status : Status) (text : List ℕ) → IsWritten (Due LineStep EndsRun LeavesStore words (start_moment words before) limit left taken after) status text → OfLines words before after status taken text
   of_written statuses.OutputFault text w = written_part statuses.OutputFault text refl w
   of_written statuses.NoMemory text (inl w) = written_whole statuses.NoMemory text w
   of_written statuses.NoMemory text (inr w) = written_part statuses.NoMemory text refl w.0

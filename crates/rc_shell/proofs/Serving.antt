@@ -4,9 +4,9 @@ use Rattle.std.proofs.lemmas.List.{take-append-le, take_all, append-nil, length-
 use Rattle.std.specs.List.{AllByRecursion}
 use Rattle.std.proofs.KnownBytes.{Appends-trans, Appends-nil}
 use Rattle.rc_outside.specs.Faults.{Rose}
-use Rattle.rc_shell.specs.Lines.{IsLine, BeginsWithLines, IsNext, joined_lines}
+use Rattle.rc_shell.specs.Lines.{IsLine, BeginsWithLines, IsNextLine, joined_lines}
 use Rattle.rc_shell.specs.Run.{IsWhole, IsCutOff, IsWritten, Answers, Served, concat}
-use Rattle.rc_shell.specs.Feed.{PushedText, PushedEnding, FaultsAfter, DueOfLine, DueOfBytes, ServedLine, Serves, kept}
+use Rattle.rc_shell.specs.calls.Feed.{PushedText, PushedEnding, FaultsAfter, DueOfLine, DueOfBytes, ServedLine, Serves, kept}
 use Rattle.rc_shell.specs.Status.{status_at, status_of}
 use Rattle.rc_shell.specs.declared.status.Status.{Status}
 use Rattle.rc_shell.specs.declared.status.Status.TheVariants as statuses
@@ -66,7 +66,7 @@ faults_since NoMemory f f1 f2 same e = e ∙ same
 faults_since (Ended ending) f f1 f2 same e = e ∙ same
 
 -- a whole line is the first of longer bytes too
-next_longer : (more line c : List ℕ) → IsNext ⊥ more line → IsNext ⊥ (more ++ c) line
+next_longer : (more line c : List ℕ) → IsNextLine ⊥ more line → IsNextLine ⊥ (more ++ c) line
 next_longer more line c (is, inl e) = (is, inl (e.0 ++ c, ap (λ t. t ++ c) e.1 ∙ append_assoc line (10 ∷ e.0) c))
 next_longer more line c (is, inr e) = absurd e.1
 

@@ -5,7 +5,7 @@ use Rattle.std.proofs.lemmas.List.{append-nil}
 use Rattle.std.specs.declared.alloc.AllocError.{AllocError}
 use Rattle.rc_outside.specs.Files.{Files}
 use Rattle.rc_outside.specs.Faults.{Rose}
-use Rattle.rc_schema.specs.Lists.{Lists}
+use Rattle.rc_schema.specs.SchemaValue.{SchemaValue}
 use Rattle.rc_tfile.specs.declared.info.TableInfo.{TableInfo}
 use Rattle.rc_lines.specs.declared.commands.Command.{Command}
 use Rattle.rc_lines.specs.declared.commands.Command.TheVariants.{Nothing, SetSchema, Put, OpenRead, Read, Close, Flush, FlushBegin, FlushStep, Evict, Compact, Clean, Stats}
@@ -14,17 +14,17 @@ use Rattle.rc_lines.specs.declared.commands.Reply.{Reply}
 use Rattle.rc_lines.specs.declared.commands.Reply.TheVariants as replies
 use Rattle.rc_lines.specs.Grammar.{parse}
 use Rattle.rc_lines.specs.Texts.{reply_text, refusal_text}
-use Rattle.rc_machine.specs.State.{State, Table, opened}
+use Rattle.rc_machine.specs.State.{State, Table, opened_state}
 use Rattle.rc_machine.specs.Steps.{Steps}
 use Rattle.rc_machine.specs.Tables.{AreTables, AreListed, IsFirstBad}
-use Rattle.rc_machine.specs.Serving.{IsLeft, OnFaulty, bound_of, checks_of}
-use Rattle.rc_machine.specs.Laws.Asking.{few_asked}
-use Rattle.rc_machine.specs.Laws.Changes.{change_of}
-use Rattle.rc_machine.specs.Laws.Holding.{schema_stays}
+use Rattle.rc_machine.specs.Serving.{IsLeft, OnFaulty, most_asks, checks_of}
+use Rattle.rc_machine.specs.laws.Asking.{few_asked}
+use Rattle.rc_machine.specs.laws.Changes.{change_of}
+use Rattle.rc_machine.specs.laws.Holding.{schema_stays}
 use Rattle.rc_plain.specs.Stands.{Keeping, Stands}
-use Rattle.rc_shell.specs.Feed.{Answered}
-use Rattle.rc_shell.specs.Step.{Moment, Stage, Seen, Waiting, Serving, EarlyStep, MachineStep, StageStep, LineStep, Ends, EndsAt, Leaves, MayAsk, MayHaveAsked, Counts, files_of, meaning_at, served, store_fault, start, bad_table, tells_fault}
-use Rattle.rc_shell.specs.Late.{StandsFor, asked_nothing, schema_set, stood_leaves}
+use Rattle.rc_shell.specs.calls.Feed.{Answered}
+use Rattle.rc_shell.specs.Step.{Moment, Stage, StoreView, Waiting, Serving, EarlyStep, MachineStep, StageStep, LineStep, EndsRun, EndsRunAt, LeavesStore, MayAsk, MayHaveAsked, CountsFaults, files_of, meaning_at, served, store_fault, start_moment, bad_table, tells_fault}
+use Rattle.rc_shell.specs.Late.{KeepsMoment, asked_nothing, schema_set, stood_leaves}
 use Rattle.rc_shell.specs.declared.status.Ending.{Ending}
 use Rattle.rc_shell.specs.declared.status.Ending.TheVariants.{BadTable, StoreFault}
 use Rattle.rc_shell.specs.declared.status.Status.TheVariants as statuses
@@ -40,7 +40,7 @@ clash b e f = cc
 next_moment : Moment → Stage → ℕ → ℕ → ℕ → Moment
 next_moment old stage faults asks bound = record { stage = stage; segments = old.segments; faults = faults; asks = asks; bound = old.bound + bound; figures = old.figures }
 
-line_step : (old : Moment) (line text : List ℕ) (was stage : Stage) (faults asks bound : ℕ) → old.stage ≡ was → StageStep old.segments was (meaning_at was line) text stage → Counts text old.faults faults
+line_step : (old : Moment) (line text : List ℕ) (was stage : Stage) (faults asks bound : ℕ) → old.stage ≡ was → StageStep old.segments was (meaning_at was line) text stage → CountsFaults text old.faults faults
     → MayAsk was (meaning_at was line) bound → asks ≤ old.asks + bound → LineStep old line text (next_moment old stage faults asks bound)
 unfolding next_moment
 line_step old line text was stage faults asks bound e step counts may most = record {
@@ -52,15 +52,15 @@ line_step old line text was stage faults asks bound e step counts may most = rec
 }
 
 -- it stands where the stage does and the counts are the store's
-waits : (old : Moment) (store : Seen) (bound : ℕ) → StandsFor None store (next_moment old (Waiting store.0) store.1 store.2 bound)
+waits : (old : Moment) (store : StoreView) (bound : ℕ) → KeepsMoment None store (next_moment old (Waiting store.0) store.1 store.2 bound)
 unfolding next_moment
 waits old store bound = (refl, refl, refl)
 
-serves : (old : Moment) (store : Seen) (bound : ℕ) (k : Keeping) (m : State) → Stands store.0 k m → StandsFor (Some k) store (next_moment old (Serving m) store.1 store.2 bound)
+serves : (old : Moment) (store : StoreView) (bound : ℕ) (k : Keeping) (m : State) → Stands store.0 k m → KeepsMoment (Some k) store (next_moment old (Serving m) store.1 store.2 bound)
 unfolding next_moment
 serves old store bound k m s = (m, s, refl, refl, refl)
 
-leaves_behind : (old : Moment) (store : Seen) (bound : ℕ) (m : State) → store.0 ≡ m.files → Leaves (next_moment old (Serving m) store.1 store.2 bound) store
+leaves_behind : (old : Moment) (store : StoreView) (bound : ℕ) (m : State) → store.0 ≡ m.files → LeavesStore (next_moment old (Serving m) store.1 store.2 bound) store
 unfolding next_moment
 leaves_behind old store bound m same = (same, le_refl store.1, asked_nothing (Serving m) store.2)
 
@@ -76,7 +76,7 @@ refused_unasked None refusal = refl
 refused_unasked (Some files) refusal = refl
 
 -- the count of faults over a line whose text tells none
-uncounted : (text : List ℕ) (before now : ℕ) → tells_fault text ≡ false → before ≤ now → Counts text before now
+uncounted : (text : List ℕ) (before now : ℕ) → tells_fault text ≡ false → before ≤ now → CountsFaults text before now
 uncounted text before now none le = (le, λ t. absurd (clash (tells_fault text) none t))
 
 le_same : (a b : ℕ) → a ≡ b → a ≤ b
@@ -86,7 +86,7 @@ parsed : (line : List ℕ) (command : Command) → served (parse None line) ≡ 
 parsed line command p = served_ok (parse None line) command p
 
 -- a refused line tells no fault
-plain_served : (taken : Option Lists) (line : List ℕ) (refusal : Refusal) → served (parse taken line) ≡ Err refusal → tells_fault (refusal_text refusal) ≡ false
+plain_served : (taken : Option SchemaValue) (line : List ℕ) (refusal : Refusal) → served (parse taken line) ≡ Err refusal → tells_fault (refusal_text refusal) ≡ false
 plain_served taken line refusal p = served_is (λ r. tells_fault (refusal_text r) ≡ false) refl (parse taken line) (plain taken line) refusal p
 
 -- at most so many ranges were asked for while the files were checked, where they are told
@@ -98,7 +98,7 @@ may_have_checked None before now checks = tt
 may_have_checked (Some files) before now checks = checks
 
 -- the store is left so where nothing was opened
-left_waiting : (store store' : Seen) (old : Moment) → StandsFor None store old → store'.0 ≡ store.0 → store.1 ≤ store'.1 → Checks store.0 store.2 store'.2 → Leaves old store'
+left_waiting : (store store' : StoreView) (old : Moment) → KeepsMoment None store old → store'.0 ≡ store.0 → store.1 ≤ store'.1 → Checks store.0 store.2 store'.2 → LeavesStore old store'
 left_waiting store store' old s same le checks = (
   same ∙ ap files_of (sym s.0),
   subst (λ n. n ≤ store'.1) (sym s.1) le,
@@ -106,8 +106,8 @@ left_waiting store store' old s same le checks = (
 )
 
 -- a line that means nothing, before a schema line
-pub none_answered : (place : Option Keeping) (store : Seen) (old : Moment) (line : List ℕ) (command : Command) (items : List ℕ) → place ≡ None → StandsFor None store old → served (parse None line) ≡ Ok command → schema_set command ≡ None
-    → Answered LineStep Ends Leaves old line (StandsFor place store) store items items (Ok None)
+pub none_answered : (place : Option Keeping) (store : StoreView) (old : Moment) (line : List ℕ) (command : Command) (items : List ℕ) → place ≡ None → KeepsMoment None store old → served (parse None line) ≡ Ok command → schema_set command ≡ None
+    → Answered LineStep EndsRun LeavesStore old line (KeepsMoment place store) store items items (Ok None)
 none_answered place store old line command items free s p none =
     let is : command ≡ Nothing = elim (early line command (parsed line command p)) as (λ e. command ≡ Nothing) [
       | inl e ↦ e
@@ -119,12 +119,12 @@ none_answered place store old line command items free s p none =
       next_moment old (Waiting store.0) store.1 store.2 0,
       line_step old line [] (Waiting store.0) (Waiting store.0) store.1 store.2 0 s.0 (subst (λ meaning. EarlyStep old.segments store.0 meaning [] (Waiting store.0)) (sym means) (refl, refl))
           (uncounted [] old.faults store.1 refl (le_same old.faults store.1 s.1)) (subst (λ meaning. MayAsk (Waiting store.0) meaning 0) (sym means) (nothing_asked store.0)) asked,
-      subst (λ k. StandsFor k store (next_moment old (Waiting store.0) store.1 store.2 0)) (sym free) (waits old store 0),
+      subst (λ k. KeepsMoment k store (next_moment old (Waiting store.0) store.1 store.2 0)) (sym free) (waits old store 0),
       sym (append-nil items),
     )
 
 -- a schema line, by its meaning
-pub schema_line : (line : List ℕ) (command : Command) (schema : Lists) → served (parse None line) ≡ Ok command → schema_set command ≡ Some schema → parse None line ≡ Ok (SetSchema schema)
+pub schema_line : (line : List ℕ) (command : Command) (schema : SchemaValue) → served (parse None line) ≡ Ok command → schema_set command ≡ Some schema → parse None line ≡ Ok (SetSchema schema)
 schema_line line command schema p some = elim (early line command (parsed line command p)) as (λ e. parse None line ≡ Ok (SetSchema schema)) [
   | inl e ↦ absurd (let n : schema_set Nothing ≡ Some schema = subst (λ c. schema_set c ≡ Some schema) e some in cc)
   | inr e ↦ (let n : schema_set (SetSchema e.0) ≡ Some schema = subst (λ c. schema_set c ≡ Some schema) e.1 some in
@@ -132,15 +132,15 @@ schema_line line command schema p some = elim (early line command (parsed line c
 ]
 
 -- a line that is refused, before a schema line
-pub refused_answered : (place : Option Keeping) (store : Seen) (old : Moment) (line : List ℕ) (refusal : Refusal) (before now : List ℕ) → place ≡ None → StandsFor None store old → served (parse None line) ≡ Err refusal
-    → now ≡ before ++ refusal_text refusal → Answered LineStep Ends Leaves old line (StandsFor place store) store before now (Ok None)
+pub refused_answered : (place : Option Keeping) (store : StoreView) (old : Moment) (line : List ℕ) (refusal : Refusal) (before now : List ℕ) → place ≡ None → KeepsMoment None store old → served (parse None line) ≡ Err refusal
+    → now ≡ before ++ refusal_text refusal → Answered LineStep EndsRun LeavesStore old line (KeepsMoment place store) store before now (Ok None)
 refused_answered place store old line refusal before now free s p e =
     let asked = no_more old store.2 s.2 in (
       refusal_text refusal,
       next_moment old (Waiting store.0) store.1 store.2 0,
       line_step old line (refusal_text refusal) (Waiting store.0) (Waiting store.0) store.1 store.2 0 s.0 (subst (λ meaning. EarlyStep old.segments store.0 meaning (refusal_text refusal) (Waiting store.0)) (sym p) (refl, refl))
           (uncounted (refusal_text refusal) old.faults store.1 (plain_served None line refusal p) (le_same old.faults store.1 s.1)) (subst (λ meaning. MayAsk (Waiting store.0) meaning 0) (sym p) (refused_unasked store.0 refusal)) asked,
-      subst (λ k. StandsFor k store (next_moment old (Waiting store.0) store.1 store.2 0)) (sym free) (waits old store 0),
+      subst (λ k. KeepsMoment k store (next_moment old (Waiting store.0) store.1 store.2 0)) (sym free) (waits old store 0),
       e,
     )
 
@@ -149,7 +149,7 @@ bound_at : Option Files → ℕ → ℕ → ℕ
 bound_at None before now = now
 bound_at (Some files) before now = checks_of (map.values files)
 
-may_check : (files : Option Files) (schema : Lists) (before now : ℕ) → MayAsk (Waiting files) (Ok (SetSchema schema)) (bound_at files before now)
+may_check : (files : Option Files) (schema : SchemaValue) (before now : ℕ) → MayAsk (Waiting files) (Ok (SetSchema schema)) (bound_at files before now)
 unfolding bound_at
 may_check None schema before now = tt
 may_check (Some files) schema before now = refl
@@ -160,54 +160,54 @@ checked None before now c = omega arith
 checked (Some files) before now c = c
 
 -- the first schema line, over tables of the schema
-pub opened_answered : (store store' : Seen) (old : Moment) (schema : Lists) (k : Keeping) (tables : List Table) (infos : List TableInfo) (line before now : List ℕ)
-    → StandsFor None store old → parse None line ≡ Ok (SetSchema schema) → AreTables store.0 schema tables → AreListed store.0 schema tables infos → ((segments : ℕ) → Stands store'.0 k (opened segments store.0 schema tables infos))
+pub opened_answered : (store store' : StoreView) (old : Moment) (schema : SchemaValue) (k : Keeping) (tables : List Table) (infos : List TableInfo) (line before now : List ℕ)
+    → KeepsMoment None store old → parse None line ≡ Ok (SetSchema schema) → AreTables store.0 schema tables → AreListed store.0 schema tables infos → ((segments : ℕ) → Stands store'.0 k (opened_state segments store.0 schema tables infos))
     → store.1 ≤ store'.1 → Checks store.0 store.2 store'.2 → now ≡ before ++ reply_text k.schema replies.Fine
-    → Answered LineStep Ends Leaves old line (StandsFor (Some k) store') store' before now (Ok None)
+    → Answered LineStep EndsRun LeavesStore old line (KeepsMoment (Some k) store') store' before now (Ok None)
 opened_answered store store' old schema k tables infos line before now s p are listed stands le checks e =
     let means : served (parse None line) ≡ Ok (SetSchema schema) = ap served p in
     let bound : ℕ = bound_at store.0 store.2 store'.2 in (
       reply_text schema replies.Fine,
-      next_moment old (Serving (opened old.segments store.0 schema tables infos)) store'.1 store'.2 bound,
-      line_step old line (reply_text schema replies.Fine) (Waiting store.0) (Serving (opened old.segments store.0 schema tables infos)) store'.1 store'.2 bound s.0
-          (subst (λ meaning. EarlyStep old.segments store.0 meaning (reply_text schema replies.Fine) (Serving (opened old.segments store.0 schema tables infos))) (sym means) (tables, infos, are, listed, refl, refl))
+      next_moment old (Serving (opened_state old.segments store.0 schema tables infos)) store'.1 store'.2 bound,
+      line_step old line (reply_text schema replies.Fine) (Waiting store.0) (Serving (opened_state old.segments store.0 schema tables infos)) store'.1 store'.2 bound s.0
+          (subst (λ meaning. EarlyStep old.segments store.0 meaning (reply_text schema replies.Fine) (Serving (opened_state old.segments store.0 schema tables infos))) (sym means) (tables, infos, are, listed, refl, refl))
           (subst (λ n. n ≤ store'.1) (sym s.1) le, λ t. told schema replies.Fine (Rose old.faults store'.1) tt t)
           (subst (λ meaning. MayAsk (Waiting store.0) meaning bound) (sym means) (may_check store.0 schema store.2 store'.2))
           (subst (λ n. store'.2 ≤ n + bound) (sym s.2) (checked store.0 store.2 store'.2 checks)),
-      serves old store' bound k (opened old.segments store.0 schema tables infos) (stands old.segments),
+      serves old store' bound k (opened_state old.segments store.0 schema tables infos) (stands old.segments),
       e ∙ ap (λ z. before ++ reply_text z replies.Fine) (sym (stands old.segments).over.schema),
     )
 
 -- the first schema line, over a bad table
-pub bad_answered : (store store' : Seen) (old : Moment) (schema : Lists) (At : Moment → Type 0) (n : ℕ) (damage : Option ℕ) (line before now : List ℕ)
-    → StandsFor None store old → parse None line ≡ Ok (SetSchema schema) → store'.0 ≡ store.0 → IfSome store.0 (λ f. IsFirstBad f schema n damage) → store.1 ≤ store'.1 → Checks store.0 store.2 store'.2 → now ≡ before ++ bad_table n damage
-    → Answered LineStep Ends Leaves old line At store' before now (Ok (Some BadTable))
+pub bad_answered : (store store' : StoreView) (old : Moment) (schema : SchemaValue) (At : Moment → Type 0) (n : ℕ) (damage : Option ℕ) (line before now : List ℕ)
+    → KeepsMoment None store old → parse None line ≡ Ok (SetSchema schema) → store'.0 ≡ store.0 → IfSome store.0 (λ f. IsFirstBad f schema n damage) → store.1 ≤ store'.1 → Checks store.0 store.2 store'.2 → now ≡ before ++ bad_table n damage
+    → Answered LineStep EndsRun LeavesStore old line At store' before now (Ok (Some BadTable))
 bad_answered store store' old schema At n damage line before now s p same first le checks e =
-    (bad_table n damage, (left_waiting store store' old s same le checks, subst (λ st. EndsAt st line statuses.BadTable (bad_table n damage) old.faults store'.1) (sym s.0) (schema, p, (n, damage, first, refl))), e)
+    (bad_table n damage, (left_waiting store store' old s same le checks, subst (λ st. EndsRunAt st line statuses.BadTable (bad_table n damage) old.faults store'.1) (sym s.0) (schema, p, (n, damage, first, refl))), e)
 
 -- the first schema line, while the store failed
-pub fault_answered : (store store' : Seen) (old : Moment) (schema : Lists) (At : Moment → Type 0) (line before now : List ℕ)
-    → StandsFor None store old → parse None line ≡ Ok (SetSchema schema) → store'.0 ≡ store.0 → Rose store.1 store'.1 → store.1 ≤ store'.1 → Checks store.0 store.2 store'.2 → now ≡ before ++ store_fault
-    → Answered LineStep Ends Leaves old line At store' before now (Ok (Some StoreFault))
+pub fault_answered : (store store' : StoreView) (old : Moment) (schema : SchemaValue) (At : Moment → Type 0) (line before now : List ℕ)
+    → KeepsMoment None store old → parse None line ≡ Ok (SetSchema schema) → store'.0 ≡ store.0 → Rose store.1 store'.1 → store.1 ≤ store'.1 → Checks store.0 store.2 store'.2 → now ≡ before ++ store_fault
+    → Answered LineStep EndsRun LeavesStore old line At store' before now (Ok (Some StoreFault))
 fault_answered store store' old schema At line before now s p same rose le checks e =
-    (store_fault, (left_waiting store store' old s same le checks, subst (λ st. EndsAt st line statuses.StoreFault store_fault old.faults store'.1) (sym s.0) (schema, p, (refl, subst (λ n. Rose n store'.1) (sym s.1) rose))), e)
+    (store_fault, (left_waiting store store' old s same le checks, subst (λ st. EndsRunAt st line statuses.StoreFault store_fault old.faults store'.1) (sym s.0) (schema, p, (refl, subst (λ n. Rose n store'.1) (sym s.1) rose))), e)
 
 -- memory ran out before the machine was open
-pub unopened_answered : (store store' : Seen) (old : Moment) (line : List ℕ) (At : Moment → Type 0) (before now : List ℕ) (r : Result (Option Ending) AllocError) → IsErr r
-    → StandsFor None store old → store'.0 ≡ store.0 → store.1 ≤ store'.1 → Checks store.0 store.2 store'.2 → Answered LineStep Ends Leaves old line At store' before now r
+pub unopened_answered : (store store' : StoreView) (old : Moment) (line : List ℕ) (At : Moment → Type 0) (before now : List ℕ) (r : Result (Option Ending) AllocError) → IsErr r
+    → KeepsMoment None store old → store'.0 ≡ store.0 → store.1 ≤ store'.1 → Checks store.0 store.2 store'.2 → Answered LineStep EndsRun LeavesStore old line At store' before now r
 unopened_answered store store' old line At before now (Err e) is s same le checks = inl (left_waiting store store' old s same le checks)
 unopened_answered store store' old line At before now (Ok x) is s same le checks = absurd (cc)
 
 -- What a command did, once the machine is open.
-pub record Served (store store' : Seen) (k k' : Keeping) (m : State) (command : Command) (reply : Reply) : Type 0 where
+pub record Served (store store' : StoreView) (k k' : Keeping) (m : State) (command : Command) (reply : Reply) : Type 0 where
   pub next : State
   pub step : Steps m command reply next
   pub stands : Stands store'.0 k' next
   pub faults : store.1 ≤ store'.1
   pub faulty : OnFaulty reply (Rose store.1 store'.1)
-  pub asks : store'.2 ≤ store.2 + bound_of k.infos command
+  pub asks : store'.2 ≤ store.2 + most_asks k.infos command
 
-module _ (store store' : Seen) (k k' : Keeping) (old : Moment) (line : List ℕ) (command : Command) (reply : Reply) (s : StandsFor (Some k) store old)
+module _ (store store' : StoreView) (k k' : Keeping) (old : Moment) (line : List ℕ) (command : Command) (reply : Reply) (s : KeepsMoment (Some k) store old)
     (p : served (parse (Some k.schema) line) ≡ Ok command) (d : Served store store' k k' s.0 command reply) where
   means : served (parse (Some (s.0).schema) line) ≡ Ok command
   means = ap (λ z. served (parse (Some z) line)) s.1.over.schema ∙ p
@@ -215,22 +215,22 @@ module _ (store store' : Seen) (k k' : Keeping) (old : Moment) (line : List ℕ)
   same_schema : k'.schema ≡ (s.0).schema
   same_schema = sym d.stands.over.schema ∙ schema_stays s.0 command reply d.next (change_of s.0 command reply d.next d.step)
 
-  command_step : LineStep old line (reply_text k'.schema reply) (next_moment old (Serving d.next) store'.1 store'.2 (bound_of k.infos command))
+  command_step : LineStep old line (reply_text k'.schema reply) (next_moment old (Serving d.next) store'.1 store'.2 (most_asks k.infos command))
   command_step =
-      line_step old line (reply_text k'.schema reply) (Serving s.0) (Serving d.next) store'.1 store'.2 (bound_of k.infos command) s.2
+      line_step old line (reply_text k'.schema reply) (Serving s.0) (Serving d.next) store'.1 store'.2 (most_asks k.infos command) s.2
       (subst (λ meaning. MachineStep s.0 meaning (reply_text k'.schema reply) (Serving d.next)) (sym means) (reply, d.next, d.step, ap (λ z. reply_text z reply) same_schema, refl))
       (subst (λ n. n ≤ store'.1) (sym s.3) d.faults, λ t. told k'.schema reply (Rose old.faults store'.1) (subst (λ n. OnFaulty reply (Rose n store'.1)) (sym s.3) d.faulty) t)
-      (subst (λ meaning. MayAsk (Serving s.0) meaning (bound_of k.infos command)) (sym means) (ap (λ infos. bound_of infos command) (sym s.1.over.infos)))
-      (subst (λ n. store'.2 ≤ n + bound_of k.infos command) (sym s.4) d.asks)
+      (subst (λ meaning. MayAsk (Serving s.0) meaning (most_asks k.infos command)) (sym means) (ap (λ infos. most_asks infos command) (sym s.1.over.infos)))
+      (subst (λ n. store'.2 ≤ n + most_asks k.infos command) (sym s.4) d.asks)
 
-  pub command_answered : (before now : List ℕ) → now ≡ before ++ reply_text k'.schema reply → Answered LineStep Ends Leaves old line (StandsFor (Some k') store') store' before now (Ok None)
+  pub command_answered : (before now : List ℕ) → now ≡ before ++ reply_text k'.schema reply → Answered LineStep EndsRun LeavesStore old line (KeepsMoment (Some k') store') store' before now (Ok None)
   command_answered before now e =
-      (reply_text k'.schema reply, next_moment old (Serving d.next) store'.1 store'.2 (bound_of k.infos command), command_step, serves old store' (bound_of k.infos command) k' d.next d.stands, e)
+      (reply_text k'.schema reply, next_moment old (Serving d.next) store'.1 store'.2 (most_asks k.infos command), command_step, serves old store' (most_asks k.infos command) k' d.next d.stands, e)
 
   -- its reply found no memory
-  pub command_unanswered : (before now : List ℕ) (r : Result (Option Ending) AllocError) → IsErr r → Answered LineStep Ends Leaves old line (StandsFor (Some k') store') store' before now r
+  pub command_unanswered : (before now : List ℕ) (r : Result (Option Ending) AllocError) → IsErr r → Answered LineStep EndsRun LeavesStore old line (KeepsMoment (Some k') store') store' before now r
   command_unanswered before now (Err e) is =
-      inr (reply_text k'.schema reply, next_moment old (Serving d.next) store'.1 store'.2 (bound_of k.infos command), command_step, leaves_behind old store' (bound_of k.infos command) d.next (sym d.stands.over.files))
+      inr (reply_text k'.schema reply, next_moment old (Serving d.next) store'.1 store'.2 (most_asks k.infos command), command_step, leaves_behind old store' (most_asks k.infos command) d.next (sym d.stands.over.files))
   command_unanswered before now (Ok x) is = absurd (cc)
 
 -- what is left where memory ran out has the state's files
@@ -252,8 +252,8 @@ left_files m (Clean count) left e = ap (λ (s : State). s.files) e
 left_files m Stats left e = ap (λ (s : State). s.files) e
 
 -- memory ran out in a command
-pub stopped_answered : (store store' : Seen) (k k' : Keeping) (old : Moment) (line : List ℕ) (command : Command) (before now : List ℕ) (r : Result (Option Ending) AllocError) → IsErr r → StandsFor (Some k) store old
-    → store'.0 ≡ store.0 → store.1 ≤ store'.1 → store'.2 ≤ store.2 + bound_of k.infos command → Answered LineStep Ends Leaves old line (StandsFor (Some k') store') store' before now r
+pub stopped_answered : (store store' : StoreView) (k k' : Keeping) (old : Moment) (line : List ℕ) (command : Command) (before now : List ℕ) (r : Result (Option Ending) AllocError) → IsErr r → KeepsMoment (Some k) store old
+    → store'.0 ≡ store.0 → store.1 ≤ store'.1 → store'.2 ≤ store.2 + most_asks k.infos command → Answered LineStep EndsRun LeavesStore old line (KeepsMoment (Some k') store') store' before now r
 stopped_answered store store' k k' old line command before now (Err e) is s same le asks =
     let few : store'.2 ≤ old.asks + 2 * length (s.0).infos =
     subst (λ infos. store'.2 ≤ old.asks + 2 * length infos) (sym s.1.over.infos) (subst (λ n. store'.2 ≤ n + 2 * length k.infos) (sym s.4) (omega (arith, asks, few_asked k.infos command))) in
@@ -261,8 +261,8 @@ stopped_answered store store' k k' old line command before now (Err e) is s same
 stopped_answered store store' k k' old line command before now (Ok x) is s same le asks = absurd (cc)
 
 -- a line that is refused, once the machine is open
-pub refusal_answered : (store : Seen) (k : Keeping) (old : Moment) (line before now : List ℕ) (refusal : Refusal) → StandsFor (Some k) store old → served (parse (Some k.schema) line) ≡ Err refusal
-    → now ≡ before ++ refusal_text refusal → Answered LineStep Ends Leaves old line (StandsFor (Some k) store) store before now (Ok None)
+pub refusal_answered : (store : StoreView) (k : Keeping) (old : Moment) (line before now : List ℕ) (refusal : Refusal) → KeepsMoment (Some k) store old → served (parse (Some k.schema) line) ≡ Err refusal
+    → now ≡ before ++ refusal_text refusal → Answered LineStep EndsRun LeavesStore old line (KeepsMoment (Some k) store) store before now (Ok None)
 refusal_answered store k old line before now refusal s p e =
     let means : served (parse (Some (s.0).schema) line) ≡ Err refusal = ap (λ z. served (parse (Some z) line)) s.1.over.schema ∙ p in
     let asked = no_more old store.2 s.4 in (
@@ -275,15 +275,15 @@ refusal_answered store k old line before now refusal s p e =
     )
 
 -- memory ran out before the line's command was known
-pub unread_answered : (store : Seen) (k : Option Keeping) (old : Moment) (line before now : List ℕ) (At : Moment → Type 0) (r : Result (Option Ending) AllocError) → IsErr r → Leaves old store
-    → Answered LineStep Ends Leaves old line At store before now r
+pub unread_answered : (store : StoreView) (k : Option Keeping) (old : Moment) (line before now : List ℕ) (At : Moment → Type 0) (r : Result (Option Ending) AllocError) → IsErr r → LeavesStore old store
+    → Answered LineStep EndsRun LeavesStore old line At store before now r
 unread_answered store k old line before now At (Err e) is l = inl l
 unread_answered store k old line before now At (Ok x) is l = absurd (cc)
 
 -- before the first line the program stands for the start
-pub begins_stood : (place : Option Keeping) (words : Words) (store : Seen) → place ≡ None → StandsFor place store (start words store)
-begins_stood place words store free = subst (λ k. StandsFor k store (start words store)) (sym free) (refl, refl, refl)
+pub begins_stood : (place : Option Keeping) (words : Words) (store : StoreView) → place ≡ None → KeepsMoment place store (start_moment words store)
+begins_stood place words store free = subst (λ k. KeepsMoment k store (start_moment words store)) (sym free) (refl, refl, refl)
 
 -- and the store is left as it was
-pub begins_left : (words : Words) (store : Seen) → Leaves (start words store) store
-begins_left words store = stood_leaves None store (start words store) (refl, refl, refl)
+pub begins_left : (words : Words) (store : StoreView) → LeavesStore (start_moment words store) store
+begins_left words store = stood_leaves None store (start_moment words store) (refl, refl, refl)

@@ -4,7 +4,7 @@ use Rattle.std.specs.Prelude.{All, option_map, ⊤}
 use Rattle.std.proofs.lemmas.List.Elements.{All-cons}
 use Rattle.rc_outside.specs.Files.{Files}
 use Rattle.rc_position.specs.declared.slices.Slice.{Slice}
-use Rattle.rc_schema.specs.Lists.{Lists}
+use Rattle.rc_schema.specs.SchemaValue.{SchemaValue}
 use Rattle.rc_query.specs.declared.lines.OutLine.TheVariants.{Static, Row}
 use Rattle.rc_lines.specs.declared.commands.Command.{Command}
 use Rattle.rc_lines.specs.declared.commands.Command.TheVariants.{Nothing as nothing, SetSchema, Put, OpenRead, Read, Close, Flush, FlushBegin, FlushStep, Evict, Compact, Clean, Stats as stats}
@@ -16,7 +16,7 @@ use Rattle.rc_lines.specs.Grammar.{parse}
 use Rattle.rc_lines.specs.Texts.{reply_text, refusal_text, damage_text, figures_text}
 use Rattle.rc_machine.specs.State.{State, Reader, reader_of}
 use Rattle.rc_machine.specs.Steps.{Steps, Opens, Gives, Stores, Refuses, most_readers, last_number, next_number, without_sealed}
-use Rattle.rc_machine.specs.Laws.Changes.{Change, Reads, Writes, Seals, Begins, Stored, Goes, Ends, change_of}
+use Rattle.rc_machine.specs.laws.Changes.{Change, Reads, Writes, Seals, Begins, Stored, Goes, Ends, change_of}
 use Rattle.rc_shell.specs.Run.{Answers}
 use Rattle.rc_shell.specs.Step.{Moment, Stage, Waiting, Serving, LineStep, StageStep, EarlyStep, MachineStep, files_of, meaning_at}
 use Rattle.rc_shell.specs.Holding.{tells_damage}
@@ -28,7 +28,7 @@ abbrev IsSound : Reply → Type 0
 IsSound (Refused (Damaged file offset)) = ⊥
 IsSound reply = ⊤
 
-sound_text : (schema : Lists) (reply : Reply) → IsSound reply → tells_damage (reply_text schema reply) ≡ false
+sound_text : (schema : SchemaValue) (reply : Reply) → IsSound reply → tells_damage (reply_text schema reply) ≡ false
 unfolding reply_text damage_text figures_text
 sound_text schema Nothing s = refl
 sound_text schema Fine s = refl
@@ -58,7 +58,7 @@ sound_text schema (Refused (Damaged file offset)) s = absurd s
 sound_text schema (Refused NoNumber) s = refl
 
 -- a line is refused for nothing that tells a damaged table
-sound_refusal : (taken : Option Lists) (line : List ℕ) (refusal : Refusal) → parse taken line ≡ Err refusal → tells_damage (refusal_text refusal) ≡ false
+sound_refusal : (taken : Option SchemaValue) (line : List ℕ) (refusal : Refusal) → parse taken line ≡ Err refusal → tells_damage (refusal_text refusal) ≡ false
 sound_refusal = of_line (λ refusal. tells_damage (refusal_text refusal) ≡ false) refl refl refl refl refl
 
 module _ (m : State) (files : Files) (told : m.files ≡ Some files) (reply : Reply) (new : State) where

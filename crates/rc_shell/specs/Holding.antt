@@ -5,7 +5,7 @@
 use Rattle.std.specs.Prelude.{◌≡◌, ◌⊎◌, ℕ, ◌+◌, ◌-◌, ◌^◌, ◌≤◌, min, Bool, List, [], ◌∷◌, ◌++◌, take, All, Some, Result, Ok, codes, count_by, if◌then◌else◌}
 use Rattle.std.specs.FinMap as map
 use Rattle.rc_outside.specs.Files.{Files}
-use Rattle.rc_schema.specs.Lists.{Lists}
+use Rattle.rc_schema.specs.SchemaValue.{SchemaValue}
 use Rattle.rc_mutation.specs.declared.mutations.Partition.{Partition}
 use Rattle.rc_mutation.specs.declared.mutations.Write.{Write}
 use Rattle.rc_mutation.specs.Fragments.{IsParts}
@@ -14,11 +14,11 @@ use Rattle.rc_lines.specs.declared.commands.Command.{Command}
 use Rattle.rc_lines.specs.declared.commands.Command.TheVariants.{Put}
 use Rattle.rc_lines.specs.declared.commands.Refusal.{Refusal}
 use Rattle.rc_lines.specs.Grammar.{parse}
-use Rattle.rc_lines.specs.Parts.{is_word}
+use Rattle.rc_spelling.specs.Words.{is_word}
 use Rattle.rc_machine.specs.Flushed.{Flush, IsFlushOf, tables_of, writes_of, files_with}
 use Rattle.rc_shell.specs.Lines.{BeginsWithLines, last_line}
 use Rattle.rc_shell.specs.Run.{Answers, IsNear, concat}
-use Rattle.rc_shell.specs.Step.{Moment, Seen, LineStep, Leaves, start, tells_fault}
+use Rattle.rc_shell.specs.Step.{Moment, StoreView, LineStep, LeavesStore, start_moment, tells_fault}
 use Rattle.rc_shell.specs.declared.status.Status.{Status}
 use Rattle.rc_shell.specs.declared.status.Status.TheVariants.{StoreFault}
 use Rattle.rc_shell.specs.declared.words.Words.{Words}
@@ -35,16 +35,16 @@ fault_of status = 0
 
 -- A run answered these first lines of the bytes that it took, one after another, and what it wrote are their texts and perhaps a last line, up to
 -- where the output failed; the store is left as the moment behind them says; and each fault that was told has a rise of its own.
-pub record OfLines (words : Words) (before after : Seen) (status : Status) (taken written : List ℕ) : Type 0 where
+pub record OfLines (words : Words) (before after : StoreView) (status : Status) (taken written : List ℕ) : Type 0 where
   pub lines : List (List ℕ)
   pub texts : List (List ℕ)
   pub last : List ℕ
   pub unwritten : List ℕ
   pub end : Moment
   pub first : AreFirstLines taken lines
-  pub answered : Answers LineStep (start words before) lines texts end
+  pub answered : Answers LineStep (start_moment words before) lines texts end
   pub told : written ++ unwritten ≡ concat texts ++ last
-  pub leaves : Leaves end after
+  pub leaves : LeavesStore end after
   pub faults : min (before.1 + (count_by tells_fault texts + fault_of status)) (2 ^ 64 - 1) ≤ after.1
 
 -- whether a text tells a damaged table
@@ -57,7 +57,7 @@ write_accepted (Ok (Put w)) text = if is_word text (codes "ok\n") then w ∷ [] 
 write_accepted meaning text = []
 
 -- the accepted writes of lines, in order, by their texts
-abbrev pub accepted_writes : Lists → List (List ℕ) → List (List ℕ) → List Write
+abbrev pub accepted_writes : SchemaValue → List (List ℕ) → List (List ℕ) → List Write
 accepted_writes schema (line ∷ lines) (text ∷ texts) = write_accepted (parse (Some schema) line) text ++ accepted_writes schema lines texts
 accepted_writes schema lines texts = []
 
@@ -66,7 +66,7 @@ abbrev pub IsRunOf : List Write → List Write → Type 0
 IsRunOf writes all = (before : List Write) × (behind : List Write) × (all ≡ before ++ (writes ++ behind))
 
 -- the bytes are the text of a table of the schema that holds the parts of a run of these writes
-pub record IsFlushedFile (schema : Lists) (all : List Write) (bytes : List ℕ) : Type 0 where
+pub record IsFlushedFile (schema : SchemaValue) (all : List Write) (bytes : List ℕ) : Type 0 where
   pub parts : List Partition
   pub writes : List Write
   pub is_table : IsTable bytes schema parts
@@ -76,7 +76,7 @@ pub record IsFlushedFile (schema : Lists) (all : List Write) (bytes : List ℕ) 
 -- What the files are after lines that were answered so: those before, and one for each flush, which is the text of a table of the schema. The tables
 -- hold the first of the accepted writes, one run of them behind another.
 pub record HoldsFlushed (lines texts : List (List ℕ)) (before after : Files) : Type 0 where
-  pub schema : Lists
+  pub schema : SchemaValue
   pub flushes : List Flush
   pub stored : ℕ
   pub each : All (IsFlushOf schema) flushes

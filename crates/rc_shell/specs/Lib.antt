@@ -1,6 +1,6 @@
+pub mod calls
 pub mod Lines
 pub mod Run
-pub mod Feed
 pub mod Status
 pub mod Step
 pub mod Words

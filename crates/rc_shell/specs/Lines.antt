@@ -22,5 +22,5 @@ last_line [] = []
 last_line (byte ∷ rest) = (byte ∷ rest) ∷ []
 
 -- the bytes begin with this line: a newline ends it; or it is all of them, where these are the last ones
-abbrev pub IsNext : Type 0 → List ℕ → List ℕ → Type 0
-IsNext AreLast bytes line = IsLine line × (((rest : List ℕ) × (bytes ≡ line ++ 10 ∷ rest)) ⊎ ((bytes ≡ line) × AreLast))
+abbrev pub IsNextLine : Type 0 → List ℕ → List ℕ → Type 0
+IsNextLine AreLast bytes line = IsLine line × (((rest : List ℕ) × (bytes ≡ line ++ 10 ∷ rest)) ⊎ ((bytes ≡ line) × AreLast))

@@ -4,7 +4,7 @@
 use Rattle.std.specs.Prelude.{◌≡◌, ◌⊎◌, ℕ, ◌<◌, ◌≤◌, List, [], ◌∷◌, ◌++◌, length, Option, codes}
 use Rattle.std.specs.Io.KnownBytes.{Appends, Consumes, IsAtEnd}
 use Rattle.rc_outside.specs.Faults.{Rose}
-use Rattle.rc_shell.specs.Lines.{IsLine, BeginsWithLines, last_line, IsNext}
+use Rattle.rc_shell.specs.Lines.{IsLine, BeginsWithLines, last_line, IsNextLine}
 use Rattle.rc_shell.specs.declared.words.Words.{Words}
 use Rattle.rc_shell.specs.declared.words.Words.TheVariants.{Run, Refused}
 use Rattle.rc_shell.specs.declared.status.Status.{Status}
@@ -29,11 +29,11 @@ input_limit = codes "! input limit\n"
 
 -- Why it ended so. The input's count of faults rose where that is the status, and at most where memory or the output failed besides;
 -- the output's rose where that is the status, and nowhere else.
-abbrev pub Caused : Status → ℕ → ℕ → ℕ → ℕ → Type 0
-Caused NoMemory input input' output output' = output' ≡ output
-Caused InputFault input input' output output' = Rose input input' × (output' ≡ output)
-Caused OutputFault input input' output output' = Rose output output'
-Caused status input input' output output' = (input' ≡ input) × (output' ≡ output)
+abbrev pub EndedBecause : Status → ℕ → ℕ → ℕ → ℕ → Type 0
+EndedBecause NoMemory input input' output output' = output' ≡ output
+EndedBecause InputFault input input' output output' = Rose input input' × (output' ≡ output)
+EndedBecause OutputFault input input' output output' = Rose output output'
+EndedBecause status input input' output output' = (input' ≡ input) × (output' ≡ output)
 
 -- so many bytes of the input are asked for at once, at most: a piece
 abbrev pub piece_size : ℕ
@@ -93,7 +93,7 @@ module _ {State Seen : Type 0} (Step : State → List ℕ → List ℕ → State
     pub line : List ℕ
     pub last : List ℕ
     pub served : Served Step start bytes texts more end
-    pub next : IsNext AreLast more line
+    pub next : IsNextLine AreLast more line
     pub ends : Ends end line status last after
     pub are : pieces ≡ texts ++ last ∷ []
 
@@ -131,4 +131,4 @@ module _ {State Seen : Type 0} (Step : State → List ℕ → List ℕ → State
     pub consumed : Consumes left left' taken
     pub appended : Appends written written' text
     pub run : IsWritten (Due words start limit left' taken after) status text
-    pub cause : Caused status input input' output output'
+    pub cause : EndedBecause status input input' output output'

@@ -24,12 +24,12 @@ stop_by (Ok _) ending = Ended ending
 stop_by (Err stop) ending = stop
 
 -- the number with which the program exits
-abbrev pub code_of : Status → ℕ
-code_of statuses.Done = 0
-code_of statuses.BadWords = 2
-code_of statuses.BadTable = 3
-code_of statuses.NoMemory = 4
-code_of statuses.InputFault = 5
-code_of statuses.OutputFault = 6
-code_of statuses.StoreFault = 7
-code_of statuses.InputLimit = 8
+abbrev pub exit_code : Status → ℕ
+exit_code statuses.Done = 0
+exit_code statuses.BadWords = 2
+exit_code statuses.BadTable = 3
+exit_code statuses.NoMemory = 4
+exit_code statuses.InputFault = 5
+exit_code statuses.OutputFault = 6
+exit_code statuses.StoreFault = 7
+exit_code statuses.InputLimit = 8

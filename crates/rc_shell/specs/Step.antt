@@ -1,12 +1,12 @@
 -- One line: its meaning, what it does at each stage of a run, and its text.
 --     Moment              what holds between two lines
 --     LineStep            what a line is answered, and the next moment
---     Ends                the lines that end the run
+--     EndsRun                the lines that end the run
 use Rattle.std.specs.Prelude.{◌≡◌, ℕ, ◌+◌, ◌*◌, ◌≤◌, ◌||◌, Bool, List, [], ◌++◌, length, Option, Some, None, Result, Ok, Err, IfSome, IsTrue, ⊤, codes, decimal, if◌then◌else◌}
 use Rattle.std.specs.FinMap as map
 use Rattle.rc_outside.specs.Faults.{Rose}
 use Rattle.rc_outside.specs.Files.{Files}
-use Rattle.rc_schema.specs.Lists.{Lists}
+use Rattle.rc_schema.specs.SchemaValue.{SchemaValue}
 use Rattle.rc_tfile.specs.declared.info.TableInfo.{TableInfo}
 use Rattle.rc_lines.specs.declared.commands.Command.{Command}
 use Rattle.rc_lines.specs.declared.commands.Command.TheVariants.{Nothing, SetSchema}
@@ -16,11 +16,11 @@ use Rattle.rc_lines.specs.declared.commands.Refusal.TheVariants.{BadLine, ReadFa
 use Rattle.rc_lines.specs.declared.commands.Reply.{Reply}
 use Rattle.rc_lines.specs.declared.commands.Reply.TheVariants.{Fine}
 use Rattle.rc_lines.specs.Grammar.{parse}
-use Rattle.rc_lines.specs.Parts.{is_word}
+use Rattle.rc_spelling.specs.Words.{is_word}
 use Rattle.rc_lines.specs.Texts.{reply_text, refusal_text}
 use Rattle.rc_machine.specs.Built.{is_built}
-use Rattle.rc_machine.specs.State.{State, Table, opened}
-use Rattle.rc_machine.specs.Serving.{bound_of, checks_of}
+use Rattle.rc_machine.specs.State.{State, Table, opened_state}
+use Rattle.rc_machine.specs.Serving.{most_asks, checks_of}
 use Rattle.rc_machine.specs.Steps.{Steps}
 use Rattle.rc_machine.specs.Tables.{AreTables, AreListed, IsFirstBad}
 use Rattle.rc_shell.specs.Words.{segments_of}
@@ -44,12 +44,12 @@ pub record Moment : Type 0 where
   pub figures : Option Figures
 
 -- what is seen of a store: its files, where it tells them, its count of faults, and how many ranges it was asked for
-abbrev pub Seen : Type 0
-Seen = Option Files × ℕ × ℕ
+abbrev pub StoreView : Type 0
+StoreView = Option Files × ℕ × ℕ
 
 -- a run begins over a store, by its words
-abbrev pub start : Words → Seen → Moment
-start words store = record { stage = Waiting store.0; segments = segments_of words; faults = store.1; asks = store.2; bound = 0; figures = None }
+abbrev pub start_moment : Words → StoreView → Moment
+start_moment words store = record { stage = Waiting store.0; segments = segments_of words; faults = store.1; asks = store.2; bound = 0; figures = None }
 
 -- the files of the store at a stage
 abbrev pub files_of : Stage → Option Files
@@ -64,8 +64,8 @@ MayHaveAsked (Waiting (Some files)) before now = now ≤ before + checks_of (map
 MayHaveAsked (Serving m) before now = now ≤ before + 2 * length m.infos
 
 -- at this moment the store has the stage's files; its count of faults may rise still, and so may what is asked for, by one more line's
-abbrev pub Leaves : Moment → Seen → Type 0
-Leaves now store = (store.0 ≡ files_of now.stage) × (now.faults ≤ store.1) × MayHaveAsked now.stage now.asks store.2
+abbrev pub LeavesStore : Moment → StoreView → Type 0
+LeavesStore now store = (store.0 ≡ files_of now.stage) × (now.faults ≤ store.1) × MayHaveAsked now.stage now.asks store.2
 
 -- a line of a command that is not served is a bad line
 abbrev pub served : Result Command Refusal → Result Command Refusal
@@ -73,7 +73,7 @@ served (Ok command) = if is_built command then Ok command else Err BadLine
 served (Err refusal) = Err refusal
 
 -- the schema that was taken
-abbrev pub taken_schema : Stage → Option Lists
+abbrev pub taken_schema : Stage → Option SchemaValue
 taken_schema (Waiting files) = None
 taken_schema (Serving m) = Some m.schema
 
@@ -85,7 +85,7 @@ meaning_at stage line = served (parse (taken_schema stage) line)
 abbrev pub EarlyStep : ℕ → Option Files → Result Command Refusal → List ℕ → Stage → Type 0
 EarlyStep segments files (Ok Nothing) text new = (text ≡ []) × (new ≡ Waiting files)
 EarlyStep segments files (Ok (SetSchema schema)) text new =
-    (tables : List Table) × (infos : List TableInfo) × AreTables files schema tables × AreListed files schema tables infos × (text ≡ reply_text schema Fine) × (new ≡ Serving (opened segments files schema tables infos))
+    (tables : List Table) × (infos : List TableInfo) × AreTables files schema tables × AreListed files schema tables infos × (text ≡ reply_text schema Fine) × (new ≡ Serving (opened_state segments files schema tables infos))
 EarlyStep segments files (Ok command) text new = ⊥
 EarlyStep segments files (Err refusal) text new = (text ≡ refusal_text refusal) × (new ≡ Waiting files)
 
@@ -104,7 +104,7 @@ StageStep segments (Serving m) meaning text new = MachineStep m meaning text new
 abbrev pub MayAsk : Stage → Result Command Refusal → ℕ → Type 0
 MayAsk (Waiting (Some files)) (Ok (SetSchema schema)) bound = bound ≡ checks_of (map.values files)
 MayAsk (Waiting None) (Ok (SetSchema schema)) bound = ⊤
-MayAsk (Serving m) (Ok command) bound = bound ≡ bound_of m.infos command
+MayAsk (Serving m) (Ok command) bound = bound ≡ most_asks m.infos command
 MayAsk stage meaning bound = bound ≡ 0
 
 -- the ranges that were asked for over a line: at most as many as it may ask for, which are added to the bound so far
@@ -116,13 +116,13 @@ abbrev pub tells_fault : List ℕ → Bool
 tells_fault text = is_word text (refusal_text ReadFault) || is_word text (refusal_text WriteFault)
 
 -- the store's count of faults over a line that is answered by the text: it does not fall, and rose where the text tells a fault
-abbrev pub Counts : List ℕ → ℕ → ℕ → Type 0
-Counts text before now = (before ≤ now) × (IsTrue (tells_fault text) → Rose before now)
+abbrev pub CountsFaults : List ℕ → ℕ → ℕ → Type 0
+CountsFaults text before now = (before ≤ now) × (IsTrue (tells_fault text) → Rose before now)
 
 -- from old the line may be answered by the text, and new is next
 pub record LineStep (old : Moment) (line text : List ℕ) (new : Moment) : Type 0 where
   pub stage : StageStep old.segments old.stage (meaning_at old.stage line) text new.stage
-  pub counts : Counts text old.faults new.faults
+  pub counts : CountsFaults text old.faults new.faults
   pub asks : Asks old (meaning_at old.stage line) new
   pub segments : new.segments ≡ old.segments
   pub figures : new.figures ≡ old.figures
@@ -145,16 +145,16 @@ abbrev pub store_fault : List ℕ
 store_fault = codes "! store fault\n"
 
 -- the machine is not opened over the folder: for its first bad table, where the files are told; or for a fault of the store
-abbrev pub IsNotOpened : Option Files → Lists → Status → List ℕ → ℕ → ℕ → Type 0
+abbrev pub IsNotOpened : Option Files → SchemaValue → Status → List ℕ → ℕ → ℕ → Type 0
 IsNotOpened files schema BadTable last before now = (n : ℕ) × (damage : Option ℕ) × IfSome files (λ f. IsFirstBad f schema n damage) × (last ≡ bad_table n damage)
 IsNotOpened files schema StoreFault last before now = (last ≡ store_fault) × Rose before now
 IsNotOpened files schema status last before now = ⊥
 
 -- the line, with this stage and count of faults before it, ends the run with a status and a last line: it is the first schema line
-abbrev pub EndsAt : Stage → List ℕ → Status → List ℕ → ℕ → ℕ → Type 0
-EndsAt (Waiting files) line status last before now = (schema : Lists) × (parse None line ≡ Ok (SetSchema schema)) × IsNotOpened files schema status last before now
-EndsAt (Serving m) line status last before now = ⊥
+abbrev pub EndsRunAt : Stage → List ℕ → Status → List ℕ → ℕ → ℕ → Type 0
+EndsRunAt (Waiting files) line status last before now = (schema : SchemaValue) × (parse None line ≡ Ok (SetSchema schema)) × IsNotOpened files schema status last before now
+EndsRunAt (Serving m) line status last before now = ⊥
 
 -- at this moment the line ends the run with a status and a last line, and leaves the store so
-abbrev pub Ends : Moment → List ℕ → Status → List ℕ → Seen → Type 0
-Ends old line status last store = Leaves old store × EndsAt old.stage line status last old.faults store.1
+abbrev pub EndsRun : Moment → List ℕ → Status → List ℕ → StoreView → Type 0
+EndsRun old line status last store = LeavesStore old store × EndsRunAt old.stage line status last old.faults store.1

@@ -1,6 +1,6 @@
 -- What the words behind the program's name ask for.
 use Rattle.std.specs.Prelude.{ℕ, List, [], ◌∷◌, codes, if◌then◌else◌}
-use Rattle.rc_lines.specs.Parts.{is_word}
+use Rattle.rc_spelling.specs.Words.{is_word}
 use Rattle.rc_shell.specs.declared.words.Words.{Words}
 use Rattle.rc_shell.specs.declared.words.Words.TheVariants.{Run, Refused}
 

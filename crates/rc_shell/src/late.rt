@@ -3,13 +3,13 @@
 ghost use Rattle.std.specs.Prelude.{◌≡◌, ℕ, List, ◌++◌, None, Some, Ok, OnOk, IfOk, decimal, IsTrue};
 ghost use Rattle.std.specs.Option.{option_copied};
 ghost use Rattle.rc_lines.specs.declared.commands.Command.TheVariants.{SetSchema};
-ghost use Rattle.rc_lines.specs.Grammar.{parse, Reads};
+ghost use Rattle.rc_lines.specs.Grammar.{parse, ReadsLine};
 ghost use Rattle.rc_machine.specs.State.{State};
 ghost use Rattle.rc_machine.specs.Built.{is_built};
 ghost use Rattle.rc_plain.specs.Stands.{Stands};
-ghost use Rattle.rc_shell.specs.Feed.{Answered};
-ghost use Rattle.rc_shell.specs.Step.{Moment, LineStep, Ends, Leaves, damaged_table, other_table, served};
-ghost use Rattle.rc_shell.specs.Late.{StandsFor, schema_set};
+ghost use Rattle.rc_shell.specs.calls.Feed.{Answered};
+ghost use Rattle.rc_shell.specs.Step.{Moment, LineStep, EndsRun, LeavesStore, damaged_table, other_table, served};
+ghost use Rattle.rc_shell.specs.Late.{KeepsMoment, schema_set};
 
 use crate::server::Server;
 use crate::status::Ending;
@@ -30,9 +30,9 @@ pub(crate) struct LateMachine {
 }
 
 impl Server for LateMachine {
-    ghost use Rattle.rc_shell.specs.Late.{StandsFor, stood_leaves};
+    ghost use Rattle.rc_shell.specs.Late.{KeepsMoment, stood_leaves};
 
-    ghost stands = { λ server store now. StandsFor server.machine store now };
+    ghost stands = { λ server store now. KeepsMoment server.machine store now };
 
     ghost leaves = { λ server. stood_leaves server.machine };
 
@@ -61,7 +61,7 @@ impl LateMachine {
 
 /// The command of a line, under the schema that was taken, where the program serves it: a line of any other command is a bad line.
 fn read_served(alloc: Global, schema: Option<&Schema>, line: &[u8]) -> Result<Command, LineErr>
-    ensures reads { Reads result (served (parse (option_copied schema.entry) line.now)) }
+    ensures reads { ReadsLine result (served (parse (option_copied schema.entry) line.now)) }
     ensures built { IfOk result (λ command. IsTrue (is_built command)) }
 {
     match read_line(alloc, schema, line) {
@@ -85,8 +85,8 @@ fn begin<W: Store>(
     text: &mut Vec<u8>,
 ) -> Result<Option<Ending>, AllocError>
     requires { place.old ≡ None }
-    ensures { (old : Moment) → StandsFor None (W.files store.old, W.faults store.old, W.asks store.old) old →
-        Answered LineStep Ends Leaves old line.now (StandsFor place.new (W.files store.new, W.faults store.new, W.asks store.new)) (W.files store.new, W.faults store.new, W.asks store.new) text.old.items text.new.items result }
+    ensures { (old : Moment) → KeepsMoment None (W.files store.old, W.faults store.old, W.asks store.old) old →
+        Answered LineStep EndsRun LeavesStore old line.now (KeepsMoment place.new (W.files store.new, W.faults store.new, W.asks store.new)) (W.files store.new, W.faults store.new, W.asks store.new) text.old.items text.new.items result }
 {
     match read_served(alloc, None, line) {
         Ok(command) => match schema_set(command) {
@@ -131,8 +131,8 @@ fn open<W: Store>(
     text: &mut Vec<u8>,
 ) -> Result<Option<Ending>, AllocError>
     requires { place.old ≡ None }
-    ensures { (old : Moment) (line : List ℕ) → StandsFor None (W.files store.old, W.faults store.old, W.asks store.old) old → parse None line ≡ Ok (SetSchema schema) →
-        Answered LineStep Ends Leaves old line (StandsFor place.new (W.files store.new, W.faults store.new, W.asks store.new)) (W.files store.new, W.faults store.new, W.asks store.new) text.old.items text.new.items result }
+    ensures { (old : Moment) (line : List ℕ) → KeepsMoment None (W.files store.old, W.faults store.old, W.asks store.old) old → parse None line ≡ Ok (SetSchema schema) →
+        Answered LineStep EndsRun LeavesStore old line (KeepsMoment place.new (W.files store.new, W.faults store.new, W.asks store.new)) (W.files store.new, W.faults store.new, W.asks store.new) text.old.items text.new.items result }
 {
     match Plain::open(alloc, store, schema) {
         Ok(machine) => {
@@ -195,8 +195,8 @@ fn serve<W: Store>(
     text: &mut Vec<u8>,
 ) -> Result<Option<Ending>, AllocError>
     requires { (m : State) × Stands (W.files store.old) machine.old m }
-    ensures { (old : Moment) → StandsFor (Some machine.old) (W.files store.old, W.faults store.old, W.asks store.old) old →
-        Answered LineStep Ends Leaves old line.now (StandsFor (Some machine.new) (W.files store.new, W.faults store.new, W.asks store.new)) (W.files store.new, W.faults store.new, W.asks store.new) text.old.items text.new.items result }
+    ensures { (old : Moment) → KeepsMoment (Some machine.old) (W.files store.old, W.faults store.old, W.asks store.old) old →
+        Answered LineStep EndsRun LeavesStore old line.now (KeepsMoment (Some machine.new) (W.files store.new, W.faults store.new, W.asks store.new)) (W.files store.new, W.faults store.new, W.asks store.new) text.old.items text.new.items result }
 {
     match read_served(alloc, Some(machine.schema()), line) {
         Ok(command) => {

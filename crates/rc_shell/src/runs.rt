@@ -2,7 +2,7 @@
 
 ghost use Rattle.std.specs.Prelude.{◌≡◌, ◌^◌, ℕ, List, map, string_bytes};
 ghost use Rattle.rc_shell.specs.Run.{Ran};
-ghost use Rattle.rc_shell.specs.Step.{LineStep, Ends, Leaves, start};
+ghost use Rattle.rc_shell.specs.Step.{LineStep, EndsRun, LeavesStore, start_moment};
 ghost use Rattle.rc_shell.specs.Words.{words_of};
 
 use crate::late::LateMachine;
@@ -29,7 +29,7 @@ pub fn run<W: Store, I: Source, K: Sink>(
     input: &mut I,
     out: &mut K,
 ) -> Status
-    ensures run { Ran LineStep Ends Leaves (words_of (map string_bytes words.now)) (start (words_of (map string_bytes words.now)) (W.files store.old, W.faults store.old, W.asks store.old)) (2 ^ 40) result (I.left input.old) (I.left input.new) (K.written out.old) (K.written out.new)
+    ensures run { Ran LineStep EndsRun LeavesStore (words_of (map string_bytes words.now)) (start_moment (words_of (map string_bytes words.now)) (W.files store.old, W.faults store.old, W.asks store.old)) (2 ^ 40) result (I.left input.old) (I.left input.new) (K.written out.old) (K.written out.new)
         (W.files store.new, W.faults store.new, W.asks store.new) (I.faults input.old) (I.faults input.new) (K.faults out.old) (K.faults out.new) }
     // The store is asked for nothing where the words are refused.
     ensures refused { words_of (map string_bytes words.now) ≡ Words.Refused → store.new ≡ store.old }
@@ -46,7 +46,7 @@ pub fn run_with<W: Store, I: Source, K: Sink>(
     out: &mut K,
     limit: u64,
 ) -> Status
-    ensures run { Ran LineStep Ends Leaves (words_of (map string_bytes words.now)) (start (words_of (map string_bytes words.now)) (W.files store.old, W.faults store.old, W.asks store.old)) limit result (I.left input.old) (I.left input.new) (K.written out.old) (K.written out.new)
+    ensures run { Ran LineStep EndsRun LeavesStore (words_of (map string_bytes words.now)) (start_moment (words_of (map string_bytes words.now)) (W.files store.old, W.faults store.old, W.asks store.old)) limit result (I.left input.old) (I.left input.new) (K.written out.old) (K.written out.new)
         (W.files store.new, W.faults store.new, W.asks store.new) (I.faults input.old) (I.faults input.new) (K.faults out.old) (K.faults out.new) }
     // The store is asked for nothing where the words are refused.
     ensures refused { words_of (map string_bytes words.now) ≡ Words.Refused → store.new ≡ store.old }

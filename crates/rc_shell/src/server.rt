@@ -1,8 +1,8 @@
 //! What answers the lines.
 
 ghost use Rattle.std.specs.Prelude.{◌≡◌, ℕ, List, ◌++◌, OnOk};
-ghost use Rattle.rc_shell.specs.Feed.{Answered, kept};
-ghost use Rattle.rc_shell.specs.Step.{Moment, Seen, LineStep, Ends, Leaves};
+ghost use Rattle.rc_shell.specs.calls.Feed.{Answered, kept};
+ghost use Rattle.rc_shell.specs.Step.{Moment, StoreView, LineStep, EndsRun, LeavesStore};
 
 use crate::status::Ending;
 use rc_outside::Store;
@@ -11,7 +11,7 @@ use std::alloc::{AllocError, Global};
 /// Something that answers lines over a store, one after another.
 pub(crate) trait Server {
     /// Over a store of which this is seen the server stands for a moment of a run.
-    ghost stands: { Self → Seen → Moment → Type 0 };
+    ghost stands: { Self → StoreView → Moment → Type 0 };
 
     /// Answers one line, without its newline: the text of its reply goes to the end of `text`; where the line ends the run, it is the run's
     /// last line. Want of memory leaves the store as before the line, or as a step by the line leaves it.
@@ -24,8 +24,8 @@ pub(crate) trait Server {
     ) -> Result<Option<Ending>, AllocError>
         requires { (now : Moment) × stands self.old (W.files store.old, W.faults store.old, W.asks store.old) now }
         ensures { (old : Moment) → stands self.old (W.files store.old, W.faults store.old, W.asks store.old) old →
-            Answered LineStep Ends Leaves old line.now (stands self.new (W.files store.new, W.faults store.new, W.asks store.new)) (W.files store.new, W.faults store.new, W.asks store.new) text.old.items text.new.items result };
+            Answered LineStep EndsRun LeavesStore old line.now (stands self.new (W.files store.new, W.faults store.new, W.asks store.new)) (W.files store.new, W.faults store.new, W.asks store.new) text.old.items text.new.items result };
 
     /// Its moment has the store's files.
-    ghost leaves: { (server : Self) (store : Seen) (now : Moment) → stands server store now → Leaves now store };
+    ghost leaves: { (server : Self) (store : StoreView) (now : Moment) → stands server store now → LeavesStore now store };
 }

@@ -4,10 +4,10 @@ ghost use Rattle.std.specs.Prelude.{◌≡◌, ℕ, ◌+◌, ◌<◌, ◌≤◌,
 ghost use Rattle.std.specs.Io.KnownBytes.{Appends, IsAtEnd};
 ghost use Rattle.rc_outside.specs.Faults.{Rose};
 ghost use Rattle.rc_shell.specs.Lines.{IsLine};
-ghost use Rattle.rc_shell.specs.Feed.{PushedText, PushedAnswer, ServedLine, ServedLast, Serves, SoFar, TurnGave, EndedBy, kept};
+ghost use Rattle.rc_shell.specs.calls.Feed.{PushedText, PushedAnswer, ServedLine, ServedLast, Serves, SoFar, TurnGave, EndedBy, kept};
 ghost use Rattle.rc_shell.specs.Run.{Ran, piece_size};
 ghost use Rattle.rc_shell.specs.Status.{stop_by};
-ghost use Rattle.rc_shell.specs.Step.{Moment, LineStep, Ends, Leaves};
+ghost use Rattle.rc_shell.specs.Step.{Moment, LineStep, EndsRun, LeavesStore};
 ghost use Rattle.rc_shell.specs.declared.words.Words.TheVariants.{Run};
 
 use crate::server::Server;
@@ -87,7 +87,7 @@ impl<S: Server> Session<S> {
     ) -> Result<(), Stop>
         requires stands { (now : Moment) × S.stands self.old.server (W.files store.old, W.faults store.old, W.asks store.old) now }
         ensures served { (line : List ℕ) (old : Moment) → self.old.held.items ≡ kept line → S.stands self.old.server (W.files store.old, W.faults store.old, W.asks store.old) old →
-            ServedLine LineStep Ends Leaves old line (S.stands self.new.server (W.files store.new, W.faults store.new, W.asks store.new)) (W.files store.new, W.faults store.new, W.asks store.new)
+            ServedLine LineStep EndsRun LeavesStore old line (S.stands self.new.server (W.files store.new, W.faults store.new, W.asks store.new)) (W.files store.new, W.faults store.new, W.asks store.new)
             (K.written out.old) (K.written out.new) (K.faults out.old) (K.faults out.new) result }
         ensures stands { OnOk result ((now : Moment) × S.stands self.new.server (W.files store.new, W.faults store.new, W.asks store.new) now) }
         ensures held { self.new.held.items ≡ [] }
@@ -128,7 +128,7 @@ impl<S: Server> Session<S> {
     ) -> Result<(), Stop>
         requires stands { (now : Moment) × S.stands self.old.server (W.files store.old, W.faults store.old, W.asks store.old) now }
         ensures served { (rest : List ℕ) (old : Moment) → IsLine rest → self.old.held.items ≡ kept rest → S.stands self.old.server (W.files store.old, W.faults store.old, W.asks store.old) old →
-            Serves LineStep Ends Leaves old rest (byte ∷ []) (S.stands self.new.server (W.files store.new, W.faults store.new, W.asks store.new)) self.new.held.items (W.files store.new, W.faults store.new, W.asks store.new)
+            Serves LineStep EndsRun LeavesStore old rest (byte ∷ []) (S.stands self.new.server (W.files store.new, W.faults store.new, W.asks store.new)) self.new.held.items (W.files store.new, W.faults store.new, W.asks store.new)
             (K.written out.old) (K.written out.new) (K.faults out.old) (K.faults out.new) result }
         ensures stands { OnOk result ((now : Moment) × S.stands self.new.server (W.files store.new, W.faults store.new, W.asks store.new) now) }
     {
@@ -148,7 +148,7 @@ impl<S: Server> Session<S> {
     ) -> Result<(), Stop>
         requires stands { (now : Moment) × S.stands self.old.server (W.files store.old, W.faults store.old, W.asks store.old) now }
         ensures served { (rest : List ℕ) (old : Moment) → IsLine rest → self.old.held.items ≡ kept rest → S.stands self.old.server (W.files store.old, W.faults store.old, W.asks store.old) old →
-            Serves LineStep Ends Leaves old rest piece.now (S.stands self.new.server (W.files store.new, W.faults store.new, W.asks store.new)) self.new.held.items (W.files store.new, W.faults store.new, W.asks store.new)
+            Serves LineStep EndsRun LeavesStore old rest piece.now (S.stands self.new.server (W.files store.new, W.faults store.new, W.asks store.new)) self.new.held.items (W.files store.new, W.faults store.new, W.asks store.new)
             (K.written out.old) (K.written out.new) (K.faults out.old) (K.faults out.new) result }
         ensures stands { OnOk result ((now : Moment) × S.stands self.new.server (W.files store.new, W.faults store.new, W.asks store.new) now) }
     {
@@ -167,7 +167,7 @@ impl<S: Server> Session<S> {
     ) -> Result<(), Stop>
         requires stands { (now : Moment) × S.stands self.old.server (W.files store.old, W.faults store.old, W.asks store.old) now }
         ensures { (rest : List ℕ) (old : Moment) → self.old.held.items ≡ kept rest → S.stands self.old.server (W.files store.old, W.faults store.old, W.asks store.old) old →
-            ServedLast LineStep Ends Leaves old rest (S.stands self.new.server (W.files store.new, W.faults store.new, W.asks store.new)) (W.files store.new, W.faults store.new, W.asks store.new)
+            ServedLast LineStep EndsRun LeavesStore old rest (S.stands self.new.server (W.files store.new, W.faults store.new, W.asks store.new)) (W.files store.new, W.faults store.new, W.asks store.new)
             (K.written out.old) (K.written out.new) (K.faults out.old) (K.faults out.new) result }
     {
         if self.held.is_empty() {
@@ -191,9 +191,9 @@ impl<S: Server> Session<S> {
         ensures within { IfOk result (λ count. (0 < count) × (count ≤ length piece.old)) }
         ensures stands { OnOk result ((now : Moment) × S.stands self.new.server (W.files store.new, W.faults store.new, W.asks store.new) now) }
         ensures run { (start : Moment) (limit count : ℕ) (left written : Option (List ℕ)) (faults faults2 : ℕ) → count + length piece.old ≤ limit →
-            SoFar LineStep Ends Leaves start (S.stands self.old.server (W.files store.old, W.faults store.old, W.asks store.old)) self.old.held.items count left (I.left input.old) written (K.written out.old)
+            SoFar LineStep EndsRun LeavesStore start (S.stands self.old.server (W.files store.old, W.faults store.old, W.asks store.old)) self.old.held.items count left (I.left input.old) written (K.written out.old)
             faults (I.faults input.old) faults2 (K.faults out.old) →
-            TurnGave LineStep Ends Leaves start limit (S.stands self.new.server (W.files store.new, W.faults store.new, W.asks store.new)) self.new.held.items count left (I.left input.new) written (K.written out.new)
+            TurnGave LineStep EndsRun LeavesStore start limit (S.stands self.new.server (W.files store.new, W.faults store.new, W.asks store.new)) self.new.held.items count left (I.left input.new) written (K.written out.new)
             (W.files store.new, W.faults store.new, W.asks store.new) faults (I.faults input.new) faults2 (K.faults out.new) result }
     {
         match input.pull(piece) {
@@ -224,7 +224,7 @@ impl<S: Server> Session<S> {
         requires fresh { self.old.held.items ≡ [] }
         requires stands { (now : Moment) × S.stands self.old.server (W.files store.old, W.faults store.old, W.asks store.old) now }
         ensures { (start : Moment) → S.stands self.old.server (W.files store.old, W.faults store.old, W.asks store.old) start →
-            (segments : ℕ) → Ran LineStep Ends Leaves (Run segments) start limit result (I.left input.old) (I.left input.new) (K.written out.old) (K.written out.new) (W.files store.new, W.faults store.new, W.asks store.new)
+            (segments : ℕ) → Ran LineStep EndsRun LeavesStore (Run segments) start limit result (I.left input.old) (I.left input.new) (K.written out.old) (K.written out.new) (W.files store.new, W.faults store.new, W.asks store.new)
             (I.faults input.old) (I.faults input.new) (K.faults out.old) (K.faults out.new) }
     {
         let mut taken = 0u64;

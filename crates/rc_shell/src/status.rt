@@ -1,6 +1,6 @@
 //! How a run ends.
 
-ghost use Rattle.rc_shell.specs.Status.{code_of, status_at, status_of};
+ghost use Rattle.rc_shell.specs.Status.{exit_code, status_at, status_of};
 ghost use Rattle.std.specs.Prelude.{◌≡◌};
 
 /// How a run ended.
@@ -27,7 +27,7 @@ pub enum Status {
 impl Status {
     /// The exit status of the program.
     pub fn code(self) -> u8
-        ensures { result ≡ code_of self }
+        ensures { result ≡ exit_code self }
     {
         match self {
             Status::Done => 0,

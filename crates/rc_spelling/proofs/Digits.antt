@@ -13,7 +13,7 @@ use Rattle.std.proofs.lemmas.Int.{ints}
 use lib.IntN.{ℤ, pos, neg_ℤ, ◌-ℤ◌}
 use mir.Syntax.{w64}
 use Rattle.rc_spelling.specs.Numbers.{is_numeral, number_of}
-use Rattle.rc_spelling.specs.NumberLaws.{number_some}
+use Rattle.rc_spelling.specs.laws.Numerals.{number_some}
 
 -- each of them is a digit
 pub digit_at : (ds : List ℕ) (i : ℕ) → list_all is_ascii_digit ds ≡ true → i < length ds → is_ascii_digit (get_or ds i 0) ≡ true

@@ -2,9 +2,9 @@
 use Rattle.std.proofs.Common.{◌≡◌, ℕ, ◌<◌, Bool, true, false, cond, ◌==◌, List, [], ◌∷◌, ◌++◌, length, Option, Some, None, refl, ap, sym, ◌∙◌, subst, append_assoc, arith}
 use Rattle.std.specs.Option.{option_map, option_and_then, is_some}
 use Rattle.std.proofs.lemmas.Bool.Decides.{nat_tests}
-use Rattle.rc_spelling.specs.Spelling.{stands_alone, escaped, alone, escape, bytes_spelled}
-use Rattle.rc_spelling.specs.Fronts.{first_alone, first_escaped, first_spelled}
-use Rattle.rc_spelling.specs.Laws.{alone_ahead, escape_ahead, not_alone}
+use Rattle.rc_spelling.specs.Spelling.{stands_alone, escaped, lone_byte, escape, bytes_spelled}
+use Rattle.rc_spelling.specs.calls.Fronts.{first_alone, first_escaped, first_spelled}
+use Rattle.rc_spelling.specs.laws.{alone_ahead, escape_ahead, not_alone}
 
 inside : (x y : ℕ × List ℕ) → ◌≡◌ {A = Option (ℕ × List ℕ)} (Some x) (Some y) → x ≡ y
 inside x y h = cc
@@ -60,9 +60,9 @@ step (byte ∷ next ∷ other ∷ rest) found h = long_step byte next other rest
 long_stop : (byte next other : ℕ) (rest : List ℕ) (b : Bool) → byte == 37 ≡ b
     → cond b (first_escaped next other rest) (first_alone byte (next ∷ other ∷ rest)) ≡ None → bytes_spelled (byte ∷ next ∷ other ∷ rest) ≡ None
 long_stop byte next other rest true e h =
-    ap (λ b. cond b (escape next other (bytes_spelled rest)) (alone byte (bytes_spelled (next ∷ other ∷ rest)))) e ∙ (ap (λ (o : Option ℕ). option_and_then (λ first. option_map (λ bytes. first ∷ bytes) (bytes_spelled rest)) o) (pair_none (escaped next other) rest h))
+    ap (λ b. cond b (escape next other (bytes_spelled rest)) (lone_byte byte (bytes_spelled (next ∷ other ∷ rest)))) e ∙ (ap (λ (o : Option ℕ). option_and_then (λ first. option_map (λ bytes. first ∷ bytes) (bytes_spelled rest)) o) (pair_none (escaped next other) rest h))
 long_stop byte next other rest false e h =
-    ap (λ b. cond b (escape next other (bytes_spelled rest)) (alone byte (bytes_spelled (next ∷ other ∷ rest)))) e ∙ (not_alone byte (bytes_spelled (next ∷ other ∷ rest)) (choice_none (stands_alone byte) (byte, next ∷ other ∷ rest) h))
+    ap (λ b. cond b (escape next other (bytes_spelled rest)) (lone_byte byte (bytes_spelled (next ∷ other ∷ rest)))) e ∙ (not_alone byte (bytes_spelled (next ∷ other ∷ rest)) (choice_none (stands_alone byte) (byte, next ∷ other ∷ rest) h))
 
 -- where no byte is at the front, a word that is not empty is no spelling
 pub stop : (left : List ℕ) → first_spelled left ≡ None → 0 < length left → bytes_spelled left ≡ None

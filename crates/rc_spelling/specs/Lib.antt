@@ -1,7 +1,6 @@
+pub mod calls
 pub mod Words
 pub mod Numbers
 pub mod Spelling
-pub mod Fronts
 pub mod Printed
-pub mod NumberLaws
-pub mod Laws
+pub mod laws

@@ -21,13 +21,13 @@ abbrev pub spelled_byte : ℕ → List ℕ
 spelled_byte byte = if stands_for_itself byte then byte ∷ [] else 37 ∷ hexadecimal (byte / 16) ∷ hexadecimal (byte % 16) ∷ []
 
 -- bytes as they are printed
-abbrev pub spelled : List ℕ → List ℕ
-spelled bytes = flat_map spelled_byte bytes
+abbrev pub printed : List ℕ → List ℕ
+printed bytes = flat_map spelled_byte bytes
 
 -- a text component; `''` stands for the empty text
 abbrev pub text_component : List ℕ → List ℕ
 text_component [] = codes "''"
-text_component (byte ∷ bytes) = spelled (byte ∷ bytes)
+text_component (byte ∷ bytes) = printed (byte ∷ bytes)
 
 -- a component: a decimal number, or a text
 abbrev pub component_text : Comp → List ℕ

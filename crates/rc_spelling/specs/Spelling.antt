@@ -18,8 +18,8 @@ abbrev pub escaped : ℕ → ℕ → Option ℕ
 escaped high low = if is_ascii_hexdigit high && is_ascii_hexdigit low then Some (digit_value high * 16 + digit_value low) else None
 
 -- a byte that stands for itself, before what else is spelled
-abbrev pub alone : ℕ → Option (List ℕ) → Option (List ℕ)
-alone byte more = if stands_alone byte then option_map (λ bytes. byte ∷ bytes) more else None
+abbrev pub lone_byte : ℕ → Option (List ℕ) → Option (List ℕ)
+lone_byte byte more = if stands_alone byte then option_map (λ bytes. byte ∷ bytes) more else None
 
 -- a byte that two digits stand for, before what else is spelled
 abbrev pub escape : ℕ → ℕ → Option (List ℕ) → Option (List ℕ)
@@ -28,10 +28,10 @@ escape high low more = option_and_then (λ byte. option_map (λ bytes. byte ∷ 
 -- the bytes that a word spells: nothing, or a byte that stands for itself and a spelling, or `%`, two digits and a spelling
 abbrev pub bytes_spelled : List ℕ → Option (List ℕ)
 bytes_spelled [] = Some []
-bytes_spelled (byte ∷ []) = alone byte (Some [])
-bytes_spelled (byte ∷ next ∷ []) = alone byte (bytes_spelled (next ∷ []))
+bytes_spelled (byte ∷ []) = lone_byte byte (Some [])
+bytes_spelled (byte ∷ next ∷ []) = lone_byte byte (bytes_spelled (next ∷ []))
 bytes_spelled (byte ∷ next ∷ other ∷ rest) =
-    if byte == 37 then escape next other (bytes_spelled rest) else alone byte (bytes_spelled (next ∷ other ∷ rest))
+    if byte == 37 then escape next other (bytes_spelled rest) else lone_byte byte (bytes_spelled (next ∷ other ∷ rest))
 
 -- two quotes, which stand for the empty text
 abbrev pub is_empty_text : List ℕ → Bool

@@ -9,28 +9,28 @@ ghost use Rattle.std.specs.List.{list_all, AllByRecursion};
 ghost use Rattle.rc_position.specs.declared.comps.Comp.{Comp};
 ghost use Rattle.rc_spelling.specs.Numbers.{signed_of};
 ghost use Rattle.rc_spelling.specs.Spelling.{bytes_spelled, components_spelled};
-ghost use Rattle.rc_spelling.specs.Printed.{AreBytes, IsComponent, spelled, key_text, bytes_of_component};
+ghost use Rattle.rc_spelling.specs.Printed.{AreBytes, IsComponent, printed, key_text, bytes_of_component};
 
 /// Printed bytes spell the bytes.
-#[tactic(auto, using(crate::specs::Laws::printed_bytes_read_back))]
+#[tactic(auto, using(crate::specs::laws::printed_bytes_read_back))]
 pub fn printed_bytes_read_back()
-    ensures { (bytes : List ℕ) → AreBytes bytes → bytes_spelled (spelled bytes) ≡ Some bytes }
+    ensures { (bytes : List ℕ) → AreBytes bytes → bytes_spelled (printed bytes) ≡ Some bytes }
 {}
 
 /// A printed number is read as the number.
-#[tactic(auto, using(crate::specs::Laws::printed_numbers_read_back))]
+#[tactic(auto, using(crate::specs::laws::printed_numbers_read_back))]
 pub fn printed_numbers_read_back()
     ensures { (number : ℤ) → FitsSigned w64 number → signed_of (signed_decimal number) ≡ Some number }
 {}
 
 /// A printed key of one component and more spells the components' bytes, those of an int being its decimal number.
-#[tactic(auto, using(crate::specs::Laws::printed_keys_read_back))]
+#[tactic(auto, using(crate::specs::laws::printed_keys_read_back))]
 pub fn printed_keys_read_back()
     ensures { (first : Comp) (rest : List Comp) → AllByRecursion IsComponent (first ∷ rest) → components_spelled (key_text (first ∷ rest)) ≡ Some (map bytes_of_component (first ∷ rest)) }
 {}
 
 /// A value of letters and digits is printed as it was written.
-#[tactic(auto, using(crate::specs::Laws::plain_values_stay))]
+#[tactic(auto, using(crate::specs::laws::plain_values_stay))]
 pub fn plain_values_print_as_written()
-    ensures { (value : List ℕ) → IsTrue (list_all is_ascii_alphanumeric value) → spelled value ≡ value }
+    ensures { (value : List ℕ) → IsTrue (list_all is_ascii_alphanumeric value) → printed value ≡ value }
 {}

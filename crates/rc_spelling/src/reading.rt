@@ -4,7 +4,7 @@ ghost use Rattle.std.specs.Prelude.{◌≡◌, IfOk, IsTrue, map, take};
 ghost use Rattle.std.specs.Char.{digit_value, is_ascii_hexdigit};
 ghost use Rattle.std.specs.Option.{is_some, option_map};
 ghost use Rattle.rc_spelling.specs.Spelling.{is_mark, stands_alone, escaped, bytes_spelled, is_empty_text, component_spelled, pieces_spelled, components_spelled};
-ghost use Rattle.rc_spelling.specs.Fronts.{first_alone, first_escaped, first_spelled};
+ghost use Rattle.rc_spelling.specs.calls.Fronts.{first_alone, first_escaped, first_spelled};
 
 use crate::cutting::cut;
 use std::alloc::{AllocError, Global};

@@ -11,8 +11,8 @@ use Rattle.rc_position.specs.declared.positions.Pos.{Pos}
 use Rattle.rc_position.specs.Position.{row_pos}
 use Rattle.rc_mutation.specs.declared.fragments.Frag.{Frag}
 use Rattle.rc_mutation.specs.declared.fragments.Frag.TheVariants as frag
-use Rattle.rc_mutation.specs.Fragments.{place_order}
-use Rattle.rc_stream.specs.Stream.{after, force, is_passed, row_at}
+use Rattle.rc_mutation.specs.Fragments.{place_order, tomb_after}
+use Rattle.rc_stream.specs.Stream.{force, is_passed, row_at}
 use Rattle.rc_stream.specs.Merging.{IsOrdered, IsTelling, StandsBefore, changes_nothing, place_of, rows_here, same_tomb}
 use Rattle.rc_stream.proofs.Ordered.{Place, Lt, place_total, place_same, before-through, irreflexive, itself, no_rows, passes-itself, stop, unpassed}
 use Rattle.rc_stream.proofs.Stepping.{other_rank}
@@ -90,11 +90,11 @@ same-first tomb (frag.Change from next) (frag.Change from' next') fs gs o k e ro
 same-first tomb (frag.Change from next) frag.End fs gs o k e rows tombs = absurd k.0
 same-first tomb frag.End g fs gs o k e rows tombs = absurd o.0
 
-tail-tombs : (tomb : Option Tomb) (f : Frag) (fs gs : List Frag) → IsOrdered (f ∷ fs) → IsOrdered (f ∷ gs) → SameTombs tomb (f ∷ fs) (f ∷ gs) → SameTombs (after tomb f) fs gs
+tail-tombs : (tomb : Option Tomb) (f : Frag) (fs gs : List Frag) → IsOrdered (f ∷ fs) → IsOrdered (f ∷ gs) → SameTombs tomb (f ∷ fs) (f ∷ gs) → SameTombs (tomb_after tomb f) fs gs
 tail-tombs tomb f fs gs o k tombs x =
-    elim (is_passed x f) as (λ c. is_passed x f ≡ c → cond c (force x (after tomb f) fs) tomb ≡ cond c (force x (after tomb f) gs) tomb → force x (after tomb f) fs ≡ force x (after tomb f) gs) [
+    elim (is_passed x f) as (λ c. is_passed x f ≡ c → cond c (force x (tomb_after tomb f) fs) tomb ≡ cond c (force x (tomb_after tomb f) gs) tomb → force x (tomb_after tomb f) fs ≡ force x (tomb_after tomb f) gs) [
       | true ↦ λ e same. same
-      | false ↦ λ e same. stop x (place_of f) (after tomb f) fs o.2 o.1 (unpassed x f o.0 e) ∙ sym (stop x (place_of f) (after tomb f) gs k.2 k.1 (unpassed x f o.0 e))
+      | false ↦ λ e same. stop x (place_of f) (tomb_after tomb f) fs o.2 o.1 (unpassed x f o.0 e) ∙ sym (stop x (place_of f) (tomb_after tomb f) gs k.2 k.1 (unpassed x f o.0 e))
     ] refl (tombs x)
 
 pub determined : (tomb : Option Tomb) (fs gs : List Frag) → IsOrdered fs → IsOrdered gs → IsTelling tomb fs → IsTelling tomb gs → SameRows fs gs → SameTombs tomb fs gs → fs ≡ gs
@@ -110,7 +110,7 @@ determined tomb (f ∷ fs) (g ∷ gs) o k c d rows tombs =
           let d' : IsTelling tomb (f ∷ gs) = subst (λ h. IsTelling tomb (h ∷ gs)) (sym same) d in
           let rows' : SameRows (f ∷ fs) (f ∷ gs) = λ x. rows x ∙ ap (λ h. rows_here x (h ∷ gs)) (sym same) in
           let tombs' : SameTombs tomb (f ∷ fs) (f ∷ gs) = λ x. tombs x ∙ ap (λ h. force x tomb (h ∷ gs)) (sym same) in
-          let left : fs ≡ gs = determined (after tomb f) fs gs o.2 k'.2 c.1 d'.1 (λ x. cancel (row_at x f) (rows_here x fs) (rows_here x gs) (rows' x)) (tail-tombs tomb f fs gs o k' tombs') in
+          let left : fs ≡ gs = determined (tomb_after tomb f) fs gs o.2 k'.2 c.1 d'.1 (λ x. cancel (row_at x f) (rows_here x fs) (rows_here x gs) (rows' x)) (tail-tombs tomb f fs gs o k' tombs') in
           λ i. same i ∷ left i
       | Greater ↦ λ e.
           let a : Lt (place_of g) (place_of f) = place_total.antisymm (place_of g) (place_of f) ∙ ap ordering_reverse e in

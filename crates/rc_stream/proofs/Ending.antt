@@ -10,15 +10,15 @@ use Rattle.rc_cell.specs.declared.writes.Tomb.{Tomb}
 use Rattle.rc_cell.specs.Greatest.{greater}
 use Rattle.rc_cell.specs.Orders.{tomb_cmp}
 use Rattle.rc_position.specs.declared.positions.Pos.{Pos}
-use Rattle.rc_position.specs.OrderLaws.{pos_cmp_total}
+use Rattle.rc_position.specs.laws.Orders.{pos_cmp_total}
 use Rattle.rc_position.specs.Position.{pos_cmp}
 use Rattle.rc_mutation.specs.declared.fragments.Frag.{Frag}
 use Rattle.rc_mutation.specs.declared.fragments.Frag.TheVariants as frag
-use Rattle.rc_mutation.specs.Fragments.{place_order}
+use Rattle.rc_mutation.specs.Fragments.{place_order, tomb_after}
 use Rattle.rc_stream.specs.declared.holding.Held.{Held}
-use Rattle.rc_stream.specs.Did.{Covers}
+use Rattle.rc_stream.specs.Did.{ReachesEnd}
 use Rattle.rc_stream.specs.Places.{Reaches, bound_of}
-use Rattle.rc_stream.specs.Stream.{Stream, after, first_upto}
+use Rattle.rc_stream.specs.Stream.{Stream, first_upto}
 use Rattle.rc_stream.specs.Merging.{IsOrdered, StandsBefore, both_say, changes_nothing, merged, merged_left, place_of, telling}
 use Rattle.rc_stream.specs.Holding.{held}
 use Rattle.rc_stream.specs.Moving.{HoldBoth, Holds}
@@ -79,9 +79,9 @@ from-say x tomb fs other gs (f ∷ all) h = (from-said x tomb fs other gs f h.0,
 from-telling : (x : Pos) (tomb : Option Tomb) (fs : List Frag) → From x fs → From x (telling tomb fs)
 from-telling x tomb [] h = tt
 from-telling x tomb (f ∷ fs) h =
-    elim (changes_nothing tomb f) as (λ b. From x (cond b (telling tomb fs) (f ∷ telling (after tomb f) fs))) [
+    elim (changes_nothing tomb f) as (λ b. From x (cond b (telling tomb fs) (f ∷ telling (tomb_after tomb f) fs))) [
       | true ↦ from-telling x tomb fs h.1
-      | false ↦ (h.0, from-telling x (after tomb f) fs h.1)
+      | false ↦ (h.0, from-telling x (tomb_after tomb f) fs h.1)
     ]
 
 -- what both say stands from a position on, where what each says does
@@ -161,7 +161,7 @@ module _ (P P' Q : Seen) (x : Pos) (h h' k : Held) where
       subst (λ (u : Stream). Reaches p (bound_of x u.left)) (sym b.joins) (merged-first p x b.ours b.theirs front.0 (subst (From p) (sym ours) front.1) behind)
 
   -- so a position that is not before the end of both is not before that of theirs
-  pub covers-theirs : (Q' : Seen) (near y : Pos) → near ≡ bound_of x (held h') → ((t : Stream) → Holds P h t → Holds P' h' t) → ((t : Stream) → Holds P h t → held h' ≡ [] → first_upto x t.left ≡ None) → ((t : Stream) → Q t → Q' t) → Covers (HoldBoth P h Q k) x y → held k ≡ [] → Covers Q' near y
+  pub covers-theirs : (Q' : Seen) (near y : Pos) → near ≡ bound_of x (held h') → ((t : Stream) → Holds P h t → Holds P' h' t) → ((t : Stream) → Holds P h t → held h' ≡ [] → first_upto x t.left ≡ None) → ((t : Stream) → Q t → Q' t) → ReachesEnd (HoldBoth P h Q k) x y → held k ≡ [] → ReachesEnd Q' near y
   covers-theirs Q' near y e one none other (inl r) empty = inl (subst (λ z. Reaches z y) (sym e) (reaches-through (bound_of x (held h')) x y r (bound-upto x (held h'))))
   covers-theirs Q' near y e one none other (inr c) empty =
       let b = c.1 in
@@ -169,6 +169,6 @@ module _ (P P' Q : Seen) (x : Pos) (h h' k : Held) where
       inr (s, other s b.holds_theirs.stands, subst (λ z. Reaches (bound_of z s.left) y) (sym e) (reaches-through (bound_of (bound_of x (held h')) s.left) (bound_of x c.0.left) y c.2 (ends c.0 b (one b.ours b.holds_ours) (none b.ours b.holds_ours) empty)))
 
 -- what is not before the end of what was stood for, is not before the end of what is stood for
-pub covers-on : (P Q : Seen) (x y : Pos) → ((m : Stream) → P m → Q m) → Covers P x y → Covers Q x y
+pub covers-on : (P Q : Seen) (x y : Pos) → ((m : Stream) → P m → Q m) → ReachesEnd P x y → ReachesEnd Q x y
 covers-on P Q x y go (inl r) = inl r
 covers-on P Q x y go (inr c) = inr (c.0, go c.0 c.1, c.2)

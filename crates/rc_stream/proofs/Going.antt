@@ -16,7 +16,7 @@ use Rattle.rc_stream.specs.declared.streams.StreamErr.TheVariants.{Fault, Damage
 use Rattle.rc_stream.specs.Causes.{Caused}
 use Rattle.rc_stream.specs.Merging.{place_of}
 use Rattle.rc_stream.specs.Places.{Reaches}
-use Rattle.rc_stream.specs.Holding.{Does, IsFrom, StepReaches}
+use Rattle.rc_stream.specs.Holding.{TakesTurn, IsFrom, StepReaches}
 use Rattle.rc_stream.specs.Moving.{Either, Keeps, MaySeek, Moved, Moves, Once}
 use Rattle.rc_stream.proofs.Says.{le_le}
 
@@ -58,13 +58,13 @@ caused-after (Err NoMemory) files files' before mid now e h c = omega (arith, h,
 
 -- ---- from where both go on after a step
 
-pub does-ours : (r : Turn) (s : Step) (o t o' t' : Held) → Does r s o t o' t' → (x : Pos) → StepReaches s x → IsFrom o'.look x → IsFrom o.look x
+pub does-ours : (r : Turn) (s : Step) (o t o' t' : Held) → TakesTurn r s o t o' t' → (x : Pos) → StepReaches s x → IsFrom o'.look x → IsFrom o.look x
 does-ours turn.Nobody s o t o' t' d x u h = subst (λ (z : Held). IsFrom z.look x) d.1 h
 does-ours turn.Ours s o t o' t' d x u h = d.1.from x u h
 does-ours turn.Theirs s o t o' t' d x u h = subst (λ (z : Held). IsFrom z.look x) d.1 h
 does-ours turn.Both s o t o' t' d x u h = d.1.from x u h
 
-pub does-theirs : (r : Turn) (s : Step) (o t o' t' : Held) → Does r s o t o' t' → (x : Pos) → StepReaches s x → IsFrom t'.look x → IsFrom t.look x
+pub does-theirs : (r : Turn) (s : Step) (o t o' t' : Held) → TakesTurn r s o t o' t' → (x : Pos) → StepReaches s x → IsFrom t'.look x → IsFrom t.look x
 does-theirs turn.Nobody s o t o' t' d x u h = subst (λ (z : Held). IsFrom z.look x) d.2 h
 does-theirs turn.Ours s o t o' t' d x u h = subst (λ (z : Held). IsFrom z.look x) d.2 h
 does-theirs turn.Theirs s o t o' t' d x u h = d.2.from x u h

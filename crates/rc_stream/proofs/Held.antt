@@ -21,8 +21,8 @@ use Rattle.std.specs.FinMap.Entries.{by_order}
 use Rattle.rc_position.specs.Position.{row_pos, pos_cmp}
 use Rattle.std.specs.Ordering.{is_le, is_gt, ordering_reverse}
 use Rattle.rc_position.specs.declared.positions.Weight.TheVariants.{Before}
-use Rattle.rc_position.specs.BoundLaws.{first_pos-least}
-use Rattle.rc_position.specs.OrderLaws.{pos_cmp_total}
+use Rattle.rc_position.specs.laws.Bounds.{first_pos-least}
+use Rattle.rc_position.specs.laws.Orders.{pos_cmp_total}
 use Rattle.rc_stream.specs.Places.{Reaches}
 use Rattle.rc_stream.proofs.Says.{le_le}
 use Rattle.rc_mutation.specs.Fragments.{place_order}
@@ -30,7 +30,8 @@ use Rattle.rc_stream.specs.declared.holding.Turn.{Turn}
 use Rattle.rc_stream.specs.declared.holding.Turn.TheVariants as turn
 use Rattle.rc_stream.specs.Merging.{IsInner, IsOrdered, StandsBefore, beside, changes_nothing, place_of, together}
 use Rattle.rc_stream.proofs.Ordered.{Place, place_same}
-use Rattle.rc_stream.specs.Holding.{IsFrom, is_near, row_of, turn_of, StandsOver, Took, alone, behind_first, dropped, first_of, held, later, look_taken, looked, nearer, paired, told}
+use Rattle.rc_stream.specs.Holding.{IsFrom, is_near, row_of, turn_of, StandsOver, TakesFirst, alone, behind_first, dropped, held, later, look_taken, looked, nearer, paired, told}
+use Rattle.rc_cell.specs.Winner.{first_of}
 
 abbrev front_held : Front → Look → List Frag
 front_held fr l = front_change fr ++ looked l
@@ -160,7 +161,7 @@ passed-over (front.Passed u) (look.Next g) (frag.Change from next) fs e c o h = 
 passed-over (front.Passed u) (look.Past z g) (frag.Change from next) fs e c o h = later-over from z fs (subst (λ k. StandsBefore (place_of k) fs) (sym (same-some (frag.Change from next) g e)) o.1) h.1
 passed-over fr l frag.End fs e c o h = absurd (cc)
 
-pub took-none : (h now : Held) → None ≡ first_of (held h) → held now ≡ rest (held h) → front_tomb now.front ≡ behind_first (front_tomb h.front) (held h) → now.look ≡ look_taken h.front h.look → Took step.Nothing h now
+pub took-none : (h now : Held) → None ≡ first_of (held h) → held now ≡ rest (held h) → front_tomb now.front ≡ behind_first (front_tomb h.front) (held h) → now.look ≡ look_taken h.front h.look → TakesFirst step.Nothing h now
 took-none h now e left tomb l = record {
   left = left;
   tomb = tomb;
@@ -187,15 +188,15 @@ first-more f [] gs e = absurd (cc)
 first-more f (g ∷ fs) gs e = e
 
 -- a fragment f was taken; what is told of it stands where f stands
-pub took-one : (h mid now : Held) (f a : Frag) (t : Option Tomb) → Some f ≡ first_of (held h) → held mid ≡ rest (held h) → front_tomb mid.front ≡ behind_first (front_tomb h.front) (held h) → mid.look ≡ look_taken h.front h.look → now.front ≡ mid.front → now.look ≡ cond (changes_nothing t a) (dropped f mid.look) mid.look → (changes_nothing t a ≡ true → is_row f ≡ false) → place_of a ≡ place_of f → Took (told t a) h now
-took-one h mid now f a t e left tomb l fr nl silent place =
+pub took-one : (h mid now : Held) (f a : Frag) (t : Option Tomb) → Some f ≡ first_of (held h) → held mid ≡ rest (held h) → front_tomb mid.front ≡ behind_first (front_tomb h.front) (held h) → mid.look ≡ look_taken h.front h.look → now.front ≡ mid.front → now.look ≡ cond (changes_nothing t a) (dropped f mid.look) mid.look → (changes_nothing t a ≡ true → is_row f ≡ false) → place_of a ≡ place_of f → TakesFirst (told t a) h now
+took-one h mid now f a t e left tomb l fr nl nothing place =
     let front : front_tomb now.front ≡ behind_first (front_tomb h.front) (held h) = ap front_tomb fr ∙ tomb in
-    elim (changes_nothing t a) as (λ b. changes_nothing t a ≡ b → now.look ≡ cond b (dropped f mid.look) mid.look → Took (cond b step.Passed (step.Given a)) h now) [
+    elim (changes_nothing t a) as (λ b. changes_nothing t a ≡ b → now.look ≡ cond b (dropped f mid.look) mid.look → TakesFirst (cond b step.Passed (step.Given a)) h now) [
       | true ↦ λ c n. record {
         left = ap (λ g. front_change g ++ looked now.look) fr ∙ ap (λ m. front_change mid.front ++ m) (ap looked n ∙ looked-dropped f mid.look) ∙ left;
         tomb = front;
-        from = λ x _ k. passed-from h.front h.look f e (silent c) x (subst (λ m. IsFrom m x) (n ∙ ap (dropped f) l) k);
-        over = λ fs o k. subst (λ m. StandsOver m fs) (sym (n ∙ ap (dropped f) l)) (passed-over h.front h.look f fs e (inner-change f (silent c) (first-inner f (held h ++ fs) (first-more f (held h) fs e) o)) o k);
+        from = λ x _ k. passed-from h.front h.look f e (nothing c) x (subst (λ m. IsFrom m x) (n ∙ ap (dropped f) l) k);
+        over = λ fs o k. subst (λ m. StandsOver m fs) (sym (n ∙ ap (dropped f) l)) (passed-over h.front h.look f fs e (inner-change f (nothing c) (first-inner f (held h ++ fs) (first-more f (held h) fs e) o)) o k);
       }
       | false ↦ λ c n. record {
         left = ap (λ g. front_change g ++ looked now.look) fr ∙ ap (λ m. front_change mid.front ++ looked m) n ∙ left;

@@ -22,18 +22,17 @@ use Rattle.rc_position.specs.declared.positions.Pos.{Pos}
 use Rattle.rc_position.specs.declared.positions.Weight.{Weight}
 use Rattle.rc_position.specs.declared.positions.Weight.TheVariants.{Before, At, After}
 use Rattle.rc_position.specs.Position.{pos_cmp, row_pos}
-use Rattle.rc_position.specs.OrderLaws.{pos_cmp_total, pos_cmp_same}
+use Rattle.rc_position.specs.laws.Orders.{pos_cmp_total, pos_cmp_same}
 use Rattle.rc_ranges.specs.declared.pieces.Piece.{Piece}
-use Rattle.rc_ranges.specs.Cover.{IsCanonical, MayFollow}
-use Rattle.rc_ranges.specs.Cover.{cover as range_tomb}
-use Rattle.rc_ranges.specs.Sweep.{lt}
-use Rattle.rc_ranges.specs.Laws.Covering.{cover-append, cover-before, cover-behind, cover-inside, cover-none}
+use Rattle.rc_ranges.specs.Cover.{IsCanonical, MayFollow, cover as range_tomb}
+use Rattle.rc_ranges.specs.calls.Sweep.{lt}
+use Rattle.rc_ranges.specs.laws.Covering.{cover-append, cover-before, cover-behind, cover-inside, cover-none}
 use Rattle.rc_mutation.specs.declared.fragments.Frag.{Frag}
 use Rattle.rc_mutation.specs.declared.mutations.Mutation.{Mutation}
 use Rattle.rc_mutation.specs.ByKey.{rows_at-joined_rows}
 use Rattle.rc_mutation.specs.Fragments.{begins_at, changes_of, fragments, in_order, place_order, placed_change, placed_row}
 use Rattle.rc_mutation.specs.Source.{IsJoinOf, IsMutation, joined_rows, rows_in}
-use Rattle.rc_mutation.specs.Laws.FragMerge.{merge, merge_into, merge-in_order, fragment_of, rows-placed, changes-placed}
+use Rattle.rc_mutation.specs.laws.FragMerge.{merge, merge_into, merge-in_order, fragment_of, rows-placed, changes-placed}
 use Rattle.rc_stream.specs.Stream.{Stream, force, stream_of}
 use Rattle.rc_stream.specs.Merging.{IsInner, IsOrdered, IsTelling, StandsBefore, joined_head, merged, place_of, rows_here, same_tomb}
 use Rattle.rc_stream.proofs.Ordered.{Place, place_total, place_same}

@@ -7,7 +7,7 @@ use Rattle.std.specs.Option.{option_to_list}
 use Rattle.rc_cell.specs.declared.rows.Row.{Row}
 use Rattle.rc_cell.specs.declared.writes.Tomb.{Tomb}
 use Rattle.rc_cell.specs.Greatest.{greater}
-use Rattle.rc_cell.specs.Laws.{joined_row-one, IsRow-joined_row}
+use Rattle.rc_cell.specs.laws.{joined_row-one, IsRow-joined_row}
 use Rattle.rc_cell.specs.Orders.{tomb_cmp}
 use Rattle.rc_cell.specs.Winner.{joined_row}
 use Rattle.rc_position.specs.declared.positions.Pos.{Pos}
@@ -15,8 +15,8 @@ use Rattle.rc_position.specs.Position.{pos_cmp, row_pos}
 use Rattle.rc_mutation.specs.declared.fragments.Frag.{Frag}
 use Rattle.rc_mutation.specs.declared.fragments.Frag.TheVariants as frag
 use Rattle.rc_mutation.specs.ByKey.{joined_if_any}
-use Rattle.rc_mutation.specs.Fragments.{place_order}
-use Rattle.rc_stream.specs.Stream.{after, force, is_passed, row_at}
+use Rattle.rc_mutation.specs.Fragments.{place_order, tomb_after}
+use Rattle.rc_stream.specs.Stream.{force, is_passed, row_at}
 use Rattle.rc_stream.specs.Merging.{IsInner, IsOrdered, IsTelling, StandsBefore, beside, changes_nothing, merged_left, place_of, rows_here, together}
 use Rattle.rc_stream.proofs.Ordered.{Place, Lt, place_total, place_same, before-through, irreflexive, no_rows, same_pos, stop, unpassed}
 use Rattle.rc_stream.proofs.Stepping.{after-beside, after-theirs, after-together, beside_theirs, nothing-after, step-none, step-ours, step-theirs, step-together, tell, other_rank}
@@ -26,22 +26,22 @@ use Rattle.rc_stream.proofs.Stepping.{after-beside, after-theirs, after-together
 module _
     (P : Option Tomb → List Frag → Option Tomb → List Frag → Type 0)
     (none : (tomb other : Option Tomb) → P tomb [] other [])
-    (ours : (tomb other : Option Tomb) (f : Frag) (fs gs : List Frag) → IsOrdered (f ∷ fs) → IsOrdered gs → StandsBefore (place_of f) gs → P (after tomb f) fs other gs → P tomb (f ∷ fs) other gs)
-    (theirs : (tomb other : Option Tomb) (g : Frag) (fs gs : List Frag) → IsOrdered fs → IsOrdered (g ∷ gs) → StandsBefore (place_of g) fs → P tomb fs (after other g) gs → P tomb fs other (g ∷ gs))
-    (both : (tomb other : Option Tomb) (f g : Frag) (fs gs : List Frag) → IsOrdered (f ∷ fs) → IsOrdered (g ∷ gs) → place_order (place_of f) (place_of g) ≡ Equal → P (after tomb f) fs (after other g) gs → P tomb (f ∷ fs) other (g ∷ gs)) where
+    (ours : (tomb other : Option Tomb) (f : Frag) (fs gs : List Frag) → IsOrdered (f ∷ fs) → IsOrdered gs → StandsBefore (place_of f) gs → P (tomb_after tomb f) fs other gs → P tomb (f ∷ fs) other gs)
+    (theirs : (tomb other : Option Tomb) (g : Frag) (fs gs : List Frag) → IsOrdered fs → IsOrdered (g ∷ gs) → StandsBefore (place_of g) fs → P tomb fs (tomb_after other g) gs → P tomb fs other (g ∷ gs))
+    (both : (tomb other : Option Tomb) (f g : Frag) (fs gs : List Frag) → IsOrdered (f ∷ fs) → IsOrdered (g ∷ gs) → place_order (place_of f) (place_of g) ≡ Equal → P (tomb_after tomb f) fs (tomb_after other g) gs → P tomb (f ∷ fs) other (g ∷ gs)) where
   steps_alone : (gs : List Frag) (tomb other : Option Tomb) → IsOrdered gs → P tomb [] other gs
   steps_alone [] tomb other k = none tomb other
-  steps_alone (g ∷ gs) tomb other k = theirs tomb other g [] gs tt k tt (steps_alone gs tomb (after other g) k.2)
+  steps_alone (g ∷ gs) tomb other k = theirs tomb other g [] gs tt k tt (steps_alone gs tomb (tomb_after other g) k.2)
 
   steps_into : (f : Frag) (fs : List Frag) → IsOrdered (f ∷ fs) → ((tomb other : Option Tomb) (gs : List Frag) → IsOrdered gs → P tomb fs other gs) → (gs : List Frag) (tomb other : Option Tomb) → IsOrdered gs → P tomb (f ∷ fs) other gs
-  steps_into f fs o ih [] tomb other k = ours tomb other f fs [] o tt tt (ih (after tomb f) other [] tt)
+  steps_into f fs o ih [] tomb other k = ours tomb other f fs [] o tt tt (ih (tomb_after tomb f) other [] tt)
   steps_into f fs o ih (g ∷ gs) tomb other k =
       elim (place_order (place_of f) (place_of g)) as (λ r. place_order (place_of f) (place_of g) ≡ r → P tomb (f ∷ fs) other (g ∷ gs)) [
-        | Less ↦ λ e. ours tomb other f fs (g ∷ gs) o k (e, before-through (place_of f) (place_of g) gs e k.1) (ih (after tomb f) other (g ∷ gs) k)
-        | Equal ↦ λ e. both tomb other f g fs gs o k e (ih (after tomb f) (after other g) gs k.2)
+        | Less ↦ λ e. ours tomb other f fs (g ∷ gs) o k (e, before-through (place_of f) (place_of g) gs e k.1) (ih (tomb_after tomb f) other (g ∷ gs) k)
+        | Equal ↦ λ e. both tomb other f g fs gs o k e (ih (tomb_after tomb f) (tomb_after other g) gs k.2)
         | Greater ↦ λ e.
             let a : Lt (place_of g) (place_of f) = place_total.antisymm (place_of g) (place_of f) ∙ ap ordering_reverse e in
-            theirs tomb other g (f ∷ fs) gs o k (a, before-through (place_of g) (place_of f) fs a o.1) (steps_into f fs o ih gs tomb (after other g) k.2)
+            theirs tomb other g (f ∷ fs) gs o k (a, before-through (place_of g) (place_of f) fs a o.1) (steps_into f fs o ih gs tomb (tomb_after other g) k.2)
       ] refl
 
   -- what holds where both are empty, and is kept by each step, holds
@@ -57,7 +57,7 @@ tell-ordered tomb a l i b o = elim (changes_nothing tomb a) as (λ c. IsOrdered 
 tell-before : (q : Place) (tomb : Option Tomb) (a : Frag) (l : List Frag) → Lt q (place_of a) → StandsBefore q l → StandsBefore q (tell tomb a l)
 tell-before q tomb a l h b = elim (changes_nothing tomb a) as (λ c. StandsBefore q (cond c l (a ∷ l))) [ true ↦ b | false ↦ (h, b) ]
 
-tell-telling : (tomb : Option Tomb) (a : Frag) (l : List Frag) → IsTelling (after tomb a) l → IsTelling tomb (tell tomb a l)
+tell-telling : (tomb : Option Tomb) (a : Frag) (l : List Frag) → IsTelling (tomb_after tomb a) l → IsTelling tomb (tell tomb a l)
 tell-telling tomb a l h =
     elim (changes_nothing tomb a) as (λ c. changes_nothing tomb a ≡ c → IsTelling tomb (cond c l (a ∷ l))) [
       | true ↦ λ e. subst (λ t. IsTelling t l) (nothing-after tomb a e) h
@@ -78,11 +78,11 @@ tell-rows x tomb a l =
       | false ↦ λ e. refl
     ] refl
 
-tell-force : (x : Pos) (tomb : Option Tomb) (a : Frag) (l : List Frag) → (is_passed x a ≡ false → force x (after tomb a) l ≡ after tomb a) → force x tomb (tell tomb a l) ≡ cond (is_passed x a) (force x (after tomb a) l) tomb
+tell-force : (x : Pos) (tomb : Option Tomb) (a : Frag) (l : List Frag) → (is_passed x a ≡ false → force x (tomb_after tomb a) l ≡ tomb_after tomb a) → force x tomb (tell tomb a l) ≡ cond (is_passed x a) (force x (tomb_after tomb a) l) tomb
 tell-force x tomb a l h =
-    elim (changes_nothing tomb a) as (λ c. changes_nothing tomb a ≡ c → force x tomb (cond c l (a ∷ l)) ≡ cond (is_passed x a) (force x (after tomb a) l) tomb) [
+    elim (changes_nothing tomb a) as (λ c. changes_nothing tomb a ≡ c → force x tomb (cond c l (a ∷ l)) ≡ cond (is_passed x a) (force x (tomb_after tomb a) l) tomb) [
       | true ↦ λ e.
-          elim (is_passed x a) as (λ p. is_passed x a ≡ p → force x tomb l ≡ cond p (force x (after tomb a) l) tomb) [
+          elim (is_passed x a) as (λ p. is_passed x a ≡ p → force x tomb l ≡ cond p (force x (tomb_after tomb a) l) tomb) [
             | true ↦ λ p. ap (λ t. force x t l) (sym (nothing-after tomb a e))
             | false ↦ λ p. ap (λ t. force x t l) (sym (nothing-after tomb a e)) ∙ h p ∙ nothing-after tomb a e
           ] refl
@@ -142,7 +142,7 @@ together-alike frag.End g i = absurd i
 module _ (tomb other : Option Tomb) (fs gs : List Frag) (tomb' other' : Option Tomb) (fs' gs' : List Frag) (f a : Frag) (made : List Frag) where
   next-says :
       IsInner f → Alike f a →
-      after (greater tomb_cmp tomb other) a ≡ greater tomb_cmp tomb' other' →
+      tomb_after (greater tomb_cmp tomb other) a ≡ greater tomb_cmp tomb' other' →
       StandsBefore (place_of f) fs' → StandsBefore (place_of f) gs' →
       ((q : Place) → StandsBefore q fs → StandsBefore q gs → Lt q (place_of f) × StandsBefore q fs' × StandsBefore q gs') →
       ((x : Pos) → row_at x a ++ one_row (rows_here x fs' ++ rows_here x gs') ≡ one_row (rows_here x fs ++ rows_here x gs)) →
@@ -151,14 +151,14 @@ module _ (tomb other : Option Tomb) (fs gs : List Frag) (tomb' other' : Option T
   next-says i like now bf bg through rows tombs s =
       let t = greater tomb_cmp tomb other in
       let behind : StandsBefore (place_of a) made = subst (λ p. StandsBefore p made) (sym like.place) (s.before (place_of f) bf bg) in
-      let left : IsTelling (after t a) made = subst (λ u. IsTelling u made) (sym now) s.telling in
+      let left : IsTelling (tomb_after t a) made = subst (λ u. IsTelling u made) (sym now) s.telling in
       record {
         ordered = tell-ordered t a made like.inner behind s.ordered;
         telling = tell-telling t a made left;
         before = λ q b c. (let th = through q b c in tell-before q t a made (subst (λ p. Lt q p) (sym like.place) th.0) (s.before q th.1 th.2));
         rows = λ x. tell-rows x t a made ∙ ap (λ rs. row_at x a ++ rs) (s.rows x) ∙ rows x;
         tombs = λ x.
-            tell-force x t a made (λ e. stop x (place_of a) (after t a) made s.ordered behind (unpassed x a like.inner e))
+            tell-force x t a made (λ e. stop x (place_of a) (tomb_after t a) made s.ordered behind (unpassed x a like.inner e))
             ∙ ap (λ u. cond (is_passed x a) (force x u made) t) now
             ∙ ap (λ u. cond (is_passed x a) u t) (s.tombs x)
             ∙ ap (λ b. cond b (greater tomb_cmp (force x tomb' fs') (force x other' gs')) t) (like.passed x)
@@ -258,40 +258,40 @@ Merges tomb fs other gs = Says tomb fs other gs (merged_left tomb fs other gs)
 none-says : (tomb other : Option Tomb) → Merges tomb [] other []
 none-says tomb other = subst (Says tomb [] other []) (sym (step-none tomb other)) (record { ordered = tt; telling = tt; before = λ q b c. tt; rows = λ x. refl; tombs = λ x. refl })
 
-ours-says : (tomb other : Option Tomb) (f : Frag) (fs gs : List Frag) → IsOrdered (f ∷ fs) → IsOrdered gs → StandsBefore (place_of f) gs → Merges (after tomb f) fs other gs → Merges tomb (f ∷ fs) other gs
+ours-says : (tomb other : Option Tomb) (f : Frag) (fs gs : List Frag) → IsOrdered (f ∷ fs) → IsOrdered gs → StandsBefore (place_of f) gs → Merges (tomb_after tomb f) fs other gs → Merges tomb (f ∷ fs) other gs
 ours-says tomb other f fs gs o k b s =
     subst (Says tomb (f ∷ fs) other gs) (sym (step-ours tomb other f fs gs o k b))
-    (next-says tomb other (f ∷ fs) gs (after tomb f) other fs gs f (beside other f) (merged_left (after tomb f) fs other gs) o.0 (beside-alike other f o.0) (after-beside tomb other f) o.1 b
+    (next-says tomb other (f ∷ fs) gs (tomb_after tomb f) other fs gs f (beside other f) (merged_left (tomb_after tomb f) fs other gs) o.0 (beside-alike other f o.0) (after-beside tomb other f) o.1 b
     (λ q c d. (c.0, c.1, d))
     (λ x. ours-rows x other f fs gs o k b)
-    (λ x. elim (is_passed x f) as (λ c. is_passed x f ≡ c → cond c (greater tomb_cmp (force x (after tomb f) fs) (force x other gs)) (greater tomb_cmp tomb other) ≡ greater tomb_cmp (cond c (force x (after tomb f) fs) tomb) (force x other gs)) [
+    (λ x. elim (is_passed x f) as (λ c. is_passed x f ≡ c → cond c (greater tomb_cmp (force x (tomb_after tomb f) fs) (force x other gs)) (greater tomb_cmp tomb other) ≡ greater tomb_cmp (cond c (force x (tomb_after tomb f) fs) tomb) (force x other gs)) [
       | true ↦ λ e. refl
       | false ↦ λ e. ap (greater tomb_cmp tomb) (sym (stop x (place_of f) other gs k b (unpassed x f o.0 e)))
     ] refl)
     s)
 
-theirs-says : (tomb other : Option Tomb) (g : Frag) (fs gs : List Frag) → IsOrdered fs → IsOrdered (g ∷ gs) → StandsBefore (place_of g) fs → Merges tomb fs (after other g) gs → Merges tomb fs other (g ∷ gs)
+theirs-says : (tomb other : Option Tomb) (g : Frag) (fs gs : List Frag) → IsOrdered fs → IsOrdered (g ∷ gs) → StandsBefore (place_of g) fs → Merges tomb fs (tomb_after other g) gs → Merges tomb fs other (g ∷ gs)
 theirs-says tomb other g fs gs o k b s =
     subst (Says tomb fs other (g ∷ gs)) (sym (step-theirs tomb other g fs gs o k b))
-    (next-says tomb other fs (g ∷ gs) tomb (after other g) fs gs g (beside_theirs tomb g) (merged_left tomb fs (after other g) gs) k.0 (theirs-alike tomb g k.0) (after-theirs tomb other g) b k.1
+    (next-says tomb other fs (g ∷ gs) tomb (tomb_after other g) fs gs g (beside_theirs tomb g) (merged_left tomb fs (tomb_after other g) gs) k.0 (theirs-alike tomb g k.0) (after-theirs tomb other g) b k.1
     (λ q c d. (d.0, c, d.1))
     (λ x. theirs-rows x tomb g fs gs o k b)
-    (λ x. elim (is_passed x g) as (λ c. is_passed x g ≡ c → cond c (greater tomb_cmp (force x tomb fs) (force x (after other g) gs)) (greater tomb_cmp tomb other) ≡ greater tomb_cmp (force x tomb fs) (cond c (force x (after other g) gs) other)) [
+    (λ x. elim (is_passed x g) as (λ c. is_passed x g ≡ c → cond c (greater tomb_cmp (force x tomb fs) (force x (tomb_after other g) gs)) (greater tomb_cmp tomb other) ≡ greater tomb_cmp (force x tomb fs) (cond c (force x (tomb_after other g) gs) other)) [
       | true ↦ λ e. refl
       | false ↦ λ e. ap (λ t. greater tomb_cmp t other) (sym (stop x (place_of g) tomb fs o b (unpassed x g k.0 e)))
     ] refl)
     s)
 
-both-say : (tomb other : Option Tomb) (f g : Frag) (fs gs : List Frag) → IsOrdered (f ∷ fs) → IsOrdered (g ∷ gs) → place_order (place_of f) (place_of g) ≡ Equal → Merges (after tomb f) fs (after other g) gs → Merges tomb (f ∷ fs) other (g ∷ gs)
+both-say : (tomb other : Option Tomb) (f g : Frag) (fs gs : List Frag) → IsOrdered (f ∷ fs) → IsOrdered (g ∷ gs) → place_order (place_of f) (place_of g) ≡ Equal → Merges (tomb_after tomb f) fs (tomb_after other g) gs → Merges tomb (f ∷ fs) other (g ∷ gs)
 both-say tomb other f g fs gs o k e s =
     let one = place_same (place_of f) (place_of g) e in
     subst (Says tomb (f ∷ fs) other (g ∷ gs)) (sym (step-together tomb other f g fs gs o k e))
-    (next-says tomb other (f ∷ fs) (g ∷ gs) (after tomb f) (after other g) fs gs f (together f g) (merged_left (after tomb f) fs (after other g) gs) o.0 (together-alike f g o.0) (after-together tomb other f g o.0 k.0 one) o.1 (subst (λ p. StandsBefore p gs) (sym one) k.1)
+    (next-says tomb other (f ∷ fs) (g ∷ gs) (tomb_after tomb f) (tomb_after other g) fs gs f (together f g) (merged_left (tomb_after tomb f) fs (tomb_after other g) gs) o.0 (together-alike f g o.0) (after-together tomb other f g o.0 k.0 one) o.1 (subst (λ p. StandsBefore p gs) (sym one) k.1)
     (λ q c d. (c.0, c.1, d.1))
     (λ x. both-rows x f g fs gs o k one)
     (λ x.
-    elim (is_passed x f) as (λ c. cond c (greater tomb_cmp (force x (after tomb f) fs) (force x (after other g) gs)) (greater tomb_cmp tomb other) ≡ greater tomb_cmp (cond c (force x (after tomb f) fs) tomb) (cond c (force x (after other g) gs) other)) [ true ↦ refl | false ↦ refl ]
-    ∙ ap (λ c. greater tomb_cmp (force x tomb (f ∷ fs)) (cond c (force x (after other g) gs) other)) (same-passed x f g o.0 k.0 one))
+    elim (is_passed x f) as (λ c. cond c (greater tomb_cmp (force x (tomb_after tomb f) fs) (force x (tomb_after other g) gs)) (greater tomb_cmp tomb other) ≡ greater tomb_cmp (cond c (force x (tomb_after tomb f) fs) tomb) (cond c (force x (tomb_after other g) gs) other)) [ true ↦ refl | false ↦ refl ]
+    ∙ ap (λ c. greater tomb_cmp (force x tomb (f ∷ fs)) (cond c (force x (tomb_after other g) gs) other)) (same-passed x f g o.0 k.0 one))
     s)
 
 pub merged-says : (tomb other : Option Tomb) (fs gs : List Frag) → IsOrdered fs → IsOrdered gs → Says tomb fs other gs (merged_left tomb fs other gs)

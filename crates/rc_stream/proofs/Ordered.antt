@@ -9,11 +9,11 @@ use Rattle.std.specs.FinMap.{IsAntisymmetric, nat_cmp-IsAntisymmetric}
 use Rattle.rc_cell.specs.declared.writes.Tomb.{Tomb}
 use Rattle.rc_position.specs.declared.positions.Pos.{Pos}
 use Rattle.rc_position.specs.Position.{pos_cmp, row_pos}
-use Rattle.rc_position.specs.OrderLaws.{pos_cmp_total, pos_cmp_same}
+use Rattle.rc_position.specs.laws.Orders.{pos_cmp_total, pos_cmp_same}
 use Rattle.rc_mutation.specs.declared.fragments.Frag.{Frag}
 use Rattle.rc_mutation.specs.declared.fragments.Frag.TheVariants as frag
-use Rattle.rc_mutation.specs.Fragments.{place_order}
-use Rattle.rc_stream.specs.Stream.{after, force, is_passed, row_at}
+use Rattle.rc_mutation.specs.Fragments.{place_order, tomb_after}
+use Rattle.rc_stream.specs.Stream.{force, is_passed, row_at}
 use Rattle.rc_stream.specs.Merging.{IsInner, IsOrdered, StandsBefore, place_of, rows_here}
 
 abbrev pub Place : Type 0
@@ -183,7 +183,7 @@ no_row-passed x frag.End e = refl
 -- no change behind x is in force there
 pub stop : (x : Pos) (p : Place) (tomb : Option Tomb) (fs : List Frag) → IsOrdered fs → StandsBefore p fs → is_lt (place_order p (x, 0)) ≡ false → force x tomb fs ≡ tomb
 stop x p tomb [] o b h = refl
-stop x p tomb (g ∷ gs) o b h = ap (λ c. cond c (force x (after tomb g) gs) tomb) (not_passed x g o.0 (over p (place_of g) (x, 0) b.0 h))
+stop x p tomb (g ∷ gs) o b h = ap (λ c. cond c (force x (tomb_after tomb g) gs) tomb) (not_passed x g o.0 (over p (place_of g) (x, 0) b.0 h))
 
 -- no row behind x is there
 pub no_rows : (x : Pos) (p : Place) (fs : List Frag) → IsOrdered fs → StandsBefore p fs → is_lt (place_order p (x, 1)) ≡ false → rows_here x fs ≡ []

@@ -11,22 +11,22 @@ use Rattle.rc_cell.specs.Greatest.{greater}
 use Rattle.rc_cell.specs.Orders.{tomb_cmp}
 use Rattle.rc_position.specs.declared.positions.Pos.{Pos}
 use Rattle.rc_position.specs.Position.{pos_cmp, row_pos}
-use Rattle.rc_position.specs.OrderLaws.{pos_cmp_total}
-use Rattle.rc_ranges.specs.Laws.Greater.{greater-comm}
+use Rattle.rc_position.specs.laws.Orders.{pos_cmp_total}
+use Rattle.rc_ranges.specs.laws.Greater.{greater-comm}
 use Rattle.rc_mutation.specs.declared.fragments.Frag.{Frag}
 use Rattle.rc_mutation.specs.declared.fragments.Frag.TheVariants as frag
 use Rattle.rc_mutation.specs.declared.fragments.Head.{Head}
-use Rattle.rc_mutation.specs.Fragments.{place_order}
+use Rattle.rc_mutation.specs.Fragments.{place_order, tomb_after}
 use Rattle.rc_stream.specs.declared.holding.Held.{Held}
 use Rattle.rc_stream.specs.declared.holding.Step.{Step}
 use Rattle.rc_stream.specs.declared.holding.Step.TheVariants as step
 use Rattle.rc_stream.specs.declared.holding.Turn.{Turn}
 use Rattle.rc_stream.specs.declared.holding.Turn.TheVariants as turn
 use Rattle.rc_stream.specs.Fronts.{front_tomb}
-use Rattle.rc_stream.specs.Stream.{Stream, after, first_upto, is_upto, rest}
+use Rattle.rc_stream.specs.Stream.{Stream, first_upto, is_upto, rest}
 use Rattle.rc_stream.specs.Merging.{IsInner, IsOrdered, StandsBefore, beside, changes_nothing, joined_head, merged, merged_left, place_of, together}
 use Rattle.rc_stream.specs.Places.{bound_of}
-use Rattle.rc_stream.specs.Holding.{Does, Fits, IsStepUpto, Took, alone, begins_upto, nearer, behind, behind_first, held, is_near, paired, told, turn_of, whole}
+use Rattle.rc_stream.specs.Holding.{TakesTurn, HeldFits, IsStepUpto, TakesFirst, alone, begins_upto, nearer, tomb_behind, behind_first, held, is_near, paired, told, turn_of, whole}
 use Rattle.rc_stream.specs.Moving.{StepSays}
 use Rattle.rc_stream.proofs.Held.{upto-beside, upto-together}
 use Rattle.rc_stream.proofs.Merged.{merged-says}
@@ -181,7 +181,7 @@ facts x (f ∷ hs) ls (g ∷ ks) ms o p a b =
 abbrev stream : Head → Option Tomb → List Frag → Stream
 stream h t l = record { head = h; tomb = t; left = l }
 
-told-says : (h : Head) (t u : Option Tomb) (a : Frag) (x : Pos) (l m : List Frag) → l ≡ tell t a m → after t a ≡ u → is_upto x a ≡ true → StepSays (told t a) x (stream h t l) (stream h u m)
+told-says : (h : Head) (t u : Option Tomb) (a : Frag) (x : Pos) (l m : List Frag) → l ≡ tell t a m → tomb_after t a ≡ u → is_upto x a ≡ true → StepSays (told t a) x (stream h t l) (stream h u m)
 told-says h t u a x l m e now up =
     elim (changes_nothing t a) as (λ b. changes_nothing t a ≡ b → l ≡ cond b m (a ∷ m) → StepSays (cond b step.Passed (step.Given a)) x (stream h t l) (stream h u m)) [
       | true ↦ λ c k. let same : u ≡ t = sym now ∙ nothing-after t a c in λ i. stream h (same i) (sym k i)
@@ -197,26 +197,26 @@ theirs-beside t (frag.Row key row) = refl
 theirs-beside t (frag.Change from next) = ap (frag.Change from) (greater-comm t next)
 theirs-beside t frag.End = refl
 
-took-left : (s : Step) (h now : Held) (f : Frag) (ls : List Frag) → held h ≡ f ∷ rest (held h) → Took s h now → held h ++ ls ≡ f ∷ (held now ++ ls)
+took-left : (s : Step) (h now : Held) (f : Frag) (ls : List Frag) → held h ≡ f ∷ rest (held h) → TakesFirst s h now → held h ++ ls ≡ f ∷ (held now ++ ls)
 took-left s h now f ls e t = ap (λ hs. hs ++ ls) e ∙ ap (λ hs. f ∷ (hs ++ ls)) (sym t.left)
 
-took-tomb : (s : Step) (h now : Held) (f : Frag) → held h ≡ f ∷ rest (held h) → Took s h now → front_tomb now.front ≡ after (front_tomb h.front) f
+took-tomb : (s : Step) (h now : Held) (f : Frag) → held h ≡ f ∷ rest (held h) → TakesFirst s h now → front_tomb now.front ≡ tomb_after (front_tomb h.front) f
 took-tomb s h now f e t = t.tomb ∙ ap (behind_first (front_tomb h.front)) e
 
-took-fits : (s : Step) (h now : Held) (st : Stream) (f : Frag) → held h ≡ f ∷ rest (held h) → Took s h now → Fits h st → Fits now st
+took-fits : (s : Step) (h now : Held) (st : Stream) (f : Frag) → held h ≡ f ∷ rest (held h) → TakesFirst s h now → HeldFits h st → HeldFits now st
 took-fits s h now st f e t fits = record {
   ordered = (let o : IsOrdered (f ∷ (held now ++ st.left)) = subst IsOrdered (took-left s h now f st.left e t) fits.ordered in o.2);
-  tomb = fits.tomb ∙ ap (behind (front_tomb h.front)) e ∙ sym (λ i. behind (took-tomb s h now f e t i) (t.left i));
+  tomb = fits.tomb ∙ ap (tomb_behind (front_tomb h.front)) e ∙ sym (λ i. tomb_behind (took-tomb s h now f e t i) (t.left i));
   over = t.over st.left fits.ordered fits.over;
 }
 
 -- a step of what is held of both is a step of both merged
 pub record Stepped (s : Step) (x : Pos) (sa sb : Stream) (ours theirs ours' theirs' : Held) : Type 0 where
   pub says : StepSays s x (merged (whole ours sa) (whole theirs sb)) (merged (whole ours' sa) (whole theirs' sb))
-  pub fits_ours : Fits ours' sa
-  pub fits_theirs : Fits theirs' sb
+  pub fits_ours : HeldFits ours' sa
+  pub fits_theirs : HeldFits theirs' sb
 
-module _ (x : Pos) (sa sb : Stream) (ours theirs : Held) (fa : Fits ours sa) (fb : Fits theirs sb) where
+module _ (x : Pos) (sa sb : Stream) (ours theirs : Held) (fa : HeldFits ours sa) (fb : HeldFits theirs sb) where
   abbrev ta : Option Tomb
   ta = front_tomb ours.front
 
@@ -229,7 +229,7 @@ module _ (x : Pos) (sa sb : Stream) (ours theirs : Held) (fa : Fits ours sa) (fb
       let s = merged-says ta tb (held ours ++ sa.left) (held theirs ++ sb.left) fa.ordered fb.ordered in
       (refl, none-past x (merged_left ta (held ours ++ sa.left) tb (held theirs ++ sb.left)) s.ordered (s.before (x, 1) (all-past x (held ours ++ sa.left) fa.ordered a) (all-past x (held theirs ++ sb.left) fb.ordered b)))
 
-  ours-says : (s : Step) (ours' : Held) (f : Frag) → held ours ≡ f ∷ rest (held ours) → is_upto x f ≡ true → StandsBefore (place_of f) (held theirs ++ sb.left) → Took s ours ours' → StepSays (told (greater tomb_cmp ta tb) (beside tb f)) x (merged (whole ours sa) (whole theirs sb)) (merged (whole ours' sa) (whole theirs sb))
+  ours-says : (s : Step) (ours' : Held) (f : Frag) → held ours ≡ f ∷ rest (held ours) → is_upto x f ≡ true → StandsBefore (place_of f) (held theirs ++ sb.left) → TakesFirst s ours ours' → StepSays (told (greater tomb_cmp ta tb) (beside tb f)) x (merged (whole ours sa) (whole theirs sb)) (merged (whole ours' sa) (whole theirs sb))
   unfolding merged
   ours-says s ours' f e up b t =
       let now = greater tomb_cmp ta tb in
@@ -243,7 +243,7 @@ module _ (x : Pos) (sa sb : Stream) (ours theirs : Held) (fa : Fits ours sa) (fb
       (after-beside ta tb f ∙ ap (λ u. greater tomb_cmp u tb) (sym tomb))
       (upto-beside tb f x ∙ up)
 
-  theirs-says : (s : Step) (theirs' : Held) (g : Frag) → held theirs ≡ g ∷ rest (held theirs) → is_upto x g ≡ true → StandsBefore (place_of g) (held ours ++ sa.left) → Took s theirs theirs' → StepSays (told (greater tomb_cmp tb ta) (beside ta g)) x (merged (whole ours sa) (whole theirs sb)) (merged (whole ours sa) (whole theirs' sb))
+  theirs-says : (s : Step) (theirs' : Held) (g : Frag) → held theirs ≡ g ∷ rest (held theirs) → is_upto x g ≡ true → StandsBefore (place_of g) (held ours ++ sa.left) → TakesFirst s theirs theirs' → StepSays (told (greater tomb_cmp tb ta) (beside ta g)) x (merged (whole ours sa) (whole theirs sb)) (merged (whole ours sa) (whole theirs' sb))
   unfolding merged
   theirs-says s theirs' g e up b t =
       let now = greater tomb_cmp ta tb in
@@ -257,11 +257,11 @@ module _ (x : Pos) (sa sb : Stream) (ours theirs : Held) (fa : Fits ours sa) (fb
       let h = joined_head sa.head sb.head in
       subst (λ u. StepSays (told u (beside ta g)) x (stream h now old) (stream h (greater tomb_cmp ta (front_tomb theirs'.front)) later)) (greater-comm ta tb)
       (told-says h now (greater tomb_cmp ta (front_tomb theirs'.front)) (beside ta g) x old later
-      (ap (λ ks. merged_left ta fs tb ks) left ∙ step-theirs ta tb g fs gs fa.ordered k b ∙ ap (λ a. tell now a (merged_left ta fs (after tb g) gs)) (theirs-beside ta g) ∙ ap (λ u. tell now (beside ta g) (merged_left ta fs u gs)) (sym tomb))
-      (ap (after now) (sym (theirs-beside ta g)) ∙ after-theirs ta tb g ∙ ap (greater tomb_cmp ta) (sym tomb))
+      (ap (λ ks. merged_left ta fs tb ks) left ∙ step-theirs ta tb g fs gs fa.ordered k b ∙ ap (λ a. tell now a (merged_left ta fs (tomb_after tb g) gs)) (theirs-beside ta g) ∙ ap (λ u. tell now (beside ta g) (merged_left ta fs u gs)) (sym tomb))
+      (ap (tomb_after now) (sym (theirs-beside ta g)) ∙ after-theirs ta tb g ∙ ap (greater tomb_cmp ta) (sym tomb))
       (upto-beside ta g x ∙ up))
 
-  both-says : (s : Step) (ours' theirs' : Held) (f g : Frag) → held ours ≡ f ∷ rest (held ours) → held theirs ≡ g ∷ rest (held theirs) → is_upto x f ≡ true → place_order (place_of f) (place_of g) ≡ Equal → Took s ours ours' → Took s theirs theirs' → StepSays (told (greater tomb_cmp ta tb) (together f g)) x (merged (whole ours sa) (whole theirs sb)) (merged (whole ours' sa) (whole theirs' sb))
+  both-says : (s : Step) (ours' theirs' : Held) (f g : Frag) → held ours ≡ f ∷ rest (held ours) → held theirs ≡ g ∷ rest (held theirs) → is_upto x f ≡ true → place_order (place_of f) (place_of g) ≡ Equal → TakesFirst s ours ours' → TakesFirst s theirs theirs' → StepSays (told (greater tomb_cmp ta tb) (together f g)) x (merged (whole ours sa) (whole theirs sb)) (merged (whole ours' sa) (whole theirs' sb))
   unfolding merged
   both-says s ours' theirs' f g e d up p t u =
       let now = greater tomb_cmp ta tb in
@@ -278,7 +278,7 @@ module _ (x : Pos) (sa sb : Stream) (ours theirs : Held) (fa : Fits ours sa) (fb
       (after-together ta tb f g o.0 k.0 (place_same (place_of f) (place_of g) p) ∙ (λ i. greater tomb_cmp (sym tomb i) (sym other i)))
       (upto-together f g x ∙ up)
 
-  by_turn : (r : Turn) (s : Step) (ours' theirs' : Held) → TurnFacts r x (held ours) sa.left (held theirs) sb.left → Does r s ours theirs ours' theirs' → Stepped s x sa sb ours theirs ours' theirs'
+  by_turn : (r : Turn) (s : Step) (ours' theirs' : Held) → TurnFacts r x (held ours) sa.left (held theirs) sb.left → TakesTurn r s ours theirs ours' theirs' → Stepped s x sa sb ours theirs ours' theirs'
   by_turn turn.Nobody s ours' theirs' facts d =
       subst (λ r. Stepped r x sa sb ours theirs ours' theirs') (sym d.0)
       (subst (λ h. Stepped step.Nothing x sa sb ours theirs h theirs') (sym d.1)
@@ -313,7 +313,7 @@ module _ (x : Pos) (sa sb : Stream) (ours theirs : Held) (fa : Fits ours sa) (fb
         fits_theirs = took-fits s theirs theirs' sb g facts.3 d.2 fb;
       }
 
-  pub stepped : (s : Step) (ours' theirs' : Held) → (held ours ≡ [] → first_upto x sa.left ≡ None) → (held theirs ≡ [] → first_upto (bound_of x (held ours)) sb.left ≡ None) → Does (turn_of x (held ours) (held theirs)) s ours theirs ours' theirs' → Stepped s x sa sb ours theirs ours' theirs'
+  pub stepped : (s : Step) (ours' theirs' : Held) → (held ours ≡ [] → first_upto x sa.left ≡ None) → (held theirs ≡ [] → first_upto (bound_of x (held ours)) sb.left ≡ None) → TakesTurn (turn_of x (held ours) (held theirs)) s ours theirs ours' theirs' → Stepped s x sa sb ours theirs ours' theirs'
   stepped s ours' theirs' a b d = by_turn (turn_of x (held ours) (held theirs)) s ours' theirs' (facts x (held ours) sa.left (held theirs) sb.left fa.ordered fb.ordered a b) d
 
 -- ---- what a step gives stands up to the position
@@ -330,16 +330,16 @@ paired-upto x t [] gs u = tt
 paired-upto x t (f ∷ fs) [] u = tt
 paired-upto x t (f ∷ fs) (g ∷ gs) u = told-upto x t (together f g) (upto-together f g x ∙ u)
 
-turn-upto : (x : Pos) (r : Turn) (s : Step) (o t o' t' : Held) → is_near x r (held o) (held t) ≡ true → Does r s o t o' t' → IsStepUpto x s
+turn-upto : (x : Pos) (r : Turn) (s : Step) (o t o' t' : Held) → is_near x r (held o) (held t) ≡ true → TakesTurn r s o t o' t' → IsStepUpto x s
 turn-upto x turn.Nobody s o t o' t' n d = subst (IsStepUpto x) (sym d.0) tt
 turn-upto x turn.Ours s o t o' t' n d = subst (IsStepUpto x) (sym d.0) (alone-upto x (front_tomb o.front) (front_tomb t.front) (held o) n)
 turn-upto x turn.Theirs s o t o' t' n d = subst (IsStepUpto x) (sym d.0) (alone-upto x (front_tomb t.front) (front_tomb o.front) (held t) n)
 turn-upto x turn.Both s o t o' t' n d = subst (IsStepUpto x) (sym d.0) (paired-upto x (greater tomb_cmp (front_tomb o.front) (front_tomb t.front)) (held o) (held t) n)
 
-pub step-upto : (x : Pos) (s : Step) (o t o' t' : Held) → Does (turn_of x (held o) (held t)) s o t o' t' → IsStepUpto x s
+pub step-upto : (x : Pos) (s : Step) (o t o' t' : Held) → TakesTurn (turn_of x (held o) (held t)) s o t o' t' → IsStepUpto x s
 step-upto x s o t o' t' =
     let r = nearer (held o) (held t) in
-    elim (is_near x r (held o) (held t)) as (λ b. is_near x r (held o) (held t) ≡ b → Does (cond b r turn.Nobody) s o t o' t' → IsStepUpto x s) [
+    elim (is_near x r (held o) (held t)) as (λ b. is_near x r (held o) (held t) ≡ b → TakesTurn (cond b r turn.Nobody) s o t o' t' → IsStepUpto x s) [
       | true ↦ λ n d. turn-upto x r s o t o' t' n d
       | false ↦ λ n d. subst (IsStepUpto x) (sym d.0) tt
     ] refl

@@ -9,10 +9,11 @@ use Rattle.rc_cell.specs.declared.rows.Row.{Row}
 use Rattle.rc_cell.specs.declared.writes.Tomb.{Tomb}
 use Rattle.rc_position.specs.declared.positions.Pos.{Pos}
 use Rattle.rc_position.specs.Position.{pos_cmp, row_pos}
-use Rattle.rc_position.specs.OrderLaws.{pos_cmp_total, pos_cmp_same}
+use Rattle.rc_position.specs.laws.Orders.{pos_cmp_total, pos_cmp_same}
 use Rattle.rc_mutation.specs.declared.fragments.Frag.{Frag}
 use Rattle.rc_mutation.specs.declared.fragments.Frag.TheVariants as frag
-use Rattle.rc_stream.specs.Stream.{Stream, after, force, is_passed, onward, opening, rest, row_at, says, sought, took}
+use Rattle.rc_stream.specs.Stream.{Stream, force, is_passed, onward, opening, rest, row_at, says, sought, took}
+use Rattle.rc_mutation.specs.Fragments.{tomb_after}
 
 pub le_le : (p x y : Pos) (r s : Ordering) → pos_cmp p x ≡ r → pos_cmp x y ≡ s → is_le r ≡ true → is_le s ≡ true → is_le (pos_cmp p y) ≡ true
 le_le p x y Less Less a b h k = ap is_le (pos_cmp_total.trans p x y a b)
@@ -52,8 +53,8 @@ no_row y frag.End e = refl
 pub force-onward : (x y : Pos) → is_le (pos_cmp x y) ≡ true → (tomb : Option Tomb) (fs : List Frag) → force y tomb fs ≡ force y (force x tomb fs) (onward x fs)
 force-onward x y h tomb [] = refl
 force-onward x y h tomb (f ∷ fs) =
-    elim (is_passed x f) as (λ b. is_passed x f ≡ b → force y tomb (f ∷ fs) ≡ force y (cond b (force x (after tomb f) fs) tomb) (cond b (onward x fs) (f ∷ fs))) [
-      | true ↦ λ e. ap (λ b. cond b (force y (after tomb f) fs) tomb) (passed_on x y f h e) ∙ force-onward x y h (after tomb f) fs
+    elim (is_passed x f) as (λ b. is_passed x f ≡ b → force y tomb (f ∷ fs) ≡ force y (cond b (force x (tomb_after tomb f) fs) tomb) (cond b (onward x fs) (f ∷ fs))) [
+      | true ↦ λ e. ap (λ b. cond b (force y (tomb_after tomb f) fs) tomb) (passed_on x y f h e) ∙ force-onward x y h (tomb_after tomb f) fs
       | false ↦ λ e. refl
     ] refl
 
@@ -85,7 +86,7 @@ says-sought s x y h =
 
 pub says-took : (s : Stream) (f : Frag) (fs : List Frag) (y : Pos) → s.left ≡ f ∷ fs → IsTrue (is_passed y f) → says y (took (Some f) s) ≡ says y s
 says-took s f fs y left h =
-    ap (λ l. said (flat_map (row_at y) (rest l)) (force y (after s.tomb f) (rest l))) left
-    ∙ ap (λ rows. said (rows ++ flat_map (row_at y) fs) (force y (after s.tomb f) fs)) (sym (no_row y f h))
-    ∙ ap (λ b. said (flat_map (row_at y) (f ∷ fs)) (cond b (force y (after s.tomb f) fs) s.tomb)) (sym h)
+    ap (λ l. said (flat_map (row_at y) (rest l)) (force y (tomb_after s.tomb f) (rest l))) left
+    ∙ ap (λ rows. said (rows ++ flat_map (row_at y) fs) (force y (tomb_after s.tomb f) fs)) (sym (no_row y f h))
+    ∙ ap (λ b. said (flat_map (row_at y) (f ∷ fs)) (cond b (force y (tomb_after s.tomb f) fs) s.tomb)) (sym h)
     ∙ ap (λ l. said (flat_map (row_at y) l) (force y s.tomb l)) (sym left)

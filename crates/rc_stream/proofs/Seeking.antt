@@ -11,12 +11,12 @@ use Rattle.rc_cell.specs.Greatest.{greater}
 use Rattle.rc_cell.specs.Orders.{tomb_cmp}
 use Rattle.rc_position.specs.declared.positions.Pos.{Pos}
 use Rattle.rc_position.specs.Position.{pos_cmp, row_pos}
-use Rattle.rc_position.specs.OrderLaws.{pos_cmp_total}
+use Rattle.rc_position.specs.laws.Orders.{pos_cmp_total}
 use Rattle.rc_mutation.specs.declared.fragments.Frag.{Frag}
 use Rattle.rc_mutation.specs.declared.fragments.Frag.TheVariants as frag
 use Rattle.rc_mutation.specs.declared.fragments.Head.{Head}
-use Rattle.rc_mutation.specs.Fragments.{place_order}
-use Rattle.rc_stream.specs.Stream.{Stream, after, force, is_passed, onward, opening, sought}
+use Rattle.rc_mutation.specs.Fragments.{place_order, tomb_after}
+use Rattle.rc_stream.specs.Stream.{Stream, force, is_passed, onward, opening, sought}
 use Rattle.rc_stream.specs.Merging.{IsInner, IsOrdered, IsTelling, StandsBefore, joined_head, merged, merged_left, place_of, rows_here}
 use Rattle.rc_stream.proofs.Ordered.{Place, Lt, before-through, irreflexive, no_rows, stop, turned}
 use Rattle.rc_stream.proofs.Merged.{merged-says, one_row}
@@ -64,8 +64,8 @@ sought-ordered x tomb fs o = let h = onward-ordered x fs o in opening-ordered x 
 onward-telling : (x : Pos) (tomb : Option Tomb) (fs : List Frag) → IsTelling tomb fs → IsTelling (force x tomb fs) (onward x fs)
 onward-telling x tomb [] h = tt
 onward-telling x tomb (f ∷ fs) h =
-    elim (is_passed x f) as (λ b. IsTelling (cond b (force x (after tomb f) fs) tomb) (cond b (onward x fs) (f ∷ fs))) [
-      | true ↦ onward-telling x (after tomb f) fs h.1
+    elim (is_passed x f) as (λ b. IsTelling (cond b (force x (tomb_after tomb f) fs) tomb) (cond b (onward x fs) (f ∷ fs))) [
+      | true ↦ onward-telling x (tomb_after tomb f) fs h.1
       | false ↦ h
     ]
 

@@ -11,15 +11,15 @@ use Rattle.rc_cell.specs.declared.rows.Row.{Row}
 use Rattle.rc_cell.specs.declared.writes.Tomb.{Tomb}
 use Rattle.rc_cell.specs.Beats.{tomb_cmp-IsAntisymmetric}
 use Rattle.rc_cell.specs.Greatest.{greater}
-use Rattle.rc_cell.specs.Laws.{joined_row-one}
+use Rattle.rc_cell.specs.laws.{joined_row-one}
 use Rattle.rc_cell.specs.Orders.{tomb_cmp}
 use Rattle.rc_cell.specs.Winner.{joined_row}
 use Rattle.rc_position.specs.declared.positions.Pos.{Pos}
 use Rattle.rc_position.specs.Position.{row_pos}
 use Rattle.rc_mutation.specs.declared.fragments.Frag.{Frag}
 use Rattle.rc_mutation.specs.declared.fragments.Frag.TheVariants as frag
-use Rattle.rc_mutation.specs.Fragments.{place_order}
-use Rattle.rc_stream.specs.Stream.{after, force, is_passed, row_at}
+use Rattle.rc_mutation.specs.Fragments.{place_order, tomb_after}
+use Rattle.rc_stream.specs.Stream.{force, is_passed, row_at}
 use Rattle.rc_stream.specs.Merging.{IsInner, IsOrdered, StandsBefore, beside, both_say, changes_nothing, merged_left, place_of, placed, rows_here, same_tomb, telling, together}
 use Rattle.rc_stream.proofs.Ordered.{Place, Lt, place_total, place_same, before-append, no_row-passed, no_rows, itself, irreflexive, passed-change, passed-row, passes-itself, stop}
 
@@ -102,18 +102,18 @@ same-map : (h k : Says) (p : Place) (fs : List Frag) → ((f : Frag) → Lt p (p
 same-map h k p [] same b = refl
 same-map h k p (f ∷ fs) same b = λ i. same f b.0 i ∷ same-map h k p fs same b.1 i
 
-ours-later : (tomb other : Option Tomb) (f : Frag) (fs gs : List Frag) → IsInner f → (v : Frag) → Lt (place_of f) (place_of v) → both_say tomb (f ∷ fs) other gs v ≡ both_say (after tomb f) fs other gs v
+ours-later : (tomb other : Option Tomb) (f : Frag) (fs gs : List Frag) → IsInner f → (v : Frag) → Lt (place_of f) (place_of v) → both_say tomb (f ∷ fs) other gs v ≡ both_say (tomb_after tomb f) fs other gs v
 ours-later tomb other f fs gs i (frag.Start pt) a = refl
 ours-later tomb other f fs gs i (frag.Static row) a = refl
 ours-later tomb other f fs gs i (frag.Row key row) a = ap (λ rs. frag.Row key (joined_row ((rs ++ rows_here (row_pos key) fs) ++ rows_here (row_pos key) gs))) (no_row-passed (row_pos key) f (passed-row (row_pos key) f i a))
-ours-later tomb other f fs gs i (frag.Change from next) a = ap (λ b. frag.Change from (greater tomb_cmp (cond b (force from (after tomb f) fs) tomb) (force from other gs))) (passed-change from f i a)
+ours-later tomb other f fs gs i (frag.Change from next) a = ap (λ b. frag.Change from (greater tomb_cmp (cond b (force from (tomb_after tomb f) fs) tomb) (force from other gs))) (passed-change from f i a)
 ours-later tomb other f fs gs i frag.End a = refl
 
-theirs-later : (tomb other : Option Tomb) (g : Frag) (fs gs : List Frag) → IsInner g → (v : Frag) → Lt (place_of g) (place_of v) → both_say tomb fs other (g ∷ gs) v ≡ both_say tomb fs (after other g) gs v
+theirs-later : (tomb other : Option Tomb) (g : Frag) (fs gs : List Frag) → IsInner g → (v : Frag) → Lt (place_of g) (place_of v) → both_say tomb fs other (g ∷ gs) v ≡ both_say tomb fs (tomb_after other g) gs v
 theirs-later tomb other g fs gs i (frag.Start pt) a = refl
 theirs-later tomb other g fs gs i (frag.Static row) a = refl
 theirs-later tomb other g fs gs i (frag.Row key row) a = ap (λ rs. frag.Row key (joined_row (rows_here (row_pos key) fs ++ (rs ++ rows_here (row_pos key) gs)))) (no_row-passed (row_pos key) g (passed-row (row_pos key) g i a))
-theirs-later tomb other g fs gs i (frag.Change from next) a = ap (λ b. frag.Change from (greater tomb_cmp (force from tomb fs) (cond b (force from (after other g) gs) other))) (passed-change from g i a)
+theirs-later tomb other g fs gs i (frag.Change from next) a = ap (λ b. frag.Change from (greater tomb_cmp (force from tomb fs) (cond b (force from (tomb_after other g) gs) other))) (passed-change from g i a)
 theirs-later tomb other g fs gs i frag.End a = refl
 
 -- ---- what is given first
@@ -130,7 +130,7 @@ same-tombs (Some s) None e = absurd (cc)
 same-tombs (Some s) (Some t) e = ap Some (tomb_cmp-IsAntisymmetric s t (tie (tomb_cmp s t) e))
 
 -- behind a change that changes nothing the tombstone is as before
-pub nothing-after : (tomb : Option Tomb) (f : Frag) → changes_nothing tomb f ≡ true → after tomb f ≡ tomb
+pub nothing-after : (tomb : Option Tomb) (f : Frag) → changes_nothing tomb f ≡ true → tomb_after tomb f ≡ tomb
 nothing-after tomb (frag.Start pt) e = absurd (cc)
 nothing-after tomb (frag.Static row) e = absurd (cc)
 nothing-after tomb (frag.Row key row) e = absurd (cc)
@@ -141,9 +141,9 @@ nothing-after tomb frag.End e = absurd (cc)
 abbrev pub tell : Option Tomb → Frag → List Frag → List Frag
 tell tomb f fs = cond (changes_nothing tomb f) fs (f ∷ fs)
 
-telling-tell : (tomb : Option Tomb) (f : Frag) (fs : List Frag) → telling tomb (f ∷ fs) ≡ tell tomb f (telling (after tomb f) fs)
+telling-tell : (tomb : Option Tomb) (f : Frag) (fs : List Frag) → telling tomb (f ∷ fs) ≡ tell tomb f (telling (tomb_after tomb f) fs)
 telling-tell tomb f fs =
-    elim (changes_nothing tomb f) as (λ b. changes_nothing tomb f ≡ b → cond b (telling tomb fs) (f ∷ telling (after tomb f) fs) ≡ cond b (telling (after tomb f) fs) (f ∷ telling (after tomb f) fs)) [
+    elim (changes_nothing tomb f) as (λ b. changes_nothing tomb f ≡ b → cond b (telling tomb fs) (f ∷ telling (tomb_after tomb f) fs) ≡ cond b (telling (tomb_after tomb f) fs) (f ∷ telling (tomb_after tomb f) fs)) [
       | true ↦ λ e. ap (λ t. telling t fs) (sym (nothing-after tomb f e))
       | false ↦ λ e. refl
     ] refl
@@ -220,21 +220,21 @@ together-say tomb other (frag.Change from next) (frag.Change from' next') fs gs 
 together-say tomb other (frag.Change from next) frag.End fs gs o k e = absurd k.0
 together-say tomb other frag.End g fs gs o k e = absurd o.0
 
-pub after-beside : (tomb other : Option Tomb) (f : Frag) → after (greater tomb_cmp tomb other) (beside other f) ≡ greater tomb_cmp (after tomb f) other
+pub after-beside : (tomb other : Option Tomb) (f : Frag) → tomb_after (greater tomb_cmp tomb other) (beside other f) ≡ greater tomb_cmp (tomb_after tomb f) other
 after-beside tomb other (frag.Start pt) = refl
 after-beside tomb other (frag.Static row) = refl
 after-beside tomb other (frag.Row key row) = refl
 after-beside tomb other (frag.Change from next) = refl
 after-beside tomb other frag.End = refl
 
-pub after-theirs : (tomb other : Option Tomb) (g : Frag) → after (greater tomb_cmp tomb other) (beside_theirs tomb g) ≡ greater tomb_cmp tomb (after other g)
+pub after-theirs : (tomb other : Option Tomb) (g : Frag) → tomb_after (greater tomb_cmp tomb other) (beside_theirs tomb g) ≡ greater tomb_cmp tomb (tomb_after other g)
 after-theirs tomb other (frag.Start pt) = refl
 after-theirs tomb other (frag.Static row) = refl
 after-theirs tomb other (frag.Row key row) = refl
 after-theirs tomb other (frag.Change from next) = refl
 after-theirs tomb other frag.End = refl
 
-pub after-together : (tomb other : Option Tomb) (f g : Frag) → IsInner f → IsInner g → place_of f ≡ place_of g → after (greater tomb_cmp tomb other) (together f g) ≡ greater tomb_cmp (after tomb f) (after other g)
+pub after-together : (tomb other : Option Tomb) (f g : Frag) → IsInner f → IsInner g → place_of f ≡ place_of g → tomb_after (greater tomb_cmp tomb other) (together f g) ≡ greater tomb_cmp (tomb_after tomb f) (tomb_after other g)
 after-together tomb other (frag.Start pt) g i j e = absurd i
 after-together tomb other (frag.Static row) g i j e = absurd i
 after-together tomb other (frag.Row key row) (frag.Start pt) i j e = absurd j
@@ -254,27 +254,27 @@ after-together tomb other frag.End g i j e = absurd i
 pub step-none : (tomb other : Option Tomb) → merged_left tomb [] other [] ≡ []
 step-none tomb other = ap (λ es. telling (greater tomb_cmp tomb other) (list_map (both_say tomb [] other []) (values es))) ents-none
 
-pub step-ours : (tomb other : Option Tomb) (f : Frag) (fs gs : List Frag) → IsOrdered (f ∷ fs) → IsOrdered gs → StandsBefore (place_of f) gs → merged_left tomb (f ∷ fs) other gs ≡ tell (greater tomb_cmp tomb other) (beside other f) (merged_left (after tomb f) fs other gs)
+pub step-ours : (tomb other : Option Tomb) (f : Frag) (fs gs : List Frag) → IsOrdered (f ∷ fs) → IsOrdered gs → StandsBefore (place_of f) gs → merged_left tomb (f ∷ fs) other gs ≡ tell (greater tomb_cmp tomb other) (beside other f) (merged_left (tomb_after tomb f) fs other gs)
 step-ours tomb other f fs gs o k b =
     let now = greater tomb_cmp tomb other in
     let behind = before-append (place_of f) fs gs o.1 b in
     let later = values (ents (fs ++ gs)) in
-    let made = list_map (both_say (after tomb f) fs other gs) later in
+    let made = list_map (both_say (tomb_after tomb f) fs other gs) later in
     ap (λ es. telling now (list_map (both_say tomb (f ∷ fs) other gs) (values es))) (first-ents f [] (fs ++ gs) tt behind)
     ∙ ap (λ a. telling now (a ∷ list_map (both_say tomb (f ∷ fs) other gs) later)) (ours-say tomb other f fs gs o k b)
-    ∙ ap (λ l. telling now (beside other f ∷ l)) (same-map (both_say tomb (f ∷ fs) other gs) (both_say (after tomb f) fs other gs) (place_of f) later (ours-later tomb other f fs gs o.0) (before-ents (place_of f) (fs ++ gs) behind))
+    ∙ ap (λ l. telling now (beside other f ∷ l)) (same-map (both_say tomb (f ∷ fs) other gs) (both_say (tomb_after tomb f) fs other gs) (place_of f) later (ours-later tomb other f fs gs o.0) (before-ents (place_of f) (fs ++ gs) behind))
     ∙ telling-tell now (beside other f) made
     ∙ ap (λ t. tell now (beside other f) (telling t made)) (after-beside tomb other f)
 
-pub step-theirs : (tomb other : Option Tomb) (g : Frag) (fs gs : List Frag) → IsOrdered fs → IsOrdered (g ∷ gs) → StandsBefore (place_of g) fs → merged_left tomb fs other (g ∷ gs) ≡ tell (greater tomb_cmp tomb other) (beside_theirs tomb g) (merged_left tomb fs (after other g) gs)
+pub step-theirs : (tomb other : Option Tomb) (g : Frag) (fs gs : List Frag) → IsOrdered fs → IsOrdered (g ∷ gs) → StandsBefore (place_of g) fs → merged_left tomb fs other (g ∷ gs) ≡ tell (greater tomb_cmp tomb other) (beside_theirs tomb g) (merged_left tomb fs (tomb_after other g) gs)
 step-theirs tomb other g fs gs o k b =
     let now = greater tomb_cmp tomb other in
     let behind = before-append (place_of g) fs gs b k.1 in
     let later = values (ents (fs ++ gs)) in
-    let made = list_map (both_say tomb fs (after other g) gs) later in
+    let made = list_map (both_say tomb fs (tomb_after other g) gs) later in
     ap (λ es. telling now (list_map (both_say tomb fs other (g ∷ gs)) (values es))) (first-ents g fs gs b k.1)
     ∙ ap (λ a. telling now (a ∷ list_map (both_say tomb fs other (g ∷ gs)) later)) (theirs-say tomb other g fs gs o k b)
-    ∙ ap (λ l. telling now (beside_theirs tomb g ∷ l)) (same-map (both_say tomb fs other (g ∷ gs)) (both_say tomb fs (after other g) gs) (place_of g) later (theirs-later tomb other g fs gs k.0) (before-ents (place_of g) (fs ++ gs) behind))
+    ∙ ap (λ l. telling now (beside_theirs tomb g ∷ l)) (same-map (both_say tomb fs other (g ∷ gs)) (both_say tomb fs (tomb_after other g) gs) (place_of g) later (theirs-later tomb other g fs gs k.0) (before-ents (place_of g) (fs ++ gs) behind))
     ∙ telling-tell now (beside_theirs tomb g) made
     ∙ ap (λ t. tell now (beside_theirs tomb g) (telling t made)) (after-theirs tomb other g)
 
@@ -284,18 +284,18 @@ first-tied f g fs gs e b c =
     ∙ ap (put place_order (place_of f) f) (first-ents g fs gs b c)
     ∙ put-tied (place_of f) (place_of g) f g (ents (fs ++ gs)) e
 
-pub step-together : (tomb other : Option Tomb) (f g : Frag) (fs gs : List Frag) → IsOrdered (f ∷ fs) → IsOrdered (g ∷ gs) → place_order (place_of f) (place_of g) ≡ Equal → merged_left tomb (f ∷ fs) other (g ∷ gs) ≡ tell (greater tomb_cmp tomb other) (together f g) (merged_left (after tomb f) fs (after other g) gs)
+pub step-together : (tomb other : Option Tomb) (f g : Frag) (fs gs : List Frag) → IsOrdered (f ∷ fs) → IsOrdered (g ∷ gs) → place_order (place_of f) (place_of g) ≡ Equal → merged_left tomb (f ∷ fs) other (g ∷ gs) ≡ tell (greater tomb_cmp tomb other) (together f g) (merged_left (tomb_after tomb f) fs (tomb_after other g) gs)
 step-together tomb other f g fs gs o k e =
     let now = greater tomb_cmp tomb other in
     let one = one_place f g e in
     let ours : StandsBefore (place_of g) fs = subst (λ p. StandsBefore p fs) one o.1 in
     let behind = before-append (place_of g) fs gs ours k.1 in
     let later = values (ents (fs ++ gs)) in
-    let made = list_map (both_say (after tomb f) fs (after other g) gs) later in
+    let made = list_map (both_say (tomb_after tomb f) fs (tomb_after other g) gs) later in
     ap (λ es. telling now (list_map (both_say tomb (f ∷ fs) other (g ∷ gs)) (values es))) (first-tied f g fs gs e ours k.1)
     ∙ ap (λ a. telling now (a ∷ list_map (both_say tomb (f ∷ fs) other (g ∷ gs)) later)) (together-say tomb other f g fs gs o k one)
-    ∙ ap (λ l. telling now (together f g ∷ l)) (same-map (both_say tomb (f ∷ fs) other (g ∷ gs)) (both_say (after tomb f) fs (after other g) gs) (place_of g) later
-    (λ v a. ours-later tomb other f fs (g ∷ gs) o.0 v (subst (λ p. Lt p (place_of v)) (sym one) a) ∙ theirs-later (after tomb f) other g fs gs k.0 v a)
+    ∙ ap (λ l. telling now (together f g ∷ l)) (same-map (both_say tomb (f ∷ fs) other (g ∷ gs)) (both_say (tomb_after tomb f) fs (tomb_after other g) gs) (place_of g) later
+    (λ v a. ours-later tomb other f fs (g ∷ gs) o.0 v (subst (λ p. Lt p (place_of v)) (sym one) a) ∙ theirs-later (tomb_after tomb f) other g fs gs k.0 v a)
     (before-ents (place_of g) (fs ++ gs) behind))
     ∙ telling-tell now (together f g) made
     ∙ ap (λ t. tell now (together f g) (telling t made)) (after-together tomb other f g o.0 k.0 one)

@@ -16,11 +16,12 @@ use Rattle.rc_stream.specs.declared.lists.Front.TheVariants as front
 use Rattle.rc_stream.specs.declared.streams.StreamErr.{StreamErr}
 use Rattle.rc_stream.specs.Calls.{sought_by}
 use Rattle.rc_stream.specs.Fronts.{front_change}
-use Rattle.rc_stream.specs.Stream.{Stream, after, first_upto, rest, sought, took}
+use Rattle.rc_stream.specs.Stream.{Stream, first_upto, rest, sought, took}
+use Rattle.rc_mutation.specs.Fragments.{tomb_after}
 use Rattle.rc_stream.specs.Merging.{IsOrdered, StandsBefore, merged}
 use Rattle.rc_stream.specs.Places.{bound_of}
-use Rattle.rc_stream.specs.Holding.{Does, Fits, WentOn, held, looked, passes_held, turn_of, whole}
-use Rattle.rc_stream.specs.Moving.{HoldBoth, Holds, KeepsSeen, Once, StepLeaves, StepSays, holds}
+use Rattle.rc_stream.specs.Holding.{TakesTurn, HeldFits, WentOn, held, looked, passes_held, turn_of, whole}
+use Rattle.rc_stream.specs.Moving.{HoldBoth, Holds, KeepsSeen, Once, StepLeaves, StepSays, look_after}
 use Rattle.rc_stream.proofs.Looking.{beyond, first-is, fits-sought, fits-within, none_held, nothing-held, within}
 use Rattle.rc_stream.proofs.Ordered.{passes-itself}
 use Rattle.rc_stream.proofs.Rounds.{stepped}
@@ -45,32 +46,32 @@ stream h t l = record { head = h; tomb = t; left = l }
 abbrev hold : Front → Look → Held
 hold fr l = record { front = fr; look = l }
 
-took-holds : (f : Frag) (s : Stream) (fr : Front) (l : Look) → is_nil (front_change fr ++ looked l) ≡ true → Fits (hold fr l) s → s.left ≡ f ∷ rest s.left → Fits (hold fr (holds (Some f) l)) (took (Some f) s) × (whole (hold fr l) s ≡ whole (hold fr (holds (Some f) l)) (took (Some f) s))
+took-holds : (f : Frag) (s : Stream) (fr : Front) (l : Look) → is_nil (front_change fr ++ looked l) ≡ true → HeldFits (hold fr l) s → s.left ≡ f ∷ rest s.left → HeldFits (hold fr (look_after (Some f) l)) (took (Some f) s) × (whole (hold fr l) s ≡ whole (hold fr (look_after (Some f) l)) (took (Some f) s))
 took-holds f s (front.Due z t) l n fits e = absurd (cc)
-took-holds f s (front.Passed t) look.Open n fits e = (record { ordered = subst IsOrdered e fits.ordered; tomb = ap (λ u. after u f) fits.tomb; over = tt }, λ i. stream s.head t (e i))
-took-holds f s (front.Passed t) (look.Over z) n fits e = (record { ordered = subst IsOrdered e fits.ordered; tomb = ap (λ u. after u f) fits.tomb; over = subst (StandsBefore (z, 0)) e fits.over }, λ i. stream s.head t (e i))
+took-holds f s (front.Passed t) look.Open n fits e = (record { ordered = subst IsOrdered e fits.ordered; tomb = ap (λ u. tomb_after u f) fits.tomb; over = tt }, λ i. stream s.head t (e i))
+took-holds f s (front.Passed t) (look.Over z) n fits e = (record { ordered = subst IsOrdered e fits.ordered; tomb = ap (λ u. tomb_after u f) fits.tomb; over = subst (StandsBefore (z, 0)) e fits.over }, λ i. stream s.head t (e i))
 took-holds f s (front.Passed t) (look.Next g) n fits e = absurd (cc)
 took-holds f s (front.Passed t) (look.Past z g) n fits e = absurd (cc)
 
 as_now : (fr : Front) (l : Look) (now : Held) → now.front ≡ fr → now.look ≡ l → hold fr l ≡ now
 as_now fr l now e k = λ i. hold (sym e i) (sym k i)
 
-pub looked-holds : (P Q : Seen) (x : Pos) (got : Option Frag) (h now : Held) (t : Stream) → is_nil (held h) ≡ true → now.front ≡ h.front → now.look ≡ holds got h.look → ((s : Stream) → P s → got ≡ first_upto x s.left) → ((s : Stream) → P s → Q (took got s)) → Holds P h t → Holds Q now t
+pub looked-holds : (P Q : Seen) (x : Pos) (got : Option Frag) (h now : Held) (t : Stream) → is_nil (held h) ≡ true → now.front ≡ h.front → now.look ≡ look_after got h.look → ((s : Stream) → P s → got ≡ first_upto x s.left) → ((s : Stream) → P s → Q (took got s)) → Holds P h t → Holds Q now t
 looked-holds P Q x None h now t n fr l gives go k = subst (λ m. Holds Q m t) (as_now h.front h.look now fr l) (holds-on P Q h t go k)
 looked-holds P Q x (Some f) h now t n fr l gives go k =
     let first = first-is x k.stream.left f (gives k.stream k.stands) in
     let both = took-holds f k.stream h.front h.look n k.fits first.0 in
-    subst (λ m. Holds Q m t) (as_now h.front (holds (Some f) h.look) now fr l)
+    subst (λ m. Holds Q m t) (as_now h.front (look_after (Some f) h.look) now fr l)
     (record { stream = took (Some f) k.stream; stands = go k.stream k.stands; fits = both.0; same = k.same ∙ both.1 })
 
-something : (f : Frag) (fs : List Frag) (l : Look) → fs ++ looked (holds (Some f) l) ≡ [] → ⊥
+something : (f : Frag) (fs : List Frag) (l : Look) → fs ++ looked (look_after (Some f) l) ≡ [] → ⊥
 something f [] look.Open e = cc
 something f [] (look.Over z) e = cc
 something f [] (look.Next g) e = cc
 something f [] (look.Past z g) e = cc
 something f (g ∷ fs) l e = cc
 
-pub looked-known : (P : Seen) (x : Pos) (got : Option Frag) (h now : Held) (t : Stream) → is_nil (held h) ≡ true → now.look ≡ holds got h.look → ((s : Stream) → P s → got ≡ first_upto x s.left) → Holds P h t → held now ≡ [] → first_upto x t.left ≡ None
+pub looked-known : (P : Seen) (x : Pos) (got : Option Frag) (h now : Held) (t : Stream) → is_nil (held h) ≡ true → now.look ≡ look_after got h.look → ((s : Stream) → P s → got ≡ first_upto x s.left) → Holds P h t → held now ≡ [] → first_upto x t.left ≡ None
 looked-known P x None h now t n l gives k e = ap (λ (u : Stream). first_upto x u.left) k.same ∙ ap (λ hs. first_upto x (hs ++ k.stream.left)) (nothing-held (held h) n) ∙ sym (gives k.stream k.stands)
 looked-known P x (Some f) h now t n l gives k e = absurd (something f (front_change now.front) h.look (ap (λ m. front_change now.front ++ looked m) (sym l) ∙ e))
 
@@ -128,7 +129,7 @@ after_step P Q h k step.Nothing x m n b d = (subst (HoldBoth P h Q k) d.0 b, d.1
 after_step P Q h k step.Passed x m n b d = subst (HoldBoth P h Q k) d b
 after_step P Q h k (step.Given f) x m n b d = (subst (HoldBoth P h Q k) d.1 b, d.0)
 
-pub step-holds : (P Q : Seen) (x : Pos) (h k h' k' : Held) (s : Step) (m ta tb : Stream) → Holds P h ta → Holds Q k tb → m ≡ merged ta tb → (held h ≡ [] → first_upto x ta.left ≡ None) → (held k ≡ [] → first_upto (bound_of x (held h)) tb.left ≡ None) → Does (turn_of x (held h) (held k)) s h k h' k' → StepLeaves (Ok s) x m (HoldBoth P h' Q k')
+pub step-holds : (P Q : Seen) (x : Pos) (h k h' k' : Held) (s : Step) (m ta tb : Stream) → Holds P h ta → Holds Q k tb → m ≡ merged ta tb → (held h ≡ [] → first_upto x ta.left ≡ None) → (held k ≡ [] → first_upto (bound_of x (held h)) tb.left ≡ None) → TakesTurn (turn_of x (held h) (held k)) s h k h' k' → StepLeaves (Ok s) x m (HoldBoth P h' Q k')
 step-holds P Q x h k h' k' s m ta tb a b e none none' d =
     let st = stepped x a.stream b.stream h k a.fits b.fits s h' k' (λ n. below P x h ta a n (none n)) (λ n. below Q (bound_of x (held h)) k tb b n (none' n)) d in
     after_step P Q h' k' s x m (merged (whole h' a.stream) (whole k' b.stream))

@@ -1,6 +1,6 @@
 -- What a call of a stream did to it, to its home and to its store.
---     Covers      a position is not before the end of a call up to another one
---     Chain       steps one after another, of which a refused one is the last
+--     ReachesEnd      a position is not before the end of a call up to another one
+--     InTurn       steps one after another, of which a refused one is the last
 --     MergeDid    a call of a merge is a chain of calls of its parts
 --     Spends      what calls ask for is bounded by what is left to be asked for
 --     IsQuiet     a settled stream asks for nothing
@@ -24,22 +24,22 @@ answered (Ok value) = true
 answered (Err e) = false
 
 -- a position is not before the end of a call up to x: not before x, or not before the first of a stream that is stood for
-abbrev pub Covers : (Stream → Type 0) → Pos → Pos → Type 0
-Covers seen x y = Reaches x y ⊎ ((s : Stream) × seen s × Reaches (bound_of x s.left) y)
+abbrev pub ReachesEnd : (Stream → Type 0) → Pos → Pos → Type 0
+ReachesEnd seen x y = Reaches x y ⊎ ((s : Stream) × seen s × Reaches (bound_of x s.left) y)
 
 -- so many steps, one after another
-abbrev pub Steps : {S : Type 0} → (S → S → Type 0) → ℕ → S → S → Type 0
-Steps step zero s t = s ≡ t
-Steps {S} step (suc n) s t = (u : S) × step s u × Steps step n u t
+abbrev pub StepsInTurn : {S : Type 0} → (S → S → Type 0) → ℕ → S → S → Type 0
+StepsInTurn step zero s t = s ≡ t
+StepsInTurn {S} step (suc n) s t = (u : S) × step s u × StepsInTurn step n u t
 
 -- any number of steps, one after another
 abbrev pub Many : {S : Type 0} → (S → S → Type 0) → S → S → Type 0
-Many step s t = (n : ℕ) × Steps step n s t
+Many step s t = (n : ℕ) × StepsInTurn step n s t
 
 -- steps that were answered, one after another; where the whole was refused, a refused step is the last of them, or none was refused
-abbrev pub Chain : {S : Type 0} → (Bool → S → S → Type 0) → Bool → S → S → Type 0
-Chain step true s t = Many (step true) s t
-Chain {S} step false s t = (u : S) × Many (step true) s u × ((u ≡ t) ⊎ step false u t)
+abbrev pub InTurn : {S : Type 0} → (Bool → S → S → Type 0) → Bool → S → S → Type 0
+InTurn step true s t = Many (step true) s t
+InTurn {S} step false s t = (u : S) × Many (step true) s u × ((u ≡ t) ⊎ step false u t)
 
 -- what calls of a stream do, with whether they were answered
 abbrev pub Deed : Type 0 → Type 0 → Type 0 → Type 1
@@ -83,7 +83,7 @@ HeadsOnce {A} {B} {H} {W} did did' false s t = OurCall did OfHead false s t ⊎ 
 abbrev pub PartsDid : {A B H W : Type 0} → Deed A H W → Deed B H W → Option Pos → Call → Bool → A × B × H × W → A × B × H × W → Type 0
 PartsDid did did' due OfHead ok s t = HeadsOnce did did' ok s t
 PartsDid did did' due (OfSeek x) ok s t = s ≡ t
-PartsDid did did' due (OfNext y) ok s t = Chain (OneCall did did' due y) ok s t
+PartsDid did did' due (OfNext y) ok s t = InTurn (OneCall did did' due y) ok s t
 
 -- a call of a merge of two parts, where a seek may be due
 pub record MergeDid {A B H W : Type 0} (did : Deed A H W) (did' : Deed B H W) (due : Option Pos) (c : Call) (ok : Bool) (s t : A × B × H × W) : Type 0 where

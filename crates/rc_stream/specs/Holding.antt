@@ -10,7 +10,7 @@ use Rattle.rc_cell.specs.Winner.{joined_row}
 use Rattle.rc_position.specs.declared.positions.Pos.{Pos}
 use Rattle.rc_mutation.specs.declared.fragments.Frag.{Frag}
 use Rattle.rc_mutation.specs.declared.fragments.Frag.TheVariants as frag
-use Rattle.rc_mutation.specs.Fragments.{place_order}
+use Rattle.rc_mutation.specs.Fragments.{place_order, tomb_after}
 use Rattle.rc_stream.specs.declared.holding.Held.{Held}
 use Rattle.rc_stream.specs.declared.holding.Look.{Look}
 use Rattle.rc_stream.specs.declared.holding.Look.TheVariants as look
@@ -23,7 +23,7 @@ use Rattle.rc_stream.specs.declared.lists.Front.TheVariants as front
 use Rattle.rc_stream.specs.Fronts.{front_change, front_tomb}
 use Rattle.rc_stream.specs.Places.{Reaches}
 use Rattle.rc_position.specs.Position.{pos_cmp}
-use Rattle.rc_stream.specs.Stream.{Stream, after, force, is_passed, is_upto, onward, opening, rest}
+use Rattle.rc_stream.specs.Stream.{Stream, force, is_passed, is_upto, onward, opening, rest}
 use Rattle.rc_stream.specs.Merging.{IsOrdered, StandsBefore, beside, changes_nothing, place_of, together}
 
 -- what was looked at and not given
@@ -38,14 +38,14 @@ abbrev pub held : Held → List Frag
 held h = front_change h.front ++ looked h.look
 
 -- the range tombstone in force behind fragments
-abbrev pub behind : Option Tomb → List Frag → Option Tomb
-behind tomb [] = tomb
-behind tomb (f ∷ fs) = behind (after tomb f) fs
+abbrev pub tomb_behind : Option Tomb → List Frag → Option Tomb
+tomb_behind tomb [] = tomb
+tomb_behind tomb (f ∷ fs) = tomb_behind (tomb_after tomb f) fs
 
 -- the range tombstone in force behind the first of fragments
 abbrev pub behind_first : Option Tomb → List Frag → Option Tomb
 behind_first tomb [] = tomb
-behind_first tomb (f ∷ fs) = after tomb f
+behind_first tomb (f ∷ fs) = tomb_after tomb f
 
 -- a stream with what is held put back before it
 abbrev pub whole : Held → Stream → Stream
@@ -66,15 +66,10 @@ StandsOver (look.Next f) fs = ⊤
 StandsOver (look.Past z f) fs = StandsBefore (z, 0) (f ∷ fs)
 
 -- what is held fits the stream behind it
-pub record Fits (h : Held) (s : Stream) : Type 0 where
+pub record HeldFits (h : Held) (s : Stream) : Type 0 where
   pub ordered : IsOrdered (held h ++ s.left)
-  pub tomb : s.tomb ≡ behind (front_tomb h.front) (held h)
+  pub tomb : s.tomb ≡ tomb_behind (front_tomb h.front) (held h)
   pub over : StandsOver h.look s.left
-
--- the first of a list, if there is one
-abbrev pub first_of : List Frag → Option Frag
-first_of [] = None
-first_of (f ∷ fs) = Some f
 
 -- whether the first of some fragments stands at x or before it
 abbrev pub begins_upto : Pos → List Frag → Bool
@@ -145,18 +140,18 @@ IsStepUpto x step.Passed = ⊤
 IsStepUpto x (step.Given f) = IsTrue (is_upto x f)
 
 -- the first of what was held was taken in a step
-pub record Took (s : Step) (h now : Held) : Type 0 where
+pub record TakesFirst (s : Step) (h now : Held) : Type 0 where
   pub left : held now ≡ rest (held h)
   pub tomb : front_tomb now.front ≡ behind_first (front_tomb h.front) (held h)
   pub from : (x : Pos) → StepReaches s x → IsFrom now.look x → IsFrom h.look x
   pub over : (fs : List Frag) → IsOrdered (held h ++ fs) → StandsOver h.look fs → StandsOver now.look fs
 
 -- a step of a merge: nothing; the first of one, alone at its place; the first of both, at one place
-abbrev pub Does : Turn → Step → Held → Held → Held → Held → Type 0
-Does turn.Nobody s ours theirs ours' theirs' = (s ≡ step.Nothing) × (ours' ≡ ours) × (theirs' ≡ theirs)
-Does turn.Ours s ours theirs ours' theirs' = (s ≡ alone (front_tomb ours.front) (front_tomb theirs.front) (held ours)) × Took s ours ours' × (theirs' ≡ theirs)
-Does turn.Theirs s ours theirs ours' theirs' = (s ≡ alone (front_tomb theirs.front) (front_tomb ours.front) (held theirs)) × (ours' ≡ ours) × Took s theirs theirs'
-Does turn.Both s ours theirs ours' theirs' = (s ≡ paired (greater tomb_cmp (front_tomb ours.front) (front_tomb theirs.front)) (held ours) (held theirs)) × Took s ours ours' × Took s theirs theirs'
+abbrev pub TakesTurn : Turn → Step → Held → Held → Held → Held → Type 0
+TakesTurn turn.Nobody s ours theirs ours' theirs' = (s ≡ step.Nothing) × (ours' ≡ ours) × (theirs' ≡ theirs)
+TakesTurn turn.Ours s ours theirs ours' theirs' = (s ≡ alone (front_tomb ours.front) (front_tomb theirs.front) (held ours)) × TakesFirst s ours ours' × (theirs' ≡ theirs)
+TakesTurn turn.Theirs s ours theirs ours' theirs' = (s ≡ alone (front_tomb theirs.front) (front_tomb ours.front) (held theirs)) × (ours' ≡ ours) × TakesFirst s theirs theirs'
+TakesTurn turn.Both s ours theirs ours' theirs' = (s ≡ paired (greater tomb_cmp (front_tomb ours.front) (front_tomb theirs.front)) (held ours) (held theirs)) × TakesFirst s ours ours' × TakesFirst s theirs theirs'
 
 -- whose turn it is up to x
 abbrev pub turn_of : Pos → List Frag → List Frag → Turn

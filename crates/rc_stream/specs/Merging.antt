@@ -17,8 +17,8 @@ use Rattle.rc_position.specs.Position.{row_pos}
 use Rattle.rc_mutation.specs.declared.fragments.Frag.{Frag}
 use Rattle.rc_mutation.specs.declared.fragments.Frag.TheVariants as frag
 use Rattle.rc_mutation.specs.declared.fragments.Head.{Head}
-use Rattle.rc_mutation.specs.Fragments.{in_order, place_order}
-use Rattle.rc_stream.specs.Stream.{Stream, after, force, row_at}
+use Rattle.rc_mutation.specs.Fragments.{in_order, place_order, tomb_after}
+use Rattle.rc_stream.specs.Stream.{Stream, force, row_at}
 
 -- where a row or a change stands: by position, and at one position a change before a row. The others stand before them
 abbrev pub place_of : Frag → Pos × ℕ
@@ -68,12 +68,12 @@ changes_nothing tomb frag.End = false
 -- no change is to the tombstone in force before it, where this one is in force before them all
 abbrev pub IsTelling : Option Tomb → List Frag → Type 0
 IsTelling tomb [] = Unit {0}
-IsTelling tomb (f ∷ fs) = (changes_nothing tomb f ≡ false) × IsTelling (after tomb f) fs
+IsTelling tomb (f ∷ fs) = (changes_nothing tomb f ≡ false) × IsTelling (tomb_after tomb f) fs
 
 -- fragments without the changes that change nothing
 abbrev pub telling : Option Tomb → List Frag → List Frag
 telling tomb [] = []
-telling tomb (f ∷ fs) = cond (changes_nothing tomb f) (telling tomb fs) (f ∷ telling (after tomb f) fs)
+telling tomb (f ∷ fs) = cond (changes_nothing tomb f) (telling tomb fs) (f ∷ telling (tomb_after tomb f) fs)
 
 -- the rows at x among fragments
 abbrev pub rows_here : Pos → List Frag → List Row

@@ -12,7 +12,7 @@ use Rattle.rc_stream.specs.Stream.{Stream, first_upto, sought, took}
 use Rattle.rc_stream.specs.declared.streams.StreamErr.{StreamErr}
 use Rattle.rc_stream.specs.declared.holding.Held.{Held}
 use Rattle.rc_stream.specs.Merging.{merged}
-use Rattle.rc_stream.specs.Holding.{Fits, IsFrom, StepReaches, whole}
+use Rattle.rc_stream.specs.Holding.{HeldFits, IsFrom, StepReaches, whole}
 
 -- nothing is held
 abbrev pub nothing_held : Held
@@ -27,18 +27,18 @@ abbrev pub MaySeek : (Pos → Type 0) → Look → Pos → Type 0
 MaySeek ahead l x = (y : Pos) → Reaches x y → IsFrom l y → ahead y
 
 -- what was looked at, after a fragment was taken from the stream, if one was
-abbrev pub holds : Option Frag → Look → Look
-holds None l = l
-holds (Some f) look.Open = look.Next f
-holds (Some f) (look.Over z) = look.Past z f
-holds (Some f) (look.Next g) = look.Next f
-holds (Some f) (look.Past z g) = look.Past z f
+abbrev pub look_after : Option Frag → Look → Look
+look_after None l = l
+look_after (Some f) look.Open = look.Next f
+look_after (Some f) (look.Over z) = look.Past z f
+look_after (Some f) (look.Next g) = look.Next f
+look_after (Some f) (look.Past z g) = look.Past z f
 
 -- a part stands for one of these streams; with what is held of it put back before it, that is this whole stream
 pub record Holds (seen : Stream → Type 0) (h : Held) (all : Stream) : Type 0 where
   pub stream : Stream
   pub stands : seen stream
-  pub fits : Fits h stream
+  pub fits : HeldFits h stream
   pub same : all ≡ whole h stream
 
 -- two parts, each with what is held of it, stand for streams that merge to this one

@@ -24,14 +24,14 @@ abbrev pub Throughout : Pos → Pos → (Pos → Type 0) → Type 0
 Throughout from to P = (x : Pos) → Reaches from x → IsBefore x to → P x
 
 -- a part ends at `to`, behind its place, at the bound or before it
-abbrev pub Ends : Pos → Pos → Pos → Type 0
-Ends x upto to = IsBefore x to × Reaches to upto
+abbrev pub EndsPart : Pos → Pos → Pos → Type 0
+EndsPart x upto to = IsBefore x to × Reaches to upto
 
 -- the first part from x on, up to a bound, where this is known
 abbrev pub IsPartFrom : (Pos → There → Type 0) → Pos → Pos → Part → Type 0
 IsPartFrom knows x upto (part.Row key row tomb) = IsBefore x upto × (x ≡ row_pos key) × knows x (row, tomb)
-IsPartFrom knows x upto (part.Gap to tomb) = Ends x upto to × Throughout x to (λ y. knows y (empty_row, tomb))
-IsPartFrom knows x upto (part.Missing to) = Ends x upto to × ((v : There) → knows x v → ⊥)
+IsPartFrom knows x upto (part.Gap to tomb) = EndsPart x upto to × Throughout x to (λ y. knows y (empty_row, tomb))
+IsPartFrom knows x upto (part.Missing to) = EndsPart x upto to × ((v : There) → knows x v → ⊥)
 IsPartFrom knows x upto part.End = x ≡ upto
 
 -- the place behind a part: behind a row, at the end of a gap, else as it was

@@ -10,6 +10,7 @@ use Rattle.rc_position.specs.Position.{pos_cmp, row_pos}
 use Rattle.rc_mutation.specs.declared.fragments.Frag.{Frag}
 use Rattle.rc_mutation.specs.declared.fragments.Frag.TheVariants as frag
 use Rattle.rc_mutation.specs.declared.fragments.Head.{Head}
+use Rattle.rc_mutation.specs.Fragments.{tomb_after}
 
 -- a stream: the head of its partition, the range tombstone in force before the first of what is left, and the rows and changes that are left
 pub record Stream : Type 0 where
@@ -41,14 +42,6 @@ is_passed x (frag.Row key row) = is_lt (pos_cmp (row_pos key) x)
 is_passed x (frag.Change from tomb) = is_le (pos_cmp from x)
 is_passed x frag.End = false
 
--- the range tombstone in force behind a fragment
-abbrev pub after : Option Tomb → Frag → Option Tomb
-after tomb (frag.Start pt) = tomb
-after tomb (frag.Static row) = tomb
-after tomb (frag.Row key row) = tomb
-after tomb (frag.Change from next) = next
-after tomb frag.End = tomb
-
 -- the first fragment, if it stands at x or before it
 abbrev pub first_upto : Pos → List Frag → Option Frag
 first_upto x [] = None
@@ -62,12 +55,12 @@ rest (f ∷ fs) = fs
 -- a stream from which this was taken
 abbrev pub took : Option Frag → Stream → Stream
 took None s = s
-took (Some f) s = record { head = s.head; tomb = after s.tomb f; left = rest s.left }
+took (Some f) s = record { head = s.head; tomb = tomb_after s.tomb f; left = rest s.left }
 
 -- the range tombstone in force at x along fragments, where this one is in force before them
 abbrev pub force : Pos → Option Tomb → List Frag → Option Tomb
 force x tomb [] = tomb
-force x tomb (f ∷ fs) = cond (is_passed x f) (force x (after tomb f) fs) tomb
+force x tomb (f ∷ fs) = cond (is_passed x f) (force x (tomb_after tomb f) fs) tomb
 
 -- the rows from x on and the changes behind it
 abbrev pub onward : Pos → List Frag → List Frag
@@ -119,14 +112,14 @@ clustered [] = []
 clustered (f ∷ fs) = cond (is_clustered f) (f ∷ clustered fs) []
 
 -- fragments without the start and the static row before the first row, change or end
-abbrev pub body : List Frag → List Frag
-body [] = []
-body (frag.Start pt ∷ fs) = body fs
-body (frag.Static row ∷ fs) = body fs
-body (frag.Row key row ∷ fs) = frag.Row key row ∷ fs
-body (frag.Change from tomb ∷ fs) = frag.Change from tomb ∷ fs
-body (frag.End ∷ fs) = frag.End ∷ fs
+abbrev pub without_head : List Frag → List Frag
+without_head [] = []
+without_head (frag.Start pt ∷ fs) = without_head fs
+without_head (frag.Static row ∷ fs) = without_head fs
+without_head (frag.Row key row ∷ fs) = frag.Row key row ∷ fs
+without_head (frag.Change from tomb ∷ fs) = frag.Change from tomb ∷ fs
+without_head (frag.End ∷ fs) = frag.End ∷ fs
 
 -- the stream of a list of fragments, from the beginning: its start and its static row, and the rows and changes behind them
 abbrev pub stream_of : List Frag → Stream
-stream_of fs = record { head = record { pt = start_of fs; statics = static_of fs }; tomb = None; left = clustered (body fs) }
+stream_of fs = record { head = record { pt = start_of fs; statics = static_of fs }; tomb = None; left = clustered (without_head fs) }

@@ -2,14 +2,14 @@
 ghost use Rattle.std.specs.Prelude.{◌≡◌, ◌∷◌, [], true, false, cond, None, Some, IfOk, OnErr, option_map};
 ghost use Rattle.rc_cell.specs.Greatest.{greater, is_nil};
 ghost use Rattle.rc_cell.specs.Orders.{tomb_cmp};
-ghost use Rattle.rc_cell.specs.Winner.{joined_row};
+ghost use Rattle.rc_cell.specs.Winner.{joined_row, first_of};
 ghost use Rattle.rc_mutation.specs.Fragments.{place_order};
 ghost use Rattle.rc_stream.specs.Fronts.{front_change, front_tomb};
 ghost use Rattle.rc_stream.specs.Stream.{rest};
 ghost use Rattle.rc_stream.specs.Merging.{beside, changes_nothing, place_of, same_tomb, together};
-ghost use Rattle.rc_stream.specs.Moving.{holds};
+ghost use Rattle.rc_stream.specs.Moving.{look_after};
 ghost use Rattle.rc_stream.specs.Places.{bound_of};
-ghost use Rattle.rc_stream.specs.Holding.{Does, Took, WentOn, alone, begins_upto, behind_first, dropped, first_of, held, is_near, look_passed, look_taken, looked, nearer, paired, passed_over, passes_held, row_of, row_of_both, told, turn_of};
+ghost use Rattle.rc_stream.specs.Holding.{TakesTurn, TakesFirst, WentOn, alone, begins_upto, behind_first, dropped, held, is_near, look_passed, look_taken, looked, nearer, paired, passed_over, passes_held, row_of, row_of_both, told, turn_of};
 
 use crate::lists::{Front, front_at, passes, row_pos, stands_upto, tomb_after};
 use rc_cell::{Row, Tomb};
@@ -122,7 +122,7 @@ impl Held {
     /// Holds a fragment that was taken from the stream, if one was.
     pub(crate) fn hold(&mut self, got: Option<Frag>)
         ensures front { self.new.front ≡ self.old.front }
-        ensures look { self.new.look ≡ holds got self.old.look }
+        ensures look { self.new.look ≡ look_after got self.old.look }
     {
         match got {
             Some(frag) => self.look_at(frag),
@@ -133,7 +133,7 @@ impl Held {
     // Holds a fragment that was taken from the stream.
     fn look_at(&mut self, frag: Frag)
         ensures front { self.new.front ≡ self.old.front }
-        ensures look { self.new.look ≡ holds (Some frag) self.old.look }
+        ensures look { self.new.look ≡ look_after (Some frag) self.old.look }
     {
         match mem::replace(&mut self.look, Look::Open) {
             Look::Open => self.look = Look::Next(frag),
@@ -264,7 +264,7 @@ impl Held {
     // Takes the first that is held, and gives it beside the tombstone in force in the other stream, or passes over it.
     fn step_alone(&mut self, other: Option<Tomb>) -> Step
         ensures step { result ≡ alone (front_tomb self.old.front) other (held self.old) }
-        ensures took { Took result self.old self.new }
+        ensures took { TakesFirst result self.old self.new }
     {
         let before = greater_tomb(self.tomb(), other);
         match self.take() {
@@ -447,8 +447,8 @@ fn together(ours: Frag, theirs: &Frag, row: Option<Row>) -> Frag
 fn step_both(alloc: Global, ours: &mut Held, theirs: &mut Held) -> Result<Step, AllocError>
     requires { nearer (held ours.old) (held theirs.old) ≡ Turn.Both }
     ensures step { IfOk result (λ s. s ≡ paired (greater tomb_cmp (front_tomb ours.old.front) (front_tomb theirs.old.front)) (held ours.old) (held theirs.old)) }
-    ensures ours { IfOk result (λ s. Took s ours.old ours.new) }
-    ensures theirs { IfOk result (λ s. Took s theirs.old theirs.new) }
+    ensures ours { IfOk result (λ s. TakesFirst s ours.old ours.new) }
+    ensures theirs { IfOk result (λ s. TakesFirst s theirs.old theirs.new) }
     ensures err { OnErr result ((ours.new ≡ ours.old) × (theirs.new ≡ theirs.old)) }
 {
     let before = greater_tomb(ours.tomb(), theirs.tomb());
@@ -472,7 +472,7 @@ pub(crate) fn make_step(
     theirs: &mut Held,
     upto: &Pos,
 ) -> Result<Step, AllocError>
-    ensures does { IfOk result (λ s. Does (turn_of upto.now (held ours.old) (held theirs.old)) s ours.old theirs.old ours.new theirs.new) }
+    ensures does { IfOk result (λ s. TakesTurn (turn_of upto.now (held ours.old) (held theirs.old)) s ours.old theirs.old ours.new theirs.new) }
     ensures err { OnErr result ((ours.new ≡ ours.old) × (theirs.new ≡ theirs.old)) }
 {
     match next_turn(alloc, ours, theirs, upto)? {

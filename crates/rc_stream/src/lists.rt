@@ -2,7 +2,8 @@
 ghost use Rattle.rc_stream.specs.Fronts.{front_tomb, front_change};
 ghost use Rattle.std.specs.Prelude.{◌≡◌, ◌+◌, ◌≤◌, Some, None, drop, length, IfOk, IfSome, IsTrue, OnOk, OnErr};
 ghost use Rattle.rc_position.specs.Position.{row_pos};
-ghost use Rattle.rc_stream.specs.Stream.{after, body, clustered, first_upto, force, is_passed, is_upto, onward, opening, start_of, static_of, stream_of, sought, took};
+ghost use Rattle.rc_stream.specs.Stream.{without_head, clustered, first_upto, force, is_passed, is_upto, onward, opening, start_of, static_of, stream_of, sought, took};
+ghost use Rattle.rc_mutation.specs.Fragments.{tomb_after};
 
 use crate::streams::{Frags, StreamErr};
 use rc_cell::{Row, Tomb};
@@ -204,7 +205,7 @@ fn static_row(alloc: Global, items: &[Frag]) -> Result<Row, AllocError>
 
 // How many fragments stand before the first row, change or end.
 fn outer_len(items: &[Frag]) -> usize
-    ensures left { drop result items.now ≡ body items.now }
+    ensures left { drop result items.now ≡ without_head items.now }
     ensures size { result ≤ length items.now }
 {
     let mut passed = 0;
@@ -299,7 +300,7 @@ fn copy_first(alloc: Global, items: &[Frag], upto: &Pos) -> Result<Option<Frag>,
 
 // The range tombstone in force behind the fragment.
 pub(crate) fn tomb_after(tomb: Option<Tomb>, frag: &Frag) -> Option<Tomb>
-    ensures { result ≡ after tomb frag.now }
+    ensures { result ≡ tomb_after tomb frag.now }
 {
     match frag {
         Frag::Change(_, next) => *next,

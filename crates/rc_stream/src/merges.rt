@@ -3,7 +3,7 @@ ghost use Rattle.std.specs.Prelude.{◌≡◌, [], None, Some, IfOk, IfSome, IsT
 ghost use Rattle.rc_position.specs.declared.positions.Pos.{Pos};
 ghost use Rattle.rc_stream.specs.Calls.{left_by};
 ghost use Rattle.rc_stream.specs.Causes.{Caused};
-ghost use Rattle.rc_stream.specs.Did.{Chain, Covers, HeadsOnce, IsNewMerge, OneCall, answered};
+ghost use Rattle.rc_stream.specs.Did.{InTurn, ReachesEnd, HeadsOnce, IsNewMerge, OneCall, answered};
 ghost use Rattle.rc_stream.specs.Holding.{IsStepUpto, held};
 ghost use Rattle.rc_stream.specs.Moving.{AheadOfBoth, HoldBoth, Holds, IsDueAhead, Keeps, KeepsSeen, MaySeek, Moved, RoundReaches, SoughtBoth, StepLeaves};
 ghost use Rattle.rc_stream.specs.Merging.{joined_head};
@@ -39,7 +39,7 @@ fn look_at_both<H, W: Store, A: Frags<H, W>, B: Frags<H, W>>(
     requires keeps_seen_theirs { KeepsSeen A.moves B.seen }
     ensures holds { (t : Stream) → Holds (A.seen ours.old home.old store.old) ours_held.old t → Holds (A.seen ours.new home.new store.new) ours_held.new t }
     ensures holds_theirs { (t : Stream) → Holds (B.seen theirs.old home.old store.old) theirs_held.old t → Holds (B.seen theirs.new home.new store.new) theirs_held.new t }
-    ensures did { (y : Pos) → Covers (HoldBoth (A.seen ours.old home.old store.old) ours_held.old (B.seen theirs.old home.old store.old) theirs_held.old) upto.now y → Chain (OneCall A.did B.did None y) (answered result) (ours.old, theirs.old, home.old, store.old) (ours.new, theirs.new, home.new, store.new) }
+    ensures did { (y : Pos) → ReachesEnd (HoldBoth (A.seen ours.old home.old store.old) ours_held.old (B.seen theirs.old home.old store.old) theirs_held.old) upto.now y → InTurn (OneCall A.did B.did None y) (answered result) (ours.old, theirs.old, home.old, store.old) (ours.new, theirs.new, home.new, store.new) }
     ensures known { OnOk result ((t : Stream) → Holds (A.seen ours.old home.old store.old) ours_held.old t → held ours_held.new ≡ [] → first_upto upto.now t.left ≡ None) }
     ensures known_theirs { OnOk result ((t : Stream) → Holds (B.seen theirs.old home.old store.old) theirs_held.old t → held theirs_held.new ≡ [] → first_upto (bound_of upto.now (held ours_held.new)) t.left ≡ None) }
     ensures ahead { (x : Pos) → MaySeek (A.ahead ours.old) ours_held.old.look x → MaySeek (A.ahead ours.new) ours_held.new.look x }
@@ -80,7 +80,7 @@ fn round<H, W: Store, A: Frags<H, W>, B: Frags<H, W>>(
     requires keeps_seen_theirs { KeepsSeen A.moves B.seen }
     ensures says { (m : Stream) → HoldBoth (A.seen ours.old home.old store.old) ours_held.old (B.seen theirs.old home.old store.old) theirs_held.old m → StepLeaves result upto.now m (HoldBoth (A.seen ours.new home.new store.new) ours_held.new (B.seen theirs.new home.new store.new) theirs_held.new) }
     ensures upto { IfOk result (IsStepUpto upto.now) }
-    ensures did { (y : Pos) → Covers (HoldBoth (A.seen ours.old home.old store.old) ours_held.old (B.seen theirs.old home.old store.old) theirs_held.old) upto.now y → Chain (OneCall A.did B.did None y) (answered result) (ours.old, theirs.old, home.old, store.old) (ours.new, theirs.new, home.new, store.new) }
+    ensures did { (y : Pos) → ReachesEnd (HoldBoth (A.seen ours.old home.old store.old) ours_held.old (B.seen theirs.old home.old store.old) theirs_held.old) upto.now y → InTurn (OneCall A.did B.did None y) (answered result) (ours.old, theirs.old, home.old, store.old) (ours.new, theirs.new, home.new, store.new) }
     ensures ahead { (x : Pos) → RoundReaches result x → MaySeek (A.ahead ours.old) ours_held.old.look x → MaySeek (A.ahead ours.new) ours_held.new.look x }
     ensures ahead_theirs { (x : Pos) → RoundReaches result x → MaySeek (B.ahead theirs.old) theirs_held.old.look x → MaySeek (B.ahead theirs.new) theirs_held.new.look x }
     ensures ready { A.ready ours.new home.new store.new }
@@ -130,7 +130,7 @@ fn next_of_both<H, W: Store, A: Frags<H, W>, B: Frags<H, W>>(
     ensures gives { (m : Stream) → HoldBoth (A.seen ours.old home.old store.old) ours_held.old (B.seen theirs.old home.old store.old) theirs_held.old m → IfOk result (λ got. got ≡ first_upto upto.now m.left) }
     ensures left { (m : Stream) → HoldBoth (A.seen ours.old home.old store.old) ours_held.old (B.seen theirs.old home.old store.old) theirs_held.old m → HoldBoth (A.seen ours.new home.new store.new) ours_held.new (B.seen theirs.new home.new store.new) theirs_held.new (left_by result m) }
     ensures upto { IfOk result (λ got. IfSome got (λ f. IsTrue (is_upto upto.now f))) }
-    ensures did { (y : Pos) → Covers (HoldBoth (A.seen ours.old home.old store.old) ours_held.old (B.seen theirs.old home.old store.old) theirs_held.old) upto.now y → Chain (OneCall A.did B.did None y) (answered result) (ours.old, theirs.old, home.old, store.old) (ours.new, theirs.new, home.new, store.new) }
+    ensures did { (y : Pos) → ReachesEnd (HoldBoth (A.seen ours.old home.old store.old) ours_held.old (B.seen theirs.old home.old store.old) theirs_held.old) upto.now y → InTurn (OneCall A.did B.did None y) (answered result) (ours.old, theirs.old, home.old, store.old) (ours.new, theirs.new, home.new, store.new) }
     ensures ahead { (x : Pos) → Passes result x → MaySeek (A.ahead ours.old) ours_held.old.look x → MaySeek (A.ahead ours.new) ours_held.new.look x }
     ensures ahead_theirs { (x : Pos) → Passes result x → MaySeek (B.ahead theirs.old) theirs_held.old.look x → MaySeek (B.ahead theirs.new) theirs_held.new.look x }
     ensures ready { A.ready ours.new home.new store.new }
@@ -184,7 +184,7 @@ fn go_on_in_both<H, W: Store, A: Frags<H, W>, B: Frags<H, W>>(
     requires ahead_theirs { MaySeek (B.ahead theirs.old) theirs_held.old.look to.now }
     ensures ok { OnOk result ((m : Stream) → HoldBoth (A.seen ours.old home.old store.old) ours_held.old (B.seen theirs.old home.old store.old) theirs_held.old m → HoldBoth (A.seen ours.new home.new store.new) ours_held.new (B.seen theirs.new home.new store.new) theirs_held.new (sought to.now m)) }
     ensures again { (m : Stream) → HoldBoth (A.seen ours.old home.old store.old) ours_held.old (B.seen theirs.old home.old store.old) theirs_held.old m → ((n : Stream) × HoldBoth (A.seen ours.new home.new store.new) ours_held.new (B.seen theirs.new home.new store.new) theirs_held.new n × (sought to.now n ≡ sought to.now m)) }
-    ensures did { (y : Pos) → Chain (OneCall A.did B.did (Some to.now) y) (answered result) (ours.old, theirs.old, home.old, store.old) (ours.new, theirs.new, home.new, store.new) }
+    ensures did { (y : Pos) → InTurn (OneCall A.did B.did (Some to.now) y) (answered result) (ours.old, theirs.old, home.old, store.old) (ours.new, theirs.new, home.new, store.new) }
     ensures ahead { MaySeek (A.ahead ours.new) ours_held.new.look to.now }
     ensures ahead_theirs { MaySeek (B.ahead theirs.new) theirs_held.new.look to.now }
     ensures ready { A.ready ours.new home.new store.new }
@@ -221,7 +221,7 @@ fn settle<H, W: Store, A: Frags<H, W>, B: Frags<H, W>>(
     requires due { IsDueAhead (A.ahead ours.old) ours_held.old.look (B.ahead theirs.old) theirs_held.old.look due.old }
     ensures ok { OnOk result (due.new ≡ None) }
     ensures seen { (s : Stream) → SoughtBoth (A.seen ours.old home.old store.old) ours_held.old (B.seen theirs.old home.old store.old) theirs_held.old due.old s → SoughtBoth (A.seen ours.new home.new store.new) ours_held.new (B.seen theirs.new home.new store.new) theirs_held.new due.new s }
-    ensures did { (y : Pos) → Chain (OneCall A.did B.did due.old y) (answered result) (ours.old, theirs.old, home.old, store.old) (ours.new, theirs.new, home.new, store.new) }
+    ensures did { (y : Pos) → InTurn (OneCall A.did B.did due.old y) (answered result) (ours.old, theirs.old, home.old, store.old) (ours.new, theirs.new, home.new, store.new) }
     ensures ahead { (x : Pos) → AheadOfBoth (A.ahead ours.old) ours_held.old.look (B.ahead theirs.old) theirs_held.old.look due.old x → AheadOfBoth (A.ahead ours.new) ours_held.new.look (B.ahead theirs.new) theirs_held.new.look due.new x }
     ensures due { IsDueAhead (A.ahead ours.new) ours_held.new.look (B.ahead theirs.new) theirs_held.new.look due.new }
     ensures ready { A.ready ours.new home.new store.new }

@@ -4,7 +4,7 @@ ghost use Rattle.rc_position.specs.declared.positions.Pos.{Pos};
 ghost use Rattle.rc_stream.specs.Calls.{sought_by};
 ghost use Rattle.rc_stream.specs.Causes.{Caused};
 ghost use Rattle.rc_stream.specs.Holding.{held};
-ghost use Rattle.rc_stream.specs.Did.{Covers, OnceDid, answered, Call.OfNext, Call.OfSeek};
+ghost use Rattle.rc_stream.specs.Did.{ReachesEnd, OnceDid, answered, Call.OfNext, Call.OfSeek};
 ghost use Rattle.rc_stream.specs.Moving.{Holds, MaySeek, Once};
 ghost use Rattle.rc_stream.specs.Showing.{Blames};
 ghost use Rattle.rc_stream.specs.Stream.{Stream, first_upto};
@@ -26,7 +26,7 @@ pub(crate) fn look_ahead<H, W: Store, A: Frags<H, W>>(
 ) -> Result<(), StreamErr>
     requires { A.ready stream.old home.old store.old }
     ensures holds { (t : Stream) → Holds (A.seen stream.old home.old store.old) kept.old t → Holds (A.seen stream.new home.new store.new) kept.new t }
-    ensures did { (y : Pos) → (held kept.old ≡ [] → Covers (A.seen stream.old home.old store.old) upto.now y) → OnceDid A.did stream.old home.old store.old (OfNext y) (answered result) stream.new home.new store.new }
+    ensures did { (y : Pos) → (held kept.old ≡ [] → ReachesEnd (A.seen stream.old home.old store.old) upto.now y) → OnceDid A.did stream.old home.old store.old (OfNext y) (answered result) stream.new home.new store.new }
     ensures known { OnOk result ((t : Stream) → Holds (A.seen stream.old home.old store.old) kept.old t → held kept.new ≡ [] → first_upto upto.now t.left ≡ None) }
     ensures ahead { (x : Pos) → MaySeek (A.ahead stream.old) kept.old.look x → MaySeek (A.ahead stream.new) kept.new.look x }
     ensures ready { A.ready stream.new home.new store.new }

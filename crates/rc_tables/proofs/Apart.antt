@@ -12,7 +12,7 @@ use Rattle.rc_cell.specs.declared.writes.Tomb.{Tomb}
 use Rattle.rc_position.specs.declared.comps.Comp.{Comp}
 use Rattle.rc_position.specs.declared.positions.Pos.{Pos}
 use Rattle.rc_position.specs.Position.{pos_cmp, row_pos}
-use Rattle.rc_position.specs.OrderLaws.{pos_cmp_same, pos_cmp_total}
+use Rattle.rc_position.specs.laws.Orders.{pos_cmp_same, pos_cmp_total}
 use Rattle.rc_ranges.specs.declared.pieces.Piece.{Piece}
 use Rattle.rc_ranges.specs.Cover.{MayFollow}
 use Rattle.rc_cell.specs.Orders.{tomb_cmp, tomb_cmp_total}
@@ -23,9 +23,10 @@ use Rattle.rc_mutation.specs.declared.mutations.Mutation.{Mutation}
 use Rattle.rc_mutation.specs.Source.{IsMutation}
 use Rattle.rc_mutation.specs.Fragments.{begins_at, changes_of, placed_change, placed_row}
 use Rattle.rc_mutation.specs.Rows.{joined_rows, IsRows}
-use Rattle.rc_mutation.specs.RowsLaws.{joined_rows-append, joined_rows-rows}
-use Rattle.rc_mutation.specs.Laws.FragMerge.{merge, merge_into, fragment_of}
-use Rattle.rc_tables.specs.Rebuilt.{AllWritten, between, changes_among, pieces_between, rows_among}
+use Rattle.rc_mutation.specs.laws.JoinedRows.{joined_rows-append, joined_rows-rows}
+use Rattle.rc_mutation.specs.laws.FragMerge.{merge, merge_into, fragment_of}
+use Rattle.rc_tables.specs.Rebuilt.{AllWritten, changes_among, pieces_between, rows_among}
+use Rattle.rc_mutation.specs.Canonical.{rows_and_changes}
 use Rattle.rc_tables.proofs.Listing.{between-merge}
 
 abbrev Keyed : Type 0
@@ -76,10 +77,10 @@ changes-merge : (os : List Keyed) (bs : List Change) → changes_among (list_map
 changes-merge [] bs = only_changes bs
 changes-merge (a ∷ os) bs = changes-merge_into a os (changes-merge os) bs
 
-pub rows_between : (m : Mutation) → IsMutation m → rows_among (between m) ≡ m.rows
+pub rows_between : (m : Mutation) → IsMutation m → rows_among (rows_and_changes m) ≡ m.rows
 rows_between m is = ap rows_among (sym (between-merge m is)) ∙ rows-merge m.rows (changes_of m.ranges)
 
-changes_between : (m : Mutation) → IsMutation m → changes_among (between m) ≡ changes_of m.ranges
+changes_between : (m : Mutation) → IsMutation m → changes_among (rows_and_changes m) ≡ changes_of m.ranges
 changes_between m is = ap changes_among (sym (between-merge m is)) ∙ changes-merge m.rows (changes_of m.ranges)
 
 -- ---- ranges
@@ -113,7 +114,7 @@ pieces-changes (p ∷ ps) =
       | false ↦ λ e. unmapped _ ∙ ap (option_map (λ qs. p ∷ qs)) (pieces-changes ps)
     ] refl
 
-pub ranges_between : (m : Mutation) → IsMutation m → pieces_between (changes_among (between m)) None ≡ Some m.ranges
+pub ranges_between : (m : Mutation) → IsMutation m → pieces_between (changes_among (rows_and_changes m)) None ≡ Some m.ranges
 ranges_between m is = ap (λ cs. pieces_between cs None) (changes_between m is) ∙ pieces-changes m.ranges
 
 -- ---- one row more
@@ -204,8 +205,8 @@ follows_equal p q (r ∷ rs) b n e h is =
 
 -- ---- the mutation again
 
-pub rows_ready : (m : Mutation) (fs : List Frag) → IsMutation m → fs ≡ between m → IsRows (rows_among fs)
+pub rows_ready : (m : Mutation) (fs : List Frag) → IsMutation m → fs ≡ rows_and_changes m → IsRows (rows_among fs)
 rows_ready m fs is e = subst (λ (rs : List (List Comp × Row)). IsRows rs) (sym (ap rows_among e ∙ rows_between m is)) is.rows
 
-pub ranges_ready : (m : Mutation) (fs : List Frag) → IsMutation m → fs ≡ between m → pieces_between (changes_among fs) None ≡ Some m.ranges
+pub ranges_ready : (m : Mutation) (fs : List Frag) → IsMutation m → fs ≡ rows_and_changes m → pieces_between (changes_among fs) None ≡ Some m.ranges
 ranges_ready m fs is e = ap (λ gs. pieces_between (changes_among gs) None) e ∙ ranges_between m is

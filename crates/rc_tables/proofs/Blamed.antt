@@ -6,13 +6,13 @@ use Rattle.rc_mutation.specs.declared.mutations.Mutation.{Mutation}
 use Rattle.rc_mutation.specs.Fragments.{fragments}
 use Rattle.rc_mutation.specs.Source.{IsMutation}
 use Rattle.rc_outside.specs.Files.{Files}
-use Rattle.rc_schema.specs.Lists.{Lists}
+use Rattle.rc_schema.specs.SchemaValue.{SchemaValue}
 use Rattle.rc_stream.specs.Showing.{Blames, IsNamed, IsFromStart, ShowsOne}
 use Rattle.rc_stream.specs.Stream.{Stream, stream_of}
 use Rattle.rc_stream.specs.declared.streams.StreamErr.{StreamErr}
 use Rattle.rc_stream.specs.declared.streams.StreamErr.TheVariants.{Fault, Damaged, NoMemory}
 use Rattle.rc_tfile.specs.declared.info.TableInfo.{TableInfo}
-use Rattle.rc_tables.specs.Streams.{IsFresh, IsRead, IsSomeStream, Lazy, MayBe, MayBlame, MayRead, SameTables, Settled, StandsFor}
+use Rattle.rc_tables.specs.Streams.{IsFresh, IsRead, IsSomeStream, Lazy, MayBe, MayBlame, MayRead, SameTables, Settled, IsLazyOf}
 use Rattle.rc_tables.specs.Tables.{IsDamageOf}
 
 named_err : (t : Lazy) (e : StreamErr) → IsDamageOf t.schema t.key t.infos e → IsNamed (MayBlame t) e
@@ -26,7 +26,7 @@ named t (Err e) d = named_err t e d
 
 blamed_same : (t u : Lazy) → SameTables t u → (file offset : ℕ) → MayBlame u file offset → MayBlame t file offset
 blamed_same t u same file offset d =
-    subst (λ (z : Lists). IsDamageOf z t.key t.infos (Damaged file offset)) same.schema
+    subst (λ (z : SchemaValue). IsDamageOf z t.key t.infos (Damaged file offset)) same.schema
     (subst (λ (k : List ℕ). IsDamageOf u.schema k t.infos (Damaged file offset)) same.key
     (subst (λ (is : List TableInfo). IsDamageOf u.schema u.key is (Damaged file offset)) same.infos d))
 
@@ -35,19 +35,19 @@ pub blames_tables : {X : Type 0} (t u : Lazy) (r : Result X StreamErr) → SameT
 blames_tables t u r same d = record { named = named t r d; less = blamed_same t u same }
 
 -- what it might stand for is whole
-whole_read : (schema : Lists) (infos : List TableInfo) (key : List ℕ) (read : Option Stream) (s : Stream) → ((m : Mutation) → IsMutation m → IsFromStart (stream_of (fragments m))) → ((z : Stream) → read ≡ Some z → IsFromStart z) → MayRead schema infos key read s → IsFromStart s
+whole_read : (schema : SchemaValue) (infos : List TableInfo) (key : List ℕ) (read : Option Stream) (s : Stream) → ((m : Mutation) → IsMutation m → IsFromStart (stream_of (fragments m))) → ((z : Stream) → read ≡ Some z → IsFromStart z) → MayRead schema infos key read s → IsFromStart s
 whole_read schema infos key None s law fresh is = subst IsFromStart (sym is.fragments) (law is.join is.mutation)
 whole_read schema infos key (Some z) s law fresh is = subst IsFromStart (sym is) (fresh z refl)
 
-reads : (files : Option Files) (schema : Lists) (infos : List TableInfo) (key : List ℕ) (read : Option Stream) (s : Stream) → read ≡ Some s → IsRead files schema infos key read s
+reads : (files : Option Files) (schema : SchemaValue) (infos : List TableInfo) (key : List ℕ) (read : Option Stream) (s : Stream) → read ≡ Some s → IsRead files schema infos key read s
 reads files schema infos key read s e = subst (λ (o : Option Stream). IsRead files schema infos key o s) (sym e) refl
 
-may_read : (schema : Lists) (infos : List TableInfo) (key : List ℕ) (read : Option Stream) (s : Stream) → read ≡ Some s → MayRead schema infos key read s
+may_read : (schema : SchemaValue) (infos : List TableInfo) (key : List ℕ) (read : Option Stream) (s : Stream) → read ≡ Some s → MayRead schema infos key read s
 may_read schema infos key read s e = subst (λ (o : Option Stream). MayRead schema infos key o s) (sym e) refl
 
 module _ (law : (m : Mutation) → IsMutation m → IsFromStart (stream_of (fragments m))) where
   -- the head that was answered shows what was read
-  pub shown_read : (files : Option Files) (t u : Lazy) (r : Result Head StreamErr) → IsFresh t → IfOk r (λ head. (s : Stream) × Settled t u s s × (head ≡ s.head)) → IfOk r (ShowsOne (MayBe t) (StandsFor files u))
+  pub shown_read : (files : Option Files) (t u : Lazy) (r : Result Head StreamErr) → IsFresh t → IfOk r (λ head. (s : Stream) × Settled t u s s × (head ≡ s.head)) → IfOk r (ShowsOne (MayBe t) (IsLazyOf files u))
   shown_read files t u (Ok head) fresh is = record {
     stream = is.0;
     possible = is.1.might;

@@ -10,40 +10,40 @@ use Rattle.rc_position.specs.declared.comps.Comp.{Comp}
 use Rattle.rc_position.specs.declared.positions.Pos.{Pos}
 use Rattle.rc_position.specs.Position.{row_pos}
 use Rattle.rc_ranges.specs.declared.pieces.Piece.{Piece}
-use Rattle.rc_schema.specs.Lists.{Lists}
+use Rattle.rc_schema.specs.SchemaValue.{SchemaValue}
 use Rattle.rc_mutation.specs.declared.fragments.Frag.{Frag}
 use Rattle.rc_mutation.specs.declared.fragments.Frag.TheVariants as frag
 use Rattle.rc_mutation.specs.declared.mutations.Mutation.{Mutation}
 use Rattle.rc_mutation.specs.Source.{IsMutation, has_cells_alone}
-use Rattle.rc_canon.specs.Canonical.{IsCanonicalList, IsMutationOf}
-use Rattle.rc_stream.specs.Stream.{after}
+use Rattle.rc_mutation.specs.Canonical.{IsCanonicalList, IsMutationOf, rows_and_changes}
+use Rattle.rc_mutation.specs.Fragments.{tomb_after}
 use Rattle.rc_stream.specs.Merging.{place_of}
 use Rattle.rc_tfile.specs.declared.reading.Part.{Part}
 use Rattle.rc_cell.specs.Columns.{ascending}
 use Rattle.rc_tfile.specs.Items.{IsItem, PartItem, item_code}
-use Rattle.rc_writes.specs.Allowed.{ChangeFits, IsBoundOf, IsRowOf, IsStaticOf}
+use Rattle.rc_writes.specs.Allowed.{ChangeFits, IsRangeBound, IsRowOf, IsStaticOf}
 use Rattle.rc_tfile.specs.laws.Follows.{all_of}
-use Rattle.rc_tables.specs.Rebuilt.{AllCome, IsPartOf, IsSpelled, MayCome, between, begun, changes_among, ended, frag_code, pieces_between, rows_among}
+use Rattle.rc_tables.specs.Rebuilt.{AllCome, ArePartItems, IsSpellable, MayCome, open_range, changes_among, ended, frag_code, pieces_between, rows_among}
 use Rattle.rc_tables.proofs.Apart.{front_first, ranges_between, rows_between}
 use Rattle.rc_tables.proofs.Spelled.{IsPartBytes, IsPartItem, code_of_part, items_spelled}
 
 -- ---- one more
 
-come_split : (schema : Lists) (tomb : Option Tomb) (last : Option Pos) (left : List Frag) (f : Frag) → 1 ≤ length left → f ≡ get_or left 0 f → AllCome schema tomb last left → MayCome schema tomb last f × AllCome schema (after tomb f) (Some (place_of f).0) (drop 1 left)
+come_split : (schema : SchemaValue) (tomb : Option Tomb) (last : Option Pos) (left : List Frag) (f : Frag) → 1 ≤ length left → f ≡ get_or left 0 f → AllCome schema tomb last left → MayCome schema tomb last f × AllCome schema (tomb_after tomb f) (Some (place_of f).0) (drop 1 left)
 come_split schema tomb last left f n e h = subst (AllCome schema tomb last) (front_first f left n e) h
 
-come_first : (schema : Lists) (tomb : Option Tomb) (last : Option Pos) (left : List Frag) (f : Frag) → 1 ≤ length left → f ≡ get_or left 0 f → MayCome schema tomb last f × AllCome schema (after tomb f) (Some (place_of f).0) (drop 1 left) → AllCome schema tomb last left
+come_first : (schema : SchemaValue) (tomb : Option Tomb) (last : Option Pos) (left : List Frag) (f : Frag) → 1 ≤ length left → f ≡ get_or left 0 f → MayCome schema tomb last f × AllCome schema (tomb_after tomb f) (Some (place_of f).0) (drop 1 left) → AllCome schema tomb last left
 come_first schema tomb last left f n e h = subst (AllCome schema tomb last) (sym (front_first f left n e)) h
 
-pub coming_on : (all : Type 0) (schema : Lists) (tomb : Option Tomb) (last : Option Pos) (left : List Frag) (f : Frag) → (all ↔ AllCome schema tomb last left) → 1 ≤ length left → f ≡ get_or left 0 f → MayCome schema tomb last f → (all ↔ AllCome schema (after tomb f) (Some (place_of f).0) (drop 1 left))
+pub coming_on : (all : Type 0) (schema : SchemaValue) (tomb : Option Tomb) (last : Option Pos) (left : List Frag) (f : Frag) → (all ↔ AllCome schema tomb last left) → 1 ≤ length left → f ≡ get_or left 0 f → MayCome schema tomb last f → (all ↔ AllCome schema (tomb_after tomb f) (Some (place_of f).0) (drop 1 left))
 coming_on all schema tomb last left f h n e may = (λ a. (come_split schema tomb last left f n e (h.0 a)).1, λ b. h.1 (come_first schema tomb last left f n e (may, b)))
 
-pub coming_stops : (all : Type 0) (schema : Lists) (tomb : Option Tomb) (last : Option Pos) (left : List Frag) (f : Frag) → (all ↔ AllCome schema tomb last left) → 1 ≤ length left → f ≡ get_or left 0 f → (MayCome schema tomb last f → ⊥) → all → ⊥
+pub coming_stops : (all : Type 0) (schema : SchemaValue) (tomb : Option Tomb) (last : Option Pos) (left : List Frag) (f : Frag) → (all ↔ AllCome schema tomb last left) → 1 ≤ length left → f ≡ get_or left 0 f → (MayCome schema tomb last f → ⊥) → all → ⊥
 coming_stops all schema tomb last left f h n e never a = never (come_split schema tomb last left f n e (h.0 a)).0
 
 -- ---- they are canonical, and of the schema
 
-canonical : (schema : Lists) (tomb : Option Tomb) (last : Option Pos) (fs : List Frag) → AllByRecursion IsSpelled fs → AllCome schema tomb last fs → IsCanonicalList tomb last fs
+canonical : (schema : SchemaValue) (tomb : Option Tomb) (last : Option Pos) (fs : List Frag) → AllByRecursion IsSpellable fs → AllCome schema tomb last fs → IsCanonicalList tomb last fs
 canonical schema tomb last [] s h = h
 canonical schema tomb last (frag.Start pt ∷ fs) s h = absurd h.0
 canonical schema tomb last (frag.Static row ∷ fs) s h = absurd h.0
@@ -51,12 +51,12 @@ canonical schema tomb last (frag.Row key row ∷ fs) s h = (h.0.0, h.0.1, s.0.1.
 canonical schema tomb last (frag.Change x next ∷ fs) s h = (h.0.0, h.0.2.0, h.0.1, canonical schema next (Some x) fs s.1 h.1)
 canonical schema tomb last (frag.End ∷ fs) s h = absurd h.0
 
-module _ (schema : Lists) where
+module _ (schema : SchemaValue) where
   abbrev IsRowHere : List Comp × Row → Type 0
   IsRowHere e = IsRowOf schema e.0 e.1
 
   abbrev IsPieceHere : Piece → Type 0
-  IsPieceHere q = IsBoundOf schema q.from × IsBoundOf schema q.to
+  IsPieceHere q = IsRangeBound schema q.from × IsRangeBound schema q.to
 
   come_rows : (tomb : Option Tomb) (last : Option Pos) (fs : List Frag) → AllCome schema tomb last fs → AllByRecursion IsRowHere (rows_among fs)
   come_rows tomb last [] h = tt
@@ -66,7 +66,7 @@ module _ (schema : Lists) where
   come_rows tomb last (frag.Change x next ∷ fs) h = come_rows next (Some x) fs h.1
   come_rows tomb last (frag.End ∷ fs) h = absurd h.0
 
-  come_changes : (tomb : Option Tomb) (last : Option Pos) (fs : List Frag) → AllCome schema tomb last fs → AllByRecursion (λ (c : Pos × Option Tomb). IsBoundOf schema c.0) (changes_among fs)
+  come_changes : (tomb : Option Tomb) (last : Option Pos) (fs : List Frag) → AllCome schema tomb last fs → AllByRecursion (λ (c : Pos × Option Tomb). IsRangeBound schema c.0) (changes_among fs)
   come_changes tomb last [] h = tt
   come_changes tomb last (frag.Start pt ∷ fs) h = absurd h.0
   come_changes tomb last (frag.Static row ∷ fs) h = absurd h.0
@@ -74,26 +74,26 @@ module _ (schema : Lists) where
   come_changes tomb last (frag.Change x next ∷ fs) h = (h.0.2, come_changes next (Some x) fs h.1)
   come_changes tomb last (frag.End ∷ fs) h = absurd h.0
 
-  one_piece : (start : Option (Pos × Tomb)) (x : Pos) (o : Option (List Piece)) → IfSome start (λ s. IsBoundOf schema s.0) → IsBoundOf schema x → IfSome o (AllByRecursion IsPieceHere) → IfSome (option_map (λ ps. ended start x ++ ps) o) (AllByRecursion IsPieceHere)
+  one_piece : (start : Option (Pos × Tomb)) (x : Pos) (o : Option (List Piece)) → IfSome start (λ s. IsRangeBound schema s.0) → IsRangeBound schema x → IfSome o (AllByRecursion IsPieceHere) → IfSome (option_map (λ ps. ended start x ++ ps) o) (AllByRecursion IsPieceHere)
   one_piece start x None s b h = tt
   one_piece None x (Some ps) s b h = h
   one_piece (Some start) x (Some ps) s b h = ((s, b), h)
 
-  begun_here : (x : Pos) (tomb : Option Tomb) → IsBoundOf schema x → IfSome (begun x tomb) (λ s. IsBoundOf schema s.0)
+  begun_here : (x : Pos) (tomb : Option Tomb) → IsRangeBound schema x → IfSome (open_range x tomb) (λ s. IsRangeBound schema s.0)
   begun_here x None b = tt
   begun_here x (Some tomb) b = b
 
-  come_pieces : (cs : List (Pos × Option Tomb)) (start : Option (Pos × Tomb)) → IfSome start (λ s. IsBoundOf schema s.0) → AllByRecursion (λ (c : Pos × Option Tomb). IsBoundOf schema c.0) cs → IfSome (pieces_between cs start) (AllByRecursion IsPieceHere)
+  come_pieces : (cs : List (Pos × Option Tomb)) (start : Option (Pos × Tomb)) → IfSome start (λ s. IsRangeBound schema s.0) → AllByRecursion (λ (c : Pos × Option Tomb). IsRangeBound schema c.0) cs → IfSome (pieces_between cs start) (AllByRecursion IsPieceHere)
   come_pieces [] None s h = tt
   come_pieces [] (Some start) s h = tt
-  come_pieces (c ∷ cs) start s h = one_piece start c.0 (pieces_between cs (begun c.0 c.1)) s h.0 (come_pieces cs (begun c.0 c.1) (begun_here c.0 c.1 h.0) h.1)
+  come_pieces (c ∷ cs) start s h = one_piece start c.0 (pieces_between cs (open_range c.0 c.1)) s h.0 (come_pieces cs (open_range c.0 c.1) (begun_here c.0 c.1 h.0) h.1)
 
 -- what is said by items that come so fits the schema
-pub change_fits : (schema : Lists) (m : Mutation) → IsMutation m → IsStaticOf schema m.statics → AllCome schema None None (between m) → ChangeFits schema m
+pub change_fits : (schema : SchemaValue) (m : Mutation) → IsMutation m → IsStaticOf schema m.statics → AllCome schema None None (rows_and_changes m) → ChangeFits schema m
 change_fits schema m is statics h = record {
   statics = statics;
-  rows = all_of (IsRowHere schema) m.rows (subst (AllByRecursion (IsRowHere schema)) (rows_between m is) (come_rows schema None None (between m) h));
-  ranges = all_of (IsPieceHere schema) m.ranges (subst (λ o. IfSome o (AllByRecursion (IsPieceHere schema))) (ranges_between m is) (come_pieces schema (changes_among (between m)) None tt (come_changes schema None None (between m) h)));
+  rows = all_of (IsRowHere schema) m.rows (subst (AllByRecursion (IsRowHere schema)) (rows_between m is) (come_rows schema None None (rows_and_changes m) h));
+  ranges = all_of (IsPieceHere schema) m.ranges (subst (λ o. IfSome o (AllByRecursion (IsPieceHere schema))) (ranges_between m is) (come_pieces schema (changes_among (rows_and_changes m)) None tt (come_changes schema None None (rows_and_changes m) h)));
 }
 
 -- ---- what is read of bytes
@@ -105,9 +105,9 @@ Law = (tomb : Option Tomb) (row : Row) (fs : List Frag) → IsTrue (ascending ro
 some_same : {X : Type 0} (x y : X) → Some x ≡ Some y → x ≡ y
 some_same x y e = cc
 
-module _ (schema : Lists) (key bytes : List ℕ) (part : Part) (size : ℕ) (fs : List Frag) (law : Law)
+module _ (schema : SchemaValue) (key bytes : List ℕ) (part : Part) (size : ℕ) (fs : List Frag) (law : Law)
     (same : part.key ≡ key) (is : IsPartItem part) (front : bytes ≡ code_of_part part ++ drop size bytes) (statics : IsStaticOf schema part.head.statics)
-    (rest : drop size bytes ≡ flat_map frag_code fs ++ 4 ∷ []) (spelled : AllByRecursion IsSpelled fs) (come : AllCome schema None None fs) where
+    (rest : drop size bytes ≡ flat_map frag_code fs ++ 4 ∷ []) (spelled : AllByRecursion IsSpellable fs) (come : AllCome schema None None fs) where
   there : (m : Mutation) × IsMutationOf m part.head.pt part.head.statics fs
   there = law part.head.pt part.head.statics fs is.1.1.ascending (λ i. is_none (statics.0 i) && is_none (statics.1 i)) (canonical schema None None fs spelled come)
 
@@ -117,10 +117,10 @@ module _ (schema : Lists) (key bytes : List ℕ) (part : Part) (size : ℕ) (fs 
       record {
         part = subst (λ k. IsItem (PartItem k there.0.pt there.0.statics)) same (subst (λ t. IsItem (PartItem part.key t there.0.statics)) (sym m.pt) (subst (λ r. IsItem (PartItem part.key part.head.pt r)) (sym m.statics) is));
         parts = front ∙ ap (λ t. code_of_part part ++ t) rest ∙ (λ i. item_code (PartItem (same i) (sym m.pt i) (sym m.statics i)) ++ (flat_map frag_code (sym m.rows_and_changes i) ++ 4 ∷ []));
-        spelled = subst (AllByRecursion IsSpelled) (sym m.rows_and_changes) spelled;
+        spelled = subst (AllByRecursion IsSpellable) (sym m.rows_and_changes) spelled;
       }
 
-  is_part : IsPartOf schema key there.0 bytes
+  is_part : ArePartItems schema key there.0 bytes
   is_part =
       let m = there.1 in
       let items = items_spelled bytes key there.0 m.is_mutation part_bytes_there in
@@ -133,11 +133,11 @@ module _ (schema : Lists) (key bytes : List ℕ) (part : Part) (size : ℕ) (fs 
       }
 
   -- what reads the mutation of this head and of these rows and changes, reads exactly what the bytes say
-  exactly : (found : Option Mutation) → found ≡ Some there.0 → ((m : Mutation) → IsPartOf schema key m bytes → found ≡ Some m) → (m : Mutation) → (found ≡ Some m) ↔ IsPartOf schema key m bytes
-  exactly found read whole m = (λ e. subst (λ n. IsPartOf schema key n bytes) (some_same there.0 m (sym read ∙ e)) is_part, whole m)
+  exactly : (found : Option Mutation) → found ≡ Some there.0 → ((m : Mutation) → ArePartItems schema key m bytes → found ≡ Some m) → (m : Mutation) → (found ≡ Some m) ↔ ArePartItems schema key m bytes
+  exactly found read whole m = (λ e. subst (λ n. ArePartItems schema key n bytes) (some_same there.0 m (sym read ∙ e)) is_part, whole m)
 
-  pub decoded_exactly : (r : Result (Option Mutation) AllocError) → ((m : Mutation) → IsMutation m → fs ≡ between m → part.head ≡ record { pt = m.pt; statics = m.statics } → IfOk r (λ found. found ≡ Some m))
-      → ((m : Mutation) → IsPartOf schema key m bytes → IfOk r (λ found. found ≡ Some m)) → IfOk r (λ found. (m : Mutation) → (found ≡ Some m) ↔ IsPartOf schema key m bytes)
+  pub decoded_exactly : (r : Result (Option Mutation) AllocError) → ((m : Mutation) → IsMutation m → fs ≡ rows_and_changes m → part.head ≡ record { pt = m.pt; statics = m.statics } → IfOk r (λ found. found ≡ Some m))
+      → ((m : Mutation) → ArePartItems schema key m bytes → IfOk r (λ found. found ≡ Some m)) → IfOk r (λ found. (m : Mutation) → (found ≡ Some m) ↔ ArePartItems schema key m bytes)
   decoded_exactly (Err e) reads whole = tt
   decoded_exactly (Ok found) reads whole =
       let t = there.1 in
@@ -145,5 +145,5 @@ module _ (schema : Lists) (key bytes : List ℕ) (part : Part) (size : ℕ) (fs 
       exactly found (reads there.0 t.is_mutation (sym t.rows_and_changes) head) whole
 
 -- where nothing is found, the bytes are no part's
-pub none_found : (schema : Lists) (key bytes : List ℕ) → ((m : Mutation) → IsPartOf schema key m bytes → ⊥) → (m : Mutation) → (None ≡ Some m) ↔ IsPartOf schema key m bytes
+pub none_found : (schema : SchemaValue) (key bytes : List ℕ) → ((m : Mutation) → ArePartItems schema key m bytes → ⊥) → (m : Mutation) → (None ≡ Some m) ↔ ArePartItems schema key m bytes
 none_found schema key bytes never m = (λ e. absurd (cc), λ p. absurd (never m p))

@@ -16,15 +16,15 @@ use Rattle.rc_mutation.specs.declared.mutations.Mutation.{Mutation}
 use Rattle.rc_mutation.specs.declared.mutations.Partition.{Partition}
 use Rattle.rc_mutation.specs.Source.{IsMutation}
 use Rattle.rc_mutation.specs.Fragments.{changes_of, fragments, is_written, placed_change, placed_row, static_fragment}
-use Rattle.rc_mutation.specs.Laws.FragMerge.{merge, merge_into, merge-in_order, fragment_of, rows-placed, changes-placed}
+use Rattle.rc_mutation.specs.laws.FragMerge.{merge, merge_into, merge-in_order, fragment_of, rows-placed, changes-placed}
 use Rattle.rc_stream.specs.Stream.{is_clustered}
 use Rattle.rc_tfile.specs.Items.{PartItem, RowItem, ChangeItem, EndItem, item_code}
-use Rattle.rc_tfile.specs.Before.{Before, offset, followed_by, last_key}
-use Rattle.rc_tfile.specs.Blocks.{Entry, entries, entry, entry_items, blocks, part_offset}
-use Rattle.rc_tfile.specs.Info.{refs_from, entry_size}
+use Rattle.rc_tfile.specs.Before.{ItemsBefore, offset, followed_by, last_key}
+use Rattle.rc_tfile.specs.Blocks.{DirectoryEntry, entries, nearest_entry, entry_items, blocks, part_offset}
+use Rattle.rc_tfile.specs.Info.{refs_from, directory_entry_size}
 use Rattle.rc_tfile.specs.TableText.{frag_items, part_items}
 use Rattle.rc_tfile.specs.laws.Follows.{followed_by-append}
-use Rattle.rc_tables.specs.Rebuilt.{between}
+use Rattle.rc_mutation.specs.Canonical.{rows_and_changes}
 
 -- ---- rows and changes
 
@@ -60,10 +60,10 @@ inner-merge [] bs = inner-changes bs
 inner-merge (a ∷ os) bs = inner-merge_into a os (inner-merge os) bs
 
 -- the rows and changes of a mutation are its rows and the changes of its ranges, merged
-pub between-merge : (m : Mutation) → IsMutation m → list_map fragment_of (merge m.rows (changes_of m.ranges)) ≡ between m
+pub between-merge : (m : Mutation) → IsMutation m → list_map fragment_of (merge m.rows (changes_of m.ranges)) ≡ rows_and_changes m
 between-merge m is = merge-in_order m.rows (changes_of m.ranges) (rows-placed m.rows is.rows.ascend) (changes-placed m.ranges is.ranges)
 
-pub between-inner : (m : Mutation) → IsMutation m → Inner (between m)
+pub between-inner : (m : Mutation) → IsMutation m → Inner (rows_and_changes m)
 between-inner m is = subst Inner (between-merge m is) (inner-merge m.rows (changes_of m.ranges))
 
 -- ---- the items of a partition
@@ -71,23 +71,23 @@ between-inner m is = subst Inner (between-merge m is) (inner-merge m.rows (chang
 no_items : (row : Row) → flat_map frag_items (static_fragment row) ≡ []
 no_items row = elim (is_written row) as (λ b. flat_map frag_items (cond b (frag.Static row ∷ []) []) ≡ []) [ true ↦ refl | false ↦ refl ]
 
-pub items_of : (m : Mutation) → flat_map frag_items (fragments m) ≡ flat_map frag_items (between m) ++ EndItem ∷ []
+pub items_of : (m : Mutation) → flat_map frag_items (fragments m) ≡ flat_map frag_items (rows_and_changes m) ++ EndItem ∷ []
 unfolding fragments
 items_of m =
     let front = frag.Start m.pt ∷ static_fragment m.statics in
-    flat_map-append frag_items (front ++ between m) (frag.End ∷ [])
-    ∙ ap (λ t. t ++ EndItem ∷ []) (flat_map-append frag_items front (between m) ∙ ap (λ t. t ++ flat_map frag_items (between m)) (no_items m.statics))
+    flat_map-append frag_items (front ++ rows_and_changes m) (frag.End ∷ [])
+    ∙ ap (λ t. t ++ EndItem ∷ []) (flat_map-append frag_items front (rows_and_changes m) ∙ ap (λ t. t ++ flat_map frag_items (rows_and_changes m)) (no_items m.statics))
 
 -- before the end of a partition
-abbrev pub inside : Before → Partition → Before
-inside b p = followed_by (PartItem p.key p.change.pt p.change.statics ∷ b) (flat_map frag_items (between p.change))
+abbrev pub inside : ItemsBefore → Partition → ItemsBefore
+inside b p = followed_by (PartItem p.key p.change.pt p.change.statics ∷ b) (flat_map frag_items (rows_and_changes p.change))
 
-pub ended_is : (b : Before) (p : Partition) → followed_by b (part_items p) ≡ EndItem ∷ inside b p
+pub ended_is : (b : ItemsBefore) (p : Partition) → followed_by b (part_items p) ≡ EndItem ∷ inside b p
 ended_is b p =
     let begun = PartItem p.key p.change.pt p.change.statics ∷ b in
-    ap (followed_by begun) (items_of p.change) ∙ followed_by-append begun (flat_map frag_items (between p.change)) (EndItem ∷ [])
+    ap (followed_by begun) (items_of p.change) ∙ followed_by-append begun (flat_map frag_items (rows_and_changes p.change)) (EndItem ∷ [])
 
-entries-inner : (fs : List Frag) → Inner fs → (c : Before) → entries (followed_by c (flat_map frag_items fs)) ≡ entries c
+entries-inner : (fs : List Frag) → Inner fs → (c : ItemsBefore) → entries (followed_by c (flat_map frag_items fs)) ≡ entries c
 entries-inner [] h c = refl
 entries-inner (frag.Start pt ∷ fs) h c = absurd (let e = h.0 in cc)
 entries-inner (frag.Static row ∷ fs) h c = absurd (let e = h.0 in cc)
@@ -95,7 +95,7 @@ entries-inner (frag.Row key row ∷ fs) h c = entries-inner fs h.1 (RowItem key 
 entries-inner (frag.Change x tomb ∷ fs) h c = entries-inner fs h.1 (ChangeItem x tomb ∷ c)
 entries-inner (frag.End ∷ fs) h c = absurd (let e = h.0 in cc)
 
-last_key-inner : (fs : List Frag) → Inner fs → (c : Before) → last_key (followed_by c (flat_map frag_items fs)) ≡ last_key c
+last_key-inner : (fs : List Frag) → Inner fs → (c : ItemsBefore) → last_key (followed_by c (flat_map frag_items fs)) ≡ last_key c
 last_key-inner [] h c = refl
 last_key-inner (frag.Start pt ∷ fs) h c = absurd (let e = h.0 in cc)
 last_key-inner (frag.Static row ∷ fs) h c = absurd (let e = h.0 in cc)
@@ -103,7 +103,7 @@ last_key-inner (frag.Row key row ∷ fs) h c = last_key-inner fs h.1 (RowItem ke
 last_key-inner (frag.Change x tomb ∷ fs) h c = last_key-inner fs h.1 (ChangeItem x tomb ∷ c)
 last_key-inner (frag.End ∷ fs) h c = absurd (let e = h.0 in cc)
 
-part_offset-inner : (fs : List Frag) → Inner fs → (c : Before) → part_offset (followed_by c (flat_map frag_items fs)) ≡ part_offset c
+part_offset-inner : (fs : List Frag) → Inner fs → (c : ItemsBefore) → part_offset (followed_by c (flat_map frag_items fs)) ≡ part_offset c
 part_offset-inner [] h c = refl
 part_offset-inner (frag.Start pt ∷ fs) h c = absurd (let e = h.0 in cc)
 part_offset-inner (frag.Static row ∷ fs) h c = absurd (let e = h.0 in cc)
@@ -112,32 +112,32 @@ part_offset-inner (frag.Change x tomb ∷ fs) h c = part_offset-inner fs h.1 (Ch
 part_offset-inner (frag.End ∷ fs) h c = absurd (let e = h.0 in cc)
 
 -- what the directory lists of a partition behind these items
-abbrev pub entry_of : Before → Partition → Entry
+abbrev pub entry_of : ItemsBefore → Partition → DirectoryEntry
 entry_of b p = record { key = p.key; off = offset b; blocks = blocks (inside b p) }
 
-entry_is : (b : Before) (p : Partition) → IsMutation p.change → entry (inside b p) ≡ entry_of b p
+entry_is : (b : ItemsBefore) (p : Partition) → IsMutation p.change → nearest_entry (inside b p) ≡ entry_of b p
 entry_is b p is =
     let begun = PartItem p.key p.change.pt p.change.statics ∷ b in
     let inner = between-inner p.change is in
-    let key : unwrap_or (last_key (inside b p)) [] ≡ p.key = ap (λ k. unwrap_or k []) (last_key-inner (between p.change) inner begun) in
-    let off : part_offset (inside b p) ≡ offset b = part_offset-inner (between p.change) inner begun in
+    let key : unwrap_or (last_key (inside b p)) [] ≡ p.key = ap (λ k. unwrap_or k []) (last_key-inner (rows_and_changes p.change) inner begun) in
+    let off : part_offset (inside b p) ≡ offset b = part_offset-inner (rows_and_changes p.change) inner begun in
     λ i. record { key = key i; off = off i; blocks = blocks (inside b p) }
 
-one_entry : (b : Before) (p : Partition) → IsMutation p.change → entries (followed_by b (part_items p)) ≡ entries b ++ entry_of b p ∷ []
+one_entry : (b : ItemsBefore) (p : Partition) → IsMutation p.change → entries (followed_by b (part_items p)) ≡ entries b ++ entry_of b p ∷ []
 one_entry b p is =
     let begun = PartItem p.key p.change.pt p.change.statics ∷ b in
-    ap entries (ended_is b p) ∙ (λ i. entries-inner (between p.change) (between-inner p.change is) begun i ++ entry_is b p is i ∷ [])
+    ap entries (ended_is b p) ∙ (λ i. entries-inner (rows_and_changes p.change) (between-inner p.change is) begun i ++ entry_is b p is i ∷ [])
 
 -- ---- the entries of partitions
 
 abbrev AreMutations : List Partition → Type 0
 AreMutations ps = AllByRecursion (λ p. IsMutation p.change) ps
 
-abbrev pub entries_behind : Before → List Partition → List Entry
+abbrev pub entries_behind : ItemsBefore → List Partition → List DirectoryEntry
 entries_behind b [] = []
 entries_behind b (p ∷ ps) = entry_of b p ∷ entries_behind (followed_by b (part_items p)) ps
 
-pub entries_are : (ps : List Partition) → AllByRecursion (λ p. IsMutation p.change) ps → (b : Before) → entries (followed_by b (flat_map part_items ps)) ≡ entries b ++ entries_behind b ps
+pub entries_are : (ps : List Partition) → AllByRecursion (λ p. IsMutation p.change) ps → (b : ItemsBefore) → entries (followed_by b (flat_map part_items ps)) ≡ entries b ++ entries_behind b ps
 entries_are [] h b = sym (append-nil (entries b))
 entries_are (p ∷ ps) h b =
     let next = followed_by b (part_items p) in
@@ -146,33 +146,33 @@ entries_are (p ∷ ps) h b =
     ∙ ap (λ t. t ++ entries_behind next ps) (one_entry b p h.0)
     ∙ append_assoc (entries b) (entry_of b p ∷ []) (entries_behind next ps)
 
-pub entries_behind-append : (ps qs : List Partition) (b : Before) → entries_behind b (ps ++ qs) ≡ entries_behind b ps ++ entries_behind (followed_by b (flat_map part_items ps)) qs
+pub entries_behind-append : (ps qs : List Partition) (b : ItemsBefore) → entries_behind b (ps ++ qs) ≡ entries_behind b ps ++ entries_behind (followed_by b (flat_map part_items ps)) qs
 entries_behind-append [] qs b = refl
 entries_behind-append (p ∷ ps) qs b =
     ap (λ t. entry_of b p ∷ t)
     (entries_behind-append ps qs (followed_by b (part_items p))
     ∙ ap (λ c. entries_behind (followed_by b (part_items p)) ps ++ entries_behind c qs) (sym (followed_by-append b (part_items p) (flat_map part_items ps))))
 
-pub length-entries : (ps : List Partition) (b : Before) → length (entries_behind b ps) ≡ length ps
+pub length-entries : (ps : List Partition) (b : ItemsBefore) → length (entries_behind b ps) ≡ length ps
 length-entries [] b = refl
 length-entries (p ∷ ps) b = ap suc (length-entries ps (followed_by b (part_items p)))
 
 -- ---- references
 
 -- the bytes of entries
-abbrev pub listing : List Entry → List ℕ
+abbrev pub listing : List DirectoryEntry → List ℕ
 listing es = flat_map item_code (flat_map entry_items es)
 
-pub listing-append : (es fs : List Entry) → listing (es ++ fs) ≡ listing es ++ listing fs
+pub listing-append : (es fs : List DirectoryEntry) → listing (es ++ fs) ≡ listing es ++ listing fs
 listing-append es fs = ap (flat_map item_code) (flat_map-append entry_items es fs) ∙ flat_map-append item_code (flat_map entry_items es) (flat_map entry_items fs)
 
-pub refs_from-append : (es fs : List Entry) (off : ℕ) → refs_from off (es ++ fs) ≡ refs_from off es ++ refs_from (off + length (listing es)) fs
+pub refs_from-append : (es fs : List DirectoryEntry) (off : ℕ) → refs_from off (es ++ fs) ≡ refs_from off es ++ refs_from (off + length (listing es)) fs
 refs_from-append [] fs off = (let same : off ≡ off + 0 = omega arith in ap (λ n. refs_from n fs) same)
 refs_from-append (e ∷ es) fs off =
-    let size : (off + entry_size e) + length (listing es) ≡ off + length (listing (e ∷ es)) = omega (arith, ap length (flat_map-append item_code (entry_items e) (flat_map entry_items es)), length-append (flat_map item_code (entry_items e)) (listing es)) in
-    ap (λ t. record { key = e.key; dir_off = off; dir_len = entry_size e } ∷ t)
-    (refs_from-append es fs (off + entry_size e) ∙ ap (λ n. refs_from (off + entry_size e) es ++ refs_from n fs) size)
+    let size : (off + directory_entry_size e) + length (listing es) ≡ off + length (listing (e ∷ es)) = omega (arith, ap length (flat_map-append item_code (entry_items e) (flat_map entry_items es)), length-append (flat_map item_code (entry_items e)) (listing es)) in
+    ap (λ t. record { key = e.key; dir_off = off; dir_len = directory_entry_size e } ∷ t)
+    (refs_from-append es fs (off + directory_entry_size e) ∙ ap (λ n. refs_from (off + directory_entry_size e) es ++ refs_from n fs) size)
 
-pub length-refs : (es : List Entry) (off : ℕ) → length (refs_from off es) ≡ length es
+pub length-refs : (es : List DirectoryEntry) (off : ℕ) → length (refs_from off es) ≡ length es
 length-refs [] off = refl
-length-refs (e ∷ es) off = ap suc (length-refs es (off + entry_size e))
+length-refs (e ∷ es) off = ap suc (length-refs es (off + directory_entry_size e))

@@ -15,8 +15,8 @@ use Rattle.std.proofs.lemmas.List.{drop_more, length-take-le}
 use Rattle.rc_cell.specs.ByColumn.{test_of, first, second, both, holds}
 use Rattle.rc_outside.specs.Files.{Files}
 use Rattle.rc_position.specs.Position.{bytes_cmp}
-use Rattle.rc_position.specs.OrderLaws.{bytes_cmp_total, bytes_cmp_same}
-use Rattle.rc_schema.specs.Lists.{Lists}
+use Rattle.rc_position.specs.laws.Orders.{bytes_cmp_total, bytes_cmp_same}
+use Rattle.rc_schema.specs.SchemaValue.{SchemaValue}
 use Rattle.rc_mutation.specs.declared.mutations.Mutation.{Mutation}
 use Rattle.rc_mutation.specs.declared.mutations.Partition.{Partition}
 use Rattle.rc_mutation.specs.Source.{IsMutation}
@@ -24,10 +24,10 @@ use Rattle.rc_tfile.specs.declared.info.PartRef.{PartRef}
 use Rattle.rc_tfile.specs.declared.info.TableInfo.{TableInfo}
 use Rattle.rc_tfile.specs.Checking.{IsContent}
 use Rattle.rc_tfile.specs.Items.{HeadItem}
-use Rattle.rc_tfile.specs.Before.{Before, offset, followed_by}
-use Rattle.rc_tfile.specs.Blocks.{Entry, entries}
-use Rattle.rc_tfile.specs.Info.{refs, refs_from, info_of, entry_size}
-use Rattle.rc_tfile.specs.TableText.{IsTable, body, part_items}
+use Rattle.rc_tfile.specs.Before.{ItemsBefore, offset, followed_by}
+use Rattle.rc_tfile.specs.Blocks.{DirectoryEntry, entries}
+use Rattle.rc_tfile.specs.Info.{refs, refs_from, info_of, directory_entry_size}
+use Rattle.rc_tfile.specs.TableText.{IsTable, items_to_stop, part_items}
 use Rattle.rc_tfile.specs.laws.Drafts.{body_is}
 use Rattle.rc_tfile.specs.laws.Follows.{by_recursion}
 use Rattle.rc_tables.specs.Located.{IsLocatedOf}
@@ -78,13 +78,13 @@ one_change before p behind h = ap (list_map (λ (q : Partition). q.change)) (one
 
 -- ---- the references of partitions
 
-below_refs : (key : List ℕ) (ps : List Partition) (b : Before) (off : ℕ) → T (below_all bytes_cmp key (pairs ps)) → T (below_all bytes_cmp key (offs (refs_from off (entries_behind b ps))))
+below_refs : (key : List ℕ) (ps : List Partition) (b : ItemsBefore) (off : ℕ) → T (below_all bytes_cmp key (pairs ps)) → T (below_all bytes_cmp key (offs (refs_from off (entries_behind b ps))))
 below_refs key [] b off h = tt
 below_refs key (p ∷ ps) b off h =
     both (is_lt (bytes_cmp key p.key)) _ (first (is_lt (bytes_cmp key p.key)) (below_all bytes_cmp key (pairs ps)) h)
     (below_refs key ps (followed_by b (part_items p)) _ (second (is_lt (bytes_cmp key p.key)) (below_all bytes_cmp key (pairs ps)) h))
 
-sorted_refs : (ps : List Partition) (b : Before) (off : ℕ) → T (is_sorted bytes_cmp (pairs ps)) → T (is_sorted bytes_cmp (offs (refs_from off (entries_behind b ps))))
+sorted_refs : (ps : List Partition) (b : ItemsBefore) (off : ℕ) → T (is_sorted bytes_cmp (pairs ps)) → T (is_sorted bytes_cmp (offs (refs_from off (entries_behind b ps))))
 sorted_refs [] b off h = tt
 sorted_refs (p ∷ ps) b off h =
     both (below_all bytes_cmp p.key (offs (refs_from _ (entries_behind (followed_by b (part_items p)) ps)))) _
@@ -94,12 +94,12 @@ sorted_refs (p ∷ ps) b off h =
 apart : (key other : List ℕ) → (other ≡ key → ⊥) → eq_by_cmp bytes_cmp key other ≡ false
 apart key other h = elim (bytes_cmp key other) as (λ r. bytes_cmp key other ≡ r → is_eq r ≡ false) [ Less ↦ λ _. refl | Equal ↦ λ e. absurd (h (sym (bytes_cmp_same key other e))) | Greater ↦ λ _. refl ] refl
 
-none_listed : (key : List ℕ) (ps : List Partition) (b : Before) (off : ℕ) → All (λ r. r.key ≢ key) (refs_from off (entries_behind b ps)) → filter (is_of key) ps ≡ []
+none_listed : (key : List ℕ) (ps : List Partition) (b : ItemsBefore) (off : ℕ) → All (λ r. r.key ≢ key) (refs_from off (entries_behind b ps)) → filter (is_of key) ps ≡ []
 none_listed key [] b off h = refl
 none_listed key (p ∷ ps) b off h =
-    let e : is_of key p ≡ false = apart key p.key (h 0 (record { key = p.key; dir_off = off; dir_len = entry_size (entry_of b p) }) (omega arith)) in
+    let e : is_of key p ≡ false = apart key p.key (h 0 (record { key = p.key; dir_off = off; dir_len = directory_entry_size (entry_of b p) }) (omega arith)) in
     ap (λ c. cond c (p ∷ filter (is_of key) ps) (filter (is_of key) ps)) e
-    ∙ none_listed key ps (followed_by b (part_items p)) (off + entry_size (entry_of b p)) (λ k d lt. h (suc k) d (omega arith))
+    ∙ none_listed key ps (followed_by b (part_items p)) (off + directory_entry_size (entry_of b p)) (λ k d lt. h (suc k) d (omega arith))
 
 -- the element at an index, and the lists around it
 split_at : {X : Type 0} (xs : List X) (i : ℕ) → i < length xs → (x : X) × (xs ≡ take i xs ++ x ∷ drop (suc i) xs)
@@ -107,7 +107,7 @@ split_at [] i h = absurd (omega (arith, h))
 split_at (x ∷ xs) zero h = (x, refl)
 split_at (x ∷ xs) (suc i) h = (let r = split_at xs i (omega (arith, h)) in (r.0, ap (λ t. x ∷ t) r.1))
 
-first_off : (es : List Entry) (off : ℕ) → 0 < length (refs_from off es) → (x : PartRef) → x ≡ get_or (refs_from off es) 0 x → x.dir_off ≡ off
+first_off : (es : List DirectoryEntry) (off : ℕ) → 0 < length (refs_from off es) → (x : PartRef) → x ≡ get_or (refs_from off es) 0 x → x.dir_off ≡ off
 first_off [] off h x e = absurd (omega (arith, h))
 first_off (e ∷ es) off h x is = ap (λ (r : PartRef). r.dir_off) is
 
@@ -157,19 +157,19 @@ search_absent rs key (Err place) in_range parted up =
     ]
 
 -- what is known of a table whose file is there
-module _ (files : Option Files) (schema : Lists) (table : ℕ × List Partition) (info : TableInfo) (same : info ≡ info_of table.0 schema table.1) (held : IsHeld files schema table) where
-  abbrev start : Before
+module _ (files : Option Files) (schema : SchemaValue) (table : ℕ × List Partition) (info : TableInfo) (same : info ≡ info_of table.0 schema table.1) (held : IsHeld files schema table) where
+  abbrev start : ItemsBefore
   start = HeadItem schema ∷ []
 
   abbrev at_dir : ℕ
-  at_dir = offset (body schema table.1)
+  at_dir = offset (items_to_stop schema table.1)
 
   parts_are : info.parts ≡ refs_from at_dir (entries_behind start table.1)
   parts_are =
       ap (λ (t : TableInfo). t.parts) same
       ∙ ap (refs_from at_dir) (ap entries (body_is schema table.1) ∙ entries_are table.1 (by_recursion (λ p. IsMutation p.change) table.1 held.mutations) start)
 
-  parts_refs : info.parts ≡ refs (body schema table.1)
+  parts_refs : info.parts ≡ refs (items_to_stop schema table.1)
   parts_refs = ap (λ (t : TableInfo). t.parts) same
 
   pub keys_ascend : IsTrue (is_sorted bytes_cmp (list_map (λ r. (r.key, r.dir_off)) info.parts))
@@ -203,8 +203,8 @@ module _ (files : Option Files) (schema : Lists) (table : ℕ × List Partition)
             content = subst (λ n. IsContent files n held.bytes) (sym (ap (λ (t : TableInfo). t.number) same)) held.content;
             table = subst (λ (ps : List Partition). IsTable held.bytes schema ps) split.1 held.text;
             mutations = subst (λ (ps : List Partition). All (λ q. IsMutation q.change) ps) split.1 held.mutations;
-            directory = e ∙ ap (λ ps. offset (body schema ps)) split.1;
-            refs = listed ∙ ap (drop i) (parts_refs ∙ ap (λ ps. refs (body schema ps)) split.1) ∙ ap (λ k. drop k (refs (body schema (before ++ p ∷ later)))) (sym size);
+            directory = e ∙ ap (λ ps. offset (items_to_stop schema ps)) split.1;
+            refs = listed ∙ ap (drop i) (parts_refs ∙ ap (λ ps. refs (items_to_stop schema ps)) split.1) ∙ ap (λ k. drop k (refs (items_to_stop schema (before ++ p ∷ later)))) (sym size);
           },
           refl,
         ),

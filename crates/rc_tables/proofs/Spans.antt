@@ -10,7 +10,7 @@ use Rattle.rc_mutation.specs.declared.mutations.Partition.{Partition}
 use Rattle.rc_tfile.specs.declared.info.PartRef.{PartRef}
 use Rattle.rc_tfile.specs.Items.{item_code, bytes_code, offset_code, IsItem, IsPartKey}
 use Rattle.rc_tfile.specs.Reading.{Starts}
-use Rattle.rc_schema.specs.Lists.{Lists}
+use Rattle.rc_schema.specs.SchemaValue.{SchemaValue}
 use Rattle.rc_stream.specs.declared.streams.StreamErr.{StreamErr}
 use Rattle.rc_stream.specs.declared.streams.StreamErr.TheVariants.{Fault, Damaged, NoMemory}
 use Rattle.rc_writes.specs.Allowed.{IsStaticOf}
@@ -19,8 +19,9 @@ use Rattle.rc_tfile.specs.Before.{offset}
 use Rattle.rc_tfile.specs.laws.Starting.{key_free, rest_of}
 use Rattle.std.proofs.lemmas.Nat.{from_le_bytes-to_le_bytes_8}
 use Rattle.rc_tables.specs.declared.locating.Span.{Span}
-use Rattle.rc_tables.specs.Located.{Contradicts, IsAtSpan, IsLocated, IsLocatedOf, IsOutside, IsSpan, IsEntryAt, EndsAt, MayLie, SaysNoPart, SaysNoSpan, SaysOf, SaysSpan, glimpsed, WhereTold}
-use Rattle.rc_tables.specs.Rebuilt.{AllCome, IsPartOf, between, number_at}
+use Rattle.rc_tables.specs.Located.{Contradicts, IsAtSpan, IsLocated, IsLocatedOf, IsStreamHostError, IsSpan, IsEntryAt, EndsAt, MayLie, SaysNoPart, SaysNoSpan, SaysOf, SaysSpan, glimpsed, WhereTold}
+use Rattle.rc_tables.specs.Rebuilt.{AllCome, ArePartItems, number_at_front}
+use Rattle.rc_mutation.specs.Canonical.{rows_and_changes}
 use Rattle.rc_tables.proofs.Places.{where_from, where_to, begins_there, ends_there, in_order, lies_there, reads_within, key_is, is_mutation, items_there, comes_there}
 use Rattle.rc_tables.proofs.Coming.{change_fits}
 use Rattle.rc_tables.proofs.Spelled.{found_is}
@@ -82,8 +83,8 @@ length_of_offset : (n : ℕ) → length (offset_code n) ≡ 8
 unfolding offset_code
 length_of_offset n = refl
 
-number_again : (n : ℕ) (rest : List ℕ) → n < 2 ^ 64 → number_at (offset_code n ++ rest) ≡ Some n
-unfolding number_at offset_code
+number_again : (n : ℕ) (rest : List ℕ) → n < 2 ^ 64 → number_at_front (offset_code n ++ rest) ≡ Some n
+unfolding number_at_front offset_code
 number_again n rest h = grind (arith, from_le_bytes-to_le_bytes_8 n h)
 
 entry_rest : (bytes rest key : List ℕ) (off : ℕ) → bytes ≡ 6 ∷ rest → (is : IsEntryAt bytes key off) → rest ≡ bytes_code key ++ (offset_code off ++ (time_code is.0 ++ is.1))
@@ -95,9 +96,9 @@ pub entry_key : (bytes rest key : List ℕ) (off : ℕ) (found : Option (List �
 entry_key bytes rest key off found p fits h is = found_is bytes_code IsPartKey key_free rest key (offset_code off ++ (time_code is.0 ++ is.1)) found fits (entry_rest bytes rest key off p is) h
 
 -- and the offset behind it
-pub entry_number : (bytes rest key : List ℕ) (off size : ℕ) → bytes ≡ 6 ∷ rest → size ≡ length (bytes_code key) → IsEntryAt bytes key off → number_at (drop size rest) ≡ Some off
+pub entry_number : (bytes rest key : List ℕ) (off size : ℕ) → bytes ≡ 6 ∷ rest → size ≡ length (bytes_code key) → IsEntryAt bytes key off → number_at_front (drop size rest) ≡ Some off
 entry_number bytes rest key off size p e is =
-    ap number_at (ap (drop size) (entry_rest bytes rest key off p is) ∙ drop_at (bytes_code key) (offset_code off ++ (time_code is.0 ++ is.1)) size (sym e))
+    ap number_at_front (ap (drop size) (entry_rest bytes rest key off p is) ∙ drop_at (bytes_code key) (offset_code off ++ (time_code is.0 ++ is.1)) size (sym e))
     ∙ number_again off (time_code is.0 ++ is.1) is.2
 
 -- ---- the partition itself
@@ -111,13 +112,13 @@ partition_lies (Some files) n at here behind from to count told spans e =
     span_lies (Some files) n from to count told.0 span (omega (arith, e, span.ends))
 
 -- the table is that of the schema
-pub unlocated : (files : Option Files) (schema : Lists) (n at : ℕ) (listed : List PartRef) → WhereTold files ((p : Partition) × IsLocatedOf files schema n at listed p) → WhereTold files ((p : Partition) × IsLocated files n at listed p)
+pub unlocated : (files : Option Files) (schema : SchemaValue) (n at : ℕ) (listed : List PartRef) → WhereTold files ((p : Partition) × IsLocatedOf files schema n at listed p) → WhereTold files ((p : Partition) × IsLocated files n at listed p)
 unlocated None schema n at listed h = tt
 unlocated (Some files) schema n at listed h = (h.0, h.1.0)
 
 -- its bytes are the items of the key's part
-part_there : (files : Option Files) (schema : Lists) (n at : ℕ) (here : PartRef) (behind : List PartRef) (p : Partition) (from to : ℕ) (piece : List ℕ)
-    → IsLocatedOf files schema n at (here ∷ behind) p → IsSpan files n p from to → length piece ≡ to - from → AreBytesOf files n from piece → IsPartOf schema here.key p.change piece
+part_there : (files : Option Files) (schema : SchemaValue) (n at : ℕ) (here : PartRef) (behind : List PartRef) (p : Partition) (from to : ℕ) (piece : List ℕ)
+    → IsLocatedOf files schema n at (here ∷ behind) p → IsSpan files n p from to → length piece ≡ to - from → AreBytesOf files n from piece → ArePartItems schema here.key p.change piece
 part_there files schema n at here behind p from to piece of span size read =
     let is = of.0 in
     let key = sym (key_is files n at here behind p is) in
@@ -125,38 +126,38 @@ part_there files schema n at here behind p from to piece of span size read =
     record {
       mutation = is_mutation files n at here behind p is;
       statics = subst (λ z. IsStaticOf z p.change.statics) of.1 come.0;
-      come = subst (λ z. AllCome z None None (between p.change)) of.1 come.1;
+      come = subst (λ z. AllCome z None None (rows_and_changes p.change)) of.1 come.1;
       items = subst (λ k. AllByRecursion IsItem (part_items (record { key = k; change = p.change }))) key (items_there files n at here behind p is);
       spelled = span_read files n from to p piece span (omega (arith, size, span.ends)) read ∙ ap (λ k. flat_map item_code (part_items (record { key = k; change = p.change }))) key;
     }
 
 -- what reads exactly what bytes say of the key reads this partition
-pub decoded : (files : Option Files) (schema : Lists) (n at : ℕ) (here : PartRef) (behind : List PartRef) (p : Partition) (from to : ℕ) (piece : List ℕ) (found : Option Mutation)
+pub decoded : (files : Option Files) (schema : SchemaValue) (n at : ℕ) (here : PartRef) (behind : List PartRef) (p : Partition) (from to : ℕ) (piece : List ℕ) (found : Option Mutation)
     → IsLocatedOf files schema n at (here ∷ behind) p → IsSpan files n p from to → length piece ≡ to - from → AreBytesOf files n from piece
-    → ((m : Mutation) → (found ≡ Some m) ↔ IsPartOf schema here.key m piece) → found ≡ Some p.change
+    → ((m : Mutation) → (found ≡ Some m) ↔ ArePartItems schema here.key m piece) → found ≡ Some p.change
 decoded files schema n at here behind p from to piece found of span size read exact = (exact p.change).1 (part_there files schema n at here behind p from to piece of span size read)
 
 -- so where a file is told and is the table, some partition is read
-pub none_decoded : (files : Option Files) (schema : Lists) (n at : ℕ) (here : PartRef) (behind : List PartRef) (from to : ℕ) (piece : List ℕ) (found : Option Mutation)
+pub none_decoded : (files : Option Files) (schema : SchemaValue) (n at : ℕ) (here : PartRef) (behind : List PartRef) (from to : ℕ) (piece : List ℕ) (found : Option Mutation)
     → WhereTold files ((p : Partition) × IsLocatedOf files schema n at (here ∷ behind) p) → ((p : Partition) → IsLocated files n at (here ∷ behind) p → IsSpan files n p from to) → length piece ≡ to - from → AreBytesOf files n from piece
-    → ((m : Mutation) → (found ≡ Some m) ↔ IsPartOf schema here.key m piece) → found ≡ None → files ≡ None
+    → ((m : Mutation) → (found ≡ Some m) ↔ ArePartItems schema here.key m piece) → found ≡ None → files ≡ None
 none_decoded None schema n at here behind from to piece found told spans size read exact there = refl
 none_decoded (Some files) schema n at here behind from to piece found told spans size read exact there =
     absurd (let q = sym there ∙ decoded (Some files) schema n at here behind told.0 from to piece found told.1 (spans told.0 told.1.0) size read exact in cc)
 
 -- ---- damage
 
-pub at_span : (schema : Lists) (n at : ℕ) (here : PartRef) (behind : List PartRef) (e : StreamErr) → IsAtSpan n at here behind e → Contradicts schema n at here behind e
+pub at_span : (schema : SchemaValue) (n at : ℕ) (here : PartRef) (behind : List PartRef) (e : StreamErr) → IsAtSpan n at here behind e → Contradicts schema n at here behind e
 at_span schema n at here behind Fault h = tt
 at_span schema n at here behind (Damaged file offset) h = (h.0, inl (h.1, h.2))
 at_span schema n at here behind NoMemory h = tt
 
-pub outside_part : (schema : Lists) (n at : ℕ) (here : PartRef) (behind : List PartRef) (e : StreamErr) → IsOutside e → Contradicts schema n at here behind e
+pub outside_part : (schema : SchemaValue) (n at : ℕ) (here : PartRef) (behind : List PartRef) (e : StreamErr) → IsStreamHostError e → Contradicts schema n at here behind e
 outside_part schema n at here behind Fault h = tt
 outside_part schema n at here behind (Damaged file offset) h = absurd h
 outside_part schema n at here behind NoMemory h = tt
 
-pub outside_span : (n at : ℕ) (here : PartRef) (behind : List PartRef) (e : StreamErr) → IsOutside e → IsAtSpan n at here behind e
+pub outside_span : (n at : ℕ) (here : PartRef) (behind : List PartRef) (e : StreamErr) → IsStreamHostError e → IsAtSpan n at here behind e
 outside_span n at here behind Fault h = tt
 outside_span n at here behind (Damaged file offset) h = absurd h
 outside_span n at here behind NoMemory h = tt
@@ -167,9 +168,9 @@ pub no_span : (at : ℕ) (here : PartRef) (behind : List PartRef) (piece : List 
 no_span at here behind piece found size finds there = record { piece = piece; size = size; none = λ from to b e o. absurd (let q = sym there ∙ finds from to b e o in cc) }
 
 -- where no partition is found, they are no part's
-pub no_part : (schema : Lists) (at : ℕ) (here : PartRef) (behind : List PartRef) (from to : ℕ) (bytes : List ℕ) (found : Option Mutation) → SaysSpan at here behind from to → length bytes ≡ to - from
-    → ((m : Mutation) → (found ≡ Some m) ↔ IsPartOf schema here.key m bytes) → found ≡ None → SaysNoPart schema at here behind from
+pub no_part : (schema : SchemaValue) (at : ℕ) (here : PartRef) (behind : List PartRef) (from to : ℕ) (bytes : List ℕ) (found : Option Mutation) → SaysSpan at here behind from to → length bytes ≡ to - from
+    → ((m : Mutation) → (found ≡ Some m) ↔ ArePartItems schema here.key m bytes) → found ≡ None → SaysNoPart schema at here behind from
 no_part schema at here behind from to bytes found said count exact there = record { to = to; said = said; bytes = bytes; count = count; none = λ m p. absurd (let q = sym there ∙ (exact m).1 p in cc) }
 
-pub says : (schema : Lists) (key bytes : List ℕ) (m : Mutation) → IsPartOf schema key m bytes → SaysOf schema m
+pub says : (schema : SchemaValue) (key bytes : List ℕ) (m : Mutation) → ArePartItems schema key m bytes → SaysOf schema m
 says schema key bytes m p = (p.mutation, change_fits schema m p.mutation p.statics p.come)

@@ -18,7 +18,8 @@ use Rattle.rc_tfile.specs.Items.{Item, PartItem, RowItem, ChangeItem, EndItem, i
 use Rattle.rc_tfile.specs.Reading.{Starts, part_item}
 use Rattle.rc_tfile.specs.TableText.{frag_items, part_items}
 use Rattle.rc_tfile.specs.laws.Starting.{PrefixFree, IsOptional, rest_of, both_free, key_free, full_key_free, pos_free, row_free, optional_free}
-use Rattle.rc_tables.specs.Rebuilt.{between, frag_code, IsSpelled}
+use Rattle.rc_tables.specs.Rebuilt.{frag_code, IsSpellable}
+use Rattle.rc_mutation.specs.Canonical.{rows_and_changes}
 use Rattle.rc_tables.proofs.Listing.{Inner, between-inner, items_of}
 
 -- ---- no spelling begins another, so what is read is what is spelled
@@ -82,7 +83,7 @@ StartsChange = Starts change_item IsChangeItem
 
 -- bytes that begin with a row or change are read as it
 abbrev pub Finds : List ℕ → Option (Frag × ℕ) → Type 0
-Finds bytes found = (f : Frag) (more : List ℕ) → IsSpelled f → bytes ≡ frag_code f ++ more → found ≡ Some (f, length (frag_code f))
+Finds bytes found = (f : Frag) (more : List ℕ) → IsSpellable f → bytes ≡ frag_code f ++ more → found ≡ Some (f, length (frag_code f))
 
 abbrev as_row : (List Comp × Row) × ℕ → Frag × ℕ
 as_row x = (frag.Row x.0.0 x.0.1, x.1)
@@ -101,7 +102,7 @@ change_found bytes change size h x tomb more is e = ap (option_map as_change) (f
 -- by the first byte
 pub finds_row : (bytes rest : List ℕ) → bytes ≡ 2 ∷ rest → (P : Frag → Type 0)
     → ((key : List Comp) (row : Row) (more : List ℕ) → IsItem (RowItem key row) → bytes ≡ item_code (RowItem key row) ++ more → P (frag.Row key row))
-    → (f : Frag) (more : List ℕ) → IsSpelled f → bytes ≡ frag_code f ++ more → P f
+    → (f : Frag) (more : List ℕ) → IsSpellable f → bytes ≡ frag_code f ++ more → P f
 finds_row bytes rest p P h (frag.Start pt) more is e = absurd is
 finds_row bytes rest p P h (frag.Static r) more is e = absurd is
 finds_row bytes rest p P h (frag.Row k r) more is e = h k r more is e
@@ -110,7 +111,7 @@ finds_row bytes rest p P h frag.End more is e = absurd is
 
 pub finds_change : (bytes : List ℕ) → ((rest : List ℕ) → bytes ≡ 2 ∷ rest → ⊥) → (P : Frag → Type 0)
     → ((x : Pos) (tomb : Option Tomb) (more : List ℕ) → IsItem (ChangeItem x tomb) → bytes ≡ item_code (ChangeItem x tomb) ++ more → P (frag.Change x tomb))
-    → (f : Frag) (more : List ℕ) → IsSpelled f → bytes ≡ frag_code f ++ more → P f
+    → (f : Frag) (more : List ℕ) → IsSpellable f → bytes ≡ frag_code f ++ more → P f
 finds_change bytes p P h (frag.Start pt) more is e = absurd is
 finds_change bytes p P h (frag.Static r) more is e = absurd is
 finds_change bytes p P h (frag.Row k r) more is e = absurd (p ((key_code k ++ row_code r) ++ more) e)
@@ -121,8 +122,8 @@ finds_change bytes p P h frag.End more is e = absurd is
 
 -- what is left of the bytes spells what is left of the fragments
 abbrev pub Going : List ℕ → List Frag → List ℕ → Type 0
-Going bytes made left = (fs : List Frag) → AllByRecursion IsSpelled fs → bytes ≡ flat_map frag_code fs ++ 4 ∷ []
-    → (gs : List Frag) × (fs ≡ made ++ gs) × AllByRecursion IsSpelled gs × (left ≡ flat_map frag_code gs ++ 4 ∷ [])
+Going bytes made left = (fs : List Frag) → AllByRecursion IsSpellable fs → bytes ≡ flat_map frag_code fs ++ 4 ∷ []
+    → (gs : List Frag) × (fs ≡ made ++ gs) × AllByRecursion IsSpellable gs × (left ≡ flat_map frag_code gs ++ 4 ∷ [])
 
 pub going_start : (bytes : List ℕ) → Going bytes [] bytes
 going_start bytes fs is e = (fs, refl, is, e)
@@ -130,8 +131,8 @@ going_start bytes fs is e = (fs, refl, is, e)
 some_pair : (x u : Frag × ℕ) → Some x ≡ Some u → x ≡ u
 some_pair x u e = cc
 
-one_on : (fs made : List Frag) (left : List ℕ) (frag : Frag) (size : ℕ) → (left ≡ 4 ∷ [] → ⊥) → Finds left (Some (frag, size)) → (gs : List Frag) → fs ≡ made ++ gs → AllByRecursion IsSpelled gs → left ≡ flat_map frag_code gs ++ 4 ∷ []
-    → (hs : List Frag) × (fs ≡ (made ++ frag ∷ []) ++ hs) × AllByRecursion IsSpelled hs × (drop size left ≡ flat_map frag_code hs ++ 4 ∷ [])
+one_on : (fs made : List Frag) (left : List ℕ) (frag : Frag) (size : ℕ) → (left ≡ 4 ∷ [] → ⊥) → Finds left (Some (frag, size)) → (gs : List Frag) → fs ≡ made ++ gs → AllByRecursion IsSpellable gs → left ≡ flat_map frag_code gs ++ 4 ∷ []
+    → (hs : List Frag) × (fs ≡ (made ++ frag ∷ []) ++ hs) × AllByRecursion IsSpellable hs × (drop size left ≡ flat_map frag_code hs ++ 4 ∷ [])
 one_on fs made left frag size more finds [] p is e = absurd (more e)
 one_on fs made left frag size more finds (g ∷ gs) p is e =
     let rest = flat_map frag_code gs ++ 4 ∷ [] in
@@ -142,27 +143,27 @@ one_on fs made left frag size more finds (g ∷ gs) p is e =
 pub going_on : (bytes : List ℕ) (made : List Frag) (left : List ℕ) (frag : Frag) (size : ℕ) → Going bytes made left → (left ≡ 4 ∷ [] → ⊥) → Finds left (Some (frag, size)) → Going bytes (made ++ frag ∷ []) (drop size left)
 going_on bytes made left frag size going more finds fs is e = (let r = going fs is e in one_on fs made left frag size more finds r.0 r.1 r.2 r.3)
 
-none_left : (left : List ℕ) → (left ≡ 4 ∷ [] → ⊥) → Finds left None → (gs : List Frag) → AllByRecursion IsSpelled gs → left ≡ flat_map frag_code gs ++ 4 ∷ [] → ⊥
+none_left : (left : List ℕ) → (left ≡ 4 ∷ [] → ⊥) → Finds left None → (gs : List Frag) → AllByRecursion IsSpellable gs → left ≡ flat_map frag_code gs ++ 4 ∷ [] → ⊥
 none_left left more finds [] is e = more e
 none_left left more finds (g ∷ gs) is e =
     absurd (let q = finds g (flat_map frag_code gs ++ 4 ∷ []) is.0 (e ∙ append_assoc (frag_code g) (flat_map frag_code gs) (4 ∷ [])) in cc)
 
-pub going_stops : (bytes : List ℕ) (made : List Frag) (left : List ℕ) → Going bytes made left → (left ≡ 4 ∷ [] → ⊥) → Finds left None → (fs : List Frag) → AllByRecursion IsSpelled fs → bytes ≡ flat_map frag_code fs ++ 4 ∷ [] → ⊥
+pub going_stops : (bytes : List ℕ) (made : List Frag) (left : List ℕ) → Going bytes made left → (left ≡ 4 ∷ [] → ⊥) → Finds left None → (fs : List Frag) → AllByRecursion IsSpellable fs → bytes ≡ flat_map frag_code fs ++ 4 ∷ [] → ⊥
 going_stops bytes made left going more finds fs is e = (let r = going fs is e in none_left left more finds r.0 r.2 r.3)
 
-some_bytes : (f : Frag) → IsSpelled f → 1 ≤ length (frag_code f)
+some_bytes : (f : Frag) → IsSpellable f → 1 ≤ length (frag_code f)
 some_bytes (frag.Start pt) is = absurd is
 some_bytes (frag.Static r) is = absurd is
 some_bytes (frag.Row k r) is = omega arith
 some_bytes (frag.Change x tomb) is = omega arith
 some_bytes frag.End is = absurd is
 
-all_made : (fs made : List Frag) (left : List ℕ) → left ≡ 4 ∷ [] → (gs : List Frag) → fs ≡ made ++ gs → AllByRecursion IsSpelled gs → left ≡ flat_map frag_code gs ++ 4 ∷ [] → made ≡ fs
+all_made : (fs made : List Frag) (left : List ℕ) → left ≡ 4 ∷ [] → (gs : List Frag) → fs ≡ made ++ gs → AllByRecursion IsSpellable gs → left ≡ flat_map frag_code gs ++ 4 ∷ [] → made ≡ fs
 all_made fs made left end [] p is e = sym (p ∙ append-nil made)
 all_made fs made left end (g ∷ gs) p is e =
     absurd (omega (arith, some_bytes g is.0, ap length (sym end ∙ e), length-append (frag_code g ++ flat_map frag_code gs) (4 ∷ []), length-append (frag_code g) (flat_map frag_code gs)))
 
-pub going_ends : (bytes : List ℕ) (made : List Frag) (left : List ℕ) → Going bytes made left → left ≡ 4 ∷ [] → (fs : List Frag) → AllByRecursion IsSpelled fs → bytes ≡ flat_map frag_code fs ++ 4 ∷ [] → made ≡ fs
+pub going_ends : (bytes : List ℕ) (made : List Frag) (left : List ℕ) → Going bytes made left → left ≡ 4 ∷ [] → (fs : List Frag) → AllByRecursion IsSpellable fs → bytes ≡ flat_map frag_code fs ++ 4 ∷ [] → made ≡ fs
 going_ends bytes made left going end fs is e = (let r = going fs is e in all_made fs made left end r.0 r.1 r.2 r.3)
 
 -- what was read so far spells the front of the bytes
@@ -172,7 +173,7 @@ text_on bytes made left frag size e h =
     ∙ sym (append_assoc (flat_map frag_code made) (frag_code frag) (drop size left))
     ∙ ap (λ t. t ++ drop size left) (sym (flat_map-append frag_code made (frag ∷ []) ∙ ap (λ t. flat_map frag_code made ++ t) (append-nil (frag_code frag))))
 
-pub spelled_on : (made : List Frag) (frag : Frag) → AllByRecursion IsSpelled made → IsSpelled frag → AllByRecursion IsSpelled (made ++ frag ∷ [])
+pub spelled_on : (made : List Frag) (frag : Frag) → AllByRecursion IsSpellable made → IsSpellable frag → AllByRecursion IsSpellable (made ++ frag ∷ [])
 spelled_on [] frag h k = (k, tt)
 spelled_on (f ∷ made) frag h k = (h.0, spelled_on made frag h.1 k)
 
@@ -186,7 +187,7 @@ code_of (frag.Row key row ∷ fs) h = ap (λ t. item_code (RowItem key row) ++ t
 code_of (frag.Change x tomb ∷ fs) h = ap (λ t. item_code (ChangeItem x tomb) ++ t) (code_of fs h.1)
 code_of (frag.End ∷ fs) h = absurd (let e = h.0 in cc)
 
-spelled_of : (fs : List Frag) (xs : List Item) → Inner fs → AllByRecursion IsItem (flat_map frag_items fs ++ xs) → AllByRecursion IsSpelled fs
+spelled_of : (fs : List Frag) (xs : List Item) → Inner fs → AllByRecursion IsItem (flat_map frag_items fs ++ xs) → AllByRecursion IsSpellable fs
 spelled_of [] xs h is = tt
 spelled_of (frag.Start pt ∷ fs) xs h is = absurd (let e = h.0 in cc)
 spelled_of (frag.Static row ∷ fs) xs h is = absurd (let e = h.0 in cc)
@@ -194,7 +195,7 @@ spelled_of (frag.Row key row ∷ fs) xs h is = (is.0, spelled_of fs xs h.1 is.1)
 spelled_of (frag.Change x tomb ∷ fs) xs h is = (is.0, spelled_of fs xs h.1 is.1)
 spelled_of (frag.End ∷ fs) xs h is = absurd (let e = h.0 in cc)
 
-items_of_spelled : (fs : List Frag) → Inner fs → AllByRecursion IsSpelled fs → AllByRecursion IsItem (flat_map frag_items fs ++ EndItem ∷ [])
+items_of_spelled : (fs : List Frag) → Inner fs → AllByRecursion IsSpellable fs → AllByRecursion IsItem (flat_map frag_items fs ++ EndItem ∷ [])
 items_of_spelled [] h is = (tt, tt)
 items_of_spelled (frag.Start pt ∷ fs) h is = absurd is.0
 items_of_spelled (frag.Static row ∷ fs) h is = absurd is.0
@@ -205,24 +206,24 @@ items_of_spelled (frag.End ∷ fs) h is = absurd is.0
 -- a partition's bytes: its part, its rows and changes, and its end
 pub record IsPartBytes (bytes key : List ℕ) (m : Mutation) : Type 0 where
   pub part : IsItem (PartItem key m.pt m.statics)
-  pub parts : bytes ≡ item_code (PartItem key m.pt m.statics) ++ (flat_map frag_code (between m) ++ 4 ∷ [])
-  pub spelled : AllByRecursion IsSpelled (between m)
+  pub parts : bytes ≡ item_code (PartItem key m.pt m.statics) ++ (flat_map frag_code (rows_and_changes m) ++ 4 ∷ [])
+  pub spelled : AllByRecursion IsSpellable (rows_and_changes m)
 
 pub part_bytes : (bytes key : List ℕ) (m : Mutation) → IsMutation m → AllByRecursion IsItem (part_items (record { key = key; change = m })) → bytes ≡ flat_map item_code (part_items (record { key = key; change = m })) → IsPartBytes bytes key m
 part_bytes bytes key m is items e =
     let inner = between-inner m is in
-    let rest : flat_map item_code (flat_map frag_items (between m) ++ EndItem ∷ []) ≡ flat_map frag_code (between m) ++ 4 ∷ [] = flat_map-append item_code (flat_map frag_items (between m)) (EndItem ∷ []) ∙ ap (λ t. t ++ 4 ∷ []) (code_of (between m) inner) in
+    let rest : flat_map item_code (flat_map frag_items (rows_and_changes m) ++ EndItem ∷ []) ≡ flat_map frag_code (rows_and_changes m) ++ 4 ∷ [] = flat_map-append item_code (flat_map frag_items (rows_and_changes m)) (EndItem ∷ []) ∙ ap (λ t. t ++ 4 ∷ []) (code_of (rows_and_changes m) inner) in
     record {
       part = items.0;
       parts = e ∙ ap (λ xs. item_code (PartItem key m.pt m.statics) ++ flat_map item_code xs) (items_of m) ∙ ap (λ t. item_code (PartItem key m.pt m.statics) ++ t) rest;
-      spelled = spelled_of (between m) (EndItem ∷ []) inner (subst (λ (xs : List Item). AllByRecursion IsItem xs) (items_of m) items.1);
+      spelled = spelled_of (rows_and_changes m) (EndItem ∷ []) inner (subst (λ (xs : List Item). AllByRecursion IsItem xs) (items_of m) items.1);
     }
 
 -- and such bytes are its items
 pub items_spelled : (bytes key : List ℕ) (m : Mutation) → IsMutation m → IsPartBytes bytes key m → AllByRecursion IsItem (part_items (record { key = key; change = m })) × (bytes ≡ flat_map item_code (part_items (record { key = key; change = m })))
 items_spelled bytes key m is b =
     let inner = between-inner m is in
-    let rest : flat_map item_code (flat_map frag_items (between m) ++ EndItem ∷ []) ≡ flat_map frag_code (between m) ++ 4 ∷ [] = flat_map-append item_code (flat_map frag_items (between m)) (EndItem ∷ []) ∙ ap (λ t. t ++ 4 ∷ []) (code_of (between m) inner) in (
-      (b.part, subst (λ (xs : List Item). AllByRecursion IsItem xs) (sym (items_of m)) (items_of_spelled (between m) inner b.spelled)),
+    let rest : flat_map item_code (flat_map frag_items (rows_and_changes m) ++ EndItem ∷ []) ≡ flat_map frag_code (rows_and_changes m) ++ 4 ∷ [] = flat_map-append item_code (flat_map frag_items (rows_and_changes m)) (EndItem ∷ []) ∙ ap (λ t. t ++ 4 ∷ []) (code_of (rows_and_changes m) inner) in (
+      (b.part, subst (λ (xs : List Item). AllByRecursion IsItem xs) (sym (items_of m)) (items_of_spelled (rows_and_changes m) inner b.spelled)),
       b.parts ∙ ap (λ t. item_code (PartItem key m.pt m.statics) ++ t) (sym rest) ∙ ap (λ xs. item_code (PartItem key m.pt m.statics) ++ flat_map item_code xs) (sym (items_of m)),
     )

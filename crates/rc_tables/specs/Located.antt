@@ -2,7 +2,7 @@
 use Rattle.std.specs.Prelude.{◌≡◌, ◌⊎◌, ℕ, ◌+◌, ◌-◌, ◌<◌, ◌≤◌, ◌^◌, min, List, [], ◌∷◌, ◌++◌, length, drop, All, Option, Some, None, ⊤}
 use Rattle.std.specs.List.{flat_map}
 use Rattle.rc_outside.specs.Files.{Files}
-use Rattle.rc_schema.specs.Lists.{Lists}
+use Rattle.rc_schema.specs.SchemaValue.{SchemaValue}
 use Rattle.rc_mutation.specs.declared.mutations.Partition.{Partition}
 use Rattle.rc_mutation.specs.Source.{IsMutation}
 use Rattle.rc_tfile.specs.declared.info.PartRef.{PartRef}
@@ -14,8 +14,8 @@ use Rattle.rc_mutation.specs.declared.mutations.Mutation.{Mutation}
 use Rattle.rc_stream.specs.declared.streams.StreamErr.{StreamErr}
 use Rattle.rc_stream.specs.declared.streams.StreamErr.TheVariants.{Fault, Damaged, NoMemory}
 use Rattle.rc_writes.specs.Allowed.{ChangeFits}
-use Rattle.rc_tfile.specs.TableText.{IsTable, body, part_items}
-use Rattle.rc_tables.specs.Rebuilt.{IsPartOf}
+use Rattle.rc_tfile.specs.TableText.{IsTable, items_to_stop, part_items}
+use Rattle.rc_tables.specs.Rebuilt.{ArePartItems}
 
 -- so much is owed where the files are told
 abbrev pub WhereTold : Option Files → Type 0 → Type 0
@@ -24,18 +24,18 @@ WhereTold (Some files) P = P
 
 -- file n is a table of partitions, of which p is one: the directory begins at an offset, and lists p and those behind it so
 pub record IsLocated (files : Option Files) (n dir : ℕ) (listed : List PartRef) (p : Partition) : Type 0 where
-  pub schema : Lists
+  pub schema : SchemaValue
   pub before : List Partition
   pub behind : List Partition
   pub bytes : List ℕ
   pub content : IsContent files n bytes
   pub table : IsTable bytes schema (before ++ p ∷ behind)
   pub mutations : All (λ q. IsMutation q.change) (before ++ p ∷ behind)
-  pub directory : dir ≡ offset (body schema (before ++ p ∷ behind))
-  pub refs : listed ≡ drop (length before) (refs (body schema (before ++ p ∷ behind)))
+  pub directory : dir ≡ offset (items_to_stop schema (before ++ p ∷ behind))
+  pub refs : listed ≡ drop (length before) (refs (items_to_stop schema (before ++ p ∷ behind)))
 
 -- the same of a table of this schema
-abbrev pub IsLocatedOf : Option Files → Lists → ℕ → ℕ → List PartRef → Partition → Type 0
+abbrev pub IsLocatedOf : Option Files → SchemaValue → ℕ → ℕ → List PartRef → Partition → Type 0
 IsLocatedOf files schema n dir listed p = (is : IsLocated files n dir listed p) × (is.schema ≡ schema)
 
 -- the items of p lie in file n from one offset up to another
@@ -65,7 +65,7 @@ abbrev pub MayLie : ℕ → ℕ → ℕ → Type 0
 MayLie dir from to = (from ≤ to) × (to < dir)
 
 -- a mutation that a table of the schema can hold
-abbrev pub SaysOf : Lists → Mutation → Type 0
+abbrev pub SaysOf : SchemaValue → Mutation → Type 0
 SaysOf schema m = IsMutation m × ChangeFits schema m
 
 -- bytes of the directory, as many as are read, contradict the table as checked: they do not say where the items of a partition lie
@@ -84,18 +84,18 @@ pub record SaysSpan (dir : ℕ) (here : PartRef) (later : List PartRef) (from to
 
 -- bytes of a file contradict the table as checked: from this offset on, where the directory says that the items of a key's part lie, they are
 -- not such items, of the schema
-pub record SaysNoPart (schema : Lists) (dir : ℕ) (here : PartRef) (later : List PartRef) (from : ℕ) : Type 0 where
+pub record SaysNoPart (schema : SchemaValue) (dir : ℕ) (here : PartRef) (later : List PartRef) (from : ℕ) : Type 0 where
   pub to : ℕ
   pub said : SaysSpan dir here later from to
   pub bytes : List ℕ
   pub count : length bytes ≡ to - from
-  pub none : (m : Mutation) → IsPartOf schema here.key m bytes → ⊥
+  pub none : (m : Mutation) → ArePartItems schema here.key m bytes → ⊥
 
 -- the store failed, or memory was refused
-abbrev pub IsOutside : StreamErr → Type 0
-IsOutside Fault = ⊤
-IsOutside (Damaged file offset) = ⊥
-IsOutside NoMemory = ⊤
+abbrev pub IsStreamHostError : StreamErr → Type 0
+IsStreamHostError Fault = ⊤
+IsStreamHostError (Damaged file offset) = ⊥
+IsStreamHostError NoMemory = ⊤
 
 -- Damaged names file n, and where bytes of the directory begin that were read and contradict the table as checked
 abbrev pub IsAtSpan : ℕ → ℕ → PartRef → List PartRef → StreamErr → Type 0
@@ -105,7 +105,7 @@ IsAtSpan n dir here later NoMemory = ⊤
 
 -- Damaged names file n, and where bytes begin that were read and contradict the table as checked: what its directory says of a partition, or
 -- the items of the partition
-abbrev pub Contradicts : Lists → ℕ → ℕ → PartRef → List PartRef → StreamErr → Type 0
+abbrev pub Contradicts : SchemaValue → ℕ → ℕ → PartRef → List PartRef → StreamErr → Type 0
 Contradicts schema n dir here later Fault = ⊤
 Contradicts schema n dir here later (Damaged file offset) = (file ≡ n) × (((offset ≡ here.dir_off) × SaysNoSpan dir here later) ⊎ SaysNoPart schema dir here later offset)
 Contradicts schema n dir here later NoMemory = ⊤

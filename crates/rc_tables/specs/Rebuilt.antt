@@ -12,14 +12,13 @@ use Rattle.rc_ranges.specs.declared.pieces.Piece.{Piece}
 use Rattle.rc_mutation.specs.declared.fragments.Frag.{Frag}
 use Rattle.rc_mutation.specs.declared.fragments.Frag.TheVariants as frag
 use Rattle.rc_mutation.specs.declared.mutations.Mutation.{Mutation}
-use Rattle.rc_mutation.specs.Fragments.{changes_of, in_order, placed_change, placed_row}
+use Rattle.rc_mutation.specs.Fragments.{changes_of, in_order, placed_change, placed_row, tomb_after}
 use Rattle.rc_mutation.specs.Source.{IsMutation}
-use Rattle.rc_canon.specs.Canonical.{IsNext}
+use Rattle.rc_mutation.specs.Canonical.{ComesNext, rows_and_changes}
 use Rattle.rc_position.specs.Position.{row_pos}
-use Rattle.rc_schema.specs.Lists.{Lists}
-use Rattle.rc_stream.specs.Stream.{after}
+use Rattle.rc_schema.specs.SchemaValue.{SchemaValue}
 use Rattle.rc_stream.specs.Merging.{place_of}
-use Rattle.rc_writes.specs.Allowed.{IsBoundOf, IsRowOf, IsStaticOf}
+use Rattle.rc_writes.specs.Allowed.{IsRangeBound, IsRowOf, IsStaticOf}
 use Rattle.rc_tfile.specs.TableText.{part_items}
 use Rattle.rc_tfile.specs.Items.{RowItem, ChangeItem, item_code, IsItem}
 
@@ -32,16 +31,12 @@ frag_code (frag.Change x tomb) = item_code (ChangeItem x tomb)
 frag_code frag.End = []
 
 -- a row or a change whose values are within their limits
-abbrev pub IsSpelled : Frag → Type 0
-IsSpelled (frag.Start pt) = ⊥
-IsSpelled (frag.Static row) = ⊥
-IsSpelled (frag.Row key row) = IsItem (RowItem key row)
-IsSpelled (frag.Change x tomb) = IsItem (ChangeItem x tomb)
-IsSpelled frag.End = ⊥
-
--- the rows and changes of a mutation, by position
-abbrev pub between : Mutation → List Frag
-between m = in_order (list_map placed_row m.rows ++ list_map placed_change (changes_of m.ranges))
+abbrev pub IsSpellable : Frag → Type 0
+IsSpellable (frag.Start pt) = ⊥
+IsSpellable (frag.Static row) = ⊥
+IsSpellable (frag.Row key row) = IsItem (RowItem key row)
+IsSpellable (frag.Change x tomb) = IsItem (ChangeItem x tomb)
+IsSpellable frag.End = ⊥
 
 -- the rows among fragments, each with its key
 abbrev pub rows_among : List Frag → List (List Comp × Row)
@@ -71,38 +66,38 @@ ended None x = []
 ended (Some begun) x = record { from = begun.0; to = x; tomb = begun.1 } ∷ []
 
 -- the range that begins at x, where a tombstone is in force from there on
-abbrev pub begun : Pos → Option Tomb → Option (Pos × Tomb)
-begun x None = None
-begun x (Some tomb) = Some (x, tomb)
+abbrev pub open_range : Pos → Option Tomb → Option (Pos × Tomb)
+open_range x None = None
+open_range x (Some tomb) = Some (x, tomb)
 
 -- the ranges between changes, of which one may have begun before; none where the last does not end
 abbrev pub pieces_between : List (Pos × Option Tomb) → Option (Pos × Tomb) → Option (List Piece)
 pieces_between [] None = Some []
 pieces_between [] (Some start) = None
-pieces_between (c ∷ cs) start = option_map (λ ps. ended start c.0 ++ ps) (pieces_between cs (begun c.0 c.1))
+pieces_between (c ∷ cs) start = option_map (λ ps. ended start c.0 ++ ps) (pieces_between cs (open_range c.0 c.1))
 
 -- a number in eight bytes at the front, if there are as many
-unfoldable pub number_at : List ℕ → Option ℕ
-number_at bytes = if nat_lt (length bytes) 8 then None else Some (from_le_bytes w64 (take 8 bytes))
+unfoldable pub number_at_front : List ℕ → Option ℕ
+number_at_front bytes = if nat_lt (length bytes) 8 then None else Some (from_le_bytes w64 (take 8 bytes))
 
 -- a row or a change of the schema may stand behind a last position, with a tombstone in force there: it stands behind it; something was
 -- written of a row; a change has another tombstone than the one in force
-abbrev pub MayCome : Lists → Option Tomb → Option Pos → Frag → Type 0
+abbrev pub MayCome : SchemaValue → Option Tomb → Option Pos → Frag → Type 0
 MayCome schema tomb last (frag.Start pt) = ⊥
 MayCome schema tomb last (frag.Static row) = ⊥
-MayCome schema tomb last (frag.Row key row) = IsNext last (row_pos key) × (row ≢ empty_row) × IsRowOf schema key row
-MayCome schema tomb last (frag.Change x next) = IsNext last x × (next ≢ tomb) × IsBoundOf schema x
+MayCome schema tomb last (frag.Row key row) = ComesNext last (row_pos key) × (row ≢ empty_row) × IsRowOf schema key row
+MayCome schema tomb last (frag.Change x next) = ComesNext last x × (next ≢ tomb) × IsRangeBound schema x
 MayCome schema tomb last frag.End = ⊥
 
 -- rows and changes of the schema, each of which may stand behind those before it; at the end no tombstone is in force
-abbrev pub AllCome : Lists → Option Tomb → Option Pos → List Frag → Type 0
+abbrev pub AllCome : SchemaValue → Option Tomb → Option Pos → List Frag → Type 0
 AllCome schema tomb last [] = tomb ≡ None
-AllCome schema tomb last (f ∷ fs) = MayCome schema tomb last f × AllCome schema (after tomb f) (Some (place_of f).0) fs
+AllCome schema tomb last (f ∷ fs) = MayCome schema tomb last f × AllCome schema (tomb_after tomb f) (Some (place_of f).0) fs
 
 -- bytes are the items of a key's part: they say what a mutation says, each within the limits, of the schema, and where it may stand
-pub record IsPartOf (schema : Lists) (key : List ℕ) (m : Mutation) (bytes : List ℕ) : Type 0 where
+pub record ArePartItems (schema : SchemaValue) (key : List ℕ) (m : Mutation) (bytes : List ℕ) : Type 0 where
   pub mutation : IsMutation m
   pub statics : IsStaticOf schema m.statics
-  pub come : AllCome schema None None (between m)
+  pub come : AllCome schema None None (rows_and_changes m)
   pub items : AllByRecursion IsItem (part_items (record { key = key; change = m }))
   pub spelled : bytes ≡ flat_map item_code (part_items (record { key = key; change = m }))

@@ -1,7 +1,7 @@
 -- A stream over tables, which is read at its first call.
 use Rattle.std.specs.Prelude.{◌≡◌, ℕ, ◌+◌, ◌≤◌, ◌*◌, Bool, IsTrue, IsSome, List, Option, Some, None}
 use Rattle.rc_outside.specs.Files.{Files}
-use Rattle.rc_schema.specs.Lists.{Lists}
+use Rattle.rc_schema.specs.SchemaValue.{SchemaValue}
 use Rattle.rc_mutation.specs.declared.mutations.Mutation.{Mutation}
 use Rattle.rc_mutation.specs.Fragments.{fragments}
 use Rattle.rc_mutation.specs.Source.{IsMutation}
@@ -15,18 +15,18 @@ use Rattle.rc_tables.specs.Tables.{AreHeld, IsDamageOf, IsSomeJoin, IsStreamAt, 
 -- what is known of the tables, their schema, the key, and what is left once it was read
 pub record Lazy : Type 0 where
   pub infos : List TableInfo
-  pub schema : Lists
+  pub schema : SchemaValue
   pub key : List ℕ
   pub read : Option Stream
 
 -- what was read, or else what the files hold
-abbrev pub IsRead : Option Files → Lists → List TableInfo → List ℕ → Option Stream → Stream → Type 0
+abbrev pub IsRead : Option Files → SchemaValue → List TableInfo → List ℕ → Option Stream → Stream → Type 0
 IsRead files schema infos key None stream = IsStreamAt files schema infos key stream
 IsRead files schema infos key (Some read) stream = stream ≡ read
 
 -- over these files it stands for this stream (where the files are not told and it is not read yet, perhaps for none)
-abbrev pub StandsFor : Option Files → Lazy → Stream → Type 0
-StandsFor files t stream = IsRead files t.schema t.infos t.key t.read stream
+abbrev pub IsLazyOf : Option Files → Lazy → Stream → Type 0
+IsLazyOf files t stream = IsRead files t.schema t.infos t.key t.read stream
 
 -- its calls may be made over these files: where they are told, they are those of its tables
 abbrev pub IsReady : Option Files → Lazy → Type 0
@@ -52,14 +52,14 @@ pub record DidAsk (ok : Bool) (t : Lazy) (before : ℕ) (t' : Lazy) (now : ℕ) 
 
 -- a stream is that of a mutation that is the join of some changes of a key, at most one of each table that lists it, each within the limits and of the
 -- schema
-pub record IsSomeStream (schema : Lists) (infos : List TableInfo) (key : List ℕ) (stream : Stream) : Type 0 where
+pub record IsSomeStream (schema : SchemaValue) (infos : List TableInfo) (key : List ℕ) (stream : Stream) : Type 0 where
   pub join : Mutation
   pub mutation : IsMutation join
   pub some : IsSomeJoin schema infos key join
   pub fragments : stream ≡ stream_of (fragments join)
 
 -- what was read, or else what some files may give
-abbrev pub MayRead : Lists → List TableInfo → List ℕ → Option Stream → Stream → Type 0
+abbrev pub MayRead : SchemaValue → List TableInfo → List ℕ → Option Stream → Stream → Type 0
 MayRead schema infos key None stream = IsSomeStream schema infos key stream
 MayRead schema infos key (Some read) stream = stream ≡ read
 

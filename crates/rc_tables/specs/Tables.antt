@@ -8,7 +8,7 @@ use Rattle.std.specs.List.{flat_map, list_any, AllByRecursion}
 use Rattle.std.specs.FinMap.{is_sorted}
 use Rattle.rc_outside.specs.Files.{Files}
 use Rattle.rc_position.specs.Position.{bytes_cmp}
-use Rattle.rc_schema.specs.Lists.{Lists}
+use Rattle.rc_schema.specs.SchemaValue.{SchemaValue}
 use Rattle.rc_mutation.specs.declared.mutations.Mutation.{Mutation}
 use Rattle.rc_mutation.specs.declared.mutations.Partition.{Partition}
 use Rattle.rc_mutation.specs.Fragments.{fragments}
@@ -24,7 +24,7 @@ use Rattle.rc_tfile.specs.TableText.{IsTable}
 use Rattle.rc_tables.specs.Located.{Contradicts, SaysOf}
 
 -- a table's file has the text of its partitions, whose keys strictly ascend; each says what a mutation says
-pub record IsHeld (files : Option Files) (schema : Lists) (table : ℕ × List Partition) : Type 0 where
+pub record IsHeld (files : Option Files) (schema : SchemaValue) (table : ℕ × List Partition) : Type 0 where
   pub bytes : List ℕ
   pub content : IsContent files table.0 bytes
   pub text : IsTable bytes schema table.1
@@ -32,7 +32,7 @@ pub record IsHeld (files : Option Files) (schema : Lists) (table : ℕ × List P
   pub mutations : All (λ p. IsMutation p.change) table.1
 
 -- what is known of tables is what is known of these, each a number and its partitions, and each file has the text of its partitions
-abbrev pub HoldsTables : Option Files → Lists → List TableInfo → List (ℕ × List Partition) → Type 0
+abbrev pub HoldsTables : Option Files → SchemaValue → List TableInfo → List (ℕ × List Partition) → Type 0
 HoldsTables files schema [] [] = ⊤
 HoldsTables files schema [] (table ∷ tables) = ⊥
 HoldsTables files schema (info ∷ infos) [] = ⊥
@@ -59,7 +59,7 @@ abbrev pub IsJoinedAt : List ℕ → List (ℕ × List Partition) → Mutation �
 IsJoinedAt key tables m = IsMutation m × IsJoinOf m (changes_at key tables)
 
 -- of a set of tables of a schema in these files, a stream is that of a key from the beginning: of the fragments of the join of all that the tables say
-pub record IsStreamAt (files : Option Files) (schema : Lists) (infos : List TableInfo) (key : List ℕ) (stream : Stream) : Type 0 where
+pub record IsStreamAt (files : Option Files) (schema : SchemaValue) (infos : List TableInfo) (key : List ℕ) (stream : Stream) : Type 0 where
   pub tables : List (ℕ × List Partition)
   pub join : Mutation
   pub holds : HoldsTables files schema infos tables
@@ -67,25 +67,25 @@ pub record IsStreamAt (files : Option Files) (schema : Lists) (infos : List Tabl
   pub fragments : stream ≡ stream_of (fragments join)
 
 -- the files are those of the tables of a set, of a schema
-abbrev pub AreHeld : Option Files → Lists → List TableInfo → Type 0
+abbrev pub AreHeld : Option Files → SchemaValue → List TableInfo → Type 0
 AreHeld files schema infos = (tables : List (ℕ × List Partition)) × HoldsTables files schema infos tables
 
 -- a mutation is the join of some changes of a key, at most one of each table that lists it, each of which a table of the schema can hold
-pub record IsSomeJoin (schema : Lists) (infos : List TableInfo) (key : List ℕ) (m : Mutation) : Type 0 where
+pub record IsSomeJoin (schema : SchemaValue) (infos : List TableInfo) (key : List ℕ) (m : Mutation) : Type 0 where
   pub changes : List Mutation
   pub joined : IsJoinOf m changes
   pub count : length changes ≤ listing key infos
   pub fit : AllByRecursion (SaysOf schema) changes
 
 -- some changes of a key were joined to a mutation, at most one of each table that lists it
-pub record JoinsSome (schema : Lists) (infos : List TableInfo) (key : List ℕ) (old now : Mutation) : Type 0 where
+pub record JoinsSome (schema : SchemaValue) (infos : List TableInfo) (key : List ℕ) (old now : Mutation) : Type 0 where
   pub changes : List Mutation
   pub joined : (done : List Mutation) → IsJoinOf old done → IsJoinOf now (done ++ changes)
   pub count : length changes ≤ listing key infos
   pub fit : AllByRecursion (SaysOf schema) changes
 
 -- Damaged names a table that lists the key; bytes that were read of it contradict it as checked
-abbrev pub IsDamageIn : Lists → List ℕ → TableInfo → StreamErr → Type 0
+abbrev pub IsDamageIn : SchemaValue → List ℕ → TableInfo → StreamErr → Type 0
 IsDamageIn schema key info e = (dir : ℕ) × (i : ℕ) × (here : PartRef) × (later : List PartRef) × (drop i info.parts ≡ here ∷ later) × (here.key ≡ key) × Contradicts schema info.number dir here later e
 
 -- of some table of a set this holds
@@ -94,7 +94,7 @@ InSome P [] = ⊥
 InSome P (info ∷ infos) = P info ⊎ InSome P infos
 
 -- where Damaged is answered of a key, it names some table of the set that lists it
-abbrev pub IsDamageOf : Lists → List ℕ → List TableInfo → StreamErr → Type 0
+abbrev pub IsDamageOf : SchemaValue → List ℕ → List TableInfo → StreamErr → Type 0
 IsDamageOf schema key infos Fault = ⊤
 IsDamageOf schema key infos (Damaged file offset) = InSome (λ info. IsDamageIn schema key info (Damaged file offset)) infos
 IsDamageOf schema key infos NoMemory = ⊤

@@ -10,15 +10,15 @@ ghost use Rattle.rc_position.specs.declared.positions.Pos.{Pos};
 ghost use Rattle.rc_mutation.specs.declared.fragments.Frag.{Frag};
 ghost use Rattle.rc_mutation.specs.declared.mutations.Mutation.{Mutation};
 ghost use Rattle.rc_cell.specs.Winner.{empty_row};
-ghost use Rattle.rc_canon.specs.Canonical.{IsNext};
-ghost use Rattle.rc_stream.specs.Stream.{after};
+ghost use Rattle.rc_mutation.specs.Canonical.{ComesNext};
+ghost use Rattle.rc_mutation.specs.Fragments.{tomb_after};
 ghost use Rattle.rc_stream.specs.Merging.{place_of};
-ghost use Rattle.rc_writes.specs.Allowed.{IsBoundOf, IsRowOf};
+ghost use Rattle.rc_writes.specs.Allowed.{IsRangeBound, IsRowOf};
 ghost use Rattle.rc_tfile.specs.Items.{ChangeItem, item_code, IsItem, RowItem};
-ghost use Rattle.rc_tables.specs.Rebuilt.{AllCome, frag_code, IsPartOf, IsSpelled, MayCome};
+ghost use Rattle.rc_tables.specs.Rebuilt.{AllCome, frag_code, ArePartItems, IsSpellable, MayCome};
 
 use crate::rebuilding::mutation_of;
-use rc_canon::laws::a_canonical_list_is_that_of_a_mutation;
+use rc_mutation::canonical::a_canonical_list_is_that_of_a_mutation;
 use rc_cell::{Row, Tomb};
 use rc_mutation::{Frag, Mutation};
 use rc_position::{Key, PartKey, Pos, Weight};
@@ -41,7 +41,7 @@ pub(crate) fn decode(
     key: &PartKey,
     schema: &Schema,
 ) -> Result<Option<Mutation>, AllocError>
-    ensures { IfOk result (λ found. (m : Mutation) → (found ≡ Some m) ↔ IsPartOf schema.now key.now m bytes.now) }
+    ensures { IfOk result (λ found. (m : Mutation) → (found ≡ Some m) ↔ ArePartItems schema.now key.now m bytes.now) }
 {
     let Some((part, size)) = read_part(alloc, bytes)? else {
         return Ok(None);
@@ -97,7 +97,7 @@ fn may_come(frag: &Frag, at: &Pos, last: &Option<Pos>, tomb: Option<Tomb>, schem
 
 // The same of a row.
 fn row_may_come(key: &Key, row: &Row, at: &Pos, last: &Option<Pos>, schema: &Schema) -> bool
-    ensures { IsTrue result ↔ (IsNext last.now at.now × (row.now ≢ empty_row) × IsRowOf schema.now key.now row.now) }
+    ensures { IsTrue result ↔ (ComesNext last.now at.now × (row.now ≢ empty_row) × IsRowOf schema.now key.now row.now) }
 {
     is_next(last, at) && is_written(row) && is_row_of(schema, key, row)
 }
@@ -110,14 +110,14 @@ fn change_may_come(
     tomb: Option<Tomb>,
     schema: &Schema,
 ) -> bool
-    ensures { IsTrue result ↔ (IsNext last.now at.now × (next ≢ tomb) × IsBoundOf schema.now at.now) }
+    ensures { IsTrue result ↔ (ComesNext last.now at.now × (next ≢ tomb) × IsRangeBound schema.now at.now) }
 {
     is_next(last, at) && differ(next, tomb) && is_bound_of(schema, at)
 }
 
 // Whether a position comes behind the last one.
 fn is_next(last: &Option<Pos>, at: &Pos) -> bool
-    ensures { IsTrue result ↔ IsNext last.now at.now }
+    ensures { IsTrue result ↔ ComesNext last.now at.now }
 {
     match last {
         None => true,
@@ -158,7 +158,7 @@ fn place(alloc: Global, frag: &Frag) -> Result<Pos, AllocError>
 
 // The range tombstone in force behind a fragment.
 fn tomb_after(tomb: Option<Tomb>, frag: &Frag) -> Option<Tomb>
-    ensures { result ≡ after tomb frag.now }
+    ensures { result ≡ tomb_after tomb frag.now }
 {
     match frag {
         Frag::Change(_, next) => *next,
@@ -168,8 +168,8 @@ fn tomb_after(tomb: Option<Tomb>, frag: &Frag) -> Option<Tomb>
 
 // The rows and changes up to the end of a partition, where the bytes end too; none exactly where they are not such.
 fn read_fragments(alloc: Global, bytes: &[u8]) -> Result<Option<Vec<Frag>>, AllocError>
-    ensures found { (fs : List Frag) → AllByRecursion IsSpelled fs → bytes.now ≡ flat_map frag_code fs ++ 4 ∷ [] → IfOk result (λ found. option_map (λ v. v.items) found ≡ Some fs) }
-    ensures spelled { IfOk result (λ found. IfSome found (λ v. AllByRecursion IsSpelled v.items × (bytes.now ≡ flat_map frag_code v.items ++ 4 ∷ []))) }
+    ensures found { (fs : List Frag) → AllByRecursion IsSpellable fs → bytes.now ≡ flat_map frag_code fs ++ 4 ∷ [] → IfOk result (λ found. option_map (λ v. v.items) found ≡ Some fs) }
+    ensures spelled { IfOk result (λ found. IfSome found (λ v. AllByRecursion IsSpellable v.items × (bytes.now ≡ flat_map frag_code v.items ++ 4 ∷ []))) }
 {
     let mut made = Vec::new(alloc);
     let mut left = bytes;
@@ -195,8 +195,8 @@ fn is_end(bytes: &[u8]) -> bool
 
 // The row or change that the bytes begin with, and its length; none where they begin with neither.
 fn read_fragment(alloc: Global, bytes: &[u8]) -> Result<Option<(Frag, usize)>, AllocError>
-    ensures value { (f : Frag) (more : List ℕ) → IsSpelled f → bytes.now ≡ frag_code f ++ more → IfOk result (λ found. found ≡ Some (f, length (frag_code f))) }
-    ensures starts { IfOk result (λ found. IfSome found (λ x. IsSpelled x.0 × (bytes.now ≡ frag_code x.0 ++ drop x.1 bytes.now))) }
+    ensures value { (f : Frag) (more : List ℕ) → IsSpellable f → bytes.now ≡ frag_code f ++ more → IfOk result (λ found. found ≡ Some (f, length (frag_code f))) }
+    ensures starts { IfOk result (λ found. IfSome found (λ x. IsSpellable x.0 × (bytes.now ≡ frag_code x.0 ++ drop x.1 bytes.now))) }
     ensures within { IfOk result (λ found. IfSome found (λ x. (1 ≤ x.1) × (x.1 ≤ length bytes.now))) }
 {
     if let Some(_rest) = behind(ROW, bytes) {
@@ -209,7 +209,7 @@ fn read_fragment(alloc: Global, bytes: &[u8]) -> Result<Option<(Frag, usize)>, A
 fn read_row_fragment(alloc: Global, bytes: &[u8]) -> Result<Option<(Frag, usize)>, AllocError>
     ensures value { (key : List Comp) (row : Row) (more : List ℕ) → IsItem (RowItem key row) → bytes.now ≡ item_code (RowItem key row) ++ more
         → IfOk result (λ found. found ≡ Some (Frag.Row key row, length (item_code (RowItem key row)))) }
-    ensures starts { IfOk result (λ found. IfSome found (λ x. IsSpelled x.0 × (bytes.now ≡ frag_code x.0 ++ drop x.1 bytes.now))) }
+    ensures starts { IfOk result (λ found. IfSome found (λ x. IsSpellable x.0 × (bytes.now ≡ frag_code x.0 ++ drop x.1 bytes.now))) }
     ensures within { IfOk result (λ found. IfSome found (λ x. (1 ≤ x.1) × (x.1 ≤ length bytes.now))) }
 {
     let Some((keyed, size)) = read_row_item(alloc, bytes)? else {
@@ -223,7 +223,7 @@ fn read_row_fragment(alloc: Global, bytes: &[u8]) -> Result<Option<(Frag, usize)
 fn read_change_fragment(alloc: Global, bytes: &[u8]) -> Result<Option<(Frag, usize)>, AllocError>
     ensures value { (x : Pos) (tomb : Option Tomb) (more : List ℕ) → IsItem (ChangeItem x tomb) → bytes.now ≡ item_code (ChangeItem x tomb) ++ more
         → IfOk result (λ found. found ≡ Some (Frag.Change x tomb, length (item_code (ChangeItem x tomb)))) }
-    ensures starts { IfOk result (λ found. IfSome found (λ x. IsSpelled x.0 × (bytes.now ≡ frag_code x.0 ++ drop x.1 bytes.now))) }
+    ensures starts { IfOk result (λ found. IfSome found (λ x. IsSpellable x.0 × (bytes.now ≡ frag_code x.0 ++ drop x.1 bytes.now))) }
     ensures within { IfOk result (λ found. IfSome found (λ x. (1 ≤ x.1) × (x.1 ≤ length bytes.now))) }
 {
     let Some((change, size)) = read_change(alloc, bytes)? else {

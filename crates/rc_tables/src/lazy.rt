@@ -7,7 +7,7 @@ ghost use Rattle.rc_stream.specs.Stream.{Stream, first_upto, is_upto, sought, to
 ghost use Rattle.rc_tables.specs.Located.{WhereTold};
 ghost use Rattle.rc_stream.specs.Did.{answered};
 ghost use Rattle.rc_tables.specs.Tables.{AreHeld, IsDamageOf, IsStreamAt, listing};
-ghost use Rattle.rc_tables.specs.Streams.{DidAsk, IsReady, IsSomeStream, MayBe, SameTables, Settled, StandsFor};
+ghost use Rattle.rc_tables.specs.Streams.{DidAsk, IsReady, IsSomeStream, MayBe, SameTables, Settled, IsLazyOf};
 
 use crate::reading::read_joined;
 use crate::sets::TableSet;
@@ -61,10 +61,10 @@ impl TableFrags {
     pub fn head<W: Store>(&mut self, alloc: Global, store: &mut W) -> Result<Head, StreamErr>
         requires { IsReady (W.files store.old) self.old }
         ensures ready { IsReady (W.files store.new) self.new }
-        ensures head { (s : Stream) → StandsFor (W.files store.old) self.old s → IfOk result (λ head. head ≡ s.head) }
+        ensures head { (s : Stream) → IsLazyOf (W.files store.old) self.old s → IfOk result (λ head. head ≡ s.head) }
         ensures some { IfOk result (λ head. (s : Stream) × Settled self.old self.new s s × (head ≡ s.head)) }
         ensures might { (s : Stream) → MayBe self.new s → MayBe self.old s }
-        ensures stands { (s : Stream) → StandsFor (W.files store.old) self.old s → StandsFor (W.files store.new) self.new s }
+        ensures stands { (s : Stream) → IsLazyOf (W.files store.old) self.old s → IsLazyOf (W.files store.new) self.new s }
         ensures tables { SameTables self.old self.new }
         ensures damaged { IfErr result (IsDamageOf self.old.schema self.old.key self.old.infos) }
         ensures cause { Caused result (W.files store.old) (W.faults store.old) (W.faults store.new) }
@@ -90,7 +90,7 @@ impl TableFrags {
         requires { IsReady (W.files store.old) self.old }
         ensures ready { IsReady (W.files store.new) self.new }
         ensures some { OnOk result ((s : Stream) × Settled self.old self.new s (sought to.now s)) }
-        ensures stands { (s : Stream) → StandsFor (W.files store.old) self.old s → StandsFor (W.files store.new) self.new (sought_by result to.now s) }
+        ensures stands { (s : Stream) → IsLazyOf (W.files store.old) self.old s → IsLazyOf (W.files store.new) self.new (sought_by result to.now s) }
         ensures tables { SameTables self.old self.new }
         ensures damaged { IfErr result (IsDamageOf self.old.schema self.old.key self.old.infos) }
         ensures cause { Caused result (W.files store.old) (W.faults store.old) (W.faults store.new) }
@@ -116,10 +116,10 @@ impl TableFrags {
     ) -> Result<Option<Frag>, StreamErr>
         requires { IsReady (W.files store.old) self.old }
         ensures ready { IsReady (W.files store.new) self.new }
-        ensures gives { (s : Stream) → StandsFor (W.files store.old) self.old s → IfOk result (λ got. got ≡ first_upto upto.now s.left) }
+        ensures gives { (s : Stream) → IsLazyOf (W.files store.old) self.old s → IfOk result (λ got. got ≡ first_upto upto.now s.left) }
         ensures upto { IfOk result (λ got. IfSome got (λ f. IsTrue (is_upto upto.now f))) }
         ensures some { IfOk result (λ got. (s : Stream) × Settled self.old self.new s (took got s) × (got ≡ first_upto upto.now s.left)) }
-        ensures stands { (s : Stream) → StandsFor (W.files store.old) self.old s → StandsFor (W.files store.new) self.new (left_by result s) }
+        ensures stands { (s : Stream) → IsLazyOf (W.files store.old) self.old s → IsLazyOf (W.files store.new) self.new (left_by result s) }
         ensures tables { SameTables self.old self.new }
         ensures damaged { IfErr result (IsDamageOf self.old.schema self.old.key self.old.infos) }
         ensures cause { Caused result (W.files store.old) (W.faults store.old) (W.faults store.new) }
@@ -192,7 +192,7 @@ impl TableFrags {
     // Reads the partition, where it is not read yet.
     fn load<W: Store>(&mut self, alloc: Global, store: &mut W) -> Result<(), StreamErr>
         requires { IsReady (W.files store.old) self.old }
-        ensures stands { (s : Stream) → StandsFor (W.files store.old) self.old s → StandsFor (W.files store.old) self.new s }
+        ensures stands { (s : Stream) → IsLazyOf (W.files store.old) self.old s → IsLazyOf (W.files store.old) self.new s }
         ensures loaded { OnOk result (IsSome self.new.read) }
         ensures some { OnOk result ((s : Stream) × Settled self.old self.new s s) }
         ensures might { (s : Stream) → MayBe self.new s → MayBe self.old s }
@@ -216,11 +216,11 @@ impl TableFrags {
 
 impl<H, W: Store> Frags<H, W> for TableFrags {
     ghost use Rattle.std.specs.Prelude.{◌≡◌, ⊤};
-    ghost use Rattle.rc_tables.specs.Streams.{DidAsk, IsFresh, IsReady, MayBe, MayBlame, StandsFor};
+    ghost use Rattle.rc_tables.specs.Streams.{DidAsk, IsFresh, IsReady, MayBe, MayBlame, IsLazyOf};
 
     ghost ready = { λ t _ store. IsReady (W.files store) t };
 
-    ghost seen = { λ t _ store s. StandsFor (W.files store) t s };
+    ghost seen = { λ t _ store s. IsLazyOf (W.files store) t s };
 
     ghost ahead = { λ _ _. ⊤ };
 

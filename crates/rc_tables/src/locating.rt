@@ -4,8 +4,8 @@ ghost use Rattle.std.specs.Prelude.{◌≡◌, ◌≤◌, ◌+◌, ℕ, ◌∷�
 ghost use Rattle.rc_mutation.specs.declared.mutations.Partition.{Partition};
 ghost use Rattle.rc_outside.specs.Files.{LiesInFile, AreBytesOf};
 ghost use Rattle.rc_stream.specs.Causes.{Caused};
-ghost use Rattle.rc_tables.specs.Rebuilt.{number_at};
-ghost use Rattle.rc_tables.specs.Located.{EndsAt, glimpsed, IsAtSpan, IsEntryAt, IsLocated, IsOutside, IsSpan, MayLie, SaysSpan, WhereTold};
+ghost use Rattle.rc_tables.specs.Rebuilt.{number_at_front};
+ghost use Rattle.rc_tables.specs.Located.{EndsAt, glimpsed, IsAtSpan, IsEntryAt, IsLocated, IsStreamHostError, IsSpan, MayLie, SaysSpan, WhereTold};
 
 use rc_outside::Store;
 use rc_position::PartKey;
@@ -38,7 +38,7 @@ pub(crate) fn read_range<W: Store>(
 ) -> Result<Vec<u8>, StreamErr>
     requires { LiesInFile (W.files store.old) n off count }
     ensures bytes { IfOk result (λ piece. AreBytesOf (W.files store.old) n off piece.items) }
-    ensures outside { IfErr result IsOutside }
+    ensures outside { IfErr result IsStreamHostError }
     ensures size { IfOk result (λ piece. length piece.items ≡ count) }
     ensures cause { Caused result (W.files store.old) (W.faults store.old) (W.faults store.new) }
     ensures files { W.files store.new ≡ W.files store.old }
@@ -167,9 +167,9 @@ fn part_offset(alloc: Global, bytes: &[u8], key: &PartKey) -> Result<Option<u64>
 }
 
 // The number in the first eight bytes, if there are as many.
-#[tactic(auto, unfolding(crate::specs::Rebuilt::number_at))]
+#[tactic(auto, unfolding(crate::specs::Rebuilt::number_at_front))]
 fn number_at(bytes: &[u8]) -> Option<u64>
-    ensures { result ≡ number_at bytes.now }
+    ensures { result ≡ number_at_front bytes.now }
 {
     let (front, _rest) = bytes.split_at_checked(8)?;
     Some(u64::from_le_bytes([

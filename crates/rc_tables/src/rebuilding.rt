@@ -8,7 +8,8 @@ ghost use Rattle.rc_ranges.specs.Cover.{IsCanonical, MayFollow};
 ghost use Rattle.rc_mutation.specs.declared.mutations.Mutation.{Mutation};
 ghost use Rattle.rc_mutation.specs.Rows.{IsRows, joined_rows};
 ghost use Rattle.rc_mutation.specs.Source.{IsMutation};
-ghost use Rattle.rc_tables.specs.Rebuilt.{AllWritten, between, begun, changes_among, ended, pieces_between, rows_among};
+ghost use Rattle.rc_tables.specs.Rebuilt.{AllWritten, open_range, changes_among, ended, pieces_between, rows_among};
+ghost use Rattle.rc_mutation.specs.Canonical.{rows_and_changes};
 
 use rc_cell::Tomb;
 use rc_mutation::{Frag, Head, Mutation, Rows, Statics};
@@ -23,7 +24,7 @@ pub(crate) fn mutation_of(
     head: Head,
     frags: &[Frag],
 ) -> Result<Option<Mutation>, AllocError>
-    ensures { (m : Mutation) → IsMutation m → frags.now ≡ between m → head ≡ record { pt = m.pt; statics = m.statics } → IfOk result (λ found. found ≡ Some m) }
+    ensures { (m : Mutation) → IsMutation m → frags.now ≡ rows_and_changes m → head ≡ record { pt = m.pt; statics = m.statics } → IfOk result (λ found. found ≡ Some m) }
 {
     let Some(rows) = rows_of(alloc, frags)? else {
         return Ok(None);
@@ -142,7 +143,7 @@ fn end_piece(
 
 // What begins at a change.
 fn begun_at(alloc: Global, x: &Pos, tomb: Option<Tomb>) -> Result<Option<(Pos, Tomb)>, AllocError>
-    ensures { IfOk result (λ next. next ≡ begun x.now tomb) }
+    ensures { IfOk result (λ next. next ≡ open_range x.now tomb) }
 {
     match tomb {
         Some(tomb) => Ok(Some((x.copy(alloc)?, tomb))),

@@ -5,14 +5,14 @@ use Rattle.rc_cell.specs.declared.rows.Row.{Row}
 use Rattle.rc_cell.specs.declared.writes.Tomb.{Tomb}
 use Rattle.rc_position.specs.declared.comps.Comp.{Comp}
 use Rattle.rc_position.specs.declared.positions.Pos.{Pos}
-use Rattle.rc_schema.specs.Lists.{Lists}
+use Rattle.rc_schema.specs.SchemaValue.{SchemaValue}
 use Rattle.rc_rowcode.specs.Spelling.{stamp_code, time_code, tomb_code, optional_code, key_code, pos_code, cells_code, row_code, KeyFits, IsCodedRow}
-use Rattle.rc_rowcode.specs.Laws.Sizes.{length-stamp, length-time, key_small, cells_small}
-use Rattle.rc_rowcode.specs.Laws.Limits.{key_limits, row_limits}
+use Rattle.rc_rowcode.specs.laws.Sizes.{length-stamp, length-time, key_small, cells_small}
+use Rattle.rc_rowcode.specs.laws.Limits.{key_limits, row_limits}
 use Rattle.rc_tfile.specs.declared.blocks.Block.{Block}
 use Rattle.rc_tfile.specs.Items.{Item, HeadItem, PartItem, RowItem, ChangeItem, EndItem, StopItem, EntryItem, BlockItem, TailItem, item_code, offset_code, bytes_code, IsItem}
-use Rattle.rc_tfile.specs.Before.{Before, Behind, place}
-use Rattle.rc_tfile.specs.TableText.{Fits}
+use Rattle.rc_tfile.specs.Before.{ItemsBefore, Behind, item_place}
+use Rattle.rc_tfile.specs.TableText.{ItemFits}
 use Rattle.rc_tfile.proofs.Ahead.{head_within}
 use Rattle.rc_tfile.proofs.Unfit.{not_due}
 
@@ -49,7 +49,7 @@ change_within : (x : Pos) (tomb : Option Tomb) → IsItem (ChangeItem x tomb) �
 change_within x tomb is = omega (arith, length-append (pos_code x) (optional_code tomb_code tomb), key_within x.prefix (key_limits x.prefix is.0), tomb_within tomb)
 
 -- an item up to the stop is no longer than what is read at once
-pub fits_within : (schema : Lists) (before : Before) (x : Item) → (place before ≡ Behind → ⊥) → Fits schema before x → length (item_code x) ≤ 65541
+pub fits_within : (schema : SchemaValue) (before : ItemsBefore) (x : Item) → (item_place before ≡ Behind → ⊥) → ItemFits schema before x → length (item_code x) ≤ 65541
 fits_within schema before (HeadItem z) h f = head_within z f.0
 fits_within schema before (PartItem key pt statics) h f = part_within key pt statics f.0
 fits_within schema before (RowItem key row) h f = row_item_within key row f.0

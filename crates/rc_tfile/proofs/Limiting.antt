@@ -8,8 +8,8 @@ use Rattle.rc_mutation.specs.declared.mutations.Mutation.{Mutation}
 use Rattle.rc_mutation.specs.Source.{IsMutation}
 use Rattle.rc_mutation.specs.Fragments.{fragments, static_fragment, is_written}
 use Rattle.rc_writes.specs.Limits.{IsWithinLimits}
-use Rattle.rc_canon.specs.Canonical.{clustered}
-use Rattle.rc_tfile.specs.Limits.{FragFits}
+use Rattle.rc_mutation.specs.Canonical.{rows_and_changes}
+use Rattle.rc_tfile.specs.calls.Limits.{FragFits}
 use Rattle.rc_tfile.specs.laws.Follows.{all_of, all_append}
 use Rattle.rc_tfile.specs.laws.Standing.{clustered_so}
 
@@ -20,6 +20,6 @@ pub fragments_fit : (m : Mutation) → IsMutation m → IsWithinLimits m → All
 unfolding fragments
 fragments_fit m is h =
     let front = frag.Start m.pt ∷ static_fragment m.statics in
-    let mid = clustered m in
+    let mid = rows_and_changes m in
     let middle : AllByRecursion FragFits mid = clustered_so FragFits m is h.rows (λ k d lt. (let q = h.ranges k d lt in (λ tomb. q.0, λ tomb. q.1))) in
     all_of FragFits ((front ++ mid) ++ frag.End ∷ []) (all_append FragFits (front ++ mid) (frag.End ∷ []) (all_append FragFits front mid (tt, statics_fit m.statics) middle) (tt, tt))

@@ -8,7 +8,7 @@ use Rattle.rc_outside.specs.Files.{Files}
 use Rattle.rc_cell.specs.declared.rows.Row.{Row}
 use Rattle.rc_cell.specs.declared.writes.Tomb.{Tomb}
 use Rattle.rc_cell.specs.Columns.{ascending}
-use Rattle.rc_schema.specs.Lists.{Lists}
+use Rattle.rc_schema.specs.SchemaValue.{SchemaValue}
 use Rattle.rc_mutation.specs.declared.fragments.Frag.{Frag}
 use Rattle.rc_mutation.specs.declared.fragments.Frag.TheVariants as frag
 use Rattle.rc_mutation.specs.declared.mutations.Mutation.{Mutation}
@@ -16,16 +16,16 @@ use Rattle.rc_mutation.specs.declared.mutations.Partition.{Partition}
 use Rattle.rc_mutation.specs.Source.{IsMutation}
 use Rattle.rc_mutation.specs.Statics.{has_cells_alone}
 use Rattle.rc_mutation.specs.Fragments.{fragments, static_fragment, is_written}
-use Rattle.rc_canon.specs.Canonical.{IsCanonicalList, IsMutationOf}
-use Rattle.rc_canon.specs.Laws.Rebuilt.{is-rebuilt}
+use Rattle.rc_mutation.specs.Canonical.{IsCanonicalList, IsMutationOf}
+use Rattle.rc_mutation.specs.laws.Rebuilt.{is-rebuilt}
 use Rattle.rc_tfile.specs.declared.info.PartRef.{PartRef}
 use Rattle.rc_tfile.specs.declared.outline.Outline.{Outline}
 use Rattle.rc_tfile.specs.Items.{HeadItem, PartItem, RowItem, ChangeItem, EndItem, StopItem, EntryItem, BlockItem, TailItem}
-use Rattle.rc_tfile.specs.Before.{Before, Place, Start, Between, Inside, Behind, place, text, followed_by, last_pos, in_force}
+use Rattle.rc_tfile.specs.Before.{ItemsBefore, ItemPlace, Start, Between, Inside, Behind, item_place, text, followed_by, last_pos, tomb_in_force}
 use Rattle.rc_tfile.specs.Blocks.{ending}
-use Rattle.rc_tfile.specs.TableText.{AllFit, frag_items, part_items, body}
+use Rattle.rc_tfile.specs.TableText.{AllFit, frag_items, part_items, items_to_stop}
 use Rattle.rc_tfile.specs.Info.{refs, refs_from}
-use Rattle.rc_tfile.specs.Outlined.{IsListed}
+use Rattle.rc_tfile.specs.calls.Outlined.{IsListed}
 use Rattle.rc_tfile.specs.Checking.{IsContent}
 use Rattle.rc_tfile.specs.Walking.{ChecksTable, IsWhole}
 use Rattle.rc_tfile.specs.laws.Follows.{followed_by-append, all_append, all_of}
@@ -35,13 +35,13 @@ abbrev HoldsTogether : Partition → Type 0
 HoldsTogether p = IsMutation p.change
 
 -- whole partitions stand behind the head
-record Whole (schema : Lists) (before : Before) : Type 0 where
+record Whole (schema : SchemaValue) (before : ItemsBefore) : Type 0 where
   parts : List Partition
   hold : AllByRecursion HoldsTogether parts
   whole : before ≡ parts_of schema parts
 
 -- behind them stands the begin of one more: its part, and rows and changes that can be completed to a canonical list
-record Partial (schema : Lists) (before : Before) : Type 0 where
+record Partial (schema : SchemaValue) (before : ItemsBefore) : Type 0 where
   parts : List Partition
   hold : AllByRecursion HoldsTogether parts
   key : List ℕ
@@ -51,15 +51,15 @@ record Partial (schema : Lists) (before : Before) : Type 0 where
   whole : before ≡ followed_by (PartItem key pt statics ∷ parts_of schema parts) (flat_map frag_items frags)
   ascends : IsTrue (ascending statics.cells)
   alone : IsTrue (has_cells_alone statics)
-  goes : (more : List Frag) → IsCanonicalList (in_force before) (last_pos before) more → IsCanonicalList None None (frags ++ more)
+  goes : (more : List Frag) → IsCanonicalList (tomb_in_force before) (last_pos before) more → IsCanonicalList None None (frags ++ more)
 
-abbrev Shape : Place → Lists → Before → Type 0
+abbrev Shape : ItemPlace → SchemaValue → ItemsBefore → Type 0
 Shape Start schema before = ⊤
 Shape Between schema before = Whole schema before
 Shape Inside schema before = Partial schema before
 Shape Behind schema before = ⊤
 
-one_frag : (before : Before) (fs : List Frag) (f : Frag) → followed_by before (flat_map frag_items (fs ++ f ∷ [])) ≡ followed_by (followed_by before (flat_map frag_items fs)) (flat_map frag_items (f ∷ []))
+one_frag : (before : ItemsBefore) (fs : List Frag) (f : Frag) → followed_by before (flat_map frag_items (fs ++ f ∷ [])) ≡ followed_by (followed_by before (flat_map frag_items fs)) (flat_map frag_items (f ∷ []))
 one_frag before fs f = ap (followed_by before) (flat_map-append frag_items fs (f ∷ [])) ∙ followed_by-append before (flat_map frag_items fs) (flat_map frag_items (f ∷ []))
 
 no_items : (row : Row) → flat_map frag_items (static_fragment row) ≡ []
@@ -73,11 +73,11 @@ part_items_are key pt statics fs m is =
     ap (flat_map frag_items) is.whole ∙ flat_map-append frag_items (front ++ fs) (frag.End ∷ []) ∙ ap (λ t. t ++ EndItem ∷ []) (flat_map-append frag_items front fs ∙ ap (λ t. t ++ flat_map frag_items fs) (no_items statics)) in
     λ i. PartItem key (is.pt i) (is.statics i) ∷ items i
 
-one_part : (schema : Lists) (parts : List Partition) (p : Partition) → parts_of schema (parts ++ p ∷ []) ≡ followed_by (parts_of schema parts) (part_items p)
+one_part : (schema : SchemaValue) (parts : List Partition) (p : Partition) → parts_of schema (parts ++ p ∷ []) ≡ followed_by (parts_of schema parts) (part_items p)
 one_part schema parts p =
     ap (followed_by (HeadItem schema ∷ [])) (flat_map-append part_items parts (p ∷ []) ∙ ap (λ t. flat_map part_items parts ++ t) (append-nil (part_items p))) ∙ followed_by-append (HeadItem schema ∷ []) (flat_map part_items parts) (part_items p)
 
-ended : (schema : Lists) (before : Before) → in_force before ≡ None → Partial schema before → Whole schema (EndItem ∷ before)
+ended : (schema : SchemaValue) (before : ItemsBefore) → tomb_in_force before ≡ None → Partial schema before → Whole schema (EndItem ∷ before)
 ended schema before none p =
     let canonical : IsCanonicalList None None p.frags = subst (λ fs. IsCanonicalList None None fs) (append-nil p.frags) (p.goes [] none) in
     let m = is-rebuilt p.pt p.statics p.frags p.ascends p.alone canonical in
@@ -88,7 +88,7 @@ ended schema before none p =
           ∙ followed_by-append (PartItem p.key p.pt p.statics ∷ parts_of schema p.parts) (flat_map frag_items p.frags) (EndItem ∷ []) ∙ ap (λ b. EndItem ∷ b) (sym p.whole));
     }
 
-shape : (schema : Lists) (before : Before) → AllFit schema before → Shape (place before) schema before
+shape : (schema : SchemaValue) (before : ItemsBefore) → AllFit schema before → Shape (item_place before) schema before
 shape schema [] fit = tt
 shape schema (HeadItem other ∷ before) fit = record { parts = []; hold = tt; whole = λ i. HeadItem (fit.1.1.1 i) ∷ fit.1.1.0 i }
 shape schema (PartItem key pt statics ∷ before) fit =
@@ -137,17 +137,17 @@ shape schema (BlockItem b ∷ before) fit = tt
 shape schema (TailItem off parts ∷ before) fit = tt
 
 -- items that fit up to the stop are those of some partitions
-pub parts_found : (schema : Lists) (before : Before) → AllFit schema (StopItem ∷ before) → (parts : List Partition) × (StopItem ∷ before ≡ body schema parts) × All HoldsTogether parts
+pub parts_found : (schema : SchemaValue) (before : ItemsBefore) → AllFit schema (StopItem ∷ before) → (parts : List Partition) × (StopItem ∷ before ≡ items_to_stop schema parts) × All HoldsTogether parts
 parts_found schema before fit =
     let w : Whole schema before = subst (λ p. Shape p schema before) fit.1.1 (shape schema before fit.0) in
     (w.parts, ap (λ b. StopItem ∷ b) w.whole ∙ sym (body_is schema w.parts), all_of HoldsTogether w.parts w.hold)
 
 -- so a file that ends with what must come behind them is their table
-pub table_found : (files : Option Files) (k n : ℕ) (schema : Lists) (before : Before) (o : Outline) (parts : List PartRef) (bytes : List ℕ) → AllFit schema (StopItem ∷ before) → IsListed (StopItem ∷ before) o → IsWhole files k schema (StopItem ∷ before)
+pub table_found : (files : Option Files) (k n : ℕ) (schema : SchemaValue) (before : ItemsBefore) (o : Outline) (parts : List PartRef) (bytes : List ℕ) → AllFit schema (StopItem ∷ before) → IsListed (StopItem ∷ before) o → IsWhole files k schema (StopItem ∷ before)
     → parts ≡ refs_from o.off o.listed.items → IsContent files k bytes → ChecksTable bytes n schema (Ok (record { number = n; parts = parts }))
 table_found files k n schema before o parts bytes fit is whole same content =
     let found = parts_found schema before fit in
-    let listed : parts ≡ refs (body schema found.0) = same ∙ (λ i. refs_from (is.off i) (is.listed i)) ∙ ap refs found.1 in (
+    let listed : parts ≡ refs (items_to_stop schema found.0) = same ∙ (λ i. refs_from (is.off i) (is.listed i)) ∙ ap refs found.1 in (
       found.0,
       found.2,
       record {

@@ -7,66 +7,66 @@ use Rattle.rc_position.specs.Position.{bytes_cmp, row_pos, IsBefore}
 use Rattle.rc_tfile.specs.Items.{Item, HeadItem, PartItem, RowItem, ChangeItem, EndItem, StopItem, EntryItem, BlockItem, TailItem, item_code}
 
 -- items, the nearest first
-abbrev pub Before : Type 0
-Before = List Item
+abbrev pub ItemsBefore : Type 0
+ItemsBefore = List Item
 
 -- the bytes of the items, in the order of the file
-abbrev pub text : Before → List ℕ
+abbrev pub text : ItemsBefore → List ℕ
 text [] = []
 text (x ∷ before) = text before ++ item_code x
 
 -- where the next item begins
-abbrev pub offset : Before → ℕ
+abbrev pub offset : ItemsBefore → ℕ
 offset before = length (text before)
 
 -- items, and others that come behind them in this order
-abbrev pub followed_by : Before → List Item → Before
+abbrev pub followed_by : ItemsBefore → List Item → ItemsBefore
 followed_by before [] = before
 followed_by before (x ∷ xs) = followed_by (x ∷ before) xs
 
 -- what may come next: the head; a part or the stop; a fragment or the end of a partition; the directory and the tail
-pub data Place : Type 0 where
-  Start : Place
-  Between : Place
-  Inside : Place
-  Behind : Place
+pub data ItemPlace : Type 0 where
+  Start : ItemPlace
+  Between : ItemPlace
+  Inside : ItemPlace
+  Behind : ItemPlace
 
 -- where the items lead, by the nearest one
-abbrev pub place : Before → Place
-place [] = Start
-place (HeadItem schema ∷ before) = Between
-place (PartItem key pt statics ∷ before) = Inside
-place (RowItem key row ∷ before) = Inside
-place (ChangeItem x tomb ∷ before) = Inside
-place (EndItem ∷ before) = Between
-place (StopItem ∷ before) = Behind
-place (EntryItem key off blocks ∷ before) = Behind
-place (BlockItem b ∷ before) = Behind
-place (TailItem off parts ∷ before) = Behind
+abbrev pub item_place : ItemsBefore → ItemPlace
+item_place [] = Start
+item_place (HeadItem schema ∷ before) = Between
+item_place (PartItem key pt statics ∷ before) = Inside
+item_place (RowItem key row ∷ before) = Inside
+item_place (ChangeItem x tomb ∷ before) = Inside
+item_place (EndItem ∷ before) = Between
+item_place (StopItem ∷ before) = Behind
+item_place (EntryItem key off blocks ∷ before) = Behind
+item_place (BlockItem b ∷ before) = Behind
+item_place (TailItem off parts ∷ before) = Behind
 
 -- the key of the nearest partition
-abbrev pub last_key : Before → Option (List ℕ)
+abbrev pub last_key : ItemsBefore → Option (List ℕ)
 last_key [] = None
 last_key (PartItem key pt statics ∷ before) = Some key
 last_key (x ∷ before) = last_key before
 
 -- where the nearest fragment of the same partition stands
-abbrev pub last_pos : Before → Option Pos
+abbrev pub last_pos : ItemsBefore → Option Pos
 last_pos (RowItem key row ∷ before) = Some (row_pos key)
 last_pos (ChangeItem x tomb ∷ before) = Some x
 last_pos before = None
 
 -- the tombstone in force: that of the nearest change of the partition, none where it has none yet
-abbrev pub in_force : Before → Option Tomb
-in_force [] = None
-in_force (ChangeItem x tomb ∷ before) = tomb
-in_force (RowItem key row ∷ before) = in_force before
-in_force (x ∷ before) = None
+abbrev pub tomb_in_force : ItemsBefore → Option Tomb
+tomb_in_force [] = None
+tomb_in_force (ChangeItem x tomb ∷ before) = tomb
+tomb_in_force (RowItem key row ∷ before) = tomb_in_force before
+tomb_in_force (x ∷ before) = None
 
 -- a partition's key is greater than the one before, and a fragment's position than that of the fragment before
-abbrev pub IsNextKey : Before → List ℕ → Type 0
+abbrev pub IsNextKey : ItemsBefore → List ℕ → Type 0
 IsNextKey before key = IfSome (last_key before) (λ last. bytes_cmp last key ≡ Less)
 
 -- the position comes after the last one
-abbrev pub IsNextPos : Before → Pos → Type 0
+abbrev pub IsNextPos : ItemsBefore → Pos → Type 0
 IsNextPos before x = IfSome (last_pos before) (λ last. IsBefore last x)

@@ -5,16 +5,16 @@ use Rattle.std.specs.Option.{unwrap_or}
 use Rattle.rc_position.specs.declared.positions.Pos.{Pos}
 use Rattle.rc_position.specs.Position.{row_pos}
 use Rattle.rc_tfile.specs.declared.blocks.Block.{Block}
-use Rattle.rc_tfile.specs.Items.{Item, HeadItem, PartItem, RowItem, ChangeItem, EndItem, StopItem, EntryItem, BlockItem, TailItem, size_of}
-use Rattle.rc_tfile.specs.Before.{Before, offset, last_key, in_force}
+use Rattle.rc_tfile.specs.Items.{Item, HeadItem, PartItem, RowItem, ChangeItem, EndItem, StopItem, EntryItem, BlockItem, TailItem, bytes_of_item}
+use Rattle.rc_tfile.specs.Before.{ItemsBefore, offset, last_key, tomb_in_force}
 
 -- the longest block of more than one fragment, in bytes
 abbrev pub block_limit : ℕ
 block_limit = 4096
 
 -- a block of one fragment, which stands behind these items at a position
-abbrev pub begun : Before → Item → Pos → Block
-begun before x first = record { off = offset before; len = size_of x; tomb = in_force before; first = first }
+abbrev pub new_block : ItemsBefore → Item → Pos → Block
+new_block before x first = record { off = offset before; len = bytes_of_item x; tomb = tomb_in_force before; first = first }
 
 -- a fragment joins the last block, unless there is none or it would make the block longer than the limit; then its own block begins
 abbrev pub with_fragment : List Block → Block → List Block
@@ -23,49 +23,49 @@ with_fragment (b ∷ []) new = if nat_le (b.len + new.len) block_limit then reco
 with_fragment (b ∷ c ∷ bs) new = b ∷ with_fragment (c ∷ bs) new
 
 -- the blocks of the partition so far: its rows and changes grouped in order
-abbrev pub blocks : Before → List Block
+abbrev pub blocks : ItemsBefore → List Block
 blocks [] = []
-blocks (RowItem key row ∷ before) = with_fragment (blocks before) (begun before (RowItem key row) (row_pos key))
-blocks (ChangeItem x tomb ∷ before) = with_fragment (blocks before) (begun before (ChangeItem x tomb) x)
+blocks (RowItem key row ∷ before) = with_fragment (blocks before) (new_block before (RowItem key row) (row_pos key))
+blocks (ChangeItem x tomb ∷ before) = with_fragment (blocks before) (new_block before (ChangeItem x tomb) x)
 blocks (x ∷ before) = []
 
 -- where the nearest part begins
-abbrev pub part_offset : Before → ℕ
+abbrev pub part_offset : ItemsBefore → ℕ
 part_offset [] = 0
 part_offset (PartItem key pt statics ∷ before) = offset before
 part_offset (x ∷ before) = part_offset before
 
 -- what the directory lists of a partition: its key, the offset of its part, and its blocks
-pub record Entry : Type 0 where
+pub record DirectoryEntry : Type 0 where
   pub key : List ℕ
   pub off : ℕ
   pub blocks : List Block
 
 -- the entry of the nearest partition
-abbrev pub entry : Before → Entry
-entry before = record { key = unwrap_or (last_key before) []; off = part_offset before; blocks = blocks before }
+abbrev pub nearest_entry : ItemsBefore → DirectoryEntry
+nearest_entry before = record { key = unwrap_or (last_key before) []; off = part_offset before; blocks = blocks before }
 
 -- the entries of the partitions that have ended, in the order of the file
-abbrev pub entries : Before → List Entry
+abbrev pub entries : ItemsBefore → List DirectoryEntry
 entries [] = []
-entries (EndItem ∷ before) = entries before ++ entry before ∷ []
+entries (EndItem ∷ before) = entries before ++ nearest_entry before ∷ []
 entries (x ∷ before) = entries before
 
 -- a partition in the directory, followed by its blocks
-abbrev pub entry_items : Entry → List Item
+abbrev pub entry_items : DirectoryEntry → List Item
 entry_items e = EntryItem e.key e.off (length e.blocks) ∷ list_map BlockItem e.blocks
 
 -- what must come behind the stop: the directory of all partitions, and the tail
-abbrev pub ending : Before → List Item
+abbrev pub ending : ItemsBefore → List Item
 ending before = flat_map entry_items (entries before) ++ TailItem (offset before) (length (entries before)) ∷ []
 
 -- a list without its first item
-abbrev pub rest : List Item → List Item
-rest [] = []
-rest (x ∷ xs) = xs
+abbrev pub rest_of_items : List Item → List Item
+rest_of_items [] = []
+rest_of_items (x ∷ xs) = xs
 
 -- the items that must still come, behind the stop
-abbrev pub due : Before → List Item
+abbrev pub due : ItemsBefore → List Item
 due [] = []
 due (HeadItem schema ∷ before) = []
 due (PartItem key pt statics ∷ before) = []
@@ -73,6 +73,6 @@ due (RowItem key row ∷ before) = []
 due (ChangeItem x tomb ∷ before) = []
 due (EndItem ∷ before) = []
 due (StopItem ∷ before) = ending (StopItem ∷ before)
-due (EntryItem key off blocks ∷ before) = rest (due before)
-due (BlockItem b ∷ before) = rest (due before)
-due (TailItem off parts ∷ before) = rest (due before)
+due (EntryItem key off blocks ∷ before) = rest_of_items (due before)
+due (BlockItem b ∷ before) = rest_of_items (due before)
+due (TailItem off parts ∷ before) = rest_of_items (due before)

@@ -3,16 +3,16 @@ use Rattle.std.specs.Prelude.{◌≡◌, ℕ, ◌+◌, ◌/◌, ◌≤◌, List,
 use Rattle.std.specs.FinMap as map
 use Rattle.rc_outside.specs.Files.{Files}
 use Rattle.rc_outside.specs.Faults.{Rose}
-use Rattle.rc_schema.specs.Lists.{Lists}
+use Rattle.rc_schema.specs.SchemaValue.{SchemaValue}
 use Rattle.rc_tfile.specs.declared.checking.CheckErr.{CheckErr}
 use Rattle.rc_tfile.specs.declared.checking.CheckErr.TheVariants.{Fault, Damaged, OtherSchema, NoMemory}
 use Rattle.rc_tfile.specs.declared.outline.Outline.{Outline}
 use Rattle.rc_tfile.specs.declared.stepping.Next.{Next}
 use Rattle.rc_tfile.specs.declared.stepping.Next.TheVariants as next
-use Rattle.rc_tfile.specs.Items.{Item, HeadItem, StopItem, item_code, size_of, IsItem}
-use Rattle.rc_tfile.specs.Before.{Before}
-use Rattle.rc_tfile.specs.TableText.{Fits}
-use Rattle.rc_tfile.specs.Outlined.{IsOutline, IsListed}
+use Rattle.rc_tfile.specs.Items.{Item, HeadItem, StopItem, item_code, bytes_of_item, IsItem}
+use Rattle.rc_tfile.specs.Before.{ItemsBefore}
+use Rattle.rc_tfile.specs.TableText.{ItemFits}
+use Rattle.rc_tfile.specs.calls.Outlined.{IsOutline, IsListed}
 
 -- file n has these bytes, where the files are told
 abbrev pub IsContent : Option Files → ℕ → List ℕ → Type 0
@@ -20,46 +20,42 @@ IsContent None n bytes = ⊥
 IsContent (Some files) n bytes = map.get files n ≡ Some bytes
 
 -- the bytes begin with the head of a schema
-abbrev pub HasHead : List ℕ → Lists → Type 0
+abbrev pub HasHead : List ℕ → SchemaValue → Type 0
 HasHead bytes schema = (more : List ℕ) × IsItem (HeadItem schema) × (bytes ≡ item_code (HeadItem schema) ++ more)
 
 -- what must be answered of the head of these bytes, unless the store fails or memory runs out
-abbrev pub ChecksHead : List ℕ → Result Lists CheckErr → Type 0
+abbrev pub ChecksHead : List ℕ → Result SchemaValue CheckErr → Type 0
 ChecksHead bytes (Ok schema) = HasHead bytes schema
-ChecksHead bytes (Err (Damaged off)) = (off ≡ 0) × ((schema : Lists) → HasHead bytes schema → ⊥)
+ChecksHead bytes (Err (Damaged off)) = (off ≡ 0) × ((schema : SchemaValue) → HasHead bytes schema → ⊥)
 ChecksHead bytes (Err OtherSchema) = ⊥
 ChecksHead bytes (Err Fault) = ⊤
 ChecksHead bytes (Err NoMemory) = ⊤
 
 -- the same of a head and its length
-abbrev pub ChecksSized : List ℕ → Result (Lists × ℕ) CheckErr → Type 0
-ChecksSized bytes (Ok found) = HasHead bytes found.0 × (found.1 ≡ size_of (HeadItem found.0))
+abbrev pub ChecksSized : List ℕ → Result (SchemaValue × ℕ) CheckErr → Type 0
+ChecksSized bytes (Ok found) = HasHead bytes found.0 × (found.1 ≡ bytes_of_item (HeadItem found.0))
 ChecksSized bytes (Err e) = ChecksHead bytes (Err e)
 
 -- the store failed, or memory ran out
-abbrev pub IsOutside : CheckErr → Type 0
-IsOutside Fault = ⊤
-IsOutside (Damaged off) = ⊥
-IsOutside OtherSchema = ⊥
-IsOutside NoMemory = ⊤
+abbrev pub IsHostError : CheckErr → Type 0
+IsHostError Fault = ⊤
+IsHostError (Damaged off) = ⊥
+IsHostError OtherSchema = ⊥
+IsHostError NoMemory = ⊤
 
 -- so much holds of an error that is a fault
-abbrev pub OnFault : CheckErr → Type 0 → Type 0
-OnFault Fault P = P
-OnFault (Damaged off) P = ⊤
-OnFault OtherSchema P = ⊤
-OnFault NoMemory P = ⊤
-
--- the count of faults does not fall, and rose where a fault is answered
-abbrev pub RisesIfFault : {T : Type 0} → Result T CheckErr → (before now : ℕ) → Type 0
-RisesIfFault result before now = (before ≤ now) × IfErr result (λ e. OnFault e (Rose before now))
+abbrev pub OnCheckFault : CheckErr → Type 0 → Type 0
+OnCheckFault Fault P = P
+OnCheckFault (Damaged off) P = ⊤
+OnCheckFault OtherSchema P = ⊤
+OnCheckFault NoMemory P = ⊤
 
 -- the count of asked ranges rises by at most one for each 2048 bytes of the file, and two
 abbrev pub AsksFew : (before now : ℕ) → List ℕ → Type 0
 AsksFew before now bytes = now ≤ before + (length bytes / 2048 + 2)
 
 -- what the next item was, of those that stand behind others
-abbrev pub Steps : Lists → Before → List ℕ → Outline → Next → Type 0
-Steps schema before bytes o (next.Fits size) = (x : Item) × (more : List ℕ) × Fits schema before x × (bytes ≡ item_code x ++ more) × (size ≡ size_of x) × IsOutline (x ∷ before) o
-Steps schema before bytes o next.Stops = (more : List ℕ) × Fits schema before StopItem × (bytes ≡ item_code StopItem ++ more) × IsListed (StopItem ∷ before) o
-Steps schema before bytes o next.Unfit = (x : Item) (more : List ℕ) → Fits schema before x → bytes ≡ item_code x ++ more → ⊥
+abbrev pub IsNextItem : SchemaValue → ItemsBefore → List ℕ → Outline → Next → Type 0
+IsNextItem schema before bytes o (next.Fits size) = (x : Item) × (more : List ℕ) × ItemFits schema before x × (bytes ≡ item_code x ++ more) × (size ≡ bytes_of_item x) × IsOutline (x ∷ before) o
+IsNextItem schema before bytes o next.Stops = (more : List ℕ) × ItemFits schema before StopItem × (bytes ≡ item_code StopItem ++ more) × IsListed (StopItem ∷ before) o
+IsNextItem schema before bytes o next.Unfit = (x : Item) (more : List ℕ) → ItemFits schema before x → bytes ≡ item_code x ++ more → ⊥

@@ -5,7 +5,7 @@ use Rattle.rc_cell.specs.declared.rows.Row.{Row}
 use Rattle.rc_cell.specs.declared.writes.Tomb.{Tomb}
 use Rattle.rc_position.specs.declared.comps.Comp.{Comp}
 use Rattle.rc_position.specs.declared.positions.Pos.{Pos}
-use Rattle.rc_schema.specs.Lists.{Lists, is_schema}
+use Rattle.rc_schema.specs.SchemaValue.{SchemaValue, is_schema}
 use Rattle.rc_schema.specs.SchemaText.{schema_text}
 use Rattle.rc_rowcode.specs.Spelling.{length_code, time_code, optional_code, tomb_code, key_code, pos_code, row_code, IsTomb, IsKey, IsPos, IsCodedRow}
 use Rattle.rc_tfile.specs.declared.blocks.Block.{Block}
@@ -14,7 +14,7 @@ use Rattle.rc_tfile.specs.declared.blocks.Block.{Block}
 -- behind the last partition; the directory's items, of a partition (key, offset of its part, number of its blocks) and of a block; the tail
 -- (offset of the first directory item, number of partitions)
 pub data Item : Type 0 where
-  HeadItem : Lists → Item
+  HeadItem : SchemaValue → Item
   PartItem : List ℕ → Option Tomb → Row → Item
   RowItem : List Comp → Row → Item
   ChangeItem : Pos → Option Tomb → Item
@@ -45,8 +45,8 @@ item_code (BlockItem b) = 7 ∷ (offset_code b.off ++ (time_code b.len ++ (optio
 item_code (TailItem off parts) = offset_code off ++ (time_code parts ++ codes "RCTE")
 
 -- how many bytes an item takes
-abbrev pub size_of : Item → ℕ
-size_of x = length (item_code x)
+abbrev pub bytes_of_item : Item → ℕ
+bytes_of_item x = length (item_code x)
 
 -- a partition key has 1 to 64 bytes
 abbrev pub IsPartKey : List ℕ → Type 0

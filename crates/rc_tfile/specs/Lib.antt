@@ -1,13 +1,11 @@
+pub mod calls
 pub mod Items
 pub mod Before
 pub mod Blocks
 pub mod TableText
 pub mod Info
-pub mod Outlined
 pub mod Stored
-pub mod Limits
 pub mod Reading
 pub mod Checking
-pub mod Windows
 pub mod Walking
 pub mod laws

@@ -1,7 +1,7 @@
 -- What reading the front of bytes answers.
 use Rattle.std.specs.Prelude.{◌≡◌, ◌<◌, ◌^◌, ℕ, List, ◌++◌, length, drop, Option, Some, None, IfSome, IsTrue}
 use Rattle.rc_rowcode.specs.Spelling.{length_code, optional_code, tomb_code, row_code, IsTomb, IsCodedRow}
-use Rattle.rc_schema.specs.Lists.{Lists, is_schema}
+use Rattle.rc_schema.specs.SchemaValue.{SchemaValue, is_schema}
 use Rattle.rc_schema.specs.SchemaText.{schema_text}
 use Rattle.rc_mutation.specs.declared.fragments.Head.{Head}
 use Rattle.rc_tfile.specs.declared.reading.Part.{Part}
@@ -33,9 +33,9 @@ abbrev pub IsPart : Part → Type 0
 IsPart p = IsPartKey p.key × IsHead p.head
 
 -- a schema's text behind its length
-abbrev pub text_code : Lists → List ℕ
+abbrev pub text_code : SchemaValue → List ℕ
 text_code schema = length_code (length (schema_text schema)) ++ schema_text schema
 
 -- the schema is one, and its text has fewer than 2^16 bytes
-abbrev pub HasText : Lists → Type 0
+abbrev pub HasText : SchemaValue → Type 0
 HasText schema = IsTrue (is_schema schema) × (length (schema_text schema) < 2 ^ 16)

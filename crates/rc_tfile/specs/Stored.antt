@@ -17,13 +17,9 @@ abbrev pub with_file : Option Files → ℕ → List ℕ → Option Files
 with_file files n bytes = option_map (λ told. map.insert told n bytes) files
 
 -- so much holds of an error that is a fault
-abbrev pub OnFault : WriteErr → Type 0 → Type 0
-OnFault Fault P = P
-OnFault NoMemory P = ⊤
-
--- the count of faults does not fall, and rose where a fault is answered
-abbrev pub RisesIfFault : {T : Type 0} → Result T WriteErr → (before now : ℕ) → Type 0
-RisesIfFault result before now = (before ≤ now) × IfErr result (λ e. OnFault e (Rose before now))
+abbrev pub OnWriteFault : WriteErr → Type 0 → Type 0
+OnWriteFault Fault P = P
+OnWriteFault NoMemory P = ⊤
 
 -- what the store refused
 abbrev pub write_err_of : StoreErr → WriteErr

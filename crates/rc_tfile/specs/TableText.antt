@@ -1,6 +1,6 @@
 -- Which bytes are a table, and where the first damage of other bytes is.
---     MayStand, Fits     when an item fits where it stands, given what stands before it
---     table, IsTable     the items of partitions; the bytes that are their spellings, each of which fits
+--     MayStand, ItemFits     when an item fits where it stands, given what stands before it
+--     whole_table, IsTable     the items of partitions; the bytes that are their spellings, each of which fits
 --     FirstDamage        the first item that does not fit or is not whole begins at an offset
 --     IsOtherSchema      a well-formed head of another schema
 --     PartsFit           the partitions that a table can hold
@@ -9,40 +9,40 @@ use Rattle.std.specs.List.{flat_map}
 use Rattle.std.specs.FinMap.{is_sorted}
 use Rattle.rc_cell.specs.Winner.{empty_row}
 use Rattle.rc_position.specs.Position.{bytes_cmp, row_pos}
-use Rattle.rc_schema.specs.Lists.{Lists}
+use Rattle.rc_schema.specs.SchemaValue.{SchemaValue}
 use Rattle.rc_mutation.specs.declared.fragments.Frag.{Frag}
 use Rattle.rc_mutation.specs.declared.fragments.Frag.TheVariants as frag
 use Rattle.rc_mutation.specs.declared.mutations.Partition.{Partition}
 use Rattle.rc_mutation.specs.Fragments.{fragments}
-use Rattle.rc_writes.specs.Allowed.{IsStaticOf, IsRowOf, IsBoundOf, ChangeFits}
+use Rattle.rc_writes.specs.Allowed.{IsStaticOf, IsRowOf, IsRangeBound, ChangeFits}
 use Rattle.rc_tfile.specs.Items.{Item, HeadItem, PartItem, RowItem, ChangeItem, EndItem, StopItem, EntryItem, BlockItem, TailItem, item_code, IsItem}
-use Rattle.rc_tfile.specs.Before.{Before, text, offset, followed_by, Between, Inside, place, in_force, IsNextKey, IsNextPos}
+use Rattle.rc_tfile.specs.Before.{ItemsBefore, text, offset, followed_by, Between, Inside, item_place, tomb_in_force, IsNextKey, IsNextPos}
 use Rattle.rc_tfile.specs.Blocks.{ending, due}
 
 -- the item is the next of those that must come
-abbrev pub IsDue : Before → Item → Type 0
+abbrev pub IsDue : ItemsBefore → Item → Type 0
 IsDue before x = (more : List Item) × (due before ≡ x ∷ more)
 
 -- an item may stand behind others
-abbrev pub MayStand : Lists → Before → Item → Type 0
+abbrev pub MayStand : SchemaValue → ItemsBefore → Item → Type 0
 MayStand schema before (HeadItem other) = (before ≡ []) × (other ≡ schema)
-MayStand schema before (PartItem key pt statics) = (place before ≡ Between) × IsNextKey before key × IsStaticOf schema statics
-MayStand schema before (RowItem key row) = (place before ≡ Inside) × IsNextPos before (row_pos key) × IsRowOf schema key row × (row ≢ empty_row)
-MayStand schema before (ChangeItem x tomb) = (place before ≡ Inside) × IsNextPos before x × IsBoundOf schema x × (tomb ≢ in_force before)
-MayStand schema before EndItem = (place before ≡ Inside) × (in_force before ≡ None)
-MayStand schema before StopItem = place before ≡ Between
+MayStand schema before (PartItem key pt statics) = (item_place before ≡ Between) × IsNextKey before key × IsStaticOf schema statics
+MayStand schema before (RowItem key row) = (item_place before ≡ Inside) × IsNextPos before (row_pos key) × IsRowOf schema key row × (row ≢ empty_row)
+MayStand schema before (ChangeItem x tomb) = (item_place before ≡ Inside) × IsNextPos before x × IsRangeBound schema x × (tomb ≢ tomb_in_force before)
+MayStand schema before EndItem = (item_place before ≡ Inside) × (tomb_in_force before ≡ None)
+MayStand schema before StopItem = item_place before ≡ Between
 MayStand schema before (EntryItem key off blocks) = IsDue before (EntryItem key off blocks)
 MayStand schema before (BlockItem b) = IsDue before (BlockItem b)
 MayStand schema before (TailItem off parts) = IsDue before (TailItem off parts)
 
 -- an item fits where it stands
-abbrev pub Fits : Lists → Before → Item → Type 0
-Fits schema before x = IsItem x × MayStand schema before x
+abbrev pub ItemFits : SchemaValue → ItemsBefore → Item → Type 0
+ItemFits schema before x = IsItem x × MayStand schema before x
 
 -- each item fits where it stands
-abbrev pub AllFit : Lists → Before → Type 0
+abbrev pub AllFit : SchemaValue → ItemsBefore → Type 0
 AllFit schema [] = ⊤
-AllFit schema (x ∷ before) = AllFit schema before × Fits schema before x
+AllFit schema (x ∷ before) = AllFit schema before × ItemFits schema before x
 
 -- a fragment's item: the start and the static row stand in the part
 abbrev pub frag_items : Frag → List Item
@@ -57,43 +57,43 @@ abbrev pub part_items : Partition → List Item
 part_items p = PartItem p.key p.change.pt p.change.statics ∷ flat_map frag_items (fragments p.change)
 
 -- the items of a schema and partitions up to the stop
-abbrev pub body : Lists → List Partition → Before
-body schema parts = followed_by [] (HeadItem schema ∷ (flat_map part_items parts ++ StopItem ∷ []))
+abbrev pub items_to_stop : SchemaValue → List Partition → ItemsBefore
+items_to_stop schema parts = followed_by [] (HeadItem schema ∷ (flat_map part_items parts ++ StopItem ∷ []))
 
 -- all items of a table
-abbrev pub table : Lists → List Partition → Before
-table schema parts = followed_by (body schema parts) (ending (body schema parts))
+abbrev pub whole_table : SchemaValue → List Partition → ItemsBefore
+whole_table schema parts = followed_by (items_to_stop schema parts) (ending (items_to_stop schema parts))
 
 -- the bytes are the spellings of the table's items, each of which fits
-pub record IsTable (bytes : List ℕ) (schema : Lists) (parts : List Partition) : Type 0 where
-  pub spelled : bytes ≡ text (table schema parts)
-  pub fit : AllFit schema (table schema parts)
+pub record IsTable (bytes : List ℕ) (schema : SchemaValue) (parts : List Partition) : Type 0 where
+  pub spelled : bytes ≡ text (whole_table schema parts)
+  pub fit : AllFit schema (whole_table schema parts)
 
 -- the bytes begin with a well-formed head of another schema
-pub record IsOtherSchema (bytes : List ℕ) (schema : Lists) : Type 0 where
-  pub other : Lists
+pub record IsOtherSchema (bytes : List ℕ) (schema : SchemaValue) : Type 0 where
+  pub other : SchemaValue
   pub more : List ℕ
   pub head : bytes ≡ item_code (HeadItem other) ++ more
   pub fits : IsItem (HeadItem other)
   pub differs : other ≢ schema
 
 -- the items end with the tail
-abbrev pub EndsWithTail : Before → Type 0
+abbrev pub EndsWithTail : ItemsBefore → Type 0
 EndsWithTail (TailItem off parts ∷ before) = ⊤
 EndsWithTail before = ⊥
 
 -- the bytes begin with items that fit, and at the offset behind them no item fits that is there whole; behind the tail bytes follow
-pub record FirstDamage (bytes : List ℕ) (schema : Lists) (off : ℕ) : Type 0 where
-  pub before : Before
+pub record FirstDamage (bytes : List ℕ) (schema : SchemaValue) (off : ℕ) : Type 0 where
+  pub before : ItemsBefore
   pub behind : List ℕ
   pub spelled : bytes ≡ text before ++ behind
   pub fit : AllFit schema before
   pub here : off ≡ offset before
-  pub unfit : (x : Item) (more : List ℕ) → Fits schema before x → behind ≡ item_code x ++ more → ⊥
+  pub unfit : (x : Item) (more : List ℕ) → ItemFits schema before x → behind ≡ item_code x ++ more → ⊥
   pub not_whole : EndsWithTail before → behind ≢ []
   pub same_schema : IsOtherSchema bytes schema → ⊥
 
 -- partitions that a table of the schema can hold: keys strictly ascend, and what each says fits the schema
-pub record PartsFit (schema : Lists) (parts : List Partition) : Type 0 where
+pub record PartsFit (schema : SchemaValue) (parts : List Partition) : Type 0 where
   pub ascend : IsTrue (is_sorted bytes_cmp (list_map (λ p. (p.key, p.change)) parts))
   pub each : All (λ p. ChangeFits schema p.change) parts

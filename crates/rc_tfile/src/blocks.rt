@@ -114,9 +114,9 @@ pub(crate) struct Listed {
 }
 
 impl Model for Listed {
-    ghost use Rattle.rc_tfile.specs.Blocks.{Entry};
+    ghost use Rattle.rc_tfile.specs.Blocks.{DirectoryEntry};
 
-    ghost Value = { Entry };
+    ghost Value = { DirectoryEntry };
 
     ghost view = { λ l. record { key = l.key; off = l.off; blocks = l.blocks } };
 }

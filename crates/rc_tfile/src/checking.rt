@@ -4,8 +4,9 @@ ghost use Rattle.std.specs.Prelude.{◌≡◌, ◌≢◌, ◌≤◌, ◌+◌, �
 ghost use Rattle.rc_outside.specs.Files.{IsFile};
 ghost use Rattle.rc_tfile.specs.Items.{item_code, HeadItem, IsItem};
 ghost use Rattle.rc_tfile.specs.Reading.{Starts};
-ghost use Rattle.rc_tfile.specs.Windows.{IsOpen, Told, reads_left};
-ghost use Rattle.rc_tfile.specs.Checking.{IsContent, ChecksHead, ChecksSized, RisesIfFault, AsksFew};
+ghost use Rattle.rc_tfile.specs.calls.Windows.{IsOpen, IsAheadIn, reads_left};
+ghost use Rattle.rc_outside.specs.Faults.{RisesIfFault};
+ghost use Rattle.rc_tfile.specs.Checking.{IsContent, ChecksHead, ChecksSized, AsksFew, OnCheckFault};
 
 use crate::reading::read_head;
 use crate::window::Window;
@@ -41,12 +42,12 @@ pub(crate) fn head_of<W: Store>(
     file: &mut Window,
 ) -> Result<(Schema, usize), CheckErr>
     requires open { IsOpen (W.files store.old) file.old }
-    requires start { Told (W.files store.old) [] file.old }
+    requires start { IsAheadIn (W.files store.old) [] file.old }
     ensures files { W.files store.new ≡ W.files store.old }
     ensures building { W.building store.new ≡ W.building store.old }
-    ensures faults { RisesIfFault result (W.faults store.old) (W.faults store.new) }
+    ensures faults { RisesIfFault OnCheckFault result (W.faults store.old) (W.faults store.new) }
     ensures open { OnOk result (IsOpen (W.files store.new) file.new) }
-    ensures told { OnOk result (Told (W.files store.new) [] file.new) }
+    ensures told { OnOk result (IsAheadIn (W.files store.new) [] file.new) }
     ensures number { file.new.number ≡ file.old.number }
     ensures asks { W.asks store.new ≤ W.asks store.old + reads_left file.old }
     ensures spent { OnOk result (W.asks store.new + reads_left file.new ≤ W.asks store.old + reads_left file.old) }
@@ -72,7 +73,7 @@ pub fn read_schema<W: Store>(alloc: Global, store: &mut W, n: u32) -> Result<Sch
     ensures never { result ≢ Err CheckErr.OtherSchema }
     ensures files { W.files store.new ≡ W.files store.old }
     ensures building { W.building store.new ≡ W.building store.old }
-    ensures faults { RisesIfFault result (W.faults store.old) (W.faults store.new) }
+    ensures faults { RisesIfFault OnCheckFault result (W.faults store.old) (W.faults store.new) }
     ensures asks { (bytes : List ℕ) → IsContent (W.files store.old) n bytes → AsksFew (W.asks store.old) (W.asks store.new) bytes }
 {
     match Window::open(alloc, store, n) {

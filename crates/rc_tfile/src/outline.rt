@@ -5,12 +5,12 @@ ghost use Rattle.rc_cell.specs.declared.rows.Row.{Row};
 ghost use Rattle.rc_cell.specs.declared.writes.Tomb.{Tomb};
 ghost use Rattle.rc_position.specs.declared.comps.Comp.{Comp};
 ghost use Rattle.rc_position.specs.Position.{row_pos};
-ghost use Rattle.rc_schema.specs.Lists.{Lists};
+ghost use Rattle.rc_schema.specs.SchemaValue.{SchemaValue};
 ghost use Rattle.rc_rowcode.specs.Spelling.{KeyFits};
-ghost use Rattle.rc_tfile.specs.Items.{Item, HeadItem, PartItem, RowItem, ChangeItem, EndItem, StopItem, size_of};
-ghost use Rattle.rc_tfile.specs.Before.{Before};
-ghost use Rattle.rc_tfile.specs.Blocks.{begun};
-ghost use Rattle.rc_tfile.specs.Outlined.{IsOutline, IsListed, IsFragment};
+ghost use Rattle.rc_tfile.specs.Items.{Item, HeadItem, PartItem, RowItem, ChangeItem, EndItem, StopItem, bytes_of_item};
+ghost use Rattle.rc_tfile.specs.Before.{ItemsBefore};
+ghost use Rattle.rc_tfile.specs.Blocks.{new_block};
+ghost use Rattle.rc_tfile.specs.calls.Outlined.{IsOutline, IsListed, IsFragment};
 
 use crate::blocks::{Block, Blocks, Listed};
 use rc_cell::Tomb;
@@ -62,7 +62,7 @@ pub(crate) fn short(size: usize) -> Result<u32, AllocError>
 impl Outline {
     /// Behind a head of so many bytes.
     pub(crate) fn new(alloc: Global, size: usize) -> Self
-        ensures { (schema : Lists) → size ≡ size_of (HeadItem schema) → IsOutline (HeadItem schema ∷ []) result }
+        ensures { (schema : SchemaValue) → size ≡ bytes_of_item (HeadItem schema) → IsOutline (HeadItem schema ∷ []) result }
     {
         Outline {
             off: size as u64,
@@ -83,7 +83,7 @@ impl Outline {
         key: &PartKey,
         size: usize,
     ) -> Result<(), AllocError>
-        ensures { (before : Before) (pt : Option Tomb) (statics : Row) → IsOutline before self.old → size ≡ size_of (PartItem key.now pt statics) →
+        ensures { (before : ItemsBefore) (pt : Option Tomb) (statics : Row) → IsOutline before self.old → size ≡ bytes_of_item (PartItem key.now pt statics) →
             OnOk result (IsOutline (PartItem key.now pt statics ∷ before) self.new) }
     {
         let off = further(self.off, size)?;
@@ -106,7 +106,7 @@ impl Outline {
         size: usize,
     ) -> Result<(), AllocError>
         requires { KeyFits x.now.prefix }
-        ensures { (before : Before) (item : Item) → IsOutline before self.old → IsFragment before item x.now tomb → size ≡ size_of item →
+        ensures { (before : ItemsBefore) (item : Item) → IsOutline before self.old → IsFragment before item x.now tomb → size ≡ bytes_of_item item →
             OnOk result (IsOutline (item ∷ before) self.new) }
     {
         let off = further(self.off, size)?;
@@ -126,7 +126,7 @@ impl Outline {
 
     /// The end of a partition. The only error is want of memory; an end with no partition before it counts as that.
     pub(crate) fn end(&mut self, alloc: Global) -> Result<(), AllocError>
-        ensures { (before : Before) → IsOutline before self.old → OnOk result (IsOutline (EndItem ∷ before) self.new) }
+        ensures { (before : ItemsBefore) → IsOutline before self.old → OnOk result (IsOutline (EndItem ∷ before) self.new) }
     {
         let Some(key) = &self.key else {
             return Err(AllocError);
@@ -144,7 +144,7 @@ impl Outline {
 
     /// The stop. The only error is want of memory.
     pub(crate) fn stop(&mut self) -> Result<(), AllocError>
-        ensures { (before : Before) → IsOutline before self.old → OnOk result (IsListed (StopItem ∷ before) self.new) }
+        ensures { (before : ItemsBefore) → IsOutline before self.old → OnOk result (IsListed (StopItem ∷ before) self.new) }
     {
         self.off = further(self.off, 1)?;
         Ok(())

@@ -2,7 +2,7 @@
 
 ghost use Rattle.std.specs.Prelude.{◌≡◌, ◌≤◌, ◌∷◌, ◌++◌, ℕ, List, IfOk, IfSome, MatchOption, length};
 ghost use Rattle.std.specs.Option.{option_map};
-ghost use Rattle.rc_rowcode.specs.Reading.{length_at};
+ghost use Rattle.rc_rowcode.specs.calls.Reading.{parse_length};
 ghost use Rattle.rc_rowcode.specs.Spelling.{optional_code, tomb_code, key_code, pos_code, row_code, IsTomb, IsKey, IsPos, IsCodedRow, KeyFits};
 ghost use Rattle.rc_tfile.specs.Items.{bytes_code, item_code, HeadItem, ChangeItem, RowItem, IsItem, IsPartKey};
 ghost use Rattle.rc_tfile.specs.Reading.{Starts, head_code, part_code, part_item, text_code, HasText, IsHead, IsPart};
@@ -193,9 +193,9 @@ pub fn read_change(
 }
 
 // A number in two bytes, and what follows them.
-#[tactic(auto, unfolding(rc_rowcode::specs::Reading::length_at))]
+#[tactic(auto, unfolding(rc_rowcode::specs::calls::Reading::parse_length))]
 fn length_at(bytes: &[u8]) -> Option<(usize, &[u8])>
-    ensures { option_map (λ x. (x.0, x.1.now)) result ≡ length_at bytes.now }
+    ensures { option_map (λ x. (x.0, x.1.now)) result ≡ parse_length bytes.now }
 {
     let (front, rest) = bytes.split_at_checked(2)?;
     Some((u16::from_le_bytes([front[0], front[1]]) as usize, rest))

@@ -5,9 +5,9 @@ ghost use Rattle.std.specs.declared.cmp.Ordering.TheVariants.{Less};
 ghost use Rattle.rc_position.specs.Position.{bytes_cmp, pos_cmp};
 ghost use Rattle.rc_cell.specs.Winner.{empty_row};
 ghost use Rattle.rc_writes.specs.Allowed.{IsRowOf};
-ghost use Rattle.rc_tfile.specs.Before.{Before};
-ghost use Rattle.rc_tfile.specs.Outlined.{IsOutline};
-ghost use Rattle.rc_tfile.specs.Checking.{Steps};
+ghost use Rattle.rc_tfile.specs.Before.{ItemsBefore};
+ghost use Rattle.rc_tfile.specs.calls.Outlined.{IsOutline};
+ghost use Rattle.rc_tfile.specs.Checking.{IsNextItem};
 
 use crate::outline::Outline;
 use crate::reading::{behind, read_change, read_part, read_row_item};
@@ -37,7 +37,7 @@ pub(crate) fn next_item(
     schema: &Schema,
     outline: &mut Outline,
 ) -> Result<Next, AllocError>
-    ensures { (before : Before) → IsOutline before outline.old → IfOk result (λ next. Steps schema.now before bytes.now outline.new next) }
+    ensures { (before : ItemsBefore) → IsOutline before outline.old → IfOk result (λ next. IsNextItem schema.now before bytes.now outline.new next) }
 {
     if outline.inside {
         next_inside(alloc, bytes, schema, outline)
@@ -53,7 +53,7 @@ fn next_between(
     schema: &Schema,
     outline: &mut Outline,
 ) -> Result<Next, AllocError>
-    ensures { (before : Before) → IsOutline before outline.old → outline.old.inside ≡ false → IfOk result (λ next. Steps schema.now before bytes.now outline.new next) }
+    ensures { (before : ItemsBefore) → IsOutline before outline.old → outline.old.inside ≡ false → IfOk result (λ next. IsNextItem schema.now before bytes.now outline.new next) }
 {
     if let Some(_rest) = behind(STOP, bytes) {
         outline.stop()?;
@@ -69,7 +69,7 @@ fn next_inside(
     schema: &Schema,
     outline: &mut Outline,
 ) -> Result<Next, AllocError>
-    ensures { (before : Before) → IsOutline before outline.old → outline.old.inside ≡ true → IfOk result (λ next. Steps schema.now before bytes.now outline.new next) }
+    ensures { (before : ItemsBefore) → IsOutline before outline.old → outline.old.inside ≡ true → IfOk result (λ next. IsNextItem schema.now before bytes.now outline.new next) }
 {
     if let Some(_rest) = behind(ROW, bytes) {
         return next_row(alloc, bytes, schema, outline);
@@ -91,7 +91,7 @@ fn next_part(
     outline: &mut Outline,
 ) -> Result<Next, AllocError>
     requires { (rest : List ℕ) → bytes.now ≡ 5 ∷ rest → ⊥ }
-    ensures { (before : Before) → IsOutline before outline.old → outline.old.inside ≡ false → IfOk result (λ next. Steps schema.now before bytes.now outline.new next) }
+    ensures { (before : ItemsBefore) → IsOutline before outline.old → outline.old.inside ≡ false → IfOk result (λ next. IsNextItem schema.now before bytes.now outline.new next) }
 {
     let Some((part, size)) = read_part(alloc, bytes)? else {
         return Ok(Next::Unfit);
@@ -114,7 +114,7 @@ fn next_row(
     outline: &mut Outline,
 ) -> Result<Next, AllocError>
     requires { (rest : List ℕ) × (bytes.now ≡ 2 ∷ rest) }
-    ensures { (before : Before) → IsOutline before outline.old → outline.old.inside ≡ true → IfOk result (λ next. Steps schema.now before bytes.now outline.new next) }
+    ensures { (before : ItemsBefore) → IsOutline before outline.old → outline.old.inside ≡ true → IfOk result (λ next. IsNextItem schema.now before bytes.now outline.new next) }
 {
     let Some((keyed, size)) = read_row_item(alloc, bytes)? else {
         return Ok(Next::Unfit);
@@ -138,7 +138,7 @@ fn next_change(
     outline: &mut Outline,
 ) -> Result<Next, AllocError>
     requires { (rest : List ℕ) × (bytes.now ≡ 3 ∷ rest) }
-    ensures { (before : Before) → IsOutline before outline.old → outline.old.inside ≡ true → IfOk result (λ next. Steps schema.now before bytes.now outline.new next) }
+    ensures { (before : ItemsBefore) → IsOutline before outline.old → outline.old.inside ≡ true → IfOk result (λ next. IsNextItem schema.now before bytes.now outline.new next) }
 {
     let Some((change, size)) = read_change(alloc, bytes)? else {
         return Ok(Next::Unfit);
@@ -164,7 +164,7 @@ fn next_end(
     outline: &mut Outline,
 ) -> Result<Next, AllocError>
     requires { (rest : List ℕ) × (bytes.now ≡ 4 ∷ rest) }
-    ensures { (before : Before) → IsOutline before outline.old → outline.old.inside ≡ true → IfOk result (λ next. Steps schema.now before bytes.now outline.new next) }
+    ensures { (before : ItemsBefore) → IsOutline before outline.old → outline.old.inside ≡ true → IfOk result (λ next. IsNextItem schema.now before bytes.now outline.new next) }
 {
     if outline.tomb.is_some() {
         return Ok(Next::Unfit);

@@ -3,15 +3,16 @@
 ghost use Rattle.std.specs.Prelude.{◌≡◌, ◌≤◌, ◌+◌, ◌<◌, ◌↔◌, ℕ, List, [], ◌∷◌, ◌++◌, map, length, true, IsTrue, IfOk, IfErr, OnOk, MatchResult};
 ghost use Rattle.std.specs.List.{flat_map, AllByRecursion};
 ghost use Rattle.rc_outside.specs.Files.{IsFile};
-ghost use Rattle.rc_schema.specs.Lists.{Lists};
+ghost use Rattle.rc_schema.specs.SchemaValue.{SchemaValue};
 ghost use Rattle.rc_rowcode.specs.Spelling.{KeyFits};
 ghost use Rattle.rc_tfile.specs.Items.{EntryItem, BlockItem, TailItem};
-ghost use Rattle.rc_tfile.specs.Before.{Before};
+ghost use Rattle.rc_tfile.specs.Before.{ItemsBefore};
 ghost use Rattle.rc_tfile.specs.Blocks.{entry_items, ending};
-ghost use Rattle.rc_tfile.specs.Outlined.{IsListed};
-ghost use Rattle.rc_tfile.specs.Checking.{IsContent, RisesIfFault, AsksFew};
-ghost use Rattle.rc_tfile.specs.Windows.{IsOpen, Told, bytes_left, reads_left, largest};
-ghost use Rattle.rc_tfile.specs.Walking.{ChecksTable, IsRefused, Stands, Stopped, Walks, Awaits, Expects, Meets, Ends, IsWhole, IsWalked};
+ghost use Rattle.rc_tfile.specs.calls.Outlined.{IsListed};
+ghost use Rattle.rc_outside.specs.Faults.{RisesIfFault};
+ghost use Rattle.rc_tfile.specs.Checking.{IsContent, AsksFew, OnCheckFault};
+ghost use Rattle.rc_tfile.specs.calls.Windows.{IsOpen, IsAheadIn, bytes_left, reads_left, largest};
+ghost use Rattle.rc_tfile.specs.Walking.{ChecksTable, IsCheckRefused, StandsAhead, Stopped, Walks, Awaits, Expects, Meets, EndsFront, IsWhole, IsWalked};
 
 use crate::blocks::{Block, Listed};
 use crate::checking::{CheckErr, head_of};
@@ -32,16 +33,16 @@ fn check_head<W: Store>(
     schema: &Schema,
 ) -> Result<Outline, CheckErr>
     requires open { IsOpen (W.files store.old) file.old }
-    requires start { Told (W.files store.old) [] file.old }
+    requires start { IsAheadIn (W.files store.old) [] file.old }
     ensures files { W.files store.new ≡ W.files store.old }
     ensures building { W.building store.new ≡ W.building store.old }
-    ensures faults { RisesIfFault result (W.faults store.old) (W.faults store.new) }
+    ensures faults { RisesIfFault OnCheckFault result (W.faults store.old) (W.faults store.new) }
     ensures open { OnOk result (IsOpen (W.files store.new) file.new) }
     ensures number { file.new.number ≡ file.old.number }
     ensures asks { W.asks store.new ≤ W.asks store.old + reads_left file.old }
     ensures spent { OnOk result (W.asks store.new + reads_left file.new ≤ W.asks store.old + reads_left file.old) }
-    ensures stands { IfOk result (λ outline. Stands (W.files store.new) schema.now outline file.new) }
-    ensures refused { IfErr result (IsRefused (W.files store.new) file.new.number schema.now) }
+    ensures stands { IfOk result (λ outline. StandsAhead (W.files store.new) schema.now outline file.new) }
+    ensures refused { IfErr result (IsCheckRefused (W.files store.new) file.new.number schema.now) }
 {
     let (found, size) = head_of(alloc, store, file)?;
     if !found.is_same(schema) {
@@ -60,17 +61,17 @@ fn check_item<W: Store>(
     outline: &mut Outline,
 ) -> Result<bool, CheckErr>
     requires open { IsOpen (W.files store.old) file.old }
-    requires stands { Stands (W.files store.old) schema.now outline.old file.old }
+    requires stands { StandsAhead (W.files store.old) schema.now outline.old file.old }
     ensures files { W.files store.new ≡ W.files store.old }
     ensures building { W.building store.new ≡ W.building store.old }
-    ensures faults { RisesIfFault result (W.faults store.old) (W.faults store.new) }
+    ensures faults { RisesIfFault OnCheckFault result (W.faults store.old) (W.faults store.new) }
     ensures open { OnOk result (IsOpen (W.files store.new) file.new) }
     ensures number { file.new.number ≡ file.old.number }
     ensures asks { W.asks store.new ≤ W.asks store.old + reads_left file.old }
     ensures spent { OnOk result (W.asks store.new + reads_left file.new ≤ W.asks store.old + reads_left file.old) }
     ensures less { OnOk result (bytes_left file.new < bytes_left file.old) }
     ensures next { IfOk result (λ stops. Walks stops (W.files store.new) schema.now outline.new file.new) }
-    ensures refused { IfErr result (IsRefused (W.files store.new) file.new.number schema.now) }
+    ensures refused { IfErr result (IsCheckRefused (W.files store.new) file.new.number schema.now) }
 {
     file.refill(alloc, store)?;
     match next_item(alloc, file.ahead(), schema, outline) {
@@ -98,16 +99,16 @@ fn check_parts<W: Store>(
     outline: &mut Outline,
 ) -> Result<(), CheckErr>
     requires open { IsOpen (W.files store.old) file.old }
-    requires stands { Stands (W.files store.old) schema.now outline.old file.old }
+    requires stands { StandsAhead (W.files store.old) schema.now outline.old file.old }
     ensures files { W.files store.new ≡ W.files store.old }
     ensures building { W.building store.new ≡ W.building store.old }
-    ensures faults { RisesIfFault result (W.faults store.old) (W.faults store.new) }
+    ensures faults { RisesIfFault OnCheckFault result (W.faults store.old) (W.faults store.new) }
     ensures open { OnOk result (IsOpen (W.files store.new) file.new) }
     ensures number { file.new.number ≡ file.old.number }
     ensures asks { W.asks store.new ≤ W.asks store.old + reads_left file.old }
     ensures spent { OnOk result (W.asks store.new + reads_left file.new ≤ W.asks store.old + reads_left file.old) }
     ensures stopped { OnOk result (Stopped (W.files store.new) schema.now outline.new file.new) }
-    ensures refused { IfErr result (IsRefused (W.files store.new) file.new.number schema.now) }
+    ensures refused { IfErr result (IsCheckRefused (W.files store.new) file.new.number schema.now) }
 {
     loop {
         match check_item(alloc, store, file, schema, outline) {
@@ -136,7 +137,7 @@ fn expect<W: Store>(
     requires short { length code.now ≤ largest }
     ensures files { W.files store.new ≡ W.files store.old }
     ensures building { W.building store.new ≡ W.building store.old }
-    ensures faults { RisesIfFault result (W.faults store.old) (W.faults store.new) }
+    ensures faults { RisesIfFault OnCheckFault result (W.faults store.old) (W.faults store.new) }
     ensures open { OnOk result (IsOpen (W.files store.new) file.new) }
     ensures number { file.new.number ≡ file.old.number }
     ensures asks { W.asks store.new ≤ W.asks store.old + reads_left file.old }
@@ -164,7 +165,7 @@ fn check_block<W: Store>(
     requires limits { KeyFits block.now.first.prefix }
     ensures files { W.files store.new ≡ W.files store.old }
     ensures building { W.building store.new ≡ W.building store.old }
-    ensures faults { RisesIfFault result (W.faults store.old) (W.faults store.new) }
+    ensures faults { RisesIfFault OnCheckFault result (W.faults store.old) (W.faults store.new) }
     ensures open { OnOk result (IsOpen (W.files store.new) file.new) }
     ensures number { file.new.number ≡ file.old.number }
     ensures asks { W.asks store.new ≤ W.asks store.old + reads_left file.old }
@@ -188,7 +189,7 @@ fn check_blocks<W: Store>(
     requires limits { AllByRecursion (λ b. KeyFits b.first.prefix) blocks.now }
     ensures files { W.files store.new ≡ W.files store.old }
     ensures building { W.building store.new ≡ W.building store.old }
-    ensures faults { RisesIfFault result (W.faults store.old) (W.faults store.new) }
+    ensures faults { RisesIfFault OnCheckFault result (W.faults store.old) (W.faults store.new) }
     ensures open { OnOk result (IsOpen (W.files store.new) file.new) }
     ensures number { file.new.number ≡ file.old.number }
     ensures asks { W.asks store.new ≤ W.asks store.old + reads_left file.old }
@@ -213,7 +214,7 @@ fn check_entry<W: Store>(
     requires open { IsOpen (W.files store.old) file.old }
     ensures files { W.files store.new ≡ W.files store.old }
     ensures building { W.building store.new ≡ W.building store.old }
-    ensures faults { RisesIfFault result (W.faults store.old) (W.faults store.new) }
+    ensures faults { RisesIfFault OnCheckFault result (W.faults store.old) (W.faults store.new) }
     ensures open { OnOk result (IsOpen (W.files store.new) file.new) }
     ensures number { file.new.number ≡ file.old.number }
     ensures asks { W.asks store.new ≤ W.asks store.old + reads_left file.old }
@@ -236,7 +237,7 @@ fn check_listed<W: Store>(
     requires open { IsOpen (W.files store.old) file.old }
     ensures files { W.files store.new ≡ W.files store.old }
     ensures building { W.building store.new ≡ W.building store.old }
-    ensures faults { RisesIfFault result (W.faults store.old) (W.faults store.new) }
+    ensures faults { RisesIfFault OnCheckFault result (W.faults store.old) (W.faults store.new) }
     ensures open { OnOk result (IsOpen (W.files store.new) file.new) }
     ensures number { file.new.number ≡ file.old.number }
     ensures asks { W.asks store.new ≤ W.asks store.old + reads_left file.old }
@@ -257,7 +258,7 @@ fn check_directory<W: Store>(
     requires open { IsOpen (W.files store.old) file.old }
     ensures files { W.files store.new ≡ W.files store.old }
     ensures building { W.building store.new ≡ W.building store.old }
-    ensures faults { RisesIfFault result (W.faults store.old) (W.faults store.new) }
+    ensures faults { RisesIfFault OnCheckFault result (W.faults store.old) (W.faults store.new) }
     ensures open { OnOk result (IsOpen (W.files store.new) file.new) }
     ensures number { file.new.number ≡ file.old.number }
     ensures asks { W.asks store.new ≤ W.asks store.old + reads_left file.old }
@@ -283,7 +284,7 @@ fn check_tail<W: Store>(
     requires open { IsOpen (W.files store.old) file.old }
     ensures files { W.files store.new ≡ W.files store.old }
     ensures building { W.building store.new ≡ W.building store.old }
-    ensures faults { RisesIfFault result (W.faults store.old) (W.faults store.new) }
+    ensures faults { RisesIfFault OnCheckFault result (W.faults store.old) (W.faults store.new) }
     ensures open { OnOk result (IsOpen (W.files store.new) file.new) }
     ensures number { file.new.number ≡ file.old.number }
     ensures asks { W.asks store.new ≤ W.asks store.old + reads_left file.old }
@@ -301,10 +302,10 @@ fn check_end<W: Store>(alloc: Global, store: &mut W, file: &mut Window) -> Resul
     requires open { IsOpen (W.files store.old) file.old }
     ensures files { W.files store.new ≡ W.files store.old }
     ensures building { W.building store.new ≡ W.building store.old }
-    ensures faults { RisesIfFault result (W.faults store.old) (W.faults store.new) }
+    ensures faults { RisesIfFault OnCheckFault result (W.faults store.old) (W.faults store.new) }
     ensures number { file.new.number ≡ file.old.number }
     ensures asks { W.asks store.new ≤ W.asks store.old + reads_left file.old }
-    ensures end { Ends (W.files store.old) (W.files store.new) result file.old file.new }
+    ensures end { EndsFront (W.files store.old) (W.files store.new) result file.old file.new }
 {
     file.refill(alloc, store)?;
     if file.ahead().is_empty() {
@@ -325,11 +326,11 @@ fn check_ending<W: Store>(
     requires open { IsOpen (W.files store.old) file.old }
     ensures files { W.files store.new ≡ W.files store.old }
     ensures building { W.building store.new ≡ W.building store.old }
-    ensures faults { RisesIfFault result (W.faults store.old) (W.faults store.new) }
+    ensures faults { RisesIfFault OnCheckFault result (W.faults store.old) (W.faults store.new) }
     ensures number { file.new.number ≡ file.old.number }
     ensures asks { W.asks store.new ≤ W.asks store.old + reads_left file.old }
-    ensures whole { (schema : Lists) (start : Before) → IsListed start outline.now → Awaits (W.files store.old) schema start (ending start) file.old →
-        MatchResult result (λ _. IsWhole (W.files store.new) file.new.number schema start) (IsRefused (W.files store.new) file.new.number schema) }
+    ensures whole { (schema : SchemaValue) (start : ItemsBefore) → IsListed start outline.now → Awaits (W.files store.old) schema start (ending start) file.old →
+        MatchResult result (λ _. IsWhole (W.files store.new) file.new.number schema start) (IsCheckRefused (W.files store.new) file.new.number schema) }
 {
     check_directory(alloc, store, file, outline.listed.as_slice())?;
     check_tail(alloc, store, file, outline.off, outline.listed.len())?;
@@ -344,14 +345,14 @@ fn check_items<W: Store>(
     schema: &Schema,
 ) -> Result<Outline, CheckErr>
     requires open { IsOpen (W.files store.old) file.old }
-    requires start { Told (W.files store.old) [] file.old }
+    requires start { IsAheadIn (W.files store.old) [] file.old }
     ensures files { W.files store.new ≡ W.files store.old }
     ensures building { W.building store.new ≡ W.building store.old }
-    ensures faults { RisesIfFault result (W.faults store.old) (W.faults store.new) }
+    ensures faults { RisesIfFault OnCheckFault result (W.faults store.old) (W.faults store.new) }
     ensures number { file.new.number ≡ file.old.number }
     ensures asks { W.asks store.new ≤ W.asks store.old + reads_left file.old }
     ensures whole { IfOk result (λ outline. IsWalked (W.files store.new) file.new.number schema.now outline) }
-    ensures refused { IfErr result (IsRefused (W.files store.new) file.new.number schema.now) }
+    ensures refused { IfErr result (IsCheckRefused (W.files store.new) file.new.number schema.now) }
 {
     let mut outline = check_head(alloc, store, file, schema)?;
     check_parts(alloc, store, file, schema, &mut outline)?;
@@ -374,7 +375,7 @@ pub fn check_table<W: Store>(
     ensures table { (bytes : List ℕ) → IsContent (W.files store.old) n bytes → ChecksTable bytes n schema.now result }
     ensures files { W.files store.new ≡ W.files store.old }
     ensures building { W.building store.new ≡ W.building store.old }
-    ensures faults { RisesIfFault result (W.faults store.old) (W.faults store.new) }
+    ensures faults { RisesIfFault OnCheckFault result (W.faults store.old) (W.faults store.new) }
     ensures asks { (bytes : List ℕ) → IsContent (W.files store.old) n bytes → AsksFew (W.asks store.old) (W.asks store.new) bytes }
 {
     let mut file = Window::open(alloc, store, n)?;

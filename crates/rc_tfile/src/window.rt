@@ -2,8 +2,9 @@
 
 ghost use Rattle.std.specs.Prelude.{◌≡◌, ℕ, ◌+◌, ◌≤◌, [], List, Option, IfErr, IfOk, MatchResult, OnOk, length, min};
 ghost use Rattle.rc_outside.specs.Files.{Files, IsFile, LiesInFile};
-ghost use Rattle.rc_tfile.specs.Checking.{IsOutside, RisesIfFault};
-ghost use Rattle.rc_tfile.specs.Windows.{Seen, IsFull, IsOpen, Told, past, bytes_left, reads_left};
+ghost use Rattle.rc_outside.specs.Faults.{RisesIfFault};
+ghost use Rattle.rc_tfile.specs.Checking.{IsHostError, OnCheckFault};
+ghost use Rattle.rc_tfile.specs.calls.Windows.{ReadAhead, IsFull, IsOpen, IsAheadIn, past, bytes_left, reads_left};
 
 use crate::checking::CheckErr;
 use rc_outside::Store;
@@ -33,9 +34,9 @@ pub(crate) struct Window {
 
 impl Model for Window {
     ghost use Rattle.std.specs.Prelude.{ℕ, ◌≤◌, ◌+◌, drop, length};
-    ghost use Rattle.rc_tfile.specs.Windows.{Seen};
+    ghost use Rattle.rc_tfile.specs.calls.Windows.{ReadAhead};
 
-    ghost Value = { Seen };
+    ghost Value = { ReadAhead };
 
     ghost view = { λ w. record { number = w.number; size = w.size; read = w.end; ahead = drop w.at w.bytes.items } };
 
@@ -48,12 +49,12 @@ impl Window {
         requires { IsFile (W.files store.old) n }
         ensures files { W.files store.new ≡ W.files store.old }
         ensures building { W.building store.new ≡ W.building store.old }
-        ensures faults { RisesIfFault result (W.faults store.old) (W.faults store.new) }
+        ensures faults { RisesIfFault OnCheckFault result (W.faults store.old) (W.faults store.new) }
         ensures asks { W.asks store.new ≡ W.asks store.old }
-        ensures told { IfOk result (λ w. Told (W.files store.new) [] w) }
+        ensures told { IfOk result (λ w. IsAheadIn (W.files store.new) [] w) }
         ensures open { IfOk result (λ w. IsOpen (W.files store.new) w) }
         ensures start { IfOk result (λ w. (w.number ≡ n) × (w.read ≡ 0)) }
-        ensures cause { IfErr result IsOutside }
+        ensures cause { IfErr result IsHostError }
     {
         match store.size(n) {
             Ok(size) => Ok(Window {
@@ -98,12 +99,12 @@ impl Window {
         requires { IsOpen (W.files store.old) self.old }
         ensures files { W.files store.new ≡ W.files store.old }
         ensures building { W.building store.new ≡ W.building store.old }
-        ensures faults { RisesIfFault result (W.faults store.old) (W.faults store.new) }
+        ensures faults { RisesIfFault OnCheckFault result (W.faults store.old) (W.faults store.new) }
         ensures open { OnOk result (IsOpen (W.files store.new) self.new) }
         ensures full { OnOk result (IsFull self.new) }
-        ensures told { (front : List ℕ) → Told (W.files store.old) front self.old → OnOk result (Told (W.files store.new) front self.new) }
+        ensures told { (front : List ℕ) → IsAheadIn (W.files store.old) front self.old → OnOk result (IsAheadIn (W.files store.new) front self.new) }
         ensures number { self.new.number ≡ self.old.number }
-        ensures cause { IfErr result IsOutside }
+        ensures cause { IfErr result IsHostError }
         ensures left { OnOk result (bytes_left self.new ≡ bytes_left self.old) }
         ensures asks { W.asks store.new ≤ W.asks store.old + reads_left self.old }
         ensures spent { OnOk result (W.asks store.new + reads_left self.new ≤ W.asks store.old + reads_left self.old) }
@@ -125,12 +126,12 @@ impl Window {
         requires within { self.old.read + count ≤ self.old.size }
         ensures files { W.files store.new ≡ W.files store.old }
         ensures building { W.building store.new ≡ W.building store.old }
-        ensures faults { RisesIfFault result (W.faults store.old) (W.faults store.new) }
-        ensures told { (front : List ℕ) → Told (W.files store.old) front self.old → OnOk result (Told (W.files store.new) front self.new) }
+        ensures faults { RisesIfFault OnCheckFault result (W.faults store.old) (W.faults store.new) }
+        ensures told { (front : List ℕ) → IsAheadIn (W.files store.old) front self.old → OnOk result (IsAheadIn (W.files store.new) front self.new) }
         ensures grown { OnOk result ((self.new.read ≡ self.old.read + count) × (length self.new.ahead ≡ length self.old.ahead + count)) }
         ensures number { self.new.number ≡ self.old.number }
         ensures size { self.new.size ≡ self.old.size }
-        ensures cause { IfErr result IsOutside }
+        ensures cause { IfErr result IsHostError }
         ensures asks { W.asks store.new ≤ W.asks store.old + 1 }
     {
         let mut piece = zeros(alloc, count)?;

@@ -7,13 +7,14 @@ ghost use Rattle.rc_outside.specs.Files.{IsNoFile, grown};
 ghost use Rattle.rc_rowcode.specs.Spelling.{KeyFits, RowFits};
 ghost use Rattle.rc_writes.specs.Limits.{IsWithinLimits};
 ghost use Rattle.rc_tfile.specs.Items.{item_code, HeadItem, RowItem, ChangeItem, StopItem, TailItem, IsItem};
-ghost use Rattle.rc_tfile.specs.Before.{Before, followed_by, text};
+ghost use Rattle.rc_tfile.specs.Before.{ItemsBefore, followed_by, text};
 ghost use Rattle.rc_tfile.specs.Blocks.{entry_items, ending};
 ghost use Rattle.rc_tfile.specs.Info.{info_of};
-ghost use Rattle.rc_tfile.specs.Outlined.{IsListed, IsOutline};
-ghost use Rattle.rc_tfile.specs.Stored.{with_file, write_err_of, RisesIfFault};
-ghost use Rattle.rc_tfile.specs.Limits.{FragFits};
-ghost use Rattle.rc_tfile.specs.TableText.{frag_items, part_items, table, PartsFit};
+ghost use Rattle.rc_tfile.specs.calls.Outlined.{IsListed, IsOutline};
+ghost use Rattle.rc_outside.specs.Faults.{RisesIfFault};
+ghost use Rattle.rc_tfile.specs.Stored.{with_file, write_err_of, OnWriteFault};
+ghost use Rattle.rc_tfile.specs.calls.Limits.{FragFits};
+ghost use Rattle.rc_tfile.specs.TableText.{frag_items, part_items, whole_table, PartsFit};
 
 use crate::blocks::Listed;
 use crate::directory::{refs_of, spell_entry, tail_of};
@@ -70,7 +71,7 @@ fn spell_row(
 ) -> Result<(), AllocError>
     requires key { KeyFits key.now }
     requires row { RowFits row.now }
-    ensures outline { (before : Before) → IsOutline before outline.old → OnOk result (IsOutline (RowItem key.now row.now ∷ before) outline.new) }
+    ensures outline { (before : ItemsBefore) → IsOutline before outline.old → OnOk result (IsOutline (RowItem key.now row.now ∷ before) outline.new) }
     ensures bytes { OnOk result (out.new.items ≡ out.old.items ++ item_code (RowItem key.now row.now)) }
     ensures item { IsItem (RowItem key.now row.now) }
 {
@@ -91,7 +92,7 @@ fn spell_change(
     out: &mut Vec<u8>,
 ) -> Result<(), AllocError>
     requires { KeyFits x.now.prefix }
-    ensures outline { (before : Before) → IsOutline before outline.old → OnOk result (IsOutline (ChangeItem x.now tomb ∷ before) outline.new) }
+    ensures outline { (before : ItemsBefore) → IsOutline before outline.old → OnOk result (IsOutline (ChangeItem x.now tomb ∷ before) outline.new) }
     ensures bytes { OnOk result (out.new.items ≡ out.old.items ++ item_code (ChangeItem x.now tomb)) }
     ensures item { IsItem (ChangeItem x.now tomb) }
 {
@@ -110,7 +111,7 @@ fn spell_fragment(
     out: &mut Vec<u8>,
 ) -> Result<(), AllocError>
     requires { FragFits frag.now }
-    ensures outline { (before : Before) → IsOutline before outline.old → OnOk result (IsOutline (followed_by before (frag_items frag.now)) outline.new) }
+    ensures outline { (before : ItemsBefore) → IsOutline before outline.old → OnOk result (IsOutline (followed_by before (frag_items frag.now)) outline.new) }
     ensures bytes { OnOk result (out.new.items ≡ out.old.items ++ flat_map item_code (frag_items frag.now)) }
     ensures items { AllByRecursion IsItem (frag_items frag.now) }
 {
@@ -134,7 +135,7 @@ fn spell_fragments(
     out: &mut Vec<u8>,
 ) -> Result<(), AllocError>
     requires { All FragFits frags.now }
-    ensures outline { (before : Before) → IsOutline before outline.old → OnOk result (IsOutline (followed_by before (flat_map frag_items frags.now)) outline.new) }
+    ensures outline { (before : ItemsBefore) → IsOutline before outline.old → OnOk result (IsOutline (followed_by before (flat_map frag_items frags.now)) outline.new) }
     ensures bytes { OnOk result (out.new.items ≡ out.old.items ++ flat_map item_code (flat_map frag_items frags.now)) }
     ensures items { OnOk result (AllByRecursion IsItem (flat_map frag_items frags.now)) }
 {
@@ -152,7 +153,7 @@ fn spell_part(
     out: &mut Vec<u8>,
 ) -> Result<(), AllocError>
     requires { IsWithinLimits part.now.change }
-    ensures outline { (before : Before) → IsOutline before outline.old → OnOk result (IsOutline (followed_by before (part_items part.now)) outline.new) }
+    ensures outline { (before : ItemsBefore) → IsOutline before outline.old → OnOk result (IsOutline (followed_by before (part_items part.now)) outline.new) }
     ensures bytes { OnOk result (out.new.items ≡ out.old.items ++ flat_map item_code (part_items part.now)) }
     ensures items { OnOk result (AllByRecursion IsItem (part_items part.now)) }
 {
@@ -174,7 +175,7 @@ fn append<W: Store>(alloc: Global, store: &mut W, piece: &[u8]) -> Result<(), Wr
     requires { IsSome (W.building store.old) }
     ensures files { W.files store.new ≡ W.files store.old }
     ensures asks { W.asks store.new ≡ W.asks store.old }
-    ensures faults { RisesIfFault result (W.faults store.old) (W.faults store.new) }
+    ensures faults { RisesIfFault OnWriteFault result (W.faults store.old) (W.faults store.new) }
     ensures building { OnOk result (W.building store.new ≡ grown (W.building store.old) piece.now) }
 {
     match store.append(alloc, piece) {
@@ -188,7 +189,7 @@ fn write_head<W: Store>(alloc: Global, schema: &Schema, store: &mut W) -> Result
     requires { IsSome (W.building store.old) }
     ensures files { W.files store.new ≡ W.files store.old }
     ensures asks { W.asks store.new ≡ W.asks store.old }
-    ensures faults { RisesIfFault result (W.faults store.old) (W.faults store.new) }
+    ensures faults { RisesIfFault OnWriteFault result (W.faults store.old) (W.faults store.new) }
     ensures building { OnOk result (W.building store.new ≡ grown (W.building store.old) (item_code (HeadItem schema.now))) }
     ensures outline { IfOk result (λ outline. IsOutline (HeadItem schema.now ∷ []) outline) }
     ensures item { IfOk result (λ _. IsItem (HeadItem schema.now)) }
@@ -215,10 +216,10 @@ fn write_part<W: Store>(
     requires building { IsSome (W.building store.old) }
     ensures files { W.files store.new ≡ W.files store.old }
     ensures asks { W.asks store.new ≡ W.asks store.old }
-    ensures faults { RisesIfFault result (W.faults store.old) (W.faults store.new) }
+    ensures faults { RisesIfFault OnWriteFault result (W.faults store.old) (W.faults store.new) }
     ensures building { OnOk result (W.building store.new ≡ grown (W.building store.old) (flat_map item_code (part_items part.now))) }
     ensures items { OnOk result (AllByRecursion IsItem (part_items part.now)) }
-    ensures outline { (before : Before) → IsOutline before outline.old → OnOk result (IsOutline (followed_by before (part_items part.now)) outline.new) }
+    ensures outline { (before : ItemsBefore) → IsOutline before outline.old → OnOk result (IsOutline (followed_by before (part_items part.now)) outline.new) }
 {
     let mut out = Vec::new(alloc);
     match spell_part(alloc, part, outline, &mut out) {
@@ -238,10 +239,10 @@ fn write_parts<W: Store>(
     requires building { IsSome (W.building store.old) }
     ensures files { W.files store.new ≡ W.files store.old }
     ensures asks { W.asks store.new ≡ W.asks store.old }
-    ensures faults { RisesIfFault result (W.faults store.old) (W.faults store.new) }
+    ensures faults { RisesIfFault OnWriteFault result (W.faults store.old) (W.faults store.new) }
     ensures building { OnOk result (W.building store.new ≡ grown (W.building store.old) (flat_map item_code (flat_map part_items parts.now))) }
     ensures items { OnOk result (AllByRecursion IsItem (flat_map part_items parts.now)) }
-    ensures outline { (before : Before) → IsOutline before outline.old → OnOk result (IsOutline (followed_by before (flat_map part_items parts.now)) outline.new) }
+    ensures outline { (before : ItemsBefore) → IsOutline before outline.old → OnOk result (IsOutline (followed_by before (flat_map part_items parts.now)) outline.new) }
 {
     for part in parts {
         write_part(alloc, part, outline, store)?;
@@ -254,7 +255,7 @@ fn write_entry<W: Store>(alloc: Global, listed: &Listed, store: &mut W) -> Resul
     requires { IsSome (W.building store.old) }
     ensures files { W.files store.new ≡ W.files store.old }
     ensures asks { W.asks store.new ≡ W.asks store.old }
-    ensures faults { RisesIfFault result (W.faults store.old) (W.faults store.new) }
+    ensures faults { RisesIfFault OnWriteFault result (W.faults store.old) (W.faults store.new) }
     ensures building { OnOk result (W.building store.new ≡ grown (W.building store.old) (flat_map item_code (entry_items listed.now))) }
     ensures items { OnOk result (AllByRecursion IsItem (entry_items listed.now)) }
 {
@@ -270,7 +271,7 @@ fn write_entries<W: Store>(alloc: Global, entries: &[Listed], store: &mut W) -> 
     requires { IsSome (W.building store.old) }
     ensures files { W.files store.new ≡ W.files store.old }
     ensures asks { W.asks store.new ≡ W.asks store.old }
-    ensures faults { RisesIfFault result (W.faults store.old) (W.faults store.new) }
+    ensures faults { RisesIfFault OnWriteFault result (W.faults store.old) (W.faults store.new) }
     ensures building { OnOk result (W.building store.new ≡ grown (W.building store.old) (flat_map item_code (flat_map entry_items entries.now))) }
     ensures items { OnOk result (AllByRecursion IsItem (flat_map entry_items entries.now)) }
 {
@@ -285,7 +286,7 @@ fn write_tail<W: Store>(alloc: Global, outline: &Outline, store: &mut W) -> Resu
     requires { IsSome (W.building store.old) }
     ensures files { W.files store.new ≡ W.files store.old }
     ensures asks { W.asks store.new ≡ W.asks store.old }
-    ensures faults { RisesIfFault result (W.faults store.old) (W.faults store.new) }
+    ensures faults { RisesIfFault OnWriteFault result (W.faults store.old) (W.faults store.new) }
     ensures building { OnOk result (W.building store.new ≡ grown (W.building store.old) (item_code (TailItem outline.now.off (length outline.now.listed.items)))) }
     ensures item { OnOk result (IsItem (TailItem outline.now.off (length outline.now.listed.items))) }
 {
@@ -300,10 +301,10 @@ fn write_listed<W: Store>(alloc: Global, outline: &Outline, store: &mut W) -> Re
     requires { IsSome (W.building store.old) }
     ensures files { W.files store.new ≡ W.files store.old }
     ensures asks { W.asks store.new ≡ W.asks store.old }
-    ensures faults { RisesIfFault result (W.faults store.old) (W.faults store.new) }
-    ensures building { (before : Before) → IsListed before outline.now →
+    ensures faults { RisesIfFault OnWriteFault result (W.faults store.old) (W.faults store.new) }
+    ensures building { (before : ItemsBefore) → IsListed before outline.now →
         OnOk result (W.building store.new ≡ grown (W.building store.old) (flat_map item_code (StopItem ∷ ending before))) }
-    ensures items { (before : Before) → IsListed before outline.now → OnOk result (AllByRecursion IsItem (ending before)) }
+    ensures items { (before : ItemsBefore) → IsListed before outline.now → OnOk result (AllByRecursion IsItem (ending before)) }
 {
     append(alloc, store, &[STOP])?;
     write_entries(alloc, outline.listed.as_slice(), store)?;
@@ -319,10 +320,10 @@ fn write_ending<W: Store>(
     requires { IsSome (W.building store.old) }
     ensures files { W.files store.new ≡ W.files store.old }
     ensures asks { W.asks store.new ≡ W.asks store.old }
-    ensures faults { RisesIfFault result (W.faults store.old) (W.faults store.new) }
-    ensures building { (before : Before) → IsOutline before outline.old →
+    ensures faults { RisesIfFault OnWriteFault result (W.faults store.old) (W.faults store.new) }
+    ensures building { (before : ItemsBefore) → IsOutline before outline.old →
         OnOk result (W.building store.new ≡ grown (W.building store.old) (flat_map item_code (StopItem ∷ ending (StopItem ∷ before)))) }
-    ensures items { (before : Before) → IsOutline before outline.old → OnOk result (AllByRecursion IsItem (ending (StopItem ∷ before))) }
+    ensures items { (before : ItemsBefore) → IsOutline before outline.old → OnOk result (AllByRecursion IsItem (ending (StopItem ∷ before))) }
 {
     match outline.stop() {
         Ok(()) => write_listed(alloc, outline, store),
@@ -341,9 +342,9 @@ fn write_items<W: Store>(
     requires building { IsSome (W.building store.old) }
     ensures files { W.files store.new ≡ W.files store.old }
     ensures asks { W.asks store.new ≡ W.asks store.old }
-    ensures faults { RisesIfFault result (W.faults store.old) (W.faults store.new) }
-    ensures building { OnOk result (W.building store.new ≡ grown (W.building store.old) (text (table schema.now parts.now))) }
-    ensures items { OnOk result (AllByRecursion IsItem (table schema.now parts.now)) }
+    ensures faults { RisesIfFault OnWriteFault result (W.faults store.old) (W.faults store.new) }
+    ensures building { OnOk result (W.building store.new ≡ grown (W.building store.old) (text (whole_table schema.now parts.now))) }
+    ensures items { OnOk result (AllByRecursion IsItem (whole_table schema.now parts.now)) }
 {
     let _limits = schema.ck();
     let mut outline = write_head(alloc, schema, store)?;
@@ -366,11 +367,11 @@ pub fn write_table<W: Store>(
     requires fit { PartsFit schema.now parts.now }
     requires fresh { IsNoFile (W.files store.old) n }
     ensures files { MatchResult result
-        (λ _. W.files store.new ≡ with_file (W.files store.old) n (text (table schema.now parts.now)))
+        (λ _. W.files store.new ≡ with_file (W.files store.old) n (text (whole_table schema.now parts.now)))
         (λ _. W.files store.new ≡ W.files store.old) }
-    ensures items { OnOk result (AllByRecursion IsItem (table schema.now parts.now)) }
+    ensures items { OnOk result (AllByRecursion IsItem (whole_table schema.now parts.now)) }
     ensures idle { W.building store.new ≡ None }
-    ensures faults { RisesIfFault result (W.faults store.old) (W.faults store.new) }
+    ensures faults { RisesIfFault OnWriteFault result (W.faults store.old) (W.faults store.new) }
     ensures asks { W.asks store.new ≡ W.asks store.old }
 {
     store.abandon();
@@ -415,7 +416,7 @@ pub fn plan_table(
 ) -> Result<TableInfo, AllocError>
     requires { PartsFit schema.now parts.now }
     ensures info { IfOk result (λ info. info ≡ info_of n schema.now parts.now) }
-    ensures items { IfOk result (λ _. AllByRecursion IsItem (table schema.now parts.now)) }
+    ensures items { IfOk result (λ _. AllByRecursion IsItem (whole_table schema.now parts.now)) }
 {
     let _limits = schema.ck();
     let mut outline = outline_of(alloc, parts, schema)?;

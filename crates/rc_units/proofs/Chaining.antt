@@ -22,7 +22,7 @@ use Rattle.rc_core.specs.laws.Losing.{each-one}
 use Rattle.rc_core.specs.laws.Standing.{NewestIs-back, Stand, above-zero, length-cons, stand-at}
 use Rattle.rc_core.specs.laws.Updates.{begun-chain, begun-form, given-chain, more-says, same-form}
 use Rattle.rc_core.specs.laws.Updates as core
-use Rattle.rc_units.specs.Update.{IsFragmentOf, lost_from, place_of, updated}
+use Rattle.rc_units.specs.Update.{IsFragmentOf, lost_from, unit_place, updated}
 use Rattle.rc_units.proofs.Cuts.{precedes-le, updated-version}
 use Rattle.rc_units.proofs.Losses.{lost-is, lost-phase, lost_from-version}
 use Rattle.rc_units.proofs.Updates.{unit-is}
@@ -50,7 +50,7 @@ module _ (below : ℕ → List Mutation) (c : Chain) (older : List Version) (v :
   lost-chain p att up begun k = given-chain below c older v (lost_from p v) p vs ch att up begun (lost-is p v newest_version (newest_placed p up k)) (lost-phase p v) k
 
 module _ (below : ℕ → List Mutation) (change : Mutation) (c : Chain) (front : List Version) (under v : Version) (vs : c.versions ≡ front ++ under ∷ v ∷ []) (ch : IsChain c)
-    (force : Option Tomb) (f : Frag) (next : Place) (up : c.updating ≡ Some (place_of f)) (st : IsFragmentOf change force f next) where
+    (force : Option Tomb) (f : Frag) (next : Place) (up : c.updating ≡ Some (unit_place f)) (st : IsFragmentOf change force f next) where
   abbrev unit : Version
   unit = updated force f next v
 
@@ -60,12 +60,12 @@ module _ (below : ℕ → List Mutation) (change : Mutation) (c : Chain) (front 
   form : IsVersion v
   form = newest_version below c (front ++ under ∷ []) v parts ch
 
-  placed : IsChainContinuous below c → IsAtPlace (place_of f) v
-  placed k = newest_placed below c (front ++ under ∷ []) v parts ch (place_of f) up k
+  placed : IsChainContinuous below c → IsAtPlace (unit_place f) v
+  placed k = newest_placed below c (front ++ under ∷ []) v parts ch (unit_place f) up k
 
   pub unit-chain : c.attached ≡ true → SameSource (below under.phase ++ change ∷ []) (below v.phase) → IsChainContinuous below c → IsChainContinuous below (with_updating (Some next) (with_versions (front ++ under ∷ unit ∷ []) c))
   unit-chain att src k =
-      core.unit-chain below c front under v unit change (place_of f) next vs ch att up (precedes-le f next st.precedes) (unit-is change force f next v form (placed k) st) (updated-phase force f next v) src k
+      core.unit-chain below c front under v unit change (unit_place f) next vs ch att up (precedes-le f next st.precedes) (unit-is change force f next v form (placed k) st) (updated-phase force f next v) src k
 
   pub unit-form : IsChain (with_updating (Some next) (with_versions (front ++ under ∷ unit ∷ []) c))
   unit-form =
@@ -75,7 +75,7 @@ module _ (below : ℕ → List Mutation) (change : Mutation) (c : Chain) (front 
   pub unit-carried-in : IsChainContinuous below c → (x : Pos) → IsCarriedIn c x → IsCarriedIn (with_updating (Some next) (with_versions (front ++ under ∷ unit ∷ []) c)) x
   unit-carried-in k x h =
       subst (λ us. IsCarriedIn (with_updating (Some next) (with_versions us c)) x) (append_assoc front (under ∷ []) (unit ∷ []))
-      (unit-carried c (front ++ under ∷ []) v unit change (place_of f) next x parts up (unit-is change force f next v form (placed k) st) h)
+      (unit-carried c (front ++ under ∷ []) v unit change (unit_place f) next x parts up (unit-is change force f next v form (placed k) st) h)
 
 -- ---- the begin
 

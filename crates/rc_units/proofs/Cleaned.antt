@@ -10,12 +10,12 @@ use Rattle.rc_mutation.specs.declared.mutations.Mutation.{Mutation}
 use Rattle.rc_core.specs.declared.entries.Entry.{Entry}
 use Rattle.rc_core.specs.declared.entries.ChainKind.TheVariants.{Cache}
 use Rattle.rc_core.specs.Version.{Behind, EndsWithDummy, IsVersion, On, Version}
-use Rattle.rc_core.specs.Cell.{Cell, through}
-use Rattle.rc_core.specs.Chain.{IsKnown, cells, content, flag_over, flagged}
+use Rattle.rc_core.specs.SpotState.{SpotState, through}
+use Rattle.rc_core.specs.Chain.{IsKnown, states_at, content, flag_over, flagged}
 use Rattle.rc_core.specs.Chains.{Chain, IsChainContinuous, IsMemtableChain, IsNeeded, IsPinned, IsUpdating, NewestIs, phase_at, upto, with_versions}
 use Rattle.rc_core.specs.AtPlace.{IsAtPlace}
 use Rattle.rc_core.specs.Change.{lose_first_gap}
-use Rattle.rc_core.specs.Continuity.{IsEvicted, static_cells, with_entries, without_statics}
+use Rattle.rc_core.specs.Continuity.{IsEvicted, static_states, with_entries, without_statics}
 use Rattle.rc_core.specs.Merge.{Alike, IsMerged, IsSeenAlike, IsSilent}
 use Rattle.rc_core.specs.StandsFor.{StandsFor}
 use Rattle.rc_core.specs.Steps.{IsCarriedIn, IsChain, drop_version, pin_at, renumbered}
@@ -254,7 +254,7 @@ pins-left (v ∷ w ∷ more) n i pins = same (pin_at pins i)
 
 -- ---- without room
 
-known_alike : (before now : List Cell) → Alike (through now) (through before) → IsTrue (flagged Cache now) → IsTrue (flagged Cache before) × (content now ≡ content before)
+known_alike : (before now : List SpotState) → Alike (through now) (through before) → IsTrue (flagged Cache now) → IsTrue (flagged Cache before) × (content now ≡ content before)
 known_alike before now h k = (
   flagged-through Cache before ∙ ap (flag_over Cache) (sym h.0) ∙ sym (flagged-through Cache now) ∙ k,
   content-through now ∙ h.1 ∙ sym (content-through before),
@@ -262,8 +262,8 @@ known_alike before now h k = (
 
 alike-as-before : (before now : List Version) → IsSeenAlike before now → IsKnownAsBefore before now
 alike-as-before before now h = record {
-  statics = known_alike (static_cells before) (static_cells now) h.statics;
-  clustered = λ s. known_alike (cells s before) (cells s now) (h.clustered s);
+  statics = known_alike (static_states before) (static_states now) h.statics;
+  clustered = λ s. known_alike (states_at s before) (states_at s now) (h.clustered s);
   head = h.head;
 }
 
@@ -297,8 +297,8 @@ module _ (c : Chain) (front back : List Version) (v w : Version) (vs : c.version
 
       lost_here : (newer : List Version) → IsKnownAsBefore (front ++ v ∷ newer) (front ++ x ∷ newer)
       lost_here newer = let l = evicted-seen front newer v x lost in record {
-        statics = known-before (static_cells (front ++ v ∷ newer)) (static_cells (front ++ x ∷ newer)) l.statics;
-        clustered = λ s. known-before (cells s (front ++ v ∷ newer)) (cells s (front ++ x ∷ newer)) (l.clustered s);
+        statics = known-before (static_states (front ++ v ∷ newer)) (static_states (front ++ x ∷ newer)) l.statics;
+        clustered = λ s. known-before (states_at s (front ++ v ∷ newer)) (states_at s (front ++ x ∷ newer)) (l.clustered s);
         head = l.head;
       }
 
@@ -333,7 +333,7 @@ module _ (c : Chain) (front back : List Version) (v w : Version) (vs : c.version
 
 -- ---- at a position
 
-pub as_before-known : (before now : List Version) (x : Pos) → IsKnownAsBefore before now → IsKnown Cache now x → IsKnown Cache before x × (content (cells (On x) now) ≡ content (cells (On x) before))
+pub as_before-known : (before now : List Version) (x : Pos) → IsKnownAsBefore before now → IsKnown Cache now x → IsKnown Cache before x × (content (states_at (On x) now) ≡ content (states_at (On x) before))
 as_before-known before now x k h = let e = (k.clustered (On x) h.at).1 in (
   record {
     at = (k.clustered (On x) h.at).0;

@@ -6,12 +6,12 @@ use Rattle.std.specs.declared.cmp.Ordering.TheVariants.{Less, Equal, Greater}
 use Rattle.std.specs.Ordering.{is_lt, is_gt}
 use Rattle.rc_position.specs.declared.positions.Pos.{Pos}
 use Rattle.rc_position.specs.Position.{pos_cmp, IsBefore}
-use Rattle.rc_position.specs.OrderLaws.{pos_cmp_same}
-use Rattle.rc_position.specs.BoundLaws.{last_pos-greatest}
+use Rattle.rc_position.specs.laws.Orders.{pos_cmp_same}
+use Rattle.rc_position.specs.laws.Bounds.{last_pos-greatest}
 use Rattle.rc_core.specs.declared.entries.Entry.{Entry}
 use Rattle.rc_core.specs.declared.entries.Mark.{Mark}
-use Rattle.rc_core.specs.Cell.{under}
-use Rattle.rc_core.specs.Version.{Spot, On, Behind, spot_cmp, Found, found, entry_answers, seen, cell_of, cell_at, IsBeforeEnd, Ascend, EndsWithDummy, Version, IsVersion, end_position}
+use Rattle.rc_core.specs.SpotState.{under}
+use Rattle.rc_core.specs.Version.{Spot, On, Behind, spot_cmp, Finding, found, entry_answers, seen, state_of, state_at, IsBeforeEnd, Ascend, EndsWithDummy, Version, IsVersion, end_position}
 use Rattle.rc_core.specs.Change.{dummy, split}
 use Rattle.rc_core.specs.Continuity.{with_entries}
 use Rattle.rc_core.specs.Merge.{Alike, IsPutDown, IsMerged, IsSilent}
@@ -60,7 +60,7 @@ between_gap Equal n y h = no_row n.gap y.gap
 between_gap Greater n y h = absurd (cc)
 
 -- what an entry says itself once it took what it took
-abbrev says : Entry → Found
+abbrev says : Entry → Finding
 says y = found y.at y.row
 
 module _ (e n : Entry) (lt : IsBefore e.position n.position) (s : Spot) where
@@ -153,11 +153,11 @@ reached_before (Behind x) q w k d = gap-reached x w d (before_end (pos_cmp x end
     before_end Equal h = absurd (let u : true ≡ false = sym (ap is_lt (spot-Less (Behind x) q k)) ∙ ap (λ y. is_lt (pos_cmp y q)) (pos_cmp_same x end_position h) ∙ sym (turned q end_position) ∙ last_pos-greatest q in cc)
     before_end Greater h = absurd (let u : true ≡ false = sym (ap is_gt h) ∙ last_pos-greatest x in cc)
 
-pub put_seen : (a b c d : Found) → c ≡ nothing_found → d ≡ found_under a b → IsPutDown (cell_of a) (cell_of b) (cell_of c) (cell_of d)
-put_seen a b c d e f = inr (ap cell_of e, subst (λ x. Alike (cell_of x) (under (cell_of a) (cell_of b))) (sym f) (found-alike a b))
+pub put_seen : (a b c d : Finding) → c ≡ nothing_found → d ≡ found_under a b → IsPutDown (state_of a) (state_of b) (state_of c) (state_of d)
+put_seen a b c d e f = inr (ap state_of e, subst (λ x. Alike (state_of x) (under (state_of a) (state_of b))) (sym f) (found-alike a b))
 
-pub kept_seen : (a b c d : Found) → c ≡ a → d ≡ b → IsPutDown (cell_of a) (cell_of b) (cell_of c) (cell_of d)
-kept_seen a b c d e f = inl (ap cell_of e, ap cell_of f)
+pub kept_seen : (a b c d : Finding) → c ≡ a → d ≡ b → IsPutDown (state_of a) (state_of b) (state_of c) (state_of d)
+kept_seen a b c d e f = inl (ap state_of e, ap state_of f)
 
 pub merged-said : (s : Spot) (n : Entry) (back : List Entry) → spot_cmp s n.position ≡ Less → seen s (gap_said n ∷ back) ≡ nothing_found
 merged-said s n back k = ap (λ r. entry_answers r (gap_said n) (seen s back)) k
@@ -166,8 +166,8 @@ pub entry-merged : (v w : Version) (e n : Entry) (back : List Entry) → v.entri
     IsMerged v w (with_entries (gap_said n ∷ back) v) (with_entries (merge_entry e n w.entries) w)
 entry-merged v w e n back h i j = record {
   statics = inl (refl, refl);
-  clustered = λ s. subst (λ es. IsPutDown (cell_of (seen s es)) (cell_at s w) (cell_of (seen s (gap_said n ∷ back))) (cell_of (seen s (merge_entry e n w.entries)))) (sym h)
-      (elim (spot_cmp s n.position) as (λ r. spot_cmp s n.position ≡ r → IsPutDown (cell_of (seen s (e ∷ n ∷ back))) (cell_at s w) (cell_of (seen s (gap_said n ∷ back))) (cell_of (seen s (merge_entry e n w.entries)))) [
+  clustered = λ s. subst (λ es. IsPutDown (state_of (seen s es)) (state_at s w) (state_of (seen s (gap_said n ∷ back))) (state_of (seen s (merge_entry e n w.entries)))) (sym h)
+      (elim (spot_cmp s n.position) as (λ r. spot_cmp s n.position ≡ r → IsPutDown (state_of (seen s (e ∷ n ∷ back))) (state_at s w) (state_of (seen s (gap_said n ∷ back))) (state_of (seen s (merge_entry e n w.entries)))) [
         | Less ↦ λ k. put_seen (seen s (e ∷ n ∷ back)) (seen s w.entries) (seen s (gap_said n ∷ back)) (seen s (merge_entry e n w.entries))
             (merged-said s n back k)
             (before_successor e n lt s w.entries back k (reached_before s n.position w.entries k j.ends))
@@ -180,7 +180,7 @@ entry-merged v w e n back h i j = record {
     lt : IsBefore e.position n.position
     lt = (subst Ascend h i.ascend).0
 
-    later : (s : Spot) → (spot_cmp s n.position ≡ Less → ⊥) → IsPutDown (cell_of (seen s (e ∷ n ∷ back))) (cell_at s w) (cell_of (seen s (gap_said n ∷ back))) (cell_of (seen s (merge_entry e n w.entries)))
+    later : (s : Spot) → (spot_cmp s n.position ≡ Less → ⊥) → IsPutDown (state_of (seen s (e ∷ n ∷ back))) (state_at s w) (state_of (seen s (gap_said n ∷ back))) (state_of (seen s (merge_entry e n w.entries)))
     later s off = kept_seen (seen s (e ∷ n ∷ back)) (seen s w.entries) (seen s (gap_said n ∷ back)) (seen s (merge_entry e n w.entries)) (behind_in_older e n lt s back off) (behind_in_newer e n lt s w.entries off)
 
 -- the same of entries in order, whose newer ones are those of a version
@@ -209,7 +209,7 @@ silent_answers Equal x = refl
 silent_answers Greater x = refl
 
 pub emptied-silent : (e : Entry) (v : Version) → IsSilent (emptied e v)
-emptied-silent e v = record { statics = refl; clustered = λ s. ap cell_of (silent_answers (spot_cmp s e.position) e.position) }
+emptied-silent e v = record { statics = refl; clustered = λ s. ap state_of (silent_answers (spot_cmp s e.position) e.position) }
 
 module _ (e : Entry) (at_end : e.position ≡ end_position) (s : Spot) where
   -- no entry stands behind the end dummy
@@ -247,8 +247,8 @@ at_the_end (Behind x) q w k d = absurd (behind-Equal (pos_cmp x q) k)
 pub end-merged : (v w : Version) (e : Entry) → v.entries ≡ e ∷ [] → IsVersion v → IsVersion w → IsMerged v w (emptied e v) (end_merged e v w)
 end-merged v w e h i j = record {
   statics = inr (refl, statics-alike v.static_flag w.static_flag v.statics w.statics);
-  clustered = λ s. subst (λ es. IsPutDown (cell_of (seen s es)) (cell_at s w) (cell_at s (emptied e v)) (cell_of (seen s (merge_end_dummy e w.entries)))) (sym h)
-      (elim (spot_cmp s e.position) as (λ r. spot_cmp s e.position ≡ r → IsPutDown (cell_of (entry_answers r e nothing_found)) (cell_at s w) (cell_at s (emptied e v)) (cell_of (seen s (merge_end_dummy e w.entries)))) [
+  clustered = λ s. subst (λ es. IsPutDown (state_of (seen s es)) (state_at s w) (state_at s (emptied e v)) (state_of (seen s (merge_end_dummy e w.entries)))) (sym h)
+      (elim (spot_cmp s e.position) as (λ r. spot_cmp s e.position ≡ r → IsPutDown (state_of (entry_answers r e nothing_found)) (state_at s w) (state_at s (emptied e v)) (state_of (seen s (merge_end_dummy e w.entries)))) [
         | Less ↦ λ k. put_seen (found e.gap None) (seen s w.entries) _ _ (silent_answers (spot_cmp s e.position) e.position) (end_before e at_end s w.entries k (reached_before s e.position w.entries k j.ends))
         | Equal ↦ λ k. put_seen (found e.at e.row) (seen s w.entries) _ _ (silent_answers (spot_cmp s e.position) e.position) (end_at e at_end s w.entries k (at_the_end s e.position w.entries k j.ends))
         | Greater ↦ λ k. kept_seen nothing_found (seen s w.entries) _ _ (silent_answers (spot_cmp s e.position) e.position) (end_behind e at_end s w.entries k)

@@ -1,13 +1,12 @@
 -- A unit of an update leaves a version, in which an entry stands at the next place, and none behind it but the end dummy.
-use Rattle.std.specs.Prelude.{◌≡◌, List, [], ◌∷◌, Option, map as list_map}
+use Rattle.std.specs.Prelude.{◌≡◌, List, [], ◌∷◌, Option, map as list_map, true, false, cond}
 use Rattle.std.proofs.Common.{refl, sym, ap, ◌∙◌, subst}
 use Rattle.std.specs.declared.cmp.Ordering.{Ordering}
 use Rattle.std.specs.Cmp.{tied_itself}
-use Rattle.rc_position.specs.OrderLaws.{pos_cmp_total}
-use Rattle.rc_position.specs.BoundLaws.{place_cmp_total, place_cmp_same}
+use Rattle.rc_position.specs.laws.Orders.{pos_cmp_total}
+use Rattle.rc_position.specs.laws.Bounds.{place_cmp_total, place_cmp_same}
 use Rattle.std.specs.declared.cmp.Ordering.TheVariants.{Less, Equal, Greater}
 use Rattle.std.specs.Ordering.{eq_by_cmp, ordering_reverse}
-use Rattle.std.specs.Prelude.{true, false, cond}
 use Rattle.rc_cell.specs.declared.rows.Row.{Row}
 use Rattle.rc_cell.specs.declared.writes.Tomb.{Tomb}
 use Rattle.rc_position.specs.declared.positions.Pos.{Pos}
@@ -17,13 +16,13 @@ use Rattle.rc_mutation.specs.declared.fragments.Frag.TheVariants as frag
 use Rattle.rc_core.specs.declared.entries.Entry.{Entry}
 use Rattle.rc_core.specs.declared.entries.Mark.{Mark}
 use Rattle.rc_core.specs.Version.{Ascend, EndsWithDummy, Version, IsVersion, end_position}
-use Rattle.rc_core.specs.Change.{change, changed, dummy, join_row_at, raised, split, split_by, with_row}
+use Rattle.rc_core.specs.Change.{change, changed, dummy, join_row_at, raised_mark, split, split_by, with_row}
 use Rattle.rc_core.specs.Continuity.{with_entries}
 use Rattle.rc_core.specs.laws.Order.{change-is, split-ends, split-is}
 use Rattle.rc_core.specs.laws.Spots.{StandsAt, StandsBy, split-stands, position-reached}
 use Rattle.rc_core.specs.AtPlace.{EachEntry, EndsBehind, HasItsPlace, StandsAtPlace}
 use Rattle.rc_core.specs.laws.Placed.{each-map, each-split, each-wider, has-stands, stands-has}
-use Rattle.rc_units.specs.Update.{place_of, Precedes, raise_upto, split_at, updated}
+use Rattle.rc_units.specs.Update.{unit_place, Precedes, raise_upto, split_at, updated}
 use Rattle.rc_units.proofs.Putting.{row-is}
 
 -- ---- a version
@@ -37,8 +36,8 @@ split_at-is End v i = i
 raise-is : (tomb : Option Tomb) (q : Pos) (p : Place) (v : Version) → IsVersion v → IsVersion (with_entries (raise_upto tomb q p v.entries) v)
 raise-is tomb q Head v i = i
 raise-is tomb q Static v i = i
-raise-is tomb q (Clustered x) v i = change-is (raised tomb) q x v i
-raise-is tomb q End v i = change-is (raised tomb) q end_position v i
+raise-is tomb q (Clustered x) v i = change-is (raised_mark tomb) q x v i
+raise-is tomb q End v i = change-is (raised_mark tomb) q end_position v i
 
 pub updated-version : (force : Option Tomb) (f : Frag) (next : Place) (v : Version) → IsVersion v → IsVersion (updated force f next v)
 updated-version force (frag.Start pt) next v i = record { ascend = (split_at-is next v i).ascend; ends = (split_at-is next v i).ends }
@@ -88,8 +87,8 @@ stands_raised : (tomb : Option Tomb) (q : Pos) (p : Place) (es : List Entry) →
 stands_raised tomb q Head es d = tt
 stands_raised tomb q Static es d = tt
 stands_raised tomb q (Clustered x) es d =
-    stands-has x (change (raised tomb) q x es)
-    (stands-changed (raised tomb) q x x (split x (split q es)) (split-stands x (split q es) (position-reached x (split q es) (split-ends q es d))))
+    stands-has x (change (raised_mark tomb) q x es)
+    (stands-changed (raised_mark tomb) q x x (split x (split q es)) (split-stands x (split q es) (position-reached x (split q es) (split-ends q es d))))
 stands_raised tomb q End es d = tt
 
 -- ---- none stands behind it but the end dummy
@@ -114,10 +113,10 @@ last_raised : (tomb : Option Tomb) (q : Pos) (p : Place) (es : List Entry) → (
 last_raised tomb q Head es off h = h
 last_raised tomb q Static es off h = h
 last_raised tomb q (Clustered x) es off h =
-    each-map (EndsBehind (Clustered x)) (changed (raised tomb) q x) (λ _ k. k) (split x (split q es))
+    each-map (EndsBehind (Clustered x)) (changed (raised_mark tomb) q x) (λ _ k. k) (split x (split q es))
     (each-split (EndsBehind (Clustered x)) x (itself_behind x) (split q es) (each-split (EndsBehind (Clustered x)) q (not_behind (Clustered x) q off) es h))
 last_raised tomb q End es off h =
-    each-map (EndsBehind End) (changed (raised tomb) q end_position) (λ _ k. k) (split end_position (split q es))
+    each-map (EndsBehind End) (changed (raised_mark tomb) q end_position) (λ _ k. k) (split end_position (split q es))
     (each-split (EndsBehind End) end_position (λ _ _. refl) (split q es) (each-split (EndsBehind End) q (not_behind End q off) es h))
 
 row_joined_behind : (p : Place) (q : Pos) (row : Row) (es : List Entry) → (place_cmp (Clustered q) p ≡ Greater → ⊥) → EachEntry (EndsBehind p) es → EachEntry (EndsBehind p) (join_row_at q row es)
@@ -131,10 +130,10 @@ not_greater Less e g = cc
 not_greater Equal e g = cc
 not_greater Greater e g = cc
 
-pub precedes-le : (f : Frag) (p : Place) → Precedes f p → place_cmp (place_of f) p ≡ Greater → ⊥
+pub precedes-le : (f : Frag) (p : Place) → Precedes f p → place_cmp (unit_place f) p ≡ Greater → ⊥
 precedes-le (frag.Start pt) p h = not_greater (place_cmp Head p) h
 precedes-le (frag.Static row) p h = not_greater (place_cmp Static p) h
-precedes-le (frag.Row key row) p h = not_greater (place_cmp (place_of (frag.Row key row)) p) h
+precedes-le (frag.Row key row) p h = not_greater (place_cmp (unit_place (frag.Row key row)) p) h
 precedes-le (frag.Change from tomb) p h = h
 precedes-le frag.End p h = absurd h
 
@@ -147,8 +146,8 @@ behind_next p q off x l = by (place_cmp p q) refl
     by Equal e = subst (λ z. place_cmp z x ≡ Less) (sym (place_cmp_same p q e)) l
     by Greater e = absurd (off e)
 
-pub updated-place : (force : Option Tomb) (f : Frag) (next : Place) (v : Version) → Precedes f next → IsVersion v → HasItsPlace (place_of f) v.entries → HasItsPlace next (updated force f next v).entries
-updated-place force f next v p i h = by f p (each-wider (EndsBehind (place_of f)) (EndsBehind next) (λ e k l. k (behind_next (place_of f) next (precedes-le f next p) (Clustered e.position) l)) v.entries h.last)
+pub updated-place : (force : Option Tomb) (f : Frag) (next : Place) (v : Version) → Precedes f next → IsVersion v → HasItsPlace (unit_place f) v.entries → HasItsPlace next (updated force f next v).entries
+updated-place force f next v p i h = by f p (each-wider (EndsBehind (unit_place f)) (EndsBehind next) (λ e k l. k (behind_next (unit_place f) next (precedes-le f next p) (Clustered e.position) l)) v.entries h.last)
   where
     by : (f : Frag) → Precedes f next → EachEntry (EndsBehind next) v.entries → HasItsPlace next (updated force f next v).entries
     by (frag.Start pt) p b = record { stands = stands_at next v.entries i.ends; last = last_split next v.entries b }

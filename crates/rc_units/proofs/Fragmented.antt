@@ -12,28 +12,27 @@ use Rattle.rc_cell.specs.declared.rows.Row.{Row}
 use Rattle.rc_cell.specs.declared.writes.Cell.{Cell}
 use Rattle.rc_cell.specs.declared.writes.Tomb.{Tomb}
 use Rattle.rc_cell.specs.ByColumn.{first, second, test_of}
-use Rattle.rc_cell.specs.Laws.{joined_row-none}
+use Rattle.rc_cell.specs.laws.{joined_row-none}
 use Rattle.rc_cell.specs.Winner.{joined_row, empty_row}
 use Rattle.rc_position.specs.declared.comps.Comp.{Comp}
 use Rattle.rc_position.specs.declared.positions.Pos.{Pos}
 use Rattle.rc_position.specs.Position.{Place, Head, Static, Clustered, End, place_cmp, pos_cmp, row_pos, IsBefore}
-use Rattle.rc_position.specs.OrderLaws.{pos_cmp_total, pos_cmp_same}
+use Rattle.rc_position.specs.laws.Orders.{pos_cmp_total, pos_cmp_same}
 use Rattle.rc_ranges.specs.declared.pieces.Piece.{Piece}
-use Rattle.rc_ranges.specs.Cover.{IsCanonical}
-use Rattle.rc_ranges.specs.Cover.{cover as range_tomb}
-use Rattle.rc_ranges.specs.Sweep.{lt}
-use Rattle.rc_ranges.specs.Laws.Covering.{cover-none, cover-before, cover-inside, cover-behind}
+use Rattle.rc_ranges.specs.Cover.{IsCanonical, cover as range_tomb}
+use Rattle.rc_ranges.specs.calls.Sweep.{lt}
+use Rattle.rc_ranges.specs.laws.Covering.{cover-none, cover-before, cover-inside, cover-behind}
 use Rattle.rc_mutation.specs.declared.fragments.Frag.{Frag}
 use Rattle.rc_mutation.specs.declared.fragments.Frag.TheVariants as frag
 use Rattle.rc_mutation.specs.declared.mutations.Mutation.{Mutation}
 use Rattle.rc_mutation.specs.Fragments.{begins_at, changes_of, fragments, has_any, in_order, is_written, place_order, placed_change, placed_row, static_fragment}
 use Rattle.rc_mutation.specs.Source.{IsMutation, source_at, source_at_head, source_at_static, rows_in}
-use Rattle.rc_mutation.specs.SourceLaws.{head-one, statics-one}
-use Rattle.rc_mutation.specs.Laws.FragMerge.{changes-placed, fragment_of, merge, merge-in_order, merge_into, rows-placed}
+use Rattle.rc_mutation.specs.laws.Sources.{head-one, statics-one}
+use Rattle.rc_mutation.specs.laws.FragMerge.{changes-placed, fragment_of, merge, merge-in_order, merge_into, rows-placed}
 use Rattle.rc_core.specs.laws.Losing.{tomb-alone}
 use Rattle.rc_core.specs.laws.Spots.{turn_to}
 use Rattle.rc_units.proofs.Putting.{not_less}
-use Rattle.rc_units.specs.Update.{AreFragmentsOf, IsFragmentOf, Precedes, force_after, fragment_head, fragment_rows, fragment_statics, place_of}
+use Rattle.rc_units.specs.Update.{AreFragmentsOf, IsFragmentOf, Precedes, force_after, fragment_head, fragment_rows, fragment_statics, unit_place}
 
 abbrev Keyed : Type 0
 Keyed = List Comp × Row
@@ -158,7 +157,7 @@ pos_behind Equal x from next h off l = subst (λ z. pos_cmp x z ≡ Less) (pos_c
 pos_behind Greater x from next h off l = absurd (off refl)
 
 -- what is not before the next place is not before the fragment
-not_earlier : (f : Frag) (next x : Pos) → Precedes f (Clustered next) → (pos_cmp x next ≡ Less → ⊥) → place_cmp (Clustered x) (place_of f) ≡ Less → ⊥
+not_earlier : (f : Frag) (next x : Pos) → Precedes f (Clustered next) → (pos_cmp x next ≡ Less → ⊥) → place_cmp (Clustered x) (unit_place f) ≡ Less → ⊥
 not_earlier (frag.Start pt) next x p off l = cc
 not_earlier (frag.Static row) next x p off l = cc
 not_earlier (frag.Row key row) next x p off l = off (pos_cmp_total.trans x (row_pos key) next l p)
@@ -193,12 +192,12 @@ no_write row h = nothing_written row.marker row.tomb row.cells h
 module _ (m : Mutation) where
   -- from the fragment's place on the mutation has its row, the rows that follow, and the tombstone in force along the changes that follow
   abbrev SaysFrom : Frag → Option Tomb → List Keyed → List Change → Type 0
-  SaysFrom f tomb os bs = (x : Pos) → (place_cmp (Clustered x) (place_of f) ≡ Less → ⊥) → source_at (m ∷ []) x ≡ (joined_row (fragment_rows f x ++ rows_in x os), in_force tomb bs x)
+  SaysFrom f tomb os bs = (x : Pos) → (place_cmp (Clustered x) (unit_place f) ≡ Less → ⊥) → source_at (m ∷ []) x ≡ (joined_row (fragment_rows f x ++ rows_in x os), in_force tomb bs x)
 
   -- what a fragment says besides, at the head and at the static row
   record SaysFirst (f : Frag) : Type 0 where
-    pub head : place_of f ≡ Head → source_at_head (m ∷ []) ≡ fragment_head f
-    pub statics : (place_cmp Static (place_of f) ≡ Less → ⊥) → joined_row (fragment_statics f) ≡ source_at_static (m ∷ [])
+    pub head : unit_place f ≡ Head → source_at_head (m ∷ []) ≡ fragment_head f
+    pub statics : (place_cmp Static (unit_place f) ≡ Less → ⊥) → joined_row (fragment_statics f) ≡ source_at_static (m ∷ [])
 
   row_first : (k : List Comp) (r : Row) → SaysFirst (frag.Row k r)
   row_first k r = record { head = λ h. absurd (cc); statics = λ off. absurd (off refl) }
@@ -230,21 +229,21 @@ module _ (m : Mutation) where
   abbrev tail_of : List ((Pos × ℕ) × Frag) → List Frag
   tail_of placed = list_map fragment_of placed ++ frag.End ∷ []
 
-  precedes_end : (f : Frag) → (place_cmp (place_of f) End ≡ Less) → Precedes f End
+  precedes_end : (f : Frag) → (place_cmp (unit_place f) End ≡ Less) → Precedes f End
   precedes_end (frag.Start pt) l = refl
   precedes_end (frag.Static row) l = refl
   precedes_end (frag.Row key row) l = refl
   precedes_end (frag.Change from tomb) l = λ g. cc
   precedes_end frag.End l = absurd (cc)
 
-  last_stretch : (force : Option Tomb) (f : Frag) → SaysFrom f (force_after force f) [] [] → SaysFirst f → place_cmp (place_of f) End ≡ Less → AreFragmentsOf m force (f ∷ frag.End ∷ [])
+  last_stretch : (force : Option Tomb) (f : Frag) → SaysFrom f (force_after force f) [] [] → SaysFirst f → place_cmp (unit_place f) End ≡ Less → AreFragmentsOf m force (f ∷ frag.End ∷ [])
   last_stretch force f says at_first l = (stretch force f End [] [] says at_first (precedes_end f l) (λ x _. (refl, refl)), tt)
 
   next_change_of : (b : Change) (bs : List Change) → SortedChanges (b ∷ bs) → FirstChange (frag.Change b.0 b.1) bs
   next_change_of b [] g = tt
   next_change_of b (c ∷ bs) g = λ h. let u : Less ≡ Greater = sym (change_before_next b c bs g) ∙ h in cc
 
-  changes_alone : (force : Option Tomb) (f : Frag) (bs : List Change) → SaysFrom f (force_after force f) [] bs → SaysFirst f → place_cmp (place_of f) End ≡ Less → FirstChange f bs → SortedChanges bs →
+  changes_alone : (force : Option Tomb) (f : Frag) (bs : List Change) → SaysFrom f (force_after force f) [] bs → SaysFirst f → place_cmp (unit_place f) End ≡ Less → FirstChange f bs → SortedChanges bs →
       AreFragmentsOf m force (f ∷ tail_of (list_map placed_change bs))
   changes_alone force f [] says at_first l p g = last_stretch force f says at_first l
   changes_alone force f (b ∷ bs) says at_first l p g = (
@@ -256,7 +255,7 @@ module _ (m : Mutation) where
   next_row a [] g = tt
   next_row a (o ∷ os) g = row_before_next a o os g
 
-  rows_alone : (force : Option Tomb) (f : Frag) (os : List Keyed) → SaysFrom f (force_after force f) os [] → SaysFirst f → place_cmp (place_of f) End ≡ Less → FirstRow f os → SortedRows os →
+  rows_alone : (force : Option Tomb) (f : Frag) (os : List Keyed) → SaysFrom f (force_after force f) os [] → SaysFirst f → place_cmp (unit_place f) End ≡ Less → FirstRow f os → SortedRows os →
       AreFragmentsOf m force (f ∷ tail_of (list_map placed_row os))
   rows_alone force f [] says at_first l p g = last_stretch force f says at_first l
   rows_alone force f (a ∷ os) says at_first l p g = (
@@ -265,10 +264,10 @@ module _ (m : Mutation) where
   )
 
   abbrev Merged : List Keyed → Type 0
-  Merged os = (force : Option Tomb) (f : Frag) (bs : List Change) → SaysFrom f (force_after force f) os bs → SaysFirst f → place_cmp (place_of f) End ≡ Less → FirstRow f os → FirstChange f bs → SortedChanges bs →
+  Merged os = (force : Option Tomb) (f : Frag) (bs : List Change) → SaysFrom f (force_after force f) os bs → SaysFirst f → place_cmp (unit_place f) End ≡ Less → FirstRow f os → FirstChange f bs → SortedChanges bs →
       AreFragmentsOf m force (f ∷ tail_of (merge os bs))
 
-  merged_into : (a : Keyed) (os : List Keyed) → SortedRows (a ∷ os) → Merged os → (force : Option Tomb) (f : Frag) (bs : List Change) → SaysFrom f (force_after force f) (a ∷ os) bs → SaysFirst f → place_cmp (place_of f) End ≡ Less →
+  merged_into : (a : Keyed) (os : List Keyed) → SortedRows (a ∷ os) → Merged os → (force : Option Tomb) (f : Frag) (bs : List Change) → SaysFrom f (force_after force f) (a ∷ os) bs → SaysFirst f → place_cmp (unit_place f) End ≡ Less →
       FirstRow f (a ∷ os) → FirstChange f bs → SortedChanges bs → AreFragmentsOf m force (f ∷ tail_of (merge_into a os (merge os) bs))
   merged_into a os g ih force f [] says at_first l p c s = rows_alone force f (a ∷ os) says at_first l p g
   merged_into a os g ih force f (b ∷ bs) says at_first l p c s =

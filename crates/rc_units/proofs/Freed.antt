@@ -8,7 +8,7 @@ use Rattle.std.specs.Cmp.{tied_itself}
 use Rattle.rc_cell.specs.declared.rows.Row.{Row}
 use Rattle.rc_position.specs.declared.positions.Pos.{Pos}
 use Rattle.rc_position.specs.Position.{IsBefore, pos_cmp}
-use Rattle.rc_position.specs.OrderLaws.{pos_cmp_total}
+use Rattle.rc_position.specs.laws.Orders.{pos_cmp_total}
 use Rattle.rc_core.specs.declared.entries.ChainKind.{ChainKind}
 use Rattle.rc_core.specs.declared.entries.Entry.{Entry}
 use Rattle.rc_core.specs.declared.entries.Mark.{Mark}
@@ -16,7 +16,7 @@ use Rattle.rc_core.specs.AtPlace.{HasEntryAt}
 use Rattle.rc_core.specs.Chains.{Chain, IsUpdating, with_versions}
 use Rattle.rc_core.specs.Change.{take_out, with_first_gap}
 use Rattle.rc_core.specs.Continuity.{EachOf}
-use Rattle.rc_core.specs.Free.{IsLeft, free_entry, free_statics, freed_mark}
+use Rattle.rc_core.specs.Free.{IsAbandoned, free_entry, free_statics, freed_mark}
 use Rattle.rc_core.specs.Steps.{IsChain}
 use Rattle.rc_core.specs.Version.{IsVersion, Version, end_position}
 use Rattle.rc_core.specs.laws.Freeing.{replaced-form}
@@ -79,7 +79,7 @@ module _ (c : Chain) (front back : List Version) (v : Version) (vs : c.versions 
   pub statics-form : (kind : ChainKind) → IsChain (with_versions (front ++ free_statics kind v ∷ back) c)
   statics-form kind = replaced-form c front back v (free_statics kind v) vs (record { ascend = is_version.ascend; ends = is_version.ends }) ch
 
-  pub version-form : IsLeft c → IsChain (with_versions (front ++ back) c)
+  pub version-form : IsAbandoned c → IsChain (with_versions (front ++ back) c)
   version-form l = record {
     versions = each_less IsVersion front back v (subst (EachOf IsVersion) vs ch.versions);
     pins = λ j p. absurd (l.unpinned j p);

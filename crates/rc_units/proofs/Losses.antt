@@ -7,11 +7,11 @@ use Rattle.std.specs.Ordering.{ordering_reverse, is_lt, is_le, is_gt}
 use Rattle.rc_cell.specs.declared.rows.Row.{Row}
 use Rattle.rc_position.specs.declared.positions.Pos.{Pos}
 use Rattle.rc_position.specs.Position.{Place, Head, Static, Clustered, End, place_cmp, pos_cmp, IsBefore}
-use Rattle.rc_position.specs.BoundLaws.{place_cmp_total, place_cmp_same}
+use Rattle.rc_position.specs.laws.Bounds.{place_cmp_total, place_cmp_same}
 use Rattle.rc_core.specs.declared.entries.Entry.{Entry}
 use Rattle.rc_core.specs.declared.entries.Flag.TheVariants.{Unknown}
-use Rattle.rc_core.specs.Cell.{lost}
-use Rattle.rc_core.specs.Version.{Spot, On, Behind, found, seen, spot_cmp, Version, IsVersion, EndsWithDummy, cell_of, static_cell, end_position}
+use Rattle.rc_core.specs.SpotState.{lost}
+use Rattle.rc_core.specs.Version.{Spot, On, Behind, found, seen, spot_cmp, Version, IsVersion, EndsWithDummy, state_of, static_state, end_position}
 use Rattle.rc_core.specs.Change.{lost_mark, position_of}
 use Rattle.rc_core.specs.laws.GivenUp.{at_itself}
 use Rattle.rc_core.specs.laws.Order.{ascend-map}
@@ -93,15 +93,15 @@ pub positions-stay : (p : Place) (es : List Entry) → list_map (λ (e : Entry).
 positions-stay p [] = refl
 positions-stay p (e ∷ es) = ap (λ xs. e.position ∷ xs) (positions-stay p es)
 
-statics_kept : (b : Bool) (v : Version) → b ≡ false → static_cell (cond b (record { pt = v.pt; statics = None; static_flag = Unknown; entries = v.entries; phase = v.phase }) v) ≡ static_cell v
+statics_kept : (b : Bool) (v : Version) → b ≡ false → static_state (cond b (record { pt = v.pt; statics = None; static_flag = Unknown; entries = v.entries; phase = v.phase }) v) ≡ static_state v
 statics_kept true v h = absurd (cc)
 statics_kept false v h = refl
 
-statics_gone : (b : Bool) (v : Version) → b ≡ true → static_cell (cond b (record { pt = v.pt; statics = None; static_flag = Unknown; entries = v.entries; phase = v.phase }) v) ≡ lost
+statics_gone : (b : Bool) (v : Version) → b ≡ true → static_state (cond b (record { pt = v.pt; statics = None; static_flag = Unknown; entries = v.entries; phase = v.phase }) v) ≡ lost
 statics_gone true v h = refl
 statics_gone false v h = absurd (cc)
 
-pub statics-lost : (p : Place) (v : Version) → (place_cmp Static p ≡ Less → ⊥) → static_cell (lost_from p v) ≡ lost
+pub statics-lost : (p : Place) (v : Version) → (place_cmp Static p ≡ Less → ⊥) → static_state (lost_from p v) ≡ lost
 statics-lost p v off = statics_gone (is_le (place_cmp p Static)) v (le_by (place_cmp Static p) p Static refl off)
 
 head_kept : (b : Bool) (v : Version) → (cond b (record { pt = v.pt; statics = None; static_flag = Unknown; entries = v.entries; phase = v.phase }) v).pt ≡ v.pt
@@ -115,9 +115,9 @@ lost-is p v i a = record {
   head = head_kept (is_le (place_cmp p Static)) v;
   statics = statics-lost p v;
   statics_left = λ l. statics_kept (is_le (place_cmp p Static)) v (ap is_le (turned_place Static p l));
-  clustered = λ x off b. (ap cell_of (lost-within p (On x) v.entries off b i.ends), ap cell_of (lost-within p (Behind x) v.entries off b i.ends));
-  clustered_left = λ s l. ap cell_of (lost-before p s v.entries (place-cut p v.entries i.ascend a.place) l);
-  at_end = inl (ap cell_of (lost-end p (On end_position) v.entries (λ l. let u : Less ≡ Equal = sym l ∙ at_itself in cc)));
+  clustered = λ x off b. (ap state_of (lost-within p (On x) v.entries off b i.ends), ap state_of (lost-within p (Behind x) v.entries off b i.ends));
+  clustered_left = λ s l. ap state_of (lost-before p s v.entries (place-cut p v.entries i.ascend a.place) l);
+  at_end = inl (ap state_of (lost-end p (On end_position) v.entries (λ l. let u : Less ≡ Equal = sym l ∙ at_itself in cc)));
 }
 
 lost_phase : (b : Bool) (v : Version) → (cond b (record { pt = v.pt; statics = None; static_flag = Unknown; entries = v.entries; phase = v.phase }) v).phase ≡ v.phase

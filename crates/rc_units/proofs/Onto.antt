@@ -7,10 +7,10 @@ use Rattle.std.specs.Ordering.{is_gt}
 use Rattle.std.specs.Cmp.{tied_itself, upto}
 use Rattle.rc_position.specs.declared.positions.Pos.{Pos}
 use Rattle.rc_position.specs.Position.{pos_cmp}
-use Rattle.rc_position.specs.OrderLaws.{pos_cmp_total, pos_cmp_same}
+use Rattle.rc_position.specs.laws.Orders.{pos_cmp_total, pos_cmp_same}
 use Rattle.rc_core.specs.declared.entries.Entry.{Entry}
 use Rattle.rc_core.specs.declared.entries.Flag.TheVariants.{Inherit}
-use Rattle.rc_core.specs.Version.{Spot, On, Behind, behind, spot_cmp, Found, found, entry_answers, seen, IsBeforeEnd, IsReachedBy}
+use Rattle.rc_core.specs.Version.{Spot, On, Behind, gap_ordering, spot_cmp, Finding, found, entry_answers, seen, IsBeforeEnd, IsReachedBy}
 use Rattle.rc_core.specs.Change.{mark, split, split_by}
 use Rattle.rc_core.specs.laws.Spots.{turn_to, behind-Equal, spot-Less, spot-before}
 
@@ -90,14 +90,14 @@ after_it Greater x e y h off l = pos_cmp_total.trans e x y (turn_to x e Greater 
 -- an entry behind a spot stands behind each position that the spot is not before
 pub spot-between : (s : Spot) (e y : Pos) → (spot_cmp s e ≡ Less → ⊥) → spot_cmp s y ≡ Less → pos_cmp e y ≡ Less
 spot-between (On x) e y off l = after_it (pos_cmp x e) x e y refl off l
-spot-between (Behind x) e y off l = after_it (pos_cmp x e) x e y refl (λ h. off (ap behind h)) (spot-Less (Behind x) y l)
+spot-between (Behind x) e y off l = after_it (pos_cmp x e) x e y refl (λ h. off (ap gap_ordering h)) (spot-Less (Behind x) y l)
 
 -- ---- a function on each entry
 
-abbrev pub nothing_found : Found
+abbrev pub nothing_found : Finding
 nothing_found = found (mark Inherit None) None
 
-module _ (f : Entry → Entry) (keeps : (y : Entry) → (f y).position ≡ y.position) (s : Spot) (F : Found → Found) (P : Pos → Type 0)
+module _ (f : Entry → Entry) (keeps : (y : Entry) → (f y).position ≡ y.position) (s : Spot) (F : Finding → Finding) (P : Pos → Type 0)
     (gaps : (y : Entry) → spot_cmp s y.position ≡ Less → P y.position → found (f y).gap None ≡ F (found y.gap None))
     (ats : (y : Entry) → spot_cmp s y.position ≡ Equal → found (f y).at (f y).row ≡ F (found y.at y.row)) where
   pub map-seen : (es : List Entry) → IsBeforeEnd s es ⊎ (F nothing_found ≡ nothing_found) → GapIs P s es → seen s (list_map f es) ≡ F (seen s es)

@@ -11,22 +11,22 @@ use Rattle.rc_cell.specs.declared.writes.Tomb.{Tomb}
 use Rattle.rc_position.specs.declared.comps.Comp.{Comp}
 use Rattle.rc_position.specs.declared.positions.Pos.{Pos}
 use Rattle.rc_position.specs.Position.{Place, Head, Static, Clustered, End, place_cmp, pos_cmp, row_pos, covers, IsBefore}
-use Rattle.rc_position.specs.OrderLaws.{pos_cmp_total, pos_cmp_same}
-use Rattle.rc_position.specs.BoundLaws.{After-rows, last_pos-greatest}
+use Rattle.rc_position.specs.laws.Orders.{pos_cmp_total, pos_cmp_same}
+use Rattle.rc_position.specs.laws.Bounds.{After-rows, last_pos-greatest}
 use Rattle.rc_mutation.specs.declared.fragments.Frag.{Frag}
 use Rattle.rc_mutation.specs.declared.fragments.Frag.TheVariants as frag
 use Rattle.rc_core.specs.declared.entries.Entry.{Entry}
 use Rattle.rc_core.specs.declared.entries.Flag.TheVariants.{Inherit}
 use Rattle.rc_core.specs.declared.entries.Mark.{Mark}
-use Rattle.rc_core.specs.Cell.{cell, nothing}
-use Rattle.rc_core.specs.Version.{Spot, On, Behind, Found, found, seen, behind, entry_answers, cell_of, cell_at, IsBeforeEnd, EndsWithDummy, Version, IsVersion, end_position}
-use Rattle.rc_core.specs.Change.{mark, change, joined_onto, raised, join_row_at, position_of}
+use Rattle.rc_core.specs.SpotState.{spot_state, silent}
+use Rattle.rc_core.specs.Version.{Spot, On, Behind, Finding, found, seen, gap_ordering, entry_answers, state_of, state_at, IsBeforeEnd, EndsWithDummy, Version, IsVersion, end_position}
+use Rattle.rc_core.specs.Change.{mark, change, joined_onto, raised_mark, join_row_at, position_of}
 use Rattle.rc_core.specs.Continuity.{with_entries}
 use Rattle.rc_core.specs.laws.Order.{join_row-is}
 use Rattle.rc_core.specs.laws.Spots.{turned, turn_to, with_f, change-seen, split-seen, position-reached, gap-reached, join_row-there, join_row-elsewhere}
 use Rattle.rc_core.specs.AtPlace.{IsSilentFrom}
 use Rattle.rc_core.specs.Unit.{IsStretch}
-use Rattle.rc_units.specs.Update.{place_of, fragment_cell_at, Precedes, split_at, raise_upto, updated}
+use Rattle.rc_units.specs.Update.{unit_place, fragment_state_at, Precedes, split_at, raise_upto, updated}
 use Rattle.rc_units.proofs.Onto.{nothing_found}
 
 -- ---- orders
@@ -71,7 +71,7 @@ row_before_end key = After-rows [] key
 
 -- ---- spots that no entry of a version reaches
 
-past_it : (r : Ordering) → (r ≡ Less → ⊥) → behind r ≡ Greater
+past_it : (r : Ordering) → (r ≡ Less → ⊥) → gap_ordering r ≡ Greater
 past_it Less off = absurd (off refl)
 past_it Equal off = refl
 past_it Greater off = refl
@@ -108,27 +108,27 @@ module _ (tomb : Option Tomb) (q : Pos) (es : List Entry) (d : EndsWithDummy es)
   pub raise-before : (next : Place) → pos_cmp (position_of s) q ≡ Less → seen s (raise_upto tomb q next es) ≡ seen s es
   raise-before Head l = refl
   raise-before Static l = refl
-  raise-before (Clustered y) l = unchanged (raised tomb) q y s es d (uncovered_before q y (position_of s) l)
-  raise-before End l = unchanged (raised tomb) q end_position s es d (uncovered_before q end_position (position_of s) l)
+  raise-before (Clustered y) l = unchanged (raised_mark tomb) q y s es d (uncovered_before q y (position_of s) l)
+  raise-before End l = unchanged (raised_mark tomb) q end_position s es d (uncovered_before q end_position (position_of s) l)
 
   pub raise-within : (next : Place) → (pos_cmp (position_of s) q ≡ Less → ⊥) → IsBefore (position_of s) end_position → place_cmp (Clustered (position_of s)) next ≡ Less →
-      seen s (raise_upto tomb q next es) ≡ with_f (raised tomb) (seen s es)
+      seen s (raise_upto tomb q next es) ≡ with_f (raised_mark tomb) (seen s es)
   raise-within Head off l h = absurd (cc)
   raise-within Static off l h = absurd (cc)
-  raise-within (Clustered y) off l h = changed_in (raised tomb) q y s es (reached_inside s es d l) (covered q y (position_of s) off h)
-  raise-within End off l h = changed_in (raised tomb) q end_position s es (reached_inside s es d l) (covered q end_position (position_of s) off l)
+  raise-within (Clustered y) off l h = changed_in (raised_mark tomb) q y s es (reached_inside s es d l) (covered q y (position_of s) off h)
+  raise-within End off l h = changed_in (raised_mark tomb) q end_position s es (reached_inside s es d l) (covered q end_position (position_of s) off l)
 
   pub raise-behind : (next : Place) → (place_cmp (Clustered (position_of s)) next ≡ Less → ⊥) → seen s (raise_upto tomb q next es) ≡ seen s es
   raise-behind Head off = refl
   raise-behind Static off = refl
-  raise-behind (Clustered y) off = unchanged (raised tomb) q y s es d (uncovered_behind q y (position_of s) off)
+  raise-behind (Clustered y) off = unchanged (raised_mark tomb) q y s es d (uncovered_behind q y (position_of s) off)
   raise-behind End off = absurd (off refl)
 
   pub raise-end : (next : Place) → (pos_cmp (position_of s) end_position ≡ Less → ⊥) → seen s (raise_upto tomb q next es) ≡ seen s es
   raise-end Head off = refl
   raise-end Static off = refl
-  raise-end (Clustered y) off = unchanged (raised tomb) q y s es d (uncovered_behind q y (position_of s) (λ l. off (before_end y (position_of s) l)))
-  raise-end End off = unchanged (raised tomb) q end_position s es d (uncovered_behind q end_position (position_of s) off)
+  raise-end (Clustered y) off = unchanged (raised_mark tomb) q y s es d (uncovered_behind q y (position_of s) (λ l. off (before_end y (position_of s) l)))
+  raise-end End off = unchanged (raised_mark tomb) q end_position s es d (uncovered_behind q end_position (position_of s) off)
 
 -- ---- a row
 
@@ -143,8 +143,8 @@ none_listed None h = refl
 none_listed (Some x) h = absurd (cc)
 
 -- a spot of which nothing is said
-pub cell-nothing : (a : Found) → cell_of a ≡ nothing → a ≡ nothing_found
-cell-nothing a h = λ i. found (mark (h i).flag (none_listed a.mark.tomb (ap (λ c. c.tombs) h) i)) (none_listed a.row (ap (λ c. c.rows) h) i)
+pub state-silent : (a : Finding) → state_of a ≡ silent → a ≡ nothing_found
+state-silent a h = λ i. found (mark (h i).flag (none_listed a.mark.tomb (ap (λ c. c.tombs) h) i)) (none_listed a.row (ap (λ c. c.rows) h) i)
 
 not_on : (s : Spot) (q : Pos) → (position_of s ≡ q → ⊥) → s ≡ On q → ⊥
 not_on s q off e = off (ap position_of e)
@@ -162,7 +162,7 @@ split_seen_at s (Clustered x) es = split-seen s x es
 split_seen_at s End es = refl
 
 module _ (force : Option Tomb) (next : Place) (v : Version) (i : IsVersion v) (s : Spot) where
-  pub unit-before : (f : Frag) → Precedes f next → place_cmp (Clustered (position_of s)) (place_of f) ≡ Less → seen s (updated force f next v).entries ≡ seen s v.entries
+  pub unit-before : (f : Frag) → Precedes f next → place_cmp (Clustered (position_of s)) (unit_place f) ≡ Less → seen s (updated force f next v).entries ≡ seen s v.entries
   unit-before (frag.Start pt) p l = split_seen_at s next v.entries
   unit-before (frag.Static row) p l = split_seen_at s next v.entries
   unit-before (frag.Row key row) p l =
@@ -193,48 +193,48 @@ module _ (force : Option Tomb) (next : Place) (v : Version) (i : IsVersion v) (s
   pub raised-nothing : (tomb : Option Tomb) (q : Pos) (es : List Entry) → EndsWithDummy es → (row : Option Row) → seen s es ≡ found (mark Inherit None) row →
       (pos_cmp (position_of s) q ≡ Less → ⊥) → IsBefore (position_of s) end_position → place_cmp (Clustered (position_of s)) next ≡ Less →
       seen s (raise_upto tomb q next es) ≡ found (mark Inherit tomb) row
-  raised-nothing tomb q es d row e off l h = raise-within tomb q es d s next off l h ∙ ap (with_f (raised tomb)) e
+  raised-nothing tomb q es d row e off l h = raise-within tomb q es d s next off l h ∙ ap (with_f (raised_mark tomb)) e
 
 -- the row of a fragment, where it says nothing else
 row_within : (force : Option Tomb) (next : Place) (v : Version) (i : IsVersion v) (key : List Comp) (row : Row) (s : Spot) → seen s v.entries ≡ nothing_found →
     (pos_cmp (position_of s) (row_pos key) ≡ Less → ⊥) → IsBefore (position_of s) end_position → place_cmp (Clustered (position_of s)) next ≡ Less →
-    cell_at s (updated force (frag.Row key row) next v) ≡ fragment_cell_at force (frag.Row key row) s
+    state_at s (updated force (frag.Row key row) next v) ≡ fragment_state_at force (frag.Row key row) s
 row_within force next v i key row (Behind x) e off l h =
-    ap cell_of (raised-nothing force next v i (Behind x) force (row_pos key) (join_row_at (row_pos key) row v.entries) (row-is key row v i).ends None
+    ap state_of (raised-nothing force next v i (Behind x) force (row_pos key) (join_row_at (row_pos key) row v.entries) (row-is key row v i).ends None
     (join_row-elsewhere (Behind x) (row_pos key) row v.entries (λ e. cc) ∙ e) off l h)
 row_within force next v i key row (On x) e off l h =
-    elim (pos_cmp x (row_pos key)) as (λ r. pos_cmp x (row_pos key) ≡ r → cell_at (On x) (updated force (frag.Row key row) next v) ≡ cell Inherit (cond (is_eq r) (row ∷ []) []) (option_to_list force)) [
+    elim (pos_cmp x (row_pos key)) as (λ r. pos_cmp x (row_pos key) ≡ r → state_at (On x) (updated force (frag.Row key row) next v) ≡ spot_state Inherit (cond (is_eq r) (row ∷ []) []) (option_to_list force)) [
       | Less ↦ λ k. absurd (off k)
-      | Equal ↦ λ k. ap cell_of (raised-nothing force next v i (On x) force (row_pos key) (join_row_at (row_pos key) row v.entries) (row-is key row v i).ends (Some row) (there k) off l h)
-      | Greater ↦ λ k. ap cell_of (raised-nothing force next v i (On x) force (row_pos key) (join_row_at (row_pos key) row v.entries) (row-is key row v i).ends None (elsewhere k) off l h)
+      | Equal ↦ λ k. ap state_of (raised-nothing force next v i (On x) force (row_pos key) (join_row_at (row_pos key) row v.entries) (row-is key row v i).ends (Some row) (there k) off l h)
+      | Greater ↦ λ k. ap state_of (raised-nothing force next v i (On x) force (row_pos key) (join_row_at (row_pos key) row v.entries) (row-is key row v i).ends None (elsewhere k) off l h)
     ] refl
   where
     there : pos_cmp x (row_pos key) ≡ Equal → seen (On x) (join_row_at (row_pos key) row v.entries) ≡ found (mark Inherit None) (Some row)
     there k =
         let same = pos_cmp_same x (row_pos key) k in
         subst (λ z. seen (On z) (join_row_at (row_pos key) row v.entries) ≡ found (mark Inherit None) (Some row)) (sym same)
-        (join_row-there (row_pos key) row v.entries i.ends ∙ ap (λ (a : Found). found a.mark (Some (joined_onto a.row row))) (subst (λ z. seen (On z) v.entries ≡ nothing_found) same e))
+        (join_row-there (row_pos key) row v.entries i.ends ∙ ap (λ (a : Finding). found a.mark (Some (joined_onto a.row row))) (subst (λ z. seen (On z) v.entries ≡ nothing_found) same e))
 
     elsewhere : pos_cmp x (row_pos key) ≡ Greater → seen (On x) (join_row_at (row_pos key) row v.entries) ≡ nothing_found
     elsewhere k = join_row-elsewhere (On x) (row_pos key) row v.entries (λ g. let u : Greater ≡ Equal = sym k ∙ ap (λ z. pos_cmp (position_of z) (row_pos key)) g ∙ tied_itself pos_cmp_total (row_pos key) in cc) ∙ e
 
 module _ (force : Option Tomb) (next : Place) (v : Version) (i : IsVersion v) (s : Spot) (l : IsBefore (position_of s) end_position) where
-  pub unit-within : (f : Frag) → Precedes f next → IsSilentFrom (place_of f) v → IsStretch (place_of f) next (Clustered (position_of s)) → cell_at s (updated force f next v) ≡ fragment_cell_at force f s
-  unit-within (frag.Start pt) p silent w = ap cell_of (split_seen_at s next v.entries) ∙ silent.clustered s w.begun ∙ nothing_said s
+  pub unit-within : (f : Frag) → Precedes f next → IsSilentFrom (unit_place f) v → IsStretch (unit_place f) next (Clustered (position_of s)) → state_at s (updated force f next v) ≡ fragment_state_at force f s
+  unit-within (frag.Start pt) p silent w = ap state_of (split_seen_at s next v.entries) ∙ silent.clustered s w.begun ∙ nothing_said s
     where
-      nothing_said : (s : Spot) → nothing ≡ fragment_cell_at force (frag.Start pt) s
+      nothing_said : (s : Spot) → silent ≡ fragment_state_at force (frag.Start pt) s
       nothing_said (On x) = refl
       nothing_said (Behind x) = refl
-  unit-within (frag.Static row) p silent w = ap cell_of (split_seen_at s next v.entries) ∙ silent.clustered s w.begun ∙ nothing_said s
+  unit-within (frag.Static row) p silent w = ap state_of (split_seen_at s next v.entries) ∙ silent.clustered s w.begun ∙ nothing_said s
     where
-      nothing_said : (s : Spot) → nothing ≡ fragment_cell_at force (frag.Static row) s
+      nothing_said : (s : Spot) → silent ≡ fragment_state_at force (frag.Static row) s
       nothing_said (On x) = refl
       nothing_said (Behind x) = refl
-  unit-within (frag.Row key row) p silent w = row_within force next v i key row s (cell-nothing (seen s v.entries) (silent.clustered s w.begun)) w.begun l w.short
+  unit-within (frag.Row key row) p silent w = row_within force next v i key row s (state-silent (seen s v.entries) (silent.clustered s w.begun)) w.begun l w.short
   unit-within (frag.Change from tomb) p silent w =
-      ap cell_of (raised-nothing force next v i s tomb from v.entries i.ends None (cell-nothing (seen s v.entries) (silent.clustered s w.begun)) w.begun l w.short) ∙ said_of s
+      ap state_of (raised-nothing force next v i s tomb from v.entries i.ends None (state-silent (seen s v.entries) (silent.clustered s w.begun)) w.begun l w.short) ∙ said_of s
     where
-      said_of : (s : Spot) → cell Inherit [] (option_to_list tomb) ≡ fragment_cell_at force (frag.Change from tomb) s
+      said_of : (s : Spot) → spot_state Inherit [] (option_to_list tomb) ≡ fragment_state_at force (frag.Change from tomb) s
       said_of (On x) = refl
       said_of (Behind x) = refl
   unit-within frag.End p silent w = absurd p

@@ -6,14 +6,14 @@ use Rattle.std.specs.declared.cmp.Ordering.TheVariants.{Less, Equal, Greater}
 use Rattle.rc_cell.specs.declared.rows.Row.{Row}
 use Rattle.rc_cell.specs.declared.writes.Tomb.{Tomb}
 use Rattle.rc_position.specs.Position.{pos_cmp, IsBefore}
-use Rattle.rc_position.specs.OrderLaws.{pos_cmp_total}
+use Rattle.rc_position.specs.laws.Orders.{pos_cmp_total}
 use Rattle.rc_core.specs.declared.entries.Entry.{Entry}
 use Rattle.rc_core.specs.declared.entries.Flag.{Flag}
 use Rattle.rc_core.specs.declared.entries.Flag.TheVariants.{Known, Unknown, Inherit}
 use Rattle.rc_core.specs.declared.entries.Mark.{Mark}
 use Rattle.rc_core.specs.Change.{mark}
 use Rattle.rc_core.specs.Plain.{found_under, mark_by, mark_under, no_mark, row_under}
-use Rattle.rc_core.specs.Version.{Found, found}
+use Rattle.rc_core.specs.Version.{Finding, found}
 use Rattle.rc_core.specs.laws.Spots.{turn_to}
 use Rattle.rc_units.specs.Clean.{entry_onto, gap_onto_by, onto_by, onto_at, onto_gap}
 
@@ -31,7 +31,7 @@ row_nothing Unknown r = refl
 row_nothing Inherit None = refl
 row_nothing Inherit (Some r) = refl
 
-pub nothing-under : (newer : Found) → found_under (found no_mark None) newer ≡ newer
+pub nothing-under : (newer : Finding) → found_under (found no_mark None) newer ≡ newer
 nothing-under a = λ i. found (mark-nothing a.mark i) (row_nothing a.mark.flag a.row i)
 
 both_nothing : (m : Mark) (y : Entry) → m ≡ no_mark → onto_at m None (onto_gap m y) ≡ y

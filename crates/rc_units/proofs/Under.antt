@@ -1,4 +1,4 @@
--- What is put under a newer version's cell is seen as the fold of cells has it.
+-- What is put under a newer version's state is seen as the fold of states has it.
 use Rattle.std.specs.Prelude.{◌≡◌, [], ◌∷◌, ◌++◌, Option, Some, None}
 use Rattle.std.proofs.Common.{refl, sym, ap, ◌∙◌}
 use Rattle.std.specs.Option.{option_to_list}
@@ -8,12 +8,12 @@ use Rattle.rc_cell.specs.Orders.{tomb_cmp, tomb_cmp_total}
 use Rattle.rc_cell.specs.Beats.{tomb_cmp-IsAntisymmetric}
 use Rattle.rc_cell.specs.Greatest.{greater, greatest-two}
 use Rattle.rc_cell.specs.Winner.{greatest, joined_row}
-use Rattle.rc_ranges.specs.Laws.Greater.{greatest-both, greater-assoc, greater-same}
+use Rattle.rc_ranges.specs.laws.Greater.{greatest-both, greater-assoc, greater-same}
 use Rattle.rc_core.specs.declared.entries.Flag.{Flag}
 use Rattle.rc_core.specs.declared.entries.Flag.TheVariants.{Known, Unknown, Inherit}
 use Rattle.rc_core.specs.declared.entries.Mark.{Mark}
-use Rattle.rc_core.specs.Cell.{cell, over, under}
-use Rattle.rc_core.specs.Version.{Found, found, cell_of}
+use Rattle.rc_core.specs.SpotState.{spot_state, over, under}
+use Rattle.rc_core.specs.Version.{Finding, found, state_of}
 use Rattle.rc_core.specs.Change.{mark}
 use Rattle.rc_core.specs.Continuity.{joined_options}
 use Rattle.rc_core.specs.Merge.{Alike}
@@ -32,20 +32,20 @@ joined_says None (Some q) = refl
 joined_says (Some r) (Some q) = joined-again (r ∷ q ∷ [])
 
 under_by : (f : Flag) (m : Mark) (r : Option Row) (t : Option Tomb) (q : Option Row) →
-    Alike (cell_of (found (mark_by f m (mark f t)) (row_under f r q))) (over f (cell_of (found m r)) (cell f (option_to_list q) (option_to_list t)))
+    Alike (state_of (found (mark_by f m (mark f t)) (row_under f r q))) (over f (state_of (found m r)) (spot_state f (option_to_list q) (option_to_list t)))
 under_by Known m r t q = (refl, refl)
 under_by Unknown m r t q = (refl, refl)
 under_by Inherit m r t q = (refl, λ i. (joined_says r q i, greater_says m.tomb t i))
 
-pub found-alike : (a b : Found) → Alike (cell_of (found_under a b)) (under (cell_of a) (cell_of b))
+pub found-alike : (a b : Finding) → Alike (state_of (found_under a b)) (under (state_of a) (state_of b))
 found-alike a b = under_by b.mark.flag a.mark a.row b.mark.tomb b.row
 
-statics_by : (f g : Flag) (r q : Option Row) → Alike (cell (flag_under f g) (option_to_list (row_under g r q)) []) (over g (cell f (option_to_list r) []) (cell g (option_to_list q) []))
+statics_by : (f g : Flag) (r q : Option Row) → Alike (spot_state (flag_under f g) (option_to_list (row_under g r q)) []) (over g (spot_state f (option_to_list r) []) (spot_state g (option_to_list q) []))
 statics_by f Known r q = (refl, refl)
 statics_by f Unknown r q = (refl, refl)
 statics_by f Inherit r q = (refl, λ i. (joined_says r q i, greatest tomb_cmp []))
 
-pub statics-alike : (f g : Flag) (r q : Option Row) → Alike (cell (flag_under f g) (option_to_list (row_under g r q)) []) (under (cell f (option_to_list r) []) (cell g (option_to_list q) []))
+pub statics-alike : (f g : Flag) (r q : Option Row) → Alike (spot_state (flag_under f g) (option_to_list (row_under g r q)) []) (under (spot_state f (option_to_list r) []) (spot_state g (option_to_list q) []))
 statics-alike f g r q = statics_by f g r q
 
 -- no row under no row is none

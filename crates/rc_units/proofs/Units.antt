@@ -11,17 +11,17 @@ use Rattle.rc_cell.specs.Orders.{tomb_cmp}
 use Rattle.rc_cell.specs.Winner.{greatest}
 use Rattle.rc_position.specs.declared.positions.Pos.{Pos}
 use Rattle.rc_position.specs.Position.{Place, pos_cmp, IsBefore}
-use Rattle.rc_position.specs.OrderLaws.{pos_cmp_total, pos_cmp_same}
-use Rattle.rc_position.specs.BoundLaws.{last_pos-greatest}
+use Rattle.rc_position.specs.laws.Orders.{pos_cmp_total, pos_cmp_same}
+use Rattle.rc_position.specs.laws.Bounds.{last_pos-greatest}
 use Rattle.rc_mutation.specs.declared.mutations.Mutation.{Mutation}
 use Rattle.rc_core.specs.declared.entries.ChainKind.{ChainKind}
 use Rattle.rc_core.specs.declared.entries.ChainKind.TheVariants.{Memtable, Cache}
 use Rattle.rc_core.specs.declared.entries.Entry.{Entry}
 use Rattle.rc_core.specs.declared.entries.Flag.TheVariants.{Inherit}
-use Rattle.rc_core.specs.Cell.{Cell, over, through}
+use Rattle.rc_core.specs.SpotState.{SpotState, over, through}
 use Rattle.rc_core.specs.Chains.{AllInherit, IsCarried}
 use Rattle.rc_core.specs.Version.{Spot, Version, IsVersion, Ascend, EndsWithDummy, found, seen, spot_cmp, entry_answers, end_position}
-use Rattle.rc_core.specs.Chain.{cells, content, flagged, flag_over, IsEvenAt}
+use Rattle.rc_core.specs.Chain.{states_at, content, flagged, flag_over, IsEvenAt}
 use Rattle.rc_core.specs.Change.{drop_at, without_gap, lose_first_gap, lost_mark}
 use Rattle.rc_core.specs.Continuity.{EachOf, IsContinuous, IsEvicted, IsSameOrLost, with_entries, without_statics}
 use Rattle.rc_core.specs.Merge.{Alike, IsSeenAlike, IsMerged, IsPutDown, IsSilent}
@@ -37,7 +37,7 @@ use Rattle.rc_units.proofs.Versions.{merge_entry-version, end_merged-version, ga
 
 -- ---- what is seen alike
 
-alike_both : (c d e : Cell) → Alike d c → Alike e d → Alike e c
+alike_both : (c d e : SpotState) → Alike d c → Alike e d → Alike e c
 alike_both c d e h k = (k.0 ∙ h.0, k.1 ∙ h.1)
 
 pub alike-again : (vs : List Version) → IsSeenAlike vs vs
@@ -225,19 +225,19 @@ first-lost s n back h = ap (λ r. entry_answers r (without_gap n) (seen s back))
 
 -- what is known now was known before with the same content
 abbrev pub KnownBefore : List Version → List Version → Type 0
-KnownBefore before now = (s : Spot) → IsTrue (flagged Cache (cells s now)) → IsTrue (flagged Cache (cells s before)) × (content (cells s now) ≡ content (cells s before))
+KnownBefore before now = (s : Spot) → IsTrue (flagged Cache (states_at s now)) → IsTrue (flagged Cache (states_at s before)) × (content (states_at s now) ≡ content (states_at s before))
 
 known_both : (us vs ws : List Version) → KnownBefore us vs → KnownBefore vs ws → KnownBefore us ws
 known_both us vs ws h k s f = let a = k s f in let b = h s a.0 in (b.0, a.1 ∙ b.1)
 
-alike_flagged : (us vs : List Cell) → Alike (through vs) (through us) → flagged Cache vs ≡ flagged Cache us
+alike_flagged : (us vs : List SpotState) → Alike (through vs) (through us) → flagged Cache vs ≡ flagged Cache us
 alike_flagged us vs h = flagged-through Cache vs ∙ ap (flag_over Cache) h.0 ∙ sym (flagged-through Cache us)
 
 alike_known : (us vs : List Version) → IsSeenAlike us vs → KnownBefore us vs
-alike_known us vs h s f = (sym (alike_flagged (cells s us) (cells s vs) (h.clustered s)) ∙ f, alike-seen us vs s h)
+alike_known us vs h s f = (sym (alike_flagged (states_at s us) (states_at s vs) (h.clustered s)) ∙ f, alike-seen us vs s h)
 
 lost_known : (us vs : List Version) → IsSameOrLost us vs → KnownBefore us vs
-lost_known us vs h s f = known-before (cells s us) (cells s vs) (h.clustered s) f
+lost_known us vs h s f = known-before (states_at s us) (states_at s vs) (h.clustered s) f
 
 pub lost-known : (kind : ChainKind) (front back : List Version) (v w : Version) → IsVersion v → IsVersion w → KnownBefore (front ++ v ∷ w ∷ back) (front ++ (cleaned_without_room kind v w ++ back))
 lost-known kind front back v w i j =
@@ -263,13 +263,13 @@ module _ (v w : Version) (i : IsVersion v) (j : IsVersion w) where
 
 -- ---- a memtable's chain: where both versions inherit everywhere, they still do
 
-alike_inherit : (c d e f : Cell) → IsPutDown c d e f → c.flag ≡ Inherit → d.flag ≡ Inherit → (e.flag ≡ Inherit) × (f.flag ≡ Inherit)
+alike_inherit : (c d e f : SpotState) → IsPutDown c d e f → c.flag ≡ Inherit → d.flag ≡ Inherit → (e.flag ≡ Inherit) × (f.flag ≡ Inherit)
 alike_inherit c d e f p h k = ⊎_elim
-    (λ q. (ap (λ (x : Cell). x.flag) q.0 ∙ h, ap (λ (x : Cell). x.flag) q.1 ∙ k))
-    (λ q. (ap (λ (x : Cell). x.flag) q.0, q.1.0 ∙ ap (λ g. (over g c d).flag) k ∙ h))
+    (λ q. (ap (λ (x : SpotState). x.flag) q.0 ∙ h, ap (λ (x : SpotState). x.flag) q.1 ∙ k))
+    (λ q. (ap (λ (x : SpotState). x.flag) q.0, q.1.0 ∙ ap (λ g. (over g c d).flag) k ∙ h))
     p
 
--- two versions that put cells down keep the flags of a memtable
+-- two versions that put states down keep the flags of a memtable
 inherit_two : (a b c d : Version) → IsMerged a b c d → AllInherit a → AllInherit b → AllInherit c × AllInherit d
 inherit_two a b c d m h k = (
   record { statics = (alike_inherit _ _ _ _ m.statics h.statics k.statics).0; clustered = λ s. (alike_inherit _ _ _ _ (m.clustered s) (h.clustered s) (k.clustered s)).0 },

@@ -8,9 +8,9 @@ use Rattle.std.specs.Prelude.{◌≡◌, ◌+◌, ◌++◌, ℕ, zero, suc, Bool
 use Rattle.rc_cell.specs.Orders.{tomb_cmp}
 use Rattle.rc_cell.specs.Winner.{greatest}
 use Rattle.rc_core.specs.declared.entries.ChainKind.TheVariants.{Cache}
-use Rattle.rc_core.specs.Chain.{cells, content, flagged}
+use Rattle.rc_core.specs.Chain.{states_at, content, flagged}
 use Rattle.rc_core.specs.Chains.{Chain}
-use Rattle.rc_core.specs.Continuity.{partition_tombs, static_cells}
+use Rattle.rc_core.specs.Continuity.{version_tombs, static_states}
 use Rattle.rc_core.specs.Steps.{renumbered}
 use Rattle.rc_core.specs.Version.{Spot, Version}
 use Rattle.rc_units.specs.Clean.{MayMerge, units_of}
@@ -39,9 +39,9 @@ chain_left front left back c = record {
 
 -- what is known now was known before with the same content, and the head stays
 pub record IsKnownAsBefore (before now : List Version) : Type 0 where
-  pub statics : IsTrue (flagged Cache (static_cells now)) → IsTrue (flagged Cache (static_cells before)) × (content (static_cells now) ≡ content (static_cells before))
-  pub clustered : (s : Spot) → IsTrue (flagged Cache (cells s now)) → IsTrue (flagged Cache (cells s before)) × (content (cells s now) ≡ content (cells s before))
-  pub head : greatest tomb_cmp (partition_tombs now) ≡ greatest tomb_cmp (partition_tombs before)
+  pub statics : IsTrue (flagged Cache (static_states now)) → IsTrue (flagged Cache (static_states before)) × (content (static_states now) ≡ content (static_states before))
+  pub clustered : (s : Spot) → IsTrue (flagged Cache (states_at s now)) → IsTrue (flagged Cache (states_at s before)) × (content (states_at s now) ≡ content (states_at s before))
+  pub head : greatest tomb_cmp (version_tombs now) ≡ greatest tomb_cmp (version_tombs before)
 
 -- ---- that cleaning ends
 

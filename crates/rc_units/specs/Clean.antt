@@ -32,7 +32,7 @@ onto_at m row y = record { position = y.position; row = row_under y.at.flag row 
 abbrev pub onto_gap : Mark → Entry → Entry
 onto_gap m y = record { position = y.position; row = y.row; at = y.at; gap = mark_under m y.gap }
 
--- before the merged entry the gap goes under all that the other entry says; at it, its own cell and the gap; behind it, what the rest says
+-- before the merged entry the gap goes under all that the other entry says; at it, its own state and the gap; behind it, what the rest says
 abbrev pub onto_by : Ordering → Entry → Entry → Entry → Entry
 onto_by Less e y rest = onto_at e.gap None (onto_gap e.gap y)
 onto_by Equal e y rest = onto_at e.at e.row (onto_gap e.gap y)
@@ -81,7 +81,7 @@ statics_onto v w = record {
 }
 
 -- the newer version with all under it that an older one says which has an end dummy alone: its partition tombstone, the flag of the static
--- row, the gap before its end dummy and that one's own cell
+-- row, the gap before its end dummy and that one's own state
 abbrev pub end_merged : Entry → Version → Version → Version
 end_merged e v w = record {
   pt = greater tomb_cmp v.pt w.pt;

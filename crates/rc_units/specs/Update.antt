@@ -1,7 +1,7 @@
 -- A unit of an update: one fragment of the update's mutation goes into the newest version, at the update's place.
---     place_of             where a fragment stands; the update's place is that of its next fragment
+--     unit_place             where a fragment stands; the update's place is that of its next fragment
 --     force_after          the range tombstone in force behind a fragment
---     fragment_cell, ..    what a fragment says at the places from its own on and before the next one's
+--     fragment_state, ..    what a fragment says at the places from its own on and before the next one's
 --     IsFragmentOf         a fragment says there what the mutation says; AreFragmentsOf: each of some fragments does
 --     updated, updated_by  the newest version after a unit, and after units one after another
 --     lost_from            the same without room: from the place on everything is Unknown
@@ -22,21 +22,21 @@ use Rattle.rc_mutation.specs.declared.mutations.Mutation.{Mutation}
 use Rattle.rc_mutation.specs.Source.{source_at, source_at_head, source_at_static}
 use Rattle.rc_core.specs.declared.entries.Entry.{Entry}
 use Rattle.rc_core.specs.declared.entries.Flag.TheVariants.{Unknown, Inherit}
-use Rattle.rc_core.specs.Cell.{Cell, cell, said}
+use Rattle.rc_core.specs.SpotState.{SpotState, spot_state, joined_state}
 use Rattle.rc_core.specs.Version.{Spot, On, Behind, Version, end_position}
-use Rattle.rc_core.specs.Change.{change, join_row_at, joined_onto, lost_mark, raised, split}
+use Rattle.rc_core.specs.Change.{change, join_row_at, joined_onto, lost_mark, raised_mark, split}
 use Rattle.rc_core.specs.Continuity.{with_entries}
 use Rattle.rc_core.specs.Unit.{IsStretch}
 
 -- ---- fragments
 
 -- the place of a fragment: the head, the static row, a clustered position or the end
-abbrev pub place_of : Frag → Place
-place_of (frag.Start pt) = Head
-place_of (frag.Static row) = Static
-place_of (frag.Row key row) = Clustered (row_pos key)
-place_of (frag.Change from next) = Clustered from
-place_of frag.End = End
+abbrev pub unit_place : Frag → Place
+unit_place (frag.Start pt) = Head
+unit_place (frag.Static row) = Static
+unit_place (frag.Row key row) = Clustered (row_pos key)
+unit_place (frag.Change from next) = Clustered from
+unit_place frag.End = End
 
 -- the range tombstone in force behind a fragment: that of the last change, and none behind the start and the static row
 abbrev pub force_after : Option Tomb → Frag → Option Tomb
@@ -71,13 +71,13 @@ fragment_rows (frag.Change from next) x = []
 fragment_rows frag.End x = []
 
 -- what it says at a position from its own on and before the next fragment's: its row there, and the tombstone in force behind it
-abbrev pub fragment_cell : Option Tomb → Frag → Pos → Cell
-fragment_cell force f x = cell Inherit (fragment_rows f x) (option_to_list (force_after force f))
+abbrev pub fragment_state : Option Tomb → Frag → Pos → SpotState
+fragment_state force f x = spot_state Inherit (fragment_rows f x) (option_to_list (force_after force f))
 
 -- the gap behind a position has no row
-abbrev pub fragment_cell_at : Option Tomb → Frag → Spot → Cell
-fragment_cell_at force f (On x) = fragment_cell force f x
-fragment_cell_at force f (Behind x) = cell Inherit [] (option_to_list (force_after force f))
+abbrev pub fragment_state_at : Option Tomb → Frag → Spot → SpotState
+fragment_state_at force f (On x) = fragment_state force f x
+fragment_state_at force f (Behind x) = spot_state Inherit [] (option_to_list (force_after force f))
 
 -- a fragment stands before a place; a change may stand where a row does, and then before it
 abbrev pub Precedes : Frag → Place → Type 0
@@ -90,15 +90,15 @@ Precedes frag.End p = ⊥
 -- from its own place on and before the next place a fragment says what the mutation says
 pub record IsFragmentOf (change : Mutation) (force : Option Tomb) (f : Frag) (next : Place) : Type 0 where
   pub precedes : Precedes f next
-  pub head : place_of f ≡ Head → source_at_head (change ∷ []) ≡ fragment_head f
-  pub statics : IsStretch (place_of f) next Static → joined_row (fragment_statics f) ≡ source_at_static (change ∷ [])
-  pub clustered : (x : Pos) → IsBefore x end_position → IsStretch (place_of f) next (Clustered x) → said (fragment_cell force f x) ≡ source_at (change ∷ []) x
+  pub head : unit_place f ≡ Head → source_at_head (change ∷ []) ≡ fragment_head f
+  pub statics : IsStretch (unit_place f) next Static → joined_row (fragment_statics f) ≡ source_at_static (change ∷ [])
+  pub clustered : (x : Pos) → IsBefore x end_position → IsStretch (unit_place f) next (Clustered x) → joined_state (fragment_state force f x) ≡ source_at (change ∷ []) x
 
 -- each of some fragments says so up to the next one
 abbrev pub AreFragmentsOf : Mutation → Option Tomb → List Frag → Type 0
 AreFragmentsOf change force [] = Unit {0}
 AreFragmentsOf change force (f ∷ []) = Unit {0}
-AreFragmentsOf change force (f ∷ g ∷ fs) = IsFragmentOf change force f (place_of g) × AreFragmentsOf change (force_after force f) (g ∷ fs)
+AreFragmentsOf change force (f ∷ g ∷ fs) = IsFragmentOf change force f (unit_place g) × AreFragmentsOf change (force_after force f) (g ∷ fs)
 
 -- ---- a unit with room
 
@@ -113,8 +113,8 @@ split_at End entries = entries
 abbrev pub raise_upto : Option Tomb → Pos → Place → List Entry → List Entry
 raise_upto tomb from Head entries = entries
 raise_upto tomb from Static entries = entries
-raise_upto tomb from (Clustered x) entries = change (raised tomb) from x entries
-raise_upto tomb from End entries = change (raised tomb) from end_position entries
+raise_upto tomb from (Clustered x) entries = change (raised_mark tomb) from x entries
+raise_upto tomb from End entries = change (raised_mark tomb) from end_position entries
 
 -- the entries after the unit of a fragment, with the tombstone in force before it and the next fragment's place
 abbrev pub fragment_entries : Option Tomb → Frag → Place → List Entry → List Entry
@@ -148,7 +148,7 @@ updated force frag.End next v = v
 abbrev pub updated_by : Option Tomb → List Frag → Version → Version
 updated_by force [] v = v
 updated_by force (f ∷ []) v = v
-updated_by force (f ∷ g ∷ fs) v = updated_by (force_after force f) (g ∷ fs) (updated force f (place_of g) v)
+updated_by force (f ∷ g ∷ fs) v = updated_by (force_after force f) (g ∷ fs) (updated force f (unit_place g) v)
 
 -- ---- a unit without room
 

@@ -55,7 +55,7 @@ fn merge_gap_onto(alloc: Global, next: &Entry, entry: &Entry) -> Result<Entry, A
     }
 }
 
-/// The newer version's entries with the older one's end dummy under them: its gap, and its own cell. The only error is want of memory.
+/// The newer version's entries with the older one's end dummy under them: its gap, and its own state. The only error is want of memory.
 pub fn merge_end_dummy(
     alloc: Global,
     end: &Entry,

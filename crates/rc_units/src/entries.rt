@@ -1,4 +1,4 @@
-//! Entries as plain values: copies, a split, a joined row, and a cell of an older version under that of a newer one.
+//! Entries as plain values: copies, a split, a joined row, and a state of an older version under that of a newer one.
 
 ghost use Rattle.std.specs.Prelude.{◌≡◌, ◌++◌, ◌∷◌, [], IfOk, OnOk, None, cond};
 ghost use Rattle.std.specs.Ordering.{eq_by_cmp};

@@ -6,15 +6,15 @@ use Rattle.rc_cell.specs.declared.rows.Row.{Row}
 use Rattle.rc_cell.specs.declared.writes.Tomb.{Tomb}
 use Rattle.rc_position.specs.declared.comps.Comp.{Comp}
 use Rattle.rc_position.specs.declared.positions.Pos.{Pos}
-use Rattle.rc_schema.specs.Lists.{Lists}
+use Rattle.rc_schema.specs.SchemaValue.{SchemaValue}
 use Rattle.rc_schema.specs.SchemaText.{schema_text, schema_of}
-use Rattle.rc_schema.specs.SchemaLaws.{text_reads_back}
+use Rattle.rc_schema.specs.laws.SchemaTexts.{text_reads_back}
 use Rattle.rc_rowcode.specs.Spelling.{length_code, time_code, optional_code, tomb_code, key_code, pos_code, row_code, IsKey, IsPos, IsCodedRow}
-use Rattle.rc_rowcode.specs.Laws.Fields.{length_codec}
-use Rattle.rc_rowcode.specs.Laws.Read.{one_spelling}
+use Rattle.rc_rowcode.specs.laws.Fields.{length_codec}
+use Rattle.rc_rowcode.specs.laws.Read.{one_spelling}
 use Rattle.rc_tfile.specs.Items.{Item, HeadItem, PartItem, RowItem, ChangeItem, EndItem, StopItem, EntryItem, BlockItem, TailItem, item_code, bytes_code, offset_code, IsItem, IsPartKey}
-use Rattle.rc_tfile.specs.Before.{Before, Place, Start, Between, Inside, Behind, place}
-use Rattle.rc_tfile.specs.TableText.{IsDue, MayStand, Fits}
+use Rattle.rc_tfile.specs.Before.{ItemsBefore, ItemPlace, Start, Between, Inside, Behind, item_place}
+use Rattle.rc_tfile.specs.TableText.{IsDue, MayStand, ItemFits}
 use Rattle.rc_tfile.specs.laws.Starting.{IsOptional, rest_of, both_free, key_free, full_key_free, pos_free, row_free, optional_free}
 
 -- each item has a byte
@@ -30,7 +30,7 @@ some_bytes (BlockItem b) = omega arith
 some_bytes (TailItem off parts) = omega (arith, length-append (offset_code off) (time_code parts ++ codes "RCTE"), length-append (time_code parts) (codes "RCTE"))
 
 -- where an item may stand
-abbrev home : Item → Place
+abbrev home : Item → ItemPlace
 home (HeadItem schema) = Start
 home (PartItem key pt statics) = Between
 home (RowItem key row) = Inside
@@ -41,7 +41,7 @@ home (EntryItem key off blocks) = Behind
 home (BlockItem b) = Behind
 home (TailItem off parts) = Behind
 
-due_behind : (before : Before) (x : Item) → IsDue before x → place before ≡ Behind
+due_behind : (before : ItemsBefore) (x : Item) → IsDue before x → item_place before ≡ Behind
 due_behind [] x d = absurd (let q : [] ≡ x ∷ d.0 = d.1 in cc)
 due_behind (HeadItem schema ∷ before) x d = absurd (let q : [] ≡ x ∷ d.0 = d.1 in cc)
 due_behind (PartItem key pt statics ∷ before) x d = absurd (let q : [] ≡ x ∷ d.0 = d.1 in cc)
@@ -53,8 +53,8 @@ due_behind (EntryItem key off blocks ∷ before) x d = refl
 due_behind (BlockItem b ∷ before) x d = refl
 due_behind (TailItem off parts ∷ before) x d = refl
 
-at_home : (schema : Lists) (before : Before) (x : Item) → MayStand schema before x → place before ≡ home x
-at_home schema before (HeadItem other) f = ap place f.0
+at_home : (schema : SchemaValue) (before : ItemsBefore) (x : Item) → MayStand schema before x → item_place before ≡ home x
+at_home schema before (HeadItem other) f = ap item_place f.0
 at_home schema before (PartItem key pt statics) f = f.0
 at_home schema before (RowItem key row) f = f.0
 at_home schema before (ChangeItem x tomb) f = f.0
@@ -66,7 +66,7 @@ at_home schema before (TailItem off parts) f = due_behind before (TailItem off p
 
 -- what holds of the items that may stand at a place
 module _ (P : Item → Type 0) where
-  at_start : ((schema : Lists) → P (HeadItem schema)) → (x : Item) → Start ≡ home x → P x
+  at_start : ((schema : SchemaValue) → P (HeadItem schema)) → (x : Item) → Start ≡ home x → P x
   at_start h (HeadItem schema) e = h schema
   at_start h (PartItem key pt statics) e = absurd cc
   at_start h (RowItem key row) e = absurd cc
@@ -128,7 +128,7 @@ change_one x tomb = at_inside (Same (ChangeItem x tomb))
 end_one : (y : Item) → Inside ≡ home y → Same EndItem y
 end_one = at_inside (Same EndItem) (λ k r m n f g e. absurd cc) (λ x t m n f g e. absurd cc) (λ m n f g e. refl)
 
-module _ (schema : Lists) (before : Before) where
+module _ (schema : SchemaValue) (before : ItemsBefore) where
   due_there : (x : Item) → Behind ≡ home x → MayStand schema before x → IsDue before x
   due_there (HeadItem other) e h = absurd cc
   due_there (PartItem key pt statics) e h = absurd cc
@@ -144,11 +144,11 @@ module _ (schema : Lists) (before : Before) where
   due_one : (x y : Item) → IsDue before x → IsDue before y → x ≡ y
   due_one x y d c = let q : x ∷ d.0 ≡ y ∷ c.0 = sym d.1 ∙ c.1 in cc
 
-  same_home : (x y : Item) → Fits schema before x → Fits schema before y → home x ≡ home y
+  same_home : (x y : Item) → ItemFits schema before x → ItemFits schema before y → home x ≡ home y
   same_home x y f g = sym (at_home schema before x f.1) ∙ at_home schema before y g.1
 
   -- the bytes decide which item that fits they begin with
-  pub one_item : (x y : Item) (m n : List ℕ) → Fits schema before x → Fits schema before y → item_code x ++ m ≡ item_code y ++ n → x ≡ y
+  pub one_item : (x y : Item) (m n : List ℕ) → ItemFits schema before x → ItemFits schema before y → item_code x ++ m ≡ item_code y ++ n → x ≡ y
   one_item (HeadItem z) y m n f g e = at_start (λ y. MayStand schema before y → HeadItem z ≡ y) (λ o h. ap HeadItem (f.1.1 ∙ sym h.1)) y (same_home (HeadItem z) y f g) g.1
   one_item (PartItem key pt statics) y m n f g e = part_one key pt statics y (same_home (PartItem key pt statics) y f g) m n f.0 g.0 e
   one_item (RowItem key row) y m n f g e = row_one key row y (same_home (RowItem key row) y f g) m n f.0 g.0 e
@@ -160,7 +160,7 @@ module _ (schema : Lists) (before : Before) where
   one_item (TailItem off parts) y m n f g e = due_one (TailItem off parts) y f.1 (due_there y (same_home (TailItem off parts) y f g) g.1)
 
 -- a head's bytes decide its schema
-pub one_head : (z o : Lists) (m k : List ℕ) → IsItem (HeadItem z) → IsItem (HeadItem o) → item_code (HeadItem z) ++ m ≡ item_code (HeadItem o) ++ k → z ≡ o
+pub one_head : (z o : SchemaValue) (m k : List ℕ) → IsItem (HeadItem z) → IsItem (HeadItem o) → item_code (HeadItem z) ++ m ≡ item_code (HeadItem o) ++ k → z ≡ o
 one_head z o m k hz ho e =
     let rest : length_code (length (schema_text z)) ++ (schema_text z ++ m) ≡ length_code (length (schema_text o)) ++ (schema_text o ++ k) =
     sym (append_assoc (length_code (length (schema_text z))) (schema_text z) m) ∙ ap (drop 4) e ∙ append_assoc (length_code (length (schema_text o))) (schema_text o) k in

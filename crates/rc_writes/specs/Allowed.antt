@@ -4,24 +4,24 @@ use Rattle.rc_cell.specs.declared.rows.Row.{Row}
 use Rattle.rc_position.specs.declared.comps.Comp.{Comp}
 use Rattle.rc_position.specs.declared.positions.Pos.{Pos}
 use Rattle.rc_position.specs.declared.positions.Weight.TheVariants.{At}
-use Rattle.rc_schema.specs.Lists.{Lists}
+use Rattle.rc_schema.specs.SchemaValue.{SchemaValue}
 use Rattle.rc_schema.specs.Checks.{checked_prefix, checked_cells}
 use Rattle.rc_mutation.specs.declared.mutations.Mutation.{Mutation}
 
 -- a static row of the schema: no marker, no tombstone, static columns, values within the limits
-abbrev pub IsStaticOf : Lists → Row → Type 0
+abbrev pub IsStaticOf : SchemaValue → Row → Type 0
 IsStaticOf schema row = (row.marker ≡ None) × (row.tomb ≡ None) × (checked_cells true schema row.cells ≡ Ok tt)
 
 -- a row of the schema: a full key of its kinds, regular columns, values within the limits
-abbrev pub IsRowOf : Lists → List Comp → Row → Type 0
+abbrev pub IsRowOf : SchemaValue → List Comp → Row → Type 0
 IsRowOf schema key row = (checked_prefix true schema key ≡ Ok tt) × (checked_cells false schema row.cells ≡ Ok tt)
 
 -- a position at which a range may begin or end: before or after the keys with a prefix of the schema's kinds
-abbrev pub IsBoundOf : Lists → Pos → Type 0
-IsBoundOf schema x = (x.weight ≢ At) × (checked_prefix false schema x.prefix ≡ Ok tt)
+abbrev pub IsRangeBound : SchemaValue → Pos → Type 0
+IsRangeBound schema x = (x.weight ≢ At) × (checked_prefix false schema x.prefix ≡ Ok tt)
 
 -- what is written of a partition fits the schema: its static row, each row with its key, and both ends of each range tombstone
-pub record ChangeFits (schema : Lists) (m : Mutation) : Type 0 where
+pub record ChangeFits (schema : SchemaValue) (m : Mutation) : Type 0 where
   pub statics : IsStaticOf schema m.statics
   pub rows : All (λ e. IsRowOf schema e.0 e.1) m.rows
-  pub ranges : All (λ q. IsBoundOf schema q.from × IsBoundOf schema q.to) m.ranges
+  pub ranges : All (λ q. IsRangeBound schema q.from × IsRangeBound schema q.to) m.ranges

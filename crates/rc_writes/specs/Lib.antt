@@ -1,4 +1,4 @@
 pub mod Allowed
-pub mod Laws
+pub mod laws
 pub mod Limits
 pub mod Single

@@ -1,7 +1,7 @@
 //! Whether a schema allows what is written of a partition.
 
 ghost use Rattle.std.specs.Prelude.{◌↔◌, All, IsTrue};
-ghost use Rattle.rc_writes.specs.Allowed.{IsStaticOf, IsRowOf, IsBoundOf, ChangeFits};
+ghost use Rattle.rc_writes.specs.Allowed.{IsStaticOf, IsRowOf, IsRangeBound, ChangeFits};
 
 use rc_cell::Row;
 use rc_mutation::Mutation;
@@ -26,7 +26,7 @@ pub fn is_row_of(schema: &Schema, key: &Key, row: &Row) -> bool
 
 /// Whether a range may begin or end at a position under the schema: before or after the keys with a prefix of its kinds.
 pub fn is_bound_of(schema: &Schema, x: &Pos) -> bool
-    ensures { IsTrue result ↔ IsBoundOf schema.now x.now }
+    ensures { IsTrue result ↔ IsRangeBound schema.now x.now }
 {
     x.weight != Weight::At && schema.check_prefix(&x.prefix, false).is_ok()
 }
@@ -47,7 +47,7 @@ fn rows_fit(rows: &[(Key, Row)], schema: &Schema) -> bool
 
 // Whether each range may begin and end where it does under the schema.
 fn ranges_fit(ranges: &[Piece], schema: &Schema) -> bool
-    ensures { IsTrue result ↔ All (λ q. IsBoundOf schema.now q.from × IsBoundOf schema.now q.to) ranges.now }
+    ensures { IsTrue result ↔ All (λ q. IsRangeBound schema.now q.from × IsRangeBound schema.now q.to) ranges.now }
 {
     let mut left = ranges;
     while let [range, rest @ ..] = left {
@@ -61,7 +61,7 @@ fn ranges_fit(ranges: &[Piece], schema: &Schema) -> bool
 
 // Whether a range may begin and end where it does under the schema.
 fn is_range_of(schema: &Schema, range: &Piece) -> bool
-    ensures { IsTrue result ↔ (IsBoundOf schema.now range.now.from × IsBoundOf schema.now range.now.to) }
+    ensures { IsTrue result ↔ (IsRangeBound schema.now range.now.from × IsRangeBound schema.now range.now.to) }
 {
     is_bound_of(schema, &range.from) && is_bound_of(schema, &range.to)
 }

@@ -1,7 +1,7 @@
 //! The laws of what this crate defines, each the contract of a function that does nothing.
 
 ghost use Rattle.std.specs.Prelude.{IsTrue};
-ghost use Rattle.rc_schema.specs.Lists.{Lists, is_schema};
+ghost use Rattle.rc_schema.specs.SchemaValue.{SchemaValue, is_schema};
 ghost use Rattle.rc_mutation.specs.declared.mutations.Mutation.{Mutation};
 ghost use Rattle.rc_writes.specs.Allowed.{ChangeFits};
 ghost use Rattle.rc_writes.specs.Limits.{IsWithinLimits};
@@ -15,5 +15,5 @@ pub fn a_single_write_is_to_one_place()
 /// What fits a schema is within the limits of the byte codes: keys of at most 4 components with texts of at most 64 bytes,
 /// columns below 32 and values of at most 256 bytes.
 pub fn what_fits_is_within_the_limits()
-    ensures { (schema : Lists) (m : Mutation) → IsTrue (is_schema schema) → ChangeFits schema m → IsWithinLimits m }
+    ensures { (schema : SchemaValue) (m : Mutation) → IsTrue (is_schema schema) → ChangeFits schema m → IsWithinLimits m }
 {}

@@ -9,11 +9,11 @@ use Rattle.rc_cell.specs.Orders.{tomb_cmp}
 use Rattle.rc_cell.specs.Winner.{greatest, empty_row}
 use Rattle.rc_position.specs.declared.positions.Pos.{Pos}
 use Rattle.rc_position.specs.Position.{Place, End, pos_cmp, covers}
-use Rattle.rc_position.specs.OrderLaws.{pos_cmp_same}
+use Rattle.rc_position.specs.laws.Orders.{pos_cmp_same}
 use Rattle.rc_mutation.specs.declared.mutations.Mutation.{Mutation}
 use Rattle.rc_mutation.specs.Source.{source_at}
 use Rattle.rc_core.specs.declared.entries.ChainKind.TheVariants.{Cache}
-use Rattle.rc_core.specs.Version.{On, Behind, Version, IsVersion, cell_at, static_cell, spot_cmp}
+use Rattle.rc_core.specs.Version.{On, Behind, Version, IsVersion, state_at, static_state, spot_cmp}
 use Rattle.rc_core.specs.Chain.{IsKnown}
 use Rattle.rc_core.specs.Continuity.{IsContinuous, fill_statics}
 use Rattle.rc_core.specs.Merge.{IsMerged, IsSilent, IsSeenAlike, new_version}
@@ -101,8 +101,8 @@ same_seen versions = record { statics = equal_alike _ _ refl; clustered = λ s. 
 
 phase_above : (to : ℕ) (older : List Version) (v : Version) → IsSeenAlike (older ++ v ∷ []) (older ++ with_phase to v ∷ [])
 phase_above to older v = record {
-  statics = equal_alike _ _ (seen-same static_cell older v (with_phase to v) refl);
-  clustered = λ s. equal_alike _ _ (seen-same (cell_at s) older v (with_phase to v) refl);
+  statics = equal_alike _ _ (seen-same static_state older v (with_phase to v) refl);
+  clustered = λ s. equal_alike _ _ (seen-same (state_at s) older v (with_phase to v) refl);
   head = ap (greatest tomb_cmp) (tombs-same older [] v (with_phase to v) refl);
 }
 
@@ -161,7 +161,7 @@ module _ (c : Chain) (pin : ℕ) (m : MayPopulate c pin) (ch : IsChain c) where
 
   pub statics-carried : (given : Option Row) (x : Pos) → IsCarriedIn c x → IsCarriedIn (with_newest (fill_statics given) c) x
   statics-carried given x h = let was = was_known x h in now_carried (fill_statics given) x
-      (known_same (n.older ++ n.newest ∷ []) (n.older ++ fill_statics given n.newest ∷ []) x (seen-same (cell_at (On x)) n.older n.newest (fill_statics given n.newest) refl) (λ _. seen-same (cell_at (Behind x)) n.older n.newest (fill_statics given n.newest) refl) was)
+      (known_same (n.older ++ n.newest ∷ []) (n.older ++ fill_statics given n.newest ∷ []) x (seen-same (state_at (On x)) n.older n.newest (fill_statics given n.newest) refl) (λ _. seen-same (state_at (Behind x)) n.older n.newest (fill_statics given n.newest) refl) was)
 
   module _ (below : ℕ → List Mutation) (p : Pos) (row : Row) (tomb : Option Tomb) (given : source_at (below (phase_at c.versions pin)) p ≡ (row, tomb)) (some : row ≡ empty_row → ⊥) (k : IsChainContinuous below c) where
     newest_ok : IsContinuous None (below (phase_at c.versions pin)) (n.older ++ n.newest ∷ [])

@@ -5,9 +5,9 @@ use Rattle.std.specs.declared.cmp.Ordering.TheVariants.{Less}
 use Rattle.rc_position.specs.declared.positions.Pos.{Pos}
 use Rattle.rc_position.specs.Position.{Place, Clustered, place_cmp, IsBefore}
 use Rattle.rc_mutation.specs.declared.mutations.Mutation.{Mutation}
-use Rattle.rc_core.specs.Cell.{through}
-use Rattle.rc_core.specs.Version.{Spot, Version, IsVersion, cell_at, end_position}
-use Rattle.rc_core.specs.Chain.{cells}
+use Rattle.rc_core.specs.SpotState.{through}
+use Rattle.rc_core.specs.Version.{Spot, Version, IsVersion, state_at, end_position}
+use Rattle.rc_core.specs.Chain.{states_at}
 use Rattle.rc_core.specs.Change.{position_of, drop_at, lose_last_gap}
 use Rattle.rc_core.specs.AtPlace.{HasEntryAt, IsAtPlace}
 use Rattle.rc_core.specs.Continuity.{with_entries, without_statics}
@@ -47,5 +47,5 @@ module _ (below : ℕ → List Mutation) (c : Chain) (front back : List Version)
       k
 
 -- from the place on the version under update is seen through
-pub seen-through : (p : Place) (older : List Version) (v : Version) (s : Spot) → IsAtPlace p v → (place_cmp (Clustered (position_of s)) p ≡ Less → ⊥) → through (cells s (older ++ v ∷ [])) ≡ through (cells s older)
-seen-through p older v s a n = silent_top (cell_at s) older v (a.silent.clustered s n)
+pub seen-through : (p : Place) (older : List Version) (v : Version) (s : Spot) → IsAtPlace p v → (place_cmp (Clustered (position_of s)) p ≡ Less → ⊥) → through (states_at s (older ++ v ∷ [])) ≡ through (states_at s older)
+seen-through p older v s a n = silent_top (state_at s) older v (a.silent.clustered s n)

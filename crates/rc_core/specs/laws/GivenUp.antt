@@ -13,17 +13,17 @@ use Rattle.rc_cell.specs.Winner.{greatest, joined_row}
 use Rattle.rc_position.specs.declared.comps.Comp.{Comp}
 use Rattle.rc_position.specs.declared.positions.Pos.{Pos}
 use Rattle.rc_position.specs.Position.{Place, Head, Static, Clustered, place_cmp, pos_cmp, row_pos, covers, IsBefore}
-use Rattle.rc_position.specs.OrderLaws.{pos_cmp_same}
-use Rattle.rc_position.specs.BoundLaws.{last_pos-greatest}
+use Rattle.rc_position.specs.laws.Orders.{pos_cmp_same}
+use Rattle.rc_position.specs.laws.Bounds.{last_pos-greatest}
 use Rattle.rc_ranges.specs.declared.pieces.Piece.{Piece}
 use Rattle.rc_ranges.specs.Cover.{cover, tombs_over}
 use Rattle.rc_mutation.specs.declared.mutations.Mutation.{Mutation}
 use Rattle.rc_mutation.specs.Source.{source_at, source_at_static, static_rows, rows_in, all_rows, all_pieces}
 use Rattle.rc_core.specs.declared.entries.ChainKind.TheVariants.{Cache}
-use Rattle.rc_core.specs.Cell.{Cell, through, under, lost}
-use Rattle.rc_core.specs.Version.{Spot, On, Behind, Version, cell_at, static_cell, end_position}
-use Rattle.rc_core.specs.Chain.{flagged, content, cells, flag_over, IsEvenAt}
-use Rattle.rc_core.specs.Continuity.{IsWithin, EachOf, IsContinuous, static_cells}
+use Rattle.rc_core.specs.SpotState.{SpotState, through, under, lost}
+use Rattle.rc_core.specs.Version.{Spot, On, Behind, Version, state_at, static_state, end_position}
+use Rattle.rc_core.specs.Chain.{flagged, content, states_at, flag_over, IsEvenAt}
+use Rattle.rc_core.specs.Continuity.{IsWithin, EachOf, IsContinuous, static_states}
 use Rattle.rc_core.specs.Unit.{IsGivenUp}
 use Rattle.rc_core.specs.laws.Folding.{flagged-through, content-through, through-append}
 use Rattle.rc_core.specs.laws.Spots.{turned}
@@ -59,28 +59,28 @@ unfolding cover
 source_at_end writes = λ i. (joined_row (no_rows_at_end (all_rows writes) i), greatest tomb_cmp (no_tombs_at_end (all_pieces writes) i))
 
 -- what is within nothing holds nothing, through all versions
-through_within : (s : Spot) (versions : List Version) → EachOf (λ v. IsWithin (cell_at s v) (joined_row [], greatest tomb_cmp [])) versions → IsWithin (through (cells s versions)) (joined_row [], greatest tomb_cmp [])
+through_within : (s : Spot) (versions : List Version) → EachOf (λ v. IsWithin (state_at s v) (joined_row [], greatest tomb_cmp [])) versions → IsWithin (through (states_at s versions)) (joined_row [], greatest tomb_cmp [])
 through_within s [] h = within_nothing [] (greatest tomb_cmp [])
-through_within s (v ∷ vs) h = within_under_by (through (cells s vs)).flag [] (greatest tomb_cmp []) (cell_at s v) (through (cells s vs)) h.0 (through_within s vs h.1)
+through_within s (v ∷ vs) h = within_under_by (through (states_at s vs)).flag [] (greatest tomb_cmp []) (state_at s v) (through (states_at s vs)) h.0 (through_within s vs h.1)
 
 tombs_alone : (ts : List Tomb) → greatest tomb_cmp (option_to_list (greatest tomb_cmp []) ++ ts) ≡ greatest tomb_cmp [] → greatest tomb_cmp ts ≡ greatest tomb_cmp []
 unfolding greatest
 tombs_alone ts e = e
 
-nothing_at_end : (writes : List Mutation) (versions : List Version) → EachOf (λ v. IsWithin (cell_at (On end_position) v) (source_at writes end_position)) versions → content (cells (On end_position) versions) ≡ source_at writes end_position
+nothing_at_end : (writes : List Mutation) (versions : List Version) → EachOf (λ v. IsWithin (state_at (On end_position) v) (source_at writes end_position)) versions → content (states_at (On end_position) versions) ≡ source_at writes end_position
 nothing_at_end writes versions h =
-    let w = through_within (On end_position) versions (subst (λ a. EachOf (λ v. IsWithin (cell_at (On end_position) v) a) versions) (source_at_end writes) h) in
-    content-through (cells (On end_position) versions)
-    ∙ (λ i. ((rows_by_parts [] (through (cells (On end_position) versions)).rows (joined_row [] ∷ []) (through (cells (On end_position) versions)).rows (sym (joined-again [])) refl ∙ w.0) i, tombs_alone (through (cells (On end_position) versions)).tombs w.1 i))
+    let w = through_within (On end_position) versions (subst (λ a. EachOf (λ v. IsWithin (state_at (On end_position) v) a) versions) (source_at_end writes) h) in
+    content-through (states_at (On end_position) versions)
+    ∙ (λ i. ((rows_by_parts [] (through (states_at (On end_position) versions)).rows (joined_row [] ∷ []) (through (states_at (On end_position) versions)).rows (sym (joined-again [])) refl ∙ w.0) i, tombs_alone (through (states_at (On end_position) versions)).tombs w.1 i))
     ∙ sym (source_at_end writes)
 
--- ---- a lost cell on top
+-- ---- a lost state on top
 
-through_lost : (f : Version → Cell) (older : List Version) (w : Version) → f w ≡ lost → through (list_map f (older ++ w ∷ [])) ≡ lost
+through_lost : (f : Version → SpotState) (older : List Version) (w : Version) → f w ≡ lost → through (list_map f (older ++ w ∷ [])) ≡ lost
 through_lost f older w e = ap through (map-append f older w []) ∙ through-append (list_map f older) (f w ∷ []) ∙ ap (λ c. under (through (list_map f older)) (under c (through []))) e
 
-pub not_flagged : (f : Version → Cell) (older : List Version) (w : Version) → f w ≡ lost → IsTrue (flagged Cache (list_map f (older ++ w ∷ []))) → ⊥
-not_flagged f older w e h = let u = sym (flagged-through Cache (list_map f (older ++ w ∷ [])) ∙ ap (λ (c : Cell). flag_over Cache c.flag) (through_lost f older w e)) ∙ h in cc
+pub not_flagged : (f : Version → SpotState) (older : List Version) (w : Version) → f w ≡ lost → IsTrue (flagged Cache (list_map f (older ++ w ∷ []))) → ⊥
+not_flagged f older w e h = let u = sym (flagged-through Cache (list_map f (older ++ w ∷ [])) ∙ ap (λ (c : SpotState). flag_over Cache c.flag) (through_lost f older w e)) ∙ h in cc
 
 pub at_itself : pos_cmp end_position end_position ≡ Equal
 unfolding pos_cmp
@@ -108,39 +108,39 @@ static_stands : (p : Place) → (place_cmp Static p ≡ Less) ⊎ (place_cmp Sta
 static_stands p = elim (place_cmp Static p) as (λ r. (r ≡ Less) ⊎ (r ≡ Less → ⊥)) [ Less ↦ inl refl | Equal ↦ inr (λ e. let u : Equal ≡ Less = e in absurd (cc)) | Greater ↦ inr (λ e. let u : Greater ≡ Less = e in absurd (cc)) ]
 
 module _ (writes : List Mutation) (older : List Version) (v w : Version) (p : Place) (g : IsGivenUp p v w) (k : IsContinuous (Some p) writes (older ++ v ∷ [])) where
-  lost_is_within : (x : Pos) → cell_at (On x) w ≡ lost → IsWithin (cell_at (On x) w) (source_at writes x)
+  lost_is_within : (x : Pos) → state_at (On x) w ≡ lost → IsWithin (state_at (On x) w) (source_at writes x)
   lost_is_within x e = subst (λ c. IsWithin c (source_at writes x)) (sym e) (lost-within (rows_in x (all_rows writes)) (source_at writes x).1)
 
-  given_within : (x : Pos) → IsWithin (cell_at (On x) w) (source_at writes x)
+  given_within : (x : Pos) → IsWithin (state_at (On x) w) (source_at writes x)
   given_within x = by (stands x p)
     where
-      was : (y : Pos) → cell_at (On y) w ≡ cell_at (On y) v → IsWithin (cell_at (On y) w) (source_at writes y)
+      was : (y : Pos) → state_at (On y) w ≡ state_at (On y) v → IsWithin (state_at (On y) w) (source_at writes y)
       was y e = subst (λ c. IsWithin c (source_at writes y)) (sym e) (each-one _ older [] v (k.within.clustered y))
 
-      by : Where x p → IsWithin (cell_at (On x) w) (source_at writes x)
+      by : Where x p → IsWithin (state_at (On x) w) (source_at writes x)
       by (behind_place l) = was x (g.clustered_left (On x) l)
       by (inside n b) = lost_is_within x (g.clustered x n b).0
-      by (at_the_end n e) = subst (λ y. IsWithin (cell_at (On y) w) (source_at writes y)) (sym e) (⊎_elim (was end_position) (lost_is_within end_position) g.at_end)
+      by (at_the_end n e) = subst (λ y. IsWithin (state_at (On y) w) (source_at writes y)) (sym e) (⊎_elim (was end_position) (lost_is_within end_position) g.at_end)
 
-  each_within : (x : Pos) → EachOf (λ u. IsWithin (cell_at (On x) u) (source_at writes x)) (older ++ w ∷ [])
+  each_within : (x : Pos) → EachOf (λ u. IsWithin (state_at (On x) u) (source_at writes x)) (older ++ w ∷ [])
   each_within x = each-other _ older [] v w (k.within.clustered x) (given_within x)
 
-  given_content : (x : Pos) → IsTrue (flagged Cache (cells (On x) (older ++ w ∷ []))) → content (cells (On x) (older ++ w ∷ [])) ≡ source_at writes x
+  given_content : (x : Pos) → IsTrue (flagged Cache (states_at (On x) (older ++ w ∷ []))) → content (states_at (On x) (older ++ w ∷ [])) ≡ source_at writes x
   given_content x f = by (stands x p)
     where
-      by : Where x p → content (cells (On x) (older ++ w ∷ [])) ≡ source_at writes x
-      by (behind_place l) = let e = seen-same (cell_at (On x)) older v w (g.clustered_left (On x) l) in
-          same-content (cells (On x) (older ++ v ∷ [])) (cells (On x) (older ++ w ∷ [])) e
-          ∙ k.clustered x l (sym (same-flagged (cells (On x) (older ++ v ∷ [])) (cells (On x) (older ++ w ∷ [])) e) ∙ f)
-      by (inside n b) = absurd (not_flagged (cell_at (On x)) older w (g.clustered x n b).0 f)
-      by (at_the_end n e) = subst (λ y. content (cells (On y) (older ++ w ∷ [])) ≡ source_at writes y) (sym e) (nothing_at_end writes (older ++ w ∷ []) (each_within end_position))
+      by : Where x p → content (states_at (On x) (older ++ w ∷ [])) ≡ source_at writes x
+      by (behind_place l) = let e = seen-same (state_at (On x)) older v w (g.clustered_left (On x) l) in
+          same-content (states_at (On x) (older ++ v ∷ [])) (states_at (On x) (older ++ w ∷ [])) e
+          ∙ k.clustered x l (sym (same-flagged (states_at (On x) (older ++ v ∷ [])) (states_at (On x) (older ++ w ∷ [])) e) ∙ f)
+      by (inside n b) = absurd (not_flagged (state_at (On x)) older w (g.clustered x n b).0 f)
+      by (at_the_end n e) = subst (λ y. content (states_at (On y) (older ++ w ∷ [])) ≡ source_at writes y) (sym e) (nothing_at_end writes (older ++ w ∷ []) (each_within end_position))
 
   given_even : (x : Pos) → IsEvenAt Cache (older ++ w ∷ []) x
   given_even x bare known = by (stands x p)
     where
-      by : Where x p → (content (cells (On x) (older ++ w ∷ []))).1 ≡ (content (cells (Behind x) (older ++ w ∷ []))).1
-      by (behind_place l) = even-same (older ++ v ∷ []) (older ++ w ∷ []) x (seen-same (cell_at (On x)) older v w (g.clustered_left (On x) l)) (seen-same (cell_at (Behind x)) older v w (g.clustered_left (Behind x) l)) (k.even x l) bare known
-      by (inside n b) = absurd (not_flagged (cell_at (On x)) older w (g.clustered x n b).0 known.at)
+      by : Where x p → (content (states_at (On x) (older ++ w ∷ []))).1 ≡ (content (states_at (Behind x) (older ++ w ∷ []))).1
+      by (behind_place l) = even-same (older ++ v ∷ []) (older ++ w ∷ []) x (seen-same (state_at (On x)) older v w (g.clustered_left (On x) l)) (seen-same (state_at (Behind x)) older v w (g.clustered_left (Behind x) l)) (k.even x l) bare known
+      by (inside n b) = absurd (not_flagged (state_at (On x)) older w (g.clustered x n b).0 known.at)
       by (at_the_end n e) = let u : Less ≡ Equal = sym bare.inside ∙ ap (λ y. pos_cmp y end_position) e ∙ at_itself in absurd (cc)
 
   pub given-continuous : place_cmp Head p ≡ Less → IsContinuous None writes (older ++ w ∷ [])
@@ -153,10 +153,10 @@ module _ (writes : List Mutation) (older : List Version) (v w : Version) (p : Pl
       clustered = each_within;
     };
     statics = λ _ f. ⊎_elim
-        (λ l. let e = seen-same static_cell older v w (g.statics_left l) in
-        same-content (static_cells (older ++ v ∷ [])) (static_cells (older ++ w ∷ [])) e
-        ∙ k.statics l (sym (same-flagged (static_cells (older ++ v ∷ [])) (static_cells (older ++ w ∷ [])) e) ∙ f))
-        (λ n. absurd (not_flagged static_cell older w (g.statics n) f))
+        (λ l. let e = seen-same static_state older v w (g.statics_left l) in
+        same-content (static_states (older ++ v ∷ [])) (static_states (older ++ w ∷ [])) e
+        ∙ k.statics l (sym (same-flagged (static_states (older ++ v ∷ [])) (static_states (older ++ w ∷ [])) e) ∙ f))
+        (λ n. absurd (not_flagged static_state older w (g.statics n) f))
         (static_stands p);
     clustered = λ x _ f. given_content x f;
     head = λ _. ap (greatest tomb_cmp) (tombs-same older [] v w g.head) ∙ k.head h;

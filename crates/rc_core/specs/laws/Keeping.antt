@@ -12,8 +12,8 @@ use Rattle.rc_mutation.specs.declared.mutations.Mutation.{Mutation}
 use Rattle.rc_mutation.specs.Source.{source_at, static_rows, rows_in, all_rows}
 use Rattle.rc_core.specs.declared.entries.Flag.{Flag}
 use Rattle.rc_core.specs.declared.entries.Flag.TheVariants.{Known, Unknown, Inherit}
-use Rattle.rc_core.specs.Cell.{Cell, cell, nothing, over, under}
-use Rattle.rc_core.specs.Version.{On, Version, cell_at, static_cell}
+use Rattle.rc_core.specs.SpotState.{SpotState, spot_state, silent, over, under}
+use Rattle.rc_core.specs.Version.{On, Version, state_at, static_state}
 use Rattle.rc_core.specs.Continuity.{IsWithin, EachOf, HoldNoMore, IsContinuous, IsEvicted}
 use Rattle.rc_core.specs.Merge.{Alike, IsPutDown, IsMerged, IsSilent}
 use Rattle.rc_core.specs.AtPlace.{IsAtPlace}
@@ -21,30 +21,30 @@ use Rattle.rc_core.specs.Chains.{Chain, upto, phase_at, IsPinned, IsUpdating, Ne
 use Rattle.rc_core.specs.laws.Losing.{joined-again, tomb-alone, map-append, evicted-within, evicted-continuous}
 use Rattle.rc_core.specs.laws.Merging.{rows_by_parts, tombs_by_parts, merged-seen, dropped-seen, alike-continuous}
 
--- ---- no more than the source, of cells put together
+-- ---- no more than the source, of states put together
 
-within_inherit : (rows : List Row) (t : Option Tomb) (a : Cell) (rs : List Row) (ts : List Tomb) → IsWithin a (joined_row rows, t) → joined_row (joined_row rows ∷ rs) ≡ joined_row rows → greatest tomb_cmp (option_to_list t ++ ts) ≡ t →
-    IsWithin (cell a.flag (a.rows ++ rs) (a.tombs ++ ts)) (joined_row rows, t)
+within_inherit : (rows : List Row) (t : Option Tomb) (a : SpotState) (rs : List Row) (ts : List Tomb) → IsWithin a (joined_row rows, t) → joined_row (joined_row rows ∷ rs) ≡ joined_row rows → greatest tomb_cmp (option_to_list t ++ ts) ≡ t →
+    IsWithin (spot_state a.flag (a.rows ++ rs) (a.tombs ++ ts)) (joined_row rows, t)
 within_inherit rows t a rs ts w e f = (
   rows_by_parts (joined_row rows ∷ a.rows) rs (joined_row rows ∷ []) rs (w.0 ∙ sym (joined-again rows)) refl ∙ e,
   ap (greatest tomb_cmp) (sym (append_assoc (option_to_list t) a.tombs ts)) ∙ tombs_by_parts (option_to_list t ++ a.tombs) ts (option_to_list t) ts (w.1 ∙ sym (tomb-alone t)) refl ∙ f,
 )
 
-pub within_under_by : (f : Flag) (rows : List Row) (t : Option Tomb) (a b : Cell) → IsWithin a (joined_row rows, t) → IsWithin b (joined_row rows, t) → IsWithin (over f a b) (joined_row rows, t)
+pub within_under_by : (f : Flag) (rows : List Row) (t : Option Tomb) (a b : SpotState) → IsWithin a (joined_row rows, t) → IsWithin b (joined_row rows, t) → IsWithin (over f a b) (joined_row rows, t)
 within_under_by Known rows t a b w x = x
 within_under_by Unknown rows t a b w x = x
 within_under_by Inherit rows t a b w x = within_inherit rows t a b.rows b.tombs w x.0 x.1
 
-within_alike : (source : Row × Option Tomb) (c d : Cell) → Alike c d → IsWithin d source → IsWithin c source
+within_alike : (source : Row × Option Tomb) (c d : SpotState) → Alike c d → IsWithin d source → IsWithin c source
 within_alike source c d h w = (
   rows_by_parts (source.0 ∷ []) c.rows (source.0 ∷ []) d.rows refl (ap (λ (a : Row × Option Tomb). a.0) h.1) ∙ w.0,
   tombs_by_parts (option_to_list source.1) c.tombs (option_to_list source.1) d.tombs refl (ap (λ (a : Row × Option Tomb). a.1) h.1) ∙ w.1,
 )
 
-pub within_nothing : (rows : List Row) (t : Option Tomb) → IsWithin nothing (joined_row rows, t)
+pub within_nothing : (rows : List Row) (t : Option Tomb) → IsWithin silent (joined_row rows, t)
 within_nothing rows t = (joined-again rows, ap (greatest tomb_cmp) (append-nil (option_to_list t)) ∙ tomb-alone t)
 
-put_down_within : (rows : List Row) (t : Option Tomb) (a b c d : Cell) → IsPutDown a b c d → IsWithin a (joined_row rows, t) → IsWithin b (joined_row rows, t) → IsWithin c (joined_row rows, t) × IsWithin d (joined_row rows, t)
+put_down_within : (rows : List Row) (t : Option Tomb) (a b c d : SpotState) → IsPutDown a b c d → IsWithin a (joined_row rows, t) → IsWithin b (joined_row rows, t) → IsWithin c (joined_row rows, t) × IsWithin d (joined_row rows, t)
 put_down_within rows t a b c d h w x = ⊎_elim
     (λ e. (subst (λ k. IsWithin k (joined_row rows, t)) (sym e.0) w, subst (λ k. IsWithin k (joined_row rows, t)) (sym e.1) x))
     (λ e. (subst (λ k. IsWithin k (joined_row rows, t)) (sym e.0) (within_nothing rows t), within_alike (joined_row rows, t) d (under a b) e.1 (within_under_by b.flag rows t a b w x)))
@@ -60,8 +60,8 @@ each_less P (o ∷ os) newer v h = (h.0, each_less P os newer v h.1)
 
 pub merged-within : (writes : List Mutation) (older newer : List Version) (a b c d : Version) → IsMerged a b c d → HoldNoMore writes (older ++ a ∷ b ∷ newer) → HoldNoMore writes (older ++ c ∷ d ∷ newer)
 merged-within writes older newer a b c d m h = record {
-  statics = each_two _ older newer a b c d h.statics (put_down_within (static_rows writes) None (static_cell a) (static_cell b) (static_cell c) (static_cell d) m.statics);
-  clustered = λ x. each_two _ older newer a b c d (h.clustered x) (put_down_within (rows_in x (all_rows writes)) (source_at writes x).1 (cell_at (On x) a) (cell_at (On x) b) (cell_at (On x) c) (cell_at (On x) d) (m.clustered (On x)));
+  statics = each_two _ older newer a b c d h.statics (put_down_within (static_rows writes) None (static_state a) (static_state b) (static_state c) (static_state d) m.statics);
+  clustered = λ x. each_two _ older newer a b c d (h.clustered x) (put_down_within (rows_in x (all_rows writes)) (source_at writes x).1 (state_at (On x) a) (state_at (On x) b) (state_at (On x) c) (state_at (On x) d) (m.clustered (On x)));
 }
 
 pub merged-continuous : (reach : Option Place) (writes : List Mutation) (older newer : List Version) (a b c d : Version) → IsMerged a b c d → IsContinuous reach writes (older ++ a ∷ b ∷ newer) → IsContinuous reach writes (older ++ c ∷ d ∷ newer)

@@ -9,8 +9,8 @@ use Rattle.rc_position.specs.declared.positions.Pos.{Pos}
 use Rattle.rc_core.specs.declared.entries.ChainKind.TheVariants.{Memtable}
 use Rattle.rc_core.specs.declared.entries.Flag.{Flag}
 use Rattle.rc_core.specs.declared.entries.Flag.TheVariants.{Known, Unknown, Inherit}
-use Rattle.rc_core.specs.Cell.{Cell, nothing, over, through}
-use Rattle.rc_core.specs.Version.{On, Behind, Version, cell_at}
+use Rattle.rc_core.specs.SpotState.{SpotState, silent, over, through}
+use Rattle.rc_core.specs.Version.{On, Behind, Version, state_at}
 use Rattle.rc_core.specs.Chain.{IsEvenAt}
 use Rattle.rc_core.specs.Continuity.{EachOf}
 use Rattle.rc_core.specs.Merge.{IsPutDown, IsMerged, IsSilent, new_version}
@@ -25,7 +25,7 @@ use Rattle.rc_core.specs.laws.Pins.{pinned-or-new, released-pin}
 use Rattle.rc_core.specs.laws.Memtables.{even_as_before}
 
 pub silent_inherits : (v : Version) → IsSilent v → AllInherit v
-silent_inherits v s = record { statics = ap (λ (c : Cell). c.flag) s.statics; clustered = λ x. ap (λ (c : Cell). c.flag) (s.clustered x) }
+silent_inherits v s = record { statics = ap (λ (c : SpotState). c.flag) s.statics; clustered = λ x. ap (λ (c : SpotState). c.flag) (s.clustered x) }
 
 -- ---- a version added
 
@@ -33,7 +33,7 @@ pub each_and_one : (P : Version → Type 0) (vs : List Version) (v : Version) �
 each_and_one P [] v h p = (p, tt)
 each_and_one P (w ∷ ws) v h p = (h.0, each_and_one P ws v h.1 p)
 
-pub silent_top : (f : Version → Cell) (versions : List Version) (v : Version) → f v ≡ nothing → through (list_map f (versions ++ v ∷ [])) ≡ through (list_map f versions)
+pub silent_top : (f : Version → SpotState) (versions : List Version) (v : Version) → f v ≡ silent → through (list_map f (versions ++ v ∷ [])) ≡ through (list_map f versions)
 silent_top f versions v e = ap through (map-append f versions v []) ∙ ap (λ c. through (list_map f versions ++ c ∷ [])) e ∙ silent-seen (list_map f versions) [] ∙ ap through (append-nil (list_map f versions))
 
 pub added-memtable : (c : Chain) (newest : ℕ) (pt : Option Tomb) (phase : ℕ) → suc newest ≡ length c.versions → IsChain c → c.attached ≡ true → IsMemtableChain c → IsMemtableChain (add_version pt phase c)
@@ -43,8 +43,8 @@ added-memtable c newest pt phase e ch att k = record {
       (λ o. subst (λ (s : Stand). IsEvenAt Memtable s.1 x) (sym (stand-older j c.versions (fresh ∷ []) o)) (k.even j (⊎_elim inl (λ a. absurd (omega (arith, o, a.1, length-cons c.versions fresh []))) need) x))
       (λ n. subst (λ (s : Stand). IsEvenAt Memtable s.1 x) (sym (stand-at j c.versions [] fresh n))
       (even_as_before Memtable c.versions (c.versions ++ fresh ∷ []) x
-      (silent_top (cell_at (On x)) c.versions fresh ((new-silent pt phase).clustered (On x)))
-      (λ _. silent_top (cell_at (Behind x)) c.versions fresh ((new-silent pt phase).clustered (Behind x)))
+      (silent_top (state_at (On x)) c.versions fresh ((new-silent pt phase).clustered (On x)))
+      (λ _. silent_top (state_at (Behind x)) c.versions fresh ((new-silent pt phase).clustered (Behind x)))
       (subst (λ vs. IsEvenAt Memtable vs x) (all_taken c.versions (suc newest) e) (k.even newest (inr (att, e)) x))))
       (older_or_newest j c.versions fresh (⊎_elim (λ p. omega (arith, ch.pins j p, length-cons c.versions fresh [])) (λ a. omega (arith, a.1)) need));
 }
@@ -60,15 +60,15 @@ added-memtable c newest pt phase e ch att k = record {
 
 -- ---- merging and dropping
 
-pub over_inherit : (f : Flag) (older newer : Cell) → f ≡ Inherit → older.flag ≡ Inherit → (over f older newer).flag ≡ Inherit
+pub over_inherit : (f : Flag) (older newer : SpotState) → f ≡ Inherit → older.flag ≡ Inherit → (over f older newer).flag ≡ Inherit
 over_inherit Known older newer e h = absurd (cc)
 over_inherit Unknown older newer e h = absurd (cc)
 over_inherit Inherit older newer e h = h
 
-put_down_inherits : (o n oo nn : Cell) → IsPutDown o n oo nn → o.flag ≡ Inherit → n.flag ≡ Inherit → (oo.flag ≡ Inherit) × (nn.flag ≡ Inherit)
+put_down_inherits : (o n oo nn : SpotState) → IsPutDown o n oo nn → o.flag ≡ Inherit → n.flag ≡ Inherit → (oo.flag ≡ Inherit) × (nn.flag ≡ Inherit)
 put_down_inherits o n oo nn p h k = ⊎_elim
-    (λ e. (ap (λ (c : Cell). c.flag) e.0 ∙ h, ap (λ (c : Cell). c.flag) e.1 ∙ k))
-    (λ e. (ap (λ (c : Cell). c.flag) e.0, e.1.0 ∙ over_inherit n.flag o n k h))
+    (λ e. (ap (λ (c : SpotState). c.flag) e.0 ∙ h, ap (λ (c : SpotState). c.flag) e.1 ∙ k))
+    (λ e. (ap (λ (c : SpotState). c.flag) e.0, e.1.0 ∙ over_inherit n.flag o n k h))
     p
 
 merged_inherit : (a b x y : Version) → IsMerged a b x y → AllInherit a → AllInherit b → AllInherit x × AllInherit y

@@ -13,16 +13,16 @@ use Rattle.rc_cell.specs.Greatest.{greater, greatest-two}
 use Rattle.rc_cell.specs.Winner.{greatest, joined_row, empty_row}
 use Rattle.rc_position.specs.declared.positions.Pos.{Pos}
 use Rattle.rc_position.specs.Position.{IsBefore, covers, pos_cmp}
-use Rattle.rc_position.specs.OrderLaws.{pos_cmp_same}
+use Rattle.rc_position.specs.laws.Orders.{pos_cmp_same}
 use Rattle.rc_core.specs.declared.entries.ChainKind.{ChainKind}
 use Rattle.rc_core.specs.declared.entries.ChainKind.TheVariants.{Memtable}
 use Rattle.rc_core.specs.declared.entries.Entry.{Entry}
 use Rattle.rc_core.specs.declared.entries.Mark.{Mark}
 use Rattle.rc_core.specs.declared.entries.Flag.TheVariants.{Inherit}
-use Rattle.rc_core.specs.Cell.{Cell, cell, through, said}
-use Rattle.rc_core.specs.Version.{Spot, On, Behind, Version, IsVersion, cell_at, static_cell, cell_of, Found, found, entry_answers, seen, spot_cmp, end_position, IsBeforeEnd}
-use Rattle.rc_core.specs.Change.{raised, joined_onto, position_of, split, changed}
-use Rattle.rc_core.specs.Chain.{flagged, content, cells, flag_over, IsEvenAt}
+use Rattle.rc_core.specs.SpotState.{SpotState, spot_state, through, joined_state}
+use Rattle.rc_core.specs.Version.{Spot, On, Behind, Version, IsVersion, state_at, static_state, state_of, Finding, found, entry_answers, seen, spot_cmp, end_position, IsBeforeEnd}
+use Rattle.rc_core.specs.Change.{raised_mark, joined_onto, position_of, split, changed}
+use Rattle.rc_core.specs.Chain.{flagged, content, states_at, flag_over, IsEvenAt}
 use Rattle.rc_core.specs.Continuity.{EachOf}
 use Rattle.rc_core.specs.Chains.{Chain, upto, AllInherit, IsMemtableChain, with_versions}
 use Rattle.rc_core.specs.Steps.{IsChain, on_newest, with_newest, row_joined, range_joined, join_pt, join_statics}
@@ -36,7 +36,7 @@ use Rattle.rc_core.specs.laws.Standing.{Stand, above-zero, older_or_newest, leng
 
 -- ---- evenness, from what is seen
 
-pub even_as_before : (kind : ChainKind) (before now : List Version) (x : Pos) → through (cells (On x) now) ≡ through (cells (On x) before) → (IsBefore x end_position → through (cells (Behind x) now) ≡ through (cells (Behind x) before)) →
+pub even_as_before : (kind : ChainKind) (before now : List Version) (x : Pos) → through (states_at (On x) now) ≡ through (states_at (On x) before) → (IsBefore x end_position → through (states_at (Behind x) now) ≡ through (states_at (Behind x) before)) →
     IsEvenAt kind before x → IsEvenAt kind now x
 even_as_before kind before now x e g even bare known =
     content1 (On x) e
@@ -44,28 +44,28 @@ even_as_before kind before now x e g even bare known =
     (record { at = sym (flag (On x) e) ∙ known.at; gap = λ _. sym (flag (Behind x) (g bare.inside)) ∙ known.gap bare })
     ∙ sym (content1 (Behind x) (g bare.inside))
   where
-    same : (s : Spot) → through (cells s now) ≡ through (cells s before) → content (cells s now) ≡ content (cells s before)
-    same s h = content-through (cells s now) ∙ ap said h ∙ sym (content-through (cells s before))
+    same : (s : Spot) → through (states_at s now) ≡ through (states_at s before) → content (states_at s now) ≡ content (states_at s before)
+    same s h = content-through (states_at s now) ∙ ap joined_state h ∙ sym (content-through (states_at s before))
 
-    content1 : (s : Spot) → through (cells s now) ≡ through (cells s before) → (content (cells s now)).1 ≡ (content (cells s before)).1
+    content1 : (s : Spot) → through (states_at s now) ≡ through (states_at s before) → (content (states_at s now)).1 ≡ (content (states_at s before)).1
     content1 s h = ap (λ (a : Row × Option Tomb). a.1) (same s h)
 
-    flag : (s : Spot) → through (cells s now) ≡ through (cells s before) → flagged kind (cells s now) ≡ flagged kind (cells s before)
-    flag s h = flagged-through kind (cells s now) ∙ ap (λ (c : Cell). flag_over kind c.flag) h ∙ sym (flagged-through kind (cells s before))
+    flag : (s : Spot) → through (states_at s now) ≡ through (states_at s before) → flagged kind (states_at s now) ≡ flagged kind (states_at s before)
+    flag s h = flagged-through kind (states_at s now) ∙ ap (λ (c : SpotState). flag_over kind c.flag) h ∙ sym (flagged-through kind (states_at s before))
 
--- a cell that inherits, on top of others
-through_top : (f : Version → Cell) (older : List Version) (v : Version) → (f v).flag ≡ Inherit → through (list_map f (older ++ v ∷ [])) ≡ cell (through (list_map f older)).flag ((through (list_map f older)).rows ++ (f v).rows) ((through (list_map f older)).tombs ++ (f v).tombs)
+-- a state that inherits, on top of others
+through_top : (f : Version → SpotState) (older : List Version) (v : Version) → (f v).flag ≡ Inherit → through (list_map f (older ++ v ∷ [])) ≡ spot_state (through (list_map f older)).flag ((through (list_map f older)).rows ++ (f v).rows) ((through (list_map f older)).tombs ++ (f v).tombs)
 through_top f older v e = ap through (on_top f older v e) ∙ joins_on_top (list_map f older) (f v).rows (f v).tombs
 
-flag_top : (f : Version → Cell) (older : List Version) (v w : Version) → (f v).flag ≡ Inherit → (f w).flag ≡ Inherit → flagged Memtable (list_map f (older ++ w ∷ [])) ≡ flagged Memtable (list_map f (older ++ v ∷ []))
+flag_top : (f : Version → SpotState) (older : List Version) (v w : Version) → (f v).flag ≡ Inherit → (f w).flag ≡ Inherit → flagged Memtable (list_map f (older ++ w ∷ [])) ≡ flagged Memtable (list_map f (older ++ v ∷ []))
 flag_top f older v w e d =
     flagged-through Memtable (list_map f (older ++ w ∷ []))
-    ∙ ap (λ (c : Cell). flag_over Memtable c.flag) (through_top f older w d)
-    ∙ sym (ap (λ (c : Cell). flag_over Memtable c.flag) (through_top f older v e))
+    ∙ ap (λ (c : SpotState). flag_over Memtable c.flag) (through_top f older w d)
+    ∙ sym (ap (λ (c : SpotState). flag_over Memtable c.flag) (through_top f older v e))
     ∙ sym (flagged-through Memtable (list_map f (older ++ v ∷ [])))
 
-pub content_top : (f : Version → Cell) (older : List Version) (v : Version) → (f v).flag ≡ Inherit → content (list_map f (older ++ v ∷ [])) ≡ (joined_row ((through (list_map f older)).rows ++ (f v).rows), greatest tomb_cmp ((through (list_map f older)).tombs ++ (f v).tombs))
-content_top f older v e = content-through (list_map f (older ++ v ∷ [])) ∙ ap said (through_top f older v e)
+pub content_top : (f : Version → SpotState) (older : List Version) (v : Version) → (f v).flag ≡ Inherit → content (list_map f (older ++ v ∷ [])) ≡ (joined_row ((through (list_map f older)).rows ++ (f v).rows), greatest tomb_cmp ((through (list_map f older)).tombs ++ (f v).tombs))
+content_top f older v e = content-through (list_map f (older ++ v ∷ [])) ∙ ap joined_state (through_top f older v e)
 
 -- ---- a row joined
 
@@ -92,18 +92,18 @@ module _ (older : List Version) (v : Version) (i : IsVersion v) (ai : AllInherit
     abbrev with_row : Version
     with_row = row_joined p row v
 
-    pub row_there : cell_at (On p) with_row ≡ cell (cell_at (On p) v).flag (joined_onto (seen (On p) v.entries).row row ∷ []) (cell_at (On p) v).tombs
-    row_there = ap cell_of (join_row-there p row v.entries i.ends)
+    pub row_there : state_at (On p) with_row ≡ spot_state (state_at (On p) v).flag (joined_onto (seen (On p) v.entries).row row ∷ []) (state_at (On p) v).tombs
+    row_there = ap state_of (join_row-there p row v.entries i.ends)
 
-    pub row_other : (s : Spot) → (spot_cmp s p ≡ Equal → ⊥) → cell_at s with_row ≡ cell_at s v
-    row_other s off = ap cell_of (join_row-other s p row v.entries off)
+    pub row_other : (s : Spot) → (spot_cmp s p ≡ Equal → ⊥) → state_at s with_row ≡ state_at s v
+    row_other s off = ap state_of (join_row-other s p row v.entries off)
 
-    spot_flag : (s : Spot) → (cell_at s with_row).flag ≡ Inherit
-    spot_flag (Behind x) = ap (λ (c : Cell). c.flag) (row_other (Behind x) (behind-Equal (pos_cmp x p))) ∙ ai.clustered (Behind x)
-    spot_flag (On x) = elim (pos_cmp x p) as (λ r. pos_cmp x p ≡ r → (cell_at (On x) with_row).flag ≡ Inherit) [
-      | Less ↦ λ e. ap (λ (c : Cell). c.flag) (row_other (On x) (λ d. let u : Less ≡ Equal = sym e ∙ d in cc)) ∙ ai.clustered (On x)
-      | Equal ↦ λ e. subst (λ y. (cell_at (On y) with_row).flag ≡ Inherit) (sym (pos_cmp_same x p e)) (ap (λ (c : Cell). c.flag) row_there ∙ ai.clustered (On p))
-      | Greater ↦ λ e. ap (λ (c : Cell). c.flag) (row_other (On x) (λ d. let u : Greater ≡ Equal = sym e ∙ d in cc)) ∙ ai.clustered (On x)
+    spot_flag : (s : Spot) → (state_at s with_row).flag ≡ Inherit
+    spot_flag (Behind x) = ap (λ (c : SpotState). c.flag) (row_other (Behind x) (behind-Equal (pos_cmp x p))) ∙ ai.clustered (Behind x)
+    spot_flag (On x) = elim (pos_cmp x p) as (λ r. pos_cmp x p ≡ r → (state_at (On x) with_row).flag ≡ Inherit) [
+      | Less ↦ λ e. ap (λ (c : SpotState). c.flag) (row_other (On x) (λ d. let u : Less ≡ Equal = sym e ∙ d in cc)) ∙ ai.clustered (On x)
+      | Equal ↦ λ e. subst (λ y. (state_at (On y) with_row).flag ≡ Inherit) (sym (pos_cmp_same x p e)) (ap (λ (c : SpotState). c.flag) row_there ∙ ai.clustered (On p))
+      | Greater ↦ λ e. ap (λ (c : SpotState). c.flag) (row_other (On x) (λ d. let u : Greater ≡ Equal = sym e ∙ d in cc)) ∙ ai.clustered (On x)
     ] refl
 
     pub row-inherits : AllInherit with_row
@@ -114,25 +114,25 @@ module _ (older : List Version) (v : Version) (i : IsVersion v) (ai : AllInherit
         tombs_there
         ∙ even (record { inside = bare.inside; no_row = was_bare })
         (record {
-          at = sym (flag_top (cell_at (On p)) older v with_row (ai.clustered (On p)) (spot_flag (On p))) ∙ known.at;
-          gap = λ _. sym (flag_top (cell_at (Behind p)) older v with_row (ai.clustered (Behind p)) (spot_flag (Behind p))) ∙ known.gap bare;
+          at = sym (flag_top (state_at (On p)) older v with_row (ai.clustered (On p)) (spot_flag (On p))) ∙ known.at;
+          gap = λ _. sym (flag_top (state_at (Behind p)) older v with_row (ai.clustered (Behind p)) (spot_flag (Behind p))) ∙ known.gap bare;
         })
-        ∙ ap (λ (a : Row × Option Tomb). a.1) (sym (same_content (seen-same (cell_at (Behind p)) older v with_row (row_other (Behind p) (behind-Equal (pos_cmp p p))))))
+        ∙ ap (λ (a : Row × Option Tomb). a.1) (sym (same_content (seen-same (state_at (Behind p)) older v with_row (row_other (Behind p) (behind-Equal (pos_cmp p p))))))
       where
-        same_content : through (cells (Behind p) (older ++ with_row ∷ [])) ≡ through (cells (Behind p) (older ++ v ∷ [])) → content (cells (Behind p) (older ++ with_row ∷ [])) ≡ content (cells (Behind p) (older ++ v ∷ []))
-        same_content h = content-through (cells (Behind p) (older ++ with_row ∷ [])) ∙ ap said h ∙ sym (content-through (cells (Behind p) (older ++ v ∷ [])))
+        same_content : through (states_at (Behind p) (older ++ with_row ∷ [])) ≡ through (states_at (Behind p) (older ++ v ∷ [])) → content (states_at (Behind p) (older ++ with_row ∷ [])) ≡ content (states_at (Behind p) (older ++ v ∷ []))
+        same_content h = content-through (states_at (Behind p) (older ++ with_row ∷ [])) ∙ ap joined_state h ∙ sym (content-through (states_at (Behind p) (older ++ v ∷ [])))
 
-        tombs_there : (content (cells (On p) (older ++ with_row ∷ []))).1 ≡ (content (cells (On p) (older ++ v ∷ []))).1
+        tombs_there : (content (states_at (On p) (older ++ with_row ∷ []))).1 ≡ (content (states_at (On p) (older ++ v ∷ []))).1
         tombs_there =
-            ap (λ (a : Row × Option Tomb). a.1) (content_top (cell_at (On p)) older with_row (spot_flag (On p)))
-            ∙ ap (λ (c : Cell). greatest tomb_cmp ((through (cells (On p) older)).tombs ++ c.tombs)) row_there
-            ∙ ap (λ (a : Row × Option Tomb). a.1) (sym (content_top (cell_at (On p)) older v (ai.clustered (On p))))
+            ap (λ (a : Row × Option Tomb). a.1) (content_top (state_at (On p)) older with_row (spot_flag (On p)))
+            ∙ ap (λ (c : SpotState). greatest tomb_cmp ((through (states_at (On p) older)).tombs ++ c.tombs)) row_there
+            ∙ ap (λ (a : Row × Option Tomb). a.1) (sym (content_top (state_at (On p)) older v (ai.clustered (On p))))
 
-        was_bare : (content (cells (On p) (older ++ v ∷ []))).0 ≡ empty_row
+        was_bare : (content (states_at (On p) (older ++ v ∷ []))).0 ≡ empty_row
         was_bare =
-            ap (λ (a : Row × Option Tomb). a.0) (content_top (cell_at (On p)) older v (ai.clustered (On p)))
-            ∙ nothing_before (through (cells (On p) older)).rows (seen (On p) v.entries).row row
-            (sym (ap (λ (a : Row × Option Tomb). a.0) (content_top (cell_at (On p)) older with_row (spot_flag (On p))) ∙ ap (λ (c : Cell). joined_row ((through (cells (On p) older)).rows ++ c.rows)) row_there) ∙ bare.no_row)
+            ap (λ (a : Row × Option Tomb). a.0) (content_top (state_at (On p)) older v (ai.clustered (On p)))
+            ∙ nothing_before (through (states_at (On p) older)).rows (seen (On p) v.entries).row row
+            (sym (ap (λ (a : Row × Option Tomb). a.0) (content_top (state_at (On p)) older with_row (spot_flag (On p))) ∙ ap (λ (c : SpotState). joined_row ((through (states_at (On p) older)).rows ++ c.rows)) row_there) ∙ bare.no_row)
 
     pub row-even : (x : Pos) → IsEvenAt Memtable (older ++ v ∷ []) x → IsEvenAt Memtable (older ++ with_row ∷ []) x
     row-even x = elim (pos_cmp x p) as (λ r. pos_cmp x p ≡ r → IsEvenAt Memtable (older ++ v ∷ []) x → IsEvenAt Memtable (older ++ with_row ∷ []) x) [
@@ -142,7 +142,7 @@ module _ (older : List Version) (v : Version) (i : IsVersion v) (ai : AllInherit
     ] refl
       where
         other : (spot_cmp (On x) p ≡ Equal → ⊥) → IsEvenAt Memtable (older ++ v ∷ []) x → IsEvenAt Memtable (older ++ with_row ∷ []) x
-        other off = even_as_before Memtable (older ++ v ∷ []) (older ++ with_row ∷ []) x (seen-same (cell_at (On x)) older v with_row (row_other (On x) off)) (λ _. seen-same (cell_at (Behind x)) older v with_row (row_other (Behind x) (behind-Equal (pos_cmp x p))))
+        other off = even_as_before Memtable (older ++ v ∷ []) (older ++ with_row ∷ []) x (seen-same (state_at (On x)) older v with_row (row_other (On x) off)) (λ _. seen-same (state_at (Behind x)) older v with_row (row_other (Behind x) (behind-Equal (pos_cmp x p))))
 
   -- ---- a range tombstone joined
 
@@ -150,14 +150,14 @@ module _ (older : List Version) (v : Version) (i : IsVersion v) (ai : AllInherit
     abbrev with_range : Version
     with_range = range_joined from to tomb v
 
-    range_cell : (s : Spot) → IsBeforeEnd s v.entries → cell_at s with_range ≡ cell_of (cond (covers from to (position_of s)) (found (raised (Some tomb) (seen s v.entries).mark) (seen s v.entries).row) (seen s v.entries))
-    range_cell s b = ap cell_of (change-seen (raised (Some tomb)) s from to v.entries b)
+    range_state : (s : Spot) → IsBeforeEnd s v.entries → state_at s with_range ≡ state_of (cond (covers from to (position_of s)) (found (raised_mark (Some tomb) (seen s v.entries).mark) (seen s v.entries).row) (seen s v.entries))
+    range_state s b = ap state_of (change-seen (raised_mark (Some tomb)) s from to v.entries b)
 
-    pub range_inside : (s : Spot) → IsBeforeEnd s v.entries → covers from to (position_of s) ≡ true → cell_at s with_range ≡ cell (cell_at s v).flag (cell_at s v).rows (option_to_list (greater tomb_cmp (seen s v.entries).mark.tomb (Some tomb)))
-    range_inside s b c = range_cell s b ∙ ap (λ t. cell_of (cond t (found (raised (Some tomb) (seen s v.entries).mark) (seen s v.entries).row) (seen s v.entries))) c
+    pub range_inside : (s : Spot) → IsBeforeEnd s v.entries → covers from to (position_of s) ≡ true → state_at s with_range ≡ spot_state (state_at s v).flag (state_at s v).rows (option_to_list (greater tomb_cmp (seen s v.entries).mark.tomb (Some tomb)))
+    range_inside s b c = range_state s b ∙ ap (λ t. state_of (cond t (found (raised_mark (Some tomb) (seen s v.entries).mark) (seen s v.entries).row) (seen s v.entries))) c
 
-    pub range_outside : (s : Spot) → IsBeforeEnd s v.entries → covers from to (position_of s) ≡ false → cell_at s with_range ≡ cell_at s v
-    range_outside s b c = range_cell s b ∙ ap (λ t. cell_of (cond t (found (raised (Some tomb) (seen s v.entries).mark) (seen s v.entries).row) (seen s v.entries))) c
+    pub range_outside : (s : Spot) → IsBeforeEnd s v.entries → covers from to (position_of s) ≡ false → state_at s with_range ≡ state_at s v
+    range_outside s b c = range_state s b ∙ ap (λ t. state_of (cond t (found (raised_mark (Some tomb) (seen s v.entries).mark) (seen s v.entries).row) (seen s v.entries))) c
 
     on : (x : Pos) → IsBeforeEnd (On x) v.entries
     on x = position-reached x v.entries i.ends
@@ -165,20 +165,20 @@ module _ (older : List Version) (v : Version) (i : IsVersion v) (ai : AllInherit
     gap : (x : Pos) → IsBefore x end_position → IsBeforeEnd (Behind x) v.entries
     gap x b = gap-reached x v.entries i.ends b
 
-    range_flag : (s : Spot) → (cell_at s with_range).flag ≡ Inherit
-    range_flag s = changed_flag (raised (Some tomb)) (λ _. refl) s from to (split to (split from v.entries)) ∙ ap (λ (a : Found). a.mark.flag) (split-seen s to (split from v.entries) ∙ split-seen s from v.entries) ∙ ai.clustered s
+    range_flag : (s : Spot) → (state_at s with_range).flag ≡ Inherit
+    range_flag s = changed_flag (raised_mark (Some tomb)) (λ _. refl) s from to (split to (split from v.entries)) ∙ ap (λ (a : Finding). a.mark.flag) (split-seen s to (split from v.entries) ∙ split-seen s from v.entries) ∙ ai.clustered s
 
     pub range-inherits : AllInherit with_range
     range-inherits = record { statics = ai.statics; clustered = range_flag }
 
     -- the tombstone seen there is the greater of that of before and the joined one
     tomb_seen : (s : Spot) → IsBeforeEnd s v.entries → covers from to (position_of s) ≡ true →
-        (content (cells s (older ++ with_range ∷ []))).1 ≡ greatest tomb_cmp (option_to_list (content (cells s (older ++ v ∷ []))).1 ++ tomb ∷ [])
+        (content (states_at s (older ++ with_range ∷ []))).1 ≡ greatest tomb_cmp (option_to_list (content (states_at s (older ++ v ∷ []))).1 ++ tomb ∷ [])
     tomb_seen s b c =
-        ap (λ (a : Row × Option Tomb). a.1) (content_top (cell_at s) older with_range (range_flag s))
-        ∙ ap (λ (k : Cell). greatest tomb_cmp ((through (cells s older)).tombs ++ k.tombs)) (range_inside s b c)
-        ∙ raised_on_top (through (cells s older)).tombs (seen s v.entries).mark.tomb
-        ∙ ap (λ t. greatest tomb_cmp (option_to_list t ++ tomb ∷ [])) (ap (λ (a : Row × Option Tomb). a.1) (sym (content_top (cell_at s) older v (ai.clustered s))))
+        ap (λ (a : Row × Option Tomb). a.1) (content_top (state_at s) older with_range (range_flag s))
+        ∙ ap (λ (k : SpotState). greatest tomb_cmp ((through (states_at s older)).tombs ++ k.tombs)) (range_inside s b c)
+        ∙ raised_on_top (through (states_at s older)).tombs (seen s v.entries).mark.tomb
+        ∙ ap (λ t. greatest tomb_cmp (option_to_list t ++ tomb ∷ [])) (ap (λ (a : Row × Option Tomb). a.1) (sym (content_top (state_at s) older v (ai.clustered s))))
       where
         raised_on_top : (ts : List Tomb) (t : Option Tomb) → greatest tomb_cmp (ts ++ option_to_list (greater tomb_cmp t (Some tomb))) ≡ greatest tomb_cmp (option_to_list (greatest tomb_cmp (ts ++ option_to_list t)) ++ tomb ∷ [])
         raised_on_top ts t =
@@ -186,22 +186,22 @@ module _ (older : List Version) (v : Version) (i : IsVersion v) (ai : AllInherit
             ∙ ap (greatest tomb_cmp) (sym (append_assoc ts (option_to_list t) (tomb ∷ [])))
             ∙ tombs_by_parts (ts ++ option_to_list t) (tomb ∷ []) (option_to_list (greatest tomb_cmp (ts ++ option_to_list t))) (tomb ∷ []) (sym (tomb-alone (greatest tomb_cmp (ts ++ option_to_list t)))) refl
 
-    row_seen : (x : Pos) → covers from to x ≡ true → (content (cells (On x) (older ++ with_range ∷ []))).0 ≡ (content (cells (On x) (older ++ v ∷ []))).0
+    row_seen : (x : Pos) → covers from to x ≡ true → (content (states_at (On x) (older ++ with_range ∷ []))).0 ≡ (content (states_at (On x) (older ++ v ∷ []))).0
     row_seen x c =
-        ap (λ (a : Row × Option Tomb). a.0) (content_top (cell_at (On x)) older with_range (range_flag (On x)))
-        ∙ ap (λ (k : Cell). joined_row ((through (cells (On x) older)).rows ++ k.rows)) (range_inside (On x) (on x) c)
-        ∙ ap (λ (a : Row × Option Tomb). a.0) (sym (content_top (cell_at (On x)) older v (ai.clustered (On x))))
+        ap (λ (a : Row × Option Tomb). a.0) (content_top (state_at (On x)) older with_range (range_flag (On x)))
+        ∙ ap (λ (k : SpotState). joined_row ((through (states_at (On x) older)).rows ++ k.rows)) (range_inside (On x) (on x) c)
+        ∙ ap (λ (a : Row × Option Tomb). a.0) (sym (content_top (state_at (On x)) older v (ai.clustered (On x))))
 
     pub range-even : (x : Pos) → IsEvenAt Memtable (older ++ v ∷ []) x → IsEvenAt Memtable (older ++ with_range ∷ []) x
-    range-even x even bare known = elim (covers from to x) as (λ t. covers from to x ≡ t → (content (cells (On x) (older ++ with_range ∷ []))).1 ≡ (content (cells (Behind x) (older ++ with_range ∷ []))).1) [
+    range-even x even bare known = elim (covers from to x) as (λ t. covers from to x ≡ t → (content (states_at (On x) (older ++ with_range ∷ []))).1 ≡ (content (states_at (Behind x) (older ++ with_range ∷ []))).1) [
       | true ↦ λ c.
           tomb_seen (On x) (on x) c
           ∙ ap (λ t. greatest tomb_cmp (option_to_list t ++ tomb ∷ [])) (even (record { inside = bare.inside; no_row = sym (row_seen x c) ∙ bare.no_row }) (record {
-            at = sym (flag_top (cell_at (On x)) older v with_range (ai.clustered (On x)) (range_flag (On x))) ∙ known.at;
-            gap = λ _. sym (flag_top (cell_at (Behind x)) older v with_range (ai.clustered (Behind x)) (range_flag (Behind x))) ∙ known.gap bare;
+            at = sym (flag_top (state_at (On x)) older v with_range (ai.clustered (On x)) (range_flag (On x))) ∙ known.at;
+            gap = λ _. sym (flag_top (state_at (Behind x)) older v with_range (ai.clustered (Behind x)) (range_flag (Behind x))) ∙ known.gap bare;
           }))
           ∙ sym (tomb_seen (Behind x) (gap x bare.inside) c)
-      | false ↦ λ c. even_as_before Memtable (older ++ v ∷ []) (older ++ with_range ∷ []) x (seen-same (cell_at (On x)) older v with_range (range_outside (On x) (on x) c)) (λ b. seen-same (cell_at (Behind x)) older v with_range (range_outside (Behind x) (gap x b) c)) even bare known
+      | false ↦ λ c. even_as_before Memtable (older ++ v ∷ []) (older ++ with_range ∷ []) x (seen-same (state_at (On x)) older v with_range (range_outside (On x) (on x) c)) (λ b. seen-same (state_at (Behind x)) older v with_range (range_outside (Behind x) (gap x b) c)) even bare known
     ] refl
 
 -- ---- whole chains
@@ -255,10 +255,10 @@ module _ (c : Chain) (newest : ℕ) (e : suc newest ≡ length c.versions) (ch :
   pub range-memtable : (from to : Pos) (tomb : Tomb) → IsMemtableChain (with_newest (range_joined from to tomb) c)
   range-memtable from to tomb = written c newest (range_joined from to tomb) e ch att (λ v a i. range-inherits [] v i a from to tomb) (λ older v i a. range-even older v i a from to tomb) k
 
-  same_cells : (f : Version → Version) → ((v : Version) → (static_cell (f v)).flag ≡ (static_cell v).flag) → ((v : Version) (s : Spot) → cell_at s (f v) ≡ cell_at s v) → IsMemtableChain (with_newest f c)
+  same_cells : (f : Version → Version) → ((v : Version) → (static_state (f v)).flag ≡ (static_state v).flag) → ((v : Version) (s : Spot) → state_at s (f v) ≡ state_at s v) → IsMemtableChain (with_newest f c)
   same_cells f st cl = written c newest f e ch att
-      (λ v a i. record { statics = st v ∙ a.statics; clustered = λ s. ap (λ (d : Cell). d.flag) (cl v s) ∙ a.clustered s })
-      (λ older v i a x. even_as_before Memtable (older ++ v ∷ []) (older ++ f v ∷ []) x (seen-same (cell_at (On x)) older v (f v) (cl v (On x))) (λ _. seen-same (cell_at (Behind x)) older v (f v) (cl v (Behind x)))) k
+      (λ v a i. record { statics = st v ∙ a.statics; clustered = λ s. ap (λ (d : SpotState). d.flag) (cl v s) ∙ a.clustered s })
+      (λ older v i a x. even_as_before Memtable (older ++ v ∷ []) (older ++ f v ∷ []) x (seen-same (state_at (On x)) older v (f v) (cl v (On x))) (λ _. seen-same (state_at (Behind x)) older v (f v) (cl v (Behind x)))) k
 
   pub pt-memtable : (tomb : Tomb) → IsMemtableChain (with_newest (join_pt tomb) c)
   pt-memtable tomb = same_cells (join_pt tomb) (λ _. refl) (λ _ _. refl)

@@ -9,8 +9,8 @@ use Rattle.rc_cell.specs.Winner.{greatest}
 use Rattle.rc_position.specs.Position.{Place}
 use Rattle.rc_mutation.specs.declared.mutations.Mutation.{Mutation}
 use Rattle.rc_mutation.specs.Source.{source_at, static_rows, rows_in, all_rows}
-use Rattle.rc_core.specs.Cell.{Cell, nothing}
-use Rattle.rc_core.specs.Version.{On, Version, IsVersion, cell_at, static_cell}
+use Rattle.rc_core.specs.SpotState.{SpotState, silent}
+use Rattle.rc_core.specs.Version.{On, Version, IsVersion, state_at, static_state}
 use Rattle.rc_core.specs.Continuity.{IsWithin, HoldNoMore, IsContinuous}
 use Rattle.rc_core.specs.Merge.{IsPutDown, IsMerged, IsSilent, IsSeenAlike}
 use Rattle.rc_core.specs.AtPlace.{IsAtPlace}
@@ -24,11 +24,11 @@ use Rattle.rc_core.specs.laws.Standing.{Stand, stand, above, above-is, above-zer
 
 older_within : (older : List Version) (a b x y : Version) → IsMerged a b x y → (writes : List Mutation) → HoldNoMore writes (older ++ a ∷ []) → HoldNoMore writes (older ++ x ∷ [])
 older_within older a b x y m writes h = record {
-  statics = each-other _ older [] a x h.statics (one (static_cell a) (static_cell b) (static_cell x) (static_cell y) m.statics (each-one _ older [] a h.statics) (within_nothing (static_rows writes) None));
-  clustered = λ p. each-other _ older [] a x (h.clustered p) (one (cell_at (On p) a) (cell_at (On p) b) (cell_at (On p) x) (cell_at (On p) y) (m.clustered (On p)) (each-one _ older [] a (h.clustered p)) (within_nothing (rows_in p (all_rows writes)) (source_at writes p).1));
+  statics = each-other _ older [] a x h.statics (one (static_state a) (static_state b) (static_state x) (static_state y) m.statics (each-one _ older [] a h.statics) (within_nothing (static_rows writes) None));
+  clustered = λ p. each-other _ older [] a x (h.clustered p) (one (state_at (On p) a) (state_at (On p) b) (state_at (On p) x) (state_at (On p) y) (m.clustered (On p)) (each-one _ older [] a (h.clustered p)) (within_nothing (rows_in p (all_rows writes)) (source_at writes p).1));
 }
   where
-    one : {source : Row × Option Tomb} (o n oo nn : Cell) → IsPutDown o n oo nn → IsWithin o source → IsWithin nothing source → IsWithin oo source
+    one : {source : Row × Option Tomb} (o n oo nn : SpotState) → IsPutDown o n oo nn → IsWithin o source → IsWithin silent source → IsWithin oo source
     one {source = source} o n oo nn p w z = ⊎_elim (λ e. subst (λ k. IsWithin k source) (sym e.0) w) (λ e. subst (λ k. IsWithin k source) (sym e.0) z) p
 
 module _ (older back : List Version) (a b x y : Version) where

@@ -11,19 +11,19 @@ use Rattle.rc_cell.specs.Orders.{tomb_cmp}
 use Rattle.rc_cell.specs.Winner.{greatest, joined_row}
 use Rattle.rc_position.specs.declared.positions.Pos.{Pos}
 use Rattle.rc_position.specs.Position.{Place, pos_cmp}
-use Rattle.rc_position.specs.BoundLaws.{last_pos-greatest}
+use Rattle.rc_position.specs.laws.Bounds.{last_pos-greatest}
 use Rattle.rc_mutation.specs.declared.mutations.Mutation.{Mutation}
 use Rattle.rc_mutation.specs.Source.{source_at, source_at_static, source_at_head, static_rows, rows_in, all_rows}
 use Rattle.rc_core.specs.declared.entries.ChainKind.TheVariants.{Memtable, Cache}
 use Rattle.rc_core.specs.declared.entries.Flag.TheVariants.{Unknown, Inherit}
-use Rattle.rc_core.specs.Cell.{lost}
-use Rattle.rc_core.specs.Version.{On, Behind, Version, IsVersion, cell_at, static_cell, cell_of, entry_answers, found, end_position}
+use Rattle.rc_core.specs.SpotState.{lost}
+use Rattle.rc_core.specs.Version.{On, Behind, Version, IsVersion, state_at, static_state, state_of, entry_answers, found, end_position}
 use Rattle.rc_core.specs.Change.{dummy, mark}
 use Rattle.rc_core.specs.Chain.{IsEvenAt}
 use Rattle.rc_core.specs.Continuity.{IsWithin, HoldNoMore, IsContinuous}
 use Rattle.rc_core.specs.Merge.{new_version}
 use Rattle.rc_core.specs.Chains.{Chain, upto, phase_at, HasReach, IsNeeded, IsPinned, IsChainContinuous, IsMemtableChain}
-use Rattle.rc_core.specs.Steps.{IsChain, with_newest, add_version, opened, new_chain}
+use Rattle.rc_core.specs.Steps.{IsChain, with_newest, add_version, opened_version, new_chain}
 use Rattle.rc_core.specs.laws.Losing.{tomb-alone, lost-within}
 use Rattle.rc_core.specs.laws.Filling.{adds_nothing, content-known}
 use Rattle.rc_core.specs.laws.GivenUp.{not_flagged}
@@ -37,12 +37,12 @@ use Rattle.rc_core.specs.laws.MemtableChains.{each_and_one, silent_inherits, sil
 
 module _ (pt : Option Tomb) (statics : Option Row) (phase : ℕ) where
   abbrev v : Version
-  v = opened pt statics phase
+  v = opened_version pt statics phase
 
-  opened_cell : (x : Pos) → cell_at (On x) v ≡ lost
-  opened_cell x = by (pos_cmp x end_position) refl
+  opened_spot : (x : Pos) → state_at (On x) v ≡ lost
+  opened_spot x = by (pos_cmp x end_position) refl
     where
-      by : (r : Ordering) → pos_cmp x end_position ≡ r → cell_of (entry_answers r (dummy end_position (mark Unknown None)) (found (mark Inherit None) None)) ≡ lost
+      by : (r : Ordering) → pos_cmp x end_position ≡ r → state_of (entry_answers r (dummy end_position (mark Unknown None)) (found (mark Inherit None) None)) ≡ lost
       by Less e = refl
       by Equal e = refl
       by Greater e = let u : false ≡ true = sym (last_pos-greatest x) ∙ ap is_gt e in absurd (cc)
@@ -51,12 +51,12 @@ module _ (pt : Option Tomb) (statics : Option Row) (phase : ℕ) where
   opened-continuous writes h g = record {
     within = record {
       statics = ((adds_nothing (source_at_static writes) (static_rows writes) (option_to_list statics) refl g, tomb-alone None), tt);
-      clustered = λ x. (subst (λ c. IsWithin c (source_at writes x)) (sym (opened_cell x)) (lost-within (rows_in x (all_rows writes)) (source_at writes x).1), tt);
+      clustered = λ x. (subst (λ c. IsWithin c (source_at writes x)) (sym (opened_spot x)) (lost-within (rows_in x (all_rows writes)) (source_at writes x).1), tt);
     };
-    statics = λ _ _. content-known static_cell [] v refl ∙ (λ i. (g i, tomb-alone None i));
-    clustered = λ x _ f. absurd (not_flagged (cell_at (On x)) [] v (opened_cell x) f);
+    statics = λ _ _. content-known static_state [] v refl ∙ (λ i. (g i, tomb-alone None i));
+    clustered = λ x _ f. absurd (not_flagged (state_at (On x)) [] v (opened_spot x) f);
     head = λ _. ap (greatest tomb_cmp) (pts_one [] [] v ∙ append-nil (option_to_list pt)) ∙ tomb-alone pt ∙ h;
-    even = λ x _ bare known. absurd (not_flagged (cell_at (On x)) [] v (opened_cell x) known.at);
+    even = λ x _ bare known. absurd (not_flagged (state_at (On x)) [] v (opened_spot x) known.at);
   }
 
   pub opened-chain : (below : ℕ → List Mutation) → pt ≡ source_at_head (below phase) → joined_row (option_to_list statics) ≡ source_at_static (below phase) → IsChainContinuous below (new_chain Cache v)
@@ -89,7 +89,7 @@ fresh-memtable pt phase = record {
 }
   where
     even : (j : ℕ) → IsPinned [] j ⊎ ((true ≡ true) × (suc j ≡ 1)) → (x : Pos) → IsEvenAt Memtable (upto (new_version pt phase ∷ []) j) x
-    even zero need x = even_as_before Memtable [] (new_version pt phase ∷ []) x (silent_top (cell_at (On x)) [] (new_version pt phase) ((new-silent pt phase).clustered (On x))) (λ _. silent_top (cell_at (Behind x)) [] (new_version pt phase) ((new-silent pt phase).clustered (Behind x))) (λ _ _. refl)
+    even zero need x = even_as_before Memtable [] (new_version pt phase ∷ []) x (silent_top (state_at (On x)) [] (new_version pt phase) ((new-silent pt phase).clustered (On x))) (λ _. silent_top (state_at (Behind x)) [] (new_version pt phase) ((new-silent pt phase).clustered (Behind x))) (λ _ _. refl)
     even (suc j) need x = absurd (⊎_elim (λ p. p) (λ a. omega (arith, a.1)) need)
 
 pub fresh-form : (pt : Option Tomb) (phase : ℕ) → IsChain (new_chain Memtable (new_version pt phase))

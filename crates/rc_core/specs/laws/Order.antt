@@ -7,7 +7,7 @@ use Rattle.rc_cell.specs.declared.rows.Row.{Row}
 use Rattle.rc_cell.specs.declared.writes.Tomb.{Tomb}
 use Rattle.rc_position.specs.declared.positions.Pos.{Pos}
 use Rattle.rc_position.specs.Position.{pos_cmp, IsBefore}
-use Rattle.rc_position.specs.OrderLaws.{pos_cmp_total}
+use Rattle.rc_position.specs.laws.Orders.{pos_cmp_total}
 use Rattle.rc_core.specs.declared.entries.Entry.{Entry}
 use Rattle.rc_core.specs.declared.entries.Mark.{Mark}
 use Rattle.rc_core.specs.Version.{Version, IsVersion, Ascend, EndsWithDummy, end_position}

@@ -9,14 +9,14 @@ use Rattle.std.specs.Ordering.{is_eq}
 use Rattle.rc_cell.specs.declared.rows.Row.{Row}
 use Rattle.rc_position.specs.declared.positions.Pos.{Pos}
 use Rattle.rc_position.specs.Position.{Place, Head, Static, Clustered, End, place_cmp, pos_cmp, IsBefore}
-use Rattle.rc_position.specs.OrderLaws.{pos_cmp_total, pos_cmp_same}
-use Rattle.rc_position.specs.BoundLaws.{place_cmp_total, place_cmp_same}
+use Rattle.rc_position.specs.laws.Orders.{pos_cmp_total, pos_cmp_same}
+use Rattle.rc_position.specs.laws.Bounds.{place_cmp_total, place_cmp_same}
 use Rattle.rc_mutation.specs.declared.mutations.Mutation.{Mutation}
 use Rattle.rc_core.specs.declared.entries.Entry.{Entry}
 use Rattle.rc_core.specs.declared.entries.Flag.TheVariants.{Inherit}
 use Rattle.rc_core.specs.declared.entries.Mark.{Mark}
-use Rattle.rc_core.specs.Cell.{Cell, nothing}
-use Rattle.rc_core.specs.Version.{Spot, On, Behind, behind as behind_of, spot_cmp, entry_answers, found, seen, cell_of, Ascend, Version, IsVersion, end_position}
+use Rattle.rc_core.specs.SpotState.{SpotState, silent}
+use Rattle.rc_core.specs.Version.{Spot, On, Behind, gap_ordering as behind_of, spot_cmp, entry_answers, found, seen, state_of, Ascend, Version, IsVersion, end_position}
 use Rattle.rc_core.specs.Change.{mark, position_of, dummy, split, split_by, take_out, with_gap, with_first_gap, drop_at, lost_mark}
 use Rattle.rc_core.specs.AtPlace.{EachEntry, FitsBy, FitsPlace, SaysNothingAt, HasEntryAt, EndsBehind, IsAtPlace}
 use Rattle.rc_core.specs.Continuity.{with_entries, without_statics}
@@ -176,7 +176,7 @@ pub statics-evicted-at-place : (p : Place) (v : Version) → (v.statics ≡ None
 statics-evicted-at-place p v some a = record {
   silent = record {
     head = a.silent.head;
-    statics = λ n. absurd (some (none_of v.statics (ap (λ (c : Cell). c.rows) (a.silent.statics n))));
+    statics = λ n. absurd (some (none_of v.statics (ap (λ (c : SpotState). c.rows) (a.silent.statics n))));
     clustered = a.silent.clustered;
   };
   place = a.place;
@@ -189,7 +189,7 @@ evicted-at-place (Clustered y) v x i h b off a = record {
   silent = record {
     head = a.silent.head;
     statics = a.silent.statics;
-    clustered = λ s n. ap cell_of (taken_out-from lost_mark x y s v.entries i.ascend a.place.stands (before (pos_cmp y x) refl) n) ∙ a.silent.clustered s n;
+    clustered = λ s n. ap state_of (taken_out-from lost_mark x y s v.entries i.ascend a.place.stands (before (pos_cmp y x) refl) n) ∙ a.silent.clustered s n;
   };
   place = record {
     stands = has-taken_out lost_mark x y (λ e. off (ap Clustered e)) v.entries a.place.stands;
@@ -228,11 +228,11 @@ ahead_of_place p s e off k Less g = absurd (off (pos_cmp_total.trans (position_o
 ahead_of_place p s e off k Equal g = absurd (off (subst (λ y. pos_cmp (position_of s) y ≡ Less) (pos_cmp_same e.position p g) (spot-Less s e.position k)))
 ahead_of_place p s e off k Greater g = g
 
-silent_entries : (p : Pos) (s : Spot) → (pos_cmp (position_of s) p ≡ Less → ⊥) → (es : List Entry) → EachEntry (FitsPlace p) es → cell_of (seen s es) ≡ nothing
+silent_entries : (p : Pos) (s : Spot) → (pos_cmp (position_of s) p ≡ Less → ⊥) → (es : List Entry) → EachEntry (FitsPlace p) es → state_of (seen s es) ≡ silent
 silent_entries p s off [] h = refl
-silent_entries p s off (e ∷ es) h = elim (spot_cmp s e.position) as (λ r. spot_cmp s e.position ≡ r → cell_of (entry_answers r e (seen s es)) ≡ nothing) [
-  | Less ↦ λ k. ap (λ m. cell_of (found m None)) (fits_behind (pos_cmp e.position p) e (ahead_of_place p s e off k (pos_cmp e.position p) refl) h.0).0
-  | Equal ↦ λ k. let at = fits_at (pos_cmp e.position p) e (λ l. off (subst (λ y. pos_cmp y p ≡ Less) (sym (spot-Equal s e.position k)) l)) h.0 in λ i. cell_of (found (at.0 i) (at.1 i))
+silent_entries p s off (e ∷ es) h = elim (spot_cmp s e.position) as (λ r. spot_cmp s e.position ≡ r → state_of (entry_answers r e (seen s es)) ≡ silent) [
+  | Less ↦ λ k. ap (λ m. state_of (found m None)) (fits_behind (pos_cmp e.position p) e (ahead_of_place p s e off k (pos_cmp e.position p) refl) h.0).0
+  | Equal ↦ λ k. let at = fits_at (pos_cmp e.position p) e (λ l. off (subst (λ y. pos_cmp y p ≡ Less) (sym (spot-Equal s e.position k)) l)) h.0 in λ i. state_of (found (at.0 i) (at.1 i))
   | Greater ↦ λ k. silent_entries p s off es h.1
 ] refl
 
@@ -244,15 +244,15 @@ placed-by-entries p v h f = record {
 
 -- ---- its entries, from the version at its place
 
-said_nothing : (m : Mark) (row : Option Row) → cell_of (found m row) ≡ nothing → (m ≡ no_mark) × (row ≡ None)
+said_nothing : (m : Mark) (row : Option Row) → state_of (found m row) ≡ silent → (m ≡ no_mark) × (row ≡ None)
 said_nothing m row e = (
-  ap (λ f. mark f m.tomb) (ap (λ (c : Cell). c.flag) e) ∙ ap (mark Inherit) (none_of m.tomb (ap (λ (c : Cell). c.tombs) e)),
-  none_of row (ap (λ (c : Cell). c.rows) e),
+  ap (λ f. mark f m.tomb) (ap (λ (c : SpotState). c.flag) e) ∙ ap (mark Inherit) (none_of m.tomb (ap (λ (c : SpotState). c.tombs) e)),
+  none_of row (ap (λ (c : SpotState). c.rows) e),
 )
 
 -- entries say nothing at a spot that is not before the place
 abbrev IsSilentBehind : Pos → List Entry → Type 0
-IsSilentBehind p es = (s : Spot) → (pos_cmp (position_of s) p ≡ Less → ⊥) → cell_of (seen s es) ≡ nothing
+IsSilentBehind p es = (s : Spot) → (pos_cmp (position_of s) p ≡ Less → ⊥) → state_of (seen s es) ≡ silent
 
 -- the entries behind the one at the place: none, or the end dummy
 last_fits : (p : Pos) (e : Entry) (es : List Entry) → e.position ≡ p → Ascend (e ∷ es) → IsSilentBehind p (e ∷ es) → EachEntry (EndsBehind (Clustered p)) es → EachEntry (FitsPlace p) es
@@ -260,12 +260,12 @@ last_fits p e [] d a h l = tt
 last_fits p e (f ∷ []) d a h l =
     let behind : pos_cmp p f.position ≡ Less = subst (λ y. pos_cmp y f.position ≡ Less) d a.0 in
     let turned : pos_cmp f.position p ≡ Greater = turn_to p f.position Less behind in
-    let itself : cell_of (seen (On f.position) (e ∷ f ∷ [])) ≡ cell_of (found f.at f.row) =
-    ap (λ r. cell_of (entry_answers r e (seen (On f.position) (f ∷ [])))) (turn_to e.position f.position Less a.0)
-    ∙ ap (λ r. cell_of (entry_answers r f (seen (On f.position) []))) (tied_itself pos_cmp_total f.position) in
-    let gap : cell_of (seen (Behind p) (e ∷ f ∷ [])) ≡ cell_of (found f.gap None) =
-    ap (λ r. cell_of (entry_answers (behind_of r) e (seen (Behind p) (f ∷ [])))) (subst (λ y. pos_cmp p y ≡ Equal) (sym d) (tied_itself pos_cmp_total p))
-    ∙ ap (λ r. cell_of (entry_answers (behind_of r) f (seen (Behind p) []))) behind in
+    let itself : state_of (seen (On f.position) (e ∷ f ∷ [])) ≡ state_of (found f.at f.row) =
+    ap (λ r. state_of (entry_answers r e (seen (On f.position) (f ∷ [])))) (turn_to e.position f.position Less a.0)
+    ∙ ap (λ r. state_of (entry_answers r f (seen (On f.position) []))) (tied_itself pos_cmp_total f.position) in
+    let gap : state_of (seen (Behind p) (e ∷ f ∷ [])) ≡ state_of (found f.gap None) =
+    ap (λ r. state_of (entry_answers (behind_of r) e (seen (Behind p) (f ∷ [])))) (subst (λ y. pos_cmp p y ≡ Equal) (sym d) (tied_itself pos_cmp_total p))
+    ∙ ap (λ r. state_of (entry_answers (behind_of r) f (seen (Behind p) []))) behind in
     let at = said_nothing f.at f.row (sym itself ∙ h (On f.position) (λ n. let u : Greater ≡ Less = sym turned ∙ n in cc)) in
     let before = said_nothing f.gap None (sym gap ∙ h (Behind p) (λ n. let u : Equal ≡ Less = sym (tied_itself pos_cmp_total p) ∙ n in cc)) in
     (subst (λ r. FitsBy r f) (sym turned) ((at.0, at.1), before.0, l.0 behind), tt)
@@ -279,17 +279,17 @@ each_fits p [] a has h l = tt
 each_fits p (e ∷ es) a has h l = ⊎_elim
     (λ d.
     let same : pos_cmp e.position p ≡ Equal = subst (λ y. pos_cmp e.position y ≡ Equal) d (tied_itself pos_cmp_total e.position) in
-    let itself : cell_of (seen (On p) (e ∷ es)) ≡ cell_of (found e.at e.row) = ap (λ r. cell_of (entry_answers r e (seen (On p) es))) (subst (λ y. pos_cmp p y ≡ Equal) (sym d) (tied_itself pos_cmp_total p)) in
+    let itself : state_of (seen (On p) (e ∷ es)) ≡ state_of (found e.at e.row) = ap (λ r. state_of (entry_answers r e (seen (On p) es))) (subst (λ y. pos_cmp p y ≡ Equal) (sym d) (tied_itself pos_cmp_total p)) in
     (subst (λ r. FitsBy r e) (sym same) (said_nothing e.at e.row (sym itself ∙ h (On p) (λ n. let u : Equal ≡ Less = sym (tied_itself pos_cmp_total p) ∙ n in cc))), last_fits p e es d a h l.1))
     (λ k.
     let below : pos_cmp e.position p ≡ Less = ahead_of p e es a k in
     (subst (λ r. FitsBy r e) (sym below) tt, each_fits p es (ascend-tail e es a) k (λ s n. passed s n (spot_cmp s e.position) refl below ∙ h s n) l.1))
     has
   where
-    passed : (s : Spot) → (pos_cmp (position_of s) p ≡ Less → ⊥) → (r : Ordering) → spot_cmp s e.position ≡ r → pos_cmp e.position p ≡ Less → cell_of (seen s es) ≡ cell_of (seen s (e ∷ es))
+    passed : (s : Spot) → (pos_cmp (position_of s) p ≡ Less → ⊥) → (r : Ordering) → spot_cmp s e.position ≡ r → pos_cmp e.position p ≡ Less → state_of (seen s es) ≡ state_of (seen s (e ∷ es))
     passed s n Less k below = absurd (n (pos_cmp_total.trans (position_of s) e.position p (spot-Less s e.position k) below))
     passed s n Equal k below = absurd (n (subst (λ y. pos_cmp y p ≡ Less) (sym (spot-Equal s e.position k)) below))
-    passed s n Greater k below = ap (λ r. cell_of (entry_answers r e (seen s es))) (sym k)
+    passed s n Greater k below = ap (λ r. state_of (entry_answers r e (seen s es))) (sym k)
 
 pub entries-of-placed : (p : Pos) (v : Version) → Ascend v.entries → IsAtPlace (Clustered p) v → HasEntryAt p v.entries × EachEntry (FitsPlace p) v.entries
 entries-of-placed p v a h = (h.place.stands, each_fits p v.entries a h.place.stands h.silent.clustered h.place.last)

@@ -10,7 +10,7 @@ use Rattle.rc_position.specs.declared.positions.Pos.{Pos}
 use Rattle.rc_position.specs.Position.{Place, IsBefore, covers}
 use Rattle.rc_mutation.specs.declared.mutations.Mutation.{Mutation}
 use Rattle.rc_mutation.specs.Source.{SameSource, source_at, source_at_static}
-use Rattle.rc_core.specs.Version.{Version, IsVersion, cell_at, static_cell, end_position}
+use Rattle.rc_core.specs.Version.{Version, IsVersion, state_at, static_state, end_position}
 use Rattle.rc_core.specs.Continuity.{EachOf, IsContinuous, fill_statics}
 use Rattle.rc_core.specs.AtPlace.{IsAtPlace}
 use Rattle.rc_core.specs.Chains.{Chain, phase_at, upto, NewestIs, IsChainContinuous, with_versions}
@@ -102,8 +102,8 @@ relabelled-chain below c j to e ch att s k = let n = newest-is c.versions j e in
     same_but_phase : (r : Option Place) (writes : List Mutation) (older : List Version) (v : Version) → IsContinuous r writes (older ++ v ∷ []) → IsContinuous r writes (older ++ with_phase to v ∷ [])
     same_but_phase r writes older v h = alike-continuous r writes (older ++ v ∷ []) (older ++ with_phase to v ∷ [])
         (record {
-          statics = equal_alike _ _ (seen-same static_cell older v (with_phase to v) refl);
-          clustered = λ s. equal_alike _ _ (seen-same (cell_at s) older v (with_phase to v) refl);
+          statics = equal_alike _ _ (seen-same static_state older v (with_phase to v) refl);
+          clustered = λ s. equal_alike _ _ (seen-same (state_at s) older v (with_phase to v) refl);
           head = ap (greatest tomb_cmp) (tombs-same older [] v (with_phase to v) refl);
         })
         (record {

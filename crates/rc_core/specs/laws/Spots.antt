@@ -1,6 +1,6 @@
 -- Spots against positions, and what is seen after each change of a version's entries.
 use Rattle.std.specs.Prelude.{◌⊎◌, ◌≡◌, Bool, true, false, not, ◌&&◌, List, [], ◌∷◌, ◌++◌, Option, Some, None, cond, map as list_map}
-use Rattle.std.proofs.Common.{refl, sym, ap, ◌∙◌, subst}
+use Rattle.std.proofs.Common.{refl, sym, ap, ◌∙◌, subst, inl, inr}
 use Rattle.std.specs.declared.cmp.Ordering.{Ordering}
 use Rattle.std.specs.declared.cmp.Ordering.TheVariants.{Less, Equal, Greater}
 use Rattle.std.specs.Ordering.{ordering_reverse, is_lt, is_le, is_gt, is_eq}
@@ -8,13 +8,12 @@ use Rattle.std.specs.Cmp.{tied_itself, upto}
 use Rattle.rc_cell.specs.declared.rows.Row.{Row}
 use Rattle.rc_position.specs.declared.positions.Pos.{Pos}
 use Rattle.rc_position.specs.Position.{pos_cmp, covers, IsBefore}
-use Rattle.rc_position.specs.OrderLaws.{pos_cmp_total, pos_cmp_same}
-use Rattle.rc_position.specs.BoundLaws.{last_pos-greatest}
+use Rattle.rc_position.specs.laws.Orders.{pos_cmp_total, pos_cmp_same}
+use Rattle.rc_position.specs.laws.Bounds.{last_pos-greatest}
 use Rattle.rc_core.specs.declared.entries.Entry.{Entry}
 use Rattle.rc_core.specs.declared.entries.Mark.{Mark}
-use Rattle.rc_core.specs.Version.{Spot, On, Behind, behind, spot_cmp, Found, found, entry_answers, seen, IsBeforeEnd, IsReachedBy, EndsWithDummy, Ascend, end_position}
+use Rattle.rc_core.specs.Version.{Spot, On, Behind, gap_ordering, spot_cmp, Finding, found, entry_answers, seen, IsBeforeEnd, IsReachedBy, EndsWithDummy, Ascend, end_position}
 use Rattle.rc_cell.specs.declared.writes.Tomb.{Tomb}
-use Rattle.std.proofs.Common.{inl, inr}
 use Rattle.rc_core.specs.Change.{join_row_at, joined_onto, known_with, fill_row, dummy, split, split_by, changed, change, position_of, at_entry, drop_at, take_out, with_gap, with_first_gap, lose_last_gap, lost_mark}
 
 -- ---- orders
@@ -39,12 +38,12 @@ not_not false = refl
 pub turn_to : (x y : Pos) (r : Ordering) → pos_cmp x y ≡ r → pos_cmp y x ≡ ordering_reverse r
 turn_to x y r e = pos_cmp_total.antisymm y x ∙ ap ordering_reverse e
 
-behind-Less : (r : Ordering) → behind r ≡ Less → r ≡ Less
+behind-Less : (r : Ordering) → gap_ordering r ≡ Less → r ≡ Less
 behind-Less Less e = refl
 behind-Less Equal e = absurd (cc)
 behind-Less Greater e = absurd (cc)
 
-pub behind-Equal : (r : Ordering) → behind r ≡ Equal → ⊥
+pub behind-Equal : (r : Ordering) → gap_ordering r ≡ Equal → ⊥
 behind-Equal Less e = cc
 behind-Equal Equal e = cc
 behind-Equal Greater e = cc
@@ -55,9 +54,9 @@ spot-Less (Behind x) q e = behind-Less (pos_cmp x q) e
 
 pub Less-spot : (s : Spot) (q : Pos) → pos_cmp (position_of s) q ≡ Less → spot_cmp s q ≡ Less
 Less-spot (On x) q e = e
-Less-spot (Behind x) q e = ap behind e
+Less-spot (Behind x) q e = ap gap_ordering e
 
-behind_lt : (r : Ordering) → is_lt (behind r) ≡ is_lt r
+behind_lt : (r : Ordering) → is_lt (gap_ordering r) ≡ is_lt r
 behind_lt Less = refl
 behind_lt Equal = refl
 behind_lt Greater = refl
@@ -189,7 +188,7 @@ between s from to e l m n =
     ∙ sym (covers-spot s from to)
 
 -- what is said with a function on the flag and tombstone
-abbrev pub with_f : (Mark → Mark) → Found → Found
+abbrev pub with_f : (Mark → Mark) → Finding → Finding
 with_f f a = found (f a.mark) a.row
 
 choose : (b : Bool) (m n : Mark) (r : Option Row) → found (cond b m n) r ≡ cond b (found m r) (found n r)
@@ -273,7 +272,7 @@ module _ (ro : Option Row → Option Row) (ma : Mark → Mark) where
 -- ---- what is taken out
 
 -- what is said where an entry was taken out
-abbrev pub left : Mark → Found
+abbrev pub left : Mark → Finding
 left m = found m None
 
 marked_first : (m : Mark) (s : Spot) (e : Entry) (es : List Entry) → (seen s (with_gap m e ∷ es) ≡ seen s (e ∷ es)) ⊎ (seen s (with_gap m e ∷ es) ≡ left m)
@@ -344,7 +343,7 @@ position-reached x (e ∷ f ∷ es) d = reach-more (On x) e (f ∷ es) (position
 
 pub gap-reached : (x : Pos) (es : List Entry) → EndsWithDummy es → IsBefore x end_position → IsBeforeEnd (Behind x) es
 gap-reached x [] d b = d
-gap-reached x (e ∷ []) d b = subst (λ r. IsReachedBy (behind r) ⊥) (sym (ap (pos_cmp x) d.0 ∙ b)) tt
+gap-reached x (e ∷ []) d b = subst (λ r. IsReachedBy (gap_ordering r) ⊥) (sym (ap (pos_cmp x) d.0 ∙ b)) tt
 gap-reached x (e ∷ f ∷ es) d b = reach-more (Behind x) e (f ∷ es) (gap-reached x (f ∷ es) d b)
 
 -- ---- rows, as the laws say it
@@ -357,7 +356,7 @@ pub join_row-there : (x : Pos) (row : Row) (es : List Entry) → EndsWithDummy e
     seen (On x) (join_row_at x row es) ≡ found (seen (On x) es).mark (Some (joined_onto (seen (On x) es).row row))
 join_row-there x row es d =
     at_entry-there (λ r. Some (joined_onto r row)) (λ m. m) x (split x es) (split-stands x es (position-reached x es d))
-    ∙ ap (λ (a : Found). found a.mark (Some (joined_onto a.row row))) (split-seen (On x) x es)
+    ∙ ap (λ (a : Finding). found a.mark (Some (joined_onto a.row row))) (split-seen (On x) x es)
 
 pub join_row-elsewhere : (s : Spot) (x : Pos) (row : Row) (es : List Entry) → (s ≡ On x → ⊥) → seen s (join_row_at x row es) ≡ seen s es
 join_row-elsewhere s x row es off = at_entry-other (λ r. Some (joined_onto r row)) (λ m. m) s x (split x es) (not_at s x off) ∙ split-seen s x es
@@ -366,7 +365,7 @@ pub fill_row-there : (x : Pos) (row : Row) (tomb : Option Tomb) (es : List Entry
     seen (On x) (fill_row x row tomb es) ≡ found (known_with tomb (seen (On x) es).mark) (Some (joined_onto (seen (On x) es).row row))
 fill_row-there x row tomb es d =
     at_entry-there (λ r. r) (known_with tomb) x (join_row_at x row es) (at_entry-stands (λ r. Some (joined_onto r row)) (λ m. m) x (split x es) (split-stands x es (position-reached x es d)))
-    ∙ ap (λ (a : Found). found (known_with tomb a.mark) a.row) (join_row-there x row es d)
+    ∙ ap (λ (a : Finding). found (known_with tomb a.mark) a.row) (join_row-there x row es d)
 
 pub fill_row-elsewhere : (s : Spot) (x : Pos) (row : Row) (tomb : Option Tomb) (es : List Entry) → (s ≡ On x → ⊥) → seen s (fill_row x row tomb es) ≡ seen s es
 fill_row-elsewhere s x row tomb es off = at_entry-other (λ r. r) (known_with tomb) s x (join_row_at x row es) (not_at s x off) ∙ join_row-elsewhere s x row es off

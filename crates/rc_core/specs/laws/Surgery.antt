@@ -9,7 +9,7 @@ use Rattle.std.specs.Ordering.{is_lt, is_le, is_eq, eq_by_cmp}
 use Rattle.rc_cell.specs.declared.writes.Tomb.{Tomb}
 use Rattle.rc_position.specs.declared.positions.Pos.{Pos}
 use Rattle.rc_position.specs.Position.{pos_cmp, IsBefore}
-use Rattle.rc_position.specs.OrderLaws.{pos_cmp_total}
+use Rattle.rc_position.specs.laws.Orders.{pos_cmp_total}
 use Rattle.rc_core.specs.declared.entries.Entry.{Entry}
 use Rattle.rc_core.specs.declared.entries.Flag.{Flag}
 use Rattle.rc_core.specs.declared.entries.Mark.{Mark}
@@ -17,7 +17,7 @@ use Rattle.rc_core.specs.AtPlace.{EachEntry}
 use Rattle.rc_core.specs.Change.{at_entry, change, changed, dummy, lose_last_gap, split, split_by, with_gap, with_mark, with_marks, without_gap}
 use Rattle.rc_core.specs.Continuity.{EachOf, with_entries}
 use Rattle.rc_core.specs.Steps.{on_version, set_flags, set_tombs, with_flags, with_tombs}
-use Rattle.rc_core.specs.Version.{Ascend, Behind, On, Spot, Version, IsVersion, entry_answers, behind, found, seen, spot_cmp}
+use Rattle.rc_core.specs.Version.{Ascend, Behind, On, Spot, Version, IsVersion, entry_answers, gap_ordering, found, seen, spot_cmp}
 use Rattle.rc_core.specs.laws.Losing.{map-append}
 use Rattle.rc_core.specs.laws.Order.{ascend-map, ends-map, put_position}
 use Rattle.rc_core.specs.laws.Placed.{each-wider}
@@ -114,9 +114,9 @@ seen-on front e back a =
 
 pub seen-behind : (front : List Entry) (e n : Entry) (back : List Entry) → Ascend (front ++ e ∷ n ∷ back) → seen (Behind e.position) (front ++ e ∷ n ∷ back) ≡ found n.gap None
 seen-behind front e n back a =
-    not_answered (Behind e.position) front (e ∷ n ∷ back) (each-wider (λ f. IsBefore f.position e.position) (λ f. behind (pos_cmp e.position f.position) ≡ Greater) (λ f l. ap behind (turn_to f.position e.position Less l)) front (front-below front e (n ∷ back) a))
-    ∙ ap (λ r. entry_answers (behind r) e (seen (Behind e.position) (n ∷ back))) (tied_itself pos_cmp_total e.position)
-    ∙ ap (λ r. entry_answers (behind r) n (seen (Behind e.position) back)) (ascend-back front (e ∷ n ∷ back) a).0
+    not_answered (Behind e.position) front (e ∷ n ∷ back) (each-wider (λ f. IsBefore f.position e.position) (λ f. gap_ordering (pos_cmp e.position f.position) ≡ Greater) (λ f l. ap gap_ordering (turn_to f.position e.position Less l)) front (front-below front e (n ∷ back) a))
+    ∙ ap (λ r. entry_answers (gap_ordering r) e (seen (Behind e.position) (n ∷ back))) (tied_itself pos_cmp_total e.position)
+    ∙ ap (λ r. entry_answers (gap_ordering r) n (seen (Behind e.position) back)) (ascend-back front (e ∷ n ∷ back) a).0
 
 -- ---- a change over a stretch
 

@@ -10,21 +10,21 @@ use Rattle.rc_cell.specs.declared.writes.Tomb.{Tomb}
 use Rattle.rc_cell.specs.Orders.{tomb_cmp, tomb_cmp_total}
 use Rattle.rc_cell.specs.Beats.{tomb_cmp-IsAntisymmetric}
 use Rattle.rc_cell.specs.Greatest.{greatest-twice}
-use Rattle.rc_cell.specs.Laws.{joined_row-twice, joined_row-none}
+use Rattle.rc_cell.specs.laws.{joined_row-twice, joined_row-none}
 use Rattle.rc_cell.specs.Winner.{greatest, joined_row, empty_row}
 use Rattle.rc_position.specs.declared.positions.Pos.{Pos}
 use Rattle.rc_position.specs.Position.{Place, Head, Static, Clustered, place_cmp, IsBefore}
 use Rattle.rc_mutation.specs.declared.mutations.Mutation.{Mutation}
 use Rattle.rc_mutation.specs.Source.{SameSource, source_at, source_at_static, source_at_head, static_rows, rows_in, all_rows, all_pieces}
 use Rattle.rc_mutation.specs.Source as source
-use Rattle.rc_mutation.specs.SourceLaws.{partition_tombs-append, static_rows-append}
+use Rattle.rc_mutation.specs.laws.Sources.{partition_tombs-append, static_rows-append}
 use Rattle.rc_ranges.specs.Cover.{cover, tombs_over}
 use Rattle.rc_core.specs.declared.entries.ChainKind.TheVariants.{Cache}
 use Rattle.rc_core.specs.declared.entries.Flag.TheVariants.{Inherit}
-use Rattle.rc_core.specs.Cell.{Cell, cell, said, through}
-use Rattle.rc_core.specs.Version.{On, Behind, Version, cell_at, static_cell, end_position}
-use Rattle.rc_core.specs.Chain.{flagged, content, cells, IsBare, IsKnown, IsEvenAt}
-use Rattle.rc_core.specs.Continuity.{IsWithin, IsContinuous, static_cells, partition_tombs}
+use Rattle.rc_core.specs.SpotState.{SpotState, spot_state, joined_state, through}
+use Rattle.rc_core.specs.Version.{On, Behind, Version, state_at, static_state, end_position}
+use Rattle.rc_core.specs.Chain.{flagged, content, states_at, IsBare, IsKnown, IsEvenAt}
+use Rattle.rc_core.specs.Continuity.{IsWithin, IsContinuous, static_states, version_tombs}
 use Rattle.rc_core.specs.Unit.{IsStretch, Adds, IsUnit}
 use Rattle.rc_core.specs.laws.Losing.{joined-again, tomb-alone, map-append, each-one, each-other, tombs-same, same-content, same-flagged}
 use Rattle.rc_core.specs.laws.Filling.{seen-same, even-same}
@@ -68,14 +68,14 @@ within_more_tombs xs ys zs e =
     ∙ ap (greatest tomb_cmp) (append_assoc xs ys ys)
     ∙ tombs_by_parts xs (ys ++ ys) xs ys refl (greatest-twice tomb_cmp_total tomb_cmp-IsAntisymmetric ys)
 
-adds_within : (writes : List Mutation) (change : Mutation) (x : Pos) (c : Cell) → Adds c (source_at (change ∷ []) x) → IsWithin c (source_at (writes ++ change ∷ []) x)
+adds_within : (writes : List Mutation) (change : Mutation) (x : Pos) (c : SpotState) → Adds c (source_at (change ∷ []) x) → IsWithin c (source_at (writes ++ change ∷ []) x)
 unfolding cover
 adds_within writes change x c a = subst (IsWithin c) (sym (source-more writes change x)) (
   within_more_rows (rows_in x (all_rows writes)) (rows_in x (all_rows (change ∷ []))) c.rows (ap (λ (s : Row × Option Tomb). s.0) a.1),
   within_more_tombs (tombs_over (all_pieces writes) x) (tombs_over (all_pieces (change ∷ [])) x) c.tombs (ap (λ (s : Row × Option Tomb). s.1) a.1),
 )
 
-adds_within_statics : (writes : List Mutation) (change : Mutation) (c : Cell) → Adds c (source_at_static (change ∷ []), None) → IsWithin c (source_at_static (writes ++ change ∷ []), None)
+adds_within_statics : (writes : List Mutation) (change : Mutation) (c : SpotState) → Adds c (source_at_static (change ∷ []), None) → IsWithin c (source_at_static (writes ++ change ∷ []), None)
 adds_within_statics writes change c a = (
   subst (λ r. joined_row (r ∷ c.rows) ≡ r) (sym (ap joined_row (static_rows-append writes (change ∷ [])))) (within_more_rows (static_rows writes) (static_rows (change ∷ [])) c.rows (ap (λ (s : Row × Option Tomb). s.0) a.1)),
   ap (λ (s : Row × Option Tomb). s.1) a.1,
@@ -90,35 +90,35 @@ nothing_first xs ys e =
     ∙ rows_by_parts (xs ++ xs) ys xs ys (joined_row-twice xs) refl
     ∙ e
 
-bare_below : (cs : List Cell) (rs : List Row) (ts : List Tomb) → (content (cs ++ cell Inherit rs ts ∷ [])).0 ≡ empty_row → (content cs).0 ≡ empty_row
+bare_below : (cs : List SpotState) (rs : List Row) (ts : List Tomb) → (content (cs ++ spot_state Inherit rs ts ∷ [])).0 ≡ empty_row → (content cs).0 ≡ empty_row
 bare_below cs rs ts e =
     ap (λ (a : Row × Option Tomb). a.0) (content-through cs)
-    ∙ nothing_first (through cs).rows rs (ap (λ (a : Row × Option Tomb). a.0) (sym (content-through (cs ++ cell Inherit rs ts ∷ []) ∙ ap said (joins_on_top cs rs ts))) ∙ e)
+    ∙ nothing_first (through cs).rows rs (ap (λ (a : Row × Option Tomb). a.0) (sym (content-through (cs ++ spot_state Inherit rs ts ∷ []) ∙ ap joined_state (joins_on_top cs rs ts))) ∙ e)
 
-joined_tombs : (cs ds : List Cell) (rs qs : List Row) (ts us : List Tomb) → (content cs).1 ≡ (content ds).1 → greatest tomb_cmp ts ≡ greatest tomb_cmp us →
-    (content (cs ++ cell Inherit rs ts ∷ [])).1 ≡ (content (ds ++ cell Inherit qs us ∷ [])).1
+joined_tombs : (cs ds : List SpotState) (rs qs : List Row) (ts us : List Tomb) → (content cs).1 ≡ (content ds).1 → greatest tomb_cmp ts ≡ greatest tomb_cmp us →
+    (content (cs ++ spot_state Inherit rs ts ∷ [])).1 ≡ (content (ds ++ spot_state Inherit qs us ∷ [])).1
 joined_tombs cs ds rs qs ts us e f =
-    ap (λ (a : Row × Option Tomb). a.1) (content-through (cs ++ cell Inherit rs ts ∷ []) ∙ ap said (joins_on_top cs rs ts))
+    ap (λ (a : Row × Option Tomb). a.1) (content-through (cs ++ spot_state Inherit rs ts ∷ []) ∙ ap joined_state (joins_on_top cs rs ts))
     ∙ tombs_by_parts (through cs).tombs ts (through ds).tombs us (ap (λ (a : Row × Option Tomb). a.1) (sym (content-through cs)) ∙ e ∙ ap (λ (a : Row × Option Tomb). a.1) (content-through ds)) f
-    ∙ sym (ap (λ (a : Row × Option Tomb). a.1) (content-through (ds ++ cell Inherit qs us ∷ []) ∙ ap said (joins_on_top ds qs us)))
+    ∙ sym (ap (λ (a : Row × Option Tomb). a.1) (content-through (ds ++ spot_state Inherit qs us ∷ []) ∙ ap joined_state (joins_on_top ds qs us)))
 
 -- ---- a unit with room
 
-cell_is : (c : Cell) → c.flag ≡ Inherit → c ≡ cell Inherit c.rows c.tombs
-cell_is c e = λ i. cell (e i) c.rows c.tombs
+cell_is : (c : SpotState) → c.flag ≡ Inherit → c ≡ spot_state Inherit c.rows c.tombs
+cell_is c e = λ i. spot_state (e i) c.rows c.tombs
 
--- a cell that inherits, on top of others
-pub on_top : (f : Version → Cell) (older : List Version) (v : Version) → (f v).flag ≡ Inherit → list_map f (older ++ v ∷ []) ≡ list_map f older ++ cell Inherit (f v).rows (f v).tombs ∷ []
+-- a state that inherits, on top of others
+pub on_top : (f : Version → SpotState) (older : List Version) (v : Version) → (f v).flag ≡ Inherit → list_map f (older ++ v ∷ []) ≡ list_map f older ++ spot_state Inherit (f v).rows (f v).tombs ∷ []
 on_top f older v e = map-append f older v [] ∙ ap (λ c. list_map f older ++ c ∷ []) (cell_is (f v) e)
 
-flagged_top : (f : Version → Cell) (older : List Version) (v : Version) → (f v).flag ≡ Inherit → flagged Cache (list_map f (older ++ v ∷ [])) ≡ flagged Cache (list_map f older)
+flagged_top : (f : Version → SpotState) (older : List Version) (v : Version) → (f v).flag ≡ Inherit → flagged Cache (list_map f (older ++ v ∷ [])) ≡ flagged Cache (list_map f older)
 flagged_top f older v e = ap (flagged Cache) (on_top f older v e) ∙ update-flagged Cache (list_map f older) (f v).rows (f v).tombs
 
-pub known_same : (before now : List Version) (x : Pos) → through (cells (On x) now) ≡ through (cells (On x) before) → (IsBefore x end_position → through (cells (Behind x) now) ≡ through (cells (Behind x) before)) → IsKnown Cache before x → IsKnown Cache now x
+pub known_same : (before now : List Version) (x : Pos) → through (states_at (On x) now) ≡ through (states_at (On x) before) → (IsBefore x end_position → through (states_at (Behind x) now) ≡ through (states_at (Behind x) before)) → IsKnown Cache before x → IsKnown Cache now x
 known_same before now x e g k = record {
-  at = same-flagged (cells (On x) before) (cells (On x) now) e ∙ k.at;
-  gap = λ bare. same-flagged (cells (Behind x) before) (cells (Behind x) now) (g bare.inside)
-      ∙ k.gap (record { inside = bare.inside; no_row = ap (λ (a : Row × Option Tomb). a.0) (sym (same-content (cells (On x) before) (cells (On x) now) e)) ∙ bare.no_row });
+  at = same-flagged (states_at (On x) before) (states_at (On x) now) e ∙ k.at;
+  gap = λ bare. same-flagged (states_at (Behind x) before) (states_at (Behind x) now) (g bare.inside)
+      ∙ k.gap (record { inside = bare.inside; no_row = ap (λ (a : Row × Option Tomb). a.0) (sym (same-content (states_at (On x) before) (states_at (On x) now) e)) ∙ bare.no_row });
 }
 
 module _ (writes all : List Mutation) (change : Mutation) (older : List Version) (v w : Version) (p q : Place) (u : IsUnit p q change v w) where
@@ -126,26 +126,26 @@ module _ (writes all : List Mutation) (change : Mutation) (older : List Version)
   left : (x : Pos) → place_cmp (Clustered x) p ≡ Less → IsStretch p q (Clustered x) → ⊥
   left x l s = s.begun l
 
-  on_left : (x : Pos) → (IsStretch p q (Clustered x) → ⊥) → through (cells (On x) (older ++ w ∷ [])) ≡ through (cells (On x) (older ++ v ∷ []))
-  on_left x off = seen-same (cell_at (On x)) older v w (u.clustered_left (On x) off)
+  on_left : (x : Pos) → (IsStretch p q (Clustered x) → ⊥) → through (states_at (On x) (older ++ w ∷ [])) ≡ through (states_at (On x) (older ++ v ∷ []))
+  on_left x off = seen-same (state_at (On x)) older v w (u.clustered_left (On x) off)
 
-  behind_left : (x : Pos) → (IsStretch p q (Clustered x) → ⊥) → through (cells (Behind x) (older ++ w ∷ [])) ≡ through (cells (Behind x) (older ++ v ∷ []))
-  behind_left x off = seen-same (cell_at (Behind x)) older v w (u.clustered_left (Behind x) off)
+  behind_left : (x : Pos) → (IsStretch p q (Clustered x) → ⊥) → through (states_at (Behind x) (older ++ w ∷ [])) ≡ through (states_at (Behind x) (older ++ v ∷ []))
+  behind_left x off = seen-same (state_at (Behind x)) older v w (u.clustered_left (Behind x) off)
 
-  on_flag : (x : Pos) → IsStretch p q (Clustered x) → flagged Cache (cells (On x) (older ++ w ∷ [])) ≡ flagged Cache (cells (On x) older)
-  on_flag x s = flagged_top (cell_at (On x)) older w (u.clustered (On x) tt s).0
+  on_flag : (x : Pos) → IsStretch p q (Clustered x) → flagged Cache (states_at (On x) (older ++ w ∷ [])) ≡ flagged Cache (states_at (On x) older)
+  on_flag x s = flagged_top (state_at (On x)) older w (u.clustered (On x) tt s).0
 
-  behind_flag : (x : Pos) → IsBefore x end_position → IsStretch p q (Clustered x) → flagged Cache (cells (Behind x) (older ++ w ∷ [])) ≡ flagged Cache (cells (Behind x) older)
-  behind_flag x b s = flagged_top (cell_at (Behind x)) older w (u.clustered (Behind x) b s).0
+  behind_flag : (x : Pos) → IsBefore x end_position → IsStretch p q (Clustered x) → flagged Cache (states_at (Behind x) (older ++ w ∷ [])) ≡ flagged Cache (states_at (Behind x) older)
+  behind_flag x b s = flagged_top (state_at (Behind x)) older w (u.clustered (Behind x) b s).0
 
   -- what is seen there, with what the mutation says
-  on_rows : (x : Pos) → IsStretch p q (Clustered x) → content (cells (On x) (older ++ w ∷ [])) ≡ content (cells (On x) older ++ cell Inherit (cell_at (On x) w).rows (cell_at (On x) w).tombs ∷ [])
-  on_rows x s = ap content (on_top (cell_at (On x)) older w (u.clustered (On x) tt s).0)
+  on_rows : (x : Pos) → IsStretch p q (Clustered x) → content (states_at (On x) (older ++ w ∷ [])) ≡ content (states_at (On x) older ++ spot_state Inherit (state_at (On x) w).rows (state_at (On x) w).tombs ∷ [])
+  on_rows x s = ap content (on_top (state_at (On x)) older w (u.clustered (On x) tt s).0)
 
   was_bare : (x : Pos) → IsStretch p q (Clustered x) → IsBare (older ++ w ∷ []) x → IsBare older x
   was_bare x s bare = record {
     inside = bare.inside;
-    no_row = bare_below (cells (On x) older) (cell_at (On x) w).rows (cell_at (On x) w).tombs (ap (λ (a : Row × Option Tomb). a.0) (sym (on_rows x s)) ∙ bare.no_row);
+    no_row = bare_below (states_at (On x) older) (state_at (On x) w).rows (state_at (On x) w).tombs (ap (λ (a : Row × Option Tomb). a.0) (sym (on_rows x s)) ∙ bare.no_row);
   }
 
   was_known : (x : Pos) → IsStretch p q (Clustered x) → IsBare (older ++ w ∷ []) x → IsKnown Cache (older ++ w ∷ []) x → IsKnown Cache older x
@@ -162,34 +162,34 @@ module _ (writes all : List Mutation) (change : Mutation) (older : List Version)
       (before_or_in p q (Clustered x) l)
 
   module _ (ok : IsContinuous None writes older) (k : IsContinuous (Some p) all (older ++ v ∷ [])) (src : SameSource (writes ++ change ∷ []) all) where
-    in_content : (x : Pos) → IsStretch p q (Clustered x) → IsTrue (flagged Cache (cells (On x) (older ++ w ∷ []))) → content (cells (On x) (older ++ w ∷ [])) ≡ source_at all x
+    in_content : (x : Pos) → IsStretch p q (Clustered x) → IsTrue (flagged Cache (states_at (On x) (older ++ w ∷ []))) → content (states_at (On x) (older ++ w ∷ [])) ≡ source_at all x
     in_content x s f =
         on_rows x s
-        ∙ update-content writes change x (cells (On x) older) (cell_at (On x) w).rows (cell_at (On x) w).tombs (ok.clustered x tt (sym (on_flag x s) ∙ f)) (u.clustered (On x) tt s).1
+        ∙ update-content writes change x (states_at (On x) older) (state_at (On x) w).rows (state_at (On x) w).tombs (ok.clustered x tt (sym (on_flag x s) ∙ f)) (u.clustered (On x) tt s).1
         ∙ src.clustered x
 
-    unit_content : (x : Pos) → place_cmp (Clustered x) q ≡ Less → IsTrue (flagged Cache (cells (On x) (older ++ w ∷ []))) → content (cells (On x) (older ++ w ∷ [])) ≡ source_at all x
+    unit_content : (x : Pos) → place_cmp (Clustered x) q ≡ Less → IsTrue (flagged Cache (states_at (On x) (older ++ w ∷ []))) → content (states_at (On x) (older ++ w ∷ [])) ≡ source_at all x
     unit_content x l f = ⊎_elim
-        (λ b. same-content (cells (On x) (older ++ v ∷ [])) (cells (On x) (older ++ w ∷ [])) (on_left x (left x b))
-        ∙ k.clustered x b (sym (same-flagged (cells (On x) (older ++ v ∷ [])) (cells (On x) (older ++ w ∷ [])) (on_left x (left x b))) ∙ f))
+        (λ b. same-content (states_at (On x) (older ++ v ∷ [])) (states_at (On x) (older ++ w ∷ [])) (on_left x (left x b))
+        ∙ k.clustered x b (sym (same-flagged (states_at (On x) (older ++ v ∷ [])) (states_at (On x) (older ++ w ∷ [])) (on_left x (left x b))) ∙ f))
         (λ s. in_content x s f)
         (before_or_in p q (Clustered x) l)
 
-    unit_statics : place_cmp Static q ≡ Less → IsTrue (flagged Cache (static_cells (older ++ w ∷ []))) → content (static_cells (older ++ w ∷ [])) ≡ (source_at_static all, None)
+    unit_statics : place_cmp Static q ≡ Less → IsTrue (flagged Cache (static_states (older ++ w ∷ []))) → content (static_states (older ++ w ∷ [])) ≡ (source_at_static all, None)
     unit_statics l f = ⊎_elim
-        (λ b. let e = seen-same static_cell older v w (u.statics_left (λ s. s.begun b)) in
-        same-content (static_cells (older ++ v ∷ [])) (static_cells (older ++ w ∷ [])) e
-        ∙ k.statics b (sym (same-flagged (static_cells (older ++ v ∷ [])) (static_cells (older ++ w ∷ [])) e) ∙ f))
-        (λ s. ap content (on_top static_cell older w (u.statics s).0)
-        ∙ update-statics writes change (static_cells older) (static_cell w).rows (static_cell w).tombs (ok.statics tt (sym (flagged_top static_cell older w (u.statics s).0) ∙ f)) (u.statics s).1
+        (λ b. let e = seen-same static_state older v w (u.statics_left (λ s. s.begun b)) in
+        same-content (static_states (older ++ v ∷ [])) (static_states (older ++ w ∷ [])) e
+        ∙ k.statics b (sym (same-flagged (static_states (older ++ v ∷ [])) (static_states (older ++ w ∷ [])) e) ∙ f))
+        (λ s. ap content (on_top static_state older w (u.statics s).0)
+        ∙ update-statics writes change (static_states older) (static_state w).rows (static_state w).tombs (ok.statics tt (sym (flagged_top static_state older w (u.statics s).0) ∙ f)) (u.statics s).1
         ∙ ap (λ r. (r, None)) src.statics)
         (before_or_in p q Static l)
 
-    unit_head : place_cmp Head q ≡ Less → greatest tomb_cmp (partition_tombs (older ++ w ∷ [])) ≡ source_at_head all
+    unit_head : place_cmp Head q ≡ Less → greatest tomb_cmp (version_tombs (older ++ w ∷ [])) ≡ source_at_head all
     unit_head l = ⊎_elim
         (λ b. ap (greatest tomb_cmp) (tombs-same older [] v w (u.head_left (λ s. s.begun b))) ∙ k.head b)
         (λ s. ap (greatest tomb_cmp) (pts_one older [] w)
-        ∙ tombs_by_parts (partition_tombs older) (option_to_list w.pt ++ []) (source.partition_tombs writes) (source.partition_tombs (change ∷ [])) (ok.head tt)
+        ∙ tombs_by_parts (version_tombs older) (option_to_list w.pt ++ []) (source.partition_tombs writes) (source.partition_tombs (change ∷ [])) (ok.head tt)
         (ap (greatest tomb_cmp) (append-nil (option_to_list w.pt) ∙ ap option_to_list (u.head s) ∙ alone change.pt))
         ∙ ap (greatest tomb_cmp) (sym (partition_tombs-append writes (change ∷ [])))
         ∙ src.head)
@@ -203,20 +203,20 @@ module _ (writes all : List Mutation) (change : Mutation) (older : List Version)
     in_even : (x : Pos) → IsStretch p q (Clustered x) → IsEvenAt Cache (older ++ w ∷ []) x
     in_even x s bare known =
         ap (λ (a : Row × Option Tomb). a.1) (on_rows x s)
-        ∙ joined_tombs (cells (On x) older) (cells (Behind x) older) (cell_at (On x) w).rows (cell_at (Behind x) w).rows (cell_at (On x) w).tombs (cell_at (Behind x) w).tombs
+        ∙ joined_tombs (states_at (On x) older) (states_at (Behind x) older) (state_at (On x) w).rows (state_at (Behind x) w).rows (state_at (On x) w).tombs (state_at (Behind x) w).tombs
         (ok.even x tt (was_bare x s bare) (was_known x s bare known))
         (ap (λ (a : Row × Option Tomb). a.1) ((u.clustered (On x) tt s).1) ∙ ap (λ (a : Row × Option Tomb). a.1) (sym (u.clustered (Behind x) bare.inside s).1))
-        ∙ ap (λ (a : Row × Option Tomb). a.1) (sym (ap content (on_top (cell_at (Behind x)) older w (u.clustered (Behind x) bare.inside s).0)))
+        ∙ ap (λ (a : Row × Option Tomb). a.1) (sym (ap content (on_top (state_at (Behind x)) older w (u.clustered (Behind x) bare.inside s).0)))
 
     pub unit-continuous : IsContinuous (Some q) all (older ++ w ∷ [])
     unit-continuous = record {
       within = record {
         statics = each-other _ older [] v w k.within.statics (⊎_elim
-            (λ s. subst (λ r. IsWithin (static_cell w) (r, None)) src.statics (adds_within_statics writes change (static_cell w) (u.statics s)))
+            (λ s. subst (λ r. IsWithin (static_state w) (r, None)) src.statics (adds_within_statics writes change (static_state w) (u.statics s)))
             (λ off. subst (λ c. IsWithin c (source_at_static all, None)) (sym (u.statics_left off)) (each-one _ older [] v k.within.statics))
             (stretch_or_not p q Static));
         clustered = λ x. each-other _ older [] v w (k.within.clustered x) (⊎_elim
-            (λ s. subst (IsWithin (cell_at (On x) w)) (src.clustered x) (adds_within writes change x (cell_at (On x) w) (u.clustered (On x) tt s)))
+            (λ s. subst (IsWithin (state_at (On x) w)) (src.clustered x) (adds_within writes change x (state_at (On x) w) (u.clustered (On x) tt s)))
             (λ off. subst (λ c. IsWithin c (source_at all x)) (sym (u.clustered_left (On x) off)) (each-one _ older [] v (k.within.clustered x)))
             (stretch_or_not p q (Clustered x)));
       };

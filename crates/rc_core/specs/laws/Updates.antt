@@ -9,15 +9,15 @@ use Rattle.rc_cell.specs.declared.writes.Tomb.{Tomb}
 use Rattle.rc_cell.specs.Orders.{tomb_cmp, tomb_cmp_total}
 use Rattle.rc_cell.specs.Beats.{tomb_cmp-IsAntisymmetric}
 use Rattle.rc_cell.specs.Greatest.{greatest-swap, greatest-twice}
-use Rattle.rc_cell.specs.Laws.{joined_row-append, joined_row-swap, joined_row-twice}
+use Rattle.rc_cell.specs.laws.{joined_row-append, joined_row-swap, joined_row-twice}
 use Rattle.rc_ranges.specs.Cover.{cover, tombs_over}
-use Rattle.rc_mutation.specs.SourceLaws.{static_rows-append}
+use Rattle.rc_mutation.specs.laws.Sources.{static_rows-append}
 use Rattle.rc_cell.specs.Winner.{greatest, joined_row}
 use Rattle.rc_position.specs.Position.{Place, Head, End, place_cmp}
 use Rattle.rc_mutation.specs.declared.mutations.Mutation.{Mutation}
 use Rattle.rc_mutation.specs.Source.{SameSource, source_at, source_at_static, static_rows, rows_in, all_rows, all_pieces}
-use Rattle.rc_core.specs.Cell.{Cell}
-use Rattle.rc_core.specs.Version.{On, Version, IsVersion, cell_at, static_cell}
+use Rattle.rc_core.specs.SpotState.{SpotState}
+use Rattle.rc_core.specs.Version.{On, Version, IsVersion, state_at, static_state}
 use Rattle.rc_core.specs.Continuity.{IsWithin, EachOf, HoldNoMore, IsContinuous}
 use Rattle.rc_core.specs.Merge.{new_version}
 use Rattle.rc_core.specs.AtPlace.{IsAtPlace}
@@ -91,7 +91,7 @@ ended-form c ch = same-form c None (λ u. absurd u) ch
 
 -- ---- its begin
 
-no_less-within : (rows others : List Row) (s t : Option Tomb) (c : Cell) → joined_row (joined_row others ∷ joined_row rows ∷ []) ≡ joined_row others → greatest tomb_cmp (option_to_list t ++ option_to_list s) ≡ t →
+no_less-within : (rows others : List Row) (s t : Option Tomb) (c : SpotState) → joined_row (joined_row others ∷ joined_row rows ∷ []) ≡ joined_row others → greatest tomb_cmp (option_to_list t ++ option_to_list s) ≡ t →
     IsWithin c (joined_row rows, s) → IsWithin c (joined_row others, t)
 no_less-within rows others s t c e f w = (
   rows_by_parts (joined_row others ∷ []) c.rows (joined_row others ∷ joined_row rows ∷ []) c.rows (joined-again others ∙ sym e) refl
@@ -109,8 +109,8 @@ each_wider P Q f (v ∷ vs) h = (f v h.0, each_wider P Q f vs h.1)
 
 pub wider-hold : (writes others : List Mutation) (versions : List Version) → SaysNoLess writes others → HoldNoMore writes versions → HoldNoMore others versions
 wider-hold writes others versions n h = record {
-  statics = each_wider _ _ (λ v w. no_less-within (static_rows writes) (static_rows others) None None (static_cell v) n.statics (tomb-alone None) w) versions h.statics;
-  clustered = λ x. each_wider _ _ (λ v w. no_less-within (rows_in x (all_rows writes)) (rows_in x (all_rows others)) (source_at writes x).1 (source_at others x).1 (cell_at (On x) v) (n.rows x) (n.tombs x) w) versions (h.clustered x);
+  statics = each_wider _ _ (λ v w. no_less-within (static_rows writes) (static_rows others) None None (static_state v) n.statics (tomb-alone None) w) versions h.statics;
+  clustered = λ x. each_wider _ _ (λ v w. no_less-within (rows_in x (all_rows writes)) (rows_in x (all_rows others)) (source_at writes x).1 (source_at others x).1 (state_at (On x) v) (n.rows x) (n.tombs x) w) versions (h.clustered x);
 }
 
 more_rows : (ws cs : List Row) → joined_row (joined_row (ws ++ cs) ∷ joined_row ws ∷ []) ≡ joined_row (ws ++ cs)

@@ -1,4 +1,4 @@
--- What keeps continuity where no cell changes: a new version, the end of an update, a phase of the same source; and what stays carried.
+-- What keeps continuity where no state changes: a new version, the end of an update, a phase of the same source; and what stays carried.
 use Rattle.std.specs.Prelude.{ℕ, List, [], ◌∷◌, ◌++◌, Option, Some, None}
 use Rattle.std.proofs.Common.{refl, sym, ◌∙◌, subst}
 use Rattle.rc_cell.specs.declared.writes.Tomb.{Tomb}
@@ -7,7 +7,7 @@ use Rattle.rc_position.specs.Position.{Place, Head, End}
 use Rattle.rc_mutation.specs.declared.mutations.Mutation.{Mutation}
 use Rattle.rc_mutation.specs.Source.{SameSource, source_at, static_rows, rows_in, all_rows}
 use Rattle.rc_core.specs.declared.entries.ChainKind.TheVariants.{Cache}
-use Rattle.rc_core.specs.Version.{On, Version, cell_at, static_cell}
+use Rattle.rc_core.specs.Version.{On, Version, state_at, static_state}
 use Rattle.rc_core.specs.Continuity.{IsWithin, EachOf, HoldNoMore, IsContinuous}
 use Rattle.rc_core.specs.Merge.{IsSeenAlike, new_version}
 use Rattle.rc_core.specs.Chains.{IsCarried}
@@ -16,8 +16,8 @@ use Rattle.rc_core.specs.laws.Merging.{alike-known, new-silent}
 
 pub same-hold : (writes others : List Mutation) (versions : List Version) → SameSource writes others → HoldNoMore writes versions → HoldNoMore others versions
 same-hold writes others versions s h = record {
-  statics = subst (λ r. EachOf (λ v. IsWithin (static_cell v) (r, None)) versions) s.statics h.statics;
-  clustered = λ x. subst (λ a. EachOf (λ v. IsWithin (cell_at (On x) v) a) versions) (s.clustered x) (h.clustered x);
+  statics = subst (λ r. EachOf (λ v. IsWithin (static_state v) (r, None)) versions) s.statics h.statics;
+  clustered = λ x. subst (λ a. EachOf (λ v. IsWithin (state_at (On x) v) a) versions) (s.clustered x) (h.clustered x);
 }
 
 pub relabelled : (reach : Option Place) (writes others : List Mutation) (versions : List Version) → SameSource writes others → IsContinuous reach writes versions → IsContinuous reach others versions

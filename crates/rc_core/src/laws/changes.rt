@@ -6,7 +6,7 @@ ghost use Rattle.rc_cell.specs.declared.rows.Row.{Row};
 ghost use Rattle.rc_cell.specs.Greatest.{greater};
 ghost use Rattle.rc_cell.specs.Orders.{tomb_cmp};
 ghost use Rattle.rc_cell.specs.Winner.{greatest};
-ghost use Rattle.rc_core.specs.Continuity.{partition_tombs, with_entries};
+ghost use Rattle.rc_core.specs.Continuity.{version_tombs, with_entries};
 ghost use Rattle.rc_core.specs.Steps.{join_pt};
 ghost use Rattle.rc_cell.specs.declared.writes.Tomb.{Tomb};
 ghost use Rattle.rc_position.specs.declared.positions.Pos.{Pos};
@@ -14,8 +14,8 @@ ghost use Rattle.rc_position.specs.Position.{IsBefore, covers};
 ghost use Rattle.rc_core.specs.declared.entries.Entry.{Entry};
 ghost use Rattle.rc_core.specs.declared.entries.Flag.TheVariants.{Known};
 ghost use Rattle.rc_core.specs.declared.entries.Mark.{Mark};
-ghost use Rattle.rc_core.specs.Version.{Ascend, Behind, EndsWithDummy, IsBeforeEnd, IsVersion, On, Spot, Version, cell_at, end_position, found, seen, spot_cmp, static_cell};
-ghost use Rattle.rc_core.specs.Change.{change, drop_at, fill_gap, fill_row, join_range, join_row_at, joined_onto, known_with, lose_last_gap, lost_mark, mark, position_of, raised, split, take_out};
+ghost use Rattle.rc_core.specs.Version.{Ascend, Behind, EndsWithDummy, IsBeforeEnd, IsVersion, On, Spot, Version, state_at, end_position, found, seen, spot_cmp, static_state};
+ghost use Rattle.rc_core.specs.Change.{change, drop_at, fill_gap, fill_row, join_range, join_row_at, joined_onto, known_with, lose_last_gap, lost_mark, mark, position_of, raised_mark, split, take_out};
 
 /// The entries of a version reach every position, and every gap behind a position before the end.
 pub fn every_spot_is_reached()
@@ -37,7 +37,7 @@ pub fn a_change_is_its_function_inside()
 /// A joined range raises the tombstone inside, and leaves flags, rows and all outside.
 pub fn a_joined_range_raises_the_tombstone()
     ensures { (s : Spot) (from to : Pos) (tomb : Tomb) (entries : List Entry) → IsBeforeEnd s entries →
-        seen s (join_range from to tomb entries) ≡ cond (covers from to (position_of s)) (found (raised (Some tomb) (seen s entries).mark) (seen s entries).row) (seen s entries) }
+        seen s (join_range from to tomb entries) ≡ cond (covers from to (position_of s)) (found (raised_mark (Some tomb) (seen s entries).mark) (seen s entries).row) (seen s entries) }
 {}
 
 /// A filled gap is known inside with its tombstone, and all outside is as before.
@@ -100,9 +100,9 @@ pub fn each_change_leaves_a_version()
 /// A joined partition tombstone raises that of each newer version, and changes nothing that is said elsewhere.
 pub fn a_joined_partition_tombstone_raises_the_head()
     ensures head { (older newer : List Version) (v : Version) (tomb : Tomb) →
-        greatest tomb_cmp (partition_tombs (older ++ join_pt tomb v ∷ newer)) ≡ greater tomb_cmp (greatest tomb_cmp (partition_tombs (older ++ v ∷ newer))) (Some tomb) }
-    ensures elsewhere { (v : Version) (tomb : Tomb) (s : Spot) → cell_at s (join_pt tomb v) ≡ cell_at s v }
-    ensures statics { (v : Version) (tomb : Tomb) → static_cell (join_pt tomb v) ≡ static_cell v }
+        greatest tomb_cmp (version_tombs (older ++ join_pt tomb v ∷ newer)) ≡ greater tomb_cmp (greatest tomb_cmp (version_tombs (older ++ v ∷ newer))) (Some tomb) }
+    ensures elsewhere { (v : Version) (tomb : Tomb) (s : Spot) → state_at s (join_pt tomb v) ≡ state_at s v }
+    ensures statics { (v : Version) (tomb : Tomb) → static_state (join_pt tomb v) ≡ static_state v }
 {}
 
 /// Where the gap before the end dummy is lost, each spot is as before, or it is Unknown with nothing held there.

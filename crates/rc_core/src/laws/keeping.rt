@@ -14,14 +14,14 @@ ghost use Rattle.rc_core.specs.declared.entries.ChainKind.TheVariants.{Cache};
 ghost use Rattle.rc_core.specs.Chains.{Chain, IsChainContinuous, IsNeeded, phase_at, upto, with_versions};
 ghost use Rattle.rc_core.specs.Continuity.{fill_statics};
 ghost use Rattle.rc_core.specs.Merge.{IsMerged, IsSeenAlike, IsSilent};
-ghost use Rattle.rc_core.specs.Steps.{IsCarriedIn, IsChain, MayPopulate, add_version, drop_version, gap_filled, new_chain, on_newest, opened, renumbered, row_filled, with_newest, with_phase};
+ghost use Rattle.rc_core.specs.Steps.{IsCarriedIn, IsChain, MayPopulate, add_version, drop_version, gap_filled, new_chain, on_newest, opened_version, renumbered, row_filled, with_newest, with_phase};
 ghost use Rattle.rc_core.specs.Version.{IsVersion, Version, end_position};
 
 /// A cache chain that is opened with the source's head, its static row known also where there is none, is continuous.
 pub fn an_opened_entry_is_continuous()
     ensures chain { (pt : Option Tomb) (statics : Option Row) (phase : ℕ) (below : ℕ → List Mutation) → pt ≡ source_at_head (below phase) →
-        joined_row (option_to_list statics) ≡ source_at_static (below phase) → IsChainContinuous below (new_chain Cache (opened pt statics phase)) }
-    ensures form { (pt : Option Tomb) (statics : Option Row) (phase : ℕ) → IsChain (new_chain Cache (opened pt statics phase)) }
+        joined_row (option_to_list statics) ≡ source_at_static (below phase) → IsChainContinuous below (new_chain Cache (opened_version pt statics phase)) }
+    ensures form { (pt : Option Tomb) (statics : Option Row) (phase : ℕ) → IsChain (new_chain Cache (opened_version pt statics phase)) }
 {}
 
 /// A change of the newest version that leaves a version, and a version that is added, leave a chain.

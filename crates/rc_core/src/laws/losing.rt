@@ -4,7 +4,7 @@ ghost use Rattle.std.specs.Prelude.{◌≡◌, ◌≢◌, ◌++◌, ◌∷◌, [
 ghost use Rattle.rc_mutation.specs.declared.mutations.Mutation.{Mutation};
 ghost use Rattle.rc_position.specs.Position.{Clustered, IsBefore, Place};
 ghost use Rattle.rc_core.specs.declared.entries.ChainKind.TheVariants.{Cache};
-ghost use Rattle.rc_core.specs.Cell.{Cell, through};
+ghost use Rattle.rc_core.specs.SpotState.{SpotState, through};
 ghost use Rattle.rc_position.specs.declared.positions.Pos.{Pos};
 ghost use Rattle.rc_core.specs.Version.{IsVersion, Version, end_position};
 ghost use Rattle.rc_core.specs.Chain.{content, flagged};
@@ -13,15 +13,15 @@ ghost use Rattle.rc_core.specs.AtPlace.{HasEntryAt, IsAtPlace};
 ghost use Rattle.rc_core.specs.Continuity.{HoldNoMore, IsContinuous, IsEvicted, IsSameOrLost, SameOrLost, with_entries, without_statics};
 ghost use Rattle.rc_core.specs.Change.{drop_at, lose_last_gap};
 
-/// A cell that is the same or lost leaves what is seen through the versions around it the same, or Unknown.
-pub fn a_lost_cell_is_seen_as_unknown_or_not_at_all()
-    ensures { (older newer : List Cell) (before now : Cell) → SameOrLost before now →
+/// A state that is the same or lost leaves what is seen through the versions around it the same, or Unknown.
+pub fn a_lost_state_is_seen_as_unknown_or_not_at_all()
+    ensures { (older newer : List SpotState) (before now : SpotState) → SameOrLost before now →
         SameOrLost (through (older ++ before ∷ newer)) (through (older ++ now ∷ newer)) }
 {}
 
 /// What is known after a loss was known before, with the same content.
 pub fn what_is_known_after_a_loss_was_known_before()
-    ensures { (before now : List Cell) → SameOrLost (through before) (through now) → IsTrue (flagged Cache now) →
+    ensures { (before now : List SpotState) → SameOrLost (through before) (through now) → IsTrue (flagged Cache now) →
         IsTrue (flagged Cache before) × (content now ≡ content before) }
 {}
 

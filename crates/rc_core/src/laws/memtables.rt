@@ -16,10 +16,10 @@ ghost use Rattle.rc_mutation.specs.Source.{SameSource, rows_in, source_at};
 ghost use Rattle.rc_ranges.specs.Cover.{tombs_over};
 ghost use Rattle.rc_core.specs.declared.parts.Part.{Part};
 ghost use Rattle.rc_core.specs.declared.entries.ChainKind.TheVariants.{Memtable};
-ghost use Rattle.rc_core.specs.Chain.{IsEvenAt, IsKnown, cells, content, flagged};
+ghost use Rattle.rc_core.specs.Chain.{IsEvenAt, IsKnown, states_at, content, flagged};
 ghost use Rattle.rc_core.specs.Chains.{AllInherit, Chain, IsMemtableChain, IsNeeded, upto, with_versions};
 ghost use Rattle.rc_core.specs.Continuity.{EachOf};
-ghost use Rattle.rc_core.specs.StandsFor.{ArePartsFrom, IsWholeAt, StandsFor, pieces_from, rows_of, written_pt, written_range, written_row, written_statics};
+ghost use Rattle.rc_core.specs.StandsFor.{ArePartsFrom, IsWholeAt, StandsFor, part_pieces, rows_of, written_pt, written_range, written_row, written_statics};
 ghost use Rattle.rc_core.specs.Steps.{IsChain, add_version, detach, drop_version, join_pt, join_statics, new_chain, on_newest, range_joined, release, row_joined, snapshot, with_newest};
 ghost use Rattle.rc_core.specs.Version.{On, Spot, Version};
 
@@ -94,10 +94,10 @@ pub fn a_write_is_one_more()
 
 /// Every place of a memtable's chain is known, and a row is seen at the position of its key alone.
 pub fn a_memtable_is_known_everywhere()
-    ensures spot { (s : Spot) (versions : List Version) → EachOf AllInherit versions → IsTrue (flagged Memtable (cells s versions)) }
+    ensures spot { (s : Spot) (versions : List Version) → EachOf AllInherit versions → IsTrue (flagged Memtable (states_at s versions)) }
     ensures known { (versions : List Version) → EachOf AllInherit versions → (x : Pos) → IsKnown Memtable versions x }
     ensures row { (writes : List Mutation) (versions : List Version) (x : Pos) → StandsFor writes versions →
-        (content (cells (On x) versions)).0 ≢ empty_row → x ≡ row_pos x.prefix }
+        (content (states_at (On x) versions)).0 ≢ empty_row → x ≡ row_pos x.prefix }
 {}
 
 /// The rows and range tombstones of a memtable's parts, got one after another up to a bound, say at each position what its writes say: where tombstones are even, and no range
@@ -105,5 +105,5 @@ pub fn a_memtable_is_known_everywhere()
 pub fn the_parts_together_say_what_the_writes_say()
     ensures { (writes : List Mutation) (versions : List Version) → StandsFor writes versions → EachOf AllInherit versions → ((x : Pos) → IsEvenAt Memtable versions x) →
         ((key : List Comp) → IsWholeAt writes key) → (parts : List Part) (from upto : Pos) → ArePartsFrom versions from upto parts → (y : Pos) → covers from upto y ≡ true →
-        ◌≡◌ {A = Row × Option Tomb} (joined_row (rows_in y (rows_of parts)), greatest tomb_cmp (tombs_over (pieces_from from parts) y)) (source_at writes y) }
+        ◌≡◌ {A = Row × Option Tomb} (joined_row (rows_in y (rows_of parts)), greatest tomb_cmp (tombs_over (part_pieces from parts) y)) (source_at writes y) }
 {}

@@ -12,13 +12,13 @@ ghost use Rattle.rc_mutation.specs.declared.mutations.Mutation.{Mutation};
 ghost use Rattle.rc_mutation.specs.Source.{source_at};
 ghost use Rattle.rc_core.specs.declared.entries.ChainKind.{ChainKind};
 ghost use Rattle.rc_core.specs.declared.entries.Flag.TheVariants.{Inherit};
-ghost use Rattle.rc_core.specs.Cell.{Cell, cell};
+ghost use Rattle.rc_core.specs.SpotState.{SpotState, spot_state};
 ghost use Rattle.rc_core.specs.Version.{Spot, Version};
-ghost use Rattle.rc_core.specs.Chain.{IsKnown, cells, content, flagged};
+ghost use Rattle.rc_core.specs.Chain.{IsKnown, states_at, content, flagged};
 ghost use Rattle.rc_core.specs.Continuity.{HoldNoMore, IsContinuous};
 ghost use Rattle.rc_core.specs.Merge.{IsMerged, IsSeenAlike, IsSilent, new_version};
 
-/// A unit that puts cells of a version down under those of the next newer one changes nothing that is seen through any newer version.
+/// A unit that puts states of a version down under those of the next newer one changes nothing that is seen through any newer version.
 pub fn a_merged_unit_changes_nothing()
     ensures { (front back : List Version) (older newer older_after newer_after : Version) → IsMerged older newer older_after newer_after →
         IsSeenAlike (front ++ older ∷ newer ∷ back) (front ++ older_after ∷ newer_after ∷ back) }
@@ -39,7 +39,7 @@ pub fn a_new_version_says_nothing()
 /// What is seen alike is known and contains what it did.
 pub fn what_is_seen_alike_is_known_as_before()
     ensures known { (kind : ChainKind) (before now : List Version) (x : Pos) → IsSeenAlike before now → IsKnown kind before x → IsKnown kind now x }
-    ensures content { (before now : List Version) (s : Spot) → IsSeenAlike before now → content (cells s now) ≡ content (cells s before) }
+    ensures content { (before now : List Version) (s : Spot) → IsSeenAlike before now → content (states_at s now) ≡ content (states_at s before) }
 {}
 
 /// What is seen alike keeps continuity, where no version holds more than the source.
@@ -51,11 +51,11 @@ pub fn what_is_seen_alike_keeps_continuity()
 /// Where the newest version says Inherit and holds what a further mutation says at a position, it is flagged as below, and its content is
 /// the source of both where it was the source below.
 pub fn an_update_joins_its_mutation()
-    ensures flagged { (kind : ChainKind) (below : List Cell) (rows : List Row) (tombs : List Tomb) →
-        flagged kind (below ++ cell Inherit rows tombs ∷ []) ≡ flagged kind below }
-    ensures content { (writes : List Mutation) (change : Mutation) (x : Pos) (below : List Cell) (rows : List Row) (tombs : List Tomb) →
+    ensures flagged { (kind : ChainKind) (below : List SpotState) (rows : List Row) (tombs : List Tomb) →
+        flagged kind (below ++ spot_state Inherit rows tombs ∷ []) ≡ flagged kind below }
+    ensures content { (writes : List Mutation) (change : Mutation) (x : Pos) (below : List SpotState) (rows : List Row) (tombs : List Tomb) →
         content below ≡ source_at writes x → (joined_row rows, greatest tomb_cmp tombs) ≡ source_at (change ∷ []) x →
-        content (below ++ cell Inherit rows tombs ∷ []) ≡ source_at (writes ++ change ∷ []) x }
+        content (below ++ spot_state Inherit rows tombs ∷ []) ≡ source_at (writes ++ change ∷ []) x }
 {}
 
 /// A unit of merging keeps the continuity of each version from the newer of the two on.

@@ -1,4 +1,4 @@
-//! Snapshots, their release, and a chain that is detached: no cell changes, and the whole chain stays continuous. Then the objects of a
+//! Snapshots, their release, and a chain that is detached: no state changes, and the whole chain stays continuous. Then the objects of a
 //! chain that nobody finds or reads go, one at a time.
 
 ghost use Rattle.std.specs.Prelude.{◌≡◌, ◌≢◌, ◌++◌, ◌∷◌, ◌⊎◌, ℕ, suc, true, List, None, Option, Some, length, map, option_map};
@@ -8,8 +8,8 @@ ghost use Rattle.rc_position.specs.declared.positions.Pos.{Pos};
 ghost use Rattle.rc_position.specs.Position.{IsBefore};
 ghost use Rattle.rc_core.specs.declared.entries.ChainKind.{ChainKind};
 ghost use Rattle.rc_core.specs.declared.entries.ChainKind.TheVariants.{Cache, Memtable};
-ghost use Rattle.rc_core.specs.Free.{IsLeft, free_entry, free_statics, freed_mark};
-ghost use Rattle.rc_core.specs.Version.{IsVersion, Spot, Version, cell_at, cell_of, end_position, found};
+ghost use Rattle.rc_core.specs.Free.{IsAbandoned, free_entry, free_statics, freed_mark};
+ghost use Rattle.rc_core.specs.Version.{IsVersion, Spot, Version, state_at, state_of, end_position, found};
 ghost use Rattle.rc_core.specs.Steps.{IsChain, IsSnapshotOf, detach, free_number, pin_at, pinned, release, released, renumbered, snapshot, with_pins};
 
 /// A snapshot gets a number that was free, and the numbers of others stay, then and while others are released. A version is pinned where some
@@ -66,27 +66,27 @@ pub fn a_detached_chain_stays_continuous()
 /// Where an entry before the end is freed, each spot is as before, or it says what is said where an object was freed.
 pub fn a_freed_entry_is_said_no_more()
     ensures { (kind : ChainKind) (v : Version) (x : Pos) → IsVersion v → IsBefore x end_position → (s : Spot) →
-        (cell_at s (free_entry kind x v) ≡ cell_at s v) ⊎ (cell_at s (free_entry kind x v) ≡ cell_of (found (freed_mark kind) None)) }
+        (state_at s (free_entry kind x v) ≡ state_at s v) ⊎ (state_at s (free_entry kind x v) ≡ state_of (found (freed_mark kind) None)) }
 {}
 
 /// One object freed of a cache chain that nobody finds or reads leaves it continuous: an entry before the end, a static row, a version.
 pub fn a_freed_object_keeps_the_whole_chain()
     ensures entry { (below : ℕ → List Mutation) (c : Chain) (front back : List Version) (v : Version) (x : Pos) → c.versions ≡ front ++ v ∷ back →
-        IsLeft c → IsVersion v → IsBefore x end_position →
+        IsAbandoned c → IsVersion v → IsBefore x end_position →
         IsChainContinuous below c → IsChainContinuous below (with_versions (front ++ free_entry Cache x v ∷ back) c) }
-    ensures statics { (below : ℕ → List Mutation) (c : Chain) (front back : List Version) (v : Version) → c.versions ≡ front ++ v ∷ back → IsLeft c →
+    ensures statics { (below : ℕ → List Mutation) (c : Chain) (front back : List Version) (v : Version) → c.versions ≡ front ++ v ∷ back → IsAbandoned c →
         IsChainContinuous below c → IsChainContinuous below (with_versions (front ++ free_statics Cache v ∷ back) c) }
-    ensures version { (below : ℕ → List Mutation) (c : Chain) (front back : List Version) (v : Version) → c.versions ≡ front ++ v ∷ back → IsLeft c →
+    ensures version { (below : ℕ → List Mutation) (c : Chain) (front back : List Version) (v : Version) → c.versions ≡ front ++ v ∷ back → IsAbandoned c →
         IsChainContinuous below c → IsChainContinuous below (with_versions (front ++ back) c) }
 {}
 
 /// One object freed of a dropped memtable's chain that nobody reads keeps its form.
 pub fn a_freed_object_keeps_the_memtables_form()
-    ensures entry { (c : Chain) (front back : List Version) (v : Version) (x : Pos) → c.versions ≡ front ++ v ∷ back → IsLeft c → IsVersion v →
+    ensures entry { (c : Chain) (front back : List Version) (v : Version) (x : Pos) → c.versions ≡ front ++ v ∷ back → IsAbandoned c → IsVersion v →
         IsBefore x end_position → IsMemtableChain c → IsMemtableChain (with_versions (front ++ free_entry Memtable x v ∷ back) c) }
-    ensures statics { (c : Chain) (front back : List Version) (v : Version) → c.versions ≡ front ++ v ∷ back → IsLeft c →
+    ensures statics { (c : Chain) (front back : List Version) (v : Version) → c.versions ≡ front ++ v ∷ back → IsAbandoned c →
         IsMemtableChain c → IsMemtableChain (with_versions (front ++ free_statics Memtable v ∷ back) c) }
-    ensures version { (c : Chain) (front back : List Version) (v : Version) → c.versions ≡ front ++ v ∷ back → IsLeft c →
+    ensures version { (c : Chain) (front back : List Version) (v : Version) → c.versions ≡ front ++ v ∷ back → IsAbandoned c →
         IsMemtableChain c → IsMemtableChain (with_versions (front ++ back) c) }
 {}
 

@@ -6,8 +6,8 @@ ghost use Rattle.std.specs.Prelude.{◌≡◌, ◌≢◌, ◌++◌, ◌∷◌, [
 ghost use Rattle.rc_position.specs.declared.positions.Pos.{Pos};
 ghost use Rattle.rc_position.specs.Position.{Clustered, Head, IsBefore, Place, place_cmp};
 ghost use Rattle.rc_core.specs.AtPlace.{HasEntryAt, IsAtPlace};
-ghost use Rattle.rc_core.specs.Cell.{through};
-ghost use Rattle.rc_core.specs.Chain.{cells};
+ghost use Rattle.rc_core.specs.SpotState.{through};
+ghost use Rattle.rc_core.specs.Chain.{states_at};
 ghost use Rattle.rc_core.specs.Change.{drop_at, position_of};
 ghost use Rattle.rc_core.specs.Continuity.{with_entries, without_statics};
 ghost use Rattle.rc_core.specs.Merge.{new_version};
@@ -34,5 +34,5 @@ pub fn no_dummy_stands_behind_the_place()
 /// where no position can stand in that gap.
 pub fn from_the_place_on_the_older_versions_are_seen()
     ensures { (p : Place) (older : List Version) (v : Version) (s : Spot) → IsAtPlace p v → (place_cmp (Clustered (position_of s)) p ≡ Less → ⊥) →
-        through (cells s (older ++ v ∷ [])) ≡ through (cells s older) }
+        through (states_at s (older ++ v ∷ [])) ≡ through (states_at s older) }
 {}

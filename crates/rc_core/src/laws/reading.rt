@@ -13,7 +13,7 @@ ghost use Rattle.rc_core.specs.declared.entries.ChainKind.{ChainKind};
 ghost use Rattle.rc_core.specs.declared.entries.ChainKind.TheVariants.{Cache};
 ghost use Rattle.rc_core.specs.declared.parts.Part.{Part};
 ghost use Rattle.rc_core.specs.declared.parts.Part.TheVariants.{Gap, Row};
-ghost use Rattle.rc_core.specs.Chain.{IsEvenAt, IsKnown, cells, content};
+ghost use Rattle.rc_core.specs.Chain.{IsEvenAt, IsKnown, states_at, content};
 ghost use Rattle.rc_core.specs.Continuity.{IsContinuous};
 ghost use Rattle.rc_core.specs.Parts.{IsFirstPart};
 ghost use Rattle.rc_core.specs.Version.{On, Version};
@@ -21,7 +21,7 @@ ghost use Rattle.rc_core.specs.Version.{On, Version};
 /// At each place of a known gap no row is seen and the gap's tombstone, and the place is known; also in a memtable's chain.
 pub fn a_gap_is_seen_alike()
     ensures { (kind : ChainKind) (versions : List Version) (x upto to : Pos) (tomb : Option Tomb) → IsFirstPart kind versions x upto (Gap to tomb) →
-        IsEvenAt kind versions x → (y : Pos) → covers x to y ≡ true → (content (cells (On y) versions) ≡ (empty_row, tomb)) × IsKnown kind versions y }
+        IsEvenAt kind versions x → (y : Pos) → covers x to y ≡ true → (content (states_at (On y) versions) ≡ (empty_row, tomb)) × IsKnown kind versions y }
 {}
 
 /// In a continuous version of a cache chain a part that is known is the source: at each place of a gap no row and its tombstone, and at a

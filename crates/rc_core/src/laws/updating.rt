@@ -1,4 +1,4 @@
-//! What keeps continuity where no cell of an older version changes: the begin and the end of an update, a phase of the same source;
+//! What keeps continuity where no state of an older version changes: the begin and the end of an update, a phase of the same source;
 //! and what stays carried.
 
 ghost use Rattle.std.specs.Prelude.{◌≡◌, ◌≢◌, ◌++◌, ◌∷◌, [], ℕ, suc, true, List, None, Option, Some, length};

@@ -2,30 +2,30 @@
 use Rattle.std.specs.Prelude.{◌≡◌, ◌⊎◌, ◌≤◌, ◌+◌, ℕ, zero, suc, Bool, true, false, IsTrue, ◌&&◌, Option}
 use Rattle.std.proofs.Common.{refl, sym, ap, ◌∙◌, subst, arith, inl, inr}
 use Rattle.rc_position.specs.declared.positions.Pos.{Pos}
-use Rattle.rc_stream.specs.Did.{Call, Chain, Deed, IsQuiet, Many, MergeDid, OneCall, OurCall, Spends, Steps, TheirCall, merge_did, both_left, both_settled, Call.OfHead, Call.OfNext, Call.OfSeek}
+use Rattle.rc_stream.specs.Did.{Call, InTurn, Deed, IsQuiet, Many, MergeDid, OneCall, OurCall, Spends, StepsInTurn, TheirCall, merge_did, both_left, both_settled, Call.OfHead, Call.OfNext, Call.OfSeek}
 use Rattle.rc_stream.specs.declared.merges.Merge.{Merge}
 
 -- ---- chains of steps
 
 -- where each answered step leaves this no greater, and a refused one leaves that no greater than this was, so does a chain
 module _ {S : Type 0} (step : Bool → S → S → Type 0) (whole part : S → ℕ) (answered : (s t : S) → step true s t → whole t ≤ whole s) (refused : (s t : S) → step false s t → part t ≤ whole s) (within : (s : S) → part s ≤ whole s) where
-  steps-less : (n : ℕ) (s t : S) → Steps (step true) n s t → whole t ≤ whole s
+  steps-less : (n : ℕ) (s t : S) → StepsInTurn (step true) n s t → whole t ≤ whole s
   steps-less zero s t e = subst (λ z. whole z ≤ whole s) e (omega arith)
   steps-less (suc n) s t c = omega (arith, answered s c.0 c.1, steps-less n c.0 t c.2)
 
-  pub chain-answered : (s t : S) → Chain step true s t → whole t ≤ whole s
+  pub chain-answered : (s t : S) → InTurn step true s t → whole t ≤ whole s
   chain-answered s t c = steps-less c.0 s t c.1
 
   last : (u t : S) → (u ≡ t) ⊎ step false u t → part t ≤ whole u
   last u t (inl e) = subst (λ z. part z ≤ whole u) e (within u)
   last u t (inr c) = refused u t c
 
-  pub chain-refused : (s t : S) → Chain step false s t → part t ≤ whole s
+  pub chain-refused : (s t : S) → InTurn step false s t → part t ≤ whole s
   chain-refused s t c = omega (arith, steps-less c.1.0 s c.0 c.1.1, last c.0 t c.2)
 
 -- what each step keeps, a chain keeps
 module _ {S : Type 0} (step : Bool → S → S → Type 0) (K : S → S → Type 0) (same : (s : S) → K s s) (through : (s t u : S) → K s t → K t u → K s u) (keeps : (ok : Bool) (s t : S) → step ok s t → K s t) where
-  steps-keep : (n : ℕ) (s t : S) → Steps (step true) n s t → K s t
+  steps-keep : (n : ℕ) (s t : S) → StepsInTurn (step true) n s t → K s t
   steps-keep zero s t e = subst (K s) e (same s)
   steps-keep (suc n) s t c = through s c.0 t (keeps true s c.0 c.1) (steps-keep n c.0 t c.2)
 
@@ -33,7 +33,7 @@ module _ {S : Type 0} (step : Bool → S → S → Type 0) (K : S → S → Type
   ended u t (inl e) = subst (K u) e (same u)
   ended u t (inr c) = keeps false u t c
 
-  pub chain-keeps : (ok : Bool) (s t : S) → Chain step ok s t → K s t
+  pub chain-keeps : (ok : Bool) (s t : S) → InTurn step ok s t → K s t
   chain-keeps true s t c = steps-keep c.0 s t c.1
   chain-keeps false s t c = through s c.0 t (steps-keep c.1.0 s c.0 c.1.1) (ended c.0 t c.2)
 

@@ -9,17 +9,17 @@ use Rattle.std.specs.FinMap.{is_sorted}
 use Rattle.std.specs.FinMap.Entries.{below_all}
 use Rattle.rc_cell.specs.ByColumn.{both, first, second}
 use Rattle.rc_position.specs.Position.{bytes_cmp}
-use Rattle.rc_position.specs.OrderLaws.{bytes_cmp_total}
-use Rattle.rc_schema.specs.Lists.{Lists}
+use Rattle.rc_position.specs.laws.Orders.{bytes_cmp_total}
+use Rattle.rc_schema.specs.SchemaValue.{SchemaValue}
 use Rattle.rc_mutation.specs.declared.fragments.Frag.{Frag}
 use Rattle.rc_mutation.specs.declared.fragments.Frag.TheVariants as frag
 use Rattle.rc_mutation.specs.declared.mutations.Mutation.{Mutation}
 use Rattle.rc_mutation.specs.declared.mutations.Partition.{Partition}
 use Rattle.rc_mutation.specs.Fragments.{fragments}
 use Rattle.rc_tfile.specs.Items.{Item, HeadItem, PartItem, RowItem, ChangeItem, EndItem, StopItem}
-use Rattle.rc_tfile.specs.Before.{Before, followed_by, last_key, IsNextKey}
+use Rattle.rc_tfile.specs.Before.{ItemsBefore, followed_by, last_key, IsNextKey}
 use Rattle.rc_tfile.specs.Blocks.{ending}
-use Rattle.rc_tfile.specs.TableText.{AllFit, body, table, part_items, frag_items}
+use Rattle.rc_tfile.specs.TableText.{AllFit, items_to_stop, whole_table, part_items, frag_items}
 use Rattle.rc_tfile.specs.laws.Follows.{followed_by-append}
 
 -- ---- the order of keys
@@ -55,12 +55,12 @@ below_first x e es p h = both (is_lt (bytes_cmp x e.0)) (below_all bytes_cmp x e
 -- ---- the items
 
 -- what stands before items that fit fits
-pub front_fits : (schema : Lists) (xs : List Item) (b : Before) → AllFit schema (followed_by b xs) → AllFit schema b
+pub front_fits : (schema : SchemaValue) (xs : List Item) (b : ItemsBefore) → AllFit schema (followed_by b xs) → AllFit schema b
 front_fits schema [] b h = h
 front_fits schema (x ∷ xs) b h = (front_fits schema xs (x ∷ b) h).0
 
 -- fragments have no key
-last_key-frags : (fs : List Frag) (b : Before) → last_key (followed_by b (flat_map frag_items fs)) ≡ last_key b
+last_key-frags : (fs : List Frag) (b : ItemsBefore) → last_key (followed_by b (flat_map frag_items fs)) ≡ last_key b
 last_key-frags [] b = refl
 last_key-frags (frag.Start pt ∷ fs) b = last_key-frags fs b
 last_key-frags (frag.Static row ∷ fs) b = last_key-frags fs b
@@ -69,22 +69,22 @@ last_key-frags (frag.Change x tomb ∷ fs) b = last_key-frags fs (ChangeItem x t
 last_key-frags (frag.End ∷ fs) b = last_key-frags fs (EndItem ∷ b)
 
 -- behind a partition its key is the last
-last_key-part : (p : Partition) (b : Before) → last_key (followed_by b (part_items p)) ≡ Some p.key
+last_key-part : (p : Partition) (b : ItemsBefore) → last_key (followed_by b (part_items p)) ≡ Some p.key
 last_key-part p b = last_key-frags (fragments p.change) (PartItem p.key p.change.pt p.change.statics ∷ b)
 
-module _ (schema : Lists) where
-  is_next : (p : Partition) (xs : List Item) (b : Before) → AllFit schema (followed_by b (part_items p ++ xs)) → IsNextKey b p.key
+module _ (schema : SchemaValue) where
+  is_next : (p : Partition) (xs : List Item) (b : ItemsBefore) → AllFit schema (followed_by b (part_items p ++ xs)) → IsNextKey b p.key
   is_next p xs b h = (front_fits schema (flat_map frag_items (fragments p.change) ++ xs) (PartItem p.key p.change.pt p.change.statics ∷ b) h).1.1.1
 
   abbrev keyed : List Partition → List Keyed
   keyed parts = list_map (λ (p : Partition). (p.key, p.change)) parts
 
-  ascending : (parts : List Partition) (more : List Item) (b : Before) → AllFit schema (followed_by b (flat_map part_items parts ++ more)) → T (is_sorted bytes_cmp (keyed parts))
+  ascending : (parts : List Partition) (more : List Item) (b : ItemsBefore) → AllFit schema (followed_by b (flat_map part_items parts ++ more)) → T (is_sorted bytes_cmp (keyed parts))
   ascending [] more b h = tt
   ascending (p ∷ []) more b h = tt
   ascending (p ∷ q ∷ ps) more b h =
       let items : (flat_map part_items (p ∷ q ∷ ps)) ++ more ≡ part_items p ++ (flat_map part_items (q ∷ ps) ++ more) = append_assoc (part_items p) (flat_map part_items (q ∷ ps)) more in
-      let behind : Before = followed_by b (part_items p) in
+      let behind : ItemsBefore = followed_by b (part_items p) in
       let on : AllFit schema (followed_by behind (flat_map part_items (q ∷ ps) ++ more)) =
       subst (AllFit schema) (ap (followed_by b) items ∙ followed_by-append b (part_items p) (flat_map part_items (q ∷ ps) ++ more)) h in
       let up : T (is_sorted bytes_cmp (keyed (q ∷ ps))) = ascending (q ∷ ps) more behind on in
@@ -94,6 +94,6 @@ module _ (schema : Lists) where
       both (below_all bytes_cmp p.key (keyed (q ∷ ps))) (is_sorted bytes_cmp (keyed (q ∷ ps))) (below_first p.key (q.key, q.change) (keyed ps) above up) up
 
   -- the keys of a table's partitions strictly ascend
-  pub keys_of_a_table_ascend : (parts : List Partition) → AllFit schema (table schema parts) → IsTrue (is_sorted bytes_cmp (keyed parts))
+  pub keys_of_a_table_ascend : (parts : List Partition) → AllFit schema (whole_table schema parts) → IsTrue (is_sorted bytes_cmp (keyed parts))
   keys_of_a_table_ascend parts h =
-      is_true _ (ascending parts (StopItem ∷ []) (HeadItem schema ∷ []) (front_fits schema (ending (body schema parts)) (body schema parts) h))
+      is_true _ (ascending parts (StopItem ∷ []) (HeadItem schema ∷ []) (front_fits schema (ending (items_to_stop schema parts)) (items_to_stop schema parts) h))

@@ -1,19 +1,19 @@
 -- What is being built, after one piece and another.
 use Rattle.std.proofs.Common.{◌≡◌, List, ℕ, [], ◌∷◌, ◌++◌, ◌∙◌, length, Option, Some, None, refl, sym, ap, append-nil, append_assoc}
 use Rattle.std.specs.Prelude.{IsSome}
-use Rattle.rc_outside.specs.Files.{Draft, Files, grown, begun, with_draft}
+use Rattle.rc_outside.specs.Files.{Draft, Files, grown, new_draft, with_draft}
 use Rattle.std.specs.List.{flat_map}
 use Rattle.std.proofs.lemmas.Grind.{flat_map-append}
 use Rattle.rc_tfile.specs.declared.outline.Outline.{Outline}
 use Rattle.rc_tfile.specs.Items.{HeadItem, StopItem, TailItem, item_code}
-use Rattle.rc_schema.specs.Lists.{Lists}
+use Rattle.rc_schema.specs.SchemaValue.{SchemaValue}
 use Rattle.rc_mutation.specs.declared.mutations.Partition.{Partition}
-use Rattle.rc_tfile.specs.Before.{Before, text, offset, followed_by}
-use Rattle.rc_tfile.specs.TableText.{part_items, body, table}
+use Rattle.rc_tfile.specs.Before.{ItemsBefore, text, offset, followed_by}
+use Rattle.rc_tfile.specs.TableText.{part_items, items_to_stop, whole_table}
 use Rattle.rc_tfile.specs.Info.{refs, refs_from}
 use Rattle.rc_tfile.specs.laws.Follows.{followed_by-append, text-followed_by}
 use Rattle.rc_tfile.specs.Blocks.{entries, entry_items, ending}
-use Rattle.rc_tfile.specs.Outlined.{IsListed}
+use Rattle.rc_tfile.specs.calls.Outlined.{IsListed}
 use Rattle.rc_tfile.specs.Stored.{with_file}
 
 back : (xs : List ℕ) → xs ≡ xs ++ []
@@ -33,12 +33,12 @@ pub grown_some : (b : Option (Option Draft)) (xs : List ℕ) → IsSome b → Is
 grown_some None xs h = h
 grown_some (Some d) xs h = refl
 
-pub finished : (files : Option Files) (n : ℕ) (bytes : List ℕ) → with_draft files (grown (begun files n) bytes) ≡ with_file files n bytes
+pub finished : (files : Option Files) (n : ℕ) (bytes : List ℕ) → with_draft files (grown (new_draft files n) bytes) ≡ with_file files n bytes
 finished None n bytes = refl
 finished (Some told) n bytes = refl
 
 -- the stop, the directory and the tail were built one behind another
-pub ending_built : (b0 b1 b2 b3 : Option (Option Draft)) (before : Before) (o : Outline) → IsListed before o → b1 ≡ grown b0 (5 ∷ []) → b2 ≡ grown b1 (flat_map item_code (flat_map entry_items o.listed.items))
+pub ending_built : (b0 b1 b2 b3 : Option (Option Draft)) (before : ItemsBefore) (o : Outline) → IsListed before o → b1 ≡ grown b0 (5 ∷ []) → b2 ≡ grown b1 (flat_map item_code (flat_map entry_items o.listed.items))
     → b3 ≡ grown b2 (item_code (TailItem o.off (length o.listed.items))) → b3 ≡ grown b0 (flat_map item_code (StopItem ∷ ending before))
 ending_built b0 b1 b2 b3 before o is p q r =
     let dir = flat_map item_code (flat_map entry_items o.listed.items) in
@@ -49,14 +49,14 @@ ending_built b0 b1 b2 b3 before o is p q r =
     r ∙ ap (λ b. grown b tail) (q ∙ ap (λ b. grown b dir) p) ∙ ap (λ b. grown b tail) (grown_more b0 (5 ∷ []) dir) ∙ grown_more b0 (5 ∷ dir) tail ∙ ap (λ t. grown b0 (5 ∷ t)) (sym whole)
 
 -- the items up to the stop end with it
-abbrev pub parts_of : Lists → List Partition → Before
+abbrev pub parts_of : SchemaValue → List Partition → ItemsBefore
 parts_of schema parts = followed_by (HeadItem schema ∷ []) (flat_map part_items parts)
 
-pub body_is : (schema : Lists) (parts : List Partition) → body schema parts ≡ StopItem ∷ parts_of schema parts
+pub body_is : (schema : SchemaValue) (parts : List Partition) → items_to_stop schema parts ≡ StopItem ∷ parts_of schema parts
 body_is schema parts = followed_by-append (HeadItem schema ∷ []) (flat_map part_items parts) (StopItem ∷ [])
 
-table_text : (schema : Lists) (parts : List Partition)
-    → text (table schema parts) ≡ (item_code (HeadItem schema) ++ flat_map item_code (flat_map part_items parts)) ++ flat_map item_code (StopItem ∷ ending (StopItem ∷ parts_of schema parts))
+table_text : (schema : SchemaValue) (parts : List Partition)
+    → text (whole_table schema parts) ≡ (item_code (HeadItem schema) ++ flat_map item_code (flat_map part_items parts)) ++ flat_map item_code (StopItem ∷ ending (StopItem ∷ parts_of schema parts))
 table_text schema parts =
     let before = parts_of schema parts in
     let behind = flat_map item_code (ending (StopItem ∷ before)) in
@@ -66,8 +66,8 @@ table_text schema parts =
     ∙ ap (λ t. t ++ 5 ∷ behind) (text-followed_by (HeadItem schema ∷ []) (flat_map part_items parts))
 
 -- the head, the partitions and what stands behind them were built one behind another
-pub table_built : (b0 b1 b2 b3 : Option (Option Draft)) (schema : Lists) (parts : List Partition) → b1 ≡ grown b0 (item_code (HeadItem schema)) → b2 ≡ grown b1 (flat_map item_code (flat_map part_items parts))
-    → b3 ≡ grown b2 (flat_map item_code (StopItem ∷ ending (StopItem ∷ parts_of schema parts))) → b3 ≡ grown b0 (text (table schema parts))
+pub table_built : (b0 b1 b2 b3 : Option (Option Draft)) (schema : SchemaValue) (parts : List Partition) → b1 ≡ grown b0 (item_code (HeadItem schema)) → b2 ≡ grown b1 (flat_map item_code (flat_map part_items parts))
+    → b3 ≡ grown b2 (flat_map item_code (StopItem ∷ ending (StopItem ∷ parts_of schema parts))) → b3 ≡ grown b0 (text (whole_table schema parts))
 table_built b0 b1 b2 b3 schema parts p q r =
     let head = item_code (HeadItem schema) in
     let middle = flat_map item_code (flat_map part_items parts) in
@@ -75,5 +75,5 @@ table_built b0 b1 b2 b3 schema parts p q r =
     r ∙ ap (λ b. grown b end) (q ∙ ap (λ b. grown b middle) p ∙ grown_more b0 head middle) ∙ grown_more b0 (head ++ middle) end ∙ ap (grown b0) (sym (table_text schema parts))
 
 -- the references that an outline gives are those of the table
-pub refs_are : (schema : Lists) (parts : List Partition) (o : Outline) → IsListed (StopItem ∷ parts_of schema parts) o → refs_from o.off o.listed.items ≡ refs (body schema parts)
+pub refs_are : (schema : SchemaValue) (parts : List Partition) (o : Outline) → IsListed (StopItem ∷ parts_of schema parts) o → refs_from o.off o.listed.items ≡ refs (items_to_stop schema parts)
 refs_are schema parts o is = (λ i. refs_from (is.off i) (is.listed i)) ∙ ap refs (sym (body_is schema parts))

@@ -5,19 +5,19 @@ use Rattle.std.specs.List.{flat_map, AllByRecursion}
 use Rattle.std.proofs.lemmas.Grind.{flat_map-append}
 use Rattle.std.proofs.lemmas.List.{take_more, take_rest}
 use Rattle.rc_tfile.specs.Items.{Item, item_code}
-use Rattle.rc_tfile.specs.Before.{Before, text, followed_by}
+use Rattle.rc_tfile.specs.Before.{ItemsBefore, text, followed_by}
 
 -- what each of one more gives comes last
 pub one_more : {X A : Type 0} (f : X → List A) (xs : List X) (i : ℕ) (x : X) → i < length xs → x ≡ get_or xs i x → flat_map f (take (i + 1) xs) ≡ flat_map f (take i xs) ++ f x
 one_more f xs i x lt is =
     ap (flat_map f) (take_more xs i x lt) ∙ flat_map-append f (take i xs) (get_or xs i x ∷ []) ∙ ap (λ t. flat_map f (take i xs) ++ t) (append-nil (f (get_or xs i x)) ∙ ap f (sym is))
 
-pub followed_by-append : (before : Before) (xs ys : List Item) → followed_by before (xs ++ ys) ≡ followed_by (followed_by before xs) ys
+pub followed_by-append : (before : ItemsBefore) (xs ys : List Item) → followed_by before (xs ++ ys) ≡ followed_by (followed_by before xs) ys
 followed_by-append before [] ys = refl
 followed_by-append before (x ∷ xs) ys = followed_by-append (x ∷ before) xs ys
 
 -- the text grows by what comes behind
-pub text-followed_by : (before : Before) (xs : List Item) → text (followed_by before xs) ≡ text before ++ flat_map item_code xs
+pub text-followed_by : (before : ItemsBefore) (xs : List Item) → text (followed_by before xs) ≡ text before ++ flat_map item_code xs
 text-followed_by before [] = sym (append-nil (text before))
 text-followed_by before (x ∷ xs) = text-followed_by (x ∷ before) xs ∙ append_assoc (text before) (item_code x) (flat_map item_code xs)
 

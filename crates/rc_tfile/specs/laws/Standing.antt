@@ -14,21 +14,21 @@ use Rattle.rc_position.specs.declared.comps.Comp.{Comp}
 use Rattle.rc_position.specs.declared.positions.Pos.{Pos}
 use Rattle.rc_position.specs.Position.{bytes_cmp, pos_cmp, row_pos, IsBefore}
 use Rattle.rc_ranges.specs.declared.pieces.Piece.{Piece}
-use Rattle.rc_schema.specs.Lists.{Lists}
+use Rattle.rc_schema.specs.SchemaValue.{SchemaValue}
 use Rattle.rc_mutation.specs.declared.fragments.Frag.{Frag}
 use Rattle.rc_mutation.specs.declared.fragments.Frag.TheVariants as frag
 use Rattle.rc_mutation.specs.declared.mutations.Mutation.{Mutation}
 use Rattle.rc_mutation.specs.declared.mutations.Partition.{Partition}
 use Rattle.rc_mutation.specs.Fragments.{fragments, is_written, begins_at, changes_of, placed_change, placed_row}
 use Rattle.rc_mutation.specs.Source.{IsMutation}
-use Rattle.rc_mutation.specs.Laws.FragMerge.{merge, merge_into, fragment_of, merge-in_order, rows-placed, changes-placed}
-use Rattle.rc_writes.specs.Allowed.{ChangeFits, IsBoundOf, IsRowOf}
-use Rattle.rc_canon.specs.Canonical.{clustered, IsBounded, IsCanonicalList}
-use Rattle.rc_canon.specs.Laws.Listed.{listed}
+use Rattle.rc_mutation.specs.laws.FragMerge.{merge, merge_into, fragment_of, merge-in_order, rows-placed, changes-placed}
+use Rattle.rc_writes.specs.Allowed.{ChangeFits, IsRangeBound, IsRowOf}
+use Rattle.rc_mutation.specs.Canonical.{rows_and_changes, IsBounded, IsCanonicalList}
+use Rattle.rc_mutation.specs.laws.CanonicalListed.{listed}
 use Rattle.rc_tfile.specs.Items.{Item, HeadItem, PartItem, RowItem, ChangeItem, EndItem, StopItem, EntryItem, BlockItem, TailItem, IsItem}
-use Rattle.rc_tfile.specs.Before.{Before, Between, Inside, text, followed_by, place, last_key, last_pos, in_force, IsNextKey}
-use Rattle.rc_tfile.specs.Blocks.{Entry, entries, entry_items, ending, rest, due}
-use Rattle.rc_tfile.specs.TableText.{MayStand, AllFit, frag_items, part_items, body, table, IsTable, PartsFit}
+use Rattle.rc_tfile.specs.Before.{ItemsBefore, Between, Inside, text, followed_by, item_place, last_key, last_pos, tomb_in_force, IsNextKey}
+use Rattle.rc_tfile.specs.Blocks.{DirectoryEntry, entries, entry_items, ending, rest_of_items, due}
+use Rattle.rc_tfile.specs.TableText.{MayStand, AllFit, frag_items, part_items, items_to_stop, whole_table, IsTable, PartsFit}
 use Rattle.rc_tfile.specs.laws.Drafts.{parts_of, body_is}
 use Rattle.rc_tfile.specs.laws.Follows.{all_append, by_recursion}
 
@@ -79,7 +79,7 @@ module _ (P : Frag → Type 0) where
   merged_so (a ∷ os) bs g h = merged_into a os g.0 g.1 (λ cs k. merged_so os cs g.1 k) bs h
 
   -- all rows and changes of a mutation
-  pub clustered_so : (m : Mutation) → IsMutation m → All AtRow m.rows → All AtBounds m.ranges → AllByRecursion P (clustered m)
+  pub clustered_so : (m : Mutation) → IsMutation m → All AtRow m.rows → All AtBounds m.ranges → AllByRecursion P (rows_and_changes m)
   clustered_so m is rows bounds =
       subst (λ (fs : List Frag). AllByRecursion P fs) (merge-in_order m.rows (changes_of m.ranges) (rows-placed m.rows is.rows.ascend) (changes-placed m.ranges is.ranges))
       (merged_so m.rows (changes_of m.ranges) (by_recursion AtRow m.rows rows) (changes_so m.ranges (by_recursion AtBounds m.ranges bounds)))
@@ -94,16 +94,16 @@ abbrev ended : List Frag → List Frag
 ended fs = fs ++ frag.End ∷ []
 
 -- the items of a mutation's fragments are those of its rows and changes, and the end
-shown : (m : Mutation) → flat_map frag_items (fragments m) ≡ flat_map frag_items (ended (clustered m))
+shown : (m : Mutation) → flat_map frag_items (fragments m) ≡ flat_map frag_items (ended (rows_and_changes m))
 unfolding fragments
 shown m =
-    elim (is_written m.statics) as (λ b. flat_map frag_items (ended (cond b (frag.Static m.statics ∷ []) [] ++ clustered m)) ≡ flat_map frag_items (ended (clustered m))) [
+    elim (is_written m.statics) as (λ b. flat_map frag_items (ended (cond b (frag.Static m.statics ∷ []) [] ++ rows_and_changes m)) ≡ flat_map frag_items (ended (rows_and_changes m))) [
       | true ↦ refl
       | false ↦ refl
     ]
 
 -- behind the end a part or the stop may come, and the key is the same
-place_ended : (fs : List Frag) (before : Before) → place (followed_by before (flat_map frag_items (ended fs))) ≡ Between
+place_ended : (fs : List Frag) (before : ItemsBefore) → item_place (followed_by before (flat_map frag_items (ended fs))) ≡ Between
 place_ended [] before = refl
 place_ended (frag.Start tomb ∷ fs) before = place_ended fs before
 place_ended (frag.Static row ∷ fs) before = place_ended fs before
@@ -111,7 +111,7 @@ place_ended (frag.Row key row ∷ fs) before = place_ended fs (RowItem key row �
 place_ended (frag.Change x tomb ∷ fs) before = place_ended fs (ChangeItem x tomb ∷ before)
 place_ended (frag.End ∷ fs) before = place_ended fs (EndItem ∷ before)
 
-key_ended : (fs : List Frag) (before : Before) → last_key (followed_by before (flat_map frag_items (ended fs))) ≡ last_key before
+key_ended : (fs : List Frag) (before : ItemsBefore) → last_key (followed_by before (flat_map frag_items (ended fs))) ≡ last_key before
 key_ended [] before = refl
 key_ended (frag.Start tomb ∷ fs) before = key_ended fs before
 key_ended (frag.Static row ∷ fs) before = key_ended fs before
@@ -120,25 +120,25 @@ key_ended (frag.Change x tomb ∷ fs) before = key_ended fs (ChangeItem x tomb �
 key_ended (frag.End ∷ fs) before = key_ended fs (EndItem ∷ before)
 
 -- behind the items of a partition
-abbrev behind : Before → Partition → Before
+abbrev behind : ItemsBefore → Partition → ItemsBefore
 behind before p = followed_by before (part_items p)
 
-place_behind : (before : Before) (p : Partition) → place (behind before p) ≡ Between
+place_behind : (before : ItemsBefore) (p : Partition) → item_place (behind before p) ≡ Between
 place_behind before p =
     let start = PartItem p.key p.change.pt p.change.statics ∷ before in
-    ap (λ xs. place (followed_by start xs)) (shown p.change) ∙ place_ended (clustered p.change) start
+    ap (λ xs. item_place (followed_by start xs)) (shown p.change) ∙ place_ended (rows_and_changes p.change) start
 
-key_behind : (before : Before) (p : Partition) → last_key (behind before p) ≡ Some p.key
+key_behind : (before : ItemsBefore) (p : Partition) → last_key (behind before p) ≡ Some p.key
 key_behind before p =
     let start = PartItem p.key p.change.pt p.change.statics ∷ before in
-    ap (λ xs. last_key (followed_by start xs)) (shown p.change) ∙ key_ended (clustered p.change) start
+    ap (λ xs. last_key (followed_by start xs)) (shown p.change) ∙ key_ended (rows_and_changes p.change) start
 
 -- the key of the first of some partitions comes next
-abbrev NextKey : Before → List Partition → Type 0
+abbrev NextKey : ItemsBefore → List Partition → Type 0
 NextKey before [] = ⊤
 NextKey before (p ∷ ps) = IsNextKey before p.key
 
-next_key : (before : Before) (p : Partition) (ps : List Partition) → T (below_all bytes_cmp p.key (list_map (λ (q : Partition). (q.key, q.change)) ps)) → NextKey (behind before p) ps
+next_key : (before : ItemsBefore) (p : Partition) (ps : List Partition) → T (below_all bytes_cmp p.key (list_map (λ (q : Partition). (q.key, q.change)) ps)) → NextKey (behind before p) ps
 next_key before p [] h = tt
 next_key before p (q ∷ ps) h =
     subst (λ (o : Option (List ℕ)). IfSome o (λ last. bytes_cmp last q.key ≡ Less)) (sym (key_behind before p))
@@ -162,33 +162,33 @@ all_of_map : {B : Type 0} (f : B → Item) → ((b : B) → IsBehindStop (f b)) 
 all_of_map f h [] = tt
 all_of_map f h (b ∷ bs) = (h b, all_of_map f h bs)
 
-entries_behind : (es : List Entry) → AllByRecursion IsBehindStop (flat_map entry_items es)
+entries_behind : (es : List DirectoryEntry) → AllByRecursion IsBehindStop (flat_map entry_items es)
 entries_behind [] = tt
 entries_behind (e ∷ es) = all_append IsBehindStop (entry_items e) (flat_map entry_items es) (tt, all_of_map BlockItem (λ b. tt) e.blocks) (entries_behind es)
 
-ending_behind : (before : Before) → AllByRecursion IsBehindStop (ending before)
+ending_behind : (before : ItemsBefore) → AllByRecursion IsBehindStop (ending before)
 ending_behind before = all_append IsBehindStop (flat_map entry_items (entries before)) _ (entries_behind (entries before)) (tt, tt)
 
-module _ (schema : Lists) where
+module _ (schema : SchemaValue) where
   -- each item may stand where it does
-  abbrev AllStand : Before → Type 0
+  abbrev AllStand : ItemsBefore → Type 0
   AllStand [] = ⊤
   AllStand (x ∷ before) = AllStand before × MayStand schema before x
 
   -- each of some items may stand behind others, in their order
-  abbrev Stand : Before → List Item → Type 0
+  abbrev Stand : ItemsBefore → List Item → Type 0
   Stand before [] = ⊤
   Stand before (x ∷ xs) = MayStand schema before x × Stand (x ∷ before) xs
 
-  stand_all : (before : Before) (xs : List Item) → AllStand before → Stand before xs → AllStand (followed_by before xs)
+  stand_all : (before : ItemsBefore) (xs : List Item) → AllStand before → Stand before xs → AllStand (followed_by before xs)
   stand_all before [] h g = h
   stand_all before (x ∷ xs) h g = stand_all (x ∷ before) xs (h, g.0) g.1
 
-  stand_append : (before : Before) (xs ys : List Item) → Stand before xs → Stand (followed_by before xs) ys → Stand before (xs ++ ys)
+  stand_append : (before : ItemsBefore) (xs ys : List Item) → Stand before xs → Stand (followed_by before xs) ys → Stand before (xs ++ ys)
   stand_append before [] ys h g = g
   stand_append before (x ∷ xs) ys h g = (h.0, stand_append (x ∷ before) xs ys h.1 g)
 
-  fit_of : (before : Before) → AllByRecursion IsItem before → AllStand before → AllFit schema before
+  fit_of : (before : ItemsBefore) → AllByRecursion IsItem before → AllStand before → AllFit schema before
   fit_of [] h g = tt
   fit_of (x ∷ before) h g = (fit_of before h.1 g.0, (h.0, g.1))
 
@@ -199,14 +199,14 @@ module _ (schema : Lists) where
   IsFragOf (frag.Start tomb) = ⊤
   IsFragOf (frag.Static row) = ⊤
   IsFragOf (frag.Row key row) = IsRowOf schema key row
-  IsFragOf (frag.Change x tomb) = IsBoundOf schema x
+  IsFragOf (frag.Change x tomb) = IsRangeBound schema x
   IsFragOf frag.End = ⊤
 
-  clustered_fit : (m : Mutation) → IsMutation m → ChangeFits schema m → AllByRecursion IsFragOf (clustered m)
+  clustered_fit : (m : Mutation) → IsMutation m → ChangeFits schema m → AllByRecursion IsFragOf (rows_and_changes m)
   clustered_fit m is fits = clustered_so IsFragOf m is fits.rows (λ k d lt. (let q = fits.ranges k d lt in (λ tomb. q.0, λ tomb. q.1)))
 
   -- a canonical list of rows and changes, and the end, may stand behind a place with that tombstone in force and that last position
-  frags_stand : (fs : List Frag) (tomb : Option Tomb) (last : Option Pos) (before : Before) → place before ≡ Inside → in_force before ≡ tomb → last_pos before ≡ last → IsCanonicalList tomb last fs → AllByRecursion IsFragOf fs
+  frags_stand : (fs : List Frag) (tomb : Option Tomb) (last : Option Pos) (before : ItemsBefore) → item_place before ≡ Inside → tomb_in_force before ≡ tomb → last_pos before ≡ last → IsCanonicalList tomb last fs → AllByRecursion IsFragOf fs
       → Stand before (flat_map frag_items (ended fs))
   frags_stand [] tomb last before p f l c h = ((p, f ∙ c), tt)
   frags_stand (frag.Start pt ∷ fs) tomb last before p f l c h = absurd c
@@ -223,16 +223,16 @@ module _ (schema : Lists) where
 
   -- ---- the partitions
 
-  part_stands : (p : Partition) (before : Before) → place before ≡ Between → IsNextKey before p.key → IsMutation p.change → ChangeFits schema p.change → Stand before (part_items p)
+  part_stands : (p : Partition) (before : ItemsBefore) → item_place before ≡ Between → IsNextKey before p.key → IsMutation p.change → ChangeFits schema p.change → Stand before (part_items p)
   part_stands p before b k is fits =
       let start = PartItem p.key p.change.pt p.change.statics ∷ before in
       let bounded : IsBounded p.change.ranges = λ j d lt. (let q = fits.ranges j d lt in (q.0.0, q.1.0)) in (
         (b, k, fits.statics),
         subst (λ (xs : List Item). Stand start xs) (sym (shown p.change))
-            (frags_stand (clustered p.change) None None start refl refl refl (listed p.change is bounded) (clustered_fit p.change is fits)),
+            (frags_stand (rows_and_changes p.change) None None start refl refl refl (listed p.change is bounded) (clustered_fit p.change is fits)),
       )
 
-  parts_stand : (parts : List Partition) (before : Before) → place before ≡ Between → NextKey before parts → T (is_sorted bytes_cmp (list_map (λ (p : Partition). (p.key, p.change)) parts))
+  parts_stand : (parts : List Partition) (before : ItemsBefore) → item_place before ≡ Between → NextKey before parts → T (is_sorted bytes_cmp (list_map (λ (p : Partition). (p.key, p.change)) parts))
       → AllByRecursion (λ p. IsMutation p.change) parts → AllByRecursion (λ p. ChangeFits schema p.change) parts → Stand before (flat_map part_items parts ++ StopItem ∷ [])
   parts_stand [] before b k s is fits = (b, tt)
   parts_stand (p ∷ ps) before b k s is fits =
@@ -245,11 +245,11 @@ module _ (schema : Lists) where
       is.1 fits.1))
 
   -- what is due may stand, one item behind another
-  due_stand : (xs : List Item) (before : Before) → due before ≡ xs → AllByRecursion IsBehindStop xs → Stand before xs
+  due_stand : (xs : List Item) (before : ItemsBefore) → due before ≡ xs → AllByRecursion IsBehindStop xs → Stand before xs
   due_stand [] before e h = tt
-  due_stand (EntryItem key off count ∷ xs) before e h = ((xs, e), due_stand xs (EntryItem key off count ∷ before) (ap rest e) h.1)
-  due_stand (BlockItem b ∷ xs) before e h = ((xs, e), due_stand xs (BlockItem b ∷ before) (ap rest e) h.1)
-  due_stand (TailItem off parts ∷ xs) before e h = ((xs, e), due_stand xs (TailItem off parts ∷ before) (ap rest e) h.1)
+  due_stand (EntryItem key off count ∷ xs) before e h = ((xs, e), due_stand xs (EntryItem key off count ∷ before) (ap rest_of_items e) h.1)
+  due_stand (BlockItem b ∷ xs) before e h = ((xs, e), due_stand xs (BlockItem b ∷ before) (ap rest_of_items e) h.1)
+  due_stand (TailItem off parts ∷ xs) before e h = ((xs, e), due_stand xs (TailItem off parts ∷ before) (ap rest_of_items e) h.1)
   due_stand (HeadItem other ∷ xs) before e h = absurd h.0
   due_stand (PartItem key pt statics ∷ xs) before e h = absurd h.0
   due_stand (RowItem key row ∷ xs) before e h = absurd h.0
@@ -262,18 +262,18 @@ module _ (schema : Lists) where
   first_key (p ∷ ps) = tt
 
   -- all items of partitions that fit may stand where they do
-  table_stands : (parts : List Partition) → PartsFit schema parts → All (λ p. IsMutation p.change) parts → AllStand (table schema parts)
+  table_stands : (parts : List Partition) → PartsFit schema parts → All (λ p. IsMutation p.change) parts → AllStand (whole_table schema parts)
   table_stands parts fits is =
-      let front : AllStand (body schema parts) =
+      let front : AllStand (items_to_stop schema parts) =
       stand_all (HeadItem schema ∷ []) (flat_map part_items parts ++ StopItem ∷ []) (tt, (refl, refl))
       (parts_stand parts (HeadItem schema ∷ []) refl (first_key parts) (test_of _ fits.ascend) (by_recursion (λ p. IsMutation p.change) parts is) (by_recursion (λ p. ChangeFits schema p.change) parts fits.each)) in
       let stop = StopItem ∷ parts_of schema parts in
-      let last : Stand (body schema parts) (ending (body schema parts)) = subst (λ (b : Before). Stand b (ending b)) (sym (body_is schema parts)) (due_stand (ending stop) stop refl (ending_behind stop)) in
-      stand_all (body schema parts) (ending (body schema parts)) front last
+      let last : Stand (items_to_stop schema parts) (ending (items_to_stop schema parts)) = subst (λ (b : ItemsBefore). Stand b (ending b)) (sym (body_is schema parts)) (due_stand (ending stop) stop refl (ending_behind stop)) in
+      stand_all (items_to_stop schema parts) (ending (items_to_stop schema parts)) front last
 
 -- partitions that a table of the schema can hold, each item of which is within its limits, are those of a table
-pub parts_make_a_table : (schema : Lists) (parts : List Partition) → PartsFit schema parts → All (λ p. IsMutation p.change) parts → AllByRecursion IsItem (table schema parts) → AllFit schema (table schema parts)
-parts_make_a_table schema parts fits is items = fit_of schema (table schema parts) items (table_stands schema parts fits is)
+pub parts_make_a_table : (schema : SchemaValue) (parts : List Partition) → PartsFit schema parts → All (λ p. IsMutation p.change) parts → AllByRecursion IsItem (whole_table schema parts) → AllFit schema (whole_table schema parts)
+parts_make_a_table schema parts fits is items = fit_of schema (whole_table schema parts) items (table_stands schema parts fits is)
 
-pub text_is_a_table : (schema : Lists) (parts : List Partition) → PartsFit schema parts → All (λ p. IsMutation p.change) parts → AllByRecursion IsItem (table schema parts) → IsTable (text (table schema parts)) schema parts
+pub text_is_a_table : (schema : SchemaValue) (parts : List Partition) → PartsFit schema parts → All (λ p. IsMutation p.change) parts → AllByRecursion IsItem (whole_table schema parts) → IsTable (text (whole_table schema parts)) schema parts
 text_is_a_table schema parts fits is items = record { spelled = refl; fit = parts_make_a_table schema parts fits is items }

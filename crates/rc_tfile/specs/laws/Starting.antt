@@ -3,10 +3,10 @@ use Rattle.std.proofs.Common.{◌≡◌, ℕ, ◌+◌, ◌≤◌, List, [], ◌�
 use Rattle.std.specs.Prelude.{IfSome}
 use Rattle.std.proofs.lemmas.List.{take_at, drop_at, take-append-drop, length-append, length-take-le}
 use Rattle.rc_cell.specs.declared.writes.Tomb.{Tomb}
-use Rattle.rc_rowcode.specs.Spelling.{Reads, optional_code, tomb_code, key_code, pos_code, row_code, IsTomb, IsKey, IsPos, IsCodedRow}
-use Rattle.rc_rowcode.specs.Laws.Codecs.{tomb_codec, optional_codec, key_codec, pos_codec}
-use Rattle.rc_rowcode.specs.Laws.RowCodec.{row_codec}
-use Rattle.rc_rowcode.specs.Laws.Read.{one_spelling}
+use Rattle.rc_rowcode.specs.Spelling.{ReadsPrefix, optional_code, tomb_code, key_code, pos_code, row_code, IsTomb, IsKey, IsPos, IsCodedRow}
+use Rattle.rc_rowcode.specs.laws.Codecs.{tomb_codec, optional_codec, key_codec, pos_codec}
+use Rattle.rc_rowcode.specs.laws.RowCodec.{row_codec}
+use Rattle.rc_rowcode.specs.laws.Read.{one_spelling}
 use Rattle.rc_tfile.specs.Items.{bytes_code, IsPartKey}
 use Rattle.rc_tfile.specs.Reading.{Starts}
 
@@ -15,7 +15,7 @@ abbrev pub PrefixFree : {X : Type 0} → (X → List ℕ) → (X → Type 0) →
 PrefixFree {X} code is = (a b : X) (x y : List ℕ) → is a → is b → code a ++ x ≡ code b ++ y → (a ≡ b) × (x ≡ y)
 
 -- what the readers of codes say, in these words
-pub from_reads : {X : Type 0} (code : X → List ℕ) (is : X → Type 0) (bytes : List ℕ) (found : Option (X × ℕ)) → Reads code is bytes found → Starts code is bytes found
+pub from_reads : {X : Type 0} (code : X → List ℕ) (is : X → Type 0) (bytes : List ℕ) (found : Option (X × ℕ)) → ReadsPrefix code is bytes found → Starts code is bytes found
 from_reads code is bytes None h = λ x more fits e. h x (length (code x)) fits (ap (take (length (code x))) e ∙ take_at (code x) more (length (code x)) refl)
 from_reads code is bytes (Some found) h = (h.0, sym (take-append-drop found.1 bytes) ∙ ap (λ t. t ++ drop found.1 bytes) h.1, h.2)
 

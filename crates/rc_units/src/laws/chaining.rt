@@ -13,15 +13,15 @@ ghost use Rattle.rc_core.specs.declared.entries.ChainKind.{ChainKind};
 ghost use Rattle.rc_core.specs.declared.entries.ChainKind.TheVariants.{Cache};
 ghost use Rattle.rc_core.specs.Version.{IsVersion, On, Version, end_position};
 ghost use Rattle.rc_core.specs.AtPlace.{HasEntryAt};
-ghost use Rattle.rc_core.specs.Chain.{IsKnown, cells, content};
-ghost use Rattle.rc_core.specs.Free.{IsLeft, free_entry, free_statics};
+ghost use Rattle.rc_core.specs.Chain.{IsKnown, states_at, content};
+ghost use Rattle.rc_core.specs.Free.{IsAbandoned, free_entry, free_statics};
 ghost use Rattle.rc_core.specs.Chains.{Chain, IsChainContinuous, IsMemtableChain, IsNeeded, IsUpdating, Shown, at_place, upto, with_versions};
 ghost use Rattle.rc_core.specs.Merge.{IsSeenAlike, new_version};
 ghost use Rattle.rc_core.specs.StandsFor.{StandsFor};
 ghost use Rattle.rc_core.specs.Steps.{IsCarriedIn, IsChain, pin_at, with_updating};
 ghost use Rattle.rc_units.specs.Chained.{Counts, IsKnownAsBefore, chain_left, number_left, objects_of, pins_left, units_counted};
 ghost use Rattle.rc_units.specs.Clean.{MayMerge, cleaned, cleaned_without_room};
-ghost use Rattle.rc_units.specs.Update.{IsFragmentOf, lost_from, place_of, updated};
+ghost use Rattle.rc_units.specs.Update.{IsFragmentOf, lost_from, unit_place, updated};
 
 /// The unit of the start, over an attached chain that is not under update, keeps the whole chain continuous, and carries what was carried. What the new
 /// phase says counts by its source.
@@ -43,14 +43,14 @@ pub fn an_update_begins_on_the_whole_chain()
 /// A unit with room goes from the place of its fragment to the next one's: the whole chain stays continuous, and what was carried is carried.
 pub fn a_unit_with_room_keeps_the_whole_chain()
     ensures chain { (below : ℕ → List Mutation) (change : Mutation) (c : Chain) (front : List Version) (under v : Version) → c.versions ≡ front ++ under ∷ v ∷ [] → IsChain c →
-        (force : Option Tomb) (f : Frag) (next : Place) → c.updating ≡ Some (place_of f) → IsFragmentOf change force f next → c.attached ≡ true →
+        (force : Option Tomb) (f : Frag) (next : Place) → c.updating ≡ Some (unit_place f) → IsFragmentOf change force f next → c.attached ≡ true →
         SameSource (below under.phase ++ change ∷ []) (below v.phase) → IsChainContinuous below c →
         IsChainContinuous below (with_updating (Some next) (with_versions (front ++ under ∷ updated force f next v ∷ []) c)) }
     ensures form { (below : ℕ → List Mutation) (change : Mutation) (c : Chain) (front : List Version) (under v : Version) → c.versions ≡ front ++ under ∷ v ∷ [] → IsChain c →
-        (force : Option Tomb) (f : Frag) (next : Place) → c.updating ≡ Some (place_of f) → IsFragmentOf change force f next →
+        (force : Option Tomb) (f : Frag) (next : Place) → c.updating ≡ Some (unit_place f) → IsFragmentOf change force f next →
         IsChain (with_updating (Some next) (with_versions (front ++ under ∷ updated force f next v ∷ []) c)) }
     ensures carried { (below : ℕ → List Mutation) (change : Mutation) (c : Chain) (front : List Version) (under v : Version) → c.versions ≡ front ++ under ∷ v ∷ [] → IsChain c →
-        (force : Option Tomb) (f : Frag) (next : Place) → c.updating ≡ Some (place_of f) → IsFragmentOf change force f next → IsChainContinuous below c →
+        (force : Option Tomb) (f : Frag) (next : Place) → c.updating ≡ Some (unit_place f) → IsFragmentOf change force f next → IsChainContinuous below c →
         (x : Pos) → IsCarriedIn c x → IsCarriedIn (with_updating (Some next) (with_versions (front ++ under ∷ updated force f next v ∷ []) c)) x }
 {}
 
@@ -125,7 +125,7 @@ pub fn a_freed_object_leaves_less()
 /// What is known as before was known at the position before, with the same content: it was flagged there, and where no row is seen the gap behind it was too.
 pub fn what_is_known_as_before_was_known()
     ensures { (before now : List Version) (x : Pos) → IsKnownAsBefore before now → IsKnown Cache now x →
-        IsKnown Cache before x × (content (cells (On x) now) ≡ content (cells (On x) before)) }
+        IsKnown Cache before x × (content (states_at (On x) now) ≡ content (states_at (On x) before)) }
 {}
 
 /// An object freed of a chain leaves a chain: an entry before the end, a static row, and of one that nobody finds or reads a version.
@@ -134,7 +134,7 @@ pub fn a_freed_object_leaves_a_chain()
         IsChain (with_versions (front ++ free_entry kind x v ∷ back) c) }
     ensures statics { (c : Chain) (front back : List Version) (v : Version) → c.versions ≡ front ++ v ∷ back → IsChain c → (kind : ChainKind) →
         IsChain (with_versions (front ++ free_statics kind v ∷ back) c) }
-    ensures version { (c : Chain) (front back : List Version) (v : Version) → c.versions ≡ front ++ v ∷ back → IsChain c → IsLeft c → IsChain (with_versions (front ++ back) c) }
+    ensures version { (c : Chain) (front back : List Version) (v : Version) → c.versions ≡ front ++ v ∷ back → IsChain c → IsAbandoned c → IsChain (with_versions (front ++ back) c) }
 {}
 
 /// What is put over versions is not seen below: a new version, that of an update, and what a unit makes of it leave what is seen at each older one.

@@ -6,8 +6,8 @@ ghost use Rattle.rc_position.specs.Position.{IsBefore, pos_cmp};
 ghost use Rattle.rc_core.specs.declared.entries.ChainKind.{ChainKind};
 ghost use Rattle.rc_core.specs.declared.entries.ChainKind.TheVariants.{Memtable};
 ghost use Rattle.rc_core.specs.declared.entries.Entry.{Entry};
-ghost use Rattle.rc_core.specs.Cell.{under};
-ghost use Rattle.rc_core.specs.Version.{Ascend, EndsWithDummy, Found, IsVersion, Spot, Version, cell_of, found, seen, spot_cmp};
+ghost use Rattle.rc_core.specs.SpotState.{under};
+ghost use Rattle.rc_core.specs.Version.{Ascend, EndsWithDummy, Finding, IsVersion, Spot, Version, state_of, found, seen, spot_cmp};
 ghost use Rattle.rc_core.specs.Change.{lose_first_gap, lost_mark};
 ghost use Rattle.rc_core.specs.Continuity.{EachOf, with_entries};
 ghost use Rattle.rc_core.specs.Merge.{Alike, IsMerged, IsSeenAlike, IsSilent};
@@ -15,8 +15,8 @@ ghost use Rattle.rc_units.specs.Clean.{clean_times, cleaned, cleaned_without_roo
 ghost use Rattle.rc_core.specs.Plain.{found_under, no_mark};
 
 /// What two versions say of a spot, the older one's put under the newer one's, says what is seen through both.
-pub fn one_cell_goes_under_another()
-    ensures { (older newer : Found) → Alike (cell_of (found_under older newer)) (under (cell_of older) (cell_of newer)) }
+pub fn one_state_goes_under_another()
+    ensures { (older newer : Finding) → Alike (state_of (found_under older newer)) (under (state_of older) (state_of newer)) }
 {}
 
 /// With the first entry of the older version, each spot before its successor is put under the newer version's, and says nothing more in the
@@ -29,9 +29,9 @@ pub fn a_merged_entry_goes_under_up_to_its_successor()
         (seen s (merge_entry e n newer) ≡ seen s newer) × (seen s (gap_said n ∷ back) ≡ seen s (e ∷ n ∷ back)) }
 {}
 
-/// Each sort of unit puts cells down: the static row; a first entry with its gap and the gap behind it, be it a row or a dummy; and the end
+/// Each sort of unit puts states down: the static row; a first entry with its gap and the gap behind it, be it a row or a dummy; and the end
 /// dummy, after which the older version says nothing.
-pub fn each_sort_of_unit_puts_cells_down()
+pub fn each_sort_of_unit_puts_states_down()
     ensures statics { (v w : Version) → IsMerged v w (statics_said v) (statics_onto v w) }
     ensures entry { (v w : Version) (e n : Entry) (back : List Entry) → v.entries ≡ e ∷ n ∷ back → IsVersion v → IsVersion w →
         IsMerged v w (with_entries (gap_said n ∷ back) v) (with_entries (merge_entry e n w.entries) w) }
@@ -53,7 +53,7 @@ pub fn a_unit_changes_nothing()
 /// A gap that says nothing changes nothing: no entry of the newer version before a merged entry whose gap says nothing, none between it and its successor where
 /// the successor's gap says nothing, and none behind the successor. So a merge walks no further than it must.
 pub fn a_gap_that_says_nothing_changes_nothing()
-    ensures spot { (newer : Found) → found_under (found no_mark None) newer ≡ newer }
+    ensures spot { (newer : Finding) → found_under (found no_mark None) newer ≡ newer }
     ensures before { (e n y : Entry) → e.gap ≡ no_mark → pos_cmp y.position e.position ≡ Less → entry_onto e n y ≡ y }
     ensures between { (e n y : Entry) → n.gap ≡ no_mark → pos_cmp y.position e.position ≡ Greater → entry_onto e n y ≡ y }
     ensures behind { (e n y : Entry) → IsBefore e.position n.position → pos_cmp y.position n.position ≡ Greater → entry_onto e n y ≡ y }

@@ -17,8 +17,8 @@ ghost use Rattle.rc_core.specs.Change.{position_of};
 ghost use Rattle.rc_core.specs.Continuity.{IsContinuous};
 ghost use Rattle.rc_core.specs.Merge.{new_version};
 ghost use Rattle.rc_core.specs.Unit.{IsGivenUp, IsStretch, IsUnit};
-ghost use Rattle.rc_core.specs.Version.{IsVersion, Spot, Version, cell_at, end_position, seen};
-ghost use Rattle.rc_units.specs.Update.{AreFragmentsOf, IsFragmentOf, Precedes, fragment_cell_at, lost_from, place_of, updated, updated_by};
+ghost use Rattle.rc_core.specs.Version.{IsVersion, Spot, Version, state_at, end_position, seen};
+ghost use Rattle.rc_units.specs.Update.{AreFragmentsOf, IsFragmentOf, Precedes, fragment_state_at, lost_from, unit_place, updated, updated_by};
 
 /// The canonical fragments of a mutation say what it says, each from its own place on and before the next one's.
 pub fn canonical_fragments_say_what_the_mutation_says()
@@ -28,9 +28,9 @@ pub fn canonical_fragments_say_what_the_mutation_says()
 /// From its own place on and before the next fragment's a fragment is put in, where nothing was said; every other spot is as it was.
 pub fn a_unit_puts_its_fragment_in()
     ensures before { (force : Option Tomb) (f : Frag) (next : Place) (v : Version) (s : Spot) → Precedes f next → IsVersion v →
-        place_cmp (Clustered (position_of s)) (place_of f) ≡ Less → seen s (updated force f next v).entries ≡ seen s v.entries }
-    ensures within { (force : Option Tomb) (f : Frag) (next : Place) (v : Version) (s : Spot) → Precedes f next → IsVersion v → IsSilentFrom (place_of f) v →
-        IsBefore (position_of s) end_position → IsStretch (place_of f) next (Clustered (position_of s)) → cell_at s (updated force f next v) ≡ fragment_cell_at force f s }
+        place_cmp (Clustered (position_of s)) (unit_place f) ≡ Less → seen s (updated force f next v).entries ≡ seen s v.entries }
+    ensures within { (force : Option Tomb) (f : Frag) (next : Place) (v : Version) (s : Spot) → Precedes f next → IsVersion v → IsSilentFrom (unit_place f) v →
+        IsBefore (position_of s) end_position → IsStretch (unit_place f) next (Clustered (position_of s)) → state_at s (updated force f next v) ≡ fragment_state_at force f s }
     ensures behind { (force : Option Tomb) (f : Frag) (next : Place) (v : Version) (s : Spot) → Precedes f next → IsVersion v →
         place_cmp (Clustered (position_of s)) next ≢ Less → seen s (updated force f next v).entries ≡ seen s v.entries }
     ensures end { (force : Option Tomb) (f : Frag) (next : Place) (v : Version) (s : Spot) → Precedes f next → IsVersion v →
@@ -39,9 +39,9 @@ pub fn a_unit_puts_its_fragment_in()
 
 /// The unit of a fragment of the update's mutation, on a version at the fragment's place, is a unit of the core: it leaves a version, at the next place.
 pub fn an_updates_unit_is_a_unit()
-    ensures unit { (change : Mutation) (force : Option Tomb) (f : Frag) (next : Place) (v : Version) → IsVersion v → IsAtPlace (place_of f) v →
-        IsFragmentOf change force f next → IsUnit (place_of f) next change v (updated force f next v) }
-    ensures at_place { (change : Mutation) (force : Option Tomb) (f : Frag) (next : Place) (v : Version) → IsVersion v → IsAtPlace (place_of f) v →
+    ensures unit { (change : Mutation) (force : Option Tomb) (f : Frag) (next : Place) (v : Version) → IsVersion v → IsAtPlace (unit_place f) v →
+        IsFragmentOf change force f next → IsUnit (unit_place f) next change v (updated force f next v) }
+    ensures at_place { (change : Mutation) (force : Option Tomb) (f : Frag) (next : Place) (v : Version) → IsVersion v → IsAtPlace (unit_place f) v →
         IsFragmentOf change force f next → IsAtPlace next (updated force f next v) }
     ensures version { (force : Option Tomb) (f : Frag) (next : Place) (v : Version) → IsVersion v → IsVersion (updated force f next v) }
     ensures phase { (force : Option Tomb) (f : Frag) (next : Place) (v : Version) → (updated force f next v).phase ≡ v.phase }

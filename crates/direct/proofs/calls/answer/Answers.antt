@@ -1,7 +1,7 @@
 -- What is answered, by what the line means; the command of a line fits the schema; and the program stands after a step, or after want of memory.
 use Rattle.std.proofs.Common.{◌≡◌, Some, Ok, Err, sym, subst}
-use Rattle.rc_lines.specs.Laws.FitsLaws.{commands_fit}
-use Rattle.rc_lines.specs.Grammar.{parse, Reads}
+use Rattle.rc_lines.specs.laws.FittingCommands.{commands_fit}
+use Rattle.rc_lines.specs.Grammar.{parse, ReadsLine}
 use Rattle.rc_lines.specs.declared.commands.Reply.TheVariants.{Refused}
 use Rattle.direct.proofs.Answering.{Answers, by_step, by_bad_line, by_refusal, stands_then}
 use Rattle.direct.proofs.calls.answer.Goals as goal
@@ -30,4 +30,4 @@ returns-in-Err-Refused-clause-answered g c =
     subst (λ r. Answers (g.W.Store.files c.args.store.now) c.args.machine.now c.args.line.now (g.W.Store.files c.args.store.now) c.args.machine.now (Refused r)) (sym c.in-Err-Refused.refusal-is)
     (by_refusal (g.W.Store.files c.args.store.now) c.args.machine.now c.args.line.now c.in-Err-Refused.refusal
     (subst (λ z. parse (Some z) c.args.line.now ≡ Err c.in-Err-Refused.refusal) c.schema.ensures
-    (subst (λ e. Reads (Err e) (parse (Some c.schema.result.now) c.args.line.now)) c.in-Err-Refused.field-0-is c.in-Err-Refused.ensures)))
+    (subst (λ e. ReadsLine (Err e) (parse (Some c.schema.result.now) c.args.line.now)) c.in-Err-Refused.field-0-is c.in-Err-Refused.ensures)))

@@ -1,6 +1,6 @@
 use Rattle.std.proofs.Common.{ap, ◌∙◌, ◌≡◌, ◌++◌, ◌⊎◌, ◌<◌, length, inl, inr, arith}
 use Rattle.std.proofs.lemmas.Grind.{common_steps}
-use Rattle.rc_cell.specs.Laws.Merge.{pick, picked, made-winners}
+use Rattle.rc_cell.specs.laws.Merge.{pick, picked, made-winners}
 use Rattle.rc_cell.proofs.columns.merged.Goals as goal
 use Rattle.rc_cell.proofs.columns.merged.Goals.{in_default, in_default-2}
 

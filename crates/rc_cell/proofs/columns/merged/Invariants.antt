@@ -1,6 +1,6 @@
 -- What is made, with what is left of both merged, is both merged; what is left is shorter each time.
 use Rattle.std.proofs.Common.{◌≡◌, ◌++◌, ◌+◌, length}
-use Rattle.rc_cell.specs.Laws.Merge.{merge}
+use Rattle.rc_cell.specs.laws.Merge.{merge}
 use Rattle.rc_cell.proofs.columns.merged.Given as goal
 
 abbrev pub invariant-loop-ours : goal.invariant-loop-ours

@@ -1,6 +1,6 @@
 -- The second wins exactly where the first is less.
 use Rattle.std.proofs.Common.{sym, ap, ◌∙◌, Some, cond}
-use Rattle.rc_cell.specs.Laws.Merge.{winner-pair}
+use Rattle.rc_cell.specs.laws.Merge.{winner-pair}
 use Rattle.rc_cell.proofs.columns.winning.Goals as goal
 
 pub returns-then-lt : goal.returns-then-lt

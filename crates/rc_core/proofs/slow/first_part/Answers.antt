@@ -1,5 +1,5 @@
 use Rattle.std.proofs.Common.{map, sym, ap, ◌∙◌}
-use Rattle.rc_position.specs.OrderLaws.{pos_cmp_same}
+use Rattle.rc_position.specs.laws.Orders.{pos_cmp_same}
 use Rattle.rc_cell.specs.declared.rows.Row.{Row}
 use Rattle.rc_cell.specs.declared.writes.Tomb.{Tomb}
 use Rattle.std.specs.Prelude.{Option}

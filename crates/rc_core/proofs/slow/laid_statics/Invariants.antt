@@ -1,13 +1,13 @@
 -- What is seen so far, with what is left over it, is what is seen through all.
 use Rattle.std.proofs.Common.{length, map}
-use Rattle.rc_core.specs.Cell.{through, under}
-use Rattle.rc_core.specs.Continuity.{static_cells}
+use Rattle.rc_core.specs.SpotState.{through, under}
+use Rattle.rc_core.specs.Continuity.{static_states}
 use Rattle.rc_core.specs.Merge.{Alike}
-use Rattle.rc_core.specs.Slow.{plain, seen_cell}
+use Rattle.rc_core.specs.Slow.{plain, seen_state}
 use Rattle.rc_core.proofs.slow.laid_statics.Given as goal
 
 abbrev pub invariant-loop-left : goal.invariant-loop-left
-invariant-loop-left l = Alike (under (seen_cell l.seen) (through (static_cells (map plain l.left)))) (through (static_cells (map plain l.versions)))
+invariant-loop-left l = Alike (under (seen_state l.seen) (through (static_states (map plain l.left)))) (through (static_states (map plain l.versions)))
 
 abbrev pub decreases-loop-left : goal.decreases-loop-left
 decreases-loop-left l = length l.left

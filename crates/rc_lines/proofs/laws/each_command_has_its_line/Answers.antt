@@ -1,5 +1,5 @@
 -- The law is a lemma.
-use Rattle.rc_lines.specs.Laws.HeardLines.{each_has_its_line}
+use Rattle.rc_lines.specs.laws.HeardLines.{each_has_its_line}
 use Rattle.rc_lines.proofs.laws.each_command_has_its_line.Goals as goal
 
 pub returns : goal.returns

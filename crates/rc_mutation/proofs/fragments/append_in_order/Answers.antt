@@ -1,7 +1,7 @@
 -- At the end one side is empty.
 use Rattle.std.proofs.Common.{◌++◌, ◌⊎◌, ◌<◌, length, inl, inr, arith, map, ap, ◌∙◌}
 use Rattle.rc_mutation.specs.declared.fragments.Frag.TheVariants as frag
-use Rattle.rc_mutation.specs.Laws.FragMerge.{made-in_order}
+use Rattle.rc_mutation.specs.laws.FragMerge.{made-in_order}
 use Rattle.rc_mutation.proofs.Places.{on_ok}
 use Rattle.rc_mutation.proofs.fragments.append_in_order.Goals as goal
 use Rattle.rc_mutation.proofs.fragments.append_in_order.Goals.{in_default, in_default-2}

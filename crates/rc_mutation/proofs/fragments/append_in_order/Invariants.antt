@@ -1,6 +1,6 @@
 -- What is made, with what is left of both merged, is what was there with both merged; what is left is shorter each time.
 use Rattle.std.proofs.Common.{◌≡◌, ◌++◌, ◌+◌, length, map}
-use Rattle.rc_mutation.specs.Laws.FragMerge.{merge, fragment_of}
+use Rattle.rc_mutation.specs.laws.FragMerge.{merge, fragment_of}
 use Rattle.rc_mutation.proofs.fragments.append_in_order.Given as goal
 
 abbrev pub invariant-loop-rows : goal.invariant-loop-rows

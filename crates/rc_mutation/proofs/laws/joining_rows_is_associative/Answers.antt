@@ -1,4 +1,4 @@
-use Rattle.rc_mutation.specs.RowsLaws.{joined_rows-append}
+use Rattle.rc_mutation.specs.laws.JoinedRows.{joined_rows-append}
 use Rattle.rc_mutation.proofs.laws.joining_rows_is_associative.Goals as goal
 
 pub returns : goal.returns

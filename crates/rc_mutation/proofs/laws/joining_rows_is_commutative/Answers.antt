@@ -1,4 +1,4 @@
-use Rattle.rc_mutation.specs.RowsLaws.{joined_rows-swap}
+use Rattle.rc_mutation.specs.laws.JoinedRows.{joined_rows-swap}
 use Rattle.rc_mutation.proofs.laws.joining_rows_is_commutative.Goals as goal
 
 pub returns : goal.returns

@@ -1,4 +1,4 @@
-use Rattle.rc_mutation.specs.SourceLaws.{IsJoinOf-none}
+use Rattle.rc_mutation.specs.laws.Sources.{IsJoinOf-none}
 use Rattle.rc_mutation.proofs.laws.no_writes_join_to_nothing.Goals as goal
 
 pub returns : goal.returns

@@ -3,7 +3,7 @@ use Rattle.std.proofs.Common.{◌-◌, ◌/◌, ℕ, [], length, take, drop, sym
 use Rattle.std.proofs.lemmas.Result.{IfOk-weaker}
 use Rattle.rc_mutation.specs.declared.mutations.Mutation.{Mutation}
 use Rattle.rc_mutation.specs.Source.{IsJoinOf}
-use Rattle.rc_mutation.specs.SourceLaws.{IsJoinOf-none}
+use Rattle.rc_mutation.specs.laws.Sources.{IsJoinOf-none}
 use Rattle.rc_plain.proofs.Numbers.{joined_none, joined_one, joined_parts, split}
 use Rattle.rc_plain.proofs.joining.+joined.Goals as goal
 

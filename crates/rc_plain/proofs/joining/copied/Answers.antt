@@ -2,7 +2,7 @@ use Rattle.std.proofs.Common.{◌∷◌, [], sym, subst}
 use Rattle.std.proofs.lemmas.Result.{IfOk-weaker}
 use Rattle.rc_mutation.specs.declared.mutations.Mutation.{Mutation}
 use Rattle.rc_mutation.specs.Source.{IsJoinOf}
-use Rattle.rc_mutation.specs.SourceLaws.{IsJoinOf-one}
+use Rattle.rc_mutation.specs.laws.Sources.{IsJoinOf-one}
 use Rattle.rc_plain.proofs.joining.copied.Goals as goal
 
 pub returns : goal.returns

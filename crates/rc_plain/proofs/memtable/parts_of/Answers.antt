@@ -4,7 +4,7 @@ use Rattle.std.specs.BTreeMap.{keys}
 use Rattle.std.specs.Map.Iter.{deref}
 use Rattle.std.proofs.lemmas.Map.Iter.{rest_more, rest_all}
 use Rattle.rc_mutation.specs.declared.mutations.Partition.{Partition}
-use Rattle.rc_plain.specs.Index.{IsPartOf}
+use Rattle.rc_plain.specs.calls.Index.{IsPartitionOf}
 use Rattle.rc_plain.proofs.Listed.{one_more, part_more, parts_are}
 use Rattle.rc_plain.proofs.memtable.parts_of.Goals as goal
 
@@ -17,7 +17,7 @@ loop-key-preserved c =
           subst (λ (ps : List Partition). map (λ (p : Partition). p.key) ps ++ c.next.new.self ≡ keys c.args.index.now) (sym c.in_ok-push.ensures.items)
           (one_more parts c.in_ok-part.part c.args.writes.now (keys c.args.index.now) c.loop-key.key-iterator c.next.new.self c.in-Some.key.now c.loop-key.invariant.keyed next c.in_ok-part.ensures.key);
       made =
-          subst (All (λ p. IsPartOf p c.args.writes.now)) (sym c.in_ok-push.ensures.items)
+          subst (All (λ p. IsPartitionOf p c.args.writes.now)) (sym c.in_ok-push.ensures.items)
           (part_more parts c.in_ok-part.part c.args.writes.now c.loop-key.invariant.made c.in_ok-part.ensures.change);
     }
 

@@ -1,4 +1,4 @@
-use Rattle.rc_position.specs.BoundLaws.{first_pos-least, last_pos-greatest}
+use Rattle.rc_position.specs.laws.Bounds.{first_pos-least, last_pos-greatest}
 use Rattle.rc_position.proofs.laws.no_bound_is_the_whole_partition.Goals as goal
 
 pub returns-clause-first : goal.returns-clause-first

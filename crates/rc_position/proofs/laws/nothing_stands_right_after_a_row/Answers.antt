@@ -1,4 +1,4 @@
-use Rattle.rc_position.specs.BoundLaws.{row_pos-next}
+use Rattle.rc_position.specs.laws.Bounds.{row_pos-next}
 use Rattle.rc_position.proofs.laws.nothing_stands_right_after_a_row.Goals as goal
 
 pub returns : goal.returns

@@ -1,4 +1,4 @@
-use Rattle.rc_position.specs.BoundLaws.{place_cmp_total, place_cmp_same}
+use Rattle.rc_position.specs.laws.Bounds.{place_cmp_total, place_cmp_same}
 use Rattle.rc_position.proofs.laws.places_are_totally_ordered.Goals as goal
 
 pub returns-clause-total : goal.returns-clause-total

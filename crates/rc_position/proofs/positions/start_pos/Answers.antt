@@ -1,7 +1,7 @@
 use Rattle.std.proofs.Common.{rules, ◌≡◌, MatchBool, sym, subst}
 use Rattle.rc_position.specs.declared.positions.Pos.{Pos}
 use Rattle.rc_position.specs.Position.{start_bound, IsBeforeRows, IsAfterRows}
-use Rattle.rc_position.specs.BoundLaws.{start_bound-rows}
+use Rattle.rc_position.specs.laws.Bounds.{start_bound-rows}
 use Rattle.rc_position.proofs.positions.start_pos.Goals as goal
 
 pub returns-clause-rows : goal.returns-clause-rows

@@ -4,7 +4,7 @@ use Rattle.std.specs.Option.{option_to_list}
 use Rattle.std.specs.List.{filter_map}
 use Rattle.rc_cell.specs.declared.rows.Row.{Row}
 use Rattle.rc_query.specs.Answer.{static_line}
-use Rattle.rc_query.specs.AnswerLaws.{answer-one, own_line}
+use Rattle.rc_query.specs.laws.Answers.{answer-one, own_line}
 use Rattle.rc_query.proofs.answers.answer_of.Goals as goal
 
 pub returns : goal.returns

@@ -1,6 +1,6 @@
 -- One row more gives its line, or nothing.
 use Rattle.std.proofs.Common.{◌<◌, length, get_or, ap, ◌∙◌, subst}
-use Rattle.rc_query.specs.AnswerLaws.{own_line}
+use Rattle.rc_query.specs.laws.Answers.{own_line}
 use Rattle.rc_query.proofs.Steps.{step-append}
 use Rattle.rc_query.proofs.answers.append_lines.Goals as goal
 

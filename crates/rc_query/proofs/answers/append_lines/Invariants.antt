@@ -1,7 +1,7 @@
 -- The lines of the rows before the index.
 use Rattle.std.proofs.Common.{◌≡◌, ◌++◌, take}
 use Rattle.std.specs.List.{filter_map}
-use Rattle.rc_query.specs.AnswerLaws.{own_line}
+use Rattle.rc_query.specs.laws.Answers.{own_line}
 use Rattle.rc_query.proofs.answers.append_lines.Given as goal
 
 abbrev pub invariant-loop-item : goal.invariant-loop-item

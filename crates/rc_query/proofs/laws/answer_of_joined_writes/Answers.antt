@@ -1,4 +1,4 @@
-use Rattle.rc_query.specs.AnswerLaws.{answer-joined}
+use Rattle.rc_query.specs.laws.Answers.{answer-joined}
 use Rattle.rc_query.proofs.laws.answer_of_joined_writes.Goals as goal
 
 pub returns : goal.returns

@@ -1,4 +1,4 @@
-use Rattle.rc_query.specs.CompactLaws.{compacted-answer, compacted-slice}
+use Rattle.rc_query.specs.laws.Compacting.{compacted-answer, compacted-slice}
 use Rattle.rc_query.proofs.laws.compactor_gives_the_answer.Goals as goal
 
 pub returns : goal.returns

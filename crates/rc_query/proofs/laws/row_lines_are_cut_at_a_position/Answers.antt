@@ -1,5 +1,5 @@
 -- The law is a lemma.
-use Rattle.rc_query.specs.Laws.Cuts.{lines-cut, lines-rest}
+use Rattle.rc_query.specs.laws.Cuts.{lines-cut, lines-rest}
 use Rattle.rc_query.proofs.laws.row_lines_are_cut_at_a_position.Goals as goal
 
 pub returns : goal.returns

@@ -1,5 +1,5 @@
-use Rattle.rc_ranges.specs.Laws.Covering.{cover-none}
-use Rattle.rc_ranges.specs.Laws.Determined.{cover-one}
+use Rattle.rc_ranges.specs.laws.Covering.{cover-none}
+use Rattle.rc_ranges.specs.laws.Determined.{cover-one}
 use Rattle.rc_ranges.proofs.laws.a_piece_deletes_what_it_covers.Goals as goal
 
 pub returns-clause-one : goal.returns-clause-one

@@ -1,4 +1,4 @@
-use Rattle.rc_ranges.specs.Laws.Covering.{cover-append}
+use Rattle.rc_ranges.specs.laws.Covering.{cover-append}
 use Rattle.rc_ranges.proofs.laws.pieces_together_have_the_greater.Goals as goal
 
 pub returns : goal.returns

@@ -1,7 +1,7 @@
 use Rattle.std.proofs.Common.{◌≡◌, ◌∷◌, [], ◌++◌, sym, ◌∙◌, ap, subst}
 use Rattle.std.specs.Prelude.{OnOk, List}
 use Rattle.rc_ranges.specs.declared.pieces.Piece.{Piece}
-use Rattle.rc_ranges.specs.Sweep.{extended}
+use Rattle.rc_ranges.specs.calls.Sweep.{extended}
 use Rattle.rc_ranges.proofs.Extending.{extended-last}
 use Rattle.rc_ranges.proofs.sweep.extend.Goals as goal
 

@@ -1,8 +1,8 @@
 use Rattle.std.proofs.Common.{◌≡◌, Some, None, sym, ap, ◌∙◌}
 use Rattle.std.specs.Option.{option_copied}
-use Rattle.rc_position.specs.BoundLaws.{first_pos-least}
-use Rattle.rc_ranges.specs.Sweep.{earlier, next_bound}
-use Rattle.rc_ranges.specs.Laws.Order.{gt-lt}
+use Rattle.rc_position.specs.laws.Bounds.{first_pos-least}
+use Rattle.rc_ranges.specs.calls.Sweep.{earlier, next_bound}
+use Rattle.rc_ranges.specs.laws.Order.{gt-lt}
 use Rattle.rc_ranges.proofs.Sweeping.{IsSwept-none, IsSwept-more, IsSwept-all, bounds-fall}
 use Rattle.rc_ranges.proofs.sweep.joined.Goals as goal
 

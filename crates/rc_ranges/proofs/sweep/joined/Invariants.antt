@@ -1,5 +1,5 @@
 use Rattle.std.proofs.Common.{◌+◌}
-use Rattle.rc_ranges.specs.Sweep.{bounds_left}
+use Rattle.rc_ranges.specs.calls.Sweep.{bounds_left}
 use Rattle.rc_ranges.proofs.Sweeping.{IsSwept}
 use Rattle.rc_ranges.proofs.sweep.joined.Given as goal
 

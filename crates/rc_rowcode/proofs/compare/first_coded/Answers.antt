@@ -1,6 +1,6 @@
 -- What is read first is the first of what is listed.
 use Rattle.std.proofs.Common.{sym, arith}
-use Rattle.rc_rowcode.specs.Views.{seen_comp}
+use Rattle.rc_rowcode.specs.calls.Views.{seen_comp}
 use Rattle.rc_rowcode.proofs.Comparing.{comps_end, comps_stuck, comps_step}
 use Rattle.rc_rowcode.proofs.compare.first_coded.Goals as goal
 

@@ -1,7 +1,7 @@
 -- What is left compares as the whole does.
 use Rattle.std.proofs.Common.{◌≡◌, length}
 use Rattle.rc_position.specs.Position.{prefix_cmp}
-use Rattle.rc_rowcode.specs.Comparing.{seen_comps}
+use Rattle.rc_rowcode.specs.calls.Comparing.{seen_comps}
 use Rattle.rc_rowcode.proofs.compare.order.Given as goal
 
 abbrev pub invariant-loop-left_weight : goal.invariant-loop-left_weight

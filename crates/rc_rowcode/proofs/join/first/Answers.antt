@@ -1,6 +1,6 @@
 -- What is read first is the first of what is listed.
 use Rattle.std.proofs.Common.{sym, arith}
-use Rattle.rc_rowcode.specs.Views.{seen_cell}
+use Rattle.rc_rowcode.specs.calls.Views.{seen_cell}
 use Rattle.rc_rowcode.proofs.Merging.{listed_end, listed_stuck, listed_step}
 use Rattle.rc_rowcode.proofs.join.first.Goals as goal
 

@@ -2,7 +2,7 @@
 use Rattle.std.proofs.Common.{length, ap, ◌∙◌, arith}
 use Rattle.rc_cell.specs.declared.rows.Row.{Row}
 use Rattle.rc_rowcode.specs.Spelling.{row_code}
-use Rattle.rc_rowcode.specs.Laws.JoinedSizes.{joined_code_short}
+use Rattle.rc_rowcode.specs.laws.JoinedSizes.{joined_code_short}
 use Rattle.rc_rowcode.proofs.Joins.{seen_coded, joined_parts, small_of_heads, size_of_parts}
 use Rattle.rc_rowcode.proofs.join.join_size.Goals as goal
 

@@ -1,7 +1,7 @@
 -- The cell of the least column is the first of the winners.
 use Rattle.std.proofs.Common.{sym}
-use Rattle.rc_rowcode.specs.Views.{seen_cell}
-use Rattle.rc_rowcode.specs.Joining.{seen_entries}
+use Rattle.rc_rowcode.specs.calls.Views.{seen_cell}
+use Rattle.rc_rowcode.specs.calls.Joining.{seen_entries}
 use Rattle.rc_rowcode.proofs.Merging.{none_left, ours_left, theirs_left, ours_first, theirs_first, both_first}
 use Rattle.rc_rowcode.proofs.join.step.Goals as goal
 

@@ -1,5 +1,5 @@
 -- The second wins exactly where the first is less.
-use Rattle.rc_rowcode.specs.Views.{seen_cell}
+use Rattle.rc_rowcode.specs.calls.Views.{seen_cell}
 use Rattle.rc_rowcode.proofs.Merging.{picked_by}
 use Rattle.rc_rowcode.proofs.join.winning.Goals as goal
 

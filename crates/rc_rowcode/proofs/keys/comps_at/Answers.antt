@@ -1,6 +1,6 @@
 -- Each component is the next of those that are read.
 use Rattle.std.proofs.Common.{sym}
-use Rattle.rc_rowcode.specs.Views.{seen_comp}
+use Rattle.rc_rowcode.specs.calls.Views.{seen_comp}
 use Rattle.rc_rowcode.proofs.Loops.{comps_go_on, comps_end, comps_done}
 use Rattle.rc_rowcode.proofs.keys.comps_at.Goals as goal
 

@@ -1,6 +1,6 @@
 -- A key within the limits has a code of at most 265 bytes.
 use Rattle.std.proofs.Common.{arith}
-use Rattle.rc_rowcode.specs.Laws.Sizes.{key_small}
+use Rattle.rc_rowcode.specs.laws.Sizes.{key_small}
 use Rattle.rc_rowcode.proofs.keys.key_size.Goals as goal
 
 pub comps_size-requires-clause-small : goal.comps_size-requires-clause-small

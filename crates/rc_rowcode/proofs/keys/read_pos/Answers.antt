@@ -1,8 +1,8 @@
 -- What the reader within the crate read is the value whose spelling is the prefix; where it read none, no prefix is one.
 use Rattle.std.proofs.Common.{arith}
-use Rattle.rc_rowcode.specs.Laws.Codecs.{pos_codec}
-use Rattle.rc_rowcode.specs.Laws.Limits.{key_limits}
-use Rattle.rc_rowcode.specs.Laws.Read.{left_within, reads_value, reads_none, none_read, some_read}
+use Rattle.rc_rowcode.specs.laws.Codecs.{pos_codec}
+use Rattle.rc_rowcode.specs.laws.Limits.{key_limits}
+use Rattle.rc_rowcode.specs.laws.Read.{left_within, reads_value, reads_none, none_read, some_read}
 use Rattle.rc_rowcode.proofs.keys.read_pos.Goals as goal
 
 pub returns-in_default-clause-value : goal.returns-in_default-clause-value

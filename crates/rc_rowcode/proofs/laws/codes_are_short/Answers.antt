@@ -1,6 +1,6 @@
 -- What has a code is within the limits.
-use Rattle.rc_rowcode.specs.Laws.Limits.{key_limits, row_limits}
-use Rattle.rc_rowcode.specs.Laws.Sizes.{key_code_small, pos_code_small, row_code_small}
+use Rattle.rc_rowcode.specs.laws.Limits.{key_limits, row_limits}
+use Rattle.rc_rowcode.specs.laws.Sizes.{key_code_small, pos_code_small, row_code_small}
 use Rattle.rc_rowcode.proofs.laws.codes_are_short.Goals as goal
 
 pub returns-clause-key : goal.returns-clause-key

@@ -1,4 +1,4 @@
-use Rattle.rc_rowcode.specs.Laws.JoinedSizes.{joined_code_short}
+use Rattle.rc_rowcode.specs.laws.JoinedSizes.{joined_code_short}
 use Rattle.rc_rowcode.proofs.laws.joined_code_is_no_longer.Goals as goal
 
 pub returns : goal.returns

@@ -1,6 +1,6 @@
 -- Reading gives back what was written.
-use Rattle.rc_rowcode.specs.Laws.RowCodec.{row_codec}
-use Rattle.rc_rowcode.specs.Laws.Read.{one_spelling}
+use Rattle.rc_rowcode.specs.laws.RowCodec.{row_codec}
+use Rattle.rc_rowcode.specs.laws.Read.{one_spelling}
 use Rattle.rc_rowcode.proofs.laws.one_code_of_a_row.Goals as goal
 
 pub returns : goal.returns

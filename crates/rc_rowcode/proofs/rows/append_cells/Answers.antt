@@ -1,6 +1,6 @@
 -- No more than 32 columns ascend.
 use Rattle.std.proofs.Common.{arith}
-use Rattle.rc_rowcode.specs.Laws.Sizes.{few_columns}
+use Rattle.rc_rowcode.specs.laws.Sizes.{few_columns}
 use Rattle.rc_rowcode.proofs.rows.append_cells.Goals as goal
 
 pub overflow_cast-cells : goal.overflow_cast-cells

@@ -1,7 +1,7 @@
 -- Each cell is the next of those that are read.
 use Rattle.std.proofs.Common.{sym, arith}
-use Rattle.rc_rowcode.specs.Views.{seen_cell}
-use Rattle.rc_rowcode.specs.Laws.RowCodec.{entries_ascend}
+use Rattle.rc_rowcode.specs.calls.Views.{seen_cell}
+use Rattle.rc_rowcode.specs.laws.RowCodec.{entries_ascend}
 use Rattle.rc_rowcode.proofs.Loops.{entries_go_on, entries_end, entries_done}
 use Rattle.rc_rowcode.proofs.rows.entries_at.Goals as goal
 

@@ -1,8 +1,8 @@
 -- What the reader within the crate read is the value whose spelling is the prefix; where it read none, no prefix is one.
 use Rattle.std.proofs.Common.{arith}
-use Rattle.rc_rowcode.specs.Laws.RowCodec.{row_codec}
-use Rattle.rc_rowcode.specs.Laws.Limits.{row_limits}
-use Rattle.rc_rowcode.specs.Laws.Read.{left_within, reads_value, reads_none, none_read, some_read}
+use Rattle.rc_rowcode.specs.laws.RowCodec.{row_codec}
+use Rattle.rc_rowcode.specs.laws.Limits.{row_limits}
+use Rattle.rc_rowcode.specs.laws.Read.{left_within, reads_value, reads_none, none_read, some_read}
 use Rattle.rc_rowcode.proofs.rows.read_row.Goals as goal
 
 pub returns-in_default-clause-value : goal.returns-in_default-clause-value

@@ -1,7 +1,7 @@
 -- What the reader within the crate read is the value whose spelling is the prefix; where it read none, no prefix is one.
 use Rattle.std.proofs.Common.{arith, sym}
-use Rattle.rc_rowcode.specs.Laws.Codecs.{tomb_codec}
-use Rattle.rc_rowcode.specs.Laws.Read.{left_within, reads_value, reads_none}
+use Rattle.rc_rowcode.specs.laws.Codecs.{tomb_codec}
+use Rattle.rc_rowcode.specs.laws.Read.{left_within, reads_value, reads_none}
 use Rattle.rc_rowcode.proofs.rows.read_tomb.Goals as goal
 
 pub returns-in_default-clause-value : goal.returns-in_default-clause-value

@@ -1,6 +1,6 @@
 -- A row within the limits has a code of at most 8599 bytes.
 use Rattle.std.proofs.Common.{arith}
-use Rattle.rc_rowcode.specs.Laws.Sizes.{cells_small}
+use Rattle.rc_rowcode.specs.laws.Sizes.{cells_small}
 use Rattle.rc_rowcode.proofs.rows.row_size.Goals as goal
 
 pub entries_size-cells-requires-clause-small : goal.entries_size-cells-requires-clause-small

@@ -1,4 +1,4 @@
-use Rattle.rc_schema.specs.Laws.Fitting.{dummy_within, entry_within, static_within}
+use Rattle.rc_schema.specs.laws.Fitting.{dummy_within, entry_within, static_within}
 use Rattle.rc_schema.proofs.laws.what_fits_is_no_larger_than_the_largest.Goals as goal
 
 pub returns-clause-dummy : goal.returns-clause-dummy

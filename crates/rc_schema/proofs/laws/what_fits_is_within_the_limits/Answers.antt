@@ -1,4 +1,4 @@
-use Rattle.rc_schema.specs.Laws.Fitting.{key_fits, cells_fit}
+use Rattle.rc_schema.specs.laws.Fitting.{key_fits, cells_fit}
 use Rattle.rc_schema.proofs.laws.what_fits_is_within_the_limits.Goals as goal
 
 pub returns-clause-key : goal.returns-clause-key

@@ -3,7 +3,7 @@ use Rattle.std.proofs.Common.{refl}
 use Rattle.std.specs.Ordering.{eq_by_cmp}
 use Rattle.std.proofs.lemmas.Slice.Eq.{slice_eq-Decides}
 use Rattle.rc_position.specs.Position.{bytes_cmp}
-use Rattle.rc_position.specs.OrderLaws.{bytes_cmp_total, bytes_cmp_same, eq_by_cmp-same}
+use Rattle.rc_position.specs.laws.Orders.{bytes_cmp_total, bytes_cmp_same, eq_by_cmp-same}
 use Rattle.rc_schema.proofs.schemas.are_same_names.Goals as goal
 
 pub returns : goal.returns

@@ -1,7 +1,7 @@
 -- A command is answered by its reply, and a refused line by its refusal.
 use Rattle.std.proofs.Common.{◌≡◌, ◌++◌, ◌∙◌, ap, sym, subst, Some, Ok, Err}
-use Rattle.rc_lines.specs.Laws.FitsLaws.{commands_fit}
-use Rattle.rc_lines.specs.Grammar.{parse, Reads}
+use Rattle.rc_lines.specs.laws.FittingCommands.{commands_fit}
+use Rattle.rc_lines.specs.Grammar.{parse, ReadsLine}
 use Rattle.rc_lines.specs.Texts.{reply_text}
 use Rattle.rc_shell.specs.Step.{served}
 use Rattle.rc_shell.proofs.Served.{served_ok}
@@ -33,7 +33,7 @@ pub returns-in_ok-print_refusal-in-Err-Refused : goal.returns-in_ok-print_refusa
 returns-in_ok-print_refusal-in-Err-Refused g c = λ old s.
     refusal_answered (g.W.Store.files c.args.store.now, g.W.Store.faults c.args.store.now, g.W.Store.asks c.args.store.now) c.args.machine.now old c.args.line.now c.args.text.now.items c.print_refusal.new.out.items c.in-Err-Refused.refusal s
     (subst (λ z. served (parse (Some z) c.args.line.now) ≡ Err c.in-Err-Refused.refusal) c.schema.ensures
-    (subst (λ e. Reads (Err e) (served (parse (Some c.schema.result.now) c.args.line.now))) c.in-Err-Refused.field-0-is c.in-Err-Refused.ensures.reads)) c.in_ok-print_refusal-in-Err-Refused.ensures.ok
+    (subst (λ e. ReadsLine (Err e) (served (parse (Some c.schema.result.now) c.args.line.now))) c.in-Err-Refused.field-0-is c.in-Err-Refused.ensures.reads)) c.in_ok-print_refusal-in-Err-Refused.ensures.ok
 
 pub returns-in_err-reply-in-Ok : goal.returns-in_err-reply-in-Ok
 returns-in_err-reply-in-Ok g c = λ old s.

@@ -1,6 +1,6 @@
 -- The words were refused, and that was said; memory ran out; or the input was served.
 use Rattle.std.proofs.Common.{◌≡◌, map, string_bytes, sym, ap, ◌∙◌, arith}
-use Rattle.rc_shell.specs.Step.{Seen, LineStep, Ends, Leaves, start}
+use Rattle.rc_shell.specs.Step.{StoreView, LineStep, EndsRun, LeavesStore, start_moment}
 use Rattle.rc_shell.specs.Words.{words_of}
 use Rattle.rc_shell.specs.declared.words.Words.TheVariants.{Run, Refused}
 use Rattle.rc_shell.proofs.Ending.{words_refused, memory_refused}
@@ -10,24 +10,24 @@ use Rattle.rc_shell.proofs.runs.run_with.Goals as goal
 pub returns-in-Refused-clause-run : goal.returns-in-Refused-clause-run
 returns-in-Refused-clause-run g c =
     let is : words_of (map string_bytes c.args.words.now) ≡ Refused = sym c.words_of.ensures ∙ c.in-Refused.is in
-    rw is (words_refused LineStep Ends Leaves 0 (start Refused _) c.args.limit c.push_last.result _ _ _ _ _ _ _ (begins_left Refused _) c.push_last.ensures)
+    rw is (words_refused LineStep EndsRun LeavesStore 0 (start_moment Refused _) c.args.limit c.push_last.result _ _ _ _ _ _ _ (begins_left Refused _) c.push_last.ensures)
 
 pub returns-in-Ok-clause-run : goal.returns-in-Ok-clause-run
 returns-in-Ok-clause-run g c =
     let is : words_of (map string_bytes c.args.words.now) ≡ Run c.in-Run.segments = sym c.words_of.ensures ∙ c.in-Run.is in
-    let store : Seen = (g.W.Store.files c.args.store.now, g.W.Store.faults c.args.store.now, g.W.Store.asks c.args.store.now) in
-    rw is (c.serve_input.ensures (start (Run c.in-Run.segments) store)
+    let store : StoreView = (g.W.Store.files c.args.store.now, g.W.Store.faults c.args.store.now, g.W.Store.asks c.args.store.now) in
+    rw is (c.serve_input.ensures (start_moment (Run c.in-Run.segments) store)
     (begins_stood c.new-in-Ok.result.server.machine (Run c.in-Run.segments) store (ap (λ s. s.machine) c.new-in-Ok.ensures.server ∙ c.new.ensures)) c.in-Run.segments)
 
 pub returns-in-Err-clause-run : goal.returns-in-Err-clause-run
 returns-in-Err-clause-run g c =
     let is : words_of (map string_bytes c.args.words.now) ≡ Run c.in-Run.segments = sym c.words_of.ensures ∙ c.in-Run.is in
-    rw is (memory_refused LineStep Ends Leaves c.in-Run.segments (start (Run c.in-Run.segments) _) c.args.limit _ _ _ _ _ (begins_left (Run c.in-Run.segments) _))
+    rw is (memory_refused LineStep EndsRun LeavesStore c.in-Run.segments (start_moment (Run c.in-Run.segments) _) c.args.limit _ _ _ _ _ (begins_left (Run c.in-Run.segments) _))
 
 pub serve_input-requires-clause-stands : goal.serve_input-requires-clause-stands
 serve_input-requires-clause-stands g c =
-    let store : Seen = (g.W.Store.files c.args.store.now, g.W.Store.faults c.args.store.now, g.W.Store.asks c.args.store.now) in
-    (start Refused store, begins_stood c.new-in-Ok.result.server.machine Refused store (ap (λ s. s.machine) c.new-in-Ok.ensures.server ∙ c.new.ensures))
+    let store : StoreView = (g.W.Store.files c.args.store.now, g.W.Store.faults c.args.store.now, g.W.Store.asks c.args.store.now) in
+    (start_moment Refused store, begins_stood c.new-in-Ok.result.server.machine Refused store (ap (λ s. s.machine) c.new-in-Ok.ensures.server ∙ c.new.ensures))
 
 pub serve_input-requires-clause-small : goal.serve_input-requires-clause-small
 serve_input-requires-clause-small g c = omega (arith, c.in-Ok.ensures, c.deref_mut.ensures.len)

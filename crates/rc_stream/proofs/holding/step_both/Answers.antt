@@ -3,7 +3,7 @@ use Rattle.std.proofs.Common.{sym, ap, ◌∙◌, subst, cond}
 use Rattle.rc_cell.specs.Greatest.{greater}
 use Rattle.rc_cell.specs.Orders.{tomb_cmp}
 use Rattle.rc_stream.specs.Merging.{changes_nothing, together}
-use Rattle.rc_stream.specs.Holding.{Took, dropped, held, row_of_both, told}
+use Rattle.rc_stream.specs.Holding.{TakesFirst, dropped, held, row_of_both, told}
 use Rattle.rc_stream.proofs.Held.{no_ours, no_theirs, one-place, paired-is, took-one, dropped-together, silent-ours, silent-theirs, place-together, row-first}
 use Rattle.rc_stream.proofs.holding.step_both.Goals as goal
 
@@ -21,7 +21,7 @@ returns-in-Some-Some-clause-ours c =
     let g = c.in-Some-Some.other in
     let a = together f g in
     let mid = c.take.new.self in
-    subst (λ s. Took s c.args.ours.now c.tell.new.self) (sym (c.tell.ensures.step ∙ ap (told t) c.together-frag.ensures))
+    subst (λ s. TakesFirst s c.args.ours.now c.tell.new.self) (sym (c.tell.ensures.step ∙ ap (told t) c.together-frag.ensures))
     (took-one c.args.ours.now mid c.tell.new.self f a t c.in-Some-Some.ensures.gives c.take.ensures.left c.take.ensures.tomb c.take.ensures.look c.tell.ensures.front
     (c.tell.ensures.look ∙ ap (λ b. cond (changes_nothing t b) (dropped b mid.look) mid.look) c.together-frag.ensures ∙ ap (λ l. cond (changes_nothing t a) l mid.look) (dropped-together f g mid.look))
     (silent-ours f g t)
@@ -35,7 +35,7 @@ returns-in-Some-Some-clause-theirs c =
     let a = together f g in
     let mid = c.take-2.new.self in
     let at = one-place f g (held c.args.ours.now) (held c.args.theirs.now) c.requires c.in-Some-Some.ensures.gives c.in-Some-Some.ensures'.gives in
-    subst (λ s. Took s c.args.theirs.now c.let_go.new.self) (sym (c.tell.ensures.step ∙ ap (told t) c.together-frag.ensures))
+    subst (λ s. TakesFirst s c.args.theirs.now c.let_go.new.self) (sym (c.tell.ensures.step ∙ ap (told t) c.together-frag.ensures))
     (took-one c.args.theirs.now mid c.let_go.new.self g a t c.in-Some-Some.ensures'.gives c.take-2.ensures.left c.take-2.ensures.tomb c.take-2.ensures.look c.let_go.ensures.front
     (c.let_go.ensures.look ∙ ap (λ b. cond b (dropped g mid.look) mid.look) (c.is_silent.ensures ∙ ap (changes_nothing t) c.together-frag.ensures))
     (silent-theirs f g t at)

@@ -1,6 +1,6 @@
 -- A round goes on from where the rounds before it came to.
 use Rattle.std.proofs.Common.{sym, ap, ◌∙◌, subst, Ok, None, true, false, arith}
-use Rattle.rc_stream.specs.Did.{Chain, OneCall, answered}
+use Rattle.rc_stream.specs.Did.{InTurn, OneCall, answered}
 use Rattle.std.specs.Prelude.{IfOk}
 use Rattle.rc_stream.specs.Holding.{IsStepUpto}
 use Rattle.rc_stream.specs.Moving.{HoldBoth, RoundReaches, StepLeaves}
@@ -40,7 +40,7 @@ loop-rounds-preserved g c =
     record {
       says = λ m b. subst (λ r. StepLeaves r c.args.upto.now m (HoldBoth (g.A.Frags.seen c.round.new.ours c.round.new.home c.round.new.store) c.round.new.ours_held (g.B.Frags.seen c.round.new.theirs c.round.new.home c.round.new.store) c.round.new.theirs_held)) passed (c.round.ensures.says m (c.loop-rounds.invariant.says m b));
       did = λ y covers. many-many (OneCall g.A.Frags.did g.B.Frags.did None y) (c.args.ours.now, c.args.theirs.now, c.args.home.now, c.args.store.now) (c.loop-rounds.ours, c.loop-rounds.theirs, c.loop-rounds.home, c.loop-rounds.store) (c.round.new.ours, c.round.new.theirs, c.round.new.home, c.round.new.store) (c.loop-rounds.invariant.did y covers)
-          (subst (λ r. Chain (OneCall g.A.Frags.did g.B.Frags.did None y) (answered r) (c.loop-rounds.ours, c.loop-rounds.theirs, c.loop-rounds.home, c.loop-rounds.store) (c.round.new.ours, c.round.new.theirs, c.round.new.home, c.round.new.store)) passed (c.round.ensures.did y (covers-on P0 P1 c.args.upto.now y c.loop-rounds.invariant.says covers)));
+          (subst (λ r. InTurn (OneCall g.A.Frags.did g.B.Frags.did None y) (answered r) (c.loop-rounds.ours, c.loop-rounds.theirs, c.loop-rounds.home, c.loop-rounds.store) (c.round.new.ours, c.round.new.theirs, c.round.new.home, c.round.new.store)) passed (c.round.ensures.did y (covers-on P0 P1 c.args.upto.now y c.loop-rounds.invariant.says covers)));
       ahead = λ x may. c.round.ensures.ahead x (subst (λ r. RoundReaches r x) (sym passed) tt) (c.loop-rounds.invariant.ahead x may);
       ahead_theirs = λ x may. c.round.ensures.ahead_theirs x (subst (λ r. RoundReaches r x) (sym passed) tt) (c.loop-rounds.invariant.ahead_theirs x may);
       ready = c.round.ensures.ready;

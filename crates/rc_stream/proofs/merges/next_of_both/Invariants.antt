@@ -2,7 +2,7 @@
 use Rattle.std.proofs.Common.{◌≡◌, ◌≤◌, ℕ, None, true}
 use Rattle.rc_position.specs.declared.positions.Pos.{Pos}
 use Rattle.rc_stream.specs.Stream.{Stream}
-use Rattle.rc_stream.specs.Did.{Covers, Many, OneCall}
+use Rattle.rc_stream.specs.Did.{ReachesEnd, Many, OneCall}
 use Rattle.rc_stream.specs.Moving.{HoldBoth, MaySeek, Moved}
 use Rattle.rc_stream.specs.Showing.{EitherSpot}
 use Rattle.rc_stream.proofs.merges.next_of_both.Given as goal
@@ -10,7 +10,7 @@ use Rattle.rc_stream.proofs.merges.next_of_both.Given as goal
 abbrev pub invariant-loop-rounds : goal.invariant-loop-rounds
 invariant-loop-rounds g l = record {
   says : (m : Stream) → HoldBoth (g.A.Frags.seen l.initial.ours l.initial.home l.initial.store) l.initial.ours_held (g.B.Frags.seen l.initial.theirs l.initial.home l.initial.store) l.initial.theirs_held m → HoldBoth (g.A.Frags.seen l.ours l.home l.store) l.ours_held (g.B.Frags.seen l.theirs l.home l.store) l.theirs_held m;
-  did : (y : Pos) → Covers (HoldBoth (g.A.Frags.seen l.initial.ours l.initial.home l.initial.store) l.initial.ours_held (g.B.Frags.seen l.initial.theirs l.initial.home l.initial.store) l.initial.theirs_held) l.upto y → Many (OneCall g.A.Frags.did g.B.Frags.did None y true) (l.initial.ours, l.initial.theirs, l.initial.home, l.initial.store) (l.ours, l.theirs, l.home, l.store);
+  did : (y : Pos) → ReachesEnd (HoldBoth (g.A.Frags.seen l.initial.ours l.initial.home l.initial.store) l.initial.ours_held (g.B.Frags.seen l.initial.theirs l.initial.home l.initial.store) l.initial.theirs_held) l.upto y → Many (OneCall g.A.Frags.did g.B.Frags.did None y true) (l.initial.ours, l.initial.theirs, l.initial.home, l.initial.store) (l.ours, l.theirs, l.home, l.store);
   ahead : (x : Pos) → MaySeek (g.A.Frags.ahead l.initial.ours) l.initial.ours_held.look x → MaySeek (g.A.Frags.ahead l.ours) l.ours_held.look x;
   ahead_theirs : (x : Pos) → MaySeek (g.B.Frags.ahead l.initial.theirs) l.initial.theirs_held.look x → MaySeek (g.B.Frags.ahead l.theirs) l.theirs_held.look x;
   ready : g.A.Frags.ready l.ours l.home l.store;

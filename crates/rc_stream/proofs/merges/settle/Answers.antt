@@ -2,7 +2,7 @@
 use Rattle.std.proofs.Common.{sym, subst, ◌∙◌, refl, Some, None, true, false}
 use Rattle.rc_position.specs.declared.positions.Pos.{Pos}
 use Rattle.std.specs.Prelude.{Option}
-use Rattle.rc_stream.specs.Did.{Chain, OneCall}
+use Rattle.rc_stream.specs.Did.{InTurn, OneCall}
 use Rattle.rc_stream.proofs.Chains.{chain-none}
 use Rattle.rc_stream.proofs.Due.{refused-seen, settled-ahead}
 use Rattle.rc_stream.specs.Showing.{EitherSpot}
@@ -27,11 +27,11 @@ returns-in-None-clause-did g c = λ y. chain-none (OneCall g.A.Frags.did g.B.Fra
 
 pub returns-in-Ok-clause-did : goal.returns-in-Ok-clause-did
 returns-in-Ok-clause-did g c = λ y.
-    subst (λ (d : Option Pos). Chain (OneCall g.A.Frags.did g.B.Frags.did d y) true (c.args.ours.now, c.args.theirs.now, c.args.home.now, c.args.store.now) (c.go_on_in_both.new.ours, c.go_on_in_both.new.theirs, c.go_on_in_both.new.home, c.go_on_in_both.new.store)) (sym (sym c.take.ensures.value ∙ c.in-Some.is)) (c.in-Ok.ensures.did y)
+    subst (λ (d : Option Pos). InTurn (OneCall g.A.Frags.did g.B.Frags.did d y) true (c.args.ours.now, c.args.theirs.now, c.args.home.now, c.args.store.now) (c.go_on_in_both.new.ours, c.go_on_in_both.new.theirs, c.go_on_in_both.new.home, c.go_on_in_both.new.store)) (sym (sym c.take.ensures.value ∙ c.in-Some.is)) (c.in-Ok.ensures.did y)
 
 pub returns-in-Err-clause-did : goal.returns-in-Err-clause-did
 returns-in-Err-clause-did g c = λ y.
-    subst (λ (d : Option Pos). Chain (OneCall g.A.Frags.did g.B.Frags.did d y) false (c.args.ours.now, c.args.theirs.now, c.args.home.now, c.args.store.now) (c.go_on_in_both.new.ours, c.go_on_in_both.new.theirs, c.go_on_in_both.new.home, c.go_on_in_both.new.store)) (sym (sym c.take.ensures.value ∙ c.in-Some.is)) (c.in-Err.ensures.did y)
+    subst (λ (d : Option Pos). InTurn (OneCall g.A.Frags.did g.B.Frags.did d y) false (c.args.ours.now, c.args.theirs.now, c.args.home.now, c.args.store.now) (c.go_on_in_both.new.ours, c.go_on_in_both.new.theirs, c.go_on_in_both.new.home, c.go_on_in_both.new.store)) (sym (sym c.take.ensures.value ∙ c.in-Some.is)) (c.in-Err.ensures.did y)
 
 pub returns-in-None-clause-damage : goal.returns-in-None-clause-damage
 returns-in-None-clause-damage g c = blames-none (EitherSpot (g.A.Frags.damage c.args.ours.now) (g.B.Frags.damage c.args.theirs.now)) _ tt

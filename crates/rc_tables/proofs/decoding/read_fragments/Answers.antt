@@ -4,7 +4,7 @@ use Rattle.std.proofs.lemmas.List.{take_rest}
 use Rattle.rc_mutation.specs.declared.fragments.Frag.{Frag}
 use Rattle.std.specs.Prelude.{IfSome}
 use Rattle.std.specs.List.{flat_map, AllByRecursion}
-use Rattle.rc_tables.specs.Rebuilt.{IsSpelled, frag_code}
+use Rattle.rc_tables.specs.Rebuilt.{IsSpellable, frag_code}
 use Rattle.rc_tables.proofs.Spelled.{Finds, Going, going_on, going_stops, going_ends, spelled_on, text_on}
 use Rattle.rc_tables.proofs.decoding.read_fragments.Goals as goal
 
@@ -20,13 +20,13 @@ pub loop-left-preserved : goal.loop-left-preserved
 loop-left-preserved c =
     let finds : Finds c.loop-left.left.now (Some (c.in-Some.frag, c.in-Some.size)) = subst (λ f. Finds c.loop-left.left.now f) c.in-Some.is c.in_ok-frag.ensures.value in
     let on = going_on c.args.bytes.now c.loop-left.made.items c.loop-left.left.now c.in-Some.frag c.in-Some.size c.loop-left.invariant.going (λ end. no_end (sym c.loop-left-test.true ∙ c.is_end.ensures.1 end)) finds in
-    let starts = subst (λ f. IfSome f (λ x. IsSpelled x.0 × (c.loop-left.left.now ≡ frag_code x.0 ++ drop x.1 c.loop-left.left.now))) c.in-Some.is c.in_ok-frag.ensures.starts in
+    let starts = subst (λ f. IfSome f (λ x. IsSpellable x.0 × (c.loop-left.left.now ≡ frag_code x.0 ++ drop x.1 c.loop-left.left.now))) c.in-Some.is c.in_ok-frag.ensures.starts in
     let items = sym c.in_ok-push.ensures.items in
     let rest = sym (take_rest c.loop-left.left.now c.in-Some.size) in
     record {
       going = subst (λ (m : List Frag). Going c.args.bytes.now m (take (length c.loop-left.left.now - c.in-Some.size) (drop c.in-Some.size c.loop-left.left.now))) items
           (subst (λ (l : List ℕ). Going c.args.bytes.now (c.loop-left.made.items ++ c.in-Some.frag ∷ []) l) rest on);
-      spelled = subst (AllByRecursion IsSpelled) items (spelled_on c.loop-left.made.items c.in-Some.frag c.loop-left.invariant.spelled starts.0);
+      spelled = subst (AllByRecursion IsSpellable) items (spelled_on c.loop-left.made.items c.in-Some.frag c.loop-left.invariant.spelled starts.0);
       text = text_on c.args.bytes.now c.loop-left.made.items c.loop-left.left.now c.in-Some.frag c.in-Some.size c.loop-left.invariant.text starts.1 ∙ (λ i. flat_map frag_code (items i) ++ rest i);
     }
 

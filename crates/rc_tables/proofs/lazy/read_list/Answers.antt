@@ -1,7 +1,7 @@
 -- What the tables say joins to one mutation, and so to one stream.
 use Rattle.std.proofs.Common.{◌≡◌, ap, sym, ◌∙◌}
 use Rattle.rc_mutation.specs.Fragments.{fragments}
-use Rattle.rc_mutation.specs.SourceLaws.{IsJoinOf-same}
+use Rattle.rc_mutation.specs.laws.Sources.{IsJoinOf-same}
 use Rattle.rc_stream.specs.Stream.{stream_of}
 use Rattle.rc_tables.specs.Tables.{changes_at}
 use Rattle.rc_tables.proofs.lazy.read_list.Goals as goal

@@ -5,9 +5,9 @@ use Rattle.std.specs.Cmp.{tied_itself}
 use Rattle.std.specs.Ordering.{is_eq, eq_by_cmp}
 use Rattle.std.proofs.lemmas.List.{take_rest}
 use Rattle.rc_position.specs.Position.{bytes_cmp}
-use Rattle.rc_position.specs.OrderLaws.{bytes_cmp_total}
+use Rattle.rc_position.specs.laws.Orders.{bytes_cmp_total}
 use Rattle.rc_tfile.specs.Items.{bytes_code}
-use Rattle.rc_tables.specs.Rebuilt.{number_at}
+use Rattle.rc_tables.specs.Rebuilt.{number_at_front}
 use Rattle.rc_tables.proofs.Spans.{entry_key, entry_number}
 use Rattle.rc_tables.proofs.locating.part_offset.Goals as goal
 
@@ -33,5 +33,5 @@ returns c = λ off at.
     let wanted : List ℕ × ℕ = (c.args.key.now, length (bytes_code c.args.key.now)) in
     let same : pair ≡ wanted = same_pair pair wanted (sym c.in-Some-2.is ∙ entry_key c.args.bytes.now c.in-Some.rest.now c.args.key.now off c.in_ok-found.field-0 c.in-Some.ensures (c.as_slice-limits.ensures.not_empty, c.as_slice-limits.ensures.short) c.in_ok-found.ensures.value at) in
     c.number_at.ensures
-    ∙ ap number_at (take_rest c.in-Some.rest.now c.in-Some-2.size)
+    ∙ ap number_at_front (take_rest c.in-Some.rest.now c.in-Some-2.size)
     ∙ entry_number c.args.bytes.now c.in-Some.rest.now c.args.key.now off c.in-Some-2.size c.in-Some.ensures (ap (λ (x : List ℕ × ℕ). x.1) same) at

@@ -2,10 +2,10 @@
 use Rattle.std.proofs.Common.{◌≡◌, ◌≤◌, ◌+◌, ◌++◌, List, length, map as list_map}
 use Rattle.std.specs.List.{AllByRecursion}
 use Rattle.rc_rowcode.specs.Spelling.{KeyFits}
-use Rattle.rc_schema.specs.Lists.{Lists}
+use Rattle.rc_schema.specs.SchemaValue.{SchemaValue}
 use Rattle.rc_tfile.specs.Items.{Item, BlockItem}
-use Rattle.rc_tfile.specs.Before.{Before}
-use Rattle.rc_tfile.specs.Windows.{IsOpen, reads_left}
+use Rattle.rc_tfile.specs.Before.{ItemsBefore}
+use Rattle.rc_tfile.specs.calls.Windows.{IsOpen, reads_left}
 use Rattle.rc_tfile.specs.Walking.{Awaits}
 use Rattle.rc_tfile.proofs.walking.check_blocks.Given as goal
 
@@ -18,7 +18,7 @@ invariant-loop-left g l = record {
   open_file : IsOpen (g.W.Store.files l.store) l.file;
   asks : g.W.Store.asks l.store + reads_left l.file ≤ g.W.Store.asks l.initial.store + reads_left l.initial.file;
   limits : AllByRecursion (λ b. KeyFits b.first.prefix) l.left;
-  next : (schema : Lists) (start : Before) (more : List Item) → Awaits (g.W.Store.files l.initial.store) schema start (list_map BlockItem l.blocks ++ more) l.initial.file → Awaits (g.W.Store.files l.store) schema start (list_map BlockItem l.left ++ more) l.file;
+  next : (schema : SchemaValue) (start : ItemsBefore) (more : List Item) → Awaits (g.W.Store.files l.initial.store) schema start (list_map BlockItem l.blocks ++ more) l.initial.file → Awaits (g.W.Store.files l.store) schema start (list_map BlockItem l.left ++ more) l.file;
 }
 
 abbrev pub decreases-loop-left : goal.decreases-loop-left

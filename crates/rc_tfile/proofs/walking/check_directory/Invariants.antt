@@ -2,10 +2,10 @@
 use Rattle.std.proofs.Common.{◌≡◌, ◌≤◌, ◌+◌, ◌++◌, List, length}
 use Rattle.std.specs.List.{flat_map}
 use Rattle.rc_tfile.specs.Blocks.{entry_items}
-use Rattle.rc_schema.specs.Lists.{Lists}
+use Rattle.rc_schema.specs.SchemaValue.{SchemaValue}
 use Rattle.rc_tfile.specs.Items.{Item}
-use Rattle.rc_tfile.specs.Before.{Before}
-use Rattle.rc_tfile.specs.Windows.{IsOpen, reads_left}
+use Rattle.rc_tfile.specs.Before.{ItemsBefore}
+use Rattle.rc_tfile.specs.calls.Windows.{IsOpen, reads_left}
 use Rattle.rc_tfile.specs.Walking.{Awaits}
 use Rattle.rc_tfile.proofs.walking.check_directory.Given as goal
 
@@ -17,7 +17,7 @@ invariant-loop-left g l = record {
   number : l.file.number ≡ l.initial.file.number;
   open_file : IsOpen (g.W.Store.files l.store) l.file;
   asks : g.W.Store.asks l.store + reads_left l.file ≤ g.W.Store.asks l.initial.store + reads_left l.initial.file;
-  next : (schema : Lists) (start : Before) (more : List Item) → Awaits (g.W.Store.files l.initial.store) schema start (flat_map entry_items l.entries ++ more) l.initial.file → Awaits (g.W.Store.files l.store) schema start (flat_map entry_items l.left ++ more) l.file;
+  next : (schema : SchemaValue) (start : ItemsBefore) (more : List Item) → Awaits (g.W.Store.files l.initial.store) schema start (flat_map entry_items l.entries ++ more) l.initial.file → Awaits (g.W.Store.files l.store) schema start (flat_map entry_items l.left ++ more) l.file;
 }
 
 abbrev pub decreases-loop-left : goal.decreases-loop-left

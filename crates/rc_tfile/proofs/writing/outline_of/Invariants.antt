@@ -3,7 +3,7 @@ use Rattle.std.proofs.Common.{[], ◌∷◌, take}
 use Rattle.std.specs.List.{flat_map, AllByRecursion}
 use Rattle.rc_tfile.specs.Items.{HeadItem, IsItem}
 use Rattle.rc_tfile.specs.Before.{followed_by}
-use Rattle.rc_tfile.specs.Outlined.{IsOutline}
+use Rattle.rc_tfile.specs.calls.Outlined.{IsOutline}
 use Rattle.rc_tfile.specs.TableText.{part_items}
 use Rattle.rc_tfile.proofs.writing.outline_of.Given as goal
 

@@ -3,7 +3,7 @@ use Rattle.std.proofs.Common.{ap, subst, arith, ◌∙◌}
 use Rattle.std.specs.List.{flat_map}
 use Rattle.rc_tfile.specs.Blocks.{entry_items}
 use Rattle.rc_tfile.specs.Info.{refs_from}
-use Rattle.rc_writes.specs.Laws.Within.{change-within}
+use Rattle.rc_writes.specs.laws.Within.{change-within}
 use Rattle.rc_tfile.specs.laws.Drafts.{refs_are, parts_of}
 use Rattle.rc_tfile.proofs.Widths.{AreItems, ending_items, table_items}
 use Rattle.rc_tfile.proofs.writing.plan_table.Goals as goal

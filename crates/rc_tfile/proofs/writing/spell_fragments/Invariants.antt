@@ -2,14 +2,14 @@
 use Rattle.std.proofs.Common.{◌≡◌, ◌++◌, take}
 use Rattle.std.specs.List.{flat_map, AllByRecursion}
 use Rattle.rc_tfile.specs.Items.{item_code, IsItem}
-use Rattle.rc_tfile.specs.Before.{Before, followed_by}
-use Rattle.rc_tfile.specs.Outlined.{IsOutline}
+use Rattle.rc_tfile.specs.Before.{ItemsBefore, followed_by}
+use Rattle.rc_tfile.specs.calls.Outlined.{IsOutline}
 use Rattle.rc_tfile.specs.TableText.{frag_items}
 use Rattle.rc_tfile.proofs.writing.spell_fragments.Given as goal
 
 abbrev pub invariant-loop-frag : goal.invariant-loop-frag
 invariant-loop-frag l = record {
-  outlined : (before : Before) → IsOutline before l.initial.outline → IsOutline (followed_by before (flat_map frag_items (take l.frag-index l.frags))) l.outline;
+  outlined : (before : ItemsBefore) → IsOutline before l.initial.outline → IsOutline (followed_by before (flat_map frag_items (take l.frag-index l.frags))) l.outline;
   items : AllByRecursion IsItem (flat_map frag_items (take l.frag-index l.frags));
   spelt : l.out.items ≡ l.initial.out.items ++ flat_map item_code (flat_map frag_items (take l.frag-index l.frags));
 }

@@ -1,7 +1,7 @@
 -- The part, then the canonical fragments, which are within the limits.
 use Rattle.std.proofs.Common.{subst, sym, ◌∙◌}
 use Rattle.std.specs.Prelude.{All}
-use Rattle.rc_tfile.specs.Limits.{FragFits}
+use Rattle.rc_tfile.specs.calls.Limits.{FragFits}
 use Rattle.rc_tfile.proofs.Limiting.{fragments_fit}
 use Rattle.rc_tfile.proofs.writing.spell_part.Goals as goal
 

@@ -1,6 +1,6 @@
 -- The pieces in order are the text of the table.
 use Rattle.std.proofs.lemmas.Result.{on_ok_weaker}
-use Rattle.rc_writes.specs.Laws.Within.{change-within}
+use Rattle.rc_writes.specs.laws.Within.{change-within}
 use Rattle.rc_tfile.specs.laws.Drafts.{table_built, parts_of}
 use Rattle.rc_tfile.proofs.Widths.{table_items}
 use Rattle.rc_tfile.proofs.writing.write_items.Goals as goal

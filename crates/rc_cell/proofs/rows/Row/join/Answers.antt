@@ -1,5 +1,5 @@
 -- Each part of the row is the joined row's.
-use Rattle.rc_cell.specs.Laws.Joined.{joined_of}
+use Rattle.rc_cell.specs.laws.Joined.{joined_of}
 use Rattle.rc_cell.proofs.rows.Row.join.Goals as goal
 
 pub returns-clause-ok : goal.returns-clause-ok

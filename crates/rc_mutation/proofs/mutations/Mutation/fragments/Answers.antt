@@ -3,7 +3,7 @@ use Rattle.std.proofs.Common.{[], ◌∷◌, ◌++◌, map, IsTrue, subst, sym, 
 use Rattle.std.specs.FinMap.{is_sorted}
 use Rattle.rc_mutation.specs.declared.fragments.Frag.TheVariants as frag
 use Rattle.rc_mutation.specs.Fragments.{changes_of, fragments, in_order, place_order, placed_change, placed_row, static_fragment}
-use Rattle.rc_mutation.specs.Laws.FragMerge.{rows-placed, changes-placed}
+use Rattle.rc_mutation.specs.laws.FragMerge.{rows-placed, changes-placed}
 use Rattle.rc_mutation.proofs.mutations.Mutation.fragments.Goals as goal
 
 pub append_in_order-requires-clause-rows : goal.append_in_order-requires-clause-rows

@@ -1,7 +1,7 @@
 -- Each part is that of both.
 use Rattle.std.proofs.Common.{[], ◌∷◌, ap, ◌∙◌}
 use Rattle.rc_cell.specs.Winner.{joined_row}
-use Rattle.rc_mutation.specs.SourceLaws.{joined_two}
+use Rattle.rc_mutation.specs.laws.Sources.{joined_two}
 use Rattle.rc_mutation.proofs.mutations.Mutation.join.Goals as goal
 
 pub returns-clause-ok : goal.returns-clause-ok

@@ -1,7 +1,7 @@
 -- There is something to flush, and a number for its table; then the writes are sealed.
 use Rattle.std.proofs.Common.{◌∙◌, All, sym, subst}
 use Rattle.std.proofs.lemmas.Result.{IfOk-weaker}
-use Rattle.rc_lines.specs.Fits.{Fits}
+use Rattle.rc_lines.specs.Fits.{CommandFits}
 use Rattle.rc_lines.specs.declared.commands.Command.TheVariants.{Put}
 use Rattle.rc_plain.specs.Stands.{Keeping}
 use Rattle.rc_plain.proofs.Tabled.{fresh, sealed_fit, takes_no_flush, takes_no_number, takes_written, stops_sealed, on_err_weaker}
@@ -9,7 +9,7 @@ use Rattle.rc_plain.proofs.plain.Plain.flush.Goals as goal
 
 pub write_sealed-requires-clause-fit : goal.write_sealed-requires-clause-fit
 write_sealed-requires-clause-fit g c =
-    subst (λ (k : Keeping). All (λ w. Fits k.schema (Put w)) k.sealed) (sym c.seal.ensures) (sealed_fit (g.W.Store.files c.args.store.now) c.args.self.now c.requires)
+    subst (λ (k : Keeping). All (λ w. CommandFits k.schema (Put w)) k.sealed) (sym c.seal.ensures) (sealed_fit (g.W.Store.files c.args.store.now) c.args.self.now c.requires)
 
 pub write_sealed-requires-clause-fresh : goal.write_sealed-requires-clause-fresh
 write_sealed-requires-clause-fresh g c = fresh (g.W.Store.files c.args.store.now) c.args.self.now c.in-Some.number c.requires c.in-Some.ensures.0

@@ -1,7 +1,7 @@
 -- The last table's number and one.
 use Rattle.std.proofs.Common.{Some, subst}
 use Rattle.rc_plain.specs.Stands.{Keeping}
-use Rattle.rc_plain.specs.Storing.{IsNextNumber}
+use Rattle.rc_plain.specs.calls.Storing.{IsNextNumber}
 use Rattle.rc_plain.proofs.Ahead.{number_after, number_first}
 use Rattle.rc_plain.proofs.plain.Plain.next_number.Goals as goal
 

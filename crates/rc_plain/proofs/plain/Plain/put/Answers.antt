@@ -1,6 +1,6 @@
 -- One write more.
 use Rattle.std.proofs.Common.{sym, subst}
-use Rattle.rc_lines.specs.Fits.{Fits}
+use Rattle.rc_lines.specs.Fits.{CommandFits}
 use Rattle.rc_lines.specs.declared.commands.Command.TheVariants.{Put}
 use Rattle.rc_lines.specs.declared.commands.Reply.TheVariants as replies
 use Rattle.rc_plain.specs.Stands.{Keeping}
@@ -9,4 +9,4 @@ use Rattle.rc_plain.proofs.plain.Plain.put.Goals as goal
 
 pub returns-clause-step : goal.returns-clause-step
 returns-clause-step c = λ files.
-    from (Put c.args.write) replies.Fine c.self.view_is (takes_put files _ c.args.write c.put.new.self (subst (λ (k : Keeping). Fits k.schema (Put c.args.write)) (sym c.self.view_is) c.requires) c.in_ok-put.ensures.ok)
+    from (Put c.args.write) replies.Fine c.self.view_is (takes_put files _ c.args.write c.put.new.self (subst (λ (k : Keeping). CommandFits k.schema (Put c.args.write)) (sym c.self.view_is) c.requires) c.in_ok-put.ensures.ok)

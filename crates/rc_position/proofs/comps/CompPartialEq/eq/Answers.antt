@@ -1,7 +1,7 @@
 use Rattle.std.proofs.Common.{rules, ◌≡◌}
 use Rattle.std.specs.Ordering.{eq_by_cmp}
 use Rattle.rc_position.specs.Position.{comp_cmp}
-use Rattle.rc_position.specs.OrderLaws.{comp_cmp_total, comp_cmp_same, eq_by_cmp-same}
+use Rattle.rc_position.specs.laws.Orders.{comp_cmp_total, comp_cmp_same, eq_by_cmp-same}
 use Rattle.rc_position.proofs.comps.CompPartialEq.eq.Goals as goal
 
 pub returns-clause-same : goal.returns-clause-same

@@ -1,7 +1,7 @@
 use Rattle.std.proofs.Common.{rules, ◌≡◌}
 use Rattle.std.specs.Ordering.{eq_by_cmp}
 use Rattle.rc_position.specs.Position.{key_cmp}
-use Rattle.rc_position.specs.OrderLaws.{key_cmp_total, key_cmp_same, eq_by_cmp-same}
+use Rattle.rc_position.specs.laws.Orders.{key_cmp_total, key_cmp_same, eq_by_cmp-same}
 use Rattle.rc_position.proofs.keys.KeyPartialEq.eq.Goals as goal
 
 pub returns-clause-same : goal.returns-clause-same

@@ -1,7 +1,7 @@
 use Rattle.std.proofs.Common.{rules, ◌≡◌}
 use Rattle.std.specs.Ordering.{eq_by_cmp}
 use Rattle.rc_position.specs.Position.{pos_cmp}
-use Rattle.rc_position.specs.OrderLaws.{pos_cmp_total, pos_cmp_same, eq_by_cmp-same}
+use Rattle.rc_position.specs.laws.Orders.{pos_cmp_total, pos_cmp_same, eq_by_cmp-same}
 use Rattle.rc_position.proofs.positions.PosPartialEq.eq.Goals as goal
 
 pub returns-clause-same : goal.returns-clause-same

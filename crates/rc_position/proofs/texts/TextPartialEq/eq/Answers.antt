@@ -1,7 +1,7 @@
 use Rattle.std.proofs.Common.{rules, ◌≡◌}
 use Rattle.std.specs.Ordering.{eq_by_cmp}
 use Rattle.rc_position.specs.Position.{bytes_cmp}
-use Rattle.rc_position.specs.OrderLaws.{bytes_cmp_total, bytes_cmp_same, eq_by_cmp-same}
+use Rattle.rc_position.specs.laws.Orders.{bytes_cmp_total, bytes_cmp_same, eq_by_cmp-same}
 use Rattle.rc_position.proofs.texts.TextPartialEq.eq.Goals as goal
 
 pub returns-clause-same : goal.returns-clause-same

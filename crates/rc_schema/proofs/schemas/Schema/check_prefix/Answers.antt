@@ -1,9 +1,9 @@
 -- What passes both tests is within the limits.
 use Rattle.std.proofs.Common.{◌≡◌, true, IsTrue, rules}
 use Rattle.std.specs.List.{list_all}
-use Rattle.rc_schema.specs.Lists.{is_schema}
+use Rattle.rc_schema.specs.SchemaValue.{is_schema}
 use Rattle.rc_schema.specs.Checks.{fits_kinds, is_short}
-use Rattle.rc_schema.specs.Laws.Fitting.{tested_key}
+use Rattle.rc_schema.specs.laws.Fitting.{tested_key}
 use Rattle.rc_schema.proofs.schemas.Schema.check_prefix.Goals as goal
 
 pub returns-clause-limits : goal.returns-clause-limits

@@ -1,5 +1,5 @@
 use Rattle.std.proofs.Common.{◌<◌, ◌≤◌, ◌∙◌, ◌++◌, ◌∷◌, [], length, arith, sym, ap}
-use Rattle.rc_shell.specs.Feed.{kept}
+use Rattle.rc_shell.specs.calls.Feed.{kept}
 use Rattle.rc_shell.proofs.Serving.{kept-push, kept-full}
 use Rattle.rc_shell.proofs.session.Session.hold.Goals as goal
 

@@ -1,6 +1,6 @@
 -- The held front decides what the line is answered, and that is what was pushed.
 use Rattle.std.proofs.Common.{◌≡◌, List, ℕ, ◌∙◌}
-use Rattle.rc_shell.specs.Feed.{kept}
+use Rattle.rc_shell.specs.calls.Feed.{kept}
 use Rattle.rc_shell.proofs.Held.{held_answered, held_unserved}
 use Rattle.rc_shell.proofs.session.Session.serve_held.Goals as goal
 

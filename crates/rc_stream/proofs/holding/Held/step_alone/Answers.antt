@@ -3,7 +3,7 @@ use Rattle.std.proofs.Common.{sym, ap, ◌∙◌, subst, cond}
 use Rattle.rc_cell.specs.Greatest.{greater}
 use Rattle.rc_cell.specs.Orders.{tomb_cmp}
 use Rattle.rc_stream.specs.Merging.{beside, changes_nothing}
-use Rattle.rc_stream.specs.Holding.{Took, dropped, held, told}
+use Rattle.rc_stream.specs.Holding.{TakesFirst, dropped, held, told}
 use Rattle.rc_stream.proofs.Held.{alone-is, took-none, took-one, dropped-beside, silent-beside, place-beside}
 use Rattle.rc_stream.proofs.holding.Held.step_alone.Goals as goal
 
@@ -22,7 +22,7 @@ returns-in-Some-clause-took c =
     let t = c.greater_tomb-before.result in
     let f = c.in-Some.frag in
     let a = beside c.args.other f in
-    subst (λ s. Took s c.args.self.now c.tell.new.self) (sym (c.tell.ensures.step ∙ ap (told t) c.beside.ensures))
+    subst (λ s. TakesFirst s c.args.self.now c.tell.new.self) (sym (c.tell.ensures.step ∙ ap (told t) c.beside.ensures))
     (took-one c.args.self.now c.take.new.self c.tell.new.self f a t c.in-Some.ensures.gives c.take.ensures.left c.take.ensures.tomb c.take.ensures.look c.tell.ensures.front
     (c.tell.ensures.look ∙ ap (λ b. cond (changes_nothing t b) (dropped b c.take.new.self.look) c.take.new.self.look) c.beside.ensures ∙ ap (λ l. cond (changes_nothing t a) l c.take.new.self.look) (dropped-beside c.args.other f c.take.new.self.look))
     (silent-beside t c.args.other f)

@@ -1,7 +1,6 @@
 -- The last of the tables is shown last.
-use Rattle.std.proofs.Common.{Some, Option, option_map, ap, ◌∙◌, ℕ}
+use Rattle.std.proofs.Common.{Some, Option, option_map, ap, ◌∙◌, ℕ, Global}
 use Rattle.std.specs.declared.rc.Rc.{Rc}
-use Rattle.std.proofs.Common.{Global}
 use Rattle.rc_tfile.specs.declared.info.TableInfo.{TableInfo}
 use Rattle.rc_tables.proofs.Numbered.{last_of}
 use Rattle.rc_tables.proofs.sets.TableSet.last_number.Goals as goal

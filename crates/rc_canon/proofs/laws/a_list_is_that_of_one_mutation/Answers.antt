@@ -1,6 +1,0 @@
--- The law is a lemma.
-use Rattle.rc_canon.proofs.Same.{same_clustered}
-use Rattle.rc_canon.proofs.laws.a_list_is_that_of_one_mutation.Goals as goal
-
-pub returns : goal.returns
-returns c = same_clustered

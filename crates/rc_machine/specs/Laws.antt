@@ -1,5 +1,0 @@
--- What is proved of the machine's steps and cited by other crates.
-pub mod Asking
-pub mod Changes
-pub mod Holding
-pub mod Folder

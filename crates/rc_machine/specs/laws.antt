@@ -1,0 +1,10 @@
+-- What is proved of the machine's steps and cited by other crates.
+pub mod Asking
+pub mod Changes
+pub mod Holding
+pub mod Folder
+pub mod FittingValues
+pub mod FittingBounds
+pub mod FittingJoins
+pub mod FittingKeys
+pub mod FittingParts

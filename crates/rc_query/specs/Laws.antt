@@ -1,4 +1,0 @@
--- The laws of answers, for crates above to cite.
-pub mod Cuts
-pub mod Life
-pub mod SameAnswer

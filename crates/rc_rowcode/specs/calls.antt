@@ -1,0 +1,5 @@
+-- What inner functions of this crate promise each other; no public clause speaks of it.
+pub mod Comparing
+pub mod Joining
+pub mod Reading
+pub mod Views

@@ -1,2 +1,0 @@
--- The laws of the checks, for crates above to cite.
-pub mod Fitting

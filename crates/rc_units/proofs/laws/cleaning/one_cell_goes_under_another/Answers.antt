@@ -1,5 +1,0 @@
-use Rattle.rc_units.proofs.Under.{found-alike}
-use Rattle.rc_units.proofs.laws.cleaning.one_cell_goes_under_another.Goals as goal
-
-pub returns : goal.returns
-returns c = found-alike
