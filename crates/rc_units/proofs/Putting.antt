@@ -231,7 +231,7 @@ module _ (force : Option Tomb) (next : Place) (v : Version) (i : IsVersion v) (s
       nothing_said (On x) = refl
       nothing_said (Behind x) = refl
   unit-within (frag.Row key row) p quiet w = row_within force next v i key row s (state-silent (seen s v.entries) (quiet.clustered s w.begun)) w.begun l w.short
-  unit-within (frag.Change from tomb) p silent w =
+  unit-within (frag.Change from tomb) p quiet w =
       ap state_of (raised-nothing force next v i s tomb from v.entries i.ends None (state-silent (seen s v.entries) (quiet.clustered s w.begun)) w.begun l w.short) ∙ said_of s
     where
       said_of : (s : Spot) → spot_state Inherit [] (option_to_list tomb) ≡ fragment_state_at force (frag.Change from tomb) s
