@@ -36,6 +36,7 @@ use Rattle.lsa_segment.specs.contracts.raw.Owned.{the_row as O}
 use Rattle.lsa_segment.specs.contracts.raw.Start.{the_row as St}
 use Rattle.lsa_segment.specs.contracts.raw.Right as D-type
 use Rattle.lsa_segment.proofs.Byte.{byte}
+use Rattle.lsa_segment.proofs.Emptied.{emptied}
 use Rattle.lsa_segment.specs.contracts.raw.deallocate as f
 use Rattle.lsa_segment.proofs.raw.deallocate.Statement.{statement}
 use Rattle.lsa_segment.proofs.raw.deallocate.Code as code
@@ -63,12 +64,9 @@ use Rattle.circular_buffer.proofs.Memory.{word_had, mark_had, value_out, to_room
 -- each byte becomes room
 unset : {M : Type 1} {𝓤 : Ura M} (𝓛 : Logic 𝓤) (bytes : List (Option ℕ)) (b o : ℕ) → ent 𝓤 (sem 𝓛 (slots byte_row b o bytes)) (sem 𝓛 (slots byte_row b o (replicate (length bytes) None)))
 unset {𝓤 = 𝓤} 𝓛 [] b o = id⊢ 𝓤 _
-unset {𝓤 = 𝓤} 𝓛 (None ∷ bytes) b o = qed 𝓛 (‵ (slot byte_row b o None) ∷ ‵ (slots byte_row b (o + sz byte) bytes) ∷ []) ∵ frame ! $ by ! (unset 𝓛 bytes b (o + sz byte))
-unset {𝓤 = 𝓤} 𝓛 (Some x ∷ bytes) b o =
-    qed 𝓛 (‵ (slot byte_row b o (Some x)) ∷ ‵ (slots byte_row b (o + sz byte) bytes) ∷ []) ∵
-    use1 𝓛 (some (λ (v : Val). given (Good (elτ byte) v) (‵ (fat full_share (elτ byte) b o v) ⊛ ‵ (byte.row.own_val x (v ∷ []))))) (value_out 0 byte.row byte.laws 𝓛 x b o) $
-    pick ! (λ v. learn ! (λ good. split ! $ use1 𝓛 (‵ (froom (elτ byte) b o)) (𝓛.laws.at_room (elτ byte) b o v) $ as_written ! (elτ byte) b o $ keep ! (0 ∷ 2 ∷ []) $
-    frame ! $ by ! (unset 𝓛 bytes b (o + sz byte))))
+unset {𝓤 = 𝓤} 𝓛 (place ∷ bytes) b o =
+    qed 𝓛 (‵ (slot byte_row b o place) ∷ ‵ (slots byte_row b (o + sz byte) bytes) ∷ []) ∵
+    use1 𝓛 (‵ (slot byte_row b o None)) (emptied 𝓛 place b o) $ frame ! $ by ! (unset 𝓛 bytes b (o + sz byte))
 
 pub deallocate_spec : {M : Type 1} → statement M
 deallocate_spec 𝓤 𝓛 𝓜 𝓡 wired A L g d dd met md =
