@@ -38,6 +38,13 @@ impl<const S: usize> Segments<S> {
         })
     }
 
+    /// How many segments there are.
+    pub fn count(&self) -> usize
+        ensures { result ≡ length self.now }
+    {
+        self.used.len()
+    }
+
     /// How many bytes of segment `n` are not used.
     pub fn room(&self, n: usize) -> usize
         requires { n < length self.now }
