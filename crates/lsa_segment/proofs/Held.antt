@@ -1,13 +1,13 @@
 -- The used bytes of equal parts of a block.
-use Rattle.std.proofs.Common.{◌≡◌, ◌≢◌, ℕ, zero, suc, ◌+◌, ◌-◌, ◌*◌, ◌^◌, ◌<◌, ◌≤◌, ◌⊎◌, inl, inr, List, [], ◌∷◌, ◌++◌, length, get_or, set, take, drop, map, replicate, Option, Some, None, refl, sym, ap, subst, ◌∙◌, arith, length-append, length-take, length-drop, length-set}
+use Rattle.std.proofs.Common.{◌≡◌, ◌≢◌, ℕ, zero, suc, ◌+◌, ◌-◌, ◌*◌, ◌^◌, ◌<◌, ◌≤◌, ◌⊎◌, inl, inr, List, [], ◌∷◌, ◌++◌, length, get_or, set, take, drop, map, replicate, Option, refl, sym, ap, subst, ◌∙◌, arith, length-append, length-drop, length-set}
 use Rattle.std.proofs.Math.Seq.{take-add}
 use Rattle.std.proofs.lemmas.Bool.{cases_eq, cases_lt}
 use Rattle.std.proofs.lemmas.Nat.{row_fits, mul-le}
-use Rattle.std.proofs.lemmas.List.{length-map, length-replicate, map-append, append-nil, append_assoc, take_at, take_all, drop_at, drop_all, take-append-le, drop-append-le, drop-drop, drop-take, take-take, take-map, drop-map, get_or-set_same, get_or-set_other, get_or-replicate, get_or_past, set-get_or, ext_get_or, length-take-le, get_or_read}
+use Rattle.std.proofs.lemmas.List.{length-map, length-replicate, map-append, append_assoc, take_at, take_all, drop-append-le, drop-drop, drop-take, take-take, take-map, get_or-set_same, get_or-set_other, get_or-replicate, get_or_past, set-get_or, ext_get_or, length-take-le, get_or_read}
 use Rattle.circular_buffer.specs.Places.{somes}
 use Rattle.lsa_segment.specs.Bytes.{part, overwritten}
 use Rattle.lsa_segment.specs.Places.{written, used_places, used_bytes, AreHeld}
-use Rattle.lsa_segment.proofs.Written.{some, somes-map, map-some, length-written, outside, middle-written, run-part, run-long}
+use Rattle.lsa_segment.proofs.Written.{some, somes-map, length-written, outside, middle-written, run-part, run-long}
 
 pub length-used_bytes : (size : ℕ) (used : List ℕ) (places : List (Option ℕ)) → length (used_bytes size used places) ≡ length used
 length-used_bytes size [] places = refl

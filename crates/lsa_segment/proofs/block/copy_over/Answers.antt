@@ -1,4 +1,4 @@
-use Rattle.std.proofs.Common.{◌+◌, [], ◌∷◌, length, take, drop, get_or, set, Some, sym, ap, ◌∙◌, arith}
+use Rattle.std.proofs.Common.{◌+◌, [], ◌∷◌, take, drop, get_or, set, Some, sym, ap, ◌∙◌, arith}
 use Rattle.std.proofs.lemmas.List.{take_all}
 use Rattle.circular_buffer.specs.Places.{somes}
 use Rattle.lsa_segment.specs.Places.{written}

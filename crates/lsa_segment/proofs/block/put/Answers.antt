@@ -1,5 +1,4 @@
-use Rattle.std.proofs.Common.{◌≡◌, ◌+◌, ◌≤◌, length, take, get_or, set, Some, refl, sym, ap, ◌∙◌, arith, length-take}
-use Rattle.lsa_segment.specs.Places.{written}
+use Rattle.std.proofs.Common.{◌+◌, ◌≤◌, length, take, get_or, set, Some, refl, sym, ap, ◌∙◌, arith, length-take}
 use Rattle.lsa_segment.proofs.Written.{length-written, next_byte}
 use Rattle.lsa_segment.proofs.block.put.Goals as goal
 

@@ -1,5 +1,5 @@
 -- `deallocate` forgets what the bytes are, and gives the block back by the right to do so. Assumes `Logic`.
-use Rattle.std.proofs.Common.{◌≡◌, ℕ, ◌+◌, List, [], ◌∷◌, ◌++◌, length, replicate, refl, sym, subst, ◌∙◌, w64, arith, lit<, Some, None}
+use Rattle.std.proofs.Common.{◌≡◌, ℕ, ◌+◌, List, [], ◌∷◌, ◌++◌, length, replicate, refl, sym, subst, ◌∙◌, w64, arith, lit<, None}
 use mir.Syntax.{Ty, Fn, Args, a_type, dcons, dnil, ty_array}
 use mir.Val.{Val, vint, vptr}
 use mir.MapTy.{inst_fn}
@@ -26,8 +26,7 @@ use Rattle.core.proofs.alloc.Calls.{Al}
 use Rattle.core.proofs.alloc.Shapes.{after}
 use Rattle.core.proofs.atomic.Steps.{fm}
 use Rattle.core.proofs.slots.Leases.{block_ty, block_size, block_align}
-use Rattle.std_alloc.proofs.RawLayout.{as_written}
-use Rattle.std_alloc.proofs.RcSteps.{Good, word, word-Good}
+use Rattle.std_alloc.proofs.RcSteps.{word, word-Good}
 use Rattle.std.proofs.raw_atomic.Walks.{proved_at, leaves}
 use Rattle.circular_buffer.specs.Ownership.{slots}
 use Rattle.circular_buffer.proofs.Memory.{sz, mark}
@@ -48,7 +47,7 @@ use mir.Syntax.{named, ty_unit}
 use mir.Val.{vunit, has_ty, WT}
 use seplogic.Ra.Ura.{Ura}
 use types.Logic.{Logic, sem}
-use types.Kit.{some, given, keep, pick, learn, frame, group, rewrite, fsplit3, feq_i, feq_l, flt_l}
+use types.Kit.{given, keep, learn, frame, group, rewrite, fsplit3, feq_i, feq_l, flt_l}
 use types.Part.{sub}
 use types.Run.{unit_lit, blocks}
 use types.ByLocal.{lands_last, take_at, give_at}
@@ -59,7 +58,7 @@ use Rattle.core.proofs.alloc.Calls.{token, Gives, at_gives, Gives-goes, Gives-Gi
 use Rattle.std_alloc.proofs.RawLayout.{as_raw}
 use Rattle.std.proofs.Common.{Option}
 use Rattle.circular_buffer.specs.Ownership.{slot, cells_own, deed_owns}
-use Rattle.circular_buffer.proofs.Memory.{word_had, mark_had, value_out, to_room}
+use Rattle.circular_buffer.proofs.Memory.{word_had, mark_had, to_room}
 
 -- each byte becomes room
 unset : {M : Type 1} {𝓤 : Ura M} (𝓛 : Logic 𝓤) (bytes : List (Option ℕ)) (b o : ℕ) → ent 𝓤 (sem 𝓛 (slots byte_row b o bytes)) (sem 𝓛 (slots byte_row b o (replicate (length bytes) None)))

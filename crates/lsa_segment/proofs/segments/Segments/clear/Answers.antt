@@ -1,7 +1,5 @@
-use Rattle.std.proofs.Common.{◌≡◌, ◌+◌, ◌*◌, ◌≤◌, ◌<◌, [], ◌++◌, length, get_or, set, replicate, refl, sym, ap, ◌∙◌, arith}
-use Rattle.lsa_segment.specs.Bytes.{part, overwritten}
-use Rattle.lsa_segment.proofs.Written.{map-some}
-use Rattle.lsa_segment.proofs.Held.{segment, known-used, lent, appended, replaced, cleared, none_held}
+use Rattle.std.proofs.Common.{arith}
+use Rattle.lsa_segment.proofs.Held.{known-used, cleared}
 use Rattle.lsa_segment.proofs.segments.Segments.clear.Goals as goal
 
 pub index_mut-requires : goal.index_mut-requires

@@ -1,9 +1,9 @@
-use Rattle.std.proofs.Common.{subst, length-take, length-drop, ◌≡◌, ◌+◌, ◌*◌, ◌≤◌, ◌<◌, [], ◌++◌, length, get_or, set, take, drop, replicate, refl, sym, ap, ◌∙◌, arith}
+use Rattle.std.proofs.Common.{subst, length-take, length-drop, ◌≡◌, ◌+◌, ◌*◌, [], length, get_or, set, take, drop, sym, ap, ◌∙◌, arith}
 use Rattle.circular_buffer.specs.Places.{somes}
-use Rattle.lsa_segment.specs.Bytes.{part, overwritten}
+use Rattle.lsa_segment.specs.Bytes.{part}
 use Rattle.lsa_segment.specs.Places.{written, used_bytes, AreHeld}
-use Rattle.lsa_segment.proofs.Written.{map-some, somes-map}
-use Rattle.lsa_segment.proofs.Held.{segment, known-used, lent, appended, replaced, cleared, none_held, counted, ends_apart}
+use Rattle.lsa_segment.proofs.Written.{somes-map}
+use Rattle.lsa_segment.proofs.Held.{segment, known-used, lent, appended, counted, ends_apart}
 use Rattle.lsa_segment.proofs.segments.Segments.copy.Goals as goal
 
 pub index-end-requires : goal.index-end-requires

@@ -1,7 +1,7 @@
-use Rattle.std.proofs.Common.{◌≡◌, ◌+◌, ◌*◌, ◌≤◌, ◌<◌, [], ◌++◌, length, get_or, set, replicate, refl, sym, ap, ◌∙◌, arith}
-use Rattle.lsa_segment.specs.Bytes.{part, overwritten}
+use Rattle.std.proofs.Common.{[], get_or, sym, ◌∙◌, arith}
+use Rattle.lsa_segment.specs.Bytes.{part}
 use Rattle.lsa_segment.proofs.Written.{map-some}
-use Rattle.lsa_segment.proofs.Held.{segment, known-used, lent, appended, replaced, cleared, none_held}
+use Rattle.lsa_segment.proofs.Held.{segment, lent}
 use Rattle.lsa_segment.proofs.segments.Segments.lend.Goals as goal
 
 pub overflow_mul-n : goal.overflow_mul-n

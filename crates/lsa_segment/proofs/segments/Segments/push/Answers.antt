@@ -1,9 +1,6 @@
-use Rattle.std.proofs.Common.{subst, ◌≡◌, ◌+◌, ◌*◌, ◌≤◌, ◌<◌, [], ◌++◌, length, get_or, set, take, drop, replicate, refl, sym, ap, ◌∙◌, arith}
-use Rattle.circular_buffer.specs.Places.{somes}
-use Rattle.lsa_segment.specs.Bytes.{part, overwritten}
+use Rattle.std.proofs.Common.{subst, ◌≡◌, ◌+◌, ◌*◌, length, get_or, set, sym, ap, ◌∙◌, arith}
 use Rattle.lsa_segment.specs.Places.{written, used_bytes, AreHeld}
-use Rattle.lsa_segment.proofs.Written.{map-some, somes-map}
-use Rattle.lsa_segment.proofs.Held.{segment, known-used, lent, appended, replaced, cleared, none_held, counted, ends_apart}
+use Rattle.lsa_segment.proofs.Held.{segment, known-used, appended, counted}
 use Rattle.lsa_segment.proofs.segments.Segments.push.Goals as goal
 
 pub index-offset-requires : goal.index-offset-requires

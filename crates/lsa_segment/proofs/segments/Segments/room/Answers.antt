@@ -1,9 +1,5 @@
-use Rattle.std.proofs.Common.{◌≡◌, ◌+◌, ◌*◌, ◌≤◌, ◌<◌, [], ◌++◌, length, get_or, set, take, drop, replicate, refl, sym, ap, ◌∙◌, arith}
-use Rattle.circular_buffer.specs.Places.{somes}
-use Rattle.lsa_segment.specs.Bytes.{part, overwritten}
-use Rattle.lsa_segment.specs.Places.{written, used_bytes, AreHeld}
-use Rattle.lsa_segment.proofs.Written.{map-some, somes-map}
-use Rattle.lsa_segment.proofs.Held.{segment, known-used, lent, appended, replaced, cleared, none_held, counted, ends_apart}
+use Rattle.std.proofs.Common.{arith}
+use Rattle.lsa_segment.proofs.Held.{segment, known-used, counted}
 use Rattle.lsa_segment.proofs.segments.Segments.room.Goals as goal
 
 pub index-requires : goal.index-requires
