@@ -16,7 +16,7 @@ use Rattle.lsa_store.specs.declared.place.Ref.{Ref}
 use Rattle.lsa_store.specs.Objects.{cells_of, cell_in, body_in, word_in, rounded_size, one_if_live, live_count, IsChangedIn, IsPutIn}
 use Rattle.lsa_store.specs.Stock.{stock_of, IsTaken, IsGivenBack}
 use Rattle.lsa_store.specs.Stored.{Stored, IsStored}
-use Rattle.lsa_store.specs.laws.Places.{apart_refs, there_and, changed-here, changed-others, changed-extent, changed-sum, put-elsewhere}
+use Rattle.lsa_store.specs.laws.Places.{apart_refs, there_and, and_map, changed-here, changed-others, changed-extent, changed-sum, put-elsewhere}
 use Rattle.lsa_store.specs.laws.Words.{IsObjectIn, object, word-same, body-same}
 use Rattle.lsa_store.specs.laws.Written.{object-and, and-object, made-fresh, made-here, made-unset, made-others, made-words, gone-here, gone-unset, gone-others}
 use Rattle.lsa_store.specs.laws.Books.{closed-apart, moved-stock}
@@ -33,10 +33,6 @@ use Rattle.lsa_region.specs.laws.Ends.{some_and_none, none_unless, past-links}
 use Rattle.lsa_region.specs.laws.Exchanges.{swap-other, at_end}
 use Rattle.lsa_region.proofs.Regions.{well-same}
 use Rattle.lsa_region.proofs.Sets.{shape-same, shape-then, end-kept}
-
-and_map : {X : Type 0} (o : Option X) (P Q : X → Type 0) → ((x : X) → P x → Q x) → IsSomeAnd o P → IsSomeAnd o Q
-and_map None P Q f p = p
-and_map (Some x) P Q f p = f x p
 
 -- a link of an object of this kind is there
 pub linked-there : (old now : List (List Cell)) (r x : Ref) (kind : Kind) (field : ℕ) → body_in now x ≡ body_in old r → IsSomeAnd (body_in old r) (λ b. b.0 ≡ kind) → field < links_of kind → IsSomeAnd (body_in now x) (λ b. field < links_of b.0)

@@ -90,10 +90,6 @@ swept-init size v n closed = record {
     first (c ∷ cells) = inr refl
 
 -- the cell at which the walk stands, before the end
-pub walk-stands : (cells : List Cell) (offset : ℕ) → offset < extent cells → (offset ≡ extent cells) ⊎ IsSome (cell_at cells offset) → IsSome (cell_at cells offset)
-walk-stands cells offset lt (inl e) = absurd (omega (arith, e, lt))
-walk-stands cells offset lt (inr some) = some
-
 cell_of : (o : Option Cell) → IsSome o → (c : Cell) × (o ≡ Some c)
 cell_of None some = cc
 cell_of (Some c) some = (c, refl)

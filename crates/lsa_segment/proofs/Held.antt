@@ -6,7 +6,7 @@ use Rattle.std.proofs.lemmas.Nat.{row_fits, mul-le}
 use Rattle.std.proofs.lemmas.List.{length-map, length-replicate, map-append, append_assoc, take_at, take_all, drop-append-le, drop-drop, drop-take, take-take, take-map, get_or-set_same, get_or-set_other, get_or-replicate, get_or_past, set-get_or, ext_get_or, length-take-le, get_or_read}
 use Rattle.circular_buffer.specs.Places.{somes}
 use Rattle.lsa_segment.specs.Bytes.{part, overwritten}
-use Rattle.lsa_segment.specs.Places.{written, used_places, used_bytes, AreHeld}
+use Rattle.lsa_segment.specs.Places.{written, used_places, used_bytes, AreLaid}
 use Rattle.lsa_segment.proofs.Written.{some, somes-map, length-written, outside, middle-written, run-part, run-long}
 
 pub length-used_bytes : (size : ℕ) (used : List ℕ) (places : List (Option ℕ)) → length (used_bytes size used places) ≡ length used
@@ -33,7 +33,7 @@ pub record IsSegment (size : ℕ) (places : List (Option ℕ)) (n count : ℕ) (
 pub reach : (size count : ℕ) → count ≤ 4096 → size ≤ 2 ^ 27 → count * size ≤ 2 ^ 39
 reach size count few small = let all : count * size ≤ 4096 * size = omega (arith, mul-le count size 4096 size few (omega arith)) in omega arith
 
-pub segment : (size : ℕ) (used : List ℕ) (places : List (Option ℕ)) (all : List (List ℕ)) (n : ℕ) → AreHeld size used places → used_bytes size used places ≡ all → n < length all
+pub segment : (size : ℕ) (used : List ℕ) (places : List (Option ℕ)) (all : List (List ℕ)) (n : ℕ) → AreLaid size used places → used_bytes size used places ≡ all → n < length all
     → IsSegment size places n (get_or used n 0) (get_or all n [])
 segment size used places all n h e less =
     let count = get_or used n 0 in let there : n < length used = omega (arith, ap length e, length-used_bytes size used places) in
@@ -67,7 +67,7 @@ apart size places n k new inside fits m ne count most =
     outside places (n * size + k) new (m * size) count (omega arith)
     (elim (cases_lt m n) [ inl lt ↦ inl (omega (arith, row_fits m size n size lt (omega arith))) | inr le ↦ let lt : n < m = omega (arith, ne) in inr (omega (arith, row_fits n size m size lt (omega arith))) ])
 
-places-now : (size : ℕ) (used : List ℕ) (places places' : List (Option ℕ)) (n count : ℕ) (bytes : List ℕ) (m : ℕ) → AreHeld size used places → n < length used → AreApart size places places' n
+places-now : (size : ℕ) (used : List ℕ) (places places' : List (Option ℕ)) (n count : ℕ) (bytes : List ℕ) (m : ℕ) → AreLaid size used places → n < length used → AreApart size places places' n
     → take count (drop (n * size) places') ≡ map some bytes → used_places size (set used n count) places' m ≡ map some (get_or (set (used_bytes size used places) n bytes) m [])
 places-now size used places places' n count bytes m h less others is =
     elim (cases_eq m n) [
@@ -88,9 +88,9 @@ most-now size used n count m most less fits =
       | inr ne ↦ omega (arith, get_or-set_other used n m count 0 ne, most m)
     ]
 
-pub changed : (size : ℕ) (used : List ℕ) (places places' : List (Option ℕ)) (all : List (List ℕ)) (n count : ℕ) (bytes : List ℕ) → AreHeld size used places → used_bytes size used places ≡ all → n < length all
+pub changed : (size : ℕ) (used : List ℕ) (places places' : List (Option ℕ)) (all : List (List ℕ)) (n count : ℕ) (bytes : List ℕ) → AreLaid size used places → used_bytes size used places ≡ all → n < length all
     → length places' ≡ length places → AreApart size places places' n → count ≤ size → take count (drop (n * size) places') ≡ map some bytes
-    → AreHeld size (set used n count) places' × (used_bytes size (set used n count) places' ≡ set all n bytes)
+    → AreLaid size (set used n count) places' × (used_bytes size (set used n count) places' ≡ set all n bytes)
 changed size used places places' all n count bytes h e less long others fits is =
     let there : n < length used = omega (arith, known-used size used places all e) in
     let now = λ (m : ℕ). places-now size used places places' n count bytes m h there others is in
@@ -109,9 +109,9 @@ changed size used places places' all n count bytes h e less long others fits is 
     )
 
 -- bytes behind those of a segment
-pub appended : (size : ℕ) (used : List ℕ) (places : List (Option ℕ)) (all : List (List ℕ)) (n : ℕ) (new : List ℕ) → AreHeld size used places → used_bytes size used places ≡ all → n < length all
+pub appended : (size : ℕ) (used : List ℕ) (places : List (Option ℕ)) (all : List (List ℕ)) (n : ℕ) (new : List ℕ) → AreLaid size used places → used_bytes size used places ≡ all → n < length all
     → length (get_or all n []) + length new ≤ size
-    → let count = get_or used n 0 in AreHeld size (set used n (count + length new)) (written places (n * size + count) new)
+    → let count = get_or used n 0 in AreLaid size (set used n (count + length new)) (written places (n * size + count) new)
     × (used_bytes size (set used n (count + length new)) (written places (n * size + count) new) ≡ set all n (get_or all n [] ++ new))
 appended size used places all n new h e less fits =
     let count = get_or used n 0 in let bytes = get_or all n [] in let s = segment size used places all n h e less in let at = n * size + count in
@@ -127,9 +127,9 @@ appended size used places all n new h e less fits =
     (apart size places n count new s.inside (omega (arith, s.long))) (omega (arith, s.long)) is
 
 -- bytes over those of a segment
-pub replaced : (size : ℕ) (used : List ℕ) (places : List (Option ℕ)) (all : List (List ℕ)) (n offset : ℕ) (new : List ℕ) → AreHeld size used places → used_bytes size used places ≡ all → n < length all
+pub replaced : (size : ℕ) (used : List ℕ) (places : List (Option ℕ)) (all : List (List ℕ)) (n offset : ℕ) (new : List ℕ) → AreLaid size used places → used_bytes size used places ≡ all → n < length all
     → offset + length new ≤ length (get_or all n [])
-    → AreHeld size used (written places (n * size + offset) new) × (used_bytes size used (written places (n * size + offset) new) ≡ set all n (overwritten (get_or all n []) offset new))
+    → AreLaid size used (written places (n * size + offset) new) × (used_bytes size used (written places (n * size + offset) new) ≡ set all n (overwritten (get_or all n []) offset new))
 replaced size used places all n offset new h e less fits =
     let count = get_or used n 0 in let bytes = get_or all n [] in let s = segment size used places all n h e less in let base = n * size in let at = base + offset in
     let l = length new in let r = count - (offset + l) in let places' = written places at new in
@@ -149,11 +149,11 @@ replaced size used places all n offset new h e less fits =
     ∙ sym (map-append some (take offset bytes) (new ++ drop (offset + l) bytes) ∙ ap (λ x. map some (take offset bytes) ++ x) (map-append some new (drop (offset + l) bytes))) in
     let c = changed size used places places' all n count (overwritten bytes offset new) h e less (length-written places at new inside) (apart size places n offset new s.inside (omega (arith, s.long, s.most))) s.most is in
     let same : set used n count ≡ used = set-get_or used n 0 in
-    (subst (λ u. AreHeld size u places') same c.0, sym (ap (λ u. used_bytes size u places') same) ∙ c.1)
+    (subst (λ u. AreLaid size u places') same c.0, sym (ap (λ u. used_bytes size u places') same) ∙ c.1)
 
 -- no byte of a segment
-pub cleared : (size : ℕ) (used : List ℕ) (places : List (Option ℕ)) (all : List (List ℕ)) (n : ℕ) → AreHeld size used places → used_bytes size used places ≡ all → n < length all
-    → AreHeld size (set used n 0) places × (used_bytes size (set used n 0) places ≡ set all n [])
+pub cleared : (size : ℕ) (used : List ℕ) (places : List (Option ℕ)) (all : List (List ℕ)) (n : ℕ) → AreLaid size used places → used_bytes size used places ≡ all → n < length all
+    → AreLaid size (set used n 0) places × (used_bytes size (set used n 0) places ≡ set all n [])
 cleared size used places all n h e less = changed size used places places all n 0 [] h e less refl (λ m ne count most. refl) (omega arith) refl
 
 -- at first none is used
@@ -165,7 +165,7 @@ none-used : (count n : ℕ) → ◌≡◌ {A = ℕ} (get_or (replicate count 0) 
 none-used count n = elim (cases_lt n count) [ inl lt ↦ get_or-replicate count n 0 0 lt | inr le ↦ get_or_past (replicate count 0) n 0 (omega (arith, length-replicate {A = ℕ} count 0)) ]
 
 pub none_held : (size count : ℕ) (used : List ℕ) (places : List (Option ℕ)) → used ≡ replicate count 0 → length places ≡ count * size → count ≤ 4096 → size ≤ 2 ^ 27
-    → AreHeld size used places × (used_bytes size used places ≡ replicate count [])
+    → AreLaid size used places × (used_bytes size used places ≡ replicate count [])
 none_held size count used places e long few small =
     let none = λ (n : ℕ). ap (λ l. get_or l n 0) e ∙ none-used count n in (
       record {
@@ -180,7 +180,7 @@ none_held size count used places e long few small =
 
 -- ---- what calls ask
 
-pub counted : (size : ℕ) (used : List ℕ) (places : List (Option ℕ)) (all : List (List ℕ)) (n len end : ℕ) → AreHeld size used places → used_bytes size used places ≡ all → n < length all
+pub counted : (size : ℕ) (used : List ℕ) (places : List (Option ℕ)) (all : List (List ℕ)) (n len end : ℕ) → AreLaid size used places → used_bytes size used places ≡ all → n < length all
     → len ≡ length used → end ≡ get_or used n end → (end ≡ get_or used n 0) × (end ≡ length (get_or all n [])) × (n < len)
 counted size used places all n len end h e less long is =
     let s = segment size used places all n h e less in let there : n < length used = omega (arith, known-used size used places all e) in

@@ -16,7 +16,7 @@ used_bytes size [] places = []
 used_bytes size (count ∷ more) places = somes (take count places) ∷ used_bytes size more (drop size places)
 
 -- the block is the segments, and each used place of theirs is set
-pub record AreHeld (size : ℕ) (used : List ℕ) (places : List (Option ℕ)) : Type 0 where
+pub record AreLaid (size : ℕ) (used : List ℕ) (places : List (Option ℕ)) : Type 0 where
   pub total : length places ≡ length used * size
   pub most : (n : ℕ) → slice_index_or used n 0 ≤ size
   pub set : (n : ℕ) → used_places size used places n ≡ map Some (somes (used_places size used places n))

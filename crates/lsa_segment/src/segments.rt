@@ -16,13 +16,13 @@ pub struct Segments<const S: usize> {
 
 impl<const S: usize> Model for Segments<S> {
     ghost use Rattle.std.specs.Prelude.{ℕ, List};
-    ghost use Rattle.lsa_segment.specs.Places.{used_bytes, AreHeld};
+    ghost use Rattle.lsa_segment.specs.Places.{used_bytes, AreLaid};
 
     ghost Value = { List (List ℕ) };
 
     ghost view = { λ s. used_bytes S s.used.items s.block };
 
-    ghost invariant = { λ s. AreHeld S s.used.items s.block };
+    ghost invariant = { λ s. AreLaid S s.used.items s.block };
 }
 
 impl<const S: usize> Segments<S> {

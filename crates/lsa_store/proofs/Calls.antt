@@ -20,15 +20,11 @@ use Rattle.lsa_store.specs.declared.place.Ref.{Ref}
 use Rattle.lsa_store.specs.Objects.{cells_of, cell_in, body_in, rounded_size, live_size, one_if_live, live_in, live_count, object_count, IsChangedIn, IsPutIn}
 use Rattle.lsa_store.specs.Stock.{IsGivenBack}
 use Rattle.lsa_store.specs.Stored.{Stored, IsStored, IsFitting}
-use Rattle.lsa_store.specs.laws.Places.{there_and, standing, changed-sum, changed-total, put-total}
+use Rattle.lsa_store.specs.laws.Places.{there_and, and_map, standing, changed-sum, changed-total, put-total}
 use Rattle.lsa_store.specs.laws.Words.{IsObjectIn, object, fresh-size}
 use Rattle.lsa_store.specs.laws.Written.{object-and, and-object, fitting-at, lie-size}
 use Rattle.lsa_store.specs.laws.Books.{active_inside, room-is, used-debit, room-same, closed-apart}
 use Rattle.lsa_store.proofs.Stores.{stored-changed, stored-killed, stored-put, stored-release}
-
-pub and-map : {X : Type 0} (o : Option X) (P Q : X → Type 0) → ((x : X) → P x → Q x) → IsSomeAnd o P → IsSomeAnd o Q
-and-map None P Q f p = p
-and-map (Some x) P Q f p = f x p
 
 -- ---- other bytes of a cell, as many
 
@@ -200,5 +196,5 @@ module _ (size : ℕ) (cells : List (List Cell)) (us : List Usage) (v : Stored) 
       → IsSomeAnd (body_in cells r) (λ b. extent (cells_of cells n) + size_of (fresh b.0 b.1) ≤ size)
   carried-fits n r taken is_active told room =
       let there : taken ≤ active_room size us = omega (arith, room, ap (λ (w : Stored). active_room size w.usages) is) in
-      and-map (body_in cells r) (λ b. rounded_size b.0 (length b.1) ≡ taken) (λ b. extent (cells_of cells n) + size_of (fresh b.0 b.1) ≤ size)
+      and_map (body_in cells r) (λ b. rounded_size b.0 (length b.1) ≡ taken) (λ b. extent (cells_of cells n) + size_of (fresh b.0 b.1) ≤ size)
       (λ b e. omega (arith, e, there, fresh-size b.0 b.1, room-is size us n is_active, s.filled n, s.sound.used n)) (at_parts r (λ b. rounded_size b.0 (length b.1) ≡ taken) told)

@@ -66,6 +66,14 @@ exchanged-tied old a b well differ tied = let back = well.mates a b tied in reco
   others = λ e no_a no_b. sym (map_other a b (old e) (λ x. let d = well.mates e a x in let same : b ≡ e = cc in no_b (sym same)) (λ x. let d = well.mates e b x in let same : a ≡ e = cc in no_a (sym same)));
 }
 
+-- two ends that name nothing stay
+pub exchanged-unset : (old : End → Option End) (a b : End) → WellPaired old → old a ≡ None → old b ≡ None → IsExchanged old old a b
+exchanged-unset old a b well none_a none_b = record {
+  first = none_a ∙ sym (ap (option_map (swapped a b)) none_b);
+  second = none_b ∙ sym (ap (option_map (swapped a b)) none_a);
+  others = λ e no_a no_b. sym (map_other a b (old e) (λ x. let clash = sym none_a ∙ well.mates e a x in cc) (λ x. let clash = sym none_b ∙ well.mates e b x in cc));
+}
+
 -- the exchange at any end
 pub at_end : (old new : End → Option End) (a b : End) → a ≢ b → IsExchanged old new a b → (e : End) → new e ≡ option_map (swapped a b) (old (swapped a b e))
 at_end old new a b differ x e = elim (ends_decided e a) [

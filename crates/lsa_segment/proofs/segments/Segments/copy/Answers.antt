@@ -1,7 +1,7 @@
 use Rattle.std.proofs.Common.{subst, length-take, length-drop, ◌≡◌, ◌+◌, ◌*◌, [], length, get_or, set, take, drop, sym, ap, ◌∙◌, arith}
 use Rattle.circular_buffer.specs.Places.{somes}
 use Rattle.lsa_segment.specs.Bytes.{part}
-use Rattle.lsa_segment.specs.Places.{written, used_bytes, AreHeld}
+use Rattle.lsa_segment.specs.Places.{written, used_bytes, AreLaid}
 use Rattle.lsa_segment.proofs.Written.{somes-map}
 use Rattle.lsa_segment.proofs.Held.{segment, known-used, lent, appended, counted, ends_apart}
 use Rattle.lsa_segment.proofs.segments.Segments.copy.Goals as goal
@@ -53,7 +53,7 @@ invariant_of-self g c =
     c.copy.ensures ∙ ap (λ k. written places (c.args.to * g.row.S + k) (somes (take c.args.len (drop (c.args.from * g.row.S + c.args.offset) places)))) u.0 ∙ ap (written places (c.args.to * g.row.S + get_or used c.args.to 0)) bytes in
     let counts : set used c.args.to (c.index-end.result.now + c.args.len) ≡ set used c.args.to (get_or used c.args.to 0 + length new) =
     ap (λ k. set used c.args.to (k + c.args.len)) u.0 ∙ ap (λ k. set used c.args.to (get_or used c.args.to 0 + k)) (sym long) in
-    subst (λ l. AreHeld g.row.S l c.copy.new.self) (sym counts) (subst (AreHeld g.row.S (set used c.args.to (get_or used c.args.to 0 + length new))) (sym is) r.0)
+    subst (λ l. AreLaid g.row.S l c.copy.new.self) (sym counts) (subst (AreLaid g.row.S (set used c.args.to (get_or used c.args.to 0 + length new))) (sym is) r.0)
 
 pub returns-clause-offset : goal.returns-clause-offset
 returns-clause-offset g c = let u = counted g.row.S c.self.inside.used.items c.self.inside.block c.args.self.now c.args.to c.self.inside.used.len c.index-end.result.now c.self.invariant c.self.view_is c.requires.to c.self.inside.used.ok.0 c.index-end.ensures in u.1

@@ -1,5 +1,5 @@
 use Rattle.std.proofs.Common.{subst, sym, ap, ◌∙◌, arith}
-use Rattle.lsa_segment.specs.Places.{used_bytes, AreHeld}
+use Rattle.lsa_segment.specs.Places.{used_bytes, AreLaid}
 use Rattle.lsa_segment.proofs.Held.{segment, replaced}
 use Rattle.lsa_segment.proofs.segments.Segments.write.Goals as goal
 
@@ -15,7 +15,7 @@ write-requires g c = let s = segment g.row.S c.self.inside.used.items c.self.ins
 pub invariant_of-self : goal.invariant_of-self
 invariant_of-self g c =
     let r = replaced g.row.S c.self.inside.used.items c.self.inside.block c.args.self.now c.args.n c.args.offset c.args.bytes.now c.self.invariant c.self.view_is c.requires.segment c.requires.inside in
-    subst (AreHeld g.row.S c.self.inside.used.items) (sym c.write.ensures) r.0
+    subst (AreLaid g.row.S c.self.inside.used.items) (sym c.write.ensures) r.0
 
 pub returns : goal.returns
 returns g c =
