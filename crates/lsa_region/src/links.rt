@@ -99,20 +99,6 @@ fn names(named: Option<End>, end: End) -> bool
     }
 }
 
-// Whether an end surely names nothing: its number is 0.
-fn is_unset<const S: usize>(store: &Store<S>, roots: &Slots, end: End) -> bool
-    requires { IsEndIn store.now.cells roots.now end }
-    ensures { result ≡ true → named_in store.now.cells roots.now end ≡ None }
-{
-    match end {
-        End::Obj(object, field) => store.word(object, field as usize) == 0,
-        End::Slot(root) => match roots.get(root.number) {
-            Some(_) => false,
-            None => true,
-        },
-    }
-}
-
 // Lets an end name another one, or nothing, and that one name it.
 fn point<const S: usize>(store: &mut Store<S>, roots: &mut Slots, end: End, mate: Option<End>)
     requires first { IsEndIn store.old.cells roots.old end }
@@ -147,9 +133,6 @@ pub(crate) fn exchange<const S: usize>(store: &mut Store<S>, roots: &mut Slots, 
     ensures usages { store.new.usages ≡ store.old.usages }
     ensures slots { slots_in roots.new ≡ slots_in roots.old }
 {
-    if is_unset(store, roots, a) && is_unset(store, roots, b) {
-        return;
-    }
     let first = named(store, roots, a);
     let second = named(store, roots, b);
     if !names(first, b) {

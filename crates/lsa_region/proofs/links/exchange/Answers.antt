@@ -1,6 +1,6 @@
-use Rattle.std.proofs.Common.{inl, inr, sym, ◌∙◌, arith}
+use Rattle.std.proofs.Common.{sym, ◌∙◌, arith}
 use Rattle.lsa_region.specs.Ends.{named_in, IsEndIn}
-use Rattle.lsa_region.specs.laws.Exchanges.{exchanged, exchanged-tied, exchanged-unset, all-some}
+use Rattle.lsa_region.specs.laws.Exchanges.{exchanged, exchanged-tied, all-some}
 use Rattle.lsa_region.proofs.links.exchange.Goals as goal
 
 pub point-requires : goal.point-requires
@@ -37,7 +37,3 @@ returns-then-not-names-clause-exchanged g c =
 pub returns-else-not-names-clause-exchanged : goal.returns-else-not-names-clause-exchanged
 returns-else-not-names-clause-exchanged g c =
     exchanged-tied (named_in c.args.store.now.cells c.args.roots.now) c.args.a c.args.b c.requires.paired c.requires.differ (sym c.named-first.ensures ∙ c.names.ensures.yes c.if-not-names.false)
-
-pub returns-then-is_unset-2-clause-exchanged : goal.returns-then-is_unset-2-clause-exchanged
-returns-then-is_unset-2-clause-exchanged g c =
-    exchanged-unset (named_in c.args.store.now.cells c.args.roots.now) c.args.a c.args.b c.requires.paired (c.is_unset.ensures c.if-is_unset.true) (c.is_unset-then-is_unset.ensures c.if-is_unset-2.true)
