@@ -5,6 +5,7 @@
 ghost use Rattle.std.specs.Prelude.{◌≡◌};
 ghost use Rattle.lsa_region.specs.Region.{slots_of};
 
+mod ties;
 mod works;
 
 use lsa_region::Region;
@@ -13,7 +14,7 @@ use std::{env, io};
 fn main(rt: HostRuntime) -> io::Result<()> {
     let words = env::args(&rt)?.skip(1).collect::<Vec<String>>(rt.alloc())?;
     let [work, number] = words.as_slice() else {
-        println!(rt; "words: open|fill|full|slots|moves SEGMENTS, 4 to 4096")?;
+        println!(rt; "words: open|fill|full|slots|links|moves SEGMENTS, 4 to 4096")?;
         return Ok(());
     };
     match number.as_str().parse::<u32>() {
@@ -48,8 +49,17 @@ fn serve(rt: &HostRuntime, region: &mut Region<4096>, work: &str) -> io::Result<
             works::change_slots(region, rt.alloc(), 1_000_000)?;
             println!(rt; "100000 slots made, and beside them 1000000 made and dropped")
         }
+        "links" => links(rt, region),
         "moves" => moves(rt, region),
         _ => println!(rt; "no such work"),
+    }
+}
+
+fn links(rt: &HostRuntime, region: &mut Region<4096>) -> io::Result<()> {
+    if ties::change_links(region, 10_000_000) {
+        println!(rt; "10000000 pairs tied and parted")
+    } else {
+        println!(rt; "no room")
     }
 }
 

@@ -13,7 +13,7 @@ use lsa_move::{Ensured, compact_one, ensure};
 use lsa_region::{End, Ref, Region, Root};
 use std::alloc::{AllocError, Global};
 
-static DUMMY: [u8; 34] = [7; 34];
+pub static DUMMY: [u8; 34] = [7; 34];
 
 /// Makes a dummy of 88 bytes, and frees it at once if it is to go; false where there is no room.
 pub fn make(region: &mut Region<4096>, goes: bool) -> bool

@@ -1,19 +1,15 @@
 -- What a number tells is what was told.
-use Rattle.std.proofs.Common.{◌≡◌, ◌≢◌, ℕ, zero, suc, ◌+◌, ◌*◌, ◌/◌, ◌%◌, ◌^◌, ◌<◌, ◌≤◌, List, [], ◌∷◌, length, get_or, cond, Bool, true, false, Option, Some, None, refl, sym, ap, ◌∙◌, arith}
-use Rattle.std.specs.Prelude.{nat_eq, IfSome, IsSomeAnd}
+use Rattle.std.proofs.Common.{◌≡◌, ◌≢◌, ℕ, zero, suc, ◌+◌, ◌*◌, ◌/◌, ◌%◌, ◌^◌, ◌<◌, ◌≤◌, List, length, cond, Option, Some, None, refl, ap, ◌∙◌, arith}
+use Rattle.std.specs.Prelude.{nat_eq, IfSome}
 use Rattle.std.proofs.lemmas.Bool.{eq-eqb, eqb-true}
 use Rattle.lsa_kinds.specs.Kinds.{links_of}
-use Rattle.lsa_yard.specs.Cells.{Cell, size_of}
 use Rattle.lsa_yard.specs.laws.Reading.{size-least}
-use Rattle.lsa_store.specs.declared.place.Ref.{Ref}
-use Rattle.lsa_store.specs.Objects.{body_in}
 use Rattle.lsa_store.specs.Stored.{Stored, IsStored}
 use Rattle.lsa_store.specs.laws.Places.{standing}
 use Rattle.lsa_store.specs.laws.Written.{object-and, lie-used, lie-even}
-use Rattle.lsa_region.specs.declared.end.Root.{Root}
 use Rattle.lsa_region.specs.declared.end.End.{End}
 use Rattle.lsa_region.specs.declared.end.End.TheVariants.{Obj, Slot}
-use Rattle.lsa_region.specs.Codes.{code_of, end_in, end_of, IsCodable, IsCodedRef}
+use Rattle.lsa_region.specs.Codes.{code_of, end_in, end_of, IsCodable}
 use Rattle.lsa_region.specs.Ends.{IsEndIn}
 use Rattle.lsa_region.specs.laws.Ends.{links_few}
 use Rattle.lsa_region.specs.laws.Refs.{not_true}

@@ -1,17 +1,16 @@
 -- How the objects of a region lie.
-use Rattle.std.proofs.Common.{◌≡◌, ◌≢◌, ℕ, ◌+◌, ◌*◌, ◌<◌, ◌≤◌, ◌⊎◌, inl, inr, List, length, drop, Option, Some, None, refl, sym, ap, ◌∙◌, subst, arith}
+use Rattle.std.proofs.Common.{◌≡◌, ◌≢◌, ℕ, ◌+◌, ◌<◌, ◌≤◌, ◌⊎◌, inl, inr, List, Option, Some, None, refl, sym, ap, ◌∙◌, arith}
 use Rattle.std.specs.Prelude.{is_some, IsSome}
 use Rattle.std.specs.Option.{option_map}
 use Rattle.lsa_kinds.specs.declared.kind.Kind.{Kind}
-use Rattle.lsa_kinds.specs.Kinds.{links_of}
 use Rattle.lsa_pool.specs.Room.{usage_of, free_count}
 use Rattle.lsa_yard.specs.Cells.{size_of}
 use Rattle.lsa_store.specs.declared.place.Ref.{Ref}
-use Rattle.lsa_store.specs.Stored.{Stored, IsStored}
+use Rattle.lsa_store.specs.Stored.{IsStored}
 use Rattle.lsa_store.specs.laws.Words.{object}
 use Rattle.lsa_store.specs.laws.Written.{lie-used, lie-apart, lie-size}
 use Rattle.lsa_region.specs.Layout.{Spot, extent}
-use Rattle.lsa_region.specs.Region.{View, body, spot_of, HasLayout}
+use Rattle.lsa_region.specs.Region.{View, body, HasLayout}
 use Rattle.lsa_region.proofs.Renaming.{spot-there}
 
 module _ (size : ℕ) (v : View) (stored : IsStored size (record { cells = v.cells; usages = v.usages })) where

@@ -1,8 +1,7 @@
 -- One object moves: what each step leaves, and what all of them do.
-use Rattle.std.proofs.Common.{◌≡◌, ◌≢◌, ℕ, zero, suc, ◌+◌, ◌-◌, ◌*◌, ◌<◌, ◌≤◌, inl, inr, Bool, true, false, ◌&&◌, cond, List, length, drop, get_or, Option, Some, None, refl, sym, ap, ◌∙◌, subst, arith}
-use Rattle.std.specs.Prelude.{nat_eq, nat_lt, is_some, IsSome, IsSomeAnd}
+use Rattle.std.proofs.Common.{◌≡◌, ◌≢◌, ℕ, ◌+◌, ◌-◌, ◌*◌, ◌<◌, ◌≤◌, inl, inr, Bool, true, false, ◌&&◌, cond, List, length, drop, Option, Some, None, refl, sym, ap, ◌∙◌, subst, arith}
+use Rattle.std.specs.Prelude.{is_some, IsSome, IsSomeAnd}
 use Rattle.std.specs.Option.{option_map}
-use Rattle.std.proofs.Math.ListN.{set}
 use Rattle.std.proofs.lemmas.Bool.{eq-eqb, lt-ltb, le-ltb, cases_lt}
 use Rattle.std.proofs.lemmas.List.{get_or-set_same}
 use Rattle.lsa_kinds.specs.declared.kind.Kind.{Kind}
@@ -13,30 +12,26 @@ use Rattle.lsa_pool.specs.Room.{nothing, usage_of, active_of}
 use Rattle.lsa_pool.specs.laws.Usages.{decided, closed-inside}
 use Rattle.lsa_yard.specs.Cells.{Cell, size_of, extent, cell_at, fresh, gap_of}
 use Rattle.lsa_store.specs.declared.place.Ref.{Ref}
-use Rattle.lsa_store.specs.Objects.{cells_of, cell_in, body_in, word_in, rounded_size, one_if_live, live_count, IsChangedIn, IsPutIn}
-use Rattle.lsa_store.specs.Stock.{stock_of, IsTaken, IsGivenBack}
-use Rattle.lsa_store.specs.Stored.{Stored, IsStored}
-use Rattle.lsa_store.specs.laws.Places.{apart_refs, there_and, changed-here, changed-others, changed-extent, changed-sum, put-elsewhere}
-use Rattle.lsa_store.specs.laws.Words.{IsObjectIn, object, word-same, body-same}
-use Rattle.lsa_store.specs.laws.Written.{object-and, and-object, made-fresh, made-here, made-unset, made-others, made-words, gone-here, gone-unset, gone-others}
+use Rattle.lsa_store.specs.Objects.{cells_of, cell_in, body_in, rounded_size, one_if_live, live_count, IsChangedIn, IsPutIn}
+use Rattle.lsa_store.specs.Stock.{IsTaken, IsGivenBack}
+use Rattle.lsa_store.specs.Stored.{Stored}
+use Rattle.lsa_store.specs.laws.Places.{there_and, and_map, changed-here, changed-extent, changed-sum, put-elsewhere}
+use Rattle.lsa_store.specs.laws.Words.{object, word-same, body-same}
+use Rattle.lsa_store.specs.laws.Written.{made-fresh, made-here, made-unset, made-others, made-words, gone-here, gone-unset, gone-others}
 use Rattle.lsa_store.specs.laws.Books.{closed-apart, moved-stock}
 use Rattle.lsa_region.specs.declared.end.Root.{Root}
 use Rattle.lsa_region.specs.declared.end.End.{End}
 use Rattle.lsa_region.specs.declared.end.End.TheVariants.{Obj, Slot}
 use Rattle.lsa_region.specs.Codes.{end_of}
-use Rattle.lsa_region.specs.Ends.{slots_in, same_ref, swapped, swapped_ref, end_by, IsSameShape}
+use Rattle.lsa_region.specs.Ends.{same_ref, swapped, swapped_ref, end_by, IsSameShape}
 use Rattle.lsa_region.specs.Paired.{IsExchanged}
 use Rattle.lsa_region.specs.Moves.{view_in, partly, IsCarrying, IsRenamedBy, IsRelieved, IsMovedTo}
 use Rattle.lsa_region.specs.Region.{View, body, link_of, slots_of, IsEnd, IsWell}
 use Rattle.lsa_region.specs.laws.Refs.{refs_decided, swap-here, swap-there, swap-else, swap-twice}
-use Rattle.lsa_region.specs.laws.Ends.{some_and_none, none_unless, past-links}
+use Rattle.lsa_region.specs.laws.Ends.{some_and_none, past-links}
 use Rattle.lsa_region.specs.laws.Exchanges.{swap-other, at_end}
 use Rattle.lsa_region.proofs.Regions.{well-same}
-use Rattle.lsa_region.proofs.Sets.{shape-same, shape-then, end-kept}
-
-and_map : {X : Type 0} (o : Option X) (P Q : X → Type 0) → ((x : X) → P x → Q x) → IsSomeAnd o P → IsSomeAnd o Q
-and_map None P Q f p = p
-and_map (Some x) P Q f p = f x p
+use Rattle.lsa_region.proofs.Sets.{shape-same, shape-then}
 
 -- a link of an object of this kind is there
 pub linked-there : (old now : List (List Cell)) (r x : Ref) (kind : Kind) (field : ℕ) → body_in now x ≡ body_in old r → IsSomeAnd (body_in old r) (λ b. b.0 ≡ kind) → field < links_of kind → IsSomeAnd (body_in now x) (λ b. field < links_of b.0)

@@ -1,5 +1,5 @@
 -- One end names something else: a link of an object, or a root slot.
-use Rattle.std.proofs.Common.{◌≡◌, ◌≢◌, ℕ, ◌+◌, ◌^◌, ◌<◌, ◌≤◌, inl, inr, List, length, get_or, Option, Some, None, cond, refl, sym, ap, ◌∙◌, subst, arith}
+use Rattle.std.proofs.Common.{◌≡◌, ◌≢◌, ℕ, ◌<◌, inl, inr, List, length, get_or, Option, Some, None, cond, refl, sym, ap, ◌∙◌, subst, arith}
 use Rattle.std.specs.Prelude.{count_by, is_some, IfSome, IsSomeAnd}
 use Rattle.std.specs.Option.{option_map}
 use Rattle.std.proofs.Math.ListN.{set}
@@ -7,10 +7,10 @@ use Rattle.std.proofs.lemmas.List.{length-set, get_or-set_same, get_or-set_other
 use Rattle.lsa_kinds.specs.declared.kind.Kind.{Kind}
 use Rattle.lsa_kinds.specs.Kinds.{links_of}
 use Rattle.lsa_pool.specs.laws.Usages.{decided}
-use Rattle.lsa_yard.specs.Cells.{Cell, size_of, extent, with_link}
+use Rattle.lsa_yard.specs.Cells.{Cell, size_of, with_link}
 use Rattle.lsa_yard.specs.laws.Changes.{replaced-sums}
 use Rattle.lsa_store.specs.declared.place.Ref.{Ref}
-use Rattle.lsa_store.specs.Objects.{cells_of, cell_in, body_in, one_if_live, live_count, object_count, IsChangedIn}
+use Rattle.lsa_store.specs.Objects.{cells_of, cell_in, body_in, one_if_live, live_count, IsChangedIn}
 use Rattle.lsa_store.specs.Stored.{Stored, IsStored}
 use Rattle.lsa_store.specs.laws.Places.{changed-is, changed-here, changed-others, changed-extent, changed-each}
 use Rattle.lsa_store.specs.laws.Written.{object-and, set-here, set-others, set-bodies, set-count}

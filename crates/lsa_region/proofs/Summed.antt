@@ -1,5 +1,5 @@
 -- What is live is what the objects of a list take, and they are as many.
-use Rattle.std.proofs.Common.{◌≡◌, ◌+◌, ℕ, zero, suc, cond, Option, Some, None, List, [], ◌∷◌, length, drop, get_or, refl, sym, ap, ◌∙◌, arith, ◌*◌}
+use Rattle.std.proofs.Common.{◌≡◌, ℕ, suc, cond, Option, Some, None, List, [], ◌∷◌, length, drop, refl, sym, ap, ◌∙◌, arith, ◌*◌}
 use Rattle.std.specs.Prelude.{sum_by, is_some, IsSome, Contains}
 use Rattle.std.specs.Option.{option_map, option_map_or, option_and_then}
 use Rattle.std.proofs.lemmas.List.Sums.{sum_by-cons}
@@ -7,11 +7,11 @@ use Rattle.lsa_kinds.specs.declared.kind.Kind.{Kind}
 use Rattle.lsa_kinds.specs.Kinds.{links_of}
 use Rattle.lsa_yard.specs.Cells.{Cell, size_of, body_of}
 use Rattle.lsa_store.specs.declared.place.Ref.{Ref}
-use Rattle.lsa_store.specs.Objects.{cell_in, body_in, live_size, one_if_live, live_in, object_count}
-use Rattle.lsa_store.specs.Stored.{Stored, IsStored}
+use Rattle.lsa_store.specs.Objects.{cell_in, body_in, live_size, one_if_live, live_in}
+use Rattle.lsa_store.specs.Stored.{IsStored}
 use Rattle.lsa_store.specs.laws.Words.{object-size}
 use Rattle.lsa_store.specs.laws.Written.{fitting-at, live-total}
-use Rattle.lsa_store.specs.laws.Sums.{sums-same, weigh-most, weigh-whole}
+use Rattle.lsa_store.specs.laws.Sums.{weigh-most, weigh-whole}
 use Rattle.lsa_region.specs.Layout.{extent}
 use Rattle.lsa_region.specs.Region.{View, body, live_bytes, IsSummed}
 

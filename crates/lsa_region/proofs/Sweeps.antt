@@ -1,32 +1,28 @@
 -- All objects of a segment move: what holds after each step of the walk over its cells.
-use Rattle.std.proofs.Common.{◌≡◌, ◌≢◌, ℕ, zero, ◌+◌, ◌-◌, ◌*◌, ◌/◌, ◌%◌, ◌<◌, ◌≤◌, ◌⊎◌, inl, inr, Bool, true, false, cond, List, [], ◌∷◌, length, drop, get_or, Option, Some, None, refl, sym, ap, ◌∙◌, subst, arith}
+use Rattle.std.proofs.Common.{◌≡◌, ◌≢◌, ℕ, ◌+◌, ◌*◌, ◌<◌, ◌≤◌, ◌⊎◌, inl, inr, cond, List, [], ◌∷◌, length, drop, get_or, Option, Some, None, refl, sym, ap, ◌∙◌, subst, arith}
 use Rattle.std.specs.Prelude.{is_some, IsSome, IsSomeAnd}
 use Rattle.std.specs.Option.{option_map, option_and_then, option_map_or}
 use Rattle.std.proofs.Math.ListN.{set}
-use Rattle.std.proofs.lemmas.Bool.{cases_lt}
 use Rattle.std.proofs.lemmas.List.{get_or-set_same, get_or-set_other}
 use Rattle.lsa_kinds.specs.declared.kind.Kind.{Kind}
 use Rattle.lsa_kinds.specs.Kinds.{links_of}
-use Rattle.lsa_pool.specs.declared.Usage.{Usage}
 use Rattle.lsa_pool.specs.declared.State.TheVariants.{Closed}
-use Rattle.lsa_pool.specs.Room.{nothing, usage_of, live_sum}
+use Rattle.lsa_pool.specs.Room.{usage_of}
 use Rattle.lsa_pool.specs.laws.Usages.{decided}
 use Rattle.lsa_yard.specs.Cells.{Cell, size_of, extent, cell_at, body_of, body_at}
 use Rattle.lsa_yard.specs.laws.Reading.{size-least}
-use Rattle.lsa_yard.specs.laws.Changes.{at-within, at-next, at-apart, at-inside}
+use Rattle.lsa_yard.specs.laws.Changes.{at-within, at-next, at-apart}
 use Rattle.lsa_store.specs.declared.place.Ref.{Ref}
 use Rattle.lsa_store.specs.Objects.{cells_of, cell_in, body_in, word_of, word_in, link_count, live_size, one_if_live, live_in, live_count}
-use Rattle.lsa_store.specs.Stored.{Stored}
-use Rattle.lsa_store.specs.laws.Places.{ref-equal, and_there, there_and}
-use Rattle.lsa_store.specs.laws.Words.{IsObjectIn, object, word-there, word-none, word-same, word-beyond}
+use Rattle.lsa_store.specs.laws.Places.{ref-equal}
+use Rattle.lsa_store.specs.laws.Words.{object, word-there, word-none, word-same, word-beyond}
 use Rattle.lsa_store.specs.laws.Sums.{none-in, part-of-sum}
-use Rattle.lsa_region.specs.declared.end.Root.{Root}
 use Rattle.lsa_region.specs.declared.end.End.{End}
 use Rattle.lsa_region.specs.declared.end.End.TheVariants.{Obj, Slot}
 use Rattle.lsa_region.specs.Ends.{slots_in, swapped_ref, end_by}
-use Rattle.lsa_region.specs.Moves.{view_in, IsRenamedBy, IsRelieved, IsMovedTo, IsSweeping}
-use Rattle.lsa_region.specs.Region.{View, body, link_of, IsEnd, IsWell}
-use Rattle.lsa_region.specs.laws.Refs.{refs_decided, swap-here, swap-there, swap-else, swap-twice}
+use Rattle.lsa_region.specs.Moves.{IsRenamedBy, IsMovedTo, IsSweeping}
+use Rattle.lsa_region.specs.Region.{View, body, link_of, IsEnd}
+use Rattle.lsa_region.specs.laws.Refs.{swap-else}
 
 -- ---- other names, and then others again
 
@@ -90,10 +86,6 @@ swept-init size v n closed = record {
     first (c ∷ cells) = inr refl
 
 -- the cell at which the walk stands, before the end
-pub walk-stands : (cells : List Cell) (offset : ℕ) → offset < extent cells → (offset ≡ extent cells) ⊎ IsSome (cell_at cells offset) → IsSome (cell_at cells offset)
-walk-stands cells offset lt (inl e) = absurd (omega (arith, e, lt))
-walk-stands cells offset lt (inr some) = some
-
 cell_of : (o : Option Cell) → IsSome o → (c : Cell) × (o ≡ Some c)
 cell_of None some = cc
 cell_of (Some c) some = (c, refl)

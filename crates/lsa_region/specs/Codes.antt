@@ -1,7 +1,6 @@
 -- How a link tells in one number which end it names.
 use Rattle.std.specs.Prelude.{◌≡◌, ℕ, zero, suc, ◌+◌, ◌*◌, ◌/◌, ◌%◌, ◌^◌, ◌<◌, cond, nat_eq, Option, Some, None}
 use Rattle.lsa_store.specs.declared.place.Ref.{Ref}
-use Rattle.lsa_region.specs.declared.end.Root.{Root}
 use Rattle.lsa_region.specs.declared.end.End.{End}
 use Rattle.lsa_region.specs.declared.end.End.TheVariants.{Obj, Slot}
 

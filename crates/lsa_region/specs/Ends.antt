@@ -5,7 +5,6 @@ use Rattle.lsa_kinds.specs.Kinds.{links_of}
 use Rattle.lsa_yard.specs.Cells.{Cell, size_of, extent}
 use Rattle.lsa_store.specs.declared.place.Ref.{Ref}
 use Rattle.lsa_store.specs.Objects.{cells_of, cell_in, body_in, word_in, live_count, object_count}
-use Rattle.lsa_region.specs.declared.end.Root.{Root}
 use Rattle.lsa_region.specs.declared.end.End.{End}
 use Rattle.lsa_region.specs.declared.end.End.TheVariants.{Obj, Slot}
 use Rattle.lsa_region.specs.Codes.{end_of}

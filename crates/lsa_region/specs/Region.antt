@@ -1,5 +1,5 @@
 -- The region as its callers see it: what each object is, what each end names, and the numbers.
-use Rattle.std.specs.Prelude.{◌≡◌, ◌≢◌, ℕ, ◌+◌, ◌-◌, ◌*◌, ◌^◌, ◌<◌, ◌≤◌, ◌⊎◌, min, max, List, length, map, sum_by, Option, Some, None, is_some, IsSome, IsSomeAnd, Contains, AllPairs}
+use Rattle.std.specs.Prelude.{◌≡◌, ◌≢◌, ℕ, ◌+◌, ◌-◌, ◌^◌, ◌<◌, ◌≤◌, ◌⊎◌, min, max, List, length, map, sum_by, Option, Some, None, is_some, IsSome, IsSomeAnd, Contains, AllPairs}
 use Rattle.std.specs.Option.{option_map}
 use Rattle.lsa_kinds.specs.declared.kind.Kind.{Kind}
 use Rattle.lsa_kinds.specs.Kinds.{links_of}

@@ -7,6 +7,8 @@ ghost use Rattle.lsa_yard.specs.Cells.{extent};
 ghost use Rattle.lsa_store.specs.declared.place.Ref.{Ref as Name};
 ghost use Rattle.lsa_store.specs.Objects.{cells_of, cell_in, body_in, live_count};
 ghost use Rattle.lsa_store.specs.Stock.{stock_of, sparse_of};
+ghost use Rattle.lsa_region.specs.Ends.{named_in, slots_in, IsEndIn, IsSameShape};
+ghost use Rattle.lsa_region.specs.Paired.{IsExchanged};
 ghost use Rattle.lsa_region.specs.Region.{body, IsWell, objects_in};
 ghost use Rattle.lsa_region.specs.Moves.{view_in, IsCarrying, IsRenamedBy, IsMovedTo, IsSweeping};
 
@@ -80,9 +82,27 @@ fn carry_links<const S: usize>(store: &mut Store<S>, roots: &mut Slots, r: Ref, 
 {
     let fields = links(store.kind(r));
     for field in 0..fields {
-        let (a, b) = (End::Obj(r, field as u8), End::Obj(q, field as u8));
-        exchange(store, roots, a, b);
+        carry_link(store, roots, r, q, field as u8);
     }
+}
+
+// Lets one link of an object change places with that of another one. Two that are not set have no places to change.
+fn carry_link<const S: usize>(store: &mut Store<S>, roots: &mut Slots, r: Ref, q: Ref, field: u8)
+    requires first { IsEndIn store.old.cells roots.old (End.Obj r field) }
+    requires second { IsEndIn store.old.cells roots.old (End.Obj q field) }
+    requires differ { q ≢ r }
+    requires well { IsWell (view_in store.old roots.old) }
+    ensures exchanged { IsExchanged (named_in store.old.cells roots.old) (named_in store.new.cells roots.new) (End.Obj r field) (End.Obj q field) }
+    ensures ends { (e : End) → IsEndIn store.old.cells roots.old e → IsEndIn store.new.cells roots.new e }
+    ensures back { (e : End) → IsEndIn store.new.cells roots.new e → IsEndIn store.old.cells roots.old e }
+    ensures shape { IsSameShape store.old.cells store.new.cells }
+    ensures usages { store.new.usages ≡ store.old.usages }
+    ensures slots { slots_in roots.new ≡ slots_in roots.old }
+{
+    if store.word(r, field as usize) == 0 && store.word(q, field as usize) == 0 {
+        return;
+    }
+    exchange(store, roots, End::Obj(r, field), End::Obj(q, field));
 }
 
 // Moves an object of a closed segment elsewhere.

@@ -1,2 +1,4 @@
 pub mod Byte
-pub mod Whole
+pub mod Emptied
+pub mod Held
+pub mod Written

@@ -1,106 +1,111 @@
-//! A block of `S` bytes, of which the first ones are set: it is not written before it is used. It goes back to its allocator when it is dropped.
-ghost use Rattle.std.specs.Prelude.{◌≡◌, ℕ, ◌+◌, ◌^◌, ◌<◌, ◌≤◌, [], ◌++◌, length, IfOk};
-ghost use Rattle.circular_buffer.specs.Places.{somes};
-ghost use Rattle.lsa_segment.specs.Bytes.{part, overwritten, filled, IsFilled};
+//! A block of places for bytes, each unset until it is written. It goes back to its allocator when it is dropped.
+ghost use Rattle.std.specs.Prelude.{◌≡◌, ℕ, ◌+◌, ◌^◌, ◌<◌, ◌≤◌, ◌⊎◌, Some, None, length, map, take, drop, replicate, IfOk};
+ghost use Rattle.circular_buffer.specs.Places.{IsRun, somes};
+ghost use Rattle.lsa_segment.specs.Places.{written};
 
 use crate::raw::{Owned, Right, Start, allocate, deallocate};
 use std::alloc::{AllocError, Global};
 use std::marker::Model;
 
-pub(crate) struct Block<const S: usize> {
+pub(crate) struct Block {
     alloc: Global,
     start: Start,
     bytes: Owned,
     right: Right<Global>,
-    set: usize,
+    size: usize,
 }
 
-impl<const S: usize> Model for Block<S> {
-    ghost use Rattle.std.specs.Prelude.{◌≡◌, ℕ, List, length};
-    ghost use Rattle.circular_buffer.specs.Places.{somes};
-    ghost use Rattle.lsa_segment.specs.Bytes.{IsFilled};
+impl Model for Block {
+    ghost use Rattle.std.specs.Prelude.{◌≡◌, ℕ, List, Option, length};
 
-    ghost Value = { List ℕ };
+    ghost Value = { List (Option ℕ) };
 
-    ghost view = { λ b. somes b.bytes.bytes };
+    ghost view = { λ b. b.bytes.bytes };
 
-    ghost invariant = { λ b. IsFilled S b.set b.bytes.bytes × (b.bytes.at ≡ b.start.at) × (b.right.at ≡ b.start.at) × (b.right.len ≡ S) × (b.right.alloc ≡ b.alloc) };
+    ghost invariant = { λ b. (length b.bytes.bytes ≡ b.size) × (b.bytes.at ≡ b.start.at) × (b.right.at ≡ b.start.at) × (b.right.len ≡ b.size) × (b.right.alloc ≡ b.alloc) };
 }
 
-impl<const S: usize> Drop for Block<S> {
+impl Drop for Block {
     fn drop(self) {
         let Block {
             alloc,
             start,
             bytes,
             right,
-            set: _,
+            size,
         } = self;
-        deallocate(&alloc, start, S, bytes, right);
+        deallocate(&alloc, start, size, bytes, right);
     }
 }
 
-impl<const S: usize> Block<S> {
-    pub(crate) fn new(alloc: Global) -> Result<Self, AllocError>
-        requires { S ≤ 2 ^ 27 }
-        ensures { IfOk result (λ b. b ≡ []) }
+impl Block {
+    // A block of which no place is set.
+    pub(crate) fn new(alloc: Global, size: usize) -> Result<Self, AllocError>
+        requires { size < 2 ^ 63 }
+        ensures { IfOk result (λ b. b ≡ replicate size None) }
     {
-        match allocate(&alloc, S) {
+        match allocate(&alloc, size) {
             Ok((start, bytes, right)) => Ok(Block {
                 alloc,
                 start,
                 bytes,
                 right,
-                set: 0,
+                size,
             }),
             Err(error) => Err(error),
         }
     }
 
-    pub(crate) fn lend(&self, offset: usize, len: usize) -> &[u8]
-        requires { offset + len ≤ length self.now }
-        ensures { result.now ≡ part offset len self.now }
+    // The bytes of the `len` places from `from` on, which are set.
+    pub(crate) fn lend(&self, from: usize, len: usize) -> &[u8]
+        requires { IsRun self.now from len }
+        ensures { take len (drop from self.now) ≡ map Some result.now }
     {
-        self.bytes.slice(self.start, offset, len)
+        self.bytes.slice(self.start, from, len)
     }
 
-    // Writes from `offset` on: over bytes that are set, and behind them.
-    pub(crate) fn write(&mut self, offset: usize, bytes: &[u8])
-        requires set { offset ≤ length self.old }
-        requires fits { offset + length bytes.now ≤ S }
-        ensures { self.new ≡ overwritten self.old offset bytes.now }
+    // Sets as many places from `from` on to these bytes, whatever stood there.
+    pub(crate) fn write(&mut self, from: usize, source: &[u8])
+        requires { from + length source.now ≤ length self.old }
+        ensures { self.new ≡ written self.old from source.now }
     {
-        let over = (self.set - offset).min(bytes.len());
-        let (front, back) = bytes.split_at(over);
-        overwrite(&mut self.bytes, self.start, offset, front);
-        append(&mut self.bytes, self.start, self.set, back);
-        self.set += back.len();
+        put(&mut self.bytes, self.start, from, source);
+    }
+
+    // Sets as many places from `to` on to the bytes of the `len` places from `from` on, which are set and are none of those.
+    pub(crate) fn copy(&mut self, from: usize, len: usize, to: usize)
+        requires set { IsRun self.old from len }
+        requires inside { to + len ≤ length self.old }
+        requires apart { (from + len ≤ to) ⊎ (to + len ≤ from) }
+        ensures { self.new ≡ written self.old to (somes (take len (drop from self.old))) }
+    {
+        copy_over(&mut self.bytes, self.start, from, len, to);
     }
 }
 
-// Copies the source over bytes that are set.
-fn overwrite(bytes: &mut Owned, start: Start, offset: usize, source: &[u8])
+fn put(bytes: &mut Owned, start: Start, from: usize, source: &[u8])
     requires start { start.at ≡ bytes.old.at }
-    requires filled { IsFilled (length bytes.old.bytes) (length (somes bytes.old.bytes)) bytes.old.bytes }
-    requires inside { offset + length source.now ≤ length (somes bytes.old.bytes) }
-    ensures start { bytes.new.at ≡ bytes.old.at }
-    ensures after { bytes.new.bytes ≡ filled (length bytes.old.bytes) (overwritten (somes bytes.old.bytes) offset source.now) }
-{
-    bytes
-        .slice_mut(start, offset, source.len())
-        .copy_from_slice(source);
-}
-
-// Writes the source behind the bytes that are set, of which there are so many.
-fn append(bytes: &mut Owned, start: Start, set: usize, source: &[u8])
-    requires start { start.at ≡ bytes.old.at }
-    requires filled { IsFilled (length bytes.old.bytes) set bytes.old.bytes }
-    requires fits { set + length source.now ≤ length bytes.old.bytes }
+    requires inside { from + length source.now ≤ length bytes.old.bytes }
     requires small { length bytes.old.bytes < 2 ^ 64 }
     ensures start { bytes.new.at ≡ bytes.old.at }
-    ensures after { bytes.new.bytes ≡ filled (length bytes.old.bytes) (somes bytes.old.bytes ++ source.now) }
+    ensures after { bytes.new.bytes ≡ written bytes.old.bytes from source.now }
 {
     for index in 0..source.len() {
-        bytes.write(start, set + index, source[index]);
+        bytes.write(start, from + index, source[index]);
+    }
+}
+
+fn copy_over(bytes: &mut Owned, start: Start, from: usize, len: usize, to: usize)
+    requires start { start.at ≡ bytes.old.at }
+    requires set { IsRun bytes.old.bytes from len }
+    requires inside { to + len ≤ length bytes.old.bytes }
+    requires apart { (from + len ≤ to) ⊎ (to + len ≤ from) }
+    requires small { length bytes.old.bytes < 2 ^ 64 }
+    ensures start { bytes.new.at ≡ bytes.old.at }
+    ensures after { bytes.new.bytes ≡ written bytes.old.bytes to (somes (take len (drop from bytes.old.bytes))) }
+{
+    for index in 0..len {
+        let byte = bytes.slice(start, from + index, 1)[0];
+        bytes.write(start, to + index, byte);
     }
 }

@@ -1,8 +1,8 @@
-//! One segment of raw memory: a block of bytes, of which the first ones are used.
+//! Segments of raw memory in one block: of each the first bytes are used.
 #![tactic(auto)]
 
 mod block;
 mod raw;
-mod segment;
+mod segments;
 
-pub use segment::Segment;
+pub use segments::Segments;

@@ -1,7 +1,6 @@
 //! Raw memory: where a block of bytes begins, who owns its bytes, and who may give it back. A byte is unset until it is written.
-ghost use Rattle.std.specs.Prelude.{◌≡◌, ℕ, ◌^◌, ◌<◌, List, Option, Some, None, map, length, take, drop, replicate, get_or, slice_set, IfOk};
+ghost use Rattle.std.specs.Prelude.{◌≡◌, ℕ, ◌^◌, ◌<◌, List, Option, Some, None, map, length, take, drop, replicate, slice_set, IfOk};
 ghost use Rattle.lsa_segment.specs.Raw.{byte_row};
-ghost use Rattle.std.specs.Borrow.{sem};
 ghost use base.Fml.{ftrue};
 ghost use denote.RawPtr.{Ptr};
 ghost use Rattle.circular_buffer.specs.Places.{IsRun};
@@ -78,10 +77,8 @@ pub(crate) fn deallocate<A: Allocator>(
 }
 
 impl Owned {
-    ghost use Rattle.lsa_segment.specs.Lends.{lends_part};
-
     pub(crate) fn write(&mut self, start: Start, index: usize, byte: u8)
-        requires { (start.at ≡ self.old.at) × (index < length self.old.bytes) × (get_or self.old.bytes index None ≡ None) }
+        requires { (start.at ≡ self.old.at) × (index < length self.old.bytes) }
         ensures { (self.new.at ≡ self.old.at) × (self.new.bytes ≡ slice_set self.old.bytes index (Some byte)) }
     {
         unsafe { start.at.add(index).write(byte) }
@@ -93,14 +90,5 @@ impl Owned {
         ensures { take len (drop from self.now.bytes) ≡ map Some result.now }
     {
         unsafe { slice::from_raw_parts(start.at.add(from), len) }
-    }
-
-    /// The same, to be written.
-    pub(crate) fn slice_mut(&mut self, start: Start, from: usize, len: usize) -> &mut [u8]
-        requires { (start.at ≡ self.old.at) × IsRun self.old.bytes from len }
-        ensures* writes_back { sem 𝓛 (lends_part self.entry from len result) }
-        ensures value { take len (drop from self.old.bytes) ≡ map Some result.now }
-    {
-        unsafe { slice::from_raw_parts_mut(start.at.add(from), len) }
     }
 }

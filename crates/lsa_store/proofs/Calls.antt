@@ -1,5 +1,5 @@
 -- What each call of a store leaves, from what its parts left.
-use Rattle.std.proofs.Common.{◌≡◌, ℕ, ◌+◌, ◌-◌, ◌*◌, ◌/◌, ◌<◌, ◌≤◌, List, [], ◌∷◌, ◌++◌, length, take, drop, replicate, get_or, cond, Bool, true, false, Option, Some, None, refl, sym, ap, ◌∙◌, subst, arith, length-append, length-take, length-drop}
+use Rattle.std.proofs.Common.{◌≡◌, ℕ, ◌+◌, ◌-◌, ◌*◌, ◌/◌, ◌<◌, ◌≤◌, List, [], ◌∷◌, ◌++◌, length, take, drop, replicate, cond, Bool, true, false, Option, Some, None, refl, sym, ap, ◌∙◌, subst, arith, length-append, length-take, length-drop}
 use Rattle.std.specs.Prelude.{is_some, IsSome, IsSomeAnd}
 use Rattle.std.proofs.Math.ListN.{set}
 use Rattle.std.proofs.lemmas.List.{length-replicate, length-set, get_or-set_other}
@@ -15,20 +15,16 @@ use Rattle.lsa_pool.specs.declared.State.TheVariants.{Closed}
 use Rattle.lsa_pool.specs.Room.{nothing, usage_of, free_count, live_sum, active_of, active_room}
 use Rattle.lsa_pool.specs.Account.{IsSound}
 use Rattle.lsa_pool.specs.laws.Usages.{closed-inside}
-use Rattle.lsa_yard.specs.Cells.{Cell, up8, size_of, extent, cell_at, links_size, fresh, with_link, with_bytes, gap_of, IsChanged}
+use Rattle.lsa_yard.specs.Cells.{Cell, up8, size_of, extent, links_size, fresh, with_link, with_bytes, gap_of}
 use Rattle.lsa_store.specs.declared.place.Ref.{Ref}
 use Rattle.lsa_store.specs.Objects.{cells_of, cell_in, body_in, rounded_size, live_size, one_if_live, live_in, live_count, object_count, IsChangedIn, IsPutIn}
 use Rattle.lsa_store.specs.Stock.{IsGivenBack}
 use Rattle.lsa_store.specs.Stored.{Stored, IsStored, IsFitting}
-use Rattle.lsa_store.specs.laws.Places.{there_and, standing, changed-sum, changed-total, put-total}
+use Rattle.lsa_store.specs.laws.Places.{there_and, and_map, standing, changed-sum, changed-total, put-total}
 use Rattle.lsa_store.specs.laws.Words.{IsObjectIn, object, fresh-size}
 use Rattle.lsa_store.specs.laws.Written.{object-and, and-object, fitting-at, lie-size}
 use Rattle.lsa_store.specs.laws.Books.{active_inside, room-is, used-debit, room-same, closed-apart}
-use Rattle.lsa_store.proofs.Stores.{yard-is, stored-changed, stored-killed, stored-put, stored-release}
-
-pub and-map : {X : Type 0} (o : Option X) (P Q : X → Type 0) → ((x : X) → P x → Q x) → IsSomeAnd o P → IsSomeAnd o Q
-and-map None P Q f p = p
-and-map (Some x) P Q f p = f x p
+use Rattle.lsa_store.proofs.Stores.{stored-changed, stored-killed, stored-put, stored-release}
 
 -- ---- other bytes of a cell, as many
 
@@ -57,38 +53,35 @@ module _ (size : ℕ) (cells : List (List Cell)) (us : List Usage) (v : Stored) 
 
   -- ---- an object is changed, and keeps its size
 
-  changed-object : (r : Ref) (change : Cell → Cell) (c : Cell) (was after : List Cell) → cell_in cells r ≡ Some c → was ≡ get_or cells r.segment was → IsChanged was after r.offset change
+  changed-object : (r : Ref) (change : Cell → Cell) (c : Cell) (cells' : List (List Cell)) → cell_in cells r ≡ Some c → IsChangedIn cells cells' r change
       → IsFitting size (change c) → live_size (change c) ≡ live_size c → one_if_live (change c) ≡ one_if_live c
-      → IsStored size (record { cells = set cells r.segment after; usages = us }) × (object_count cells ≡ object_count (set cells r.segment after))
-  changed-object r change c was after here read w fits same one =
-      let lt = standing cells r.segment r.offset c here in
-      let changed : IsChangedIn cells (set cells r.segment after) r change =
-      record { after = after; is = refl; changed = subst (λ l. IsChanged l after r.offset change) (yard-is cells r.segment was lt read) w } in
-      (stored-changed size cells us s (set cells r.segment after) r change c changed here fits same, omega (arith, changed-total cells (set cells r.segment after) r change changed c here one_if_live, one))
+      → IsStored size (record { cells = cells'; usages = us }) × (object_count cells ≡ object_count cells')
+  changed-object r change c cells' here changed fits same one =
+      (stored-changed size cells us s cells' r change c changed here fits same, omega (arith, changed-total cells cells' r change changed c here one_if_live, one))
 
-  pub linked-store : (r : Ref) (field value : ℕ) (was after : List Cell) → IsSomeAnd (body_in v.cells r) (λ b. field < links_of b.0) → was ≡ get_or cells r.segment was → IsChanged was after r.offset (with_link field value)
-      → IsStored size (record { cells = set cells r.segment after; usages = us }) × (object_count cells ≡ object_count (set cells r.segment after))
-  linked-store r field value was after linked read w =
+  pub linked-store : (r : Ref) (field value : ℕ) (cells' : List (List Cell)) → IsSomeAnd (body_in v.cells r) (λ b. field < links_of b.0) → IsChangedIn cells cells' r (with_link field value)
+      → IsStored size (record { cells = cells'; usages = us }) × (object_count cells ≡ object_count cells')
+  linked-store r field value cells' linked changed =
       let f = object-and cells r (λ (b : Kind × List ℕ). field < links_of b.0) (at_parts r (λ b. field < links_of b.0) linked) in let x = f.0 in
       let fits = fitting-at size (record { cells = cells; usages = us }) r x.cell s x.here in
       let inside : 8 * field + length (spelled 8 value) ≤ length x.cell.rest = omega (arith, length-spelled 8 value, f.1, fits.proper.linked, ap links_size x.is) in
       let new = fitting-rest size x.cell (8 * field) (spelled 8 value) fits inside in
-      changed-object r (with_link field value) x.cell was after x.here read w new.0 new.1 refl
+      changed-object r (with_link field value) x.cell cells' x.here changed new.0 new.1 refl
 
-  pub written-store : (r : Ref) (from : ℕ) (bytes : List ℕ) (was after : List Cell) → IsSomeAnd (body_in v.cells r) (λ b. from + length bytes ≤ length b.1) → was ≡ get_or cells r.segment was → IsChanged was after r.offset (with_bytes from bytes)
-      → IsStored size (record { cells = set cells r.segment after; usages = us }) × (object_count cells ≡ object_count (set cells r.segment after))
-  written-store r from bytes was after fit read w =
+  pub written-store : (r : Ref) (from : ℕ) (bytes : List ℕ) (cells' : List (List Cell)) → IsSomeAnd (body_in v.cells r) (λ b. from + length bytes ≤ length b.1) → IsChangedIn cells cells' r (with_bytes from bytes)
+      → IsStored size (record { cells = cells'; usages = us }) × (object_count cells ≡ object_count cells')
+  written-store r from bytes cells' fit changed =
       let f = object-and cells r (λ (b : Kind × List ℕ). from + length bytes ≤ length b.1) (at_parts r (λ b. from + length bytes ≤ length b.1) fit) in let x = f.0 in
       let fits = fitting-at size (record { cells = cells; usages = us }) r x.cell s x.here in
       let inside : links_size x.cell.kind + from + length bytes ≤ length x.cell.rest =
       omega (arith, f.1, length-drop (8 * links_of x.kind) x.cell.rest, fits.proper.linked, ap links_size x.is) in
       let new = fitting-rest size x.cell (links_size x.cell.kind + from) bytes fits inside in
-      changed-object r (with_bytes from bytes) x.cell was after x.here read w new.0 new.1 refl
+      changed-object r (with_bytes from bytes) x.cell cells' x.here changed new.0 new.1 refl
 
   -- ---- an object goes
 
-  module _ (r : Ref) (was after : List Cell) (some : IsSome (body_in v.cells r)) (read : was ≡ get_or cells r.segment was) (w : IsChanged was after r.offset gap_of) (us' : List Usage) (bytes : ℕ)
-      (told : IsSomeAnd (cell_at was r.offset) (λ c. size_of c ≡ bytes)) (lowered : us' ≡ set us r.segment (record (usage_of us r.segment) { live = (usage_of us r.segment).live - bytes }))
+  module _ (r : Ref) (cells' : List (List Cell)) (some : IsSome (body_in v.cells r)) (changed : IsChangedIn cells cells' r gap_of) (us' : List Usage) (bytes : ℕ)
+      (told : IsSomeAnd (cell_in v.cells r) (λ c. size_of c ≡ bytes)) (lowered : us' ≡ set us r.segment (record (usage_of us r.segment) { live = (usage_of us r.segment).live - bytes }))
       (active : active_of us' ≡ active_of us) (free : free_count us' ≡ free_count us) (total : live_sum us' + bytes ≡ live_sum us) (sound : IsSound size us') where
     x : IsObjectIn cells r
     x = object cells r (subst (λ l. IsSome (body_in l r)) (sym same_cells) some)
@@ -96,14 +89,8 @@ module _ (size : ℕ) (cells : List (List Cell)) (us : List Usage) (v : Stored) 
     lt : r.segment < length cells
     lt = standing cells r.segment r.offset x.cell x.here
 
-    was_is : was ≡ cells_of cells r.segment
-    was_is = yard-is cells r.segment was lt read
-
-    changed : IsChangedIn cells (set cells r.segment after) r gap_of
-    changed = record { after = after; is = refl; changed = subst (λ l. IsChanged l after r.offset gap_of) was_is w }
-
     size_is : size_of x.cell ≡ bytes
-    size_is = there_and (cell_at was r.offset) x.cell (λ (c : Cell). size_of c ≡ bytes) (ap (λ l. cell_at l r.offset) was_is ∙ x.here) told
+    size_is = there_and (cell_in v.cells r) x.cell (λ (c : Cell). size_of c ≡ bytes) (ap (λ l. cell_in l r) (sym same_cells) ∙ x.here) told
 
     live_is : live_size x.cell ≡ size_of x.cell
     live_is = ap (λ (k : Option Kind). cond (is_some k) (size_of x.cell) 0) x.is
@@ -114,21 +101,21 @@ module _ (size : ℕ) (cells : List (List Cell)) (us : List Usage) (v : Stored) 
     within : r.segment < length us
     within = omega (arith, lt, s.count)
 
-    pub killed-store : IsStored size (record { cells = set cells r.segment after; usages = us' })
+    pub killed-store : IsStored size (record { cells = cells'; usages = us' })
     killed-store =
         let fits = fitting-at size (record { cells = cells; usages = us }) r x.cell s x.here in
-        stored-killed size cells us s (set cells r.segment after) us' r gap_of x.cell bytes changed x.here
+        stored-killed size cells us s cells' us' r gap_of x.cell bytes changed x.here
         (record { proper = record { short = fits.proper.short; linked = omega arith }; limit = fits.limit }) (omega (arith, live_is, size_is)) within lowered (ap is_some active ∙ s.active) sound
 
-    pub killed-count : object_count cells - 1 ≡ object_count (set cells r.segment after)
-    killed-count = omega (arith, changed-total cells (set cells r.segment after) r gap_of changed x.cell x.here one_if_live, one_is)
+    pub killed-count : object_count cells - 1 ≡ object_count cells'
+    killed-count = omega (arith, changed-total cells cells' r gap_of changed x.cell x.here one_if_live, one_is)
 
     pub killed-given : IsSomeAnd (body_in v.cells r) (λ b. IsGivenBack size v.usages us' r.segment (rounded_size b.0 (length b.1)))
     killed-given =
         let some_is = lie-size size (record { cells = cells; usages = us }) s r x in
         let given : IsGivenBack size us us' r.segment bytes = record {
           after = lowered;
-          enough = omega (arith, changed-sum cells (set cells r.segment after) r gap_of changed x.cell x.here live_size, live_is, size_is, s.live r.segment);
+          enough = omega (arith, changed-sum cells cells' r gap_of changed x.cell x.here live_size, live_is, size_is, s.live r.segment);
           budget = ap length lowered ∙ length-set us r.segment (record (usage_of us r.segment) { live = (usage_of us r.segment).live - bytes });
           active = active;
           free = free;
@@ -140,36 +127,36 @@ module _ (size : ℕ) (cells : List (List Cell)) (us : List Usage) (v : Stored) 
 
   -- ---- an object is made
 
-  module _ (n : ℕ) (after : List Cell) (kind : Kind) (bytes : List ℕ) (taken : ℕ) (is_active : active_of us ≡ Some n) (takes : taken ≡ rounded_size kind (length bytes)) (fits : taken ≤ size / 8)
-      (pushed : after ≡ cells_of cells n ++ fresh kind bytes ∷ []) (us' : List Usage) (credited : us' ≡ set us n (record (usage_of us n) { used = (usage_of us n).used + taken; live = (usage_of us n).live + taken }))
+  module _ (n : ℕ) (cells' : List (List Cell)) (kind : Kind) (bytes : List ℕ) (taken : ℕ) (is_active : active_of us ≡ Some n) (takes : taken ≡ rounded_size kind (length bytes)) (fits : taken ≤ size / 8)
+      (pushed : cells' ≡ set cells n (cells_of cells n ++ fresh kind bytes ∷ [])) (us' : List Usage) (credited : us' ≡ set us n (record (usage_of us n) { used = (usage_of us n).used + taken; live = (usage_of us n).live + taken }))
       (active : active_of us' ≡ active_of us) (sound : IsSound size us') where
-    made : IsPutIn cells (set cells n after) (record { segment = n; offset = extent (cells_of cells n) }) (fresh kind bytes)
-    made = record { inside = omega (arith, active_inside us n is_active, s.count); behind = refl; is = ap (set cells n) pushed }
+    made : IsPutIn cells cells' (record { segment = n; offset = extent (cells_of cells n) }) (fresh kind bytes)
+    made = record { inside = omega (arith, active_inside us n is_active, s.count); behind = refl; is = pushed }
 
     fresh_fits : IsFitting size (fresh kind bytes)
     fresh_fits =
         let links : List ℕ = replicate (8 * links_of kind) 0 in let long = length-append links bytes in let own = length-replicate {A = ℕ} (8 * links_of kind) 0 in
         record { proper = record { short = omega (arith, fresh-size kind bytes, takes, fits, s.small); linked = omega (arith, long, own) }; limit = omega (arith, fresh-size kind bytes, takes, fits) }
 
-    pub put-store : IsStored size (record { cells = set cells n after; usages = us' })
+    pub put-store : IsStored size (record { cells = cells'; usages = us' })
     put-store =
-        stored-put size cells us s (set cells n after) us' (record { segment = n; offset = extent (cells_of cells n) }) (fresh kind bytes) taken made fresh_fits (fresh-size kind bytes ∙ sym takes) (fresh-size kind bytes ∙ sym takes)
+        stored-put size cells us s cells' us' (record { segment = n; offset = extent (cells_of cells n) }) (fresh kind bytes) taken made fresh_fits (fresh-size kind bytes ∙ sym takes) (fresh-size kind bytes ∙ sym takes)
         credited (ap is_some (active ∙ is_active)) sound
 
-    pub put-count : object_count cells + 1 ≡ object_count (set cells n after)
-    put-count = sym (put-total cells (set cells n after) (record { segment = n; offset = extent (cells_of cells n) }) (fresh kind bytes) made one_if_live)
+    pub put-count : object_count cells + 1 ≡ object_count cells'
+    put-count = sym (put-total cells cells' (record { segment = n; offset = extent (cells_of cells n) }) (fresh kind bytes) made one_if_live)
 
   -- ---- a segment is given back
 
   closed_there : (n : ℕ) → (usage_of v.usages n).state ≡ Closed → (usage_of us n).state ≡ Closed
   closed_there n closed = ap (λ (w : Stored). (usage_of w.usages n).state) is ∙ closed
 
-  pub released-store : (n : ℕ) (after : List Cell) → (usage_of v.usages n).state ≡ Closed → (usage_of v.usages n).live ≡ 0 → after ≡ [] → (us' : List Usage) → us' ≡ set us n nothing → active_of us' ≡ active_of us → IsSound size us'
-      → IsStored size (record { cells = set cells n after; usages = us' }) × (object_count cells ≡ object_count (set cells n after))
-  released-store n after closed empty cleared us' given active sound =
+  pub released-store : (n : ℕ) (cells' : List (List Cell)) → (usage_of v.usages n).state ≡ Closed → (usage_of v.usages n).live ≡ 0 → cells' ≡ set cells n [] → (us' : List Usage) → us' ≡ set us n nothing → active_of us' ≡ active_of us → IsSound size us'
+      → IsStored size (record { cells = cells'; usages = us' }) × (object_count cells ≡ object_count cells')
+  released-store n cells' closed empty cleared us' given active sound =
       let lt = closed-inside us n (closed_there n closed) in let none : live_in (cells_of cells n) ≡ 0 = s.live n ∙ ap (λ (w : Stored). (usage_of w.usages n).live) is ∙ empty in (
-        subst (λ l. IsStored size (record { cells = set cells n l; usages = us' })) (sym cleared) (stored-release size cells us s us' n lt given (ap is_some active ∙ s.active) sound),
-        omega (arith, no_objects (cells_of cells n) none, sum_by-set live_count cells n after [] (omega (arith, lt, s.count)), ap live_count cleared),
+        subst (λ l. IsStored size (record { cells = l; usages = us' })) (sym cleared) (stored-release size cells us s us' n lt given (ap is_some active ∙ s.active) sound),
+        omega (arith, no_objects (cells_of cells n) none, sum_by-set live_count cells n [] [] (omega (arith, lt, s.count)), ap object_count cleared),
       )
     where
       no_objects : (l : List Cell) → live_in l ≡ 0 → live_count l ≡ 0
@@ -206,8 +193,8 @@ module _ (size : ℕ) (cells : List (List Cell)) (us : List Usage) (v : Stored) 
       record { x = f.0; rounded = f.1; small = omega (arith, (fitting-at size v r f.0.cell stored f.0.here).limit, lie-size size v stored r f.0, f.1) }
 
   pub carried-fits : (n : ℕ) (r : Ref) (taken : ℕ) → active_of us ≡ Some n → IsSomeAnd (body_in v.cells r) (λ b. rounded_size b.0 (length b.1) ≡ taken) → taken ≤ active_room size v.usages
-      → IsSomeAnd (body_in cells r) (λ b. extent (cells_of cells n) + rounded_size b.0 (length b.1) ≤ size)
+      → IsSomeAnd (body_in cells r) (λ b. extent (cells_of cells n) + size_of (fresh b.0 b.1) ≤ size)
   carried-fits n r taken is_active told room =
       let there : taken ≤ active_room size us = omega (arith, room, ap (λ (w : Stored). active_room size w.usages) is) in
-      and-map (body_in cells r) (λ b. rounded_size b.0 (length b.1) ≡ taken) (λ b. extent (cells_of cells n) + rounded_size b.0 (length b.1) ≤ size)
-      (λ b e. omega (arith, e, there, room-is size us n is_active, s.filled n, s.sound.used n)) (at_parts r (λ b. rounded_size b.0 (length b.1) ≡ taken) told)
+      and_map (body_in cells r) (λ b. rounded_size b.0 (length b.1) ≡ taken) (λ b. extent (cells_of cells n) + size_of (fresh b.0 b.1) ≤ size)
+      (λ b e. omega (arith, e, there, fresh-size b.0 b.1, room-is size us n is_active, s.filled n, s.sound.used n)) (at_parts r (λ b. rounded_size b.0 (length b.1) ≡ taken) told)

@@ -2,7 +2,7 @@
 use Rattle.std.proofs.Common.{◌≡◌, ◌≢◌, ℕ, zero, suc, ◌+◌, ◌-◌, ◌*◌, ◌%◌, ◌^◌, ◌<◌, ◌≤◌, List, [], ◌∷◌, ◌++◌, length, replicate, get_or, Some, refl, sym, ap, ◌∙◌, subst, arith}
 use Rattle.std.specs.Prelude.{is_some, All, IsSome}
 use Rattle.std.proofs.Math.ListN.{set}
-use Rattle.std.proofs.lemmas.List.{length-set, length-replicate, get_or_read, get_or-set_same, get_or-set_other}
+use Rattle.std.proofs.lemmas.List.{length-set, length-replicate, get_or-set_same, get_or-set_other}
 use Rattle.std.proofs.lemmas.List.Sums.{sum_by-cons}
 use Rattle.std.proofs.lemmas.List.Folds.{sum_by-replicate}
 use Rattle.std.proofs.lemmas.List.Elements.{All-nil, All-cons, All-head, All-tail, All-push}
@@ -18,11 +18,6 @@ use Rattle.lsa_store.specs.Objects.{cells_of, cell_in, live_size, live_in, live_
 use Rattle.lsa_store.specs.Stored.{Stored, IsStored, IsFitting}
 use Rattle.lsa_store.specs.laws.Sums.{count-within}
 use Rattle.lsa_store.specs.laws.Places.{changed-is, changed-each, changed-elsewhere, changed-extent, changed-sum, put-each, put-elsewhere, put-extent, put-sum}
-
--- ---- what a list of yards shows
-
-pub yard-is : (cells : List (List Cell)) (n : ℕ) (y : List Cell) → n < length cells → y ≡ get_or cells n y → y ≡ cells_of cells n
-yard-is cells n y lt e = get_or_read cells n y lt e []
 
 -- ---- how many objects there are
 

@@ -3,7 +3,7 @@ use Rattle.std.specs.Prelude.{◌≡◌, ℕ, ◌+◌, ◌*◌, ◌<◌, cond, n
 use Rattle.std.specs.Option.{option_map_or}
 use Rattle.lsa_kinds.specs.declared.kind.Kind.{Kind}
 use Rattle.lsa_kinds.specs.Kinds.{links_of}
-use Rattle.lsa_yard.specs.Cells.{Cell, up8, size_of, extent, cell_at, body_at, link_in, IsChanged}
+use Rattle.lsa_yard.specs.Cells.{Cell, up8, size_of, extent, cell_at, body_at, link_in, IsChangedAt}
 use Rattle.lsa_store.specs.declared.place.Ref.{Ref}
 
 -- the cells of segment n
@@ -56,10 +56,8 @@ abbrev pub object_count : List (List Cell) → ℕ
 object_count cells = sum_by live_count cells
 
 -- the cell that begins at a place is changed so; all else is as it was
-pub record IsChangedIn (old new : List (List Cell)) (r : Ref) (change : Cell → Cell) : Type 0 where
-  pub after : List Cell
-  pub is : new ≡ slice_set old r.segment after
-  pub changed : IsChanged (cells_of old r.segment) after r.offset change
+abbrev pub IsChangedIn : List (List Cell) → List (List Cell) → Ref → (Cell → Cell) → Type 0
+IsChangedIn old new r change = IsChangedAt old new r.segment r.offset change
 
 -- one cell more stands behind those of a segment, and begins at a place; all else is as it was
 pub record IsPutIn (old new : List (List Cell)) (r : Ref) (c : Cell) : Type 0 where

@@ -11,14 +11,14 @@ ghost use Rattle.lsa_store.specs.Stock.{stock_of, sparse_of, IsTurned, IsCredite
 use crate::place::Ref;
 use lsa_kinds::{Kind, links};
 use lsa_pool::Pool;
-use lsa_yard::Yard;
+use lsa_yard::Yards;
 use std::alloc::{AllocError, Global};
 use std::marker::Model;
 
 /// Segments of `S` bytes each, `S` a multiple of 64 and at most 2 ^ 27: the cells that stand in each, and the segments' books.
 #[derive(Drop)]
 pub struct Store<const S: usize> {
-    yards: Vec<Yard<S>>,
+    yards: Yards<S>,
     pool: Pool<S>,
     active: u32,
     count: usize,
@@ -32,9 +32,9 @@ impl<const S: usize> Model for Store<S> {
 
     ghost Value = { Stored };
 
-    ghost view = { λ s. record { cells = s.yards.items; usages = s.pool } };
+    ghost view = { λ s. record { cells = s.yards; usages = s.pool } };
 
-    ghost invariant = { λ s. IsStored S (record { cells = s.yards.items; usages = s.pool }) × (active_of s.pool ≡ Some s.active) × (s.count ≡ object_count s.yards.items) };
+    ghost invariant = { λ s. IsStored S (record { cells = s.yards; usages = s.pool }) × (active_of s.pool ≡ Some s.active) × (s.count ≡ object_count s.yards) };
 }
 
 impl<const S: usize> Store<S> {
@@ -54,7 +54,7 @@ impl<const S: usize> Store<S> {
         ensures budget { IfOk result (λ s. length s.usages ≡ segments) }
     {
         let pool = Pool::new(alloc, segments)?;
-        let yards = empty_yards(alloc, segments)?;
+        let yards = Yards::new(alloc, segments)?;
         Ok(assemble(yards, pool))
     }
 
@@ -100,8 +100,11 @@ impl<const S: usize> Store<S> {
     pub fn has(&self, r: Ref) -> bool
         ensures { result ≡ is_some (body_in self.now.cells r) }
     {
-        match self.yards.get(r.segment as usize) {
-            Some(yard) => stands(yard, r.offset as usize),
+        if !self.yards.has(r.segment as usize, r.offset as usize) {
+            return false;
+        }
+        match self.kind_at(r) {
+            Some(_) => true,
             None => false,
         }
     }
@@ -111,7 +114,7 @@ impl<const S: usize> Store<S> {
         requires { n < length self.now.usages }
         ensures { result ≡ extent (cells_of self.now.cells n) }
     {
-        S - self.yards[n as usize].room()
+        S - self.yards.room(n as usize)
     }
 
     /// The kind of the object that begins at this place; None for the gap that a freed one left.
@@ -119,7 +122,7 @@ impl<const S: usize> Store<S> {
         requires { IsSome (cell_in self.now.cells r) }
         ensures { IsSomeAnd (cell_in self.now.cells r) (λ c. c.kind ≡ result) }
     {
-        self.yards[r.segment as usize].kind(r.offset as usize)
+        self.yards.kind(r.segment as usize, r.offset as usize)
     }
 
     /// How many bytes the cell takes that begins at this place: the next one begins so many bytes behind it.
@@ -127,7 +130,7 @@ impl<const S: usize> Store<S> {
         requires { IsSome (cell_in self.now.cells r) }
         ensures { IsSomeAnd (cell_in self.now.cells r) (λ c. size_of c ≡ result) }
     {
-        self.yards[r.segment as usize].size(r.offset as usize)
+        self.yards.size(r.segment as usize, r.offset as usize)
     }
 
     /// The kind of an object.
@@ -135,10 +138,7 @@ impl<const S: usize> Store<S> {
         requires { IsSome (body_in self.now.cells r) }
         ensures { IsSomeAnd (body_in self.now.cells r) (λ b. b.0 ≡ result) }
     {
-        match self.yards[r.segment as usize].kind(r.offset as usize) {
-            Some(kind) => kind,
-            None => unreachable!(),
-        }
+        self.yards.object(r.segment as usize, r.offset as usize)
     }
 
     /// The bytes of an object that follow its links.
@@ -146,7 +146,7 @@ impl<const S: usize> Store<S> {
         requires { IsSome (body_in self.now.cells r) }
         ensures { IsSomeAnd (body_in self.now.cells r) (λ b. b.1 ≡ result.now) }
     {
-        self.yards[r.segment as usize].bytes(r.offset as usize)
+        self.yards.bytes(r.segment as usize, r.offset as usize)
     }
 
     /// Writes over bytes of an object that follow its links, from `from` on.
@@ -155,7 +155,8 @@ impl<const S: usize> Store<S> {
         ensures changed { IsChangedIn self.old.cells self.new.cells r (with_bytes from bytes.now) }
         ensures usages { self.new.usages ≡ self.old.usages }
     {
-        self.yards[r.segment as usize].write(r.offset as usize, from, bytes);
+        self.yards
+            .write(r.segment as usize, r.offset as usize, from, bytes);
     }
 
     /// The number in a link of an object.
@@ -163,7 +164,8 @@ impl<const S: usize> Store<S> {
         requires { IsSomeAnd (body_in self.now.cells r) (λ b. field < links_of b.0) }
         ensures { result ≡ word_in self.now.cells r field }
     {
-        self.yards[r.segment as usize].link(r.offset as usize, field)
+        self.yards
+            .link(r.segment as usize, r.offset as usize, field)
     }
 
     /// Writes a number into a link of an object.
@@ -172,7 +174,8 @@ impl<const S: usize> Store<S> {
         ensures changed { IsChangedIn self.old.cells self.new.cells r (with_link field value) }
         ensures usages { self.new.usages ≡ self.old.usages }
     {
-        self.yards[r.segment as usize].set_link(r.offset as usize, field, value);
+        self.yards
+            .set_link(r.segment as usize, r.offset as usize, field, value);
     }
 
     /// Makes an object of this kind with these bytes behind its links, which are all 0, and gives its place. Where the active segment
@@ -211,9 +214,8 @@ impl<const S: usize> Store<S> {
         ensures changed { IsChangedIn self.old.cells self.new.cells r gap_of }
         ensures given { IsSomeAnd (body_in self.old.cells r) (λ b. IsGivenBack S self.old.usages self.new.usages r.segment (rounded_size b.0 (length b.1))) }
     {
-        let yard = &mut self.yards[r.segment as usize];
-        let size = yard.size(r.offset as usize);
-        yard.kill(r.offset as usize);
+        let size = self.size_at(r);
+        self.yards.kill(r.segment as usize, r.offset as usize);
         self.pool.debit(r.segment, size);
         self.count -= 1;
     }
@@ -230,7 +232,7 @@ impl<const S: usize> Store<S> {
         ensures budget { length self.new.usages ≡ length self.old.usages }
     {
         self.pool.give(n);
-        self.yards[n as usize].clear();
+        self.yards.clear(n as usize);
     }
 
     // How many bytes of the active segment are not used.
@@ -238,7 +240,7 @@ impl<const S: usize> Store<S> {
         ensures room { result ≡ active_room S self.now.usages }
         ensures even { S % 64 ≡ 0 }
     {
-        self.yards[self.active as usize].room()
+        self.yards.room(self.active as usize)
     }
 
     // Closes the active segment, and lets a free one be the active one.
@@ -280,7 +282,7 @@ impl<const S: usize> Store<S> {
         ensures credited { IsCredited S self.old.usages self.new.usages result.segment size }
     {
         let segment = self.active;
-        let offset = self.yards[segment as usize].push(kind, bytes);
+        let offset = self.yards.push(segment as usize, kind, bytes);
         self.pool.credit(segment, size);
         self.count += 1;
         Ref {
@@ -298,12 +300,9 @@ impl<const S: usize> Store<S> {
         ensures credited { IsCredited S self.old.usages self.new.usages result.segment size }
     {
         let segment = self.active;
-        let offset = copy_between(
-            &mut self.yards,
-            r.segment as usize,
-            segment as usize,
-            r.offset as usize,
-        );
+        let offset = self
+            .yards
+            .copy(r.segment as usize, r.offset as usize, segment as usize);
         self.pool.credit(segment, size);
         self.count += 1;
         Ref {
@@ -321,67 +320,8 @@ fn object_size(kind: Kind, len: usize) -> usize
     (8 + 8 * links(kind) + len + 7) / 8 * 8
 }
 
-// Whether an object begins at the offset.
-fn stands<const S: usize>(yard: &Yard<S>, offset: usize) -> bool
-    ensures { result ≡ is_some (body_at yard.now offset) }
-{
-    if !yard.has(offset) {
-        return false;
-    }
-    match yard.kind(offset) {
-        Some(_) => true,
-        None => false,
-    }
-}
-
-// Puts an object with the kind and the bytes of one of another yard behind the cells of a yard, and gives the offset at which it begins.
-fn copy<const S: usize>(from: &Yard<S>, offset: usize, to: &mut Yard<S>) -> usize
-    requires { IsSomeAnd (body_at from.now offset) (λ b. extent to.old + rounded_size b.0 (length b.1) ≤ S) }
-    ensures offset { result ≡ extent to.old }
-    ensures after { IsSomeAnd (body_at from.now offset) (λ b. to.new ≡ to.old ++ fresh b.0 b.1 ∷ []) }
-{
-    match from.kind(offset) {
-        Some(kind) => to.push(kind, from.bytes(offset)),
-        None => unreachable!(),
-    }
-}
-
-// The same between two yards of a list.
-fn copy_between<const S: usize>(
-    yards: &mut Vec<Yard<S>>,
-    from: usize,
-    to: usize,
-    offset: usize,
-) -> usize
-    requires from { from < length yards.old.items }
-    requires to { to < length yards.old.items }
-    requires differ { from ≢ to }
-    requires fits { IsSomeAnd (body_at (slice_index_or yards.old.items from []) offset) (λ b. extent (slice_index_or yards.old.items to []) + rounded_size b.0 (length b.1) ≤ S) }
-    ensures offset { result ≡ extent (slice_index_or yards.old.items to []) }
-    ensures after { IsSomeAnd (body_at (slice_index_or yards.old.items from []) offset) (λ b. yards.new.items ≡ slice_set yards.old.items to (slice_index_or yards.old.items to [] ++ fresh b.0 b.1 ∷ [])) }
-{
-    if from < to {
-        let (low, high) = yards.split_at_mut(to);
-        copy(&low[from], offset, &mut high[0])
-    } else {
-        let (low, high) = yards.split_at_mut(from);
-        copy(&high[0], offset, &mut low[to])
-    }
-}
-
-fn empty_yards<const S: usize>(alloc: Global, count: u32) -> Result<Vec<Yard<S>>, AllocError>
-    requires { S ≤ 2 ^ 27 }
-    ensures { IfOk result (λ v. v.items ≡ replicate count []) }
-{
-    let mut yards = Vec::with_capacity(alloc, count as usize)?;
-    for made in 0..count {
-        yards.push(Yard::new(alloc)?)?;
-    }
-    Ok(yards)
-}
-
 // A store in which nothing stands, of its parts.
-fn assemble<const S: usize>(yards: Vec<Yard<S>>, pool: Pool<S>) -> Store<S>
+fn assemble<const S: usize>(yards: Yards<S>, pool: Pool<S>) -> Store<S>
     requires few { length pool ≤ 4096 }
     requires some { 4 ≤ length pool }
     requires small { S ≤ 2 ^ 27 }
@@ -389,8 +329,8 @@ fn assemble<const S: usize>(yards: Vec<Yard<S>>, pool: Pool<S>) -> Store<S>
     requires usages { pool ≡ record nothing { state = Active } ∷ replicate (length pool - 1) nothing }
     requires active { active_of pool ≡ Some 0 }
     requires sound { IsSound S pool }
-    requires yards { yards.items ≡ replicate (length pool) [] }
-    ensures cells { result.cells ≡ yards.entry.items }
+    requires yards { yards ≡ replicate (length pool) [] }
+    ensures cells { result.cells ≡ yards.entry }
     ensures usages { result.usages ≡ pool.entry }
 {
     Store {

@@ -1,1 +1,3 @@
-pub mod Yards
+pub mod Readings
+pub mod Segments
+pub mod Words

@@ -1,5 +1,5 @@
 -- What stands in a segment, one after the other.
-use Rattle.std.specs.Prelude.{◌≡◌, ℕ, zero, suc, ◌+◌, ◌-◌, ◌*◌, ◌/◌, cond, nat_lt, List, [], ◌∷◌, ◌++◌, length, drop, replicate, Option, Some, None, IsSomeAnd}
+use Rattle.std.specs.Prelude.{◌≡◌, ℕ, zero, suc, ◌+◌, ◌-◌, ◌*◌, ◌/◌, cond, nat_lt, List, [], ◌∷◌, ◌++◌, length, drop, replicate, slice_index_or, slice_set, Option, Some, None, IsSomeAnd}
 use Rattle.std.specs.Option.{option_map, option_and_then}
 use Rattle.lsa_kinds.specs.declared.kind.Kind.{Kind}
 use Rattle.lsa_kinds.specs.Kinds.{links_of}
@@ -75,3 +75,9 @@ pub record IsReplaced (old new : List Cell) (offset : ℕ) (was is : Cell) : Typ
 -- the cell that begins at the offset is changed so; the others are as they were
 abbrev pub IsChanged : List Cell → List Cell → ℕ → (Cell → Cell) → Type 0
 IsChanged old new offset change = IsSomeAnd (cell_at old offset) (λ c. IsReplaced old new offset c (change c))
+
+-- the cell that begins at the offset in segment n is changed so; all else is as it was
+pub record IsChangedAt (old new : List (List Cell)) (n offset : ℕ) (change : Cell → Cell) : Type 0 where
+  pub after : List Cell
+  pub is : new ≡ slice_set old n after
+  pub changed : IsChanged (slice_index_or old n []) after offset change

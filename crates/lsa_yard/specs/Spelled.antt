@@ -1,8 +1,8 @@
 -- How cells are spelled in bytes, and how they are read.
-use Rattle.std.specs.Prelude.{◌≡◌, ℕ, zero, suc, ◌+◌, ◌-◌, ◌^◌, ◌<◌, ◌≤◌, List, [], ◌∷◌, ◌++◌, length, take, drop, replicate, Option, Some, None, All}
+use Rattle.std.specs.Prelude.{◌≡◌, ℕ, zero, suc, ◌+◌, ◌-◌, ◌*◌, ◌^◌, ◌<◌, ◌≤◌, List, [], ◌∷◌, ◌++◌, length, take, drop, replicate, slice_index_or, Option, Some, None, All}
 use Rattle.lsa_kinds.specs.declared.kind.Kind.{Kind}
 use Rattle.lsa_kinds.specs.declared.kind.Kind.TheVariants.{Version, RowEntry, Dummy, Static}
-use Rattle.lsa_kinds.specs.Kinds.{code_of}
+use Rattle.lsa_kinds.specs.Kinds.{code_of, links_of}
 use Rattle.lsa_kinds.specs.Fields.{number_at, spelled}
 use Rattle.lsa_yard.specs.Cells.{Cell, up8, size_of, links_size}
 
@@ -23,6 +23,10 @@ kind_of (suc (suc (suc (suc (suc n))))) = None
 -- the header's last 4 bytes: the size before it is rounded up
 unfoldable pub size_field : ℕ → List ℕ
 size_field size = spelled 4 size
+
+-- the header of an object with so many bytes behind its links, and the links, which are all 0
+abbrev pub head_of : Kind → ℕ → List ℕ
+head_of kind len = code_of kind ∷ 0 ∷ 0 ∷ 0 ∷ (size_field (8 + 8 * links_of kind + len) ++ replicate (8 * links_of kind) 0)
 
 -- the bytes of a cell: the header, of which three bytes are 0, the rest, and zeros up to its size
 abbrev pub spell : Cell → List ℕ
@@ -55,3 +59,7 @@ pub record IsSpelled (size : ℕ) (bytes : List ℕ) : Type 0 where
   pub proper : All IsProper (cells_in bytes)
   pub within : length bytes ≤ size
   pub small : size ≤ 2 ^ 27
+
+-- the bytes of each segment, of size bytes, spell cells and nothing else
+pub record AreSpelled (size : ℕ) (segments : List (List ℕ)) : Type 0 where
+  pub each : (n : ℕ) → IsSpelled size (slice_index_or segments n [])

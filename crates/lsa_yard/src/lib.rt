@@ -1,7 +1,7 @@
-//! A segment as cells: one object after the other, each with its header and its links, found by their headers alone.
+//! Segments as cells: in each one object after the other, each with its header and its links, found by their headers alone.
 #![tactic(auto)]
 
 pub mod laws;
-mod yard;
+mod yards;
 
-pub use yard::Yard;
+pub use yards::Yards;

@@ -1,5 +1,5 @@
 -- Two ends change places.
-use Rattle.std.proofs.Common.{◌≡◌, ◌≢◌, ◌⊎◌, inl, inr, Bool, true, false, cond, ◌&&◌, Option, Some, None, refl, sym, ap, ◌∙◌, subst}
+use Rattle.std.proofs.Common.{◌≡◌, ◌≢◌, ◌⊎◌, inl, inr, true, false, cond, ◌&&◌, Option, Some, None, refl, sym, ap, ◌∙◌, subst}
 use Rattle.std.specs.Option.{option_map}
 use Rattle.std.proofs.lemmas.Bool.{eqb-true, eq-eqb}
 use Rattle.std.specs.Prelude.{nat_eq, IfSome}
@@ -64,6 +64,14 @@ exchanged-tied old a b well differ tied = let back = well.mates a b tied in reco
   first = tied ∙ sym (ap (option_map (swapped a b)) back ∙ ap (λ x. Some x) (swap-first a b));
   second = back ∙ sym (ap (option_map (swapped a b)) tied ∙ ap (λ x. Some x) (swap-second a b differ));
   others = λ e no_a no_b. sym (map_other a b (old e) (λ x. let d = well.mates e a x in let same : b ≡ e = cc in no_b (sym same)) (λ x. let d = well.mates e b x in let same : a ≡ e = cc in no_a (sym same)));
+}
+
+-- two ends that name nothing stay
+pub exchanged-unset : (old : End → Option End) (a b : End) → WellPaired old → old a ≡ None → old b ≡ None → IsExchanged old old a b
+exchanged-unset old a b well none_a none_b = record {
+  first = none_a ∙ sym (ap (option_map (swapped a b)) none_b);
+  second = none_b ∙ sym (ap (option_map (swapped a b)) none_a);
+  others = λ e no_a no_b. sym (map_other a b (old e) (λ x. let clash = sym none_a ∙ well.mates e a x in cc) (λ x. let clash = sym none_b ∙ well.mates e b x in cc));
 }
 
 -- the exchange at any end

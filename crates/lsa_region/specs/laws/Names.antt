@@ -3,6 +3,7 @@ use Rattle.std.proofs.Common.{◌≡◌, ◌≢◌, ℕ, zero, suc, ◌+◌, ◌
 use Rattle.std.specs.Prelude.{is_some, IsSome, IsSomeAnd, Contains, AllPairs}
 use Rattle.std.specs.Option.{option_map, option_and_then}
 use Rattle.std.proofs.lemmas.Bool.{cases_lt}
+use Rattle.std.proofs.lemmas.List.Kept.{AllPairs-cons}
 use Rattle.std.proofs.lemmas.List.{get_or-map, length-map}
 use Rattle.std.proofs.lemmas.List.Elements.{Contains-append_left, Contains-append_right, Contains-append_cases}
 use Rattle.lsa_kinds.specs.declared.kind.Kind.{Kind}
@@ -82,10 +83,7 @@ module _ (v w : View) (names : List (Ref × Ref)) (renamed : Renamed v w names) 
 -- ---- lists in which no two are the same
 
 once-cons : (r : Ref) (refs : List Ref) → (Contains refs r → ⊥) → AllPairs ◌≢◌ refs → AllPairs ◌≢◌ (r ∷ refs)
-once-cons r refs new once i zero d less lt = absurd (omega arith)
-once-cons r refs new once zero (suc j) d less lt = λ same.
-    let within : j < length refs = omega (arith, lt) in new (j, within, get_or-default refs j r d within ∙ sym same)
-once-cons r refs new once (suc i) (suc j) d less lt = once i j d (omega (arith, less)) (omega (arith, lt))
+once-cons r refs new once = AllPairs-cons ◌≢◌ r refs (λ j d lt same. new (j, lt, get_or-default refs j r d lt ∙ sym same)) once
 
 once-append : (xs ys : List Ref) → AllPairs ◌≢◌ xs → AllPairs ◌≢◌ ys → ((r : Ref) → Contains xs r → Contains ys r → ⊥) → AllPairs ◌≢◌ (xs ++ ys)
 once-append [] ys ones others apart = others
@@ -99,6 +97,7 @@ once-append (x ∷ xs) ys ones others apart =
 
 -- ---- the references of all objects
 
+-- the reference of what begins at the offset in segment n
 abbrev pub ref : ℕ → ℕ → Ref
 ref n offset = record { segment = n; offset = offset }
 
@@ -135,6 +134,7 @@ in_one (Some kind) n offset q h = (refl, only h.0 h.1 h.2)
     only zero lt e = sym e
     only (suc k) lt e = absurd (omega (arith, lt))
 
+-- the reference is one of those of the objects among these cells
 record IsListed (n offset : ℕ) (cells : List Cell) (q : Ref) : Type 0 where
   pub segment : q.segment ≡ n
   pub behind : offset ≤ q.offset
@@ -184,6 +184,7 @@ once_in n offset (c ∷ cells) i j d less lt =
     once-append (ref_of c.kind n offset) (refs_in n (offset + size_of c) cells) (one_once c.kind n offset) (once_in n (offset + size_of c) cells)
     (λ q h w. let here : q.offset ≡ offset = ap (λ (x : Ref). x.offset) (in_one c.kind n offset q h).1 in omega (arith, here, (in_cells n (offset + size_of c) cells q w).behind, size-least c)) i j d less lt
 
+-- the reference is one of those of the objects in these segments, of which the first is n
 record IsListedFrom (n : ℕ) (cells : List (List Cell)) (q : Ref) : Type 0 where
   pub behind : n ≤ q.segment
   pub live : IsSome (body_in cells (ref (q.segment - n) q.offset))
@@ -227,6 +228,7 @@ are_live v = record {
 
 -- ---- the names that a function gives
 
+-- each of these references, with the name that the function gives it
 abbrev pub names_of : (Ref → Ref) → List Ref → List (Ref × Ref)
 names_of there refs = map (λ r. (r, there r)) refs
 

@@ -37,6 +37,10 @@ and_there o x P e p = subst (λ q. IsSomeAnd q P) (sym e) p
 pub there_and : {X : Type 0} (o : Option X) (x : X) (P : X → Type 0) → o ≡ Some x → IsSomeAnd o P → P x
 there_and o x P e p = subst (λ q. IsSomeAnd q P) e p
 
+pub and_map : {X : Type 0} (o : Option X) (P Q : X → Type 0) → ((x : X) → P x → Q x) → IsSomeAnd o P → IsSomeAnd o Q
+and_map None P Q f p = p
+and_map (Some x) P Q f p = f x p
+
 -- no cell begins where they end
 pub none-behind : (cells : List Cell) → cell_at cells (extent cells) ≡ None
 none-behind cells = none_at (cell_at cells (extent cells)) (λ c e. omega (arith, at-within cells (extent cells) c e, size-least c))

@@ -1,4 +1,4 @@
-use Rattle.std.proofs.Common.{◌≡◌, ◌<◌, length, refl, sym, ◌∙◌, arith}
+use Rattle.std.proofs.Common.{◌<◌, length, refl, sym, ◌∙◌, arith}
 use Rattle.lsa_pool.specs.laws.Usages.{closed-inside}
 use Rattle.lsa_store.specs.laws.Books.{stock-reserve}
 use Rattle.lsa_store.specs.laws.Sparse.{sparse-is}

@@ -1,14 +1,14 @@
-use Rattle.std.proofs.Common.{◌≡◌, ◌+◌, ◌<◌, ◌≤◌, Some, sym, ap, ◌∙◌, subst, arith}
-use Rattle.lsa_yard.specs.Cells.{Cell, size_of, extent, cell_at}
+use Rattle.std.proofs.Common.{◌≡◌, ◌+◌, ◌<◌, sym, ◌∙◌, subst, arith}
+use Rattle.lsa_yard.specs.Cells.{Cell, size_of}
 use Rattle.lsa_yard.specs.laws.Changes.{at-within}
 use Rattle.lsa_store.specs.declared.place.Ref.{Ref}
-use Rattle.lsa_store.specs.Objects.{cells_of, cell_in, live_in, live_count}
+use Rattle.lsa_store.specs.Objects.{cells_of, cell_in, live_in}
 use Rattle.lsa_store.specs.Stored.{Stored}
 use Rattle.lsa_store.specs.laws.Places.{there_and}
 use Rattle.lsa_store.specs.laws.Sums.{count-within}
 use Rattle.lsa_region.specs.Ends.{swapped_ref}
 use Rattle.lsa_region.specs.Moves.{view_in, IsSweeping}
-use Rattle.lsa_region.specs.Region.{View, IsWell}
+use Rattle.lsa_region.specs.Region.{IsWell}
 use Rattle.lsa_region.proofs.Sweeps.{swept-init, swept-gap, swept-move, cell_where, some-there, live-there}
 use Rattle.lsa_region.proofs.mover.sweep.Goals.{in-Some, in-None}
 use Rattle.lsa_region.proofs.mover.sweep.Goals as goal

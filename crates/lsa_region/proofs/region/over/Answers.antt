@@ -1,4 +1,3 @@
-use Rattle.std.proofs.Common.{refl}
 use Rattle.lsa_region.specs.Region.{View}
 use Rattle.lsa_region.proofs.Regions.{region-open, none-open, bodies-open}
 use Rattle.lsa_region.proofs.region.over.Goals as goal

@@ -1,5 +1,5 @@
 -- `deallocate` forgets what the bytes are, and gives the block back by the right to do so. Assumes `Logic`.
-use Rattle.std.proofs.Common.{◌≡◌, ℕ, ◌+◌, List, [], ◌∷◌, ◌++◌, length, replicate, refl, sym, subst, ◌∙◌, w64, arith, lit<, Some, None}
+use Rattle.std.proofs.Common.{◌≡◌, ℕ, ◌+◌, List, [], ◌∷◌, ◌++◌, length, replicate, refl, sym, subst, ◌∙◌, w64, arith, lit<, None}
 use mir.Syntax.{Ty, Fn, Args, a_type, dcons, dnil, ty_array}
 use mir.Val.{Val, vint, vptr}
 use mir.MapTy.{inst_fn}
@@ -26,8 +26,7 @@ use Rattle.core.proofs.alloc.Calls.{Al}
 use Rattle.core.proofs.alloc.Shapes.{after}
 use Rattle.core.proofs.atomic.Steps.{fm}
 use Rattle.core.proofs.slots.Leases.{block_ty, block_size, block_align}
-use Rattle.std_alloc.proofs.RawLayout.{as_written}
-use Rattle.std_alloc.proofs.RcSteps.{Good, word, word-Good}
+use Rattle.std_alloc.proofs.RcSteps.{word, word-Good}
 use Rattle.std.proofs.raw_atomic.Walks.{proved_at, leaves}
 use Rattle.circular_buffer.specs.Ownership.{slots}
 use Rattle.circular_buffer.proofs.Memory.{sz, mark}
@@ -36,6 +35,7 @@ use Rattle.lsa_segment.specs.contracts.raw.Owned.{the_row as O}
 use Rattle.lsa_segment.specs.contracts.raw.Start.{the_row as St}
 use Rattle.lsa_segment.specs.contracts.raw.Right as D-type
 use Rattle.lsa_segment.proofs.Byte.{byte}
+use Rattle.lsa_segment.proofs.Emptied.{emptied}
 use Rattle.lsa_segment.specs.contracts.raw.deallocate as f
 use Rattle.lsa_segment.proofs.raw.deallocate.Statement.{statement}
 use Rattle.lsa_segment.proofs.raw.deallocate.Code as code
@@ -47,7 +47,7 @@ use mir.Syntax.{named, ty_unit}
 use mir.Val.{vunit, has_ty, WT}
 use seplogic.Ra.Ura.{Ura}
 use types.Logic.{Logic, sem}
-use types.Kit.{some, given, keep, pick, learn, frame, group, rewrite, fsplit3, feq_i, feq_l, flt_l}
+use types.Kit.{given, keep, learn, frame, group, rewrite, fsplit3, feq_i, feq_l, flt_l}
 use types.Part.{sub}
 use types.Run.{unit_lit, blocks}
 use types.ByLocal.{lands_last, take_at, give_at}
@@ -58,17 +58,14 @@ use Rattle.core.proofs.alloc.Calls.{token, Gives, at_gives, Gives-goes, Gives-Gi
 use Rattle.std_alloc.proofs.RawLayout.{as_raw}
 use Rattle.std.proofs.Common.{Option}
 use Rattle.circular_buffer.specs.Ownership.{slot, cells_own, deed_owns}
-use Rattle.circular_buffer.proofs.Memory.{word_had, mark_had, value_out, to_room}
+use Rattle.circular_buffer.proofs.Memory.{word_had, mark_had, to_room}
 
 -- each byte becomes room
 unset : {M : Type 1} {𝓤 : Ura M} (𝓛 : Logic 𝓤) (bytes : List (Option ℕ)) (b o : ℕ) → ent 𝓤 (sem 𝓛 (slots byte_row b o bytes)) (sem 𝓛 (slots byte_row b o (replicate (length bytes) None)))
 unset {𝓤 = 𝓤} 𝓛 [] b o = id⊢ 𝓤 _
-unset {𝓤 = 𝓤} 𝓛 (None ∷ bytes) b o = qed 𝓛 (‵ (slot byte_row b o None) ∷ ‵ (slots byte_row b (o + sz byte) bytes) ∷ []) ∵ frame ! $ by ! (unset 𝓛 bytes b (o + sz byte))
-unset {𝓤 = 𝓤} 𝓛 (Some x ∷ bytes) b o =
-    qed 𝓛 (‵ (slot byte_row b o (Some x)) ∷ ‵ (slots byte_row b (o + sz byte) bytes) ∷ []) ∵
-    use1 𝓛 (some (λ (v : Val). given (Good (elτ byte) v) (‵ (fat full_share (elτ byte) b o v) ⊛ ‵ (byte.row.own_val x (v ∷ []))))) (value_out 0 byte.row byte.laws 𝓛 x b o) $
-    pick ! (λ v. learn ! (λ good. split ! $ use1 𝓛 (‵ (froom (elτ byte) b o)) (𝓛.laws.at_room (elτ byte) b o v) $ as_written ! (elτ byte) b o $ keep ! (0 ∷ 2 ∷ []) $
-    frame ! $ by ! (unset 𝓛 bytes b (o + sz byte))))
+unset {𝓤 = 𝓤} 𝓛 (place ∷ bytes) b o =
+    qed 𝓛 (‵ (slot byte_row b o place) ∷ ‵ (slots byte_row b (o + sz byte) bytes) ∷ []) ∵
+    use1 𝓛 (‵ (slot byte_row b o None)) (emptied 𝓛 place b o) $ frame ! $ by ! (unset 𝓛 bytes b (o + sz byte))
 
 pub deallocate_spec : {M : Type 1} → statement M
 deallocate_spec 𝓤 𝓛 𝓜 𝓡 wired A L g d dd met md =

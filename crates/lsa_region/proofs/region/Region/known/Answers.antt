@@ -1,4 +1,4 @@
-use Rattle.std.proofs.Common.{ap, subst}
+use Rattle.std.proofs.Common.{subst}
 use Rattle.lsa_region.specs.Region.{View, HasLayout, IsSummed}
 use Rattle.lsa_region.proofs.Layouts.{layout}
 use Rattle.lsa_region.proofs.Summed.{summed}

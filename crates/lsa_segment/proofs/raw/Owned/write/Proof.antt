@@ -26,11 +26,12 @@ use Rattle.std_alloc.proofs.RcSteps.{word, word-Good}
 use Rattle.std_alloc.proofs.RawLayout.{as_written}
 use Rattle.core.proofs.mem.Param.{elτ}
 use Rattle.circular_buffer.specs.Ownership.{slot, slots, cells_own}
-use Rattle.circular_buffer.proofs.Memory.{Place, sz, word_had, value_in, Besides, slot_out, slot_in}
+use Rattle.circular_buffer.proofs.Memory.{sz, word_had, value_in, Besides, slot_out, slot_in}
 use Rattle.lsa_segment.specs.Raw.{byte_row}
 use Rattle.lsa_segment.specs.contracts.raw.Owned.{the_row as O}
 use Rattle.lsa_segment.specs.contracts.raw.Start.{the_row as St}
 use Rattle.lsa_segment.proofs.Byte.{byte}
+use Rattle.lsa_segment.proofs.Emptied.{emptied}
 use Rattle.lsa_segment.specs.contracts.raw.Owned.write as f
 use Rattle.lsa_segment.proofs.raw.Owned.write.Statement.{statement}
 use Rattle.lsa_segment.proofs.raw.Owned.write.Code as code
@@ -47,7 +48,7 @@ write_spec 𝓤 𝓛 𝓜 𝓡 wired =
     let κ = y.0.0.0 in let q = y.0.1.0 in let self = y.0.3.0 in let start = y.0.3.1.0 in let index = y.0.3.1.1.0 in let x = y.0.3.1.1.1.0 in
     let us0 = y.0.4.0 in let us1 = y.0.4.1.0 in let us2 = y.0.4.1.1.0 in let us3 = y.0.4.1.1.1.0 in
     let d = self.now in let γ = self.ghost_name in let rb = self.ref_ptr.0 in let ro = self.ref_ptr.1 in
-    needs 𝓤 ((start.at ≡ d.at) × (index < length d.bytes) × (get_or d.bytes index None ≡ None)) _ (λ asked.
+    needs 𝓤 ((start.at ≡ d.at) × (index < length d.bytes)) _ (λ asked.
     qed 𝓛 ((‵ (flft κ q) ⊛ ‵ ftrue) ∷ ‵ (owns (MutRef (named 0) κ O ∷ St ∷ usize ∷ u8 ∷ []) (self, (start, (index, (x, tt)))) (us0, (us1, (us2, (us3, tt))))) ∷ []) ∵
     split ! $ move ! (2 ∷ []) $ fsplit ! $ fsplit3 ! $ feq_l ! (λ e0. move ! (2 ∷ []) $ fsplit ! $ word_had ! start.at us1 (λ e1.
     fsplit ! $ fsplit ! $ feq_l ! (λ e2. flt_l ! (λ fits. fsplit ! $ fsplit ! $ feq_l ! (λ e3. flt_l ! (λ fits_x. keep ! (1 ∷ 2 ∷ 3 ∷ []) $
@@ -64,7 +65,7 @@ write_spec 𝓤 𝓛 𝓜 𝓡 wired =
     sets ! (bin ! (get_in ! (fld ! refl (stop !)) (sub ! 0 refl (whole !))) (get ! refl) tt) refl (tt, tt) $
     let s = sz byte in let same : index * s ≡ index = omega arith in
     use1 𝓛 (‵ (slot byte_row b (index * s + o) (get_or d.bytes index None)) ⊛ ‵ (Besides byte 𝓛 b o d.bytes index)) (slot_out byte 𝓛 b o d.bytes index asked.1) $ split ! $
-    rewrite ! 0 (λ (m : Place byte). ‵ (slot byte_row b (index * s + o) m)) asked.2 refl $
+    use1 𝓛 (‵ (slot byte_row b (index * s + o) None)) (emptied 𝓛 (get_or d.bytes index None) b (index * s + o)) $
     rewrite ! 0 (λ (k : ℕ). ‵ (slot byte_row b (k + o) None)) same refl $ as_written ! (elτ byte) b (index + o) $
     -- [the room; the other places; the mark; its cell; the open borrow; obs; auth]
     assigns_last ! (of_opd ! (get ! refl)) (through ! refl (stop !)) (init ! 0 refl (tt, record { fits = fits_x })) $

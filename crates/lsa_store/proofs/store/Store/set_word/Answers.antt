@@ -5,5 +5,5 @@ use Rattle.lsa_store.proofs.store.Store.set_word.Goals as goal
 pub invariant_of-self : goal.invariant_of-self
 invariant_of-self g c =
     let i = c.self.inside in
-    let r = linked-store g.row.S i.yards.items i.pool c.args.self.now c.self.invariant.0 c.self.view_is c.args.r c.args.field c.args.value c.index_mut.result.now c.set_link.new.self c.requires c.index_mut.ensures.value c.set_link.ensures in
+    let r = linked-store g.row.S i.yards i.pool c.args.self.now c.self.invariant.0 c.self.view_is c.args.r c.args.field c.args.value c.set_link.new.self c.requires c.set_link.ensures in
     (r.0, c.self.invariant.1, c.self.invariant.2 ∙ r.1)

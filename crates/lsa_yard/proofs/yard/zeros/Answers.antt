@@ -1,5 +1,0 @@
-use Rattle.std.proofs.lemmas.List.{take-replicate}
-use Rattle.lsa_yard.proofs.yard.zeros.Goals as goal
-
-pub returns : goal.returns
-returns c = take-replicate c.args.count 40 0 c.requires
