@@ -1,0 +1,4 @@
+pub mod laws
+pub mod Entries
+pub mod Search
+pub mod Tree

@@ -1,0 +1,3 @@
+-- Laws of ordered entries, for the proofs of what stands on them.
+pub mod Orders
+pub mod Trees
