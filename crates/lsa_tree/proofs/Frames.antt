@@ -10,6 +10,7 @@ use Rattle.lsa_kinds.specs.declared.kind.Kind.TheVariants.{Version}
 use Rattle.lsa_store.specs.declared.place.Ref.{Ref}
 use Rattle.lsa_region.specs.declared.end.End.{End}
 use Rattle.lsa_region.specs.declared.end.End.TheVariants.{Obj, Slot}
+use Rattle.lsa_region.specs.Ends.{swapped}
 use Rattle.lsa_region.specs.Region.{View, body, link_of, IsEnd, IsWell, SameObjects}
 use Rattle.lsa_region.specs.laws.Exchanges.{swap-other}
 use Rattle.lsa_path.specs.Path.{IsPath, behind, IsInserted, IsTakenOut, exchanged_end}
@@ -88,7 +89,7 @@ module _ (v w : View) (top : End) where
 
   leads_apart : (s e : End) (ys : List Ref) → IsPath 3 4 (link_of v) s ys None → ((r : Ref) → Contains ys r → e ≢ Obj r 3) → link_of v s ≢ Some e
   leads_apart s e [] p off = none_or_some (link_of v s) p e
-  leads_apart s e (y ∷ ys) p off is = off y (member-first y ys) (same_some e (Obj y 3) (sym is ∙ p.0))
+  leads_apart s e (y ∷ ys) p off = λ is. off y (member-first y ys) (same_some e (Obj y 3) (sym is ∙ p.0))
 
   -- an entry put in
   pub inserted-links : (r : Ref) (xs ys : List Ref) (a : End) → behind 4 top xs ≡ a → IsPath 3 4 (link_of v) top (xs ++ ys) None → IsInserted (link_of v) (link_of w) a (Obj r 3) (Obj r 4)
@@ -111,7 +112,7 @@ module _ (v w : View) (top : End) where
     -- an entry exchanged for another, whose links are unset
     module _ (q : Ref) (left : link_of v (Obj q 3) ≡ None) (right : link_of v (Obj q 4) ≡ None) (apart : r ≢ q) (links : (e : End) → link_of w (exchanged_end 3 4 r q e) ≡ option_map (exchanged_end 3 4 r q) (link_of v e)) where
       stays : (e : End) → e ≢ Obj r 3 → e ≢ Obj r 4 → e ≢ Obj q 3 → e ≢ Obj q 4 → exchanged_end 3 4 r q e ≡ e
-      stays e a b c d = ap (λ x. _) (swap-other (Obj r 3) (Obj q 3) e a c) ∙ swap-other (Obj r 4) (Obj q 4) e b d
+      stays e a b c d = ap (swapped (Obj r 4) (Obj q 4)) (swap-other (Obj r 3) (Obj q 3) e a c) ∙ swap-other (Obj r 4) (Obj q 4) e b d
 
       map_stays : (o : Option End) → o ≢ Some (Obj r 3) → o ≢ Some (Obj r 4) → o ≢ Some (Obj q 3) → o ≢ Some (Obj q 4) → option_map (exchanged_end 3 4 r q) o ≡ o
       map_stays None a b c d = refl

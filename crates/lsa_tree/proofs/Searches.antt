@@ -23,8 +23,8 @@ use Rattle.lsa_tree.specs.declared.tree.Tree.{Tree}
 use Rattle.lsa_tree.specs.declared.tree.Place.{Place}
 use Rattle.lsa_tree.specs.declared.tree.Place.TheVariants.{Here, Before, Last}
 use Rattle.lsa_tree.specs.Entries.{StandsAt, StandsBefore, StandsBehind, BelongsBetween, AreAscending}
-use Rattle.lsa_tree.specs.Search.{IsFound}
-use Rattle.lsa_tree.specs.Tree.{IsTree}
+use Rattle.lsa_tree.specs.Search.{IsFound, first, last, last_from}
+use Rattle.lsa_tree.specs.Tree.{IsTop, IsTree}
 use Rattle.lsa_tree.specs.laws.Orders.{all-both, all-further, ascending-back, ascending-split, belongs-once, never-at}
 use Rattle.lsa_tree.specs.laws.Trees.{fields_differ, entry-end, stands-entry, top-end, top-outside, tree-once, tree-entry}
 
@@ -122,6 +122,10 @@ module _ (tree : Tree) (v : View) (well : IsWell v) (summed : IsSummed v) where
       pub found-before : (y : Pos) → StandsAt v r y → IsBefore x y → (refs : List Ref) → IsTree tree v refs → IsFound v refs x (Before r)
       found-before y at_y less refs h = (passed, rest, tree-once tree v refs (passed ++ (r ∷ rest)) h whole_split, belongs_before y at_y less)
 
+      -- so many were passed, and one more
+      pub passed-more : (refs : List Ref) → IsTree tree v refs → length passed + 1 ≤ length refs
+      passed-more refs h = omega (arith, ap length (tree-once tree v refs (passed ++ (r ∷ rest)) h whole_split), length-append passed (r ∷ rest))
+
       place_of : (zs : List Ref) → BelongsBetween v x passed zs → passed ++ zs ≡ passed ++ (r ∷ rest) → (front back : List Ref) → IsTree tree v (front ++ back) → BelongsBetween v x front back → behind 4 tree.top front ≡ at
       place_of zs fits is front back h k =
           ap (behind 4 tree.top) (belongs-once v front back passed zs x (tree-once tree v (front ++ back) (passed ++ (r ∷ rest)) h whole_split ∙ sym is) k fits) ∙ reached.here
@@ -141,6 +145,29 @@ module _ (tree : Tree) (v : View) (well : IsWell v) (summed : IsSummed v) where
       pub found-last : (refs : List Ref) → IsTree tree v refs → IsFound v refs x Last
       found-last refs h = subst (λ l. BelongsBetween v x l []) (sym (tree-once tree v refs passed h all_passed)) (record { before = reached.before; behind = tt })
 
+      pub passed-all : (refs : List Ref) → IsTree tree v refs → length passed ≤ length refs
+      passed-all refs h = omega (arith, ap length (tree-once tree v refs passed h all_passed))
+
       pub spot-last : (front back : List Ref) → IsTree tree v (front ++ back) → BelongsBetween v x front back → behind 4 tree.top front ≡ at
       spot-last front back h k = ap (behind 4 tree.top)
           (belongs-once v front back passed [] x (tree-once tree v (front ++ back) passed h all_passed ∙ sym (append-nil passed)) k (record { before = reached.before; behind = tt })) ∙ reached.here
+
+-- ---- neighbours
+
+-- what an end of a tree leads to is the first entry ahead
+pub entered-first : (named : End → Option End) (s : End) (xs : List Ref) → IsPath 3 4 named s xs None → entered 3 (named s) ≡ first xs
+entered-first named s [] p = ap (entered 3) p
+entered-first named s (x ∷ xs) p = ap (entered 3) p.0
+
+entered_onward : (x : Ref) (xs : List Ref) → entered 4 (Some (behind 4 (Obj x 4) xs)) ≡ last_from (Some x) xs
+entered_onward x [] = refl
+entered_onward x (y ∷ ys) = entered_onward y ys
+
+entered_top : (v : View) (e : End) → IsTop v e → entered 4 (Some e) ≡ None
+entered_top v (Obj r f) h = ap (λ n. entered 4 (Some (Obj r n))) h.0
+entered_top v (Slot s) h = absurd h
+
+-- the end behind some entries is the last one's
+pub entered-last : (v : View) (top : End) (xs : List Ref) → IsTop v top → entered 4 (Some (behind 4 top xs)) ≡ last xs
+entered-last v top [] h = entered_top v top h
+entered-last v top (x ∷ xs) h = entered_onward x xs

@@ -29,7 +29,7 @@ first [] = None
 first (r ∷ refs) = Some r
 
 -- the last of a list behind another; that one where there is none
-abbrev last_from : Option Ref → List Ref → Option Ref
+abbrev pub last_from : Option Ref → List Ref → Option Ref
 last_from found [] = found
 last_from found (r ∷ refs) = last_from (Some r) refs
 

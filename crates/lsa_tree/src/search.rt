@@ -74,7 +74,7 @@ pub(crate) fn object(named: Option<End>, link: u8) -> Option<Ref>
 /// The end behind which a position belongs, and what is found there.
 pub(crate) fn seek<const S: usize>(region: &Region<S>, tree: Tree, sought: Sought<'_>) -> (End, Place)
     requires tree { (refs : List Name) × IsTree tree region.now refs }
-    requires sought { (x : Pos) × IsSought sought.entry x }
+    requires sought { (x : Pos) × IsSought sought x }
     ensures found { (refs : List Name) (x : Pos) → IsTree tree region.now refs → IsSought sought.entry x → IsFound region.now refs x result.1 }
     ensures belongs { (front back : List Name) (x : Pos) → IsTree tree region.now (front ++ back) → IsSought sought.entry x → BelongsBetween region.now x front back → behind RIGHT tree.top front ≡ result.0 }
 {

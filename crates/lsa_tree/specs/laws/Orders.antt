@@ -16,10 +16,11 @@ use Rattle.rc_rowcode.specs.Spelling.{pos_code, IsPos}
 use Rattle.rc_rowcode.specs.Laws.Codecs.{pos_codec}
 use Rattle.rc_rowcode.specs.Laws.Read.{one_spelling}
 use Rattle.lsa_kinds.specs.declared.kind.Kind.{Kind}
+use Rattle.lsa_kinds.specs.Fields.{number_at}
 use Rattle.lsa_store.specs.declared.place.Ref.{Ref}
 use Rattle.lsa_region.specs.Region.{View, body}
 use Rattle.lsa_path.specs.laws.Members.{member-cases, member-first, member-later}
-use Rattle.lsa_tree.specs.Entries.{IsEntryKind, IsEntryAt, StandsAt, StandsBefore, StandsBehind, BelongsBetween, AreAscending}
+use Rattle.lsa_tree.specs.Entries.{IsEntryKind, IsEntryAt, position_in, StandsAt, StandsBefore, StandsBehind, BelongsBetween, AreAscending}
 
 -- ---- all of a list
 
@@ -34,6 +35,14 @@ all-back P (x ∷ xs) ys h = all-back P xs ys h.1
 pub all-both : {X : Type 0} (P : X → Type 0) (xs ys : List X) → AllByRecursion P xs → AllByRecursion P ys → AllByRecursion P (xs ++ ys)
 all-both P [] ys h k = k
 all-both P (x ∷ xs) ys h k = (h.0, all-both P xs ys h.1 k)
+
+pub all-without : {X : Type 0} (P : X → Type 0) (xs ys : List X) (r : X) → AllByRecursion P (xs ++ (r ∷ ys)) → AllByRecursion P (xs ++ ys)
+all-without P [] ys r h = h.1
+all-without P (x ∷ xs) ys r h = (h.0, all-without P xs ys r h.1)
+
+pub all-with : {X : Type 0} (P : X → Type 0) (xs ys : List X) (r : X) → P r → AllByRecursion P (xs ++ ys) → AllByRecursion P (xs ++ (r ∷ ys))
+all-with P [] ys r here h = (here, h)
+all-with P (x ∷ xs) ys r here h = (h.0, all-with P xs ys r here h.1)
 
 pub all-mapped : {X : Type 0} (P Q : X → Type 0) (xs : List X) → ((x : X) → P x → Q x) → AllByRecursion P xs → AllByRecursion Q xs
 all-mapped P Q [] f h = tt
@@ -59,6 +68,9 @@ before-trans = pos_cmp_total.trans
 pub not-both : (x y : Pos) → IsBefore x y → IsBefore y x → ⊥
 not-both x y h k = never-before x (before-trans x y x h k)
 
+pub greater-before : (x y : Pos) → pos_cmp y x ≡ Greater → IsBefore x y
+greater-before x y e = pos_cmp_total.antisymm x y ∙ ap ordering_reverse e
+
 -- an entry stands at one position
 pub entry-once : (b : Kind × List ℕ) (x y : Pos) → IsEntryAt b x → IsEntryAt b y → x ≡ y
 entry-once b x y h k = (one_spelling pos_codec x y [] [] h.place k.place (append-nil (pos_code x) ∙ sym h.code ∙ k.code ∙ sym (append-nil (pos_code y)))).0
@@ -66,6 +78,11 @@ entry-once b x y h k = (one_spelling pos_codec x y [] [] h.place k.place (append
 entry_once : (o : Option (Kind × List ℕ)) (x y : Pos) → IsSomeAnd o (λ b. IsEntryAt b x) → IsSomeAnd o (λ b. IsEntryAt b y) → x ≡ y
 entry_once None x y h k = absurd h
 entry_once (Some b) x y h k = entry-once b x y h k
+
+-- what the bytes of an entry spell
+pub bytes-spell : (o : Option (Kind × List ℕ)) (x : Pos) (bytes : List ℕ) → IsSomeAnd o (λ b. IsEntryAt b x) → IsSomeAnd o (λ b. b.1 ≡ bytes) → (32 + number_at 28 4 bytes ≤ length bytes) × IsPos x × (position_in bytes ≡ pos_code x)
+bytes-spell None x bytes h k = absurd h
+bytes-spell (Some b) x bytes h k = (subst (λ l. 32 + number_at 28 4 l ≤ length l) k h.inside, h.place, subst (λ l. position_in l ≡ pos_code x) k h.code)
 
 module _ (v : View) where
   pub stands-once : (r : Ref) (x y : Pos) → StandsAt v r x → StandsAt v r y → x ≡ y
@@ -90,21 +107,17 @@ module _ (v : View) where
   pub ascending-without : (xs ys : List Ref) (r : Ref) → AreAscending v (xs ++ (r ∷ ys)) → AreAscending v (xs ++ ys)
   ascending-without [] ys r h = h.1
   ascending-without (x ∷ xs) ys r h = (
-    (h.0.0, h.0.1, all_without xs h.0.2),
+    (h.0.0, h.0.1, all-without (λ q. StandsBehind v q h.0.0) xs ys r h.0.2),
     ascending-without xs ys r h.1,
   )
-    where
-      all_without : {P : Ref → Type 0} (zs : List Ref) → AllByRecursion P (zs ++ (r ∷ ys)) → AllByRecursion P (zs ++ ys)
-      all_without {P} zs k = all-both P zs ys (all-front P zs (r ∷ ys) k) (all-back P zs (r ∷ ys) k).1
 
   -- one more where it belongs
   pub ascending-with : (xs ys : List Ref) (r : Ref) (x : Pos) → StandsAt v r x → BelongsBetween v x xs ys → AreAscending v (xs ++ ys) → AreAscending v (xs ++ (r ∷ ys))
   ascending-with [] ys r x at fits h = ((x, at, fits.behind), h)
-  ascending-with (z ∷ xs) ys r x at fits h =
-      let P = λ q. StandsBehind v q h.0.0 in (
-        (h.0.0, h.0.1, all-both P xs (r ∷ ys) (all-front P xs ys h.0.2) ((x, at, before-at z h.0.0 x h.0.1 fits.before.0), all-back P xs ys h.0.2)),
-        ascending-with xs ys r x at (record { before = fits.before.1; behind = fits.behind }) h.1,
-      )
+  ascending-with (z ∷ xs) ys r x at fits h = (
+    (h.0.0, h.0.1, all-with (λ q. StandsBehind v q h.0.0) xs ys r (x, at, before-at z h.0.0 x h.0.1 fits.before.0) h.0.2),
+    ascending-with xs ys r x at (record { before = fits.before.1; behind = fits.behind }) h.1,
+  )
 
   -- the entries beside one of them
   pub ascending-split : (xs ys : List Ref) (r : Ref) (x : Pos) → StandsAt v r x → AreAscending v (xs ++ (r ∷ ys)) → BelongsBetween v x xs ys
@@ -157,11 +170,11 @@ module _ (v w : View) where
   -- under other names
   pub ascending-named : (f : Ref → Ref) → ((r : Ref) (at : Pos) → StandsAt v r at → StandsAt w (f r) at) → (refs : List Ref) → AreAscending v refs → AreAscending w (map f refs)
   ascending-named f keep [] h = tt
-  ascending-named f keep (z ∷ refs) h = ((h.0.0, keep z h.0.0 h.0.1, all_named refs h.0.2), ascending-named f keep refs h.1)
+  ascending-named f keep (z ∷ refs) h = ((h.0.0, keep z h.0.0 h.0.1, all_named h.0.0 refs h.0.2), ascending-named f keep refs h.1)
     where
-      all_named : {y : Pos} (xs : List Ref) → AllByRecursion (λ r. StandsBehind v r y) xs → AllByRecursion (λ r. StandsBehind w r y) (map f xs)
-      all_named [] k = tt
-      all_named (x ∷ xs) k = ((k.0.0, keep x k.0.0 k.0.1, k.0.2), all_named xs k.1)
+      all_named : (y : Pos) (xs : List Ref) → AllByRecursion (λ r. StandsBehind v r y) xs → AllByRecursion (λ r. StandsBehind w r y) (map f xs)
+      all_named y [] k = tt
+      all_named y (x ∷ xs) k = ((k.0.0, keep x k.0.0 k.0.1, k.0.2), all_named y xs k.1)
 
   -- another one in the place of one of them
   pub ascending-replaced : (xs ys : List Ref) (r q : Ref) (x : Pos) → StandsAt v r x → StandsAt v q x → AreAscending v (xs ++ (r ∷ ys)) → AreAscending v (xs ++ (q ∷ ys))
