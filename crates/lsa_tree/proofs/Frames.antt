@@ -22,7 +22,7 @@ use Rattle.lsa_tree.specs.declared.tree.Tree.{Tree}
 use Rattle.lsa_tree.specs.Entries.{IsEntryKind, StandsAt, AreAscending}
 use Rattle.lsa_tree.specs.Tree.{IsTop, IsListed, IsTree, IsLoose, IsOffTree}
 use Rattle.lsa_tree.specs.laws.Orders.{all-members, ascending-kept, ascending-stands}
-use Rattle.lsa_tree.specs.laws.Trees.{fields_differ, stands-entry, entry-no-top, off-top, off-entry, tree-entry, listed-same, stands-same, loose-same, top-kept, version-same, tree-same}
+use Rattle.lsa_tree.specs.laws.Trees.{fields_differ, stands-entry, entry-no-top, off-top, off-entry, tree-entry, listed-same, stands-same, loose-same, top-kept, version-same, same-read, tree-kept}
 
 -- what a change of one tree changes: its top, and the links to the left and the right of these
 pub record IsWithin (v w : View) (tree : Tree) (members : List Ref) : Type 0 where
@@ -52,8 +52,8 @@ module _ (v w : View) (well : IsWell v) (tree : Tree) (members : List Ref) (with
 
   -- another tree, none of whose entries is a member
   pub within-others : (other : Tree) (refs : List Ref) → other.top ≢ tree.top → ((r : Ref) → Contains refs r → Contains members r → ⊥) → IsTree other v refs → IsTree other w refs
-  within-others other refs ne apart h = tree-same other v w refs (λ r k. version-same (body v r) (body w r) (within.objects.bodies r) k) (within-field other.top ne (no_link other.top h.top))
-      (λ r c. let entry = tree-entry other v refs r h c in (within.objects.bodies r, within-parent r entry, within-apart r 4 entry (apart r c))) h
+  within-others other refs ne apart h = tree-kept other v w refs (λ r k. version-same (body v r) (body w r) (within.objects.bodies r) k) (within-field other.top ne (no_link other.top h.top))
+      (λ r c. same-read (body v r) (body w r) (within.objects.bodies r)) (λ r c f low high. within-apart r f (tree-entry other v refs r h c) (apart r c)) h
     where
       no_link : (e : End) → IsTop v e → (r : Ref) → (e ≢ Obj r 3) × (e ≢ Obj r 4)
       no_link (Obj q f) k r = ((λ is. let clash : ◌≡◌ {A = ℕ} 2 3 = sym k.0 ∙ same_field q r f 3 is in cc), (λ is. let clash : ◌≡◌ {A = ℕ} 2 4 = sym k.0 ∙ same_field q r f 4 is in cc))

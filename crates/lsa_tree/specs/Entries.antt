@@ -64,3 +64,11 @@ but_balance b = (b.0, (take 1 b.1, drop 2 b.1))
 -- two bodies are the same but for the balance
 abbrev pub IsAlike : Option (Kind × List ℕ) → Option (Kind × List ℕ) → Type 0
 IsAlike old new = option_map but_balance new ≡ option_map but_balance old
+
+-- what a tree reads of an entry: its kind, its balance, and the bytes from the length of its position on
+abbrev pub tree_part : Kind × List ℕ → Kind × (ℕ × List ℕ)
+tree_part b = (b.0, (number_at 1 1 b.1, drop 28 b.1))
+
+-- a tree reads the same of two bodies: they are the same but for flags and tombstones
+abbrev pub IsReadAlike : Option (Kind × List ℕ) → Option (Kind × List ℕ) → Type 0
+IsReadAlike old new = option_map tree_part new ≡ option_map tree_part old

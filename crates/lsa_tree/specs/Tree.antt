@@ -1,5 +1,5 @@
 -- The entries of a version in order. How they are linked is known to this crate alone: its users go by the laws.
-use Rattle.std.specs.Prelude.{◌≡◌, ◌≢◌, ℕ, List, Option, Some, None, IsSomeAnd, Contains, ⊤}
+use Rattle.std.specs.Prelude.{◌≡◌, ◌≢◌, ◌⊎◌, ℕ, List, Option, Some, None, IsSomeAnd, Contains, ⊤}
 use Rattle.std.specs.List.{AllByRecursion}
 use Rattle.lsa_kinds.specs.declared.kind.Kind.TheVariants.{Version}
 use Rattle.lsa_store.specs.declared.place.Ref.{Ref}
@@ -44,6 +44,14 @@ IsOffRole role = (role ≢ Parent) × (role ≢ Left) × (role ≢ Right) × (ro
 -- the end is no link of any tree: none of an entry to entries, and none of a version to its entries
 abbrev pub IsOffTree : View → End → Type 0
 IsOffTree v e = IsOffRole (role_at v e)
+
+-- the role is that of a link of a tree
+abbrev pub IsTreeRole : Role → Type 0
+IsTreeRole role = (role ≡ Parent) ⊎ ((role ≡ Left) ⊎ ((role ≡ Right) ⊎ (role ≡ Entries)))
+
+-- the end is a link of some tree: one of an entry to entries, or that of a version to its entries
+abbrev pub IsOfTree : View → End → Type 0
+IsOfTree v e = IsTreeRole (role_at v e)
 
 -- all but the links is as it was, though these entries may have other balances
 pub record SameButBalances (old new : View) (refs : List Ref) : Type 0 where

@@ -1,0 +1,8 @@
+use Rattle.lsa_tree.specs.laws.Trees.{tree-freed, loose-freed}
+use Rattle.lsa_tree.proofs.laws.a_tree_stays_where_an_object_is_freed.Goals as goal
+
+pub returns-clause-tree : goal.returns-clause-tree
+returns-clause-tree c = λ tree old new refs r h freed beside apart. tree-freed tree old new r freed refs beside apart h
+
+pub returns-clause-loose : goal.returns-clause-loose
+returns-clause-loose c = λ old new q r h freed ne. loose-freed old new r freed q ne h
