@@ -76,7 +76,6 @@ module _ (v w : View) (well : IsWell v) (tree : Tree) (members : List Ref) (with
     listed = within-listed refs (λ r c. let k = ascending-stands v refs r ascending c in stands-entry v r k.0 k.1) listed;
   }
 
-
 -- ---- what the calls of paths change
 
 none_or_some : (o : Option End) → o ≡ None → (e : End) → o ≢ Some e

@@ -1,3 +1,4 @@
+pub mod calls
 pub mod laws
 pub mod Entries
 pub mod Search

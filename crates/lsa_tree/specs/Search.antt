@@ -1,14 +1,10 @@
 -- What a search for a position among entries answers.
 use Rattle.std.specs.Prelude.{◌≡◌, ℕ, List, [], ◌∷◌, ◌++◌, Option, Some, None}
 use Rattle.rc_position.specs.declared.positions.Pos.{Pos}
-use Rattle.rc_position.specs.Position.{row_pos}
-use Rattle.rc_rowcode.specs.Spelling.{pos_code, IsPos}
 use Rattle.lsa_store.specs.declared.place.Ref.{Ref}
 use Rattle.lsa_region.specs.Region.{View}
 use Rattle.lsa_tree.specs.declared.tree.Place.{Place}
 use Rattle.lsa_tree.specs.declared.tree.Place.TheVariants.{Here, Before, Last}
-use Rattle.lsa_tree.specs.declared.search.Sought.{Sought}
-use Rattle.lsa_tree.specs.declared.search.Sought.TheVariants as sought
 use Rattle.lsa_tree.specs.Entries.{StandsAt, BelongsBetween}
 
 -- the entry at the position, with all others before or behind it; else the next one behind it; else none, and all stand before it
@@ -16,12 +12,6 @@ abbrev pub IsFound : View → List Ref → Pos → Place → Type 0
 IsFound v refs x (Here r) = (front : List Ref) × (back : List Ref) × (refs ≡ front ++ (r ∷ back)) × StandsAt v r x × BelongsBetween v x front back
 IsFound v refs x (Before r) = (front : List Ref) × (back : List Ref) × (refs ≡ front ++ (r ∷ back)) × BelongsBetween v x front (r ∷ back)
 IsFound v refs x Last = BelongsBetween v x refs []
-
--- the position that is looked for
-abbrev pub IsSought : Sought → Pos → Type 0
-IsSought (sought.Bound at) x = at.now ≡ x
-IsSought (sought.Row key) x = row_pos key.now ≡ x
-IsSought (sought.Code code) x = IsPos x × (code.now ≡ pos_code x)
 
 -- the first of a list; None where there is none
 abbrev pub first : List Ref → Option Ref

@@ -7,7 +7,8 @@ ghost use Rattle.lsa_store.specs.declared.place.Ref.{Ref as Name};
 ghost use Rattle.lsa_path.specs.Path.{behind, entered};
 ghost use Rattle.lsa_tree.specs.Entries.{StandsAt, BelongsBetween};
 ghost use Rattle.lsa_tree.specs.Tree.{IsTree};
-ghost use Rattle.lsa_tree.specs.Search.{IsFound, IsSought};
+ghost use Rattle.lsa_tree.specs.Search.{IsFound};
+ghost use Rattle.lsa_tree.specs.calls.Seeking.{IsSought};
 
 use crate::tree::{Place, Tree};
 use lsa_kinds::layout::entry::PositionSize;
@@ -59,20 +60,18 @@ pub(crate) fn object(named: Option<End>, link: u8) -> Option<Ref>
     ensures { result ≡ entered link named }
 {
     match named {
-        Some(End::Obj(r, field)) => {
-            if field == link {
-                Some(r)
-            } else {
-                None
-            }
-        }
+        Some(End::Obj(r, field)) => { if field == link { Some(r) } else { None } }
         Some(End::Slot(_)) => None,
         None => None,
     }
 }
 
 /// The end behind which a position belongs, and what is found there.
-pub(crate) fn seek<const S: usize>(region: &Region<S>, tree: Tree, sought: Sought<'_>) -> (End, Place)
+pub(crate) fn seek<const S: usize>(
+    region: &Region<S>,
+    tree: Tree,
+    sought: Sought<'_>,
+) -> (End, Place)
     requires tree { (refs : List Name) × IsTree tree region.now refs }
     requires sought { (x : Pos) × IsSought sought x }
     ensures found { (refs : List Name) (x : Pos) → IsTree tree region.now refs → IsSought sought.entry x → IsFound region.now refs x result.1 }

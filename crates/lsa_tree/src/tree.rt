@@ -39,7 +39,12 @@ pub enum Place {
 impl Tree {
     /// What stands at a position: the entry there, or else the next one, or none. It compares the position with each entry once at most, and
     /// counts these comparisons.
-    pub fn find<const S: usize, L: Ledger>(&self, region: &Region<S>, x: &Pos, steps: &mut Steps<L>) -> Place
+    pub fn find<const S: usize, L: Ledger>(
+        &self,
+        region: &Region<S>,
+        x: &Pos,
+        steps: &mut Steps<L>,
+    ) -> Place
         requires { (refs : List Name) × IsTree self.now region.now refs }
         ensures found { (refs : List Name) → IsTree self.now region.now refs → IsFound region.now refs x.now result }
         ensures counted { (refs : List Name) → IsTree self.now region.now refs → steps.new ≤ steps.old + length refs }

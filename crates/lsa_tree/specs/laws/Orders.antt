@@ -11,10 +11,10 @@ use Rattle.std.proofs.lemmas.List.{append-nil}
 use Rattle.std.proofs.lemmas.List.Elements.{Contains-append_cases}
 use Rattle.rc_position.specs.declared.positions.Pos.{Pos}
 use Rattle.rc_position.specs.Position.{pos_cmp, IsBefore}
-use Rattle.rc_position.specs.OrderLaws.{pos_cmp_total}
+use Rattle.rc_position.specs.laws.Orders.{pos_cmp_total}
 use Rattle.rc_rowcode.specs.Spelling.{pos_code, IsPos}
-use Rattle.rc_rowcode.specs.Laws.Codecs.{pos_codec}
-use Rattle.rc_rowcode.specs.Laws.Read.{one_spelling}
+use Rattle.rc_rowcode.specs.laws.Codecs.{pos_codec}
+use Rattle.rc_rowcode.specs.laws.Read.{one_spelling}
 use Rattle.lsa_kinds.specs.declared.kind.Kind.{Kind}
 use Rattle.lsa_kinds.specs.Fields.{number_at}
 use Rattle.lsa_store.specs.declared.place.Ref.{Ref}

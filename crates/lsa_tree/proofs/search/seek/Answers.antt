@@ -1,7 +1,7 @@
 use Rattle.std.proofs.Common.{◌≡◌, ℕ, List, [], ◌∷◌, ◌++◌, length, sym, ap, ◌∙◌, subst, arith}
 use Rattle.std.proofs.lemmas.List.{length-append}
 use Rattle.rc_position.specs.Position.{IsBefore}
-use Rattle.rc_position.specs.OrderLaws.{pos_cmp_same}
+use Rattle.rc_position.specs.laws.Orders.{pos_cmp_same}
 use Rattle.lsa_path.specs.Path.{entered}
 use Rattle.lsa_tree.specs.Entries.{StandsAt}
 use Rattle.lsa_tree.specs.laws.Orders.{greater-before}
@@ -13,7 +13,7 @@ loop-r-init g c = λ x is.
     ([], reached-start c.args.tree c.args.region.now c.known.ensures.well c.known.ensures.summed c.requires.tree.0 x c.requires.tree.1)
 
 pub link_of-requires : goal.link_of-requires
-link_of-requires g c = 
+link_of-requires g c =
     let v = c.args.region.now in let tree = c.args.tree in let well = c.known.ensures.well in let summed = c.known.ensures.summed in let at = c.loop-r.at in let x = c.requires.sought.0 in let is = c.requires.sought.1 in let passed = (c.loop-r.invariant x is).0 in let reached = (c.loop-r.invariant x is).1 in (omega arith, reached-end tree v well summed x at passed reached)
 
 pub returns-in-None-clause-found : goal.returns-in-None-clause-found
@@ -25,11 +25,11 @@ returns-in-None-clause-belongs g c = λ front back x h is fits.
     let v = c.args.region.now in let tree = c.args.tree in let well = c.known.ensures.well in let summed = c.known.ensures.summed in let at = c.loop-r.at in let passed = (c.loop-r.invariant x is).0 in let reached = (c.loop-r.invariant x is).1 in spot-last tree v well summed x at passed reached (reached-last tree v well summed x at passed reached (sym (c.object.ensures ∙ ap (entered 3) c.link_of.ensures) ∙ c.in-None.is)) front back h fits
 
 pub position-requires : goal.position-requires
-position-requires g c = 
+position-requires g c =
     let v = c.args.region.now in let tree = c.args.tree in let well = c.known.ensures.well in let summed = c.known.ensures.summed in let at = c.loop-r.at in let x = c.requires.sought.0 in let is = c.requires.sought.1 in let passed = (c.loop-r.invariant x is).0 in let reached = (c.loop-r.invariant x is).1 in let r = c.in-Some.r in let next = reached-next tree v well summed x at passed reached r (sym (c.object.ensures ∙ ap (entered 3) c.link_of.ensures) ∙ c.in-Some.is) in (omega arith, reached-stands tree v well summed x at passed reached r next.0 next.1)
 
 pub loop-r-smaller : goal.loop-r-smaller
-loop-r-smaller g c = 
+loop-r-smaller g c =
     let v = c.args.region.now in let tree = c.args.tree in let well = c.known.ensures.well in let summed = c.known.ensures.summed in let at = c.loop-r.at in let x = c.requires.sought.0 in let is = c.requires.sought.1 in let passed = (c.loop-r.invariant x is).0 in let reached = (c.loop-r.invariant x is).1 in let r = c.in-Some.r in let next = reached-next tree v well summed x at passed reached r (sym (c.object.ensures ∙ ap (entered 3) c.link_of.ensures) ∙ c.in-Some.is) in reached-less tree v well summed x at passed reached r next.0 next.1
 
 pub loop-r-preserved : goal.loop-r-preserved

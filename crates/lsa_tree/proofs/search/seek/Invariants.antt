@@ -2,7 +2,7 @@
 use Rattle.std.proofs.Common.{ℕ, List, length}
 use Rattle.rc_position.specs.declared.positions.Pos.{Pos}
 use Rattle.lsa_store.specs.declared.place.Ref.{Ref}
-use Rattle.lsa_tree.specs.Search.{IsSought}
+use Rattle.lsa_tree.specs.calls.Seeking.{IsSought}
 use Rattle.lsa_tree.proofs.Searches.{IsReached, ahead}
 use Rattle.lsa_tree.proofs.search.seek.Given as goal
 
