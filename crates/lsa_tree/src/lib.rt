@@ -6,3 +6,6 @@ mod search;
 mod tree;
 
 pub use tree::{Place, Tree};
+
+#[cfg(test)]
+mod tests;
