@@ -148,6 +148,9 @@ module _ (tree : Tree) (v : View) (well : IsWell v) (summed : IsSummed v) where
       pub passed-all : (refs : List Ref) → IsTree tree v refs → length passed ≤ length refs
       passed-all refs h = omega (arith, ap length (tree-once tree v refs passed h all_passed))
 
+      pub passed-whole : (refs : List Ref) → IsTree tree v refs → length refs ≡ length passed
+      passed-whole refs h = ap length (tree-once tree v refs passed h all_passed)
+
       pub spot-last : (front back : List Ref) → IsTree tree v (front ++ back) → BelongsBetween v x front back → behind 4 tree.top front ≡ at
       spot-last front back h k = ap (behind 4 tree.top)
           (belongs-once v front back passed [] x (tree-once tree v (front ++ back) passed h all_passed ∙ sym (append-nil passed)) k (record { before = reached.before; behind = tt })) ∙ reached.here

@@ -1,3 +1,2 @@
 -- What inner functions of this crate promise each other; no public clause speaks of it.
 pub mod Seeking
-pub mod Walking

@@ -6,6 +6,3 @@ mod search;
 mod tree;
 
 pub use tree::{Place, Tree};
-
-#[cfg(test)]
-mod tests;

@@ -1,5 +1,5 @@
 //! Entries in the order of their positions.
-ghost use Rattle.std.specs.Prelude.{◌≡◌, ◌≢◌, ◌+◌, ◌≤◌, ℕ, List, ◌∷◌, ◌++◌, length, Option, Some, None};
+ghost use Rattle.std.specs.Prelude.{◌≡◌, ◌≢◌, ◌+◌, ◌<◌, ◌≤◌, ℕ, List, ◌∷◌, ◌++◌, length, Option, Some, None};
 ghost use Rattle.rc_position.specs.declared.positions.Pos.{Pos as Position};
 ghost use Rattle.rc_position.specs.Position.{row_pos};
 ghost use Rattle.lsa_store.specs.declared.place.Ref.{Ref as Name};
@@ -47,7 +47,8 @@ impl Tree {
     ) -> Place
         requires { (refs : List Name) × IsTree self.now region.now refs }
         ensures found { (refs : List Name) → IsTree self.now region.now refs → IsFound region.now refs x.now result }
-        ensures counted { (refs : List Name) → IsTree self.now region.now refs → steps.new ≤ steps.old + length refs }
+        ensures most { (refs : List Name) → IsTree self.now region.now refs → steps.new ≤ steps.old + length refs }
+        ensures counted { (refs : List Name) → IsTree self.now region.now refs → 0 < length refs → steps.old < steps.new }
     {
         region.known();
         let mut at = self.top;

@@ -1,4 +1,4 @@
-//! Entries put in, taken out, exchanged, found and moved, beside a plain vector of their numbers.
+//! Entries put in, taken out, exchanged, found and moved, beside a plain vector of their numbers: tests of `lsa_tree`.
 ghost use Rattle.std.specs.Prelude.{◌≡◌, ℕ, ◌≤◌, List as Sequence, length, ◌∷◌, ◌++◌, true, Some, None, IfOk};
 ghost use Rattle.rc_position.specs.declared.positions.Pos.{Pos as Position};
 ghost use Rattle.lsa_kinds.specs.Fields.{number_at};
@@ -8,14 +8,13 @@ ghost use Rattle.lsa_region.specs.Region.{link_of, IsEnd};
 ghost use Rattle.lsa_tree.specs.Entries.{StandsAt};
 ghost use Rattle.lsa_tree.specs.Search.{IsFound};
 ghost use Rattle.lsa_tree.specs.Tree.{IsTree, IsLoose};
-ghost use Rattle.lsa_tree.specs.calls.Walking.{IsHeld, IsHome, IsOneOf};
+ghost use Rattle.lsa_tree_tests.specs.Walking.{IsHeld, IsHome, IsOneOf};
 
-use crate::search::position;
-use crate::{Place, Tree};
 use lsa_kinds::Kind;
 use lsa_kinds::layout::entry::PositionSize;
 use lsa_move::{Ensured, ensure};
 use lsa_region::{End, Ref, Region, Root};
+use lsa_tree::{Place, Tree};
 use rc_position::{Comp, Key, Pos, Steps, Weight};
 use rc_rowcode::read_pos;
 use std::alloc::{AllocError, Global};
@@ -198,7 +197,7 @@ fn exchange(
     if !is_entry(alloc, region, new)? {
         return Ok(false);
     }
-    if position(region, old) != position(region, new) {
+    if region.bytes(old) != region.bytes(new) {
         return Ok(false);
     }
     tree.replace(region, old, new);
@@ -343,7 +342,7 @@ struct Beside {
 
 impl Model for Beside {
     ghost use Rattle.lsa_region.specs.Region.{View};
-    ghost use Rattle.lsa_tree.specs.calls.Walking.{IsHome};
+    ghost use Rattle.lsa_tree_tests.specs.Walking.{IsHome};
 
     ghost Value = { View };
 
