@@ -109,19 +109,26 @@ fn put(alloc: Global, region: &mut Region<4096>, slot: Root, r: Ref) -> Result<b
     }
 }
 
+// Whether an end names nothing.
+fn is_unset(region: &Region<4096>, end: End) -> bool
+    requires { IsEnd region.now end }
+    ensures { result ≡ true → link_of region.now end ≡ None }
+{
+    match region.link_of(end) {
+        Some(_) => false,
+        None => true,
+    }
+}
+
 // Whether no link of a loose entry is set.
 fn is_free(region: &Region<4096>, r: Ref) -> bool
     requires { IsLoose region.now r }
     ensures { result ≡ true → (field : ℕ) → link_of region.now (End.Obj r field) ≡ None }
 {
     region.known();
-    let (None, None) = (
-        region.link_of(End::Obj(r, 0)),
-        region.link_of(End::Obj(r, 1)),
-    ) else {
-        return false;
-    };
-    true
+    let less = is_unset(region, End::Obj(r, 0));
+    let more = is_unset(region, End::Obj(r, 1));
+    less && more
 }
 
 // Frees a loose entry, where no link of it is set.
@@ -181,6 +188,13 @@ fn take(region: &mut Region<4096>, slot: Root, place: usize)
     }
 }
 
+// Whether bytes are the same.
+fn is_same(bytes: &[u8], others: &[u8]) -> bool
+    ensures { result ≡ true → bytes.now ≡ others.now }
+{
+    bytes == others
+}
+
 // Puts a loose entry into the place of one at its position, and frees that one; false where they stand at different ones.
 fn exchange(
     alloc: Global,
@@ -197,7 +211,7 @@ fn exchange(
     if !is_entry(alloc, region, new)? {
         return Ok(false);
     }
-    if region.bytes(old) != region.bytes(new) {
+    if !is_same(region.bytes(old), region.bytes(new)) {
         return Ok(false);
     }
     tree.replace(region, old, new);

@@ -68,7 +68,7 @@ no_entry : (kind : Kind) → kind ≡ Version → IsEntryKind kind → ⊥
 no_entry kind e (inl d) = let clash : Version ≡ RowEntry = sym e ∙ d in cc
 no_entry kind e (inr d) = let clash : Version ≡ Dummy = sym e ∙ d in cc
 
-no_entry_at : (o : Option (Kind × List ℕ)) → IsSomeAnd o (λ b. b.0 ≡ Version) → IsSomeAnd o (λ b. IsEntryKind b.0) → ⊥
+pub no_entry_at : (o : Option (Kind × List ℕ)) → IsSomeAnd o (λ b. b.0 ≡ Version) → IsSomeAnd o (λ b. IsEntryKind b.0) → ⊥
 no_entry_at None h k = h
 no_entry_at (Some b) h k = no_entry b.0 h k
 
