@@ -15,7 +15,7 @@ use Rattle.lsa_path.specs.laws.Passing.{path-named, path-apart}
 use Rattle.lsa_path.specs.laws.Paths.{same_object}
 use Rattle.lsa_tree.specs.declared.tree.Tree.{Tree}
 use Rattle.lsa_tree.specs.Entries.{IsEntryKind, StandsAt, BelongsBetween, balance_in, balance_of}
-use Rattle.lsa_tree.specs.Tree.{IsTop, IsListed, IsTree, IsLoose, IsOffTree, SameButBalances}
+use Rattle.lsa_tree.specs.Tree.{IsTop, IsFlat, IsTree, IsLoose, IsOffTree, SameButBalances}
 use Rattle.lsa_tree.specs.laws.Orders.{all-without, all-with, all-back, ascending-with, ascending-without, ascending-replaced}
 use Rattle.lsa_tree.specs.laws.Trees.{fields_differ, entry-end, entry-no-top, top-end, top-outside, tree-once, tree-entry, tree-left, loose-beside, trees-apart, same-objects}
 use Rattle.lsa_tree.proofs.Frames.{IsWithin, within-parent, within-elsewhere, within-others, within-loose, within-tree, inserted-links, taken-links, exchanged-links, exchanged-left, exchanged-right}
@@ -60,8 +60,8 @@ module _ (v : View) (well : IsWell v) (tree : Tree) where
     pub here-apart : link_of v (Obj r 3) ≢ Some (Obj r 4)
     here-apart = path-apart 3 4 fields_differ (link_of v) well.paired tree.top (xs ++ (r ∷ ys)) None (top-outside v tree.top h.top) h.path r here
 
-    pub here-listed : IsListed v r
-    here-listed = (all-back (IsListed v) xs (r ∷ ys) h.listed).0
+    pub here-listed : IsFlat v r
+    here-listed = (all-back (IsFlat v) xs (r ∷ ys) h.listed).0
 
     -- a loose entry is another one
     pub apart-from : (q : Ref) → IsLoose v q → r ≢ q
@@ -77,7 +77,7 @@ module _ (v : View) (well : IsWell v) (tree : Tree) where
       entries z c = tree-entry tree v (xs ++ (r ∷ ys)) z h c
 
       pub removed-tree : IsPath 3 4 (link_of w) tree.top (xs ++ ys) None → IsTree tree w (xs ++ ys)
-      removed-tree path = within-tree v w well tree (xs ++ (r ∷ ys)) within h.top entries (xs ++ ys) path (ascending-without v xs ys r h.ascending) (all-without (IsListed v) xs ys r h.listed)
+      removed-tree path = within-tree v w well tree (xs ++ (r ∷ ys)) within h.top entries (xs ++ ys) path (ascending-without v xs ys r h.ascending) (all-without (IsFlat v) xs ys r h.listed)
 
       pub removed-others : (other : Tree) (refs : List Ref) → other.top ≢ tree.top → IsTree other v refs → IsTree other w refs
       removed-others other refs ne k = within-others v w well tree (xs ++ (r ∷ ys)) within h.top entries other refs ne (λ z c on. trees-apart v well tree other (xs ++ (r ∷ ys)) refs ne h k z on c) k
@@ -108,7 +108,7 @@ module _ (v : View) (well : IsWell v) (tree : Tree) where
 
       pub inserted-tree : (x : Pos) → StandsAt v r x → BelongsBetween v x xs ys → IsPath 3 4 (link_of w) tree.top (xs ++ (r ∷ ys)) None → IsTree tree w (xs ++ (r ∷ ys))
       inserted-tree x stands fits path = within-tree v w well tree (r ∷ (xs ++ ys)) within_with h.top entries_with (xs ++ (r ∷ ys)) path (ascending-with v xs ys r x stands fits h.ascending)
-          (all-with (IsListed v) xs ys r (record { parent = loose.parent; level = loose.level }) h.listed)
+          (all-with (IsFlat v) xs ys r (record { parent = loose.parent; level = loose.level }) h.listed)
 
       pub inserted-others : (other : Tree) (refs : List Ref) → other.top ≢ tree.top → IsTree other v refs → IsTree other w refs
       inserted-others other refs ne k = within-others v w well tree (r ∷ (xs ++ ys)) within_with h.top entries_with other refs ne
@@ -142,7 +142,7 @@ module _ (v : View) (well : IsWell v) (tree : Tree) where
 
       pub replaced-tree : (x : Pos) → StandsAt v r x → StandsAt v q x → IsPath 3 4 (link_of w) tree.top (xs ++ (q ∷ ys)) None → IsTree tree w (xs ++ (q ∷ ys))
       replaced-tree x stands also path = within-tree v w well tree (q ∷ (xs ++ (r ∷ ys))) within_both h.top entries_both (xs ++ (q ∷ ys)) path (ascending-replaced v w xs ys r q x stands also h.ascending)
-          (all-with (IsListed v) xs ys q (record { parent = loose.parent; level = loose.level }) (all-without (IsListed v) xs ys r h.listed))
+          (all-with (IsFlat v) xs ys q (record { parent = loose.parent; level = loose.level }) (all-without (IsFlat v) xs ys r h.listed))
 
       pub replaced-others : (other : Tree) (refs : List Ref) → other.top ≢ tree.top → IsTree other v refs → IsTree other w refs
       replaced-others other refs ne k = within-others v w well tree (q ∷ (xs ++ (r ∷ ys))) within_both h.top entries_both other refs ne

@@ -20,7 +20,7 @@ use Rattle.lsa_path.specs.laws.Passing.{path-named}
 use Rattle.lsa_path.specs.laws.Paths.{same_field, same_object, same_some, path-rest}
 use Rattle.lsa_tree.specs.declared.tree.Tree.{Tree}
 use Rattle.lsa_tree.specs.Entries.{IsEntryKind, StandsAt, AreAscending}
-use Rattle.lsa_tree.specs.Tree.{IsTop, IsListed, IsTree, IsLoose, IsOffTree}
+use Rattle.lsa_tree.specs.Tree.{IsTop, IsFlat, IsTree, IsLoose, IsOffTree}
 use Rattle.lsa_tree.specs.laws.Orders.{all-members, ascending-kept, ascending-stands}
 use Rattle.lsa_tree.specs.laws.Trees.{fields_differ, stands-entry, entry-no-top, off-top, off-entry, tree-entry, listed-same, stands-same, loose-same, top-kept, version-same, same-read, tree-kept}
 
@@ -64,11 +64,11 @@ module _ (v w : View) (well : IsWell v) (tree : Tree) (members : List Ref) (with
   within-loose r beside h = loose-same v w r (within.objects.bodies r) (within-apart r 2 h.entry beside) (within-apart r 3 h.entry beside) (within-apart r 4 h.entry beside) h
 
   -- the entries keep their parents and bodies
-  pub within-listed : (refs : List Ref) → ((r : Ref) → Contains refs r → IsSomeAnd (body v r) (λ b. IsEntryKind b.0)) → AllByRecursion (IsListed v) refs → AllByRecursion (IsListed w) refs
-  within-listed refs all h = all-members (IsListed v) (IsListed w) refs (λ r c k. listed-same v w r (within.objects.bodies r) (within-parent r (all r c)) k) h
+  pub within-listed : (refs : List Ref) → ((r : Ref) → Contains refs r → IsSomeAnd (body v r) (λ b. IsEntryKind b.0)) → AllByRecursion (IsFlat v) refs → AllByRecursion (IsFlat w) refs
+  within-listed refs all h = all-members (IsFlat v) (IsFlat w) refs (λ r c k. listed-same v w r (within.objects.bodies r) (within-parent r (all r c)) k) h
 
   -- the tree after the change, by its new path
-  pub within-tree : (refs : List Ref) → IsPath 3 4 (link_of w) tree.top refs None → AreAscending v refs → AllByRecursion (IsListed v) refs → IsTree tree w refs
+  pub within-tree : (refs : List Ref) → IsPath 3 4 (link_of w) tree.top refs None → AreAscending v refs → AllByRecursion (IsFlat v) refs → IsTree tree w refs
   within-tree refs path ascending listed = record {
     top = top-kept v w tree.top (λ r k. version-same (body v r) (body w r) (within.objects.bodies r) k) top;
     path = path;

@@ -22,8 +22,8 @@ use Rattle.lsa_path.specs.laws.Paths.{same_some, path-rest}
 use Rattle.lsa_tree.specs.declared.tree.Tree.{Tree}
 use Rattle.lsa_tree.specs.declared.tree.Place.{Place}
 use Rattle.lsa_tree.specs.declared.tree.Place.TheVariants.{Here, Before, Last}
-use Rattle.lsa_tree.specs.Entries.{StandsAt, StandsBefore, StandsBehind, BelongsBetween, AreAscending}
-use Rattle.lsa_tree.specs.Search.{IsFound, first, last, last_from}
+use Rattle.lsa_tree.specs.Entries.{StandsAt, StandsEarlier, StandsLater, BelongsBetween, AreAscending}
+use Rattle.lsa_tree.specs.Search.{IsFound, first_entry, last_entry, last_entry_from}
 use Rattle.lsa_tree.specs.Tree.{IsTop, IsTree}
 use Rattle.lsa_tree.specs.laws.Orders.{all-both, all-further, ascending-back, ascending-split, belongs-once, never-at}
 use Rattle.lsa_tree.specs.laws.Trees.{fields_differ, entry-end, stands-entry, top-end, top-outside, tree-once, tree-entry}
@@ -36,7 +36,7 @@ ahead v at = walk (objects v) 3 4 (link_of v) at
 pub record IsReached (tree : Tree) (v : View) (x : Pos) (at : End) (passed : List Ref) : Type 0 where
   pub whole : IsTree tree v (passed ++ ahead v at)
   pub here : behind 4 tree.top passed ≡ at
-  pub before : AllByRecursion (λ r. StandsBefore v r x) passed
+  pub before : AllByRecursion (λ r. StandsEarlier v r x) passed
 
 behind_one : (s : End) (xs : List Ref) (r : Ref) → behind 4 s (xs ++ (r ∷ [])) ≡ Obj r 4
 behind_one s [] r = refl
@@ -102,7 +102,7 @@ module _ (tree : Tree) (v : View) (well : IsWell v) (summed : IsSummed v) where
           record {
             whole = subst (λ l. IsTree tree v ((passed ++ (r ∷ [])) ++ l)) (sym (ahead-rest (passed ++ (r ∷ [])) rest (Obj r 4) longer is)) longer;
             here = is;
-            before = all-both (λ q. StandsBefore v q x) passed (r ∷ []) reached.before ((y, at_y, less), tt);
+            before = all-both (λ q. StandsEarlier v q x) passed (r ∷ []) reached.before ((y, at_y, less), tt);
           }
 
       -- and fewer are ahead
@@ -158,11 +158,11 @@ module _ (tree : Tree) (v : View) (well : IsWell v) (summed : IsSummed v) where
 -- ---- neighbours
 
 -- what an end of a tree leads to is the first entry ahead
-pub entered-first : (named : End → Option End) (s : End) (xs : List Ref) → IsPath 3 4 named s xs None → entered 3 (named s) ≡ first xs
+pub entered-first : (named : End → Option End) (s : End) (xs : List Ref) → IsPath 3 4 named s xs None → entered 3 (named s) ≡ first_entry xs
 entered-first named s [] p = ap (entered 3) p
 entered-first named s (x ∷ xs) p = ap (entered 3) p.0
 
-entered_onward : (x : Ref) (xs : List Ref) → entered 4 (Some (behind 4 (Obj x 4) xs)) ≡ last_from (Some x) xs
+entered_onward : (x : Ref) (xs : List Ref) → entered 4 (Some (behind 4 (Obj x 4) xs)) ≡ last_entry_from (Some x) xs
 entered_onward x [] = refl
 entered_onward x (y ∷ ys) = entered_onward y ys
 
@@ -171,6 +171,6 @@ entered_top v (Obj r f) h = ap (λ n. entered 4 (Some (Obj r n))) h.0
 entered_top v (Slot s) h = absurd h
 
 -- the end behind some entries is the last one's
-pub entered-last : (v : View) (top : End) (xs : List Ref) → IsTop v top → entered 4 (Some (behind 4 top xs)) ≡ last xs
+pub entered-last : (v : View) (top : End) (xs : List Ref) → IsTop v top → entered 4 (Some (behind 4 top xs)) ≡ last_entry xs
 entered-last v top [] h = entered_top v top h
 entered-last v top (x ∷ xs) h = entered_onward x xs

@@ -20,7 +20,7 @@ abbrev pub position_in : List ℕ → List ℕ
 position_in bytes = take (number_at 28 4 bytes) (drop 32 bytes)
 
 -- the kind and the bytes behind the links are those of an entry at this position
-pub record IsEntryAt (entry : Kind × List ℕ) (x : Pos) : Type 0 where
+pub record SpellsEntryAt (entry : Kind × List ℕ) (x : Pos) : Type 0 where
   pub kind : IsEntryKind entry.0
   pub inside : 32 + number_at 28 4 entry.1 ≤ length entry.1
   pub place : IsPos x
@@ -28,25 +28,25 @@ pub record IsEntryAt (entry : Kind × List ℕ) (x : Pos) : Type 0 where
 
 -- the object is an entry at this position
 abbrev pub StandsAt : View → Ref → Pos → Type 0
-StandsAt v r x = IsSomeAnd (body v r) (λ b. IsEntryAt b x)
+StandsAt v r x = IsSomeAnd (body v r) (λ b. SpellsEntryAt b x)
 
 -- the object is an entry before this position
-abbrev pub StandsBefore : View → Ref → Pos → Type 0
-StandsBefore v r x = (at : Pos) × StandsAt v r at × IsBefore at x
+abbrev pub StandsEarlier : View → Ref → Pos → Type 0
+StandsEarlier v r x = (at : Pos) × StandsAt v r at × IsBefore at x
 
 -- the object is an entry behind this position
-abbrev pub StandsBehind : View → Ref → Pos → Type 0
-StandsBehind v r x = (at : Pos) × StandsAt v r at × IsBefore x at
+abbrev pub StandsLater : View → Ref → Pos → Type 0
+StandsLater v r x = (at : Pos) × StandsAt v r at × IsBefore x at
 
 -- these entries stand before the position, and those behind it
 pub record BelongsBetween (v : View) (x : Pos) (front back : List Ref) : Type 0 where
-  pub before : AllByRecursion (λ r. StandsBefore v r x) front
-  pub behind : AllByRecursion (λ r. StandsBehind v r x) back
+  pub before : AllByRecursion (λ r. StandsEarlier v r x) front
+  pub behind : AllByRecursion (λ r. StandsLater v r x) back
 
 -- these are entries, each before those that follow it
 abbrev pub AreAscending : View → List Ref → Type 0
 AreAscending v [] = ⊤
-AreAscending v (r ∷ refs) = ((x : Pos) × StandsAt v r x × AllByRecursion (λ q. StandsBehind v q x) refs) × AreAscending v refs
+AreAscending v (r ∷ refs) = ((x : Pos) × StandsAt v r x × AllByRecursion (λ q. StandsLater v q x) refs) × AreAscending v refs
 
 -- the balance in the body of an entry: the byte at 1
 abbrev pub balance_in : Option (Kind × List ℕ) → ℕ

@@ -14,15 +14,15 @@ IsFound v refs x (Before r) = (front : List Ref) × (back : List Ref) × (refs �
 IsFound v refs x Last = BelongsBetween v x refs []
 
 -- the first of a list; None where there is none
-abbrev pub first : List Ref → Option Ref
-first [] = None
-first (r ∷ refs) = Some r
+abbrev pub first_entry : List Ref → Option Ref
+first_entry [] = None
+first_entry (r ∷ refs) = Some r
 
 -- the last of a list behind another; that one where there is none
-abbrev pub last_from : Option Ref → List Ref → Option Ref
-last_from found [] = found
-last_from found (r ∷ refs) = last_from (Some r) refs
+abbrev pub last_entry_from : Option Ref → List Ref → Option Ref
+last_entry_from found [] = found
+last_entry_from found (r ∷ refs) = last_entry_from (Some r) refs
 
 -- the last of a list; None where there is none
-abbrev pub last : List Ref → Option Ref
-last = last_from None
+abbrev pub last_entry : List Ref → Option Ref
+last_entry = last_entry_from None

@@ -18,7 +18,7 @@ IsTop v (Obj r field) = (field ≡ 2) × IsSomeAnd (body v r) (λ b. b.0 ≡ Ver
 IsTop v (Slot root) = ⊥
 
 -- how an entry stands in its list: it has no parent, and its balance is 0
-pub record IsListed (v : View) (r : Ref) : Type 0 where
+pub record IsFlat (v : View) (r : Ref) : Type 0 where
   pub parent : link_of v (Obj r 2) ≡ None
   pub level : balance_of v r ≡ 0
 
@@ -27,7 +27,7 @@ pub record IsTree (tree : Tree) (v : View) (refs : List Ref) : Type 0 where
   pub top : IsTop v tree.top
   pub path : IsPath 3 4 (link_of v) tree.top refs None
   pub ascending : AreAscending v refs
-  pub listed : AllByRecursion (IsListed v) refs
+  pub listed : AllByRecursion (IsFlat v) refs
 
 -- an entry that is in no tree, and that can be put into one: none of its links to entries is set, and its balance is 0
 pub record IsLoose (v : View) (r : Ref) : Type 0 where

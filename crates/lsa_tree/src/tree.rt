@@ -8,7 +8,7 @@ ghost use Rattle.lsa_region.specs.Region.{body, link_of, IsWell};
 ghost use Rattle.lsa_tree.specs.declared.tree.Tree.{Tree as Ordered};
 ghost use Rattle.lsa_tree.specs.Entries.{StandsAt, BelongsBetween, balance_of};
 ghost use Rattle.lsa_tree.specs.Tree.{IsTree, IsLoose, IsOffTree, SameButBalances};
-ghost use Rattle.lsa_tree.specs.Search.{IsFound, first, last};
+ghost use Rattle.lsa_tree.specs.Search.{IsFound, first_entry, last_entry};
 
 use crate::search::{LEFT, RIGHT, Sought, object, position, seek};
 use lsa_path::{exchange_objects, insert_behind, take_out};
@@ -92,7 +92,7 @@ impl Tree {
     /// The first entry; None exactly where there is none.
     pub fn first<const S: usize>(&self, region: &Region<S>) -> Option<Ref>
         requires { (refs : List Name) × IsTree self.now region.now refs }
-        ensures { (refs : List Name) → IsTree self.now region.now refs → result ≡ first refs }
+        ensures { (refs : List Name) → IsTree self.now region.now refs → result ≡ first_entry refs }
     {
         object(region.link_of(self.top), LEFT)
     }
@@ -100,7 +100,7 @@ impl Tree {
     /// The entry behind one of the entries; None exactly where that is the last one.
     pub fn next<const S: usize>(&self, region: &Region<S>, r: Ref) -> Option<Ref>
         requires { (front : List Name) × (back : List Name) × IsTree self.now region.now (front ++ (r ∷ back)) }
-        ensures { (front back : List Name) → IsTree self.now region.now (front ++ (r ∷ back)) → result ≡ first back }
+        ensures { (front back : List Name) → IsTree self.now region.now (front ++ (r ∷ back)) → result ≡ first_entry back }
     {
         region.known();
         object(region.link_of(End::Obj(r, RIGHT)), LEFT)
@@ -109,7 +109,7 @@ impl Tree {
     /// The entry before one of the entries; None exactly where that is the first one.
     pub fn prev<const S: usize>(&self, region: &Region<S>, r: Ref) -> Option<Ref>
         requires { (front : List Name) × (back : List Name) × IsTree self.now region.now (front ++ (r ∷ back)) }
-        ensures { (front back : List Name) → IsTree self.now region.now (front ++ (r ∷ back)) → result ≡ last front }
+        ensures { (front back : List Name) → IsTree self.now region.now (front ++ (r ∷ back)) → result ≡ last_entry front }
     {
         region.known();
         object(region.link_of(End::Obj(r, LEFT)), RIGHT)

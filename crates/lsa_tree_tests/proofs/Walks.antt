@@ -19,32 +19,32 @@ use Rattle.lsa_region.specs.laws.Ends.{no-end, few-links}
 use Rattle.lsa_path.specs.laws.Members.{member-here}
 use Rattle.lsa_path.specs.laws.Renamed.{some-there}
 use Rattle.lsa_tree.specs.declared.tree.Tree.{Tree}
-use Rattle.lsa_tree.specs.Entries.{IsEntryKind, IsEntryAt, StandsAt, position_in}
-use Rattle.lsa_tree.specs.Search.{first, last, last_from}
+use Rattle.lsa_tree.specs.Entries.{IsEntryKind, SpellsEntryAt, StandsAt, position_in}
+use Rattle.lsa_tree.specs.Search.{first_entry, last_entry, last_entry_from}
 use Rattle.lsa_tree.specs.Tree.{IsTop, IsTree, IsLoose, IsOffTree, tree_as}
 use Rattle.lsa_tree.specs.laws.Trees.{tree-entry, tree-added, tree-freed, tree-renamed, tree-empty, loose-beside, no_entry_at}
-use Rattle.lsa_tree_tests.specs.Walking.{IsHeld, IsHome, IsOneOf}
+use Rattle.lsa_tree_tests.specs.Walking.{HoldsTree, IsHome, IsEntryFound}
 
 -- ---- one of the entries
 
 module _ (tree : Tree) (v : View) where
-  pub one-first : (refs : List Ref) → IsTree tree v refs → (o : Option Ref) → o ≡ first refs → IsOneOf tree v o
-  one-first [] h o e = subst (IsOneOf tree v) (sym e) tt
-  one-first (r ∷ refs) h o e = subst (IsOneOf tree v) (sym e) ([], refs, h)
+  pub one-first : (refs : List Ref) → IsTree tree v refs → (o : Option Ref) → o ≡ first_entry refs → IsEntryFound tree v o
+  one-first [] h o e = subst (IsEntryFound tree v) (sym e) tt
+  one-first (r ∷ refs) h o e = subst (IsEntryFound tree v) (sym e) ([], refs, h)
 
-  pub one-next : (front back : List Ref) (r : Ref) → IsTree tree v (front ++ (r ∷ back)) → (o : Option Ref) → o ≡ first back → IsOneOf tree v o
-  one-next front [] r h o e = subst (IsOneOf tree v) (sym e) tt
-  one-next front (q ∷ back) r h o e = subst (IsOneOf tree v) (sym e) (front ++ (r ∷ []), back, subst (IsTree tree v) (sym (append_assoc front (r ∷ []) (q ∷ back))) h)
+  pub one-next : (front back : List Ref) (r : Ref) → IsTree tree v (front ++ (r ∷ back)) → (o : Option Ref) → o ≡ first_entry back → IsEntryFound tree v o
+  one-next front [] r h o e = subst (IsEntryFound tree v) (sym e) tt
+  one-next front (q ∷ back) r h o e = subst (IsEntryFound tree v) (sym e) (front ++ (r ∷ []), back, subst (IsTree tree v) (sym (append_assoc front (r ∷ []) (q ∷ back))) h)
 
-  last_split : (x : Ref) (xs : List Ref) → (rest : List Ref) × (q : Ref) × (x ∷ xs ≡ rest ++ (q ∷ [])) × (last_from (Some x) xs ≡ Some q)
+  last_split : (x : Ref) (xs : List Ref) → (rest : List Ref) × (q : Ref) × (x ∷ xs ≡ rest ++ (q ∷ [])) × (last_entry_from (Some x) xs ≡ Some q)
   last_split x [] = ([], x, refl, refl)
   last_split x (y ∷ ys) = let w = last_split y ys in (x ∷ w.0, w.1, ap (λ l. x ∷ l) w.2, w.3)
 
-  pub one-last : (front back : List Ref) (r : Ref) → IsTree tree v (front ++ (r ∷ back)) → (o : Option Ref) → o ≡ last front → IsOneOf tree v o
-  one-last [] back r h o e = subst (IsOneOf tree v) (sym e) tt
+  pub one-last : (front back : List Ref) (r : Ref) → IsTree tree v (front ++ (r ∷ back)) → (o : Option Ref) → o ≡ last_entry front → IsEntryFound tree v o
+  one-last [] back r h o e = subst (IsEntryFound tree v) (sym e) tt
   one-last (x ∷ front) back r h o e =
       let w = last_split x front in
-      subst (IsOneOf tree v) (sym (e ∙ w.3)) (w.0, r ∷ back, subst (IsTree tree v) (ap (λ l. l ++ (r ∷ back)) w.2 ∙ append_assoc w.0 (w.1 ∷ []) (r ∷ back)) h)
+      subst (IsEntryFound tree v) (sym (e ∙ w.3)) (w.0, r ∷ back, subst (IsTree tree v) (ap (λ l. l ++ (r ∷ back)) w.2 ∙ append_assoc w.0 (w.1 ∷ []) (r ∷ back)) h)
 
   pub one-there : (front back : List Ref) (r : Ref) → IsTree tree v (front ++ (r ∷ back)) → IsSome (body v r)
   one-there front back r h = some-there _ (body v r) (tree-entry tree v (front ++ (r ∷ back)) r h (member-here front back r))
@@ -55,10 +55,10 @@ slot-off v slot = ((λ e. cc), (λ e. cc), (λ e. cc), (λ e. cc))
 
 -- ---- a version that the slot names
 
-pub held-kept : (slot : Root) (v w : View) (tree : Tree) (refs now : List Ref) → IsHeld slot v tree refs → link_of w (Slot slot) ≡ link_of v (Slot slot) → IsTree tree w now → IsHeld slot w tree now
+pub held-kept : (slot : Root) (v w : View) (tree : Tree) (refs now : List Ref) → HoldsTree slot v tree refs → link_of w (Slot slot) ≡ link_of v (Slot slot) → IsTree tree w now → HoldsTree slot w tree now
 held-kept slot v w tree refs now h same holds = record { version = h.version; named = same ∙ h.named; top = h.top; holds = holds }
 
-pub home-kept : (slot : Root) (v w : View) (tree : Tree) (refs now : List Ref) → IsHeld slot v tree refs → link_of w (Slot slot) ≡ link_of v (Slot slot) → IsTree tree w now → IsHome slot w
+pub home-kept : (slot : Root) (v w : View) (tree : Tree) (refs now : List Ref) → HoldsTree slot v tree refs → link_of w (Slot slot) ≡ link_of v (Slot slot) → IsTree tree w now → IsHome slot w
 home-kept slot v w tree refs now h same holds = (tree, now, held-kept slot v w tree refs now h same holds)
 
 pub slot-there : (slot : Root) (v : View) → IsWell v → IsHome slot v → IsEnd v (Slot slot)
@@ -114,7 +114,7 @@ free-of v r well h less more (suc (suc (suc zero))) = h.left
 free-of v r well h less more (suc (suc (suc (suc zero)))) = h.right
 free-of v r well h less more (suc (suc (suc (suc (suc f))))) = no-end v well (Obj r (suc (suc (suc (suc (suc f)))))) (λ there. let few = few-links v r (suc (suc (suc (suc (suc f))))) there in omega (arith, few))
 
-entry_same : (o p : Option (Kind × List ℕ)) (bytes others : List ℕ) (x : Pos) → IsSomeAnd o (λ b. IsEntryKind b.0) → IsSomeAnd p (λ b. IsEntryAt b x) → IsSomeAnd o (λ b. b.1 ≡ bytes) → IsSomeAnd p (λ b. b.1 ≡ others) → bytes ≡ others → IsSomeAnd o (λ b. IsEntryAt b x)
+entry_same : (o p : Option (Kind × List ℕ)) (bytes others : List ℕ) (x : Pos) → IsSomeAnd o (λ b. IsEntryKind b.0) → IsSomeAnd p (λ b. SpellsEntryAt b x) → IsSomeAnd o (λ b. b.1 ≡ bytes) → IsSomeAnd p (λ b. b.1 ≡ others) → bytes ≡ others → IsSomeAnd o (λ b. SpellsEntryAt b x)
 entry_same None p bytes others x kind h is is' same = absurd kind
 entry_same (Some b) None bytes others x kind h is is' same = absurd h
 entry_same (Some b) (Some d) bytes others x kind h is is' same =

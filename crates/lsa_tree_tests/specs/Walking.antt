@@ -8,7 +8,7 @@ use Rattle.lsa_tree.specs.declared.tree.Tree.{Tree}
 use Rattle.lsa_tree.specs.Tree.{IsTree}
 
 -- the slot names the version of a tree with these entries
-pub record IsHeld (slot : Root) (v : View) (tree : Tree) (refs : List Ref) : Type 0 where
+pub record HoldsTree (slot : Root) (v : View) (tree : Tree) (refs : List Ref) : Type 0 where
   pub version : Ref
   pub named : link_of v (Slot slot) ≡ Some (Obj version 1)
   pub top : tree.top ≡ Obj version 2
@@ -16,8 +16,8 @@ pub record IsHeld (slot : Root) (v : View) (tree : Tree) (refs : List Ref) : Typ
 
 -- the slot names the version of some tree
 abbrev pub IsHome : Root → View → Type 0
-IsHome slot v = (tree : Tree) × (refs : List Ref) × IsHeld slot v tree refs
+IsHome slot v = (tree : Tree) × (refs : List Ref) × HoldsTree slot v tree refs
 
 -- the object is one of the entries, if it is an object
-abbrev pub IsOneOf : Tree → View → Option Ref → Type 0
-IsOneOf tree v found = IfSome found (λ r. (front : List Ref) × (back : List Ref) × IsTree tree v (front ++ (r ∷ back)))
+abbrev pub IsEntryFound : Tree → View → Option Ref → Type 0
+IsEntryFound tree v found = IfSome found (λ r. (front : List Ref) × (back : List Ref) × IsTree tree v (front ++ (r ∷ back)))

@@ -8,7 +8,7 @@ ghost use Rattle.lsa_region.specs.Region.{link_of, IsEnd};
 ghost use Rattle.lsa_tree.specs.Entries.{StandsAt};
 ghost use Rattle.lsa_tree.specs.Search.{IsFound};
 ghost use Rattle.lsa_tree.specs.Tree.{IsTree, IsLoose};
-ghost use Rattle.lsa_tree_tests.specs.Walking.{IsHeld, IsHome, IsOneOf};
+ghost use Rattle.lsa_tree_tests.specs.Walking.{HoldsTree, IsHome, IsEntryFound};
 
 use lsa_kinds::Kind;
 use lsa_kinds::layout::entry::PositionSize;
@@ -63,7 +63,7 @@ fn is_entry(alloc: Global, region: &Region<4096>, r: Ref) -> Result<bool, AllocE
 // The tree of the version that the slot names.
 fn tree_of(region: &Region<4096>, slot: Root) -> Tree
     requires { IsHome slot region.now }
-    ensures { (refs : Sequence Name) × IsHeld slot region.now result refs }
+    ensures { (refs : Sequence Name) × HoldsTree slot region.now result refs }
 {
     region.known();
     match region.root(slot) {
@@ -147,7 +147,7 @@ fn free(region: &mut Region<4096>, _slot: Root, r: Ref)
 // The entry at this place, if there is one.
 fn nth(tree: Tree, region: &Region<4096>, place: usize) -> Option<Ref>
     requires { (refs : Sequence Name) × IsTree tree region.now refs }
-    ensures { IsOneOf tree region.now result }
+    ensures { IsEntryFound tree region.now result }
 {
     let mut found = tree.first(region);
     for _step in 0..place {
@@ -158,8 +158,8 @@ fn nth(tree: Tree, region: &Region<4096>, place: usize) -> Option<Ref>
 
 // The entry behind one, if there is one.
 fn behind(tree: Tree, region: &Region<4096>, found: Option<Ref>) -> Option<Ref>
-    requires { IsOneOf tree region.now found }
-    ensures { IsOneOf tree region.now result }
+    requires { IsEntryFound tree region.now found }
+    ensures { IsEntryFound tree region.now result }
 {
     match found {
         Some(r) => tree.next(region, r),
@@ -169,7 +169,7 @@ fn behind(tree: Tree, region: &Region<4096>, found: Option<Ref>) -> Option<Ref>
 
 // Takes an entry out and frees it.
 fn discard(region: &mut Region<4096>, slot: Root, tree: Tree, r: Ref)
-    requires { (front : Sequence Name) × (back : Sequence Name) × IsHeld slot region.old tree (front ++ (r ∷ back)) }
+    requires { (front : Sequence Name) × (back : Sequence Name) × HoldsTree slot region.old tree (front ++ (r ∷ back)) }
     ensures { IsHome slot region.new }
 {
     tree.remove(region, r);
@@ -204,7 +204,7 @@ fn exchange(
     old: Ref,
     new: Ref,
 ) -> Result<bool, AllocError>
-    requires held { (front : Sequence Name) × (back : Sequence Name) × IsHeld slot region.old tree (front ++ (old ∷ back)) }
+    requires held { (front : Sequence Name) × (back : Sequence Name) × HoldsTree slot region.old tree (front ++ (old ∷ back)) }
     requires loose { IsLoose region.old new }
     ensures { IsHome slot region.new }
 {
@@ -254,7 +254,7 @@ fn has_room(region: &mut Region<4096>, _slot: Root) -> bool
 
 // The number that an entry carries, if there is one.
 fn number_of(tree: Tree, region: &Region<4096>, found: Option<Ref>) -> Option<u8>
-    requires { IsOneOf tree region.now found }
+    requires { IsEntryFound tree region.now found }
 {
     match found {
         Some(r) => number_in(region.bytes(r)),
@@ -278,8 +278,8 @@ fn leads_through(tree: Tree, region: &Region<4096>, numbers: &[u8]) -> bool
 
 // The entry before one, if there is one.
 fn ahead(tree: Tree, region: &Region<4096>, found: Option<Ref>) -> Option<Ref>
-    requires { IsOneOf tree region.now found }
-    ensures { IsOneOf tree region.now result }
+    requires { IsEntryFound tree region.now found }
+    ensures { IsEntryFound tree region.now result }
 {
     match found {
         Some(r) => tree.prev(region, r),

@@ -11,7 +11,7 @@ use Rattle.lsa_tree.specs.declared.tree.Tree.{Tree}
 use Rattle.lsa_tree.specs.declared.tree.Place.{Place}
 use Rattle.lsa_tree.specs.declared.tree.Place.TheVariants.{Here, Before, Last}
 use Rattle.lsa_tree.specs.Entries.{StandsAt, BelongsBetween}
-use Rattle.lsa_tree.specs.Search.{IsFound, first}
+use Rattle.lsa_tree.specs.Search.{IsFound}
 use Rattle.lsa_tree.specs.Tree.{IsTree}
 use Rattle.lsa_tree.specs.laws.Orders.{belongs-once, never-at, ascending-split, ascending-with}
 

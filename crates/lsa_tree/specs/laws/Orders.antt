@@ -20,7 +20,7 @@ use Rattle.lsa_kinds.specs.Fields.{number_at}
 use Rattle.lsa_store.specs.declared.place.Ref.{Ref}
 use Rattle.lsa_region.specs.Region.{View, body}
 use Rattle.lsa_path.specs.laws.Members.{member-cases, member-first, member-later}
-use Rattle.lsa_tree.specs.Entries.{IsEntryKind, IsEntryAt, position_in, StandsAt, StandsBefore, StandsBehind, BelongsBetween, AreAscending}
+use Rattle.lsa_tree.specs.Entries.{IsEntryKind, SpellsEntryAt, position_in, StandsAt, StandsEarlier, StandsLater, BelongsBetween, AreAscending}
 
 -- ---- all of a list
 
@@ -72,15 +72,15 @@ pub greater-before : (x y : Pos) → pos_cmp y x ≡ Greater → IsBefore x y
 greater-before x y e = pos_cmp_total.antisymm x y ∙ ap ordering_reverse e
 
 -- an entry stands at one position
-pub entry-once : (b : Kind × List ℕ) (x y : Pos) → IsEntryAt b x → IsEntryAt b y → x ≡ y
+pub entry-once : (b : Kind × List ℕ) (x y : Pos) → SpellsEntryAt b x → SpellsEntryAt b y → x ≡ y
 entry-once b x y h k = (one_spelling pos_codec x y [] [] h.place k.place (append-nil (pos_code x) ∙ sym h.code ∙ k.code ∙ sym (append-nil (pos_code y)))).0
 
-entry_once : (o : Option (Kind × List ℕ)) (x y : Pos) → IsSomeAnd o (λ b. IsEntryAt b x) → IsSomeAnd o (λ b. IsEntryAt b y) → x ≡ y
+entry_once : (o : Option (Kind × List ℕ)) (x y : Pos) → IsSomeAnd o (λ b. SpellsEntryAt b x) → IsSomeAnd o (λ b. SpellsEntryAt b y) → x ≡ y
 entry_once None x y h k = absurd h
 entry_once (Some b) x y h k = entry-once b x y h k
 
 -- what the bytes of an entry spell
-pub bytes-spell : (o : Option (Kind × List ℕ)) (x : Pos) (bytes : List ℕ) → IsSomeAnd o (λ b. IsEntryAt b x) → IsSomeAnd o (λ b. b.1 ≡ bytes) → (32 + number_at 28 4 bytes ≤ length bytes) × IsPos x × (position_in bytes ≡ pos_code x)
+pub bytes-spell : (o : Option (Kind × List ℕ)) (x : Pos) (bytes : List ℕ) → IsSomeAnd o (λ b. SpellsEntryAt b x) → IsSomeAnd o (λ b. b.1 ≡ bytes) → (32 + number_at 28 4 bytes ≤ length bytes) × IsPos x × (position_in bytes ≡ pos_code x)
 bytes-spell None x bytes h k = absurd h
 bytes-spell (Some b) x bytes h k = (subst (λ l. 32 + number_at 28 4 l ≤ length l) k h.inside, h.place, subst (λ l. position_in l ≡ pos_code x) k h.code)
 
@@ -88,15 +88,15 @@ module _ (v : View) where
   pub stands-once : (r : Ref) (x y : Pos) → StandsAt v r x → StandsAt v r y → x ≡ y
   stands-once r x y h k = entry_once (body v r) x y h k
 
-  pub before-at : (r : Ref) (x y : Pos) → StandsAt v r x → StandsBefore v r y → IsBefore x y
+  pub before-at : (r : Ref) (x y : Pos) → StandsAt v r x → StandsEarlier v r y → IsBefore x y
   before-at r x y h k = subst (λ z. IsBefore z y) (stands-once r k.0 x k.1 h) k.2
 
-  pub behind-at : (r : Ref) (x y : Pos) → StandsAt v r x → StandsBehind v r y → IsBefore y x
+  pub behind-at : (r : Ref) (x y : Pos) → StandsAt v r x → StandsLater v r y → IsBefore y x
   behind-at r x y h k = subst (λ z. IsBefore y z) (stands-once r k.0 x k.1 h) k.2
 
   -- what stands behind a position stands behind one before it
-  pub all-further : (x y : Pos) (refs : List Ref) → IsBefore x y → AllByRecursion (λ r. StandsBehind v r y) refs → AllByRecursion (λ r. StandsBehind v r x) refs
-  all-further x y refs less h = all-mapped (λ r. StandsBehind v r y) (λ r. StandsBehind v r x) refs (λ r k. (k.0, k.1, before-trans x y k.0 less k.2)) h
+  pub all-further : (x y : Pos) (refs : List Ref) → IsBefore x y → AllByRecursion (λ r. StandsLater v r y) refs → AllByRecursion (λ r. StandsLater v r x) refs
+  all-further x y refs less h = all-mapped (λ r. StandsLater v r y) (λ r. StandsLater v r x) refs (λ r k. (k.0, k.1, before-trans x y k.0 less k.2)) h
 
   -- ---- ascending entries
 
@@ -107,7 +107,7 @@ module _ (v : View) where
   pub ascending-without : (xs ys : List Ref) (r : Ref) → AreAscending v (xs ++ (r ∷ ys)) → AreAscending v (xs ++ ys)
   ascending-without [] ys r h = h.1
   ascending-without (x ∷ xs) ys r h = (
-    (h.0.0, h.0.1, all-without (λ q. StandsBehind v q h.0.0) xs ys r h.0.2),
+    (h.0.0, h.0.1, all-without (λ q. StandsLater v q h.0.0) xs ys r h.0.2),
     ascending-without xs ys r h.1,
   )
 
@@ -115,29 +115,29 @@ module _ (v : View) where
   pub ascending-with : (xs ys : List Ref) (r : Ref) (x : Pos) → StandsAt v r x → BelongsBetween v x xs ys → AreAscending v (xs ++ ys) → AreAscending v (xs ++ (r ∷ ys))
   ascending-with [] ys r x at fits h = ((x, at, fits.behind), h)
   ascending-with (z ∷ xs) ys r x at fits h = (
-    (h.0.0, h.0.1, all-with (λ q. StandsBehind v q h.0.0) xs ys r (x, at, before-at z h.0.0 x h.0.1 fits.before.0) h.0.2),
+    (h.0.0, h.0.1, all-with (λ q. StandsLater v q h.0.0) xs ys r (x, at, before-at z h.0.0 x h.0.1 fits.before.0) h.0.2),
     ascending-with xs ys r x at (record { before = fits.before.1; behind = fits.behind }) h.1,
   )
 
   -- the entries beside one of them
   pub ascending-split : (xs ys : List Ref) (r : Ref) (x : Pos) → StandsAt v r x → AreAscending v (xs ++ (r ∷ ys)) → BelongsBetween v x xs ys
-  ascending-split [] ys r x at h = record { before = tt; behind = subst (λ y. AllByRecursion (λ q. StandsBehind v q y) ys) (stands-once r h.0.0 x h.0.1 at) h.0.2 }
+  ascending-split [] ys r x at h = record { before = tt; behind = subst (λ y. AllByRecursion (λ q. StandsLater v q y) ys) (stands-once r h.0.0 x h.0.1 at) h.0.2 }
   ascending-split (z ∷ xs) ys r x at h =
       let rest = ascending-split xs ys r x at h.1 in
-      record { before = ((h.0.0, h.0.1, behind-at r x h.0.0 at (all-back (λ q. StandsBehind v q h.0.0) xs (r ∷ ys) h.0.2).0), rest.before); behind = rest.behind }
+      record { before = ((h.0.0, h.0.1, behind-at r x h.0.0 at (all-back (λ q. StandsLater v q h.0.0) xs (r ∷ ys) h.0.2).0), rest.before); behind = rest.behind }
 
   pub ascending-stands : (refs : List Ref) (r : Ref) → AreAscending v refs → Contains refs r → (x : Pos) × StandsAt v r x
   ascending-stands [] r h c = absurd (omega (arith, c.1))
   ascending-stands (z ∷ refs) r h c = elim (member-cases z r refs c) [ inl same ↦ subst (λ q. (x : Pos) × StandsAt v q x) same (h.0.0, h.0.1) | inr later ↦ ascending-stands refs r h.1 later ]
 
-  clash : (r : Ref) (x : Pos) → StandsBefore v r x → StandsBehind v r x → ⊥
+  clash : (r : Ref) (x : Pos) → StandsEarlier v r x → StandsLater v r x → ⊥
   clash r x h k = not-both x h.0 (behind-at r h.0 x h.1 k) h.2
 
   -- a position belongs at one place
   pub belongs-once : (xs ys zs ws : List Ref) (x : Pos) → xs ++ ys ≡ zs ++ ws → BelongsBetween v x xs ys → BelongsBetween v x zs ws → xs ≡ zs
   belongs-once [] ys [] ws x e h k = refl
-  belongs-once [] ys (z ∷ zs) ws x e h k = absurd (clash z x k.before.0 (subst (AllByRecursion (λ r. StandsBehind v r x)) e h.behind).0)
-  belongs-once (y ∷ xs) ys [] ws x e h k = absurd (clash y x h.before.0 (subst (AllByRecursion (λ r. StandsBehind v r x)) (sym e) k.behind).0)
+  belongs-once [] ys (z ∷ zs) ws x e h k = absurd (clash z x k.before.0 (subst (AllByRecursion (λ r. StandsLater v r x)) e h.behind).0)
+  belongs-once (y ∷ xs) ys [] ws x e h k = absurd (clash y x h.before.0 (subst (AllByRecursion (λ r. StandsLater v r x)) (sym e) k.behind).0)
   belongs-once (y ∷ xs) ys (z ∷ zs) ws x e h k =
       let heads : y ≡ z = cc in let tails : xs ++ ys ≡ zs ++ ws = cc in
       ap (λ r. r ∷ xs) heads ∙ ap (λ l. z ∷ l) (belongs-once xs ys zs ws x tails (record { before = h.before.1; behind = h.behind }) (record { before = k.before.1; behind = k.behind }))
@@ -145,8 +145,8 @@ module _ (v : View) where
   -- where a position belongs no entry stands at it
   pub never-at : (x : Pos) (r : Ref) (refs : List Ref) → Contains refs r → (xs ys : List Ref) → refs ≡ xs ++ ys → BelongsBetween v x xs ys → StandsAt v r x → ⊥
   never-at x r refs c xs ys is h at = elim (Contains-append_cases xs ys r (subst (λ l. Contains l r) is c)) [
-    | inl front ↦ never-before x (before-at r x x at (all-at (λ q. StandsBefore v q x) xs r h.before front))
-    | inr back ↦ never-before x (behind-at r x x at (all-at (λ q. StandsBehind v q x) ys r h.behind back))
+    | inl front ↦ never-before x (before-at r x x at (all-at (λ q. StandsEarlier v q x) xs r h.before front))
+    | inr back ↦ never-before x (behind-at r x x at (all-at (λ q. StandsLater v q x) ys r h.behind back))
   ]
 
 -- ---- entries that stand at the same positions in another region, maybe under other names
@@ -156,14 +156,14 @@ module _ (v w : View) where
   pub belongs-kept : (x : Pos) (xs ys : List Ref) → ((r : Ref) → Contains xs r → (at : Pos) → StandsAt v r at → StandsAt w r at) → ((r : Ref) → Contains ys r → (at : Pos) → StandsAt v r at → StandsAt w r at)
       → BelongsBetween v x xs ys → BelongsBetween w x xs ys
   belongs-kept x xs ys keep keep' h = record {
-    before = all-members (λ r. StandsBefore v r x) (λ r. StandsBefore w r x) xs (λ r c k. (k.0, keep r c k.0 k.1, k.2)) h.before;
-    behind = all-members (λ r. StandsBehind v r x) (λ r. StandsBehind w r x) ys (λ r c k. (k.0, keep' r c k.0 k.1, k.2)) h.behind;
+    before = all-members (λ r. StandsEarlier v r x) (λ r. StandsEarlier w r x) xs (λ r c k. (k.0, keep r c k.0 k.1, k.2)) h.before;
+    behind = all-members (λ r. StandsLater v r x) (λ r. StandsLater w r x) ys (λ r c k. (k.0, keep' r c k.0 k.1, k.2)) h.behind;
   }
 
   pub ascending-kept : (refs : List Ref) → ((r : Ref) → Contains refs r → (at : Pos) → StandsAt v r at → StandsAt w r at) → AreAscending v refs → AreAscending w refs
   ascending-kept [] keep h = tt
   ascending-kept (z ∷ refs) keep h = (
-    (h.0.0, keep z (member-first z refs) h.0.0 h.0.1, all-members (λ r. StandsBehind v r h.0.0) (λ r. StandsBehind w r h.0.0) refs (λ r c k. (k.0, keep r (member-later z r refs c) k.0 k.1, k.2)) h.0.2),
+    (h.0.0, keep z (member-first z refs) h.0.0 h.0.1, all-members (λ r. StandsLater v r h.0.0) (λ r. StandsLater w r h.0.0) refs (λ r c k. (k.0, keep r (member-later z r refs c) k.0 k.1, k.2)) h.0.2),
     ascending-kept refs (λ r c. keep r (member-later z r refs c)) h.1,
   )
 
@@ -172,7 +172,7 @@ module _ (v w : View) where
   ascending-named f keep [] h = tt
   ascending-named f keep (z ∷ refs) h = ((h.0.0, keep z h.0.0 h.0.1, all_named h.0.0 refs h.0.2), ascending-named f keep refs h.1)
     where
-      all_named : (y : Pos) (xs : List Ref) → AllByRecursion (λ r. StandsBehind v r y) xs → AllByRecursion (λ r. StandsBehind w r y) (map f xs)
+      all_named : (y : Pos) (xs : List Ref) → AllByRecursion (λ r. StandsLater v r y) xs → AllByRecursion (λ r. StandsLater w r y) (map f xs)
       all_named y [] k = tt
       all_named y (x ∷ xs) k = ((k.0.0, keep x k.0.0 k.0.1, k.0.2), all_named y xs k.1)
 

@@ -23,8 +23,8 @@ use Rattle.lsa_path.specs.laws.Passing.{path-determined, path-walked, path-enter
 use Rattle.lsa_path.specs.laws.Paths.{same_field, same_object, same_some, path-same, path-everywhere, path-rest, path-end}
 use Rattle.lsa_path.specs.laws.Renamed.{some-there, path-renamed}
 use Rattle.lsa_tree.specs.declared.tree.Tree.{Tree}
-use Rattle.lsa_tree.specs.Entries.{IsEntryKind, IsEntryAt, StandsAt, AreAscending, balance_in, balance_of, but_balance, IsAlike, tree_part, IsReadAlike}
-use Rattle.lsa_tree.specs.Tree.{IsTop, IsListed, IsTree, IsLoose, IsOffRole, IsOffTree, IsTreeRole, IsOfTree, SameButBalances, tree_as}
+use Rattle.lsa_tree.specs.Entries.{IsEntryKind, SpellsEntryAt, StandsAt, AreAscending, balance_in, balance_of, but_balance, IsAlike, tree_part, IsReadAlike}
+use Rattle.lsa_tree.specs.Tree.{IsTop, IsFlat, IsTree, IsLoose, IsOffRole, IsOffTree, IsTreeRole, IsOfTree, SameButBalances, tree_as}
 use Rattle.lsa_tree.specs.laws.Orders.{all-front, all-back, all-both, all-members, all-at, ascending-kept, ascending-named, ascending-stands}
 
 pub fields_differ : ◌≢◌ {A = ℕ} 3 4
@@ -45,7 +45,7 @@ entry_has (Some b) f h le = omega (arith, entry_links b.0 h, le)
 pub entry-end : (v : View) (r : Ref) (f : ℕ) → IsSomeAnd (body v r) (λ b. IsEntryKind b.0) → f ≤ 4 → IsEnd v (Obj r f)
 entry-end v r f h le = entry_has (body v r) f h le
 
-at_kind : (o : Option (Kind × List ℕ)) (x : Pos) → IsSomeAnd o (λ b. IsEntryAt b x) → IsSomeAnd o (λ b. IsEntryKind b.0)
+at_kind : (o : Option (Kind × List ℕ)) (x : Pos) → IsSomeAnd o (λ b. SpellsEntryAt b x) → IsSomeAnd o (λ b. IsEntryKind b.0)
 at_kind None x h = h
 at_kind (Some b) x h = h.kind
 
@@ -122,11 +122,11 @@ module _ (tree : Tree) (v : View) where
 -- ---- two views
 
 -- an entry reads as it did
-pub listed-same : (v w : View) (r : Ref) → body w r ≡ body v r → link_of w (Obj r 2) ≡ link_of v (Obj r 2) → IsListed v r → IsListed w r
+pub listed-same : (v w : View) (r : Ref) → body w r ≡ body v r → link_of w (Obj r 2) ≡ link_of v (Obj r 2) → IsFlat v r → IsFlat w r
 listed-same v w r same here h = record { parent = here ∙ h.parent; level = ap balance_in same ∙ h.level }
 
 pub stands-same : (v w : View) (r : Ref) (x : Pos) → body w r ≡ body v r → StandsAt v r x → StandsAt w r x
-stands-same v w r x same h = subst (λ o. IsSomeAnd o (λ b. IsEntryAt b x)) (sym same) h
+stands-same v w r x same h = subst (λ o. IsSomeAnd o (λ b. SpellsEntryAt b x)) (sym same) h
 
 pub loose-same : (v w : View) (r : Ref) → body w r ≡ body v r → link_of w (Obj r 2) ≡ link_of v (Obj r 2) → link_of w (Obj r 3) ≡ link_of v (Obj r 3) → link_of w (Obj r 4) ≡ link_of v (Obj r 4) → IsLoose v r → IsLoose w r
 loose-same v w r same a b c h = record {
@@ -149,7 +149,7 @@ pub version-same : (o p : Option (Kind × List ℕ)) → p ≡ o → IsSomeAnd o
 version-same o p same h = subst (λ o. IsSomeAnd o (λ b. b.0 ≡ Version)) (sym same) h
 
 -- an entry of which the same is read stands where it stood
-pub entry-reads : (b d : Kind × List ℕ) (x : Pos) → d.0 ≡ b.0 → drop 28 d.1 ≡ drop 28 b.1 → IsEntryAt b x → IsEntryAt d x
+pub entry-reads : (b d : Kind × List ℕ) (x : Pos) → d.0 ≡ b.0 → drop 28 d.1 ≡ drop 28 b.1 → SpellsEntryAt b x → SpellsEntryAt d x
 entry-reads b d x kinds same h =
     let size : number_at 28 4 d.1 ≡ number_at 28 4 b.1 = ap (λ l. number (take 4 l)) same in
     let far : drop 32 d.1 ≡ drop 32 b.1 = sym (drop-drop 4 28 d.1) ∙ ap (drop 4) same ∙ drop-drop 4 28 b.1 in
@@ -160,7 +160,7 @@ entry-reads b d x kinds same h =
       code = (λ i. take (size i) (far i)) ∙ h.code;
     }
 
-reads_at : (o p : Option (Kind × List ℕ)) (x : Pos) → IsReadAlike o p → IsSomeAnd o (λ b. IsEntryAt b x) → IsSomeAnd p (λ b. IsEntryAt b x)
+reads_at : (o p : Option (Kind × List ℕ)) (x : Pos) → IsReadAlike o p → IsSomeAnd o (λ b. SpellsEntryAt b x) → IsSomeAnd p (λ b. SpellsEntryAt b x)
 reads_at None p x same h = absurd h
 reads_at (Some b) None x same h = cc same
 reads_at (Some b) (Some d) x same h = let parts : tree_part d ≡ tree_part b = cc in entry-reads b d x (ap (λ (t : Kind × (ℕ × List ℕ)). t.0) parts) (ap (λ (t : Kind × (ℕ × List ℕ)). t.1.1) parts) h
@@ -176,7 +176,7 @@ reads_balance None (Some d) same = cc same
 reads_balance (Some b) None same = cc same
 reads_balance (Some b) (Some d) same = let parts : tree_part d ≡ tree_part b = cc in ap (λ (t : Kind × (ℕ × List ℕ)). t.1.0) parts
 
-alike_at : (o p : Option (Kind × List ℕ)) (x : Pos) → IsAlike o p → IsSomeAnd o (λ b. IsEntryAt b x) → IsSomeAnd p (λ b. IsEntryAt b x)
+alike_at : (o p : Option (Kind × List ℕ)) (x : Pos) → IsAlike o p → IsSomeAnd o (λ b. SpellsEntryAt b x) → IsSomeAnd p (λ b. SpellsEntryAt b x)
 alike_at None p x same h = absurd h
 alike_at (Some b) None x same h = cc same
 alike_at (Some b) (Some d) x same h =
@@ -187,7 +187,7 @@ module _ (v w : View) (r : Ref) (same : IsReadAlike (body v r) (body w r)) where
   pub stands-read : (x : Pos) → StandsAt v r x → StandsAt w r x
   stands-read x h = reads_at (body v r) (body w r) x same h
 
-  pub listed-read : link_of w (Obj r 2) ≡ link_of v (Obj r 2) → IsListed v r → IsListed w r
+  pub listed-read : link_of w (Obj r 2) ≡ link_of v (Obj r 2) → IsFlat v r → IsFlat w r
   listed-read here h = record { parent = here ∙ h.parent; level = reads_balance (body v r) (body w r) same ∙ h.level }
 
   pub loose-read : ((f : ℕ) → 2 ≤ f → f ≤ 4 → link_of w (Obj r f) ≡ link_of v (Obj r f)) → IsLoose v r → IsLoose w r
@@ -212,7 +212,7 @@ tree-linked tree v w refs top here same links h = record {
   top = top;
   path = path-same 3 4 (link_of v) (link_of w) tree.top refs None here (all-from_members 4 (λ e. link_of w e ≡ link_of v e) refs (λ r c. links r c 4 (omega arith) (omega arith))) h.path;
   ascending = ascending-kept v w refs (λ r c x k. stands-read v w r (same r c) x k) h.ascending;
-  listed = all-members (IsListed v) (IsListed w) refs (λ r c k. listed-read v w r (same r c) (links r c 2 (omega arith) (omega arith)) k) h.listed;
+  listed = all-members (IsFlat v) (IsFlat w) refs (λ r c k. listed-read v w r (same r c) (links r c 2 (omega arith) (omega arith)) k) h.listed;
 }
 
 -- and where versions stay versions
@@ -312,7 +312,7 @@ tree-freed tree v w r freed refs beside apart h = record {
   top = freed_top tree.top apart h.top;
   path = path-everywhere 3 4 (link_of v) (link_of w) tree.top refs None freed.links h.path;
   ascending = ascending-kept v w refs (λ q c x k. stands-read v w q (kept q c) x k) h.ascending;
-  listed = all-members (IsListed v) (IsListed w) refs (λ q c k. listed-read v w q (kept q c) (freed.links (Obj q 2)) k) h.listed;
+  listed = all-members (IsFlat v) (IsFlat w) refs (λ q c k. listed-read v w q (kept q c) (freed.links (Obj q 2)) k) h.listed;
 }
   where
     kept : (q : Ref) → Contains refs q → IsReadAlike (body v q) (body w q)
@@ -384,15 +384,15 @@ module _ (tree : Tree) (v : View) where
 
 module _ (old new : View) (names : List (Ref × Ref)) (renamed : Renamed old new names) (well : IsWell old) where
   pub stands-renamed : (r : Ref) (x : Pos) → StandsAt old r x → StandsAt new (named_as names r) x
-  stands-renamed r x h = subst (λ o. IsSomeAnd o (λ b. IsEntryAt b x)) (sym (renamed.bodies r (some-there _ (body old r) h))) h
+  stands-renamed r x h = subst (λ o. IsSomeAnd o (λ b. SpellsEntryAt b x)) (sym (renamed.bodies r (some-there _ (body old r) h))) h
 
   unset_renamed : (r : Ref) (f : ℕ) → IsSome (body old r) → link_of old (Obj r f) ≡ None → link_of new (Obj (named_as names r) f) ≡ None
   unset_renamed r f live unset = renamed.links r f live ∙ ap (option_map (end_as names)) unset
 
-  listed_renamed : (r : Ref) → IsSome (body old r) → IsListed old r → IsListed new (named_as names r)
+  listed_renamed : (r : Ref) → IsSome (body old r) → IsFlat old r → IsFlat new (named_as names r)
   listed_renamed r live h = record { parent = unset_renamed r 2 live h.parent; level = ap balance_in (renamed.bodies r live) ∙ h.level }
 
-  all_listed : (refs : List Ref) → ((r : Ref) → Contains refs r → IsSome (body old r)) → AllByRecursion (IsListed old) refs → AllByRecursion (IsListed new) (map (named_as names) refs)
+  all_listed : (refs : List Ref) → ((r : Ref) → Contains refs r → IsSome (body old r)) → AllByRecursion (IsFlat old) refs → AllByRecursion (IsFlat new) (map (named_as names) refs)
   all_listed [] live h = tt
   all_listed (r ∷ refs) live h = (listed_renamed r (live r (member-first r refs)) h.0, all_listed refs (λ q c. live q (member-later r q refs c)) h.1)
 
