@@ -1,23 +1,22 @@
 -- A tree after each of its calls.
-use Rattle.std.proofs.Common.{◌≡◌, ◌≢◌, ℕ, ◌≤◌, List, [], ◌∷◌, ◌++◌, Option, Some, None, IsSome, is_some, inl, inr, refl, sym, ap, ◌∙◌, subst, arith}
+use Rattle.std.proofs.Common.{◌≡◌, ◌≢◌, ℕ, List, [], ◌∷◌, ◌++◌, Some, None, IsSome, is_some, inl, inr, sym, ap, ◌∙◌, subst, arith}
 use Rattle.std.specs.Prelude.{IsSomeAnd, Contains}
 use Rattle.std.specs.Option.{option_map}
-use Rattle.std.specs.List.{AllByRecursion}
 use Rattle.std.proofs.lemmas.List.Elements.{Contains-append_left, Contains-append_right, Contains-append_cases}
 use Rattle.rc_position.specs.declared.positions.Pos.{Pos}
 use Rattle.lsa_store.specs.declared.place.Ref.{Ref}
 use Rattle.lsa_region.specs.declared.end.End.{End}
-use Rattle.lsa_region.specs.declared.end.End.TheVariants.{Obj, Slot}
+use Rattle.lsa_region.specs.declared.end.End.TheVariants.{Obj}
 use Rattle.lsa_region.specs.Region.{View, body, link_of, IsEnd, IsWell, SameObjects}
-use Rattle.lsa_path.specs.Path.{IsPath, IsOutside, IsOutsideOrUnset, behind, IsInserted, IsTakenOut, exchanged_end}
+use Rattle.lsa_path.specs.Path.{IsPath, behind, IsInserted, IsTakenOut, exchanged_end}
 use Rattle.lsa_path.specs.laws.Members.{member-cases, member-first, member-later, member-here}
 use Rattle.lsa_path.specs.laws.Passing.{path-named, path-apart}
 use Rattle.lsa_path.specs.laws.Paths.{same_object}
 use Rattle.lsa_tree.specs.declared.tree.Tree.{Tree}
 use Rattle.lsa_tree.specs.Entries.{IsEntryKind, StandsAt, BelongsBetween, balance_in, balance_of}
-use Rattle.lsa_tree.specs.Tree.{IsTop, IsFlat, IsTree, IsLoose, IsOffTree, SameButBalances}
+use Rattle.lsa_tree.specs.Tree.{IsFlat, IsTree, IsLoose, IsOffTree}
 use Rattle.lsa_tree.specs.laws.Orders.{all-without, all-with, all-back, ascending-with, ascending-without, ascending-replaced}
-use Rattle.lsa_tree.specs.laws.Trees.{fields_differ, entry-end, entry-no-top, top-end, top-outside, tree-once, tree-entry, tree-left, loose-beside, trees-apart, same-objects}
+use Rattle.lsa_tree.specs.laws.Trees.{fields_differ, entry-end, entry-no-top, top-end, top-outside, tree-entry, loose-beside, trees-apart}
 use Rattle.lsa_tree.proofs.Frames.{IsWithin, within-parent, within-elsewhere, within-others, within-loose, within-tree, inserted-links, taken-links, exchanged-links, exchanged-left, exchanged-right}
 
 -- where one more stands among members

@@ -1,17 +1,14 @@
 -- What a change of one tree leaves: other trees, loose entries, and links of other roles.
-use Rattle.std.proofs.Common.{◌≡◌, ◌≢◌, ℕ, ◌≤◌, List, [], ◌∷◌, ◌++◌, Option, Some, None, IsSome, is_some, inl, inr, refl, sym, ap, ◌∙◌, subst, arith}
+use Rattle.std.proofs.Common.{◌≡◌, ◌≢◌, ℕ, List, [], ◌∷◌, ◌++◌, Option, Some, None, refl, sym, ap, ◌∙◌, subst}
 use Rattle.std.specs.Prelude.{IsSomeAnd, Contains}
 use Rattle.std.specs.Option.{option_map}
 use Rattle.std.specs.List.{AllByRecursion}
 use Rattle.std.proofs.lemmas.List.Elements.{Contains-append_left, Contains-append_right}
-use Rattle.rc_position.specs.declared.positions.Pos.{Pos}
-use Rattle.lsa_kinds.specs.declared.kind.Kind.{Kind}
-use Rattle.lsa_kinds.specs.declared.kind.Kind.TheVariants.{Version}
 use Rattle.lsa_store.specs.declared.place.Ref.{Ref}
 use Rattle.lsa_region.specs.declared.end.End.{End}
 use Rattle.lsa_region.specs.declared.end.End.TheVariants.{Obj, Slot}
 use Rattle.lsa_region.specs.Ends.{swapped}
-use Rattle.lsa_region.specs.Region.{View, body, link_of, IsEnd, IsWell, SameObjects}
+use Rattle.lsa_region.specs.Region.{View, body, link_of, IsWell, SameObjects}
 use Rattle.lsa_region.specs.laws.Exchanges.{swap-other}
 use Rattle.lsa_path.specs.Path.{IsPath, behind, IsInserted, IsTakenOut, exchanged_end}
 use Rattle.lsa_path.specs.laws.Exchanged.{exchanged-toward, exchanged-onward, other-second}
@@ -19,7 +16,7 @@ use Rattle.lsa_path.specs.laws.Members.{member-first, member-later, member-here}
 use Rattle.lsa_path.specs.laws.Passing.{path-named}
 use Rattle.lsa_path.specs.laws.Paths.{same_field, same_object, same_some, path-rest}
 use Rattle.lsa_tree.specs.declared.tree.Tree.{Tree}
-use Rattle.lsa_tree.specs.Entries.{IsEntryKind, StandsAt, AreAscending}
+use Rattle.lsa_tree.specs.Entries.{IsEntryKind, AreAscending}
 use Rattle.lsa_tree.specs.Tree.{IsTop, IsFlat, IsTree, IsLoose, IsOffTree}
 use Rattle.lsa_tree.specs.laws.Orders.{all-members, ascending-kept, ascending-stands}
 use Rattle.lsa_tree.specs.laws.Trees.{fields_differ, stands-entry, entry-no-top, off-top, off-entry, tree-entry, listed-same, stands-same, loose-same, top-kept, version-same, same-read, tree-kept}

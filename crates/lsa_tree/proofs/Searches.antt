@@ -1,32 +1,26 @@
 -- A search along the entries: what stands before the end that it has come to, and what is ahead.
-use Rattle.std.proofs.Common.{◌≡◌, ◌≢◌, ℕ, zero, suc, ◌+◌, ◌<◌, ◌≤◌, List, [], ◌∷◌, ◌++◌, length, Option, Some, None, IsSome, is_some, cond, inl, inr, refl, sym, ap, ◌∙◌, subst, arith}
-use Rattle.std.specs.Prelude.{IsSomeAnd, Contains}
+use Rattle.std.proofs.Common.{◌≡◌, ◌+◌, ◌<◌, ◌≤◌, List, [], ◌∷◌, ◌++◌, length, Option, Some, None, refl, sym, ap, ◌∙◌, subst, arith}
+use Rattle.std.specs.Prelude.{Contains}
 use Rattle.std.specs.List.{AllByRecursion}
-use Rattle.std.specs.declared.cmp.Ordering.{Ordering}
-use Rattle.std.specs.declared.cmp.Ordering.TheVariants.{Less, Equal, Greater}
-use Rattle.std.specs.Ordering.{ordering_reverse}
-use Rattle.std.proofs.lemmas.Bool.{eq-eqb}
 use Rattle.std.proofs.lemmas.List.Elements.{Contains-append_left}
 use Rattle.std.proofs.lemmas.List.{append-nil, append_assoc, length-append}
 use Rattle.rc_position.specs.declared.positions.Pos.{Pos}
-use Rattle.rc_position.specs.Position.{pos_cmp, IsBefore}
-use Rattle.rc_position.specs.laws.Orders.{pos_cmp_total, pos_cmp_same}
+use Rattle.rc_position.specs.Position.{IsBefore}
 use Rattle.lsa_store.specs.declared.place.Ref.{Ref}
 use Rattle.lsa_region.specs.declared.end.End.{End}
 use Rattle.lsa_region.specs.declared.end.End.TheVariants.{Obj, Slot}
-use Rattle.lsa_region.specs.Region.{View, body, link_of, IsEnd, IsWell, IsSummed, objects}
+use Rattle.lsa_region.specs.Region.{View, link_of, IsEnd, IsWell, IsSummed, objects}
 use Rattle.lsa_path.specs.Path.{IsPath, behind, entered, walk}
 use Rattle.lsa_path.specs.laws.Members.{member-first, member-later, member-here}
 use Rattle.lsa_path.specs.laws.Passing.{path-walked, path-few}
-use Rattle.lsa_path.specs.laws.Paths.{same_some, path-rest}
+use Rattle.lsa_path.specs.laws.Paths.{path-rest}
 use Rattle.lsa_tree.specs.declared.tree.Tree.{Tree}
-use Rattle.lsa_tree.specs.declared.tree.Place.{Place}
 use Rattle.lsa_tree.specs.declared.tree.Place.TheVariants.{Here, Before, Last}
-use Rattle.lsa_tree.specs.Entries.{StandsAt, StandsEarlier, StandsLater, BelongsBetween, AreAscending}
+use Rattle.lsa_tree.specs.Entries.{StandsAt, StandsEarlier, BelongsBetween}
 use Rattle.lsa_tree.specs.Search.{IsFound, first_entry, last_entry, last_entry_from}
 use Rattle.lsa_tree.specs.Tree.{IsTop, IsTree}
 use Rattle.lsa_tree.specs.laws.Orders.{all-both, all-further, ascending-back, ascending-split, belongs-once, never-at}
-use Rattle.lsa_tree.specs.laws.Trees.{fields_differ, entry-end, stands-entry, top-end, top-outside, tree-once, tree-entry}
+use Rattle.lsa_tree.specs.laws.Trees.{fields_differ, entry-end, top-end, top-outside, tree-once, tree-entry}
 
 -- the entries that an end leads to
 abbrev pub ahead : View → End → List Ref

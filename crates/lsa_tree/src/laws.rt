@@ -79,17 +79,19 @@ pub fn a_tree_stays_under_links_of_other_roles()
     ensures loose { (old new : View) (r : Ref) → IsLoose old r → ((e : End) → IsOfTree old e → link_of new e ≡ link_of old e) → ((q : Ref) → body new q ≡ body old q) → IsLoose new r }
 {}
 
-/// A tree stays where an object is made, and so do other loose entries. What is made as an entry with the balance 0 is loose.
+/// A tree stays where an object is made, and so do other loose entries; entries stand where they stood. What is made as an entry with the balance 0 is loose.
 pub fn a_tree_stays_where_an_object_is_made()
     ensures tree { (tree : Tree) (old new : View) (refs : List Ref) (r : Ref) (kind : Kind) (bytes : List ℕ) → IsTree tree old refs → IsAdded old new r kind bytes → IsTree tree new refs }
     ensures others { (old new : View) (q r : Ref) (kind : Kind) (bytes : List ℕ) → IsLoose old q → IsAdded old new r kind bytes → IsLoose new q }
+    ensures stands { (old new : View) (q r : Ref) (kind : Kind) (bytes : List ℕ) (x : Pos) → StandsAt old q x → IsAdded old new r kind bytes → StandsAt new q x }
     ensures loose { (old new : View) (r : Ref) (kind : Kind) (bytes : List ℕ) → IsAdded old new r kind bytes → IsEntryKind kind → number_at 1 1 bytes ≡ 0 → IsLoose new r }
 {}
 
-/// A tree stays where an object is freed that is neither its version nor one of its entries, and so do other loose entries.
+/// A tree stays where an object is freed that is neither its version nor one of its entries, and so do other loose entries; other entries stand where they stood.
 pub fn a_tree_stays_where_an_object_is_freed()
     ensures tree { (tree : Tree) (old new : View) (refs : List Ref) (r : Ref) → IsTree tree old refs → IsFreed old new r → (Contains refs r → ⊥) → tree.top ≢ Obj r 2 → IsTree tree new refs }
     ensures loose { (old new : View) (q r : Ref) → IsLoose old q → IsFreed old new r → q ≢ r → IsLoose new q }
+    ensures stands { (old new : View) (q r : Ref) (x : Pos) → StandsAt old q x → IsFreed old new r → q ≢ r → StandsAt new q x }
 {}
 
 /// A tree stays where bytes of an object are written: of any other object than its entries, and of an entry a field before the length of its position

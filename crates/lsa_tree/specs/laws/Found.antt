@@ -1,5 +1,5 @@
 -- What is found at a position is determined by the entries.
-use Rattle.std.proofs.Common.{◌≡◌, ◌≢◌, ℕ, List, [], ◌∷◌, ◌++◌, Option, inl, inr, refl, sym, ap, ◌∙◌, subst}
+use Rattle.std.proofs.Common.{◌≡◌, List, [], ◌∷◌, ◌++◌, inl, inr, refl, sym, ap, ◌∙◌, subst}
 use Rattle.std.specs.Prelude.{Contains}
 use Rattle.std.proofs.lemmas.List.Elements.{Contains-append_cases}
 use Rattle.std.proofs.lemmas.List.{append-nil, append_cancel_left}
@@ -13,7 +13,7 @@ use Rattle.lsa_tree.specs.declared.tree.Place.TheVariants.{Here, Before, Last}
 use Rattle.lsa_tree.specs.Entries.{StandsAt, BelongsBetween}
 use Rattle.lsa_tree.specs.Search.{IsFound}
 use Rattle.lsa_tree.specs.Tree.{IsTree}
-use Rattle.lsa_tree.specs.laws.Orders.{belongs-once, never-at, ascending-split, ascending-with}
+use Rattle.lsa_tree.specs.laws.Orders.{belongs-once, never-at}
 
 -- of entries before and behind a position and one at it no other stands at it
 pub at-once : (v : View) (x : Pos) (front back : List Ref) (r q : Ref) → Contains (front ++ (r ∷ back)) q → BelongsBetween v x front back → StandsAt v q x → r ≡ q

@@ -1,9 +1,7 @@
 -- Entries in the order of their positions.
-use Rattle.std.proofs.Common.{◌≡◌, ◌≢◌, ℕ, ◌+◌, ◌≤◌, List, [], ◌∷◌, ◌++◌, length, take, drop, Option, Some, None, inl, inr, refl, sym, ap, ◌∙◌, subst, map, arith}
+use Rattle.std.proofs.Common.{◌≡◌, ℕ, ◌+◌, ◌≤◌, List, [], ◌∷◌, ◌++◌, length, Option, Some, None, inl, inr, refl, sym, ap, ◌∙◌, subst, map, arith}
 use Rattle.std.specs.Prelude.{IsSomeAnd, Contains}
-use Rattle.std.specs.Option.{option_map}
 use Rattle.std.specs.List.{AllByRecursion}
-use Rattle.std.specs.declared.cmp.Ordering.{Ordering}
 use Rattle.std.specs.declared.cmp.Ordering.TheVariants.{Less, Equal, Greater}
 use Rattle.std.specs.Ordering.{ordering_reverse}
 use Rattle.std.specs.Cmp.{tied_itself}
@@ -20,7 +18,7 @@ use Rattle.lsa_kinds.specs.Fields.{number_at}
 use Rattle.lsa_store.specs.declared.place.Ref.{Ref}
 use Rattle.lsa_region.specs.Region.{View, body}
 use Rattle.lsa_path.specs.laws.Members.{member-cases, member-first, member-later}
-use Rattle.lsa_tree.specs.Entries.{IsEntryKind, SpellsEntryAt, position_in, StandsAt, StandsEarlier, StandsLater, BelongsBetween, AreAscending}
+use Rattle.lsa_tree.specs.Entries.{SpellsEntryAt, position_in, StandsAt, StandsEarlier, StandsLater, BelongsBetween, AreAscending}
 
 -- ---- all of a list
 

@@ -1,10 +1,9 @@
 -- The entries of a version in order: what changes leave of them.
-use Rattle.std.proofs.Common.{◌≡◌, ◌≢◌, ℕ, zero, suc, ◌+◌, ◌-◌, ◌<◌, ◌≤◌, List, [], ◌∷◌, ◌++◌, length, take, drop, Option, Some, None, IsSome, is_some, inl, inr, refl, sym, ap, ◌∙◌, subst, map, arith}
-use Rattle.std.specs.Prelude.{IsSomeAnd, Contains, AllPairs}
+use Rattle.std.proofs.Common.{◌≡◌, ◌≢◌, ℕ, zero, suc, ◌+◌, ◌-◌, ◌<◌, ◌≤◌, List, [], ◌∷◌, length, take, drop, Option, Some, None, IsSome, is_some, inl, inr, refl, sym, ap, ◌∙◌, subst, map, arith}
+use Rattle.std.specs.Prelude.{IsSomeAnd, Contains}
 use Rattle.std.specs.Option.{option_map}
 use Rattle.std.specs.List.{AllByRecursion}
 use Rattle.std.proofs.lemmas.List.{drop-drop, length-drop}
-use Rattle.std.proofs.lemmas.List.Elements.{Contains-append_left, Contains-append_right}
 use Rattle.rc_position.specs.declared.positions.Pos.{Pos}
 use Rattle.lsa_kinds.specs.declared.kind.Kind.{Kind}
 use Rattle.lsa_kinds.specs.declared.kind.Kind.TheVariants.{Version, RowEntry, Dummy, Static}
@@ -14,18 +13,18 @@ use Rattle.lsa_store.specs.declared.place.Ref.{Ref}
 use Rattle.lsa_region.specs.declared.end.End.{End}
 use Rattle.lsa_region.specs.declared.end.End.TheVariants.{Obj, Slot}
 use Rattle.lsa_region.specs.Ends.{named_as, end_as}
-use Rattle.lsa_region.specs.Region.{View, body, link_of, IsEnd, IsWell, IsSummed, SameObjects, IsAdded, IsFreed, IsWritten, Renamed, objects}
+use Rattle.lsa_region.specs.Region.{View, body, link_of, IsEnd, IsWell, SameObjects, IsAdded, IsFreed, IsWritten, Renamed}
 use Rattle.lsa_region.specs.laws.Refs.{refs_decided}
-use Rattle.lsa_path.specs.Path.{IsPath, IsOutside, behind, AllOnward, IsInserted, IsTakenOut, IsOfLive, entered, walk}
-use Rattle.lsa_path.specs.Roles.{Role, role_of, role_in, role_at, Parent, Left, Right, Entries}
-use Rattle.lsa_path.specs.laws.Members.{member-first, member-later, member-here, member-split, all-from_members}
-use Rattle.lsa_path.specs.laws.Passing.{path-determined, path-walked, path-entered, path-named, path-once, path-few, paths-disjoint}
-use Rattle.lsa_path.specs.laws.Paths.{same_field, same_object, same_some, path-same, path-everywhere, path-rest, path-end}
+use Rattle.lsa_path.specs.Path.{IsOutside, IsOfLive}
+use Rattle.lsa_path.specs.Roles.{role_of, role_in, role_at, Parent, Left, Right, Entries}
+use Rattle.lsa_path.specs.laws.Members.{member-first, member-later, all-from_members}
+use Rattle.lsa_path.specs.laws.Passing.{path-determined, path-entered, paths-disjoint}
+use Rattle.lsa_path.specs.laws.Paths.{same_object, path-same, path-everywhere}
 use Rattle.lsa_path.specs.laws.Renamed.{some-there, path-renamed}
 use Rattle.lsa_tree.specs.declared.tree.Tree.{Tree}
-use Rattle.lsa_tree.specs.Entries.{IsEntryKind, SpellsEntryAt, StandsAt, AreAscending, balance_in, balance_of, but_balance, IsAlike, tree_part, IsReadAlike}
-use Rattle.lsa_tree.specs.Tree.{IsTop, IsFlat, IsTree, IsLoose, IsOffRole, IsOffTree, IsTreeRole, IsOfTree, SameButBalances, tree_as}
-use Rattle.lsa_tree.specs.laws.Orders.{all-front, all-back, all-both, all-members, all-at, ascending-kept, ascending-named, ascending-stands}
+use Rattle.lsa_tree.specs.Entries.{IsEntryKind, SpellsEntryAt, StandsAt, balance_in, but_balance, IsAlike, tree_part, IsReadAlike}
+use Rattle.lsa_tree.specs.Tree.{IsTop, IsFlat, IsTree, IsLoose, IsOffTree, IsTreeRole, IsOfTree, SameButBalances, tree_as}
+use Rattle.lsa_tree.specs.laws.Orders.{all-members, ascending-kept, ascending-named, ascending-stands}
 
 pub fields_differ : ◌≢◌ {A = ℕ} 3 4
 fields_differ e = cc
@@ -292,6 +291,9 @@ tree-added tree v w r kind bytes added refs h = tree-unlinked tree v w refs adde
 
 pub loose-added : (v w : View) (r : Ref) (kind : Kind) (bytes : List ℕ) → IsAdded v w r kind bytes → (q : Ref) → IsLoose v q → IsLoose w q
 loose-added v w r kind bytes added q h = loose-read v w q (same-read (body v q) (body w q) (not_fresh v w r kind bytes added q (some-there _ (body v q) h.entry))) (λ f low high. added.links (Obj q f)) h
+
+pub stands-added : (v w : View) (r : Ref) (kind : Kind) (bytes : List ℕ) → IsAdded v w r kind bytes → (q : Ref) (x : Pos) → StandsAt v q x → StandsAt w q x
+stands-added v w r kind bytes added q x h = stands-same v w q x (not_fresh v w r kind bytes added q (some-there _ (body v q) h)) h
 
 entry_made : (o : Option (Kind × List ℕ)) (kind : Kind) (bytes : List ℕ) → o ≡ Some (kind, bytes) → IsEntryKind kind → IsSomeAnd o (λ b. IsEntryKind b.0)
 entry_made o kind bytes is h = subst (λ o. IsSomeAnd o (λ b. IsEntryKind b.0)) (sym is) h

@@ -1,4 +1,4 @@
-use Rattle.std.proofs.Common.{◌≡◌, ℕ, ◌+◌, ◌-◌, take, drop, ap, sym, ◌∙◌, arith}
+use Rattle.std.proofs.Common.{◌≡◌, ◌+◌, ◌-◌, take, drop, ap, ◌∙◌, arith}
 use Rattle.lsa_region.specs.Region.{body}
 use Rattle.lsa_tree.specs.laws.Orders.{bytes-spell}
 use Rattle.lsa_tree.proofs.search.position.Goals as goal

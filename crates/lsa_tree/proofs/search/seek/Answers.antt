@@ -1,11 +1,10 @@
-use Rattle.std.proofs.Common.{◌≡◌, ℕ, List, [], ◌∷◌, ◌++◌, length, sym, ap, ◌∙◌, subst, arith}
-use Rattle.std.proofs.lemmas.List.{length-append}
+use Rattle.std.proofs.Common.{◌≡◌, [], ◌∷◌, ◌++◌, sym, ap, ◌∙◌, subst, arith}
 use Rattle.rc_position.specs.Position.{IsBefore}
 use Rattle.rc_position.specs.laws.Orders.{pos_cmp_same}
 use Rattle.lsa_path.specs.Path.{entered}
 use Rattle.lsa_tree.specs.Entries.{StandsAt}
 use Rattle.lsa_tree.specs.laws.Orders.{greater-before}
-use Rattle.lsa_tree.proofs.Searches.{reached-start, reached-end, reached-last, reached-next, reached-stands, reached-step, reached-less, found-here, found-before, found-last, spot-here, spot-before, spot-last, passed-more, passed-all}
+use Rattle.lsa_tree.proofs.Searches.{reached-start, reached-end, reached-last, reached-next, reached-stands, reached-step, reached-less, found-here, found-before, found-last, spot-here, spot-before, spot-last}
 use Rattle.lsa_tree.proofs.search.seek.Goals as goal
 
 pub loop-r-init : goal.loop-r-init

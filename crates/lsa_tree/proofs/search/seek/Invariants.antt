@@ -1,5 +1,5 @@
 -- The entries passed stand before what is looked for; those ahead become fewer.
-use Rattle.std.proofs.Common.{ℕ, List, length}
+use Rattle.std.proofs.Common.{List, length}
 use Rattle.rc_position.specs.declared.positions.Pos.{Pos}
 use Rattle.lsa_store.specs.declared.place.Ref.{Ref}
 use Rattle.lsa_tree.specs.calls.Seeking.{IsSought}

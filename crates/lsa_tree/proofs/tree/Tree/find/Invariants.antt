@@ -1,5 +1,5 @@
 -- The entries passed stand before the position, and each was compared with it; those ahead become fewer.
-use Rattle.std.proofs.Common.{ℕ, ◌≡◌, ◌+◌, List, length}
+use Rattle.std.proofs.Common.{◌≡◌, ◌+◌, List, length}
 use Rattle.lsa_store.specs.declared.place.Ref.{Ref}
 use Rattle.lsa_tree.proofs.Searches.{IsReached, ahead}
 use Rattle.lsa_tree.proofs.tree.Tree.find.Given as goal

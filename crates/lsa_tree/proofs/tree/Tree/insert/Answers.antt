@@ -1,5 +1,4 @@
-use Rattle.std.proofs.Common.{◌≡◌, None, ◌++◌, ◌∷◌, arith}
-use Rattle.lsa_path.specs.Path.{behind}
+use Rattle.std.proofs.Common.{None, arith}
 use Rattle.lsa_tree.specs.laws.Trees.{fields_differ, entry-end, top-outside, same-objects}
 use Rattle.lsa_tree.proofs.Changes.{spot-end, spot-apart, inserted-tree, inserted-others, inserted-loose, inserted-elsewhere}
 use Rattle.lsa_tree.proofs.tree.Tree.insert.Goals as goal
