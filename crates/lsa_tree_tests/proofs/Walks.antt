@@ -1,6 +1,6 @@
 -- A version that a slot names, and its entries, after each change.
-use Rattle.std.proofs.Common.{◌≡◌, ◌≢◌, ℕ, zero, suc, ◌+◌, ◌<◌, ◌≤◌, List, [], ◌∷◌, ◌++◌, length, Option, Some, None, IsSome, is_some, inl, inr, refl, sym, ap, ◌∙◌, subst, map, arith}
-use Rattle.std.specs.Prelude.{IsSomeAnd, Contains}
+use Rattle.std.proofs.Common.{◌≡◌, ◌≢◌, ℕ, zero, suc, ◌+◌, ◌≤◌, List, [], ◌∷◌, ◌++◌, length, Option, Some, None, IsSome, refl, sym, ap, ◌∙◌, subst, map, arith}
+use Rattle.std.specs.Prelude.{IsSomeAnd}
 use Rattle.std.specs.Option.{option_map}
 use Rattle.std.proofs.lemmas.List.{append_assoc}
 use Rattle.rc_position.specs.declared.positions.Pos.{Pos}
@@ -78,8 +78,7 @@ home-freed slot v w r well freed loose h =
 
 pub home-renamed : (slot : Root) (v w : View) (names : List (Ref × Ref)) → IsWell v → Renamed v w names → IsHome slot v → IsHome slot w
 home-renamed slot v w names well renamed h =
-    let held = h.2 in
-    (
+    let held = h.2 in (
       tree_as names h.0,
       map (named_as names) h.1,
       record {
@@ -93,8 +92,7 @@ home-renamed slot v w names well renamed h =
 -- a new version, which the slot names
 pub home-made : (slot : Root) (v m w : View) (r : Ref) (bytes : List ℕ) → IsAdded v m r Version bytes → IsTied (link_of m) (link_of w) (Slot slot) (Obj r 1) → ((q : Ref) → body w q ≡ body m q) → IsHome slot w
 home-made slot v m w r bytes added tied bodies =
-    let top = Obj r 2 in
-    (
+    let top = Obj r 2 in (
       record { top = top },
       [],
       record {

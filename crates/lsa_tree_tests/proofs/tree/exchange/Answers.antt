@@ -8,8 +8,7 @@ bytes-requires c = (omega arith, one-there c.args.tree c.args.region.now c.requi
 
 pub replace-requires : goal.replace-requires
 replace-requires c =
-    let v = c.args.region.now in let front = c.requires.held.0 in let back = c.requires.held.1 in let held = c.requires.held.2 in let stands = c.in_ok-is_entry.ensures c.if-not-branch.false in
-    (
+    let v = c.args.region.now in let front = c.requires.held.0 in let back = c.requires.held.1 in let held = c.requires.held.2 in let stands = c.in_ok-is_entry.ensures c.if-not-branch.false in (
       omega arith,
       (
         (front, back, held.holds),
