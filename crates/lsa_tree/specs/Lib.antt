@@ -1,0 +1,5 @@
+pub mod calls
+pub mod laws
+pub mod Entries
+pub mod Search
+pub mod Tree

@@ -1,0 +1,71 @@
+-- The entries of a version in order. How they are linked is known to this crate alone: its users go by the laws.
+use Rattle.std.specs.Prelude.{◌≡◌, ◌≢◌, ◌⊎◌, List, None, IsSomeAnd, Contains}
+use Rattle.std.specs.List.{AllByRecursion}
+use Rattle.lsa_kinds.specs.declared.kind.Kind.TheVariants.{Version}
+use Rattle.lsa_store.specs.declared.place.Ref.{Ref}
+use Rattle.lsa_region.specs.declared.end.End.{End}
+use Rattle.lsa_region.specs.declared.end.End.TheVariants.{Obj, Slot}
+use Rattle.lsa_region.specs.Ends.{end_as}
+use Rattle.lsa_region.specs.Region.{View, body, link_of, IsEnd, spot_of, slots_of}
+use Rattle.lsa_path.specs.Path.{IsPath}
+use Rattle.lsa_path.specs.Roles.{Role, role_at, Parent, Left, Right, Entries}
+use Rattle.lsa_tree.specs.declared.tree.Tree.{Tree}
+use Rattle.lsa_tree.specs.Entries.{IsEntryKind, AreAscending, IsAlike, balance_of}
+
+-- the end is the link of a version to its entries
+abbrev pub IsTop : View → End → Type 0
+IsTop v (Obj r field) = (field ≡ 2) × IsSomeAnd (body v r) (λ b. b.0 ≡ Version)
+IsTop v (Slot root) = ⊥
+
+-- how an entry stands in its list: it has no parent, and its balance is 0
+pub record IsFlat (v : View) (r : Ref) : Type 0 where
+  pub parent : link_of v (Obj r 2) ≡ None
+  pub level : balance_of v r ≡ 0
+
+-- the tree holds these entries, in ascending order of their positions
+pub record IsTree (tree : Tree) (v : View) (refs : List Ref) : Type 0 where
+  pub top : IsTop v tree.top
+  pub path : IsPath 3 4 (link_of v) tree.top refs None
+  pub ascending : AreAscending v refs
+  pub listed : AllByRecursion (IsFlat v) refs
+
+-- an entry that is in no tree, and that can be put into one: none of its links to entries is set, and its balance is 0
+pub record IsLoose (v : View) (r : Ref) : Type 0 where
+  pub entry : IsSomeAnd (body v r) (λ b. IsEntryKind b.0)
+  pub parent : link_of v (Obj r 2) ≡ None
+  pub left : link_of v (Obj r 3) ≡ None
+  pub right : link_of v (Obj r 4) ≡ None
+  pub level : balance_of v r ≡ 0
+
+-- the role is that of no link of a tree
+abbrev pub IsOffRole : Role → Type 0
+IsOffRole role = (role ≢ Parent) × (role ≢ Left) × (role ≢ Right) × (role ≢ Entries)
+
+-- the end is no link of any tree: none of an entry to entries, and none of a version to its entries
+abbrev pub IsOffTree : View → End → Type 0
+IsOffTree v e = IsOffRole (role_at v e)
+
+-- the role is that of a link of a tree
+abbrev pub IsTreeRole : Role → Type 0
+IsTreeRole role = (role ≡ Parent) ⊎ ((role ≡ Left) ⊎ ((role ≡ Right) ⊎ (role ≡ Entries)))
+
+-- the end is a link of some tree: one of an entry to entries, or that of a version to its entries
+abbrev pub IsOfTree : View → End → Type 0
+IsOfTree v e = IsTreeRole (role_at v e)
+
+-- all but the links is as it was, though these entries may have other balances
+pub record SameButBalances (old new : View) (refs : List Ref) : Type 0 where
+  pub alike : (r : Ref) → Contains refs r → IsAlike (body old r) (body new r)
+  pub bodies : (r : Ref) → (Contains refs r → ⊥) → body new r ≡ body old r
+  pub ends : (e : End) → IsEnd old e → IsEnd new e
+  pub gone : (e : End) → IsEnd new e → IsEnd old e
+  pub spots : (r : Ref) → spot_of new r ≡ spot_of old r
+  pub slots : slots_of new ≡ slots_of old
+  pub usages : new.usages ≡ old.usages
+  pub epoch : new.epoch ≡ old.epoch
+  pub moved : new.moved ≡ old.moved
+  pub compacted : new.compacted ≡ old.compacted
+
+-- the tree, with the new name of its version
+abbrev pub tree_as : List (Ref × Ref) → Tree → Tree
+tree_as names tree = record { top = end_as names tree.top }
