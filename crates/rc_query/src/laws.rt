@@ -25,7 +25,7 @@ pub fn answer_of_joined_writes()
 
 /// The compactor over the head and the canonical fragments of a mutation, whole or in a slice, gives its answer there.
 pub fn compactor_gives_the_answer()
-    ensures whole_slice { (mutation : Mutation) → IsMutation mutation →
+    ensures whole { (mutation : Mutation) → IsMutation mutation →
         compacted_all (record { pt = mutation.pt; statics = mutation.statics }) (fragments mutation) ≡ answer (mutation ∷ []) whole_slice }
     ensures slice { (mutation : Mutation) (slice : Slice) → IsMutation mutation →
         compacted_all (record { pt = mutation.pt; statics = mutation.statics }) (fragments_in slice mutation) ≡ answer (mutation ∷ []) slice }

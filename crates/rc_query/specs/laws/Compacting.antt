@@ -32,7 +32,7 @@ use Rattle.rc_mutation.specs.laws.FragMerge.{merge, merge_into, merge-in_order, 
 use Rattle.rc_query.specs.declared.lines.OutLine.{OutLine}
 use Rattle.rc_query.specs.Answer.{answer, in_slice, static_line, whole_slice}
 use Rattle.rc_query.specs.laws.Answers.{answer-one, own_cover, own_line, row_line}
-use Rattle.rc_query.specs.Compacting.{compacted, compacted_all, fragment_line, fragments_in, is_between, opening}
+use Rattle.rc_query.specs.Compacting.{compacted, compacted_all, fragment_line, fragments_in, is_between, opening_change}
 use Rattle.rc_position.specs.declared.slices.Slice.{Slice}
 
 -- a row and its key
@@ -289,7 +289,7 @@ and_second false b h = absurd (cc)
 
 -- the changes that a slice shows: the one in force where it begins, then those inside
 abbrev sliced_changes : Slice → List Piece → List Change
-sliced_changes slice ranges = opening slice ranges ++ filter (λ c. is_between slice c.0) (changes_of ranges)
+sliced_changes slice ranges = opening_change slice ranges ++ filter (λ c. is_between slice c.0) (changes_of ranges)
 
 -- along the changes in a slice the tombstone in force is that of the pieces
 force-slice : (slice : Slice) (ps : List Piece) → IsCanonical ps → (x : Pos) → covers slice.from slice.to x ≡ true → force None (sliced_changes slice ps) x ≡ range_tomb ps x

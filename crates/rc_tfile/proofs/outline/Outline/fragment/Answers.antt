@@ -1,5 +1,4 @@
-use Rattle.std.proofs.Common.{refl, ap, ◌∙◌}
-use Rattle.std.proofs.Common.{Some}
+use Rattle.std.proofs.Common.{refl, ap, ◌∙◌, Some}
 use Rattle.rc_tfile.specs.Blocks.{with_fragment}
 use Rattle.rc_tfile.proofs.Outlines.{fragment_taken}
 use Rattle.rc_tfile.proofs.outline.Outline.fragment.Goals as goal
