@@ -41,7 +41,7 @@ use Rattle.rc_lines.specs.declared.shapes.Stamp.TheVariants.{Alive, Gone}
 use Rattle.rc_lines.specs.Fits.{CommandFits}
 use Rattle.rc_lines.specs.Grammar.{longest_line, is_comment, schema_said, shape_meaning, line_meaning, parse}
 use Rattle.rc_lines.specs.Lines.{pieces_said, cells_said, parts_said, change_said, command_line, AreComponents, AreStamped, HasOneStamp, IsSayableRow, IsSayableWrite, IsSayableCommand}
-use Rattle.rc_lines.specs.Parts.{without_front, stamp_of, tomb_of, key_of, cells_said, some_cells_of, no_bound, pieces_of, range_start, range_end}
+use Rattle.rc_lines.specs.Parts.{without_front, stamp_of, tomb_of, key_of, cells_said as cells_named, some_cells_of, no_bound, pieces_of, range_start, range_end}
 use Rattle.rc_lines.specs.Plain.{IsCount}
 use Rattle.rc_lines.specs.Sayable.{stamped, shape_line, IsStamped, IsStampInRange}
 use Rattle.rc_lines.specs.Shapes.{row_change, inserted, update_change, removed, deleted, range_deleted, partition_deleted, static_set, static_removed, insert_of, update_of, unset_of, delete_of, delrange_of, delpart_of, static_change, unstatic_of, cell_change_of, deletion_of, change_of, write_of, open_shape, open_of, bare_of, begin_of, told_of, numbered_of, read_of, step_of, counted_of, plain_of, shape_of}
@@ -91,8 +91,8 @@ row_heard ck marker tomb cells are h =
 inserted_heard : (ck stamp : List ℕ) (sets : List (List ℕ)) → AreBytes ck → AreAllBytes sets → If Heard (inserted ck stamp sets)
 unfolding inserted
 inserted_heard ck stamp sets are all =
-    after Heard IsSigned (λ ts. row_change ck (Some ts) None (cells_said (Alive ts) sets)) (stamp_of stamp) (stamp_heard stamp)
-    (λ ts fits. row_heard ck (Some ts) None (cells_said (Alive ts) sets) are (weaker (HeardRow (Some ts) None) (AreOf (Alive ts)) (cells_said (Alive ts) sets) (cells_heard (Alive ts) sets all) (λ cells is. (fits, is))))
+    after Heard IsSigned (λ ts. row_change ck (Some ts) None (cells_named (Alive ts) sets)) (stamp_of stamp) (stamp_heard stamp)
+    (λ ts fits. row_heard ck (Some ts) None (cells_named (Alive ts) sets) are (weaker (HeardRow (Some ts) None) (AreOf (Alive ts)) (cells_named (Alive ts) sets) (cells_heard (Alive ts) sets all) (λ cells is. (fits, is))))
 
 updated_heard : (ck stamp : List ℕ) (sets : List (List ℕ)) → AreBytes ck → AreAllBytes sets → If Heard (update_change ck stamp sets)
 unfolding update_change
