@@ -24,9 +24,9 @@ abbrev pub StandsIn : {F : Type 0} → (left : F → Option (List ℕ)) (place :
 StandsIn left place bytes file off piece = ReadsFromItsPlace left place bytes → IsSome (place file) → StandsAt (bytes file) off piece
 
 -- what a draft has so far, where its file tells it
-abbrev pub drafted : {F : Type 0} → (contents : F → Option (List ℕ)) → Option (Draft F) → Option (List ℕ)
-drafted contents None = None
-drafted contents (Some draft) = contents draft.file
+abbrev pub bytes_of_draft : {F : Type 0} → (contents : F → Option (List ℕ)) → Option (Draft F) → Option (List ℕ)
+bytes_of_draft contents None = None
+bytes_of_draft contents (Some draft) = contents draft.file
 
 -- to be written from its start: made where it is not there, and emptied where it is
 abbrev pub made_afresh : OpenOptions

@@ -3,7 +3,7 @@ ghost use Rattle.std.specs.Prelude.{◌≡◌, ◌≤◌, ℕ, None, Some, IsSom
 ghost use Rattle.std.specs.Io.KnownBytes.{Appends};
 ghost use Rattle.std.specs.List.Sorted.{IsStrictlyIncreasing};
 ghost use Rattle.rc_outside.specs.Faults.{raised, RisesIfFailed, RisesIfFault, OnFault, Rose};
-ghost use Rattle.rc_outside.specs.Host.{Heard, HeardOrFailed, IsToldAs, StandsIn, drafted};
+ghost use Rattle.rc_outside.specs.Host.{Heard, HeardOrFailed, IsToldAs, StandsIn, bytes_of_draft};
 ghost use Rattle.rc_outside.specs.TableNames.{in_folder, draft_name, table_name};
 
 use super::counts::raise;
@@ -98,7 +98,7 @@ impl<'a, R: Files + AllocGlobal + Clone + Drop> Store for FolderStore<'a, R> {
             building self.new ≡ unless_refused result (grown (building self.old) piece.now) }
         ensures faults { RisesIfFault OnFault result self.old.faults self.new.faults }
         ensures asks { self.new.asks ≡ self.old.asks }
-        ensures whole { let contents = drafted ⟦<R::File as Write>⟧.contents in
+        ensures whole { let contents = bytes_of_draft ⟦<R::File as Write>⟧.contents in
             OnOk result (Appends (contents self.old.building) (contents self.new.building) piece.now) }
     {
         let Some(mut draft) = self.building.take() else {
