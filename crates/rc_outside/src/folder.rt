@@ -1,19 +1,20 @@
-// The trusted edge: the folder of table files. It counts its faults in 64 bits and tells nothing of content.
-ghost use Rattle.std.specs.Prelude.{◌≡◌, ◌≤◌, ℕ, None, Some, IfOk, option_map, string_bytes, slice_index};
+// The trusted edge: the folder of table files. It counts its faults in 64 bits and tells nothing of the files that stand there.
+ghost use Rattle.std.specs.Prelude.{◌≡◌, ◌≤◌, ℕ, None, Some, IsSome, IfOk, OnOk, OnErr, option_map, string_bytes};
+ghost use Rattle.std.specs.Io.KnownBytes.{Appends};
 ghost use Rattle.std.specs.List.Sorted.{IsStrictlyIncreasing};
-ghost use Rattle.rc_outside.specs.Faults.{raised, Rose, OnFault};
-ghost use Rattle.rc_outside.specs.TableNames.{ReadsNumber, ReadsTableName, in_folder, draft_name, table_name};
+ghost use Rattle.rc_outside.specs.Faults.{raised, RisesIfFailed, RisesIfFault, OnFault, Rose};
+ghost use Rattle.rc_outside.specs.Host.{Heard, HeardOrFailed, IsToldAs, StandsIn, bytes_of_draft};
+ghost use Rattle.rc_outside.specs.TableNames.{in_folder, draft_name, table_name};
 
 use super::counts::raise;
+use super::host::{append_whole, draft_options, read_range, told_as};
+use super::names::{FOLDER, draft_path, in_order, table_path, take_name};
 use super::sources::Failed;
 use super::stores::{Store, StoreErr};
-use std::alloc::{AllocError, Global};
+use std::alloc::Global;
 use std::fs::{self, File, ReadDir};
-use std::io::{self, Error, ErrorKind, Read, Seek, SeekFrom, Write};
+use std::io::{self, Error, ErrorKind, Read, Seek, Write};
 use std::rt::Files;
-
-/// The folder of the tables, under the working directory.
-const FOLDER: &str = "tables";
 
 /// The most names that a listing of the folder may have.
 const MOST_NAMES: u64 = 1 << 32;
@@ -54,6 +55,8 @@ impl<'a, R: Files + AllocGlobal + Clone + Drop> FolderStore<'a, R> {
 }
 
 impl<'a, R: Files + AllocGlobal + Clone + Drop> Store for FolderStore<'a, R> {
+    ghost use Rattle.rc_outside.specs.Files.{AreBytesOf, unless_refused, grown};
+
     ghost files = { λ _. None };
 
     ghost building = { λ s. option_map (λ _. None) s.building };
@@ -63,58 +66,61 @@ impl<'a, R: Files + AllocGlobal + Clone + Drop> Store for FolderStore<'a, R> {
     ghost asks = { λ s. s.asks };
 
     fn numbers(&mut self, alloc: Global) -> Result<Vec<u32>, StoreErr> {
-        match table_numbers(self.rt, alloc) {
-            Ok(numbers) => Ok(numbers),
-            Err(error) => Err(refuse(&mut self.faults, error)),
-        }
+        heard(&mut self.faults, table_numbers(self.rt, alloc))
     }
 
     fn size(&mut self, n: u32) -> Result<u64, Failed> {
-        match table_size(self.rt, n) {
-            Ok(size) => Ok(size),
-            Err(_) => Err(fail(&mut self.faults)),
-        }
+        heard_or_failed(&mut self.faults, table_size(self.rt, n))
     }
 
-    fn read_at(&mut self, n: u32, off: u64, into: &mut [u8]) -> Result<(), Failed> {
+    /// Fills `into` with what stands at the offset in one file, the one that was opened. `Failed` where the host's call fails, also for want of memory,
+    /// and where fewer bytes stand there.
+    fn read_at(&mut self, n: u32, off: u64, into: &mut [u8]) -> Result<(), Failed>
+        ensures place { OnOk result ((file : R.File) × StandsIn ⟦<R::File as Read>⟧.remaining ⟦<R::File as Seek>⟧.stream_position ⟦<R::File as Seek>⟧.stream_bytes file off into.new) }
+        ensures bytes { OnOk result (AreBytesOf None n off into.new) }
+        ensures building { self.new.building ≡ self.old.building }
+        ensures faults { RisesIfFailed result self.old.faults self.new.faults }
+        ensures asks { self.new.asks ≡ raised self.old.asks }
+    {
         raise(&mut self.asks);
-        match read_table(self.rt, n, off, into) {
-            Ok(()) => Ok(()),
-            Err(_) => Err(fail(&mut self.faults)),
-        }
+        heard_or_failed(&mut self.faults, read_table(self.rt, n, off, into))
     }
 
     fn begin(&mut self, alloc: Global, n: u32) -> Result<(), StoreErr> {
-        match new_draft(self.rt, alloc, n) {
-            Ok(draft) => {
-                self.building = Some(draft);
-                Ok(())
-            }
-            Err(error) => Err(refuse(&mut self.faults, error)),
-        }
+        self.building = Some(heard(&mut self.faults, new_draft(self.rt, alloc, n))?);
+        Ok(())
     }
 
-    fn append(&mut self, _alloc: Global, piece: &[u8]) -> Result<(), StoreErr> {
+    /// Writes the whole piece behind what the draft has. `StoreErr::NoMemory` where the host says so. Where it is refused the draft is removed.
+    fn append(&mut self, _alloc: Global, piece: &[u8]) -> Result<(), StoreErr>
+        requires { IsSome (⟦<FolderStore<'a, R> as Store>⟧.building self.old) }
+        ensures building { let building = ⟦<FolderStore<'a, R> as Store>⟧.building in
+            building self.new ≡ unless_refused result (grown (building self.old) piece.now) }
+        ensures faults { RisesIfFault OnFault result self.old.faults self.new.faults }
+        ensures asks { self.new.asks ≡ self.old.asks }
+        ensures whole { let contents = bytes_of_draft ⟦<R::File as Write>⟧.contents in
+            OnOk result (Appends (contents self.old.building) (contents self.new.building) piece.now) }
+    {
         let Some(mut draft) = self.building.take() else {
             unreachable!()
         };
-        if let Err(error) = draft.file.write_all(piece) {
-            give_up(self.rt, &mut self.faults, draft);
-            return Err(refuse(&mut self.faults, error));
+        match append_whole(&mut draft.file, piece) {
+            Ok(()) => {
+                self.building = Some(draft);
+                Ok(())
+            }
+            Err(error) => Err(refuse(self.rt, &mut self.faults, draft, error)),
         }
-        self.building = Some(draft);
-        Ok(())
     }
 
     fn finish(&mut self, _alloc: Global) -> Result<(), StoreErr> {
         let Some(draft) = self.building.take() else {
             unreachable!()
         };
-        if let Err(error) = fs::rename(self.rt, draft.written.as_str(), draft.finished.as_str()) {
-            give_up(self.rt, &mut self.faults, draft);
-            return Err(refuse(&mut self.faults, error));
+        match fs::rename(self.rt, draft.written.as_str(), draft.finished.as_str()) {
+            Ok(()) => Ok(()),
+            Err(error) => Err(refuse(self.rt, &mut self.faults, draft, error)),
         }
-        Ok(())
     }
 
     fn abandon(&mut self) {
@@ -128,25 +134,54 @@ impl<'a, R: Files + AllocGlobal + Clone + Drop> Store for FolderStore<'a, R> {
     }
 }
 
-/// Counts an error of the host as a fault.
-fn fail(faults: &mut u64) -> Failed
-    ensures raised { faults.new ≡ raised faults.old }
-    ensures grown { faults.old ≤ faults.new }
+/// What the host answered, as a store tells it. A fault is counted, and nothing else.
+fn heard<T>(faults: &mut u64, answer: io::Result<T>) -> Result<T, StoreErr>
+    ensures answer { Heard answer result faults.old faults.new }
+    ensures faults { RisesIfFault OnFault result faults.old faults.new }
 {
-    raise(faults);
-    Failed
+    match answer {
+        Ok(value) => Ok(value),
+        Err(error) => Err(counted(faults, error)),
+    }
 }
 
-/// Counts an error of the host as a fault, but for want of memory.
-fn refuse(faults: &mut u64, error: Error) -> StoreErr
+/// What the host's error is told as. A fault is counted, and nothing else.
+fn counted(faults: &mut u64, error: Error) -> StoreErr
+    ensures told { IsToldAs error result faults.old faults.new }
     ensures cause { OnFault result (Rose faults.old faults.new) }
     ensures grown { faults.old ≤ faults.new }
 {
-    if error.kind() == ErrorKind::OutOfMemory {
-        return StoreErr::NoMemory;
+    match told_as(&error) {
+        StoreErr::NoMemory => StoreErr::NoMemory,
+        StoreErr::Fault => {
+            raise(faults);
+            StoreErr::Fault
+        }
     }
-    raise(faults);
-    StoreErr::Fault
+}
+
+/// What the host answered, where each of its errors is a fault, which is counted.
+fn heard_or_failed<T>(faults: &mut u64, answer: io::Result<T>) -> Result<T, Failed>
+    ensures answer { HeardOrFailed answer result faults.old faults.new }
+    ensures faults { RisesIfFailed result faults.old faults.new }
+{
+    match answer {
+        Ok(value) => Ok(value),
+        Err(_) => {
+            raise(faults);
+            Err(Failed)
+        }
+    }
+}
+
+/// Gives up a draft at an error of the host, and answers what that is told as.
+fn refuse<R: Files>(rt: &R, faults: &mut u64, draft: Draft<R::File>, error: Error) -> StoreErr
+    ensures told { (removed : ℕ) × (faults.old ≤ removed) × IsToldAs error result removed faults.new }
+    ensures cause { OnFault result (Rose faults.old faults.new) }
+    ensures grown { faults.old ≤ faults.new }
+{
+    give_up(rt, faults, draft);
+    counted(faults, error)
 }
 
 /// Removes what was written of a file that is given up. An error of the host is counted as a fault.
@@ -158,39 +193,6 @@ fn give_up<R: Files>(rt: &R, faults: &mut u64, draft: Draft<R::File>)
     }
 }
 
-/// The path of table `n`.
-fn table_path(alloc: Global, n: u32) -> Result<String, AllocError>
-    ensures { IfOk result (λ path. string_bytes path ≡ in_folder (table_name n)) }
-{
-    format!(in alloc; "{FOLDER}/{n}.tbl")
-}
-
-/// The number of the table that has this name in the folder; none for other names.
-fn table_number(name: &str) -> Option<u32>
-    ensures { ReadsTableName name.now result }
-{
-    let digits = name.strip_suffix(".tbl")?;
-    read_number(digits)
-}
-
-/// The number that a text is in decimal, from 1 on: without a sign, and without a zero before it. None for other texts.
-fn read_number(text: &str) -> Option<u32>
-    ensures { ReadsNumber text.now result }
-{
-    let first = first_byte(text);
-    if first == b'0' || first == b'+' {
-        return None;
-    }
-    text.parse().ok()
-}
-
-/// The first byte of a text; 0 where it is empty.
-fn first_byte(text: &str) -> u8
-    ensures { result ≡ slice_index text.now 0 }
-{
-    text.as_bytes().first().copied().unwrap_or(0)
-}
-
 /// The numbers of the tables in the folder, ascending; none where the folder is not there.
 fn table_numbers<R: Files + AllocGlobal + Clone + Drop>(
     rt: &R,
@@ -199,12 +201,7 @@ fn table_numbers<R: Files + AllocGlobal + Clone + Drop>(
     ensures { IfOk result (λ v. IsStrictlyIncreasing v.items) }
 {
     match fs::read_dir(rt, FOLDER) {
-        Ok(entries) => {
-            let mut numbers = listed_numbers(entries, alloc)?;
-            numbers.sort_unstable();
-            numbers.dedup();
-            Ok(numbers)
-        }
+        Ok(entries) => Ok(in_order(listed_numbers(entries, alloc)?)),
         Err(error) if error.kind() == ErrorKind::NotFound => Ok(Vec::new(alloc)),
         Err(error) => Err(error),
     }
@@ -222,9 +219,7 @@ fn listed_numbers<R: Files + Clone + Drop>(
             return Err(Error::new(ErrorKind::Other, "too many names"));
         }
         names += 1;
-        if let Some(n) = table_number(entry?.file_name()) {
-            numbers.push(n)?;
-        }
+        take_name(&mut numbers, entry?.file_name())?;
     }
     Ok(numbers)
 }
@@ -236,11 +231,12 @@ fn table_size<R: Files + AllocGlobal>(rt: &R, n: u32) -> io::Result<u64> {
 }
 
 /// Fills `into` with the bytes of table `n` from the offset on.
-fn read_table<R: Files + AllocGlobal>(rt: &R, n: u32, off: u64, into: &mut [u8]) -> io::Result<()> {
+fn read_table<R: Files + AllocGlobal>(rt: &R, n: u32, off: u64, into: &mut [u8]) -> io::Result<()>
+    ensures { OnOk result ((file : R.File) × StandsIn ⟦<R::File as Read>⟧.remaining ⟦<R::File as Seek>⟧.stream_position ⟦<R::File as Seek>⟧.stream_bytes file off into.new) }
+{
     let path = table_path(rt.alloc(), n)?;
     let mut file = File::open(rt, path.as_str())?;
-    file.seek(SeekFrom::Start(off))?;
-    file.read_exact(into)
+    read_range(&mut file, off, into)
 }
 
 /// Makes the folder, where it is not there, and an empty file that is to become table `n`.
@@ -253,9 +249,9 @@ fn new_draft<R: Files>(rt: &R, alloc: Global, n: u32) -> io::Result<Draft<R::Fil
         Err(error) if error.kind() == ErrorKind::AlreadyExists => {}
         Err(error) => return Err(error),
     }
-    let written = format!(in alloc; "{FOLDER}/{n}.tmp")?;
+    let written = draft_path(alloc, n)?;
     let finished = table_path(alloc, n)?;
-    let file = File::create(rt, written.as_str())?;
+    let file = draft_options().open(rt, written.as_str())?;
     Ok(Draft {
         file,
         written,

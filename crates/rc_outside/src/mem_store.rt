@@ -1,5 +1,5 @@
 // A store in memory, whose calls fail where their maker lists it.
-ghost use Rattle.std.specs.Prelude.{◌≡◌, ◌++◌, ◌∷◌, ℕ, ◌≤◌, [], List, None, Some, Ok, Err, length, is_err, IsSome, IfOk, OnOk, OnErr, MatchResult, option_map, if◌then◌else◌};
+ghost use Rattle.std.specs.Prelude.{◌≡◌, ◌≢◌, ◌++◌, ◌∷◌, ℕ, ◌≤◌, [], List, None, Some, Ok, Err, length, is_err, IsSome, IfOk, OnOk, OnErr, MatchResult, option_map, if◌then◌else◌};
 ghost use Rattle.std.specs.FinMap as map;
 ghost use Rattle.rc_outside.specs.Files.{IsFile, IsNoFile, LiesInFile, AreNumbers, IsSizeOf, AreBytesOf};
 ghost use Rattle.rc_outside.specs.Faults.{RisesIfFailed, RisesIfFault, OnFault};
@@ -40,9 +40,9 @@ impl MemStore {
     ghost use Rattle.rc_outside.specs.Failures.{counted, is_due};
 
     /// A store with no files, in which nothing is being built, of which nothing was asked and no call is to fail.
-    /// `AllocError` when memory is refused.
+    /// No memory is taken yet, so it is never `AllocError`.
     pub fn new(alloc: Global) -> Result<MemStore, AllocError>
-        ensures { IfOk result (λ s. s ≡ record { files = map.empty; building = None; asks = 0; fails = []; faults = 0 }) }
+        ensures { result ≡ Ok (record { files = map.empty; building = None; asks = 0; fails = []; faults = 0 }) }
     {
         Ok(MemStore {
             store: SureStore::new(alloc)?,
@@ -163,6 +163,7 @@ impl Store for MemStore {
         ensures faults { RisesIfFault OnFault result self.old.faults self.new.faults }
         ensures listed { is_fault result ≡ is_due StoreCall.Begin self.old.fails }
         ensures state { self.new ≡ after_begin self.old n result }
+        ensures never_memory { result ≢ Err StoreErr.NoMemory }
     {
         self.count_building(StoreCall::Begin)?;
         self.store.begin(alloc, n)

@@ -103,9 +103,9 @@ impl Model for MemSink {
 
 impl MemSink {
     /// A sink in which nothing is written. The pushes whose numbers `fails` lists, counted from 1, are to fail.
-    /// `AllocError` when memory is refused.
+    /// No memory is taken yet, so it is never `AllocError`.
     pub fn new(alloc: Global, fails: Vec<u64>) -> Result<MemSink, AllocError>
-        ensures { IfOk result (λ s. s ≡ record { written = []; fails = fails.items; calls = 0; faults = 0 }) }
+        ensures { result ≡ Ok (record { written = []; fails = fails.items; calls = 0; faults = 0 }) }
     {
         Ok(MemSink {
             written: SureSink::new(alloc)?,

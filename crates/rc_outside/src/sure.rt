@@ -80,9 +80,9 @@ impl Model for SureSink {
 }
 
 impl SureSink {
-    /// A sink in which nothing is written. `AllocError` when memory is refused.
+    /// A sink in which nothing is written. No memory is taken yet, so it is never `AllocError`.
     pub fn new(alloc: Global) -> Result<SureSink, AllocError>
-        ensures { IfOk result (λ s. s ≡ []) }
+        ensures { result ≡ Ok [] }
     {
         Ok(SureSink {
             written: Vec::new(alloc),

@@ -1,6 +1,7 @@
 // A store in memory that never fails: its count of faults is the constant 0.
-ghost use Rattle.std.specs.Prelude.{◌≡◌, ◌≢◌, ℕ, ◌≤◌, [], List, None, Some, Ok, Err, length, IsSome, IfOk, OnOk, OnErr, MatchResult, option_map};
+ghost use Rattle.std.specs.Prelude.{◌≡◌, ◌≢◌, ℕ, ◌≤◌, [], List, None, Some, Ok, Err, length, IsSome, IsOk, IfOk, OnOk, OnErr, MatchResult, option_map};
 ghost use Rattle.std.specs.FinMap as map;
+ghost use Rattle.rc_outside.specs.Files.{IsNoFile};
 ghost use Rattle.rc_outside.specs.Faults.{raised, no_faults};
 
 use super::counts::raise;
@@ -29,10 +30,10 @@ impl Model for SureStore {
 }
 
 impl SureStore {
-    /// A store with no files, in which nothing is being built and of which nothing was asked. `AllocError` when memory
-    /// is refused.
+    /// A store with no files, in which nothing is being built and of which nothing was asked. No memory is taken yet, so
+    /// it is never `AllocError`.
     pub fn new(alloc: Global) -> Result<SureStore, AllocError>
-        ensures { IfOk result (λ s. s ≡ record { files = map.empty; building = None; asks = 0 }) }
+        ensures { result ≡ Ok (record { files = map.empty; building = None; asks = 0 }) }
     {
         Ok(SureStore {
             files: Shelf::new(alloc),
@@ -95,7 +96,13 @@ impl Store for SureStore {
         Ok(())
     }
 
-    fn begin(&mut self, alloc: Global, n: u32) -> Result<(), StoreErr> {
+    /// No memory is taken, so it is never refused.
+    fn begin(&mut self, alloc: Global, n: u32) -> Result<(), StoreErr>
+        requires idle { self.old.building ≡ None }
+        requires fresh { IsNoFile (Some self.old.files) n }
+        ensures never { IsOk result }
+        ensures state { self.new ≡ record self.old { building = Some (n, []) } }
+    {
         self.building = Some((n, Contents::new(Vec::new(alloc))));
         Ok(())
     }

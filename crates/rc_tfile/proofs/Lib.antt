@@ -6,6 +6,7 @@ pub mod Heads
 pub mod Unfit
 pub mod Ahead
 pub mod Lengths
+pub mod SchemaLengths
 pub mod Turns
 pub mod Awaiting
 pub mod Partitions

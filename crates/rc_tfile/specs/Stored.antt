@@ -1,8 +1,7 @@
 -- What a store holds while a table is written, and what it holds then.
-use Rattle.std.specs.Prelude.{ℕ, ◌≤◌, List, Option, Some, Result, option_map, IfErr, ⊤}
+use Rattle.std.specs.Prelude.{ℕ, List, Option, Some, option_map, ⊤}
 use Rattle.std.specs.FinMap as map
 use Rattle.rc_outside.specs.Files.{Files, Draft}
-use Rattle.rc_outside.specs.Faults.{Rose}
 use Rattle.rc_outside.specs.declared.stores.StoreErr.{StoreErr}
 use Rattle.rc_outside.specs.declared.stores.StoreErr.TheVariants as store
 use Rattle.rc_tfile.specs.declared.writing.WriteErr.{WriteErr}

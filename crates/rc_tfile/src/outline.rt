@@ -1,6 +1,6 @@
 //! What is known of a table's items so far, and what each further item makes of it. Writing, planning and checking go by it.
 
-ghost use Rattle.std.specs.Prelude.{◌≡◌, ◌+◌, [], ◌∷◌, length, OnOk, IfOk, List, None, Some, Option, false, true};
+ghost use Rattle.std.specs.Prelude.{◌≡◌, ◌+◌, ◌^◌, ◌<◌, [], ◌∷◌, length, OnOk, IfOk, List, None, Some, Option, false, true, OkIff};
 ghost use Rattle.rc_cell.specs.declared.rows.Row.{Row};
 ghost use Rattle.rc_cell.specs.declared.writes.Tomb.{Tomb};
 ghost use Rattle.rc_position.specs.declared.comps.Comp.{Comp};
@@ -39,9 +39,9 @@ pub(crate) struct Outline {
     pub(crate) listed: Vec<Listed>,
 }
 
-/// An offset so many bytes further. One past 64 bits, which no file reaches, counts as want of memory.
+/// An offset so many bytes further. Exactly one past 64 bits, which no file reaches, counts as want of memory.
 pub(crate) fn further(off: u64, size: usize) -> Result<u64, AllocError>
-    ensures { IfOk result (λ n. n ≡ off + size) }
+    ensures { OkIff result (off + size < 2 ^ 64) (off + size) }
 {
     match off.checked_add(size as u64) {
         Some(sum) => Ok(sum),
@@ -49,9 +49,9 @@ pub(crate) fn further(off: u64, size: usize) -> Result<u64, AllocError>
     }
 }
 
-/// A size in 32 bits. A greater one, which no item has, counts as want of memory.
+/// A size in 32 bits. Exactly a greater one, which no item has, counts as want of memory.
 pub(crate) fn short(size: usize) -> Result<u32, AllocError>
-    ensures { IfOk result (λ n. n ≡ size) }
+    ensures { OkIff result (size < 2 ^ 32) size }
 {
     if size > 4_294_967_295 {
         return Err(AllocError);

@@ -7,7 +7,7 @@ ghost use Rattle.rc_tfile.specs.Items.{offset_code, bytes_code, item_code, HeadI
 
 use crate::blocks::Block;
 use rc_cell::{Row, Tomb};
-use rc_position::{Key, PartKey, Pos};
+use rc_position::{Key, PartKey, Pos, Text};
 use rc_rowcode::{write_key, write_pos, write_row, write_tomb};
 use rc_schema::Schema;
 use std::alloc::{AllocError, Global};
@@ -78,7 +78,17 @@ fn append_tomb(alloc: Global, tomb: Option<Tomb>, out: &mut Vec<u8>) -> Result<(
     }
 }
 
-/// The head of a table of the schema. A text of more than 65,535 bytes, which no schema has, counts as want of memory.
+/// The length of a schema's text: at most 1,354 bytes.
+fn text_length(schema: &Schema, text: &Text) -> u16
+    requires { text.now ≡ schema_text schema.now }
+    ensures length { result ≡ length text.now }
+    ensures short { length (schema_text schema.now) < 2 ^ 16 }
+{
+    let _within_limits = schema.ck();
+    text.as_slice().len() as u16
+}
+
+/// The head of a table of the schema. The only error is want of memory.
 pub(crate) fn append_head(
     alloc: Global,
     schema: &Schema,
@@ -88,13 +98,10 @@ pub(crate) fn append_head(
     ensures short { OnOk result (length (schema_text schema.now) < 2 ^ 16) }
 {
     let text = schema.text(alloc)?;
-    let bytes = text.as_slice();
-    if bytes.len() > 65_535 {
-        return Err(AllocError);
-    }
+    let length = text_length(schema, &text);
     out.extend_from_slice(HEAD)?;
-    append_length(bytes.len() as u16, out)?;
-    out.extend_from_slice(bytes)
+    append_length(length, out)?;
+    out.extend_from_slice(text.as_slice())
 }
 
 /// The part of a partition: its key, tombstone and static row.

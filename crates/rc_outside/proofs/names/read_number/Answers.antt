@@ -1,6 +1,6 @@
 use Rattle.std.proofs.Common.{arith, ◌∙◌}
 use Rattle.rc_outside.proofs.TableNumbers.{no_number, parsed_number}
-use Rattle.rc_outside.proofs.folder.read_number.Goals as goal
+use Rattle.rc_outside.proofs.names.read_number.Goals as goal
 
 pub returns-then-first-eq48 : goal.returns-then-first-eq48
 returns-then-first-eq48 c = no_number c.args.text.now (grind (arith, c.first_byte-first.ensures, c.then-first-eq48.either))
