@@ -184,10 +184,10 @@ merge-ends [] bs h = refl
 merge-ends (a ∷ os) [] h = sym (append-nil (a ∷ os))
 merge-ends (a ∷ os) (b ∷ bs) h = ⊎_elim (λ e. absurd (omega arith)) (λ e. absurd (omega arith)) h
 
--- what the loop made, with what it left, is the joined rows
-pub made-joined : (made ours theirs os bs : KeyedRows) → IsRows ours → IsRows theirs → made ++ merge os bs ≡ merge ours theirs → (length os < 1) ⊎ (length bs < 1) → (made ++ os) ++ bs ≡ joined_rows (ours ++ theirs)
-made-joined made ours theirs os bs g h e ended =
-    append_assoc made os bs ∙ ap (λ ms. made ++ ms) (sym (merge-ends os bs ended)) ∙ e ∙ merge-joined ours theirs g h
+-- what the loop made, with what it left, is what was there before, with the joined rows
+pub made-joined : (before made ours theirs os bs : KeyedRows) → IsRows ours → IsRows theirs → made ++ merge os bs ≡ before ++ merge ours theirs → (length os < 1) ⊎ (length bs < 1) → (made ++ os) ++ bs ≡ before ++ joined_rows (ours ++ theirs)
+made-joined before made ours theirs os bs g h e ended =
+    append_assoc made os bs ∙ ap (λ ms. made ++ ms) (sym (merge-ends os bs ended)) ∙ e ∙ ap (λ ms. before ++ ms) (merge-joined ours theirs g h)
 
 all-append : (P : List Comp × Row → Type 0) (xs ys : KeyedRows) → All P xs → All P ys → All P (xs ++ ys)
 all-append P [] ys g h k d lt = h k d lt

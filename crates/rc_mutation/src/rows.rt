@@ -156,51 +156,72 @@ fn merged(
     ensures rows { IfOk result (λ made. IsRows made.items) }
 {
     let mut made = Vec::new(alloc);
+    append_merged(alloc, &mut made, ours, theirs)?;
+    Ok(made)
+}
+
+// Appends the rows of both by ascending key, those of one key as one.
+fn append_merged(
+    alloc: Global,
+    made: &mut Vec<(Key, Row)>,
+    ours: &[(Key, Row)],
+    theirs: &[(Key, Row)],
+) -> Result<(), AllocError>
+    requires ours { IsRows ours.now }
+    requires theirs { IsRows theirs.now }
+    ensures { OnOk result (made.new.items ≡ made.old.items ++ joined_rows (ours.now ++ theirs.now)) }
+{
     let mut ours = ours;
     let mut theirs = theirs;
     while let ([our_first, our_rest @ ..], [their_first, their_rest @ ..]) = (ours, theirs) {
         match our_first.0.cmp(&their_first.0) {
             Ordering::Less => {
-                made.push(copied_pair(alloc, our_first)?)?;
+                append_copy(alloc, made, our_first)?;
                 ours = our_rest;
             }
             Ordering::Equal => {
-                made.push(joined_pair(alloc, our_first, their_first)?)?;
+                append_joined(alloc, made, our_first, their_first)?;
                 ours = our_rest;
                 theirs = their_rest;
             }
             Ordering::Greater => {
-                made.push(copied_pair(alloc, their_first)?)?;
+                append_copy(alloc, made, their_first)?;
                 theirs = their_rest;
             }
         }
     }
-    append_copies(alloc, &mut made, ours)?;
-    append_copies(alloc, &mut made, theirs)?;
-    Ok(made)
+    append_copies(alloc, made, ours)?;
+    append_copies(alloc, made, theirs)
 }
 
-// The row that two rows of one key join to.
-fn joined_pair(
+// Appends the row that two rows of one key join to.
+fn append_joined(
     alloc: Global,
+    made: &mut Vec<(Key, Row)>,
     ours: &(Key, Row),
     theirs: &(Key, Row),
-) -> Result<(Key, Row), AllocError>
-    ensures { IfOk result (λ made. made ≡ (ours.now.0, joined_row (ours.now.1 ∷ theirs.now.1 ∷ []))) }
+) -> Result<(), AllocError>
+    ensures { OnOk result (made.new.items ≡ made.old.items ++ (ours.now.0, joined_row (ours.now.1 ∷ theirs.now.1 ∷ [])) ∷ []) }
 {
     let key = ours.0.copy(alloc)?;
     let mut row = ours.1.copy(alloc)?;
     row.join(alloc, &theirs.1)?;
-    Ok((key, row))
+    Ok(made.push((key, row))?)
 }
 
-// An equal pair.
-fn copied_pair(alloc: Global, item: &(Key, Row)) -> Result<(Key, Row), AllocError>
-    ensures { IfOk result (λ made. made ≡ item.now) }
+// Appends an equal pair, whose cells ascend by column as those of every row do.
+fn append_copy(
+    alloc: Global,
+    made: &mut Vec<(Key, Row)>,
+    item: &(Key, Row),
+) -> Result<(), AllocError>
+    ensures value { OnOk result (made.new.items ≡ made.old.items ++ item.now ∷ []) }
+    ensures by_column { IsTrue (ascending item.now.1.cells) }
 {
+    let _cells = item.1.cells.as_slice();
     let key = item.0.copy(alloc)?;
     let row = item.1.copy(alloc)?;
-    Ok((key, row))
+    Ok(made.push((key, row))?)
 }
 
 // Appends the pairs in their order, each in its own memory.
@@ -212,7 +233,7 @@ fn append_copies(
     ensures { OnOk result (made.new.items ≡ made.old.items ++ items.now) }
 {
     for item in items {
-        made.push(copied_pair(alloc, item)?)?;
+        append_copy(alloc, made, item)?;
     }
     Ok(())
 }
@@ -224,17 +245,7 @@ fn copied(alloc: Global, items: &[(Key, Row)]) -> Result<Vec<(Key, Row)>, AllocE
 {
     let mut made = Vec::with_capacity(alloc, items.len())?;
     for item in items {
-        let row = copied_row(alloc, &item.1)?;
-        made.push((item.0.copy(alloc)?, row))?;
+        append_copy(alloc, &mut made, item)?;
     }
     Ok(made)
-}
-
-// An equal row, whose cells ascend by column as those of every row do.
-fn copied_row(alloc: Global, given: &Row) -> Result<Row, AllocError>
-    ensures value { IfOk result (λ made. made ≡ given.now) }
-    ensures by_column { IsTrue (ascending given.now.cells) }
-{
-    let _cells = given.cells.as_slice();
-    given.copy(alloc)
 }

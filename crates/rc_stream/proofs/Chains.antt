@@ -1,5 +1,5 @@
 -- Calls one after another, and those of two parts.
-use Rattle.std.specs.Prelude.{◌≡◌, ◌⊎◌, ℕ, zero, suc, Bool, true, false, Option, Some, None}
+use Rattle.std.specs.Prelude.{◌≡◌, ◌⊎◌, ℕ, zero, suc, Bool, true, false, Option, None}
 use Rattle.std.proofs.Common.{refl, sym, subst, inl, inr}
 use Rattle.rc_position.specs.declared.positions.Pos.{Pos}
 use Rattle.rc_stream.specs.Did.{Call, InTurn, Deed, IsOurs, IsTheirs, Many, OnceDid, OneCall, StepsInTurn, Call.OfHead, Call.OfNext, Call.OfSeek}

@@ -1,5 +1,5 @@
 -- What the head of a merge shows.
-use Rattle.std.specs.Prelude.{◌≡◌, Option, None, Some, Result, Ok, Err, IfOk}
+use Rattle.std.specs.Prelude.{◌≡◌, Option, None, Result, Ok, Err, IfOk}
 use Rattle.std.proofs.Common.{refl, sym, ap, subst, ◌∙◌}
 use Rattle.rc_cell.specs.declared.writes.Tomb.{Tomb}
 use Rattle.rc_cell.specs.Greatest.{greater}
@@ -10,7 +10,7 @@ use Rattle.rc_stream.specs.declared.holding.Held.{Held}
 use Rattle.rc_stream.specs.declared.streams.StreamErr.{StreamErr}
 use Rattle.rc_stream.specs.Merging.{IsOrdered, joined_head, merged}
 use Rattle.rc_stream.specs.Moving.{HoldBoth, Holds, SoughtBoth, nothing_held}
-use Rattle.rc_stream.specs.Showing.{IsFromStart, MergesTwo, ShowsOne, ShowsBoth}
+use Rattle.rc_stream.specs.Showing.{MergesTwo, ShowsOne, ShowsBoth}
 use Rattle.rc_stream.specs.Stream.{Stream}
 use Rattle.rc_stream.proofs.MergeLaws.{head-merged, ordered-merged, tomb-merged}
 

@@ -1,12 +1,12 @@
 -- What is held of a stream in front of what it still has: what was looked at and not given.
-use Rattle.std.specs.Prelude.{◌≡◌, IsTrue, Bool, true, false, cond, ◌&&◌, List, [], ◌∷◌, ◌++◌, Option, Some, None, ⊤}
+use Rattle.std.specs.Prelude.{◌≡◌, ℕ, option_map, IsTrue, Bool, true, false, cond, ◌&&◌, List, [], ◌∷◌, ◌++◌, Option, Some, None, ⊤}
 use Rattle.std.specs.Ordering.{is_le}
 use Rattle.std.specs.FinMap.Entries.{by_order}
 use Rattle.rc_cell.specs.declared.rows.Row.{Row}
 use Rattle.rc_cell.specs.declared.writes.Tomb.{Tomb}
 use Rattle.rc_cell.specs.Greatest.{greater}
 use Rattle.rc_cell.specs.Orders.{tomb_cmp}
-use Rattle.rc_cell.specs.Winner.{joined_row}
+use Rattle.rc_cell.specs.Winner.{first_of, joined_row}
 use Rattle.rc_position.specs.declared.positions.Pos.{Pos}
 use Rattle.rc_mutation.specs.declared.fragments.Frag.{Frag}
 use Rattle.rc_mutation.specs.declared.fragments.Frag.TheVariants as frag
@@ -76,12 +76,16 @@ abbrev pub begins_upto : Pos → List Frag → Bool
 begins_upto x [] = false
 begins_upto x (f ∷ fs) = is_upto x f
 
+-- which of two places is the smaller, where there are any
+abbrev pub turn_between : Option (Pos × ℕ) → Option (Pos × ℕ) → Turn
+turn_between None None = turn.Nobody
+turn_between None (Some q) = turn.Theirs
+turn_between (Some p) None = turn.Ours
+turn_between (Some p) (Some q) = by_order (place_order p q) turn.Ours turn.Both turn.Theirs
+
 -- which of two first fragments has the smaller place
 abbrev pub nearer : List Frag → List Frag → Turn
-nearer [] [] = turn.Nobody
-nearer [] (g ∷ gs) = turn.Theirs
-nearer (f ∷ fs) [] = turn.Ours
-nearer (f ∷ fs) (g ∷ gs) = by_order (place_order (place_of f) (place_of g)) turn.Ours turn.Both turn.Theirs
+nearer fs gs = turn_between (option_map place_of (first_of fs)) (option_map place_of (first_of gs))
 
 -- whether the fragment whose turn it is stands at x or before it
 abbrev pub is_near : Pos → Turn → List Frag → List Frag → Bool

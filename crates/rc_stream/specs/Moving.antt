@@ -1,5 +1,5 @@
 -- How a stream and what is held of it go together over a home and a store.
-use Rattle.std.specs.Prelude.{◌≡◌, ◌⊎◌, ℕ, zero, suc, ⊤, List, [], Option, Some, None, Result, Ok, Err}
+use Rattle.std.specs.Prelude.{◌≡◌, ◌⊎◌, ℕ, zero, suc, ⊤, Option, Some, None, Result, Ok, Err}
 use Rattle.rc_position.specs.declared.positions.Pos.{Pos}
 use Rattle.rc_mutation.specs.declared.fragments.Frag.{Frag}
 use Rattle.rc_stream.specs.declared.holding.Look.{Look}

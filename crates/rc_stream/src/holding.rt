@@ -1,5 +1,6 @@
 // What is held of a stream that is merged with another: what was looked at and not given.
 ghost use Rattle.std.specs.Prelude.{◌≡◌, ◌∷◌, [], true, false, cond, None, Some, IfOk, OnErr, option_map};
+ghost use Rattle.std.specs.Option.{option_to_list};
 ghost use Rattle.rc_cell.specs.Greatest.{greater, is_nil};
 ghost use Rattle.rc_cell.specs.Orders.{tomb_cmp};
 ghost use Rattle.rc_cell.specs.Winner.{joined_row, first_of};
@@ -9,7 +10,7 @@ ghost use Rattle.rc_stream.specs.Stream.{rest};
 ghost use Rattle.rc_stream.specs.Merging.{beside, changes_nothing, place_of, same_tomb, together};
 ghost use Rattle.rc_stream.specs.Moving.{look_after};
 ghost use Rattle.rc_stream.specs.Places.{bound_of};
-ghost use Rattle.rc_stream.specs.Holding.{TakesTurn, TakesFirst, WentOn, alone, begins_upto, behind_first, dropped, held, is_near, look_passed, look_taken, looked, nearer, paired, passed_over, passes_held, row_of, row_of_both, told, turn_of};
+ghost use Rattle.rc_stream.specs.Holding.{TakesTurn, TakesFirst, WentOn, alone, begins_upto, behind_first, dropped, held, is_near, look_passed, look_taken, looked, nearer, paired, passed_over, passes_held, row_of, row_of_both, told, turn_between, turn_of};
 
 use crate::lists::{Front, front_at, passes, row_pos, stands_upto, tomb_after};
 use rc_cell::{Row, Tomb};
@@ -76,6 +77,14 @@ impl Held {
         }
     }
 
+    /// Lets go of all that is held.
+    pub(crate) fn clear(&mut self)
+        ensures { self.new ≡ record { front = Front.Passed None; look = Look.Open } }
+    {
+        self.front = Front::Passed(None);
+        self.look = Look::Open;
+    }
+
     /// The range tombstone in force before what is held.
     pub(crate) fn tomb(&self) -> Option<Tomb>
         ensures { result ≡ front_tomb self.now.front }
@@ -135,12 +144,8 @@ impl Held {
         ensures front { self.new.front ≡ self.old.front }
         ensures look { self.new.look ≡ look_after (Some frag) self.old.look }
     {
-        match mem::replace(&mut self.look, Look::Open) {
-            Look::Open => self.look = Look::Next(frag),
-            Look::Over(from) => self.look = Look::Past(from, frag),
-            Look::Next(_) => self.look = Look::Next(frag),
-            Look::Past(from, _) => self.look = Look::Past(from, frag),
-        }
+        let look = mem::replace(&mut self.look, Look::Open);
+        self.look = look.followed_by(frag);
     }
 
     /// Takes the first that is held.
@@ -155,26 +160,11 @@ impl Held {
                 self.front = Front::Passed(Some(tomb));
                 Some(Frag::Change(from, Some(tomb)))
             }
-            Front::Passed(tomb) => match mem::replace(&mut self.look, Look::Open) {
-                Look::Open => {
-                    self.front = Front::Passed(tomb);
-                    None
-                }
-                Look::Over(from) => {
-                    self.front = Front::Passed(tomb);
-                    self.look = Look::Over(from);
-                    None
-                }
-                Look::Next(frag) => {
-                    self.front = Front::Passed(tomb_after(tomb, &frag));
-                    Some(frag)
-                }
-                Look::Past(from, frag) => {
-                    self.front = Front::Passed(tomb_after(tomb, &frag));
-                    self.look = Look::Over(from);
-                    Some(frag)
-                }
-            },
+            Front::Passed(tomb) => {
+                let taken = self.look.take();
+                self.front = Front::Passed(tomb_after_taken(tomb, &taken));
+                taken
+            }
         }
     }
 }
@@ -214,12 +204,8 @@ impl Held {
         ensures front { self.new.front ≡ self.old.front }
         ensures look { self.new.look ≡ passed_over from self.old.look }
     {
-        match &self.look {
-            Look::Open => self.look = Look::Over(from),
-            Look::Over(last) if from.cmp(last).is_le() => {}
-            Look::Over(_) => self.look = Look::Over(from),
-            Look::Next(_) => {}
-            Look::Past(_, _) => {}
+        if self.look.is_open_before(&from) {
+            self.look = Look::Over(from);
         }
     }
 
@@ -275,6 +261,56 @@ impl Held {
 }
 
 impl Look {
+    // What is looked at once a fragment was taken from the stream.
+    fn followed_by(self, frag: Frag) -> Look
+        ensures { result ≡ look_after (Some frag) self }
+    {
+        match self {
+            Look::Open => Look::Next(frag),
+            Look::Over(from) => Look::Past(from, frag),
+            Look::Next(_) => Look::Next(frag),
+            Look::Past(from, _) => Look::Past(from, frag),
+        }
+    }
+
+    // Takes what was looked at.
+    fn take(&mut self) -> Option<Frag>
+        ensures gives { result ≡ first_of (looked self.old) }
+        ensures left { looked self.new ≡ rest (looked self.old) }
+        ensures look { self.new ≡ look_taken (Front.Passed None) self.old }
+    {
+        let (left, taken) = mem::replace(self, Look::Open).parted();
+        *self = left;
+        taken
+    }
+
+    // What was looked at, beside what is left without it.
+    fn parted(self) -> (Look, Option<Frag>)
+        ensures gives { result.1 ≡ first_of (looked self) }
+        ensures left { looked result.0 ≡ rest (looked self) }
+        ensures look { result.0 ≡ look_taken (Front.Passed None) self }
+    {
+        match self {
+            Look::Open => (Look::Open, None),
+            Look::Over(from) => (Look::Over(from), None),
+            Look::Next(frag) => (Look::Open, Some(frag)),
+            Look::Past(from, frag) => (Look::Over(from), Some(frag)),
+        }
+    }
+
+    // Whether no fragment is looked at, and the last change that was passed over, if one was, stands before the position.
+    fn is_open_before(&self, x: &Pos) -> bool
+        ensures { cond result (Look.Over x.now) self.now ≡ passed_over x.now self.now }
+    {
+        match self {
+            Look::Open => true,
+            Look::Over(last) if x.cmp(last).is_le() => false,
+            Look::Over(_) => true,
+            Look::Next(_) => false,
+            Look::Past(_, _) => false,
+        }
+    }
+
     // Whether a seek to the position passes the last that was taken.
     fn is_passed(&self, alloc: Global, to: &Pos) -> Result<bool, AllocError>
         ensures { IfOk result (λ b. b ≡ look_passed to.now self.now) }
@@ -347,6 +383,16 @@ fn first_pos(alloc: Global) -> Result<Pos, AllocError>
     })
 }
 
+// The range tombstone in force behind a fragment that was taken, if one was.
+fn tomb_after_taken(tomb: Option<Tomb>, taken: &Option<Frag>) -> Option<Tomb>
+    ensures { result ≡ behind_first tomb (option_to_list taken.now) }
+{
+    match taken {
+        None => tomb,
+        Some(frag) => tomb_after(tomb, frag),
+    }
+}
+
 // How two places compare.
 fn compare(ours: &(Pos, u8), theirs: &(Pos, u8)) -> Ordering
     ensures { result ≡ place_order ours.now theirs.now }
@@ -372,14 +418,21 @@ pub(crate) fn nearer(alloc: Global, ours: &Held, theirs: &Held) -> Result<Turn, 
 {
     let ours = ours.place(alloc)?;
     let theirs = theirs.place(alloc)?;
-    match (&ours, &theirs) {
-        (None, None) => Ok(Turn::Nobody),
-        (Some(_), None) => Ok(Turn::Ours),
-        (None, Some(_)) => Ok(Turn::Theirs),
-        (Some(p), Some(q)) => match compare(p, q) {
-            Ordering::Less => Ok(Turn::Ours),
-            Ordering::Equal => Ok(Turn::Both),
-            Ordering::Greater => Ok(Turn::Theirs),
+    Ok(turn_between(&ours, &theirs))
+}
+
+// Which of two places is the smaller, where there are any.
+fn turn_between(ours: &Option<(Pos, u8)>, theirs: &Option<(Pos, u8)>) -> Turn
+    ensures { result ≡ turn_between ours.now theirs.now }
+{
+    match (ours, theirs) {
+        (None, None) => Turn::Nobody,
+        (Some(_), None) => Turn::Ours,
+        (None, Some(_)) => Turn::Theirs,
+        (Some(ours), Some(theirs)) => match compare(ours, theirs) {
+            Ordering::Less => Turn::Ours,
+            Ordering::Equal => Turn::Both,
+            Ordering::Greater => Turn::Theirs,
         },
     }
 }
@@ -453,16 +506,15 @@ fn step_both(alloc: Global, ours: &mut Held, theirs: &mut Held) -> Result<Step, 
 {
     let before = greater_tomb(ours.tomb(), theirs.tomb());
     let row = joined_rows(alloc, ours, theirs)?;
-    match (ours.take(), theirs.take()) {
-        (Some(frag), Some(other)) => {
-            let frag = together(frag, &other, row);
-            theirs.let_go(is_silent(before, &frag), other);
-            Ok(ours.tell(before, frag))
-        }
-        (Some(_), None) => Ok(Step::Nothing),
-        (None, Some(_)) => Ok(Step::Nothing),
-        (None, None) => Ok(Step::Nothing),
-    }
+    let Some(frag) = ours.take() else {
+        return Ok(Step::Nothing);
+    };
+    let Some(other) = theirs.take() else {
+        return Ok(Step::Nothing);
+    };
+    let frag = together(frag, &other, row);
+    theirs.let_go(is_silent(before, &frag), other);
+    Ok(ours.tell(before, frag))
 }
 
 // One step of a merge up to a position: the first of what is held of both is given, or passed over.
@@ -527,14 +579,13 @@ fn is_near(
 fn joined_rows(alloc: Global, ours: &Held, theirs: &Held) -> Result<Option<Row>, AllocError>
     ensures { IfOk result (λ row. row ≡ row_of_both (row_of (held ours.now)) (row_of (held theirs.now))) }
 {
-    let ours = ours.copy_row(alloc)?;
-    let theirs = theirs.copy_row(alloc)?;
-    match (ours, theirs) {
-        (Some(row), Some(other)) => Ok(Some(joined_row(alloc, row, &other)?)),
-        (Some(_), None) => Ok(None),
-        (None, Some(_)) => Ok(None),
-        (None, None) => Ok(None),
-    }
+    let Some(row) = ours.copy_row(alloc)? else {
+        return Ok(None);
+    };
+    let Some(other) = theirs.copy_row(alloc)? else {
+        return Ok(None);
+    };
+    Ok(Some(joined_row(alloc, row, &other)?))
 }
 
 // Two rows as one.

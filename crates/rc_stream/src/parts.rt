@@ -73,7 +73,7 @@ pub(crate) fn go_on<H, W: Store, A: Frags<H, W>>(
         Ok(false) => Ok(()),
         Ok(true) => match stream.seek(alloc, home, store, to) {
             Ok(()) => {
-                *kept = Held::empty();
+                kept.clear();
                 Ok(())
             }
             Err(error) => Err(error),

@@ -125,6 +125,7 @@ rows-listed last (a ∷ os) f h w c = (
 
 -- ---- both merged
 
+-- whatever tombstone was in force and whatever stood last: where rows and changes may come behind it, the merged list is canonical
 abbrev Lists : List Keyed → List Change → List ((Pos × ℕ) × Frag) → Type 0
 Lists os bs ms = (tomb : Option Tomb) (last : Option Pos) → AreRows last os → IsChanges tomb last bs → AreBetween bs → IsCanonicalList tomb last (list_map fragment_of ms)
 

@@ -21,15 +21,19 @@ use Rattle.rc_mutation.specs.declared.fragments.Frag.{Frag}
 use Rattle.rc_mutation.specs.declared.fragments.Frag.TheVariants as frag
 use Rattle.rc_mutation.specs.Fragments.{begins_at, changes_of, place_order, placed_change, placed_row, in_order}
 
+-- a fragment with where it stands
 abbrev Placed : Type 0
 Placed = (Pos × ℕ) × Frag
 
+-- a position, and the tombstone in force from it on
 abbrev Change : Type 0
 Change = Pos × Option Tomb
 
+-- a row with its clustering key
 abbrev Keyed : Type 0
 Keyed = List Comp × Row
 
+-- the fragment, without where it stands
 abbrev pub fragment_of : (Pos × ℕ) × Frag → Frag
 fragment_of e = e.1
 
@@ -118,6 +122,7 @@ same_place q k e = place_same q k (tie (place_order q k) e)
 
 -- ---- what is found in rows and changes merged
 
+-- the first of two, else the second
 abbrev or_else : Option Frag → Option Frag → Option Frag
 or_else None y = y
 or_else (Some x) y = Some x
@@ -138,12 +143,15 @@ find-both : (q : Pos × ℕ) (xs ys : List Placed) → find place_order q (xs ++
 find-both q [] ys = refl
 find-both q (x ∷ xs) ys = ap (cond (eq_by_cmp place_order q x.0) (Some x.1)) (find-both q xs ys) ∙ found_row (eq_by_cmp place_order q x.0) x.1 (find place_order q xs) (find place_order q ys)
 
+-- the rows strictly ascend by where they stand
 abbrev SortedRows : List Keyed → Type 0
 SortedRows os = T (is_sorted place_order (list_map placed_row os))
 
+-- the changes strictly ascend by where they stand
 abbrev SortedChanges : List Change → Type 0
 SortedChanges bs = T (is_sorted place_order (list_map placed_change bs))
 
+-- at one place the list has what the rows have there, else what the changes have
 abbrev Finds : Pos × ℕ → List Keyed → List Change → List Placed → Type 0
 Finds q os bs ms = find place_order q ms ≡ or_else (find place_order q (list_map placed_row os)) (find place_order q (list_map placed_change bs))
 
@@ -166,6 +174,7 @@ find-merge q (a ∷ os) bs g = find-merge_into q a os (merge os) g (λ cs. find-
 
 -- ---- and it ascends
 
+-- where all rows and changes stand behind a place, so does the whole list
 abbrev KeepsBelow : Pos × ℕ → List Keyed → List Change → List Placed → Type 0
 KeepsBelow x os bs ms = T (below_all place_order x (list_map placed_row os)) → T (below_all place_order x (list_map placed_change bs)) → T (below_all place_order x ms)
 
@@ -279,6 +288,7 @@ ends_before p (q ∷ qs) f e =
       | Greater ↦ λ _ k. absurd (cc)
     ] refl f.0
 
+-- the changes of pieces, with where they stand
 abbrev placed_changes : List Piece → List Placed
 placed_changes ps = list_map placed_change (changes_of ps)
 

@@ -22,9 +22,11 @@ first_same k l ks ls e = cc
 rest_same : (k l : List ℕ) (ks ls : List (List ℕ)) → k ∷ ks ≡ l ∷ ls → ks ≡ ls
 rest_same k l ks ls e = cc
 
+-- a partition says what the writes to its key say
 abbrev Says : List Write → Partition → Type 0
 Says writes p = SameSource (p.change ∷ []) (changes_to p.key writes)
 
+-- the keys of partitions, in their order
 abbrev keys_of : List Partition → List (List ℕ)
 keys_of ps = list_map (λ p. p.key) ps
 

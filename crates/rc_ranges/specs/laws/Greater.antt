@@ -7,6 +7,7 @@ use Rattle.rc_cell.specs.Winner.{greatest}
 use Rattle.rc_cell.specs.Greatest.{greater, greatest-append, greatest-swap, greatest-twice, greatest-one, greatest-two}
 use Rattle.rc_cell.specs.Beats.{tomb_cmp-IsAntisymmetric}
 
+-- the tombstone as a list, where there is one
 abbrev listed : Option Tomb → List Tomb
 listed = option_to_list
 

@@ -57,12 +57,15 @@ some_is x y e = cc
 
 -- ---- numbers
 
+-- a time in seconds that four bytes hold
 abbrev IsTime : ℕ → Type 0
 IsTime n = n < 2 ^ 32
 
+-- a length that two bytes hold
 abbrev IsLength : ℕ → Type 0
 IsLength n = n < 2 ^ 16
 
+-- a timestamp that eight bytes hold
 abbrev IsStamp : ℤ → Type 0
 IsStamp z = FitsSigned w64 z
 
@@ -113,6 +116,7 @@ stamp_took bytes x fits e =
     subst (λ (y : ℤ × List ℕ). Took stamp_code IsStamp bytes y.0 y.1) (some_is _ _ g.1)
     (record { parts = sym (take-append-drop 8 bytes) ∙ ap (λ (t : List ℕ). t ++ drop 8 bytes) (sym back); left = bytes_behind 8 bytes fits; fits = sfits_to_z (record { fits = below }) })
 
+-- what is read of the eight bytes that have this number, before the rest
 abbrev read_as : List ℕ → ℕ → Option (ℤ × List ℕ)
 read_as rest k = Some (cast_signed w64 k, rest)
 

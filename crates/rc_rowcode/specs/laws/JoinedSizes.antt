@@ -16,6 +16,7 @@ use Rattle.rc_cell.specs.laws.Merge.{pick, merge, merge_into, merge-winners}
 use Rattle.rc_rowcode.specs.Spelling.{stamp_code, tomb_code, optional_code, cell_code, entry_code, row_code}
 use Rattle.rc_rowcode.specs.laws.Sizes.{length-row_code}
 
+-- cells with their columns
 abbrev Cells : Type 0
 Cells = List (ℕ × Cell)
 

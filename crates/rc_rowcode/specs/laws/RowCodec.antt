@@ -47,6 +47,7 @@ from_entries : (least : ℕ) (es : List (ℕ × Cell)) → FromColumn least es �
 from_entries least [] h = tt
 from_entries least (e ∷ es) h = (h.1, from_entries (e.0 + 1) es h.2)
 
+-- the cell's column is this one or a later one
 abbrev pub Above : ℕ → ℕ × Cell → Type 0
 Above least e = least ≤ e.0
 
@@ -114,6 +115,7 @@ entries_again least (e ∷ es) rest fits =
     ap (parse_entries (suc (length es)) least) (append_assoc (entry_code e) (flat_map entry_code es) rest)
     ∙ rw (entry_again least e (flat_map entry_code es ++ rest) fits.0 fits.1, entries_again (e.0 + 1) es rest fits.2) refl
 
+-- cells of strictly ascending columns, each one that a code may have
 abbrev AreCells : List (ℕ × Cell) → Type 0
 AreCells es = IsTrue (ascending es) × AllByRecursion IsEntry es
 

@@ -38,6 +38,7 @@ is_true : (b : Bool) → T b → IsTrue b
 is_true true h = refl
 is_true false h = absurd h
 
+-- a partition's key, and what is said of it
 abbrev Keyed : Type 0
 Keyed = List ℕ × Mutation
 

@@ -2,8 +2,8 @@
 use Rattle.std.proofs.Common.{◌∙◌, true, false, refl, inr}
 use Rattle.rc_stream.specs.Merging.{joined_head}
 use Rattle.rc_stream.proofs.Going.{moved-moved, once-ours, once-theirs}
-use Rattle.rc_stream.specs.Showing.{EitherSpot, ShowsOne}
-use Rattle.rc_stream.proofs.Blaming.{blames-after, blames-err, blames-memory, blames-ok, blames-ours, blames-theirs}
+use Rattle.rc_stream.specs.Showing.{EitherSpot}
+use Rattle.rc_stream.proofs.Blaming.{blames-after, blames-memory, blames-ok, blames-ours, blames-theirs}
 use Rattle.rc_stream.proofs.Showing.{shown-on}
 use Rattle.rc_stream.proofs.merges.head_of_both.Goals as goal
 

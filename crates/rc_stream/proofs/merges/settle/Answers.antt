@@ -1,5 +1,5 @@
 -- Where a seek was due, both went on, or it still is.
-use Rattle.std.proofs.Common.{sym, subst, ◌∙◌, refl, Some, None, true, false}
+use Rattle.std.proofs.Common.{sym, subst, ◌∙◌, refl, Some, true, false}
 use Rattle.rc_position.specs.declared.positions.Pos.{Pos}
 use Rattle.std.specs.Prelude.{Option}
 use Rattle.rc_stream.specs.Did.{InTurn, OneCall}

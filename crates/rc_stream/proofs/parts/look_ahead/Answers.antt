@@ -1,5 +1,5 @@
 -- What was taken from the stream is held.
-use Rattle.std.proofs.Common.{sym, inl, inr}
+use Rattle.std.proofs.Common.{sym, inr}
 use Rattle.rc_stream.specs.Holding.{held}
 use Rattle.rc_stream.proofs.Looking.{ahead-looked, nothing-held}
 use Rattle.rc_stream.proofs.Wholes.{looked-holds, looked-known}

@@ -1,6 +1,6 @@
 -- The calls of a seek that was due, and those of the rounds.
 use Rattle.std.specs.Prelude.{Option}
-use Rattle.std.proofs.Common.{None, subst, true, false}
+use Rattle.std.proofs.Common.{None, subst}
 use Rattle.rc_position.specs.declared.positions.Pos.{Pos}
 use Rattle.rc_stream.specs.Did.{OneCall, answered}
 use Rattle.rc_stream.specs.Moving.{HoldBoth, SoughtBoth}
