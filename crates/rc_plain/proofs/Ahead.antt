@@ -109,9 +109,9 @@ last_number_of : (infos : List TableInfo) (n : ℕ) → Some n ≡ slice_get (nu
 last_number_of [] n h = absurd (cc)
 last_number_of (i ∷ is) n h = after_get 0 (numbers_in (i ∷ is)) (length (i ∷ is) - 1) n (omega (arith, length-map (i ∷ is) (λ (i : TableInfo). i.number))) h
 
-pub number_after : (infos : List TableInfo) (n : ℕ) (r : Option ℕ) → Some n ≡ slice_get (numbers_in infos) (length infos - 1) → SomeIff r (n + 1 < 2 ^ 32) (n + 1) → IsNextNumber infos r
-number_after infos n None h is = (let last = last_number_of infos n h in omega (arith, last, is))
-number_after infos n (Some next) h is = (let last = last_number_of infos n h in (is.1 ∙ sym last, omega (arith, is.0, is.1)))
+pub next_number_is : (infos : List TableInfo) (n : ℕ) (r : Option ℕ) → Some n ≡ slice_get (numbers_in infos) (length infos - 1) → SomeIff r (n + 1 < 2 ^ 32) (n + 1) → IsNextNumber infos r
+next_number_is infos n None h is = (let last = last_number_of infos n h in omega (arith, last, is))
+next_number_is infos n (Some next) h is = (let last = last_number_of infos n h in (is.1 ∙ sym last, omega (arith, is.0, is.1)))
 
 pub number_first : (infos : List TableInfo) → None ≡ slice_get (numbers_in infos) (length infos - 1) → IsNextNumber infos (Some 1)
 number_first [] h = (refl, omega arith)

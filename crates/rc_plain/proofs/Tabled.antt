@@ -72,8 +72,8 @@ pub takes_write_fault : (files files' : Option Files) (k k' : Keeping) (n : ℕ)
     → Takes Stands files k Flush (replies.Refused WriteFault) files' k'
 takes_write_fault files files' k k' n some is same still = λ m s.
     let sealed : State = record m { sealed = sealing m } in
-    let number_after : Stands files' k' sealed = subst (λ files. Stands files k' sealed) (sym still) (subst (λ k. Stands files k sealed) (sym same) (stands_sealed files k m s)) in
-    (sealed, flushes without_sealed m _ _ false false s.whole (some_left files k m s some) (in_time files k m n s is) (inr (refl, refl)), number_after)
+    let stands : Stands files' k' sealed = subst (λ files. Stands files k' sealed) (sym still) (subst (λ k. Stands files k sealed) (sym same) (stands_sealed files k m s)) in
+    (sealed, flushes without_sealed m _ _ false false s.whole (some_left files k m s some) (in_time files k m n s is) (inr (refl, refl)), stands)
 
 -- want of memory: the writes stay sealed
 pub stops_sealed : (files files' : Option Files) (k k' : Keeping) → k' ≡ sealed_all k → files' ≡ files → Stops Stands files k Flush files' k'

@@ -220,21 +220,21 @@ row_within force next v i key row (On x) e off l h =
 
 module _ (force : Option Tomb) (next : Place) (v : Version) (i : IsVersion v) (s : Spot) (l : IsBefore (position_of s) end_position) where
   pub unit-within : (f : Frag) → Precedes f next → IsSilentFrom (unit_place f) v → IsStretch (unit_place f) next (Clustered (position_of s)) → state_at s (updated force f next v) ≡ fragment_state_at force f s
-  unit-within (frag.Start pt) p silent w = ap state_of (split_seen_at s next v.entries) ∙ silent.clustered s w.begun ∙ nothing_said s
+  unit-within (frag.Start pt) p quiet w = ap state_of (split_seen_at s next v.entries) ∙ quiet.clustered s w.begun ∙ nothing_said s
     where
       nothing_said : (s : Spot) → silent ≡ fragment_state_at force (frag.Start pt) s
       nothing_said (On x) = refl
       nothing_said (Behind x) = refl
-  unit-within (frag.Static row) p silent w = ap state_of (split_seen_at s next v.entries) ∙ silent.clustered s w.begun ∙ nothing_said s
+  unit-within (frag.Static row) p quiet w = ap state_of (split_seen_at s next v.entries) ∙ quiet.clustered s w.begun ∙ nothing_said s
     where
       nothing_said : (s : Spot) → silent ≡ fragment_state_at force (frag.Static row) s
       nothing_said (On x) = refl
       nothing_said (Behind x) = refl
-  unit-within (frag.Row key row) p silent w = row_within force next v i key row s (state-silent (seen s v.entries) (silent.clustered s w.begun)) w.begun l w.short
-  unit-within (frag.Change from tomb) p silent w =
-      ap state_of (raised-nothing force next v i s tomb from v.entries i.ends None (state-silent (seen s v.entries) (silent.clustered s w.begun)) w.begun l w.short) ∙ said_of s
+  unit-within (frag.Row key row) p quiet w = row_within force next v i key row s (state-silent (seen s v.entries) (quiet.clustered s w.begun)) w.begun l w.short
+  unit-within (frag.Change from tomb) p quiet w =
+      ap state_of (raised-nothing force next v i s tomb from v.entries i.ends None (state-silent (seen s v.entries) (quiet.clustered s w.begun)) w.begun l w.short) ∙ said_of s
     where
       said_of : (s : Spot) → spot_state Inherit [] (option_to_list tomb) ≡ fragment_state_at force (frag.Change from tomb) s
       said_of (On x) = refl
       said_of (Behind x) = refl
-  unit-within frag.End p silent w = absurd p
+  unit-within frag.End p quiet w = absurd p

@@ -2,11 +2,11 @@
 use Rattle.std.proofs.Common.{Some, subst}
 use Rattle.rc_plain.specs.Stands.{Keeping}
 use Rattle.rc_plain.specs.calls.Storing.{IsNextNumber}
-use Rattle.rc_plain.proofs.Ahead.{number_after, number_first}
+use Rattle.rc_plain.proofs.Ahead.{next_number_is, number_first}
 use Rattle.rc_plain.proofs.plain.Plain.next_number.Goals as goal
 
 pub returns-in-Some : goal.returns-in-Some
-returns-in-Some c = subst (λ (k : Keeping). IsNextNumber k.infos c.checked_add.result) c.self.view_is (number_after c.self.inside.tables c.in-Some.number c.checked_add.result c.in-Some.ensures c.checked_add.ensures)
+returns-in-Some c = subst (λ (k : Keeping). IsNextNumber k.infos c.checked_add.result) c.self.view_is (next_number_is c.self.inside.tables c.in-Some.number c.checked_add.result c.in-Some.ensures c.checked_add.ensures)
 
 pub returns-in-None : goal.returns-in-None
 returns-in-None c = subst (λ (k : Keeping). IsNextNumber k.infos (Some 1)) c.self.view_is (number_first c.self.inside.tables c.in-None.ensures)
