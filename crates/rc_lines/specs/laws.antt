@@ -3,6 +3,7 @@ pub mod Halves
 pub mod Named
 pub mod WordForms
 pub mod ByShape
+pub mod Refusals
 pub mod Fitting
 pub mod Said
 pub mod Tests

@@ -21,7 +21,7 @@ use Rattle.rc_shell.specs.Run.{Answers}
 use Rattle.rc_shell.specs.Step.{Moment, Stage, Waiting, Serving, LineStep, StageStep, EarlyStep, MachineStep, files_of, meaning_at}
 use Rattle.rc_shell.specs.Holding.{tells_damage}
 use Rattle.rc_shell.proofs.Served.{served_is}
-use Rattle.rc_shell.proofs.Told.{of_line}
+use Rattle.rc_lines.specs.laws.Refusals.{of_line}
 
 -- the reply tells no damaged table
 abbrev IsSound : Reply → Type 0

@@ -6,4 +6,4 @@ use Rattle.rc_lines.specs.laws.ByShape.{by_shape}
 use Rattle.rc_lines.proofs.reading.read_line.Goals as goal
 
 pub returns : goal.returns
-returns c = subst (ReadsLine c.read_by_shape.result) (sym (by_shape (option_copied c.args.schema.entry) c.args.line.now)) c.read_by_shape.ensures
+returns c = subst (ReadsLine c.read_by_shape.result) (sym (by_shape (option_copied c.args.schema) c.args.line.now)) c.read_by_shape.ensures
