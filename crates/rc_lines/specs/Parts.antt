@@ -16,8 +16,7 @@ without_front text word = if is_word (take (length text) word) text then Some (d
 
 -- what stands before a text with which a word ends
 unfoldable pub without_back : List ℕ → List ℕ → Option (List ℕ)
-without_back text word =
-    if is_word (drop (length word - length text) word) text then Some (take (length word - length text) word) else None
+without_back text word = if is_word (drop (length word - length text) word) text then Some (take (length word - length text) word) else None
 
 -- a timestamp, `ts=TS`: a signed number within 64 bits
 unfoldable pub stamp_of : List ℕ → Option ℤ
@@ -36,14 +35,10 @@ key_of (byte ∷ rest) = bytes_spelled (byte ∷ rest)
 unfoldable pub pieces_of : List ℕ → Option (List (List ℕ))
 pieces_of word = option_map (take 5) (components_spelled word)
 
--- a limit of keys: the components of a prefix, and whether the keys with that prefix are within it; no limit has no components
-abbrev pub no_limit : List (List ℕ) × Bool
-no_limit = ([], true)
-
--- a limit: `-`, or the prefix that stands beside one of two marks, the inclusive or the exclusive one
+-- a limit of keys, the components of a prefix and whether keys with that prefix are within it: `-` for none, or a prefix beside one of two marks, the inclusive or the exclusive one
 abbrev pub limit_of : List ℕ → Option (List ℕ) → Option (List ℕ) → Option (List (List ℕ) × Bool)
 limit_of word inclusive exclusive =
-    if is_word word (codes "-") then Some no_limit
+    if is_word word (codes "-") then Some ([], true)
     else option_and_then (λ (ck : List ℕ × Bool). option_map (λ pieces. (pieces, ck.1)) (pieces_of ck.0)) (option_or (option_map (λ ck. (ck, true)) inclusive) (option_map (λ ck. (ck, false)) exclusive))
 
 -- where keys begin, `from=` and `-`, `[CK` or `(CK`

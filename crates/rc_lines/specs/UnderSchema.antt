@@ -1,5 +1,5 @@
 -- What the parts of a line mean under a schema: keys, slices and columns, and the commands that are made of them, or the first cause why they are refused.
-use Rattle.std.specs.Prelude.{ℕ, ℤ, Bool, true, false, ◌&&◌, ◌==◌, nat_le, List, [], ◌∷◌, length, Option, Some, None, Result, Ok, Err, if◌then◌else◌, option_and_then}
+use Rattle.std.specs.Prelude.{ℕ, ℤ, Bool, ◌&&◌, ◌==◌, nat_le, List, [], ◌∷◌, length, Option, Some, None, Result, Ok, Err, if◌then◌else◌, option_and_then}
 use Rattle.std.specs.List.{filter_map, find, list_all, range_with_len, zip}
 use Rattle.std.specs.Option.{option_map, is_some}
 use Rattle.std.specs.Ordering.{is_lt}
@@ -47,26 +47,14 @@ slice_between from to = if is_lt (pos_cmp from to) then Some (record { from = fr
 unfoldable pub slice_of : List (List ℕ) × Bool → List (List ℕ) × Bool → List CkKind → Option Slice
 slice_of from to kinds = option_and_then (λ f. option_and_then (λ t. slice_between (start_bound f from.1) (end_bound t to.1)) (prefix_of to.0 kinds)) (prefix_of from.0 kinds)
 
--- whether each name is a column's
-abbrev pub are_columns : List (List ℕ) → List (List ℕ × Cell) → Bool
-are_columns names cells = list_all (λ e. is_some (column_of e.0 names)) cells
-
 -- the cells of a line by column, where each name is one's: of each column in the schema's order the cell of its name
 unfoldable pub columns_of : List (List ℕ) → List (List ℕ × Cell) → Option (List (ℕ × Cell))
 columns_of names cells =
-    if are_columns names cells then Some (filter_map (λ column. option_map (λ e. (column.0, e.1)) (find (λ e. is_word e.0 column.1) cells)) (zip (range_with_len 0 (length names)) names)) else None
+    if list_all (λ e. is_some (column_of e.0 names)) cells then Some (filter_map (λ column. option_map (λ e. (column.0, e.1)) (find (λ e. is_word e.0 column.1) cells)) (zip (range_with_len 0 (length names)) names)) else None
 
 -- whether a partition key has 1 to 64 bytes
 abbrev pub is_partition_key : List ℕ → Bool
 is_partition_key key = nat_le 1 (length key) && nat_le (length key) 64
-
--- whether each text component has at most 64 bytes
-abbrev pub are_short : List Comp → Bool
-are_short key = list_all is_short key
-
--- whether each value has at most 256 bytes
-abbrev pub have_short_values : List (ℕ × Cell) → Bool
-have_short_values cells = list_all (λ e. has_short_value e.1) cells
 
 -- what a line says: under a schema its command, or why it is refused there
 abbrev pub Saying : Type 0
@@ -77,43 +65,36 @@ abbrev pub need : {A : Type 0} → Option A → Refusal → (A → Result Comman
 need None refusal more = Err refusal
 need (Some value) refusal more = more value
 
--- a command that is too long where a test fails
-abbrev pub within : Bool → Command → Result Command Refusal
-within true command = Ok command
-within false command = Err TooLong
-
--- whether the text components of both bounds of a slice are within the limits
-abbrev pub is_short_slice : Slice → Bool
-is_short_slice slice = are_short slice.from.prefix && are_short slice.to.prefix
-
 -- a write of these parts
-abbrev pub put : List ℕ → Option Tomb → Row → List (List Comp × Row) → List Piece → Command
-put key pt statics rows ranges = Put (record { key = key; change = record { pt = pt; statics = statics; rows = rows; ranges = ranges } })
+abbrev pub put_parts : List ℕ → Option Tomb → Row → List (List Comp × Row) → List Piece → Command
+put_parts key pt statics rows ranges = Put (record { key = key; change = record { pt = pt; statics = statics; rows = rows; ranges = ranges } })
 
 -- a row is written: a marker, a tombstone and cells
 unfoldable pub row_written : List ℕ → List (List ℕ) → Option ℤ → Option Tomb → List (List ℕ × Cell) → Saying
 row_written key ck marker tomb cells schema =
     need (key_under ck schema.ck) WrongKey (λ k. need (columns_of schema.cols cells) UnknownColumn (λ found.
-        within (is_partition_key key && (are_short k && have_short_values found))
-        (put key None empty_row ((k, record { marker = marker; tomb = tomb; cells = found }) ∷ []) [])))
+    if is_partition_key key && (list_all is_short k && list_all (λ e. has_short_value e.1) found)
+    then Ok (put_parts key None empty_row ((k, record { marker = marker; tomb = tomb; cells = found }) ∷ []) []) else Err TooLong))
 
 -- the static row is written
 unfoldable pub statics_written : List ℕ → List (List ℕ × Cell) → Saying
 statics_written key cells schema =
     need (columns_of schema.statics cells) UnknownColumn (λ found.
-        within (is_partition_key key && have_short_values found) (put key None (record { marker = None; tomb = None; cells = found }) [] []))
+    if is_partition_key key && list_all (λ e. has_short_value e.1) found then Ok (put_parts key None (record { marker = None; tomb = None; cells = found }) [] []) else Err TooLong)
 
 -- a range tombstone is written
 unfoldable pub range_written : List ℕ → List (List ℕ) × Bool → List (List ℕ) × Bool → Tomb → Saying
 range_written key from to tomb schema =
     need (slice_of from to schema.ck) WrongKey (λ slice.
-        within (is_partition_key key && is_short_slice slice) (put key None empty_row [] (record { from = slice.from; to = slice.to; tomb = tomb } ∷ [])))
+    if is_partition_key key && (list_all is_short slice.from.prefix && list_all is_short slice.to.prefix)
+    then Ok (put_parts key None empty_row [] (record { from = slice.from; to = slice.to; tomb = tomb } ∷ [])) else Err TooLong)
 
 -- the partition tombstone is written
 unfoldable pub partition_written : List ℕ → Tomb → Saying
-partition_written key tomb schema = within (is_partition_key key) (put key (Some tomb) empty_row [] [])
+partition_written key tomb schema = if is_partition_key key then Ok (put_parts key (Some tomb) empty_row [] []) else Err TooLong
 
 -- a reader is opened
 unfoldable pub slice_opened : ℕ → List ℕ → List (List ℕ) × Bool → List (List ℕ) × Bool → Saying
 slice_opened id key from to schema =
-    need (slice_of from to schema.ck) WrongKey (λ slice. within (is_partition_key key && is_short_slice slice) (OpenRead id key slice))
+    need (slice_of from to schema.ck) WrongKey (λ slice.
+    if is_partition_key key && (list_all is_short slice.from.prefix && list_all is_short slice.to.prefix) then Ok (OpenRead id key slice) else Err TooLong)

@@ -3,3 +3,4 @@ pub mod ShapeParts
 pub mod Shapes
 pub mod ShapeMeaning
 pub mod ByShape
+pub mod TextParts

@@ -6,8 +6,8 @@ ghost use Rattle.rc_position.specs.Position.{IsBefore};
 ghost use Rattle.rc_schema.specs.Checks.{column_count, fits_kinds};
 ghost use Rattle.rc_lines.specs.declared.shapes.Change.TheVariants.{OfRow, OfStatic, OfRange, OfPartition};
 ghost use Rattle.rc_lines.specs.declared.shapes.Shape.TheVariants.{Open, Written};
-ghost use Rattle.rc_lines.specs.UnderSchema.{is_partition_key, are_short, have_short_values, is_short_slice};
-ghost use Rattle.rc_lines.specs.calls.ShapeMeaning.{rows_said, change_meaning, meaning};
+ghost use Rattle.rc_lines.specs.UnderSchema.{is_partition_key};
+ghost use Rattle.rc_lines.specs.calls.ShapeMeaning.{are_short, have_short_values, is_short_slice, rows_said, change_meaning, meaning};
 
 use crate::columns::{are_columns, cells_by_column};
 use crate::commands::{Command, Refusal};

@@ -86,11 +86,7 @@ fn said(
 
 /// What a line commands, by the shape of its words.
 #[tactic(auto, unfolding(crate::specs::calls::ByShape::parse_by_shape))]
-fn read_by_shape(
-    alloc: Global,
-    schema: Option<&Schema>,
-    line: &[u8],
-) -> Result<Command, LineErr>
+fn read_by_shape(alloc: Global, schema: Option<&Schema>, line: &[u8]) -> Result<Command, LineErr>
     ensures { ReadsLine result (parse_by_shape (option_copied schema.entry) line.now) }
 {
     if line.len() > LONGEST_LINE {

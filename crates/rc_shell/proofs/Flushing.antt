@@ -15,7 +15,7 @@ use Rattle.rc_lines.specs.declared.commands.Refusal.TheVariants.{BadLine, NoSche
 use Rattle.rc_lines.specs.declared.commands.Reply.{Reply}
 use Rattle.rc_lines.specs.Grammar.{parse}
 use Rattle.rc_lines.specs.laws.Refusals.{schema_line}
-use Rattle.rc_lines.specs.Texts.{reply_text, refusal_text, damage_text}
+use Rattle.rc_lines.specs.Texts.{reply_text, refusal_text}
 use Rattle.rc_tfile.specs.TableText.{IsTable}
 use Rattle.rc_machine.specs.State.{State, Table, numbers, opened_state}
 use Rattle.rc_machine.specs.Steps.{Steps}
@@ -48,7 +48,6 @@ AtStage files (Serving m) all = Serves files m all
 
 -- a refusal does not say that a write was accepted
 not_ok : (refusal : Refusal) → is_word (refusal_text refusal) (codes "ok\n") ≡ false
-unfolding damage_text
 not_ok BadLine = refl
 not_ok NoSchema = refl
 not_ok SchemaDiffers = refl

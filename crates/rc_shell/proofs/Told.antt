@@ -7,14 +7,14 @@ use Rattle.rc_lines.specs.declared.commands.Refusal.TheVariants.{ReadFault, Writ
 use Rattle.rc_lines.specs.declared.commands.Reply.{Reply}
 use Rattle.rc_lines.specs.declared.commands.Reply.TheVariants.{Nothing, Fine, Given, Going, Done, Stats, Refused}
 use Rattle.rc_lines.specs.Grammar.{parse}
-use Rattle.rc_lines.specs.Texts.{reply_text, refusal_text, damage_text, figures_text}
+use Rattle.rc_lines.specs.Texts.{reply_text, refusal_text, figures_text}
 use Rattle.rc_lines.specs.laws.Refusals.{of_line}
 use Rattle.rc_machine.specs.Serving.{OnFaulty}
 use Rattle.rc_shell.specs.Step.{tells_fault}
 
 -- only the replies of a fault tell one
 pub told : (schema : SchemaValue) (reply : Reply) (P : Type 0) → OnFaulty reply P → IsTrue (tells_fault (reply_text schema reply)) → P
-unfolding reply_text damage_text figures_text
+unfolding reply_text figures_text
 told schema (Refused ReadFault) P p t = p
 told schema (Refused WriteFault) P p t = p
 told schema (Refused refusal) P p t = absurd (cc)

@@ -1,16 +1,12 @@
 -- What a line commands, by the shape of its words: the same as by its form.
-use Rattle.std.specs.Prelude.{ℕ, Bool, true, ◌==◌, nat_lt, List, [], ◌∷◌, length, codes, Option, Some, None, Result, Ok, Err, ⊤, ◌≡◌, if◌then◌else◌, option_and_then}
+use Rattle.std.specs.Prelude.{ℕ, nat_lt, List, length, Option, Some, None, Result, Ok, Err, if◌then◌else◌}
 use Rattle.rc_schema.specs.SchemaValue.{SchemaValue}
-use Rattle.rc_schema.specs.SchemaText.{schema_of}
 use Rattle.rc_spelling.specs.Words.{words}
 use Rattle.rc_lines.specs.declared.commands.Command.{Command}
 use Rattle.rc_lines.specs.declared.commands.Command.TheVariants.{Nothing, SetSchema}
 use Rattle.rc_lines.specs.declared.commands.Refusal.{Refusal}
 use Rattle.rc_lines.specs.declared.commands.Refusal.TheVariants.{BadLine, NoSchema}
-use Rattle.rc_lines.specs.declared.commands.LineErr.{LineErr}
-use Rattle.rc_lines.specs.declared.commands.LineErr.TheVariants as errors
 use Rattle.rc_lines.specs.declared.shapes.Shape.{Shape}
-use Rattle.rc_lines.specs.Parts.{without_front}
 use Rattle.rc_lines.specs.calls.Shapes.{shape_of}
 use Rattle.rc_lines.specs.calls.ShapeMeaning.{meaning}
 use Rattle.rc_lines.specs.Grammar.{longest_line, is_comment, schema_said}

@@ -1,25 +1,20 @@
 -- What a shape means under a schema: its command, or the first cause, over the whole line, why it is refused.
-use Rattle.std.specs.Prelude.{ℕ, Bool, true, false, not, ◌&&◌, ◌+◌, ◌==◌, nat_le, List, [], ◌∷◌, ◌++◌, length, Option, Some, None, Result, Ok, Err, if◌then◌else◌, option_and_then}
+use Rattle.std.specs.Prelude.{ℕ, Bool, true, false, not, ◌&&◌, ◌+◌, List, [], ◌∷◌, ◌++◌, Option, Some, None, Result, Ok, Err, if◌then◌else◌, option_and_then}
 use Rattle.std.specs.List.{list_all}
 use Rattle.std.specs.Option.{option_map, option_to_list, is_some, is_none, unwrap_or}
-use Rattle.std.specs.Ordering.{is_lt}
 use Rattle.rc_cell.specs.declared.rows.Row.{Row}
 use Rattle.rc_cell.specs.declared.writes.Cell.{Cell}
 use Rattle.rc_cell.specs.Winner.{empty_row}
 use Rattle.rc_mutation.specs.declared.mutations.Mutation.{Mutation}
 use Rattle.rc_position.specs.declared.comps.Comp.{Comp}
-use Rattle.rc_position.specs.declared.comps.Comp.TheVariants as comps
-use Rattle.rc_position.specs.declared.positions.Pos.{Pos}
 use Rattle.rc_position.specs.declared.slices.Slice.{Slice}
-use Rattle.rc_position.specs.Position.{pos_cmp, start_bound, end_bound}
+use Rattle.rc_position.specs.Position.{start_bound, end_bound}
 use Rattle.rc_mutation.specs.Fragments.{is_written}
 use Rattle.rc_query.specs.Answer.{whole_slice}
 use Rattle.rc_schema.specs.declared.kinds.CkKind.{CkKind}
-use Rattle.rc_schema.specs.declared.kinds.CkKind.TheVariants.{Int, Text}
 use Rattle.rc_schema.specs.SchemaValue.{SchemaValue}
 use Rattle.rc_spelling.specs.Words.{is_word}
 use Rattle.rc_schema.specs.Checks.{column_of, is_short, has_short_value}
-use Rattle.rc_spelling.specs.Numbers.{signed_of}
 use Rattle.rc_lines.specs.declared.commands.Command.{Command}
 use Rattle.rc_lines.specs.declared.commands.Command.TheVariants.{Put, OpenRead}
 use Rattle.rc_lines.specs.declared.commands.Refusal.{Refusal}
@@ -29,7 +24,7 @@ use Rattle.rc_lines.specs.declared.shapes.Change.{Change}
 use Rattle.rc_lines.specs.declared.shapes.Change.TheVariants.{OfRow, OfStatic, OfRange, OfPartition}
 use Rattle.rc_lines.specs.declared.shapes.Shape.{Shape}
 use Rattle.rc_lines.specs.declared.shapes.Shape.TheVariants.{Plain, Open, Written}
-use Rattle.rc_lines.specs.UnderSchema.{prefix_of, key_under, slice_between, are_columns, is_partition_key, are_short, have_short_values, is_short_slice}
+use Rattle.rc_lines.specs.UnderSchema.{prefix_of, key_under, slice_between, is_partition_key}
 
 -- the positions between two bounds
 unfoldable pub slice_under : Bound → Bound → List CkKind → Option Slice
@@ -62,6 +57,22 @@ key_said pieces schema = unwrap_or (key_under pieces schema.ck) []
 -- the slice between two bounds that are not wrong
 abbrev pub slice_said : Bound → Bound → SchemaValue → Slice
 slice_said from to schema = unwrap_or (slice_under from to schema.ck) whole_slice
+
+-- whether each name is a column's
+abbrev pub are_columns : List (List ℕ) → List (List ℕ × Cell) → Bool
+are_columns names cells = list_all (λ e. is_some (column_of e.0 names)) cells
+
+-- whether each text component has at most 64 bytes
+abbrev pub are_short : List Comp → Bool
+are_short key = list_all is_short key
+
+-- whether each value has at most 256 bytes
+abbrev pub have_short_values : List (ℕ × Cell) → Bool
+have_short_values cells = list_all (λ e. has_short_value e.1) cells
+
+-- whether the text components of both bounds of a slice are within the limits
+abbrev pub is_short_slice : Slice → Bool
+is_short_slice slice = are_short slice.from.prefix && are_short slice.to.prefix
 
 -- whether a count of components, an int component or the order of bounds in what is written is wrong
 abbrev pub is_wrong_change : SchemaValue → Change → Bool

@@ -1,14 +1,12 @@
 -- The parts of a line as the reading by shapes has them: stamps, cells and bounds.
-use Rattle.std.specs.Prelude.{ℕ, ℤ, Bool, true, false, ◌+◌, ◌-◌, ◌==◌, nat_eq, List, [], ◌∷◌, length, take, drop, map as list_map, codes, Option, Some, None, if◌then◌else◌, option_and_then}
+use Rattle.std.specs.Prelude.{ℕ, ℤ, Bool, true, false, ◌+◌, ◌==◌, List, [], ◌∷◌, take, drop, codes, Option, Some, None, if◌then◌else◌, option_and_then}
 use Rattle.std.specs.List.{position}
 use Rattle.std.specs.Option.{option_map}
 use Rattle.rc_cell.specs.declared.writes.Cell.{Cell}
 use Rattle.rc_cell.specs.declared.writes.Cell.TheVariants.{Live, Dead}
 use Rattle.rc_cell.specs.declared.writes.Tomb.{Tomb}
-use Rattle.rc_schema.specs.SchemaValue.{is_name, are_distinct_by}
 use Rattle.rc_spelling.specs.Words.{is_word}
-use Rattle.rc_spelling.specs.Numbers.{number_of, signed_of}
-use Rattle.rc_spelling.specs.Spelling.{bytes_spelled, components_spelled}
+use Rattle.rc_spelling.specs.Spelling.{bytes_spelled}
 use Rattle.rc_lines.specs.declared.shapes.Bound.{Bound}
 use Rattle.rc_lines.specs.declared.shapes.Stamp.{Stamp}
 use Rattle.rc_lines.specs.declared.shapes.Stamp.TheVariants.{Alive, Gone}

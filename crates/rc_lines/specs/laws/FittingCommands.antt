@@ -1,15 +1,14 @@
 -- What a line commands under a schema fits it.
-use Rattle.std.proofs.Common.{◌≡◌, ◌<◌, ℕ, ℤ, suc, ◌+◌, Bool, true, false, cond, not, ◌&&◌, ◌||◌, ◌==◌, nat_lt, List, [], ◌∷◌, ◌++◌, length, refl, sym, subst, ◌∙◌, arith}
+use Rattle.std.proofs.Common.{◌≡◌, ℕ, Bool, true, false, not, ◌&&◌, ◌==◌, nat_lt, List, [], ◌∷◌, length, refl, sym, subst, ◌∙◌}
 use Rattle.std.specs.Prelude.{if◌then◌else◌, option_and_then, Result, Ok, Err}
 use Rattle.std.specs.declared.option.Option.{Option}
 use Rattle.std.specs.declared.option.Option.TheVariants.{Some, None}
 use Rattle.std.specs.declared.cmp.Ordering.{Ordering}
 use Rattle.std.specs.declared.cmp.Ordering.TheVariants.{Less, Equal, Greater}
-use Rattle.std.specs.List.{list_all, list_any, position, prefix_len}
-use Rattle.std.specs.Option.{option_map, option_to_list, is_some, is_none, unwrap_or}
+use Rattle.std.specs.List.{list_all}
+use Rattle.std.specs.Option.{is_none, unwrap_or}
 use Rattle.std.specs.Ordering.{is_lt}
-use Rattle.std.specs.Cmp.Lexicographic.{same_text}
-use Rattle.std.proofs.lemmas.Bool.Decides.{nat_tests, Decides-eqb}
+use Rattle.std.proofs.lemmas.Bool.Decides.{Decides-eqb}
 use Rattle.rc_cell.specs.declared.rows.Row.{Row}
 use Rattle.rc_cell.specs.declared.writes.Cell.{Cell}
 use Rattle.rc_cell.specs.declared.writes.Tomb.{Tomb}
@@ -22,9 +21,9 @@ use Rattle.rc_position.specs.Position.{pos_cmp, start_bound, end_bound, IsBefore
 use Rattle.rc_mutation.specs.Fragments.{has_any, is_written}
 use Rattle.rc_query.specs.Answer.{whole_slice}
 use Rattle.rc_schema.specs.declared.kinds.CkKind.{CkKind}
-use Rattle.rc_schema.specs.Checks.{column_of, are_of_kinds, fits_kinds, column_count, checked_prefix, checked_cells}
+use Rattle.rc_schema.specs.Checks.{are_of_kinds, fits_kinds, column_count, checked_prefix, checked_cells}
 use Rattle.rc_schema.specs.SchemaValue.{SchemaValue}
-use Rattle.rc_spelling.specs.Words.{is_word, words}
+use Rattle.rc_spelling.specs.Words.{words}
 use Rattle.rc_lines.specs.declared.commands.Command.{Command}
 use Rattle.rc_lines.specs.declared.commands.Command.TheVariants.{Nothing, SetSchema}
 use Rattle.rc_lines.specs.declared.commands.Refusal.{Refusal}
@@ -40,8 +39,8 @@ use Rattle.rc_lines.specs.laws.Tests.{is_bound, fits_bound, fits_key, fits_cells
 use Rattle.rc_lines.specs.Grammar.{longest_line, is_comment, schema_said, parse}
 use Rattle.rc_lines.specs.calls.ByShape.{shape_meaning, line_meaning, parse_by_shape}
 use Rattle.rc_lines.specs.calls.Shapes.{shape_of}
-use Rattle.rc_lines.specs.UnderSchema.{prefix_of, key_under, slice_between, are_columns, are_short, have_short_values, is_short_slice, is_partition_key}
-use Rattle.rc_lines.specs.calls.ShapeMeaning.{slice_under, cell_named, columns_from, by_column, key_said, slice_said, has_wrong_key, has_unknown_column, is_within, is_wrong_change, is_unknown_change, is_short_change, rows_said, mutation_of, refusal_of, command_of, unless, meaning}
+use Rattle.rc_lines.specs.UnderSchema.{prefix_of, key_under, slice_between, is_partition_key}
+use Rattle.rc_lines.specs.calls.ShapeMeaning.{are_columns, are_short, have_short_values, is_short_slice, slice_under, by_column, key_said, slice_said, has_wrong_key, has_unknown_column, is_within, is_wrong_change, is_unknown_change, is_short_change, rows_said, mutation_of, refusal_of, command_of, unless, meaning}
 use Rattle.rc_lines.specs.laws.Fitting.{prefix_fits, prefix_is_as_long, columns_are_known, start_fits, end_fits}
 use Rattle.rc_lines.specs.laws.Said.{If, after, Said, SaidShape, shape_said}
 use Rattle.rc_lines.specs.laws.Halves.{both, join}

@@ -59,8 +59,8 @@ use Rattle.rc_lines.specs.calls.ByShape.{line_meaning, parse_by_shape}
 use Rattle.rc_lines.specs.Lines.{pieces_said, is_before, start_said, end_said, cells_said, change_said, command_line, IsPartitionKey, AreComponents, AreStamped, HasOneStamp, IsSayableWrite, IsSayableCommand}
 use Rattle.rc_lines.specs.Parts.{without_front}
 use Rattle.rc_lines.specs.Sayable.{stamped, shape_line, IsSomeKey, IsPrefix, IsLimit, IsStamped, IsNamedCell, AreSayableCells, IsSayable, IsSayableChange}
-use Rattle.rc_lines.specs.UnderSchema.{component_of, prefix_of, key_under, slice_between, is_partition_key, are_short, have_short_values, is_short_slice}
-use Rattle.rc_lines.specs.calls.ShapeMeaning.{slice_under, by_column, is_wrong_change, is_unknown_change, is_short_change, rows_said, mutation_of, refusal_of, unless, meaning}
+use Rattle.rc_lines.specs.UnderSchema.{component_of, prefix_of, key_under, slice_between, is_partition_key}
+use Rattle.rc_lines.specs.calls.ShapeMeaning.{are_short, have_short_values, is_short_slice, slice_under, by_column, is_wrong_change, is_unknown_change, is_short_change, rows_said, mutation_of, refusal_of, unless, meaning}
 use Rattle.rc_lines.specs.laws.ByShape.{by_shape}
 use Rattle.rc_lines.specs.laws.Columns.{AreBelow, columns_back, known, name_at, names_apart, few_cells}
 use Rattle.rc_lines.specs.laws.Lengths.{IsShortPrefix, spelled_short, partition_short, piece_short, open_short, row_short, static_short, schema_short}

@@ -12,8 +12,7 @@ use Rattle.rc_cell.specs.declared.writes.Tomb.{Tomb}
 use Rattle.rc_mutation.specs.Fragments.{has_any}
 use Rattle.rc_schema.specs.Checks.{column_of}
 use Rattle.rc_spelling.specs.Words.{is_word}
-use Rattle.rc_lines.specs.UnderSchema.{are_columns}
-use Rattle.rc_lines.specs.calls.ShapeMeaning.{cell_named, columns_from, by_column}
+use Rattle.rc_lines.specs.calls.ShapeMeaning.{are_columns, cell_named, columns_from, by_column}
 use Rattle.rc_lines.specs.laws.Halves.{both}
 
 short_step : (b : Bool) (n m : ℕ) (rest : Bool) → cond (not b) (1 + n) 0 < suc m → (n < m → rest ≡ true) → b || rest ≡ true

@@ -3,6 +3,7 @@ use Rattle.std.proofs.Common.{◌≡◌, ◌⊎◌, ℕ, Bool, true, false, inl,
 use Rattle.std.specs.Prelude.{if◌then◌else◌, Result, Ok, Err}
 use Rattle.std.specs.declared.option.Option.{Option}
 use Rattle.std.specs.declared.option.Option.TheVariants.{Some, None}
+use Rattle.std.specs.List.{filter_map, slice_get}
 use Rattle.std.specs.Option.{option_map_or}
 use Rattle.rc_schema.specs.SchemaValue.{SchemaValue}
 use Rattle.rc_spelling.specs.Words.{words}
@@ -10,7 +11,7 @@ use Rattle.rc_lines.specs.declared.commands.Command.{Command}
 use Rattle.rc_lines.specs.declared.commands.Command.TheVariants.{Nothing, SetSchema}
 use Rattle.rc_lines.specs.declared.commands.Refusal.{Refusal}
 use Rattle.rc_lines.specs.declared.commands.Refusal.TheVariants.{BadLine, NoSchema, WrongKey, UnknownColumn, TooLong}
-use Rattle.rc_lines.specs.Forms.{first_form, forms}
+use Rattle.rc_lines.specs.Forms.{forms}
 use Rattle.rc_lines.specs.Grammar.{longest_line, is_comment, schema_said, parse}
 use Rattle.rc_lines.specs.UnderSchema.{Saying, need}
 use Rattle.rc_lines.specs.calls.ByShape.{shape_meaning, line_meaning, parse_by_shape}
@@ -84,7 +85,7 @@ either false false later command f e = f e
 pub early : (line : List ℕ) (command : Command) → parse None line ≡ Ok command → IsEarly command
 unfolding parse
 early line command e =
-    either (nat_lt longest_line (length line)) (is_comment line) (later None (schema_said line) (first_form forms (words line))) command (later_early (schema_said line) (first_form forms (words line)) command) e
+    either (nat_lt longest_line (length line)) (is_comment line) (later None (schema_said line) (slice_get (filter_map (λ form. form (words line)) forms) 0)) command (later_early (schema_said line) (slice_get (filter_map (λ form. form (words line)) forms) 0) command) e
 
 later_alike : (taken found : Option SchemaValue) (said : Option Saying) (schema : SchemaValue) → later None found said ≡ Ok (SetSchema schema) → later taken found said ≡ Ok (SetSchema schema)
 later_alike taken (Some other) said schema e = e
@@ -101,5 +102,5 @@ alike false false early late schema f e = f e
 pub schema_line : (taken : Option SchemaValue) (line : List ℕ) (schema : SchemaValue) → parse None line ≡ Ok (SetSchema schema) → parse taken line ≡ Ok (SetSchema schema)
 unfolding parse
 schema_line taken line schema e =
-    alike (nat_lt longest_line (length line)) (is_comment line) (later None (schema_said line) (first_form forms (words line))) (later taken (schema_said line) (first_form forms (words line))) schema
-    (later_alike taken (schema_said line) (first_form forms (words line)) schema) e
+    alike (nat_lt longest_line (length line)) (is_comment line) (later None (schema_said line) (slice_get (filter_map (λ form. form (words line)) forms) 0)) (later taken (schema_said line) (slice_get (filter_map (λ form. form (words line)) forms) 0)) schema
+    (later_alike taken (schema_said line) (slice_get (filter_map (λ form. form (words line)) forms) 0) schema) e

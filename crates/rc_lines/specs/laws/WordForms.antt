@@ -1,10 +1,10 @@
 -- What the words of a line say by their form they say by their shape.
 use Rattle.std.proofs.Common.{◌≡◌, ℕ, ℤ, ◌+◌, ◌==◌, Bool, true, false, ◌&&◌, nat_le, List, [], ◌∷◌, length, take, drop, refl, sym, subst, ap, ◌∙◌, codes, arith}
-use Rattle.std.specs.Prelude.{if◌then◌else◌, option_and_then, Result, Ok, Err}
+use Rattle.std.specs.Prelude.{if◌then◌else◌, option_and_then, Ok}
 use Rattle.std.specs.declared.option.Option.{Option}
 use Rattle.std.specs.declared.option.Option.TheVariants.{Some, None}
 use Rattle.std.specs.Cmp.Lexicographic.{same_text}
-use Rattle.std.specs.List.{AllByRecursion, position}
+use Rattle.std.specs.List.{AllByRecursion, cons_option, filter_map, position, slice_get}
 use Rattle.std.specs.Option.{option_map, option_or}
 use Rattle.std.proofs.lemmas.Bool.Decides.{nat_tests}
 use Rattle.rc_cell.specs.declared.writes.Cell.{Cell}
@@ -14,7 +14,7 @@ use Rattle.rc_spelling.specs.Numbers.{count_of}
 use Rattle.rc_spelling.specs.Words.{is_word}
 use Rattle.rc_spelling.specs.Spelling.{bytes_spelled}
 use Rattle.rc_lines.specs.declared.commands.Command.{Command}
-use Rattle.rc_lines.specs.declared.commands.Command.TheVariants.{Read, Close, Flush, FlushBegin, FlushStep, Evict, Compact, Clean, Stats}
+use Rattle.rc_lines.specs.declared.commands.Command.TheVariants.{Read, Close, FlushBegin, FlushStep, Evict, Compact, Clean}
 use Rattle.rc_lines.specs.declared.shapes.Bound.{Bound}
 use Rattle.rc_lines.specs.declared.shapes.Change.{Change}
 use Rattle.rc_lines.specs.declared.shapes.Change.TheVariants.{OfRow, OfStatic, OfRange, OfPartition}
@@ -22,8 +22,8 @@ use Rattle.rc_lines.specs.declared.shapes.Shape.{Shape}
 use Rattle.rc_lines.specs.declared.shapes.Shape.TheVariants.{Plain, Open, Written}
 use Rattle.rc_lines.specs.declared.shapes.Stamp.{Stamp}
 use Rattle.rc_lines.specs.declared.shapes.Stamp.TheVariants.{Alive, Gone}
-use Rattle.rc_lines.specs.Forms.{Form, columns, end_of_line, first_form, forms}
-use Rattle.rc_lines.specs.Parts.{without_front, without_back, stamp_of, time_of, key_of, pieces_of, named, cell_set, cell_unset, each_of, are_distinct, limit_of, no_limit, from_limit, to_limit}
+use Rattle.rc_lines.specs.Forms.{Form, columns_to_end, forms}
+use Rattle.rc_lines.specs.Parts.{without_front, without_back, stamp_of, time_of, key_of, pieces_of, named, cell_set, cell_unset, each_of, are_distinct, limit_of, from_limit, to_limit}
 use Rattle.rc_lines.specs.UnderSchema.{Saying, row_written, statics_written, range_written, partition_written, slice_opened}
 use Rattle.rc_lines.specs.calls.ShapeParts.{tomb_of, live_of, split_set, set_of, cell_said, each_cell_of, named_cells, some_cells_of, no_bound, bound_at, marked_bound, from_of, to_of, range_start, range_end}
 use Rattle.rc_lines.specs.calls.Shapes.{row_change, inserted, update_change, removed, deleted, range_deleted, partition_deleted, static_set, static_removed, cell_change_of, deletion_of, change_of, write_of, open_shape, open_of, bare_of, told_of, numbered_of, read_of, step_of, counted_of, plain_of, shape_of}
@@ -47,6 +47,19 @@ shape_saying (Plain command) = λ schema. Ok command
 shape_saying (Open id key from to) = slice_opened id key (limit from) (limit to)
 shape_saying (Written key change) = change_saying key change
 
+-- what the first of some forms says that words have
+abbrev first_form : List Form → List (List ℕ) → Option Saying
+first_form [] words = None
+first_form (form ∷ others) words = option_or (form words) (first_form others words)
+
+first_of_two : (o : Option Saying) (others : List Saying) → slice_get (cons_option o others) 0 ≡ option_or o (slice_get others 0)
+first_of_two None others = refl
+first_of_two (Some saying) others = refl
+
+first_said : (forms : List Form) (words : List (List ℕ)) → slice_get (filter_map (λ form. form words) forms) 0 ≡ first_form forms words
+first_said [] words = refl
+first_said (form ∷ others) words = first_of_two (form words) (filter_map (λ form. form words) others) ∙ ap (option_or (form words)) (first_said others words)
+
 -- ---- options
 
 or_none : {X : Type 0} (o : Option X) → option_or o None ≡ o
@@ -64,7 +77,7 @@ pieces_same inclusive None = refl
 pieces_same inclusive (Some pieces) = refl
 
 marked_same : (none : Bool) (one other : Option (List ℕ)) →
-    (if none then Some no_limit
+    (if none then Some ([], true)
     else option_and_then (λ (ck : List ℕ × Bool). option_map (λ pieces. (pieces, ck.1)) (pieces_of ck.0)) (option_or (option_map (λ ck. (ck, true)) one) (option_map (λ ck. (ck, false)) other)))
     ≡ option_map limit (if none then Some no_bound else marked_bound one other)
 unfolding bound_at
@@ -149,13 +162,13 @@ some_first None rest = refl
 some_first (Some cell) rest = some_more cell rest
 
 -- any number of words
-any_columns : (stamp : Stamp) (saying : List (List ℕ × Cell) → Saying) (words : List (List ℕ)) → columns 0 (reader stamp) saying words ≡ option_map saying (named_cells stamp words)
+any_columns : (stamp : Stamp) (saying : List (List ℕ × Cell) → Saying) (words : List (List ℕ)) → columns_to_end 0 (reader stamp) saying words ≡ option_map saying (named_cells stamp words)
 unfolding named_cells
 any_columns stamp saying words =
     said_after 0 saying (each_of (reader stamp) words) ∙ ap (λ o. option_map saying (chosen_cells 0 o)) (each_same stamp words) ∙ ap (option_map saying) (any_said stamp (each_cell_of stamp words))
 
 -- one word and more
-some_columns : (stamp : Stamp) (saying : List (List ℕ × Cell) → Saying) (words : List (List ℕ)) → columns 1 (reader stamp) saying words ≡ option_map saying (some_cells_of stamp words)
+some_columns : (stamp : Stamp) (saying : List (List ℕ × Cell) → Saying) (words : List (List ℕ)) → columns_to_end 1 (reader stamp) saying words ≡ option_map saying (some_cells_of stamp words)
 unfolding named_cells
 some_columns stamp saying [] = refl
 some_columns stamp saying (word ∷ words) =
@@ -180,7 +193,7 @@ row_last key pieces marker tomb (Some cells) = refl
 row_read : {S : Type 0} (marker : S → Option ℤ) (tomb : S → Option Tomb) (cells : S → Option (List (List ℕ × Cell))) (key : Option (List ℕ)) (pieces : Option (List (List ℕ))) (stamp : Option S) →
     option_and_then (λ k. option_and_then (λ p. option_and_then (λ s. option_map (row_written k p (marker s) (tomb s)) (cells s)) stamp) pieces) key
     ≡ option_map shape_saying (option_and_then (λ k. option_map (λ change. Written k change)
-      (option_and_then (λ s. option_and_then (λ p. option_map (λ named. OfRow p (marker s) (tomb s) named) (cells s)) pieces) stamp)) key)
+    (option_and_then (λ s. option_and_then (λ p. option_map (λ named. OfRow p (marker s) (tomb s) named) (cells s)) pieces) stamp)) key)
 row_read marker tomb cells None pieces stamp = refl
 row_read marker tomb cells (Some k) None None = refl
 row_read marker tomb cells (Some k) None (Some s) = refl
@@ -202,7 +215,7 @@ statics_read cells (Some k) (Some s) = statics_last k (cells s)
 range_read : (key : Option (List ℕ)) (from to : Option Bound) (tomb : Option Tomb) →
     option_and_then (λ k. option_and_then (λ f. option_and_then (λ t. option_and_then (λ dead. Some (range_written k f t dead)) tomb) (option_map limit to)) (option_map limit from)) key
     ≡ option_map shape_saying (option_and_then (λ k. option_map (λ change. Written k change)
-      (option_and_then (λ f. option_and_then (λ t. option_map (λ dead. OfRange f t dead) tomb) to) from)) key)
+    (option_and_then (λ f. option_and_then (λ t. option_map (λ dead. OfRange f t dead) tomb) to) from)) key)
 range_read None from to tomb = refl
 range_read (Some k) None to tomb = refl
 range_read (Some k) (Some f) None tomb = refl
@@ -277,7 +290,7 @@ unset_alike (key ∷ ck ∷ stamp ∷ []) =
     (no_shape (plain_of (codes "unset") (key ∷ ck ∷ stamp ∷ [])) key (change_of (codes "unset") (ck ∷ stamp ∷ [])) refl refl)
 unset_alike (key ∷ ck ∷ stamp ∷ time ∷ names) =
     by_cells key _ (removed ck stamp time names)
-    ((λ i. option_and_then (λ k. option_and_then (λ p. tomb_read (λ dead. columns 1 (cell_unset dead) (row_written k p None None) names) (stamp_of stamp) (time_of time) i) (pieces_of ck)) (key_of key))
+    ((λ i. option_and_then (λ k. option_and_then (λ p. tomb_read (λ dead. columns_to_end 1 (cell_unset dead) (row_written k p None None) names) (stamp_of stamp) (time_of time) i) (pieces_of ck)) (key_of key))
     ∙ (λ i. option_and_then (λ k. option_and_then (λ p. option_and_then (λ dead. some_columns (Gone dead) (row_written k p None None) names i) (tomb_of stamp time)) (pieces_of ck)) (key_of key))
     ∙ row_read (λ dead. None) (λ dead. None) (λ dead. some_cells_of (Gone dead) names) (key_of key) (pieces_of ck) (tomb_of stamp time))
 
@@ -336,7 +349,7 @@ delpart_alike (key ∷ stamp ∷ time ∷ more ∷ words) =
     (no_shape (plain_of (codes "delpart") (key ∷ stamp ∷ time ∷ more ∷ words)) key (change_of (codes "delpart") (stamp ∷ time ∷ more ∷ words)) refl refl)
 
 static_some : (key stamp : List ℕ) (sets : List (List ℕ)) →
-    option_and_then (λ k. option_and_then (λ ts. columns 1 (cell_set ts) (statics_written k) sets) (stamp_of stamp)) (key_of key)
+    option_and_then (λ k. option_and_then (λ ts. columns_to_end 1 (cell_set ts) (statics_written k) sets) (stamp_of stamp)) (key_of key)
     ≡ option_map shape_saying (option_and_then (λ k. option_map (λ change. Written k change) (static_set stamp sets)) (key_of key))
 unfolding static_set
 static_some key stamp sets =
@@ -360,14 +373,14 @@ unstatic_alike (key ∷ stamp ∷ []) =
     neither _ _ (first_none _ (none_after _ (key_of key) (λ k. none_after _ (stamp_of stamp) (λ ts. refl)))) (no_shape (plain_of (codes "unstatic") (key ∷ stamp ∷ [])) key (change_of (codes "unstatic") (stamp ∷ [])) refl refl)
 unstatic_alike (key ∷ stamp ∷ time ∷ names) =
     by_cells key _ (static_removed stamp time names)
-    ((λ i. option_and_then (λ k. tomb_read (λ dead. columns 1 (cell_unset dead) (statics_written k) names) (stamp_of stamp) (time_of time) i) (key_of key))
+    ((λ i. option_and_then (λ k. tomb_read (λ dead. columns_to_end 1 (cell_unset dead) (statics_written k) names) (stamp_of stamp) (time_of time) i) (key_of key))
     ∙ (λ i. option_and_then (λ k. option_and_then (λ dead. some_columns (Gone dead) (statics_written k) names i) (tomb_of stamp time)) (key_of key))
     ∙ statics_read (λ dead. some_cells_of (Gone dead) names) (key_of key) (tomb_of stamp time))
 
 -- ---- openings
 
 whole_read : (id : Option ℕ) (key : Option (List ℕ)) →
-    option_or (option_and_then (λ n. option_and_then (λ k. Some (slice_opened n k no_limit no_limit)) key) id) (option_or (option_and_then (λ n. option_and_then (λ k. None) key) id) None)
+    option_or (option_and_then (λ n. option_and_then (λ k. Some (slice_opened n k ([], true) ([], true))) key) id) (option_or (option_and_then (λ n. option_and_then (λ k. None) key) id) None)
     ≡ option_map shape_saying (option_and_then (λ n. option_and_then (λ k. option_and_then (λ f. option_map (λ t. Open n k f t) (Some no_bound)) (Some no_bound)) key) id)
 whole_read None key = refl
 whole_read (Some n) None = refl
@@ -558,12 +571,37 @@ shape_none verb rest (insert, (update, (unset, (delete, (delrange, (delpart, (st
     let o : AreOthers verb verbs = (insert, (update, (unset, (delete, (delrange, (delpart, (static, (unstatic, (opening, (read, (close, (flush, (evict, (compact, (clean, (stats, end)))))))))))))))) in
     (λ i. option_or (option_map (λ command. Plain command) (plain_none verb rest o flush stats read i)) (if opening i then open_of rest else write_of verb rest)) ∙ write_none verb rest o
 
--- what words say by the first form that they have is what their shape says
-pub words_alike : (words : List (List ℕ)) → first_form forms words ≡ option_map shape_saying (shape_of words)
+first_alike : (words : List (List ℕ)) → first_form forms words ≡ option_map shape_saying (shape_of words)
 unfolding forms
-words_alike [] = refl
-words_alike (verb ∷ rest) =
-    by_verb (λ verb. (rest : List (List ℕ)) → AreAlike verb rest) verb verbs
-    (insert_alike, (update_alike, (unset_alike, (delete_alike, (delrange_alike, (delpart_alike, (static_alike, (unstatic_alike,
-      (open_alike, (read_alike, (close_alike, (flush_alike, (evict_alike, (compact_alike, (clean_alike, (stats_alike, tt))))))))))))))))
+first_alike [] = refl
+first_alike (verb ∷ rest) =
+    by_verb (λ verb. (rest : List (List ℕ)) → AreAlike verb rest) verb verbs (
+      insert_alike,
+      (
+        update_alike,
+        (
+          unset_alike,
+          (
+            delete_alike,
+            (
+              delrange_alike,
+              (
+                delpart_alike,
+                (
+                  static_alike,
+                  (
+                    unstatic_alike,
+                    (open_alike, (read_alike, (close_alike, (flush_alike, (evict_alike, (compact_alike, (clean_alike, (stats_alike, tt)))))))),
+                  ),
+                ),
+              ),
+            ),
+          ),
+        ),
+      ),
+    )
     (λ o rest. neither _ _ (no_form verb rest o) (shape_none verb rest o)) rest
+
+-- what words say by the first form that they have is what their shape says
+pub words_alike : (words : List (List ℕ)) → slice_get (filter_map (λ form. form words) forms) 0 ≡ option_map shape_saying (shape_of words)
+words_alike words = first_said forms words ∙ first_alike words
