@@ -11,7 +11,8 @@ use Rattle.rc_lines.specs.declared.commands.Refusal.{Refusal}
 use Rattle.rc_lines.specs.declared.commands.Refusal.TheVariants.{WrongKey, UnknownColumn, TooLong}
 use Rattle.rc_lines.specs.declared.shapes.Change.{Change}
 use Rattle.rc_lines.specs.declared.shapes.Shape.TheVariants.{Written}
-use Rattle.rc_lines.specs.UnderSchema.{is_partition_key, is_wrong_change, is_unknown_change, is_short_change, mutation_of, refusal_of, unless, change_meaning, meaning}
+use Rattle.rc_lines.specs.UnderSchema.{is_partition_key}
+use Rattle.rc_lines.specs.calls.ShapeMeaning.{is_wrong_change, is_unknown_change, is_short_change, mutation_of, refusal_of, unless, change_meaning, meaning}
 
 -- what is written, and the key where it is within the limits
 abbrev pub told : Result Mutation Refusal → Option (List ℕ) → Result Command Refusal

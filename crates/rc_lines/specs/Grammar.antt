@@ -1,5 +1,7 @@
 -- What a line commands.
-use Rattle.std.specs.Prelude.{ℕ, Bool, true, ◌==◌, nat_lt, List, [], ◌∷◌, length, codes, Option, Some, None, Result, Ok, Err, ⊤, ◌≡◌, if◌then◌else◌, option_and_then}
+use Rattle.std.specs.Prelude.{ℕ, Bool, true, ◌==◌, nat_lt, List, [], ◌∷◌, length, codes, Option, Result, Ok, Err, ⊤, ◌≡◌, if◌then◌else◌, option_and_then}
+use Rattle.std.specs.List.{filter_map, slice_get}
+use Rattle.std.specs.Option.{option_map_or}
 use Rattle.rc_schema.specs.SchemaValue.{SchemaValue}
 use Rattle.rc_schema.specs.SchemaText.{schema_of}
 use Rattle.rc_spelling.specs.Words.{words}
@@ -9,10 +11,9 @@ use Rattle.rc_lines.specs.declared.commands.Refusal.{Refusal}
 use Rattle.rc_lines.specs.declared.commands.Refusal.TheVariants.{BadLine, NoSchema}
 use Rattle.rc_lines.specs.declared.commands.LineErr.{LineErr}
 use Rattle.rc_lines.specs.declared.commands.LineErr.TheVariants as errors
-use Rattle.rc_lines.specs.declared.shapes.Shape.{Shape}
+use Rattle.rc_lines.specs.Forms.{forms}
 use Rattle.rc_lines.specs.Parts.{without_front}
-use Rattle.rc_lines.specs.Shapes.{shape_of}
-use Rattle.rc_lines.specs.UnderSchema.{meaning}
+use Rattle.rc_lines.specs.UnderSchema.{need}
 
 -- the longest line, in bytes, without its newline
 abbrev pub longest_line : ℕ
@@ -27,23 +28,13 @@ is_comment (first ∷ rest) = first == 35
 unfoldable pub schema_said : List ℕ → Option SchemaValue
 schema_said line = option_and_then schema_of (without_front (codes "schema ") line)
 
--- what a line of a shape, or of none, commands under a schema, or under none
-abbrev pub shape_meaning : Option SchemaValue → Option Shape → Result Command Refusal
-shape_meaning taken None = Err BadLine
-shape_meaning None (Some shape) = Err NoSchema
-shape_meaning (Some schema) (Some shape) = meaning schema shape
-
--- what a line commands that is neither too long nor a comment
-abbrev pub line_meaning : Option SchemaValue → List ℕ → Option SchemaValue → Result Command Refusal
-line_meaning taken line (Some schema) = Ok (SetSchema schema)
-line_meaning taken line None = shape_meaning taken (shape_of (words line))
-
--- what a line commands under the schema that was taken, if one was, or why it is refused
+-- what a line commands under the schema that was taken, if one was, or why it is refused: a line that is no schema line, empty or a comment is bad where its words
+-- have none of the forms, and else needs a schema, under which it says what the first of them says that they have
 unfoldable pub parse : Option SchemaValue → List ℕ → Result Command Refusal
 parse taken line =
     if nat_lt longest_line (length line) then Err BadLine
     else if is_comment line then Ok Nothing
-    else line_meaning taken line (schema_said line)
+    else option_map_or (λ schema. Ok (SetSchema schema)) (schema_said line) (need (slice_get (filter_map (λ form. form (words line)) forms) 0) BadLine (λ saying. need taken NoSchema saying))
 
 -- what reading a line gave is its meaning, unless memory ran out
 abbrev pub ReadsLine : Result Command LineErr → Result Command Refusal → Type 0

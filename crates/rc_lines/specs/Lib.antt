@@ -1,9 +1,10 @@
 pub mod Parts
-pub mod Shapes
 pub mod UnderSchema
+pub mod Forms
 pub mod Fits
 pub mod Grammar
 pub mod Texts
+pub mod calls
 pub mod laws
 pub mod Plain
 pub mod Sayable

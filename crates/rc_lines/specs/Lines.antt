@@ -1,5 +1,5 @@
 -- The line of a command under a schema, for each command that one line can say.
-use Rattle.std.specs.Prelude.{ℕ, ℤ, Bool, true, false, not, List, [], ◌∷◌, ◌++◌, map as list_map, flat_map, codes, Option, Some, None, IfSome, IsTrue}
+use Rattle.std.specs.Prelude.{ℕ, ℤ, Bool, true, false, not, List, [], ◌∷◌, ◌++◌, map as list_map, slice_index_or, flat_map, codes, Option, Some, None, IfSome, IsTrue}
 use Rattle.std.specs.Fmt.{decimal, signed_decimal}
 use Rattle.std.specs.List.{AllByRecursion}
 use Rattle.rc_cell.specs.declared.rows.Row.{Row}
@@ -28,7 +28,7 @@ use Rattle.rc_lines.specs.declared.shapes.Stamp.{Stamp}
 use Rattle.rc_lines.specs.declared.shapes.Stamp.TheVariants.{Alive}
 use Rattle.rc_lines.specs.Plain.{IsCount, HasCounts, plain_line}
 use Rattle.rc_lines.specs.Sayable.{stamped, shape_line, IsStampInRange, IsStamped}
-use Rattle.rc_lines.specs.Texts.{column_name, value_text}
+use Rattle.rc_lines.specs.Texts.{value_text}
 use Rattle.rc_lines.specs.UnderSchema.{is_partition_key}
 
 -- ---- the line
@@ -50,6 +50,10 @@ start_said x = record { pieces = pieces_said x.prefix; inclusive = is_before x.w
 -- where a range ends: exclusive before them
 abbrev pub end_said : Pos → Bound
 end_said x = record { pieces = pieces_said x.prefix; inclusive = not (is_before x.weight) }
+
+-- the name of a column by its number, nothing where the number is no column's
+abbrev pub column_name : List (List ℕ) → ℕ → List ℕ
+column_name names column = slice_index_or names column []
 
 -- each cell with the name of its column
 abbrev pub cells_said : List (List ℕ) → List (ℕ × Cell) → List (List ℕ × Cell)

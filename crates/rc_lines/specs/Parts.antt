@@ -1,17 +1,14 @@
 -- The parts of a line's words.
-use Rattle.std.specs.Prelude.{ℕ, ℤ, Bool, true, false, ◌+◌, ◌-◌, ◌==◌, nat_eq, List, [], ◌∷◌, length, take, drop, map as list_map, codes, Option, Some, None, if◌then◌else◌, option_and_then}
+use Rattle.std.specs.Prelude.{ℕ, ℤ, Bool, true, false, ◌+◌, ◌-◌, ◌==◌, List, [], ◌∷◌, length, take, drop, map as list_map, codes, Option, Some, None, if◌then◌else◌, option_and_then}
 use Rattle.std.specs.List.{position}
-use Rattle.std.specs.Option.{option_map}
+use Rattle.std.specs.Option.{option_map, option_or}
 use Rattle.rc_cell.specs.declared.writes.Cell.{Cell}
 use Rattle.rc_cell.specs.declared.writes.Cell.TheVariants.{Live, Dead}
 use Rattle.rc_cell.specs.declared.writes.Tomb.{Tomb}
 use Rattle.rc_schema.specs.SchemaValue.{is_name, are_distinct_by}
-use Rattle.rc_spelling.specs.Words.{is_word}
 use Rattle.rc_spelling.specs.Numbers.{number_of, signed_of}
 use Rattle.rc_spelling.specs.Spelling.{bytes_spelled, components_spelled}
-use Rattle.rc_lines.specs.declared.shapes.Bound.{Bound}
-use Rattle.rc_lines.specs.declared.shapes.Stamp.{Stamp}
-use Rattle.rc_lines.specs.declared.shapes.Stamp.TheVariants.{Alive, Gone}
+use Rattle.rc_spelling.specs.Words.{is_word}
 
 -- what stands behind a text with which a word begins
 unfoldable pub without_front : List ℕ → List ℕ → Option (List ℕ)
@@ -19,8 +16,7 @@ without_front text word = if is_word (take (length text) word) text then Some (d
 
 -- what stands before a text with which a word ends
 unfoldable pub without_back : List ℕ → List ℕ → Option (List ℕ)
-without_back text word =
-    if is_word (drop (length word - length text) word) text then Some (take (length word - length text) word) else None
+without_back text word = if is_word (drop (length word - length text) word) text then Some (take (length word - length text) word) else None
 
 -- a timestamp, `ts=TS`: a signed number within 64 bits
 unfoldable pub stamp_of : List ℕ → Option ℤ
@@ -30,83 +26,46 @@ stamp_of word = option_and_then signed_of (without_front (codes "ts=") word)
 unfoldable pub time_of : List ℕ → Option ℕ
 time_of word = option_and_then (number_of 4294967295) (without_front (codes "dt=") word)
 
--- a tombstone, `ts=TS dt=DT`
-unfoldable pub tomb_of : List ℕ → List ℕ → Option Tomb
-tomb_of stamp time = option_and_then (λ ts. option_map (λ dt. record { ts = ts; dt = dt }) (time_of time)) (stamp_of stamp)
-
 -- a partition key: a spelling that is not empty
 abbrev pub key_of : List ℕ → Option (List ℕ)
 key_of [] = None
 key_of (byte ∷ rest) = bytes_spelled (byte ∷ rest)
 
--- a live cell of a spelling, which may be empty
-unfoldable pub live_of : ℤ → List ℕ → Option Cell
-live_of ts value = option_map (λ bytes. Live ts bytes) (bytes_spelled value)
+-- the first five components that a word spells: no schema has as many, so five are as wrong as more are
+unfoldable pub pieces_of : List ℕ → Option (List (List ℕ))
+pieces_of word = option_map (take 5) (components_spelled word)
+
+-- a limit of keys, the components of a prefix and whether keys with that prefix are within it: `-` for none, or a prefix beside one of two marks, the inclusive or the exclusive one
+abbrev pub limit_of : List ℕ → Option (List ℕ) → Option (List ℕ) → Option (List (List ℕ) × Bool)
+limit_of word inclusive exclusive =
+    if is_word word (codes "-") then Some ([], true)
+    else option_and_then (λ (ck : List ℕ × Bool). option_map (λ pieces. (pieces, ck.1)) (pieces_of ck.0)) (option_or (option_map (λ ck. (ck, true)) inclusive) (option_map (λ ck. (ck, false)) exclusive))
+
+-- where keys begin, `from=` and `-`, `[CK` or `(CK`
+unfoldable pub from_limit : List ℕ → Option (List (List ℕ) × Bool)
+from_limit word = option_and_then (λ from. limit_of from (without_front (codes "[") from) (without_front (codes "(") from)) (without_front (codes "from=") word)
+
+-- where keys end, `to=` and `-`, `CK]` or `CK)`
+unfoldable pub to_limit : List ℕ → Option (List (List ℕ) × Bool)
+to_limit word = option_and_then (λ to. limit_of to (without_back (codes "]") to) (without_back (codes ")") to)) (without_front (codes "to=") word)
 
 -- a name in the form of a column's, with a cell
 unfoldable pub named : List ℕ → Option Cell → Option (List ℕ × Cell)
 named name cell = if is_name name then option_map (λ c. (name, c)) cell else None
 
--- what stands before and behind the first `=` of a word
-unfoldable pub split_set : List ℕ → Option (List ℕ × List ℕ)
-split_set word = option_map (λ at. (take at word, drop (at + 1) word)) (position (λ byte. byte == 61) word)
+-- `NAME=VALUE`, a live cell: the first `=` ends the name
+unfoldable pub cell_set : ℤ → List ℕ → Option (List ℕ × Cell)
+cell_set ts word = option_and_then (λ at. named (take at word) (option_map (λ value. Live ts value) (bytes_spelled (drop (at + 1) word)))) (position (λ byte. byte == 61) word)
 
--- `NAME=VALUE`: the first `=` ends the name
-unfoldable pub set_of : ℤ → List ℕ → Option (List ℕ × Cell)
-set_of ts word = option_and_then (λ parts. named parts.0 (live_of ts parts.1)) (split_set word)
+-- `NAME`, a dead cell
+abbrev pub cell_unset : Tomb → List ℕ → Option (List ℕ × Cell)
+cell_unset tomb word = named word (Some (Dead tomb.ts tomb.dt))
 
--- what a word says of a column: `NAME=VALUE` where its line has a timestamp, and NAME where it has a tombstone
-abbrev pub cell_said : Stamp → List ℕ → Option (List ℕ × Cell)
-cell_said (Alive ts) word = set_of ts word
-cell_said (Gone tomb) word = named word (Some (Dead tomb.ts tomb.dt))
-
--- what each word says of a column
-abbrev pub each_cell_of : Stamp → List (List ℕ) → Option (List (List ℕ × Cell))
-each_cell_of stamp [] = Some []
-each_cell_of stamp (word ∷ words) = option_and_then (λ cell. option_map (λ cells. cell ∷ cells) (each_cell_of stamp words)) (cell_said stamp word)
+-- what each word says, where each says something
+abbrev pub each_of : {A : Type 0} → (List ℕ → Option A) → List (List ℕ) → Option (List A)
+each_of read [] = Some []
+each_of read (word ∷ words) = option_and_then (λ item. option_map (λ items. item ∷ items) (each_of read words)) (read word)
 
 -- whether no name stands there twice
 abbrev pub are_distinct : List (List ℕ × Cell) → Bool
 are_distinct cells = are_distinct_by is_word (list_map (λ e. e.0) cells)
-
--- the columns that words speak of, none of them twice
-unfoldable pub cells_said : Stamp → List (List ℕ) → Option (List (List ℕ × Cell))
-cells_said stamp words = option_and_then (λ cells. if are_distinct cells then Some cells else None) (each_cell_of stamp words)
-
--- the same of at least one word
-abbrev pub some_cells_of : Stamp → List (List ℕ) → Option (List (List ℕ × Cell))
-some_cells_of stamp [] = None
-some_cells_of stamp (word ∷ words) = cells_said stamp (word ∷ words)
-
--- no bound: the empty prefix, inclusive
-abbrev pub no_bound : Bound
-no_bound = record { pieces = []; inclusive = true }
-
--- the first five components that a word spells: no schema has as many, so five are as wrong as more are
-unfoldable pub pieces_of : List ℕ → Option (List (List ℕ))
-pieces_of word = option_map (take 5) (components_spelled word)
-
--- a bound at a prefix of one component and more
-unfoldable pub bound_at : Bool → List ℕ → Option Bound
-bound_at inclusive ck = option_map (λ pieces. record { pieces = pieces; inclusive = inclusive }) (pieces_of ck)
-
--- a bound, inclusive by the first mark, exclusive by the second
-abbrev pub marked_bound : Option (List ℕ) → Option (List ℕ) → Option Bound
-marked_bound (Some ck) exclusive = bound_at true ck
-marked_bound None exclusive = option_and_then (bound_at false) exclusive
-
--- FROM: `-`, `[CK` or `(CK`
-unfoldable pub from_of : List ℕ → Option Bound
-from_of word = if is_word word (codes "-") then Some no_bound else marked_bound (without_front (codes "[") word) (without_front (codes "(") word)
-
--- TO: `-`, `CK]` or `CK)`
-unfoldable pub to_of : List ℕ → Option Bound
-to_of word = if is_word word (codes "-") then Some no_bound else marked_bound (without_back (codes "]") word) (without_back (codes ")") word)
-
--- where a range begins, `from=FROM`
-unfoldable pub range_start : List ℕ → Option Bound
-range_start word = option_and_then from_of (without_front (codes "from=") word)
-
--- where a range ends, `to=TO`
-unfoldable pub range_end : List ℕ → Option Bound
-range_end word = option_and_then to_of (without_front (codes "to=") word)

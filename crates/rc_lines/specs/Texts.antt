@@ -10,13 +10,9 @@ use Rattle.rc_lines.specs.declared.commands.Refusal.TheVariants.{BadLine, NoSche
 use Rattle.rc_lines.specs.declared.commands.Reply.{Reply}
 use Rattle.rc_lines.specs.declared.commands.Reply.TheVariants.{Nothing, Fine, Given, Going, Done, Stats, Refused}
 
--- the name of a column by its number, nothing where the number is no column's
-abbrev pub column_name : List (List ℕ) → ℕ → List ℕ
-column_name names column = slice_index_or names column []
-
 -- ` NAME=VALUE`
 abbrev pub value_text : List (List ℕ) → ℕ × List ℕ → List ℕ
-value_text names shown = 32 ∷ (column_name names shown.0 ++ 61 ∷ printed shown.1)
+value_text names shown = 32 ∷ (slice_index_or names shown.0 [] ++ 61 ∷ printed shown.1)
 
 -- a line that a reader is given
 abbrev pub line_text : SchemaValue → OutLine → List ℕ
@@ -27,58 +23,36 @@ line_text schema (Row key shown) = codes "row " ++ key_text key ++ flat_map (val
 abbrev pub given_text : SchemaValue → List OutLine → Bool → List ℕ
 given_text schema lines more = flat_map (line_text schema) lines ++ (if more then codes "more\n" else codes "end\n")
 
--- the text of a damaged table
-unfoldable pub damage_text : ℕ → ℕ → List ℕ
-damage_text file offset = codes "? damaged " ++ decimal file ++ codes " at " ++ decimal offset ++ codes "\n"
-
--- the text of a refusal that has no number in it
-abbrev pub fixed_text : Refusal → List ℕ
-fixed_text BadLine = codes "? bad line\n"
-fixed_text NoSchema = codes "? no schema\n"
-fixed_text SchemaDiffers = codes "? schema differs\n"
-fixed_text WrongKey = codes "? wrong key\n"
-fixed_text UnknownColumn = codes "? unknown column\n"
-fixed_text TooLong = codes "? too long\n"
-fixed_text NoReader = codes "? no reader\n"
-fixed_text ReaderInUse = codes "? reader in use\n"
-fixed_text TooManyReaders = codes "? too many readers\n"
-fixed_text FlushInProgress = codes "? flush in progress\n"
-fixed_text NothingToFlush = codes "? nothing to flush\n"
-fixed_text NoFlush = codes "? no flush\n"
-fixed_text Full = codes "? full\n"
-fixed_text ReadFault = codes "? read fault\n"
-fixed_text WriteFault = codes "? write fault\n"
-fixed_text (Damaged file offset) = []
-fixed_text NoNumber = codes "? no number\n"
-
 -- the text of a refusal
 abbrev pub refusal_text : Refusal → List ℕ
-refusal_text (Damaged file offset) = damage_text file offset
-refusal_text other = fixed_text other
+refusal_text BadLine = codes "? bad line\n"
+refusal_text NoSchema = codes "? no schema\n"
+refusal_text SchemaDiffers = codes "? schema differs\n"
+refusal_text WrongKey = codes "? wrong key\n"
+refusal_text UnknownColumn = codes "? unknown column\n"
+refusal_text TooLong = codes "? too long\n"
+refusal_text NoReader = codes "? no reader\n"
+refusal_text ReaderInUse = codes "? reader in use\n"
+refusal_text TooManyReaders = codes "? too many readers\n"
+refusal_text FlushInProgress = codes "? flush in progress\n"
+refusal_text NothingToFlush = codes "? nothing to flush\n"
+refusal_text NoFlush = codes "? no flush\n"
+refusal_text Full = codes "? full\n"
+refusal_text ReadFault = codes "? read fault\n"
+refusal_text WriteFault = codes "? write fault\n"
+refusal_text (Damaged file offset) = codes "? damaged " ++ decimal file ++ codes " at " ++ decimal offset ++ codes "\n"
+refusal_text NoNumber = codes "? no number\n"
 
 -- ` NAME=NUMBER`
-unfoldable pub figure_text : List ℕ → ℕ → List ℕ
-figure_text name value = name ++ decimal value
-
--- the figures of the memory
-unfoldable pub memory_text : Figures → List ℕ
-memory_text f = figure_text (codes " segments=") f.segments ++ figure_text (codes " free=") f.free ++ figure_text (codes " objects=") f.objects ++ figure_text (codes " live=") f.live
-
--- the figures of what is cached
-unfoldable pub cached_text : Figures → List ℕ
-cached_text f = figure_text (codes " partitions=") f.partitions ++ figure_text (codes " rows=") f.rows ++ figure_text (codes " dummies=") f.dummies
-
--- the figures of how the cache served
-unfoldable pub served_text : Figures → List ℕ
-served_text f = figure_text (codes " hits=") f.hits ++ figure_text (codes " misses=") f.misses ++ figure_text (codes " evicted=") f.evicted
-
--- the figures of what was done for it
-unfoldable pub done_text : Figures → List ℕ
-done_text f = figure_text (codes " moved=") f.moved ++ figure_text (codes " skipped=") f.skipped ++ figure_text (codes " asks=") f.asks
+abbrev pub figure_text : List ℕ × ℕ → List ℕ
+figure_text figure = 32 ∷ (figure.0 ++ 61 ∷ decimal figure.1)
 
 -- the line of the figures
 unfoldable pub figures_text : Figures → List ℕ
-figures_text f = codes "stats" ++ memory_text f ++ cached_text f ++ served_text f ++ done_text f ++ codes "\n"
+figures_text f =
+    codes "stats" ++ flat_map figure_text ((codes "segments", f.segments) ∷ (codes "free", f.free) ∷ (codes "objects", f.objects) ∷ (codes "live", f.live)
+    ∷ (codes "partitions", f.partitions) ∷ (codes "rows", f.rows) ∷ (codes "dummies", f.dummies) ∷ (codes "hits", f.hits) ∷ (codes "misses", f.misses) ∷ (codes "evicted", f.evicted)
+    ∷ (codes "moved", f.moved) ∷ (codes "skipped", f.skipped) ∷ (codes "asks", f.asks) ∷ []) ++ codes "\n"
 
 -- the text of a reply under a schema: its lines, each ended by a newline
 unfoldable pub reply_text : SchemaValue → Reply → List ℕ

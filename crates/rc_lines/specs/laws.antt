@@ -1,5 +1,9 @@
 -- Laws of lines, for crates above to cite.
 pub mod Halves
+pub mod Named
+pub mod WordForms
+pub mod ByShape
+pub mod Refusals
 pub mod Fitting
 pub mod Said
 pub mod Tests

@@ -2,7 +2,8 @@
 
 ghost use Rattle.std.specs.Prelude.{◌≡◌, IfOk};
 ghost use Rattle.std.specs.Option.{option_copied};
-ghost use Rattle.rc_lines.specs.Parts.{pieces_of, without_front, without_back, no_bound, bound_at, marked_bound, from_of, to_of, range_start, range_end};
+ghost use Rattle.rc_lines.specs.Parts.{pieces_of, without_front, without_back};
+ghost use Rattle.rc_lines.specs.calls.ShapeParts.{no_bound, bound_at, marked_bound, from_of, to_of, range_start, range_end};
 ghost use Rattle.rc_spelling.specs.Words.{is_word};
 
 use crate::parts::{before, behind, is_word};
@@ -35,7 +36,7 @@ pub(crate) fn pieces(alloc: Global, word: &[u8]) -> Result<Option<Pieces>, Alloc
 }
 
 /// The bound at the prefix that a word spells.
-#[tactic(auto, unfolding(crate::specs::Parts::bound_at))]
+#[tactic(auto, unfolding(crate::specs::calls::ShapeParts::bound_at))]
 fn bound(alloc: Global, inclusive: bool, ck: &[u8]) -> Result<Option<Bound>, AllocError>
     ensures { IfOk result (λ found. found ≡ bound_at inclusive ck.now) }
 {
@@ -63,7 +64,7 @@ fn marked(
 }
 
 /// The bound of FROM.
-#[tactic(auto, unfolding(crate::specs::Parts::from_of))]
+#[tactic(auto, unfolding(crate::specs::calls::ShapeParts::from_of))]
 fn from(alloc: Global, word: &[u8]) -> Result<Option<Bound>, AllocError>
     ensures { IfOk result (λ found. found ≡ from_of word.now) }
 {
@@ -74,7 +75,7 @@ fn from(alloc: Global, word: &[u8]) -> Result<Option<Bound>, AllocError>
 }
 
 /// The bound of TO.
-#[tactic(auto, unfolding(crate::specs::Parts::to_of))]
+#[tactic(auto, unfolding(crate::specs::calls::ShapeParts::to_of))]
 fn to(alloc: Global, word: &[u8]) -> Result<Option<Bound>, AllocError>
     ensures { IfOk result (λ found. found ≡ to_of word.now) }
 {
@@ -85,7 +86,7 @@ fn to(alloc: Global, word: &[u8]) -> Result<Option<Bound>, AllocError>
 }
 
 /// The bound of `from=FROM`.
-#[tactic(auto, unfolding(crate::specs::Parts::range_start))]
+#[tactic(auto, unfolding(crate::specs::calls::ShapeParts::range_start))]
 pub(crate) fn begins_at(alloc: Global, word: &[u8]) -> Result<Option<Bound>, AllocError>
     ensures { IfOk result (λ found. found ≡ range_start word.now) }
 {
@@ -96,7 +97,7 @@ pub(crate) fn begins_at(alloc: Global, word: &[u8]) -> Result<Option<Bound>, All
 }
 
 /// The bound of `to=TO`.
-#[tactic(auto, unfolding(crate::specs::Parts::range_end))]
+#[tactic(auto, unfolding(crate::specs::calls::ShapeParts::range_end))]
 pub(crate) fn ends_at(alloc: Global, word: &[u8]) -> Result<Option<Bound>, AllocError>
     ensures { IfOk result (λ found. found ≡ range_end word.now) }
 {

@@ -8,7 +8,8 @@ ghost use Rattle.std.specs.Option.{option_map, IfSome};
 ghost use Rattle.std.specs.Ordering.{nat_cmp};
 ghost use Rattle.rc_schema.specs.SchemaValue.{are_distinct_by};
 ghost use Rattle.rc_spelling.specs.Words.{is_word};
-ghost use Rattle.rc_lines.specs.Parts.{live_of, named, set_of, split_set, cell_said, each_cell_of, are_distinct, cells_said, some_cells_of};
+ghost use Rattle.rc_lines.specs.calls.ShapeParts.{live_of, set_of, split_set, cell_said, each_cell_of, named_cells, some_cells_of};
+ghost use Rattle.rc_lines.specs.Parts.{named, are_distinct};
 
 use crate::parts::is_name;
 use crate::shapes::{Named, Stamp};
@@ -19,7 +20,7 @@ use std::alloc::{AllocError, Global};
 use std::collections::BTreeSet;
 
 /// The live cell of a spelling.
-#[tactic(auto, unfolding(crate::specs::Parts::live_of))]
+#[tactic(auto, unfolding(crate::specs::calls::ShapeParts::live_of))]
 fn live(alloc: Global, ts: i64, value: &[u8]) -> Result<Option<Cell>, AllocError>
     ensures { IfOk result (λ found. found ≡ live_of ts value.now) }
 {
@@ -54,7 +55,7 @@ fn place_of_equals(word: &[u8]) -> Option<usize>
 }
 
 /// What stands before and behind the first `=` of a word.
-#[tactic(auto, unfolding(crate::specs::Parts::split_set))]
+#[tactic(auto, unfolding(crate::specs::calls::ShapeParts::split_set))]
 fn split_set(word: &[u8]) -> Option<(&[u8], &[u8])>
     ensures { option_map (λ parts. (parts.0.now, parts.1.now)) result ≡ split_set word.now }
 {
@@ -65,7 +66,7 @@ fn split_set(word: &[u8]) -> Option<(&[u8], &[u8])>
 }
 
 /// The name and the live cell of `NAME=VALUE`.
-#[tactic(auto, unfolding(crate::specs::Parts::set_of))]
+#[tactic(auto, unfolding(crate::specs::calls::ShapeParts::set_of))]
 fn set(alloc: Global, ts: i64, word: &[u8]) -> Result<Option<(Text, Cell)>, AllocError>
     ensures { IfOk result (λ found. found ≡ set_of ts word.now) }
 {
@@ -152,13 +153,13 @@ fn are_distinct(alloc: Global, cells: &[(Text, Cell)]) -> Result<bool, AllocErro
 }
 
 /// The columns that words speak of, where none is named twice.
-#[tactic(auto, unfolding(crate::specs::Parts::cells_said))]
+#[tactic(auto, unfolding(crate::specs::calls::ShapeParts::named_cells))]
 pub(crate) fn cells(
     alloc: Global,
     stamp: Stamp,
     words: &[&[u8]],
 ) -> Result<Option<Named>, AllocError>
-    ensures { IfOk result (λ found. found ≡ cells_said stamp (map (λ word. word.now) words.now)) }
+    ensures { IfOk result (λ found. found ≡ named_cells stamp (map (λ word. word.now) words.now)) }
 {
     let Some(items) = each_cell(alloc, stamp, words)? else {
         return Ok(None);

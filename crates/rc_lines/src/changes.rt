@@ -1,7 +1,7 @@
 //! What a line writes, by its words.
 
 ghost use Rattle.std.specs.Prelude.{◌≡◌, IfOk, map};
-ghost use Rattle.rc_lines.specs.Shapes.{row_change, inserted, update_change, removed, deleted, range_deleted, partition_deleted, static_set, static_removed, insert_of, update_of, unset_of, delete_of, delrange_of, delpart_of, static_change, unstatic_of, cell_change_of, deletion_of, change_of};
+ghost use Rattle.rc_lines.specs.calls.Shapes.{row_change, inserted, update_change, removed, deleted, range_deleted, partition_deleted, static_set, static_removed, insert_of, update_of, unset_of, delete_of, delrange_of, delpart_of, static_change, unstatic_of, cell_change_of, deletion_of, change_of};
 
 use crate::bounds::{begins_at, ends_at, pieces};
 use crate::cells::{cells, some_cells};
@@ -11,7 +11,7 @@ use rc_cell::Tomb;
 use std::alloc::{AllocError, Global};
 
 /// What is written to the row of CK.
-#[tactic(auto, unfolding(crate::specs::Shapes::row_change))]
+#[tactic(auto, unfolding(crate::specs::calls::Shapes::row_change))]
 fn row(
     alloc: Global,
     ck: &[u8],
@@ -36,7 +36,7 @@ fn row(
 }
 
 /// A marker and live cells.
-#[tactic(auto, unfolding(crate::specs::Shapes::inserted))]
+#[tactic(auto, unfolding(crate::specs::calls::Shapes::inserted))]
 fn inserted(
     alloc: Global,
     ck: &[u8],
@@ -53,7 +53,7 @@ fn inserted(
 }
 
 /// Live cells.
-#[tactic(auto, unfolding(crate::specs::Shapes::update_change))]
+#[tactic(auto, unfolding(crate::specs::calls::Shapes::update_change))]
 fn updated(
     alloc: Global,
     ck: &[u8],
@@ -70,7 +70,7 @@ fn updated(
 }
 
 /// Dead cells.
-#[tactic(auto, unfolding(crate::specs::Shapes::removed))]
+#[tactic(auto, unfolding(crate::specs::calls::Shapes::removed))]
 fn removed(
     alloc: Global,
     ck: &[u8],
@@ -88,7 +88,7 @@ fn removed(
 }
 
 /// A row tombstone.
-#[tactic(auto, unfolding(crate::specs::Shapes::deleted))]
+#[tactic(auto, unfolding(crate::specs::calls::Shapes::deleted))]
 fn deleted(
     alloc: Global,
     ck: &[u8],
@@ -104,7 +104,7 @@ fn deleted(
 }
 
 /// A range tombstone.
-#[tactic(auto, unfolding(crate::specs::Shapes::range_deleted))]
+#[tactic(auto, unfolding(crate::specs::calls::Shapes::range_deleted))]
 fn range_deleted(
     alloc: Global,
     from: &[u8],
@@ -127,7 +127,7 @@ fn range_deleted(
 }
 
 /// A partition tombstone.
-#[tactic(auto, unfolding(crate::specs::Shapes::partition_deleted))]
+#[tactic(auto, unfolding(crate::specs::calls::Shapes::partition_deleted))]
 fn partition_deleted(when: &[u8], since: &[u8]) -> Option<Change>
     ensures { result ≡ partition_deleted when.now since.now }
 {
@@ -136,7 +136,7 @@ fn partition_deleted(when: &[u8], since: &[u8]) -> Option<Change>
 }
 
 /// Live static cells.
-#[tactic(auto, unfolding(crate::specs::Shapes::static_set))]
+#[tactic(auto, unfolding(crate::specs::calls::Shapes::static_set))]
 fn static_set(alloc: Global, when: &[u8], sets: &[&[u8]]) -> Result<Option<Change>, AllocError>
     ensures { IfOk result (λ found. found ≡ static_set when.now (map (λ word. word.now) sets.now)) }
 {
@@ -150,7 +150,7 @@ fn static_set(alloc: Global, when: &[u8], sets: &[&[u8]]) -> Result<Option<Chang
 }
 
 /// Dead static cells.
-#[tactic(auto, unfolding(crate::specs::Shapes::static_removed))]
+#[tactic(auto, unfolding(crate::specs::calls::Shapes::static_removed))]
 fn static_removed(
     alloc: Global,
     when: &[u8],
@@ -263,7 +263,7 @@ fn unset_static(alloc: Global, words: &[&[u8]]) -> Result<Option<Change>, AllocE
 }
 
 /// What a line writes by cells, by its first word and those behind KEY.
-#[tactic(auto, unfolding(crate::specs::Shapes::cell_change_of))]
+#[tactic(auto, unfolding(crate::specs::calls::Shapes::cell_change_of))]
 fn cell_change(alloc: Global, verb: &[u8], words: &[&[u8]]) -> Result<Option<Change>, AllocError>
     ensures { IfOk result (λ found. found ≡ cell_change_of verb.now (map (λ word. word.now) words.now)) }
 {
@@ -286,7 +286,7 @@ fn cell_change(alloc: Global, verb: &[u8], words: &[&[u8]]) -> Result<Option<Cha
 }
 
 /// What a line writes by a tombstone, by its first word and those behind KEY.
-#[tactic(auto, unfolding(crate::specs::Shapes::deletion_of))]
+#[tactic(auto, unfolding(crate::specs::calls::Shapes::deletion_of))]
 fn deletion(alloc: Global, verb: &[u8], words: &[&[u8]]) -> Result<Option<Change>, AllocError>
     ensures { IfOk result (λ found. found ≡ deletion_of verb.now (map (λ word. word.now) words.now)) }
 {

@@ -4,7 +4,7 @@ ghost use Rattle.std.specs.Prelude.{◌≡◌, ◌≤◌, IfOk, IsTrue, length, 
 ghost use Rattle.std.specs.List.{list_all};
 ghost use Rattle.std.specs.Option.{option_copied, is_some};
 ghost use Rattle.rc_schema.specs.Checks.{column_of, column_count};
-ghost use Rattle.rc_lines.specs.UnderSchema.{cell_named, by_column, are_columns, columns_said};
+ghost use Rattle.rc_lines.specs.calls.ShapeMeaning.{cell_named, by_column, columns_said, are_columns};
 
 use crate::parts::is_word;
 use rc_cell::{Cell, Cells};

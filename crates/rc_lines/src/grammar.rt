@@ -1,7 +1,7 @@
 //! What a line says before a schema is known, by its words.
 
 ghost use Rattle.std.specs.Prelude.{◌≡◌, IfOk, map};
-ghost use Rattle.rc_lines.specs.Shapes.{bare_of, begin_of, told_of, numbered_of, read_of, step_of, counted_of, plain_of, open_shape, open_of, write_of, shape_of};
+ghost use Rattle.rc_lines.specs.calls.Shapes.{bare_of, begin_of, told_of, numbered_of, read_of, step_of, counted_of, plain_of, open_shape, open_of, write_of, shape_of};
 
 use crate::bounds::{begins_at, ends_at, no_bound};
 use crate::changes::change;
@@ -12,7 +12,7 @@ use rc_spelling::count;
 use std::alloc::{AllocError, Global};
 
 /// The command of one word.
-#[tactic(auto, unfolding(crate::specs::Shapes::bare_of))]
+#[tactic(auto, unfolding(crate::specs::calls::Shapes::bare_of))]
 fn bare(verb: &[u8]) -> Option<Command>
     ensures { result ≡ bare_of verb.now }
 {
@@ -26,7 +26,7 @@ fn bare(verb: &[u8]) -> Option<Command>
 }
 
 /// The command of a word and a number.
-#[tactic(auto, unfolding(crate::specs::Shapes::told_of))]
+#[tactic(auto, unfolding(crate::specs::calls::Shapes::told_of))]
 fn told(verb: &[u8], count: u32) -> Option<Command>
     ensures { result ≡ told_of verb.now count }
 {
@@ -57,7 +57,7 @@ fn begin(word: &[u8]) -> Option<Command>
 }
 
 /// The command of two words.
-#[tactic(auto, unfolding(crate::specs::Shapes::numbered_of))]
+#[tactic(auto, unfolding(crate::specs::calls::Shapes::numbered_of))]
 fn numbered(verb: &[u8], word: &[u8]) -> Option<Command>
     ensures { result ≡ numbered_of verb.now word.now }
 {
@@ -68,7 +68,7 @@ fn numbered(verb: &[u8], word: &[u8]) -> Option<Command>
 }
 
 /// `read ID COUNT`.
-#[tactic(auto, unfolding(crate::specs::Shapes::read_of))]
+#[tactic(auto, unfolding(crate::specs::calls::Shapes::read_of))]
 fn read(id: &[u8], lines: &[u8]) -> Option<Command>
     ensures { result ≡ read_of id.now lines.now }
 {
@@ -78,7 +78,7 @@ fn read(id: &[u8], lines: &[u8]) -> Option<Command>
 }
 
 /// `flush step COUNT`, by the words behind the first.
-#[tactic(auto, unfolding(crate::specs::Shapes::step_of))]
+#[tactic(auto, unfolding(crate::specs::calls::Shapes::step_of))]
 fn step(word: &[u8], units: &[u8]) -> Option<Command>
     ensures { result ≡ step_of word.now units.now }
 {
@@ -90,7 +90,7 @@ fn step(word: &[u8], units: &[u8]) -> Option<Command>
 }
 
 /// The command of three words.
-#[tactic(auto, unfolding(crate::specs::Shapes::counted_of))]
+#[tactic(auto, unfolding(crate::specs::calls::Shapes::counted_of))]
 fn counted(verb: &[u8], one: &[u8], other: &[u8]) -> Option<Command>
     ensures { result ≡ counted_of verb.now one.now other.now }
 {
@@ -116,7 +116,7 @@ fn plain(verb: &[u8], words: &[&[u8]]) -> Option<Command>
 }
 
 /// `open ID KEY` between two bounds.
-#[tactic(auto, unfolding(crate::specs::Shapes::open_shape))]
+#[tactic(auto, unfolding(crate::specs::calls::Shapes::open_shape))]
 fn opened(
     alloc: Global,
     id: &[u8],

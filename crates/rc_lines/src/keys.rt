@@ -4,7 +4,8 @@ ghost use Rattle.std.specs.Prelude.{◌≡◌, IfOk, IsTrue, false, length, map,
 ghost use Rattle.std.specs.Option.{option_map, IfSome};
 ghost use Rattle.rc_position.specs.Position.{IsBefore};
 ghost use Rattle.rc_schema.specs.Checks.{are_of_kinds, fits_kinds};
-ghost use Rattle.rc_lines.specs.UnderSchema.{component_of, prefix_of, key_under, slice_between, slice_under};
+ghost use Rattle.rc_lines.specs.UnderSchema.{component_of, prefix_of, key_under, slice_between};
+ghost use Rattle.rc_lines.specs.calls.ShapeMeaning.{slice_under};
 
 use crate::shapes::{Bound, Pieces};
 use rc_position::{Comp, Key, Pos, Slice, Text, end_pos, start_pos};
@@ -94,7 +95,7 @@ fn between(from: Pos, to: Pos) -> Option<Slice>
 }
 
 /// The positions between two bounds.
-#[tactic(auto, using(crate::specs::laws::Fitting::start_fits, crate::specs::laws::Fitting::end_fits), unfolding(crate::specs::UnderSchema::slice_under))]
+#[tactic(auto, using(crate::specs::laws::Fitting::start_fits, crate::specs::laws::Fitting::end_fits), unfolding(crate::specs::calls::ShapeMeaning::slice_under))]
 pub(crate) fn slice(
     alloc: Global,
     from: &Bound,

@@ -17,17 +17,23 @@ ghost use Rattle.rc_lines.specs.declared.commands.Command.{Command};
 ghost use Rattle.rc_lines.specs.declared.commands.Command.TheVariants.{Put};
 ghost use Rattle.rc_lines.specs.declared.shapes.Shape.{Shape};
 ghost use Rattle.rc_lines.specs.Fits.{CommandFits};
-ghost use Rattle.rc_lines.specs.Grammar.{longest_line, parse, shape_meaning};
+ghost use Rattle.rc_lines.specs.Grammar.{longest_line, parse};
+ghost use Rattle.rc_lines.specs.calls.ByShape.{parse_by_shape, shape_meaning};
 ghost use Rattle.rc_lines.specs.Lines.{AreComponents, AreValues, IsPartitionKey, IsSayableCommand, command_line, dead_row, delete_text, delpart_text, insert_text, live_row};
 ghost use Rattle.rc_lines.specs.Plain.{HasCounts, plain_line};
 ghost use Rattle.rc_lines.specs.Sayable.{IsSayable, shape_line};
-ghost use Rattle.rc_lines.specs.Shapes.{shape_of};
+ghost use Rattle.rc_lines.specs.calls.Shapes.{shape_of};
 
 use crate::reading::LONGEST_LINE;
 
 /// The constant is the grammar's number.
 pub fn longest_line_is_named()
     ensures { LONGEST_LINE ≡ longest_line }
+{}
+
+/// A line means by the form of its words what it means by their shape, by which it is read.
+pub fn lines_are_read_by_shape()
+    ensures { (taken : Option SchemaValue) (line : List ℕ) → parse taken line ≡ parse_by_shape taken line }
 {}
 
 /// The first 65,537 bytes of a line mean what the whole line means, so no more of a line need be kept.

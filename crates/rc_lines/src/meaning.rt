@@ -6,7 +6,8 @@ ghost use Rattle.rc_position.specs.Position.{IsBefore};
 ghost use Rattle.rc_schema.specs.Checks.{column_count, fits_kinds};
 ghost use Rattle.rc_lines.specs.declared.shapes.Change.TheVariants.{OfRow, OfStatic, OfRange, OfPartition};
 ghost use Rattle.rc_lines.specs.declared.shapes.Shape.TheVariants.{Open, Written};
-ghost use Rattle.rc_lines.specs.UnderSchema.{is_partition_key, are_short, have_short_values, is_short_slice, rows_said, change_meaning, meaning};
+ghost use Rattle.rc_lines.specs.UnderSchema.{is_partition_key};
+ghost use Rattle.rc_lines.specs.calls.ShapeMeaning.{are_short, have_short_values, is_short_slice, rows_said, change_meaning, meaning};
 
 use crate::columns::{are_columns, cells_by_column};
 use crate::commands::{Command, Refusal};
@@ -68,7 +69,7 @@ fn rows(alloc: Global, key: Key, row: Row) -> Result<Rows, AllocError>
 }
 
 /// What is written to a row.
-#[tactic(auto, unfolding(crate::specs::UnderSchema::change_meaning))]
+#[tactic(auto, unfolding(crate::specs::calls::ShapeMeaning::change_meaning))]
 fn row_change(
     alloc: Global,
     schema: &Schema,
@@ -100,7 +101,7 @@ fn row_change(
 }
 
 /// What is written to the static row.
-#[tactic(auto, unfolding(crate::specs::UnderSchema::change_meaning))]
+#[tactic(auto, unfolding(crate::specs::calls::ShapeMeaning::change_meaning))]
 fn static_change(
     alloc: Global,
     schema: &Schema,
@@ -122,7 +123,7 @@ fn static_change(
 }
 
 /// What is written to a range.
-#[tactic(auto, unfolding(crate::specs::UnderSchema::change_meaning))]
+#[tactic(auto, unfolding(crate::specs::calls::ShapeMeaning::change_meaning))]
 fn range_change(
     alloc: Global,
     schema: &Schema,
@@ -159,7 +160,7 @@ fn ranges(alloc: Global, slice: Slice, tomb: Tomb) -> Result<Ranges, AllocError>
 }
 
 /// What is written to the whole partition.
-#[tactic(auto, unfolding(crate::specs::UnderSchema::change_meaning))]
+#[tactic(auto, unfolding(crate::specs::calls::ShapeMeaning::change_meaning))]
 fn partition_change(alloc: Global, schema: &Schema, tomb: Tomb) -> Result<Mutation, Refusal>
     ensures { result ≡ change_meaning schema.now (OfPartition tomb) }
 {
@@ -210,7 +211,7 @@ fn put(
 }
 
 /// A reader of a range of a key.
-#[tactic(auto, unfolding(crate::specs::UnderSchema::meaning, crate::specs::UnderSchema::refusal_of))]
+#[tactic(auto, unfolding(crate::specs::calls::ShapeMeaning::meaning, crate::specs::calls::ShapeMeaning::refusal_of))]
 fn open(
     alloc: Global,
     schema: &Schema,
@@ -234,7 +235,7 @@ fn open(
 }
 
 /// What a line means.
-#[tactic(auto, unfolding(crate::specs::UnderSchema::meaning, crate::specs::UnderSchema::refusal_of))]
+#[tactic(auto, unfolding(crate::specs::calls::ShapeMeaning::meaning, crate::specs::calls::ShapeMeaning::refusal_of))]
 pub(crate) fn meaning(
     alloc: Global,
     schema: &Schema,

@@ -4,7 +4,8 @@ ghost use Rattle.std.specs.Prelude.{◌≡◌, IfOk};
 ghost use Rattle.std.specs.List.{list_all};
 ghost use Rattle.std.specs.Option.{option_copied};
 ghost use Rattle.rc_schema.specs.SchemaValue.{is_name, is_name_byte};
-ghost use Rattle.rc_lines.specs.Parts.{without_front, without_back, stamp_of, time_of, tomb_of, key_of};
+ghost use Rattle.rc_lines.specs.Parts.{without_front, without_back, stamp_of, time_of, key_of};
+ghost use Rattle.rc_lines.specs.calls.ShapeParts.{tomb_of};
 ghost use Rattle.rc_spelling.specs.Words.{is_word};
 
 use rc_cell::Tomb;
@@ -79,7 +80,7 @@ fn time(word: &[u8]) -> Option<u32>
 }
 
 /// The tombstone of `ts=TS dt=DT`.
-#[tactic(auto, unfolding(crate::specs::Parts::tomb_of))]
+#[tactic(auto, unfolding(crate::specs::calls::ShapeParts::tomb_of))]
 pub(crate) fn tomb(when: &[u8], since: &[u8]) -> Option<Tomb>
     ensures { result ≡ tomb_of when.now since.now }
 {

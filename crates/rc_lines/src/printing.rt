@@ -2,7 +2,10 @@
 
 ghost use Rattle.std.specs.Prelude.{◌≡◌, ◌++◌, ◌∷◌, decimal, flat_map, OnOk, OnErr};
 ghost use Rattle.rc_spelling.specs.Printed.{printed};
-ghost use Rattle.rc_lines.specs.Texts.{column_name, value_text, line_text, given_text, damage_text, fixed_text, refusal_text, figure_text, memory_text, cached_text, served_text, done_text, figures_text, reply_text};
+ghost use Rattle.rc_lines.specs.Lines.{column_name};
+ghost use Rattle.rc_lines.specs.Texts.{value_text, line_text, given_text, refusal_text, figures_text, reply_text};
+ghost use Rattle.rc_lines.specs.calls.TextParts.{fixed_text, named_figure, memory_text, cached_text, served_text, done_text, figure_parts};
+ghost use Rattle.rc_lines.specs.declared.commands.Refusal.TheVariants.{Damaged};
 
 use crate::commands::{Figures, Refusal, Reply};
 use itoa::Buffer;
@@ -97,9 +100,8 @@ fn print_number(number: u64, text: &mut Vec<u8>) -> Result<(), AllocError>
 }
 
 /// Appends the text of a damaged table.
-#[tactic(auto, unfolding(crate::specs::Texts::damage_text))]
 fn print_damage(file: u32, offset: u64, text: &mut Vec<u8>) -> Result<(), AllocError>
-    ensures { OnOk result (text.new.items ≡ text.old.items ++ damage_text file offset) }
+    ensures { OnOk result (text.new.items ≡ text.old.items ++ refusal_text (Damaged file offset)) }
 {
     text.extend_from_slice(b"? damaged ")?;
     print_number(u64::from(file), text)?;
@@ -144,16 +146,16 @@ fn print_refused(refusal: Refusal, text: &mut Vec<u8>) -> Result<(), AllocError>
 }
 
 /// Appends ` NAME=NUMBER`.
-#[tactic(auto, unfolding(crate::specs::Texts::figure_text))]
+#[tactic(auto, unfolding(crate::specs::calls::TextParts::named_figure))]
 fn print_figure(name: &[u8], value: u64, text: &mut Vec<u8>) -> Result<(), AllocError>
-    ensures { OnOk result (text.new.items ≡ text.old.items ++ figure_text name.now value) }
+    ensures { OnOk result (text.new.items ≡ text.old.items ++ named_figure name.now value) }
 {
     text.extend_from_slice(name)?;
     print_number(value, text)
 }
 
 /// Appends the figures of the memory.
-#[tactic(auto, unfolding(crate::specs::Texts::memory_text))]
+#[tactic(auto, unfolding(crate::specs::calls::TextParts::memory_text))]
 fn print_memory(figures: &Figures, text: &mut Vec<u8>) -> Result<(), AllocError>
     ensures { OnOk result (text.new.items ≡ text.old.items ++ memory_text figures.now) }
 {
@@ -164,7 +166,7 @@ fn print_memory(figures: &Figures, text: &mut Vec<u8>) -> Result<(), AllocError>
 }
 
 /// Appends the figures of what is cached.
-#[tactic(auto, unfolding(crate::specs::Texts::cached_text))]
+#[tactic(auto, unfolding(crate::specs::calls::TextParts::cached_text))]
 fn print_cached(figures: &Figures, text: &mut Vec<u8>) -> Result<(), AllocError>
     ensures { OnOk result (text.new.items ≡ text.old.items ++ cached_text figures.now) }
 {
@@ -175,7 +177,7 @@ fn print_cached(figures: &Figures, text: &mut Vec<u8>) -> Result<(), AllocError>
 }
 
 /// Appends the figures of how the cache served.
-#[tactic(auto, unfolding(crate::specs::Texts::served_text))]
+#[tactic(auto, unfolding(crate::specs::calls::TextParts::served_text))]
 fn print_served(figures: &Figures, text: &mut Vec<u8>) -> Result<(), AllocError>
     ensures { OnOk result (text.new.items ≡ text.old.items ++ served_text figures.now) }
 {
@@ -185,7 +187,7 @@ fn print_served(figures: &Figures, text: &mut Vec<u8>) -> Result<(), AllocError>
 }
 
 /// Appends the figures of what was done for it.
-#[tactic(auto, unfolding(crate::specs::Texts::done_text))]
+#[tactic(auto, unfolding(crate::specs::calls::TextParts::done_text))]
 fn print_done(figures: &Figures, text: &mut Vec<u8>) -> Result<(), AllocError>
     ensures { OnOk result (text.new.items ≡ text.old.items ++ done_text figures.now) }
 {
@@ -194,10 +196,10 @@ fn print_done(figures: &Figures, text: &mut Vec<u8>) -> Result<(), AllocError>
     print_figure(b" asks=", figures.asks, text)
 }
 
-/// Appends the line of the figures.
-#[tactic(auto, unfolding(crate::specs::Texts::figures_text))]
-fn print_figures(figures: &Figures, text: &mut Vec<u8>) -> Result<(), AllocError>
-    ensures { OnOk result (text.new.items ≡ text.old.items ++ figures_text figures.now) }
+/// Appends the line of the figures, part by part.
+#[tactic(auto, unfolding(crate::specs::calls::TextParts::figure_parts))]
+fn print_parts(figures: &Figures, text: &mut Vec<u8>) -> Result<(), AllocError>
+    ensures { OnOk result (text.new.items ≡ text.old.items ++ figure_parts figures.now) }
 {
     text.extend_from_slice(b"stats")?;
     print_memory(figures, text)?;
@@ -205,6 +207,13 @@ fn print_figures(figures: &Figures, text: &mut Vec<u8>) -> Result<(), AllocError
     print_served(figures, text)?;
     print_done(figures, text)?;
     text.extend_from_slice(b"\n")
+}
+
+/// Appends the line of the figures.
+fn print_figures(figures: &Figures, text: &mut Vec<u8>) -> Result<(), AllocError>
+    ensures { OnOk result (text.new.items ≡ text.old.items ++ figures_text figures.now) }
+{
+    print_parts(figures, text)
 }
 
 /// Appends the text of a reply, or a part of it.

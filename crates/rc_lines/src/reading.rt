@@ -2,8 +2,9 @@
 
 ghost use Rattle.std.specs.Prelude.{◌≡◌, IfOk};
 ghost use Rattle.std.specs.Option.{option_copied};
-ghost use Rattle.rc_lines.specs.Grammar.{is_comment, schema_said, shape_meaning, line_meaning, parse, ReadsLine};
-ghost use Rattle.rc_lines.specs.Shapes.{shape_of};
+ghost use Rattle.rc_lines.specs.Grammar.{is_comment, schema_said, parse, ReadsLine};
+ghost use Rattle.rc_lines.specs.calls.ByShape.{shape_meaning, line_meaning, parse_by_shape};
+ghost use Rattle.rc_lines.specs.calls.Shapes.{shape_of};
 ghost use Rattle.rc_spelling.specs.Words.{words};
 
 use crate::commands::{Command, LineErr, Refusal};
@@ -83,13 +84,10 @@ fn said(
     shape_meaning(alloc, taken, shape)
 }
 
-/// What a line without its newline commands, under the schema that a schema line before it gave, or under none. The line is
-/// refused as a bad line exactly where it is not in the grammar or has more than 65,536 bytes; else, where no schema was
-/// taken, as wanting one; else, tried over the whole line in this order, for a wrong key, an unknown column, or a length past
-/// its limit. A schema line, an empty line and a comment need no schema. The only other error is want of memory.
-#[tactic(auto, unfolding(crate::specs::Grammar::parse))]
-pub fn read_line(alloc: Global, schema: Option<&Schema>, line: &[u8]) -> Result<Command, LineErr>
-    ensures { ReadsLine result (parse (option_copied schema.entry) line.now) }
+/// What a line commands, by the shape of its words.
+#[tactic(auto, unfolding(crate::specs::calls::ByShape::parse_by_shape))]
+fn read_by_shape(alloc: Global, schema: Option<&Schema>, line: &[u8]) -> Result<Command, LineErr>
+    ensures { ReadsLine result (parse_by_shape (option_copied schema.entry) line.now) }
 {
     if line.len() > LONGEST_LINE {
         return Err(LineErr::Refused(Refusal::BadLine));
@@ -102,4 +100,14 @@ pub fn read_line(alloc: Global, schema: Option<&Schema>, line: &[u8]) -> Result<
         Ok(Err(refusal)) => Err(LineErr::Refused(refusal)),
         Err(_) => Err(LineErr::NoMemory),
     }
+}
+
+/// What a line without its newline commands, under the schema that a schema line before it gave, or under none. The line is
+/// refused as a bad line exactly where it is not in the grammar or has more than 65,536 bytes; else, where no schema was
+/// taken, as wanting one; else, tried over the whole line in this order, for a wrong key, an unknown column, or a length past
+/// its limit. A schema line, an empty line and a comment need no schema. The only other error is want of memory.
+pub fn read_line(alloc: Global, schema: Option<&Schema>, line: &[u8]) -> Result<Command, LineErr>
+    ensures { ReadsLine result (parse (option_copied schema.entry) line.now) }
+{
+    read_by_shape(alloc, schema, line)
 }

@@ -13,9 +13,9 @@ use Rattle.rc_lines.specs.declared.commands.Command.TheVariants.{Nothing, SetSch
 use Rattle.rc_lines.specs.declared.commands.Refusal.{Refusal}
 use Rattle.rc_lines.specs.declared.commands.Refusal.TheVariants.{BadLine, NoSchema, SchemaDiffers, WrongKey, UnknownColumn, TooLong, NoReader, ReaderInUse, TooManyReaders, FlushInProgress, NothingToFlush, NoFlush, Full, ReadFault, WriteFault, Damaged, NoNumber}
 use Rattle.rc_lines.specs.declared.commands.Reply.{Reply}
-use Rattle.rc_lines.specs.Grammar.{longest_line, is_comment, schema_said, shape_meaning, line_meaning, parse}
-use Rattle.rc_lines.specs.Shapes.{shape_of}
-use Rattle.rc_lines.specs.Texts.{reply_text, refusal_text, damage_text}
+use Rattle.rc_lines.specs.Grammar.{parse}
+use Rattle.rc_lines.specs.laws.Refusals.{schema_line}
+use Rattle.rc_lines.specs.Texts.{reply_text, refusal_text}
 use Rattle.rc_tfile.specs.TableText.{IsTable}
 use Rattle.rc_machine.specs.State.{State, Table, numbers, opened_state}
 use Rattle.rc_machine.specs.Steps.{Steps}
@@ -48,7 +48,6 @@ AtStage files (Serving m) all = Serves files m all
 
 -- a refusal does not say that a write was accepted
 not_ok : (refusal : Refusal) → is_word (refusal_text refusal) (codes "ok\n") ≡ false
-unfolding damage_text
 not_ok BadLine = refl
 not_ok NoSchema = refl
 not_ok SchemaDiffers = refl
@@ -84,20 +83,8 @@ unaccepted (Ok (Clean count)) text other = refl
 unaccepted (Ok Stats) text other = refl
 
 -- a schema line accepts no write under any schema
-no_write_said : (line : List ℕ) (found : Option SchemaValue) (schema z : SchemaValue) (text : List ℕ) → line_meaning None line found ≡ Ok (SetSchema schema) → write_accepted (line_meaning (Some z) line found) text ≡ []
-no_write_said line (Some other) schema z text e = refl
-no_write_said line None schema z text e = absurd (elim (shape_of (words line)) as (λ shape. shape_meaning None shape ≡ Ok (SetSchema schema) → ⊥) [ None ↦ λ n. cc | Some shape ↦ λ n. cc ] e)
-
-no_write_meant : (long comment : Bool) (early late : Result Command Refusal) (schema : SchemaValue) (text : List ℕ) → (early ≡ Ok (SetSchema schema) → write_accepted late text ≡ [])
-    → (if long then Err BadLine else if comment then Ok Nothing else early) ≡ Ok (SetSchema schema) → write_accepted (if long then Err BadLine else if comment then Ok Nothing else late) text ≡ []
-no_write_meant true comment early late schema text f e = refl
-no_write_meant false true early late schema text f e = refl
-no_write_meant false false early late schema text f e = f e
-
 no_write_at_schema : (line : List ℕ) (schema z : SchemaValue) (text : List ℕ) → parse None line ≡ Ok (SetSchema schema) → write_accepted (parse (Some z) line) text ≡ []
-unfolding parse
-no_write_at_schema line schema z text e =
-    no_write_meant (nat_lt longest_line (length line)) (is_comment line) (line_meaning None line (schema_said line)) (line_meaning (Some z) line (schema_said line)) schema text (no_write_said line (schema_said line) schema z text) e
+no_write_at_schema line schema z text e = ap (λ meaning. write_accepted meaning text) (schema_line (Some z) line schema e)
 
 -- what a step accepts is what the text says
 taken_write : (m : State) (command : Command) (reply : Reply) (new : State) → Steps m command reply new → write_accepted (Ok command) (reply_text m.schema reply) ≡ accepted_by command reply

@@ -2,7 +2,6 @@ pub mod Near
 pub mod Serving
 pub mod Ending
 pub mod Cuts
-pub mod Early
 pub mod Held
 pub mod Told
 pub mod Staged

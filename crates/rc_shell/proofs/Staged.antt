@@ -29,7 +29,7 @@ use Rattle.rc_shell.specs.declared.status.Ending.{Ending}
 use Rattle.rc_shell.specs.declared.status.Ending.TheVariants.{BadTable, StoreFault}
 use Rattle.rc_shell.specs.declared.status.Status.TheVariants as statuses
 use Rattle.rc_shell.specs.declared.words.Words.{Words}
-use Rattle.rc_shell.proofs.Early.{early}
+use Rattle.rc_lines.specs.laws.Refusals.{early}
 use Rattle.rc_shell.proofs.Served.{served_ok, served_is}
 use Rattle.rc_shell.proofs.Told.{told, plain}
 

@@ -13,7 +13,7 @@ use Rattle.rc_lines.specs.declared.commands.Refusal.TheVariants.{BadLine, NoSche
 use Rattle.rc_lines.specs.declared.commands.Reply.{Reply}
 use Rattle.rc_lines.specs.declared.commands.Reply.TheVariants.{Nothing, Fine, Given, Going, Done, Stats, Refused}
 use Rattle.rc_lines.specs.Grammar.{parse}
-use Rattle.rc_lines.specs.Texts.{reply_text, refusal_text, damage_text, figures_text}
+use Rattle.rc_lines.specs.Texts.{reply_text, refusal_text, figures_text}
 use Rattle.rc_machine.specs.State.{State, Reader, reader_of}
 use Rattle.rc_machine.specs.Steps.{Steps, Opens, Gives, Stores, Refuses, most_readers, last_number, next_number, without_sealed}
 use Rattle.rc_machine.specs.laws.Changes.{Change, Reads, Writes, Seals, Begins, Stored, Goes, Ends, change_of}
@@ -21,7 +21,7 @@ use Rattle.rc_shell.specs.Run.{Answers}
 use Rattle.rc_shell.specs.Step.{Moment, Stage, Waiting, Serving, LineStep, StageStep, EarlyStep, MachineStep, files_of, meaning_at}
 use Rattle.rc_shell.specs.Holding.{tells_damage}
 use Rattle.rc_shell.proofs.Served.{served_is}
-use Rattle.rc_shell.proofs.Told.{of_line}
+use Rattle.rc_lines.specs.laws.Refusals.{of_line}
 
 -- the reply tells no damaged table
 abbrev IsSound : Reply → Type 0
@@ -29,7 +29,7 @@ IsSound (Refused (Damaged file offset)) = ⊥
 IsSound reply = ⊤
 
 sound_text : (schema : SchemaValue) (reply : Reply) → IsSound reply → tells_damage (reply_text schema reply) ≡ false
-unfolding reply_text damage_text figures_text
+unfolding reply_text figures_text
 sound_text schema Nothing s = refl
 sound_text schema Fine s = refl
 sound_text schema (Given [] true) s = refl

@@ -20,7 +20,8 @@ use Rattle.rc_position.specs.Position.{start_bound, end_bound}
 use Rattle.rc_schema.specs.Checks.{is_of_kind, are_of_kinds, fits_kinds, column_count}
 use Rattle.rc_schema.specs.SchemaValue.{SchemaValue}
 use Rattle.rc_spelling.specs.Numbers.{signed_of}
-use Rattle.rc_lines.specs.UnderSchema.{component_of, prefix_of, cell_named, columns_said, columns_from, by_column}
+use Rattle.rc_lines.specs.UnderSchema.{component_of, prefix_of}
+use Rattle.rc_lines.specs.calls.ShapeMeaning.{cell_named, columns_said, columns_from, by_column}
 use Rattle.rc_lines.specs.laws.Halves.{join}
 
 -- a key that came of an option

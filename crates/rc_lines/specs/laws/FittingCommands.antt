@@ -1,15 +1,14 @@
 -- What a line commands under a schema fits it.
-use Rattle.std.proofs.Common.{◌≡◌, ◌<◌, ℕ, ℤ, suc, ◌+◌, Bool, true, false, cond, not, ◌&&◌, ◌||◌, ◌==◌, nat_lt, List, [], ◌∷◌, ◌++◌, length, refl, sym, subst, arith}
+use Rattle.std.proofs.Common.{◌≡◌, ℕ, Bool, true, false, not, ◌&&◌, ◌==◌, nat_lt, List, [], ◌∷◌, length, refl, sym, subst, ◌∙◌}
 use Rattle.std.specs.Prelude.{if◌then◌else◌, option_and_then, Result, Ok, Err}
 use Rattle.std.specs.declared.option.Option.{Option}
 use Rattle.std.specs.declared.option.Option.TheVariants.{Some, None}
 use Rattle.std.specs.declared.cmp.Ordering.{Ordering}
 use Rattle.std.specs.declared.cmp.Ordering.TheVariants.{Less, Equal, Greater}
-use Rattle.std.specs.List.{list_all, list_any, position, prefix_len}
-use Rattle.std.specs.Option.{option_map, option_to_list, is_some, is_none, unwrap_or}
+use Rattle.std.specs.List.{list_all}
+use Rattle.std.specs.Option.{is_none, unwrap_or}
 use Rattle.std.specs.Ordering.{is_lt}
-use Rattle.std.specs.Cmp.Lexicographic.{same_text}
-use Rattle.std.proofs.lemmas.Bool.Decides.{nat_tests, Decides-eqb}
+use Rattle.std.proofs.lemmas.Bool.Decides.{Decides-eqb}
 use Rattle.rc_cell.specs.declared.rows.Row.{Row}
 use Rattle.rc_cell.specs.declared.writes.Cell.{Cell}
 use Rattle.rc_cell.specs.declared.writes.Tomb.{Tomb}
@@ -22,9 +21,9 @@ use Rattle.rc_position.specs.Position.{pos_cmp, start_bound, end_bound, IsBefore
 use Rattle.rc_mutation.specs.Fragments.{has_any, is_written}
 use Rattle.rc_query.specs.Answer.{whole_slice}
 use Rattle.rc_schema.specs.declared.kinds.CkKind.{CkKind}
-use Rattle.rc_schema.specs.Checks.{column_of, are_of_kinds, fits_kinds, column_count, checked_prefix, checked_cells}
+use Rattle.rc_schema.specs.Checks.{are_of_kinds, fits_kinds, column_count, checked_prefix, checked_cells}
 use Rattle.rc_schema.specs.SchemaValue.{SchemaValue}
-use Rattle.rc_spelling.specs.Words.{is_word, words}
+use Rattle.rc_spelling.specs.Words.{words}
 use Rattle.rc_lines.specs.declared.commands.Command.{Command}
 use Rattle.rc_lines.specs.declared.commands.Command.TheVariants.{Nothing, SetSchema}
 use Rattle.rc_lines.specs.declared.commands.Refusal.{Refusal}
@@ -37,12 +36,16 @@ use Rattle.rc_lines.specs.declared.shapes.Shape.TheVariants.{Plain, Open, Writte
 use Rattle.rc_writes.specs.Single.{is_single}
 use Rattle.rc_lines.specs.Fits.{CommandFits}
 use Rattle.rc_lines.specs.laws.Tests.{is_bound, fits_bound, fits_key, fits_cells, fits_slice, fits_write, slice_passes, write_passes}
-use Rattle.rc_lines.specs.Grammar.{longest_line, is_comment, schema_said, shape_meaning, line_meaning, parse}
-use Rattle.rc_lines.specs.Shapes.{shape_of}
-use Rattle.rc_lines.specs.UnderSchema.{prefix_of, key_under, slice_between, slice_under, cell_named, columns_from, by_column, are_columns, are_short, have_short_values, is_short_slice, key_said, slice_said, has_wrong_key, has_unknown_column, is_within, is_wrong_change, is_unknown_change, is_short_change, is_partition_key, rows_said, mutation_of, refusal_of, command_of, unless, meaning}
+use Rattle.rc_lines.specs.Grammar.{longest_line, is_comment, schema_said, parse}
+use Rattle.rc_lines.specs.calls.ByShape.{shape_meaning, line_meaning, parse_by_shape}
+use Rattle.rc_lines.specs.calls.Shapes.{shape_of}
+use Rattle.rc_lines.specs.UnderSchema.{prefix_of, key_under, slice_between, is_partition_key}
+use Rattle.rc_lines.specs.calls.ShapeMeaning.{are_columns, are_short, have_short_values, is_short_slice, slice_under, by_column, key_said, slice_said, has_wrong_key, has_unknown_column, is_within, is_wrong_change, is_unknown_change, is_short_change, rows_said, mutation_of, refusal_of, command_of, unless, meaning}
 use Rattle.rc_lines.specs.laws.Fitting.{prefix_fits, prefix_is_as_long, columns_are_known, start_fits, end_fits}
 use Rattle.rc_lines.specs.laws.Said.{If, after, Said, SaidShape, shape_said}
 use Rattle.rc_lines.specs.laws.Halves.{both, join}
+use Rattle.rc_lines.specs.laws.ByShape.{by_shape}
+use Rattle.rc_lines.specs.laws.Named.{columns_stay, row_stays}
 
 not_false : (b : Bool) → not b ≡ false → b ≡ true
 not_false true h = refl
@@ -55,66 +58,6 @@ of_equal P (Some x) h = h x refl
 if_some : {X : Type 0} (b : Bool) (o : Option X) (x : X) → (if b then o else None) ≡ Some x → (b ≡ true) × (o ≡ Some x)
 if_some true o x h = (refl, h)
 if_some false o x h = cc
-
--- a name that is a column's has a cell there
-
-short_step : (b : Bool) (n m : ℕ) (rest : Bool) → cond (not b) (1 + n) 0 < suc m → (n < m → rest ≡ true) → b || rest ≡ true
-short_step true n m rest h f = refl
-short_step false n m rest h f = f (omega arith)
-
-some_short : (p : List ℕ → Bool) (xs : List (List ℕ)) → prefix_len (λ x. not (p x)) xs < length xs → list_any p xs ≡ true
-some_short p [] h = absurd (omega arith)
-some_short p (x ∷ xs) h = short_step (p x) (prefix_len (λ y. not (p y)) xs) (length xs) (list_any p xs) h (some_short p xs)
-
-tested : (b : Bool) (n : ℕ) → is_some (if b then Some n else None) ≡ true → b ≡ true
-tested true n h = refl
-tested false n h = cc
-
-below : (n m : ℕ) → nat_lt n m ≡ true → n < m
-below n m h = grind (arith, nat_tests)
-
-found : (p : List ℕ → Bool) (xs : List (List ℕ)) → is_some (position p xs) ≡ true → list_any p xs ≡ true
-found p xs h =
-    let n = prefix_len (λ x. not (p x)) xs in
-    some_short p xs (below n (length xs) (tested (nat_lt n (length xs)) n h))
-
-flipped : (name key : List ℕ) → is_word name key ≡ true → is_word key name ≡ true
-flipped name key h =
-    let e : name ≡ key = same_text name key (sym h) in
-    subst (λ (k : List ℕ). is_word k name ≡ true) e (subst (λ (k : List ℕ). is_word name k ≡ true) (sym e) h)
-
-first_column : (column : ℕ) (o : Option Cell) (rest : List (ℕ × Cell)) → is_some o ≡ true → has_any (option_to_list (option_map (λ cell. (column, cell)) o) ++ rest) ≡ true
-first_column column None rest h = cc
-first_column column (Some cell) rest h = refl
-
-later_column : (column : ℕ) (o : Option Cell) (rest : List (ℕ × Cell)) → has_any rest ≡ true → has_any (option_to_list (option_map (λ cell. (column, cell)) o) ++ rest) ≡ true
-later_column column None rest h = h
-later_column column (Some cell) rest h = refl
-
-named_first : (b : Bool) (cell : Cell) (o : Option Cell) → b ≡ true → is_some (if b then Some cell else o) ≡ true
-named_first true cell o h = refl
-named_first false cell o h = cc
-
-some_column : (column : ℕ) (names : List (List ℕ)) (e : List ℕ × Cell) (cells : List (List ℕ × Cell)) → list_any (λ other. is_word other e.0) names ≡ true
-    → has_any (columns_from column names (e ∷ cells)) ≡ true
-some_column column [] e cells h = cc
-some_column column (name ∷ names) e cells h =
-    elim (is_word name e.0) as (λ b. is_word name e.0 ≡ b → b || list_any (λ other. is_word other e.0) names ≡ true → has_any (columns_from column (name ∷ names) (e ∷ cells)) ≡ true) [
-      | true ↦ λ t _. first_column column (cell_named name (e ∷ cells)) (columns_from (column + 1) names (e ∷ cells)) (named_first (is_word e.0 name) e.1 (cell_named name cells) (flipped name e.0 t))
-      | false ↦ λ _ rest. later_column column (cell_named name (e ∷ cells)) (columns_from (column + 1) names (e ∷ cells)) (some_column (column + 1) names e cells rest)
-    ] refl h
-
-columns_stay : (names : List (List ℕ)) (cells : List (List ℕ × Cell)) → are_columns names cells ≡ true → has_any cells ≡ true → has_any (by_column names cells) ≡ true
-unfolding by_column
-columns_stay names [] h some = cc
-columns_stay names (e ∷ cells) h some =
-    some_column 0 names e cells (found (λ other. is_word other e.0) names (both (is_some (column_of e.0 names)) (are_columns names cells) h).0)
-
-row_stays : (marker : Option ℤ) (tomb : Option Tomb) (one other : Bool) → (is_some marker || (is_some tomb || one)) ≡ true → (one ≡ true → other ≡ true)
-    → (is_some marker || (is_some tomb || other)) ≡ true
-row_stays (Some ts) tomb one other h f = refl
-row_stays None (Some t) one other h f = refl
-row_stays None None one other h f = f h
 
 -- keys, cells and slices that fit
 
@@ -275,9 +218,12 @@ line_cases P true b r command p f h = absurd (cc)
 line_cases P false true r command p f h = subst P (same_command Nothing command h) p
 line_cases P false false r command p f h = f h
 
--- each command that a line gives under a schema fits it
-pub commands_fit : (schema : SchemaValue) (line : List ℕ) (command : Command) → parse (Some schema) line ≡ Ok command → CommandFits schema command
-unfolding parse
-commands_fit schema line command h =
+shape_commands_fit : (schema : SchemaValue) (line : List ℕ) (command : Command) → parse_by_shape (Some schema) line ≡ Ok command → CommandFits schema command
+unfolding parse_by_shape
+shape_commands_fit schema line command h =
     line_cases (CommandFits schema) (nat_lt longest_line (length line)) (is_comment line) (line_meaning (Some schema) line (schema_said line)) command tt
     (said_fits schema line (schema_said line) command) h
+
+-- each command that a line gives under a schema fits it
+pub commands_fit : (schema : SchemaValue) (line : List ℕ) (command : Command) → parse (Some schema) line ≡ Ok command → CommandFits schema command
+commands_fit schema line command h = shape_commands_fit schema line command (sym (by_shape (Some schema) line) ∙ h)

@@ -21,7 +21,8 @@ use Rattle.rc_spelling.specs.Spelling.{stands_alone, escaped, lone_byte, escape,
 use Rattle.rc_lines.specs.declared.shapes.Bound.{Bound}
 use Rattle.rc_lines.specs.declared.shapes.Stamp.{Stamp}
 use Rattle.rc_lines.specs.declared.shapes.Stamp.TheVariants.{Alive, Gone}
-use Rattle.rc_lines.specs.Parts.{without_front, without_back, stamp_of, time_of, tomb_of, key_of, live_of, named, split_set, set_of, cell_said, each_cell_of, are_distinct, cells_said, some_cells_of, no_bound, pieces_of, bound_at, marked_bound, from_of, to_of, range_start, range_end}
+use Rattle.rc_lines.specs.Parts.{without_front, without_back, stamp_of, time_of, key_of, named, are_distinct, pieces_of}
+use Rattle.rc_lines.specs.calls.ShapeParts.{tomb_of, live_of, split_set, set_of, cell_said, each_cell_of, named_cells, some_cells_of, no_bound, bound_at, marked_bound, from_of, to_of, range_start, range_end}
 use Rattle.rc_spelling.specs.Words.{is_word}
 use Rattle.rc_lines.specs.Plain.{IsCount}
 use Rattle.rc_lines.specs.Sayable.{IsStamped}
@@ -267,8 +268,8 @@ each_heard stamp (word ∷ words) are =
     after (AreOf stamp) (IsOf stamp) (λ cell. option_map (λ cells. cell ∷ cells) (each_cell_of stamp words)) (cell_said stamp word) (cell_heard stamp word are.0)
     (λ cell is. made (AreOf stamp) (AreOf stamp) (λ cells. cell ∷ cells) (each_cell_of stamp words) (each_heard stamp words are.1) (λ cells rest. (is, rest)))
 
-pub cells_heard : (stamp : Stamp) (words : List (List ℕ)) → AreAllBytes words → If (AreOf stamp) (cells_said stamp words)
-unfolding cells_said
+pub cells_heard : (stamp : Stamp) (words : List (List ℕ)) → AreAllBytes words → If (AreOf stamp) (named_cells stamp words)
+unfolding named_cells
 cells_heard stamp words are =
     after (AreOf stamp) (AreOf stamp) (λ cells. if are_distinct cells then Some cells else None) (each_cell_of stamp words) (each_heard stamp words are)
     (λ cells all. tested (AreOf stamp) (are_distinct cells) cells (λ e. all))

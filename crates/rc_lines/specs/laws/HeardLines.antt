@@ -39,13 +39,17 @@ use Rattle.rc_lines.specs.declared.shapes.Shape.TheVariants.{Plain, Open, Writte
 use Rattle.rc_lines.specs.declared.shapes.Stamp.{Stamp}
 use Rattle.rc_lines.specs.declared.shapes.Stamp.TheVariants.{Alive, Gone}
 use Rattle.rc_lines.specs.Fits.{CommandFits}
-use Rattle.rc_lines.specs.Grammar.{longest_line, is_comment, schema_said, shape_meaning, line_meaning, parse}
+use Rattle.rc_lines.specs.Grammar.{longest_line, is_comment, schema_said, parse}
+use Rattle.rc_lines.specs.calls.ByShape.{shape_meaning, line_meaning, parse_by_shape}
 use Rattle.rc_lines.specs.Lines.{pieces_said, cells_said, parts_said, change_said, command_line, AreComponents, AreStamped, HasOneStamp, IsSayableRow, IsSayableWrite, IsSayableCommand}
-use Rattle.rc_lines.specs.Parts.{without_front, stamp_of, tomb_of, key_of, cells_said as cells_named, some_cells_of, no_bound, pieces_of, range_start, range_end}
+use Rattle.rc_lines.specs.Parts.{without_front, stamp_of, key_of, pieces_of}
+use Rattle.rc_lines.specs.calls.ShapeParts.{tomb_of, named_cells, some_cells_of, no_bound, range_start, range_end}
 use Rattle.rc_lines.specs.Plain.{IsCount}
 use Rattle.rc_lines.specs.Sayable.{stamped, shape_line, IsStamped, IsStampInRange}
-use Rattle.rc_lines.specs.Shapes.{row_change, inserted, update_change, removed, deleted, range_deleted, partition_deleted, static_set, static_removed, insert_of, update_of, unset_of, delete_of, delrange_of, delpart_of, static_change, unstatic_of, cell_change_of, deletion_of, change_of, write_of, open_shape, open_of, bare_of, begin_of, told_of, numbered_of, read_of, step_of, counted_of, plain_of, shape_of}
-use Rattle.rc_lines.specs.UnderSchema.{component_of, prefix_of, key_under, slice_between, slice_under, cell_named, columns_from, by_column, key_said, slice_said, is_partition_key, is_short_slice, is_short_change, has_wrong_key, has_unknown_column, is_within, mutation_of, refusal_of, command_of, meaning}
+use Rattle.rc_lines.specs.calls.Shapes.{row_change, inserted, update_change, removed, deleted, range_deleted, partition_deleted, static_set, static_removed, insert_of, update_of, unset_of, delete_of, delrange_of, delpart_of, static_change, unstatic_of, cell_change_of, deletion_of, change_of, write_of, open_shape, open_of, bare_of, begin_of, told_of, numbered_of, read_of, step_of, counted_of, plain_of, shape_of}
+use Rattle.rc_lines.specs.UnderSchema.{component_of, prefix_of, key_under, slice_between, is_partition_key}
+use Rattle.rc_lines.specs.calls.ShapeMeaning.{is_short_slice, slice_under, cell_named, columns_from, by_column, key_said, slice_said, is_short_change, has_wrong_key, has_unknown_column, is_within, mutation_of, refusal_of, command_of, meaning}
+use Rattle.rc_lines.specs.laws.ByShape.{by_shape}
 use Rattle.rc_lines.specs.laws.Fitting.{columns_ascend}
 use Rattle.rc_lines.specs.laws.FittingCommands.{commands_fit, is_less, line_cases, no_cause, same_command}
 use Rattle.rc_lines.specs.laws.Halves.{both}
@@ -91,8 +95,8 @@ row_heard ck marker tomb cells are h =
 inserted_heard : (ck stamp : List ℕ) (sets : List (List ℕ)) → AreBytes ck → AreAllBytes sets → If Heard (inserted ck stamp sets)
 unfolding inserted
 inserted_heard ck stamp sets are all =
-    after Heard IsSigned (λ ts. row_change ck (Some ts) None (cells_named (Alive ts) sets)) (stamp_of stamp) (stamp_heard stamp)
-    (λ ts fits. row_heard ck (Some ts) None (cells_named (Alive ts) sets) are (weaker (HeardRow (Some ts) None) (AreOf (Alive ts)) (cells_named (Alive ts) sets) (cells_heard (Alive ts) sets all) (λ cells is. (fits, is))))
+    after Heard IsSigned (λ ts. row_change ck (Some ts) None (named_cells (Alive ts) sets)) (stamp_of stamp) (stamp_heard stamp)
+    (λ ts fits. row_heard ck (Some ts) None (named_cells (Alive ts) sets) are (weaker (HeardRow (Some ts) None) (AreOf (Alive ts)) (named_cells (Alive ts) sets) (cells_heard (Alive ts) sets all) (λ cells is. (fits, is))))
 
 updated_heard : (ck stamp : List ℕ) (sets : List (List ℕ)) → AreBytes ck → AreAllBytes sets → If Heard (update_change ck stamp sets)
 unfolding update_change
@@ -464,12 +468,15 @@ said_heard : (schema : SchemaValue) (line : List ℕ) (o : Option SchemaValue) (
 said_heard schema line (Some lists) command are e fits h = subst (HasLine schema) (same_command (SetSchema lists) command h) (schema_heard line lists e, refl)
 said_heard schema line None command are e fits h = shape_meaning_heard schema (shape_of (words line)) command (shape_heard (words line) (words_heard (λ byte. byte == 32) line are)) fits h
 
+shape_commands_sayable : (schema : SchemaValue) (line : List ℕ) (command : Command) → AreBytes line → CommandFits schema command → parse_by_shape (Some schema) line ≡ Ok command → HasLine schema command
+unfolding parse_by_shape
+shape_commands_sayable schema line command are fits h =
+    line_cases (HasLine schema) (nat_lt longest_line (length line)) (is_comment line) (line_meaning (Some schema) line (schema_said line)) command (tt, refl)
+    (said_heard schema line (schema_said line) command are refl fits) h
+
 -- each command that a line of bytes gives is one that one line can say, and has a line
 pub commands_sayable : (schema : SchemaValue) (line : List ℕ) (command : Command) → AreBytes line → parse (Some schema) line ≡ Ok command → IsSayableCommand command × (is_some (command_line schema command) ≡ true)
-unfolding parse
-commands_sayable schema line command are h =
-    line_cases (HasLine schema) (nat_lt longest_line (length line)) (is_comment line) (line_meaning (Some schema) line (schema_said line)) command (tt, refl)
-    (said_heard schema line (schema_said line) command are refl (commands_fit schema line command h)) h
+commands_sayable schema line command are h = shape_commands_sayable schema line command are (commands_fit schema line command h) (sym (by_shape (Some schema) line) ∙ h)
 
 its_line : (schema : SchemaValue) (command : Command) (o : Option (List ℕ)) → command_line schema command ≡ o → is_some o ≡ true → ((line : List ℕ) → command_line schema command ≡ Some line → parse (Some schema) line ≡ Ok command)
     → (own : List ℕ) × (command_line schema command ≡ Some own) × (parse (Some schema) own ≡ Ok command)

@@ -31,7 +31,7 @@ use Rattle.rc_lines.specs.declared.shapes.Stamp.TheVariants.{Alive, Gone}
 use Rattle.rc_lines.specs.Lines.{pieces_said, is_before, start_said, end_said, cells_said, AreComponents, HasOneStamp}
 use Rattle.rc_lines.specs.Plain.{IsCount}
 use Rattle.rc_lines.specs.Sayable.{prefix_word, from_text, to_text, range_words, slice_words, stamp_words, stamped, behind_name, cell_word, cells_words, cells_verb, shape_line, IsStampInRange}
-use Rattle.rc_lines.specs.UnderSchema.{are_short, have_short_values}
+use Rattle.rc_lines.specs.calls.ShapeMeaning.{are_short, have_short_values}
 use Rattle.rc_lines.specs.laws.Columns.{AreBelow, name_at}
 use Rattle.rc_lines.specs.laws.Halves.{both, up_to}
 

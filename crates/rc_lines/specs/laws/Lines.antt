@@ -54,11 +54,14 @@ use Rattle.rc_lines.specs.declared.shapes.Shape.TheVariants.{Open, Written}
 use Rattle.rc_lines.specs.declared.shapes.Stamp.{Stamp}
 use Rattle.rc_lines.specs.declared.shapes.Stamp.TheVariants.{Alive}
 use Rattle.rc_lines.specs.Fits.{CommandFits}
-use Rattle.rc_lines.specs.Grammar.{longest_line, schema_said, line_meaning, parse}
+use Rattle.rc_lines.specs.Grammar.{longest_line, schema_said, parse}
+use Rattle.rc_lines.specs.calls.ByShape.{line_meaning, parse_by_shape}
 use Rattle.rc_lines.specs.Lines.{pieces_said, is_before, start_said, end_said, cells_said, change_said, command_line, IsPartitionKey, AreComponents, AreStamped, HasOneStamp, IsSayableWrite, IsSayableCommand}
 use Rattle.rc_lines.specs.Parts.{without_front}
 use Rattle.rc_lines.specs.Sayable.{stamped, shape_line, IsSomeKey, IsPrefix, IsLimit, IsStamped, IsNamedCell, AreSayableCells, IsSayable, IsSayableChange}
-use Rattle.rc_lines.specs.UnderSchema.{component_of, prefix_of, key_under, slice_between, slice_under, by_column, is_partition_key, are_short, have_short_values, is_short_slice, is_wrong_change, is_unknown_change, is_short_change, rows_said, mutation_of, refusal_of, unless, meaning}
+use Rattle.rc_lines.specs.UnderSchema.{component_of, prefix_of, key_under, slice_between, is_partition_key}
+use Rattle.rc_lines.specs.calls.ShapeMeaning.{are_short, have_short_values, is_short_slice, slice_under, by_column, is_wrong_change, is_unknown_change, is_short_change, rows_said, mutation_of, refusal_of, unless, meaning}
+use Rattle.rc_lines.specs.laws.ByShape.{by_shape}
 use Rattle.rc_lines.specs.laws.Columns.{AreBelow, columns_back, known, name_at, names_apart, few_cells}
 use Rattle.rc_lines.specs.laws.Lengths.{IsShortPrefix, spelled_short, partition_short, piece_short, open_short, row_short, static_short, schema_short}
 use Rattle.rc_lines.specs.laws.Plain.{plain_back}
@@ -423,7 +426,7 @@ same_line : (made line : List ℕ) → ◌≡◌ {A = Option (List ℕ)} (Some m
 same_line made line e = cc
 
 schema_back : (schema lists : SchemaValue) (line : List ℕ) → is_schema lists ≡ true → command_line schema (SetSchema lists) ≡ Some line → parse (Some schema) line ≡ Ok (SetSchema lists)
-unfolding parse schema_said without_front
+unfolding parse_by_shape schema_said without_front
 schema_back schema lists line is e =
     let few = few_names lists is in
     let names = schema_names lists is in
@@ -431,7 +434,8 @@ schema_back schema lists line is e =
     let fits : nat_lt longest_line (length (codes "schema " ++ schema_text lists)) ≡ false =
     (let short : length (codes "schema " ++ schema_text lists) ≤ 65536 = schema_short lists few.0.1 few.1.0 few.1.1 names.0.0 names.1.0 in grind (arith, nat_tests)) in
     subst (λ (l : List ℕ). parse (Some schema) l ≡ Ok (SetSchema lists)) made
-    ((λ i. if fits i then Err BadLine else line_meaning (Some schema) (codes "schema " ++ schema_text lists) (text_reads_back lists is i)))
+    (by_shape (Some schema) (codes "schema " ++ schema_text lists)
+    ∙ (λ i. if fits i then Err BadLine else line_meaning (Some schema) (codes "schema " ++ schema_text lists) (text_reads_back lists is i)))
 
 -- the line of a command that fits the schema is read back as it
 pub command_back : (schema : SchemaValue) (command : Command) (line : List ℕ) → is_schema schema ≡ true → CommandFits schema command → IsSayableCommand command → command_line schema command ≡ Some line

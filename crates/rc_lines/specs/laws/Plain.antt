@@ -16,20 +16,23 @@ use Rattle.rc_lines.specs.declared.commands.Command.{Command}
 use Rattle.rc_lines.specs.declared.commands.Command.TheVariants.{Nothing, SetSchema, Put, OpenRead, Read, Close, Flush, FlushBegin, FlushStep, Evict, Compact, Clean, Stats}
 use Rattle.rc_lines.specs.declared.commands.Refusal.TheVariants.{BadLine}
 use Rattle.rc_lines.specs.declared.shapes.Shape.TheVariants.{Plain}
-use Rattle.rc_lines.specs.Grammar.{longest_line, is_comment, schema_said, shape_meaning, line_meaning, parse}
+use Rattle.rc_lines.specs.Grammar.{longest_line, is_comment, schema_said, parse}
+use Rattle.rc_lines.specs.calls.ByShape.{shape_meaning, line_meaning, parse_by_shape}
 use Rattle.rc_lines.specs.Parts.{without_front}
 use Rattle.rc_lines.specs.Plain.{HasCounts, IsCount, plain_line}
-use Rattle.rc_lines.specs.Shapes.{shape_of, bare_of, told_of, numbered_of, counted_of, read_of, step_of, write_of}
-use Rattle.rc_lines.specs.UnderSchema.{meaning, refusal_of}
+use Rattle.rc_lines.specs.calls.Shapes.{shape_of, bare_of, told_of, numbered_of, counted_of, read_of, step_of, write_of}
+use Rattle.rc_lines.specs.calls.ShapeMeaning.{meaning, refusal_of}
+use Rattle.rc_lines.specs.laws.ByShape.{by_shape}
 use Rattle.rc_lines.specs.laws.Spaces.{number_spaceless}
 use Rattle.rc_lines.specs.laws.Spelled.{count_back}
 
 -- a line of one shape that is the same under each schema
 told : (schema : SchemaValue) (line : List ℕ) (command : Command) → length line ≤ 65536 → is_comment line ≡ false → schema_said line ≡ None → shape_of (words line) ≡ Some (Plain command) → parse (Some schema) line ≡ Ok command
-unfolding parse meaning refusal_of
+unfolding parse_by_shape meaning refusal_of
 told schema line command short said_some no_schema shape =
     let fits : nat_lt longest_line (length line) ≡ false = grind (arith, nat_tests) in
-    (λ i. if fits i then Err BadLine else if said_some i then Ok Nothing else line_meaning (Some schema) line (no_schema i)) ∙ ap (shape_meaning (Some schema)) shape
+    by_shape (Some schema) line
+    ∙ (λ i. if fits i then Err BadLine else if said_some i then Ok Nothing else line_meaning (Some schema) line (no_schema i)) ∙ ap (shape_meaning (Some schema)) shape
 
 -- ---- a count as a word
 

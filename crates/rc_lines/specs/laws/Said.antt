@@ -19,9 +19,10 @@ use Rattle.rc_lines.specs.declared.shapes.Shape.TheVariants.{Plain, Open, Writte
 use Rattle.rc_lines.specs.declared.shapes.Stamp.{Stamp}
 use Rattle.rc_lines.specs.declared.shapes.Stamp.TheVariants.{Alive, Gone}
 use Rattle.rc_lines.specs.Fits.{CommandFits}
-use Rattle.rc_lines.specs.Parts.{pieces_of, stamp_of, tomb_of, key_of, cell_said, each_cell_of, are_distinct, cells_said, some_cells_of, no_bound, range_start, range_end}
+use Rattle.rc_lines.specs.Parts.{pieces_of, stamp_of, key_of, are_distinct}
+use Rattle.rc_lines.specs.calls.ShapeParts.{tomb_of, cell_said, each_cell_of, named_cells, some_cells_of, no_bound, range_start, range_end}
 use Rattle.rc_spelling.specs.Words.{is_word}
-use Rattle.rc_lines.specs.Shapes.{row_change, inserted, update_change, removed, deleted, range_deleted, partition_deleted, static_set, static_removed, insert_of, update_of, unset_of, delete_of, delrange_of, delpart_of, static_change, unstatic_of, cell_change_of, deletion_of, change_of, write_of, open_shape, open_of, bare_of, begin_of, told_of, numbered_of, read_of, step_of, counted_of, plain_of, shape_of}
+use Rattle.rc_lines.specs.calls.Shapes.{row_change, inserted, update_change, removed, deleted, range_deleted, partition_deleted, static_set, static_removed, insert_of, update_of, unset_of, delete_of, delrange_of, delpart_of, static_change, unstatic_of, cell_change_of, deletion_of, change_of, write_of, open_shape, open_of, bare_of, begin_of, told_of, numbered_of, read_of, step_of, counted_of, plain_of, shape_of}
 
 -- what holds of the value, if there is one
 abbrev pub If : {X : Type 0} → (X → Type 0) → Option X → Type 0
@@ -83,15 +84,15 @@ kept None h = tt
 kept (Some cells) h = chosen HasAny (are_distinct cells) (Some cells) None h tt
 
 some_said : (stamp : Stamp) (words : List (List ℕ)) → If HasAny (some_cells_of stamp words)
-unfolding cells_said
+unfolding named_cells
 some_said stamp [] = tt
 some_said stamp (word ∷ words) = kept (each_cell_of stamp (word ∷ words)) (some_each stamp word words)
 
 inserted_said : (ck stamp : List ℕ) (sets : List (List ℕ)) → If Said (inserted ck stamp sets)
 unfolding inserted
 inserted_said ck stamp sets =
-    and_then Said (λ ts. row_change ck (Some ts) None (cells_said (Alive ts) sets)) (stamp_of stamp)
-    (λ ts. row_said ck (Some ts) None (cells_said (Alive ts) sets) (always (λ named. true ≡ true) (cells_said (Alive ts) sets) (λ named. refl)))
+    and_then Said (λ ts. row_change ck (Some ts) None (named_cells (Alive ts) sets)) (stamp_of stamp)
+    (λ ts. row_said ck (Some ts) None (named_cells (Alive ts) sets) (always (λ named. true ≡ true) (named_cells (Alive ts) sets) (λ named. refl)))
 
 updated_said : (ck stamp : List ℕ) (sets : List (List ℕ)) → If Said (update_change ck stamp sets)
 unfolding update_change

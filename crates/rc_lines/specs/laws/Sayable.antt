@@ -25,11 +25,14 @@ use Rattle.rc_lines.specs.declared.shapes.Shape.{Shape}
 use Rattle.rc_lines.specs.declared.shapes.Shape.TheVariants.{Plain, Open, Written}
 use Rattle.rc_lines.specs.declared.shapes.Stamp.{Stamp}
 use Rattle.rc_lines.specs.declared.shapes.Stamp.TheVariants.{Alive, Gone}
-use Rattle.rc_lines.specs.Grammar.{longest_line, is_comment, schema_said, shape_meaning, line_meaning, parse}
-use Rattle.rc_lines.specs.Parts.{without_front, cells_said, some_cells_of, no_bound}
+use Rattle.rc_lines.specs.Grammar.{longest_line, is_comment, schema_said, parse}
+use Rattle.rc_lines.specs.calls.ByShape.{shape_meaning, line_meaning, parse_by_shape}
+use Rattle.rc_lines.specs.Parts.{without_front}
+use Rattle.rc_lines.specs.calls.ShapeParts.{named_cells, some_cells_of, no_bound}
 use Rattle.rc_lines.specs.Plain.{IsCount}
 use Rattle.rc_lines.specs.Sayable.{prefix_word, from_text, to_text, range_words, slice_words, stamp_words, stamped, behind_name, cell_word, cells_words, cells_verb, shape_line, IsSomeKey, IsPrefix, IsLimit, IsBound, IsStampInRange, IsNamedCell, AreSayableCells, IsSayable, IsSayableChange}
-use Rattle.rc_lines.specs.Shapes.{shape_of, row_change, inserted, update_change, removed, deleted, range_deleted, partition_deleted, static_set, static_removed, cell_change_of, deletion_of, open_shape, counted_of}
+use Rattle.rc_lines.specs.calls.Shapes.{shape_of, row_change, inserted, update_change, removed, deleted, range_deleted, partition_deleted, static_set, static_removed, cell_change_of, deletion_of, open_shape, counted_of}
+use Rattle.rc_lines.specs.laws.ByShape.{by_shape}
 use Rattle.rc_lines.specs.laws.Spaces.{IsSpaceless, words_back, both_spaceless, number_spaceless, signed_spaceless, spelled_spaceless, prefix_spaceless, name_spaceless}
 use Rattle.rc_lines.specs.laws.Spelled.{stamp_back, tomb_back, key_back, prefix_back, begin_back, end_back, cells_back, some_cells_back, count_back}
 use Rattle.rc_lines.specs.laws.Halves.{both}
@@ -71,7 +74,7 @@ unfolding cell_change_of deletion_of inserted
 insert_back key ck ts cells k c are =
     written key (OfRow ck (Some ts) None cells) _ _ (key_back key k)
     (ap (λ o. option_or o None)
-    (ap (option_and_then (λ ts. row_change (prefix_word ck) (Some ts) None (cells_said (Alive ts) (list_map cell_word cells)))) (stamp_back ts are.0)
+    (ap (option_and_then (λ ts. row_change (prefix_word ck) (Some ts) None (named_cells (Alive ts) (list_map cell_word cells)))) (stamp_back ts are.0)
     ∙ row_back ck (Some ts) None cells _ c (cells_back (Alive ts) cells are)))
 
 cells_row_back : (key : List ℕ) (ck : List (List ℕ)) (stamp : Stamp) (cell : List ℕ × Cell) (cells : List (List ℕ × Cell)) → IsSomeKey key → IsPrefix ck → AreSayableCells stamp (cell ∷ cells)
@@ -255,8 +258,9 @@ shape_back shape line e is = (said_all shape line e is).0
 -- and commands what it means, where it is not too long
 pub meaning_back : (taken : Option SchemaValue) (shape : Shape) (line : List ℕ) → shape_line shape ≡ Some line → IsSayable shape → length line ≤ longest_line
     → parse taken line ≡ shape_meaning taken (Some shape)
-unfolding parse
+unfolding parse_by_shape
 meaning_back taken shape line e is short =
     let s = said_all shape line e is in
     let fits : nat_lt longest_line (length line) ≡ false = grind (arith, nat_tests) in
-    (λ i. if fits i then Err BadLine else if s.1 i then Ok Nothing else line_meaning taken line (s.2 i)) ∙ ap (shape_meaning taken) s.0
+    by_shape taken line
+    ∙ (λ i. if fits i then Err BadLine else if s.1 i then Ok Nothing else line_meaning taken line (s.2 i)) ∙ ap (shape_meaning taken) s.0

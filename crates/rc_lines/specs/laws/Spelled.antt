@@ -25,7 +25,8 @@ use Rattle.rc_spelling.specs.Printed.{AreBytes, IsComponent, bytes_of_component,
 use Rattle.rc_spelling.specs.Spelling.{bytes_spelled, components_spelled}
 use Rattle.rc_lines.specs.declared.shapes.Bound.{Bound}
 use Rattle.rc_lines.specs.declared.shapes.Stamp.{Stamp}
-use Rattle.rc_lines.specs.Parts.{without_front, without_back, stamp_of, time_of, tomb_of, key_of, live_of, named, split_set, set_of, cell_said, each_cell_of, are_distinct, cells_said, some_cells_of, no_bound, pieces_of, bound_at, marked_bound, from_of, to_of, range_start, range_end}
+use Rattle.rc_lines.specs.Parts.{without_front, without_back, stamp_of, time_of, key_of, named, are_distinct, pieces_of}
+use Rattle.rc_lines.specs.calls.ShapeParts.{tomb_of, live_of, split_set, set_of, cell_said, each_cell_of, named_cells, some_cells_of, no_bound, bound_at, marked_bound, from_of, to_of, range_start, range_end}
 use Rattle.rc_spelling.specs.Words.{is_word}
 use Rattle.rc_lines.specs.Sayable.{prefix_word, from_text, to_text, cell_word, IsSomeKey, IsPrefix, IsLimit, IsBound, IsStamped, IsNamedCell, AreSayableCells}
 use Rattle.rc_lines.specs.laws.Spaces.{name_plain, IsPlainByte}
@@ -182,8 +183,8 @@ each_back stamp [] are = refl
 each_back stamp (cell ∷ cells) are =
     both_cells (cell_said stamp (cell_word cell)) (each_cell_of stamp (list_map cell_word cells)) cell cells (cell_back stamp cell.0 cell.1 are.0.0 are.0.1) (each_back stamp cells are.1)
 
-pub cells_back : (stamp : Stamp) (cells : List (List ℕ × Cell)) → AreSayableCells stamp cells → cells_said stamp (list_map cell_word cells) ≡ Some cells
-unfolding cells_said
+pub cells_back : (stamp : Stamp) (cells : List (List ℕ × Cell)) → AreSayableCells stamp cells → named_cells stamp (list_map cell_word cells) ≡ Some cells
+unfolding named_cells
 cells_back stamp cells are =
     ap (option_and_then (λ cells. cond (are_distinct cells) (Some cells) None)) (each_back stamp cells are.1.0)
     ∙ ap (λ b. cond b (Some cells) None) are.1.1

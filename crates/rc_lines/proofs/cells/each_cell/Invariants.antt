@@ -1,6 +1,6 @@
 use Rattle.std.proofs.Common.{◌≡◌, ◌++◌, length, map}
 use Rattle.std.specs.Option.{option_map}
-use Rattle.rc_lines.specs.Parts.{each_cell_of}
+use Rattle.rc_lines.specs.calls.ShapeParts.{each_cell_of}
 use Rattle.rc_lines.proofs.cells.each_cell.Given as goal
 
 -- what was made, and what the words that are left say

@@ -2,7 +2,7 @@
 use Rattle.std.proofs.Common.{◌≡◌, ℕ, ◌∙◌, List, [], ◌++◌, drop, sym, ap, arith, append-nil}
 use Rattle.std.proofs.Math.ListN.{drop_of_length-le}
 use Rattle.rc_cell.specs.declared.writes.Cell.{Cell}
-use Rattle.rc_lines.specs.UnderSchema.{columns_from, by_column}
+use Rattle.rc_lines.specs.calls.ShapeMeaning.{columns_from, by_column}
 use Rattle.rc_lines.proofs.columns.by_column.Goals as goal
 
 done : (made : List (ℕ × Cell)) (column : ℕ) (names left : List (List ℕ)) (cells : List (List ℕ × Cell)) → left ≡ []

@@ -1,5 +1,5 @@
 use Rattle.std.proofs.Common.{◌≡◌, ◌++◌, drop}
-use Rattle.rc_lines.specs.UnderSchema.{columns_from}
+use Rattle.rc_lines.specs.calls.ShapeMeaning.{columns_from}
 use Rattle.rc_lines.proofs.columns.by_column.Given as goal
 
 -- what was made, and what the columns that are left give

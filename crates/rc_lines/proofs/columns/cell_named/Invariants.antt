@@ -1,5 +1,5 @@
 use Rattle.std.proofs.Common.{◌≡◌, length}
-use Rattle.rc_lines.specs.UnderSchema.{cell_named}
+use Rattle.rc_lines.specs.calls.ShapeMeaning.{cell_named}
 use Rattle.rc_lines.proofs.columns.cell_named.Given as goal
 
 -- what is left decides for the whole

@@ -3,7 +3,7 @@ use Rattle.std.proofs.Common.{◌≡◌, ℕ, List, subst, sym, nat_lt, IsTrue, 
 use Rattle.std.specs.List.{list_all}
 use Rattle.rc_cell.specs.declared.writes.Cell.{Cell}
 use Rattle.rc_schema.specs.Checks.{column_count}
-use Rattle.rc_lines.specs.UnderSchema.{by_column, columns_said}
+use Rattle.rc_lines.specs.calls.ShapeMeaning.{by_column, columns_said}
 use Rattle.rc_lines.specs.laws.Fitting.{columns_are_known}
 use Rattle.rc_lines.proofs.columns.cells_by_column.Goals as goal
 

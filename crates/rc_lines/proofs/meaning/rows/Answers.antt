@@ -11,7 +11,7 @@ use Rattle.rc_cell.specs.declared.writes.Tomb.{Tomb}
 use Rattle.rc_cell.specs.Winner.{empty_row}
 use Rattle.rc_position.specs.declared.comps.Comp.{Comp}
 use Rattle.rc_mutation.specs.Fragments.{has_any, is_written}
-use Rattle.rc_lines.specs.UnderSchema.{rows_said}
+use Rattle.rc_lines.specs.calls.ShapeMeaning.{rows_said}
 use Rattle.rc_lines.proofs.meaning.rows.Goals as goal
 
 parts_written : (marker : Option ℤ) (tomb : Option Tomb) (cells : List (ℕ × Cell)) → ◌≢◌ {A = Row} (record { marker = marker; tomb = tomb; cells = cells }) empty_row

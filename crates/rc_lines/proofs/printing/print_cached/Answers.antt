@@ -1,5 +1,5 @@
 -- Three texts, one behind another.
-use Rattle.rc_lines.specs.Texts.{cached_text}
+use Rattle.rc_lines.specs.calls.TextParts.{cached_text}
 use Rattle.rc_lines.proofs.Steps.{three_behind}
 use Rattle.rc_lines.proofs.printing.print_cached.Goals as goal
 

@@ -12,7 +12,8 @@ use Rattle.rc_lines.specs.declared.shapes.Change.TheVariants.{OfRow, OfStatic, O
 use Rattle.rc_lines.specs.declared.shapes.Shape.{Shape}
 use Rattle.rc_lines.specs.declared.shapes.Shape.TheVariants.{Plain, Open, Written}
 use Rattle.rc_lines.specs.declared.shapes.Stamp.TheVariants.{Alive, Gone}
-use Rattle.rc_lines.specs.Parts.{pieces_of, stamp_of, tomb_of, key_of, cells_said, some_cells_of, no_bound, range_start, range_end}
+use Rattle.rc_lines.specs.Parts.{pieces_of, stamp_of, key_of}
+use Rattle.rc_lines.specs.calls.ShapeParts.{tomb_of, named_cells, some_cells_of, no_bound, range_start, range_end}
 use Rattle.rc_spelling.specs.Words.{is_word}
 
 -- what is written to the row of CK
@@ -21,7 +22,7 @@ row_change ck marker tomb cells = option_and_then (λ pieces. option_map (λ nam
 
 -- `insert KEY CK ts=TS`, then any number of `NAME=VALUE`: a marker and live cells
 unfoldable pub inserted : List ℕ → List ℕ → List (List ℕ) → Option Change
-inserted ck stamp sets = option_and_then (λ ts. row_change ck (Some ts) None (cells_said (Alive ts) sets)) (stamp_of stamp)
+inserted ck stamp sets = option_and_then (λ ts. row_change ck (Some ts) None (named_cells (Alive ts) sets)) (stamp_of stamp)
 
 -- `update KEY CK ts=TS`, then at least one `NAME=VALUE`: live cells
 unfoldable pub update_change : List ℕ → List ℕ → List (List ℕ) → Option Change
