@@ -1,6 +1,7 @@
 //! The answers to cases.
 
 use std::cmp::Ordering;
+use std::fmt::{self, Display, Formatter, Write};
 
 /// What is printed for a case.
 #[derive(Drop)]
@@ -13,6 +14,17 @@ pub(crate) enum Answer {
     Text(String),
     /// The line is no case.
     NoCase,
+}
+
+impl Display for Answer {
+    fn fmt<W: Write>(&self, f: &mut Formatter<W>) -> fmt::Result {
+        match self {
+            Answer::Word(word) => f.write_str(word),
+            Answer::Size(size) => write!(f, "{size}"),
+            Answer::Text(text) => f.write_str(text.as_str()),
+            Answer::NoCase => f.write_str("no case"),
+        }
+    }
 }
 
 /// The word of an order.

@@ -19,8 +19,12 @@ fn answer(alloc: Global, line: &[u8]) -> Result<Answer, AllocError> {
     if let Some(text) = line.strip_prefix(b"schema ") {
         return schemas::reads(alloc, text);
     }
-    let words = rc_spelling::words(alloc, line)?;
-    match words.as_slice() {
+    answer_of(alloc, rc_spelling::words(alloc, line)?.as_slice())
+}
+
+/// The answer to a case of these words.
+fn answer_of(alloc: Global, words: &[&[u8]]) -> Result<Answer, AllocError> {
+    match words {
         [kind, spans @ ..] if says(kind, "adds") => ranges::adds(alloc, spans),
         [kind, number, weight, spans @ ..] if says(kind, "over") => {
             ranges::over(alloc, number, weight, spans)
@@ -51,6 +55,12 @@ fn two(alloc: Global, kind: &[u8], first: &[u8], second: &[u8]) -> Result<Answer
     }
     if says(kind, "join") {
         return codes::joins(alloc, first, second);
+    }
+    if says(kind, "weighs") {
+        return codes::weighs(alloc, first, second);
+    }
+    if says(kind, "entry") {
+        return codes::entry(alloc, first, second);
     }
     if says(kind, "wins") {
         return rows::wins(alloc, first, second);
@@ -99,19 +109,18 @@ fn four(
     Ok(Answer::NoCase)
 }
 
+/// Whether a line is a case.
+fn is_case(line: &[u8]) -> bool {
+    !line.is_empty() && !line.starts_with(b"#")
+}
+
 fn main(rt: HostRuntime) -> io::Result<()> {
     let alloc = rt.alloc();
     for line in rt.lines(alloc) {
         let line = line?;
-        let line = line.as_bytes();
-        if line.is_empty() || line.starts_with(b"#") {
-            continue;
-        }
-        match answer(alloc, line)? {
-            Answer::Word(word) => println!(rt; "{word}")?,
-            Answer::Size(size) => println!(rt; "{size}")?,
-            Answer::Text(text) => println!(rt; "{text}")?,
-            Answer::NoCase => println!(rt; "no case")?,
+        if is_case(line.as_bytes()) {
+            let answer = answer(alloc, line.as_bytes())?;
+            println!(rt; "{answer}")?;
         }
     }
     Ok(())

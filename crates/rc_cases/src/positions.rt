@@ -8,22 +8,31 @@ use rc_spelling::{read_components, signed};
 use std::alloc::{AllocError, Global};
 use std::cmp::Ordering;
 
+// The component that bytes spell: a number is an int.
+fn comp_of(bytes: Vec<u8>) -> Comp {
+    match signed(bytes.as_slice()) {
+        Some(number) => Comp::Int(number),
+        None => Comp::Text(Text::from_vec(bytes)),
+    }
+}
+
+fn comps_of(alloc: Global, spelled: Vec<Vec<u8>>) -> Result<Vec<Comp>, AllocError> {
+    let mut comps = Vec::new(alloc);
+    for bytes in spelled {
+        comps.push(comp_of(bytes))?;
+    }
+    Ok(comps)
+}
+
 /// The key that a word spells: a component that is a number is an int.
 pub(crate) fn key_of(alloc: Global, word: &[u8]) -> Result<Option<Key>, AllocError> {
-    let mut comps = Vec::new(alloc);
     if says(word, "*") {
-        return Ok(Some(Key::from_vec(comps)));
+        return Ok(Some(Key::empty(alloc)));
     }
-    let Some(spelled) = read_components(alloc, word, 5)? else {
-        return Ok(None);
-    };
-    for bytes in spelled {
-        match signed(bytes.as_slice()) {
-            Some(number) => comps.push(Comp::Int(number))?,
-            None => comps.push(Comp::Text(Text::from_vec(bytes)))?,
-        }
+    match read_components(alloc, word, 5)? {
+        Some(spelled) => Ok(Some(Key::from_vec(comps_of(alloc, spelled)?))),
+        None => Ok(None),
     }
-    Ok(Some(Key::from_vec(comps)))
 }
 
 /// The weight of a word.
@@ -41,11 +50,11 @@ pub(crate) fn weight_of(word: &[u8]) -> Option<Weight> {
 }
 
 fn pos_of(alloc: Global, key: &[u8], weight: &[u8]) -> Result<Option<Pos>, AllocError> {
-    let Some(prefix) = key_of(alloc, key)? else {
+    let Some(weight) = weight_of(weight) else {
         return Ok(None);
     };
-    match weight_of(weight) {
-        Some(weight) => Ok(Some(Pos { prefix, weight })),
+    match key_of(alloc, key)? {
+        Some(prefix) => Ok(Some(Pos { prefix, weight })),
         None => Ok(None),
     }
 }
@@ -55,28 +64,40 @@ fn byte_of(count: usize) -> u8 {
     u8::try_from(count).unwrap_or(255)
 }
 
-// The code of a position, spelt by hand from the table of the formats.
-fn code_of(alloc: Global, x: &Pos) -> Result<Vec<u8>, AllocError> {
-    let mut code = Vec::new(alloc);
-    code.push(match x.weight {
+fn push_text(text: &Text, code: &mut Vec<u8>) -> Result<(), AllocError> {
+    code.push(1)?;
+    code.push(byte_of(text.as_slice().len()))?;
+    code.extend_from_slice(text.as_slice())
+}
+
+fn push_int(number: i64, code: &mut Vec<u8>) -> Result<(), AllocError> {
+    code.push(0)?;
+    code.extend_from_slice(&number.to_le_bytes())
+}
+
+fn push_comps(comps: &[Comp], code: &mut Vec<u8>) -> Result<(), AllocError> {
+    code.push(byte_of(comps.len()))?;
+    for comp in comps {
+        match comp {
+            Comp::Int(number) => push_int(*number, code)?,
+            Comp::Text(text) => push_text(text, code)?,
+        }
+    }
+    Ok(())
+}
+
+fn weight_byte(weight: Weight) -> u8 {
+    match weight {
         Weight::Before => 0,
         Weight::At => 1,
         Weight::After => 2,
-    })?;
-    code.push(byte_of(x.prefix.as_slice().len()))?;
-    for comp in x.prefix.as_slice() {
-        match comp {
-            Comp::Int(number) => {
-                code.push(0)?;
-                code.extend_from_slice(&number.to_le_bytes())?;
-            }
-            Comp::Text(text) => {
-                code.push(1)?;
-                code.push(byte_of(text.as_slice().len()))?;
-                code.extend_from_slice(text.as_slice())?;
-            }
-        }
     }
+}
+
+// The code of a position, spelt by hand from the table of the formats.
+fn code_of(alloc: Global, x: &Pos) -> Result<Vec<u8>, AllocError> {
+    let mut code = vec![in alloc; weight_byte(x.weight)]?;
+    push_comps(x.prefix.as_slice(), &mut code)?;
     Ok(code)
 }
 
@@ -153,6 +174,17 @@ fn found(alloc: Global, slice: &Slice, x: &Pos) -> Result<Answer, AllocError> {
     Ok(either(slice.has(x), "in", "out"))
 }
 
+// The range of two bounds.
+fn slice_of(alloc: Global, from: &[u8], to: &[u8]) -> Result<Option<Slice>, AllocError> {
+    let Some(from) = start_of(alloc, from)? else {
+        return Ok(None);
+    };
+    match end_of(alloc, to)? {
+        Some(to) => Ok(Some(Slice { from, to })),
+        None => Ok(None),
+    }
+}
+
 /// Whether the row of a key is in a range: `[` and `]` stand at inclusive bounds, `(` and `)` at exclusive ones.
 pub(crate) fn within(
     alloc: Global,
@@ -160,11 +192,11 @@ pub(crate) fn within(
     to: &[u8],
     key: &[u8],
 ) -> Result<Answer, AllocError> {
-    let Some(x) = pos_of(alloc, key, b"at")? else {
+    let Some(slice) = slice_of(alloc, from, to)? else {
         return Ok(Answer::NoCase);
     };
-    match (start_of(alloc, from)?, end_of(alloc, to)?) {
-        (Some(from), Some(to)) => found(alloc, &Slice { from, to }, &x),
-        _ => Ok(Answer::NoCase),
+    match pos_of(alloc, key, b"at")? {
+        Some(x) => found(alloc, &slice, &x),
+        None => Ok(Answer::NoCase),
     }
 }

@@ -9,6 +9,7 @@ use rc_position::{Comp, Key, Pos, Weight};
 use rc_ranges::{Piece, Ranges};
 use rc_spelling::signed;
 use std::alloc::{AllocError, Global};
+use std::fmt::Write;
 
 // From one number on, before another, with a timestamp.
 #[derive(Clone, Copy)]
@@ -76,22 +77,28 @@ fn number_of(x: &Pos) -> i64 {
 }
 
 // A piece as a span; a deletion time other than 7 is told.
-fn piece_told(alloc: Global, piece: &Piece) -> Result<String, AllocError> {
+fn tell_piece(piece: &Piece, text: &mut String) -> Result<(), AllocError> {
     let (from, to) = (number_of(&piece.from), number_of(&piece.to));
     let Tomb { ts, dt } = piece.tomb;
     let other = if dt == 7 { "" } else { " of another time" };
-    format!(in alloc; "{from}:{to}@{ts}{other}")
+    write!(text, "{from}:{to}@{ts}{other}")
 }
 
-// The spans of a list, with spaces between them.
-fn told(alloc: Global, ranges: &Ranges) -> Result<String, AllocError> {
-    let mut text = String::new(alloc);
-    for piece in ranges.as_slice() {
+// Spans, with spaces between them.
+fn tell_pieces(pieces: &[Piece], text: &mut String) -> Result<(), AllocError> {
+    for piece in pieces {
         if !text.is_empty() {
             text.push_str(" ")?;
         }
-        text.push_str(piece_told(alloc, piece)?.as_str())?;
+        tell_piece(piece, text)?;
     }
+    Ok(())
+}
+
+// The spans of a list.
+fn told(alloc: Global, ranges: &Ranges) -> Result<String, AllocError> {
+    let mut text = String::new(alloc);
+    tell_pieces(ranges.as_slice(), &mut text)?;
     Ok(text)
 }
 
@@ -102,13 +109,23 @@ fn joined_of(alloc: Global, first: &[u8], others: &[&[u8]]) -> Result<Ranges, Al
     Ok(joined)
 }
 
+fn told_joined(alloc: Global, first: &[u8], others: &[&[u8]]) -> Result<String, AllocError> {
+    let joined = joined_of(alloc, first, others)?;
+    told(alloc, &joined)
+}
+
+fn told_added(alloc: Global, spans: &[&[u8]]) -> Result<String, AllocError> {
+    let added = ranges_of(alloc, spans)?;
+    told(alloc, &added)
+}
+
 /// What spans come to, added one after another or joined to the first one, or that these differ.
 pub(crate) fn adds(alloc: Global, spans: &[&[u8]]) -> Result<Answer, AllocError> {
     let [first, others @ ..] = spans else {
         return Ok(Answer::NoCase);
     };
-    let added = told(alloc, &ranges_of(alloc, spans)?)?;
-    let joined = told(alloc, &joined_of(alloc, first, others)?)?;
+    let added = told_added(alloc, spans)?;
+    let joined = told_joined(alloc, first, others)?;
     if added.as_str() != joined.as_str() {
         return Ok(Answer::Word("differs"));
     }
@@ -132,9 +149,13 @@ pub(crate) fn over(
     let (Some(number), Some(weight)) = (signed(number), weight_of(weight)) else {
         return Ok(Answer::NoCase);
     };
-    let x = pos(alloc, number, weight)?;
     let ranges = ranges_of(alloc, spans)?;
-    match found(alloc, &ranges, &x)? {
+    let x = pos(alloc, number, weight)?;
+    told_stamp(alloc, found(alloc, &ranges, &x)?)
+}
+
+fn told_stamp(alloc: Global, found: Option<Option<i64>>) -> Result<Answer, AllocError> {
+    match found {
         None => Ok(Answer::Word("differs")),
         Some(None) => Ok(Answer::Word("none")),
         Some(Some(ts)) => Ok(Answer::Text(format!(in alloc; "{ts}")?)),
@@ -143,17 +164,34 @@ pub(crate) fn over(
 
 // The timestamp of the tombstone at a position; none where a copy of the list, or the list at the row, has another.
 fn found(alloc: Global, ranges: &Ranges, x: &Pos) -> Result<Option<Option<i64>>, AllocError> {
-    let copy = Ranges::from_slice(alloc, ranges.copy(alloc)?.as_slice())?;
+    let copy = copy_of(alloc, ranges)?;
     let found = stamp(ranges.at(x));
-    let at_row = match x.weight {
-        Weight::At => stamp(ranges.at_row(&x.prefix)),
-        Weight::Before | Weight::After => found,
-    };
-    if stamp(copy.at(x)) == found && at_row == found {
+    if stamp(copy.at(x)) == found && at_row(ranges, x) == found {
         Ok(Some(found))
     } else {
         Ok(None)
     }
+}
+
+fn copy_of(alloc: Global, ranges: &Ranges) -> Result<Ranges, AllocError> {
+    let copy = ranges.copy(alloc)?;
+    Ranges::from_slice(alloc, copy.as_slice())
+}
+
+fn at_row(ranges: &Ranges, x: &Pos) -> Option<i64> {
+    match x.weight {
+        Weight::At => stamp(ranges.at_row(&x.prefix)),
+        Weight::Before | Weight::After => stamp(ranges.at(x)),
+    }
+}
+
+// One list and the others joined.
+fn both_of(alloc: Global, first: &Ranges, others: &[Ranges]) -> Result<Ranges, AllocError> {
+    let mut both = first.copy(alloc)?;
+    for other in others {
+        both.join(alloc, other)?;
+    }
+    Ok(both)
 }
 
 // Two at a time, and the last alone where their count is odd.
@@ -161,11 +199,7 @@ fn in_pairs(alloc: Global, all: &[Ranges]) -> Result<Vec<Ranges>, AllocError> {
     let mut pairs = Vec::new(alloc);
     for pair in all.chunks(2) {
         if let [first, others @ ..] = pair {
-            let mut both = first.copy(alloc)?;
-            for other in others {
-                both.join(alloc, other)?;
-            }
-            pairs.push(both)?;
+            pairs.push(both_of(alloc, first, others)?)?;
         }
     }
     Ok(pairs)
@@ -187,11 +221,15 @@ fn many_of(alloc: Global, word: &[u8]) -> Result<Vec<Ranges>, AllocError> {
     for from in 0..10_000i64 {
         let to = from.saturating_add(10);
         let ts = stamp_of(word, from);
-        let mut ranges = Ranges::empty(alloc);
-        add_span(alloc, &mut ranges, Span { from, to, ts })?;
-        all.push(ranges)?;
+        all.push(range_of(alloc, Span { from, to, ts })?)?;
     }
     Ok(all)
+}
+
+fn range_of(alloc: Global, span: Span) -> Result<Ranges, AllocError> {
+    let mut ranges = Ranges::empty(alloc);
+    add_span(alloc, &mut ranges, span)?;
+    Ok(ranges)
 }
 
 /// How many pieces many spans come to.

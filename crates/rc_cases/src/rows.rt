@@ -77,13 +77,15 @@ fn joined_row(alloc: Global, cell: &Cell, other: &Cell) -> Result<Row, AllocErro
 fn winner(alloc: Global, first: &Cell, second: &Cell) -> Result<Answer, AllocError> {
     let joined = joined_row(alloc, first, second)?;
     let turned = joined_row(alloc, second, first)?;
-    if holds(&joined, first) && holds(&turned, first) && second < first {
+    if beats(&joined, &turned, first, second) {
         return Ok(Answer::Word("first"));
     }
-    if holds(&joined, second) && holds(&turned, second) && first < second {
-        return Ok(Answer::Word("second"));
-    }
-    Ok(Answer::Word("differs"))
+    Ok(either(beats(&joined, &turned, second, first), "second", "differs"))
+}
+
+// Whether the first cell is that of both rows, and the greater one.
+fn beats(joined: &Row, turned: &Row, first: &Cell, second: &Cell) -> bool {
+    holds(joined, first) && holds(turned, first) && second < first
 }
 
 /// The tombstone of a timestamp; none of `-`.

@@ -4,19 +4,22 @@
 use crate::answers::{Answer, either, says};
 use crate::positions::key_of;
 use crate::rows::cell_of;
-use rc_cell::{Cells, Row};
+use rc_cell::{Cell, Cells, Row};
 use rc_schema::{Schema, SchemaErr, SchemaTextErr};
 use rc_spelling::number;
 use std::alloc::{AllocError, Global};
 
 /// Whether a text gives a schema, whose own text and whose copy's it then is.
 pub(crate) fn reads(alloc: Global, text: &[u8]) -> Result<Answer, AllocError> {
-    let Some(schema) = schema_of(alloc, text)? else {
-        return Ok(Answer::Word("no schema"));
-    };
+    match schema_of(alloc, text)? {
+        Some(schema) => Ok(either(is_copied(alloc, &schema, text)?, "a schema", "differs")),
+        None => Ok(Answer::Word("no schema")),
+    }
+}
+
+fn is_copied(alloc: Global, schema: &Schema, text: &[u8]) -> Result<bool, AllocError> {
     let copy = schema.copy(alloc)?;
-    let same = has_text(alloc, &schema, text)? && has_text(alloc, &copy, text)?;
-    Ok(either(same && schema.is_same(&copy), "a schema", "differs"))
+    Ok(schema.is_same(&copy) && has_text(alloc, schema, text)? && has_text(alloc, &copy, text)?)
 }
 
 fn has_text(alloc: Global, schema: &Schema, text: &[u8]) -> Result<bool, AllocError> {
@@ -43,9 +46,13 @@ fn checked(found: Result<(), SchemaErr>) -> Answer {
 // The schema with these kinds of components, one static and two regular columns.
 fn schema_with(alloc: Global, kinds: &[u8]) -> Result<Option<Schema>, AllocError> {
     let mut text = Vec::from_slice(alloc, b"ck=")?;
-    text.extend_from_slice(kinds)?;
-    text.extend_from_slice(b" static=s cols=a,b")?;
+    push_kinds(kinds, &mut text)?;
     schema_of(alloc, text.as_slice())
+}
+
+fn push_kinds(kinds: &[u8], text: &mut Vec<u8>) -> Result<(), AllocError> {
+    text.extend_from_slice(kinds)?;
+    text.extend_from_slice(b" static=s cols=a,b")
 }
 
 /// What is wrong with a key, or with a prefix of one.
@@ -55,13 +62,13 @@ pub(crate) fn checks_key(
     full: &[u8],
     key: &[u8],
 ) -> Result<Answer, AllocError> {
-    let Some(schema) = schema_with(alloc, kinds)? else {
-        return Ok(Answer::NoCase);
-    };
     let Some(key) = key_of(alloc, key)? else {
         return Ok(Answer::NoCase);
     };
-    Ok(checked(schema.check_prefix(&key, says(full, "full"))))
+    match schema_with(alloc, kinds)? {
+        Some(schema) => Ok(checked(schema.check_prefix(&key, says(full, "full")))),
+        None => Ok(Answer::NoCase),
+    }
 }
 
 /// What is wrong with a row of one cell.
@@ -85,10 +92,17 @@ fn row_of(alloc: Global, column: &[u8], cell: &[u8]) -> Result<Option<Row>, Allo
     let Some(column) = number(column, 255) else {
         return Ok(None);
     };
-    let Some(cell) = cell_of(alloc, cell)? else {
-        return Ok(None);
-    };
-    let mut row = Row::empty(alloc);
-    row.cells = Cells::from_vec(Vec::from_array(alloc, [(column as u8, cell)])?);
-    Ok(Some(row))
+    match cell_of(alloc, cell)? {
+        Some(cell) => Ok(Some(row_with(alloc, column as u8, cell)?)),
+        None => Ok(None),
+    }
+}
+
+/// The row of one cell.
+pub(crate) fn row_with(alloc: Global, column: u8, cell: Cell) -> Result<Row, AllocError> {
+    Ok(Row {
+        marker: None,
+        tomb: None,
+        cells: Cells::from_vec(Vec::from_array(alloc, [(column, cell)])?),
+    })
 }

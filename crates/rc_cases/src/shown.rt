@@ -4,8 +4,9 @@
 
 use crate::answers::Answer;
 use crate::rows::{cell_of, tomb_of};
-use rc_cell::{Cell, Cells, Row, Value};
-use rc_mutation::{Head, Mutation, Rows, Statics};
+use crate::schemas::row_with;
+use rc_cell::{Cell, Cells, Row, Tomb, Value};
+use rc_mutation::{Frag, Head, Mutation, Rows, Statics};
 use rc_position::{Comp, Key, Slice, end_pos, start_pos};
 use rc_query::{Compactor, Lines, OutLine, answer_of, shown_rows};
 use rc_spelling::signed;
@@ -17,17 +18,23 @@ fn key(alloc: Global, number: i64) -> Result<Key, AllocError> {
 
 // The row of a write; an empty one where the word is none.
 fn row_of(alloc: Global, word: &[u8]) -> Result<Row, AllocError> {
-    let mut row = Row::empty(alloc);
     match word {
-        [b'+', stamp @ ..] => row.marker = signed(stamp),
-        [b'-', stamp @ ..] => row.tomb = tomb_of(stamp),
-        _ => {
-            if let Some(cell) = cell_of(alloc, word)? {
-                row.cells = Cells::from_vec(Vec::from_array(alloc, [(0, cell)])?);
-            }
-        }
+        [b'+', stamp @ ..] => Ok(row_without(alloc, signed(stamp), None)),
+        [b'-', stamp @ ..] => Ok(row_without(alloc, None, tomb_of(stamp))),
+        _ => match cell_of(alloc, word)? {
+            Some(cell) => row_with(alloc, 0, cell),
+            None => Ok(Row::empty(alloc)),
+        },
     }
-    Ok(row)
+}
+
+// A row without cells.
+fn row_without(alloc: Global, marker: Option<i64>, tomb: Option<Tomb>) -> Row {
+    Row {
+        marker,
+        tomb,
+        cells: Cells::empty(alloc),
+    }
 }
 
 fn join_row(alloc: Global, rows: &mut Rows, number: i64, row: &Row) -> Result<(), AllocError> {
@@ -37,72 +44,118 @@ fn join_row(alloc: Global, rows: &mut Rows, number: i64, row: &Row) -> Result<()
     Ok(())
 }
 
-// How many lines there are, and the first value that they show.
-fn told(alloc: Global, lines: &Lines) -> Result<Answer, AllocError> {
-    let items = lines.as_slice();
-    let count = items.len();
-    let shown = match items {
+// The values of the first line.
+fn first_shown(lines: &Lines) -> &[(u8, Value)] {
+    match lines.as_slice() {
         [OutLine::Row(_, shown) | OutLine::Static(shown), ..] => shown.as_slice(),
         [] => &[],
-    };
-    let text = match shown {
-        [(_, value), ..] => {
-            let value = hex::encode(alloc, value.as_slice())?;
-            format!(in alloc; "{count}, first {value}")?
-        }
-        [] => format!(in alloc; "{count}")?,
-    };
-    Ok(Answer::Text(text))
+    }
+}
+
+// How many lines there are, and the first value that they show.
+fn told(alloc: Global, lines: &Lines) -> Result<Answer, AllocError> {
+    let count = lines.as_slice().len();
+    match first_shown(lines) {
+        [(_, value), ..] => told_first(alloc, count, value),
+        [] => Ok(Answer::Size(count)),
+    }
+}
+
+fn told_first(alloc: Global, count: usize, value: &Value) -> Result<Answer, AllocError> {
+    let value = hex::encode(alloc, value.as_slice())?;
+    Ok(Answer::Text(format!(in alloc; "{count}, first {value}")?))
+}
+
+// The rows of two writes.
+fn rows_of(alloc: Global, first: &[u8], second: &[u8]) -> Result<Rows, AllocError> {
+    let mut rows = Rows::empty(alloc);
+    join_word(alloc, &mut rows, first)?;
+    join_word(alloc, &mut rows, second)?;
+    Ok(rows)
+}
+
+fn join_word(alloc: Global, rows: &mut Rows, word: &[u8]) -> Result<(), AllocError> {
+    let row = row_of(alloc, word)?;
+    join_row(alloc, rows, 1, &row)
 }
 
 /// The lines of two writes to one row.
 pub(crate) fn shows(alloc: Global, first: &[u8], second: &[u8]) -> Result<Answer, AllocError> {
-    let mut rows = Rows::empty(alloc);
-    join_row(alloc, &mut rows, 1, &row_of(alloc, first)?)?;
-    join_row(alloc, &mut rows, 1, &row_of(alloc, second)?)?;
-    told(alloc, &shown_rows(alloc, &rows)?)
+    let rows = rows_of(alloc, first, second)?;
+    let lines = shown_rows(alloc, &rows)?;
+    told(alloc, &lines)
 }
 
-// A static value of timestamp 5, and rows of timestamp 10 at 1 to 4, under this partition tombstone.
+// A static value of timestamp 5.
+fn statics_of(alloc: Global) -> Result<Statics, AllocError> {
+    let value = Value::from_slice(alloc, b"x")?;
+    let cells = Vec::from_array(alloc, [(0, Cell::Live { ts: 5, value })])?;
+    Ok(Statics::from_cells(Cells::from_vec(cells)))
+}
+
+// Rows of timestamp 10 at 1 to 4.
+fn join_rows(alloc: Global, rows: &mut Rows) -> Result<(), AllocError> {
+    for number in 1..5i64 {
+        join_row(alloc, rows, number, &row_without(alloc, Some(10), None))?;
+    }
+    Ok(())
+}
+
+// That static value and those rows, under this partition tombstone.
 fn four_rows(alloc: Global, pt: &[u8]) -> Result<Mutation, AllocError> {
     let mut change = Mutation::empty(alloc);
     change.pt = tomb_of(pt);
-    let value = Value::from_slice(alloc, b"x")?;
-    change.statics = Statics::from_cells(Cells::from_vec(Vec::from_array(
-        alloc,
-        [(0, Cell::Live { ts: 5, value })],
-    )?));
-    for number in 1..5i64 {
-        let mut row = Row::empty(alloc);
-        row.marker = Some(10);
-        join_row(alloc, &mut change.rows, number, &row)?;
-    }
+    change.statics = statics_of(alloc)?;
+    join_rows(alloc, &mut change.rows)?;
     Ok(change)
+}
+
+// Behind 1, up to 3.
+fn two_of_four(alloc: Global) -> Result<Slice, AllocError> {
+    let from = key(alloc, 1)?;
+    let to = key(alloc, 3)?;
+    slice_between(alloc, &from, &to)
+}
+
+fn slice_between(alloc: Global, from: &Key, to: &Key) -> Result<Slice, AllocError> {
+    let from = start_pos(alloc, from, false)?;
+    Ok(Slice {
+        from,
+        to: end_pos(alloc, to, true)?,
+    })
 }
 
 // How many lines there are behind 1, up to 3.
 fn lines_in_slice(alloc: Global, change: &Mutation) -> Result<usize, AllocError> {
-    let slice = Slice {
-        from: start_pos(alloc, &key(alloc, 1)?, false)?,
-        to: end_pos(alloc, &key(alloc, 3)?, true)?,
-    };
-    Ok(answer_of(alloc, change, &slice)?.as_slice().len())
+    let slice = two_of_four(alloc)?;
+    let lines = answer_of(alloc, change, &slice)?;
+    Ok(lines.as_slice().len())
 }
 
-// How many lines the fragments give.
-fn lines_of_fragments(alloc: Global, change: &Mutation) -> Result<u8, AllocError> {
+fn compactor_of(alloc: Global, change: &Mutation) -> Result<Compactor, AllocError> {
     let head = Head {
         pt: change.pt,
         statics: change.statics.as_row().copy(alloc)?,
     };
-    let mut compactor = Compactor::new(alloc, &head)?;
+    Compactor::new(alloc, &head)
+}
+
+// How many lines fragments give.
+fn lines_of(alloc: Global, compactor: &mut Compactor, frags: &[Frag]) -> Result<u8, AllocError> {
     let mut lines = u8::from(compactor.first(alloc)?.is_some());
-    for frag in change.fragments(alloc)?.as_slice() {
+    for frag in frags {
         if compactor.put(alloc, frag)?.is_some() {
             lines = lines.saturating_add(1);
         }
     }
     Ok(lines)
+}
+
+// How many lines the fragments of a mutation give.
+fn lines_of_fragments(alloc: Global, change: &Mutation) -> Result<u8, AllocError> {
+    let frags = change.fragments(alloc)?;
+    let mut compactor = compactor_of(alloc, change)?;
+    lines_of(alloc, &mut compactor, frags.as_slice())
 }
 
 /// How many lines a slice of four rows has, and how many their fragments give.

@@ -73,12 +73,17 @@ pub(crate) struct Update {
 }
 
 impl Update {
-    /// The update's place: the end behind the last fragment.
-    pub(crate) fn place(&self, alloc: Global) -> Result<Place, AllocError> {
-        match self.fragments.as_slice().get(self.next) {
+    /// The place of the fragment of a number: the end behind the last fragment.
+    pub(crate) fn place_of(&self, alloc: Global, number: usize) -> Result<Place, AllocError> {
+        match self.fragments.as_slice().get(number) {
             Some(fragment) => Place::of(alloc, fragment),
             None => Ok(Place::End),
         }
+    }
+
+    /// The update's place.
+    pub(crate) fn place(&self, alloc: Global) -> Result<Place, AllocError> {
+        self.place_of(alloc, self.next)
     }
 }
 
@@ -156,12 +161,20 @@ impl Chain {
         self.is_updating() && self.versions.len().checked_sub(2) == Some(number)
     }
 
+    /// The place of the update that stands in it; none where there is none.
+    pub(crate) fn place(&self, alloc: Global) -> Result<Option<Place>, AllocError> {
+        match &self.update {
+            Some(update) => Ok(Some(update.place(alloc)?)),
+            None => Ok(None),
+        }
+    }
+
     /// The update's place, of the newest version under update; none of every other.
     pub(crate) fn reach(&self, alloc: Global, number: usize) -> Result<Option<Place>, AllocError> {
-        match &self.update {
-            Some(update) if self.is_newest(number) => Ok(Some(update.place(alloc)?)),
-            _ => Ok(None),
+        if self.is_newest(number) {
+            return self.place(alloc);
         }
+        Ok(None)
     }
 }
 

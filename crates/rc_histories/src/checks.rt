@@ -10,7 +10,7 @@ use rc_core::{
     is_at_place, is_known_at, is_known_in, seen_at, statics_at,
 };
 use rc_mutation::greater_tomb;
-use rc_position::{Pos, Weight};
+use rc_position::{Key, Pos, Weight};
 use std::alloc::{AllocError, Global};
 use std::cmp::Ordering;
 
@@ -80,19 +80,34 @@ fn check_place(alloc: Global, chain: &Chain, tally: &mut Tally) -> Result<(), Al
     let (Some(update), Some(version)) = (&chain.update, chain.versions.last()) else {
         return Ok(());
     };
-    let silent_end = match version.entries.as_slice() {
+    let place = update.place(alloc)?;
+    tally.expect(
+        stands_at(&place, version),
+        "the version under update stands at its place",
+    );
+    Ok(())
+}
+
+fn stands_at(place: &Place, version: &PlainVersion) -> bool {
+    match place {
+        Place::Head => version.pt.is_none()
+            && has_silent_statics(version)
+            && has_silent_end(version),
+        Place::Static => has_silent_statics(version) && has_silent_end(version),
+        Place::At(place) => is_at_place(place, version),
+        Place::End => true,
+    }
+}
+
+fn has_silent_statics(version: &PlainVersion) -> bool {
+    version.statics.is_none() && !is_deciding(version.static_flag)
+}
+
+fn has_silent_end(version: &PlainVersion) -> bool {
+    match version.entries.as_slice() {
         [end] => is_at_place(&end.position, version) && is_silent_gap(end.gap.flag, end.gap.tomb),
         _ => false,
-    };
-    let silent_statics = version.statics.is_none() && !is_deciding(version.static_flag);
-    let holds = match update.place(alloc)? {
-        Place::Head => version.pt.is_none() && silent_statics && silent_end,
-        Place::Static => silent_statics && silent_end,
-        Place::At(place) => is_at_place(&place, version),
-        Place::End => true,
-    };
-    tally.expect(holds, "the version under update stands at its place");
-    Ok(())
+    }
 }
 
 fn is_silent_gap(flag: Flag, tomb: Option<Tomb>) -> bool {
@@ -115,14 +130,36 @@ fn check_version(
     number: usize,
     tally: &mut Tally,
 ) -> Result<(), AllocError> {
+    let reach = chain.reach(alloc, number)?;
+    check_kind(alloc, universe, source, chain, number, &reach, tally)?;
+    let versions = upto(chain.versions.as_slice(), number);
+    for x in &universe.all {
+        check_base(alloc, versions, x, Side::On, tally)?;
+        check_base(alloc, versions, x, Side::Behind, tally)?;
+    }
+    if chain.is_needed(number) {
+        check_needed(alloc, universe, source, chain.kind, versions, &reach, tally)?;
+    }
+    Ok(())
+}
+
+// What is asked of a version of a cache's chain, and of a memtable's.
+fn check_kind(
+    alloc: Global,
+    universe: &Universe,
+    source: &Source,
+    chain: &Chain,
+    number: usize,
+    reach: &Option<Place>,
+    tally: &mut Tally,
+) -> Result<(), AllocError> {
     let versions = upto(chain.versions.as_slice(), number);
     let needed = chain.is_needed(number);
-    let reach = chain.reach(alloc, number)?;
     match chain.kind {
         ChainKind::Cache => {
             check_within(alloc, source, versions, tally)?;
             if needed {
-                check_head(alloc, source, versions, &reach, tally)?;
+                check_head(alloc, source, versions, reach, tally)?;
             }
         }
         ChainKind::Memtable => {
@@ -132,14 +169,26 @@ fn check_version(
             }
         }
     }
+    Ok(())
+}
+
+// What is asked of a version that somebody needs: each position that is reached, and reading it.
+fn check_needed(
+    alloc: Global,
+    universe: &Universe,
+    source: &Source,
+    kind: ChainKind,
+    versions: &[PlainVersion],
+    reach: &Option<Place>,
+    tally: &mut Tally,
+) -> Result<(), AllocError> {
     for x in &universe.all {
-        check_base(alloc, versions, x, tally)?;
-        if needed && is_reached(&reach, x) {
-            check_position(alloc, chain.kind, source, versions, x, tally)?;
+        if is_reached(reach, x) {
+            check_position(alloc, kind, source, versions, x, tally)?;
         }
     }
-    if needed && reach.is_none() {
-        check_reading(alloc, chain.kind, source, versions, tally)?;
+    if reach.is_none() {
+        check_reading(alloc, kind, source, versions, tally)?;
     }
     Ok(())
 }
@@ -160,16 +209,28 @@ fn check_within(
 ) -> Result<(), AllocError> {
     for number in 0..versions.len() {
         let one = alone(versions, number);
-        let statics = statics_at(alloc, one)?;
-        let within = is_within(alloc, &statics, &source.statics, None)?;
+        let within = are_statics_within(alloc, one, source)?;
         tally.expect(within, "no version holds more than the source: static row");
         for said in &source.places {
-            let seen = seen_at(alloc, one, &said.position, Side::On)?;
-            let within = is_within(alloc, &seen, &said.row, said.tomb)?;
+            let within = is_place_within(alloc, one, said)?;
             tally.expect(within, "no version holds more than the source");
         }
     }
     Ok(())
+}
+
+fn are_statics_within(
+    alloc: Global,
+    one: &[PlainVersion],
+    source: &Source,
+) -> Result<bool, AllocError> {
+    let statics = statics_at(alloc, one)?;
+    is_within(alloc, &statics, &source.statics, None)
+}
+
+fn is_place_within(alloc: Global, one: &[PlainVersion], said: &Said) -> Result<bool, AllocError> {
+    let seen = seen_at(alloc, one, &said.position, Side::On)?;
+    is_within(alloc, &seen, &said.row, said.tomb)
 }
 
 // Whether what is seen, joined into a row and a tombstone, leaves them as they are.
@@ -231,11 +292,25 @@ fn check_position(
             "what is flagged is the source's",
         );
     }
-    let known = is_known_at(alloc, kind, versions, x)?;
-    if known && seen.row.is_empty() && *x < end_position(alloc) {
+    if seen.row.is_empty() && *x < end_position(alloc) {
+        check_bare(alloc, kind, versions, x, seen.tomb, tally)?;
+    }
+    Ok(())
+}
+
+// A bare position has this tombstone where it is known, and so has the gap behind it.
+fn check_bare(
+    alloc: Global,
+    kind: ChainKind,
+    versions: &[PlainVersion],
+    x: &Pos,
+    tomb: Option<Tomb>,
+    tally: &mut Tally,
+) -> Result<(), AllocError> {
+    if is_known_at(alloc, kind, versions, x)? {
         let behind = seen_at(alloc, versions, x, Side::Behind)?;
         tally.expect(
-            behind.tomb == seen.tomb,
+            behind.tomb == tomb,
             "the tombstone at a bare known position is that of the gap behind it",
         );
     }
@@ -247,28 +322,49 @@ fn check_base(
     alloc: Global,
     versions: &[PlainVersion],
     x: &Pos,
+    side: Side,
     tally: &mut Tally,
 ) -> Result<(), AllocError> {
-    for side in [Side::On, Side::Behind] {
-        let base = base_at(versions, x, side);
-        let mut joined = Seen {
-            flag: Flag::Inherit,
-            row: Row::empty(alloc),
-            tomb: None,
-        };
-        for number in base.unwrap_or(0)..versions.len() {
-            let one = seen_at(alloc, alone(versions, number), x, side)?;
-            if Some(number) == base {
-                joined.flag = one.flag;
-            }
-            joined.row.join(alloc, &one.row)?;
-            joined.tomb = greater_tomb(joined.tomb, one.tomb);
+    let joined = from_base(alloc, versions, x, side)?;
+    let seen = seen_at(alloc, versions, x, side)?;
+    tally.expect(
+        is_same_seen(&seen, &joined),
+        "what is seen is what stands from the base on",
+    );
+    Ok(())
+}
+
+// What the versions from the base on hold, as one.
+fn from_base(
+    alloc: Global,
+    versions: &[PlainVersion],
+    x: &Pos,
+    side: Side,
+) -> Result<Seen, AllocError> {
+    let mut joined = Seen {
+        flag: Flag::Inherit,
+        row: Row::empty(alloc),
+        tomb: None,
+    };
+    join_all(alloc, versions, x, side, &mut joined)?;
+    Ok(joined)
+}
+
+fn join_all(
+    alloc: Global,
+    versions: &[PlainVersion],
+    x: &Pos,
+    side: Side,
+    joined: &mut Seen,
+) -> Result<(), AllocError> {
+    let base = base_at(versions, x, side);
+    for number in base.unwrap_or(0)..versions.len() {
+        let one = seen_at(alloc, alone(versions, number), x, side)?;
+        if Some(number) == base {
+            joined.flag = one.flag;
         }
-        let seen = seen_at(alloc, versions, x, side)?;
-        tally.expect(
-            is_same_seen(&seen, &joined),
-            "what is seen is what stands from the base on",
-        );
+        joined.row.join(alloc, &one.row)?;
+        joined.tomb = greater_tomb(joined.tomb, one.tomb);
     }
     Ok(())
 }
@@ -333,8 +429,7 @@ fn check_reading(
     let end = end_position(alloc);
     let mut place = start_position(alloc);
     for _ in 0..64 {
-        let part = part_at(alloc, kind, versions, &place, &end)?;
-        let Some(next) = check_part(alloc, source, &place, part, tally)? else {
+        let Some(next) = read_part(alloc, kind, source, versions, &place, &end, tally)? else {
             return Ok(());
         };
         tally.expect(place < next, "a part ends behind its beginning");
@@ -342,6 +437,20 @@ fn check_reading(
     }
     tally.expect(false, "a reader comes to the end");
     Ok(())
+}
+
+// The first part from a place on against the source; where the next one begins.
+fn read_part(
+    alloc: Global,
+    kind: ChainKind,
+    source: &Source,
+    versions: &[PlainVersion],
+    place: &Pos,
+    end: &Pos,
+    tally: &mut Tally,
+) -> Result<Option<Pos>, AllocError> {
+    let part = part_at(alloc, kind, versions, place, end)?;
+    check_part(alloc, source, place, &part, tally)
 }
 
 // The first part from a place on; the end where the place is behind it.
@@ -363,32 +472,49 @@ fn check_part(
     alloc: Global,
     source: &Source,
     from: &Pos,
-    part: Part,
+    part: &Part,
     tally: &mut Tally,
 ) -> Result<Option<Pos>, AllocError> {
     match part {
         Part::Row { key, row, tomb } => {
-            let at = Pos {
-                prefix: key.copy(alloc)?,
-                weight: Weight::At,
-            };
-            let holds = match source.at(&at) {
-                Some(said) => is_same_row(&said.row, &row) && said.tomb == tomb,
-                None => false,
-            };
-            tally.expect(holds && at == *from, "a row that is read is the source's");
-            Ok(Some(behind_key(alloc, &key)?))
+            check_row(alloc, source, from, key, row, *tomb, tally)?;
+            Ok(Some(behind_key(alloc, key)?))
         }
         Part::Gap { to, tomb } => {
-            for said in &source.places {
-                if *from <= said.position && said.position < to {
-                    tally.expect(is_gap(said, tomb), "a gap that is read is the source's");
-                }
-            }
-            Ok(Some(to))
+            check_gap(source, from, to, *tomb, tally);
+            Ok(Some(to.copy(alloc)?))
         }
-        Part::Missing { to } => Ok(Some(to)),
+        Part::Missing { to } => Ok(Some(to.copy(alloc)?)),
         Part::End => Ok(None),
+    }
+}
+
+fn check_row(
+    alloc: Global,
+    source: &Source,
+    from: &Pos,
+    key: &Key,
+    row: &Row,
+    tomb: Option<Tomb>,
+    tally: &mut Tally,
+) -> Result<(), AllocError> {
+    let at = Pos {
+        prefix: key.copy(alloc)?,
+        weight: Weight::At,
+    };
+    let holds = match source.at(&at) {
+        Some(said) => is_same_row(&said.row, row) && said.tomb == tomb,
+        None => false,
+    };
+    tally.expect(holds && at == *from, "a row that is read is the source's");
+    Ok(())
+}
+
+fn check_gap(source: &Source, from: &Pos, to: &Pos, tomb: Option<Tomb>, tally: &mut Tally) {
+    for said in &source.places {
+        if *from <= said.position && said.position < *to {
+            tally.expect(is_gap(said, tomb), "a gap that is read is the source's");
+        }
     }
 }
 
@@ -414,12 +540,8 @@ pub(crate) struct Picture {
     pub(crate) sights: Vec<Sight>,
 }
 
-/// Pictures of the versions of a chain that somebody needs, the oldest first.
-pub(crate) fn pictures(
-    alloc: Global,
-    universe: &Universe,
-    chain: &Chain,
-) -> Result<Vec<Picture>, AllocError> {
+// Pictures of the versions of a chain that somebody needs, the oldest first.
+fn pictures(alloc: Global, universe: &Universe, chain: &Chain) -> Result<Vec<Picture>, AllocError> {
     let mut made = Vec::new(alloc);
     for number in 0..chain.versions.len() {
         if chain.is_needed(number) {
@@ -435,24 +557,64 @@ fn picture_of(
     versions: &[PlainVersion],
 ) -> Result<Picture, AllocError> {
     let mut sights = Vec::new(alloc);
+    push_sights(alloc, universe, versions, &mut sights)?;
+    Ok(Picture { sights })
+}
+
+fn push_sights(
+    alloc: Global,
+    universe: &Universe,
+    versions: &[PlainVersion],
+    sights: &mut Vec<Sight>,
+) -> Result<(), AllocError> {
     for x in &universe.all {
-        sights.push(Sight {
-            position: Some(x.copy(alloc)?),
-            behind: false,
-            seen: seen_at(alloc, versions, x, Side::On)?,
-        })?;
-        sights.push(Sight {
-            position: Some(x.copy(alloc)?),
-            behind: true,
-            seen: seen_at(alloc, versions, x, Side::Behind)?,
-        })?;
+        sights.push(sight_at(alloc, versions, x, Side::On)?)?;
+        sights.push(sight_at(alloc, versions, x, Side::Behind)?)?;
     }
     sights.push(Sight {
         position: None,
         behind: false,
         seen: statics_at(alloc, versions)?,
     })?;
-    Ok(Picture { sights })
+    Ok(())
+}
+
+fn sight_at(
+    alloc: Global,
+    versions: &[PlainVersion],
+    x: &Pos,
+    side: Side,
+) -> Result<Sight, AllocError> {
+    let position = x.copy(alloc)?;
+    Ok(Sight {
+        position: Some(position),
+        behind: matches!(side, Side::Behind),
+        seen: seen_at(alloc, versions, x, side)?,
+    })
+}
+
+/// What is seen of a chain, and what is carried.
+#[derive(Drop)]
+pub(crate) struct View {
+    /// Of each version that somebody needs, the oldest first.
+    pub(crate) pictures: Vec<Picture>,
+    /// At each position of the universe whether it is carried.
+    pub(crate) carried: Vec<bool>,
+}
+
+impl View {
+    /// What is seen of a chain now.
+    pub(crate) fn of(
+        alloc: Global,
+        universe: &Universe,
+        chain: &Chain,
+    ) -> Result<Self, AllocError> {
+        let pictures = pictures(alloc, universe, chain)?;
+        Ok(View {
+            pictures,
+            carried: carried(alloc, universe, chain)?,
+        })
+    }
 }
 
 /// What a step may do to what is seen.
@@ -523,30 +685,34 @@ fn is_filled(effect: &Effect, sight: &Sight) -> bool {
     }
 }
 
-/// At each position of the universe whether it is carried: known in the version that a snapshot pins and, before the update's place, in the
-/// newest too.
-pub(crate) fn carried(
-    alloc: Global,
-    universe: &Universe,
-    chain: &Chain,
-) -> Result<Vec<bool>, AllocError> {
-    let mut made = Vec::new(alloc);
+// At each position of the universe whether it is carried: known in the version that a snapshot pins and, before the update's place, in the
+// newest too.
+fn carried(alloc: Global, universe: &Universe, chain: &Chain) -> Result<Vec<bool>, AllocError> {
     if !chain.attached || chain.versions.is_empty() {
-        return Ok(made);
+        return Ok(Vec::new(alloc));
     }
+    let reach = chain.place(alloc)?;
+    let mut made = Vec::new(alloc);
+    for x in &universe.all {
+        made.push(is_carried(alloc, chain, &reach, x)?)?;
+    }
+    Ok(made)
+}
+
+fn is_carried(
+    alloc: Global,
+    chain: &Chain,
+    reach: &Option<Place>,
+    x: &Pos,
+) -> Result<bool, AllocError> {
     let all = chain.versions.as_slice();
-    let newest = all.len().saturating_sub(1);
-    let reach = chain.reach(alloc, newest)?;
     let pinned = match chain.snapshot_version() {
         Some(number) => upto(all, number),
         None => all,
     };
-    for x in &universe.all {
-        let before = is_known_at(alloc, chain.kind, pinned, x)?;
-        let over = !is_reached(&reach, x) || is_known_at(alloc, chain.kind, all, x)?;
-        made.push(before && over)?;
-    }
-    Ok(made)
+    let before = is_known_at(alloc, chain.kind, pinned, x)?;
+    let over = !is_reached(reach, x) || is_known_at(alloc, chain.kind, all, x)?;
+    Ok(before && over)
 }
 
 /// Carried positions stay carried.

@@ -43,20 +43,33 @@ fn clean_version(
     number: usize,
     room: bool,
 ) -> Result<Option<Step>, AllocError> {
-    if number >= chain.versions.len() {
-        return Ok(None);
-    }
-    let mut older = chain.versions.remove(number);
-    let Some(newer) = chain.versions.get_mut(number) else {
+    let Some((older, newer)) = both_of(chain.versions.as_mut_slice(), number) else {
         return Ok(None);
     };
-    let step = merge(alloc, chain.kind, room, &mut older, newer)?;
+    let step = merge(alloc, chain.kind, room, older, newer)?;
     if step.dropped {
-        renumber(&mut chain.pins, number);
-    } else if number <= chain.versions.len() {
-        chain.versions.insert(number, older)?;
+        drop_version(chain, number);
     }
     Ok(Some(step))
+}
+
+// The version of a number, and the next newer one.
+fn both_of(
+    versions: &mut [PlainVersion],
+    number: usize,
+) -> Option<(&mut PlainVersion, &mut PlainVersion)> {
+    if number >= versions.len() {
+        return None;
+    }
+    let (older, newer) = versions.split_at_mut(number + 1);
+    Some((older.last_mut()?, newer.first_mut()?))
+}
+
+fn drop_version(chain: &mut Chain, number: usize) {
+    if number < chain.versions.len() {
+        let _version = chain.versions.remove(number);
+    }
+    renumber(&mut chain.pins, number);
 }
 
 // The objects of the versions that may be merged.

@@ -44,8 +44,12 @@ pub(crate) fn fill_gap(alloc: Global, history: &mut History) -> Result<Option<St
         return Ok(None);
     };
     version.entries = with_gap(alloc, from, to, tomb, version.entries.as_slice())?;
-    let effect = Effect::Between(from.copy(alloc)?, to.copy(alloc)?);
-    Ok(Some(Step::carrying("fill of a gap", effect)))
+    Ok(Some(Step::carrying("fill of a gap", effect_between(alloc, from, to)?)))
+}
+
+fn effect_between(alloc: Global, from: &Pos, to: &Pos) -> Result<Effect, AllocError> {
+    let from = from.copy(alloc)?;
+    Ok(Effect::Between(from, to.copy(alloc)?))
 }
 
 // The one tombstone that the writes say from one position on and before another, where they say of no row.
@@ -62,6 +66,17 @@ fn tomb_of_gap(source: &Source, from: &Pos, to: &Pos) -> Option<Option<Tomb>> {
     found
 }
 
+// The entries with one at each end of a gap.
+fn split_twice(
+    alloc: Global,
+    from: &Pos,
+    to: &Pos,
+    entries: &[Entry],
+) -> Result<Vec<Entry>, AllocError> {
+    let split = split_entries(alloc, from, entries)?;
+    split_entries(alloc, to, split.as_slice())
+}
+
 // The entries with a gap known, and its tombstone.
 fn with_gap(
     alloc: Global,
@@ -74,8 +89,7 @@ fn with_gap(
         flag: Flag::Known,
         tomb,
     };
-    let split = split_entries(alloc, from, entries)?;
-    let mut made = split_entries(alloc, to, split.as_slice())?;
+    let mut made = split_twice(alloc, from, to, entries)?;
     for entry in made.iter_mut() {
         if *from <= entry.position && entry.position < *to {
             entry.at = known;

@@ -2,7 +2,7 @@
 
 use crate::chain::{Chain, version_of};
 use crate::chance::Chance;
-use crate::checks::{Effect, carried, check_carried, check_chain, check_effect, pictures};
+use crate::checks::{Effect, View, check_carried, check_chain, check_effect};
 use crate::cleaning::{clean, free};
 use crate::evicting::evict;
 use crate::filling::{fill_gap, fill_row, fill_statics};
@@ -11,7 +11,7 @@ use crate::tally::Tally;
 use crate::universe::Universe;
 use crate::updating::{begin, relabel, unit};
 use crate::writing::write;
-use rc_core::{ChainKind, Flag, release_pin};
+use rc_core::{ChainKind, Flag, PlainVersion, release_pin};
 use std::alloc::{AllocError, Global};
 
 /// A step that was taken.
@@ -74,11 +74,7 @@ impl History {
     ) -> Result<Self, AllocError> {
         let universe = Universe::new(alloc)?;
         let mut chance = Chance::new(seed);
-        let mut source = Source::empty(alloc, &universe)?;
-        if let ChainKind::Cache = kind {
-            source.add(alloc, &some_mutation(alloc, &universe, &mut chance)?)?;
-        }
-        let sources = vec![in alloc; source]?;
+        let sources = first_sources(alloc, kind, &universe, &mut chance)?;
         Ok(History {
             universe,
             sources,
@@ -90,11 +86,15 @@ impl History {
 
     /// One step, if what chance takes is lawful now, and every definition after it.
     pub(crate) fn step(&mut self, alloc: Global) -> Result<(), AllocError> {
-        let before = pictures(alloc, &self.universe, &self.chain)?;
-        let carried_before = carried(alloc, &self.universe, &self.chain)?;
-        let Some(step) = self.take_step(alloc)? else {
-            return Ok(());
-        };
+        let before = View::of(alloc, &self.universe, &self.chain)?;
+        match self.take_step(alloc)? {
+            Some(step) => self.check_step(alloc, &before, &step),
+            None => Ok(()),
+        }
+    }
+
+    // Every definition after a step, and what was seen before it against what is seen now.
+    fn check_step(&mut self, alloc: Global, before: &View, step: &Step) -> Result<(), AllocError> {
         self.tally.count(step.kind);
         check_chain(
             alloc,
@@ -103,22 +103,8 @@ impl History {
             &self.chain,
             &mut self.tally,
         )?;
-        let now = pictures(alloc, &self.universe, &self.chain)?;
-        check_effect(
-            self.chain.kind,
-            &step.effect,
-            before.as_slice(),
-            now.as_slice(),
-            &mut self.tally,
-        );
-        if step.carries {
-            let carried_now = carried(alloc, &self.universe, &self.chain)?;
-            check_carried(
-                carried_before.as_slice(),
-                carried_now.as_slice(),
-                &mut self.tally,
-            );
-        }
+        let now = View::of(alloc, &self.universe, &self.chain)?;
+        check_view(self.chain.kind, step, before, &now, &mut self.tally);
         Ok(())
     }
 
@@ -158,28 +144,85 @@ fn take_cache_step(
     }
 }
 
-// A chain is opened: of a cache its head is filled.
-fn open(alloc: Global, history: &mut History) -> Result<Option<Step>, AllocError> {
-    let phase = match history.chain.kind {
-        ChainKind::Cache => history.sources.len().saturating_sub(1),
-        ChainKind::Memtable => {
-            let empty = Source::empty(alloc, &history.universe)?;
-            history.sources.push(empty)?;
-            history.sources.len().saturating_sub(1)
-        }
-    };
-    let flag = match history.chain.kind {
-        ChainKind::Cache => Flag::Unknown,
-        ChainKind::Memtable => Flag::Inherit,
-    };
-    let mut version = version_of(alloc, flag, phase)?;
-    if let (ChainKind::Cache, Some(source)) = (history.chain.kind, history.sources.last()) {
-        version.pt = source.pt;
-        version.static_flag = Flag::Known;
-        if !source.statics.is_empty() {
-            version.statics = Some(source.statics.copy(alloc)?);
-        }
+// What the first writes say: some of a cache, none of a memtable.
+fn first_sources(
+    alloc: Global,
+    kind: ChainKind,
+    universe: &Universe,
+    chance: &mut Chance,
+) -> Result<Vec<Source>, AllocError> {
+    let mut source = Source::empty(alloc, universe)?;
+    if let ChainKind::Cache = kind {
+        add_some(alloc, &mut source, universe, chance)?;
     }
+    Ok(vec![in alloc; source]?)
+}
+
+fn add_some(
+    alloc: Global,
+    source: &mut Source,
+    universe: &Universe,
+    chance: &mut Chance,
+) -> Result<(), AllocError> {
+    let change = some_mutation(alloc, universe, chance)?;
+    source.add(alloc, &change)
+}
+
+// What is seen and what is carried before a step against what is now.
+fn check_view(kind: ChainKind, step: &Step, before: &View, now: &View, tally: &mut Tally) {
+    check_effect(
+        kind,
+        &step.effect,
+        before.pictures.as_slice(),
+        now.pictures.as_slice(),
+        tally,
+    );
+    if step.carries {
+        check_carried(before.carried.as_slice(), now.carried.as_slice(), tally);
+    }
+}
+
+// The phase of a chain that is opened: of a memtable a new one, of which no writes are yet.
+fn opened_phase(alloc: Global, history: &mut History) -> Result<usize, AllocError> {
+    if let ChainKind::Memtable = history.chain.kind {
+        let empty = Source::empty(alloc, &history.universe)?;
+        history.sources.push(empty)?;
+    }
+    Ok(history.sources.len().saturating_sub(1))
+}
+
+// The first version of a chain: of a cache its head is filled.
+fn opened_version(
+    alloc: Global,
+    kind: ChainKind,
+    phase: usize,
+    source: Option<&Source>,
+) -> Result<PlainVersion, AllocError> {
+    match (kind, source) {
+        (ChainKind::Cache, Some(source)) => {
+            let mut version = version_of(alloc, Flag::Unknown, phase)?;
+            fill_head(alloc, source, &mut version)?;
+            Ok(version)
+        }
+        (ChainKind::Cache, None) => version_of(alloc, Flag::Unknown, phase),
+        (ChainKind::Memtable, _) => version_of(alloc, Flag::Inherit, phase),
+    }
+}
+
+fn fill_head(alloc: Global, source: &Source, version: &mut PlainVersion) -> Result<(), AllocError> {
+    version.pt = source.pt;
+    version.static_flag = Flag::Known;
+    if !source.statics.is_empty() {
+        version.statics = Some(source.statics.copy(alloc)?);
+    }
+    Ok(())
+}
+
+// A chain is opened.
+fn open(alloc: Global, history: &mut History) -> Result<Option<Step>, AllocError> {
+    let phase = opened_phase(alloc, history)?;
+    let kind = history.chain.kind;
+    let version = opened_version(alloc, kind, phase, history.sources.last())?;
     history.chain.versions.push(version)?;
     history.chain.attached = true;
     Ok(Some(Step::new("open", Effect::Open)))

@@ -4,7 +4,7 @@ use crate::chance::Chance;
 use crate::universe::{KEYS, Universe, position};
 use rc_cell::{Cell, Cells, Row, Tomb};
 use rc_mutation::{Mutation, Statics, greater_tomb};
-use rc_position::{Pos, Weight};
+use rc_position::{Key, Pos, Weight};
 use std::alloc::{AllocError, Global};
 use std::cmp::Ordering;
 
@@ -33,14 +33,7 @@ pub(crate) struct Source {
 impl Source {
     /// Of no writes.
     pub(crate) fn empty(alloc: Global, universe: &Universe) -> Result<Self, AllocError> {
-        let mut places = Vec::new(alloc);
-        for x in &universe.all {
-            places.push(Said {
-                position: x.copy(alloc)?,
-                row: Row::empty(alloc),
-                tomb: None,
-            })?;
-        }
+        let places = empty_places(alloc, universe)?;
         Ok(Source {
             pt: None,
             statics: Row::empty(alloc),
@@ -50,18 +43,11 @@ impl Source {
 
     /// An equal table.
     pub(crate) fn copy(&self, alloc: Global) -> Result<Self, AllocError> {
-        let mut places = Vec::new(alloc);
-        for said in &self.places {
-            places.push(Said {
-                position: said.position.copy(alloc)?,
-                row: said.row.copy(alloc)?,
-                tomb: said.tomb,
-            })?;
-        }
+        let statics = self.statics.copy(alloc)?;
         Ok(Source {
             pt: self.pt,
-            statics: self.statics.copy(alloc)?,
-            places,
+            statics,
+            places: copy_places(alloc, self.places.as_slice())?,
         })
     }
 
@@ -73,6 +59,15 @@ impl Source {
             }
         }
         Ok(())
+    }
+
+    // One more row of a key written.
+    fn add_row_of(&mut self, alloc: Global, key: &Key, row: &Row) -> Result<(), AllocError> {
+        let at = Pos {
+            prefix: key.copy(alloc)?,
+            weight: Weight::At,
+        };
+        self.add_row(alloc, &at, row)
     }
 
     /// One more range tombstone written, from one position on and before another.
@@ -89,11 +84,7 @@ impl Source {
         self.pt = greater_tomb(self.pt, change.pt);
         self.statics.join(alloc, change.statics.as_row())?;
         for (key, row) in change.rows.as_slice() {
-            let at = Pos {
-                prefix: key.copy(alloc)?,
-                weight: Weight::At,
-            };
-            self.add_row(alloc, &at, row)?;
+            self.add_row_of(alloc, key, row)?;
         }
         for piece in change.ranges.as_slice() {
             self.add_range(&piece.from, &piece.to, piece.tomb);
@@ -110,6 +101,36 @@ impl Source {
         }
         None
     }
+}
+
+fn empty_places(alloc: Global, universe: &Universe) -> Result<Vec<Said>, AllocError> {
+    let mut places = Vec::new(alloc);
+    for x in &universe.all {
+        let position = x.copy(alloc)?;
+        places.push(Said {
+            position,
+            row: Row::empty(alloc),
+            tomb: None,
+        })?;
+    }
+    Ok(places)
+}
+
+fn copy_said(alloc: Global, said: &Said) -> Result<Said, AllocError> {
+    let position = said.position.copy(alloc)?;
+    Ok(Said {
+        position,
+        row: said.row.copy(alloc)?,
+        tomb: said.tomb,
+    })
+}
+
+fn copy_places(alloc: Global, said: &[Said]) -> Result<Vec<Said>, AllocError> {
+    let mut places = Vec::new(alloc);
+    for one in said {
+        places.push(copy_said(alloc, one)?)?;
+    }
+    Ok(places)
 }
 
 /// Whether two rows are one.
@@ -167,26 +188,42 @@ pub(crate) fn some_mutation(
     chance: &mut Chance,
 ) -> Result<Mutation, AllocError> {
     let mut change = Mutation::empty(alloc);
+    write_head(alloc, &mut change, chance)?;
+    write_rows(alloc, &mut change, chance)?;
+    write_ranges(alloc, &mut change, universe, chance)?;
+    Ok(change)
+}
+
+fn write_head(alloc: Global, change: &mut Mutation, chance: &mut Chance) -> Result<(), AllocError> {
     if chance.happens(25) {
         change.pt = Some(some_tomb(chance));
     }
     if chance.happens(50) {
         change.statics = Statics::from_cells(some_cells(alloc, chance)?);
     }
+    Ok(())
+}
+
+fn write_rows(alloc: Global, change: &mut Mutation, chance: &mut Chance) -> Result<(), AllocError> {
     for number in KEYS {
         if chance.happens(40) {
-            add_row(
-                alloc,
-                &mut change,
-                &position(alloc, number, Weight::At)?,
-                chance,
-            )?;
+            let at = position(alloc, number, Weight::At)?;
+            add_row(alloc, change, &at, chance)?;
         }
     }
+    Ok(())
+}
+
+fn write_ranges(
+    alloc: Global,
+    change: &mut Mutation,
+    universe: &Universe,
+    chance: &mut Chance,
+) -> Result<(), AllocError> {
     for _ in 0..chance.below(3) {
-        add_range(alloc, &mut change, universe, chance)?;
+        add_range(alloc, change, universe, chance)?;
     }
-    Ok(change)
+    Ok(())
 }
 
 // Some row at a position.

@@ -52,23 +52,45 @@ pub(crate) fn behind_key(alloc: Global, key: &Key) -> Result<Pos, AllocError> {
 impl Universe {
     /// The positions at the keys and their bounds; for the definitions also rows that nobody writes, one of them longer than a key.
     pub(crate) fn new(alloc: Global) -> Result<Self, AllocError> {
-        let mut all = vec![in alloc; start_position(alloc), position(alloc, 0, Weight::At)?]?;
-        let mut bounds = vec![in alloc; start_position(alloc)]?;
-        let mut stops = vec![in alloc; start_position(alloc)]?;
-        for number in KEYS {
-            push_key(alloc, &mut all, number)?;
-            bounds.push(position(alloc, number, Weight::Before)?)?;
-            bounds.push(position(alloc, number, Weight::After)?)?;
-            for weight in [Weight::Before, Weight::At, Weight::After] {
-                stops.push(position(alloc, number, weight)?)?;
-            }
-        }
-        all.push(position(alloc, 5, Weight::At)?)?;
-        all.push(end_position(alloc))?;
-        bounds.push(end_position(alloc))?;
-        stops.push(end_position(alloc))?;
+        let all = all_of(alloc)?;
+        let bounds = ends_of(alloc, &[Weight::Before, Weight::After])?;
+        let stops = ends_of(alloc, &[Weight::Before, Weight::At, Weight::After])?;
         Ok(Universe { all, bounds, stops })
     }
+}
+
+// The start, at each key the positions of these weights, and the end.
+fn ends_of(alloc: Global, weights: &[Weight]) -> Result<Vec<Pos>, AllocError> {
+    let mut made = vec![in alloc; start_position(alloc)]?;
+    push_ends(alloc, &mut made, weights)?;
+    Ok(made)
+}
+
+fn push_ends(alloc: Global, made: &mut Vec<Pos>, weights: &[Weight]) -> Result<(), AllocError> {
+    for number in KEYS {
+        for weight in weights {
+            made.push(position(alloc, number, *weight)?)?;
+        }
+    }
+    made.push(end_position(alloc))?;
+    Ok(())
+}
+
+// Where the definitions are tried.
+fn all_of(alloc: Global) -> Result<Vec<Pos>, AllocError> {
+    let mut all = vec![in alloc; start_position(alloc)]?;
+    push_all(alloc, &mut all)?;
+    Ok(all)
+}
+
+fn push_all(alloc: Global, all: &mut Vec<Pos>) -> Result<(), AllocError> {
+    all.push(position(alloc, 0, Weight::At)?)?;
+    for number in KEYS {
+        push_key(alloc, all, number)?;
+    }
+    all.push(position(alloc, 5, Weight::At)?)?;
+    all.push(end_position(alloc))?;
+    Ok(())
 }
 
 // The positions at a key: its bounds, its row, a longer one at 3, and behind 1 the row of 2, which nobody writes.

@@ -1,15 +1,15 @@
 //! An update of the newest version: unit by unit, or given up where there is no room.
 
-use crate::chain::{Place, Update, version_of};
+use crate::chain::{Chain, Place, Update, version_of};
 use crate::checks::Effect;
 use crate::filling::join_statics;
 use crate::history::{History, Step};
-use crate::source::some_mutation;
+use crate::source::{Source, some_mutation};
 use crate::tally::Tally;
-use crate::universe::{end_position, start_position};
+use crate::universe::{behind_key, end_position, start_position};
 use rc_cell::Tomb;
 use rc_core::{Entry, Flag, PlainVersion, is_at_place};
-use rc_mutation::{Frag, greater_tomb};
+use rc_mutation::{Frag, Mutation, greater_tomb};
 use rc_position::{Pos, Weight};
 use rc_units::{copy_entries, force_behind, lose_rest, put_fragment, split_entries};
 use std::alloc::{AllocError, Global};
@@ -20,21 +20,49 @@ pub(crate) fn begin(alloc: Global, history: &mut History) -> Result<Option<Step>
         return Ok(None);
     }
     let change = some_mutation(alloc, &history.universe, &mut history.chance)?;
-    let Some(last) = history.sources.last() else {
-        return Ok(None);
-    };
-    let mut source = last.copy(alloc)?;
-    source.add(alloc, &change)?;
     let phase = history.sources.len();
-    history.sources.push(source)?;
+    if push_source(alloc, &mut history.sources, &change)? {
+        return begin_with(alloc, history, &change, phase);
+    }
+    Ok(None)
+}
+
+// A phase more, in which this is written too; whether there was one before.
+fn push_source(
+    alloc: Global,
+    sources: &mut Vec<Source>,
+    change: &Mutation,
+) -> Result<bool, AllocError> {
+    let Some(last) = sources.last() else {
+        return Ok(false);
+    };
+    let source = with_change(alloc, last, change)?;
+    sources.push(source)?;
+    Ok(true)
+}
+
+fn with_change(alloc: Global, last: &Source, change: &Mutation) -> Result<Source, AllocError> {
+    let mut source = last.copy(alloc)?;
+    source.add(alloc, change)?;
+    Ok(source)
+}
+
+// Begins an update to a phase; or without room the chain is detached.
+fn begin_with(
+    alloc: Global,
+    history: &mut History,
+    change: &Mutation,
+    phase: usize,
+) -> Result<Option<Step>, AllocError> {
     if !history.chain.attached || history.chance.happens(5) {
         history.chain.attached = false;
         return Ok(Some(Step::new("update begun without room", Effect::Open)));
     }
     let version = version_of(alloc, Flag::Inherit, phase)?;
     history.chain.versions.push(version)?;
+    let fragments = change.fragments(alloc)?;
     history.chain.update = Some(Update {
-        fragments: change.fragments(alloc)?,
+        fragments,
         next: 0,
         force: None,
     });
@@ -63,23 +91,38 @@ pub(crate) fn relabel(alloc: Global, history: &mut History) -> Result<Option<Ste
 /// The next unit of the update that stands in the chain.
 pub(crate) fn unit(alloc: Global, history: &mut History) -> Result<Option<Step>, AllocError> {
     let room = !history.chance.happens(6);
-    let Some(mut update) = history.chain.update.take() else {
+    let Some(place) = history.chain.place(alloc)? else {
         return Ok(None);
     };
-    let place = update.place(alloc)?;
     if let Place::End = place {
+        history.chain.update = None;
         return Ok(Some(Step::carrying("update ended", Effect::Open)));
     }
+    if !room && place.is_past_head() {
+        return Ok(give_up(alloc, &mut history.chain, &place));
+    }
+    advance(alloc, history)
+}
+
+// The update ends, and what stands from its place on is lost.
+fn give_up(alloc: Global, chain: &mut Chain, place: &Place) -> Option<Step> {
+    chain.update = None;
+    let version = chain.versions.last_mut()?;
+    lose(alloc, place, version);
+    Some(Step::new("unit without room", Effect::Open))
+}
+
+// The next fragment goes into the newest version.
+fn advance(alloc: Global, history: &mut History) -> Result<Option<Step>, AllocError> {
+    let Some(update) = history.chain.update.as_mut() else {
+        return Ok(None);
+    };
     let Some(version) = history.chain.versions.last_mut() else {
         return Ok(None);
     };
-    if !room && place.is_past_head() {
-        lose(alloc, &place, version);
-        return Ok(Some(Step::new("unit without room", Effect::Open)));
-    }
-    let kind = put_next(alloc, &mut update, version)?;
-    refuse_spoiled(alloc, &update.place(alloc)?, version, &mut history.tally)?;
-    history.chain.update = Some(update);
+    let kind = put_next(alloc, update, version)?;
+    let place = update.place(alloc)?;
+    refuse_spoiled(alloc, &place, version, &mut history.tally)?;
     Ok(Some(Step::carrying(kind, Effect::Open)))
 }
 
@@ -90,23 +133,25 @@ fn put_next(
     version: &mut PlainVersion,
 ) -> Result<&'static str, AllocError> {
     let number = update.next.saturating_add(1);
+    let next = update.place_of(alloc, number)?;
     let Some(fragment) = update.fragments.as_slice().get(update.next) else {
         return Ok("update ended");
     };
-    let next = match update.fragments.as_slice().get(number) {
-        Some(next) => Place::of(alloc, next)?,
-        None => Place::End,
-    };
     put(alloc, update.force, fragment, &next, version)?;
-    let kind = if is_over_nothing(fragment, &next) {
-        "unit with a tombstone over a gap of no position"
-    } else {
-        "unit of an update"
-    };
+    let kind = kind_of(fragment, &next);
     let force = force_behind(update.force, fragment);
     update.force = force;
     update.next = number;
     Ok(kind)
+}
+
+// What kind of unit a fragment is.
+fn kind_of(fragment: &Frag, next: &Place) -> &'static str {
+    if is_over_nothing(fragment, next) {
+        "unit with a tombstone over a gap of no position"
+    } else {
+        "unit of an update"
+    }
 }
 
 // What a fragment says goes into the version, and an entry marks the next place.
@@ -117,17 +162,23 @@ fn put(
     next: &Place,
     version: &mut PlainVersion,
 ) -> Result<(), AllocError> {
-    match fragment {
-        Frag::Start(pt) => version.pt = greater_tomb(version.pt, *pt),
-        Frag::Static(row) => join_statics(alloc, version, row)?,
-        Frag::Row(_, _) | Frag::Change(_, _) | Frag::End => {}
-    }
+    put_head(alloc, fragment, version)?;
     let end = end_position(alloc);
     let next = match next {
         Place::At(x) => x,
         Place::Head | Place::Static | Place::End => &end,
     };
     version.entries = put_fragment(alloc, force, fragment, next, version.entries.as_slice())?;
+    Ok(())
+}
+
+// What a fragment says of the head and the static row goes into the version.
+fn put_head(alloc: Global, fragment: &Frag, version: &mut PlainVersion) -> Result<(), AllocError> {
+    match fragment {
+        Frag::Start(pt) => version.pt = greater_tomb(version.pt, *pt),
+        Frag::Static(row) => join_statics(alloc, version, row)?,
+        Frag::Row(_, _) | Frag::Change(_, _) | Frag::End => {}
+    }
     Ok(())
 }
 
@@ -162,42 +213,69 @@ fn refuse_spoiled(
     version: &PlainVersion,
     tally: &mut Tally,
 ) -> Result<(), AllocError> {
-    let Place::At(place) = place else {
-        return Ok(());
-    };
-    if *place >= end_position(alloc) {
-        return Ok(());
+    match place {
+        Place::At(place) if *place < end_position(alloc) => {
+            refuse_dummy(alloc, place, version, tally)?;
+            refuse_tomb(alloc, place, version, tally)
+        }
+        _ => Ok(()),
     }
-    let behind = Pos {
-        prefix: place.prefix.copy(alloc)?,
-        weight: Weight::After,
-    };
+}
+
+// A version with a dummy behind the place.
+fn refuse_dummy(
+    alloc: Global,
+    place: &Pos,
+    version: &PlainVersion,
+    tally: &mut Tally,
+) -> Result<(), AllocError> {
+    let behind = behind_key(alloc, &place.prefix)?;
     if *place < behind && behind < end_position(alloc) {
-        let with_dummy = split_entries(alloc, &behind, version.entries.as_slice())?;
+        let spoiled = of_entries(split_entries(alloc, &behind, version.entries.as_slice())?);
         tally.expect(
-            !is_at_place(place, &of_entries(with_dummy)),
+            !is_at_place(place, &spoiled),
             "a dummy behind the place is refused",
         );
     }
-    let mut with_tomb = copy_entries(alloc, version.entries.as_slice())?;
-    if place.weight == Weight::Before {
-        let row = Pos {
-            prefix: place.prefix.copy(alloc)?,
-            weight: Weight::At,
-        };
-        with_tomb = split_entries(alloc, &row, with_tomb.as_slice())?;
+    Ok(())
+}
+
+// A version with a tombstone behind the place.
+fn refuse_tomb(
+    alloc: Global,
+    place: &Pos,
+    version: &PlainVersion,
+    tally: &mut Tally,
+) -> Result<(), AllocError> {
+    let mut spoiled = of_entries(entries_at(alloc, place, version.entries.as_slice())?);
+    cover_behind(place, spoiled.entries.as_mut_slice());
+    tally.expect(
+        !is_at_place(place, &spoiled),
+        "a tombstone behind the place is refused",
+    );
+    Ok(())
+}
+
+// The entries, and where the place is before a key one at the row of the key.
+fn entries_at(alloc: Global, place: &Pos, entries: &[Entry]) -> Result<Vec<Entry>, AllocError> {
+    if place.weight != Weight::Before {
+        return copy_entries(alloc, entries);
     }
-    for entry in with_tomb.iter_mut() {
+    let row = Pos {
+        prefix: place.prefix.copy(alloc)?,
+        weight: Weight::At,
+    };
+    split_entries(alloc, &row, entries)
+}
+
+// A tombstone over the gap before the first entry behind the place.
+fn cover_behind(place: &Pos, entries: &mut [Entry]) {
+    for entry in entries.iter_mut() {
         if entry.position > *place {
             entry.gap.tomb = Some(Tomb { ts: 9, dt: 0 });
             break;
         }
     }
-    tally.expect(
-        !is_at_place(place, &of_entries(with_tomb)),
-        "a tombstone behind the place is refused",
-    );
-    Ok(())
 }
 
 // A version of these entries alone.

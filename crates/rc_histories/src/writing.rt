@@ -9,7 +9,7 @@ use crate::universe::{KEYS, position};
 use rc_cell::Row;
 use rc_core::{Flag, PlainVersion};
 use rc_mutation::greater_tomb;
-use rc_position::Weight;
+use rc_position::{Pos, Weight};
 use rc_units::{join_row, raise_entries};
 use std::alloc::{AllocError, Global};
 
@@ -101,10 +101,19 @@ fn write_row(alloc: Global, history: &mut History) -> Result<Option<Step>, Alloc
         return Ok(None);
     };
     let at = position(alloc, *number, Weight::At)?;
+    put_row(alloc, history, &at, &row)
+}
+
+fn put_row(
+    alloc: Global,
+    history: &mut History,
+    at: &Pos,
+    row: &Row,
+) -> Result<Option<Step>, AllocError> {
     let Some((version, source)) = newest(&mut history.chain, &mut history.sources) else {
         return Ok(None);
     };
-    version.entries = join_row(alloc, &at, &row, version.entries.as_slice())?;
-    source.add_row(alloc, &at, &row)?;
+    version.entries = join_row(alloc, at, row, version.entries.as_slice())?;
+    source.add_row(alloc, at, row)?;
     Ok(Some(Step::new("write of a row", Effect::Open)))
 }

@@ -189,6 +189,12 @@ fn command_told(alloc: Global, command: &Command) -> Result<Vec<u8>, AllocError>
     Ok(text)
 }
 
+// What the copy of a command is told as.
+fn copy_told(alloc: Global, command: &Command) -> Result<Vec<u8>, AllocError> {
+    let same = command.copy(alloc)?;
+    command_told(alloc, &same)
+}
+
 /// What a line means: the copy of its command, or its refusal.
 pub(crate) fn described(
     alloc: Global,
@@ -196,7 +202,7 @@ pub(crate) fn described(
     line: &[u8],
 ) -> Result<Vec<u8>, AllocError> {
     match read_line(alloc, schema, line) {
-        Ok(command) => command_told(alloc, &command.copy(alloc)?),
+        Ok(command) => copy_told(alloc, &command),
         Err(LineErr::Refused(refusal)) => refusal_told(alloc, refusal),
         Err(LineErr::NoMemory) => Err(AllocError),
     }

@@ -15,14 +15,27 @@ use rc_spelling::read_bytes;
 use std::alloc::{AllocError, Global};
 use std::io;
 
-/// The answer to a case under a schema, or under none.
+/// The answer to a case of a line or a reply under a schema, or under none.
+fn answer_under(
+    alloc: Global,
+    schema: Option<&Schema>,
+    kind: &[u8],
+    text: &[u8],
+) -> Result<Option<Vec<u8>>, AllocError> {
+    if let Some(line) = lines::line_of(alloc, kind, text)? {
+        return Ok(Some(described(alloc, schema, line.as_slice())?));
+    }
+    match replies::reply_of(alloc, kind, text)? {
+        Some(reply) => Ok(Some(replies::printed(alloc, schema, &reply)?)),
+        None => Ok(None),
+    }
+}
+
+/// The answer to a case.
 fn answer(alloc: Global, schema: Option<&Schema>, case: &[u8]) -> Result<Vec<u8>, AllocError> {
     let (kind, text) = first_word(case);
-    if let Some(line) = lines::line_of(alloc, kind, text)? {
-        return described(alloc, schema, line.as_slice());
-    }
-    if let Some(reply) = replies::reply_of(alloc, kind, text)? {
-        return replies::printed(alloc, schema, &reply);
+    if let Some(told) = answer_under(alloc, schema, kind, text)? {
+        return Ok(told);
     }
     match spelled::told(alloc, kind, text)? {
         Some(told) => Ok(told),
@@ -45,22 +58,37 @@ fn answer_of_either(
     }
 }
 
+/// What is printed for a case.
+fn told(alloc: Global, schema: Option<&Schema>, case: &[u8]) -> Result<String, AllocError> {
+    match String::from_utf8(answer_of_either(alloc, schema, case)?) {
+        Ok(told) => Ok(told),
+        Err(_) => String::from_str(alloc, "no text"),
+    }
+}
+
+/// What is printed for a line; nothing of one that is no case, as one that says under which schema the others stand.
+fn take(
+    alloc: Global,
+    schema: &mut Option<Schema>,
+    line: &[u8],
+) -> Result<Option<String>, AllocError> {
+    if line.is_empty() || line.starts_with(b"#") {
+        return Ok(None);
+    }
+    if let Some(text) = line.strip_prefix(b"under ") {
+        *schema = schema_of(alloc, text)?;
+        return Ok(None);
+    }
+    Ok(Some(told(alloc, schema.as_ref(), line)?))
+}
+
 fn main(rt: HostRuntime) -> io::Result<()> {
     let alloc = rt.alloc();
     let mut schema = None;
     for line in rt.lines(alloc) {
         let line = line?;
-        let line = line.as_bytes();
-        if line.is_empty() || line.starts_with(b"#") {
-            continue;
-        }
-        if let Some(text) = line.strip_prefix(b"under ") {
-            schema = schema_of(alloc, text)?;
-            continue;
-        }
-        match String::from_utf8(answer_of_either(alloc, schema.as_ref(), line)?) {
-            Ok(told) => println!(rt; "{told}")?,
-            Err(_) => println!(rt; "no text")?,
+        if let Some(told) = take(alloc, &mut schema, line.as_bytes())? {
+            println!(rt; "{told}")?;
         }
     }
     Ok(())

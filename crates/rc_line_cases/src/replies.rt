@@ -36,23 +36,40 @@ pub(crate) fn reply_of(
     Ok(None)
 }
 
+// The text of a reply behind a `>`.
+fn told(alloc: Global, schema: &Schema, reply: &Reply) -> Result<Vec<u8>, AllocError> {
+    let mut text = Vec::from_slice(alloc, b">")?;
+    print_reply(alloc, schema, reply, &mut text)?;
+    Ok(text)
+}
+
+// Whether a refusal has this text where it is printed alone.
+fn is_alone(alloc: Global, refusal: Refusal, text: &[u8]) -> Result<bool, AllocError> {
+    let mut same = Vec::from_slice(alloc, b">")?;
+    print_refusal(alloc, refusal, &mut same)?;
+    Ok(same.as_slice() == text)
+}
+
+// Whether a reply has this text too where it is a refusal, which is printed alone.
+fn is_same(alloc: Global, reply: &Reply, text: &[u8]) -> Result<bool, AllocError> {
+    match reply {
+        Reply::Refused(refusal) => is_alone(alloc, *refusal, text),
+        _ => Ok(true),
+    }
+}
+
 /// The text of a reply behind what was there before; a refusal is printed alone, too.
 pub(crate) fn printed(
     alloc: Global,
     schema: Option<&Schema>,
     reply: &Reply,
 ) -> Result<Vec<u8>, AllocError> {
-    let mut text = Vec::from_slice(alloc, b">")?;
     let Some(schema) = schema else {
         return Vec::from_slice(alloc, b"no case");
     };
-    print_reply(alloc, schema, reply, &mut text)?;
-    if let Reply::Refused(refusal) = reply {
-        let mut same = Vec::from_slice(alloc, b">")?;
-        print_refusal(alloc, *refusal, &mut same)?;
-        if same.as_slice() != text.as_slice() {
-            return Vec::from_slice(alloc, b"differs");
-        }
+    let mut text = told(alloc, schema, reply)?;
+    if !is_same(alloc, reply, text.as_slice())? {
+        return Vec::from_slice(alloc, b"differs");
     }
     if let Some(b'\n') = text.as_slice().last() {
         text.pop();
@@ -112,11 +129,17 @@ fn damaged(text: &[u8]) -> Option<Refusal> {
     })
 }
 
-fn figures(alloc: Global, text: &[u8]) -> Result<Option<Reply>, AllocError> {
+fn numbers_of(alloc: Global, words: &[&[u8]]) -> Result<Vec<u64>, AllocError> {
     let mut all = Vec::new(alloc);
-    for word in words(alloc, text)?.as_slice() {
+    for word in words {
         all.push(number(word, u64::MAX).unwrap_or(0))?;
     }
+    Ok(all)
+}
+
+fn figures(alloc: Global, text: &[u8]) -> Result<Option<Reply>, AllocError> {
+    let words = words(alloc, text)?;
+    let all = numbers_of(alloc, words.as_slice())?;
     Ok(Some(Reply::Stats(figures_of(all.as_slice()))))
 }
 
@@ -146,13 +169,26 @@ fn figures_of(all: &[u64]) -> Figures {
     }
 }
 
-fn given(alloc: Global, text: &[u8], more: bool) -> Result<Option<Reply>, AllocError> {
+// The lines of some words.
+fn lines_of(alloc: Global, words: &[&[u8]]) -> Result<Vec<OutLine>, AllocError> {
     let mut lines = Vec::new(alloc);
-    if !text.is_empty() {
-        for word in words(alloc, text)?.as_slice() {
-            lines.push(line_of(alloc, word)?)?;
-        }
+    for word in words {
+        lines.push(line_of(alloc, word)?)?;
     }
+    Ok(lines)
+}
+
+// The lines of a text; none of an empty one.
+fn lines_in(alloc: Global, text: &[u8]) -> Result<Vec<OutLine>, AllocError> {
+    if text.is_empty() {
+        return Ok(Vec::new(alloc));
+    }
+    let words = words(alloc, text)?;
+    lines_of(alloc, words.as_slice())
+}
+
+fn given(alloc: Global, text: &[u8], more: bool) -> Result<Option<Reply>, AllocError> {
+    let lines = lines_in(alloc, text)?;
     let lines = Lines::from_slice(alloc, lines.as_slice())?;
     Ok(Some(Reply::Given { lines, more }))
 }
@@ -160,15 +196,20 @@ fn given(alloc: Global, text: &[u8], more: bool) -> Result<Option<Reply>, AllocE
 // The line of a word.
 fn line_of(alloc: Global, word: &[u8]) -> Result<OutLine, AllocError> {
     let (name, values) = cut_at(word, b':');
-    let shown = shown_of(alloc, values)?;
     if says(name, "static") {
-        return Ok(OutLine::Static(shown));
+        return Ok(OutLine::Static(shown_of(alloc, values)?));
     }
-    Ok(OutLine::Row(Key::from_vec(comps_of(alloc, name)?), shown))
+    let key = Key::from_vec(comps_of(alloc, name)?);
+    Ok(OutLine::Row(key, shown_of(alloc, values)?))
 }
 
 // Values with `:` between them.
 fn shown_of(alloc: Global, text: &[u8]) -> Result<Shown, AllocError> {
+    let values = values_of(alloc, text)?;
+    Shown::from_slice(alloc, values.as_slice())
+}
+
+fn values_of(alloc: Global, text: &[u8]) -> Result<Vec<(u8, Value)>, AllocError> {
     let mut all = Vec::new(alloc);
     let mut left = text;
     for _ in 0..text.len() {
@@ -176,20 +217,21 @@ fn shown_of(alloc: Global, text: &[u8]) -> Result<Shown, AllocError> {
             break;
         }
         let (value, rest) = cut_at(left, b':');
-        if let Some(pair) = value_of(alloc, value)? {
-            all.push(pair)?;
-        }
+        push_value(alloc, value, &mut all)?;
         left = rest;
     }
-    Shown::from_slice(alloc, all.as_slice())
+    Ok(all)
 }
 
-// A column and its value.
-fn value_of(alloc: Global, text: &[u8]) -> Result<Option<(u8, Value)>, AllocError> {
+// Appends a column and its value, where the text is that of one.
+fn push_value(alloc: Global, text: &[u8], all: &mut Vec<(u8, Value)>) -> Result<(), AllocError> {
     let (column, spelled) = cut_at(text, b'=');
-    let column = number(column, 255).and_then(|column| u8::try_from(column).ok());
-    match (column, read_bytes(alloc, spelled)?) {
-        (Some(column), Some(bytes)) => Ok(Some((column, Value::from_vec(bytes)))),
-        _ => Ok(None),
+    let Some(column) = number(column, 255).and_then(|column| u8::try_from(column).ok()) else {
+        return Ok(());
+    };
+    match read_bytes(alloc, spelled)? {
+        Some(bytes) => all.push((column, Value::from_vec(bytes)))?,
+        None => {}
     }
+    Ok(())
 }

@@ -38,21 +38,35 @@ fn text_of(alloc: Global, text: &str) -> Result<Option<Vec<u8>>, AllocError> {
 
 fn bytes_told(alloc: Global, word: &[u8]) -> Result<Option<Vec<u8>>, AllocError> {
     match read_bytes(alloc, word)? {
-        Some(bytes) => text_of(alloc, hex::encode(alloc, bytes.as_slice())?.as_str()),
+        Some(bytes) => hex_told(alloc, bytes.as_slice()),
         None => text_of(alloc, "none"),
     }
 }
 
-fn parts_told(alloc: Global, word: &[u8]) -> Result<Option<Vec<u8>>, AllocError> {
-    let Some(components) = read_components(alloc, word, 5)? else {
-        return text_of(alloc, "none");
-    };
+fn hex_told(alloc: Global, bytes: &[u8]) -> Result<Option<Vec<u8>>, AllocError> {
+    let spelled = hex::encode(alloc, bytes)?;
+    text_of(alloc, spelled.as_str())
+}
+
+fn push_part(alloc: Global, bytes: &[u8], text: &mut Vec<u8>) -> Result<(), AllocError> {
+    let spelled = hex::encode(alloc, bytes)?;
+    text.extend_from_slice(spelled.as_bytes())?;
+    text.push(b';')
+}
+
+fn parts_of(alloc: Global, components: &[Vec<u8>]) -> Result<Vec<u8>, AllocError> {
     let mut text = Vec::new(alloc);
-    for bytes in components.as_slice() {
-        text.extend_from_slice(hex::encode(alloc, bytes.as_slice())?.as_bytes())?;
-        text.push(b';')?;
+    for bytes in components {
+        push_part(alloc, bytes.as_slice(), &mut text)?;
     }
-    Ok(Some(text))
+    Ok(text)
+}
+
+fn parts_told(alloc: Global, word: &[u8]) -> Result<Option<Vec<u8>>, AllocError> {
+    match read_components(alloc, word, 5)? {
+        Some(components) => Ok(Some(parts_of(alloc, components.as_slice())?)),
+        None => text_of(alloc, "none"),
+    }
 }
 
 fn numbers_told(alloc: Global, word: &[u8]) -> Result<Option<Vec<u8>>, AllocError> {
@@ -75,22 +89,32 @@ fn printed_bytes(alloc: Global, bytes: &[u8]) -> Result<Option<Vec<u8>>, AllocEr
 }
 
 fn printed_key(alloc: Global, word: &[u8]) -> Result<Option<Vec<u8>>, AllocError> {
+    let comps = comps_of(alloc, word)?;
     let mut text = Vec::from_slice(alloc, b">")?;
-    print_key(comps_of(alloc, word)?.as_slice(), &mut text)?;
+    print_key(comps.as_slice(), &mut text)?;
     Ok(Some(text))
+}
+
+// The component that bytes spell: a number is an int.
+fn comp_of(bytes: Vec<u8>) -> Comp {
+    match signed(bytes.as_slice()) {
+        Some(number) => Comp::Int(number),
+        None => Comp::Text(Text::from_vec(bytes)),
+    }
+}
+
+fn each_comp(alloc: Global, components: Vec<Vec<u8>>) -> Result<Vec<Comp>, AllocError> {
+    let mut comps = Vec::new(alloc);
+    for bytes in components {
+        comps.push(comp_of(bytes))?;
+    }
+    Ok(comps)
 }
 
 /// The components that a word spells, of which those that are numbers are ints; none where it spells none.
 pub(crate) fn comps_of(alloc: Global, word: &[u8]) -> Result<Vec<Comp>, AllocError> {
-    let mut comps = Vec::new(alloc);
-    let Some(components) = read_components(alloc, word, 5)? else {
-        return Ok(comps);
-    };
-    for bytes in components {
-        match signed(bytes.as_slice()) {
-            Some(number) => comps.push(Comp::Int(number))?,
-            None => comps.push(Comp::Text(Text::from_vec(bytes)))?,
-        }
+    match read_components(alloc, word, 5)? {
+        Some(components) => each_comp(alloc, components),
+        None => Ok(Vec::new(alloc)),
     }
-    Ok(comps)
 }

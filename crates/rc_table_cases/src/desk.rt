@@ -42,6 +42,17 @@ fn two_numbers(text: &str) -> Option<(i64, i64)> {
     Some((first, last))
 }
 
+// Raises the byte at an offset by one; whether there is one.
+fn raise(bytes: &mut [u8], offset: usize) -> bool {
+    match bytes.get_mut(offset) {
+        Some(byte) => {
+            *byte = byte.wrapping_add(1);
+            true
+        }
+        None => false,
+    }
+}
+
 impl Desk {
     /// An empty file.
     pub(crate) fn new(alloc: Global) -> Result<Self, AllocError> {
@@ -144,13 +155,18 @@ impl Desk {
         let failing = self.failing.take();
         match written(alloc, parts, &self.schema, failing, &mut self.text)? {
             Some(bytes) => {
-                let count = bytes.len();
-                write!(self.text, "{count} bytes\n")?;
                 self.file = bytes;
+                self.tell_size()?;
             }
             None => self.text.push_str("no file\n")?,
         }
         Ok(true)
+    }
+
+    // Tells how many bytes the file has.
+    fn tell_size(&mut self) -> Result<(), AllocError> {
+        let count = self.file.len();
+        write!(self.text, "{count} bytes\n")
     }
 
     // The bytes of the file.
@@ -207,32 +223,43 @@ impl Desk {
 
     // Whether it is a table with the byte at an offset raised by one.
     fn ask_changed(&mut self, alloc: Global, text: &str) -> Result<bool, AllocError> {
-        let Ok(offset) = text.parse::<usize>() else {
-            return Ok(false);
-        };
         let mut bytes = Vec::from_slice(alloc, self.file.as_slice())?;
-        let Some(byte) = bytes.as_mut_slice().get_mut(offset) else {
-            return Ok(false);
-        };
-        *byte = byte.wrapping_add(1);
-        self.ask_of(alloc, bytes, Question::Table)
+        match text.parse::<usize>() {
+            Ok(offset) if raise(bytes.as_mut_slice(), offset) => {
+                self.ask_of(alloc, bytes, Question::Table)
+            }
+            _ => Ok(false),
+        }
     }
 
     // Whether so many of its first bytes with others behind them are a table.
     fn ask_other(&mut self, alloc: Global, text: &str) -> Result<bool, AllocError> {
+        match self.with_others(alloc, text)? {
+            Some(bytes) => self.ask_of(alloc, bytes, Question::Table),
+            None => Ok(false),
+        }
+    }
+
+    // So many of its first bytes with others behind them; none where the words do not say which.
+    fn with_others(&self, alloc: Global, text: &str) -> Result<Option<Vec<u8>>, AllocError> {
         let Some((count, others)) = text.split_once(' ') else {
-            return Ok(false);
+            return Ok(None);
         };
-        let (Ok(count), Ok(others)) = (
-            count.parse::<usize>(),
-            hex::decode(alloc, others.as_bytes()),
-        ) else {
-            return Ok(false);
+        let Ok(count) = count.parse::<usize>() else {
+            return Ok(None);
         };
+        let Ok(others) = hex::decode(alloc, others.as_bytes()) else {
+            return Ok(None);
+        };
+        Ok(Some(self.joined(alloc, count, others.as_slice())?))
+    }
+
+    // So many of its first bytes with these behind them.
+    fn joined(&self, alloc: Global, count: usize, others: &[u8]) -> Result<Vec<u8>, AllocError> {
         let mut bytes = Vec::from_slice(alloc, self.file.as_slice())?;
         bytes.truncate(count);
-        bytes.extend_from_slice(others.as_slice())?;
-        self.ask_of(alloc, bytes, Question::Table)
+        bytes.extend_from_slice(others)?;
+        Ok(bytes)
     }
 
     // Whether it is a table of another schema.

@@ -77,6 +77,34 @@ fn tell_taken(bytes: &[u8], text: &mut String) -> Result<(), AllocError> {
     text.push('\n')
 }
 
+// Tells what four pulls of a source give, of which these are to fail; whether the word says which.
+fn tell_failing(
+    alloc: Global,
+    room: usize,
+    fails: &str,
+    text: &mut String,
+) -> Result<bool, AllocError>
+    requires some { 0 < room }
+    requires fits { room ≤ 4 }
+{
+    let Some(fails) = numbers_of(alloc, fails)? else {
+        return Ok(false);
+    };
+    let mut source = MemSource::new(Vec::from_slice(alloc, BYTES)?, fails);
+    tell_pulls(&mut source, room, text)?;
+    Ok(true)
+}
+
+// Tells what four pulls of a source give that never fails.
+fn tell_sure(alloc: Global, room: usize, text: &mut String) -> Result<bool, AllocError>
+    requires some { 0 < room }
+    requires fits { room ≤ 4 }
+{
+    let mut source = SureSource::new(Vec::from_slice(alloc, BYTES)?);
+    tell_pulls(&mut source, room, text)?;
+    Ok(true)
+}
+
 /// Tells what four pulls of a source give, of which these are to fail, or which never fails; whether the words say so.
 pub(crate) fn pull(
     alloc: Global,
@@ -90,15 +118,17 @@ pub(crate) fn pull(
     if room == 0 || room > MOST {
         return Ok(false);
     }
-    let bytes = Vec::from_slice(alloc, BYTES)?;
     if fails == "never" {
-        tell_pulls(&mut SureSource::new(bytes), room, text)?;
-        return Ok(true);
+        return tell_sure(alloc, room, text);
     }
-    let Some(fails) = numbers_of(alloc, fails)? else {
-        return Ok(false);
-    };
-    tell_pulls(&mut MemSource::new(bytes, fails), room, text)?;
+    tell_failing(alloc, room, fails, text)
+}
+
+// The same of a sink that never fails.
+fn push_sure(alloc: Global, text: &mut String) -> Result<bool, AllocError> {
+    let mut sink = SureSink::new(alloc)?;
+    tell_pushes(&mut sink, text)?;
+    tell_taken(sink.bytes(), text)?;
     Ok(true)
 }
 
@@ -106,10 +136,7 @@ pub(crate) fn pull(
 /// the words say so.
 pub(crate) fn push(alloc: Global, fails: &str, text: &mut String) -> Result<bool, AllocError> {
     if fails == "never" {
-        let mut sink = SureSink::new(alloc)?;
-        tell_pushes(&mut sink, text)?;
-        tell_taken(sink.bytes(), text)?;
-        return Ok(true);
+        return push_sure(alloc, text);
     }
     let Some(fails) = numbers_of(alloc, fails)? else {
         return Ok(false);

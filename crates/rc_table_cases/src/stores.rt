@@ -118,6 +118,29 @@ pub(crate) fn failing_of(text: &str) -> Option<Failing> {
     Some(Failing { call, nth })
 }
 
+// A store that has file 1, and of which a call is to fail.
+fn prepare(alloc: Global, store: &mut MemStore, failing: Failing) -> Result<(), AllocError>
+    ensures { store.new.building ≡ store.old.building }
+{
+    store.put_file(1, Vec::from_slice(alloc, b"one")?)?;
+    store.fail_nth(failing.call, failing.nth)
+}
+
+// Tells what three calls of a kind answer, one after another.
+fn tell_attempts(
+    alloc: Global,
+    store: &mut MemStore,
+    call: StoreCall,
+    text: &mut String,
+) -> Result<(), AllocError>
+    requires { store.old.building ≡ None }
+{
+    text.push(attempt(store, alloc, call, 2))?;
+    text.push(attempt(store, alloc, call, 3))?;
+    text.push(attempt(store, alloc, call, 4))?;
+    text.push('\n')
+}
+
 /// Tells what three calls of a kind answer, one after another, of which one is to fail.
 pub(crate) fn tell_calls(
     alloc: Global,
@@ -125,12 +148,8 @@ pub(crate) fn tell_calls(
     text: &mut String,
 ) -> Result<(), AllocError> {
     let mut store = MemStore::new(alloc)?;
-    store.put_file(1, Vec::from_slice(alloc, b"one")?)?;
-    store.fail_nth(failing.call, failing.nth)?;
-    text.push(attempt(&mut store, alloc, failing.call, 2))?;
-    text.push(attempt(&mut store, alloc, failing.call, 3))?;
-    text.push(attempt(&mut store, alloc, failing.call, 4))?;
-    text.push('\n')
+    prepare(alloc, &mut store, failing)?;
+    tell_attempts(alloc, &mut store, failing.call, text)
 }
 
 // A number and what stands behind it.

@@ -58,7 +58,8 @@ fn tell_plan(
 ) -> Result<(), AllocError>
     requires { PartsFit schema.now parts.now }
 {
-    tell_info(&plan_table(alloc, parts, schema, 1)?, text)?;
+    let plan = plan_table(alloc, parts, schema, 1)?;
+    tell_info(&plan, text)?;
     text.push_str("\n")
 }
 
@@ -68,6 +69,32 @@ fn write<W: Store>(alloc: Global, parts: &[Partition], schema: &Schema, store: &
     requires fresh { IsNoFile (W.files store.old) 1 }
 {
     write_table(alloc, parts, schema, store, 1).is_ok()
+}
+
+// The bytes of file 1, where there is one.
+fn bytes_of(alloc: Global, store: &MemStore) -> Result<Option<Vec<u8>>, AllocError> {
+    match store.file(1) {
+        Some(bytes) => Ok(Some(Vec::from_slice(alloc, bytes)?)),
+        None => Ok(None),
+    }
+}
+
+// Writes the table of partitions as file 1 of a store that has none, and tells its plan; whether they fit.
+fn tell_written(
+    alloc: Global,
+    parts: &[Partition],
+    schema: &Schema,
+    store: &mut MemStore,
+    text: &mut String,
+) -> Result<bool, AllocError> {
+    if !fit(parts, schema) || store.file(1).is_some() {
+        return Ok(false);
+    }
+    tell_plan(alloc, parts, schema, text)?;
+    if !write(alloc, parts, schema, store) {
+        text.push_str("not written\n")?;
+    }
+    Ok(true)
 }
 
 /// The bytes of the table of partitions, of which the plan is told; none where it is not written, and then there is no file.
@@ -82,15 +109,6 @@ pub(crate) fn written(
     if let Some(failing) = failing {
         store.fail_nth(failing.call, failing.nth)?;
     }
-    if !fit(parts, schema) || store.file(1).is_some() {
-        return Ok(None);
-    }
-    tell_plan(alloc, parts, schema, text)?;
-    if !write(alloc, parts, schema, &mut store) {
-        text.push_str("not written\n")?;
-    }
-    match store.file(1) {
-        Some(bytes) => Ok(Some(Vec::from_slice(alloc, bytes)?)),
-        None => Ok(None),
-    }
+    tell_written(alloc, parts, schema, &mut store, text)?;
+    bytes_of(alloc, &store)
 }

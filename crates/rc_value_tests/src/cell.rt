@@ -1,15 +1,9 @@
-//! Which write wins, and what rows come to, by hand.
+//! What rows come to, by hand. Which of two writes wins, and when a row is live, are cases that a program reads.
 
-use rc_cell::{Cell, Cells, Row, Tomb, Value, laws};
+use rc_cell::{Cell, Cells, Row, Tomb, laws};
 use std::alloc::{AllocError, Global};
 use std::cmp::Ordering;
 use std::test::Fail;
-
-// A live cell of these bytes.
-fn cell_of(alloc: Global, ts: i64, bytes: &[u8]) -> Result<Cell, AllocError> {
-    let value = Value::from_vec(Vec::from_slice(alloc, bytes)?);
-    Ok(Cell::Live { ts, value })
-}
 
 fn row_of(
     alloc: Global,
@@ -34,46 +28,6 @@ fn tomb_of(ts: Option<i64>) -> Option<Tomb> {
     }
 }
 
-// Whether the row has one cell, this one, at column 3.
-fn holds(row: &Row, wanted: &Cell) -> bool {
-    match row.cells.as_slice() {
-        [(column, cell)] => *column == 3 && cell == wanted,
-        _ => false,
-    }
-}
-
-// The row of one cell joined with that of another.
-fn joined(alloc: Global, cell: &Cell, other: &Cell) -> Result<Row, AllocError> {
-    let mut row = row_of(alloc, None, None, 3, cell)?;
-    row.join(alloc, &row_of(alloc, None, None, 3, other)?)?;
-    Ok(row)
-}
-
-// Whether the first cell wins over the second: in both orders of joining, and in the order of cells.
-fn wins(alloc: Global, winner: &Cell, loser: &Cell) -> Result<bool, AllocError> {
-    let wins = holds(&joined(alloc, winner, loser)?, winner);
-    Ok(wins && holds(&joined(alloc, loser, winner)?, winner) && loser < winner)
-}
-
-#[test]
-fn the_winner_of_two_writes(rt: HostRuntime) -> Result<(), Fail> {
-    let alloc = rt.alloc();
-    let dead = Cell::Dead { ts: 10, dt: 8 };
-    let live = cell_of(alloc, 10, b"5")?;
-    assert!(rt; wins(alloc, &dead, &live)?);
-    Ok(())
-}
-
-#[test]
-fn a_tombstone_deletes_up_to_its_timestamp(rt: HostRuntime) -> Result<(), Fail> {
-    let alloc = rt.alloc();
-    let row = row_of(alloc, None, None, 3, &cell_of(alloc, 10, b"5")?)?;
-    let left = row.shadow(alloc, tomb_of(Some(9)))?;
-    assert!(rt; left.is_live(None) && row.is_live(tomb_of(Some(9))));
-    assert!(rt; !row.is_live(tomb_of(Some(10))));
-    Ok(())
-}
-
 // Joins a row of one cell, and perhaps a tombstone.
 fn join_cell(
     alloc: Global,
@@ -89,28 +43,42 @@ const OLDER: Cell = Cell::Dead { ts: 1, dt: 1 };
 
 const NEWER: Cell = Cell::Dead { ts: 1, dt: 2 };
 
+// Three columns more, of which that of 3 is written a second time.
+fn join_columns(alloc: Global, row: &mut Row) -> Result<(), AllocError> {
+    join_cell(alloc, row, Some(4), 255, &OLDER)?;
+    join_cell(alloc, row, Some(3), 0, &OLDER)?;
+    join_cell(alloc, row, None, 3, &NEWER)
+}
+
 // A row of three columns, of which that of 3 is written twice.
 fn three_columns(alloc: Global) -> Result<Row, AllocError> {
     let mut row = row_of(alloc, Some(i64::MIN), None, 3, &OLDER)?;
-    join_cell(alloc, &mut row, Some(4), 255, &OLDER)?;
-    join_cell(alloc, &mut row, Some(3), 0, &OLDER)?;
-    join_cell(alloc, &mut row, None, 3, &NEWER)?;
+    join_columns(alloc, &mut row)?;
     Ok(row)
+}
+
+// Whether these are three columns, the middle one as it was written last.
+fn are_joined(cells: &[(u8, Cell)]) -> bool {
+    match cells {
+        [first, second, third] => {
+            first.0 == 0 && second.0 == 3 && third.0 == 255 && second.1 == NEWER
+        }
+        _ => false,
+    }
+}
+
+// Whether a row is that of three columns.
+fn is_joined(row: &Row) -> bool {
+    row.marker == Some(i64::MIN)
+        && row.tomb == tomb_of(Some(4))
+        && are_joined(row.cells.as_slice())
+        && !row.is_empty()
 }
 
 #[test]
 fn rows_join_by_column(rt: HostRuntime) -> Result<(), Fail> {
     let row = three_columns(rt.alloc())?;
-    assert!(rt; row.marker == Some(i64::MIN) && row.tomb == tomb_of(Some(4)));
-    let copy = row.copy(rt.alloc())?;
-    match copy.cells.as_slice() {
-        [first, second, third] => {
-            assert!(rt; first.0 == 0 && second.0 == 3 && third.0 == 255);
-            assert!(rt; second.1 == NEWER);
-        }
-        _ => panic!(rt; "three columns"),
-    }
-    assert!(rt; !copy.is_empty() && Row::empty(rt.alloc()).is_empty());
+    assert!(rt; is_joined(&row.copy(rt.alloc())?));
     Ok(())
 }
 
@@ -130,6 +98,7 @@ fn orders_and_laws(rt: HostRuntime) {
     let cell = Cell::Dead { ts: 4, dt: 9 };
     assert!(rt; order_of(&cell, &cell) == (true, Some(Ordering::Equal), Ordering::Equal));
     assert!(rt; cell.ts() == 4 && !cell.is_live());
+    assert!(rt; Row::empty(rt.alloc()).is_empty());
     laws::order_follows_rules();
     laws::join_is_commutative();
     laws::join_is_associative();

@@ -2,7 +2,7 @@
 
 ghost use Rattle.std.specs.Prelude.{◌≡◌};
 
-use rc_position::{Comp, Key, PartKey, Pos, Slice, Steps, Text, Weight, end_pos, start_pos};
+use rc_position::{Comp, Key, PartKey, Pos, Steps, Text, Weight};
 use std::alloc::{AllocError, Global};
 use std::cmp::Ordering;
 use std::marker::Brand;
@@ -22,56 +22,52 @@ fn ordered<T: Ord>(left: &T, right: &T) -> (Ordering, bool) {
     (left.cmp(right), left == right)
 }
 
+// A row against its copy and against the position behind it, and its key against the key of no components.
+fn orders_of(alloc: Global, row: &Pos, after: &Pos) -> Result<[(Ordering, bool); 3], AllocError> {
+    let copied = ordered(row, &row.copy(alloc)?);
+    let keys = ordered(&row.prefix, &Key::empty(alloc));
+    Ok([copied, ordered(row, after), keys])
+}
+
 #[test]
 fn orders_and_copies(rt: HostRuntime) -> Result<(), Fail> {
-    let a = rt.alloc();
-    let row = pos(a, 1, Weight::At)?;
-    let after = pos(a, 1, Weight::After)?;
-    assert!(rt; ordered(&row, &row.copy(a)?) == (Ordering::Equal, true));
-    assert!(rt; ordered(&row, &after) == (Ordering::Less, false));
-    assert!(rt; ordered(&row.prefix, &Key::empty(a)) == (Ordering::Greater, false));
-    assert!(rt; row.prefix.compare_with_pos(&after) == Ordering::Less);
+    let row = pos(rt.alloc(), 1, Weight::At)?;
+    let after = pos(rt.alloc(), 1, Weight::After)?;
+    let orders = orders_of(rt.alloc(), &row, &after)?;
+    assert!(rt;
+        orders
+            == [
+                (Ordering::Equal, true),
+                (Ordering::Less, false),
+                (Ordering::Greater, false)
+            ]
+    );
+    Ok(())
+}
+
+#[test]
+fn weights_against_longer_keys(rt: HostRuntime) {
     assert!(rt; Weight::After.compare_with_longer() == Ordering::Greater);
-    Ok(())
-}
-
-// The keys behind 1, up to 3.
-fn behind_one(alloc: Global) -> Result<Slice, AllocError> {
-    let one = Key::from_slice(alloc, &[Comp::Int(1)])?;
-    let three = Key::from_slice(alloc, &[Comp::Int(3)])?;
-    let from = start_pos(alloc, &one, false)?;
-    Ok(Slice {
-        from,
-        to: end_pos(alloc, &three, true)?,
-    })
-}
-
-// Whether a slice has the row of a number.
-fn has(alloc: Global, slice: &Slice, number: i64) -> Result<bool, AllocError> {
-    Ok(slice.has(&pos(alloc, number, Weight::At)?))
-}
-
-#[test]
-fn holds_the_keys_of_a_range(rt: HostRuntime) -> Result<(), Fail> {
-    let slice = behind_one(rt.alloc())?;
-    assert!(rt; !has(rt.alloc(), &slice, 1)? && has(rt.alloc(), &slice, 3)?);
-    Ok(())
-}
-
-#[test]
-fn copies_ranges_of_keys(rt: HostRuntime) -> Result<(), Fail> {
-    let same = behind_one(rt.alloc())?.copy(rt.alloc())?;
-    assert!(rt; has(rt.alloc(), &same, 3)?);
-    Ok(())
 }
 
 #[test]
 fn texts_in_the_memory_that_holds_them(rt: HostRuntime) -> Result<(), Fail> {
-    let a = rt.alloc();
-    let name = Text::from_vec(Vec::from_slice(a, b"owner")?);
-    assert!(rt; ordered(&name, &name.copy(a)?) == (Ordering::Equal, true));
-    let key = Key::from_vec(Vec::from_array(a, [Comp::Int(2), Comp::Text(name)])?);
-    assert!(rt; ordered(&key, &key.copy(a)?) == (Ordering::Equal, true));
+    let name = Text::from_vec(Vec::from_slice(rt.alloc(), b"owner")?);
+    assert!(rt; ordered(&name, &name.copy(rt.alloc())?) == (Ordering::Equal, true));
+    Ok(())
+}
+
+// The key of a number and a text.
+fn key_of(alloc: Global) -> Result<Key, AllocError> {
+    let name = Text::from_slice(alloc, b"owner")?;
+    let comps = Vec::from_array(alloc, [Comp::Int(2), Comp::Text(name)])?;
+    Ok(Key::from_vec(comps))
+}
+
+#[test]
+fn copies_keys(rt: HostRuntime) -> Result<(), Fail> {
+    let key = key_of(rt.alloc())?;
+    assert!(rt; ordered(&key, &key.copy(rt.alloc())?) == (Ordering::Equal, true));
     Ok(())
 }
 

@@ -1,61 +1,45 @@
-//! Each call once. The tables of cases are read by a program.
+//! Lines copied. What a reader is given are cases that a program reads.
 
-ghost use Rattle.std.specs.Prelude.{◌≢◌};
-ghost use Rattle.rc_cell.specs.Winner.{empty_row};
-
-use rc_cell::{Cells, Row, Value};
-use rc_mutation::{Head, Mutation, Rows};
-use rc_position::{Comp, Key, Slice, end_pos, start_pos};
-use rc_query::{Compactor, Lines, OutLine, Shown, answer_of, shown_rows};
+use rc_cell::Value;
+use rc_position::{Comp, Key};
+use rc_query::{Lines, OutLine, Shown};
 use std::alloc::{AllocError, Global};
 use std::test::Fail;
 
-fn key(alloc: Global, number: i64) -> Result<Key, AllocError> {
-    Key::from_slice(alloc, &[Comp::Int(number)])
+// The row of the key 1, whose value in column 3 is `ann`.
+fn line_of(alloc: Global) -> Result<OutLine, AllocError> {
+    let key = Key::from_slice(alloc, &[Comp::Int(1)])?;
+    let shown = Shown::from_slice(alloc, &[(3, Value::from_slice(alloc, b"ann")?)])?;
+    Ok(OutLine::Row(key, shown))
 }
 
-fn inserted(alloc: Global, ts: i64) -> Row
-    ensures { result ≢ empty_row }
-{
-    Row {
-        marker: Some(ts),
-        tomb: None,
-        cells: Cells::empty(alloc),
+// Whether a key is that of 1.
+fn is_key(key: &Key) -> bool {
+    match key.as_slice() {
+        [Comp::Int(number)] => *number == 1,
+        _ => false,
+    }
+}
+
+// Whether there is one value, `ann` in column 3.
+fn is_shown(shown: &Shown) -> bool {
+    match shown.as_slice() {
+        [(column, value)] => *column == 3 && value.as_slice() == b"ann".as_slice(),
+        _ => false,
+    }
+}
+
+// Whether there is one line, that one.
+fn is_line(lines: &Lines) -> bool {
+    match lines.as_slice() {
+        [OutLine::Row(key, shown)] => is_key(key) && is_shown(shown),
+        _ => false,
     }
 }
 
 #[test]
-fn gives_a_row_of_a_marker_alone(rt: HostRuntime) -> Result<(), Fail> {
-    let a = rt.alloc();
-    let rows = Rows::of_one(a, key(a, 1)?, inserted(a, 10))?;
-    assert_eq!(rt; shown_rows(a, &rows)?.as_slice().len(), 1);
-    let mut change = Mutation::empty(a);
-    change.rows = rows;
-    let slice = Slice {
-        from: start_pos(a, &key(a, 1)?, false)?,
-        to: end_pos(a, &key(a, 3)?, true)?,
-    };
-    assert_eq!(rt; answer_of(a, &change, &slice)?.as_slice().len(), 0);
-    Ok(())
-}
-
-#[test]
-fn gives_no_line_of_an_empty_head(rt: HostRuntime) -> Result<(), Fail> {
-    let head = Head {
-        pt: None,
-        statics: Row::empty(rt.alloc()),
-    };
-    let compactor = Compactor::new(rt.alloc(), &head)?;
-    assert!(rt; compactor.first(rt.alloc())?.is_none());
-    Ok(())
-}
-
-#[test]
 fn copies_lines(rt: HostRuntime) -> Result<(), Fail> {
-    let a = rt.alloc();
-    let shown = Shown::from_slice(a, &[(3, Value::from_slice(a, b"ann")?)])?;
-    let line = OutLine::Row(key(a, 1)?, shown.copy(a)?);
-    let lines = Lines::from_slice(a, &[line.copy(a)?])?;
-    assert_eq!(rt; lines.copy(a)?.as_slice().len(), 1);
+    let lines = Lines::from_slice(rt.alloc(), &[line_of(rt.alloc())?])?;
+    assert!(rt; is_line(&lines.copy(rt.alloc())?));
     Ok(())
 }
