@@ -38,6 +38,7 @@ use Rattle.rc_machine.specs.laws.FittingKeys.{ascend_as}
 
 -- ---- cells that fit, one by one
 
+-- what a check answers
 abbrev Checked : Type 0
 Checked = Result (Unit {0}) SchemaErr
 
