@@ -1,4 +1,7 @@
 //! Tests of a region, and random calls against a plain model of it.
+ghost use Rattle.std.specs.Prelude.{◌≡◌, ℕ, true, false, None, IsSome, is_some};
+ghost use Rattle.lsa_region.specs.Region.{body, link_of, IsEnd};
+
 use super::*;
 use crate::links::same;
 use lsa_kinds::links;
