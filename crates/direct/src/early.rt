@@ -1,7 +1,7 @@
 //! Before the machine is there: the lines before the first schema line, and what is said where the tables cannot be opened.
 
 use anyhow::Result;
-use rc_lines::{Command, LineErr, print_refusal, read_line};
+use rc_lines::{Command, LineErr, Refusal, print_refusal, read_line};
 use rc_outside::Sink;
 use rc_plain::OpenErr;
 use rc_schema::Schema;
@@ -19,15 +19,19 @@ pub(crate) fn schema_of<'a, K: Sink>(
         match read_line(alloc, None, line.as_slice()) {
             Ok(Command::SetSchema(schema)) => return Ok(Some((schema, rest))),
             Ok(_) => {}
-            Err(LineErr::Refused(refusal)) => {
-                let mut text = Vec::new(alloc);
-                print_refusal(alloc, refusal, &mut text)?;
-                out.push(text.as_slice())?;
-            }
+            Err(LineErr::Refused(refusal)) => push_refusal(alloc, refusal, out)?,
             Err(error) => return Err(error.into()),
         }
     }
     Ok(None)
+}
+
+// Writes the text of a refusal.
+fn push_refusal<K: Sink>(alloc: Global, refusal: Refusal, out: &mut K) -> Result<()> {
+    let mut text = Vec::new(alloc);
+    print_refusal(alloc, refusal, &mut text)?;
+    out.push(text.as_slice())?;
+    Ok(())
 }
 
 /// The last line where the tables of the folder cannot be opened. The only error is want of memory.

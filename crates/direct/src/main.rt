@@ -19,6 +19,7 @@ use early::{last_line, schema_of};
 use rc_lines::{Reply, print_reply};
 use rc_outside::{FolderStore, Sink, StdSink, Store};
 use rc_plain::Plain;
+use rc_schema::Schema;
 use std::alloc::Global;
 use std::io::{BufRead, BufReader};
 use std::process::ExitCode;
@@ -37,16 +38,29 @@ fn main(rt: HostRuntime) -> Result<ExitCode> {
         return Ok(ExitCode::SUCCESS);
     };
     let mut store = Written::new(FolderStore::new(&rt));
-    match Plain::open(alloc, &mut store, schema) {
+    let Some(rows) = run(alloc, &mut store, schema, rest, &mut out)? else {
+        return Ok(ExitCode::from(BAD_TABLE));
+    };
+    eprintln!(rt; "{rows} rows given, {} tables written", store.written())?;
+    Ok(ExitCode::SUCCESS)
+}
+
+/// Opens the machine and answers the lines behind the first schema line; None where the tables cannot be opened.
+fn run<W: Store, K: Sink>(
+    alloc: Global,
+    store: &mut W,
+    schema: Schema,
+    lines: &[Vec<u8>],
+    out: &mut K,
+) -> Result<Option<u64>> {
+    match Plain::open(alloc, store, schema) {
         Ok(mut machine) => {
             out.push(b"ok\n")?;
-            let rows = serve(alloc, &mut machine, &mut store, rest, &mut out)?;
-            eprintln!(rt; "{rows} rows given, {} tables written", store.written())?;
-            Ok(ExitCode::SUCCESS)
+            Ok(Some(serve(alloc, &mut machine, store, lines, out)?))
         }
         Err(error) => {
             out.push(last_line(alloc, &error)?.as_bytes())?;
-            Ok(ExitCode::from(BAD_TABLE))
+            Ok(None)
         }
     }
 }
@@ -61,16 +75,21 @@ fn serve<W: Store, K: Sink>(
 ) -> Result<u64>
     requires { (m : State) × Stands (W.files store.old) machine.old m }
 {
-    let mut text = Vec::new(alloc);
     let mut rows = 0u64;
     for line in lines {
         let reply = answer(alloc, machine, store, line.as_slice())?;
         rows = rows.saturating_add(rows_of(&reply));
-        text.clear();
-        print_reply(alloc, machine.schema(), &reply, &mut text)?;
-        out.push(text.as_slice())?;
+        push_reply(alloc, machine.schema(), &reply, out)?;
     }
     Ok(rows)
+}
+
+/// Writes the text of a reply.
+fn push_reply<K: Sink>(alloc: Global, schema: &Schema, reply: &Reply, out: &mut K) -> Result<()> {
+    let mut text = Vec::new(alloc);
+    print_reply(alloc, schema, reply, &mut text)?;
+    out.push(text.as_slice())?;
+    Ok(())
 }
 
 /// How many lines of rows a reply has, the static one too.

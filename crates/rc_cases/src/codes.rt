@@ -3,7 +3,7 @@
 //! takes in memory, `weighs dummy HEX` what the dummy of a position's does, and `entry HEX HEX` what the entry of a key and a row does.
 
 ghost use Rattle.std.specs.Prelude.{IfOk, IfSome};
-ghost use Rattle.rc_rowcode.specs.Spelling.{row_code, IsCode, IsCodedRow};
+ghost use Rattle.rc_rowcode.specs.Spelling.{row_code, IsCode, IsCodedRow, KeyFits, RowFits};
 
 use crate::answers::{Answer, says};
 use rc_cell::Row;
@@ -73,7 +73,9 @@ fn reads_row(alloc: Global, bytes: &[u8]) -> Result<Answer, AllocError> {
     Ok(again(bytes, written.as_slice(), (size, row_size(&row))))
 }
 
-fn row_written(alloc: Global, row: &Row) -> Result<Vec<u8>, AllocError> {
+fn row_written(alloc: Global, row: &Row) -> Result<Vec<u8>, AllocError>
+    requires { RowFits row.now }
+{
     let mut out = Vec::new(alloc);
     write_row(alloc, row, &mut out)?;
     Ok(out)
@@ -87,7 +89,9 @@ fn reads_key(alloc: Global, bytes: &[u8]) -> Result<Answer, AllocError> {
     Ok(again(bytes, written.as_slice(), (size, key_size(&key))))
 }
 
-fn key_written(alloc: Global, key: &Key) -> Result<Vec<u8>, AllocError> {
+fn key_written(alloc: Global, key: &Key) -> Result<Vec<u8>, AllocError>
+    requires { KeyFits key.now }
+{
     let mut out = Vec::new(alloc);
     write_key(alloc, key, &mut out)?;
     Ok(out)
@@ -101,7 +105,9 @@ fn reads_pos(alloc: Global, bytes: &[u8]) -> Result<Answer, AllocError> {
     Ok(again(bytes, written.as_slice(), (size, pos_size(&x))))
 }
 
-fn pos_written(alloc: Global, x: &Pos) -> Result<Vec<u8>, AllocError> {
+fn pos_written(alloc: Global, x: &Pos) -> Result<Vec<u8>, AllocError>
+    requires { KeyFits x.now.prefix }
+{
     let mut out = Vec::new(alloc);
     write_pos(alloc, x, &mut out)?;
     Ok(out)
@@ -150,7 +156,9 @@ pub(crate) fn entry(alloc: Global, key: &[u8], row: &[u8]) -> Result<Answer, All
     }
 }
 
-fn weighs_entry(alloc: Global, key: &Key, row: &[u8]) -> Result<Answer, AllocError> {
+fn weighs_entry(alloc: Global, key: &Key, row: &[u8]) -> Result<Answer, AllocError>
+    requires { KeyFits key.now }
+{
     match bytes_of(alloc, row)? {
         Some(bytes) => match read_row(alloc, bytes.as_slice())? {
             Some((row, _)) => Ok(Answer::Size(entry_size(key, &row))),

@@ -158,10 +158,15 @@ fn lines_of_fragments(alloc: Global, change: &Mutation) -> Result<u8, AllocError
     lines_of(alloc, &mut compactor, frags.as_slice())
 }
 
-/// How many lines a slice of four rows has, and how many their fragments give.
-pub(crate) fn slice(alloc: Global, pt: &[u8]) -> Result<Answer, AllocError> {
+// How many lines a slice of four rows has, and how many their fragments give.
+fn counts_of(alloc: Global, pt: &[u8]) -> Result<(usize, u8), AllocError> {
     let change = four_rows(alloc, pt)?;
     let within = lines_in_slice(alloc, &change)?;
-    let all = lines_of_fragments(alloc, &change)?;
+    Ok((within, lines_of_fragments(alloc, &change)?))
+}
+
+/// How many lines a slice of four rows has, and how many their fragments give.
+pub(crate) fn slice(alloc: Global, pt: &[u8]) -> Result<Answer, AllocError> {
+    let (within, all) = counts_of(alloc, pt)?;
     Ok(Answer::Text(format!(in alloc; "{within} of {all}")?))
 }

@@ -1,30 +1,17 @@
 //! Each public function of `rc_core` once, with answers worked out by hand from what flags mean.
 
-use rc_cell::{Cells, Row, Tomb};
-use rc_core::{
-    ChainKind, Entry, Flag, Mark, Part, PlainVersion, Side, base_at, evict_under_update,
-    first_part, flag_under, head_of, is_at_place, is_flagged_at, is_known_at, is_known_in,
-    join_updated_row, may_populate, merge_end, merge_head, put_down, raised_mark, release_pin,
-    seen_at, statics_at,
+use crate::lines::{
+    END, I, K, Line, U, entry_of, mark_of, marked, place_of, row_of, stamp, tomb_of, version_of,
 };
-use rc_position::{Comp, Key, Pos, Weight};
+use rc_core::{
+    ChainKind, Flag, Part, PlainVersion, Side, base_at, evict_under_update, first_part, flag_under,
+    head_of, is_at_place, is_flagged_at, is_known_at, is_known_in, join_updated_row, may_populate,
+    merge_end, merge_head, put_down, raised_mark, release_pin, seen_at, statics_at,
+};
+use rc_position::{Comp, Pos};
 use std::alloc::{AllocError, Global};
 use std::cmp::Ordering;
 use std::test::Fail;
-
-fn mark_of(flag: Flag, ts: i64) -> Mark {
-    Mark {
-        flag,
-        tomb: Some(Tomb { ts, dt: 0 }),
-    }
-}
-
-fn ts_of(mark: Mark) -> i64 {
-    match mark.tomb {
-        Some(tomb) => tomb.ts,
-        None => 0,
-    }
-}
 
 // Two versions of a cache: a known place under an unknown one is lost, and under an inheriting one it is known.
 #[test]
@@ -44,10 +31,10 @@ fn a_newer_flag_decides(rt: HostRuntime) -> Result<(), Fail> {
 // The cleaner puts a tombstone of 9 down under one of 4: it is joined where the newer version inherits, and dropped under an unknown.
 #[test]
 fn an_unknown_drops_what_lies_under_it(rt: HostRuntime) -> Result<(), Fail> {
-    let older = mark_of(Flag::Known, 9);
-    assert!(rt; ts_of(put_down(older, mark_of(Flag::Inherit, 4))) == 9);
-    assert!(rt; ts_of(put_down(older, mark_of(Flag::Unknown, 4))) == 4);
-    assert!(rt; ts_of(raised_mark(older, Some(Tomb { ts: 12, dt: 0 }))) == 12);
+    let older = mark_of(K, 9);
+    assert!(rt; stamp(put_down(older, mark_of(I, 4)).tomb) == 9);
+    assert!(rt; stamp(put_down(older, mark_of(U, 4)).tomb) == 4);
+    assert!(rt; stamp(raised_mark(older, tomb_of(12)).tomb) == 12);
     Ok(())
 }
 
@@ -61,176 +48,79 @@ fn only_the_newest_version_populates(rt: HostRuntime) -> Result<(), Fail> {
     Ok(())
 }
 
-// An entry at a number, 0 being the end: the timestamp of its row, then the flag and the timestamp of the tombstone at it, and of the gap
-// before it. A timestamp of 0 stands for none.
-type Line = (i64, i64, Flag, i64, Flag, i64);
-
-const K: Flag = Flag::Known;
-
-const U: Flag = Flag::Unknown;
-
-const I: Flag = Flag::Inherit;
-
-fn tomb_of(ts: i64) -> Option<Tomb> {
-    if ts == 0 {
-        None
-    } else {
-        Some(Tomb { ts, dt: 0 })
-    }
-}
-
-fn row_of(alloc: Global, ts: i64) -> Option<Row> {
-    if ts == 0 {
-        None
-    } else {
-        Some(Row {
-            marker: Some(ts),
-            tomb: None,
-            cells: Cells::empty(alloc),
-        })
-    }
-}
-
-fn place_of(alloc: Global, number: i64) -> Result<Pos, AllocError> {
-    if number == 0 {
-        Ok(Pos {
-            prefix: Key::empty(alloc),
-            weight: Weight::After,
-        })
-    } else {
-        Ok(Pos {
-            prefix: Key::from_slice(alloc, &[Comp::Int(number)])?,
-            weight: Weight::At,
-        })
-    }
-}
-
-fn entry_of(alloc: Global, line: &Line) -> Result<Entry, AllocError> {
-    Ok(Entry {
-        position: place_of(alloc, line.0)?,
-        row: row_of(alloc, line.1),
-        at: Mark {
-            flag: line.2,
-            tomb: tomb_of(line.3),
-        },
-        gap: Mark {
-            flag: line.4,
-            tomb: tomb_of(line.5),
-        },
-    })
-}
-
-fn version_with(entries: Vec<Entry>) -> PlainVersion {
-    PlainVersion {
-        pt: None,
-        statics: None,
-        static_flag: Flag::Inherit,
-        entries,
-        phase: 0,
-    }
-}
-
-// The versions of these entries, the oldest first; each one ends with its end dummy.
-fn chain_of(alloc: Global, lines: &[Line]) -> Result<Vec<PlainVersion>, AllocError> {
+// The versions of these lines, the oldest first.
+fn chain_of(alloc: Global, versions: &[&[Line]]) -> Result<Vec<PlainVersion>, AllocError> {
     let mut chain = Vec::new(alloc);
-    let mut entries = Vec::new(alloc);
-    for line in lines {
-        entries.push(entry_of(alloc, line)?)?;
-        if line.0 == 0 {
-            chain.push(version_with(entries))?;
-            entries = Vec::new(alloc);
-        }
+    for lines in versions {
+        chain.push(version_of(alloc, lines)?)?;
     }
     Ok(chain)
-}
-
-fn only_end(alloc: Global, line: &Line) -> Result<PlainVersion, AllocError> {
-    let mut entries = Vec::new(alloc);
-    entries.push(entry_of(alloc, line)?)?;
-    Ok(version_with(entries))
 }
 
 // Whether a number is known, and the timestamps of the row and of the tombstone that are seen there.
 fn told(
     alloc: Global,
     kind: ChainKind,
-    versions: &[Line],
+    versions: &[&[Line]],
     number: i64,
 ) -> Result<(bool, i64, i64), AllocError> {
     let chain = chain_of(alloc, versions)?;
+    told_at(alloc, kind, chain.as_slice(), number)
+}
+
+fn told_at(
+    alloc: Global,
+    kind: ChainKind,
+    chain: &[PlainVersion],
+    number: i64,
+) -> Result<(bool, i64, i64), AllocError> {
     let place = place_of(alloc, number)?;
-    let known = is_known_at(alloc, kind, chain.as_slice(), &place)?;
-    let seen = seen_at(alloc, chain.as_slice(), &place, Side::On)?;
+    let known = is_known_at(alloc, kind, chain, &place)?;
+    let seen = seen_at(alloc, chain, &place, Side::On)?;
     Ok((known, seen.row.marker.unwrap_or(0), stamp(seen.tomb)))
 }
 
-// Chains of one to three versions, worked out by hand from what flags mean.
+// A known row, of which the gap behind it was lost.
+const ROW: [Line; 2] = [(2, 7, K, 0, U, 0), (0, 0, U, 0, U, 0)];
+
+// A bare position is known only with the gap behind it.
 #[test]
-fn chains_by_hand(rt: HostRuntime) -> Result<(), Fail> {
-    let table: [(ChainKind, &[Line], i64, (bool, i64, i64)); 4] = [
-        // a bare position is known only with the gap behind it
-        (
-            ChainKind::Cache,
-            &[(2, 0, K, 0, U, 0), (0, 0, U, 0, U, 0)],
-            2,
-            (false, 0, 0),
-        ),
-        // evicted from the newer version: the older row is not believed
-        (
-            ChainKind::Cache,
-            &[(2, 7, K, 0, U, 0), (0, 0, U, 0, U, 0), (0, 0, I, 0, U, 0)],
-            2,
-            (false, 0, 0),
-        ),
-        // an update over a known row: what it inherits is known, and both are joined
-        (
-            ChainKind::Cache,
-            &[
-                (2, 7, K, 0, U, 0),
-                (0, 0, U, 0, U, 0),
-                (2, 9, I, 4, I, 0),
-                (0, 0, I, 0, I, 0),
-            ],
-            2,
-            (true, 9, 4),
-        ),
-        // a memtable of two versions: all is known, and all is joined
-        (
-            ChainKind::Memtable,
-            &[
-                (1, 0, I, 3, I, 0),
-                (3, 0, I, 0, I, 3),
-                (0, 0, I, 0, I, 0),
-                (2, 9, I, 5, I, 0),
-                (0, 0, I, 0, I, 0),
-            ],
-            2,
-            (true, 9, 5),
-        ),
-    ];
-    for (kind, versions, number, expected) in table {
-        assert_eq!(rt; told(rt.alloc(), kind, versions, number)?, expected);
-    }
+fn a_bare_position_by_hand(rt: HostRuntime) -> Result<(), Fail> {
+    let bare: [Line; 2] = [(2, 0, K, 0, U, 0), (0, 0, U, 0, U, 0)];
+    assert!(rt; told(rt.alloc(), ChainKind::Cache, &[&bare], 2)? == (false, 0, 0));
     Ok(())
 }
 
-// The one version of these entries.
-fn one_of(alloc: Global, lines: &[Line]) -> Result<PlainVersion, AllocError> {
-    let mut entries = Vec::new(alloc);
-    for line in lines {
-        entries.push(entry_of(alloc, line)?)?;
-    }
-    Ok(version_with(entries))
+// Evicted from the newer version: the older row is not believed.
+#[test]
+fn an_evicted_row_by_hand(rt: HostRuntime) -> Result<(), Fail> {
+    let newer: [Line; 1] = [(0, 0, I, 0, U, 0)];
+    assert!(rt; told(rt.alloc(), ChainKind::Cache, &[&ROW, &newer], 2)? == (false, 0, 0));
+    Ok(())
+}
+
+// An update over a known row: what it inherits is known, and both are joined.
+#[test]
+fn an_updated_row_by_hand(rt: HostRuntime) -> Result<(), Fail> {
+    let newer: [Line; 2] = [(2, 9, I, 4, I, 0), END];
+    assert!(rt; told(rt.alloc(), ChainKind::Cache, &[&ROW, &newer], 2)? == (true, 9, 4));
+    Ok(())
+}
+
+// A memtable of two versions: all is known, and all is joined.
+#[test]
+fn a_memtable_by_hand(rt: HostRuntime) -> Result<(), Fail> {
+    let older: [Line; 3] = [(1, 0, I, 3, I, 0), (3, 0, I, 0, I, 3), END];
+    let newer: [Line; 2] = [(2, 9, I, 5, I, 0), END];
+    assert!(rt; told(rt.alloc(), ChainKind::Memtable, &[&older, &newer], 2)? == (true, 9, 5));
+    Ok(())
 }
 
 // A version under update at 2: the dummy before the place may be evicted; that at the place and the end dummy stay.
 #[test]
 fn the_dummy_at_the_place_stays(rt: HostRuntime) -> Result<(), Fail> {
     let place = place_of(rt.alloc(), 2)?;
-    let mut version = one_of(
-        rt.alloc(),
-        &[(1, 9, I, 0, I, 0), (2, 0, I, 0, I, 4), (0, 0, I, 0, I, 0)],
-    )?;
+    let mut version = version_of(rt.alloc(), &[(1, 9, I, 0, I, 0), (2, 0, I, 0, I, 4), END])?;
     assert!(rt; is_at_place(&place, &version));
     assert!(rt; evict_under_update(&place, &mut version, 0));
     assert!(rt; is_at_place(&place, &version));
@@ -239,18 +129,21 @@ fn the_dummy_at_the_place_stays(rt: HostRuntime) -> Result<(), Fail> {
     Ok(())
 }
 
-// Two versions that look lawful where no position is asked for: a listed dummy behind the place, whose eviction would leave an Unknown there, and a
-// tombstone on the gap right behind the place, which no position stands in.
+// Whether a version of these lines stands at the place of an update.
+fn stands_at(alloc: Global, number: i64, lines: &[Line]) -> Result<bool, AllocError> {
+    let place = place_of(alloc, number)?;
+    let version = version_of(alloc, lines)?;
+    Ok(is_at_place(&place, &version))
+}
+
+// Two versions under update at 2 that are told by what stands behind the place: a listed dummy there, whose eviction would leave an Unknown behind the
+// place, and a tombstone over the gap up to the end, which the update has not come to.
 #[test]
 fn what_would_go_wrong_behind_the_place_is_refused(rt: HostRuntime) -> Result<(), Fail> {
-    let place = place_of(rt.alloc(), 2)?;
-    let dummy = one_of(
-        rt.alloc(),
-        &[(2, 0, I, 0, I, 0), (3, 0, I, 0, I, 0), (0, 0, I, 0, I, 0)],
-    )?;
-    assert!(rt; !is_at_place(&place, &dummy));
-    let tomb = one_of(rt.alloc(), &[(2, 0, I, 0, I, 0), (0, 0, I, 0, I, 4)])?;
-    assert!(rt; !is_at_place(&place, &tomb));
+    let dummy: [Line; 3] = [(2, 0, I, 0, I, 0), (3, 0, I, 0, I, 0), END];
+    assert!(rt; !stands_at(rt.alloc(), 2, &dummy)?);
+    let tomb: [Line; 2] = [(2, 0, I, 0, I, 0), (0, 0, I, 0, I, 4)];
+    assert!(rt; !stands_at(rt.alloc(), 2, &tomb)?);
     Ok(())
 }
 
@@ -266,48 +159,56 @@ fn a_released_pin_leaves_the_others(rt: HostRuntime) -> Result<(), Fail> {
 }
 
 fn with_statics(alloc: Global, ts: i64, flag: Flag, pt: i64) -> Result<PlainVersion, AllocError> {
-    let mut version = only_end(alloc, &(0, 0, Flag::Inherit, 0, Flag::Inherit, 0))?;
+    let mut version = version_of(alloc, &[END])?;
     version.pt = tomb_of(pt);
     version.statics = row_of(alloc, ts);
     version.static_flag = flag;
     Ok(version)
 }
 
+// A version with a static row of 5 under one with a static row of 7, each of a flag and a partition tombstone.
+fn two_with_statics(
+    alloc: Global,
+    older: (Flag, i64),
+    newer: (Flag, i64),
+) -> Result<Vec<PlainVersion>, AllocError> {
+    let mut chain = Vec::new(alloc);
+    chain.push(with_statics(alloc, 5, older.0, older.1)?)?;
+    chain.push(with_statics(alloc, 7, newer.0, newer.1)?)?;
+    Ok(chain)
+}
+
+// Whether their static row is known; and whether the newer one is seen, and a partition tombstone of 6.
+fn statics_told(
+    alloc: Global,
+    older: (Flag, i64),
+    newer: (Flag, i64),
+) -> Result<(bool, bool), AllocError> {
+    let chain = two_with_statics(alloc, older, newer)?;
+    let seen = statics_at(alloc, chain.as_slice())?;
+    let known = is_known_in(ChainKind::Cache, seen.flag);
+    let newest = seen.row.marker == Some(7) && head_of(chain.as_slice()) == tomb_of(6);
+    Ok((known, newest))
+}
+
 // The static row of an older version is seen through one that inherits, and not through one whose flag the cleaner set to Unknown, or where
 // the flag of a dropped version was lost; and the partition tombstone is the greatest of all.
 #[test]
 fn static_rows_by_hand(rt: HostRuntime) -> Result<(), Fail> {
-    let table: [(Flag, i64, Flag, i64, bool); 4] = [
-        (Flag::Known, 4, Flag::Inherit, 6, true),
-        (Flag::Known, 6, Flag::Unknown, 4, false),
-        (Flag::Inherit, 6, Flag::Inherit, 0, false),
-        (Flag::Unknown, 0, Flag::Known, 6, true),
-    ];
-    for (older, older_pt, newer, newer_pt, known) in table {
-        let mut chain = Vec::new(rt.alloc());
-        chain.push(with_statics(rt.alloc(), 5, older, older_pt)?)?;
-        chain.push(with_statics(rt.alloc(), 7, newer, newer_pt)?)?;
-        let seen = statics_at(rt.alloc(), chain.as_slice())?;
-        assert!(rt; is_known_in(ChainKind::Cache, seen.flag) == known);
-        assert!(rt; seen.row.marker == Some(7));
-        assert!(rt; head_of(chain.as_slice()) == tomb_of(6));
-    }
+    assert!(rt; statics_told(rt.alloc(), (K, 4), (I, 6))? == (true, true));
+    assert!(rt; statics_told(rt.alloc(), (K, 6), (U, 4))? == (false, true));
+    assert!(rt; statics_told(rt.alloc(), (I, 6), (I, 0))? == (false, true));
+    assert!(rt; statics_told(rt.alloc(), (U, 0), (K, 6))? == (true, true));
     Ok(())
 }
 
 // The base of the position 2 and of the gap behind it, in three versions.
 #[test]
 fn bases_by_hand(rt: HostRuntime) -> Result<(), Fail> {
-    let chain = chain_of(
-        rt.alloc(),
-        &[
-            (0, 0, U, 0, U, 0),
-            (2, 7, K, 0, I, 0),
-            (0, 0, I, 0, I, 0),
-            (2, 9, I, 0, I, 0),
-            (0, 0, I, 0, I, 0),
-        ],
-    )?;
+    let oldest: [Line; 1] = [(0, 0, U, 0, U, 0)];
+    let older: [Line; 2] = [(2, 7, K, 0, I, 0), END];
+    let newest: [Line; 2] = [(2, 9, I, 0, I, 0), END];
+    let chain = chain_of(rt.alloc(), &[&oldest, &older, &newest])?;
     let place = place_of(rt.alloc(), 2)?;
     assert!(rt; base_at(chain.as_slice(), &place, Side::On) == Some(1));
     assert!(rt; base_at(chain.as_slice(), &place, Side::Behind) == Some(0));
@@ -333,13 +234,6 @@ fn part_told(part: &Part) -> (u8, i64, i64, i64) {
     }
 }
 
-fn stamp(tomb: Option<Tomb>) -> i64 {
-    match tomb {
-        Some(tomb) => tomb.ts,
-        None => 0,
-    }
-}
-
 fn number_of(x: &Pos) -> i64 {
     match x.prefix.as_slice() {
         [Comp::Int(number), ..] => *number,
@@ -347,49 +241,62 @@ fn number_of(x: &Pos) -> i64 {
     }
 }
 
+// The first part from a number on, up to 8.
+fn part_from(
+    alloc: Global,
+    chain: &[PlainVersion],
+    number: i64,
+) -> Result<(u8, i64, i64, i64), AllocError> {
+    let x = place_of(alloc, number)?;
+    let bound = place_of(alloc, 8)?;
+    match x.cmp(&bound) {
+        Ordering::Less | Ordering::Equal => {
+            let part = first_part(alloc, ChainKind::Cache, chain, &x, &bound)?;
+            Ok(part_told(&part))
+        }
+        Ordering::Greater => Ok((0, 0, 0, 0)),
+    }
+}
+
+// Whether the parts from these numbers on are these.
+fn are_parts(
+    alloc: Global,
+    chain: &[PlainVersion],
+    table: &[(i64, (u8, i64, i64, i64))],
+) -> Result<bool, AllocError> {
+    for (from, expected) in table {
+        if part_from(alloc, chain, *from)? != *expected {
+            return Ok(false);
+        }
+    }
+    Ok(true)
+}
+
 // Two versions: over an older one that knows 1 to 5 with a tombstone of 5 lies one with a row at 2 and a loss at 4.
 #[test]
 fn parts_by_hand(rt: HostRuntime) -> Result<(), Fail> {
-    let chain = chain_of(
-        rt.alloc(),
-        &[
-            (1, 0, K, 5, U, 0),
-            (5, 0, U, 0, K, 5),
-            (0, 0, U, 0, U, 0),
-            (2, 9, I, 0, I, 0),
-            (4, 0, U, 0, I, 0),
-            (0, 0, I, 0, I, 0),
-        ],
-    )?;
-    let table: [(i64, i64, (u8, i64, i64, i64)); 6] = [
-        (1, 8, (2, 2, 0, 5)),
-        (2, 8, (1, 0, 9, 5)),
-        (3, 8, (2, 4, 0, 5)),
-        (4, 8, (3, 5, 0, 0)),
-        (5, 8, (3, 8, 0, 0)),
-        (8, 8, (4, 0, 0, 0)),
-    ];
-    for (from, upto, expected) in table {
-        let x = place_of(rt.alloc(), from)?;
-        let bound = place_of(rt.alloc(), upto)?;
-        let told = match x.cmp(&bound) {
-            Ordering::Less | Ordering::Equal => {
-                part_told(&first_part(rt.alloc(), ChainKind::Cache, chain.as_slice(), &x, &bound)?)
-            }
-            Ordering::Greater => (0, 0, 0, 0),
-        };
-        assert!(rt; told == expected);
-    }
+    let older: [Line; 3] = [(1, 0, K, 5, U, 0), (5, 0, U, 0, K, 5), (0, 0, U, 0, U, 0)];
+    let newer: [Line; 3] = [(2, 9, I, 0, I, 0), (4, 0, U, 0, I, 0), END];
+    let chain = chain_of(rt.alloc(), &[&older, &newer])?;
+    assert!(rt; are_parts(rt.alloc(), chain.as_slice(), &PARTS)?);
     Ok(())
 }
+
+// From a number on: what kind of part, and the rest of what is told of it.
+const PARTS: [(i64, (u8, i64, i64, i64)); 6] = [
+    (1, (2, 2, 0, 5)),
+    (2, (1, 0, 9, 5)),
+    (3, (2, 4, 0, 5)),
+    (4, (3, 5, 0, 0)),
+    (5, (3, 8, 0, 0)),
+    (8, (4, 0, 0, 0)),
+];
 
 // A row of an update takes the tombstone in force.
 #[test]
 fn a_row_takes_the_tombstone_in_force(rt: HostRuntime) -> Result<(), Fail> {
     let mut entry = entry_of(rt.alloc(), &(3, 4, I, 2, U, 0))?;
-    if let Some(row) = row_of(rt.alloc(), 7) {
-        join_updated_row(rt.alloc(), &mut entry, row, tomb_of(5))?;
-    }
+    join_updated_row(rt.alloc(), &mut entry, marked(rt.alloc(), 7), tomb_of(5))?;
     assert!(rt; stamp(entry.at.tomb) == 5);
     Ok(())
 }
@@ -406,10 +313,10 @@ fn an_end_dummy_is_put_down(rt: HostRuntime) -> Result<(), Fail> {
 // A head is put down under the next version's.
 #[test]
 fn a_head_is_put_down(rt: HostRuntime) -> Result<(), Fail> {
-    let mut older = only_end(rt.alloc(), &(0, 0, K, 0, K, 3))?;
+    let mut older = version_of(rt.alloc(), &[(0, 0, K, 0, K, 3)])?;
     older.static_flag = K;
     older.pt = tomb_of(8);
-    let mut newer = only_end(rt.alloc(), &(0, 0, I, 0, I, 1))?;
+    let mut newer = version_of(rt.alloc(), &[(0, 0, I, 0, I, 1)])?;
     merge_head(&older, &mut newer);
     assert!(rt; stamp(newer.pt) == 8 && is_known_in(ChainKind::Cache, newer.static_flag));
     Ok(())

@@ -6,7 +6,7 @@ use crate::sweeps::{Sums, Sweep, Ways};
 use crate::telling::tell_asked;
 use crate::watched::Folder;
 use crate::words::{key_of, mutation_of, position};
-use rc_position::Weight;
+use rc_position::{Pos, Weight};
 use rc_schema::Schema;
 use rc_stream::ListFrags;
 use rc_tables::{TableFrags, TableSet};
@@ -28,15 +28,31 @@ pub(crate) struct Desk {
     text: String,
 }
 
+// The schema of every table.
+fn schema_of(alloc: Global) -> Result<Rc<Schema>, AllocError> {
+    match Schema::read(alloc, SCHEMA) {
+        Ok(schema) => Ok(Rc::new(alloc, schema)?),
+        Err(_) => Err(AllocError),
+    }
+}
+
+// From before the one row on, up to behind the other; none where the words do not say which.
+fn places_of(alloc: Global, first: &str, last: &str) -> Result<Option<(Pos, Pos)>, AllocError> {
+    let (Ok(first), Ok(last)) = (first.parse::<i64>(), last.parse::<i64>()) else {
+        return Ok(None);
+    };
+    let from = position(alloc, first, Weight::Before)?;
+    Ok(Some((from, position(alloc, last, Weight::After)?)))
+}
+
 impl Desk {
     /// No table yet.
     pub(crate) fn new(alloc: Global) -> Result<Self, AllocError> {
-        let Ok(schema) = Schema::read(alloc, SCHEMA) else {
-            return Err(AllocError);
-        };
+        let schema = schema_of(alloc)?;
+        let tables = TableSet::empty(alloc)?;
         Ok(Desk {
-            schema: Rc::new(alloc, schema)?,
-            tables: TableSet::empty(alloc)?,
+            schema,
+            tables,
             between: None,
             text: String::new(alloc),
         })
@@ -151,13 +167,13 @@ impl Desk {
         first: &str,
         last: &str,
     ) -> Result<Option<Reading>, AllocError> {
-        let (Ok(first), Ok(last)) = (first.parse::<i64>(), last.parse::<i64>()) else {
+        let Some((from, upto)) = places_of(alloc, first, last)? else {
             return Ok(None);
         };
         Ok(Some(Reading {
             schema: self.schema.clone()?,
-            from: position(alloc, first, Weight::Before)?,
-            upto: position(alloc, last, Weight::After)?,
+            from,
+            upto,
             between: self.between.take(),
         }))
     }
@@ -187,13 +203,23 @@ impl Desk {
         text: &str,
     ) -> Result<bool, AllocError> {
         let words = text.split(' ').collect::<Vec<&str>>(alloc)?;
-        let [key, first, last, lists @ ..] = words.as_slice() else {
-            return Ok(false);
-        };
-        let Some((tables, reading)) = self.opened(alloc, key, first, last)? else {
+        self.read_words(alloc, folder, words.as_slice())
+    }
+
+    // The same of a line's words.
+    fn read_words(
+        &mut self,
+        alloc: Global,
+        folder: &mut Folder<'_>,
+        words: &[&str],
+    ) -> Result<bool, AllocError> {
+        let [key, first, last, lists @ ..] = words else {
             return Ok(false);
         };
         folder.forget(alloc);
+        let Some((tables, reading)) = self.opened(alloc, key, first, last)? else {
+            return Ok(false);
+        };
         let read = read_lists(alloc, folder, tables, &reading, lists, &mut self.text)?;
         tell_asked(folder.asked(), &mut self.text)?;
         Ok(read)
@@ -209,13 +235,13 @@ impl Desk {
         let [key, first, last] = words else {
             return Ok(None);
         };
-        let Some((tables, reading)) = self.opened(alloc, key, first, last)? else {
-            return Ok(None);
-        };
-        let mut told = String::new(alloc);
         folder.forget(alloc);
-        read_alone(alloc, folder, tables, &reading, &mut told)?;
-        Ok(Some(told))
+        match self.opened(alloc, key, first, last)? {
+            Some((mut tables, reading)) => {
+                Ok(Some(told_alone(alloc, folder, &mut tables, &reading)?))
+            }
+            None => Ok(None),
+        }
     }
 
     // A file is another one in each of some ways in turn, and is read each time; whether each was.
@@ -229,11 +255,22 @@ impl Desk {
         let Some((number, text)) = number_and_rest(text) else {
             return Ok(false);
         };
-        let words = text.split(' ').collect::<Vec<&str>>(alloc)?;
         let Some(sweep) = Sweep::new(alloc, folder, number, ways)? else {
             return Ok(false);
         };
-        match self.swept(alloc, folder, &sweep, words.as_slice())? {
+        self.sweep_words(alloc, folder, &sweep, text)
+    }
+
+    // The same of a file's ways, and of the words behind its number.
+    fn sweep_words(
+        &mut self,
+        alloc: Global,
+        folder: &mut Folder<'_>,
+        sweep: &Sweep,
+        text: &str,
+    ) -> Result<bool, AllocError> {
+        let words = text.split(' ').collect::<Vec<&str>>(alloc)?;
+        match self.swept(alloc, folder, sweep, words.as_slice())? {
             Some(sums) => {
                 sums.tell(&mut self.text)?;
                 Ok(sweep.restore(alloc, folder))
@@ -258,13 +295,42 @@ impl Desk {
             if !sweep.change(alloc, folder, way)? {
                 return Ok(None);
             }
-            match self.told_of(alloc, folder, words)? {
-                Some(told) => sums.add(told.as_str(), before.as_str()),
-                None => return Ok(None),
+            if !self.add_way(alloc, folder, words, before.as_str(), &mut sums)? {
+                return Ok(None);
             }
         }
         Ok(Some(sums))
     }
+
+    // One reading more, where the file as it was told that; whether the words say which.
+    fn add_way(
+        &mut self,
+        alloc: Global,
+        folder: &mut Folder<'_>,
+        words: &[&str],
+        before: &str,
+        sums: &mut Sums,
+    ) -> Result<bool, AllocError> {
+        match self.told_of(alloc, folder, words)? {
+            Some(told) => {
+                sums.add(told.as_str(), before);
+                Ok(true)
+            }
+            None => Ok(false),
+        }
+    }
+}
+
+// What a reading of tables alone tells.
+fn told_alone(
+    alloc: Global,
+    folder: &mut Folder<'_>,
+    tables: &mut TableFrags,
+    reading: &Reading,
+) -> Result<String, AllocError> {
+    let mut told = String::new(alloc);
+    read_alone(alloc, folder, tables, reading, &mut told)?;
+    Ok(told)
 }
 
 // The list of what the items say.
@@ -275,30 +341,69 @@ fn list_of(alloc: Global, items: &str) -> Result<Option<ListFrags>, AllocError> 
     }
 }
 
+// A partition is read from one list and the tables; whether the items are those of a list.
+fn read_one(
+    alloc: Global,
+    folder: &mut Folder<'_>,
+    tables: TableFrags,
+    reading: &Reading,
+    items: &str,
+    text: &mut String,
+) -> Result<bool, AllocError> {
+    let Some(list) = list_of(alloc, items)? else {
+        return Ok(false);
+    };
+    read_merged(alloc, folder, list, tables, reading, text)?;
+    Ok(true)
+}
+
+// The lists of two texts of items; none where one is that of none.
+fn lists_of(
+    alloc: Global,
+    one: &str,
+    two: &str,
+) -> Result<Option<(ListFrags, ListFrags)>, AllocError> {
+    let Some(one) = list_of(alloc, one)? else {
+        return Ok(None);
+    };
+    match list_of(alloc, two)? {
+        Some(two) => Ok(Some((one, two))),
+        None => Ok(None),
+    }
+}
+
+// A partition is read from two lists and the tables; whether the items are those of lists.
+fn read_two(
+    alloc: Global,
+    folder: &mut Folder<'_>,
+    tables: TableFrags,
+    reading: &Reading,
+    (one, two): (&str, &str),
+    text: &mut String,
+) -> Result<bool, AllocError> {
+    let Some((one, two)) = lists_of(alloc, one, two)? else {
+        return Ok(false);
+    };
+    read_counts(alloc, folder, one, two, tables, reading, text)?;
+    Ok(true)
+}
+
 // A partition is read from the tables alone, or from one list or two and the tables; whether it could be.
 fn read_lists(
     alloc: Global,
     folder: &mut Folder<'_>,
-    tables: TableFrags,
+    mut tables: TableFrags,
     reading: &Reading,
     lists: &[&str],
     text: &mut String,
 ) -> Result<bool, AllocError> {
     match lists {
-        [] => read_alone(alloc, folder, tables, reading, text)?,
-        [one] => {
-            let Some(one) = list_of(alloc, one)? else {
-                return Ok(false);
-            };
-            read_merged(alloc, folder, one, tables, reading, text)?;
+        [] => {
+            read_alone(alloc, folder, &mut tables, reading, text)?;
+            Ok(true)
         }
-        [one, two] => {
-            let (Some(one), Some(two)) = (list_of(alloc, one)?, list_of(alloc, two)?) else {
-                return Ok(false);
-            };
-            read_counts(alloc, folder, one, two, tables, reading, text)?;
-        }
-        _ => return Ok(false),
+        [one] => read_one(alloc, folder, tables, reading, one, text),
+        [one, two] => read_two(alloc, folder, tables, reading, (one, two), text),
+        _ => Ok(false),
     }
-    Ok(true)
 }

@@ -66,14 +66,13 @@ fn read_on<W: Store, S: Frags<(), W>>(
 pub(crate) fn read_alone(
     alloc: Global,
     folder: &mut Folder<'_>,
-    tables: TableFrags,
+    tables: &mut TableFrags,
     reading: &Reading,
     text: &mut String,
 ) -> Result<(), AllocError> {
-    let mut stream = tables;
-    let answered = read_head(alloc, &mut stream, folder, text)?;
+    let answered = read_head(alloc, tables, folder, text)?;
     change_between(alloc, folder, reading, text)?;
-    read_on(alloc, answered, &mut stream, folder, reading, text)
+    read_on(alloc, answered, tables, folder, reading, text)
 }
 
 /// Tells what a list and the tables give as one stream.

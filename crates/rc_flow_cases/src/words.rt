@@ -116,12 +116,20 @@ fn join_item(alloc: Global, change: &mut Mutation, item: &str) -> Result<bool, A
 /// What the items between commas say; none where one is no item.
 pub(crate) fn mutation_of(alloc: Global, items: &str) -> Result<Option<Mutation>, AllocError> {
     let mut change = Mutation::empty(alloc);
+    if join_items(alloc, &mut change, items)? {
+        return Ok(Some(change));
+    }
+    Ok(None)
+}
+
+// Joins the items between commas; whether each is one.
+fn join_items(alloc: Global, change: &mut Mutation, items: &str) -> Result<bool, AllocError> {
     for item in items.split(',') {
-        if !join_item(alloc, &mut change, item)? {
-            return Ok(None);
+        if !join_item(alloc, change, item)? {
+            return Ok(false);
         }
     }
-    Ok(Some(change))
+    Ok(true)
 }
 
 /// The partition of a word.
@@ -144,11 +152,23 @@ pub(crate) fn partitions_of(
     text: &str,
 ) -> Result<Option<Vec<Partition>>, AllocError> {
     let mut parts = Vec::new(alloc);
+    if push_partitions(alloc, &mut parts, text)? {
+        return Ok(Some(parts));
+    }
+    Ok(None)
+}
+
+// Appends the partitions of the words of a text; whether each is one.
+fn push_partitions(
+    alloc: Global,
+    parts: &mut Vec<Partition>,
+    text: &str,
+) -> Result<bool, AllocError> {
     for word in text.split(' ') {
         match partition_of(alloc, word)? {
             Some(part) => parts.push(part)?,
-            None => return Ok(None),
+            None => return Ok(false),
         }
     }
-    Ok(Some(parts))
+    Ok(true)
 }

@@ -51,7 +51,8 @@ fn hex_told(alloc: Global, bytes: &[u8]) -> Result<Option<Vec<u8>>, AllocError> 
 fn push_part(alloc: Global, bytes: &[u8], text: &mut Vec<u8>) -> Result<(), AllocError> {
     let spelled = hex::encode(alloc, bytes)?;
     text.extend_from_slice(spelled.as_bytes())?;
-    text.push(b';')
+    text.push(b';')?;
+    Ok(())
 }
 
 fn parts_of(alloc: Global, components: &[Vec<u8>]) -> Result<Vec<u8>, AllocError> {

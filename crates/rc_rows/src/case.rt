@@ -50,13 +50,20 @@ pub(crate) struct Case {
     pub(crate) wanted: Wanted,
 }
 
+// The words of most cases.
+fn usual_words(alloc: Global) -> Result<Vec<String>, AllocError> {
+    let run = String::from_str(alloc, "run")?;
+    Ok(vec![in alloc; run]?)
+}
+
 impl Case {
     /// The case of no input, over which nothing fails.
     pub(crate) fn new(alloc: Global, name: &str) -> Result<Self, AllocError> {
-        let run = String::from_str(alloc, "run")?;
+        let name = String::from_str(alloc, name)?;
+        let words = usual_words(alloc)?;
         Ok(Case {
-            name: String::from_str(alloc, name)?,
-            words: vec![in alloc; run]?,
+            name,
+            words,
             input: Vec::new(alloc),
             slow: false,
             pulls: Vec::new(alloc),

@@ -116,28 +116,47 @@ fn append_given(rows: &[(i64, u8)], text: &mut String) -> Result<(), AllocError>
     text.push_str("end\nok\n")
 }
 
-/// The script of changes, with a flush behind each sixteenth, and then a reader of each partition.
-fn script_of(alloc: Global, changes: &[Change]) -> Result<String, AllocError> {
-    let mut script = String::from_str(alloc, "schema ck=int static=- cols=a\n")?;
+/// The lines of changes, with a flush behind each sixteenth.
+fn append_changes(
+    alloc: Global,
+    changes: &[Change],
+    script: &mut String,
+) -> Result<(), AllocError> {
     let mut written = 0u8;
     for change in changes {
-        let line = line_of(alloc, change)?;
-        write!(script, "{line}\n")?;
+        append_change(alloc, change, script)?;
         written = written.wrapping_add(1) & 15;
         if written == 0 {
             script.push_str("flush\n")?;
         }
     }
+    Ok(())
+}
+
+fn append_change(alloc: Global, change: &Change, script: &mut String) -> Result<(), AllocError> {
+    let line = line_of(alloc, change)?;
+    write!(script, "{line}\n")
+}
+
+/// A reader of each partition.
+fn append_readers(script: &mut String) -> Result<(), AllocError> {
     for name in NAMES {
         let key = char::from(name);
         write!(script, "open 1 {key}\nread 1 9\nclose 1\n")?;
     }
+    Ok(())
+}
+
+/// The script of changes, and then a reader of each partition.
+fn script_of(alloc: Global, changes: &[Change]) -> Result<String, AllocError> {
+    let mut script = String::from_str(alloc, "schema ck=int static=- cols=a\n")?;
+    append_changes(alloc, changes, &mut script)?;
+    append_readers(&mut script)?;
     Ok(script)
 }
 
-/// What the program must print for it: `ok` for the schema line, for each change and each flush, and the rows of each partition.
-fn wanted(alloc: Global, changes: &[Change]) -> Result<String, AllocError> {
-    let mut text = String::from_str(alloc, "ok\n")?;
+/// `ok` for each change and each flush.
+fn append_oks(changes: &[Change], text: &mut String) -> Result<(), AllocError> {
     let mut written = 0u8;
     for _ in changes {
         text.push_str("ok\n")?;
@@ -146,21 +165,50 @@ fn wanted(alloc: Global, changes: &[Change]) -> Result<String, AllocError> {
             text.push_str("ok\n")?;
         }
     }
+    Ok(())
+}
+
+/// The rows of each partition.
+fn append_all(alloc: Global, changes: &[Change], text: &mut String) -> Result<(), AllocError> {
     for name in NAMES {
         let rows = rows(alloc, changes, name)?;
-        append_given(rows.as_slice(), &mut text)?;
+        append_given(rows.as_slice(), text)?;
     }
+    Ok(())
+}
+
+/// What the program must print for it: `ok` for the schema line, for each change and each flush, and the rows of each partition.
+fn wanted(alloc: Global, changes: &[Change]) -> Result<String, AllocError> {
+    let mut text = String::from_str(alloc, "ok\n")?;
+    append_oks(changes, &mut text)?;
+    append_all(alloc, changes, &mut text)?;
     Ok(text)
+}
+
+/// The case of a script.
+fn case_of(alloc: Global, script: &str) -> Result<Case, AllocError> {
+    let mut case = Case::new(alloc, "a seed")?;
+    case.input.extend_from_slice(script.as_bytes())?;
+    Ok(case)
+}
+
+/// Whether a case over an empty store gives this text.
+fn gives(alloc: Global, case: &Case, wanted: &str) -> Result<bool, AllocError> {
+    let mut store = MemStore::new(alloc)?;
+    let found = outcome_of(alloc, case, &mut store)?;
+    Ok(found.status == 0 && found.text.as_slice() == wanted.as_bytes())
+}
+
+/// Whether the program gives this text for the script of changes.
+fn gives_for(alloc: Global, changes: &[Change], wanted: &str) -> Result<bool, AllocError> {
+    let script = script_of(alloc, changes)?;
+    let case = case_of(alloc, script.as_str())?;
+    gives(alloc, &case, wanted)
 }
 
 /// Whether the program gives for the script of a seed what the plain computation does.
 pub(crate) fn is_agreed(alloc: Global, seed: u32) -> Result<bool, AllocError> {
     let changes = changes(alloc, seed)?;
-    let script = script_of(alloc, changes.as_slice())?;
     let wanted = wanted(alloc, changes.as_slice())?;
-    let mut case = Case::new(alloc, "a seed")?;
-    case.input.extend_from_slice(script.as_bytes())?;
-    let mut store = MemStore::new(alloc)?;
-    let found = outcome_of(alloc, &case, &mut store)?;
-    Ok(found.status == 0 && found.text.as_slice() == wanted.as_bytes())
+    gives_for(alloc, changes.as_slice(), wanted.as_str())
 }

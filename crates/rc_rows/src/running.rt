@@ -3,7 +3,7 @@
 use crate::case::{Case, Stored};
 use crate::slow::OneByte;
 use rc_outside::{MemSink, MemSource, MemStore, SureSource};
-use rc_shell::{run, run_with};
+use rc_shell::{Status, run, run_with};
 use std::alloc::{AllocError, Global};
 
 /// What a run came to.
@@ -17,26 +17,66 @@ pub(crate) struct Outcome {
     pub(crate) faults: Option<u64>,
 }
 
+// The output of a case.
+fn sink_of(alloc: Global, case: &Case) -> Result<MemSink, AllocError> {
+    let pushes = Vec::from_slice(alloc, case.pushes.as_slice())?;
+    MemSink::new(alloc, pushes)
+}
+
+// The input of a case.
+fn source_of(alloc: Global, case: &Case) -> Result<MemSource, AllocError> {
+    let pulls = Vec::from_slice(alloc, case.pulls.as_slice())?;
+    let bytes = Vec::from_slice(alloc, case.input.as_slice())?;
+    Ok(MemSource::new(bytes, pulls))
+}
+
+// The status of a run whose input is given a byte at a time.
+fn slow_status(
+    alloc: Global,
+    case: &Case,
+    store: &mut MemStore,
+    out: &mut MemSink,
+) -> Result<Status, AllocError> {
+    let bytes = Vec::from_slice(alloc, case.input.as_slice())?;
+    let bytes = SureSource::new(bytes);
+    let mut input = OneByte { bytes };
+    Ok(run(alloc, case.words.as_slice(), store, &mut input, out))
+}
+
+// The status of a run whose input may fail, or is cut.
+fn usual_status(
+    alloc: Global,
+    case: &Case,
+    store: &mut MemStore,
+    out: &mut MemSink,
+) -> Result<Status, AllocError> {
+    let words = case.words.as_slice();
+    let mut input = source_of(alloc, case)?;
+    Ok(match case.limit {
+        None => run(alloc, words, store, &mut input, out),
+        Some(limit) => run_with(alloc, words, store, &mut input, out, limit),
+    })
+}
+
+// The status of a run over a store.
+fn status_of(
+    alloc: Global,
+    case: &Case,
+    store: &mut MemStore,
+    out: &mut MemSink,
+) -> Result<Status, AllocError> {
+    if case.slow {
+        return slow_status(alloc, case, store, out);
+    }
+    usual_status(alloc, case, store, out)
+}
+
 // The status of a run over a store, and what it writes.
 fn served(alloc: Global, case: &Case, store: &mut MemStore) -> Result<(u64, Vec<u8>), AllocError> {
-    let words = case.words.as_slice();
-    let bytes = Vec::from_slice(alloc, case.input.as_slice())?;
-    let pulls = Vec::from_slice(alloc, case.pulls.as_slice())?;
-    let mut out = MemSink::new(alloc, Vec::from_slice(alloc, case.pushes.as_slice())?)?;
-    let status = if case.slow {
-        let bytes = SureSource::new(bytes);
-        run(alloc, words, store, &mut OneByte { bytes }, &mut out)
-    } else {
-        let mut input = MemSource::new(bytes, pulls);
-        match case.limit {
-            None => run(alloc, words, store, &mut input, &mut out),
-            Some(limit) => run_with(alloc, words, store, &mut input, &mut out, limit),
-        }
-    };
-    Ok((
-        u64::from(status.code()),
-        Vec::from_slice(alloc, out.bytes())?,
-    ))
+    let mut out = sink_of(alloc, case)?;
+    let status = status_of(alloc, case, store, &mut out)?;
+    let text = Vec::from_slice(alloc, out.bytes())?;
+    Ok((u64::from(status.code()), text))
 }
 
 // A line that tells a fault of the store.
@@ -71,17 +111,22 @@ pub(crate) fn outcome_of(
     store: &mut MemStore,
 ) -> Result<Outcome, AllocError> {
     let (status, text) = served(alloc, case, store)?;
-    if case.wanted.faults.is_none() {
-        return Ok(Outcome {
+    match case.wanted.faults {
+        None => Ok(Outcome {
             status,
             text,
             faults: None,
-        });
+        }),
+        Some(_) => with_faults(alloc, status, text.as_slice()),
     }
-    let (faults, kept) = without_faults(alloc, text.as_slice())?;
+}
+
+// The same, with the faults that were told counted.
+fn with_faults(alloc: Global, status: u64, text: &[u8]) -> Result<Outcome, AllocError> {
+    let (faults, text) = without_faults(alloc, text)?;
     Ok(Outcome {
         status,
-        text: kept,
+        text,
         faults: Some(faults),
     })
 }

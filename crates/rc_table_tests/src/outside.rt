@@ -24,14 +24,14 @@ fn answer<S: Sink>(sink: &mut S, piece: &[u8]) -> char {
 fn standard_input_ends(rt: HostRuntime) {
     let mut source = StdSource::new(&rt);
     for _ in 0..4 {
-        assert_eq!(rt; drawn(&mut source), Some(0));
+        assert!(rt; drawn(&mut source) == Some(0));
     }
 }
 
 #[test]
 fn standard_output_takes_a_piece(rt: HostRuntime) {
     let mut sink = StdSink::new(&rt);
-    assert_eq!(rt; answer(&mut sink, b"ab"), 'k');
-    assert_eq!(rt; answer(&mut sink, b""), 'k');
-    assert_eq!(rt; answer(&mut sink, b"cd"), 'k');
+    assert!(rt; answer(&mut sink, b"ab") == 'k');
+    assert!(rt; answer(&mut sink, b"") == 'k');
+    assert!(rt; answer(&mut sink, b"cd") == 'k');
 }

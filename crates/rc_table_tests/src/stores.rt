@@ -47,14 +47,26 @@ fn listing<S: Store>(store: &mut S, alloc: Global) -> Result<String, AllocError>
 {
     let mut text = String::new(alloc);
     match store.numbers(alloc) {
-        Ok(numbers) => {
-            for n in numbers {
-                write!(text, "{n},")?;
-            }
-        }
+        Ok(numbers) => tell_numbers(numbers.as_slice(), &mut text)?,
         Err(_) => text.push('!')?,
     }
     Ok(text)
+}
+
+// Tells each number and a comma.
+fn tell_numbers(numbers: &[u32], text: &mut String) -> Result<(), AllocError> {
+    for n in numbers {
+        write!(text, "{n},")?;
+    }
+    Ok(())
+}
+
+// Whether `numbers` gives this.
+fn lists<S: Store>(store: &mut S, alloc: Global, wanted: &str) -> Result<bool, AllocError>
+    ensures { S.building store.new ≡ S.building store.old }
+{
+    let text = listing(store, alloc)?;
+    Ok(text.as_str() == wanted)
 }
 
 // Tells the three bytes of file `n` from the offset on, or `!` for a fault; and then a bar.
@@ -91,24 +103,23 @@ fn write_others(rt: &HostRuntime) -> io::Result<()> {
     Ok(())
 }
 
+// Whether a file has these bytes.
+fn has_bytes(rt: &HostRuntime, path: &str, wanted: &[u8]) -> io::Result<bool> {
+    let bytes = fs::read(rt, path)?;
+    Ok(bytes.as_slice() == wanted)
+}
+
 #[test]
 fn the_folder_keeps_tables(rt: HostRuntime) -> Result<(), Fail> {
     let alloc = rt.alloc();
     clear(&rt);
     let mut store = FolderStore::new(&rt);
-    let absent = listing(&mut store, alloc)?;
-    let built = [
-        build(&mut store, alloc, 12, [b"ab", b"cde"]),
-        build(&mut store, alloc, 4294967295, [b"", b"x"]),
-    ];
+    assert!(rt; lists(&mut store, alloc, "")?);
+    assert!(rt; build(&mut store, alloc, 12, [b"ab", b"cde"]) == b'k');
+    assert!(rt; build(&mut store, alloc, 4294967295, [b"", b"x"]) == b'k');
     write_others(&rt)?;
-    let present = listing(&mut store, alloc)?;
-    assert_eq!(rt; built, *b"kk");
-    assert_eq!(rt; (absent.as_str(), present.as_str()), ("", "12,4294967295,"));
-    assert_eq!(rt;
-        fs::read(&rt, "tables/12.tbl")?.as_slice(),
-        b"abcde".as_slice()
-    );
+    assert!(rt; lists(&mut store, alloc, "12,4294967295,")?);
+    assert!(rt; has_bytes(&rt, "tables/12.tbl", b"abcde")?);
     assert!(rt; fs::read(&rt, "tables/12.tmp").is_err());
     Ok(())
 }
@@ -120,9 +131,27 @@ fn a_table_that_is_given_up_leaves_nothing(rt: HostRuntime) -> Result<(), Fail> 
     let mut store = FolderStore::new(&rt);
     let begun = said(store.begin(alloc, 3));
     store.abandon();
-    assert_eq!(rt; begun, b'k');
+    assert!(rt; begun == b'k');
     assert!(rt; fs::read(&rt, "tables/3.tmp").is_err());
     Ok(())
+}
+
+// Cuts the file of table 1 to its first four bytes.
+fn cut(rt: &HostRuntime) -> io::Result<()> {
+    File::options()
+        .write(true)
+        .open(rt, "tables/1.tbl")?
+        .set_len(4)
+}
+
+// Tells the bytes of table 1 from 2 and from 1 on, and those of a table that is not there.
+fn tell_ranges(
+    store: &mut FolderStore<'_, HostRuntime>,
+    text: &mut Vec<u8>,
+) -> Result<(), AllocError> {
+    tell_range(store, 1, 2, text)?;
+    tell_range(store, 1, 1, text)?;
+    tell_range(store, 2, 0, text)
 }
 
 #[test]
@@ -130,19 +159,14 @@ fn a_table_that_is_cut_is_a_fault(rt: HostRuntime) -> Result<(), Fail> {
     let alloc = rt.alloc();
     clear(&rt);
     let mut store = FolderStore::new(&rt);
-    assert_eq!(rt; build(&mut store, alloc, 1, [b"ab", b"cde"]), b'k');
-    assert_eq!(rt; store.size(1).ok(), Some(5));
+    assert!(rt; build(&mut store, alloc, 1, [b"ab", b"cde"]) == b'k');
+    assert!(rt; store.size(1).ok() == Some(5));
     let mut told = Vec::new(alloc);
     tell_range(&mut store, 1, 2, &mut told)?;
-    File::options()
-        .write(true)
-        .open(&rt, "tables/1.tbl")?
-        .set_len(4)?;
-    tell_range(&mut store, 1, 2, &mut told)?;
-    tell_range(&mut store, 1, 1, &mut told)?;
-    tell_range(&mut store, 2, 0, &mut told)?;
-    assert_eq!(rt; told.as_slice(), b"cde|!|bcd|!|".as_slice());
-    assert_eq!(rt; (store.size(2).ok(), store.asks()), (None, 4));
+    cut(&rt)?;
+    tell_ranges(&mut store, &mut told)?;
+    assert!(rt; told.as_slice() == b"cde|!|bcd|!|".as_slice());
+    assert!(rt; store.size(2).ok() == None && store.asks() == 4);
     Ok(())
 }
 
@@ -219,8 +243,7 @@ fn a_name_that_is_no_text_is_a_fault(rt: HostRuntime) -> Result<(), Fail> {
     let alloc = rt.alloc();
     let odd = (OddNames(rt), alloc);
     let mut store = FolderStore::new(&odd);
-    let listed = listing(&mut store, alloc)?;
-    assert_eq!(rt; listed.as_str(), "!");
+    assert!(rt; lists(&mut store, alloc, "!")?);
     Ok(())
 }
 
@@ -230,8 +253,7 @@ fn a_folder_that_is_none_is_a_fault(rt: HostRuntime) -> Result<(), Fail> {
     clear(&rt);
     fs::write(&rt, "tables", b"a file")?;
     let mut store = FolderStore::new(&rt);
-    let listed = listing(&mut store, alloc)?;
-    let built = build(&mut store, alloc, 2, [b"a", b"b"]);
-    assert_eq!(rt; (listed.as_str(), built), ("!", b'!'));
+    assert!(rt; lists(&mut store, alloc, "!")?);
+    assert!(rt; build(&mut store, alloc, 2, [b"a", b"b"]) == b'!');
     Ok(())
 }

@@ -5,25 +5,35 @@ use rc_tfile::{PartRef, PartRefs, TableInfo};
 use std::alloc::{AllocError, Global};
 use std::test::Fail;
 
-// What is known of a table that lists one partition.
-fn known(alloc: Global, number: u32) -> Result<TableInfo, AllocError> {
+// A list of one partition.
+fn parts_of(alloc: Global) -> Result<PartRefs, AllocError> {
+    let key = PartKey::from_slice(alloc, b"p")?;
     let part = PartRef {
-        key: PartKey::from_slice(alloc, b"p")?,
+        key,
         dir_off: 61,
         dir_len: 40,
     };
-    Ok(TableInfo {
-        number,
-        parts: PartRefs::from_slice(alloc, &[part])?,
-    })
+    PartRefs::from_slice(alloc, &[part])
+}
+
+// What is known of a table that lists one partition.
+fn known(alloc: Global, number: u32) -> Result<TableInfo, AllocError> {
+    let parts = parts_of(alloc)?;
+    Ok(TableInfo { number, parts })
+}
+
+// The set of two tables, the later one with the lower number.
+fn two_of(alloc: Global) -> Result<TableSet, AllocError> {
+    let none = TableSet::empty(alloc)?;
+    let one = none.with(alloc, known(alloc, 7)?)?;
+    one.with(alloc, known(alloc, 3)?)
 }
 
 #[test]
 fn tables_are_shared(rt: HostRuntime) -> Result<(), Fail> {
-    let alloc = rt.alloc();
-    let one = TableSet::empty(alloc)?.with(alloc, known(alloc, 7)?)?;
-    let two = one.with(alloc, known(alloc, 3)?)?;
+    let two = two_of(rt.alloc())?;
     let same = two.share()?;
-    assert_eq!(rt; same.numbers(alloc)?.as_slice(), [7u32, 3].as_slice());
+    let numbers = same.numbers(rt.alloc())?;
+    assert!(rt; numbers.as_slice() == [7u32, 3].as_slice());
     Ok(())
 }
