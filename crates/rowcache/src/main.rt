@@ -1,7 +1,8 @@
 //! The program `rowcache`: the real ends, the words behind its name, and the exit status.
 #![tactic(auto)]
 
-ghost use Rattle.std.specs.Prelude.{◌≡◌, map, string_bytes};
+ghost use Rattle.std.specs.Prelude.{◌≡◌, ◌≢◌, IfErr, map, string_bytes};
+ghost use Rattle.std.specs.IoError.{error_kind};
 ghost use Rattle.std.specs.Process.{exit_status};
 ghost use Rattle.rc_shell.specs.Status.{exit_code};
 ghost use Rattle.rowcache.specs.Serving.{IsStatus, RunsBy};
@@ -9,16 +10,22 @@ ghost use Rattle.rowcache.specs.Serving.{IsStatus, RunsBy};
 use rc_outside::{FolderStore, Sink, Source, StdSink, StdSource, Store};
 use rc_shell::{Status, run};
 use std::alloc::Global;
+use std::env;
+use std::io::{self, ErrorKind};
 use std::process::ExitCode;
-use std::{env, io};
 
-fn main(rt: HostRuntime) -> ExitCode
-    ensures { IsStatus (exit_status result) }
+fn main(rt: HostRuntime) -> ExitCode {
+    serve_words(&rt, words_of(&rt))
+}
+
+/// Serves as the words ask for; as none do where one of them is not UTF-8. Where memory for the words was refused nothing is served.
+fn serve_words(rt: &HostRuntime, words: io::Result<Vec<String>>) -> ExitCode
+    ensures status { IsStatus (exit_status result) }
+    ensures memory { IfErr words (λ e. error_kind e ≢ ErrorKind.InvalidData → exit_status result ≡ exit_code Status.NoMemory) }
 {
-    match words_of(&rt) {
-        Ok(words) => serve_host(&rt, words.as_slice()),
-        // A word that is not UTF-8: refused as no words are.
-        Err(error) if error.kind() == io::ErrorKind::InvalidData => serve_host(&rt, &[]),
+    match words {
+        Ok(words) => serve_host(rt, words.as_slice()),
+        Err(error) if error.kind() == ErrorKind::InvalidData => serve_host(rt, &[]),
         Err(_) => ending(Status::NoMemory),
     }
 }
