@@ -18,8 +18,8 @@ ghost use Rattle.rc_tfile.specs.Items.{ChangeItem, item_code, IsItem, RowItem};
 ghost use Rattle.rc_tables.specs.Rebuilt.{AllCome, frag_code, ArePartItems, IsSpellable, MayCome};
 
 use crate::rebuilding::mutation_of;
-use rc_mutation::canonical::a_canonical_list_is_that_of_a_mutation;
 use rc_cell::{Row, Tomb};
+use rc_mutation::canonical::a_canonical_list_is_that_of_a_mutation;
 use rc_mutation::{Frag, Mutation};
 use rc_position::{Key, PartKey, Pos, Weight};
 use rc_schema::Schema;
