@@ -12,7 +12,7 @@ use Rattle.lsa_region.specs.Ends.{end_as}
 use Rattle.lsa_region.specs.Region.{View, body, link_of, IsEnd, IsWell, Renamed, Risen}
 use Rattle.lsa_store.specs.laws.Sparse.{sparse-is}
 use Rattle.lsa_move.specs.Room.{Tight, Compactions}
-use Rattle.lsa_bench.specs.Works.{named_object, length_of, IsStep, Steps}
+use Rattle.lsa_bench.specs.Works.{named_object, length_of, IsStep, StepsDone}
 
 -- ---- an object that a slot names is as long as before
 
@@ -99,13 +99,13 @@ pub made-stays : (goes : Bool) (a b : ℕ) → goes ≡ false → Risen a b → 
 made-stays true a b is first = cc is
 made-stays false a b is first = omega (arith, first)
 
-pub steps-none : (v : View) → Steps 0 v v
-unfolding Steps
+pub steps-none : (v : View) → StepsDone 0 v v
+unfolding StepsDone
 steps-none v = refl
 
-next_step : (n : ℕ) (old mid new : View) → Steps n old mid → IsStep (nat_eq (n % 2) 0) mid new → Steps (suc n) old new
-unfolding Steps
+next_step : (n : ℕ) (old mid new : View) → StepsDone n old mid → IsStep (nat_eq (n % 2) 0) mid new → StepsDone (suc n) old new
+unfolding StepsDone
 next_step n old mid new steps step = (mid, steps, step)
 
-pub steps-more : (n : ℕ) (old mid new : View) → Steps n old mid → IsStep (nat_eq (n % 2) 0) mid new → Steps (n + 1) old new
-steps-more n old mid new steps step = subst (λ k. Steps k old new) (omega arith) (next_step n old mid new steps step)
+pub steps-more : (n : ℕ) (old mid new : View) → StepsDone n old mid → IsStep (nat_eq (n % 2) 0) mid new → StepsDone (n + 1) old new
+steps-more n old mid new steps step = subst (λ k. StepsDone k old new) (omega arith) (next_step n old mid new steps step)

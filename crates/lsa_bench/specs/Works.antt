@@ -31,6 +31,6 @@ abbrev pub IsStep : Bool → View → View → Type 0
 IsStep goes old new = IsMade goes old new ⊎ ((spare_of 4096 old.usages < 88) × (n : ℕ) × IsCompacted 4096 old new n)
 
 -- so many steps were done, one after the other; in each step of an even number, from 0, a dummy that is made goes again
-unfoldable pub Steps : ℕ → View → View → Type 0
-Steps zero old new = new ≡ old
-Steps (suc steps) old new = (mid : View) × Steps steps old mid × IsStep (nat_eq (steps % 2) 0) mid new
+unfoldable pub StepsDone : ℕ → View → View → Type 0
+StepsDone zero old new = new ≡ old
+StepsDone (suc steps) old new = (mid : View) × StepsDone steps old mid × IsStep (nat_eq (steps % 2) 0) mid new

@@ -5,7 +5,7 @@ ghost use Rattle.lsa_store.specs.Stock.{sparse_of};
 ghost use Rattle.lsa_region.specs.declared.end.Root.{Root as Slot};
 ghost use Rattle.lsa_store.specs.declared.place.Ref.{Ref as Name};
 ghost use Rattle.lsa_region.specs.Region.{body, link_of, live_bytes, objects, IsEnd, IsWell, Renamed, slots_of};
-ghost use Rattle.lsa_bench.specs.Works.{named_object, length_of, IsStep, Steps};
+ghost use Rattle.lsa_bench.specs.Works.{named_object, length_of, IsStep, StepsDone};
 ghost use Rattle.lsa_move.specs.Room.{Tight, IsCompacted, Compactions};
 
 use lsa_kinds::Kind;
@@ -166,7 +166,7 @@ fn make_or_move(region: &mut Region<4096>, slot: Root, goes: bool) -> bool
 /// many steps that took.
 pub fn move_all(region: &mut Region<4096>, slot: Root) -> u64
     requires { IsEnd region.old (End.Slot slot) }
-    ensures steps { Steps result region.old region.new }
+    ensures steps { StepsDone result region.old region.new }
     ensures there { IsEnd region.new (End.Slot slot) }
     ensures full { result < 2 ^ 64 - 1 → spare_of 4096 region.new.usages < 88 }
     ensures tight { result < 2 ^ 64 - 1 → sparse_of 4096 region.new.usages ≡ None }

@@ -1,15 +1,19 @@
 -- The layout of each kind of object: a header of 8 bytes, the links, each of 8 bytes, then the kind's own fields.
-use Rattle.std.specs.Prelude.{ℕ, ◌+◌, ◌*◌, ◌≤◌, List, [], ◌∷◌, All, AllPairs}
+use Rattle.std.specs.Prelude.{ℕ, ◌+◌, ◌*◌, ◌/◌, ◌≤◌, List, [], ◌∷◌, All, AllPairs}
 use Rattle.lsa_kinds.specs.declared.kind.Kind.{Kind}
 use Rattle.lsa_kinds.specs.Fields.{IsApart}
 use Rattle.lsa_kinds.specs.declared.kind.Kind.TheVariants.{Version, RowEntry, Dummy, Static}
 
+-- n rounded up to a multiple of 8
+abbrev pub up8 : ℕ → ℕ
+up8 n = (n + 7) / 8 * 8
+
 -- the number of a kind in an object's first byte
-abbrev pub code_of : Kind → ℕ
-code_of Version = 1
-code_of RowEntry = 2
-code_of Dummy = 3
-code_of Static = 4
+abbrev pub kind_code : Kind → ℕ
+kind_code Version = 1
+kind_code RowEntry = 2
+kind_code Dummy = 3
+kind_code Static = 4
 
 -- how many links an object of a kind has
 abbrev pub links_of : Kind → ℕ

@@ -1,9 +1,17 @@
 //! The kinds of objects: how many links each has, where they lie, and how long an object is at least.
-ghost use Rattle.std.specs.Prelude.{◌≡◌, ◌+◌, ◌*◌, ◌<◌, ◌≤◌, length, MatchOption};
+ghost use Rattle.std.specs.Prelude.{◌≡◌, ◌+◌, ◌*◌, ◌^◌, ◌<◌, ◌≤◌, length, MatchOption};
 ghost use Rattle.lsa_kinds.specs.Fields.{number_at, IsPut};
-ghost use Rattle.lsa_kinds.specs.Kinds.{code_of, links_of, fixed_size_of, link_offset};
+ghost use Rattle.lsa_kinds.specs.Kinds.{up8, kind_code, links_of, fixed_size_of, link_offset};
 
 use crate::field::Field;
+
+/// A number of bytes, rounded up to a multiple of 8.
+pub fn round_up(bytes: usize) -> usize
+    requires { bytes < 2 ^ 32 }
+    ensures { result ≡ up8 bytes }
+{
+    (bytes + 7) / 8 * 8
+}
 
 /// What an object is.
 #[derive(Clone, Copy, Debug, PartialEq, Eq)]
@@ -23,14 +31,14 @@ pub enum Kind {
 impl Kind {
     /// The kind's number in an object's first byte, 1 to 4.
     pub fn code(self) -> u8
-        ensures { result ≡ code_of self }
+        ensures { result ≡ kind_code self }
     {
         self as u8
     }
 
     /// The kind of this number; None exactly where no kind has it.
     pub fn from_code(code: u8) -> Option<Kind>
-        ensures { MatchOption result ((kind : Kind) → ¬ (code_of kind ≡ code)) (λ kind. code_of kind ≡ code) }
+        ensures { MatchOption result ((kind : Kind) → ¬ (kind_code kind ≡ code)) (λ kind. kind_code kind ≡ code) }
     {
         match code {
             1 => Some(Kind::Version),

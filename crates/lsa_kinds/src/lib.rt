@@ -7,4 +7,4 @@ pub mod laws;
 pub mod layout;
 
 pub use field::{Field, spell};
-pub use kind::{Kind, fixed_size, link_get, link_put, links};
+pub use kind::{Kind, fixed_size, link_get, link_put, links, round_up};

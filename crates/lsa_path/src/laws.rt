@@ -6,7 +6,7 @@ ghost use Rattle.lsa_region.specs.declared.end.End.{End};
 ghost use Rattle.lsa_region.specs.declared.end.End.TheVariants.{Obj};
 ghost use Rattle.lsa_region.specs.Ends.{named_as, end_as};
 ghost use Rattle.lsa_region.specs.Paired.{WellPaired, IsExchanged};
-ghost use Rattle.lsa_region.specs.Layout.{extent};
+ghost use Rattle.lsa_region.specs.Layout.{object_extent};
 ghost use Rattle.lsa_region.specs.Region.{View, body, link_of, IsEnd, IsWell, IsSummed, Renamed, objects, live_bytes};
 ghost use Rattle.lsa_path.specs.Path.{IsPath, IsOutside, IsOutsideOrUnset, IsOfLive, IsInserted, IsTakenOut, AllOnward, behind, entered, walk};
 ghost use Rattle.lsa_path.specs.Roles.{Role, role_at};
@@ -109,7 +109,7 @@ pub fn a_path_has_at_most_the_objects()
     ensures few { (v : View) (toward onward : ℕ) (start : End) (refs : List Ref) (finish : Option End) → toward ≢ onward → IsWell v → IsSummed v → IsOutside toward onward start →
         IsPath toward onward (link_of v) start refs finish → length refs ≤ objects v }
     ensures bytes { (v : View) (toward onward : ℕ) (start : End) (refs : List Ref) (finish : Option End) → toward ≢ onward → IsWell v → IsSummed v → IsOutside toward onward start →
-        IsPath toward onward (link_of v) start refs finish → sum_by (λ r. extent (body v r)) refs ≤ live_bytes v }
+        IsPath toward onward (link_of v) start refs finish → sum_by (λ r. object_extent (body v r)) refs ≤ live_bytes v }
     ensures walked { (v : View) (toward onward : ℕ) (start : End) (refs : List Ref) (finish : Option End) → toward ≢ onward → IsWell v → IsSummed v → IsOutside toward onward start → entered toward finish ≡ None →
         IsPath toward onward (link_of v) start refs finish → walk (objects v) toward onward (link_of v) start ≡ refs }
 {}

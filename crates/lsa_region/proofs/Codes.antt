@@ -9,7 +9,7 @@ use Rattle.lsa_store.specs.laws.Places.{standing}
 use Rattle.lsa_store.specs.laws.Written.{object-and, lie-used, lie-even}
 use Rattle.lsa_region.specs.declared.end.End.{End}
 use Rattle.lsa_region.specs.declared.end.End.TheVariants.{Obj, Slot}
-use Rattle.lsa_region.specs.Codes.{code_of, end_in, end_of, IsCodable}
+use Rattle.lsa_region.specs.Codes.{link_code, end_in, end_of, IsCodable}
 use Rattle.lsa_region.specs.Ends.{IsEndIn}
 use Rattle.lsa_region.specs.laws.Ends.{links_few}
 use Rattle.lsa_region.specs.laws.Refs.{not_true}
@@ -26,7 +26,7 @@ tells_object (suc m) low n e ne =
     ap (λ b. cond b (Some (Slot (record { number = low }))) (Some (Obj (record { segment = m; offset = low / 256 * 8 }) (low % 256)))) (not_true (nat_eq (suc m) 4294967295) (λ t. ne (eqb-true (suc m) 4294967295 t)))
     ∙ ap (λ k. Some (Obj (record { segment = k; offset = low / 256 * 8 }) (low % 256))) same
 
-pub end-code : (named : Option End) → IfSome named IsCodable → end_of (code_of named) ≡ named
+pub end-code : (named : Option End) → IfSome named IsCodable → end_of (link_code named) ≡ named
 end-code None c = refl
 end-code (Some (Obj r field)) c =
     let code = (r.segment + 1) * 4294967296 + (r.offset / 8 * 256 + field) in
@@ -41,7 +41,7 @@ end-code (Some (Slot root)) c =
     let high : code / 4294967296 ≡ 4294967295 = omega (arith, c) in let low : code % 4294967296 ≡ root.number = omega (arith, c) in
     ap (λ l. end_in (code / 4294967296) l) low ∙ tells_slot (code / 4294967296) root.number high
 
-pub code-small : (named : Option End) → IfSome named IsCodable → code_of named < 2 ^ 64
+pub code-small : (named : Option End) → IfSome named IsCodable → link_code named < 2 ^ 64
 code-small None c = omega arith
 code-small (Some (Obj r field)) c = omega (arith, c.segment, c.offset, c.field)
 code-small (Some (Slot root)) c = omega (arith, c)

@@ -18,9 +18,9 @@ use Rattle.lsa_region.specs.declared.end.End.{End}
 use Rattle.lsa_region.specs.declared.end.End.TheVariants.{Obj, Slot}
 use Rattle.lsa_region.specs.Codes.{end_of}
 use Rattle.lsa_region.specs.Ends.{joined, swapped, slots_in, IsSlotMade, IsSlotDropped}
-use Rattle.lsa_region.specs.Layout.{Spot}
+use Rattle.lsa_region.specs.Layout.{Location}
 use Rattle.lsa_region.specs.Paired.{IsTied, IsParted, IsExchanged}
-use Rattle.lsa_region.specs.Region.{View, body, link_of, slots_of, IsEnd, IsWell, SameObjects, IsRegion, IsAdded, IsFreed, IsWritten, spot_of, IsRootAdded, IsRootDropped}
+use Rattle.lsa_region.specs.Region.{View, body, link_of, slots_of, IsEnd, IsWell, SameObjects, IsRegion, IsAdded, IsFreed, IsWritten, location_of, IsRootAdded, IsRootDropped}
 use Rattle.lsa_region.specs.laws.Refs.{refs_decided}
 use Rattle.lsa_region.specs.laws.Ends.{some_and_none, none_unless, ends_decided}
 use Rattle.lsa_region.specs.laws.Exchanges.{exchanged-well, exchanged-from, swapped-holds}
@@ -92,7 +92,7 @@ own_link o kind bytes field is lt = subst (λ w. IsSomeAnd w (λ b. field < link
 link_own : (o : Option (Kind × List ℕ)) (kind : Kind) (bytes : List ℕ) (field : ℕ) → o ≡ Some (kind, bytes) → IsSomeAnd o (λ b. field < links_of b.0) → field < links_of kind
 link_own o kind bytes field is h = subst (λ w. IsSomeAnd w (λ b. field < links_of b.0)) is h
 
-same_spot : (v v' : View) (q : Ref) → body v' q ≡ body v q → spot_of v' q ≡ spot_of v q
+same_spot : (v v' : View) (q : Ref) → body v' q ≡ body v q → location_of v' q ≡ location_of v q
 same_spot v v' q same = ap (option_map (λ (b : Kind × List ℕ). record { segment = q.segment; offset = q.offset })) same
 
 -- an object is added: which ends are there
@@ -164,7 +164,7 @@ written v v' r change here others links roots usages epoch moved compacted = rec
   here = here;
   others = others;
   spots = λ q. elim (refs_decided q r) [
-    | inl same ↦ ap (spot_of v') same ∙ spot_kept (body v r) (body v' r) here ∙ ap (spot_of v) (sym same)
+    | inl same ↦ ap (location_of v') same ∙ spot_kept (body v r) (body v' r) here ∙ ap (location_of v) (sym same)
     | inr ne ↦ same_spot v v' q (others q ne)
   ];
   links = links;
@@ -190,7 +190,7 @@ written v v' r change here others links roots usages epoch moved compacted = rec
 }
   where
     spot_kept : (o o' : Option (Kind × List ℕ)) → IsSomeAnd o (λ b. o' ≡ Some (b.0, change b.1))
-        → ◌≡◌ {A = Option Spot} (option_map (λ b. record { segment = r.segment; offset = r.offset }) o') (option_map (λ b. record { segment = r.segment; offset = r.offset }) o)
+        → ◌≡◌ {A = Option Location} (option_map (λ b. record { segment = r.segment; offset = r.offset }) o') (option_map (λ b. record { segment = r.segment; offset = r.offset }) o)
     spot_kept None o' h = absurd h
     spot_kept (Some b) o' h = ap (option_map (λ (b : Kind × List ℕ). record { segment = r.segment; offset = r.offset })) h
 

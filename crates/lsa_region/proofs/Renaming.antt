@@ -14,9 +14,9 @@ use Rattle.lsa_region.specs.declared.end.End.TheVariants.{Obj, Slot}
 use Rattle.lsa_store.specs.Objects.{body_in}
 use Rattle.lsa_store.specs.Stored.{Stored}
 use Rattle.lsa_region.specs.Ends.{slots_in, named_in, IsEndIn, named_as, end_as, end_by}
-use Rattle.lsa_region.specs.Layout.{Spot}
+use Rattle.lsa_region.specs.Layout.{Location}
 use Rattle.lsa_region.specs.Moves.{view_in, IsRenamedBy}
-use Rattle.lsa_region.specs.Region.{View, body, link_of, spot_of, IsEnd, IsWell, AreLive, Renamed, IsEmptied}
+use Rattle.lsa_region.specs.Region.{View, body, link_of, location_of, IsEnd, IsWell, AreLive, Renamed, IsEmptied}
 use Rattle.lsa_region.specs.laws.Ends.{no-end}
 use Rattle.lsa_region.specs.laws.Names.{all_refs, are_live, names_of, firsts, seconds, named-by, some_and}
 
@@ -63,7 +63,7 @@ abbrev pub list_of : (Ref → Ref) → View → List (Ref × Ref)
 list_of there v = names_of there (all_refs v)
 
 -- where an object lies
-pub spot-there : (u : View) (r : Ref) (s : Spot) → spot_of u r ≡ Some s → IsSome (body u r) × (s ≡ record { segment = r.segment; offset = r.offset })
+pub spot-there : (u : View) (r : Ref) (s : Location) → location_of u r ≡ Some s → IsSome (body u r) × (s ≡ record { segment = r.segment; offset = r.offset })
 spot-there u r s e = on (body u r) e
   where
     on : (o : Option (Kind × List ℕ)) → option_map (λ b. record { segment = r.segment; offset = r.offset }) o ≡ Some s → IsSome o × (s ≡ record { segment = r.segment; offset = r.offset })
@@ -132,9 +132,9 @@ module _ (v w : View) (there back : Ref → Ref) (renamed : IsRenamedBy v w ther
     record {
       renamed = listed budget live_same;
       stay = λ r s e ne.
-          let at = spot-there v r s e in let same = stay r at.0 (λ is. ne (ap (λ (x : Spot). x.segment) at.1 ∙ is)) in
-          ap (spot_of w) (live_name r at.0 ∙ same) ∙ ap (option_map (λ (b : Kind × List ℕ). record { segment = r.segment; offset = r.offset })) (ap (body w) (sym same) ∙ renamed.bodies r) ∙ e;
-      gone = λ r s e is. let at = spot-there w r s e in gone r at.0 (sym (ap (λ (x : Spot). x.segment) at.1) ∙ is);
+          let at = spot-there v r s e in let same = stay r at.0 (λ is. ne (ap (λ (x : Location). x.segment) at.1 ∙ is)) in
+          ap (location_of w) (live_name r at.0 ∙ same) ∙ ap (option_map (λ (b : Kind × List ℕ). record { segment = r.segment; offset = r.offset })) (ap (body w) (sym same) ∙ renamed.bodies r) ∙ e;
+      gone = λ r s e is. let at = spot-there w r s e in gone r at.0 (sym (ap (λ (x : Location). x.segment) at.1) ∙ is);
       free = free;
     },
   )

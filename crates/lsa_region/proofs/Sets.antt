@@ -17,7 +17,7 @@ use Rattle.lsa_store.specs.laws.Written.{object-and, set-here, set-others, set-b
 use Rattle.lsa_region.specs.declared.end.Root.{Root}
 use Rattle.lsa_region.specs.declared.end.End.{End}
 use Rattle.lsa_region.specs.declared.end.End.TheVariants.{Obj, Slot}
-use Rattle.lsa_region.specs.Codes.{code_of, end_of, IsCodable}
+use Rattle.lsa_region.specs.Codes.{link_code, end_of, IsCodable}
 use Rattle.lsa_region.specs.Ends.{SlotCounts, slots_in, named_in, IsEndIn, IsSetIn, IsSameShape, joined}
 use Rattle.lsa_region.specs.laws.Refs.{refs_decided}
 use Rattle.lsa_region.proofs.Codes.{end-code, code-small}
@@ -46,13 +46,13 @@ end-kept old new roots roots' bodies slots (Slot root) h = slots root h
 -- ---- a link of an object
 
 module _ (size : ℕ) (s : Stored) (stored : IsStored size s) (new : List (List Cell)) (roots : List (Option (Option End))) (r : Ref) (field : ℕ) (named : Option End) (codable : IfSome named IsCodable)
-    (linked : IsSomeAnd (body_in s.cells r) (λ b. field < links_of b.0)) (w : IsChangedIn s.cells new r (with_link field (code_of named))) where
+    (linked : IsSomeAnd (body_in s.cells r) (λ b. field < links_of b.0)) (w : IsChangedIn s.cells new r (with_link field (link_code named))) where
   linked_shape : IsSameShape s.cells new
   linked_shape =
-      let f = object-and s.cells r (λ (b : Kind × List ℕ). field < links_of b.0) linked in let x = f.0 in let change = with_link field (code_of named) in
+      let f = object-and s.cells r (λ (b : Kind × List ℕ). field < links_of b.0) linked in let x = f.0 in let change = with_link field (link_code named) in
       let is = changed-is s.cells new r change w x.cell x.here in
       let long : size_of (change x.cell) ≡ size_of x.cell = is.size in record {
-        bodies = set-bodies size s stored new r field (code_of named) linked w;
+        bodies = set-bodies size s stored new r field (link_code named) linked w;
         sizes = λ q. elim (refs_decided q r) [
           | inl e ↦
               ap (λ p. option_map (λ (c : Cell). size_of c) (cell_in new p)) e ∙ ap (option_map (λ (c : Cell). size_of c)) (changed-here s.cells new r change w x.cell x.here)
@@ -62,14 +62,14 @@ module _ (size : ℕ) (s : Stored) (stored : IsStored size s) (new : List (List 
         ends = changed-extent s.cells new r change w x.cell x.here;
         counts = changed-each s.cells new r change w x.cell x.here (λ n l. live_count l ≡ live_count (cells_of s.cells n))
             (omega (arith, replaced-sums (cells_of s.cells r.segment) w.after r.offset x.cell (change x.cell) is one_if_live)) (λ n ne. refl);
-        count = set-count size s stored new r field (code_of named) linked w;
+        count = set-count size s stored new r field (link_code named) linked w;
       }
 
   pub set-field : IsSetIn s.cells roots new roots (Obj r field) named
   set-field = record {
-    here = ap end_of (set-here size s stored new r field (code_of named) linked w (code-small named codable)) ∙ end-code named codable;
+    here = ap end_of (set-here size s stored new r field (link_code named) linked w (code-small named codable)) ∙ end-code named codable;
     others = λ other. elim other as (λ (o : End). o ≢ Obj r field → named_in new roots o ≡ named_in s.cells roots o) [
-      | Obj q g ↦ λ ne. ap end_of (set-others size s stored new r field (code_of named) linked w q g (λ e same. ne (ap (λ p. Obj p g) e ∙ ap (λ k. Obj r k) same)))
+      | Obj q g ↦ λ ne. ap end_of (set-others size s stored new r field (link_code named) linked w q g (λ e same. ne (ap (λ p. Obj p g) e ∙ ap (λ k. Obj r k) same)))
       | Slot root ↦ λ ne. refl
     ];
     ends = end-kept s.cells new roots roots linked_shape.bodies (λ root h. h);

@@ -12,29 +12,29 @@ use Rattle.lsa_store.specs.Stored.{IsStored}
 use Rattle.lsa_store.specs.laws.Words.{object-size}
 use Rattle.lsa_store.specs.laws.Written.{fitting-at, live-total}
 use Rattle.lsa_store.specs.laws.Sums.{weigh-most, weigh-whole}
-use Rattle.lsa_region.specs.Layout.{extent}
+use Rattle.lsa_region.specs.Layout.{object_extent}
 use Rattle.lsa_region.specs.Region.{View, body, live_bytes, IsSummed}
 
 module _ (size : ℕ) (v : View) (stored : IsStored size (record { cells = v.cells; usages = v.usages })) where
   -- an object weighs what it takes, and a gap nothing
-  of_kind : (c : Cell) (k : Option Kind) (r : Ref) → cell_in v.cells r ≡ Some c → c.kind ≡ k → live_size c ≡ extent (body_of c)
+  of_kind : (c : Cell) (k : Option Kind) (r : Ref) → cell_in v.cells r ≡ Some c → c.kind ≡ k → live_size c ≡ object_extent (body_of c)
   of_kind c None r here e =
       let none : body_of c ≡ None = ap (option_map (λ (kind : Kind). (kind, drop (8 * links_of kind) c.rest))) e in
-      ap (λ (k : Option Kind). cond (is_some k) (size_of c) 0) e ∙ sym (ap extent none)
+      ap (λ (k : Option Kind). cond (is_some k) (size_of c) 0) e ∙ sym (ap object_extent none)
   of_kind c (Some kind) r here e =
       let some : body_of c ≡ Some (kind, drop (8 * links_of kind) c.rest) = ap (option_map (λ (kind : Kind). (kind, drop (8 * links_of kind) c.rest))) e in
-      ap (λ (k : Option Kind). cond (is_some k) (size_of c) 0) e ∙ object-size c kind e (fitting-at size (record { cells = v.cells; usages = v.usages }) r c stored here).proper ∙ sym (ap extent some)
+      ap (λ (k : Option Kind). cond (is_some k) (size_of c) 0) e ∙ object-size c kind e (fitting-at size (record { cells = v.cells; usages = v.usages }) r c stored here).proper ∙ sym (ap object_extent some)
 
-  weight_is : (r : Ref) (o : Option Cell) → cell_in v.cells r ≡ o → option_map_or live_size o 0 ≡ extent (option_and_then body_of o)
+  weight_is : (r : Ref) (o : Option Cell) → cell_in v.cells r ≡ o → option_map_or live_size o 0 ≡ object_extent (option_and_then body_of o)
   weight_is r None e = refl
   weight_is r (Some c) e = of_kind c c.kind r e refl
 
-  sums_are : (refs : List Ref) → sum_by (λ r. extent (body v r)) refs ≡ sum_by (λ r. option_map_or live_size (cell_in v.cells r) 0) refs
+  sums_are : (refs : List Ref) → sum_by (λ r. object_extent (body v r)) refs ≡ sum_by (λ r. option_map_or live_size (cell_in v.cells r) 0) refs
   sums_are [] = refl
   sums_are (r ∷ refs) =
       omega (
         arith,
-        sum_by-cons (λ (q : Ref). extent (body v q)) r refs,
+        sum_by-cons (λ (q : Ref). object_extent (body v q)) r refs,
         sum_by-cons (λ (q : Ref). option_map_or live_size (cell_in v.cells q) 0) r refs,
         weight_is r (cell_in v.cells r) refl,
         sums_are refs,

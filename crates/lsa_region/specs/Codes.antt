@@ -5,10 +5,10 @@ use Rattle.lsa_region.specs.declared.end.End.{End}
 use Rattle.lsa_region.specs.declared.end.End.TheVariants.{Obj, Slot}
 
 -- 0 for nothing; for a link of an object its segment and 1, then its offset in eights and the link's field; for a root slot all ones, then its number
-abbrev pub code_of : Option End → ℕ
-code_of None = 0
-code_of (Some (Obj r field)) = (r.segment + 1) * 4294967296 + (r.offset / 8 * 256 + field)
-code_of (Some (Slot root)) = 4294967295 * 4294967296 + root.number
+abbrev pub link_code : Option End → ℕ
+link_code None = 0
+link_code (Some (Obj r field)) = (r.segment + 1) * 4294967296 + (r.offset / 8 * 256 + field)
+link_code (Some (Slot root)) = 4294967295 * 4294967296 + root.number
 
 -- the end that the two halves of a number tell
 abbrev pub end_in : ℕ → ℕ → Option End

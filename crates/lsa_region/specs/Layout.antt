@@ -4,12 +4,12 @@ use Rattle.lsa_kinds.specs.declared.kind.Kind.{Kind}
 use Rattle.lsa_store.specs.Objects.{rounded_size}
 
 -- how many bytes the object with this body takes
-abbrev pub extent : Option (Kind × List ℕ) → ℕ
-extent None = 0
-extent (Some b) = rounded_size b.0 (length b.1)
+abbrev pub object_extent : Option (Kind × List ℕ) → ℕ
+object_extent None = 0
+object_extent (Some b) = rounded_size b.0 (length b.1)
 
 -- where an object lies: its segment, and its offset there
-pub record Spot : Type 0 where
+pub record Location : Type 0 where
   pub segment : ℕ
   pub offset : ℕ
 

@@ -13,7 +13,7 @@ use Rattle.lsa_region.specs.declared.end.Root.{Root}
 use Rattle.lsa_region.specs.declared.end.End.{End}
 use Rattle.lsa_region.specs.declared.end.End.TheVariants.{Obj, Slot}
 use Rattle.lsa_region.specs.Ends.{SlotCounts, slots_in, named_in, IsEndIn, named_as, end_as}
-use Rattle.lsa_region.specs.Layout.{Spot, extent}
+use Rattle.lsa_region.specs.Layout.{Location, object_extent}
 use Rattle.lsa_region.specs.Paired.{WellPaired}
 
 -- the cells of each segment, which are the objects and their links, the root slots, the segments' books, and the counts
@@ -30,8 +30,8 @@ abbrev pub body : View → Ref → Option (Kind × List ℕ)
 body v r = body_in v.cells r
 
 -- the segment and the offset at which an object lies; None where there is no such object
-abbrev pub spot_of : View → Ref → Option Spot
-spot_of v r = option_map (λ b. record { segment = r.segment; offset = r.offset }) (body v r)
+abbrev pub location_of : View → Ref → Option Location
+location_of v r = option_map (λ b. record { segment = r.segment; offset = r.offset }) (body v r)
 
 -- how many objects there are
 abbrev pub objects : View → ℕ
@@ -64,9 +64,9 @@ pub record IsWell (v : View) : Type 0 where
 
 -- each object lies in the used bytes of a segment that is not free, no two overlap, what is live in a segment is what its objects take, and a segment is free
 pub record HasLayout (v : View) : Type 0 where
-  pub placed : (r : Ref) → is_some (spot_of v r) ≡ is_some (body v r)
-  pub used : (r : Ref) (s : Spot) → spot_of v r ≡ Some s → s.offset + extent (body v r) ≤ (usage_of v.usages s.segment).used
-  pub apart : (r q : Ref) (s t : Spot) → spot_of v r ≡ Some s → spot_of v q ≡ Some t → r ≢ q → s.segment ≡ t.segment → (s.offset + extent (body v r) ≤ t.offset) ⊎ (t.offset + extent (body v q) ≤ s.offset)
+  pub placed : (r : Ref) → is_some (location_of v r) ≡ is_some (body v r)
+  pub used : (r : Ref) (s : Location) → location_of v r ≡ Some s → s.offset + object_extent (body v r) ≤ (usage_of v.usages s.segment).used
+  pub apart : (r q : Ref) (s t : Location) → location_of v r ≡ Some s → location_of v q ≡ Some t → r ≢ q → s.segment ≡ t.segment → (s.offset + object_extent (body v r) ≤ t.offset) ⊎ (t.offset + object_extent (body v q) ≤ s.offset)
   pub live : (n : ℕ) → live_in (cells_of v.cells n) ≡ (usage_of v.usages n).live
   pub empty : (n : ℕ) → (usage_of v.usages n).state ≡ Free → (usage_of v.usages n).used ≡ 0
   pub reserve : 0 < free_count v.usages
@@ -80,7 +80,7 @@ pub record SameObjects (old new : View) : Type 0 where
   pub bodies : (r : Ref) → body new r ≡ body old r
   pub ends : (e : End) → IsEnd old e → IsEnd new e
   pub gone : (e : End) → IsEnd new e → IsEnd old e
-  pub spots : (r : Ref) → spot_of new r ≡ spot_of old r
+  pub spots : (r : Ref) → location_of new r ≡ location_of old r
   pub slots : slots_of new ≡ slots_of old
   pub usages : new.usages ≡ old.usages
   pub epoch : new.epoch ≡ old.epoch
@@ -98,7 +98,7 @@ pub record IsAdded (old new : View) (r : Ref) (kind : Kind) (bytes : List ℕ) :
   pub here : body new r ≡ Some (kind, bytes)
   pub unset : (field : ℕ) → link_of new (Obj r field) ≡ None
   pub others : (q : Ref) → q ≢ r → body new q ≡ body old q
-  pub spots : (q : Ref) → q ≢ r → spot_of new q ≡ spot_of old q
+  pub spots : (q : Ref) → q ≢ r → location_of new q ≡ location_of old q
   pub links : (e : End) → link_of new e ≡ link_of old e
   pub own : (field : ℕ) → field < links_of kind → IsEnd new (Obj r field)
   pub exact : (field : ℕ) → IsEnd new (Obj r field) → field < links_of kind
@@ -110,7 +110,7 @@ pub record IsAdded (old new : View) (r : Ref) (kind : Kind) (bytes : List ℕ) :
 pub record IsFreed (old new : View) (r : Ref) : Type 0 where
   pub here : body new r ≡ None
   pub others : (q : Ref) → q ≢ r → body new q ≡ body old q
-  pub spots : (q : Ref) → q ≢ r → spot_of new q ≡ spot_of old q
+  pub spots : (q : Ref) → q ≢ r → location_of new q ≡ location_of old q
   pub links : (e : End) → link_of new e ≡ link_of old e
   pub lost : (field : ℕ) → IsEnd new (Obj r field) → ⊥
   pub ends : (e : End) → ((field : ℕ) → e ≢ Obj r field) → IsEnd old e → IsEnd new e
@@ -121,7 +121,7 @@ pub record IsFreed (old new : View) (r : Ref) : Type 0 where
 pub record IsWritten (old new : View) (r : Ref) (change : List ℕ → List ℕ) : Type 0 where
   pub here : IsSomeAnd (body old r) (λ b. body new r ≡ Some (b.0, change b.1))
   pub others : (q : Ref) → q ≢ r → body new q ≡ body old q
-  pub spots : (q : Ref) → spot_of new q ≡ spot_of old q
+  pub spots : (q : Ref) → location_of new q ≡ location_of old q
   pub links : (e : End) → link_of new e ≡ link_of old e
   pub ends : (e : End) → IsEnd old e → IsEnd new e
   pub gone : (e : End) → IsEnd new e → IsEnd old e
@@ -154,7 +154,7 @@ pub record IsRootDropped (old new : View) (r : Root) : Type 0 where
 -- the objects, the segments and the counts are as they were
 pub record SameButRoots (old new : View) : Type 0 where
   pub bodies : (r : Ref) → body new r ≡ body old r
-  pub spots : (r : Ref) → spot_of new r ≡ spot_of old r
+  pub spots : (r : Ref) → location_of new r ≡ location_of old r
   pub usages : new.usages ≡ old.usages
   pub epoch : new.epoch ≡ old.epoch
   pub moved : new.moved ≡ old.moved
@@ -168,8 +168,8 @@ pub record AreLive (v : View) (refs : List Ref) : Type 0 where
 
 -- What is live is what the objects take: exactly, over a list of all of them, and at least over references each once. So with their count.
 pub record IsSummed (v : View) : Type 0 where
-  pub whole : (refs : List Ref) → AreLive v refs → sum_by (λ r. extent (body v r)) refs ≡ live_bytes v
-  pub most : (refs : List Ref) → AllPairs ◌≢◌ refs → sum_by (λ r. extent (body v r)) refs ≤ live_bytes v
+  pub whole : (refs : List Ref) → AreLive v refs → sum_by (λ r. object_extent (body v r)) refs ≡ live_bytes v
+  pub most : (refs : List Ref) → AllPairs ◌≢◌ refs → sum_by (λ r. object_extent (body v r)) refs ≤ live_bytes v
   pub all : (refs : List Ref) → AreLive v refs → length refs ≡ objects v
   pub few : (refs : List Ref) → AllPairs ◌≢◌ refs → ((r : Ref) → Contains refs r → IsSome (body v r)) → length refs ≤ objects v
 
@@ -189,6 +189,6 @@ pub record Renamed (old new : View) (names : List (Ref × Ref)) : Type 0 where
 -- the objects of segment n lie elsewhere, under new names, and it is free; those of other segments lie where they lay
 pub record IsEmptied (old new : View) (n : ℕ) (names : List (Ref × Ref)) : Type 0 where
   pub renamed : Renamed old new names
-  pub stay : (r : Ref) (s : Spot) → spot_of old r ≡ Some s → s.segment ≢ n → spot_of new (named_as names r) ≡ Some s
-  pub gone : (r : Ref) (s : Spot) → spot_of new r ≡ Some s → s.segment ≢ n
+  pub stay : (r : Ref) (s : Location) → location_of old r ≡ Some s → s.segment ≢ n → location_of new (named_as names r) ≡ Some s
+  pub gone : (r : Ref) (s : Location) → location_of new r ≡ Some s → s.segment ≢ n
   pub free : usage_of new.usages n ≡ nothing

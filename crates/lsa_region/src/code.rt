@@ -1,6 +1,6 @@
 //! The number that stands in a link, and the end that it tells.
 ghost use Rattle.std.specs.Prelude.{◌≡◌, IfSome};
-ghost use Rattle.lsa_region.specs.Codes.{code_of, end_of, IsCodable};
+ghost use Rattle.lsa_region.specs.Codes.{link_code, end_of, IsCodable};
 
 use crate::end::{End, Root};
 use lsa_store::Ref;
@@ -14,7 +14,7 @@ const SLOTS: u64 = 4_294_967_295;
 /// The number that tells an end, or nothing.
 pub(crate) fn code(named: Option<End>) -> u64
     requires { IfSome named IsCodable }
-    ensures { result ≡ code_of named }
+    ensures { result ≡ link_code named }
 {
     match named {
         None => 0,

@@ -25,7 +25,7 @@ use Rattle.lsa_path.specs.laws.Renamed.{path-renamed}
 use Rattle.lsa_list.specs.declared.recency.List.{List as Slots}
 use Rattle.lsa_list.specs.Recency.{IsList, IsElsewhere, kind_of}
 use Rattle.lsa_list.specs.laws.Lists.{recent-same, list-stays, list-unlinked, list-inserted, list-taken, list-renamed, path-elsewhere, kind_written}
-use Rattle.lsa_rooms.specs.Room.{Stands, IsFirst}
+use Rattle.lsa_rooms.specs.Room.{StandsInRegion, IsFirst}
 
 -- an object of a kind has its links
 has_link : (o : Option (Kind × List ℕ)) (kind : Kind) (f : ℕ) → option_map (λ b. b.0) o ≡ Some kind → f < links_of kind → IsSomeAnd o (λ b. f < links_of b.0)
@@ -79,7 +79,7 @@ module _ (slots : Slots) (v : View) where
   leads_elsewhere s [] p kinds = subst (λ (o : Option End). IfSome o (IsElsewhere slots v)) (sym p) tt
   leads_elsewhere s (x ∷ xs) p kinds = subst (λ (o : Option End). IfSome o (IsElsewhere slots v)) (sym p.0) (version-elsewhere x 1 (kinds x (member-first x xs)))
 
-module _ (chain : Root) (slots : Slots) (v w : View) (versions : List Ref) (top : Ref) (entries listed : List Ref) (s : Stands chain slots v versions top entries listed) where
+module _ (chain : Root) (slots : Slots) (v w : View) (versions : List Ref) (top : Ref) (entries listed : List Ref) (s : StandsInRegion chain slots v versions top entries listed) where
   pub chain-elsewhere : IsElsewhere slots v (Slot chain)
   chain-elsewhere = (s.front, s.back)
 
@@ -87,7 +87,7 @@ module _ (chain : Root) (slots : Slots) (v w : View) (versions : List Ref) (top 
   onward_elsewhere = all-from_members 0 (IsElsewhere slots v) versions (λ r h. version-elsewhere slots v r 0 (s.kinds r h))
 
   -- the recency list changed
-  pub stands-listed : (now : List Ref) → ((e : End) → IsElsewhere slots v e → link_of w e ≡ link_of v e) → SameObjects v w → IsList slots w now → Stands chain slots w versions top entries now
+  pub stands-listed : (now : List Ref) → ((e : End) → IsElsewhere slots v e → link_of w e ≡ link_of v e) → SameObjects v w → IsList slots w now → StandsInRegion chain slots w versions top entries now
   stands-listed now same objects list = record {
     chained = path-elsewhere slots v w 1 0 (Slot chain) versions None same chain-elsewhere onward_elsewhere s.chained;
     kinds = λ r h. kind-same v w objects r ∙ s.kinds r h;
@@ -99,7 +99,7 @@ module _ (chain : Root) (slots : Slots) (v w : View) (versions : List Ref) (top 
   }
 
   -- the chain changed
-  pub stands-chained : (now : List Ref) → ((e : End) → IsOutside 1 0 e → Slot chain ≢ e → link_of w e ≡ link_of v e) → SameObjects v w → IsPath 1 0 (link_of w) (Slot chain) now None → ((r : Ref) → Contains now r → kind_of v r ≡ Some Version) → IsList slots w listed → Stands chain slots w now top entries listed
+  pub stands-chained : (now : List Ref) → ((e : End) → IsOutside 1 0 e → Slot chain ≢ e → link_of w e ≡ link_of v e) → SameObjects v w → IsPath 1 0 (link_of w) (Slot chain) now None → ((r : Ref) → Contains now r → kind_of v r ≡ Some Version) → IsList slots w listed → StandsInRegion chain slots w now top entries listed
   stands-chained now same objects path kinds list = record {
     chained = path;
     kinds = λ r h. kind-same v w objects r ∙ kinds r h;
@@ -111,7 +111,7 @@ module _ (chain : Root) (slots : Slots) (v w : View) (versions : List Ref) (top 
   }
 
   -- the ordered list changed
-  pub stands-ordered : (now : List Ref) → ((e : End) → IsOutside 3 4 e → Obj top 2 ≢ e → link_of w e ≡ link_of v e) → SameObjects v w → IsPath 3 4 (link_of w) (Obj top 2) now None → ((r : Ref) → Contains now r → kind_of v r ≡ Some Dummy) → Stands chain slots w versions top now listed
+  pub stands-ordered : (now : List Ref) → ((e : End) → IsOutside 3 4 e → Obj top 2 ≢ e → link_of w e ≡ link_of v e) → SameObjects v w → IsPath 3 4 (link_of w) (Obj top 2) now None → ((r : Ref) → Contains now r → kind_of v r ≡ Some Dummy) → StandsInRegion chain slots w versions top now listed
   stands-ordered now same objects path kinds = record {
     chained = path-same 1 0 (link_of v) (link_of w) (Slot chain) versions None (same (Slot chain) tt (λ e. cc)) (all-from_members 0 (λ e. link_of w e ≡ link_of v e) versions (λ r h. same (Obj r 0) ((λ e. cc), (λ e. cc)) (λ e. cc))) s.chained;
     kinds = λ r h. kind-same v w objects r ∙ s.kinds r h;
@@ -123,7 +123,7 @@ module _ (chain : Root) (slots : Slots) (v w : View) (versions : List Ref) (top 
   }
 
   -- entries changed places
-  pub stands-exchanged : (now : List Ref) → ((e : End) → IsOutside 3 4 e → IsOutsideOrUnset 3 4 (link_of v e) → link_of w e ≡ link_of v e) → SameObjects v w → IsPath 3 4 (link_of w) (Obj top 2) now None → ((r : Ref) → Contains now r → kind_of v r ≡ Some Dummy) → Stands chain slots w versions top now listed
+  pub stands-exchanged : (now : List Ref) → ((e : End) → IsOutside 3 4 e → IsOutsideOrUnset 3 4 (link_of v e) → link_of w e ≡ link_of v e) → SameObjects v w → IsPath 3 4 (link_of w) (Obj top 2) now None → ((r : Ref) → Contains now r → kind_of v r ≡ Some Dummy) → StandsInRegion chain slots w versions top now listed
   stands-exchanged now same objects path kinds = record {
     chained = path-aside 3 4 (link_of v) (link_of w) same 1 0 (λ e. cc) (λ e. cc) (λ e. cc) (λ e. cc) (Slot chain) versions None tt tt s.chained;
     kinds = λ r h. kind-same v w objects r ∙ s.kinds r h;
@@ -151,12 +151,12 @@ kinds-without v kind xs ys r kinds q h = elim (Contains-append_cases xs ys q h) 
 ]
 
 -- the recency list stays where a version comes or goes
-pub list-version_added : (chain : Root) (slots : Slots) (v w : View) (versions : List Ref) (top : Ref) (entries listed : List Ref) (s : Stands chain slots v versions top entries listed) (r : Ref) → kind_of v r ≡ Some Version
+pub list-version_added : (chain : Root) (slots : Slots) (v w : View) (versions : List Ref) (top : Ref) (entries listed : List Ref) (s : StandsInRegion chain slots v versions top entries listed) (r : Ref) → kind_of v r ≡ Some Version
     → IsInserted (link_of v) (link_of w) (Slot chain) (Obj r 1) (Obj r 0) → SameObjects v w → IsList slots w listed
 list-version_added chain slots v w versions top entries listed s r version ins objects = list-inserted slots v w listed s.list (Slot chain) (Obj r 1) (Obj r 0) (s.front, s.back)
     (version-elsewhere slots v r 1 version) (version-elsewhere slots v r 0 version) (leads_elsewhere slots v (Slot chain) versions s.chained s.kinds) ins objects
 
-pub list-version_dropped : (chain : Root) (slots : Slots) (v w : View) (xs ys : List Ref) (r : Ref) (top : Ref) (entries listed : List Ref) (s : Stands chain slots v (xs ++ (r ∷ ys)) top entries listed) → IsWell v
+pub list-version_dropped : (chain : Root) (slots : Slots) (v w : View) (xs ys : List Ref) (r : Ref) (top : Ref) (entries listed : List Ref) (s : StandsInRegion chain slots v (xs ++ (r ∷ ys)) top entries listed) → IsWell v
     → IsTakenOut (link_of v) (link_of w) (Obj r 1) (Obj r 0) → SameObjects v w → IsList slots w listed
 list-version_dropped chain slots v w xs ys r top entries listed s well out objects =
     let version = s.kinds r (member-here xs ys r) in
@@ -185,7 +185,7 @@ module _ (v w : View) (well : IsWell v) where
 
   -- where each object with a link that is set keeps its kind
   pub stands-unlinked : (chain : Root) (slots : Slots) (versions : List Ref) (top : Ref) (entries listed : List Ref) → ((e : End) → link_of w e ≡ link_of v e) → ((q : Ref) (f : ℕ) → IsSome (link_of v (Obj q f)) → kind_of w q ≡ kind_of v q)
-      → Stands chain slots v versions top entries listed → Stands chain slots w versions top entries listed
+      → StandsInRegion chain slots v versions top entries listed → StandsInRegion chain slots w versions top entries listed
   stands-unlinked chain slots versions top entries listed links keeps s = record {
     chained = path-everywhere 1 0 (link_of v) (link_of w) (Slot chain) versions None links s.chained;
     kinds = λ r h. keeps r 1 (member_set 1 0 (Slot chain) versions None s.chained r h) ∙ s.kinds r h;
@@ -200,10 +200,10 @@ module _ (v w : View) (well : IsWell v) where
   added_keeps r kind bytes added q f set = ap (option_map (λ (b : Kind × List ℕ). b.0)) (added.others q (λ is.
       clash (link_of v (Obj q f)) (no-end v well (Obj q f) (λ h. some_and_none (body v q) (λ b. f < links_of b.0) (ap (body v) is ∙ added.fresh) h)) set))
 
-  pub stands-added : (r : Ref) (kind : Kind) (bytes : List ℕ) → IsAdded v w r kind bytes → (chain : Root) (slots : Slots) (versions : List Ref) (top : Ref) (entries listed : List Ref) → Stands chain slots v versions top entries listed → Stands chain slots w versions top entries listed
+  pub stands-added : (r : Ref) (kind : Kind) (bytes : List ℕ) → IsAdded v w r kind bytes → (chain : Root) (slots : Slots) (versions : List Ref) (top : Ref) (entries listed : List Ref) → StandsInRegion chain slots v versions top entries listed → StandsInRegion chain slots w versions top entries listed
   stands-added r kind bytes added chain slots versions top entries listed s = stands-unlinked chain slots versions top entries listed added.links (added_keeps r kind bytes added) s
 
-  pub stands-freed : (r : Ref) → IsFreed v w r → ((f : ℕ) → link_of v (Obj r f) ≡ None) → (chain : Root) (slots : Slots) (versions : List Ref) (top : Ref) (entries listed : List Ref) → Stands chain slots v versions top entries listed → Stands chain slots w versions top entries listed
+  pub stands-freed : (r : Ref) → IsFreed v w r → ((f : ℕ) → link_of v (Obj r f) ≡ None) → (chain : Root) (slots : Slots) (versions : List Ref) (top : Ref) (entries listed : List Ref) → StandsInRegion chain slots v versions top entries listed → StandsInRegion chain slots w versions top entries listed
   stands-freed r freed unset chain slots versions top entries listed s = stands-unlinked chain slots versions top entries listed freed.links
       (λ q f set. ap (option_map (λ (b : Kind × List ℕ). b.0)) (freed.others q (λ is. clash (link_of v (Obj q f)) (ap (λ x. link_of v (Obj x f)) is ∙ unset f) set))) s
 
@@ -238,8 +238,8 @@ fresh-differs v r q kind is fresh same = clash_body (body v r) (ap (body v) same
     clash_body None none some = cc some
     clash_body (Some b) none some = cc none
 
-pub stands-moved : (v w : View) (names : List (Ref × Ref)) → Renamed v w names → IsWell v → (chain : Root) (slots : Slots) (versions : List Ref) (top : Ref) (entries listed : List Ref) → Contains versions top → Stands chain slots v versions top entries listed
-    → Stands chain slots w (map (named_as names) versions) (named_as names top) (map (named_as names) entries) (map (named_as names) listed)
+pub stands-moved : (v w : View) (names : List (Ref × Ref)) → Renamed v w names → IsWell v → (chain : Root) (slots : Slots) (versions : List Ref) (top : Ref) (entries listed : List Ref) → Contains versions top → StandsInRegion chain slots v versions top entries listed
+    → StandsInRegion chain slots w (map (named_as names) versions) (named_as names top) (map (named_as names) entries) (map (named_as names) listed)
 stands-moved v w names renamed well chain slots versions top entries listed on s = record {
   chained = path-renamed v w names renamed well 1 0 (Slot chain) versions None tt s.chained;
   kinds = moved Version versions s.kinds;
@@ -263,7 +263,7 @@ still-in us vs r x h ne = elim (Contains-append_cases us (r ∷ vs) x h) [
 ]
 
 -- the slot of a chain with a version is there
-pub chain-there : (v : View) → IsWell v → (chain : Root) (slots : Slots) (newer : Ref) (versions : List Ref) (top : Ref) (entries listed : List Ref) → Stands chain slots v (newer ∷ versions) top entries listed → IsEnd v (Slot chain)
+pub chain-there : (v : View) → IsWell v → (chain : Root) (slots : Slots) (newer : Ref) (versions : List Ref) (top : Ref) (entries listed : List Ref) → StandsInRegion chain slots v (newer ∷ versions) top entries listed → IsEnd v (Slot chain)
 chain-there v well chain slots newer versions top entries listed s = well.ends (Obj newer 1) (Slot chain) (well.paired.mates (Slot chain) (Obj newer 1) s.chained.0)
 
 -- an object all of whose links are unset
@@ -279,8 +279,8 @@ all-unset v well r kind is low f = elim (cases_lt f (links_of kind)) [
 
 -- ---- the first entry
 
-pub first-is : (chain : Root) (slots : Slots) (v : View) (top older : Ref) (entries listed : List Ref) → Stands chain slots v (top ∷ (older ∷ [])) top entries listed → ((r : Ref) → Contains entries r → Contains listed r) → (o : Option Ref) (first : Ref)
-    → (Stands chain slots v (top ∷ (older ∷ [])) top [] listed → o ≡ None) → ((x : Ref) (rest : List Ref) → Stands chain slots v (top ∷ (older ∷ [])) top (x ∷ rest) listed → o ≡ Some x) → o ≡ Some first → IsFirst chain slots v top first
+pub first-is : (chain : Root) (slots : Slots) (v : View) (top older : Ref) (entries listed : List Ref) → StandsInRegion chain slots v (top ∷ (older ∷ [])) top entries listed → ((r : Ref) → Contains entries r → Contains listed r) → (o : Option Ref) (first : Ref)
+    → (StandsInRegion chain slots v (top ∷ (older ∷ [])) top [] listed → o ≡ None) → ((x : Ref) (rest : List Ref) → StandsInRegion chain slots v (top ∷ (older ∷ [])) top (x ∷ rest) listed → o ≡ Some x) → o ≡ Some first → IsFirst chain slots v top first
 first-is chain slots v top older [] listed s tagged o first none some is = absurd (let e : None ≡ Some first = sym (none s) ∙ is in cc)
 first-is chain slots v top older (x ∷ rest) listed s tagged o first none some is =
     let same : x ≡ first = let e : Some x ≡ Some first = sym (some x rest s) ∙ is in cc in subst (IsFirst chain slots v top) same (older, rest, listed, s, tagged)

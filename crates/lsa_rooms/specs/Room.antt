@@ -10,7 +10,7 @@ use Rattle.lsa_list.specs.declared.recency.List.{List as Slots}
 use Rattle.lsa_list.specs.Recency.{IsList, kind_of}
 
 -- from the slot chain lead the versions, the newest first; from the version top the entries, in order; and the list between the two slots has the listed objects
-pub record Stands (chain : Root) (slots : Slots) (v : View) (versions : List Ref) (top : Ref) (entries listed : List Ref) : Type 0 where
+pub record StandsInRegion (chain : Root) (slots : Slots) (v : View) (versions : List Ref) (top : Ref) (entries listed : List Ref) : Type 0 where
   pub chained : IsPath 1 0 (link_of v) (Slot chain) versions None
   pub kinds : (r : Ref) → Contains versions r → kind_of v r ≡ Some Version
   pub ordered : IsPath 3 4 (link_of v) (Obj top 2) entries None
@@ -21,7 +21,7 @@ pub record Stands (chain : Root) (slots : Slots) (v : View) (versions : List Ref
 
 -- two versions stand there, the newer one on top, and each entry is listed
 abbrev pub IsTopped : Root → Slots → View → Ref → Type 0
-IsTopped chain slots v top = (older : Ref) × (entries : List Ref) × (listed : List Ref) × Stands chain slots v (top ∷ (older ∷ [])) top entries listed × ((r : Ref) → Contains entries r → Contains listed r)
+IsTopped chain slots v top = (older : Ref) × (entries : List Ref) × (listed : List Ref) × StandsInRegion chain slots v (top ∷ (older ∷ [])) top entries listed × ((r : Ref) → Contains entries r → Contains listed r)
 
 -- the same, whatever the versions are
 abbrev pub IsRoom : Root → Slots → View → Type 0
@@ -29,8 +29,8 @@ IsRoom chain slots v = (top : Ref) × IsTopped chain slots v top
 
 -- and this is the first entry
 abbrev pub IsFirst : Root → Slots → View → Ref → Ref → Type 0
-IsFirst chain slots v top first = (older : Ref) × (rest : List Ref) × (listed : List Ref) × Stands chain slots v (top ∷ (older ∷ [])) top (first ∷ rest) listed × ((r : Ref) → Contains (first ∷ rest) r → Contains listed r)
+IsFirst chain slots v top first = (older : Ref) × (rest : List Ref) × (listed : List Ref) × StandsInRegion chain slots v (top ∷ (older ∷ [])) top (first ∷ rest) listed × ((r : Ref) → Contains (first ∷ rest) r → Contains listed r)
 
 -- these versions stand in the chain, whatever else
 abbrev pub IsChained : Root → Slots → View → List Ref → Type 0
-IsChained chain slots v versions = (top : Ref) × (entries : List Ref) × (listed : List Ref) × Stands chain slots v versions top entries listed
+IsChained chain slots v versions = (top : Ref) × (entries : List Ref) × (listed : List Ref) × StandsInRegion chain slots v versions top entries listed

@@ -6,7 +6,7 @@ ghost use Rattle.lsa_region.specs.declared.end.Root.{Root as Place};
 ghost use Rattle.lsa_region.specs.Region.{link_of, IsEnd};
 ghost use Rattle.lsa_list.specs.declared.recency.List.{List as Slots};
 ghost use Rattle.lsa_list.specs.Recency.{kind_of};
-ghost use Rattle.lsa_rooms.specs.Room.{Stands, IsTopped, IsRoom, IsFirst, IsChained};
+ghost use Rattle.lsa_rooms.specs.Room.{StandsInRegion, IsTopped, IsRoom, IsFirst, IsChained};
 
 use crate::{add_version, drop_version, first_entry, insert, newest, replace, take};
 use lsa_kinds::Kind;
@@ -34,7 +34,7 @@ fn begin(region: &mut Region<4096>, _chain: Root, list: List)
     requires front { _chain ≢ list.front }
     requires back { _chain ≢ list.back }
     requires unset { (e : End) → link_of region.old e ≡ None }
-    ensures stands { (top : Name) → Stands _chain list region.new [] top [] [] }
+    ensures stands { (top : Name) → StandsInRegion _chain list region.new [] top [] [] }
     ensures chain { IsEnd region.old (End.Slot _chain) → IsEnd region.new (End.Slot _chain) }
 {
     region.link(End::Slot(list.front), End::Slot(list.back));
@@ -43,7 +43,7 @@ fn begin(region: &mut Region<4096>, _chain: Root, list: List)
 // Makes a version, the newest one, where there is room.
 fn make_version(region: &mut Region<4096>, chain: Root) -> Option<Ref>
     requires { IsEnd region.old (End.Slot chain) }
-    ensures made { (r : Name) → result ≡ Some r → (slots : Slots) (versions : Sequence Name) (top : Name) (entries listed : Sequence Name) → Stands chain slots region.old versions top entries listed → Stands chain slots region.new (r ∷ versions) top entries listed }
+    ensures made { (r : Name) → result ≡ Some r → (slots : Slots) (versions : Sequence Name) (top : Name) (entries listed : Sequence Name) → StandsInRegion chain slots region.old versions top entries listed → StandsInRegion chain slots region.new (r ∷ versions) top entries listed }
     ensures chain { IsEnd region.new (End.Slot chain) }
 {
     region.known();
@@ -173,7 +173,7 @@ fn free_entry(region: &mut Region<4096>, r: Ref)
     requires more { link_of region.old (End.Obj r 1) ≡ None }
     requires left { link_of region.old (End.Obj r 3) ≡ None }
     requires right { link_of region.old (End.Obj r 4) ≡ None }
-    ensures { (chain : Place) (slots : Slots) (versions : Sequence Name) (top : Name) (entries listed : Sequence Name) → Stands chain slots region.old versions top entries listed → Stands chain slots region.new versions top entries listed }
+    ensures { (chain : Place) (slots : Slots) (versions : Sequence Name) (top : Name) (entries listed : Sequence Name) → StandsInRegion chain slots region.old versions top entries listed → StandsInRegion chain slots region.new versions top entries listed }
 {
     region.known();
     if !is_unset(region, End::Obj(r, 2)) {
@@ -187,7 +187,7 @@ fn free_version(region: &mut Region<4096>, r: Ref)
     requires version { kind_of region.old r ≡ Some Kind.Version }
     requires older { link_of region.old (End.Obj r 0) ≡ None }
     requires newer { link_of region.old (End.Obj r 1) ≡ None }
-    ensures { (chain : Place) (slots : Slots) (versions : Sequence Name) (top : Name) (entries listed : Sequence Name) → Stands chain slots region.old versions top entries listed → Stands chain slots region.new versions top entries listed }
+    ensures { (chain : Place) (slots : Slots) (versions : Sequence Name) (top : Name) (entries listed : Sequence Name) → StandsInRegion chain slots region.old versions top entries listed → StandsInRegion chain slots region.new versions top entries listed }
 {
     region.known();
     if !is_unset(region, End::Obj(r, 2)) {

@@ -86,7 +86,7 @@ impl<const S: usize> Segments<S> {
 
     /// Appends `len` used bytes of segment `from`, from `offset` on, to another one, which has room for them, and gives the offset at
     /// which they begin there.
-    pub fn copy(&mut self, from: usize, offset: usize, len: usize, to: usize) -> usize
+    pub fn copy_into(&mut self, from: usize, offset: usize, len: usize, to: usize) -> usize
         requires from { from < length self.old }
         requires to { to < length self.old }
         requires differ { from ≢ to }
@@ -137,7 +137,7 @@ mod tests {
         assert_eq!(rt; segments.room(0), 0);
         segments.write(0, 62, &[1, 2]);
         assert_eq!(rt; segments.lend(0, 61, 3), [7, 1, 2].as_slice());
-        assert_eq!(rt; segments.copy(0, 60, 4, 1), 1);
+        assert_eq!(rt; segments.copy_into(0, 60, 4, 1), 1);
         assert_eq!(rt; segments.lend(1, 0, 5), [9, 7, 7, 1, 2].as_slice());
         segments.clear(0);
         assert_eq!(rt; (segments.room(0), segments.room(1)), (64, 59));

@@ -6,7 +6,7 @@ use Rattle.std.proofs.lemmas.List.{length-replicate, length-set, get_or-set_othe
 use Rattle.std.proofs.lemmas.List.Sums.{sum_by-set, sum_by-cons}
 use Rattle.lsa_yard.specs.laws.Reading.{size-least}
 use Rattle.lsa_kinds.specs.declared.kind.Kind.{Kind}
-use Rattle.lsa_kinds.specs.Kinds.{links_of}
+use Rattle.lsa_kinds.specs.Kinds.{links_of, up8}
 use Rattle.lsa_kinds.specs.Fields.{spelled}
 use Rattle.lsa_kinds.specs.laws.Fields.{length-spelled}
 use Rattle.lsa_segment.specs.Bytes.{overwritten}
@@ -15,7 +15,7 @@ use Rattle.lsa_pool.specs.declared.State.TheVariants.{Closed}
 use Rattle.lsa_pool.specs.Room.{nothing, usage_of, free_count, live_sum, active_of, active_room}
 use Rattle.lsa_pool.specs.Account.{IsSound}
 use Rattle.lsa_pool.specs.laws.Usages.{closed-inside}
-use Rattle.lsa_yard.specs.Cells.{Cell, up8, size_of, extent, links_size, fresh, with_link, with_bytes, gap_of}
+use Rattle.lsa_yard.specs.Cells.{Cell, size_of, extent, links_size, fresh, with_link, with_bytes, gap_of}
 use Rattle.lsa_store.specs.declared.place.Ref.{Ref}
 use Rattle.lsa_store.specs.Objects.{cells_of, cell_in, body_in, rounded_size, live_size, one_if_live, live_in, live_count, object_count, IsChangedIn, IsPutIn}
 use Rattle.lsa_store.specs.Stock.{IsGivenBack}

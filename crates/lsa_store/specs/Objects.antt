@@ -2,8 +2,8 @@
 use Rattle.std.specs.Prelude.{◌≡◌, ℕ, ◌+◌, ◌*◌, ◌<◌, cond, nat_lt, List, [], ◌∷◌, ◌++◌, length, slice_index_or, slice_set, sum_by, Option, Some, None, is_some}
 use Rattle.std.specs.Option.{option_map_or}
 use Rattle.lsa_kinds.specs.declared.kind.Kind.{Kind}
-use Rattle.lsa_kinds.specs.Kinds.{links_of}
-use Rattle.lsa_yard.specs.Cells.{Cell, up8, size_of, extent, cell_at, body_at, link_in, IsChangedAt}
+use Rattle.lsa_kinds.specs.Kinds.{links_of, up8}
+use Rattle.lsa_yard.specs.Cells.{Cell, size_of, extent, cell_at, body_at, link_in, IsChangedAt}
 use Rattle.lsa_store.specs.declared.place.Ref.{Ref}
 
 -- the cells of segment n

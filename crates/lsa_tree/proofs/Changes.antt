@@ -13,7 +13,7 @@ use Rattle.lsa_path.specs.laws.Members.{member-cases, member-first, member-later
 use Rattle.lsa_path.specs.laws.Passing.{path-named, path-apart}
 use Rattle.lsa_path.specs.laws.Paths.{same_object}
 use Rattle.lsa_tree.specs.declared.tree.Tree.{Tree}
-use Rattle.lsa_tree.specs.Entries.{IsEntryKind, StandsAt, BelongsBetween, balance_in, balance_of}
+use Rattle.lsa_tree.specs.Entries.{IsEntryKind, IsEntryAtPosition, BelongsBetween, balance_in, balance_of}
 use Rattle.lsa_tree.specs.Tree.{IsFlat, IsTree, IsLoose, IsOffTree}
 use Rattle.lsa_tree.specs.laws.Orders.{all-without, all-with, all-back, ascending-with, ascending-without, ascending-replaced}
 use Rattle.lsa_tree.specs.laws.Trees.{fields_differ, entry-end, entry-no-top, top-end, top-outside, tree-entry, loose-beside, trees-apart}
@@ -105,7 +105,7 @@ module _ (v : View) (well : IsWell v) (tree : Tree) where
       entries_with : (z : Ref) → Contains (r ∷ (xs ++ ys)) z → IsSomeAnd (body v z) (λ b. IsEntryKind b.0)
       entries_with z c = elim (member-cases r z (xs ++ ys) c) [ inl same ↦ subst (λ q. IsSomeAnd (body v q) (λ b. IsEntryKind b.0)) same loose.entry | inr later ↦ tree-entry tree v (xs ++ ys) z h later ]
 
-      pub inserted-tree : (x : Pos) → StandsAt v r x → BelongsBetween v x xs ys → IsPath 3 4 (link_of w) tree.top (xs ++ (r ∷ ys)) None → IsTree tree w (xs ++ (r ∷ ys))
+      pub inserted-tree : (x : Pos) → IsEntryAtPosition v r x → BelongsBetween v x xs ys → IsPath 3 4 (link_of w) tree.top (xs ++ (r ∷ ys)) None → IsTree tree w (xs ++ (r ∷ ys))
       inserted-tree x stands fits path = within-tree v w well tree (r ∷ (xs ++ ys)) within_with h.top entries_with (xs ++ (r ∷ ys)) path (ascending-with v xs ys r x stands fits h.ascending)
           (all-with (IsFlat v) xs ys r (record { parent = loose.parent; level = loose.level }) h.listed)
 
@@ -139,7 +139,7 @@ module _ (v : View) (well : IsWell v) (tree : Tree) where
         | inr back ↦ Contains-append_right xs (r ∷ ys) q (member-later r q ys back)
       ])
 
-      pub replaced-tree : (x : Pos) → StandsAt v r x → StandsAt v q x → IsPath 3 4 (link_of w) tree.top (xs ++ (q ∷ ys)) None → IsTree tree w (xs ++ (q ∷ ys))
+      pub replaced-tree : (x : Pos) → IsEntryAtPosition v r x → IsEntryAtPosition v q x → IsPath 3 4 (link_of w) tree.top (xs ++ (q ∷ ys)) None → IsTree tree w (xs ++ (q ∷ ys))
       replaced-tree x stands also path = within-tree v w well tree (q ∷ (xs ++ (r ∷ ys))) within_both h.top entries_both (xs ++ (q ∷ ys)) path (ascending-replaced v w xs ys r q x stands also h.ascending)
           (all-with (IsFlat v) xs ys q (record { parent = loose.parent; level = loose.level }) (all-without (IsFlat v) xs ys r h.listed))
 

@@ -16,7 +16,7 @@ use Rattle.lsa_path.specs.laws.Passing.{path-walked, path-few}
 use Rattle.lsa_path.specs.laws.Paths.{path-rest}
 use Rattle.lsa_tree.specs.declared.tree.Tree.{Tree}
 use Rattle.lsa_tree.specs.declared.tree.Place.TheVariants.{Here, Before, Last}
-use Rattle.lsa_tree.specs.Entries.{StandsAt, StandsEarlier, BelongsBetween}
+use Rattle.lsa_tree.specs.Entries.{IsEntryAtPosition, StandsEarlier, BelongsBetween}
 use Rattle.lsa_tree.specs.Search.{IsFound, first_entry, last_entry, last_entry_from}
 use Rattle.lsa_tree.specs.Tree.{IsTop, IsTree}
 use Rattle.lsa_tree.specs.laws.Orders.{all-both, all-further, ascending-back, ascending-split, belongs-once, never-at}
@@ -85,11 +85,11 @@ module _ (tree : Tree) (v : View) (well : IsWell v) (summed : IsSummed v) where
       whole_split = subst (λ l. IsTree tree v (passed ++ l)) leads reached.whole
 
       -- it stands somewhere
-      pub reached-stands : (y : Pos) × StandsAt v r y
+      pub reached-stands : (y : Pos) × IsEntryAtPosition v r y
       reached-stands = let w = ascending-back v passed (r ∷ rest) whole_split.ascending in (w.0.0, w.0.1)
 
       -- where it stands before the position it is passed
-      pub reached-step : (y : Pos) → StandsAt v r y → IsBefore y x → IsReached tree v x (Obj r 4) (passed ++ (r ∷ []))
+      pub reached-step : (y : Pos) → IsEntryAtPosition v r y → IsBefore y x → IsReached tree v x (Obj r 4) (passed ++ (r ∷ []))
       reached-step y at_y less =
           let longer : IsTree tree v ((passed ++ (r ∷ [])) ++ rest) = subst (IsTree tree v) (sym (append_assoc passed (r ∷ []) rest)) whole_split in
           let is = behind_one tree.top passed r in
@@ -106,14 +106,14 @@ module _ (tree : Tree) (v : View) (well : IsWell v) (summed : IsSummed v) where
           omega (arith, ap length leads, ap length (ahead-rest (passed ++ (r ∷ [])) rest (Obj r 4) longer (behind_one tree.top passed r)))
 
       -- where it stands at the position it is found
-      pub found-here : StandsAt v r x → (refs : List Ref) → IsTree tree v refs → IsFound v refs x (Here r)
+      pub found-here : IsEntryAtPosition v r x → (refs : List Ref) → IsTree tree v refs → IsFound v refs x (Here r)
       found-here at_x refs h = (passed, rest, tree-once tree v refs (passed ++ (r ∷ rest)) h whole_split, at_x, record { before = reached.before; behind = (ascending-split v passed rest r x at_x whole_split.ascending).behind })
 
-      belongs_before : (y : Pos) → StandsAt v r y → IsBefore x y → BelongsBetween v x passed (r ∷ rest)
+      belongs_before : (y : Pos) → IsEntryAtPosition v r y → IsBefore x y → BelongsBetween v x passed (r ∷ rest)
       belongs_before y at_y less = record { before = reached.before; behind = ((y, at_y, less), all-further v x y rest less (ascending-split v passed rest r y at_y whole_split.ascending).behind) }
 
       -- where it stands behind the position it is the next one
-      pub found-before : (y : Pos) → StandsAt v r y → IsBefore x y → (refs : List Ref) → IsTree tree v refs → IsFound v refs x (Before r)
+      pub found-before : (y : Pos) → IsEntryAtPosition v r y → IsBefore x y → (refs : List Ref) → IsTree tree v refs → IsFound v refs x (Before r)
       found-before y at_y less refs h = (passed, rest, tree-once tree v refs (passed ++ (r ∷ rest)) h whole_split, belongs_before y at_y less)
 
       -- so many were passed, and one more
@@ -124,11 +124,11 @@ module _ (tree : Tree) (v : View) (well : IsWell v) (summed : IsSummed v) where
       place_of zs fits is front back h k =
           ap (behind 4 tree.top) (belongs-once v front back passed zs x (tree-once tree v (front ++ back) (passed ++ (r ∷ rest)) h whole_split ∙ sym is) k fits) ∙ reached.here
 
-      pub spot-before : (y : Pos) → StandsAt v r y → IsBefore x y → (front back : List Ref) → IsTree tree v (front ++ back) → BelongsBetween v x front back → behind 4 tree.top front ≡ at
+      pub spot-before : (y : Pos) → IsEntryAtPosition v r y → IsBefore x y → (front back : List Ref) → IsTree tree v (front ++ back) → BelongsBetween v x front back → behind 4 tree.top front ≡ at
       spot-before y at_y less front back h k = place_of (r ∷ rest) (belongs_before y at_y less) refl front back h k
 
       -- an entry at the position belongs to no place
-      pub spot-here : StandsAt v r x → (front back : List Ref) → IsTree tree v (front ++ back) → BelongsBetween v x front back → ⊥
+      pub spot-here : IsEntryAtPosition v r x → (front back : List Ref) → IsTree tree v (front ++ back) → BelongsBetween v x front back → ⊥
       spot-here at_x front back h k = never-at v x r (front ++ back) (subst (λ l. Contains l r) (sym (tree-once tree v (front ++ back) (passed ++ (r ∷ rest)) h whole_split)) (member-here passed rest r)) front back refl k at_x
 
     -- where nothing is ahead none is found

@@ -27,16 +27,16 @@ pub record SpellsEntryAt (entry : Kind × List ℕ) (x : Pos) : Type 0 where
   pub code : position_in entry.1 ≡ pos_code x
 
 -- the object is an entry at this position
-abbrev pub StandsAt : View → Ref → Pos → Type 0
-StandsAt v r x = IsSomeAnd (body v r) (λ b. SpellsEntryAt b x)
+abbrev pub IsEntryAtPosition : View → Ref → Pos → Type 0
+IsEntryAtPosition v r x = IsSomeAnd (body v r) (λ b. SpellsEntryAt b x)
 
 -- the object is an entry before this position
 abbrev pub StandsEarlier : View → Ref → Pos → Type 0
-StandsEarlier v r x = (at : Pos) × StandsAt v r at × IsBefore at x
+StandsEarlier v r x = (at : Pos) × IsEntryAtPosition v r at × IsBefore at x
 
 -- the object is an entry behind this position
 abbrev pub StandsLater : View → Ref → Pos → Type 0
-StandsLater v r x = (at : Pos) × StandsAt v r at × IsBefore x at
+StandsLater v r x = (at : Pos) × IsEntryAtPosition v r at × IsBefore x at
 
 -- these entries stand before the position, and those behind it
 pub record BelongsBetween (v : View) (x : Pos) (front back : List Ref) : Type 0 where
@@ -46,7 +46,7 @@ pub record BelongsBetween (v : View) (x : Pos) (front back : List Ref) : Type 0 
 -- these are entries, each before those that follow it
 abbrev pub AreAscending : View → List Ref → Type 0
 AreAscending v [] = ⊤
-AreAscending v (r ∷ refs) = ((x : Pos) × StandsAt v r x × AllByRecursion (λ q. StandsLater v q x) refs) × AreAscending v refs
+AreAscending v (r ∷ refs) = ((x : Pos) × IsEntryAtPosition v r x × AllByRecursion (λ q. StandsLater v q x) refs) × AreAscending v refs
 
 -- the balance in the body of an entry: the byte at 1
 abbrev pub balance_in : Option (Kind × List ℕ) → ℕ

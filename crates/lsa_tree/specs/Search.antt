@@ -5,11 +5,11 @@ use Rattle.lsa_store.specs.declared.place.Ref.{Ref}
 use Rattle.lsa_region.specs.Region.{View}
 use Rattle.lsa_tree.specs.declared.tree.Place.{Place}
 use Rattle.lsa_tree.specs.declared.tree.Place.TheVariants.{Here, Before, Last}
-use Rattle.lsa_tree.specs.Entries.{StandsAt, BelongsBetween}
+use Rattle.lsa_tree.specs.Entries.{IsEntryAtPosition, BelongsBetween}
 
 -- the entry at the position, with all others before or behind it; else the next one behind it; else none, and all stand before it
 abbrev pub IsFound : View → List Ref → Pos → Place → Type 0
-IsFound v refs x (Here r) = (front : List Ref) × (back : List Ref) × (refs ≡ front ++ (r ∷ back)) × StandsAt v r x × BelongsBetween v x front back
+IsFound v refs x (Here r) = (front : List Ref) × (back : List Ref) × (refs ≡ front ++ (r ∷ back)) × IsEntryAtPosition v r x × BelongsBetween v x front back
 IsFound v refs x (Before r) = (front : List Ref) × (back : List Ref) × (refs ≡ front ++ (r ∷ back)) × BelongsBetween v x front (r ∷ back)
 IsFound v refs x Last = BelongsBetween v x refs []
 

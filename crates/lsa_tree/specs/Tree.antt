@@ -6,7 +6,7 @@ use Rattle.lsa_store.specs.declared.place.Ref.{Ref}
 use Rattle.lsa_region.specs.declared.end.End.{End}
 use Rattle.lsa_region.specs.declared.end.End.TheVariants.{Obj, Slot}
 use Rattle.lsa_region.specs.Ends.{end_as}
-use Rattle.lsa_region.specs.Region.{View, body, link_of, IsEnd, spot_of, slots_of}
+use Rattle.lsa_region.specs.Region.{View, body, link_of, IsEnd, location_of, slots_of}
 use Rattle.lsa_path.specs.Path.{IsPath}
 use Rattle.lsa_path.specs.Roles.{Role, role_at, Parent, Left, Right, Entries}
 use Rattle.lsa_tree.specs.declared.tree.Tree.{Tree}
@@ -59,7 +59,7 @@ pub record SameButBalances (old new : View) (refs : List Ref) : Type 0 where
   pub bodies : (r : Ref) → (Contains refs r → ⊥) → body new r ≡ body old r
   pub ends : (e : End) → IsEnd old e → IsEnd new e
   pub gone : (e : End) → IsEnd new e → IsEnd old e
-  pub spots : (r : Ref) → spot_of new r ≡ spot_of old r
+  pub spots : (r : Ref) → location_of new r ≡ location_of old r
   pub slots : slots_of new ≡ slots_of old
   pub usages : new.usages ≡ old.usages
   pub epoch : new.epoch ≡ old.epoch

@@ -12,7 +12,7 @@ ghost use Rattle.lsa_region.specs.Ends.{named_as};
 ghost use Rattle.lsa_region.specs.Region.{View, body, link_of, IsEnd, IsWell, IsSummed, IsAdded, IsFreed, IsWritten, Renamed, objects};
 ghost use Rattle.lsa_tree.specs.declared.tree.Tree.{Tree};
 ghost use Rattle.lsa_tree.specs.declared.tree.Place.{Place};
-ghost use Rattle.lsa_tree.specs.Entries.{IsEntryKind, StandsAt, BelongsBetween, AreAscending, IsAlike, IsReadAlike};
+ghost use Rattle.lsa_tree.specs.Entries.{IsEntryKind, IsEntryAtPosition, BelongsBetween, AreAscending, IsAlike, IsReadAlike};
 ghost use Rattle.lsa_tree.specs.Tree.{IsTop, IsTree, IsLoose, IsOfTree, tree_as};
 ghost use Rattle.lsa_tree.specs.Search.{IsFound};
 
@@ -26,9 +26,9 @@ pub fn a_tree_is_determined_by_its_version()
 pub fn entries_stand_in_order()
     ensures top { (tree : Tree) (v : View) (refs : List Ref) → IsTree tree v refs → IsTop v tree.top }
     ensures ascending { (tree : Tree) (v : View) (refs : List Ref) → IsTree tree v refs → AreAscending v refs }
-    ensures stands { (tree : Tree) (v : View) (refs : List Ref) (r : Ref) → IsTree tree v refs → Contains refs r → (x : Pos) × StandsAt v r x }
-    ensures once { (v : View) (r : Ref) (x y : Pos) → StandsAt v r x → StandsAt v r y → x ≡ y }
-    ensures beside { (tree : Tree) (v : View) (front back : List Ref) (r : Ref) (x : Pos) → IsTree tree v (front ++ (r ∷ back)) → StandsAt v r x → BelongsBetween v x front back }
+    ensures stands { (tree : Tree) (v : View) (refs : List Ref) (r : Ref) → IsTree tree v refs → Contains refs r → (x : Pos) × IsEntryAtPosition v r x }
+    ensures once { (v : View) (r : Ref) (x y : Pos) → IsEntryAtPosition v r x → IsEntryAtPosition v r y → x ≡ y }
+    ensures beside { (tree : Tree) (v : View) (front back : List Ref) (r : Ref) (x : Pos) → IsTree tree v (front ++ (r ∷ back)) → IsEntryAtPosition v r x → BelongsBetween v x front back }
 {}
 
 /// Each entry is in a tree once, and there are at most as many as the region has objects.
@@ -63,7 +63,7 @@ pub fn one_place_is_found()
 pub fn a_moved_tree_is_the_renamed_one()
     ensures tree { (old new : View) (names : List (Ref × Ref)) (tree : Tree) (refs : List Ref) → Renamed old new names → IsWell old → IsTree tree old refs → IsTree (tree_as names tree) new (map (named_as names) refs) }
     ensures loose { (old new : View) (names : List (Ref × Ref)) (r : Ref) → Renamed old new names → IsWell old → IsLoose old r → IsLoose new (named_as names r) }
-    ensures stands { (old new : View) (names : List (Ref × Ref)) (r : Ref) (x : Pos) → Renamed old new names → IsWell old → StandsAt old r x → StandsAt new (named_as names r) x }
+    ensures stands { (old new : View) (names : List (Ref × Ref)) (r : Ref) (x : Pos) → Renamed old new names → IsWell old → IsEntryAtPosition old r x → IsEntryAtPosition new (named_as names r) x }
 {}
 
 /// A tree stays where its version's link to it and its entries' links to entries name what they did, and what is read of its entries stays; so does a loose entry.
@@ -83,7 +83,7 @@ pub fn a_tree_stays_under_links_of_other_roles()
 pub fn a_tree_stays_where_an_object_is_made()
     ensures tree { (tree : Tree) (old new : View) (refs : List Ref) (r : Ref) (kind : Kind) (bytes : List ℕ) → IsTree tree old refs → IsAdded old new r kind bytes → IsTree tree new refs }
     ensures others { (old new : View) (q r : Ref) (kind : Kind) (bytes : List ℕ) → IsLoose old q → IsAdded old new r kind bytes → IsLoose new q }
-    ensures stands { (old new : View) (q r : Ref) (kind : Kind) (bytes : List ℕ) (x : Pos) → StandsAt old q x → IsAdded old new r kind bytes → StandsAt new q x }
+    ensures stands { (old new : View) (q r : Ref) (kind : Kind) (bytes : List ℕ) (x : Pos) → IsEntryAtPosition old q x → IsAdded old new r kind bytes → IsEntryAtPosition new q x }
     ensures loose { (old new : View) (r : Ref) (kind : Kind) (bytes : List ℕ) → IsAdded old new r kind bytes → IsEntryKind kind → number_at 1 1 bytes ≡ 0 → IsLoose new r }
 {}
 
@@ -91,7 +91,7 @@ pub fn a_tree_stays_where_an_object_is_made()
 pub fn a_tree_stays_where_an_object_is_freed()
     ensures tree { (tree : Tree) (old new : View) (refs : List Ref) (r : Ref) → IsTree tree old refs → IsFreed old new r → (Contains refs r → ⊥) → tree.top ≢ Obj r 2 → IsTree tree new refs }
     ensures loose { (old new : View) (q r : Ref) → IsLoose old q → IsFreed old new r → q ≢ r → IsLoose new q }
-    ensures stands { (old new : View) (q r : Ref) (x : Pos) → StandsAt old q x → IsFreed old new r → q ≢ r → StandsAt new q x }
+    ensures stands { (old new : View) (q r : Ref) (x : Pos) → IsEntryAtPosition old q x → IsFreed old new r → q ≢ r → IsEntryAtPosition new q x }
 {}
 
 /// A tree stays where bytes of an object are written: of any other object than its entries, and of an entry a field before the length of its position
@@ -106,7 +106,7 @@ pub fn a_tree_stays_where_bytes_are_written()
 
 /// Entries that are alike but for the balance stand at the same position, and so do those of which a tree reads the same. So where a position belongs stays.
 pub fn alike_entries_stand_alike()
-    ensures alike { (old new : View) (r : Ref) (x : Pos) → StandsAt old r x → IsAlike (body old r) (body new r) → StandsAt new r x }
-    ensures read { (old new : View) (r : Ref) (x : Pos) → StandsAt old r x → IsReadAlike (body old r) (body new r) → StandsAt new r x }
-    ensures belongs { (old new : View) (x : Pos) (front back : List Ref) → BelongsBetween old x front back → ((r : Ref) → Contains (front ++ back) r → (at : Pos) → StandsAt old r at → StandsAt new r at) → BelongsBetween new x front back }
+    ensures alike { (old new : View) (r : Ref) (x : Pos) → IsEntryAtPosition old r x → IsAlike (body old r) (body new r) → IsEntryAtPosition new r x }
+    ensures read { (old new : View) (r : Ref) (x : Pos) → IsEntryAtPosition old r x → IsReadAlike (body old r) (body new r) → IsEntryAtPosition new r x }
+    ensures belongs { (old new : View) (x : Pos) (front back : List Ref) → BelongsBetween old x front back → ((r : Ref) → Contains (front ++ back) r → (at : Pos) → IsEntryAtPosition old r at → IsEntryAtPosition new r at) → BelongsBetween new x front back }
 {}

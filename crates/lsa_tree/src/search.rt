@@ -5,7 +5,7 @@ ghost use Rattle.rc_position.specs.Position.{pos_cmp};
 ghost use Rattle.rc_rowcode.specs.Spelling.{pos_code, IsPos};
 ghost use Rattle.lsa_store.specs.declared.place.Ref.{Ref as Name};
 ghost use Rattle.lsa_path.specs.Path.{behind, entered};
-ghost use Rattle.lsa_tree.specs.Entries.{StandsAt, BelongsBetween};
+ghost use Rattle.lsa_tree.specs.Entries.{IsEntryAtPosition, BelongsBetween};
 ghost use Rattle.lsa_tree.specs.Tree.{IsTree};
 ghost use Rattle.lsa_tree.specs.Search.{IsFound};
 ghost use Rattle.lsa_tree.specs.calls.Seeking.{IsSought};
@@ -47,8 +47,8 @@ fn order(code: &[u8], sought: Sought<'_>) -> Ordering
 
 /// The code of an entry's position, in place.
 pub(crate) fn position<const S: usize>(region: &Region<S>, r: Ref) -> &[u8]
-    requires { (x : Pos) × StandsAt region.now r x }
-    ensures { (x : Pos) → StandsAt region.now r x → IsPos x × (result.now ≡ pos_code x) }
+    requires { (x : Pos) × IsEntryAtPosition region.now r x }
+    ensures { (x : Pos) → IsEntryAtPosition region.now r x → IsPos x × (result.now ≡ pos_code x) }
 {
     let bytes = region.bytes(r);
     let size = PositionSize::get(bytes) as usize;

@@ -6,7 +6,7 @@ ghost use Rattle.lsa_store.specs.declared.place.Ref.{Ref as Name};
 ghost use Rattle.lsa_region.specs.declared.end.End.{End as Link};
 ghost use Rattle.lsa_region.specs.Region.{body, link_of, IsWell};
 ghost use Rattle.lsa_tree.specs.declared.tree.Tree.{Tree as Ordered};
-ghost use Rattle.lsa_tree.specs.Entries.{StandsAt, BelongsBetween, balance_of};
+ghost use Rattle.lsa_tree.specs.Entries.{IsEntryAtPosition, BelongsBetween, balance_of};
 ghost use Rattle.lsa_tree.specs.Tree.{IsTree, IsLoose, IsOffTree, SameButBalances};
 ghost use Rattle.lsa_tree.specs.Search.{IsFound, first_entry, last_entry};
 
@@ -83,8 +83,8 @@ impl Tree {
     /// The same for the position of an entry of any tree, or of none.
     pub fn find_like<const S: usize>(&self, region: &Region<S>, e: Ref) -> Place
         requires tree { (refs : List Name) × IsTree self.now region.now refs }
-        requires entry { (x : Position) × StandsAt region.now e x }
-        ensures { (refs : List Name) (x : Position) → IsTree self.now region.now refs → StandsAt region.now e x → IsFound region.now refs x result }
+        requires entry { (x : Position) × IsEntryAtPosition region.now e x }
+        ensures { (refs : List Name) (x : Position) → IsTree self.now region.now refs → IsEntryAtPosition region.now e x → IsFound region.now refs x result }
     {
         seek(region, *self, Sought::Code(position(region, e))).1
     }
@@ -118,8 +118,8 @@ impl Tree {
     /// Puts a loose entry where it belongs: none of the entries stands at its position.
     pub fn insert<const S: usize>(&self, region: &mut Region<S>, r: Ref)
         requires loose { IsLoose region.old r }
-        requires belongs { (front : List Name) × (back : List Name) × (x : Position) × IsTree self.now region.old (front ++ back) × StandsAt region.old r x × BelongsBetween region.old x front back }
-        ensures inserted { (front back : List Name) (x : Position) → IsTree self.now region.old (front ++ back) → StandsAt region.old r x → BelongsBetween region.old x front back → IsTree self.now region.new (front ++ (r ∷ back)) }
+        requires belongs { (front : List Name) × (back : List Name) × (x : Position) × IsTree self.now region.old (front ++ back) × IsEntryAtPosition region.old r x × BelongsBetween region.old x front back }
+        ensures inserted { (front back : List Name) (x : Position) → IsTree self.now region.old (front ++ back) → IsEntryAtPosition region.old r x → BelongsBetween region.old x front back → IsTree self.now region.new (front ++ (r ∷ back)) }
         ensures others { (other : Ordered) (refs : List Name) → other.top ≢ self.now.top → IsTree other region.old refs → IsTree other region.new refs }
         ensures loose { (q : Name) → q ≢ r → IsLoose region.old q → IsLoose region.new q }
         ensures elsewhere { (e : Link) → IsOffTree region.old e → link_of region.new e ≡ link_of region.old e }
@@ -150,7 +150,7 @@ impl Tree {
     pub fn replace<const S: usize>(&self, region: &mut Region<S>, old: Ref, new: Ref)
         requires stands { (front : List Name) × (back : List Name) × IsTree self.now region.old (front ++ (old ∷ back)) }
         requires loose { IsLoose region.old new }
-        requires alike { (x : Position) × StandsAt region.old old x × StandsAt region.old new x }
+        requires alike { (x : Position) × IsEntryAtPosition region.old old x × IsEntryAtPosition region.old new x }
         ensures replaced { (front back : List Name) → IsTree self.now region.old (front ++ (old ∷ back)) → IsTree self.now region.new (front ++ (new ∷ back)) }
         ensures others { (other : Ordered) (refs : List Name) → other.top ≢ self.now.top → IsTree other region.old refs → IsTree other region.new refs }
         ensures out { IsLoose region.new old }

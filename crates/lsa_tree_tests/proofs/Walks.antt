@@ -19,7 +19,7 @@ use Rattle.lsa_region.specs.laws.Ends.{no-end, few-links}
 use Rattle.lsa_path.specs.laws.Members.{member-here}
 use Rattle.lsa_path.specs.laws.Renamed.{some-there}
 use Rattle.lsa_tree.specs.declared.tree.Tree.{Tree}
-use Rattle.lsa_tree.specs.Entries.{IsEntryKind, SpellsEntryAt, StandsAt, position_in}
+use Rattle.lsa_tree.specs.Entries.{IsEntryKind, SpellsEntryAt, IsEntryAtPosition, position_in}
 use Rattle.lsa_tree.specs.Search.{first_entry, last_entry, last_entry_from}
 use Rattle.lsa_tree.specs.Tree.{IsTop, IsTree, IsLoose, IsOffTree, tree_as}
 use Rattle.lsa_tree.specs.laws.Trees.{tree-entry, tree-added, tree-freed, tree-renamed, tree-empty, loose-beside, no_entry_at}
@@ -120,5 +120,5 @@ entry_same (Some b) (Some d) bytes others x kind h is is' same =
     record { kind = kind; inside = subst (λ l. 32 + number_at 28 4 l ≤ length l) spelled h.inside; place = h.place; code = subst (λ l. position_in l ≡ pos_code x) spelled h.code }
 
 -- an entry with the same bytes as another stands at the same position
-pub same-place : (tree : Tree) (v : View) (front back : List Ref) (r : Ref) → IsTree tree v (front ++ (r ∷ back)) → (q : Ref) (x : Pos) → StandsAt v q x → (bytes others : List ℕ) → IsSomeAnd (body v r) (λ b. b.1 ≡ bytes) → IsSomeAnd (body v q) (λ b. b.1 ≡ others) → bytes ≡ others → StandsAt v r x
+pub same-place : (tree : Tree) (v : View) (front back : List Ref) (r : Ref) → IsTree tree v (front ++ (r ∷ back)) → (q : Ref) (x : Pos) → IsEntryAtPosition v q x → (bytes others : List ℕ) → IsSomeAnd (body v r) (λ b. b.1 ≡ bytes) → IsSomeAnd (body v q) (λ b. b.1 ≡ others) → bytes ≡ others → IsEntryAtPosition v r x
 same-place tree v front back r h q x stands bytes others is is' same = entry_same (body v r) (body v q) bytes others x (tree-entry tree v (front ++ (r ∷ back)) r h (member-here front back r)) stands is is' same

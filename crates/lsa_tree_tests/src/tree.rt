@@ -5,7 +5,7 @@ ghost use Rattle.lsa_kinds.specs.Fields.{number_at};
 ghost use Rattle.lsa_pool.specs.Room.{spare_of};
 ghost use Rattle.lsa_store.specs.declared.place.Ref.{Ref as Name};
 ghost use Rattle.lsa_region.specs.Region.{link_of, IsEnd};
-ghost use Rattle.lsa_tree.specs.Entries.{StandsAt};
+ghost use Rattle.lsa_tree.specs.Entries.{IsEntryAtPosition};
 ghost use Rattle.lsa_tree.specs.Search.{IsFound};
 ghost use Rattle.lsa_tree.specs.Tree.{IsTree, IsLoose};
 ghost use Rattle.lsa_tree_tests.specs.Walking.{HoldsTree, IsHome, IsEntryFound};
@@ -44,7 +44,7 @@ fn number_in(bytes: &[u8]) -> Option<u8> {
 // Whether an object is an entry at some position, as its bytes are read.
 fn is_entry(alloc: Global, region: &Region<4096>, r: Ref) -> Result<bool, AllocError>
     requires { IsLoose region.now r }
-    ensures { IfOk result (λ stands. stands ≡ true → (x : Position) × StandsAt region.now r x) }
+    ensures { IfOk result (λ stands. stands ≡ true → (x : Position) × IsEntryAtPosition region.now r x) }
 {
     let bytes = region.bytes(r);
     if bytes.len() < 32 {

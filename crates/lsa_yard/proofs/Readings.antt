@@ -5,11 +5,11 @@ use Rattle.std.specs.Option.{option_map, option_and_then}
 use Rattle.std.proofs.lemmas.List.{append_assoc, append-nil, length-replicate, take_all, take_at, take_rest}
 use Rattle.std.proofs.lemmas.List.Elements.{All-append, All-cons, All-head, All-tail, All-nil}
 use Rattle.lsa_kinds.specs.declared.kind.Kind.{Kind}
-use Rattle.lsa_kinds.specs.Kinds.{code_of, links_of}
+use Rattle.lsa_kinds.specs.Kinds.{kind_code, links_of, up8}
 use Rattle.lsa_kinds.specs.Fields.{number, number_at}
 use Rattle.lsa_segment.specs.Bytes.{part, overwritten}
-use Rattle.lsa_yard.specs.Cells.{Cell, up8, size_of, extent, cell_at, links_size, body_of, body_at, link_in, fresh, IsReplaced}
-use Rattle.lsa_yard.specs.Spelled.{mark_of, kind_of, head_of, size_field, spell, spells, cells_in, IsProper, IsSpelled}
+use Rattle.lsa_yard.specs.Cells.{Cell, size_of, extent, cell_at, links_size, body_of, body_at, link_in, fresh, IsReplaced}
+use Rattle.lsa_yard.specs.Spelled.{mark_of, kind_numbered, head_of, size_field, spell, spells, cells_in, IsProper, IsSpelled}
 use Rattle.lsa_yard.specs.laws.Reading.{size-least, kind-mark, length-size_field, number-size_field, length-spell, length-spells, spells-append, extent-append, spelled_by}
 use Rattle.lsa_yard.specs.laws.Changes.{split, at-within}
 use Rattle.lsa_yard.specs.laws.Middles.{part-middle, overwritten-middle}
@@ -232,11 +232,11 @@ pub linked-in : (bytes : List ℕ) (cells : List Cell) (offset : ℕ) (x : IsObj
 linked-in bytes cells offset x s = omega (arith, ap links_size x.is, s.there.proper.linked)
 
 -- the kind that a mark tells
-pub kind-told : (kind told : Option Kind) (code : ℕ) → code ≡ mark_of kind → MatchOption told ((k : Kind) → ¬ (code_of k ≡ code)) (λ k. code_of k ≡ code) → kind ≡ told
+pub kind-told : (kind told : Option Kind) (code : ℕ) → code ≡ mark_of kind → MatchOption told ((k : Kind) → ¬ (kind_code k ≡ code)) (λ k. kind_code k ≡ code) → kind ≡ told
 kind-told None None code e m = refl
 kind-told (Some k) None code e m = absurd (m k (sym e))
-kind-told None (Some k) code e m = sym (kind-mark None) ∙ ap kind_of (sym e ∙ sym m) ∙ kind-mark (Some k)
-kind-told (Some j) (Some k) code e m = sym (kind-mark (Some j)) ∙ ap kind_of (sym e ∙ sym m) ∙ kind-mark (Some k)
+kind-told None (Some k) code e m = sym (kind-mark None) ∙ ap kind_numbered (sym e ∙ sym m) ∙ kind-mark (Some k)
+kind-told (Some j) (Some k) code e m = sym (kind-mark (Some j)) ∙ ap kind_numbered (sym e ∙ sym m) ∙ kind-mark (Some k)
 
 pub read-own : (bytes : List ℕ) (offset : ℕ) (c : Cell) → IsThere bytes offset c → (links head len : ℕ) → links ≡ head → 8 + length c.rest ≡ len → links ≤ length c.rest
     → part (offset + (8 + head)) (len - (8 + head)) bytes ≡ drop links c.rest
@@ -294,7 +294,7 @@ pub fresh-spelling : (kind : Kind) (bytes : List ℕ) (size : ℕ) → size ≡ 
     → (head_of kind (length bytes) ++ bytes) ++ replicate (up8 size - size) 0 ≡ spell (fresh kind bytes)
 fresh-spelling kind bytes size long =
     let links : List ℕ = replicate (8 * links_of kind) 0 in let pad : List ℕ = replicate (up8 size - size) 0 in let field = size_field (8 + 8 * links_of kind + length bytes) in
-    let mark = λ (l : List ℕ). code_of kind ∷ 0 ∷ 0 ∷ 0 ∷ l in
+    let mark = λ (l : List ℕ). kind_code kind ∷ 0 ∷ 0 ∷ 0 ∷ l in
     let whole : 8 + 8 * links_of kind + length bytes ≡ 8 + length (links ++ bytes) = omega (arith, fresh-long kind bytes) in
     let sized : size ≡ 8 + length (links ++ bytes) = long ∙ whole in
     ap mark (ap (λ l. l ++ pad) (append_assoc field links bytes) ∙ append_assoc field (links ++ bytes) pad)

@@ -2,7 +2,7 @@
 use Rattle.std.specs.Prelude.{◌≡◌, ℕ, zero, suc, ◌+◌, ◌-◌, ◌*◌, ◌/◌, cond, nat_lt, List, [], ◌∷◌, ◌++◌, length, drop, replicate, slice_index_or, slice_set, Option, Some, None, IsSomeAnd}
 use Rattle.std.specs.Option.{option_map, option_and_then}
 use Rattle.lsa_kinds.specs.declared.kind.Kind.{Kind}
-use Rattle.lsa_kinds.specs.Kinds.{links_of}
+use Rattle.lsa_kinds.specs.Kinds.{up8, links_of}
 use Rattle.lsa_kinds.specs.Fields.{number_at, spelled}
 use Rattle.lsa_segment.specs.Bytes.{overwritten}
 
@@ -10,10 +10,6 @@ use Rattle.lsa_segment.specs.Bytes.{overwritten}
 pub record Cell : Type 0 where
   pub kind : Option Kind
   pub rest : List ℕ
-
--- n rounded up to a multiple of 8
-abbrev pub up8 : ℕ → ℕ
-up8 n = (n + 7) / 8 * 8
 
 -- how many bytes a cell takes: a header of 8 bytes and the rest, rounded up
 abbrev pub size_of : Cell → ℕ

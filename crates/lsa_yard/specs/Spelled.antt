@@ -2,23 +2,23 @@
 use Rattle.std.specs.Prelude.{◌≡◌, ℕ, zero, suc, ◌+◌, ◌-◌, ◌*◌, ◌^◌, ◌<◌, ◌≤◌, List, [], ◌∷◌, ◌++◌, length, take, drop, replicate, slice_index_or, Option, Some, None, All}
 use Rattle.lsa_kinds.specs.declared.kind.Kind.{Kind}
 use Rattle.lsa_kinds.specs.declared.kind.Kind.TheVariants.{Version, RowEntry, Dummy, Static}
-use Rattle.lsa_kinds.specs.Kinds.{code_of, links_of}
+use Rattle.lsa_kinds.specs.Kinds.{kind_code, links_of, up8}
 use Rattle.lsa_kinds.specs.Fields.{number_at, spelled}
-use Rattle.lsa_yard.specs.Cells.{Cell, up8, size_of, links_size}
+use Rattle.lsa_yard.specs.Cells.{Cell, size_of, links_size}
 
 -- the first byte of a cell: the number of its kind, 0 for a gap
 abbrev pub mark_of : Option Kind → ℕ
 mark_of None = 0
-mark_of (Some kind) = code_of kind
+mark_of (Some kind) = kind_code kind
 
 -- the kind with this number; None for a gap
-abbrev pub kind_of : ℕ → Option Kind
-kind_of zero = None
-kind_of (suc zero) = Some Version
-kind_of (suc (suc zero)) = Some RowEntry
-kind_of (suc (suc (suc zero))) = Some Dummy
-kind_of (suc (suc (suc (suc zero)))) = Some Static
-kind_of (suc (suc (suc (suc (suc n))))) = None
+abbrev pub kind_numbered : ℕ → Option Kind
+kind_numbered zero = None
+kind_numbered (suc zero) = Some Version
+kind_numbered (suc (suc zero)) = Some RowEntry
+kind_numbered (suc (suc (suc zero))) = Some Dummy
+kind_numbered (suc (suc (suc (suc zero)))) = Some Static
+kind_numbered (suc (suc (suc (suc (suc n))))) = None
 
 -- the header's last 4 bytes: the size before it is rounded up
 unfoldable pub size_field : ℕ → List ℕ
@@ -26,7 +26,7 @@ size_field size = spelled 4 size
 
 -- the header of an object with so many bytes behind its links, and the links, which are all 0
 abbrev pub head_of : Kind → ℕ → List ℕ
-head_of kind len = code_of kind ∷ 0 ∷ 0 ∷ 0 ∷ (size_field (8 + 8 * links_of kind + len) ++ replicate (8 * links_of kind) 0)
+head_of kind len = kind_code kind ∷ 0 ∷ 0 ∷ 0 ∷ (size_field (8 + 8 * links_of kind + len) ++ replicate (8 * links_of kind) 0)
 
 -- the bytes of a cell: the header, of which three bytes are 0, the rest, and zeros up to its size
 abbrev pub spell : Cell → List ℕ
@@ -42,7 +42,7 @@ abbrev pub cells_from : ℕ → List ℕ → List Cell
 cells_from zero bytes = []
 cells_from (suc n) [] = []
 cells_from (suc n) (mark ∷ bytes) =
-    record { kind = kind_of mark; rest = take (number_at 3 4 bytes - 8) (drop 7 bytes) } ∷ cells_from n (drop (up8 (number_at 3 4 bytes) - 1) bytes)
+    record { kind = kind_numbered mark; rest = take (number_at 3 4 bytes - 8) (drop 7 bytes) } ∷ cells_from n (drop (up8 (number_at 3 4 bytes) - 1) bytes)
 
 -- the cells in a segment's used bytes
 abbrev pub cells_in : List ℕ → List Cell

@@ -1,12 +1,12 @@
 //! The yards: in each segment objects, one behind the other, each with its header and its links.
 ghost use Rattle.std.specs.Prelude.{◌≡◌, ◌≢◌, ℕ, ◌+◌, ◌-◌, ◌*◌, ◌^◌, ◌<◌, ◌≤◌, [], ◌∷◌, ◌++◌, length, replicate, slice_index_or, slice_set, true, is_some, All, IsSome, IsSomeAnd, IfOk};
 ghost use Rattle.lsa_kinds.specs.Fields.{number, spelled};
-ghost use Rattle.lsa_kinds.specs.Kinds.{code_of, links_of};
-ghost use Rattle.lsa_yard.specs.Cells.{up8, size_of, extent, cell_at, body_at, link_in, fresh, with_link, with_bytes, gap_of, IsChangedAt};
+ghost use Rattle.lsa_kinds.specs.Kinds.{kind_code, links_of, up8};
+ghost use Rattle.lsa_yard.specs.Cells.{size_of, extent, cell_at, body_at, link_in, fresh, with_link, with_bytes, gap_of, IsChangedAt};
 ghost use Rattle.lsa_yard.specs.Spelled.{head_of, size_field, IsProper};
 
 use lsa_kinds::layout::header::Size;
-use lsa_kinds::{Kind, links};
+use lsa_kinds::{Kind, links, round_up};
 use lsa_segment::Segments;
 use std::alloc::{AllocError, Global};
 use std::marker::Model;
@@ -93,7 +93,7 @@ impl<const S: usize> Yards<S> {
         let head = 8 + 8 * links(kind);
         let len = self.len(from, offset) - head;
         let at = begin(&mut self.segments, to, kind, len);
-        self.segments.copy(from, offset + head, len, to);
+        self.segments.copy_into(from, offset + head, len, to);
         pad(&mut self.segments, to, head + len);
         at
     }
@@ -122,7 +122,7 @@ impl<const S: usize> Yards<S> {
         requires { IsSome (cell_at (slice_index_or self.now n []) offset) }
         ensures { IsSomeAnd (cell_at (slice_index_or self.now n []) offset) (λ c. size_of c ≡ result) }
     {
-        rounded(self.len(n, offset))
+        round_up(self.len(n, offset))
     }
 
     // How many bytes the cell has that begins at the offset, with its header, before they are rounded up.
@@ -219,7 +219,7 @@ fn begin<const S: usize>(segments: &mut Segments<S>, n: usize, kind: Kind, len: 
 
 // The header of an object of this kind and this size.
 fn header(kind: Kind, size: u32) -> [u8; 8]
-    ensures { result ≡ code_of kind ∷ 0 ∷ 0 ∷ 0 ∷ size_field size }
+    ensures { result ≡ kind_code kind ∷ 0 ∷ 0 ∷ 0 ∷ size_field size }
 {
     let size = size.to_le_bytes();
     [kind.code(), 0, 0, 0, size[0], size[1], size[2], size[3]]
@@ -232,7 +232,7 @@ fn pad<const S: usize>(segments: &mut Segments<S>, n: usize, size: usize)
     requires small { size < 2 ^ 32 }
     ensures { segments.new ≡ slice_set segments.old n (slice_index_or segments.old n [] ++ replicate (up8 size - size) 0) }
 {
-    segments.push(n, zeros(rounded(size) - size));
+    segments.push(n, zeros(round_up(size) - size));
 }
 
 // The number that 8 bytes spell.
@@ -251,14 +251,6 @@ fn word_bytes(value: u64) -> [u8; 8]
     ensures { result ≡ spelled 8 value }
 {
     value.to_le_bytes()
-}
-
-// A number rounded up to a multiple of 8.
-fn rounded(size: usize) -> usize
-    requires { size < 2 ^ 32 }
-    ensures { result ≡ up8 size }
-{
-    (size + 7) / 8 * 8
 }
 
 static ZEROS: [u8; 40] = [0; 40];

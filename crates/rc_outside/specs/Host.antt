@@ -16,12 +16,12 @@ abbrev pub ReadsFromItsPlace : {F : Type 0} → (left : F → Option (List ℕ))
 ReadsFromItsPlace {F} left place bytes = (f : F) → IfSome (place f) (λ at. IfSome (bytes f) (λ xs. left f ≡ Some (drop at xs)))
 
 -- the piece stands in the bytes from an offset on, where they are told
-abbrev pub StandsAt : Option (List ℕ) → ℕ → List ℕ → Type 0
-StandsAt bytes off piece = IfSome bytes (λ xs. piece ≡ take (length piece) (drop off xs))
+abbrev pub IsAtOffset : Option (List ℕ) → ℕ → List ℕ → Type 0
+IsAtOffset bytes off piece = IfSome bytes (λ xs. piece ≡ take (length piece) (drop off xs))
 
 -- the piece stands in the file from an offset on, where the file tells where it stands, and its bytes, and reads from its place
 abbrev pub StandsIn : {F : Type 0} → (left : F → Option (List ℕ)) (place : F → Option ℕ) (bytes : F → Option (List ℕ)) → F → ℕ → List ℕ → Type 0
-StandsIn left place bytes file off piece = ReadsFromItsPlace left place bytes → IsSome (place file) → StandsAt (bytes file) off piece
+StandsIn left place bytes file off piece = ReadsFromItsPlace left place bytes → IsSome (place file) → IsAtOffset (bytes file) off piece
 
 -- what a draft has so far, where its file tells it
 abbrev pub bytes_of_draft : {F : Type 0} → (contents : F → Option (List ℕ)) → Option (Draft F) → Option (List ℕ)

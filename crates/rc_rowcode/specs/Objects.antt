@@ -1,14 +1,11 @@
 -- How many bytes an object of the engine takes that holds codes: its fixed bytes, then the codes, rounded up to a multiple of 8.
-use Rattle.std.specs.Prelude.{ℕ, ◌+◌, ◌*◌, ◌/◌, List, length}
+use Rattle.std.specs.Prelude.{ℕ, ◌+◌, List, length}
+use Rattle.lsa_kinds.specs.Kinds.{up8}
 use Rattle.rc_cell.specs.declared.rows.Row.{Row}
 use Rattle.rc_position.specs.declared.comps.Comp.{Comp}
 use Rattle.rc_position.specs.declared.positions.Pos.{Pos}
 use Rattle.rc_position.specs.Position.{row_pos}
 use Rattle.rc_rowcode.specs.Spelling.{pos_code, row_code}
-
--- rounded up to a multiple of 8
-abbrev pub up8 : ℕ → ℕ
-up8 n = (n + 7) / 8 * 8
 
 -- a version
 abbrev pub version_size : ℕ

@@ -18,7 +18,7 @@ pub use compare::{
 };
 pub use join::{join_codes, join_size};
 pub use keys::{key_size, pos_size, read_key, read_pos, write_key, write_pos};
-pub use objects::{VERSION_SIZE, dummy_size, entry_size, static_size, up8};
+pub use objects::{VERSION_SIZE, dummy_size, entry_size, static_size};
 pub use rows::{read_row, read_tomb, row_size, write_row, write_tomb};
 pub use scratch::Scratch;
 pub use widths::{key_in_range, pos_in_range, row_in_range, tomb_in_range};

@@ -1,24 +1,17 @@
 //! How many bytes the objects of the engine take that hold codes.
 
-ghost use Rattle.std.specs.Prelude.{◌≡◌, ◌≤◌, ◌<◌};
+ghost use Rattle.std.specs.Prelude.{◌≡◌, ◌≤◌};
 ghost use Rattle.rc_rowcode.specs.Spelling.{KeyFits, RowFits};
 ghost use Rattle.rc_rowcode.specs.Objects as objects;
 
 use crate::keys::{key_size, pos_size};
 use crate::rows::row_size;
+use lsa_kinds::round_up;
 use rc_cell::Row;
 use rc_position::{Key, Pos};
 
 /// The bytes of a version.
 pub const VERSION_SIZE: usize = 64;
-
-/// A number of bytes, rounded up to a multiple of 8.
-pub fn up8(bytes: usize) -> usize
-    requires { bytes < 4294967296 }
-    ensures { result ≡ objects.up8 bytes }
-{
-    (bytes + 7) / 8 * 8
-}
 
 /// The bytes of a dummy at a position.
 pub fn dummy_size(x: &Pos) -> usize
@@ -26,7 +19,7 @@ pub fn dummy_size(x: &Pos) -> usize
     ensures value { result ≡ objects.dummy_size x.now }
     ensures small { result ≤ 352 }
 {
-    up8(80 + pos_size(x))
+    round_up(80 + pos_size(x))
 }
 
 /// The bytes of the entry of a row at a key.
@@ -36,7 +29,7 @@ pub fn entry_size(key: &Key, row: &Row) -> usize
     ensures value { result ≡ objects.entry_size key.now row.now }
     ensures small { result ≤ 8952 }
 {
-    up8(80 + (1 + key_size(key) + row_size(row)))
+    round_up(80 + (1 + key_size(key) + row_size(row)))
 }
 
 /// The bytes of a static row.
@@ -45,5 +38,5 @@ pub fn static_size(row: &Row) -> usize
     ensures value { result ≡ objects.static_size row.now }
     ensures small { result ≤ 8632 }
 {
-    up8(32 + row_size(row))
+    round_up(32 + row_size(row))
 }

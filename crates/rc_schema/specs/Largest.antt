@@ -1,6 +1,6 @@
 -- The largest objects of a schema: what no row that fits it passes.
 use Rattle.std.specs.Prelude.{ℕ, ◌+◌, ◌*◌, List, [], ◌∷◌, length}
-use Rattle.rc_rowcode.specs.Objects.{up8}
+use Rattle.lsa_kinds.specs.Kinds.{up8}
 use Rattle.rc_schema.specs.declared.kinds.CkKind.{CkKind}
 use Rattle.rc_schema.specs.declared.kinds.CkKind.TheVariants.{Int, Text}
 use Rattle.rc_schema.specs.SchemaValue.{SchemaValue}

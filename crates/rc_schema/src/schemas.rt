@@ -15,7 +15,7 @@ use crate::printing::{print_kinds, print_names};
 use crate::words::{are_kinds, items, kinds, names, words};
 use rc_cell::Row;
 use rc_position::{Key, Text};
-use rc_rowcode::up8;
+use lsa_kinds::round_up;
 use std::alloc::{AllocError, Global};
 use std::marker::Model;
 use thiserror::Error;
@@ -278,7 +278,7 @@ impl Schema {
         ensures small { result ≤ 8952 }
     {
         let position = 2 + components_size(self.ck.as_slice());
-        up8(80 + position + 9 + 13 + 1 + 268 * self.cols.len())
+        round_up(80 + position + 9 + 13 + 1 + 268 * self.cols.len())
     }
 
     /// The bytes of the largest static row that fits the schema.
@@ -286,7 +286,7 @@ impl Schema {
         ensures value { result ≡ largest_static self.now }
         ensures small { result ≤ 2184 }
     {
-        up8(32 + 1 + 1 + 1 + 268 * self.statics.len())
+        round_up(32 + 1 + 1 + 1 + 268 * self.statics.len())
     }
 
     /// Whether a clustering key, or where it need not be full a prefix of one, fits the schema. Refused as a wrong key

@@ -8,7 +8,7 @@ use Rattle.std.proofs.lemmas.List.Kept.{AllPairs-cons}
 use Rattle.lsa_store.specs.declared.place.Ref.{Ref}
 use Rattle.lsa_region.specs.declared.end.End.{End}
 use Rattle.lsa_region.specs.declared.end.End.TheVariants.{Obj, Slot}
-use Rattle.lsa_region.specs.Layout.{extent}
+use Rattle.lsa_region.specs.Layout.{object_extent}
 use Rattle.lsa_region.specs.Paired.{WellPaired}
 use Rattle.lsa_region.specs.Region.{View, body, link_of, IsWell, IsSummed, objects, live_bytes}
 use Rattle.lsa_path.specs.Path.{IsPath, IsOutside, behind, AllOnward, entered, followed, walk}
@@ -112,5 +112,5 @@ module _ (i o : ℕ) (differ : i ≢ o) (v : View) (well : IsWell v) (summed : I
   pub path-few : length xs ≤ objects v
   path-few = summed.few xs (path-once i o differ (link_of v) well.paired s xs f out p) path-live
 
-  pub path-bytes : sum_by (λ r. extent (body v r)) xs ≤ live_bytes v
+  pub path-bytes : sum_by (λ r. object_extent (body v r)) xs ≤ live_bytes v
   path-bytes = summed.most xs (path-once i o differ (link_of v) well.paired s xs f out p)

@@ -5,8 +5,8 @@ use Rattle.std.specs.Option.{option_map, option_and_then, option_map_or}
 use Rattle.std.proofs.lemmas.Bool.{lt-ltb, le-ltb, cases_lt}
 use Rattle.std.proofs.lemmas.List.{length-replicate}
 use Rattle.lsa_kinds.specs.declared.kind.Kind.{Kind}
-use Rattle.lsa_kinds.specs.Kinds.{links_of}
-use Rattle.lsa_yard.specs.Cells.{Cell, up8, size_of, links_size, body_of, link_in, fresh, with_link, with_bytes, gap_of}
+use Rattle.lsa_kinds.specs.Kinds.{links_of, up8}
+use Rattle.lsa_yard.specs.Cells.{Cell, size_of, links_size, body_of, link_in, fresh, with_link, with_bytes, gap_of}
 use Rattle.lsa_yard.specs.Spelled.{IsProper}
 use Rattle.lsa_yard.specs.laws.Objects.{body-linked, link-here, link-others, link-written, link-fresh}
 use Rattle.lsa_store.specs.declared.place.Ref.{Ref}

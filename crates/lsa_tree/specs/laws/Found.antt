@@ -10,13 +10,13 @@ use Rattle.lsa_path.specs.laws.Members.{member-cases, member-here}
 use Rattle.lsa_tree.specs.declared.tree.Tree.{Tree}
 use Rattle.lsa_tree.specs.declared.tree.Place.{Place}
 use Rattle.lsa_tree.specs.declared.tree.Place.TheVariants.{Here, Before, Last}
-use Rattle.lsa_tree.specs.Entries.{StandsAt, BelongsBetween}
+use Rattle.lsa_tree.specs.Entries.{IsEntryAtPosition, BelongsBetween}
 use Rattle.lsa_tree.specs.Search.{IsFound}
 use Rattle.lsa_tree.specs.Tree.{IsTree}
 use Rattle.lsa_tree.specs.laws.Orders.{belongs-once, never-at}
 
 -- of entries before and behind a position and one at it no other stands at it
-pub at-once : (v : View) (x : Pos) (front back : List Ref) (r q : Ref) → Contains (front ++ (r ∷ back)) q → BelongsBetween v x front back → StandsAt v q x → r ≡ q
+pub at-once : (v : View) (x : Pos) (front back : List Ref) (r q : Ref) → Contains (front ++ (r ∷ back)) q → BelongsBetween v x front back → IsEntryAtPosition v q x → r ≡ q
 at-once v x front back r q c k at = elim (Contains-append_cases front (r ∷ back) q c) [
   | inl ahead ↦ absurd (never-at v x q front ahead front [] (sym (append-nil front)) (record { before = k.before; behind = tt }) at)
   | inr later ↦ elim (member-cases r q back later) [
@@ -27,7 +27,7 @@ at-once v x front back r q c k at = elim (Contains-append_cases front (r ∷ bac
 
 module _ (tree : Tree) (v : View) (well : IsWell v) (refs : List Ref) (x : Pos) (h : IsTree tree v refs) where
   -- an entry at the position, and a place between entries
-  never : (r : Ref) (front back : List Ref) → refs ≡ front ++ (r ∷ back) → StandsAt v r x → (xs ys : List Ref) → refs ≡ xs ++ ys → BelongsBetween v x xs ys → ⊥
+  never : (r : Ref) (front back : List Ref) → refs ≡ front ++ (r ∷ back) → IsEntryAtPosition v r x → (xs ys : List Ref) → refs ≡ xs ++ ys → BelongsBetween v x xs ys → ⊥
   never r front back is at xs ys is' k = never-at v x r refs (subst (λ l. Contains l r) (sym is) (member-here front back r)) xs ys is' k at
 
   same_first : (front back others rest : List Ref) (r q : Ref) → refs ≡ front ++ (r ∷ back) → refs ≡ others ++ (q ∷ rest) → front ≡ others → r ≡ q

@@ -18,7 +18,7 @@ use Rattle.lsa_kinds.specs.Fields.{number_at}
 use Rattle.lsa_store.specs.declared.place.Ref.{Ref}
 use Rattle.lsa_region.specs.Region.{View, body}
 use Rattle.lsa_path.specs.laws.Members.{member-cases, member-first, member-later}
-use Rattle.lsa_tree.specs.Entries.{SpellsEntryAt, position_in, StandsAt, StandsEarlier, StandsLater, BelongsBetween, AreAscending}
+use Rattle.lsa_tree.specs.Entries.{SpellsEntryAt, position_in, IsEntryAtPosition, StandsEarlier, StandsLater, BelongsBetween, AreAscending}
 
 -- ---- all of a list
 
@@ -83,13 +83,13 @@ bytes-spell None x bytes h k = absurd h
 bytes-spell (Some b) x bytes h k = (subst (λ l. 32 + number_at 28 4 l ≤ length l) k h.inside, h.place, subst (λ l. position_in l ≡ pos_code x) k h.code)
 
 module _ (v : View) where
-  pub stands-once : (r : Ref) (x y : Pos) → StandsAt v r x → StandsAt v r y → x ≡ y
+  pub stands-once : (r : Ref) (x y : Pos) → IsEntryAtPosition v r x → IsEntryAtPosition v r y → x ≡ y
   stands-once r x y h k = entry_once (body v r) x y h k
 
-  pub before-at : (r : Ref) (x y : Pos) → StandsAt v r x → StandsEarlier v r y → IsBefore x y
+  pub before-at : (r : Ref) (x y : Pos) → IsEntryAtPosition v r x → StandsEarlier v r y → IsBefore x y
   before-at r x y h k = subst (λ z. IsBefore z y) (stands-once r k.0 x k.1 h) k.2
 
-  pub behind-at : (r : Ref) (x y : Pos) → StandsAt v r x → StandsLater v r y → IsBefore y x
+  pub behind-at : (r : Ref) (x y : Pos) → IsEntryAtPosition v r x → StandsLater v r y → IsBefore y x
   behind-at r x y h k = subst (λ z. IsBefore y z) (stands-once r k.0 x k.1 h) k.2
 
   -- what stands behind a position stands behind one before it
@@ -110,7 +110,7 @@ module _ (v : View) where
   )
 
   -- one more where it belongs
-  pub ascending-with : (xs ys : List Ref) (r : Ref) (x : Pos) → StandsAt v r x → BelongsBetween v x xs ys → AreAscending v (xs ++ ys) → AreAscending v (xs ++ (r ∷ ys))
+  pub ascending-with : (xs ys : List Ref) (r : Ref) (x : Pos) → IsEntryAtPosition v r x → BelongsBetween v x xs ys → AreAscending v (xs ++ ys) → AreAscending v (xs ++ (r ∷ ys))
   ascending-with [] ys r x at fits h = ((x, at, fits.behind), h)
   ascending-with (z ∷ xs) ys r x at fits h = (
     (h.0.0, h.0.1, all-with (λ q. StandsLater v q h.0.0) xs ys r (x, at, before-at z h.0.0 x h.0.1 fits.before.0) h.0.2),
@@ -118,15 +118,15 @@ module _ (v : View) where
   )
 
   -- the entries beside one of them
-  pub ascending-split : (xs ys : List Ref) (r : Ref) (x : Pos) → StandsAt v r x → AreAscending v (xs ++ (r ∷ ys)) → BelongsBetween v x xs ys
+  pub ascending-split : (xs ys : List Ref) (r : Ref) (x : Pos) → IsEntryAtPosition v r x → AreAscending v (xs ++ (r ∷ ys)) → BelongsBetween v x xs ys
   ascending-split [] ys r x at h = record { before = tt; behind = subst (λ y. AllByRecursion (λ q. StandsLater v q y) ys) (stands-once r h.0.0 x h.0.1 at) h.0.2 }
   ascending-split (z ∷ xs) ys r x at h =
       let rest = ascending-split xs ys r x at h.1 in
       record { before = ((h.0.0, h.0.1, behind-at r x h.0.0 at (all-back (λ q. StandsLater v q h.0.0) xs (r ∷ ys) h.0.2).0), rest.before); behind = rest.behind }
 
-  pub ascending-stands : (refs : List Ref) (r : Ref) → AreAscending v refs → Contains refs r → (x : Pos) × StandsAt v r x
+  pub ascending-stands : (refs : List Ref) (r : Ref) → AreAscending v refs → Contains refs r → (x : Pos) × IsEntryAtPosition v r x
   ascending-stands [] r h c = absurd (omega (arith, c.1))
-  ascending-stands (z ∷ refs) r h c = elim (member-cases z r refs c) [ inl same ↦ subst (λ q. (x : Pos) × StandsAt v q x) same (h.0.0, h.0.1) | inr later ↦ ascending-stands refs r h.1 later ]
+  ascending-stands (z ∷ refs) r h c = elim (member-cases z r refs c) [ inl same ↦ subst (λ q. (x : Pos) × IsEntryAtPosition v q x) same (h.0.0, h.0.1) | inr later ↦ ascending-stands refs r h.1 later ]
 
   clash : (r : Ref) (x : Pos) → StandsEarlier v r x → StandsLater v r x → ⊥
   clash r x h k = not-both x h.0 (behind-at r h.0 x h.1 k) h.2
@@ -141,7 +141,7 @@ module _ (v : View) where
       ap (λ r. r ∷ xs) heads ∙ ap (λ l. z ∷ l) (belongs-once xs ys zs ws x tails (record { before = h.before.1; behind = h.behind }) (record { before = k.before.1; behind = k.behind }))
 
   -- where a position belongs no entry stands at it
-  pub never-at : (x : Pos) (r : Ref) (refs : List Ref) → Contains refs r → (xs ys : List Ref) → refs ≡ xs ++ ys → BelongsBetween v x xs ys → StandsAt v r x → ⊥
+  pub never-at : (x : Pos) (r : Ref) (refs : List Ref) → Contains refs r → (xs ys : List Ref) → refs ≡ xs ++ ys → BelongsBetween v x xs ys → IsEntryAtPosition v r x → ⊥
   never-at x r refs c xs ys is h at = elim (Contains-append_cases xs ys r (subst (λ l. Contains l r) is c)) [
     | inl front ↦ never-before x (before-at r x x at (all-at (λ q. StandsEarlier v q x) xs r h.before front))
     | inr back ↦ never-before x (behind-at r x x at (all-at (λ q. StandsLater v q x) ys r h.behind back))
@@ -151,14 +151,14 @@ module _ (v : View) where
 
 module _ (v w : View) where
   -- each of these stands where it stood
-  pub belongs-kept : (x : Pos) (xs ys : List Ref) → ((r : Ref) → Contains xs r → (at : Pos) → StandsAt v r at → StandsAt w r at) → ((r : Ref) → Contains ys r → (at : Pos) → StandsAt v r at → StandsAt w r at)
+  pub belongs-kept : (x : Pos) (xs ys : List Ref) → ((r : Ref) → Contains xs r → (at : Pos) → IsEntryAtPosition v r at → IsEntryAtPosition w r at) → ((r : Ref) → Contains ys r → (at : Pos) → IsEntryAtPosition v r at → IsEntryAtPosition w r at)
       → BelongsBetween v x xs ys → BelongsBetween w x xs ys
   belongs-kept x xs ys keep keep' h = record {
     before = all-members (λ r. StandsEarlier v r x) (λ r. StandsEarlier w r x) xs (λ r c k. (k.0, keep r c k.0 k.1, k.2)) h.before;
     behind = all-members (λ r. StandsLater v r x) (λ r. StandsLater w r x) ys (λ r c k. (k.0, keep' r c k.0 k.1, k.2)) h.behind;
   }
 
-  pub ascending-kept : (refs : List Ref) → ((r : Ref) → Contains refs r → (at : Pos) → StandsAt v r at → StandsAt w r at) → AreAscending v refs → AreAscending w refs
+  pub ascending-kept : (refs : List Ref) → ((r : Ref) → Contains refs r → (at : Pos) → IsEntryAtPosition v r at → IsEntryAtPosition w r at) → AreAscending v refs → AreAscending w refs
   ascending-kept [] keep h = tt
   ascending-kept (z ∷ refs) keep h = (
     (h.0.0, keep z (member-first z refs) h.0.0 h.0.1, all-members (λ r. StandsLater v r h.0.0) (λ r. StandsLater w r h.0.0) refs (λ r c k. (k.0, keep r (member-later z r refs c) k.0 k.1, k.2)) h.0.2),
@@ -166,7 +166,7 @@ module _ (v w : View) where
   )
 
   -- under other names
-  pub ascending-named : (f : Ref → Ref) → ((r : Ref) (at : Pos) → StandsAt v r at → StandsAt w (f r) at) → (refs : List Ref) → AreAscending v refs → AreAscending w (map f refs)
+  pub ascending-named : (f : Ref → Ref) → ((r : Ref) (at : Pos) → IsEntryAtPosition v r at → IsEntryAtPosition w (f r) at) → (refs : List Ref) → AreAscending v refs → AreAscending w (map f refs)
   ascending-named f keep [] h = tt
   ascending-named f keep (z ∷ refs) h = ((h.0.0, keep z h.0.0 h.0.1, all_named h.0.0 refs h.0.2), ascending-named f keep refs h.1)
     where
@@ -175,5 +175,5 @@ module _ (v w : View) where
       all_named y (x ∷ xs) k = ((k.0.0, keep x k.0.0 k.0.1, k.0.2), all_named y xs k.1)
 
   -- another one in the place of one of them
-  pub ascending-replaced : (xs ys : List Ref) (r q : Ref) (x : Pos) → StandsAt v r x → StandsAt v q x → AreAscending v (xs ++ (r ∷ ys)) → AreAscending v (xs ++ (q ∷ ys))
+  pub ascending-replaced : (xs ys : List Ref) (r q : Ref) (x : Pos) → IsEntryAtPosition v r x → IsEntryAtPosition v q x → AreAscending v (xs ++ (r ∷ ys)) → AreAscending v (xs ++ (q ∷ ys))
   ascending-replaced xs ys r q x at also h = ascending-with v xs ys q x also (ascending-split v xs ys r x at h) (ascending-without v xs ys r h)

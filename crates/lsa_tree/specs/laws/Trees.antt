@@ -22,7 +22,7 @@ use Rattle.lsa_path.specs.laws.Passing.{path-determined, path-entered, paths-dis
 use Rattle.lsa_path.specs.laws.Paths.{same_object, path-same, path-everywhere}
 use Rattle.lsa_path.specs.laws.Renamed.{some-there, path-renamed}
 use Rattle.lsa_tree.specs.declared.tree.Tree.{Tree}
-use Rattle.lsa_tree.specs.Entries.{IsEntryKind, SpellsEntryAt, StandsAt, balance_in, but_balance, IsAlike, tree_part, IsReadAlike}
+use Rattle.lsa_tree.specs.Entries.{IsEntryKind, SpellsEntryAt, IsEntryAtPosition, balance_in, but_balance, IsAlike, tree_part, IsReadAlike}
 use Rattle.lsa_tree.specs.Tree.{IsTop, IsFlat, IsTree, IsLoose, IsOffTree, IsTreeRole, IsOfTree, SameButBalances, tree_as}
 use Rattle.lsa_tree.specs.laws.Orders.{all-members, ascending-kept, ascending-named, ascending-stands}
 
@@ -48,7 +48,7 @@ at_kind : (o : Option (Kind × List ℕ)) (x : Pos) → IsSomeAnd o (λ b. Spell
 at_kind None x h = h
 at_kind (Some b) x h = h.kind
 
-pub stands-entry : (v : View) (r : Ref) (x : Pos) → StandsAt v r x → IsSomeAnd (body v r) (λ b. IsEntryKind b.0)
+pub stands-entry : (v : View) (r : Ref) (x : Pos) → IsEntryAtPosition v r x → IsSomeAnd (body v r) (λ b. IsEntryKind b.0)
 stands-entry v r x h = at_kind (body v r) x h
 
 version_has : (o : Option (Kind × List ℕ)) → IsSomeAnd o (λ b. b.0 ≡ Version) → IsSomeAnd o (λ b. 2 < links_of b.0)
@@ -124,7 +124,7 @@ module _ (tree : Tree) (v : View) where
 pub listed-same : (v w : View) (r : Ref) → body w r ≡ body v r → link_of w (Obj r 2) ≡ link_of v (Obj r 2) → IsFlat v r → IsFlat w r
 listed-same v w r same here h = record { parent = here ∙ h.parent; level = ap balance_in same ∙ h.level }
 
-pub stands-same : (v w : View) (r : Ref) (x : Pos) → body w r ≡ body v r → StandsAt v r x → StandsAt w r x
+pub stands-same : (v w : View) (r : Ref) (x : Pos) → body w r ≡ body v r → IsEntryAtPosition v r x → IsEntryAtPosition w r x
 stands-same v w r x same h = subst (λ o. IsSomeAnd o (λ b. SpellsEntryAt b x)) (sym same) h
 
 pub loose-same : (v w : View) (r : Ref) → body w r ≡ body v r → link_of w (Obj r 2) ≡ link_of v (Obj r 2) → link_of w (Obj r 3) ≡ link_of v (Obj r 3) → link_of w (Obj r 4) ≡ link_of v (Obj r 4) → IsLoose v r → IsLoose w r
@@ -183,7 +183,7 @@ alike_at (Some b) (Some d) x same h =
     entry-reads b d x (ap (λ (t : Kind × (List ℕ × List ℕ)). t.0) parts) (sym (drop-drop 26 2 d.1) ∙ ap (drop 26) tails ∙ drop-drop 26 2 b.1) h
 
 module _ (v w : View) (r : Ref) (same : IsReadAlike (body v r) (body w r)) where
-  pub stands-read : (x : Pos) → StandsAt v r x → StandsAt w r x
+  pub stands-read : (x : Pos) → IsEntryAtPosition v r x → IsEntryAtPosition w r x
   stands-read x h = reads_at (body v r) (body w r) x same h
 
   pub listed-read : link_of w (Obj r 2) ≡ link_of v (Obj r 2) → IsFlat v r → IsFlat w r
@@ -201,7 +201,7 @@ module _ (v w : View) (r : Ref) (same : IsReadAlike (body v r) (body w r)) where
 pub same-read : (o p : Option (Kind × List ℕ)) → p ≡ o → IsReadAlike o p
 same-read o p same = ap (option_map tree_part) same
 
-pub alike-stands : (v w : View) (r : Ref) (x : Pos) → IsAlike (body v r) (body w r) → StandsAt v r x → StandsAt w r x
+pub alike-stands : (v w : View) (r : Ref) (x : Pos) → IsAlike (body v r) (body w r) → IsEntryAtPosition v r x → IsEntryAtPosition w r x
 alike-stands v w r x same h = alike_at (body v r) (body w r) x same h
 
 -- a tree stays where its version is there, its links stay, and what it reads of its entries
@@ -292,7 +292,7 @@ tree-added tree v w r kind bytes added refs h = tree-unlinked tree v w refs adde
 pub loose-added : (v w : View) (r : Ref) (kind : Kind) (bytes : List ℕ) → IsAdded v w r kind bytes → (q : Ref) → IsLoose v q → IsLoose w q
 loose-added v w r kind bytes added q h = loose-read v w q (same-read (body v q) (body w q) (not_fresh v w r kind bytes added q (some-there _ (body v q) h.entry))) (λ f low high. added.links (Obj q f)) h
 
-pub stands-added : (v w : View) (r : Ref) (kind : Kind) (bytes : List ℕ) → IsAdded v w r kind bytes → (q : Ref) (x : Pos) → StandsAt v q x → StandsAt w q x
+pub stands-added : (v w : View) (r : Ref) (kind : Kind) (bytes : List ℕ) → IsAdded v w r kind bytes → (q : Ref) (x : Pos) → IsEntryAtPosition v q x → IsEntryAtPosition w q x
 stands-added v w r kind bytes added q x h = stands-same v w q x (not_fresh v w r kind bytes added q (some-there _ (body v q) h)) h
 
 entry_made : (o : Option (Kind × List ℕ)) (kind : Kind) (bytes : List ℕ) → o ≡ Some (kind, bytes) → IsEntryKind kind → IsSomeAnd o (λ b. IsEntryKind b.0)
@@ -385,7 +385,7 @@ module _ (tree : Tree) (v : View) where
 -- ---- other names
 
 module _ (old new : View) (names : List (Ref × Ref)) (renamed : Renamed old new names) (well : IsWell old) where
-  pub stands-renamed : (r : Ref) (x : Pos) → StandsAt old r x → StandsAt new (named_as names r) x
+  pub stands-renamed : (r : Ref) (x : Pos) → IsEntryAtPosition old r x → IsEntryAtPosition new (named_as names r) x
   stands-renamed r x h = subst (λ o. IsSomeAnd o (λ b. SpellsEntryAt b x)) (sym (renamed.bodies r (some-there _ (body old r) h))) h
 
   unset_renamed : (r : Ref) (f : ℕ) → IsSome (body old r) → link_of old (Obj r f) ≡ None → link_of new (Obj (named_as names r) f) ≡ None

@@ -7,8 +7,9 @@ use Rattle.lsa_kinds.specs.declared.kind.Kind.{Kind}
 use Rattle.lsa_kinds.specs.declared.kind.Kind.TheVariants.{Version, RowEntry, Dummy, Static}
 use Rattle.lsa_kinds.specs.Fields.{number, number_at}
 use Rattle.lsa_kinds.specs.laws.Fields.{number-spelled, length-spelled}
-use Rattle.lsa_yard.specs.Cells.{Cell, up8, size_of, extent}
-use Rattle.lsa_yard.specs.Spelled.{mark_of, kind_of, size_field, spell, spells, cells_from, cells_in, IsProper, IsSpelled}
+use Rattle.lsa_yard.specs.Cells.{Cell, size_of, extent}
+use Rattle.lsa_kinds.specs.Kinds.{up8}
+use Rattle.lsa_yard.specs.Spelled.{mark_of, kind_numbered, size_field, spell, spells, cells_from, cells_in, IsProper, IsSpelled}
 
 -- ---- sizes
 
@@ -49,7 +50,7 @@ extent-append (c ∷ front) back = omega (arith, extent-append front back)
 
 -- ---- reading
 
-pub kind-mark : (kind : Option Kind) → kind_of (mark_of kind) ≡ kind
+pub kind-mark : (kind : Option Kind) → kind_numbered (mark_of kind) ≡ kind
 kind-mark None = refl
 kind-mark (Some Version) = refl
 kind-mark (Some RowEntry) = refl
@@ -80,7 +81,7 @@ cells_from-spells (c ∷ cells) (suc n) enough proper =
     let next : suc (up8 (number_at 3 4 tail) - 1) ≡ size_of c = omega (arith, told, size-least c) in
     let behind : drop (up8 (number_at 3 4 tail) - 1) tail ≡ more = ap (λ k. drop k (spell c ++ more)) next ∙ drop_at (spell c) more (size_of c) (length-spell c) in
     let left : length more ≤ n = omega (arith, length-append (spell c) more, length-spell c, size-least c) in
-    let head : ◌≡◌ {A = Cell} (record { kind = kind_of (mark_of c.kind); rest = take (number_at 3 4 tail - 8) (drop 7 tail) }) c =
+    let head : ◌≡◌ {A = Cell} (record { kind = kind_numbered (mark_of c.kind); rest = take (number_at 3 4 tail - 8) (drop 7 tail) }) c =
     ap (λ k. record { kind = k; rest = take (number_at 3 4 tail - 8) (drop 7 tail) }) (kind-mark c.kind) ∙ ap (λ r. record { kind = c.kind; rest = r }) rest in
     ap (λ d. d ∷ cells_from n (drop (up8 (number_at 3 4 tail) - 1) tail)) head
     ∙ ap (λ l. c ∷ cells_from n l) behind ∙ ap (λ l. c ∷ l) (cells_from-spells cells n left (All-tail IsProper c cells proper))

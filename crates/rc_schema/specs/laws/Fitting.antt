@@ -14,7 +14,8 @@ use Rattle.rc_position.specs.declared.comps.Comp.{Comp}
 use Rattle.rc_position.specs.declared.comps.Comp.TheVariants as comps
 use Rattle.rc_position.specs.declared.positions.Pos.{Pos}
 use Rattle.rc_rowcode.specs.Spelling.{stamp_code, optional_code, tomb_code, comp_code, entry_code, CompFits, KeyFits, CellFits, EntryFits}
-use Rattle.rc_rowcode.specs.Objects.{up8, dummy_size, entry_size, static_size}
+use Rattle.rc_rowcode.specs.Objects.{dummy_size, entry_size, static_size}
+use Rattle.lsa_kinds.specs.Kinds.{up8}
 use Rattle.rc_rowcode.specs.laws.Sizes.{length-stamp, length-row_code, marker_code_small, tomb_code_small, entries_small, few_below}
 use Rattle.rc_schema.specs.declared.kinds.CkKind.{CkKind}
 use Rattle.rc_schema.specs.declared.kinds.CkKind.TheVariants.{Int, Text}

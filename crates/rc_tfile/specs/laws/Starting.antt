@@ -70,6 +70,7 @@ module _ {A : Type 0} (byte : ℕ) (f : A → List ℕ) (is : A → Type 0) wher
 
 -- ---- an optional tombstone
 
+-- a tombstone in the ranges of a code, or none
 abbrev pub IsOptional : Option Tomb → Type 0
 IsOptional o = IfSome o IsTomb
 
@@ -89,6 +90,7 @@ no_option bytes h k (Some t) more fits e = k (tomb_code t ++ more) e
 
 -- ---- a partition key
 
+-- the first byte; 0 where there is none
 abbrev first_of_list : List ℕ → ℕ
 first_of_list [] = 0
 first_of_list (x ∷ xs) = x

@@ -1,5 +1,5 @@
 use Rattle.std.proofs.Common.{sym, subst}
-use Rattle.lsa_bench.specs.Works.{Steps}
+use Rattle.lsa_bench.specs.Works.{StepsDone}
 use Rattle.lsa_bench.proofs.Moved.{steps-none, steps-more}
 use Rattle.lsa_bench.proofs.works.move_all.Goals as goal
 
@@ -11,4 +11,4 @@ loop-made-preserved c =
     (c.make_or_move.ensures.there, steps-more c.loop-made.made c.args.region.now c.loop-made.region c.make_or_move.new.region c.loop-made.invariant.1 (c.make_or_move.ensures.step c.if-not-make_or_move.false))
 
 pub returns-then-not-make_or_move-clause-steps : goal.returns-then-not-make_or_move-clause-steps
-returns-then-not-make_or_move-clause-steps c = subst (Steps c.loop-made.made c.args.region.now) (sym (c.make_or_move.ensures.same c.if-not-make_or_move.true)) c.loop-made.invariant.1
+returns-then-not-make_or_move-clause-steps c = subst (StepsDone c.loop-made.made c.args.region.now) (sym (c.make_or_move.ensures.same c.if-not-make_or_move.true)) c.loop-made.invariant.1

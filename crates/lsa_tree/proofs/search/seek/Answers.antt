@@ -2,7 +2,7 @@ use Rattle.std.proofs.Common.{◌≡◌, [], ◌∷◌, ◌++◌, sym, ap, ◌�
 use Rattle.rc_position.specs.Position.{IsBefore}
 use Rattle.rc_position.specs.laws.Orders.{pos_cmp_same}
 use Rattle.lsa_path.specs.Path.{entered}
-use Rattle.lsa_tree.specs.Entries.{StandsAt}
+use Rattle.lsa_tree.specs.Entries.{IsEntryAtPosition}
 use Rattle.lsa_tree.specs.laws.Orders.{greater-before}
 use Rattle.lsa_tree.proofs.Searches.{reached-start, reached-end, reached-last, reached-next, reached-stands, reached-step, reached-less, found-here, found-before, found-last, spot-here, spot-before, spot-last}
 use Rattle.lsa_tree.proofs.search.seek.Goals as goal
@@ -37,11 +37,11 @@ loop-r-preserved g c = λ x is.
 
 pub returns-in-Equal-clause-found : goal.returns-in-Equal-clause-found
 returns-in-Equal-clause-found g c = λ refs x h is.
-    let v = c.args.region.now in let tree = c.args.tree in let well = c.known.ensures.well in let summed = c.known.ensures.summed in let at = c.loop-r.at in let passed = (c.loop-r.invariant x is).0 in let reached = (c.loop-r.invariant x is).1 in let r = c.in-Some.r in let next = reached-next tree v well summed x at passed reached r (sym (c.object.ensures ∙ ap (entered 3) c.link_of.ensures) ∙ c.in-Some.is) in let stands = reached-stands tree v well summed x at passed reached r next.0 next.1 in let code = c.position.ensures stands.0 stands.1 in let same : stands.0 ≡ x = pos_cmp_same stands.0 x (sym (c.order.ensures stands.0 x code.0 code.1 is) ∙ c.in-Equal.is) in let here : StandsAt v r x = subst (StandsAt v r) same stands.1 in found-here tree v well summed x at passed reached r next.0 next.1 here refs h
+    let v = c.args.region.now in let tree = c.args.tree in let well = c.known.ensures.well in let summed = c.known.ensures.summed in let at = c.loop-r.at in let passed = (c.loop-r.invariant x is).0 in let reached = (c.loop-r.invariant x is).1 in let r = c.in-Some.r in let next = reached-next tree v well summed x at passed reached r (sym (c.object.ensures ∙ ap (entered 3) c.link_of.ensures) ∙ c.in-Some.is) in let stands = reached-stands tree v well summed x at passed reached r next.0 next.1 in let code = c.position.ensures stands.0 stands.1 in let same : stands.0 ≡ x = pos_cmp_same stands.0 x (sym (c.order.ensures stands.0 x code.0 code.1 is) ∙ c.in-Equal.is) in let here : IsEntryAtPosition v r x = subst (IsEntryAtPosition v r) same stands.1 in found-here tree v well summed x at passed reached r next.0 next.1 here refs h
 
 pub returns-in-Equal-clause-belongs : goal.returns-in-Equal-clause-belongs
 returns-in-Equal-clause-belongs g c = λ front back x h is fits.
-    let v = c.args.region.now in let tree = c.args.tree in let well = c.known.ensures.well in let summed = c.known.ensures.summed in let at = c.loop-r.at in let passed = (c.loop-r.invariant x is).0 in let reached = (c.loop-r.invariant x is).1 in let r = c.in-Some.r in let next = reached-next tree v well summed x at passed reached r (sym (c.object.ensures ∙ ap (entered 3) c.link_of.ensures) ∙ c.in-Some.is) in let stands = reached-stands tree v well summed x at passed reached r next.0 next.1 in let code = c.position.ensures stands.0 stands.1 in let same : stands.0 ≡ x = pos_cmp_same stands.0 x (sym (c.order.ensures stands.0 x code.0 code.1 is) ∙ c.in-Equal.is) in let here : StandsAt v r x = subst (StandsAt v r) same stands.1 in absurd (spot-here tree v well summed x at passed reached r next.0 next.1 here front back h fits)
+    let v = c.args.region.now in let tree = c.args.tree in let well = c.known.ensures.well in let summed = c.known.ensures.summed in let at = c.loop-r.at in let passed = (c.loop-r.invariant x is).0 in let reached = (c.loop-r.invariant x is).1 in let r = c.in-Some.r in let next = reached-next tree v well summed x at passed reached r (sym (c.object.ensures ∙ ap (entered 3) c.link_of.ensures) ∙ c.in-Some.is) in let stands = reached-stands tree v well summed x at passed reached r next.0 next.1 in let code = c.position.ensures stands.0 stands.1 in let same : stands.0 ≡ x = pos_cmp_same stands.0 x (sym (c.order.ensures stands.0 x code.0 code.1 is) ∙ c.in-Equal.is) in let here : IsEntryAtPosition v r x = subst (IsEntryAtPosition v r) same stands.1 in absurd (spot-here tree v well summed x at passed reached r next.0 next.1 here front back h fits)
 
 pub returns-in-Greater-clause-found : goal.returns-in-Greater-clause-found
 returns-in-Greater-clause-found g c = λ refs x h is.

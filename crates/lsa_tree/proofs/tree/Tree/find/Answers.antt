@@ -3,7 +3,7 @@ use Rattle.std.proofs.lemmas.List.{length-append}
 use Rattle.rc_position.specs.Position.{IsBefore}
 use Rattle.rc_position.specs.laws.Orders.{pos_cmp_same}
 use Rattle.lsa_path.specs.Path.{entered}
-use Rattle.lsa_tree.specs.Entries.{StandsAt}
+use Rattle.lsa_tree.specs.Entries.{IsEntryAtPosition}
 use Rattle.lsa_tree.specs.laws.Orders.{greater-before}
 use Rattle.lsa_tree.proofs.Searches.{reached-start, reached-end, reached-last, reached-next, reached-stands, reached-step, reached-less, found-here, found-before, found-last, passed-more, passed-all, passed-whole}
 use Rattle.lsa_tree.proofs.tree.Tree.find.Goals as goal
@@ -42,7 +42,7 @@ loop-r-preserved g c =
 
 pub returns-in-Equal-clause-found : goal.returns-in-Equal-clause-found
 returns-in-Equal-clause-found g c =
-    let v = c.args.region.now in let tree = c.args.self.now in let well = c.known.ensures.well in let summed = c.known.ensures.summed in let at = c.loop-r.at in let x = c.args.x.now in let passed = c.loop-r.invariant.0 in let reached = c.loop-r.invariant.1 in let r = c.in-Some.r in let next = reached-next tree v well summed x at passed reached r (sym (c.object.ensures ∙ ap (entered 3) c.link_of.ensures) ∙ c.in-Some.is) in let stands = reached-stands tree v well summed x at passed reached r next.0 next.1 in let code = c.position.ensures stands.0 stands.1 in let same : stands.0 ≡ x = pos_cmp_same stands.0 x (sym (c.compare_code_with_pos_counted.ensures.value stands.0 code.0 code.1) ∙ c.in-Equal.is) in let here : StandsAt v r x = subst (StandsAt v r) same stands.1 in found-here tree v well summed x at passed reached r next.0 next.1 here
+    let v = c.args.region.now in let tree = c.args.self.now in let well = c.known.ensures.well in let summed = c.known.ensures.summed in let at = c.loop-r.at in let x = c.args.x.now in let passed = c.loop-r.invariant.0 in let reached = c.loop-r.invariant.1 in let r = c.in-Some.r in let next = reached-next tree v well summed x at passed reached r (sym (c.object.ensures ∙ ap (entered 3) c.link_of.ensures) ∙ c.in-Some.is) in let stands = reached-stands tree v well summed x at passed reached r next.0 next.1 in let code = c.position.ensures stands.0 stands.1 in let same : stands.0 ≡ x = pos_cmp_same stands.0 x (sym (c.compare_code_with_pos_counted.ensures.value stands.0 code.0 code.1) ∙ c.in-Equal.is) in let here : IsEntryAtPosition v r x = subst (IsEntryAtPosition v r) same stands.1 in found-here tree v well summed x at passed reached r next.0 next.1 here
 
 pub returns-in-Equal-clause-most : goal.returns-in-Equal-clause-most
 returns-in-Equal-clause-most g c = λ refs h.

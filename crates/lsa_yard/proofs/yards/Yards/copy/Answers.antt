@@ -1,9 +1,9 @@
 use Rattle.std.proofs.Common.{ℕ, ◌≡◌, ◌+◌, ◌*◌, ◌-◌, ◌≤◌, ◌<◌, [], ◌∷◌, ◌++◌, List, length, get_or, set, map, drop, length-set, sym, ap, ◌∙◌, arith, length-drop}
 use Rattle.std.proofs.lemmas.List.{get_or-set_other}
 use Rattle.lsa_kinds.specs.declared.kind.Kind.{Kind}
-use Rattle.lsa_kinds.specs.Kinds.{links_of}
+use Rattle.lsa_kinds.specs.Kinds.{links_of, up8}
 use Rattle.lsa_segment.specs.Bytes.{part}
-use Rattle.lsa_yard.specs.Cells.{Cell, up8, size_of, extent, cell_at, body_at, fresh}
+use Rattle.lsa_yard.specs.Cells.{Cell, size_of, extent, cell_at, body_at, fresh}
 use Rattle.lsa_yard.specs.Spelled.{head_of, cells_in}
 use Rattle.lsa_yard.proofs.Readings.{read-own, from_some, and_some, fits-behind}
 use Rattle.lsa_yard.proofs.Segments.{found, long-at, counted, grown, length-head, whole-cell}

@@ -1,6 +1,5 @@
 use Rattle.std.proofs.Common.{◌≡◌, ◌+◌, ◌*◌, ◌<◌, [], length, get_or, ap, ◌∙◌, arith}
-use Rattle.lsa_kinds.specs.Kinds.{links_of}
-use Rattle.lsa_yard.specs.Cells.{up8}
+use Rattle.lsa_kinds.specs.Kinds.{links_of, up8}
 use Rattle.lsa_yard.specs.Spelled.{head_of}
 use Rattle.lsa_yard.proofs.Readings.{fits-behind}
 use Rattle.lsa_yard.proofs.Segments.{long-at, counted, grown, length-head, whole-cell}

@@ -4,7 +4,7 @@ use Rattle.lsa_segment.specs.Bytes.{part}
 use Rattle.lsa_segment.specs.Places.{written, used_bytes, AreLaid}
 use Rattle.lsa_segment.proofs.Written.{somes-map}
 use Rattle.lsa_segment.proofs.Held.{segment, known-used, lent, appended, counted, ends_apart}
-use Rattle.lsa_segment.proofs.segments.Segments.copy.Goals as goal
+use Rattle.lsa_segment.proofs.segments.Segments.copy_into.Goals as goal
 
 pub index-end-requires : goal.index-end-requires
 index-end-requires g c = omega (arith, c.requires.to, known-used g.row.S c.self.inside.used.items c.self.inside.block c.args.self.now c.self.view_is, c.self.inside.used.ok.0)
