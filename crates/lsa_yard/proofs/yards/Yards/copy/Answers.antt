@@ -42,8 +42,8 @@ overflow_add-offset g c =
     let head = 8 + 8 * c.links.result in let len = c.len.result - head in let own : length bytes ≡ len = omega (arith, length-drop (8 * links_of x.kind) x.cell.rest, links, long) in
     omega (arith, links, long, f.linked, f.seen.fits, f.seen.most)
 
-pub copy-requires : goal.copy-requires
-copy-requires g c =
+pub copy_into-requires : goal.copy_into-requires
+copy_into-requires g c =
     let segments = c.self.inside.segments in let all = c.args.self.now in let from = c.args.from in let to = c.args.to in let offset = c.args.offset in
     let f = found g.row.S segments all from offset (λ (b : Kind × List ℕ). extent (get_or c.args.self.now c.args.to []) + size_of (fresh b.0 b.1) ≤ g.row.S) c.self.invariant c.self.view_is c.requires.fits in let x = f.object in let bytes = drop (8 * links_of x.kind) x.cell.rest in
     let same : x.kind ≡ c.object-kind.result = from_some (body_at (get_or all from []) offset) (x.kind, bytes) (λ (b : Kind × List ℕ). b.0 ≡ c.object-kind.result) x.body c.object-kind.ensures in
@@ -70,10 +70,10 @@ pad-requires g c =
     let fits = fits-behind was (get_or all to []) x.kind bytes g.row.S (long-at g.row.S segments all to c.self.invariant c.self.view_is) f.holds in
     let kind = c.object-kind.result in let first = c.begin-at.new.segments in let one = grown segments first to (head_of kind len) less c.begin-at.ensures.after in let top = length-head kind len in
     let apart : get_or first from [] ≡ get_or segments from [] = ap (λ l. get_or l from []) c.begin-at.ensures.after ∙ get_or-set_other segments to from (was ++ head_of kind len) [] c.requires.differ in
-    let second = c.copy.new.self in
+    let second = c.copy_into.new.self in
     let moved : part (offset + head) len (get_or first from []) ≡ bytes =
     ap (part (offset + head) len) apart ∙ read-own (get_or segments from []) offset x.cell f.seen.there (8 * links_of x.kind) (8 * c.links.result) c.len.result (ap (λ k. 8 * k) links) long f.linked in
-    let second_is : second ≡ set first to (get_or first to [] ++ bytes) = c.copy.ensures.after ∙ ap (λ l. set first to (get_or first to [] ++ l)) moved in
+    let second_is : second ≡ set first to (get_or first to [] ++ bytes) = c.copy_into.ensures.after ∙ ap (λ l. set first to (get_or first to [] ++ l)) moved in
     let two = grown first second to bytes one.0 second_is in let size : head + len ≡ 8 + 8 * links_of x.kind + length bytes = omega (arith, links, own) in
     let counts : links_of x.kind ≡ links_of kind = ap links_of same in let small = (c.self.invariant.each 0).small in
     (omega arith, (two.0, (omega (arith, fits, own, counts, one.1, top, two.1, size, ap up8 size), omega (arith, fits, size, small))))
@@ -90,10 +90,10 @@ invariant_of-self g c =
     let fits = fits-behind was (get_or all to []) x.kind bytes g.row.S (long-at g.row.S segments all to c.self.invariant c.self.view_is) f.holds in
     let kind = c.object-kind.result in let first = c.begin-at.new.segments in let one = grown segments first to (head_of kind len) less c.begin-at.ensures.after in let top = length-head kind len in
     let apart : get_or first from [] ≡ get_or segments from [] = ap (λ l. get_or l from []) c.begin-at.ensures.after ∙ get_or-set_other segments to from (was ++ head_of kind len) [] c.requires.differ in
-    let second = c.copy.new.self in
+    let second = c.copy_into.new.self in
     let moved : part (offset + head) len (get_or first from []) ≡ bytes =
     ap (part (offset + head) len) apart ∙ read-own (get_or segments from []) offset x.cell f.seen.there (8 * links_of x.kind) (8 * c.links.result) c.len.result (ap (λ k. 8 * k) links) long f.linked in
-    let second_is : second ≡ set first to (get_or first to [] ++ bytes) = c.copy.ensures.after ∙ ap (λ l. set first to (get_or first to [] ++ l)) moved in
+    let second_is : second ≡ set first to (get_or first to [] ++ bytes) = c.copy_into.ensures.after ∙ ap (λ l. set first to (get_or first to [] ++ l)) moved in
     let two = grown first second to bytes one.0 second_is in let size : head + len ≡ 8 + 8 * links_of x.kind + length bytes = omega (arith, links, own) in
     let first_is : first ≡ set segments to (was ++ head_of x.kind (length bytes)) =
     c.begin-at.ensures.after ∙ ap (λ k. set segments to (was ++ head_of k len)) (sym same) ∙ ap (λ k. set segments to (was ++ head_of x.kind k)) (sym own) in
@@ -115,10 +115,10 @@ returns-clause-after g c =
     let fits = fits-behind was (get_or all to []) x.kind bytes g.row.S (long-at g.row.S segments all to c.self.invariant c.self.view_is) f.holds in
     let kind = c.object-kind.result in let first = c.begin-at.new.segments in let one = grown segments first to (head_of kind len) less c.begin-at.ensures.after in let top = length-head kind len in
     let apart : get_or first from [] ≡ get_or segments from [] = ap (λ l. get_or l from []) c.begin-at.ensures.after ∙ get_or-set_other segments to from (was ++ head_of kind len) [] c.requires.differ in
-    let second = c.copy.new.self in
+    let second = c.copy_into.new.self in
     let moved : part (offset + head) len (get_or first from []) ≡ bytes =
     ap (part (offset + head) len) apart ∙ read-own (get_or segments from []) offset x.cell f.seen.there (8 * links_of x.kind) (8 * c.links.result) c.len.result (ap (λ k. 8 * k) links) long f.linked in
-    let second_is : second ≡ set first to (get_or first to [] ++ bytes) = c.copy.ensures.after ∙ ap (λ l. set first to (get_or first to [] ++ l)) moved in
+    let second_is : second ≡ set first to (get_or first to [] ++ bytes) = c.copy_into.ensures.after ∙ ap (λ l. set first to (get_or first to [] ++ l)) moved in
     let two = grown first second to bytes one.0 second_is in let size : head + len ≡ 8 + 8 * links_of x.kind + length bytes = omega (arith, links, own) in
     let first_is : first ≡ set segments to (was ++ head_of x.kind (length bytes)) =
     c.begin-at.ensures.after ∙ ap (λ k. set segments to (was ++ head_of k len)) (sym same) ∙ ap (λ k. set segments to (was ++ head_of x.kind k)) (sym own) in
