@@ -12,11 +12,11 @@ use Rattle.rc_ranges.specs.declared.pieces.Piece.{Piece}
 use Rattle.rc_mutation.specs.declared.fragments.Frag.{Frag}
 use Rattle.rc_mutation.specs.declared.fragments.Frag.TheVariants as frag
 use Rattle.rc_mutation.specs.declared.mutations.Mutation.{Mutation}
-use Rattle.rc_mutation.specs.Fragments.{changes_of, fragments, has_any, is_written, placed_change, placed_row}
+use Rattle.rc_mutation.specs.Fragments.{changes_of, fragments, has_any, is_written, placed_change, placed_row, rows_and_changes}
 use Rattle.rc_mutation.specs.Source.{IsMutation}
 use Rattle.rc_mutation.specs.laws.Written.{unwritten}
 use Rattle.rc_mutation.specs.laws.FragMerge.{merge, merge_into, merge-in_order, fragment_of, rows-placed, changes-placed}
-use Rattle.rc_mutation.specs.Canonical.{rows_and_changes, IsMutationOf}
+use Rattle.rc_mutation.specs.Canonical.{IsMutationOf}
 use Rattle.rc_mutation.specs.laws.CanonicalMerging.{Keyed, Change, rows_in, changes_in}
 use Rattle.rc_mutation.specs.laws.CanonicalPieces.{pieces_in, pieces_from}
 

@@ -13,7 +13,7 @@ use Rattle.rc_ranges.specs.declared.pieces.Piece.{Piece}
 use Rattle.rc_mutation.specs.declared.fragments.Frag.{Frag}
 use Rattle.rc_mutation.specs.declared.fragments.Frag.TheVariants as frag
 use Rattle.rc_mutation.specs.declared.mutations.Mutation.{Mutation}
-use Rattle.rc_mutation.specs.Fragments.{changes_of, fragments, in_order, placed_change, placed_row, static_fragment}
+use Rattle.rc_mutation.specs.Fragments.{fragments, rows_and_changes, static_fragment}
 use Rattle.rc_mutation.specs.Source.{IsMutation}
 
 -- a position comes behind the last one, if there is one
@@ -28,15 +28,9 @@ IsBetweenRows x = x.weight ≢ At
 -- its cells ascend by column; a change stands between rows and has another tombstone than the one in force; at the end none is in force
 abbrev pub IsCanonicalList : Option Tomb → Option Pos → List Frag → Type 0
 IsCanonicalList tomb last [] = tomb ≡ None
-IsCanonicalList tomb last (frag.Start pt ∷ fs) = ⊥
-IsCanonicalList tomb last (frag.Static row ∷ fs) = ⊥
 IsCanonicalList tomb last (frag.Row key row ∷ fs) = ComesNext last (row_pos key) × (row ≢ empty_row) × IsTrue (ascending row.cells) × IsCanonicalList tomb (Some (row_pos key)) fs
 IsCanonicalList tomb last (frag.Change x next ∷ fs) = ComesNext last x × IsBetweenRows x × (next ≢ tomb) × IsCanonicalList next (Some x) fs
-IsCanonicalList tomb last (frag.End ∷ fs) = ⊥
-
--- the rows and changes of a mutation, by position
-abbrev pub rows_and_changes : Mutation → List Frag
-rows_and_changes m = in_order (list_map placed_row m.rows ++ list_map placed_change (changes_of m.ranges))
+IsCanonicalList tomb last (f ∷ fs) = ⊥
 
 -- its range tombstones begin and end between rows
 abbrev pub IsBounded : List Piece → Type 0

@@ -59,12 +59,13 @@ is_written row = is_some row.marker || (is_some row.tomb || has_any row.cells)
 abbrev pub static_fragment : Row → List Frag
 static_fragment row = cond (is_written row) (frag.Static row ∷ []) []
 
+-- the rows and changes of a mutation, by position
+abbrev pub rows_and_changes : Mutation → List Frag
+rows_and_changes m = in_order (list_map placed_row m.rows ++ list_map placed_change (changes_of m.ranges))
+
 -- the start, the static row, rows and changes by position, the end
 unfoldable pub fragments : Mutation → List Frag
-fragments m =
-    (frag.Start m.pt ∷ static_fragment m.statics)
-    ++ in_order (list_map placed_row m.rows ++ list_map placed_change (changes_of m.ranges))
-    ++ frag.End ∷ []
+fragments m = (frag.Start m.pt ∷ static_fragment m.statics) ++ rows_and_changes m ++ frag.End ∷ []
 
 -- the parts of writes: the keys that occur, ascending, each once, each with the mutation that says at each place what its writes say
 pub record IsParts (parts : List Partition) (writes : List Write) : Type 0 where
@@ -78,8 +79,5 @@ units parts = sum_by (λ p. length (fragments p.change)) parts
 
 -- the range tombstone in force behind a fragment
 abbrev pub tomb_after : Option Tomb → Frag → Option Tomb
-tomb_after tomb (frag.Start pt) = tomb
-tomb_after tomb (frag.Static row) = tomb
-tomb_after tomb (frag.Row key row) = tomb
 tomb_after tomb (frag.Change from next) = next
-tomb_after tomb frag.End = tomb
+tomb_after tomb f = tomb

@@ -7,10 +7,10 @@ ghost use Rattle.rc_cell.specs.declared.writes.Tomb.{Tomb};
 ghost use Rattle.rc_cell.specs.Columns.{ascending};
 ghost use Rattle.rc_mutation.specs.declared.fragments.Frag.{Frag};
 ghost use Rattle.rc_mutation.specs.declared.mutations.Mutation.{Mutation};
-ghost use Rattle.rc_mutation.specs.Fragments.{fragments};
+ghost use Rattle.rc_mutation.specs.Fragments.{fragments, rows_and_changes};
 ghost use Rattle.rc_mutation.specs.Source.{IsMutation};
 ghost use Rattle.rc_mutation.specs.Statics.{has_cells_alone};
-ghost use Rattle.rc_mutation.specs.Canonical.{rows_and_changes, IsBounded, IsCanonicalList, IsMutationOf};
+ghost use Rattle.rc_mutation.specs.Canonical.{IsBounded, IsCanonicalList, IsMutationOf};
 
 /// Each canonical list of rows and changes of tombstone is that of one mutation, whatever its partition tombstone is and its
 /// static row, which has cells alone. So who reads such a list has read a mutation's fragments.

@@ -29,17 +29,15 @@ comp_cmp (Int a) (Text b) = Less
 comp_cmp (Text a) (Int b) = Greater
 comp_cmp (Text a) (Text b) = bytes_cmp a b
 
--- the order of weights: before, at, after
+-- the number of a weight: before, at, after
+abbrev pub weight_number : Weight → ℕ
+weight_number Before = 0
+weight_number At = 1
+weight_number After = 2
+
+-- the order of weights, by their numbers
 abbrev pub weight_cmp : Weight → Weight → Ordering
-weight_cmp Before Before = Equal
-weight_cmp Before At = Less
-weight_cmp Before After = Less
-weight_cmp At Before = Greater
-weight_cmp At At = Equal
-weight_cmp At After = Less
-weight_cmp After Before = Greater
-weight_cmp After At = Greater
-weight_cmp After After = Equal
+weight_cmp v w = nat_cmp (weight_number v) (weight_number w)
 
 -- a position against every longer one that begins with its prefix: Before and At stand before them, After behind them
 abbrev pub shorter_cmp : Weight → Ordering

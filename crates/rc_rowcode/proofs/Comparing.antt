@@ -4,7 +4,8 @@ use Rattle.std.specs.List.{flat_map, AllByRecursion}
 use Rattle.rc_position.specs.declared.comps.Comp.{Comp}
 use Rattle.rc_position.specs.declared.positions.Weight.{Weight}
 use Rattle.rc_position.specs.declared.positions.Pos.{Pos}
-use Rattle.rc_rowcode.specs.Spelling.{comp_code, weight_byte, pos_code, IsComp, IsPos}
+use Rattle.rc_rowcode.specs.Spelling.{comp_code, pos_code, IsComp, IsPos}
+use Rattle.rc_position.specs.Position.{weight_number}
 use Rattle.rc_rowcode.specs.calls.Reading.{parse_component}
 use Rattle.rc_rowcode.specs.calls.Comparing.{listed_comps}
 use Rattle.rc_rowcode.specs.laws.Codecs.{comp_codec}
@@ -37,9 +38,9 @@ rest_same : (n k : ℕ) (l s : List ℕ) → n ∷ l ≡ k ∷ s → l ≡ s
 rest_same n k l s e = cc
 
 -- a code of a weight, a count and bytes is that of one position
-pub whole_pos : (w n : ℕ) (bytes : List ℕ) (v : Weight) (x : Pos) → IsPos x → w ∷ n ∷ bytes ≡ pos_code x → ((u : Weight) → w ≡ weight_byte u → v ≡ u) → ◌≡◌ {A = Pos} (record { prefix = listed_comps n bytes; weight = v }) x
+pub whole_pos : (w n : ℕ) (bytes : List ℕ) (v : Weight) (x : Pos) → IsPos x → w ∷ n ∷ bytes ≡ pos_code x → ((u : Weight) → w ≡ weight_number u → v ≡ u) → ◌≡◌ {A = Pos} (record { prefix = listed_comps n bytes; weight = v }) x
 whole_pos w n bytes v x fits e weighs =
-    let behind : n ∷ bytes ≡ length x.prefix ∷ flat_map comp_code x.prefix = rest_same w (weight_byte x.weight) (n ∷ bytes) _ e in
+    let behind : n ∷ bytes ≡ length x.prefix ∷ flat_map comp_code x.prefix = rest_same w (weight_number x.weight) (n ∷ bytes) _ e in
     let same : listed_comps n bytes ≡ x.prefix = (λ i. listed_comps (first_same n (length x.prefix) bytes _ behind i) (rest_same n (length x.prefix) bytes _ behind i)) ∙ listed_coded x.prefix fits.1 in
-    let weight : v ≡ x.weight = weighs x.weight (first_same w (weight_byte x.weight) (n ∷ bytes) _ e) in
+    let weight : v ≡ x.weight = weighs x.weight (first_same w (weight_number x.weight) (n ∷ bytes) _ e) in
     λ i. record { prefix = same i; weight = weight i }

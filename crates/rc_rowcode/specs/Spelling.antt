@@ -14,9 +14,8 @@ use Rattle.rc_cell.specs.declared.rows.Row.{Row}
 use Rattle.rc_cell.specs.Winner.{IsRow}
 use Rattle.rc_position.specs.declared.comps.Comp.{Comp}
 use Rattle.rc_position.specs.declared.comps.Comp.TheVariants.{Int, Text}
-use Rattle.rc_position.specs.declared.positions.Weight.{Weight}
-use Rattle.rc_position.specs.declared.positions.Weight.TheVariants.{Before, At, After}
 use Rattle.rc_position.specs.declared.positions.Pos.{Pos}
+use Rattle.rc_position.specs.Position.{weight_number}
 
 -- ---- numbers, little-endian: a timestamp in 8 bytes (two's complement), a deletion time in 4, a length in 2
 
@@ -52,15 +51,9 @@ comp_code (Text bytes) = 1 ∷ length bytes ∷ bytes
 abbrev pub key_code : List Comp → List ℕ
 key_code key = length key ∷ flat_map comp_code key
 
--- the byte of a weight
-abbrev pub weight_byte : Weight → ℕ
-weight_byte Before = 0
-weight_byte At = 1
-weight_byte After = 2
-
--- a position: its weight, then its prefix
+-- a position: the number of its weight, then its prefix
 abbrev pub pos_code : Pos → List ℕ
-pos_code x = weight_byte x.weight ∷ key_code x.prefix
+pos_code x = weight_number x.weight ∷ key_code x.prefix
 
 -- a cell: 0, timestamp, length and value, or 1, timestamp and deletion time
 abbrev pub cell_code : Cell → List ℕ

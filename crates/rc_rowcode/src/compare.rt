@@ -3,8 +3,8 @@
 ghost use Rattle.std.specs.Prelude.{◌≡◌, ◌+◌, [], ◌∷◌, MatchOption};
 ghost use Rattle.rc_position.specs.declared.positions.Weight.{Weight};
 ghost use Rattle.rc_position.specs.declared.positions.Pos.{Pos};
-ghost use Rattle.rc_position.specs.Position.{pos_cmp, row_pos, prefix_cmp};
-ghost use Rattle.rc_rowcode.specs.Spelling.{weight_byte, pos_code, IsPos};
+ghost use Rattle.rc_position.specs.Position.{pos_cmp, row_pos, prefix_cmp, weight_number};
+ghost use Rattle.rc_rowcode.specs.Spelling.{pos_code, IsPos};
 ghost use Rattle.rc_rowcode.specs.calls.Views.{seen_comp};
 ghost use Rattle.rc_rowcode.specs.calls.Comparing.{listed_comps, seen_comps, seen_pos};
 
@@ -30,7 +30,7 @@ pub(crate) struct PosView<'a> {
 
 // The weight of a byte; any weight of other bytes.
 fn weight_of(byte: u8) -> Weight
-    ensures { (w : Weight) → byte ≡ weight_byte w → result ≡ w }
+    ensures { (w : Weight) → byte ≡ weight_number w → result ≡ w }
 {
     match byte {
         0 => Weight::Before,

@@ -4,8 +4,8 @@ ghost use Rattle.std.specs.Prelude.{◌≡◌, ◌≤◌, ◌<◌, ◌+◌, ◌^
 ghost use Rattle.std.specs.Option.{option_map};
 ghost use Rattle.std.specs.List.{flat_map, AllByRecursion};
 ghost use Rattle.std.specs.Vec.{vec_capacity};
-ghost use Rattle.rc_position.specs.Position.{comp_cmp};
-ghost use Rattle.rc_rowcode.specs.Spelling.{comp_code, key_code, weight_byte, pos_code, CompFits, KeyFits, IsKey, IsPos, ReadsPrefix};
+ghost use Rattle.rc_position.specs.Position.{comp_cmp, weight_number};
+ghost use Rattle.rc_rowcode.specs.Spelling.{comp_code, key_code, pos_code, CompFits, KeyFits, IsKey, IsPos, ReadsPrefix};
 ghost use Rattle.rc_rowcode.specs.calls.Reading.{parse_text, parse_component, parse_components, parse_key, parse_position};
 ghost use Rattle.rc_rowcode.specs.calls.Views.{seen_comp};
 

@@ -19,9 +19,8 @@ column_of name names = position (λ other. is_word other name) names
 -- the component is of the kind
 abbrev pub is_of_kind : Comp → CkKind → Bool
 is_of_kind (comps.Int number) Int = true
-is_of_kind (comps.Int number) Text = false
-is_of_kind (comps.Text bytes) Int = false
 is_of_kind (comps.Text bytes) Text = true
+is_of_kind component kind = false
 
 -- each component has its kind, and there are no more components than kinds
 abbrev pub are_of_kinds : List Comp → List CkKind → Bool

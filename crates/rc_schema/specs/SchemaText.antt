@@ -66,11 +66,8 @@ marked ck statics cols =
 
 -- three words
 abbrev pub schema_of_words : List (List ℕ) → Option SchemaValue
-schema_of_words [] = None
-schema_of_words (ck ∷ []) = None
-schema_of_words (ck ∷ statics ∷ []) = None
 schema_of_words (ck ∷ statics ∷ cols ∷ []) = marked ck statics cols
-schema_of_words (ck ∷ statics ∷ cols ∷ more ∷ rest) = None
+schema_of_words other = None
 
 -- the schema of a text, where it has that form and is within the limits
 unfoldable pub schema_of : List ℕ → Option SchemaValue

@@ -21,12 +21,11 @@ use Rattle.rc_mutation.specs.declared.fragments.Frag.{Frag}
 use Rattle.rc_mutation.specs.declared.fragments.Frag.TheVariants as frag
 use Rattle.rc_mutation.specs.declared.mutations.Mutation.{Mutation}
 use Rattle.rc_mutation.specs.Source.{IsMutation}
-use Rattle.rc_mutation.specs.Fragments.{begins_at, changes_of, placed_change, placed_row}
+use Rattle.rc_mutation.specs.Fragments.{begins_at, changes_of, placed_change, placed_row, rows_and_changes}
 use Rattle.rc_mutation.specs.Rows.{joined_rows, IsRows}
 use Rattle.rc_mutation.specs.laws.JoinedRows.{joined_rows-append, joined_rows-rows}
 use Rattle.rc_mutation.specs.laws.FragMerge.{merge, merge_into, fragment_of}
 use Rattle.rc_tables.specs.Rebuilt.{AllWritten, changes_among, pieces_between, rows_among}
-use Rattle.rc_mutation.specs.Canonical.{rows_and_changes}
 use Rattle.rc_tables.proofs.Listing.{between-merge}
 
 abbrev Keyed : Type 0

@@ -15,8 +15,8 @@ use Rattle.rc_mutation.specs.declared.fragments.Frag.{Frag}
 use Rattle.rc_mutation.specs.declared.fragments.Frag.TheVariants as frag
 use Rattle.rc_mutation.specs.declared.mutations.Mutation.{Mutation}
 use Rattle.rc_mutation.specs.Source.{IsMutation, has_cells_alone}
-use Rattle.rc_mutation.specs.Canonical.{IsCanonicalList, IsMutationOf, rows_and_changes}
-use Rattle.rc_mutation.specs.Fragments.{tomb_after}
+use Rattle.rc_mutation.specs.Canonical.{IsCanonicalList, IsMutationOf}
+use Rattle.rc_mutation.specs.Fragments.{tomb_after, rows_and_changes}
 use Rattle.rc_stream.specs.Merging.{place_of}
 use Rattle.rc_tfile.specs.declared.reading.Part.{Part}
 use Rattle.rc_cell.specs.Columns.{ascending}

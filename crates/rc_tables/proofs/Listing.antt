@@ -15,7 +15,7 @@ use Rattle.rc_mutation.specs.declared.fragments.Frag.TheVariants as frag
 use Rattle.rc_mutation.specs.declared.mutations.Mutation.{Mutation}
 use Rattle.rc_mutation.specs.declared.mutations.Partition.{Partition}
 use Rattle.rc_mutation.specs.Source.{IsMutation}
-use Rattle.rc_mutation.specs.Fragments.{changes_of, fragments, is_written, placed_change, placed_row, static_fragment}
+use Rattle.rc_mutation.specs.Fragments.{changes_of, fragments, is_written, placed_change, placed_row, static_fragment, rows_and_changes}
 use Rattle.rc_mutation.specs.laws.FragMerge.{merge, merge_into, merge-in_order, fragment_of, rows-placed, changes-placed}
 use Rattle.rc_stream.specs.Stream.{is_clustered}
 use Rattle.rc_tfile.specs.Items.{PartItem, RowItem, ChangeItem, EndItem, item_code}
@@ -24,7 +24,6 @@ use Rattle.rc_tfile.specs.Blocks.{DirectoryEntry, entries, nearest_entry, entry_
 use Rattle.rc_tfile.specs.Info.{refs_from, directory_entry_size}
 use Rattle.rc_tfile.specs.TableText.{frag_items, part_items}
 use Rattle.rc_tfile.specs.laws.Follows.{followed_by-append}
-use Rattle.rc_mutation.specs.Canonical.{rows_and_changes}
 
 -- ---- rows and changes
 

@@ -12,9 +12,9 @@ use Rattle.rc_ranges.specs.declared.pieces.Piece.{Piece}
 use Rattle.rc_mutation.specs.declared.fragments.Frag.{Frag}
 use Rattle.rc_mutation.specs.declared.fragments.Frag.TheVariants as frag
 use Rattle.rc_mutation.specs.declared.mutations.Mutation.{Mutation}
-use Rattle.rc_mutation.specs.Fragments.{changes_of, in_order, placed_change, placed_row, tomb_after}
+use Rattle.rc_mutation.specs.Fragments.{changes_of, in_order, placed_change, placed_row, tomb_after, rows_and_changes}
 use Rattle.rc_mutation.specs.Source.{IsMutation}
-use Rattle.rc_mutation.specs.Canonical.{ComesNext, rows_and_changes}
+use Rattle.rc_mutation.specs.Canonical.{ComesNext}
 use Rattle.rc_position.specs.Position.{row_pos}
 use Rattle.rc_schema.specs.SchemaValue.{SchemaValue}
 use Rattle.rc_stream.specs.Merging.{place_of}

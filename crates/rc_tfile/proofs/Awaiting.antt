@@ -1,5 +1,5 @@
 -- The items that must come behind the stop, one after another.
-use Rattle.std.proofs.Common.{◌≡◌, ◌≢◌, ℕ, ◌+◌, ◌≤◌, List, [], ◌∷◌, ◌++◌, length, map as list_map, Option, Result, Ok, Err, refl, sym, ap, ◌∙◌, subst, arith, append_assoc, append-nil, ⊎_elim}
+use Rattle.std.proofs.Common.{◌≡◌, ◌≢◌, ℕ, ◌+◌, ◌≤◌, List, [], ◌∷◌, ◌++◌, length, drop, map as list_map, Option, Result, Ok, Err, refl, sym, ap, ◌∙◌, subst, arith, append_assoc, append-nil, ⊎_elim}
 use Rattle.std.specs.Prelude.{MatchResult, ⊤}
 use Rattle.std.specs.List.{flat_map, AllByRecursion}
 use Rattle.rc_outside.specs.Files.{Files}
@@ -10,7 +10,7 @@ use Rattle.rc_tfile.specs.declared.checking.CheckErr.TheVariants.{Fault, Damaged
 use Rattle.rc_tfile.specs.declared.outline.Outline.{Outline}
 use Rattle.rc_tfile.specs.Items.{Item, HeadItem, PartItem, RowItem, ChangeItem, EndItem, StopItem, EntryItem, BlockItem, TailItem, item_code, IsItem}
 use Rattle.rc_tfile.specs.Before.{ItemsBefore, Start, Between, Inside, Behind, text, offset, item_place, followed_by}
-use Rattle.rc_tfile.specs.Blocks.{DirectoryEntry, entries, entry_items, ending, due, rest_of_items}
+use Rattle.rc_tfile.specs.Blocks.{DirectoryEntry, entries, entry_items, ending, due}
 use Rattle.rc_tfile.specs.TableText.{ItemFits, AllFit, EndsWithTail, IsDue, MayStand}
 use Rattle.rc_tfile.specs.calls.Outlined.{IsListed}
 use Rattle.rc_tfile.specs.Checking.{IsContent, IsHostError}
@@ -93,9 +93,9 @@ late_due (RowItem key row) before more h e = absurd h
 late_due (ChangeItem x tomb) before more h e = absurd h
 late_due EndItem before more h e = absurd h
 late_due StopItem before more h e = absurd h
-late_due (EntryItem key off blocks) before more h e = ap rest_of_items e
-late_due (BlockItem b) before more h e = ap rest_of_items e
-late_due (TailItem off parts) before more h e = ap rest_of_items e
+late_due (EntryItem key off blocks) before more h e = ap (drop 1) e
+late_due (BlockItem b) before more h e = ap (drop 1) e
+late_due (TailItem off parts) before more h e = ap (drop 1) e
 
 late_stands : (schema : SchemaValue) (x : Item) (before : ItemsBefore) → IsLate x → IsDue before x → MayStand schema before x
 late_stands schema (HeadItem other) before h d = absurd h
@@ -153,11 +153,11 @@ list_items [] = tt
 list_items (e ∷ es) = (tt, all_append IsListItem (list_map BlockItem e.blocks) (flat_map entry_items es) (block_items e.blocks) (list_items es))
 
 tail_last : (xs : List Item) (t : Item) (done : List Item) (off parts : ℕ) (more : List Item) → AllByRecursion IsListItem xs → xs ++ t ∷ [] ≡ done ++ TailItem off parts ∷ more → more ≡ []
-tail_last [] t [] off parts more h e = sym (ap rest_of_items e)
-tail_last [] t (d ∷ []) off parts more h e = absurd (let q : [] ≡ TailItem off parts ∷ more = ap rest_of_items e in cc)
-tail_last [] t (d ∷ c ∷ done) off parts more h e = absurd (let q : [] ≡ c ∷ (done ++ TailItem off parts ∷ more) = ap rest_of_items e in cc)
+tail_last [] t [] off parts more h e = sym (ap (drop 1) e)
+tail_last [] t (d ∷ []) off parts more h e = absurd (let q : [] ≡ TailItem off parts ∷ more = ap (drop 1) e in cc)
+tail_last [] t (d ∷ c ∷ done) off parts more h e = absurd (let q : [] ≡ c ∷ (done ++ TailItem off parts ∷ more) = ap (drop 1) e in cc)
 tail_last (x ∷ xs) t [] off parts more h e = absurd (no_tail x off parts h.0 (let q : x ∷ (xs ++ t ∷ []) ≡ TailItem off parts ∷ more = e in cc))
-tail_last (x ∷ xs) t (d ∷ done) off parts more h e = tail_last xs t done off parts more h.1 (ap rest_of_items e)
+tail_last (x ∷ xs) t (d ∷ done) off parts more h e = tail_last xs t done off parts more h.1 (ap (drop 1) e)
 
 late_ended : (start : ItemsBefore) (done : List Item) (x : Item) (more : List Item) (before : ItemsBefore) → IsLate x → ending start ≡ done ++ x ∷ more → EndsWithTail (x ∷ before) → more ≡ []
 late_ended start done (HeadItem schema) more before h e t = absurd h

@@ -6,9 +6,8 @@ use Rattle.rc_cell.specs.declared.rows.Row.{Row}
 use Rattle.rc_mutation.specs.declared.fragments.Frag.TheVariants as frag
 use Rattle.rc_mutation.specs.declared.mutations.Mutation.{Mutation}
 use Rattle.rc_mutation.specs.Source.{IsMutation}
-use Rattle.rc_mutation.specs.Fragments.{fragments, static_fragment, is_written}
+use Rattle.rc_mutation.specs.Fragments.{fragments, static_fragment, is_written, rows_and_changes}
 use Rattle.rc_writes.specs.Limits.{IsWithinLimits}
-use Rattle.rc_mutation.specs.Canonical.{rows_and_changes}
 use Rattle.rc_tfile.specs.calls.Limits.{FragFits}
 use Rattle.rc_tfile.specs.laws.Follows.{all_of, all_append}
 use Rattle.rc_tfile.specs.laws.Standing.{clustered_so}

@@ -39,10 +39,7 @@ item_place (PartItem key pt statics ∷ before) = Inside
 item_place (RowItem key row ∷ before) = Inside
 item_place (ChangeItem x tomb ∷ before) = Inside
 item_place (EndItem ∷ before) = Between
-item_place (StopItem ∷ before) = Behind
-item_place (EntryItem key off blocks ∷ before) = Behind
-item_place (BlockItem b ∷ before) = Behind
-item_place (TailItem off parts ∷ before) = Behind
+item_place (x ∷ before) = Behind
 
 -- the key of the nearest partition
 abbrev pub last_key : ItemsBefore → Option (List ℕ)
@@ -58,10 +55,9 @@ last_pos before = None
 
 -- the tombstone in force: that of the nearest change of the partition, none where it has none yet
 abbrev pub tomb_in_force : ItemsBefore → Option Tomb
-tomb_in_force [] = None
 tomb_in_force (ChangeItem x tomb ∷ before) = tomb
 tomb_in_force (RowItem key row ∷ before) = tomb_in_force before
-tomb_in_force (x ∷ before) = None
+tomb_in_force before = None
 
 -- a partition's key is greater than the one before, and a fragment's position than that of the fragment before
 abbrev pub IsNextKey : ItemsBefore → List ℕ → Type 0

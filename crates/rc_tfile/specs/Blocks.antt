@@ -1,5 +1,5 @@
 -- The blocks of a partition, and the directory: what the partitions determine of the rest of the file.
-use Rattle.std.specs.Prelude.{ℕ, ◌+◌, nat_le, List, [], ◌∷◌, ◌++◌, length, map as list_map, if◌then◌else◌}
+use Rattle.std.specs.Prelude.{ℕ, ◌+◌, nat_le, List, [], ◌∷◌, ◌++◌, length, drop, map as list_map, if◌then◌else◌}
 use Rattle.std.specs.List.{flat_map}
 use Rattle.std.specs.Option.{unwrap_or}
 use Rattle.rc_position.specs.declared.positions.Pos.{Pos}
@@ -24,10 +24,9 @@ with_fragment (b ∷ c ∷ bs) new = b ∷ with_fragment (c ∷ bs) new
 
 -- the blocks of the partition so far: its rows and changes grouped in order
 abbrev pub blocks : ItemsBefore → List Block
-blocks [] = []
 blocks (RowItem key row ∷ before) = with_fragment (blocks before) (new_block before (RowItem key row) (row_pos key))
 blocks (ChangeItem x tomb ∷ before) = with_fragment (blocks before) (new_block before (ChangeItem x tomb) x)
-blocks (x ∷ before) = []
+blocks before = []
 
 -- where the nearest part begins
 abbrev pub part_offset : ItemsBefore → ℕ
@@ -59,20 +58,10 @@ entry_items e = EntryItem e.key e.off (length e.blocks) ∷ list_map BlockItem e
 abbrev pub ending : ItemsBefore → List Item
 ending before = flat_map entry_items (entries before) ++ TailItem (offset before) (length (entries before)) ∷ []
 
--- a list without its first item
-abbrev pub rest_of_items : List Item → List Item
-rest_of_items [] = []
-rest_of_items (x ∷ xs) = xs
-
 -- the items that must still come, behind the stop
 abbrev pub due : ItemsBefore → List Item
-due [] = []
-due (HeadItem schema ∷ before) = []
-due (PartItem key pt statics ∷ before) = []
-due (RowItem key row ∷ before) = []
-due (ChangeItem x tomb ∷ before) = []
-due (EndItem ∷ before) = []
 due (StopItem ∷ before) = ending (StopItem ∷ before)
-due (EntryItem key off blocks ∷ before) = rest_of_items (due before)
-due (BlockItem b ∷ before) = rest_of_items (due before)
-due (TailItem off parts ∷ before) = rest_of_items (due before)
+due (EntryItem key off blocks ∷ before) = drop 1 (due before)
+due (BlockItem b ∷ before) = drop 1 (due before)
+due (TailItem off parts ∷ before) = drop 1 (due before)
+due before = []

@@ -31,9 +31,7 @@ MayStand schema before (RowItem key row) = (item_place before ≡ Inside) × IsN
 MayStand schema before (ChangeItem x tomb) = (item_place before ≡ Inside) × IsNextPos before x × IsRangeBound schema x × (tomb ≢ tomb_in_force before)
 MayStand schema before EndItem = (item_place before ≡ Inside) × (tomb_in_force before ≡ None)
 MayStand schema before StopItem = item_place before ≡ Between
-MayStand schema before (EntryItem key off blocks) = IsDue before (EntryItem key off blocks)
-MayStand schema before (BlockItem b) = IsDue before (BlockItem b)
-MayStand schema before (TailItem off parts) = IsDue before (TailItem off parts)
+MayStand schema before x = IsDue before x
 
 -- an item fits where it stands
 abbrev pub ItemFits : SchemaValue → ItemsBefore → Item → Type 0
@@ -46,11 +44,10 @@ AllFit schema (x ∷ before) = AllFit schema before × ItemFits schema before x
 
 -- a fragment's item: the start and the static row stand in the part
 abbrev pub frag_items : Frag → List Item
-frag_items (frag.Start tomb) = []
-frag_items (frag.Static row) = []
 frag_items (frag.Row key row) = RowItem key row ∷ []
 frag_items (frag.Change x tomb) = ChangeItem x tomb ∷ []
 frag_items frag.End = EndItem ∷ []
+frag_items f = []
 
 -- a partition's items: its part, and its canonical fragments
 abbrev pub part_items : Partition → List Item

@@ -18,10 +18,10 @@ use Rattle.rc_ranges.specs.declared.pieces.Piece.{Piece}
 use Rattle.rc_ranges.specs.Cover.{IsCanonical}
 use Rattle.rc_mutation.specs.declared.fragments.Frag.{Frag}
 use Rattle.rc_mutation.specs.declared.mutations.Mutation.{Mutation}
-use Rattle.rc_mutation.specs.Fragments.{begins_at, changes_of, placed_change, placed_row}
+use Rattle.rc_mutation.specs.Fragments.{begins_at, changes_of, placed_change, placed_row, rows_and_changes}
 use Rattle.rc_mutation.specs.Source.{IsMutation}
 use Rattle.rc_mutation.specs.laws.FragMerge.{merge, merge_into, merge-nil, merge-in_order, fragment_of, rows-placed, changes-placed}
-use Rattle.rc_mutation.specs.Canonical.{rows_and_changes, ComesNext, IsBetweenRows, IsBounded, IsCanonicalList}
+use Rattle.rc_mutation.specs.Canonical.{ComesNext, IsBetweenRows, IsBounded, IsCanonicalList}
 use Rattle.rc_mutation.specs.laws.CanonicalMerging.{Keyed, Change, IsChanges}
 
 some_none : (t : Tomb) → Some t ≢ None

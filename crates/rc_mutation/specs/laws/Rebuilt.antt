@@ -13,10 +13,10 @@ use Rattle.rc_mutation.specs.declared.fragments.Frag.{Frag}
 use Rattle.rc_mutation.specs.declared.fragments.Frag.TheVariants as frag
 use Rattle.rc_mutation.specs.declared.mutations.Mutation.{Mutation}
 use Rattle.rc_mutation.specs.Statics.{has_cells_alone}
-use Rattle.rc_mutation.specs.Fragments.{changes_of, fragments, static_fragment}
+use Rattle.rc_mutation.specs.Fragments.{changes_of, fragments, static_fragment, rows_and_changes}
 use Rattle.rc_mutation.specs.Rows.{IsRows}
 use Rattle.rc_mutation.specs.laws.FragMerge.{merge, merge-in_order, fragment_of, rows-placed, changes-placed}
-use Rattle.rc_mutation.specs.Canonical.{rows_and_changes, IsBetweenRows, IsCanonicalList, IsMutationOf}
+use Rattle.rc_mutation.specs.Canonical.{IsBetweenRows, IsCanonicalList, IsMutationOf}
 use Rattle.rc_mutation.specs.laws.CanonicalMerging.{Change, rows_in, changes_in, changes-are, rows-sorted, merged}
 use Rattle.rc_mutation.specs.laws.CanonicalPieces.{pieces_from, pieces_in, changes-pieces, canonical-pieces}
 

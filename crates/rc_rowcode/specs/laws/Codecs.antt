@@ -12,7 +12,8 @@ use Rattle.rc_position.specs.declared.comps.Comp.TheVariants.{Int, Text}
 use Rattle.rc_position.specs.declared.positions.Weight.{Weight}
 use Rattle.rc_position.specs.declared.positions.Weight.TheVariants.{Before, At, After}
 use Rattle.rc_position.specs.declared.positions.Pos.{Pos}
-use Rattle.rc_rowcode.specs.Spelling.{stamp_code, time_code, length_code, optional_code, tomb_code, comp_code, key_code, weight_byte, pos_code, cell_code, IsTomb, IsComp, IsKey, IsPos, IsCell}
+use Rattle.rc_rowcode.specs.Spelling.{stamp_code, time_code, length_code, optional_code, tomb_code, comp_code, key_code, pos_code, cell_code, IsTomb, IsComp, IsKey, IsPos, IsCell}
+use Rattle.rc_position.specs.Position.{weight_number}
 use Rattle.rc_rowcode.specs.calls.Reading.{Parser, parse_stamp, parse_time, parse_length, parse_bytes, parse_optional, parse_tomb, parse_text, parse_component, parse_components, parse_key, parse_position, parse_live, parse_dead, parse_cell}
 use Rattle.rc_rowcode.specs.laws.Fields.{IsBytes, bytes_rest, Took, Codec, bind_some, map_some, guard_some, some_is, time_codec, length_codec, stamp_codec, bytes_took, bytes_again}
 
@@ -139,7 +140,7 @@ pos_took (suc (suc zero) ∷ rest) x fits e =
     subst (λ (y : Pos × List ℕ). Took pos_code IsPos (2 ∷ rest) y.0 y.1) a.2 (record { parts = ap (λ (w : List ℕ). 2 ∷ w) t.parts; left = t.left; fits = t.fits })
 pos_took (suc (suc (suc b)) ∷ rest) x fits e = absurd cc
 
-pos_parts_again : (k : List Comp) (w : Weight) (rest : List ℕ) → IsKey k → parse_position (weight_byte w ∷ (key_code k ++ rest)) ≡ Some (record { prefix = k; weight = w }, rest)
+pos_parts_again : (k : List Comp) (w : Weight) (rest : List ℕ) → IsKey k → parse_position (weight_number w ∷ (key_code k ++ rest)) ≡ Some (record { prefix = k; weight = w }, rest)
 unfolding parse_position
 pos_parts_again k Before rest fits = rw (key_again k rest fits) refl
 pos_parts_again k At rest fits = rw (key_again k rest fits) refl

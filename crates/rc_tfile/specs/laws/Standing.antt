@@ -1,5 +1,5 @@
 -- The items of partitions that fit a schema are those of a table of it: each may stand behind the ones before it.
-use Rattle.std.specs.Prelude.{◌≡◌, All, ⊤, true, false, cond, ◌++◌, List, [], ◌∷◌, Option, Some, None, IfSome, map as list_map}
+use Rattle.std.specs.Prelude.{◌≡◌, All, ⊤, true, false, cond, ◌++◌, List, [], ◌∷◌, drop, Option, Some, None, IfSome, map as list_map}
 use Rattle.std.proofs.Common.{refl, sym, ap, ◌∙◌, subst, T, ℕ, append_assoc}
 use Rattle.std.specs.declared.cmp.Ordering.{Ordering}
 use Rattle.std.specs.declared.cmp.Ordering.TheVariants.{Less, Equal, Greater}
@@ -19,15 +19,15 @@ use Rattle.rc_mutation.specs.declared.fragments.Frag.{Frag}
 use Rattle.rc_mutation.specs.declared.fragments.Frag.TheVariants as frag
 use Rattle.rc_mutation.specs.declared.mutations.Mutation.{Mutation}
 use Rattle.rc_mutation.specs.declared.mutations.Partition.{Partition}
-use Rattle.rc_mutation.specs.Fragments.{fragments, is_written, begins_at, changes_of, placed_change, placed_row}
+use Rattle.rc_mutation.specs.Fragments.{fragments, is_written, begins_at, changes_of, placed_change, placed_row, rows_and_changes}
 use Rattle.rc_mutation.specs.Source.{IsMutation}
 use Rattle.rc_mutation.specs.laws.FragMerge.{merge, merge_into, fragment_of, merge-in_order, rows-placed, changes-placed}
 use Rattle.rc_writes.specs.Allowed.{ChangeFits, IsRangeBound, IsRowOf}
-use Rattle.rc_mutation.specs.Canonical.{rows_and_changes, IsBounded, IsCanonicalList}
+use Rattle.rc_mutation.specs.Canonical.{IsBounded, IsCanonicalList}
 use Rattle.rc_mutation.specs.laws.CanonicalListed.{listed}
 use Rattle.rc_tfile.specs.Items.{Item, HeadItem, PartItem, RowItem, ChangeItem, EndItem, StopItem, EntryItem, BlockItem, TailItem, IsItem}
 use Rattle.rc_tfile.specs.Before.{ItemsBefore, Between, Inside, text, followed_by, item_place, last_key, last_pos, tomb_in_force, IsNextKey}
-use Rattle.rc_tfile.specs.Blocks.{DirectoryEntry, entries, entry_items, ending, rest_of_items, due}
+use Rattle.rc_tfile.specs.Blocks.{DirectoryEntry, entries, entry_items, ending, due}
 use Rattle.rc_tfile.specs.TableText.{MayStand, AllFit, frag_items, part_items, items_to_stop, whole_table, IsTable, PartsFit}
 use Rattle.rc_tfile.specs.laws.Drafts.{parts_of, body_is}
 use Rattle.rc_tfile.specs.laws.Follows.{all_append, by_recursion}
@@ -247,9 +247,9 @@ module _ (schema : SchemaValue) where
   -- what is due may stand, one item behind another
   due_stand : (xs : List Item) (before : ItemsBefore) → due before ≡ xs → AllByRecursion IsBehindStop xs → Stand before xs
   due_stand [] before e h = tt
-  due_stand (EntryItem key off count ∷ xs) before e h = ((xs, e), due_stand xs (EntryItem key off count ∷ before) (ap rest_of_items e) h.1)
-  due_stand (BlockItem b ∷ xs) before e h = ((xs, e), due_stand xs (BlockItem b ∷ before) (ap rest_of_items e) h.1)
-  due_stand (TailItem off parts ∷ xs) before e h = ((xs, e), due_stand xs (TailItem off parts ∷ before) (ap rest_of_items e) h.1)
+  due_stand (EntryItem key off count ∷ xs) before e h = ((xs, e), due_stand xs (EntryItem key off count ∷ before) (ap (drop 1) e) h.1)
+  due_stand (BlockItem b ∷ xs) before e h = ((xs, e), due_stand xs (BlockItem b ∷ before) (ap (drop 1) e) h.1)
+  due_stand (TailItem off parts ∷ xs) before e h = ((xs, e), due_stand xs (TailItem off parts ∷ before) (ap (drop 1) e) h.1)
   due_stand (HeadItem other ∷ xs) before e h = absurd h.0
   due_stand (PartItem key pt statics ∷ xs) before e h = absurd h.0
   due_stand (RowItem key row ∷ xs) before e h = absurd h.0
