@@ -1,5 +1,5 @@
 -- The rows and changes of a partition as a table spells them, and what they say: its rows by key, and its ranges between changes.
-use Rattle.std.specs.Prelude.{◌≡◌, ◌≢◌, All, ℕ, List, [], ◌∷◌, ◌++◌, Option, Some, None, map as list_map, if◌then◌else◌, nat_lt, length, take}
+use Rattle.std.specs.Prelude.{◌≡◌, ◌≢◌, All, ℕ, List, [], ◌∷◌, ◌++◌, Option, Some, None, if◌then◌else◌, nat_lt, length, take}
 use Rattle.std.specs.List.{flat_map, AllByRecursion}
 use Rattle.std.specs.Option.{option_map}
 use Rattle.std.specs.Int.{w64, from_le_bytes}
@@ -12,7 +12,7 @@ use Rattle.rc_ranges.specs.declared.pieces.Piece.{Piece}
 use Rattle.rc_mutation.specs.declared.fragments.Frag.{Frag}
 use Rattle.rc_mutation.specs.declared.fragments.Frag.TheVariants as frag
 use Rattle.rc_mutation.specs.declared.mutations.Mutation.{Mutation}
-use Rattle.rc_mutation.specs.Fragments.{changes_of, in_order, placed_change, placed_row, tomb_after}
+use Rattle.rc_mutation.specs.Fragments.{tomb_after}
 use Rattle.rc_mutation.specs.Source.{IsMutation}
 use Rattle.rc_mutation.specs.Canonical.{ComesNext, rows_and_changes}
 use Rattle.rc_position.specs.Position.{row_pos}
