@@ -73,9 +73,9 @@ impl TableFrags {
         ensures asks { DidAsk (answered result) self.old (W.asks store.old) self.new (W.asks store.new) }
     {
         match self.take_read(alloc, store) {
-            Ok(list) => {
-                let head = copy_head(alloc, &list);
-                self.list = Some(list);
+            Ok(read) => {
+                let head = copy_head(alloc, &read);
+                self.list = Some(read);
                 head
             }
             Err(err) => Err(err),
