@@ -22,11 +22,9 @@ use Rattle.rc_stream.specs.Stream.{Stream, force, row_at}
 
 -- where a row or a change stands: by position, and at one position a change before a row. The others stand before them
 abbrev pub place_of : Frag → Pos × ℕ
-place_of (frag.Start pt) = (record { prefix = []; weight = Before }, 0)
-place_of (frag.Static row) = (record { prefix = []; weight = Before }, 0)
 place_of (frag.Row key row) = (row_pos key, 1)
 place_of (frag.Change from tomb) = (from, 0)
-place_of frag.End = (record { prefix = []; weight = Before }, 0)
+place_of f = (record { prefix = []; weight = Before }, 0)
 
 -- a fragment at its place
 abbrev pub placed : Frag → (Pos × ℕ) × Frag

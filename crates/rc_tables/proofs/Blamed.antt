@@ -1,6 +1,6 @@
 -- What a lazy stream names as damaged, and for what it turned out to stand.
-use Rattle.std.specs.Prelude.{◌≡◌, ℕ, List, Option, Some, None, Result, Ok, Err, IfErr, IfOk, OnOk}
-use Rattle.std.proofs.Common.{refl, sym, ap, subst, ◌∙◌}
+use Rattle.std.specs.Prelude.{◌≡◌, ℕ, List, Option, Some, None, Result, Ok, Err, IfErr, IfOk}
+use Rattle.std.proofs.Common.{refl, sym, subst}
 use Rattle.rc_mutation.specs.declared.fragments.Head.{Head}
 use Rattle.rc_mutation.specs.declared.mutations.Mutation.{Mutation}
 use Rattle.rc_mutation.specs.Fragments.{fragments}
@@ -12,7 +12,7 @@ use Rattle.rc_stream.specs.Stream.{Stream, stream_of}
 use Rattle.rc_stream.specs.declared.streams.StreamErr.{StreamErr}
 use Rattle.rc_stream.specs.declared.streams.StreamErr.TheVariants.{Fault, Damaged, NoMemory}
 use Rattle.rc_tfile.specs.declared.info.TableInfo.{TableInfo}
-use Rattle.rc_tables.specs.Streams.{IsFresh, IsRead, IsSomeStream, Lazy, MayBe, MayBlame, MayRead, SameTables, Settled, IsLazyOf}
+use Rattle.rc_tables.specs.Streams.{IsFresh, IsRead, Lazy, MayBe, MayBlame, MayRead, SameTables, Settled, IsLazyOf}
 use Rattle.rc_tables.specs.Tables.{IsDamageOf}
 
 named_err : (t : Lazy) (e : StreamErr) → IsDamageOf t.schema t.key t.infos e → IsNamed (MayBlame t) e

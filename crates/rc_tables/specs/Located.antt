@@ -106,6 +106,5 @@ IsAtSpan n dir here later NoMemory = ⊤
 -- Damaged names file n, and where bytes begin that were read and contradict the table as checked: what its directory says of a partition, or
 -- the items of the partition
 abbrev pub Contradicts : SchemaValue → ℕ → ℕ → PartRef → List PartRef → StreamErr → Type 0
-Contradicts schema n dir here later Fault = ⊤
 Contradicts schema n dir here later (Damaged file offset) = (file ≡ n) × (((offset ≡ here.dir_off) × SaysNoSpan dir here later) ⊎ SaysNoPart schema dir here later offset)
-Contradicts schema n dir here later NoMemory = ⊤
+Contradicts schema n dir here later e = ⊤

@@ -1,5 +1,5 @@
 -- The rows and changes of a partition as a table spells them, and what they say: its rows by key, and its ranges between changes.
-use Rattle.std.specs.Prelude.{◌≡◌, ◌≢◌, All, ℕ, List, [], ◌∷◌, ◌++◌, Option, Some, None, map as list_map, if◌then◌else◌, nat_lt, length, take}
+use Rattle.std.specs.Prelude.{◌≡◌, ◌≢◌, All, ℕ, List, [], ◌∷◌, ◌++◌, Option, Some, None, if◌then◌else◌, nat_lt, length, take}
 use Rattle.std.specs.List.{flat_map, AllByRecursion}
 use Rattle.std.specs.Option.{option_map}
 use Rattle.std.specs.Int.{w64, from_le_bytes}
@@ -12,7 +12,7 @@ use Rattle.rc_ranges.specs.declared.pieces.Piece.{Piece}
 use Rattle.rc_mutation.specs.declared.fragments.Frag.{Frag}
 use Rattle.rc_mutation.specs.declared.fragments.Frag.TheVariants as frag
 use Rattle.rc_mutation.specs.declared.mutations.Mutation.{Mutation}
-use Rattle.rc_mutation.specs.Fragments.{changes_of, in_order, placed_change, placed_row, tomb_after, rows_and_changes}
+use Rattle.rc_mutation.specs.Fragments.{rows_and_changes, tomb_after}
 use Rattle.rc_mutation.specs.Source.{IsMutation}
 use Rattle.rc_mutation.specs.Canonical.{ComesNext}
 use Rattle.rc_position.specs.Position.{row_pos}
@@ -83,11 +83,9 @@ number_at_front bytes = if nat_lt (length bytes) 8 then None else Some (from_le_
 -- a row or a change of the schema may stand behind a last position, with a tombstone in force there: it stands behind it; something was
 -- written of a row; a change has another tombstone than the one in force
 abbrev pub MayCome : SchemaValue → Option Tomb → Option Pos → Frag → Type 0
-MayCome schema tomb last (frag.Start pt) = ⊥
-MayCome schema tomb last (frag.Static row) = ⊥
 MayCome schema tomb last (frag.Row key row) = ComesNext last (row_pos key) × (row ≢ empty_row) × IsRowOf schema key row
 MayCome schema tomb last (frag.Change x next) = ComesNext last x × (next ≢ tomb) × IsRangeBound schema x
-MayCome schema tomb last frag.End = ⊥
+MayCome schema tomb last f = ⊥
 
 -- rows and changes of the schema, each of which may stand behind those before it; at the end no tombstone is in force
 abbrev pub AllCome : SchemaValue → Option Tomb → Option Pos → List Frag → Type 0

@@ -95,6 +95,5 @@ InSome P (info ∷ infos) = P info ⊎ InSome P infos
 
 -- where Damaged is answered of a key, it names some table of the set that lists it
 abbrev pub IsDamageOf : SchemaValue → List ℕ → List TableInfo → StreamErr → Type 0
-IsDamageOf schema key infos Fault = ⊤
 IsDamageOf schema key infos (Damaged file offset) = InSome (λ info. IsDamageIn schema key info (Damaged file offset)) infos
-IsDamageOf schema key infos NoMemory = ⊤
+IsDamageOf schema key infos e = ⊤

@@ -7,7 +7,7 @@ ghost use Rattle.rc_stream.specs.Stream.{Stream, first_upto, is_upto, sought, to
 ghost use Rattle.rc_tables.specs.Located.{WhereTold};
 ghost use Rattle.rc_stream.specs.Did.{answered};
 ghost use Rattle.rc_tables.specs.Tables.{AreHeld, IsDamageOf, IsStreamAt, listing};
-ghost use Rattle.rc_tables.specs.Streams.{DidAsk, IsReady, IsSomeStream, MayBe, SameTables, Settled, IsLazyOf};
+ghost use Rattle.rc_tables.specs.Streams.{DidAsk, IsReady, IsSomeStream, MayBe, SameTables, Settled, IsLazyOf, asks_left};
 
 use crate::reading::read_joined;
 use crate::sets::TableSet;
@@ -72,8 +72,12 @@ impl TableFrags {
         ensures building { W.building store.new ≡ W.building store.old }
         ensures asks { DidAsk (answered result) self.old (W.asks store.old) self.new (W.asks store.new) }
     {
-        match self.load(alloc, store) {
-            Ok(()) => self.copy_head(alloc),
+        match self.take_read(alloc, store) {
+            Ok(read) => {
+                let head = copy_head(alloc, &read);
+                self.list = Some(read);
+                head
+            }
             Err(err) => Err(err),
         }
     }
@@ -98,8 +102,12 @@ impl TableFrags {
         ensures building { W.building store.new ≡ W.building store.old }
         ensures asks { DidAsk (answered result) self.old (W.asks store.old) self.new (W.asks store.new) }
     {
-        match self.load(alloc, store) {
-            Ok(()) => self.go_on(alloc, to),
+        match self.take_read(alloc, store) {
+            Ok(mut list) => {
+                let went = go_on(alloc, &mut list, to);
+                self.list = Some(list);
+                went
+            }
             Err(err) => Err(err),
         }
     }
@@ -127,90 +135,37 @@ impl TableFrags {
         ensures building { W.building store.new ≡ W.building store.old }
         ensures asks { DidAsk (answered result) self.old (W.asks store.old) self.new (W.asks store.new) }
     {
-        match self.load(alloc, store) {
-            Ok(()) => self.take_first(alloc, upto),
+        match self.take_read(alloc, store) {
+            Ok(mut list) => {
+                let taken = take_first(alloc, &mut list, upto);
+                self.list = Some(list);
+                taken
+            }
             Err(err) => Err(err),
         }
     }
 
-    // The head of what was read. The only error is want of memory.
-    fn copy_head(&self, alloc: Global) -> Result<Head, StreamErr>
-        ensures head { (s : Stream) → self.now.read ≡ Some s → IfOk result (λ head. head ≡ s.head) }
-        ensures memory { IfErr result (λ e. e ≡ StreamErr.NoMemory) }
-    {
-        let Some(list) = &self.list else {
-            return Err(StreamErr::NoMemory);
-        };
-        match list.copy_head(alloc) {
-            Ok(head) => Ok(head),
-            Err(_) => Err(StreamErr::NoMemory),
-        }
-    }
-
-    // Goes on to the position in what was read. The only error is want of memory.
-    fn go_on(&mut self, alloc: Global, to: &Pos) -> Result<(), StreamErr>
-        ensures left { (s : Stream) → self.old.read ≡ Some s → self.new.read ≡ Some (sought_by result to.now s) }
-        ensures tables { self.new.infos ≡ self.old.infos }
-        ensures schema { self.new.schema ≡ self.old.schema }
-        ensures key { self.new.key ≡ self.old.key }
-        ensures read { IsSome self.old.read → IsSome self.new.read }
-        ensures memory { IfErr result (λ e. e ≡ StreamErr.NoMemory) }
-    {
-        let Some(mut list) = self.list.take() else {
-            return Err(StreamErr::NoMemory);
-        };
-        let went = list.go_on(alloc, to);
-        self.list = Some(list);
-        match went {
-            Ok(()) => Ok(()),
-            Err(_) => Err(StreamErr::NoMemory),
-        }
-    }
-
-    // Takes the first of what was read, if it stands at the position or before it. The only error is want of memory.
-    fn take_first(&mut self, alloc: Global, upto: &Pos) -> Result<Option<Frag>, StreamErr>
-        ensures gives { (s : Stream) → self.old.read ≡ Some s → IfOk result (λ got. got ≡ first_upto upto.now s.left) }
-        ensures upto { IfOk result (λ got. IfSome got (λ f. IsTrue (is_upto upto.now f))) }
-        ensures left { (s : Stream) → self.old.read ≡ Some s → self.new.read ≡ Some (left_by result s) }
-        ensures tables { self.new.infos ≡ self.old.infos }
-        ensures schema { self.new.schema ≡ self.old.schema }
-        ensures key { self.new.key ≡ self.old.key }
-        ensures read { IsSome self.old.read → IsSome self.new.read }
-        ensures memory { IfErr result (λ e. e ≡ StreamErr.NoMemory) }
-    {
-        let Some(mut list) = self.list.take() else {
-            return Err(StreamErr::NoMemory);
-        };
-        let taken = list.take_first(alloc, upto);
-        self.list = Some(list);
-        match taken {
-            Ok(got) => Ok(got),
-            Err(_) => Err(StreamErr::NoMemory),
-        }
-    }
-
-    // Reads the partition, where it is not read yet.
-    fn load<W: Store>(&mut self, alloc: Global, store: &mut W) -> Result<(), StreamErr>
+    // Takes out what was read of the partition, and reads it where it is not read yet; where it is not there to be given, the
+    // stream is as it was.
+    fn take_read<W: Store>(&mut self, alloc: Global, store: &mut W) -> Result<ListFrags, StreamErr>
         requires { IsReady (W.files store.old) self.old }
-        ensures stands { (s : Stream) → IsLazyOf (W.files store.old) self.old s → IsLazyOf (W.files store.old) self.new s }
-        ensures loaded { OnOk result (IsSome self.new.read) }
-        ensures some { OnOk result ((s : Stream) × Settled self.old self.new s s) }
-        ensures might { (s : Stream) → MayBe self.new s → MayBe self.old s }
-        ensures tables { self.new.infos ≡ self.old.infos }
+        ensures stands { (s : Stream) → IsLazyOf (W.files store.old) self.old s → IfOk result (λ list. s ≡ list) }
+        ensures might { IfOk result (MayBe self.old) }
+        ensures infos { self.new.infos ≡ self.old.infos }
         ensures schema { self.new.schema ≡ self.old.schema }
         ensures key { self.new.key ≡ self.old.key }
+        ensures refused { IfErr result (λ _. self.new.read ≡ self.old.read) }
         ensures damaged { IfErr result (IsDamageOf self.old.schema self.old.key self.old.infos) }
         ensures cause { Caused result (W.files store.old) (W.faults store.old) (W.faults store.new) }
         ensures files { W.files store.new ≡ W.files store.old }
         ensures building { W.building store.new ≡ W.building store.old }
-        ensures asks { DidAsk (answered result) self.old (W.asks store.old) self.new (W.asks store.new) }
+        ensures asks { W.asks store.new ≤ W.asks store.old + asks_left self.old }
+        ensures quiet { IsSome self.old.read → W.asks store.new ≡ W.asks store.old }
     {
-        if let Some(_list) = &self.list {
-            return Ok(());
+        if let Some(list) = self.list.take() {
+            return Ok(list);
         }
-        let list = read_list(alloc, store, &self.set, self.schema.as_ref(), &self.key)?;
-        self.list = Some(list);
-        Ok(())
+        read_list(alloc, store, &self.set, self.schema.as_ref(), &self.key)
     }
 }
 
@@ -257,6 +212,42 @@ impl<H, W: Store> Frags<H, W> for TableFrags {
         upto: &Pos,
     ) -> Result<Option<Frag>, StreamErr> {
         self.next(alloc, store, upto)
+    }
+}
+
+// The head of what was read. The only error is want of memory.
+fn copy_head(alloc: Global, list: &ListFrags) -> Result<Head, StreamErr>
+    ensures head { IfOk result (λ head. head ≡ list.now.head) }
+    ensures memory { IfErr result (λ e. e ≡ StreamErr.NoMemory) }
+{
+    match list.copy_head(alloc) {
+        Ok(head) => Ok(head),
+        Err(_) => Err(StreamErr::NoMemory),
+    }
+}
+
+// Goes on to the position in what was read. The only error is want of memory: then it is as it was.
+fn go_on(alloc: Global, list: &mut ListFrags, to: &Pos) -> Result<(), StreamErr>
+    ensures left { list.new ≡ sought_by result to.now list.old }
+    ensures memory { IfErr result (λ e. e ≡ StreamErr.NoMemory) }
+{
+    match list.go_on(alloc, to) {
+        Ok(()) => Ok(()),
+        Err(_) => Err(StreamErr::NoMemory),
+    }
+}
+
+// Takes the first of what was read, if it stands at the position or before it. The only error is want of memory: then it is as
+// it was.
+fn take_first(alloc: Global, list: &mut ListFrags, upto: &Pos) -> Result<Option<Frag>, StreamErr>
+    ensures gives { IfOk result (λ got. got ≡ first_upto upto.now list.old.left) }
+    ensures upto { IfOk result (λ got. IfSome got (λ f. IsTrue (is_upto upto.now f))) }
+    ensures left { list.new ≡ left_by result list.old }
+    ensures memory { IfErr result (λ e. e ≡ StreamErr.NoMemory) }
+{
+    match list.take_first(alloc, upto) {
+        Ok(got) => Ok(got),
+        Err(_) => Err(StreamErr::NoMemory),
     }
 }
 
