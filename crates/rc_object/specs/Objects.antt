@@ -1,12 +1,14 @@
 -- What an object of a version holds: the head of a version, an entry, a static row.
 --     SpellsHead, SpellsEntry     the kind and the bytes behind the links stand for this head, or this entry
---     HoldsHead, HoldsEntry, HoldsStatic     the object does
+--     HoldsHead, HoldsEntry, HoldsStatic, HoldsRow     the object does
 --     IsMade, IsRewritten         an object was made, or the bytes of one were changed, and all else is as it was
-use Rattle.std.specs.Prelude.{◌≡◌, ℕ, ◌+◌, ◌*◌, ◌^◌, ◌<◌, ◌≤◌, min, List, [], ◌++◌, length, drop, Option, Some, None, IsSomeAnd, IfSome}
+--     HasRoomFor                  an object can be made
+use Rattle.std.specs.Prelude.{◌≡◌, ◌≢◌, ◌⊎◌, ℕ, ◌+◌, ◌*◌, ◌/◌, ◌≤◌, List, [], ◌++◌, length, take, drop, Option, Some, None, IsSomeAnd, IfSome}
 use Rattle.std.specs.Int.{w64, cast_unsigned}
-use Rattle.std.specs.Option.{option_map_or}
+use Rattle.std.specs.Option.{option_map, option_map_or}
 use Rattle.rc_cell.specs.declared.writes.Tomb.{Tomb}
 use Rattle.rc_cell.specs.declared.rows.Row.{Row}
+use Rattle.rc_position.specs.declared.positions.Pos.{Pos}
 use Rattle.rc_rowcode.specs.Spelling.{pos_code, row_code, IsPos, IsTomb, IsCodedRow}
 use Rattle.rc_core.specs.declared.entries.Entry.{Entry}
 use Rattle.rc_core.specs.declared.entries.Flag.{Flag}
@@ -18,8 +20,8 @@ use Rattle.lsa_kinds.specs.Fields.{number_at}
 use Rattle.lsa_pool.specs.Room.{spare_of}
 use Rattle.lsa_store.specs.declared.place.Ref.{Ref}
 use Rattle.lsa_store.specs.Objects.{rounded_size}
-use Rattle.lsa_region.specs.Region.{View, body, objects, live_bytes, IsAdded, IsWritten, IsWell, Risen}
-use Rattle.rc_object.specs.declared.head.Head.{Head}
+use Rattle.lsa_region.specs.Region.{View, body, objects, live_bytes, IsAdded, IsWritten, Risen}
+use Rattle.rc_object.specs.declared.heads.Head.{Head}
 
 -- a flag in two bits
 abbrev pub flag_code : Flag → ℕ
@@ -98,9 +100,37 @@ HoldsEntry v r e = IsSomeAnd (body v r) (λ b. SpellsEntry b e)
 abbrev pub HoldsStatic : View → Ref → Row → Type 0
 HoldsStatic v r row = (body v r ≡ Some (Static, row_code row)) × IsCodedRow row
 
+-- the object is a static row, or a row entry, with this row
+abbrev pub HoldsRow : View → Ref → Row → Type 0
+HoldsRow v r row = HoldsStatic v r row ⊎ ((e : Entry) × HoldsEntry v r e × (e.row ≡ Some row))
+
+-- the bytes are the code of this row
+abbrev pub IsRowCode : List ℕ → Row → Type 0
+IsRowCode bytes row = IsCodedRow row × (bytes ≡ row_code row)
+
+-- an entry at this position with this row and these marks
+abbrev pub entry_of : Pos → Option Row → Mark → Mark → Entry
+entry_of x row at gap = record { position = x; row = row; at = at; gap = gap }
+
+-- how many bytes lie behind the links of an entry at this position with this row, or with none
+abbrev pub entry_length : Pos → Option Row → ℕ
+entry_length x row = 32 + (length (pos_code x) + length (row_part row))
+
+-- an object can be made that takes so many bytes, by way of a scratch space of this size, in which it needs so much
+pub record HasRoomFor (S : ℕ) (v : View) (size space needed : ℕ) : Type 0 where
+  pub fits : size ≤ S / 8
+  pub spare : size ≤ spare_of S v.usages
+  pub inside : needed ≤ space
+
+-- a new object of this kind that takes so many bytes; an entry or a version has the balance 0
+pub record IsObjectMade (old new : View) (r : Ref) (size : ℕ) (kind : Kind) (bytes : List ℕ) : Type 0 where
+  pub added : IsAdded old new r kind bytes
+  pub size : rounded_size kind (length bytes) ≡ size
+  pub level : kind ≢ Static → number_at 1 1 bytes ≡ 0
+
 -- an object was made that takes so many bytes; all else is as it was
 pub record IsMade (S : ℕ) (old new : View) (r : Ref) (size : ℕ) : Type 0 where
-  pub added : (kind : Kind) × (bytes : List ℕ) × IsAdded old new r kind bytes × (rounded_size kind (length bytes) ≡ size) × (number_at 1 1 bytes ≡ 0)
+  pub object : (kind : Kind) × (bytes : List ℕ) × IsObjectMade old new r size kind bytes
   pub count : objects new ≡ objects old + 1
   pub spare : spare_of S old.usages ≤ spare_of S new.usages + size
   pub live : live_bytes new ≡ live_bytes old + size
@@ -112,3 +142,19 @@ pub record IsMade (S : ℕ) (old new : View) (r : Ref) (size : ℕ) : Type 0 whe
 -- the bytes of an object were changed, and all else is as it was
 abbrev pub IsRewritten : View → View → Ref → Type 0
 IsRewritten old new r = ((change : List ℕ → List ℕ) × IsWritten old new r change) × (objects new ≡ objects old)
+
+-- the kind, the balance, and the bytes from the length of the position on
+abbrev pub but_marks : Kind × List ℕ → Kind × (ℕ × List ℕ)
+but_marks b = (b.0, (number_at 1 1 b.1, drop 28 b.1))
+
+-- two bodies of entries are the same but for their marks
+abbrev pub IsSameButMarks : Option (Kind × List ℕ) → Option (Kind × List ℕ) → Type 0
+IsSameButMarks old new = option_map but_marks new ≡ option_map but_marks old
+
+-- the kind and all bytes but the balance
+abbrev pub but_level : Kind × List ℕ → Kind × (List ℕ × List ℕ)
+but_level b = (b.0, (take 1 b.1, drop 2 b.1))
+
+-- two bodies of entries are the same but for their balance
+abbrev pub IsSameButLevel : Option (Kind × List ℕ) → Option (Kind × List ℕ) → Type 0
+IsSameButLevel old new = option_map but_level new ≡ option_map but_level old
