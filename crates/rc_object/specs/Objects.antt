@@ -125,7 +125,7 @@ pub record HasRoomFor (S : ℕ) (v : View) (size space needed : ℕ) : Type 0 wh
 -- a new object of this kind that takes so many bytes; an entry or a version has the balance 0
 pub record IsObjectMade (old new : View) (r : Ref) (size : ℕ) (kind : Kind) (bytes : List ℕ) : Type 0 where
   pub added : IsAdded old new r kind bytes
-  pub size : rounded_size kind (length bytes) ≡ size
+  pub takes : rounded_size kind (length bytes) ≡ size
   pub level : kind ≢ Static → number_at 1 1 bytes ≡ 0
 
 -- an object was made that takes so many bytes; all else is as it was
