@@ -1,1 +1,4 @@
+pub mod Built
+pub mod OneValue
 pub mod PutFields
+pub mod Spelled

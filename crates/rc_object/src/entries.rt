@@ -1,10 +1,11 @@
 //! An entry of a version: its position, its row, and the marks at it and over the gap before it.
-ghost use Rattle.std.specs.Prelude.{◌≡◌};
+ghost use Rattle.std.specs.Prelude.{◌≡◌, ◌≤◌, length};
 ghost use Rattle.rc_cell.specs.declared.rows.Row.{Row};
 ghost use Rattle.rc_rowcode.specs.Spelling as spelling;
 ghost use Rattle.rc_core.specs.declared.entries.Entry.{Entry};
+ghost use Rattle.lsa_kinds.specs.Fields.{number_at};
 ghost use Rattle.lsa_region.specs.Region.{body, IsWell};
-ghost use Rattle.rc_object.specs.Objects.{HoldsEntry, HoldsRow, IsRewritten, IsSameButMarks, entry_of};
+ghost use Rattle.rc_object.specs.Objects.{HoldsEntry, HoldsRow, IsRewritten, IsSameButMarks, SpellsMarks, entry_of};
 
 use crate::bytes::{flag_from, put_marks, tomb_from};
 use lsa_kinds::Kind;
@@ -34,6 +35,19 @@ pub fn marks<const S: usize>(region: &Region<S>, e: Ref) -> (Mark, Mark)
     (at, gap)
 }
 
+// The first bytes of an entry, with other marks.
+fn marked(bytes: &[u8], at: Mark, gap: Mark) -> [u8; 28]
+    requires { 28 ≤ length bytes.now }
+    ensures marks { SpellsMarks result at gap }
+    ensures level { number_at 1 1 result ≡ number_at 1 1 bytes.now }
+    ensures long { length result ≡ 28 }
+{
+    let mut front = [0; 28];
+    front.copy_from_slice(&bytes[..28]);
+    put_marks(&mut front, at, gap);
+    front
+}
+
 /// Gives an entry other marks. Its position and its row stay, and its balance.
 pub fn set_marks<const S: usize>(region: &mut Region<S>, e: Ref, at: Mark, gap: Mark)
     requires { (x : Entry) × HoldsEntry region.old e x }
@@ -42,9 +56,7 @@ pub fn set_marks<const S: usize>(region: &mut Region<S>, e: Ref, at: Mark, gap: 
     ensures rewritten { IsRewritten region.old region.new e }
     ensures well { IsWell region.new }
 {
-    let mut front = [0; 28];
-    front.copy_from_slice(&region.bytes(e)[..28]);
-    put_marks(&mut front, at, gap);
+    let front = marked(region.bytes(e), at, gap);
     region.write(e, 0, &front);
 }
 

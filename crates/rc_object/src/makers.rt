@@ -1,5 +1,5 @@
 //! Objects of a version that are made anew.
-ghost use Rattle.std.specs.Prelude.{◌≡◌, ◌≢◌, ◌+◌, ◌/◌, ◌<◌, ◌^◌, ◌≤◌, [], ◌∷◌, length, Some, None};
+ghost use Rattle.std.specs.Prelude.{◌≡◌, ◌≢◌, ◌+◌, ◌/◌, ◌<◌, ◌^◌, ◌≤◌, [], ◌∷◌, ◌++◌, length, Some, None};
 ghost use Rattle.lsa_kinds.specs.Fields.{number_at};
 ghost use Rattle.lsa_pool.specs.Room.{spare_of};
 ghost use Rattle.lsa_store.specs.Objects.{rounded_size};
@@ -7,12 +7,14 @@ ghost use Rattle.lsa_region.specs.Region.{body, IsWell};
 ghost use Rattle.rc_cell.specs.declared.rows.Row.{Row};
 ghost use Rattle.rc_cell.specs.Winner.{joined_row};
 ghost use Rattle.rc_position.specs.Position.{row_pos};
+ghost use Rattle.rc_rowcode.specs.Space.{HasRoom};
 ghost use Rattle.rc_rowcode.specs.Objects.{dummy_size, entry_size, static_size};
 ghost use Rattle.rc_rowcode.specs.Spelling.{pos_code, row_code as code_of, KeyFits};
 ghost use Rattle.rc_core.specs.declared.entries.Entry.{Entry};
 ghost use Rattle.rc_core.specs.Change.{dummy, joined_onto, with_row};
 ghost use Rattle.rc_core.specs.Version.{end_position};
 ghost use Rattle.rc_object.specs.Objects.{HoldsEntry, HoldsRow, HoldsStatic, IsRowCode, HasRoomFor, IsMade, SpellsMarks, entry_of, entry_length};
+ghost use Rattle.rc_object.specs.calls.Making.{IsEntryBegun};
 
 use crate::bytes::put_marks;
 use crate::entries::{marks, position_code, row_code};
@@ -41,6 +43,7 @@ fn entry_front(at: Mark, gap: Mark, size: usize) -> [u8; 32]
     ensures marks { SpellsMarks result at gap }
     ensures level { number_at 1 1 result ≡ 0 }
     ensures size { number_at 28 4 result ≡ size }
+    ensures long { length result ≡ 32 }
 {
     let mut bytes = [0; 32];
     put_marks(&mut bytes, at, gap);
@@ -51,6 +54,8 @@ fn entry_front(at: Mark, gap: Mark, size: usize) -> [u8; 32]
 // Puts the bytes of an entry at the position of another one, up to its row, and nothing else.
 fn begin_like<const S: usize>(region: &Region<S>, e: Ref, at: Mark, gap: Mark, sc: &mut Scratch)
     requires { (x : Entry) × HoldsEntry region.now e x × (32 + length (pos_code x.position) ≤ sc.old.size) }
+    ensures begun { (x : Entry) → HoldsEntry region.now e x → IsEntryBegun sc.new.bytes x.position at gap }
+    ensures size { sc.new.size ≡ sc.old.size }
 {
     let code = position_code(region, e);
     sc.clear();
@@ -59,7 +64,10 @@ fn begin_like<const S: usize>(region: &Region<S>, e: Ref, at: Mark, gap: Mark, s
 }
 
 // Puts the code of an entry's row with the row of this code joined to it.
-fn put_joined<const S: usize>(region: &Region<S>, e: Ref, code: &[u8], sc: &mut Scratch) {
+fn put_joined<const S: usize>(region: &Region<S>, e: Ref, code: &[u8], sc: &mut Scratch)
+    requires { (x : Entry) × (row : Row) × HoldsEntry region.now e x × IsRowCode code.now row × HasRoom sc.old (length (code_of (joined_onto x.row row))) }
+    ensures { (x : Entry) (row : Row) → HoldsEntry region.now e x → IsRowCode code.now row → sc.new ≡ record { bytes = sc.old.bytes ++ code_of (joined_onto x.row row); size = sc.old.size } }
+{
     match region.kind(e) {
         Kind::RowEntry => join_codes(row_code(region, e), code, sc),
         Kind::Version | Kind::Dummy | Kind::Static => sc.put(code),
