@@ -1,13 +1,22 @@
 -- The bytes of an entry that is made: its front, its position, its row.
-use Rattle.std.proofs.Common.{◌≡◌, ℕ, ◌+◌, ◌≤◌, List, ◌++◌, length, take, drop, Option, Some, None, refl, ap, sym, ◌∙◌, subst, arith, length-append}
-use Rattle.std.specs.Prelude.{IfSome}
+use Rattle.std.proofs.Common.{◌≡◌, ℕ, ◌+◌, ◌*◌, ◌≤◌, List, [], ◌∷◌, ◌++◌, length, take, drop, Option, Some, None, refl, ap, sym, ◌∙◌, subst, arith, length-append}
+use Rattle.std.specs.Prelude.{IfSome, IsSomeAnd}
 use Rattle.std.proofs.Math.Seq.{drop-append_seam}
-use Rattle.std.proofs.lemmas.List.{drop-append-le}
+use Rattle.std.proofs.lemmas.List.{drop-append-le, append-nil}
 use Rattle.rc_cell.specs.declared.rows.Row.{Row}
 use Rattle.rc_position.specs.declared.positions.Pos.{Pos}
-use Rattle.rc_rowcode.specs.Spelling.{pos_code, IsPos, IsCodedRow}
+use Rattle.rc_cell.specs.Winner.{joined_row}
+use Rattle.rc_rowcode.specs.Objects.{dummy_size, entry_size}
+use Rattle.rc_rowcode.specs.Space.{Space, HasRoom}
+use Rattle.rc_rowcode.specs.Spelling.{pos_code, row_code, IsPos, IsCodedRow}
+use Rattle.rc_core.specs.declared.entries.Entry.{Entry}
+use Rattle.rc_core.specs.Change.{dummy, joined_onto}
 use Rattle.rc_core.specs.declared.entries.Mark.{Mark}
+use Rattle.lsa_kinds.specs.declared.kind.Kind.{Kind}
+use Rattle.lsa_kinds.specs.declared.kind.Kind.TheVariants.{RowEntry, Dummy}
+use Rattle.lsa_kinds.specs.Kinds.{up8}
 use Rattle.lsa_kinds.specs.Fields.{number_at}
+use Rattle.lsa_store.specs.Objects.{rounded_size}
 use Rattle.rc_object.specs.Objects.{SpellsMarks, SpellsEntry, entry_kind, row_part, entry_of}
 use Rattle.rc_object.specs.calls.Making.{IsEntryBegun}
 use Rattle.rc_object.proofs.Spelled.{number_front, marks_front}
@@ -37,3 +46,70 @@ level_built front rest x at gap w = number_front 1 1 front rest (omega (arith, w
 
 pub length_built : (front rest : List ℕ) (x : Pos) (at gap : Mark) → IsEntryBegun front x at gap → length (front ++ rest) ≡ 32 + (length (pos_code x) + length rest)
 length_built front rest x at gap w = omega (arith, length-append front rest, w.long)
+
+-- ---- what is put into the scratch space
+
+pub put_once : (s t : Space) (size : ℕ) (front : List ℕ) → s ≡ record { bytes = []; size = size } → t ≡ record { bytes = s.bytes ++ front; size = s.size } → t ≡ record { bytes = front; size = size }
+put_once s t size front e f = f ∙ ap (λ (u : Space). record { bytes = u.bytes ++ front; size = u.size }) e
+
+pub put_more : (s t : Space) (size : ℕ) (front more rest : List ℕ) → s ≡ record { bytes = front; size = size } → t ≡ record { bytes = s.bytes ++ more; size = s.size } → more ≡ rest → t ≡ record { bytes = front ++ rest; size = size }
+put_more s t size front more rest e f same = f ∙ ap (λ (u : Space). record { bytes = u.bytes ++ more; size = u.size }) e ∙ ap (λ (l : List ℕ). record { bytes = front ++ l; size = size }) same
+
+pub bytes_put : (s : Space) (bytes : List ℕ) (size : ℕ) → s ≡ record { bytes = bytes; size = size } → s.bytes ≡ bytes
+bytes_put s bytes size e = ap (λ (u : Space). u.bytes) e
+
+pub size_put : (s : Space) (bytes : List ℕ) (size : ℕ) → s ≡ record { bytes = bytes; size = size } → s.size ≡ size
+size_put s bytes size e = ap (λ (u : Space). u.size) e
+
+-- ---- the rows of entries
+
+-- a row entry has a row
+some_row : (row : Option Row) → entry_kind row ≡ RowEntry → IfSome row IsCodedRow → (r : Row) × (row ≡ Some r) × IsCodedRow r
+some_row None e h = cc
+some_row (Some r) e h = (r, refl, h)
+
+pub row_of : (o : Option (Kind × List ℕ)) (e : Entry) (kind : Kind) → IsSomeAnd o (λ b. SpellsEntry b e) → IsSomeAnd o (λ b. b.0 ≡ kind) → kind ≡ RowEntry → (r : Row) × (e.row ≡ Some r) × IsCodedRow r
+row_of None e kind h k is = absurd h
+row_of (Some b) e kind h k is = some_row e.row (sym h.kind ∙ k ∙ is) h.row
+
+-- a row that has no bytes to be joined with
+no_row : (row : Option Row) (kind : Kind) → kind ≡ entry_kind row → (kind ≡ RowEntry → ⊥) → row ≡ None
+no_row None kind e ne = refl
+no_row (Some r) kind e ne = absurd (ne e)
+
+pub row_none : (o : Option (Kind × List ℕ)) (e : Entry) (kind : Kind) → IsSomeAnd o (λ b. SpellsEntry b e) → IsSomeAnd o (λ b. b.0 ≡ kind) → (kind ≡ RowEntry → ⊥) → e.row ≡ None
+row_none None e kind h k ne = absurd h
+row_none (Some b) e kind h k ne = no_row e.row kind (sym k ∙ h.kind) ne
+
+pub onto_is : (have : Option Row) (own row r q : Row) → have ≡ Some own → r ≡ own → q ≡ row → joined_onto have row ≡ joined_row (r ∷ q ∷ [])
+onto_is have own row r q is first second =
+    ap (λ o. joined_onto o row) is ∙ ap (λ a. joined_row (a ∷ row ∷ [])) (sym first) ∙ ap (λ a. joined_row (r ∷ a ∷ [])) (sym second)
+
+pub place_of : (o : Option (Kind × List ℕ)) (e : Entry) → IsSomeAnd o (λ b. SpellsEntry b e) → IsPos e.position
+place_of None e h = absurd h
+place_of (Some b) e h = h.position
+
+-- ---- an entry whose bytes are ready
+
+-- the bytes are those of an entry of this kind, which takes so much room, with the balance 0
+pub record IsReady (bytes : List ℕ) (kind : Kind) (e : Entry) (size : ℕ) : Type 0 where
+  pub spelled : SpellsEntry (kind, bytes) e
+  pub level : number_at 1 1 bytes ≡ 0
+  pub takes : rounded_size kind (length bytes) ≡ size
+
+pub ready_dummy : (bytes : List ℕ) (x : Pos) (m : Mark) → IsEntryBegun bytes x m m → IsReady bytes Dummy (dummy x m) (dummy_size x)
+ready_dummy bytes x m w =
+    let same : 8 + 8 * 5 + length bytes ≡ 80 + length (pos_code x) = omega (arith, w.long) in record {
+      spelled = subst (λ l. SpellsEntry (Dummy, l) (dummy x m)) (append-nil bytes) (entry_built bytes x m m None w tt);
+      level = w.level;
+      takes = ap up8 same;
+    }
+
+pub ready_row : (bytes front : List ℕ) (x : Pos) (at gap : Mark) (row : Row) → IsEntryBegun front x at gap → IsCodedRow row → front ++ row_code row ≡ bytes → IsReady bytes RowEntry (entry_of x (Some row) at gap) (entry_size x.prefix row)
+ready_row bytes front x at gap row w coded is =
+    let same : 8 + 8 * 5 + length (front ++ row_code row) ≡ 80 + (length (pos_code x) + length (row_code row)) = omega (arith, length_built front (row_code row) x at gap w) in
+    subst (λ l. IsReady l RowEntry (entry_of x (Some row) at gap) (entry_size x.prefix row)) is (record {
+      spelled = entry_built front x at gap (Some row) w coded;
+      level = level_built front (row_code row) x at gap w;
+      takes = ap up8 same;
+    })
