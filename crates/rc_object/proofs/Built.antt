@@ -1,25 +1,27 @@
 -- The bytes of an entry that is made: its front, its position, its row.
-use Rattle.std.proofs.Common.{◌≡◌, ℕ, ◌+◌, ◌*◌, ◌≤◌, List, [], ◌∷◌, ◌++◌, length, take, drop, Option, Some, None, refl, ap, sym, ◌∙◌, subst, arith, length-append}
+use Rattle.std.proofs.Common.{◌≡◌, ℕ, ◌+◌, ◌*◌, ◌≤◌, List, [], ◌∷◌, ◌++◌, length, take, drop, Option, Some, None, inl, inr, refl, ap, sym, ◌∙◌, subst, arith, length-append}
 use Rattle.std.specs.Prelude.{IfSome, IsSomeAnd}
 use Rattle.std.proofs.Math.Seq.{drop-append_seam}
 use Rattle.std.proofs.lemmas.List.{drop-append-le, append-nil}
 use Rattle.rc_cell.specs.declared.rows.Row.{Row}
 use Rattle.rc_position.specs.declared.positions.Pos.{Pos}
 use Rattle.rc_cell.specs.Winner.{joined_row}
-use Rattle.rc_rowcode.specs.Objects.{dummy_size, entry_size}
+use Rattle.rc_rowcode.specs.Objects.{dummy_size, entry_size, static_size}
 use Rattle.rc_rowcode.specs.Space.{Space, HasRoom}
 use Rattle.rc_rowcode.specs.Spelling.{pos_code, row_code, IsPos, IsCodedRow}
 use Rattle.rc_core.specs.declared.entries.Entry.{Entry}
 use Rattle.rc_core.specs.Change.{dummy, joined_onto}
 use Rattle.rc_core.specs.declared.entries.Mark.{Mark}
 use Rattle.lsa_kinds.specs.declared.kind.Kind.{Kind}
-use Rattle.lsa_kinds.specs.declared.kind.Kind.TheVariants.{RowEntry, Dummy}
+use Rattle.lsa_kinds.specs.declared.kind.Kind.TheVariants.{RowEntry, Dummy, Static}
 use Rattle.lsa_kinds.specs.Kinds.{up8}
 use Rattle.lsa_kinds.specs.Fields.{number_at}
 use Rattle.lsa_store.specs.Objects.{rounded_size}
-use Rattle.rc_object.specs.Objects.{SpellsMarks, SpellsEntry, entry_kind, row_part, entry_of}
+use Rattle.lsa_store.specs.declared.place.Ref.{Ref}
+use Rattle.lsa_region.specs.Region.{View, body}
+use Rattle.rc_object.specs.Objects.{SpellsMarks, SpellsEntry, entry_kind, row_part, entry_of, HoldsRow, HoldsStatic}
 use Rattle.rc_object.specs.calls.Making.{IsEntryBegun}
-use Rattle.rc_object.proofs.Spelled.{number_front, marks_front}
+use Rattle.rc_object.specs.laws.Spelled.{number_front, marks_front}
 
 pub begun : (front : List ℕ) (x : Pos) (at gap : Mark) → length front ≡ 32 → SpellsMarks front at gap → number_at 1 1 front ≡ 0 → number_at 28 4 front ≡ length (pos_code x) → IsPos x → IsEntryBegun (front ++ pos_code x) x at gap
 begun front x at gap long marks level size coded = record {
@@ -113,3 +115,36 @@ ready_row bytes front x at gap row w coded is =
       level = level_built front (row_code row) x at gap w;
       takes = ap up8 same;
     })
+
+-- an object that holds an entry
+pub held : (o : Option (Kind × List ℕ)) (kind : Kind) (bytes : List ℕ) (e : Entry) → o ≡ Some (kind, bytes) → SpellsEntry (kind, bytes) e → IsSomeAnd o (λ b. SpellsEntry b e)
+held o kind bytes e here w = let P : Option (Kind × List ℕ) → Type 0 = λ p. IsSomeAnd p (λ b. SpellsEntry b e) in subst P (sym here) w
+
+-- ---- rows that have codes
+
+coded_as : (row : Option Row) (r : Row) → row ≡ Some r → IfSome row IsCodedRow → IsCodedRow r
+coded_as row r is h = subst (λ o. IfSome o IsCodedRow) is h
+
+coded_at : (o : Option (Kind × List ℕ)) (e : Entry) (row : Row) → IsSomeAnd o (λ b. SpellsEntry b e) → e.row ≡ Some row → IsCodedRow row
+coded_at None e row h is = absurd h
+coded_at (Some b) e row h is = coded_as e.row row is h.row
+
+pub coded_of : (v : View) (r : Ref) (row : Row) → HoldsRow v r row → IsCodedRow row
+coded_of v r row (inl h) = h.1
+coded_of v r row (inr h) = coded_at (body v r) h.0 row h.1 h.2
+
+coded_onto : ((r q : Row) → IsCodedRow r → IsCodedRow q → IsCodedRow (joined_row (r ∷ q ∷ []))) → (have : Option Row) (row : Row) → IfSome have IsCodedRow → IsCodedRow row → IsCodedRow (joined_onto have row)
+coded_onto law None row h k = k
+coded_onto law (Some own) row h k = law own row h k
+
+pub coded_joined : ((r q : Row) → IsCodedRow r → IsCodedRow q → IsCodedRow (joined_row (r ∷ q ∷ []))) → (o : Option (Kind × List ℕ)) (e : Entry) (row : Row) → IsSomeAnd o (λ b. SpellsEntry b e) → IsCodedRow row → IsCodedRow (joined_onto e.row row)
+coded_joined law None e row h k = absurd h
+coded_joined law (Some b) e row h k = coded_onto law e.row row h.row k
+
+-- ---- static rows
+
+pub static_takes : (bytes : List ℕ) (row : Row) → bytes ≡ row_code row → rounded_size Static (length bytes) ≡ static_size row
+static_takes bytes row is = let same : 8 + 8 * 3 + length bytes ≡ 32 + length (row_code row) = omega (arith, ap length is) in ap up8 same
+
+pub static_held : (v : View) (r : Ref) (bytes : List ℕ) (row : Row) → body v r ≡ Some (Static, bytes) → bytes ≡ row_code row → IsCodedRow row → HoldsStatic v r row
+static_held v r bytes row here is coded = (here ∙ ap (λ l. Some (Static, l)) is, coded)

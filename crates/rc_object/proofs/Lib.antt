@@ -1,4 +1,2 @@
 pub mod Built
-pub mod OneValue
 pub mod PutFields
-pub mod Spelled

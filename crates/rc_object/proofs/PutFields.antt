@@ -15,7 +15,7 @@ pub record HasMarks (old new : List ℕ) (flags deletion timestamp gap_timestamp
   pub level : number_at 1 1 new ≡ number_at 1 1 old
   pub rest : drop 28 new ≡ drop 28 old
 
-drop_on : (more offset : ℕ) (old new : List ℕ) → drop offset new ≡ drop offset old → drop (offset + more) new ≡ drop (offset + more) old
+pub drop_on : (more offset : ℕ) (old new : List ℕ) → drop offset new ≡ drop offset old → drop (offset + more) new ≡ drop (offset + more) old
 drop_on more offset old new same = sym (drop-drop more offset new) ∙ ap (drop more) same ∙ drop-drop more offset old
 
 pub marks_put : (a b c d e f : List ℕ) (flags deletion timestamp gap_timestamp gap_deletion : ℕ)
@@ -32,19 +32,21 @@ marks_put a b c d e f flags deletion timestamp gap_timestamp gap_deletion one tw
 }
 
 -- these numbers stand in the fields of a head
-pub record HasHead (new : List ℕ) (flags deletion timestamp phase : ℕ) : Type 0 where
+pub record HasHead (old new : List ℕ) (flags deletion timestamp phase : ℕ) : Type 0 where
   pub flags_is : number_at 0 1 new ≡ flags
   pub deletion_is : number_at 4 4 new ≡ deletion
   pub timestamp_is : number_at 8 8 new ≡ timestamp
   pub phase_is : number_at 16 8 new ≡ phase
+  pub level : number_at 1 1 new ≡ number_at 1 1 old
 
 pub head_put : (a b c d e : List ℕ) (flags deletion timestamp phase : ℕ)
-    → IsPut a b 0 1 flags → IsPut b c 4 4 deletion → IsPut c d 8 8 timestamp → IsPut d e 16 8 phase → HasHead e flags deletion timestamp phase
+    → IsPut a b 0 1 flags → IsPut b c 4 4 deletion → IsPut c d 8 8 timestamp → IsPut d e 16 8 phase → HasHead a e flags deletion timestamp phase
 head_put a b c d e flags deletion timestamp phase one two three four = record {
   flags_is = four.others 0 1 (inl (omega arith)) ∙ three.others 0 1 (inl (omega arith)) ∙ two.others 0 1 (inl (omega arith)) ∙ one.written;
   deletion_is = four.others 4 4 (inl (omega arith)) ∙ three.others 4 4 (inl (omega arith)) ∙ two.written;
   timestamp_is = four.others 8 8 (inl (omega arith)) ∙ three.written;
   phase_is = four.written;
+  level = four.others 1 1 (inl (omega arith)) ∙ three.others 1 1 (inl (omega arith)) ∙ two.others 1 1 (inl (omega arith)) ∙ one.others 1 1 (inr (omega arith));
 }
 
 -- marks stay where the length of the position is put

@@ -1,5 +1,6 @@
 //! The head of a version: its partition tombstone, the flag of its static row, and its phase.
 ghost use Rattle.std.specs.Prelude.{◌≡◌, ◌/◌, ◌≤◌};
+ghost use Rattle.lsa_kinds.specs.Fields.{number_at};
 ghost use Rattle.lsa_pool.specs.Room.{spare_of};
 ghost use Rattle.lsa_region.specs.Region.{IsWell};
 ghost use Rattle.rc_object.specs.declared.heads.Head.{Head as HeadValue};
@@ -26,7 +27,8 @@ pub struct Head {
 
 // The bytes behind the links of a version with this head.
 fn head_bytes(head: Head) -> [u8; 24]
-    ensures { SpellsHead (Kind.Version, result) head }
+    ensures spells { SpellsHead (Kind.Version, result) head }
+    ensures level { number_at 1 1 result ≡ 0 }
 {
     let (present, timestamp, deletion) = tomb_parts(head.partition_tombstone);
     let mut bytes = [0; 24];

@@ -9,7 +9,7 @@ ghost use Rattle.rc_cell.specs.Winner.{joined_row};
 ghost use Rattle.rc_position.specs.Position.{row_pos};
 ghost use Rattle.rc_rowcode.specs.Space.{HasRoom};
 ghost use Rattle.rc_rowcode.specs.Objects.{dummy_size, entry_size, static_size};
-ghost use Rattle.rc_rowcode.specs.Spelling.{pos_code, row_code as code_of, KeyFits};
+ghost use Rattle.rc_rowcode.specs.Spelling.{pos_code, row_code as code_of, IsCodedRow, KeyFits};
 ghost use Rattle.rc_core.specs.declared.entries.Entry.{Entry};
 ghost use Rattle.rc_core.specs.Change.{dummy, joined_onto, with_row};
 ghost use Rattle.rc_core.specs.Version.{end_position};
@@ -23,6 +23,7 @@ use lsa_kinds::layout::entry::PositionSize;
 use lsa_region::{Ref, Region};
 use rc_core::Mark;
 use rc_position::{Key, Pos};
+use rc_rowcode::laws::joined_row_has_a_code;
 use rc_rowcode::{Scratch, join_codes, key_size, pos_size};
 
 /// Makes an object of this kind with these bytes behind its links.
@@ -66,8 +67,10 @@ fn begin_like<const S: usize>(region: &Region<S>, e: Ref, at: Mark, gap: Mark, s
 // Puts the code of an entry's row with the row of this code joined to it.
 fn put_joined<const S: usize>(region: &Region<S>, e: Ref, code: &[u8], sc: &mut Scratch)
     requires { (x : Entry) × (row : Row) × HoldsEntry region.now e x × IsRowCode code.now row × HasRoom sc.old (length (code_of (joined_onto x.row row))) }
-    ensures { (x : Entry) (row : Row) → HoldsEntry region.now e x → IsRowCode code.now row → sc.new ≡ record { bytes = sc.old.bytes ++ code_of (joined_onto x.row row); size = sc.old.size } }
+    ensures joined { (x : Entry) (row : Row) → HoldsEntry region.now e x → IsRowCode code.now row → sc.new ≡ record { bytes = sc.old.bytes ++ code_of (joined_onto x.row row); size = sc.old.size } }
+    ensures coded { (x : Entry) (row : Row) → HoldsEntry region.now e x → IsRowCode code.now row → IsCodedRow (joined_onto x.row row) }
 {
+    joined_row_has_a_code();
     match region.kind(e) {
         Kind::RowEntry => join_codes(row_code(region, e), code, sc),
         Kind::Version | Kind::Dummy | Kind::Static => sc.put(code),
@@ -243,6 +246,7 @@ pub fn make_joined_static<const S: usize>(
     ensures size { sc.new.size ≡ sc.old.size }
     ensures well { IsWell region.new }
 {
+    joined_row_has_a_code();
     sc.clear();
     join_codes(row_code(region, s), row_code(region, from), sc);
     make(region, Kind::Static, sc.bytes())

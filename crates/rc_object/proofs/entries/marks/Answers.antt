@@ -1,6 +1,6 @@
 use Rattle.std.proofs.Common.{◌∙◌, sym, arith}
 use Rattle.lsa_region.specs.Region.{body}
-use Rattle.rc_object.proofs.Spelled.{seen_entry, entry_long, entry_bits, deletion_small, mark_is}
+use Rattle.rc_object.specs.laws.Spelled.{seen_entry, entry_long, entry_bits, deletion_small, mark_is}
 use Rattle.rc_object.proofs.entries.marks.Goals as goal
 
 pub get-gap_timestamp-requires-clause-inside : goal.get-gap_timestamp-requires-clause-inside
@@ -26,9 +26,9 @@ returns g c = λ x holds.
     let w = (seen_entry (body c.args.region.now c.args.e) x c.bytes-bytes.result.now holds c.bytes-bytes.ensures).marks in
     let bits = entry_bits c.get-flags.result x.at x.gap (c.get-flags.ensures ∙ w.flags) in (
       mark_is x.at _ _
-      (c.flag_from.ensures x.at.flag bits.at_flag)
-      (c.tomb_from.ensures x.at.tomb w.tomb_at bits.at_tomb (c.get-at_timestamp.ensures ∙ w.timestamp_at) (c.get-at_deletion.ensures ∙ w.deletion_at)),
+          (c.flag_from.ensures x.at.flag bits.at_flag)
+          (c.tomb_from.ensures x.at.tomb w.tomb_at bits.at_tomb (c.get-at_timestamp.ensures ∙ w.timestamp_at) (c.get-at_deletion.ensures ∙ w.deletion_at)),
       mark_is x.gap _ _
-      (c.flag_from-2.ensures x.gap.flag bits.gap_flag)
-      (c.tomb_from-2.ensures x.gap.tomb w.tomb_gap bits.gap_tomb (c.get-gap_timestamp.ensures ∙ w.timestamp_gap) (c.get-gap_deletion.ensures ∙ w.deletion_gap)),
+          (c.flag_from-2.ensures x.gap.flag bits.gap_flag)
+          (c.tomb_from-2.ensures x.gap.tomb w.tomb_gap bits.gap_tomb (c.get-gap_timestamp.ensures ∙ w.timestamp_gap) (c.get-gap_deletion.ensures ∙ w.deletion_gap)),
     )

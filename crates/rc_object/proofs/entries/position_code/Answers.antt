@@ -2,7 +2,7 @@ use Rattle.std.proofs.Common.{◌≡◌, ◌+◌, ◌-◌, take, drop, ap, ◌�
 use Rattle.rc_rowcode.specs.laws.Limits.{key_limits}
 use Rattle.rc_rowcode.specs.laws.Sizes.{pos_code_small}
 use Rattle.lsa_region.specs.Region.{body}
-use Rattle.rc_object.proofs.Spelled.{seen_entry, entry_long, position_there}
+use Rattle.rc_object.specs.laws.Spelled.{seen_entry, entry_long, position_there}
 use Rattle.rc_object.proofs.entries.position_code.Goals as goal
 
 pub get-size-requires-clause-inside : goal.get-size-requires-clause-inside

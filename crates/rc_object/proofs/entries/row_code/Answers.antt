@@ -7,7 +7,7 @@ use Rattle.lsa_kinds.specs.declared.kind.Kind.{Kind}
 use Rattle.lsa_kinds.specs.declared.kind.Kind.TheVariants.{Version, RowEntry, Dummy, Static}
 use Rattle.lsa_region.specs.Region.{body}
 use Rattle.rc_object.specs.Objects.{row_part}
-use Rattle.rc_object.proofs.Spelled.{seen_row, entry_long, row_there}
+use Rattle.rc_object.specs.laws.Spelled.{seen_row, entry_long, row_there}
 use Rattle.rc_object.proofs.entries.row_code.Goals as goal
 
 other : (kind : Kind) → (kind ≡ Version) ⊎ ((kind ≡ RowEntry) ⊎ (kind ≡ Dummy)) → kind ≢ Static

@@ -4,7 +4,7 @@ use Rattle.rc_core.specs.declared.entries.Entry.{Entry}
 use Rattle.lsa_kinds.specs.declared.kind.Kind.{Kind}
 use Rattle.rc_object.specs.Objects.{SpellsEntry}
 use Rattle.lsa_region.specs.Region.{body}
-use Rattle.rc_object.proofs.Spelled.{seen_entry, entry_long, entry_written, alike_written}
+use Rattle.rc_object.specs.laws.Spelled.{seen_entry, entry_long, entry_written, alike_written}
 use Rattle.rc_object.proofs.entries.set_marks.Goals as goal
 
 fits : (o : Option (Kind × List ℕ)) (e : Entry) (n : ℕ) → IsSomeAnd o (λ b. SpellsEntry b e) → n ≡ 28 → IsSomeAnd o (λ b. 0 + n ≤ length b.1)

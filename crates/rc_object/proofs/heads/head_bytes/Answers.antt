@@ -2,8 +2,8 @@ use Rattle.std.proofs.Common.{refl, ◌∙◌, arith}
 use Rattle.rc_object.proofs.PutFields.{head_put}
 use Rattle.rc_object.proofs.heads.head_bytes.Goals as goal
 
-pub returns : goal.returns
-returns c =
+pub returns-clause-spells : goal.returns-clause-spells
+returns-clause-spells c =
     let h = head_put _ _ _ _ _ _ _ _ _ c.put.ensures.put c.put-2.ensures.put c.put-3.ensures.put c.put-4.ensures.put in record {
       kind = refl;
       long = omega arith;
@@ -13,3 +13,6 @@ returns c =
       phase = h.phase_is;
       tomb = c.tomb_parts-present.ensures.coded;
     }
+
+pub returns-clause-level : goal.returns-clause-level
+returns-clause-level c = (head_put _ _ _ _ _ _ _ _ _ c.put.ensures.put c.put-2.ensures.put c.put-3.ensures.put c.put-4.ensures.put).level

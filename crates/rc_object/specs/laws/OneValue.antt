@@ -19,8 +19,9 @@ use Rattle.rc_core.specs.declared.entries.Mark.{Mark}
 use Rattle.lsa_kinds.specs.declared.kind.Kind.{Kind}
 use Rattle.lsa_kinds.specs.declared.kind.Kind.TheVariants.{Static}
 use Rattle.lsa_kinds.specs.Fields.{number, number_at}
-use Rattle.rc_object.specs.Objects.{flag_code, presence, timestamp_code, deletion_code, SpellsMarks, SpellsEntry, entry_kind, row_part, entry_of, but_level}
-use Rattle.rc_object.proofs.Spelled.{entry_bits, mark_is}
+use Rattle.rc_object.specs.declared.heads.Head.{Head}
+use Rattle.rc_object.specs.Objects.{flag_code, presence, timestamp_code, deletion_code, SpellsHead, SpellsMarks, SpellsEntry, entry_kind, row_part, entry_of, but_level}
+use Rattle.rc_object.specs.laws.Spelled.{head_bits, entry_bits, mark_is, head_is}
 
 pub row_same : (r q : Row) → IsCodedRow r → IsCodedRow q → row_code r ≡ row_code q → r ≡ q
 row_same r q h k e = (one_spelling row_codec r q [] [] h k (append-nil (row_code r) ∙ e ∙ sym (append-nil (row_code q)))).0
@@ -70,6 +71,18 @@ entry_same b x y h k =
 pub entries_same : (o : Option (Kind × List ℕ)) (x y : Entry) → IsSomeAnd o (λ b. SpellsEntry b x) → IsSomeAnd o (λ b. SpellsEntry b y) → x ≡ y
 entries_same None x y h k = absurd h
 entries_same (Some b) x y h k = entry_same b x y h k
+
+head_same : (b : Kind × List ℕ) (x y : Head) → SpellsHead b x → SpellsHead b y → x ≡ y
+head_same b x y h k =
+    let a = head_bits (number_at 0 1 b.1) x h.flags in let d = head_bits (number_at 0 1 b.1) y k.flags in
+    head_is y x.partition_tombstone x.static_flag x.phase
+    (tomb_same x.partition_tombstone y.partition_tombstone h.tomb k.tomb (sym a.0 ∙ d.0) (sym h.timestamp ∙ k.timestamp) (sym h.deletion ∙ k.deletion))
+    (flag_same x.static_flag y.static_flag (sym a.1 ∙ d.1))
+    (sym h.phase ∙ k.phase)
+
+pub heads_same : (o : Option (Kind × List ℕ)) (x y : Head) → IsSomeAnd o (λ b. SpellsHead b x) → IsSomeAnd o (λ b. SpellsHead b y) → x ≡ y
+heads_same None x y h k = absurd h
+heads_same (Some b) x y h k = head_same b x y h k
 
 -- ---- another balance
 
