@@ -148,3 +148,14 @@ static_takes bytes row is = let same : 8 + 8 * 3 + length bytes ≡ 32 + length 
 
 pub static_held : (v : View) (r : Ref) (bytes : List ℕ) (row : Row) → body v r ≡ Some (Static, bytes) → bytes ≡ row_code row → IsCodedRow row → HoldsStatic v r row
 static_held v r bytes row here is coded = (here ∙ ap (λ l. Some (Static, l)) is, coded)
+
+-- ---- a row put behind the front of an entry
+
+pub ready_put : (s t : Space) (x : Pos) (at gap : Mark) (row : Row) (code bytes : List ℕ) → IsEntryBegun s.bytes x at gap → t ≡ record { bytes = s.bytes ++ code; size = s.size } → code ≡ row_code row → bytes ≡ t.bytes → IsCodedRow row
+    → IsReady bytes RowEntry (entry_of x (Some row) at gap) (entry_size x.prefix row)
+ready_put s t x at gap row code bytes w put is same coded =
+    ready_row bytes s.bytes x at gap row w coded (ap (λ l. s.bytes ++ l) (sym is) ∙ sym (same ∙ bytes_put t (s.bytes ++ code) s.size put))
+
+-- the same with marks by other names
+pub begun_as : (bytes : List ℕ) (x : Pos) (at gap m n : Mark) → at ≡ m → gap ≡ n → IsEntryBegun bytes x at gap → IsEntryBegun bytes x m n
+begun_as bytes x at gap m n e f w = subst (λ k. IsEntryBegun bytes x m k) f (subst (λ k. IsEntryBegun bytes x k gap) e w)

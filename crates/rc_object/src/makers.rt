@@ -64,6 +64,19 @@ fn begin_like<const S: usize>(region: &Region<S>, e: Ref, at: Mark, gap: Mark, s
     sc.put(code);
 }
 
+// Puts the bytes of an entry at the position of a key's row, up to its row, and nothing else. The weight of that position is 1.
+fn begin_row(key: &Key, at: Mark, gap: Mark, sc: &mut Scratch)
+    requires limits { KeyFits key.now }
+    requires room { 32 + length (pos_code (row_pos key.now)) ≤ sc.old.size }
+    ensures begun { IsEntryBegun sc.new.bytes (row_pos key.now) at gap }
+    ensures size { sc.new.size ≡ sc.old.size }
+{
+    sc.clear();
+    sc.put(&entry_front(at, gap, 1 + key_size(key)));
+    sc.put(&[1]);
+    sc.put_key(key);
+}
+
 // Puts the code of an entry's row with the row of this code joined to it.
 fn put_joined<const S: usize>(region: &Region<S>, e: Ref, code: &[u8], sc: &mut Scratch)
     requires { (x : Entry) × (row : Row) × HoldsEntry region.now e x × IsRowCode code.now row × HasRoom sc.old (length (code_of (joined_onto x.row row))) }
@@ -77,6 +90,17 @@ fn put_joined<const S: usize>(region: &Region<S>, e: Ref, code: &[u8], sc: &mut 
     }
 }
 
+// The bytes of an end dummy, whose position has a code of two bytes: 2 and 0.
+fn end_bytes(mark: Mark) -> [u8; 34]
+    ensures { IsEntryBegun result end_position mark mark }
+{
+    let mut bytes = [0; 34];
+    bytes[32] = 2;
+    put_marks(&mut bytes, mark, mark);
+    PositionSize::put(&mut bytes, 2);
+    bytes
+}
+
 /// Makes an end dummy with this mark at it and over the gap before it, which takes 88 bytes.
 pub fn make_end<const S: usize>(region: &mut Region<S>, mark: Mark) -> Ref
     requires fits { 88 ≤ S / 8 }
@@ -85,11 +109,7 @@ pub fn make_end<const S: usize>(region: &mut Region<S>, mark: Mark) -> Ref
     ensures made { IsMade S region.old region.new result 88 }
     ensures well { IsWell region.new }
 {
-    let mut bytes = [0; 34];
-    bytes[32] = 2;
-    put_marks(&mut bytes, mark, mark);
-    PositionSize::put(&mut bytes, 2);
-    make(region, Kind::Dummy, &bytes)
+    make(region, Kind::Dummy, &end_bytes(mark))
 }
 
 /// Makes a dummy at a position with this mark at it and over the gap before it.
@@ -145,10 +165,7 @@ pub fn make_row<const S: usize>(
     ensures size { sc.new.size ≡ sc.old.size }
     ensures well { IsWell region.new }
 {
-    sc.clear();
-    sc.put(&entry_front(at, gap, 1 + key_size(key)));
-    sc.put(&[1]);
-    sc.put_key(key);
+    begin_row(key, at, gap, sc);
     sc.put(code);
     make(region, Kind::RowEntry, sc.bytes())
 }
