@@ -159,3 +159,11 @@ ready_put s t x at gap row code bytes w put is same coded =
 -- the same with marks by other names
 pub begun_as : (bytes : List ℕ) (x : Pos) (at gap m n : Mark) → at ≡ m → gap ≡ n → IsEntryBegun bytes x at gap → IsEntryBegun bytes x m n
 begun_as bytes x at gap m n e f w = subst (λ k. IsEntryBegun bytes x m k) f (subst (λ k. IsEntryBegun bytes x k gap) e w)
+
+-- ---- rows joined in an empty scratch space
+
+pub room_there : (s : Space) (size n : ℕ) → s ≡ record { bytes = []; size = size } → n ≤ size → HasRoom s n
+room_there s size n e less = let P : Space → Type 0 = λ t. HasRoom t n in let there : 0 + n ≤ size = omega arith in subst P (sym e) there
+
+pub joined_is : (r q a b : Row) → a ≡ r → b ≡ q → joined_row (r ∷ q ∷ []) ≡ joined_row (a ∷ b ∷ [])
+joined_is r q a b first second = ap (λ z. joined_row (z ∷ q ∷ [])) (sym first) ∙ ap (λ z. joined_row (a ∷ z ∷ [])) (sym second)
