@@ -1,5 +1,5 @@
 -- The fields of an entry's marks, or of a version's head, are put one after the other: each holds its number, and what lies beside them stays.
-use Rattle.std.proofs.Common.{◌≡◌, ℕ, ◌+◌, ◌≤◌, inl, inr, List, drop, ap, sym, ◌∙◌, arith}
+use Rattle.std.proofs.Common.{◌≡◌, ℕ, ◌+◌, inl, inr, List, drop, ap, sym, ◌∙◌, arith}
 use Rattle.std.proofs.lemmas.List.{drop-drop}
 use Rattle.lsa_kinds.specs.Fields.{number_at, IsPut}
 use Rattle.rc_core.specs.declared.entries.Mark.{Mark}

@@ -1,13 +1,13 @@
 -- An object holds one value; an entry is the same where its balance changes.
-use Rattle.std.proofs.Common.{◌≡◌, ℕ, ◌+◌, ◌≤◌, ◌%◌, ◌/◌, List, [], ◌++◌, length, take, drop, Option, Some, None, refl, ap, sym, ◌∙◌, subst, arith}
+use Rattle.std.proofs.Common.{◌≡◌, ℕ, ◌+◌, List, [], take, drop, Option, Some, None, refl, ap, sym, ◌∙◌, arith}
 use Rattle.std.specs.Prelude.{IsSomeAnd, IfSome}
-use Rattle.std.specs.Int.{w64, cast_unsigned, cast_signed}
+use Rattle.std.specs.Int.{w64, cast_signed}
 use Rattle.std.specs.Option.{option_map}
 use Rattle.std.proofs.lemmas.Int.{to_z-of_z}
 use Rattle.std.proofs.lemmas.List.{append-nil, drop-drop}
 use Rattle.rc_cell.specs.declared.writes.Tomb.{Tomb}
 use Rattle.rc_cell.specs.declared.rows.Row.{Row}
-use Rattle.rc_rowcode.specs.Spelling.{pos_code, row_code, IsTomb, IsCodedRow}
+use Rattle.rc_rowcode.specs.Spelling.{row_code, IsTomb, IsCodedRow}
 use Rattle.rc_rowcode.specs.laws.Codecs.{pos_codec}
 use Rattle.rc_rowcode.specs.laws.RowCodec.{row_codec}
 use Rattle.rc_rowcode.specs.laws.Fields.{some_is}

@@ -1,5 +1,5 @@
 -- What bytes behind the links say of a head or of an entry.
-use Rattle.std.proofs.Common.{◌≡◌, ◌≢◌, ℕ, ◌+◌, ◌-◌, ◌*◌, ◌/◌, ◌%◌, ◌<◌, ◌≤◌, ◌^◌, List, [], ◌∷◌, ◌++◌, length, take, drop, Option, Some, None, inl, inr, refl, ap, sym, ◌∙◌, subst, arith, length-drop, length-append}
+use Rattle.std.proofs.Common.{◌≡◌, ◌≢◌, ℕ, ◌+◌, ◌-◌, ◌*◌, ◌/◌, ◌%◌, ◌<◌, ◌≤◌, ◌^◌, List, ◌++◌, length, take, drop, Option, Some, None, inl, inr, ap, sym, ◌∙◌, subst, arith, length-drop, length-append}
 use Rattle.std.specs.Prelude.{IsSomeAnd, IfSome}
 use Rattle.std.specs.Option.{option_map}
 use Rattle.std.proofs.Math.Seq.{drop-append_seam, take-append_seam, drop-length}
@@ -7,8 +7,7 @@ use Rattle.std.proofs.lemmas.List.{take-append-le, drop-append-le, take-append-d
 use Rattle.std.proofs.lemmas.Slice.{drop-append-drop}
 use Rattle.rc_cell.specs.declared.writes.Tomb.{Tomb}
 use Rattle.rc_cell.specs.declared.rows.Row.{Row}
-use Rattle.rc_position.specs.declared.positions.Pos.{Pos}
-use Rattle.rc_rowcode.specs.Spelling.{pos_code, row_code, IsTomb, IsCodedRow, IsPos}
+use Rattle.rc_rowcode.specs.Spelling.{pos_code, IsTomb}
 use Rattle.rc_core.specs.declared.entries.Entry.{Entry}
 use Rattle.rc_core.specs.declared.entries.Flag.{Flag}
 use Rattle.rc_core.specs.declared.entries.Flag.TheVariants.{Known, Unknown, Inherit}
@@ -20,7 +19,7 @@ use Rattle.lsa_segment.specs.Bytes.{overwritten}
 use Rattle.lsa_store.specs.declared.place.Ref.{Ref}
 use Rattle.lsa_region.specs.Region.{View, body}
 use Rattle.rc_object.specs.declared.heads.Head.{Head}
-use Rattle.rc_object.specs.Objects.{flag_code, presence, timestamp_code, deletion_code, head_flags, entry_flags, SpellsHead, SpellsMarks, SpellsEntry, entry_kind, row_part, entry_of, HoldsRow, but_marks}
+use Rattle.rc_object.specs.Objects.{flag_code, presence, deletion_code, head_flags, entry_flags, SpellsHead, SpellsMarks, SpellsEntry, entry_kind, row_part, entry_of, HoldsRow, but_marks}
 
 -- ---- flags and bits
 

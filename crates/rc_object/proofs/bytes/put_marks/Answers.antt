@@ -1,5 +1,5 @@
 use Rattle.std.proofs.Common.{◌∙◌}
-use Rattle.rc_object.proofs.PutFields.{HasMarks, marks_put}
+use Rattle.rc_object.proofs.PutFields.{marks_put}
 use Rattle.rc_object.proofs.bytes.put_marks.Goals as goal
 
 pub returns-clause-marks : goal.returns-clause-marks

@@ -1,4 +1,4 @@
-use Rattle.std.proofs.Common.{◌∙◌, sym, arith}
+use Rattle.std.proofs.Common.{◌∙◌, arith}
 use Rattle.lsa_region.specs.Region.{body}
 use Rattle.rc_object.specs.laws.Spelled.{seen_entry, entry_long, entry_bits, deletion_small, mark_is}
 use Rattle.rc_object.proofs.entries.marks.Goals as goal

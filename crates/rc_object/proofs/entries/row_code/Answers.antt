@@ -1,11 +1,10 @@
-use Rattle.std.proofs.Common.{◌≡◌, ◌≢◌, ◌⊎◌, ◌+◌, ◌-◌, take, drop, length, Some, inl, inr, ap, sym, ◌∙◌, arith}
+use Rattle.std.proofs.Common.{◌≡◌, ◌≢◌, ◌⊎◌, ◌+◌, take, drop, inl, inr, ap, sym, ◌∙◌, arith}
 use Rattle.std.proofs.Math.Seq.{take-length}
 use Rattle.std.proofs.Common.{length-drop}
 use Rattle.rc_rowcode.specs.laws.Limits.{key_limits}
 use Rattle.rc_rowcode.specs.laws.Sizes.{pos_code_small}
 use Rattle.lsa_kinds.specs.declared.kind.Kind.{Kind}
 use Rattle.lsa_kinds.specs.declared.kind.Kind.TheVariants.{Version, RowEntry, Dummy, Static}
-use Rattle.lsa_region.specs.Region.{body}
 use Rattle.rc_object.specs.Objects.{row_part}
 use Rattle.rc_object.specs.laws.Spelled.{seen_row, entry_long, row_there}
 use Rattle.rc_object.proofs.entries.row_code.Goals as goal

@@ -1,4 +1,4 @@
-use Rattle.std.proofs.Common.{ap, ◌∙◌, sym, ◌%◌, ◌/◌}
+use Rattle.std.proofs.Common.{◌∙◌}
 use Rattle.lsa_region.specs.Region.{body}
 use Rattle.rc_object.specs.laws.Spelled.{seen_head, head_bits, head_is}
 use Rattle.rc_object.proofs.heads.head_of.Goals as goal

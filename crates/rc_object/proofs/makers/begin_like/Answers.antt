@@ -1,4 +1,4 @@
-use Rattle.std.proofs.Common.{◌++◌, length, ap, sym, ◌∙◌, subst, refl, arith}
+use Rattle.std.proofs.Common.{◌++◌, length, ap, sym, ◌∙◌, subst, arith}
 use Rattle.rc_rowcode.specs.laws.Limits.{key_limits}
 use Rattle.rc_rowcode.specs.laws.Sizes.{pos_code_small}
 use Rattle.rc_rowcode.specs.Spelling.{pos_code}

@@ -1,4 +1,4 @@
-use Rattle.std.proofs.Common.{◌≡◌, ◌+◌, [], ◌∷◌, ◌++◌, length, refl, ap, sym, ◌∙◌, subst, append_assoc, arith}
+use Rattle.std.proofs.Common.{◌≡◌, [], ◌∷◌, ◌++◌, length, refl, sym, ◌∙◌, subst, append_assoc, arith}
 use Rattle.lsa_kinds.specs.Fields.{number_at}
 use Rattle.rc_position.specs.Position.{row_pos}
 use Rattle.rc_rowcode.specs.Spelling.{key_code, pos_code}

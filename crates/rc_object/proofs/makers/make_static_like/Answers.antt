@@ -1,5 +1,4 @@
-use Rattle.std.proofs.Common.{ap, ◌∙◌, subst}
-use Rattle.lsa_region.specs.Region.{body}
+use Rattle.std.proofs.Common.{◌∙◌, subst}
 use Rattle.rc_object.specs.Objects.{IsMade}
 use Rattle.rc_object.proofs.Built.{put_once, bytes_put, coded_of, static_held, static_takes}
 use Rattle.rc_object.proofs.makers.make_static_like.Goals as goal

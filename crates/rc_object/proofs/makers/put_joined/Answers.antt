@@ -1,6 +1,5 @@
-use Rattle.std.proofs.Common.{◌≡◌, inr, [], ◌∷◌, ◌++◌, length, ap, sym, ◌∙◌, subst, refl, arith}
-use Rattle.rc_cell.specs.Winner.{joined_row}
-use Rattle.rc_rowcode.specs.Space.{Space, HasRoom}
+use Rattle.std.proofs.Common.{inr, ◌++◌, length, ap, sym, ◌∙◌, subst, refl, arith}
+use Rattle.rc_rowcode.specs.Space.{HasRoom}
 use Rattle.rc_rowcode.specs.Spelling.{row_code}
 use Rattle.lsa_region.specs.Region.{body}
 use Rattle.rc_object.proofs.Built.{row_of, onto_is, coded_joined}
