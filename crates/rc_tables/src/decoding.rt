@@ -13,7 +13,7 @@ ghost use Rattle.rc_cell.specs.Winner.{empty_row};
 ghost use Rattle.rc_mutation.specs.Canonical.{ComesNext};
 ghost use Rattle.rc_mutation.specs.Fragments.{tomb_after};
 ghost use Rattle.rc_stream.specs.Merging.{place_of};
-ghost use Rattle.rc_writes.specs.Allowed.{IsRangeBound, IsRowOf};
+ghost use Rattle.rc_writes.specs.Allowed.{IsRangeBound, IsRowOf, IsStaticOf};
 ghost use Rattle.rc_tfile.specs.Items.{ChangeItem, item_code, IsItem, RowItem};
 ghost use Rattle.rc_tables.specs.Rebuilt.{AllCome, frag_code, ArePartItems, IsSpellable, MayCome};
 
@@ -23,7 +23,7 @@ use rc_mutation::canonical::a_canonical_list_is_that_of_a_mutation;
 use rc_mutation::{Frag, Mutation};
 use rc_position::{Key, PartKey, Pos, Weight};
 use rc_schema::Schema;
-use rc_tfile::{behind, read_change, read_part, read_row_item};
+use rc_tfile::{Part, behind, read_change, read_part, read_row_item};
 use rc_writes::{is_bound_of, is_row_of, is_static_of};
 use std::alloc::{AllocError, Global};
 
@@ -46,20 +46,43 @@ pub(crate) fn decode(
     let Some((part, size)) = read_part(alloc, bytes)? else {
         return Ok(None);
     };
+    if !is_part_of(&part, key, schema) {
+        return Ok(None);
+    }
+    let Some(frags) = read_coming(alloc, &bytes[size..], schema)? else {
+        return Ok(None);
+    };
+    a_canonical_list_is_that_of_a_mutation();
+    mutation_of(alloc, part.head, frags.as_slice())
+}
+
+// Whether a part has this key, and a static row of the schema.
+fn is_part_of(part: &Part, key: &PartKey, schema: &Schema) -> bool
+    ensures { IsTrue result ↔ ((part.now.key ≡ key.now) × IsStaticOf schema.now part.now.head.statics) }
+{
     if part.key != *key {
-        return Ok(None);
+        return false;
     }
-    if !is_static_of(schema, &part.head.statics) {
-        return Ok(None);
-    }
-    let Some(frags) = read_fragments(alloc, &bytes[size..])? else {
+    is_static_of(schema, &part.head.statics)
+}
+
+// The rows and changes of the schema up to the end of a partition, each where it may stand; none exactly where the bytes are not
+// such.
+fn read_coming(
+    alloc: Global,
+    bytes: &[u8],
+    schema: &Schema,
+) -> Result<Option<Vec<Frag>>, AllocError>
+    ensures found { (fs : List Frag) → AllByRecursion IsSpellable fs → bytes.now ≡ flat_map frag_code fs ++ 4 ∷ [] → AllCome schema.now None None fs → IfOk result (λ found. option_map (λ v. v.items) found ≡ Some fs) }
+    ensures spelled { IfOk result (λ found. IfSome found (λ v. AllByRecursion IsSpellable v.items × (bytes.now ≡ flat_map frag_code v.items ++ 4 ∷ []) × AllCome schema.now None None v.items)) }
+{
+    let Some(frags) = read_fragments(alloc, bytes)? else {
         return Ok(None);
     };
     if !all_come(alloc, frags.as_slice(), schema)? {
         return Ok(None);
     }
-    a_canonical_list_is_that_of_a_mutation();
-    mutation_of(alloc, part.head, frags.as_slice())
+    Ok(Some(frags))
 }
 
 // Whether rows and changes of the schema may stand one behind another, as those of a partition.
