@@ -41,7 +41,7 @@ impl Cases {
         }
         let (kind, text) = line.split_once(' ').unwrap_or((line, ""));
         match kind {
-            "bytes" => self.name(alloc, text),
+            "bytes" => push_named(alloc, &mut self.names, text),
             "case" => self.begin(alloc, text),
             "again" => self.go_on(alloc),
             "seed" => self.tally.compare(alloc, text),
@@ -49,16 +49,15 @@ impl Cases {
         }
     }
 
-    /// What all came to, told.
-    pub(crate) fn told(&mut self, alloc: Global) -> Result<&str, AllocError> {
+    /// No line follows: how many runs there were is told.
+    pub(crate) fn end(&mut self, alloc: Global) -> Result<(), AllocError> {
         self.finish(alloc)?;
-        self.tally.tell_runs()?;
-        Ok(self.tally.told())
+        self.tally.tell_runs()
     }
 
-    // Bytes with a name.
-    fn name(&mut self, alloc: Global, text: &str) -> Result<(), AllocError> {
-        push_named(alloc, &mut self.names, text)
+    /// What is told so far.
+    pub(crate) fn told(&self) -> &str {
+        self.tally.told()
     }
 
     // The case that ends here is run.
