@@ -1,44 +1,28 @@
-//! The answers to cases.
+//! The answers to cases: what is printed for them.
 
+use std::alloc::AllocError;
 use std::cmp::Ordering;
-use std::fmt::{self, Display, Formatter, Write};
 
-/// What is printed for a case.
-#[derive(Drop)]
-pub(crate) enum Answer {
-    /// A word or two.
-    Word(&'static str),
-    /// A number of bytes.
-    Size(usize),
-    /// Bytes in hexadecimal, or some words.
-    Text(String),
-    /// The line is no case.
-    NoCase,
-}
-
-impl Display for Answer {
-    fn fmt<W: Write>(&self, f: &mut Formatter<W>) -> fmt::Result {
-        match self {
-            Answer::Word(word) => f.write_str(word),
-            Answer::Size(size) => write!(f, "{size}"),
-            Answer::Text(text) => f.write_str(text.as_str()),
-            Answer::NoCase => f.write_str("no case"),
-        }
-    }
-}
+/// What is printed for a line that is no case.
+pub(crate) const NO_CASE: &str = "no case";
 
 /// The word of an order.
-pub(crate) fn order_word(order: Ordering) -> Answer {
-    Answer::Word(match order {
+pub(crate) fn order_word(order: Ordering) -> &'static str {
+    match order {
         Ordering::Less => "less",
         Ordering::Equal => "equal",
         Ordering::Greater => "greater",
-    })
+    }
 }
 
-/// One of two words.
-pub(crate) fn either(holds: bool, yes: &'static str, no: &'static str) -> Answer {
-    Answer::Word(if holds { yes } else { no })
+/// Tells one of two words.
+pub(crate) fn tell_either(
+    holds: bool,
+    yes: &str,
+    no: &str,
+    text: &mut String,
+) -> Result<(), AllocError> {
+    text.push_str(if holds { yes } else { no })
 }
 
 /// Whether a word is this one.

@@ -5,7 +5,7 @@
 ghost use Rattle.std.specs.Prelude.{IfOk, IfSome};
 ghost use Rattle.rc_rowcode.specs.Spelling.{row_code, IsCode, IsCodedRow, KeyFits, RowFits};
 
-use crate::answers::{Answer, says};
+use crate::answers::{NO_CASE, says};
 use rc_cell::Row;
 use rc_position::{Key, Pos};
 use rc_rowcode::{
@@ -13,6 +13,7 @@ use rc_rowcode::{
     read_row, read_tomb, row_size, static_size, write_key, write_pos, write_row, write_tomb,
 };
 use std::alloc::{AllocError, Global};
+use std::fmt::Write;
 
 // A word without its `_`.
 fn digits_of(alloc: Global, word: &[u8]) -> Result<Vec<u8>, AllocError> {
@@ -33,138 +34,199 @@ fn bytes_of(alloc: Global, word: &[u8]) -> Result<Option<Vec<u8>>, AllocError> {
     }
 }
 
-// The length of what was read, if it was written again as it was read.
-fn again(bytes: &[u8], written: &[u8], sizes: (usize, usize)) -> Answer {
+// Tells a number of bytes.
+fn tell_size(size: usize, text: &mut String) -> Result<(), AllocError> {
+    write!(text, "{size}")
+}
+
+// Tells the length of what was read, if it was written again as it was read.
+fn tell_again(
+    bytes: &[u8],
+    written: &[u8],
+    sizes: (usize, usize),
+    text: &mut String,
+) -> Result<(), AllocError> {
     if sizes.0 != sizes.1 || !bytes.starts_with(written) || written.len() != sizes.0 {
-        return Answer::Word("differs");
+        return text.push_str("differs");
     }
-    Answer::Size(sizes.0)
+    tell_size(sizes.0, text)
 }
 
-/// The length of the code at the front of bytes.
-pub(crate) fn reads(alloc: Global, kind: &[u8], word: &[u8]) -> Result<Answer, AllocError> {
+/// Tells the length of the code at the front of bytes.
+pub(crate) fn reads(
+    alloc: Global,
+    kind: &[u8],
+    word: &[u8],
+    text: &mut String,
+) -> Result<(), AllocError> {
     match bytes_of(alloc, word)? {
-        Some(bytes) => reads_bytes(alloc, kind, bytes.as_slice()),
-        None => Ok(Answer::NoCase),
+        Some(bytes) => reads_bytes(alloc, kind, bytes.as_slice(), text),
+        None => text.push_str(NO_CASE),
     }
 }
 
-fn reads_bytes(alloc: Global, kind: &[u8], bytes: &[u8]) -> Result<Answer, AllocError> {
+fn reads_bytes(
+    alloc: Global,
+    kind: &[u8],
+    bytes: &[u8],
+    text: &mut String,
+) -> Result<(), AllocError> {
     if says(kind, "row") {
-        return reads_row(alloc, bytes);
+        return reads_row(alloc, bytes, text);
     }
     if says(kind, "key") {
-        return reads_key(alloc, bytes);
+        return reads_key(alloc, bytes, text);
     }
     if says(kind, "position") {
-        return reads_pos(alloc, bytes);
+        return reads_pos(alloc, bytes, text);
     }
     if says(kind, "tombstone") {
-        return reads_tomb(alloc, bytes);
+        return reads_tomb(alloc, bytes, text);
     }
-    Ok(Answer::NoCase)
+    text.push_str(NO_CASE)
 }
 
-fn reads_row(alloc: Global, bytes: &[u8]) -> Result<Answer, AllocError> {
-    let Some((row, size)) = read_row(alloc, bytes)? else {
-        return Ok(Answer::Word("none"));
-    };
-    let written = row_written(alloc, &row)?;
-    Ok(again(bytes, written.as_slice(), (size, row_size(&row))))
+fn reads_row(alloc: Global, bytes: &[u8], text: &mut String) -> Result<(), AllocError> {
+    match read_row(alloc, bytes)? {
+        Some((row, size)) => tell_row(alloc, bytes, &row, size, text),
+        None => text.push_str("none"),
+    }
 }
 
-fn row_written(alloc: Global, row: &Row) -> Result<Vec<u8>, AllocError>
+fn tell_row(
+    alloc: Global,
+    bytes: &[u8],
+    row: &Row,
+    size: usize,
+    text: &mut String,
+) -> Result<(), AllocError>
     requires { RowFits row.now }
 {
     let mut out = Vec::new(alloc);
     write_row(alloc, row, &mut out)?;
-    Ok(out)
+    tell_again(bytes, out.as_slice(), (size, row_size(row)), text)
 }
 
-fn reads_key(alloc: Global, bytes: &[u8]) -> Result<Answer, AllocError> {
-    let Some((key, size)) = read_key(alloc, bytes)? else {
-        return Ok(Answer::Word("none"));
-    };
-    let written = key_written(alloc, &key)?;
-    Ok(again(bytes, written.as_slice(), (size, key_size(&key))))
+fn reads_key(alloc: Global, bytes: &[u8], text: &mut String) -> Result<(), AllocError> {
+    match read_key(alloc, bytes)? {
+        Some((key, size)) => tell_key(alloc, bytes, &key, size, text),
+        None => text.push_str("none"),
+    }
 }
 
-fn key_written(alloc: Global, key: &Key) -> Result<Vec<u8>, AllocError>
+fn tell_key(
+    alloc: Global,
+    bytes: &[u8],
+    key: &Key,
+    size: usize,
+    text: &mut String,
+) -> Result<(), AllocError>
     requires { KeyFits key.now }
 {
     let mut out = Vec::new(alloc);
     write_key(alloc, key, &mut out)?;
-    Ok(out)
+    tell_again(bytes, out.as_slice(), (size, key_size(key)), text)
 }
 
-fn reads_pos(alloc: Global, bytes: &[u8]) -> Result<Answer, AllocError> {
-    let Some((x, size)) = read_pos(alloc, bytes)? else {
-        return Ok(Answer::Word("none"));
-    };
-    let written = pos_written(alloc, &x)?;
-    Ok(again(bytes, written.as_slice(), (size, pos_size(&x))))
+fn reads_pos(alloc: Global, bytes: &[u8], text: &mut String) -> Result<(), AllocError> {
+    match read_pos(alloc, bytes)? {
+        Some((x, size)) => tell_pos(alloc, bytes, &x, size, text),
+        None => text.push_str("none"),
+    }
 }
 
-fn pos_written(alloc: Global, x: &Pos) -> Result<Vec<u8>, AllocError>
+fn tell_pos(
+    alloc: Global,
+    bytes: &[u8],
+    x: &Pos,
+    size: usize,
+    text: &mut String,
+) -> Result<(), AllocError>
     requires { KeyFits x.now.prefix }
 {
     let mut out = Vec::new(alloc);
     write_pos(alloc, x, &mut out)?;
-    Ok(out)
+    tell_again(bytes, out.as_slice(), (size, pos_size(x)), text)
 }
 
-fn reads_tomb(alloc: Global, bytes: &[u8]) -> Result<Answer, AllocError> {
+fn reads_tomb(alloc: Global, bytes: &[u8], text: &mut String) -> Result<(), AllocError> {
     let Some((tomb, size)) = read_tomb(alloc, bytes)? else {
-        return Ok(Answer::Word("none"));
+        return text.push_str("none");
     };
     let mut out = Vec::new(alloc);
     write_tomb(alloc, &tomb, &mut out)?;
-    Ok(again(bytes, out.as_slice(), (size, 12)))
+    tell_again(bytes, out.as_slice(), (size, 12), text)
 }
 
-/// What a static row, or a dummy, takes in memory of which this is the row's code, or the position's.
-pub(crate) fn weighs(alloc: Global, kind: &[u8], word: &[u8]) -> Result<Answer, AllocError> {
+/// Tells what a static row, or a dummy, takes in memory of which this is the row's code, or the position's.
+pub(crate) fn weighs(
+    alloc: Global,
+    kind: &[u8],
+    word: &[u8],
+    text: &mut String,
+) -> Result<(), AllocError> {
     match bytes_of(alloc, word)? {
-        Some(bytes) if says(kind, "static") => weighs_static(alloc, bytes.as_slice()),
-        Some(bytes) if says(kind, "dummy") => weighs_dummy(alloc, bytes.as_slice()),
-        _ => Ok(Answer::NoCase),
+        Some(bytes) if says(kind, "static") => weighs_static(alloc, bytes.as_slice(), text),
+        Some(bytes) if says(kind, "dummy") => weighs_dummy(alloc, bytes.as_slice(), text),
+        _ => text.push_str(NO_CASE),
     }
 }
 
-fn weighs_static(alloc: Global, bytes: &[u8]) -> Result<Answer, AllocError> {
+fn weighs_static(alloc: Global, bytes: &[u8], text: &mut String) -> Result<(), AllocError> {
     match read_row(alloc, bytes)? {
-        Some((row, _)) => Ok(Answer::Size(static_size(&row))),
-        None => Ok(Answer::Word("none")),
+        Some((row, _)) => tell_size(static_size(&row), text),
+        None => text.push_str("none"),
     }
 }
 
-fn weighs_dummy(alloc: Global, bytes: &[u8]) -> Result<Answer, AllocError> {
+fn weighs_dummy(alloc: Global, bytes: &[u8], text: &mut String) -> Result<(), AllocError> {
     match read_pos(alloc, bytes)? {
-        Some((x, _)) => Ok(Answer::Size(dummy_size(&x))),
-        None => Ok(Answer::Word("none")),
+        Some((x, _)) => tell_size(dummy_size(&x), text),
+        None => text.push_str("none"),
     }
 }
 
-/// What an entry takes in memory, of which these are the key's and the row's code.
-pub(crate) fn entry(alloc: Global, key: &[u8], row: &[u8]) -> Result<Answer, AllocError> {
+/// Tells what an entry takes in memory, of which these are the key's and the row's code.
+pub(crate) fn entry(
+    alloc: Global,
+    key: &[u8],
+    row: &[u8],
+    text: &mut String,
+) -> Result<(), AllocError> {
     match bytes_of(alloc, key)? {
-        Some(bytes) => match read_key(alloc, bytes.as_slice())? {
-            Some((key, _)) => weighs_entry(alloc, &key, row),
-            None => Ok(Answer::Word("none")),
-        },
-        None => Ok(Answer::NoCase),
+        Some(bytes) => weighs_keyed(alloc, bytes.as_slice(), row, text),
+        None => text.push_str(NO_CASE),
     }
 }
 
-fn weighs_entry(alloc: Global, key: &Key, row: &[u8]) -> Result<Answer, AllocError>
+// The same of the key's code and the row's word.
+fn weighs_keyed(
+    alloc: Global,
+    key: &[u8],
+    row: &[u8],
+    text: &mut String,
+) -> Result<(), AllocError> {
+    match read_key(alloc, key)? {
+        Some((key, _)) => weighs_entry(alloc, &key, row, text),
+        None => text.push_str("none"),
+    }
+}
+
+fn weighs_entry(alloc: Global, key: &Key, row: &[u8], text: &mut String) -> Result<(), AllocError>
     requires { KeyFits key.now }
 {
     match bytes_of(alloc, row)? {
-        Some(bytes) => match read_row(alloc, bytes.as_slice())? {
-            Some((row, _)) => Ok(Answer::Size(entry_size(key, &row))),
-            None => Ok(Answer::Word("none")),
-        },
-        None => Ok(Answer::NoCase),
+        Some(bytes) => tell_entry(alloc, key, bytes.as_slice(), text),
+        None => text.push_str(NO_CASE),
+    }
+}
+
+fn tell_entry(alloc: Global, key: &Key, row: &[u8], text: &mut String) -> Result<(), AllocError>
+    requires { KeyFits key.now }
+{
+    match read_row(alloc, row)? {
+        Some((row, _)) => tell_size(entry_size(key, &row), text),
+        None => text.push_str("none"),
     }
 }
 
@@ -183,34 +245,50 @@ fn row_coded(alloc: Global, word: &[u8]) -> Result<Option<Vec<u8>>, AllocError>
     Ok(Some(code))
 }
 
-// The code of two rows joined, by their codes alone.
-fn joined(alloc: Global, a: &[u8], b: &[u8]) -> Result<Answer, AllocError>
+// Tells the code of two rows joined, by their codes alone.
+fn joined(alloc: Global, a: &[u8], b: &[u8], text: &mut String) -> Result<(), AllocError>
     requires ours { IsCode row_code IsCodedRow a.now }
     requires theirs { IsCode row_code IsCodedRow b.now }
 {
     let mut out = Scratch::new(alloc, 8599)?;
     let size = join_size(a, b);
     join_codes(a, b, &mut out);
-    if out.bytes().len() != size {
-        return Ok(Answer::Word("differs"));
+    tell_joined(alloc, out.bytes(), size, text)
+}
+
+// Tells a code of this length.
+fn tell_joined(
+    alloc: Global,
+    code: &[u8],
+    size: usize,
+    text: &mut String,
+) -> Result<(), AllocError> {
+    if code.len() != size {
+        return text.push_str("differs");
     }
-    Ok(Answer::Text(hex::encode(alloc, out.bytes())?))
+    let digits = hex::encode(alloc, code)?;
+    text.push_str(digits.as_str())
 }
 
 // The same of a row's code and the row of a word.
-fn joined_with(alloc: Global, a: &[u8], word: &[u8]) -> Result<Answer, AllocError>
+fn joined_with(alloc: Global, a: &[u8], word: &[u8], text: &mut String) -> Result<(), AllocError>
     requires { IsCode row_code IsCodedRow a.now }
 {
     match row_coded(alloc, word)? {
-        Some(b) => joined(alloc, a, b.as_slice()),
-        None => Ok(Answer::Word("none")),
+        Some(b) => joined(alloc, a, b.as_slice(), text),
+        None => text.push_str("none"),
     }
 }
 
-/// The code of two rows joined.
-pub(crate) fn joins(alloc: Global, first: &[u8], second: &[u8]) -> Result<Answer, AllocError> {
+/// Tells the code of two rows joined.
+pub(crate) fn joins(
+    alloc: Global,
+    first: &[u8],
+    second: &[u8],
+    text: &mut String,
+) -> Result<(), AllocError> {
     match row_coded(alloc, first)? {
-        Some(a) => joined_with(alloc, a.as_slice(), second),
-        None => Ok(Answer::Word("none")),
+        Some(a) => joined_with(alloc, a.as_slice(), second, text),
+        None => text.push_str("none"),
     }
 }

@@ -1,7 +1,7 @@
 //! Cases of positions. `order KEY WEIGHT KEY WEIGHT` compares two of them in each way that there is; `within FROM TO KEY`
 //! asks whether the row of a key is in a range. A key is its components with commas between them, or `*`.
 
-use crate::answers::{Answer, either, order_word, says};
+use crate::answers::{NO_CASE, order_word, says, tell_either};
 use rc_position::{Comp, Key, Pos, Slice, Text, Weight, end_pos, start_pos};
 use rc_rowcode::{compare_code_with_key, compare_code_with_pos, compare_codes};
 use rc_spelling::{read_components, signed};
@@ -115,32 +115,48 @@ fn all_give(order: Ordering, x: &Pos, y: &Pos, a: &[u8], b: &[u8]) -> bool {
     codes && mixed && keys
 }
 
-// How two positions are ordered, or that ways to compare them differ.
-fn compared(alloc: Global, x: &Pos, y: &Pos) -> Result<Answer, AllocError> {
+// Tells how two positions are ordered, or that ways to compare them differ.
+fn compared(alloc: Global, x: &Pos, y: &Pos, text: &mut String) -> Result<(), AllocError> {
     let a = code_of(alloc, x)?;
     let b = code_of(alloc, y)?;
-    let order = x.cmp(y);
-    if !all_give(order, x, y, a.as_slice(), b.as_slice()) {
-        return Ok(Answer::Word("differs"));
-    }
-    Ok(order_word(order))
+    tell_order(x, y, a.as_slice(), b.as_slice(), text)
 }
 
-/// How two positions are ordered.
+fn tell_order(x: &Pos, y: &Pos, a: &[u8], b: &[u8], text: &mut String) -> Result<(), AllocError> {
+    let order = x.cmp(y);
+    if all_give(order, x, y, a, b) {
+        return text.push_str(order_word(order));
+    }
+    text.push_str("differs")
+}
+
+/// Tells how two positions are ordered.
 pub(crate) fn order(
     alloc: Global,
     left: &[u8],
     left_weight: &[u8],
     right: &[u8],
     right_weight: &[u8],
-) -> Result<Answer, AllocError> {
-    let Some(x) = pos_of(alloc, left, left_weight)? else {
-        return Ok(Answer::NoCase);
-    };
-    let Some(y) = pos_of(alloc, right, right_weight)? else {
-        return Ok(Answer::NoCase);
-    };
-    compared(alloc, &x, &y)
+    text: &mut String,
+) -> Result<(), AllocError> {
+    match pos_of(alloc, left, left_weight)? {
+        Some(x) => compared_with(alloc, &x, right, right_weight, text),
+        None => text.push_str(NO_CASE),
+    }
+}
+
+// The same of a position and the other one's words.
+fn compared_with(
+    alloc: Global,
+    x: &Pos,
+    key: &[u8],
+    weight: &[u8],
+    text: &mut String,
+) -> Result<(), AllocError> {
+    match pos_of(alloc, key, weight)? {
+        Some(y) => compared(alloc, x, &y, text),
+        None => text.push_str(NO_CASE),
+    }
 }
 
 // The position where a range begins: `[` stands at an inclusive bound.
@@ -165,13 +181,13 @@ fn end_of(alloc: Global, word: &[u8]) -> Result<Option<Pos>, AllocError> {
     }
 }
 
-// Whether a position is in a range, or that it is not in the copy.
-fn found(alloc: Global, slice: &Slice, x: &Pos) -> Result<Answer, AllocError> {
+// Tells whether a position is in a range, or that it is not in the copy.
+fn found(alloc: Global, slice: &Slice, x: &Pos, text: &mut String) -> Result<(), AllocError> {
     let same = slice.copy(alloc)?;
     if slice.has(x) != same.has(x) {
-        return Ok(Answer::Word("differs"));
+        return text.push_str("differs");
     }
-    Ok(either(slice.has(x), "in", "out"))
+    tell_either(slice.has(x), "in", "out", text)
 }
 
 // The range of two bounds.
@@ -185,18 +201,29 @@ fn slice_of(alloc: Global, from: &[u8], to: &[u8]) -> Result<Option<Slice>, Allo
     }
 }
 
-/// Whether the row of a key is in a range: `[` and `]` stand at inclusive bounds, `(` and `)` at exclusive ones.
+/// Tells whether the row of a key is in a range: `[` and `]` stand at inclusive bounds, `(` and `)` at exclusive ones.
 pub(crate) fn within(
     alloc: Global,
     from: &[u8],
     to: &[u8],
     key: &[u8],
-) -> Result<Answer, AllocError> {
-    let Some(slice) = slice_of(alloc, from, to)? else {
-        return Ok(Answer::NoCase);
-    };
+    text: &mut String,
+) -> Result<(), AllocError> {
+    match slice_of(alloc, from, to)? {
+        Some(slice) => found_key(alloc, &slice, key, text),
+        None => text.push_str(NO_CASE),
+    }
+}
+
+// The same of a range and the word of the key.
+fn found_key(
+    alloc: Global,
+    slice: &Slice,
+    key: &[u8],
+    text: &mut String,
+) -> Result<(), AllocError> {
     match pos_of(alloc, key, b"at")? {
-        Some(x) => found(alloc, &slice, &x),
-        None => Ok(Answer::NoCase),
+        Some(x) => found(alloc, slice, &x, text),
+        None => text.push_str(NO_CASE),
     }
 }

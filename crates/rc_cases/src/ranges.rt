@@ -2,7 +2,7 @@
 //! `over NUMBER WEIGHT SPAN..` asks for the tombstone at a position. A span is FROM:TO@TS, from one number on and before another. `many WORD` joins
 //! 10,000 spans over ten numbers each, two lists at a time: their timestamps rise, fall or are the same.
 
-use crate::answers::{Answer, says};
+use crate::answers::{NO_CASE, says};
 use crate::positions::weight_of;
 use rc_cell::Tomb;
 use rc_position::{Comp, Key, Pos, Weight};
@@ -95,13 +95,6 @@ fn tell_pieces(pieces: &[Piece], text: &mut String) -> Result<(), AllocError> {
     Ok(())
 }
 
-// The spans of a list.
-fn told(alloc: Global, ranges: &Ranges) -> Result<String, AllocError> {
-    let mut text = String::new(alloc);
-    tell_pieces(ranges.as_slice(), &mut text)?;
-    Ok(text)
-}
-
 // The tombstones of spans, the first one joined last.
 fn joined_of(alloc: Global, first: &[u8], others: &[&[u8]]) -> Result<Ranges, AllocError> {
     let mut joined = ranges_of(alloc, others)?;
@@ -109,27 +102,34 @@ fn joined_of(alloc: Global, first: &[u8], others: &[&[u8]]) -> Result<Ranges, Al
     Ok(joined)
 }
 
-fn told_joined(alloc: Global, first: &[u8], others: &[&[u8]]) -> Result<String, AllocError> {
+fn tell_joined(
+    alloc: Global,
+    first: &[u8],
+    others: &[&[u8]],
+    text: &mut String,
+) -> Result<(), AllocError> {
     let joined = joined_of(alloc, first, others)?;
-    told(alloc, &joined)
+    tell_pieces(joined.as_slice(), text)
 }
 
-fn told_added(alloc: Global, spans: &[&[u8]]) -> Result<String, AllocError> {
+fn tell_added(alloc: Global, spans: &[&[u8]], text: &mut String) -> Result<(), AllocError> {
     let added = ranges_of(alloc, spans)?;
-    told(alloc, &added)
+    tell_pieces(added.as_slice(), text)
 }
 
-/// What spans come to, added one after another or joined to the first one, or that these differ.
-pub(crate) fn adds(alloc: Global, spans: &[&[u8]]) -> Result<Answer, AllocError> {
+/// Tells what spans come to, added one after another or joined to the first one, or that these differ.
+pub(crate) fn adds(alloc: Global, spans: &[&[u8]], text: &mut String) -> Result<(), AllocError> {
     let [first, others @ ..] = spans else {
-        return Ok(Answer::NoCase);
+        return text.push_str(NO_CASE);
     };
-    let added = told_added(alloc, spans)?;
-    let joined = told_joined(alloc, first, others)?;
-    if added.as_str() != joined.as_str() {
-        return Ok(Answer::Word("differs"));
+    let mut joined = String::new(alloc);
+    tell_joined(alloc, first, others, &mut joined)?;
+    tell_added(alloc, spans, text)?;
+    if text.as_str() == joined.as_str() {
+        return Ok(());
     }
-    Ok(Answer::Text(added))
+    text.clear();
+    text.push_str("differs")
 }
 
 fn stamp(tomb: Option<Tomb>) -> Option<i64> {
@@ -139,37 +139,47 @@ fn stamp(tomb: Option<Tomb>) -> Option<i64> {
     }
 }
 
-/// The timestamp of the tombstone at a position, in a list, in its copy and at a row, or that these differ.
+/// Tells the timestamp of the tombstone at a position, in a list, in its copy and at a row, or that these differ.
 pub(crate) fn over(
     alloc: Global,
     number: &[u8],
     weight: &[u8],
     spans: &[&[u8]],
-) -> Result<Answer, AllocError> {
+    text: &mut String,
+) -> Result<(), AllocError> {
     let (Some(number), Some(weight)) = (signed(number), weight_of(weight)) else {
-        return Ok(Answer::NoCase);
+        return text.push_str(NO_CASE);
     };
-    let ranges = ranges_of(alloc, spans)?;
     let x = pos(alloc, number, weight)?;
-    told_stamp(alloc, found(alloc, &ranges, &x)?)
+    over_position(alloc, spans, &x, text)
 }
 
-fn told_stamp(alloc: Global, found: Option<Option<i64>>) -> Result<Answer, AllocError> {
+fn over_position(
+    alloc: Global,
+    spans: &[&[u8]],
+    x: &Pos,
+    text: &mut String,
+) -> Result<(), AllocError> {
+    let ranges = ranges_of(alloc, spans)?;
+    let copy = copy_of(alloc, &ranges)?;
+    tell_stamp(found(&ranges, &copy, x), text)
+}
+
+fn tell_stamp(found: Option<Option<i64>>, text: &mut String) -> Result<(), AllocError> {
     match found {
-        None => Ok(Answer::Word("differs")),
-        Some(None) => Ok(Answer::Word("none")),
-        Some(Some(ts)) => Ok(Answer::Text(format!(in alloc; "{ts}")?)),
+        None => text.push_str("differs"),
+        Some(None) => text.push_str("none"),
+        Some(Some(ts)) => write!(text, "{ts}"),
     }
 }
 
 // The timestamp of the tombstone at a position; none where a copy of the list, or the list at the row, has another.
-fn found(alloc: Global, ranges: &Ranges, x: &Pos) -> Result<Option<Option<i64>>, AllocError> {
-    let copy = copy_of(alloc, ranges)?;
+fn found(ranges: &Ranges, copy: &Ranges, x: &Pos) -> Option<Option<i64>> {
     let found = stamp(ranges.at(x));
     if stamp(copy.at(x)) == found && at_row(ranges, x) == found {
-        Ok(Some(found))
+        Some(found)
     } else {
-        Ok(None)
+        None
     }
 }
 
@@ -232,14 +242,22 @@ fn range_of(alloc: Global, span: Span) -> Result<Ranges, AllocError> {
     Ok(ranges)
 }
 
-/// How many pieces many spans come to.
-pub(crate) fn many(alloc: Global, word: &[u8]) -> Result<Answer, AllocError> {
+/// Tells how many pieces many spans come to.
+pub(crate) fn many(alloc: Global, word: &[u8], text: &mut String) -> Result<(), AllocError> {
     let mut all = many_of(alloc, word)?;
     for _round in 0..14 {
         all = in_pairs(alloc, all.as_slice())?;
     }
-    match all.as_slice() {
-        [one] => Ok(Answer::Size(one.as_slice().len())),
-        _ => Ok(Answer::Word("differs")),
+    tell_count(all.as_slice(), text)
+}
+
+// Tells how many pieces the one list has.
+fn tell_count(all: &[Ranges], text: &mut String) -> Result<(), AllocError> {
+    match all {
+        [one] => {
+            let count = one.as_slice().len();
+            write!(text, "{count}")
+        }
+        _ => text.push_str("differs"),
     }
 }

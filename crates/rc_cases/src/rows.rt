@@ -1,7 +1,7 @@
 //! Cases of rows. `wins CELL CELL` joins two cells of one column in both orders; `life MARKER TOMB CELL COVER` asks whether a
 //! row of one cell is live under a cover. A cell is TS=VALUE, or TS!DT where it is dead; `-` is no timestamp.
 
-use crate::answers::{Answer, either};
+use crate::answers::{NO_CASE, tell_either};
 use rc_cell::{Cell, Cells, Row, Tomb, Value};
 use rc_spelling::{number, read_bytes, signed};
 use std::alloc::{AllocError, Global};
@@ -56,15 +56,30 @@ fn holds(row: &Row, wanted: &Cell) -> bool {
     }
 }
 
-/// Which of two cells wins, or that orders of joining differ.
-pub(crate) fn wins(alloc: Global, first: &[u8], second: &[u8]) -> Result<Answer, AllocError> {
-    let Some(first) = cell_of(alloc, first)? else {
-        return Ok(Answer::NoCase);
-    };
-    let Some(second) = cell_of(alloc, second)? else {
-        return Ok(Answer::NoCase);
-    };
-    winner(alloc, &first, &second)
+/// Tells which of two cells wins, or that orders of joining differ.
+pub(crate) fn wins(
+    alloc: Global,
+    first: &[u8],
+    second: &[u8],
+    text: &mut String,
+) -> Result<(), AllocError> {
+    match cell_of(alloc, first)? {
+        Some(first) => wins_over(alloc, &first, second, text),
+        None => text.push_str(NO_CASE),
+    }
+}
+
+// The same of a cell and the word of the other one.
+fn wins_over(
+    alloc: Global,
+    first: &Cell,
+    second: &[u8],
+    text: &mut String,
+) -> Result<(), AllocError> {
+    match cell_of(alloc, second)? {
+        Some(second) => winner(alloc, first, &second, text),
+        None => text.push_str(NO_CASE),
+    }
 }
 
 // The row of one cell joined with that of another.
@@ -74,13 +89,21 @@ fn joined_row(alloc: Global, cell: &Cell, other: &Cell) -> Result<Row, AllocErro
     Ok(joined)
 }
 
-fn winner(alloc: Global, first: &Cell, second: &Cell) -> Result<Answer, AllocError> {
+fn winner(alloc: Global, first: &Cell, second: &Cell, text: &mut String) -> Result<(), AllocError> {
     let joined = joined_row(alloc, first, second)?;
     let turned = joined_row(alloc, second, first)?;
-    if beats(&joined, &turned, first, second) {
-        return Ok(Answer::Word("first"));
+    text.push_str(winner_of(&joined, &turned, first, second))
+}
+
+// The word of the cell that wins in both rows.
+fn winner_of(joined: &Row, turned: &Row, first: &Cell, second: &Cell) -> &'static str {
+    if beats(joined, turned, first, second) {
+        "first"
+    } else if beats(joined, turned, second, first) {
+        "second"
+    } else {
+        "differs"
     }
-    Ok(either(beats(&joined, &turned, second, first), "second", "differs"))
 }
 
 // Whether the first cell is that of both rows, and the greater one.
@@ -94,27 +117,35 @@ pub(crate) fn tomb_of(word: &[u8]) -> Option<Tomb> {
     Some(Tomb { ts, dt: 7 })
 }
 
-/// Whether a row of one cell is live under a cover.
+/// Tells whether a row of one cell is live under a cover.
 pub(crate) fn life(
     alloc: Global,
     marker: &[u8],
     tomb: &[u8],
     cell: &[u8],
     cover: &[u8],
-) -> Result<Answer, AllocError> {
-    let Some(cell) = cell_of(alloc, cell)? else {
-        return Ok(Answer::NoCase);
-    };
-    let mut row = row_of(alloc, &cell)?;
-    row.marker = signed(marker);
-    row.tomb = tomb_of(tomb);
-    covered(alloc, &row, tomb_of(cover))
+    text: &mut String,
+) -> Result<(), AllocError> {
+    match cell_of(alloc, cell)? {
+        Some(cell) => {
+            let mut row = row_of(alloc, &cell)?;
+            row.marker = signed(marker);
+            row.tomb = tomb_of(tomb);
+            covered(alloc, &row, tomb_of(cover), text)
+        }
+        None => text.push_str(NO_CASE),
+    }
 }
 
-fn covered(alloc: Global, row: &Row, cover: Option<Tomb>) -> Result<Answer, AllocError> {
+fn covered(
+    alloc: Global,
+    row: &Row,
+    cover: Option<Tomb>,
+    text: &mut String,
+) -> Result<(), AllocError> {
     let left = row.shadow(alloc, cover)?;
     if row.is_live(cover) != left.is_live(None) {
-        return Ok(Answer::Word("differs"));
+        return text.push_str("differs");
     }
-    Ok(either(row.is_live(cover), "live", "gone"))
+    tell_either(row.is_live(cover), "live", "gone", text)
 }

@@ -2,7 +2,6 @@
 //! column; its answer is how many lines there are, and the first value in them. `slice PT` asks for the rows behind 1, up to 3, of a static value of
 //! timestamp 5 and four rows of timestamp 10 under a partition tombstone, and for all the lines that its fragments give.
 
-use crate::answers::Answer;
 use crate::rows::{cell_of, tomb_of};
 use crate::schemas::row_with;
 use rc_cell::{Cell, Cells, Row, Tomb, Value};
@@ -11,6 +10,7 @@ use rc_position::{Comp, Key, Slice, end_pos, start_pos};
 use rc_query::{Compactor, Lines, OutLine, answer_of, shown_rows};
 use rc_spelling::signed;
 use std::alloc::{AllocError, Global};
+use std::fmt::Write;
 
 fn key(alloc: Global, number: i64) -> Result<Key, AllocError> {
     Key::from_slice(alloc, &[Comp::Int(number)])
@@ -52,18 +52,19 @@ fn first_shown(lines: &Lines) -> &[(u8, Value)] {
     }
 }
 
-// How many lines there are, and the first value that they show.
-fn told(alloc: Global, lines: &Lines) -> Result<Answer, AllocError> {
+// Tells how many lines there are, and the first value that they show.
+fn tell_lines(alloc: Global, lines: &Lines, text: &mut String) -> Result<(), AllocError> {
     let count = lines.as_slice().len();
+    write!(text, "{count}")?;
     match first_shown(lines) {
-        [(_, value), ..] => told_first(alloc, count, value),
-        [] => Ok(Answer::Size(count)),
+        [(_, value), ..] => tell_first(alloc, value, text),
+        [] => Ok(()),
     }
 }
 
-fn told_first(alloc: Global, count: usize, value: &Value) -> Result<Answer, AllocError> {
-    let value = hex::encode(alloc, value.as_slice())?;
-    Ok(Answer::Text(format!(in alloc; "{count}, first {value}")?))
+fn tell_first(alloc: Global, value: &Value, text: &mut String) -> Result<(), AllocError> {
+    let digits = hex::encode(alloc, value.as_slice())?;
+    write!(text, ", first {digits}")
 }
 
 // The rows of two writes.
@@ -79,11 +80,20 @@ fn join_word(alloc: Global, rows: &mut Rows, word: &[u8]) -> Result<(), AllocErr
     join_row(alloc, rows, 1, &row)
 }
 
-/// The lines of two writes to one row.
-pub(crate) fn shows(alloc: Global, first: &[u8], second: &[u8]) -> Result<Answer, AllocError> {
+/// Tells the lines of two writes to one row.
+pub(crate) fn shows(
+    alloc: Global,
+    first: &[u8],
+    second: &[u8],
+    text: &mut String,
+) -> Result<(), AllocError> {
     let rows = rows_of(alloc, first, second)?;
-    let lines = shown_rows(alloc, &rows)?;
-    told(alloc, &lines)
+    tell_rows(alloc, &rows, text)
+}
+
+fn tell_rows(alloc: Global, rows: &Rows, text: &mut String) -> Result<(), AllocError> {
+    let lines = shown_rows(alloc, rows)?;
+    tell_lines(alloc, &lines, text)
 }
 
 // A static value of timestamp 5.
@@ -158,15 +168,14 @@ fn lines_of_fragments(alloc: Global, change: &Mutation) -> Result<u8, AllocError
     lines_of(alloc, &mut compactor, frags.as_slice())
 }
 
-// How many lines a slice of four rows has, and how many their fragments give.
-fn counts_of(alloc: Global, pt: &[u8]) -> Result<(usize, u8), AllocError> {
+/// Tells how many lines a slice of four rows has, and how many their fragments give.
+pub(crate) fn slice(alloc: Global, pt: &[u8], text: &mut String) -> Result<(), AllocError> {
     let change = four_rows(alloc, pt)?;
-    let within = lines_in_slice(alloc, &change)?;
-    Ok((within, lines_of_fragments(alloc, &change)?))
+    tell_counts(alloc, &change, text)
 }
 
-/// How many lines a slice of four rows has, and how many their fragments give.
-pub(crate) fn slice(alloc: Global, pt: &[u8]) -> Result<Answer, AllocError> {
-    let (within, all) = counts_of(alloc, pt)?;
-    Ok(Answer::Text(format!(in alloc; "{within} of {all}")?))
+fn tell_counts(alloc: Global, change: &Mutation, text: &mut String) -> Result<(), AllocError> {
+    let within = lines_in_slice(alloc, change)?;
+    let all = lines_of_fragments(alloc, change)?;
+    write!(text, "{within} of {all}")
 }

@@ -5,7 +5,7 @@ use crate::lines::{
     tomb_of, version_with,
 };
 use rc_cell::{Row, Tomb};
-use rc_core::{Entry, Flag, PlainVersion, is_at_place};
+use rc_core::{Entry, Flag, Mark, is_at_place};
 use rc_mutation::Frag;
 use rc_position::{Pos, Weight};
 use rc_units::{
@@ -31,79 +31,106 @@ fn marker_of(row: &Option<Row>) -> i64 {
     }
 }
 
-// Of an entry: the flag and the tombstone of the gap before it, its own flag and tombstone, and its row's marker.
-fn tell(entry: &Entry, text: &mut String) -> Result<(), AllocError> {
-    let (gap, before) = (letter(entry.gap.flag), stamp(entry.gap.tomb));
-    let (at, here) = (letter(entry.at.flag), stamp(entry.at.tomb));
-    let marker = marker_of(&entry.row);
-    write!(text, "{gap}{before} {at}{here} {marker};")
+// A flag and a tombstone.
+fn tell_mark(mark: Mark, text: &mut String) -> Result<(), AllocError> {
+    let (flag, ts) = (letter(mark.flag), stamp(mark.tomb));
+    write!(text, "{flag}{ts} ")
 }
 
-// The same of each entry.
-fn told(alloc: Global, entries: &[Entry]) -> Result<String, AllocError> {
+// Of an entry: the flag and the tombstone of the gap before it, its own flag and tombstone, and its row's marker.
+fn tell(entry: &Entry, text: &mut String) -> Result<(), AllocError> {
+    tell_mark(entry.gap, text)?;
+    tell_mark(entry.at, text)?;
+    let marker = marker_of(&entry.row);
+    write!(text, "{marker};")
+}
+
+// Whether this is told of entries.
+fn is_told(alloc: Global, entries: &[Entry], wanted: &str) -> Result<bool, AllocError> {
     let mut text = String::new(alloc);
     for entry in entries {
         tell(entry, &mut text)?;
     }
-    Ok(text)
-}
-
-// Whether this is told of entries.
-fn are(alloc: Global, entries: &[Entry], wanted: &str) -> Result<bool, AllocError> {
-    let text = told(alloc, entries)?;
     Ok(text.as_str() == wanted)
 }
 
+// Whether this is told of entries that were made.
+fn are(
+    alloc: Global,
+    made: Result<Vec<Entry>, AllocError>,
+    wanted: &str,
+) -> Result<bool, AllocError> {
+    match made {
+        Ok(entries) => is_told(alloc, entries.as_slice(), wanted),
+        Err(error) => Err(error),
+    }
+}
+
+// Whether this is told of an entry that was made.
+fn is_one(
+    alloc: Global,
+    made: Result<Entry, AllocError>,
+    wanted: &str,
+) -> Result<bool, AllocError> {
+    match made {
+        Ok(entry) => {
+            let mut text = String::new(alloc);
+            tell(&entry, &mut text)?;
+            Ok(text.as_str() == wanted)
+        }
+        Err(error) => Err(error),
+    }
+}
+
 // The first entry of a version merged into another one.
-fn merged_first(alloc: Global, older: &[Entry], newer: &[Entry]) -> Result<Vec<Entry>, AllocError> {
-    match older {
-        [first, next, ..] => merge_first_entry(alloc, first, next, newer),
-        _ => Ok(Vec::new(alloc)),
+fn merged_first(alloc: Global, older: &[Line], newer: &[Line]) -> Result<Vec<Entry>, AllocError> {
+    let older = entries_of(alloc, older)?;
+    let newer = entries_of(alloc, newer)?;
+    match older.as_slice() {
+        [first, next, ..] => merge_first_entry(alloc, first, next, newer.as_slice()),
+        _ => Ok(newer),
     }
 }
 
 // A known row under a tombstone, before a gap that lost what it had, under a version that says nothing but a tombstone of 4.
 #[test]
 fn merges_a_row_into_an_empty_version(rt: HostRuntime) -> Result<(), Fail> {
-    let older = entries_of(rt.alloc(), &[(1, 5, K, 0, K, 9), (0, 0, I, 0, U, 0)])?;
-    let newer = entries_of(rt.alloc(), &[(0, 0, I, 0, I, 4)])?;
-    let made = merged_first(rt.alloc(), &older, &newer)?;
-    assert!(rt; are(rt.alloc(), &made, "K9 K4 5;U4 I0 0;")?);
+    let older = [(1, 5, K, 0, K, 9), (0, 0, I, 0, U, 0)];
+    let newer = [(0, 0, I, 0, I, 4)];
+    let made = merged_first(rt.alloc(), &older, &newer);
+    assert!(rt; are(rt.alloc(), made, "K9 K4 5;U4 I0 0;")?);
     Ok(())
 }
 
-// The first entry of a version merged onto the first one of another.
-fn merged_onto(alloc: Global, older: &[Entry], newer: &[Entry]) -> Result<Vec<Entry>, AllocError> {
-    let mut made = Vec::new(alloc);
-    if let ([first, next, ..], [onto, ..]) = (older, newer) {
-        made.push(merge_onto(alloc, first, next, onto)?)?;
-    }
-    Ok(made)
-}
-
-// Whether this is told of a known row of 5 merged onto a line.
-fn row_onto(alloc: Global, line: &Line, wanted: &str) -> Result<bool, AllocError> {
-    let older = entries_of(alloc, &[(1, 5, K, 0, K, 0), END])?;
-    let newer = entries_of(alloc, &[*line])?;
-    let made = merged_onto(alloc, &older, &newer)?;
-    are(alloc, &made, wanted)
+// A known row of 5, of a version of its own, merged onto the entry of a line.
+fn row_onto(alloc: Global, line: &Line) -> Result<Entry, AllocError> {
+    let first = entry_of(alloc, &(1, 5, K, 0, K, 0))?;
+    let next = entry_of(alloc, &END)?;
+    let onto = entry_of(alloc, line)?;
+    merge_onto(alloc, &first, &next, &onto)
 }
 
 // Under an inheriting row the older one is joined, under an unknown one it is dropped.
 #[test]
 fn an_unknown_row_drops_the_older_one(rt: HostRuntime) -> Result<(), Fail> {
-    assert!(rt; row_onto(rt.alloc(), &(1, 3, I, 0, U, 0), "U0 K0 5;")?);
-    assert!(rt; row_onto(rt.alloc(), &(1, 3, U, 0, I, 0), "K0 U0 3;")?);
+    let joined = row_onto(rt.alloc(), &(1, 3, I, 0, U, 0));
+    assert!(rt; is_one(rt.alloc(), joined, "U0 K0 5;")?);
+    let dropped = row_onto(rt.alloc(), &(1, 3, U, 0, I, 0));
+    assert!(rt; is_one(rt.alloc(), dropped, "K0 U0 3;")?);
     Ok(())
+}
+
+// A known end dummy under a tombstone of 6 merged under a row of 3.
+fn end_merged(alloc: Global) -> Result<Vec<Entry>, AllocError> {
+    let newer = entries_of(alloc, &[(1, 3, I, 0, U, 0), END])?;
+    let end = entry_of(alloc, &(0, 0, K, 0, K, 6))?;
+    merge_end_dummy(alloc, &end, newer.as_slice())
 }
 
 // The gap before an end dummy goes under all before it.
 #[test]
 fn merges_an_end_dummy(rt: HostRuntime) -> Result<(), Fail> {
-    let newer = entries_of(rt.alloc(), &[(1, 3, I, 0, U, 0), END])?;
-    let end = entry_of(rt.alloc(), &(0, 0, K, 0, K, 6))?;
-    let made = merge_end_dummy(rt.alloc(), &end, &newer)?;
-    assert!(rt; are(rt.alloc(), &made, "U0 K6 3;K6 K0 0;")?);
+    assert!(rt; are(rt.alloc(), end_merged(rt.alloc()), "U0 K6 3;K6 K0 0;")?);
     Ok(())
 }
 
@@ -144,23 +171,44 @@ fn with_tomb(
     put_fragment(alloc, None, &change, next, entries)
 }
 
-// An update with a row at 1 and a tombstone of 8 from 2 on: each unit leaves a dummy at the next place, and all flags inherit.
+// An update with a row at 1 and a tombstone of 8 from 2 on.
+fn with_both(alloc: Global) -> Result<Vec<Entry>, AllocError> {
+    let entries = with_row(alloc)?;
+    let two = place_of(alloc, 2)?;
+    with_tomb(alloc, &two, &end_place(alloc), entries.as_slice())
+}
+
+// Each unit leaves a dummy at the next place, and all flags inherit.
 #[test]
 fn puts_fragments_in_one_after_another(rt: HostRuntime) -> Result<(), Fail> {
-    let two = place_of(rt.alloc(), 2)?;
-    let entries = with_row(rt.alloc())?;
-    let made = with_tomb(rt.alloc(), &two, &end_place(rt.alloc()), &entries)?;
-    assert!(rt; are(rt.alloc(), &made, "I0 I0 5;I0 I8 0;I8 I0 0;")?);
+    assert!(rt;
+        are(
+            rt.alloc(),
+            with_both(rt.alloc()),
+            "I0 I0 5;I0 I8 0;I8 I0 0;"
+        )?
+    );
     Ok(())
+}
+
+// An update with a row at 1, whose rest is lost.
+fn with_lost(alloc: Global) -> Result<Vec<Entry>, AllocError> {
+    let two = place_of(alloc, 2)?;
+    let mut made = with_row(alloc)?;
+    lose_rest(&two, made.as_mut_slice());
+    Ok(made)
 }
 
 // Without room the rest is lost.
 #[test]
 fn loses_the_rest_without_room(rt: HostRuntime) -> Result<(), Fail> {
-    let two = place_of(rt.alloc(), 2)?;
-    let mut made = with_row(rt.alloc())?;
-    lose_rest(&two, &mut made);
-    assert!(rt; are(rt.alloc(), &made, "I0 I0 5;I0 U0 0;U0 I0 0;")?);
+    assert!(rt;
+        are(
+            rt.alloc(),
+            with_lost(rt.alloc()),
+            "I0 I0 5;I0 U0 0;U0 I0 0;"
+        )?
+    );
     Ok(())
 }
 
@@ -175,13 +223,17 @@ fn a_change_sets_the_tombstone_in_force(rt: HostRuntime) -> Result<(), Fail> {
     Ok(())
 }
 
-// A row of 5 that is joined where one of 3 stands makes no entry.
+// A row of 5 joined where one of 3 stands.
+fn row_joined(alloc: Global) -> Result<Vec<Entry>, AllocError> {
+    let entries = entries_of(alloc, &[(1, 3, K, 0, K, 0), END])?;
+    let at = place_of(alloc, 1)?;
+    join_row(alloc, &at, &marked(alloc, 5), entries.as_slice())
+}
+
+// It makes no entry.
 #[test]
 fn joins_a_row_at_its_entry(rt: HostRuntime) -> Result<(), Fail> {
-    let entries = entries_of(rt.alloc(), &[(1, 3, K, 0, K, 0), END])?;
-    let at = place_of(rt.alloc(), 1)?;
-    let made = join_row(rt.alloc(), &at, &marked(rt.alloc(), 5), &entries)?;
-    assert!(rt; are(rt.alloc(), &made, "K0 K0 5;I0 I0 0;")?);
+    assert!(rt; are(rt.alloc(), row_joined(rt.alloc()), "K0 K0 5;I0 I0 0;")?);
     Ok(())
 }
 
@@ -196,32 +248,58 @@ fn a_last_entry_merged_alone_leaves_a_gap_that_is_not_unknown(rt: HostRuntime) -
     Ok(())
 }
 
-// An update of a tombstone from before the key 2 on, at the place of its first change.
+// Before the key 2.
+fn before_two(alloc: Global) -> Result<Pos, AllocError> {
+    place(alloc, 2, Weight::Before)
+}
+
+// Whether the version of entries that were made stands at the place of an update.
+fn stand_at(place: &Pos, made: Result<Vec<Entry>, AllocError>) -> Result<bool, AllocError> {
+    match made {
+        Ok(entries) => Ok(is_at_place(place, &version_with(entries))),
+        Err(error) => Err(error),
+    }
+}
+
+// Whether an update of a tombstone from before the key 2 on is at the place of its first change.
+fn stands_before(alloc: Global) -> Result<bool, AllocError> {
+    let before = before_two(alloc)?;
+    stand_at(&before, begun(alloc, &before))
+}
+
 #[test]
 fn an_update_stands_before_a_key(rt: HostRuntime) -> Result<(), Fail> {
-    let before = place(rt.alloc(), 2, Weight::Before)?;
-    let version = version_with(begun(rt.alloc(), &before)?);
-    assert!(rt; is_at_place(&before, &version));
+    assert!(rt; stands_before(rt.alloc())?);
     Ok(())
 }
 
 // The same update, gone on to the place of the key's row.
 fn gone_on(alloc: Global) -> Result<Vec<Entry>, AllocError> {
-    let before = place(alloc, 2, Weight::Before)?;
-    let row = place_of(alloc, 2)?;
+    let before = before_two(alloc)?;
     let entries = begun(alloc, &before)?;
-    with_tomb(alloc, &before, &row, &entries)
+    gone_on_from(alloc, &before, entries.as_slice())
 }
 
-fn copied(alloc: Global, entries: &[Entry]) -> Result<PlainVersion, AllocError> {
-    Ok(version_with(copy_entries(alloc, entries)?))
+fn gone_on_from(alloc: Global, before: &Pos, entries: &[Entry]) -> Result<Vec<Entry>, AllocError> {
+    let row = place_of(alloc, 2)?;
+    with_tomb(alloc, before, &row, entries)
+}
+
+// A copy of its entries.
+fn copied(alloc: Global) -> Result<Vec<Entry>, AllocError> {
+    let entries = gone_on(alloc)?;
+    copy_entries(alloc, entries.as_slice())
+}
+
+// Whether it stands at the row of the key.
+fn stands_at_row(alloc: Global) -> Result<bool, AllocError> {
+    let row = place_of(alloc, 2)?;
+    stand_at(&row, copied(alloc))
 }
 
 #[test]
 fn an_update_goes_on_to_the_row_of_the_key(rt: HostRuntime) -> Result<(), Fail> {
-    let entries = gone_on(rt.alloc())?;
-    let version = copied(rt.alloc(), &entries)?;
-    assert!(rt; is_at_place(&place_of(rt.alloc(), 2)?, &version));
+    assert!(rt; stands_at_row(rt.alloc())?);
     Ok(())
 }
 
@@ -234,20 +312,20 @@ fn gone_on_silently(alloc: Global) -> Result<Vec<Entry>, AllocError> {
     Ok(entries)
 }
 
+// Whether their version stands before the key.
+fn stands_silently(alloc: Global) -> Result<bool, AllocError> {
+    let before = before_two(alloc)?;
+    stand_at(&before, gone_on_silently(alloc))
+}
+
 // Its unit puts the tombstone on the gap between that and the row's own place, which holds no position, and leaves a dummy there. At the place
 // before it, where no position would show the tombstone, the version is refused, whatever the dummy says.
 #[test]
 fn a_tombstone_on_a_gap_of_no_position_is_refused_behind_the_place(
     rt: HostRuntime,
 ) -> Result<(), Fail> {
-    let version = version_with(gone_on_silently(rt.alloc())?);
-    assert!(rt;
-        are(
-            rt.alloc(),
-            version.entries.as_slice(),
-            "I0 I0 0;I8 I0 0;I0 I0 0;"
-        )?
-    );
-    assert!(rt; !is_at_place(&place(rt.alloc(), 2, Weight::Before)?, &version));
+    let made = gone_on_silently(rt.alloc());
+    assert!(rt; are(rt.alloc(), made, "I0 I0 0;I8 I0 0;I0 I0 0;")?);
+    assert!(rt; !stands_silently(rt.alloc())?);
     Ok(())
 }

@@ -116,16 +116,27 @@ fn a_memtable_by_hand(rt: HostRuntime) -> Result<(), Fail> {
     Ok(())
 }
 
-// A version under update at 2: the dummy before the place may be evicted; that at the place and the end dummy stay.
+// Whether of a version under update the dummy before the place may be evicted, and that at the place and the end dummy stay.
+fn keeps_place(place: &Pos, version: &mut PlainVersion) -> bool {
+    is_at_place(place, version)
+        && evict_under_update(place, version, 0)
+        && is_at_place(place, version)
+        && version.entries.len() == 2
+        && !evict_under_update(place, version, 0)
+        && version.entries.len() == 2
+        && !evict_under_update(place, version, 1)
+}
+
+// The same of a version under update at 2.
+fn keeps_two(alloc: Global) -> Result<bool, AllocError> {
+    let place = place_of(alloc, 2)?;
+    let mut version = version_of(alloc, &[(1, 9, I, 0, I, 0), (2, 0, I, 0, I, 4), END])?;
+    Ok(keeps_place(&place, &mut version))
+}
+
 #[test]
 fn the_dummy_at_the_place_stays(rt: HostRuntime) -> Result<(), Fail> {
-    let place = place_of(rt.alloc(), 2)?;
-    let mut version = version_of(rt.alloc(), &[(1, 9, I, 0, I, 0), (2, 0, I, 0, I, 4), END])?;
-    assert!(rt; is_at_place(&place, &version));
-    assert!(rt; evict_under_update(&place, &mut version, 0));
-    assert!(rt; is_at_place(&place, &version));
-    assert!(rt; version.entries.len() == 2 && !evict_under_update(&place, &mut version, 0));
-    assert!(rt; version.entries.len() == 2 && !evict_under_update(&place, &mut version, 1));
+    assert!(rt; keeps_two(rt.alloc())?);
     Ok(())
 }
 
@@ -191,36 +202,55 @@ fn statics_told(
     Ok((known, newest))
 }
 
-// The static row of an older version is seen through one that inherits, and not through one whose flag the cleaner set to Unknown, or where
-// the flag of a dropped version was lost; and the partition tombstone is the greatest of all.
+// Of two versions the flag of the static row and the partition tombstone, and what is told of them. The static row of an older version is seen through
+// one that inherits, and not through one whose flag the cleaner set to Unknown, or where the flag of a dropped version was lost; and the partition
+// tombstone is the greatest of all.
+const STATICS: [((Flag, i64), (Flag, i64), (bool, bool)); 4] = [
+    ((K, 4), (I, 6), (true, true)),
+    ((K, 6), (U, 4), (false, true)),
+    ((I, 6), (I, 0), (false, true)),
+    ((U, 0), (K, 6), (true, true)),
+];
+
+// Whether this is told of each of these.
+fn are_statics(
+    alloc: Global,
+    table: &[((Flag, i64), (Flag, i64), (bool, bool))],
+) -> Result<bool, AllocError> {
+    for (older, newer, wanted) in table {
+        if statics_told(alloc, *older, *newer)? != *wanted {
+            return Ok(false);
+        }
+    }
+    Ok(true)
+}
+
 #[test]
 fn static_rows_by_hand(rt: HostRuntime) -> Result<(), Fail> {
-    assert!(rt; statics_told(rt.alloc(), (K, 4), (I, 6))? == (true, true));
-    assert!(rt; statics_told(rt.alloc(), (K, 6), (U, 4))? == (false, true));
-    assert!(rt; statics_told(rt.alloc(), (I, 6), (I, 0))? == (false, true));
-    assert!(rt; statics_told(rt.alloc(), (U, 0), (K, 6))? == (true, true));
+    assert!(rt; are_statics(rt.alloc(), &STATICS)?);
     Ok(())
 }
 
-// The base of the position 2 and of the gap behind it, in three versions.
-#[test]
-fn bases_by_hand(rt: HostRuntime) -> Result<(), Fail> {
+// Whether of three versions the middle one is the base of a position, the oldest that of the gap behind it, and that gap is not flagged.
+fn are_bases(alloc: Global, chain: &[PlainVersion], place: &Pos) -> Result<bool, AllocError> {
+    let bases = base_at(chain, place, Side::On) == Some(1)
+        && base_at(chain, place, Side::Behind) == Some(0);
+    Ok(bases && !is_flagged_at(alloc, ChainKind::Cache, chain, place, Side::Behind)?)
+}
+
+// The same of the position 2, in three versions.
+fn bases_told(alloc: Global) -> Result<bool, AllocError> {
     let oldest: [Line; 1] = [(0, 0, U, 0, U, 0)];
     let older: [Line; 2] = [(2, 7, K, 0, I, 0), END];
     let newest: [Line; 2] = [(2, 9, I, 0, I, 0), END];
-    let chain = chain_of(rt.alloc(), &[&oldest, &older, &newest])?;
-    let place = place_of(rt.alloc(), 2)?;
-    assert!(rt; base_at(chain.as_slice(), &place, Side::On) == Some(1));
-    assert!(rt; base_at(chain.as_slice(), &place, Side::Behind) == Some(0));
-    assert!(rt;
-        !is_flagged_at(
-            rt.alloc(),
-            ChainKind::Cache,
-            chain.as_slice(),
-            &place,
-            Side::Behind
-        )?
-    );
+    let chain = chain_of(alloc, &[&oldest, &older, &newest])?;
+    let place = place_of(alloc, 2)?;
+    are_bases(alloc, chain.as_slice(), &place)
+}
+
+#[test]
+fn bases_by_hand(rt: HostRuntime) -> Result<(), Fail> {
+    assert!(rt; bases_told(rt.alloc())?);
     Ok(())
 }
 

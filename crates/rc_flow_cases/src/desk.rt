@@ -1,12 +1,12 @@
 //! The cases as standard input lists them, line by line.
 
-use crate::files::{Change, change_of, number_and_rest};
-use crate::readings::{Reading, read_alone, read_counts, read_merged};
+use crate::files::{change_file, number_and_rest};
+use crate::readings::{Files, read_alone, read_counts, read_merged};
 use crate::sweeps::{Sums, Sweep, Ways};
 use crate::telling::tell_asked;
 use crate::watched::Folder;
-use crate::words::{key_of, mutation_of, position};
-use rc_position::{Pos, Weight};
+use crate::words::{Reading, join_items, reading_of};
+use rc_mutation::Mutation;
 use rc_schema::Schema;
 use rc_stream::ListFrags;
 use rc_tables::{TableFrags, TableSet};
@@ -17,15 +17,13 @@ use std::rc::Rc;
 /// The schema of every table.
 const SCHEMA: &[u8] = b"ck=int static=s cols=a,b";
 
-/// The tables of a case, and what is printed so far.
+/// The tables of a case.
 #[derive(Drop)]
 pub(crate) struct Desk {
-    schema: Rc<Schema>,
-    // The tables that were written and checked.
+    // Their schema, and what is done to a file behind the first call of the next reading.
+    files: Files,
+    // Those that were written and checked.
     tables: TableSet,
-    // What is done to a file behind the first call of the next reading.
-    between: Option<Change>,
-    text: String,
 }
 
 // The schema of every table.
@@ -36,49 +34,38 @@ fn schema_of(alloc: Global) -> Result<Rc<Schema>, AllocError> {
     }
 }
 
-// From before the one row on, up to behind the other; none where the words do not say which.
-fn places_of(alloc: Global, first: &str, last: &str) -> Result<Option<(Pos, Pos)>, AllocError> {
-    let (Ok(first), Ok(last)) = (first.parse::<i64>(), last.parse::<i64>()) else {
-        return Ok(None);
-    };
-    let from = position(alloc, first, Weight::Before)?;
-    Ok(Some((from, position(alloc, last, Weight::After)?)))
+fn files_of(alloc: Global) -> Result<Files, AllocError> {
+    let schema = schema_of(alloc)?;
+    Ok(Files {
+        schema,
+        between: String::new(alloc),
+    })
 }
 
 impl Desk {
     /// No table yet.
     pub(crate) fn new(alloc: Global) -> Result<Self, AllocError> {
-        let schema = schema_of(alloc)?;
         let tables = TableSet::empty(alloc)?;
         Ok(Desk {
-            schema,
+            files: files_of(alloc)?,
             tables,
-            between: None,
-            text: String::new(alloc),
         })
     }
 
-    /// What is printed.
-    pub(crate) fn told(&self) -> &str {
-        self.text.as_str()
-    }
-
-    /// The next line. One that is none of a case is told.
+    /// The next line, and what it tells. One that is none of a case is told.
     pub(crate) fn take(
         &mut self,
         alloc: Global,
         folder: &mut Folder<'_>,
         line: &str,
+        text: &mut String,
     ) -> Result<(), AllocError> {
-        if line.is_empty() || line.starts_with("#") {
+        if line.is_empty() || line.starts_with("#") || self.serve(alloc, folder, line, text)? {
             return Ok(());
         }
-        if self.serve(alloc, folder, line)? {
-            return Ok(());
-        }
-        self.text.push_str("? not done: ")?;
-        self.text.push_str(line)?;
-        self.text.push_str("\n")
+        text.push_str("? not done: ")?;
+        text.push_str(line)?;
+        text.push_str("\n")
     }
 
     // Does what a line says; whether it could be done.
@@ -87,40 +74,28 @@ impl Desk {
         alloc: Global,
         folder: &mut Folder<'_>,
         line: &str,
+        text: &mut String,
     ) -> Result<bool, AllocError> {
-        let (kind, text) = line.split_once(' ').unwrap_or((line, ""));
+        let (kind, words) = line.split_once(' ').unwrap_or((line, ""));
         match kind {
-            "case" => self.begin(alloc, text),
+            "case" => self.begin(alloc, words, text),
             "table" => self.add_table(alloc, folder, line),
-            "behind" => self.keep_change(alloc, text),
-            "read" => self.read(alloc, folder, text),
-            "cuts" => self.sweep(alloc, folder, Ways::Cuts, text),
-            "bits" => self.sweep(alloc, folder, Ways::Bits, text),
-            _ => self.change_now(alloc, folder, line),
+            "behind" => self.keep_change(words),
+            "read" => self.read(alloc, folder, words, text),
+            "cuts" => self.sweep(alloc, folder, Ways::Cuts, words, text),
+            "bits" => self.sweep(alloc, folder, Ways::Bits, words, text),
+            _ => change_file(alloc, folder, self.files.schema.as_ref(), line),
         }
     }
 
     // The first line of a case.
-    fn begin(&mut self, alloc: Global, name: &str) -> Result<bool, AllocError> {
+    fn begin(&mut self, alloc: Global, name: &str, text: &mut String) -> Result<bool, AllocError> {
         self.tables = TableSet::empty(alloc)?;
-        self.between = None;
-        self.text.push_str("case ")?;
-        self.text.push_str(name)?;
-        self.text.push_str("\n")?;
+        self.files.between.clear();
+        text.push_str("case ")?;
+        text.push_str(name)?;
+        text.push_str("\n")?;
         Ok(true)
-    }
-
-    // A file is changed.
-    fn change_now(
-        &mut self,
-        alloc: Global,
-        folder: &mut Folder<'_>,
-        line: &str,
-    ) -> Result<bool, AllocError> {
-        match change_of(alloc, line)? {
-            Some(change) => change.apply(alloc, folder, self.schema.as_ref()),
-            None => Ok(false),
-        }
     }
 
     // A table is written, checked, and put behind the others.
@@ -130,13 +105,24 @@ impl Desk {
         folder: &mut Folder<'_>,
         line: &str,
     ) -> Result<bool, AllocError> {
-        let Some(change) = change_of(alloc, line)? else {
-            return Ok(false);
-        };
-        if !change.apply(alloc, folder, self.schema.as_ref())? {
+        if !change_file(alloc, folder, self.files.schema.as_ref(), line)? {
             return Ok(false);
         }
-        match check_table(alloc, folder, change.number, self.schema.as_ref()) {
+        let (_kind, words) = line.split_once(' ').unwrap_or((line, ""));
+        match number_and_rest(words) {
+            Some((number, _)) => self.add_checked(alloc, folder, number),
+            None => Ok(false),
+        }
+    }
+
+    // The table of a number is checked, and put behind the others; whether it is one.
+    fn add_checked(
+        &mut self,
+        alloc: Global,
+        folder: &mut Folder<'_>,
+        number: u32,
+    ) -> Result<bool, AllocError> {
+        match check_table(alloc, folder, number, self.files.schema.as_ref()) {
             Ok(info) => {
                 self.tables = self.tables.with(alloc, info)?;
                 Ok(true)
@@ -146,53 +132,17 @@ impl Desk {
     }
 
     // A file is changed behind the first call of the next reading.
-    fn keep_change(&mut self, alloc: Global, text: &str) -> Result<bool, AllocError> {
-        self.between = change_of(alloc, text)?;
-        Ok(self.between.is_some())
+    fn keep_change(&mut self, line: &str) -> Result<bool, AllocError> {
+        self.files.between.clear();
+        self.files.between.push_str(line)?;
+        Ok(true)
     }
 
     // A stream of the tables.
-    fn tables_at(&self, alloc: Global, key: &str) -> Result<Option<TableFrags>, AllocError> {
-        let Some(key) = key_of(alloc, key)? else {
-            return Ok(None);
-        };
+    fn tables_at(&self, alloc: Global, reading: &Reading) -> Result<TableFrags, AllocError> {
+        let key = reading.key.copy(alloc)?;
         let set = self.tables.share()?;
-        Ok(Some(TableFrags::lazy(set, self.schema.clone()?, key)))
-    }
-
-    // A reading from before the one row on, up to behind the other.
-    fn reading(
-        &mut self,
-        alloc: Global,
-        first: &str,
-        last: &str,
-    ) -> Result<Option<Reading>, AllocError> {
-        let Some((from, upto)) = places_of(alloc, first, last)? else {
-            return Ok(None);
-        };
-        Ok(Some(Reading {
-            schema: self.schema.clone()?,
-            from,
-            upto,
-            between: self.between.take(),
-        }))
-    }
-
-    // The stream of a partition, and how it is read.
-    fn opened(
-        &mut self,
-        alloc: Global,
-        key: &str,
-        first: &str,
-        last: &str,
-    ) -> Result<Option<(TableFrags, Reading)>, AllocError> {
-        let Some(tables) = self.tables_at(alloc, key)? else {
-            return Ok(None);
-        };
-        match self.reading(alloc, first, last)? {
-            Some(reading) => Ok(Some((tables, reading))),
-            None => Ok(None),
-        }
+        Ok(TableFrags::lazy(set, self.files.schema.clone()?, key))
     }
 
     // A partition is read, with as many lists as are named; whether the line says how.
@@ -200,210 +150,268 @@ impl Desk {
         &mut self,
         alloc: Global,
         folder: &mut Folder<'_>,
-        text: &str,
+        words: &str,
+        text: &mut String,
     ) -> Result<bool, AllocError> {
-        let words = text.split(' ').collect::<Vec<&str>>(alloc)?;
-        self.read_words(alloc, folder, words.as_slice())
+        let words = words.split(' ').collect::<Vec<&str>>(alloc)?;
+        let read = self.read_words(alloc, folder, words.as_slice(), text)?;
+        self.files.between.clear();
+        Ok(read)
     }
 
     // The same of a line's words.
     fn read_words(
-        &mut self,
+        &self,
         alloc: Global,
         folder: &mut Folder<'_>,
         words: &[&str],
+        text: &mut String,
     ) -> Result<bool, AllocError> {
         let [key, first, last, lists @ ..] = words else {
             return Ok(false);
         };
+        match reading_of(alloc, key, (first, last))? {
+            Some(reading) => self.read_asked(alloc, folder, &reading, lists, text),
+            None => Ok(false),
+        }
+    }
+
+    // The same of a reading and some lists, and which ranges it asked for.
+    fn read_asked(
+        &self,
+        alloc: Global,
+        folder: &mut Folder<'_>,
+        reading: &Reading,
+        lists: &[&str],
+        text: &mut String,
+    ) -> Result<bool, AllocError> {
         folder.forget(alloc);
-        let Some((tables, reading)) = self.opened(alloc, key, first, last)? else {
-            return Ok(false);
-        };
-        let read = read_lists(alloc, folder, tables, &reading, lists, &mut self.text)?;
-        tell_asked(folder.asked(), &mut self.text)?;
+        let read = self.read_lists(alloc, folder, reading, lists, text)?;
+        tell_asked(folder.asked(), text)?;
         Ok(read)
     }
 
-    // What a reading of the tables alone tells; none where the words do not say which.
-    fn told_of(
-        &mut self,
+    // A partition is read from the tables alone, or from one list or two and the tables; whether it could be.
+    fn read_lists(
+        &self,
         alloc: Global,
         folder: &mut Folder<'_>,
-        words: &[&str],
-    ) -> Result<Option<String>, AllocError> {
-        let [key, first, last] = words else {
-            return Ok(None);
-        };
-        folder.forget(alloc);
-        match self.opened(alloc, key, first, last)? {
-            Some((mut tables, reading)) => {
-                Ok(Some(told_alone(alloc, folder, &mut tables, &reading)?))
+        reading: &Reading,
+        lists: &[&str],
+        text: &mut String,
+    ) -> Result<bool, AllocError> {
+        match lists {
+            [] => {
+                self.read_tables(alloc, folder, reading, text)?;
+                Ok(true)
             }
-            None => Ok(None),
+            [one] => self.read_one(alloc, folder, reading, one, text),
+            [one, two] => self.read_two(alloc, folder, reading, (one, two), text),
+            _ => Ok(false),
         }
+    }
+
+    // A partition is read from the tables alone.
+    fn read_tables(
+        &self,
+        alloc: Global,
+        folder: &mut Folder<'_>,
+        reading: &Reading,
+        text: &mut String,
+    ) -> Result<(), AllocError> {
+        let mut tables = self.tables_at(alloc, reading)?;
+        read_alone(alloc, folder, &self.files, &mut tables, reading, text)
+    }
+
+    // A partition is read from one list and the tables; whether the items are those of a list.
+    fn read_one(
+        &self,
+        alloc: Global,
+        folder: &mut Folder<'_>,
+        reading: &Reading,
+        items: &str,
+        text: &mut String,
+    ) -> Result<bool, AllocError> {
+        let mut change = Mutation::empty(alloc);
+        if join_items(alloc, &mut change, items)? {
+            self.read_change(alloc, folder, reading, &change, text)?;
+            return Ok(true);
+        }
+        Ok(false)
+    }
+
+    // The same of what a list says.
+    fn read_change(
+        &self,
+        alloc: Global,
+        folder: &mut Folder<'_>,
+        reading: &Reading,
+        change: &Mutation,
+        text: &mut String,
+    ) -> Result<(), AllocError> {
+        let list = list_of(alloc, change)?;
+        self.read_list(alloc, folder, reading, list, text)
+    }
+
+    fn read_list(
+        &self,
+        alloc: Global,
+        folder: &mut Folder<'_>,
+        reading: &Reading,
+        list: ListFrags,
+        text: &mut String,
+    ) -> Result<(), AllocError> {
+        let tables = self.tables_at(alloc, reading)?;
+        read_merged(alloc, folder, &self.files, list, tables, reading, text)
+    }
+
+    // A partition is read from two lists and the tables; whether the items are those of lists.
+    fn read_two(
+        &self,
+        alloc: Global,
+        folder: &mut Folder<'_>,
+        reading: &Reading,
+        items: (&str, &str),
+        text: &mut String,
+    ) -> Result<bool, AllocError> {
+        let mut one = Mutation::empty(alloc);
+        let mut two = Mutation::empty(alloc);
+        if join_both(alloc, &mut one, &mut two, items)? {
+            self.read_both(alloc, folder, reading, &one, &two, text)?;
+            return Ok(true);
+        }
+        Ok(false)
+    }
+
+    fn read_both(
+        &self,
+        alloc: Global,
+        folder: &mut Folder<'_>,
+        reading: &Reading,
+        one: &Mutation,
+        two: &Mutation,
+        text: &mut String,
+    ) -> Result<(), AllocError> {
+        let one = list_of(alloc, one)?;
+        let two = list_of(alloc, two)?;
+        self.count_asked(alloc, folder, reading, (one, two), text)
+    }
+
+    fn count_asked(
+        &self,
+        alloc: Global,
+        folder: &mut Folder<'_>,
+        reading: &Reading,
+        (one, two): (ListFrags, ListFrags),
+        text: &mut String,
+    ) -> Result<(), AllocError> {
+        let tables = self.tables_at(alloc, reading)?;
+        read_counts(alloc, folder, one, two, tables, reading, text)
     }
 
     // A file is another one in each of some ways in turn, and is read each time; whether each was.
     fn sweep(
-        &mut self,
+        &self,
         alloc: Global,
         folder: &mut Folder<'_>,
         ways: Ways,
-        text: &str,
+        words: &str,
+        text: &mut String,
     ) -> Result<bool, AllocError> {
-        let Some((number, text)) = number_and_rest(text) else {
+        let Some((number, words)) = number_and_rest(words) else {
             return Ok(false);
         };
-        let Some(sweep) = Sweep::new(alloc, folder, number, ways)? else {
-            return Ok(false);
-        };
-        self.sweep_words(alloc, folder, &sweep, text)
+        match Sweep::new(alloc, folder, number, ways)? {
+            Some(sweep) => self.sweep_words(alloc, folder, &sweep, words, text),
+            None => Ok(false),
+        }
     }
 
     // The same of a file's ways, and of the words behind its number.
     fn sweep_words(
-        &mut self,
+        &self,
         alloc: Global,
         folder: &mut Folder<'_>,
         sweep: &Sweep,
-        text: &str,
+        words: &str,
+        text: &mut String,
     ) -> Result<bool, AllocError> {
-        let words = text.split(' ').collect::<Vec<&str>>(alloc)?;
-        match self.swept(alloc, folder, sweep, words.as_slice())? {
-            Some(sums) => {
-                sums.tell(&mut self.text)?;
-                Ok(sweep.restore(alloc, folder))
-            }
-            None => Ok(false),
+        let words = words.split(' ').collect::<Vec<&str>>(alloc)?;
+        let mut sums = Sums::new();
+        if self.swept(alloc, folder, sweep, words.as_slice(), &mut sums)? {
+            sums.tell(text)?;
+            return Ok(sweep.restore(alloc, folder));
         }
+        Ok(false)
     }
 
-    // What these readings came to.
+    // Adds what these readings come to; whether the words say which.
     fn swept(
-        &mut self,
+        &self,
         alloc: Global,
         folder: &mut Folder<'_>,
         sweep: &Sweep,
         words: &[&str],
-    ) -> Result<Option<Sums>, AllocError> {
-        let Some(before) = self.told_of(alloc, folder, words)? else {
-            return Ok(None);
-        };
-        let mut sums = Sums::new();
-        for way in 0..sweep.count() {
-            if !sweep.change(alloc, folder, way)? {
-                return Ok(None);
-            }
-            if !self.add_way(alloc, folder, words, before.as_str(), &mut sums)? {
-                return Ok(None);
-            }
-        }
-        Ok(Some(sums))
-    }
-
-    // One reading more, where the file as it was told that; whether the words say which.
-    fn add_way(
-        &mut self,
-        alloc: Global,
-        folder: &mut Folder<'_>,
-        words: &[&str],
-        before: &str,
         sums: &mut Sums,
     ) -> Result<bool, AllocError> {
-        match self.told_of(alloc, folder, words)? {
-            Some(told) => {
-                sums.add(told.as_str(), before);
-                Ok(true)
-            }
+        let [key, first, last] = words else {
+            return Ok(false);
+        };
+        match reading_of(alloc, key, (first, last))? {
+            Some(reading) => self.sweep_reading(alloc, folder, sweep, &reading, sums),
             None => Ok(false),
         }
     }
-}
 
-// What a reading of tables alone tells.
-fn told_alone(
-    alloc: Global,
-    folder: &mut Folder<'_>,
-    tables: &mut TableFrags,
-    reading: &Reading,
-) -> Result<String, AllocError> {
-    let mut told = String::new(alloc);
-    read_alone(alloc, folder, tables, reading, &mut told)?;
-    Ok(told)
-}
-
-// The list of what the items say.
-fn list_of(alloc: Global, items: &str) -> Result<Option<ListFrags>, AllocError> {
-    match mutation_of(alloc, items)? {
-        Some(change) => Ok(Some(ListFrags::new(change.fragments(alloc)?))),
-        None => Ok(None),
-    }
-}
-
-// A partition is read from one list and the tables; whether the items are those of a list.
-fn read_one(
-    alloc: Global,
-    folder: &mut Folder<'_>,
-    tables: TableFrags,
-    reading: &Reading,
-    items: &str,
-    text: &mut String,
-) -> Result<bool, AllocError> {
-    let Some(list) = list_of(alloc, items)? else {
-        return Ok(false);
-    };
-    read_merged(alloc, folder, list, tables, reading, text)?;
-    Ok(true)
-}
-
-// The lists of two texts of items; none where one is that of none.
-fn lists_of(
-    alloc: Global,
-    one: &str,
-    two: &str,
-) -> Result<Option<(ListFrags, ListFrags)>, AllocError> {
-    let Some(one) = list_of(alloc, one)? else {
-        return Ok(None);
-    };
-    match list_of(alloc, two)? {
-        Some(two) => Ok(Some((one, two))),
-        None => Ok(None),
-    }
-}
-
-// A partition is read from two lists and the tables; whether the items are those of lists.
-fn read_two(
-    alloc: Global,
-    folder: &mut Folder<'_>,
-    tables: TableFrags,
-    reading: &Reading,
-    (one, two): (&str, &str),
-    text: &mut String,
-) -> Result<bool, AllocError> {
-    let Some((one, two)) = lists_of(alloc, one, two)? else {
-        return Ok(false);
-    };
-    read_counts(alloc, folder, one, two, tables, reading, text)?;
-    Ok(true)
-}
-
-// A partition is read from the tables alone, or from one list or two and the tables; whether it could be.
-fn read_lists(
-    alloc: Global,
-    folder: &mut Folder<'_>,
-    mut tables: TableFrags,
-    reading: &Reading,
-    lists: &[&str],
-    text: &mut String,
-) -> Result<bool, AllocError> {
-    match lists {
-        [] => {
-            read_alone(alloc, folder, &mut tables, reading, text)?;
-            Ok(true)
+    // Adds what a reading comes to, in each way that the file is another one; whether it was each.
+    fn sweep_reading(
+        &self,
+        alloc: Global,
+        folder: &mut Folder<'_>,
+        sweep: &Sweep,
+        reading: &Reading,
+        sums: &mut Sums,
+    ) -> Result<bool, AllocError> {
+        let mut before = String::new(alloc);
+        self.read_tables(alloc, folder, reading, &mut before)?;
+        for way in 0..sweep.count() {
+            if !sweep.change(alloc, folder, way)? {
+                return Ok(false);
+            }
+            self.add_way(alloc, folder, reading, before.as_str(), sums)?;
         }
-        [one] => read_one(alloc, folder, tables, reading, one, text),
-        [one, two] => read_two(alloc, folder, tables, reading, (one, two), text),
-        _ => Ok(false),
+        Ok(true)
     }
+
+    // Adds one reading more, where the file as it was told that.
+    fn add_way(
+        &self,
+        alloc: Global,
+        folder: &mut Folder<'_>,
+        reading: &Reading,
+        before: &str,
+        sums: &mut Sums,
+    ) -> Result<(), AllocError> {
+        folder.forget(alloc);
+        let mut told = String::new(alloc);
+        self.read_tables(alloc, folder, reading, &mut told)?;
+        sums.add(told.as_str(), before);
+        Ok(())
+    }
+}
+
+// The list of what a mutation says.
+fn list_of(alloc: Global, change: &Mutation) -> Result<ListFrags, AllocError> {
+    let frags = change.fragments(alloc)?;
+    Ok(ListFrags::new(frags))
+}
+
+// Joins the items of two texts; whether each is one.
+fn join_both(
+    alloc: Global,
+    one: &mut Mutation,
+    two: &mut Mutation,
+    items: (&str, &str),
+) -> Result<bool, AllocError> {
+    Ok(join_items(alloc, one, items.0)? && join_items(alloc, two, items.1)?)
 }

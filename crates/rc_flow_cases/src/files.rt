@@ -4,32 +4,12 @@ ghost use Rattle.std.specs.Prelude.{IsTrue};
 ghost use Rattle.rc_tfile.specs.TableText.{PartsFit};
 
 use crate::watched::Folder;
-use crate::words::partitions_of;
+use crate::words::push_partitions;
 use rc_mutation::Partition;
 use rc_outside::Store;
 use rc_schema::Schema;
 use rc_tfile::{part_fits, write_table};
 use std::alloc::{AllocError, Global};
-
-/// What is done to a file.
-#[derive(Drop)]
-pub(crate) enum Deed {
-    /// It is the table of these partitions.
-    Write(Vec<Partition>),
-    /// It is cut to so many of its first bytes.
-    Cut(usize),
-    /// The byte at an offset is another.
-    Byte(usize, u8),
-}
-
-/// What is done to the file of a number.
-#[derive(Drop)]
-pub(crate) struct Change {
-    /// The number.
-    pub(crate) number: u32,
-    /// What is done.
-    pub(crate) deed: Deed,
-}
 
 // Whether a table of the schema can hold the partitions, of which there are one or two.
 fn fit(parts: &[Partition], schema: &Schema) -> bool
@@ -53,6 +33,19 @@ fn write_parts(
     parts: &[Partition],
 ) -> bool {
     fit(parts, schema) && write_table(alloc, parts, schema, folder, number).is_ok()
+}
+
+// Writes the table of the partitions of a text; whether they are such, and it was written.
+fn write_text(
+    alloc: Global,
+    folder: &mut Folder<'_>,
+    schema: &Schema,
+    number: u32,
+    text: &str,
+) -> Result<bool, AllocError> {
+    let mut parts = Vec::new(alloc);
+    let read = push_partitions(alloc, &mut parts, text)?;
+    Ok(read && write_parts(alloc, folder, schema, number, parts.as_slice()))
 }
 
 /// The bytes of a file; none where the folder does not give them.
@@ -79,57 +72,47 @@ pub(crate) fn put_bytes(alloc: Global, folder: &mut Folder<'_>, number: u32, byt
         && folder.finish(alloc).is_ok()
 }
 
-// A file is cut to so many of its first bytes; whether it was.
-fn cut(
+// Bytes are cut to as many of the first as a text says, and are a file's; whether they are.
+fn put_cut(
     alloc: Global,
     folder: &mut Folder<'_>,
     number: u32,
-    count: usize,
-) -> Result<bool, AllocError> {
-    let Some(mut bytes) = bytes_of(alloc, folder, number)? else {
-        return Ok(false);
-    };
-    bytes.truncate(count);
-    Ok(put_bytes(alloc, folder, number, bytes.as_slice()))
-}
-
-// The byte of a file at an offset is another; whether it is.
-fn change_byte(
-    alloc: Global,
-    folder: &mut Folder<'_>,
-    number: u32,
-    offset: usize,
-    byte: u8,
-) -> Result<bool, AllocError> {
-    let Some(mut bytes) = bytes_of(alloc, folder, number)? else {
-        return Ok(false);
-    };
-    match bytes.as_mut_slice().get_mut(offset) {
-        Some(place) => *place = byte,
-        None => return Ok(false),
-    }
-    Ok(put_bytes(alloc, folder, number, bytes.as_slice()))
-}
-
-impl Change {
-    /// Does it; whether it was done.
-    pub(crate) fn apply(
-        &self,
-        alloc: Global,
-        folder: &mut Folder<'_>,
-        schema: &Schema,
-    ) -> Result<bool, AllocError> {
-        match &self.deed {
-            Deed::Write(parts) => Ok(write_parts(
-                alloc,
-                folder,
-                schema,
-                self.number,
-                parts.as_slice(),
-            )),
-            Deed::Cut(count) => cut(alloc, folder, self.number, *count),
-            Deed::Byte(offset, byte) => change_byte(alloc, folder, self.number, *offset, *byte),
+    bytes: &mut Vec<u8>,
+    text: &str,
+) -> bool {
+    match text.parse::<usize>() {
+        Ok(count) => {
+            bytes.truncate(count);
+            put_bytes(alloc, folder, number, bytes.as_slice())
         }
+        Err(_) => false,
+    }
+}
+
+// One of some bytes is another, as `OFFSET BYTE` says; whether it is.
+fn change_byte(bytes: &mut [u8], text: &str) -> Option<()> {
+    let (offset, byte) = number_and_rest(text)?;
+    let byte = byte.parse::<u8>().ok()?;
+    let place = bytes.get_mut(offset as usize)?;
+    *place = byte;
+    Some(())
+}
+
+// The bytes of a file are others, as the word of a kind and a text say; whether they are.
+fn put_changed(
+    alloc: Global,
+    folder: &mut Folder<'_>,
+    number: u32,
+    kind: &str,
+    text: &str,
+) -> Result<bool, AllocError> {
+    match bytes_of(alloc, folder, number)? {
+        Some(mut bytes) if kind == "cut" => { Ok(put_cut(alloc, folder, number, &mut bytes, text)) }
+        Some(mut bytes) => Ok(
+            change_byte(bytes.as_mut_slice(), text).is_some()
+                && put_bytes(alloc, folder, number, bytes.as_slice()),
+        ),
+        None => Ok(false),
     }
 }
 
@@ -140,36 +123,21 @@ pub(crate) fn number_and_rest(text: &str) -> Option<(u32, &str)> {
     Some((number, rest))
 }
 
-// The byte at an offset, as `OFFSET BYTE` says.
-fn byte_of(text: &str) -> Option<Deed> {
-    let (offset, byte) = number_and_rest(text)?;
-    let byte = byte.parse::<u8>().ok()?;
-    Some(Deed::Byte(offset as usize, byte))
-}
-
-// What is done, as `table` or `now PARTITION ..`, `cut COUNT` or `byte OFFSET BYTE` says.
-fn deed_of(alloc: Global, kind: &str, text: &str) -> Result<Option<Deed>, AllocError> {
-    match kind {
-        "table" | "now" => match partitions_of(alloc, text)? {
-            Some(parts) => Ok(Some(Deed::Write(parts))),
-            None => Ok(None),
-        },
-        "cut" => Ok(text.parse::<usize>().ok().map(Deed::Cut)),
-        "byte" => Ok(byte_of(text)),
-        _ => Ok(None),
-    }
-}
-
-/// What is done to the file whose number stands behind the first word of a line.
-pub(crate) fn change_of(alloc: Global, line: &str) -> Result<Option<Change>, AllocError> {
-    let Some((kind, text)) = line.split_once(' ') else {
-        return Ok(None);
-    };
+/// The file of a number is written or changed, as `table` or `now NUMBER PARTITION ..`, `cut NUMBER COUNT` or `byte NUMBER OFFSET BYTE` says;
+/// whether it is.
+pub(crate) fn change_file(
+    alloc: Global,
+    folder: &mut Folder<'_>,
+    schema: &Schema,
+    line: &str,
+) -> Result<bool, AllocError> {
+    let (kind, text) = line.split_once(' ').unwrap_or((line, ""));
     let Some((number, rest)) = number_and_rest(text) else {
-        return Ok(None);
+        return Ok(false);
     };
-    match deed_of(alloc, kind, rest)? {
-        Some(deed) => Ok(Some(Change { number, deed })),
-        None => Ok(None),
+    match kind {
+        "table" | "now" => write_text(alloc, folder, schema, number, rest),
+        "cut" | "byte" => put_changed(alloc, folder, number, kind, rest),
+        _ => Ok(false),
     }
 }

@@ -18,12 +18,12 @@ use watched::Watched;
 
 fn main(rt: HostRuntime) -> io::Result<()> {
     let alloc = rt.alloc();
+    let mut text = String::new(alloc);
     let mut folder = Watched::new(alloc, FolderStore::new(&rt));
     let mut desk = Desk::new(alloc)?;
     for line in rt.lines(alloc) {
         let line = line?;
-        desk.take(alloc, &mut folder, line.as_str())?;
+        desk.take(alloc, &mut folder, line.as_str(), &mut text)?;
     }
-    let told = desk.told();
-    print!(rt; "{told}")
+    print!(rt; "{text}")
 }

@@ -2,13 +2,13 @@
 
 ghost use Rattle.rc_tables.specs.Streams.{IsReady};
 
-use crate::files::Change;
+use crate::files::change_file;
 use crate::telling::{tell_counts, tell_refusal};
 use crate::walking::{read_head, read_rest};
 use crate::watched::Folder;
+use crate::words::Reading;
 use rc_flows::read_through;
 use rc_outside::Store;
-use rc_position::Pos;
 use rc_schema::Schema;
 use rc_stream::laws::a_new_merge_stands_for_both;
 use rc_stream::{Frags, ListFrags, Merge, StreamErr};
@@ -16,32 +16,27 @@ use rc_tables::TableFrags;
 use std::alloc::{AllocError, Global};
 use std::rc::Rc;
 
-/// From where on and up to where is read, and what is done to a file of a schema behind the first call.
+/// The files of tables of a schema.
 #[derive(Drop)]
-pub(crate) struct Reading {
+pub(crate) struct Files {
     /// The schema.
     pub(crate) schema: Rc<Schema>,
-    /// The first position.
-    pub(crate) from: Pos,
-    /// The last position.
-    pub(crate) upto: Pos,
-    /// What is done to the file.
-    pub(crate) between: Option<Change>,
+    /// What is done to a file behind the first call of a reading, as a line says; nothing where it is empty.
+    pub(crate) between: String,
 }
 
 // Changes a file, where one is to be changed.
 fn change_between(
     alloc: Global,
     folder: &mut Folder<'_>,
-    reading: &Reading,
+    files: &Files,
     text: &mut String,
 ) -> Result<(), AllocError> {
-    if let Some(change) = &reading.between {
-        if !change.apply(alloc, folder, reading.schema.as_ref())? {
-            return text.push_str("? not changed\n");
-        }
+    let line = files.between.as_str();
+    if line.is_empty() || change_file(alloc, folder, files.schema.as_ref(), line)? {
+        return Ok(());
     }
-    Ok(())
+    text.push_str("? not changed\n")
 }
 
 // Tells what a stream gives behind its first call, which is made again where it was refused.
@@ -66,12 +61,13 @@ fn read_on<W: Store, S: Frags<(), W>>(
 pub(crate) fn read_alone(
     alloc: Global,
     folder: &mut Folder<'_>,
+    files: &Files,
     tables: &mut TableFrags,
     reading: &Reading,
     text: &mut String,
 ) -> Result<(), AllocError> {
     let answered = read_head(alloc, tables, folder, text)?;
-    change_between(alloc, folder, reading, text)?;
+    change_between(alloc, folder, files, text)?;
     read_on(alloc, answered, tables, folder, reading, text)
 }
 
@@ -79,6 +75,7 @@ pub(crate) fn read_alone(
 pub(crate) fn read_merged(
     alloc: Global,
     folder: &mut Folder<'_>,
+    files: &Files,
     list: ListFrags,
     tables: TableFrags,
     reading: &Reading,
@@ -87,7 +84,7 @@ pub(crate) fn read_merged(
     a_new_merge_stands_for_both::<(), Folder<'_>, ListFrags, TableFrags>();
     let mut stream = Merge::new(list, tables);
     let answered = read_head(alloc, &mut stream, folder, text)?;
-    change_between(alloc, folder, reading, text)?;
+    change_between(alloc, folder, files, text)?;
     read_on(alloc, answered, &mut stream, folder, reading, text)
 }
 

@@ -6,7 +6,7 @@ use std::alloc::{AllocError, Global};
 use std::fmt::Write;
 
 /// In which ways a file is another one.
-#[derive(Clone, Copy, Debug)]
+#[derive(Clone, Copy)]
 pub(crate) enum Ways {
     /// It is cut to each number of its first bytes, but for all.
     Cuts,
@@ -83,7 +83,7 @@ fn turn(bytes: &mut [u8], bit: usize) {
 }
 
 /// How many readings came to what.
-#[derive(Clone, Copy, Debug)]
+#[derive(Clone, Copy)]
 pub(crate) struct Sums {
     same: u32,
     others: u32,
@@ -122,16 +122,16 @@ impl Sums {
 
     /// Tells them.
     pub(crate) fn tell(&self, text: &mut String) -> Result<(), AllocError> {
-        write!(text, "the same rows {}, ", self.same)?;
-        write!(
-            text,
-            "other rows {}, no row {}, ",
-            self.others, self.nothing
-        )?;
-        write!(
-            text,
-            "damaged {}, the store failed {}\n",
-            self.damaged, self.refused
-        )
+        tell_sum("the same rows ", self.same, text)?;
+        tell_sum(", other rows ", self.others, text)?;
+        tell_sum(", no row ", self.nothing, text)?;
+        tell_sum(", damaged ", self.damaged, text)?;
+        tell_sum(", the store failed ", self.refused, text)?;
+        text.push_str("\n")
     }
+}
+
+// How many readings came to what.
+fn tell_sum(what: &str, sum: u32, text: &mut String) -> Result<(), AllocError> {
+    write!(text, "{what}{sum}")
 }

@@ -7,7 +7,7 @@ use rc_outside::{Failed, FolderStore, Store, StoreErr};
 use std::alloc::Global;
 
 /// A range of a table.
-#[derive(Clone, Copy, Debug)]
+#[derive(Clone, Copy)]
 pub(crate) struct Range {
     /// The table's number.
     pub(crate) table: u32,

@@ -9,16 +9,16 @@ use std::alloc::{AllocError, Global};
 /// The deletion time of every tombstone here.
 const DELETED: u32 = 7;
 
-/// The position of a row, or before or behind it.
-pub(crate) fn position(alloc: Global, number: i64, weight: Weight) -> Result<Pos, AllocError> {
+// The position of a row, or before or behind it.
+fn position(alloc: Global, number: i64, weight: Weight) -> Result<Pos, AllocError> {
     Ok(Pos {
         prefix: Key::from_slice(alloc, &[Comp::Int(number)])?,
         weight,
     })
 }
 
-/// The partition key of a word.
-pub(crate) fn key_of(alloc: Global, word: &str) -> Result<Option<PartKey>, AllocError> {
+// The partition key of a word.
+fn key_of(alloc: Global, word: &str) -> Result<Option<PartKey>, AllocError> {
     let bytes = word.as_bytes();
     if bytes.is_empty() || bytes.len() > 64 {
         return Ok(None);
@@ -113,17 +113,12 @@ fn join_item(alloc: Global, change: &mut Mutation, item: &str) -> Result<bool, A
     join_place(alloc, change, place, tomb)
 }
 
-/// What the items between commas say; none where one is no item.
-pub(crate) fn mutation_of(alloc: Global, items: &str) -> Result<Option<Mutation>, AllocError> {
-    let mut change = Mutation::empty(alloc);
-    if join_items(alloc, &mut change, items)? {
-        return Ok(Some(change));
-    }
-    Ok(None)
-}
-
-// Joins the items between commas; whether each is one.
-fn join_items(alloc: Global, change: &mut Mutation, items: &str) -> Result<bool, AllocError> {
+/// Joins the items between commas; whether each is one.
+pub(crate) fn join_items(
+    alloc: Global,
+    change: &mut Mutation,
+    items: &str,
+) -> Result<bool, AllocError> {
     for item in items.split(',') {
         if !join_item(alloc, change, item)? {
             return Ok(false);
@@ -132,43 +127,82 @@ fn join_items(alloc: Global, change: &mut Mutation, items: &str) -> Result<bool,
     Ok(true)
 }
 
-/// The partition of a word.
-pub(crate) fn partition_of(alloc: Global, word: &str) -> Result<Option<Partition>, AllocError> {
-    let Some((key, items)) = word.split_once(':') else {
-        return Ok(None);
-    };
-    let Some(key) = key_of(alloc, key)? else {
-        return Ok(None);
-    };
-    match mutation_of(alloc, items)? {
-        Some(change) => Ok(Some(Partition { key, change })),
-        None => Ok(None),
+// Appends the partition of a key in which nothing is written; whether the word is a key.
+fn push_key(alloc: Global, parts: &mut Vec<Partition>, word: &str) -> Result<bool, AllocError> {
+    match key_of(alloc, word)? {
+        Some(key) => {
+            let change = Mutation::empty(alloc);
+            parts.push(Partition { key, change })?;
+            Ok(true)
+        }
+        None => Ok(false),
     }
 }
 
-/// The partitions of the words of a text; none where one is no partition.
-pub(crate) fn partitions_of(
+// Joins the items between commas to the last partition; whether each is one.
+fn join_last(alloc: Global, parts: &mut [Partition], items: &str) -> Result<bool, AllocError> {
+    match parts.last_mut() {
+        Some(part) => join_items(alloc, &mut part.change, items),
+        None => Ok(false),
+    }
+}
+
+// Appends the partition of a word; whether it is one.
+fn push_partition(
     alloc: Global,
-    text: &str,
-) -> Result<Option<Vec<Partition>>, AllocError> {
-    let mut parts = Vec::new(alloc);
-    if push_partitions(alloc, &mut parts, text)? {
-        return Ok(Some(parts));
+    parts: &mut Vec<Partition>,
+    word: &str,
+) -> Result<bool, AllocError> {
+    let (key, items) = word.split_once(':').unwrap_or((word, ""));
+    if push_key(alloc, parts, key)? {
+        return join_last(alloc, parts.as_mut_slice(), items);
     }
-    Ok(None)
+    Ok(false)
 }
 
-// Appends the partitions of the words of a text; whether each is one.
-fn push_partitions(
+/// Appends the partitions of the words of a text; whether each is one.
+pub(crate) fn push_partitions(
     alloc: Global,
     parts: &mut Vec<Partition>,
     text: &str,
 ) -> Result<bool, AllocError> {
     for word in text.split(' ') {
-        match partition_of(alloc, word)? {
-            Some(part) => parts.push(part)?,
-            None => return Ok(false),
+        if !push_partition(alloc, parts, word)? {
+            return Ok(false);
         }
     }
     Ok(true)
+}
+
+/// A partition, and from which row on up to which it is read.
+#[derive(Drop)]
+pub(crate) struct Reading {
+    /// The partition's key.
+    pub(crate) key: PartKey,
+    /// The first position.
+    pub(crate) from: Pos,
+    /// The last position.
+    pub(crate) upto: Pos,
+}
+
+// The reading of a partition from before the one row on, up to behind the other.
+fn reading_with(alloc: Global, key: PartKey, first: i64, last: i64) -> Result<Reading, AllocError> {
+    let from = position(alloc, first, Weight::Before)?;
+    let upto = position(alloc, last, Weight::After)?;
+    Ok(Reading { key, from, upto })
+}
+
+/// The reading of the partition of a word from before the one row on, up to behind the other; none where the words do not say which.
+pub(crate) fn reading_of(
+    alloc: Global,
+    key: &str,
+    rows: (&str, &str),
+) -> Result<Option<Reading>, AllocError> {
+    let Some((first, last)) = numbers_of(rows) else {
+        return Ok(None);
+    };
+    match key_of(alloc, key)? {
+        Some(key) => Ok(Some(reading_with(alloc, key, first, last)?)),
+        None => Ok(None),
+    }
 }

@@ -178,6 +178,15 @@ impl Chain {
     }
 }
 
+/// The entries of a version are these from now on; without memory it stays.
+pub(crate) fn put_entries(
+    version: &mut PlainVersion,
+    made: Result<Vec<Entry>, AllocError>,
+) -> Result<(), AllocError> {
+    version.entries = made?;
+    Ok(())
+}
+
 /// A version of its end dummy alone, whose flags are all this one.
 pub(crate) fn version_of(
     alloc: Global,

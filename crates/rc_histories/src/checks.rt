@@ -3,7 +3,7 @@
 use crate::chain::{Chain, Place, alone, upto};
 use crate::source::{Said, Source, is_same_row};
 use crate::tally::Tally;
-use crate::universe::{Universe, behind_key, end_position, start_position};
+use crate::universe::{Universe, behind_key, end_position, is_row_of, start_position};
 use rc_cell::{Row, Tomb};
 use rc_core::{
     ChainKind, Entry, Flag, Part, PlainVersion, Seen, Side, base_at, first_part, head_of,
@@ -618,16 +618,16 @@ impl View {
 }
 
 /// What a step may do to what is seen.
-#[derive(Drop)]
+#[derive(Clone, Copy)]
 pub(crate) enum Effect {
     /// Nothing changes in any version.
     Nothing,
     /// What is known was known before, and is the same.
     Less,
-    /// From one position on and before another everything is known, in the newest version; else nothing changes.
-    Between(Pos, Pos),
-    /// One position is known, in the newest version; else nothing changes.
-    Row(Pos),
+    /// From one stop of the universe on and before another everything is known, in the newest version; else nothing changes.
+    Between(usize, usize),
+    /// The row of a number is known, in the newest version; else nothing changes.
+    Row(i64),
     /// The static row of the newest version is known; else nothing changes.
     Statics,
     /// Other versions are needed than before, or the newest has gone on.
@@ -636,8 +636,9 @@ pub(crate) enum Effect {
 
 /// What was seen before a step against what is seen now.
 pub(crate) fn check_effect(
+    universe: &Universe,
     kind: ChainKind,
-    effect: &Effect,
+    effect: Effect,
     before: &[Picture],
     now: &[Picture],
     tally: &mut Tally,
@@ -654,32 +655,38 @@ pub(crate) fn check_effect(
         left = left.saturating_sub(1);
         for (was, is) in old.sights.iter().zip(new.sights.iter()) {
             tally.expect(
-                keeps(kind, effect, left == 0, was, is),
+                keeps(
+                    kind,
+                    effect,
+                    left == 0 && is_filled(universe, effect, is),
+                    was,
+                    is,
+                ),
                 "what a step does not touch stays",
             );
         }
     }
 }
 
-// Whether a place is seen as the effect of a step has it.
-fn keeps(kind: ChainKind, effect: &Effect, newest: bool, was: &Sight, is: &Sight) -> bool {
+// Whether a place is seen as the effect of a step has it, which makes it known or not.
+fn keeps(kind: ChainKind, effect: Effect, filled: bool, was: &Sight, is: &Sight) -> bool {
     let known_now = is_known_in(kind, is.seen.flag);
     let same = known_now == is_known_in(kind, was.seen.flag)
-        && !(newest && is_filled(effect, is))
+        && !filled
         && is.seen.tomb == was.seen.tomb
         && is_same_row(&is.seen.row, &was.seen.row);
     let touched = match effect {
         Effect::Less => !known_now,
-        _ => known_now && newest && is_filled(effect, is),
+        _ => known_now && filled,
     };
     same || touched
 }
 
 // Whether a place is one that a fill makes known.
-fn is_filled(effect: &Effect, sight: &Sight) -> bool {
+fn is_filled(universe: &Universe, effect: Effect, sight: &Sight) -> bool {
     match (effect, &sight.position) {
-        (Effect::Between(from, to), Some(x)) => *from <= *x && *x < *to,
-        (Effect::Row(at), Some(x)) => *at == *x && !sight.behind,
+        (Effect::Between(from, to), Some(x)) => universe.is_between(from, to, x),
+        (Effect::Row(number), Some(x)) => is_row_of(x, number) && !sight.behind,
         (Effect::Statics, None) => true,
         _ => false,
     }

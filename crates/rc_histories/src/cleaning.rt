@@ -1,10 +1,11 @@
 //! The cleaner: a part of a version that nobody reads goes under the next newer one, or is lost where there is no room; and the objects of
 //! a chain that nobody finds or reads are freed one at a time.
 
-use crate::chain::Chain;
+use crate::chain::{Chain, put_entries};
 use crate::checks::Effect;
 use crate::evicting::is_left;
 use crate::history::{History, Step};
+use crate::tally::Tally;
 use rc_core::{
     ChainKind, Flag, Mark, PlainVersion, drop_entry, flag_under, mark_of_lost, merge_head,
 };
@@ -14,7 +15,11 @@ use rc_units::{
 use std::alloc::{AllocError, Global};
 
 /// A unit of the cleaner, of the version that comes next or of another that it may merge.
-pub(crate) fn clean(alloc: Global, history: &mut History) -> Result<Option<Step>, AllocError> {
+pub(crate) fn clean(
+    alloc: Global,
+    history: &mut History,
+    tally: &mut Tally,
+) -> Result<Option<Step>, AllocError> {
     let room = !history.chance.happens(12);
     let chain = &mut history.chain;
     let versions = chain.versions.len();
@@ -29,7 +34,7 @@ pub(crate) fn clean(alloc: Global, history: &mut History) -> Result<Option<Step>
     let before = units_left(chain);
     let step = clean_version(alloc, chain, number, room)?;
     let ends = next != Some(number) || units_left(chain) < before;
-    history.tally.expect(
+    tally.expect(
         ends,
         "less is left to clean after a unit of what comes next",
     );
@@ -159,7 +164,8 @@ fn merge_entry(
     newer: &mut PlainVersion,
 ) -> Result<(), AllocError> {
     if let [first, next, ..] = older.entries.as_slice() {
-        newer.entries = merge_first_entry(alloc, first, next, newer.entries.as_slice())?;
+        let made = merge_first_entry(alloc, first, next, newer.entries.as_slice());
+        put_entries(newer, made)?;
     }
     if older.entries.len() > 1 {
         drop_entry(&mut older.entries, 0);
@@ -176,7 +182,8 @@ fn merge_rest(
     newer: &mut PlainVersion,
 ) -> Result<(), AllocError> {
     if let Some(end) = older.entries.first() {
-        newer.entries = merge_end_dummy(alloc, end, newer.entries.as_slice())?;
+        let made = merge_end_dummy(alloc, end, newer.entries.as_slice());
+        put_entries(newer, made)?;
     }
     merge_head(older, newer);
     Ok(())

@@ -1,9 +1,9 @@
 //! A snapshot fills the cache: a gap, a row, the static row.
 
-use crate::chain::Chain;
+use crate::chain::{Chain, put_entries};
 use crate::checks::Effect;
 use crate::history::{History, Step};
-use crate::source::Source;
+use crate::source::{Said, Source};
 use crate::universe::{KEYS, position};
 use rc_cell::{Row, Tomb};
 use rc_core::{Entry, Flag, Mark, PlainVersion, filled_mark, may_populate};
@@ -43,13 +43,9 @@ pub(crate) fn fill_gap(alloc: Global, history: &mut History) -> Result<Option<St
     let Some(tomb) = tomb_of_gap(source, from, to) else {
         return Ok(None);
     };
-    version.entries = with_gap(alloc, from, to, tomb, version.entries.as_slice())?;
-    Ok(Some(Step::carrying("fill of a gap", effect_between(alloc, from, to)?)))
-}
-
-fn effect_between(alloc: Global, from: &Pos, to: &Pos) -> Result<Effect, AllocError> {
-    let from = from.copy(alloc)?;
-    Ok(Effect::Between(from, to.copy(alloc)?))
+    let made = with_gap(alloc, from, to, tomb, version.entries.as_slice());
+    put_entries(version, made)?;
+    Ok(Some(Step::carrying("fill of a gap", Effect::Between(first, second))))
 }
 
 // The one tombstone that the writes say from one position on and before another, where they say of no row.
@@ -110,28 +106,40 @@ pub(crate) fn fill_row(alloc: Global, history: &mut History) -> Result<Option<St
     let Some((version, source)) = to_fill(&mut history.chain, history.sources.as_slice()) else {
         return Ok(None);
     };
-    let Some(said) = source.at(&at) else {
-        return Ok(None);
-    };
-    if said.row.is_empty() {
-        return Ok(None);
+    if fill_said(alloc, version, source, &at)? {
+        return Ok(Some(Step::carrying("fill of a row", Effect::Row(*number))));
     }
-    version.entries = with_row(alloc, &at, &said.row, said.tomb, version.entries.as_slice())?;
-    Ok(Some(Step::carrying("fill of a row", Effect::Row(at))))
+    Ok(None)
+}
+
+// The row that the writes say of at a position; whether they say of one.
+fn fill_said(
+    alloc: Global,
+    version: &mut PlainVersion,
+    source: &Source,
+    at: &Pos,
+) -> Result<bool, AllocError> {
+    match source.at(at) {
+        Some(said) if !said.row.is_empty() => {
+            let made = with_row(alloc, at, said, version.entries.as_slice());
+            put_entries(version, made)?;
+            Ok(true)
+        }
+        _ => Ok(false),
+    }
 }
 
 // The entries with a row known, and its tombstone.
 fn with_row(
     alloc: Global,
     at: &Pos,
-    row: &Row,
-    tomb: Option<Tomb>,
+    said: &Said,
     entries: &[Entry],
 ) -> Result<Vec<Entry>, AllocError> {
-    let mut made = join_row(alloc, at, row, entries)?;
+    let mut made = join_row(alloc, at, &said.row, entries)?;
     for entry in made.iter_mut() {
         if entry.position == *at {
-            entry.at = filled_mark(entry.at, tomb);
+            entry.at = filled_mark(entry.at, said.tomb);
         }
     }
     Ok(made)

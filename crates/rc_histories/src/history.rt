@@ -15,7 +15,7 @@ use rc_core::{ChainKind, Flag, PlainVersion, release_pin};
 use std::alloc::{AllocError, Global};
 
 /// A step that was taken.
-#[derive(Drop)]
+#[derive(Clone, Copy)]
 pub(crate) struct Step {
     /// Its kind.
     pub(crate) kind: &'static str,
@@ -60,18 +60,11 @@ pub(crate) struct History {
     pub(crate) chain: Chain,
     /// What decides the steps.
     pub(crate) chance: Chance,
-    /// What was done and found.
-    pub(crate) tally: Tally,
 }
 
 impl History {
     /// No chain yet; of a cache some writes below it.
-    pub(crate) fn new(
-        alloc: Global,
-        kind: ChainKind,
-        seed: u64,
-        tally: Tally,
-    ) -> Result<Self, AllocError> {
+    pub(crate) fn new(alloc: Global, kind: ChainKind, seed: u64) -> Result<Self, AllocError> {
         let universe = Universe::new(alloc)?;
         let mut chance = Chance::new(seed);
         let sources = first_sources(alloc, kind, &universe, &mut chance)?;
@@ -80,35 +73,60 @@ impl History {
             sources,
             chain: Chain::none(alloc, kind),
             chance,
-            tally,
         })
     }
 
     /// One step, if what chance takes is lawful now, and every definition after it.
-    pub(crate) fn step(&mut self, alloc: Global) -> Result<(), AllocError> {
+    pub(crate) fn step(&mut self, alloc: Global, tally: &mut Tally) -> Result<(), AllocError> {
         let before = View::of(alloc, &self.universe, &self.chain)?;
-        match self.take_step(alloc)? {
-            Some(step) => self.check_step(alloc, &before, &step),
+        self.step_from(alloc, &before, tally)
+    }
+
+    // The same, where this was seen before it.
+    fn step_from(
+        &mut self,
+        alloc: Global,
+        before: &View,
+        tally: &mut Tally,
+    ) -> Result<(), AllocError> {
+        match self.take_step(alloc, tally)? {
+            Some(step) => self.check_step(alloc, before, step, tally),
             None => Ok(()),
         }
     }
 
     // Every definition after a step, and what was seen before it against what is seen now.
-    fn check_step(&mut self, alloc: Global, before: &View, step: &Step) -> Result<(), AllocError> {
-        self.tally.count(step.kind);
-        check_chain(
-            alloc,
-            &self.universe,
-            self.sources.as_slice(),
-            &self.chain,
-            &mut self.tally,
-        )?;
+    fn check_step(
+        &self,
+        alloc: Global,
+        before: &View,
+        step: Step,
+        tally: &mut Tally,
+    ) -> Result<(), AllocError> {
+        tally.count(step.kind);
+        let sources = self.sources.as_slice();
+        check_chain(alloc, &self.universe, sources, &self.chain, tally)?;
         let now = View::of(alloc, &self.universe, &self.chain)?;
-        check_view(self.chain.kind, step, before, &now, &mut self.tally);
+        self.check_view(step, before, &now, tally);
         Ok(())
     }
 
-    fn take_step(&mut self, alloc: Global) -> Result<Option<Step>, AllocError> {
+    // What is seen and what is carried before a step against what is now.
+    fn check_view(&self, step: Step, before: &View, now: &View, tally: &mut Tally) {
+        check_effect(
+            &self.universe,
+            self.chain.kind,
+            step.effect,
+            before.pictures.as_slice(),
+            now.pictures.as_slice(),
+            tally,
+        );
+        if step.carries {
+            check_carried(before.carried.as_slice(), now.carried.as_slice(), tally);
+        }
+    }
+
+    fn take_step(&mut self, alloc: Global, tally: &mut Tally) -> Result<Option<Step>, AllocError> {
         if self.chain.versions.is_empty() {
             return open(alloc, self);
         }
@@ -117,10 +135,10 @@ impl History {
             10..18 => Ok(release(self)),
             18 => Ok(detach(self)),
             19..28 => Ok(free(self)),
-            28..50 => clean(alloc, self),
+            28..50 => clean(alloc, self, tally),
             chance => match self.chain.kind {
                 ChainKind::Memtable => write(alloc, self),
-                ChainKind::Cache => take_cache_step(alloc, self, chance),
+                ChainKind::Cache => take_cache_step(alloc, self, chance, tally),
             },
         }
     }
@@ -130,9 +148,10 @@ fn take_cache_step(
     alloc: Global,
     history: &mut History,
     chance: u32,
+    tally: &mut Tally,
 ) -> Result<Option<Step>, AllocError> {
     if history.chain.is_updating() && chance < 85 {
-        return unit(alloc, history);
+        return unit(alloc, history, tally);
     }
     match chance {
         0..58 => begin(alloc, history),
@@ -166,20 +185,6 @@ fn add_some(
 ) -> Result<(), AllocError> {
     let change = some_mutation(alloc, universe, chance)?;
     source.add(alloc, &change)
-}
-
-// What is seen and what is carried before a step against what is now.
-fn check_view(kind: ChainKind, step: &Step, before: &View, now: &View, tally: &mut Tally) {
-    check_effect(
-        kind,
-        &step.effect,
-        before.pictures.as_slice(),
-        now.pictures.as_slice(),
-        tally,
-    );
-    if step.carries {
-        check_carried(before.carried.as_slice(), now.carried.as_slice(), tally);
-    }
 }
 
 // The phase of a chain that is opened: of a memtable a new one, of which no writes are yet.

@@ -28,30 +28,41 @@ const HISTORIES: u64 = 110;
 const STEPS: u32 = 90;
 
 // One history more; what it did and found is added.
-fn replay(alloc: Global, seed: u64, tally: Tally) -> Result<Tally, AllocError> {
+fn replay(alloc: Global, seed: u64, tally: &mut Tally) -> Result<(), AllocError> {
     let kind = if seed % 4 == 3 {
         ChainKind::Memtable
     } else {
         ChainKind::Cache
     };
-    let mut history = History::new(alloc, kind, seed, tally)?;
+    let mut history = History::new(alloc, kind, seed)?;
+    replay_steps(alloc, &mut history, tally)
+}
+
+// The steps of a history, up to one that breaks a definition.
+fn replay_steps(alloc: Global, history: &mut History, tally: &mut Tally) -> Result<(), AllocError> {
     for _ in 0..STEPS {
-        if history.tally.broken.is_none() {
-            history.step(alloc)?;
+        if tally.broken.is_none() {
+            history.step(alloc, tally)?;
         }
     }
-    Ok(history.tally)
+    Ok(())
+}
+
+// All histories, up to one that breaks a definition; the last one.
+fn replay_all(alloc: Global, tally: &mut Tally) -> Result<u64, AllocError> {
+    let mut last = 0;
+    for seed in 0..HISTORIES {
+        if tally.broken.is_none() {
+            replay(alloc, seed, tally)?;
+            last = seed;
+        }
+    }
+    Ok(last)
 }
 
 fn main(rt: HostRuntime) -> io::Result<()> {
     let mut tally = Tally::new(rt.alloc())?;
-    let mut last = 0;
-    for seed in 0..HISTORIES {
-        if tally.broken.is_none() {
-            tally = replay(rt.alloc(), seed, tally)?;
-            last = seed;
-        }
-    }
+    let last = replay_all(rt.alloc(), &mut tally)?;
     for line in &tally.steps {
         let (kind, count) = *line;
         println!(rt; "{kind}: {count}")?;

@@ -41,6 +41,14 @@ pub(crate) fn end_position(alloc: Global) -> Pos {
     }
 }
 
+/// Whether a position is that of the row of a number.
+pub(crate) fn is_row_of(x: &Pos, number: i64) -> bool {
+    match (x.prefix.as_slice(), x.weight) {
+        ([Comp::Int(key)], Weight::At) => *key == number,
+        _ => false,
+    }
+}
+
 /// Right behind the rows of a key.
 pub(crate) fn behind_key(alloc: Global, key: &Key) -> Result<Pos, AllocError> {
     Ok(Pos {
@@ -50,6 +58,14 @@ pub(crate) fn behind_key(alloc: Global, key: &Key) -> Result<Pos, AllocError> {
 }
 
 impl Universe {
+    /// Whether a position stands from one stop on and before another.
+    pub(crate) fn is_between(&self, from: usize, to: usize, x: &Pos) -> bool {
+        match (self.stops.get(from), self.stops.get(to)) {
+            (Some(from), Some(to)) => *from <= *x && *x < *to,
+            _ => false,
+        }
+    }
+
     /// The positions at the keys and their bounds; for the definitions also rows that nobody writes, one of them longer than a key.
     pub(crate) fn new(alloc: Global) -> Result<Self, AllocError> {
         let all = all_of(alloc)?;

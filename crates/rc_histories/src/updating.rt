@@ -1,6 +1,6 @@
 //! An update of the newest version: unit by unit, or given up where there is no room.
 
-use crate::chain::{Chain, Place, Update, version_of};
+use crate::chain::{Chain, Place, Update, put_entries, version_of};
 use crate::checks::Effect;
 use crate::filling::join_statics;
 use crate::history::{History, Step};
@@ -89,7 +89,11 @@ pub(crate) fn relabel(alloc: Global, history: &mut History) -> Result<Option<Ste
 }
 
 /// The next unit of the update that stands in the chain.
-pub(crate) fn unit(alloc: Global, history: &mut History) -> Result<Option<Step>, AllocError> {
+pub(crate) fn unit(
+    alloc: Global,
+    history: &mut History,
+    tally: &mut Tally,
+) -> Result<Option<Step>, AllocError> {
     let room = !history.chance.happens(6);
     let Some(place) = history.chain.place(alloc)? else {
         return Ok(None);
@@ -101,7 +105,7 @@ pub(crate) fn unit(alloc: Global, history: &mut History) -> Result<Option<Step>,
     if !room && place.is_past_head() {
         return Ok(give_up(alloc, &mut history.chain, &place));
     }
-    advance(alloc, history)
+    advance(alloc, history, tally)
 }
 
 // The update ends, and what stands from its place on is lost.
@@ -113,7 +117,11 @@ fn give_up(alloc: Global, chain: &mut Chain, place: &Place) -> Option<Step> {
 }
 
 // The next fragment goes into the newest version.
-fn advance(alloc: Global, history: &mut History) -> Result<Option<Step>, AllocError> {
+fn advance(
+    alloc: Global,
+    history: &mut History,
+    tally: &mut Tally,
+) -> Result<Option<Step>, AllocError> {
     let Some(update) = history.chain.update.as_mut() else {
         return Ok(None);
     };
@@ -122,7 +130,7 @@ fn advance(alloc: Global, history: &mut History) -> Result<Option<Step>, AllocEr
     };
     let kind = put_next(alloc, update, version)?;
     let place = update.place(alloc)?;
-    refuse_spoiled(alloc, &place, version, &mut history.tally)?;
+    refuse_spoiled(alloc, &place, version, tally)?;
     Ok(Some(Step::carrying(kind, Effect::Open)))
 }
 
@@ -168,8 +176,8 @@ fn put(
         Place::At(x) => x,
         Place::Head | Place::Static | Place::End => &end,
     };
-    version.entries = put_fragment(alloc, force, fragment, next, version.entries.as_slice())?;
-    Ok(())
+    let made = put_fragment(alloc, force, fragment, next, version.entries.as_slice());
+    put_entries(version, made)
 }
 
 // What a fragment says of the head and the static row goes into the version.

@@ -1,6 +1,6 @@
 //! Writes to a memtable's chain, each of one thing: they go into the newest version, or into a new one where a snapshot pins that.
 
-use crate::chain::{Chain, version_of};
+use crate::chain::{Chain, put_entries, version_of};
 use crate::checks::Effect;
 use crate::filling::join_statics;
 use crate::history::{History, Step};
@@ -90,7 +90,8 @@ fn write_range(alloc: Global, history: &mut History) -> Result<Option<Step>, All
     ) else {
         return Ok(None);
     };
-    version.entries = raise_entries(alloc, Some(tomb), from, to, version.entries.as_slice())?;
+    let made = raise_entries(alloc, Some(tomb), from, to, version.entries.as_slice());
+    put_entries(version, made)?;
     source.add_range(from, to, tomb);
     Ok(Some(Step::new("write of a range tombstone", Effect::Open)))
 }
@@ -113,7 +114,8 @@ fn put_row(
     let Some((version, source)) = newest(&mut history.chain, &mut history.sources) else {
         return Ok(None);
     };
-    version.entries = join_row(alloc, at, row, version.entries.as_slice())?;
+    let made = join_row(alloc, at, row, version.entries.as_slice());
+    put_entries(version, made)?;
     source.add_row(alloc, at, row)?;
     Ok(Some(Step::new("write of a row", Effect::Open)))
 }

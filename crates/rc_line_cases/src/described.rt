@@ -177,33 +177,28 @@ fn add_command(alloc: Global, command: &Command, text: &mut Vec<u8>) -> Result<(
     }
 }
 
-// The name of a refusal.
-fn refusal_told(alloc: Global, refusal: Refusal) -> Result<Vec<u8>, AllocError> {
-    Vec::from_slice(alloc, format!(in alloc; "{refusal:?}")?.as_bytes())
+// Appends the name of a refusal.
+fn add_refusal(alloc: Global, refusal: Refusal, text: &mut Vec<u8>) -> Result<(), AllocError> {
+    let name = format!(in alloc; "{refusal:?}")?;
+    text.extend_from_slice(name.as_bytes())
 }
 
-// What a command is told as.
-fn command_told(alloc: Global, command: &Command) -> Result<Vec<u8>, AllocError> {
-    let mut text = Vec::new(alloc);
-    add_command(alloc, command, &mut text)?;
-    Ok(text)
-}
-
-// What the copy of a command is told as.
-fn copy_told(alloc: Global, command: &Command) -> Result<Vec<u8>, AllocError> {
+// Appends the copy of a command.
+fn add_copy(alloc: Global, command: &Command, text: &mut Vec<u8>) -> Result<(), AllocError> {
     let same = command.copy(alloc)?;
-    command_told(alloc, &same)
+    add_command(alloc, &same, text)
 }
 
-/// What a line means: the copy of its command, or its refusal.
-pub(crate) fn described(
+/// Tells what a line means: the copy of its command, or its refusal.
+pub(crate) fn tell_line(
     alloc: Global,
     schema: Option<&Schema>,
     line: &[u8],
-) -> Result<Vec<u8>, AllocError> {
+    text: &mut Vec<u8>,
+) -> Result<(), AllocError> {
     match read_line(alloc, schema, line) {
-        Ok(command) => copy_told(alloc, &command),
-        Err(LineErr::Refused(refusal)) => refusal_told(alloc, refusal),
+        Ok(command) => add_copy(alloc, &command, text),
+        Err(LineErr::Refused(refusal)) => add_refusal(alloc, refusal, text),
         Err(LineErr::NoMemory) => Err(AllocError),
     }
 }

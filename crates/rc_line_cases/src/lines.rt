@@ -3,43 +3,38 @@
 
 use crate::cutting::{cut_at, first_word, says};
 use rc_spelling::count;
-use std::alloc::{AllocError, Global};
+use std::alloc::AllocError;
 
-/// The line of a case; none where it is no case of a line.
-pub(crate) fn line_of(
-    alloc: Global,
-    kind: &[u8],
-    text: &[u8],
-) -> Result<Option<Vec<u8>>, AllocError> {
+/// Appends the line of a case; whether it is a case of a line.
+pub(crate) fn push_line(kind: &[u8], text: &[u8], line: &mut Vec<u8>) -> Result<bool, AllocError> {
     if says(kind, "line") {
-        return Ok(Some(Vec::from_slice(alloc, text)?));
+        line.extend_from_slice(text)?;
+        return Ok(true);
     }
-    if says(kind, "long") {
-        return filled(alloc, text, push_letters);
+    if says(kind, "long") || says(kind, "names") {
+        return push_filled(kind, text, line);
     }
-    if says(kind, "names") {
-        return filled(alloc, text, push_names);
-    }
-    Ok(None)
+    Ok(false)
 }
 
-// The line with so many of what is pushed at its `#`.
-fn filled(
-    alloc: Global,
-    text: &[u8],
-    push: fn(u32, &mut Vec<u8>) -> Result<(), AllocError>,
-) -> Result<Option<Vec<u8>>, AllocError>
-    requires { IsAlwaysCallable push }
-{
-    let (number, line) = first_word(text);
+// Appends the line with so many of what its kind says at its `#`; whether it says how many.
+fn push_filled(kind: &[u8], text: &[u8], line: &mut Vec<u8>) -> Result<bool, AllocError> {
+    let (number, spelled) = first_word(text);
     let Some(number) = count(number, 100_000) else {
-        return Ok(None);
+        return Ok(false);
     };
-    let (before, behind) = cut_at(line, b'#');
-    let mut made = Vec::from_slice(alloc, before)?;
-    push(number, &mut made)?;
-    made.extend_from_slice(behind)?;
-    Ok(Some(made))
+    let (before, behind) = cut_at(spelled, b'#');
+    line.extend_from_slice(before)?;
+    push_many(kind, number, line)?;
+    line.extend_from_slice(behind)?;
+    Ok(true)
+}
+
+fn push_many(kind: &[u8], number: u32, line: &mut Vec<u8>) -> Result<(), AllocError> {
+    if says(kind, "long") {
+        return push_letters(number, line);
+    }
+    push_names(number, line)
 }
 
 fn push_letters(number: u32, line: &mut Vec<u8>) -> Result<(), AllocError> {
@@ -51,9 +46,13 @@ fn push_letters(number: u32, line: &mut Vec<u8>) -> Result<(), AllocError> {
 
 // Cells of many names, as ` c0=1 c1=1`.
 fn push_names(number: u32, line: &mut Vec<u8>) -> Result<(), AllocError> {
-    let alloc = *line.allocator();
     for n in 0..number {
-        line.extend_from_slice(format!(in alloc; " c{n}=1")?.as_bytes())?;
+        push_name(n, line)?;
     }
     Ok(())
+}
+
+fn push_name(number: u32, line: &mut Vec<u8>) -> Result<(), AllocError> {
+    let cell = format!(in *line.allocator(); " c{number}=1")?;
+    line.extend_from_slice(cell.as_bytes())
 }

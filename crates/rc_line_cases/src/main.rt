@@ -9,77 +9,77 @@ mod replies;
 mod spelled;
 
 use cutting::first_word;
-use described::{described, schema_of};
+use described::schema_of;
 use rc_schema::Schema;
 use rc_spelling::read_bytes;
 use std::alloc::{AllocError, Global};
 use std::io;
 
-/// The answer to a case of a line or a reply under a schema, or under none.
-fn answer_under(
+/// Tells the answer to a case of a line under a schema, or under none; whether it is one.
+fn line_told(
     alloc: Global,
     schema: Option<&Schema>,
     kind: &[u8],
     text: &[u8],
-) -> Result<Option<Vec<u8>>, AllocError> {
-    if let Some(line) = lines::line_of(alloc, kind, text)? {
-        return Ok(Some(described(alloc, schema, line.as_slice())?));
+    told: &mut Vec<u8>,
+) -> Result<bool, AllocError> {
+    let mut line = Vec::new(alloc);
+    if lines::push_line(kind, text, &mut line)? {
+        described::tell_line(alloc, schema, line.as_slice(), told)?;
+        return Ok(true);
     }
-    match replies::reply_of(alloc, kind, text)? {
-        Some(reply) => Ok(Some(replies::printed(alloc, schema, &reply)?)),
-        None => Ok(None),
-    }
+    Ok(false)
 }
 
-/// The answer to a case.
-fn answer(alloc: Global, schema: Option<&Schema>, case: &[u8]) -> Result<Vec<u8>, AllocError> {
+/// Tells the answer to a case.
+fn answer(
+    alloc: Global,
+    schema: Option<&Schema>,
+    case: &[u8],
+    told: &mut Vec<u8>,
+) -> Result<(), AllocError> {
     let (kind, text) = first_word(case);
-    if let Some(told) = answer_under(alloc, schema, kind, text)? {
-        return Ok(told);
+    if line_told(alloc, schema, kind, text, told)?
+        || replies::reply_told(alloc, schema, kind, text, told)?
+        || spelled::word_told(alloc, kind, text, told)?
+    {
+        return Ok(());
     }
-    match spelled::told(alloc, kind, text)? {
-        Some(told) => Ok(told),
-        None => Vec::from_slice(alloc, b"no case"),
-    }
+    told.extend_from_slice(b"no case")
 }
 
-/// The answer to a case that may itself be spelled.
+/// Tells the answer to a case that may itself be spelled.
 fn answer_of_either(
     alloc: Global,
     schema: Option<&Schema>,
     case: &[u8],
-) -> Result<Vec<u8>, AllocError> {
+    told: &mut Vec<u8>,
+) -> Result<(), AllocError> {
     let Some(word) = case.strip_prefix(b"% ") else {
-        return answer(alloc, schema, case);
+        return answer(alloc, schema, case, told);
     };
     match read_bytes(alloc, word)? {
-        Some(case) => answer(alloc, schema, case.as_slice()),
-        None => Vec::from_slice(alloc, b"no case"),
+        Some(case) => answer(alloc, schema, case.as_slice(), told),
+        None => told.extend_from_slice(b"no case"),
     }
 }
 
-/// What is printed for a case.
-fn told(alloc: Global, schema: Option<&Schema>, case: &[u8]) -> Result<String, AllocError> {
-    match String::from_utf8(answer_of_either(alloc, schema, case)?) {
-        Ok(told) => Ok(told),
-        Err(_) => String::from_str(alloc, "no text"),
-    }
-}
-
-/// What is printed for a line; nothing of one that is no case, as one that says under which schema the others stand.
+/// Tells what is printed for a line; nothing of one that is no case, as one that says under which schema the others stand. Whether it is one.
 fn take(
     alloc: Global,
     schema: &mut Option<Schema>,
     line: &[u8],
-) -> Result<Option<String>, AllocError> {
+    told: &mut Vec<u8>,
+) -> Result<bool, AllocError> {
     if line.is_empty() || line.starts_with(b"#") {
-        return Ok(None);
+        return Ok(false);
     }
     if let Some(text) = line.strip_prefix(b"under ") {
         *schema = schema_of(alloc, text)?;
-        return Ok(None);
+        return Ok(false);
     }
-    Ok(Some(told(alloc, schema.as_ref(), line)?))
+    answer_of_either(alloc, schema.as_ref(), line, told)?;
+    Ok(true)
 }
 
 fn main(rt: HostRuntime) -> io::Result<()> {
@@ -87,8 +87,10 @@ fn main(rt: HostRuntime) -> io::Result<()> {
     let mut schema = None;
     for line in rt.lines(alloc) {
         let line = line?;
-        if let Some(told) = take(alloc, &mut schema, line.as_bytes())? {
-            println!(rt; "{told}")?;
+        let mut told = Vec::new(alloc);
+        if take(alloc, &mut schema, line.as_bytes(), &mut told)? {
+            let text = str::from_utf8(told.as_slice()).unwrap_or("no text");
+            println!(rt; "{text}")?;
         }
     }
     Ok(())

@@ -12,35 +12,30 @@ use rc_schema::Schema;
 use rc_spelling::{number, read_bytes, words};
 use std::alloc::{AllocError, Global};
 
-/// The reply of a case; none where it is no case of a reply.
-pub(crate) fn reply_of(
+/// Tells the reply of a case; whether it is a case of a reply.
+pub(crate) fn reply_told(
     alloc: Global,
+    schema: Option<&Schema>,
     kind: &[u8],
     text: &[u8],
-) -> Result<Option<Reply>, AllocError> {
+    told: &mut Vec<u8>,
+) -> Result<bool, AllocError> {
     if says(kind, "reply") {
-        return Ok(short(text));
+        return plain_told(alloc, schema, &short(text), told);
     }
     if says(kind, "refused") {
-        return Ok(refused(text));
+        return refused_told(alloc, schema, text, told);
     }
     if says(kind, "stats") {
-        return figures(alloc, text);
+        return figures_told(alloc, schema, text, told);
     }
     if says(kind, "more") {
-        return given(alloc, text, true);
+        return given_told(alloc, schema, text, true, told);
     }
     if says(kind, "end") {
-        return given(alloc, text, false);
+        return given_told(alloc, schema, text, false, told);
     }
-    Ok(None)
-}
-
-// The text of a reply behind a `>`.
-fn told(alloc: Global, schema: &Schema, reply: &Reply) -> Result<Vec<u8>, AllocError> {
-    let mut text = Vec::from_slice(alloc, b">")?;
-    print_reply(alloc, schema, reply, &mut text)?;
-    Ok(text)
+    Ok(false)
 }
 
 // Whether a refusal has this text where it is printed alone.
@@ -58,36 +53,50 @@ fn is_same(alloc: Global, reply: &Reply, text: &[u8]) -> Result<bool, AllocError
     }
 }
 
-/// The text of a reply behind what was there before; a refusal is printed alone, too.
-pub(crate) fn printed(
+// Tells a reply behind what was there before, without its last newline; a refusal is printed alone, too.
+fn tell_reply(
+    alloc: Global,
+    schema: &Schema,
+    reply: &Reply,
+    told: &mut Vec<u8>,
+) -> Result<(), AllocError> {
+    told.push(b'>')?;
+    print_reply(alloc, schema, reply, told)?;
+    if !is_same(alloc, reply, told.as_slice())? {
+        told.clear();
+        return told.extend_from_slice(b"differs");
+    }
+    if let Some(b'\n') = told.as_slice().last() {
+        let _newline = told.pop();
+    }
+    Ok(())
+}
+
+// Tells a reply under a schema, and under none that it is no case. It is a case of a reply.
+fn plain_told(
     alloc: Global,
     schema: Option<&Schema>,
     reply: &Reply,
-) -> Result<Vec<u8>, AllocError> {
-    let Some(schema) = schema else {
-        return Vec::from_slice(alloc, b"no case");
-    };
-    let mut text = told(alloc, schema, reply)?;
-    if !is_same(alloc, reply, text.as_slice())? {
-        return Vec::from_slice(alloc, b"differs");
+    told: &mut Vec<u8>,
+) -> Result<bool, AllocError> {
+    match schema {
+        Some(schema) => tell_reply(alloc, schema, reply, told)?,
+        None => told.extend_from_slice(b"no case")?,
     }
-    if let Some(b'\n') = text.as_slice().last() {
-        text.pop();
-    }
-    Ok(text)
+    Ok(true)
 }
 
-fn short(text: &[u8]) -> Option<Reply> {
+fn short(text: &[u8]) -> Reply {
     if says(text, "Fine") {
-        return Some(Reply::Fine);
+        return Reply::Fine;
     }
     if says(text, "Going") {
-        return Some(Reply::Going);
+        return Reply::Going;
     }
     if says(text, "Done") {
-        return Some(Reply::Done);
+        return Reply::Done;
     }
-    Some(Reply::Nothing)
+    Reply::Nothing
 }
 
 // The refusals that say nothing but why.
@@ -110,13 +119,25 @@ const REFUSALS: [(&str, Refusal); 16] = [
     ("NoNumber", Refusal::NoNumber),
 ];
 
-fn refused(text: &[u8]) -> Option<Reply> {
-    for (name, refusal) in REFUSALS {
+fn refused(text: &[u8]) -> Option<Refusal> {
+    for (name, refusal) in &REFUSALS {
         if says(text, name) {
-            return Some(Reply::Refused(refusal));
+            return Some(*refusal);
         }
     }
-    Some(Reply::Refused(damaged(text)?))
+    damaged(text)
+}
+
+fn refused_told(
+    alloc: Global,
+    schema: Option<&Schema>,
+    text: &[u8],
+    told: &mut Vec<u8>,
+) -> Result<bool, AllocError> {
+    match refused(text) {
+        Some(refusal) => plain_told(alloc, schema, &Reply::Refused(refusal), told),
+        None => Ok(false),
+    }
 }
 
 fn damaged(text: &[u8]) -> Option<Refusal> {
@@ -137,10 +158,20 @@ fn numbers_of(alloc: Global, words: &[&[u8]]) -> Result<Vec<u64>, AllocError> {
     Ok(all)
 }
 
-fn figures(alloc: Global, text: &[u8]) -> Result<Option<Reply>, AllocError> {
+fn figures_told(
+    alloc: Global,
+    schema: Option<&Schema>,
+    text: &[u8],
+    told: &mut Vec<u8>,
+) -> Result<bool, AllocError> {
     let words = words(alloc, text)?;
     let all = numbers_of(alloc, words.as_slice())?;
-    Ok(Some(Reply::Stats(figures_of(all.as_slice()))))
+    plain_told(
+        alloc,
+        schema,
+        &Reply::Stats(figures_of(all.as_slice())),
+        told,
+    )
 }
 
 // The number at a place; 0 where there is none.
@@ -187,10 +218,22 @@ fn lines_in(alloc: Global, text: &[u8]) -> Result<Vec<OutLine>, AllocError> {
     lines_of(alloc, words.as_slice())
 }
 
-fn given(alloc: Global, text: &[u8], more: bool) -> Result<Option<Reply>, AllocError> {
+// The reply of the lines of a text.
+fn given(alloc: Global, text: &[u8], more: bool) -> Result<Reply, AllocError> {
     let lines = lines_in(alloc, text)?;
     let lines = Lines::from_slice(alloc, lines.as_slice())?;
-    Ok(Some(Reply::Given { lines, more }))
+    Ok(Reply::Given { lines, more })
+}
+
+fn given_told(
+    alloc: Global,
+    schema: Option<&Schema>,
+    text: &[u8],
+    more: bool,
+    told: &mut Vec<u8>,
+) -> Result<bool, AllocError> {
+    let reply = given(alloc, text, more)?;
+    plain_told(alloc, schema, &reply, told)
 }
 
 // The line of a word.

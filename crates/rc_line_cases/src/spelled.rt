@@ -9,91 +9,81 @@ use rc_spelling::{
 };
 use std::alloc::{AllocError, Global};
 
-/// What is told of a word; none where it is no such case.
-pub(crate) fn told(alloc: Global, kind: &[u8], text: &[u8]) -> Result<Option<Vec<u8>>, AllocError> {
+/// Tells what is told of a word; whether it is such a case.
+pub(crate) fn word_told(
+    alloc: Global,
+    kind: &[u8],
+    word: &[u8],
+    told: &mut Vec<u8>,
+) -> Result<bool, AllocError> {
     if says(kind, "bytes") {
-        return bytes_told(alloc, text);
+        tell_bytes(alloc, word, told)?;
+    } else if says(kind, "parts") {
+        tell_parts(alloc, word, told)?;
+    } else if says(kind, "number") {
+        tell_numbers(alloc, word, told)?;
+    } else if says(kind, "words") {
+        tell_count(alloc, word, told)?;
+    } else if says(kind, "print") {
+        print_word(word, told)?;
+    } else if says(kind, "key") {
+        print_comps(alloc, word, told)?;
+    } else {
+        return Ok(false);
     }
-    if says(kind, "parts") {
-        return parts_told(alloc, text);
-    }
-    if says(kind, "number") {
-        return numbers_told(alloc, text);
-    }
-    if says(kind, "words") {
-        return words_told(alloc, text);
-    }
-    if says(kind, "print") {
-        return printed_bytes(alloc, text);
-    }
-    if says(kind, "key") {
-        return printed_key(alloc, text);
-    }
-    Ok(None)
+    Ok(true)
 }
 
-fn text_of(alloc: Global, text: &str) -> Result<Option<Vec<u8>>, AllocError> {
-    Ok(Some(Vec::from_slice(alloc, text.as_bytes())?))
-}
-
-fn bytes_told(alloc: Global, word: &[u8]) -> Result<Option<Vec<u8>>, AllocError> {
+fn tell_bytes(alloc: Global, word: &[u8], told: &mut Vec<u8>) -> Result<(), AllocError> {
     match read_bytes(alloc, word)? {
-        Some(bytes) => hex_told(alloc, bytes.as_slice()),
-        None => text_of(alloc, "none"),
+        Some(bytes) => tell_hex(alloc, bytes.as_slice(), told),
+        None => told.extend_from_slice(b"none"),
     }
 }
 
-fn hex_told(alloc: Global, bytes: &[u8]) -> Result<Option<Vec<u8>>, AllocError> {
+fn tell_hex(alloc: Global, bytes: &[u8], told: &mut Vec<u8>) -> Result<(), AllocError> {
     let spelled = hex::encode(alloc, bytes)?;
-    text_of(alloc, spelled.as_str())
+    told.extend_from_slice(spelled.as_bytes())
 }
 
-fn push_part(alloc: Global, bytes: &[u8], text: &mut Vec<u8>) -> Result<(), AllocError> {
-    let spelled = hex::encode(alloc, bytes)?;
-    text.extend_from_slice(spelled.as_bytes())?;
-    text.push(b';')?;
+fn tell_each(alloc: Global, components: &[Vec<u8>], told: &mut Vec<u8>) -> Result<(), AllocError> {
+    for bytes in components {
+        tell_hex(alloc, bytes.as_slice(), told)?;
+        told.push(b';')?;
+    }
     Ok(())
 }
 
-fn parts_of(alloc: Global, components: &[Vec<u8>]) -> Result<Vec<u8>, AllocError> {
-    let mut text = Vec::new(alloc);
-    for bytes in components {
-        push_part(alloc, bytes.as_slice(), &mut text)?;
-    }
-    Ok(text)
-}
-
-fn parts_told(alloc: Global, word: &[u8]) -> Result<Option<Vec<u8>>, AllocError> {
+fn tell_parts(alloc: Global, word: &[u8], told: &mut Vec<u8>) -> Result<(), AllocError> {
     match read_components(alloc, word, 5)? {
-        Some(components) => Ok(Some(parts_of(alloc, components.as_slice())?)),
-        None => text_of(alloc, "none"),
+        Some(components) => tell_each(alloc, components.as_slice(), told),
+        None => told.extend_from_slice(b"none"),
     }
 }
 
-fn numbers_told(alloc: Global, word: &[u8]) -> Result<Option<Vec<u8>>, AllocError> {
+fn tell_numbers(alloc: Global, word: &[u8], told: &mut Vec<u8>) -> Result<(), AllocError> {
     let plain = number(word, u64::MAX);
     let counted = count(word, u32::MAX);
     let with_sign = signed(word);
-    let told = format!(in alloc; "{plain:?} {counted:?} {with_sign:?}")?;
-    text_of(alloc, told.as_str())
+    let text = format!(in alloc; "{plain:?} {counted:?} {with_sign:?}")?;
+    told.extend_from_slice(text.as_bytes())
 }
 
-fn words_told(alloc: Global, line: &[u8]) -> Result<Option<Vec<u8>>, AllocError> {
+fn tell_count(alloc: Global, line: &[u8], told: &mut Vec<u8>) -> Result<(), AllocError> {
     let found = words(alloc, line)?.len();
-    text_of(alloc, format!(in alloc; "{found}")?.as_str())
+    let text = format!(in alloc; "{found}")?;
+    told.extend_from_slice(text.as_bytes())
 }
 
-fn printed_bytes(alloc: Global, bytes: &[u8]) -> Result<Option<Vec<u8>>, AllocError> {
-    let mut text = Vec::from_slice(alloc, b">")?;
-    print_bytes(bytes, &mut text)?;
-    Ok(Some(text))
+fn print_word(bytes: &[u8], told: &mut Vec<u8>) -> Result<(), AllocError> {
+    told.push(b'>')?;
+    print_bytes(bytes, told)
 }
 
-fn printed_key(alloc: Global, word: &[u8]) -> Result<Option<Vec<u8>>, AllocError> {
+fn print_comps(alloc: Global, word: &[u8], told: &mut Vec<u8>) -> Result<(), AllocError> {
     let comps = comps_of(alloc, word)?;
-    let mut text = Vec::from_slice(alloc, b">")?;
-    print_key(comps.as_slice(), &mut text)?;
-    Ok(Some(text))
+    told.push(b'>')?;
+    print_key(comps.as_slice(), told)
 }
 
 // The component that bytes spell: a number is an int.

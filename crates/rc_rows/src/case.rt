@@ -50,38 +50,59 @@ pub(crate) struct Case {
     pub(crate) wanted: Wanted,
 }
 
-// The words of most cases.
-fn usual_words(alloc: Global) -> Result<Vec<String>, AllocError> {
-    let run = String::from_str(alloc, "run")?;
-    Ok(vec![in alloc; run]?)
+impl Wanted {
+    // Nothing is written, and no file is asked for.
+    fn new(alloc: Global) -> Self {
+        Wanted {
+            status: 0,
+            text: Vec::new(alloc),
+            faults: None,
+            files: Vec::new(alloc),
+        }
+    }
 }
 
 impl Case {
-    /// The case of no input, over which nothing fails.
-    pub(crate) fn new(alloc: Global, name: &str) -> Result<Self, AllocError> {
-        let name = String::from_str(alloc, name)?;
-        let words = usual_words(alloc)?;
-        Ok(Case {
-            name,
-            words,
+    /// The case of no name, no words and no input, over which nothing fails.
+    pub(crate) fn new(alloc: Global) -> Self {
+        Case {
+            name: String::new(alloc),
+            words: Vec::new(alloc),
             input: Vec::new(alloc),
             slow: false,
             pulls: Vec::new(alloc),
             pushes: Vec::new(alloc),
             limit: None,
             turns: Vec::new(alloc),
-            wanted: Wanted {
-                status: 0,
-                text: Vec::new(alloc),
-                faults: None,
-                files: Vec::new(alloc),
-            },
-        })
+            wanted: Wanted::new(alloc),
+        }
     }
 
-    /// The case that follows over the store that is left.
-    pub(crate) fn again(&self, alloc: Global) -> Result<Self, AllocError> {
-        let name = format!(in alloc; "{}, again", self.name.as_str())?;
-        Case::new(alloc, name.as_str())
+    /// It is the case of a name, and has no line yet.
+    pub(crate) fn begin(&mut self, alloc: Global, name: &str) -> Result<(), AllocError> {
+        self.name.clear();
+        self.name.push_str(name)?;
+        self.clear(alloc)
+    }
+
+    /// It is the case that follows over the store that is left, and has no line yet.
+    pub(crate) fn go_on(&mut self, alloc: Global) -> Result<(), AllocError> {
+        self.name.push_str(", again")?;
+        self.clear(alloc)
+    }
+
+    // It has the words of most cases, and nothing else but its name.
+    fn clear(&mut self, alloc: Global) -> Result<(), AllocError> {
+        self.words.clear();
+        self.input.clear();
+        self.slow = false;
+        self.pulls.clear();
+        self.pushes.clear();
+        self.limit = None;
+        self.turns.clear();
+        self.wanted = Wanted::new(alloc);
+        let run = String::from_str(alloc, "run")?;
+        self.words.push(run)?;
+        Ok(())
     }
 }

@@ -1,7 +1,7 @@
 //! The cases as standard input lists them, line by line.
 
 use crate::case::Case;
-use crate::reading::{Named, named, take_line};
+use crate::reading::{Named, push_named, take_line};
 use crate::tally::Tally;
 use rc_outside::MemStore;
 use std::alloc::{AllocError, Global};
@@ -11,8 +11,10 @@ use std::alloc::{AllocError, Global};
 pub(crate) struct Cases {
     // The bytes with names.
     names: Named,
+    // Whether a case has begun.
+    begun: bool,
     // The case whose lines are being read.
-    case: Option<Case>,
+    case: Case,
     // The store that it is run over.
     store: MemStore,
     // What the cases before it came to.
@@ -22,10 +24,12 @@ pub(crate) struct Cases {
 impl Cases {
     /// No line yet.
     pub(crate) fn new(alloc: Global) -> Result<Self, AllocError> {
+        let store = MemStore::new(alloc)?;
         Ok(Cases {
             names: Vec::new(alloc),
-            case: None,
-            store: MemStore::new(alloc)?,
+            begun: false,
+            case: Case::new(alloc),
+            store,
             tally: Tally::new(alloc),
         })
     }
@@ -37,7 +41,7 @@ impl Cases {
         }
         let (kind, text) = line.split_once(' ').unwrap_or((line, ""));
         match kind {
-            "bytes" => self.name(alloc, text),
+            "bytes" => push_named(alloc, &mut self.names, text),
             "case" => self.begin(alloc, text),
             "again" => self.go_on(alloc),
             "seed" => self.tally.compare(alloc, text),
@@ -45,55 +49,44 @@ impl Cases {
         }
     }
 
-    /// What all came to, told.
-    pub(crate) fn told(&mut self, alloc: Global) -> Result<String, AllocError> {
+    /// No line follows: how many runs there were is told.
+    pub(crate) fn end(&mut self, alloc: Global) -> Result<(), AllocError> {
         self.finish(alloc)?;
-        self.tally.told(alloc)
+        self.tally.tell_runs()
     }
 
-    // Bytes with a name.
-    fn name(&mut self, alloc: Global, text: &str) -> Result<(), AllocError> {
-        let pair = named(alloc, text)?;
-        self.names.push(pair)?;
-        Ok(())
+    /// What is told so far.
+    pub(crate) fn told(&self) -> &str {
+        self.tally.told()
     }
 
     // The case that ends here is run.
     fn finish(&mut self, alloc: Global) -> Result<(), AllocError> {
-        match &self.case {
-            Some(case) => self.tally.run(alloc, case, &mut self.store),
-            None => Ok(()),
+        if self.begun {
+            return self.tally.run(alloc, &self.case, &mut self.store);
         }
+        Ok(())
     }
 
     // The first line of a case, over an empty store.
     fn begin(&mut self, alloc: Global, name: &str) -> Result<(), AllocError> {
         self.finish(alloc)?;
         self.store = MemStore::new(alloc)?;
-        self.case = Some(Case::new(alloc, name)?);
-        Ok(())
+        self.begun = true;
+        self.case.begin(alloc, name)
     }
 
     // What follows is run over the store that is left.
     fn go_on(&mut self, alloc: Global) -> Result<(), AllocError> {
         self.finish(alloc)?;
-        let next = match &self.case {
-            Some(case) => Some(case.again(alloc)?),
-            None => None,
-        };
-        self.case = next;
-        Ok(())
+        self.case.go_on(alloc)
     }
 
     // A line of the case.
     fn describe(&mut self, alloc: Global, line: &str) -> Result<(), AllocError> {
-        let taken = match &mut self.case {
-            Some(case) => take_line(alloc, &self.names, case, &mut self.store, line)?,
-            None => false,
-        };
-        if taken {
+        if self.begun && take_line(alloc, &self.names, &mut self.case, &mut self.store, line)? {
             return Ok(());
         }
-        self.tally.refuse(alloc, line)
+        self.tally.refuse(line)
     }
 }

@@ -20,6 +20,7 @@ fn main(rt: HostRuntime) -> io::Result<()> {
         let line = line?;
         cases.take(alloc, line.as_str())?;
     }
-    let told = cases.told(alloc)?;
+    cases.end(alloc)?;
+    let told = cases.told();
     println!(rt; "{told}")
 }

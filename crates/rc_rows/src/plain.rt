@@ -1,7 +1,7 @@
 //! A plain computation of partitions' rows beside the program, over scripts that seeds make.
 
 use crate::case::Case;
-use crate::running::outcome_of;
+use crate::running::{Outcome, run_case};
 use rc_outside::MemStore;
 use std::alloc::{AllocError, Global};
 use std::fmt::Write;
@@ -69,17 +69,6 @@ fn value(changes: &[Change], name: u8, number: i64) -> Option<u8> {
     found
 }
 
-/// The rows of a partition.
-fn rows(alloc: Global, changes: &[Change], name: u8) -> Result<Vec<(i64, u8)>, AllocError> {
-    let mut rows = Vec::new(alloc);
-    for number in 0..4i64 {
-        if let Some(byte) = value(changes, name, number) {
-            rows.push((number, byte))?;
-        }
-    }
-    Ok(rows)
-}
-
 /// The changes of a seed.
 fn changes(alloc: Global, seed: u32) -> Result<Vec<Change>, AllocError> {
     let mut changes = Vec::new(alloc);
@@ -92,50 +81,45 @@ fn changes(alloc: Global, seed: u32) -> Result<Vec<Change>, AllocError> {
 }
 
 /// The line of a change.
-fn line_of(alloc: Global, change: &Change) -> Result<String, AllocError> {
-    let name = char::from(change.name);
-    let number = change.number;
-    let ts = change.ts;
+fn append_change(change: &Change, script: &mut String) -> Result<(), AllocError> {
+    let (name, number, ts) = (char::from(change.name), change.number, change.ts);
     match change.byte {
         Some(byte) => {
             let value = char::from(byte);
-            format!(in alloc; "update {name} {number} ts={ts} a={value}")
+            write!(script, "update {name} {number} ts={ts} a={value}\n")
         }
-        None => format!(in alloc; "delete {name} {number} ts={ts} dt=7"),
+        None => write!(script, "delete {name} {number} ts={ts} dt=7\n"),
     }
 }
 
-/// What a reader of a partition with these rows is given, from its opening to its closing.
-fn append_given(rows: &[(i64, u8)], text: &mut String) -> Result<(), AllocError> {
+/// A row that a reader is given.
+fn append_row(number: i64, byte: u8, text: &mut String) -> Result<(), AllocError> {
+    let value = char::from(byte);
+    write!(text, "row {number} a={value}\n")
+}
+
+/// What a reader of a partition is given, from its opening to its closing.
+fn append_given(changes: &[Change], name: u8, text: &mut String) -> Result<(), AllocError> {
     text.push_str("ok\n")?;
-    for row in rows {
-        let number = row.0;
-        let value = char::from(row.1);
-        write!(text, "row {number} a={value}\n")?;
+    for number in 0..4i64 {
+        if let Some(byte) = value(changes, name, number) {
+            append_row(number, byte, text)?;
+        }
     }
     text.push_str("end\nok\n")
 }
 
 /// The lines of changes, with a flush behind each sixteenth.
-fn append_changes(
-    alloc: Global,
-    changes: &[Change],
-    script: &mut String,
-) -> Result<(), AllocError> {
+fn append_changes(changes: &[Change], script: &mut String) -> Result<(), AllocError> {
     let mut written = 0u8;
     for change in changes {
-        append_change(alloc, change, script)?;
+        append_change(change, script)?;
         written = written.wrapping_add(1) & 15;
         if written == 0 {
             script.push_str("flush\n")?;
         }
     }
     Ok(())
-}
-
-fn append_change(alloc: Global, change: &Change, script: &mut String) -> Result<(), AllocError> {
-    let line = line_of(alloc, change)?;
-    write!(script, "{line}\n")
 }
 
 /// A reader of each partition.
@@ -148,11 +132,10 @@ fn append_readers(script: &mut String) -> Result<(), AllocError> {
 }
 
 /// The script of changes, and then a reader of each partition.
-fn script_of(alloc: Global, changes: &[Change]) -> Result<String, AllocError> {
-    let mut script = String::from_str(alloc, "schema ck=int static=- cols=a\n")?;
-    append_changes(alloc, changes, &mut script)?;
-    append_readers(&mut script)?;
-    Ok(script)
+fn append_script(changes: &[Change], script: &mut String) -> Result<(), AllocError> {
+    script.push_str("schema ck=int static=- cols=a\n")?;
+    append_changes(changes, script)?;
+    append_readers(script)
 }
 
 /// `ok` for each change and each flush.
@@ -168,47 +151,43 @@ fn append_oks(changes: &[Change], text: &mut String) -> Result<(), AllocError> {
     Ok(())
 }
 
-/// The rows of each partition.
-fn append_all(alloc: Global, changes: &[Change], text: &mut String) -> Result<(), AllocError> {
+/// What the program must print for it: `ok` for the schema line, for each change and each flush, and the rows of each partition.
+fn append_wanted(changes: &[Change], text: &mut String) -> Result<(), AllocError> {
+    text.push_str("ok\n")?;
+    append_oks(changes, text)?;
     for name in NAMES {
-        let rows = rows(alloc, changes, name)?;
-        append_given(rows.as_slice(), text)?;
+        append_given(changes, name, text)?;
     }
     Ok(())
 }
 
-/// What the program must print for it: `ok` for the schema line, for each change and each flush, and the rows of each partition.
-fn wanted(alloc: Global, changes: &[Change]) -> Result<String, AllocError> {
-    let mut text = String::from_str(alloc, "ok\n")?;
-    append_oks(changes, &mut text)?;
-    append_all(alloc, changes, &mut text)?;
-    Ok(text)
-}
-
-/// The case of a script.
-fn case_of(alloc: Global, script: &str) -> Result<Case, AllocError> {
-    let mut case = Case::new(alloc, "a seed")?;
+/// Whether the program gives this text for a script.
+fn gives(alloc: Global, script: &str, wanted: &str) -> Result<bool, AllocError> {
+    let mut case = Case::new(alloc);
+    case.begin(alloc, "a seed")?;
     case.input.extend_from_slice(script.as_bytes())?;
-    Ok(case)
+    gives_case(alloc, &case, wanted)
 }
 
 /// Whether a case over an empty store gives this text.
-fn gives(alloc: Global, case: &Case, wanted: &str) -> Result<bool, AllocError> {
+fn gives_case(alloc: Global, case: &Case, wanted: &str) -> Result<bool, AllocError> {
     let mut store = MemStore::new(alloc)?;
-    let found = outcome_of(alloc, case, &mut store)?;
+    let mut found = Outcome::new(alloc);
+    run_case(alloc, case, &mut store, &mut found)?;
     Ok(found.status == 0 && found.text.as_slice() == wanted.as_bytes())
 }
 
-/// Whether the program gives this text for the script of changes.
-fn gives_for(alloc: Global, changes: &[Change], wanted: &str) -> Result<bool, AllocError> {
-    let script = script_of(alloc, changes)?;
-    let case = case_of(alloc, script.as_str())?;
-    gives(alloc, &case, wanted)
+/// Whether the program gives for the script of changes what the plain computation does.
+fn agrees(alloc: Global, changes: &[Change]) -> Result<bool, AllocError> {
+    let mut script = String::new(alloc);
+    append_script(changes, &mut script)?;
+    let mut wanted = String::new(alloc);
+    append_wanted(changes, &mut wanted)?;
+    gives(alloc, script.as_str(), wanted.as_str())
 }
 
-/// Whether the program gives for the script of a seed what the plain computation does.
+/// The same for the script of a seed.
 pub(crate) fn is_agreed(alloc: Global, seed: u32) -> Result<bool, AllocError> {
     let changes = changes(alloc, seed)?;
-    let wanted = wanted(alloc, changes.as_slice())?;
-    gives_for(alloc, changes.as_slice(), wanted.as_str())
+    agrees(alloc, changes.as_slice())
 }

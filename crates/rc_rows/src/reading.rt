@@ -9,14 +9,24 @@ use std::fmt::Write;
 /// Bytes with names.
 pub(crate) type Named = Vec<(String, Vec<u8>)>;
 
-/// Bytes and the name that stands before them, none where there are none.
-pub(crate) fn named(alloc: Global, text: &str) -> Result<(String, Vec<u8>), AllocError> {
+/// Appends bytes and the name that stands before them, none where there are none.
+pub(crate) fn push_named(alloc: Global, names: &mut Named, text: &str) -> Result<(), AllocError> {
     let (name, word) = text.split_once(' ').unwrap_or((text, ""));
-    let bytes = match read_bytes(alloc, word.as_bytes())? {
-        Some(bytes) => bytes,
-        None => Vec::new(alloc),
-    };
-    Ok((String::from_str(alloc, name)?, bytes))
+    match read_bytes(alloc, word.as_bytes())? {
+        Some(bytes) => push_pair(alloc, names, name, bytes),
+        None => push_pair(alloc, names, name, Vec::new(alloc)),
+    }
+}
+
+fn push_pair(
+    alloc: Global,
+    names: &mut Named,
+    name: &str,
+    bytes: Vec<u8>,
+) -> Result<(), AllocError> {
+    let name = String::from_str(alloc, name)?;
+    names.push((name, bytes))?;
+    Ok(())
 }
 
 // The bytes of a name.
@@ -68,13 +78,17 @@ fn append_line(text: &mut Vec<u8>, line: &str, number: u32) -> Result<(), AllocE
 
 // The words of a line; whether it gives some.
 fn take_words(alloc: Global, case: &mut Case, text: &str) -> Result<bool, AllocError> {
-    case.words = Vec::new(alloc);
-    let Some(components) = read_components(alloc, text.as_bytes(), 5)? else {
-        return Ok(text.is_empty());
-    };
+    case.words.clear();
+    match read_components(alloc, text.as_bytes(), 5)? {
+        Some(components) => push_words(&mut case.words, components),
+        None => Ok(text.is_empty()),
+    }
+}
+
+fn push_words(words: &mut Vec<String>, components: Vec<Vec<u8>>) -> Result<bool, AllocError> {
     for bytes in components {
         match String::from_utf8(bytes) {
-            Ok(word) => case.words.push(word)?,
+            Ok(word) => words.push(word)?,
             Err(_) => return Ok(false),
         }
     }
@@ -103,6 +117,16 @@ fn take_file(
     Ok(true)
 }
 
+// What the store must have under a number, of a name.
+fn stored_of(alloc: Global, names: &Named, name: &str) -> Result<Option<Stored>, AllocError> {
+    match (name, bytes_of(names, name)) {
+        ("any", _) => Ok(Some(Stored::Something)),
+        ("none", _) => Ok(Some(Stored::Nothing)),
+        (_, Some(bytes)) => Ok(Some(Stored::Bytes(Vec::from_slice(alloc, bytes)?))),
+        (_, None) => Ok(None),
+    }
+}
+
 // What the store must have; whether the line says it.
 fn take_stored(
     alloc: Global,
@@ -113,16 +137,13 @@ fn take_stored(
     let Some((number, name)) = number_and_rest(text) else {
         return Ok(false);
     };
-    let stored = match name {
-        "any" => Stored::Something,
-        "none" => Stored::Nothing,
-        _ => match bytes_of(names, name) {
-            Some(bytes) => Stored::Bytes(Vec::from_slice(alloc, bytes)?),
-            None => return Ok(false),
-        },
-    };
-    case.wanted.files.push((number, stored))?;
-    Ok(true)
+    match stored_of(alloc, names, name)? {
+        Some(stored) => {
+            case.wanted.files.push((number, stored))?;
+            Ok(true)
+        }
+        None => Ok(false),
+    }
 }
 
 // So many lines of the input or of what is written; whether it gives some.
@@ -181,25 +202,33 @@ pub(crate) fn take_line(
 ) -> Result<bool, AllocError> {
     let (kind, text) = line.split_once(' ').unwrap_or((line, ""));
     match kind {
-        "<" => append_bytes(&mut case.input, text, "\n")?,
-        "<-" => append_bytes(&mut case.input, text, "")?,
-        ">" => append_bytes(&mut case.wanted.text, text, "\n")?,
-        "slow" => case.slow = true,
-        "words" => return take_words(alloc, case, text),
-        "file" => return take_file(alloc, names, store, text),
-        "stored" => return take_stored(alloc, names, case, text),
-        "fail" | "each" => return take_call(case, store, kind, text),
-        _ => match (kind.parse::<u32>(), text.parse::<u64>()) {
-            (Ok(count), _) => return take_lines(case, count, text),
-            (_, Ok(number)) => return take_number(case, kind, number),
-            _ => return Ok(false),
-        },
+        "<" => take_bytes(&mut case.input, text, "\n"),
+        "<-" => take_bytes(&mut case.input, text, ""),
+        ">" => take_bytes(&mut case.wanted.text, text, "\n"),
+        "slow" => {
+            case.slow = true;
+            Ok(true)
+        }
+        "words" => take_words(alloc, case, text),
+        "file" => take_file(alloc, names, store, text),
+        "stored" => take_stored(alloc, names, case, text),
+        "fail" | "each" => take_call(case, store, kind, text),
+        _ => take_counted(case, kind, text),
     }
-    Ok(true)
 }
 
-// Appends a line and its end.
-fn append_bytes(text: &mut Vec<u8>, line: &str, end: &str) -> Result<(), AllocError> {
-    text.extend_from_slice(line.as_bytes())?;
-    text.extend_from_slice(end.as_bytes())
+// A line that begins with a count, or ends with a number; whether it is one.
+fn take_counted(case: &mut Case, kind: &str, text: &str) -> Result<bool, AllocError> {
+    match (kind.parse::<u32>(), text.parse::<u64>()) {
+        (Ok(count), _) => take_lines(case, count, text),
+        (_, Ok(number)) => take_number(case, kind, number),
+        _ => Ok(false),
+    }
+}
+
+// A line of the input or of what is written, and its end: it is one.
+fn take_bytes(bytes: &mut Vec<u8>, line: &str, end: &str) -> Result<bool, AllocError> {
+    bytes.extend_from_slice(line.as_bytes())?;
+    bytes.extend_from_slice(end.as_bytes())?;
+    Ok(true)
 }

@@ -17,6 +17,17 @@ pub(crate) struct Outcome {
     pub(crate) faults: Option<u64>,
 }
 
+impl Outcome {
+    /// Nothing yet.
+    pub(crate) fn new(alloc: Global) -> Self {
+        Outcome {
+            status: 0,
+            text: Vec::new(alloc),
+            faults: None,
+        }
+    }
+}
+
 // The output of a case.
 fn sink_of(alloc: Global, case: &Case) -> Result<MemSink, AllocError> {
     let pushes = Vec::from_slice(alloc, case.pushes.as_slice())?;
@@ -43,19 +54,27 @@ fn slow_status(
     Ok(run(alloc, case.words.as_slice(), store, &mut input, out))
 }
 
-// The status of a run whose input may fail, or is cut.
+// The status of a run whose input may fail.
 fn usual_status(
     alloc: Global,
     case: &Case,
     store: &mut MemStore,
     out: &mut MemSink,
 ) -> Result<Status, AllocError> {
-    let words = case.words.as_slice();
     let mut input = source_of(alloc, case)?;
-    Ok(match case.limit {
-        None => run(alloc, words, store, &mut input, out),
-        Some(limit) => run_with(alloc, words, store, &mut input, out, limit),
-    })
+    Ok(run(alloc, case.words.as_slice(), store, &mut input, out))
+}
+
+// The status of a run whose input may fail, and is cut.
+fn cut_status(
+    alloc: Global,
+    case: &Case,
+    limit: u64,
+    store: &mut MemStore,
+    out: &mut MemSink,
+) -> Result<Status, AllocError> {
+    let mut input = source_of(alloc, case)?;
+    Ok(run_with(alloc, case.words.as_slice(), store, &mut input, out, limit))
 }
 
 // The status of a run over a store.
@@ -68,15 +87,23 @@ fn status_of(
     if case.slow {
         return slow_status(alloc, case, store, out);
     }
-    usual_status(alloc, case, store, out)
+    match case.limit {
+        None => usual_status(alloc, case, store, out),
+        Some(limit) => cut_status(alloc, case, limit, store, out),
+    }
 }
 
-// The status of a run over a store, and what it writes.
-fn served(alloc: Global, case: &Case, store: &mut MemStore) -> Result<(u64, Vec<u8>), AllocError> {
+// The status of a run over a store; what it writes is appended.
+fn served(
+    alloc: Global,
+    case: &Case,
+    store: &mut MemStore,
+    text: &mut Vec<u8>,
+) -> Result<u64, AllocError> {
     let mut out = sink_of(alloc, case)?;
     let status = status_of(alloc, case, store, &mut out)?;
-    let text = Vec::from_slice(alloc, out.bytes())?;
-    Ok((u64::from(status.code()), text))
+    text.extend_from_slice(out.bytes())?;
+    Ok(u64::from(status.code()))
 }
 
 // A line that tells a fault of the store.
@@ -89,10 +116,9 @@ fn tells_repeat(line: &[u8]) -> bool {
     line == b"? nothing to flush".as_slice() || line == b"? reader in use".as_slice()
 }
 
-// How many lines tell a fault, and the lines but those and those of commands that are sent again.
-fn without_faults(alloc: Global, text: &[u8]) -> Result<(u64, Vec<u8>), AllocError> {
+// How many lines tell a fault; the lines but those and those of commands that are sent again are appended.
+fn append_others(text: &[u8], kept: &mut Vec<u8>) -> Result<u64, AllocError> {
     let mut faults = 0u64;
-    let mut kept = Vec::new(alloc);
     for line in text.split_inclusive(|byte| *byte == b'\n') {
         let said = line.strip_suffix(b"\n").unwrap_or(line);
         if tells_fault(said) {
@@ -101,34 +127,36 @@ fn without_faults(alloc: Global, text: &[u8]) -> Result<(u64, Vec<u8>), AllocErr
             kept.extend_from_slice(line)?;
         }
     }
-    Ok((faults, kept))
+    Ok(faults)
 }
 
-/// What a run of a case over a store comes to.
-pub(crate) fn outcome_of(
+/// What a run of a case over a store comes to, where there was nothing yet.
+pub(crate) fn run_case(
     alloc: Global,
     case: &Case,
     store: &mut MemStore,
-) -> Result<Outcome, AllocError> {
-    let (status, text) = served(alloc, case, store)?;
+    outcome: &mut Outcome,
+) -> Result<(), AllocError> {
     match case.wanted.faults {
-        None => Ok(Outcome {
-            status,
-            text,
-            faults: None,
-        }),
-        Some(_) => with_faults(alloc, status, text.as_slice()),
+        None => {
+            outcome.status = served(alloc, case, store, &mut outcome.text)?;
+            Ok(())
+        }
+        Some(_) => run_with_faults(alloc, case, store, outcome),
     }
 }
 
-// The same, with the faults that were told counted.
-fn with_faults(alloc: Global, status: u64, text: &[u8]) -> Result<Outcome, AllocError> {
-    let (faults, text) = without_faults(alloc, text)?;
-    Ok(Outcome {
-        status,
-        text,
-        faults: Some(faults),
-    })
+// The same, with the faults that are told counted.
+fn run_with_faults(
+    alloc: Global,
+    case: &Case,
+    store: &mut MemStore,
+    outcome: &mut Outcome,
+) -> Result<(), AllocError> {
+    let mut text = Vec::new(alloc);
+    outcome.status = served(alloc, case, store, &mut text)?;
+    outcome.faults = Some(append_others(text.as_slice(), &mut outcome.text)?);
+    Ok(())
 }
 
 /// Whether a run came to what a case wants, and left such a store.

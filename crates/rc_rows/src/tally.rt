@@ -2,7 +2,7 @@
 
 use crate::case::Case;
 use crate::plain::is_agreed;
-use crate::running::{Outcome, is_wanted, outcome_of};
+use crate::running::{Outcome, is_wanted, run_case};
 use rc_outside::{MemStore, StoreCall};
 use std::alloc::{AllocError, Global};
 use std::fmt::Write;
@@ -12,8 +12,10 @@ use std::fmt::Write;
 pub(crate) struct Tally {
     // The runs.
     runs: u64,
-    // A text for each that came to something else.
-    others: Vec<String>,
+    // Those that came to something else.
+    others: u64,
+    // What is told of these.
+    text: String,
 }
 
 impl Tally {
@@ -21,8 +23,19 @@ impl Tally {
     pub(crate) fn new(alloc: Global) -> Self {
         Tally {
             runs: 0,
-            others: Vec::new(alloc),
+            others: 0,
+            text: String::new(alloc),
         }
+    }
+
+    /// What is told so far.
+    pub(crate) fn told(&self) -> &str {
+        self.text.as_str()
+    }
+
+    // One run came to something else.
+    fn count_other(&mut self) {
+        self.others = self.others.saturating_add(1);
     }
 
     /// The runs of a case: one over the store, or one over an empty store for each call that fails in turn.
@@ -65,52 +78,50 @@ impl Tally {
         store: &mut MemStore,
     ) -> Result<(), AllocError> {
         self.runs = self.runs.saturating_add(1);
-        let outcome = outcome_of(alloc, case, store)?;
+        let mut outcome = Outcome::new(alloc);
+        run_case(alloc, case, store, &mut outcome)?;
         if is_wanted(case, &outcome, store) {
             return Ok(());
         }
-        self.others.push(told_run(alloc, case, outcome)?)?;
-        Ok(())
+        self.tell_run(case, &outcome)
+    }
+
+    // A run that came to something else.
+    fn tell_run(&mut self, case: &Case, outcome: &Outcome) -> Result<(), AllocError> {
+        self.count_other();
+        let (name, status) = (case.name.as_str(), outcome.status);
+        write!(self.text, "case {name}: status {status}")?;
+        match str::from_utf8(outcome.text.as_slice()) {
+            Ok(text) => write!(self.text, "\n{text}\n"),
+            Err(_) => self.text.push_str(", and no text\n"),
+        }
     }
 
     /// The run of a seed beside a plain computation.
     pub(crate) fn compare(&mut self, alloc: Global, text: &str) -> Result<(), AllocError> {
         let Ok(seed) = text.parse::<u32>() else {
-            return self.refuse(alloc, text);
+            return self.refuse(text);
         };
         self.runs = self.runs.saturating_add(1);
         if is_agreed(alloc, seed)? {
             return Ok(());
         }
-        self.others.push(format!(in alloc; "seed {seed}")?)?;
-        Ok(())
+        self.count_other();
+        write!(self.text, "seed {seed}\n")
     }
 
     /// A line that is none of a case.
-    pub(crate) fn refuse(&mut self, alloc: Global, line: &str) -> Result<(), AllocError> {
-        self.others
-            .push(format!(in alloc; "no line of a case: {line}")?)?;
-        Ok(())
+    pub(crate) fn refuse(&mut self, line: &str) -> Result<(), AllocError> {
+        self.count_other();
+        write!(self.text, "no line of a case: {line}\n")
     }
 
-    /// The runs that came to something else, and how many there were.
-    pub(crate) fn told(&self, alloc: Global) -> Result<String, AllocError> {
-        let mut text = String::new(alloc);
-        for other in &self.others {
-            write!(text, "{other}\n")?;
-        }
-        let (runs, others) = (self.runs, self.others.len());
-        write!(text, "{runs} runs, {others} of them came to something else")?;
-        Ok(text)
-    }
-}
-
-// What a run came to, told.
-fn told_run(alloc: Global, case: &Case, outcome: Outcome) -> Result<String, AllocError> {
-    let name = case.name.as_str();
-    let status = outcome.status;
-    match String::from_utf8(outcome.text) {
-        Ok(text) => format!(in alloc; "case {name}: status {status}\n{text}"),
-        Err(_) => format!(in alloc; "case {name}: status {status}, and no text"),
+    /// How many runs there were, and how many came to something else.
+    pub(crate) fn tell_runs(&mut self) -> Result<(), AllocError> {
+        let (runs, others) = (self.runs, self.others);
+        write!(
+            self.text,
+            "{runs} runs, {others} of them came to something else"
+        )
     }
 }
