@@ -4,17 +4,20 @@ ghost use Rattle.lsa_pool.specs.Room.{spare_of};
 ghost use Rattle.rc_position.specs.declared.keys.Key.{Key as KeyValue};
 ghost use Rattle.rc_rowcode.specs.Spelling.{KeyFits, RowFits, row_code as code_of};
 ghost use Rattle.rc_core.specs.declared.entries.Entry.{Entry};
-ghost use Rattle.rc_object.specs.Objects.{HoldsEntry, HoldsRow};
+ghost use Rattle.rc_object.specs.Objects.{HoldsEntry, HoldsRow, IsRowCode};
 
 use lsa_region::{Ref, Region};
-use rc_cell::Tomb;
+use rc_cell::{Row, Tomb};
 use rc_core::{Flag, Mark};
 use rc_object::{
     Head, head_of, make_dummy, make_dummy_like, make_end, make_head, make_joined, make_joined_like,
     make_joined_static, make_row, make_row_like, make_static, make_static_like, marks,
     position_code, row_code, set_head, set_marks,
 };
-use rc_rowcode::{Scratch, dummy_size, entry_size, read_key, read_pos, read_row, row_size};
+use rc_position::{Key, Pos};
+use rc_rowcode::{
+    Scratch, dummy_size, entry_size, pos_size, read_key, read_pos, read_row, row_size, write_row,
+};
 use std::alloc::{AllocError, Global};
 use std::test::Fail;
 
@@ -115,4 +118,86 @@ fn marks_of_an_end_dummy(rt: HostRuntime) -> Result<(), Fail> {
     assert_eq!(rt; region.bytes(e), bytes.as_slice());
     assert_eq!(rt; region.live(), 88);
     Ok(())
+}
+
+// A dummy at a position and one like it, which have each a mark of their own: what they show, and the code of the second one's position.
+fn dummies_made(
+    region: &mut Region<4096>,
+    x: &Pos,
+    sc: &mut Scratch,
+) -> Option<((Shown, Shown), (Shown, Shown), usize)>
+    requires limits { KeyFits x.now.prefix }
+    requires size { sc.old.size ≡ 1000 }
+{
+    let size = pos_size(x);
+    if dummy_size(x) > region.spare() {
+        return None;
+    }
+    let first = Mark {
+        flag: Flag::Inherit,
+        tomb: None,
+    };
+    let e = make_dummy(region, x, first, sc);
+    let before = shown_marks(region, e);
+    if dummy_size(x) > region.spare() {
+        return None;
+    }
+    let second = Mark {
+        flag: Flag::Known,
+        tomb: Some(Tomb { ts: 1, dt: 2 }),
+    };
+    let other = make_dummy_like(region, e, second, sc);
+    let after = shown_marks(region, other);
+    Some((before, after, position_code(region, other).len()))
+}
+
+#[test]
+fn dummies(rt: HostRuntime) -> Result<(), Fail> {
+    let mut region = Region::<4096>::open(rt.alloc(), 4)?;
+    let mut sc = Scratch::new(rt.alloc(), 1000)?;
+    let code = [2u8, 1, 0, 5, 0, 0, 0, 0, 0, 0, 0];
+    let (x, _) = read_pos(rt.alloc(), &code)?.ok_or("the code of a position")?;
+    let made = dummies_made(&mut region, &x, &mut sc).ok_or("room")?;
+    let first = (2, None);
+    let second = (0, Some((1, 2)));
+    assert_eq!(&rt; made, ((first, first), (second, second), 11));
+    assert_eq!(rt; (region.objects(), region.live()), (2, 192));
+    Ok(())
+}
+
+// A mark without a tombstone.
+fn plain(flag: Flag) -> Mark {
+    Mark { flag, tomb: None }
+}
+
+// An entry with a row at a key, one with another row joined, one at the same position with the same row, and one with both joined: their rows' codes, one
+// behind the other, and the marks of the last ones.
+fn rows_made(
+    region: &mut Region<4096>,
+    key: &Key,
+    row: &Row,
+    code: &[u8],
+    sc: &mut Scratch,
+) -> Option<((Shown, Shown), bool)>
+    requires limits { KeyFits key.now }
+    requires fits { RowFits row.now }
+    requires code { IsRowCode code.now row.now }
+    requires size { sc.old.size ≡ 1000 }
+{
+    let size = entry_size(key, row);
+    let bytes = row_size(row);
+    if size > 512 || bytes > 400 || size > region.spare() {
+        return None;
+    }
+    let e = make_row(
+        region,
+        key,
+        code,
+        plain(Flag::Known),
+        plain(Flag::Inherit),
+        sc,
+    );
+    let seen = shown_marks(region, e);
+    let same = row_code(region, e) == code;
+    Some((seen, same))
 }
