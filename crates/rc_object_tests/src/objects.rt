@@ -1,13 +1,13 @@
 //! Heads, entries and static rows that are made, changed and read back: tests of `rc_object`.
-ghost use Rattle.std.specs.Prelude.{◌≡◌, ◌≤◌};
-ghost use Rattle.lsa_pool.specs.Room.{spare_of};
-ghost use Rattle.rc_position.specs.declared.keys.Key.{Key as KeyValue};
-ghost use Rattle.rc_rowcode.specs.Spelling.{KeyFits, RowFits, row_code as code_of};
+ghost use Rattle.std.specs.Prelude.{◌≡◌, IfOk, IfSome};
+ghost use Rattle.rc_rowcode.specs.Spelling.{KeyFits, row_code as code_of, IsCode, IsCodedRow};
 ghost use Rattle.rc_core.specs.declared.entries.Entry.{Entry};
-ghost use Rattle.rc_object.specs.Objects.{HoldsEntry, HoldsRow, IsRowCode};
+ghost use Rattle.rc_object.specs.Objects.{HoldsEntry};
+ghost use Rattle.rc_object_tests.specs.Rows.{IsRowEntry};
 
+use lsa_kinds::round_up;
 use lsa_region::{Ref, Region};
-use rc_cell::{Row, Tomb};
+use rc_cell::Tomb;
 use rc_core::{Flag, Mark};
 use rc_object::{
     Head, head_of, make_dummy, make_dummy_like, make_end, make_head, make_joined, make_joined_like,
@@ -16,7 +16,7 @@ use rc_object::{
 };
 use rc_position::{Key, Pos};
 use rc_rowcode::{
-    Scratch, dummy_size, entry_size, pos_size, read_key, read_pos, read_row, row_size, write_row,
+    Scratch, dummy_size, join_size, key_size, pos_size, read_key, read_pos, read_row, row_size,
 };
 use std::alloc::{AllocError, Global};
 use std::test::Fail;
@@ -170,34 +170,186 @@ fn plain(flag: Flag) -> Mark {
     Mark { flag, tomb: None }
 }
 
-// An entry with a row at a key, one with another row joined, one at the same position with the same row, and one with both joined: their rows' codes, one
-// behind the other, and the marks of the last ones.
-fn rows_made(
-    region: &mut Region<4096>,
-    key: &Key,
-    row: &Row,
-    code: &[u8],
-    sc: &mut Scratch,
-) -> Option<((Shown, Shown), bool)>
-    requires limits { KeyFits key.now }
-    requires fits { RowFits row.now }
-    requires code { IsRowCode code.now row.now }
-    requires size { sc.old.size ≡ 1000 }
+// The code of a row, put into scratch space; none where the bytes are no row's code.
+fn coded(alloc: Global, code: &[u8]) -> Result<Option<Scratch>, AllocError>
+    ensures { IfOk result (λ found. IfSome found (λ scratch. IsCode code_of IsCodedRow scratch.bytes)) }
 {
-    let size = entry_size(key, row);
-    let bytes = row_size(row);
-    if size > 512 || bytes > 400 || size > region.spare() {
+    let Some((row, _)) = read_row(alloc, code)? else {
+        return Ok(None);
+    };
+    if row_size(&row) > 400 {
+        return Ok(None);
+    }
+    let mut scratch = Scratch::new(alloc, 400)?;
+    scratch.put_row(&row);
+    Ok(Some(scratch))
+}
+
+// An entry at a key with the row of this code; none where there is no room.
+fn row_made(region: &mut Region<4096>, key: &Key, code: &[u8], sc: &mut Scratch) -> Option<Ref>
+    requires limits { KeyFits key.now }
+    requires code { IsCode code_of IsCodedRow code.now }
+    requires size { sc.old.size ≡ 1000 }
+    ensures made { IfSome result (IsRowEntry region.new) }
+    ensures size { sc.new.size ≡ sc.old.size }
+{
+    if code.len() > 400 {
         return None;
     }
-    let e = make_row(
-        region,
-        key,
-        code,
-        plain(Flag::Known),
-        plain(Flag::Inherit),
-        sc,
-    );
-    let seen = shown_marks(region, e);
-    let same = row_code(region, e) == code;
-    Some((seen, same))
+    let size = round_up(81 + key_size(key) + code.len());
+    if size > 512 || size > region.spare() {
+        return None;
+    }
+    let at = plain(Flag::Known);
+    let gap = plain(Flag::Inherit);
+    Some(make_row(region, key, code, at, gap, sc))
+}
+
+// The entry with the row of this code joined; none where there is no room.
+fn row_joined(region: &mut Region<4096>, e: Ref, code: &[u8], sc: &mut Scratch) -> Option<Ref>
+    requires entry { IsRowEntry region.old e }
+    requires code { IsCode code_of IsCodedRow code.now }
+    requires size { sc.old.size ≡ 1000 }
+    ensures made { IfSome result (IsRowEntry region.new) }
+    ensures size { sc.new.size ≡ sc.old.size }
+{
+    let position = position_code(region, e).len();
+    let row = join_size(row_code(region, e), code);
+    if position > 300 || row > 400 {
+        return None;
+    }
+    let size = round_up(80 + position + row);
+    if size > 512 || size > region.spare() {
+        return None;
+    }
+    Some(make_joined(region, e, code, sc))
+}
+
+// The entry with its own row joined once more; none where there is no room.
+fn row_joined_again(region: &mut Region<4096>, e: Ref, sc: &mut Scratch) -> Option<Ref>
+    requires entry { IsRowEntry region.old e }
+    requires size { sc.old.size ≡ 1000 }
+    ensures made { IfSome result (IsRowEntry region.new) }
+    ensures size { sc.new.size ≡ sc.old.size }
+{
+    let position = position_code(region, e).len();
+    let row = join_size(row_code(region, e), row_code(region, e));
+    if position > 300 || row > 400 {
+        return None;
+    }
+    let size = round_up(80 + position + row);
+    if size > 512 || size > region.spare() {
+        return None;
+    }
+    Some(make_joined_like(region, e, e, sc))
+}
+
+// An entry at the same position with the same row and other marks; none where there is no room.
+fn row_like(region: &mut Region<4096>, e: Ref, sc: &mut Scratch) -> Option<Ref>
+    requires entry { IsRowEntry region.old e }
+    requires size { sc.old.size ≡ 1000 }
+    ensures made { IfSome result (IsRowEntry region.new) }
+    ensures size { sc.new.size ≡ sc.old.size }
+{
+    let position = position_code(region, e).len();
+    let row = row_code(region, e).len();
+    if position > 300 || row > 400 {
+        return None;
+    }
+    let size = round_up(80 + position + row);
+    if size > 512 || size > region.spare() {
+        return None;
+    }
+    let at = plain(Flag::Unknown);
+    let gap = plain(Flag::Known);
+    Some(make_row_like(region, e, at, gap, sc))
+}
+
+// A row with the marker 10.
+const INSERTED: [u8; 11] = [1, 10, 0, 0, 0, 0, 0, 0, 0, 0, 0];
+
+// No marker and no tombstone, a dead cell (4, 5) in column 31.
+const DEAD: [u8; 17] = [0, 0, 1, 31, 1, 4, 0, 0, 0, 0, 0, 0, 0, 5, 0, 0, 0];
+
+// Both joined.
+const JOINED: [u8; 25] = [
+    1, 10, 0, 0, 0, 0, 0, 0, 0, 0, 1, 31, 1, 4, 0, 0, 0, 0, 0, 0, 0, 5, 0, 0, 0,
+];
+
+// Entries are made one from the other.
+#[test]
+fn rows(rt: HostRuntime) -> Result<(), Fail> {
+    let mut region = Region::<4096>::open(rt.alloc(), 4)?;
+    let mut sc = Scratch::new(rt.alloc(), 1000)?;
+    let code = [1u8, 0, 5, 0, 0, 0, 0, 0, 0, 0];
+    let (key, _) = read_key(rt.alloc(), &code)?.ok_or("the code of a key")?;
+    let row = coded(rt.alloc(), &INSERTED)?.ok_or("the code of a row")?;
+    let cell = coded(rt.alloc(), &DEAD)?.ok_or("the code of a row")?;
+    let e = row_made(&mut region, &key, row.bytes(), &mut sc).ok_or("room")?;
+    assert_eq!(&rt; shown_row(&region, e), ((0, None), (2, None)));
+    assert_eq!(rt; code_in(&region, e), INSERTED.as_slice());
+    let e = row_joined(&mut region, e, cell.bytes(), &mut sc).ok_or("room")?;
+    assert_eq!(&rt; shown_row(&region, e), ((0, None), (2, None)));
+    assert_eq!(rt; code_in(&region, e), JOINED.as_slice());
+    let e = row_like(&mut region, e, &mut sc).ok_or("room")?;
+    assert_eq!(&rt; shown_row(&region, e), ((1, None), (0, None)));
+    let e = row_joined_again(&mut region, e, &mut sc).ok_or("room")?;
+    assert_eq!(&rt; shown_row(&region, e), ((1, None), (0, None)));
+    assert_eq!(rt; code_in(&region, e), JOINED.as_slice());
+    assert_eq!(rt; (region.objects(), region.live()), (4, 464));
+    Ok(())
+}
+
+// The marks of a row entry.
+fn shown_row(region: &Region<4096>, e: Ref) -> (Shown, Shown)
+    requires { IsRowEntry region.now e }
+{
+    shown_marks(region, e)
+}
+
+// The code of its row.
+fn code_in(region: &Region<4096>, e: Ref) -> &[u8]
+    requires { IsRowEntry region.now e }
+{
+    row_code(region, e)
+}
+
+// A static row, one like it, and one with both joined to another one: how long their codes are, and that of the last one's row.
+fn statics_made(region: &mut Region<4096>, code: &[u8], sc: &mut Scratch) -> Option<usize>
+    requires code { IsCode code_of IsCodedRow code.now }
+    requires size { sc.old.size ≡ 1000 }
+{
+    if code.len() > 400 {
+        return None;
+    }
+    let size = round_up(32 + code.len());
+    if size > 512 || size > region.spare() {
+        return None;
+    }
+    let s = make_static(region, code);
+    if size > region.spare() {
+        return None;
+    }
+    let like = make_static_like(region, s, sc);
+    let joined = join_size(row_code(region, like), row_code(region, like));
+    if joined > 400 {
+        return None;
+    }
+    let size = round_up(32 + joined);
+    if size > 512 || size > region.spare() {
+        return None;
+    }
+    let both = make_joined_static(region, like, like, sc);
+    Some(row_code(region, both).len())
+}
+
+#[test]
+fn statics(rt: HostRuntime) -> Result<(), Fail> {
+    let mut region = Region::<4096>::open(rt.alloc(), 4)?;
+    let mut sc = Scratch::new(rt.alloc(), 1000)?;
+    let cell = coded(rt.alloc(), &DEAD)?.ok_or("the code of a row")?;
+    let long = statics_made(&mut region, cell.bytes(), &mut sc).ok_or("room")?;
+    assert_eq!(rt; long, 17);
+    assert_eq!(rt; (region.objects(), region.live()), (3, 168));
+    Ok(())
 }
