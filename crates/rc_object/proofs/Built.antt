@@ -20,7 +20,7 @@ use Rattle.lsa_store.specs.Objects.{rounded_size}
 use Rattle.lsa_store.specs.declared.place.Ref.{Ref}
 use Rattle.lsa_region.specs.Region.{View, body}
 use Rattle.rc_object.specs.Objects.{SpellsMarks, SpellsEntry, entry_kind, row_part, entry_of, HoldsRow, HoldsStatic}
-use Rattle.rc_object.specs.calls.Making.{IsEntryBegun}
+use Rattle.rc_object.specs.calls.Making.{IsEntryBegun, IsEntryBuilt}
 use Rattle.rc_object.specs.laws.Spelled.{number_front, marks_front}
 
 pub begun : (front : List ℕ) (x : Pos) (at gap : Mark) → length front ≡ 32 → SpellsMarks front at gap → number_at 1 1 front ≡ 0 → number_at 28 4 front ≡ length (pos_code x) → IsPos x → IsEntryBegun (front ++ pos_code x) x at gap
@@ -93,13 +93,7 @@ place_of (Some b) e h = h.position
 
 -- ---- an entry whose bytes are ready
 
--- the bytes are those of an entry of this kind, which takes so much room, with the balance 0
-pub record IsReady (bytes : List ℕ) (kind : Kind) (e : Entry) (size : ℕ) : Type 0 where
-  pub spelled : SpellsEntry (kind, bytes) e
-  pub level : number_at 1 1 bytes ≡ 0
-  pub takes : rounded_size kind (length bytes) ≡ size
-
-pub ready_dummy : (bytes : List ℕ) (x : Pos) (m : Mark) → IsEntryBegun bytes x m m → IsReady bytes Dummy (dummy x m) (dummy_size x)
+pub ready_dummy : (bytes : List ℕ) (x : Pos) (m : Mark) → IsEntryBegun bytes x m m → IsEntryBuilt bytes Dummy (dummy x m) (dummy_size x)
 ready_dummy bytes x m w =
     let same : 8 + 8 * 5 + length bytes ≡ 80 + length (pos_code x) = omega (arith, w.long) in record {
       spelled = subst (λ l. SpellsEntry (Dummy, l) (dummy x m)) (append-nil bytes) (entry_built bytes x m m None w tt);
@@ -107,10 +101,10 @@ ready_dummy bytes x m w =
       takes = ap up8 same;
     }
 
-pub ready_row : (bytes front : List ℕ) (x : Pos) (at gap : Mark) (row : Row) → IsEntryBegun front x at gap → IsCodedRow row → front ++ row_code row ≡ bytes → IsReady bytes RowEntry (entry_of x (Some row) at gap) (entry_size x.prefix row)
+pub ready_row : (bytes front : List ℕ) (x : Pos) (at gap : Mark) (row : Row) → IsEntryBegun front x at gap → IsCodedRow row → front ++ row_code row ≡ bytes → IsEntryBuilt bytes RowEntry (entry_of x (Some row) at gap) (entry_size x.prefix row)
 ready_row bytes front x at gap row w coded is =
     let same : 8 + 8 * 5 + length (front ++ row_code row) ≡ 80 + (length (pos_code x) + length (row_code row)) = omega (arith, length_built front (row_code row) x at gap w) in
-    subst (λ l. IsReady l RowEntry (entry_of x (Some row) at gap) (entry_size x.prefix row)) is (record {
+    subst (λ l. IsEntryBuilt l RowEntry (entry_of x (Some row) at gap) (entry_size x.prefix row)) is (record {
       spelled = entry_built front x at gap (Some row) w coded;
       level = level_built front (row_code row) x at gap w;
       takes = ap up8 same;
@@ -152,13 +146,17 @@ static_held v r bytes row here is coded = (here ∙ ap (λ l. Some (Static, l)) 
 -- ---- a row put behind the front of an entry
 
 pub ready_put : (s t : Space) (x : Pos) (at gap : Mark) (row : Row) (code bytes : List ℕ) → IsEntryBegun s.bytes x at gap → t ≡ record { bytes = s.bytes ++ code; size = s.size } → code ≡ row_code row → bytes ≡ t.bytes → IsCodedRow row
-    → IsReady bytes RowEntry (entry_of x (Some row) at gap) (entry_size x.prefix row)
+    → IsEntryBuilt bytes RowEntry (entry_of x (Some row) at gap) (entry_size x.prefix row)
 ready_put s t x at gap row code bytes w put is same coded =
     ready_row bytes s.bytes x at gap row w coded (ap (λ l. s.bytes ++ l) (sym is) ∙ sym (same ∙ bytes_put t (s.bytes ++ code) s.size put))
 
 -- the same with marks by other names
 pub begun_as : (bytes : List ℕ) (x : Pos) (at gap m n : Mark) → at ≡ m → gap ≡ n → IsEntryBegun bytes x at gap → IsEntryBegun bytes x m n
 begun_as bytes x at gap m n e f w = subst (λ k. IsEntryBegun bytes x m k) f (subst (λ k. IsEntryBegun bytes x k gap) e w)
+
+-- the same bytes in another place
+pub built_as : (bytes others : List ℕ) (kind : Kind) (e : Entry) (size : ℕ) → others ≡ bytes → IsEntryBuilt bytes kind e size → IsEntryBuilt others kind e size
+built_as bytes others kind e size same w = subst (λ l. IsEntryBuilt l kind e size) (sym same) w
 
 -- ---- rows joined in an empty scratch space
 

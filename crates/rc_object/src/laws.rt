@@ -1,5 +1,5 @@
 //! The laws of the objects of a version, each the contract of a function that does nothing.
-ghost use Rattle.std.specs.Prelude.{◌≡◌, ◌⊎◌, ◌+◌, ◌≤◌, List, length, take, drop, IsSomeAnd};
+ghost use Rattle.std.specs.Prelude.{◌≡◌, ◌⊎◌, ℕ, ◌+◌, ◌≤◌, List, length, take, drop, IsSomeAnd};
 ghost use Rattle.rc_cell.specs.declared.rows.Row.{Row};
 ghost use Rattle.rc_rowcode.specs.Spelling.{pos_code, IsPos};
 ghost use Rattle.rc_core.specs.declared.entries.Entry.{Entry};
@@ -9,7 +9,7 @@ ghost use Rattle.lsa_store.specs.declared.place.Ref.{Ref};
 ghost use Rattle.lsa_region.specs.Ends.{named_as};
 ghost use Rattle.lsa_region.specs.Region.{View, body, Renamed};
 ghost use Rattle.rc_object.specs.declared.heads.Head.{Head};
-ghost use Rattle.rc_object.specs.Objects.{HoldsHead, HoldsEntry, HoldsStatic, IsSameButLevel};
+ghost use Rattle.rc_object.specs.Objects.{HoldsHead, HoldsEntry, HoldsStatic, IsMade, IsSameButLevel};
 
 /// An object holds one head, one entry or one static row.
 pub fn an_object_holds_one_value()
@@ -32,6 +32,13 @@ pub fn an_object_stays_where_its_bytes_stay()
     ensures entry { (old new : View) (r : Ref) (e : Entry) → HoldsEntry old r e → body new r ≡ body old r → HoldsEntry new r e }
     ensures statics { (old new : View) (r : Ref) (row : Row) → HoldsStatic old r row → body new r ≡ body old r → HoldsStatic new r row }
     ensures level { (old new : View) (r : Ref) (e : Entry) → HoldsEntry old r e → IsSameButLevel (body old r) (body new r) → HoldsEntry new r e }
+{}
+
+/// What an object holds stays where another one is made.
+pub fn an_object_stays_where_another_is_made()
+    ensures head { (S : ℕ) (old new : View) (q r : Ref) (size : ℕ) (h : Head) → HoldsHead old q h → IsMade S old new r size → HoldsHead new q h }
+    ensures entry { (S : ℕ) (old new : View) (q r : Ref) (size : ℕ) (e : Entry) → HoldsEntry old q e → IsMade S old new r size → HoldsEntry new q e }
+    ensures statics { (S : ℕ) (old new : View) (q r : Ref) (size : ℕ) (row : Row) → HoldsStatic old q row → IsMade S old new r size → HoldsStatic new q row }
 {}
 
 /// After objects moved, each holds under its new name what it held.

@@ -14,7 +14,7 @@ ghost use Rattle.rc_core.specs.declared.entries.Entry.{Entry};
 ghost use Rattle.rc_core.specs.Change.{dummy, joined_onto, with_row};
 ghost use Rattle.rc_core.specs.Version.{end_position};
 ghost use Rattle.rc_object.specs.Objects.{HoldsEntry, HoldsRow, HoldsStatic, IsRowCode, HasRoomFor, IsMade, SpellsMarks, entry_of, entry_length};
-ghost use Rattle.rc_object.specs.calls.Making.{IsEntryBegun};
+ghost use Rattle.rc_object.specs.calls.Making.{IsEntryBegun, IsEntryBuilt};
 
 use crate::bytes::put_marks;
 use crate::entries::{marks, position_code, row_code};
@@ -88,6 +88,17 @@ fn put_joined<const S: usize>(region: &Region<S>, e: Ref, code: &[u8], sc: &mut 
         Kind::RowEntry => join_codes(row_code(region, e), code, sc),
         Kind::Version | Kind::Dummy | Kind::Static => sc.put(code),
     }
+}
+
+// Puts the bytes of an entry with the row of this code joined to its row, and nothing else.
+fn put_joined_entry<const S: usize>(region: &Region<S>, e: Ref, code: &[u8], sc: &mut Scratch)
+    requires { (x : Entry) × (row : Row) × HoldsEntry region.now e x × IsRowCode code.now row × (entry_length x.position (Some (joined_onto x.row row)) ≤ sc.old.size) }
+    ensures built { (x : Entry) (row : Row) → HoldsEntry region.now e x → IsRowCode code.now row → IsEntryBuilt sc.new.bytes Kind.RowEntry (with_row row x) (entry_size x.position.prefix (joined_onto x.row row)) }
+    ensures size { sc.new.size ≡ sc.old.size }
+{
+    let (at, gap) = marks(region, e);
+    begin_like(region, e, at, gap, sc);
+    put_joined(region, e, code, sc);
 }
 
 // The bytes of an end dummy, whose position has a code of two bytes: 2 and 0.
@@ -202,9 +213,7 @@ pub fn make_joined<const S: usize>(
     ensures size { sc.new.size ≡ sc.old.size }
     ensures well { IsWell region.new }
 {
-    let (at, gap) = marks(region, e);
-    begin_like(region, e, at, gap, sc);
-    put_joined(region, e, code, sc);
+    put_joined_entry(region, e, code, sc);
     make(region, Kind::RowEntry, sc.bytes())
 }
 
@@ -221,9 +230,7 @@ pub fn make_joined_like<const S: usize>(
     ensures size { sc.new.size ≡ sc.old.size }
     ensures well { IsWell region.new }
 {
-    let (at, gap) = marks(region, e);
-    begin_like(region, e, at, gap, sc);
-    put_joined(region, e, row_code(region, from), sc);
+    put_joined_entry(region, e, row_code(region, from), sc);
     make(region, Kind::RowEntry, sc.bytes())
 }
 
