@@ -1,5 +1,6 @@
 -- What a further item makes of an outline.
 use Rattle.std.proofs.Common.{◌≡◌, ℕ, ◌+◌, true, false, List, [], ◌∷◌, ◌++◌, Option, Some, None, refl, sym, ap, ◌∙◌, arith, length-append}
+use Rattle.std.specs.Prelude.{IsSome}
 use Rattle.std.specs.Option.{unwrap_or}
 use Rattle.rc_cell.specs.declared.writes.Tomb.{Tomb}
 use Rattle.rc_position.specs.declared.positions.Pos.{Pos}
@@ -18,35 +19,37 @@ block_is : (off size : ℕ) (tomb : Option Tomb) (x : Pos) (off' size' : ℕ) (t
 block_is off size tomb x off' size' tomb' x' p q r s = λ i. record { off = p i; len = q i; tomb = r i; first = s i }
 
 pub fragment_taken : (before : ItemsBefore) (item : Item) (o o' : Outline) (x : Pos) (tomb : Option Tomb) (size : ℕ) → IsOutline before o → IsFragment before item x tomb → size ≡ bytes_of_item item
-    → o'.off ≡ o.off + size → o'.key ≡ o.key → o'.inside ≡ true → o'.part ≡ o.part → o'.last ≡ Some x → o'.tomb ≡ tomb
+    → o'.off ≡ o.off + size → o'.key ≡ o.key → IsSome o'.key → o'.inside ≡ true → o'.part ≡ o.part → o'.last ≡ Some x → o'.tomb ≡ tomb
     → o'.blocks ≡ with_fragment o.blocks (record { off = o.off; len = size; tomb = o.tomb; first = x }) → o'.listed.items ≡ o.listed.items → IsOutline (item ∷ before) o'
-fragment_taken before (RowItem key row) o o' x tomb size is f s off k ins part last t bs l = record {
+fragment_taken before (RowItem key row) o o' x tomb size is f s off k opened ins part last t bs l = record {
   off = offset_more before (RowItem key row) o.off size o'.off is.off s off;
   key = k ∙ is.key;
   «inside» = rw ins refl;
+  opened = λ _. opened;
   part = part ∙ is.part;
   last = last ∙ ap Some f.0;
   tomb = t ∙ f.1;
   blocks = bs ∙ (λ i. with_fragment (is.blocks i) (block_is o.off size o.tomb x _ _ _ _ is.off s is.tomb f.0 i));
   listed = l ∙ is.listed;
 }
-fragment_taken before (ChangeItem y new) o o' x tomb size is f s off k ins part last t bs l = record {
+fragment_taken before (ChangeItem y new) o o' x tomb size is f s off k opened ins part last t bs l = record {
   off = offset_more before (ChangeItem y new) o.off size o'.off is.off s off;
   key = k ∙ is.key;
   «inside» = rw ins refl;
+  opened = λ _. opened;
   part = part ∙ is.part;
   last = last ∙ ap Some f.0;
   tomb = t ∙ f.1;
   blocks = bs ∙ (λ i. with_fragment (is.blocks i) (block_is o.off size o.tomb x _ _ _ _ is.off s is.tomb f.0 i));
   listed = l ∙ is.listed;
 }
-fragment_taken before (HeadItem schema) o o' x tomb size is f s off k ins part last t bs l = absurd f
-fragment_taken before (PartItem key pt statics) o o' x tomb size is f s off k ins part last t bs l = absurd f
-fragment_taken before EndItem o o' x tomb size is f s off k ins part last t bs l = absurd f
-fragment_taken before StopItem o o' x tomb size is f s off k ins part last t bs l = absurd f
-fragment_taken before (EntryItem key off' blocks) o o' x tomb size is f s off k ins part last t bs l = absurd f
-fragment_taken before (BlockItem b) o o' x tomb size is f s off k ins part last t bs l = absurd f
-fragment_taken before (TailItem off' parts) o o' x tomb size is f s off k ins part last t bs l = absurd f
+fragment_taken before (HeadItem schema) o o' x tomb size is f s off k opened ins part last t bs l = absurd f
+fragment_taken before (PartItem key pt statics) o o' x tomb size is f s off k opened ins part last t bs l = absurd f
+fragment_taken before EndItem o o' x tomb size is f s off k opened ins part last t bs l = absurd f
+fragment_taken before StopItem o o' x tomb size is f s off k opened ins part last t bs l = absurd f
+fragment_taken before (EntryItem key off' blocks) o o' x tomb size is f s off k opened ins part last t bs l = absurd f
+fragment_taken before (BlockItem b) o o' x tomb size is f s off k opened ins part last t bs l = absurd f
+fragment_taken before (TailItem off' parts) o o' x tomb size is f s off k opened ins part last t bs l = absurd f
 
 pub ended : (before : ItemsBefore) (o o' : Outline) (key : List ℕ) → IsOutline before o → o.key ≡ Some key
     → o'.off ≡ o.off + 1 → o'.key ≡ o.key → o'.inside ≡ false → o'.part ≡ o.part → o'.last ≡ None → o'.tomb ≡ None → o'.blocks ≡ []
@@ -57,6 +60,7 @@ ended before o o' key is some off k ins part last t bs l =
       off = offset_more before EndItem o.off 1 o'.off is.off refl off;
       key = k ∙ is.key;
       «inside» = rw ins refl;
+      opened = λ e. absurd (let q = sym ins ∙ e in cc);
       part = part ∙ is.part;
       last = last;
       tomb = t;

@@ -1,6 +1,6 @@
 //! What is known of a table's items so far, and what each further item makes of it. Writing, planning and checking go by it.
 
-ghost use Rattle.std.specs.Prelude.{◌≡◌, ◌+◌, ◌^◌, ◌<◌, [], ◌∷◌, length, OnOk, IfOk, List, None, Some, Option, false, true, OkIff};
+ghost use Rattle.std.specs.Prelude.{◌≡◌, ◌+◌, ◌^◌, ◌<◌, [], ◌∷◌, length, IsSome, IsTrue, OnOk, IfOk, List, None, Some, Option, false, true, OkIff};
 ghost use Rattle.rc_cell.specs.declared.rows.Row.{Row};
 ghost use Rattle.rc_cell.specs.declared.writes.Tomb.{Tomb};
 ghost use Rattle.rc_position.specs.declared.comps.Comp.{Comp};
@@ -26,7 +26,7 @@ pub(crate) struct Outline {
     /// The key of the last partition.
     pub(crate) key: Option<PartKey>,
     /// Whether that partition has not ended.
-    pub(crate) inside: bool,
+    inside: bool,
     /// Where its part begins.
     part: u64,
     /// Where its last fragment stands.
@@ -76,6 +76,14 @@ impl Outline {
         }
     }
 
+    /// Whether the last partition has not ended.
+    pub(crate) fn is_inside(&self) -> bool
+        ensures opened { IsTrue result → IsSome self.now.key }
+        ensures value { (before : ItemsBefore) → IsOutline before self.now → result ≡ self.now.inside }
+    {
+        self.inside && self.key.is_some()
+    }
+
     /// A part of so many bytes. The only error is want of memory.
     pub(crate) fn part(
         &mut self,
@@ -83,8 +91,9 @@ impl Outline {
         key: &PartKey,
         size: usize,
     ) -> Result<(), AllocError>
-        ensures { (before : ItemsBefore) (pt : Option Tomb) (statics : Row) → IsOutline before self.old → size ≡ bytes_of_item (PartItem key.now pt statics) →
+        ensures outline { (before : ItemsBefore) (pt : Option Tomb) (statics : Row) → IsOutline before self.old → size ≡ bytes_of_item (PartItem key.now pt statics) →
             OnOk result (IsOutline (PartItem key.now pt statics ∷ before) self.new) }
+        ensures opened { OnOk result (IsSome self.new.key) }
     {
         let off = further(self.off, size)?;
         self.key = Some(key.copy(alloc)?);
@@ -97,7 +106,7 @@ impl Outline {
         Ok(())
     }
 
-    /// A fragment of so many bytes, from which on this tombstone is in force. The only error is want of memory.
+    /// A fragment of so many bytes of the last partition, from which on this tombstone is in force. The only error is want of memory.
     pub(crate) fn fragment(
         &mut self,
         alloc: Global,
@@ -105,8 +114,10 @@ impl Outline {
         tomb: Option<Tomb>,
         size: usize,
     ) -> Result<(), AllocError>
-        requires { KeyFits x.now.prefix }
-        ensures { (before : ItemsBefore) (item : Item) → IsOutline before self.old → IsFragment before item x.now tomb → size ≡ bytes_of_item item →
+        requires key { KeyFits x.now.prefix }
+        requires opened { IsSome self.old.key }
+        ensures opened { IsSome self.new.key }
+        ensures outline { (before : ItemsBefore) (item : Item) → IsOutline before self.old → IsFragment before item x.now tomb → size ≡ bytes_of_item item →
             OnOk result (IsOutline (item ∷ before) self.new) }
     {
         let off = further(self.off, size)?;
@@ -124,12 +135,14 @@ impl Outline {
         Ok(())
     }
 
-    /// The end of a partition. The only error is want of memory; an end with no partition before it counts as that.
+    /// The end of the last partition. The only error is want of memory.
     pub(crate) fn end(&mut self, alloc: Global) -> Result<(), AllocError>
-        ensures { (before : ItemsBefore) → IsOutline before self.old → OnOk result (IsOutline (EndItem ∷ before) self.new) }
+        requires { IsSome self.old.key }
+        ensures opened { IsSome self.new.key }
+        ensures outline { (before : ItemsBefore) → IsOutline before self.old → OnOk result (IsOutline (EndItem ∷ before) self.new) }
     {
         let Some(key) = &self.key else {
-            return Err(AllocError);
+            unreachable!();
         };
         let key = key.copy(alloc)?;
         let off = further(self.off, 1)?;

@@ -1,6 +1,6 @@
 //! One item after another of a table that is checked.
 
-ghost use Rattle.std.specs.Prelude.{◌≡◌, ◌↔◌, ◌≢◌, IfOk, IfSome, IsTrue, List, ℕ, ◌∷◌, false, true};
+ghost use Rattle.std.specs.Prelude.{◌≡◌, ◌↔◌, ◌≢◌, IfOk, IfSome, IsSome, IsTrue, List, ℕ, ◌∷◌, false, true};
 ghost use Rattle.std.specs.declared.cmp.Ordering.TheVariants.{Less};
 ghost use Rattle.rc_position.specs.Position.{bytes_cmp, pos_cmp};
 ghost use Rattle.rc_cell.specs.Winner.{empty_row};
@@ -39,7 +39,7 @@ pub(crate) fn next_item(
 ) -> Result<Next, AllocError>
     ensures { (before : ItemsBefore) → IsOutline before outline.old → IfOk result (λ next. IsNextItem schema.now before bytes.now outline.new next) }
 {
-    if outline.inside {
+    if outline.is_inside() {
         next_inside(alloc, bytes, schema, outline)
     } else {
         next_between(alloc, bytes, schema, outline)
@@ -69,6 +69,7 @@ fn next_inside(
     schema: &Schema,
     outline: &mut Outline,
 ) -> Result<Next, AllocError>
+    requires { IsSome outline.old.key }
     ensures { (before : ItemsBefore) → IsOutline before outline.old → outline.old.inside ≡ true → IfOk result (λ next. IsNextItem schema.now before bytes.now outline.new next) }
 {
     if let Some(_rest) = behind(ROW, bytes) {
@@ -113,7 +114,8 @@ fn next_row(
     schema: &Schema,
     outline: &mut Outline,
 ) -> Result<Next, AllocError>
-    requires { (rest : List ℕ) × (bytes.now ≡ 2 ∷ rest) }
+    requires bytes { (rest : List ℕ) × (bytes.now ≡ 2 ∷ rest) }
+    requires opened { IsSome outline.old.key }
     ensures { (before : ItemsBefore) → IsOutline before outline.old → outline.old.inside ≡ true → IfOk result (λ next. IsNextItem schema.now before bytes.now outline.new next) }
 {
     let Some((keyed, size)) = read_row_item(alloc, bytes)? else {
@@ -137,7 +139,8 @@ fn next_change(
     schema: &Schema,
     outline: &mut Outline,
 ) -> Result<Next, AllocError>
-    requires { (rest : List ℕ) × (bytes.now ≡ 3 ∷ rest) }
+    requires bytes { (rest : List ℕ) × (bytes.now ≡ 3 ∷ rest) }
+    requires opened { IsSome outline.old.key }
     ensures { (before : ItemsBefore) → IsOutline before outline.old → outline.old.inside ≡ true → IfOk result (λ next. IsNextItem schema.now before bytes.now outline.new next) }
 {
     let Some((change, size)) = read_change(alloc, bytes)? else {
@@ -163,7 +166,8 @@ fn next_end(
     schema: &Schema,
     outline: &mut Outline,
 ) -> Result<Next, AllocError>
-    requires { (rest : List ℕ) × (bytes.now ≡ 4 ∷ rest) }
+    requires bytes { (rest : List ℕ) × (bytes.now ≡ 4 ∷ rest) }
+    requires opened { IsSome outline.old.key }
     ensures { (before : ItemsBefore) → IsOutline before outline.old → outline.old.inside ≡ true → IfOk result (λ next. IsNextItem schema.now before bytes.now outline.new next) }
 {
     if outline.tomb.is_some() {

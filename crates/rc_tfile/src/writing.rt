@@ -71,6 +71,8 @@ fn spell_row(
 ) -> Result<(), AllocError>
     requires key { KeyFits key.now }
     requires row { RowFits row.now }
+    requires opened { IsSome outline.old.key }
+    ensures opened { IsSome outline.new.key }
     ensures outline { (before : ItemsBefore) → IsOutline before outline.old → OnOk result (IsOutline (RowItem key.now row.now ∷ before) outline.new) }
     ensures bytes { OnOk result (out.new.items ≡ out.old.items ++ item_code (RowItem key.now row.now)) }
     ensures item { IsItem (RowItem key.now row.now) }
@@ -91,7 +93,9 @@ fn spell_change(
     outline: &mut Outline,
     out: &mut Vec<u8>,
 ) -> Result<(), AllocError>
-    requires { KeyFits x.now.prefix }
+    requires key { KeyFits x.now.prefix }
+    requires opened { IsSome outline.old.key }
+    ensures opened { IsSome outline.new.key }
     ensures outline { (before : ItemsBefore) → IsOutline before outline.old → OnOk result (IsOutline (ChangeItem x.now tomb ∷ before) outline.new) }
     ensures bytes { OnOk result (out.new.items ≡ out.old.items ++ item_code (ChangeItem x.now tomb)) }
     ensures item { IsItem (ChangeItem x.now tomb) }
@@ -110,7 +114,9 @@ fn spell_fragment(
     outline: &mut Outline,
     out: &mut Vec<u8>,
 ) -> Result<(), AllocError>
-    requires { FragFits frag.now }
+    requires fits { FragFits frag.now }
+    requires opened { IsSome outline.old.key }
+    ensures opened { IsSome outline.new.key }
     ensures outline { (before : ItemsBefore) → IsOutline before outline.old → OnOk result (IsOutline (followed_by before (frag_items frag.now)) outline.new) }
     ensures bytes { OnOk result (out.new.items ≡ out.old.items ++ flat_map item_code (frag_items frag.now)) }
     ensures items { AllByRecursion IsItem (frag_items frag.now) }
@@ -134,7 +140,8 @@ fn spell_fragments(
     outline: &mut Outline,
     out: &mut Vec<u8>,
 ) -> Result<(), AllocError>
-    requires { All FragFits frags.now }
+    requires fit { All FragFits frags.now }
+    requires opened { IsSome outline.old.key }
     ensures outline { (before : ItemsBefore) → IsOutline before outline.old → OnOk result (IsOutline (followed_by before (flat_map frag_items frags.now)) outline.new) }
     ensures bytes { OnOk result (out.new.items ≡ out.old.items ++ flat_map item_code (flat_map frag_items frags.now)) }
     ensures items { OnOk result (AllByRecursion IsItem (flat_map frag_items frags.now)) }

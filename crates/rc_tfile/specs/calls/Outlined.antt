@@ -1,5 +1,5 @@
 -- What an outline keeps of the items so far.
-use Rattle.std.specs.Prelude.{◌≡◌, Bool, true, false, Option}
+use Rattle.std.specs.Prelude.{◌≡◌, Bool, true, false, IsSome, Option}
 use Rattle.rc_cell.specs.declared.writes.Tomb.{Tomb}
 use Rattle.rc_position.specs.declared.positions.Pos.{Pos}
 use Rattle.rc_position.specs.Position.{row_pos}
@@ -18,6 +18,7 @@ pub record IsOutline (before : ItemsBefore) (o : Outline) : Type 0 where
   pub off : o.off ≡ offset before
   pub key : o.key ≡ last_key before
   pub «inside» : item_place before ≡ outline_place o.inside
+  pub opened : o.inside ≡ true → IsSome o.key
   pub part : o.part ≡ part_offset before
   pub last : o.last ≡ last_pos before
   pub tomb : o.tomb ≡ tomb_in_force before

@@ -33,4 +33,4 @@ returns c = λ before is ins.
     let found = subst (λ f. Starts (λ p. item_code (part_item p)) (λ p. IsItem (part_item p)) c.args.bytes.now f) c.in-Some.is c.in_ok-part.ensures.value in
     let key = subst (λ k. IfSome k (λ x. bytes_cmp x c.in-Some.part.key ≡ Less)) is.key (c.is_next_key.ensures.0 c.if-not-is_next_key.false) in
     let row = c.is_static_of.ensures.0 c.if-not-is_static_of.false in
-    (PartItem c.in-Some.part.key c.in-Some.part.head.pt c.in-Some.part.head.statics, drop c.in-Some.size c.args.bytes.now, (found.0, (is.inside ∙ ap outline_place ins, key, row)), found.1, found.2, c.in_ok-part-2.ensures before c.in-Some.part.head.pt c.in-Some.part.head.statics is found.2)
+    (PartItem c.in-Some.part.key c.in-Some.part.head.pt c.in-Some.part.head.statics, drop c.in-Some.size c.args.bytes.now, (found.0, (is.inside ∙ ap outline_place ins, key, row)), found.1, found.2, c.in_ok-part-2.ensures.outline before c.in-Some.part.head.pt c.in-Some.part.head.statics is found.2)

@@ -5,5 +5,5 @@ use Rattle.rc_tfile.specs.calls.Limits.{FragFits}
 use Rattle.rc_tfile.proofs.Limiting.{fragments_fit}
 use Rattle.rc_tfile.proofs.writing.spell_part.Goals as goal
 
-pub spell_fragments-requires : goal.spell_fragments-requires
-spell_fragments-requires c = subst (λ fs. All FragFits fs) (sym (c.as_slice.ensures ∙ c.in_ok-list.ensures)) (fragments_fit c.args.part.now.change c.holds_together.ensures c.requires)
+pub spell_fragments-requires-clause-fit : goal.spell_fragments-requires-clause-fit
+spell_fragments-requires-clause-fit c = subst (λ fs. All FragFits fs) (sym (c.as_slice.ensures ∙ c.in_ok-list.ensures)) (fragments_fit c.args.part.now.change c.holds_together.ensures c.requires)
