@@ -162,8 +162,8 @@ pub takes_damaged : (files : Option Files) (k : Keeping) (id : ℕ) (key : List 
     → files ≡ None → IsDamageOf k.schema key k.infos (stream_err.Damaged file offset) → Takes Stands files k (OpenRead id key slice) (replies.Refused (Damaged file offset)) files k
 takes_damaged files k id key slice file offset e h none damage = λ m s.
     let damaged : IsDamageOf m.schema key m.infos (stream_err.Damaged file offset) =
-      subst (λ (schema : SchemaValue). IsDamageOf schema key m.infos (stream_err.Damaged file offset)) (sym s.over.schema)
-          (subst (λ (infos : List TableInfo). IsDamageOf k.schema key infos (stream_err.Damaged file offset)) (sym s.over.infos) damage) in
+    subst (λ (schema : SchemaValue). IsDamageOf schema key m.infos (stream_err.Damaged file offset)) (sym s.over.schema)
+    (subst (λ (infos : List TableInfo). IsDamageOf k.schema key infos (stream_err.Damaged file offset)) (sym s.over.infos) damage) in
     (m, rw (open_none files k m id s e, few files k m s h) (inr (inr (file, offset, s.over.files ∙ none, damaged, (refl, refl)))), s)
 
 -- ---- readers
