@@ -11,7 +11,7 @@ use Rattle.rc_lines.specs.declared.commands.Refusal.{Refusal}
 use Rattle.rc_lines.specs.declared.commands.Refusal.TheVariants.{NoReader, ReaderInUse, TooManyReaders, NothingToFlush, NoNumber, FlushInProgress, NoFlush}
 use Rattle.rc_lines.specs.declared.commands.Reply.{Reply}
 use Rattle.rc_lines.specs.declared.commands.Reply.TheVariants as replies
-use Rattle.rc_machine.specs.State.{State, Reader, reader_of}
+use Rattle.rc_machine.specs.State.{State, Reader, numbers, reader_of}
 use Rattle.rc_machine.specs.Steps.{Steps, AfterSteps, Refuses, Opens, Gives, Stores, is_of, most_readers, last_number, next_number, with_table, without_sealed}
 
 abbrev Readers : Type 0
@@ -63,7 +63,7 @@ module _ (m new : State) (id : ℕ) (r : Reader) (reply : Reply) (open_before : 
   opens : (other : ℕ) (key : List ℕ) (slice : Slice) → Opens m other key slice reply new → reader_of id new ≡ Some r
   opens other key slice (inl s) = ap (λ (m : State). lookup (λ k. k == id) m.readers) s.2.1 ∙ stays_behind id m.readers _ r open_before
   opens other key slice (inr (inl s)) = still s.1
-  opens other key slice (inr (inr s)) = still s.3.1
+  opens other key slice (inr (inr s)) = still s.4.1
 
   tries : (other : ℕ) (key : List ℕ) (slice : Slice) (o : Option Reader) (b : Bool)
       → MatchOption o (MatchBool b (Opens m other key slice reply new) (Refuses m TooManyReaders reply new)) (λ _. Refuses m ReaderInUse reply new) → reader_of id new ≡ Some r
@@ -74,7 +74,7 @@ module _ (m new : State) (id : ℕ) (r : Reader) (reply : Reply) (open_before : 
   gives : (other count : ℕ) (left : Reader) → (other == id) ≡ false → Gives m other count left reply new → reader_of id new ≡ Some r
   gives other count left h (inl s) = ap (λ (m : State). lookup (λ k. k == id) m.readers) s.1 ∙ stays_beside other id m.readers _ h ∙ open_before
   gives other count left h (inr (inl s)) = still s.1
-  gives other count left h (inr (inr s)) = still s.3.1
+  gives other count left h (inr (inr s)) = still s.4.1
 
   read : (other count : ℕ) (o : Option Reader) → (other == id) ≡ false → MatchOption o (Refuses m NoReader reply new) (λ left. Gives m other count left reply new) → reader_of id new ≡ Some r
   read other count None h s = still s.1
@@ -112,8 +112,8 @@ fixed m id r (Put w) reply new e h (inr s) = still m new id r reply e s.1.1
 fixed m id r (OpenRead other key slice) reply new e h s = tries m new id r reply e other key slice (reader_of other m) (nat_lt (length m.readers) most_readers) s
 fixed m id r (Read other count) reply new e h s = read m new id r reply e other count (reader_of other m) h s
 fixed m id r (Close other) reply new e h s = shut m new id r reply e other (reader_of other m) h s
-fixed m id r Flush reply new e h s = flushed m new id r reply e without_sealed (λ m. refl) m.written (m.stored == length m.log) (nat_lt last_number (next_number m.tables)) s
-fixed m id r FlushBegin reply new e h s = flushed m new id r reply e (λ m. m) (λ m. refl) m.written (m.stored == length m.log) (nat_lt last_number (next_number m.tables)) s
+fixed m id r Flush reply new e h s = flushed m new id r reply e without_sealed (λ m. refl) m.written (m.stored == length m.log) (nat_lt last_number (next_number (numbers m.tables))) s
+fixed m id r FlushBegin reply new e h s = flushed m new id r reply e (λ m. m) (λ m. refl) m.written (m.stored == length m.log) (nat_lt last_number (next_number (numbers m.tables))) s
 fixed m id r (FlushStep count) reply new e h s = stepped m new id r reply e m.written (nat_lt count m.left) (m.left - count) s
 fixed m id r (Evict count) reply new e h s = still m new id r reply e s.1
 fixed m id r (Compact count) reply new e h s = still m new id r reply e s.1

@@ -13,7 +13,7 @@ use Rattle.rc_lines.specs.declared.commands.Command.TheVariants.{Put}
 use Rattle.rc_lines.specs.declared.commands.Reply.{Reply}
 use Rattle.rc_lines.specs.declared.commands.Reply.TheVariants.{Fine}
 use Rattle.rc_machine.specs.State.{State, Table, numbers}
-use Rattle.rc_machine.specs.Steps.{number_after}
+use Rattle.rc_machine.specs.Steps.{next_number}
 
 -- a table, and the writes that were flushed to it
 abbrev pub Flush : Type 0
@@ -41,7 +41,7 @@ files_with schema files (t ∷ tables) = files_with schema (map.insert files t.0
 -- numbers are next, one behind another: each is one more than the last before it
 abbrev pub AreNext : List ℕ → List ℕ → Type 0
 AreNext before [] = ⊤
-AreNext before (n ∷ ns) = (n ≡ number_after 0 before) × AreNext (before ++ n ∷ []) ns
+AreNext before (n ∷ ns) = (n ≡ next_number before) × AreNext (before ++ n ∷ []) ns
 
 -- how many of the accepted writes stand in tables
 abbrev pub in_tables : State → ℕ

@@ -1,17 +1,15 @@
 -- The machine without a cache, over a folder of tables: its state.
 --     Table, Reader, State    what it holds
---     opened_state                  as it is opened over a folder
---     changes_of              what is said of a partition
-use Rattle.std.specs.Prelude.{ℕ, ◌==◌, Bool, false, List, [], ◌++◌, drop, map as list_map, Option}
+--     opened_state            as it is opened over a folder
+--     unstored, reader_of     the writes that stand in no table; an open reader
+use Rattle.std.specs.Prelude.{ℕ, ◌==◌, Bool, false, List, [], drop, map as list_map, Option}
 use Rattle.std.specs.Map.{lookup}
 use Rattle.rc_outside.specs.Files.{Files}
 use Rattle.rc_position.specs.declared.positions.Pos.{Pos}
 use Rattle.rc_position.specs.declared.slices.Slice.{Slice}
 use Rattle.rc_schema.specs.SchemaValue.{SchemaValue}
-use Rattle.rc_mutation.specs.declared.mutations.Mutation.{Mutation}
 use Rattle.rc_mutation.specs.declared.mutations.Partition.{Partition}
 use Rattle.rc_mutation.specs.declared.mutations.Write.{Write}
-use Rattle.rc_mutation.specs.Source.{changes_to}
 use Rattle.rc_query.specs.declared.lines.OutLine.{OutLine}
 use Rattle.rc_tfile.specs.declared.info.TableInfo.{TableInfo}
 
@@ -51,27 +49,12 @@ numbers tables = list_map (λ t. t.0) tables
 
 -- the machine as it is opened over a folder of tables
 abbrev pub opened_state : ℕ → Option Files → SchemaValue → List Table → List TableInfo → State
-opened_state segments files schema tables infos = record {
-  schema = schema;
-  segments = segments;
-  files = files;
-  tables = tables;
-  infos = infos;
-  log = [];
-  stored = 0;
-  sealed = 0;
-  written = false;
-  left = 0;
-  readers = [];
-}
+opened_state segments files schema tables infos =
+    record { schema = schema; segments = segments; files = files; tables = tables; infos = infos; log = []; stored = 0; sealed = 0; written = false; left = 0; readers = [] }
 
 -- the writes that stand in no table, or only in one that the cache does not have yet
 abbrev pub unstored : State → List Write
 unstored m = drop m.stored m.log
-
--- what they say of a partition, in order
-abbrev pub recent_changes : List ℕ → State → List Mutation
-recent_changes key m = changes_to key (unstored m)
 
 -- an open reader, where the id is open
 abbrev pub reader_of : ℕ → State → Option Reader

@@ -3,7 +3,7 @@
 --     Gives             the lines that a reader is given next
 --     Stores            how sealed writes become a table
 --     Steps, AfterSteps      one step, and several
-use Rattle.std.specs.Prelude.{◌≡◌, ◌≢◌, ℕ, ◌+◌, ◌-◌, ◌≤◌, ◌==◌, ◌⊎◌, Bool, true, false, not, nat_lt, List, [], ◌∷◌, ◌++◌, length, take, drop, Option, Some, None, MatchBool, MatchOption, option_map, if◌then◌else◌}
+use Rattle.std.specs.Prelude.{◌≡◌, ◌≢◌, ℕ, ◌+◌, ◌-◌, ◌≤◌, ◌==◌, ◌⊎◌, Bool, true, false, not, nat_lt, List, [], ◌∷◌, ◌++◌, length, take, drop, fold, Option, Some, None, MatchBool, MatchOption, option_map, if◌then◌else◌}
 use Rattle.std.specs.List.{filter, AllByRecursion}
 use Rattle.std.specs.Map.{set_value}
 use Rattle.std.specs.FinMap as map
@@ -15,6 +15,7 @@ use Rattle.rc_schema.specs.SchemaValue.{SchemaValue}
 use Rattle.rc_mutation.specs.declared.mutations.Mutation.{Mutation}
 use Rattle.rc_mutation.specs.declared.mutations.Partition.{Partition}
 use Rattle.rc_mutation.specs.declared.mutations.Write.{Write}
+use Rattle.rc_mutation.specs.Source.{changes_to}
 use Rattle.rc_mutation.specs.Fragments.{IsParts, units}
 use Rattle.rc_query.specs.declared.lines.OutLine.{OutLine}
 use Rattle.rc_query.specs.declared.lines.OutLine.TheVariants as out_line
@@ -27,13 +28,13 @@ use Rattle.rc_stream.specs.declared.streams.StreamErr.TheVariants as stream_err
 use Rattle.rc_tables.specs.Located.{SaysOf}
 use Rattle.rc_tables.specs.Tables.{IsDamageOf, changes_at, listing}
 use Rattle.rc_lines.specs.declared.commands.Command.{Command}
-use Rattle.rc_lines.specs.declared.commands.Command.TheVariants.{Nothing, SetSchema, Put, OpenRead, Read, Close, Flush, FlushBegin, FlushStep, Evict, Compact, Clean, Stats}
+use Rattle.rc_lines.specs.declared.commands.Command.TheVariants.{Nothing, SetSchema, Put, OpenRead, Read, Close, Flush, FlushBegin, FlushStep, Stats}
 use Rattle.rc_lines.specs.declared.commands.Figures.{Figures}
 use Rattle.rc_lines.specs.declared.commands.Refusal.{Refusal}
 use Rattle.rc_lines.specs.declared.commands.Reply.{Reply}
 use Rattle.rc_lines.specs.declared.commands.Reply.TheVariants as replies
 use Rattle.rc_lines.specs.declared.commands.Refusal.TheVariants.{SchemaDiffers, NoReader, ReaderInUse, TooManyReaders, FlushInProgress, NothingToFlush, NoFlush, NoNumber, Full, ReadFault, WriteFault, Damaged}
-use Rattle.rc_machine.specs.State.{State, Reader, Table, numbers, unstored, recent_changes, reader_of}
+use Rattle.rc_machine.specs.State.{State, Reader, numbers, unstored, reader_of}
 use Rattle.rc_machine.specs.Room.{MayBeFull}
 
 -- at most so many readers are open at once
@@ -44,18 +45,13 @@ most_readers = 64
 abbrev pub last_number : ℕ
 last_number = 4294967295
 
--- one more than the last of numbers, or than n where there are none
-abbrev pub number_after : ℕ → List ℕ → ℕ
-number_after n [] = n + 1
-number_after n (k ∷ ks) = number_after k ks
+-- one more than the last of tables' numbers, or 1
+abbrev pub next_number : List ℕ → ℕ
+next_number ns = fold (λ last n. n) 0 ns + 1
 
--- the number of the next table: one more than the last one's, or 1
-abbrev pub next_number : List Table → ℕ
-next_number tables = number_after 0 (numbers tables)
-
--- a refusal that changes nothing
+-- a command is refused, and this is the next state
 abbrev pub Refuses : State → Refusal → Reply → State → Type 0
-Refuses m refusal reply new = (reply ≡ replies.Refused refusal) × (new ≡ m)
+Refuses next refusal reply new = (reply ≡ replies.Refused refusal) × (new ≡ next)
 
 -- a command is done, and this is the next state
 abbrev pub Does : State → Reply → State → Type 0
@@ -66,21 +62,21 @@ Does next reply new = (reply ≡ replies.Fine) × (new ≡ next)
 abbrev pub IsSaid : State → List ℕ → List Mutation → Type 0
 IsSaid m key said = MatchOption m.files ((length said ≤ listing key m.infos) × AllByRecursion (SaysOf m.schema) said) (λ files. said ≡ changes_at key m.tables)
 
--- a table is not what it was: the folder is not told, and what was read of a table that lists the key contradicts what is known of it
-abbrev pub MayBeDamaged : State → List ℕ → (file offset : ℕ) → Type 0
-MayBeDamaged m key file offset = (m.files ≡ None) × IsDamageOf m.schema key m.infos (stream_err.Damaged file offset)
+-- a partition could not be read: the store failed; or, where the folder is not told, what was read of a table that lists the key contradicts what is
+-- known of it, so it is not what it was
+abbrev pub ReadFails : State → List ℕ → Reply → State → Type 0
+ReadFails m key reply new = Refuses m ReadFault reply new
+    ⊎ ((file : ℕ) × (offset : ℕ) × (m.files ≡ None) × IsDamageOf m.schema key m.infos (stream_err.Damaged file offset) × Refuses m (Damaged file offset) reply new)
 
 -- a reader as it is opened, with its answer
 abbrev pub reader_with : State → List ℕ → Slice → List OutLine → Reader
 reader_with m key slice lines = record { key = key; slice = slice; place = slice.from; rest = lines; first = if m.stored == length m.log then None else Some m.stored }
 
--- A reader is opened: its answer is fixed now, to what the tables say and then the writes that stand in none. Or the store fails; or,
--- where the folder is not told, a table is not what it was.
+-- a reader is opened: its answer is fixed now, to what the tables say and then the writes that stand in none; or its partition could not be read
 abbrev pub Opens : State → ℕ → List ℕ → Slice → Reply → State → Type 0
 Opens m id key slice reply new =
-    ((said : List Mutation) × IsSaid m key said × Does (record m { readers = m.readers ++ (id, reader_with m key slice (answer (said ++ recent_changes key m) slice)) ∷ [] }) reply new)
-    ⊎ (Refuses m ReadFault reply new
-    ⊎ ((file : ℕ) × (offset : ℕ) × MayBeDamaged m key file offset × Refuses m (Damaged file offset) reply new))
+    ((said : List Mutation) × IsSaid m key said × Does (record m { readers = m.readers ++ (id, reader_with m key slice (answer (said ++ changes_to key (unstored m)) slice)) ∷ [] }) reply new)
+    ⊎ ReadFails m key reply new
 
 -- the position behind lines that were given, of which the first begin behind x: behind the last row
 abbrev pub position_behind : Pos → List OutLine → Pos
@@ -92,32 +88,26 @@ position_behind x (out_line.Row key shown ∷ lines) = position_behind (record {
 abbrev pub reader_past : ℕ → Reader → Reader
 reader_past count r = record r { place = if nat_lt count (length r.rest) then position_behind r.place (take count r.rest) else r.slice.to; rest = drop count r.rest }
 
--- A reader gives its next lines, and whether there are more. Or the store fails; or, where the folder is not told, a table is not what it was.
+-- a reader gives its next lines, and whether there are more; or its partition could not be read
 abbrev pub Gives : State → ℕ → ℕ → Reader → Reply → State → Type 0
 Gives m id count r reply new =
     ((reply ≡ replies.Given (take count r.rest) (nat_lt count (length r.rest))) × (new ≡ record m { readers = set_value (λ k. k == id) m.readers (reader_past count r) }))
-    ⊎ (Refuses m ReadFault reply new
-    ⊎ ((file : ℕ) × (offset : ℕ) × MayBeDamaged m r.key file offset × Refuses m (Damaged file offset) reply new))
+    ⊎ ReadFails m r.key reply new
 
 -- how many writes stand in tables or in the next one, once what is not sealed yet is sealed, unless something is
 abbrev pub sealing : State → ℕ
 sealing m = if m.stored == m.sealed then length m.log else m.sealed
 
--- the writes that are sealed, or would be
-abbrev pub to_flush : State → List Write
-to_flush m = take (sealing m - m.stored) (unstored m)
-
--- Partitions are what a flush writes: the parts of the writes that are sealed or would be, and the text of a table.
-pub record IsFlushed (m : State) (parts : List Partition) : Type 0 where
-  pub of_writes : IsParts parts (to_flush m)
-  pub is_table : IsTable (text (whole_table m.schema parts)) m.schema parts
+-- partitions are what a flush writes: the parts of the writes that are sealed or would be, and the text of a table
+abbrev pub IsFlushed : State → List Partition → Type 0
+IsFlushed m parts = IsParts parts (take (sealing m - m.stored) (unstored m)) × IsTable (text (whole_table m.schema parts)) m.schema parts
 
 -- the state in which the sealed writes stand in one more table, with its file, and the cache does not have it yet
 abbrev pub with_table : State → List Partition → State
-with_table m parts = record m {
-  files = option_map (λ files. map.insert files (next_number m.tables) (text (whole_table m.schema parts))) m.files;
-  tables = m.tables ++ (next_number m.tables, parts) ∷ [];
-  infos = m.infos ++ info_of (next_number m.tables) m.schema parts ∷ [];
+with_table m parts = let n = next_number (numbers m.tables) in record m {
+  files = option_map (λ files. map.insert files n (text (whole_table m.schema parts))) m.files;
+  tables = m.tables ++ (n, parts) ∷ [];
+  infos = m.infos ++ info_of n m.schema parts ∷ [];
   sealed = sealing m;
   written = true;
   left = units parts;
@@ -129,16 +119,13 @@ without_sealed m = record m { stored = m.sealed; written = false; left = 0 }
 
 -- The sealed writes become the next table, and the state goes on from there; or the store fails, and they stay sealed.
 abbrev pub Stores : State → (State → State) → Reply → State → Type 0
-Stores m on reply new =
-    ((parts : List Partition) × IsFlushed m parts × Does (on (with_table m parts)) reply new)
-    ⊎ ((reply ≡ replies.Refused WriteFault) × (new ≡ record m { sealed = sealing m }))
+Stores m on reply new = ((parts : List Partition) × IsFlushed m parts × Does (on (with_table m parts)) reply new) ⊎ Refuses (record m { sealed = sealing m }) WriteFault reply new
 
 -- a flush begins: none is in progress, there is something to flush, and a number for its table
 abbrev pub Flushes : State → (State → State) → Reply → State → Type 0
 Flushes m on reply new =
-    MatchBool m.written (Refuses m FlushInProgress reply new)
-    (MatchBool (m.stored == length m.log) (Refuses m NothingToFlush reply new)
-    (MatchBool (nat_lt last_number (next_number m.tables)) (Refuses m NoNumber reply new) (Stores m on reply new)))
+    MatchBool m.written (Refuses m FlushInProgress reply new) (MatchBool (m.stored == length m.log) (Refuses m NothingToFlush reply new)
+    (MatchBool (nat_lt last_number (next_number (numbers m.tables))) (Refuses m NoNumber reply new) (Stores m on reply new)))
 
 -- from a state a command may be answered by the reply, and the other state is next
 abbrev pub Steps : State → Command → Reply → State → Type 0
@@ -148,18 +135,14 @@ Steps m (Put w) reply new = Does (record m { log = m.log ++ w ∷ [] }) reply ne
 Steps m (OpenRead id key slice) reply new =
     MatchOption (reader_of id m) (MatchBool (nat_lt (length m.readers) most_readers) (Opens m id key slice reply new) (Refuses m TooManyReaders reply new)) (λ r. Refuses m ReaderInUse reply new)
 Steps m (Read id count) reply new = MatchOption (reader_of id m) (Refuses m NoReader reply new) (λ r. Gives m id count r reply new)
-Steps m (Close id) reply new =
-    MatchOption (reader_of id m) (Refuses m NoReader reply new) (λ r. Does (record m { readers = filter (λ reader. not (reader.0 == id)) m.readers }) reply new)
+Steps m (Close id) reply new = MatchOption (reader_of id m) (Refuses m NoReader reply new) (λ r. Does (record m { readers = filter (λ reader. not (reader.0 == id)) m.readers }) reply new)
 Steps m Flush reply new = Flushes m without_sealed reply new
 Steps m FlushBegin reply new = Flushes m (λ next. next) reply new
 Steps m (FlushStep count) reply new =
-    MatchBool m.written
-    (MatchBool (nat_lt count m.left) ((reply ≡ replies.Going) × (new ≡ record m { left = m.left - count })) ((reply ≡ replies.Done) × (new ≡ without_sealed m)))
+    MatchBool m.written (MatchBool (nat_lt count m.left) ((reply ≡ replies.Going) × (new ≡ record m { left = m.left - count })) ((reply ≡ replies.Done) × (new ≡ without_sealed m)))
     (Refuses m NoFlush reply new)
-Steps m (Evict count) reply new = Does m reply new
-Steps m (Compact count) reply new = Does m reply new
-Steps m (Clean count) reply new = Does m reply new
 Steps m Stats reply new = (figures : Figures) × (reply ≡ replies.Stats figures) × (new ≡ m)
+Steps m command reply new = Does m reply new
 
 -- the state after steps, each a command with its reply
 abbrev pub AfterSteps : State → List (Command × Reply) → State → Type 0

@@ -17,8 +17,8 @@ use Rattle.rc_tfile.specs.Stored.{with_file}
 use Rattle.rc_tfile.specs.TableText.{whole_table, IsTable}
 use Rattle.rc_machine.specs.State.{Table, numbers}
 use Rattle.rc_machine.specs.Tables.{AreListed, AreTables, IsStoredTable}
-use Rattle.rc_machine.specs.Steps.{number_after, next_number}
-use Rattle.rc_machine.specs.laws.Folder.{get_new, get_other, keys_next, no_file_next}
+use Rattle.rc_machine.specs.Steps.{next_number}
+use Rattle.rc_machine.specs.laws.Folder.{number_after, get_new, get_other, keys_next, no_file_next}
 use Rattle.rc_plain.specs.calls.Storing.{IsNextNumber}
 
 less_or_is : (a b : ℕ) → a < suc b → (a < b) ⊎ (a ≡ b)
@@ -36,7 +36,7 @@ after_last a (x ∷ y ∷ ys) (suc k) e = after_last x (y ∷ ys) k (omega (arit
 
 -- ---- of numbers alone
 
-increasing_more : (xs : List ℕ) (n : ℕ) → IsStrictlyIncreasing xs → n ≡ number_after 0 xs → IsStrictlyIncreasing (xs ++ n ∷ [])
+increasing_more : (xs : List ℕ) (n : ℕ) → IsStrictlyIncreasing xs → n ≡ next_number xs → IsStrictlyIncreasing (xs ++ n ∷ [])
 increasing_more xs n h e = λ k l.
     let count : length (xs ++ n ∷ []) ≡ length xs + 1 = length-append xs (n ∷ []) in
     ⊎_elim
@@ -44,7 +44,7 @@ increasing_more xs n h e = λ k l.
     (λ last.
     let new : get_or (xs ++ n ∷ []) (k + 1) 0 ≡ n = ap (λ j. get_or (xs ++ n ∷ []) j 0) last ∙ get_or-append_seam xs n [] 0 in
     let old : get_or (xs ++ n ∷ []) k 0 ≡ get_or xs k 0 = get_or-append xs (n ∷ []) 0 k (omega (arith, last)) in
-    let one : number_after 0 xs ≡ get_or xs k 0 + 1 = after_last 0 xs k (omega (arith, last)) in
+    let one : next_number xs ≡ get_or xs k 0 + 1 = after_last 0 xs k (omega (arith, last)) in
     omega (arith, new, old, one, e))
     (less_or_is (k + 1) (length xs) (omega (arith, l, count)))
 
@@ -54,13 +54,13 @@ kept_more : (files : Files) (schema : SchemaValue) (n : ℕ) (bytes : List ℕ) 
 kept_more files schema n bytes tables none all = λ k d l. (let h = all k d l in (h.0, get_other files n _ bytes h.0 none h.1, h.2, h.3))
 
 -- one more table, of the next number
-pub tables_more : (files : Option Files) (schema : SchemaValue) (tables : List Table) (n : ℕ) (parts : List Partition) → AreTables files schema tables → n ≡ next_number tables → IsTable (text (whole_table schema parts)) schema parts → All (λ p. IsMutation p.change) parts
+pub tables_more : (files : Option Files) (schema : SchemaValue) (tables : List Table) (n : ℕ) (parts : List Partition) → AreTables files schema tables → n ≡ next_number (numbers tables) → IsTable (text (whole_table schema parts)) schema parts → All (λ p. IsMutation p.change) parts
     → AreTables (with_file files n (text (whole_table schema parts))) schema (tables ++ (n, parts) ∷ [])
 tables_more None schema tables n parts are e is whole =
     subst IsStrictlyIncreasing (sym (map-append (λ (t : Table). t.0) tables ((n, parts) ∷ []))) (increasing_more (numbers tables) n are e)
 tables_more (Some files) schema tables n parts are e is whole =
     let bytes = text (whole_table schema parts) in
-    let next : n ≡ number_after 0 (finite.keys files) = e ∙ ap (number_after 0) are.0 in
+    let next : n ≡ next_number (finite.keys files) = e ∙ ap next_number are.0 in
     let none = no_file_next files n next in (
       map-append (λ (t : Table). t.0) tables ((n, parts) ∷ []) ∙ ap (λ ns. ns ++ n ∷ []) are.0 ∙ sym (keys_next files n bytes next),
       All-append (IsStoredTable (finite.insert files n bytes) schema) tables ((n, parts) ∷ []) (kept_more files schema n bytes tables none are.1)
@@ -105,7 +105,7 @@ get_some (n ∷ ns) (suc k) l h = get_some ns k (omega (arith, l)) h
 abbrev numbers_in : List TableInfo → List ℕ
 numbers_in infos = map (λ (i : TableInfo). i.number) infos
 
-last_number_of : (infos : List TableInfo) (n : ℕ) → Some n ≡ slice_get (numbers_in infos) (length infos - 1) → number_after 0 (numbers_in infos) ≡ n + 1
+last_number_of : (infos : List TableInfo) (n : ℕ) → Some n ≡ slice_get (numbers_in infos) (length infos - 1) → next_number (numbers_in infos) ≡ n + 1
 last_number_of [] n h = absurd (cc)
 last_number_of (i ∷ is) n h = after_get 0 (numbers_in (i ∷ is)) (length (i ∷ is) - 1) n (omega (arith, length-map (i ∷ is) (λ (i : TableInfo). i.number))) h
 

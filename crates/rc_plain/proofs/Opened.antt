@@ -1,6 +1,6 @@
 -- The files of a folder, checked one after another.
 use Rattle.std.proofs.Common.{◌≡◌, ℕ, zero, suc, ◌+◌, ◌/◌, take, drop, get_or, take-suc, ◌<◌, ◌≤◌, Bool, true, false, cond, ◌||◌, T, List, [], ◌∷◌, ◌++◌, length, map, Option, Some, None, Ok, is_some, All, refl, sym, ap, subst, ◌∙◌, arith}
-use Rattle.std.specs.Option.{IfSome, unwrap_or}
+use Rattle.std.specs.Option.{IfSome, MatchOption, unwrap_or}
 use Rattle.std.specs.Ordering.{nat_cmp, is_lt, eq_by_cmp}
 use Rattle.std.specs.Cmp.{nat_cmp_total, eq_by_cmp_equiv}
 use Rattle.std.specs.List.{list_any}
@@ -23,7 +23,7 @@ use Rattle.rc_tfile.specs.Walking.{ChecksTable}
 use Rattle.rc_plain.specs.declared.opening.OpenErr.{OpenErr}
 use Rattle.rc_plain.specs.declared.opening.OpenErr.TheVariants.{Fault, Damaged, OtherSchema, NoMemory}
 use Rattle.rc_machine.specs.State.{Table, numbers, opened_state}
-use Rattle.rc_machine.specs.Tables.{AreListed, AreTables, IsStoredTable, IsBad, IsFirstBad}
+use Rattle.rc_machine.specs.Tables.{AreListed, AreTables, IsStoredTable, IsFirstBad}
 use Rattle.rc_machine.specs.Serving.{checks_of}
 use Rattle.rc_machine.specs.laws.Folder.{apart, apart_under, first_T, less_of, not_none, second_T}
 use Rattle.rc_plain.specs.Stands.{Stands}
@@ -105,7 +105,7 @@ same_bytes : (bytes more : List ℕ) (o : Option (List ℕ)) → o ≡ Some byte
 same_bytes bytes more o e h = ap (λ o. unwrap_or o bytes) (sym e ∙ h)
 
 first_bad : (told : Files) (schema : SchemaValue) (all done rest : List ℕ) (infos : List TableInfo) (n : ℕ) (damage : Option ℕ) → AreNumbers (Some told) all → all ≡ done ++ n ∷ rest → Done (Some told) schema done infos
-    → (bytes : List ℕ) → finite.get told n ≡ Some bytes → IsBad schema damage bytes → IsFirstBad told schema n damage
+    → (bytes : List ℕ) → finite.get told n ≡ Some bytes → MatchOption damage (IsOtherSchema bytes schema) (FirstDamage bytes schema) → IsFirstBad told schema n damage
 first_bad told schema all done rest infos n damage h e d bytes here bad = record {
   bytes = bytes;
   here = here;

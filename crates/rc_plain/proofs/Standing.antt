@@ -28,8 +28,8 @@ use Rattle.rc_lines.specs.declared.commands.Command.TheVariants.{Nothing, SetSch
 use Rattle.rc_lines.specs.declared.commands.Reply.{Reply}
 use Rattle.rc_lines.specs.declared.commands.Reply.TheVariants as replies
 use Rattle.rc_lines.specs.declared.commands.Refusal.TheVariants.{SchemaDiffers, NoReader, ReaderInUse, TooManyReaders, ReadFault, Damaged}
-use Rattle.rc_machine.specs.State.{State, Reader, Table, recent_changes}
-use Rattle.rc_machine.specs.Steps.{MayBeDamaged, most_readers, reader_with, reader_past, sealing}
+use Rattle.rc_machine.specs.State.{State, Reader, Table, unstored}
+use Rattle.rc_machine.specs.Steps.{most_readers, reader_with, reader_past, sealing}
 use Rattle.rc_machine.specs.Serving.{Takes, Stops, IsLeft}
 use Rattle.rc_plain.specs.Stands.{Keeping, Stands, rests}
 use Rattle.rc_plain.specs.calls.Answering.{IsAnswer}
@@ -161,12 +161,10 @@ takes_fault files k id key slice e h = λ m s. (m, rw (open_none files k m id s 
 pub takes_damaged : (files : Option Files) (k : Keeping) (id : ℕ) (key : List ℕ) (slice : Slice) (file offset : ℕ) → lookup (λ q. q == id) k.readers ≡ None → length k.readers < most_readers
     → files ≡ None → IsDamageOf k.schema key k.infos (stream_err.Damaged file offset) → Takes Stands files k (OpenRead id key slice) (replies.Refused (Damaged file offset)) files k
 takes_damaged files k id key slice file offset e h none damage = λ m s.
-    let here : MayBeDamaged m key file offset = (
-      s.over.files ∙ none,
-      subst (λ (schema : SchemaValue). IsDamageOf schema key m.infos (stream_err.Damaged file offset)) (sym s.over.schema)
-          (subst (λ (infos : List TableInfo). IsDamageOf k.schema key infos (stream_err.Damaged file offset)) (sym s.over.infos) damage),
-    ) in
-    (m, rw (open_none files k m id s e, few files k m s h) (inr (inr (file, offset, here, (refl, refl)))), s)
+    let damaged : IsDamageOf m.schema key m.infos (stream_err.Damaged file offset) =
+    subst (λ (schema : SchemaValue). IsDamageOf schema key m.infos (stream_err.Damaged file offset)) (sym s.over.schema)
+    (subst (λ (infos : List TableInfo). IsDamageOf k.schema key infos (stream_err.Damaged file offset)) (sym s.over.infos) damage) in
+    (m, rw (open_none files k m id s e, few files k m s h) (inr (inr (file, offset, s.over.files ∙ none, damaged, (refl, refl)))), s)
 
 -- ---- readers
 
@@ -174,7 +172,7 @@ pub takes_open : (files : Option Files) (k : Keeping) (id : ℕ) (key : List ℕ
     → ((m : State) → Stands files k m → IsAnswer m key slice lines) → readers ≡ k.readers ++ (id, lines) ∷ [] → Takes Stands files k (OpenRead id key slice) replies.Fine files (reading k readers)
 takes_open files k id key slice lines readers e h answered more = λ m s.
     let said = answered m s in
-    let reader : Reader = reader_with m key slice (answer (said.0 ++ recent_changes key m) slice) in
+    let reader : Reader = reader_with m key slice (answer (said.0 ++ changes_to key (unstored m)) slice) in
     let given : List (ℕ × Reader) = m.readers ++ (id, reader) ∷ [] in
     let left : rests given ≡ readers = map-append (λ (r : ℕ × Reader). (r.0, r.1.rest)) m.readers ((id, reader) ∷ []) ∙ (λ j. s.readers j ++ (id, sym said.2 j) ∷ []) ∙ sym more in
     (record m { readers = given }, rw (open_none files k m id s e, few files k m s h) (inl (said.0, said.1, (refl, refl))), stands_reading files k m given readers left s)

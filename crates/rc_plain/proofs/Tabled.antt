@@ -16,8 +16,8 @@ use Rattle.rc_lines.specs.declared.commands.Command.TheVariants.{Put, Flush}
 use Rattle.rc_lines.specs.declared.commands.Reply.{Reply}
 use Rattle.rc_lines.specs.declared.commands.Reply.TheVariants as replies
 use Rattle.rc_lines.specs.declared.commands.Refusal.TheVariants.{FlushInProgress, NothingToFlush, NoNumber, WriteFault}
-use Rattle.rc_machine.specs.State.{State}
-use Rattle.rc_machine.specs.Steps.{Flushes, IsFlushed, Stores, Refuses, number_after, next_number, last_number, sealing, with_table, without_sealed}
+use Rattle.rc_machine.specs.State.{State, numbers}
+use Rattle.rc_machine.specs.Steps.{Flushes, IsFlushed, Stores, Refuses, next_number, last_number, sealing, with_table, without_sealed}
 use Rattle.rc_machine.specs.Serving.{Takes, Stops}
 use Rattle.rc_machine.specs.laws.Folder.{is_no_file}
 use Rattle.rc_plain.specs.Stands.{Keeping, Stands}
@@ -26,12 +26,12 @@ use Rattle.rc_plain.proofs.Standing.{log_length, stands_sealed}
 use Rattle.rc_plain.proofs.Ahead.{numbers_known, tables_more, listed_more}
 
 -- the number of the next table is the state's
-next_is : (files : Option Files) (k : Keeping) (m : State) (n : ℕ) → Stands files k m → n ≡ number_after 0 (map (λ (i : TableInfo). i.number) k.infos) → n ≡ next_number m.tables
+next_is : (files : Option Files) (k : Keeping) (m : State) (n : ℕ) → Stands files k m → n ≡ next_number (map (λ (i : TableInfo). i.number) k.infos) → n ≡ next_number (numbers m.tables)
 next_is files k m n s e =
-    e ∙ ap (λ (infos : List TableInfo). number_after 0 (map (λ (i : TableInfo). i.number) infos)) (sym s.over.infos) ∙ ap (number_after 0) (numbers_known m.files m.schema m.tables m.infos s.over.listed)
+    e ∙ ap (λ (infos : List TableInfo). next_number (map (λ (i : TableInfo). i.number) infos)) (sym s.over.infos) ∙ ap next_number (numbers_known m.files m.schema m.tables m.infos s.over.listed)
 
 -- it is no file's
-pub fresh : (files : Option Files) (k : Keeping) (n : ℕ) → (m : State) × Stands files k m → n ≡ number_after 0 (map (λ (i : TableInfo). i.number) k.infos) → IsNoFile files n
+pub fresh : (files : Option Files) (k : Keeping) (n : ℕ) → (m : State) × Stands files k m → n ≡ next_number (map (λ (i : TableInfo). i.number) k.infos) → IsNoFile files n
 fresh files k n stands e =
     let m = stands.0 in
     let s = stands.1 in
@@ -45,25 +45,25 @@ some_left : (files : Option Files) (k : Keeping) (m : State) → Stands files k 
 some_left files k m s some = (let count = log_length files k m s in grind (arith, nat_tests, count, some))
 
 -- no flush is in progress
-flushes : (on : State → State) (m : State) (reply : Reply) (new : State) (a b : Bool) → m.written ≡ false → (m.stored == length m.log) ≡ a → nat_lt last_number (next_number m.tables) ≡ b
+flushes : (on : State → State) (m : State) (reply : Reply) (new : State) (a b : Bool) → m.written ≡ false → (m.stored == length m.log) ≡ a → nat_lt last_number (next_number (numbers m.tables)) ≡ b
     → MatchBool a (Refuses m NothingToFlush reply new) (MatchBool b (Refuses m NoNumber reply new) (Stores m on reply new)) → Flushes m on reply new
 flushes on m reply new a b whole e f h =
-    subst (λ (x : Bool). MatchBool x (Refuses m FlushInProgress reply new) (MatchBool (m.stored == length m.log) (Refuses m NothingToFlush reply new) (MatchBool (nat_lt last_number (next_number m.tables)) (Refuses m NoNumber reply new) (Stores m on reply new)))) (sym whole)
-    (subst (λ (x : Bool). MatchBool x (Refuses m NothingToFlush reply new) (MatchBool (nat_lt last_number (next_number m.tables)) (Refuses m NoNumber reply new) (Stores m on reply new))) (sym e)
+    subst (λ (x : Bool). MatchBool x (Refuses m FlushInProgress reply new) (MatchBool (m.stored == length m.log) (Refuses m NothingToFlush reply new) (MatchBool (nat_lt last_number (next_number (numbers m.tables))) (Refuses m NoNumber reply new) (Stores m on reply new)))) (sym whole)
+    (subst (λ (x : Bool). MatchBool x (Refuses m NothingToFlush reply new) (MatchBool (nat_lt last_number (next_number (numbers m.tables))) (Refuses m NoNumber reply new) (Stores m on reply new))) (sym e)
     (subst (λ (y : Bool). MatchBool a (Refuses m NothingToFlush reply new) (MatchBool y (Refuses m NoNumber reply new) (Stores m on reply new))) (sym f) h))
 
 pub takes_no_flush : (files : Option Files) (k : Keeping) → length k.sealed + length k.active ≡ 0 → Takes Stands files k Flush (replies.Refused NothingToFlush) files k
-takes_no_flush files k none = λ m s. (m, flushes without_sealed m _ m true (nat_lt last_number (next_number m.tables)) s.whole (all_stored files k m s none) refl (refl, refl), s)
+takes_no_flush files k none = λ m s. (m, flushes without_sealed m _ m true (nat_lt last_number (next_number (numbers m.tables))) s.whole (all_stored files k m s none) refl (refl, refl), s)
 
 pub takes_no_number : (files : Option Files) (k : Keeping) → 1 ≤ length k.sealed + length k.active → IsNextNumber k.infos None → Takes Stands files k Flush (replies.Refused NoNumber) files k
 takes_no_number files k some past = λ m s.
-    let next : number_after 0 (map (λ (i : TableInfo). i.number) k.infos) ≡ next_number m.tables = next_is files k m _ s refl in
-    let late : nat_lt last_number (next_number m.tables) ≡ true = grind (arith, nat_tests, past, next) in
+    let next : next_number (map (λ (i : TableInfo). i.number) k.infos) ≡ next_number (numbers m.tables) = next_is files k m _ s refl in
+    let late : nat_lt last_number (next_number (numbers m.tables)) ≡ true = grind (arith, nat_tests, past, next) in
     (m, flushes without_sealed m _ m false true s.whole (some_left files k m s some) late (refl, refl), s)
 
-in_time : (files : Option Files) (k : Keeping) (m : State) (n : ℕ) → Stands files k m → IsNextNumber k.infos (Some n) → nat_lt last_number (next_number m.tables) ≡ false
+in_time : (files : Option Files) (k : Keeping) (m : State) (n : ℕ) → Stands files k m → IsNextNumber k.infos (Some n) → nat_lt last_number (next_number (numbers m.tables)) ≡ false
 in_time files k m n s is =
-    let next : n ≡ next_number m.tables = next_is files k m n s is.0 in
+    let next : n ≡ next_number (numbers m.tables) = next_is files k m n s is.0 in
     let within : n ≤ last_number = is.1 in
     grind (arith, nat_tests, within, next)
 
@@ -94,26 +94,25 @@ later_writes m sealed active n log is =
 -- what was written is what the state's flush writes
 flushed : (files files' : Option Files) (k k' : Keeping) (m : State) (n : ℕ) (i : IsTableStored files (sealed_all k) n files' k') → Stands files k m → IsFlushed m i.parts
 flushed files files' k k' m n i s =
-    let s1 = stands_sealed files k m s in
-    record {
-      of_writes = subst (IsParts i.parts) (first_writes m (sealed_all k).sealed (sealed_all k).active (sealing m) s1.log s1.sealed) i.of_writes;
-      is_table = subst (λ schema. IsTable (text (whole_table schema i.parts)) schema i.parts) (sym s.over.schema) i.is_table;
-    }
+    let s1 = stands_sealed files k m s in (
+      subst (IsParts i.parts) (first_writes m (sealed_all k).sealed (sealed_all k).active (sealing m) s1.log s1.sealed) i.of_writes,
+      subst (λ schema. IsTable (text (whole_table schema i.parts)) schema i.parts) (sym s.over.schema) i.is_table,
+    )
 
-stands_stored : (files files' : Option Files) (k k' : Keeping) (m : State) (n : ℕ) (i : IsTableStored files (sealed_all k) n files' k') → Stands files k m → n ≡ next_number m.tables → Stands files' k' (without_sealed (with_table m i.parts))
+stands_stored : (files files' : Option Files) (k k' : Keeping) (m : State) (n : ℕ) (i : IsTableStored files (sealed_all k) n files' k') → Stands files k m → n ≡ next_number (numbers m.tables) → Stands files' k' (without_sealed (with_table m i.parts))
 stands_stored files files' k k' m n i s next =
     let s1 = stands_sealed files k m s in
     let parts = i.parts in
     let new : State = without_sealed (with_table m parts) in
     let f = flushed files files' k k' m n i s in
-    let number : next_number m.tables ≡ n = sym next in
+    let number : next_number (numbers m.tables) ≡ n = sym next in
     subst (λ k. Stands files' k new) (sym i.keeps) (record {
       over = record {
         schema = s.over.schema;
         files = (λ j. option_map (λ told. finite.insert told (number j) (text (whole_table (s.over.schema j) parts))) (s.over.files j)) ∙ sym i.written;
         infos = λ j. s.over.infos j ++ info_of (number j) (s.over.schema j) parts ∷ [];
-        tables = tables_more m.files m.schema m.tables (next_number m.tables) parts s.over.tables refl f.is_table f.of_writes.mutations;
-        listed = listed_more m.files new.files m.schema m.tables m.infos (next_number m.tables) (text (whole_table m.schema parts)) parts s.over.listed refl;
+        tables = tables_more m.files m.schema m.tables (next_number (numbers m.tables)) parts s.over.tables refl f.1 f.0.mutations;
+        listed = listed_more m.files new.files m.schema m.tables m.infos (next_number (numbers m.tables)) (text (whole_table m.schema parts)) parts s.over.listed refl;
         stored = omega (arith);
         sealed = s1.over.sealed;
         fit = s.over.fit;
@@ -128,7 +127,7 @@ stands_stored files files' k k' m n i s next =
 -- the sealed writes stand in the next table
 pub takes_stored : (files files' : Option Files) (k k' : Keeping) (n : ℕ) → 1 ≤ length k.sealed + length k.active → IsNextNumber k.infos (Some n) → IsTableStored files (sealed_all k) n files' k' → Takes Stands files k Flush replies.Fine files' k'
 takes_stored files files' k k' n some is i = λ m s.
-    let next : n ≡ next_number m.tables = next_is files k m n s is.0 in (
+    let next : n ≡ next_number (numbers m.tables) = next_is files k m n s is.0 in (
       without_sealed (with_table m i.parts),
       flushes without_sealed m _ _ false false s.whole (some_left files k m s some) (in_time files k m n s is) (inl (i.parts, flushed files files' k k' m n i s, (refl, refl))),
       stands_stored files files' k k' m n i s next,

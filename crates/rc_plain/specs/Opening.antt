@@ -7,9 +7,10 @@ use Rattle.rc_schema.specs.SchemaValue.{SchemaValue}
 use Rattle.rc_mutation.specs.declared.mutations.Partition.{Partition}
 use Rattle.rc_tfile.specs.declared.info.TableInfo.{TableInfo}
 use Rattle.rc_tfile.specs.Info.{info_of}
+use Rattle.rc_tfile.specs.TableText.{IsOtherSchema, FirstDamage}
 use Rattle.rc_plain.specs.declared.opening.OpenErr.{OpenErr}
 use Rattle.rc_plain.specs.declared.opening.OpenErr.TheVariants as open_err
-use Rattle.rc_machine.specs.Tables.{IsBad, IsFirstBad, IsStoredTable}
+use Rattle.rc_machine.specs.Tables.{IsFirstBad, IsStoredTable}
 
 -- what a refusal says of the folder, where it is told: the first file that is no table of the schema is this one
 abbrev pub IsOpeningRefused : Option Files → SchemaValue → OpenErr → Type 0
@@ -26,8 +27,8 @@ IsChecked (Some files) schema n info = (parts : List Partition) × IsStoredTable
 -- what a refusal says of file n, where the folder is told: it is no table of the schema
 abbrev pub IsBadFile : Option Files → SchemaValue → ℕ → OpenErr → Type 0
 IsBadFile files schema n open_err.Fault = ⊤
-IsBadFile files schema n (open_err.Damaged table offset) = (table ≡ n) × IfSome files (λ told. (bytes : List ℕ) × (map.get told n ≡ Some bytes) × IsBad schema (Some offset) bytes)
-IsBadFile files schema n (open_err.OtherSchema table) = (table ≡ n) × IfSome files (λ told. (bytes : List ℕ) × (map.get told n ≡ Some bytes) × IsBad schema None bytes)
+IsBadFile files schema n (open_err.Damaged table offset) = (table ≡ n) × IfSome files (λ told. (bytes : List ℕ) × (map.get told n ≡ Some bytes) × FirstDamage bytes schema offset)
+IsBadFile files schema n (open_err.OtherSchema table) = (table ≡ n) × IfSome files (λ told. (bytes : List ℕ) × (map.get told n ≡ Some bytes) × IsOtherSchema bytes schema)
 IsBadFile files schema n open_err.NoMemory = ⊤
 
 -- so much holds of an error that is a fault

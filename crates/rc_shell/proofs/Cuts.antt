@@ -35,4 +35,4 @@ same (l ∷ ls) (m ∷ ms) rest more p q r s e =
     (λ i. first.0 i ∷ later.0 i, later.1)
 
 pub lines_are_determined_lem : (bytes : List ℕ) (lines others : List (List ℕ)) (rest more : List ℕ) → BeginsWithLines bytes lines rest → IsLine rest → BeginsWithLines bytes others more → IsLine more → (lines ≡ others) × (rest ≡ more)
-lines_are_determined_lem bytes lines others rest more p r q s = same lines others rest more p.each q.each r s (sym p.whole ∙ q.whole)
+lines_are_determined_lem bytes lines others rest more p r q s = same lines others rest more p.1 q.1 r s (sym p.0 ∙ q.0)

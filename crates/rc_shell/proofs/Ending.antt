@@ -1,11 +1,13 @@
 -- How a run goes on, and how it ends.
-use Rattle.std.proofs.Common.{◌≡◌, ◌≢◌, ℕ, ◌+◌, ◌<◌, ◌≤◌, List, [], ◌∷◌, ◌++◌, length, take, inl, inr, Option, Result, Ok, Err, refl, sym, ap, subst, ◌∙◌, append_assoc, arith, length-append}
+use Rattle.std.proofs.Common.{◌≡◌, ◌≢◌, ℕ, ◌+◌, ◌<◌, ◌≤◌, List, [], ◌∷◌, ◌++◌, length, take, inl, inr, Option, Result, Ok, Err, refl, sym, ap, subst, ◌∙◌, arith, length-append}
 use Rattle.std.proofs.lemmas.List.{append-nil, length-take}
+use Rattle.std.specs.Prelude.{codes}
+use Rattle.std.specs.List.{concat}
 use Rattle.std.specs.Io.KnownBytes.{Appends, Consumes, Keeps, IsAtEnd}
 use Rattle.std.proofs.KnownBytes.{Appends-trans, Appends-nil, Consumes-trans, Consumes-nil, Consumes-kept}
 use Rattle.rc_outside.specs.Faults.{Rose}
-use Rattle.rc_shell.specs.Lines.{IsLine, IsNextLine, last_line}
-use Rattle.rc_shell.specs.Run.{IsWhole, IsWritten, Answers, Served, IsEnded, WasRead, Due, Ran, EndedBecause, concat, bad_words, input_fault, input_limit, piece_size}
+use Rattle.rc_shell.specs.Lines.{IsLine, last_line}
+use Rattle.rc_shell.specs.Run.{IsWhole, IsWritten, Answers, Served, WasRead, Due, Ran, EndedBecause, piece_size}
 use Rattle.rc_shell.specs.calls.Feed.{FaultsAfter, DueOfLine, DueOfBytes, ServedLine, ServedLast, Serves, SoFar, EndedBy, kept}
 use Rattle.rc_shell.specs.Status.{status_of}
 use Rattle.rc_shell.specs.declared.status.Ending.TheVariants.{BadTable, StoreFault}
@@ -16,7 +18,7 @@ use Rattle.rc_shell.specs.declared.words.Words.TheVariants.{Run, Refused}
 use Rattle.rc_shell.specs.declared.status.Status.{Status}
 use Rattle.rc_shell.specs.declared.status.Status.TheVariants as statuses
 use Rattle.rc_shell.proofs.Near.{near_cut, near_line}
-use Rattle.rc_shell.proofs.Serving.{serves_more, written_behind, faults_since, Answers-append, Served-append, concat-append, kept-nil}
+use Rattle.rc_shell.proofs.Serving.{serves_more, written_behind, ended_behind, faults_since, Answers-append, Served-append, concat-append, kept-nil}
 
 take_none : (n : ℕ) (xs : List ℕ) → length (take (n + 1) xs) ≡ 0 → xs ≡ []
 take_none n [] e = refl
@@ -37,10 +39,6 @@ caused_by NoMemory i i' o o' same e = e
 caused_by OutputFault i i' o o' same rose = rose
 caused_by (Ended BadTable) i i' o o' same e = (same, e)
 caused_by (Ended StoreFault) i i' o o' same e = (same, e)
-
-next_of_any : (AreLast : Type 0) (more line : List ℕ) → IsNextLine ⊥ more line → IsNextLine AreLast more line
-next_of_any AreLast more line (is, inl e) = (is, inl e)
-next_of_any AreLast more line (is, inr e) = absurd e.1
 
 module _ {State Seen : Type 0} (Step : State → List ℕ → List ℕ → State → Type 0) (Ends : State → List ℕ → Status → List ℕ → Seen → Type 0) (Leaves : State → Seen → Type 0) (segments : ℕ) where
   -- nothing is unfinished
@@ -86,33 +84,16 @@ module _ {State Seen : Type 0} (Step : State → List ℕ → List ℕ → State
         output_same = all.7;
       }
 
-  -- a line that ends the run, behind whole lines and an unfinished one
-  ended_run : (start now : State) (limit : ℕ) (left : Option (List ℕ)) (taken rest bytes : List ℕ) (after : Seen) (texts : List (List ℕ)) → Served Step start taken texts rest now
-      → (s : Status) (ps : List (List ℕ)) → IsEnded Step Ends Leaves ⊥ now (rest ++ bytes) after s ps
-      → IsEnded Step Ends Leaves (WasRead Step Ends Leaves limit left (taken ++ bytes)) start (taken ++ bytes) after s (texts ++ ps)
-  ended_run start now limit left taken rest bytes after texts p s ps d = record {
-    texts = texts ++ d.texts;
-    more = d.more;
-    end = d.end;
-    line = d.line;
-    last = d.last;
-    served = Served-append Step start now d.end [] taken bytes texts d.texts rest d.more p d.served;
-    next = next_of_any (WasRead Step Ends Leaves limit left (taken ++ bytes)) d.more d.line d.next;
-    ends = d.ends;
-    are = ap (λ t. texts ++ t) d.are ∙ sym (append_assoc texts d.texts (d.last ∷ []));
-  }
-
   -- what is due for bytes, behind whole lines and an unfinished one, is due for the run
   due_run : (start now : State) (limit : ℕ) (left : Option (List ℕ)) (taken rest bytes : List ℕ) (after : Seen) (texts : List (List ℕ)) → Served Step start taken texts rest now → IsLine rest
       → length bytes ≤ piece_size → length (taken ++ bytes) ≤ limit
       → (s : Status) (ps : List (List ℕ)) → DueOfBytes Step Ends Leaves now (rest ++ bytes) after s ps → Due Step Ends Leaves (Run segments) start limit left (taken ++ bytes) after s (texts ++ ps)
-  unfolding ended_run
   due_run start now limit left taken rest bytes after texts p line small few statuses.NoMemory ps d =
-      (d.0, d.1, Served-append Step start now d.1 [] taken bytes texts ps rest d.0 p d.2, few, near_cut rest bytes d.2.lines d.0 line small d.2.cut, d.3)
+      (d.0, d.1, Served-append Step start now d.1 [] taken bytes texts ps rest d.0 p d.2, few, near_cut rest bytes d.2.0 d.0 line small d.2.1, d.3)
   due_run start now limit left taken rest bytes after texts p line small few statuses.BadTable ps d =
-      (ended_run start now limit left taken rest bytes after texts p statuses.BadTable ps d, few, near_cut rest bytes d.served.lines d.more line small d.served.cut)
+      (d.0, ended_behind Step Ends Leaves (WasRead Step Ends Leaves limit left (taken ++ bytes)) start now [] taken bytes rest texts after p statuses.BadTable ps d.0 d.1, few, near_cut rest bytes d.1.4.0 d.0 line small d.1.4.1)
   due_run start now limit left taken rest bytes after texts p line small few statuses.StoreFault ps d =
-      (ended_run start now limit left taken rest bytes after texts p statuses.StoreFault ps d, few, near_cut rest bytes d.served.lines d.more line small d.served.cut)
+      (d.0, ended_behind Step Ends Leaves (WasRead Step Ends Leaves limit left (taken ++ bytes)) start now [] taken bytes rest texts after p statuses.StoreFault ps d.0 d.1, few, near_cut rest bytes d.1.4.0 d.0 line small d.1.4.1)
   due_run start now limit left taken rest bytes after texts p line small few s ps d = absurd d
 
   -- bytes were served in part
@@ -153,7 +134,7 @@ module _ {State Seen : Type 0} (Step : State → List ℕ → List ℕ → State
         text = text ++ line;
         consumed = took;
         appended = Appends-trans written between written' text line app e.1;
-        run = whole (text ++ line) (record { pieces = texts ++ line ∷ []; due = all; whole = ap (λ t. t ++ line) is ∙ ap (λ l. concat texts ++ l) (sym (append-nil line)) ∙ sym (concat-append texts (line ∷ [])) });
+        run = whole (text ++ line) (texts ++ line ∷ [], all, ap (λ t. t ++ line) is ∙ ap (λ l. concat texts ++ l) (sym (append-nil line)) ∙ sym (concat-append texts (line ∷ [])));
         cause = caused (e.2 ∙ same);
       })
   last_pushed words start limit due status taken line text texts left left' written between written' after i i' o o1 o2 whole caused all took app is same (inr (inl e)) =
@@ -162,7 +143,7 @@ module _ {State Seen : Type 0} (Step : State → List ℕ → List ℕ → State
         text = text ++ e.1.0;
         consumed = took;
         appended = Appends-trans written between written' text e.1.0 app e.1.3;
-        run = record { status = due; before = texts; last = line; written = e.1.0; unwritten = e.1.1; due = all; part = e.1.2; whole = ap (λ t. t ++ e.1.0) is };
+        run = (e.1.0, (due, texts, e.1.1, subst (λ l. Due Step Ends Leaves words start limit left' taken after due (texts ++ l ∷ [])) e.1.2 all, ap (λ t. t ++ e.1.0) is));
         cause = subst (λ n. Rose n o2) same e.2;
       })
   last_pushed words start limit due status taken line text texts left left' written between written' after i i' o o1 o2 whole caused all took app is same (inr (inr e)) =
@@ -171,18 +152,18 @@ module _ {State Seen : Type 0} (Step : State → List ℕ → List ℕ → State
         text = text ++ [];
         consumed = took;
         appended = Appends-trans written between written' text [] app e.1;
-        run = inr (record { status = due; before = texts; last = line; written = []; unwritten = line; due = all; part = refl; whole = ap (λ t. t ++ []) is }, refl);
+        run = inr (due, texts, line, all, ap (λ t. t ++ []) is);
         cause = e.2 ∙ same;
       })
 
   -- the input failed
   pub input_failed : (start : State) (limit : ℕ) (At : State → Type 0) (held : List ℕ) (count : ℕ) (status : Status) (left mid left' written between written' : Option (List ℕ)) (after : Seen) (i i1 i2 o o1 o2 : ℕ)
       → SoFar Step Ends Leaves start At held count left mid written between i i1 o o1 → ((now : State) → At now → Leaves now after) → count < limit → Keeps mid left' → Rose i1 i2
-      → EndedBy statuses.InputFault input_fault between written' o1 o2 status
+      → EndedBy statuses.InputFault (codes "! input fault\n") between written' o1 o2 status
       → Ran Step Ends Leaves (Run segments) start limit status left left' written written' after i i2 o o2
   input_failed start limit At held count status left mid left' written between written' after i i1 i2 o o1 o2 s leaves few keeps rose e =
       let less : length s.taken < limit = omega (arith, s.counted) in
-      last_pushed (Run segments) start limit statuses.InputFault status s.taken input_fault s.text s.fed.texts left left' written between written' after i i2 o o1 o2
+      last_pushed (Run segments) start limit statuses.InputFault status s.taken (codes "! input fault\n") s.text s.fed.texts left left' written between written' after i i2 o o1 o2
       (λ t w. w) (λ same. (subst (λ n. Rose n i2) s.input_same rose, same))
       (s.fed.texts, s.rest, s.now, s.fed.served, s.fed.unfinished, less, leaves s.now s.at, refl)
       (Consumes-kept left mid left' s.taken s.consumed keeps) s.appended s.fed.written s.output_same e
@@ -190,10 +171,10 @@ module _ {State Seen : Type 0} (Step : State → List ℕ → List ℕ → State
   -- the limit was reached
   pub limit_reached : (start : State) (At : State → Type 0) (limit count : ℕ) (held : List ℕ) (status : Status) (left left' written between written' : Option (List ℕ)) (after : Seen) (i i1 o o1 o2 : ℕ)
       → SoFar Step Ends Leaves start At held count left left' written between i i1 o o1 → ((now : State) → At now → Leaves now after) → count ≡ limit
-      → EndedBy statuses.InputLimit input_limit between written' o1 o2 status
+      → EndedBy statuses.InputLimit (codes "! input limit\n") between written' o1 o2 status
       → Ran Step Ends Leaves (Run segments) start limit status left left' written written' after i i1 o o2
   limit_reached start At limit count held status left left' written between written' after i i1 o o1 o2 s leaves reached e =
-      last_pushed (Run segments) start limit statuses.InputLimit status s.taken input_limit s.text s.fed.texts left left' written between written' after i i1 o o1 o2
+      last_pushed (Run segments) start limit statuses.InputLimit status s.taken (codes "! input limit\n") s.text s.fed.texts left left' written between written' after i i1 o o1 o2
       (λ t w. w) (λ same. (s.input_same, same))
       (s.fed.texts, s.rest, s.now, s.fed.served, s.fed.unfinished, s.counted ∙ reached, leaves s.now s.at, refl)
       s.consumed s.appended s.fed.written s.output_same e
@@ -211,20 +192,20 @@ module _ {State Seen : Type 0} (Step : State → List ℕ → List ℕ → State
         text = s.text ++ concat l.0;
         consumed = took_nothing left mid left' s.taken s.consumed none;
         appended = Appends-trans written between written' s.text (concat l.0) s.appended l.4;
-        run = record {
-          pieces = s.fed.texts ++ l.0;
-          due = (
-            s.fed.served.lines,
+        run = (
+          s.fed.texts ++ l.0,
+          (
+            s.fed.served.0,
             s.rest,
             l.1,
-            s.fed.served.cut,
+            s.fed.served.1,
             s.fed.unfinished,
             (at_end, less),
-            Answers-append Step start s.now l.1 s.fed.served.lines (last_line s.rest) s.fed.texts l.0 s.fed.served.answered l.2,
+            Answers-append Step start s.now l.1 s.fed.served.0 (last_line s.rest) s.fed.texts l.0 s.fed.served.2 l.2,
             leaves l.1 l.3,
-          );
-          whole = ap (λ t. t ++ concat l.0) s.fed.written ∙ sym (concat-append s.fed.texts l.0);
-        };
+          ),
+          ap (λ t. t ++ concat l.0) s.fed.written ∙ sym (concat-append s.fed.texts l.0),
+        );
         cause = (same ∙ s.input_same, l.5 ∙ s.output_same);
       }
 
@@ -236,23 +217,23 @@ module _ {State Seen : Type 0} (Step : State → List ℕ → List ℕ → State
       (rest, now, subst (λ ts. Served Step start taken ts rest now) (sym (append-nil texts) ∙ ap (λ t. texts ++ t) (sym d.1)) s, most, near_line rest line, d.0)
   due_last start now limit left taken rest after texts OutputFault s line most read ps d = absurd d
   due_last start now limit left taken rest after texts (Ended BadTable) s line most read ps d =
-      (record { texts = texts; more = rest; end = now; line = rest; last = d.0; served = s; next = (line, inr (refl, read)); ends = d.1; are = ap (λ t. texts ++ t) d.2 }, most, near_line rest line)
+      (rest, (texts, now, rest, d.0, s, (line, inr (refl, read)), d.1, ap (λ t. texts ++ t) d.2), most, near_line rest line)
   due_last start now limit left taken rest after texts (Ended StoreFault) s line most read ps d =
-      (record { texts = texts; more = rest; end = now; line = rest; last = d.0; served = s; next = (line, inr (refl, read)); ends = d.1; are = ap (λ t. texts ++ t) d.2 }, most, near_line rest line)
+      (rest, (texts, now, rest, d.0, s, (line, inr (refl, read)), d.1, ap (λ t. texts ++ t) d.2), most, near_line rest line)
 
   due_last_cut : (start now : State) (limit : ℕ) (left : Option (List ℕ)) (taken rest : List ℕ) (after : Seen) (texts : List (List ℕ)) → rest ≢ [] → Served Step start taken texts rest now → IsLine rest → length taken ≤ limit
       → WasRead Step Ends Leaves limit left taken → (s : Status) (ps : List (List ℕ)) → DueOfLine Step Ends Leaves now rest after s ps → (t : Status) × Due Step Ends Leaves (Run segments) start limit left taken after t (texts ++ ps)
   due_last_cut start now limit left taken rest after texts some s line most read statuses.Done ps d = (
     statuses.Done,
     (
-      s.lines,
+      s.0,
       rest,
       d.1,
-      s.cut,
+      s.1,
       line,
       read,
-      subst (λ ts. Answers Step start (s.lines ++ last_line rest) (texts ++ ts) d.1) (sym d.4)
-          (Answers-append Step start now d.1 s.lines (last_line rest) texts (d.0 ∷ []) s.answered (rw (last_line-some rest some) (d.1, d.2, refl))),
+      subst (λ ts. Answers Step start (s.0 ++ last_line rest) (texts ++ ts) d.1) (sym d.4)
+          (Answers-append Step start now d.1 s.0 (last_line rest) texts (d.0 ∷ []) s.2 (rw (last_line-some rest some) (d.1, d.2, refl))),
       d.3,
     ),
   )
@@ -293,7 +274,7 @@ module _ {State Seen : Type 0} (Step : State → List ℕ → List ℕ → State
     consumed = Consumes-nil left;
     appended = Appends-nil written;
     counted = refl;
-    fed = record { texts = []; served = record { lines = []; cut = record { whole = refl; each = tt }; answered = refl }; unfinished = tt; written = refl };
+    fed = record { texts = []; served = ([], (refl, tt), refl); unfinished = tt; written = refl };
     at = at;
     holds = none ∙ sym kept-nil;
     input_same = refl;
@@ -302,9 +283,9 @@ module _ {State Seen : Type 0} (Step : State → List ℕ → List ℕ → State
 
   -- the words were refused
   pub words_refused : (start : State) (limit : ℕ) (status : Status) (left written written' : Option (List ℕ)) (after : Seen) (i o o' : ℕ) → Leaves start after
-      → EndedBy statuses.BadWords bad_words written written' o o' status → Ran Step Ends Leaves Refused start limit status left left written written' after i i o o'
+      → EndedBy statuses.BadWords (codes "! bad words\n") written written' o o' status → Ran Step Ends Leaves Refused start limit status left left written written' after i i o o'
   words_refused start limit status left written written' after i o o' leaves e =
-      last_pushed Refused start limit statuses.BadWords status [] bad_words [] [] left left written written written' after i i o o o'
+      last_pushed Refused start limit statuses.BadWords status [] (codes "! bad words\n") [] [] left left written written written' after i i o o o'
       (λ t w. w) (λ same. (refl, same)) (refl, leaves, refl) (Consumes-nil left) (Appends-nil written) refl refl e
 
   -- memory ran out before the first byte
@@ -315,10 +296,6 @@ module _ {State Seen : Type 0} (Step : State → List ℕ → List ℕ → State
     text = [];
     consumed = Consumes-nil left;
     appended = Appends-nil written;
-    run = inl (record {
-      pieces = [];
-      due = ([], start, record { lines = []; cut = record { whole = refl; each = tt }; answered = refl }, omega arith, near_line [] tt, leaves);
-      whole = refl;
-    });
+    run = inl ([], ([], start, ([], (refl, tt), refl), omega arith, near_line [] tt, leaves), refl);
     cause = refl;
   }

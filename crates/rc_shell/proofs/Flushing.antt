@@ -1,5 +1,5 @@
 -- What the lines that were answered did to the machine: the accepted writes, and the tables that were flushed.
-use Rattle.std.proofs.Common.{◌≡◌, ◌⊎◌, inl, inr, ℕ, Bool, true, false, List, [], ◌∷◌, ◌++◌, length, take, drop, nat_lt, Option, Some, None, Result, Ok, Err, refl, sym, ap, subst, ◌∙◌, append_assoc, append-nil, arith}
+use Rattle.std.proofs.Common.{◌≡◌, ◌⊎◌, inl, inr, ℕ, false, List, [], ◌∷◌, ◌++◌, take, drop, Option, Some, None, Result, Ok, Err, refl, sym, ap, subst, ◌∙◌, append_assoc, append-nil, arith}
 use Rattle.std.specs.Prelude.{All, codes, if◌then◌else◌}
 use Rattle.std.specs.FinMap as finite
 use Rattle.std.proofs.lemmas.List.{take-append-drop}
@@ -25,7 +25,7 @@ use Rattle.rc_machine.specs.laws.Folder.{IsPut, files_kept, files_new, one_of, w
 use Rattle.rc_machine.specs.laws.Changes.{change_of}
 use Rattle.rc_machine.specs.laws.Holding.{holds_at_first, holds_on, grows, schema_stays}
 use Rattle.rc_shell.specs.Run.{Answers}
-use Rattle.rc_shell.specs.Step.{Moment, Stage, StoreView, Waiting, Serving, EarlyStep, MachineStep, StageStep, LineStep, files_of, meaning_at, served, start_moment}
+use Rattle.rc_shell.specs.Step.{Moment, Stage, StoreView, Waiting, Serving, StageStep, LineStep, files_of, meaning_at, served, start_moment}
 use Rattle.rc_shell.specs.Holding.{OfLines, HoldsFlushed, IsFlushedFile, IsRunOf, write_accepted, accepted_writes}
 use Rattle.rc_shell.specs.declared.status.Status.{Status}
 use Rattle.rc_shell.specs.declared.words.Words.{Words}
@@ -131,7 +131,7 @@ module _ (files : Option Files) (segments : ℕ) (line text : List ℕ) (all : S
     log = sym (none_more (all schema) _ (none schema) (no_write_at_schema line schema schema text p));
   })
 
-  waiting : (meaning : Result Command Refusal) (new : Stage) → served (parse None line) ≡ meaning → ((schema : SchemaValue) → all schema ≡ []) → EarlyStep segments files meaning text new → AtStage files new (and_line all line text)
+  waiting : (meaning : Result Command Refusal) (new : Stage) → served (parse None line) ≡ meaning → ((schema : SchemaValue) → all schema ≡ []) → StageStep segments (Waiting files) meaning text new → AtStage files new (and_line all line text)
   waiting (Ok Nothing) new p none s = waits new s.1 none (ap (λ t. is_word t (codes "ok\n")) s.0)
   waiting (Ok (SetSchema schema)) new p none s = opens new schema s.0 s.1 s.2 s.5 (served_ok (parse None line) (SetSchema schema) p) none
   waiting (Err refusal) new p none s = waits new s.1 none (ap (λ t. is_word t (codes "ok\n")) s.0 ∙ not_ok refusal)
@@ -171,12 +171,12 @@ module _ (files : Option Files) (segments : ℕ) (line text : List ℕ) (all : S
       log = h.log ∙ sym (append-nil (all m.schema)) ∙ ap (λ ws. all m.schema ++ ws) (sym none);
     })
 
-    serving : (meaning : Result Command Refusal) (new : Stage) → served (parse (Some m.schema) line) ≡ meaning → MachineStep m meaning text new → AtStage files new (and_line all line text)
+    serving : (meaning : Result Command Refusal) (new : Stage) → served (parse (Some m.schema) line) ≡ meaning → StageStep segments (Serving m) meaning text new → AtStage files new (and_line all line text)
     serving (Ok command) new p s = takes command s.0 s.1 new (served_ok (parse (Some m.schema) line) command p) s.2 s.3 s.4
     serving (Err refusal) new p s = stays new s.1 (unaccepted (parse (Some m.schema) line) text (ap (λ t. is_word t (codes "ok\n")) s.0 ∙ not_ok refusal))
 
   at_step : (stage new : Stage) → AtStage files stage all → StageStep segments stage (meaning_at stage line) text new → AtStage files new (and_line all line text)
-  at_step (Waiting now) new at s = waiting (meaning_at (Waiting now) line) new refl at.1 (subst (λ f. EarlyStep segments f (meaning_at (Waiting now) line) text new) at.0 s)
+  at_step (Waiting now) new at s = waiting (meaning_at (Waiting now) line) new refl at.1 (subst (λ f. StageStep segments (Waiting f) (meaning_at (Waiting now) line) text new) at.0 s)
   at_step (Serving m) new at s = serving m at (meaning_at (Serving m) line) new refl s
 
 regroup : (all : SchemaValue → List Write) (line text : List ℕ) (lines texts : List (List ℕ)) (schema : SchemaValue)

@@ -3,8 +3,7 @@ use Rattle.std.proofs.Common.{◌≡◌, ◌⊎◌, ℕ, List, [], ◌++◌, inl
 use Rattle.rc_shell.specs.calls.Feed.{Answered, PushedText, PushedEnding, PushedAnswer, ServedLine, kept}
 use Rattle.rc_shell.specs.Status.{status_at, stop_by}
 use Rattle.rc_lines.specs.laws.{long_lines_are_cut}
-use Rattle.rc_lines.specs.declared.commands.Command.TheVariants.{SetSchema}
-use Rattle.rc_shell.specs.Step.{Moment, Stage, Waiting, Serving, StoreView, LineStep, StageStep, MayAsk, EndsRun, EndsRunAt, LeavesStore, meaning_at, taken_schema, served as meaning_served}
+use Rattle.rc_shell.specs.Step.{Moment, Stage, Waiting, Serving, StoreView, LineStep, StageStep, MayAsk, EndsRun, EndsRunAt, LeavesStore, meaning_at, served as meaning_served}
 use Rattle.rc_shell.specs.declared.status.Status.{Status}
 use Rattle.rc_shell.specs.declared.status.Ending.{Ending}
 use Rattle.rc_shell.specs.declared.status.Stop.{Stop}
@@ -14,7 +13,8 @@ use Rattle.rc_shell.proofs.Serving.{served, ended, unserved}
 -- the front of a line that is kept means what the line means
 front_means : (stage : Stage) (line : List ℕ) → meaning_at stage (kept line) ≡ meaning_at stage line
 unfolding kept
-front_means stage line = ap meaning_served (long_lines_are_cut (taken_schema stage) line)
+front_means (Waiting files) line = ap meaning_served (long_lines_are_cut None line)
+front_means (Serving m) line = ap meaning_served (long_lines_are_cut (Some m.schema) line)
 
 -- it decides what the line is answered
 front_decides : (old new : Moment) (line text : List ℕ) → LineStep old (kept line) text new → LineStep old line text new
@@ -26,14 +26,9 @@ front_decides old new line text s = record {
   figures = s.figures;
 }
 
-end_of_front : (stage : Stage) (line : List ℕ) (status : Status) (last : List ℕ) (before now : ℕ) → EndsRunAt stage (kept line) status last before now → EndsRunAt stage line status last before now
-unfolding kept
-end_of_front (Waiting files) line status last before now e = (e.0, subst (λ meaning. meaning ≡ Ok (SetSchema e.0)) (long_lines_are_cut None line) e.1, e.2)
-end_of_front (Serving m) line status last before now e = e
-
 -- and whether it ends the run
 front_ends : (old : Moment) (line : List ℕ) (status : Status) (last : List ℕ) (store : StoreView) → EndsRun old (kept line) status last store → EndsRun old line status last store
-front_ends old line status last store e = (e.0, end_of_front old.stage line status last old.faults store.1 e.1)
+front_ends old line status last store e = (e.0, subst (λ meaning. EndsRunAt old.stage meaning status last old.faults store.1) (front_means old.stage line) e.1)
 
 -- what was pushed is the text, which stands behind nothing
 pushed_is : (empty items pushed text : List ℕ) → empty ≡ [] → pushed ≡ items → items ≡ empty ++ text → pushed ≡ text

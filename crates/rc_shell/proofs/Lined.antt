@@ -1,10 +1,14 @@
 -- A run is one of lines that were answered, and perhaps a last line.
 use Rattle.std.proofs.Common.{◌≡◌, inl, inr, ℕ, ◌+◌, ◌-◌, ◌^◌, ◌≤◌, min, List, [], ◌∷◌, ◌++◌, Option, refl, sym, ap, subst, ◌∙◌, append_assoc, append-nil, arith}
-use Rattle.std.specs.List.{count_by}
+use Rattle.std.specs.Prelude.{codes, Result, Ok}
+use Rattle.std.specs.List.{concat, count_by}
 use Rattle.rc_outside.specs.Faults.{Rose}
+use Rattle.rc_lines.specs.declared.commands.Command.{Command}
+use Rattle.rc_lines.specs.declared.commands.Command.TheVariants.{SetSchema}
+use Rattle.rc_lines.specs.declared.commands.Refusal.{Refusal}
 use Rattle.rc_shell.specs.Lines.{last_line}
-use Rattle.rc_shell.specs.Run.{Answers, IsWhole, IsCutOff, IsWritten, IsEnded, IsNear, Due, WasRead, concat, input_fault, input_limit, bad_words}
-use Rattle.rc_shell.specs.Step.{Moment, Stage, Waiting, Serving, StoreView, LineStep, EndsRun, EndsRunAt, LeavesStore, start_moment, tells_fault}
+use Rattle.rc_shell.specs.Run.{Answers, IsWhole, IsCutOff, IsWritten, IsEnded, IsNear, Due, WasRead}
+use Rattle.rc_shell.specs.Step.{Moment, Stage, Waiting, StoreView, LineStep, EndsRun, EndsRunAt, LeavesStore, meaning_at, start_moment, tells_fault}
 use Rattle.rc_shell.specs.Holding.{OfLines, AreFirstLines, fault_of}
 use Rattle.rc_shell.specs.declared.status.Status.{Status}
 use Rattle.rc_shell.specs.declared.status.Status.TheVariants as statuses
@@ -36,9 +40,9 @@ fewer : (m b c f a : ℕ) → min (b + (c + f)) m ≤ a → min (b + (c + 0)) m 
 fewer m b c f a few = omega arith
 
 -- the store's count rose where its fault ended the run
-store_rose : (stage : Stage) (line last : List ℕ) (before now : ℕ) → EndsRunAt stage line statuses.StoreFault last before now → Rose before now
-store_rose (Waiting files) line last before now e = e.2.1
-store_rose (Serving m) line last before now e = absurd e
+store_rose : (stage : Stage) (meaning : Result Command Refusal) (last : List ℕ) (before now : ℕ) → EndsRunAt stage meaning statuses.StoreFault last before now → Rose before now
+store_rose (Waiting files) (Ok (SetSchema schema)) last before now e = e.1
+store_rose stage meaning last before now e = absurd e
 
 one_last : (texts : List (List ℕ)) (last : List ℕ) → concat (texts ++ last ∷ []) ≡ concat texts ++ last
 one_last texts last = concat-append texts (last ∷ []) ∙ ap (λ t. concat texts ++ t) (append-nil last)
@@ -50,17 +54,17 @@ module _ (words : Words) (before after : StoreView) (taken : List ℕ) where
   no_fault status texts lines end none a l =
       counted_further (2 ^ 64 - 1) before.1 (count_by tells_fault texts) (fault_of status) end.faults after.1 (faults_are_counted_lem (start_moment words before) end lines texts a) l.1 none
 
-  ended : (limit : ℕ) (AreLast : Type 0) (status : Status) (pieces : List (List ℕ)) → (e : IsEnded LineStep EndsRun LeavesStore AreLast (start_moment words before) taken after status pieces)
-      → IsNear e.more → min (before.1 + (count_by tells_fault e.texts + fault_of status)) (2 ^ 64 - 1) ≤ after.1 → Pieces words before after status taken pieces
-  ended limit AreLast status pieces e near faults = record {
-    lines = e.served.lines;
-    texts = e.texts;
-    last = e.last;
-    end = e.end;
-    first = (e.served.lines, e.more, e.served.cut, near, inl refl);
-    answered = e.served.answered;
-    are = ap concat e.are ∙ one_last e.texts e.last;
-    leaves = e.ends.0;
+  ended : (limit : ℕ) (AreLast : Type 0) (status : Status) (pieces : List (List ℕ)) (more : List ℕ) → (e : IsEnded LineStep EndsRun LeavesStore AreLast (start_moment words before) taken after status pieces more)
+      → IsNear more → min (before.1 + (count_by tells_fault e.0 + fault_of status)) (2 ^ 64 - 1) ≤ after.1 → Pieces words before after status taken pieces
+  ended limit AreLast status pieces more e near faults = record {
+    lines = e.4.0;
+    texts = e.0;
+    last = e.3;
+    end = e.1;
+    first = (e.4.0, more, e.4.1, near, inl refl);
+    answered = e.4.2;
+    are = ap concat e.7 ∙ one_last e.0 e.3;
+    leaves = e.6.0;
     faults = faults;
   }
 
@@ -78,55 +82,55 @@ of_due (Run n) before after limit left taken statuses.Done pieces d = record {
   faults = no_fault (Run n) before after taken statuses.Done pieces (d.0 ++ last_line d.1) d.2 refl d.6 d.7;
 }
 of_due (Run n) before after limit left taken statuses.InputFault pieces d = record {
-  lines = d.3.lines;
+  lines = d.3.0;
   texts = d.0;
-  last = input_fault;
+  last = codes "! input fault\n";
   end = d.2;
-  first = (d.3.lines, d.1, d.3.cut, near_line d.1 d.4, inl refl);
-  answered = d.3.answered;
-  are = ap concat d.7 ∙ one_last d.0 input_fault;
+  first = (d.3.0, d.1, d.3.1, near_line d.1 d.4, inl refl);
+  answered = d.3.2;
+  are = ap concat d.7 ∙ one_last d.0 (codes "! input fault\n");
   leaves = d.6;
-  faults = no_fault (Run n) before after taken statuses.InputFault d.0 d.3.lines d.2 refl d.3.answered d.6;
+  faults = no_fault (Run n) before after taken statuses.InputFault d.0 d.3.0 d.2 refl d.3.2 d.6;
 }
 of_due (Run n) before after limit left taken statuses.InputLimit pieces d = record {
-  lines = d.3.lines;
+  lines = d.3.0;
   texts = d.0;
-  last = input_limit;
+  last = codes "! input limit\n";
   end = d.2;
-  first = (d.3.lines, d.1, d.3.cut, near_line d.1 d.4, inl refl);
-  answered = d.3.answered;
-  are = ap concat d.7 ∙ one_last d.0 input_limit;
+  first = (d.3.0, d.1, d.3.1, near_line d.1 d.4, inl refl);
+  answered = d.3.2;
+  are = ap concat d.7 ∙ one_last d.0 (codes "! input limit\n");
   leaves = d.6;
-  faults = no_fault (Run n) before after taken statuses.InputLimit d.0 d.3.lines d.2 refl d.3.answered d.6;
+  faults = no_fault (Run n) before after taken statuses.InputLimit d.0 d.3.0 d.2 refl d.3.2 d.6;
 }
 of_due (Run n) before after limit left taken statuses.NoMemory pieces d = record {
-  lines = d.2.lines;
+  lines = d.2.0;
   texts = pieces;
   last = [];
   end = d.1;
-  first = (d.2.lines, d.0, d.2.cut, d.4, inl refl);
-  answered = d.2.answered;
+  first = (d.2.0, d.0, d.2.1, d.4, inl refl);
+  answered = d.2.2;
   are = sym (append-nil (concat pieces));
   leaves = d.5;
-  faults = no_fault (Run n) before after taken statuses.NoMemory pieces d.2.lines d.1 refl d.2.answered d.5;
+  faults = no_fault (Run n) before after taken statuses.NoMemory pieces d.2.0 d.1 refl d.2.2 d.5;
 }
 of_due (Run n) before after limit left taken statuses.BadTable pieces d =
-    ended (Run n) before after taken limit (WasRead LineStep EndsRun LeavesStore limit left taken) statuses.BadTable pieces d.0 d.2
-    (no_fault (Run n) before after taken statuses.BadTable d.0.texts d.0.served.lines d.0.end refl d.0.served.answered d.0.ends.0)
+    ended (Run n) before after taken limit (WasRead LineStep EndsRun LeavesStore limit left taken) statuses.BadTable pieces d.0 d.1 d.3
+    (no_fault (Run n) before after taken statuses.BadTable d.1.0 d.1.4.0 d.1.1 refl d.1.4.2 d.1.6.0)
 of_due (Run n) before after limit left taken statuses.StoreFault pieces d =
-    ended (Run n) before after taken limit (WasRead LineStep EndsRun LeavesStore limit left taken) statuses.StoreFault pieces d.0 d.2
-    (one_further (2 ^ 64 - 1) before.1 (count_by tells_fault d.0.texts) d.0.end.faults after.1 (faults_are_counted_lem (start_moment (Run n) before) d.0.end d.0.served.lines d.0.texts d.0.served.answered)
-    (store_rose d.0.end.stage d.0.line d.0.last d.0.end.faults after.1 d.0.ends.1))
+    ended (Run n) before after taken limit (WasRead LineStep EndsRun LeavesStore limit left taken) statuses.StoreFault pieces d.0 d.1 d.3
+    (one_further (2 ^ 64 - 1) before.1 (count_by tells_fault d.1.0) d.1.1.faults after.1 (faults_are_counted_lem (start_moment (Run n) before) d.1.1 d.1.4.0 d.1.0 d.1.4.2)
+    (store_rose d.1.1.stage (meaning_at d.1.1.stage d.1.2) d.1.3 d.1.1.faults after.1 d.1.6.1))
 of_due (Run n) before after limit left taken statuses.BadWords pieces d = absurd d
 of_due (Run n) before after limit left taken statuses.OutputFault pieces d = absurd d
 of_due Refused before after limit left taken statuses.BadWords pieces d = record {
   lines = [];
   texts = [];
-  last = bad_words;
+  last = codes "! bad words\n";
   end = start_moment Refused before;
-  first = ([], taken, record { whole = refl; each = tt }, subst IsNear (sym d.0) (near_line [] tt), inl refl);
+  first = ([], taken, (refl, tt), subst IsNear (sym d.0) (near_line [] tt), inl refl);
   answered = refl;
-  are = ap concat d.2 ∙ append-nil bad_words;
+  are = ap concat d.2 ∙ append-nil (codes "! bad words\n");
   leaves = d.1;
   faults = no_fault Refused before after taken statuses.BadWords [] [] (start_moment Refused before) refl refl d.1;
 }
@@ -141,29 +145,29 @@ of_due Refused before after limit left taken statuses.OutputFault pieces d = abs
 module _ (words : Words) (before after : StoreView) (limit : ℕ) (left : Option (List ℕ)) (taken : List ℕ) where
   written_whole : (status : Status) (text : List ℕ) → IsWhole (Due LineStep EndsRun LeavesStore words (start_moment words before) limit left taken after) status text → OfLines words before after status taken text
   written_whole status text w =
-      let p = of_due words before after limit left taken status w.pieces w.due in
-      record { lines = p.lines; texts = p.texts; last = p.last; unwritten = []; end = p.end; first = p.first; answered = p.answered; told = append-nil text ∙ w.whole ∙ p.are; leaves = p.leaves; faults = p.faults }
+      let p = of_due words before after limit left taken status w.0 w.1 in
+      record { lines = p.lines; texts = p.texts; last = p.last; unwritten = []; end = p.end; first = p.first; answered = p.answered; told = append-nil text ∙ w.2 ∙ p.are; leaves = p.leaves; faults = p.faults }
 
-  written_part : (status : Status) (text : List ℕ) → fault_of status ≡ 0 → IsCutOff (Due LineStep EndsRun LeavesStore words (start_moment words before) limit left taken after) text → OfLines words before after status taken text
-  written_part status text none c =
-      let p = of_due words before after limit left taken c.status (c.before ++ c.last ∷ []) c.due in
+  written_part : (status : Status) (written text : List ℕ) → fault_of status ≡ 0 → IsCutOff (Due LineStep EndsRun LeavesStore words (start_moment words before) limit left taken after) written text → OfLines words before after status taken text
+  written_part status written text none c =
+      let p = of_due words before after limit left taken c.0 (c.1 ++ (written ++ c.2) ∷ []) c.3 in
       record {
         lines = p.lines;
         texts = p.texts;
         last = p.last;
-        unwritten = c.unwritten;
+        unwritten = c.2;
         end = p.end;
         first = p.first;
         answered = p.answered;
-        told = ap (λ t. t ++ c.unwritten) c.whole ∙ append_assoc (concat c.before) c.written c.unwritten ∙ ap (λ t. concat c.before ++ t) (sym c.part) ∙ sym (one_last c.before c.last) ∙ p.are;
+        told = ap (λ t. t ++ c.2) c.4 ∙ append_assoc (concat c.1) written c.2 ∙ sym (one_last c.1 (written ++ c.2)) ∙ p.are;
         leaves = p.leaves;
-        faults = rw none (fewer (2 ^ 64 - 1) before.1 (count_by tells_fault p.texts) (fault_of c.status) after.1 p.faults);
+        faults = rw none (fewer (2 ^ 64 - 1) before.1 (count_by tells_fault p.texts) (fault_of c.0) after.1 p.faults);
       }
 
   pub of_written : (status : Status) (text : List ℕ) → IsWritten (Due LineStep EndsRun LeavesStore words (start_moment words before) limit left taken after) status text → OfLines words before after status taken text
-  of_written statuses.OutputFault text w = written_part statuses.OutputFault text refl w
+  of_written statuses.OutputFault text w = written_part statuses.OutputFault w.0 text refl w.1
   of_written statuses.NoMemory text (inl w) = written_whole statuses.NoMemory text w
-  of_written statuses.NoMemory text (inr w) = written_part statuses.NoMemory text refl w.0
+  of_written statuses.NoMemory text (inr w) = written_part statuses.NoMemory [] text refl w
   of_written statuses.Done text w = written_whole statuses.Done text w
   of_written statuses.BadWords text w = written_whole statuses.BadWords text w
   of_written statuses.BadTable text w = written_whole statuses.BadTable text w

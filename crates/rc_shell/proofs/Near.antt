@@ -14,5 +14,5 @@ near_line rest line front back e = absurd (omega (arith, behind_newline rest [] 
 
 pub near_cut : (rest bytes : List ℕ) (lines : List (List ℕ)) (more : List ℕ) → IsLine rest → length bytes ≤ piece_size → BeginsWithLines (rest ++ bytes) lines more → IsNear more
 near_cut rest bytes lines more line small cut front back e =
-    let stands = behind_newline rest bytes (joined_lines lines ++ front) back line (cut.whole ∙ ap (λ t. joined_lines lines ++ t) e ∙ sym (append_assoc (joined_lines lines) front (10 ∷ back))) in
+    let stands = behind_newline rest bytes (joined_lines lines ++ front) back line (cut.0 ∙ ap (λ t. joined_lines lines ++ t) e ∙ sym (append_assoc (joined_lines lines) front (10 ∷ back))) in
     omega (arith, small, stands)

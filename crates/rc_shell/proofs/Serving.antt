@@ -1,11 +1,11 @@
 -- Serving a line, a byte, and the bytes of a piece.
 use Rattle.std.proofs.Common.{◌≡◌, ◌≢◌, ◌⊎◌, ℕ, ◌+◌, ◌<◌, ◌≤◌, List, [], ◌∷◌, ◌++◌, length, take, drop, get_or, Option, Result, Ok, Err, OnOk, IfErr, inl, inr, refl, sym, ap, subst, ◌∙◌, append_assoc, arith, length-append}
 use Rattle.std.proofs.lemmas.List.{take-append-le, take_all, append-nil, length-take, take_more, take-append-drop}
-use Rattle.std.specs.List.{AllByRecursion}
+use Rattle.std.specs.List.{AllByRecursion, concat}
 use Rattle.std.proofs.KnownBytes.{Appends-trans, Appends-nil}
 use Rattle.rc_outside.specs.Faults.{Rose}
 use Rattle.rc_shell.specs.Lines.{IsLine, BeginsWithLines, IsNextLine, joined_lines}
-use Rattle.rc_shell.specs.Run.{IsWhole, IsCutOff, IsWritten, Answers, Served, concat}
+use Rattle.rc_shell.specs.Run.{IsWhole, IsCutOff, IsWritten, Answers, Served, IsEnded}
 use Rattle.rc_shell.specs.calls.Feed.{PushedText, PushedEnding, FaultsAfter, DueOfLine, DueOfBytes, ServedLine, Serves, kept}
 use Rattle.rc_shell.specs.Status.{status_at, status_of}
 use Rattle.rc_shell.specs.declared.status.Status.{Status}
@@ -30,11 +30,11 @@ concat-append (x ∷ xs) ys = ap (λ b. x ++ b) (concat-append xs ys) ∙ sym (a
 -- what stands behind the first lines is cut further
 pub cut-append : (rest b c : List ℕ) (xs ys : List (List ℕ)) (left more : List ℕ)
     → BeginsWithLines (rest ++ b) xs left → BeginsWithLines (left ++ c) ys more → BeginsWithLines (rest ++ (b ++ c)) (xs ++ ys) more
-cut-append rest b c xs ys left more p q = record {
-  whole = sym (append_assoc rest b c) ∙ ap (λ t. t ++ c) p.whole ∙ append_assoc (joined_lines xs) left c ∙ ap (λ t. joined_lines xs ++ t) q.whole
-      ∙ sym (append_assoc (joined_lines xs) (joined_lines ys) more) ∙ ap (λ t. t ++ more) (sym (joined_lines-append xs ys));
-  each = AllByRecursion-append IsLine xs ys p.each q.each;
-}
+cut-append rest b c xs ys left more p q = (
+  sym (append_assoc rest b c) ∙ ap (λ t. t ++ c) p.0 ∙ append_assoc (joined_lines xs) left c ∙ ap (λ t. joined_lines xs ++ t) q.0
+      ∙ sym (append_assoc (joined_lines xs) (joined_lines ys) more) ∙ ap (λ t. t ++ more) (sym (joined_lines-append xs ys)),
+  AllByRecursion-append IsLine xs ys p.1 q.1,
+)
 
 -- a byte more is kept while there is room
 pub take-push : (n : ℕ) (xs : List ℕ) (b : ℕ) → length (take n xs) < n → take n (xs ++ b ∷ []) ≡ take n xs ++ b ∷ []
@@ -70,35 +70,31 @@ next_longer : (more line c : List ℕ) → IsNextLine ⊥ more line → IsNextLi
 next_longer more line c (is, inl e) = (is, inl (e.0 ++ c, ap (λ t. t ++ c) e.1 ∙ append_assoc line (10 ∷ e.0) c))
 next_longer more line c (is, inr e) = absurd e.1
 
+next_of_any : (AreLast : Type 0) (more line : List ℕ) → IsNextLine ⊥ more line → IsNextLine AreLast more line
+next_of_any AreLast more line (is, inl e) = (is, inl e)
+next_of_any AreLast more line (is, inr e) = absurd e.1
+
 -- What is due in place of what was: pieces that are written, and then the same pieces.
 module _ (Was Is : Status → List (List ℕ) → Type 0) (front : List (List ℕ)) where
   pub whole_behind : (status : Status) (text : List ℕ) → ((ps : List (List ℕ)) → Was status ps → Is status (front ++ ps)) → IsWhole Was status text → IsWhole Is status (concat front ++ text)
-  whole_behind status text each w = record {
-    pieces = front ++ w.pieces;
-    due = each w.pieces w.due;
-    whole = ap (λ t. concat front ++ t) w.whole ∙ sym (concat-append front w.pieces);
-  }
+  whole_behind status text each w = (front ++ w.0, each w.0 w.1, ap (λ t. concat front ++ t) w.2 ∙ sym (concat-append front w.0))
 
-  pub cut_behind : (text : List ℕ) → ((s : Status) (ps : List (List ℕ)) → Was s ps → (now : Status) × Is now (front ++ ps)) → IsCutOff Was text → IsCutOff Is (concat front ++ text)
-  cut_behind text each c = let d = each c.status (c.before ++ c.last ∷ []) c.due in record {
-    status = d.0;
-    before = front ++ c.before;
-    last = c.last;
-    written = c.written;
-    unwritten = c.unwritten;
-    due = subst (λ ps. Is d.0 ps) (sym (append_assoc front c.before (c.last ∷ []))) d.1;
-    part = c.part;
-    whole = ap (λ t. concat front ++ t) c.whole ∙ sym (append_assoc (concat front) (concat c.before) c.written) ∙ ap (λ t. t ++ c.written) (sym (concat-append front c.before));
-  }
+  pub cut_behind : (written text : List ℕ) → ((s : Status) (ps : List (List ℕ)) → Was s ps → (now : Status) × Is now (front ++ ps)) → IsCutOff Was written text → IsCutOff Is written (concat front ++ text)
+  cut_behind written text each c = let d = each c.0 (c.1 ++ (written ++ c.2) ∷ []) c.3 in (
+    d.0,
+    front ++ c.1,
+    c.2,
+    subst (λ ps. Is d.0 ps) (sym (append_assoc front c.1 ((written ++ c.2) ∷ []))) d.1,
+    ap (λ t. concat front ++ t) c.4 ∙ sym (append_assoc (concat front) (concat c.1) written) ∙ ap (λ t. t ++ written) (sym (concat-append front c.1)),
+  )
 
   -- so what is written, where serving stopped
   pub written_behind : (stop : Stop) (text : List ℕ) → ((ps : List (List ℕ)) → Was (status_of stop) ps → Is (status_of stop) (front ++ ps))
       → ((s : Status) (ps : List (List ℕ)) → Was s ps → (now : Status) × Is now (front ++ ps))
       → IsWritten Was (status_of stop) text → IsWritten Is (status_of stop) (concat front ++ text)
-  unfolding cut_behind
-  written_behind OutputFault text whole cut w = cut_behind text cut w
+  written_behind OutputFault text whole cut w = (w.0, cut_behind w.0 text cut w.1)
   written_behind NoMemory text whole cut (inl w) = inl (whole_behind statuses.NoMemory text whole w)
-  written_behind NoMemory text whole cut (inr w) = inr (cut_behind text cut w.0, w.1)
+  written_behind NoMemory text whole cut (inr w) = inr (cut_behind [] text cut w)
   written_behind (Ended BadTable) text whole cut w = whole_behind statuses.BadTable text whole w
   written_behind (Ended StoreFault) text whole cut w = whole_behind statuses.StoreFault text whole w
 
@@ -113,23 +109,15 @@ module _ {State : Type 0} (Step : State → List ℕ → List ℕ → State → 
   -- lines were served, and then more
   pub Served-append : (old mid new : State) (rest b c : List ℕ) (ts us : List (List ℕ)) (left more : List ℕ)
       → Served Step old (rest ++ b) ts left mid → Served Step mid (left ++ c) us more new → Served Step old (rest ++ (b ++ c)) (ts ++ us) more new
-  Served-append old mid new rest b c ts us left more p q = record {
-    lines = p.lines ++ q.lines;
-    cut = cut-append rest b c p.lines q.lines left more p.cut q.cut;
-    answered = Answers-append old mid new p.lines q.lines ts us p.answered q.answered;
-  }
+  Served-append old mid new rest b c ts us left more p q = (p.0 ++ q.0, cut-append rest b c p.0 q.0 left more p.1 q.1, Answers-append old mid new p.0 q.0 ts us p.2 q.2)
 
   -- what comes behind does not matter
   pub Served-longer : (old new : State) (bytes c : List ℕ) (ts : List (List ℕ)) (more : List ℕ)
       → Served Step old bytes ts more new → Served Step old (bytes ++ c) ts (more ++ c) new
-  Served-longer old new bytes c ts more p = record {
-    lines = p.lines;
-    cut = record { whole = ap (λ t. t ++ c) p.cut.whole ∙ append_assoc (joined_lines p.lines) more c; each = p.cut.each };
-    answered = p.answered;
-  }
+  Served-longer old new bytes c ts more p = (p.0, (ap (λ t. t ++ c) p.1.0 ∙ append_assoc (joined_lines p.0) more c, p.1.1), p.2)
 
   pub Served-none : (old : State) (bytes : List ℕ) → Served Step old bytes [] bytes old
-  Served-none old bytes = record { lines = []; cut = record { whole = refl; each = tt }; answered = refl }
+  Served-none old bytes = ([], (refl, tt), refl)
 
 module _ {State Seen : Type 0} (Step : State → List ℕ → List ℕ → State → Type 0) (Ends : State → List ℕ → Status → List ℕ → Seen → Type 0) (Leaves : State → Seen → Type 0) where
   -- a text that is due was pushed
@@ -137,9 +125,9 @@ module _ {State Seen : Type 0} (Step : State → List ℕ → List ℕ → State
       → DueOfLine Step Ends Leaves old line after due (reply ∷ []) → ((u : Unit) → r ≡ Ok u → ⊥) → PushedText before now f f' reply r → ServedLine Step Ends Leaves old line At after before now f f' r
   text_pushed old line reply At after due before now f f' (Ok u) d not p = absurd (not u refl)
   text_pushed old line reply At after due before now f f' (Err OutputFault) d not p =
-      (p.0.0, record { status = due; before = []; last = reply; written = p.0.0; unwritten = p.0.1; due = d; part = p.0.2; whole = refl }, p.0.3, p.1)
+      (p.0.0, (p.0.0, (due, [], p.0.1, subst (λ t. DueOfLine Step Ends Leaves old line after due (t ∷ [])) p.0.2 d, refl)), p.0.3, p.1)
   text_pushed old line reply At after due before now f f' (Err NoMemory) d not p =
-      ([], inr (record { status = due; before = []; last = reply; written = []; unwritten = reply; due = d; part = refl; whole = refl }, refl), p.0, p.1)
+      ([], inr (due, [], reply, d, refl), p.0, p.1)
   text_pushed old line reply At after due before now f f' (Err (Ended ending)) d not p = absurd p
 
   -- a reply that the machine may give, and what pushing it did
@@ -156,20 +144,20 @@ module _ {State Seen : Type 0} (Step : State → List ℕ → List ℕ → State
   ended old line last At after BadTable before now f f' NoMemory e p = text_pushed old line last At after statuses.BadTable before now f f' (Err NoMemory) (last, e, refl) (λ u e. cc) p
   ended old line last At after StoreFault before now f f' OutputFault e p = text_pushed old line last At after statuses.StoreFault before now f f' (Err OutputFault) (last, e, refl) (λ u e. cc) p
   ended old line last At after StoreFault before now f f' NoMemory e p = text_pushed old line last At after statuses.StoreFault before now f f' (Err NoMemory) (last, e, refl) (λ u e. cc) p
-  ended old line last At after BadTable before now f f' (Ended BadTable) e p = (last, record { pieces = last ∷ []; due = (last, e, refl); whole = sym (append-nil last) }, p.1, p.2)
-  ended old line last At after StoreFault before now f f' (Ended StoreFault) e p = (last, record { pieces = last ∷ []; due = (last, e, refl); whole = sym (append-nil last) }, p.1, p.2)
+  ended old line last At after BadTable before now f f' (Ended BadTable) e p = (last, (last ∷ [], (last, e, refl), sym (append-nil last)), p.1, p.2)
+  ended old line last At after StoreFault before now f f' (Ended StoreFault) e p = (last, (last ∷ [], (last, e, refl), sym (append-nil last)), p.1, p.2)
   ended old line last At after BadTable before now f f' (Ended StoreFault) e p = absurd (cc)
   ended old line last At after StoreFault before now f f' (Ended BadTable) e p = absurd (cc)
 
   -- memory ran out, before a step or behind one
   pub unserved : (old : State) (line : List ℕ) (At : State → Type 0) (after : Seen) (before : Option (List ℕ)) (f : ℕ)
       → (Leaves old after ⊎ ((text : List ℕ) × (new : State) × Step old line text new × Leaves new after)) → ServedLine Step Ends Leaves old line At after before before f f (Err NoMemory)
-  unserved old line At after before f (inl leaves) = ([], inl (record { pieces = []; due = (leaves, refl); whole = refl }), Appends-nil before, refl)
+  unserved old line At after before f (inl leaves) = ([], inl ([], (leaves, refl), refl), Appends-nil before, refl)
   unserved old line At after before f (inr s) =
-      ([], inr (record { status = statuses.Done; before = []; last = s.0; written = []; unwritten = s.0; due = (s.0, s.1, s.2, s.3, refl); part = refl; whole = refl }, refl), Appends-nil before, refl)
+      ([], inr (statuses.Done, [], s.0, (s.0, s.1, s.2, s.3, refl), refl), Appends-nil before, refl)
 
   one_line : (old new : State) (line text : List ℕ) → IsLine line → Step old line text new → Served Step old (line ++ 10 ∷ []) (text ∷ []) [] new
-  one_line old new line text is s = record { lines = line ∷ []; cut = record { whole = sym (append-nil _ ∙ append-nil _); each = (is, tt) }; answered = (new, s, refl) }
+  one_line old new line text is s = (line ∷ [], (sym (append-nil _ ∙ append-nil _), (is, tt)), (new, s, refl))
 
   -- what is due for a line is due for its bytes, with a newline behind them
   due_whole : (old : State) (line : List ℕ) (after : Seen) (stop : Stop) → IsLine line
@@ -177,9 +165,9 @@ module _ {State Seen : Type 0} (Step : State → List ℕ → List ℕ → State
   due_whole old line after NoMemory is ps d = (line ++ 10 ∷ [], old, subst (λ ts. Served Step old (line ++ 10 ∷ []) ts (line ++ 10 ∷ []) old) (sym d.1) (Served-none Step old (line ++ 10 ∷ [])), d.0)
   due_whole old line after OutputFault is ps d = absurd d
   due_whole old line after (Ended BadTable) is ps d =
-      record { texts = []; more = line ++ 10 ∷ []; end = old; line = line; last = d.0; served = Served-none Step old (line ++ 10 ∷ []); next = (is, inl ([], refl)); ends = d.1; are = d.2 }
+      (line ++ 10 ∷ [], ([], old, line, d.0, Served-none Step old (line ++ 10 ∷ []), (is, inl ([], refl)), d.1, d.2))
   due_whole old line after (Ended StoreFault) is ps d =
-      record { texts = []; more = line ++ 10 ∷ []; end = old; line = line; last = d.0; served = Served-none Step old (line ++ 10 ∷ []); next = (is, inl ([], refl)); ends = d.1; are = d.2 }
+      (line ++ 10 ∷ [], ([], old, line, d.0, Served-none Step old (line ++ 10 ∷ []), (is, inl ([], refl)), d.1, d.2))
 
   due_cut : (old : State) (line : List ℕ) (after : Seen) → IsLine line → (s : Status) (ps : List (List ℕ)) → DueOfLine Step Ends Leaves old line after s ps
       → (now : Status) × DueOfBytes Step Ends Leaves old (line ++ 10 ∷ []) after now ps
@@ -226,7 +214,7 @@ module _ {State Seen : Type 0} (Step : State → List ℕ → List ℕ → State
   pub byte_refused : (old : State) (rest : List ℕ) (bytes : List ℕ) (At : State → Type 0) (held : List ℕ) (after : Seen) (before : Option (List ℕ)) (f : ℕ)
       → Leaves old after → Serves Step Ends Leaves old rest bytes At held after before before f f (Err NoMemory)
   byte_refused old rest bytes At held after before f leaves =
-      ([], inl (record { pieces = []; due = (rest ++ bytes, old, Served-none Step old (rest ++ bytes), leaves); whole = refl }), Appends-nil before, refl)
+      ([], inl ([], (rest ++ bytes, old, Served-none Step old (rest ++ bytes), leaves), refl), Appends-nil before, refl)
 
   -- nothing yet
   pub nothing_fed : (old : State) (rest : List ℕ) (At : State → Type 0) (held : List ℕ) (after : Seen) (before : Option (List ℕ)) (f : ℕ)
@@ -235,39 +223,33 @@ module _ {State Seen : Type 0} (Step : State → List ℕ → List ℕ → State
     [],
     rest,
     old,
-    record { texts = []; served = record { lines = []; cut = record { whole = append-nil rest; each = tt }; answered = refl }; unfinished = line; written = refl },
+    record { texts = []; served = ([], (append-nil rest, tt), refl); unfinished = line; written = refl },
     at,
     is,
     Appends-nil before,
     refl,
   )
 
+  -- a line that ends the run, behind lines that are served
+  pub ended_behind : (AreLast : Type 0) (old mid : State) (rest b c left : List ℕ) (ts : List (List ℕ)) (after : Seen) → Served Step old (rest ++ b) ts left mid
+      → (s : Status) (ps : List (List ℕ)) (more : List ℕ) → IsEnded Step Ends Leaves ⊥ mid (left ++ c) after s ps more → IsEnded Step Ends Leaves AreLast old (rest ++ (b ++ c)) after s (ts ++ ps) more
+  ended_behind AreLast old mid rest b c left ts after p s ps more e = (
+    ts ++ e.0,
+    e.1,
+    e.2,
+    e.3,
+    Served-append Step old mid e.1 rest b c ts e.0 left more p e.4,
+    next_of_any AreLast more e.2 e.5,
+    e.6,
+    ap (λ t. ts ++ t) e.7 ∙ sym (append_assoc ts e.0 (e.3 ∷ [])),
+  )
+
   -- what is due for bytes, behind lines that are served
   pub due_behind : (old mid : State) (rest b c : List ℕ) (left : List ℕ) (ts : List (List ℕ)) (after : Seen) → Served Step old (rest ++ b) ts left mid
       → (s : Status) (ps : List (List ℕ)) → DueOfBytes Step Ends Leaves mid (left ++ c) after s ps → DueOfBytes Step Ends Leaves old (rest ++ (b ++ c)) after s (ts ++ ps)
   due_behind old mid rest b c left ts after p statuses.NoMemory ps d = (d.0, d.1, Served-append Step old mid d.1 rest b c ts ps left d.0 p d.2, d.3)
-  due_behind old mid rest b c left ts after p statuses.BadTable ps d = record {
-    texts = ts ++ d.texts;
-    more = d.more;
-    end = d.end;
-    line = d.line;
-    last = d.last;
-    served = Served-append Step old mid d.end rest b c ts d.texts left d.more p d.served;
-    next = d.next;
-    ends = d.ends;
-    are = ap (λ t. ts ++ t) d.are ∙ sym (append_assoc ts d.texts (d.last ∷ []));
-  }
-  due_behind old mid rest b c left ts after p statuses.StoreFault ps d = record {
-    texts = ts ++ d.texts;
-    more = d.more;
-    end = d.end;
-    line = d.line;
-    last = d.last;
-    served = Served-append Step old mid d.end rest b c ts d.texts left d.more p d.served;
-    next = d.next;
-    ends = d.ends;
-    are = ap (λ t. ts ++ t) d.are ∙ sym (append_assoc ts d.texts (d.last ∷ []));
-  }
+  due_behind old mid rest b c left ts after p statuses.BadTable ps d = (d.0, ended_behind ⊥ old mid rest b c left ts after p statuses.BadTable ps d.0 d.1)
+  due_behind old mid rest b c left ts after p statuses.StoreFault ps d = (d.0, ended_behind ⊥ old mid rest b c left ts after p statuses.StoreFault ps d.0 d.1)
   due_behind old mid rest b c left ts after p s ps d = absurd d
 
   -- bytes, and then more
@@ -310,31 +292,14 @@ module _ {State Seen : Type 0} (Step : State → List ℕ → List ℕ → State
   byte_taken old rest b At held after before f (Err OutputFault) line other at leaves is stop = absurd (cc)
   byte_taken old rest b At held after before f (Err (Ended ending)) line other at leaves is stop = absurd (cc)
 
+  ended_longer : (old : State) (bytes c : List ℕ) (after : Seen) (s : Status) (ps : List (List ℕ)) (more : List ℕ) → IsEnded Step Ends Leaves ⊥ old bytes after s ps more → IsEnded Step Ends Leaves ⊥ old (bytes ++ c) after s ps (more ++ c)
+  ended_longer old bytes c after s ps more e = (e.0, e.1, e.2, e.3, Served-longer Step old e.1 bytes c e.0 more e.4, next_longer more e.2 c e.5, e.6, e.7)
+
   -- what is due does not hang on what stands behind
   due_longer : (old : State) (bytes c : List ℕ) (after : Seen) (s : Status) (ps : List (List ℕ)) → DueOfBytes Step Ends Leaves old bytes after s ps → DueOfBytes Step Ends Leaves old (bytes ++ c) after s ps
   due_longer old bytes c after statuses.NoMemory ps d = (d.0 ++ c, d.1, Served-longer Step old d.1 bytes c ps d.0 d.2, d.3)
-  due_longer old bytes c after statuses.BadTable ps d = record {
-    texts = d.texts;
-    more = d.more ++ c;
-    end = d.end;
-    line = d.line;
-    last = d.last;
-    served = Served-longer Step old d.end bytes c d.texts d.more d.served;
-    next = next_longer d.more d.line c d.next;
-    ends = d.ends;
-    are = d.are;
-  }
-  due_longer old bytes c after statuses.StoreFault ps d = record {
-    texts = d.texts;
-    more = d.more ++ c;
-    end = d.end;
-    line = d.line;
-    last = d.last;
-    served = Served-longer Step old d.end bytes c d.texts d.more d.served;
-    next = next_longer d.more d.line c d.next;
-    ends = d.ends;
-    are = d.are;
-  }
+  due_longer old bytes c after statuses.BadTable ps d = (d.0 ++ c, ended_longer old bytes c after statuses.BadTable ps d.0 d.1)
+  due_longer old bytes c after statuses.StoreFault ps d = (d.0 ++ c, ended_longer old bytes c after statuses.StoreFault ps d.0 d.1)
   due_longer old bytes c after s ps d = absurd d
 
   -- what stands behind the place where it stopped does not matter

@@ -1,5 +1,5 @@
 -- What a line is answered before a schema line was taken, and behind it.
-use Rattle.std.proofs.Common.{◌≡◌, ℕ, ◌+◌, ◌*◌, ◌≤◌, Bool, true, false, IfSome, List, [], ◌++◌, length, inl, inr, Option, Some, None, Result, Ok, Err, IsErr, refl, sym, ap, subst, ◌∙◌, le_refl, arith}
+use Rattle.std.proofs.Common.{◌≡◌, ℕ, ◌+◌, ◌*◌, ◌≤◌, Bool, true, false, IfSome, IsTrue, codes, List, [], ◌++◌, length, inl, inr, Option, Some, None, Result, Ok, Err, IsErr, refl, sym, ap, subst, ◌∙◌, le_refl, arith}
 use Rattle.std.specs.FinMap as map
 use Rattle.std.proofs.lemmas.List.{append-nil}
 use Rattle.std.specs.declared.alloc.AllocError.{AllocError}
@@ -23,7 +23,7 @@ use Rattle.rc_machine.specs.laws.Changes.{change_of}
 use Rattle.rc_machine.specs.laws.Holding.{schema_stays}
 use Rattle.rc_plain.specs.Stands.{Keeping, Stands}
 use Rattle.rc_shell.specs.calls.Feed.{Answered}
-use Rattle.rc_shell.specs.Step.{Moment, Stage, StoreView, Waiting, Serving, EarlyStep, MachineStep, StageStep, LineStep, EndsRun, EndsRunAt, LeavesStore, MayAsk, MayHaveAsked, CountsFaults, files_of, meaning_at, served, store_fault, start_moment, bad_table, tells_fault}
+use Rattle.rc_shell.specs.Step.{Moment, Stage, StoreView, Waiting, Serving, StageStep, LineStep, EndsRun, EndsRunAt, LeavesStore, MayAsk, MayHaveAsked, files_of, meaning_at, served, start_moment, bad_table, tells_fault}
 use Rattle.rc_shell.specs.Late.{KeepsMoment, asked_nothing, schema_set, stood_leaves}
 use Rattle.rc_shell.specs.declared.status.Ending.{Ending}
 use Rattle.rc_shell.specs.declared.status.Ending.TheVariants.{BadTable, StoreFault}
@@ -35,6 +35,10 @@ use Rattle.rc_shell.proofs.Told.{told, plain}
 
 clash : (b : Bool) → b ≡ false → b ≡ true → ⊥
 clash b e f = cc
+
+-- the store's count of faults over a line that is answered by the text
+abbrev CountsFaults : List ℕ → ℕ → ℕ → Type 0
+CountsFaults text before now = (before ≤ now) × (IsTrue (tells_fault text) → Rose before now)
 
 -- the moment behind a line
 next_moment : Moment → Stage → ℕ → ℕ → ℕ → Moment
@@ -67,14 +71,6 @@ leaves_behind old store bound m same = (same, le_refl store.1, asked_nothing (Se
 no_more : (old : Moment) (asks : ℕ) → old.asks ≡ asks → asks ≤ old.asks + 0
 no_more old asks e = omega (arith, e)
 
-nothing_asked : (files : Option Files) → MayAsk (Waiting files) (Ok Nothing) 0
-nothing_asked None = refl
-nothing_asked (Some files) = refl
-
-refused_unasked : (files : Option Files) (refusal : Refusal) → MayAsk (Waiting files) (Err refusal) 0
-refused_unasked None refusal = refl
-refused_unasked (Some files) refusal = refl
-
 -- the count of faults over a line whose text tells none
 uncounted : (text : List ℕ) (before now : ℕ) → tells_fault text ≡ false → before ≤ now → CountsFaults text before now
 uncounted text before now none le = (le, λ t. absurd (clash (tells_fault text) none t))
@@ -93,16 +89,12 @@ plain_served taken line refusal p = served_is (λ r. tells_fault (refusal_text r
 abbrev pub Checks : Option Files → ℕ → ℕ → Type 0
 Checks files before now = IfSome files (λ told. now ≤ before + checks_of (map.values told))
 
-may_have_checked : (files : Option Files) (before now : ℕ) → Checks files before now → MayHaveAsked (Waiting files) before now
-may_have_checked None before now checks = tt
-may_have_checked (Some files) before now checks = checks
-
 -- the store is left so where nothing was opened
 left_waiting : (store store' : StoreView) (old : Moment) → KeepsMoment None store old → store'.0 ≡ store.0 → store.1 ≤ store'.1 → Checks store.0 store.2 store'.2 → LeavesStore old store'
 left_waiting store store' old s same le checks = (
   same ∙ ap files_of (sym s.0),
   subst (λ n. n ≤ store'.1) (sym s.1) le,
-  subst (λ st. MayHaveAsked st old.asks store'.2) (sym s.0) (subst (λ n. MayHaveAsked (Waiting store.0) n store'.2) (sym s.2) (may_have_checked store.0 store.2 store'.2 checks)),
+  subst (λ st. MayHaveAsked st old.asks store'.2) (sym s.0) (subst (λ n. MayHaveAsked (Waiting store.0) n store'.2) (sym s.2) checks),
 )
 
 -- a line that means nothing, before a schema line
@@ -117,8 +109,8 @@ none_answered place store old line command items free s p none =
     let asked = no_more old store.2 s.2 in (
       [],
       next_moment old (Waiting store.0) store.1 store.2 0,
-      line_step old line [] (Waiting store.0) (Waiting store.0) store.1 store.2 0 s.0 (subst (λ meaning. EarlyStep old.segments store.0 meaning [] (Waiting store.0)) (sym means) (refl, refl))
-          (uncounted [] old.faults store.1 refl (le_same old.faults store.1 s.1)) (subst (λ meaning. MayAsk (Waiting store.0) meaning 0) (sym means) (nothing_asked store.0)) asked,
+      line_step old line [] (Waiting store.0) (Waiting store.0) store.1 store.2 0 s.0 (subst (λ meaning. StageStep old.segments (Waiting store.0) meaning [] (Waiting store.0)) (sym means) (refl, refl))
+          (uncounted [] old.faults store.1 refl (le_same old.faults store.1 s.1)) (subst (λ meaning. MayAsk (Waiting store.0) meaning 0) (sym means) refl) asked,
       subst (λ k. KeepsMoment k store (next_moment old (Waiting store.0) store.1 store.2 0)) (sym free) (waits old store 0),
       sym (append-nil items),
     )
@@ -138,8 +130,8 @@ refused_answered place store old line refusal before now free s p e =
     let asked = no_more old store.2 s.2 in (
       refusal_text refusal,
       next_moment old (Waiting store.0) store.1 store.2 0,
-      line_step old line (refusal_text refusal) (Waiting store.0) (Waiting store.0) store.1 store.2 0 s.0 (subst (λ meaning. EarlyStep old.segments store.0 meaning (refusal_text refusal) (Waiting store.0)) (sym p) (refl, refl))
-          (uncounted (refusal_text refusal) old.faults store.1 (plain_served None line refusal p) (le_same old.faults store.1 s.1)) (subst (λ meaning. MayAsk (Waiting store.0) meaning 0) (sym p) (refused_unasked store.0 refusal)) asked,
+      line_step old line (refusal_text refusal) (Waiting store.0) (Waiting store.0) store.1 store.2 0 s.0 (subst (λ meaning. StageStep old.segments (Waiting store.0) meaning (refusal_text refusal) (Waiting store.0)) (sym p) (refl, refl))
+          (uncounted (refusal_text refusal) old.faults store.1 (plain_served None line refusal p) (le_same old.faults store.1 s.1)) (subst (λ meaning. MayAsk (Waiting store.0) meaning 0) (sym p) refl) asked,
       subst (λ k. KeepsMoment k store (next_moment old (Waiting store.0) store.1 store.2 0)) (sym free) (waits old store 0),
       e,
     )
@@ -170,7 +162,7 @@ opened_answered store store' old schema k tables infos line before now s p are l
       reply_text schema replies.Fine,
       next_moment old (Serving (opened_state old.segments store.0 schema tables infos)) store'.1 store'.2 bound,
       line_step old line (reply_text schema replies.Fine) (Waiting store.0) (Serving (opened_state old.segments store.0 schema tables infos)) store'.1 store'.2 bound s.0
-          (subst (λ meaning. EarlyStep old.segments store.0 meaning (reply_text schema replies.Fine) (Serving (opened_state old.segments store.0 schema tables infos))) (sym means) (tables, infos, are, listed, refl, refl))
+          (subst (λ meaning. StageStep old.segments (Waiting store.0) meaning (reply_text schema replies.Fine) (Serving (opened_state old.segments store.0 schema tables infos))) (sym means) (tables, infos, are, listed, refl, refl))
           (subst (λ n. n ≤ store'.1) (sym s.1) le, λ t. told schema replies.Fine (Rose old.faults store'.1) tt t)
           (subst (λ meaning. MayAsk (Waiting store.0) meaning bound) (sym means) (may_check store.0 schema store.2 store'.2))
           (subst (λ n. store'.2 ≤ n + bound) (sym s.2) (checked store.0 store.2 store'.2 checks)),
@@ -182,15 +174,29 @@ opened_answered store store' old schema k tables infos line before now s p are l
 pub bad_answered : (store store' : StoreView) (old : Moment) (schema : SchemaValue) (At : Moment → Type 0) (n : ℕ) (damage : Option ℕ) (line before now : List ℕ)
     → KeepsMoment None store old → parse None line ≡ Ok (SetSchema schema) → store'.0 ≡ store.0 → IfSome store.0 (λ f. IsFirstBad f schema n damage) → store.1 ≤ store'.1 → Checks store.0 store.2 store'.2 → now ≡ before ++ bad_table n damage
     → Answered LineStep EndsRun LeavesStore old line At store' before now (Ok (Some BadTable))
-bad_answered store store' old schema At n damage line before now s p same first le checks e =
-    (bad_table n damage, (left_waiting store store' old s same le checks, subst (λ st. EndsRunAt st line statuses.BadTable (bad_table n damage) old.faults store'.1) (sym s.0) (schema, p, (n, damage, first, refl))), e)
+bad_answered store store' old schema At n damage line before now s p same first le checks e = (
+  bad_table n damage,
+  (
+    left_waiting store store' old s same le checks,
+    subst (λ st. EndsRunAt st (meaning_at st line) statuses.BadTable (bad_table n damage) old.faults store'.1) (sym s.0)
+        (subst (λ meaning. EndsRunAt (Waiting store.0) meaning statuses.BadTable (bad_table n damage) old.faults store'.1) (sym (ap served p)) (n, damage, first, refl)),
+  ),
+  e,
+)
 
 -- the first schema line, while the store failed
 pub fault_answered : (store store' : StoreView) (old : Moment) (schema : SchemaValue) (At : Moment → Type 0) (line before now : List ℕ)
-    → KeepsMoment None store old → parse None line ≡ Ok (SetSchema schema) → store'.0 ≡ store.0 → Rose store.1 store'.1 → store.1 ≤ store'.1 → Checks store.0 store.2 store'.2 → now ≡ before ++ store_fault
+    → KeepsMoment None store old → parse None line ≡ Ok (SetSchema schema) → store'.0 ≡ store.0 → Rose store.1 store'.1 → store.1 ≤ store'.1 → Checks store.0 store.2 store'.2 → now ≡ before ++ codes "! store fault\n"
     → Answered LineStep EndsRun LeavesStore old line At store' before now (Ok (Some StoreFault))
-fault_answered store store' old schema At line before now s p same rose le checks e =
-    (store_fault, (left_waiting store store' old s same le checks, subst (λ st. EndsRunAt st line statuses.StoreFault store_fault old.faults store'.1) (sym s.0) (schema, p, (refl, subst (λ n. Rose n store'.1) (sym s.1) rose))), e)
+fault_answered store store' old schema At line before now s p same rose le checks e = (
+  codes "! store fault\n",
+  (
+    left_waiting store store' old s same le checks,
+    subst (λ st. EndsRunAt st (meaning_at st line) statuses.StoreFault (codes "! store fault\n") old.faults store'.1) (sym s.0)
+        (subst (λ meaning. EndsRunAt (Waiting store.0) meaning statuses.StoreFault (codes "! store fault\n") old.faults store'.1) (sym (ap served p)) (refl, subst (λ n. Rose n store'.1) (sym s.1) rose)),
+  ),
+  e,
+)
 
 -- memory ran out before the machine was open
 pub unopened_answered : (store store' : StoreView) (old : Moment) (line : List ℕ) (At : Moment → Type 0) (before now : List ℕ) (r : Result (Option Ending) AllocError) → IsErr r
@@ -218,7 +224,7 @@ module _ (store store' : StoreView) (k k' : Keeping) (old : Moment) (line : List
   command_step : LineStep old line (reply_text k'.schema reply) (next_moment old (Serving d.next) store'.1 store'.2 (most_asks k.infos command))
   command_step =
       line_step old line (reply_text k'.schema reply) (Serving s.0) (Serving d.next) store'.1 store'.2 (most_asks k.infos command) s.2
-      (subst (λ meaning. MachineStep s.0 meaning (reply_text k'.schema reply) (Serving d.next)) (sym means) (reply, d.next, d.step, ap (λ z. reply_text z reply) same_schema, refl))
+      (subst (λ meaning. StageStep old.segments (Serving s.0) meaning (reply_text k'.schema reply) (Serving d.next)) (sym means) (reply, d.next, d.step, ap (λ z. reply_text z reply) same_schema, refl))
       (subst (λ n. n ≤ store'.1) (sym s.3) d.faults, λ t. told k'.schema reply (Rose old.faults store'.1) (subst (λ n. OnFaulty reply (Rose n store'.1)) (sym s.3) d.faulty) t)
       (subst (λ meaning. MayAsk (Serving s.0) meaning (most_asks k.infos command)) (sym means) (ap (λ infos. most_asks infos command) (sym s.1.over.infos)))
       (subst (λ n. store'.2 ≤ n + most_asks k.infos command) (sym s.4) d.asks)
@@ -268,7 +274,7 @@ refusal_answered store k old line before now refusal s p e =
     let asked = no_more old store.2 s.4 in (
       refusal_text refusal,
       next_moment old (Serving s.0) store.1 store.2 0,
-      line_step old line (refusal_text refusal) (Serving s.0) (Serving s.0) store.1 store.2 0 s.2 (subst (λ meaning. MachineStep s.0 meaning (refusal_text refusal) (Serving s.0)) (sym means) (refl, refl))
+      line_step old line (refusal_text refusal) (Serving s.0) (Serving s.0) store.1 store.2 0 s.2 (subst (λ meaning. StageStep old.segments (Serving s.0) meaning (refusal_text refusal) (Serving s.0)) (sym means) (refl, refl))
           (uncounted (refusal_text refusal) old.faults store.1 (plain_served (Some k.schema) line refusal p) (le_same old.faults store.1 s.3)) (subst (λ meaning. MayAsk (Serving s.0) meaning 0) (sym means) refl) asked,
       serves old store 0 k s.0 s.1,
       e,

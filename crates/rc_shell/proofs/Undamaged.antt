@@ -14,11 +14,11 @@ use Rattle.rc_lines.specs.declared.commands.Reply.{Reply}
 use Rattle.rc_lines.specs.declared.commands.Reply.TheVariants.{Nothing, Fine, Given, Going, Done, Stats, Refused}
 use Rattle.rc_lines.specs.Grammar.{parse}
 use Rattle.rc_lines.specs.Texts.{reply_text, refusal_text, figures_text}
-use Rattle.rc_machine.specs.State.{State, Reader, reader_of}
+use Rattle.rc_machine.specs.State.{State, Reader, numbers, reader_of}
 use Rattle.rc_machine.specs.Steps.{Steps, Opens, Gives, Stores, Refuses, most_readers, last_number, next_number, without_sealed}
 use Rattle.rc_machine.specs.laws.Changes.{Change, Reads, Writes, Seals, Begins, Stored, Goes, Ends, change_of}
 use Rattle.rc_shell.specs.Run.{Answers}
-use Rattle.rc_shell.specs.Step.{Moment, Stage, Waiting, Serving, LineStep, StageStep, EarlyStep, MachineStep, files_of, meaning_at}
+use Rattle.rc_shell.specs.Step.{Moment, Stage, Waiting, Serving, LineStep, StageStep, files_of, meaning_at}
 use Rattle.rc_shell.specs.Holding.{tells_damage}
 use Rattle.rc_shell.proofs.Served.{served_is}
 use Rattle.rc_lines.specs.laws.Refusals.{of_line}
@@ -71,7 +71,7 @@ module _ (m : State) (files : Files) (told : m.files ≡ Some files) (reply : Re
   opens : (id : ℕ) (key : List ℕ) (slice : Slice) → Opens m id key slice reply new → IsSound reply
   opens id key slice (inl s) = is Fine tt s.2.0
   opens id key slice (inr (inl s)) = is (Refused ReadFault) tt s.0
-  opens id key slice (inr (inr s)) = absurd (not_told s.2.0)
+  opens id key slice (inr (inr s)) = absurd (not_told s.2)
 
   tries : (id : ℕ) (key : List ℕ) (slice : Slice) (r : Option Reader) (b : Bool)
       → MatchOption r (MatchBool b (Opens m id key slice reply new) (Refuses m TooManyReaders reply new)) (λ _. Refuses m ReaderInUse reply new) → IsSound reply
@@ -82,7 +82,7 @@ module _ (m : State) (files : Files) (told : m.files ≡ Some files) (reply : Re
   gives : (id count : ℕ) (r : Reader) → Gives m id count r reply new → IsSound reply
   gives id count r (inl s) = is (Given _ _) tt s.0
   gives id count r (inr (inl s)) = is (Refused ReadFault) tt s.0
-  gives id count r (inr (inr s)) = absurd (not_told s.2.0)
+  gives id count r (inr (inr s)) = absurd (not_told s.2)
 
   reads : (id count : ℕ) (r : Option Reader) → MatchOption r (Refuses m NoReader reply new) (λ r. Gives m id count r reply new) → IsSound reply
   reads id count None s = is (Refused NoReader) tt s.0
@@ -117,8 +117,8 @@ module _ (m : State) (files : Files) (told : m.files ≡ Some files) (reply : Re
   sound_step (OpenRead id key slice) s = tries id key slice (reader_of id m) (nat_lt (length m.readers) most_readers) s
   sound_step (Read id count) s = reads id count (reader_of id m) s
   sound_step (Close id) s = closes _ (reader_of id m) s
-  sound_step Flush s = flushes without_sealed m.written (m.stored == length m.log) (nat_lt last_number (next_number m.tables)) s
-  sound_step FlushBegin s = flushes (λ next. next) m.written (m.stored == length m.log) (nat_lt last_number (next_number m.tables)) s
+  sound_step Flush s = flushes without_sealed m.written (m.stored == length m.log) (nat_lt last_number (next_number (numbers m.tables))) s
+  sound_step FlushBegin s = flushes (λ next. next) m.written (m.stored == length m.log) (nat_lt last_number (next_number (numbers m.tables))) s
   sound_step (FlushStep count) s = steps m.written (nat_lt count m.left) _ _ s
   sound_step (Evict count) s = is Fine tt s.0
   sound_step (Compact count) s = is Fine tt s.0
@@ -149,23 +149,23 @@ soundly : (text other : List ℕ) (stage next : Stage) → text ≡ other → st
 soundly text other stage next e f sound told = (ap tells_damage e ∙ sound, subst (λ st. IsTold (files_of st)) (sym f) told)
 
 opened_soundly : (segments : ℕ) (files : Option Files) (meaning : Result Command Refusal) (text : List ℕ) (new : Stage) → IsTold files → ((refusal : Refusal) → meaning ≡ Err refusal → tells_damage (refusal_text refusal) ≡ false)
-    → EarlyStep segments files meaning text new → IsSoundly text new
+    → StageStep segments (Waiting files) meaning text new → IsSoundly text new
 opened_soundly segments files (Ok nothing) text new t sound s = soundly text [] new (Waiting files) s.0 s.1 refl t
 opened_soundly segments files (Ok (SetSchema schema)) text new t sound s = soundly text (reply_text schema Fine) new _ s.4 s.5 (sound_text schema Fine tt) t
 opened_soundly segments files (Err refusal) text new t sound s = soundly text (refusal_text refusal) new (Waiting files) s.0 s.1 (sound refusal refl) t
 opened_soundly segments files (Ok command) text new t sound s = absurd s
 
-taken_soundly : (m : State) (meaning : Result Command Refusal) (text : List ℕ) (new : Stage) → IsTold m.files → ((refusal : Refusal) → meaning ≡ Err refusal → tells_damage (refusal_text refusal) ≡ false)
-    → MachineStep m meaning text new → IsSoundly text new
-taken_soundly m (Ok command) text new t sound s =
+taken_soundly : (segments : ℕ) (m : State) (meaning : Result Command Refusal) (text : List ℕ) (new : Stage) → IsTold m.files → ((refusal : Refusal) → meaning ≡ Err refusal → tells_damage (refusal_text refusal) ≡ false)
+    → StageStep segments (Serving m) meaning text new → IsSoundly text new
+taken_soundly segments m (Ok command) text new t sound s =
     soundly text (reply_text m.schema s.0) new (Serving s.1) s.3 s.4 (sound_text m.schema s.0 (sound_step m t.0 t.1 s.0 s.1 command s.2)) (told_on m command s.0 s.1 t (change_of m command s.0 s.1 s.2))
-taken_soundly m (Err refusal) text new t sound s = soundly text (refusal_text refusal) new (Serving m) s.0 s.1 (sound refusal refl) t
+taken_soundly segments m (Err refusal) text new t sound s = soundly text (refusal_text refusal) new (Serving m) s.0 s.1 (sound refusal refl) t
 
 staged_soundly : (segments : ℕ) (stage : Stage) (line text : List ℕ) (new : Stage) → IsTold (files_of stage) → StageStep segments stage (meaning_at stage line) text new → IsSoundly text new
 staged_soundly segments (Waiting files) line text new t s =
     opened_soundly segments files (meaning_at (Waiting files) line) text new t (λ refusal e. served_is (λ r. tells_damage (refusal_text r) ≡ false) refl (parse None line) (sound_refusal None line) refusal e) s
 staged_soundly segments (Serving m) line text new t s =
-    taken_soundly m (meaning_at (Serving m) line) text new t (λ refusal e. served_is (λ r. tells_damage (refusal_text r) ≡ false) refl (parse (Some m.schema) line) (sound_refusal (Some m.schema) line) refusal e) s
+    taken_soundly segments m (meaning_at (Serving m) line) text new t (λ refusal e. served_is (λ r. tells_damage (refusal_text r) ≡ false) refl (parse (Some m.schema) line) (sound_refusal (Some m.schema) line) refusal e) s
 
 pub undamaged : (old new : Moment) (lines texts : List (List ℕ)) → IsTold (files_of old.stage) → Answers LineStep old lines texts new → All (λ text. tells_damage text ≡ false) texts
 undamaged old new [] [] t a = λ k d l. absurd (omega arith)

@@ -3,6 +3,7 @@
 --     HoldsFlushed     the files after are those before and the tables that were flushed, which hold accepted writes
 --     tells_damage     whether a text tells a damaged table
 use Rattle.std.specs.Prelude.{◌≡◌, ◌⊎◌, ℕ, ◌+◌, ◌-◌, ◌^◌, ◌≤◌, min, Bool, List, [], ◌∷◌, ◌++◌, take, All, Some, Result, Ok, codes, count_by, if◌then◌else◌}
+use Rattle.std.specs.List.{concat}
 use Rattle.std.specs.FinMap as map
 use Rattle.rc_outside.specs.Files.{Files}
 use Rattle.rc_schema.specs.SchemaValue.{SchemaValue}
@@ -17,7 +18,7 @@ use Rattle.rc_lines.specs.Grammar.{parse}
 use Rattle.rc_spelling.specs.Words.{is_word}
 use Rattle.rc_machine.specs.Flushed.{Flush, IsFlushOf, tables_of, writes_of, files_with}
 use Rattle.rc_shell.specs.Lines.{BeginsWithLines, last_line}
-use Rattle.rc_shell.specs.Run.{Answers, IsNear, concat}
+use Rattle.rc_shell.specs.Run.{Answers, IsNear}
 use Rattle.rc_shell.specs.Step.{Moment, StoreView, LineStep, LeavesStore, start_moment, tells_fault}
 use Rattle.rc_shell.specs.declared.status.Status.{Status}
 use Rattle.rc_shell.specs.declared.status.Status.TheVariants.{StoreFault}

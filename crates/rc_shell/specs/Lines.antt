@@ -1,6 +1,6 @@
 -- How bytes are cut into lines.
 use Rattle.std.specs.Prelude.{◌≡◌, ◌≢◌, ◌⊎◌, ℕ, List, [], ◌∷◌, ◌++◌}
-use Rattle.std.specs.List.{AllByRecursion}
+use Rattle.std.specs.List.{AllByRecursion, flat_map}
 
 -- a line has no newline in it
 abbrev pub IsLine : List ℕ → Type 0
@@ -8,13 +8,11 @@ IsLine line = AllByRecursion (λ byte. byte ≢ 10) line
 
 -- the bytes of whole lines, a newline behind each
 abbrev pub joined_lines : List (List ℕ) → List ℕ
-joined_lines [] = []
-joined_lines (line ∷ lines) = (line ++ 10 ∷ []) ++ joined_lines lines
+joined_lines lines = flat_map (λ line. line ++ 10 ∷ []) lines
 
 -- the bytes begin with these whole lines, and more comes behind them
-pub record BeginsWithLines (bytes : List ℕ) (lines : List (List ℕ)) (more : List ℕ) : Type 0 where
-  pub whole : bytes ≡ joined_lines lines ++ more
-  pub each : AllByRecursion IsLine lines
+abbrev pub BeginsWithLines : List ℕ → List (List ℕ) → List ℕ → Type 0
+BeginsWithLines bytes lines more = (bytes ≡ joined_lines lines ++ more) × AllByRecursion IsLine lines
 
 -- what stands behind the last newline is a line where it is not empty
 abbrev pub last_line : List ℕ → List (List ℕ)

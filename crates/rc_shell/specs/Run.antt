@@ -2,6 +2,7 @@
 -- It is said of any machine: a start; a step from a state by a line to a text and the next state; the lines that end a run, each with
 -- a status and a last line; and what may be seen of the store where the machine is left in a state.
 use Rattle.std.specs.Prelude.{◌≡◌, ◌⊎◌, ℕ, ◌<◌, ◌≤◌, List, [], ◌∷◌, ◌++◌, length, Option, codes}
+use Rattle.std.specs.List.{concat}
 use Rattle.std.specs.Io.KnownBytes.{Appends, Consumes, IsAtEnd}
 use Rattle.rc_outside.specs.Faults.{Rose}
 use Rattle.rc_shell.specs.Lines.{IsLine, BeginsWithLines, last_line, IsNextLine}
@@ -9,23 +10,6 @@ use Rattle.rc_shell.specs.declared.words.Words.{Words}
 use Rattle.rc_shell.specs.declared.words.Words.TheVariants.{Run, Refused}
 use Rattle.rc_shell.specs.declared.status.Status.{Status}
 use Rattle.rc_shell.specs.declared.status.Status.TheVariants.{Done, BadWords, BadTable, NoMemory, InputFault, OutputFault, StoreFault, InputLimit}
-
--- the pieces one behind another
-abbrev pub concat : List (List ℕ) → List ℕ
-concat [] = []
-concat (piece ∷ pieces) = piece ++ concat pieces
-
--- the last line where the words are refused
-abbrev pub bad_words : List ℕ
-bad_words = codes "! bad words\n"
-
--- the last line where the input failed
-abbrev pub input_fault : List ℕ
-input_fault = codes "! input fault\n"
-
--- the last line where the limit of the input was met
-abbrev pub input_limit : List ℕ
-input_limit = codes "! input limit\n"
 
 -- Why it ended so. The input's count of faults rose where that is the status, and at most where memory or the output failed besides;
 -- the output's rose where that is the status, and nowhere else.
@@ -47,27 +31,18 @@ IsNear more = (line rest : List ℕ) → more ≡ line ++ 10 ∷ rest → length
 -- What is written of pieces that were due with a status.
 module _ (Due : Status → List (List ℕ) → Type 0) where
   -- all of them
-  pub record IsWhole (status : Status) (text : List ℕ) : Type 0 where
-    pub pieces : List (List ℕ)
-    pub due : Due status pieces
-    pub whole : text ≡ concat pieces
+  abbrev pub IsWhole : Status → List ℕ → Type 0
+  IsWhole status text = (pieces : List (List ℕ)) × Due status pieces × (text ≡ concat pieces)
 
-  -- those that were due with whatever status, the last one in part
-  pub record IsCutOff (text : List ℕ) : Type 0 where
-    pub status : Status
-    pub before : List (List ℕ)
-    pub last : List ℕ
-    pub written : List ℕ
-    pub unwritten : List ℕ
-    pub due : Due status (before ++ last ∷ [])
-    pub part : last ≡ written ++ unwritten
-    pub whole : text ≡ concat before ++ written
+  -- those that were due with whatever status, and of the last one only what was written of it
+  abbrev pub IsCutOff : List ℕ → List ℕ → Type 0
+  IsCutOff written text = (status : Status) × (before : List (List ℕ)) × (unwritten : List ℕ) × Due status (before ++ (written ++ unwritten) ∷ []) × (text ≡ concat before ++ written)
 
   -- what is written where this is the status: all of them; in part where the output failed; and where memory ran out, one more may have
   -- been due of which nothing is written
   abbrev pub IsWritten : Status → List ℕ → Type 0
-  IsWritten OutputFault text = IsCutOff text
-  IsWritten NoMemory text = IsWhole NoMemory text ⊎ ((c : IsCutOff text) × (c.written ≡ []))
+  IsWritten OutputFault text = (written : List ℕ) × IsCutOff written text
+  IsWritten NoMemory text = IsWhole NoMemory text ⊎ IsCutOff [] text
   IsWritten status text = IsWhole status text
 
 module _ {State : Type 0} (Step : State → List ℕ → List ℕ → State → Type 0) where
@@ -75,27 +50,17 @@ module _ {State : Type 0} (Step : State → List ℕ → List ℕ → State → 
   abbrev pub Answers : State → List (List ℕ) → List (List ℕ) → State → Type 0
   Answers old [] [] new = new ≡ old
   Answers old (line ∷ lines) (text ∷ texts) new = (mid : State) × Step old line text mid × Answers mid lines texts new
-  Answers old [] (text ∷ texts) new = ⊥
-  Answers old (line ∷ lines) [] new = ⊥
+  Answers old lines texts new = ⊥
 
   -- the bytes begin with whole lines that may be answered by these texts, and more comes behind them; the machine is then new
-  pub record Served (old : State) (bytes : List ℕ) (texts : List (List ℕ)) (more : List ℕ) (new : State) : Type 0 where
-    pub lines : List (List ℕ)
-    pub cut : BeginsWithLines bytes lines more
-    pub answered : Answers old lines texts new
+  abbrev pub Served : State → List ℕ → List (List ℕ) → List ℕ → State → Type 0
+  Served old bytes texts more new = (lines : List (List ℕ)) × BeginsWithLines bytes lines more × Answers old lines texts new
 
 module _ {State Seen : Type 0} (Step : State → List ℕ → List ℕ → State → Type 0) (Ends : State → List ℕ → Status → List ℕ → Seen → Type 0) (Leaves : State → Seen → Type 0) where
-  -- behind whole lines that are answered, a line ends the run: the pieces are the texts and its last line
-  pub record IsEnded (AreLast : Type 0) (start : State) (bytes : List ℕ) (after : Seen) (status : Status) (pieces : List (List ℕ)) : Type 0 where
-    pub texts : List (List ℕ)
-    pub more : List ℕ
-    pub end : State
-    pub line : List ℕ
-    pub last : List ℕ
-    pub served : Served Step start bytes texts more end
-    pub next : IsNextLine AreLast more line
-    pub ends : Ends end line status last after
-    pub are : pieces ≡ texts ++ last ∷ []
+  -- behind whole lines that are answered, and before more bytes, a line ends the run: the pieces are the texts and its last line
+  abbrev pub IsEnded : Type 0 → State → List ℕ → Seen → Status → List (List ℕ) → List ℕ → Type 0
+  IsEnded AreLast start bytes after status pieces more =
+      (texts : List (List ℕ)) × (end : State) × (line : List ℕ) × (last : List ℕ) × Served Step start bytes texts more end × IsNextLine AreLast more line × Ends end line status last after × (pieces ≡ texts ++ last ∷ [])
 
   -- the input was read to its end, below the limit
   abbrev pub WasRead : ℕ → Option (List ℕ) → List ℕ → Type 0
@@ -109,17 +74,17 @@ module _ {State Seen : Type 0} (Step : State → List ℕ → List ℕ → State
       (lines : List (List ℕ)) × (rest : List ℕ) × (end : State) × BeginsWithLines taken lines rest × IsLine rest × WasRead limit left taken × Answers Step start (lines ++ last_line rest) pieces end × Leaves end after
   -- the text for each whole line, then a last line on the fault
   Due (Run segments) start limit left taken after InputFault pieces =
-      (texts : List (List ℕ)) × (rest : List ℕ) × (end : State) × Served Step start taken texts rest end × IsLine rest × (length taken < limit) × Leaves end after × (pieces ≡ texts ++ input_fault ∷ [])
+      (texts : List (List ℕ)) × (rest : List ℕ) × (end : State) × Served Step start taken texts rest end × IsLine rest × (length taken < limit) × Leaves end after × (pieces ≡ texts ++ codes "! input fault\n" ∷ [])
   -- the text for each whole line, then a last line on the limit
   Due (Run segments) start limit left taken after InputLimit pieces =
-      (texts : List (List ℕ)) × (rest : List ℕ) × (end : State) × Served Step start taken texts rest end × IsLine rest × (length taken ≡ limit) × Leaves end after × (pieces ≡ texts ++ input_limit ∷ [])
+      (texts : List (List ℕ)) × (rest : List ℕ) × (end : State) × Served Step start taken texts rest end × IsLine rest × (length taken ≡ limit) × Leaves end after × (pieces ≡ texts ++ codes "! input limit\n" ∷ [])
   -- the text for each of some first lines
   Due (Run segments) start limit left taken after NoMemory pieces = (more : List ℕ) × (end : State) × Served Step start taken pieces more end × (length taken ≤ limit) × IsNear more × Leaves end after
   -- the text for each of some first lines, then the last line for the next one, which ends the run
-  Due (Run segments) start limit left taken after BadTable pieces = (e : IsEnded (WasRead limit left taken) start taken after BadTable pieces) × (length taken ≤ limit) × IsNear e.more
-  Due (Run segments) start limit left taken after StoreFault pieces = (e : IsEnded (WasRead limit left taken) start taken after StoreFault pieces) × (length taken ≤ limit) × IsNear e.more
+  Due (Run segments) start limit left taken after BadTable pieces = (more : List ℕ) × IsEnded (WasRead limit left taken) start taken after BadTable pieces more × (length taken ≤ limit) × IsNear more
+  Due (Run segments) start limit left taken after StoreFault pieces = (more : List ℕ) × IsEnded (WasRead limit left taken) start taken after StoreFault pieces more × (length taken ≤ limit) × IsNear more
   -- nothing is taken where the words are refused
-  Due Refused start limit left taken after BadWords pieces = (taken ≡ []) × Leaves start after × (pieces ≡ bad_words ∷ [])
+  Due Refused start limit left taken after BadWords pieces = (taken ≡ []) × Leaves start after × (pieces ≡ codes "! bad words\n" ∷ [])
   -- nothing else is due
   Due words start limit left taken after status pieces = ⊥
 

@@ -2,11 +2,11 @@
 --     Moment              what holds between two lines
 --     LineStep            what a line is answered, and the next moment
 --     EndsRun                the lines that end the run
-use Rattle.std.specs.Prelude.{◌≡◌, ℕ, ◌+◌, ◌*◌, ◌≤◌, ◌||◌, Bool, List, [], ◌++◌, length, Option, Some, None, Result, Ok, Err, IfSome, IsTrue, ⊤, codes, decimal, if◌then◌else◌}
+use Rattle.std.specs.Prelude.{◌≡◌, ℕ, ◌+◌, ◌*◌, ◌≤◌, ◌||◌, Bool, List, [], ◌++◌, length, Option, Some, None, Result, Ok, Err, IfSome, IsTrue, codes, decimal, if◌then◌else◌}
+use Rattle.std.specs.Option.{option_map_or}
 use Rattle.std.specs.FinMap as map
 use Rattle.rc_outside.specs.Faults.{Rose}
 use Rattle.rc_outside.specs.Files.{Files}
-use Rattle.rc_schema.specs.SchemaValue.{SchemaValue}
 use Rattle.rc_tfile.specs.declared.info.TableInfo.{TableInfo}
 use Rattle.rc_lines.specs.declared.commands.Command.{Command}
 use Rattle.rc_lines.specs.declared.commands.Command.TheVariants.{Nothing, SetSchema}
@@ -59,8 +59,7 @@ files_of (Serving m) = m.files
 -- At most so many ranges were asked for since a moment at this stage: as many as one more line may ask for, which was not answered. Before a
 -- schema line was taken these are the check of each file, where they are told, and then two for each table.
 abbrev pub MayHaveAsked : Stage → ℕ → ℕ → Type 0
-MayHaveAsked (Waiting None) before now = ⊤
-MayHaveAsked (Waiting (Some files)) before now = now ≤ before + checks_of (map.values files)
+MayHaveAsked (Waiting files) before now = IfSome files (λ told. now ≤ before + checks_of (map.values told))
 MayHaveAsked (Serving m) before now = now ≤ before + 2 * length m.infos
 
 -- at this moment the store has the stage's files; its count of faults may rise still, and so may what is asked for, by one more line's
@@ -72,89 +71,52 @@ abbrev pub served : Result Command Refusal → Result Command Refusal
 served (Ok command) = if is_built command then Ok command else Err BadLine
 served (Err refusal) = Err refusal
 
--- the schema that was taken
-abbrev pub taken_schema : Stage → Option SchemaValue
-taken_schema (Waiting files) = None
-taken_schema (Serving m) = Some m.schema
-
--- what a line means at a stage
+-- what a line means at a stage: under the schema that was taken, if one was
 abbrev pub meaning_at : Stage → List ℕ → Result Command Refusal
-meaning_at stage line = served (parse (taken_schema stage) line)
+meaning_at (Waiting files) line = served (parse None line)
+meaning_at (Serving m) line = served (parse (Some m.schema) line)
 
--- what a line does before a schema line was taken, by its meaning: a schema line opens the machine over the folder's tables
-abbrev pub EarlyStep : ℕ → Option Files → Result Command Refusal → List ℕ → Stage → Type 0
-EarlyStep segments files (Ok Nothing) text new = (text ≡ []) × (new ≡ Waiting files)
-EarlyStep segments files (Ok (SetSchema schema)) text new =
-    (tables : List Table) × (infos : List TableInfo) × AreTables files schema tables × AreListed files schema tables infos × (text ≡ reply_text schema Fine) × (new ≡ Serving (opened_state segments files schema tables infos))
-EarlyStep segments files (Ok command) text new = ⊥
-EarlyStep segments files (Err refusal) text new = (text ≡ refusal_text refusal) × (new ≡ Waiting files)
-
--- what a line does then: a command takes a step of the machine, and a refused line changes nothing
-abbrev pub MachineStep : State → Result Command Refusal → List ℕ → Stage → Type 0
-MachineStep m (Ok command) text new = (reply : Reply) × (next : State) × Steps m command reply next × (text ≡ reply_text m.schema reply) × (new ≡ Serving next)
-MachineStep m (Err refusal) text new = (text ≡ refusal_text refusal) × (new ≡ Serving m)
-
--- what a line does at a stage, by its meaning
+-- What a line does at a stage, by its meaning. Before a schema line was taken a schema line opens the machine over the folder's tables; then a
+-- command takes a step of the machine. A refused line changes nothing.
 abbrev pub StageStep : ℕ → Stage → Result Command Refusal → List ℕ → Stage → Type 0
-StageStep segments (Waiting files) meaning text new = EarlyStep segments files meaning text new
-StageStep segments (Serving m) meaning text new = MachineStep m meaning text new
+StageStep segments (Waiting files) (Ok Nothing) text new = (text ≡ []) × (new ≡ Waiting files)
+StageStep segments (Waiting files) (Ok (SetSchema schema)) text new =
+    (tables : List Table) × (infos : List TableInfo) × AreTables files schema tables × AreListed files schema tables infos × (text ≡ reply_text schema Fine) × (new ≡ Serving (opened_state segments files schema tables infos))
+StageStep segments (Waiting files) (Ok command) text new = ⊥
+StageStep segments (Serving m) (Ok command) text new = (reply : Reply) × (next : State) × Steps m command reply next × (text ≡ reply_text m.schema reply) × (new ≡ Serving next)
+StageStep segments stage (Err refusal) text new = (text ≡ refusal_text refusal) × (new ≡ stage)
 
 -- At most so many ranges may be asked for by a line, by its meaning: before a schema line was taken by the check of each file, where they
 -- are told, and by as many as it takes where they are not; then by what its command may ask for.
 abbrev pub MayAsk : Stage → Result Command Refusal → ℕ → Type 0
-MayAsk (Waiting (Some files)) (Ok (SetSchema schema)) bound = bound ≡ checks_of (map.values files)
-MayAsk (Waiting None) (Ok (SetSchema schema)) bound = ⊤
+MayAsk (Waiting files) (Ok (SetSchema schema)) bound = IfSome files (λ told. bound ≡ checks_of (map.values told))
 MayAsk (Serving m) (Ok command) bound = bound ≡ most_asks m.infos command
 MayAsk stage meaning bound = bound ≡ 0
-
--- the ranges that were asked for over a line: at most as many as it may ask for, which are added to the bound so far
-abbrev pub Asks : Moment → Result Command Refusal → Moment → Type 0
-Asks old meaning new = (bound : ℕ) × MayAsk old.stage meaning bound × (new.bound ≡ old.bound + bound) × (new.asks ≤ old.asks + bound)
 
 -- whether a reply's text tells a fault of the store
 abbrev pub tells_fault : List ℕ → Bool
 tells_fault text = is_word text (refusal_text ReadFault) || is_word text (refusal_text WriteFault)
 
--- the store's count of faults over a line that is answered by the text: it does not fall, and rose where the text tells a fault
-abbrev pub CountsFaults : List ℕ → ℕ → ℕ → Type 0
-CountsFaults text before now = (before ≤ now) × (IsTrue (tells_fault text) → Rose before now)
-
--- from old the line may be answered by the text, and new is next
+-- From old the line may be answered by the text, and new is next. The store's count of faults does not fall, and rose where the text tells a fault;
+-- at most as many ranges were asked for as the line may ask for, which are added to the bound so far.
 pub record LineStep (old : Moment) (line text : List ℕ) (new : Moment) : Type 0 where
   pub stage : StageStep old.segments old.stage (meaning_at old.stage line) text new.stage
-  pub counts : CountsFaults text old.faults new.faults
-  pub asks : Asks old (meaning_at old.stage line) new
+  pub counts : (old.faults ≤ new.faults) × (IsTrue (tells_fault text) → Rose old.faults new.faults)
+  pub asks : (bound : ℕ) × MayAsk old.stage (meaning_at old.stage line) bound × (new.bound ≡ old.bound + bound) × (new.asks ≤ old.asks + bound)
   pub segments : new.segments ≡ old.segments
   pub figures : new.figures ≡ old.figures
 
--- the last line where a table is damaged at an offset
-unfoldable pub damaged_table : ℕ → ℕ → List ℕ
-damaged_table n offset = codes "! table " ++ decimal n ++ codes " damaged at " ++ decimal offset ++ codes "\n"
+-- the last line where a table is bad: it is damaged at an offset, or has another schema
+unfoldable pub bad_table : ℕ → Option ℕ → List ℕ
+bad_table n damage = codes "! table " ++ decimal n ++ option_map_or (λ offset. codes " damaged at " ++ decimal offset) damage (codes " other schema") ++ codes "\n"
 
--- the last line where a table has another schema
-unfoldable pub other_table : ℕ → List ℕ
-other_table n = codes "! table " ++ decimal n ++ codes " other schema\n"
-
--- the last line where a table is bad
-abbrev pub bad_table : ℕ → Option ℕ → List ℕ
-bad_table n (Some offset) = damaged_table n offset
-bad_table n None = other_table n
-
--- the last line where the store failed while its tables were checked
-abbrev pub store_fault : List ℕ
-store_fault = codes "! store fault\n"
-
--- the machine is not opened over the folder: for its first bad table, where the files are told; or for a fault of the store
-abbrev pub IsNotOpened : Option Files → SchemaValue → Status → List ℕ → ℕ → ℕ → Type 0
-IsNotOpened files schema BadTable last before now = (n : ℕ) × (damage : Option ℕ) × IfSome files (λ f. IsFirstBad f schema n damage) × (last ≡ bad_table n damage)
-IsNotOpened files schema StoreFault last before now = (last ≡ store_fault) × Rose before now
-IsNotOpened files schema status last before now = ⊥
-
--- the line, with this stage and count of faults before it, ends the run with a status and a last line: it is the first schema line
-abbrev pub EndsRunAt : Stage → List ℕ → Status → List ℕ → ℕ → ℕ → Type 0
-EndsRunAt (Waiting files) line status last before now = (schema : SchemaValue) × (parse None line ≡ Ok (SetSchema schema)) × IsNotOpened files schema status last before now
-EndsRunAt (Serving m) line status last before now = ⊥
+-- A line ends the run with a status and a last line, by its stage and meaning and the counts of faults: the first schema line, where the machine is not
+-- opened over the folder, for its first bad table, where the files are told; or for a fault of the store.
+abbrev pub EndsRunAt : Stage → Result Command Refusal → Status → List ℕ → ℕ → ℕ → Type 0
+EndsRunAt (Waiting files) (Ok (SetSchema schema)) BadTable last before now = (n : ℕ) × (damage : Option ℕ) × IfSome files (λ told. IsFirstBad told schema n damage) × (last ≡ bad_table n damage)
+EndsRunAt (Waiting files) (Ok (SetSchema schema)) StoreFault last before now = (last ≡ codes "! store fault\n") × Rose before now
+EndsRunAt stage meaning status last before now = ⊥
 
 -- at this moment the line ends the run with a status and a last line, and leaves the store so
 abbrev pub EndsRun : Moment → List ℕ → Status → List ℕ → StoreView → Type 0
-EndsRun old line status last store = LeavesStore old store × EndsRunAt old.stage line status last old.faults store.1
+EndsRun old line status last store = LeavesStore old store × EndsRunAt old.stage (meaning_at old.stage line) status last old.faults store.1

@@ -4,15 +4,10 @@ use Rattle.rc_spelling.specs.Words.{is_word}
 use Rattle.rc_shell.specs.declared.words.Words.{Words}
 use Rattle.rc_shell.specs.declared.words.Words.TheVariants.{Run, Refused}
 
--- the budget where the words name none: 32 segments
-abbrev pub usual_segments : ℕ
-usual_segments = 32
-
--- the word `run` alone is a run; all other words are refused
+-- the word `run` alone is a run, with a budget of 32 segments; all other words are refused
 abbrev pub words_of : List (List ℕ) → Words
-words_of [] = Refused
-words_of (word ∷ []) = if is_word word (codes "run") then Run usual_segments else Refused
-words_of (word ∷ other ∷ words) = Refused
+words_of (word ∷ []) = if is_word word (codes "run") then Run 32 else Refused
+words_of words = Refused
 
 -- the budget of a run, in segments
 abbrev pub segments_of : Words → ℕ

@@ -8,7 +8,7 @@ ghost use Rattle.rc_machine.specs.State.{State};
 ghost use Rattle.rc_machine.specs.Built.{is_built};
 ghost use Rattle.rc_plain.specs.Stands.{Stands};
 ghost use Rattle.rc_shell.specs.calls.Feed.{Answered};
-ghost use Rattle.rc_shell.specs.Step.{Moment, LineStep, EndsRun, LeavesStore, damaged_table, other_table, served};
+ghost use Rattle.rc_shell.specs.Step.{Moment, LineStep, EndsRun, LeavesStore, bad_table, served};
 ghost use Rattle.rc_shell.specs.Late.{KeepsMoment, schema_set};
 
 use crate::server::Server;
@@ -165,9 +165,9 @@ fn print_number(number: u64, text: &mut Vec<u8>) -> Result<(), AllocError>
 }
 
 /// Appends the last line of a run that met a damaged table.
-#[tactic(auto, unfolding(crate::specs::Step::damaged_table))]
+#[tactic(auto, unfolding(crate::specs::Step::bad_table))]
 fn print_damaged(table: u32, offset: u64, text: &mut Vec<u8>) -> Result<(), AllocError>
-    ensures { OnOk result (text.new.items ≡ text.old.items ++ damaged_table table offset) }
+    ensures { OnOk result (text.new.items ≡ text.old.items ++ bad_table table (Some offset)) }
 {
     text.extend_from_slice(b"! table ")?;
     print_number(u64::from(table), text)?;
@@ -177,9 +177,9 @@ fn print_damaged(table: u32, offset: u64, text: &mut Vec<u8>) -> Result<(), Allo
 }
 
 /// Appends the last line of a run that met a table of another schema.
-#[tactic(auto, unfolding(crate::specs::Step::other_table))]
+#[tactic(auto, unfolding(crate::specs::Step::bad_table))]
 fn print_other_schema(table: u32, text: &mut Vec<u8>) -> Result<(), AllocError>
-    ensures { OnOk result (text.new.items ≡ text.old.items ++ other_table table) }
+    ensures { OnOk result (text.new.items ≡ text.old.items ++ bad_table table None) }
 {
     text.extend_from_slice(b"! table ")?;
     print_number(u64::from(table), text)?;

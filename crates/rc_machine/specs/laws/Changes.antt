@@ -10,7 +10,7 @@ use Rattle.rc_lines.specs.declared.commands.Refusal.{Refusal}
 use Rattle.rc_lines.specs.declared.commands.Refusal.TheVariants.{TooManyReaders, ReaderInUse, NoReader, NothingToFlush, NoNumber, NoFlush, FlushInProgress}
 use Rattle.rc_lines.specs.declared.commands.Reply.{Reply}
 use Rattle.rc_lines.specs.declared.commands.Reply.TheVariants as replies
-use Rattle.rc_machine.specs.State.{State, Reader, reader_of}
+use Rattle.rc_machine.specs.State.{State, Reader, numbers, reader_of}
 use Rattle.rc_machine.specs.Steps.{Steps, Opens, Gives, Stores, Flushes, Refuses, IsFlushed, with_table, without_sealed, sealing, next_number, last_number, most_readers}
 use Rattle.rc_machine.specs.Flushed.{accepted_by}
 
@@ -36,7 +36,7 @@ module _ (m : State) (command : Command) (reply : Reply) (new : State) (none : a
   opens : (id : ℕ) (key : List ℕ) (slice : Slice) → Opens m id key slice reply new → Change m command reply new
   opens id key slice (inl s) = Reads _ s.2.1 none
   opens id key slice (inr (inl s)) = same s.1
-  opens id key slice (inr (inr s)) = same s.3.1
+  opens id key slice (inr (inr s)) = same s.4.1
 
   tries : (id : ℕ) (key : List ℕ) (slice : Slice) (r : Option Reader) (b : Bool)
       → MatchOption r (MatchBool b (Opens m id key slice reply new) (Refuses m TooManyReaders reply new)) (λ _. Refuses m ReaderInUse reply new) → Change m command reply new
@@ -47,7 +47,7 @@ module _ (m : State) (command : Command) (reply : Reply) (new : State) (none : a
   gives : (id count : ℕ) (r : Reader) → Gives m id count r reply new → Change m command reply new
   gives id count r (inl s) = Reads _ s.1 none
   gives id count r (inr (inl s)) = same s.1
-  gives id count r (inr (inr s)) = same s.3.1
+  gives id count r (inr (inr s)) = same s.4.1
 
   reads : (id count : ℕ) (r : Option Reader) → MatchOption r (Refuses m NoReader reply new) (λ r. Gives m id count r reply new) → Change m command reply new
   reads id count None s = same s.1
@@ -86,8 +86,8 @@ change_of m (Put w) reply new (inr s) = same m (Put w) reply new (ap (λ r. acce
 change_of m (OpenRead id key slice) reply new s = tries m (OpenRead id key slice) reply new refl id key slice (reader_of id m) (nat_lt (length m.readers) most_readers) s
 change_of m (Read id count) reply new s = reads m (Read id count) reply new refl id count (reader_of id m) s
 change_of m (Close id) reply new s = closes m (Close id) reply new refl (filter (λ reader. not (reader.0 == id)) m.readers) (reader_of id m) s
-change_of m Flush reply new s = flushes m Flush reply new refl without_sealed (λ parts is idle e. Stored parts is idle e refl) m.written (m.stored == length m.log) (nat_lt last_number (next_number m.tables)) refl s
-change_of m FlushBegin reply new s = flushes m FlushBegin reply new refl (λ next. next) (λ parts is idle e. Begins parts is idle e refl) m.written (m.stored == length m.log) (nat_lt last_number (next_number m.tables)) refl s
+change_of m Flush reply new s = flushes m Flush reply new refl without_sealed (λ parts is idle e. Stored parts is idle e refl) m.written (m.stored == length m.log) (nat_lt last_number (next_number (numbers m.tables))) refl s
+change_of m FlushBegin reply new s = flushes m FlushBegin reply new refl (λ next. next) (λ parts is idle e. Begins parts is idle e refl) m.written (m.stored == length m.log) (nat_lt last_number (next_number (numbers m.tables))) refl s
 change_of m (FlushStep count) reply new s = steps m (FlushStep count) reply new refl m.written (nat_lt count m.left) (m.left - count) refl s
 change_of m (Evict count) reply new s = same m (Evict count) reply new refl s.1
 change_of m (Compact count) reply new s = same m (Compact count) reply new refl s.1

@@ -1,6 +1,6 @@
 -- The files of a folder, of which the next one has one more than the last of their numbers: it stands behind all of them, and they stay.
 use Rattle.std.proofs.Common.{◌≡◌, ◌==◌, nat_lt, ◌⊎◌, inl, inr, ℕ, ◌+◌, ◌<◌, Bool, true, false, cond, ◌&&◌, T, List, [], ◌∷◌, ◌++◌, length, map, get_or, Option, Some, None, refl, sym, ap, subst, ◌∙◌, append_assoc, append-nil, arith}
-use Rattle.std.specs.Prelude.{All}
+use Rattle.std.specs.Prelude.{All, fold}
 use Rattle.std.specs.declared.cmp.Ordering.{Ordering}
 use Rattle.std.specs.declared.cmp.Ordering.TheVariants.{Less, Equal, Greater}
 use Rattle.std.specs.Ordering.{nat_cmp, is_lt, is_eq, eq_by_cmp}
@@ -20,7 +20,7 @@ use Rattle.rc_tfile.specs.Before.{text}
 use Rattle.rc_tfile.specs.TableText.{whole_table}
 use Rattle.rc_machine.specs.State.{Table, numbers}
 use Rattle.rc_machine.specs.Tables.{AreTables}
-use Rattle.rc_machine.specs.Steps.{number_after, next_number}
+use Rattle.rc_machine.specs.Steps.{next_number}
 use Rattle.rc_machine.specs.Flushed.{Flush, IsFlushOf, AreNext, tables_of, writes_of, files_with}
 
 pub first_T : (a b : Bool) → T (a && b) → T a
@@ -51,6 +51,10 @@ apart n k h = ap is_eq (greater n k h)
 pub apart_under : (k n : ℕ) → k < n → eq_by_cmp nat_cmp k n ≡ false
 apart_under k n h = (let less : nat_lt k n ≡ true = grind (arith, nat_tests, h) in ap (λ b. is_eq (cond b Less (cond (k == n) Equal Greater))) less)
 
+-- one more than the last of numbers, or than n where there are none
+abbrev pub number_after : ℕ → List ℕ → ℕ
+number_after n ns = fold (λ last n. n) n ns + 1
+
 module _ {X : Type 0} where
   abbrev keys_of : List (ℕ × X) → List ℕ
   keys_of es = map (λ (e : ℕ × X). e.0) es
@@ -78,19 +82,19 @@ module _ {X : Type 0} where
   put_ahead n v [] h = refl
   put_ahead n v (e ∷ es) h = ap (λ r. by_order r ((n, v) ∷ e ∷ es) ((e.0, v) ∷ es) (e ∷ put nat_cmp n v es)) (greater n e.0 h.0) ∙ ap (λ r. e ∷ r) (put_ahead n v es h.1)
 
-below_next : (files : Files) (n : ℕ) → n ≡ number_after 0 (finite.keys files) → AllByRecursion (λ (e : ℕ × List ℕ). e.0 < n) (finite.entries files)
+below_next : (files : Files) (n : ℕ) → n ≡ next_number (finite.keys files) → AllByRecursion (λ (e : ℕ × List ℕ). e.0 < n) (finite.entries files)
 below_next files n e = subst (λ j. AllByRecursion (λ (e : ℕ × List ℕ). e.0 < j) (finite.entries files)) (sym e) (all_below 0 (finite.entries files) (finite.entries_sorted files))
 
 -- the next number is no file's
-pub no_file_next : (files : Files) (n : ℕ) → n ≡ number_after 0 (finite.keys files) → finite.get files n ≡ None
+pub no_file_next : (files : Files) (n : ℕ) → n ≡ next_number (finite.keys files) → finite.get files n ≡ None
 no_file_next files n e = finite.get-entries files n ∙ find_ahead n (finite.entries files) (below_next files n e)
 
-pub is_no_file : (files : Option Files) (schema : SchemaValue) (tables : List Table) (n : ℕ) → AreTables files schema tables → n ≡ next_number tables → IsNoFile files n
+pub is_no_file : (files : Option Files) (schema : SchemaValue) (tables : List Table) (n : ℕ) → AreTables files schema tables → n ≡ next_number (numbers tables) → IsNoFile files n
 is_no_file None schema tables n are e = tt
-is_no_file (Some files) schema tables n are e = no_file_next files n (e ∙ ap (number_after 0) are.0)
+is_no_file (Some files) schema tables n are e = no_file_next files n (e ∙ ap next_number are.0)
 
 -- the file that is put there is the last
-pub keys_next : (files : Files) (n : ℕ) (bytes : List ℕ) → n ≡ number_after 0 (finite.keys files) → finite.keys (finite.insert files n bytes) ≡ finite.keys files ++ n ∷ []
+pub keys_next : (files : Files) (n : ℕ) (bytes : List ℕ) → n ≡ next_number (finite.keys files) → finite.keys (finite.insert files n bytes) ≡ finite.keys files ++ n ∷ []
 keys_next files n bytes e =
     ap (map (λ (e : ℕ × List ℕ). e.0)) (finite.entries-insert nat_cmp_total files n bytes ∙ put_ahead n bytes (finite.entries files) (below_next files n e))
     ∙ map-append (λ (e : ℕ × List ℕ). e.0) (finite.entries files) ((n, bytes) ∷ [])

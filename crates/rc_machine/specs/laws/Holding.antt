@@ -13,8 +13,8 @@ use Rattle.rc_tfile.specs.Before.{text}
 use Rattle.rc_tfile.specs.TableText.{whole_table, IsTable}
 use Rattle.rc_lines.specs.declared.commands.Command.{Command}
 use Rattle.rc_lines.specs.declared.commands.Reply.{Reply}
-use Rattle.rc_machine.specs.State.{State, Table, numbers}
-use Rattle.rc_machine.specs.Steps.{Steps, AfterSteps, IsFlushed, with_table, without_sealed, sealing, to_flush, number_after, next_number}
+use Rattle.rc_machine.specs.State.{State, Table, numbers, unstored}
+use Rattle.rc_machine.specs.Steps.{Steps, AfterSteps, IsFlushed, with_table, without_sealed, sealing, next_number}
 use Rattle.rc_machine.specs.Flushed.{Flush, IsFlushOf, HasFlushed, AreNext, tables_of, writes_of, files_with, in_tables, accepted, accepted_by}
 use Rattle.rc_machine.specs.laws.Changes.{Change, Reads, Writes, Seals, Begins, Stored, Goes, Ends, change_of}
 
@@ -48,9 +48,9 @@ if_true b x y e = ap (λ c. if c then x else y) e
 if_false : {X : Type 0} (b : Bool) (x y : X) → b ≡ false → (if b then x else y) ≡ y
 if_false b x y e = ap (λ c. if c then x else y) e
 
-next-append : (before ns : List ℕ) (n : ℕ) → AreNext before ns → n ≡ number_after 0 (before ++ ns) → AreNext before (ns ++ n ∷ [])
-next-append before [] n next e = (e ∙ ap (number_after 0) (append-nil before), tt)
-next-append before (k ∷ ks) n next e = (next.0, next-append (before ++ k ∷ []) ks n next.1 (e ∙ ap (number_after 0) (sym (append_assoc before (k ∷ []) ks))))
+next-append : (before ns : List ℕ) (n : ℕ) → AreNext before ns → n ≡ next_number (before ++ ns) → AreNext before (ns ++ n ∷ [])
+next-append before [] n next e = (e ∙ ap next_number (append-nil before), tt)
+next-append before (k ∷ ks) n next e = (next.0, next-append (before ++ k ∷ []) ks n next.1 (e ∙ ap next_number (sym (append_assoc before (k ∷ []) ks))))
 
 -- what is sealed then is among the accepted writes, behind what is sealed
 pub sealing_within : (m : State) → m.stored ≤ m.sealed → m.sealed ≤ length m.log → (m.stored ≤ sealing m) × (sealing m ≤ length m.log)
@@ -62,44 +62,48 @@ sealing_within m stored sealed = either (m.stored == m.sealed)
 
 -- a table is flushed
 module _ (first m : State) (flushes : List Flush) (h : HasFlushed first m flushes) (parts : List Partition) (is : IsFlushed m parts) (idle : m.written ≡ false) where
+  -- the writes that are sealed, or would be
+  abbrev to_flush : List Write
+  to_flush = take (sealing m - m.stored) (unstored m)
+
   flush : Flush
-  flush = ((next_number m.tables, parts), to_flush m)
+  flush = ((next_number (numbers m.tables), parts), to_flush)
 
   within : (m.stored ≤ sealing m) × (sealing m ≤ length m.log)
   within = sealing_within m h.stored h.sealed
 
   is_flush : IsFlushOf first.schema flush
   unfolding flush
-  is_flush = record { of_writes = is.of_writes; is_table = subst (λ z. IsTable (text (whole_table z parts)) z parts) h.schema is.is_table }
+  is_flush = record { of_writes = is.0; is_table = subst (λ z. IsTable (text (whole_table z parts)) z parts) h.schema is.1 }
 
   all : All (IsFlushOf first.schema) (flushes ++ flush ∷ [])
   all = All-append (IsFlushOf first.schema) flushes (flush ∷ []) h.each (All-cons (IsFlushOf first.schema) flush [] is_flush (λ k d l. absurd (omega arith)))
 
-  its_tables : m.tables ++ (next_number m.tables, parts) ∷ [] ≡ first.tables ++ tables_of (flushes ++ flush ∷ [])
+  its_tables : m.tables ++ (next_number (numbers m.tables), parts) ∷ [] ≡ first.tables ++ tables_of (flushes ++ flush ∷ [])
   unfolding flush
   its_tables =
-      ap (λ ts. ts ++ (next_number m.tables, parts) ∷ []) h.tables ∙ append_assoc first.tables (tables_of flushes) ((next_number m.tables, parts) ∷ [])
+      ap (λ ts. ts ++ (next_number (numbers m.tables), parts) ∷ []) h.tables ∙ append_assoc first.tables (tables_of flushes) ((next_number (numbers m.tables), parts) ∷ [])
       ∙ ap (λ ts. first.tables ++ ts) (sym (tables_of-append flushes (flush ∷ [])))
 
   its_numbers : AreNext (numbers first.tables) (numbers (tables_of (flushes ++ flush ∷ [])))
   unfolding flush
   its_numbers =
-      subst (AreNext (numbers first.tables)) (sym (map-append (λ (t : Table). t.0) (tables_of flushes) ((next_number m.tables, parts) ∷ [])) ∙ ap numbers (sym (tables_of-append flushes (flush ∷ []))))
-      (next-append (numbers first.tables) (numbers (tables_of flushes)) (next_number m.tables) h.numbered (ap (λ ts. number_after 0 (numbers ts)) h.tables ∙ ap (number_after 0) (map-append (λ (t : Table). t.0) first.tables (tables_of flushes))))
+      subst (AreNext (numbers first.tables)) (sym (map-append (λ (t : Table). t.0) (tables_of flushes) ((next_number (numbers m.tables), parts) ∷ [])) ∙ ap numbers (sym (tables_of-append flushes (flush ∷ []))))
+      (next-append (numbers first.tables) (numbers (tables_of flushes)) (next_number (numbers m.tables)) h.numbered (ap (λ ts. next_number (numbers ts)) h.tables ∙ ap next_number (map-append (λ (t : Table). t.0) first.tables (tables_of flushes))))
 
-  its_files : option_map (λ files. finite.insert files (next_number m.tables) (text (whole_table m.schema parts))) m.files ≡ option_map (λ files. files_with first.schema files (tables_of (flushes ++ flush ∷ []))) first.files
+  its_files : option_map (λ files. finite.insert files (next_number (numbers m.tables)) (text (whole_table m.schema parts))) m.files ≡ option_map (λ files. files_with first.schema files (tables_of (flushes ++ flush ∷ []))) first.files
   unfolding flush
   its_files =
-      ap (λ z. option_map (λ files. finite.insert files (next_number m.tables) (text (whole_table z parts))) m.files) h.schema
-      ∙ one_more first.schema first.files m.files (tables_of flushes) (next_number m.tables, parts) h.files
+      ap (λ z. option_map (λ files. finite.insert files (next_number (numbers m.tables)) (text (whole_table z parts))) m.files) h.schema
+      ∙ one_more first.schema first.files m.files (tables_of flushes) (next_number (numbers m.tables), parts) h.files
       ∙ ap (λ ts. option_map (λ files. files_with first.schema files ts) first.files) (sym (tables_of-append flushes (flush ∷ [])))
 
   its_writes : writes_of (flushes ++ flush ∷ []) ≡ take (sealing m) m.log
   unfolding flush
   its_writes =
       writes_of-append flushes (flush ∷ [])
-      ∙ ap (λ ws. writes_of flushes ++ ws) (append-nil (to_flush m))
-      ∙ ap (λ ws. ws ++ to_flush m) (h.writes ∙ ap (λ n. take n m.log) (if_false m.written m.sealed m.stored idle))
+      ∙ ap (λ ws. writes_of flushes ++ ws) (append-nil to_flush)
+      ∙ ap (λ ws. ws ++ to_flush) (h.writes ∙ ap (λ n. take n m.log) (if_false m.written m.sealed m.stored idle))
       ∙ front_and_next m.stored (sealing m) m.log within.0
 
   began : HasFlushed first (with_table m parts) (flushes ++ flush ∷ [])

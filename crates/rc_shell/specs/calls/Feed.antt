@@ -1,10 +1,11 @@
 -- What serving the bytes of a piece did, given what stood unfinished before it.
 use Rattle.std.specs.Prelude.{◌≡◌, ◌≢◌, ℕ, List, [], ◌∷◌, ◌++◌, length, take, Option, Some, None, Result, Ok, Err, ◌⊎◌, ◌+◌}
+use Rattle.std.specs.List.{concat}
 use Rattle.std.specs.Io.KnownBytes.{Appends, Consumes}
 use Rattle.std.specs.declared.alloc.AllocError.{AllocError}
 use Rattle.rc_outside.specs.Faults.{Rose}
 use Rattle.rc_shell.specs.Lines.{IsLine, last_line}
-use Rattle.rc_shell.specs.Run.{Answers, Served, IsWritten, IsEnded, Ran, concat}
+use Rattle.rc_shell.specs.Run.{Answers, Served, IsWritten, IsEnded, Ran}
 use Rattle.rc_shell.specs.Status.{status_at, status_of}
 use Rattle.rc_shell.specs.declared.status.Status.{Status}
 use Rattle.rc_shell.specs.declared.status.Status.TheVariants as statuses
@@ -71,8 +72,8 @@ module _ {State Seen : Type 0} (Step : State → List ℕ → List ℕ → State
   -- What is due for bytes in the middle of the input: the texts for some first lines; or these, and a last line for the next one.
   abbrev pub DueOfBytes : State → List ℕ → Seen → Status → List (List ℕ) → Type 0
   DueOfBytes old bytes after statuses.NoMemory pieces = (more : List ℕ) × (end : State) × Served Step old bytes pieces more end × Leaves end after
-  DueOfBytes old bytes after statuses.BadTable pieces = IsEnded Step Ends Leaves ⊥ old bytes after statuses.BadTable pieces
-  DueOfBytes old bytes after statuses.StoreFault pieces = IsEnded Step Ends Leaves ⊥ old bytes after statuses.StoreFault pieces
+  DueOfBytes old bytes after statuses.BadTable pieces = (more : List ℕ) × IsEnded Step Ends Leaves ⊥ old bytes after statuses.BadTable pieces more
+  DueOfBytes old bytes after statuses.StoreFault pieces = (more : List ℕ) × IsEnded Step Ends Leaves ⊥ old bytes after statuses.StoreFault pieces more
   DueOfBytes old bytes after status pieces = ⊥
 
   -- What serving one line did: its reply was written whole, and the server stands for a next state; or it stopped.
