@@ -20,7 +20,7 @@ length_of v None = 0
 length_of v (Some r) = option_map_or (λ b. length b.1) (body v r) 0
 
 -- a dummy of 88 bytes was made, for which there was room, and it is gone again if it was to go
-pub record IsMade (goes : Bool) (old new : View) : Type 0 where
+pub record IsDummyMade (goes : Bool) (old new : View) : Type 0 where
   pub room : 88 ≤ spare_of 4096 old.usages
   pub count : objects new ≡ objects old + cond goes 0 1
   pub live : live_bytes new ≡ live_bytes old + cond goes 0 88
@@ -28,7 +28,7 @@ pub record IsMade (goes : Bool) (old new : View) : Type 0 where
 
 -- a dummy was made, or, where there was no room for it, the sparsest segment was emptied
 abbrev pub IsStep : Bool → View → View → Type 0
-IsStep goes old new = IsMade goes old new ⊎ ((spare_of 4096 old.usages < 88) × (n : ℕ) × IsCompacted 4096 old new n)
+IsStep goes old new = IsDummyMade goes old new ⊎ ((spare_of 4096 old.usages < 88) × (n : ℕ) × IsCompacted 4096 old new n)
 
 -- so many steps were done, one after the other; in each step of an even number, from 0, a dummy that is made goes again
 unfoldable pub StepsDone : ℕ → View → View → Type 0
