@@ -1,11 +1,9 @@
 -- There is room for an entry, or for a static row, as its sizes were compared.
-use Rattle.std.proofs.Common.{◌≡◌, ℕ, ◌+◌, ◌*◌, ◌/◌, ◌≤◌, [], ◌∷◌, List, length, Some, ap, sym, ◌∙◌, arith}
+use Rattle.std.proofs.Common.{◌≡◌, ℕ, ◌+◌, ◌≤◌, length, Some, ap, ◌∙◌, arith}
 use Rattle.rc_cell.specs.declared.rows.Row.{Row}
-use Rattle.rc_cell.specs.Winner.{joined_row}
 use Rattle.rc_position.specs.declared.positions.Pos.{Pos}
 use Rattle.rc_rowcode.specs.Objects.{entry_size, static_size}
 use Rattle.rc_rowcode.specs.Spelling.{pos_code, row_code}
-use Rattle.rc_core.specs.Change.{joined_onto}
 use Rattle.lsa_kinds.specs.Kinds.{up8}
 use Rattle.lsa_pool.specs.Room.{spare_of}
 use Rattle.lsa_region.specs.Region.{View}

@@ -1,11 +1,10 @@
-use Rattle.std.proofs.Common.{◌≡◌, ◌+◌, [], ◌∷◌, length, Some, inl, inr, refl, ap, sym, ◌∙◌, subst, arith}
+use Rattle.std.proofs.Common.{◌≡◌, ◌+◌, [], ◌∷◌, length, inr, refl, ap, sym, ◌∙◌, arith}
 use Rattle.rc_cell.specs.Winner.{joined_row}
 use Rattle.lsa_kinds.specs.Kinds.{up8}
-use Rattle.rc_rowcode.specs.Spelling.{pos_code, row_code}
+use Rattle.rc_rowcode.specs.Spelling.{row_code}
 use Rattle.rc_core.specs.Change.{joined_onto, with_row}
-use Rattle.rc_object.specs.Objects.{HoldsRow, entry_of}
 use Rattle.rc_object.specs.laws.Spelled.{coded_of}
-use Rattle.rc_object_tests.proofs.Rooms.{IsMeasured, entry_room, static_room}
+use Rattle.rc_object_tests.proofs.Rooms.{IsMeasured, entry_room}
 use Rattle.rc_object_tests.proofs.objects.row_joined.Goals as goal
 
 pub join_size-row-requires-clause-ours : goal.join_size-row-requires-clause-ours

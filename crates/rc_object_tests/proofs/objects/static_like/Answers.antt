@@ -1,8 +1,6 @@
-use Rattle.std.proofs.Common.{◌≡◌, ◌+◌, [], ◌∷◌, length, inl, ap, sym, ◌∙◌, arith}
+use Rattle.std.proofs.Common.{◌≡◌, ◌+◌, length, inl, ap, sym, ◌∙◌, arith}
 use Rattle.lsa_kinds.specs.Kinds.{up8}
-use Rattle.rc_cell.specs.Winner.{joined_row}
 use Rattle.rc_rowcode.specs.Spelling.{row_code}
-use Rattle.rc_object.specs.laws.Spelled.{coded_of}
 use Rattle.rc_object_tests.proofs.Rooms.{IsMeasured, static_room}
 use Rattle.rc_object_tests.proofs.objects.static_like.Goals as goal
 
