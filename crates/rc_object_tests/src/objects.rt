@@ -278,7 +278,37 @@ const JOINED: [u8; 25] = [
     1, 10, 0, 0, 0, 0, 0, 0, 0, 0, 1, 31, 1, 4, 0, 0, 0, 0, 0, 0, 0, 5, 0, 0, 0,
 ];
 
-// Entries are made one from the other.
+// What a row entry shows: its marks, and whether its row has this code.
+fn seen(region: &Region<4096>, e: Ref, code: &[u8]) -> (Shown, Shown, bool)
+    requires { IsRowEntry region.now e }
+{
+    let (at, gap) = shown_marks(region, e);
+    (at, gap, code_in(region, e) == code)
+}
+
+// What entries show that are made one from the other: at a key, with another row joined, with other marks, and with its own row joined once more.
+fn rows_made(
+    region: &mut Region<4096>,
+    key: &Key,
+    row: &[u8],
+    cell: &[u8],
+    sc: &mut Scratch,
+) -> Option<[(Shown, Shown, bool); 4]>
+    requires limits { KeyFits key.now }
+    requires row { IsCode code_of IsCodedRow row.now }
+    requires cell { IsCode code_of IsCodedRow cell.now }
+    requires size { sc.old.size ≡ 1000 }
+{
+    let e = row_made(region, key, row, sc)?;
+    let first = seen(region, e, &INSERTED);
+    let e = row_joined(region, e, cell, sc)?;
+    let second = seen(region, e, &JOINED);
+    let e = row_like(region, e, sc)?;
+    let third = seen(region, e, &JOINED);
+    let e = row_joined_again(region, e, sc)?;
+    Some([first, second, third, seen(region, e, &JOINED)])
+}
+
 #[test]
 fn rows(rt: HostRuntime) -> Result<(), Fail> {
     let mut region = Region::<4096>::open(rt.alloc(), 4)?;
@@ -287,26 +317,15 @@ fn rows(rt: HostRuntime) -> Result<(), Fail> {
     let (key, _) = read_key(rt.alloc(), &code)?.ok_or("the code of a key")?;
     let row = coded(rt.alloc(), &INSERTED)?.ok_or("the code of a row")?;
     let cell = coded(rt.alloc(), &DEAD)?.ok_or("the code of a row")?;
-    let e = row_made(&mut region, &key, row.bytes(), &mut sc).ok_or("room")?;
-    assert_eq!(&rt; shown_row(&region, e), ((0, None), (2, None)));
-    assert_eq!(rt; code_in(&region, e), INSERTED.as_slice());
-    let e = row_joined(&mut region, e, cell.bytes(), &mut sc).ok_or("room")?;
-    assert_eq!(&rt; shown_row(&region, e), ((0, None), (2, None)));
-    assert_eq!(rt; code_in(&region, e), JOINED.as_slice());
-    let e = row_like(&mut region, e, &mut sc).ok_or("room")?;
-    assert_eq!(&rt; shown_row(&region, e), ((1, None), (0, None)));
-    let e = row_joined_again(&mut region, e, &mut sc).ok_or("room")?;
-    assert_eq!(&rt; shown_row(&region, e), ((1, None), (0, None)));
-    assert_eq!(rt; code_in(&region, e), JOINED.as_slice());
+    let made = rows_made(&mut region, &key, row.bytes(), cell.bytes(), &mut sc).ok_or("room")?;
+    let known = (0, None);
+    let unknown = (1, None);
+    let inherit = (2, None);
+    let first = (known, inherit, true);
+    let other = (unknown, known, true);
+    assert_eq!(&rt; made, [first, first, other, other]);
     assert_eq!(rt; (region.objects(), region.live()), (4, 464));
     Ok(())
-}
-
-// The marks of a row entry.
-fn shown_row(region: &Region<4096>, e: Ref) -> (Shown, Shown)
-    requires { IsRowEntry region.now e }
-{
-    shown_marks(region, e)
 }
 
 // The code of its row.
@@ -376,17 +395,30 @@ fn static_code(region: &Region<4096>, s: Ref) -> &[u8]
     row_code(region, s)
 }
 
+// How long the codes are of a static row, one like it, and one with its own row joined once more.
+fn statics_made(
+    region: &mut Region<4096>,
+    code: &[u8],
+    sc: &mut Scratch,
+) -> Option<(usize, usize, usize)>
+    requires code { IsCode code_of IsCodedRow code.now }
+    requires size { sc.old.size ≡ 1000 }
+{
+    let s = static_made(region, code)?;
+    let first = static_code(region, s).len();
+    let s = static_like(region, s, sc)?;
+    let second = static_code(region, s).len();
+    let s = static_joined(region, s, sc)?;
+    Some((first, second, static_code(region, s).len()))
+}
+
 #[test]
 fn statics(rt: HostRuntime) -> Result<(), Fail> {
     let mut region = Region::<4096>::open(rt.alloc(), 4)?;
     let mut sc = Scratch::new(rt.alloc(), 1000)?;
     let cell = coded(rt.alloc(), &DEAD)?.ok_or("the code of a row")?;
-    let s = static_made(&mut region, cell.bytes()).ok_or("room")?;
-    assert_eq!(rt; static_code(&region, s), DEAD.as_slice());
-    let s = static_like(&mut region, s, &mut sc).ok_or("room")?;
-    assert_eq!(rt; static_code(&region, s), DEAD.as_slice());
-    let s = static_joined(&mut region, s, &mut sc).ok_or("room")?;
-    assert_eq!(rt; static_code(&region, s), DEAD.as_slice());
+    let made = statics_made(&mut region, cell.bytes(), &mut sc).ok_or("room")?;
+    assert_eq!(rt; made, (17, 17, 17));
     assert_eq!(rt; (region.objects(), region.live()), (3, 168));
     Ok(())
 }
