@@ -1,5 +1,5 @@
 -- The bytes of an entry that is made: its front, its position, its row.
-use Rattle.std.proofs.Common.{◌≡◌, ℕ, ◌+◌, ◌*◌, ◌≤◌, List, [], ◌∷◌, ◌++◌, length, drop, Option, Some, None, inl, inr, refl, ap, sym, ◌∙◌, subst, arith, length-append}
+use Rattle.std.proofs.Common.{◌≡◌, ℕ, ◌+◌, ◌*◌, ◌≤◌, List, [], ◌∷◌, ◌++◌, length, drop, Option, Some, None, refl, ap, sym, ◌∙◌, subst, arith, length-append}
 use Rattle.std.specs.Prelude.{IfSome, IsSomeAnd}
 use Rattle.std.proofs.Math.Seq.{drop-append_seam}
 use Rattle.std.proofs.lemmas.List.{drop-append-le, append-nil}
@@ -19,7 +19,7 @@ use Rattle.lsa_kinds.specs.Fields.{number_at}
 use Rattle.lsa_store.specs.Objects.{rounded_size}
 use Rattle.lsa_store.specs.declared.place.Ref.{Ref}
 use Rattle.lsa_region.specs.Region.{View, body}
-use Rattle.rc_object.specs.Objects.{SpellsMarks, SpellsEntry, entry_kind, row_part, entry_of, HoldsRow, HoldsStatic}
+use Rattle.rc_object.specs.Objects.{SpellsMarks, SpellsEntry, entry_kind, row_part, entry_of, HoldsStatic}
 use Rattle.rc_object.specs.calls.Making.{IsEntryBegun, IsEntryBuilt}
 use Rattle.rc_object.specs.laws.Spelled.{number_front, marks_front}
 
@@ -115,17 +115,6 @@ pub held : (o : Option (Kind × List ℕ)) (kind : Kind) (bytes : List ℕ) (e :
 held o kind bytes e here w = let P : Option (Kind × List ℕ) → Type 0 = λ p. IsSomeAnd p (λ b. SpellsEntry b e) in subst P (sym here) w
 
 -- ---- rows that have codes
-
-coded_as : (row : Option Row) (r : Row) → row ≡ Some r → IfSome row IsCodedRow → IsCodedRow r
-coded_as row r is h = subst (λ o. IfSome o IsCodedRow) is h
-
-coded_at : (o : Option (Kind × List ℕ)) (e : Entry) (row : Row) → IsSomeAnd o (λ b. SpellsEntry b e) → e.row ≡ Some row → IsCodedRow row
-coded_at None e row h is = absurd h
-coded_at (Some b) e row h is = coded_as e.row row is h.row
-
-pub coded_of : (v : View) (r : Ref) (row : Row) → HoldsRow v r row → IsCodedRow row
-coded_of v r row (inl h) = h.1
-coded_of v r row (inr h) = coded_at (body v r) h.0 row h.1 h.2
 
 coded_onto : ((r q : Row) → IsCodedRow r → IsCodedRow q → IsCodedRow (joined_row (r ∷ q ∷ []))) → (have : Option Row) (row : Row) → IfSome have IsCodedRow → IsCodedRow row → IsCodedRow (joined_onto have row)
 coded_onto law None row h k = k

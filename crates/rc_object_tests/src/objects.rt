@@ -1,9 +1,10 @@
 //! Heads, entries and static rows that are made, changed and read back: tests of `rc_object`.
-ghost use Rattle.std.specs.Prelude.{◌≡◌, IfOk, IfSome};
+ghost use Rattle.std.specs.Prelude.{◌≡◌, Some, IfOk, IfSome};
+ghost use Rattle.rc_cell.specs.declared.rows.Row.{Row as RowValue};
 ghost use Rattle.rc_rowcode.specs.Spelling.{KeyFits, row_code as code_of, IsCode, IsCodedRow};
 ghost use Rattle.rc_core.specs.declared.entries.Entry.{Entry};
-ghost use Rattle.rc_object.specs.Objects.{HoldsEntry};
-ghost use Rattle.rc_object_tests.specs.Rows.{IsRowEntry};
+ghost use Rattle.rc_object.specs.Objects.{HoldsEntry, HoldsStatic};
+ghost use Rattle.rc_object_tests.specs.Rows.{IsRowEntry, IsStatic};
 
 use lsa_kinds::round_up;
 use lsa_region::{Ref, Region};
@@ -196,7 +197,8 @@ fn row_made(region: &mut Region<4096>, key: &Key, code: &[u8], sc: &mut Scratch)
     if code.len() > 400 {
         return None;
     }
-    let size = round_up(81 + key_size(key) + code.len());
+    let position = 1 + key_size(key);
+    let size = round_up(80 + position + code.len());
     if size > 512 || size > region.spare() {
         return None;
     }
@@ -214,7 +216,7 @@ fn row_joined(region: &mut Region<4096>, e: Ref, code: &[u8], sc: &mut Scratch) 
     ensures size { sc.new.size ≡ sc.old.size }
 {
     let position = position_code(region, e).len();
-    let row = join_size(row_code(region, e), code);
+    let row = join_size(code_in(region, e), code);
     if position > 300 || row > 400 {
         return None;
     }
@@ -233,7 +235,7 @@ fn row_joined_again(region: &mut Region<4096>, e: Ref, sc: &mut Scratch) -> Opti
     ensures size { sc.new.size ≡ sc.old.size }
 {
     let position = position_code(region, e).len();
-    let row = join_size(row_code(region, e), row_code(region, e));
+    let row = join_size(code_in(region, e), code_in(region, e));
     if position > 300 || row > 400 {
         return None;
     }
@@ -252,7 +254,7 @@ fn row_like(region: &mut Region<4096>, e: Ref, sc: &mut Scratch) -> Option<Ref>
     ensures size { sc.new.size ≡ sc.old.size }
 {
     let position = position_code(region, e).len();
-    let row = row_code(region, e).len();
+    let row = code_in(region, e).len();
     if position > 300 || row > 400 {
         return None;
     }
@@ -276,7 +278,37 @@ const JOINED: [u8; 25] = [
     1, 10, 0, 0, 0, 0, 0, 0, 0, 0, 1, 31, 1, 4, 0, 0, 0, 0, 0, 0, 0, 5, 0, 0, 0,
 ];
 
-// Entries are made one from the other.
+// What a row entry shows: its marks, and whether its row has this code.
+fn seen(region: &Region<4096>, e: Ref, code: &[u8]) -> (Shown, Shown, bool)
+    requires { IsRowEntry region.now e }
+{
+    let (at, gap) = shown_marks(region, e);
+    (at, gap, code_in(region, e) == code)
+}
+
+// What entries show that are made one from the other: at a key, with another row joined, with other marks, and with its own row joined once more.
+fn rows_made(
+    region: &mut Region<4096>,
+    key: &Key,
+    row: &[u8],
+    cell: &[u8],
+    sc: &mut Scratch,
+) -> Option<[(Shown, Shown, bool); 4]>
+    requires limits { KeyFits key.now }
+    requires row { IsCode code_of IsCodedRow row.now }
+    requires cell { IsCode code_of IsCodedRow cell.now }
+    requires size { sc.old.size ≡ 1000 }
+{
+    let e = row_made(region, key, row, sc)?;
+    let first = seen(region, e, &INSERTED);
+    let e = row_joined(region, e, cell, sc)?;
+    let second = seen(region, e, &JOINED);
+    let e = row_like(region, e, sc)?;
+    let third = seen(region, e, &JOINED);
+    let e = row_joined_again(region, e, sc)?;
+    Some([first, second, third, seen(region, e, &JOINED)])
+}
+
 #[test]
 fn rows(rt: HostRuntime) -> Result<(), Fail> {
     let mut region = Region::<4096>::open(rt.alloc(), 4)?;
@@ -285,39 +317,29 @@ fn rows(rt: HostRuntime) -> Result<(), Fail> {
     let (key, _) = read_key(rt.alloc(), &code)?.ok_or("the code of a key")?;
     let row = coded(rt.alloc(), &INSERTED)?.ok_or("the code of a row")?;
     let cell = coded(rt.alloc(), &DEAD)?.ok_or("the code of a row")?;
-    let e = row_made(&mut region, &key, row.bytes(), &mut sc).ok_or("room")?;
-    assert_eq!(&rt; shown_row(&region, e), ((0, None), (2, None)));
-    assert_eq!(rt; code_in(&region, e), INSERTED.as_slice());
-    let e = row_joined(&mut region, e, cell.bytes(), &mut sc).ok_or("room")?;
-    assert_eq!(&rt; shown_row(&region, e), ((0, None), (2, None)));
-    assert_eq!(rt; code_in(&region, e), JOINED.as_slice());
-    let e = row_like(&mut region, e, &mut sc).ok_or("room")?;
-    assert_eq!(&rt; shown_row(&region, e), ((1, None), (0, None)));
-    let e = row_joined_again(&mut region, e, &mut sc).ok_or("room")?;
-    assert_eq!(&rt; shown_row(&region, e), ((1, None), (0, None)));
-    assert_eq!(rt; code_in(&region, e), JOINED.as_slice());
+    let made = rows_made(&mut region, &key, row.bytes(), cell.bytes(), &mut sc).ok_or("room")?;
+    let known = (0, None);
+    let unknown = (1, None);
+    let inherit = (2, None);
+    let first = (known, inherit, true);
+    let other = (unknown, known, true);
+    assert_eq!(&rt; made, [first, first, other, other]);
     assert_eq!(rt; (region.objects(), region.live()), (4, 464));
     Ok(())
-}
-
-// The marks of a row entry.
-fn shown_row(region: &Region<4096>, e: Ref) -> (Shown, Shown)
-    requires { IsRowEntry region.now e }
-{
-    shown_marks(region, e)
 }
 
 // The code of its row.
 fn code_in(region: &Region<4096>, e: Ref) -> &[u8]
     requires { IsRowEntry region.now e }
+    ensures { (x : Entry) (row : RowValue) → HoldsEntry region.now e x → x.row ≡ Some row → result.now ≡ code_of row }
 {
     row_code(region, e)
 }
 
-// A static row, one like it, and one with both joined to another one: how long their codes are, and that of the last one's row.
-fn statics_made(region: &mut Region<4096>, code: &[u8], sc: &mut Scratch) -> Option<usize>
-    requires code { IsCode code_of IsCodedRow code.now }
-    requires size { sc.old.size ≡ 1000 }
+// A static row of this code; none where there is no room.
+fn static_made(region: &mut Region<4096>, code: &[u8]) -> Option<Ref>
+    requires { IsCode code_of IsCodedRow code.now }
+    ensures { IfSome result (IsStatic region.new) }
 {
     if code.len() > 400 {
         return None;
@@ -326,21 +348,68 @@ fn statics_made(region: &mut Region<4096>, code: &[u8], sc: &mut Scratch) -> Opt
     if size > 512 || size > region.spare() {
         return None;
     }
-    let s = make_static(region, code);
-    if size > region.spare() {
+    Some(make_static(region, code))
+}
+
+// A static row with the row of another one; none where there is no room.
+fn static_like(region: &mut Region<4096>, s: Ref, sc: &mut Scratch) -> Option<Ref>
+    requires entry { IsStatic region.old s }
+    requires size { sc.old.size ≡ 1000 }
+    ensures made { IfSome result (IsStatic region.new) }
+    ensures size { sc.new.size ≡ sc.old.size }
+{
+    let row = static_code(region, s).len();
+    if row > 400 {
         return None;
     }
-    let like = make_static_like(region, s, sc);
-    let joined = join_size(row_code(region, like), row_code(region, like));
-    if joined > 400 {
-        return None;
-    }
-    let size = round_up(32 + joined);
+    let size = round_up(32 + row);
     if size > 512 || size > region.spare() {
         return None;
     }
-    let both = make_joined_static(region, like, like, sc);
-    Some(row_code(region, both).len())
+    Some(make_static_like(region, s, sc))
+}
+
+// A static row with its own row joined once more; none where there is no room.
+fn static_joined(region: &mut Region<4096>, s: Ref, sc: &mut Scratch) -> Option<Ref>
+    requires entry { IsStatic region.old s }
+    requires size { sc.old.size ≡ 1000 }
+    ensures made { IfSome result (IsStatic region.new) }
+    ensures size { sc.new.size ≡ sc.old.size }
+{
+    let row = join_size(static_code(region, s), static_code(region, s));
+    if row > 400 {
+        return None;
+    }
+    let size = round_up(32 + row);
+    if size > 512 || size > region.spare() {
+        return None;
+    }
+    Some(make_joined_static(region, s, s, sc))
+}
+
+// The code of its row.
+fn static_code(region: &Region<4096>, s: Ref) -> &[u8]
+    requires { IsStatic region.now s }
+    ensures { (row : RowValue) → HoldsStatic region.now s row → result.now ≡ code_of row }
+{
+    row_code(region, s)
+}
+
+// How long the codes are of a static row, one like it, and one with its own row joined once more.
+fn statics_made(
+    region: &mut Region<4096>,
+    code: &[u8],
+    sc: &mut Scratch,
+) -> Option<(usize, usize, usize)>
+    requires code { IsCode code_of IsCodedRow code.now }
+    requires size { sc.old.size ≡ 1000 }
+{
+    let s = static_made(region, code)?;
+    let first = static_code(region, s).len();
+    let s = static_like(region, s, sc)?;
+    let second = static_code(region, s).len();
+    let s = static_joined(region, s, sc)?;
+    Some((first, second, static_code(region, s).len()))
 }
 
 #[test]
@@ -348,8 +417,8 @@ fn statics(rt: HostRuntime) -> Result<(), Fail> {
     let mut region = Region::<4096>::open(rt.alloc(), 4)?;
     let mut sc = Scratch::new(rt.alloc(), 1000)?;
     let cell = coded(rt.alloc(), &DEAD)?.ok_or("the code of a row")?;
-    let long = statics_made(&mut region, cell.bytes(), &mut sc).ok_or("room")?;
-    assert_eq!(rt; long, 17);
+    let made = statics_made(&mut region, cell.bytes(), &mut sc).ok_or("room")?;
+    assert_eq!(rt; made, (17, 17, 17));
     assert_eq!(rt; (region.objects(), region.live()), (3, 168));
     Ok(())
 }

@@ -7,7 +7,7 @@ use Rattle.std.proofs.lemmas.List.{take-append-le, drop-append-le, take-append-d
 use Rattle.std.proofs.lemmas.Slice.{drop-append-drop}
 use Rattle.rc_cell.specs.declared.writes.Tomb.{Tomb}
 use Rattle.rc_cell.specs.declared.rows.Row.{Row}
-use Rattle.rc_rowcode.specs.Spelling.{pos_code, IsTomb}
+use Rattle.rc_rowcode.specs.Spelling.{pos_code, IsTomb, IsCodedRow}
 use Rattle.rc_core.specs.declared.entries.Entry.{Entry}
 use Rattle.rc_core.specs.declared.entries.Flag.{Flag}
 use Rattle.rc_core.specs.declared.entries.Flag.TheVariants.{Known, Unknown, Inherit}
@@ -113,6 +113,18 @@ pub seen_row : (v : View) (r : Ref) (row : Row) (kind : Kind) (bytes : List ℕ)
     → (e : Entry) × SpellsEntry (entry_kind e.row, bytes) e × (e.row ≡ Some row)
 seen_row v r row kind bytes (inl h) w k ne = let P : Option (Kind × List ℕ) → Type 0 = λ o. IsSomeAnd o (λ b. b.0 ≡ kind) in let same : Static ≡ kind = subst P h.0 w in absurd (ne (sym same))
 seen_row v r row kind bytes (inr h) w k ne = (h.0, seen_entry (body v r) h.0 bytes h.1 k, h.2)
+
+-- the row that an object holds has a code
+coded_as : (row : Option Row) (r : Row) → row ≡ Some r → IfSome row IsCodedRow → IsCodedRow r
+coded_as row r is h = subst (λ o. IfSome o IsCodedRow) is h
+
+coded_at : (o : Option (Kind × List ℕ)) (e : Entry) (row : Row) → IsSomeAnd o (λ b. SpellsEntry b e) → e.row ≡ Some row → IsCodedRow row
+coded_at None e row h is = absurd h
+coded_at (Some b) e row h is = coded_as e.row row is h.row
+
+pub coded_of : (v : View) (r : Ref) (row : Row) → HoldsRow v r row → IsCodedRow row
+coded_of v r row (inl h) = h.1
+coded_of v r row (inr h) = coded_at (body v r) h.0 row h.1 h.2
 
 -- ---- bytes that are put together
 

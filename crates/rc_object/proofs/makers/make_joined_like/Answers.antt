@@ -4,7 +4,8 @@ use Rattle.rc_core.specs.Change.{joined_onto, with_row}
 use Rattle.lsa_kinds.specs.declared.kind.Kind.TheVariants.{RowEntry}
 use Rattle.lsa_region.specs.Region.{body}
 use Rattle.rc_object.specs.Objects.{IsMade, IsRowCode}
-use Rattle.rc_object.proofs.Built.{built_as, held, coded_of}
+use Rattle.rc_object.specs.laws.Spelled.{coded_of}
+use Rattle.rc_object.proofs.Built.{built_as, held}
 use Rattle.rc_object.proofs.makers.make_joined_like.Goals as goal
 
 pub put_joined_entry-requires : goal.put_joined_entry-requires

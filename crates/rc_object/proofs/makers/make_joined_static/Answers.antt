@@ -4,7 +4,8 @@ use Rattle.rc_rowcode.specs.Space.{HasRoom}
 use Rattle.rc_rowcode.specs.Spelling.{row_code}
 use Rattle.rc_object.specs.Objects.{IsMade}
 use Rattle.rc_object.specs.laws.OneValue.{row_same}
-use Rattle.rc_object.proofs.Built.{put_once, bytes_put, size_put, room_there, joined_is, coded_of, static_held, static_takes}
+use Rattle.rc_object.specs.laws.Spelled.{coded_of}
+use Rattle.rc_object.proofs.Built.{put_once, bytes_put, size_put, room_there, joined_is, static_held, static_takes}
 use Rattle.rc_object.proofs.makers.make_joined_static.Goals as goal
 
 pub join_codes-requires-clause-ours : goal.join_codes-requires-clause-ours

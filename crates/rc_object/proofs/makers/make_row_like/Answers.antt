@@ -2,7 +2,8 @@ use Rattle.std.proofs.Common.{Some, inr, ap, sym, ◌∙◌, subst, arith}
 use Rattle.rc_core.specs.declared.entries.Entry.{Entry}
 use Rattle.rc_object.specs.Objects.{IsMade, HoldsEntry, entry_of}
 use Rattle.rc_object.specs.laws.OneValue.{entries_same}
-use Rattle.rc_object.proofs.Built.{ready_put, held, coded_of}
+use Rattle.rc_object.specs.laws.Spelled.{coded_of}
+use Rattle.rc_object.proofs.Built.{ready_put, held}
 use Rattle.lsa_kinds.specs.declared.kind.Kind.TheVariants.{RowEntry}
 use Rattle.lsa_region.specs.Region.{body}
 use Rattle.rc_object.proofs.makers.make_row_like.Goals as goal

@@ -1,6 +1,7 @@
 use Rattle.std.proofs.Common.{◌∙◌, subst}
 use Rattle.rc_object.specs.Objects.{IsMade}
-use Rattle.rc_object.proofs.Built.{put_once, bytes_put, coded_of, static_held, static_takes}
+use Rattle.rc_object.specs.laws.Spelled.{coded_of}
+use Rattle.rc_object.proofs.Built.{put_once, bytes_put, static_held, static_takes}
 use Rattle.rc_object.proofs.makers.make_static_like.Goals as goal
 
 pub returns-clause-holds : goal.returns-clause-holds
