@@ -1,0 +1,8 @@
+mod Dropped
+mod Freed
+mod Gaps
+mod NewVersions
+mod Putting
+mod Splits
+mod Taken
+mod Written

@@ -1,0 +1,10 @@
+//! Versions in a region: an ordered list of entries, a static row and a head, each an object of its own.
+#![tactic(auto)]
+
+mod marking;
+mod splitting;
+mod versions;
+
+pub use marking::{set_flags, set_tombs};
+pub use splitting::{drop_entry, split, split_like};
+pub use versions::{free_version, join_pt, new_version, set_static_flag};
