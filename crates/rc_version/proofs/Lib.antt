@@ -3,6 +3,8 @@ mod Freed
 mod Gaps
 mod NewVersions
 mod Putting
+mod SetStatics
 mod Splits
+mod StaticRows
 mod Taken
 mod Written

@@ -50,6 +50,9 @@ module _ (v w : View) (r : Ref) (rewritten : IsRewritten v w r) where
   -- ---- the head of a version
 
   module _ (refs : List Ref) (c : Version) (h : IsVersionOf v r refs c) where
+    pub head-kept_by : (these : Ref → Type 0) → these r → IsKept these r v w
+    head-kept_by these this = head-written v w r change written these this (version-kind v r refs c h)
+
     pub head-kept : IsKeptBut r v w
     head-kept = head-written v w r change written (MayChange v r) (inr (inl refl)) (version-kind v r refs c h)
 

@@ -3,8 +3,10 @@
 
 mod marking;
 mod splitting;
+mod statics;
 mod versions;
 
 pub use marking::{set_flags, set_tombs};
 pub use splitting::{drop_entry, split, split_like};
+pub use statics::{drop_static, set_static};
 pub use versions::{free_version, join_pt, new_version, set_static_flag};

@@ -330,3 +330,17 @@ kept-same these n v = record {
   moved = refl;
   compacted = refl;
 }
+
+-- more may change
+pub kept-wider : (these others : Ref → Type 0) (n : Ref) (old new : View) → ((r : Ref) → these r → others r) → IsKept these n old new → IsKept others n old new
+kept-wider these others n old new all k = record {
+  versions = k.versions;
+  links = k.links;
+  bodies = λ r other. k.bodies r (λ this. other (all r this));
+  roots = k.roots;
+  gone = k.gone;
+  slots = k.slots;
+  budget = k.budget;
+  moved = k.moved;
+  compacted = k.compacted;
+}
