@@ -1,10 +1,12 @@
 mod Dropped
 mod Freed
 mod Gaps
+mod Joins
 mod NewVersions
 mod Putting
 mod SetStatics
 mod Splits
 mod StaticRows
+mod Swapped
 mod Taken
 mod Written

@@ -1,11 +1,13 @@
 //! Versions in a region: an ordered list of entries, a static row and a head, each an object of its own.
 #![tactic(auto)]
 
+mod joining;
 mod marking;
 mod splitting;
 mod statics;
 mod versions;
 
+pub use joining::join_row;
 pub use marking::{set_flags, set_tombs};
 pub use splitting::{drop_entry, split, split_like};
 pub use statics::{drop_static, set_static};
