@@ -2,6 +2,7 @@ mod Dropped
 mod Freed
 mod Gaps
 mod Joins
+mod Likes
 mod NewVersions
 mod Putting
 mod SetStatics

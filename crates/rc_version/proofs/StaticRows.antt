@@ -76,6 +76,11 @@ named-row v n refs c h mate e s field a b d =
     let is : mate ≡ Obj s 2 = named.3 ∙ ap (λ q. Obj q 2) same in
     record { is = is; link = d ∙ ap (λ x. Some x) is; row = named.1; held = subst (λ q. HoldsStatic v q named.1) same named.4 }
 
+pub row-at-link : (v : View) (n : Ref) (refs : List Ref) (c : Version) → IsVersionOf v n refs c → (e : End) (s : Ref) (field : ℕ) → link_of v (Obj n 3) ≡ Some e → e ≡ Obj s field → (r : Row) × (c.statics ≡ Some r) × HoldsStatic v s r
+row-at-link v n refs c h e s field a b =
+    let named = statics-named v n c.statics h.statics e a in let ends : Obj named.0 2 ≡ Obj s field = sym named.3 ∙ b in
+    (named.1, named.2, subst (λ q. HoldsStatic v q named.1) (same_object named.0 s 2 field ends) named.4)
+
 pub statics-unset : (v : View) (n : Ref) (row : Option Row) → HasStatics v n row → link_of v (Obj n 3) ≡ None → row ≡ None
 statics-unset v n None h is = refl
 statics-unset v n (Some r) h is = absurd (let clash : None ≡ Some (Obj h.0 2) = sym is ∙ h.1 in cc)

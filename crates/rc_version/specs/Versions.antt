@@ -6,6 +6,7 @@ use Rattle.rc_cell.specs.declared.rows.Row.{Row}
 use Rattle.rc_rowcode.specs.Objects.{dummy_size, static_size, version_size}
 use Rattle.rc_rowcode.specs.Spelling.{pos_code, row_code}
 use Rattle.rc_position.specs.declared.positions.Pos.{Pos}
+use Rattle.rc_position.specs.Position.{IsBefore}
 use Rattle.lsa_kinds.specs.Kinds.{up8}
 use Rattle.lsa_store.specs.declared.place.Ref.{Ref}
 use Rattle.lsa_region.specs.declared.end.End.{End}
@@ -19,8 +20,8 @@ use Rattle.lsa_pool.specs.Room.{spare_of}
 use Rattle.rc_core.specs.declared.entries.Entry.{Entry}
 use Rattle.rc_core.specs.Change.{joined_onto, split}
 use Rattle.rc_core.specs.Continuity.{with_entries}
-use Rattle.rc_core.specs.Steps.{row_joined}
-use Rattle.rc_core.specs.Version.{Version, IsVersion, On, seen}
+use Rattle.rc_core.specs.Steps.{join_statics, row_joined}
+use Rattle.rc_core.specs.Version.{Version, IsVersion, On, end_position, seen}
 use Rattle.rc_object.specs.declared.heads.Head.{Head}
 use Rattle.rc_object.specs.Objects.{HoldsHead, HoldsEntry, HoldsStatic, HasRoomFor, entry_length}
 
@@ -158,3 +159,26 @@ pub record IsJoined (S : ℕ) (old new : View) (n : Ref) (x : Pos) (row : Row) (
   pub kept : IsKeptBut n old new
   pub spare : (refs : List Ref) (c : Version) → IsVersionOf old n refs c → spare_of S old.usages ≤ spare_of S new.usages + joined_bytes x row c
   pub live : (refs : List Ref) (c : Version) → IsVersionOf old n refs c → IsWeighed old new c (row_joined x row c)
+
+-- a row can be joined to the static row of version n: there is room for both joined, and the one that is there is in no list
+pub record CanJoinStatics (S : ℕ) (v : View) (space : ℕ) (n : Ref) (row : Row) (refs : List Ref) (c : Version) : Type 0 where
+  pub version : IsVersionOf v n refs c
+  pub room : HasRoomFor S v (static_size (joined_onto c.statics row)) space (length (row_code (joined_onto c.statics row)))
+  pub unlisted : (s : Ref) → IsStaticsOf v n s → IsUnlisted v s
+
+-- a row was joined to the static row of version n: r is the static row, made anew, and in no list; all else is as it was, also its flag
+pub record IsStaticsJoined (S : ℕ) (old new : View) (n : Ref) (row : Row) (r : Ref) : Type 0 where
+  pub statics : (refs : List Ref) (c : Version) → IsVersionOf old n refs c → IsVersionOf new n refs (join_statics row c)
+  pub named : IsStaticsOf new n r
+  pub fresh : body old r ≡ None
+  pub gone : (s : Ref) → IsStaticsOf old n s → body new s ≡ None
+  pub unlisted : (q : Ref) → body old q ≡ None → IsUnlisted new q
+  pub kept : IsKeptBut n old new
+  pub spare : (refs : List Ref) (c : Version) → IsVersionOf old n refs c → spare_of S old.usages ≤ spare_of S new.usages + static_size (joined_onto c.statics row)
+  pub live : (refs : List Ref) (c : Version) → IsVersionOf old n refs c → IsWeighed old new c (join_statics row c)
+
+-- the row of an object of another version can be joined to version n: that of an entry before the end, or a static row
+abbrev pub CanJoinLike : ℕ → View → ℕ → Ref → Ref → Type 0
+CanJoinLike S v space n e =
+    ((y : Entry) × (row : Row) × (refs : List Ref) × (c : Version) × HoldsEntry v e y × (y.row ≡ Some row) × IsBefore y.position end_position × CanJoin S v space n y.position row refs c)
+    ⊎ ((row : Row) × (refs : List Ref) × (c : Version) × HoldsStatic v e row × CanJoinStatics S v space n row refs c)

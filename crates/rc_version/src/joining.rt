@@ -2,19 +2,21 @@
 ghost use Rattle.std.specs.Prelude.{◌≡◌, ◌+◌, ◌≤◌, List, [], ◌∷◌, ◌++◌, None, Some, Contains};
 ghost use Rattle.rc_cell.specs.declared.rows.Row.{Row};
 ghost use Rattle.rc_position.specs.declared.positions.Pos.{Pos as Position};
-ghost use Rattle.rc_position.specs.Position.{row_pos};
+ghost use Rattle.rc_position.specs.Position.{IsBefore, row_pos};
 ghost use Rattle.rc_rowcode.specs.Spelling.{KeyFits};
 ghost use Rattle.lsa_store.specs.declared.place.Ref.{Ref as Name};
 ghost use Rattle.lsa_region.specs.Region.{IsWell};
 ghost use Rattle.lsa_tree.specs.Search.{IsFound};
 ghost use Rattle.rc_core.specs.declared.entries.Entry.{Entry};
-ghost use Rattle.rc_core.specs.Version.{Version};
-ghost use Rattle.rc_object.specs.Objects.{IsRowCode};
-ghost use Rattle.rc_version.specs.Versions.{IsVersionOf, CanJoin, IsJoined};
+ghost use Rattle.rc_core.specs.Version.{Version, end_position};
+ghost use Rattle.rc_object.specs.Objects.{HoldsEntry, HoldsStatic, IsRowCode};
+ghost use Rattle.rc_version.specs.Versions.{IsVersionOf, CanJoin, CanJoinLike, IsJoined, IsStaticsJoined};
 
+use crate::statics::join_statics_like;
+use lsa_kinds::Kind;
 use lsa_region::{End, Ref, Region};
 use lsa_tree::{Place, Tree};
-use rc_object::{make_joined, make_row, marks};
+use rc_object::{make_joined, make_joined_like, make_row, make_row_like, marks};
 use rc_position::Key;
 use rc_rowcode::Scratch;
 
@@ -90,5 +92,87 @@ pub fn join_row<const S: usize>(
         Place::Here(old) => join_row_onto(region, v, old, key, code, sc),
         Place::Before(next) => join_row_before(region, v, next, key, code, sc),
         Place::Last => unreachable!(),
+    }
+}
+
+// Makes the entry of the row of an entry of another version in the gap before one of this version, with what the gap says.
+fn join_like_before<const S: usize>(
+    region: &mut Region<S>,
+    v: Ref,
+    next: Ref,
+    e: Ref,
+    sc: &mut Scratch,
+) -> Ref
+    requires row { (y : Entry) × (row : Row) × (refs : List Name) × (c : Version) × HoldsEntry region.old e y × (y.row ≡ Some row) × IsBefore y.position end_position × CanJoin S region.old sc.old.size v y.position row refs c }
+    requires found { (refs : List Name) (c : Version) (y : Entry) → IsVersionOf region.old v refs c → HoldsEntry region.old e y → IsFound region.old refs y.position (Place.Before next) }
+    ensures joined { (y : Entry) (row : Row) → HoldsEntry region.old e y → y.row ≡ Some row → IsJoined S region.old region.new v y.position row result }
+    ensures size { sc.new.size ≡ sc.old.size }
+    ensures well { IsWell region.new }
+{
+    region.known();
+    let (_at, gap) = marks(region, next);
+    let r = make_row_like(region, e, gap, gap, sc);
+    let tree = Tree {
+        top: End::Obj(v, 2),
+    };
+    tree.insert(region, r);
+    r
+}
+
+// Makes an entry anew with the row of an entry of another version joined, in the place of the one that stands there.
+fn join_like_onto<const S: usize>(
+    region: &mut Region<S>,
+    v: Ref,
+    old: Ref,
+    e: Ref,
+    sc: &mut Scratch,
+) -> Ref
+    requires row { (y : Entry) × (row : Row) × (refs : List Name) × (c : Version) × HoldsEntry region.old e y × (y.row ≡ Some row) × IsBefore y.position end_position × CanJoin S region.old sc.old.size v y.position row refs c }
+    requires found { (refs : List Name) (c : Version) (y : Entry) → IsVersionOf region.old v refs c → HoldsEntry region.old e y → IsFound region.old refs y.position (Place.Here old) }
+    ensures joined { (y : Entry) (row : Row) → HoldsEntry region.old e y → y.row ≡ Some row → IsJoined S region.old region.new v y.position row result }
+    ensures size { sc.new.size ≡ sc.old.size }
+    ensures well { IsWell region.new }
+{
+    region.known();
+    let r = make_joined_like(region, old, e, sc);
+    let tree = Tree {
+        top: End::Obj(v, 2),
+    };
+    tree.replace(region, old, r);
+    region.free_obj(old);
+    r
+}
+
+// Joins the row of an entry of another version at its position.
+fn join_entry_like<const S: usize>(region: &mut Region<S>, v: Ref, e: Ref, sc: &mut Scratch) -> Ref
+    requires { (y : Entry) × (row : Row) × (refs : List Name) × (c : Version) × HoldsEntry region.old e y × (y.row ≡ Some row) × IsBefore y.position end_position × CanJoin S region.old sc.old.size v y.position row refs c }
+    ensures joined { (y : Entry) (row : Row) → HoldsEntry region.old e y → y.row ≡ Some row → IsJoined S region.old region.new v y.position row result }
+    ensures size { sc.new.size ≡ sc.old.size }
+    ensures well { IsWell region.new }
+{
+    let tree = Tree {
+        top: End::Obj(v, 2),
+    };
+    match tree.find_like(region, e) {
+        Place::Here(old) => join_like_onto(region, v, old, e, sc),
+        Place::Before(next) => join_like_before(region, v, next, e, sc),
+        Place::Last => unreachable!(),
+    }
+}
+
+/// Joins the row of an object of another version to what a version has in its place: the row of an entry at its position, or a static row to the static
+/// row, whose flag stays.
+pub fn join_like<const S: usize>(region: &mut Region<S>, v: Ref, e: Ref, sc: &mut Scratch) -> Ref
+    requires { CanJoinLike S region.old sc.old.size v e }
+    ensures entry { (y : Entry) (row : Row) → HoldsEntry region.old e y → y.row ≡ Some row → IsJoined S region.old region.new v y.position row result }
+    ensures statics { (row : Row) → HoldsStatic region.old e row → IsStaticsJoined S region.old region.new v row result }
+    ensures size { sc.new.size ≡ sc.old.size }
+    ensures well { IsWell region.new }
+{
+    match region.kind(e) {
+        Kind::RowEntry => join_entry_like(region, v, e, sc),
+        Kind::Static => join_statics_like(region, v, e, sc),
+        Kind::Version => unreachable!(),
+        Kind::Dummy => unreachable!(),
     }
 }

@@ -6,16 +6,18 @@ ghost use Rattle.lsa_pool.specs.Room.{spare_of};
 ghost use Rattle.lsa_store.specs.declared.place.Ref.{Ref as Name};
 ghost use Rattle.lsa_region.specs.declared.end.End.{End as Link};
 ghost use Rattle.lsa_region.specs.Region.{body, link_of, live_bytes, IsWell};
+ghost use Rattle.rc_core.specs.Change.{joined_onto};
 ghost use Rattle.rc_core.specs.Continuity.{without_statics};
 ghost use Rattle.rc_core.specs.Steps.{set_statics};
 ghost use Rattle.rc_core.specs.Version.{Version};
-ghost use Rattle.rc_object.specs.Objects.{IsRowCode};
-ghost use Rattle.rc_version.specs.Versions.{IsVersionOf, IsUnlisted, IsKept, IsKeptBut, IsStaticsOf, IsWeighed};
+ghost use Rattle.rc_object.specs.Objects.{HoldsStatic, IsMade, IsRowCode};
+ghost use Rattle.rc_version.specs.Versions.{CanJoinStatics, IsStaticsJoined, IsVersionOf, IsUnlisted, IsKept, IsKeptBut, IsStaticsOf, IsWeighed};
 
 use crate::versions::set_static_flag;
 use lsa_region::{End, Ref, Region};
 use rc_core::Flag;
-use rc_object::make_static;
+use rc_object::{make_joined_static, make_static, make_static_like};
+use rc_rowcode::Scratch;
 
 // Takes the static row of a version out and frees it, where there is one. Its flag stays.
 fn take_statics<const S: usize>(region: &mut Region<S>, v: Ref)
@@ -73,4 +75,43 @@ pub fn drop_static<const S: usize>(region: &mut Region<S>, v: Ref)
 {
     take_statics(region, v);
     set_static_flag(region, v, Flag::Unknown);
+}
+
+// Makes a static row of that of a version with the static row of another version joined, or of that one alone.
+fn make_statics_like<const S: usize>(
+    region: &mut Region<S>,
+    v: Ref,
+    e: Ref,
+    sc: &mut Scratch,
+) -> Ref
+    requires { (row : Row) × (refs : List Name) × (c : Version) × HoldsStatic region.old e row × CanJoinStatics S region.old sc.old.size v row refs c }
+    ensures holds { (row : Row) (refs : List Name) (c : Version) → HoldsStatic region.old e row → IsVersionOf region.old v refs c → HoldsStatic region.new result (joined_onto c.statics row) }
+    ensures made { (row : Row) (refs : List Name) (c : Version) → HoldsStatic region.old e row → IsVersionOf region.old v refs c → IsMade S region.old region.new result (static_size (joined_onto c.statics row)) }
+    ensures size { sc.new.size ≡ sc.old.size }
+    ensures well { IsWell region.new }
+{
+    match region.link_of(End::Obj(v, 3)) {
+        Some(End::Obj(s, _field)) => make_joined_static(region, s, e, sc),
+        Some(End::Slot(_root)) => unreachable!(),
+        None => make_static_like(region, e, sc),
+    }
+}
+
+/// Joins the static row of another version to that of a version, whose flag stays.
+pub(crate) fn join_statics_like<const S: usize>(
+    region: &mut Region<S>,
+    v: Ref,
+    e: Ref,
+    sc: &mut Scratch,
+) -> Ref
+    requires { (row : Row) × (refs : List Name) × (c : Version) × HoldsStatic region.old e row × CanJoinStatics S region.old sc.old.size v row refs c }
+    ensures joined { (row : Row) → HoldsStatic region.old e row → IsStaticsJoined S region.old region.new v row result }
+    ensures size { sc.new.size ≡ sc.old.size }
+    ensures well { IsWell region.new }
+{
+    region.known();
+    let s = make_statics_like(region, v, e, sc);
+    take_statics(region, v);
+    region.link(End::Obj(v, 3), End::Obj(s, 2));
+    s
 }
