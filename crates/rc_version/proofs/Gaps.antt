@@ -65,7 +65,9 @@ at-once S v n r x well found refs c h = record {
   entries = λ refs c h. let f = found refs c h in (refs, inl (refl, subst (λ l. Contains l r) (sym f.2) (member-here f.0 f.1 r)), subst (λ es. IsVersionOf v n refs (with_entries es c)) (sym (split-here v n refs c h f.0 r f.1 f.2 x f.3)) h);
   at = (found refs c h).3;
   unlisted = fresh-unlisted (MayChange v n) n v v well (kept-same (MayChange v n) n v);
+  held = λ q e k. k;
   kept = kept-same (MayChange v n) n v;
+  parts = λ q k. k;
   spare = omega arith;
   live = λ refs c h. let f = found refs c h in ap (λ es. live_bytes v + version_bytes (with_entries es c)) (sym (split-here v n refs c h f.0 r f.1 f.2 x f.3));
 }

@@ -5,6 +5,7 @@ mod Joins
 mod Likes
 mod NewVersions
 mod Putting
+mod Raised
 mod SetStatics
 mod Splits
 mod StaticRows

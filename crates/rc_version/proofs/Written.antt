@@ -89,6 +89,10 @@ module _ (v w : View) (r : Ref) (rewritten : IsRewritten v w r) where
         others : (q : Ref) (e : Entry) → Contains (front ++ back) q → HoldsEntry v q e → HoldsEntry w q e
         others q e k hold = holds-same v w q e (written.others q (λ same. entry-beside v n front back r (subst (IsTree (tree_of n) v) is h.tree) (subst (Contains (front ++ back)) same k))) hold
 
+        -- the other entries hold what they held
+        pub marked-others : (q : Ref) (e : Entry) → Contains (front ++ back) q → HoldsEntry v q e → HoldsEntry w q e
+        marked-others = others
+
         pub marked-version : (before : List Entry) (e d : Entry) (behind : List Entry) → c.entries ≡ before ++ (e ∷ behind) → HoldEntries v front before → HoldEntries v back behind → d.position ≡ e.position → d.row ≡ e.row → HoldsEntry w r d
             → IsVersionOf w n refs (with_entries (before ++ (d ∷ behind)) c)
         marked-version before e d behind entries ahead later at row held = record {

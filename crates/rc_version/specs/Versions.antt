@@ -127,12 +127,14 @@ IsWeighed old new before after = live_bytes new + version_bytes before ≡ live_
 abbrev pub ArePutAmong : View → Ref → List Ref → List Ref → Type 0
 ArePutAmong old r refs now = ((now ≡ refs) × Contains refs r) ⊎ ((body old r ≡ None) × ((front : List Ref) × (back : List Ref) × (refs ≡ front ++ back) × (now ≡ front ++ (r ∷ back))))
 
--- version n was split at a position: r is the entry there, made where there was none, and is in no list then; all else is as it was
+-- version n was split at a position: r is the entry there, made where there was none, and is in no list then; each entry holds what it held, nothing else becomes a part of the version, and all else is as it was
 pub record IsSplit (S : ℕ) (old new : View) (n : Ref) (x : Pos) (r : Ref) : Type 0 where
   pub entries : (refs : List Ref) (c : Version) → IsVersionOf old n refs c → (now : List Ref) × ArePutAmong old r refs now × IsVersionOf new n now (with_entries (split x c.entries) c)
   pub at : IsEntryAtPosition new r x
   pub unlisted : (q : Ref) → body old q ≡ None → IsUnlisted new q
+  pub held : (q : Ref) (e : Entry) → HoldsEntry old q e → HoldsEntry new q e
   pub kept : IsKeptBut n old new
+  pub parts : (q : Ref) → MayChange new n q → MayChange old n q
   pub spare : spare_of S old.usages ≤ spare_of S new.usages + dummy_size x
   pub live : (refs : List Ref) (c : Version) → IsVersionOf old n refs c → IsWeighed old new c (with_entries (split x c.entries) c)
 

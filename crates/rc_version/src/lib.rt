@@ -3,6 +3,7 @@
 
 mod joining;
 mod marking;
+mod raising;
 mod splitting;
 mod statics;
 mod versions;
