@@ -6,6 +6,7 @@ mod Likes
 mod NewVersions
 mod Putting
 mod Raised
+mod Ranges
 mod SetStatics
 mod Splits
 mod StaticRows

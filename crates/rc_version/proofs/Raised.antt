@@ -38,8 +38,8 @@ module _ (old mid : View) (n e next : Ref) (tomb : Tomb) (front back : List Ref)
 module _ (old mid new : View) (n e next : Ref) (tomb : Tomb) (front back : List Ref) (c : Version) (before : List Entry) (x y : Entry) (behind : List Entry) (h : AreHeld old n front e next back c before x y behind)
     (first : IsRewritten old mid e) (first_alike : IsReadAlike (body old e) (body mid e)) (first_held : HoldsEntry mid e (with_mark (raised_mark (Some tomb)) x))
     (second : IsRewritten mid new next) (second_alike : IsReadAlike (body mid next) (body new next)) where
-  abbrev all : List Ref
-  all = front ++ (e ∷ next ∷ back)
+  abbrev both : List Ref
+  both = front ++ (e ∷ next ∷ back)
 
   abbrev x' : Entry
   x' = with_mark (raised_mark (Some tomb)) x
@@ -50,18 +50,18 @@ module _ (old mid new : View) (n e next : Ref) (tomb : Tomb) (front back : List 
   others_then : (q : Ref) (d : Entry) → Contains (front ++ (next ∷ back)) q → HoldsEntry old q d → HoldsEntry mid q d
   others_then = mid_others old mid n e next tomb front back c before x y behind h first first_alike first_held
 
-  version_then : IsVersionOf mid n all (with_entries (before ++ (x' ∷ y ∷ behind)) c)
+  version_then : IsVersionOf mid n both (with_entries (before ++ (x' ∷ y ∷ behind)) c)
   version_then = mid_version old mid n e next tomb front back c before x y behind h first first_alike first_held
 
   module _ (second_held : HoldsEntry new next (with_gap (raised_mark (Some tomb) y.gap) y)) where
     abbrev ahead : List Ref
     ahead = front ++ (e ∷ [])
 
-    parted : all ≡ ahead ++ (next ∷ back)
+    parted : both ≡ ahead ++ (next ∷ back)
     parted = sym (append_assoc front (e ∷ []) (next ∷ back))
 
     new_others : (q : Ref) (d : Entry) → Contains (ahead ++ back) q → HoldsEntry mid q d → HoldsEntry new q d
-    new_others q d k a = marked-others mid new next second second_alike n all _ version_then ahead back parted q d k a
+    new_others q d k a = marked-others mid new next second second_alike n both _ version_then ahead back parted q d k a
 
     front_mid : HoldEntries mid front before
     front_mid = hold-kept old mid front before (λ q d k a. others_then q d (Contains-append_left front (next ∷ back) q k) a) h.held_before
@@ -69,9 +69,9 @@ module _ (old mid new : View) (n e next : Ref) (tomb : Tomb) (front back : List 
     back_mid : HoldEntries mid back behind
     back_mid = hold-kept old mid back behind (λ q d k a. others_then q d (Contains-append_right front (next ∷ back) q (member-later next q back k)) a) h.held_behind
 
-    new_version : IsVersionOf new n all (with_entries (before ++ (x' ∷ y' ∷ behind)) c)
-    new_version = subst (λ es. IsVersionOf new n all (with_entries es c)) (append_assoc before (x' ∷ []) (y' ∷ behind))
-        (marked-version mid new next second second_alike n all (with_entries (before ++ (x' ∷ y ∷ behind)) c) version_then ahead back parted (before ++ (x' ∷ [])) y y' behind (sym (append_assoc before (x' ∷ []) (y ∷ behind)))
+    new_version : IsVersionOf new n both (with_entries (before ++ (x' ∷ y' ∷ behind)) c)
+    new_version = subst (λ es. IsVersionOf new n both (with_entries es c)) (append_assoc before (x' ∷ []) (y' ∷ behind))
+        (marked-version mid new next second second_alike n both (with_entries (before ++ (x' ∷ y ∷ behind)) c) version_then ahead back parted (before ++ (x' ∷ [])) y y' behind (sym (append_assoc before (x' ∷ []) (y ∷ behind)))
         (hold-both mid front (e ∷ []) before (x' ∷ []) front_mid (first_held, tt)) back_mid refl refl second_held)
 
     pub pair-raised : AreHeld new n front e next back (with_entries (before ++ (with_mark (raised_mark (Some tomb)) x ∷ with_gap (raised_mark (Some tomb) y.gap) y ∷ behind)) c) before (with_mark (raised_mark (Some tomb)) x) (with_gap (raised_mark (Some tomb) y.gap) y) behind
@@ -85,11 +85,11 @@ module _ (old mid new : View) (n e next : Ref) (tomb : Tomb) (front back : List 
     }
 
   pub pair-kept : IsWell old → IsWell mid → IsKept (Contains (front ++ (e ∷ next ∷ back))) n old new
-  pair-kept well_old well_mid = kept-then (Contains all) n old mid new
-      (marked-kept_by old mid e first first_alike n all c h.version (Contains all) (member-here front (next ∷ back) e) well_old (member-here front (next ∷ back) e))
-      (marked-kept_by mid new next second second_alike n all _ version_then (Contains all) here well_mid here)
+  pair-kept well_old well_mid = kept-then (Contains both) n old mid new
+      (marked-kept_by old mid e first first_alike n both c h.version (Contains both) (member-here front (next ∷ back) e) well_old (member-here front (next ∷ back) e))
+      (marked-kept_by mid new next second second_alike n both _ version_then (Contains both) here well_mid here)
     where
-      here : Contains all next
+      here : Contains both next
       here = Contains-append_right front (e ∷ next ∷ back) next (member-later e next (next ∷ back) (member-first next back))
 
   pub pair-usages : new.usages ≡ old.usages

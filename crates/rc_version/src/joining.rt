@@ -3,21 +3,27 @@ ghost use Rattle.std.specs.Prelude.{◌≡◌, ◌+◌, ◌≤◌, List, [], ◌
 ghost use Rattle.rc_cell.specs.declared.rows.Row.{Row};
 ghost use Rattle.rc_position.specs.declared.positions.Pos.{Pos as Position};
 ghost use Rattle.rc_position.specs.Position.{IsBefore, row_pos};
+ghost use Rattle.rc_rowcode.specs.Objects.{dummy_size};
 ghost use Rattle.rc_rowcode.specs.Spelling.{KeyFits};
+ghost use Rattle.lsa_pool.specs.Room.{spare_of};
 ghost use Rattle.lsa_store.specs.declared.place.Ref.{Ref as Name};
-ghost use Rattle.lsa_region.specs.Region.{IsWell};
+ghost use Rattle.lsa_region.specs.Region.{body, IsWell};
 ghost use Rattle.lsa_tree.specs.Search.{IsFound};
 ghost use Rattle.rc_core.specs.declared.entries.Entry.{Entry};
+ghost use Rattle.rc_core.specs.Steps.{range_joined};
 ghost use Rattle.rc_core.specs.Version.{Version, end_position};
-ghost use Rattle.rc_object.specs.Objects.{HoldsEntry, HoldsStatic, IsRowCode};
-ghost use Rattle.rc_version.specs.Versions.{IsVersionOf, CanJoin, CanJoinLike, IsJoined, IsStaticsJoined};
+ghost use Rattle.rc_object.specs.Objects.{HasRoomFor, HoldsEntry, HoldsStatic, IsRowCode, entry_length};
+ghost use Rattle.rc_version.specs.Versions.{IsVersionOf, CanJoin, CanJoinLike, IsJoined, IsKeptBut, IsStaticsJoined, IsUnlisted, IsWeighed};
 
+use crate::raising::raise_between;
+use crate::splitting::split;
 use crate::statics::join_statics_like;
 use lsa_kinds::Kind;
 use lsa_region::{End, Ref, Region};
 use lsa_tree::{Place, Tree};
+use rc_cell::Tomb;
 use rc_object::{make_joined, make_joined_like, make_row, make_row_like, marks};
-use rc_position::Key;
+use rc_position::{Key, Pos};
 use rc_rowcode::Scratch;
 
 // Makes the entry of a row in the gap before an entry, with what the gap says.
@@ -175,4 +181,35 @@ pub fn join_like<const S: usize>(region: &mut Region<S>, v: Ref, e: Ref, sc: &mu
         Kind::Version => unreachable!(),
         Kind::Dummy => unreachable!(),
     }
+}
+
+/// Joins a range tombstone to what a version says from a position on and before another one: it is split at both, and the greater tombstone stands at each
+/// entry and over each gap between them. The entry at the end itself stays.
+pub fn join_range<const S: usize>(
+    region: &mut Region<S>,
+    v: Ref,
+    from: &Pos,
+    to: &Pos,
+    tomb: Tomb,
+    sc: &mut Scratch,
+)
+    requires from { KeyFits from.now.prefix }
+    requires to { KeyFits to.now.prefix }
+    requires ascend { IsBefore from.now to.now }
+    requires from_room { HasRoomFor S region.old (dummy_size from.now) sc.old.size (entry_length from.now None) }
+    requires to_room { HasRoomFor S region.old (dummy_size to.now) sc.old.size (entry_length to.now None) }
+    requires spare { dummy_size from.now + dummy_size to.now ≤ spare_of S region.old.usages }
+    requires version { (refs : List Name) × (c : Version) × IsVersionOf region.old v refs c }
+    ensures joined { (refs : List Name) (c : Version) → IsVersionOf region.old v refs c → (now : List Name) × ((r : Name) → Contains refs r → Contains now r) × IsVersionOf region.new v now (range_joined from.now to.now tomb c) }
+    ensures unlisted { (r : Name) → body region.old r ≡ None → IsUnlisted region.new r }
+    ensures kept { IsKeptBut v region.old region.new }
+    ensures spare { spare_of S region.old.usages ≤ spare_of S region.new.usages + (dummy_size from.now + dummy_size to.now) }
+    ensures live { (refs : List Name) (c : Version) → IsVersionOf region.old v refs c → IsWeighed region.old region.new c (range_joined from.now to.now tomb c) }
+    ensures size { sc.new.size ≡ sc.old.size }
+    ensures well { IsWell region.new }
+{
+    region.known();
+    let first = split(region, v, from, sc);
+    let last = split(region, v, to, sc);
+    raise_between(region, v, first, last, tomb);
 }

@@ -8,7 +8,7 @@ mod splitting;
 mod statics;
 mod versions;
 
-pub use joining::join_row;
+pub use joining::{join_like, join_range, join_row};
 pub use marking::{set_flags, set_tombs};
 pub use splitting::{drop_entry, split, split_like};
 pub use statics::{drop_static, set_static};
