@@ -1,8 +1,7 @@
 -- A version after an entry was taken out and freed, and the gap before the next one was lost.
-use Rattle.std.proofs.Common.{◌≡◌, ◌≢◌, ℕ, ◌+◌, ◌≤◌, List, [], ◌∷◌, ◌++◌, length, Option, Some, None, IsSome, inl, inr, refl, sym, ap, ◌∙◌, subst, arith}
+use Rattle.std.proofs.Common.{◌≡◌, ◌≢◌, ℕ, ◌+◌, List, ◌∷◌, ◌++◌, length, None, IsSome, inl, inr, refl, sym, ap, ◌∙◌, subst, arith}
 use Rattle.std.specs.Prelude.{Contains, IsSomeAnd}
 use Rattle.std.proofs.lemmas.List.Elements.{Contains-append_left, Contains-append_right}
-use Rattle.lsa_kinds.specs.declared.kind.Kind.{Kind}
 use Rattle.lsa_kinds.specs.declared.kind.Kind.TheVariants.{Version as VersionKind}
 use Rattle.lsa_pool.specs.Room.{spare_of, live_sum}
 use Rattle.lsa_store.specs.declared.place.Ref.{Ref}
@@ -13,20 +12,19 @@ use Rattle.lsa_region.specs.Region.{View, body, link_of, live_bytes, IsWell, IsF
 use Rattle.lsa_path.specs.laws.Members.{member-here, member-later, member-first}
 use Rattle.lsa_path.specs.laws.Renamed.{some-there}
 use Rattle.lsa_tree.specs.declared.tree.Tree.{Tree}
-use Rattle.lsa_tree.specs.Entries.{IsEntryKind, IsEntryAtPosition, IsReadAlike}
+use Rattle.lsa_tree.specs.Entries.{IsEntryAtPosition, IsReadAlike}
 use Rattle.lsa_tree.specs.Tree.{IsTree, IsLoose, IsOffTree, SameButBalances}
 use Rattle.lsa_tree.specs.laws.Orders.{stands-once}
 use Rattle.lsa_tree.specs.laws.Trees.{no_entry_at}
 use Rattle.rc_position.specs.declared.positions.Pos.{Pos}
-use Rattle.rc_position.specs.Position.{IsBefore}
 use Rattle.rc_core.specs.Change.{drop_at, lost_mark, take_out, with_gap}
 use Rattle.rc_core.specs.Continuity.{with_entries}
 use Rattle.rc_core.specs.declared.entries.Entry.{Entry}
 use Rattle.rc_core.specs.laws.Order.{take_out-is}
 use Rattle.rc_core.specs.laws.Spots.{taken_out}
-use Rattle.rc_core.specs.Version.{Version, IsVersion, Ascend, EndsWithDummy, end_position}
+use Rattle.rc_core.specs.Version.{Version, IsVersion, Ascend, EndsWithDummy}
 use Rattle.rc_object.specs.Objects.{HoldsEntry, IsRewritten}
-use Rattle.rc_version.specs.Versions.{tree_of, HoldEntries, IsVersionOf, IsKept, IsKeptBut, IsUnlisted, IsWeighed, MayChange, entry_bytes, entries_bytes}
+use Rattle.rc_version.specs.Versions.{tree_of, IsVersionOf, IsKept, IsKeptBut, IsUnlisted, IsWeighed, MayChange, entry_bytes, entries_bytes}
 use Rattle.rc_version.specs.laws.Objects.{holds-stands, holds-same, holds-extent}
 use Rattle.rc_version.specs.laws.Holding.{AreAround, both-around, before-end, bytes-same, bytes-with, hold-kept}
 use Rattle.rc_version.specs.laws.Staying.{step-kept, freed-version, freed-kept, freed-entry, version-kind, kept-then}

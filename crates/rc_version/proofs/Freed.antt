@@ -1,10 +1,10 @@
 -- A version that was freed, after its end dummy.
-use Rattle.std.proofs.Common.{◌≡◌, ◌≢◌, ℕ, zero, suc, ◌+◌, ◌<◌, ◌≤◌, List, [], ◌∷◌, ◌++◌, length, Option, Some, None, IsSome, inl, inr, refl, sym, ap, ◌∙◌, subst, arith}
-use Rattle.std.specs.Prelude.{Contains, IsSomeAnd}
+use Rattle.std.proofs.Common.{◌≡◌, ◌≢◌, ℕ, zero, suc, ◌+◌, ◌<◌, List, [], ◌∷◌, length, Option, Some, None, IsSome, inl, inr, refl, ap, ◌∙◌, subst, arith}
+use Rattle.std.specs.Prelude.{IsSomeAnd}
 use Rattle.lsa_kinds.specs.declared.kind.Kind.{Kind}
 use Rattle.lsa_kinds.specs.declared.kind.Kind.TheVariants.{Version as VersionKind}
 use Rattle.lsa_kinds.specs.Kinds.{links_of}
-use Rattle.lsa_pool.specs.Room.{spare_of, live_sum}
+use Rattle.lsa_pool.specs.Room.{live_sum}
 use Rattle.lsa_store.specs.declared.place.Ref.{Ref}
 use Rattle.lsa_store.specs.Objects.{rounded_size}
 use Rattle.lsa_region.specs.declared.end.End.{End}
@@ -14,14 +14,11 @@ use Rattle.lsa_region.specs.laws.Ends.{no-end, some_and_none}
 use Rattle.lsa_path.specs.laws.Members.{member-first}
 use Rattle.lsa_path.specs.laws.Renamed.{some-there}
 use Rattle.lsa_tree.specs.declared.tree.Tree.{Tree}
-use Rattle.lsa_tree.specs.Entries.{IsEntryKind}
 use Rattle.lsa_tree.specs.Tree.{IsTree, IsLoose, IsOffTree, SameButBalances}
 use Rattle.lsa_tree.specs.laws.Trees.{no_entry_at, empty-unset}
-use Rattle.rc_cell.specs.declared.rows.Row.{Row}
-use Rattle.rc_core.specs.declared.entries.Entry.{Entry}
 use Rattle.rc_core.specs.Version.{Version, EndsWithDummy}
 use Rattle.rc_object.specs.Objects.{HoldsHead}
-use Rattle.rc_version.specs.Versions.{tree_of, head_of, HasStatics, IsVersionOf, IsKeptBut, IsUnlisted, MayChange, bytes_at, entry_bytes}
+use Rattle.rc_version.specs.Versions.{tree_of, head_of, HasStatics, IsVersionOf, IsKeptBut, IsUnlisted, MayChange, bytes_at}
 use Rattle.rc_version.specs.laws.Objects.{head-kind, head-same, head-extent, holds-extent}
 use Rattle.rc_version.specs.laws.Holding.{one-held}
 use Rattle.rc_version.specs.laws.Staying.{step-head, step-kept, static-off, freed-kept, version-kind, kept-then}

@@ -1,28 +1,22 @@
 -- A version split at a position: at an entry, or in a gap.
-use Rattle.std.proofs.Common.{◌≡◌, ◌≢◌, ℕ, ◌+◌, ◌≤◌, List, [], ◌∷◌, ◌++◌, Some, None, inl, inr, refl, sym, ap, ◌∙◌, subst, arith}
+use Rattle.std.proofs.Common.{◌≡◌, ℕ, ◌+◌, List, [], ◌∷◌, ◌++◌, inl, refl, sym, ap, ◌∙◌, subst, arith}
 use Rattle.std.specs.Prelude.{Contains}
 use Rattle.rc_position.specs.declared.positions.Pos.{Pos}
-use Rattle.rc_position.specs.Position.{IsBefore}
-use Rattle.rc_rowcode.specs.Objects.{dummy_size}
-use Rattle.lsa_pool.specs.Room.{spare_of}
 use Rattle.lsa_store.specs.declared.place.Ref.{Ref}
-use Rattle.lsa_region.specs.Region.{View, body, live_bytes, IsWell}
+use Rattle.lsa_region.specs.Region.{View, live_bytes, IsWell}
 use Rattle.lsa_path.specs.laws.Members.{member-here, member-split}
 use Rattle.lsa_tree.specs.Entries.{IsEntryAtPosition, BelongsBetween}
 use Rattle.lsa_tree.specs.Search.{IsFound}
-use Rattle.lsa_tree.specs.declared.tree.Place.TheVariants.{Here, Before, Last}
+use Rattle.lsa_tree.specs.declared.tree.Place.TheVariants.{Here}
 use Rattle.lsa_tree.specs.laws.Orders.{stands-once}
-use Rattle.rc_core.specs.AtPlace.{EachEntry}
 use Rattle.rc_core.specs.Change.{at_entry, dummy, split}
 use Rattle.rc_core.specs.Continuity.{with_entries}
 use Rattle.rc_core.specs.declared.entries.Entry.{Entry}
-use Rattle.rc_core.specs.declared.entries.Mark.{Mark}
-use Rattle.rc_core.specs.laws.Order.{split-is}
 use Rattle.rc_core.specs.laws.Spots.{position-reached}
 use Rattle.rc_core.specs.laws.Surgery.{entry-at, split-in-gap, split-at-entry}
-use Rattle.rc_core.specs.Version.{Version, IsVersion, Ascend}
+use Rattle.rc_core.specs.Version.{Version, Ascend}
 use Rattle.rc_object.specs.Objects.{HoldsEntry}
-use Rattle.rc_version.specs.Versions.{HoldEntries, IsVersionOf, IsKept, IsSplit, IsWeighed, ArePutAmong, MayChange, entry_bytes, entries_bytes, version_bytes}
+use Rattle.rc_version.specs.Versions.{HoldEntries, IsVersionOf, IsSplit, IsWeighed, MayChange, entry_bytes, entries_bytes, version_bytes}
 use Rattle.rc_version.specs.laws.Objects.{holds-stands}
 use Rattle.rc_version.specs.laws.Holding.{IsAround, around, each-earlier, later-at, never-all, bytes-with}
 use Rattle.rc_version.specs.laws.Staying.{kept-same}

@@ -1,21 +1,17 @@
 -- A version with a row joined: its entry made in a gap, or anew in the place of the one that stood there.
-use Rattle.std.proofs.Common.{◌≡◌, ◌≢◌, ℕ, ◌+◌, ◌≤◌, List, [], ◌∷◌, ◌++◌, length, Option, Some, None, IsSome, inl, inr, refl, sym, ap, ◌∙◌, subst, arith}
-use Rattle.std.specs.Prelude.{Contains, IsSomeAnd}
-use Rattle.std.specs.declared.cmp.Ordering.TheVariants.{Less, Greater}
+use Rattle.std.proofs.Common.{◌≡◌, ◌≢◌, ℕ, ◌+◌, ◌≤◌, List, [], ◌∷◌, ◌++◌, length, Some, None, IsSome, inl, inr, refl, sym, ap, ◌∙◌, subst, arith}
+use Rattle.std.specs.Prelude.{IsSomeAnd}
+use Rattle.std.specs.declared.cmp.Ordering.TheVariants.{Less}
 use Rattle.rc_cell.specs.declared.rows.Row.{Row}
 use Rattle.rc_position.specs.declared.comps.Comp.{Comp}
 use Rattle.rc_position.specs.declared.positions.Pos.{Pos}
 use Rattle.rc_position.specs.Position.{IsBefore, pos_cmp, row_pos}
-use Rattle.rc_rowcode.specs.Objects.{entry_size}
-use Rattle.lsa_kinds.specs.declared.kind.Kind.{Kind}
-use Rattle.lsa_pool.specs.Room.{live_sum, spare_of}
+use Rattle.lsa_pool.specs.Room.{spare_of}
 use Rattle.lsa_store.specs.declared.place.Ref.{Ref}
 use Rattle.lsa_store.specs.Objects.{rounded_size}
 use Rattle.lsa_region.specs.declared.end.End.{End}
 use Rattle.lsa_region.specs.declared.end.End.TheVariants.{Obj}
 use Rattle.lsa_region.specs.Region.{View, body, link_of, live_bytes, IsWell, IsFreed}
-use Rattle.lsa_path.specs.laws.Members.{member-here}
-use Rattle.lsa_path.specs.laws.Renamed.{some-there}
 use Rattle.lsa_tree.specs.declared.tree.Tree.{Tree}
 use Rattle.lsa_tree.specs.declared.tree.Place.TheVariants.{Before, Here}
 use Rattle.lsa_tree.specs.Entries.{IsEntryAtPosition, BelongsBetween}
@@ -33,9 +29,9 @@ use Rattle.rc_core.specs.laws.Surgery.{entry-at, seen-on}
 use Rattle.rc_core.specs.Steps.{row_joined}
 use Rattle.rc_core.specs.Version.{Version, IsVersion, Ascend, On, end_position, entry_answers, found, seen}
 use Rattle.rc_object.specs.Objects.{HasRoomFor, HoldsEntry, IsMade, entry_length, entry_of}
-use Rattle.rc_version.specs.Versions.{tree_of, ArePutOrExchanged, CanJoin, IsJoined, IsKeptBut, IsUnlisted, IsVersionOf, IsWeighed, MayChange, bytes_at, entries_bytes, entry_bytes, joined_bytes, statics_bytes}
+use Rattle.rc_version.specs.Versions.{tree_of, CanJoin, IsJoined, IsKeptBut, IsUnlisted, IsVersionOf, IsWeighed, MayChange, bytes_at, entries_bytes, entry_bytes, joined_bytes, statics_bytes}
 use Rattle.rc_version.specs.laws.Holding.{IsAround, bytes-with, each-earlier, later-at}
-use Rattle.rc_version.specs.laws.Objects.{holds-extent, holds-stands}
+use Rattle.rc_version.specs.laws.Objects.{holds-stands}
 use Rattle.rc_version.specs.laws.Staying.{made-added}
 use Rattle.rc_version.proofs.Gaps.{changed-at, entries-ascend, entry-of, split-gap, split-here, weighed-with}
 use Rattle.rc_version.proofs.Swapped.{swap-alike, swap-kept, swap-live, swap-spare, swap-stands, swap-there, swap-unset, swap-version}

@@ -1,6 +1,6 @@
 -- A version that was made.
-use Rattle.std.proofs.Common.{◌≡◌, ◌≢◌, ℕ, ◌+◌, ◌≤◌, List, [], ◌∷◌, ◌++◌, Option, Some, None, IsSome, is_some, inl, inr, refl, sym, ap, ◌∙◌, subst, arith}
-use Rattle.std.specs.Prelude.{Contains, IsSomeAnd}
+use Rattle.std.proofs.Common.{◌≡◌, ◌≢◌, ℕ, ◌+◌, ◌≤◌, List, [], ◌∷◌, ◌++◌, Option, Some, None, IsSome, inl, refl, sym, ap, ◌∙◌, subst, arith}
+use Rattle.std.specs.Prelude.{Contains}
 use Rattle.rc_cell.specs.declared.writes.Tomb.{Tomb}
 use Rattle.lsa_kinds.specs.declared.kind.Kind.{Kind}
 use Rattle.lsa_pool.specs.Room.{spare_of, live_sum}
@@ -18,13 +18,13 @@ use Rattle.rc_core.specs.Change.{dummy, mark}
 use Rattle.rc_core.specs.declared.entries.Entry.{Entry}
 use Rattle.rc_core.specs.declared.entries.Flag.{Flag}
 use Rattle.rc_core.specs.Steps.{version_of}
-use Rattle.rc_core.specs.Version.{Version, IsVersion, end_position}
+use Rattle.rc_core.specs.Version.{end_position}
 use Rattle.rc_object.specs.declared.heads.Head.{Head}
 use Rattle.rc_object.specs.Objects.{HoldsEntry, HoldsHead, IsMade}
 use Rattle.rc_version.specs.Versions.{tree_of, IsVersionOf, IsKeptBut, MayChange}
 use Rattle.rc_version.specs.laws.Objects.{head-kind, head-same, holds-stands}
 use Rattle.rc_version.specs.laws.Staying.{made-added, made-same, made-kept, IsTreeStep, step-head, step-kept, static-off, kept-then}
-use Rattle.rc_version.proofs.Putting.{put-tree, put-fits, put-held, put-step}
+use Rattle.rc_version.proofs.Putting.{put-tree, put-held, put-step}
 
 no-member : (q : Ref) → Contains [] q → ⊥
 no-member q k = omega (arith, k.1)

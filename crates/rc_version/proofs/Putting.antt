@@ -10,7 +10,7 @@ use Rattle.lsa_pool.specs.Room.{spare_of, live_sum}
 use Rattle.lsa_store.specs.declared.place.Ref.{Ref}
 use Rattle.lsa_region.specs.declared.end.End.{End}
 use Rattle.lsa_region.specs.declared.end.End.TheVariants.{Obj}
-use Rattle.lsa_region.specs.Region.{View, body, link_of, live_bytes, IsEnd, IsWell}
+use Rattle.lsa_region.specs.Region.{View, body, link_of, live_bytes, IsWell}
 use Rattle.lsa_region.specs.laws.Ends.{no-end, some_and_none}
 use Rattle.lsa_path.specs.laws.Renamed.{some-there}
 use Rattle.rc_position.specs.declared.positions.Pos.{Pos}

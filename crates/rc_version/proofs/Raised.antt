@@ -1,7 +1,7 @@
 -- A version in which the tombstone at an entry, and over the gap before the next one, was raised.
-use Rattle.std.proofs.Common.{◌≡◌, ◌≢◌, ℕ, suc, ◌+◌, ◌<◌, ◌≤◌, List, [], ◌∷◌, ◌++◌, length, map, Option, Some, None, inl, inr, refl, sym, ap, ◌∙◌, subst, arith, append_assoc, length-append}
+use Rattle.std.proofs.Common.{◌≡◌, ◌≢◌, ℕ, ◌+◌, ◌<◌, ◌≤◌, List, [], ◌∷◌, ◌++◌, length, map, Some, None, refl, sym, ap, ◌∙◌, subst, arith, append_assoc, length-append}
 use Rattle.std.specs.Prelude.{Contains}
-use Rattle.std.proofs.lemmas.List.Elements.{Contains-append_cases, Contains-append_left, Contains-append_right}
+use Rattle.std.proofs.lemmas.List.Elements.{Contains-append_left, Contains-append_right}
 use Rattle.rc_cell.specs.declared.writes.Tomb.{Tomb}
 use Rattle.lsa_store.specs.declared.place.Ref.{Ref}
 use Rattle.lsa_region.specs.declared.end.End.TheVariants.{Obj}
@@ -9,7 +9,7 @@ use Rattle.lsa_region.specs.Region.{View, body, objects, IsSummed, IsWell}
 use Rattle.lsa_path.specs.laws.Passing.{path-few}
 use Rattle.lsa_tree.specs.Tree.{IsTree}
 use Rattle.lsa_tree.specs.laws.Trees.{fields_differ, top-outside, tree-once}
-use Rattle.lsa_path.specs.laws.Members.{member-cases, member-first, member-here, member-later}
+use Rattle.lsa_path.specs.laws.Members.{member-first, member-here, member-later}
 use Rattle.lsa_tree.specs.Entries.{IsReadAlike}
 use Rattle.lsa_tree.specs.Search.{first_entry}
 use Rattle.rc_core.specs.Change.{raised_mark, with_gap, with_mark, with_marks}
@@ -19,7 +19,7 @@ use Rattle.rc_core.specs.Version.{Version}
 use Rattle.rc_object.specs.Objects.{HoldsEntry, IsRewritten}
 use Rattle.rc_version.specs.Versions.{tree_of, HoldEntries, IsKept, IsVersionOf}
 use Rattle.rc_version.specs.calls.Raising.{AreHeld, IsRaising}
-use Rattle.rc_version.specs.laws.Holding.{hold-both, hold-kept, none-held}
+use Rattle.rc_version.specs.laws.Holding.{hold-both, hold-kept}
 use Rattle.rc_version.specs.laws.Staying.{kept-then}
 use Rattle.rc_version.proofs.Written.{entry-beside, marked-kept_by, marked-others, marked-version, rewritten-usages}
 

@@ -1,15 +1,13 @@
 -- A version with a range tombstone joined: split at both ends, and raised between.
-use Rattle.std.proofs.Common.{◌≡◌, ◌≢◌, ℕ, ◌+◌, ◌≤◌, List, [], ◌∷◌, ◌++◌, length, map, Some, None, inl, inr, refl, sym, ap, ◌∙◌, subst, arith}
+use Rattle.std.proofs.Common.{◌≡◌, ℕ, ◌+◌, ◌≤◌, List, [], ◌∷◌, ◌++◌, map, Some, inl, inr, refl, sym, ap, ◌∙◌, subst, arith}
 use Rattle.std.specs.Prelude.{Contains}
 use Rattle.std.proofs.lemmas.List.Elements.{Contains-append_cases, Contains-append_left, Contains-append_right}
 use Rattle.rc_cell.specs.declared.writes.Tomb.{Tomb}
 use Rattle.rc_position.specs.declared.positions.Pos.{Pos}
 use Rattle.rc_position.specs.Position.{IsBefore}
-use Rattle.rc_rowcode.specs.Objects.{dummy_size}
-use Rattle.lsa_pool.specs.Room.{live_sum, spare_of}
 use Rattle.lsa_store.specs.declared.place.Ref.{Ref}
-use Rattle.lsa_region.specs.Region.{View, body, live_bytes, IsWell}
-use Rattle.lsa_path.specs.laws.Members.{member-cases, member-first, member-here, member-later, member-split}
+use Rattle.lsa_region.specs.Region.{View, live_bytes}
+use Rattle.lsa_path.specs.laws.Members.{member-cases, member-here, member-later, member-split}
 use Rattle.lsa_tree.specs.Entries.{AreAscending, IsEntryAtPosition, StandsEarlier}
 use Rattle.lsa_tree.specs.laws.Orders.{all-at, ascending-split, before-at, not-both, stands-once}
 use Rattle.rc_core.specs.Change.{change, changed, join_range, raised_mark, split, with_gap, with_mark, with_marks}
@@ -19,7 +17,6 @@ use Rattle.rc_core.specs.declared.entries.Mark.{Mark}
 use Rattle.rc_core.specs.laws.Surgery.{change-over}
 use Rattle.rc_core.specs.Steps.{range_joined}
 use Rattle.rc_core.specs.Version.{Version, Ascend}
-use Rattle.rc_object.specs.Objects.{HoldsEntry}
 use Rattle.rc_version.specs.Versions.{ArePutAmong, HoldEntries, IsKept, IsKeptBut, IsSplit, IsVersionOf, IsWeighed, MayChange, entries_bytes, entry_bytes, statics_bytes, version_bytes}
 use Rattle.rc_version.specs.calls.Raising.{IsRaising}
 use Rattle.rc_version.specs.laws.Holding.{IsAround, around}

@@ -1,9 +1,7 @@
 -- A version that was given a static row.
-use Rattle.std.proofs.Common.{◌≡◌, ◌≢◌, ℕ, ◌+◌, ◌<◌, ◌≤◌, List, [], ◌∷◌, Option, Some, None, IsSome, is_some, inl, inr, refl, sym, ap, ◌∙◌, subst, arith}
-use Rattle.std.specs.Prelude.{IsSomeAnd}
+use Rattle.std.proofs.Common.{◌≡◌, ◌≢◌, ℕ, ◌+◌, ◌≤◌, List, Some, None, inl, inr, sym, ap, ◌∙◌, subst, arith}
 use Rattle.rc_cell.specs.declared.rows.Row.{Row}
 use Rattle.rc_rowcode.specs.Objects.{static_size}
-use Rattle.lsa_kinds.specs.declared.kind.Kind.{Kind}
 use Rattle.lsa_pool.specs.Room.{live_sum, spare_of}
 use Rattle.lsa_store.specs.declared.place.Ref.{Ref}
 use Rattle.lsa_region.specs.declared.end.End.{End}
@@ -11,13 +9,11 @@ use Rattle.lsa_region.specs.declared.end.End.TheVariants.{Obj}
 use Rattle.lsa_region.specs.Paired.{IsTied}
 use Rattle.lsa_region.specs.Region.{View, body, link_of, live_bytes, IsEnd, IsWell, SameObjects}
 use Rattle.lsa_region.specs.laws.Ends.{some_and_none}
-use Rattle.rc_core.specs.Continuity.{without_statics}
-use Rattle.rc_core.specs.declared.entries.Entry.{Entry}
 use Rattle.rc_core.specs.declared.entries.Flag.{Flag}
 use Rattle.rc_core.specs.Steps.{set_statics}
 use Rattle.rc_core.specs.Version.{Version}
 use Rattle.rc_object.specs.Objects.{HoldsStatic, IsMade}
-use Rattle.rc_version.specs.Versions.{IsVersionOf, IsKept, IsKeptBut, IsStaticsOf, IsUnlisted, IsWeighed, MayChange, entries_bytes, statics_bytes, version_bytes}
+use Rattle.rc_version.specs.Versions.{IsVersionOf, IsKept, IsKeptBut, IsStaticsOf, IsWeighed, MayChange, entries_bytes, statics_bytes}
 use Rattle.rc_version.specs.laws.Objects.{static-same}
 use Rattle.rc_version.specs.laws.Staying.{IsStaticStep, kept-then, kept-wider, made-added, made-kept, made-version, static-kept, version-kind}
 use Rattle.rc_version.proofs.StaticRows.{static-end, static-kind, static-version, version-end}

@@ -1,12 +1,12 @@
 -- A version in which a dummy was made in a gap, with what the gap says.
-use Rattle.std.proofs.Common.{◌≡◌, ◌≢◌, ℕ, ◌+◌, ◌≤◌, List, [], ◌∷◌, ◌++◌, Some, None, inl, inr, refl, sym, ap, ◌∙◌, subst}
+use Rattle.std.proofs.Common.{◌≡◌, ◌≢◌, ℕ, ◌+◌, ◌≤◌, List, ◌∷◌, ◌++◌, inr, refl, sym, ap, ◌∙◌, subst}
 use Rattle.rc_position.specs.declared.positions.Pos.{Pos}
 use Rattle.rc_rowcode.specs.Objects.{dummy_size}
 use Rattle.lsa_pool.specs.Room.{spare_of}
 use Rattle.lsa_store.specs.declared.place.Ref.{Ref}
 use Rattle.lsa_region.specs.declared.end.End.{End}
 use Rattle.lsa_region.specs.declared.end.End.TheVariants.{Obj}
-use Rattle.lsa_region.specs.Region.{View, body, link_of, IsWell}
+use Rattle.lsa_region.specs.Region.{View, link_of, IsWell}
 use Rattle.lsa_tree.specs.declared.tree.Tree.{Tree}
 use Rattle.lsa_tree.specs.declared.tree.Place.TheVariants.{Before}
 use Rattle.lsa_tree.specs.Entries.{IsEntryAtPosition, BelongsBetween}

@@ -1,6 +1,6 @@
 -- A version after its link to a static row was set or unset.
-use Rattle.std.proofs.Common.{◌≡◌, ◌≢◌, ℕ, zero, suc, ◌+◌, ◌<◌, ◌≤◌, List, [], ◌∷◌, ◌++◌, length, Option, Some, None, IsSome, is_some, inl, inr, refl, sym, ap, ◌∙◌, subst, arith}
-use Rattle.std.specs.Prelude.{IsSomeAnd, Contains}
+use Rattle.std.proofs.Common.{◌≡◌, ◌≢◌, ℕ, zero, suc, ◌+◌, ◌<◌, List, length, Option, Some, None, IsSome, is_some, refl, sym, ap, ◌∙◌, subst, arith}
+use Rattle.std.specs.Prelude.{IsSomeAnd}
 use Rattle.rc_cell.specs.declared.rows.Row.{Row}
 use Rattle.rc_rowcode.specs.Objects.{static_size}
 use Rattle.rc_rowcode.specs.Spelling.{row_code}
@@ -13,16 +13,14 @@ use Rattle.lsa_store.specs.Objects.{rounded_size}
 use Rattle.lsa_region.specs.declared.end.End.{End}
 use Rattle.lsa_region.specs.declared.end.End.TheVariants.{Obj}
 use Rattle.lsa_region.specs.Layout.{object_extent}
-use Rattle.lsa_region.specs.Paired.{IsTied, IsParted}
+use Rattle.lsa_region.specs.Paired.{IsParted}
 use Rattle.lsa_region.specs.Region.{View, body, link_of, live_bytes, IsEnd, IsWell, SameObjects, IsFreed}
 use Rattle.lsa_region.specs.laws.Ends.{past-links}
 use Rattle.lsa_path.specs.laws.Paths.{same_object}
-use Rattle.rc_core.specs.declared.entries.Entry.{Entry}
-use Rattle.rc_core.specs.declared.entries.Flag.{Flag}
 use Rattle.rc_core.specs.Steps.{set_statics}
-use Rattle.rc_core.specs.Version.{Version, IsVersion}
+use Rattle.rc_core.specs.Version.{Version}
 use Rattle.rc_object.specs.Objects.{HoldsStatic}
-use Rattle.rc_version.specs.Versions.{tree_of, head_of, HasStatics, HoldEntries, IsVersionOf, IsKept, IsStaticsOf, IsUnlisted, IsWeighed, entries_bytes, statics_bytes, version_bytes}
+use Rattle.rc_version.specs.Versions.{head_of, HasStatics, IsVersionOf, IsKept, IsStaticsOf, IsUnlisted, IsWeighed, entries_bytes, statics_bytes, version_bytes}
 use Rattle.rc_version.specs.laws.Objects.{head-same, holds-same, static-no_version, static-once, static-same}
 use Rattle.rc_version.specs.laws.Holding.{hold-kept}
 use Rattle.rc_version.specs.laws.Staying.{IsStaticStep, freed-kept, freed-version, kept-then, static-kept, static-tree, version-kind}

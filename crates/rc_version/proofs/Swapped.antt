@@ -1,16 +1,14 @@
 -- A version after an entry was made and put in the place of another one, which was freed.
-use Rattle.std.proofs.Common.{◌≡◌, ◌≢◌, ℕ, ◌+◌, ◌≤◌, List, [], ◌∷◌, ◌++◌, length, Some, None, IsSome, inl, inr, refl, sym, ap, ◌∙◌, subst, arith}
+use Rattle.std.proofs.Common.{◌≡◌, ◌≢◌, ℕ, ◌+◌, ◌≤◌, List, ◌∷◌, ◌++◌, length, None, IsSome, inl, inr, sym, ap, ◌∙◌, subst}
 use Rattle.std.specs.Prelude.{IsSomeAnd, Contains}
 use Rattle.std.proofs.lemmas.List.Elements.{Contains-append_left, Contains-append_right}
-use Rattle.lsa_kinds.specs.declared.kind.Kind.{Kind}
 use Rattle.lsa_kinds.specs.declared.kind.Kind.TheVariants.{Version as VersionKind}
 use Rattle.lsa_pool.specs.Room.{spare_of, live_sum}
 use Rattle.lsa_store.specs.declared.place.Ref.{Ref}
 use Rattle.lsa_store.specs.Objects.{rounded_size}
 use Rattle.lsa_region.specs.declared.end.End.{End}
 use Rattle.lsa_region.specs.declared.end.End.TheVariants.{Obj}
-use Rattle.lsa_region.specs.Layout.{object_extent}
-use Rattle.lsa_region.specs.Region.{View, body, link_of, live_bytes, IsEnd, IsWell, IsFreed}
+use Rattle.lsa_region.specs.Region.{View, body, link_of, live_bytes, IsWell, IsFreed}
 use Rattle.lsa_path.specs.laws.Members.{member-cases, member-first, member-here, member-later}
 use Rattle.lsa_path.specs.laws.Renamed.{some-there}
 use Rattle.lsa_tree.specs.declared.tree.Tree.{Tree}
@@ -22,10 +20,10 @@ use Rattle.rc_core.specs.declared.entries.Entry.{Entry}
 use Rattle.rc_core.specs.Continuity.{with_entries}
 use Rattle.rc_core.specs.Version.{Version, IsVersion}
 use Rattle.rc_object.specs.Objects.{HoldsEntry, IsMade}
-use Rattle.rc_version.specs.Versions.{tree_of, HoldEntries, IsVersionOf, IsKept, IsKeptBut, IsUnlisted, MayChange, entry_bytes}
-use Rattle.rc_version.specs.laws.Objects.{holds-stands, holds-same, holds-extent, holds-kind}
+use Rattle.rc_version.specs.Versions.{tree_of, HoldEntries, IsVersionOf, IsKeptBut, IsUnlisted, MayChange, entry_bytes}
+use Rattle.rc_version.specs.laws.Objects.{holds-stands, holds-same, holds-extent}
 use Rattle.rc_version.specs.laws.Holding.{hold-both, hold-kept}
-use Rattle.rc_version.specs.laws.Staying.{made-added, made-same, made-version, made-kept, IsTreeStep, step-held, step-kept, step-version, versions-apart, freed-version, freed-kept, freed-entry, version-kind, head-beside, kept-then}
+use Rattle.rc_version.specs.laws.Staying.{made-added, made-same, made-version, made-kept, IsTreeStep, step-held, step-kept, step-version, versions-apart, freed-version, freed-kept, freed-entry, version-kind, kept-then}
 use Rattle.rc_version.proofs.Putting.{put-loose, put-tree}
 use Rattle.rc_version.proofs.Taken.{freed-live, loose-unset}
 

@@ -1,5 +1,5 @@
 -- A version after an entry was taken out, and what is left of it was freed.
-use Rattle.std.proofs.Common.{◌≡◌, ◌≢◌, ℕ, zero, suc, ◌+◌, ◌≤◌, List, [], ◌∷◌, ◌++◌, length, Option, Some, None, inl, inr, refl, sym, ap, ◌∙◌, subst, arith}
+use Rattle.std.proofs.Common.{◌≡◌, ◌≢◌, ℕ, zero, suc, ◌+◌, List, [], ◌∷◌, ◌++◌, length, Option, Some, None, inl, inr, refl, ap, subst, arith}
 use Rattle.std.specs.Prelude.{IsSomeAnd, Contains}
 use Rattle.std.proofs.lemmas.List.Elements.{Contains-append_cases, Contains-append_left, Contains-append_right}
 use Rattle.lsa_kinds.specs.declared.kind.Kind.{Kind}
@@ -8,7 +8,7 @@ use Rattle.lsa_store.specs.Objects.{rounded_size}
 use Rattle.lsa_region.specs.declared.end.End.{End}
 use Rattle.lsa_region.specs.declared.end.End.TheVariants.{Obj}
 use Rattle.lsa_region.specs.Layout.{object_extent}
-use Rattle.lsa_region.specs.Region.{View, body, link_of, IsEnd, IsWell}
+use Rattle.lsa_region.specs.Region.{View, link_of, IsWell}
 use Rattle.lsa_region.specs.laws.Ends.{no-end, few-links}
 use Rattle.lsa_path.specs.laws.Members.{member-later, member-here}
 use Rattle.lsa_tree.specs.declared.tree.Tree.{Tree}

@@ -1,24 +1,22 @@
 -- A version after the bytes of one of its objects were changed.
-use Rattle.std.proofs.Common.{◌≡◌, ◌≢◌, ℕ, ◌+◌, ◌≤◌, List, [], ◌∷◌, ◌++◌, length, Option, Some, None, inl, inr, refl, sym, ap, ◌∙◌, subst, arith}
+use Rattle.std.proofs.Common.{◌≡◌, ◌≢◌, ℕ, List, ◌∷◌, ◌++◌, inl, inr, refl, sym, ap, subst}
 use Rattle.std.specs.Prelude.{IsSomeAnd, Contains}
 use Rattle.std.proofs.lemmas.List.Elements.{Contains-append_left, Contains-append_right}
-use Rattle.rc_cell.specs.declared.rows.Row.{Row}
-use Rattle.lsa_kinds.specs.declared.kind.Kind.{Kind}
 use Rattle.lsa_kinds.specs.declared.kind.Kind.TheVariants.{Version as VersionKind}
-use Rattle.lsa_pool.specs.Room.{live_sum, spare_of}
+use Rattle.lsa_pool.specs.Room.{live_sum}
 use Rattle.lsa_store.specs.declared.place.Ref.{Ref}
 use Rattle.lsa_region.specs.declared.end.End.TheVariants.{Obj}
-use Rattle.lsa_region.specs.Region.{View, body, link_of, live_bytes, IsWell, IsWritten}
+use Rattle.lsa_region.specs.Region.{View, body, live_bytes, IsWell, IsWritten}
 use Rattle.lsa_region.specs.laws.Refs.{refs_decided}
 use Rattle.lsa_path.specs.laws.Members.{member-here}
 use Rattle.lsa_tree.specs.Entries.{IsEntryKind, IsReadAlike}
 use Rattle.lsa_tree.specs.Tree.{IsTree}
 use Rattle.lsa_tree.specs.laws.Orders.{ascending-split, ascending-stands, never-at}
-use Rattle.lsa_tree.specs.laws.Trees.{no_entry_at, same-read, tree-entry, tree-unlinked, tree-written_beside, written-version}
+use Rattle.lsa_tree.specs.laws.Trees.{same-read, tree-unlinked, tree-written_beside, written-version}
 use Rattle.rc_core.specs.Continuity.{with_entries}
 use Rattle.rc_core.specs.declared.entries.Entry.{Entry}
 use Rattle.rc_core.specs.Version.{Version, IsVersion}
-use Rattle.rc_object.specs.Objects.{HoldsEntry, HoldsHead, HoldsStatic, IsRewritten}
+use Rattle.rc_object.specs.Objects.{HoldsEntry, HoldsHead, IsRewritten}
 use Rattle.rc_version.specs.Versions.{tree_of, head_of, HasStatics, HoldEntries, IsVersionOf, IsKept, IsKeptBut, MayChange}
 use Rattle.rc_version.specs.laws.Objects.{head-same, holds-same, static-no_version, static-no_entry}
 use Rattle.rc_version.specs.laws.Holding.{hold-both, hold-kept, replaced-is}

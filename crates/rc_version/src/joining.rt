@@ -129,23 +129,23 @@ fn join_like_before<const S: usize>(
 fn join_like_onto<const S: usize>(
     region: &mut Region<S>,
     v: Ref,
-    old: Ref,
+    there: Ref,
     e: Ref,
     sc: &mut Scratch,
 ) -> Ref
     requires row { (y : Entry) × (row : Row) × (refs : List Name) × (c : Version) × HoldsEntry region.old e y × (y.row ≡ Some row) × IsBefore y.position end_position × CanJoin S region.old sc.old.size v y.position row refs c }
-    requires found { (refs : List Name) (c : Version) (y : Entry) → IsVersionOf region.old v refs c → HoldsEntry region.old e y → IsFound region.old refs y.position (Place.Here old) }
+    requires found { (refs : List Name) (c : Version) (y : Entry) → IsVersionOf region.old v refs c → HoldsEntry region.old e y → IsFound region.old refs y.position (Place.Here there) }
     ensures joined { (y : Entry) (row : Row) → HoldsEntry region.old e y → y.row ≡ Some row → IsJoined S region.old region.new v y.position row result }
     ensures size { sc.new.size ≡ sc.old.size }
     ensures well { IsWell region.new }
 {
     region.known();
-    let r = make_joined_like(region, old, e, sc);
+    let r = make_joined_like(region, there, e, sc);
     let tree = Tree {
         top: End::Obj(v, 2),
     };
-    tree.replace(region, old, r);
-    region.free_obj(old);
+    tree.replace(region, there, r);
+    region.free_obj(there);
     r
 }
 

@@ -2,6 +2,7 @@
 #![tactic(auto)]
 
 mod joining;
+pub mod laws;
 mod marking;
 mod raising;
 mod splitting;

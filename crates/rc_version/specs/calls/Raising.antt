@@ -1,5 +1,5 @@
 -- A stretch of a version's entries on which a range tombstone is joined, entry by entry.
-use Rattle.std.specs.Prelude.{◌≡◌, ℕ, ◌≤◌, List, [], ◌∷◌, ◌++◌, length, map, Some}
+use Rattle.std.specs.Prelude.{◌≡◌, ℕ, ◌≤◌, List, ◌∷◌, ◌++◌, length, map, Some}
 use Rattle.rc_cell.specs.declared.writes.Tomb.{Tomb}
 use Rattle.lsa_store.specs.declared.place.Ref.{Ref}
 use Rattle.lsa_region.specs.Region.{View}

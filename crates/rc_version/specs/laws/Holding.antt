@@ -1,14 +1,14 @@
 -- The objects of entries and the entries, list beside list.
-use Rattle.std.proofs.Common.{◌≡◌, ℕ, ◌+◌, List, [], ◌∷◌, ◌++◌, refl, sym, ap, ◌∙◌, subst, arith}
+use Rattle.std.proofs.Common.{◌≡◌, ◌+◌, List, [], ◌∷◌, ◌++◌, refl, sym, ap, ◌∙◌, subst, arith}
 use Rattle.std.specs.Prelude.{Contains}
 use Rattle.std.specs.List.{AllByRecursion}
-use Rattle.std.specs.declared.cmp.Ordering.TheVariants.{Less, Greater}
+use Rattle.std.specs.declared.cmp.Ordering.TheVariants.{Less}
 use Rattle.rc_position.specs.declared.positions.Pos.{Pos}
-use Rattle.rc_position.specs.Position.{pos_cmp, IsBefore}
+use Rattle.rc_position.specs.Position.{IsBefore}
 use Rattle.lsa_store.specs.declared.place.Ref.{Ref}
 use Rattle.lsa_region.specs.Region.{View}
 use Rattle.lsa_path.specs.laws.Members.{member-first, member-later}
-use Rattle.lsa_tree.specs.Entries.{IsEntryAtPosition, StandsEarlier, StandsLater}
+use Rattle.lsa_tree.specs.Entries.{StandsEarlier, StandsLater}
 use Rattle.lsa_tree.specs.laws.Orders.{before-at, behind-at}
 use Rattle.rc_core.specs.AtPlace.{EachEntry}
 use Rattle.rc_core.specs.Continuity.{with_entries}

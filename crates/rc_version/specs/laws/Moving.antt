@@ -1,21 +1,20 @@
 -- A version after objects moved, and that an object is one version.
-use Rattle.std.proofs.Common.{◌≡◌, ℕ, List, [], ◌∷◌, ◌++◌, Option, Some, None, IsSome, is_some, refl, sym, ap, ◌∙◌, subst, map}
+use Rattle.std.proofs.Common.{◌≡◌, ℕ, List, [], ◌∷◌, Option, Some, None, IsSome, is_some, refl, sym, ap, ◌∙◌, subst, map}
 use Rattle.std.specs.Prelude.{IsSomeAnd}
 use Rattle.std.specs.Option.{option_map}
 use Rattle.rc_cell.specs.declared.rows.Row.{Row}
 use Rattle.lsa_kinds.specs.declared.kind.Kind.{Kind}
 use Rattle.lsa_store.specs.declared.place.Ref.{Ref}
-use Rattle.lsa_region.specs.declared.end.End.{End}
 use Rattle.lsa_region.specs.declared.end.End.TheVariants.{Obj}
 use Rattle.lsa_region.specs.Ends.{named_as, end_as}
-use Rattle.lsa_region.specs.Region.{View, body, link_of, IsWell, Renamed}
+use Rattle.lsa_region.specs.Region.{View, body, IsWell, Renamed}
 use Rattle.lsa_path.specs.laws.Renamed.{some-there}
 use Rattle.lsa_tree.specs.laws.Trees.{tree-once, tree-renamed}
 use Rattle.rc_core.specs.declared.entries.Entry.{Entry}
-use Rattle.rc_core.specs.Version.{Version, IsVersion}
-use Rattle.rc_object.specs.Objects.{HoldsEntry, HoldsHead, HoldsStatic, SpellsEntry, SpellsHead}
+use Rattle.rc_core.specs.Version.{Version}
+use Rattle.rc_object.specs.Objects.{HoldsStatic, SpellsEntry, SpellsHead}
 use Rattle.rc_version.specs.Versions.{tree_of, head_of, HasStatics, HoldEntries, IsVersionOf}
-use Rattle.rc_version.specs.laws.Objects.{head-kind, head-once, entry-once, static-once}
+use Rattle.rc_version.specs.laws.Objects.{head-once, entry-once, static-once}
 use Rattle.rc_version.specs.laws.Staying.{version-kind}
 
 module _ (old new : View) (names : List (Ref × Ref)) (renamed : Renamed old new names) where

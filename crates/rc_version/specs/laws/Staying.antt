@@ -1,5 +1,5 @@
 -- What each change of objects and links leaves of versions.
-use Rattle.std.proofs.Common.{◌≡◌, ◌≢◌, ℕ, zero, suc, ◌+◌, ◌≤◌, ◌⊎◌, List, [], ◌∷◌, ◌++◌, length, Option, Some, None, IsSome, is_some, inl, inr, refl, sym, ap, ◌∙◌, subst, arith}
+use Rattle.std.proofs.Common.{◌≡◌, ◌≢◌, ℕ, zero, suc, ◌≤◌, List, length, Option, Some, None, IsSome, is_some, inl, inr, refl, sym, ap, ◌∙◌, subst, arith}
 use Rattle.std.specs.Prelude.{IsSomeAnd, Contains}
 use Rattle.rc_cell.specs.declared.rows.Row.{Row}
 use Rattle.lsa_kinds.specs.declared.kind.Kind.{Kind}
@@ -7,23 +7,20 @@ use Rattle.lsa_kinds.specs.declared.kind.Kind.TheVariants.{Version as VersionKin
 use Rattle.lsa_store.specs.declared.place.Ref.{Ref}
 use Rattle.lsa_region.specs.declared.end.End.{End}
 use Rattle.lsa_region.specs.declared.end.End.TheVariants.{Obj, Slot}
-use Rattle.lsa_region.specs.declared.end.Root.{Root}
-use Rattle.lsa_region.specs.Paired.{IsTied, IsParted}
-use Rattle.lsa_region.specs.Region.{View, body, link_of, IsEnd, IsWell, SameObjects, IsAdded, IsFreed, IsWritten}
-use Rattle.lsa_region.specs.laws.Refs.{refs_decided}
-use Rattle.lsa_path.specs.Roles.{Role, role_of, role_in, role_at, Parent, Left, Right, Entries}
+use Rattle.lsa_region.specs.Region.{View, body, link_of, IsWell, SameObjects, IsAdded, IsFreed, IsWritten}
+use Rattle.lsa_path.specs.Roles.{role_of, role_in}
 use Rattle.lsa_path.specs.laws.Paths.{same_object}
 use Rattle.lsa_path.specs.laws.Renamed.{some-there}
 use Rattle.lsa_tree.specs.declared.tree.Tree.{Tree}
-use Rattle.lsa_tree.specs.Entries.{IsEntryKind, IsReadAlike}
-use Rattle.lsa_tree.specs.Tree.{IsTop, IsTree, IsLoose, IsOffRole, IsOffTree, SameButBalances}
-use Rattle.lsa_tree.specs.laws.Trees.{no_entry_at, tree-entry, tree-left, tree-linked, tree-added, tree-freed, tree-written_beside, tree-unlinked, trees-apart, written-version, same-read, version-same, top-kept}
+use Rattle.lsa_tree.specs.Entries.{IsEntryKind}
+use Rattle.lsa_tree.specs.Tree.{IsTree, IsOffRole, IsOffTree, SameButBalances}
+use Rattle.lsa_tree.specs.laws.Trees.{no_entry_at, tree-entry, tree-left, tree-linked, tree-added, tree-freed, tree-written_beside, trees-apart, same-read, version-same, top-kept}
 use Rattle.rc_core.specs.declared.entries.Entry.{Entry}
 use Rattle.rc_core.specs.Continuity.{with_entries}
 use Rattle.rc_core.specs.Version.{Version, IsVersion}
-use Rattle.rc_object.specs.Objects.{HoldsEntry, HoldsStatic, IsMade, IsRewritten}
-use Rattle.rc_version.specs.Versions.{tree_of, head_of, HasStatics, HoldEntries, IsVersionOf, IsPartOf, IsOutward, IsKept}
-use Rattle.rc_version.specs.laws.Objects.{head-kind, holds-kind, static-no_version, static-no_entry, head-same, static-same, holds-same, holds-alike}
+use Rattle.rc_object.specs.Objects.{HoldsEntry, HoldsStatic, IsMade}
+use Rattle.rc_version.specs.Versions.{tree_of, head_of, HasStatics, HoldEntries, IsVersionOf, IsOutward, IsKept}
+use Rattle.rc_version.specs.laws.Objects.{head-kind, static-no_version, static-no_entry, head-same, static-same, holds-same, holds-alike}
 use Rattle.rc_version.specs.laws.Holding.{hold-kept}
 
 -- ---- one version
@@ -344,3 +341,13 @@ kept-wider these others n old new all k = record {
   moved = k.moved;
   compacted = k.compacted;
 }
+
+-- ---- links outward changed
+
+not_outward : (field : ℕ) → 2 ≤ field → field ≤ 1 → ⊥
+not_outward field a b = omega (arith, a, b)
+
+pub version-outward : (v w : View) (n : Ref) (refs : List Ref) (c : Version) → ((e : End) → (IsOutward e → ⊥) → link_of w e ≡ link_of v e) → ((r : Ref) → body w r ≡ body v r) → IsVersionOf v n refs c → IsVersionOf w n refs c
+version-outward v w n refs c links bodies h = version-stays v w n refs c (bodies n) (links (Obj n 3) (not_outward 3 (omega arith))) (λ s row link k. bodies s) (λ r e k hold. holds-same v w r e (bodies r) hold)
+    (tree-linked (tree_of n) v w refs (top-kept v w (tree_of n).top (λ r k. version-same (body v r) (body w r) (bodies r) k) h.tree.top) (links (Obj n 2) (not_outward 2 (omega arith)))
+    (λ r k. same-read (body v r) (body w r) (bodies r)) (λ r k field low high. links (Obj r field) (not_outward field low)) h.tree) h

@@ -1,5 +1,5 @@
 use Rattle.std.proofs.Common.{arith}
-use Rattle.rc_version.proofs.Likes.{like-entry, like-no_dummy, like-no_version, like-static, like-there, no-static, not-both}
+use Rattle.rc_version.proofs.Likes.{like-entry, like-static, like-there, no-static, not-both}
 use Rattle.rc_version.proofs.joining.join_like.Goals as goal
 
 pub kind-requires : goal.kind-requires

@@ -4,7 +4,6 @@ use Rattle.rc_rowcode.specs.Objects.{dummy_size}
 use Rattle.rc_core.specs.Change.{split}
 use Rattle.rc_core.specs.Continuity.{with_entries}
 use Rattle.rc_object.specs.Objects.{entry_length}
-use Rattle.rc_core.specs.Steps.{range_joined}
 use Rattle.rc_version.specs.Versions.{IsVersionOf, MayChange, version_bytes}
 use Rattle.rc_version.proofs.Putting.{fresh-unlisted}
 use Rattle.rc_version.proofs.Ranges.{both, both-wider, left-spare, range-kept, range-live, range-raising, two-spare}

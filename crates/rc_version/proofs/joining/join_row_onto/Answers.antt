@@ -2,8 +2,6 @@ use Rattle.std.proofs.Common.{arith, sym, subst}
 use Rattle.std.specs.Prelude.{Contains}
 use Rattle.lsa_path.specs.laws.Members.{member-here}
 use Rattle.rc_position.specs.Position.{row_pos}
-use Rattle.rc_core.specs.Change.{joined_onto, with_row}
-use Rattle.rc_version.specs.Versions.{bytes_at, tree_of}
 use Rattle.rc_version.proofs.Joins.{key-before_end, onto-join, onto-room, onto-there, onto-unset, swap-asks}
 use Rattle.rc_version.proofs.joining.join_row_onto.Goals as goal
 

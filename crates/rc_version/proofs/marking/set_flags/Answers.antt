@@ -2,7 +2,6 @@ use Rattle.std.proofs.Common.{arith, refl, sym, subst}
 use Rattle.lsa_path.specs.laws.Members.{member-split}
 use Rattle.rc_core.specs.Change.{mark}
 use Rattle.rc_core.specs.Continuity.{with_entries}
-use Rattle.rc_core.specs.declared.entries.Entry.{Entry}
 use Rattle.rc_core.specs.Steps.{with_flags}
 use Rattle.rc_object.specs.Objects.{HoldsEntry, entry_of}
 use Rattle.rc_version.specs.Versions.{IsVersionOf}

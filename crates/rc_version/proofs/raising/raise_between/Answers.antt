@@ -1,4 +1,4 @@
-use Rattle.std.proofs.Common.{◌≡◌, ◌∷◌, ◌++◌, None, Some, arith, sym, ap, ◌∙◌, subst}
+use Rattle.std.proofs.Common.{◌∷◌, ◌++◌, arith, sym, ◌∙◌}
 use Rattle.std.specs.Prelude.{Contains}
 use Rattle.rc_version.specs.laws.Staying.{kept-then}
 use Rattle.rc_version.proofs.Raised.{next-there, pair-keeps, raising-ends, raising-few, raising-pair, raising-step, raising-at}

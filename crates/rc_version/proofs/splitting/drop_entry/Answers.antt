@@ -1,4 +1,4 @@
-use Rattle.std.proofs.Common.{[], ◌∷◌, ◌++◌, arith, refl, sym, ap, ◌∙◌, subst}
+use Rattle.std.proofs.Common.{◌∷◌, ◌++◌, arith, sym, ◌∙◌, subst}
 use Rattle.rc_core.specs.Change.{drop_at}
 use Rattle.rc_core.specs.Continuity.{with_entries}
 use Rattle.rc_version.specs.laws.Holding.{both-around}

@@ -1,7 +1,7 @@
-use Rattle.std.proofs.Common.{◌≡◌, ◌+◌, arith, inl, inr, None, refl, sym, ap, ◌∙◌, subst}
-use Rattle.lsa_pool.specs.Room.{live_sum, spare_of}
+use Rattle.std.proofs.Common.{◌≡◌, ◌+◌, arith, inl, inr, None, refl, ap, ◌∙◌, subst}
+use Rattle.lsa_pool.specs.Room.{spare_of}
 use Rattle.lsa_region.specs.laws.Ends.{some_and_none}
-use Rattle.lsa_region.specs.Region.{body, live_bytes}
+use Rattle.lsa_region.specs.Region.{body}
 use Rattle.rc_core.specs.Steps.{set_statics}
 use Rattle.rc_version.specs.Versions.{IsStaticsOf, MayChange, version_bytes}
 use Rattle.rc_version.specs.laws.Staying.{kept-then, kept-wider, version-kind}

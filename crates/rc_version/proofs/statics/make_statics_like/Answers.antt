@@ -1,4 +1,4 @@
-use Rattle.std.proofs.Common.{◌+◌, ◌∷◌, [], None, Some, arith, inl, sym, ap, ◌∙◌, subst}
+use Rattle.std.proofs.Common.{arith, inl, sym, ◌∙◌, subst}
 use Rattle.rc_rowcode.specs.Objects.{static_size}
 use Rattle.rc_rowcode.specs.Spelling.{row_code}
 use Rattle.std.specs.Prelude.{length}

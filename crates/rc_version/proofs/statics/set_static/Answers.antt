@@ -6,7 +6,7 @@ use Rattle.rc_rowcode.specs.Objects.{static_size}
 use Rattle.rc_version.specs.Versions.{MayChange, version_bytes}
 use Rattle.rc_version.specs.laws.Staying.{kept-then, made-added, made-version}
 use Rattle.rc_version.proofs.Putting.{fresh-unlisted}
-use Rattle.rc_version.proofs.SetStatics.{set-alone, set-apart, set-first, set-held, set-kept, set-live, set-second, set-spare, set-unset, set-version}
+use Rattle.rc_version.proofs.SetStatics.{set-alone, set-apart, set-first, set-kept, set-live, set-second, set-spare, set-unset, set-version}
 use Rattle.rc_version.proofs.Written.{head-kept_by, rewritten-live, rewritten-usages}
 use Rattle.rc_version.proofs.statics.set_static.Goals as goal
 

@@ -1,5 +1,4 @@
-use Rattle.std.proofs.Common.{arith, refl, sym, ap, ◌∙◌, subst, Option, Some}
-use Rattle.rc_cell.specs.declared.writes.Tomb.{Tomb}
+use Rattle.std.proofs.Common.{arith, refl, ap, ◌∙◌, subst, Some}
 use Rattle.rc_cell.specs.Greatest.{greater}
 use Rattle.rc_cell.specs.Orders.{tomb_cmp}
 use Rattle.rc_core.specs.Steps.{join_pt}

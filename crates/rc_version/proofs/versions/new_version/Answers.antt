@@ -1,4 +1,4 @@
-use Rattle.std.proofs.Common.{[], ◌∷◌, None, arith, refl, sym, ap, ◌∙◌, subst}
+use Rattle.std.proofs.Common.{[], None, arith}
 use Rattle.rc_core.specs.Change.{dummy, mark}
 use Rattle.rc_core.specs.Version.{end_position}
 use Rattle.rc_version.proofs.NewVersions.{new-tree, new-version, new-kept, new-spare, new-live}

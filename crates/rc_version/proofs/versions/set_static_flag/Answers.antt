@@ -1,4 +1,4 @@
-use Rattle.std.proofs.Common.{arith, refl, sym, subst}
+use Rattle.std.proofs.Common.{arith, refl, subst}
 use Rattle.rc_core.specs.Steps.{set_static_flag}
 use Rattle.rc_object.specs.declared.heads.Head.{Head}
 use Rattle.rc_object.specs.Objects.{HoldsHead}
