@@ -24,7 +24,7 @@ use Rattle.rc_core.specs.laws.Order.{take_out-is}
 use Rattle.rc_core.specs.laws.Spots.{taken_out}
 use Rattle.rc_core.specs.Version.{Version, IsVersion, Ascend, EndsWithDummy}
 use Rattle.rc_object.specs.Objects.{HoldsEntry, IsRewritten}
-use Rattle.rc_version.specs.Versions.{tree_of, IsVersionOf, IsKept, IsKeptBut, IsUnlisted, IsWeighed, MayChange, entry_bytes, entries_bytes}
+use Rattle.rc_version.specs.Versions.{tree_of, IsVersionOf, IsKeptBeside, IsKeptBut, IsUnlisted, IsWeighed, MayChange, entry_bytes, entries_bytes}
 use Rattle.rc_version.specs.laws.Objects.{holds-stands, holds-same, holds-extent}
 use Rattle.rc_version.specs.laws.Holding.{AreAround, both-around, before-end, bytes-same, bytes-with, hold-kept}
 use Rattle.rc_version.specs.laws.Staying.{step-kept, freed-version, freed-kept, freed-entry, version-kind, kept-then}
@@ -35,7 +35,7 @@ lighter : (new freed put old size s before after other : ℕ) → new ≡ freed 
 lighter new freed put old size s before after other a b d f k = omega arith
 
 -- the links outward of what is in no list stay unset
-pub unlisted_stays : (these : Ref → Type 0) (n : Ref) (old new : View) (r : Ref) → IsKept these n old new → IsUnlisted old r → IsUnlisted new r
+pub unlisted_stays : (these : Ref → Type 0) (n : Ref) (old new : View) (r : Ref) → IsKeptBeside these n old new → IsUnlisted old r → IsUnlisted new r
 unlisted_stays these n old new r kept out = λ field low. kept.links (Obj r field) low ∙ out field low
 
 module _ (S : ℕ) (old put freed new : View) (n e next : Ref) (front rest : List Ref) (c : Version) (h : IsVersionOf old n (front ++ (e ∷ next ∷ rest)) c)

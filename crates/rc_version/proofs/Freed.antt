@@ -18,7 +18,7 @@ use Rattle.lsa_tree.specs.Tree.{IsTree, IsLoose, IsOffTree, SameButBalances}
 use Rattle.lsa_tree.specs.laws.Trees.{no_entry_at, empty-unset}
 use Rattle.rc_core.specs.Version.{Version, EndsWithDummy}
 use Rattle.rc_object.specs.Objects.{HoldsHead}
-use Rattle.rc_version.specs.Versions.{tree_of, head_of, HasStatics, IsVersionOf, IsKeptBut, IsUnlisted, MayChange, bytes_at}
+use Rattle.rc_version.specs.Versions.{tree_of, version_head, HasStatics, IsVersionOf, IsKeptBut, IsUnlisted, MayChange, bytes_at}
 use Rattle.rc_version.specs.laws.Objects.{head-kind, head-same, head-extent, holds-extent}
 use Rattle.rc_version.specs.laws.Holding.{one-held}
 use Rattle.rc_version.specs.laws.Staying.{step-head, step-kept, static-off, freed-kept, version-kind, kept-then}
@@ -44,8 +44,8 @@ module _ (S : ℕ) (old put : View) (n end : Ref) (c : Version) (h : IsVersionOf
   pub end-there : IsSome (body put end)
   end-there = some-there _ (body put end) out.entry
 
-  put_head : HoldsHead put n (head_of c)
-  put_head = head-same old put n (head_of c) (step-head old put n (end ∷ []) (take-step old put well_old n end [] [] c h others elsewhere objects) n (version-kind old n (end ∷ []) c h)) h.head
+  put_head : HoldsHead put n (version_head c)
+  put_head = head-same old put n (version_head c) (step-head old put n (end ∷ []) (take-step old put well_old n end [] [] c h others elsewhere objects) n (version-kind old n (end ∷ []) c h)) h.head
 
   module _ (mid : View) (well_mid : IsWell mid) (free_end : IsFreed put mid end) (budget : length mid.usages ≡ length put.usages) (moved : mid.moved ≡ put.moved) (compacted : mid.compacted ≡ put.compacted) where
     no_head : (m : Ref) → IsSomeAnd (body put m) (λ b. b.0 ≡ VersionKind) → m ≢ end
@@ -54,8 +54,8 @@ module _ (S : ℕ) (old put : View) (n end : Ref) (c : Version) (h : IsVersionOf
     mid_kept : IsKeptBut n old mid
     mid_kept = kept-then (MayChange old n) n old put mid put_kept (freed-kept put mid end well_put free_end end-unset (MayChange old n) n (inr (inr (inl (end ∷ [], h.tree, member-first end [])))) (λ m ne kind. no_head m kind) budget moved compacted)
 
-    mid_head : HoldsHead mid n (head_of c)
-    mid_head = head-same put mid n (head_of c) (free_end.others n (no_head n (head-kind put n (head_of c) put_head))) put_head
+    mid_head : HoldsHead mid n (version_head c)
+    mid_head = head-same put mid n (version_head c) (free_end.others n (no_head n (head-kind put n (version_head c) put_head))) put_head
 
     pub head-there : IsSome (body mid n)
     head-there = some-there _ (body mid n) mid_head
@@ -68,7 +68,7 @@ module _ (S : ℕ) (old put : View) (n end : Ref) (c : Version) (h : IsVersionOf
     head-unset (suc zero) = unlisted_stays (MayChange old n) n old mid n mid_kept unlisted 1 (omega arith)
     head-unset (suc (suc zero)) = free_end.links (Obj n 2) ∙ empty-unset (tree_of n) put removed
     head-unset (suc (suc (suc zero))) = free_end.links (Obj n 3) ∙ elsewhere (Obj n 3) (static-off old n (version-kind old n (end ∷ []) c h)) ∙ no_statics
-    head-unset (suc (suc (suc (suc field)))) = no-end mid well_mid (Obj n (suc (suc (suc (suc field))))) (λ there. let few = few_links (body mid n) (suc (suc (suc (suc field)))) (head-kind mid n (head_of c) mid_head) there in omega (arith, few))
+    head-unset (suc (suc (suc (suc field)))) = no-end mid well_mid (Obj n (suc (suc (suc (suc field))))) (λ there. let few = few_links (body mid n) (suc (suc (suc (suc field)))) (head-kind mid n (version_head c) mid_head) there in omega (arith, few))
 
     module _ (new : View) (free : IsFreed mid new n) (budget' : length new.usages ≡ length mid.usages) (moved' : new.moved ≡ mid.moved) (compacted' : new.compacted ≡ mid.compacted) where
       pub free-kept : IsKeptBut n old new
@@ -80,6 +80,6 @@ module _ (S : ℕ) (old put : View) (n end : Ref) (c : Version) (h : IsVersionOf
       pub free-live : IsSomeAnd (body put end) (λ b. live_bytes mid + rounded_size b.0 (length b.1) ≡ live_bytes put) → IsSomeAnd (body mid n) (λ b. live_bytes new + rounded_size b.0 (length b.1) ≡ live_bytes mid) → live_bytes new + 152 ≡ live_bytes old
       free-live less_end less =
           let one = one-held old end c.entries h.entries in let e = one.0 in let ends = subst EndsWithDummy one.1 h.version.ends in
-          both_freed (live_bytes new) (live_bytes mid) (live_bytes put) (live_bytes old) (freed-live (body mid n) (live_bytes mid) (live_bytes new) 64 less (head-extent mid n (head_of c) mid_head))
+          both_freed (live_bytes new) (live_bytes mid) (live_bytes put) (live_bytes old) (freed-live (body mid n) (live_bytes mid) (live_bytes new) 64 less (head-extent mid n (version_head c) mid_head))
           (freed-live (body put end) (live_bytes put) (live_bytes mid) 88 less_end (holds-extent put end e (take-held old put well_old n end [] [] c h others elsewhere objects e one.2) ∙ (λ i. bytes_at (ends.0 i) (ends.1 i))))
           (ap (λ us. live_sum us) objects.usages)

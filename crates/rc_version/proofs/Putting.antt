@@ -23,7 +23,7 @@ use Rattle.rc_core.specs.declared.entries.Entry.{Entry}
 use Rattle.rc_core.specs.Continuity.{with_entries}
 use Rattle.rc_core.specs.Version.{Version, IsVersion}
 use Rattle.rc_object.specs.Objects.{HoldsEntry, IsMade}
-use Rattle.rc_version.specs.Versions.{tree_of, HoldEntries, IsVersionOf, IsKept, IsKeptBut, IsUnlisted, MayChange}
+use Rattle.rc_version.specs.Versions.{tree_of, HoldEntries, IsVersionOf, IsKeptBeside, IsKeptBut, IsUnlisted, MayChange}
 use Rattle.rc_version.specs.laws.Objects.{made-kind, not_static, holds-stands, holds-same}
 use Rattle.rc_version.specs.laws.Holding.{hold-both, hold-kept}
 use Rattle.rc_version.specs.laws.Staying.{made-added, made-same, made-version, made-kept, IsTreeStep, step-held, step-beside, step-kept, step-version, static-off, versions-apart, kept-then}
@@ -50,7 +50,7 @@ fresh-before None p there gone = refl
 fresh-before (Some b) p there gone = absurd (let clash = subst IsSome gone (there refl) in cc)
 
 -- what was not there is in no list
-pub fresh-unlisted : (these : Ref → Type 0) (n : Ref) (old new : View) → IsWell old → IsKept these n old new → (q : Ref) → body old q ≡ None → IsUnlisted new q
+pub fresh-unlisted : (these : Ref → Type 0) (n : Ref) (old new : View) → IsWell old → IsKeptBeside these n old new → (q : Ref) → body old q ≡ None → IsUnlisted new q
 fresh-unlisted these n old new well kept q gone = λ field low. kept.links (Obj q field) low ∙ no-end old well (Obj q field) (λ there. some_and_none (body old q) _ gone there)
 
 module _ (S : ℕ) (old mid : View) (n r : Ref) (size : ℕ) (e : Entry) (made : IsMade S old mid r size) (held : HoldsEntry mid r e) where

@@ -17,7 +17,7 @@ use Rattle.rc_core.specs.declared.entries.Mark.{Mark}
 use Rattle.rc_core.specs.laws.Surgery.{change-over}
 use Rattle.rc_core.specs.Steps.{range_joined}
 use Rattle.rc_core.specs.Version.{Version, Ascend}
-use Rattle.rc_version.specs.Versions.{ArePutAmong, HoldEntries, IsKept, IsKeptBut, IsSplit, IsVersionOf, IsWeighed, MayChange, entries_bytes, entry_bytes, statics_bytes, version_bytes}
+use Rattle.rc_version.specs.Versions.{ArePutAmong, HoldEntries, IsKeptBeside, IsKeptBut, IsSplit, IsVersionOf, IsWeighed, MayChange, entries_bytes, entry_bytes, statics_bytes, version_bytes}
 use Rattle.rc_version.specs.calls.Raising.{IsRaising}
 use Rattle.rc_version.specs.laws.Holding.{IsAround, around}
 use Rattle.rc_version.specs.laws.Objects.{holds-stands}
@@ -171,7 +171,7 @@ module _ (S : ℕ) (old mid new : View) (n first last : Ref) (from to : Pos) (to
     range-live = two_weighed (live_bytes old) (live_bytes mid) (live_bytes new) (version_bytes c) (version_bytes c1) (version_bytes (range_joined from to tomb c)) (one.live refs c h)
         (two.live refs1 c1 v1 ∙ ap (λ k. live_bytes mid + (64 + (statics_bytes c.statics + k))) (sym (bytes-mapped (changed f from to) (λ e. refl) es)))
 
-    pub range-kept : (now : View) → IsKept (Contains both) n new now → IsKeptBut n old now
+    pub range-kept : (now : View) → IsKeptBeside (Contains both) n new now → IsKeptBut n old now
     range-kept now last_kept = kept-then (MayChange old n) n old mid now one.kept
         (kept-then (MayChange old n) n mid new now (kept-wider (MayChange mid n) (MayChange old n) n mid new one.parts two.kept)
         (kept-wider (Contains both) (MayChange old n) n new now (λ q k. one.parts q (two.parts q (inr (inr (inl (both, v2.tree, k)))))) last_kept))

@@ -13,7 +13,7 @@ use Rattle.rc_core.specs.declared.entries.Flag.{Flag}
 use Rattle.rc_core.specs.Steps.{set_statics}
 use Rattle.rc_core.specs.Version.{Version}
 use Rattle.rc_object.specs.Objects.{HoldsStatic, IsMade}
-use Rattle.rc_version.specs.Versions.{IsVersionOf, IsKept, IsKeptBut, IsStaticsOf, IsWeighed, MayChange, entries_bytes, statics_bytes}
+use Rattle.rc_version.specs.Versions.{IsVersionOf, IsKeptBeside, IsKeptBut, IsStaticsOf, IsWeighed, MayChange, entries_bytes, statics_bytes}
 use Rattle.rc_version.specs.laws.Objects.{static-same}
 use Rattle.rc_version.specs.laws.Staying.{IsStaticStep, kept-then, kept-wider, made-added, made-kept, made-version, static-kept, version-kind}
 use Rattle.rc_version.proofs.StaticRows.{static-end, static-kind, static-version, version-end}
@@ -29,7 +29,7 @@ heavier : (now out mid old size t e : ℕ) → now ≡ out → out + (64 + (t + 
 heavier now out mid old size t e a b d = omega arith
 
 module _ (S : ℕ) (old mid out new : View) (n s : Ref) (row : Row) (made : IsMade S old mid s (static_size row)) (held : HoldsStatic mid s row) (well_old : IsWell old)
-    (links : (e : End) → e ≢ Obj n 3 → link_of mid (Obj n 3) ≢ Some e → link_of out e ≡ link_of mid e) (taken_kept : IsKept (IsStaticsOf mid n) n mid out)
+    (links : (e : End) → e ≢ Obj n 3 → link_of mid (Obj n 3) ≢ Some e → link_of out e ≡ link_of mid e) (taken_kept : IsKeptBeside (IsStaticsOf mid n) n mid out)
     (taken : (refs : List Ref) (c : Version) → IsVersionOf mid n refs c → IsVersionOf out n refs (set_statics None c.static_flag c)) where
   -- the version never names what was made
   not_named : link_of mid (Obj n 3) ≢ Some (Obj s 2)

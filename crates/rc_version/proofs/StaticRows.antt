@@ -20,7 +20,7 @@ use Rattle.lsa_path.specs.laws.Paths.{same_object}
 use Rattle.rc_core.specs.Steps.{set_statics}
 use Rattle.rc_core.specs.Version.{Version}
 use Rattle.rc_object.specs.Objects.{HoldsStatic}
-use Rattle.rc_version.specs.Versions.{head_of, HasStatics, IsVersionOf, IsKept, IsStaticsOf, IsUnlisted, IsWeighed, entries_bytes, statics_bytes, version_bytes}
+use Rattle.rc_version.specs.Versions.{version_head, HasStatics, IsVersionOf, IsKeptBeside, IsStaticsOf, IsUnlisted, IsWeighed, entries_bytes, statics_bytes, version_bytes}
 use Rattle.rc_version.specs.laws.Objects.{head-same, holds-same, static-no_version, static-once, static-same}
 use Rattle.rc_version.specs.laws.Holding.{hold-kept}
 use Rattle.rc_version.specs.laws.Staying.{IsStaticStep, freed-kept, freed-version, kept-then, static-kept, static-tree, version-kind}
@@ -45,7 +45,7 @@ static-kind v s row h = subst (λ (o : Option (Kind × List ℕ)). IsSomeAnd o (
 module _ (v w : View) (n s : Ref) (step : IsStaticStep v w n s) where
   pub static-version : (refs : List Ref) (c : Version) (row : Option Row) → HasStatics w n row → IsVersionOf v n refs c → IsVersionOf w n refs (set_statics row c.static_flag c)
   static-version refs c row statics h = record {
-    head = head-same v w n (head_of c) (step.objects.bodies n) h.head;
+    head = head-same v w n (version_head c) (step.objects.bodies n) h.head;
     statics = statics;
     tree = static-tree v w n s step n refs (version-kind v n refs c h) h.tree;
     entries = hold-kept v w refs c.entries (λ r e k hold. holds-same v w r e (step.objects.bodies r) hold) h.entries;
@@ -127,7 +127,7 @@ module _ (S : ℕ) (old put : View) (n s : Ref) (row : Row) (refs : List Ref) (c
     no_row : (m : Ref) → IsSomeAnd (body put m) (λ b. b.0 ≡ VersionKind) → m ≢ s
     no_row m kind is = static-no_version put s row put_held (subst (λ q. IsSomeAnd (body put q) (λ b. b.0 ≡ VersionKind)) is kind)
 
-    pub take-kept : IsKept (IsStaticsOf old n) n old new
+    pub take-kept : IsKeptBeside (IsStaticsOf old n) n old new
     take-kept = kept-then (IsStaticsOf old n) n old put new (static-kept old put n s take-step (IsStaticsOf old n)) (freed-kept put new s well_put free take-unset (IsStaticsOf old n) n link (λ m ne kind. no_row m kind) budget moved compacted)
 
     pub take-links : (e : End) → e ≢ Obj n 3 → link_of old (Obj n 3) ≢ Some e → link_of new e ≡ link_of old e

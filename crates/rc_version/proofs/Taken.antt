@@ -20,7 +20,7 @@ use Rattle.rc_core.specs.declared.entries.Entry.{Entry}
 use Rattle.rc_core.specs.Continuity.{with_entries}
 use Rattle.rc_core.specs.Version.{Version, IsVersion, EndsWithDummy, end_position}
 use Rattle.rc_object.specs.Objects.{HoldsEntry}
-use Rattle.rc_version.specs.Versions.{tree_of, HoldEntries, IsVersionOf, IsKept, IsUnlisted}
+use Rattle.rc_version.specs.Versions.{tree_of, HoldEntries, IsVersionOf, IsKeptBeside, IsUnlisted}
 use Rattle.rc_version.specs.laws.Objects.{holds-stands}
 use Rattle.rc_version.specs.laws.Holding.{around, ends-back, hold-both, hold-kept, none-held}
 use Rattle.rc_version.specs.laws.Staying.{IsTreeStep, step-held, step-kept, step-version, versions-apart}
@@ -71,7 +71,7 @@ module _ (v w : View) (well : IsWell v) (n e : Ref) (front back : List Ref) (c :
     apart = λ m refs ne t q a b. versions-apart v well m n ne refs all t h.tree q a b;
   }
 
-  pub take-kept : (these : Ref → Type 0) → ((q : Ref) → Contains all q → these q) → IsKept these n v w
+  pub take-kept : (these : Ref → Type 0) → ((q : Ref) → Contains all q → these q) → IsKeptBeside these n v w
   take-kept these inside = step-kept v w n all take-step these inside
 
   pub take-entries : (fe be : List Entry) → HoldEntries v front fe → HoldEntries v back be → HoldEntries w (front ++ back) (fe ++ be)

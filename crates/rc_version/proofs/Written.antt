@@ -17,7 +17,7 @@ use Rattle.rc_core.specs.Continuity.{with_entries}
 use Rattle.rc_core.specs.declared.entries.Entry.{Entry}
 use Rattle.rc_core.specs.Version.{Version, IsVersion}
 use Rattle.rc_object.specs.Objects.{HoldsEntry, HoldsHead, IsRewritten}
-use Rattle.rc_version.specs.Versions.{tree_of, head_of, HasStatics, HoldEntries, IsVersionOf, IsKept, IsKeptBut, MayChange}
+use Rattle.rc_version.specs.Versions.{tree_of, version_head, HasStatics, HoldEntries, IsVersionOf, IsKeptBeside, IsKeptBut, MayChange}
 use Rattle.rc_version.specs.laws.Objects.{head-same, holds-same, static-no_version, static-no_entry}
 use Rattle.rc_version.specs.laws.Holding.{hold-both, hold-kept, replaced-is}
 use Rattle.rc_version.specs.laws.Staying.{version-kind, entries-kind, head-beside, head-written, entry-written, statics-stay}
@@ -48,13 +48,13 @@ module _ (v w : View) (r : Ref) (rewritten : IsRewritten v w r) where
   -- ---- the head of a version
 
   module _ (refs : List Ref) (c : Version) (h : IsVersionOf v r refs c) where
-    pub head-kept_by : (these : Ref → Type 0) → these r → IsKept these r v w
+    pub head-kept_by : (these : Ref → Type 0) → these r → IsKeptBeside these r v w
     head-kept_by these this = head-written v w r change written these this (version-kind v r refs c h)
 
     pub head-kept : IsKeptBut r v w
     head-kept = head-written v w r change written (MayChange v r) (inr (inl refl)) (version-kind v r refs c h)
 
-    pub head-version : (d : Version) → d.statics ≡ c.statics → d.entries ≡ c.entries → HoldsHead w r (head_of d) → IsVersion d → IsVersionOf w r refs d
+    pub head-version : (d : Version) → d.statics ≡ c.statics → d.entries ≡ c.entries → HoldsHead w r (version_head d) → IsVersion d → IsVersionOf w r refs d
     head-version d statics entries head is = record {
       head = head;
       statics = subst (HasStatics w r) (sym statics) (statics-stay v w r c.statics (written.links (Obj r 3))
@@ -74,7 +74,7 @@ module _ (v w : View) (r : Ref) (rewritten : IsRewritten v w r) where
     ]
 
     module _ (n : Ref) (refs : List Ref) (c : Version) (h : IsVersionOf v n refs c) where
-      pub marked-kept_by : (these : Ref → Type 0) → these r → IsWell v → Contains refs r → IsKept these n v w
+      pub marked-kept_by : (these : Ref → Type 0) → these r → IsWell v → Contains refs r → IsKeptBeside these n v w
       marked-kept_by these this well k = entry-written v w r change written these n well refs h.tree k this
 
       pub marked-kept : IsWell v → Contains refs r → IsKeptBut n v w
@@ -94,7 +94,7 @@ module _ (v w : View) (r : Ref) (rewritten : IsRewritten v w r) where
         pub marked-version : (before : List Entry) (e d : Entry) (behind : List Entry) → c.entries ≡ before ++ (e ∷ behind) → HoldEntries v front before → HoldEntries v back behind → d.position ≡ e.position → d.row ≡ e.row → HoldsEntry w r d
             → IsVersionOf w n refs (with_entries (before ++ (d ∷ behind)) c)
         marked-version before e d behind entries ahead later at row held = record {
-          head = head-same v w n (head_of c) (written.others n not_head) h.head;
+          head = head-same v w n (version_head c) (written.others n not_head) h.head;
           statics = statics-stay v w n c.statics (written.links (Obj n 3)) (λ s r' link k. written.others s (λ same. static-no_entry v s r' k (subst (λ q. IsSomeAnd (body v q) (λ b. IsEntryKind b.0)) (sym same) (entries-kind v n refs c h r here)))) h.statics;
           tree = tree-unlinked (tree_of n) v w refs written.links (written-version v w r change written) (λ q k. read_alike q) h.tree;
           entries = subst (λ l. HoldEntries w l (before ++ (d ∷ behind))) (sym is) (hold-both w front (r ∷ back) before (d ∷ behind)

@@ -1,6 +1,6 @@
 -- A version in the region: which objects hold it, and what they hold.
 --     IsVersionOf     the object is this version, and these are its entries' objects
---     IsKept          what a change of one version leaves of all else
+--     IsKeptBeside          what a change of one version leaves of all else
 use Rattle.std.specs.Prelude.{◌≡◌, ◌≢◌, ℕ, ◌+◌, ◌≤◌, ◌⊎◌, List, [], ◌∷◌, ◌++◌, length, Option, Some, None, Contains, ⊤}
 use Rattle.rc_cell.specs.declared.rows.Row.{Row}
 use Rattle.rc_rowcode.specs.Objects.{dummy_size, static_size, version_size}
@@ -30,8 +30,8 @@ abbrev pub tree_of : Ref → Tree
 tree_of n = record { top = Obj n 2 }
 
 -- what the object of a version holds itself
-abbrev pub head_of : Version → Head
-head_of c = record { partition_tombstone = c.pt; static_flag = c.static_flag; phase = c.phase }
+abbrev pub version_head : Version → Head
+version_head c = record { partition_tombstone = c.pt; static_flag = c.static_flag; phase = c.phase }
 
 -- the static row of a version: an object that its link names; none where that is unset
 abbrev pub HasStatics : View → Ref → Option Row → Type 0
@@ -47,7 +47,7 @@ HoldEntries v (r ∷ refs) (e ∷ es) = HoldsEntry v r e × HoldEntries v refs e
 
 -- the object is this version, and these objects hold its entries
 pub record IsVersionOf (v : View) (n : Ref) (refs : List Ref) (c : Version) : Type 0 where
-  pub head : HoldsHead v n (head_of c)
+  pub head : HoldsHead v n (version_head c)
   pub statics : HasStatics v n c.statics
   pub tree : IsTree (tree_of n) v refs
   pub entries : HoldEntries v refs c.entries
@@ -77,7 +77,7 @@ abbrev pub IsUnlisted : View → Ref → Type 0
 IsUnlisted v r = (field : ℕ) → field ≤ 1 → link_of v (Obj r field) ≡ None
 
 -- Other versions than n stay, and all links outward, so all lists and chains do; the bodies of objects stay but of these.
-pub record IsKept (these : Ref → Type 0) (n : Ref) (old new : View) : Type 0 where
+pub record IsKeptBeside (these : Ref → Type 0) (n : Ref) (old new : View) : Type 0 where
   pub versions : (m : Ref) (refs : List Ref) (c : Version) → m ≢ n → IsVersionOf old m refs c → IsVersionOf new m refs c
   pub links : (e : End) → IsOutward e → link_of new e ≡ link_of old e
   pub bodies : (r : Ref) → (these r → ⊥) → body new r ≡ body old r
@@ -90,7 +90,7 @@ pub record IsKept (these : Ref → Type 0) (n : Ref) (old new : View) : Type 0 w
 
 -- all but the version, and what was not there, is as it was
 abbrev pub IsKeptBut : Ref → View → View → Type 0
-IsKeptBut n old new = IsKept (MayChange old n) n old new
+IsKeptBut n old new = IsKeptBeside (MayChange old n) n old new
 
 -- ---- how many bytes a version takes
 

@@ -12,7 +12,7 @@ ghost use Rattle.rc_core.specs.Version.{Behind, On, Spot, Version, IsBeforeEnd, 
 ghost use Rattle.std.specs.Prelude.{ℕ};
 ghost use Rattle.std.specs.declared.cmp.Ordering.TheVariants.{Less};
 ghost use Rattle.rc_object.specs.Objects.{IsMade};
-ghost use Rattle.rc_version.specs.Versions.{IsKept, IsOutward, IsSplit, IsVersionOf};
+ghost use Rattle.rc_version.specs.Versions.{IsKeptBeside, IsOutward, IsSplit, IsVersionOf};
 
 /// An object is one version, and these objects hold its entries.
 pub fn an_object_is_one_version()
@@ -38,7 +38,7 @@ pub fn a_version_stays_beside_other_changes()
 
 /// What two changes of a version keep, both together keep.
 pub fn what_each_change_keeps_all_keep()
-    ensures { (n : Ref) (old mid new : View) (these : List Ref) → IsKept (Contains these) n old mid → IsKept (Contains these) n mid new → IsKept (Contains these) n old new }
+    ensures { (n : Ref) (old mid new : View) (these : List Ref) → IsKeptBeside (Contains these) n old mid → IsKeptBeside (Contains these) n mid new → IsKeptBeside (Contains these) n old new }
 {}
 
 /// A split changes no answer at any position, and over no gap.

@@ -7,8 +7,8 @@ ghost use Rattle.rc_core.specs.Change.{raised_mark as raised, with_gap, with_mar
 ghost use Rattle.rc_core.specs.Continuity.{with_entries};
 ghost use Rattle.rc_core.specs.declared.entries.Entry.{Entry};
 ghost use Rattle.rc_core.specs.Version.{Version};
-ghost use Rattle.rc_version.specs.Versions.{IsVersionOf, IsKept, IsPartOf};
-ghost use Rattle.rc_version.specs.calls.Raising.{AreHeld, IsRaising};
+ghost use Rattle.rc_version.specs.Versions.{IsVersionOf, IsKeptBeside, IsPartOf};
+ghost use Rattle.rc_version.specs.calls.Raising.{HoldPair, IsRaising};
 
 use lsa_region::{End, Ref, Region};
 use lsa_tree::Tree;
@@ -18,10 +18,10 @@ use rc_object::{marks, set_marks};
 
 // Joins a range tombstone at an entry, and over the gap before the next one.
 fn raise_pair<const S: usize>(region: &mut Region<S>, _v: Ref, e: Ref, next: Ref, tomb: Tomb)
-    requires { (front : List Name) × (back : List Name) × (c : Version) × (before : List Entry) × (x : Entry) × (y : Entry) × (behind : List Entry) × AreHeld region.old _v front e next back c before x y behind }
-    ensures raised { (front back : List Name) (c : Version) (before : List Entry) (x y : Entry) (behind : List Entry) → AreHeld region.old _v front e next back c before x y behind →
-        AreHeld region.new _v front e next back (with_entries (before ++ (with_mark (raised (Some tomb)) x ∷ with_gap (raised (Some tomb) y.gap) y ∷ behind)) c) before (with_mark (raised (Some tomb)) x) (with_gap (raised (Some tomb) y.gap) y) behind }
-    ensures kept { (front back : List Name) (c : Version) (before : List Entry) (x y : Entry) (behind : List Entry) → AreHeld region.old _v front e next back c before x y behind → IsKept (Contains (front ++ (e ∷ next ∷ back))) _v region.old region.new }
+    requires { (front : List Name) × (back : List Name) × (c : Version) × (before : List Entry) × (x : Entry) × (y : Entry) × (behind : List Entry) × HoldPair region.old _v front e next back c before x y behind }
+    ensures raised { (front back : List Name) (c : Version) (before : List Entry) (x y : Entry) (behind : List Entry) → HoldPair region.old _v front e next back c before x y behind →
+        HoldPair region.new _v front e next back (with_entries (before ++ (with_mark (raised (Some tomb)) x ∷ with_gap (raised (Some tomb) y.gap) y ∷ behind)) c) before (with_mark (raised (Some tomb)) x) (with_gap (raised (Some tomb) y.gap) y) behind }
+    ensures kept { (front back : List Name) (c : Version) (before : List Entry) (x y : Entry) (behind : List Entry) → HoldPair region.old _v front e next back c before x y behind → IsKeptBeside (Contains (front ++ (e ∷ next ∷ back))) _v region.old region.new }
     ensures usages { region.new.usages ≡ region.old.usages }
     ensures well { IsWell region.new }
 {
@@ -49,7 +49,7 @@ pub(crate) fn raise_between<const S: usize>(
 )
     requires { (all : List Name) × (c : Version) × (target : List Entry) × IsRaising region.old v first last tomb all c target 0 }
     ensures raised { (all : List Name) (c : Version) (target : List Entry) → IsRaising region.old v first last tomb all c target 0 → IsVersionOf region.new v all (with_entries target c) }
-    ensures kept { (all : List Name) (c : Version) (target : List Entry) → IsRaising region.old v first last tomb all c target 0 → IsKept (Contains all) v region.old region.new }
+    ensures kept { (all : List Name) (c : Version) (target : List Entry) → IsRaising region.old v first last tomb all c target 0 → IsKeptBeside (Contains all) v region.old region.new }
     ensures usages { region.new.usages ≡ region.old.usages }
     ensures well { IsWell region.new }
 {

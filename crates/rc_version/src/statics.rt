@@ -11,7 +11,7 @@ ghost use Rattle.rc_core.specs.Continuity.{without_statics};
 ghost use Rattle.rc_core.specs.Steps.{set_statics};
 ghost use Rattle.rc_core.specs.Version.{Version};
 ghost use Rattle.rc_object.specs.Objects.{HoldsStatic, IsMade, IsRowCode};
-ghost use Rattle.rc_version.specs.Versions.{CanJoinStatics, IsStaticsJoined, IsVersionOf, IsUnlisted, IsKept, IsKeptBut, IsStaticsOf, IsWeighed};
+ghost use Rattle.rc_version.specs.Versions.{CanJoinStatics, IsStaticsJoined, IsVersionOf, IsUnlisted, IsKeptBeside, IsKeptBut, IsStaticsOf, IsWeighed};
 
 use crate::versions::set_static_flag;
 use lsa_region::{End, Ref, Region};
@@ -26,7 +26,7 @@ fn take_statics<const S: usize>(region: &mut Region<S>, v: Ref)
     ensures taken { (refs : List Name) (c : Version) → IsVersionOf region.old v refs c → IsVersionOf region.new v refs (set_statics None c.static_flag c) }
     ensures links { (e : Link) → e ≢ End.Obj v 3 → link_of region.old (End.Obj v 3) ≢ Some e → link_of region.new e ≡ link_of region.old e }
     ensures gone { (s : Name) → IsStaticsOf region.old v s → body region.new s ≡ None }
-    ensures kept { IsKept (IsStaticsOf region.old v) v region.old region.new }
+    ensures kept { IsKeptBeside (IsStaticsOf region.old v) v region.old region.new }
     ensures spare { spare_of S region.new.usages ≡ spare_of S region.old.usages }
     ensures live { (refs : List Name) (c : Version) → IsVersionOf region.old v refs c → IsWeighed region.old region.new c (set_statics None c.static_flag c) }
     ensures well { IsWell region.new }

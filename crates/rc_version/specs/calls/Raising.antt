@@ -11,7 +11,7 @@ use Rattle.rc_object.specs.Objects.{HoldsEntry}
 use Rattle.rc_version.specs.Versions.{HoldEntries, IsVersionOf}
 
 -- an entry and the next one hold these, and the objects before and behind them what the version has there
-pub record AreHeld (v : View) (n : Ref) (front : List Ref) (e next : Ref) (back : List Ref) (c : Version) (before : List Entry) (x y : Entry) (behind : List Entry) : Type 0 where
+pub record HoldPair (v : View) (n : Ref) (front : List Ref) (e next : Ref) (back : List Ref) (c : Version) (before : List Entry) (x y : Entry) (behind : List Entry) : Type 0 where
   pub version : IsVersionOf v n (front ++ (e ∷ next ∷ back)) c
   pub is : c.entries ≡ before ++ (x ∷ y ∷ behind)
   pub held_before : HoldEntries v front before

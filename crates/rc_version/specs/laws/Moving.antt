@@ -13,7 +13,7 @@ use Rattle.lsa_tree.specs.laws.Trees.{tree-once, tree-renamed}
 use Rattle.rc_core.specs.declared.entries.Entry.{Entry}
 use Rattle.rc_core.specs.Version.{Version}
 use Rattle.rc_object.specs.Objects.{HoldsStatic, SpellsEntry, SpellsHead}
-use Rattle.rc_version.specs.Versions.{tree_of, head_of, HasStatics, HoldEntries, IsVersionOf}
+use Rattle.rc_version.specs.Versions.{tree_of, version_head, HasStatics, HoldEntries, IsVersionOf}
 use Rattle.rc_version.specs.laws.Objects.{head-once, entry-once, static-once}
 use Rattle.rc_version.specs.laws.Staying.{version-kind}
 
@@ -32,7 +32,7 @@ module _ (old new : View) (names : List (Ref × Ref)) (renamed : Renamed old new
   pub version-renamed : IsWell old → (n : Ref) (refs : List Ref) (c : Version) → IsVersionOf old n refs c → IsVersionOf new (named_as names n) (map (named_as names) refs) c
   version-renamed well n refs c h =
       let live = some-there _ (body old n) (version-kind old n refs c h) in record {
-        head = subst (λ (o : Option (Kind × List ℕ)). IsSomeAnd o (λ b. SpellsHead b (head_of c))) (sym (renamed.bodies n live)) h.head;
+        head = subst (λ (o : Option (Kind × List ℕ)). IsSomeAnd o (λ b. SpellsHead b (version_head c))) (sym (renamed.bodies n live)) h.head;
         statics = statics_renamed n c.statics live h.statics;
         tree = tree-renamed old new names renamed well (tree_of n) refs h.tree;
         entries = entries_renamed refs c.entries h.entries;
@@ -60,7 +60,7 @@ statics_once v n (Some r) (Some q) h k =
 pub version-once : (v : View) (n : Ref) (refs rs : List Ref) (c d : Version) → IsVersionOf v n refs c → IsVersionOf v n rs d → (refs ≡ rs) × (c ≡ d)
 version-once v n refs rs c d h k =
     let same : refs ≡ rs = tree-once (tree_of n) v refs rs h.tree k.tree in
-    let head = head-once v n (head_of c) (head_of d) h.head k.head in
+    let head = head-once v n (version_head c) (version_head d) h.head k.head in
     let statics = statics_once v n c.statics d.statics h.statics k.statics in
     let entries = entries_once v rs c.entries d.entries (subst (λ l. HoldEntries v l c.entries) same h.entries) k.entries in
     (same, λ i. record { pt = (head i).partition_tombstone; statics = statics i; static_flag = (head i).static_flag; entries = entries i; phase = (head i).phase })

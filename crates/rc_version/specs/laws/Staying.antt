@@ -19,7 +19,7 @@ use Rattle.rc_core.specs.declared.entries.Entry.{Entry}
 use Rattle.rc_core.specs.Continuity.{with_entries}
 use Rattle.rc_core.specs.Version.{Version, IsVersion}
 use Rattle.rc_object.specs.Objects.{HoldsEntry, HoldsStatic, IsMade}
-use Rattle.rc_version.specs.Versions.{tree_of, head_of, HasStatics, HoldEntries, IsVersionOf, IsOutward, IsKept}
+use Rattle.rc_version.specs.Versions.{tree_of, version_head, HasStatics, HoldEntries, IsVersionOf, IsOutward, IsKeptBeside}
 use Rattle.rc_version.specs.laws.Objects.{head-kind, static-no_version, static-no_entry, head-same, static-same, holds-same, holds-alike}
 use Rattle.rc_version.specs.laws.Holding.{hold-kept}
 
@@ -34,7 +34,7 @@ pub version-stays : (v w : View) (m : Ref) (refs : List Ref) (c : Version) → b
     → ((s : Ref) (r : Row) → link_of v (Obj m 3) ≡ Some (Obj s 2) → HoldsStatic v s r → body w s ≡ body v s) → ((r : Ref) (e : Entry) → Contains refs r → HoldsEntry v r e → HoldsEntry w r e)
     → IsTree (tree_of m) w refs → IsVersionOf v m refs c → IsVersionOf w m refs c
 version-stays v w m refs c here link bodies keep tree h = record {
-  head = head-same v w m (head_of c) here h.head;
+  head = head-same v w m (version_head c) here h.head;
   statics = statics-stay v w m c.statics link bodies h.statics;
   tree = tree;
   entries = hold-kept v w refs c.entries keep h.entries;
@@ -44,7 +44,7 @@ version-stays v w m refs c here link bodies keep tree h = record {
 -- the kinds of its objects
 module _ (v : View) (m : Ref) (refs : List Ref) (c : Version) (h : IsVersionOf v m refs c) where
   pub version-kind : IsSomeAnd (body v m) (λ b. b.0 ≡ VersionKind)
-  version-kind = head-kind v m (head_of c) h.head
+  version-kind = head-kind v m (version_head c) h.head
 
   pub entries-kind : (r : Ref) → Contains refs r → IsSomeAnd (body v r) (λ b. IsEntryKind b.0)
   entries-kind r k = tree-entry (tree_of m) v refs r h.tree k
@@ -74,7 +74,7 @@ module _ (S : ℕ) (v w : View) (r : Ref) (size : ℕ) (made : IsMade S v w r si
       (λ s row link k. made-same s (ap is_some k.0)) (λ q e k hold. holds-same v w q e (made-same q (some-there _ (body v q) hold)) hold)
       (tree-added (tree_of m) v w r made.object.0 made.object.1 made-added refs h.tree) h
 
-  pub made-kept : (these : Ref → Type 0) (n : Ref) → these r → IsKept these n v w
+  pub made-kept : (these : Ref → Type 0) (n : Ref) → these r → IsKeptBeside these n v w
   made-kept these n this = record {
     versions = λ m refs c ne h. made-version m refs c h;
     links = λ e out. made-added.links e;
@@ -97,7 +97,7 @@ module _ (v w : View) (r : Ref) (change : List ℕ → List ℕ) (written : IsWr
       (λ q e k hold. holds-same v w q e (written.others q (λ is. beside (subst (Contains refs) is k))) hold)
       (tree-written_beside v w r change written (tree_of m) refs beside h.tree) h
 
-  pub written-kept : (these : Ref → Type 0) (n : Ref) → these r → ((m : Ref) (refs : List Ref) (c : Version) → m ≢ n → IsVersionOf v m refs c → IsVersionOf w m refs c) → IsKept these n v w
+  pub written-kept : (these : Ref → Type 0) (n : Ref) → these r → ((m : Ref) (refs : List Ref) (c : Version) → m ≢ n → IsVersionOf v m refs c → IsVersionOf w m refs c) → IsKeptBeside these n v w
   written-kept these n this versions = record {
     versions = versions;
     links = λ e out. written.links e;
@@ -111,13 +111,13 @@ module _ (v w : View) (r : Ref) (change : List ℕ → List ℕ) (written : IsWr
   }
 
   -- the head of a version, which is no object of another one
-  pub head-written : (these : Ref → Type 0) → these r → IsSomeAnd (body v r) (λ b. b.0 ≡ VersionKind) → IsKept these r v w
+  pub head-written : (these : Ref → Type 0) → these r → IsSomeAnd (body v r) (λ b. b.0 ≡ VersionKind) → IsKeptBeside these r v w
   head-written these this kind = written-kept these r this (λ m refs c ne h. written-beside m refs c ne
       (λ k. no_entry_at (body v r) kind (entries-kind v m refs c h r k))
       (λ row k. static-no_version v r row k kind) h)
 
   -- an entry of a version
-  pub entry-written : (these : Ref → Type 0) (n : Ref) (well : IsWell v) (mine : List Ref) → IsTree (tree_of n) v mine → Contains mine r → these r → IsKept these n v w
+  pub entry-written : (these : Ref → Type 0) (n : Ref) (well : IsWell v) (mine : List Ref) → IsTree (tree_of n) v mine → Contains mine r → these r → IsKeptBeside these n v w
   entry-written these n well mine tree member this = written-kept these n this (λ m refs c ne h.
       let kind = tree-entry (tree_of n) v mine r tree member in
       written-beside m refs c (λ is. no_entry_at (body v r) (subst (λ q. IsSomeAnd (body v q) (λ b. b.0 ≡ VersionKind)) is (version-kind v m refs c h)) kind)
@@ -187,7 +187,7 @@ module _ (v w : View) (n : Ref) (touched : List Ref) (step : IsTreeStep v w n to
       (λ s row link k. step-static s row k) (λ r e k hold. step-beside r e (λ t. step.apart m refs ne h.tree r k t) hold)
       (step.others (tree_of m) refs (tops_differ m n ne) h.tree) h
 
-  pub step-kept : (these : Ref → Type 0) → ((r : Ref) → Contains touched r → these r) → IsKept these n v w
+  pub step-kept : (these : Ref → Type 0) → ((r : Ref) → Contains touched r → these r) → IsKeptBeside these n v w
   step-kept these all = record {
     versions = step-other;
     links = λ e out. step.elsewhere e (outward-off v e out);
@@ -203,7 +203,7 @@ module _ (v w : View) (n : Ref) (touched : List Ref) (step : IsTreeStep v w n to
   -- this version, with other entries
   pub step-version : (refs now : List Ref) (c : Version) (es : List Entry) → IsVersionOf v n refs c → IsTree (tree_of n) w now → HoldEntries w now es → IsVersion (with_entries es c) → IsVersionOf w n now (with_entries es c)
   step-version refs now c es h tree held is = record {
-    head = head-same v w n (head_of c) (step-head n (version-kind v n refs c h)) h.head;
+    head = head-same v w n (version_head c) (step-head n (version-kind v n refs c h)) h.head;
     statics = statics-stay v w n c.statics (step.elsewhere (Obj n 3) (static-off v n (version-kind v n refs c h))) (λ s row link k. step-static s row k) h.statics;
     tree = tree;
     entries = held;
@@ -226,7 +226,7 @@ module _ (v w : View) (r : Ref) (well : IsWell v) (freed : IsFreed v w r) (unset
       (λ q e k hold. holds-same v w q e (freed.others q (λ is. freed-entry m refs h.tree (subst (Contains refs) is k))) hold)
       (tree-freed (tree_of m) v w r freed refs (freed-entry m refs h.tree) (λ e. ne (same_object m r 2 2 e)) h.tree) h
 
-  pub freed-kept : (these : Ref → Type 0) (n : Ref) → these r → ((m : Ref) → m ≢ n → IsSomeAnd (body v m) (λ b. b.0 ≡ VersionKind) → m ≢ r) → length w.usages ≡ length v.usages → w.moved ≡ v.moved → w.compacted ≡ v.compacted → IsKept these n v w
+  pub freed-kept : (these : Ref → Type 0) (n : Ref) → these r → ((m : Ref) → m ≢ n → IsSomeAnd (body v m) (λ b. b.0 ≡ VersionKind) → m ≢ r) → length w.usages ≡ length v.usages → w.moved ≡ v.moved → w.compacted ≡ v.compacted → IsKeptBeside these n v w
   freed-kept these n this apart budget moved compacted = record {
     versions = λ m refs c ne h. freed-version m refs c (apart m ne (version-kind v m refs c h)) h;
     links = λ e out. freed.links e;
@@ -287,7 +287,7 @@ module _ (v w : View) (n s : Ref) (step : IsStaticStep v w n s) where
   outward_apart (Obj r field) out = ((λ e. let is = same_field r n field 3 e in omega (arith, out, is)), (λ e. let is = same_field r s field 2 e in omega (arith, out, is)))
   outward_apart (Slot root) out = ((λ e. cc), (λ e. cc))
 
-  pub static-kept : (these : Ref → Type 0) → IsKept these n v w
+  pub static-kept : (these : Ref → Type 0) → IsKeptBeside these n v w
   static-kept these = record {
     versions = static-other;
     links = λ e out. step.others e (outward_apart e out).0 (outward_apart e out).1;
@@ -302,7 +302,7 @@ module _ (v w : View) (n s : Ref) (step : IsStaticStep v w n s) where
 
 -- ---- one change after another
 
-pub kept-then : (these : Ref → Type 0) (n : Ref) (old mid new : View) → IsKept these n old mid → IsKept these n mid new → IsKept these n old new
+pub kept-then : (these : Ref → Type 0) (n : Ref) (old mid new : View) → IsKeptBeside these n old mid → IsKeptBeside these n mid new → IsKeptBeside these n old new
 kept-then these n old mid new a b = record {
   versions = λ m refs c ne h. b.versions m refs c ne (a.versions m refs c ne h);
   links = λ e out. b.links e out ∙ a.links e out;
@@ -315,7 +315,7 @@ kept-then these n old mid new a b = record {
   compacted = b.compacted ∙ a.compacted;
 }
 
-pub kept-same : (these : Ref → Type 0) (n : Ref) (v : View) → IsKept these n v v
+pub kept-same : (these : Ref → Type 0) (n : Ref) (v : View) → IsKeptBeside these n v v
 kept-same these n v = record {
   versions = λ m refs c ne h. h;
   links = λ e out. refl;
@@ -329,7 +329,7 @@ kept-same these n v = record {
 }
 
 -- more may change
-pub kept-wider : (these others : Ref → Type 0) (n : Ref) (old new : View) → ((r : Ref) → these r → others r) → IsKept these n old new → IsKept others n old new
+pub kept-wider : (these others : Ref → Type 0) (n : Ref) (old new : View) → ((r : Ref) → these r → others r) → IsKeptBeside these n old new → IsKeptBeside others n old new
 kept-wider these others n old new all k = record {
   versions = k.versions;
   links = k.links;
