@@ -1,0 +1,15 @@
+mod Dropped
+mod Freed
+mod Gaps
+mod Joins
+mod Likes
+mod NewVersions
+mod Putting
+mod Raised
+mod Ranges
+mod SetStatics
+mod Splits
+mod StaticRows
+mod Swapped
+mod Taken
+mod Written

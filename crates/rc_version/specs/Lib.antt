@@ -1,0 +1,3 @@
+pub mod calls
+pub mod laws
+pub mod Versions

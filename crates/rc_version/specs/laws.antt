@@ -1,0 +1,5 @@
+-- Laws of versions in the region, for the proofs of what stands on them.
+pub mod Holding
+pub mod Moving
+pub mod Objects
+pub mod Staying

@@ -1,0 +1,17 @@
+//! Versions in a region: an ordered list of entries, a static row and a head, each an object of its own.
+#![tactic(auto)]
+
+mod joining;
+pub mod laws;
+mod marking;
+mod raising;
+mod splitting;
+mod statics;
+mod versions;
+
+pub use joining::{join_like, join_range, join_row};
+pub use marking::{set_flags, set_tombs};
+pub use rc_core::Flag;
+pub use splitting::{drop_entry, split, split_like};
+pub use statics::{drop_static, set_static};
+pub use versions::{free_version, join_pt, new_version, set_static_flag};
