@@ -309,15 +309,45 @@ fn rows_made(
     Some([first, second, third, seen(region, e, &JOINED)])
 }
 
+// The same with the cell as what is joined.
+fn rows_with(
+    alloc: Global,
+    region: &mut Region<4096>,
+    key: &Key,
+    row: &[u8],
+    sc: &mut Scratch,
+) -> Result<Option<[(Shown, Shown, bool); 4]>, AllocError>
+    requires limits { KeyFits key.now }
+    requires row { IsCode code_of IsCodedRow row.now }
+    requires size { sc.old.size ≡ 1000 }
+{
+    match coded(alloc, &DEAD)? {
+        Some(cell) => Ok(rows_made(region, key, row, cell.bytes(), sc)),
+        None => Ok(None),
+    }
+}
+
+// The same with the marker as the first row.
+fn rows_at(
+    alloc: Global,
+    region: &mut Region<4096>,
+    key: &Key,
+) -> Result<Option<[(Shown, Shown, bool); 4]>, AllocError>
+    requires { KeyFits key.now }
+{
+    let mut sc = Scratch::new(alloc, 1000)?;
+    match coded(alloc, &INSERTED)? {
+        Some(row) => rows_with(alloc, region, key, row.bytes(), &mut sc),
+        None => Ok(None),
+    }
+}
+
 #[test]
 fn rows(rt: HostRuntime) -> Result<(), Fail> {
     let mut region = Region::<4096>::open(rt.alloc(), 4)?;
-    let mut sc = Scratch::new(rt.alloc(), 1000)?;
     let code = [1u8, 0, 5, 0, 0, 0, 0, 0, 0, 0];
     let (key, _) = read_key(rt.alloc(), &code)?.ok_or("the code of a key")?;
-    let row = coded(rt.alloc(), &INSERTED)?.ok_or("the code of a row")?;
-    let cell = coded(rt.alloc(), &DEAD)?.ok_or("the code of a row")?;
-    let made = rows_made(&mut region, &key, row.bytes(), cell.bytes(), &mut sc).ok_or("room")?;
+    let made = rows_at(rt.alloc(), &mut region, &key)?.ok_or("room")?;
     let known = (0, None);
     let unknown = (1, None);
     let inherit = (2, None);
@@ -412,12 +442,22 @@ fn statics_made(
     Some((first, second, static_code(region, s).len()))
 }
 
+// The same of the cell.
+fn statics_with(
+    alloc: Global,
+    region: &mut Region<4096>,
+) -> Result<Option<(usize, usize, usize)>, AllocError> {
+    let mut sc = Scratch::new(alloc, 1000)?;
+    match coded(alloc, &DEAD)? {
+        Some(cell) => Ok(statics_made(region, cell.bytes(), &mut sc)),
+        None => Ok(None),
+    }
+}
+
 #[test]
 fn statics(rt: HostRuntime) -> Result<(), Fail> {
     let mut region = Region::<4096>::open(rt.alloc(), 4)?;
-    let mut sc = Scratch::new(rt.alloc(), 1000)?;
-    let cell = coded(rt.alloc(), &DEAD)?.ok_or("the code of a row")?;
-    let made = statics_made(&mut region, cell.bytes(), &mut sc).ok_or("room")?;
+    let made = statics_with(rt.alloc(), &mut region)?.ok_or("room")?;
     assert_eq!(rt; made, (17, 17, 17));
     assert_eq!(rt; (region.objects(), region.live()), (3, 168));
     Ok(())
