@@ -68,3 +68,9 @@ alone v n (q ∷ r ∷ refs) c h end is next = let same : q ≡ end = cc in absu
 pub first-is : (refs : List Ref) (end : Ref) → Some end ≡ first_entry refs → (back : List Ref) × (refs ≡ end ∷ back)
 first-is [] end is = absurd (let clash : Some end ≡ None = is in cc)
 first-is (q ∷ refs) end is = (refs, (let same : q ≡ end = cc in ap (λ r. r ∷ refs) same))
+
+-- the next entry, if there is one, is an entry too
+pub next-held : (v : View) (n : Ref) (front back : List Ref) (e : Ref) (c : Version) → IsVersionOf v n (front ++ (e ∷ back)) c → (found : Option Ref) → found ≡ first_entry back → IfSome found (λ q. IsHeld v q)
+next-held v n front [] e c h found is = subst (λ o. IfSome o (λ q. IsHeld v q)) (sym is) tt
+next-held v n front (q ∷ back) e c h found is =
+    let w = both-around v front e q back c.entries h.entries in subst (λ o. IfSome o (λ q. IsHeld v q)) (sym is) (w.there, w.next_holds)

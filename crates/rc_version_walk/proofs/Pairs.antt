@@ -11,7 +11,7 @@ use Rattle.lsa_region.specs.declared.end.End.TheVariants.{Obj, Slot}
 use Rattle.lsa_region.specs.declared.end.Root.{Root}
 use Rattle.lsa_region.specs.Ends.{named_as, end_as}
 use Rattle.lsa_region.specs.Paired.{IsTied, IsParted}
-use Rattle.lsa_region.specs.Region.{View, body, link_of, IsEnd, IsWell, SameObjects, IsRootAdded, Renamed}
+use Rattle.lsa_region.specs.Region.{View, body, link_of, IsEnd, IsWell, SameObjects, Renamed}
 use Rattle.lsa_region.specs.laws.Ends.{no-end}
 use Rattle.lsa_region.specs.laws.Names.{came}
 use Rattle.lsa_region.specs.laws.Refs.{refs_decided}
@@ -222,15 +222,3 @@ module _ (this other : Root) (v : View) (n m : Ref) (h : IsPairOf this other v n
 
 pub same-end : (a b : End) → Some a ≡ Some b → a ≡ b
 same-end a b e = cc
-
--- ---- two root slots of a region in which nothing is named
-
-module _ (r0 r1 r2 : View) (this other : Root) (unset : (e : End) → link_of r0 e ≡ None) (a : IsRootAdded r0 r1 this) (b : IsRootAdded r1 r2 other) where
-  pub roots-there : IsEnd r2 (Slot this)
-  roots-there = b.ends (Slot this) a.here
-
-  pub roots-differ : this ≢ other
-  roots-differ e = b.fresh (subst (λ s. IsEnd r1 (Slot s)) e a.here)
-
-  pub roots-unset : (e : End) → link_of r2 e ≡ None
-  roots-unset e = b.links e ∙ a.links e ∙ unset e

@@ -17,7 +17,7 @@ use tally::Tally;
 use walk::{Walk, begin};
 
 /// How many calls are made.
-const CALLS: u32 = 20;
+const CALLS: u32 = 10_000;
 
 // The calls, until one is answered otherwise than by the plain version.
 fn walk_on(alloc: Global, walk: &mut Walk, tally: &mut Tally) -> Result<(), AllocError> {

@@ -317,11 +317,19 @@ impl Walk {
 
     fn drop_entry(&mut self, alloc: Global) -> Result<&'static str, AllocError> {
         let x = some_position(alloc, &mut self.chance)?;
-        if !calls::drop_entry(&mut self.region, self.this, self.other, &x) {
+        if !self.drop_from(&x) {
             return Ok("nothing to do");
         }
-        plain::drop_entry(&mut self.plain.entries, &x);
         Ok("drop_entry")
+    }
+
+    // The entry at a position, or else the next one, is taken out of both; false where that is the end dummy.
+    fn drop_from(&mut self, x: &Pos) -> bool {
+        let drops = calls::drop_entry(&mut self.region, self.this, self.other, x);
+        if drops {
+            plain::drop_entry(&mut self.plain.entries, x);
+        }
+        drops
     }
 
     // All entries but the end dummy are taken out, and the version is freed and made anew.
@@ -331,9 +339,7 @@ impl Walk {
         let phase = u64::from(self.chance.below(1000));
         let start = plain::start_position(alloc);
         for _ in 0..self.positions.len() {
-            if calls::drop_entry(&mut self.region, self.this, self.other, &start) {
-                plain::drop_entry(&mut self.plain.entries, &start);
-            }
+            self.drop_from(&start);
         }
         if !calls::renew(&mut self.region, self.this, self.other, flag, pt, phase) {
             return Ok("no room");
