@@ -10,7 +10,7 @@ ghost use Rattle.lsa_region.specs.Region.{link_of, IsEnd};
 ghost use Rattle.rc_version.specs.Versions as versions;
 ghost use Rattle.rc_version_walk.specs.Walking.{IsPair, IsPairOf, IsHalf, IsSomeVersion, IsEntryOf};
 
-use lsa_move::{Ensured, ensure};
+use lsa_move::{Ensured, compact_one, ensure};
 use lsa_region::{End, Ref, Region, Root};
 use lsa_tree::{Place, Tree};
 use rc_cell::Tomb;
@@ -85,6 +85,15 @@ pub(crate) fn has_room(region: &mut Region<SEGMENT>, _this: Root, _other: Root) 
         Ensured::Ready => true,
         Ensured::Full => false,
     }
+}
+
+/// Empties a segment, so that its objects move; false where none is sparse.
+pub(crate) fn empty_one(region: &mut Region<SEGMENT>, _this: Root, _other: Root) -> bool
+    requires { IsPair _this _other region.old }
+    ensures { IsPair _this _other region.new }
+{
+    region.known();
+    compact_one(region)
 }
 
 /// Makes the first version in a region, which the second of two slots names then.

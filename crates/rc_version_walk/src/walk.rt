@@ -4,13 +4,12 @@ ghost use Rattle.rc_rowcode.specs.Spelling.{KeyFits};
 
 use crate::asking::ask;
 use crate::chance::Chance;
-use crate::homes::{SEGMENT, SPACE, settle, settle_first};
+use crate::homes::{SEGMENT, SPACE, empty_one, settle, settle_first};
 use crate::space::{
     all_positions, some_flag, some_key, some_position, some_row, some_tomb, some_tomb_or_none,
 };
 use crate::tally::Tally;
 use crate::{calls, plain};
-use lsa_move::compact_one;
 use lsa_region::{Region, Root};
 use rc_cell::Tomb;
 use rc_core::{Flag, PlainVersion};
@@ -75,7 +74,7 @@ impl Walk {
         }
         let kind = self.call(alloc)?;
         tally.count(kind);
-        if self.chance.below(40) == 0 && compact_one(&mut self.region) {
+        if self.chance.below(40) == 0 && empty_one(&mut self.region, self.this, self.other) {
             tally.count("segment emptied");
         }
         self.ask(alloc, tally)

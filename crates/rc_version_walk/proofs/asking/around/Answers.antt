@@ -1,5 +1,4 @@
-use Rattle.std.proofs.Common.{◌++◌, ◌∷◌, sym, ◌∙◌, subst}
-use Rattle.lsa_tree.specs.declared.tree.Place.TheVariants.{Here, Before}
+use Rattle.std.proofs.Common.{sym, subst}
 use Rattle.lsa_tree.specs.Search.{IsFound}
 use Rattle.lsa_tree.specs.Tree.{IsTree}
 use Rattle.rc_version.specs.Versions.{IsVersionOf}

@@ -1,4 +1,4 @@
-use Rattle.std.proofs.Common.{[], ◌++◌, ◌∷◌, arith, sym, ◌∙◌, subst}
+use Rattle.std.proofs.Common.{[], ◌∷◌, arith, sym, ◌∙◌, subst}
 use Rattle.lsa_tree.specs.Tree.{IsTree}
 use Rattle.rc_version_walk.proofs.Entries.{alone, first-is}
 use Rattle.rc_version_walk.proofs.calls.is_bare.Goals as goal

@@ -1,4 +1,4 @@
-use Rattle.std.proofs.Common.{sym, subst}
+use Rattle.std.proofs.Common.{subst}
 use Rattle.rc_version_walk.specs.Walking.{IsInnerOf}
 use Rattle.rc_version_walk.proofs.Pairs.{pair-swapped}
 use Rattle.rc_version_walk.proofs.calls.join_like.Goals as goal

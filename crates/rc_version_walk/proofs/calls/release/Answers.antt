@@ -1,4 +1,4 @@
-use Rattle.std.proofs.Common.{◌≡◌, [], ◌∷◌, Some, is_some, arith, refl, sym, ap, ◌∙◌, subst}
+use Rattle.std.proofs.Common.{◌≡◌, [], ◌∷◌, is_some, arith, refl, sym, ap, ◌∙◌, subst}
 use Rattle.lsa_path.specs.laws.Members.{member-here}
 use Rattle.lsa_pool.specs.Room.{spare_of}
 use Rattle.lsa_region.specs.declared.end.End.TheVariants.{Obj, Slot}

@@ -1,6 +1,6 @@
 use Rattle.std.proofs.Common.{[], ◌∷◌, arith, ◌∙◌}
 use Rattle.lsa_region.specs.declared.end.End.TheVariants.{Slot}
-use Rattle.rc_version_walk.proofs.Pairs.{half-settled, mid-unset, version-end}
+use Rattle.rc_version_walk.proofs.Pairs.{half-settled, version-end}
 use Rattle.rc_version_walk.proofs.homes.settle.Goals as goal
 
 pub link-requires : goal.link-requires

@@ -1,6 +1,5 @@
-use Rattle.std.proofs.Common.{arith, sym, ◌∙◌, subst}
+use Rattle.std.proofs.Common.{arith}
 use Rattle.rc_version_walk.proofs.Pairs.{slot-there}
-use Rattle.rc_version_walk.specs.Walking.{IsPairOf}
 use Rattle.rc_version_walk.proofs.homes.version_in.Goals as goal
 
 pub root-requires : goal.root-requires
