@@ -1,6 +1,6 @@
 -- An entry that is found in a version.
 use Rattle.std.proofs.Common.{◌≡◌, ℕ, ap, List, [], ◌∷◌, ◌++◌, Option, Some, None, refl, sym, ◌∙◌, subst}
-use Rattle.std.specs.Prelude.{IsSomeAnd, IfSome, Contains}
+use Rattle.std.specs.Prelude.{IsSomeAnd, IfSome}
 use Rattle.lsa_store.specs.declared.place.Ref.{Ref}
 use Rattle.lsa_kinds.specs.declared.kind.Kind.{Kind}
 use Rattle.lsa_kinds.specs.declared.kind.Kind.TheVariants.{RowEntry, Dummy}
@@ -16,12 +16,12 @@ use Rattle.rc_core.specs.laws.GivenUp.{at_itself}
 use Rattle.rc_core.specs.Version.{Version, Ascend, EndsWithDummy, end_position}
 use Rattle.lsa_tree.specs.laws.Orders.{stands-once}
 use Rattle.rc_position.specs.declared.positions.Pos.{Pos}
-use Rattle.rc_position.specs.Position.{pos_cmp, IsBefore}
+use Rattle.rc_position.specs.Position.{IsBefore}
 use Rattle.rc_object.specs.Objects.{HoldsEntry, HoldsStatic, SpellsEntry, entry_kind}
 use Rattle.rc_version.specs.Versions.{HasStatics, IsVersionOf}
 use Rattle.rc_version.specs.laws.Holding.{around, both-around, before-end}
 use Rattle.rc_version.specs.laws.Objects.{entry-once, holds-stands}
-use Rattle.rc_version_walk.specs.Walking.{IsEntryOf, IsHeld}
+use Rattle.rc_version_walk.specs.Walking.{IsHeld}
 
 pub entry-held : (v : View) (n : Ref) (front back : List Ref) (e : Ref) (c : Version) → IsVersionOf v n (front ++ (e ∷ back)) c → IsHeld v e
 entry-held v n front back e c h = let w = around v front e back c.entries h.entries in (w.here, w.holds)

@@ -1,5 +1,5 @@
 -- Two versions that slots name, after each change.
-use Rattle.std.proofs.Common.{◌≡◌, ◌≢◌, ℕ, zero, suc, ◌+◌, ◌≤◌, List, [], ◌∷◌, ◌++◌, Option, Some, None, IsSome, ◌⊎◌, inl, inr, ◌<◌, refl, sym, ap, ◌∙◌, subst, map, arith}
+use Rattle.std.proofs.Common.{◌≡◌, ◌≢◌, ℕ, zero, suc, ◌≤◌, List, Option, Some, None, IsSome, ◌⊎◌, inl, inr, ◌<◌, refl, sym, ap, ◌∙◌, subst, map, arith}
 use Rattle.std.specs.Prelude.{IsSomeAnd, Contains}
 use Rattle.std.specs.Option.{option_map}
 use Rattle.lsa_kinds.specs.declared.kind.Kind.{Kind}
@@ -20,11 +20,11 @@ use Rattle.lsa_path.specs.laws.Renamed.{some-there}
 use Rattle.lsa_tree.specs.Entries.{IsEntryKind}
 use Rattle.lsa_tree.specs.laws.Trees.{no_entry_at, same-read, top-kept, tree-linked, version-same}
 use Rattle.rc_core.specs.Version.{Version}
-use Rattle.rc_version.specs.Versions.{tree_of, IsOutward, IsVersionOf, IsUnlisted, IsKept, IsStaticsOf, HasStatics}
+use Rattle.rc_version.specs.Versions.{tree_of, IsVersionOf, IsUnlisted, IsKept, IsStaticsOf, HasStatics}
 use Rattle.rc_version.specs.laws.Moving.{version-renamed}
 use Rattle.rc_version.specs.laws.Objects.{holds-same, static-no_version}
 use Rattle.rc_version.specs.laws.Staying.{version-kind, version-stays, entries-kind}
-use Rattle.rc_version_walk.specs.Walking.{IsSomeVersion, IsPairOf, IsPair, IsHalfOf, IsHalf}
+use Rattle.rc_version_walk.specs.Walking.{IsSomeVersion, IsPairOf, IsPair, IsHalfOf}
 
 pub pair-swapped : (this other : Root) (v : View) (n m : Ref) → IsPairOf this other v n m → IsPairOf other this v m n
 pair-swapped this other v n m h = record {

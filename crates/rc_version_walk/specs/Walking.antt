@@ -1,10 +1,9 @@
 -- Two versions in a region, each named by a root slot, and nothing in any list.
 use Rattle.std.specs.Prelude.{◌≡◌, ◌≢◌, ℕ, List, ◌∷◌, ◌++◌, Option, Some, None, IfSome}
 use Rattle.lsa_store.specs.declared.place.Ref.{Ref}
-use Rattle.lsa_region.specs.declared.end.End.{End}
 use Rattle.lsa_region.specs.declared.end.End.TheVariants.{Obj, Slot}
 use Rattle.lsa_region.specs.declared.end.Root.{Root}
-use Rattle.lsa_region.specs.Region.{View, body, link_of, IsEnd}
+use Rattle.lsa_region.specs.Region.{View, link_of, IsEnd}
 use Rattle.rc_core.specs.declared.entries.Entry.{Entry}
 use Rattle.rc_position.specs.Position.{IsBefore}
 use Rattle.rc_core.specs.Version.{Version, end_position}
