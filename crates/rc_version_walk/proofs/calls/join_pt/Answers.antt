@@ -1,0 +1,11 @@
+use Rattle.std.proofs.Common.{arith}
+use Rattle.rc_version_walk.proofs.Pairs.{pair-kept}
+use Rattle.rc_version_walk.proofs.calls.join_pt.Goals as goal
+
+pub join_pt-requires : goal.join_pt-requires
+join_pt-requires c = (omega arith, c.version_in-v.ensures.1.here)
+
+pub returns : goal.returns
+returns c =
+    let m = c.version_in-v.ensures.0 in let h = c.version_in-v.ensures.1 in let v = h.here in let k = c.join_pt.ensures in
+    (c.version_in-v.result, m, pair-kept c.args.this c.args.other c.args.region.now c.join_pt.new.region c.version_in-v.result m _ h k.kept (v.0, _, k.joined v.0 v.1 v.2))
