@@ -2,8 +2,8 @@
 
 use std::alloc::{AllocError, Global};
 
-/// The calls, and what else is done.
-pub(crate) const KINDS: [&str; 17] = [
+/// The calls, and those in which nothing was done.
+pub(crate) const KINDS: [&str; 16] = [
     "new_version and free_version",
     "split",
     "split_like",
@@ -18,7 +18,6 @@ pub(crate) const KINDS: [&str; 17] = [
     "set_static_flag",
     "drop_static",
     "drop_entry",
-    "segment emptied",
     "nothing to do",
     "no room",
 ];

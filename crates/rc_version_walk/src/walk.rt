@@ -74,8 +74,8 @@ impl Walk {
         }
         let kind = self.call(alloc)?;
         tally.count(kind);
-        if self.chance.below(40) == 0 && empty_one(&mut self.region, self.this, self.other) {
-            tally.count("segment emptied");
+        if self.chance.below(40) == 0 {
+            let _emptied = empty_one(&mut self.region, self.this, self.other);
         }
         self.ask(alloc, tally)
     }
