@@ -21,9 +21,9 @@ use Rattle.rc_object.specs.Objects.{HoldsEntry, HoldsStatic, SpellsEntry, entry_
 use Rattle.rc_version.specs.Versions.{HasStatics, IsVersionOf}
 use Rattle.rc_version.specs.laws.Holding.{around, both-around, before-end}
 use Rattle.rc_version.specs.laws.Objects.{entry-once, holds-stands}
-use Rattle.rc_version_walk.specs.Walking.{IsHeld}
+use Rattle.rc_version_walk.specs.Walking.{IsSomeEntry}
 
-pub entry-held : (v : View) (n : Ref) (front back : List Ref) (e : Ref) (c : Version) → IsVersionOf v n (front ++ (e ∷ back)) c → IsHeld v e
+pub entry-held : (v : View) (n : Ref) (front back : List Ref) (e : Ref) (c : Version) → IsVersionOf v n (front ++ (e ∷ back)) c → IsSomeEntry v e
 entry-held v n front back e c h = let w = around v front e back c.entries h.entries in (w.here, w.holds)
 
 -- an entry with a next one is not the end dummy
@@ -70,7 +70,7 @@ first-is [] end is = absurd (let clash : Some end ≡ None = is in cc)
 first-is (q ∷ refs) end is = (refs, (let same : q ≡ end = cc in ap (λ r. r ∷ refs) same))
 
 -- the next entry, if there is one, is an entry too
-pub next-held : (v : View) (n : Ref) (front back : List Ref) (e : Ref) (c : Version) → IsVersionOf v n (front ++ (e ∷ back)) c → (found : Option Ref) → found ≡ first_entry back → IfSome found (λ q. IsHeld v q)
-next-held v n front [] e c h found is = subst (λ o. IfSome o (λ q. IsHeld v q)) (sym is) tt
+pub next-held : (v : View) (n : Ref) (front back : List Ref) (e : Ref) (c : Version) → IsVersionOf v n (front ++ (e ∷ back)) c → (found : Option Ref) → found ≡ first_entry back → IfSome found (λ q. IsSomeEntry v q)
+next-held v n front [] e c h found is = subst (λ o. IfSome o (λ q. IsSomeEntry v q)) (sym is) tt
 next-held v n front (q ∷ back) e c h found is =
-    let w = both-around v front e q back c.entries h.entries in subst (λ o. IfSome o (λ q. IsHeld v q)) (sym is) (w.there, w.next_holds)
+    let w = both-around v front e q back c.entries h.entries in subst (λ o. IfSome o (λ q. IsSomeEntry v q)) (sym is) (w.there, w.next_holds)

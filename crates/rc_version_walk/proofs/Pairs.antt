@@ -20,7 +20,7 @@ use Rattle.lsa_path.specs.laws.Renamed.{some-there}
 use Rattle.lsa_tree.specs.Entries.{IsEntryKind}
 use Rattle.lsa_tree.specs.laws.Trees.{no_entry_at, same-read, top-kept, tree-linked, version-same}
 use Rattle.rc_core.specs.Version.{Version}
-use Rattle.rc_version.specs.Versions.{tree_of, IsVersionOf, IsUnlisted, IsKept, IsStaticsOf, HasStatics}
+use Rattle.rc_version.specs.Versions.{tree_of, IsVersionOf, IsUnlisted, IsKeptBeside, IsStaticsOf, HasStatics}
 use Rattle.rc_version.specs.laws.Moving.{version-renamed}
 use Rattle.rc_version.specs.laws.Objects.{holds-same, static-no_version}
 use Rattle.rc_version.specs.laws.Staying.{version-kind, version-stays, entries-kind}
@@ -39,7 +39,7 @@ pair-swapped this other v n m h = record {
 }
 
 -- the first version is changed, and all else is kept
-pub pair-kept : (this other : Root) (v w : View) (n m : Ref) (these : Ref → Type 0) → IsPairOf this other v n m → IsKept these n v w → IsSomeVersion w n → IsPairOf this other w n m
+pub pair-kept : (this other : Root) (v w : View) (n m : Ref) (these : Ref → Type 0) → IsPairOf this other v n m → IsKeptBeside these n v w → IsSomeVersion w n → IsPairOf this other w n m
 pair-kept this other v w n m these h k now = record {
   first = k.links (Slot this) tt ∙ h.first;
   second = k.links (Slot other) tt ∙ h.second;
@@ -152,7 +152,7 @@ module _ (v w : View) (slot : Root) (n : Ref) where
 not_same : (n m : Ref) (v : View) → body v n ≡ None → IsSomeAnd (body v m) (λ b. b.0 ≡ VersionKind) → n ≢ m
 not_same n m v gone kind e = subst (λ (o : Option (Kind × List ℕ)). IsSomeAnd o (λ b. b.0 ≡ VersionKind)) (ap (body v) (sym e) ∙ gone) kind
 
-module _ (this other : Root) (old mid new : View) (n : Ref) (these : Ref → Type 0) (fresh : body old n ≡ None) (unlisted : (r : Ref) → body old r ≡ None → IsUnlisted mid r) (kept : IsKept these n old mid) (made : IsSomeVersion mid n) where
+module _ (this other : Root) (old mid new : View) (n : Ref) (these : Ref → Type 0) (fresh : body old n ≡ None) (unlisted : (r : Ref) → body old r ≡ None → IsUnlisted mid r) (kept : IsKeptBeside these n old mid) (made : IsSomeVersion mid n) where
   -- before it is linked
   pub mid-unset : link_of mid (Obj n 1) ≡ None
   mid-unset = unlisted n fresh 1 (omega arith)
@@ -202,7 +202,7 @@ module _ (this other : Root) (v : View) (n m : Ref) (h : IsPairOf this other v n
         let apart : end ≢ n = λ e. no_entry_at (body v n) (version-kind v n h.here.0 h.here.1 h.here.2) (subst (λ q. IsSomeAnd (body v q) (λ b. IsEntryKind b.0)) e (entries-kind v n refs c is end inside)) in
         parted.others (Obj end field) (λ e. cc) (λ e. apart (same_object end n field 1 e)) ∙ entry-unlisted this other v n m h n refs c is end inside field out
 
-    pub half-left : (new : View) (these : Ref → Type 0) → IsKept these n mid new → IsHalfOf this other new m
+    pub half-left : (new : View) (these : Ref → Type 0) → IsKeptBeside these n mid new → IsHalfOf this other new m
     half-left new these kept =
         let there : IsVersionOf mid m h.there.0 h.there.1 = version-parted v mid this n parted same m h.there.0 h.there.1 h.there.2 in
         let no_slot : Slot other ≢ Slot this = λ e. (let both : Some (Obj m 1) ≡ Some (Obj n 1) = sym h.second ∙ ap (link_of v) e ∙ h.first in h.differ cc) in record {

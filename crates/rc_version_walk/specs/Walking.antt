@@ -15,8 +15,8 @@ abbrev pub IsSomeVersion : View → Ref → Type 0
 IsSomeVersion v n = (refs : List Ref) × (c : Version) × IsVersionOf v n refs c
 
 -- the object is some entry
-abbrev pub IsHeld : View → Ref → Type 0
-IsHeld v r = (e : Entry) × HoldsEntry v r e
+abbrev pub IsSomeEntry : View → Ref → Type 0
+IsSomeEntry v r = (e : Entry) × HoldsEntry v r e
 
 -- the first slot names this version and the second one that other version; no other object has a link outward
 pub record IsPairOf (this other : Root) (v : View) (n m : Ref) : Type 0 where
@@ -51,7 +51,7 @@ abbrev pub IsEntryOf : View → Ref → Option Ref → Type 0
 IsEntryOf v n found = IfSome found (λ e. (front : List Ref) × (back : List Ref) × (c : Version) × IsVersionOf v n (front ++ (e ∷ back)) c)
 
 -- the slots name two versions, and the scratch space is as large as the calls need
-pub record IsWalked (this other : Root) (v : View) (space : ℕ) : Type 0 where
+pub record IsPairWithSpace (this other : Root) (v : View) (space : ℕ) : Type 0 where
   pub pair : IsPair this other v
   pub size : space ≡ 16384
 

@@ -1,7 +1,7 @@
 //! What a version in the region says at each place, beside what the plain one says.
 
 ghost use Rattle.std.specs.Prelude.{IfSome};
-ghost use Rattle.rc_version_walk.specs.Walking.{IsHeld, IsPair, IsSomeVersion};
+ghost use Rattle.rc_version_walk.specs.Walking.{IsSomeEntry, IsPair, IsSomeVersion};
 
 use crate::homes::{SEGMENT, statics_of, tree_of, version_in};
 use crate::tally::Tally;
@@ -35,7 +35,7 @@ fn row_in(alloc: Global, code: &[u8]) -> Result<Row, AllocError> {
 
 // The row of an entry; an empty one of a dummy.
 fn row_of(alloc: Global, region: &Region<SEGMENT>, e: Ref) -> Result<Row, AllocError>
-    requires { IsHeld region.now e }
+    requires { IsSomeEntry region.now e }
 {
     match region.kind(e) {
         Kind::RowEntry => row_in(alloc, row_code(region, e)),
@@ -45,7 +45,7 @@ fn row_of(alloc: Global, region: &Region<SEGMENT>, e: Ref) -> Result<Row, AllocE
 
 // What an entry says at its position.
 fn said_by(alloc: Global, region: &Region<SEGMENT>, e: Ref) -> Result<Seen, AllocError>
-    requires { IsHeld region.now e }
+    requires { IsSomeEntry region.now e }
 {
     let (at, _gap) = marks(region, e);
     Ok(seen(at, row_of(alloc, region, e)?))
@@ -53,7 +53,7 @@ fn said_by(alloc: Global, region: &Region<SEGMENT>, e: Ref) -> Result<Seen, Allo
 
 // What one says over the gap before it; nothing where there is none.
 fn said_before(alloc: Global, region: &Region<SEGMENT>, found: Option<Ref>) -> Seen
-    requires { IfSome found (λ e. IsHeld region.now e) }
+    requires { IfSome found (λ e. IsSomeEntry region.now e) }
 {
     match found {
         Some(e) => seen(marks(region, e).1, Row::empty(alloc)),
@@ -68,8 +68,8 @@ fn said_before(alloc: Global, region: &Region<SEGMENT>, found: Option<Ref>) -> S
 // The entry of a version at a position, where there is one, and the next one behind it.
 fn around(region: &Region<SEGMENT>, v: Ref, x: &Pos) -> (Option<Ref>, Option<Ref>)
     requires { IsSomeVersion region.now v }
-    ensures at { IfSome result.0 (λ e. IsHeld region.now e) }
-    ensures behind { IfSome result.1 (λ e. IsHeld region.now e) }
+    ensures at { IfSome result.0 (λ e. IsSomeEntry region.now e) }
+    ensures behind { IfSome result.1 (λ e. IsSomeEntry region.now e) }
 {
     let tree = tree_of(v);
     match tree.locate(region, x) {

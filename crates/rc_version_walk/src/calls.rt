@@ -10,7 +10,7 @@ ghost use Rattle.rc_core.specs.declared.entries.Entry.{Entry};
 ghost use Rattle.rc_object.specs.Objects.{HoldsEntry, IsRowCode};
 ghost use Rattle.rc_core.specs.Version.{Version};
 ghost use Rattle.rc_version.specs.Versions.{IsVersionOf};
-ghost use Rattle.rc_version_walk.specs.Walking.{IsHalf, IsHeld, IsInnerOf, IsPair, IsPairOf, IsSomeVersion};
+ghost use Rattle.rc_version_walk.specs.Walking.{IsHalf, IsSomeEntry, IsInnerOf, IsPair, IsPairOf, IsSomeVersion};
 
 use crate::homes::{SEGMENT, entry_from, has_room, settle, statics_of, tree_of, version_in};
 use lsa_kinds::Kind;
@@ -218,7 +218,7 @@ pub(crate) fn drop_entry(region: &mut Region<SEGMENT>, this: Root, other: Root, 
 
 // Whether an object is an entry with a row.
 fn has_row(region: &Region<SEGMENT>, e: Ref) -> bool
-    requires { IsHeld region.now e }
+    requires { IsSomeEntry region.now e }
     ensures { result ≡ true → (y : Entry) × (row : Row) × HoldsEntry region.now e y × (y.row ≡ Some row) }
 {
     match region.kind(e) {

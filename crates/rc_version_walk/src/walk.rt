@@ -38,13 +38,13 @@ pub(crate) struct Walk {
 
 impl Model for Walk {
     ghost use Rattle.lsa_region.specs.Region.{View};
-    ghost use Rattle.rc_version_walk.specs.Walking.{IsWalked};
+    ghost use Rattle.rc_version_walk.specs.Walking.{IsPairWithSpace};
 
     ghost Value = { View };
 
     ghost view = { λ w. w.region };
 
-    ghost invariant = { λ w. IsWalked w.this w.other w.region w.space.size };
+    ghost invariant = { λ w. IsPairWithSpace w.this w.other w.region w.space.size };
 }
 
 /// Two versions of an end dummy each, in a region of four segments.
@@ -74,7 +74,7 @@ impl Walk {
         }
         let kind = self.call(alloc)?;
         tally.count(kind);
-        if self.chance.below(40) == 0 {
+        if self.chance.below(10) == 0 {
             let _emptied = empty_one(&mut self.region, self.this, self.other);
         }
         self.ask(alloc, tally)
@@ -115,18 +115,18 @@ impl Walk {
     fn call(&mut self, alloc: Global) -> Result<&'static str, AllocError> {
         match self.chance.below(100) {
             0 => self.renew(alloc),
-            1..6 => self.split(alloc),
-            6..10 => self.split_like(alloc),
-            10..15 => self.join_range(alloc),
-            15..20 => self.join_like(alloc),
-            20..23 => self.join_static_like(alloc),
-            23..38 => self.join_row(alloc),
-            38..43 => Ok(self.join_pt()),
-            43..53 => self.set_flags(alloc),
-            53..63 => self.set_tombs(alloc),
-            63..69 => self.set_static(alloc),
-            69..73 => Ok(self.set_static_flag()),
-            73..77 => Ok(self.drop_static()),
+            1..7 => self.split(alloc),
+            7..12 => self.split_like(alloc),
+            12..18 => self.join_range(alloc),
+            18..26 => self.join_like(alloc),
+            26..29 => self.join_static_like(alloc),
+            29..52 => self.join_row(alloc),
+            52..56 => Ok(self.join_pt()),
+            56..64 => self.set_flags(alloc),
+            64..72 => self.set_tombs(alloc),
+            72..78 => self.set_static(alloc),
+            78..82 => Ok(self.set_static_flag()),
+            82..86 => Ok(self.drop_static()),
             _ => self.drop_entry(alloc),
         }
     }
