@@ -1,5 +1,5 @@
 -- A version that was made.
-use Rattle.std.proofs.Common.{◌≡◌, ◌≢◌, ℕ, ◌+◌, ◌≤◌, List, [], ◌∷◌, ◌++◌, Option, Some, None, IsSome, inl, refl, sym, ap, ◌∙◌, subst, arith}
+use Rattle.std.proofs.Common.{◌≡◌, ◌≢◌, ℕ, ◌+◌, ◌≤◌, List, [], ◌∷◌, ◌++◌, Option, Some, None, IsSome, inl, inr, refl, sym, ap, ◌∙◌, subst, arith}
 use Rattle.std.specs.Prelude.{Contains}
 use Rattle.rc_cell.specs.declared.writes.Tomb.{Tomb}
 use Rattle.lsa_kinds.specs.declared.kind.Kind.{Kind}
@@ -8,6 +8,8 @@ use Rattle.lsa_store.specs.declared.place.Ref.{Ref}
 use Rattle.lsa_region.specs.declared.end.End.{End}
 use Rattle.lsa_region.specs.declared.end.End.TheVariants.{Obj}
 use Rattle.lsa_region.specs.Region.{View, body, link_of, live_bytes, IsWell}
+use Rattle.lsa_region.specs.laws.Refs.{refs_decided}
+use Rattle.lsa_path.specs.laws.Members.{member-first}
 use Rattle.lsa_path.specs.laws.Renamed.{some-there}
 use Rattle.rc_position.specs.declared.positions.Pos.{Pos}
 use Rattle.lsa_tree.specs.declared.tree.Tree.{Tree}
@@ -21,8 +23,9 @@ use Rattle.rc_core.specs.Steps.{version_of}
 use Rattle.rc_core.specs.Version.{end_position}
 use Rattle.rc_object.specs.declared.heads.Head.{Head}
 use Rattle.rc_object.specs.Objects.{HoldsEntry, HoldsHead, IsMade}
-use Rattle.rc_version.specs.Versions.{tree_of, IsVersionOf, IsKeptBut, MayChange}
+use Rattle.rc_version.specs.Versions.{tree_of, IsVersionOf, IsKeptBut, HasWhatWasMade, MayChange}
 use Rattle.rc_version.specs.laws.Objects.{head-kind, head-same, holds-stands}
+use Rattle.rc_version.specs.laws.Marked.{none-balances, none-there}
 use Rattle.rc_version.specs.laws.Staying.{made-added, made-same, made-kept, IsTreeStep, step-head, step-kept, static-off, kept-then}
 use Rattle.rc_version.proofs.Putting.{put-tree, put-held, put-step}
 
@@ -87,6 +90,16 @@ module _ (S : ℕ) (old first mid new : View) (n end : Ref) (flag : Flag) (pt : 
   new-kept = kept-then (MayChange old n) n old first new (made-kept S old first n 64 made (MayChange old n) n (inl (made-added S old first n 64 made).fresh))
       (kept-then (MayChange old n) n first mid new (made-kept S first mid end 88 made_end (MayChange old n) n (inl fresh_end))
       (step-kept mid new n [] step (MayChange old n) (λ q k. absurd (no-member q k))))
+
+  -- the head and the end dummy were made, and nothing else
+  pub new-own : IsTree (tree_of n) new (end ∷ []) → HasWhatWasMade n old new
+  new-own now q fresh there = elim (refs_decided q n) [
+    | inl is ↦ inl is
+    | inr ne ↦ elim (refs_decided q end) [
+      | inl is ↦ inr (inl (end ∷ [], now, subst (Contains (end ∷ [])) (sym is) (member-first end [])))
+      | inr no_end ↦ absurd (none-there (body new q) (none-balances mid new [] (objects [] mid_tree) q ((made-added S first mid end 88 made_end).others q no_end ∙ (made-added S old first n 64 made).others q ne ∙ fresh)) there)
+    ]
+  ]
 
   pub new-spare : spare_of S old.usages ≤ spare_of S new.usages + 152
   new-spare = subst (λ us. spare_of S old.usages ≤ spare_of S us + 152) (sym (objects [] mid_tree).usages) (sum_of_both (spare_of S old.usages) (spare_of S first.usages) (spare_of S mid.usages) made.spare made_end.spare)
