@@ -9,13 +9,13 @@ use Rattle.lsa_region.specs.declared.end.End.{End}
 use Rattle.lsa_region.specs.declared.end.End.TheVariants.{Obj}
 use Rattle.lsa_region.specs.Region.{View, body, link_of, live_bytes, IsWell}
 use Rattle.lsa_region.specs.laws.Refs.{refs_decided}
-use Rattle.lsa_path.specs.laws.Members.{member-first}
+use Rattle.lsa_path.specs.laws.Members.{member-cases, member-first}
 use Rattle.lsa_path.specs.laws.Renamed.{some-there}
 use Rattle.rc_position.specs.declared.positions.Pos.{Pos}
 use Rattle.lsa_tree.specs.declared.tree.Tree.{Tree}
 use Rattle.lsa_tree.specs.Entries.{IsEntryAtPosition, BelongsBetween}
 use Rattle.lsa_tree.specs.Tree.{IsTree, IsOffTree, SameButBalances}
-use Rattle.lsa_tree.specs.laws.Trees.{tree-empty}
+use Rattle.lsa_tree.specs.laws.Trees.{tree-empty, tree-once}
 use Rattle.rc_core.specs.Change.{dummy, mark}
 use Rattle.rc_core.specs.declared.entries.Entry.{Entry}
 use Rattle.rc_core.specs.declared.entries.Flag.{Flag}
@@ -23,7 +23,7 @@ use Rattle.rc_core.specs.Steps.{version_of}
 use Rattle.rc_core.specs.Version.{end_position}
 use Rattle.rc_object.specs.declared.heads.Head.{Head}
 use Rattle.rc_object.specs.Objects.{HoldsEntry, HoldsHead, IsMade}
-use Rattle.rc_version.specs.Versions.{tree_of, IsVersionOf, IsKeptBut, HasWhatWasMade, MayChange}
+use Rattle.rc_version.specs.Versions.{tree_of, IsVersionOf, IsKeptBut, IsPartOf, HasWhatWasMade, MayChange}
 use Rattle.rc_version.specs.laws.Objects.{head-kind, head-same, holds-stands}
 use Rattle.rc_version.specs.laws.Marked.{none-balances, none-there}
 use Rattle.rc_version.specs.laws.Staying.{made-added, made-same, made-kept, IsTreeStep, step-head, step-kept, static-off, kept-then}
@@ -85,6 +85,15 @@ module _ (S : ℕ) (old first mid new : View) (n end : Ref) (flag : Flag) (pt : 
 
   fresh_end : body old end ≡ None
   fresh_end = fresh_before (body old end) (body first end) (made-same S old first n 64 made end) (made-added S first mid end 88 made_end).fresh
+
+  -- all of it was made
+  pub new-parts : IsVersionOf new n (end ∷ []) (version_of flag pt phase) → (q : Ref) → IsPartOf new n q → body old q ≡ None
+  new-parts now q (inl is) = subst (λ z. body old z ≡ None) (sym is) (made-added S old first n 64 made).fresh
+  new-parts now q (inr (inl k)) = elim (member-cases end q [] (subst (λ l. Contains l q) (tree-once (tree_of n) new k.0 (end ∷ []) k.1 now.tree) k.2)) [
+    | inl is ↦ subst (λ z. body old z ≡ None) is fresh_end
+    | inr later ↦ absurd (no-member q later)
+  ]
+  new-parts now q (inr (inr named)) = let clash : None ≡ Some (Obj q 2) = sym now.statics ∙ named in cc
 
   pub new-kept : IsKeptBut n old new
   new-kept = kept-then (MayChange old n) n old first new (made-kept S old first n 64 made (MayChange old n) n (inl (made-added S old first n 64 made).fresh))
