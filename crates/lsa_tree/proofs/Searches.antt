@@ -1,9 +1,9 @@
 -- A search along the entries: what stands before the end that it has come to, and what is ahead.
-use Rattle.std.proofs.Common.{◌≡◌, ◌+◌, ◌<◌, ◌≤◌, List, [], ◌∷◌, ◌++◌, length, Option, Some, None, refl, sym, ap, ◌∙◌, subst, arith}
+use Rattle.std.proofs.Common.{◌≡◌, ◌+◌, ◌<◌, ◌≤◌, List, [], ◌∷◌, ◌++◌, length, reverse, Option, Some, None, refl, sym, ap, ◌∙◌, subst, arith}
 use Rattle.std.specs.Prelude.{Contains}
 use Rattle.std.specs.List.{AllByRecursion}
 use Rattle.std.proofs.lemmas.List.Elements.{Contains-append_left}
-use Rattle.std.proofs.lemmas.List.{append-nil, append_assoc, length-append}
+use Rattle.std.proofs.lemmas.List.{append-nil, append_assoc, length-append, length-reverse, reverse-append}
 use Rattle.rc_position.specs.declared.positions.Pos.{Pos}
 use Rattle.rc_position.specs.Position.{IsBefore}
 use Rattle.lsa_store.specs.declared.place.Ref.{Ref}
@@ -11,8 +11,8 @@ use Rattle.lsa_region.specs.declared.end.End.{End}
 use Rattle.lsa_region.specs.declared.end.End.TheVariants.{Obj, Slot}
 use Rattle.lsa_region.specs.Region.{View, link_of, IsEnd, IsWell, IsSummed, objects}
 use Rattle.lsa_path.specs.Path.{IsPath, behind, entered, walk}
-use Rattle.lsa_path.specs.laws.Members.{member-first, member-later, member-here}
-use Rattle.lsa_path.specs.laws.Passing.{path-walked, path-few}
+use Rattle.lsa_path.specs.laws.Members.{member-first, member-later, member-here, member-split}
+use Rattle.lsa_path.specs.laws.Passing.{path-walked, path-few, path-back_before}
 use Rattle.lsa_path.specs.laws.Paths.{path-rest}
 use Rattle.lsa_tree.specs.declared.tree.Tree.{Tree}
 use Rattle.lsa_tree.specs.declared.tree.Place.TheVariants.{Here, Before, Last}
@@ -20,7 +20,7 @@ use Rattle.lsa_tree.specs.Entries.{IsEntryAtPosition, StandsEarlier, BelongsBetw
 use Rattle.lsa_tree.specs.Search.{IsFound, first_entry, last_entry, last_entry_from}
 use Rattle.lsa_tree.specs.Tree.{IsTop, IsTree}
 use Rattle.lsa_tree.specs.laws.Orders.{all-both, all-further, ascending-back, ascending-split, belongs-once, never-at}
-use Rattle.lsa_tree.specs.laws.Trees.{fields_differ, entry-end, top-end, top-outside, tree-once, tree-entry}
+use Rattle.lsa_tree.specs.laws.Trees.{fields_differ, entry-end, top-end, top-outside, tree-once, tree-entry, trees-same}
 
 -- the entries that an end leads to
 abbrev pub ahead : View → End → List Ref
@@ -168,3 +168,84 @@ entered_top v (Slot s) h = absurd h
 pub entered-last : (v : View) (top : End) (xs : List Ref) → IsTop v top → entered 4 (Some (behind 4 top xs)) ≡ last_entry xs
 entered-last v top [] h = entered_top v top h
 entered-last v top (x ∷ xs) h = entered_onward x xs
+
+-- ---- the way back to the top
+
+-- r is an entry of the tree, and those before the entry that the way back has come to lead to the top
+pub record IsTraced (tree : Tree) (v : View) (r at : Ref) (refs before : List Ref) : Type 0 where
+  pub whole : IsTree tree v refs
+  pub member : Contains refs r
+  pub path : IsPath 4 3 (link_of v) (Obj at 3) before (Some tree.top)
+  pub few : length before ≤ objects v
+  pub entries : AllByRecursion (Contains refs) (at ∷ before)
+
+-- those that lead from an entry to the top
+abbrev pub back_to_top : View → Ref → List Ref
+back_to_top v at = walk (objects v) 4 3 (link_of v) (Obj at 3)
+
+all_of : (P : Ref → Type 0) (xs : List Ref) → ((q : Ref) → Contains xs q → P q) → AllByRecursion P xs
+all_of P [] all = tt
+all_of P (x ∷ xs) all = (all x (member-first x xs), all_of P xs (λ q c. all q (member-later x q xs c)))
+
+all_reversed : (P : Ref → Type 0) (xs : List Ref) → AllByRecursion P xs → AllByRecursion P (reverse xs)
+all_reversed P [] h = tt
+all_reversed P (x ∷ xs) h = subst (AllByRecursion P) (sym (reverse-append (x ∷ []) xs)) (all-both P (reverse xs) (x ∷ []) (all_reversed P xs h.1) (h.0, tt))
+
+module _ (v : View) (well : IsWell v) (summed : IsSummed v) (r : Ref) where
+  traced_split : (tree : Tree) (front back : List Ref) → IsTree tree v (front ++ (r ∷ back)) → IsTraced tree v r r (front ++ (r ∷ back)) (reverse front)
+  traced_split tree front back h = record {
+    whole = h;
+    member = member-here front back r;
+    path = path-back_before 3 4 (link_of v) well.paired tree.top front back r None h.path;
+    few = omega (arith, few tree v well summed (front ++ (r ∷ back)) h, length-append front (r ∷ back), length-reverse front);
+    entries = (member-here front back r, all_reversed (Contains (front ++ (r ∷ back))) front (all_of (Contains (front ++ (r ∷ back))) front (Contains-append_left front (r ∷ back))));
+  }
+
+  -- the way back begins at the entry
+  pub traced-start : (tree : Tree) (refs : List Ref) → IsTree tree v refs → Contains refs r → (before : List Ref) × IsTraced tree v r r refs before
+  traced-start tree refs h c = let w = member-split refs r c in
+      (reverse w.0, subst (λ l. IsTraced tree v r r l (reverse w.0)) (sym w.2) (traced_split tree w.0 w.1 (subst (IsTree tree v) w.2 h)))
+
+  module _ (tree : Tree) (at : Ref) (refs before : List Ref) (traced : IsTraced tree v r at refs before) where
+    pub traced-end : IsEnd v (Obj at 3)
+    traced-end = entry-end v at 3 (tree-entry tree v refs at traced.whole traced.entries.0) (omega arith)
+
+    -- what the links say is left
+    pub traced-walked : back_to_top v at ≡ before
+    traced-walked = path-walked 4 3 (link_of v) (objects v) (Obj at 3) before (Some tree.top) traced.few (entered_top v tree.top traced.whole.top) traced.path
+
+    -- where no entry is before it the top is
+    pub traced-last : entered 4 (link_of v (Obj at 3)) ≡ None → link_of v (Obj at 3) ≡ Some tree.top
+    traced-last none = last_of before traced.path
+      where
+        last_of : (ys : List Ref) → IsPath 4 3 (link_of v) (Obj at 3) ys (Some tree.top) → link_of v (Obj at 3) ≡ Some tree.top
+        last_of [] p = p
+        last_of (y ∷ ys) p = let clash : Some y ≡ None = sym (ap (entered 4) p.0) ∙ none in cc
+
+    -- the entry before it is the first of those left
+    pub traced-next : (q : Ref) → entered 4 (link_of v (Obj at 3)) ≡ Some q → (rest : List Ref) × (before ≡ q ∷ rest) × IsTraced tree v r q refs rest
+    traced-next q some = next_of before traced.path traced.few traced.entries.1
+      where
+        next_of : (ys : List Ref) → IsPath 4 3 (link_of v) (Obj at 3) ys (Some tree.top) → length ys ≤ objects v → AllByRecursion (Contains refs) ys → (rest : List Ref) × (ys ≡ q ∷ rest) × IsTraced tree v r q refs rest
+        next_of [] p le all = let clash : None ≡ Some q = sym (entered_top v tree.top traced.whole.top) ∙ ap (entered 4) (sym p) ∙ some in cc
+        next_of (y ∷ ys) p le all =
+            let same : Some y ≡ Some q = sym (ap (entered 4) p.0) ∙ some in let first : y ≡ q = cc in (
+              ys,
+              ap (λ z. z ∷ ys) first,
+              record {
+                whole = traced.whole;
+                member = traced.member;
+                path = subst (λ z. IsPath 4 3 (link_of v) (Obj z 3) ys (Some tree.top)) first p.1;
+                few = omega (arith, le);
+                entries = (subst (Contains refs) first all.0, all.1);
+              },
+            )
+
+    pub traced-less : (q : Ref) → entered 4 (link_of v (Obj at 3)) ≡ Some q → length (back_to_top v q) < length (back_to_top v at)
+    traced-less q some = let w = traced-next q some in
+        let here : length (back_to_top v at) ≡ length before = ap length traced-walked in let longer : length before ≡ length (q ∷ w.0) = ap length w.1 in
+        let next : length (back_to_top v q) ≡ length w.0 = ap length (path-walked 4 3 (link_of v) (objects v) (Obj q 3) w.0 (Some tree.top) w.2.few (entered_top v tree.top traced.whole.top) w.2.path) in omega (arith, here, longer, next)
+
+    -- so the end that is named there is the top of each tree in which the entry stands
+    pub traced-top : entered 4 (link_of v (Obj at 3)) ≡ None → (other : Tree) (xs : List Ref) → IsTree other v xs → Contains xs r → link_of v (Obj at 3) ≡ Some other.top
+    traced-top none other xs h c = traced-last none ∙ ap (λ (t : Tree). Some t.top) (trees-same v well tree other refs xs traced.whole h r traced.member c)

@@ -43,6 +43,11 @@ pub fn trees_of_two_versions_share_no_entry()
     ensures { (tree other : Tree) (v : View) (xs ys : List Ref) (r : Ref) → IsWell v → other.top ≢ tree.top → IsTree tree v xs → IsTree other v ys → Contains xs r → Contains ys r → ⊥ }
 {}
 
+/// An entry stands in one tree only.
+pub fn an_entry_stands_in_one_tree()
+    ensures { (tree other : Tree) (v : View) (xs ys : List Ref) (r : Ref) → IsWell v → IsTree tree v xs → IsTree other v ys → Contains xs r → Contains ys r → tree ≡ other }
+{}
+
 /// A loose entry is in no tree.
 pub fn a_loose_entry_is_in_no_tree()
     ensures { (tree : Tree) (v : View) (refs : List Ref) (r : Ref) → IsWell v → IsTree tree v refs → IsLoose v r → Contains refs r → ⊥ }

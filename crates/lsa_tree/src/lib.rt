@@ -5,4 +5,4 @@ pub mod laws;
 mod search;
 mod tree;
 
-pub use tree::{Place, Tree};
+pub use tree::{Place, Tree, top_of};

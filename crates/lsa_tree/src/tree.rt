@@ -1,5 +1,5 @@
 //! Entries in the order of their positions.
-ghost use Rattle.std.specs.Prelude.{◌≡◌, ◌≢◌, ◌+◌, ◌<◌, ◌≤◌, ℕ, List, ◌∷◌, ◌++◌, length, Option, Some, None};
+ghost use Rattle.std.specs.Prelude.{◌≡◌, ◌≢◌, ◌+◌, ◌<◌, ◌≤◌, ℕ, List, ◌∷◌, ◌++◌, length, Option, Some, None, IsSome, Contains};
 ghost use Rattle.rc_position.specs.declared.positions.Pos.{Pos as Position};
 ghost use Rattle.rc_position.specs.Position.{row_pos};
 ghost use Rattle.lsa_store.specs.declared.place.Ref.{Ref as Name};
@@ -162,5 +162,32 @@ impl Tree {
     {
         region.known();
         exchange_objects(region, old, new, LEFT, RIGHT);
+    }
+}
+
+/// The top of the tree in which an entry stands.
+pub fn top_of<const S: usize>(region: &Region<S>, r: Ref) -> End
+    requires { (tree : Ordered) × (refs : List Name) × IsTree tree region.now refs × Contains refs r }
+    ensures { (tree : Ordered) (refs : List Name) → IsTree tree region.now refs → Contains refs r → result ≡ tree.top }
+{
+    region.known();
+    let mut at = r;
+    loop {
+        let before = region.link_of(End::Obj(at, LEFT));
+        match object(before, RIGHT) {
+            Some(q) => at = q,
+            None => return set(before),
+        }
+    }
+}
+
+// The end that is named.
+fn set(named: Option<End>) -> End
+    requires { IsSome named }
+    ensures { named ≡ Some result }
+{
+    match named {
+        Some(end) => end,
+        None => unreachable!(),
     }
 }

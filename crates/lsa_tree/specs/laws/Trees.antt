@@ -14,6 +14,7 @@ use Rattle.lsa_region.specs.declared.end.End.{End}
 use Rattle.lsa_region.specs.declared.end.End.TheVariants.{Obj, Slot}
 use Rattle.lsa_region.specs.Ends.{named_as, end_as}
 use Rattle.lsa_region.specs.Region.{View, body, link_of, IsEnd, IsWell, SameObjects, IsAdded, IsFreed, IsWritten, Renamed}
+use Rattle.lsa_region.specs.laws.Ends.{ends_decided}
 use Rattle.lsa_region.specs.laws.Refs.{refs_decided}
 use Rattle.lsa_path.specs.Path.{IsOutside, IsOfLive}
 use Rattle.lsa_path.specs.Roles.{role_of, role_in, role_at, Parent, Left, Right, Entries}
@@ -222,6 +223,13 @@ tree-kept tree v w refs versions here same links h = tree-linked tree v w refs (
 -- other trees share no entry with one
 pub trees-apart : (v : View) → IsWell v → (tree other : Tree) (xs ys : List Ref) → other.top ≢ tree.top → IsTree tree v xs → IsTree other v ys → (r : Ref) → Contains xs r → Contains ys r → ⊥
 trees-apart v well tree other xs ys ne h k = paths-disjoint 3 4 fields_differ (link_of v) well.paired tree.top other.top xs ys None None (top-outside v tree.top h.top) (top-outside v other.top k.top) ne h.path k.path
+
+-- an entry stands in one tree
+pub trees-same : (v : View) → IsWell v → (tree other : Tree) (xs ys : List Ref) → IsTree tree v xs → IsTree other v ys → (r : Ref) → Contains xs r → Contains ys r → tree ≡ other
+trees-same v well tree other xs ys h k r on too = elim (ends_decided tree.top other.top) [
+  | inl same ↦ ap (λ e. record { top = e }) same
+  | inr apart ↦ absurd (trees-apart v well tree other xs ys (λ same. apart (sym same)) h k r on too)
+]
 
 -- all objects are the same, and so alike
 pub same-objects : (v w : View) (refs : List Ref) → SameObjects v w → SameButBalances v w refs
