@@ -89,9 +89,10 @@ HasWhatWasMade n old new = (r : Ref) → body old r ≡ None → IsSome (body ne
 abbrev pub IsNoneMade : View → View → Type 0
 IsNoneMade old new = (r : Ref) → body old r ≡ None → body new r ≡ None
 
--- Other versions than n stay, and all links outward, so all lists and chains do; the bodies of objects stay but of these.
+-- Other versions than n stay, with their static rows' objects, and all links outward, so all lists and chains do; the bodies of objects stay but of these.
 pub record IsKeptBeside (these : Ref → Type 0) (n : Ref) (old new : View) : Type 0 where
   pub versions : (m : Ref) (refs : List Ref) (c : Version) → m ≢ n → IsVersionOf old m refs c → IsVersionOf new m refs c
+  pub statics : (m : Ref) (refs : List Ref) (c : Version) → m ≢ n → IsVersionOf old m refs c → link_of new (Obj m 3) ≡ link_of old (Obj m 3)
   pub links : (e : End) → IsOutward e → link_of new e ≡ link_of old e
   pub bodies : (r : Ref) → (these r → ⊥) → body new r ≡ body old r
   pub roots : (s : Root) → IsEnd old (Slot s) → IsEnd new (Slot s)

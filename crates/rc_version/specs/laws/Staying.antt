@@ -86,6 +86,7 @@ module _ (S : ℕ) (v w : View) (r : Ref) (size : ℕ) (made : IsMade S v w r si
     budget = made.budget;
     moved = made.moved;
     compacted = made.compacted;
+    statics = λ m refs c ne h. made-added.links (Obj m 3);
     epoch = marked-risen v w made.epoch;
   }
 
@@ -110,6 +111,7 @@ module _ (v w : View) (r : Ref) (change : List ℕ → List ℕ) (written : IsWr
     budget = ap (λ us. length us) written.usages;
     moved = written.moved;
     compacted = written.compacted;
+    statics = λ m refs c ne h. written.links (Obj m 3);
     epoch = marked-written v w r change written;
   }
 
@@ -201,6 +203,7 @@ module _ (v w : View) (n : Ref) (touched : List Ref) (step : IsTreeStep v w n to
     budget = ap (λ us. length us) step.objects.usages;
     moved = step.objects.moved;
     compacted = step.objects.compacted;
+    statics = λ m refs c ne h. step.elsewhere (Obj m 3) (static-off v m (version-kind v m refs c h));
     epoch = marked-balances v w touched step.objects;
   }
 
@@ -241,6 +244,7 @@ module _ (v w : View) (r : Ref) (well : IsWell v) (freed : IsFreed v w r) (unset
     budget = budget;
     moved = moved;
     compacted = compacted;
+    statics = λ m refs c ne h. freed.links (Obj m 3);
     epoch = marked-risen v w risen;
   }
 
@@ -303,6 +307,7 @@ module _ (v w : View) (n s : Ref) (step : IsStaticStep v w n s) where
     budget = ap (λ us. length us) step.objects.usages;
     moved = step.objects.moved;
     compacted = step.objects.compacted;
+    statics = λ m refs c ne h. step.others (Obj m 3) (λ e. ne (same_object m n 3 3 e)) (λ e. three_two (same_field m s 3 2 e));
     epoch = marked-objects v w step.objects;
   }
 
@@ -319,6 +324,7 @@ kept-then these n old mid new a b = record {
   budget = b.budget ∙ a.budget;
   moved = b.moved ∙ a.moved;
   compacted = b.compacted ∙ a.compacted;
+  statics = λ m refs c ne h. b.statics m refs c ne (a.versions m refs c ne h) ∙ a.statics m refs c ne h;
   epoch = marked-then old mid new a.epoch b.epoch;
 }
 
@@ -333,6 +339,7 @@ kept-same these n v = record {
   budget = refl;
   moved = refl;
   compacted = refl;
+  statics = λ m refs c ne h. refl;
   epoch = marked-itself v;
 }
 
@@ -348,6 +355,7 @@ kept-wider these others n old new all k = record {
   budget = k.budget;
   moved = k.moved;
   compacted = k.compacted;
+  statics = k.statics;
   epoch = k.epoch;
 }
 
