@@ -48,6 +48,7 @@ apart [] n no_one = tt
 apart (x ∷ xs) n no_one = (ne_eqb n x (λ e. no_one (inl (sym e))), apart xs n (λ h. no_one (inr h)))
 
 distinct : (xs : List ℕ) → AreOnce xs → IsDistinct eqb xs
+unfolding IsDistinct
 distinct [] once = tt
 distinct (x ∷ xs) once = (apart xs x once.0, distinct xs once.1)
 
@@ -56,9 +57,13 @@ found [] n any = absurd (cc)
 found (x ∷ xs) n any = elim (eqb_tells n x) [ inl e ↦ inl (sym e.1) | inr e ↦ inr (found xs n (rest (eqb n x) (list_any (eqb n) xs) e.0 any)) ]
   where
     rest : (a b : Bool) → a ≡ false → (a || b) ≡ true → b ≡ true
-    rest true b no any = absurd (cc)
-    rest false b no any = any
+    rest true b e any = absurd (cc)
+    rest false b e any = any
 
 -- numbers below a bound, each once, are at most as many
 pub once-few : (xs : List ℕ) (bound : ℕ) → AreOnce xs → ((n : ℕ) → IsOneOf xs n → n < bound) → length xs ≤ bound
 once-few xs bound once below = length-le_from_distinct_below xs bound (distinct xs once) (λ q any. below q (found xs q any))
+
+-- two numbers are equal or not
+pub is_same : (m n : ℕ) → (m ≡ n) ⊎ (m ≢ n)
+is_same m n = elim (eqb_tells m n) [ inl e ↦ inl e.1 | inr e ↦ inr e.1 ]

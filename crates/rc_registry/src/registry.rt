@@ -1,14 +1,13 @@
 //! The table of all chains.
 
-ghost use Rattle.std.specs.Prelude.{◌≡◌, ◌<◌, ◌≤◌, ◌+◌, ◌∷◌, ◌++◌, ◌↔◌, ℕ, [], Some, None, Option, IfNone, IfOk, IfSome, IsSome, IsTrue, OnErr, OnOk, MatchOption, is_some, length, slice_index};
+ghost use Rattle.std.specs.Prelude.{◌≡◌, ◌<◌, ◌≤◌, ◌+◌, ◌∷◌, ◌++◌, ◌↔◌, ℕ, [], Some, None, Option, IfNone, IfOk, IfSome, IsSome, IsSomeAnd, IsTrue, OnErr, OnOk, MatchOption, is_some, length, slice_index};
 ghost use Rattle.std.specs.Vec.{vec_capacity};
 ghost use Rattle.std.specs.VecDeque.{deque_capacity};
 ghost use Rattle.rc_core.specs.Chains.{IsPinned};
 ghost use Rattle.rc_core.specs.Steps.{free_number, pin_at};
-ghost use Rattle.rc_registry.specs.Registry.{AreFree, AreOnce, HasRoot, IsAfter, IsNext, IsOneOf, IsThere, detached, new_use, on_use, set_passed, set_updating, use_at, with_pin, with_use, without_pin, without_version};
+ghost use Rattle.rc_registry.specs.Registry.{AreFree, AreOnce, HasRoot, IsAfter, IsNext, IsOneOf, IsThere, detached, new_use, on_use, put, set_passed, set_updating, use_at, with_pin, with_use, without_pin, without_version};
 
-use crate::pins::Pins;
-use crate::uses::Use;
+use crate::uses::{self, Use, new_use};
 use lsa_region::Root;
 use rc_core::ChainKind;
 use std::alloc::{AllocError, Global};
@@ -80,6 +79,148 @@ impl Registry {
     {
         used(&self.uses, id)
     }
+
+    /// Whether a snapshot of a chain pins the version of a number.
+    pub fn is_pinned(&self, id: u64, version: u64) -> bool
+        requires { IsThere self.now id }
+        ensures { IfSome (use_at self.now.uses id) (λ u. IsTrue result ↔ IsPinned u.pins version) }
+    {
+        self.get(id).pins.is_pinned(version)
+    }
+
+    /// The version of a chain that the snapshot of a number pins; None where the number is free.
+    pub fn pin_at(&self, id: u64, pin: u64) -> Option<u64>
+        requires { IsThere self.now id }
+        ensures { IfSome (use_at self.now.uses id) (λ u. result ≡ pin_at u.pins pin) }
+    {
+        self.get(id).pins.at(pin)
+    }
+
+    /// Whether nobody pins a version of a chain.
+    pub fn is_free(&self, id: u64) -> bool
+        requires { IsThere self.now id }
+        ensures { IfSome (use_at self.now.uses id) (λ u. IsTrue result ↔ AreFree u.pins) }
+    {
+        self.get(id).pins.are_free()
+    }
+
+    /// The chain that stands behind a root slot.
+    pub fn owner(&self, root: Root) -> u64
+        requires { (id : ℕ) × HasRoot self.now root id }
+        ensures { (id : ℕ) → HasRoot self.now root id → result ≡ id }
+    {
+        self.owners[root.number]
+    }
+
+    /// The least number of a chain after another number, or of all where that is None. None where there is no such chain.
+    pub fn next(&self, after: Option<u64>) -> Option<u64>
+        ensures next { IfSome result (IsNext self.now after) }
+        ensures none { IfNone result ((n : ℕ) → IsAfter after n → use_at self.now.uses n ≡ None) }
+    {
+        match after {
+            None => next_from(&self.uses, 0),
+            Some(number) => {
+                let Some(first) = number.checked_add(1) else {
+                    return None;
+                };
+                next_from(&self.uses, first)
+            }
+        }
+    }
+
+    /// A new chain, attached and pinned by nobody, whose versions stand behind a root slot; its number, which is no other chain's and none that is still to be told. The only
+    /// error is want of memory, which changes nothing.
+    pub fn insert(&mut self, root: Root, kind: ChainKind) -> Result<u64, AllocError>
+        requires { (id : ℕ) → HasRoot self.old root id → ⊥ }
+        ensures made { IfOk result (λ id. self.new ≡ with_use id (Some (new_use root kind)) self.old) }
+        ensures vacant { IfOk result (λ id. use_at self.old.uses id ≡ None) }
+        ensures fresh { IfOk result (λ id. IsOneOf self.old.dropped id → ⊥) }
+        ensures err { OnErr result (self.new ≡ self.old) }
+    {
+        cover(&mut self.owners, root.number)?;
+        let chain = new_use(self.alloc, root, kind);
+        if let Some(id) = self.vacant.pop() {
+            self.uses[id as usize] = Some(chain);
+            self.owners[root.number] = id;
+            return Ok(id);
+        }
+        let id = self.uses.len() as u64;
+        self.vacant.reserve(self.uses.len() + 1)?;
+        self.dropped.reserve(self.uses.len() + 1)?;
+        self.uses.push(Some(chain))?;
+        self.owners[root.number] = id;
+        Ok(id)
+    }
+
+    /// A chain is no longer found by its key, and not under update.
+    pub fn detach(&mut self, id: u64)
+        requires { IsThere self.old id }
+        ensures { self.new ≡ on_use id detached self.old }
+    {
+        uses::detach(&mut self.uses[id as usize]);
+    }
+
+    /// A chain is under update, or no longer.
+    pub fn set_updating(&mut self, id: u64, updating: bool)
+        requires { IsThere self.old id }
+        ensures { self.new ≡ on_use id (set_updating updating) self.old }
+    {
+        uses::set_updating(&mut self.uses[id as usize], updating);
+    }
+
+    /// A chain has the cleaner's mark, or no longer.
+    pub fn set_passed(&mut self, id: u64, passed: bool)
+        requires { IsThere self.old id }
+        ensures { self.new ≡ on_use id (set_passed passed) self.old }
+    {
+        uses::set_passed(&mut self.uses[id as usize], passed);
+    }
+
+    /// A snapshot of a version of a chain more; its number, the least that is free. The only error is want of memory, which changes nothing.
+    pub fn pin(&mut self, id: u64, version: u64) -> Result<u64, AllocError>
+        requires { IsThere self.old id }
+        ensures number { IfSome (use_at self.old.uses id) (λ u. IfOk result (λ n. n ≡ free_number u.pins)) }
+        ensures pinned { OnOk result (self.new ≡ on_use id (with_pin version) self.old) }
+        ensures err { OnErr result (self.new ≡ self.old) }
+    {
+        uses::pin(&mut self.uses[id as usize], version)
+    }
+
+    /// Takes a snapshot of a chain back, by its number; the other snapshots keep theirs.
+    pub fn unpin(&mut self, id: u64, pin: u64)
+        requires { IsSomeAnd (use_at self.old.uses id) (λ u. IsSome (pin_at u.pins pin)) }
+        ensures { self.new ≡ on_use id (without_pin pin) self.old }
+    {
+        uses::unpin(&mut self.uses[id as usize], pin);
+    }
+
+    /// The version of a number of a chain is gone: snapshots of newer ones pin numbers less by one.
+    pub fn renumber(&mut self, id: u64, version: u64)
+        requires { IsThere self.old id }
+        ensures { self.new ≡ on_use id (without_version version) self.old }
+    {
+        uses::renumber(&mut self.uses[id as usize], version);
+    }
+
+    /// A chain is gone; its number is to be told.
+    pub fn remove(&mut self, id: u64)
+        requires { IsThere self.old id }
+        ensures { self.new ≡ record { uses = put id None self.old.uses; dropped = self.old.dropped ++ id ∷ [] } }
+    {
+        self.uses[id as usize] = None;
+        self.dropped.push_back_reserved(id);
+    }
+
+    /// Tells the number of a chain that is gone, each once, in the order in which they went; None where each was told. From then on it may be used again.
+    pub fn take_dropped(&mut self) -> Option<u64>
+        ensures { MatchOption result ((self.old.dropped ≡ []) × (self.new ≡ self.old)) (λ id. self.old ≡ record { uses = self.new.uses; dropped = id ∷ self.new.dropped }) }
+    {
+        let Some(id) = self.dropped.pop_front() else {
+            return None;
+        };
+        self.vacant.push_reserved(id);
+        Some(id)
+    }
 }
 
 // The use of a chain that is there.
@@ -88,4 +229,32 @@ fn used(uses: &[Option<Use>], id: u64) -> &Use
     ensures { use_at uses.now id ≡ Some result.now }
 {
     uses[id as usize].as_ref().unwrap()
+}
+
+// The least number of a chain from another number on.
+fn next_from(uses: &[Option<Use>], first: u64) -> Option<u64>
+    ensures next { IfSome result (λ id. IsSome (use_at uses.now id) × (first ≤ id) × ((n : ℕ) → first ≤ n → n < id → use_at uses.now n ≡ None)) }
+    ensures none { IfNone result ((n : ℕ) → first ≤ n → use_at uses.now n ≡ None) }
+{
+    for id in first..uses.len() as u64 {
+        if uses[id as usize].is_some() {
+            return Some(id);
+        }
+    }
+    None
+}
+
+// Makes a list reach a number. What it has stays.
+fn cover(owners: &mut Vec<u64>, number: usize) -> Result<(), AllocError>
+    ensures within { OnOk result (number < length owners.new.items) }
+    ensures longer { length owners.old.items ≤ length owners.new.items }
+    ensures stay { (n : ℕ) → n < length owners.old.items → slice_index owners.new.items n ≡ slice_index owners.old.items n }
+{
+    if number < owners.len() {
+        return Ok(());
+    }
+    let Some(len) = number.checked_add(1) else {
+        return Err(AllocError);
+    };
+    owners.resize(len, 0)
 }
