@@ -1,3 +1,2 @@
-pub mod Numbers
-pub mod PinLists
 pub mod Keeping
+pub mod PinLists

@@ -1,10 +1,9 @@
 -- Pins as a list: what is read and written at a number.
-use Rattle.std.proofs.Common.{◌≡◌, ℕ, zero, suc, ◌+◌, ◌-◌, ◌<◌, ◌≤◌, List, [], ◌∷◌, ◌++◌, length, get_or, Option, Some, None, Bool, true, false, IsTrue,  IsSome, ◌⊎◌, ◌↔◌, slice_index_or, slice_set, take, drop, map, refl, sym, ap, subst, ◌∙◌, inl, inr, arith}
+use Rattle.std.proofs.Common.{◌≡◌, ℕ, zero, suc, ◌+◌, ◌-◌, ◌<◌, ◌≤◌, List, [], ◌∷◌, ◌++◌, length, get_or, Option, Some, None, IsTrue, IsSome, ◌↔◌, slice_index_or, slice_set, take, drop, map, refl, sym, ap, subst, ◌∙◌, inl, inr, arith}
 use Rattle.std.proofs.Math.ListN.{set}
 use Rattle.std.specs.Prelude.{is_none}
 use Rattle.std.specs.List.{list_all}
 use Rattle.std.proofs.lemmas.List.{take_all, append-nil}
-use Rattle.rc_core.specs.Chains.{IsPinned}
 use Rattle.rc_core.specs.Steps.{free_number, pin_at, pinned, released, renumbered}
 use Rattle.rc_registry.specs.Registry.{AreFree}
 

@@ -5,6 +5,7 @@ ghost use Rattle.std.specs.Vec.{vec_capacity};
 ghost use Rattle.std.specs.VecDeque.{deque_capacity};
 ghost use Rattle.rc_core.specs.Chains.{IsPinned};
 ghost use Rattle.rc_core.specs.Steps.{free_number, pin_at};
+ghost use Rattle.rc_registry.specs.Kept.{IsLonger, IsTaken};
 ghost use Rattle.rc_registry.specs.Registry.{AreFree, AreOnce, HasRoot, IsAfter, IsNext, IsOneOf, IsThere, detached, new_use, on_use, put, set_passed, set_updating, use_at, with_pin, with_use, without_pin, without_version};
 
 use crate::uses::{self, Use, new_use};
@@ -137,17 +138,15 @@ impl Registry {
         ensures fresh { IfOk result (λ id. IsOneOf self.old.dropped id → ⊥) }
         ensures err { OnErr result (self.new ≡ self.old) }
     {
-        cover(&mut self.owners, root.number)?;
-        let chain = new_use(self.alloc, root, kind);
-        if let Some(id) = self.vacant.pop() {
-            self.uses[id as usize] = Some(chain);
-            self.owners[root.number] = id;
-            return Ok(id);
-        }
-        let id = self.uses.len() as u64;
-        self.vacant.reserve(self.uses.len() + 1)?;
-        self.dropped.reserve(self.uses.len() + 1)?;
-        self.uses.push(Some(chain))?;
+        make_room(
+            &mut self.uses,
+            &mut self.vacant,
+            &mut self.dropped,
+            &mut self.owners,
+            root,
+        )?;
+        let id = take_number(&mut self.uses, &mut self.vacant);
+        self.uses[id as usize] = Some(new_use(self.alloc, root, kind));
         self.owners[root.number] = id;
         Ok(id)
     }
@@ -244,11 +243,49 @@ fn next_from(uses: &[Option<Use>], first: u64) -> Option<u64>
     None
 }
 
+// Room for one chain more, whose versions stand behind a root slot: among the owners and, where no number is vacant, for one number more among all and among those that are
+// vacant or dropped. Only the owners change.
+fn make_room(
+    uses: &mut Vec<Option<Use>>,
+    vacant: &mut Vec<u64>,
+    dropped: &mut VecDeque<u64>,
+    owners: &mut Vec<u64>,
+    root: Root,
+) -> Result<(), AllocError>
+    ensures same { (uses.new.items ≡ uses.old.items) × (vacant.new.items ≡ vacant.old.items) × (dropped.new.items ≡ dropped.old.items) }
+    ensures wider { (vec_capacity vacant.old ≤ vec_capacity vacant.new) × (deque_capacity dropped.old ≤ deque_capacity dropped.new) }
+    ensures owners { IsLonger owners.old.items owners.new.items }
+    ensures within { OnOk result (root.number < length owners.new.items) }
+    ensures room { OnOk result (vacant.old.items ≡ [] → (length uses.old.items < vec_capacity uses.new) × (length uses.old.items < vec_capacity vacant.new) × (length uses.old.items < deque_capacity dropped.new)) }
+{
+    cover(owners, root.number)?;
+    if !vacant.is_empty() {
+        return Ok(());
+    }
+    let numbers = uses.len() + 1;
+    uses.reserve(1)?;
+    vacant.reserve(numbers)?;
+    dropped.reserve(numbers.saturating_sub(dropped.len()))
+}
+
+// Takes a number at which no chain is: one that is vacant, or one more.
+fn take_number(uses: &mut Vec<Option<Use>>, vacant: &mut Vec<u64>) -> u64
+    requires { vacant.old.items ≡ [] → length uses.old.items < vec_capacity uses.old }
+    ensures taken { IsTaken uses.old.items uses.new.items vacant.old.items vacant.new.items result }
+    ensures room { vec_capacity vacant.new ≡ vec_capacity vacant.old }
+{
+    if let Some(id) = vacant.pop() {
+        return id;
+    }
+    let id = uses.len() as u64;
+    uses.push_reserved(None);
+    id
+}
+
 // Makes a list reach a number. What it has stays.
 fn cover(owners: &mut Vec<u64>, number: usize) -> Result<(), AllocError>
     ensures within { OnOk result (number < length owners.new.items) }
-    ensures longer { length owners.old.items ≤ length owners.new.items }
-    ensures stay { (n : ℕ) → n < length owners.old.items → slice_index owners.new.items n ≡ slice_index owners.old.items n }
+    ensures owners { IsLonger owners.old.items owners.new.items }
 {
     if number < owners.len() {
         return Ok(());

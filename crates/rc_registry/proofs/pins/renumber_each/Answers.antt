@@ -1,4 +1,4 @@
-use Rattle.std.proofs.Common.{◌∙◌, ap, arith, map, None, length, ◌<◌, ◌≤◌}
+use Rattle.std.proofs.Common.{◌∙◌, None}
 use Rattle.std.specs.Prelude.{option_map}
 use Rattle.rc_core.specs.Steps.{renumbered}
 use Rattle.rc_registry.proofs.PinLists.{step-set, whole-set}

@@ -1,4 +1,4 @@
-use Rattle.std.proofs.Common.{◌≡◌, ◌<◌, ◌≤◌, ◌++◌, [], ◌∷◌, Some, ap, ◌∙◌, arith, length, subst, sym}
+use Rattle.std.proofs.Common.{◌≡◌, ◌<◌, ◌≤◌, Some, ap, ◌∙◌, arith, length, sym}
 use Rattle.std.proofs.Math.ListN.{set}
 use Rattle.rc_core.specs.Steps.{free_number, pinned}
 use Rattle.rc_registry.proofs.PinLists.{pinned-behind, pinned-within}

@@ -1,4 +1,4 @@
-use Rattle.std.proofs.Common.{◌≡◌, ◌<◌, ap, ◌∙◌, IsSome, arith, length, subst, sym}
+use Rattle.std.proofs.Common.{ap, ◌∙◌, IsSome, arith, subst, sym}
 use Rattle.rc_core.specs.Steps.{pin_at, released}
 use Rattle.rc_registry.proofs.PinLists.{pin_at-there, released-is}
 use Rattle.rc_registry.proofs.pins.Pins.release.Goals as goal
