@@ -25,6 +25,7 @@ impl List {
         requires second_unset { link_of region.old (End.Obj r 1) ≡ None }
         ensures pushed { (xs : Sequence Name) → IsList self.now region.old xs → IsList self.now region.new (xs ++ (r ∷ [])) }
         ensures elsewhere { (e : End) → IsElsewhere self.now region.old e → link_of region.new e ≡ link_of region.old e }
+        ensures unset { (e : End) → link_of region.old e ≡ None → e ≢ End.Obj r 0 → e ≢ End.Obj r 1 → link_of region.new e ≡ None }
         ensures objects { SameObjects region.old region.new }
         ensures well { IsWell region.new }
     {
@@ -42,6 +43,7 @@ impl List {
         ensures first_unset { link_of region.new (End.Obj r 0) ≡ None }
         ensures second_unset { link_of region.new (End.Obj r 1) ≡ None }
         ensures elsewhere { (e : End) → IsElsewhere self.now region.old e → link_of region.new e ≡ link_of region.old e }
+        ensures unset { (e : End) → link_of region.old e ≡ None → link_of region.new e ≡ None }
         ensures objects { SameObjects region.old region.new }
         ensures well { IsWell region.new }
     {
@@ -54,9 +56,11 @@ impl List {
         requires { (xs : Sequence Name) × (ys : Sequence Name) × IsList self.now region.old (xs ++ (r ∷ ys)) }
         ensures touched { (xs ys : Sequence Name) → IsList self.now region.old (xs ++ (r ∷ ys)) → IsList self.now region.new ((xs ++ ys) ++ (r ∷ [])) }
         ensures elsewhere { (e : End) → IsElsewhere self.now region.old e → link_of region.new e ≡ link_of region.old e }
+        ensures unset { (e : End) → link_of region.old e ≡ None → link_of region.new e ≡ None }
         ensures objects { SameObjects region.old region.new }
         ensures well { IsWell region.new }
     {
+        region.known();
         self.remove(region, r);
         self.push_back(region, r);
     }

@@ -18,7 +18,11 @@ use Rattle.lsa_path.specs.Roles.{role_of, role_at, role_in, LessRecent, MoreRece
 use Rattle.lsa_path.specs.laws.Paths.{same_some, path-end, path-rest, path-last, fresh-start, fresh-behind, path-same, path-everywhere, all_map}
 use Rattle.lsa_path.specs.laws.Members.{member-first, member-later, member-cases, all-from_members}
 use Rattle.lsa_path.specs.laws.Exchanged.{path-exchanged}
+use Rattle.lsa_path.specs.laws.Passing.{path-left}
 use Rattle.lsa_path.specs.laws.Renamed.{some-there, path-renamed}
+use Rattle.lsa_path.specs.laws.Steps.{set-unset}
+use Rattle.lsa_region.specs.Paired.{WellPaired}
+use Rattle.lsa_region.specs.laws.Ends.{ends_decided}
 use Rattle.lsa_list.specs.declared.recency.List.{List as Slots}
 use Rattle.lsa_list.specs.Recency.{kind_of, HasRecency, AllHaveRecency, IsList, IsElsewhere, first, object_of}
 
@@ -305,3 +309,35 @@ list-written slots v w xs r bytes links here others l = list-unlinked slots v w 
 -- a path elsewhere stays beside what changes the list
 pub path-elsewhere : (slots : Slots) (v w : View) (i o : ℕ) (s : End) (xs : List Ref) (f : Option End) → ((e : End) → IsElsewhere slots v e → link_of w e ≡ link_of v e) → IsElsewhere slots v s → AllOnward o (IsElsewhere slots v) xs → IsPath i o (link_of v) s xs f → IsPath i o (link_of w) s xs f
 path-elsewhere slots v w i o s xs f same far all p = path-same i o (link_of v) (link_of w) s xs f (same s far) (all_map o (IsElsewhere slots v) (λ e. link_of w e ≡ link_of v e) xs same all) p
+
+-- ---- what is unset stays unset
+
+unnamed : (named : End → Option End) (a e : End) → WellPaired named → named e ≡ None → named a ≡ Some e → ⊥
+unnamed named a e well none is = set-unset named e e a (well.mates a e is) none refl
+
+-- behind an end that is set
+pub unset-inserted : (named new : End → Option End) (a mate first second e : End) → WellPaired named → named a ≡ Some mate → IsInserted named new a first second → named e ≡ None → e ≢ first → e ≢ second → new e ≡ None
+unset-inserted named new a mate first second e well set inserted none one two =
+    inserted.others e (λ p. set-unset named a e mate set none (sym p)) one two (unnamed named a e well none) ∙ none
+
+pub unset-taken : (named new : End → Option End) (first second e : End) → WellPaired named → IsTakenOut named new first second → named e ≡ None → new e ≡ None
+unset-taken named new first second e well taken none = elim (ends_decided e first) [
+  | inl p ↦ ap new p ∙ taken.front
+  | inr p ↦ elim (ends_decided e second) [
+    | inl q ↦ ap new q ∙ taken.back
+    | inr q ↦ taken.others e p q (unnamed named first e well none) (unnamed named second e well none) ∙ none
+  ]
+]
+
+-- an object of a list has both links set, so what is unset is neither
+pub listed-set : (slots : Slots) (v : View) → IsWell v → (xs ys : List Ref) (r : Ref) → IsList slots v (xs ++ (r ∷ ys)) → (e : End) → link_of v e ≡ None → (e ≢ Obj r 0) × (e ≢ Obj r 1)
+listed-set slots v well xs ys r l e none = (
+  λ p. set-unset (link_of v) (Obj r 0) e _ (here-named slots v well xs ys r l) none (sym p),
+  λ p. lacks (link_of v (Obj r 1)) (ap (link_of v) (sym p) ∙ none) (path-left 0 1 (link_of v) (Slot slots.front) (xs ++ (r ∷ ys)) (Slot slots.back) l.path r (stands xs)),
+) where
+  stands : (zs : List Ref) → Contains (zs ++ (r ∷ ys)) r
+  stands [] = member-first r ys
+  stands (z ∷ zs) = member-later z r (zs ++ (r ∷ ys)) (stands zs)
+
+  lacks : (o : Option End) → o ≡ None → IsSome o → ⊥
+  lacks o none is = let clash = sym (ap is_some none) ∙ is in cc

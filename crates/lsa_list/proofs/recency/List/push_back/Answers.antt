@@ -5,7 +5,7 @@ use Rattle.lsa_region.specs.Region.{link_of}
 use Rattle.lsa_path.specs.Path.{IsPath}
 use Rattle.lsa_path.specs.laws.Paths.{same_some}
 use Rattle.lsa_path.specs.laws.Steps.{set-unset}
-use Rattle.lsa_list.specs.laws.Lists.{fields_differ, recency-ends, recent-append, recent-same, finish-there, last-named, inserted-elsewhere}
+use Rattle.lsa_list.specs.laws.Lists.{fields_differ, recency-ends, recent-append, recent-same, finish-there, last-named, inserted-elsewhere, unset-inserted}
 use Rattle.lsa_list.proofs.recency.List.push_back.Goals as goal
 
 pub root-requires : goal.root-requires
@@ -54,3 +54,8 @@ returns-clause-elsewhere g c =
     let v = c.args.region.now in let xs = c.requires.list.0 in let l = c.requires.list.1 in let well = c.known.ensures.well in
     inserted-elsewhere c.args.self.now v well (link_of c.insert_behind.new.region) xs c.in-Some.last c.args.r l c.requires.recency
     (sym (same_some _ c.in-Some.last (sym (last-named c.args.self.now v well xs l) ∙ sym c.root.ensures ∙ c.in-Some.is))) c.insert_behind.ensures.inserted
+
+pub returns-clause-unset : goal.returns-clause-unset
+returns-clause-unset g c = λ e none one two.
+    let v = c.args.region.now in let well = c.known.ensures.well in let back = Slot c.args.self.now.back in
+    unset-inserted (link_of v) (link_of c.insert_behind.new.region) c.in-Some.last back (Obj c.args.r 0) (Obj c.args.r 1) e well.paired (well.paired.mates back c.in-Some.last (sym c.root.ensures ∙ c.in-Some.is)) c.insert_behind.ensures.inserted none one two

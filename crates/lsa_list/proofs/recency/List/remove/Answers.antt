@@ -1,7 +1,7 @@
 use Rattle.std.proofs.Common.{Some, ap, is_some, arith}
-use Rattle.lsa_region.specs.declared.end.End.TheVariants.{Slot}
+use Rattle.lsa_region.specs.declared.end.End.TheVariants.{Obj, Slot}
 use Rattle.lsa_region.specs.Region.{link_of}
-use Rattle.lsa_list.specs.laws.Lists.{fields_differ, recency-ends, recent-at, recent-drop, recent-same, here-named, here-apart, taken-elsewhere}
+use Rattle.lsa_list.specs.laws.Lists.{fields_differ, recency-ends, recent-at, recent-drop, recent-same, here-named, here-apart, taken-elsewhere, unset-taken}
 use Rattle.lsa_list.proofs.recency.List.remove.Goals as goal
 
 pub take_out-requires : goal.take_out-requires
@@ -18,3 +18,6 @@ returns-clause-removed g c = λ xs ys l. record {
 
 pub returns-clause-elsewhere : goal.returns-clause-elsewhere
 returns-clause-elsewhere g c = taken-elsewhere c.args.self.now c.args.region.now c.known.ensures.well (link_of c.take_out.new.region) c.requires.0 c.requires.1 c.args.r c.requires.2 c.take_out.ensures.taken
+
+pub returns-clause-unset : goal.returns-clause-unset
+returns-clause-unset g c = λ e none. unset-taken (link_of c.args.region.now) (link_of c.take_out.new.region) (Obj c.args.r 0) (Obj c.args.r 1) e c.known.ensures.well.paired c.take_out.ensures.taken none
