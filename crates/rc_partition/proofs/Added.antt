@@ -21,7 +21,7 @@ use Rattle.rc_version.specs.Versions.{HasStatics, IsKeptBut, IsStaticsOf, IsUnli
 use Rattle.rc_version.specs.laws.Staying.{version-kind}
 use Rattle.rc_partition.specs.Partitions.{StandingVersion, PartitionEntry, AreStanding, IsPartitionEntry, IsRowOf, IsRowOfAny, objects_of, partition_bytes, partition_of, roots_of, standing}
 use Rattle.rc_partition.specs.laws.Apart.{entries-apart, one-version, row-recency, row-version}
-use Rattle.rc_partition.specs.laws.Changed.{KeepsStatics, all-recency, roots-among, some_or_none}
+use Rattle.rc_partition.specs.laws.Changed.{all-recency, roots-among, some_or_none}
 use Rattle.rc_partition.specs.laws.Lists.{elem-cases, elem-first, elem-here, elem-left, elem-map, elem-mapped, elem-none, elem-pushed, elem-replaced, elem-reversed, elem-still, elem-unreversed, once-beside, sum-middle, sum-without}
 use Rattle.rc_partition.specs.laws.Whole.{nothing-else}
 use Rattle.rc_partition.proofs.Chains.{IsBeside, IsChainStep, kept-beside, beside-then, rows-beside, rows-were, entry-beside, chain-beside, chain-version, chain-static, inserted-step}
@@ -38,7 +38,7 @@ more : (new mid old f o b n : ℕ) → new ≡ mid → mid ≡ old + n → old �
 more new mid old f o b n same made is = omega (arith, same, made, is)
 
 module _ (slots : Slots) (old mid new : View) (front : List PartitionEntry) (root : Root) (vs : List StandingVersion) (back : List PartitionEntry) (listed : List Ref) (h : AreStanding slots old (front ++ (partition_of root vs ∷ back)) listed)
-    (well : IsWell old) (summed : IsSummed old) (n end : Ref) (c : Version) (fresh : body old n ≡ None) (kept : IsKeptBut n old mid) (statics : KeepsStatics n old mid) where
+    (well : IsWell old) (summed : IsSummed old) (n end : Ref) (c : Version) (fresh : body old n ≡ None) (kept : IsKeptBut n old mid) where
   this_stands : IsPartitionEntry old (partition_of root vs)
   this_stands = h.entries (partition_of root vs) (elem-here front back (partition_of root vs))
 
@@ -74,7 +74,7 @@ module _ (slots : Slots) (old mid new : View) (front : List PartitionEntry) (roo
             (version-kind mid head.1.object head.1.entries head.1.version (kept.versions head.1.object head.1.entries head.1.version (not-new head.0 (h.entries head.0 head.2) head.1 head.3) ((h.entries head.0 head.2).versions head.1 head.3)))))
         | inr w ↦ let k = (h.entries w.0 w.2).versions w.1 w.3 in let ne = not-new w.0 (h.entries w.0 w.2) w.1 w.3 in
             absurd (ne (one-version mid well_mid w.1 (standing n (end ∷ []) c) (kept.versions w.1.object w.1.entries w.1.version ne k) is end
-            (rows-beside n root old mid (kept-beside n root old mid kept statics) w.1 ne k end w.4) (inl (elem-first end []))))
+            (rows-beside n root old mid (kept-beside n root old mid kept) w.1 ne k end w.4) (inl (elem-first end []))))
       ]
     ]
 
@@ -104,7 +104,7 @@ module _ (slots : Slots) (old mid new : View) (front : List PartitionEntry) (roo
     root_beside = h.beside (partition_of root vs) (elem-here front back (partition_of root vs))
 
     step : IsBeside n root old new
-    step = beside-then n root old mid new (kept-beside n root old mid kept statics)
+    step = beside-then n root old mid new (kept-beside n root old mid kept)
         (chain-beside root (n ∷ reverse (objects_of vs)) mid new step_links n heads_kind
         (λ p ne k o in_p on. elim (elem-cases n o (reverse (objects_of vs)) on) [
           | inl here ↦ loose p k (subst (Contains (objects_of p.versions)) (sym here) in_p)

@@ -16,22 +16,21 @@ use Rattle.rc_version.specs.Versions.{IsKeptBut, IsOutward, IsVersionOf}
 use Rattle.rc_version.specs.laws.Staying.{version-outward}
 use Rattle.rc_partition.specs.Partitions.{StandingVersion, PartitionEntry, IsPartitionEntry, IsRowOf, objects_of}
 use Rattle.rc_partition.specs.laws.Apart.{row-version, same_root}
-use Rattle.rc_partition.specs.laws.Changed.{KeepsStatics}
 use Rattle.rc_partition.specs.laws.Lists.{elem-cases, elem-first, elem-here, elem-later, elem-map, elem-none, elem-unreversed}
 
 -- all versions but n stand as they stood, with the links outward of their rows; and so do the partitions of other root slots
 pub record IsBeside (n : Ref) (root : Root) (old new : View) : Type 0 where
   pub versions : (m : Ref) (refs : List Ref) (c : Version) → m ≢ n → IsVersionOf old m refs c → IsVersionOf new m refs c
-  pub statics : KeepsStatics n old new
+  pub statics : (m : Ref) (refs : List Ref) (c : Version) → m ≢ n → IsVersionOf old m refs c → link_of new (Obj m 3) ≡ link_of old (Obj m 3)
   pub rows : (t : StandingVersion) → t.object ≢ n → IsVersionOf old t.object t.entries t.version → (r : Ref) → IsRowOf old t r → (field : ℕ) → field ≤ 1 → link_of new (Obj r field) ≡ link_of old (Obj r field)
   pub heads : (p : PartitionEntry) → p.root ≢ root → IsPartitionEntry old p → (o : Ref) → Contains (objects_of p.versions) o → link_of new (Obj o 0) ≡ link_of old (Obj o 0)
   pub slots : (s : Root) → s ≢ root → link_of new (Slot s) ≡ link_of old (Slot s)
   pub there : (s : Root) → IsEnd old (Slot s) → IsEnd new (Slot s)
 
-pub kept-beside : (n : Ref) (root : Root) (old new : View) → IsKeptBut n old new → KeepsStatics n old new → IsBeside n root old new
-kept-beside n root old new kept statics = record {
+pub kept-beside : (n : Ref) (root : Root) (old new : View) → IsKeptBut n old new → IsBeside n root old new
+kept-beside n root old new kept = record {
   versions = kept.versions;
-  statics = statics;
+  statics = kept.statics;
   rows = λ t ne k r row field low. kept.links (Obj r field) low;
   heads = λ p ne k o on. kept.links (Obj o 0) (omega arith);
   slots = λ s ne. kept.links (Slot s) tt;

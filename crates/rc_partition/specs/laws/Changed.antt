@@ -23,10 +23,6 @@ use Rattle.rc_partition.specs.laws.Apart.{entry-once, entries-apart, row-recency
 use Rattle.rc_partition.specs.laws.Lists.{elem-first, elem-here, elem-later, elem-map, elem-replaced, elem-still, once-beside, sum-middle}
 use Rattle.rc_partition.specs.laws.Whole.{nothing-else}
 
--- the static row of each other version is the same object
-abbrev pub KeepsStatics : Ref → View → View → Type 0
-KeepsStatics n old new = (m : Ref) (refs : List Ref) (c : Version) → m ≢ n → IsVersionOf old m refs c → link_of new (Obj m 3) ≡ link_of old (Obj m 3)
-
 -- ---- one among others
 
 module _ (front back : List PartitionEntry) (root : Root) (older newer : List StandingVersion) where
@@ -72,7 +68,7 @@ all-recency v (x ∷ xs) h = (h x (elem-first x xs), all-recency v xs (λ r late
 -- ---- what stays
 
 module _ (slots : Slots) (old new : View) (front : List PartitionEntry) (root : Root) (older : List StandingVersion) (s : StandingVersion) (newer : List StandingVersion) (back : List PartitionEntry) (listed : List Ref)
-    (well : IsWell old) (kept : IsKeptBut s.object old new) (statics : KeepsStatics s.object old new) (h : AreStanding slots old (among front root older s newer back) listed) where
+    (well : IsWell old) (kept : IsKeptBut s.object old new) (h : AreStanding slots old (among front root older s newer back) listed) where
   abbrev this : PartitionEntry
   this = partition_of root (older ++ (s ∷ newer))
 
@@ -116,11 +112,11 @@ module _ (slots : Slots) (old new : View) (front : List PartitionEntry) (root : 
   -- rows of other versions
   rows_kept : (t : StandingVersion) → t.object ≢ s.object → IsVersionOf old t.object t.entries t.version → (r : Ref) → IsRowOf old t r → IsRowOf new t r
   rows_kept t ne k r (inl on) = inl on
-  rows_kept t ne k r (inr link) = inr (statics t.object t.entries t.version ne k ∙ link)
+  rows_kept t ne k r (inr link) = inr (kept.statics t.object t.entries t.version ne k ∙ link)
 
   rows_back : (t : StandingVersion) → t.object ≢ s.object → IsVersionOf old t.object t.entries t.version → (r : Ref) → IsRowOf new t r → IsRowOf old t r
   rows_back t ne k r (inl on) = inl on
-  rows_back t ne k r (inr link) = inr (sym (statics t.object t.entries t.version ne k) ∙ link)
+  rows_back t ne k r (inr link) = inr (sym (kept.statics t.object t.entries t.version ne k) ∙ link)
 
   module _ (now : List Ref) (c : Version) (is : IsVersionOf new s.object now c) where
     abbrev s' : StandingVersion
