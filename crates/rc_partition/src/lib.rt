@@ -3,5 +3,6 @@
 
 pub mod laws;
 mod partitions;
+mod walks;
 
 pub use partitions::{add_version, count, drop_version, home, version};
