@@ -8,7 +8,7 @@ use Rattle.lsa_store.specs.declared.place.Ref.{Ref}
 use Rattle.lsa_store.specs.Objects.{rounded_size}
 use Rattle.lsa_region.specs.declared.end.End.{End}
 use Rattle.lsa_region.specs.declared.end.End.TheVariants.{Obj}
-use Rattle.lsa_region.specs.Region.{View, body, link_of, live_bytes, IsWell, IsFreed}
+use Rattle.lsa_region.specs.Region.{View, body, link_of, live_bytes, IsWell, IsFreed, Risen}
 use Rattle.lsa_path.specs.laws.Members.{member-here, member-later, member-first}
 use Rattle.lsa_path.specs.laws.Renamed.{some-there}
 use Rattle.lsa_tree.specs.declared.tree.Tree.{Tree}
@@ -24,12 +24,13 @@ use Rattle.rc_core.specs.laws.Order.{take_out-is}
 use Rattle.rc_core.specs.laws.Spots.{taken_out}
 use Rattle.rc_core.specs.Version.{Version, IsVersion, Ascend, EndsWithDummy}
 use Rattle.rc_object.specs.Objects.{HoldsEntry, IsRewritten}
-use Rattle.rc_version.specs.Versions.{tree_of, IsVersionOf, IsKeptBeside, IsKeptBut, IsUnlisted, IsWeighed, MayChange, entry_bytes, entries_bytes}
+use Rattle.rc_version.specs.Versions.{tree_of, IsVersionOf, IsKeptBeside, IsKeptBut, IsUnlisted, IsWeighed, IsNoneMade, MayChange, entry_bytes, entries_bytes}
 use Rattle.rc_version.specs.laws.Objects.{holds-stands, holds-same, holds-extent}
 use Rattle.rc_version.specs.laws.Holding.{AreAround, both-around, before-end, bytes-same, bytes-with, hold-kept}
+use Rattle.rc_version.specs.laws.Marked.{none-balances, none-freed}
 use Rattle.rc_version.specs.laws.Staying.{step-kept, freed-version, freed-kept, freed-entry, version-kind, kept-then}
 use Rattle.rc_version.proofs.Taken.{freed-live, loose-unset, take-step, take-held, take-still, take-version}
-use Rattle.rc_version.proofs.Written.{marked-kept_by, marked-version, rewritten-live, rewritten-others, rewritten-usages}
+use Rattle.rc_version.proofs.Written.{marked-kept_by, marked-version, rewritten-live, rewritten-none, rewritten-others, rewritten-usages}
 
 lighter : (new freed put old size s before after other : ℕ) → new ≡ freed → freed + size ≡ put → put ≡ old → before ≡ size + other → after ≡ other → new + (64 + (s + before)) ≡ old + (64 + (s + after))
 lighter new freed put old size s before after other a b d f k = omega arith
@@ -73,7 +74,7 @@ module _ (S : ℕ) (old put freed new : View) (n e next : Ref) (front rest : Lis
   put_version : IsVersionOf put n (front ++ (next ∷ rest)) (with_entries (w.before ++ (w.there ∷ w.behind)) c)
   put_version = take-version old put well_old n e front (next ∷ rest) c h others elsewhere objects w.before (w.there ∷ w.behind) w.held_before (w.next_holds, w.held_behind) without removed
 
-  module _ (free : IsFreed put freed e) (budget : length freed.usages ≡ length put.usages) (moved : freed.moved ≡ put.moved) (compacted : freed.compacted ≡ put.compacted) where
+  module _ (free : IsFreed put freed e) (budget : length freed.usages ≡ length put.usages) (moved : freed.moved ≡ put.moved) (compacted : freed.compacted ≡ put.compacted) (risen : Risen put.epoch freed.epoch) where
     no_head : (m : Ref) → IsSomeAnd (body put m) (λ b. b.0 ≡ VersionKind) → m ≢ e
     no_head m kind is = no_entry_at (body put e) (subst (λ z. IsSomeAnd (body put z) (λ b. b.0 ≡ VersionKind)) is kind) out.entry
 
@@ -82,7 +83,7 @@ module _ (S : ℕ) (old put freed new : View) (n e next : Ref) (front rest : Lis
         (no_head n (version-kind put n (front ++ (next ∷ rest)) (with_entries (w.before ++ (w.there ∷ w.behind)) c) put_version)) put_version
 
     freed_kept : IsKeptBut n old freed
-    freed_kept = kept-then (MayChange old n) n old put freed put_kept (freed-kept put freed e well_put free drop-unset (MayChange old n) n (inr (inr (inl (all, h.tree, member-here front (next ∷ rest) e)))) (λ m ne kind. no_head m kind) budget moved compacted)
+    freed_kept = kept-then (MayChange old n) n old put freed put_kept (freed-kept put freed e well_put free drop-unset (MayChange old n) n (inr (inr (inl (all, h.tree, member-here front (next ∷ rest) e)))) (λ m ne kind. no_head m kind) budget moved compacted risen)
 
     -- the others hold what they held
     pub drop-held : (q : Ref) (d : Entry) → Contains (front ++ (next ∷ rest)) q → HoldsEntry old q d → HoldsEntry freed q d
@@ -102,6 +103,9 @@ module _ (S : ℕ) (old put freed new : View) (n e next : Ref) (front rest : Lis
 
       pub drop-gone : body new e ≡ None
       drop-gone = rewritten-others freed new next rewritten e (λ is. freed-entry put freed e well_put free drop-unset n (front ++ (next ∷ rest)) removed (subst (Contains (front ++ (next ∷ rest))) (sym is) (member-here front rest next))) ∙ free.here
+
+      pub drop-none : IsNoneMade old new
+      drop-none q gone = rewritten-none freed new next rewritten q (none-freed put freed e free q (none-balances old put all objects q gone))
 
       pub drop-spare : spare_of S freed.usages ≡ spare_of S put.usages → spare_of S new.usages ≡ spare_of S old.usages
       drop-spare same = ap (spare_of S) (rewritten-usages freed new next rewritten) ∙ same ∙ ap (spare_of S) objects.usages

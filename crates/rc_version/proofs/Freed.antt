@@ -9,7 +9,7 @@ use Rattle.lsa_store.specs.declared.place.Ref.{Ref}
 use Rattle.lsa_store.specs.Objects.{rounded_size}
 use Rattle.lsa_region.specs.declared.end.End.{End}
 use Rattle.lsa_region.specs.declared.end.End.TheVariants.{Obj}
-use Rattle.lsa_region.specs.Region.{View, body, link_of, live_bytes, IsWell, IsFreed}
+use Rattle.lsa_region.specs.Region.{View, body, link_of, live_bytes, IsWell, IsFreed, Risen}
 use Rattle.lsa_region.specs.laws.Ends.{no-end, some_and_none}
 use Rattle.lsa_path.specs.laws.Members.{member-first}
 use Rattle.lsa_path.specs.laws.Renamed.{some-there}
@@ -18,9 +18,10 @@ use Rattle.lsa_tree.specs.Tree.{IsTree, IsLoose, IsOffTree, SameButBalances}
 use Rattle.lsa_tree.specs.laws.Trees.{no_entry_at, empty-unset}
 use Rattle.rc_core.specs.Version.{Version, EndsWithDummy}
 use Rattle.rc_object.specs.Objects.{HoldsHead}
-use Rattle.rc_version.specs.Versions.{tree_of, version_head, HasStatics, IsVersionOf, IsKeptBut, IsUnlisted, MayChange, bytes_at}
+use Rattle.rc_version.specs.Versions.{tree_of, version_head, HasStatics, IsVersionOf, IsKeptBut, IsUnlisted, IsNoneMade, MayChange, bytes_at}
 use Rattle.rc_version.specs.laws.Objects.{head-kind, head-same, head-extent, holds-extent}
 use Rattle.rc_version.specs.laws.Holding.{one-held}
+use Rattle.rc_version.specs.laws.Marked.{none-balances, none-freed}
 use Rattle.rc_version.specs.laws.Staying.{step-head, step-kept, static-off, freed-kept, version-kind, kept-then}
 use Rattle.rc_version.proofs.Taken.{freed-live, loose-unset, take-step, take-held}
 use Rattle.rc_version.proofs.Dropped.{unlisted_stays}
@@ -47,12 +48,12 @@ module _ (S : ℕ) (old put : View) (n end : Ref) (c : Version) (h : IsVersionOf
   put_head : HoldsHead put n (version_head c)
   put_head = head-same old put n (version_head c) (step-head old put n (end ∷ []) (take-step old put well_old n end [] [] c h others elsewhere objects) n (version-kind old n (end ∷ []) c h)) h.head
 
-  module _ (mid : View) (well_mid : IsWell mid) (free_end : IsFreed put mid end) (budget : length mid.usages ≡ length put.usages) (moved : mid.moved ≡ put.moved) (compacted : mid.compacted ≡ put.compacted) where
+  module _ (mid : View) (well_mid : IsWell mid) (free_end : IsFreed put mid end) (budget : length mid.usages ≡ length put.usages) (moved : mid.moved ≡ put.moved) (compacted : mid.compacted ≡ put.compacted) (risen : Risen put.epoch mid.epoch) where
     no_head : (m : Ref) → IsSomeAnd (body put m) (λ b. b.0 ≡ VersionKind) → m ≢ end
     no_head m kind is = no_entry_at (body put end) (subst (λ z. IsSomeAnd (body put z) (λ b. b.0 ≡ VersionKind)) is kind) out.entry
 
     mid_kept : IsKeptBut n old mid
-    mid_kept = kept-then (MayChange old n) n old put mid put_kept (freed-kept put mid end well_put free_end end-unset (MayChange old n) n (inr (inr (inl (end ∷ [], h.tree, member-first end [])))) (λ m ne kind. no_head m kind) budget moved compacted)
+    mid_kept = kept-then (MayChange old n) n old put mid put_kept (freed-kept put mid end well_put free_end end-unset (MayChange old n) n (inr (inr (inl (end ∷ [], h.tree, member-first end [])))) (λ m ne kind. no_head m kind) budget moved compacted risen)
 
     mid_head : HoldsHead mid n (version_head c)
     mid_head = head-same put mid n (version_head c) (free_end.others n (no_head n (head-kind put n (version_head c) put_head))) put_head
@@ -70,9 +71,12 @@ module _ (S : ℕ) (old put : View) (n end : Ref) (c : Version) (h : IsVersionOf
     head-unset (suc (suc (suc zero))) = free_end.links (Obj n 3) ∙ elsewhere (Obj n 3) (static-off old n (version-kind old n (end ∷ []) c h)) ∙ no_statics
     head-unset (suc (suc (suc (suc field)))) = no-end mid well_mid (Obj n (suc (suc (suc (suc field))))) (λ there. let few = few_links (body mid n) (suc (suc (suc (suc field)))) (head-kind mid n (version_head c) mid_head) there in omega (arith, few))
 
-    module _ (new : View) (free : IsFreed mid new n) (budget' : length new.usages ≡ length mid.usages) (moved' : new.moved ≡ mid.moved) (compacted' : new.compacted ≡ mid.compacted) where
+    module _ (new : View) (free : IsFreed mid new n) (budget' : length new.usages ≡ length mid.usages) (moved' : new.moved ≡ mid.moved) (compacted' : new.compacted ≡ mid.compacted) (risen' : Risen mid.epoch new.epoch) where
       pub free-kept : IsKeptBut n old new
-      free-kept = kept-then (MayChange old n) n old mid new mid_kept (freed-kept mid new n well_mid free head-unset (MayChange old n) n (inr (inl refl)) (λ m ne kind is. ne is) budget' moved' compacted')
+      free-kept = kept-then (MayChange old n) n old mid new mid_kept (freed-kept mid new n well_mid free head-unset (MayChange old n) n (inr (inl refl)) (λ m ne kind is. ne is) budget' moved' compacted' risen')
+
+      pub free-none : IsNoneMade old new
+      free-none q gone = none-freed mid new n free q (none-freed put mid end free_end q (none-balances old put (end ∷ []) objects q gone))
 
       pub end-gone : body new end ≡ None
       end-gone = free.others end (λ is. some_and_none (body mid n) _ (subst (λ z. body mid z ≡ None) is free_end.here) mid_head) ∙ free_end.here

@@ -3,7 +3,7 @@ use Rattle.std.proofs.Common.{◌≡◌, ℕ, ◌+◌, List, [], ◌∷◌, ◌+
 use Rattle.std.specs.Prelude.{Contains}
 use Rattle.rc_position.specs.declared.positions.Pos.{Pos}
 use Rattle.lsa_store.specs.declared.place.Ref.{Ref}
-use Rattle.lsa_region.specs.Region.{View, live_bytes, IsWell}
+use Rattle.lsa_region.specs.Region.{View, body, live_bytes, IsWell}
 use Rattle.lsa_path.specs.laws.Members.{member-here, member-split}
 use Rattle.lsa_tree.specs.Entries.{IsEntryAtPosition, BelongsBetween}
 use Rattle.lsa_tree.specs.Search.{IsFound}
@@ -19,6 +19,7 @@ use Rattle.rc_object.specs.Objects.{HoldsEntry}
 use Rattle.rc_version.specs.Versions.{HoldEntries, IsVersionOf, IsSplit, IsWeighed, MayChange, entry_bytes, entries_bytes, version_bytes}
 use Rattle.rc_version.specs.laws.Objects.{holds-stands}
 use Rattle.rc_version.specs.laws.Holding.{IsAround, around, each-earlier, later-at, never-all, bytes-with}
+use Rattle.rc_version.specs.laws.Marked.{none-there}
 use Rattle.rc_version.specs.laws.Staying.{kept-same}
 use Rattle.rc_version.proofs.Putting.{fresh-unlisted}
 
@@ -59,6 +60,7 @@ at-once S v n r x well found refs c h = record {
   entries = λ refs c h. let f = found refs c h in (refs, inl (refl, subst (λ l. Contains l r) (sym f.2) (member-here f.0 f.1 r)), subst (λ es. IsVersionOf v n refs (with_entries es c)) (sym (split-here v n refs c h f.0 r f.1 f.2 x f.3)) h);
   at = (found refs c h).3;
   unlisted = fresh-unlisted (MayChange v n) n v v well (kept-same (MayChange v n) n v);
+  own = λ q gone there. absurd (none-there (body v q) gone there);
   held = λ q e k. k;
   kept = kept-same (MayChange v n) n v;
   parts = λ q k. k;

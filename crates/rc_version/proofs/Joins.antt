@@ -11,7 +11,7 @@ use Rattle.lsa_store.specs.declared.place.Ref.{Ref}
 use Rattle.lsa_store.specs.Objects.{rounded_size}
 use Rattle.lsa_region.specs.declared.end.End.{End}
 use Rattle.lsa_region.specs.declared.end.End.TheVariants.{Obj}
-use Rattle.lsa_region.specs.Region.{View, body, link_of, live_bytes, IsWell, IsFreed}
+use Rattle.lsa_region.specs.Region.{View, body, link_of, live_bytes, IsWell, IsFreed, Risen}
 use Rattle.lsa_tree.specs.declared.tree.Tree.{Tree}
 use Rattle.lsa_tree.specs.declared.tree.Place.TheVariants.{Before, Here}
 use Rattle.lsa_tree.specs.Entries.{IsEntryAtPosition, BelongsBetween}
@@ -29,13 +29,13 @@ use Rattle.rc_core.specs.laws.Surgery.{entry-at, seen-on}
 use Rattle.rc_core.specs.Steps.{row_joined}
 use Rattle.rc_core.specs.Version.{Version, IsVersion, Ascend, On, end_position, entry_answers, found, seen}
 use Rattle.rc_object.specs.Objects.{HasRoomFor, HoldsEntry, IsMade, entry_length, entry_of}
-use Rattle.rc_version.specs.Versions.{tree_of, CanJoin, IsJoined, IsKeptBut, IsUnlisted, IsVersionOf, IsWeighed, MayChange, bytes_at, entries_bytes, entry_bytes, joined_bytes, statics_bytes}
+use Rattle.rc_version.specs.Versions.{tree_of, CanJoin, IsJoined, IsKeptBut, IsUnlisted, IsVersionOf, IsWeighed, HasWhatWasMade, MayChange, bytes_at, entries_bytes, entry_bytes, joined_bytes, statics_bytes}
 use Rattle.rc_version.specs.laws.Holding.{IsAround, bytes-with, each-earlier, later-at}
 use Rattle.rc_version.specs.laws.Objects.{holds-stands}
 use Rattle.rc_version.specs.laws.Staying.{made-added}
 use Rattle.rc_version.proofs.Gaps.{changed-at, entries-ascend, entry-of, split-gap, split-here, weighed-with}
-use Rattle.rc_version.proofs.Swapped.{swap-alike, swap-kept, swap-live, swap-spare, swap-stands, swap-there, swap-unset, swap-version}
-use Rattle.rc_version.proofs.Putting.{fresh-unlisted, put-fits, put-held, put-kept, put-live, put-loose, put-spare, put-tree, put-version}
+use Rattle.rc_version.proofs.Swapped.{swap-alike, swap-kept, swap-live, swap-own, swap-spare, swap-stands, swap-there, swap-unset, swap-version}
+use Rattle.rc_version.proofs.Putting.{fresh-unlisted, put-fits, put-held, put-kept, put-live, put-loose, put-own, put-spare, put-tree, put-version}
 
 -- the row of a key stands before the end
 pub key-before_end : (key : List Comp) → IsBefore (row_pos key) end_position
@@ -112,6 +112,9 @@ module _ (S : ℕ) (old mid new : View) (n r next : Ref) (x : Pos) (row : Row) (
     kept : IsKeptBut n old new
     kept = put-kept S old mid n r size e made held front back tree well new others elsewhere (objects (front ++ back) mid_tree)
 
+    own : HasWhatWasMade n old new
+    own = put-own S old mid n r size e made held front back tree well new others elsewhere (objects (front ++ back) mid_tree) version.tree
+
     stands : IsEntryAtPosition new r x
     stands = holds-stands new r e (put-held S old mid n r size e made held front back tree well new others elsewhere (objects (front ++ back) mid_tree))
 
@@ -129,6 +132,7 @@ module _ (S : ℕ) (old mid new : View) (n r next : Ref) (x : Pos) (row : Row) (
     fresh = (made-added S old mid r size made).fresh;
     at = stands refs c h;
     unlisted = fresh-unlisted (MayChange old n) n old new well_old (kept refs c h);
+    own = own refs c h;
     kept = kept refs c h;
     spare = spare;
     live = live;
@@ -216,39 +220,43 @@ module _ (S : ℕ) (old mid put new : View) (n q r : Ref) (x : Pos) (row : Row)
     pub onto-unset : (field : ℕ) → link_of put (Obj q field) ≡ None
     onto-unset = swap-unset S old mid n q r size' d (made z.here z.holds) (held z.here z.holds) before behind old_tree well put others elsewhere (objects (before ++ (q ∷ behind)) middle) well_put out unlisted well_old
 
-    module _ (freed : IsFreed put new q) (budget : length new.usages ≡ length put.usages) (moved : new.moved ≡ put.moved) (compacted : new.compacted ≡ put.compacted) where
+    module _ (freed : IsFreed put new q) (budget : length new.usages ≡ length put.usages) (moved : new.moved ≡ put.moved) (compacted : new.compacted ≡ put.compacted) (risen : Risen put.epoch new.epoch) where
       now : IsVersionOf new n (before ++ (r ∷ behind)) (row_joined x row c)
       now = subst (λ es. IsVersionOf new n (before ++ (r ∷ behind)) (with_entries es c)) (sym joined)
-          (swap-version S old mid n q r size' d (made z.here z.holds) (held z.here z.holds) before behind old_tree well put others elsewhere (objects (before ++ (q ∷ behind)) middle) well_put out unlisted well_old new freed budget moved compacted
+          (swap-version S old mid n q r size' d (made z.here z.holds) (held z.here z.holds) before behind old_tree well put others elsewhere (objects (before ++ (q ∷ behind)) middle) well_put out unlisted well_old new freed budget moved compacted risen
           c z.before z.behind z.held_before z.held_behind (subst (λ es. IsVersion (with_entries es c)) joined (join_row-is x row c before_end h.version)) (replaced before behind middle) (subst (λ l. IsVersionOf old n l c) there h))
 
       all_kept : IsKeptBut n old new
-      all_kept = swap-kept S old mid n q r size' d (made z.here z.holds) (held z.here z.holds) before behind old_tree well put others elsewhere (objects (before ++ (q ∷ behind)) middle) well_put out unlisted well_old new freed budget moved compacted
+      all_kept = swap-kept S old mid n q r size' d (made z.here z.holds) (held z.here z.holds) before behind old_tree well put others elsewhere (objects (before ++ (q ∷ behind)) middle) well_put out unlisted well_old new freed budget moved compacted risen
+
+      all_own : HasWhatWasMade n old new
+      all_own = swap-own S old mid n q r size' d (made z.here z.holds) (held z.here z.holds) before behind old_tree well put others elsewhere (objects (before ++ (q ∷ behind)) middle) well_put out unlisted well_old new freed budget moved compacted risen now.tree
 
       stands_there : IsEntryAtPosition new r x
-      stands_there = subst (IsEntryAtPosition new r) at (swap-stands S old mid n q r size' d (made z.here z.holds) (held z.here z.holds) before behind old_tree well put others elsewhere (objects (before ++ (q ∷ behind)) middle) well_put out unlisted well_old new freed budget moved compacted (replaced before behind middle))
+      stands_there = subst (IsEntryAtPosition new r) at (swap-stands S old mid n q r size' d (made z.here z.holds) (held z.here z.holds) before behind old_tree well put others elsewhere (objects (before ++ (q ∷ behind)) middle) well_put out unlisted well_old new freed budget moved compacted risen (replaced before behind middle))
 
       less_spare : spare_of S new.usages ≡ spare_of S put.usages → spare_of S old.usages ≤ spare_of S new.usages + joined_bytes x row c
       less_spare same = subst (λ f. spare_of S old.usages ≤ spare_of S new.usages + bytes_at x (Some (joined_onto f.row row))) (sym (seen-there old n refs c h q x (place refs c h)))
           (subst (λ y. spare_of S old.usages ≤ spare_of S new.usages + bytes_at y (Some (joined_onto z.here.row row))) at
-          (swap-spare S old mid n q r size' d (made z.here z.holds) (held z.here z.holds) before behind old_tree well put others elsewhere (objects (before ++ (q ∷ behind)) middle) well_put out unlisted well_old new freed budget moved compacted same))
+          (swap-spare S old mid n q r size' d (made z.here z.holds) (held z.here z.holds) before behind old_tree well put others elsewhere (objects (before ++ (q ∷ behind)) middle) well_put out unlisted well_old new freed budget moved compacted risen same))
 
       more_live : IsSomeAnd (body put q) (λ b. live_bytes new + rounded_size b.0 (length b.1) ≡ live_bytes put) → IsWeighed old new c (row_joined x row c)
       more_live less = subst (λ es. IsWeighed old new c (with_entries es c)) (sym joined)
           (subst (λ es. IsWeighed old new (with_entries es c) (with_entries (z.before ++ (d ∷ z.behind)) c)) (sym z.is)
           ((λ i. live_bytes new + (64 + (statics_bytes c.statics + bytes-with z.before z.here z.behind i)))
           ∙ heavier (live_bytes new) (live_bytes old) size' (entry_bytes z.here) (statics_bytes c.statics) (entries_bytes (z.before ++ z.behind))
-          (swap-live S old mid n q r size' d (made z.here z.holds) (held z.here z.holds) before behind old_tree well put others elsewhere (objects (before ++ (q ∷ behind)) middle) well_put out unlisted well_old new freed budget moved compacted less z.here z.holds)
+          (swap-live S old mid n q r size' d (made z.here z.holds) (held z.here z.holds) before behind old_tree well put others elsewhere (objects (before ++ (q ∷ behind)) middle) well_put out unlisted well_old new freed budget moved compacted risen less z.here z.holds)
           ∙ sym (λ i. live_bytes old + (64 + (statics_bytes c.statics + bytes-with z.before d z.behind i)))))
 
-  pub onto-join : (refs : List Ref) (c : Version) → IsVersionOf old n refs c → IsFreed put new q → length new.usages ≡ length put.usages → new.moved ≡ put.moved → new.compacted ≡ put.compacted
+  pub onto-join : (refs : List Ref) (c : Version) → IsVersionOf old n refs c → IsFreed put new q → length new.usages ≡ length put.usages → new.moved ≡ put.moved → new.compacted ≡ put.compacted → Risen put.epoch new.epoch
       → spare_of S new.usages ≡ spare_of S put.usages → IsSomeAnd (body put q) (λ b. live_bytes new + rounded_size b.0 (length b.1) ≡ live_bytes put) → IsJoined S old new n x row r
-  onto-join refs c h freed budget moved compacted same less = record {
-    entries = λ refs c h. (before refs c h ++ (r ∷ behind refs c h), (before refs c h, behind refs c h, refl, inr (q, there refs c h, freed.here)), now refs c h freed budget moved compacted);
+  onto-join refs c h freed budget moved compacted risen same less = record {
+    entries = λ refs c h. (before refs c h ++ (r ∷ behind refs c h), (before refs c h, behind refs c h, refl, inr (q, there refs c h, freed.here)), now refs c h freed budget moved compacted risen);
     fresh = (made-added S old mid r (size' refs c h) (made (z refs c h).here (z refs c h).holds)).fresh;
-    at = stands_there refs c h freed budget moved compacted;
-    unlisted = fresh-unlisted (MayChange old n) n old new well_old (all_kept refs c h freed budget moved compacted);
-    kept = all_kept refs c h freed budget moved compacted;
-    spare = λ refs c h. less_spare refs c h freed budget moved compacted same;
-    live = λ refs c h. more_live refs c h freed budget moved compacted less;
+    at = stands_there refs c h freed budget moved compacted risen;
+    unlisted = fresh-unlisted (MayChange old n) n old new well_old (all_kept refs c h freed budget moved compacted risen);
+    own = all_own refs c h freed budget moved compacted risen;
+    kept = all_kept refs c h freed budget moved compacted risen;
+    spare = λ refs c h. less_spare refs c h freed budget moved compacted risen same;
+    live = λ refs c h. more_live refs c h freed budget moved compacted risen less;
   }

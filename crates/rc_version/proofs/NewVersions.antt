@@ -1,5 +1,5 @@
 -- A version that was made.
-use Rattle.std.proofs.Common.{◌≡◌, ◌≢◌, ℕ, ◌+◌, ◌≤◌, List, [], ◌∷◌, ◌++◌, Option, Some, None, IsSome, inl, refl, sym, ap, ◌∙◌, subst, arith}
+use Rattle.std.proofs.Common.{◌≡◌, ◌≢◌, ℕ, ◌+◌, ◌≤◌, List, [], ◌∷◌, ◌++◌, Option, Some, None, IsSome, inl, inr, refl, sym, ap, ◌∙◌, subst, arith}
 use Rattle.std.specs.Prelude.{Contains}
 use Rattle.rc_cell.specs.declared.writes.Tomb.{Tomb}
 use Rattle.lsa_kinds.specs.declared.kind.Kind.{Kind}
@@ -8,12 +8,14 @@ use Rattle.lsa_store.specs.declared.place.Ref.{Ref}
 use Rattle.lsa_region.specs.declared.end.End.{End}
 use Rattle.lsa_region.specs.declared.end.End.TheVariants.{Obj}
 use Rattle.lsa_region.specs.Region.{View, body, link_of, live_bytes, IsWell}
+use Rattle.lsa_region.specs.laws.Refs.{refs_decided}
+use Rattle.lsa_path.specs.laws.Members.{member-cases, member-first}
 use Rattle.lsa_path.specs.laws.Renamed.{some-there}
 use Rattle.rc_position.specs.declared.positions.Pos.{Pos}
 use Rattle.lsa_tree.specs.declared.tree.Tree.{Tree}
 use Rattle.lsa_tree.specs.Entries.{IsEntryAtPosition, BelongsBetween}
 use Rattle.lsa_tree.specs.Tree.{IsTree, IsOffTree, SameButBalances}
-use Rattle.lsa_tree.specs.laws.Trees.{tree-empty}
+use Rattle.lsa_tree.specs.laws.Trees.{tree-empty, tree-once}
 use Rattle.rc_core.specs.Change.{dummy, mark}
 use Rattle.rc_core.specs.declared.entries.Entry.{Entry}
 use Rattle.rc_core.specs.declared.entries.Flag.{Flag}
@@ -21,8 +23,9 @@ use Rattle.rc_core.specs.Steps.{version_of}
 use Rattle.rc_core.specs.Version.{end_position}
 use Rattle.rc_object.specs.declared.heads.Head.{Head}
 use Rattle.rc_object.specs.Objects.{HoldsEntry, HoldsHead, IsMade}
-use Rattle.rc_version.specs.Versions.{tree_of, IsVersionOf, IsKeptBut, MayChange}
+use Rattle.rc_version.specs.Versions.{tree_of, IsVersionOf, IsKeptBut, IsPartOf, HasWhatWasMade, MayChange}
 use Rattle.rc_version.specs.laws.Objects.{head-kind, head-same, holds-stands}
+use Rattle.rc_version.specs.laws.Marked.{none-balances, none-there}
 use Rattle.rc_version.specs.laws.Staying.{made-added, made-same, made-kept, IsTreeStep, step-head, step-kept, static-off, kept-then}
 use Rattle.rc_version.proofs.Putting.{put-tree, put-held, put-step}
 
@@ -83,10 +86,29 @@ module _ (S : ℕ) (old first mid new : View) (n end : Ref) (flag : Flag) (pt : 
   fresh_end : body old end ≡ None
   fresh_end = fresh_before (body old end) (body first end) (made-same S old first n 64 made end) (made-added S first mid end 88 made_end).fresh
 
+  -- all of it was made
+  pub new-parts : IsVersionOf new n (end ∷ []) (version_of flag pt phase) → (q : Ref) → IsPartOf new n q → body old q ≡ None
+  new-parts now q (inl is) = subst (λ z. body old z ≡ None) (sym is) (made-added S old first n 64 made).fresh
+  new-parts now q (inr (inl k)) = elim (member-cases end q [] (subst (λ l. Contains l q) (tree-once (tree_of n) new k.0 (end ∷ []) k.1 now.tree) k.2)) [
+    | inl is ↦ subst (λ z. body old z ≡ None) is fresh_end
+    | inr later ↦ absurd (no-member q later)
+  ]
+  new-parts now q (inr (inr named)) = let clash : None ≡ Some (Obj q 2) = sym now.statics ∙ named in cc
+
   pub new-kept : IsKeptBut n old new
   new-kept = kept-then (MayChange old n) n old first new (made-kept S old first n 64 made (MayChange old n) n (inl (made-added S old first n 64 made).fresh))
       (kept-then (MayChange old n) n first mid new (made-kept S first mid end 88 made_end (MayChange old n) n (inl fresh_end))
       (step-kept mid new n [] step (MayChange old n) (λ q k. absurd (no-member q k))))
+
+  -- the head and the end dummy were made, and nothing else
+  pub new-own : IsTree (tree_of n) new (end ∷ []) → HasWhatWasMade n old new
+  new-own now q fresh there = elim (refs_decided q n) [
+    | inl is ↦ inl is
+    | inr ne ↦ elim (refs_decided q end) [
+      | inl is ↦ inr (inl (end ∷ [], now, subst (Contains (end ∷ [])) (sym is) (member-first end [])))
+      | inr no_end ↦ absurd (none-there (body new q) (none-balances mid new [] (objects [] mid_tree) q ((made-added S first mid end 88 made_end).others q no_end ∙ (made-added S old first n 64 made).others q ne ∙ fresh)) there)
+    ]
+  ]
 
   pub new-spare : spare_of S old.usages ≤ spare_of S new.usages + 152
   new-spare = subst (λ us. spare_of S old.usages ≤ spare_of S us + 152) (sym (objects [] mid_tree).usages) (sum_of_both (spare_of S old.usages) (spare_of S first.usages) (spare_of S mid.usages) made.spare made_end.spare)

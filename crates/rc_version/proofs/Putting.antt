@@ -5,7 +5,7 @@ use Rattle.std.proofs.lemmas.List.Elements.{Contains-append_cases, Contains-appe
 use Rattle.lsa_kinds.specs.declared.kind.Kind.{Kind}
 use Rattle.lsa_kinds.specs.declared.kind.Kind.TheVariants.{Version as VersionKind}
 use Rattle.lsa_region.specs.laws.Refs.{refs_decided}
-use Rattle.lsa_path.specs.laws.Members.{member-cases, member-first, member-later}
+use Rattle.lsa_path.specs.laws.Members.{member-cases, member-first, member-here, member-later}
 use Rattle.lsa_pool.specs.Room.{spare_of, live_sum}
 use Rattle.lsa_store.specs.declared.place.Ref.{Ref}
 use Rattle.lsa_region.specs.declared.end.End.{End}
@@ -23,9 +23,10 @@ use Rattle.rc_core.specs.declared.entries.Entry.{Entry}
 use Rattle.rc_core.specs.Continuity.{with_entries}
 use Rattle.rc_core.specs.Version.{Version, IsVersion}
 use Rattle.rc_object.specs.Objects.{HoldsEntry, IsMade}
-use Rattle.rc_version.specs.Versions.{tree_of, HoldEntries, IsVersionOf, IsKeptBeside, IsKeptBut, IsUnlisted, MayChange}
+use Rattle.rc_version.specs.Versions.{tree_of, HoldEntries, IsVersionOf, IsKeptBeside, IsKeptBut, IsUnlisted, HasWhatWasMade, MayChange}
 use Rattle.rc_version.specs.laws.Objects.{made-kind, not_static, holds-stands, holds-same}
 use Rattle.rc_version.specs.laws.Holding.{hold-both, hold-kept}
+use Rattle.rc_version.specs.laws.Marked.{none-balances, none-there}
 use Rattle.rc_version.specs.laws.Staying.{made-added, made-same, made-version, made-kept, IsTreeStep, step-held, step-beside, step-kept, step-version, static-off, versions-apart, kept-then}
 
 -- an object is a member, or not
@@ -128,3 +129,10 @@ module _ (S : ℕ) (old mid : View) (n r : Ref) (size : ℕ) (e : Entry) (made :
       ]
       put-parts kind now q (inr (inr (inr named))) =
           inr (inr (inr (sym ((made-added S old mid r size made).links (Obj n 3)) ∙ sym (elsewhere (Obj n 3) (static-off mid n (subst (λ (o : Option (Kind × List ℕ)). IsSomeAnd o (λ b. b.0 ≡ VersionKind)) (sym (made-same S old mid r size made n (some-there _ (body old n) kind))) kind))) ∙ named)))
+
+      -- and nothing but the entry was made
+      pub put-own : IsTree (tree_of n) new (front ++ (r ∷ back)) → HasWhatWasMade n old new
+      put-own now q fresh there = elim (refs_decided q r) [
+        | inl is ↦ inr (inl (front ++ (r ∷ back), now, subst (Contains (front ++ (r ∷ back))) (sym is) (member-here front back r)))
+        | inr ne ↦ absurd (none-there (body new q) (none-balances mid new (front ++ back) objects q ((made-added S old mid r size made).others q ne ∙ fresh)) there)
+      ]

@@ -1,5 +1,5 @@
 -- A version that was given a static row.
-use Rattle.std.proofs.Common.{◌≡◌, ◌≢◌, ℕ, ◌+◌, ◌≤◌, List, Some, None, inl, inr, sym, ap, ◌∙◌, subst, arith}
+use Rattle.std.proofs.Common.{◌≡◌, ◌≢◌, ℕ, ◌+◌, ◌≤◌, List, Some, None, IsSome, inl, inr, sym, ap, ◌∙◌, subst, arith}
 use Rattle.rc_cell.specs.declared.rows.Row.{Row}
 use Rattle.rc_rowcode.specs.Objects.{static_size}
 use Rattle.lsa_pool.specs.Room.{live_sum, spare_of}
@@ -9,12 +9,14 @@ use Rattle.lsa_region.specs.declared.end.End.TheVariants.{Obj}
 use Rattle.lsa_region.specs.Paired.{IsTied}
 use Rattle.lsa_region.specs.Region.{View, body, link_of, live_bytes, IsEnd, IsWell, SameObjects}
 use Rattle.lsa_region.specs.laws.Ends.{some_and_none}
+use Rattle.lsa_region.specs.laws.Refs.{refs_decided}
 use Rattle.rc_core.specs.declared.entries.Flag.{Flag}
 use Rattle.rc_core.specs.Steps.{set_statics}
 use Rattle.rc_core.specs.Version.{Version}
 use Rattle.rc_object.specs.Objects.{HoldsStatic, IsMade}
-use Rattle.rc_version.specs.Versions.{IsVersionOf, IsKeptBeside, IsKeptBut, IsStaticsOf, IsWeighed, MayChange, entries_bytes, statics_bytes}
+use Rattle.rc_version.specs.Versions.{IsVersionOf, IsKeptBeside, IsKeptBut, IsStaticsOf, IsWeighed, HasWhatWasMade, MayChange, entries_bytes, statics_bytes}
 use Rattle.rc_version.specs.laws.Objects.{static-same}
+use Rattle.rc_version.specs.laws.Marked.{none-there}
 use Rattle.rc_version.specs.laws.Staying.{IsStaticStep, kept-then, kept-wider, made-added, made-kept, made-version, static-kept, version-kind}
 use Rattle.rc_version.proofs.StaticRows.{static-end, static-kind, static-version, version-end}
 
@@ -70,6 +72,19 @@ module _ (S : ℕ) (old mid out new : View) (n s : Ref) (row : Row) (made : IsMa
     set-kept refs c h = kept-then (MayChange old n) n old mid new (made-kept S old mid s (static_size row) made (MayChange old n) n (inl (made-added S old mid s (static_size row) made).fresh))
         (kept-then (MayChange old n) n mid out new (kept-wider (IsStaticsOf mid n) (MayChange old n) n mid out (λ r is. inr (inr (inr (sym ((made-added S old mid s (static_size row) made).links (Obj n 3)) ∙ is)))) taken_kept)
         (static-kept out new n s (step refs c h) (MayChange old n)))
+
+    -- nothing but the row was made
+    pub set-only : (q : Ref) → body old q ≡ None → IsSome (body new q) → q ≡ s
+    set-only q fresh there = elim (refs_decided q s) [
+      | inl is ↦ is
+      | inr ne ↦ absurd (none-there (body new q) (objects.bodies q ∙ taken_kept.bodies q no_row ∙ (made-added S old mid s (static_size row) made).others q ne ∙ fresh) there)
+    ]
+      where
+        no_row : IsStaticsOf mid n q → ⊥
+        no_row named = some_and_none (body old q) _ fresh (well_old.ends (Obj n 3) (Obj q 2) (sym ((made-added S old mid s (static_size row) made).links (Obj n 3)) ∙ named))
+
+    pub set-own : HasWhatWasMade n old new
+    set-own q fresh there = inr (inr (subst (IsStaticsOf new n) (sym (set-only q fresh there)) tied.first))
 
     pub set-spare : spare_of S out.usages ≡ spare_of S mid.usages → spare_of S old.usages ≤ spare_of S new.usages + static_size row
     set-spare same = subst (λ k. spare_of S old.usages ≤ k + static_size row) (sym (ap (spare_of S) objects.usages ∙ same)) made.spare

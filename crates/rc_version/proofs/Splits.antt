@@ -19,12 +19,12 @@ use Rattle.rc_core.specs.declared.entries.Mark.{Mark}
 use Rattle.rc_core.specs.laws.Order.{split-is}
 use Rattle.rc_core.specs.Version.{Version, IsVersion}
 use Rattle.rc_object.specs.Objects.{HoldsEntry, IsMade}
-use Rattle.rc_version.specs.Versions.{tree_of, IsVersionOf, IsKeptBut, IsSplit, IsWeighed, MayChange}
+use Rattle.rc_version.specs.Versions.{tree_of, IsVersionOf, IsKeptBut, IsSplit, IsWeighed, HasWhatWasMade, MayChange}
 use Rattle.rc_version.specs.laws.Objects.{holds-stands}
 use Rattle.rc_version.specs.laws.Holding.{IsAround}
 use Rattle.rc_version.specs.laws.Staying.{made-added, version-kind}
 use Rattle.rc_version.proofs.Gaps.{entry-of, split-gap, weighed-with}
-use Rattle.rc_version.proofs.Putting.{fresh-unlisted, put-all, put-parts, put-tree, put-fits, put-held, put-version, put-kept, put-spare, put-live}
+use Rattle.rc_version.proofs.Putting.{fresh-unlisted, put-all, put-parts, put-tree, put-fits, put-held, put-version, put-kept, put-own, put-spare, put-live}
 
 module _ (S : ℕ) (old mid new : View) (n r next : Ref) (x : Pos) (m : Mark) (made : IsMade S old mid r (dummy_size x)) (held : HoldsEntry mid r (dummy x m))
     (well_old : IsWell old) (well : IsWell mid) (marks : (e : Entry) → HoldsEntry old next e → m ≡ e.gap)
@@ -77,6 +77,9 @@ module _ (S : ℕ) (old mid new : View) (n r next : Ref) (x : Pos) (m : Mark) (m
     put_parts = put-parts S old mid n r (dummy_size x) e made held front back tree well new others elsewhere (objects (front ++ back) mid_tree) (version-kind old n refs c h)
         (inserted front back x mid_tree (holds-stands mid r e held) (put-fits S old mid n r (dummy_size x) e made held front back tree x fits))
 
+    own : HasWhatWasMade n old new
+    own = put-own S old mid n r (dummy_size x) e made held front back tree well new others elsewhere (objects (front ++ back) mid_tree) version.tree
+
     stands : IsEntryAtPosition new r x
     stands = holds-stands new r e (put-held S old mid n r (dummy_size x) e made held front back tree well new others elsewhere (objects (front ++ back) mid_tree))
 
@@ -92,6 +95,7 @@ module _ (S : ℕ) (old mid new : View) (n r next : Ref) (x : Pos) (m : Mark) (m
     entries = λ refs c h. (front refs c h ++ (r ∷ back refs c h), inr ((made-added S old mid r (dummy_size x) made).fresh, (front refs c h, back refs c h, is refs c h, refl)), version refs c h);
     at = stands refs c h;
     unlisted = fresh-unlisted (MayChange old n) n old new well_old (kept refs c h);
+    own = own refs c h;
     held = held_all refs c h;
     kept = kept refs c h;
     parts = put_parts refs c h;

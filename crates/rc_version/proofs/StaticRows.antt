@@ -14,15 +14,16 @@ use Rattle.lsa_region.specs.declared.end.End.{End}
 use Rattle.lsa_region.specs.declared.end.End.TheVariants.{Obj}
 use Rattle.lsa_region.specs.Layout.{object_extent}
 use Rattle.lsa_region.specs.Paired.{IsParted}
-use Rattle.lsa_region.specs.Region.{View, body, link_of, live_bytes, IsEnd, IsWell, SameObjects, IsFreed}
+use Rattle.lsa_region.specs.Region.{View, body, link_of, live_bytes, IsEnd, IsWell, SameObjects, IsFreed, Risen}
 use Rattle.lsa_region.specs.laws.Ends.{past-links}
 use Rattle.lsa_path.specs.laws.Paths.{same_object}
 use Rattle.rc_core.specs.Steps.{set_statics}
 use Rattle.rc_core.specs.Version.{Version}
 use Rattle.rc_object.specs.Objects.{HoldsStatic}
-use Rattle.rc_version.specs.Versions.{version_head, HasStatics, IsVersionOf, IsKeptBeside, IsStaticsOf, IsUnlisted, IsWeighed, entries_bytes, statics_bytes, version_bytes}
+use Rattle.rc_version.specs.Versions.{version_head, HasStatics, IsVersionOf, IsKeptBeside, IsStaticsOf, IsUnlisted, IsWeighed, IsNoneMade, entries_bytes, statics_bytes, version_bytes}
 use Rattle.rc_version.specs.laws.Objects.{head-same, holds-same, static-no_version, static-once, static-same}
 use Rattle.rc_version.specs.laws.Holding.{hold-kept}
+use Rattle.rc_version.specs.laws.Marked.{none-freed}
 use Rattle.rc_version.specs.laws.Staying.{IsStaticStep, freed-kept, freed-version, kept-then, static-kept, static-tree, version-kind}
 use Rattle.rc_version.proofs.Taken.{freed-live}
 
@@ -123,12 +124,15 @@ module _ (S : ℕ) (old put : View) (n s : Ref) (row : Row) (refs : List Ref) (c
   pub take-unset : (field : ℕ) → link_of put (Obj s field) ≡ None
   take-unset = static-unset put s row well_put put_held parted.second (λ field low. (static-kept old put n s take-step (IsStaticsOf old n)).links (Obj s field) low ∙ unlisted field low)
 
-  module _ (new : View) (free : IsFreed put new s) (budget : length new.usages ≡ length put.usages) (moved : new.moved ≡ put.moved) (compacted : new.compacted ≡ put.compacted) where
+  module _ (new : View) (free : IsFreed put new s) (budget : length new.usages ≡ length put.usages) (moved : new.moved ≡ put.moved) (compacted : new.compacted ≡ put.compacted) (risen : Risen put.epoch new.epoch) where
     no_row : (m : Ref) → IsSomeAnd (body put m) (λ b. b.0 ≡ VersionKind) → m ≢ s
     no_row m kind is = static-no_version put s row put_held (subst (λ q. IsSomeAnd (body put q) (λ b. b.0 ≡ VersionKind)) is kind)
 
     pub take-kept : IsKeptBeside (IsStaticsOf old n) n old new
-    take-kept = kept-then (IsStaticsOf old n) n old put new (static-kept old put n s take-step (IsStaticsOf old n)) (freed-kept put new s well_put free take-unset (IsStaticsOf old n) n link (λ m ne kind. no_row m kind) budget moved compacted)
+    take-kept = kept-then (IsStaticsOf old n) n old put new (static-kept old put n s take-step (IsStaticsOf old n)) (freed-kept put new s well_put free take-unset (IsStaticsOf old n) n link (λ m ne kind. no_row m kind) budget moved compacted risen)
+
+    pub take-none : IsNoneMade old new
+    take-none q gone = none-freed put new s free q (objects.bodies q ∙ gone)
 
     pub take-links : (e : End) → e ≢ Obj n 3 → link_of old (Obj n 3) ≢ Some e → link_of new e ≡ link_of old e
     take-links e ne other = free.links e ∙ parted.others e ne (λ is. other (link ∙ ap (λ x. Some x) (sym is)))

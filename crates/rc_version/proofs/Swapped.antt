@@ -8,7 +8,8 @@ use Rattle.lsa_store.specs.declared.place.Ref.{Ref}
 use Rattle.lsa_store.specs.Objects.{rounded_size}
 use Rattle.lsa_region.specs.declared.end.End.{End}
 use Rattle.lsa_region.specs.declared.end.End.TheVariants.{Obj}
-use Rattle.lsa_region.specs.Region.{View, body, link_of, live_bytes, IsWell, IsFreed}
+use Rattle.lsa_region.specs.Region.{View, body, link_of, live_bytes, IsWell, IsFreed, Risen}
+use Rattle.lsa_region.specs.laws.Refs.{refs_decided}
 use Rattle.lsa_path.specs.laws.Members.{member-cases, member-first, member-here, member-later}
 use Rattle.lsa_path.specs.laws.Renamed.{some-there}
 use Rattle.lsa_tree.specs.declared.tree.Tree.{Tree}
@@ -20,9 +21,10 @@ use Rattle.rc_core.specs.declared.entries.Entry.{Entry}
 use Rattle.rc_core.specs.Continuity.{with_entries}
 use Rattle.rc_core.specs.Version.{Version, IsVersion}
 use Rattle.rc_object.specs.Objects.{HoldsEntry, IsMade}
-use Rattle.rc_version.specs.Versions.{tree_of, HoldEntries, IsVersionOf, IsKeptBut, IsUnlisted, MayChange, entry_bytes}
+use Rattle.rc_version.specs.Versions.{tree_of, HoldEntries, IsVersionOf, IsKeptBut, IsUnlisted, HasWhatWasMade, MayChange, entry_bytes}
 use Rattle.rc_version.specs.laws.Objects.{holds-stands, holds-same, holds-extent}
 use Rattle.rc_version.specs.laws.Holding.{hold-both, hold-kept}
+use Rattle.rc_version.specs.laws.Marked.{none-balances, none-freed, none-there}
 use Rattle.rc_version.specs.laws.Staying.{made-added, made-same, made-version, made-kept, IsTreeStep, step-held, step-kept, step-version, versions-apart, freed-version, freed-kept, freed-entry, version-kind, kept-then}
 use Rattle.rc_version.proofs.Putting.{put-loose, put-tree}
 use Rattle.rc_version.proofs.Taken.{freed-live, loose-unset}
@@ -86,19 +88,26 @@ module _ (S : ℕ) (old mid : View) (n q r : Ref) (size : ℕ) (d : Entry) (made
       pub swap-unset : (field : ℕ) → link_of put (Obj q field) ≡ None
       swap-unset = loose-unset put q well_put out (λ field low. put_kept.links (Obj q field) low ∙ unlisted field low)
 
-      module _ (new : View) (freed : IsFreed put new q) (budget : length new.usages ≡ length put.usages) (moved : new.moved ≡ put.moved) (compacted : new.compacted ≡ put.compacted) where
+      module _ (new : View) (freed : IsFreed put new q) (budget : length new.usages ≡ length put.usages) (moved : new.moved ≡ put.moved) (compacted : new.compacted ≡ put.compacted) (risen : Risen put.epoch new.epoch) where
         q_entry : IsSomeAnd (body put q) (λ b. IsEntryKind b.0)
         q_entry = out.entry
 
         pub swap-kept : IsKeptBut n old new
         swap-kept = kept-then (MayChange old n) n old put new put_kept (freed-kept put new q well_put freed swap-unset (MayChange old n) n (inr (inr (inl (all, tree, member-here front back q))))
-            (λ m ne kind is. no_entry_at (body put q) (subst (λ z. IsSomeAnd (body put z) (λ b. b.0 ≡ VersionKind)) is kind) q_entry) budget moved compacted)
+            (λ m ne kind is. no_entry_at (body put q) (subst (λ z. IsSomeAnd (body put z) (λ b. b.0 ≡ VersionKind)) is kind) q_entry) budget moved compacted risen)
 
         pub swap-version : (c : Version) (fe be : List Entry) → HoldEntries old front fe → HoldEntries old back be → IsVersion (with_entries (fe ++ (d ∷ be)) c) → IsTree (tree_of n) put (front ++ (r ∷ back))
             → IsVersionOf old n all c → IsVersionOf new n (front ++ (r ∷ back)) (with_entries (fe ++ (d ∷ be)) c)
         swap-version c fe be ahead behind is replaced h =
             let w = swap_version c fe be ahead behind is replaced h in
             freed-version put new q well_put freed swap-unset n (front ++ (r ∷ back)) (with_entries (fe ++ (d ∷ be)) c) (λ is. no_entry_at (body put q) (subst (λ z. IsSomeAnd (body put z) (λ b. b.0 ≡ VersionKind)) is (version-kind put n (front ++ (r ∷ back)) (with_entries (fe ++ (d ∷ be)) c) w)) q_entry) w
+
+        -- nothing but the entry was made
+        pub swap-own : IsTree (tree_of n) new (front ++ (r ∷ back)) → HasWhatWasMade n old new
+        swap-own now a fresh there = elim (refs_decided a r) [
+          | inl is ↦ inr (inl (front ++ (r ∷ back), now, subst (Contains (front ++ (r ∷ back))) (sym is) (member-here front back r)))
+          | inr ne ↦ absurd (none-there (body new a) (none-freed put new q freed a (none-balances mid put (r ∷ all) objects a ((made-added S old mid r size made).others a ne ∙ fresh))) there)
+        ]
 
         pub swap-gone : body new q ≡ None
         swap-gone = freed.here

@@ -1,12 +1,13 @@
 -- A version after the bytes of one of its objects were changed.
-use Rattle.std.proofs.Common.{◌≡◌, ◌≢◌, ℕ, List, ◌∷◌, ◌++◌, inl, inr, refl, sym, ap, subst}
+use Rattle.std.proofs.Common.{◌≡◌, ◌≢◌, ℕ, List, ◌∷◌, ◌++◌, Option, Some, None, IsSome, ◌⊎◌, inl, inr, refl, sym, ap, ◌∙◌, subst}
 use Rattle.std.specs.Prelude.{IsSomeAnd, Contains}
 use Rattle.std.proofs.lemmas.List.Elements.{Contains-append_left, Contains-append_right}
 use Rattle.lsa_kinds.specs.declared.kind.Kind.TheVariants.{Version as VersionKind}
 use Rattle.lsa_pool.specs.Room.{live_sum}
 use Rattle.lsa_store.specs.declared.place.Ref.{Ref}
+use Rattle.lsa_region.specs.declared.end.End.{End}
 use Rattle.lsa_region.specs.declared.end.End.TheVariants.{Obj}
-use Rattle.lsa_region.specs.Region.{View, body, live_bytes, IsWell, IsWritten}
+use Rattle.lsa_region.specs.Region.{View, body, link_of, live_bytes, IsWell, IsWritten}
 use Rattle.lsa_region.specs.laws.Refs.{refs_decided}
 use Rattle.lsa_path.specs.laws.Members.{member-here}
 use Rattle.lsa_tree.specs.Entries.{IsEntryKind, IsReadAlike}
@@ -17,9 +18,10 @@ use Rattle.rc_core.specs.Continuity.{with_entries}
 use Rattle.rc_core.specs.declared.entries.Entry.{Entry}
 use Rattle.rc_core.specs.Version.{Version, IsVersion}
 use Rattle.rc_object.specs.Objects.{HoldsEntry, HoldsHead, IsRewritten}
-use Rattle.rc_version.specs.Versions.{tree_of, version_head, HasStatics, HoldEntries, IsVersionOf, IsKeptBeside, IsKeptBut, MayChange}
+use Rattle.rc_version.specs.Versions.{tree_of, version_head, HasStatics, HoldEntries, IsVersionOf, IsKeptBeside, IsKeptBut, IsNoneMade, IsStaticsOf, HasWhatWasMade, MayChange}
 use Rattle.rc_version.specs.laws.Objects.{head-same, holds-same, static-no_version, static-no_entry}
 use Rattle.rc_version.specs.laws.Holding.{hold-both, hold-kept, replaced-is}
+use Rattle.rc_version.specs.laws.Marked.{none-there, none-written}
 use Rattle.rc_version.specs.laws.Staying.{version-kind, entries-kind, head-beside, head-written, entry-written, statics-stay}
 
 -- an entry stands once among the entries
@@ -27,6 +29,10 @@ pub entry-beside : (v : View) (n : Ref) (front back : List Ref) (r : Ref) → Is
 entry-beside v n front back r h k =
     let at = ascending-stands v (front ++ (r ∷ back)) r h.ascending (member-here front back r) in
     never-at v at.0 r (front ++ back) k front back refl (ascending-split v front back r at.0 at.1 h.ascending) at.1
+
+none_or_some : {X : Type 0} (o : Option X) → (o ≡ None) ⊎ IsSome o
+none_or_some None = inl refl
+none_or_some (Some x) = inr refl
 
 module _ (v w : View) (r : Ref) (rewritten : IsRewritten v w r) where
   abbrev change : List ℕ → List ℕ
@@ -41,6 +47,12 @@ module _ (v w : View) (r : Ref) (rewritten : IsRewritten v w r) where
 
   pub rewritten-others : (q : Ref) → q ≢ r → body w q ≡ body v q
   rewritten-others = written.others
+
+  pub rewritten-none : IsNoneMade v w
+  rewritten-none = none-written v w r change written
+
+  pub rewritten-link : (e : End) → link_of w e ≡ link_of v e
+  rewritten-link = written.links
 
   pub rewritten-usages : w.usages ≡ v.usages
   rewritten-usages = written.usages
@@ -105,3 +117,10 @@ module _ (v w : View) (r : Ref) (rewritten : IsRewritten v w r) where
           where
             not_head : n ≢ r
             not_head same = head-beside v n refs c h (subst (Contains refs) (sym same) here)
+
+-- a static row was made and put in, and then the bytes of an object were changed
+pub own-rewritten : (old mid new : View) (n s : Ref) → IsRewritten mid new n → IsStaticsOf mid n s → ((q : Ref) → body old q ≡ None → IsSome (body mid q) → q ≡ s) → HasWhatWasMade n old new
+own-rewritten old mid new n s rewritten named only q fresh there = elim (none_or_some (body mid q)) [
+  | inl gone ↦ absurd (none-there (body new q) (rewritten-none mid new n rewritten q gone) there)
+  | inr here ↦ inr (inr (subst (IsStaticsOf new n) (sym (only q fresh here)) (rewritten-link mid new n rewritten (Obj n 3) ∙ named)))
+]

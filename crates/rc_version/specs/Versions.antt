@@ -1,7 +1,7 @@
 -- A version in the region: which objects hold it, and what they hold.
 --     IsVersionOf     the object is this version, and these are its entries' objects
 --     IsKeptBeside          what a change of one version leaves of all else
-use Rattle.std.specs.Prelude.{◌≡◌, ◌≢◌, ℕ, ◌+◌, ◌≤◌, ◌⊎◌, List, [], ◌∷◌, ◌++◌, length, Option, Some, None, Contains, ⊤}
+use Rattle.std.specs.Prelude.{◌≡◌, ◌≢◌, ℕ, ◌+◌, ◌-◌, ◌^◌, ◌<◌, ◌≤◌, ◌⊎◌, min, List, [], ◌∷◌, ◌++◌, length, Option, Some, None, IsSome, is_some, Contains, ⊤}
 use Rattle.rc_cell.specs.declared.rows.Row.{Row}
 use Rattle.rc_rowcode.specs.Objects.{dummy_size, static_size, version_size}
 use Rattle.rc_rowcode.specs.Spelling.{pos_code, row_code}
@@ -76,9 +76,23 @@ IsOutward (Slot root) = ⊤
 abbrev pub IsUnlisted : View → Ref → Type 0
 IsUnlisted v r = (field : ℕ) → field ≤ 1 → link_of v (Obj r field) ≡ None
 
--- Other versions than n stay, and all links outward, so all lists and chains do; the bodies of objects stay but of these.
+-- the epoch, a number of 64 bits, does not fall; and where it has not risen, and is below its greatest value, no object was made or freed
+pub record IsMarked (old new : View) : Type 0 where
+  pub rises : min old.epoch (2 ^ 64 - 1) ≤ new.epoch
+  pub steady : new.epoch ≡ old.epoch → new.epoch < 2 ^ 64 - 1 → (r : Ref) → is_some (body new r) ≡ is_some (body old r)
+
+-- each object that was made is one of the version
+abbrev pub HasWhatWasMade : Ref → View → View → Type 0
+HasWhatWasMade n old new = (r : Ref) → body old r ≡ None → IsSome (body new r) → IsPartOf new n r
+
+-- no object was made
+abbrev pub IsNoneMade : View → View → Type 0
+IsNoneMade old new = (r : Ref) → body old r ≡ None → body new r ≡ None
+
+-- Other versions than n stay, with their static rows' objects, and all links outward, so all lists and chains do; the bodies of objects stay but of these.
 pub record IsKeptBeside (these : Ref → Type 0) (n : Ref) (old new : View) : Type 0 where
   pub versions : (m : Ref) (refs : List Ref) (c : Version) → m ≢ n → IsVersionOf old m refs c → IsVersionOf new m refs c
+  pub statics : (m : Ref) (refs : List Ref) (c : Version) → m ≢ n → IsVersionOf old m refs c → link_of new (Obj m 3) ≡ link_of old (Obj m 3)
   pub links : (e : End) → IsOutward e → link_of new e ≡ link_of old e
   pub bodies : (r : Ref) → (these r → ⊥) → body new r ≡ body old r
   pub roots : (s : Root) → IsEnd old (Slot s) → IsEnd new (Slot s)
@@ -87,6 +101,7 @@ pub record IsKeptBeside (these : Ref → Type 0) (n : Ref) (old new : View) : Ty
   pub budget : length new.usages ≡ length old.usages
   pub moved : new.moved ≡ old.moved
   pub compacted : new.compacted ≡ old.compacted
+  pub epoch : IsMarked old new
 
 -- all but the version, and what was not there, is as it was
 abbrev pub IsKeptBut : Ref → View → View → Type 0
@@ -132,6 +147,7 @@ pub record IsSplit (S : ℕ) (old new : View) (n : Ref) (x : Pos) (r : Ref) : Ty
   pub entries : (refs : List Ref) (c : Version) → IsVersionOf old n refs c → (now : List Ref) × ArePutAmong old r refs now × IsVersionOf new n now (with_entries (split x c.entries) c)
   pub at : IsEntryAtPosition new r x
   pub unlisted : (q : Ref) → body old q ≡ None → IsUnlisted new q
+  pub own : HasWhatWasMade n old new
   pub held : (q : Ref) (e : Entry) → HoldsEntry old q e → HoldsEntry new q e
   pub kept : IsKeptBut n old new
   pub parts : (q : Ref) → MayChange new n q → MayChange old n q
@@ -158,6 +174,7 @@ pub record IsJoined (S : ℕ) (old new : View) (n : Ref) (x : Pos) (row : Row) (
   pub fresh : body old r ≡ None
   pub at : IsEntryAtPosition new r x
   pub unlisted : (q : Ref) → body old q ≡ None → IsUnlisted new q
+  pub own : HasWhatWasMade n old new
   pub kept : IsKeptBut n old new
   pub spare : (refs : List Ref) (c : Version) → IsVersionOf old n refs c → spare_of S old.usages ≤ spare_of S new.usages + joined_bytes x row c
   pub live : (refs : List Ref) (c : Version) → IsVersionOf old n refs c → IsWeighed old new c (row_joined x row c)
@@ -175,6 +192,7 @@ pub record IsStaticsJoined (S : ℕ) (old new : View) (n : Ref) (row : Row) (r :
   pub fresh : body old r ≡ None
   pub gone : (s : Ref) → IsStaticsOf old n s → body new s ≡ None
   pub unlisted : (q : Ref) → body old q ≡ None → IsUnlisted new q
+  pub own : HasWhatWasMade n old new
   pub kept : IsKeptBut n old new
   pub spare : (refs : List Ref) (c : Version) → IsVersionOf old n refs c → spare_of S old.usages ≤ spare_of S new.usages + static_size (joined_onto c.statics row)
   pub live : (refs : List Ref) (c : Version) → IsVersionOf old n refs c → IsWeighed old new c (join_statics row c)

@@ -1,5 +1,6 @@
 -- Laws of versions in the region, for the proofs of what stands on them.
 pub mod Holding
+pub mod Marked
 pub mod Moving
 pub mod Objects
 pub mod Staying

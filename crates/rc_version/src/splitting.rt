@@ -13,7 +13,7 @@ ghost use Rattle.rc_core.specs.Continuity.{with_entries};
 ghost use Rattle.rc_core.specs.declared.entries.Entry.{Entry};
 ghost use Rattle.rc_core.specs.Version.{Version, end_position};
 ghost use Rattle.rc_object.specs.Objects.{HasRoomFor, HoldsEntry, entry_length};
-ghost use Rattle.rc_version.specs.Versions.{IsVersionOf, IsUnlisted, IsKeptBut, IsSplit, IsWeighed};
+ghost use Rattle.rc_version.specs.Versions.{IsVersionOf, IsUnlisted, IsKeptBut, IsNoneMade, IsSplit, IsWeighed};
 
 use lsa_region::{End, Ref, Region};
 use lsa_tree::{Place, Tree};
@@ -122,6 +122,7 @@ pub fn drop_entry<const S: usize>(region: &mut Region<S>, v: Ref, e: Ref)
     requires unlisted { IsUnlisted region.old e }
     ensures dropped { (front back : List Name) (c : Version) (x : Position) → IsVersionOf region.old v (front ++ (e ∷ back)) c → IsEntryAtPosition region.old e x → IsVersionOf region.new v (front ++ back) (with_entries (drop_at x c.entries) c) }
     ensures gone { body region.new e ≡ None }
+    ensures none { IsNoneMade region.old region.new }
     ensures kept { IsKeptBut v region.old region.new }
     ensures spare { spare_of S region.new.usages ≡ spare_of S region.old.usages }
     ensures live { (front back : List Name) (c : Version) (x : Position) → IsVersionOf region.old v (front ++ (e ∷ back)) c → IsEntryAtPosition region.old e x → IsWeighed region.old region.new c (with_entries (drop_at x c.entries) c) }

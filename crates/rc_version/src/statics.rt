@@ -11,7 +11,7 @@ ghost use Rattle.rc_core.specs.Continuity.{without_statics};
 ghost use Rattle.rc_core.specs.Steps.{set_statics};
 ghost use Rattle.rc_core.specs.Version.{Version};
 ghost use Rattle.rc_object.specs.Objects.{HoldsStatic, IsMade, IsRowCode};
-ghost use Rattle.rc_version.specs.Versions.{CanJoinStatics, IsStaticsJoined, IsVersionOf, IsUnlisted, IsKeptBeside, IsKeptBut, IsStaticsOf, IsWeighed};
+ghost use Rattle.rc_version.specs.Versions.{CanJoinStatics, IsStaticsJoined, IsVersionOf, IsUnlisted, IsKeptBeside, IsKeptBut, IsStaticsOf, IsWeighed, IsNoneMade, HasWhatWasMade};
 
 use crate::versions::set_static_flag;
 use lsa_region::{End, Ref, Region};
@@ -26,6 +26,7 @@ fn take_statics<const S: usize>(region: &mut Region<S>, v: Ref)
     ensures taken { (refs : List Name) (c : Version) → IsVersionOf region.old v refs c → IsVersionOf region.new v refs (set_statics None c.static_flag c) }
     ensures links { (e : Link) → e ≢ End.Obj v 3 → link_of region.old (End.Obj v 3) ≢ Some e → link_of region.new e ≡ link_of region.old e }
     ensures gone { (s : Name) → IsStaticsOf region.old v s → body region.new s ≡ None }
+    ensures none { IsNoneMade region.old region.new }
     ensures kept { IsKeptBeside (IsStaticsOf region.old v) v region.old region.new }
     ensures spare { spare_of S region.new.usages ≡ spare_of S region.old.usages }
     ensures live { (refs : List Name) (c : Version) → IsVersionOf region.old v refs c → IsWeighed region.old region.new c (set_statics None c.static_flag c) }
@@ -49,7 +50,9 @@ pub fn set_static<const S: usize>(region: &mut Region<S>, v: Ref, code: &[u8], f
     requires unlisted { (s : Name) → IsStaticsOf region.old v s → IsUnlisted region.old s }
     requires row { (row : Row) × IsRowCode code.now row × (static_size row ≤ S / 8) × (static_size row ≤ spare_of S region.old.usages) }
     ensures set { (refs : List Name) (c : Version) (row : Row) → IsVersionOf region.old v refs c → IsRowCode code.now row → IsVersionOf region.new v refs (set_statics (Some row) flag c) }
+    ensures gone { (s : Name) → IsStaticsOf region.old v s → body region.new s ≡ None }
     ensures unlisted { (q : Name) → body region.old q ≡ None → IsUnlisted region.new q }
+    ensures own { HasWhatWasMade v region.old region.new }
     ensures kept { IsKeptBut v region.old region.new }
     ensures spare { (row : Row) → IsRowCode code.now row → spare_of S region.old.usages ≤ spare_of S region.new.usages + static_size row }
     ensures live { (refs : List Name) (c : Version) (row : Row) → IsVersionOf region.old v refs c → IsRowCode code.now row → IsWeighed region.old region.new c (set_statics (Some row) flag c) }
@@ -68,6 +71,7 @@ pub fn drop_static<const S: usize>(region: &mut Region<S>, v: Ref)
     requires unlisted { (s : Name) → IsStaticsOf region.old v s → IsUnlisted region.old s }
     ensures dropped { (refs : List Name) (c : Version) → IsVersionOf region.old v refs c → IsVersionOf region.new v refs (without_statics c) }
     ensures gone { (s : Name) → IsStaticsOf region.old v s → body region.new s ≡ None }
+    ensures none { IsNoneMade region.old region.new }
     ensures kept { IsKeptBut v region.old region.new }
     ensures spare { spare_of S region.new.usages ≡ spare_of S region.old.usages }
     ensures live { (refs : List Name) (c : Version) → IsVersionOf region.old v refs c → IsWeighed region.old region.new c (without_statics c) }

@@ -6,7 +6,7 @@ ghost use Rattle.lsa_region.specs.Region.{body, link_of, live_bytes, IsWell};
 ghost use Rattle.rc_core.specs.Steps as steps;
 ghost use Rattle.rc_core.specs.Version.{Version};
 ghost use Rattle.rc_object.specs.Objects.{IsRewritten};
-ghost use Rattle.rc_version.specs.Versions.{IsVersionOf, IsUnlisted, IsKeptBut, version_bytes};
+ghost use Rattle.rc_version.specs.Versions.{IsVersionOf, IsPartOf, IsUnlisted, IsKeptBut, IsNoneMade, HasWhatWasMade};
 
 use lsa_region::{End, Ref, Region};
 use lsa_tree::Tree;
@@ -27,6 +27,8 @@ pub fn new_version<const S: usize>(
     ensures made { (end : Name) × IsVersionOf region.new result (end ∷ []) (steps.version_of flag pt phase) }
     ensures fresh { body region.old result ≡ None }
     ensures unlisted { (r : Name) → body region.old r ≡ None → IsUnlisted region.new r }
+    ensures own { HasWhatWasMade result region.old region.new }
+    ensures parts { (r : Name) → IsPartOf region.new result r → body region.old r ≡ None }
     ensures kept { IsKeptBut result region.old region.new }
     ensures spare { spare_of S region.old.usages ≤ spare_of S region.new.usages + 152 }
     ensures live { live_bytes region.new ≡ live_bytes region.old + 152 }
@@ -89,6 +91,7 @@ pub fn free_version<const S: usize>(region: &mut Region<S>, v: Ref)
     requires unlisted { IsUnlisted region.old v }
     ensures head { body region.new v ≡ None }
     ensures end { (end : Name) (c : Version) → IsVersionOf region.old v (end ∷ []) c → body region.new end ≡ None }
+    ensures none { IsNoneMade region.old region.new }
     ensures kept { IsKeptBut v region.old region.new }
     ensures spare { spare_of S region.new.usages ≡ spare_of S region.old.usages }
     ensures live { live_bytes region.new + 152 ≡ live_bytes region.old }

@@ -7,7 +7,7 @@ use Rattle.lsa_kinds.specs.declared.kind.Kind.TheVariants.{Version as VersionKin
 use Rattle.lsa_store.specs.declared.place.Ref.{Ref}
 use Rattle.lsa_region.specs.declared.end.End.{End}
 use Rattle.lsa_region.specs.declared.end.End.TheVariants.{Obj, Slot}
-use Rattle.lsa_region.specs.Region.{View, body, link_of, IsWell, SameObjects, IsAdded, IsFreed, IsWritten}
+use Rattle.lsa_region.specs.Region.{View, body, link_of, IsWell, SameObjects, IsAdded, IsFreed, IsWritten, Risen}
 use Rattle.lsa_path.specs.Roles.{role_of, role_in}
 use Rattle.lsa_path.specs.laws.Paths.{same_object}
 use Rattle.lsa_path.specs.laws.Renamed.{some-there}
@@ -22,6 +22,7 @@ use Rattle.rc_object.specs.Objects.{HoldsEntry, HoldsStatic, IsMade}
 use Rattle.rc_version.specs.Versions.{tree_of, version_head, HasStatics, HoldEntries, IsVersionOf, IsOutward, IsKeptBeside}
 use Rattle.rc_version.specs.laws.Objects.{head-kind, static-no_version, static-no_entry, head-same, static-same, holds-same, holds-alike}
 use Rattle.rc_version.specs.laws.Holding.{hold-kept}
+use Rattle.rc_version.specs.laws.Marked.{marked-balances, marked-itself, marked-objects, marked-risen, marked-then, marked-written}
 
 -- ---- one version
 
@@ -85,6 +86,8 @@ module _ (S : ℕ) (v w : View) (r : Ref) (size : ℕ) (made : IsMade S v w r si
     budget = made.budget;
     moved = made.moved;
     compacted = made.compacted;
+    statics = λ m refs c ne h. made-added.links (Obj m 3);
+    epoch = marked-risen v w made.epoch;
   }
 
 -- ---- bytes of an object changed
@@ -108,6 +111,8 @@ module _ (v w : View) (r : Ref) (change : List ℕ → List ℕ) (written : IsWr
     budget = ap (λ us. length us) written.usages;
     moved = written.moved;
     compacted = written.compacted;
+    statics = λ m refs c ne h. written.links (Obj m 3);
+    epoch = marked-written v w r change written;
   }
 
   -- the head of a version, which is no object of another one
@@ -198,6 +203,8 @@ module _ (v w : View) (n : Ref) (touched : List Ref) (step : IsTreeStep v w n to
     budget = ap (λ us. length us) step.objects.usages;
     moved = step.objects.moved;
     compacted = step.objects.compacted;
+    statics = λ m refs c ne h. step.elsewhere (Obj m 3) (static-off v m (version-kind v m refs c h));
+    epoch = marked-balances v w touched step.objects;
   }
 
   -- this version, with other entries
@@ -226,8 +233,8 @@ module _ (v w : View) (r : Ref) (well : IsWell v) (freed : IsFreed v w r) (unset
       (λ q e k hold. holds-same v w q e (freed.others q (λ is. freed-entry m refs h.tree (subst (Contains refs) is k))) hold)
       (tree-freed (tree_of m) v w r freed refs (freed-entry m refs h.tree) (λ e. ne (same_object m r 2 2 e)) h.tree) h
 
-  pub freed-kept : (these : Ref → Type 0) (n : Ref) → these r → ((m : Ref) → m ≢ n → IsSomeAnd (body v m) (λ b. b.0 ≡ VersionKind) → m ≢ r) → length w.usages ≡ length v.usages → w.moved ≡ v.moved → w.compacted ≡ v.compacted → IsKeptBeside these n v w
-  freed-kept these n this apart budget moved compacted = record {
+  pub freed-kept : (these : Ref → Type 0) (n : Ref) → these r → ((m : Ref) → m ≢ n → IsSomeAnd (body v m) (λ b. b.0 ≡ VersionKind) → m ≢ r) → length w.usages ≡ length v.usages → w.moved ≡ v.moved → w.compacted ≡ v.compacted → Risen v.epoch w.epoch → IsKeptBeside these n v w
+  freed-kept these n this apart budget moved compacted risen = record {
     versions = λ m refs c ne h. freed-version m refs c (apart m ne (version-kind v m refs c h)) h;
     links = λ e out. freed.links e;
     bodies = λ q other. freed.others q (λ is. other (subst these (sym is) this));
@@ -237,6 +244,8 @@ module _ (v w : View) (r : Ref) (well : IsWell v) (freed : IsFreed v w r) (unset
     budget = budget;
     moved = moved;
     compacted = compacted;
+    statics = λ m refs c ne h. freed.links (Obj m 3);
+    epoch = marked-risen v w risen;
   }
 
 -- ---- the link to a static row
@@ -298,6 +307,8 @@ module _ (v w : View) (n s : Ref) (step : IsStaticStep v w n s) where
     budget = ap (λ us. length us) step.objects.usages;
     moved = step.objects.moved;
     compacted = step.objects.compacted;
+    statics = λ m refs c ne h. step.others (Obj m 3) (λ e. ne (same_object m n 3 3 e)) (λ e. three_two (same_field m s 3 2 e));
+    epoch = marked-objects v w step.objects;
   }
 
 -- ---- one change after another
@@ -313,6 +324,8 @@ kept-then these n old mid new a b = record {
   budget = b.budget ∙ a.budget;
   moved = b.moved ∙ a.moved;
   compacted = b.compacted ∙ a.compacted;
+  statics = λ m refs c ne h. b.statics m refs c ne (a.versions m refs c ne h) ∙ a.statics m refs c ne h;
+  epoch = marked-then old mid new a.epoch b.epoch;
 }
 
 pub kept-same : (these : Ref → Type 0) (n : Ref) (v : View) → IsKeptBeside these n v v
@@ -326,6 +339,8 @@ kept-same these n v = record {
   budget = refl;
   moved = refl;
   compacted = refl;
+  statics = λ m refs c ne h. refl;
+  epoch = marked-itself v;
 }
 
 -- more may change
@@ -340,6 +355,8 @@ kept-wider these others n old new all k = record {
   budget = k.budget;
   moved = k.moved;
   compacted = k.compacted;
+  statics = k.statics;
+  epoch = k.epoch;
 }
 
 -- ---- links outward changed

@@ -30,4 +30,4 @@ free_obj-requires g c = (
 pub returns-clause-joined : goal.returns-clause-joined
 returns-clause-joined g c = λ y row hold is.
     onto-join g.row.S c.args.region.now c.make_joined_like-r.new.region c.replace.new.region c.free_obj.new.self c.args.v c.args.there c.make_joined_like-r.result y.position row (λ k h. c.make_joined_like-r.ensures.made k row h (inr (y, hold, is))) (λ k h. c.make_joined_like-r.ensures.holds k row h (inr (y, hold, is))) (subst (λ (z : Entry). IsBefore z.position end_position) (entry-once c.args.region.now c.args.e c.requires.row.0 y c.requires.row.4 hold) c.requires.row.6) c.known.ensures.well c.make_joined_like-r.ensures.well c.replace.ensures.well (c.requires.row.7.unlisted c.args.there (subst (λ l. Contains l c.args.there) (sym (c.requires.found c.requires.row.2 c.requires.row.3 c.requires.row.0 c.requires.row.7.version c.requires.row.4).2) (member-here (c.requires.found c.requires.row.2 c.requires.row.3 c.requires.row.0 c.requires.row.7.version c.requires.row.4).0 (c.requires.found c.requires.row.2 c.requires.row.3 c.requires.row.0 c.requires.row.7.version c.requires.row.4).1 c.args.there)) (c.requires.found c.requires.row.2 c.requires.row.3 c.requires.row.0 c.requires.row.7.version c.requires.row.4).3)
-    (λ refs v h. c.requires.found refs v y h hold) c.replace.ensures.replaced c.replace.ensures.others c.replace.ensures.elsewhere c.replace.ensures.objects c.replace.ensures.out c.requires.row.2 c.requires.row.3 c.requires.row.7.version c.free_obj.ensures.freed c.free_obj.ensures.budget c.free_obj.ensures.moved c.free_obj.ensures.compacted c.free_obj.ensures.spare c.free_obj.ensures.live
+    (λ refs v h. c.requires.found refs v y h hold) c.replace.ensures.replaced c.replace.ensures.others c.replace.ensures.elsewhere c.replace.ensures.objects c.replace.ensures.out c.requires.row.2 c.requires.row.3 c.requires.row.7.version c.free_obj.ensures.freed c.free_obj.ensures.budget c.free_obj.ensures.moved c.free_obj.ensures.compacted c.free_obj.ensures.epoch c.free_obj.ensures.spare c.free_obj.ensures.live

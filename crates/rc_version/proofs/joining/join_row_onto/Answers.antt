@@ -27,4 +27,4 @@ free_obj-requires g c = (
 pub returns-clause-joined : goal.returns-clause-joined
 returns-clause-joined g c = λ row code.
     onto-join g.row.S c.args.region.now c.make_joined-r.new.region c.replace.new.region c.free_obj.new.self c.args.v c.args.old c.make_joined-r.result (row_pos c.args._key.now) row (λ e h. c.make_joined-r.ensures.made e row h code) (λ e h. c.make_joined-r.ensures.holds e row h code) (key-before_end c.args._key.now) c.known.ensures.well c.make_joined-r.ensures.well c.replace.ensures.well (c.requires.row.4.unlisted c.args.old (subst (λ l. Contains l c.args.old) (sym (c.requires.found c.requires.row.1 c.requires.row.2 c.requires.row.4.version).2) (member-here (c.requires.found c.requires.row.1 c.requires.row.2 c.requires.row.4.version).0 (c.requires.found c.requires.row.1 c.requires.row.2 c.requires.row.4.version).1 c.args.old)) (c.requires.found c.requires.row.1 c.requires.row.2 c.requires.row.4.version).3) c.requires.found
-    c.replace.ensures.replaced c.replace.ensures.others c.replace.ensures.elsewhere c.replace.ensures.objects c.replace.ensures.out c.requires.row.1 c.requires.row.2 c.requires.row.4.version c.free_obj.ensures.freed c.free_obj.ensures.budget c.free_obj.ensures.moved c.free_obj.ensures.compacted c.free_obj.ensures.spare c.free_obj.ensures.live
+    c.replace.ensures.replaced c.replace.ensures.others c.replace.ensures.elsewhere c.replace.ensures.objects c.replace.ensures.out c.requires.row.1 c.requires.row.2 c.requires.row.4.version c.free_obj.ensures.freed c.free_obj.ensures.budget c.free_obj.ensures.moved c.free_obj.ensures.compacted c.free_obj.ensures.epoch c.free_obj.ensures.spare c.free_obj.ensures.live

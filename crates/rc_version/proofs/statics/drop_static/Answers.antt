@@ -5,7 +5,7 @@ use Rattle.lsa_region.specs.Region.{body}
 use Rattle.rc_core.specs.Steps.{set_statics}
 use Rattle.rc_version.specs.Versions.{IsStaticsOf, MayChange, version_bytes}
 use Rattle.rc_version.specs.laws.Staying.{kept-then, kept-wider, version-kind}
-use Rattle.rc_version.proofs.Written.{head-kept_by, rewritten-live, rewritten-others, rewritten-usages}
+use Rattle.rc_version.proofs.Written.{head-kept_by, rewritten-live, rewritten-none, rewritten-others, rewritten-usages}
 use Rattle.rc_version.proofs.statics.drop_static.Goals as goal
 
 pub set_static_flag-requires : goal.set_static_flag-requires
@@ -33,3 +33,6 @@ returns-clause-spare g c = ap (spare_of g.row.S) (rewritten-usages c.take_static
 pub returns-clause-live : goal.returns-clause-live
 returns-clause-live g c = λ rs d h.
     ap (λ n. n + version_bytes d) (rewritten-live c.take_statics.new.region c.set_static_flag.new.region c.args.v c.set_static_flag.ensures.rewritten) ∙ c.take_statics.ensures.live rs d h
+
+pub returns-clause-none : goal.returns-clause-none
+returns-clause-none g c = λ q gone. rewritten-none c.take_statics.new.region c.set_static_flag.new.region c.args.v c.set_static_flag.ensures.rewritten q (c.take_statics.ensures.none q gone)

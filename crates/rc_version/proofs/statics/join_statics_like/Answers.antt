@@ -4,7 +4,7 @@ use Rattle.rc_core.specs.Change.{joined_onto}
 use Rattle.rc_version.specs.Versions.{MayChange}
 use Rattle.rc_version.specs.laws.Staying.{made-added, made-version}
 use Rattle.rc_version.proofs.Putting.{fresh-unlisted}
-use Rattle.rc_version.proofs.SetStatics.{set-alone, set-apart, set-first, set-kept, set-live, set-second, set-spare, set-unset, set-version}
+use Rattle.rc_version.proofs.SetStatics.{set-alone, set-apart, set-first, set-kept, set-live, set-own, set-second, set-spare, set-unset, set-version}
 use Rattle.rc_version.proofs.statics.join_statics_like.Goals as goal
 
 pub take_statics-requires : goal.take_statics-requires
@@ -36,6 +36,7 @@ returns-clause-joined g c = λ row hold. let kept = set-kept g.row.S c.args.regi
   fresh = (made-added g.row.S c.args.region.now c.make_statics_like-s.new.region c.make_statics_like-s.result _ (c.make_statics_like-s.ensures.made c.requires.0 c.requires.1 c.requires.2 c.requires.3 c.requires.4.version)).fresh;
   gone = λ s named. c.link.ensures.objects.bodies s ∙ c.take_statics.ensures.gone s ((made-added g.row.S c.args.region.now c.make_statics_like-s.new.region c.make_statics_like-s.result _ (c.make_statics_like-s.ensures.made c.requires.0 c.requires.1 c.requires.2 c.requires.3 c.requires.4.version)).links (Obj c.args.v 3) ∙ named);
   unlisted = fresh-unlisted (MayChange c.args.region.now c.args.v) c.args.v c.args.region.now c.link.new.self c.known.ensures.well kept;
+  own = set-own g.row.S c.args.region.now c.make_statics_like-s.new.region c.take_statics.new.region c.link.new.self c.args.v c.make_statics_like-s.result (joined_onto c.requires.2.statics c.requires.0) (c.make_statics_like-s.ensures.made c.requires.0 c.requires.1 c.requires.2 c.requires.3 c.requires.4.version) (c.make_statics_like-s.ensures.holds c.requires.0 c.requires.1 c.requires.2 c.requires.3 c.requires.4.version) c.known.ensures.well c.take_statics.ensures.links c.take_statics.ensures.kept c.take_statics.ensures.taken c.link.ensures.tied c.link.ensures.objects;
   kept = kept;
   spare = λ refs d h. set-spare g.row.S c.args.region.now c.make_statics_like-s.new.region c.take_statics.new.region c.link.new.self c.args.v c.make_statics_like-s.result (joined_onto d.statics row) (c.make_statics_like-s.ensures.made row refs d hold h) (c.make_statics_like-s.ensures.holds row refs d hold h) c.known.ensures.well c.take_statics.ensures.links c.take_statics.ensures.kept c.take_statics.ensures.taken c.link.ensures.tied c.link.ensures.objects c.take_statics.ensures.spare;
   live = λ refs d h. set-live g.row.S c.args.region.now c.make_statics_like-s.new.region c.take_statics.new.region c.link.new.self c.args.v c.make_statics_like-s.result (joined_onto d.statics row) (c.make_statics_like-s.ensures.made row refs d hold h) (c.make_statics_like-s.ensures.holds row refs d hold h) c.known.ensures.well c.take_statics.ensures.links c.take_statics.ensures.kept c.take_statics.ensures.taken c.link.ensures.tied c.link.ensures.objects d (c.take_statics.ensures.live refs d (made-version g.row.S c.args.region.now c.make_statics_like-s.new.region c.make_statics_like-s.result _ (c.make_statics_like-s.ensures.made row refs d hold h) c.args.v refs d h)) d.static_flag;

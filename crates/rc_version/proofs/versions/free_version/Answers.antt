@@ -3,7 +3,7 @@ use Rattle.lsa_pool.specs.Room.{spare_of}
 use Rattle.lsa_store.specs.declared.place.Ref.{Ref}
 use Rattle.lsa_region.specs.Region.{body}
 use Rattle.rc_version.specs.Versions.{IsUnlisted, IsVersionOf}
-use Rattle.rc_version.proofs.Freed.{end-unset, end-there, head-there, head-unset, free-kept, end-gone, free-live}
+use Rattle.rc_version.proofs.Freed.{end-unset, end-there, head-there, head-unset, free-kept, free-none, end-gone, free-live}
 use Rattle.rc_version.proofs.versions.free_version.Goals as goal
 
 same_end : (r q : Ref) → Some r ≡ Some q → r ≡ q
@@ -35,9 +35,9 @@ free_obj-requires-in-Some g c =
       omega arith,
       (
         head-there g.row.S c.args.region.now c.remove.new.region c.args.v c.in-Some.end c.requires.version.1 held c.requires.version.3 c.requires.unlisted (subst (IsUnlisted c.args.region.now) same c.requires.version.4) c.known.ensures.well c.remove.ensures.well
-            c.remove.ensures.others c.remove.ensures.elsewhere (c.remove.ensures.objects (c.in-Some.end ∷ []) held.tree) (c.remove.ensures.removed [] [] held.tree) c.remove.ensures.out c.free_obj.new.self c.free_obj.ensures.well c.free_obj.ensures.freed c.free_obj.ensures.budget c.free_obj.ensures.moved c.free_obj.ensures.compacted,
+            c.remove.ensures.others c.remove.ensures.elsewhere (c.remove.ensures.objects (c.in-Some.end ∷ []) held.tree) (c.remove.ensures.removed [] [] held.tree) c.remove.ensures.out c.free_obj.new.self c.free_obj.ensures.well c.free_obj.ensures.freed c.free_obj.ensures.budget c.free_obj.ensures.moved c.free_obj.ensures.compacted c.free_obj.ensures.epoch,
         head-unset g.row.S c.args.region.now c.remove.new.region c.args.v c.in-Some.end c.requires.version.1 held c.requires.version.3 c.requires.unlisted (subst (IsUnlisted c.args.region.now) same c.requires.version.4) c.known.ensures.well c.remove.ensures.well
-            c.remove.ensures.others c.remove.ensures.elsewhere (c.remove.ensures.objects (c.in-Some.end ∷ []) held.tree) (c.remove.ensures.removed [] [] held.tree) c.remove.ensures.out c.free_obj.new.self c.free_obj.ensures.well c.free_obj.ensures.freed c.free_obj.ensures.budget c.free_obj.ensures.moved c.free_obj.ensures.compacted,
+            c.remove.ensures.others c.remove.ensures.elsewhere (c.remove.ensures.objects (c.in-Some.end ∷ []) held.tree) (c.remove.ensures.removed [] [] held.tree) c.remove.ensures.out c.free_obj.new.self c.free_obj.ensures.well c.free_obj.ensures.freed c.free_obj.ensures.budget c.free_obj.ensures.moved c.free_obj.ensures.compacted c.free_obj.ensures.epoch,
       ),
     )
 
@@ -50,14 +50,14 @@ returns-clause-end g c = λ end v h.
     let held = subst (λ z. IsVersionOf c.args.region.now c.args.v (z ∷ []) c.requires.version.1) same c.requires.version.2 in
     let also : end ≡ c.in-Some.end = same_end end c.in-Some.end (sym (c.first.ensures (end ∷ []) h.tree) ∙ c.in-Some.is) in
     subst (λ z. body c.free_obj-in-Some.new.self z ≡ None) (sym also) (end-gone g.row.S c.args.region.now c.remove.new.region c.args.v c.in-Some.end c.requires.version.1 held c.requires.version.3 c.requires.unlisted (subst (IsUnlisted c.args.region.now) same c.requires.version.4) c.known.ensures.well c.remove.ensures.well
-    c.remove.ensures.others c.remove.ensures.elsewhere (c.remove.ensures.objects (c.in-Some.end ∷ []) held.tree) (c.remove.ensures.removed [] [] held.tree) c.remove.ensures.out c.free_obj.new.self c.free_obj.ensures.well c.free_obj.ensures.freed c.free_obj.ensures.budget c.free_obj.ensures.moved c.free_obj.ensures.compacted c.free_obj-in-Some.new.self c.free_obj-in-Some.ensures.freed c.free_obj-in-Some.ensures.budget c.free_obj-in-Some.ensures.moved c.free_obj-in-Some.ensures.compacted)
+    c.remove.ensures.others c.remove.ensures.elsewhere (c.remove.ensures.objects (c.in-Some.end ∷ []) held.tree) (c.remove.ensures.removed [] [] held.tree) c.remove.ensures.out c.free_obj.new.self c.free_obj.ensures.well c.free_obj.ensures.freed c.free_obj.ensures.budget c.free_obj.ensures.moved c.free_obj.ensures.compacted c.free_obj.ensures.epoch c.free_obj-in-Some.new.self c.free_obj-in-Some.ensures.freed c.free_obj-in-Some.ensures.budget c.free_obj-in-Some.ensures.moved c.free_obj-in-Some.ensures.compacted c.free_obj-in-Some.ensures.epoch)
 
 pub returns-clause-kept : goal.returns-clause-kept
 returns-clause-kept g c =
     let same : c.requires.version.0 ≡ c.in-Some.end = same_end c.requires.version.0 c.in-Some.end (sym (c.first.ensures (c.requires.version.0 ∷ []) c.requires.version.2.tree) ∙ c.in-Some.is) in
     let held = subst (λ z. IsVersionOf c.args.region.now c.args.v (z ∷ []) c.requires.version.1) same c.requires.version.2 in
     free-kept g.row.S c.args.region.now c.remove.new.region c.args.v c.in-Some.end c.requires.version.1 held c.requires.version.3 c.requires.unlisted (subst (IsUnlisted c.args.region.now) same c.requires.version.4) c.known.ensures.well c.remove.ensures.well
-    c.remove.ensures.others c.remove.ensures.elsewhere (c.remove.ensures.objects (c.in-Some.end ∷ []) held.tree) (c.remove.ensures.removed [] [] held.tree) c.remove.ensures.out c.free_obj.new.self c.free_obj.ensures.well c.free_obj.ensures.freed c.free_obj.ensures.budget c.free_obj.ensures.moved c.free_obj.ensures.compacted c.free_obj-in-Some.new.self c.free_obj-in-Some.ensures.freed c.free_obj-in-Some.ensures.budget c.free_obj-in-Some.ensures.moved c.free_obj-in-Some.ensures.compacted
+    c.remove.ensures.others c.remove.ensures.elsewhere (c.remove.ensures.objects (c.in-Some.end ∷ []) held.tree) (c.remove.ensures.removed [] [] held.tree) c.remove.ensures.out c.free_obj.new.self c.free_obj.ensures.well c.free_obj.ensures.freed c.free_obj.ensures.budget c.free_obj.ensures.moved c.free_obj.ensures.compacted c.free_obj.ensures.epoch c.free_obj-in-Some.new.self c.free_obj-in-Some.ensures.freed c.free_obj-in-Some.ensures.budget c.free_obj-in-Some.ensures.moved c.free_obj-in-Some.ensures.compacted c.free_obj-in-Some.ensures.epoch
 
 pub returns-clause-spare : goal.returns-clause-spare
 returns-clause-spare g c =
@@ -70,4 +70,11 @@ returns-clause-live g c =
     let same : c.requires.version.0 ≡ c.in-Some.end = same_end c.requires.version.0 c.in-Some.end (sym (c.first.ensures (c.requires.version.0 ∷ []) c.requires.version.2.tree) ∙ c.in-Some.is) in
     let held = subst (λ z. IsVersionOf c.args.region.now c.args.v (z ∷ []) c.requires.version.1) same c.requires.version.2 in
     free-live g.row.S c.args.region.now c.remove.new.region c.args.v c.in-Some.end c.requires.version.1 held c.requires.version.3 c.requires.unlisted (subst (IsUnlisted c.args.region.now) same c.requires.version.4) c.known.ensures.well c.remove.ensures.well
-    c.remove.ensures.others c.remove.ensures.elsewhere (c.remove.ensures.objects (c.in-Some.end ∷ []) held.tree) (c.remove.ensures.removed [] [] held.tree) c.remove.ensures.out c.free_obj.new.self c.free_obj.ensures.well c.free_obj.ensures.freed c.free_obj.ensures.budget c.free_obj.ensures.moved c.free_obj.ensures.compacted c.free_obj-in-Some.new.self c.free_obj-in-Some.ensures.freed c.free_obj-in-Some.ensures.budget c.free_obj-in-Some.ensures.moved c.free_obj-in-Some.ensures.compacted c.free_obj.ensures.live c.free_obj-in-Some.ensures.live
+    c.remove.ensures.others c.remove.ensures.elsewhere (c.remove.ensures.objects (c.in-Some.end ∷ []) held.tree) (c.remove.ensures.removed [] [] held.tree) c.remove.ensures.out c.free_obj.new.self c.free_obj.ensures.well c.free_obj.ensures.freed c.free_obj.ensures.budget c.free_obj.ensures.moved c.free_obj.ensures.compacted c.free_obj.ensures.epoch c.free_obj-in-Some.new.self c.free_obj-in-Some.ensures.freed c.free_obj-in-Some.ensures.budget c.free_obj-in-Some.ensures.moved c.free_obj-in-Some.ensures.compacted c.free_obj-in-Some.ensures.epoch c.free_obj.ensures.live c.free_obj-in-Some.ensures.live
+
+pub returns-clause-none : goal.returns-clause-none
+returns-clause-none g c =
+    let same : c.requires.version.0 ≡ c.in-Some.end = same_end c.requires.version.0 c.in-Some.end (sym (c.first.ensures (c.requires.version.0 ∷ []) c.requires.version.2.tree) ∙ c.in-Some.is) in
+    let held = subst (λ z. IsVersionOf c.args.region.now c.args.v (z ∷ []) c.requires.version.1) same c.requires.version.2 in
+    free-none g.row.S c.args.region.now c.remove.new.region c.args.v c.in-Some.end c.requires.version.1 held c.requires.version.3 c.requires.unlisted (subst (IsUnlisted c.args.region.now) same c.requires.version.4) c.known.ensures.well c.remove.ensures.well
+    c.remove.ensures.others c.remove.ensures.elsewhere (c.remove.ensures.objects (c.in-Some.end ∷ []) held.tree) (c.remove.ensures.removed [] [] held.tree) c.remove.ensures.out c.free_obj.new.self c.free_obj.ensures.well c.free_obj.ensures.freed c.free_obj.ensures.budget c.free_obj.ensures.moved c.free_obj.ensures.compacted c.free_obj.ensures.epoch c.free_obj-in-Some.new.self c.free_obj-in-Some.ensures.freed c.free_obj-in-Some.ensures.budget c.free_obj-in-Some.ensures.moved c.free_obj-in-Some.ensures.compacted c.free_obj-in-Some.ensures.epoch
