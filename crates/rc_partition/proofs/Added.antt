@@ -1,5 +1,5 @@
 -- A version that was made and put over those of a partition.
-use Rattle.std.proofs.Common.{◌≡◌, ◌≢◌, ◌⊎◌, ℕ, ◌+◌, ◌≤◌, List, [], ◌∷◌, ◌++◌, Option, Some, None, IsSome, inl, inr, refl, sym, ap, ◌∙◌, subst, map, reverse, arith}
+use Rattle.std.proofs.Common.{◌≡◌, ◌≢◌, ◌⊎◌, ℕ, ◌+◌, List, [], ◌∷◌, ◌++◌, Some, None, inl, inr, sym, ap, ◌∙◌, subst, reverse, arith}
 use Rattle.std.specs.Prelude.{IsSomeAnd, Contains, AllPairs, sum_by}
 use Rattle.std.proofs.lemmas.List.{map-append, reverse-append}
 use Rattle.lsa_kinds.specs.declared.kind.Kind.TheVariants.{Version as VersionKind}
@@ -14,17 +14,16 @@ use Rattle.lsa_path.specs.Path.{IsPath, IsOutside, IsInserted}
 use Rattle.lsa_path.specs.laws.Members.{all-from_members}
 use Rattle.lsa_path.specs.laws.Passing.{path-entered}
 use Rattle.lsa_path.specs.laws.Paths.{path-same}
-use Rattle.lsa_path.specs.laws.Renamed.{some-there}
 use Rattle.lsa_list.specs.declared.recency.List.{List as Slots}
 use Rattle.rc_core.specs.Version.{Version}
-use Rattle.rc_version.specs.Versions.{HasStatics, IsKeptBut, IsStaticsOf, IsUnlisted, IsVersionOf, version_bytes}
+use Rattle.rc_version.specs.Versions.{HasStatics, IsKeptBut, IsUnlisted, IsVersionOf, version_bytes}
 use Rattle.rc_version.specs.laws.Staying.{version-kind}
 use Rattle.rc_partition.specs.Partitions.{StandingVersion, PartitionEntry, AreStanding, IsPartitionEntry, IsRowOf, IsRowOfAny, objects_of, partition_bytes, partition_of, roots_of, standing}
 use Rattle.rc_partition.specs.laws.Apart.{entries-apart, one-version, row-recency, row-version}
 use Rattle.rc_partition.specs.laws.Changed.{all-recency, roots-among, some_or_none}
-use Rattle.rc_partition.specs.laws.Lists.{elem-cases, elem-first, elem-here, elem-left, elem-map, elem-mapped, elem-none, elem-pushed, elem-replaced, elem-reversed, elem-still, elem-unreversed, once-beside, sum-middle, sum-without}
+use Rattle.rc_partition.specs.laws.Lists.{elem-cases, elem-first, elem-here, elem-left, elem-map, elem-mapped, elem-none, elem-pushed, elem-replaced, elem-reversed, elem-still, elem-unreversed, once-beside, sum-middle}
 use Rattle.rc_partition.specs.laws.Whole.{nothing-else}
-use Rattle.rc_partition.proofs.Chains.{IsBeside, IsChainStep, kept-beside, beside-then, rows-beside, rows-were, entry-beside, chain-beside, chain-version, chain-static, inserted-step}
+use Rattle.rc_partition.proofs.Chains.{IsBeside, IsChainStep, kept-beside, beside-then, rows-beside, rows-were, entry-beside, chain-beside, chain-version, inserted-step}
 
 -- the partitions of other root slots
 pub other-root : (front back : List PartitionEntry) (root : Root) (vs : List StandingVersion) → AllPairs ◌≢◌ (roots_of (front ++ (partition_of root vs ∷ back))) → (p : PartitionEntry) → Contains (front ++ back) p → p.root ≢ root
@@ -133,8 +132,13 @@ module _ (slots : Slots) (old mid new : View) (front : List PartitionEntry) (roo
     row_now r w =
         let k = h.entries w.0 w.2 in let row = rows-beside n root old new step w.1 (not-new w.0 k w.1 w.3) (k.versions w.1 w.3) r w.4 in
         elim (elem-replaced front back (partition_of root vs) w.0 w.2) [
-          | inl same ↦ (partition_of root (vs ++ (standing n (end ∷ []) c ∷ [])), w.1, elem-here front back (partition_of root (vs ++ (standing n (end ∷ []) c ∷ []))),
-              elem-left vs (standing n (end ∷ []) c ∷ []) w.1 (subst (λ (q : PartitionEntry). Contains q.versions w.1) (sym same) w.3), row)
+          | inl same ↦ (
+            partition_of root (vs ++ (standing n (end ∷ []) c ∷ [])),
+            w.1,
+            elem-here front back (partition_of root (vs ++ (standing n (end ∷ []) c ∷ []))),
+            elem-left vs (standing n (end ∷ []) c ∷ []) w.1 (subst (λ (q : PartitionEntry). Contains q.versions w.1) (sym same) w.3),
+            row,
+          )
           | inr other ↦ (w.0, w.1, elem-still front back (partition_of root (vs ++ (standing n (end ∷ []) c ∷ []))) w.0 other, w.3, row)
         ]
 
@@ -142,8 +146,13 @@ module _ (slots : Slots) (old mid new : View) (front : List PartitionEntry) (roo
     row_was : (r : Ref) → IsRowOfAny new (front ++ (partition_of root (vs ++ (standing n (end ∷ []) c ∷ [])) ∷ back)) r → (end ≡ r) ⊎ IsRowOfAny old (front ++ (partition_of root vs ∷ back)) r
     row_was r w = elim (elem-replaced front back (partition_of root (vs ++ (standing n (end ∷ []) c ∷ []))) w.0 w.2) [
       | inl same ↦ elim (elem-pushed vs (standing n (end ∷ []) c) w.1 (subst (λ (q : PartitionEntry). Contains q.versions w.1) (sym same) w.3)) [
-        | inl before ↦ inr (partition_of root vs, w.1, elem-here front back (partition_of root vs), before,
-            rows-were n root old new step w.1 (not-new (partition_of root vs) this_stands w.1 before) (this_stands.versions w.1 before) r w.4)
+        | inl before ↦ inr (
+          partition_of root vs,
+          w.1,
+          elem-here front back (partition_of root vs),
+          before,
+          rows-were n root old new step w.1 (not-new (partition_of root vs) this_stands w.1 before) (this_stands.versions w.1 before) r w.4,
+        )
         | inr is_new ↦ inl (only_end r (subst (λ q. IsRowOf new q r) (sym is_new) w.4))
       ]
       | inr other ↦ let k = h.entries w.0 (elem-still front back (partition_of root vs) w.0 other) in

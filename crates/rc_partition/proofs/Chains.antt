@@ -1,12 +1,12 @@
 -- A step at one partition: a version is put over the others, or taken out, made or freed; what stands beside it.
-use Rattle.std.proofs.Common.{◌≡◌, ◌≢◌, ◌⊎◌, ℕ, zero, suc, ◌≤◌, List, [], ◌∷◌, ◌++◌, Option, Some, None, inl, inr, refl, sym, ap, ◌∙◌, subst, map, reverse, arith}
+use Rattle.std.proofs.Common.{◌≡◌, ◌≢◌, ℕ, ◌≤◌, List, [], ◌∷◌, ◌++◌, Option, Some, None, inl, inr, sym, ◌∙◌, subst, reverse, arith}
 use Rattle.std.specs.Prelude.{IsSomeAnd, Contains}
 use Rattle.lsa_kinds.specs.declared.kind.Kind.TheVariants.{Version as VersionKind}
 use Rattle.lsa_store.specs.declared.place.Ref.{Ref}
 use Rattle.lsa_region.specs.declared.end.Root.{Root}
 use Rattle.lsa_region.specs.declared.end.End.{End}
 use Rattle.lsa_region.specs.declared.end.End.TheVariants.{Obj, Slot}
-use Rattle.lsa_region.specs.Region.{View, body, link_of, IsEnd, IsWell, SameObjects}
+use Rattle.lsa_region.specs.Region.{View, body, link_of, IsEnd, SameObjects}
 use Rattle.lsa_region.specs.Paired.{WellPaired}
 use Rattle.lsa_path.specs.Path.{IsPath, IsOutside, IsInserted, IsTakenOut, behind}
 use Rattle.lsa_path.specs.laws.Members.{all-from_members}
@@ -16,7 +16,7 @@ use Rattle.rc_version.specs.Versions.{IsKeptBut, IsOutward, IsVersionOf}
 use Rattle.rc_version.specs.laws.Staying.{version-outward}
 use Rattle.rc_partition.specs.Partitions.{StandingVersion, PartitionEntry, IsPartitionEntry, IsRowOf, objects_of}
 use Rattle.rc_partition.specs.laws.Apart.{row-version, same_root}
-use Rattle.rc_partition.specs.laws.Lists.{elem-cases, elem-first, elem-here, elem-later, elem-map, elem-none, elem-unreversed}
+use Rattle.rc_partition.specs.laws.Lists.{elem-first, elem-here, elem-later, elem-unreversed}
 
 -- all versions but n stand as they stood, with the links outward of their rows; and so do the partitions of other root slots
 pub record IsBeside (n : Ref) (root : Root) (old new : View) : Type 0 where

@@ -1,5 +1,5 @@
 -- A version that was taken out of a partition and freed.
-use Rattle.std.proofs.Common.{◌≡◌, ◌≢◌, ◌⊎◌, ℕ, zero, suc, ◌+◌, ◌≤◌, List, [], ◌∷◌, ◌++◌, append_assoc, Option, Some, None, IsSome, inl, inr, refl, sym, ap, ◌∙◌, subst, map, reverse, arith}
+use Rattle.std.proofs.Common.{◌≡◌, ◌≢◌, ℕ, zero, suc, ◌+◌, ◌≤◌, List, [], ◌∷◌, ◌++◌, append_assoc, Some, None, inl, inr, sym, ap, ◌∙◌, subst, reverse, arith}
 use Rattle.std.specs.Prelude.{IsSomeAnd, Contains, AllPairs, sum_by}
 use Rattle.std.proofs.lemmas.List.{map-append, reverse-append}
 use Rattle.lsa_kinds.specs.declared.kind.Kind.TheVariants.{Version as VersionKind}
@@ -17,14 +17,13 @@ use Rattle.lsa_list.specs.declared.recency.List.{List as Slots}
 use Rattle.rc_core.specs.Version.{Version, EndsWithDummy}
 use Rattle.rc_version.specs.Versions.{HasStatics, IsKeptBut, IsUnlisted, IsVersionOf, bytes_at, entries_bytes, statics_bytes, version_bytes}
 use Rattle.rc_version.specs.laws.Holding.{one-held}
-use Rattle.rc_version.specs.laws.Moving.{version-once}
 use Rattle.rc_version.specs.laws.Staying.{version-kind}
-use Rattle.rc_partition.specs.Partitions.{StandingVersion, PartitionEntry, AreStanding, IsPartitionEntry, IsRowOf, IsRowOfAny, among, objects_of, partition_bytes, partition_of, roots_of, standing}
+use Rattle.rc_partition.specs.Partitions.{StandingVersion, PartitionEntry, AreStanding, IsPartitionEntry, IsRowOf, IsRowOfAny, among, objects_of, partition_bytes, partition_of}
 use Rattle.rc_partition.specs.laws.Apart.{entry-once, entries-apart, row-recency, row-version}
 use Rattle.rc_partition.specs.laws.Changed.{all-recency, among-cases, bytes-among, other-among, roots-among, this-among}
-use Rattle.rc_partition.specs.laws.Lists.{elem-cases, elem-first, elem-here, elem-map, elem-mapped, elem-none, elem-replaced, elem-reversed, elem-still, elem-unreversed, once-beside, sum-middle, sum-without}
+use Rattle.rc_partition.specs.laws.Lists.{elem-cases, elem-here, elem-map, elem-mapped, elem-none, elem-replaced, elem-still, elem-unreversed, once-beside, sum-middle, sum-without}
 use Rattle.rc_partition.proofs.Added.{other-root}
-use Rattle.rc_partition.proofs.Chains.{IsBeside, IsChainStep, kept-beside, beside-then, rows-beside, rows-were, entry-beside, chain-beside, chain-static, chain-version, taken-step}
+use Rattle.rc_partition.proofs.Chains.{IsBeside, IsChainStep, kept-beside, beside-then, rows-beside, rows-were, entry-beside, chain-beside, chain-version, taken-step}
 
 -- a version of its end dummy alone takes 152 bytes
 pub bare-bytes : (v : View) (n end : Ref) (c : Version) → IsVersionOf v n (end ∷ []) c → c.statics ≡ None → version_bytes c ≡ 152
@@ -134,10 +133,20 @@ module _ (slots : Slots) (old : View) (front : List PartitionEntry) (root : Root
       row_now : (r : Ref) → Contains listed r → IsRowOfAny old (among front root older s newer back) r → IsRowOfAny new (front ++ (partition_of root (older ++ newer) ∷ back)) r
       row_now r on w = elim (among-cases front back root older newer s w.0 w.1 w.2 w.3) [
         | inl is ↦ absurd (not_listed (subst (Contains listed) (sym (only_end r (subst (λ q. IsRowOf old q r) (sym is) w.4))) on))
-        | inr (inl beside) ↦ (partition_of root (older ++ newer), w.1, elem-here front back (partition_of root (older ++ newer)), beside,
-            rows-beside s.object root old new step w.1 (beside_differs w.1 beside) (beside_stands w.1 beside) r w.4)
-        | inr (inr other) ↦ (w.0, w.1, elem-still front back (partition_of root (older ++ newer)) w.0 other, w.3,
-            rows-beside s.object root old new step w.1 (differs w.0 (root_differs w.0 other) (other_stands w.0 other) w.1 w.3) ((other_stands w.0 other).versions w.1 w.3) r w.4)
+        | inr (inl beside) ↦ (
+          partition_of root (older ++ newer),
+          w.1,
+          elem-here front back (partition_of root (older ++ newer)),
+          beside,
+          rows-beside s.object root old new step w.1 (beside_differs w.1 beside) (beside_stands w.1 beside) r w.4,
+        )
+        | inr (inr other) ↦ (
+          w.0,
+          w.1,
+          elem-still front back (partition_of root (older ++ newer)) w.0 other,
+          w.3,
+          rows-beside s.object root old new step w.1 (differs w.0 (root_differs w.0 other) (other_stands w.0 other) w.1 w.3) ((other_stands w.0 other).versions w.1 w.3) r w.4,
+        )
       ]
 
       -- a row now was one of another version

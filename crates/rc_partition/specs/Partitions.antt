@@ -3,11 +3,11 @@
 --     IsPartitionEntry                    they stand there: the slot leads through the versions, and each is what it is
 --     AreStanding                         all partitions of a region with the recency list, and nothing else
 --     partition_objects                   how many objects a partition takes
-use Rattle.std.specs.Prelude.{◌≡◌, ◌≢◌, ◌⊎◌, ℕ, ◌+◌, List, [], ◌∷◌, ◌++◌, map, reverse, length, sum_by, Contains, AllPairs, Option, Some, None}
+use Rattle.std.specs.Prelude.{◌≡◌, ◌≢◌, ◌⊎◌, ℕ, ◌+◌, List, ◌∷◌, ◌++◌, map, reverse, length, sum_by, Contains, AllPairs, Option, Some, None}
 use Rattle.rc_cell.specs.declared.rows.Row.{Row}
 use Rattle.lsa_store.specs.declared.place.Ref.{Ref}
 use Rattle.lsa_region.specs.Ends.{named_as}
-use Rattle.lsa_region.specs.declared.end.End.TheVariants.{Obj, Slot}
+use Rattle.lsa_region.specs.declared.end.End.TheVariants.{Slot}
 use Rattle.lsa_region.specs.declared.end.Root.{Root}
 use Rattle.lsa_region.specs.Region.{View, link_of, live_bytes, IsEnd}
 use Rattle.lsa_path.specs.Path.{IsPath}

@@ -1,5 +1,5 @@
 -- Versions that stand in a region share nothing: each object is a version once, and a part of one version only.
-use Rattle.std.proofs.Common.{◌≡◌, ◌≢◌, ◌⊎◌, ℕ, List, [], ◌∷◌, ◌++◌, Option, Some, None, inl, inr, refl, sym, ap, ◌∙◌, subst, map, reverse}
+use Rattle.std.proofs.Common.{◌≡◌, ◌≢◌, ◌⊎◌, ℕ, List, [], ◌∷◌, Option, Some, None, inl, inr, refl, sym, ◌∙◌, subst, reverse}
 use Rattle.std.specs.Prelude.{IsSomeAnd, Contains, AllPairs}
 use Rattle.std.specs.List.{flat_map}
 use Rattle.std.proofs.lemmas.List.{map-append}
@@ -16,7 +16,6 @@ use Rattle.lsa_path.specs.laws.Paths.{same_object}
 use Rattle.lsa_list.specs.Recency.{HasRecency}
 use Rattle.lsa_tree.specs.Entries.{IsEntryKind}
 use Rattle.lsa_tree.specs.laws.Trees.{no_entry_at}
-use Rattle.rc_core.specs.Version.{Version}
 use Rattle.rc_object.specs.Objects.{HoldsStatic}
 use Rattle.rc_version.specs.Versions.{HasStatics, IsVersionOf, IsStaticsOf}
 use Rattle.rc_version.specs.laws.Staying.{version-kind, entries-kind, versions-apart}

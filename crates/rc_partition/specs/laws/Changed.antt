@@ -1,5 +1,5 @@
 -- One version of a partition changed, and all else stands as before with it in its place.
-use Rattle.std.proofs.Common.{◌≡◌, ◌≢◌, ◌⊎◌, ℕ, ◌+◌, ◌≤◌, List, [], ◌∷◌, ◌++◌, Option, Some, None, IsSome, inl, inr, refl, sym, ap, ◌∙◌, subst, map, reverse, arith}
+use Rattle.std.proofs.Common.{◌≡◌, ◌≢◌, ◌⊎◌, ℕ, ◌+◌, List, [], ◌∷◌, ◌++◌, Option, Some, None, IsSome, inl, inr, refl, sym, ap, ◌∙◌, subst, reverse, arith}
 use Rattle.std.specs.Prelude.{IsSomeAnd, Contains, AllPairs, sum_by}
 use Rattle.std.proofs.lemmas.List.{map-append}
 use Rattle.lsa_kinds.specs.declared.kind.Kind.TheVariants.{Version as VersionKind}
@@ -7,13 +7,13 @@ use Rattle.lsa_pool.specs.Room.{live_sum}
 use Rattle.lsa_store.specs.declared.place.Ref.{Ref}
 use Rattle.lsa_region.specs.declared.end.Root.{Root}
 use Rattle.lsa_region.specs.declared.end.End.TheVariants.{Obj, Slot}
-use Rattle.lsa_region.specs.Region.{View, body, link_of, live_bytes, IsWell, IsSummed, IsWritten}
+use Rattle.lsa_region.specs.Region.{View, body, link_of, live_bytes, IsWell, IsSummed}
 use Rattle.lsa_region.specs.laws.Ends.{no-end, some_and_none}
 use Rattle.lsa_path.specs.Path.{IsPath}
 use Rattle.lsa_path.specs.laws.Members.{all-from_members}
 use Rattle.lsa_path.specs.laws.Paths.{path-same}
 use Rattle.lsa_list.specs.declared.recency.List.{List as Slots}
-use Rattle.lsa_list.specs.Recency.{HasRecency, AllHaveRecency, IsList}
+use Rattle.lsa_list.specs.Recency.{HasRecency, AllHaveRecency}
 use Rattle.rc_core.specs.Version.{Version}
 use Rattle.rc_object.specs.Objects.{IsRewritten}
 use Rattle.rc_version.specs.Versions.{IsVersionOf, IsKeptBut, IsUnlisted, IsWeighed, version_bytes}
@@ -142,10 +142,20 @@ module _ (slots : Slots) (old new : View) (front : List PartitionEntry) (root : 
     -- a row of a version that stands there now
     row_now : (r : Ref) → IsRowOfAny old (among front root older s newer back) r → (IsRowOf old s r → IsRowOf new (standing s.object now c) r) → IsRowOfAny new (among front root older (standing s.object now c) newer back) r
     row_now r w rows = elim (among-cases front back root older newer s w.0 w.1 w.2 w.3) [
-      | inl same ↦ (partition_of root (older ++ (standing s.object now c ∷ newer)), standing s.object now c, this-among front back root older newer (standing s.object now c), elem-here older newer (standing s.object now c),
-          rows (subst (λ q. IsRowOf old q r) (sym same) w.4))
-      | inr (inl beside) ↦ (partition_of root (older ++ (standing s.object now c ∷ newer)), w.1, this-among front back root older newer (standing s.object now c), elem-still older newer (standing s.object now c) w.1 beside,
-          rows_kept w.1 (beside-differs w.1 beside) (beside_stands w.1 beside) r w.4)
+      | inl same ↦ (
+        partition_of root (older ++ (standing s.object now c ∷ newer)),
+        standing s.object now c,
+        this-among front back root older newer (standing s.object now c),
+        elem-here older newer (standing s.object now c),
+        rows (subst (λ q. IsRowOf old q r) (sym same) w.4),
+      )
+      | inr (inl beside) ↦ (
+        partition_of root (older ++ (standing s.object now c ∷ newer)),
+        w.1,
+        this-among front back root older newer (standing s.object now c),
+        elem-still older newer (standing s.object now c) w.1 beside,
+        rows_kept w.1 (beside-differs w.1 beside) (beside_stands w.1 beside) r w.4,
+      )
       | inr (inr other) ↦ (w.0, w.1, other-among front back root older newer (standing s.object now c) w.0 other, w.3, rows_kept w.1 (other-differs w.0 other w.1 w.3) (other_stands w.0 other w.1 w.3) r w.4)
     ]
 

@@ -1,5 +1,5 @@
 -- The recency list changed beside partitions.
-use Rattle.std.proofs.Common.{◌≡◌, ◌≢◌, ◌⊎◌, ℕ, zero, suc, ◌≤◌, List, [], ◌∷◌, ◌++◌, Option, Some, None, inl, inr, refl, sym, ap, ◌∙◌, subst, map, reverse, arith}
+use Rattle.std.proofs.Common.{◌≡◌, ◌≢◌, ℕ, zero, suc, ◌≤◌, List, [], ◌∷◌, ◌++◌, Option, Some, None, inl, inr, refl, sym, ap, ◌∙◌, subst, reverse, arith}
 use Rattle.std.specs.Prelude.{IsSomeAnd, IfSome, Contains}
 use Rattle.lsa_kinds.specs.declared.kind.Kind.{Kind}
 use Rattle.lsa_kinds.specs.declared.kind.Kind.TheVariants.{Version as VersionKind, RowEntry, Dummy, Static}
@@ -7,14 +7,13 @@ use Rattle.lsa_pool.specs.Room.{live_sum}
 use Rattle.lsa_store.specs.declared.place.Ref.{Ref}
 use Rattle.lsa_region.specs.declared.end.End.{End}
 use Rattle.lsa_region.specs.declared.end.End.TheVariants.{Obj, Slot}
-use Rattle.lsa_region.specs.Region.{View, body, link_of, live_bytes, IsWell, SameObjects}
+use Rattle.lsa_region.specs.Region.{View, body, link_of, SameObjects}
 use Rattle.lsa_region.specs.laws.Refs.{refs_decided}
 use Rattle.lsa_path.specs.Roles.{role_of, LessRecent, MoreRecent}
 use Rattle.lsa_path.specs.laws.Members.{all-from_members}
 use Rattle.lsa_path.specs.laws.Paths.{path-same, same_object}
 use Rattle.lsa_list.specs.declared.recency.List.{List as Slots}
 use Rattle.lsa_list.specs.Recency.{IsElsewhere, IsList}
-use Rattle.rc_core.specs.Version.{Version}
 use Rattle.rc_version.specs.Versions.{IsOutward, IsVersionOf, IsUnlisted}
 use Rattle.rc_version.specs.laws.Staying.{version-kind, version-outward}
 use Rattle.rc_partition.specs.Partitions.{StandingVersion, PartitionEntry, AreStanding, IsPartitionEntry, IsRowOf, IsRowOfAny, objects_of}

@@ -1,9 +1,8 @@
 -- Partitions after objects moved: the same, under new names.
-use Rattle.std.proofs.Common.{◌≡◌, ◌≢◌, ℕ, ◌≤◌, List, [], ◌∷◌, Option, Some, None, IsSome, inl, inr, refl, sym, ap, ◌∙◌, subst, map, reverse}
-use Rattle.std.specs.Prelude.{Contains, AllPairs, sum_by}
+use Rattle.std.proofs.Common.{◌≡◌, ◌≢◌, ℕ, List, [], ◌∷◌, Option, Some, None, IsSome, inl, inr, refl, sym, ap, ◌∙◌, subst, map, reverse}
+use Rattle.std.specs.Prelude.{Contains, AllPairs}
 use Rattle.std.specs.Option.{option_map}
 use Rattle.lsa_store.specs.declared.place.Ref.{Ref}
-use Rattle.lsa_region.specs.declared.end.Root.{Root}
 use Rattle.lsa_region.specs.declared.end.End.{End}
 use Rattle.lsa_region.specs.declared.end.End.TheVariants.{Obj, Slot}
 use Rattle.lsa_region.specs.Ends.{named_as, end_as}
@@ -12,7 +11,7 @@ use Rattle.lsa_path.specs.Path.{IsPath}
 use Rattle.lsa_path.specs.laws.Renamed.{path-renamed, some-there}
 use Rattle.lsa_list.specs.declared.recency.List.{List as Slots}
 use Rattle.lsa_list.specs.laws.Lists.{list-renamed}
-use Rattle.rc_version.specs.Versions.{IsVersionOf, IsStaticsOf, IsUnlisted, version_bytes}
+use Rattle.rc_version.specs.Versions.{IsVersionOf, IsUnlisted, version_bytes}
 use Rattle.rc_version.specs.laws.Moving.{version-renamed}
 use Rattle.rc_version.specs.laws.Staying.{version-kind}
 use Rattle.rc_partition.specs.Partitions.{StandingVersion, PartitionEntry, AreStanding, IsPartitionEntry, IsRowOf, IsRowOfAny, objects_of, partition_as, partition_bytes, roots_of, version_as}

@@ -1,5 +1,5 @@
 -- A partition without versions comes and goes with its root slot.
-use Rattle.std.proofs.Common.{◌≡◌, ◌≢◌, ℕ, ◌+◌, List, [], ◌∷◌, ◌++◌, Option, Some, None, IsSome, inl, inr, refl, sym, ap, ◌∙◌, subst, map, reverse, arith}
+use Rattle.std.proofs.Common.{◌≡◌, ◌≢◌, ℕ, ◌+◌, List, [], ◌∷◌, ◌++◌, Some, None, inl, inr, sym, ap, ◌∙◌, subst, reverse, arith}
 use Rattle.std.specs.Prelude.{Contains, AllPairs, sum_by}
 use Rattle.std.specs.Option.{option_map}
 use Rattle.std.proofs.lemmas.List.{map-append}
@@ -9,13 +9,13 @@ use Rattle.lsa_store.specs.declared.place.Ref.{Ref}
 use Rattle.lsa_region.specs.declared.end.Root.{Root}
 use Rattle.lsa_region.specs.declared.end.End.{End}
 use Rattle.lsa_region.specs.declared.end.End.TheVariants.{Obj, Slot}
-use Rattle.lsa_region.specs.Region.{View, body, link_of, IsEnd, IsWell, IsRootAdded, IsRootDropped, SameButRoots}
-use Rattle.lsa_path.specs.Path.{IsPath, behind}
+use Rattle.lsa_region.specs.Region.{View, link_of, IsEnd, IsWell, IsRootAdded, IsRootDropped, SameButRoots}
+use Rattle.lsa_path.specs.Path.{behind}
 use Rattle.lsa_path.specs.laws.Paths.{path-everywhere}
 use Rattle.lsa_list.specs.declared.recency.List.{List as Slots}
 use Rattle.lsa_list.specs.Recency.{IsList}
 use Rattle.lsa_list.specs.laws.Lists.{last-named, list-unlinked}
-use Rattle.rc_version.specs.Versions.{IsVersionOf, IsUnlisted}
+use Rattle.rc_version.specs.Versions.{IsUnlisted}
 use Rattle.rc_version.specs.laws.Staying.{version-outward}
 use Rattle.rc_partition.specs.Partitions.{StandingVersion, PartitionEntry, AreStanding, IsPartitionEntry, IsRowOf, IsRowOfAny, objects_of, partition_bytes, partition_of, roots_of}
 use Rattle.rc_partition.specs.laws.Apart.{same_root}

@@ -1,5 +1,5 @@
 -- What stands in a region is determined by the root slots.
-use Rattle.std.proofs.Common.{◌≡◌, ◌≢◌, ◌⊎◌, List, [], ◌∷◌, ◌++◌, Some, None, inl, inr, refl, sym, ap, ◌∙◌, subst, map, reverse}
+use Rattle.std.proofs.Common.{◌≡◌, ◌≢◌, List, [], ◌∷◌, ◌++◌, Some, None, inl, inr, refl, sym, ap, ◌∙◌, subst, reverse}
 use Rattle.std.specs.Prelude.{Contains, AllPairs}
 use Rattle.std.proofs.lemmas.List.{reverse-reverse}
 use Rattle.lsa_store.specs.declared.place.Ref.{Ref}
@@ -85,7 +85,7 @@ same-place v well root other us vs xs ys s t h k same = elim (ends_decided (Slot
   | inl slots ↦
       let roots = same_root root other slots in
       let w = parted us vs xs ys s t (entry-once v well (partition_of root (us ++ (s ∷ vs))) h)
-          (ap (λ (p : PartitionEntry). p.versions) (same-entry v (partition_of root (us ++ (s ∷ vs))) (partition_of other (xs ++ (t ∷ ys))) h k roots)) same in
+      (ap (λ (p : PartitionEntry). p.versions) (same-entry v (partition_of root (us ++ (s ∷ vs))) (partition_of other (xs ++ (t ∷ ys))) h k roots)) same in
       (roots, w.0, w.1, w.2)
   | inr ne ↦ absurd (entries-apart v well (partition_of root (us ++ (s ∷ vs))) (partition_of other (xs ++ (t ∷ ys))) h k (λ e. ne (ap (λ r. Slot r) (sym e))) s.object
       (elem-map (λ (q : StandingVersion). q.object) (us ++ (s ∷ vs)) s (elem-here us vs s))

@@ -1,5 +1,5 @@
 -- Where nothing leaks, each object is a version that stands there, or an entry or a static row of one.
-use Rattle.std.proofs.Common.{◌≡◌, ◌≢◌, ◌⊎◌, ℕ, zero, suc, ◌+◌, ◌≤◌, ◌<◌, List, [], ◌∷◌, ◌++◌, length, Option, Some, None, IsSome, inl, inr, refl, sym, ap, ◌∙◌, subst, map, arith}
+use Rattle.std.proofs.Common.{◌≡◌, ◌≢◌, ◌⊎◌, ℕ, suc, ◌+◌, ◌≤◌, ◌<◌, List, [], ◌∷◌, ◌++◌, length, Option, Some, None, IsSome, inl, inr, refl, sym, ap, ◌∙◌, subst, arith}
 use Rattle.std.specs.Prelude.{IsSomeAnd, Contains, AllPairs, sum_by}
 use Rattle.std.specs.List.{flat_map}
 use Rattle.std.proofs.lemmas.List.{length-append}
@@ -9,13 +9,12 @@ use Rattle.std.proofs.lemmas.List.Sums.{sum_by-cons, sum_by-append}
 use Rattle.rc_cell.specs.declared.rows.Row.{Row}
 use Rattle.lsa_kinds.specs.declared.kind.Kind.{Kind}
 use Rattle.lsa_kinds.specs.declared.kind.Kind.TheVariants.{Version as VersionKind}
-use Rattle.lsa_kinds.specs.Kinds.{links_of}
 use Rattle.lsa_store.specs.declared.place.Ref.{Ref}
 use Rattle.lsa_store.specs.Objects.{rounded_size}
 use Rattle.lsa_region.specs.declared.end.End.{End}
 use Rattle.lsa_region.specs.declared.end.End.TheVariants.{Obj}
 use Rattle.lsa_region.specs.Layout.{object_extent}
-use Rattle.lsa_region.specs.Region.{View, body, link_of, live_bytes, objects, IsWell, IsSummed, AreLive}
+use Rattle.lsa_region.specs.Region.{View, body, link_of, live_bytes, objects, IsWell, IsSummed}
 use Rattle.lsa_region.specs.laws.Refs.{refs_decided}
 use Rattle.lsa_path.specs.laws.Passing.{path-once}
 use Rattle.lsa_path.specs.laws.Renamed.{some-there}
@@ -23,15 +22,13 @@ use Rattle.lsa_list.specs.declared.recency.List.{List as Slots}
 use Rattle.lsa_list.specs.Recency.{object_of}
 use Rattle.lsa_tree.specs.laws.Trees.{top-outside}
 use Rattle.rc_core.specs.declared.entries.Entry.{Entry}
-use Rattle.rc_core.specs.Version.{Version}
 use Rattle.rc_rowcode.specs.Objects.{static_size}
-use Rattle.rc_object.specs.Objects.{HoldsStatic}
-use Rattle.rc_version.specs.Versions.{tree_of, version_head, HasStatics, HoldEntries, IsVersionOf, IsStaticsOf, statics_bytes, entries_bytes, version_bytes}
+use Rattle.rc_version.specs.Versions.{version_head, HasStatics, HoldEntries, IsVersionOf, IsStaticsOf, statics_bytes, entries_bytes, version_bytes}
 use Rattle.rc_version.specs.laws.Objects.{head-extent, holds-extent}
 use Rattle.rc_version.specs.laws.Staying.{version-kind, entries-kind}
-use Rattle.rc_partition.specs.Partitions.{StandingVersion, PartitionEntry, AreStanding, IsPartitionEntry, IsRowOf, IsRowOfAny, objects_of, static_objects, version_objects, partition_objects, partition_bytes}
+use Rattle.rc_partition.specs.Partitions.{StandingVersion, PartitionEntry, AreStanding, IsRowOf, IsRowOfAny, objects_of, static_objects, version_objects, partition_objects}
 use Rattle.rc_partition.specs.laws.Apart.{versions_of, objects-once, entry_apart, static-kind, row-version, row-recency, parts-apart}
-use Rattle.rc_partition.specs.laws.Lists.{elem-cases, elem-first, elem-later, elem-map, elem-none, elem-parted, elem-joined, once-none, once-cons, once-both, once-head, once-tail, sum-joined, sum-same}
+use Rattle.rc_partition.specs.laws.Lists.{elem-cases, elem-first, elem-later, elem-map, elem-none, elem-parted, once-none, once-cons, once-both, once-head, once-tail, sum-joined, sum-same}
 
 -- the object that an end names, if it names one
 abbrev pub named_object : Option Ref → List Ref
@@ -195,8 +192,8 @@ module _ (slots : Slots) (v : View) (partitions : List PartitionEntry) (listed :
   part_of_all r live = elim (elem_decided r (all_parts v (versions_of partitions))) [
     | inl on ↦ on
     | inr off ↦ absurd (too_much (object_extent (body v r)) (sum_by (λ q. object_extent (body v q)) (all_parts v (versions_of partitions))) (live_bytes v) (extent_some (body v r) live)
-      (subst (λ n. n ≤ live_bytes v) (sum_by-cons (λ q. object_extent (body v q)) r (all_parts v (versions_of partitions))) (summed.most (r ∷ all_parts v (versions_of partitions)) (once-cons r (all_parts v (versions_of partitions)) off once)))
-      full)
+        (subst (λ n. n ≤ live_bytes v) (sum_by-cons (λ q. object_extent (body v q)) r (all_parts v (versions_of partitions))) (summed.most (r ∷ all_parts v (versions_of partitions)) (once-cons r (all_parts v (versions_of partitions)) off once)))
+        full)
   ]
 
   -- each object is a version, or a row of one

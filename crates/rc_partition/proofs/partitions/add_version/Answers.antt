@@ -1,4 +1,4 @@
-use Rattle.std.proofs.Common.{◌∷◌, [], None, reverse, refl, ap, ◌∙◌, arith}
+use Rattle.std.proofs.Common.{◌∷◌, [], None, reverse, refl, arith}
 use Rattle.lsa_region.specs.declared.end.End.TheVariants.{Slot}
 use Rattle.rc_core.specs.Steps.{version_of}
 use Rattle.rc_version.specs.laws.Marked.{marked-objects, marked-then}

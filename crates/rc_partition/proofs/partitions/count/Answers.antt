@@ -1,4 +1,4 @@
-use Rattle.std.proofs.Common.{◌∷◌, reverse, ◌∙◌, arith}
+use Rattle.std.proofs.Common.{reverse, ◌∙◌, arith}
 use Rattle.rc_partition.specs.Partitions.{objects_of, partition_of}
 use Rattle.rc_partition.specs.laws.Lists.{elem-here}
 use Rattle.rc_partition.proofs.Passing.{chain-few, objects-length}

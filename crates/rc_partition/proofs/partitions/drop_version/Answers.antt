@@ -1,4 +1,4 @@
-use Rattle.std.proofs.Common.{◌≢◌, inl, ◌++◌, ◌∷◌, [], None, Some, is_some, reverse, refl, sym, ap, ◌∙◌, subst, arith}
+use Rattle.std.proofs.Common.{◌≢◌, inl, ◌++◌, ◌∷◌, [], None, is_some, reverse, sym, ap, ◌∙◌, subst, arith}
 use Rattle.lsa_region.specs.declared.end.End.{End}
 use Rattle.lsa_region.specs.declared.end.End.TheVariants.{Obj, Slot}
 use Rattle.lsa_region.specs.Region.{link_of}
@@ -9,7 +9,7 @@ use Rattle.rc_version.specs.laws.Marked.{marked-objects, marked-then}
 use Rattle.rc_version.specs.laws.Moving.{version-once}
 use Rattle.rc_core.specs.Version.{Version}
 use Rattle.rc_version.specs.Versions.{IsKeptBut, IsVersionOf}
-use Rattle.rc_partition.specs.Partitions.{among, objects_of, standing}
+use Rattle.rc_partition.specs.Partitions.{objects_of, standing}
 use Rattle.rc_partition.specs.laws.Apart.{fields_differ}
 use Rattle.rc_partition.specs.laws.Lists.{elem-first}
 use Rattle.rc_partition.proofs.Dropped.{chain-is, s-stands, stands-dropped, taken-version, taken-unlisted, taken-row}

@@ -1,4 +1,4 @@
-use Rattle.std.proofs.Common.{◌≡◌, ◌+◌, ◌∷◌, ◌++◌, length, reverse, ◌∙◌, arith}
+use Rattle.std.proofs.Common.{◌∷◌, ◌++◌, reverse, arith}
 use Rattle.rc_partition.specs.Partitions.{objects_of}
 use Rattle.rc_partition.proofs.Dropped.{chain-is, slot-is}
 use Rattle.rc_partition.proofs.Passing.{number-length, objects-length}

@@ -1,4 +1,4 @@
-use Rattle.std.proofs.Common.{sym, ◌∙◌, arith}
+use Rattle.std.proofs.Common.{◌∙◌, arith}
 use Rattle.rc_partition.proofs.Passing.{seeking-start, seeking-next, seeking-set, seeking-here}
 use Rattle.rc_partition.proofs.walks.below_newer.Goals as goal
 

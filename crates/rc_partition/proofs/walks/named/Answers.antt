@@ -1,4 +1,4 @@
-use Rattle.std.proofs.Common.{◌≡◌, is_some, sym, ap, ◌∙◌}
+use Rattle.std.proofs.Common.{is_some, sym, ap, ◌∙◌}
 use Rattle.rc_partition.proofs.walks.named.Goals as goal
 
 pub unreachable-requires : goal.unreachable-requires
