@@ -20,10 +20,16 @@ use Rattle.rc_version.specs.Versions.{IsVersionOf, IsKeptBut, IsUnlisted, IsWeig
 use Rattle.rc_version.specs.laws.Staying.{version-kind}
 use Rattle.rc_partition.specs.Partitions.{StandingVersion, PartitionEntry, AreStanding, IsPartitionEntry, IsRowOf, IsRowOfAny, among, objects_of, partition_of, partition_bytes, roots_of, standing}
 use Rattle.rc_partition.specs.laws.Apart.{entry-once, entries-apart, row-recency, row-version}
-use Rattle.rc_partition.specs.laws.Lists.{elem-first, elem-here, elem-later, elem-map, elem-replaced, elem-still, once-beside, sum-middle}
+use Rattle.rc_partition.specs.laws.Lists.{elem-first, elem-here, elem-later, elem-map, elem-replaced, elem-split, elem-still, once-beside, sum-middle}
 use Rattle.rc_partition.specs.laws.Whole.{nothing-else}
 
 -- ---- one among others
+
+-- a version of partitions has a place among them
+pub place-of : (partitions : List PartitionEntry) (p : PartitionEntry) (s : StandingVersion) → Contains partitions p → Contains p.versions s
+    → (front : List PartitionEntry) × (older : List StandingVersion) × (newer : List StandingVersion) × (back : List PartitionEntry) × (partitions ≡ among front p.root older s newer back)
+place-of partitions p s on in_p = let a = elem-split partitions p on in let b = elem-split p.versions s in_p in
+    (a.0, b.0, b.1, a.1, a.2 ∙ ap (λ vs. a.0 ++ (partition_of p.root vs ∷ a.1)) b.2)
 
 module _ (front back : List PartitionEntry) (root : Root) (older newer : List StandingVersion) where
   pub roots-among : (vs : List StandingVersion) → roots_of (front ++ (partition_of root vs ∷ back)) ≡ roots_of front ++ (root ∷ roots_of back)
