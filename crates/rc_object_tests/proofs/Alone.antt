@@ -1,5 +1,5 @@
 -- What stands alone stays where others are made and freed.
-use Rattle.std.proofs.Common.{◌≡◌, ◌≢◌, ℕ, None, Option, IsSome, is_some, sym, ap, ◌∙◌, subst}
+use Rattle.std.proofs.Common.{◌≡◌, ◌≢◌, ℕ, None, IsSome, is_some, sym, ap, ◌∙◌, subst}
 use Rattle.lsa_store.specs.declared.place.Ref.{Ref}
 use Rattle.lsa_region.specs.declared.end.End.TheVariants.{Obj}
 use Rattle.lsa_region.specs.Region.{View, body, IsFreed}

@@ -1,4 +1,4 @@
-use Rattle.std.proofs.Common.{◌≡◌, ◌+◌, length, Some, ap, sym, ◌∙◌, arith}
+use Rattle.std.proofs.Common.{◌≡◌, ◌+◌, length, ap, sym, ◌∙◌, arith}
 use Rattle.lsa_kinds.specs.Kinds.{up8}
 use Rattle.rc_position.specs.Position.{row_pos}
 use Rattle.rc_rowcode.specs.Objects.{entry_size}
