@@ -167,21 +167,18 @@ fn dummies(rt: HostRuntime) -> Result<(), Fail> {
 }
 
 // A mark without a tombstone.
-fn plain(flag: Flag) -> Mark {
+pub(crate) fn plain(flag: Flag) -> Mark {
     Mark { flag, tomb: None }
 }
 
 // The code of a row, put into scratch space; none where the bytes are no row's code.
-fn coded(alloc: Global, code: &[u8]) -> Result<Option<Scratch>, AllocError>
+pub(crate) fn coded(alloc: Global, code: &[u8]) -> Result<Option<Scratch>, AllocError>
     ensures { IfOk result (λ found. IfSome found (λ scratch. IsCode code_of IsCodedRow scratch.bytes)) }
 {
     let Some((row, _)) = read_row(alloc, code)? else {
         return Ok(None);
     };
-    if row_size(&row) > 400 {
-        return Ok(None);
-    }
-    let mut scratch = Scratch::new(alloc, 400)?;
+    let mut scratch = Scratch::new(alloc, row_size(&row))?;
     scratch.put_row(&row);
     Ok(Some(scratch))
 }

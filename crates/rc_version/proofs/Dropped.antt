@@ -28,9 +28,9 @@ use Rattle.rc_version.specs.Versions.{tree_of, IsVersionOf, IsKeptBeside, IsKept
 use Rattle.rc_version.specs.laws.Objects.{holds-stands, holds-same, holds-extent}
 use Rattle.rc_version.specs.laws.Holding.{AreAround, both-around, before-end, bytes-same, bytes-with, hold-kept}
 use Rattle.rc_version.specs.laws.Marked.{none-balances, none-freed}
-use Rattle.rc_version.specs.laws.Staying.{step-kept, freed-version, freed-kept, freed-entry, version-kind, kept-then}
+use Rattle.rc_version.specs.laws.Staying.{static-off, step-kept, freed-version, freed-kept, freed-entry, version-kind, kept-then}
 use Rattle.rc_version.proofs.Taken.{freed-live, loose-unset, take-step, take-held, take-still, take-version}
-use Rattle.rc_version.proofs.Written.{marked-kept_by, marked-version, rewritten-live, rewritten-none, rewritten-others, rewritten-usages}
+use Rattle.rc_version.proofs.Written.{marked-kept_by, marked-version, rewritten-link, rewritten-live, rewritten-none, rewritten-others, rewritten-usages}
 
 lighter : (new freed put old size s before after other : ℕ) → new ≡ freed → freed + size ≡ put → put ≡ old → before ≡ size + other → after ≡ other → new + (64 + (s + before)) ≡ old + (64 + (s + after))
 lighter new freed put old size s before after other a b d f k = omega arith
@@ -103,6 +103,10 @@ module _ (S : ℕ) (old put freed new : View) (n e next : Ref) (front rest : Lis
 
       pub drop-gone : body new e ≡ None
       drop-gone = rewritten-others freed new next rewritten e (λ is. freed-entry put freed e well_put free drop-unset n (front ++ (next ∷ rest)) removed (subst (Contains (front ++ (next ∷ rest))) (sym is) (member-here front rest next))) ∙ free.here
+
+      -- the static row is the same object
+      pub drop-statics : link_of new (Obj n 3) ≡ link_of old (Obj n 3)
+      drop-statics = rewritten-link freed new next rewritten (Obj n 3) ∙ free.links (Obj n 3) ∙ elsewhere (Obj n 3) (static-off old n (version-kind old n all c h))
 
       pub drop-none : IsNoneMade old new
       drop-none q gone = rewritten-none freed new next rewritten q (none-freed put freed e free q (none-balances old put all objects q gone))

@@ -61,6 +61,7 @@ at-once S v n r x well found refs c h = record {
   at = (found refs c h).3;
   unlisted = fresh-unlisted (MayChange v n) n v v well (kept-same (MayChange v n) n v);
   own = λ q gone there. absurd (none-there (body v q) gone there);
+  statics = refl;
   held = λ q e k. k;
   kept = kept-same (MayChange v n) n v;
   parts = λ q k. k;

@@ -32,10 +32,10 @@ use Rattle.rc_object.specs.Objects.{HasRoomFor, HoldsEntry, IsMade, entry_length
 use Rattle.rc_version.specs.Versions.{tree_of, CanJoin, IsJoined, IsKeptBut, IsUnlisted, IsVersionOf, IsWeighed, HasWhatWasMade, MayChange, bytes_at, entries_bytes, entry_bytes, joined_bytes, statics_bytes}
 use Rattle.rc_version.specs.laws.Holding.{IsAround, bytes-with, each-earlier, later-at}
 use Rattle.rc_version.specs.laws.Objects.{holds-stands}
-use Rattle.rc_version.specs.laws.Staying.{made-added}
+use Rattle.rc_version.specs.laws.Staying.{made-added, version-kind}
 use Rattle.rc_version.proofs.Gaps.{changed-at, entries-ascend, entry-of, split-gap, split-here, weighed-with}
-use Rattle.rc_version.proofs.Swapped.{swap-alike, swap-kept, swap-live, swap-own, swap-spare, swap-stands, swap-there, swap-unset, swap-version}
-use Rattle.rc_version.proofs.Putting.{fresh-unlisted, put-fits, put-held, put-kept, put-live, put-loose, put-own, put-spare, put-tree, put-version}
+use Rattle.rc_version.proofs.Swapped.{swap-alike, swap-kept, swap-live, swap-own, swap-spare, swap-stands, swap-statics, swap-there, swap-unset, swap-version}
+use Rattle.rc_version.proofs.Putting.{fresh-unlisted, put-fits, put-held, put-kept, put-live, put-loose, put-own, put-spare, put-statics, put-tree, put-version}
 
 -- the row of a key stands before the end
 pub key-before_end : (key : List Comp) → IsBefore (row_pos key) end_position
@@ -112,6 +112,9 @@ module _ (S : ℕ) (old mid new : View) (n r next : Ref) (x : Pos) (row : Row) (
     kept : IsKeptBut n old new
     kept = put-kept S old mid n r size e made held front back tree well new others elsewhere (objects (front ++ back) mid_tree)
 
+    statics : link_of new (Obj n 3) ≡ link_of old (Obj n 3)
+    statics = put-statics S old mid n r size e made held front back tree well new others elsewhere (objects (front ++ back) mid_tree) (version-kind old n refs c h)
+
     own : HasWhatWasMade n old new
     own = put-own S old mid n r size e made held front back tree well new others elsewhere (objects (front ++ back) mid_tree) version.tree
 
@@ -133,6 +136,7 @@ module _ (S : ℕ) (old mid new : View) (n r next : Ref) (x : Pos) (row : Row) (
     at = stands refs c h;
     unlisted = fresh-unlisted (MayChange old n) n old new well_old (kept refs c h);
     own = own refs c h;
+    statics = statics refs c h;
     kept = kept refs c h;
     spare = spare;
     live = live;
@@ -229,6 +233,9 @@ module _ (S : ℕ) (old mid put new : View) (n q r : Ref) (x : Pos) (row : Row)
       all_kept : IsKeptBut n old new
       all_kept = swap-kept S old mid n q r size' d (made z.here z.holds) (held z.here z.holds) before behind old_tree well put others elsewhere (objects (before ++ (q ∷ behind)) middle) well_put out unlisted well_old new freed budget moved compacted risen
 
+      all_statics : link_of new (Obj n 3) ≡ link_of old (Obj n 3)
+      all_statics = swap-statics S old mid n q r size' d (made z.here z.holds) (held z.here z.holds) before behind old_tree well put others elsewhere (objects (before ++ (q ∷ behind)) middle) well_put out unlisted well_old new freed budget moved compacted risen (version-kind old n refs c h)
+
       all_own : HasWhatWasMade n old new
       all_own = swap-own S old mid n q r size' d (made z.here z.holds) (held z.here z.holds) before behind old_tree well put others elsewhere (objects (before ++ (q ∷ behind)) middle) well_put out unlisted well_old new freed budget moved compacted risen now.tree
 
@@ -256,6 +263,7 @@ module _ (S : ℕ) (old mid put new : View) (n q r : Ref) (x : Pos) (row : Row)
     at = stands_there refs c h freed budget moved compacted risen;
     unlisted = fresh-unlisted (MayChange old n) n old new well_old (all_kept refs c h freed budget moved compacted risen);
     own = all_own refs c h freed budget moved compacted risen;
+    statics = all_statics refs c h freed budget moved compacted risen;
     kept = all_kept refs c h freed budget moved compacted risen;
     spare = λ refs c h. less_spare refs c h freed budget moved compacted risen same;
     live = λ refs c h. more_live refs c h freed budget moved compacted risen less;

@@ -136,3 +136,7 @@ module _ (S : ℕ) (old mid : View) (n r : Ref) (size : ℕ) (e : Entry) (made :
         | inl is ↦ inr (inl (front ++ (r ∷ back), now, subst (Contains (front ++ (r ∷ back))) (sym is) (member-here front back r)))
         | inr ne ↦ absurd (none-there (body new q) (none-balances mid new (front ++ back) objects q ((made-added S old mid r size made).others q ne ∙ fresh)) there)
       ]
+
+      -- the static row is the same object
+      pub put-statics : IsSomeAnd (body old n) (λ b. b.0 ≡ VersionKind) → link_of new (Obj n 3) ≡ link_of old (Obj n 3)
+      put-statics kind = elsewhere (Obj n 3) (static-off mid n (subst (λ (o : Option (Kind × List ℕ)). IsSomeAnd o (λ b. b.0 ≡ VersionKind)) (sym (made-same S old mid r size made n (some-there _ (body old n) kind))) kind)) ∙ (made-added S old mid r size made).links (Obj n 3)

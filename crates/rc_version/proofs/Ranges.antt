@@ -1,15 +1,19 @@
 -- A version with a range tombstone joined: split at both ends, and raised between.
-use Rattle.std.proofs.Common.{◌≡◌, ℕ, ◌+◌, ◌≤◌, List, [], ◌∷◌, ◌++◌, map, Some, inl, inr, refl, sym, ap, ◌∙◌, subst, arith}
+use Rattle.std.proofs.Common.{◌≡◌, ℕ, ◌+◌, ◌≤◌, List, [], ◌∷◌, ◌++◌, map, Some, None, IsSome, ◌⊎◌, inl, inr, refl, sym, ap, ◌∙◌, subst, arith}
 use Rattle.std.specs.Prelude.{Contains}
 use Rattle.std.proofs.lemmas.List.Elements.{Contains-append_cases, Contains-append_left, Contains-append_right}
 use Rattle.rc_cell.specs.declared.writes.Tomb.{Tomb}
 use Rattle.rc_position.specs.declared.positions.Pos.{Pos}
 use Rattle.rc_position.specs.Position.{IsBefore}
 use Rattle.lsa_store.specs.declared.place.Ref.{Ref}
-use Rattle.lsa_region.specs.Region.{View, live_bytes}
+use Rattle.lsa_region.specs.declared.end.End.{End}
+use Rattle.lsa_region.specs.declared.end.End.TheVariants.{Obj}
+use Rattle.lsa_region.specs.Region.{View, body, link_of, live_bytes}
 use Rattle.lsa_path.specs.laws.Members.{member-cases, member-here, member-later, member-split}
 use Rattle.lsa_tree.specs.Entries.{AreAscending, IsEntryAtPosition, StandsEarlier}
 use Rattle.lsa_tree.specs.laws.Orders.{all-at, ascending-split, before-at, not-both, stands-once}
+use Rattle.lsa_tree.specs.laws.Trees.{tree-once}
+use Rattle.lsa_tree.specs.Tree.{IsTree}
 use Rattle.rc_core.specs.Change.{change, changed, join_range, raised_mark, split, with_gap, with_mark, with_marks}
 use Rattle.rc_core.specs.Continuity.{with_entries}
 use Rattle.rc_core.specs.declared.entries.Entry.{Entry}
@@ -17,12 +21,14 @@ use Rattle.rc_core.specs.declared.entries.Mark.{Mark}
 use Rattle.rc_core.specs.laws.Surgery.{change-over}
 use Rattle.rc_core.specs.Steps.{range_joined}
 use Rattle.rc_core.specs.Version.{Version, Ascend}
-use Rattle.rc_version.specs.Versions.{ArePutAmong, HoldEntries, IsKeptBeside, IsKeptBut, IsSplit, IsVersionOf, IsWeighed, MayChange, entries_bytes, entry_bytes, statics_bytes, version_bytes}
+use Rattle.rc_version.specs.Versions.{tree_of, ArePutAmong, HoldEntries, IsKeptBeside, IsKeptBut, IsSplit, IsVersionOf, IsStaticsOf, IsWeighed, HasWhatWasMade, MayChange, entries_bytes, entry_bytes, statics_bytes, version_bytes}
 use Rattle.rc_version.specs.calls.Raising.{IsRaising}
 use Rattle.rc_version.specs.laws.Holding.{IsAround, around}
 use Rattle.rc_version.specs.laws.Objects.{holds-stands}
 use Rattle.rc_version.specs.laws.Staying.{kept-then, kept-wider}
 use Rattle.rc_version.proofs.Gaps.{entry-in, split-here}
+use Rattle.rc_version.proofs.Putting.{member-decided}
+use Rattle.rc_version.proofs.Written.{none_or_some}
 
 put-member : (v : View) (r : Ref) (refs now : List Ref) → ArePutAmong v r refs now → Contains now r
 put-member v r refs now (inl k) = subst (λ l. Contains l r) (sym k.0) k.1
@@ -175,3 +181,34 @@ module _ (S : ℕ) (old mid new : View) (n first last : Ref) (from to : Pos) (to
     range-kept now last_kept = kept-then (MayChange old n) n old mid now one.kept
         (kept-then (MayChange old n) n mid new now (kept-wider (MayChange mid n) (MayChange old n) n mid new one.parts two.kept)
         (kept-wider (Contains both) (MayChange old n) n new now (λ q k. one.parts q (two.parts q (inr (inr (inl (both, v2.tree, k)))))) last_kept))
+
+    -- what was made is of the version, first by one split or by the other
+    made_first : (q : Ref) → body old q ≡ None → IsSome (body mid q) → Contains both q ⊎ ((q ≡ n) ⊎ IsStaticsOf new n q)
+    made_first q fresh there = elim (one.own q fresh there) [
+      | inl is ↦ inr (inl is)
+      | inr part ↦ elim part [
+        | inl k ↦ inl (put-wider mid last refs1 both (two.entries (one.entries refs c h).0 (with_entries (split from c.entries) c) (one.entries refs c h).2).1 q (subst (λ l. Contains l q) (tree-once (tree_of n) mid k.0 refs1 k.1 v1.tree) k.2))
+        | inr named ↦ inr (inr (two.statics ∙ named))
+      ]
+    ]
+
+    made_last : (q : Ref) → body mid q ≡ None → IsSome (body new q) → Contains both q ⊎ ((q ≡ n) ⊎ IsStaticsOf new n q)
+    made_last q fresh there = elim (two.own q fresh there) [
+      | inl is ↦ inr (inl is)
+      | inr part ↦ elim part [
+        | inl k ↦ inl (subst (λ l. Contains l q) (tree-once (tree_of n) new k.0 both k.1 v2.tree) k.2)
+        | inr named ↦ inr (inr named)
+      ]
+    ]
+
+    made_both : (q : Ref) → body old q ≡ None → IsSome (body new q) → Contains both q ⊎ ((q ≡ n) ⊎ IsStaticsOf new n q)
+    made_both q fresh there = elim (none_or_some (body mid q)) [ inl gone ↦ made_last q gone there | inr here ↦ made_first q fresh here ]
+
+    pub range-own : (now : View) → IsKeptBeside (Contains both) n new now → IsTree (tree_of n) now both → ((e : End) → link_of now e ≡ link_of new e) → HasWhatWasMade n old now
+    range-own now last_kept tree links q fresh there = elim (member-decided both q) [
+      | inl k ↦ inr (inl (both, tree, k))
+      | inr out ↦ elim (made_both q fresh (subst IsSome (last_kept.bodies q out) there)) [
+        | inl k ↦ inr (inl (both, tree, k))
+        | inr part ↦ elim part [ inl is ↦ inl is | inr named ↦ inr (inr (links (Obj n 3) ∙ named)) ]
+      ]
+    ]

@@ -24,7 +24,7 @@ use Rattle.rc_version.specs.laws.Objects.{holds-stands}
 use Rattle.rc_version.specs.laws.Holding.{IsAround}
 use Rattle.rc_version.specs.laws.Staying.{made-added, version-kind}
 use Rattle.rc_version.proofs.Gaps.{entry-of, split-gap, weighed-with}
-use Rattle.rc_version.proofs.Putting.{fresh-unlisted, put-all, put-parts, put-tree, put-fits, put-held, put-version, put-kept, put-own, put-spare, put-live}
+use Rattle.rc_version.proofs.Putting.{fresh-unlisted, put-all, put-parts, put-tree, put-fits, put-held, put-version, put-kept, put-own, put-spare, put-statics, put-live}
 
 module _ (S : ℕ) (old mid new : View) (n r next : Ref) (x : Pos) (m : Mark) (made : IsMade S old mid r (dummy_size x)) (held : HoldsEntry mid r (dummy x m))
     (well_old : IsWell old) (well : IsWell mid) (marks : (e : Entry) → HoldsEntry old next e → m ≡ e.gap)
@@ -77,6 +77,9 @@ module _ (S : ℕ) (old mid new : View) (n r next : Ref) (x : Pos) (m : Mark) (m
     put_parts = put-parts S old mid n r (dummy_size x) e made held front back tree well new others elsewhere (objects (front ++ back) mid_tree) (version-kind old n refs c h)
         (inserted front back x mid_tree (holds-stands mid r e held) (put-fits S old mid n r (dummy_size x) e made held front back tree x fits))
 
+    statics : link_of new (Obj n 3) ≡ link_of old (Obj n 3)
+    statics = put-statics S old mid n r (dummy_size x) e made held front back tree well new others elsewhere (objects (front ++ back) mid_tree) (version-kind old n refs c h)
+
     own : HasWhatWasMade n old new
     own = put-own S old mid n r (dummy_size x) e made held front back tree well new others elsewhere (objects (front ++ back) mid_tree) version.tree
 
@@ -96,6 +99,7 @@ module _ (S : ℕ) (old mid new : View) (n r next : Ref) (x : Pos) (m : Mark) (m
     at = stands refs c h;
     unlisted = fresh-unlisted (MayChange old n) n old new well_old (kept refs c h);
     own = own refs c h;
+    statics = statics refs c h;
     held = held_all refs c h;
     kept = kept refs c h;
     parts = put_parts refs c h;

@@ -1,7 +1,8 @@
 -- A version after an entry was made and put in the place of another one, which was freed.
-use Rattle.std.proofs.Common.{◌≡◌, ◌≢◌, ℕ, ◌+◌, ◌≤◌, List, ◌∷◌, ◌++◌, length, None, IsSome, inl, inr, sym, ap, ◌∙◌, subst}
+use Rattle.std.proofs.Common.{◌≡◌, ◌≢◌, ℕ, ◌+◌, ◌≤◌, List, ◌∷◌, ◌++◌, length, Option, None, IsSome, inl, inr, sym, ap, ◌∙◌, subst}
 use Rattle.std.specs.Prelude.{IsSomeAnd, Contains}
 use Rattle.std.proofs.lemmas.List.Elements.{Contains-append_left, Contains-append_right}
+use Rattle.lsa_kinds.specs.declared.kind.Kind.{Kind}
 use Rattle.lsa_kinds.specs.declared.kind.Kind.TheVariants.{Version as VersionKind}
 use Rattle.lsa_pool.specs.Room.{spare_of, live_sum}
 use Rattle.lsa_store.specs.declared.place.Ref.{Ref}
@@ -25,7 +26,7 @@ use Rattle.rc_version.specs.Versions.{tree_of, HoldEntries, IsVersionOf, IsKeptB
 use Rattle.rc_version.specs.laws.Objects.{holds-stands, holds-same, holds-extent}
 use Rattle.rc_version.specs.laws.Holding.{hold-both, hold-kept}
 use Rattle.rc_version.specs.laws.Marked.{none-balances, none-freed, none-there}
-use Rattle.rc_version.specs.laws.Staying.{made-added, made-same, made-version, made-kept, IsTreeStep, step-held, step-kept, step-version, versions-apart, freed-version, freed-kept, freed-entry, version-kind, kept-then}
+use Rattle.rc_version.specs.laws.Staying.{made-added, made-same, made-version, made-kept, IsTreeStep, step-held, step-kept, step-version, static-off, versions-apart, freed-version, freed-kept, freed-entry, version-kind, kept-then}
 use Rattle.rc_version.proofs.Putting.{put-loose, put-tree}
 use Rattle.rc_version.proofs.Taken.{freed-live, loose-unset}
 
@@ -108,6 +109,10 @@ module _ (S : ℕ) (old mid : View) (n q r : Ref) (size : ℕ) (d : Entry) (made
           | inl is ↦ inr (inl (front ++ (r ∷ back), now, subst (Contains (front ++ (r ∷ back))) (sym is) (member-here front back r)))
           | inr ne ↦ absurd (none-there (body new a) (none-freed put new q freed a (none-balances mid put (r ∷ all) objects a ((made-added S old mid r size made).others a ne ∙ fresh))) there)
         ]
+
+        -- the static row is the same object
+        pub swap-statics : IsSomeAnd (body old n) (λ b. b.0 ≡ VersionKind) → link_of new (Obj n 3) ≡ link_of old (Obj n 3)
+        swap-statics kind = freed.links (Obj n 3) ∙ elsewhere (Obj n 3) (static-off mid n (subst (λ (o : Option (Kind × List ℕ)). IsSomeAnd o (λ b. b.0 ≡ VersionKind)) (sym (made-same S old mid r size made n (some-there _ (body old n) kind))) kind)) ∙ (made-added S old mid r size made).links (Obj n 3)
 
         pub swap-gone : body new q ≡ None
         swap-gone = freed.here

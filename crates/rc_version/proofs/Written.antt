@@ -30,7 +30,7 @@ entry-beside v n front back r h k =
     let at = ascending-stands v (front ++ (r ∷ back)) r h.ascending (member-here front back r) in
     never-at v at.0 r (front ++ back) k front back refl (ascending-split v front back r at.0 at.1 h.ascending) at.1
 
-none_or_some : {X : Type 0} (o : Option X) → (o ≡ None) ⊎ IsSome o
+pub none_or_some : {X : Type 0} (o : Option X) → (o ≡ None) ⊎ IsSome o
 none_or_some None = inl refl
 none_or_some (Some x) = inr refl
 

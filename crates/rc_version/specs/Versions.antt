@@ -142,12 +142,13 @@ IsWeighed old new before after = live_bytes new + version_bytes before ≡ live_
 abbrev pub ArePutAmong : View → Ref → List Ref → List Ref → Type 0
 ArePutAmong old r refs now = ((now ≡ refs) × Contains refs r) ⊎ ((body old r ≡ None) × ((front : List Ref) × (back : List Ref) × (refs ≡ front ++ back) × (now ≡ front ++ (r ∷ back))))
 
--- version n was split at a position: r is the entry there, made where there was none, and is in no list then; each entry holds what it held, nothing else becomes a part of the version, and all else is as it was
+-- version n was split at a position: r is the entry there, made where there was none, and is in no list then; each entry holds what it held, the static row is the same object, nothing else becomes a part of the version, and all else is as it was
 pub record IsSplit (S : ℕ) (old new : View) (n : Ref) (x : Pos) (r : Ref) : Type 0 where
   pub entries : (refs : List Ref) (c : Version) → IsVersionOf old n refs c → (now : List Ref) × ArePutAmong old r refs now × IsVersionOf new n now (with_entries (split x c.entries) c)
   pub at : IsEntryAtPosition new r x
   pub unlisted : (q : Ref) → body old q ≡ None → IsUnlisted new q
   pub own : HasWhatWasMade n old new
+  pub statics : link_of new (Obj n 3) ≡ link_of old (Obj n 3)
   pub held : (q : Ref) (e : Entry) → HoldsEntry old q e → HoldsEntry new q e
   pub kept : IsKeptBut n old new
   pub parts : (q : Ref) → MayChange new n q → MayChange old n q
@@ -168,13 +169,14 @@ pub record CanJoin (S : ℕ) (v : View) (space : ℕ) (n : Ref) (x : Pos) (row :
 abbrev pub ArePutOrExchanged : View → Ref → List Ref → List Ref → Type 0
 ArePutOrExchanged new r refs now = (front : List Ref) × (back : List Ref) × (now ≡ front ++ (r ∷ back)) × ((refs ≡ front ++ back) ⊎ ((q : Ref) × (refs ≡ front ++ (q ∷ back)) × (body new q ≡ None)))
 
--- a row was joined to what version n has at a position: r is the entry there, made anew, and in no list; all else is as it was
+-- a row was joined to what version n has at a position: r is the entry there, made anew, and in no list; the static row is the same object, and all else is as it was
 pub record IsJoined (S : ℕ) (old new : View) (n : Ref) (x : Pos) (row : Row) (r : Ref) : Type 0 where
   pub entries : (refs : List Ref) (c : Version) → IsVersionOf old n refs c → (now : List Ref) × ArePutOrExchanged new r refs now × IsVersionOf new n now (row_joined x row c)
   pub fresh : body old r ≡ None
   pub at : IsEntryAtPosition new r x
   pub unlisted : (q : Ref) → body old q ≡ None → IsUnlisted new q
   pub own : HasWhatWasMade n old new
+  pub statics : link_of new (Obj n 3) ≡ link_of old (Obj n 3)
   pub kept : IsKeptBut n old new
   pub spare : (refs : List Ref) (c : Version) → IsVersionOf old n refs c → spare_of S old.usages ≤ spare_of S new.usages + joined_bytes x row c
   pub live : (refs : List Ref) (c : Version) → IsVersionOf old n refs c → IsWeighed old new c (row_joined x row c)

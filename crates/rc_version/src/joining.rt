@@ -7,13 +7,13 @@ ghost use Rattle.rc_rowcode.specs.Objects.{dummy_size};
 ghost use Rattle.rc_rowcode.specs.Spelling.{KeyFits};
 ghost use Rattle.lsa_pool.specs.Room.{spare_of};
 ghost use Rattle.lsa_store.specs.declared.place.Ref.{Ref as Name};
-ghost use Rattle.lsa_region.specs.Region.{body, IsWell};
+ghost use Rattle.lsa_region.specs.Region.{body, link_of, IsWell};
 ghost use Rattle.lsa_tree.specs.Search.{IsFound};
 ghost use Rattle.rc_core.specs.declared.entries.Entry.{Entry};
 ghost use Rattle.rc_core.specs.Steps.{range_joined};
 ghost use Rattle.rc_core.specs.Version.{Version, end_position};
 ghost use Rattle.rc_object.specs.Objects.{HasRoomFor, HoldsEntry, HoldsStatic, IsRowCode, entry_length};
-ghost use Rattle.rc_version.specs.Versions.{IsVersionOf, CanJoin, CanJoinLike, IsJoined, IsKeptBut, IsStaticsJoined, IsUnlisted, IsWeighed};
+ghost use Rattle.rc_version.specs.Versions.{IsVersionOf, CanJoin, CanJoinLike, IsJoined, IsKeptBut, IsStaticsJoined, IsUnlisted, IsWeighed, HasWhatWasMade};
 
 use crate::raising::raise_between;
 use crate::splitting::split;
@@ -202,6 +202,8 @@ pub fn join_range<const S: usize>(
     requires version { (refs : List Name) × (c : Version) × IsVersionOf region.old v refs c }
     ensures joined { (refs : List Name) (c : Version) → IsVersionOf region.old v refs c → (now : List Name) × ((r : Name) → Contains refs r → Contains now r) × IsVersionOf region.new v now (range_joined from.now to.now tomb c) }
     ensures unlisted { (r : Name) → body region.old r ≡ None → IsUnlisted region.new r }
+    ensures own { HasWhatWasMade v region.old region.new }
+    ensures statics { link_of region.new (End.Obj v 3) ≡ link_of region.old (End.Obj v 3) }
     ensures kept { IsKeptBut v region.old region.new }
     ensures spare { spare_of S region.old.usages ≤ spare_of S region.new.usages + (dummy_size from.now + dummy_size to.now) }
     ensures live { (refs : List Name) (c : Version) → IsVersionOf region.old v refs c → IsWeighed region.old region.new c (range_joined from.now to.now tomb c) }

@@ -2,7 +2,8 @@
 ghost use Rattle.std.specs.Prelude.{◌≡◌, ◌+◌, ◌≤◌, ◌↔◌, List, [], ◌∷◌, ◌++◌, Some, None, Contains, IsTrue};
 ghost use Rattle.rc_cell.specs.declared.writes.Tomb.{Tomb as TombValue};
 ghost use Rattle.lsa_store.specs.declared.place.Ref.{Ref as Name};
-ghost use Rattle.lsa_region.specs.Region.{objects, IsWell};
+ghost use Rattle.lsa_region.specs.declared.end.End.{End as Link};
+ghost use Rattle.lsa_region.specs.Region.{link_of, objects, IsWell};
 ghost use Rattle.rc_core.specs.Change.{raised_mark as raised, with_gap, with_mark};
 ghost use Rattle.rc_core.specs.Continuity.{with_entries};
 ghost use Rattle.rc_core.specs.declared.entries.Entry.{Entry};
@@ -23,6 +24,7 @@ fn raise_pair<const S: usize>(region: &mut Region<S>, _v: Ref, e: Ref, next: Ref
         HoldPair region.new _v front e next back (with_entries (before ++ (with_mark (raised (Some tomb)) x ∷ with_gap (raised (Some tomb) y.gap) y ∷ behind)) c) before (with_mark (raised (Some tomb)) x) (with_gap (raised (Some tomb) y.gap) y) behind }
     ensures kept { (front back : List Name) (c : Version) (before : List Entry) (x y : Entry) (behind : List Entry) → HoldPair region.old _v front e next back c before x y behind → IsKeptBeside (Contains (front ++ (e ∷ next ∷ back))) _v region.old region.new }
     ensures usages { region.new.usages ≡ region.old.usages }
+    ensures links { (end : Link) → link_of region.new end ≡ link_of region.old end }
     ensures well { IsWell region.new }
 {
     region.known();
@@ -51,6 +53,7 @@ pub(crate) fn raise_between<const S: usize>(
     ensures raised { (all : List Name) (c : Version) (target : List Entry) → IsRaising region.old v first last tomb all c target 0 → IsVersionOf region.new v all (with_entries target c) }
     ensures kept { (all : List Name) (c : Version) (target : List Entry) → IsRaising region.old v first last tomb all c target 0 → IsKeptBeside (Contains all) v region.old region.new }
     ensures usages { region.new.usages ≡ region.old.usages }
+    ensures links { (end : Link) → link_of region.new end ≡ link_of region.old end }
     ensures well { IsWell region.new }
 {
     region.known();

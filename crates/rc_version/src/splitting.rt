@@ -5,7 +5,7 @@ ghost use Rattle.rc_rowcode.specs.Objects.{dummy_size};
 ghost use Rattle.rc_rowcode.specs.Spelling.{KeyFits};
 ghost use Rattle.lsa_pool.specs.Room.{spare_of};
 ghost use Rattle.lsa_store.specs.declared.place.Ref.{Ref as Name};
-ghost use Rattle.lsa_region.specs.Region.{body, IsWell};
+ghost use Rattle.lsa_region.specs.Region.{body, link_of, IsWell};
 ghost use Rattle.lsa_tree.specs.Entries.{IsEntryAtPosition};
 ghost use Rattle.lsa_tree.specs.Search.{IsFound};
 ghost use Rattle.rc_core.specs.Change.{drop_at};
@@ -123,6 +123,7 @@ pub fn drop_entry<const S: usize>(region: &mut Region<S>, v: Ref, e: Ref)
     ensures dropped { (front back : List Name) (c : Version) (x : Position) → IsVersionOf region.old v (front ++ (e ∷ back)) c → IsEntryAtPosition region.old e x → IsVersionOf region.new v (front ++ back) (with_entries (drop_at x c.entries) c) }
     ensures gone { body region.new e ≡ None }
     ensures none { IsNoneMade region.old region.new }
+    ensures statics { link_of region.new (End.Obj v 3) ≡ link_of region.old (End.Obj v 3) }
     ensures kept { IsKeptBut v region.old region.new }
     ensures spare { spare_of S region.new.usages ≡ spare_of S region.old.usages }
     ensures live { (front back : List Name) (c : Version) (x : Position) → IsVersionOf region.old v (front ++ (e ∷ back)) c → IsEntryAtPosition region.old e x → IsWeighed region.old region.new c (with_entries (drop_at x c.entries) c) }

@@ -1,12 +1,13 @@
 use Rattle.std.proofs.Common.{◌+◌, ◌≤◌, None, arith, ap, sym, ◌∙◌, subst}
 use Rattle.lsa_pool.specs.Room.{live_sum, spare_of}
+use Rattle.lsa_region.specs.declared.end.End.TheVariants.{Obj}
 use Rattle.rc_rowcode.specs.Objects.{dummy_size}
 use Rattle.rc_core.specs.Change.{split}
 use Rattle.rc_core.specs.Continuity.{with_entries}
 use Rattle.rc_object.specs.Objects.{entry_length}
 use Rattle.rc_version.specs.Versions.{IsVersionOf, MayChange, version_bytes}
 use Rattle.rc_version.proofs.Putting.{fresh-unlisted}
-use Rattle.rc_version.proofs.Ranges.{both, both-wider, left-spare, range-kept, range-live, range-raising, two-spare}
+use Rattle.rc_version.proofs.Ranges.{both, both-wider, left-spare, range-kept, range-live, range-own, range-raising, two-spare}
 use Rattle.rc_version.proofs.joining.join_range.Goals as goal
 
 pub split-last-requires : goal.split-last-requires
@@ -46,3 +47,10 @@ returns-clause-spare g c = subst (λ us. spare_of g.row.S c.args.region.now.usag
 
 pub returns-clause-live : goal.returns-clause-live
 returns-clause-live g c = λ rs d h. ap (λ us. live_sum us + version_bytes d) c.raise_between.ensures.usages ∙ range-live g.row.S c.args.region.now c.split-first.new.region c.split-last.new.region c.args.v c.split-first.result c.split-last.result c.args.from.now c.args.to.now c.args.tomb c.split-first.ensures.split c.split-last.ensures.split c.requires.ascend rs d h
+
+pub returns-clause-own : goal.returns-clause-own
+returns-clause-own g c = let k = range-raising g.row.S c.args.region.now c.split-first.new.region c.split-last.new.region c.args.v c.split-first.result c.split-last.result c.args.from.now c.args.to.now c.args.tomb c.split-first.ensures.split c.split-last.ensures.split c.requires.ascend c.requires.version.0 c.requires.version.1 c.requires.version.2 in
+    range-own g.row.S c.args.region.now c.split-first.new.region c.split-last.new.region c.args.v c.split-first.result c.split-last.result c.args.from.now c.args.to.now c.args.tomb c.split-first.ensures.split c.split-last.ensures.split c.requires.ascend c.requires.version.0 c.requires.version.1 c.requires.version.2 c.raise_between.new.region (c.raise_between.ensures.kept (both g.row.S c.args.region.now c.split-first.new.region c.split-last.new.region c.args.v c.split-first.result c.split-last.result c.args.from.now c.args.to.now c.args.tomb c.split-first.ensures.split c.split-last.ensures.split c.requires.ascend c.requires.version.0 c.requires.version.1 c.requires.version.2) c.requires.version.1 k.0 k.1) (c.raise_between.ensures.raised (both g.row.S c.args.region.now c.split-first.new.region c.split-last.new.region c.args.v c.split-first.result c.split-last.result c.args.from.now c.args.to.now c.args.tomb c.split-first.ensures.split c.split-last.ensures.split c.requires.ascend c.requires.version.0 c.requires.version.1 c.requires.version.2) c.requires.version.1 k.0 k.1).tree c.raise_between.ensures.links
+
+pub returns-clause-statics : goal.returns-clause-statics
+returns-clause-statics g c = c.raise_between.ensures.links (Obj c.args.v 3) ∙ c.split-last.ensures.split.statics ∙ c.split-first.ensures.split.statics

@@ -21,12 +21,16 @@ pub returns-then-is_same-clause-kept : goal.returns-then-is_same-clause-kept
 returns-then-is_same-clause-kept g c = λ all d target h. kept-then (Contains all) c.args.v c.args.region.now c.loop-steps.region c.raise_pair.new.region (c.loop-steps.invariant.kept all d target h)
     (pair-keeps c.loop-steps.region c.raise_pair.new.region c.args.v c.loop-steps.passed c.args.last c.in-Some.next c.args.tomb all d target c.loop-steps.steps (c.loop-steps.invariant.raising all d target h) (sym (c.next.ensures (c.loop-steps.invariant.raising all d target h).front ((c.loop-steps.invariant.raising all d target h).between ++ (c.args.last ∷ (c.loop-steps.invariant.raising all d target h).back)) (raising-at c.loop-steps.region c.args.v c.loop-steps.passed c.args.last c.args.tomb all d target c.loop-steps.steps (c.loop-steps.invariant.raising all d target h))) ∙ c.in-Some.is) c.raise_pair.ensures.kept)
 
+pub returns-then-is_same-clause-links : goal.returns-then-is_same-clause-links
+returns-then-is_same-clause-links g c = λ e. c.raise_pair.ensures.links e ∙ c.loop-steps.invariant.links e
+
 pub loop-steps-preserved : goal.loop-steps-preserved
 loop-steps-preserved g c = record {
   raising = λ all d target h. (raising-step c.loop-steps.region c.raise_pair.new.region c.args.v c.loop-steps.passed c.args.last c.in-Some.next c.args.tomb all d target c.loop-steps.steps (c.loop-steps.invariant.raising all d target h) (sym (c.next.ensures (c.loop-steps.invariant.raising all d target h).front ((c.loop-steps.invariant.raising all d target h).between ++ (c.args.last ∷ (c.loop-steps.invariant.raising all d target h).back)) (raising-at c.loop-steps.region c.args.v c.loop-steps.passed c.args.last c.args.tomb all d target c.loop-steps.steps (c.loop-steps.invariant.raising all d target h))) ∙ c.in-Some.is) c.raise_pair.ensures.raised).1 (λ e. let both = sym c.if-is_same.false ∙ c.is_same.ensures.1 e in cc);
   kept = λ all d target h. kept-then (Contains all) c.args.v c.args.region.now c.loop-steps.region c.raise_pair.new.region (c.loop-steps.invariant.kept all d target h)
       (pair-keeps c.loop-steps.region c.raise_pair.new.region c.args.v c.loop-steps.passed c.args.last c.in-Some.next c.args.tomb all d target c.loop-steps.steps (c.loop-steps.invariant.raising all d target h) (sym (c.next.ensures (c.loop-steps.invariant.raising all d target h).front ((c.loop-steps.invariant.raising all d target h).between ++ (c.args.last ∷ (c.loop-steps.invariant.raising all d target h).back)) (raising-at c.loop-steps.region c.args.v c.loop-steps.passed c.args.last c.args.tomb all d target c.loop-steps.steps (c.loop-steps.invariant.raising all d target h))) ∙ c.in-Some.is) c.raise_pair.ensures.kept);
   usages = c.raise_pair.ensures.usages ∙ c.loop-steps.invariant.usages;
+  links = λ e. c.raise_pair.ensures.links e ∙ c.loop-steps.invariant.links e;
   well = c.raise_pair.ensures.well;
 }
 

@@ -2,6 +2,7 @@ use Rattle.std.proofs.Common.{Some, arith, ap, ◌∙◌, subst}
 use Rattle.rc_core.specs.Change.{raised_mark}
 use Rattle.rc_object.specs.Objects.{HoldsEntry, entry_of}
 use Rattle.rc_version.proofs.Raised.{pair-kept, pair-next, pair-raised, pair-usages}
+use Rattle.rc_version.proofs.Written.{rewritten-link}
 use Rattle.rc_version.proofs.raising.raise_pair.Goals as goal
 
 pub marks-requires : goal.marks-requires
@@ -27,3 +28,6 @@ returns-clause-kept g c = λ front back v before x y behind h. pair-kept c.args.
 
 pub returns-clause-usages : goal.returns-clause-usages
 returns-clause-usages g c = pair-usages c.args.region.now c.set_marks.new.region c.set_marks-2.new.region c.args._v c.args.e c.args.next c.args.tomb c.requires.0 c.requires.1 c.requires.2 c.requires.3 c.requires.4 c.requires.5 c.requires.6 c.requires.7 c.set_marks.ensures.rewritten c.set_marks.ensures.alike (subst (HoldsEntry c.set_marks.new.region c.args.e) (λ i. entry_of c.requires.4.position c.requires.4.row ((c.raised_mark.ensures ∙ ap (raised_mark (Some c.args.tomb)) (c.marks.ensures c.requires.4 c.requires.7.holds).0) i) ((c.marks.ensures c.requires.4 c.requires.7.holds).1 i)) (c.set_marks.ensures.holds c.requires.4 c.requires.7.holds)) c.set_marks-2.ensures.rewritten c.set_marks-2.ensures.alike
+
+pub returns-clause-links : goal.returns-clause-links
+returns-clause-links g c = λ e. rewritten-link c.set_marks.new.region c.set_marks-2.new.region c.args.next c.set_marks-2.ensures.rewritten e ∙ rewritten-link c.args.region.now c.set_marks.new.region c.args.e c.set_marks.ensures.rewritten e

@@ -5,7 +5,7 @@ use Rattle.rc_version.specs.laws.Holding.{both-around}
 use Rattle.rc_object.specs.Objects.{HoldsEntry, entry_of}
 use Rattle.rc_version.specs.Versions.{IsVersionOf}
 use Rattle.rc_version.proofs.Taken.{first-none, last-at-end, next-split}
-use Rattle.rc_version.proofs.Dropped.{drop-unset, drop-there, drop-next, drop-kept, drop-spare, drop-gone, drop-none, drop-version, drop-live}
+use Rattle.rc_version.proofs.Dropped.{drop-unset, drop-there, drop-next, drop-kept, drop-spare, drop-gone, drop-none, drop-statics, drop-version, drop-live}
 use Rattle.rc_version.proofs.splitting.drop_entry.Goals as goal
 
 pub remove-requires : goal.remove-requires
@@ -101,4 +101,11 @@ returns-clause-none g c =
     let s = next-split c.requires.version.1 c.in-Some.next (sym (c.next.ensures c.requires.version.0 c.requires.version.1 c.requires.version.3.tree) ∙ c.in-Some.is) in
     let held = subst (λ l. IsVersionOf c.args.region.now c.args.v (c.requires.version.0 ++ (c.args.e ∷ l)) c.requires.version.2) s.1 c.requires.version.3 in
     drop-none g.row.S c.args.region.now c.remove.new.region c.free_obj.new.self c.set_marks.new.region c.args.v c.args.e c.in-Some.next c.requires.version.0 s.0 c.requires.version.2 held c.known.ensures.well c.remove.ensures.well c.free_obj.ensures.well c.requires.unlisted
+    c.remove.ensures.others c.remove.ensures.elsewhere (c.remove.ensures.objects (c.requires.version.0 ++ (c.args.e ∷ c.in-Some.next ∷ s.0)) held.tree) (c.remove.ensures.removed c.requires.version.0 (c.in-Some.next ∷ s.0) held.tree) c.remove.ensures.out c.free_obj.ensures.freed c.free_obj.ensures.budget c.free_obj.ensures.moved c.free_obj.ensures.compacted c.free_obj.ensures.epoch c.set_marks.ensures.rewritten c.set_marks.ensures.alike
+
+pub returns-clause-statics : goal.returns-clause-statics
+returns-clause-statics g c =
+    let s = next-split c.requires.version.1 c.in-Some.next (sym (c.next.ensures c.requires.version.0 c.requires.version.1 c.requires.version.3.tree) ∙ c.in-Some.is) in
+    let held = subst (λ l. IsVersionOf c.args.region.now c.args.v (c.requires.version.0 ++ (c.args.e ∷ l)) c.requires.version.2) s.1 c.requires.version.3 in
+    drop-statics g.row.S c.args.region.now c.remove.new.region c.free_obj.new.self c.set_marks.new.region c.args.v c.args.e c.in-Some.next c.requires.version.0 s.0 c.requires.version.2 held c.known.ensures.well c.remove.ensures.well c.free_obj.ensures.well c.requires.unlisted
     c.remove.ensures.others c.remove.ensures.elsewhere (c.remove.ensures.objects (c.requires.version.0 ++ (c.args.e ∷ c.in-Some.next ∷ s.0)) held.tree) (c.remove.ensures.removed c.requires.version.0 (c.in-Some.next ∷ s.0) held.tree) c.remove.ensures.out c.free_obj.ensures.freed c.free_obj.ensures.budget c.free_obj.ensures.moved c.free_obj.ensures.compacted c.free_obj.ensures.epoch c.set_marks.ensures.rewritten c.set_marks.ensures.alike
