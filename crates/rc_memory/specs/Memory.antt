@@ -1,0 +1,114 @@
+-- What a shard keeps in memory, as its users see it.
+--     KeptChain     a chain of versions, and the cleaner's mark on it
+--     Member        where an object of a chain stands: its chain, its version, and its position there
+--     Memory        all chains, the recency list, the numbers of dropped chains, the counts; beside them the region, and which of its objects hold the chains
+--     IsAt          an object of the region stands there
+--     IsUntouched   the chains, the recency list and all else but the region is as it was
+use Rattle.std.specs.Prelude.{◌≡◌, ◌<◌, ℕ, suc, Bool, true, List, [], ◌∷◌, ◌++◌, Option, Some, None, IsSome, IsSomeAnd, option_map, length, map, slice_index_or, Contains}
+use Rattle.rc_position.specs.declared.positions.Pos.{Pos}
+use Rattle.lsa_store.specs.declared.place.Ref.{Ref}
+use Rattle.lsa_region.specs.Region.{View}
+use Rattle.lsa_tree.specs.Entries.{IsEntryAtPosition}
+use Rattle.rc_core.specs.Chains.{Shown}
+use Rattle.rc_core.specs.Steps.{on_version}
+use Rattle.rc_core.specs.Version.{Version}
+use Rattle.rc_version.specs.Versions.{IsStaticsOf}
+use Rattle.rc_partition.specs.Partitions.{PartitionEntry, StandingVersion}
+use Rattle.rc_registry.specs.Registry.{put}
+use Rattle.rc_memory.specs.declared.counts.Counts.{Counts}
+
+-- a chain of versions, and the cleaner's mark that it left the chain unmerged
+pub record KeptChain : Type 0 where
+  pub chain : Shown
+  pub passed : Bool
+
+-- where an object of a chain stands: the number of the chain, that of the version, counted from the oldest, and the position of an entry, or none of the static row
+pub record Member : Type 0 where
+  pub chain : ℕ
+  pub version : ℕ
+  pub position : Option Pos
+
+-- by its number each chain; the recency list, the least recent first; the numbers of chains that were dropped and not yet told, the first one first; the counts; the region, and by
+-- the number of a chain its versions as they stand there
+pub record Memory : Type 0 where
+  pub chains : List (Option KeptChain)
+  pub recency : List Member
+  pub dropped : List ℕ
+  pub counts : Counts
+  pub region : View
+  pub standing : List (Option PartitionEntry)
+
+-- the chain of a number; None where there is none
+abbrev pub chain_at : Memory → ℕ → Option KeptChain
+chain_at m id = slice_index_or m.chains id None
+
+-- there is a chain of this number
+abbrev pub HasChain : Memory → ℕ → Type 0
+HasChain m id = IsSome (chain_at m id)
+
+-- there is, and it has a version of this number
+abbrev pub HasVersion : Memory → ℕ → ℕ → Type 0
+HasVersion m id j = IsSomeAnd (chain_at m id) (λ k. j < length k.chain.versions)
+
+-- of these versions the one of a number, counted from the oldest
+pub record IsVersionAt {X : Type 0} (versions : List X) (j : ℕ) (v : X) : Type 0 where
+  pub older : List X
+  pub newer : List X
+  pub split : versions ≡ older ++ (v ∷ newer)
+  pub number : length older ≡ j
+
+-- an object of a version as it stands in the region: its static row, or its entry at a position
+abbrev pub IsOfVersion : View → StandingVersion → Option Pos → Ref → Type 0
+IsOfVersion v s None r = IsStaticsOf v s.object r
+IsOfVersion v s (Some x) r = Contains s.entries r × IsEntryAtPosition v r x
+
+-- an object of the region stands at this place, where these chains stand in it
+pub record IsObjectAt (v : View) (standing : List (Option PartitionEntry)) (r : Ref) (w : Member) : Type 0 where
+  pub partition : PartitionEntry
+  pub version : StandingVersion
+  pub chain : slice_index_or standing w.chain None ≡ Some partition
+  pub number : IsVersionAt partition.versions w.version version
+  pub object : IsOfVersion v version w.position r
+
+-- an object of the region stands at this place
+abbrev pub IsAt : Memory → Ref → Member → Type 0
+IsAt m r w = IsObjectAt m.region m.standing r w
+
+-- an object of the region is the version of this number of a chain
+abbrev pub IsVersionObject : Memory → ℕ → ℕ → Ref → Type 0
+IsVersionObject m id j n = IsSomeAnd (slice_index_or m.standing id None) (λ p. (s : StandingVersion) × IsVersionAt p.versions j s × (s.object ≡ n))
+
+-- all but the region is as it was: objects may have moved
+pub record IsUntouched (old new : Memory) : Type 0 where
+  pub chains : new.chains ≡ old.chains
+  pub recency : new.recency ≡ old.recency
+  pub dropped : new.dropped ≡ old.dropped
+  pub counts : new.counts ≡ old.counts
+
+-- ---- what is done to a chain
+
+-- something done to the chain of a number; all others are as they were
+abbrev pub on_chain : ℕ → (KeptChain → KeptChain) → List (Option KeptChain) → List (Option KeptChain)
+on_chain id f chains = put id (option_map f (slice_index_or chains id None)) chains
+
+-- something done to a chain as it is shown
+abbrev pub on_shown : (Shown → Shown) → KeptChain → KeptChain
+on_shown f k = record { chain = f k.chain; passed = k.passed }
+
+-- the chain with other versions, and with something done to the version of a number
+abbrev pub shown_with : List Version → Shown → Shown
+shown_with versions c = record { kind = c.kind; versions = versions; attached = c.attached; updating = c.updating; pins = c.pins }
+
+abbrev pub on_version_of : ℕ → (Version → Version) → Shown → Shown
+on_version_of j f c = shown_with (on_version j f c.versions) c
+
+-- the chain with other pins
+abbrev pub shown_pinned : List (Option ℕ) → Shown → Shown
+shown_pinned pins c = record { kind = c.kind; versions = c.versions; attached = c.attached; updating = c.updating; pins = pins }
+
+-- the counts, the recency list and the dropped numbers are as they were, and the chains are these
+pub record HasChains (now : List (Option KeptChain)) (old new : Memory) : Type 0 where
+  pub chains : new.chains ≡ now
+  pub recency : new.recency ≡ old.recency
+  pub dropped : new.dropped ≡ old.dropped
+  pub counts : new.counts ≡ old.counts

@@ -1,0 +1,3 @@
+-- Laws of chains in memory.
+pub mod One
+pub mod Places
