@@ -1,0 +1,4 @@
+mod Added
+mod Chains
+mod Dropped
+mod Passing

@@ -1,0 +1,37 @@
+use Rattle.std.proofs.Common.{◌∷◌, [], None, reverse, refl, arith}
+use Rattle.lsa_region.specs.declared.end.End.TheVariants.{Slot}
+use Rattle.rc_core.specs.Steps.{version_of}
+use Rattle.rc_version.specs.laws.Marked.{marked-objects, marked-then}
+use Rattle.rc_partition.specs.Partitions.{objects_of}
+use Rattle.rc_partition.proofs.Added.{mid-path, mid-slot, stands-added, end-unlisted}
+use Rattle.rc_partition.proofs.Dropped.{bare-bytes}
+use Rattle.rc_partition.proofs.Passing.{version-end}
+use Rattle.rc_partition.proofs.partitions.add_version.Goals as goal
+
+pub insert_behind-requires : goal.insert_behind-requires
+insert_behind-requires g c =
+    let old = c.args.region.now in let mid = c.new_version-n.new.region in let n = c.new_version-n.result in let k = c.new_version-n.ensures in let c' = version_of c.args.flag c.args.pt c.args.phase in (
+      omega arith,
+      (
+        mid-slot c.requires.stands.0 old mid mid c.requires.stands.1 c.args.root c.requires.stands.2 c.requires.stands.3 c.requires.stands.4 c.requires.stands.5 c.known.ensures.well c.known.ensures.summed n k.made.0 c' k.fresh k.kept,
+        (
+          version-end mid n (k.made.0 ∷ []) c' 1 (omega arith) k.made.1,
+          (version-end mid n (k.made.0 ∷ []) c' 0 (omega arith) k.made.1, (k.unlisted n k.fresh 1 (omega arith), (k.unlisted n k.fresh 0 (omega arith), ((λ e. cc), ((λ e. cc), (λ e. cc)))))),
+        ),
+      ),
+    )
+
+pub returns-clause-added : goal.returns-clause-added
+returns-clause-added g c = λ slots front versions back listed h.
+    let old = c.args.region.now in let mid = c.new_version-n.new.region in let new = c.insert_behind.new.region in let n = c.new_version-n.result in let k = c.new_version-n.ensures in let i = c.insert_behind.ensures in let end = k.made.0 in
+    let c' = version_of c.args.flag c.args.pt c.args.phase in let root = c.args.root in
+    let before = mid-path slots old mid new front root versions back listed h c.known.ensures.well c.known.ensures.summed n end c' k.fresh k.kept in (
+      end,
+      stands-added slots old mid new front root versions back listed h c.known.ensures.well c.known.ensures.summed n end c' k.fresh k.kept k.well k.made.1 refl (bare-bytes mid n end c' k.made.1 refl) k.unlisted k.live
+          i.inserted (λ e off apart. i.beside (Slot root) [] (reverse (objects_of versions)) None before refl e off apart (λ x. cc)) (i.path (Slot root) [] (reverse (objects_of versions)) None tt tt before refl) i.objects,
+      end-unlisted slots old mid new front root versions back listed h c.known.ensures.well c.known.ensures.summed n end c' k.fresh k.kept k.well k.made.1 refl (bare-bytes mid n end c' k.made.1 refl) k.unlisted k.live
+          i.inserted (λ e off apart. i.beside (Slot root) [] (reverse (objects_of versions)) None before refl e off apart (λ x. cc)) (i.path (Slot root) [] (reverse (objects_of versions)) None tt tt before refl) i.objects,
+    )
+
+pub returns-clause-epoch : goal.returns-clause-epoch
+returns-clause-epoch g c = marked-then c.args.region.now c.new_version-n.new.region c.insert_behind.new.region c.new_version-n.ensures.kept.epoch (marked-objects c.new_version-n.new.region c.insert_behind.new.region c.insert_behind.ensures.objects)
