@@ -1,0 +1,3 @@
+pub mod Kept
+pub mod laws
+pub mod Registry
