@@ -1,3 +1,4 @@
 -- Laws of chains in memory.
+pub mod At
 pub mod One
 pub mod Places
