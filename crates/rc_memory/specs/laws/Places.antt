@@ -38,7 +38,7 @@ module _ {X : Type 0} where
   pub same_some : (x y : X) → Some x ≡ Some y → x ≡ y
   same_some x y e = cc
 
-  no_some : (x : X) → None ≡ Some x → ⊥
+  pub no_some : (x : X) → None ≡ Some x → ⊥
   no_some x e = cc
 
   -- what stands once in a list stands at one number
