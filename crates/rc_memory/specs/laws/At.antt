@@ -19,7 +19,7 @@ some-of : (u : Option Use) (p : Option PartitionEntry) (c : Option KeptChain) (k
 some-of None None c k h e = absurd (no_some k (sym h ∙ e))
 some-of None (Some p) c k h e = absurd h
 some-of (Some u) None c k h e = absurd h
-some-of (Some u) (Some p) c k h e = (u, (p, (refl, (refl, (h.0, same_some k (kept u p) (sym e ∙ h.1))))))
+some-of (Some u) (Some p) c k h e = (u, p, refl, refl, h.0, same_some k (kept u p) (sym e ∙ h.1))
 
 pub kept-at : (us : List (Option Use)) (ps : List (Option PartitionEntry)) (cs : List (Option KeptChain)) (id : ℕ) (k : KeptChain) → AreKept us ps cs → slice_index_or cs id None ≡ Some k → IsKeptAt us ps id k
 kept-at [] [] [] id k h e = absurd (no_some k e)
