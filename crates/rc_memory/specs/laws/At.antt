@@ -1,9 +1,9 @@
 -- The chain of a number, by its use and its versions.
-use Rattle.std.proofs.Common.{◌≡◌, ℕ, zero, suc, List, [], ◌∷◌, Option, Some, None, IsSome, is_some, refl, sym, ap, ◌∙◌, slice_index_or}
+use Rattle.std.proofs.Common.{◌≡◌, ℕ, zero, suc, List, [], ◌∷◌, ◌++◌, Option, Some, None, is_some, refl, sym, ap, ◌∙◌, slice_index_or}
 use Rattle.rc_partition.specs.Partitions.{PartitionEntry}
 use Rattle.rc_registry.specs.declared.uses.Use.{Use}
 use Rattle.rc_memory.specs.Memory.{KeptChain}
-use Rattle.rc_memory.specs.Kept.{AreKept, IsKept, kept}
+use Rattle.rc_memory.specs.Kept.{AreKept, IsKept, kept, present}
 use Rattle.rc_memory.specs.laws.Places.{no_some, same_some}
 
 -- a chain, its use and its versions
@@ -45,3 +45,17 @@ used-there (u ∷ us) [] cs id h = absurd h
 used-there (u ∷ us) (p ∷ ps) [] id h = absurd h
 used-there (u ∷ us) (p ∷ ps) (c ∷ cs) zero h = none-of u p c h.0
 used-there (u ∷ us) (p ∷ ps) (c ∷ cs) (suc id) h = used-there us ps cs id h.1
+
+-- ---- one partition among those that are there
+
+pub record IsAmong {X : Type 0} (xs : List (Option X)) (x : X) : Type 0 where
+  pub front : List X
+  pub back : List X
+  pub split : present xs ≡ front ++ (x ∷ back)
+
+pub present-split : {X : Type 0} (xs : List (Option X)) (n : ℕ) (x : X) → slice_index_or xs n None ≡ Some x → IsAmong xs x
+present-split [] n x e = absurd (no_some x e)
+present-split (None ∷ xs) zero x e = absurd (no_some x e)
+present-split (None ∷ xs) (suc n) x e = let h = present-split xs n x e in record { front = h.front; back = h.back; split = h.split }
+present-split (Some y ∷ xs) zero x e = record { front = []; back = present xs; split = ap (λ z. z ∷ present xs) (same_some y x e) }
+present-split (Some y ∷ xs) (suc n) x e = let h = present-split xs n x e in record { front = y ∷ h.front; back = h.back; split = ap (λ zs. y ∷ zs) h.split }
