@@ -3,6 +3,8 @@
 
 mod pins;
 mod registry;
+#[cfg(test)]
+mod tests;
 mod uses;
 
 pub use pins::Pins;
