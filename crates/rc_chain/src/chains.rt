@@ -1,10 +1,10 @@
 //! All chains of a shard.
-ghost use Rattle.std.specs.Prelude.{◌≡◌, ◌↔◌, ◌∷◌, ◌<◌, ℕ, List as Sequence, [], Some, None, IfNone, IfSome, IsTrue, length, is_some};
-ghost use Rattle.lsa_store.specs.declared.place.Ref.{Ref as Name};
-ghost use Rattle.rc_core.specs.Chains.{IsPinned, phase_at};
-ghost use Rattle.rc_core.specs.Steps.{pin_at};
+ghost use Rattle.std.specs.Prelude.{◌≡◌, ◌↔◌, ◌∷◌, ℕ, List as Sequence, [], Some, None, IfNone, IfSome, IsTrue, length, is_some};
+ghost use Rattle.rc_core.specs.Chains.{IsPinned};
 ghost use Rattle.rc_memory.specs.Kept.{HasMemory, IsMemory};
-ghost use Rattle.rc_memory.specs.Memory.{KeptChain, Member, HasChain, HasVersion, IsAt, IsVersionObject, chain_at};
+ghost use Rattle.rc_registry.specs.Registry.{IsAfter};
+ghost use Rattle.rc_memory.specs.Memory.{KeptChain, Member, HasChain, HasVersion, IsAt, IsNextChain, IsVersionAt, IsVersionObject, chain_at};
+ghost use Rattle.rc_core.specs.Version.{Version};
 ghost use Rattle.rc_memory.specs.laws.One.{memory-prop};
 
 use lsa_list::List;
@@ -101,5 +101,54 @@ impl<const S: usize> Chains<S> {
         ensures { (k : KeptChain) → chain_at self.now id ≡ Some k → result ≡ length k.chain.versions }
     {
         count(&self.region, self.registry.get(id).root)
+    }
+
+    /// Whether a chain of this number is there.
+    pub fn is_there(&self, id: u64) -> bool
+        ensures { result ≡ is_some (chain_at self.now id) }
+    {
+        self.registry.is_there(id)
+    }
+
+    /// The least number of a chain after another number, or of all where that is None. None where there is no such chain.
+    pub fn next_chain(&self, after: Option<u64>) -> Option<u64>
+        ensures next { IfSome result (IsNextChain self.now after) }
+        ensures none { IfNone result ((n : ℕ) → IsAfter after n → chain_at self.now n ≡ None) }
+    {
+        self.registry.next(after)
+    }
+
+    /// The object of a version of a chain, by its number, the oldest being 0. It is that until objects move or the version goes.
+    pub fn version(&self, id: u64, number: u64) -> Ref
+        requires { HasVersion self.now id number }
+        ensures { IsVersionObject self.now id number result }
+    {
+        version(&self.region, self.registry.get(id).root, number)
+    }
+
+    /// The phase of a version of a chain.
+    pub fn phase(&self, id: u64, number: u64) -> u64
+        requires { HasVersion self.now id number }
+        ensures { (k : KeptChain) (v : Version) → chain_at self.now id ≡ Some k → IsVersionAt k.chain.versions number v → result ≡ v.phase }
+    {
+        let n = self.version(id, number);
+        head_of(&self.region, n).phase
+    }
+
+    /// The least recently used object of all. None where the list is empty.
+    pub fn front(&self) -> Option<Ref>
+        ensures some { IfSome result (λ r. (w : Member) × (rest : Sequence Member) × (self.now.recency ≡ w ∷ rest) × IsAt self.now r w) }
+        ensures none { IfNone result (self.now.recency ≡ []) }
+    {
+        self.recency.front(&self.region)
+    }
+
+    /// The chain of an entry or a static row, and the number of its version, the oldest being 0.
+    pub fn home(&self, r: Ref) -> (u64, u64)
+        requires { (w : Member) × IsAt self.now r w }
+        ensures { (w : Member) → IsAt self.now r w → result ≡ (w.chain, w.version) }
+    {
+        let (root, number) = home(&self.region, r);
+        (self.registry.owner(root), number)
     }
 }

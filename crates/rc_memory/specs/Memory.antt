@@ -14,7 +14,7 @@ use Rattle.rc_core.specs.Steps.{on_version}
 use Rattle.rc_core.specs.Version.{Version}
 use Rattle.rc_version.specs.Versions.{IsStaticsOf}
 use Rattle.rc_partition.specs.Partitions.{PartitionEntry, StandingVersion}
-use Rattle.rc_registry.specs.Registry.{put}
+use Rattle.rc_registry.specs.Registry.{put, IsAfter}
 use Rattle.rc_memory.specs.declared.counts.Counts.{Counts}
 
 -- a chain of versions, and the cleaner's mark that it left the chain unmerged
@@ -49,6 +49,12 @@ HasChain m id = IsSome (chain_at m id)
 -- there is, and it has a version of this number
 abbrev pub HasVersion : Memory → ℕ → ℕ → Type 0
 HasVersion m id j = IsSomeAnd (chain_at m id) (λ k. j < length k.chain.versions)
+
+-- this is the least number of a chain after the given one
+pub record IsNextChain (m : Memory) (after : Option ℕ) (id : ℕ) : Type 0 where
+  pub there : HasChain m id
+  pub behind : IsAfter after id
+  pub least : (n : ℕ) → IsAfter after n → n < id → chain_at m n ≡ None
 
 -- of these versions the one of a number, counted from the oldest
 pub record IsVersionAt {X : Type 0} (versions : List X) (j : ℕ) (v : X) : Type 0 where
