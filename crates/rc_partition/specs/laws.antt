@@ -1,5 +1,6 @@
 -- Laws of partitions in the region, for the proofs of what stands on them.
 pub mod Apart
+pub mod Bytes
 pub mod Changed
 pub mod Lists
 pub mod Listed

@@ -1,5 +1,5 @@
 //! The laws of partitions in a region, each the contract of a function that does nothing.
-ghost use Rattle.std.specs.Prelude.{◌≡◌, ◌≢◌, ◌⊎◌, List, [], ◌∷◌, ◌++◌, map, sum_by, None, IsSome, Contains};
+ghost use Rattle.std.specs.Prelude.{◌≡◌, ◌≢◌, ◌⊎◌, List, [], ◌∷◌, ◌++◌, map, sum_by, Option, None, IsSome, Contains};
 ghost use Rattle.lsa_store.specs.declared.place.Ref.{Ref};
 ghost use Rattle.lsa_region.specs.declared.end.End.{End};
 ghost use Rattle.lsa_region.specs.declared.end.End.TheVariants.{Obj, Slot};
@@ -8,6 +8,10 @@ ghost use Rattle.lsa_region.specs.Ends.{named_as};
 ghost use Rattle.lsa_region.specs.Region.{View, body, link_of, objects, IsRootAdded, IsRootDropped, IsSummed, IsWell, Renamed, SameButRoots, SameObjects};
 ghost use Rattle.lsa_list.specs.declared.recency.List.{List as Slots};
 ghost use Rattle.lsa_list.specs.Recency.{IsElsewhere, IsList};
+ghost use Rattle.rc_cell.specs.declared.writes.Tomb.{Tomb};
+ghost use Rattle.rc_position.specs.declared.positions.Pos.{Pos};
+ghost use Rattle.rc_core.specs.declared.entries.Flag.{Flag};
+ghost use Rattle.rc_core.specs.Steps.{join_pt, set_flags, set_static_flag, set_tombs};
 ghost use Rattle.rc_core.specs.Version.{Version};
 ghost use Rattle.rc_object.specs.Objects.{IsRewritten};
 ghost use Rattle.rc_version.specs.Versions.{IsKeptBut, IsUnlisted, IsVersionOf, IsWeighed, version_bytes};
@@ -18,8 +22,18 @@ pub fn a_changed_version_changes_nothing_else()
     ensures changed { (slots : Slots) (old new : View) (front : List PartitionEntry) (root : Root) (older : List StandingVersion) (s : StandingVersion) (newer : List StandingVersion) (back : List PartitionEntry) (listed now : List Ref) (c : Version) → IsWell old → IsSummed old → IsKeptBut s.object old new →
         AreStanding slots old (among front root older s newer back) listed → IsVersionOf new s.object now c → IsWeighed old new s.version c → ((r : Ref) → Contains listed r → IsRowOf old s r → IsRowOf new (standing s.object now c) r) →
         ((r : Ref) → body old r ≡ None → IsUnlisted new r) → AreStanding slots new (among front root older (standing s.object now c) newer back) listed }
+    ensures settled { (slots : Slots) (old new : View) (front : List PartitionEntry) (root : Root) (older : List StandingVersion) (s : StandingVersion) (newer : List StandingVersion) (back : List PartitionEntry) (listed now : List Ref) (c : Version) → IsWell old → IsSummed old → IsWell new → IsSummed new → IsKeptBut s.object old new →
+        AreStanding slots old (among front root older s newer back) listed → IsVersionOf new s.object now c → IsWeighed old new s.version c → AreStanding slots new (among front root older (standing s.object now c) newer back) listed }
     ensures rewritten { (slots : Slots) (old new : View) (front : List PartitionEntry) (root : Root) (older : List StandingVersion) (s : StandingVersion) (newer : List StandingVersion) (back : List PartitionEntry) (listed : List Ref) (c : Version) (r : Ref) → IsWell old → IsSummed old → IsKeptBut s.object old new →
         AreStanding slots old (among front root older s newer back) listed → IsVersionOf new s.object s.entries c → IsRewritten old new r → version_bytes c ≡ version_bytes s.version → AreStanding slots new (among front root older (standing s.object s.entries c) newer back) listed }
+{}
+
+/// Other flags and tombstones take no bytes.
+pub fn marks_take_no_bytes()
+    ensures flags { (x : Pos) (at gap : Flag) (c : Version) → version_bytes (set_flags x at gap c) ≡ version_bytes c }
+    ensures tombs { (x : Pos) (at gap : Option Tomb) (c : Version) → version_bytes (set_tombs x at gap c) ≡ version_bytes c }
+    ensures static_flag { (flag : Flag) (c : Version) → version_bytes (set_static_flag flag c) ≡ version_bytes c }
+    ensures head { (tomb : Tomb) (c : Version) → version_bytes (join_pt tomb c) ≡ version_bytes c }
 {}
 
 /// Where the recency list changed, and nothing but it, all stand as before with it; as where a row is put at the back, taken out, or made the most recent one.
@@ -63,6 +77,14 @@ pub fn two_rows_are_rows_of_two_versions()
     ensures row { (v : View) (s t : StandingVersion) (r : Ref) → IsWell v → IsVersionOf v s.object s.entries s.version → IsVersionOf v t.object t.entries t.version → IsRowOf v s r → IsRowOf v t r → s.object ≡ t.object }
     ensures place { (slots : Slots) (v : View) (front us : List PartitionEntry) (root other : Root) (older olds : List StandingVersion) (s t : StandingVersion) (newer news : List StandingVersion) (back vs : List PartitionEntry) (listed xs : List Ref) → IsWell v →
         AreStanding slots v (among front root older s newer back) listed → AreStanding slots v (among us other olds t news vs) xs → s.object ≡ t.object → (root ≡ other) × (older ≡ olds) × (s ≡ t) × (newer ≡ news) }
+{}
+
+/// A version of partitions, and so an entry or a static row of one, has a place among them.
+pub fn a_version_has_a_place()
+    ensures version { (partitions : List PartitionEntry) (p : PartitionEntry) (s : StandingVersion) → Contains partitions p → Contains p.versions s →
+        (front : List PartitionEntry) × (older : List StandingVersion) × (newer : List StandingVersion) × (back : List PartitionEntry) × (partitions ≡ among front p.root older s newer back) }
+    ensures row { (v : View) (partitions : List PartitionEntry) (r : Ref) → IsRowOfAny v partitions r →
+        (front : List PartitionEntry) × (root : Root) × (older : List StandingVersion) × (s : StandingVersion) × (newer : List StandingVersion) × (back : List PartitionEntry) × (partitions ≡ among front root older s newer back) × IsRowOf v s r }
 {}
 
 /// An entry or a static row that is not listed is in no list, and what is listed is an entry or a static row.

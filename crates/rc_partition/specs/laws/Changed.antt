@@ -11,7 +11,9 @@ use Rattle.lsa_region.specs.Region.{View, body, link_of, live_bytes, IsWell, IsS
 use Rattle.lsa_region.specs.laws.Ends.{no-end, some_and_none}
 use Rattle.lsa_path.specs.Path.{IsPath}
 use Rattle.lsa_path.specs.laws.Members.{all-from_members}
+use Rattle.lsa_path.specs.laws.Passing.{path-entered}
 use Rattle.lsa_path.specs.laws.Paths.{path-same}
+use Rattle.lsa_path.specs.laws.Renamed.{some-there}
 use Rattle.lsa_list.specs.declared.recency.List.{List as Slots}
 use Rattle.lsa_list.specs.Recency.{HasRecency, AllHaveRecency}
 use Rattle.rc_core.specs.Version.{Version}
@@ -19,11 +21,17 @@ use Rattle.rc_object.specs.Objects.{IsRewritten}
 use Rattle.rc_version.specs.Versions.{IsVersionOf, IsKeptBut, IsUnlisted, IsWeighed, version_bytes}
 use Rattle.rc_version.specs.laws.Staying.{version-kind}
 use Rattle.rc_partition.specs.Partitions.{StandingVersion, PartitionEntry, AreStanding, IsPartitionEntry, IsRowOf, IsRowOfAny, among, objects_of, partition_of, partition_bytes, roots_of, standing}
-use Rattle.rc_partition.specs.laws.Apart.{entry-once, entries-apart, row-recency, row-version}
-use Rattle.rc_partition.specs.laws.Lists.{elem-first, elem-here, elem-later, elem-map, elem-replaced, elem-still, once-beside, sum-middle}
-use Rattle.rc_partition.specs.laws.Whole.{nothing-else}
+use Rattle.rc_partition.specs.laws.Apart.{entry-once, entries-apart, one-version, row-recency, row-version}
+use Rattle.rc_partition.specs.laws.Lists.{elem-first, elem-here, elem-later, elem-map, elem-replaced, elem-split, elem-still, once-beside, sum-middle}
+use Rattle.rc_partition.specs.laws.Whole.{each-stands, nothing-else}
 
 -- ---- one among others
+
+-- a version of partitions has a place among them
+pub place-of : (partitions : List PartitionEntry) (p : PartitionEntry) (s : StandingVersion) → Contains partitions p → Contains p.versions s
+    → (front : List PartitionEntry) × (older : List StandingVersion) × (newer : List StandingVersion) × (back : List PartitionEntry) × (partitions ≡ among front p.root older s newer back)
+place-of partitions p s on in_p = let a = elem-split partitions p on in let b = elem-split p.versions s in_p in
+    (a.0, b.0, b.1, a.1, a.2 ∙ ap (λ vs. a.0 ++ (partition_of p.root vs ∷ a.1)) b.2)
 
 module _ (front back : List PartitionEntry) (root : Root) (older newer : List StandingVersion) where
   pub roots-among : (vs : List StandingVersion) → roots_of (front ++ (partition_of root vs ∷ back)) ≡ roots_of front ++ (root ∷ roots_of back)
@@ -64,6 +72,10 @@ some_or_none (Some x) = inl refl
 pub all-recency : (v : View) (xs : List Ref) → ((r : Ref) → Contains xs r → HasRecency v r) → AllHaveRecency v xs
 all-recency v [] h = tt
 all-recency v (x ∷ xs) h = (h x (elem-first x xs), all-recency v xs (λ r later. h r (elem-later x r xs later)))
+
+-- what is not there is in no list
+none_unlisted : (v : View) → IsWell v → (r : Ref) → body v r ≡ None → IsUnlisted v r
+none_unlisted v well r none field low = no-end v well (Obj r field) (λ there. some_and_none (body v r) _ none there)
 
 -- ---- what stays
 
@@ -167,6 +179,39 @@ module _ (slots : Slots) (old new : View) (front : List PartitionEntry) (root : 
       | inr (inr other) ↦ version-kind new t.object t.entries t.version (kept.versions t.object t.entries t.version (other-differs p other t in_p) (other_stands p other t in_p))
     ]
 
+    apart_now : AllPairs ◌≢◌ (roots_of (among front root older (standing s.object now c) newer back))
+    apart_now = subst (AllPairs ◌≢◌) (roots-among front back root older newer (older ++ (s ∷ newer)) ∙ sym (roots-among front back root older newer (older ++ (standing s.object now c ∷ newer)))) h.apart
+
+    whole_now : IsWeighed old new s.version c → live_bytes new ≡ sum_by partition_bytes (among front root older (standing s.object now c) newer back)
+    whole_now weigh = weighed (live_bytes old) (live_bytes new) (version_bytes s.version) (version_bytes c) (sum_by partition_bytes front) (sum_by (λ (t : StandingVersion). version_bytes t.version) older)
+        (sum_by (λ (t : StandingVersion). version_bytes t.version) newer) (sum_by partition_bytes back) weigh (h.whole ∙ bytes-among front back root older newer s) ∙ sym (bytes-among front back root older newer (standing s.object now c))
+
+    list_path : IsPath 0 1 (link_of new) (Slot slots.front) listed (Some (Slot slots.back))
+    list_path = path-same 0 1 (link_of old) (link_of new) (Slot slots.front) listed (Some (Slot slots.back)) (kept.links (Slot slots.front) tt) (all-from_members 1 (λ e. link_of new e ≡ link_of old e) listed (λ r k. kept.links (Obj r 1) (omega arith))) h.list.path
+
+    -- a row of the version that is listed is a row of it still: it is there, and of no other version
+    row_stays : IsWell new → IsSummed new → IsWeighed old new s.version c → (r : Ref) → Contains listed r → IsRowOf old s r → IsRowOf new (standing s.object now c) r
+    row_stays well_new summed_new weigh r on row =
+        let a = path-entered 0 1 (link_of new) (Slot slots.front) listed (Some (Slot slots.back)) list_path r on in
+        elim (each-stands new (among front root older (standing s.object now c) newer back) well_new summed_new apart_now entries-kept (whole_now weigh) r (some-there _ (body new r) (well_new.ends a.0 (Obj r 0) a.1))) [
+          | inl head ↦ absurd (row-version old s s-stands r row (subst (λ q. IsSomeAnd (body old q) (λ b. b.0 ≡ VersionKind)) head.4 (head_was head.1 head.0 head.2 head.3)))
+          | inr w ↦ of_this w.0 w.1 w.2 w.3 w.4
+        ]
+      where
+        head_was : (t : StandingVersion) (p : PartitionEntry) → Contains (among front root older (standing s.object now c) newer back) p → Contains p.versions t → IsSomeAnd (body old t.object) (λ b. b.0 ≡ VersionKind)
+        head_was t p in_all in_p = elim (among-cases front back root older newer (standing s.object now c) p t in_all in_p) [
+          | inl same ↦ subst (λ (q : StandingVersion). IsSomeAnd (body old q.object) (λ b. b.0 ≡ VersionKind)) same (version-kind old s.object s.entries s.version s-stands)
+          | inr (inl beside) ↦ version-kind old t.object t.entries t.version (beside_stands t beside)
+          | inr (inr other) ↦ version-kind old t.object t.entries t.version (other_stands p other t in_p)
+        ]
+
+        of_this : (p : PartitionEntry) (t : StandingVersion) → Contains (among front root older (standing s.object now c) newer back) p → Contains p.versions t → IsRowOf new t r → IsRowOf new (standing s.object now c) r
+        of_this p t in_all in_p this_row = elim (among-cases front back root older newer (standing s.object now c) p t in_all in_p) [
+          | inl same ↦ subst (λ (q : StandingVersion). IsRowOf new q r) (sym same) this_row
+          | inr (inl beside) ↦ absurd (beside-differs t beside (sym (one-version old well s t s-stands (beside_stands t beside) r row (rows_back t (beside-differs t beside) (beside_stands t beside) r this_row))))
+          | inr (inr other) ↦ absurd (other-differs p other t in_p (sym (one-version old well s t s-stands (other_stands p other t in_p) r row (rows_back t (other-differs p other t in_p) (other_stands p other t in_p) r this_row))))
+        ]
+
     module _ (summed : IsSummed old) (weigh : IsWeighed old new s.version c) (rows : (r : Ref) → Contains listed r → IsRowOf old s r → IsRowOf new (standing s.object now c) r) (fresh : (r : Ref) → body old r ≡ None → IsUnlisted new r) where
       owned_now : (r : Ref) → Contains listed r → IsRowOfAny new (among front root older (standing s.object now c) newer back) r
       owned_now r on = row_now r (h.owned r on) (rows r on)
@@ -183,27 +228,29 @@ module _ (slots : Slots) (old new : View) (front : List PartitionEntry) (root : 
 
       pub stands-changed : AreStanding slots new (among front root older (standing s.object now c) newer back) listed
       stands-changed = record {
-        apart = subst (AllPairs ◌≢◌) (roots-among front back root older newer (older ++ (s ∷ newer)) ∙ sym (roots-among front back root older newer (older ++ (standing s.object now c ∷ newer)))) h.apart;
+        apart = apart_now;
         beside = λ p on. elim (elem-replaced front back (partition_of root (older ++ (standing s.object now c ∷ newer))) p on) [
           | inl same ↦ subst (λ (q : PartitionEntry). (q.root ≢ slots.front) × (q.root ≢ slots.back)) same (h.beside (partition_of root (older ++ (s ∷ newer))) (this-among front back root older newer s))
           | inr other ↦ h.beside p (other-among front back root older newer s p other)
         ];
         entries = entries-kept;
         list = record {
-          path = path-same 0 1 (link_of old) (link_of new) (Slot slots.front) listed (Some (Slot slots.back)) (kept.links (Slot slots.front) tt) (all-from_members 1 (λ e. link_of new e ≡ link_of old e) listed (λ r k. kept.links (Obj r 1) (omega arith))) h.list.path;
+          path = list_path;
           recent = all-recency new listed (λ r on. let w = owned_now r on in row-recency new w.1 ((entries-kept w.0 w.2).versions w.1 w.3) r w.4);
         };
         owned = owned_now;
         unlisted = unlisted_now;
-        whole = weighed (live_bytes old) (live_bytes new) (version_bytes s.version) (version_bytes c) (sum_by partition_bytes front) (sum_by (λ (t : StandingVersion). version_bytes t.version) older)
-            (sum_by (λ (t : StandingVersion). version_bytes t.version) newer) (sum_by partition_bytes back) weigh (h.whole ∙ bytes-among front back root older newer s) ∙ sym (bytes-among front back root older newer (standing s.object now c));
+        whole = whole_now weigh;
       }
 
--- ---- bytes alone were changed
+-- what the version has of listed rows, and what is new, is told by what is live
+pub stands-settled : (slots : Slots) (old new : View) (front : List PartitionEntry) (root : Root) (older : List StandingVersion) (s : StandingVersion) (newer : List StandingVersion) (back : List PartitionEntry) (listed : List Ref)
+    → IsWell old → IsSummed old → IsWell new → IsSummed new → IsKeptBut s.object old new → AreStanding slots old (among front root older s newer back) listed → (now : List Ref) (c : Version) → IsVersionOf new s.object now c → IsWeighed old new s.version c
+    → AreStanding slots new (among front root older (standing s.object now c) newer back) listed
+stands-settled slots old new front root older s newer back listed well summed well_new summed_new kept h now c is weigh = stands-changed slots old new front root older s newer back listed well kept h now c is summed weigh
+    (row_stays slots old new front root older s newer back listed well kept h now c is well_new summed_new weigh) (λ r none field low. kept.links (Obj r field) low ∙ none_unlisted old well r none field low)
 
--- what is not there is in no list
-none_unlisted : (v : View) → IsWell v → (r : Ref) → body v r ≡ None → IsUnlisted v r
-none_unlisted v well r none field low = no-end v well (Obj r field) (λ there. some_and_none (body v r) _ none there)
+-- ---- bytes alone were changed
 
 module _ (old new : View) (r : Ref) (rewritten : IsRewritten old new r) where
   pub rewritten-weighed : (before after : Version) → version_bytes after ≡ version_bytes before → IsWeighed old new before after

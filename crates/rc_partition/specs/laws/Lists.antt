@@ -47,6 +47,14 @@ module _ {X : Type 0} where
     | inr later ↦ Contains-append_left (reverse xs) (x ∷ []) y (elem-reversed xs y later)
   ])
 
+  -- a list is split at a member
+  pub elem-split : (xs : List X) (y : X) → Contains xs y → (front : List X) × (back : List X) × (xs ≡ front ++ (y ∷ back))
+  elem-split [] y h = absurd (elem-none y h)
+  elem-split (x ∷ xs) y h = elim (elem-cases x y xs h) [
+    | inl same ↦ ([], xs, ap (λ z. z ∷ xs) same)
+    | inr later ↦ let w = elem-split xs y later in (x ∷ w.0, w.1, ap (λ l. x ∷ l) w.2)
+  ]
+
   pub elem-left : (xs ys : List X) (y : X) → Contains xs y → Contains (xs ++ ys) y
   elem-left xs ys y h = Contains-append_left xs ys y h
 

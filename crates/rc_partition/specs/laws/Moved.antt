@@ -56,6 +56,18 @@ module _ (old new : View) (names : List (Ref × Ref)) (renamed : Renamed old new
         let w = was_named (link_of old (Obj t.object 3)) q 2 (sym (renamed.links t.object 3 (some-there _ (body old t.object) (version-kind old t.object t.entries t.version k))) ∙ link) in (w.0, inr w.1, w.2)
 
   module _ (slots : Slots) (partitions : List PartitionEntry) (listed : List Ref) (h : AreStanding slots old partitions listed) where
+    unlisted_renamed : (r q : Ref) → IsSome (body old r) → named_as names r ≡ q → IsUnlisted old r → IsUnlisted new q
+    unlisted_renamed r q live is unset = subst (IsUnlisted new) is (λ field low. renamed.links r field live ∙ ap (option_map (end_as names)) (unset field low))
+
+    unlisted_at : (p : PartitionEntry) (t : StandingVersion) (q : Ref) → Contains (map (partition_as names) partitions) p → Contains p.versions t → IsRowOf new t q → (Contains (map (named_as names) listed) q → ⊥) → IsUnlisted new q
+    unlisted_at p t q on in_p row off =
+        let a = elem-mapped (partition_as names) partitions p on in
+        let b = elem-mapped (version_as names) a.0.versions t (subst (λ (x : PartitionEntry). Contains x.versions t) (sym a.2) in_p) in
+        let stands = (h.entries a.0 a.1).versions b.0 b.1 in
+        let r = row_was b.0 stands q (subst (λ (x : StandingVersion). IsRowOf new x q) (sym b.2) row) in
+        unlisted_renamed r.0 q (some-there _ (body old r.0) (row-recency old b.0 stands r.0 r.1)) r.2
+        (h.unlisted r.0 (a.0, b.0, a.1, b.1, r.1) (λ in_list. off (subst (Contains (map (named_as names) listed)) r.2 (elem-map (named_as names) listed r.0 in_list))))
+
     pub stands-renamed : AreStanding slots new (map (partition_as names) partitions) (map (named_as names) listed)
     stands-renamed = record {
       apart = subst (AllPairs ◌≢◌) (sym (roots_renamed partitions)) h.apart;
@@ -69,14 +81,6 @@ module _ (old new : View) (names : List (Ref × Ref)) (renamed : Renamed old new
         elem-map (version_as names) w.0.versions w.1 w.3,
         row_renamed w.1 ((h.entries w.0 w.2).versions w.1 w.3) m.0 w.4,
       );
-      unlisted = λ q w off.
-          let p = elem-mapped (partition_as names) partitions w.0 w.2 in
-          let t = elem-mapped (version_as names) p.0.versions w.1 (subst (λ (x : PartitionEntry). Contains x.versions w.1) (sym p.2) w.3) in
-          let stands = (h.entries p.0 p.1).versions t.0 t.1 in
-          let r = row_was t.0 stands q (subst (λ (x : StandingVersion). IsRowOf new x q) (sym t.2) w.4) in
-          unlisted_renamed r.0 q (some-there _ (body old r.0) (row-recency old t.0 stands r.0 r.1)) r.2 (h.unlisted r.0 (p.0, t.0, p.1, t.1, r.1) (λ on. off (subst (Contains (map (named_as names) listed)) r.2 (elem-map (named_as names) listed r.0 on))));
+      unlisted = λ q w off. unlisted_at w.0 w.1 q w.2 w.3 w.4 off;
       whole = renamed.live ∙ h.whole ∙ sym (sum-mapped (partition_as names) partition_bytes partitions ∙ sum-same (λ p. partition_bytes (partition_as names p)) partition_bytes partitions (λ p on. bytes_renamed p));
     }
-      where
-        unlisted_renamed : (r q : Ref) → IsSome (body old r) → named_as names r ≡ q → IsUnlisted old r → IsUnlisted new q
-        unlisted_renamed r q live is unset = subst (IsUnlisted new) is (λ field low. renamed.links r field live ∙ ap (option_map (end_as names)) (unset field low))

@@ -26,7 +26,7 @@ use Rattle.rc_rowcode.specs.Objects.{static_size}
 use Rattle.rc_version.specs.Versions.{version_head, HasStatics, HoldEntries, IsVersionOf, IsStaticsOf, statics_bytes, entries_bytes, version_bytes}
 use Rattle.rc_version.specs.laws.Objects.{head-extent, holds-extent}
 use Rattle.rc_version.specs.laws.Staying.{version-kind, entries-kind}
-use Rattle.rc_partition.specs.Partitions.{StandingVersion, PartitionEntry, AreStanding, IsRowOf, IsRowOfAny, objects_of, static_objects, version_objects, partition_objects}
+use Rattle.rc_partition.specs.Partitions.{StandingVersion, PartitionEntry, AreStanding, IsPartitionEntry, IsRowOf, IsRowOfAny, objects_of, roots_of, static_objects, version_objects, partition_objects, partition_bytes}
 use Rattle.rc_partition.specs.laws.Apart.{versions_of, objects-once, entry_apart, static-kind, row-version, row-recency, parts-apart}
 use Rattle.rc_partition.specs.laws.Lists.{elem-cases, elem-first, elem-later, elem-map, elem-none, elem-parted, once-none, once-cons, once-both, once-head, once-tail, sum-joined, sum-same}
 
@@ -175,18 +175,15 @@ elem_decided r (x ∷ xs) = elim (refs_decided x r) [
 
 -- ---- all of a region
 
-module _ (slots : Slots) (v : View) (partitions : List PartitionEntry) (listed : List Ref) (well : IsWell v) (summed : IsSummed v) (h : AreStanding slots v partitions listed) where
-  pub version-stands : (s : StandingVersion) → Contains (versions_of partitions) s → IsVersionOf v s.object s.entries s.version
-  version-stands s k = let w = elem-parted (λ (p : PartitionEntry). p.versions) partitions s k in (h.entries w.0 w.1).versions s w.2
-
-  pub all-objects_once : AllPairs ◌≢◌ (objects_of (versions_of partitions))
-  all-objects_once = objects-once v well partitions h.apart h.entries
+module _ (v : View) (partitions : List PartitionEntry) (well : IsWell v) (summed : IsSummed v) (apart : AllPairs ◌≢◌ (roots_of partitions)) (entries : (p : PartitionEntry) → Contains partitions p → IsPartitionEntry v p) (whole : live_bytes v ≡ sum_by partition_bytes partitions) where
+  version_stands : (s : StandingVersion) → Contains (versions_of partitions) s → IsVersionOf v s.object s.entries s.version
+  version_stands s k = let w = elem-parted (λ (p : PartitionEntry). p.versions) partitions s k in (entries w.0 w.1).versions s w.2
 
   once : AllPairs ◌≢◌ (all_parts v (versions_of partitions))
-  once = all-once v well (versions_of partitions) all-objects_once version-stands
+  once = all-once v well (versions_of partitions) (objects-once v well partitions apart entries) version_stands
 
   full : sum_by (λ r. object_extent (body v r)) (all_parts v (versions_of partitions)) ≡ live_bytes v
-  full = all-sum v well (versions_of partitions) version-stands ∙ sum-joined (λ (p : PartitionEntry). p.versions) (λ s. version_bytes s.version) partitions ∙ sym h.whole
+  full = all-sum v well (versions_of partitions) version_stands ∙ sum-joined (λ (p : PartitionEntry). p.versions) (λ s. version_bytes s.version) partitions ∙ sym whole
 
   part_of_all : (r : Ref) → IsSome (body v r) → Contains (all_parts v (versions_of partitions)) r
   part_of_all r live = elim (elem_decided r (all_parts v (versions_of partitions))) [
@@ -197,19 +194,26 @@ module _ (slots : Slots) (v : View) (partitions : List PartitionEntry) (listed :
   ]
 
   -- each object is a version, or a row of one
-  pub nothing-else : (r : Ref) → IsSome (body v r) → ((p : PartitionEntry) × (s : StandingVersion) × Contains partitions p × Contains p.versions s × (s.object ≡ r)) ⊎ IsRowOfAny v partitions r
-  nothing-else r live =
+  pub each-stands : (r : Ref) → IsSome (body v r) → ((p : PartitionEntry) × (s : StandingVersion) × Contains partitions p × Contains p.versions s × (s.object ≡ r)) ⊎ IsRowOfAny v partitions r
+  each-stands r live =
       let w = elem-parted (parts_of v) (versions_of partitions) r (part_of_all r live) in
       let at = elem-parted (λ (p : PartitionEntry). p.versions) partitions w.0 w.1 in
-      elim (part-cases v w.0 (version-stands w.0 w.1) r w.2) [
+      elim (part-cases v w.0 (version_stands w.0 w.1) r w.2) [
         | inl same ↦ inl (at.0, w.0, at.1, at.2, same)
         | inr row ↦ inr (at.0, w.0, at.1, at.2, row)
       ]
 
   -- so many objects are there
-  pub all-counted : objects v ≡ sum_by partition_objects partitions
-  all-counted = sym (summed.all (all_parts v (versions_of partitions)) (record {
+  pub each-counted : objects v ≡ sum_by partition_objects partitions
+  each-counted = sym (summed.all (all_parts v (versions_of partitions)) (record {
     each = part_of_all;
-    live = λ r k. let w = elem-parted (parts_of v) (versions_of partitions) r k in part-live v w.0 (version-stands w.0 w.1) r w.2;
+    live = λ r k. let w = elem-parted (parts_of v) (versions_of partitions) r k in part-live v w.0 (version_stands w.0 w.1) r w.2;
     once = once;
-  })) ∙ all-length v well (versions_of partitions) version-stands ∙ sum-joined (λ (p : PartitionEntry). p.versions) (λ s. version_objects s.version) partitions
+  })) ∙ all-length v well (versions_of partitions) version_stands ∙ sum-joined (λ (p : PartitionEntry). p.versions) (λ s. version_objects s.version) partitions
+
+module _ (slots : Slots) (v : View) (partitions : List PartitionEntry) (listed : List Ref) (well : IsWell v) (summed : IsSummed v) (h : AreStanding slots v partitions listed) where
+  pub nothing-else : (r : Ref) → IsSome (body v r) → ((p : PartitionEntry) × (s : StandingVersion) × Contains partitions p × Contains p.versions s × (s.object ≡ r)) ⊎ IsRowOfAny v partitions r
+  nothing-else = each-stands v partitions well summed h.apart h.entries h.whole
+
+  pub all-counted : objects v ≡ sum_by partition_objects partitions
+  all-counted = each-counted v partitions well summed h.apart h.entries h.whole

@@ -1,4 +1,5 @@
-use Rattle.std.proofs.Common.{◌∷◌, [], None, reverse, refl, arith}
+use Rattle.std.proofs.Common.{◌∷◌, [], None, reverse, refl, arith, ◌≤◌, ◌+◌, length, sym, subst, ap, ◌∙◌}
+use Rattle.lsa_pool.specs.Room.{spare_of}
 use Rattle.lsa_region.specs.declared.end.End.TheVariants.{Slot}
 use Rattle.rc_core.specs.Steps.{version_of}
 use Rattle.rc_version.specs.laws.Marked.{marked-objects, marked-then}
@@ -35,3 +36,27 @@ returns-clause-added g c = λ slots front versions back listed h.
 
 pub returns-clause-epoch : goal.returns-clause-epoch
 returns-clause-epoch g c = marked-then c.args.region.now c.new_version-n.new.region c.insert_behind.new.region c.new_version-n.ensures.kept.epoch (marked-objects c.new_version-n.new.region c.insert_behind.new.region c.insert_behind.ensures.objects)
+
+pub new_version-n-requires : goal.new_version-n-requires
+new_version-n-requires g c = (omega arith, (c.requires.fits, c.requires.spare))
+
+pub returns-clause-fresh : goal.returns-clause-fresh
+returns-clause-fresh g c = c.new_version-n.ensures.fresh
+
+pub returns-clause-spare : goal.returns-clause-spare
+returns-clause-spare g c = subst (λ us. spare_of g.row.S c.args.region.now.usages ≤ spare_of g.row.S us + 152) (sym c.insert_behind.ensures.objects.usages) c.new_version-n.ensures.spare
+
+pub returns-clause-slots : goal.returns-clause-slots
+returns-clause-slots g c = c.insert_behind.ensures.objects.slots ∙ c.new_version-n.ensures.kept.slots
+
+pub returns-clause-budget : goal.returns-clause-budget
+returns-clause-budget g c = ap (λ us. length us) c.insert_behind.ensures.objects.usages ∙ c.new_version-n.ensures.kept.budget
+
+pub returns-clause-moved : goal.returns-clause-moved
+returns-clause-moved g c = c.insert_behind.ensures.objects.moved ∙ c.new_version-n.ensures.kept.moved
+
+pub returns-clause-compacted : goal.returns-clause-compacted
+returns-clause-compacted g c = c.insert_behind.ensures.objects.compacted ∙ c.new_version-n.ensures.kept.compacted
+
+pub returns-clause-well : goal.returns-clause-well
+returns-clause-well g c = c.insert_behind.ensures.well

@@ -1,4 +1,5 @@
-use Rattle.std.proofs.Common.{◌≢◌, inl, ◌++◌, ◌∷◌, [], None, is_some, reverse, sym, ap, ◌∙◌, subst, arith}
+use Rattle.std.proofs.Common.{◌≢◌, inl, ◌++◌, ◌∷◌, [], None, is_some, reverse, sym, ap, ◌∙◌, subst, arith, length}
+use Rattle.lsa_pool.specs.Room.{spare_of}
 use Rattle.lsa_region.specs.declared.end.End.{End}
 use Rattle.lsa_region.specs.declared.end.End.TheVariants.{Obj, Slot}
 use Rattle.lsa_region.specs.Region.{link_of}
@@ -63,3 +64,24 @@ returns-clause-dropped g c = λ slots front older s newer back listed is h.
 
 pub returns-clause-epoch : goal.returns-clause-epoch
 returns-clause-epoch g c = marked-then c.args.region.now c.take_out.new.region c.free_version.new.region (marked-objects c.args.region.now c.take_out.new.region c.take_out.ensures.objects) c.free_version.ensures.kept.epoch
+
+pub returns-clause-gone : goal.returns-clause-gone
+returns-clause-gone g c = c.free_version.ensures.head
+
+pub returns-clause-spare : goal.returns-clause-spare
+returns-clause-spare g c = c.free_version.ensures.spare ∙ ap (λ us. spare_of g.row.S us) c.take_out.ensures.objects.usages
+
+pub returns-clause-slots : goal.returns-clause-slots
+returns-clause-slots g c = c.free_version.ensures.kept.slots ∙ c.take_out.ensures.objects.slots
+
+pub returns-clause-budget : goal.returns-clause-budget
+returns-clause-budget g c = c.free_version.ensures.kept.budget ∙ ap (λ us. length us) c.take_out.ensures.objects.usages
+
+pub returns-clause-moved : goal.returns-clause-moved
+returns-clause-moved g c = c.free_version.ensures.kept.moved ∙ c.take_out.ensures.objects.moved
+
+pub returns-clause-compacted : goal.returns-clause-compacted
+returns-clause-compacted g c = c.free_version.ensures.kept.compacted ∙ c.take_out.ensures.objects.compacted
+
+pub returns-clause-well : goal.returns-clause-well
+returns-clause-well g c = c.free_version.ensures.well
