@@ -140,3 +140,7 @@ pub record HasChains (now : List (Option KeptChain)) (old new : Memory) : Type 0
 -- the memory after objects of its region got new names
 abbrev pub moved : List (Ref × Ref) → View → Memory → Memory
 moved names region m = record { chains = m.chains; recency = m.recency; dropped = m.dropped; counts = m.counts; region = region; standing = map (option_map (partition_as names)) m.standing }
+
+-- the memory with another recency list, in a region
+abbrev pub listed_as : List Member → View → Memory → Memory
+listed_as recency region m = record { chains = m.chains; recency = recency; dropped = m.dropped; counts = m.counts; region = region; standing = m.standing }

@@ -1,5 +1,6 @@
 -- Laws of chains in memory.
 pub mod At
+pub mod Listed
 pub mod Moved
 pub mod One
 pub mod Places

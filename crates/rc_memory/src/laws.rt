@@ -1,14 +1,18 @@
 //! The laws of a shard's memory, each the contract of a function that does nothing.
-ghost use Rattle.std.specs.Prelude.{◌≡◌, ℕ, Bool, List};
+ghost use Rattle.std.specs.Prelude.{◌≡◌, ◌≢◌, ℕ, Bool, List, [], ◌∷◌, ◌++◌, None, Contains, Some};
+ghost use Rattle.lsa_region.specs.declared.end.End.{End};
+ghost use Rattle.lsa_region.specs.declared.end.End.TheVariants.{Obj};
+ghost use Rattle.lsa_list.specs.Recency.{first, IsElsewhere, IsList};
+ghost use Rattle.rc_version.specs.Versions.{IsUnlisted};
 ghost use Rattle.rc_core.specs.Steps.{pinned, released};
 ghost use Rattle.rc_partition.specs.Partitions.{PartitionEntry};
 ghost use Rattle.rc_registry.specs.declared.uses.Use.{Use};
 ghost use Rattle.lsa_store.specs.declared.place.Ref.{Ref};
-ghost use Rattle.lsa_region.specs.Region.{View, IsWell, Renamed};
+ghost use Rattle.lsa_region.specs.Region.{View, link_of, IsWell, Renamed, SameObjects};
 ghost use Rattle.lsa_list.specs.declared.recency.List.{List as Slots};
 ghost use Rattle.rc_registry.specs.Registry.{Registry, detached, on_use, set_passed, set_updating, with_pin, without_pin};
 ghost use Rattle.rc_memory.specs.declared.counts.Counts.{Counts};
-ghost use Rattle.rc_memory.specs.Memory.{KeptChain, Memory, HasChain, marked, moved, on_chain, on_shown, shown_detached, shown_pinned, shown_updating, with_chains};
+ghost use Rattle.rc_memory.specs.Memory.{KeptChain, Member, Memory, HasChain, IsObjectAt, listed_as, marked, moved, on_chain, on_shown, shown_detached, shown_pinned, shown_updating, with_chains};
 ghost use Rattle.rc_memory.specs.Kept.{IsHeld, kept};
 
 /// Region, recency list, table and counts hold one memory.
@@ -29,4 +33,30 @@ pub fn a_use_may_change()
     ensures passed { (slots : Slots) (v : View) (registry : Registry) (counts : Counts) (m : Memory) (id : ℕ) (passed : Bool) → IsHeld slots v registry counts m → HasChain m id → IsHeld slots v (on_use id (set_passed passed) registry) counts (with_chains (on_chain id (marked passed) m.chains) m) }
     ensures pinned { (slots : Slots) (v : View) (registry : Registry) (counts : Counts) (m : Memory) (id : ℕ) (version : ℕ) → IsHeld slots v registry counts m → HasChain m id → IsHeld slots v (on_use id (with_pin version) registry) counts (with_chains (on_chain id (on_shown (λ c. shown_pinned (pinned version c.pins) c)) m.chains) m) }
     ensures released { (slots : Slots) (v : View) (registry : Registry) (counts : Counts) (m : Memory) (id : ℕ) (pin : ℕ) → IsHeld slots v registry counts m → HasChain m id → IsHeld slots v (on_use id (without_pin pin) registry) counts (with_chains (on_chain id (on_shown (λ c. shown_pinned (released pin c.pins) c)) m.chains) m) }
+{}
+
+/// The recency list may change: an object at a place is put at its back, taken out of it, or made the most recent one, and its place with it.
+pub fn the_list_may_change()
+    ensures pushed { (slots : Slots) (old new : View) (registry : Registry) (counts : Counts) (m : Memory) (r : Ref) (w : Member) → IsHeld slots old registry counts m → ((e : End) → IsElsewhere slots old e → link_of new e ≡ link_of old e) → SameObjects old new → IsWell new → IsObjectAt old m.standing r w → ((xs : List Ref) → IsList slots old xs → IsList slots new (xs ++ (r ∷ []))) →
+        ((e : End) → link_of old e ≡ None → e ≢ Obj r 0 → e ≢ Obj r 1 → link_of new e ≡ None) → IsHeld slots new registry counts (listed_as (m.recency ++ (w ∷ [])) new m) }
+    ensures taken { (slots : Slots) (old new : View) (registry : Registry) (counts : Counts) (m : Memory) (r : Ref) (front : List Member) (w : Member) (back : List Member) → IsHeld slots old registry counts m → ((e : End) → IsElsewhere slots old e → link_of new e ≡ link_of old e) → SameObjects old new → IsWell new → m.recency ≡ front ++ (w ∷ back) → IsObjectAt old m.standing r w → ((xs ys : List Ref) → IsList slots old (xs ++ (r ∷ ys)) → IsList slots new (xs ++ ys)) →
+        link_of new (Obj r 0) ≡ None → link_of new (Obj r 1) ≡ None → ((e : End) → link_of old e ≡ None → link_of new e ≡ None) → IsHeld slots new registry counts (listed_as (front ++ back) new m) }
+    ensures touched { (slots : Slots) (old new : View) (registry : Registry) (counts : Counts) (m : Memory) (r : Ref) (front : List Member) (w : Member) (back : List Member) → IsHeld slots old registry counts m → ((e : End) → IsElsewhere slots old e → link_of new e ≡ link_of old e) → SameObjects old new → IsWell new → m.recency ≡ front ++ (w ∷ back) → IsObjectAt old m.standing r w → ((xs ys : List Ref) → IsList slots old (xs ++ (r ∷ ys)) → IsList slots new ((xs ++ ys) ++ (r ∷ []))) →
+        ((e : End) → link_of old e ≡ None → link_of new e ≡ None) → IsHeld slots new registry counts (listed_as ((front ++ back) ++ (w ∷ [])) new m) }
+{}
+
+/// An object is listed exactly where its place is in the recency list; where it is not, its links are unset. The first object of the list stands at the first place.
+pub fn the_list_is_told_by_places()
+    ensures listed { (slots : Slots) (v : View) (registry : Registry) (counts : Counts) (m : Memory) (r : Ref) (w : Member) (h : IsHeld slots v registry counts m) → IsObjectAt v m.standing r w → Contains m.recency w → Contains h.listed r }
+    ensures placed { (slots : Slots) (v : View) (registry : Registry) (counts : Counts) (m : Memory) (r : Ref) (w : Member) (h : IsHeld slots v registry counts m) → IsObjectAt v m.standing r w → Contains h.listed r → Contains m.recency w }
+    ensures unlisted { (slots : Slots) (v : View) (registry : Registry) (counts : Counts) (m : Memory) (r : Ref) (w : Member) → IsHeld slots v registry counts m → IsObjectAt v m.standing r w → (Contains m.recency w → ⊥) → IsUnlisted v r }
+    ensures split { (slots : Slots) (v : View) (registry : Registry) (counts : Counts) (m : Memory) (front : List Member) (w : Member) (back : List Member) (r : Ref) → IsHeld slots v registry counts m → m.recency ≡ front ++ (w ∷ back) → IsObjectAt v m.standing r w → (xs : List Ref) × (ys : List Ref) × IsList slots v (xs ++ (r ∷ ys)) }
+    ensures front { (slots : Slots) (v : View) (registry : Registry) (counts : Counts) (m : Memory) (r : Ref) (h : IsHeld slots v registry counts m) → first h.listed ≡ Some r → (w : Member) × (back : List Member) × (m.recency ≡ w ∷ back) × IsObjectAt v m.standing r w }
+    ensures empty { (slots : Slots) (v : View) (registry : Registry) (counts : Counts) (m : Memory) (h : IsHeld slots v registry counts m) → first h.listed ≡ None → m.recency ≡ [] }
+{}
+
+/// At a place stands one object, and an object stands at one place.
+pub fn an_object_stands_at_one_place()
+    ensures place { (slots : Slots) (v : View) (registry : Registry) (counts : Counts) (m : Memory) (r : Ref) (w x : Member) → IsHeld slots v registry counts m → IsObjectAt v m.standing r w → IsObjectAt v m.standing r x → w ≡ x }
+    ensures object { (slots : Slots) (v : View) (registry : Registry) (counts : Counts) (m : Memory) (r q : Ref) (w : Member) → IsHeld slots v registry counts m → IsObjectAt v m.standing r w → IsObjectAt v m.standing q w → r ≡ q }
 {}
