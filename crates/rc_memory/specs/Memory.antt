@@ -4,7 +4,7 @@
 --     Memory        all chains, the recency list, the numbers of dropped chains, the counts; beside them the region, and which of its objects hold the chains
 --     IsAt          an object of the region stands there
 --     IsUntouched   the chains, the recency list and all else but the region is as it was
-use Rattle.std.specs.Prelude.{◌≡◌, ◌<◌, ℕ, suc, Bool, true, false, List, [], ◌∷◌, ◌++◌, Option, Some, None, IsSome, IsSomeAnd, option_map, length, map, slice_index_or, Contains}
+use Rattle.std.specs.Prelude.{◌≡◌, ◌<◌, ℕ, zero, suc, Bool, true, false, List, [], ◌∷◌, ◌++◌, Option, Some, None, IsSome, IsSomeAnd, option_map, length, map, slice_index_or, Contains}
 use Rattle.rc_position.specs.declared.positions.Pos.{Pos}
 use Rattle.lsa_store.specs.declared.place.Ref.{Ref}
 use Rattle.lsa_region.specs.Region.{View}
@@ -13,7 +13,7 @@ use Rattle.rc_core.specs.Chains.{Shown}
 use Rattle.rc_core.specs.Steps.{on_version}
 use Rattle.rc_core.specs.Version.{Version}
 use Rattle.rc_version.specs.Versions.{IsStaticsOf}
-use Rattle.rc_partition.specs.Partitions.{PartitionEntry, StandingVersion, partition_as}
+use Rattle.rc_partition.specs.Partitions.{PartitionEntry, StandingVersion, partition_as, partition_of}
 use Rattle.rc_registry.specs.Registry.{put, IsAfter}
 use Rattle.rc_memory.specs.declared.counts.Counts.{Counts}
 
@@ -144,3 +144,23 @@ moved names region m = record { chains = m.chains; recency = m.recency; dropped 
 -- the memory with another recency list, in a region
 abbrev pub listed_as : List Member → View → Memory → Memory
 listed_as recency region m = record { chains = m.chains; recency = recency; dropped = m.dropped; counts = m.counts; region = region; standing = m.standing }
+
+-- versions with another one at a number
+abbrev pub with_standing : ℕ → StandingVersion → List StandingVersion → List StandingVersion
+with_standing j t [] = []
+with_standing zero t (s ∷ ss) = t ∷ ss
+with_standing (suc j) t (s ∷ ss) = s ∷ with_standing j t ss
+
+abbrev pub partition_with : ℕ → StandingVersion → PartitionEntry → PartitionEntry
+partition_with j t p = partition_of p.root (with_standing j t p.versions)
+
+-- the memory with another version of a chain at a number, as it stands in a region
+abbrev pub changed : ℕ → ℕ → StandingVersion → View → Memory → Memory
+changed id j t region m = record {
+  chains = on_chain id (on_shown (on_version_of j (λ c. t.version))) m.chains;
+  recency = m.recency;
+  dropped = m.dropped;
+  counts = m.counts;
+  region = region;
+  standing = put id (option_map (partition_with j t) (slice_index_or m.standing id None)) m.standing;
+}

@@ -1,8 +1,10 @@
 -- Laws of chains in memory.
 pub mod At
+pub mod Changed
 pub mod Listed
 pub mod Moved
 pub mod One
 pub mod Places
+pub mod Put
 pub mod Standing
 pub mod Used

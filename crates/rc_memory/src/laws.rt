@@ -1,18 +1,19 @@
 //! The laws of a shard's memory, each the contract of a function that does nothing.
-ghost use Rattle.std.specs.Prelude.{◌≡◌, ◌≢◌, ℕ, Bool, List, [], ◌∷◌, ◌++◌, None, Contains, Some};
+ghost use Rattle.std.specs.Prelude.{◌≡◌, ◌≢◌, ℕ, Bool, List, [], ◌∷◌, ◌++◌, None, Contains, Some, slice_index_or};
 ghost use Rattle.lsa_region.specs.declared.end.End.{End};
 ghost use Rattle.lsa_region.specs.declared.end.End.TheVariants.{Obj};
 ghost use Rattle.lsa_list.specs.Recency.{first, IsElsewhere, IsList};
-ghost use Rattle.rc_version.specs.Versions.{IsUnlisted};
+ghost use Rattle.rc_core.specs.Version.{Version};
+ghost use Rattle.rc_version.specs.Versions.{IsKeptBut, IsUnlisted, IsVersionOf, IsWeighed};
 ghost use Rattle.rc_core.specs.Steps.{pinned, released};
-ghost use Rattle.rc_partition.specs.Partitions.{PartitionEntry};
+ghost use Rattle.rc_partition.specs.Partitions.{PartitionEntry, StandingVersion, standing};
 ghost use Rattle.rc_registry.specs.declared.uses.Use.{Use};
 ghost use Rattle.lsa_store.specs.declared.place.Ref.{Ref};
-ghost use Rattle.lsa_region.specs.Region.{View, link_of, IsWell, Renamed, SameObjects};
+ghost use Rattle.lsa_region.specs.Region.{View, link_of, IsSummed, IsWell, Renamed, SameObjects};
 ghost use Rattle.lsa_list.specs.declared.recency.List.{List as Slots};
 ghost use Rattle.rc_registry.specs.Registry.{Registry, detached, on_use, set_passed, set_updating, with_pin, without_pin};
 ghost use Rattle.rc_memory.specs.declared.counts.Counts.{Counts};
-ghost use Rattle.rc_memory.specs.Memory.{KeptChain, Member, Memory, HasChain, IsObjectAt, listed_as, marked, moved, on_chain, on_shown, shown_detached, shown_pinned, shown_updating, with_chains};
+ghost use Rattle.rc_memory.specs.Memory.{KeptChain, Member, Memory, HasChain, IsObjectAt, IsOfVersion, IsVersionAt, changed, listed_as, marked, moved, on_chain, on_shown, shown_detached, shown_pinned, shown_updating, with_chains};
 ghost use Rattle.rc_memory.specs.Kept.{IsHeld, kept};
 
 /// Region, recency list, table and counts hold one memory.
@@ -59,4 +60,11 @@ pub fn the_list_is_told_by_places()
 pub fn an_object_stands_at_one_place()
     ensures place { (slots : Slots) (v : View) (registry : Registry) (counts : Counts) (m : Memory) (r : Ref) (w x : Member) → IsHeld slots v registry counts m → IsObjectAt v m.standing r w → IsObjectAt v m.standing r x → w ≡ x }
     ensures object { (slots : Slots) (v : View) (registry : Registry) (counts : Counts) (m : Memory) (r q : Ref) (w : Member) → IsHeld slots v registry counts m → IsObjectAt v m.standing r w → IsObjectAt v m.standing q w → r ≡ q }
+{}
+
+/// A version of a chain may change: all is held as before, with that version in its place, where the objects of it that are listed stand where they stood.
+pub fn a_version_may_change()
+    ensures { (slots : Slots) (old new : View) (registry : Registry) (counts : Counts) (m : Memory) (id j : ℕ) (p : PartitionEntry) (s : StandingVersion) (now : List Ref) (c : Version) → IsHeld slots old registry counts m → IsSummed old → IsWell new → IsSummed new → slice_index_or m.standing id None ≡ Some p → IsVersionAt p.versions j s →
+        IsKeptBut s.object old new → IsVersionOf new s.object now c → IsWeighed old new s.version c →
+        ((w : Member) (r : Ref) → Contains m.recency w → w.chain ≡ id → w.version ≡ j → IsOfVersion old s w.position r → IsOfVersion new (standing s.object now c) w.position r) → IsHeld slots new registry counts (changed id j (standing s.object now c) new m) }
 {}
