@@ -7,6 +7,8 @@
 use Rattle.std.specs.Prelude.{◌≡◌, ◌<◌, ℕ, zero, suc, Bool, true, false, List, [], ◌∷◌, ◌++◌, Option, Some, None, IsSome, IsSomeAnd, option_map, length, map, slice_index_or, Contains}
 use Rattle.rc_position.specs.declared.positions.Pos.{Pos}
 use Rattle.lsa_store.specs.declared.place.Ref.{Ref}
+use Rattle.lsa_region.specs.declared.end.Root.{Root}
+use Rattle.rc_core.specs.declared.entries.ChainKind.{ChainKind}
 use Rattle.lsa_region.specs.Region.{View}
 use Rattle.lsa_tree.specs.Entries.{IsEntryAtPosition}
 use Rattle.rc_core.specs.Chains.{Shown}
@@ -164,3 +166,15 @@ changed id j t region m = record {
   region = region;
   standing = put id (option_map (partition_with j t) (slice_index_or m.standing id None)) m.standing;
 }
+
+-- a chain of no version: found by its key, not under update, pinned by nobody
+abbrev pub empty_chain : ChainKind → KeptChain
+empty_chain kind = record { chain = record { kind = kind; versions = []; attached = true; updating = false; pins = [] }; passed = false }
+
+-- the memory with such a chain more, at a root slot
+abbrev pub opened : ℕ → Root → ChainKind → View → Memory → Memory
+opened id root kind region m = record { chains = put id (Some (empty_chain kind)) m.chains; recency = m.recency; dropped = m.dropped; counts = m.counts; region = region; standing = put id (Some (partition_of root [])) m.standing }
+
+-- the memory without the chain of a number, which is to be told
+abbrev pub closed : ℕ → View → Memory → Memory
+closed id region m = record { chains = put id None m.chains; recency = m.recency; dropped = m.dropped ++ (id ∷ []); counts = m.counts; region = region; standing = put id None m.standing }

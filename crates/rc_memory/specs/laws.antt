@@ -4,7 +4,9 @@ pub mod Changed
 pub mod Listed
 pub mod Moved
 pub mod One
+pub mod Opened
 pub mod Places
 pub mod Put
 pub mod Standing
+pub mod Statics
 pub mod Used

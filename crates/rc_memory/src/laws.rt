@@ -1,19 +1,22 @@
 //! The laws of a shard's memory, each the contract of a function that does nothing.
-ghost use Rattle.std.specs.Prelude.{◌≡◌, ◌≢◌, ℕ, Bool, List, [], ◌∷◌, ◌++◌, None, Contains, Some, slice_index_or};
+ghost use Rattle.std.specs.Prelude.{◌≡◌, ◌≢◌, ◌⊎◌, ℕ, Bool, List, [], ◌∷◌, ◌++◌, None, Contains, Some, slice_index_or};
+ghost use Rattle.rc_position.specs.declared.positions.Pos.{Pos};
+ghost use Rattle.rc_core.specs.declared.entries.ChainKind.{ChainKind};
+ghost use Rattle.lsa_region.specs.declared.end.Root.{Root};
 ghost use Rattle.lsa_region.specs.declared.end.End.{End};
 ghost use Rattle.lsa_region.specs.declared.end.End.TheVariants.{Obj};
 ghost use Rattle.lsa_list.specs.Recency.{first, IsElsewhere, IsList};
 ghost use Rattle.rc_core.specs.Version.{Version};
 ghost use Rattle.rc_version.specs.Versions.{IsKeptBut, IsUnlisted, IsVersionOf, IsWeighed};
 ghost use Rattle.rc_core.specs.Steps.{pinned, released};
-ghost use Rattle.rc_partition.specs.Partitions.{PartitionEntry, StandingVersion, standing};
+ghost use Rattle.rc_partition.specs.Partitions.{PartitionEntry, StandingVersion, partition_of, standing};
 ghost use Rattle.rc_registry.specs.declared.uses.Use.{Use};
 ghost use Rattle.lsa_store.specs.declared.place.Ref.{Ref};
-ghost use Rattle.lsa_region.specs.Region.{View, link_of, IsSummed, IsWell, Renamed, SameObjects};
+ghost use Rattle.lsa_region.specs.Region.{View, body, link_of, IsRootAdded, IsRootDropped, IsSummed, IsWell, Renamed, SameButRoots, SameObjects};
 ghost use Rattle.lsa_list.specs.declared.recency.List.{List as Slots};
-ghost use Rattle.rc_registry.specs.Registry.{Registry, detached, on_use, set_passed, set_updating, with_pin, without_pin};
+ghost use Rattle.rc_registry.specs.Registry.{Registry, detached, new_use, on_use, put, set_passed, set_updating, with_pin, with_use, without_pin};
 ghost use Rattle.rc_memory.specs.declared.counts.Counts.{Counts};
-ghost use Rattle.rc_memory.specs.Memory.{KeptChain, Member, Memory, HasChain, IsObjectAt, IsOfVersion, IsVersionAt, changed, listed_as, marked, moved, on_chain, on_shown, shown_detached, shown_pinned, shown_updating, with_chains};
+ghost use Rattle.rc_memory.specs.Memory.{KeptChain, Member, Memory, HasChain, IsObjectAt, IsOfVersion, IsVersionAt, chain_at, changed, closed, listed_as, marked, moved, on_chain, on_shown, opened, shown_detached, shown_pinned, shown_updating, with_chains};
 ghost use Rattle.rc_memory.specs.Kept.{IsHeld, kept};
 
 /// Region, recency list, table and counts hold one memory.
@@ -62,9 +65,20 @@ pub fn an_object_stands_at_one_place()
     ensures object { (slots : Slots) (v : View) (registry : Registry) (counts : Counts) (m : Memory) (r q : Ref) (w : Member) → IsHeld slots v registry counts m → IsObjectAt v m.standing r w → IsObjectAt v m.standing q w → r ≡ q }
 {}
 
-/// A version of a chain may change: all is held as before, with that version in its place, where the objects of it that are listed stand where they stood.
+/// A version of a chain may change: all is held as before, with that version in its place, where the objects of it that are listed stand where they stood; of a static row it is enough that no entry came to be but of what was not there.
 pub fn a_version_may_change()
-    ensures { (slots : Slots) (old new : View) (registry : Registry) (counts : Counts) (m : Memory) (id j : ℕ) (p : PartitionEntry) (s : StandingVersion) (now : List Ref) (c : Version) → IsHeld slots old registry counts m → IsSummed old → IsWell new → IsSummed new → slice_index_or m.standing id None ≡ Some p → IsVersionAt p.versions j s →
+    ensures changed { (slots : Slots) (old new : View) (registry : Registry) (counts : Counts) (m : Memory) (id j : ℕ) (p : PartitionEntry) (s : StandingVersion) (now : List Ref) (c : Version) → IsHeld slots old registry counts m → IsSummed old → IsWell new → IsSummed new → slice_index_or m.standing id None ≡ Some p → IsVersionAt p.versions j s →
         IsKeptBut s.object old new → IsVersionOf new s.object now c → IsWeighed old new s.version c →
         ((w : Member) (r : Ref) → Contains m.recency w → w.chain ≡ id → w.version ≡ j → IsOfVersion old s w.position r → IsOfVersion new (standing s.object now c) w.position r) → IsHeld slots new registry counts (changed id j (standing s.object now c) new m) }
+    ensures entries { (slots : Slots) (old new : View) (registry : Registry) (counts : Counts) (m : Memory) (id j : ℕ) (p : PartitionEntry) (s : StandingVersion) (now : List Ref) (c : Version) → IsHeld slots old registry counts m → IsSummed old → IsWell new → IsSummed new → slice_index_or m.standing id None ≡ Some p → IsVersionAt p.versions j s →
+        IsKeptBut s.object old new → IsVersionOf new s.object now c → IsWeighed old new s.version c → ((q : Ref) → Contains now q → Contains s.entries q ⊎ (body old q ≡ None)) →
+        ((x : Pos) (r : Ref) → Contains m.recency (record { chain = id; version = j; position = Some x }) → IsOfVersion old s (Some x) r → IsOfVersion new (standing s.object now c) (Some x) r) → IsHeld slots new registry counts (changed id j (standing s.object now c) new m) }
+{}
+
+/// A chain of no version comes with its root slot, and goes with it; its number is to be told then. Of a chain of no version nothing but its root slot stands.
+pub fn a_chain_comes_and_goes()
+    ensures opened { (slots : Slots) (old new : View) (registry : Registry) (counts : Counts) (m : Memory) (id : ℕ) (root : Root) (kind : ChainKind) → IsHeld slots old registry counts m → IsRootAdded old new root → SameButRoots old new → IsWell new → slice_index_or registry.uses id None ≡ None → IsHeld slots new (with_use id (Some (new_use root kind)) registry) counts (opened id root kind new m) }
+    ensures closed { (slots : Slots) (old new : View) (registry : Registry) (counts : Counts) (m : Memory) (id : ℕ) (root : Root) → IsHeld slots old registry counts m → IsRootDropped old new root → SameButRoots old new → IsWell new → slice_index_or m.standing id None ≡ Some (partition_of root []) →
+        IsHeld slots new (record { uses = put id None registry.uses; dropped = registry.dropped ++ (id ∷ []) }) counts (closed id new m) }
+    ensures empty { (slots : Slots) (v : View) (registry : Registry) (counts : Counts) (m : Memory) (id : ℕ) (k : KeptChain) → IsHeld slots v registry counts m → chain_at m id ≡ Some k → k.chain.versions ≡ [] → (u : Use) × (slice_index_or registry.uses id None ≡ Some u) × (slice_index_or m.standing id None ≡ Some (partition_of u.root [])) }
 {}

@@ -63,7 +63,7 @@ module _ (slots : Slots) (old new : View) (registry : Registry) (counts : Counts
   abbrev after : PartitionEntry
   after = partition_of p.root (number.older ++ (standing s.object now c ∷ number.newer))
 
-  place : IsPlaced m.standing id
+  abbrev pub place : IsPlaced m.standing id
   place = placed m.standing id
 
   user : IsUsedAs registry.uses m.chains id p
@@ -86,8 +86,13 @@ module _ (slots : Slots) (old new : View) (registry : Registry) (counts : Counts
       (put-same registry.uses id user.used user.at)
       (kept-put registry.uses m.standing m.chains id (Some user.used) (Some (partition_of p.root (number.older ++ (standing s.object now c ∷ number.newer)))) (Some (kept user.used (partition_of p.root (number.older ++ (standing s.object now c ∷ number.newer))))) h.kept (user.root, refl))
 
-  stands_before : AreStanding slots old (among place.front p.root number.older s number.newer place.back) h.listed
+  pub stands_before : AreStanding slots old (among place.front p.root number.older s number.newer place.back) h.listed
   stands_before = subst (λ ps. AreStanding slots old ps h.listed) (place.there p there ∙ ap (λ vs. place.front ++ (partition_of p.root vs ∷ place.back)) number.split) h.stands
+
+  pub stands-after : IsKeptBut s.object old new → IsVersionOf new s.object now c → IsSummed old → IsWell new → IsSummed new → IsWeighed old new s.version c
+      → AreStanding slots new (among place.front p.root number.older (standing s.object now c) number.newer place.back) h.listed
+  stands-after kept_but is summed well summed_new weigh =
+      stands-settled slots old new place.front p.root number.older s number.newer place.back h.listed h.well summed well summed_new kept_but stands_before now c is weigh
 
   module _ (kept_but : IsKeptBut s.object old new) (is : IsVersionOf new s.object now c)
       (rows : (w : Member) (r : Ref) → Contains m.recency w → w.chain ≡ id → w.version ≡ j → IsOfVersion old s w.position r → IsOfVersion new (standing s.object now c) w.position r) where
@@ -145,7 +150,7 @@ module _ (slots : Slots) (old new : View) (registry : Registry) (counts : Counts
       listed = h.listed;
       stands = subst (λ st. AreStanding slots new (present st) h.listed) (sym standing-is)
           (subst (λ ps. AreStanding slots new ps h.listed) (sym (place.with_one (partition_of p.root (number.older ++ (standing s.object now c ∷ number.newer)))))
-          (stands-settled slots old new place.front p.root number.older s number.newer place.back h.listed h.well summed well summed_new kept_but stands_before now c is weigh));
+          (stands-after kept_but is summed well summed_new weigh));
       recency = subst (λ st. StandAt new st h.listed m.recency) (sym standing-is)
           (stand-each old new m.standing (put id (Some (partition_of p.root (number.older ++ (standing s.object now c ∷ number.newer)))) m.standing) h.listed m.recency (λ r w in_refs on a. object_after r w on a) h.recency);
       dropped = h.dropped;
