@@ -1,6 +1,7 @@
 -- Laws of chains in memory.
 pub mod At
 pub mod Changed
+pub mod Each
 pub mod Listed
 pub mod Moved
 pub mod One
@@ -10,3 +11,4 @@ pub mod Put
 pub mod Standing
 pub mod Statics
 pub mod Used
+pub mod Versions

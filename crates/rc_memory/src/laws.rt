@@ -1,5 +1,5 @@
 //! The laws of a shard's memory, each the contract of a function that does nothing.
-ghost use Rattle.std.specs.Prelude.{◌≡◌, ◌≢◌, ◌⊎◌, ℕ, Bool, List, [], ◌∷◌, ◌++◌, None, Contains, Some, slice_index_or};
+ghost use Rattle.std.specs.Prelude.{◌≡◌, ◌≢◌, ◌⊎◌, ℕ, Bool, List, [], ◌∷◌, ◌++◌, None, Contains, Some, IsSome, slice_index_or, sum_by};
 ghost use Rattle.rc_position.specs.declared.positions.Pos.{Pos};
 ghost use Rattle.rc_core.specs.declared.entries.ChainKind.{ChainKind};
 ghost use Rattle.lsa_region.specs.declared.end.Root.{Root};
@@ -9,15 +9,16 @@ ghost use Rattle.lsa_list.specs.Recency.{first, IsElsewhere, IsList};
 ghost use Rattle.rc_core.specs.Version.{Version};
 ghost use Rattle.rc_version.specs.Versions.{IsKeptBut, IsUnlisted, IsVersionOf, IsWeighed};
 ghost use Rattle.rc_core.specs.Steps.{pinned, released};
-ghost use Rattle.rc_partition.specs.Partitions.{PartitionEntry, StandingVersion, partition_of, standing};
+ghost use Rattle.rc_partition.specs.Partitions.{PartitionEntry, StandingVersion, AreStanding, among, partition_of, standing};
 ghost use Rattle.rc_registry.specs.declared.uses.Use.{Use};
 ghost use Rattle.lsa_store.specs.declared.place.Ref.{Ref};
-ghost use Rattle.lsa_region.specs.Region.{View, body, link_of, IsRootAdded, IsRootDropped, IsSummed, IsWell, Renamed, SameButRoots, SameObjects};
+ghost use Rattle.lsa_region.specs.Region.{View, body, link_of, live_bytes, objects, IsRootAdded, IsRootDropped, IsSummed, IsWell, Renamed, SameButRoots, SameObjects};
 ghost use Rattle.lsa_list.specs.declared.recency.List.{List as Slots};
-ghost use Rattle.rc_registry.specs.Registry.{Registry, detached, new_use, on_use, put, set_passed, set_updating, with_pin, with_use, without_pin};
+ghost use Rattle.rc_registry.specs.Registry.{Registry, detached, new_use, on_use, put, set_passed, set_updating, with_pin, with_use, without_pin, without_version};
 ghost use Rattle.rc_memory.specs.declared.counts.Counts.{Counts};
-ghost use Rattle.rc_memory.specs.Memory.{KeptChain, Member, Memory, HasChain, IsObjectAt, IsOfVersion, IsVersionAt, chain_at, changed, closed, listed_as, marked, moved, on_chain, on_shown, opened, shown_detached, shown_pinned, shown_updating, with_chains};
-ghost use Rattle.rc_memory.specs.Kept.{IsHeld, kept};
+ghost use Rattle.rc_memory.specs.Memory.{KeptChain, Member, Memory, HasChain, IsObjectAt, IsOfVersion, IsVersionAt, IsVersionObject, chain_at, changed, closed, fewer_versions, listed_as, marked, more_versions, moved, on_chain, on_shown, opened, shown_detached, shown_pinned, shown_updating, with_chains};
+ghost use Rattle.rc_memory.specs.Kept.{IsHeld, kept, present};
+ghost use Rattle.rc_memory.specs.Room.{chain_bytes, chain_objects};
 
 /// Region, recency list, table and counts hold one memory.
 pub fn they_hold_one_memory()
@@ -75,10 +76,29 @@ pub fn a_version_may_change()
         ((x : Pos) (r : Ref) → Contains m.recency (record { chain = id; version = j; position = Some x }) → IsOfVersion old s (Some x) r → IsOfVersion new (standing s.object now c) (Some x) r) → IsHeld slots new registry counts (changed id j (standing s.object now c) new m) }
 {}
 
+/// A version of its end dummy alone is put over those of a chain; and one that has no listed object is dropped, when the newer ones have numbers less by one, and their pins and listed objects with them.
+pub fn a_version_comes_and_goes()
+    ensures added { (slots : Slots) (old new : View) (registry : Registry) (counts : Counts) (m : Memory) (id : ℕ) (p : PartitionEntry) (n : Ref) (c : Version) → IsHeld slots old registry counts m → IsWell new → slice_index_or m.standing id None ≡ Some p →
+        ((front : List PartitionEntry) (versions : List StandingVersion) (back : List PartitionEntry) (listed : List Ref) → AreStanding slots old (front ++ (partition_of p.root versions ∷ back)) listed →
+            (end : Ref) × AreStanding slots new (front ++ (partition_of p.root (versions ++ (standing n (end ∷ []) c ∷ [])) ∷ back)) listed × IsUnlisted new end) →
+        ((q : Ref) (refs : List Ref) (d : Version) → IsVersionOf old q refs d → link_of new (Obj q 3) ≡ link_of old (Obj q 3)) → (end : Ref) × IsHeld slots new registry counts (more_versions id (standing n (end ∷ []) c) new m) × IsUnlisted new end }
+    ensures dropped { (slots : Slots) (old new : View) (registry : Registry) (counts : Counts) (m : Memory) (id j : ℕ) (p : PartitionEntry) (s : StandingVersion) → IsHeld slots old registry counts m → IsWell new → slice_index_or m.standing id None ≡ Some p → IsVersionAt p.versions j s →
+        ((front : List PartitionEntry) (older : List StandingVersion) (t : StandingVersion) (newer : List StandingVersion) (back : List PartitionEntry) (listed : List Ref) → t.object ≡ s.object →
+            AreStanding slots old (among front p.root older t newer back) listed → AreStanding slots new (front ++ (partition_of p.root (older ++ newer) ∷ back)) listed) →
+        ((q : Ref) (refs : List Ref) (d : Version) → q ≢ s.object → IsVersionOf old q refs d → link_of new (Obj q 3) ≡ link_of old (Obj q 3)) → IsHeld slots new (on_use id (without_version j) registry) counts (fewer_versions id j new m) }
+{}
+
 /// A chain of no version comes with its root slot, and goes with it; its number is to be told then. Of a chain of no version nothing but its root slot stands.
 pub fn a_chain_comes_and_goes()
     ensures opened { (slots : Slots) (old new : View) (registry : Registry) (counts : Counts) (m : Memory) (id : ℕ) (root : Root) (kind : ChainKind) → IsHeld slots old registry counts m → IsRootAdded old new root → SameButRoots old new → IsWell new → slice_index_or registry.uses id None ≡ None → IsHeld slots new (with_use id (Some (new_use root kind)) registry) counts (opened id root kind new m) }
     ensures closed { (slots : Slots) (old new : View) (registry : Registry) (counts : Counts) (m : Memory) (id : ℕ) (root : Root) → IsHeld slots old registry counts m → IsRootDropped old new root → SameButRoots old new → IsWell new → slice_index_or m.standing id None ≡ Some (partition_of root []) →
         IsHeld slots new (record { uses = put id None registry.uses; dropped = registry.dropped ++ (id ∷ []) }) counts (closed id new m) }
     ensures empty { (slots : Slots) (v : View) (registry : Registry) (counts : Counts) (m : Memory) (id : ℕ) (k : KeptChain) → IsHeld slots v registry counts m → chain_at m id ≡ Some k → k.chain.versions ≡ [] → (u : Use) × (slice_index_or registry.uses id None ≡ Some u) × (slice_index_or m.standing id None ≡ Some (partition_of u.root [])) }
+{}
+
+/// Each object is a version of a chain, or stands at a place of one; what is live is what the chains take, and there are as many objects as they have.
+pub fn each_object_is_of_a_chain()
+    ensures each { (slots : Slots) (v : View) (registry : Registry) (counts : Counts) (m : Memory) (r : Ref) → IsHeld slots v registry counts m → IsSummed v → IsSome (body v r) → ((id : ℕ) × (j : ℕ) × IsVersionObject m id j r) ⊎ ((w : Member) × IsObjectAt v m.standing r w) }
+    ensures bytes { (slots : Slots) (v : View) (registry : Registry) (counts : Counts) (m : Memory) → IsHeld slots v registry counts m → live_bytes v ≡ sum_by chain_bytes (present m.chains) }
+    ensures objects { (slots : Slots) (v : View) (registry : Registry) (counts : Counts) (m : Memory) → IsHeld slots v registry counts m → IsSummed v → objects v ≡ sum_by chain_objects (present m.chains) }
 {}
