@@ -1,5 +1,5 @@
 -- How large the objects of chains are: each row that may be joined in them makes an object of at most an eighth of a segment.
-use Rattle.std.specs.Prelude.{◌≡◌, ◌≤◌, ◌/◌, ℕ, List, Option, Some, Contains, IfSome, sum_by}
+use Rattle.std.specs.Prelude.{◌≡◌, ◌≤◌, ◌/◌, ℕ, List, ◌∷◌, Option, Some, Contains, IfSome, sum_by}
 use Rattle.rc_cell.specs.declared.rows.Row.{Row}
 use Rattle.rc_cell.specs.Winner.{joined_row}
 use Rattle.rc_position.specs.declared.positions.Pos.{Pos}
@@ -19,8 +19,8 @@ HasStaticRow versions row = (v : Version) × Contains versions v × (v.statics �
 
 -- at each place the rows of any of these versions, joined, make an object of at most an eighth of a segment, and so does each entry's position as a dummy
 pub record FitTogether (S : ℕ) (versions : List Version) : Type 0 where
-  pub rows : (x : Pos) (rows : List Row) → ((row : Row) → Contains rows row → HasRowAt versions x row) → bytes_at x (Some (joined_row rows)) ≤ S / 8
-  pub statics : (rows : List Row) → ((row : Row) → Contains rows row → HasStaticRow versions row) → static_size (joined_row rows) ≤ S / 8
+  pub rows : (x : Pos) (one : Row) (rows : List Row) → ((row : Row) → Contains (one ∷ rows) row → HasRowAt versions x row) → bytes_at x (Some (joined_row (one ∷ rows))) ≤ S / 8
+  pub statics : (one : Row) (rows : List Row) → ((row : Row) → Contains (one ∷ rows) row → HasStaticRow versions row) → static_size (joined_row (one ∷ rows)) ≤ S / 8
   pub positions : (v : Version) (e : Entry) → Contains versions v → Contains v.entries e → dummy_size e.position ≤ S / 8
 
 -- those of each chain do

@@ -1,14 +1,19 @@
 //! The laws of a shard's memory, each the contract of a function that does nothing.
-ghost use Rattle.std.specs.Prelude.{◌≡◌, ◌≢◌, ◌⊎◌, ℕ, Bool, List, [], ◌∷◌, ◌++◌, None, Contains, Some, IsSome, slice_index_or, sum_by};
+ghost use Rattle.std.specs.Prelude.{◌≡◌, ◌≢◌, ◌⊎◌, ◌<◌, ◌≤◌, ◌/◌, ℕ, suc, Bool, true, false, Option, length, List, [], ◌∷◌, ◌++◌, None, Contains, Some, IsSome, slice_index_or, sum_by};
 ghost use Rattle.rc_position.specs.declared.positions.Pos.{Pos};
 ghost use Rattle.rc_core.specs.declared.entries.ChainKind.{ChainKind};
 ghost use Rattle.lsa_region.specs.declared.end.Root.{Root};
 ghost use Rattle.lsa_region.specs.declared.end.End.{End};
 ghost use Rattle.lsa_region.specs.declared.end.End.TheVariants.{Obj};
 ghost use Rattle.lsa_list.specs.Recency.{first, IsElsewhere, IsList};
-ghost use Rattle.rc_core.specs.Version.{Version};
+ghost use Rattle.rc_core.specs.Version.{Version, end_position};
 ghost use Rattle.rc_version.specs.Versions.{IsKeptBut, IsUnlisted, IsVersionOf, IsWeighed};
-ghost use Rattle.rc_core.specs.Steps.{pinned, released};
+ghost use Rattle.rc_core.specs.Steps.{pinned, released, version_of};
+ghost use Rattle.rc_core.specs.Chains.{Shown, IsPinned};
+ghost use Rattle.rc_core.specs.declared.entries.ChainKind.TheVariants.{Cache};
+ghost use Rattle.rc_core.specs.declared.entries.Flag.{Flag};
+ghost use Rattle.rc_cell.specs.declared.writes.Tomb.{Tomb};
+ghost use Rattle.rc_rowcode.specs.Objects.{dummy_size};
 ghost use Rattle.rc_partition.specs.Partitions.{PartitionEntry, StandingVersion, AreStanding, among, partition_of, standing};
 ghost use Rattle.rc_registry.specs.declared.uses.Use.{Use};
 ghost use Rattle.lsa_store.specs.declared.place.Ref.{Ref};
@@ -16,9 +21,9 @@ ghost use Rattle.lsa_region.specs.Region.{View, body, link_of, live_bytes, objec
 ghost use Rattle.lsa_list.specs.declared.recency.List.{List as Slots};
 ghost use Rattle.rc_registry.specs.Registry.{Registry, detached, new_use, on_use, put, set_passed, set_updating, with_pin, with_use, without_pin, without_version};
 ghost use Rattle.rc_memory.specs.declared.counts.Counts.{Counts};
-ghost use Rattle.rc_memory.specs.Memory.{KeptChain, Member, Memory, HasChain, IsObjectAt, IsOfVersion, IsVersionAt, IsVersionObject, chain_at, changed, closed, fewer_versions, listed_as, marked, more_versions, moved, on_chain, on_shown, opened, shown_detached, shown_pinned, shown_updating, with_chains};
-ghost use Rattle.rc_memory.specs.Kept.{IsHeld, kept, present};
-ghost use Rattle.rc_memory.specs.Room.{chain_bytes, chain_objects};
+ghost use Rattle.rc_memory.specs.Memory.{KeptChain, Member, Memory, HasChain, IsObjectAt, IsOfVersion, IsVersionAt, IsVersionObject, chain_at, changed, closed, fewer_versions, listed_as, marked, more_versions, moved, on_chain, on_shown, on_version_of, opened, shown_detached, shown_pinned, shown_updating, shown_with, shown_without, with_chains};
+ghost use Rattle.rc_memory.specs.Kept.{IsHeld, IsSound, kept, present};
+ghost use Rattle.rc_memory.specs.Room.{FitTogether, chain_bytes, chain_objects};
 
 /// Region, recency list, table and counts hold one memory.
 pub fn they_hold_one_memory()
@@ -101,4 +106,23 @@ pub fn each_object_is_of_a_chain()
     ensures each { (slots : Slots) (v : View) (registry : Registry) (counts : Counts) (m : Memory) (r : Ref) → IsHeld slots v registry counts m → IsSummed v → IsSome (body v r) → ((id : ℕ) × (j : ℕ) × IsVersionObject m id j r) ⊎ ((w : Member) × IsObjectAt v m.standing r w) }
     ensures bytes { (slots : Slots) (v : View) (registry : Registry) (counts : Counts) (m : Memory) → IsHeld slots v registry counts m → live_bytes v ≡ sum_by chain_bytes (present m.chains) }
     ensures objects { (slots : Slots) (v : View) (registry : Registry) (counts : Counts) (m : Memory) → IsHeld slots v registry counts m → IsSummed v → objects v ≡ sum_by chain_objects (present m.chains) }
+{}
+
+/// A sound chain stays sound where it is pinned, released, detached, settled, begun to be updated, changed, and where a version comes or goes.
+pub fn a_sound_chain_stays_sound()
+    ensures pinned { (c : Shown) (version : ℕ) → IsSound c → version < length c.versions → (c.updating ≡ true → suc version < length c.versions) → IsSound (shown_pinned (pinned version c.pins) c) }
+    ensures released { (c : Shown) (pin : ℕ) → IsSound c → IsSound (shown_pinned (released pin c.pins) c) }
+    ensures detached { (c : Shown) → IsSound c → IsSound (shown_detached c) }
+    ensures settled { (c : Shown) → IsSound c → IsSound (shown_updating false c) }
+    ensures updating { (c : Shown) → IsSound c → c.kind ≡ Cache → c.attached ≡ true → 2 ≤ length c.versions → ((j : ℕ) → IsPinned c.pins j → suc j < length c.versions) → IsSound (shown_updating true c) }
+    ensures changed { (c : Shown) (j : ℕ) (f : Version → Version) → IsSound c → IsSound (on_version_of j f c) }
+    ensures more { (c : Shown) (v : Version) → IsSound c → IsSound (shown_with (c.versions ++ (v ∷ [])) c) }
+    ensures fewer { (c : Shown) (j : ℕ) → IsSound c → (IsPinned c.pins j → ⊥) → j < length c.versions → 2 ≤ length c.versions → (c.updating ≡ true → suc j < length c.versions) → (c.updating ≡ true → 3 ≤ length c.versions) → IsSound (shown_without j c) }
+{}
+
+/// Rows that fit together still do where versions go, and where one comes that has its end dummy alone.
+pub fn rows_still_fit()
+    ensures fewer { (S : ℕ) (vs ws : List Version) → ((v : Version) → Contains ws v → Contains vs v) → FitTogether S vs → FitTogether S ws }
+    ensures none { (S : ℕ) → FitTogether S [] }
+    ensures more { (S : ℕ) (vs : List Version) (flag : Flag) (pt : Option Tomb) (phase : ℕ) → dummy_size end_position ≤ S / 8 → FitTogether S vs → FitTogether S (vs ++ (version_of flag pt phase ∷ [])) }
 {}
