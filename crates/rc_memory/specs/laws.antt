@@ -8,6 +8,7 @@ pub mod One
 pub mod Opened
 pub mod Places
 pub mod Put
+pub mod Recent
 pub mod Rules
 pub mod Standing
 pub mod Statics

@@ -1,5 +1,5 @@
 //! The laws of a shard's memory, each the contract of a function that does nothing.
-ghost use Rattle.std.specs.Prelude.{◌≡◌, ◌≢◌, ◌⊎◌, ◌<◌, ◌≤◌, ◌/◌, ℕ, suc, Bool, true, false, Option, length, List, [], ◌∷◌, ◌++◌, None, Contains, Some, IsSome, slice_index_or, sum_by};
+ghost use Rattle.std.specs.Prelude.{◌≡◌, ◌≢◌, ◌⊎◌, ◌<◌, ◌≤◌, ◌/◌, ℕ, suc, Bool, true, false, Option, length, List, [], ◌∷◌, ◌++◌, None, AllPairs, Contains, IsSomeAnd, Some, IsSome, slice_index_or, sum_by};
 ghost use Rattle.rc_position.specs.declared.positions.Pos.{Pos};
 ghost use Rattle.rc_core.specs.declared.entries.ChainKind.{ChainKind};
 ghost use Rattle.lsa_region.specs.declared.end.Root.{Root};
@@ -23,6 +23,7 @@ ghost use Rattle.rc_registry.specs.Registry.{Registry, detached, new_use, on_use
 ghost use Rattle.rc_memory.specs.declared.counts.Counts.{Counts};
 ghost use Rattle.rc_memory.specs.Memory.{KeptChain, Member, Memory, HasChain, IsObjectAt, IsOfVersion, IsVersionAt, IsVersionObject, chain_at, changed, closed, fewer_versions, listed_as, marked, more_versions, moved, on_chain, on_shown, on_version_of, opened, shown_detached, shown_pinned, shown_updating, shown_with, shown_without, with_chains};
 ghost use Rattle.rc_memory.specs.Kept.{IsHeld, IsSound, kept, present};
+ghost use Rattle.rc_memory.specs.Recency.{HasObject, IsLastInner, IsRecency, IsUnderUpdate, MayBeListed, MustBeListed};
 ghost use Rattle.rc_memory.specs.Room.{FitTogether, chain_bytes, chain_objects};
 
 /// Region, recency list, table and counts hold one memory.
@@ -125,4 +126,30 @@ pub fn rows_still_fit()
     ensures fewer { (S : ℕ) (vs ws : List Version) → ((v : Version) → Contains ws v → Contains vs v) → FitTogether S vs → FitTogether S ws }
     ensures none { (S : ℕ) → FitTogether S [] }
     ensures more { (S : ℕ) (vs : List Version) (flag : Flag) (pt : Option Tomb) (phase : ℕ) → dummy_size end_position ≤ S / 8 → FitTogether S vs → FitTogether S (vs ++ (version_of flag pt phase ∷ [])) }
+{}
+
+/// The recency list keeps its rule where neither it nor a chain changes, where an object that may be in it is put at its back, where one that need not be in it is taken out, and where one is made the most recent one.
+pub fn the_recency_list_keeps_its_rule()
+    ensures same { (m n : Memory) → n.chains ≡ m.chains → n.recency ≡ m.recency → IsRecency m → IsRecency n }
+    ensures pushed { (m n : Memory) (w : Member) → n.chains ≡ m.chains → n.recency ≡ m.recency ++ (w ∷ []) → (Contains m.recency w → ⊥) → IsSomeAnd (chain_at m w.chain) (λ k. MayBeListed k.chain w.version w.position) → IsRecency m → IsRecency n }
+    ensures taken { (m n : Memory) (front : List Member) (w : Member) (back : List Member) → n.chains ≡ m.chains → m.recency ≡ front ++ (w ∷ back) → n.recency ≡ front ++ back → (IsSomeAnd (chain_at m w.chain) (λ k. MustBeListed k.chain w.version w.position) → ⊥) → IsRecency m → IsRecency n }
+    ensures touched { (m n : Memory) (front : List Member) (w : Member) (back : List Member) → n.chains ≡ m.chains → m.recency ≡ front ++ (w ∷ back) → n.recency ≡ (front ++ back) ++ (w ∷ []) → IsRecency m → IsRecency n }
+{}
+
+/// A chain may change under the recency list: where its kind, its versions and whether it is under update stay; where a version of its end dummy alone is put over those of one that was not under update; where it comes with such a version; and where it goes and has no listed object.
+pub fn a_chain_may_change_under_the_recency_list()
+    ensures alike { (m n : Memory) (id : ℕ) (g : KeptChain → KeptChain) → n.chains ≡ on_chain id g m.chains → n.recency ≡ m.recency →
+        ((k : KeptChain) → ((g k).chain.kind ≡ k.chain.kind) × ((g k).chain.versions ≡ k.chain.versions) × ((g k).chain.updating ≡ k.chain.updating)) → IsRecency m → IsRecency n }
+    ensures more { (m n : Memory) (id : ℕ) (g : KeptChain → KeptChain) (flag : Flag) (pt : Option Tomb) (phase : ℕ) → n.chains ≡ on_chain id g m.chains → n.recency ≡ m.recency →
+        ((k : KeptChain) → chain_at m id ≡ Some k → ((g k).chain.kind ≡ k.chain.kind) × ((g k).chain.versions ≡ k.chain.versions ++ (version_of flag pt phase ∷ [])) × (k.chain.updating ≡ false)) → IsRecency m → IsRecency n }
+    ensures made { (m n : Memory) (id : ℕ) (k : KeptChain) (flag : Flag) (pt : Option Tomb) (phase : ℕ) → n.chains ≡ put id (Some k) m.chains → n.recency ≡ m.recency → chain_at m id ≡ None → k.chain.versions ≡ version_of flag pt phase ∷ [] → IsRecency m → IsRecency n }
+    ensures gone { (m n : Memory) (id : ℕ) → n.chains ≡ put id None m.chains → n.recency ≡ m.recency → ((j : ℕ) (at : Option Pos) → Contains m.recency (record { chain = id; version = j; position = at }) → ⊥) → IsRecency m → IsRecency n }
+{}
+
+/// A version may change under the recency list: it is enough that of the objects that it has then all are listed that must be, and none that may not.
+pub fn a_version_may_change_under_the_recency_list()
+    ensures { (m n : Memory) (id j : ℕ) (f : Version → Version) (k : KeptChain) (v : Version) → chain_at m id ≡ Some k → IsVersionAt k.chain.versions j v → n.chains ≡ on_chain id (on_shown (on_version_of j f)) m.chains → AllPairs ◌≢◌ n.recency →
+        ((w : Member) → (w.chain ≡ id → w.version ≡ j → ⊥) → Contains n.recency w → Contains m.recency w) → ((w : Member) → (w.chain ≡ id → w.version ≡ j → ⊥) → Contains m.recency w → Contains n.recency w) →
+        ((at : Option Pos) → Contains n.recency (record { chain = id; version = j; position = at }) → (k.chain.kind ≡ Cache) × HasObject (f v) at × (IsUnderUpdate k.chain j → at ≢ Some end_position)) →
+        ((at : Option Pos) → k.chain.kind ≡ Cache → HasObject (f v) at → at ≢ Some end_position → (IsUnderUpdate k.chain j → IsLastInner (f v) at → ⊥) → Contains n.recency (record { chain = id; version = j; position = at })) → IsRecency m → IsRecency n }
 {}
