@@ -2,7 +2,9 @@
 pub mod At
 pub mod Changed
 pub mod Each
+pub mod Keeping
 pub mod Listed
+pub mod Listing
 pub mod Moved
 pub mod One
 pub mod Opened

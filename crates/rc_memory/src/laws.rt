@@ -22,7 +22,7 @@ ghost use Rattle.lsa_list.specs.declared.recency.List.{List as Slots};
 ghost use Rattle.rc_registry.specs.Registry.{Registry, detached, new_use, on_use, put, set_passed, set_updating, with_pin, with_use, without_pin, without_version};
 ghost use Rattle.rc_memory.specs.declared.counts.Counts.{Counts};
 ghost use Rattle.rc_memory.specs.Memory.{KeptChain, Member, Memory, HasChain, IsObjectAt, IsOfVersion, IsVersionAt, IsVersionObject, chain_at, changed, closed, fewer_versions, listed_as, marked, more_versions, moved, on_chain, on_shown, on_version_of, opened, shown_detached, shown_pinned, shown_updating, shown_with, shown_without, with_chains};
-ghost use Rattle.rc_memory.specs.Kept.{IsHeld, IsSound, kept, present};
+ghost use Rattle.rc_memory.specs.Kept.{IsHeld, IsMemory, IsSound, kept, present};
 ghost use Rattle.rc_memory.specs.Recency.{HasObject, IsLastInner, IsRecency, IsUnderUpdate, MayBeListed, MustBeListed};
 ghost use Rattle.rc_memory.specs.Room.{FitTogether, chain_bytes, chain_objects};
 
@@ -152,4 +152,25 @@ pub fn a_version_may_change_under_the_recency_list()
         ((w : Member) → (w.chain ≡ id → w.version ≡ j → ⊥) → Contains n.recency w → Contains m.recency w) → ((w : Member) → (w.chain ≡ id → w.version ≡ j → ⊥) → Contains m.recency w → Contains n.recency w) →
         ((at : Option Pos) → Contains n.recency (record { chain = id; version = j; position = at }) → (k.chain.kind ≡ Cache) × HasObject (f v) at × (IsUnderUpdate k.chain j → at ≢ Some end_position)) →
         ((at : Option Pos) → k.chain.kind ≡ Cache → HasObject (f v) at → at ≢ Some end_position → (IsUnderUpdate k.chain j → IsLastInner (f v) at → ⊥) → Contains n.recency (record { chain = id; version = j; position = at })) → IsRecency m → IsRecency n }
+{}
+
+/// A memory keeps its rules where a chain gets the cleaner's mark or loses it, is pinned, and is pinned no longer; and after objects moved.
+pub fn a_memory_keeps_its_rules()
+    ensures passed { (S : ℕ) (slots : Slots) (v : View) (registry : Registry) (counts : Counts) (m : Memory) (id : ℕ) (passed : Bool) → IsMemory S slots v registry counts m → HasChain m id → IsMemory S slots v (on_use id (set_passed passed) registry) counts (with_chains (on_chain id (marked passed) m.chains) m) }
+    ensures pinned { (S : ℕ) (slots : Slots) (v : View) (registry : Registry) (counts : Counts) (m : Memory) (id : ℕ) (version : ℕ) → IsMemory S slots v registry counts m → HasChain m id → ((k : KeptChain) → chain_at m id ≡ Some k → version < length k.chain.versions) → ((k : KeptChain) → chain_at m id ≡ Some k → k.chain.updating ≡ true → suc version < length k.chain.versions) →
+        IsMemory S slots v (on_use id (with_pin version) registry) counts (with_chains (on_chain id (on_shown (λ c. shown_pinned (pinned version c.pins) c)) m.chains) m) }
+    ensures released { (S : ℕ) (slots : Slots) (v : View) (registry : Registry) (counts : Counts) (m : Memory) (id : ℕ) (pin : ℕ) → IsMemory S slots v registry counts m → HasChain m id → IsMemory S slots v (on_use id (without_pin pin) registry) counts (with_chains (on_chain id (on_shown (λ c. shown_pinned (released pin c.pins) c)) m.chains) m) }
+    ensures moved { (S : ℕ) (slots : Slots) (old new : View) (registry : Registry) (counts : Counts) (m : Memory) (names : List (Ref × Ref)) → IsMemory S slots old registry counts m → Renamed old new names → IsWell new → IsMemory S slots new registry counts (moved names new m) }
+{}
+
+/// A version of a cache chain has the same objects, or gets one that is pushed at the back, or loses one that is taken out: the list keeps its rule where the last entry before the end of a version under update is that still, or is listed. So it does where an update ends and that entry is listed.
+pub fn an_objects_place_comes_and_goes()
+    ensures same { (m n : Memory) (id j : ℕ) (f : Version → Version) (k : KeptChain) (v : Version) → chain_at m id ≡ Some k → IsVersionAt k.chain.versions j v → n.chains ≡ on_chain id (on_shown (on_version_of j f)) m.chains → IsRecency m → k.chain.kind ≡ Cache → n.recency ≡ m.recency → ((at : Option Pos) → HasObject v at → HasObject (f v) at) → ((at : Option Pos) → HasObject (f v) at → HasObject v at) → (IsUnderUpdate k.chain j → (at : Option Pos) → IsLastInner v at → IsLastInner (f v) at ⊎ Contains m.recency (record { chain = id; version = j; position = at })) → IsRecency n }
+    ensures made { (m n : Memory) (id j : ℕ) (f : Version → Version) (k : KeptChain) (v : Version) (x : Option Pos) → chain_at m id ≡ Some k → IsVersionAt k.chain.versions j v → n.chains ≡ on_chain id (on_shown (on_version_of j f)) m.chains → IsRecency m → k.chain.kind ≡ Cache → n.recency ≡ m.recency ++ (record { chain = id; version = j; position = x } ∷ []) → ((at : Option Pos) → HasObject v at → HasObject (f v) at) → ((at : Option Pos) → HasObject (f v) at → HasObject v at ⊎ (at ≡ x)) →
+        HasObject (f v) x → (HasObject v x → ⊥) → x ≢ Some end_position → (IsUnderUpdate k.chain j → (at : Option Pos) → IsLastInner v at → IsLastInner (f v) at ⊎ Contains m.recency (record { chain = id; version = j; position = at })) → IsRecency n }
+    ensures lost { (m n : Memory) (id j : ℕ) (f : Version → Version) (k : KeptChain) (v : Version) (x : Option Pos) (front back : List Member) → chain_at m id ≡ Some k → IsVersionAt k.chain.versions j v → n.chains ≡ on_chain id (on_shown (on_version_of j f)) m.chains → IsRecency m → k.chain.kind ≡ Cache → m.recency ≡ front ++ (record { chain = id; version = j; position = x } ∷ back) → n.recency ≡ front ++ back → ((at : Option Pos) → at ≢ x → HasObject v at → HasObject (f v) at) →
+        ((at : Option Pos) → HasObject (f v) at → HasObject v at × (at ≢ x)) → (IsUnderUpdate k.chain j → (at : Option Pos) → IsLastInner v at → IsLastInner (f v) at ⊎ Contains m.recency (record { chain = id; version = j; position = at })) → IsRecency n }
+    ensures settled { (m n : Memory) (id : ℕ) (g : KeptChain → KeptChain) → n.chains ≡ on_chain id g m.chains → n.recency ≡ m.recency → IsRecency m →
+        ((k : KeptChain) → ((g k).chain.kind ≡ k.chain.kind) × ((g k).chain.versions ≡ k.chain.versions) × ((g k).chain.updating ≡ false)) →
+        ((k : KeptChain) → chain_at m id ≡ Some k → (j : ℕ) (v : Version) (at : Option Pos) → IsUnderUpdate k.chain j → IsVersionAt k.chain.versions j v → IsLastInner v at → Contains m.recency (record { chain = id; version = j; position = at })) → IsRecency n }
 {}

@@ -84,10 +84,10 @@ from_there : (Q : KeptChain → Type 0) (R : Type 0) (g : KeptChain → KeptChai
 from_there Q R g None h f = absurd h
 from_there Q R g (Some k) h f = f k refl h
 
-at_there : (P : KeptChain → Type 0) (o : Option KeptChain) (k : KeptChain) → IsSomeAnd o P → o ≡ Some k → P k
+pub at_there : (P : KeptChain → Type 0) (o : Option KeptChain) (k : KeptChain) → IsSomeAnd o P → o ≡ Some k → P k
 at_there P o k h e = subst (λ (x : Option KeptChain). IsSomeAnd x P) e h
 
-there_at : (P : KeptChain → Type 0) (o : Option KeptChain) (k : KeptChain) → P k → o ≡ Some k → IsSomeAnd o P
+pub there_at : (P : KeptChain → Type 0) (o : Option KeptChain) (k : KeptChain) → P k → o ≡ Some k → IsSomeAnd o P
 there_at P o k h e = subst (λ (x : Option KeptChain). IsSomeAnd x P) (sym e) h
 
 module _ (m n : Memory) (id : ℕ) (g : KeptChain → KeptChain) (is : n.chains ≡ on_chain id g m.chains) (list : n.recency ≡ m.recency) (h : IsRecency m) where
