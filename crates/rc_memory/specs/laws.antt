@@ -1,6 +1,7 @@
 -- Laws of chains in memory.
 pub mod At
 pub mod Changed
+pub mod Dropped
 pub mod Each
 pub mod Keeping
 pub mod Listed

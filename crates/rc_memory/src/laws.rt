@@ -1,5 +1,5 @@
 //! The laws of a shard's memory, each the contract of a function that does nothing.
-ghost use Rattle.std.specs.Prelude.{◌≡◌, ◌≢◌, ◌⊎◌, ◌<◌, ◌≤◌, ◌/◌, ℕ, suc, Bool, true, false, Option, length, List, [], ◌∷◌, ◌++◌, None, AllPairs, Contains, IsSomeAnd, Some, IsSome, slice_index_or, sum_by};
+ghost use Rattle.std.specs.Prelude.{◌≡◌, ◌≢◌, ◌⊎◌, ◌<◌, ◌≤◌, ◌/◌, ℕ, suc, Bool, true, false, Option, length, map, List, [], ◌∷◌, ◌++◌, None, AllPairs, Contains, IsSomeAnd, Some, IsSome, slice_index_or, sum_by};
 ghost use Rattle.rc_position.specs.declared.positions.Pos.{Pos};
 ghost use Rattle.rc_core.specs.declared.entries.ChainKind.{ChainKind};
 ghost use Rattle.lsa_region.specs.declared.end.Root.{Root};
@@ -21,7 +21,7 @@ ghost use Rattle.lsa_region.specs.Region.{View, body, link_of, live_bytes, objec
 ghost use Rattle.lsa_list.specs.declared.recency.List.{List as Slots};
 ghost use Rattle.rc_registry.specs.Registry.{Registry, detached, new_use, on_use, put, set_passed, set_updating, with_pin, with_use, without_pin, without_version};
 ghost use Rattle.rc_memory.specs.declared.counts.Counts.{Counts};
-ghost use Rattle.rc_memory.specs.Memory.{KeptChain, Member, Memory, HasChain, IsObjectAt, IsOfVersion, IsVersionAt, IsVersionObject, chain_at, changed, closed, fewer_versions, listed_as, marked, more_versions, moved, on_chain, on_shown, on_version_of, opened, shown_detached, shown_pinned, shown_updating, shown_with, shown_without, with_chains};
+ghost use Rattle.rc_memory.specs.Memory.{KeptChain, Member, Memory, HasChain, IsObjectAt, IsOfVersion, IsVersionAt, IsVersionObject, chain_at, changed, closed, fewer_versions, listed_as, marked, more_versions, moved, on_chain, on_shown, on_version_of, opened, renumbered_member, shown_detached, shown_pinned, shown_updating, shown_with, shown_without, with_chains};
 ghost use Rattle.rc_memory.specs.Kept.{IsHeld, IsMemory, IsSound, kept, present};
 ghost use Rattle.rc_memory.specs.Recency.{HasObject, IsLastInner, IsRecency, IsUnderUpdate, MayBeListed, MustBeListed};
 ghost use Rattle.rc_memory.specs.Room.{FitTogether, chain_bytes, chain_objects};
@@ -173,4 +173,10 @@ pub fn an_objects_place_comes_and_goes()
     ensures settled { (m n : Memory) (id : ℕ) (g : KeptChain → KeptChain) → n.chains ≡ on_chain id g m.chains → n.recency ≡ m.recency → IsRecency m →
         ((k : KeptChain) → ((g k).chain.kind ≡ k.chain.kind) × ((g k).chain.versions ≡ k.chain.versions) × ((g k).chain.updating ≡ false)) →
         ((k : KeptChain) → chain_at m id ≡ Some k → (j : ℕ) (v : Version) (at : Option Pos) → IsUnderUpdate k.chain j → IsVersionAt k.chain.versions j v → IsLastInner v at → Contains m.recency (record { chain = id; version = j; position = at })) → IsRecency n }
+{}
+
+/// A version of which nothing is listed, and over which the one under update stands where one does, may be dropped: the list keeps its rule with the objects of newer ones renumbered.
+pub fn a_dropped_version_renumbers_the_recency_list()
+    ensures { (m n : Memory) (id j : ℕ) (k : KeptChain) (v : Version) → chain_at m id ≡ Some k → IsVersionAt k.chain.versions j v → n.chains ≡ on_chain id (on_shown (shown_without j)) m.chains → n.recency ≡ map (renumbered_member id j) m.recency → IsRecency m →
+        ((at : Option Pos) → Contains m.recency (record { chain = id; version = j; position = at }) → ⊥) → (k.chain.updating ≡ true → suc j < length k.chain.versions) → IsRecency n }
 {}

@@ -120,7 +120,7 @@ renumbered-less zero (suc k) ne = ((λ l. absurd (omega (arith, l))), (λ l. ref
 renumbered-less (suc n) zero ne = ((λ l. refl), (λ l. absurd (omega (arith, l))))
 renumbered-less (suc n) (suc k) ne = let r = renumbered-less n k (λ e. ne (ap suc e)) in ((λ l. ap suc (r.0 (omega (arith, l)))), (λ l. ap suc (r.1 (omega (arith, l)))))
 
-below_or_above : (k n : ℕ) → k ≢ n → (P : Type 0) → (k < n → P) → (n < k → P) → P
+pub below_or_above : (k n : ℕ) → k ≢ n → (P : Type 0) → (k < n → P) → (n < k → P) → P
 below_or_above zero zero ne P a b = absurd (ne refl)
 below_or_above zero (suc n) ne P a b = a (omega arith)
 below_or_above (suc k) zero ne P a b = b (omega arith)
