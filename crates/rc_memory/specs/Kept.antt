@@ -3,7 +3,7 @@
 --     IsSound       what each chain keeps: snapshots pin versions that it has, and nobody pins the one under update
 --     IsHeld        region, list, table and counts hold this memory
 --     IsMemory      and it keeps its rules
-use Rattle.std.specs.Prelude.{◌≡◌, ◌<◌, ◌≤◌, ℕ, suc, true, List, [], ◌∷◌, Option, Some, None, IfSome, length, map, Contains, ⊤}
+use Rattle.std.specs.Prelude.{◌≡◌, ◌<◌, ◌≤◌, ℕ, suc, true, List, [], ◌∷◌, Option, Some, None, IfSome, length, map, ⊤}
 use Rattle.lsa_store.specs.declared.place.Ref.{Ref}
 use Rattle.lsa_region.specs.Region.{View, IsWell}
 use Rattle.lsa_list.specs.declared.recency.List.{List as Slots}

@@ -1,5 +1,5 @@
 -- How large the objects of chains are: each row that may be joined in them makes an object of at most an eighth of a segment.
-use Rattle.std.specs.Prelude.{◌≡◌, ◌≤◌, ◌/◌, ℕ, List, ◌∷◌, Option, Some, Contains, IfSome, sum_by}
+use Rattle.std.specs.Prelude.{◌≡◌, ◌≤◌, ◌/◌, ℕ, List, ◌∷◌, Some, Contains, IfSome, sum_by}
 use Rattle.rc_cell.specs.declared.rows.Row.{Row}
 use Rattle.rc_cell.specs.Winner.{joined_row}
 use Rattle.rc_position.specs.declared.positions.Pos.{Pos}

@@ -86,11 +86,11 @@ pub fn a_version_may_change()
 pub fn a_version_comes_and_goes()
     ensures added { (slots : Slots) (old new : View) (registry : Registry) (counts : Counts) (m : Memory) (id : ℕ) (p : PartitionEntry) (n : Ref) (c : Version) → IsHeld slots old registry counts m → IsWell new → slice_index_or m.standing id None ≡ Some p →
         ((front : List PartitionEntry) (versions : List StandingVersion) (back : List PartitionEntry) (listed : List Ref) → AreStanding slots old (front ++ (partition_of p.root versions ∷ back)) listed →
-            (end : Ref) × AreStanding slots new (front ++ (partition_of p.root (versions ++ (standing n (end ∷ []) c ∷ [])) ∷ back)) listed × IsUnlisted new end) →
+        (end : Ref) × AreStanding slots new (front ++ (partition_of p.root (versions ++ (standing n (end ∷ []) c ∷ [])) ∷ back)) listed × IsUnlisted new end) →
         ((q : Ref) (refs : List Ref) (d : Version) → IsVersionOf old q refs d → link_of new (Obj q 3) ≡ link_of old (Obj q 3)) → (end : Ref) × IsHeld slots new registry counts (more_versions id (standing n (end ∷ []) c) new m) × IsUnlisted new end }
     ensures dropped { (slots : Slots) (old new : View) (registry : Registry) (counts : Counts) (m : Memory) (id j : ℕ) (p : PartitionEntry) (s : StandingVersion) → IsHeld slots old registry counts m → IsWell new → slice_index_or m.standing id None ≡ Some p → IsVersionAt p.versions j s →
         ((front : List PartitionEntry) (older : List StandingVersion) (t : StandingVersion) (newer : List StandingVersion) (back : List PartitionEntry) (listed : List Ref) → t.object ≡ s.object →
-            AreStanding slots old (among front p.root older t newer back) listed → AreStanding slots new (front ++ (partition_of p.root (older ++ newer) ∷ back)) listed) →
+        AreStanding slots old (among front p.root older t newer back) listed → AreStanding slots new (front ++ (partition_of p.root (older ++ newer) ∷ back)) listed) →
         ((q : Ref) (refs : List Ref) (d : Version) → q ≢ s.object → IsVersionOf old q refs d → link_of new (Obj q 3) ≡ link_of old (Obj q 3)) → IsHeld slots new (on_use id (without_version j) registry) counts (fewer_versions id j new m) }
 {}
 

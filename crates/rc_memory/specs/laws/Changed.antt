@@ -2,7 +2,6 @@
 use Rattle.std.proofs.Common.{◌≡◌, ◌≢◌, ℕ, zero, suc, List, [], ◌∷◌, ◌++◌, Option, Some, None, length, inl, inr, refl, sym, ap, ◌∙◌, subst, map, slice_index_or}
 use Rattle.std.specs.Prelude.{Contains}
 use Rattle.std.specs.Option.{option_map}
-use Rattle.std.proofs.lemmas.List.{map-append}
 use Rattle.rc_position.specs.declared.positions.Pos.{Pos}
 use Rattle.lsa_pool.specs.laws.Usages.{decided}
 use Rattle.lsa_store.specs.declared.place.Ref.{Ref}
@@ -21,7 +20,7 @@ use Rattle.rc_partition.specs.laws.Changed.{stands-settled}
 use Rattle.rc_partition.specs.laws.Lists.{elem-cases, elem-none}
 use Rattle.rc_registry.specs.Registry.{Registry, put}
 use Rattle.rc_memory.specs.declared.counts.Counts.{Counts}
-use Rattle.rc_memory.specs.Memory.{KeptChain, Member, Memory, IsObjectAt, IsOfVersion, IsVersionAt, changed, on_chain, on_shown, on_version_of, partition_with, with_standing}
+use Rattle.rc_memory.specs.Memory.{Member, Memory, IsObjectAt, IsOfVersion, IsVersionAt, changed, on_chain, on_shown, on_version_of, partition_with, with_standing}
 use Rattle.rc_memory.specs.Kept.{AreKept, IsHeld, StandAt, kept, present}
 use Rattle.rc_memory.specs.laws.Listed.{one-at}
 use Rattle.rc_memory.specs.laws.Places.{same_some, version-place, version-there}
@@ -78,7 +77,7 @@ module _ (slots : Slots) (old new : View) (registry : Registry) (counts : Counts
   chains-are : on_chain id (on_shown (on_version_of j (λ v. c))) m.chains ≡ put id (Some (kept user.used (partition_of p.root (number.older ++ (standing s.object now c ∷ number.newer))))) m.chains
   chains-are = ap (λ o. put id (option_map (on_shown (on_version_of j (λ v. c))) o) m.chains) user.chain
       ∙ ap (λ (vs : List Version). put id (Some (record { chain = record { kind = user.used.kind; versions = vs; attached = user.used.attached; updating = user.used.updating; pins = user.used.pins }; passed = user.used.passed })) m.chains)
-          (sym (on-with j (standing s.object now c) p.versions))
+      (sym (on-with j (standing s.object now c) p.versions))
       ∙ ap (λ q. put id (Some (kept user.used q)) m.chains) after-is
 
   kept_after : AreKept registry.uses (put id (Some (partition_of p.root (number.older ++ (standing s.object now c ∷ number.newer)))) m.standing) (put id (Some (kept user.used (partition_of p.root (number.older ++ (standing s.object now c ∷ number.newer))))) m.chains)

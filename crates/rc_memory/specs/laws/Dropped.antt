@@ -1,6 +1,6 @@
 -- The recency list keeps its rule where a version is dropped of which nothing is listed: the objects of newer ones have numbers less by one.
-use Rattle.std.proofs.Common.{◌≡◌, ◌≢◌, ℕ, zero, suc, ◌<◌, true, cond, List, [], ◌∷◌, ◌++◌, Option, Some, None, length, inl, inr, refl, sym, ap, ◌∙◌, subst, map, take, drop, nat_eq, eq-eqb, ne_eqb, arith}
-use Rattle.std.specs.Prelude.{AllPairs, Contains, IsSomeAnd}
+use Rattle.std.proofs.Common.{◌≡◌, ◌≢◌, ℕ, zero, suc, ◌<◌, true, cond, List, [], ◌∷◌, ◌++◌, Option, Some, length, inl, inr, refl, sym, ap, ◌∙◌, subst, map, eq-eqb, ne_eqb, arith}
+use Rattle.std.specs.Prelude.{AllPairs, Contains}
 use Rattle.std.specs.Option.{option_map}
 use Rattle.lsa_pool.specs.laws.Usages.{decided}
 use Rattle.rc_position.specs.declared.positions.Pos.{Pos}
@@ -9,7 +9,7 @@ use Rattle.rc_core.specs.Version.{Version}
 use Rattle.rc_partition.specs.laws.Lists.{elem-first, elem-later, elem-map, elem-mapped, once-cons, once-head, once-none, once-tail}
 use Rattle.rc_registry.specs.Registry.{put}
 use Rattle.rc_memory.specs.Memory.{KeptChain, Member, Memory, IsVersionAt, chain_at, on_chain, on_shown, renumbered_member, shown_without}
-use Rattle.rc_memory.specs.Recency.{IsRecency, IsUnderUpdate, MayBeListed, MustBeListed}
+use Rattle.rc_memory.specs.Recency.{IsRecency, MayBeListed, MustBeListed}
 use Rattle.rc_memory.specs.laws.Places.{heads, tails}
 use Rattle.rc_memory.specs.laws.Recent.{at_there, number-low, rule-put, spot, there_at}
 use Rattle.rc_memory.specs.laws.Rules.{below_or_above, length-but, renumbered-less}
@@ -82,7 +82,7 @@ module _ (m n : Memory) (id j : ℕ) (k : KeptChain) (v : Version) (there : chai
   rule-fewer = rule-put m n id (Some (on_shown (shown_without j) k)) (is ∙ ap (λ o. put id (option_map (on_shown (shown_without j)) o) m.chains) there)
       (subst (AllPairs ◌≢◌) (sym list) (once-mapped (renumbered_member id j) m.recency one_name h.once))
       (λ w ne on. let x = elem-mapped (renumbered_member id j) m.recency w (subst (λ l. Contains l w) list on) in
-          subst (Contains m.recency) (sym (renumbered-other id j x.0 (λ c. ne (sym (ap (λ (y : Member). y.chain) x.2) ∙ c))) ∙ x.2) x.1)
+      subst (Contains m.recency) (sym (renumbered-other id j x.0 (λ c. ne (sym (ap (λ (y : Member). y.chain) x.2) ∙ c))) ∙ x.2) x.1)
       (λ w ne on. subst (λ l. Contains l w) (sym list) (subst (Contains (map (renumbered_member id j) m.recency)) (renumbered-other id j w ne) (elem-map (renumbered_member id j) m.recency w on)))
       (λ i at on. may i at (elem-mapped (renumbered_member id j) m.recency (spot id i at) (subst (λ l. Contains l (spot id i at)) list on)))
       (λ i at p. subst (λ l. Contains l (spot id i at)) (sym list) (must i at p))

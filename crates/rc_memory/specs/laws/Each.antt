@@ -1,5 +1,5 @@
 -- Nothing else is in the region: each object is of a chain, and what is live, and how many objects there are, is told by the chains.
-use Rattle.std.proofs.Common.{◌≡◌, ◌⊎◌, ℕ, zero, suc, ◌+◌, List, [], ◌∷◌, ◌++◌, Option, Some, None, IsSome, length, inl, inr, refl, sym, ap, ◌∙◌, subst, map, slice_index_or}
+use Rattle.std.proofs.Common.{◌≡◌, ◌⊎◌, ℕ, zero, suc, ◌+◌, List, [], ◌∷◌, Option, Some, None, IsSome, length, inl, inr, refl, sym, ap, ◌∙◌, subst, slice_index_or}
 use Rattle.std.specs.Prelude.{Contains, IsSomeAnd, sum_by}
 use Rattle.std.proofs.lemmas.List.Sums.{sum_by-cons}
 use Rattle.rc_position.specs.declared.positions.Pos.{Pos}

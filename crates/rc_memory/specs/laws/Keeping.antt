@@ -1,5 +1,5 @@
 -- A memory that keeps its rules keeps them after each change.
-use Rattle.std.proofs.Common.{◌≡◌, ◌≢◌, ℕ, suc, ◌<◌, ◌≤◌, Bool, true, false, List, [], ◌∷◌, ◌++◌, Option, Some, None, length, refl, sym, ap, ◌∙◌, subst}
+use Rattle.std.proofs.Common.{◌≡◌, ◌≢◌, ℕ, suc, ◌<◌, Bool, true, List, [], ◌∷◌, ◌++◌, Some, None, length, refl, sym, subst}
 use Rattle.std.specs.Prelude.{Contains, IsSomeAnd}
 use Rattle.lsa_store.specs.declared.place.Ref.{Ref}
 use Rattle.lsa_region.specs.declared.end.End.{End}
@@ -15,7 +15,7 @@ use Rattle.rc_memory.specs.declared.counts.Counts.{Counts}
 use Rattle.rc_memory.specs.Memory.{KeptChain, Member, Memory, HasChain, IsObjectAt, chain_at, listed_as, marked, moved, on_chain, on_shown, shown_pinned, with_chains}
 use Rattle.rc_memory.specs.Recency.{MayBeListed, MustBeListed}
 use Rattle.rc_memory.specs.Room.{FitTogether}
-use Rattle.rc_memory.specs.Kept.{IsHeld, IsMemory, IsSound, kept}
+use Rattle.rc_memory.specs.Kept.{IsMemory, IsSound, kept}
 use Rattle.rc_memory.specs.laws.Listed.{held-pushed, held-taken, held-touched}
 use Rattle.rc_memory.specs.laws.Moved.{held-moved}
 use Rattle.rc_memory.specs.laws.Recent.{rule-alike, rule-pushed, rule-same, rule-taken, rule-touched}

@@ -1,7 +1,6 @@
 -- The recency list keeps its rule where a version gets or loses an object, an update ends, and a version is dropped.
-use Rattle.std.proofs.Common.{◌≡◌, ◌≢◌, ◌⊎◌, ℕ, zero, suc, ◌<◌, Bool, true, false, cond, List, [], ◌∷◌, ◌++◌, Option, Some, None, length, inl, inr, refl, sym, ap, ◌∙◌, subst, map, slice_index_or, nat_eq, eq-eqb, ne_eqb, arith}
-use Rattle.std.specs.Prelude.{AllPairs, Contains, IsSomeAnd, IsTrue}
-use Rattle.std.specs.Option.{option_map}
+use Rattle.std.proofs.Common.{◌≡◌, ◌≢◌, ◌⊎◌, ℕ, Bool, true, false, List, [], ◌∷◌, ◌++◌, Option, Some, None, inl, inr, refl, sym, ap, ◌∙◌, subst}
+use Rattle.std.specs.Prelude.{AllPairs, Contains, IsTrue}
 use Rattle.std.specs.Ordering.{eq_by_cmp}
 use Rattle.std.proofs.lemmas.List.{append-nil}
 use Rattle.lsa_pool.specs.laws.Usages.{decided}
@@ -132,10 +131,10 @@ module _ (m n : Memory) (id j : ℕ) (f : Version → Version) (k : KeptChain) (
       (λ w ne on. subst (λ l. Contains l w) (sym was) (elem-still front back (spot id j x) w (subst (λ l. Contains l w) list on)))
       (λ w ne on. subst (λ l. Contains l w) (sym list) (beside w (λ e. ne (sym (ap (λ (y : Member). y.chain) e)) (sym (ap (λ (y : Member). y.version) e))) on))
       (λ at on. let there_was : Contains (front ++ back) (spot id j at) = subst (λ l. Contains l (spot id j at)) list on in
-          let p = may_at at (subst (λ l. Contains l (spot id j at)) (sym was) (elem-still front back (spot id j x) (spot id j at) there_was)) in
-          (cached, keeps at (λ e. once-beside front back (spot id j x) (subst (AllPairs ◌≢◌) was h.once) (subst (λ y. Contains (front ++ back) (spot id j y)) e there_was)) p.0, p.1))
+      let p = may_at at (subst (λ l. Contains l (spot id j at)) (sym was) (elem-still front back (spot id j x) (spot id j at) there_was)) in
+      (cached, keeps at (λ e. once-beside front back (spot id j x) (subst (AllPairs ◌≢◌) was h.once) (subst (λ y. Contains (front ++ back) (spot id j y)) e there_was)) p.0, p.1))
       (λ at kind object inner free. let o = only at object in
-          subst (λ l. Contains l (spot id j at)) (sym list) (beside (spot id j at) (λ e. o.1 (sym (ap (λ (y : Member). y.position) e))) (stays_listed last at o.0 inner free)))
+      subst (λ l. Contains l (spot id j at)) (sym list) (beside (spot id j at) (λ e. o.1 (sym (ap (λ (y : Member). y.position) e))) (stays_listed last at o.0 inner free)))
     where
       beside : (w : Member) → spot id j x ≢ w → Contains m.recency w → Contains (front ++ back) w
       beside w ne on = elim (elem-replaced front back (spot id j x) w (subst (λ l. Contains l w) was on)) [ inl this ↦ absurd (ne this) | inr other ↦ other ]

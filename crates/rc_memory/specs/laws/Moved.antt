@@ -1,10 +1,9 @@
 -- A memory after objects moved: the same, under new names.
-use Rattle.std.proofs.Common.{◌≡◌, ℕ, suc, List, [], ◌∷◌, ◌++◌, Option, Some, None, length, refl, sym, ap, ◌∙◌, subst, map}
+use Rattle.std.proofs.Common.{◌≡◌, ℕ, suc, List, [], ◌∷◌, Option, Some, None, length, refl, sym, ap, ◌∙◌, subst, map}
 use Rattle.std.specs.Option.{option_map}
 use Rattle.std.proofs.lemmas.List.{map-append}
 use Rattle.rc_position.specs.declared.positions.Pos.{Pos}
 use Rattle.lsa_store.specs.declared.place.Ref.{Ref}
-use Rattle.lsa_region.specs.declared.end.End.TheVariants.{Obj}
 use Rattle.lsa_region.specs.Ends.{named_as, end_as}
 use Rattle.lsa_region.specs.Region.{View, body, IsWell, Renamed}
 use Rattle.lsa_path.specs.laws.Renamed.{some-there}
@@ -19,8 +18,8 @@ use Rattle.rc_partition.specs.laws.Moved.{stands-renamed}
 use Rattle.rc_registry.specs.declared.uses.Use.{Use}
 use Rattle.rc_registry.specs.Registry.{Registry}
 use Rattle.rc_memory.specs.declared.counts.Counts.{Counts}
-use Rattle.rc_memory.specs.Memory.{KeptChain, Member, Memory, IsObjectAt, IsOfVersion, IsVersionAt, moved}
-use Rattle.rc_memory.specs.Kept.{AreKept, IsHeld, IsKept, kept, present}
+use Rattle.rc_memory.specs.Memory.{KeptChain, Memory, IsOfVersion, IsVersionAt, moved}
+use Rattle.rc_memory.specs.Kept.{AreKept, IsHeld, IsKept, present}
 use Rattle.rc_memory.specs.laws.Places.{version-there}
 use Rattle.rc_memory.specs.laws.Standing.{at-mapped, present-mapped, stand-mapped}
 
@@ -37,10 +36,13 @@ module _ (names : List (Ref × Ref)) where
   kept_moved None None c h = h
   kept_moved None (Some p) c h = absurd h
   kept_moved (Some u) None c h = absurd h
-  kept_moved (Some u) (Some p) c h = (h.0, h.1 ∙ ap (λ (vs : List Version). Some (record {
-    chain = record { kind = u.kind; versions = vs; attached = u.attached; updating = u.updating; pins = u.pins };
-    passed = u.passed;
-  })) (sym (same_versions p.versions)))
+  kept_moved (Some u) (Some p) c h = (
+    h.0,
+    h.1 ∙ ap (λ (vs : List Version). Some (record {
+      chain = record { kind = u.kind; versions = vs; attached = u.attached; updating = u.updating; pins = u.pins };
+      passed = u.passed;
+    })) (sym (same_versions p.versions)),
+  )
 
   are_kept_moved : (us : List (Option Use)) (ps : List (Option PartitionEntry)) (cs : List (Option KeptChain)) → AreKept us ps cs → AreKept us (map (option_map (partition_as names)) ps) cs
   are_kept_moved [] [] [] h = tt

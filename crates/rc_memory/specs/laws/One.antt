@@ -11,7 +11,7 @@ use mathlib.Core.HLevel.{Σ_prop_path}
 use mathlib.Core.Logic.{∥∥₁_elim, ∥∥₁_prop}
 use Rattle.rc_memory.specs.declared.counts.Counts.{Counts}
 use Rattle.rc_memory.specs.Memory.{KeptChain, Memory}
-use Rattle.rc_memory.specs.Kept.{IsHeld, IsMemory, HasMemory, AreKept, StandAt, kept, present}
+use Rattle.rc_memory.specs.Kept.{IsHeld, HasMemory, AreKept, StandAt, kept, present}
 use Rattle.rc_memory.specs.laws.Places.{heads, members-once, tails}
 
 pub memory-set : (m n : Memory) → IsProp (m ≡ n)
@@ -44,9 +44,9 @@ kept-same (None ∷ us) (None ∷ ps) (None ∷ qs) (c ∷ cs) (d ∷ ds) a b e 
 kept-same (None ∷ us) (None ∷ ps) (Some q ∷ qs) (c ∷ cs) (d ∷ ds) a b e = absurd b.0
 kept-same (None ∷ us) (Some p ∷ ps) qs cs ds a b e = absurd (some_use us p ps qs cs a)
   where
-  some_use : (us : List (Option Use)) (p : PartitionEntry) (ps qs : List (Option PartitionEntry)) (cs : List (Option KeptChain)) → AreKept (None ∷ us) (Some p ∷ ps) cs → ⊥
-  some_use us p ps qs [] a = a
-  some_use us p ps qs (c ∷ cs) a = a.0
+    some_use : (us : List (Option Use)) (p : PartitionEntry) (ps qs : List (Option PartitionEntry)) (cs : List (Option KeptChain)) → AreKept (None ∷ us) (Some p ∷ ps) cs → ⊥
+    some_use us p ps qs [] a = a
+    some_use us p ps qs (c ∷ cs) a = a.0
 kept-same (Some u ∷ us) (None ∷ ps) (q ∷ qs) (c ∷ cs) (d ∷ ds) a b e = absurd a.0
 kept-same (Some u ∷ us) (Some p ∷ ps) (None ∷ qs) (c ∷ cs) (d ∷ ds) a b e = absurd b.0
 kept-same (Some u ∷ us) (Some p ∷ ps) (Some q ∷ qs) (c ∷ cs) (d ∷ ds) a b e =
@@ -60,7 +60,7 @@ module _ (slots : Slots) (v : View) (registry : Registry) (counts : Counts) wher
       let there = stands-once slots v (present m.standing) (present n.standing) a.listed b.listed a.stands b.stands roots in
       let same = kept-same registry.uses m.standing n.standing m.chains n.chains a.kept b.kept there.0 in
       let recency = members-once slots v a.well m.standing a.listed a.stands a.listed m.recency n.recency a.recency
-              (subst (λ refs. StandAt v m.standing refs n.recency) (sym there.1) (subst (λ st. StandAt v st b.listed n.recency) (sym same.0) b.recency)) in
+      (subst (λ refs. StandAt v m.standing refs n.recency) (sym there.1) (subst (λ st. StandAt v st b.listed n.recency) (sym same.0) b.recency)) in
       let dropped = a.dropped ∙ sym b.dropped in let counted = a.counted ∙ sym b.counted in let region = a.region ∙ sym b.region in
       λ i. record { chains = same.1 i; recency = recency i; dropped = dropped i; counts = counted i; region = region i; standing = same.0 i }
 

@@ -10,16 +10,15 @@ use Rattle.lsa_region.specs.Region.{View, link_of, IsRootAdded, IsRootDropped, I
 use Rattle.lsa_list.specs.declared.recency.List.{List as Slots}
 use Rattle.lsa_tree.specs.laws.Trees.{stands-same}
 use Rattle.rc_core.specs.declared.entries.ChainKind.{ChainKind}
-use Rattle.rc_core.specs.Version.{Version}
 use Rattle.rc_partition.specs.Partitions.{AreStanding, PartitionEntry, StandingVersion, partition_of}
-use Rattle.rc_partition.specs.laws.Lists.{elem-here, elem-none}
+use Rattle.rc_partition.specs.laws.Lists.{elem-none}
 use Rattle.rc_partition.specs.laws.Roots.{stands-with_empty, stands-without_empty}
 use Rattle.rc_registry.specs.declared.uses.Use.{Use}
 use Rattle.rc_registry.specs.Registry.{Registry, new_use, put, with_use}
 use Rattle.rc_memory.specs.declared.counts.Counts.{Counts}
-use Rattle.rc_memory.specs.Memory.{KeptChain, Member, Memory, IsObjectAt, IsOfVersion, IsVersionAt, chain_at, closed, opened}
-use Rattle.rc_memory.specs.Kept.{IsHeld, kept, present}
-use Rattle.rc_memory.specs.laws.At.{IsKeptAt, kept-at}
+use Rattle.rc_memory.specs.Memory.{KeptChain, Member, Memory, IsObjectAt, IsOfVersion, chain_at, closed, opened}
+use Rattle.rc_memory.specs.Kept.{IsHeld, kept}
+use Rattle.rc_memory.specs.laws.At.{kept-at}
 use Rattle.rc_memory.specs.laws.Places.{no_some, same_some}
 use Rattle.rc_memory.specs.laws.Put.{kept-put, placed, put-beside, unused-at}
 use Rattle.rc_memory.specs.laws.Standing.{stand-each, version-in}

@@ -1,18 +1,17 @@
 -- An object stands at one place of one chain.
-use Rattle.std.proofs.Common.{◌≡◌, ◌≢◌, ℕ, zero, suc, List, [], ◌∷◌, ◌++◌, Option, Some, None, length, inl, inr, refl, sym, ap, ◌∙◌, subst, map, slice_index_or, arith}
+use Rattle.std.proofs.Common.{◌≡◌, ◌≢◌, ℕ, zero, suc, List, [], ◌∷◌, ◌++◌, Option, Some, None, length, inl, inr, refl, sym, ap, ◌∙◌, subst, slice_index_or}
 use Rattle.std.specs.Prelude.{Contains, AllPairs, IsSomeAnd}
 use Rattle.lsa_pool.specs.laws.Usages.{decided}
 use Rattle.lsa_kinds.specs.declared.kind.Kind.{Kind}
 use Rattle.std.proofs.lemmas.List.{map-append}
 use Rattle.rc_position.specs.declared.positions.Pos.{Pos}
 use Rattle.lsa_store.specs.declared.place.Ref.{Ref}
-use Rattle.lsa_region.specs.declared.end.Root.{Root}
 use Rattle.lsa_region.specs.Region.{View, body, IsWell}
 use Rattle.lsa_list.specs.declared.recency.List.{List as Slots}
 use Rattle.lsa_tree.specs.laws.Orders.{stands-once}
 use Rattle.rc_version.specs.Versions.{IsVersionOf}
 use Rattle.rc_partition.specs.Partitions.{AreStanding, PartitionEntry, StandingVersion, IsPartitionEntry, IsRowOf, objects_of, roots_of}
-use Rattle.lsa_tree.specs.Entries.{IsEntryAtPosition, IsEntryKind, SpellsEntryAt}
+use Rattle.lsa_tree.specs.Entries.{IsEntryKind, SpellsEntryAt}
 use Rattle.rc_partition.specs.laws.Apart.{entry_apart, entry-once, entries-apart, one-version, static-kind}
 use Rattle.rc_partition.specs.laws.Lists.{elem-first, elem-later, elem-here, elem-map, once-head, once-tail}
 use Rattle.rc_memory.specs.Memory.{Member, IsObjectAt, IsOfVersion, IsVersionAt}
@@ -84,11 +83,13 @@ module _ (slots : Slots) (v : View) (well : IsWell v) (st : List (Option Partiti
     | inl e ↦ (e, let pq = same_some p q (sym ip ∙ ap (λ n. slice_index_or st n None) e ∙ jq) in numbers pq)
     | inr ne ↦ absurd (entries-apart v well p q (entry-at i p ip) (entry-at j q jq) (roots-apart st i j p q stands.apart ip jq ne) s.object
         (object-in p a s ls) (subst (Contains (objects_of q.versions)) (sym same) (object-in q b t bt)))
-    ] where
+  ] where
     object-in : (p : PartitionEntry) (a : ℕ) (s : StandingVersion) → IsVersionAt p.versions a s → Contains (objects_of p.versions) s.object
     object-in p a s h = elem-map (λ (x : StandingVersion). x.object) p.versions s (subst (λ vs. Contains vs s) (sym h.split) (elem-here h.older h.newer s))
+
     halves : (p : PartitionEntry) (a : ℕ) (s : StandingVersion) (h : IsVersionAt p.versions a s) → objects_of p.versions ≡ objects_of h.older ++ (s.object ∷ objects_of h.newer)
     halves p a s h = ap objects_of h.split ∙ map-append (λ (x : StandingVersion). x.object) h.older (s ∷ h.newer)
+
     numbers : p ≡ q → a ≡ b
     numbers pq =
         let bt' : IsVersionAt p.versions b t = subst (λ (z : PartitionEntry). IsVersionAt z.versions b t) (sym pq) bt in
@@ -96,9 +97,9 @@ module _ (slots : Slots) (v : View) (well : IsWell v) (st : List (Option Partiti
         let once = subst (AllPairs ◌≢◌) (halves p a s ls) (entry-once v well p (entry-at i p ip)) in
         sym ls.number ∙ sym (map_length ls.older) ∙ number-once (objects_of ls.older) (objects_of ls.newer) (objects_of bt'.older) (objects_of bt'.newer) s.object once (sym (halves p a s ls) ∙ other) ∙ map_length bt'.older ∙ bt'.number
       where
-      map_length : (ss : List StandingVersion) → length (objects_of ss) ≡ length ss
-      map_length [] = refl
-      map_length (x ∷ ss) = ap suc (map_length ss)
+        map_length : (ss : List StandingVersion) → length (objects_of ss) ≡ length ss
+        map_length [] = refl
+        map_length (x ∷ ss) = ap suc (map_length ss)
 
   pub version-there : (n a : ℕ) (p : PartitionEntry) (s : StandingVersion) → slice_index_or st n None ≡ Some p → IsVersionAt p.versions a s → IsVersionOf v s.object s.entries s.version
   version-there n a p s e h = (entry-at n p e).versions s (subst (λ vs. Contains vs s) (sym h.split) (elem-here h.older h.newer s))
@@ -112,17 +113,19 @@ module _ (slots : Slots) (v : View) (well : IsWell v) (st : List (Option Partiti
       let p = positions w.position x.position a.version b.version h k a.object b.object in
       λ i. record { chain = n.0 i; version = n.1 i; position = p i }
     where
-    row : (s : StandingVersion) (p : Option Pos) → IsOfVersion v s p r → IsRowOf v s r
-    row s None h = inr h
-    row s (Some y) h = inl h.0
-    kind : (o : Option (Kind × List ℕ)) (y : Pos) → IsSomeAnd o (λ b. SpellsEntryAt b y) → IsSomeAnd o (λ b. IsEntryKind b.0)
-    kind None y h = h
-    kind (Some b) y h = h.kind
-    positions : (p q : Option Pos) (s t : StandingVersion) → IsVersionOf v s.object s.entries s.version → IsVersionOf v t.object t.entries t.version → IsOfVersion v s p r → IsOfVersion v t q r → p ≡ q
-    positions None None s t h k a b = refl
-    positions None (Some y) s t h k a b = absurd (entry_apart (body v r) (static-kind v s h r a) (kind (body v r) y b.1))
-    positions (Some x) None s t h k a b = absurd (entry_apart (body v r) (static-kind v t k r b) (kind (body v r) x a.1))
-    positions (Some x) (Some y) s t h k a b = ap Some (stands-once v r x y a.1 b.1)
+      row : (s : StandingVersion) (p : Option Pos) → IsOfVersion v s p r → IsRowOf v s r
+      row s None h = inr h
+      row s (Some y) h = inl h.0
+
+      kind : (o : Option (Kind × List ℕ)) (y : Pos) → IsSomeAnd o (λ b. SpellsEntryAt b y) → IsSomeAnd o (λ b. IsEntryKind b.0)
+      kind None y h = h
+      kind (Some b) y h = h.kind
+
+      positions : (p q : Option Pos) (s t : StandingVersion) → IsVersionOf v s.object s.entries s.version → IsVersionOf v t.object t.entries t.version → IsOfVersion v s p r → IsOfVersion v t q r → p ≡ q
+      positions None None s t h k a b = refl
+      positions None (Some y) s t h k a b = absurd (entry_apart (body v r) (static-kind v s h r a) (kind (body v r) y b.1))
+      positions (Some x) None s t h k a b = absurd (entry_apart (body v r) (static-kind v t k r b) (kind (body v r) x a.1))
+      positions (Some x) (Some y) s t h k a b = ap Some (stands-once v r x y a.1 b.1)
 
   pub members-once : (refs : List Ref) (ws xs : List Member) → StandAt v st refs ws → StandAt v st refs xs → ws ≡ xs
   members-once [] [] [] a b = refl

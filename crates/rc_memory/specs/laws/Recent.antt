@@ -1,5 +1,5 @@
 -- The recency list holds what it must, and nothing that it may not, after a chain or the list changed.
-use Rattle.std.proofs.Common.{◌≡◌, ◌≢◌, ◌⊎◌, ℕ, zero, suc, ◌<◌, Bool, true, false, List, [], ◌∷◌, ◌++◌, Option, Some, None, IsSome, length, inl, inr, refl, sym, ap, ◌∙◌, subst, slice_index_or, arith}
+use Rattle.std.proofs.Common.{◌≡◌, ◌≢◌, ◌⊎◌, ℕ, suc, ◌<◌, true, false, List, [], ◌∷◌, ◌++◌, Option, Some, None, length, inl, inr, refl, sym, ap, ◌∙◌, subst, slice_index_or, arith}
 use Rattle.std.specs.Prelude.{AllPairs, Contains, IsSomeAnd}
 use Rattle.std.specs.Option.{option_map}
 use Rattle.std.proofs.lemmas.List.{append-nil, length-append}
@@ -8,7 +8,6 @@ use Rattle.rc_cell.specs.declared.writes.Tomb.{Tomb}
 use Rattle.rc_position.specs.declared.positions.Pos.{Pos}
 use Rattle.rc_core.specs.declared.entries.ChainKind.TheVariants.{Cache}
 use Rattle.rc_core.specs.declared.entries.Flag.{Flag}
-use Rattle.rc_core.specs.Chains.{Shown}
 use Rattle.rc_core.specs.Steps.{on_version, version_of}
 use Rattle.rc_core.specs.Version.{Version, end_position}
 use Rattle.rc_core.specs.laws.Surgery.{version-at}
@@ -17,7 +16,7 @@ use Rattle.rc_registry.specs.Registry.{put}
 use Rattle.rc_memory.specs.Memory.{KeptChain, Member, Memory, IsVersionAt, chain_at, on_chain, on_shown, on_version_of}
 use Rattle.rc_memory.specs.Recency.{HasObject, IsLastInner, IsRecency, IsUnderUpdate, MayBeListed, MustBeListed}
 use Rattle.rc_memory.specs.laws.Listed.{one-at}
-use Rattle.rc_memory.specs.laws.Places.{heads, no_some, same_some, tails}
+use Rattle.rc_memory.specs.laws.Places.{heads, tails}
 use Rattle.rc_memory.specs.laws.Put.{beside-at, put-at, put-beside}
 use Rattle.rc_memory.specs.laws.Rules.{length-on}
 use Rattle.rc_memory.specs.laws.Versions.{still-at}
@@ -131,17 +130,17 @@ module _ (m n : Memory) (id : ℕ) (g : KeptChain → KeptChain) (is : n.chains 
             omega (arith, u.1, long, length-append k.chain.versions (version_of flag pt phase ∷ []), number-low k.chain.versions j p.version p.number));
       })
       (λ k e j at p. let number : IsVersionAt (k.chain.versions ++ (version_of flag pt phase ∷ [])) j p.version = subst (λ vs. IsVersionAt vs j p.version) (made k e).1 p.number in
-          elim (pushed-at k.chain.versions (version_of flag pt phase) j p.version number.older number.newer number.split number.number) [
-            | inl before ↦ h.complete (spot id j at) (there_at (λ x. MustBeListed x.chain j at) (chain_at m id) k (record {
-              cached = sym (made k e).0 ∙ p.cached;
-              version = p.version;
-              number = before;
-              object = p.object;
-              inner = p.inner;
-              passed = λ u. absurd (let clash : false ≡ true = sym (made k e).2 ∙ u.0 in cc);
-            }) e)
-            | inr this ↦ absurd (only_end at (subst (λ v. HasObject v at) (sym this) p.object) p.inner)
-          ])
+      elim (pushed-at k.chain.versions (version_of flag pt phase) j p.version number.older number.newer number.split number.number) [
+        | inl before ↦ h.complete (spot id j at) (there_at (λ x. MustBeListed x.chain j at) (chain_at m id) k (record {
+          cached = sym (made k e).0 ∙ p.cached;
+          version = p.version;
+          number = before;
+          object = p.object;
+          inner = p.inner;
+          passed = λ u. absurd (let clash : false ≡ true = sym (made k e).2 ∙ u.0 in cc);
+        }) e)
+        | inr this ↦ absurd (only_end at (subst (λ v. HasObject v at) (sym this) p.object) p.inner)
+      ])
     where
       only_end : (at : Option Pos) → HasObject (version_of flag pt phase) at → at ≢ Some end_position → ⊥
       only_end None object inner = cc object
@@ -189,7 +188,7 @@ module _ (m n : Memory) (is : n.chains ≡ m.chains) (h : IsRecency m) where
     pub rule-touched : n.recency ≡ (front ++ back) ++ (w ∷ []) → IsRecency n
     rule-touched list = with_list
         (subst (AllPairs ◌≢◌) (sym list) (once-with (front ++ back) [] w (λ on. once-beside front back w once_was (subst (λ l. Contains l w) (append-nil (front ++ back)) on))
-            (subst (AllPairs ◌≢◌) (sym (append-nil (front ++ back))) (once-without front back w once_was))))
+        (subst (AllPairs ◌≢◌) (sym (append-nil (front ++ back))) (once-without front back w once_was))))
         (λ x on. h.members x (subst (λ l. Contains l x) (sym was) (elim (elem-pushed (front ++ back) w x (subst (λ l. Contains l x) list on)) [
           | inl beside ↦ elem-still front back w x beside
           | inr this ↦ subst (Contains (front ++ (w ∷ back))) this (elem-here front back w)
@@ -207,14 +206,15 @@ module _ (m n : Memory) (id : ℕ) (list : n.recency ≡ m.recency) (h : IsRecen
   rule-new k flag pt phase is none made = rule-put m n id (Some k) is (subst (AllPairs ◌≢◌) (sym list) h.once) (λ w ne on. subst (λ l. Contains l w) list on) (λ w ne on. subst (λ l. Contains l w) (sym list) on)
       (λ j at on. absurd (never (λ x. MayBeListed x.chain j at) (chain_at m id) none (h.members (spot id j at) (subst (λ l. Contains l (spot id j at)) list on))))
       (λ j at must. absurd (let number : IsVersionAt (version_of flag pt phase ∷ []) j must.version = subst (λ vs. IsVersionAt vs j must.version) made must.number in
-          elim (pushed-at [] (version_of flag pt phase) j must.version number.older number.newer number.split number.number) [
-            | inl before ↦ no-version [] j must.version refl before
-            | inr this ↦ only_end at (subst (λ v. HasObject v at) (sym this) must.object) must.inner
-          ]))
+      elim (pushed-at [] (version_of flag pt phase) j must.version number.older number.newer number.split number.number) [
+        | inl before ↦ no-version [] j must.version refl before
+        | inr this ↦ only_end at (subst (λ v. HasObject v at) (sym this) must.object) must.inner
+      ]))
       h
     where
       never : (P : KeptChain → Type 0) (o : Option KeptChain) → o ≡ None → IsSomeAnd o P → ⊥
       never P o e p = subst (λ (x : Option KeptChain). IsSomeAnd x P) e p
+
       only_end : (at : Option Pos) → HasObject (version_of flag pt phase) at → at ≢ Some end_position → ⊥
       only_end None object inner = cc object
       only_end (Some x) (inl same) inner = inner (ap (λ y. Some y) (sym same))

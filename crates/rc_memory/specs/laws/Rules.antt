@@ -1,5 +1,5 @@
 -- What holds of each chain, after one of them changed: that it is sound, and that its rows fit.
-use Rattle.std.proofs.Common.{◌≡◌, ◌≢◌, ℕ, zero, suc, ◌+◌, ◌<◌, ◌≤◌, ◌/◌, Bool, true, false, List, [], ◌∷◌, ◌++◌, Option, Some, None, length, inl, inr, refl, sym, ap, ◌∙◌, subst, map, slice_index_or, arith}
+use Rattle.std.proofs.Common.{◌≡◌, ◌≢◌, ℕ, zero, suc, ◌<◌, ◌≤◌, ◌/◌, true, false, List, [], ◌∷◌, ◌++◌, Option, Some, None, length, inl, inr, refl, sym, ap, ◌∙◌, subst, slice_index_or, arith}
 use Rattle.std.specs.Prelude.{Contains, IfSome}
 use Rattle.std.specs.Option.{option_map}
 use Rattle.std.proofs.lemmas.List.{length-append}
@@ -16,13 +16,12 @@ use Rattle.rc_core.specs.Steps.{all_but, on_version, pinned, released, renumbere
 use Rattle.rc_core.specs.Version.{Version, end_position}
 use Rattle.rc_core.specs.laws.Merged.{pin_of}
 use Rattle.rc_core.specs.laws.Pins.{pinned-or-new, released-pin}
-use Rattle.rc_partition.specs.Partitions.{StandingVersion}
 use Rattle.rc_partition.specs.laws.Lists.{elem-cases, elem-first, elem-none, elem-pushed}
 use Rattle.rc_registry.specs.Registry.{put}
 use Rattle.rc_memory.specs.Memory.{KeptChain, on_chain, on_version_of, shown_detached, shown_pinned, shown_updating, shown_with, shown_without}
 use Rattle.rc_memory.specs.Kept.{IsSound}
 use Rattle.rc_memory.specs.Room.{FitTogether, HasRowAt, HasStaticRow}
-use Rattle.rc_memory.specs.laws.Places.{no_some, same_some}
+use Rattle.rc_memory.specs.laws.Places.{no_some}
 use Rattle.rc_memory.specs.laws.Put.{put-at, put-beside}
 
 -- ---- each chain

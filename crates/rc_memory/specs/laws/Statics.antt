@@ -1,5 +1,5 @@
 -- A listed static row stays where the version has no entries but those that it had, and what was not there.
-use Rattle.std.proofs.Common.{◌≡◌, ◌≢◌, ◌⊎◌, ℕ, List, ◌∷◌, ◌++◌, Option, Some, None, inl, inr, sym, ap, ◌∙◌, subst, slice_index_or}
+use Rattle.std.proofs.Common.{◌≡◌, ◌≢◌, ◌⊎◌, ℕ, List, ◌∷◌, ◌++◌, Option, Some, None, inl, inr, sym, ◌∙◌, subst, slice_index_or}
 use Rattle.std.specs.Prelude.{IsSomeAnd, Contains}
 use Rattle.rc_position.specs.declared.positions.Pos.{Pos}
 use Rattle.lsa_kinds.specs.declared.kind.Kind.{Kind}

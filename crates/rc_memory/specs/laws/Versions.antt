@@ -1,12 +1,10 @@
 -- A memory after a version was put over those of a chain, and after one was dropped.
-use Rattle.std.proofs.Common.{◌≡◌, ◌≢◌, ℕ, zero, suc, Bool, true, false, cond, eqb, List, [], ◌∷◌, ◌++◌, Option, Some, None, length, inl, inr, refl, sym, ap, ◌∙◌, subst, map, take, drop, slice_index_or, nat_eq, eq-eqb, ne_eqb}
+use Rattle.std.proofs.Common.{◌≡◌, ◌≢◌, ℕ, zero, suc, Bool, true, false, cond, List, [], ◌∷◌, ◌++◌, Option, Some, None, length, inl, inr, refl, sym, ap, ◌∙◌, subst, map, take, drop, slice_index_or, nat_eq, eq-eqb, ne_eqb}
 use Rattle.std.specs.Prelude.{Contains}
 use Rattle.std.specs.Option.{option_map}
 use Rattle.std.proofs.lemmas.List.{map-append}
-use Rattle.rc_position.specs.declared.positions.Pos.{Pos}
 use Rattle.lsa_pool.specs.laws.Usages.{decided}
 use Rattle.lsa_store.specs.declared.place.Ref.{Ref}
-use Rattle.lsa_region.specs.declared.end.Root.{Root}
 use Rattle.lsa_region.specs.declared.end.End.TheVariants.{Obj}
 use Rattle.lsa_region.specs.Region.{View, link_of, IsWell}
 use Rattle.lsa_list.specs.declared.recency.List.{List as Slots}
@@ -14,19 +12,18 @@ use Rattle.rc_core.specs.Steps.{all_but, renumbered}
 use Rattle.rc_core.specs.Version.{Version}
 use Rattle.rc_version.specs.Versions.{IsVersionOf, MayChange}
 use Rattle.rc_version.specs.laws.Staying.{kept-same}
-use Rattle.rc_partition.specs.Partitions.{AreStanding, IsRowOf, IsRowOfAny, PartitionEntry, StandingVersion, among, partition_of}
+use Rattle.rc_partition.specs.Partitions.{AreStanding, IsRowOf, PartitionEntry, StandingVersion, among, partition_of}
 use Rattle.rc_partition.specs.laws.Apart.{one-version}
 use Rattle.rc_partition.specs.laws.Changed.{beside-differs, other-among, other-differs, this-among}
 use Rattle.rc_partition.specs.laws.Lists.{elem-here, elem-replaced, elem-still}
-use Rattle.rc_registry.specs.declared.uses.Use.{Use}
 use Rattle.rc_registry.specs.Registry.{Registry, on_use, put, without_version}
 use Rattle.rc_memory.specs.declared.counts.Counts.{Counts}
-use Rattle.rc_memory.specs.Memory.{KeptChain, Member, Memory, IsObjectAt, IsOfVersion, IsVersionAt, more_versions, fewer_versions, on_chain, on_shown, partition_and, partition_without, renumbered_member, shown_without, shown_with}
+use Rattle.rc_memory.specs.Memory.{Member, Memory, IsObjectAt, IsOfVersion, IsVersionAt, more_versions, fewer_versions, on_chain, on_shown, partition_and, partition_without, renumbered_member, shown_without, shown_with}
 use Rattle.rc_memory.specs.Kept.{AreKept, IsHeld, StandAt, kept, present}
 use Rattle.rc_memory.specs.laws.Changed.{of-stays}
 use Rattle.rc_memory.specs.laws.Listed.{listed-at, one-at}
 use Rattle.rc_memory.specs.laws.Places.{heads, same_some, tails, version-place, version-there}
-use Rattle.rc_memory.specs.laws.Put.{kept-put, placed, put-at, put-beside, put-same, used-at, IsPlaced, IsUsedAs}
+use Rattle.rc_memory.specs.laws.Put.{kept-put, placed, put-at, put-beside, put-same, used-at, IsUsedAs}
 use Rattle.rc_memory.specs.laws.Standing.{row-of, stand-each}
 
 -- ---- versions by number
@@ -80,7 +77,7 @@ module _ (slots : Slots) (old new : View) (registry : Registry) (counts : Counts
   more_chains : on_chain id (on_shown (λ c. shown_with (c.versions ++ (t.version ∷ [])) c)) m.chains ≡ put id (Some (kept more.used (partition_of p.root (p.versions ++ (t ∷ []))))) m.chains
   more_chains = ap (λ o. put id (option_map (on_shown (λ c. shown_with (c.versions ++ (t.version ∷ [])) c)) o) m.chains) more.chain
       ∙ ap (λ (vs : List Version). put id (Some (record { chain = record { kind = more.used.kind; versions = vs; attached = more.used.attached; updating = more.used.updating; pins = more.used.pins }; passed = more.used.passed })) m.chains)
-          (sym (map-append (λ (s : StandingVersion). s.version) p.versions (t ∷ [])))
+      (sym (map-append (λ (s : StandingVersion). s.version) p.versions (t ∷ [])))
 
   more_stands : AreStanding slots new (present (put id (Some (partition_of p.root (p.versions ++ (t ∷ [])))) m.standing)) h.listed
   more_stands = subst (λ ps. AreStanding slots new ps h.listed) (sym ((placed m.standing id).with_one (partition_of p.root (p.versions ++ (t ∷ []))))) stands
@@ -154,9 +151,9 @@ module _ (slots : Slots) (old new : View) (registry : Registry) (counts : Counts
     less_chains : on_chain id (on_shown (shown_without j)) m.chains ≡ put id (Some (kept (without_version j less.used) (partition_of p.root (number.older ++ number.newer)))) m.chains
     less_chains = ap (λ o. put id (option_map (on_shown (shown_without j)) o) m.chains) less.chain
         ∙ ap (λ (vs : List Version). put id (Some (record {
-            chain = record { kind = less.used.kind; versions = vs; attached = less.used.attached; updating = less.used.updating; pins = map (option_map (renumbered j)) less.used.pins };
-            passed = less.used.passed;
-          })) m.chains) less_versions
+          chain = record { kind = less.used.kind; versions = vs; attached = less.used.attached; updating = less.used.updating; pins = map (option_map (renumbered j)) less.used.pins };
+          passed = less.used.passed;
+        })) m.chains) less_versions
 
     less_uses : put id (Some (without_version j less.used)) registry.uses ≡ put id (option_map (without_version j) (slice_index_or registry.uses id None)) registry.uses
     less_uses = ap (λ o. put id (option_map (without_version j) o) registry.uses) (sym less.at)

@@ -1,5 +1,5 @@
-use Rattle.std.proofs.Common.{◌∷◌, ◌++◌, [], refl, ◌∙◌, subst}
-use Rattle.rc_partition.specs.Partitions.{AreStanding, partition_of, standing}
+use Rattle.std.proofs.Common.{◌∷◌, [], refl, subst}
+use Rattle.rc_partition.specs.Partitions.{AreStanding, standing}
 use Rattle.rc_memory.specs.laws.Put.{placed}
 use Rattle.rc_memory.specs.laws.Versions.{held-less, held-more, stands-whole}
 use Rattle.rc_memory.proofs.laws.a_version_comes_and_goes.Goals as goal
