@@ -1,20 +1,23 @@
 //! All chains of a shard.
-ghost use Rattle.std.specs.Prelude.{◌≡◌, ◌↔◌, ◌∷◌, ℕ, List as Sequence, [], Some, None, IfNone, IfSome, IsTrue, length, is_some};
+ghost use Rattle.std.specs.Prelude.{◌≡◌, ◌↔◌, ◌∷◌, ◌+◌, ◌-◌, ◌*◌, ◌/◌, ◌%◌, ◌^◌, ◌≤◌, ℕ, List as Sequence, [], Some, None, IfNone, IfOk, IfSome, IsTrue, length, is_some};
+ghost use Rattle.lsa_pool.specs.Room.{free_count, spare_of};
+ghost use Rattle.lsa_region.specs.Region.{live_bytes};
 ghost use Rattle.rc_core.specs.Chains.{IsPinned};
 ghost use Rattle.rc_memory.specs.Kept.{HasMemory, IsMemory};
 ghost use Rattle.rc_registry.specs.Registry.{IsAfter};
-ghost use Rattle.rc_memory.specs.Memory.{KeptChain, Member, HasChain, HasVersion, IsAt, IsNextChain, IsVersionAt, IsVersionObject, chain_at};
+ghost use Rattle.rc_memory.specs.Memory.{KeptChain, Member, HasChain, HasVersion, IsAt, IsNextChain, IsVersionAt, IsEmpty, IsVersionObject, chain_at, counted};
 ghost use Rattle.rc_core.specs.Version.{Version};
 ghost use Rattle.rc_memory.specs.laws.One.{memory-prop};
 
 use lsa_list::List;
-use lsa_region::{Ref, Region};
+use lsa_region::{End, Ref, Region};
 use rc_core::ChainKind;
 use rc_memory::Counts;
 use rc_object::head_of;
 use rc_partition::{count, home, version};
 use rc_registry::Registry;
 use rc_rowcode::Scratch;
+use std::alloc::{AllocError, Global};
 use std::marker::Model;
 
 /// All chains of versions of a shard, with their snapshots, and the recency list through their entries and static rows. They stand in one region, in which objects may move in any call that takes `&mut self`.
@@ -41,6 +44,50 @@ impl<const S: usize> Model for Chains<S> {
 }
 
 impl<const S: usize> Chains<S> {
+    /// No chain, in a region of so many segments, all of them taken now.
+    pub fn open(alloc: Global, segments: u32) -> Result<Self, AllocError>
+        requires few { segments ≤ 4096 }
+        requires some { 4 ≤ segments }
+        requires small { S ≤ 2 ^ 27 }
+        requires even { S % 64 ≡ 0 }
+        ensures empty { IfOk result IsEmpty }
+        ensures spare { IfOk result (λ m. spare_of S m.region.usages ≡ (segments - 2) * (7 * S / 8) + (S - S / 8)) }
+        ensures free { IfOk result (λ m. free_count m.region.usages + 1 ≡ segments) }
+        ensures budget { IfOk result (λ m. length m.region.usages ≡ segments) }
+        ensures live { IfOk result (λ m. live_bytes m.region ≡ 0) }
+        ensures numbers { IfOk result (λ m. (m.region.epoch ≡ 0) × (m.region.moved ≡ 0) × (m.region.compacted ≡ 0)) }
+    {
+        let mut region = Region::open(alloc, segments)?;
+        let front = region.add_root(alloc)?;
+        let back = region.add_root(alloc)?;
+        region.link(End::Slot(front), End::Slot(back));
+        let scratch = Scratch::new(alloc, S)?;
+        let other = Scratch::new(alloc, S)?;
+        Ok(Chains {
+            region,
+            recency: List { front, back },
+            registry: Registry::new(alloc),
+            counts: Counts {
+                evicted: 0,
+                skipped: 0,
+                shrunk: 0,
+            },
+            scratch,
+            other,
+        })
+    }
+
+    /// Raises the counts by so many evictions, by how often no room was found, and by how many bytes the chains became smaller. Each stays at 2^64 - 1.
+    pub fn count(&mut self, evicted: u64, skipped: u64, shrunk: u64)
+        ensures { self.new ≡ counted evicted skipped shrunk self.old }
+    {
+        self.counts = Counts {
+            evicted: self.counts.evicted.saturating_add(evicted),
+            skipped: self.counts.skipped.saturating_add(skipped),
+            shrunk: self.counts.shrunk.saturating_add(shrunk),
+        };
+    }
+
     /// The region in which the chains stand.
     pub fn region(&self) -> &Region<S>
         ensures { result.now ≡ self.now.region }

@@ -4,7 +4,7 @@
 --     Memory        all chains, the recency list, the numbers of dropped chains, the counts; beside them the region, and which of its objects hold the chains
 --     IsAt          an object of the region stands there
 --     IsUntouched   the chains, the recency list and all else but the region is as it was
-use Rattle.std.specs.Prelude.{◌≡◌, ◌<◌, ℕ, suc, Bool, true, List, [], ◌∷◌, ◌++◌, Option, Some, None, IsSome, IsSomeAnd, option_map, length, map, slice_index_or, Contains}
+use Rattle.std.specs.Prelude.{◌≡◌, ◌<◌, ◌+◌, ◌-◌, ◌^◌, min, ℕ, suc, Bool, true, List, [], ◌∷◌, ◌++◌, Option, Some, None, IsSome, IsSomeAnd, option_map, length, map, slice_index_or, Contains}
 use Rattle.rc_position.specs.declared.positions.Pos.{Pos}
 use Rattle.lsa_store.specs.declared.place.Ref.{Ref}
 use Rattle.lsa_region.specs.Region.{View}
@@ -118,3 +118,29 @@ pub record HasChains (now : List (Option KeptChain)) (old new : Memory) : Type 0
   pub recency : new.recency ≡ old.recency
   pub dropped : new.dropped ≡ old.dropped
   pub counts : new.counts ≡ old.counts
+
+-- no chain, nothing in the list, nothing to be told, and nothing counted
+pub record IsEmpty (m : Memory) : Type 0 where
+  pub chains : m.chains ≡ []
+  pub recency : m.recency ≡ []
+  pub dropped : m.dropped ≡ []
+  pub evicted : m.counts.evicted ≡ 0
+  pub skipped : m.counts.skipped ≡ 0
+  pub shrunk : m.counts.shrunk ≡ 0
+
+-- ---- counts
+
+-- a count raised, which stays at its greatest value
+abbrev pub raised_by : ℕ → ℕ → ℕ
+raised_by more n = min (n + more) (2 ^ 64 - 1)
+
+-- the memory with its counts raised
+abbrev pub counted : ℕ → ℕ → ℕ → Memory → Memory
+counted evicted skipped shrunk m = record {
+  chains = m.chains;
+  recency = m.recency;
+  dropped = m.dropped;
+  counts = record { evicted = raised_by evicted m.counts.evicted; skipped = raised_by skipped m.counts.skipped; shrunk = raised_by shrunk m.counts.shrunk };
+  region = m.region;
+  standing = m.standing;
+}
