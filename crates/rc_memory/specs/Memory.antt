@@ -4,7 +4,7 @@
 --     Memory        all chains, the recency list, the numbers of dropped chains, the counts; beside them the region, and which of its objects hold the chains
 --     IsAt          an object of the region stands there
 --     IsUntouched   the chains, the recency list and all else but the region is as it was
-use Rattle.std.specs.Prelude.{◌≡◌, ◌<◌, ◌+◌, ◌-◌, ◌^◌, min, ℕ, suc, Bool, true, List, [], ◌∷◌, ◌++◌, Option, Some, None, IsSome, IsSomeAnd, option_map, length, map, slice_index_or, Contains}
+use Rattle.std.specs.Prelude.{◌≡◌, ◌<◌, ◌+◌, ◌-◌, ◌^◌, min, ℕ, suc, Bool, true, false, List, [], ◌∷◌, ◌++◌, Option, Some, None, IsSome, IsSomeAnd, option_map, length, map, slice_index_or, Contains}
 use Rattle.rc_position.specs.declared.positions.Pos.{Pos}
 use Rattle.lsa_store.specs.declared.place.Ref.{Ref}
 use Rattle.lsa_region.specs.Region.{View}
@@ -13,7 +13,7 @@ use Rattle.rc_core.specs.Chains.{Shown}
 use Rattle.rc_core.specs.Steps.{on_version}
 use Rattle.rc_core.specs.Version.{Version}
 use Rattle.rc_version.specs.Versions.{IsStaticsOf}
-use Rattle.rc_partition.specs.Partitions.{PartitionEntry, StandingVersion}
+use Rattle.rc_partition.specs.Partitions.{PartitionEntry, StandingVersion, partition_as}
 use Rattle.rc_registry.specs.Registry.{put, IsAfter}
 use Rattle.rc_memory.specs.declared.counts.Counts.{Counts}
 
@@ -112,6 +112,22 @@ on_version_of j f c = shown_with (on_version j f c.versions) c
 abbrev pub shown_pinned : List (Option ℕ) → Shown → Shown
 shown_pinned pins c = record { kind = c.kind; versions = c.versions; attached = c.attached; updating = c.updating; pins = pins }
 
+-- the chain no longer found by its key, and not under update
+abbrev pub shown_detached : Shown → Shown
+shown_detached c = record { kind = c.kind; versions = c.versions; attached = false; updating = false; pins = c.pins }
+
+-- the chain under update, or no longer
+abbrev pub shown_updating : Bool → Shown → Shown
+shown_updating updating c = record { kind = c.kind; versions = c.versions; attached = c.attached; updating = updating; pins = c.pins }
+
+-- the chain with the cleaner's mark or without it
+abbrev pub marked : Bool → KeptChain → KeptChain
+marked passed k = record { chain = k.chain; passed = passed }
+
+-- the memory with other chains
+abbrev pub with_chains : List (Option KeptChain) → Memory → Memory
+with_chains chains m = record { chains = chains; recency = m.recency; dropped = m.dropped; counts = m.counts; region = m.region; standing = m.standing }
+
 -- the counts, the recency list and the dropped numbers are as they were, and the chains are these
 pub record HasChains (now : List (Option KeptChain)) (old new : Memory) : Type 0 where
   pub chains : new.chains ≡ now
@@ -144,3 +160,9 @@ counted evicted skipped shrunk m = record {
   region = m.region;
   standing = m.standing;
 }
+
+-- ---- what is done to the region
+
+-- the memory after objects of its region got new names
+abbrev pub moved : List (Ref × Ref) → View → Memory → Memory
+moved names region m = record { chains = m.chains; recency = m.recency; dropped = m.dropped; counts = m.counts; region = region; standing = map (option_map (partition_as names)) m.standing }
