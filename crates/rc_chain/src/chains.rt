@@ -5,7 +5,7 @@ ghost use Rattle.lsa_region.specs.Region.{live_bytes};
 ghost use Rattle.rc_core.specs.Chains.{IsPinned};
 ghost use Rattle.rc_memory.specs.Kept.{HasMemory, IsMemory};
 ghost use Rattle.rc_registry.specs.Registry.{IsAfter};
-ghost use Rattle.rc_memory.specs.Memory.{KeptChain, Member, HasChain, HasVersion, IsAt, IsNextChain, IsVersionAt, IsEmpty, IsSnapshotTaken, IsTold, IsUntouched, IsVersionObject, HasPin, chain_at, counted, marked, on_chain, snapshot_number, with_chains, without_snapshot};
+ghost use Rattle.rc_memory.specs.Memory.{KeptChain, Member, HasChain, HasVersion, IsAt, IsNextChain, IsVersionAt, IsEmpty, IsTold, IsUntouched, IsVersionObject, HasPin, chain_at, counted, marked, on_chain, with_chains, without_snapshot};
 ghost use Rattle.lsa_move.specs.Room.{IsCompacted, Tight};
 ghost use Rattle.lsa_store.specs.Stock.{sparse_of};
 ghost use Rattle.rc_core.specs.Steps.{pin_at};
@@ -274,35 +274,5 @@ impl<const S: usize> Chains<S> {
             Some(number) => number,
             None => unreachable!(),
         }
-    }
-
-    // The number of the version that a snapshot pins.
-    fn snapshot_number(&self, id: u64) -> u64
-        requires { HasChain self.now id }
-        ensures value { (k : KeptChain) → chain_at self.now id ≡ Some k → result ≡ snapshot_number k.chain }
-        ensures there { HasVersion self.now id result }
-    {
-        let versions = self.versions(id);
-        if self.is_updating(id) {
-            versions - 2
-        } else {
-            versions - 1
-        }
-    }
-
-    /// A snapshot of a chain, which is found by its key: it pins the newest version, or the one below it while an update stands in the newest. The only error is want of memory, which changes nothing.
-    pub fn snapshot(&mut self, id: u64) -> Result<Snap, AllocError>
-        requires { IsSomeAnd (chain_at self.old id) (λ k. k.chain.attached ≡ true) }
-        ensures taken { IfOk result (λ s. (s.chain ≡ id) × IsSnapshotTaken self.old self.new id s.pin s.phase) }
-        ensures err { OnErr result (self.new ≡ self.old) }
-    {
-        let number = self.snapshot_number(id);
-        let phase = self.phase(id, number);
-        let pin = self.registry.pin(id, number)?;
-        Ok(Snap {
-            chain: id,
-            pin,
-            phase,
-        })
     }
 }

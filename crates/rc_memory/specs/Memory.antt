@@ -4,16 +4,18 @@
 --     Memory        all chains, the recency list, the numbers of dropped chains, the counts; beside them the region, and which of its objects hold the chains
 --     IsAt          an object of the region stands there
 --     IsUntouched   the chains, the recency list and all else but the region is as it was
-use Rattle.std.specs.Prelude.{◌≡◌, ◌<◌, ◌+◌, ◌-◌, ◌^◌, min, ℕ, suc, Bool, true, false, List, [], ◌∷◌, ◌++◌, Option, Some, None, IsSome, IfSome, IsSomeAnd, option_map, cond, length, map, slice_index_or, Contains}
+use Rattle.std.specs.Prelude.{◌≡◌, ◌<◌, ◌+◌, ◌-◌, ◌^◌, min, ℕ, suc, Bool, true, false, List, [], ◌∷◌, ◌++◌, Option, Some, None, IsSome, IfSome, IsSomeAnd, option_map, cond, length, map, slice_index_or, Contains, zero, nat_eq, take, drop}
 use Rattle.rc_position.specs.declared.positions.Pos.{Pos}
 use Rattle.lsa_store.specs.declared.place.Ref.{Ref}
+use Rattle.lsa_region.specs.declared.end.Root.{Root}
+use Rattle.rc_core.specs.declared.entries.ChainKind.{ChainKind}
 use Rattle.lsa_region.specs.Region.{View}
 use Rattle.lsa_tree.specs.Entries.{IsEntryAtPosition}
 use Rattle.rc_core.specs.Chains.{Shown}
-use Rattle.rc_core.specs.Steps.{free_number, on_version, pin_at, pinned, released}
+use Rattle.rc_core.specs.Steps.{free_number, on_version, pin_at, pinned, released, all_but, renumbered}
 use Rattle.rc_core.specs.Version.{Version}
 use Rattle.rc_version.specs.Versions.{IsStaticsOf}
-use Rattle.rc_partition.specs.Partitions.{PartitionEntry, StandingVersion, partition_as}
+use Rattle.rc_partition.specs.Partitions.{PartitionEntry, StandingVersion, partition_as, partition_of}
 use Rattle.rc_registry.specs.Registry.{put, IsAfter}
 use Rattle.rc_memory.specs.declared.counts.Counts.{Counts}
 
@@ -196,3 +198,78 @@ counted evicted skipped shrunk m = record {
 -- the memory after objects of its region got new names
 abbrev pub moved : List (Ref × Ref) → View → Memory → Memory
 moved names region m = record { chains = m.chains; recency = m.recency; dropped = m.dropped; counts = m.counts; region = region; standing = map (option_map (partition_as names)) m.standing }
+
+-- the memory with another recency list, in a region
+abbrev pub listed_as : List Member → View → Memory → Memory
+listed_as recency region m = record { chains = m.chains; recency = recency; dropped = m.dropped; counts = m.counts; region = region; standing = m.standing }
+
+-- versions with another one at a number
+abbrev pub with_standing : ℕ → StandingVersion → List StandingVersion → List StandingVersion
+with_standing j t [] = []
+with_standing zero t (s ∷ ss) = t ∷ ss
+with_standing (suc j) t (s ∷ ss) = s ∷ with_standing j t ss
+
+abbrev pub partition_with : ℕ → StandingVersion → PartitionEntry → PartitionEntry
+partition_with j t p = partition_of p.root (with_standing j t p.versions)
+
+-- the memory with another version of a chain at a number, as it stands in a region
+abbrev pub changed : ℕ → ℕ → StandingVersion → View → Memory → Memory
+changed id j t region m = record {
+  chains = on_chain id (on_shown (on_version_of j (λ c. t.version))) m.chains;
+  recency = m.recency;
+  dropped = m.dropped;
+  counts = m.counts;
+  region = region;
+  standing = put id (option_map (partition_with j t) (slice_index_or m.standing id None)) m.standing;
+}
+
+-- a chain of no version: found by its key, not under update, pinned by nobody
+abbrev pub empty_chain : ChainKind → KeptChain
+empty_chain kind = record { chain = record { kind = kind; versions = []; attached = true; updating = false; pins = [] }; passed = false }
+
+-- the memory with such a chain more, at a root slot
+abbrev pub opened : ℕ → Root → ChainKind → View → Memory → Memory
+opened id root kind region m = record { chains = put id (Some (empty_chain kind)) m.chains; recency = m.recency; dropped = m.dropped; counts = m.counts; region = region; standing = put id (Some (partition_of root [])) m.standing }
+
+-- the memory without the chain of a number, which is to be told
+abbrev pub closed : ℕ → View → Memory → Memory
+closed id region m = record { chains = put id None m.chains; recency = m.recency; dropped = m.dropped ++ (id ∷ []); counts = m.counts; region = region; standing = put id None m.standing }
+
+-- ---- versions that come and go
+
+-- the versions of a partition with one over them, and without the one of a number
+abbrev pub partition_and : StandingVersion → PartitionEntry → PartitionEntry
+partition_and t p = partition_of p.root (p.versions ++ (t ∷ []))
+
+abbrev pub partition_without : ℕ → PartitionEntry → PartitionEntry
+partition_without j p = partition_of p.root (take j p.versions ++ drop (suc j) p.versions)
+
+-- the chain without the version of a number: the newer ones, and the pins of these, have numbers less by one
+abbrev pub shown_without : ℕ → Shown → Shown
+shown_without j c = record { kind = c.kind; versions = all_but j c.versions; attached = c.attached; updating = c.updating; pins = map (option_map (renumbered j)) c.pins }
+
+-- the place of an object once the version of a number of a chain is gone
+abbrev pub renumbered_member : ℕ → ℕ → Member → Member
+renumbered_member id j w = record { chain = w.chain; version = cond (nat_eq w.chain id) (renumbered j w.version) w.version; position = w.position }
+
+-- the memory with a version over those of a chain, as it stands in a region
+abbrev pub more_versions : ℕ → StandingVersion → View → Memory → Memory
+more_versions id t region m = record {
+  chains = on_chain id (on_shown (λ c. shown_with (c.versions ++ (t.version ∷ [])) c)) m.chains;
+  recency = m.recency;
+  dropped = m.dropped;
+  counts = m.counts;
+  region = region;
+  standing = put id (option_map (partition_and t) (slice_index_or m.standing id None)) m.standing;
+}
+
+-- the memory without the version of a number of a chain
+abbrev pub fewer_versions : ℕ → ℕ → View → Memory → Memory
+fewer_versions id j region m = record {
+  chains = on_chain id (on_shown (shown_without j)) m.chains;
+  recency = map (renumbered_member id j) m.recency;
+  dropped = m.dropped;
+  counts = m.counts;
+  region = region;
+  standing = put id (option_map (partition_without j) (slice_index_or m.standing id None)) m.standing;
+}

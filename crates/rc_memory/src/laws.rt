@@ -1,15 +1,29 @@
 //! The laws of a shard's memory, each the contract of a function that does nothing.
-ghost use Rattle.std.specs.Prelude.{◌≡◌, ℕ, Bool, List};
-ghost use Rattle.rc_core.specs.Steps.{pinned, released};
-ghost use Rattle.rc_partition.specs.Partitions.{PartitionEntry};
+ghost use Rattle.std.specs.Prelude.{◌≡◌, ◌≢◌, ◌⊎◌, ◌<◌, ◌≤◌, ◌/◌, ℕ, suc, Bool, true, false, Option, length, List, [], ◌∷◌, ◌++◌, None, Contains, Some, IsSome, slice_index_or, sum_by};
+ghost use Rattle.rc_position.specs.declared.positions.Pos.{Pos};
+ghost use Rattle.rc_core.specs.declared.entries.ChainKind.{ChainKind};
+ghost use Rattle.lsa_region.specs.declared.end.Root.{Root};
+ghost use Rattle.lsa_region.specs.declared.end.End.{End};
+ghost use Rattle.lsa_region.specs.declared.end.End.TheVariants.{Obj};
+ghost use Rattle.lsa_list.specs.Recency.{first, IsElsewhere, IsList};
+ghost use Rattle.rc_core.specs.Version.{Version, end_position};
+ghost use Rattle.rc_version.specs.Versions.{IsKeptBut, IsUnlisted, IsVersionOf, IsWeighed};
+ghost use Rattle.rc_core.specs.Steps.{pinned, released, version_of};
+ghost use Rattle.rc_core.specs.Chains.{Shown, IsPinned};
+ghost use Rattle.rc_core.specs.declared.entries.ChainKind.TheVariants.{Cache};
+ghost use Rattle.rc_core.specs.declared.entries.Flag.{Flag};
+ghost use Rattle.rc_cell.specs.declared.writes.Tomb.{Tomb};
+ghost use Rattle.rc_rowcode.specs.Objects.{dummy_size};
+ghost use Rattle.rc_partition.specs.Partitions.{PartitionEntry, StandingVersion, AreStanding, among, partition_of, standing};
 ghost use Rattle.rc_registry.specs.declared.uses.Use.{Use};
 ghost use Rattle.lsa_store.specs.declared.place.Ref.{Ref};
-ghost use Rattle.lsa_region.specs.Region.{View, IsWell, Renamed};
+ghost use Rattle.lsa_region.specs.Region.{View, body, link_of, live_bytes, objects, IsRootAdded, IsRootDropped, IsSummed, IsWell, Renamed, SameButRoots, SameObjects};
 ghost use Rattle.lsa_list.specs.declared.recency.List.{List as Slots};
-ghost use Rattle.rc_registry.specs.Registry.{Registry, detached, on_use, set_passed, set_updating, with_pin, without_pin};
+ghost use Rattle.rc_registry.specs.Registry.{Registry, detached, new_use, on_use, put, set_passed, set_updating, with_pin, with_use, without_pin, without_version};
 ghost use Rattle.rc_memory.specs.declared.counts.Counts.{Counts};
-ghost use Rattle.rc_memory.specs.Memory.{KeptChain, Memory, HasChain, marked, moved, on_chain, on_shown, shown_detached, shown_pinned, shown_updating, with_chains};
-ghost use Rattle.rc_memory.specs.Kept.{IsHeld, kept};
+ghost use Rattle.rc_memory.specs.Memory.{KeptChain, Member, Memory, HasChain, IsObjectAt, IsOfVersion, IsVersionAt, IsVersionObject, chain_at, changed, closed, fewer_versions, listed_as, marked, more_versions, moved, on_chain, on_shown, on_version_of, opened, shown_detached, shown_pinned, shown_updating, shown_with, shown_without, with_chains};
+ghost use Rattle.rc_memory.specs.Kept.{IsHeld, IsSound, kept, present};
+ghost use Rattle.rc_memory.specs.Room.{FitTogether, chain_bytes, chain_objects};
 
 /// Region, recency list, table and counts hold one memory.
 pub fn they_hold_one_memory()
@@ -29,4 +43,86 @@ pub fn a_use_may_change()
     ensures passed { (slots : Slots) (v : View) (registry : Registry) (counts : Counts) (m : Memory) (id : ℕ) (passed : Bool) → IsHeld slots v registry counts m → HasChain m id → IsHeld slots v (on_use id (set_passed passed) registry) counts (with_chains (on_chain id (marked passed) m.chains) m) }
     ensures pinned { (slots : Slots) (v : View) (registry : Registry) (counts : Counts) (m : Memory) (id : ℕ) (version : ℕ) → IsHeld slots v registry counts m → HasChain m id → IsHeld slots v (on_use id (with_pin version) registry) counts (with_chains (on_chain id (on_shown (λ c. shown_pinned (pinned version c.pins) c)) m.chains) m) }
     ensures released { (slots : Slots) (v : View) (registry : Registry) (counts : Counts) (m : Memory) (id : ℕ) (pin : ℕ) → IsHeld slots v registry counts m → HasChain m id → IsHeld slots v (on_use id (without_pin pin) registry) counts (with_chains (on_chain id (on_shown (λ c. shown_pinned (released pin c.pins) c)) m.chains) m) }
+{}
+
+/// The recency list may change: an object at a place is put at its back, taken out of it, or made the most recent one, and its place with it.
+pub fn the_list_may_change()
+    ensures pushed { (slots : Slots) (old new : View) (registry : Registry) (counts : Counts) (m : Memory) (r : Ref) (w : Member) → IsHeld slots old registry counts m → ((e : End) → IsElsewhere slots old e → link_of new e ≡ link_of old e) → SameObjects old new → IsWell new → IsObjectAt old m.standing r w → ((xs : List Ref) → IsList slots old xs → IsList slots new (xs ++ (r ∷ []))) →
+        ((e : End) → link_of old e ≡ None → e ≢ Obj r 0 → e ≢ Obj r 1 → link_of new e ≡ None) → IsHeld slots new registry counts (listed_as (m.recency ++ (w ∷ [])) new m) }
+    ensures taken { (slots : Slots) (old new : View) (registry : Registry) (counts : Counts) (m : Memory) (r : Ref) (front : List Member) (w : Member) (back : List Member) → IsHeld slots old registry counts m → ((e : End) → IsElsewhere slots old e → link_of new e ≡ link_of old e) → SameObjects old new → IsWell new → m.recency ≡ front ++ (w ∷ back) → IsObjectAt old m.standing r w → ((xs ys : List Ref) → IsList slots old (xs ++ (r ∷ ys)) → IsList slots new (xs ++ ys)) →
+        link_of new (Obj r 0) ≡ None → link_of new (Obj r 1) ≡ None → ((e : End) → link_of old e ≡ None → link_of new e ≡ None) → IsHeld slots new registry counts (listed_as (front ++ back) new m) }
+    ensures touched { (slots : Slots) (old new : View) (registry : Registry) (counts : Counts) (m : Memory) (r : Ref) (front : List Member) (w : Member) (back : List Member) → IsHeld slots old registry counts m → ((e : End) → IsElsewhere slots old e → link_of new e ≡ link_of old e) → SameObjects old new → IsWell new → m.recency ≡ front ++ (w ∷ back) → IsObjectAt old m.standing r w → ((xs ys : List Ref) → IsList slots old (xs ++ (r ∷ ys)) → IsList slots new ((xs ++ ys) ++ (r ∷ []))) →
+        ((e : End) → link_of old e ≡ None → link_of new e ≡ None) → IsHeld slots new registry counts (listed_as ((front ++ back) ++ (w ∷ [])) new m) }
+{}
+
+/// An object is listed exactly where its place is in the recency list; where it is not, its links are unset. The first object of the list stands at the first place.
+pub fn the_list_is_told_by_places()
+    ensures listed { (slots : Slots) (v : View) (registry : Registry) (counts : Counts) (m : Memory) (r : Ref) (w : Member) (h : IsHeld slots v registry counts m) → IsObjectAt v m.standing r w → Contains m.recency w → Contains h.listed r }
+    ensures placed { (slots : Slots) (v : View) (registry : Registry) (counts : Counts) (m : Memory) (r : Ref) (w : Member) (h : IsHeld slots v registry counts m) → IsObjectAt v m.standing r w → Contains h.listed r → Contains m.recency w }
+    ensures unlisted { (slots : Slots) (v : View) (registry : Registry) (counts : Counts) (m : Memory) (r : Ref) (w : Member) → IsHeld slots v registry counts m → IsObjectAt v m.standing r w → (Contains m.recency w → ⊥) → IsUnlisted v r }
+    ensures split { (slots : Slots) (v : View) (registry : Registry) (counts : Counts) (m : Memory) (front : List Member) (w : Member) (back : List Member) (r : Ref) → IsHeld slots v registry counts m → m.recency ≡ front ++ (w ∷ back) → IsObjectAt v m.standing r w → (xs : List Ref) × (ys : List Ref) × IsList slots v (xs ++ (r ∷ ys)) }
+    ensures front { (slots : Slots) (v : View) (registry : Registry) (counts : Counts) (m : Memory) (r : Ref) (h : IsHeld slots v registry counts m) → first h.listed ≡ Some r → (w : Member) × (back : List Member) × (m.recency ≡ w ∷ back) × IsObjectAt v m.standing r w }
+    ensures empty { (slots : Slots) (v : View) (registry : Registry) (counts : Counts) (m : Memory) (h : IsHeld slots v registry counts m) → first h.listed ≡ None → m.recency ≡ [] }
+{}
+
+/// At a place stands one object, and an object stands at one place.
+pub fn an_object_stands_at_one_place()
+    ensures place { (slots : Slots) (v : View) (registry : Registry) (counts : Counts) (m : Memory) (r : Ref) (w x : Member) → IsHeld slots v registry counts m → IsObjectAt v m.standing r w → IsObjectAt v m.standing r x → w ≡ x }
+    ensures object { (slots : Slots) (v : View) (registry : Registry) (counts : Counts) (m : Memory) (r q : Ref) (w : Member) → IsHeld slots v registry counts m → IsObjectAt v m.standing r w → IsObjectAt v m.standing q w → r ≡ q }
+{}
+
+/// A version of a chain may change: all is held as before, with that version in its place, where the objects of it that are listed stand where they stood; of a static row it is enough that no entry came to be but of what was not there.
+pub fn a_version_may_change()
+    ensures changed { (slots : Slots) (old new : View) (registry : Registry) (counts : Counts) (m : Memory) (id j : ℕ) (p : PartitionEntry) (s : StandingVersion) (now : List Ref) (c : Version) → IsHeld slots old registry counts m → IsSummed old → IsWell new → IsSummed new → slice_index_or m.standing id None ≡ Some p → IsVersionAt p.versions j s →
+        IsKeptBut s.object old new → IsVersionOf new s.object now c → IsWeighed old new s.version c →
+        ((w : Member) (r : Ref) → Contains m.recency w → w.chain ≡ id → w.version ≡ j → IsOfVersion old s w.position r → IsOfVersion new (standing s.object now c) w.position r) → IsHeld slots new registry counts (changed id j (standing s.object now c) new m) }
+    ensures entries { (slots : Slots) (old new : View) (registry : Registry) (counts : Counts) (m : Memory) (id j : ℕ) (p : PartitionEntry) (s : StandingVersion) (now : List Ref) (c : Version) → IsHeld slots old registry counts m → IsSummed old → IsWell new → IsSummed new → slice_index_or m.standing id None ≡ Some p → IsVersionAt p.versions j s →
+        IsKeptBut s.object old new → IsVersionOf new s.object now c → IsWeighed old new s.version c → ((q : Ref) → Contains now q → Contains s.entries q ⊎ (body old q ≡ None)) →
+        ((x : Pos) (r : Ref) → Contains m.recency (record { chain = id; version = j; position = Some x }) → IsOfVersion old s (Some x) r → IsOfVersion new (standing s.object now c) (Some x) r) → IsHeld slots new registry counts (changed id j (standing s.object now c) new m) }
+{}
+
+/// A version of its end dummy alone is put over those of a chain; and one that has no listed object is dropped, when the newer ones have numbers less by one, and their pins and listed objects with them.
+pub fn a_version_comes_and_goes()
+    ensures added { (slots : Slots) (old new : View) (registry : Registry) (counts : Counts) (m : Memory) (id : ℕ) (p : PartitionEntry) (n : Ref) (c : Version) → IsHeld slots old registry counts m → IsWell new → slice_index_or m.standing id None ≡ Some p →
+        ((front : List PartitionEntry) (versions : List StandingVersion) (back : List PartitionEntry) (listed : List Ref) → AreStanding slots old (front ++ (partition_of p.root versions ∷ back)) listed →
+            (end : Ref) × AreStanding slots new (front ++ (partition_of p.root (versions ++ (standing n (end ∷ []) c ∷ [])) ∷ back)) listed × IsUnlisted new end) →
+        ((q : Ref) (refs : List Ref) (d : Version) → IsVersionOf old q refs d → link_of new (Obj q 3) ≡ link_of old (Obj q 3)) → (end : Ref) × IsHeld slots new registry counts (more_versions id (standing n (end ∷ []) c) new m) × IsUnlisted new end }
+    ensures dropped { (slots : Slots) (old new : View) (registry : Registry) (counts : Counts) (m : Memory) (id j : ℕ) (p : PartitionEntry) (s : StandingVersion) → IsHeld slots old registry counts m → IsWell new → slice_index_or m.standing id None ≡ Some p → IsVersionAt p.versions j s →
+        ((front : List PartitionEntry) (older : List StandingVersion) (t : StandingVersion) (newer : List StandingVersion) (back : List PartitionEntry) (listed : List Ref) → t.object ≡ s.object →
+            AreStanding slots old (among front p.root older t newer back) listed → AreStanding slots new (front ++ (partition_of p.root (older ++ newer) ∷ back)) listed) →
+        ((q : Ref) (refs : List Ref) (d : Version) → q ≢ s.object → IsVersionOf old q refs d → link_of new (Obj q 3) ≡ link_of old (Obj q 3)) → IsHeld slots new (on_use id (without_version j) registry) counts (fewer_versions id j new m) }
+{}
+
+/// A chain of no version comes with its root slot, and goes with it; its number is to be told then. Of a chain of no version nothing but its root slot stands.
+pub fn a_chain_comes_and_goes()
+    ensures opened { (slots : Slots) (old new : View) (registry : Registry) (counts : Counts) (m : Memory) (id : ℕ) (root : Root) (kind : ChainKind) → IsHeld slots old registry counts m → IsRootAdded old new root → SameButRoots old new → IsWell new → slice_index_or registry.uses id None ≡ None → IsHeld slots new (with_use id (Some (new_use root kind)) registry) counts (opened id root kind new m) }
+    ensures closed { (slots : Slots) (old new : View) (registry : Registry) (counts : Counts) (m : Memory) (id : ℕ) (root : Root) → IsHeld slots old registry counts m → IsRootDropped old new root → SameButRoots old new → IsWell new → slice_index_or m.standing id None ≡ Some (partition_of root []) →
+        IsHeld slots new (record { uses = put id None registry.uses; dropped = registry.dropped ++ (id ∷ []) }) counts (closed id new m) }
+    ensures empty { (slots : Slots) (v : View) (registry : Registry) (counts : Counts) (m : Memory) (id : ℕ) (k : KeptChain) → IsHeld slots v registry counts m → chain_at m id ≡ Some k → k.chain.versions ≡ [] → (u : Use) × (slice_index_or registry.uses id None ≡ Some u) × (slice_index_or m.standing id None ≡ Some (partition_of u.root [])) }
+{}
+
+/// Each object is a version of a chain, or stands at a place of one; what is live is what the chains take, and there are as many objects as they have.
+pub fn each_object_is_of_a_chain()
+    ensures each { (slots : Slots) (v : View) (registry : Registry) (counts : Counts) (m : Memory) (r : Ref) → IsHeld slots v registry counts m → IsSummed v → IsSome (body v r) → ((id : ℕ) × (j : ℕ) × IsVersionObject m id j r) ⊎ ((w : Member) × IsObjectAt v m.standing r w) }
+    ensures bytes { (slots : Slots) (v : View) (registry : Registry) (counts : Counts) (m : Memory) → IsHeld slots v registry counts m → live_bytes v ≡ sum_by chain_bytes (present m.chains) }
+    ensures objects { (slots : Slots) (v : View) (registry : Registry) (counts : Counts) (m : Memory) → IsHeld slots v registry counts m → IsSummed v → objects v ≡ sum_by chain_objects (present m.chains) }
+{}
+
+/// A sound chain stays sound where it is pinned, released, detached, settled, begun to be updated, changed, and where a version comes or goes.
+pub fn a_sound_chain_stays_sound()
+    ensures pinned { (c : Shown) (version : ℕ) → IsSound c → version < length c.versions → (c.updating ≡ true → suc version < length c.versions) → IsSound (shown_pinned (pinned version c.pins) c) }
+    ensures released { (c : Shown) (pin : ℕ) → IsSound c → IsSound (shown_pinned (released pin c.pins) c) }
+    ensures detached { (c : Shown) → IsSound c → IsSound (shown_detached c) }
+    ensures settled { (c : Shown) → IsSound c → IsSound (shown_updating false c) }
+    ensures updating { (c : Shown) → IsSound c → c.kind ≡ Cache → c.attached ≡ true → 2 ≤ length c.versions → ((j : ℕ) → IsPinned c.pins j → suc j < length c.versions) → IsSound (shown_updating true c) }
+    ensures changed { (c : Shown) (j : ℕ) (f : Version → Version) → IsSound c → IsSound (on_version_of j f c) }
+    ensures more { (c : Shown) (v : Version) → IsSound c → IsSound (shown_with (c.versions ++ (v ∷ [])) c) }
+    ensures fewer { (c : Shown) (j : ℕ) → IsSound c → (IsPinned c.pins j → ⊥) → j < length c.versions → 2 ≤ length c.versions → (c.updating ≡ true → suc j < length c.versions) → (c.updating ≡ true → 3 ≤ length c.versions) → IsSound (shown_without j c) }
+{}
+
+/// Rows that fit together still do where versions go, and where one comes that has its end dummy alone.
+pub fn rows_still_fit()
+    ensures fewer { (S : ℕ) (vs ws : List Version) → ((v : Version) → Contains ws v → Contains vs v) → FitTogether S vs → FitTogether S ws }
+    ensures none { (S : ℕ) → FitTogether S [] }
+    ensures more { (S : ℕ) (vs : List Version) (flag : Flag) (pt : Option Tomb) (phase : ℕ) → dummy_size end_position ≤ S / 8 → FitTogether S vs → FitTogether S (vs ++ (version_of flag pt phase ∷ [])) }
 {}
