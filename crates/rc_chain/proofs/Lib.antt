@@ -1,1 +1,4 @@
 mod Reading
+mod Opening
+mod Rules
+mod Snapshots

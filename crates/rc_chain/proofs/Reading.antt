@@ -7,15 +7,21 @@ use Rattle.lsa_store.specs.declared.place.Ref.{Ref}
 use Rattle.lsa_list.specs.Recency.{first}
 use Rattle.lsa_region.specs.Region.{View}
 use Rattle.lsa_list.specs.declared.recency.List.{List as Slots}
-use Rattle.rc_partition.specs.Partitions.{AreStanding, IsRowOf, PartitionEntry, StandingVersion, among, partition_of}
+use Rattle.rc_partition.specs.Partitions.{AreStanding, IsRowOf, IsRowOfAny, PartitionEntry, StandingVersion, among, partition_of}
 use Rattle.rc_registry.specs.declared.uses.Use.{Use}
-use Rattle.rc_registry.specs.Registry.{Registry, IsNext, IsThere, use_at}
+use Rattle.rc_registry.specs.Registry.{Registry, HasRoot, IsAfter, IsNext, IsThere, use_at}
 use Rattle.rc_memory.specs.declared.counts.Counts.{Counts}
-use Rattle.rc_memory.specs.Memory.{HasChain, HasVersion, IsAt, IsNextChain, IsObjectAt, IsOfVersion, IsVersionAt, KeptChain, Member, Memory, chain_at}
+use Rattle.rc_memory.specs.Memory.{HasChain, HasVersion, IsAt, IsNextChain, IsObjectAt, IsOfVersion, IsVersionAt, IsVersionObject, KeptChain, Member, Memory, chain_at}
 use Rattle.rc_memory.specs.Kept.{AreKept, HasMemory, IsHeld, IsMemory, StandAt, kept, present}
 use Rattle.rc_memory.specs.laws.At.{IsKeptAt, kept-at, present-split, used-there}
 use Rattle.rc_memory.specs.laws.One.{kept-is}
-use Rattle.rc_memory.specs.laws.Places.{heads, no_some, present-at, same_some, tails}
+use Rattle.rc_memory.specs.laws.Places.{heads, no_some, present-at, same_some, tails, version-there}
+use Rattle.rc_partition.specs.laws.Lists.{elem-here}
+use Rattle.lsa_region.specs.declared.end.Root.{Root}
+use Rattle.rc_core.specs.Version.{Version}
+use Rattle.rc_object.specs.declared.heads.Head.{Head}
+use Rattle.rc_object.specs.Objects.{HoldsHead}
+use Rattle.rc_version.specs.Versions.{version_head}
 
 module _ (S : ℕ) (slots : Slots) (v : View) (registry : Registry) (counts : Counts) (given : HasMemory S slots v registry counts) (now : Memory) (seen : given.0 ≡ now) (m : Memory) (is : IsMemory S slots v registry counts m) where
   -- what is seen is what is kept
@@ -85,11 +91,11 @@ module _ {X : Type 0} where
   number-one xs n x y a b = at_number a.older a.newer b.older b.newer x y (sym a.split ∙ b.split) (a.number ∙ sym b.number)
 
 pub number-mapped : {X Y : Type 0} (f : X → Y) (xs : List X) (n : ℕ) (x : X) → IsVersionAt xs n x → IsVersionAt (map f xs) n (f x)
-number-mapped f xs n x h = record { older = map f h.older; newer = map f h.newer; split = ap (map f) h.split ∙ map-append f h.older (x ∷ h.newer); number = mapped h.older ∙ h.number }
+number-mapped f xs n x h = record { older = map f h.older; newer = map f h.newer; split = ap (map f) h.split ∙ map-append f h.older (x ∷ h.newer); number = mapped f h.older ∙ h.number }
   where
-  mapped : {X Y : Type 0} {f : X → Y} (ys : List X) → length (map f ys) ≡ length ys
-  mapped [] = refl
-  mapped (y ∷ ys) = ap suc (mapped ys)
+  mapped : {X Y : Type 0} (f : X → Y) (ys : List X) → length (map f ys) ≡ length ys
+  mapped f [] = refl
+  mapped f (y ∷ ys) = ap suc (mapped f ys)
 
 module _ (slots : Slots) (v : View) (registry : Registry) (counts : Counts) (m : Memory) (h : IsHeld slots v registry counts m) where
   -- where a table has none there is none
@@ -105,13 +111,13 @@ module _ (slots : Slots) (v : View) (registry : Registry) (counts : Counts) (m :
   next-chain after (Some id) n = record { there = sym (used-there registry.uses m.standing m.chains id h.kept) ∙ n.there; behind = n.behind; least = λ i a b. unused i (n.least i a b) }
 
   -- a version of a number ls it stands
-  pub record HasStanding (id number : ℕ) (u : Use) : Type 0 where
+  pub record HasStanding (id j : ℕ) (u : Use) : Type 0 where
     pub partition : PartitionEntry
     pub version : StandingVersion
     pub front : List PartitionEntry
     pub back : List PartitionEntry
     pub at : slice_index_or m.standing id None ≡ Some partition
-    pub number : IsVersionAt partition.versions number version
+    pub number : IsVersionAt partition.versions j version
     pub stands : AreStanding slots v (among front u.root number.older version number.newer back) h.listed
 
   pub version-stands : (id number : ℕ) (u : Use) → HasVersion m id number → use_at registry.uses id ≡ Some u → HasStanding id number u
@@ -191,3 +197,46 @@ module _ (slots : Slots) (v : View) (registry : Registry) (counts : Counts) (m :
     used_in (u ∷ us) (q ∷ ps) (c ∷ cs) (suc id) p h e = used_in us ps cs id p h.1 e
     used_of : (id : ℕ) (p : PartitionEntry) → slice_index_or m.standing id None ≡ Some p → (u : Use) × (use_at registry.uses id ≡ Some u) × (p.root ≡ u.root)
     used_of id p e = used_in registry.uses m.standing m.chains id p h.kept e
+
+  pub next-none : (after o : Option ℕ) → IfNone o ((i : ℕ) → IsAfter after i → use_at registry.uses i ≡ None) → IfNone o ((i : ℕ) → IsAfter after i → chain_at m i ≡ None)
+  next-none after None n = λ i a. unused slots v registry counts m h i (n i a)
+  next-none after (Some id) n = tt
+
+  -- an object at a place is a row of some version
+  pub row-any : (r : Ref) (w : Member) → HasHome r w → IsRowOfAny v (present m.standing) r
+  row-any r w a = (a.partition, a.version, a.present, subst (λ vs. Contains vs a.version) (sym a.number.split) (elem-here a.number.older a.number.newer a.version), a.row)
+
+  -- the head of a version by its object
+  versioned : (id j : ℕ) (n : Ref) → IsVersionObject m id j n → (p : PartitionEntry) × (s : StandingVersion) × (slice_index_or m.standing id None ≡ Some p) × IsVersionAt p.versions j s × (s.object ≡ n)
+  versioned id j n is = of (slice_index_or m.standing id None) is
+    where
+    of : (o : Option PartitionEntry) → IsSomeAnd o (λ p. (s : StandingVersion) × IsVersionAt p.versions j s × (s.object ≡ n)) → (p : PartitionEntry) × (s : StandingVersion) × (o ≡ Some p) × IsVersionAt p.versions j s × (s.object ≡ n)
+    of None is = absurd is
+    of (Some p) is = (p, is.0, refl, is.1, is.2)
+
+  pub head-held : (id j : ℕ) (n : Ref) → IsVersionObject m id j n → (head : Head) × HoldsHead v n head
+  head-held id j n is =
+      let a = versioned id j n is in let s = a.1 in
+      (version_head s.version, subst (λ o. HoldsHead v o (version_head s.version)) a.4 (version-there slots v h.well m.standing h.listed h.stands id j a.0 s a.2 a.3).head)
+
+  pub phase-of : (id j : ℕ) (n : Ref) → IsVersionObject m id j n → (k : KeptChain) (w : Version) → chain_at m id ≡ Some k → IsVersionAt k.chain.versions j w → (head : Head) → ((it : Head) → HoldsHead v n it → head ≡ it) → head.phase ≡ w.phase
+  phase-of id j n is k w e at head told =
+      let a = versioned id j n is in let s = a.1 in let kept_so = chain-kept slots v registry counts m h id k e in
+      let same = same_some a.0 kept_so.partition (sym a.2 ∙ kept_so.stands) in
+      let listed_so = number-mapped (λ (x : StandingVersion). x.version) a.0.versions j s a.3 in
+      let versions : k.chain.versions ≡ map (λ (x : StandingVersion). x.version) a.0.versions = ap (λ (x : KeptChain). x.chain.versions) kept_so.same ∙ ap (λ (q : PartitionEntry). map (λ (x : StandingVersion). x.version) q.versions) (sym same) in
+      let one = number-one k.chain.versions j s.version w (subst (λ vs. IsVersionAt vs j s.version) (sym versions) listed_so) at in
+      ap (λ (x : Head). x.phase) (told (version_head s.version) (subst (λ o. HoldsHead v o (version_head s.version)) a.4 (version-there slots v h.well m.standing h.listed h.stands id j a.0 s a.2 a.3).head)) ∙ ap (λ (x : Version). x.phase) one
+
+pub version-has : (m : Memory) (id j : ℕ) → HasVersion m id j → HasChain m id
+version-has m id j has = some (chain_at m id) has
+  where
+  some : (o : Option KeptChain) → IsSomeAnd o (λ k. j < length k.chain.versions) → IsSome o
+  some None has = absurd has
+  some (Some k) has = refl
+
+pub version-found : (m : Memory) (id j : ℕ) (p : PartitionEntry) (s : StandingVersion) (n : Ref) → slice_index_or m.standing id None ≡ Some p → IsVersionAt p.versions j s → s.object ≡ n → IsVersionObject m id j n
+version-found m id j p s n e at same = subst (λ o. IsSomeAnd o (λ q. (t : StandingVersion) × IsVersionAt q.versions j t × (t.object ≡ n))) (sym e) (s, at, same)
+
+pub rooted : (registry : Registry) (id : ℕ) (u : Use) (root : Root) → use_at registry.uses id ≡ Some u → u.root ≡ root → HasRoot registry root id
+rooted registry id u root e same = subst (λ o. IsSomeAnd o (λ x. x.root ≡ root)) (sym e) same

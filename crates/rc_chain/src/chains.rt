@@ -1,20 +1,27 @@
 //! All chains of a shard.
-ghost use Rattle.std.specs.Prelude.{◌≡◌, ◌↔◌, ◌∷◌, ℕ, List as Sequence, [], Some, None, IfNone, IfSome, IsTrue, length, is_some};
+ghost use Rattle.std.specs.Prelude.{◌≡◌, ◌↔◌, ◌∷◌, ◌+◌, ◌-◌, ◌*◌, ◌/◌, ◌%◌, ◌^◌, ◌<◌, ◌≤◌, ℕ, List as Sequence, [], true, false, Some, None, IfNone, IfOk, IfSome, IsSomeAnd, IsTrue, OnErr, length, is_some};
+ghost use Rattle.lsa_pool.specs.Room.{free_count, spare_of};
+ghost use Rattle.lsa_region.specs.Region.{live_bytes};
 ghost use Rattle.rc_core.specs.Chains.{IsPinned};
 ghost use Rattle.rc_memory.specs.Kept.{HasMemory, IsMemory};
 ghost use Rattle.rc_registry.specs.Registry.{IsAfter};
-ghost use Rattle.rc_memory.specs.Memory.{KeptChain, Member, HasChain, HasVersion, IsAt, IsNextChain, IsVersionAt, IsVersionObject, chain_at};
+ghost use Rattle.rc_memory.specs.Memory.{KeptChain, Member, HasChain, HasVersion, IsAt, IsNextChain, IsVersionAt, IsEmpty, IsTold, IsUntouched, IsVersionObject, HasPin, chain_at, counted, marked, on_chain, with_chains, without_snapshot};
+ghost use Rattle.lsa_move.specs.Room.{IsCompacted, Tight};
+ghost use Rattle.lsa_store.specs.Stock.{sparse_of};
+ghost use Rattle.rc_core.specs.Steps.{pin_at};
 ghost use Rattle.rc_core.specs.Version.{Version};
 ghost use Rattle.rc_memory.specs.laws.One.{memory-prop};
 
 use lsa_list::List;
-use lsa_region::{Ref, Region};
+use lsa_move::{Ensured, compact_one, ensure};
+use lsa_region::{End, Ref, Region};
 use rc_core::ChainKind;
 use rc_memory::Counts;
 use rc_object::head_of;
 use rc_partition::{count, home, version};
 use rc_registry::Registry;
 use rc_rowcode::Scratch;
+use std::alloc::{AllocError, Global};
 use std::marker::Model;
 
 /// All chains of versions of a shard, with their snapshots, and the recency list through their entries and static rows. They stand in one region, in which objects may move in any call that takes `&mut self`.
@@ -40,7 +47,61 @@ impl<const S: usize> Model for Chains<S> {
     ghost invariant = { λ c. (m : Memory) × IsMemory S c.recency c.region c.registry c.counts m };
 }
 
+/// A snapshot of a chain: it sees the version that it pins, with all older ones, until it is given to `release`.
+pub struct Snap {
+    /// The number of the chain.
+    pub chain: u64,
+    /// The number of the snapshot in its chain.
+    pub pin: u64,
+    /// The phase of the version that it pins.
+    pub phase: u64,
+}
+
 impl<const S: usize> Chains<S> {
+    /// No chain, in a region of so many segments, all of them taken now.
+    pub fn open(alloc: Global, segments: u32) -> Result<Self, AllocError>
+        requires few { segments ≤ 4096 }
+        requires some { 4 ≤ segments }
+        requires small { S ≤ 2 ^ 27 }
+        requires even { S % 64 ≡ 0 }
+        ensures empty { IfOk result IsEmpty }
+        ensures spare { IfOk result (λ m. spare_of S m.region.usages ≡ (segments - 2) * (7 * S / 8) + (S - S / 8)) }
+        ensures free { IfOk result (λ m. free_count m.region.usages + 1 ≡ segments) }
+        ensures budget { IfOk result (λ m. length m.region.usages ≡ segments) }
+        ensures live { IfOk result (λ m. live_bytes m.region ≡ 0) }
+        ensures numbers { IfOk result (λ m. (m.region.epoch ≡ 0) × (m.region.moved ≡ 0) × (m.region.compacted ≡ 0)) }
+    {
+        let mut region = Region::open(alloc, segments)?;
+        let front = region.add_root(alloc)?;
+        let back = region.add_root(alloc)?;
+        region.link(End::Slot(front), End::Slot(back));
+        let scratch = Scratch::new(alloc, S)?;
+        let other = Scratch::new(alloc, S)?;
+        Ok(Chains {
+            region,
+            recency: List { front, back },
+            registry: Registry::new(alloc),
+            counts: Counts {
+                evicted: 0,
+                skipped: 0,
+                shrunk: 0,
+            },
+            scratch,
+            other,
+        })
+    }
+
+    /// Raises the counts by so many evictions, by how often no room was found, and by how many bytes the chains became smaller. Each stays at 2^64 - 1.
+    pub fn count(&mut self, evicted: u64, skipped: u64, shrunk: u64)
+        ensures { self.new ≡ counted evicted skipped shrunk self.old }
+    {
+        self.counts = Counts {
+            evicted: self.counts.evicted.saturating_add(evicted),
+            skipped: self.counts.skipped.saturating_add(skipped),
+            shrunk: self.counts.shrunk.saturating_add(shrunk),
+        };
+    }
+
     /// The region in which the chains stand.
     pub fn region(&self) -> &Region<S>
         ensures { result.now ≡ self.now.region }
@@ -150,5 +211,68 @@ impl<const S: usize> Chains<S> {
     {
         let (root, number) = home(&self.region, r);
         (self.registry.owner(root), number)
+    }
+
+    /// Empties sparse segments until `need` bytes are spare, 7S/8 at most, or none is sparse. All chains stay, under new names of their objects.
+    pub fn ensure(&mut self, need: usize) -> Ensured
+        requires few { need ≤ 7 * S / 8 }
+        ensures ready { result ≡ Ensured.Ready → need ≤ spare_of S self.new.region.usages }
+        ensures full { result ≡ Ensured.Full → spare_of S self.new.region.usages < need }
+        ensures tight { result ≡ Ensured.Full → Tight S self.new.region.usages }
+        ensures idle { need ≤ spare_of S self.old.region.usages → self.new ≡ self.old }
+        ensures compacted { self.new.region.compacted ≤ self.old.region.compacted + (need / (S / 8) + 1) }
+        ensures moved { self.old.region.moved ≤ self.new.region.moved }
+        ensures untouched { IsUntouched self.old self.new }
+    {
+        ensure(&mut self.region, need)
+    }
+
+    /// Empties the closed segment with least live bytes, where one is sparse; false exactly where none is. All chains stay, under new names of their objects.
+    pub fn compact_one(&mut self) -> bool
+        ensures tells { result ≡ is_some (sparse_of S self.old.region.usages) }
+        ensures same { result ≡ false → self.new ≡ self.old }
+        ensures compacted { IfSome (sparse_of S self.old.region.usages) (IsCompacted S self.old.region self.new.region) }
+        ensures untouched { IsUntouched self.old self.new }
+    {
+        compact_one(&mut self.region)
+    }
+
+    /// Sets or clears the cleaner's mark that it left a chain unmerged.
+    pub fn set_passed(&mut self, id: u64, passed: bool)
+        requires { HasChain self.old id }
+        ensures { self.new ≡ with_chains (on_chain id (marked passed) self.old.chains) self.old }
+    {
+        self.registry.set_passed(id, passed);
+    }
+
+    /// Takes a snapshot back. Other snapshots keep their numbers.
+    pub fn release(&mut self, s: Snap)
+        requires { HasPin self.old s.chain s.pin }
+        ensures { self.new ≡ with_chains (on_chain s.chain (without_snapshot s.pin) self.old.chains) self.old }
+    {
+        let Snap {
+            chain,
+            pin,
+            phase: _,
+        } = s;
+        self.registry.unpin(chain, pin);
+    }
+
+    /// Tells the number of a chain that was dropped, each once, in the order in which they went. None where each was told.
+    pub fn take_dropped(&mut self) -> Option<u64>
+        ensures { IsTold self.old self.new result }
+    {
+        self.registry.take_dropped()
+    }
+
+    /// The number of the version at which a snapshot stands, the oldest being 0.
+    pub fn pinned_at(&self, s: &Snap) -> u64
+        requires { HasPin self.now s.now.chain s.now.pin }
+        ensures { (k : KeptChain) → chain_at self.now s.now.chain ≡ Some k → pin_at k.chain.pins s.now.pin ≡ Some result }
+    {
+        match self.registry.pin_at(s.chain, s.pin) {
+            Some(number) => number,
+            None => unreachable!(),
+        }
     }
 }

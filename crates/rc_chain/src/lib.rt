@@ -3,4 +3,4 @@
 
 mod chains;
 
-pub use chains::Chains;
+pub use chains::{Chains, Snap};

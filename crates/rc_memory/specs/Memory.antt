@@ -4,7 +4,7 @@
 --     Memory        all chains, the recency list, the numbers of dropped chains, the counts; beside them the region, and which of its objects hold the chains
 --     IsAt          an object of the region stands there
 --     IsUntouched   the chains, the recency list and all else but the region is as it was
-use Rattle.std.specs.Prelude.{◌≡◌, ◌<◌, ℕ, zero, suc, Bool, true, false, cond, nat_eq, take, drop, List, [], ◌∷◌, ◌++◌, Option, Some, None, IsSome, IsSomeAnd, option_map, length, map, slice_index_or, Contains}
+use Rattle.std.specs.Prelude.{◌≡◌, ◌<◌, ◌+◌, ◌-◌, ◌^◌, min, ℕ, suc, Bool, true, false, List, [], ◌∷◌, ◌++◌, Option, Some, None, IsSome, IfSome, IsSomeAnd, option_map, cond, length, map, slice_index_or, Contains, zero, nat_eq, take, drop}
 use Rattle.rc_position.specs.declared.positions.Pos.{Pos}
 use Rattle.lsa_store.specs.declared.place.Ref.{Ref}
 use Rattle.lsa_region.specs.declared.end.Root.{Root}
@@ -12,7 +12,7 @@ use Rattle.rc_core.specs.declared.entries.ChainKind.{ChainKind}
 use Rattle.lsa_region.specs.Region.{View}
 use Rattle.lsa_tree.specs.Entries.{IsEntryAtPosition}
 use Rattle.rc_core.specs.Chains.{Shown}
-use Rattle.rc_core.specs.Steps.{all_but, on_version, renumbered}
+use Rattle.rc_core.specs.Steps.{free_number, on_version, pin_at, pinned, released, all_but, renumbered}
 use Rattle.rc_core.specs.Version.{Version}
 use Rattle.rc_version.specs.Versions.{IsStaticsOf}
 use Rattle.rc_partition.specs.Partitions.{PartitionEntry, StandingVersion, partition_as, partition_of}
@@ -126,9 +126,24 @@ shown_updating updating c = record { kind = c.kind; versions = c.versions; attac
 abbrev pub marked : Bool → KeptChain → KeptChain
 marked passed k = record { chain = k.chain; passed = passed }
 
+-- the number of the version that a snapshot pins: of the newest one, or of the one below it while an update stands in the newest
+abbrev pub snapshot_number : Shown → ℕ
+snapshot_number c = cond c.updating (length c.versions - 2) (length c.versions - 1)
+
+-- the chain with one snapshot more, and with the snapshot of a number taken back
+abbrev pub with_snapshot : ℕ → KeptChain → KeptChain
+with_snapshot version k = on_shown (λ c. shown_pinned (pinned version c.pins) c) k
+
+abbrev pub without_snapshot : ℕ → KeptChain → KeptChain
+without_snapshot pin k = on_shown (λ c. shown_pinned (released pin c.pins) c) k
+
 -- the memory with other chains
 abbrev pub with_chains : List (Option KeptChain) → Memory → Memory
 with_chains chains m = record { chains = chains; recency = m.recency; dropped = m.dropped; counts = m.counts; region = m.region; standing = m.standing }
+
+-- the memory with other numbers to be told
+abbrev pub with_dropped : List ℕ → Memory → Memory
+with_dropped dropped m = record { chains = m.chains; recency = m.recency; dropped = dropped; counts = m.counts; region = m.region; standing = m.standing }
 
 -- the counts, the recency list and the dropped numbers are as they were, and the chains are these
 pub record HasChains (now : List (Option KeptChain)) (old new : Memory) : Type 0 where
@@ -136,6 +151,47 @@ pub record HasChains (now : List (Option KeptChain)) (old new : Memory) : Type 0
   pub recency : new.recency ≡ old.recency
   pub dropped : new.dropped ≡ old.dropped
   pub counts : new.counts ≡ old.counts
+
+-- a snapshot of this number is there
+abbrev pub HasPin : Memory → ℕ → ℕ → Type 0
+HasPin m id pin = IsSomeAnd (chain_at m id) (λ k. IsSome (pin_at k.chain.pins pin))
+
+-- a snapshot of the chain was taken: its number is the least that was free, and it has the phase of the version that it pins
+pub record IsSnapshotTaken (old new : Memory) (id pin phase : ℕ) : Type 0 where
+  pub number : IfSome (chain_at old id) (λ k. pin ≡ free_number k.chain.pins)
+  pub version : IfSome (chain_at old id) (λ k. (v : Version) × IsVersionAt k.chain.versions (snapshot_number k.chain) v × (phase ≡ v.phase))
+  pub now : new ≡ with_chains (on_chain id (λ k. with_snapshot (snapshot_number k.chain) k) old.chains) old
+
+-- the first of the numbers to be told is told; none where there is none
+abbrev pub IsTold : Memory → Memory → Option ℕ → Type 0
+IsTold old new None = (old.dropped ≡ []) × (new ≡ old)
+IsTold old new (Some id) = (old.dropped ≡ id ∷ new.dropped) × (new ≡ with_dropped new.dropped old)
+
+-- no chain, nothing in the list, nothing to be told, and nothing counted
+pub record IsEmpty (m : Memory) : Type 0 where
+  pub chains : m.chains ≡ []
+  pub recency : m.recency ≡ []
+  pub dropped : m.dropped ≡ []
+  pub evicted : m.counts.evicted ≡ 0
+  pub skipped : m.counts.skipped ≡ 0
+  pub shrunk : m.counts.shrunk ≡ 0
+
+-- ---- counts
+
+-- a count raised, which stays at its greatest value
+abbrev pub raised_by : ℕ → ℕ → ℕ
+raised_by more n = min (n + more) (2 ^ 64 - 1)
+
+-- the memory with its counts raised
+abbrev pub counted : ℕ → ℕ → ℕ → Memory → Memory
+counted evicted skipped shrunk m = record {
+  chains = m.chains;
+  recency = m.recency;
+  dropped = m.dropped;
+  counts = record { evicted = raised_by evicted m.counts.evicted; skipped = raised_by skipped m.counts.skipped; shrunk = raised_by shrunk m.counts.shrunk };
+  region = m.region;
+  standing = m.standing;
+}
 
 -- ---- what is done to the region
 
