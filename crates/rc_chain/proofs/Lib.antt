@@ -1,4 +1,3 @@
 mod Reading
 mod Opening
-mod Rules
 mod Snapshots

@@ -1,7 +1,5 @@
 -- Chains as they begin, and with their counts raised.
-use Rattle.std.proofs.Common.{◌≡◌, ℕ, List, [], ◌∷◌, Some, None, refl, sym, ap, ◌∙◌, subst}
-use Rattle.std.specs.Prelude.{Contains}
-use Rattle.lsa_store.specs.declared.place.Ref.{Ref}
+use Rattle.std.proofs.Common.{◌≡◌, ℕ, [], Some, refl, sym, ap, ◌∙◌, subst}
 use Rattle.lsa_region.specs.declared.end.End.TheVariants.{Slot}
 use Rattle.lsa_region.specs.Region.{View, live_bytes, link_of, IsWell}
 use Rattle.lsa_list.specs.declared.recency.List.{List as Slots}
@@ -9,7 +7,7 @@ use Rattle.rc_partition.specs.laws.Lists.{elem-none, once-none}
 use Rattle.rc_registry.specs.Registry.{Registry}
 use Rattle.rc_memory.specs.declared.counts.Counts.{Counts}
 use Rattle.rc_memory.specs.Memory.{Memory, counted, raised_by}
-use Rattle.rc_memory.specs.Kept.{IsHeld, IsMemory}
+use Rattle.rc_memory.specs.Kept.{IsMemory}
 
 -- the memory with its counts raised
 pub counted-memory : (S : ℕ) (slots : Slots) (v : View) (registry : Registry) (counts : Counts) (m : Memory) → IsMemory S slots v registry counts m → (evicted skipped shrunk : ℕ) (now : Counts)

@@ -66,9 +66,9 @@ some_of (Some x) some = (x, refl)
 pub kept-length : (k : KeptChain) (u : Use) (p : PartitionEntry) → k ≡ kept u p → length k.chain.versions ≡ length p.versions
 kept-length k u p e = ap (λ (x : KeptChain). length x.chain.versions) e ∙ mapped p.versions
   where
-  mapped : (ss : List StandingVersion) → length (map (λ (s : StandingVersion). s.version) ss) ≡ length ss
-  mapped [] = refl
-  mapped (s ∷ ss) = ap suc (mapped ss)
+    mapped : (ss : List StandingVersion) → length (map (λ (s : StandingVersion). s.version) ss) ≡ length ss
+    mapped [] = refl
+    mapped (s ∷ ss) = ap suc (mapped ss)
 
 -- ---- numbers of versions
 
@@ -93,18 +93,18 @@ module _ {X : Type 0} where
 pub number-mapped : {X Y : Type 0} (f : X → Y) (xs : List X) (n : ℕ) (x : X) → IsVersionAt xs n x → IsVersionAt (map f xs) n (f x)
 number-mapped f xs n x h = record { older = map f h.older; newer = map f h.newer; split = ap (map f) h.split ∙ map-append f h.older (x ∷ h.newer); number = mapped f h.older ∙ h.number }
   where
-  mapped : {X Y : Type 0} (f : X → Y) (ys : List X) → length (map f ys) ≡ length ys
-  mapped f [] = refl
-  mapped f (y ∷ ys) = ap suc (mapped f ys)
+    mapped : {X Y : Type 0} (f : X → Y) (ys : List X) → length (map f ys) ≡ length ys
+    mapped f [] = refl
+    mapped f (y ∷ ys) = ap suc (mapped f ys)
 
 module _ (slots : Slots) (v : View) (registry : Registry) (counts : Counts) (m : Memory) (h : IsHeld slots v registry counts m) where
   -- where a table has none there is none
   pub unused : (id : ℕ) → use_at registry.uses id ≡ None → chain_at m id ≡ None
   unused id e = none (chain_at m id) (sym (used-there registry.uses m.standing m.chains id h.kept) ∙ ap is_some e)
     where
-    none : {X : Type 0} (o : Option X) → is_some o ≡ false → o ≡ None
-    none None e = refl
-    none (Some x) e = cc e
+      none : {X : Type 0} (o : Option X) → is_some o ≡ false → o ≡ None
+      none None e = refl
+      none (Some x) e = cc e
 
   pub next-chain : (after o : Option ℕ) → IfSome o (IsNext registry after) → IfSome o (IsNextChain m after)
   next-chain after None h = tt
@@ -133,19 +133,19 @@ module _ (slots : Slots) (v : View) (registry : Registry) (counts : Counts) (m :
         stands = subst (λ vs. AreStanding slots v (a.front ++ (partition_of u.root vs ∷ a.back)) h.listed) at.1.split a.stands;
       }
     where
-    found : (o : Option KeptChain) → IsSomeAnd o (λ k. number < length k.chain.versions) → (k : KeptChain) × (o ≡ Some k) × (number < length k.chain.versions)
-    found None has = absurd has
-    found (Some k) has = (k, refl, has)
+      found : (o : Option KeptChain) → IsSomeAnd o (λ k. number < length k.chain.versions) → (k : KeptChain) × (o ≡ Some k) × (number < length k.chain.versions)
+      found None has = absurd has
+      found (Some k) has = (k, refl, has)
 
   -- the least recent object and its place
   pub front-place : (o : Option Ref) → o ≡ first h.listed → IfSome o (λ r. (w : Member) × (rest : List Member) × (m.recency ≡ w ∷ rest) × IsAt m r w) × IfNone o (m.recency ≡ [])
   front-place o e = subst (λ z. IfSome z (λ r. (w : Member) × (rest : List Member) × (m.recency ≡ w ∷ rest) × IsAt m r w) × IfNone z (m.recency ≡ [])) (sym e) (places h.listed m.recency h.recency)
     where
-    places : (refs : List Ref) (ws : List Member) → StandAt v m.standing refs ws → IfSome (first refs) (λ r. (w : Member) × (rest : List Member) × (ws ≡ w ∷ rest) × IsAt m r w) × IfNone (first refs) (ws ≡ [])
-    places [] [] s = (tt, refl)
-    places [] (w ∷ ws) s = absurd s
-    places (r ∷ refs) [] s = absurd s
-    places (r ∷ refs) (w ∷ ws) s = ((w, ws, refl, subst (λ z. IsObjectAt z m.standing r w) (sym h.region) s.0), tt)
+      places : (refs : List Ref) (ws : List Member) → StandAt v m.standing refs ws → IfSome (first refs) (λ r. (w : Member) × (rest : List Member) × (ws ≡ w ∷ rest) × IsAt m r w) × IfNone (first refs) (ws ≡ [])
+      places [] [] s = (tt, refl)
+      places [] (w ∷ ws) s = absurd s
+      places (r ∷ refs) [] s = absurd s
+      places (r ∷ refs) (w ∷ ws) s = ((w, ws, refl, subst (λ z. IsObjectAt z m.standing r w) (sym h.region) s.0), tt)
 
   -- an object at a place, in the region
   pub at-place : (r : Ref) (w : Member) → IsAt m r w → IsObjectAt v m.standing r w
@@ -184,19 +184,20 @@ module _ (slots : Slots) (v : View) (registry : Registry) (counts : Counts) (m :
         row = row-of v a.version w.position r a.object;
       }
     where
-    used_in : (us : List (Option Use)) (ps : List (Option PartitionEntry)) (cs : List (Option KeptChain)) (id : ℕ) (p : PartitionEntry) → AreKept us ps cs → slice_index_or ps id None ≡ Some p → (u : Use) × (slice_index_or us id None ≡ Some u) × (p.root ≡ u.root)
-    used_in [] [] [] id p h e = absurd (no_some p e)
-    used_in [] [] (c ∷ cs) id p h e = absurd h
-    used_in [] (q ∷ ps) cs id p h e = absurd h
-    used_in (u ∷ us) [] cs id p h e = absurd h
-    used_in (u ∷ us) (q ∷ ps) [] id p h e = absurd h
-    used_in (None ∷ us) (None ∷ ps) (c ∷ cs) zero p h e = absurd (no_some p e)
-    used_in (None ∷ us) (Some q ∷ ps) (c ∷ cs) zero p h e = absurd h.0
-    used_in (Some u ∷ us) (None ∷ ps) (c ∷ cs) zero p h e = absurd (no_some p e)
-    used_in (Some u ∷ us) (Some q ∷ ps) (c ∷ cs) zero p h e = (u, refl, ap (λ (x : PartitionEntry). x.root) (sym (same_some q p e)) ∙ h.0.0)
-    used_in (u ∷ us) (q ∷ ps) (c ∷ cs) (suc id) p h e = used_in us ps cs id p h.1 e
-    used_of : (id : ℕ) (p : PartitionEntry) → slice_index_or m.standing id None ≡ Some p → (u : Use) × (use_at registry.uses id ≡ Some u) × (p.root ≡ u.root)
-    used_of id p e = used_in registry.uses m.standing m.chains id p h.kept e
+      used_in : (us : List (Option Use)) (ps : List (Option PartitionEntry)) (cs : List (Option KeptChain)) (id : ℕ) (p : PartitionEntry) → AreKept us ps cs → slice_index_or ps id None ≡ Some p → (u : Use) × (slice_index_or us id None ≡ Some u) × (p.root ≡ u.root)
+      used_in [] [] [] id p h e = absurd (no_some p e)
+      used_in [] [] (c ∷ cs) id p h e = absurd h
+      used_in [] (q ∷ ps) cs id p h e = absurd h
+      used_in (u ∷ us) [] cs id p h e = absurd h
+      used_in (u ∷ us) (q ∷ ps) [] id p h e = absurd h
+      used_in (None ∷ us) (None ∷ ps) (c ∷ cs) zero p h e = absurd (no_some p e)
+      used_in (None ∷ us) (Some q ∷ ps) (c ∷ cs) zero p h e = absurd h.0
+      used_in (Some u ∷ us) (None ∷ ps) (c ∷ cs) zero p h e = absurd (no_some p e)
+      used_in (Some u ∷ us) (Some q ∷ ps) (c ∷ cs) zero p h e = (u, refl, ap (λ (x : PartitionEntry). x.root) (sym (same_some q p e)) ∙ h.0.0)
+      used_in (u ∷ us) (q ∷ ps) (c ∷ cs) (suc id) p h e = used_in us ps cs id p h.1 e
+
+      used_of : (id : ℕ) (p : PartitionEntry) → slice_index_or m.standing id None ≡ Some p → (u : Use) × (use_at registry.uses id ≡ Some u) × (p.root ≡ u.root)
+      used_of id p e = used_in registry.uses m.standing m.chains id p h.kept e
 
   pub next-none : (after o : Option ℕ) → IfNone o ((i : ℕ) → IsAfter after i → use_at registry.uses i ≡ None) → IfNone o ((i : ℕ) → IsAfter after i → chain_at m i ≡ None)
   next-none after None n = λ i a. unused slots v registry counts m h i (n i a)
@@ -210,9 +211,9 @@ module _ (slots : Slots) (v : View) (registry : Registry) (counts : Counts) (m :
   versioned : (id j : ℕ) (n : Ref) → IsVersionObject m id j n → (p : PartitionEntry) × (s : StandingVersion) × (slice_index_or m.standing id None ≡ Some p) × IsVersionAt p.versions j s × (s.object ≡ n)
   versioned id j n is = of (slice_index_or m.standing id None) is
     where
-    of : (o : Option PartitionEntry) → IsSomeAnd o (λ p. (s : StandingVersion) × IsVersionAt p.versions j s × (s.object ≡ n)) → (p : PartitionEntry) × (s : StandingVersion) × (o ≡ Some p) × IsVersionAt p.versions j s × (s.object ≡ n)
-    of None is = absurd is
-    of (Some p) is = (p, is.0, refl, is.1, is.2)
+      of : (o : Option PartitionEntry) → IsSomeAnd o (λ p. (s : StandingVersion) × IsVersionAt p.versions j s × (s.object ≡ n)) → (p : PartitionEntry) × (s : StandingVersion) × (o ≡ Some p) × IsVersionAt p.versions j s × (s.object ≡ n)
+      of None is = absurd is
+      of (Some p) is = (p, is.0, refl, is.1, is.2)
 
   pub head-held : (id j : ℕ) (n : Ref) → IsVersionObject m id j n → (head : Head) × HoldsHead v n head
   head-held id j n is =
@@ -231,9 +232,9 @@ module _ (slots : Slots) (v : View) (registry : Registry) (counts : Counts) (m :
 pub version-has : (m : Memory) (id j : ℕ) → HasVersion m id j → HasChain m id
 version-has m id j has = some (chain_at m id) has
   where
-  some : (o : Option KeptChain) → IsSomeAnd o (λ k. j < length k.chain.versions) → IsSome o
-  some None has = absurd has
-  some (Some k) has = refl
+    some : (o : Option KeptChain) → IsSomeAnd o (λ k. j < length k.chain.versions) → IsSome o
+    some None has = absurd has
+    some (Some k) has = refl
 
 pub version-found : (m : Memory) (id j : ℕ) (p : PartitionEntry) (s : StandingVersion) (n : Ref) → slice_index_or m.standing id None ≡ Some p → IsVersionAt p.versions j s → s.object ≡ n → IsVersionObject m id j n
 version-found m id j p s n e at same = subst (λ o. IsSomeAnd o (λ q. (t : StandingVersion) × IsVersionAt q.versions j t × (t.object ≡ n))) (sym e) (s, at, same)

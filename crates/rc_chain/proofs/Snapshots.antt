@@ -1,28 +1,27 @@
 -- Snapshots of a chain by their numbers, and the numbers that are told.
-use Rattle.std.proofs.Common.{◌≡◌, ℕ, List, [], ◌∷◌, Option, Some, None, IsSome, is_some, refl, sym, ap, ◌∙◌, subst, slice_index_or}
+use Rattle.std.proofs.Common.{◌≡◌, ℕ, [], ◌∷◌, Option, Some, None, IsSome, is_some, refl, sym, ap, ◌∙◌, subst}
 use Rattle.std.specs.Prelude.{IfSome, IsSomeAnd, MatchOption}
 use Rattle.lsa_region.specs.Region.{View}
 use Rattle.lsa_list.specs.declared.recency.List.{List as Slots}
-use Rattle.rc_core.specs.Chains.{Shown}
-use Rattle.rc_core.specs.Steps.{pin_at, released}
-use Rattle.rc_core.specs.laws.Pins.{released-pin}
+use Rattle.rc_core.specs.Steps.{pin_at}
 use Rattle.rc_registry.specs.Registry.{Registry, use_at}
-use Rattle.rc_registry.specs.declared.uses.Use.{Use}
 use Rattle.rc_memory.specs.declared.counts.Counts.{Counts}
-use Rattle.rc_memory.specs.Memory.{HasChain, HasPin, IsTold, KeptChain, Memory, chain_at, shown_pinned, with_dropped}
-use Rattle.rc_memory.specs.Kept.{AreKept, IsHeld, IsMemory, IsSound}
+use Rattle.rc_memory.specs.Memory.{HasChain, HasPin, IsTold, KeptChain, Memory, chain_at, with_dropped}
+use Rattle.rc_memory.specs.Kept.{AreKept, IsHeld, IsMemory}
 use Rattle.rc_chain.proofs.Reading.{chain-kept}
-use Rattle.rc_chain.proofs.Rules.{from-some, if-some, to-some}
+use Rattle.rc_memory.specs.laws.Places.{no_some, same_some}
 
-pub sound-released : (pin : ℕ) (c : Shown) → IsSound c → IsSound (shown_pinned (released pin c.pins) c)
-sound-released pin c h = record {
-  some = h.some;
-  pins = λ j p. h.pins j (released-pin pin c.pins j p);
-  cached = h.cached;
-  attached = h.attached;
-  below = h.below;
-  unpinned = λ u j p. h.unpinned u j (released-pin pin c.pins j p);
-}
+module _ {X : Type 0} where
+  pub from-some : (P : X → Type 0) (o : Option X) → IsSomeAnd o P → (x : X) × (o ≡ Some x) × P x
+  from-some P None h = absurd h
+  from-some P (Some x) h = (x, refl, h)
+
+  pub to-some : (P : X → Type 0) (o : Option X) (x : X) → o ≡ Some x → P x → IsSomeAnd o P
+  to-some P o x e h = subst (λ z. IsSomeAnd z P) (sym e) h
+
+  pub if-some : (P : X → Type 0) (o : Option X) (x : X) → IfSome o P → o ≡ Some x → P x
+  if-some P None x h e = absurd (no_some x e)
+  if-some P (Some y) x h e = subst P (same_some y x e) h
 
 pub pin-chain : (m : Memory) (id pin : ℕ) → HasPin m id pin → HasChain m id
 pin-chain m id pin h = let a = from-some (λ k. IsSome (pin_at k.chain.pins pin)) (chain_at m id) h in ap is_some a.1
@@ -43,8 +42,8 @@ module _ (slots : Slots) (v : View) (registry : Registry) (counts : Counts) (m :
       let a = from-some (λ u. IsSome (pin_at u.pins pin)) (use_at registry.uses id) (pin-used id pin has) in
       lacks (pin_at a.0.pins pin) (sym (if-some (λ u. o ≡ pin_at u.pins pin) (use_at registry.uses id) a.0 told a.1) ∙ none) a.2
     where
-    lacks : (o : Option ℕ) → o ≡ None → IsSome o → ⊥
-    lacks o none is = let clash = sym (ap is_some none) ∙ is in cc
+      lacks : (o : Option ℕ) → o ≡ None → IsSome o → ⊥
+      lacks o none is = let clash = sym (ap is_some none) ∙ is in cc
 
 -- ---- numbers told
 
@@ -56,9 +55,9 @@ module _ (slots : Slots) (v : View) (old new : Registry) (counts : Counts) (m : 
   pub told : IsHeld slots v old counts m → MatchOption o ((old.dropped ≡ []) × (new ≡ old)) (λ id. old ≡ record { uses = new.uses; dropped = id ∷ new.dropped }) → IsTold m (with_dropped new.dropped m) o
   told h t = of o t
     where
-    of : (o : Option ℕ) → MatchOption o ((old.dropped ≡ []) × (new ≡ old)) (λ id. old ≡ record { uses = new.uses; dropped = id ∷ new.dropped }) → IsTold m (with_dropped new.dropped m) o
-    of None t = (h.dropped ∙ t.0, ap (λ ds. with_dropped ds m) (ap (λ (r : Registry). r.dropped) t.1 ∙ sym h.dropped))
-    of (Some id) t = (h.dropped ∙ ap (λ (r : Registry). r.dropped) t, refl)
+      of : (o : Option ℕ) → MatchOption o ((old.dropped ≡ []) × (new ≡ old)) (λ id. old ≡ record { uses = new.uses; dropped = id ∷ new.dropped }) → IsTold m (with_dropped new.dropped m) o
+      of None t = (h.dropped ∙ t.0, ap (λ ds. with_dropped ds m) (ap (λ (r : Registry). r.dropped) t.1 ∙ sym h.dropped))
+      of (Some id) t = (h.dropped ∙ ap (λ (r : Registry). r.dropped) t, refl)
 
 pub told-memory : (S : ℕ) (slots : Slots) (v : View) (old new : Registry) (counts : Counts) (m : Memory) (o : Option ℕ) → IsMemory S slots v old counts m → MatchOption o ((old.dropped ≡ []) × (new ≡ old)) (λ id. old ≡ record { uses = new.uses; dropped = id ∷ new.dropped })
     → IsMemory S slots v new counts (with_dropped new.dropped m)

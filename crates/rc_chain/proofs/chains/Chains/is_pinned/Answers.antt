@@ -1,4 +1,4 @@
-use Rattle.std.proofs.Common.{sym, ap, ◌∙◌, subst}
+use Rattle.std.proofs.Common.{sym, subst}
 use Rattle.std.specs.Prelude.{IfSome, IsTrue}
 use Rattle.rc_core.specs.Chains.{IsPinned}
 use Rattle.rc_memory.specs.Memory.{KeptChain}

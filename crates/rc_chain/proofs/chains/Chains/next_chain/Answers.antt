@@ -1,5 +1,3 @@
-use Rattle.std.proofs.Common.{None}
-use Rattle.std.specs.Prelude.{IfNone}
 use Rattle.rc_chain.proofs.Reading.{memory-now, next-chain, next-none}
 use Rattle.rc_chain.proofs.chains.Chains.next_chain.Goals as goal
 

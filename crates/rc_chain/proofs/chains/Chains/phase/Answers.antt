@@ -1,5 +1,4 @@
-use Rattle.std.proofs.Common.{sym, ap, ◌∙◌, arith}
-use Rattle.rc_core.specs.Version.{Version}
+use Rattle.std.proofs.Common.{arith}
 use Rattle.rc_chain.proofs.Reading.{head-held, memory-now, phase-of}
 use Rattle.rc_chain.proofs.chains.Chains.phase.Goals as goal
 

@@ -1,5 +1,4 @@
 use Rattle.std.proofs.Common.{sym, arith}
-use Rattle.rc_memory.specs.Memory.{chain_at}
 use Rattle.rc_chain.proofs.Reading.{memory-now, there, version-found, version-has, version-stands}
 use Rattle.rc_chain.proofs.chains.Chains.version.Goals as goal
 
