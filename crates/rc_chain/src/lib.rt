@@ -1,0 +1,6 @@
+//! All chains of versions of a shard, in one region, with the recency list through their entries and static rows.
+#![tactic(auto)]
+
+mod chains;
+
+pub use chains::{Chains, Snap};

@@ -1,0 +1,5 @@
+pub mod Memory
+pub mod Recency
+pub mod Room
+pub mod Kept
+pub mod laws
