@@ -10,7 +10,7 @@ use Rattle.rc_position.specs.laws.Orders.{eq_by_cmp-same, pos_cmp_same, pos_cmp_
 use Rattle.rc_core.specs.declared.entries.Entry.{Entry}
 use Rattle.rc_core.specs.declared.entries.Mark.{Mark}
 use Rattle.rc_core.specs.AtPlace.{HasEntryAt}
-use Rattle.rc_core.specs.Change.{at_entry, drop_at, join_row_at, lost_mark, split, split_by, take_out, with_first_gap, with_row}
+use Rattle.rc_core.specs.Change.{at_entry, drop_at, lost_mark, split, split_by, take_out, with_first_gap, with_row}
 use Rattle.rc_core.specs.Continuity.{with_entries}
 use Rattle.rc_core.specs.Steps.{row_joined}
 use Rattle.rc_core.specs.Version.{Ascend, EndsWithDummy, Version}
