@@ -3,6 +3,7 @@ pub mod At
 pub mod Changed
 pub mod Dropped
 pub mod Each
+pub mod Entries
 pub mod Keeping
 pub mod Listed
 pub mod Listing

@@ -6,9 +6,12 @@ ghost use Rattle.lsa_region.specs.declared.end.Root.{Root};
 ghost use Rattle.lsa_region.specs.declared.end.End.{End};
 ghost use Rattle.lsa_region.specs.declared.end.End.TheVariants.{Obj};
 ghost use Rattle.lsa_list.specs.Recency.{first, IsElsewhere, IsList};
-ghost use Rattle.rc_core.specs.Version.{Version, end_position};
+ghost use Rattle.rc_core.specs.Version.{Ascend, EndsWithDummy, Version, end_position};
+ghost use Rattle.rc_core.specs.Change.{drop_at, split};
+ghost use Rattle.rc_core.specs.Continuity.{with_entries};
+ghost use Rattle.rc_cell.specs.declared.rows.Row.{Row};
 ghost use Rattle.rc_version.specs.Versions.{IsKeptBut, IsUnlisted, IsVersionOf, IsWeighed};
-ghost use Rattle.rc_core.specs.Steps.{pinned, released, version_of};
+ghost use Rattle.rc_core.specs.Steps.{pinned, released, row_joined, version_of};
 ghost use Rattle.rc_core.specs.Chains.{Shown, IsPinned};
 ghost use Rattle.rc_core.specs.declared.entries.ChainKind.TheVariants.{Cache};
 ghost use Rattle.rc_core.specs.declared.entries.Flag.{Flag};
@@ -136,10 +139,11 @@ pub fn the_recency_list_keeps_its_rule()
     ensures touched { (m n : Memory) (front : List Member) (w : Member) (back : List Member) → n.chains ≡ m.chains → m.recency ≡ front ++ (w ∷ back) → n.recency ≡ (front ++ back) ++ (w ∷ []) → IsRecency m → IsRecency n }
 {}
 
-/// A chain may change under the recency list: where its kind, its versions and whether it is under update stay; where a version of its end dummy alone is put over those of one that was not under update; where it comes with such a version; and where it goes and has no listed object.
+/// A chain may change under the recency list: whatever becomes of one that is no cache chain; where its kind, its versions and whether it is under update stay; where a version of its end dummy alone is put over those of one that was not under update; where it comes with such a version; and where it goes and has no listed object.
 pub fn a_chain_may_change_under_the_recency_list()
     ensures alike { (m n : Memory) (id : ℕ) (g : KeptChain → KeptChain) → n.chains ≡ on_chain id g m.chains → n.recency ≡ m.recency →
         ((k : KeptChain) → ((g k).chain.kind ≡ k.chain.kind) × ((g k).chain.versions ≡ k.chain.versions) × ((g k).chain.updating ≡ k.chain.updating)) → IsRecency m → IsRecency n }
+    ensures uncached { (m n : Memory) (id : ℕ) (g : KeptChain → KeptChain) → n.chains ≡ on_chain id g m.chains → n.recency ≡ m.recency → ((k : KeptChain) → chain_at m id ≡ Some k → (k.chain.kind ≢ Cache) × ((g k).chain.kind ≡ k.chain.kind)) → IsRecency m → IsRecency n }
     ensures more { (m n : Memory) (id : ℕ) (g : KeptChain → KeptChain) (flag : Flag) (pt : Option Tomb) (phase : ℕ) → n.chains ≡ on_chain id g m.chains → n.recency ≡ m.recency →
         ((k : KeptChain) → chain_at m id ≡ Some k → ((g k).chain.kind ≡ k.chain.kind) × ((g k).chain.versions ≡ k.chain.versions ++ (version_of flag pt phase ∷ [])) × (k.chain.updating ≡ false)) → IsRecency m → IsRecency n }
     ensures made { (m n : Memory) (id : ℕ) (k : KeptChain) (flag : Flag) (pt : Option Tomb) (phase : ℕ) → n.chains ≡ put id (Some k) m.chains → n.recency ≡ m.recency → chain_at m id ≡ None → k.chain.versions ≡ version_of flag pt phase ∷ [] → IsRecency m → IsRecency n }
@@ -154,13 +158,19 @@ pub fn a_version_may_change_under_the_recency_list()
         ((at : Option Pos) → k.chain.kind ≡ Cache → HasObject (f v) at → at ≢ Some end_position → (IsUnderUpdate k.chain j → IsLastInner (f v) at → ⊥) → Contains n.recency (record { chain = id; version = j; position = at })) → IsRecency m → IsRecency n }
 {}
 
-/// A memory keeps its rules where a chain gets the cleaner's mark or loses it, is pinned, and is pinned no longer; and after objects moved.
+/// A memory keeps its rules where a chain gets the cleaner's mark or loses it, is pinned, and is pinned no longer; after objects moved; and where the recency list changes as it may.
 pub fn a_memory_keeps_its_rules()
     ensures passed { (S : ℕ) (slots : Slots) (v : View) (registry : Registry) (counts : Counts) (m : Memory) (id : ℕ) (passed : Bool) → IsMemory S slots v registry counts m → HasChain m id → IsMemory S slots v (on_use id (set_passed passed) registry) counts (with_chains (on_chain id (marked passed) m.chains) m) }
     ensures pinned { (S : ℕ) (slots : Slots) (v : View) (registry : Registry) (counts : Counts) (m : Memory) (id : ℕ) (version : ℕ) → IsMemory S slots v registry counts m → HasChain m id → ((k : KeptChain) → chain_at m id ≡ Some k → version < length k.chain.versions) → ((k : KeptChain) → chain_at m id ≡ Some k → k.chain.updating ≡ true → suc version < length k.chain.versions) →
         IsMemory S slots v (on_use id (with_pin version) registry) counts (with_chains (on_chain id (on_shown (λ c. shown_pinned (pinned version c.pins) c)) m.chains) m) }
     ensures released { (S : ℕ) (slots : Slots) (v : View) (registry : Registry) (counts : Counts) (m : Memory) (id : ℕ) (pin : ℕ) → IsMemory S slots v registry counts m → HasChain m id → IsMemory S slots v (on_use id (without_pin pin) registry) counts (with_chains (on_chain id (on_shown (λ c. shown_pinned (released pin c.pins) c)) m.chains) m) }
     ensures moved { (S : ℕ) (slots : Slots) (old new : View) (registry : Registry) (counts : Counts) (m : Memory) (names : List (Ref × Ref)) → IsMemory S slots old registry counts m → Renamed old new names → IsWell new → IsMemory S slots new registry counts (moved names new m) }
+    ensures pushed { (S : ℕ) (slots : Slots) (old new : View) (registry : Registry) (counts : Counts) (m : Memory) (r : Ref) (w : Member) → IsMemory S slots old registry counts m → ((e : End) → IsElsewhere slots old e → link_of new e ≡ link_of old e) → SameObjects old new → IsWell new → IsObjectAt old m.standing r w → (Contains m.recency w → ⊥) → IsSomeAnd (chain_at m w.chain) (λ k. MayBeListed k.chain w.version w.position) →
+        ((xs : List Ref) → IsList slots old xs → IsList slots new (xs ++ (r ∷ []))) → ((e : End) → link_of old e ≡ None → e ≢ Obj r 0 → e ≢ Obj r 1 → link_of new e ≡ None) → IsMemory S slots new registry counts (listed_as (m.recency ++ (w ∷ [])) new m) }
+    ensures taken { (S : ℕ) (slots : Slots) (old new : View) (registry : Registry) (counts : Counts) (m : Memory) (r : Ref) (front : List Member) (w : Member) (back : List Member) → IsMemory S slots old registry counts m → ((e : End) → IsElsewhere slots old e → link_of new e ≡ link_of old e) → SameObjects old new → IsWell new → m.recency ≡ front ++ (w ∷ back) → IsObjectAt old m.standing r w → (IsSomeAnd (chain_at m w.chain) (λ k. MustBeListed k.chain w.version w.position) → ⊥) →
+        ((xs ys : List Ref) → IsList slots old (xs ++ (r ∷ ys)) → IsList slots new (xs ++ ys)) → link_of new (Obj r 0) ≡ None → link_of new (Obj r 1) ≡ None → ((e : End) → link_of old e ≡ None → link_of new e ≡ None) → IsMemory S slots new registry counts (listed_as (front ++ back) new m) }
+    ensures touched { (S : ℕ) (slots : Slots) (old new : View) (registry : Registry) (counts : Counts) (m : Memory) (r : Ref) (front : List Member) (w : Member) (back : List Member) → IsMemory S slots old registry counts m → ((e : End) → IsElsewhere slots old e → link_of new e ≡ link_of old e) → SameObjects old new → IsWell new → m.recency ≡ front ++ (w ∷ back) → IsObjectAt old m.standing r w → ((xs ys : List Ref) → IsList slots old (xs ++ (r ∷ ys)) → IsList slots new ((xs ++ ys) ++ (r ∷ []))) →
+        ((e : End) → link_of old e ≡ None → link_of new e ≡ None) → IsMemory S slots new registry counts (listed_as ((front ++ back) ++ (w ∷ [])) new m) }
 {}
 
 /// A version of a cache chain has the same objects, or gets one that is pushed at the back, or loses one that is taken out: the list keeps its rule where the last entry before the end of a version under update is that still, or is listed. So it does where an update ends and that entry is listed.
@@ -179,4 +189,11 @@ pub fn an_objects_place_comes_and_goes()
 pub fn a_dropped_version_renumbers_the_recency_list()
     ensures { (m n : Memory) (id j : ℕ) (k : KeptChain) (v : Version) → chain_at m id ≡ Some k → IsVersionAt k.chain.versions j v → n.chains ≡ on_chain id (on_shown (shown_without j)) m.chains → n.recency ≡ map (renumbered_member id j) m.recency → IsRecency m →
         ((at : Option Pos) → Contains m.recency (record { chain = id; version = j; position = at }) → ⊥) → (k.chain.updating ≡ true → suc j < length k.chain.versions) → IsRecency n }
+{}
+
+/// A split and a joined row make at most an object at their position, which is there then; an entry that is dropped is one object less. All other objects stay.
+pub fn each_change_makes_or_takes_one_object()
+    ensures split { (v : Version) (x : Pos) → EndsWithDummy v.entries → HasObject (with_entries (split x v.entries) v) (Some x) × ((at : Option Pos) → HasObject v at → HasObject (with_entries (split x v.entries) v) at) × ((at : Option Pos) → HasObject (with_entries (split x v.entries) v) at → HasObject v at ⊎ (at ≡ Some x)) }
+    ensures joined { (v : Version) (x : Pos) (row : Row) → EndsWithDummy v.entries → HasObject (row_joined x row v) (Some x) × ((at : Option Pos) → HasObject v at → HasObject (row_joined x row v) at) × ((at : Option Pos) → HasObject (row_joined x row v) at → HasObject v at ⊎ (at ≡ Some x)) }
+    ensures dropped { (v : Version) (x : Pos) → Ascend v.entries → ((at : Option Pos) → at ≢ Some x → HasObject v at → HasObject (with_entries (drop_at x v.entries) v) at) × ((at : Option Pos) → HasObject (with_entries (drop_at x v.entries) v) at → HasObject v at × (at ≢ Some x)) }
 {}

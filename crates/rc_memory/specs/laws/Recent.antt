@@ -117,6 +117,10 @@ module _ (m n : Memory) (id : ℕ) (g : KeptChain → KeptChain) (is : n.chains 
         passed = λ u. p.passed ((alike k).2 ∙ u.0, u.1 ∙ ap length (sym (alike k).1));
       }) e))
 
+  -- of a chain that is no cache chain nothing is listed, whatever becomes of it
+  pub rule-uncached : ((k : KeptChain) → chain_at m id ≡ Some k → (k.chain.kind ≢ Cache) × ((g k).chain.kind ≡ k.chain.kind)) → IsRecency n
+  rule-uncached beside = rule-on (λ k e j at p. absurd ((beside k e).0 p.cached)) (λ k e j at p. absurd ((beside k e).0 (sym (beside k e).1 ∙ p.cached)))
+
   -- a version of its end dummy alone over the others of a chain that was not under update, as it is then or not
   pub rule-more : (flag : Flag) (pt : Option Tomb) (phase : ℕ)
       → ((k : KeptChain) → chain_at m id ≡ Some k → ((g k).chain.kind ≡ k.chain.kind) × ((g k).chain.versions ≡ k.chain.versions ++ (version_of flag pt phase ∷ [])) × (k.chain.updating ≡ false)) → IsRecency n

@@ -1,4 +1,4 @@
-use Rattle.rc_memory.specs.laws.Recent.{rule-alike, rule-gone, rule-more, rule-new}
+use Rattle.rc_memory.specs.laws.Recent.{rule-alike, rule-gone, rule-more, rule-new, rule-uncached}
 use Rattle.rc_memory.proofs.laws.a_chain_may_change_under_the_recency_list.Goals as goal
 
 pub returns-clause-alike : goal.returns-clause-alike
@@ -12,3 +12,6 @@ returns-clause-made c = λ m n id k flag pt phase is list none made h. rule-new 
 
 pub returns-clause-gone : goal.returns-clause-gone
 returns-clause-gone c = λ m n id is list free h. rule-gone m n id list h is free
+
+pub returns-clause-uncached : goal.returns-clause-uncached
+returns-clause-uncached c = λ m n id g is list beside h. rule-uncached m n id g is list h beside
