@@ -3,11 +3,12 @@ ghost use Rattle.std.specs.Prelude.{◌≡◌, ◌≢◌, ◌+◌, ◌/◌, ◌�
 ghost use Rattle.lsa_pool.specs.Room.{spare_of};
 ghost use Rattle.lsa_store.specs.declared.place.Ref.{Ref as Name};
 ghost use Rattle.lsa_region.specs.declared.end.Root.{Root as Place};
-ghost use Rattle.lsa_region.specs.Region.{body, slots_of, IsWell};
+ghost use Rattle.lsa_region.specs.declared.end.End.TheVariants.{Obj};
+ghost use Rattle.lsa_region.specs.Region.{body, link_of, slots_of, IsWell};
 ghost use Rattle.lsa_list.specs.declared.recency.List.{List as Slots};
 ghost use Rattle.rc_core.specs.Steps.{version_of};
 ghost use Rattle.rc_core.specs.Version.{Version};
-ghost use Rattle.rc_version.specs.Versions.{IsMarked, IsUnlisted};
+ghost use Rattle.rc_version.specs.Versions.{IsMarked, IsUnlisted, IsVersionOf};
 ghost use Rattle.rc_partition.specs.Partitions.{PartitionEntry, StandingVersion, AreStanding, IsRowOf, IsRowOfAny, among, partition_of, standing};
 
 use crate::walks::{below_newer, chained, owner, root_over};
@@ -31,6 +32,7 @@ pub fn add_version<const S: usize>(
     ensures added { (slots : Slots) (front : List PartitionEntry) (versions : List StandingVersion) (back : List PartitionEntry) (listed : List Name) → AreStanding slots region.old (front ++ (partition_of root versions ∷ back)) listed →
         (end : Name) × AreStanding slots region.new (front ++ (partition_of root (versions ++ (standing result (end ∷ []) (version_of flag pt phase) ∷ [])) ∷ back)) listed × IsUnlisted region.new end }
     ensures fresh { body region.old result ≡ None }
+    ensures statics { (q : Name) (refs : List Name) (d : Version) → IsVersionOf region.old q refs d → link_of region.new (Obj q 3) ≡ link_of region.old (Obj q 3) }
     ensures spare { spare_of S region.old.usages ≤ spare_of S region.new.usages + 152 }
     ensures epoch { IsMarked region.old region.new }
     ensures slots { slots_of region.new ≡ slots_of region.old }
@@ -52,6 +54,7 @@ pub fn drop_version<const S: usize>(region: &mut Region<S>, _root: Root, n: Ref)
     ensures dropped { (slots : Slots) (front : List PartitionEntry) (older : List StandingVersion) (s : StandingVersion) (newer : List StandingVersion) (back : List PartitionEntry) (listed : List Name) → s.object ≡ n →
         AreStanding slots region.old (among front _root older s newer back) listed → AreStanding slots region.new (front ++ (partition_of _root (older ++ newer) ∷ back)) listed }
     ensures gone { body region.new n ≡ None }
+    ensures statics { (q : Name) (refs : List Name) (d : Version) → q ≢ n → IsVersionOf region.old q refs d → link_of region.new (Obj q 3) ≡ link_of region.old (Obj q 3) }
     ensures spare { spare_of S region.new.usages ≡ spare_of S region.old.usages }
     ensures epoch { IsMarked region.old region.new }
     ensures slots { slots_of region.new ≡ slots_of region.old }

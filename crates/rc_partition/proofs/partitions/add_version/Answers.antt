@@ -1,7 +1,12 @@
 use Rattle.std.proofs.Common.{◌∷◌, [], None, reverse, refl, arith, ◌≤◌, ◌+◌, length, sym, subst, ap, ◌∙◌}
 use Rattle.lsa_pool.specs.Room.{spare_of}
-use Rattle.lsa_region.specs.declared.end.End.TheVariants.{Slot}
+use Rattle.lsa_region.specs.declared.end.End.TheVariants.{Obj, Slot}
 use Rattle.rc_core.specs.Steps.{version_of}
+use Rattle.lsa_kinds.specs.declared.kind.Kind.TheVariants.{Version as VersionKind}
+use Rattle.lsa_region.specs.Region.{body}
+use Rattle.lsa_region.specs.laws.Ends.{some_and_none}
+use Rattle.std.specs.Prelude.{◌≡◌, IsSomeAnd}
+use Rattle.rc_version.specs.laws.Staying.{version-kind}
 use Rattle.rc_version.specs.laws.Marked.{marked-objects, marked-then}
 use Rattle.rc_partition.specs.Partitions.{objects_of}
 use Rattle.rc_partition.proofs.Added.{mid-path, mid-slot, stands-added, end-unlisted}
@@ -60,3 +65,10 @@ returns-clause-compacted g c = c.insert_behind.ensures.objects.compacted ∙ c.n
 
 pub returns-clause-well : goal.returns-clause-well
 returns-clause-well g c = c.insert_behind.ensures.well
+
+pub returns-clause-statics : goal.returns-clause-statics
+returns-clause-statics g c = λ q refs d is.
+    let old = c.args.region.now in let mid = c.new_version-n.new.region in let new = c.insert_behind.new.region in let n = c.new_version-n.result in let k = c.new_version-n.ensures in let r = c.requires.stands in let root = c.args.root in
+    let before = mid-path r.0 old mid new r.1 root r.2 r.3 r.4 r.5 c.known.ensures.well c.known.ensures.summed n k.made.0 (version_of c.args.flag c.args.pt c.args.phase) k.fresh k.kept in
+    c.insert_behind.ensures.beside (Slot root) [] (reverse (objects_of r.2)) None before refl (Obj q 3) ((λ e. cc), (λ e. cc)) (λ e. cc) (λ x. cc)
+    ∙ k.kept.statics q refs d (λ same. some_and_none (body old n) _ k.fresh (subst (λ o. IsSomeAnd (body old o) (λ b. b.0 ≡ VersionKind)) same (version-kind old q refs d is))) is

@@ -9,7 +9,10 @@ use Rattle.lsa_path.specs.laws.Passing.{path-apart, path-named}
 use Rattle.rc_version.specs.laws.Marked.{marked-objects, marked-then}
 use Rattle.rc_version.specs.laws.Moving.{version-once}
 use Rattle.rc_core.specs.Version.{Version}
-use Rattle.rc_version.specs.Versions.{IsKeptBut, IsVersionOf}
+use Rattle.rc_version.specs.Versions.{IsKeptBut, IsOutward, IsVersionOf}
+use Rattle.rc_version.specs.laws.Staying.{version-outward}
+use Rattle.lsa_region.specs.declared.end.Root.{Root}
+use Rattle.std.proofs.Common.{◌≤◌}
 use Rattle.rc_partition.specs.Partitions.{objects_of, standing}
 use Rattle.rc_partition.specs.laws.Apart.{fields_differ}
 use Rattle.rc_partition.specs.laws.Lists.{elem-first}
@@ -85,3 +88,14 @@ returns-clause-compacted g c = c.free_version.ensures.kept.compacted ∙ c.take_
 
 pub returns-clause-well : goal.returns-clause-well
 returns-clause-well g c = c.free_version.ensures.well
+
+far : (root : Root) (e : End) → (IsOutward e → ⊥) → IsOutside 1 0 e × (Slot root ≢ e)
+far root (Obj r f) off = (((λ is. off (omega (arith, is))), (λ is. off (omega (arith, is)))), (λ is. cc))
+far root (Slot s) off = absurd (off tt)
+
+pub returns-clause-statics : goal.returns-clause-statics
+returns-clause-statics g c = λ q refs d ne is.
+    let v = c.args.region.now in let mid = c.take_out.new.region in let n = c.args.n in let well = c.known.ensures.well in let r = c.requires.stands in let root = c.args._root in let s = standing n (r.3 ∷ []) r.4 in let t = c.take_out.ensures in
+    let path = chain-is r.0 v r.1 root r.2 s r.5 r.6 r.7 r.8 well in
+    let outside = λ (e : End) (off : IsOutside 1 0 e) (apart : Slot root ≢ e). t.beside (Slot root) (reverse (objects_of r.5)) (reverse (objects_of r.2)) None path e off apart (λ x. cc) in
+    c.free_version.ensures.kept.statics q refs d ne (version-outward v mid q refs d (λ e off. let w = far root e off in outside e w.0 w.1) t.objects.bodies is) ∙ outside (Obj q 3) ((λ e. cc), (λ e. cc)) (λ e. cc)
