@@ -6,12 +6,12 @@ use Rattle.lsa_list.specs.declared.recency.List.{List as Slots}
 use Rattle.rc_partition.specs.laws.Lists.{elem-none, once-none}
 use Rattle.rc_registry.specs.Registry.{Registry}
 use Rattle.rc_memory.specs.declared.counts.Counts.{Counts}
-use Rattle.rc_memory.specs.Memory.{Memory, counted, raised_by}
+use Rattle.rc_memory.specs.Memory.{Memory, counts_raised, raised_by}
 use Rattle.rc_memory.specs.Kept.{IsMemory}
 
 -- the memory with its counts raised
 pub counted-memory : (S : ℕ) (slots : Slots) (v : View) (registry : Registry) (counts : Counts) (m : Memory) → IsMemory S slots v registry counts m → (evicted skipped shrunk : ℕ) (now : Counts)
-    → now.evicted ≡ raised_by evicted counts.evicted → now.skipped ≡ raised_by skipped counts.skipped → now.shrunk ≡ raised_by shrunk counts.shrunk → IsMemory S slots v registry now (counted evicted skipped shrunk m)
+    → now.evicted ≡ raised_by evicted counts.evicted → now.skipped ≡ raised_by skipped counts.skipped → now.shrunk ≡ raised_by shrunk counts.shrunk → IsMemory S slots v registry now (counts_raised evicted skipped shrunk m)
 counted-memory S slots v registry counts m h evicted skipped shrunk now a b c = record {
   held = record {
     well = h.held.well;

@@ -7,12 +7,12 @@ use Rattle.lsa_store.specs.declared.place.Ref.{Ref}
 use Rattle.lsa_list.specs.Recency.{first}
 use Rattle.lsa_region.specs.Region.{View}
 use Rattle.lsa_list.specs.declared.recency.List.{List as Slots}
-use Rattle.rc_partition.specs.Partitions.{AreStanding, IsRowOf, IsRowOfAny, PartitionEntry, StandingVersion, among, partition_of}
+use Rattle.rc_partition.specs.Partitions.{AreStanding, IsRowOfVersion, IsRowOfAny, PartitionEntry, StandingVersion, among, partition_of}
 use Rattle.rc_registry.specs.declared.uses.Use.{Use}
 use Rattle.rc_registry.specs.Registry.{Registry, HasRoot, IsAfter, IsNext, IsThere, use_at}
 use Rattle.rc_memory.specs.declared.counts.Counts.{Counts}
-use Rattle.rc_memory.specs.Memory.{HasChain, HasVersion, IsAt, IsNextChain, IsObjectAt, IsOfVersion, IsVersionAt, IsVersionObject, KeptChain, Member, Memory, chain_at}
-use Rattle.rc_memory.specs.Kept.{AreKept, HasMemory, IsHeld, IsMemory, StandAt, kept, present}
+use Rattle.rc_memory.specs.Memory.{HasChain, HasVersion, IsMemberObject, IsNextChain, IsObjectAt, IsOfVersion, IsVersionAt, IsVersionObject, KeptChain, Member, Memory, chain_at}
+use Rattle.rc_memory.specs.Kept.{AreKept, HasMemory, HoldMemory, IsMemory, StandAt, chain_of_use, present}
 use Rattle.rc_memory.specs.laws.At.{IsKeptAt, kept-at, present-split, used-there}
 use Rattle.rc_memory.specs.laws.One.{kept-is}
 use Rattle.rc_memory.specs.laws.Places.{heads, no_some, present-at, same_some, tails, version-there}
@@ -28,7 +28,7 @@ module _ (S : ℕ) (slots : Slots) (v : View) (registry : Registry) (counts : Co
   pub memory-now : IsMemory S slots v registry counts now
   memory-now = subst (IsMemory S slots v registry counts) (sym (kept-is S slots v registry counts given m is.held) ∙ seen) is
 
-module _ (slots : Slots) (v : View) (registry : Registry) (counts : Counts) (m : Memory) (h : IsHeld slots v registry counts m) where
+module _ (slots : Slots) (v : View) (registry : Registry) (counts : Counts) (m : Memory) (h : HoldMemory slots v registry counts m) where
   pub there : (id : ℕ) → HasChain m id → IsThere registry id
   there id some = used-there registry.uses m.standing m.chains id h.kept ∙ some
 
@@ -36,14 +36,14 @@ module _ (slots : Slots) (v : View) (registry : Registry) (counts : Counts) (m :
   chain-kept id k e = kept-at registry.uses m.standing m.chains id k h.kept e
 
   -- a chain is that of its use, whichever was got
-  pub chain-used : (id : ℕ) (k : KeptChain) (u : Use) → chain_at m id ≡ Some k → use_at registry.uses id ≡ Some u → (p : PartitionEntry) × (slice_index_or m.standing id None ≡ Some p) × (p.root ≡ u.root) × (k ≡ kept u p)
-  chain-used id k u e got = let a = chain-kept id k e in let same = same_some a.used u (sym a.at ∙ got) in (a.partition, a.stands, a.root ∙ ap (λ (x : Use). x.root) same, a.same ∙ ap (λ x. kept x a.partition) same)
+  pub chain-used : (id : ℕ) (k : KeptChain) (u : Use) → chain_at m id ≡ Some k → use_at registry.uses id ≡ Some u → (p : PartitionEntry) × (slice_index_or m.standing id None ≡ Some p) × (p.root ≡ u.root) × (k ≡ chain_of_use u p)
+  chain-used id k u e got = let a = chain-kept id k e in let same = same_some a.used u (sym a.at ∙ got) in (a.partition, a.stands, a.root ∙ ap (λ (x : Use). x.root) same, a.same ∙ ap (λ x. chain_of_use x a.partition) same)
 
   pub record IsStanding (id : ℕ) (k : KeptChain) (u : Use) : Type 0 where
     pub partition : PartitionEntry
     pub front : List PartitionEntry
     pub back : List PartitionEntry
-    pub same : k ≡ kept u partition
+    pub same : k ≡ chain_of_use u partition
     pub at : slice_index_or m.standing id None ≡ Some partition
     pub stands : AreStanding slots v (front ++ (partition_of u.root partition.versions ∷ back)) h.listed
 
@@ -63,7 +63,7 @@ pub some_of : {X : Type 0} (o : Option X) → IsSome o → (x : X) × (o ≡ Som
 some_of None some = cc some
 some_of (Some x) some = (x, refl)
 
-pub kept-length : (k : KeptChain) (u : Use) (p : PartitionEntry) → k ≡ kept u p → length k.chain.versions ≡ length p.versions
+pub kept-length : (k : KeptChain) (u : Use) (p : PartitionEntry) → k ≡ chain_of_use u p → length k.chain.versions ≡ length p.versions
 kept-length k u p e = ap (λ (x : KeptChain). length x.chain.versions) e ∙ mapped p.versions
   where
     mapped : (ss : List StandingVersion) → length (map (λ (s : StandingVersion). s.version) ss) ≡ length ss
@@ -97,7 +97,7 @@ number-mapped f xs n x h = record { older = map f h.older; newer = map f h.newer
     mapped f [] = refl
     mapped f (y ∷ ys) = ap suc (mapped f ys)
 
-module _ (slots : Slots) (v : View) (registry : Registry) (counts : Counts) (m : Memory) (h : IsHeld slots v registry counts m) where
+module _ (slots : Slots) (v : View) (registry : Registry) (counts : Counts) (m : Memory) (h : HoldMemory slots v registry counts m) where
   -- where a table has none there is none
   pub unused : (id : ℕ) → use_at registry.uses id ≡ None → chain_at m id ≡ None
   unused id e = none (chain_at m id) (sym (used-there registry.uses m.standing m.chains id h.kept) ∙ ap is_some e)
@@ -138,24 +138,24 @@ module _ (slots : Slots) (v : View) (registry : Registry) (counts : Counts) (m :
       found (Some k) has = (k, refl, has)
 
   -- the least recent object and its place
-  pub front-place : (o : Option Ref) → o ≡ first h.listed → IfSome o (λ r. (w : Member) × (rest : List Member) × (m.recency ≡ w ∷ rest) × IsAt m r w) × IfNone o (m.recency ≡ [])
-  front-place o e = subst (λ z. IfSome z (λ r. (w : Member) × (rest : List Member) × (m.recency ≡ w ∷ rest) × IsAt m r w) × IfNone z (m.recency ≡ [])) (sym e) (places h.listed m.recency h.recency)
+  pub front-place : (o : Option Ref) → o ≡ first h.listed → IfSome o (λ r. (w : Member) × (rest : List Member) × (m.recency ≡ w ∷ rest) × IsMemberObject m r w) × IfNone o (m.recency ≡ [])
+  front-place o e = subst (λ z. IfSome z (λ r. (w : Member) × (rest : List Member) × (m.recency ≡ w ∷ rest) × IsMemberObject m r w) × IfNone z (m.recency ≡ [])) (sym e) (places h.listed m.recency h.recency)
     where
-      places : (refs : List Ref) (ws : List Member) → StandAt v m.standing refs ws → IfSome (first refs) (λ r. (w : Member) × (rest : List Member) × (ws ≡ w ∷ rest) × IsAt m r w) × IfNone (first refs) (ws ≡ [])
+      places : (refs : List Ref) (ws : List Member) → StandAt v m.standing refs ws → IfSome (first refs) (λ r. (w : Member) × (rest : List Member) × (ws ≡ w ∷ rest) × IsMemberObject m r w) × IfNone (first refs) (ws ≡ [])
       places [] [] s = (tt, refl)
       places [] (w ∷ ws) s = absurd s
       places (r ∷ refs) [] s = absurd s
       places (r ∷ refs) (w ∷ ws) s = ((w, ws, refl, subst (λ z. IsObjectAt z m.standing r w) (sym h.region) s.0), tt)
 
   -- an object at a place, in the region
-  pub at-place : (r : Ref) (w : Member) → IsAt m r w → IsObjectAt v m.standing r w
+  pub at-place : (r : Ref) (w : Member) → IsMemberObject m r w → IsObjectAt v m.standing r w
   at-place r w a = subst (λ z. IsObjectAt z m.standing r w) h.region a
 
-row-of : (v : View) (s : StandingVersion) (p : Option Pos) (r : Ref) → IsOfVersion v s p r → IsRowOf v s r
+row-of : (v : View) (s : StandingVersion) (p : Option Pos) (r : Ref) → IsOfVersion v s p r → IsRowOfVersion v s r
 row-of v s None r h = inr h
 row-of v s (Some x) r h = inl h.0
 
-module _ (slots : Slots) (v : View) (registry : Registry) (counts : Counts) (m : Memory) (h : IsHeld slots v registry counts m) where
+module _ (slots : Slots) (v : View) (registry : Registry) (counts : Counts) (m : Memory) (h : HoldMemory slots v registry counts m) where
   pub record HasHome (r : Ref) (w : Member) : Type 0 where
     pub used : Use
     pub partition : PartitionEntry
@@ -166,9 +166,9 @@ module _ (slots : Slots) (v : View) (registry : Registry) (counts : Counts) (m :
     pub number : IsVersionAt partition.versions w.version version
     pub present : Contains (present m.standing) partition
     pub stands : AreStanding slots v (among front used.root number.older version number.newer back) h.listed
-    pub row : IsRowOf v version r
+    pub row : IsRowOfVersion v version r
 
-  pub home-place : (r : Ref) (w : Member) → IsAt m r w → HasHome r w
+  pub home-place : (r : Ref) (w : Member) → IsMemberObject m r w → HasHome r w
   home-place r w here =
       let a = at-place slots v registry counts m h r w here in let u = used_of w.chain a.partition a.chain in let amid = present-split m.standing w.chain a.partition a.chain in record {
         used = u.0;

@@ -7,7 +7,7 @@ use Rattle.rc_core.specs.Steps.{pin_at}
 use Rattle.rc_registry.specs.Registry.{Registry, use_at}
 use Rattle.rc_memory.specs.declared.counts.Counts.{Counts}
 use Rattle.rc_memory.specs.Memory.{HasChain, HasPin, IsTold, KeptChain, Memory, chain_at, with_dropped}
-use Rattle.rc_memory.specs.Kept.{AreKept, IsHeld, IsMemory}
+use Rattle.rc_memory.specs.Kept.{AreKept, HoldMemory, IsMemory}
 use Rattle.rc_chain.proofs.Reading.{chain-kept}
 use Rattle.rc_memory.specs.laws.Places.{no_some, same_some}
 
@@ -26,7 +26,7 @@ module _ {X : Type 0} where
 pub pin-chain : (m : Memory) (id pin : ℕ) → HasPin m id pin → HasChain m id
 pin-chain m id pin h = let a = from-some (λ k. IsSome (pin_at k.chain.pins pin)) (chain_at m id) h in ap is_some a.1
 
-module _ (slots : Slots) (v : View) (registry : Registry) (counts : Counts) (m : Memory) (h : IsHeld slots v registry counts m) where
+module _ (slots : Slots) (v : View) (registry : Registry) (counts : Counts) (m : Memory) (h : HoldMemory slots v registry counts m) where
   pub pin-used : (id pin : ℕ) → HasPin m id pin → IsSomeAnd (use_at registry.uses id) (λ u. IsSome (pin_at u.pins pin))
   pin-used id pin has =
       let a = from-some (λ k. IsSome (pin_at k.chain.pins pin)) (chain_at m id) has in let k = chain-kept slots v registry counts m h id a.0 a.1 in
@@ -52,7 +52,7 @@ same_uses old new None h = ap (λ (r : Registry). r.uses) (sym h.1)
 same_uses old new (Some id) h = ap (λ (r : Registry). r.uses) h
 
 module _ (slots : Slots) (v : View) (old new : Registry) (counts : Counts) (m : Memory) (o : Option ℕ) where
-  pub told : IsHeld slots v old counts m → MatchOption o ((old.dropped ≡ []) × (new ≡ old)) (λ id. old ≡ record { uses = new.uses; dropped = id ∷ new.dropped }) → IsTold m (with_dropped new.dropped m) o
+  pub told : HoldMemory slots v old counts m → MatchOption o ((old.dropped ≡ []) × (new ≡ old)) (λ id. old ≡ record { uses = new.uses; dropped = id ∷ new.dropped }) → IsTold m (with_dropped new.dropped m) o
   told h t = of o t
     where
       of : (o : Option ℕ) → MatchOption o ((old.dropped ≡ []) × (new ≡ old)) (λ id. old ≡ record { uses = new.uses; dropped = id ∷ new.dropped }) → IsTold m (with_dropped new.dropped m) o

@@ -5,7 +5,7 @@ ghost use Rattle.lsa_region.specs.Region.{live_bytes};
 ghost use Rattle.rc_core.specs.Chains.{IsPinned};
 ghost use Rattle.rc_memory.specs.Kept.{HasMemory, IsMemory};
 ghost use Rattle.rc_registry.specs.Registry.{IsAfter};
-ghost use Rattle.rc_memory.specs.Memory.{KeptChain, Member, HasChain, HasVersion, IsAt, IsNextChain, IsVersionAt, IsEmpty, IsTold, IsUntouched, IsVersionObject, HasPin, chain_at, counted, marked, on_chain, with_chains, without_snapshot};
+ghost use Rattle.rc_memory.specs.Memory.{KeptChain, Member, HasChain, HasVersion, IsMemberObject, IsNextChain, IsVersionAt, IsEmpty, IsTold, IsUntouched, IsVersionObject, HasPin, chain_at, counts_raised, mark_passed, on_chain, with_chains, without_snapshot};
 ghost use Rattle.lsa_move.specs.Room.{IsCompacted, Tight};
 ghost use Rattle.lsa_store.specs.Stock.{sparse_of};
 ghost use Rattle.rc_core.specs.Steps.{pin_at};
@@ -93,7 +93,7 @@ impl<const S: usize> Chains<S> {
 
     /// Raises the counts by so many evictions, by how often no room was found, and by how many bytes the chains became smaller. Each stays at 2^64 - 1.
     pub fn count(&mut self, evicted: u64, skipped: u64, shrunk: u64)
-        ensures { self.new ≡ counted evicted skipped shrunk self.old }
+        ensures { self.new ≡ counts_raised evicted skipped shrunk self.old }
     {
         self.counts = Counts {
             evicted: self.counts.evicted.saturating_add(evicted),
@@ -198,7 +198,7 @@ impl<const S: usize> Chains<S> {
 
     /// The least recently used object of all. None where the list is empty.
     pub fn front(&self) -> Option<Ref>
-        ensures some { IfSome result (λ r. (w : Member) × (rest : Sequence Member) × (self.now.recency ≡ w ∷ rest) × IsAt self.now r w) }
+        ensures some { IfSome result (λ r. (w : Member) × (rest : Sequence Member) × (self.now.recency ≡ w ∷ rest) × IsMemberObject self.now r w) }
         ensures none { IfNone result (self.now.recency ≡ []) }
     {
         self.recency.front(&self.region)
@@ -206,8 +206,8 @@ impl<const S: usize> Chains<S> {
 
     /// The chain of an entry or a static row, and the number of its version, the oldest being 0.
     pub fn home(&self, r: Ref) -> (u64, u64)
-        requires { (w : Member) × IsAt self.now r w }
-        ensures { (w : Member) → IsAt self.now r w → result ≡ (w.chain, w.version) }
+        requires { (w : Member) × IsMemberObject self.now r w }
+        ensures { (w : Member) → IsMemberObject self.now r w → result ≡ (w.chain, w.version) }
     {
         let (root, number) = home(&self.region, r);
         (self.registry.owner(root), number)
@@ -240,7 +240,7 @@ impl<const S: usize> Chains<S> {
     /// Sets or clears the cleaner's mark that it left a chain unmerged.
     pub fn set_passed(&mut self, id: u64, passed: bool)
         requires { HasChain self.old id }
-        ensures { self.new ≡ with_chains (on_chain id (marked passed) self.old.chains) self.old }
+        ensures { self.new ≡ with_chains (on_chain id (mark_passed passed) self.old.chains) self.old }
     {
         self.registry.set_passed(id, passed);
     }

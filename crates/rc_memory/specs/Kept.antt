@@ -1,7 +1,7 @@
 -- How chains are kept: a table of their use, their versions in the region, and the list through these.
 --     AreKept       the chains are those of a table, and of versions at the root slots that it names
---     IsSound       what each chain keeps: snapshots pin versions that it has, and nobody pins the one under update
---     IsHeld        region, list, table and counts hold this memory
+--     IsSoundChain       what each chain keeps: snapshots pin versions that it has, and nobody pins the one under update
+--     HoldMemory        region, list, table and counts hold this memory
 --     IsMemory      and it keeps its rules
 use Rattle.std.specs.Prelude.{◌≡◌, ◌<◌, ◌≤◌, ℕ, suc, true, List, [], ◌∷◌, Option, Some, None, IfSome, length, map, ⊤}
 use Rattle.lsa_store.specs.declared.place.Ref.{Ref}
@@ -15,21 +15,21 @@ use Rattle.rc_registry.specs.Registry.{Registry}
 use Rattle.rc_memory.specs.declared.counts.Counts.{Counts}
 use Rattle.rc_memory.specs.Memory.{KeptChain, Member, Memory, IsObjectAt, chain_at}
 use Rattle.rc_memory.specs.Recency.{IsRecency}
-use Rattle.rc_memory.specs.Room.{AllFit}
+use Rattle.rc_memory.specs.Room.{ChainsFit}
 
 -- the chain of a use and of versions
-abbrev pub kept : Use → PartitionEntry → KeptChain
-kept u p = record {
+abbrev pub chain_of_use : Use → PartitionEntry → KeptChain
+chain_of_use u p = record {
   chain = record { kind = u.kind; versions = map (λ s. s.version) p.versions; attached = u.attached; updating = u.updating; pins = u.pins };
   passed = u.passed;
 }
 
 -- a chain is there where its use and its versions are, and these stand at the root slot of the use
-abbrev pub IsKept : Option Use → Option PartitionEntry → Option KeptChain → Type 0
-IsKept None None c = c ≡ None
-IsKept None (Some p) c = ⊥
-IsKept (Some u) None c = ⊥
-IsKept (Some u) (Some p) c = (p.root ≡ u.root) × (c ≡ Some (kept u p))
+abbrev pub IsKeptChain : Option Use → Option PartitionEntry → Option KeptChain → Type 0
+IsKeptChain None None c = c ≡ None
+IsKeptChain None (Some p) c = ⊥
+IsKeptChain (Some u) None c = ⊥
+IsKeptChain (Some u) (Some p) c = (p.root ≡ u.root) × (c ≡ Some (chain_of_use u p))
 
 -- so for each number
 abbrev pub AreKept : List (Option Use) → List (Option PartitionEntry) → List (Option KeptChain) → Type 0
@@ -38,7 +38,7 @@ AreKept [] [] (c ∷ cs) = ⊥
 AreKept [] (p ∷ ps) cs = ⊥
 AreKept (u ∷ us) [] cs = ⊥
 AreKept (u ∷ us) (p ∷ ps) [] = ⊥
-AreKept (u ∷ us) (p ∷ ps) (c ∷ cs) = IsKept u p c × AreKept us ps cs
+AreKept (u ∷ us) (p ∷ ps) (c ∷ cs) = IsKeptChain u p c × AreKept us ps cs
 
 -- what is there of a list
 abbrev pub present : {X : Type 0} → List (Option X) → List X
@@ -54,7 +54,7 @@ StandAt v standing (r ∷ refs) [] = ⊥
 StandAt v standing (r ∷ refs) (w ∷ ws) = IsObjectAt v standing r w × StandAt v standing refs ws
 
 -- a chain has a version; snapshots pin versions that it has; and one under update is an attached cache chain, whose newest version nobody pins and is not the only one
-pub record IsSound (c : Shown) : Type 0 where
+pub record IsSoundChain (c : Shown) : Type 0 where
   pub some : 0 < length c.versions
   pub pins : (j : ℕ) → IsPinned c.pins j → j < length c.versions
   pub cached : c.updating ≡ true → c.kind ≡ Cache
@@ -63,7 +63,7 @@ pub record IsSound (c : Shown) : Type 0 where
   pub unpinned : c.updating ≡ true → (j : ℕ) → IsPinned c.pins j → suc j < length c.versions
 
 -- region, recency list, table and counts hold this memory
-pub record IsHeld (slots : Slots) (v : View) (registry : Registry) (counts : Counts) (m : Memory) : Type 0 where
+pub record HoldMemory (slots : Slots) (v : View) (registry : Registry) (counts : Counts) (m : Memory) : Type 0 where
   pub well : IsWell v
   pub region : m.region ≡ v
   pub kept : AreKept registry.uses m.standing m.chains
@@ -75,10 +75,10 @@ pub record IsHeld (slots : Slots) (v : View) (registry : Registry) (counts : Cou
 
 -- and it keeps the rules of a memory: each chain is sound, the recency list holds what it must, and objects that may be joined fit a segment's eighth
 pub record IsMemory (S : ℕ) (slots : Slots) (v : View) (registry : Registry) (counts : Counts) (m : Memory) : Type 0 where
-  pub held : IsHeld slots v registry counts m
-  pub sound : (id : ℕ) → IfSome (chain_at m id) (λ k. IsSound k.chain)
+  pub held : HoldMemory slots v registry counts m
+  pub sound : (id : ℕ) → IfSome (chain_at m id) (λ k. IsSoundChain k.chain)
   pub rule : IsRecency m
-  pub fit : AllFit S m
+  pub fit : ChainsFit S m
 
 -- some memory is these, and no other is (`one-memory`)
 abbrev pub HasMemory : ℕ → Slots → View → Registry → Counts → Type 0

@@ -2,7 +2,7 @@
 --     KeptChain     a chain of versions, and the cleaner's mark on it
 --     Member        where an object of a chain stands: its chain, its version, and its position there
 --     Memory        all chains, the recency list, the numbers of dropped chains, the counts; beside them the region, and which of its objects hold the chains
---     IsAt          an object of the region stands there
+--     IsMemberObject          an object of the region stands there
 --     IsUntouched   the chains, the recency list and all else but the region is as it was
 use Rattle.std.specs.Prelude.{◌≡◌, ◌<◌, ◌+◌, ◌-◌, ◌^◌, min, ℕ, suc, Bool, true, false, List, [], ◌∷◌, ◌++◌, Option, Some, None, IsSome, IfSome, IsSomeAnd, option_map, cond, length, map, slice_index_or, Contains, zero, nat_eq, take, drop}
 use Rattle.rc_position.specs.declared.positions.Pos.{Pos}
@@ -79,8 +79,8 @@ pub record IsObjectAt (v : View) (standing : List (Option PartitionEntry)) (r : 
   pub object : IsOfVersion v version w.position r
 
 -- an object of the region stands at this place
-abbrev pub IsAt : Memory → Ref → Member → Type 0
-IsAt m r w = IsObjectAt m.region m.standing r w
+abbrev pub IsMemberObject : Memory → Ref → Member → Type 0
+IsMemberObject m r w = IsObjectAt m.region m.standing r w
 
 -- an object of the region is the version of this number of a chain
 abbrev pub IsVersionObject : Memory → ℕ → ℕ → Ref → Type 0
@@ -123,8 +123,8 @@ abbrev pub shown_updating : Bool → Shown → Shown
 shown_updating updating c = record { kind = c.kind; versions = c.versions; attached = c.attached; updating = updating; pins = c.pins }
 
 -- the chain with the cleaner's mark or without it
-abbrev pub marked : Bool → KeptChain → KeptChain
-marked passed k = record { chain = k.chain; passed = passed }
+abbrev pub mark_passed : Bool → KeptChain → KeptChain
+mark_passed passed k = record { chain = k.chain; passed = passed }
 
 -- the number of the version that a snapshot pins: of the newest one, or of the one below it while an update stands in the newest
 abbrev pub snapshot_number : Shown → ℕ
@@ -183,8 +183,8 @@ abbrev pub raised_by : ℕ → ℕ → ℕ
 raised_by more n = min (n + more) (2 ^ 64 - 1)
 
 -- the memory with its counts raised
-abbrev pub counted : ℕ → ℕ → ℕ → Memory → Memory
-counted evicted skipped shrunk m = record {
+abbrev pub counts_raised : ℕ → ℕ → ℕ → Memory → Memory
+counts_raised evicted skipped shrunk m = record {
   chains = m.chains;
   recency = m.recency;
   dropped = m.dropped;
@@ -196,8 +196,8 @@ counted evicted skipped shrunk m = record {
 -- ---- what is done to the region
 
 -- the memory after objects of its region got new names
-abbrev pub moved : List (Ref × Ref) → View → Memory → Memory
-moved names region m = record { chains = m.chains; recency = m.recency; dropped = m.dropped; counts = m.counts; region = region; standing = map (option_map (partition_as names)) m.standing }
+abbrev pub under_new_names : List (Ref × Ref) → View → Memory → Memory
+under_new_names names region m = record { chains = m.chains; recency = m.recency; dropped = m.dropped; counts = m.counts; region = region; standing = map (option_map (partition_as names)) m.standing }
 
 -- the memory with another recency list, in a region
 abbrev pub listed_as : List Member → View → Memory → Memory
@@ -213,8 +213,8 @@ abbrev pub partition_with : ℕ → StandingVersion → PartitionEntry → Parti
 partition_with j t p = partition_of p.root (with_standing j t p.versions)
 
 -- the memory with another version of a chain at a number, as it stands in a region
-abbrev pub changed : ℕ → ℕ → StandingVersion → View → Memory → Memory
-changed id j t region m = record {
+abbrev pub version_changed : ℕ → ℕ → StandingVersion → View → Memory → Memory
+version_changed id j t region m = record {
   chains = on_chain id (on_shown (on_version_of j (λ c. t.version))) m.chains;
   recency = m.recency;
   dropped = m.dropped;

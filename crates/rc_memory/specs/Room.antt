@@ -24,8 +24,8 @@ pub record FitTogether (S : ℕ) (versions : List Version) : Type 0 where
   pub positions : (v : Version) (e : Entry) → Contains versions v → Contains v.entries e → dummy_size e.position ≤ S / 8
 
 -- those of each chain do
-abbrev pub AllFit : ℕ → Memory → Type 0
-AllFit S m = (id : ℕ) → IfSome (chain_at m id) (λ k. FitTogether S k.chain.versions)
+abbrev pub ChainsFit : ℕ → Memory → Type 0
+ChainsFit S m = (id : ℕ) → IfSome (chain_at m id) (λ k. FitTogether S k.chain.versions)
 
 -- how many bytes, and how many objects, a chain takes: 256 and 3 of one version with one row inserted
 abbrev pub chain_bytes : KeptChain → ℕ

@@ -24,104 +24,104 @@ ghost use Rattle.lsa_region.specs.Region.{View, body, link_of, live_bytes, objec
 ghost use Rattle.lsa_list.specs.declared.recency.List.{List as Slots};
 ghost use Rattle.rc_registry.specs.Registry.{Registry, detached, new_use, on_use, put, set_passed, set_updating, with_pin, with_use, without_pin, without_version};
 ghost use Rattle.rc_memory.specs.declared.counts.Counts.{Counts};
-ghost use Rattle.rc_memory.specs.Memory.{KeptChain, Member, Memory, HasChain, IsObjectAt, IsOfVersion, IsVersionAt, IsVersionObject, chain_at, changed, closed, fewer_versions, listed_as, marked, more_versions, moved, on_chain, on_shown, on_version_of, opened, renumbered_member, shown_detached, shown_pinned, shown_updating, shown_with, shown_without, with_chains};
-ghost use Rattle.rc_memory.specs.Kept.{IsHeld, IsMemory, IsSound, kept, present};
+ghost use Rattle.rc_memory.specs.Memory.{KeptChain, Member, Memory, HasChain, IsObjectAt, IsOfVersion, IsVersionAt, IsVersionObject, chain_at, version_changed, closed, fewer_versions, listed_as, mark_passed, more_versions, under_new_names, on_chain, on_shown, on_version_of, opened, renumbered_member, shown_detached, shown_pinned, shown_updating, shown_with, shown_without, with_chains};
+ghost use Rattle.rc_memory.specs.Kept.{HoldMemory, IsMemory, IsSoundChain, chain_of_use, present};
 ghost use Rattle.rc_memory.specs.Recency.{HasObject, IsLastInner, IsRecency, IsUnderUpdate, MayBeListed, MustBeListed};
 ghost use Rattle.rc_memory.specs.Room.{FitTogether, chain_bytes, chain_objects};
 
 /// Region, recency list, table and counts hold one memory.
 pub fn they_hold_one_memory()
-    ensures { (slots : Slots) (v : View) (registry : Registry) (counts : Counts) (m n : Memory) → IsHeld slots v registry counts m → IsHeld slots v registry counts n → m ≡ n }
+    ensures { (slots : Slots) (v : View) (registry : Registry) (counts : Counts) (m n : Memory) → HoldMemory slots v registry counts m → HoldMemory slots v registry counts n → m ≡ n }
 {}
 
 /// After objects moved, all is held as before, under new names.
 pub fn objects_may_move()
-    ensures { (slots : Slots) (old new : View) (registry : Registry) (counts : Counts) (m : Memory) (names : List (Ref × Ref)) → IsHeld slots old registry counts m → Renamed old new names → IsWell new → IsHeld slots new registry counts (moved names new m) }
+    ensures { (slots : Slots) (old new : View) (registry : Registry) (counts : Counts) (m : Memory) (names : List (Ref × Ref)) → HoldMemory slots old registry counts m → Renamed old new names → IsWell new → HoldMemory slots new registry counts (under_new_names names new m) }
 {}
 
 /// What is done to the use of a chain, whose root slot stays, is done to the chain; as where it is detached, is under update or no longer, gets the cleaner's mark or loses it, and is pinned or no longer.
 pub fn a_use_may_change()
-    ensures changed { (slots : Slots) (v : View) (registry : Registry) (counts : Counts) (m : Memory) (id : ℕ) (f : Use → Use) (g : KeptChain → KeptChain) → IsHeld slots v registry counts m → HasChain m id → ((u : Use) → (f u).root ≡ u.root) → ((u : Use) (p : PartitionEntry) → kept (f u) p ≡ g (kept u p)) → IsHeld slots v (on_use id f registry) counts (with_chains (on_chain id g m.chains) m) }
-    ensures detached { (slots : Slots) (v : View) (registry : Registry) (counts : Counts) (m : Memory) (id : ℕ) → IsHeld slots v registry counts m → HasChain m id → IsHeld slots v (on_use id detached registry) counts (with_chains (on_chain id (on_shown shown_detached) m.chains) m) }
-    ensures updating { (slots : Slots) (v : View) (registry : Registry) (counts : Counts) (m : Memory) (id : ℕ) (updating : Bool) → IsHeld slots v registry counts m → HasChain m id → IsHeld slots v (on_use id (set_updating updating) registry) counts (with_chains (on_chain id (on_shown (shown_updating updating)) m.chains) m) }
-    ensures passed { (slots : Slots) (v : View) (registry : Registry) (counts : Counts) (m : Memory) (id : ℕ) (passed : Bool) → IsHeld slots v registry counts m → HasChain m id → IsHeld slots v (on_use id (set_passed passed) registry) counts (with_chains (on_chain id (marked passed) m.chains) m) }
-    ensures pinned { (slots : Slots) (v : View) (registry : Registry) (counts : Counts) (m : Memory) (id : ℕ) (version : ℕ) → IsHeld slots v registry counts m → HasChain m id → IsHeld slots v (on_use id (with_pin version) registry) counts (with_chains (on_chain id (on_shown (λ c. shown_pinned (pinned version c.pins) c)) m.chains) m) }
-    ensures released { (slots : Slots) (v : View) (registry : Registry) (counts : Counts) (m : Memory) (id : ℕ) (pin : ℕ) → IsHeld slots v registry counts m → HasChain m id → IsHeld slots v (on_use id (without_pin pin) registry) counts (with_chains (on_chain id (on_shown (λ c. shown_pinned (released pin c.pins) c)) m.chains) m) }
+    ensures changed { (slots : Slots) (v : View) (registry : Registry) (counts : Counts) (m : Memory) (id : ℕ) (f : Use → Use) (g : KeptChain → KeptChain) → HoldMemory slots v registry counts m → HasChain m id → ((u : Use) → (f u).root ≡ u.root) → ((u : Use) (p : PartitionEntry) → chain_of_use (f u) p ≡ g (chain_of_use u p)) → HoldMemory slots v (on_use id f registry) counts (with_chains (on_chain id g m.chains) m) }
+    ensures detached { (slots : Slots) (v : View) (registry : Registry) (counts : Counts) (m : Memory) (id : ℕ) → HoldMemory slots v registry counts m → HasChain m id → HoldMemory slots v (on_use id detached registry) counts (with_chains (on_chain id (on_shown shown_detached) m.chains) m) }
+    ensures updating { (slots : Slots) (v : View) (registry : Registry) (counts : Counts) (m : Memory) (id : ℕ) (updating : Bool) → HoldMemory slots v registry counts m → HasChain m id → HoldMemory slots v (on_use id (set_updating updating) registry) counts (with_chains (on_chain id (on_shown (shown_updating updating)) m.chains) m) }
+    ensures passed { (slots : Slots) (v : View) (registry : Registry) (counts : Counts) (m : Memory) (id : ℕ) (passed : Bool) → HoldMemory slots v registry counts m → HasChain m id → HoldMemory slots v (on_use id (set_passed passed) registry) counts (with_chains (on_chain id (mark_passed passed) m.chains) m) }
+    ensures pinned { (slots : Slots) (v : View) (registry : Registry) (counts : Counts) (m : Memory) (id : ℕ) (version : ℕ) → HoldMemory slots v registry counts m → HasChain m id → HoldMemory slots v (on_use id (with_pin version) registry) counts (with_chains (on_chain id (on_shown (λ c. shown_pinned (pinned version c.pins) c)) m.chains) m) }
+    ensures released { (slots : Slots) (v : View) (registry : Registry) (counts : Counts) (m : Memory) (id : ℕ) (pin : ℕ) → HoldMemory slots v registry counts m → HasChain m id → HoldMemory slots v (on_use id (without_pin pin) registry) counts (with_chains (on_chain id (on_shown (λ c. shown_pinned (released pin c.pins) c)) m.chains) m) }
 {}
 
 /// The recency list may change: an object at a place is put at its back, taken out of it, or made the most recent one, and its place with it.
 pub fn the_list_may_change()
-    ensures pushed { (slots : Slots) (old new : View) (registry : Registry) (counts : Counts) (m : Memory) (r : Ref) (w : Member) → IsHeld slots old registry counts m → ((e : End) → IsElsewhere slots old e → link_of new e ≡ link_of old e) → SameObjects old new → IsWell new → IsObjectAt old m.standing r w → ((xs : List Ref) → IsList slots old xs → IsList slots new (xs ++ (r ∷ []))) →
-        ((e : End) → link_of old e ≡ None → e ≢ Obj r 0 → e ≢ Obj r 1 → link_of new e ≡ None) → IsHeld slots new registry counts (listed_as (m.recency ++ (w ∷ [])) new m) }
-    ensures taken { (slots : Slots) (old new : View) (registry : Registry) (counts : Counts) (m : Memory) (r : Ref) (front : List Member) (w : Member) (back : List Member) → IsHeld slots old registry counts m → ((e : End) → IsElsewhere slots old e → link_of new e ≡ link_of old e) → SameObjects old new → IsWell new → m.recency ≡ front ++ (w ∷ back) → IsObjectAt old m.standing r w → ((xs ys : List Ref) → IsList slots old (xs ++ (r ∷ ys)) → IsList slots new (xs ++ ys)) →
-        link_of new (Obj r 0) ≡ None → link_of new (Obj r 1) ≡ None → ((e : End) → link_of old e ≡ None → link_of new e ≡ None) → IsHeld slots new registry counts (listed_as (front ++ back) new m) }
-    ensures touched { (slots : Slots) (old new : View) (registry : Registry) (counts : Counts) (m : Memory) (r : Ref) (front : List Member) (w : Member) (back : List Member) → IsHeld slots old registry counts m → ((e : End) → IsElsewhere slots old e → link_of new e ≡ link_of old e) → SameObjects old new → IsWell new → m.recency ≡ front ++ (w ∷ back) → IsObjectAt old m.standing r w → ((xs ys : List Ref) → IsList slots old (xs ++ (r ∷ ys)) → IsList slots new ((xs ++ ys) ++ (r ∷ []))) →
-        ((e : End) → link_of old e ≡ None → link_of new e ≡ None) → IsHeld slots new registry counts (listed_as ((front ++ back) ++ (w ∷ [])) new m) }
+    ensures pushed { (slots : Slots) (old new : View) (registry : Registry) (counts : Counts) (m : Memory) (r : Ref) (w : Member) → HoldMemory slots old registry counts m → ((e : End) → IsElsewhere slots old e → link_of new e ≡ link_of old e) → SameObjects old new → IsWell new → IsObjectAt old m.standing r w → ((xs : List Ref) → IsList slots old xs → IsList slots new (xs ++ (r ∷ []))) →
+        ((e : End) → link_of old e ≡ None → e ≢ Obj r 0 → e ≢ Obj r 1 → link_of new e ≡ None) → HoldMemory slots new registry counts (listed_as (m.recency ++ (w ∷ [])) new m) }
+    ensures taken { (slots : Slots) (old new : View) (registry : Registry) (counts : Counts) (m : Memory) (r : Ref) (front : List Member) (w : Member) (back : List Member) → HoldMemory slots old registry counts m → ((e : End) → IsElsewhere slots old e → link_of new e ≡ link_of old e) → SameObjects old new → IsWell new → m.recency ≡ front ++ (w ∷ back) → IsObjectAt old m.standing r w → ((xs ys : List Ref) → IsList slots old (xs ++ (r ∷ ys)) → IsList slots new (xs ++ ys)) →
+        link_of new (Obj r 0) ≡ None → link_of new (Obj r 1) ≡ None → ((e : End) → link_of old e ≡ None → link_of new e ≡ None) → HoldMemory slots new registry counts (listed_as (front ++ back) new m) }
+    ensures touched { (slots : Slots) (old new : View) (registry : Registry) (counts : Counts) (m : Memory) (r : Ref) (front : List Member) (w : Member) (back : List Member) → HoldMemory slots old registry counts m → ((e : End) → IsElsewhere slots old e → link_of new e ≡ link_of old e) → SameObjects old new → IsWell new → m.recency ≡ front ++ (w ∷ back) → IsObjectAt old m.standing r w → ((xs ys : List Ref) → IsList slots old (xs ++ (r ∷ ys)) → IsList slots new ((xs ++ ys) ++ (r ∷ []))) →
+        ((e : End) → link_of old e ≡ None → link_of new e ≡ None) → HoldMemory slots new registry counts (listed_as ((front ++ back) ++ (w ∷ [])) new m) }
 {}
 
 /// An object is listed exactly where its place is in the recency list; where it is not, its links are unset. The first object of the list stands at the first place.
 pub fn the_list_is_told_by_places()
-    ensures listed { (slots : Slots) (v : View) (registry : Registry) (counts : Counts) (m : Memory) (r : Ref) (w : Member) (h : IsHeld slots v registry counts m) → IsObjectAt v m.standing r w → Contains m.recency w → Contains h.listed r }
-    ensures placed { (slots : Slots) (v : View) (registry : Registry) (counts : Counts) (m : Memory) (r : Ref) (w : Member) (h : IsHeld slots v registry counts m) → IsObjectAt v m.standing r w → Contains h.listed r → Contains m.recency w }
-    ensures unlisted { (slots : Slots) (v : View) (registry : Registry) (counts : Counts) (m : Memory) (r : Ref) (w : Member) → IsHeld slots v registry counts m → IsObjectAt v m.standing r w → (Contains m.recency w → ⊥) → IsUnlisted v r }
-    ensures split { (slots : Slots) (v : View) (registry : Registry) (counts : Counts) (m : Memory) (front : List Member) (w : Member) (back : List Member) (r : Ref) → IsHeld slots v registry counts m → m.recency ≡ front ++ (w ∷ back) → IsObjectAt v m.standing r w → (xs : List Ref) × (ys : List Ref) × IsList slots v (xs ++ (r ∷ ys)) }
-    ensures front { (slots : Slots) (v : View) (registry : Registry) (counts : Counts) (m : Memory) (r : Ref) (h : IsHeld slots v registry counts m) → first h.listed ≡ Some r → (w : Member) × (back : List Member) × (m.recency ≡ w ∷ back) × IsObjectAt v m.standing r w }
-    ensures empty { (slots : Slots) (v : View) (registry : Registry) (counts : Counts) (m : Memory) (h : IsHeld slots v registry counts m) → first h.listed ≡ None → m.recency ≡ [] }
+    ensures listed { (slots : Slots) (v : View) (registry : Registry) (counts : Counts) (m : Memory) (r : Ref) (w : Member) (h : HoldMemory slots v registry counts m) → IsObjectAt v m.standing r w → Contains m.recency w → Contains h.listed r }
+    ensures placed { (slots : Slots) (v : View) (registry : Registry) (counts : Counts) (m : Memory) (r : Ref) (w : Member) (h : HoldMemory slots v registry counts m) → IsObjectAt v m.standing r w → Contains h.listed r → Contains m.recency w }
+    ensures unlisted { (slots : Slots) (v : View) (registry : Registry) (counts : Counts) (m : Memory) (r : Ref) (w : Member) → HoldMemory slots v registry counts m → IsObjectAt v m.standing r w → (Contains m.recency w → ⊥) → IsUnlisted v r }
+    ensures split { (slots : Slots) (v : View) (registry : Registry) (counts : Counts) (m : Memory) (front : List Member) (w : Member) (back : List Member) (r : Ref) → HoldMemory slots v registry counts m → m.recency ≡ front ++ (w ∷ back) → IsObjectAt v m.standing r w → (xs : List Ref) × (ys : List Ref) × IsList slots v (xs ++ (r ∷ ys)) }
+    ensures front { (slots : Slots) (v : View) (registry : Registry) (counts : Counts) (m : Memory) (r : Ref) (h : HoldMemory slots v registry counts m) → first h.listed ≡ Some r → (w : Member) × (back : List Member) × (m.recency ≡ w ∷ back) × IsObjectAt v m.standing r w }
+    ensures empty { (slots : Slots) (v : View) (registry : Registry) (counts : Counts) (m : Memory) (h : HoldMemory slots v registry counts m) → first h.listed ≡ None → m.recency ≡ [] }
 {}
 
 /// At a place stands one object, and an object stands at one place.
 pub fn an_object_stands_at_one_place()
-    ensures place { (slots : Slots) (v : View) (registry : Registry) (counts : Counts) (m : Memory) (r : Ref) (w x : Member) → IsHeld slots v registry counts m → IsObjectAt v m.standing r w → IsObjectAt v m.standing r x → w ≡ x }
-    ensures object { (slots : Slots) (v : View) (registry : Registry) (counts : Counts) (m : Memory) (r q : Ref) (w : Member) → IsHeld slots v registry counts m → IsObjectAt v m.standing r w → IsObjectAt v m.standing q w → r ≡ q }
+    ensures place { (slots : Slots) (v : View) (registry : Registry) (counts : Counts) (m : Memory) (r : Ref) (w x : Member) → HoldMemory slots v registry counts m → IsObjectAt v m.standing r w → IsObjectAt v m.standing r x → w ≡ x }
+    ensures object { (slots : Slots) (v : View) (registry : Registry) (counts : Counts) (m : Memory) (r q : Ref) (w : Member) → HoldMemory slots v registry counts m → IsObjectAt v m.standing r w → IsObjectAt v m.standing q w → r ≡ q }
 {}
 
 /// A version of a chain may change: all is held as before, with that version in its place, where the objects of it that are listed stand where they stood; of a static row it is enough that no entry came to be but of what was not there.
 pub fn a_version_may_change()
-    ensures changed { (slots : Slots) (old new : View) (registry : Registry) (counts : Counts) (m : Memory) (id j : ℕ) (p : PartitionEntry) (s : StandingVersion) (now : List Ref) (c : Version) → IsHeld slots old registry counts m → IsSummed old → IsWell new → IsSummed new → slice_index_or m.standing id None ≡ Some p → IsVersionAt p.versions j s →
+    ensures changed { (slots : Slots) (old new : View) (registry : Registry) (counts : Counts) (m : Memory) (id j : ℕ) (p : PartitionEntry) (s : StandingVersion) (now : List Ref) (c : Version) → HoldMemory slots old registry counts m → IsSummed old → IsWell new → IsSummed new → slice_index_or m.standing id None ≡ Some p → IsVersionAt p.versions j s →
         IsKeptBut s.object old new → IsVersionOf new s.object now c → IsWeighed old new s.version c →
-        ((w : Member) (r : Ref) → Contains m.recency w → w.chain ≡ id → w.version ≡ j → IsOfVersion old s w.position r → IsOfVersion new (standing s.object now c) w.position r) → IsHeld slots new registry counts (changed id j (standing s.object now c) new m) }
-    ensures entries { (slots : Slots) (old new : View) (registry : Registry) (counts : Counts) (m : Memory) (id j : ℕ) (p : PartitionEntry) (s : StandingVersion) (now : List Ref) (c : Version) → IsHeld slots old registry counts m → IsSummed old → IsWell new → IsSummed new → slice_index_or m.standing id None ≡ Some p → IsVersionAt p.versions j s →
+        ((w : Member) (r : Ref) → Contains m.recency w → w.chain ≡ id → w.version ≡ j → IsOfVersion old s w.position r → IsOfVersion new (standing s.object now c) w.position r) → HoldMemory slots new registry counts (version_changed id j (standing s.object now c) new m) }
+    ensures entries { (slots : Slots) (old new : View) (registry : Registry) (counts : Counts) (m : Memory) (id j : ℕ) (p : PartitionEntry) (s : StandingVersion) (now : List Ref) (c : Version) → HoldMemory slots old registry counts m → IsSummed old → IsWell new → IsSummed new → slice_index_or m.standing id None ≡ Some p → IsVersionAt p.versions j s →
         IsKeptBut s.object old new → IsVersionOf new s.object now c → IsWeighed old new s.version c → ((q : Ref) → Contains now q → Contains s.entries q ⊎ (body old q ≡ None)) →
-        ((x : Pos) (r : Ref) → Contains m.recency (record { chain = id; version = j; position = Some x }) → IsOfVersion old s (Some x) r → IsOfVersion new (standing s.object now c) (Some x) r) → IsHeld slots new registry counts (changed id j (standing s.object now c) new m) }
+        ((x : Pos) (r : Ref) → Contains m.recency (record { chain = id; version = j; position = Some x }) → IsOfVersion old s (Some x) r → IsOfVersion new (standing s.object now c) (Some x) r) → HoldMemory slots new registry counts (version_changed id j (standing s.object now c) new m) }
 {}
 
 /// A version of its end dummy alone is put over those of a chain; and one that has no listed object is dropped, when the newer ones have numbers less by one, and their pins and listed objects with them.
 pub fn a_version_comes_and_goes()
-    ensures added { (slots : Slots) (old new : View) (registry : Registry) (counts : Counts) (m : Memory) (id : ℕ) (p : PartitionEntry) (n : Ref) (c : Version) → IsHeld slots old registry counts m → IsWell new → slice_index_or m.standing id None ≡ Some p →
+    ensures added { (slots : Slots) (old new : View) (registry : Registry) (counts : Counts) (m : Memory) (id : ℕ) (p : PartitionEntry) (n : Ref) (c : Version) → HoldMemory slots old registry counts m → IsWell new → slice_index_or m.standing id None ≡ Some p →
         ((front : List PartitionEntry) (versions : List StandingVersion) (back : List PartitionEntry) (listed : List Ref) → AreStanding slots old (front ++ (partition_of p.root versions ∷ back)) listed →
         (end : Ref) × AreStanding slots new (front ++ (partition_of p.root (versions ++ (standing n (end ∷ []) c ∷ [])) ∷ back)) listed × IsUnlisted new end) →
-        ((q : Ref) (refs : List Ref) (d : Version) → IsVersionOf old q refs d → link_of new (Obj q 3) ≡ link_of old (Obj q 3)) → (end : Ref) × IsHeld slots new registry counts (more_versions id (standing n (end ∷ []) c) new m) × IsUnlisted new end }
-    ensures dropped { (slots : Slots) (old new : View) (registry : Registry) (counts : Counts) (m : Memory) (id j : ℕ) (p : PartitionEntry) (s : StandingVersion) → IsHeld slots old registry counts m → IsWell new → slice_index_or m.standing id None ≡ Some p → IsVersionAt p.versions j s →
+        ((q : Ref) (refs : List Ref) (d : Version) → IsVersionOf old q refs d → link_of new (Obj q 3) ≡ link_of old (Obj q 3)) → (end : Ref) × HoldMemory slots new registry counts (more_versions id (standing n (end ∷ []) c) new m) × IsUnlisted new end }
+    ensures dropped { (slots : Slots) (old new : View) (registry : Registry) (counts : Counts) (m : Memory) (id j : ℕ) (p : PartitionEntry) (s : StandingVersion) → HoldMemory slots old registry counts m → IsWell new → slice_index_or m.standing id None ≡ Some p → IsVersionAt p.versions j s →
         ((front : List PartitionEntry) (older : List StandingVersion) (t : StandingVersion) (newer : List StandingVersion) (back : List PartitionEntry) (listed : List Ref) → t.object ≡ s.object →
         AreStanding slots old (among front p.root older t newer back) listed → AreStanding slots new (front ++ (partition_of p.root (older ++ newer) ∷ back)) listed) →
-        ((q : Ref) (refs : List Ref) (d : Version) → q ≢ s.object → IsVersionOf old q refs d → link_of new (Obj q 3) ≡ link_of old (Obj q 3)) → IsHeld slots new (on_use id (without_version j) registry) counts (fewer_versions id j new m) }
+        ((q : Ref) (refs : List Ref) (d : Version) → q ≢ s.object → IsVersionOf old q refs d → link_of new (Obj q 3) ≡ link_of old (Obj q 3)) → HoldMemory slots new (on_use id (without_version j) registry) counts (fewer_versions id j new m) }
 {}
 
 /// A chain of no version comes with its root slot, and goes with it; its number is to be told then. Of a chain of no version nothing but its root slot stands.
 pub fn a_chain_comes_and_goes()
-    ensures opened { (slots : Slots) (old new : View) (registry : Registry) (counts : Counts) (m : Memory) (id : ℕ) (root : Root) (kind : ChainKind) → IsHeld slots old registry counts m → IsRootAdded old new root → SameButRoots old new → IsWell new → slice_index_or registry.uses id None ≡ None → IsHeld slots new (with_use id (Some (new_use root kind)) registry) counts (opened id root kind new m) }
-    ensures closed { (slots : Slots) (old new : View) (registry : Registry) (counts : Counts) (m : Memory) (id : ℕ) (root : Root) → IsHeld slots old registry counts m → IsRootDropped old new root → SameButRoots old new → IsWell new → slice_index_or m.standing id None ≡ Some (partition_of root []) →
-        IsHeld slots new (record { uses = put id None registry.uses; dropped = registry.dropped ++ (id ∷ []) }) counts (closed id new m) }
-    ensures empty { (slots : Slots) (v : View) (registry : Registry) (counts : Counts) (m : Memory) (id : ℕ) (k : KeptChain) → IsHeld slots v registry counts m → chain_at m id ≡ Some k → k.chain.versions ≡ [] → (u : Use) × (slice_index_or registry.uses id None ≡ Some u) × (slice_index_or m.standing id None ≡ Some (partition_of u.root [])) }
+    ensures opened { (slots : Slots) (old new : View) (registry : Registry) (counts : Counts) (m : Memory) (id : ℕ) (root : Root) (kind : ChainKind) → HoldMemory slots old registry counts m → IsRootAdded old new root → SameButRoots old new → IsWell new → slice_index_or registry.uses id None ≡ None → HoldMemory slots new (with_use id (Some (new_use root kind)) registry) counts (opened id root kind new m) }
+    ensures closed { (slots : Slots) (old new : View) (registry : Registry) (counts : Counts) (m : Memory) (id : ℕ) (root : Root) → HoldMemory slots old registry counts m → IsRootDropped old new root → SameButRoots old new → IsWell new → slice_index_or m.standing id None ≡ Some (partition_of root []) →
+        HoldMemory slots new (record { uses = put id None registry.uses; dropped = registry.dropped ++ (id ∷ []) }) counts (closed id new m) }
+    ensures empty { (slots : Slots) (v : View) (registry : Registry) (counts : Counts) (m : Memory) (id : ℕ) (k : KeptChain) → HoldMemory slots v registry counts m → chain_at m id ≡ Some k → k.chain.versions ≡ [] → (u : Use) × (slice_index_or registry.uses id None ≡ Some u) × (slice_index_or m.standing id None ≡ Some (partition_of u.root [])) }
 {}
 
 /// Each object is a version of a chain, or stands at a place of one; what is live is what the chains take, and there are as many objects as they have.
 pub fn each_object_is_of_a_chain()
-    ensures each { (slots : Slots) (v : View) (registry : Registry) (counts : Counts) (m : Memory) (r : Ref) → IsHeld slots v registry counts m → IsSummed v → IsSome (body v r) → ((id : ℕ) × (j : ℕ) × IsVersionObject m id j r) ⊎ ((w : Member) × IsObjectAt v m.standing r w) }
-    ensures bytes { (slots : Slots) (v : View) (registry : Registry) (counts : Counts) (m : Memory) → IsHeld slots v registry counts m → live_bytes v ≡ sum_by chain_bytes (present m.chains) }
-    ensures objects { (slots : Slots) (v : View) (registry : Registry) (counts : Counts) (m : Memory) → IsHeld slots v registry counts m → IsSummed v → objects v ≡ sum_by chain_objects (present m.chains) }
+    ensures each { (slots : Slots) (v : View) (registry : Registry) (counts : Counts) (m : Memory) (r : Ref) → HoldMemory slots v registry counts m → IsSummed v → IsSome (body v r) → ((id : ℕ) × (j : ℕ) × IsVersionObject m id j r) ⊎ ((w : Member) × IsObjectAt v m.standing r w) }
+    ensures bytes { (slots : Slots) (v : View) (registry : Registry) (counts : Counts) (m : Memory) → HoldMemory slots v registry counts m → live_bytes v ≡ sum_by chain_bytes (present m.chains) }
+    ensures objects { (slots : Slots) (v : View) (registry : Registry) (counts : Counts) (m : Memory) → HoldMemory slots v registry counts m → IsSummed v → objects v ≡ sum_by chain_objects (present m.chains) }
 {}
 
 /// A sound chain stays sound where it is pinned, released, detached, settled, begun to be updated, changed, and where a version comes or goes.
 pub fn a_sound_chain_stays_sound()
-    ensures pinned { (c : Shown) (version : ℕ) → IsSound c → version < length c.versions → (c.updating ≡ true → suc version < length c.versions) → IsSound (shown_pinned (pinned version c.pins) c) }
-    ensures released { (c : Shown) (pin : ℕ) → IsSound c → IsSound (shown_pinned (released pin c.pins) c) }
-    ensures detached { (c : Shown) → IsSound c → IsSound (shown_detached c) }
-    ensures settled { (c : Shown) → IsSound c → IsSound (shown_updating false c) }
-    ensures updating { (c : Shown) → IsSound c → c.kind ≡ Cache → c.attached ≡ true → 2 ≤ length c.versions → ((j : ℕ) → IsPinned c.pins j → suc j < length c.versions) → IsSound (shown_updating true c) }
-    ensures changed { (c : Shown) (j : ℕ) (f : Version → Version) → IsSound c → IsSound (on_version_of j f c) }
-    ensures more { (c : Shown) (v : Version) → IsSound c → IsSound (shown_with (c.versions ++ (v ∷ [])) c) }
-    ensures fewer { (c : Shown) (j : ℕ) → IsSound c → (IsPinned c.pins j → ⊥) → j < length c.versions → 2 ≤ length c.versions → (c.updating ≡ true → suc j < length c.versions) → (c.updating ≡ true → 3 ≤ length c.versions) → IsSound (shown_without j c) }
+    ensures pinned { (c : Shown) (version : ℕ) → IsSoundChain c → version < length c.versions → (c.updating ≡ true → suc version < length c.versions) → IsSoundChain (shown_pinned (pinned version c.pins) c) }
+    ensures released { (c : Shown) (pin : ℕ) → IsSoundChain c → IsSoundChain (shown_pinned (released pin c.pins) c) }
+    ensures detached { (c : Shown) → IsSoundChain c → IsSoundChain (shown_detached c) }
+    ensures settled { (c : Shown) → IsSoundChain c → IsSoundChain (shown_updating false c) }
+    ensures updating { (c : Shown) → IsSoundChain c → c.kind ≡ Cache → c.attached ≡ true → 2 ≤ length c.versions → ((j : ℕ) → IsPinned c.pins j → suc j < length c.versions) → IsSoundChain (shown_updating true c) }
+    ensures changed { (c : Shown) (j : ℕ) (f : Version → Version) → IsSoundChain c → IsSoundChain (on_version_of j f c) }
+    ensures more { (c : Shown) (v : Version) → IsSoundChain c → IsSoundChain (shown_with (c.versions ++ (v ∷ [])) c) }
+    ensures fewer { (c : Shown) (j : ℕ) → IsSoundChain c → (IsPinned c.pins j → ⊥) → j < length c.versions → 2 ≤ length c.versions → (c.updating ≡ true → suc j < length c.versions) → (c.updating ≡ true → 3 ≤ length c.versions) → IsSoundChain (shown_without j c) }
 {}
 
 /// Rows that fit together still do where versions go, and where one comes that has its end dummy alone.
@@ -160,11 +160,11 @@ pub fn a_version_may_change_under_the_recency_list()
 
 /// A memory keeps its rules where a chain gets the cleaner's mark or loses it, is pinned, and is pinned no longer; after objects moved; and where the recency list changes as it may.
 pub fn a_memory_keeps_its_rules()
-    ensures passed { (S : ℕ) (slots : Slots) (v : View) (registry : Registry) (counts : Counts) (m : Memory) (id : ℕ) (passed : Bool) → IsMemory S slots v registry counts m → HasChain m id → IsMemory S slots v (on_use id (set_passed passed) registry) counts (with_chains (on_chain id (marked passed) m.chains) m) }
+    ensures passed { (S : ℕ) (slots : Slots) (v : View) (registry : Registry) (counts : Counts) (m : Memory) (id : ℕ) (passed : Bool) → IsMemory S slots v registry counts m → HasChain m id → IsMemory S slots v (on_use id (set_passed passed) registry) counts (with_chains (on_chain id (mark_passed passed) m.chains) m) }
     ensures pinned { (S : ℕ) (slots : Slots) (v : View) (registry : Registry) (counts : Counts) (m : Memory) (id : ℕ) (version : ℕ) → IsMemory S slots v registry counts m → HasChain m id → ((k : KeptChain) → chain_at m id ≡ Some k → version < length k.chain.versions) → ((k : KeptChain) → chain_at m id ≡ Some k → k.chain.updating ≡ true → suc version < length k.chain.versions) →
         IsMemory S slots v (on_use id (with_pin version) registry) counts (with_chains (on_chain id (on_shown (λ c. shown_pinned (pinned version c.pins) c)) m.chains) m) }
     ensures released { (S : ℕ) (slots : Slots) (v : View) (registry : Registry) (counts : Counts) (m : Memory) (id : ℕ) (pin : ℕ) → IsMemory S slots v registry counts m → HasChain m id → IsMemory S slots v (on_use id (without_pin pin) registry) counts (with_chains (on_chain id (on_shown (λ c. shown_pinned (released pin c.pins) c)) m.chains) m) }
-    ensures moved { (S : ℕ) (slots : Slots) (old new : View) (registry : Registry) (counts : Counts) (m : Memory) (names : List (Ref × Ref)) → IsMemory S slots old registry counts m → Renamed old new names → IsWell new → IsMemory S slots new registry counts (moved names new m) }
+    ensures moved { (S : ℕ) (slots : Slots) (old new : View) (registry : Registry) (counts : Counts) (m : Memory) (names : List (Ref × Ref)) → IsMemory S slots old registry counts m → Renamed old new names → IsWell new → IsMemory S slots new registry counts (under_new_names names new m) }
     ensures pushed { (S : ℕ) (slots : Slots) (old new : View) (registry : Registry) (counts : Counts) (m : Memory) (r : Ref) (w : Member) → IsMemory S slots old registry counts m → ((e : End) → IsElsewhere slots old e → link_of new e ≡ link_of old e) → SameObjects old new → IsWell new → IsObjectAt old m.standing r w → (Contains m.recency w → ⊥) → IsSomeAnd (chain_at m w.chain) (λ k. MayBeListed k.chain w.version w.position) →
         ((xs : List Ref) → IsList slots old xs → IsList slots new (xs ++ (r ∷ []))) → ((e : End) → link_of old e ≡ None → e ≢ Obj r 0 → e ≢ Obj r 1 → link_of new e ≡ None) → IsMemory S slots new registry counts (listed_as (m.recency ++ (w ∷ [])) new m) }
     ensures taken { (S : ℕ) (slots : Slots) (old new : View) (registry : Registry) (counts : Counts) (m : Memory) (r : Ref) (front : List Member) (w : Member) (back : List Member) → IsMemory S slots old registry counts m → ((e : End) → IsElsewhere slots old e → link_of new e ≡ link_of old e) → SameObjects old new → IsWell new → m.recency ≡ front ++ (w ∷ back) → IsObjectAt old m.standing r w → (IsSomeAnd (chain_at m w.chain) (λ k. MustBeListed k.chain w.version w.position) → ⊥) →

@@ -18,7 +18,7 @@ use Rattle.lsa_list.specs.declared.recency.List.{List as Slots}
 use Rattle.rc_core.specs.Version.{Version}
 use Rattle.rc_version.specs.Versions.{HasStatics, IsKeptBut, IsUnlisted, IsVersionOf, version_bytes}
 use Rattle.rc_version.specs.laws.Staying.{version-kind}
-use Rattle.rc_partition.specs.Partitions.{StandingVersion, PartitionEntry, AreStanding, IsPartitionEntry, IsRowOf, IsRowOfAny, objects_of, partition_bytes, partition_of, roots_of, standing}
+use Rattle.rc_partition.specs.Partitions.{StandingVersion, PartitionEntry, AreStanding, IsPartitionEntry, IsRowOfVersion, IsRowOfAny, heads_of, partition_bytes, partition_of, roots_of, standing}
 use Rattle.rc_partition.specs.laws.Apart.{entries-apart, one-version, row-recency, row-version}
 use Rattle.rc_partition.specs.laws.Changed.{all-recency, roots-among, some_or_none}
 use Rattle.rc_partition.specs.laws.Lists.{elem-cases, elem-first, elem-here, elem-left, elem-map, elem-mapped, elem-none, elem-pushed, elem-replaced, elem-reversed, elem-still, elem-unreversed, once-beside, sum-middle}
@@ -30,8 +30,8 @@ pub other-root : (front back : List PartitionEntry) (root : Root) (vs : List Sta
 other-root front back root vs once p on same = once-beside (roots_of front) (roots_of back) root (subst (AllPairs ◌≢◌) (map-append (λ (q : PartitionEntry). q.root) front (partition_of root vs ∷ back)) once)
     (subst (λ l. Contains l root) (map-append (λ (q : PartitionEntry). q.root) front back) (subst (Contains (roots_of (front ++ back))) same (elem-map (λ (q : PartitionEntry). q.root) (front ++ back) p on)))
 
-objects_pushed : (vs : List StandingVersion) (s : StandingVersion) → reverse (objects_of (vs ++ (s ∷ []))) ≡ s.object ∷ reverse (objects_of vs)
-objects_pushed vs s = ap reverse (map-append (λ (t : StandingVersion). t.object) vs (s ∷ [])) ∙ reverse-append (objects_of vs) (s.object ∷ [])
+objects_pushed : (vs : List StandingVersion) (s : StandingVersion) → reverse (heads_of (vs ++ (s ∷ []))) ≡ s.object ∷ reverse (heads_of vs)
+objects_pushed vs s = ap reverse (map-append (λ (t : StandingVersion). t.object) vs (s ∷ [])) ∙ reverse-append (heads_of vs) (s.object ∷ [])
 
 more : (new mid old f o b n : ℕ) → new ≡ mid → mid ≡ old + n → old ≡ f + (o + b) → new ≡ f + ((o + (n + 0)) + b)
 more new mid old f o b n same made is = omega (arith, same, made, is)
@@ -46,21 +46,21 @@ module _ (slots : Slots) (old mid new : View) (front : List PartitionEntry) (roo
   not-new p k t on same = some_and_none (body old n) _ fresh (subst (λ q. IsSomeAnd (body old q) (λ b. b.0 ≡ VersionKind)) same (version-kind old t.object t.entries t.version (k.versions t on)))
 
   -- before it is put over the others
-  pub mid-path : IsPath 1 0 (link_of mid) (Slot root) (reverse (objects_of vs)) None
-  mid-path = path-same 1 0 (link_of old) (link_of mid) (Slot root) (reverse (objects_of vs)) None (kept.links (Slot root) tt) (all-from_members 0 (λ e. link_of mid e ≡ link_of old e) (reverse (objects_of vs)) (λ r k. kept.links (Obj r 0) (omega arith))) this_stands.chain
+  pub mid-path : IsPath 1 0 (link_of mid) (Slot root) (reverse (heads_of vs)) None
+  mid-path = path-same 1 0 (link_of old) (link_of mid) (Slot root) (reverse (heads_of vs)) None (kept.links (Slot root) tt) (all-from_members 0 (λ e. link_of mid e ≡ link_of old e) (reverse (heads_of vs)) (λ r k. kept.links (Obj r 0) (omega arith))) this_stands.chain
 
   pub mid-slot : IsEnd mid (Slot root)
   mid-slot = kept.roots root this_stands.slot
 
   module _ (well_mid : IsWell mid) (is : IsVersionOf mid n (end ∷ []) c) (none : c.statics ≡ None) (bytes : version_bytes c ≡ 152) (unlisted : (r : Ref) → body old r ≡ None → IsUnlisted mid r) (live : live_bytes mid ≡ live_bytes old + 152)
       (ins : IsInserted (link_of mid) (link_of new) (Slot root) (Obj n 1) (Obj n 0)) (outside : (e : End) → IsOutside 1 0 e → Slot root ≢ e → link_of new e ≡ link_of mid e)
-      (path : IsPath 1 0 (link_of new) (Slot root) (n ∷ reverse (objects_of vs)) None) (same : SameObjects mid new) where
+      (path : IsPath 1 0 (link_of new) (Slot root) (n ∷ reverse (heads_of vs)) None) (same : SameObjects mid new) where
     mid_this : IsPartitionEntry mid (partition_of root vs)
     mid_this = record { slot = mid-slot; chain = mid-path; versions = λ t on. kept.versions t.object t.entries t.version (not-new (partition_of root vs) this_stands t on) (this_stands.versions t on) }
 
     -- it is in no chain yet
-    loose : (p : PartitionEntry) → IsPartitionEntry mid p → Contains (objects_of p.versions) n → ⊥
-    loose p k on = let a = path-entered 1 0 (link_of mid) (Slot p.root) (reverse (objects_of p.versions)) None k.chain n (elem-reversed (objects_of p.versions) n on) in
+    loose : (p : PartitionEntry) → IsPartitionEntry mid p → Contains (heads_of p.versions) n → ⊥
+    loose p k on = let a = path-entered 1 0 (link_of mid) (Slot p.root) (reverse (heads_of p.versions)) None k.chain n (elem-reversed (heads_of p.versions) n on) in
         let clash : None ≡ Some a.0 = sym (unlisted n fresh 1 (omega arith)) ∙ well_mid.paired.mates a.0 (Obj n 1) a.1 in cc
 
     -- its end dummy was not there
@@ -77,17 +77,17 @@ module _ (slots : Slots) (old mid new : View) (front : List PartitionEntry) (roo
       ]
     ]
 
-    step_links : IsChainStep root (n ∷ reverse (objects_of vs)) mid new
-    step_links = inserted-step root mid new same n (reverse (objects_of vs)) mid-path ins outside
+    step_links : IsChainStep root (n ∷ reverse (heads_of vs)) mid new
+    step_links = inserted-step root mid new same n (reverse (heads_of vs)) mid-path ins outside
 
     new_version : IsVersionOf new n (end ∷ []) c
-    new_version = chain-version root (n ∷ reverse (objects_of vs)) mid new step_links n (end ∷ []) c is
+    new_version = chain-version root (n ∷ reverse (heads_of vs)) mid new step_links n (end ∷ []) c is
 
     -- the head is no row
-    heads_kind : (o : Ref) → Contains (n ∷ reverse (objects_of vs)) o → IsSomeAnd (body mid o) (λ b. b.0 ≡ VersionKind)
-    heads_kind o on = elim (elem-cases n o (reverse (objects_of vs)) on) [
+    heads_kind : (o : Ref) → Contains (n ∷ reverse (heads_of vs)) o → IsSomeAnd (body mid o) (λ b. b.0 ≡ VersionKind)
+    heads_kind o on = elim (elem-cases n o (reverse (heads_of vs)) on) [
       | inl here ↦ subst (λ q. IsSomeAnd (body mid q) (λ b. b.0 ≡ VersionKind)) here (version-kind mid n (end ∷ []) c is)
-      | inr later ↦ let t = elem-mapped (λ (s : StandingVersion). s.object) vs o (elem-unreversed (objects_of vs) o later) in
+      | inr later ↦ let t = elem-mapped (λ (s : StandingVersion). s.object) vs o (elem-unreversed (heads_of vs) o later) in
           subst (λ q. IsSomeAnd (body mid q) (λ b. b.0 ≡ VersionKind)) t.2 (version-kind mid t.0.object t.0.entries t.0.version (kept.versions t.0.object t.0.entries t.0.version (not-new (partition_of root vs) this_stands t.0 t.1) (this_stands.versions t.0 t.1)))
     ]
 
@@ -95,7 +95,7 @@ module _ (slots : Slots) (old mid new : View) (front : List PartitionEntry) (roo
     end-unlisted field low = step_links.others end field (λ on. row-version mid (standing n (end ∷ []) c) is end (inl (elem-first end [])) (heads_kind end on)) ∙ unlisted end end_fresh field low
 
     -- the only row of the new version
-    only_end : (r : Ref) → IsRowOf new (standing n (end ∷ []) c) r → end ≡ r
+    only_end : (r : Ref) → IsRowOfVersion new (standing n (end ∷ []) c) r → end ≡ r
     only_end r (inl on) = elim (elem-cases end r [] on) [ inl same ↦ same | inr later ↦ absurd (elem-none r later) ]
     only_end r (inr link) = absurd (let clash : None ≡ Some (Obj r 2) = sym (subst (HasStatics new n) none new_version.statics) ∙ link in cc)
 
@@ -104,10 +104,10 @@ module _ (slots : Slots) (old mid new : View) (front : List PartitionEntry) (roo
 
     step : IsBeside n root old new
     step = beside-then n root old mid new (kept-beside n root old mid kept)
-        (chain-beside root (n ∷ reverse (objects_of vs)) mid new step_links n heads_kind
-        (λ p ne k o in_p on. elim (elem-cases n o (reverse (objects_of vs)) on) [
-          | inl here ↦ loose p k (subst (Contains (objects_of p.versions)) (sym here) in_p)
-          | inr later ↦ entries-apart mid well_mid (partition_of root vs) p mid_this k ne o (elem-unreversed (objects_of vs) o later) in_p
+        (chain-beside root (n ∷ reverse (heads_of vs)) mid new step_links n heads_kind
+        (λ p ne k o in_p on. elim (elem-cases n o (reverse (heads_of vs)) on) [
+          | inl here ↦ loose p k (subst (Contains (heads_of p.versions)) (sym here) in_p)
+          | inr later ↦ entries-apart mid well_mid (partition_of root vs) p mid_this k ne o (elem-unreversed (heads_of vs) o later) in_p
         ]))
         (λ p ne k t on. not-new p k t on)
 
@@ -153,7 +153,7 @@ module _ (slots : Slots) (old mid new : View) (front : List PartitionEntry) (roo
           before,
           rows-were n root old new step w.1 (not-new (partition_of root vs) this_stands w.1 before) (this_stands.versions w.1 before) r w.4,
         )
-        | inr is_new ↦ inl (only_end r (subst (λ q. IsRowOf new q r) (sym is_new) w.4))
+        | inr is_new ↦ inl (only_end r (subst (λ q. IsRowOfVersion new q r) (sym is_new) w.4))
       ]
       | inr other ↦ let k = h.entries w.0 (elem-still front back (partition_of root vs) w.0 other) in
           inr (w.0, w.1, elem-still front back (partition_of root vs) w.0 other, w.3, rows-were n root old new step w.1 (not-new w.0 k w.1 w.3) (k.versions w.1 w.3) r w.4)

@@ -14,7 +14,7 @@ use Rattle.lsa_path.specs.laws.Paths.{same_object, same_some, path-rest, path-sa
 use Rattle.rc_core.specs.Version.{Version}
 use Rattle.rc_version.specs.Versions.{IsKeptBut, IsOutward, IsVersionOf}
 use Rattle.rc_version.specs.laws.Staying.{version-outward}
-use Rattle.rc_partition.specs.Partitions.{StandingVersion, PartitionEntry, IsPartitionEntry, IsRowOf, objects_of}
+use Rattle.rc_partition.specs.Partitions.{StandingVersion, PartitionEntry, IsPartitionEntry, IsRowOfVersion, heads_of}
 use Rattle.rc_partition.specs.laws.Apart.{row-version, same_root}
 use Rattle.rc_partition.specs.laws.Lists.{elem-first, elem-here, elem-later, elem-unreversed}
 
@@ -22,8 +22,8 @@ use Rattle.rc_partition.specs.laws.Lists.{elem-first, elem-here, elem-later, ele
 pub record IsBeside (n : Ref) (root : Root) (old new : View) : Type 0 where
   pub versions : (m : Ref) (refs : List Ref) (c : Version) → m ≢ n → IsVersionOf old m refs c → IsVersionOf new m refs c
   pub statics : (m : Ref) (refs : List Ref) (c : Version) → m ≢ n → IsVersionOf old m refs c → link_of new (Obj m 3) ≡ link_of old (Obj m 3)
-  pub rows : (t : StandingVersion) → t.object ≢ n → IsVersionOf old t.object t.entries t.version → (r : Ref) → IsRowOf old t r → (field : ℕ) → field ≤ 1 → link_of new (Obj r field) ≡ link_of old (Obj r field)
-  pub heads : (p : PartitionEntry) → p.root ≢ root → IsPartitionEntry old p → (o : Ref) → Contains (objects_of p.versions) o → link_of new (Obj o 0) ≡ link_of old (Obj o 0)
+  pub rows : (t : StandingVersion) → t.object ≢ n → IsVersionOf old t.object t.entries t.version → (r : Ref) → IsRowOfVersion old t r → (field : ℕ) → field ≤ 1 → link_of new (Obj r field) ≡ link_of old (Obj r field)
+  pub heads : (p : PartitionEntry) → p.root ≢ root → IsPartitionEntry old p → (o : Ref) → Contains (heads_of p.versions) o → link_of new (Obj o 0) ≡ link_of old (Obj o 0)
   pub slots : (s : Root) → s ≢ root → link_of new (Slot s) ≡ link_of old (Slot s)
   pub there : (s : Root) → IsEnd old (Slot s) → IsEnd new (Slot s)
 
@@ -38,11 +38,11 @@ kept-beside n root old new kept = record {
 }
 
 module _ (n : Ref) (root : Root) (old new : View) (step : IsBeside n root old new) where
-  pub rows-beside : (t : StandingVersion) → t.object ≢ n → IsVersionOf old t.object t.entries t.version → (r : Ref) → IsRowOf old t r → IsRowOf new t r
+  pub rows-beside : (t : StandingVersion) → t.object ≢ n → IsVersionOf old t.object t.entries t.version → (r : Ref) → IsRowOfVersion old t r → IsRowOfVersion new t r
   rows-beside t ne k r (inl on) = inl on
   rows-beside t ne k r (inr link) = inr (step.statics t.object t.entries t.version ne k ∙ link)
 
-  pub rows-were : (t : StandingVersion) → t.object ≢ n → IsVersionOf old t.object t.entries t.version → (r : Ref) → IsRowOf new t r → IsRowOf old t r
+  pub rows-were : (t : StandingVersion) → t.object ≢ n → IsVersionOf old t.object t.entries t.version → (r : Ref) → IsRowOfVersion new t r → IsRowOfVersion old t r
   rows-were t ne k r (inl on) = inl on
   rows-were t ne k r (inr link) = inr (sym (step.statics t.object t.entries t.version ne k) ∙ link)
 
@@ -50,8 +50,8 @@ module _ (n : Ref) (root : Root) (old new : View) (step : IsBeside n root old ne
   pub entry-beside : (p : PartitionEntry) → p.root ≢ root → ((t : StandingVersion) → Contains p.versions t → t.object ≢ n) → IsPartitionEntry old p → IsPartitionEntry new p
   entry-beside p ne apart k = record {
     slot = step.there p.root k.slot;
-    chain = path-same 1 0 (link_of old) (link_of new) (Slot p.root) (reverse (objects_of p.versions)) None (step.slots p.root ne)
-        (all-from_members 0 (λ e. link_of new e ≡ link_of old e) (reverse (objects_of p.versions)) (λ o on. step.heads p ne k o (elem-unreversed (objects_of p.versions) o on))) k.chain;
+    chain = path-same 1 0 (link_of old) (link_of new) (Slot p.root) (reverse (heads_of p.versions)) None (step.slots p.root ne)
+        (all-from_members 0 (λ e. link_of new e ≡ link_of old e) (reverse (heads_of p.versions)) (λ o on. step.heads p ne k o (elem-unreversed (heads_of p.versions) o on))) k.chain;
     versions = λ t on. step.versions t.object t.entries t.version (apart t on) (k.versions t on);
   }
 
@@ -90,7 +90,7 @@ module _ (root : Root) (objects : List Ref) (old new : View) (step : IsChainStep
   chain-static m = step.outside (Obj m 3) ((λ e. cc), (λ e. cc)) (λ e. cc)
 
   pub chain-beside : (n : Ref) → ((o : Ref) → Contains objects o → IsSomeAnd (body old o) (λ b. b.0 ≡ VersionKind))
-      → ((p : PartitionEntry) → p.root ≢ root → IsPartitionEntry old p → (o : Ref) → Contains (objects_of p.versions) o → Contains objects o → ⊥) → IsBeside n root old new
+      → ((p : PartitionEntry) → p.root ≢ root → IsPartitionEntry old p → (o : Ref) → Contains (heads_of p.versions) o → Contains objects o → ⊥) → IsBeside n root old new
   chain-beside n kinds apart = record {
     versions = λ m refs c ne k. chain-version m refs c k;
     statics = λ m refs c ne k. chain-static m;

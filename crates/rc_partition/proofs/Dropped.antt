@@ -18,7 +18,7 @@ use Rattle.rc_core.specs.Version.{Version, EndsWithDummy}
 use Rattle.rc_version.specs.Versions.{HasStatics, IsKeptBut, IsUnlisted, IsVersionOf, bytes_at, entries_bytes, statics_bytes, version_bytes}
 use Rattle.rc_version.specs.laws.Holding.{one-held}
 use Rattle.rc_version.specs.laws.Staying.{version-kind}
-use Rattle.rc_partition.specs.Partitions.{StandingVersion, PartitionEntry, AreStanding, IsPartitionEntry, IsRowOf, IsRowOfAny, among, objects_of, partition_bytes, partition_of}
+use Rattle.rc_partition.specs.Partitions.{StandingVersion, PartitionEntry, AreStanding, IsPartitionEntry, IsRowOfVersion, IsRowOfAny, among, heads_of, partition_bytes, partition_of}
 use Rattle.rc_partition.specs.laws.Apart.{entry-once, entries-apart, row-recency, row-version}
 use Rattle.rc_partition.specs.laws.Changed.{all-recency, among-cases, bytes-among, other-among, roots-among, this-among}
 use Rattle.rc_partition.specs.laws.Lists.{elem-cases, elem-here, elem-map, elem-mapped, elem-none, elem-replaced, elem-still, elem-unreversed, once-beside, sum-middle, sum-without}
@@ -31,12 +31,12 @@ bare-bytes v n end c h none =
     let one = one-held v end c.entries h.entries in let ends = subst EndsWithDummy one.1 h.version.ends in
     (λ i. 64 + (statics_bytes (none i) + entries_bytes (one.1 i))) ∙ (λ i. 64 + (0 + (bytes_at (ends.0 i) (ends.1 i) + 0)))
 
-objects_behind : (older newer : List StandingVersion) (s : StandingVersion) → reverse (objects_of (older ++ (s ∷ newer))) ≡ reverse (objects_of newer) ++ (s.object ∷ reverse (objects_of older))
-objects_behind older newer s = ap reverse (map-append (λ (t : StandingVersion). t.object) older (s ∷ newer)) ∙ reverse-append (objects_of older) (s.object ∷ objects_of newer)
-    ∙ ap (λ l. l ++ reverse (objects_of older)) (reverse-append (s.object ∷ []) (objects_of newer)) ∙ append_assoc (reverse (objects_of newer)) (s.object ∷ []) (reverse (objects_of older))
+objects_behind : (older newer : List StandingVersion) (s : StandingVersion) → reverse (heads_of (older ++ (s ∷ newer))) ≡ reverse (heads_of newer) ++ (s.object ∷ reverse (heads_of older))
+objects_behind older newer s = ap reverse (map-append (λ (t : StandingVersion). t.object) older (s ∷ newer)) ∙ reverse-append (heads_of older) (s.object ∷ heads_of newer)
+    ∙ ap (λ l. l ++ reverse (heads_of older)) (reverse-append (s.object ∷ []) (heads_of newer)) ∙ append_assoc (reverse (heads_of newer)) (s.object ∷ []) (reverse (heads_of older))
 
-objects_without : (older newer : List StandingVersion) → reverse (objects_of (older ++ newer)) ≡ reverse (objects_of newer) ++ reverse (objects_of older)
-objects_without older newer = ap reverse (map-append (λ (t : StandingVersion). t.object) older newer) ∙ reverse-append (objects_of older) (objects_of newer)
+objects_without : (older newer : List StandingVersion) → reverse (heads_of (older ++ newer)) ≡ reverse (heads_of newer) ++ reverse (heads_of older)
+objects_without older newer = ap reverse (map-append (λ (t : StandingVersion). t.object) older newer) ∙ reverse-append (heads_of older) (heads_of newer)
 
 less : (new mid old f o n b s : ℕ) → new + 152 ≡ mid → mid ≡ old → old ≡ f + ((o + (s + n)) + b) → s ≡ 152 → new ≡ f + ((o + n) + b)
 less new mid old f o n b s freed same is bytes = omega (arith, freed, same, is, bytes)
@@ -50,32 +50,32 @@ module _ (slots : Slots) (old : View) (front : List PartitionEntry) (root : Root
   pub s-stands : IsVersionOf old s.object s.entries s.version
   s-stands = this-stands.versions s (elem-here older newer s)
 
-  pub chain-is : IsPath 1 0 (link_of old) (Slot root) (reverse (objects_of newer) ++ (s.object ∷ reverse (objects_of older))) None
+  pub chain-is : IsPath 1 0 (link_of old) (Slot root) (reverse (heads_of newer) ++ (s.object ∷ reverse (heads_of older))) None
   chain-is = subst (λ l. IsPath 1 0 (link_of old) (Slot root) l None) (objects_behind older newer s) this-stands.chain
 
   pub slot-is : IsEnd old (Slot root)
   slot-is = this-stands.slot
 
-  heads_kind : (o : Ref) → Contains (reverse (objects_of newer) ++ (s.object ∷ reverse (objects_of older))) o → IsSomeAnd (body old o) (λ b. b.0 ≡ VersionKind)
+  heads_kind : (o : Ref) → Contains (reverse (heads_of newer) ++ (s.object ∷ reverse (heads_of older))) o → IsSomeAnd (body old o) (λ b. b.0 ≡ VersionKind)
   heads_kind o on =
-      let t = elem-mapped (λ (q : StandingVersion). q.object) (older ++ (s ∷ newer)) o (elem-unreversed (objects_of (older ++ (s ∷ newer))) o (subst (λ l. Contains l o) (sym (objects_behind older newer s)) on)) in
+      let t = elem-mapped (λ (q : StandingVersion). q.object) (older ++ (s ∷ newer)) o (elem-unreversed (heads_of (older ++ (s ∷ newer))) o (subst (λ l. Contains l o) (sym (objects_behind older newer s)) on)) in
       subst (λ q. IsSomeAnd (body old q) (λ b. b.0 ≡ VersionKind)) t.2 (version-kind old t.0.object t.0.entries t.0.version (this-stands.versions t.0 t.1))
 
-  chain_apart : (p : PartitionEntry) → p.root ≢ root → IsPartitionEntry old p → (o : Ref) → Contains (objects_of p.versions) o → Contains (reverse (objects_of newer) ++ (s.object ∷ reverse (objects_of older))) o → ⊥
+  chain_apart : (p : PartitionEntry) → p.root ≢ root → IsPartitionEntry old p → (o : Ref) → Contains (heads_of p.versions) o → Contains (reverse (heads_of newer) ++ (s.object ∷ reverse (heads_of older))) o → ⊥
   chain_apart p ne k o in_p on = entries-apart old well (partition_of root (older ++ (s ∷ newer))) p this-stands k ne o
-      (elem-unreversed (objects_of (older ++ (s ∷ newer))) o (subst (λ l. Contains l o) (sym (objects_behind older newer s)) on)) in_p
+      (elem-unreversed (heads_of (older ++ (s ∷ newer))) o (subst (λ l. Contains l o) (sym (objects_behind older newer s)) on)) in_p
 
   differs : (p : PartitionEntry) → p.root ≢ root → IsPartitionEntry old p → (t : StandingVersion) → Contains p.versions t → t.object ≢ s.object
-  differs p ne k t on same = chain_apart p ne k s.object (subst (Contains (objects_of p.versions)) same (elem-map (λ (q : StandingVersion). q.object) p.versions t on))
-      (elem-here (reverse (objects_of newer)) (reverse (objects_of older)) s.object)
+  differs p ne k t on same = chain_apart p ne k s.object (subst (Contains (heads_of p.versions)) same (elem-map (λ (q : StandingVersion). q.object) p.versions t on))
+      (elem-here (reverse (heads_of newer)) (reverse (heads_of older)) s.object)
 
   module _ (mid : View) (out : IsTakenOut (link_of old) (link_of mid) (Obj s.object 1) (Obj s.object 0)) (outside : (e : End) → IsOutside 1 0 e → Slot root ≢ e → link_of mid e ≡ link_of old e) (same : SameObjects old mid) where
-    links : IsChainStep root (reverse (objects_of newer) ++ (s.object ∷ reverse (objects_of older))) old mid
-    links = taken-step root old mid same well.paired s.object (reverse (objects_of newer)) (reverse (objects_of older)) chain-is out outside
+    links : IsChainStep root (reverse (heads_of newer) ++ (s.object ∷ reverse (heads_of older))) old mid
+    links = taken-step root old mid same well.paired s.object (reverse (heads_of newer)) (reverse (heads_of older)) chain-is out outside
 
     -- it is still what it was, and in no chain
     pub taken-version : IsVersionOf mid s.object s.entries s.version
-    taken-version = chain-version root (reverse (objects_of newer) ++ (s.object ∷ reverse (objects_of older))) old mid links s.object s.entries s.version s-stands
+    taken-version = chain-version root (reverse (heads_of newer) ++ (s.object ∷ reverse (heads_of older))) old mid links s.object s.entries s.version s-stands
 
     pub taken-unlisted : IsUnlisted mid s.object
     taken-unlisted field low = both field low
@@ -85,20 +85,20 @@ module _ (slots : Slots) (old : View) (front : List PartitionEntry) (root : Root
         both (suc zero) low = out.front
         both (suc (suc field)) low = absurd (omega (arith, low))
 
-    pub taken-row : (r : Ref) → IsRowOf old s r → IsUnlisted old r → IsUnlisted mid r
+    pub taken-row : (r : Ref) → IsRowOfVersion old s r → IsUnlisted old r → IsUnlisted mid r
     taken-row r row unset field low = links.others r field (λ on. row-version old s s-stands r row (heads_kind r on)) ∙ unset field low
 
     module _ (end : Ref) (entries : s.entries ≡ end ∷ []) (none : s.version.statics ≡ None) (unlisted : IsUnlisted old end)
-        (new : View) (kept : IsKeptBut s.object mid new) (live : live_bytes new + 152 ≡ live_bytes mid) (path : IsPath 1 0 (link_of mid) (Slot root) (reverse (objects_of newer) ++ reverse (objects_of older)) None) where
+        (new : View) (kept : IsKeptBut s.object mid new) (live : live_bytes new + 152 ≡ live_bytes mid) (path : IsPath 1 0 (link_of mid) (Slot root) (reverse (heads_of newer) ++ reverse (heads_of older)) None) where
       step : IsBeside s.object root old new
-      step = beside-then s.object root old mid new (chain-beside root (reverse (objects_of newer) ++ (s.object ∷ reverse (objects_of older))) old mid links s.object heads_kind chain_apart) (kept-beside s.object root mid new kept) differs
+      step = beside-then s.object root old mid new (chain-beside root (reverse (heads_of newer) ++ (s.object ∷ reverse (heads_of older))) old mid links s.object heads_kind chain_apart) (kept-beside s.object root mid new kept) differs
 
       beside_stands : (t : StandingVersion) → Contains (older ++ newer) t → IsVersionOf old t.object t.entries t.version
       beside_stands t on = this-stands.versions t (elem-still older newer s t on)
 
       beside_differs : (t : StandingVersion) → Contains (older ++ newer) t → t.object ≢ s.object
-      beside_differs t on same = once-beside (objects_of older) (objects_of newer) s.object (subst (AllPairs ◌≢◌) (map-append (λ (q : StandingVersion). q.object) older (s ∷ newer)) (entry-once old well (partition_of root (older ++ (s ∷ newer))) this-stands))
-          (subst (λ l. Contains l s.object) (map-append (λ (q : StandingVersion). q.object) older newer) (subst (Contains (objects_of (older ++ newer))) same (elem-map (λ (q : StandingVersion). q.object) (older ++ newer) t on)))
+      beside_differs t on same = once-beside (heads_of older) (heads_of newer) s.object (subst (AllPairs ◌≢◌) (map-append (λ (q : StandingVersion). q.object) older (s ∷ newer)) (entry-once old well (partition_of root (older ++ (s ∷ newer))) this-stands))
+          (subst (λ l. Contains l s.object) (map-append (λ (q : StandingVersion). q.object) older newer) (subst (Contains (heads_of (older ++ newer))) same (elem-map (λ (q : StandingVersion). q.object) (older ++ newer) t on)))
 
       root_differs : (p : PartitionEntry) → Contains (front ++ back) p → p.root ≢ root
       root_differs p on = other-root front back root (older ++ (s ∷ newer)) h.apart p on
@@ -109,8 +109,8 @@ module _ (slots : Slots) (old : View) (front : List PartitionEntry) (root : Root
       this_now : IsPartitionEntry new (partition_of root (older ++ newer))
       this_now = record {
         slot = step.there root this-stands.slot;
-        chain = path-same 1 0 (link_of mid) (link_of new) (Slot root) (reverse (objects_of (older ++ newer))) None (kept.links (Slot root) tt)
-            (all-from_members 0 (λ e. link_of new e ≡ link_of mid e) (reverse (objects_of (older ++ newer))) (λ r k. kept.links (Obj r 0) (omega arith)))
+        chain = path-same 1 0 (link_of mid) (link_of new) (Slot root) (reverse (heads_of (older ++ newer))) None (kept.links (Slot root) tt)
+            (all-from_members 0 (λ e. link_of new e ≡ link_of mid e) (reverse (heads_of (older ++ newer))) (λ r k. kept.links (Obj r 0) (omega arith)))
             (subst (λ l. IsPath 1 0 (link_of mid) (Slot root) l None) (sym (objects_without older newer)) path);
         versions = λ t on. step.versions t.object t.entries t.version (beside_differs t on) (beside_stands t on);
       }
@@ -126,13 +126,13 @@ module _ (slots : Slots) (old : View) (front : List PartitionEntry) (root : Root
       not_listed on = let a = path-entered 0 1 (link_of old) (Slot slots.front) listed (Some (Slot slots.back)) h.list.path end on in
           let clash : None ≡ Some a.0 = sym (unlisted 0 (omega arith)) ∙ well.paired.mates a.0 (Obj end 0) a.1 in cc
 
-      only_end : (r : Ref) → IsRowOf old s r → end ≡ r
+      only_end : (r : Ref) → IsRowOfVersion old s r → end ≡ r
       only_end r (inl on) = elim (elem-cases end r [] (subst (λ l. Contains l r) entries on)) [ inl is ↦ is | inr later ↦ absurd (elem-none r later) ]
       only_end r (inr link) = absurd (let clash : None ≡ Some (Obj r 2) = sym (subst (HasStatics old s.object) none s-stands.statics) ∙ link in cc)
 
       row_now : (r : Ref) → Contains listed r → IsRowOfAny old (among front root older s newer back) r → IsRowOfAny new (front ++ (partition_of root (older ++ newer) ∷ back)) r
       row_now r on w = elim (among-cases front back root older newer s w.0 w.1 w.2 w.3) [
-        | inl is ↦ absurd (not_listed (subst (Contains listed) (sym (only_end r (subst (λ q. IsRowOf old q r) (sym is) w.4))) on))
+        | inl is ↦ absurd (not_listed (subst (Contains listed) (sym (only_end r (subst (λ q. IsRowOfVersion old q r) (sym is) w.4))) on))
         | inr (inl beside) ↦ (
           partition_of root (older ++ newer),
           w.1,

@@ -20,7 +20,7 @@ use Rattle.lsa_tree.specs.Entries.{IsEntryKind}
 use Rattle.rc_core.specs.Version.{Version}
 use Rattle.rc_version.specs.Versions.{IsStaticsOf, IsVersionOf}
 use Rattle.rc_version.specs.laws.Staying.{entries-kind, version-kind}
-use Rattle.rc_partition.specs.Partitions.{StandingVersion, PartitionEntry, IsPartitionEntry, IsRowOf, objects_of}
+use Rattle.rc_partition.specs.Partitions.{StandingVersion, PartitionEntry, IsPartitionEntry, IsRowOfVersion, heads_of}
 use Rattle.rc_partition.specs.laws.Apart.{fields_differ, row-version, same_root, static-kind}
 use Rattle.rc_partition.specs.laws.Lists.{elem-map, elem-reversed}
 use Rattle.rc_partition.specs.laws.Same.{heads, tails}
@@ -176,7 +176,7 @@ version-end v n refs c f low h = version_ends (body v n) f low (version-kind v n
 module _ (v : View) (p : PartitionEntry) (h : IsPartitionEntry v p) (s : StandingVersion) (on : Contains p.versions s) where
   -- the versions over one and below it
   pub chain-split : (xs : List Ref) × (ys : List Ref) × IsPath 1 0 (link_of v) (Slot p.root) (xs ++ (s.object ∷ ys)) None
-  chain-split = let w = member-split (reverse (objects_of p.versions)) s.object (elem-reversed (objects_of p.versions) s.object (elem-map (λ (t : StandingVersion). t.object) p.versions s on)) in
+  chain-split = let w = member-split (reverse (heads_of p.versions)) s.object (elem-reversed (heads_of p.versions) s.object (elem-map (λ (t : StandingVersion). t.object) p.versions s on)) in
       (w.0, w.1, subst (λ l. IsPath 1 0 (link_of v) (Slot p.root) l None) w.2 h.chain)
 
 pub chain-below : (v : View) (root : Root) (xs : List Ref) (n : Ref) (ys : List Ref) → IsPath 1 0 (link_of v) (Slot root) (xs ++ (n ∷ ys)) None → IsPath 1 0 (link_of v) (Obj n 0) ys None
@@ -188,8 +188,8 @@ chain-few v well summed root xs p = path-few 1 0 fields_differ v well summed (Sl
 pub below-few : (v : View) → IsWell v → IsSummed v → (root : Root) (xs : List Ref) (n : Ref) (ys : List Ref) → IsPath 1 0 (link_of v) (Slot root) (xs ++ (n ∷ ys)) None → length ys ≤ objects v
 below-few v well summed root xs n ys p = let few = chain-few v well summed root (xs ++ (n ∷ ys)) p in let long = length-append xs (n ∷ ys) in omega (arith, few, long)
 
-pub objects-length : (vs : List StandingVersion) → length (reverse (objects_of vs)) ≡ length vs
-objects-length vs = length-reverse (objects_of vs) ∙ length-map vs (λ (s : StandingVersion). s.object)
+pub objects-length : (vs : List StandingVersion) → length (reverse (heads_of vs)) ≡ length vs
+objects-length vs = length-reverse (heads_of vs) ∙ length-map vs (λ (s : StandingVersion). s.object)
 
 pub number-length : (older : List StandingVersion) (s : StandingVersion) (newer : List StandingVersion) (count : ℕ) → count ≡ length (older ++ (s ∷ newer)) → count ≡ length older + (length newer + 1)
 number-length older s newer count is = let long = length-append older (s ∷ newer) in omega (arith, is, long)
@@ -208,21 +208,21 @@ static_entry_in : (o : Option (Kind × List ℕ)) → IsSomeAnd o (λ b. b.0 ≡
 static_entry_in None a b = a
 static_entry_in (Some k) a b = static_entry k.0 a b
 
-module _ (v : View) (s : StandingVersion) (h : IsVersionOf v s.object s.entries s.version) (r : Ref) (row : IsRowOf v s r) (kind : Kind) (is : IsSomeAnd (body v r) (λ b. b.0 ≡ kind)) where
+module _ (v : View) (s : StandingVersion) (h : IsVersionOf v s.object s.entries s.version) (r : Ref) (row : IsRowOfVersion v s r) (kind : Kind) (is : IsSomeAnd (body v r) (λ b. b.0 ≡ kind)) where
   pub row-there : IsSome (body v r)
   row-there = some-there _ (body v r) is
 
   pub row-entry : kind ≢ StaticKind → Contains s.entries r
   row-entry no_static = from_row row
     where
-      from_row : IsRowOf v s r → Contains s.entries r
+      from_row : IsRowOfVersion v s r → Contains s.entries r
       from_row (inl on) = on
       from_row (inr link) = absurd (no_static (kinds_same (body v r) kind StaticKind is (static-kind v s h r link)))
 
   pub row-static : kind ≡ StaticKind → IsStaticsOf v s.object r
   row-static static = from_row row
     where
-      from_row : IsRowOf v s r → IsStaticsOf v s.object r
+      from_row : IsRowOfVersion v s r → IsStaticsOf v s.object r
       from_row (inl on) = absurd (static_entry_in (body v r) (subst (λ k. IsSomeAnd (body v r) (λ b. b.0 ≡ k)) static is) (entries-kind v s.object s.entries s.version h r on))
       from_row (inr link) = link
 

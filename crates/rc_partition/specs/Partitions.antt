@@ -36,8 +36,8 @@ abbrev pub partition_of : Root → List StandingVersion → PartitionEntry
 partition_of root versions = record { root = root; versions = versions }
 
 -- the objects of versions
-abbrev pub objects_of : List StandingVersion → List Ref
-objects_of versions = map (λ s. s.object) versions
+abbrev pub heads_of : List StandingVersion → List Ref
+heads_of versions = map (λ s. s.object) versions
 
 -- the root slots of partitions
 abbrev pub roots_of : List PartitionEntry → List Root
@@ -46,16 +46,16 @@ roots_of partitions = map (λ p. p.root) partitions
 -- from its root slot the versions of a partition stand in the region, the newest first
 pub record IsPartitionEntry (v : View) (p : PartitionEntry) : Type 0 where
   pub slot : IsEnd v (Slot p.root)
-  pub chain : IsPath 1 0 (link_of v) (Slot p.root) (reverse (objects_of p.versions)) None
+  pub chain : IsPath 1 0 (link_of v) (Slot p.root) (reverse (heads_of p.versions)) None
   pub versions : (s : StandingVersion) → Contains p.versions s → IsVersionOf v s.object s.entries s.version
 
 -- the object is an entry of the version or its static row
-abbrev pub IsRowOf : View → StandingVersion → Ref → Type 0
-IsRowOf v s r = Contains s.entries r ⊎ IsStaticsOf v s.object r
+abbrev pub IsRowOfVersion : View → StandingVersion → Ref → Type 0
+IsRowOfVersion v s r = Contains s.entries r ⊎ IsStaticsOf v s.object r
 
 -- the object is an entry or a static row of one of the partitions
 abbrev pub IsRowOfAny : View → List PartitionEntry → Ref → Type 0
-IsRowOfAny v partitions r = (p : PartitionEntry) × (s : StandingVersion) × Contains partitions p × Contains p.versions s × IsRowOf v s r
+IsRowOfAny v partitions r = (p : PartitionEntry) × (s : StandingVersion) × Contains partitions p × Contains p.versions s × IsRowOfVersion v s r
 
 -- how many bytes a partition takes
 abbrev pub partition_bytes : PartitionEntry → ℕ

@@ -15,12 +15,12 @@ ghost use Rattle.rc_core.specs.Steps.{join_pt, set_flags, set_static_flag, set_t
 ghost use Rattle.rc_core.specs.Version.{Version};
 ghost use Rattle.rc_object.specs.Objects.{IsRewritten};
 ghost use Rattle.rc_version.specs.Versions.{IsKeptBut, IsUnlisted, IsVersionOf, IsWeighed, version_bytes};
-ghost use Rattle.rc_partition.specs.Partitions.{PartitionEntry, StandingVersion, AreStanding, IsRowOf, IsRowOfAny, among, partition_as, partition_objects, partition_of, roots_of, standing};
+ghost use Rattle.rc_partition.specs.Partitions.{PartitionEntry, StandingVersion, AreStanding, IsRowOfVersion, IsRowOfAny, among, partition_as, partition_objects, partition_of, roots_of, standing};
 
 /// Where one version of a partition changed, all stand as before with it in its place, and so where bytes of it were changed alone.
 pub fn a_changed_version_changes_nothing_else()
     ensures changed { (slots : Slots) (old new : View) (front : List PartitionEntry) (root : Root) (older : List StandingVersion) (s : StandingVersion) (newer : List StandingVersion) (back : List PartitionEntry) (listed now : List Ref) (c : Version) → IsWell old → IsSummed old → IsKeptBut s.object old new →
-        AreStanding slots old (among front root older s newer back) listed → IsVersionOf new s.object now c → IsWeighed old new s.version c → ((r : Ref) → Contains listed r → IsRowOf old s r → IsRowOf new (standing s.object now c) r) →
+        AreStanding slots old (among front root older s newer back) listed → IsVersionOf new s.object now c → IsWeighed old new s.version c → ((r : Ref) → Contains listed r → IsRowOfVersion old s r → IsRowOfVersion new (standing s.object now c) r) →
         ((r : Ref) → body old r ≡ None → IsUnlisted new r) → AreStanding slots new (among front root older (standing s.object now c) newer back) listed }
     ensures settled { (slots : Slots) (old new : View) (front : List PartitionEntry) (root : Root) (older : List StandingVersion) (s : StandingVersion) (newer : List StandingVersion) (back : List PartitionEntry) (listed now : List Ref) (c : Version) → IsWell old → IsSummed old → IsWell new → IsSummed new → IsKeptBut s.object old new →
         AreStanding slots old (among front root older s newer back) listed → IsVersionOf new s.object now c → IsWeighed old new s.version c → AreStanding slots new (among front root older (standing s.object now c) newer back) listed }
@@ -74,7 +74,7 @@ pub fn nothing_else_is_there()
 
 /// An object is an entry or the static row of one version only, and a version is one object of one partition.
 pub fn two_rows_are_rows_of_two_versions()
-    ensures row { (v : View) (s t : StandingVersion) (r : Ref) → IsWell v → IsVersionOf v s.object s.entries s.version → IsVersionOf v t.object t.entries t.version → IsRowOf v s r → IsRowOf v t r → s.object ≡ t.object }
+    ensures row { (v : View) (s t : StandingVersion) (r : Ref) → IsWell v → IsVersionOf v s.object s.entries s.version → IsVersionOf v t.object t.entries t.version → IsRowOfVersion v s r → IsRowOfVersion v t r → s.object ≡ t.object }
     ensures place { (slots : Slots) (v : View) (front us : List PartitionEntry) (root other : Root) (older olds : List StandingVersion) (s t : StandingVersion) (newer news : List StandingVersion) (back vs : List PartitionEntry) (listed xs : List Ref) → IsWell v →
         AreStanding slots v (among front root older s newer back) listed → AreStanding slots v (among us other olds t news vs) xs → s.object ≡ t.object → (root ≡ other) × (older ≡ olds) × (s ≡ t) × (newer ≡ news) }
 {}
@@ -84,7 +84,7 @@ pub fn a_version_has_a_place()
     ensures version { (partitions : List PartitionEntry) (p : PartitionEntry) (s : StandingVersion) → Contains partitions p → Contains p.versions s →
         (front : List PartitionEntry) × (older : List StandingVersion) × (newer : List StandingVersion) × (back : List PartitionEntry) × (partitions ≡ among front p.root older s newer back) }
     ensures row { (v : View) (partitions : List PartitionEntry) (r : Ref) → IsRowOfAny v partitions r →
-        (front : List PartitionEntry) × (root : Root) × (older : List StandingVersion) × (s : StandingVersion) × (newer : List StandingVersion) × (back : List PartitionEntry) × (partitions ≡ among front root older s newer back) × IsRowOf v s r }
+        (front : List PartitionEntry) × (root : Root) × (older : List StandingVersion) × (s : StandingVersion) × (newer : List StandingVersion) × (back : List PartitionEntry) × (partitions ≡ among front root older s newer back) × IsRowOfVersion v s r }
 {}
 
 /// An entry or a static row that is not listed is in no list, and what is listed is an entry or a static row.

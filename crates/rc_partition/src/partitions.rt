@@ -9,7 +9,7 @@ ghost use Rattle.lsa_list.specs.declared.recency.List.{List as Slots};
 ghost use Rattle.rc_core.specs.Steps.{version_of};
 ghost use Rattle.rc_core.specs.Version.{Version};
 ghost use Rattle.rc_version.specs.Versions.{IsMarked, IsUnlisted, IsVersionOf};
-ghost use Rattle.rc_partition.specs.Partitions.{PartitionEntry, StandingVersion, AreStanding, IsRowOf, IsRowOfAny, among, partition_of, standing};
+ghost use Rattle.rc_partition.specs.Partitions.{PartitionEntry, StandingVersion, AreStanding, IsRowOfVersion, IsRowOfAny, among, partition_of, standing};
 
 use crate::walks::{below_newer, chained, owner, root_over};
 use lsa_path::{insert_behind, take_out};
@@ -92,7 +92,7 @@ pub fn version<const S: usize>(region: &Region<S>, root: Root, number: u64) -> R
 pub fn home<const S: usize>(region: &Region<S>, r: Ref) -> (Root, u64)
     requires { (slots : Slots) × (partitions : List PartitionEntry) × (listed : List Name) × AreStanding slots region.now partitions listed × IsRowOfAny region.now partitions r }
     ensures { (slots : Slots) (front : List PartitionEntry) (root : Place) (older : List StandingVersion) (s : StandingVersion) (newer : List StandingVersion) (back : List PartitionEntry) (listed : List Name) → AreStanding slots region.now (among front root older s newer back) listed →
-        IsRowOf region.now s r → result ≡ (root, length older) }
+        IsRowOfVersion region.now s r → result ≡ (root, length older) }
 {
     region.known();
     let n = owner(region, r);

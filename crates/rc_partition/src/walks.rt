@@ -6,7 +6,7 @@ ghost use Rattle.lsa_region.specs.Region.{link_of, objects, IsEnd};
 ghost use Rattle.lsa_list.specs.Recency.{object_of};
 ghost use Rattle.lsa_path.specs.Path.{IsPath};
 ghost use Rattle.rc_version.specs.Versions.{IsStaticsOf, IsVersionOf};
-ghost use Rattle.rc_partition.specs.Partitions.{StandingVersion, IsRowOf};
+ghost use Rattle.rc_partition.specs.Partitions.{StandingVersion, IsRowOfVersion};
 
 use lsa_kinds::Kind;
 use lsa_region::{End, Ref, Region, Root};
@@ -116,8 +116,8 @@ fn owner_of_static<const S: usize>(region: &Region<S>, r: Ref) -> Ref
 
 /// The version of which an object is an entry or the static row.
 pub(crate) fn owner<const S: usize>(region: &Region<S>, r: Ref) -> Ref
-    requires { (s : StandingVersion) × IsVersionOf region.now s.object s.entries s.version × IsRowOf region.now s r }
-    ensures { (s : StandingVersion) → IsVersionOf region.now s.object s.entries s.version → IsRowOf region.now s r → result ≡ s.object }
+    requires { (s : StandingVersion) × IsVersionOf region.now s.object s.entries s.version × IsRowOfVersion region.now s r }
+    ensures { (s : StandingVersion) → IsVersionOf region.now s.object s.entries s.version → IsRowOfVersion region.now s r → result ≡ s.object }
 {
     match region.kind(r) {
         Kind::RowEntry => owner_of_entry(region, r),

@@ -5,8 +5,8 @@ use Rattle.std.proofs.Math.ListN.{set}
 use Rattle.std.proofs.lemmas.Bool.Decides.{eqb_tells}
 use Rattle.std.proofs.lemmas.List.{length-set, get_or-set_other, get_or-set_same, length-append}
 use Rattle.lsa_region.specs.declared.end.Root.{Root}
-use Rattle.rc_registry.specs.Registry.{Use, Registry, use_at, put, on_use, IsThere, HasRoot, IsOneOf, AreOnce}
-use Rattle.rc_registry.specs.Kept.{IsKept, IsTaken, IsLonger}
+use Rattle.rc_registry.specs.Registry.{Use, Registry, use_at, put, on_use, IsThere, HasRoot, IsNumberIn, AreOnce}
+use Rattle.rc_registry.specs.Kept.{IsKeptRegistry, IsTakenNumber, IsLonger}
 use Rattle.rc_registry.specs.laws.Numbers.{IsOneOf-front, IsOneOf-back, IsOneOf-parts, AreOnce-push, AreOnce-without, AreOnce-apart, length-AreOnce}
 use Rattle.rc_registry.specs.laws.Puts.{there, chain_of, put-within, put-behind, at-put, beside-put, long-put}
 
@@ -32,11 +32,11 @@ same-root r s e = λ i. record { number = e i }
 -- ---- what is kept
 
 -- where nothing is there
-pub kept-new : (vacant_room dropped_room : ℕ) → IsKept [] [] [] [] vacant_room dropped_room
+pub kept-new : (vacant_room dropped_room : ℕ) → IsKeptRegistry [] [] [] [] vacant_room dropped_room
 kept-new vacant_room dropped_room =
     record { gone = λ id one. absurd one; once = tt; vacant_fit = omega arith; dropped_fit = omega arith; owned = λ id u e. absurd (cc) }
 
-module _ (uses : List (Option Use)) (vacant dropped owners : List ℕ) (vacant_room dropped_room : ℕ) (kept : IsKept uses vacant dropped owners vacant_room dropped_room) where
+module _ (uses : List (Option Use)) (vacant dropped owners : List ℕ) (vacant_room dropped_room : ℕ) (kept : IsKeptRegistry uses vacant dropped owners vacant_room dropped_room) where
   -- one chain has a root slot
   pub one-root : (root : Root) (i j : ℕ) → IsSomeAnd (use_at uses i) (λ u. u.root ≡ root) → IsSomeAnd (use_at uses j) (λ u. u.root ≡ root) → i ≡ j
   one-root root i j at_i at_j =
@@ -48,11 +48,11 @@ module _ (uses : List (Option Use)) (vacant dropped owners : List ℕ) (vacant_r
       chain-at root (Some u) at = (u, refl, at)
 
   -- a chain that is there is neither vacant nor dropped
-  pub not-idle : (id : ℕ) → IsSome (use_at uses id) → IsOneOf (vacant ++ dropped) id → ⊥
+  pub not-idle : (id : ℕ) → IsSome (use_at uses id) → IsNumberIn (vacant ++ dropped) id → ⊥
   not-idle id some idle = let e = (kept.gone id idle).1 in let c = chain_of (use_at uses id) some in let clash : None ≡ Some c.0 = sym e ∙ c.1 in cc
 
   -- a chain changes, and stands behind the same root slot
-  pub kept-changed : (id : ℕ) (u v : Use) → use_at uses id ≡ Some u → v.root ≡ u.root → IsKept (put id (Some v) uses) vacant dropped owners vacant_room dropped_room
+  pub kept-changed : (id : ℕ) (u v : Use) → use_at uses id ≡ Some u → v.root ≡ u.root → IsKeptRegistry (put id (Some v) uses) vacant dropped owners vacant_room dropped_room
   kept-changed id u v known root =
       let lt : id < length uses = there uses id (subst (λ c. IsSome c) (sym known) refl) in
       let long : length (put id (Some v) uses) ≡ length uses = ap length (sym (put-within uses id (Some v) lt)) ∙ length-set uses id (Some v) in
@@ -70,11 +70,11 @@ module _ (uses : List (Option Use)) (vacant dropped owners : List ℕ) (vacant_r
 
   -- a chain is there that was not
   pub kept-added : (id : ℕ) (v : Use) (vacant_now owners_now : List ℕ) (vacant_room_now dropped_room_now : ℕ) → use_at uses id ≡ None → AreOnce (vacant_now ++ dropped)
-      → ((n : ℕ) → IsOneOf (vacant_now ++ dropped) n → IsOneOf (vacant ++ dropped) n × n ≢ id)
+      → ((n : ℕ) → IsNumberIn (vacant_now ++ dropped) n → IsNumberIn (vacant ++ dropped) n × n ≢ id)
       → length (put id (Some v) uses) ≤ vacant_room_now → length (put id (Some v) uses) ≤ dropped_room_now
       → ((n : ℕ) (u : Use) → use_at uses n ≡ Some u → u.root ≢ v.root)
       → ((n : ℕ) → n < length owners → get_or owners_now n 0 ≡ get_or owners n 0) → length owners ≤ length owners_now → v.root.number < length owners_now
-      → IsKept (put id (Some v) uses) vacant_now dropped (set owners_now v.root.number id) vacant_room_now dropped_room_now
+      → IsKeptRegistry (put id (Some v) uses) vacant_now dropped (set owners_now v.root.number id) vacant_room_now dropped_room_now
   kept-added id v vacant_now owners_now vacant_room_now dropped_room_now none once idle vacant_fit dropped_fit apart stay longer within =
       let long = long-put uses id (Some v) in
       record {
@@ -94,14 +94,14 @@ module _ (uses : List (Option Use)) (vacant dropped owners : List ℕ) (vacant_r
       }
 
   -- a chain is gone
-  pub kept-removed : (id : ℕ) → IsSome (use_at uses id) → IsKept (put id None uses) vacant (dropped ++ id ∷ []) owners vacant_room dropped_room
+  pub kept-removed : (id : ℕ) → IsSome (use_at uses id) → IsKeptRegistry (put id None uses) vacant (dropped ++ id ∷ []) owners vacant_room dropped_room
   kept-removed id some =
       let lt = there uses id some in
       let long : length (put id None uses) ≡ length uses = ap length (sym (put-within uses id None lt)) ∙ length-set uses id None in
       let gone-at : (n : ℕ) → use_at uses n ≡ None → use_at (put id None uses) n ≡ None =
       λ n e. elim (is_same n id) [ inl same ↦ ap (λ k. use_at (put id None uses) k) same ∙ at-put uses id None | inr other ↦ beside-put uses id None n other ∙ e ] in
       record {
-        gone = λ n idle. elim (IsOneOf-parts (vacant ++ dropped) (id ∷ []) n (subst (λ ns. IsOneOf ns n) (sym (append_assoc vacant dropped (id ∷ []))) idle)) [
+        gone = λ n idle. elim (IsOneOf-parts (vacant ++ dropped) (id ∷ []) n (subst (λ ns. IsNumberIn ns n) (sym (append_assoc vacant dropped (id ∷ []))) idle)) [
           | inl was ↦ let of = kept.gone n was in (omega (arith, long, of.0), gone-at n of.1)
           | inr this ↦ elim this [ inl e ↦ (omega (arith, long, lt, e), ap (λ k. use_at (put id None uses) k) (sym e) ∙ at-put uses id None) | inr none ↦ absurd none ]
         ];
@@ -123,12 +123,12 @@ module _ (uses : List (Option Use)) (vacant dropped owners : List ℕ) (vacant_r
       omega (arith, few, length-append (vacant ++ dropped) (id ∷ []), length-append vacant dropped, kept.dropped_fit)
 
 -- the first dropped number is told, and may be used again
-pub kept-told : (uses : List (Option Use)) (vacant : List ℕ) (id : ℕ) (dropped owners : List ℕ) (vacant_room dropped_room : ℕ) → IsKept uses vacant (id ∷ dropped) owners vacant_room dropped_room
-    → IsKept uses (vacant ++ id ∷ []) dropped owners vacant_room dropped_room
+pub kept-told : (uses : List (Option Use)) (vacant : List ℕ) (id : ℕ) (dropped owners : List ℕ) (vacant_room dropped_room : ℕ) → IsKeptRegistry uses vacant (id ∷ dropped) owners vacant_room dropped_room
+    → IsKeptRegistry uses (vacant ++ id ∷ []) dropped owners vacant_room dropped_room
 kept-told uses vacant id dropped owners vacant_room dropped_room kept =
     let same : vacant ++ (id ∷ dropped) ≡ (vacant ++ id ∷ []) ++ dropped = sym (append_assoc vacant (id ∷ []) dropped) in
     record {
-      gone = λ n idle. kept.gone n (subst (λ ns. IsOneOf ns n) (sym same) idle);
+      gone = λ n idle. kept.gone n (subst (λ ns. IsNumberIn ns n) (sym same) idle);
       once = subst AreOnce same kept.once;
       vacant_fit = kept.vacant_fit;
       dropped_fit = kept.dropped_fit;
@@ -136,7 +136,7 @@ kept-told uses vacant id dropped owners vacant_room dropped_room kept =
     }
 
 -- there is room for it among the vacant ones
-pub vacant-room : (uses : List (Option Use)) (vacant : List ℕ) (id : ℕ) (dropped owners : List ℕ) (vacant_room dropped_room : ℕ) → IsKept uses vacant (id ∷ dropped) owners vacant_room dropped_room
+pub vacant-room : (uses : List (Option Use)) (vacant : List ℕ) (id : ℕ) (dropped owners : List ℕ) (vacant_room dropped_room : ℕ) → IsKeptRegistry uses vacant (id ∷ dropped) owners vacant_room dropped_room
     → length vacant < vacant_room
 vacant-room uses vacant id dropped owners vacant_room dropped_room kept =
     let few = length-AreOnce (vacant ++ id ∷ dropped) (length uses) kept.once (λ n one. (kept.gone n one).0) in
@@ -174,12 +174,12 @@ module _ (uses : List (Option Use)) (dropped : List ℕ) (r : Registry) (view : 
       let known : d ≡ option_map f (use_at uses id) = e ∙ ap (option_map f) (read ∙ index-is uses id c is-within) in
       ap (λ us. seen us dropped) (put-within uses id d is-within ∙ ap (λ x. put id x uses) known) ∙ ap (on_use id f) view
 
-  pub kept-by : (f : Use → Use) (keeps : (u : Use) → (f u).root ≡ u.root) (vacant owners : List ℕ) (vacant_room dropped_room : ℕ) → IsKept uses vacant dropped owners vacant_room dropped_room
-      → (c d : Option Use) → c ≡ get_or uses id c → d ≡ option_map f c → IsKept (set uses id d) vacant dropped owners vacant_room dropped_room
+  pub kept-by : (f : Use → Use) (keeps : (u : Use) → (f u).root ≡ u.root) (vacant owners : List ℕ) (vacant_room dropped_room : ℕ) → IsKeptRegistry uses vacant dropped owners vacant_room dropped_room
+      → (c d : Option Use) → c ≡ get_or uses id c → d ≡ option_map f c → IsKeptRegistry (set uses id d) vacant dropped owners vacant_room dropped_room
   kept-by f keeps vacant owners vacant_room dropped_room kept c d read e =
       let u = is-known.0 in
       let changed : put id (Some (f u)) uses ≡ set uses id d = ap (λ x. put id x uses) (sym (e ∙ ap (option_map f) (read-chain c read))) ∙ sym (put-within uses id d is-within) in
-      subst (λ us. IsKept us vacant dropped owners vacant_room dropped_room) changed (kept-changed uses vacant dropped owners vacant_room dropped_room kept id u (f u) is-known.1 (keeps u))
+      subst (λ us. IsKeptRegistry us vacant dropped owners vacant_room dropped_room) changed (kept-changed uses vacant dropped owners vacant_room dropped_room kept id u (f u) is-known.1 (keeps u))
 
 -- ---- one more chain
 
@@ -191,14 +191,14 @@ nothing-behind (u ∷ us) (suc id) le = nothing-behind us id (omega arith)
 -- what is known of a number that was taken
 pub record IsNew (uses now : List (Option Use)) (vacant left dropped : List ℕ) (id : ℕ) : Type 0 where
   pub none : use_at uses id ≡ None
-  pub fresh : IsOneOf dropped id → ⊥
+  pub fresh : IsNumberIn dropped id → ⊥
   pub within : id < length now
   pub made : (c : Option Use) → set now id c ≡ put id c uses
   pub once : AreOnce (left ++ dropped)
-  pub idle : (n : ℕ) → IsOneOf (left ++ dropped) n → IsOneOf (vacant ++ dropped) n × n ≢ id
+  pub idle : (n : ℕ) → IsNumberIn (left ++ dropped) n → IsNumberIn (vacant ++ dropped) n × n ≢ id
   pub long : (c : Option Use) (room : ℕ) → length uses ≤ room → (vacant ≡ [] → length uses < room) → length (put id c uses) ≤ room
 
-pub taken-new : (uses now : List (Option Use)) (vacant left dropped owners : List ℕ) (vacant_room dropped_room id : ℕ) → IsKept uses vacant dropped owners vacant_room dropped_room → IsTaken uses now vacant left id
+pub taken-new : (uses now : List (Option Use)) (vacant left dropped owners : List ℕ) (vacant_room dropped_room id : ℕ) → IsKeptRegistry uses vacant dropped owners vacant_room dropped_room → IsTakenNumber uses now vacant left id
     → IsNew uses now vacant left dropped id
 taken-new uses now vacant left dropped owners vacant_room dropped_room id kept taken = elim taken [ inl again ↦ by-again again | inr more ↦ by-more more ]
   where
@@ -206,7 +206,7 @@ taken-new uses now vacant left dropped owners vacant_room dropped_room id kept t
     by-again (is, same) =
         let all : vacant ++ dropped ≡ left ++ id ∷ dropped = ap (λ ns. ns ++ dropped) is ∙ append_assoc left (id ∷ []) dropped in
         let once : AreOnce (left ++ id ∷ dropped) = subst AreOnce all kept.once in
-        let of = kept.gone id (subst (λ ns. IsOneOf ns id) (sym all) (IsOneOf-back left (id ∷ dropped) id (inl refl))) in
+        let of = kept.gone id (subst (λ ns. IsNumberIn ns id) (sym all) (IsOneOf-back left (id ∷ dropped) id (inl refl))) in
         record {
           none = of.1;
           fresh = λ one. AreOnce-apart left dropped id once (IsOneOf-back left dropped id one);
@@ -214,15 +214,15 @@ taken-new uses now vacant left dropped owners vacant_room dropped_room id kept t
           made = λ c. ap (λ us. set us id c) same ∙ put-within uses id c of.0;
           once = AreOnce-without left dropped id once;
           idle = λ n one. (
-            subst (λ ns. IsOneOf ns n) (sym all) (elim (IsOneOf-parts left dropped n one) [ inl a ↦ IsOneOf-front left (id ∷ dropped) n a | inr b ↦ IsOneOf-back left (id ∷ dropped) n (inr b) ]),
-            λ e. AreOnce-apart left dropped id once (subst (λ k. IsOneOf (left ++ dropped) k) e one),
+            subst (λ ns. IsNumberIn ns n) (sym all) (elim (IsOneOf-parts left dropped n one) [ inl a ↦ IsOneOf-front left (id ∷ dropped) n a | inr b ↦ IsOneOf-back left (id ∷ dropped) n (inr b) ]),
+            λ e. AreOnce-apart left dropped id once (subst (λ k. IsNumberIn (left ++ dropped) k) e one),
           );
           long = λ c room fit more. omega (arith, fit, ap length (sym (put-within uses id c of.0)), length-set uses id c);
         }
 
     by-more : (vacant ≡ []) × (left ≡ []) × (id ≡ length uses) × (now ≡ uses ++ None ∷ []) → IsNew uses now vacant left dropped id
     by-more (none, none_left, is, longer) =
-        let not-there : (n : ℕ) → IsOneOf (vacant ++ dropped) n → n ≢ id = λ n one e. omega (arith, (kept.gone n one).0, e, is) in
+        let not-there : (n : ℕ) → IsNumberIn (vacant ++ dropped) n → n ≢ id = λ n one e. omega (arith, (kept.gone n one).0, e, is) in
         let long : length (uses ++ None ∷ []) ≡ length uses + 1 = length-append uses (None ∷ []) in
         record {
           none = nothing-behind uses id (omega (arith, is));
@@ -230,7 +230,7 @@ taken-new uses now vacant left dropped owners vacant_room dropped_room id kept t
           within = subst (λ us. id < length us) (sym longer) (omega (arith, long, is));
           made = λ c. ap (λ us. set us id c) longer ∙ last uses id c is ∙ put-behind uses id c is;
           once = subst (λ ns. AreOnce (ns ++ dropped)) (none ∙ sym none_left) kept.once;
-          idle = λ n one. let was = subst (λ ns. IsOneOf (ns ++ dropped) n) (none_left ∙ sym none) one in (was, not-there n was);
+          idle = λ n one. let was = subst (λ ns. IsNumberIn (ns ++ dropped) n) (none_left ∙ sym none) one in (was, not-there n was);
           long = λ c room fit more. omega (arith, more none, ap length (sym (put-behind uses id c is)), length-append uses (c ∷ []));
         }
       where
@@ -241,8 +241,8 @@ taken-new uses now vacant left dropped owners vacant_room dropped_room id kept t
         last (u ∷ us) (suc k) c e = ap (λ vs. u ∷ vs) (last us k c (omega arith))
 
 -- owners that reach further
-pub kept-wider : (uses : List (Option Use)) (vacant dropped owners wider : List ℕ) (vacant_room dropped_room vacant_wider dropped_wider : ℕ) → IsKept uses vacant dropped owners vacant_room dropped_room
-    → IsLonger owners wider → vacant_room ≤ vacant_wider → dropped_room ≤ dropped_wider → IsKept uses vacant dropped wider vacant_wider dropped_wider
+pub kept-wider : (uses : List (Option Use)) (vacant dropped owners wider : List ℕ) (vacant_room dropped_room vacant_wider dropped_wider : ℕ) → IsKeptRegistry uses vacant dropped owners vacant_room dropped_room
+    → IsLonger owners wider → vacant_room ≤ vacant_wider → dropped_room ≤ dropped_wider → IsKeptRegistry uses vacant dropped wider vacant_wider dropped_wider
 kept-wider uses vacant dropped owners wider vacant_room dropped_room vacant_wider dropped_wider kept longer vacant_le dropped_le =
     record {
       gone = kept.gone;
@@ -252,10 +252,10 @@ kept-wider uses vacant dropped owners wider vacant_room dropped_room vacant_wide
       owned = λ id u e. let of = kept.owned id u e in (omega (arith, of.0, longer.longer), longer.stay u.root.number of.0 ∙ of.1);
     }
 
-pub taken-then : (uses same now : List (Option Use)) (vacant same_vacant left dropped owners : List ℕ) (vacant_room dropped_room id : ℕ) → IsKept uses vacant dropped owners vacant_room dropped_room
-    → same ≡ uses → same_vacant ≡ vacant → IsTaken same now same_vacant left id → IsNew uses now vacant left dropped id
+pub taken-then : (uses same now : List (Option Use)) (vacant same_vacant left dropped owners : List ℕ) (vacant_room dropped_room id : ℕ) → IsKeptRegistry uses vacant dropped owners vacant_room dropped_room
+    → same ≡ uses → same_vacant ≡ vacant → IsTakenNumber same now same_vacant left id → IsNew uses now vacant left dropped id
 taken-then uses same now vacant same_vacant left dropped owners vacant_room dropped_room id kept e f taken =
-    taken-new uses now vacant left dropped owners vacant_room dropped_room id kept (subst (λ us. IsTaken us now vacant left id) e (subst (λ ns. IsTaken same now ns left id) f taken))
+    taken-new uses now vacant left dropped owners vacant_room dropped_room id kept (subst (λ us. IsTakenNumber us now vacant left id) e (subst (λ ns. IsTakenNumber same now ns left id) f taken))
 
 -- no other chain stands behind the root slot
 pub no-other : (uses : List (Option Use)) (dropped : List ℕ) (r : Registry) → seen uses dropped ≡ r → (root : Root) → ((id : ℕ) → HasRoot r root id → ⊥) → (n : ℕ) (u : Use) → use_at uses n ≡ Some u → u.root ≢ root
@@ -276,8 +276,8 @@ then-ok (Err e) f h = h
 
 module _ (uses : List (Option Use)) (dropped : List ℕ) (r : Registry) (view : seen uses dropped ≡ r) (id : ℕ) (some : IsThere r id) where
   -- a call that may fail changes a chain, or leaves it as it is
-  pub kept-if : {A E : Type 0} (result : Result A E) (f : Use → Use) (keeps : (u : Use) → (f u).root ≡ u.root) (vacant owners : List ℕ) (vacant_room dropped_room : ℕ) → IsKept uses vacant dropped owners vacant_room dropped_room
-      → (c d : Option Use) → c ≡ get_or uses id c → OnOk result (d ≡ option_map f c) → OnErr result (d ≡ c) → IsKept (set uses id d) vacant dropped owners vacant_room dropped_room
+  pub kept-if : {A E : Type 0} (result : Result A E) (f : Use → Use) (keeps : (u : Use) → (f u).root ≡ u.root) (vacant owners : List ℕ) (vacant_room dropped_room : ℕ) → IsKeptRegistry uses vacant dropped owners vacant_room dropped_room
+      → (c d : Option Use) → c ≡ get_or uses id c → OnOk result (d ≡ option_map f c) → OnErr result (d ≡ c) → IsKeptRegistry (set uses id d) vacant dropped owners vacant_room dropped_room
   kept-if (Ok a) f keeps vacant owners vacant_room dropped_room kept c d read ok err = kept-by uses dropped r view id some f keeps vacant owners vacant_room dropped_room kept c d read ok
   kept-if (Err e) f keeps vacant owners vacant_room dropped_room kept c d read ok err =
       kept-by uses dropped r view id some (λ u. u) (λ u. refl) vacant owners vacant_room dropped_room kept c d read (err ∙ same c)
@@ -287,7 +287,7 @@ module _ (uses : List (Option Use)) (dropped : List ℕ) (r : Registry) (view : 
       same (Some u) = refl
 
 -- the slot of a chain's root has an owner
-pub has-owner : (uses : List (Option Use)) (vacant dropped owners : List ℕ) (vacant_room dropped_room : ℕ) (kept : IsKept uses vacant dropped owners vacant_room dropped_room) (r : Registry) → seen uses dropped ≡ r
+pub has-owner : (uses : List (Option Use)) (vacant dropped owners : List ℕ) (vacant_room dropped_room : ℕ) (kept : IsKeptRegistry uses vacant dropped owners vacant_room dropped_room) (r : Registry) → seen uses dropped ≡ r
     → (root : Root) (id : ℕ) → HasRoot r root id → (root.number < length owners) × (get_or owners root.number 0 ≡ id)
 has-owner uses vacant dropped owners vacant_room dropped_room kept r view root id has =
     at (use_at uses id) refl (subst (λ (s : Registry). HasRoot s root id) (sym view) has)

@@ -79,14 +79,14 @@ AreFree pins = (version : ℕ) → IsPinned pins version → ⊥
 -- ---- numbers
 
 -- the number is one of a list
-abbrev pub IsOneOf : List ℕ → ℕ → Type 0
-IsOneOf [] n = ⊥
-IsOneOf (m ∷ ms) n = (m ≡ n) ⊎ IsOneOf ms n
+abbrev pub IsNumberIn : List ℕ → ℕ → Type 0
+IsNumberIn [] n = ⊥
+IsNumberIn (m ∷ ms) n = (m ≡ n) ⊎ IsNumberIn ms n
 
 -- each number of a list stands there once
 abbrev pub AreOnce : List ℕ → Type 0
 AreOnce [] = Unit {0}
-AreOnce (m ∷ ms) = (IsOneOf ms m → ⊥) × AreOnce ms
+AreOnce (m ∷ ms) = (IsNumberIn ms m → ⊥) × AreOnce ms
 
 -- the number is greater than another one, where that is given
 abbrev pub IsAfter : Option ℕ → ℕ → Type 0

@@ -5,8 +5,8 @@ ghost use Rattle.std.specs.Vec.{vec_capacity};
 ghost use Rattle.std.specs.VecDeque.{deque_capacity};
 ghost use Rattle.rc_core.specs.Chains.{IsPinned};
 ghost use Rattle.rc_core.specs.Steps.{free_number, pin_at};
-ghost use Rattle.rc_registry.specs.Kept.{IsLonger, IsTaken};
-ghost use Rattle.rc_registry.specs.Registry.{AreFree, AreOnce, HasRoot, IsAfter, IsNext, IsOneOf, IsThere, detached, new_use, on_use, put, set_passed, set_updating, use_at, with_pin, with_use, without_pin, without_version};
+ghost use Rattle.rc_registry.specs.Kept.{IsLonger, IsTakenNumber};
+ghost use Rattle.rc_registry.specs.Registry.{AreFree, AreOnce, HasRoot, IsAfter, IsNext, IsNumberIn, IsThere, detached, new_use, on_use, put, set_passed, set_updating, use_at, with_pin, with_use, without_pin, without_version};
 
 use crate::uses::{self, Use, new_use};
 use lsa_region::Root;
@@ -31,13 +31,13 @@ impl Model for Registry {
     ghost use Rattle.std.specs.Vec.{vec_capacity};
     ghost use Rattle.std.specs.VecDeque.{deque_capacity};
     ghost use Rattle.rc_registry.specs.Registry.{Registry as Chains};
-    ghost use Rattle.rc_registry.specs.Kept.{IsKept};
+    ghost use Rattle.rc_registry.specs.Kept.{IsKeptRegistry};
 
     ghost Value = { Chains };
 
     ghost view = { λ r. record { uses = r.uses.items; dropped = r.dropped.items } };
 
-    ghost invariant = { λ r. IsKept r.uses.items r.vacant.items r.dropped.items r.owners.items (vec_capacity r.vacant) (deque_capacity r.dropped) };
+    ghost invariant = { λ r. IsKeptRegistry r.uses.items r.vacant.items r.dropped.items r.owners.items (vec_capacity r.vacant) (deque_capacity r.dropped) };
 }
 
 impl Registry {
@@ -56,7 +56,7 @@ impl Registry {
 
     /// What every registry keeps. It does nothing.
     pub fn known(&self)
-        ensures gone { (id : ℕ) → IsOneOf self.now.dropped id → use_at self.now.uses id ≡ None }
+        ensures gone { (id : ℕ) → IsNumberIn self.now.dropped id → use_at self.now.uses id ≡ None }
         ensures once { AreOnce self.now.dropped }
         ensures roots { (root : Root) (i j : ℕ) → HasRoot self.now root i → HasRoot self.now root j → i ≡ j }
     {
@@ -135,7 +135,7 @@ impl Registry {
         requires { (id : ℕ) → HasRoot self.old root id → ⊥ }
         ensures made { IfOk result (λ id. self.new ≡ with_use id (Some (new_use root kind)) self.old) }
         ensures vacant { IfOk result (λ id. use_at self.old.uses id ≡ None) }
-        ensures fresh { IfOk result (λ id. IsOneOf self.old.dropped id → ⊥) }
+        ensures fresh { IfOk result (λ id. IsNumberIn self.old.dropped id → ⊥) }
         ensures err { OnErr result (self.new ≡ self.old) }
     {
         make_room(
@@ -271,7 +271,7 @@ fn make_room(
 // Takes a number at which no chain is: one that is vacant, or one more.
 fn take_number(uses: &mut Vec<Option<Use>>, vacant: &mut Vec<u64>) -> u64
     requires { vacant.old.items ≡ [] → length uses.old.items < vec_capacity uses.old }
-    ensures taken { IsTaken uses.old.items uses.new.items vacant.old.items vacant.new.items result }
+    ensures taken { IsTakenNumber uses.old.items uses.new.items vacant.old.items vacant.new.items result }
     ensures room { vec_capacity vacant.new ≡ vec_capacity vacant.old }
 {
     if let Some(id) = vacant.pop() {

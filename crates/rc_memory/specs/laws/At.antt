@@ -3,7 +3,7 @@ use Rattle.std.proofs.Common.{◌≡◌, ℕ, zero, suc, List, [], ◌∷◌, �
 use Rattle.rc_partition.specs.Partitions.{PartitionEntry}
 use Rattle.rc_registry.specs.declared.uses.Use.{Use}
 use Rattle.rc_memory.specs.Memory.{KeptChain}
-use Rattle.rc_memory.specs.Kept.{AreKept, IsKept, kept, present}
+use Rattle.rc_memory.specs.Kept.{AreKept, IsKeptChain, chain_of_use, present}
 use Rattle.rc_memory.specs.laws.Places.{no_some, same_some}
 
 -- a chain, its use and its versions
@@ -13,13 +13,13 @@ pub record IsKeptAt (us : List (Option Use)) (ps : List (Option PartitionEntry))
   pub at : slice_index_or us id None ≡ Some used
   pub stands : slice_index_or ps id None ≡ Some partition
   pub root : partition.root ≡ used.root
-  pub same : k ≡ kept used partition
+  pub same : k ≡ chain_of_use used partition
 
-some-of : (u : Option Use) (p : Option PartitionEntry) (c : Option KeptChain) (k : KeptChain) → IsKept u p c → c ≡ Some k → (used : Use) × (partition : PartitionEntry) × (u ≡ Some used) × (p ≡ Some partition) × (partition.root ≡ used.root) × (k ≡ kept used partition)
+some-of : (u : Option Use) (p : Option PartitionEntry) (c : Option KeptChain) (k : KeptChain) → IsKeptChain u p c → c ≡ Some k → (used : Use) × (partition : PartitionEntry) × (u ≡ Some used) × (p ≡ Some partition) × (partition.root ≡ used.root) × (k ≡ chain_of_use used partition)
 some-of None None c k h e = absurd (no_some k (sym h ∙ e))
 some-of None (Some p) c k h e = absurd h
 some-of (Some u) None c k h e = absurd h
-some-of (Some u) (Some p) c k h e = (u, p, refl, refl, h.0, same_some k (kept u p) (sym e ∙ h.1))
+some-of (Some u) (Some p) c k h e = (u, p, refl, refl, h.0, same_some k (chain_of_use u p) (sym e ∙ h.1))
 
 pub kept-at : (us : List (Option Use)) (ps : List (Option PartitionEntry)) (cs : List (Option KeptChain)) (id : ℕ) (k : KeptChain) → AreKept us ps cs → slice_index_or cs id None ≡ Some k → IsKeptAt us ps id k
 kept-at [] [] [] id k h e = absurd (no_some k e)
@@ -31,7 +31,7 @@ kept-at (u ∷ us) (p ∷ ps) (c ∷ cs) zero k h e = let s = some-of u p c k h.
 kept-at (u ∷ us) (p ∷ ps) (c ∷ cs) (suc id) k h e = let s = kept-at us ps cs id k h.1 e in record { used = s.used; partition = s.partition; at = s.at; stands = s.stands; root = s.root; same = s.same }
 
 -- where there is none there is no use
-none-of : (u : Option Use) (p : Option PartitionEntry) (c : Option KeptChain) → IsKept u p c → is_some u ≡ is_some c
+none-of : (u : Option Use) (p : Option PartitionEntry) (c : Option KeptChain) → IsKeptChain u p c → is_some u ≡ is_some c
 none-of None None c h = ap is_some (sym h)
 none-of None (Some p) c h = absurd h
 none-of (Some u) None c h = absurd h

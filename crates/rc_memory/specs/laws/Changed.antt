@@ -20,8 +20,8 @@ use Rattle.rc_partition.specs.laws.Changed.{stands-settled}
 use Rattle.rc_partition.specs.laws.Lists.{elem-cases, elem-none}
 use Rattle.rc_registry.specs.Registry.{Registry, put}
 use Rattle.rc_memory.specs.declared.counts.Counts.{Counts}
-use Rattle.rc_memory.specs.Memory.{Member, Memory, IsObjectAt, IsOfVersion, IsVersionAt, changed, on_chain, on_shown, on_version_of, partition_with, with_standing}
-use Rattle.rc_memory.specs.Kept.{AreKept, IsHeld, StandAt, kept, present}
+use Rattle.rc_memory.specs.Memory.{Member, Memory, IsObjectAt, IsOfVersion, IsVersionAt, version_changed, on_chain, on_shown, on_version_of, partition_with, with_standing}
+use Rattle.rc_memory.specs.Kept.{AreKept, HoldMemory, StandAt, chain_of_use, present}
 use Rattle.rc_memory.specs.laws.Listed.{one-at}
 use Rattle.rc_memory.specs.laws.Places.{same_some, version-place, version-there}
 use Rattle.rc_memory.specs.laws.Put.{beside-at, kept-put, placed, put-at, put-beside, put-same, used-at, IsPlaced, IsUsedAs}
@@ -57,7 +57,7 @@ on-with j t [] = refl
 on-with zero t (s ∷ ss) = refl
 on-with (suc j) t (s ∷ ss) = ap (λ l. s.version ∷ l) (on-with j t ss)
 
-module _ (slots : Slots) (old new : View) (registry : Registry) (counts : Counts) (m : Memory) (h : IsHeld slots old registry counts m)
+module _ (slots : Slots) (old new : View) (registry : Registry) (counts : Counts) (m : Memory) (h : HoldMemory slots old registry counts m)
     (id j : ℕ) (p : PartitionEntry) (s : StandingVersion) (there : slice_index_or m.standing id None ≡ Some p) (number : IsVersionAt p.versions j s) (now : List Ref) (c : Version) where
   abbrev after : PartitionEntry
   after = partition_of p.root (number.older ++ (standing s.object now c ∷ number.newer))
@@ -74,16 +74,16 @@ module _ (slots : Slots) (old new : View) (registry : Registry) (counts : Counts
   standing-is : put id (option_map (partition_with j (standing s.object now c)) (slice_index_or m.standing id None)) m.standing ≡ put id (Some (partition_of p.root (number.older ++ (standing s.object now c ∷ number.newer)))) m.standing
   standing-is = ap (λ o. put id (option_map (partition_with j (standing s.object now c)) o) m.standing) there ∙ ap (λ q. put id (Some q) m.standing) after-is
 
-  chains-are : on_chain id (on_shown (on_version_of j (λ v. c))) m.chains ≡ put id (Some (kept user.used (partition_of p.root (number.older ++ (standing s.object now c ∷ number.newer))))) m.chains
+  chains-are : on_chain id (on_shown (on_version_of j (λ v. c))) m.chains ≡ put id (Some (chain_of_use user.used (partition_of p.root (number.older ++ (standing s.object now c ∷ number.newer))))) m.chains
   chains-are = ap (λ o. put id (option_map (on_shown (on_version_of j (λ v. c))) o) m.chains) user.chain
       ∙ ap (λ (vs : List Version). put id (Some (record { chain = record { kind = user.used.kind; versions = vs; attached = user.used.attached; updating = user.used.updating; pins = user.used.pins }; passed = user.used.passed })) m.chains)
       (sym (on-with j (standing s.object now c) p.versions))
-      ∙ ap (λ q. put id (Some (kept user.used q)) m.chains) after-is
+      ∙ ap (λ q. put id (Some (chain_of_use user.used q)) m.chains) after-is
 
-  kept_after : AreKept registry.uses (put id (Some (partition_of p.root (number.older ++ (standing s.object now c ∷ number.newer)))) m.standing) (put id (Some (kept user.used (partition_of p.root (number.older ++ (standing s.object now c ∷ number.newer))))) m.chains)
-  kept_after = subst (λ us. AreKept us (put id (Some (partition_of p.root (number.older ++ (standing s.object now c ∷ number.newer)))) m.standing) (put id (Some (kept user.used (partition_of p.root (number.older ++ (standing s.object now c ∷ number.newer))))) m.chains))
+  kept_after : AreKept registry.uses (put id (Some (partition_of p.root (number.older ++ (standing s.object now c ∷ number.newer)))) m.standing) (put id (Some (chain_of_use user.used (partition_of p.root (number.older ++ (standing s.object now c ∷ number.newer))))) m.chains)
+  kept_after = subst (λ us. AreKept us (put id (Some (partition_of p.root (number.older ++ (standing s.object now c ∷ number.newer)))) m.standing) (put id (Some (chain_of_use user.used (partition_of p.root (number.older ++ (standing s.object now c ∷ number.newer))))) m.chains))
       (put-same registry.uses id user.used user.at)
-      (kept-put registry.uses m.standing m.chains id (Some user.used) (Some (partition_of p.root (number.older ++ (standing s.object now c ∷ number.newer)))) (Some (kept user.used (partition_of p.root (number.older ++ (standing s.object now c ∷ number.newer))))) h.kept (user.root, refl))
+      (kept-put registry.uses m.standing m.chains id (Some user.used) (Some (partition_of p.root (number.older ++ (standing s.object now c ∷ number.newer)))) (Some (chain_of_use user.used (partition_of p.root (number.older ++ (standing s.object now c ∷ number.newer))))) h.kept (user.root, refl))
 
   pub stands_before : AreStanding slots old (among place.front p.root number.older s number.newer place.back) h.listed
   stands_before = subst (λ ps. AreStanding slots old ps h.listed) (place.there p there ∙ ap (λ vs. place.front ++ (partition_of p.root vs ∷ place.back)) number.split) h.stands
@@ -140,7 +140,7 @@ module _ (slots : Slots) (old new : View) (registry : Registry) (counts : Counts
             ]
 
     -- all is held as before, with that version in its place
-    pub held-changed : IsSummed old → IsWell new → IsSummed new → IsWeighed old new s.version c → IsHeld slots new registry counts (changed id j (standing s.object now c) new m)
+    pub held-changed : IsSummed old → IsWell new → IsSummed new → IsWeighed old new s.version c → HoldMemory slots new registry counts (version_changed id j (standing s.object now c) new m)
     held-changed summed well summed_new weigh = record {
       well = well;
       region = refl;

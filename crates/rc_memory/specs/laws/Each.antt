@@ -9,14 +9,14 @@ use Rattle.lsa_list.specs.declared.recency.List.{List as Slots}
 use Rattle.lsa_tree.specs.laws.Orders.{ascending-stands}
 use Rattle.rc_core.specs.Version.{Version}
 use Rattle.rc_version.specs.Versions.{IsVersionOf, version_bytes}
-use Rattle.rc_partition.specs.Partitions.{IsRowOf, PartitionEntry, StandingVersion, version_objects}
+use Rattle.rc_partition.specs.Partitions.{IsRowOfVersion, PartitionEntry, StandingVersion, version_objects}
 use Rattle.rc_partition.specs.laws.Lists.{elem-cases, elem-none, elem-split, sum-mapped}
 use Rattle.rc_partition.specs.laws.Whole.{all-counted, nothing-else}
 use Rattle.rc_registry.specs.declared.uses.Use.{Use}
 use Rattle.rc_registry.specs.Registry.{Registry}
 use Rattle.rc_memory.specs.declared.counts.Counts.{Counts}
 use Rattle.rc_memory.specs.Memory.{KeptChain, Member, Memory, IsObjectAt, IsOfVersion, IsVersionAt, IsVersionObject}
-use Rattle.rc_memory.specs.Kept.{AreKept, IsHeld, kept, present}
+use Rattle.rc_memory.specs.Kept.{AreKept, HoldMemory, chain_of_use, present}
 use Rattle.rc_memory.specs.Room.{chain_bytes, chain_objects}
 
 -- ---- what is in a list has a number
@@ -33,7 +33,7 @@ pub number-of : (ss : List StandingVersion) (s : StandingVersion) → Contains s
 number-of ss s on = let k = elem-split ss s on in (length k.0, record { older = k.0; newer = k.1; split = k.2; number = refl })
 
 -- a row of a version is the static row, or stands at a position
-pub position-of : (v : View) (s : StandingVersion) → IsVersionOf v s.object s.entries s.version → (r : Ref) → IsRowOf v s r → (at : Option Pos) × IsOfVersion v s at r
+pub position-of : (v : View) (s : StandingVersion) → IsVersionOf v s.object s.entries s.version → (r : Ref) → IsRowOfVersion v s r → (at : Option Pos) × IsOfVersion v s at r
 position-of v s k r (inl on) = let w = ascending-stands v s.entries r k.tree.ascending on in (Some w.0, (on, w.1))
 position-of v s k r (inr link) = (None, link)
 
@@ -46,7 +46,7 @@ module _ (f : Version → ℕ) where
   abbrev chain_sum : KeptChain → ℕ
   chain_sum k = sum_by f k.chain.versions
 
-  one_sum : (u : Use) (p : PartitionEntry) → sum_by (λ (s : StandingVersion). f s.version) p.versions ≡ sum_by f (kept u p).chain.versions
+  one_sum : (u : Use) (p : PartitionEntry) → sum_by (λ (s : StandingVersion). f s.version) p.versions ≡ sum_by f (chain_of_use u p).chain.versions
   one_sum u p = sym (sum-mapped (λ (s : StandingVersion). s.version) f p.versions)
 
   pub chains-summed : (us : List (Option Use)) (ps : List (Option PartitionEntry)) (cs : List (Option KeptChain)) → AreKept us ps cs
@@ -62,9 +62,9 @@ module _ (f : Version → ℕ) where
   chains-summed (Some u ∷ us) (Some p ∷ ps) (c ∷ cs) h =
       let one = one_sum u p in let rest = chains-summed us ps cs h.1 in
       sum_by-cons (λ (q : PartitionEntry). sum_by (λ (s : StandingVersion). f s.version) q.versions) p (present ps) ∙ (λ i. one i + rest i)
-      ∙ sym (sum_by-cons (λ (k : KeptChain). sum_by f k.chain.versions) (kept u p) (present cs)) ∙ ap (λ o. sum_by (λ (k : KeptChain). sum_by f k.chain.versions) (present (o ∷ cs))) (sym h.0.1)
+      ∙ sym (sum_by-cons (λ (k : KeptChain). sum_by f k.chain.versions) (chain_of_use u p) (present cs)) ∙ ap (λ o. sum_by (λ (k : KeptChain). sum_by f k.chain.versions) (present (o ∷ cs))) (sym h.0.1)
 
-module _ (slots : Slots) (v : View) (registry : Registry) (counts : Counts) (m : Memory) (h : IsHeld slots v registry counts m) where
+module _ (slots : Slots) (v : View) (registry : Registry) (counts : Counts) (m : Memory) (h : HoldMemory slots v registry counts m) where
   -- what is live is what the chains take
   pub bytes-told : live_bytes v ≡ sum_by chain_bytes (present m.chains)
   bytes-told = h.stands.whole ∙ chains-summed version_bytes registry.uses m.standing m.chains h.kept

@@ -12,10 +12,10 @@ use Rattle.rc_partition.specs.Partitions.{PartitionEntry}
 use Rattle.rc_registry.specs.declared.uses.Use.{Use}
 use Rattle.rc_registry.specs.Registry.{Registry, on_use, set_passed, with_pin, without_pin}
 use Rattle.rc_memory.specs.declared.counts.Counts.{Counts}
-use Rattle.rc_memory.specs.Memory.{KeptChain, Member, Memory, HasChain, IsObjectAt, chain_at, listed_as, marked, moved, on_chain, on_shown, shown_pinned, with_chains}
+use Rattle.rc_memory.specs.Memory.{KeptChain, Member, Memory, HasChain, IsObjectAt, chain_at, listed_as, mark_passed, under_new_names, on_chain, on_shown, shown_pinned, with_chains}
 use Rattle.rc_memory.specs.Recency.{MayBeListed, MustBeListed}
 use Rattle.rc_memory.specs.Room.{FitTogether}
-use Rattle.rc_memory.specs.Kept.{IsMemory, IsSound, kept}
+use Rattle.rc_memory.specs.Kept.{IsMemory, IsSoundChain, chain_of_use}
 use Rattle.rc_memory.specs.laws.Listed.{held-pushed, held-taken, held-touched}
 use Rattle.rc_memory.specs.laws.Moved.{held-moved}
 use Rattle.rc_memory.specs.laws.Recent.{rule-alike, rule-pushed, rule-same, rule-taken, rule-touched}
@@ -24,18 +24,18 @@ use Rattle.rc_memory.specs.laws.Used.{held-used}
 
 module _ (S : ℕ) (slots : Slots) (v : View) (registry : Registry) (counts : Counts) (m : Memory) (id : ℕ) (h : IsMemory S slots v registry counts m) (there : HasChain m id) where
   -- what is done to the use of a chain alone
-  pub memory-used : (f : Use → Use) (g : KeptChain → KeptChain) → ((u : Use) → (f u).root ≡ u.root) → ((u : Use) (p : PartitionEntry) → kept (f u) p ≡ g (kept u p))
+  pub memory-used : (f : Use → Use) (g : KeptChain → KeptChain) → ((u : Use) → (f u).root ≡ u.root) → ((u : Use) (p : PartitionEntry) → chain_of_use (f u) p ≡ g (chain_of_use u p))
       → ((k : KeptChain) → ((g k).chain.kind ≡ k.chain.kind) × ((g k).chain.versions ≡ k.chain.versions) × ((g k).chain.updating ≡ k.chain.updating))
-      → ((k : KeptChain) → chain_at m id ≡ Some k → IsSound k.chain → IsSound (g k).chain) → IsMemory S slots v (on_use id f registry) counts (with_chains (on_chain id g m.chains) m)
+      → ((k : KeptChain) → chain_at m id ≡ Some k → IsSoundChain k.chain → IsSoundChain (g k).chain) → IsMemory S slots v (on_use id f registry) counts (with_chains (on_chain id g m.chains) m)
   memory-used f g root does alike sound = record {
     held = held-used slots v registry counts m id h.held there f g root does;
-    sound = each-on (λ k. IsSound k.chain) m.chains id g h.sound sound;
+    sound = each-on (λ k. IsSoundChain k.chain) m.chains id g h.sound sound;
     rule = rule-alike m (with_chains (on_chain id g m.chains) m) id g refl refl h.rule alike;
     fit = each-on (λ k. FitTogether S k.chain.versions) m.chains id g h.fit (λ k e fits. subst (FitTogether S) (sym (alike k).1) fits);
   }
 
-  pub memory-passed : (passed : Bool) → IsMemory S slots v (on_use id (set_passed passed) registry) counts (with_chains (on_chain id (marked passed) m.chains) m)
-  memory-passed passed = memory-used (set_passed passed) (marked passed) (λ u. refl) (λ u p. refl) (λ k. (refl, refl, refl)) (λ k e s. s)
+  pub memory-passed : (passed : Bool) → IsMemory S slots v (on_use id (set_passed passed) registry) counts (with_chains (on_chain id (mark_passed passed) m.chains) m)
+  memory-passed passed = memory-used (set_passed passed) (mark_passed passed) (λ u. refl) (λ u p. refl) (λ k. (refl, refl, refl)) (λ k e s. s)
 
   pub memory-pinned : (version : ℕ) → ((k : KeptChain) → chain_at m id ≡ Some k → version < length k.chain.versions) → ((k : KeptChain) → chain_at m id ≡ Some k → k.chain.updating ≡ true → suc version < length k.chain.versions)
       → IsMemory S slots v (on_use id (with_pin version) registry) counts (with_chains (on_chain id (on_shown (λ c. shown_pinned (pinned version c.pins) c)) m.chains) m)
@@ -47,11 +47,11 @@ module _ (S : ℕ) (slots : Slots) (v : View) (registry : Registry) (counts : Co
 
 module _ (S : ℕ) (slots : Slots) (old new : View) (registry : Registry) (counts : Counts) (m : Memory) (h : IsMemory S slots old registry counts m) where
   -- objects moved
-  pub memory-moved : (names : List (Ref × Ref)) → Renamed old new names → IsWell new → IsMemory S slots new registry counts (moved names new m)
+  pub memory-moved : (names : List (Ref × Ref)) → Renamed old new names → IsWell new → IsMemory S slots new registry counts (under_new_names names new m)
   memory-moved names renamed well = record {
     held = held-moved slots old new registry counts m names h.held renamed well;
     sound = h.sound;
-    rule = rule-same m (moved names new m) refl h.rule refl;
+    rule = rule-same m (under_new_names names new m) refl h.rule refl;
     fit = h.fit;
   }
 

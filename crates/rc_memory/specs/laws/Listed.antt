@@ -21,7 +21,7 @@ use Rattle.rc_partition.specs.laws.Listed.{stands-pushed, stands-removed, stands
 use Rattle.rc_registry.specs.Registry.{Registry}
 use Rattle.rc_memory.specs.declared.counts.Counts.{Counts}
 use Rattle.rc_memory.specs.Memory.{Member, Memory, IsObjectAt, IsOfVersion, IsVersionAt, listed_as}
-use Rattle.rc_memory.specs.Kept.{IsHeld, StandAt, present}
+use Rattle.rc_memory.specs.Kept.{HoldMemory, StandAt, present}
 use Rattle.rc_memory.specs.laws.Places.{heads, one-place, same_some, tails, version-there}
 use Rattle.rc_memory.specs.laws.Standing.{object-row, stand-both, stand-each}
 
@@ -101,7 +101,7 @@ stand-split v st (r ∷ refs) (x ∷ front) w back h = let k = stand-split v st 
 
 -- ---- what calls of the list are told
 
-module _ (slots : Slots) (v : View) (registry : Registry) (counts : Counts) (m : Memory) (h : IsHeld slots v registry counts m) where
+module _ (slots : Slots) (v : View) (registry : Registry) (counts : Counts) (m : Memory) (h : HoldMemory slots v registry counts m) where
   -- an object is in the list of references where its place is in the recency list, and nowhere else
   pub listed-at : (r : Ref) (w : Member) → IsObjectAt v m.standing r w → Contains m.recency w → Contains h.listed r
   listed-at r w here on = listed-member slots v h.well m.standing h.listed h.stands h.listed m.recency h.recency r w here on
@@ -138,7 +138,7 @@ module _ (slots : Slots) (v : View) (registry : Registry) (counts : Counts) (m :
 
 -- ---- the list changed
 
-module _ (slots : Slots) (old new : View) (registry : Registry) (counts : Counts) (m : Memory) (h : IsHeld slots old registry counts m)
+module _ (slots : Slots) (old new : View) (registry : Registry) (counts : Counts) (m : Memory) (h : HoldMemory slots old registry counts m)
     (elsewhere : (e : End) → IsElsewhere slots old e → link_of new e ≡ link_of old e) (objects : SameObjects old new) (well : IsWell new) where
   of_kept : (s : StandingVersion) (at : Option Pos) (r : Ref) → IsVersionOf old s.object s.entries s.version → IsOfVersion old s at r → IsOfVersion new s at r
   of_kept s None r k a = elsewhere (Obj s.object 3) (version-elsewhere slots old s.object 3 (version-kind old s.object s.entries s.version k)) ∙ a
@@ -156,12 +156,12 @@ module _ (slots : Slots) (old new : View) (registry : Registry) (counts : Counts
   all_kept : (refs : List Ref) (ws : List Member) → StandAt old m.standing refs ws → StandAt new m.standing refs ws
   all_kept refs ws k = stand-each old new m.standing m.standing refs ws (λ r w on in_ws. object_kept r w) k
 
-  held_listed : (refs : List Ref) (ws : List Member) → AreStanding slots new (present m.standing) refs → StandAt new m.standing refs ws → IsHeld slots new registry counts (listed_as ws new m)
+  held_listed : (refs : List Ref) (ws : List Member) → AreStanding slots new (present m.standing) refs → StandAt new m.standing refs ws → HoldMemory slots new registry counts (listed_as ws new m)
   held_listed refs ws stands k = record { well = well; region = refl; kept = h.kept; listed = refs; stands = stands; recency = k; dropped = h.dropped; counted = h.counted }
 
   -- one at the back
   pub held-pushed : (r : Ref) (w : Member) → IsObjectAt old m.standing r w → ((xs : List Ref) → IsList slots old xs → IsList slots new (xs ++ (r ∷ []))) → ((e : End) → link_of old e ≡ None → e ≢ Obj r 0 → e ≢ Obj r 1 → link_of new e ≡ None)
-      → IsHeld slots new registry counts (listed_as (m.recency ++ (w ∷ [])) new m)
+      → HoldMemory slots new registry counts (listed_as (m.recency ++ (w ∷ [])) new m)
   held-pushed r w here list unset = held_listed (h.listed ++ (r ∷ [])) (m.recency ++ (w ∷ []))
       (stands-pushed slots old new elsewhere objects (present m.standing) h.listed h.stands r (list h.listed h.stands.list) (object-row old m.standing r w here) unset)
       (stand-both new m.standing h.listed (r ∷ []) m.recency (w ∷ []) (all_kept h.listed m.recency h.recency) (object_kept r w here, tt))
@@ -178,14 +178,14 @@ module _ (slots : Slots) (old new : View) (registry : Registry) (counts : Counts
 
     -- one taken out
     pub held-taken : ((xs ys : List Ref) → IsList slots old (xs ++ (r ∷ ys)) → IsList slots new (xs ++ ys)) → link_of new (Obj r 0) ≡ None → link_of new (Obj r 1) ≡ None → ((e : End) → link_of old e ≡ None → link_of new e ≡ None)
-        → IsHeld slots new registry counts (listed_as (front ++ back) new m)
+        → HoldMemory slots new registry counts (listed_as (front ++ back) new m)
     held-taken list first_unset second_unset unset = held_listed (parts.before ++ parts.behind) (front ++ back)
         (stands-removed slots old new elsewhere objects (present m.standing) parts.before parts.behind r stands_parts (list parts.before parts.behind stands_parts.list) first_unset second_unset unset)
         (stand-both new m.standing parts.before parts.behind front back (all_kept parts.before front parts.front_stands) (all_kept parts.behind back parts.back_stands))
 
     -- one made the most recent one
     pub held-touched : ((xs ys : List Ref) → IsList slots old (xs ++ (r ∷ ys)) → IsList slots new ((xs ++ ys) ++ (r ∷ []))) → ((e : End) → link_of old e ≡ None → link_of new e ≡ None)
-        → IsHeld slots new registry counts (listed_as ((front ++ back) ++ (w ∷ [])) new m)
+        → HoldMemory slots new registry counts (listed_as ((front ++ back) ++ (w ∷ [])) new m)
     held-touched list unset = held_listed ((parts.before ++ parts.behind) ++ (r ∷ [])) ((front ++ back) ++ (w ∷ []))
         (stands-touched slots old new elsewhere objects (present m.standing) parts.before parts.behind r stands_parts (list parts.before parts.behind stands_parts.list) unset)
         (stand-both new m.standing (parts.before ++ parts.behind) (r ∷ []) (front ++ back) (w ∷ [])

@@ -18,8 +18,8 @@ use Rattle.rc_partition.specs.laws.Moved.{stands-renamed}
 use Rattle.rc_registry.specs.declared.uses.Use.{Use}
 use Rattle.rc_registry.specs.Registry.{Registry}
 use Rattle.rc_memory.specs.declared.counts.Counts.{Counts}
-use Rattle.rc_memory.specs.Memory.{KeptChain, Memory, IsOfVersion, IsVersionAt, moved}
-use Rattle.rc_memory.specs.Kept.{AreKept, IsHeld, IsKept, present}
+use Rattle.rc_memory.specs.Memory.{KeptChain, Memory, IsOfVersion, IsVersionAt, under_new_names}
+use Rattle.rc_memory.specs.Kept.{AreKept, HoldMemory, IsKeptChain, present}
 use Rattle.rc_memory.specs.laws.Places.{version-there}
 use Rattle.rc_memory.specs.laws.Standing.{at-mapped, present-mapped, stand-mapped}
 
@@ -32,7 +32,7 @@ module _ (names : List (Ref × Ref)) where
   same_length [] = refl
   same_length (s ∷ ss) = ap suc (same_length ss)
 
-  kept_moved : (u : Option Use) (p : Option PartitionEntry) (c : Option KeptChain) → IsKept u p c → IsKept u (option_map (partition_as names) p) c
+  kept_moved : (u : Option Use) (p : Option PartitionEntry) (c : Option KeptChain) → IsKeptChain u p c → IsKeptChain u (option_map (partition_as names) p) c
   kept_moved None None c h = h
   kept_moved None (Some p) c h = absurd h
   kept_moved (Some u) None c h = absurd h
@@ -66,7 +66,7 @@ module _ (slots : Slots) (old new : View) (registry : Registry) (counts : Counts
   of_moved renamed well s k (Some x) r h = (elem-map (named_as names) s.entries r h.0, entry-renamed old new names renamed well r x h.1)
 
   -- all is held as before, under new names
-  pub held-moved : IsHeld slots old registry counts m → Renamed old new names → IsWell new → IsHeld slots new registry counts (moved names new m)
+  pub held-moved : HoldMemory slots old registry counts m → Renamed old new names → IsWell new → HoldMemory slots new registry counts (under_new_names names new m)
   held-moved h renamed well = record {
     well = well;
     region = refl;

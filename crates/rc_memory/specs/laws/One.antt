@@ -11,7 +11,7 @@ use mathlib.Core.HLevel.{Σ_prop_path}
 use mathlib.Core.Logic.{∥∥₁_elim, ∥∥₁_prop}
 use Rattle.rc_memory.specs.declared.counts.Counts.{Counts}
 use Rattle.rc_memory.specs.Memory.{KeptChain, Memory}
-use Rattle.rc_memory.specs.Kept.{IsHeld, HasMemory, AreKept, StandAt, kept, present}
+use Rattle.rc_memory.specs.Kept.{HoldMemory, HasMemory, AreKept, StandAt, chain_of_use, present}
 use Rattle.rc_memory.specs.laws.Places.{heads, members-once, tails}
 
 pub memory-set : (m n : Memory) → IsProp (m ≡ n)
@@ -50,11 +50,11 @@ kept-same (None ∷ us) (Some p ∷ ps) qs cs ds a b e = absurd (some_use us p p
 kept-same (Some u ∷ us) (None ∷ ps) (q ∷ qs) (c ∷ cs) (d ∷ ds) a b e = absurd a.0
 kept-same (Some u ∷ us) (Some p ∷ ps) (None ∷ qs) (c ∷ cs) (d ∷ ds) a b e = absurd b.0
 kept-same (Some u ∷ us) (Some p ∷ ps) (Some q ∷ qs) (c ∷ cs) (d ∷ ds) a b e =
-    let head = heads p q (present ps) (present qs) e in let rest = kept-same us ps qs cs ds a.1 b.1 (tails p q (present ps) (present qs) e) in let one = a.0.1 ∙ ap (λ x. Some (kept u x)) head ∙ sym b.0.1 in
+    let head = heads p q (present ps) (present qs) e in let rest = kept-same us ps qs cs ds a.1 b.1 (tails p q (present ps) (present qs) e) in let one = a.0.1 ∙ ap (λ x. Some (chain_of_use u x)) head ∙ sym b.0.1 in
     ((λ i. Some (head i) ∷ rest.0 i), (λ i. one i ∷ rest.1 i))
 
 module _ (slots : Slots) (v : View) (registry : Registry) (counts : Counts) where
-  pub one-memory : (m n : Memory) → IsHeld slots v registry counts m → IsHeld slots v registry counts n → m ≡ n
+  pub one-memory : (m n : Memory) → HoldMemory slots v registry counts m → HoldMemory slots v registry counts n → m ≡ n
   one-memory m n a b =
       let roots = kept-roots registry.uses m.standing m.chains a.kept ∙ sym (kept-roots registry.uses n.standing n.chains b.kept) in
       let there = stands-once slots v (present m.standing) (present n.standing) a.listed b.listed a.stands b.stands roots in
@@ -69,5 +69,5 @@ module _ (S : ℕ) (slots : Slots) (v : View) (registry : Registry) (counts : Co
   memory-prop s t = Σ_prop_path (λ (m : Memory). ∥∥₁_prop) (∥∥₁_elim s.1 (memory-set s.0 t.0) (λ a. ∥∥₁_elim t.1 (memory-set s.0 t.0) (λ b. one-memory slots v registry counts s.0 t.0 a.held b.held)))
 
   -- what is kept is a memory that these are
-  pub kept-is : (s : HasMemory S slots v registry counts) (m : Memory) → IsHeld slots v registry counts m → s.0 ≡ m
+  pub kept-is : (s : HasMemory S slots v registry counts) (m : Memory) → HoldMemory slots v registry counts m → s.0 ≡ m
   kept-is s m b = ∥∥₁_elim s.1 (memory-set s.0 m) (λ a. one-memory slots v registry counts s.0 m a.held b)

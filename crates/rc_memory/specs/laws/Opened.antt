@@ -17,13 +17,13 @@ use Rattle.rc_registry.specs.declared.uses.Use.{Use}
 use Rattle.rc_registry.specs.Registry.{Registry, new_use, put, with_use}
 use Rattle.rc_memory.specs.declared.counts.Counts.{Counts}
 use Rattle.rc_memory.specs.Memory.{KeptChain, Member, Memory, IsObjectAt, IsOfVersion, chain_at, closed, opened}
-use Rattle.rc_memory.specs.Kept.{IsHeld, kept}
+use Rattle.rc_memory.specs.Kept.{HoldMemory, chain_of_use}
 use Rattle.rc_memory.specs.laws.At.{kept-at}
 use Rattle.rc_memory.specs.laws.Places.{no_some, same_some}
 use Rattle.rc_memory.specs.laws.Put.{kept-put, placed, put-beside, unused-at}
 use Rattle.rc_memory.specs.laws.Standing.{stand-each, version-in}
 
-module _ (slots : Slots) (old new : View) (registry : Registry) (counts : Counts) (m : Memory) (h : IsHeld slots old registry counts m)
+module _ (slots : Slots) (old new : View) (registry : Registry) (counts : Counts) (m : Memory) (h : HoldMemory slots old registry counts m)
     (links : (e : End) → link_of new e ≡ link_of old e) (same : SameButRoots old new) (well : IsWell new) (id : ℕ) where
   of_same : (s : StandingVersion) (at : Option Pos) (r : Ref) → IsOfVersion old s at r → IsOfVersion new s at r
   of_same s None r a = links (Obj s.object 3) ∙ a
@@ -33,12 +33,12 @@ module _ (slots : Slots) (old new : View) (registry : Registry) (counts : Counts
   object_same p r w ne a = record { partition = a.partition; version = a.version; chain = put-beside m.standing id p w.chain ne ∙ a.chain; number = a.number; object = of_same a.version w.position r a.object }
 
   -- a chain of no version comes with its root slot
-  pub held-opened : (root : Root) (kind : ChainKind) → IsRootAdded old new root → slice_index_or registry.uses id None ≡ None → IsHeld slots new (with_use id (Some (new_use root kind)) registry) counts (opened id root kind new m)
+  pub held-opened : (root : Root) (kind : ChainKind) → IsRootAdded old new root → slice_index_or registry.uses id None ≡ None → HoldMemory slots new (with_use id (Some (new_use root kind)) registry) counts (opened id root kind new m)
   held-opened root kind added free =
       let none = unused-at registry.uses m.standing m.chains id h.kept free in record {
         well = well;
         region = refl;
-        kept = kept-put registry.uses m.standing m.chains id (Some (new_use root kind)) (Some (partition_of root [])) (Some (kept (new_use root kind) (partition_of root []))) h.kept (refl, refl);
+        kept = kept-put registry.uses m.standing m.chains id (Some (new_use root kind)) (Some (partition_of root [])) (Some (chain_of_use (new_use root kind) (partition_of root []))) h.kept (refl, refl);
         listed = h.listed;
         stands = subst (λ ps. AreStanding slots new ps h.listed) (sym ((placed m.standing id).with_one (partition_of root [])))
             (stands-with_empty slots old new (placed m.standing id).front (placed m.standing id).back root h.listed added same h.well (subst (λ ps. AreStanding slots old ps h.listed) ((placed m.standing id).free none) h.stands));
@@ -49,7 +49,7 @@ module _ (slots : Slots) (old new : View) (registry : Registry) (counts : Counts
       }
 
   -- and goes with it
-  pub held-closed : (root : Root) → IsRootDropped old new root → slice_index_or m.standing id None ≡ Some (partition_of root []) → IsHeld slots new (record { uses = put id None registry.uses; dropped = registry.dropped ++ (id ∷ []) }) counts (closed id new m)
+  pub held-closed : (root : Root) → IsRootDropped old new root → slice_index_or m.standing id None ≡ Some (partition_of root []) → HoldMemory slots new (record { uses = put id None registry.uses; dropped = registry.dropped ++ (id ∷ []) }) counts (closed id new m)
   held-closed root gone there = record {
     well = well;
     region = refl;
@@ -66,7 +66,7 @@ module _ (slots : Slots) (old new : View) (registry : Registry) (counts : Counts
         (same_some a.partition (partition_of root []) (sym a.chain ∙ ap (λ n. slice_index_or m.standing n None) e ∙ there)) (version-in a.partition.versions w.version a.version a.number))
 
 -- of a chain of no version nothing but its root slot stands
-module _ (slots : Slots) (v : View) (registry : Registry) (counts : Counts) (m : Memory) (h : IsHeld slots v registry counts m) (id : ℕ) where
+module _ (slots : Slots) (v : View) (registry : Registry) (counts : Counts) (m : Memory) (h : HoldMemory slots v registry counts m) (id : ℕ) where
   no_versions : (ss : List StandingVersion) → map (λ (s : StandingVersion). s.version) ss ≡ [] → ss ≡ []
   no_versions [] e = refl
   no_versions (s ∷ ss) e = cc e

@@ -10,7 +10,7 @@ use Rattle.lsa_region.specs.Region.{View, body, IsWell}
 use Rattle.lsa_list.specs.declared.recency.List.{List as Slots}
 use Rattle.lsa_tree.specs.laws.Orders.{stands-once}
 use Rattle.rc_version.specs.Versions.{IsVersionOf}
-use Rattle.rc_partition.specs.Partitions.{AreStanding, PartitionEntry, StandingVersion, IsPartitionEntry, IsRowOf, objects_of, roots_of}
+use Rattle.rc_partition.specs.Partitions.{AreStanding, PartitionEntry, StandingVersion, IsPartitionEntry, IsRowOfVersion, heads_of, roots_of}
 use Rattle.lsa_tree.specs.Entries.{IsEntryKind, SpellsEntryAt}
 use Rattle.rc_partition.specs.laws.Apart.{entry_apart, entry-once, entries-apart, one-version, static-kind}
 use Rattle.rc_partition.specs.laws.Lists.{elem-first, elem-later, elem-here, elem-map, once-head, once-tail}
@@ -82,22 +82,22 @@ module _ (slots : Slots) (v : View) (well : IsWell v) (st : List (Option Partiti
   version-place i j a b p q s t ip jq ls bt same = elim (decided i j) [
     | inl e ↦ (e, let pq = same_some p q (sym ip ∙ ap (λ n. slice_index_or st n None) e ∙ jq) in numbers pq)
     | inr ne ↦ absurd (entries-apart v well p q (entry-at i p ip) (entry-at j q jq) (roots-apart st i j p q stands.apart ip jq ne) s.object
-        (object-in p a s ls) (subst (Contains (objects_of q.versions)) (sym same) (object-in q b t bt)))
+        (object-in p a s ls) (subst (Contains (heads_of q.versions)) (sym same) (object-in q b t bt)))
   ] where
-    object-in : (p : PartitionEntry) (a : ℕ) (s : StandingVersion) → IsVersionAt p.versions a s → Contains (objects_of p.versions) s.object
+    object-in : (p : PartitionEntry) (a : ℕ) (s : StandingVersion) → IsVersionAt p.versions a s → Contains (heads_of p.versions) s.object
     object-in p a s h = elem-map (λ (x : StandingVersion). x.object) p.versions s (subst (λ vs. Contains vs s) (sym h.split) (elem-here h.older h.newer s))
 
-    halves : (p : PartitionEntry) (a : ℕ) (s : StandingVersion) (h : IsVersionAt p.versions a s) → objects_of p.versions ≡ objects_of h.older ++ (s.object ∷ objects_of h.newer)
-    halves p a s h = ap objects_of h.split ∙ map-append (λ (x : StandingVersion). x.object) h.older (s ∷ h.newer)
+    halves : (p : PartitionEntry) (a : ℕ) (s : StandingVersion) (h : IsVersionAt p.versions a s) → heads_of p.versions ≡ heads_of h.older ++ (s.object ∷ heads_of h.newer)
+    halves p a s h = ap heads_of h.split ∙ map-append (λ (x : StandingVersion). x.object) h.older (s ∷ h.newer)
 
     numbers : p ≡ q → a ≡ b
     numbers pq =
         let bt' : IsVersionAt p.versions b t = subst (λ (z : PartitionEntry). IsVersionAt z.versions b t) (sym pq) bt in
-        let other = halves p b t bt' ∙ ap (λ o. objects_of bt'.older ++ (o ∷ objects_of bt'.newer)) (sym same) in
+        let other = halves p b t bt' ∙ ap (λ o. heads_of bt'.older ++ (o ∷ heads_of bt'.newer)) (sym same) in
         let once = subst (AllPairs ◌≢◌) (halves p a s ls) (entry-once v well p (entry-at i p ip)) in
-        sym ls.number ∙ sym (map_length ls.older) ∙ number-once (objects_of ls.older) (objects_of ls.newer) (objects_of bt'.older) (objects_of bt'.newer) s.object once (sym (halves p a s ls) ∙ other) ∙ map_length bt'.older ∙ bt'.number
+        sym ls.number ∙ sym (map_length ls.older) ∙ number-once (heads_of ls.older) (heads_of ls.newer) (heads_of bt'.older) (heads_of bt'.newer) s.object once (sym (halves p a s ls) ∙ other) ∙ map_length bt'.older ∙ bt'.number
       where
-        map_length : (ss : List StandingVersion) → length (objects_of ss) ≡ length ss
+        map_length : (ss : List StandingVersion) → length (heads_of ss) ≡ length ss
         map_length [] = refl
         map_length (x ∷ ss) = ap suc (map_length ss)
 
@@ -113,7 +113,7 @@ module _ (slots : Slots) (v : View) (well : IsWell v) (st : List (Option Partiti
       let p = positions w.position x.position a.version b.version h k a.object b.object in
       λ i. record { chain = n.0 i; version = n.1 i; position = p i }
     where
-      row : (s : StandingVersion) (p : Option Pos) → IsOfVersion v s p r → IsRowOf v s r
+      row : (s : StandingVersion) (p : Option Pos) → IsOfVersion v s p r → IsRowOfVersion v s r
       row s None h = inr h
       row s (Some y) h = inl h.0
 

@@ -4,7 +4,7 @@ use Rattle.rc_partition.specs.Partitions.{PartitionEntry}
 use Rattle.rc_registry.specs.declared.uses.Use.{Use}
 use Rattle.rc_registry.specs.Registry.{put}
 use Rattle.rc_memory.specs.Memory.{KeptChain, IsVersionAt}
-use Rattle.rc_memory.specs.Kept.{AreKept, IsKept, kept, present}
+use Rattle.rc_memory.specs.Kept.{AreKept, IsKeptChain, chain_of_use, present}
 use Rattle.rc_memory.specs.laws.Places.{heads, no_some, same_some, tails}
 
 -- ---- lists
@@ -61,7 +61,7 @@ placed (Some y ∷ xs) (suc n) = let h = placed xs n in record {
 -- ---- chains
 
 -- another chain at a number
-pub kept-put : (us : List (Option Use)) (ps : List (Option PartitionEntry)) (cs : List (Option KeptChain)) (id : ℕ) (u : Option Use) (p : Option PartitionEntry) (c : Option KeptChain) → AreKept us ps cs → IsKept u p c → AreKept (put id u us) (put id p ps) (put id c cs)
+pub kept-put : (us : List (Option Use)) (ps : List (Option PartitionEntry)) (cs : List (Option KeptChain)) (id : ℕ) (u : Option Use) (p : Option PartitionEntry) (c : Option KeptChain) → AreKept us ps cs → IsKeptChain u p c → AreKept (put id u us) (put id p ps) (put id c cs)
 kept-put [] [] [] zero u p c h one = (one, tt)
 kept-put [] [] [] (suc id) u p c h one = (refl, kept-put [] [] [] id u p c tt one)
 kept-put [] [] (k ∷ cs) id u p c h one = absurd h
@@ -76,13 +76,13 @@ pub record IsUsedAs (us : List (Option Use)) (cs : List (Option KeptChain)) (id 
   pub used : Use
   pub at : slice_index_or us id None ≡ Some used
   pub root : p.root ≡ used.root
-  pub chain : slice_index_or cs id None ≡ Some (kept used p)
+  pub chain : slice_index_or cs id None ≡ Some (chain_of_use used p)
 
-used_as : (u : Option Use) (o : Option PartitionEntry) (c : Option KeptChain) (p : PartitionEntry) → IsKept u o c → o ≡ Some p → (used : Use) × (u ≡ Some used) × (p.root ≡ used.root) × (c ≡ Some (kept used p))
+used_as : (u : Option Use) (o : Option PartitionEntry) (c : Option KeptChain) (p : PartitionEntry) → IsKeptChain u o c → o ≡ Some p → (used : Use) × (u ≡ Some used) × (p.root ≡ used.root) × (c ≡ Some (chain_of_use used p))
 used_as None None c p h e = absurd (no_some p e)
 used_as None (Some o) c p h e = absurd h
 used_as (Some u) None c p h e = absurd h
-used_as (Some u) (Some o) c p h e = let same = same_some o p e in (u, refl, sym (ap (λ (q : PartitionEntry). q.root) same) ∙ h.0, h.1 ∙ ap (λ q. Some (kept u q)) same)
+used_as (Some u) (Some o) c p h e = let same = same_some o p e in (u, refl, sym (ap (λ (q : PartitionEntry). q.root) same) ∙ h.0, h.1 ∙ ap (λ q. Some (chain_of_use u q)) same)
 
 pub used-at : (us : List (Option Use)) (ps : List (Option PartitionEntry)) (cs : List (Option KeptChain)) (id : ℕ) (p : PartitionEntry) → AreKept us ps cs → slice_index_or ps id None ≡ Some p → IsUsedAs us cs id p
 used-at [] [] [] id p h e = absurd (no_some p e)
@@ -94,7 +94,7 @@ used-at (u ∷ us) (q ∷ ps) (c ∷ cs) zero p h e = let k = used_as u q c p h.
 used-at (u ∷ us) (q ∷ ps) (c ∷ cs) (suc id) p h e = let k = used-at us ps cs id p h.1 e in record { used = k.used; at = k.at; root = k.root; chain = k.chain }
 
 -- where no use is, nothing stands
-unused : (u : Option Use) (o : Option PartitionEntry) (c : Option KeptChain) → IsKept u o c → u ≡ None → o ≡ None
+unused : (u : Option Use) (o : Option PartitionEntry) (c : Option KeptChain) → IsKeptChain u o c → u ≡ None → o ≡ None
 unused None None c h e = refl
 unused None (Some p) c h e = absurd h
 unused (Some u) o c h e = absurd (no_some u (sym e))

@@ -19,7 +19,7 @@ use Rattle.rc_core.specs.laws.Pins.{pinned-or-new, released-pin}
 use Rattle.rc_partition.specs.laws.Lists.{elem-cases, elem-first, elem-none, elem-pushed}
 use Rattle.rc_registry.specs.Registry.{put}
 use Rattle.rc_memory.specs.Memory.{KeptChain, on_chain, on_version_of, shown_detached, shown_pinned, shown_updating, shown_with, shown_without}
-use Rattle.rc_memory.specs.Kept.{IsSound}
+use Rattle.rc_memory.specs.Kept.{IsSoundChain}
 use Rattle.rc_memory.specs.Room.{FitTogether, HasRowAt, HasStaticRow}
 use Rattle.rc_memory.specs.laws.Places.{no_some}
 use Rattle.rc_memory.specs.laws.Put.{put-at, put-beside}
@@ -47,8 +47,8 @@ module _ (P : KeptChain → Type 0) where
 
 -- ---- sound chains
 
-module _ (c : Shown) (h : IsSound c) where
-  pub sound-pinned : (version : ℕ) → version < length c.versions → (c.updating ≡ true → suc version < length c.versions) → IsSound (shown_pinned (pinned version c.pins) c)
+module _ (c : Shown) (h : IsSoundChain c) where
+  pub sound-pinned : (version : ℕ) → version < length c.versions → (c.updating ≡ true → suc version < length c.versions) → IsSoundChain (shown_pinned (pinned version c.pins) c)
   sound-pinned version low inner = record {
     some = h.some;
     pins = λ j on. elim (pinned-or-new version c.pins j on) [ inl before ↦ h.pins j before | inr this ↦ subst (λ n. n < length c.versions) (sym this) low ];
@@ -58,7 +58,7 @@ module _ (c : Shown) (h : IsSound c) where
     unpinned = λ u j on. elim (pinned-or-new version c.pins j on) [ inl before ↦ h.unpinned u j before | inr this ↦ subst (λ n. suc n < length c.versions) (sym this) (inner u) ];
   }
 
-  pub sound-released : (pin : ℕ) → IsSound (shown_pinned (released pin c.pins) c)
+  pub sound-released : (pin : ℕ) → IsSoundChain (shown_pinned (released pin c.pins) c)
   sound-released pin = record {
     some = h.some;
     pins = λ j on. h.pins j (released-pin pin c.pins j on);
@@ -68,16 +68,16 @@ module _ (c : Shown) (h : IsSound c) where
     unpinned = λ u j on. h.unpinned u j (released-pin pin c.pins j on);
   }
 
-  pub sound-detached : IsSound (shown_detached c)
+  pub sound-detached : IsSoundChain (shown_detached c)
   sound-detached = record { some = h.some; pins = h.pins; cached = λ u. cc u; attached = λ u. cc u; below = λ u. cc u; unpinned = λ u. cc u }
 
-  pub sound-settled : IsSound (shown_updating false c)
+  pub sound-settled : IsSoundChain (shown_updating false c)
   sound-settled = record { some = h.some; pins = h.pins; cached = λ u. cc u; attached = λ u. cc u; below = λ u. cc u; unpinned = λ u. cc u }
 
-  pub sound-updating : c.kind ≡ Cache → c.attached ≡ true → 2 ≤ length c.versions → ((j : ℕ) → IsPinned c.pins j → suc j < length c.versions) → IsSound (shown_updating true c)
+  pub sound-updating : c.kind ≡ Cache → c.attached ≡ true → 2 ≤ length c.versions → ((j : ℕ) → IsPinned c.pins j → suc j < length c.versions) → IsSoundChain (shown_updating true c)
   sound-updating kind attached below unpinned = record { some = h.some; pins = h.pins; cached = λ u. kind; attached = λ u. attached; below = λ u. below; unpinned = λ u. unpinned }
 
-  pub sound-more : (v : Version) → IsSound (shown_with (c.versions ++ (v ∷ [])) c)
+  pub sound-more : (v : Version) → IsSoundChain (shown_with (c.versions ++ (v ∷ [])) c)
   sound-more v = record {
     some = omega (arith, length-append c.versions (v ∷ []));
     pins = λ j on. omega (arith, length-append c.versions (v ∷ []), h.pins j on);
@@ -93,7 +93,7 @@ length-on j f [] = refl
 length-on zero f (v ∷ vs) = refl
 length-on (suc j) f (v ∷ vs) = ap suc (length-on j f vs)
 
-pub sound-with : (c : Shown) (vs : List Version) → length vs ≡ length c.versions → IsSound c → IsSound (shown_with vs c)
+pub sound-with : (c : Shown) (vs : List Version) → length vs ≡ length c.versions → IsSoundChain c → IsSoundChain (shown_with vs c)
 sound-with c vs same h = record {
   some = subst (λ n. 0 < n) (sym same) h.some;
   pins = λ j on. subst (λ n. j < n) (sym same) (h.pins j on);
@@ -103,7 +103,7 @@ sound-with c vs same h = record {
   unpinned = λ u j on. subst (λ n. suc j < n) (sym same) (h.unpinned u j on);
 }
 
-pub sound-changed : (c : Shown) (j : ℕ) (f : Version → Version) → IsSound c → IsSound (on_version_of j f c)
+pub sound-changed : (c : Shown) (j : ℕ) (f : Version → Version) → IsSoundChain c → IsSoundChain (on_version_of j f c)
 sound-changed c j f h = sound-with c (on_version j f c.versions) (length-on j f c.versions) h
 
 -- ---- a version dropped
@@ -126,7 +126,7 @@ below_or_above (suc k) zero ne P a b = b (omega arith)
 below_or_above (suc k) (suc n) ne P a b = below_or_above k n (λ e. ne (ap suc e)) P (λ l. a (omega (arith, l))) (λ l. b (omega (arith, l)))
 
 -- one that nobody pins, and which is not the only one; nor under update, nor the only one below that
-pub sound-fewer : (c : Shown) (j : ℕ) → IsSound c → (IsPinned c.pins j → ⊥) → j < length c.versions → 2 ≤ length c.versions → (c.updating ≡ true → suc j < length c.versions) → (c.updating ≡ true → 3 ≤ length c.versions) → IsSound (shown_without j c)
+pub sound-fewer : (c : Shown) (j : ℕ) → IsSoundChain c → (IsPinned c.pins j → ⊥) → j < length c.versions → 2 ≤ length c.versions → (c.updating ≡ true → suc j < length c.versions) → (c.updating ≡ true → 3 ≤ length c.versions) → IsSoundChain (shown_without j c)
 sound-fewer c j h free low two inner three = record {
   some = omega (arith, length-but j c.versions low, two);
   pins = λ i on. let r = pin_of j i c.pins on in let is = r.is in

@@ -4,7 +4,7 @@ use Rattle.std.specs.Prelude.{Contains}
 use Rattle.std.specs.Option.{option_map}
 use Rattle.lsa_store.specs.declared.place.Ref.{Ref}
 use Rattle.lsa_region.specs.Region.{View}
-use Rattle.rc_partition.specs.Partitions.{PartitionEntry, IsRowOf, IsRowOfAny, StandingVersion}
+use Rattle.rc_partition.specs.Partitions.{PartitionEntry, IsRowOfVersion, IsRowOfAny, StandingVersion}
 use Rattle.rc_partition.specs.laws.Lists.{elem-first, elem-here, elem-later}
 use Rattle.rc_position.specs.declared.positions.Pos.{Pos}
 use Rattle.rc_memory.specs.Memory.{Member, IsObjectAt, IsOfVersion, IsVersionAt}
@@ -27,7 +27,7 @@ module _ {X Y : Type 0} (f : X → Y) where
 -- ---- objects at their places
 
 -- the version of a place has the object as a row
-pub row-of : (v : View) (s : StandingVersion) (at : Option Pos) (r : Ref) → IsOfVersion v s at r → IsRowOf v s r
+pub row-of : (v : View) (s : StandingVersion) (at : Option Pos) (r : Ref) → IsOfVersion v s at r → IsRowOfVersion v s r
 row-of v s None r h = inr h
 row-of v s (Some x) r h = inl h.0
 

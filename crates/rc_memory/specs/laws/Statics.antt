@@ -11,14 +11,14 @@ use Rattle.lsa_list.specs.declared.recency.List.{List as Slots}
 use Rattle.rc_core.specs.Version.{Version}
 use Rattle.rc_version.specs.Versions.{IsKeptBut, IsStaticsOf, IsVersionOf, IsWeighed}
 use Rattle.rc_version.specs.laws.Staying.{entries-kind}
-use Rattle.rc_partition.specs.Partitions.{AreStanding, IsRowOf, IsRowOfAny, PartitionEntry, StandingVersion, among, partition_of, standing}
+use Rattle.rc_partition.specs.Partitions.{AreStanding, IsRowOfVersion, IsRowOfAny, PartitionEntry, StandingVersion, among, partition_of, standing}
 use Rattle.rc_partition.specs.laws.Apart.{entry_apart, one-version, static-kind}
 use Rattle.rc_partition.specs.laws.Changed.{among-cases, beside-differs, other-among, other-differs, s-stands, this-among}
 use Rattle.rc_partition.specs.laws.Lists.{elem-still}
 use Rattle.rc_registry.specs.Registry.{Registry}
 use Rattle.rc_memory.specs.declared.counts.Counts.{Counts}
-use Rattle.rc_memory.specs.Memory.{Member, Memory, IsOfVersion, IsVersionAt, changed}
-use Rattle.rc_memory.specs.Kept.{IsHeld}
+use Rattle.rc_memory.specs.Memory.{Member, Memory, IsOfVersion, IsVersionAt, version_changed}
+use Rattle.rc_memory.specs.Kept.{HoldMemory}
 use Rattle.rc_memory.specs.laws.Changed.{held-changed, stands-after, stands_before}
 use Rattle.rc_memory.specs.laws.Listed.{listed-at}
 use Rattle.rc_memory.specs.laws.Put.{placed}
@@ -28,37 +28,37 @@ module _ (slots : Slots) (old new : View) (front : List PartitionEntry) (root : 
     (parts : (q : Ref) → Contains now q → Contains s.entries q ⊎ (body old q ≡ None)) where
   never : (r : Ref) → IsStaticsOf old s.object r → Contains now r → ⊥
   never r static on = elim (parts r on) [
-    | inl entry ↦ entry_apart (body old r) (static-kind old s (s-stands slots old new front root older s newer back listed well kept h) r static) (entries-kind old s.object s.entries s.version (s-stands slots old new front root older s newer back listed well kept h) r entry)
-    | inr none ↦ subst (λ (o : Option (Kind × List ℕ)). IsSomeAnd o (λ b. b.0 ≡ Static)) none (static-kind old s (s-stands slots old new front root older s newer back listed well kept h) r static)
+    | inl entry ↦ entry_apart (body old r) (static-kind old s (s-stands slots old new front root older s newer back listed well chain_of_use h) r static) (entries-kind old s.object s.entries s.version (s-stands slots old new front root older s newer back listed well chain_of_use h) r entry)
+    | inr none ↦ subst (λ (o : Option (Kind × List ℕ)). IsSomeAnd o (λ b. b.0 ≡ Static)) none (static-kind old s (s-stands slots old new front root older s newer back listed well chain_of_use h) r static)
   ]
 
   -- a row of another version now was one before
-  other_row : (t : StandingVersion) → t.object ≢ s.object → IsVersionOf old t.object t.entries t.version → (r : Ref) → IsStaticsOf old s.object r → IsRowOf new t r → ⊥
-  other_row t ne k r static row = ne (sym (one-version old well s t (s-stands slots old new front root older s newer back listed well kept h) k r (inr static) (was row)))
+  other_row : (t : StandingVersion) → t.object ≢ s.object → IsVersionOf old t.object t.entries t.version → (r : Ref) → IsStaticsOf old s.object r → IsRowOfVersion new t r → ⊥
+  other_row t ne k r static row = ne (sym (one-version old well s t (s-stands slots old new front root older s newer back listed well chain_of_use h) k r (inr static) (was row)))
     where
-      was : IsRowOf new t r → IsRowOf old t r
+      was : IsRowOfVersion new t r → IsRowOfVersion old t r
       was (inl on) = inl on
       was (inr link) = inr (sym (kept.statics t.object t.entries t.version ne k) ∙ link)
 
   pub static-stays : (r : Ref) → IsStaticsOf old s.object r → IsRowOfAny new (among front root older (standing s.object now c) newer back) r → IsStaticsOf new s.object r
   static-stays r static w = elim (among-cases front back root older newer (standing s.object now c) w.0 w.1 w.2 w.3) [
-    | inl same ↦ own (subst (λ t. IsRowOf new t r) (sym same) w.4)
-    | inr (inl beside) ↦ absurd (other_row w.1 (beside-differs slots old new front root older s newer back listed well kept h w.1 beside)
+    | inl same ↦ own (subst (λ t. IsRowOfVersion new t r) (sym same) w.4)
+    | inr (inl beside) ↦ absurd (other_row w.1 (beside-differs slots old new front root older s newer back listed well chain_of_use h w.1 beside)
         ((h.entries (partition_of root (older ++ (s ∷ newer))) (this-among front back root older newer s)).versions w.1 (elem-still older newer s w.1 beside)) r static w.4)
-    | inr (inr other) ↦ absurd (other_row w.1 (other-differs slots old new front root older s newer back listed well kept h w.0 other w.1 w.3)
+    | inr (inr other) ↦ absurd (other_row w.1 (other-differs slots old new front root older s newer back listed well chain_of_use h w.0 other w.1 w.3)
         ((h.entries w.0 (other-among front back root older newer s w.0 other)).versions w.1 w.3) r static w.4)
   ] where
-    own : IsRowOf new (standing s.object now c) r → IsStaticsOf new s.object r
+    own : IsRowOfVersion new (standing s.object now c) r → IsStaticsOf new s.object r
     own (inl on) = absurd (never r static on)
     own (inr link) = link
 
-module _ (slots : Slots) (old new : View) (registry : Registry) (counts : Counts) (m : Memory) (h : IsHeld slots old registry counts m)
+module _ (slots : Slots) (old new : View) (registry : Registry) (counts : Counts) (m : Memory) (h : HoldMemory slots old registry counts m)
     (id j : ℕ) (p : PartitionEntry) (s : StandingVersion) (there : slice_index_or m.standing id None ≡ Some p) (number : IsVersionAt p.versions j s) (now : List Ref) (c : Version)
     (kept_but : IsKeptBut s.object old new) (is : IsVersionOf new s.object now c) (summed : IsSummed old) (well : IsWell new) (summed_new : IsSummed new) (weigh : IsWeighed old new s.version c) where
   -- so it is enough to say of entries that they stand where they stood
   pub held-entries : ((q : Ref) → Contains now q → Contains s.entries q ⊎ (body old q ≡ None))
       → ((x : Pos) (r : Ref) → Contains m.recency (record { chain = id; version = j; position = Some x }) → IsOfVersion old s (Some x) r → IsOfVersion new (standing s.object now c) (Some x) r)
-      → IsHeld slots new registry counts (changed id j (standing s.object now c) new m)
+      → HoldMemory slots new registry counts (version_changed id j (standing s.object now c) new m)
   held-entries parts entries = held-changed slots old new registry counts m h id j p s there number now c kept_but is rows summed well summed_new weigh
     where
       row_at : (at : Option Pos) (r : Ref) → Contains m.recency (record { chain = id; version = j; position = at }) → IsOfVersion old s at r → IsOfVersion new (standing s.object now c) at r

@@ -8,11 +8,11 @@ use Rattle.rc_registry.specs.declared.uses.Use.{Use}
 use Rattle.rc_registry.specs.Registry.{Registry, put, on_use, detached, set_updating, set_passed, with_pin, without_pin}
 use Rattle.rc_core.specs.Steps.{pinned, released}
 use Rattle.rc_memory.specs.declared.counts.Counts.{Counts}
-use Rattle.rc_memory.specs.Memory.{KeptChain, Memory, HasChain, marked, on_chain, on_shown, shown_detached, shown_pinned, shown_updating, with_chains}
-use Rattle.rc_memory.specs.Kept.{AreKept, IsHeld, IsKept, kept}
+use Rattle.rc_memory.specs.Memory.{KeptChain, Memory, HasChain, mark_passed, on_chain, on_shown, shown_detached, shown_pinned, shown_updating, with_chains}
+use Rattle.rc_memory.specs.Kept.{AreKept, HoldMemory, IsKeptChain, chain_of_use}
 
-module _ (f : Use → Use) (g : KeptChain → KeptChain) (root : (u : Use) → (f u).root ≡ u.root) (does : (u : Use) (p : PartitionEntry) → kept (f u) p ≡ g (kept u p)) where
-  kept_used : (u : Option Use) (p : Option PartitionEntry) (c : Option KeptChain) → IsKept u p c → IsKept (option_map f u) p (option_map g c)
+module _ (f : Use → Use) (g : KeptChain → KeptChain) (root : (u : Use) → (f u).root ≡ u.root) (does : (u : Use) (p : PartitionEntry) → chain_of_use (f u) p ≡ g (chain_of_use u p)) where
+  kept_used : (u : Option Use) (p : Option PartitionEntry) (c : Option KeptChain) → IsKeptChain u p c → IsKeptChain (option_map f u) p (option_map g c)
   kept_used None None c h = ap (option_map g) h
   kept_used None (Some p) c h = absurd h
   kept_used (Some u) None c h = absurd h
@@ -28,9 +28,9 @@ module _ (f : Use → Use) (g : KeptChain → KeptChain) (root : (u : Use) → (
   are_kept_used (u ∷ us) (p ∷ ps) (c ∷ cs) zero h some = (kept_used u p c h.0, h.1)
   are_kept_used (u ∷ us) (p ∷ ps) (c ∷ cs) (suc id) h some = (h.0, are_kept_used us ps cs id h.1 some)
 
-module _ (slots : Slots) (v : View) (registry : Registry) (counts : Counts) (m : Memory) (id : ℕ) (h : IsHeld slots v registry counts m) (there : HasChain m id) where
+module _ (slots : Slots) (v : View) (registry : Registry) (counts : Counts) (m : Memory) (id : ℕ) (h : HoldMemory slots v registry counts m) (there : HasChain m id) where
   -- what is done to the use of a chain is done to the chain
-  pub held-used : (f : Use → Use) (g : KeptChain → KeptChain) → ((u : Use) → (f u).root ≡ u.root) → ((u : Use) (p : PartitionEntry) → kept (f u) p ≡ g (kept u p)) → IsHeld slots v (on_use id f registry) counts (with_chains (on_chain id g m.chains) m)
+  pub held-used : (f : Use → Use) (g : KeptChain → KeptChain) → ((u : Use) → (f u).root ≡ u.root) → ((u : Use) (p : PartitionEntry) → chain_of_use (f u) p ≡ g (chain_of_use u p)) → HoldMemory slots v (on_use id f registry) counts (with_chains (on_chain id g m.chains) m)
   held-used f g root does = record {
     well = h.well;
     region = h.region;
@@ -42,17 +42,17 @@ module _ (slots : Slots) (v : View) (registry : Registry) (counts : Counts) (m :
     counted = h.counted;
   }
 
-  pub held-detached : IsHeld slots v (on_use id detached registry) counts (with_chains (on_chain id (on_shown shown_detached) m.chains) m)
+  pub held-detached : HoldMemory slots v (on_use id detached registry) counts (with_chains (on_chain id (on_shown shown_detached) m.chains) m)
   held-detached = held-used detached (on_shown shown_detached) (λ u. refl) (λ u p. refl)
 
-  pub held-updating : (updating : Bool) → IsHeld slots v (on_use id (set_updating updating) registry) counts (with_chains (on_chain id (on_shown (shown_updating updating)) m.chains) m)
+  pub held-updating : (updating : Bool) → HoldMemory slots v (on_use id (set_updating updating) registry) counts (with_chains (on_chain id (on_shown (shown_updating updating)) m.chains) m)
   held-updating updating = held-used (set_updating updating) (on_shown (shown_updating updating)) (λ u. refl) (λ u p. refl)
 
-  pub held-passed : (passed : Bool) → IsHeld slots v (on_use id (set_passed passed) registry) counts (with_chains (on_chain id (marked passed) m.chains) m)
-  held-passed passed = held-used (set_passed passed) (marked passed) (λ u. refl) (λ u p. refl)
+  pub held-passed : (passed : Bool) → HoldMemory slots v (on_use id (set_passed passed) registry) counts (with_chains (on_chain id (mark_passed passed) m.chains) m)
+  held-passed passed = held-used (set_passed passed) (mark_passed passed) (λ u. refl) (λ u p. refl)
 
-  pub held-pinned : (version : ℕ) → IsHeld slots v (on_use id (with_pin version) registry) counts (with_chains (on_chain id (on_shown (λ c. shown_pinned (pinned version c.pins) c)) m.chains) m)
+  pub held-pinned : (version : ℕ) → HoldMemory slots v (on_use id (with_pin version) registry) counts (with_chains (on_chain id (on_shown (λ c. shown_pinned (pinned version c.pins) c)) m.chains) m)
   held-pinned version = held-used (with_pin version) (on_shown (λ c. shown_pinned (pinned version c.pins) c)) (λ u. refl) (λ u p. refl)
 
-  pub held-released : (pin : ℕ) → IsHeld slots v (on_use id (without_pin pin) registry) counts (with_chains (on_chain id (on_shown (λ c. shown_pinned (released pin c.pins) c)) m.chains) m)
+  pub held-released : (pin : ℕ) → HoldMemory slots v (on_use id (without_pin pin) registry) counts (with_chains (on_chain id (on_shown (λ c. shown_pinned (released pin c.pins) c)) m.chains) m)
   held-released pin = held-used (without_pin pin) (on_shown (λ c. shown_pinned (released pin c.pins) c)) (λ u. refl) (λ u p. refl)

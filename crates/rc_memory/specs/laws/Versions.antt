@@ -12,14 +12,14 @@ use Rattle.rc_core.specs.Steps.{all_but, renumbered}
 use Rattle.rc_core.specs.Version.{Version}
 use Rattle.rc_version.specs.Versions.{IsVersionOf, MayChange}
 use Rattle.rc_version.specs.laws.Staying.{kept-same}
-use Rattle.rc_partition.specs.Partitions.{AreStanding, IsRowOf, PartitionEntry, StandingVersion, among, partition_of}
+use Rattle.rc_partition.specs.Partitions.{AreStanding, IsRowOfVersion, PartitionEntry, StandingVersion, among, partition_of}
 use Rattle.rc_partition.specs.laws.Apart.{one-version}
 use Rattle.rc_partition.specs.laws.Changed.{beside-differs, other-among, other-differs, this-among}
 use Rattle.rc_partition.specs.laws.Lists.{elem-here, elem-replaced, elem-still}
 use Rattle.rc_registry.specs.Registry.{Registry, on_use, put, without_version}
 use Rattle.rc_memory.specs.declared.counts.Counts.{Counts}
 use Rattle.rc_memory.specs.Memory.{Member, Memory, IsObjectAt, IsOfVersion, IsVersionAt, more_versions, fewer_versions, on_chain, on_shown, partition_and, partition_without, renumbered_member, shown_without, shown_with}
-use Rattle.rc_memory.specs.Kept.{AreKept, IsHeld, StandAt, kept, present}
+use Rattle.rc_memory.specs.Kept.{AreKept, HoldMemory, StandAt, chain_of_use, present}
 use Rattle.rc_memory.specs.laws.Changed.{of-stays}
 use Rattle.rc_memory.specs.laws.Listed.{listed-at, one-at}
 use Rattle.rc_memory.specs.laws.Places.{heads, same_some, tails, version-place, version-there}
@@ -65,7 +65,7 @@ stand-renumbered v w st new g (r ∷ refs) (x ∷ ws) each h = (each r x (elem-h
 
 -- ---- a version more
 
-module _ (slots : Slots) (old new : View) (registry : Registry) (counts : Counts) (m : Memory) (h : IsHeld slots old registry counts m) (id : ℕ) (p : PartitionEntry) (there : slice_index_or m.standing id None ≡ Some p) (t : StandingVersion)
+module _ (slots : Slots) (old new : View) (registry : Registry) (counts : Counts) (m : Memory) (h : HoldMemory slots old registry counts m) (id : ℕ) (p : PartitionEntry) (there : slice_index_or m.standing id None ≡ Some p) (t : StandingVersion)
     (well : IsWell new) (stands : AreStanding slots new ((placed m.standing id).front ++ (partition_of p.root (p.versions ++ (t ∷ [])) ∷ (placed m.standing id).back)) h.listed)
     (statics : (n : Ref) (refs : List Ref) (d : Version) → IsVersionOf old n refs d → link_of new (Obj n 3) ≡ link_of old (Obj n 3)) where
   more : IsUsedAs registry.uses m.chains id p
@@ -74,7 +74,7 @@ module _ (slots : Slots) (old new : View) (registry : Registry) (counts : Counts
   more_standing : put id (option_map (partition_and t) (slice_index_or m.standing id None)) m.standing ≡ put id (Some (partition_of p.root (p.versions ++ (t ∷ [])))) m.standing
   more_standing = ap (λ o. put id (option_map (partition_and t) o) m.standing) there
 
-  more_chains : on_chain id (on_shown (λ c. shown_with (c.versions ++ (t.version ∷ [])) c)) m.chains ≡ put id (Some (kept more.used (partition_of p.root (p.versions ++ (t ∷ []))))) m.chains
+  more_chains : on_chain id (on_shown (λ c. shown_with (c.versions ++ (t.version ∷ [])) c)) m.chains ≡ put id (Some (chain_of_use more.used (partition_of p.root (p.versions ++ (t ∷ []))))) m.chains
   more_chains = ap (λ o. put id (option_map (on_shown (λ c. shown_with (c.versions ++ (t.version ∷ [])) c)) o) m.chains) more.chain
       ∙ ap (λ (vs : List Version). put id (Some (record { chain = record { kind = more.used.kind; versions = vs; attached = more.used.attached; updating = more.used.updating; pins = more.used.pins }; passed = more.used.passed })) m.chains)
       (sym (map-append (λ (s : StandingVersion). s.version) p.versions (t ∷ [])))
@@ -108,14 +108,14 @@ module _ (slots : Slots) (old new : View) (registry : Registry) (counts : Counts
           (still-at p.versions (t ∷ []) w.version a.version (subst (λ (q : PartitionEntry). IsVersionAt q.versions w.version a.version) same_p a.number))
     ]
 
-  pub held-more : IsHeld slots new registry counts (more_versions id t new m)
+  pub held-more : HoldMemory slots new registry counts (more_versions id t new m)
   held-more = record {
     well = well;
     region = refl;
     kept = subst (λ ps. AreKept registry.uses ps (on_chain id (on_shown (λ c. shown_with (c.versions ++ (t.version ∷ [])) c)) m.chains)) (sym more_standing)
         (subst (AreKept registry.uses (put id (Some (partition_of p.root (p.versions ++ (t ∷ [])))) m.standing)) (sym more_chains)
-        (subst (λ us. AreKept us (put id (Some (partition_of p.root (p.versions ++ (t ∷ [])))) m.standing) (put id (Some (kept more.used (partition_of p.root (p.versions ++ (t ∷ []))))) m.chains)) (put-same registry.uses id more.used more.at)
-        (kept-put registry.uses m.standing m.chains id (Some more.used) (Some (partition_of p.root (p.versions ++ (t ∷ [])))) (Some (kept more.used (partition_of p.root (p.versions ++ (t ∷ []))))) h.kept (more.root, refl))));
+        (subst (λ us. AreKept us (put id (Some (partition_of p.root (p.versions ++ (t ∷ [])))) m.standing) (put id (Some (chain_of_use more.used (partition_of p.root (p.versions ++ (t ∷ []))))) m.chains)) (put-same registry.uses id more.used more.at)
+        (kept-put registry.uses m.standing m.chains id (Some more.used) (Some (partition_of p.root (p.versions ++ (t ∷ [])))) (Some (chain_of_use more.used (partition_of p.root (p.versions ++ (t ∷ []))))) h.kept (more.root, refl))));
     listed = h.listed;
     stands = subst (λ st. AreStanding slots new (present st) h.listed) (sym more_standing) more_stands;
     recency = subst (λ st. StandAt new st h.listed m.recency) (sym more_standing)
@@ -126,7 +126,7 @@ module _ (slots : Slots) (old new : View) (registry : Registry) (counts : Counts
 
 -- ---- a version less
 
-module _ (slots : Slots) (old new : View) (registry : Registry) (counts : Counts) (m : Memory) (h : IsHeld slots old registry counts m) (id j : ℕ) (p : PartitionEntry) (s : StandingVersion)
+module _ (slots : Slots) (old new : View) (registry : Registry) (counts : Counts) (m : Memory) (h : HoldMemory slots old registry counts m) (id j : ℕ) (p : PartitionEntry) (s : StandingVersion)
     (there : slice_index_or m.standing id None ≡ Some p) (number : IsVersionAt p.versions j s) where
   pub stands-whole : AreStanding slots old (among (placed m.standing id).front p.root number.older s number.newer (placed m.standing id).back) h.listed
   stands-whole = subst (λ ps. AreStanding slots old ps h.listed) ((placed m.standing id).there p there ∙ ap (λ vs. (placed m.standing id).front ++ (partition_of p.root vs ∷ (placed m.standing id).back)) number.split) h.stands
@@ -148,7 +148,7 @@ module _ (slots : Slots) (old new : View) (registry : Registry) (counts : Counts
         ∙ all-but-is (map (λ (t : StandingVersion). t.version) number.older) s.version (map (λ (t : StandingVersion). t.version) number.newer) j (map_length number.older ∙ number.number)
         ∙ sym (map-append (λ (t : StandingVersion). t.version) number.older number.newer)
 
-    less_chains : on_chain id (on_shown (shown_without j)) m.chains ≡ put id (Some (kept (without_version j less.used) (partition_of p.root (number.older ++ number.newer)))) m.chains
+    less_chains : on_chain id (on_shown (shown_without j)) m.chains ≡ put id (Some (chain_of_use (without_version j less.used) (partition_of p.root (number.older ++ number.newer)))) m.chains
     less_chains = ap (λ o. put id (option_map (on_shown (shown_without j)) o) m.chains) less.chain
         ∙ ap (λ (vs : List Version). put id (Some (record {
           chain = record { kind = less.used.kind; versions = vs; attached = less.used.attached; updating = less.used.updating; pins = map (option_map (renumbered j)) less.used.pins };
@@ -165,7 +165,7 @@ module _ (slots : Slots) (old new : View) (registry : Registry) (counts : Counts
     s_stands = version-there slots old h.well m.standing h.listed h.stands id j p s there number
 
     -- no object of it is listed
-    no_member : (r : Ref) → IsRowOf old s r → Contains h.listed r → ⊥
+    no_member : (r : Ref) → IsRowOfVersion old s r → Contains h.listed r → ⊥
     no_member r row on = let w = stands.owned r on in elim (elem-replaced (placed m.standing id).front (placed m.standing id).back (partition_of p.root (number.older ++ number.newer)) w.0 w.2) [
       | inl same ↦
           let beside : Contains (number.older ++ number.newer) w.1 = subst (λ (q : PartitionEntry). Contains q.versions w.1) (sym same) w.3 in
@@ -174,10 +174,10 @@ module _ (slots : Slots) (old new : View) (registry : Registry) (counts : Counts
       | inr other ↦ other_row w.1 (other-differs slots old old (placed m.standing id).front p.root number.older s number.newer (placed m.standing id).back h.listed h.well (kept-same (MayChange old s.object) s.object old) stands-whole w.0 other w.1 w.3)
           ((stands-whole.entries w.0 (other-among (placed m.standing id).front (placed m.standing id).back p.root number.older number.newer s w.0 other)).versions w.1 w.3) w.4
     ] where
-      other_row : (t : StandingVersion) → t.object ≢ s.object → IsVersionOf old t.object t.entries t.version → IsRowOf new t r → ⊥
+      other_row : (t : StandingVersion) → t.object ≢ s.object → IsVersionOf old t.object t.entries t.version → IsRowOfVersion new t r → ⊥
       other_row t ne k now = ne (sym (one-version old h.well s t s_stands k r row (back now)))
         where
-          back : IsRowOf new t r → IsRowOf old t r
+          back : IsRowOfVersion new t r → IsRowOfVersion old t r
           back (inl on_t) = inl on_t
           back (inr link) = inr (sym (statics t.object t.entries t.version ne k) ∙ link)
 
@@ -223,14 +223,14 @@ module _ (slots : Slots) (old new : View) (registry : Registry) (counts : Counts
                   (without-at number.older number.newer s a.version at_p.older at_p.newer (sym number.split ∙ at_p.split) (λ e. ne (sym at_p.number ∙ e ∙ number.number)))))
             ]
 
-    pub held-less : IsHeld slots new (on_use id (without_version j) registry) counts (fewer_versions id j new m)
+    pub held-less : HoldMemory slots new (on_use id (without_version j) registry) counts (fewer_versions id j new m)
     held-less = record {
       well = well;
       region = refl;
       kept = subst (λ us. AreKept us (put id (option_map (partition_without j) (slice_index_or m.standing id None)) m.standing) (on_chain id (on_shown (shown_without j)) m.chains)) less_uses
           (subst (λ ps. AreKept (put id (Some (without_version j less.used)) registry.uses) ps (on_chain id (on_shown (shown_without j)) m.chains)) (sym less_standing)
           (subst (AreKept (put id (Some (without_version j less.used)) registry.uses) (put id (Some (partition_of p.root (number.older ++ number.newer))) m.standing)) (sym less_chains)
-          (kept-put registry.uses m.standing m.chains id (Some (without_version j less.used)) (Some (partition_of p.root (number.older ++ number.newer))) (Some (kept (without_version j less.used) (partition_of p.root (number.older ++ number.newer)))) h.kept (less.root, refl))));
+          (kept-put registry.uses m.standing m.chains id (Some (without_version j less.used)) (Some (partition_of p.root (number.older ++ number.newer))) (Some (chain_of_use (without_version j less.used) (partition_of p.root (number.older ++ number.newer)))) h.kept (less.root, refl))));
       listed = h.listed;
       stands = subst (λ st. AreStanding slots new (present st) h.listed) (sym less_standing) less_stands;
       recency = subst (λ st. StandAt new st h.listed (map (renumbered_member id j) m.recency)) (sym less_standing)

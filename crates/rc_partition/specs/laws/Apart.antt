@@ -19,7 +19,7 @@ use Rattle.lsa_tree.specs.laws.Trees.{no_entry_at}
 use Rattle.rc_object.specs.Objects.{HoldsStatic}
 use Rattle.rc_version.specs.Versions.{HasStatics, IsVersionOf, IsStaticsOf}
 use Rattle.rc_version.specs.laws.Staying.{version-kind, entries-kind, versions-apart}
-use Rattle.rc_partition.specs.Partitions.{StandingVersion, PartitionEntry, IsPartitionEntry, IsRowOf, objects_of, roots_of}
+use Rattle.rc_partition.specs.Partitions.{StandingVersion, PartitionEntry, IsPartitionEntry, IsRowOfVersion, heads_of, roots_of}
 use Rattle.rc_partition.specs.laws.Lists.{elem-first, elem-later, elem-map, elem-mapped, elem-parted, elem-reversed, once-none, once-both, once-head, once-reversed, once-tail}
 
 pub fields_differ : ◌≢◌ {A = ℕ} 1 0
@@ -32,28 +32,28 @@ same_root r s e = cc
 
 module _ (v : View) (well : IsWell v) where
   -- no two versions of a partition are one object
-  pub entry-once : (p : PartitionEntry) → IsPartitionEntry v p → AllPairs ◌≢◌ (objects_of p.versions)
-  entry-once p h = once-reversed (objects_of p.versions) (path-once 1 0 fields_differ (link_of v) well.paired (Slot p.root) (reverse (objects_of p.versions)) None tt h.chain)
+  pub entry-once : (p : PartitionEntry) → IsPartitionEntry v p → AllPairs ◌≢◌ (heads_of p.versions)
+  entry-once p h = once-reversed (heads_of p.versions) (path-once 1 0 fields_differ (link_of v) well.paired (Slot p.root) (reverse (heads_of p.versions)) None tt h.chain)
 
   -- nor are two of two partitions
-  pub entries-apart : (p q : PartitionEntry) → IsPartitionEntry v p → IsPartitionEntry v q → q.root ≢ p.root → (o : Ref) → Contains (objects_of p.versions) o → Contains (objects_of q.versions) o → ⊥
-  entries-apart p q h k ne o a b = paths-disjoint 1 0 fields_differ (link_of v) well.paired (Slot p.root) (Slot q.root) (reverse (objects_of p.versions)) (reverse (objects_of q.versions)) None None tt tt
-      (λ e. ne (same_root q.root p.root e)) h.chain k.chain o (elem-reversed (objects_of p.versions) o a) (elem-reversed (objects_of q.versions) o b)
+  pub entries-apart : (p q : PartitionEntry) → IsPartitionEntry v p → IsPartitionEntry v q → q.root ≢ p.root → (o : Ref) → Contains (heads_of p.versions) o → Contains (heads_of q.versions) o → ⊥
+  entries-apart p q h k ne o a b = paths-disjoint 1 0 fields_differ (link_of v) well.paired (Slot p.root) (Slot q.root) (reverse (heads_of p.versions)) (reverse (heads_of q.versions)) None None tt tt
+      (λ e. ne (same_root q.root p.root e)) h.chain k.chain o (elem-reversed (heads_of p.versions) o a) (elem-reversed (heads_of q.versions) o b)
 
 -- all versions of partitions
 abbrev pub versions_of : List PartitionEntry → List StandingVersion
 versions_of partitions = flat_map (λ p. p.versions) partitions
 
 module _ (v : View) (well : IsWell v) where
-  pub objects-once : (ps : List PartitionEntry) → AllPairs ◌≢◌ (roots_of ps) → ((p : PartitionEntry) → Contains ps p → IsPartitionEntry v p) → AllPairs ◌≢◌ (objects_of (versions_of ps))
+  pub objects-once : (ps : List PartitionEntry) → AllPairs ◌≢◌ (roots_of ps) → ((p : PartitionEntry) → Contains ps p → IsPartitionEntry v p) → AllPairs ◌≢◌ (heads_of (versions_of ps))
   objects-once [] once h = once-none
   objects-once (p ∷ ps) once h = subst (AllPairs ◌≢◌) (sym (map-append (λ (s : StandingVersion). s.object) p.versions (versions_of ps)))
-      (once-both (objects_of p.versions) (objects_of (versions_of ps)) (entry-once v well p (h p (elem-first p ps)))
+      (once-both (heads_of p.versions) (heads_of (versions_of ps)) (entry-once v well p (h p (elem-first p ps)))
       (objects-once ps (once-tail p.root (roots_of ps) once) (λ q later. h q (elem-later p q ps later)))
       (λ o a b. let t = elem-mapped (λ (s : StandingVersion). s.object) (versions_of ps) o b in let q = elem-parted (λ (x : PartitionEntry). x.versions) ps t.0 t.1 in
       entries-apart v well p q.0 (h p (elem-first p ps)) (h q.0 (elem-later p q.0 ps q.1))
       (λ e. once-head p.root (roots_of ps) once (subst (Contains (roots_of ps)) e (elem-map (λ (x : PartitionEntry). x.root) ps q.0 q.1)))
-      o a (subst (Contains (objects_of q.0.versions)) t.2 (elem-map (λ (s : StandingVersion). s.object) q.0.versions t.0 q.2))))
+      o a (subst (Contains (heads_of q.0.versions)) t.2 (elem-map (λ (s : StandingVersion). s.object) q.0.versions t.0 q.2))))
 
 -- ---- what is of a version
 
@@ -86,11 +86,11 @@ module _ (v : View) (s : StandingVersion) (h : IsVersionOf v s.object s.entries 
   static-kind r link = let w = static-holds v s.object r s.version.statics h.statics link in subst (λ (o : Option (Kind × List ℕ)). IsSomeAnd o (λ b. b.0 ≡ Static)) (sym w.2.0) refl
 
   -- a row is no version
-  pub row-version : (r : Ref) → IsRowOf v s r → IsSomeAnd (body v r) (λ b. b.0 ≡ VersionKind) → ⊥
+  pub row-version : (r : Ref) → IsRowOfVersion v s r → IsSomeAnd (body v r) (λ b. b.0 ≡ VersionKind) → ⊥
   row-version r (inl k) is = no_entry_at (body v r) is (entries-kind v s.object s.entries s.version h r k)
   row-version r (inr link) is = static_apart (body v r) (static-kind r link) is
 
-  pub row-recency : (r : Ref) → IsRowOf v s r → HasRecency v r
+  pub row-recency : (r : Ref) → IsRowOfVersion v s r → HasRecency v r
   row-recency r (inl k) = row_kind (body v r) (row-version r (inl k)) (some_entry (body v r) (entries-kind v s.object s.entries s.version h r k))
     where
       some_entry : (o : Option (Kind × List ℕ)) → IsSomeAnd o (λ b. IsEntryKind b.0) → IsSomeAnd o (λ b. (b.0 ≡ Static) ⊎ IsEntryKind b.0)
@@ -104,7 +104,7 @@ module _ (v : View) (s : StandingVersion) (h : IsVersionOf v s.object s.entries 
 
 -- a row of two versions
 module _ (v : View) (well : IsWell v) (s t : StandingVersion) (h : IsVersionOf v s.object s.entries s.version) (k : IsVersionOf v t.object t.entries t.version) where
-  rows_apart : s.object ≢ t.object → (r : Ref) → IsRowOf v s r → IsRowOf v t r → ⊥
+  rows_apart : s.object ≢ t.object → (r : Ref) → IsRowOfVersion v s r → IsRowOfVersion v t r → ⊥
   rows_apart ne r (inl a) (inl b) = versions-apart v well s.object t.object ne s.entries t.entries h.tree k.tree r a b
   rows_apart ne r (inl a) (inr b) = entry_apart (body v r) (static-kind v t k r b) (entries-kind v s.object s.entries s.version h r a)
   rows_apart ne r (inr a) (inl b) = entry_apart (body v r) (static-kind v s h r a) (entries-kind v t.object t.entries t.version k r b)
@@ -113,11 +113,11 @@ module _ (v : View) (well : IsWell v) (s t : StandingVersion) (h : IsVersionOf v
       let same : Obj s.object 3 ≡ Obj t.object 3 = cc in ne (same_object s.object t.object 3 3 same)
 
   -- is a row of one
-  pub one-version : (r : Ref) → IsRowOf v s r → IsRowOf v t r → s.object ≡ t.object
+  pub one-version : (r : Ref) → IsRowOfVersion v s r → IsRowOfVersion v t r → s.object ≡ t.object
   one-version r a b = elim (refs_decided s.object t.object) [ inl same ↦ same | inr ne ↦ absurd (rows_apart ne r a b) ]
 
   -- no part of one version is a part of another one
-  pub parts-apart : s.object ≢ t.object → (r : Ref) → (s.object ≡ r) ⊎ IsRowOf v s r → (t.object ≡ r) ⊎ IsRowOf v t r → ⊥
+  pub parts-apart : s.object ≢ t.object → (r : Ref) → (s.object ≡ r) ⊎ IsRowOfVersion v s r → (t.object ≡ r) ⊎ IsRowOfVersion v t r → ⊥
   parts-apart ne r (inl a) (inl b) = ne (a ∙ sym b)
   parts-apart ne r (inl a) (inr b) = row-version v t k r b (subst (λ q. IsSomeAnd (body v q) (λ b. b.0 ≡ VersionKind)) a (version-kind v s.object s.entries s.version h))
   parts-apart ne r (inr a) (inl b) = row-version v s h r a (subst (λ q. IsSomeAnd (body v q) (λ b. b.0 ≡ VersionKind)) b (version-kind v t.object t.entries t.version k))

@@ -20,7 +20,7 @@ use Rattle.rc_core.specs.Version.{Version}
 use Rattle.rc_object.specs.Objects.{IsRewritten}
 use Rattle.rc_version.specs.Versions.{IsVersionOf, IsKeptBut, IsUnlisted, IsWeighed, version_bytes}
 use Rattle.rc_version.specs.laws.Staying.{version-kind}
-use Rattle.rc_partition.specs.Partitions.{StandingVersion, PartitionEntry, AreStanding, IsPartitionEntry, IsRowOf, IsRowOfAny, among, objects_of, partition_of, partition_bytes, roots_of, standing}
+use Rattle.rc_partition.specs.Partitions.{StandingVersion, PartitionEntry, AreStanding, IsPartitionEntry, IsRowOfVersion, IsRowOfAny, among, heads_of, partition_of, partition_bytes, roots_of, standing}
 use Rattle.rc_partition.specs.laws.Apart.{entry-once, entries-apart, one-version, row-recency, row-version}
 use Rattle.rc_partition.specs.laws.Lists.{elem-first, elem-here, elem-later, elem-map, elem-replaced, elem-split, elem-still, once-beside, sum-middle}
 use Rattle.rc_partition.specs.laws.Whole.{each-stands, nothing-else}
@@ -37,7 +37,7 @@ module _ (front back : List PartitionEntry) (root : Root) (older newer : List St
   pub roots-among : (vs : List StandingVersion) → roots_of (front ++ (partition_of root vs ∷ back)) ≡ roots_of front ++ (root ∷ roots_of back)
   roots-among vs = map-append (λ (p : PartitionEntry). p.root) front (partition_of root vs ∷ back)
 
-  pub objects-among : (s : StandingVersion) → objects_of (older ++ (s ∷ newer)) ≡ objects_of older ++ (s.object ∷ objects_of newer)
+  pub objects-among : (s : StandingVersion) → heads_of (older ++ (s ∷ newer)) ≡ heads_of older ++ (s.object ∷ heads_of newer)
   objects-among s = map-append (λ (t : StandingVersion). t.object) older (s ∷ newer)
 
   -- a version of partitions among which s is: it is s, or beside it, or of another partition
@@ -96,14 +96,14 @@ module _ (slots : Slots) (old new : View) (front : List PartitionEntry) (root : 
 
   -- another version is another object
   pub beside-differs : (t : StandingVersion) → Contains (older ++ newer) t → t.object ≢ s.object
-  beside-differs t on same = once-beside (objects_of older) (objects_of newer) s.object
+  beside-differs t on same = once-beside (heads_of older) (heads_of newer) s.object
       (subst (AllPairs ◌≢◌) (objects-among front back root older newer s) (entry-once old well (partition_of root (older ++ (s ∷ newer))) this_stands))
-      (subst (λ l. Contains l s.object) (map-append (λ (q : StandingVersion). q.object) older newer) (subst (Contains (objects_of (older ++ newer))) same (elem-map (λ (q : StandingVersion). q.object) (older ++ newer) t on)))
+      (subst (λ l. Contains l s.object) (map-append (λ (q : StandingVersion). q.object) older newer) (subst (Contains (heads_of (older ++ newer))) same (elem-map (λ (q : StandingVersion). q.object) (older ++ newer) t on)))
 
   pub other-differs : (p : PartitionEntry) → Contains (front ++ back) p → (t : StandingVersion) → Contains p.versions t → t.object ≢ s.object
   other-differs p on t in_p same = entries-apart old well (partition_of root (older ++ (s ∷ newer))) p this_stands (h.entries p (other-among front back root older newer s p on)) (other_root p on) s.object
       (elem-map (λ (q : StandingVersion). q.object) (older ++ (s ∷ newer)) s (elem-here older newer s))
-      (subst (Contains (objects_of p.versions)) same (elem-map (λ (q : StandingVersion). q.object) p.versions t in_p))
+      (subst (Contains (heads_of p.versions)) same (elem-map (λ (q : StandingVersion). q.object) p.versions t in_p))
 
   beside_stands : (t : StandingVersion) → Contains (older ++ newer) t → IsVersionOf old t.object t.entries t.version
   beside_stands t on = this_stands.versions t (elem-still older newer s t on)
@@ -117,16 +117,16 @@ module _ (slots : Slots) (old new : View) (front : List PartitionEntry) (root : 
   other_kept : (p : PartitionEntry) → Contains (front ++ back) p → IsPartitionEntry new p
   other_kept p on = let k = h.entries p (other-among front back root older newer s p on) in record {
     slot = kept.roots p.root k.slot;
-    chain = chain_kept p (reverse (objects_of p.versions)) k.chain;
+    chain = chain_kept p (reverse (heads_of p.versions)) k.chain;
     versions = λ t in_p. kept.versions t.object t.entries t.version (other-differs p on t in_p) (k.versions t in_p);
   }
 
   -- rows of other versions
-  rows_kept : (t : StandingVersion) → t.object ≢ s.object → IsVersionOf old t.object t.entries t.version → (r : Ref) → IsRowOf old t r → IsRowOf new t r
+  rows_kept : (t : StandingVersion) → t.object ≢ s.object → IsVersionOf old t.object t.entries t.version → (r : Ref) → IsRowOfVersion old t r → IsRowOfVersion new t r
   rows_kept t ne k r (inl on) = inl on
   rows_kept t ne k r (inr link) = inr (kept.statics t.object t.entries t.version ne k ∙ link)
 
-  rows_back : (t : StandingVersion) → t.object ≢ s.object → IsVersionOf old t.object t.entries t.version → (r : Ref) → IsRowOf new t r → IsRowOf old t r
+  rows_back : (t : StandingVersion) → t.object ≢ s.object → IsVersionOf old t.object t.entries t.version → (r : Ref) → IsRowOfVersion new t r → IsRowOfVersion old t r
   rows_back t ne k r (inl on) = inl on
   rows_back t ne k r (inr link) = inr (sym (kept.statics t.object t.entries t.version ne k) ∙ link)
 
@@ -138,7 +138,7 @@ module _ (slots : Slots) (old new : View) (front : List PartitionEntry) (root : 
     this_kept = record {
       slot = kept.roots root this_stands.slot;
       chain = subst (λ l. IsPath 1 0 (link_of new) (Slot root) (reverse l) None) (objects-among front back root older newer s ∙ sym (objects-among front back root older newer (standing s.object now c)))
-          (chain_kept (partition_of root (older ++ (s ∷ newer))) (reverse (objects_of (older ++ (s ∷ newer)))) this_stands.chain);
+          (chain_kept (partition_of root (older ++ (s ∷ newer))) (reverse (heads_of (older ++ (s ∷ newer)))) this_stands.chain);
       versions = λ t on. elim (elem-replaced older newer (standing s.object now c) t on) [
         | inl same ↦ subst (λ (q : StandingVersion). IsVersionOf new q.object q.entries q.version) same is
         | inr beside ↦ kept.versions t.object t.entries t.version (beside-differs t beside) (beside_stands t beside)
@@ -152,14 +152,14 @@ module _ (slots : Slots) (old new : View) (front : List PartitionEntry) (root : 
     ]
 
     -- a row of a version that stands there now
-    row_now : (r : Ref) → IsRowOfAny old (among front root older s newer back) r → (IsRowOf old s r → IsRowOf new (standing s.object now c) r) → IsRowOfAny new (among front root older (standing s.object now c) newer back) r
+    row_now : (r : Ref) → IsRowOfAny old (among front root older s newer back) r → (IsRowOfVersion old s r → IsRowOfVersion new (standing s.object now c) r) → IsRowOfAny new (among front root older (standing s.object now c) newer back) r
     row_now r w rows = elim (among-cases front back root older newer s w.0 w.1 w.2 w.3) [
       | inl same ↦ (
         partition_of root (older ++ (standing s.object now c ∷ newer)),
         standing s.object now c,
         this-among front back root older newer (standing s.object now c),
         elem-here older newer (standing s.object now c),
-        rows (subst (λ q. IsRowOf old q r) (sym same) w.4),
+        rows (subst (λ q. IsRowOfVersion old q r) (sym same) w.4),
       )
       | inr (inl beside) ↦ (
         partition_of root (older ++ (standing s.object now c ∷ newer)),
@@ -190,7 +190,7 @@ module _ (slots : Slots) (old new : View) (front : List PartitionEntry) (root : 
     list_path = path-same 0 1 (link_of old) (link_of new) (Slot slots.front) listed (Some (Slot slots.back)) (kept.links (Slot slots.front) tt) (all-from_members 1 (λ e. link_of new e ≡ link_of old e) listed (λ r k. kept.links (Obj r 1) (omega arith))) h.list.path
 
     -- a row of the version that is listed is a row of it still: it is there, and of no other version
-    row_stays : IsWell new → IsSummed new → IsWeighed old new s.version c → (r : Ref) → Contains listed r → IsRowOf old s r → IsRowOf new (standing s.object now c) r
+    row_stays : IsWell new → IsSummed new → IsWeighed old new s.version c → (r : Ref) → Contains listed r → IsRowOfVersion old s r → IsRowOfVersion new (standing s.object now c) r
     row_stays well_new summed_new weigh r on row =
         let a = path-entered 0 1 (link_of new) (Slot slots.front) listed (Some (Slot slots.back)) list_path r on in
         elim (each-stands new (among front root older (standing s.object now c) newer back) well_new summed_new apart_now entries-kept (whole_now weigh) r (some-there _ (body new r) (well_new.ends a.0 (Obj r 0) a.1))) [
@@ -205,14 +205,14 @@ module _ (slots : Slots) (old new : View) (front : List PartitionEntry) (root : 
           | inr (inr other) ↦ version-kind old t.object t.entries t.version (other_stands p other t in_p)
         ]
 
-        of_this : (p : PartitionEntry) (t : StandingVersion) → Contains (among front root older (standing s.object now c) newer back) p → Contains p.versions t → IsRowOf new t r → IsRowOf new (standing s.object now c) r
+        of_this : (p : PartitionEntry) (t : StandingVersion) → Contains (among front root older (standing s.object now c) newer back) p → Contains p.versions t → IsRowOfVersion new t r → IsRowOfVersion new (standing s.object now c) r
         of_this p t in_all in_p this_row = elim (among-cases front back root older newer (standing s.object now c) p t in_all in_p) [
-          | inl same ↦ subst (λ (q : StandingVersion). IsRowOf new q r) (sym same) this_row
+          | inl same ↦ subst (λ (q : StandingVersion). IsRowOfVersion new q r) (sym same) this_row
           | inr (inl beside) ↦ absurd (beside-differs t beside (sym (one-version old well s t s-stands (beside_stands t beside) r row (rows_back t (beside-differs t beside) (beside_stands t beside) r this_row))))
           | inr (inr other) ↦ absurd (other-differs p other t in_p (sym (one-version old well s t s-stands (other_stands p other t in_p) r row (rows_back t (other-differs p other t in_p) (other_stands p other t in_p) r this_row))))
         ]
 
-    module _ (summed : IsSummed old) (weigh : IsWeighed old new s.version c) (rows : (r : Ref) → Contains listed r → IsRowOf old s r → IsRowOf new (standing s.object now c) r) (fresh : (r : Ref) → body old r ≡ None → IsUnlisted new r) where
+    module _ (summed : IsSummed old) (weigh : IsWeighed old new s.version c) (rows : (r : Ref) → Contains listed r → IsRowOfVersion old s r → IsRowOfVersion new (standing s.object now c) r) (fresh : (r : Ref) → body old r ≡ None → IsUnlisted new r) where
       owned_now : (r : Ref) → Contains listed r → IsRowOfAny new (among front root older (standing s.object now c) newer back) r
       owned_now r on = row_now r (h.owned r on) (rows r on)
 
@@ -265,6 +265,6 @@ module _ (old new : View) (r : Ref) (rewritten : IsRewritten old new r) where
   pub rewritten-fresh : IsWell old → (q : Ref) → body old q ≡ None → IsUnlisted new q
   rewritten-fresh well q none field low = rewritten.0.1.links (Obj q field) ∙ none_unlisted old well q none field low
 
-  pub rewritten-row : (s : StandingVersion) (c : Version) (q : Ref) → IsRowOf old s q → IsRowOf new (standing s.object s.entries c) q
+  pub rewritten-row : (s : StandingVersion) (c : Version) (q : Ref) → IsRowOfVersion old s q → IsRowOfVersion new (standing s.object s.entries c) q
   rewritten-row s c q (inl on) = inl on
   rewritten-row s c q (inr link) = inr (rewritten.0.1.links (Obj s.object 3) ∙ link)

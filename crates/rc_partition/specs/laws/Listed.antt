@@ -16,7 +16,7 @@ use Rattle.lsa_list.specs.declared.recency.List.{List as Slots}
 use Rattle.lsa_list.specs.Recency.{IsElsewhere, IsList}
 use Rattle.rc_version.specs.Versions.{IsOutward, IsVersionOf, IsUnlisted}
 use Rattle.rc_version.specs.laws.Staying.{version-kind, version-outward}
-use Rattle.rc_partition.specs.Partitions.{StandingVersion, PartitionEntry, AreStanding, IsPartitionEntry, IsRowOf, IsRowOfAny, objects_of}
+use Rattle.rc_partition.specs.Partitions.{StandingVersion, PartitionEntry, AreStanding, IsPartitionEntry, IsRowOfVersion, IsRowOfAny, heads_of}
 use Rattle.rc_partition.specs.laws.Lists.{elem-here, elem-left, elem-mapped, elem-pushed, elem-replaced, elem-still, elem-unreversed}
 
 -- ---- ends that are none of a recency list
@@ -69,19 +69,19 @@ module _ (slots : Slots) (old new : View) (elsewhere : (e : End) → IsElsewhere
   version_kept : (t : StandingVersion) → IsVersionOf old t.object t.entries t.version → IsVersionOf new t.object t.entries t.version
   version_kept t k = version-outward old new t.object t.entries t.version (λ e far. elsewhere e (inward-elsewhere slots old e far)) objects.bodies k
 
-  rows_kept : (t : StandingVersion) → IsVersionOf old t.object t.entries t.version → (r : Ref) → IsRowOf old t r → IsRowOf new t r
+  rows_kept : (t : StandingVersion) → IsVersionOf old t.object t.entries t.version → (r : Ref) → IsRowOfVersion old t r → IsRowOfVersion new t r
   rows_kept t k r (inl on) = inl on
   rows_kept t k r (inr link) = inr (elsewhere (Obj t.object 3) (version-elsewhere slots old t.object 3 (version-kind old t.object t.entries t.version k)) ∙ link)
 
-  rows_back : (t : StandingVersion) → IsVersionOf old t.object t.entries t.version → (r : Ref) → IsRowOf new t r → IsRowOf old t r
+  rows_back : (t : StandingVersion) → IsVersionOf old t.object t.entries t.version → (r : Ref) → IsRowOfVersion new t r → IsRowOfVersion old t r
   rows_back t k r (inl on) = inl on
   rows_back t k r (inr link) = inr (sym (elsewhere (Obj t.object 3) (version-elsewhere slots old t.object 3 (version-kind old t.object t.entries t.version k))) ∙ link)
 
   entry_kept : (p : PartitionEntry) → (p.root ≢ slots.front) × (p.root ≢ slots.back) → IsPartitionEntry old p → IsPartitionEntry new p
   entry_kept p apart k = record {
     slot = objects.ends (Slot p.root) k.slot;
-    chain = path-same 1 0 (link_of old) (link_of new) (Slot p.root) (reverse (objects_of p.versions)) None (elsewhere (Slot p.root) apart) (all-from_members 0 (λ e. link_of new e ≡ link_of old e) (reverse (objects_of p.versions))
-        (λ r on. let t = elem-mapped (λ (s : StandingVersion). s.object) p.versions r (elem-unreversed (objects_of p.versions) r on) in
+    chain = path-same 1 0 (link_of old) (link_of new) (Slot p.root) (reverse (heads_of p.versions)) None (elsewhere (Slot p.root) apart) (all-from_members 0 (λ e. link_of new e ≡ link_of old e) (reverse (heads_of p.versions))
+        (λ r on. let t = elem-mapped (λ (s : StandingVersion). s.object) p.versions r (elem-unreversed (heads_of p.versions) r on) in
         elsewhere (Obj r 0) (version-elsewhere slots old r 0 (subst (λ q. IsSomeAnd (body old q) (λ b. b.0 ≡ VersionKind)) t.2 (version-kind old t.0.object t.0.entries t.0.version (k.versions t.0 t.1)))))) k.chain;
     versions = λ t on. version_kept t (k.versions t on);
   }

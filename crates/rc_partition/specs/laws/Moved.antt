@@ -14,12 +14,12 @@ use Rattle.lsa_list.specs.laws.Lists.{list-renamed}
 use Rattle.rc_version.specs.Versions.{IsVersionOf, IsUnlisted, version_bytes}
 use Rattle.rc_version.specs.laws.Moving.{version-renamed}
 use Rattle.rc_version.specs.laws.Staying.{version-kind}
-use Rattle.rc_partition.specs.Partitions.{StandingVersion, PartitionEntry, AreStanding, IsPartitionEntry, IsRowOf, IsRowOfAny, objects_of, partition_as, partition_bytes, roots_of, version_as}
+use Rattle.rc_partition.specs.Partitions.{StandingVersion, PartitionEntry, AreStanding, IsPartitionEntry, IsRowOfVersion, IsRowOfAny, heads_of, partition_as, partition_bytes, roots_of, version_as}
 use Rattle.rc_partition.specs.laws.Apart.{row-recency}
 use Rattle.rc_partition.specs.laws.Lists.{elem-map, elem-mapped, map-reversed, sum-mapped, sum-same}
 
 module _ (old new : View) (names : List (Ref × Ref)) (renamed : Renamed old new names) (well : IsWell old) where
-  objects_renamed : (vs : List StandingVersion) → objects_of (map (version_as names) vs) ≡ map (named_as names) (objects_of vs)
+  objects_renamed : (vs : List StandingVersion) → heads_of (map (version_as names) vs) ≡ map (named_as names) (heads_of vs)
   objects_renamed [] = refl
   objects_renamed (s ∷ vs) = ap (λ l. named_as names s.object ∷ l) (objects_renamed vs)
 
@@ -33,8 +33,8 @@ module _ (old new : View) (names : List (Ref × Ref)) (renamed : Renamed old new
   entry_renamed : (p : PartitionEntry) → IsPartitionEntry old p → IsPartitionEntry new (partition_as names p)
   entry_renamed p h = record {
     slot = renamed.kept p.root h.slot;
-    chain = subst (λ l. IsPath 1 0 (link_of new) (Slot p.root) l None) (map-reversed (named_as names) (objects_of p.versions) ∙ ap reverse (sym (objects_renamed p.versions)))
-        (path-renamed old new names renamed well 1 0 (Slot p.root) (reverse (objects_of p.versions)) None tt h.chain);
+    chain = subst (λ l. IsPath 1 0 (link_of new) (Slot p.root) l None) (map-reversed (named_as names) (heads_of p.versions) ∙ ap reverse (sym (objects_renamed p.versions)))
+        (path-renamed old new names renamed well 1 0 (Slot p.root) (reverse (heads_of p.versions)) None tt h.chain);
     versions = λ t on. let w = elem-mapped (version_as names) p.versions t on in
         subst (λ (q : StandingVersion). IsVersionOf new q.object q.entries q.version) w.2 (version-renamed old new names renamed well w.0.object w.0.entries w.0.version (h.versions w.0 w.1));
   }
@@ -46,11 +46,11 @@ module _ (old new : View) (names : List (Ref × Ref)) (renamed : Renamed old new
   was_named (Some (Obj r g)) q f is = let same : Obj (named_as names r) g ≡ Obj q f = cc in let fields : g ≡ f = cc in (r, ap (λ n. Some (Obj r n)) fields, cc)
 
   module _ (t : StandingVersion) (k : IsVersionOf old t.object t.entries t.version) where
-    row_renamed : (r : Ref) → IsRowOf old t r → IsRowOf new (version_as names t) (named_as names r)
+    row_renamed : (r : Ref) → IsRowOfVersion old t r → IsRowOfVersion new (version_as names t) (named_as names r)
     row_renamed r (inl on) = inl (elem-map (named_as names) t.entries r on)
     row_renamed r (inr link) = inr (renamed.links t.object 3 (some-there _ (body old t.object) (version-kind old t.object t.entries t.version k)) ∙ ap (option_map (end_as names)) link)
 
-    row_was : (q : Ref) → IsRowOf new (version_as names t) q → (r : Ref) × IsRowOf old t r × (named_as names r ≡ q)
+    row_was : (q : Ref) → IsRowOfVersion new (version_as names t) q → (r : Ref) × IsRowOfVersion old t r × (named_as names r ≡ q)
     row_was q (inl on) = let w = elem-mapped (named_as names) t.entries q on in (w.0, inl w.1, w.2)
     row_was q (inr link) =
         let w = was_named (link_of old (Obj t.object 3)) q 2 (sym (renamed.links t.object 3 (some-there _ (body old t.object) (version-kind old t.object t.entries t.version k))) ∙ link) in (w.0, inr w.1, w.2)
@@ -59,12 +59,12 @@ module _ (old new : View) (names : List (Ref × Ref)) (renamed : Renamed old new
     unlisted_renamed : (r q : Ref) → IsSome (body old r) → named_as names r ≡ q → IsUnlisted old r → IsUnlisted new q
     unlisted_renamed r q live is unset = subst (IsUnlisted new) is (λ field low. renamed.links r field live ∙ ap (option_map (end_as names)) (unset field low))
 
-    unlisted_at : (p : PartitionEntry) (t : StandingVersion) (q : Ref) → Contains (map (partition_as names) partitions) p → Contains p.versions t → IsRowOf new t q → (Contains (map (named_as names) listed) q → ⊥) → IsUnlisted new q
+    unlisted_at : (p : PartitionEntry) (t : StandingVersion) (q : Ref) → Contains (map (partition_as names) partitions) p → Contains p.versions t → IsRowOfVersion new t q → (Contains (map (named_as names) listed) q → ⊥) → IsUnlisted new q
     unlisted_at p t q on in_p row off =
         let a = elem-mapped (partition_as names) partitions p on in
         let b = elem-mapped (version_as names) a.0.versions t (subst (λ (x : PartitionEntry). Contains x.versions t) (sym a.2) in_p) in
         let stands = (h.entries a.0 a.1).versions b.0 b.1 in
-        let r = row_was b.0 stands q (subst (λ (x : StandingVersion). IsRowOf new x q) (sym b.2) row) in
+        let r = row_was b.0 stands q (subst (λ (x : StandingVersion). IsRowOfVersion new x q) (sym b.2) row) in
         unlisted_renamed r.0 q (some-there _ (body old r.0) (row-recency old b.0 stands r.0 r.1)) r.2
         (h.unlisted r.0 (a.0, b.0, a.1, b.1, r.1) (λ in_list. off (subst (Contains (map (named_as names) listed)) r.2 (elem-map (named_as names) listed r.0 in_list))))
 

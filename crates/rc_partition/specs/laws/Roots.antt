@@ -17,7 +17,7 @@ use Rattle.lsa_list.specs.Recency.{IsList}
 use Rattle.lsa_list.specs.laws.Lists.{last-named, list-unlinked}
 use Rattle.rc_version.specs.Versions.{IsUnlisted}
 use Rattle.rc_version.specs.laws.Staying.{version-outward}
-use Rattle.rc_partition.specs.Partitions.{StandingVersion, PartitionEntry, AreStanding, IsPartitionEntry, IsRowOf, IsRowOfAny, objects_of, partition_bytes, partition_of, roots_of}
+use Rattle.rc_partition.specs.Partitions.{StandingVersion, PartitionEntry, AreStanding, IsPartitionEntry, IsRowOfVersion, IsRowOfAny, heads_of, partition_bytes, partition_of, roots_of}
 use Rattle.rc_partition.specs.laws.Apart.{same_root}
 use Rattle.rc_partition.specs.laws.Lists.{elem-here, elem-map, elem-mapped, elem-none, elem-replaced, elem-still, once-beside, once-with, once-without, sum-middle, sum-without}
 
@@ -39,15 +39,15 @@ module _ (slots : Slots) (old new : View) (links : (e : End) → link_of new e �
   entry_kept : (p : PartitionEntry) → (IsEnd old (Slot p.root) → IsEnd new (Slot p.root)) → IsPartitionEntry old p → IsPartitionEntry new p
   entry_kept p there k = record {
     slot = there k.slot;
-    chain = path-everywhere 1 0 (link_of old) (link_of new) (Slot p.root) (reverse (objects_of p.versions)) None links k.chain;
+    chain = path-everywhere 1 0 (link_of old) (link_of new) (Slot p.root) (reverse (heads_of p.versions)) None links k.chain;
     versions = λ t on. version-outward old new t.object t.entries t.version (λ e far. links e) same.bodies (k.versions t on);
   }
 
-  row_kept : (t : StandingVersion) (r : Ref) → IsRowOf old t r → IsRowOf new t r
+  row_kept : (t : StandingVersion) (r : Ref) → IsRowOfVersion old t r → IsRowOfVersion new t r
   row_kept t r (inl on) = inl on
   row_kept t r (inr link) = inr (links (Obj t.object 3) ∙ link)
 
-  row_back : (t : StandingVersion) (r : Ref) → IsRowOf new t r → IsRowOf old t r
+  row_back : (t : StandingVersion) (r : Ref) → IsRowOfVersion new t r → IsRowOfVersion old t r
   row_back t r (inl on) = inl on
   row_back t r (inr link) = inr (sym (links (Obj t.object 3)) ∙ link)
 

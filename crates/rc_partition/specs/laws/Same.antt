@@ -12,7 +12,7 @@ use Rattle.lsa_path.specs.laws.Passing.{path-determined}
 use Rattle.lsa_list.specs.declared.recency.List.{List as Slots}
 use Rattle.rc_version.specs.Versions.{IsVersionOf}
 use Rattle.rc_version.specs.laws.Moving.{version-once}
-use Rattle.rc_partition.specs.Partitions.{StandingVersion, PartitionEntry, AreStanding, IsPartitionEntry, objects_of, partition_of, roots_of, standing}
+use Rattle.rc_partition.specs.Partitions.{StandingVersion, PartitionEntry, AreStanding, IsPartitionEntry, heads_of, partition_of, roots_of, standing}
 use Rattle.rc_partition.specs.laws.Apart.{entries-apart, entry-once, same_root}
 use Rattle.rc_partition.specs.laws.Lists.{elem-first, elem-here, elem-later, elem-map, once-head, once-tail}
 
@@ -37,20 +37,20 @@ module _ (v : View) where
       λ i. standing (same i) (w.0 i) (w.1 i)
 
   same_versions : (ss ts : List StandingVersion) → ((s : StandingVersion) → Contains ss s → IsVersionOf v s.object s.entries s.version) → ((t : StandingVersion) → Contains ts t → IsVersionOf v t.object t.entries t.version)
-      → objects_of ss ≡ objects_of ts → ss ≡ ts
+      → heads_of ss ≡ heads_of ts → ss ≡ ts
   same_versions [] [] h k same = refl
   same_versions [] (t ∷ ts) h k same = cc same
   same_versions (s ∷ ss) [] h k same = cc same
   same_versions (s ∷ ss) (t ∷ ts) h k same = λ i.
-      same-standing s t (h s (elem-first s ss)) (k t (elem-first t ts)) (heads s.object t.object (objects_of ss) (objects_of ts) same) i
-      ∷ same_versions ss ts (λ q later. h q (elem-later s q ss later)) (λ q later. k q (elem-later t q ts later)) (tails s.object t.object (objects_of ss) (objects_of ts) same) i
+      same-standing s t (h s (elem-first s ss)) (k t (elem-first t ts)) (heads s.object t.object (heads_of ss) (heads_of ts) same) i
+      ∷ same_versions ss ts (λ q later. h q (elem-later s q ss later)) (λ q later. k q (elem-later t q ts later)) (tails s.object t.object (heads_of ss) (heads_of ts) same) i
 
   -- what a slot leads to is one partition
   pub same-entry : (p q : PartitionEntry) → IsPartitionEntry v p → IsPartitionEntry v q → p.root ≡ q.root → p ≡ q
   same-entry p q h k same =
-      let back = (path-determined 1 0 (link_of v) (Slot q.root) (reverse (objects_of p.versions)) (reverse (objects_of q.versions)) None None refl refl
-      (subst (λ r. IsPath 1 0 (link_of v) (Slot r) (reverse (objects_of p.versions)) None) same h.chain) k.chain).0 in
-      let versions = same_versions p.versions q.versions h.versions k.versions (sym (reverse-reverse (objects_of p.versions)) ∙ ap reverse back ∙ reverse-reverse (objects_of q.versions)) in
+      let back = (path-determined 1 0 (link_of v) (Slot q.root) (reverse (heads_of p.versions)) (reverse (heads_of q.versions)) None None refl refl
+      (subst (λ r. IsPath 1 0 (link_of v) (Slot r) (reverse (heads_of p.versions)) None) same h.chain) k.chain).0 in
+      let versions = same_versions p.versions q.versions h.versions k.versions (sym (reverse-reverse (heads_of p.versions)) ∙ ap reverse back ∙ reverse-reverse (heads_of q.versions)) in
       λ i. partition_of (same i) (versions i)
 
   pub same-entries : (ps qs : List PartitionEntry) → ((p : PartitionEntry) → Contains ps p → IsPartitionEntry v p) → ((q : PartitionEntry) → Contains qs q → IsPartitionEntry v q) → roots_of ps ≡ roots_of qs → ps ≡ qs
@@ -69,14 +69,14 @@ stands-once slots v ps qs xs ys h k same = (
 
 -- ---- the place of a version
 
-parted : (us vs xs ys : List StandingVersion) (s t : StandingVersion) → AllPairs ◌≢◌ (objects_of (us ++ (s ∷ vs))) → us ++ (s ∷ vs) ≡ xs ++ (t ∷ ys) → s.object ≡ t.object → (us ≡ xs) × (s ≡ t) × (vs ≡ ys)
+parted : (us vs xs ys : List StandingVersion) (s t : StandingVersion) → AllPairs ◌≢◌ (heads_of (us ++ (s ∷ vs))) → us ++ (s ∷ vs) ≡ xs ++ (t ∷ ys) → s.object ≡ t.object → (us ≡ xs) × (s ≡ t) × (vs ≡ ys)
 parted [] vs [] ys s t once e same = (refl, heads s t vs ys e, tails s t vs ys e)
-parted [] vs (x ∷ xs) ys s t once e same = absurd (once-head s.object (objects_of vs) once (subst (Contains (objects_of vs)) (sym same)
+parted [] vs (x ∷ xs) ys s t once e same = absurd (once-head s.object (heads_of vs) once (subst (Contains (heads_of vs)) (sym same)
     (elem-map (λ (q : StandingVersion). q.object) vs t (subst (λ l. Contains l t) (sym (tails s x vs (xs ++ (t ∷ ys)) e)) (elem-here xs ys t)))))
-parted (u ∷ us) vs [] ys s t once e same = absurd (once-head u.object (objects_of (us ++ (s ∷ vs))) once
-    (subst (Contains (objects_of (us ++ (s ∷ vs)))) (same ∙ ap (λ (q : StandingVersion). q.object) (sym (heads u t (us ++ (s ∷ vs)) ys e))) (elem-map (λ (q : StandingVersion). q.object) (us ++ (s ∷ vs)) s (elem-here us vs s))))
+parted (u ∷ us) vs [] ys s t once e same = absurd (once-head u.object (heads_of (us ++ (s ∷ vs))) once
+    (subst (Contains (heads_of (us ++ (s ∷ vs)))) (same ∙ ap (λ (q : StandingVersion). q.object) (sym (heads u t (us ++ (s ∷ vs)) ys e))) (elem-map (λ (q : StandingVersion). q.object) (us ++ (s ∷ vs)) s (elem-here us vs s))))
 parted (u ∷ us) vs (x ∷ xs) ys s t once e same =
-    let w = parted us vs xs ys s t (once-tail u.object (objects_of (us ++ (s ∷ vs))) once) (tails u x (us ++ (s ∷ vs)) (xs ++ (t ∷ ys)) e) same in
+    let w = parted us vs xs ys s t (once-tail u.object (heads_of (us ++ (s ∷ vs))) once) (tails u x (us ++ (s ∷ vs)) (xs ++ (t ∷ ys)) e) same in
     ((λ i. heads u x (us ++ (s ∷ vs)) (xs ++ (t ∷ ys)) e i ∷ w.0 i), w.1, w.2)
 
 pub same-place : (v : View) → IsWell v → (root other : Root) (us vs xs ys : List StandingVersion) (s t : StandingVersion) → IsPartitionEntry v (partition_of root (us ++ (s ∷ vs))) → IsPartitionEntry v (partition_of other (xs ++ (t ∷ ys))) → s.object ≡ t.object
@@ -89,5 +89,5 @@ same-place v well root other us vs xs ys s t h k same = elim (ends_decided (Slot
       (roots, w.0, w.1, w.2)
   | inr ne ↦ absurd (entries-apart v well (partition_of root (us ++ (s ∷ vs))) (partition_of other (xs ++ (t ∷ ys))) h k (λ e. ne (ap (λ r. Slot r) (sym e))) s.object
       (elem-map (λ (q : StandingVersion). q.object) (us ++ (s ∷ vs)) s (elem-here us vs s))
-      (subst (Contains (objects_of (xs ++ (t ∷ ys)))) (sym same) (elem-map (λ (q : StandingVersion). q.object) (xs ++ (t ∷ ys)) t (elem-here xs ys t))))
+      (subst (Contains (heads_of (xs ++ (t ∷ ys)))) (sym same) (elem-map (λ (q : StandingVersion). q.object) (xs ++ (t ∷ ys)) t (elem-here xs ys t))))
 ]

@@ -26,7 +26,7 @@ use Rattle.rc_rowcode.specs.Objects.{static_size}
 use Rattle.rc_version.specs.Versions.{version_head, HasStatics, HoldEntries, IsVersionOf, IsStaticsOf, statics_bytes, entries_bytes, version_bytes}
 use Rattle.rc_version.specs.laws.Objects.{head-extent, holds-extent}
 use Rattle.rc_version.specs.laws.Staying.{version-kind, entries-kind}
-use Rattle.rc_partition.specs.Partitions.{StandingVersion, PartitionEntry, AreStanding, IsPartitionEntry, IsRowOf, IsRowOfAny, objects_of, roots_of, static_objects, version_objects, partition_objects, partition_bytes}
+use Rattle.rc_partition.specs.Partitions.{StandingVersion, PartitionEntry, AreStanding, IsPartitionEntry, IsRowOfVersion, IsRowOfAny, heads_of, roots_of, static_objects, version_objects, partition_objects, partition_bytes}
 use Rattle.rc_partition.specs.laws.Apart.{versions_of, objects-once, entry_apart, static-kind, row-version, row-recency, parts-apart}
 use Rattle.rc_partition.specs.laws.Lists.{elem-cases, elem-first, elem-later, elem-map, elem-none, elem-parted, once-none, once-cons, once-both, once-head, once-tail, sum-joined, sum-same}
 
@@ -82,7 +82,7 @@ module _ (v : View) (s : StandingVersion) (h : IsVersionOf v s.object s.entries 
   part_static r k = named_static v s.object r s.version.statics h.statics (static_member v (link_of v (Obj s.object 3)) r k)
 
   -- a part is the head or a row
-  pub part-cases : (r : Ref) → Contains (parts_of v s) r → (s.object ≡ r) ⊎ IsRowOf v s r
+  pub part-cases : (r : Ref) → Contains (parts_of v s) r → (s.object ≡ r) ⊎ IsRowOfVersion v s r
   part-cases r k = elim (elem-cases s.object r (named_object (object_of (link_of v (Obj s.object 3))) ++ s.entries) k) [
     | inl same ↦ inl same
     | inr later ↦ elim (Contains-append_cases (named_object (object_of (link_of v (Obj s.object 3)))) s.entries r later) [
@@ -94,7 +94,7 @@ module _ (v : View) (s : StandingVersion) (h : IsVersionOf v s.object s.entries 
   pub head-part : Contains (parts_of v s) s.object
   head-part = elem-first s.object (named_object (object_of (link_of v (Obj s.object 3))) ++ s.entries)
 
-  pub row-part : (r : Ref) → IsRowOf v s r → Contains (parts_of v s) r
+  pub row-part : (r : Ref) → IsRowOfVersion v s r → Contains (parts_of v s) r
   row-part r (inl k) = elem-later s.object r (named_object (object_of (link_of v (Obj s.object 3))) ++ s.entries) (Contains-append_right (named_object (object_of (link_of v (Obj s.object 3)))) s.entries r k)
   row-part r (inr link) = elem-later s.object r (named_object (object_of (link_of v (Obj s.object 3))) ++ s.entries) (Contains-append_left (named_object (object_of (link_of v (Obj s.object 3)))) s.entries r
       (subst (λ o. Contains (named_object (object_of o)) r) (sym link) (elem-first r [])))
@@ -136,13 +136,13 @@ abbrev pub all_parts : View → List StandingVersion → List Ref
 all_parts v vs = flat_map (parts_of v) vs
 
 module _ (v : View) (well : IsWell v) where
-  all-once : (vs : List StandingVersion) → AllPairs ◌≢◌ (objects_of vs) → ((s : StandingVersion) → Contains vs s → IsVersionOf v s.object s.entries s.version) → AllPairs ◌≢◌ (all_parts v vs)
+  all-once : (vs : List StandingVersion) → AllPairs ◌≢◌ (heads_of vs) → ((s : StandingVersion) → Contains vs s → IsVersionOf v s.object s.entries s.version) → AllPairs ◌≢◌ (all_parts v vs)
   all-once [] once h = once-none
   all-once (s ∷ vs) once h = once-both (parts_of v s) (all_parts v vs) (parts-once v s (h s (elem-first s vs)) well)
-      (all-once vs (once-tail s.object (objects_of vs) once) (λ t later. h t (elem-later s t vs later)))
+      (all-once vs (once-tail s.object (heads_of vs) once) (λ t later. h t (elem-later s t vs later)))
       (λ r a b. let w = elem-parted (parts_of v) vs r b in let k = h w.0 (elem-later s w.0 vs w.1) in
       parts-apart v well s w.0 (h s (elem-first s vs)) k
-      (λ same. once-head s.object (objects_of vs) once (subst (Contains (objects_of vs)) (sym same) (elem-map (λ (t : StandingVersion). t.object) vs w.0 w.1)))
+      (λ same. once-head s.object (heads_of vs) once (subst (Contains (heads_of vs)) (sym same) (elem-map (λ (t : StandingVersion). t.object) vs w.0 w.1)))
       r (part-cases v s (h s (elem-first s vs)) r a) (part-cases v w.0 k r w.2))
 
   all-sum : (vs : List StandingVersion) → ((s : StandingVersion) → Contains vs s → IsVersionOf v s.object s.entries s.version) → sum_by (λ r. object_extent (body v r)) (all_parts v vs) ≡ sum_by (λ s. version_bytes s.version) vs

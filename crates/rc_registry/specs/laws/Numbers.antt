@@ -3,19 +3,19 @@ use Rattle.std.proofs.Common.{◌≡◌, ◌⊎◌, ℕ, ◌<◌, ◌≤◌, Lis
 use Rattle.std.specs.List.{IsDistinct, AllByRecursion, list_any}
 use Rattle.std.proofs.lemmas.Bool.Decides.{eqb_tells}
 use Rattle.std.proofs.lemmas.Map.Steps.{length-le_from_distinct_below}
-use Rattle.rc_registry.specs.Registry.{IsOneOf, AreOnce}
+use Rattle.rc_registry.specs.Registry.{IsNumberIn, AreOnce}
 
 -- ---- lists joined
 
-pub IsOneOf-front : (xs ys : List ℕ) (n : ℕ) → IsOneOf xs n → IsOneOf (xs ++ ys) n
+pub IsOneOf-front : (xs ys : List ℕ) (n : ℕ) → IsNumberIn xs n → IsNumberIn (xs ++ ys) n
 IsOneOf-front [] ys n h = absurd h
 IsOneOf-front (x ∷ xs) ys n h = elim h [ inl e ↦ inl e | inr k ↦ inr (IsOneOf-front xs ys n k) ]
 
-pub IsOneOf-back : (xs ys : List ℕ) (n : ℕ) → IsOneOf ys n → IsOneOf (xs ++ ys) n
+pub IsOneOf-back : (xs ys : List ℕ) (n : ℕ) → IsNumberIn ys n → IsNumberIn (xs ++ ys) n
 IsOneOf-back [] ys n h = h
 IsOneOf-back (x ∷ xs) ys n h = inr (IsOneOf-back xs ys n h)
 
-pub IsOneOf-parts : (xs ys : List ℕ) (n : ℕ) → IsOneOf (xs ++ ys) n → IsOneOf xs n ⊎ IsOneOf ys n
+pub IsOneOf-parts : (xs ys : List ℕ) (n : ℕ) → IsNumberIn (xs ++ ys) n → IsNumberIn xs n ⊎ IsNumberIn ys n
 IsOneOf-parts [] ys n h = inr h
 IsOneOf-parts (x ∷ xs) ys n h = elim h [ inl e ↦ inl (inl e) | inr k ↦ elim (IsOneOf-parts xs ys n k) [ inl a ↦ inl (inr a) | inr b ↦ inr b ] ]
 
@@ -25,7 +25,7 @@ AreOnce-back [] ys once = once
 AreOnce-back (x ∷ xs) ys once = AreOnce-back xs ys once.1
 
 -- one more behind
-pub AreOnce-push : (xs : List ℕ) (n : ℕ) → AreOnce xs → (IsOneOf xs n → ⊥) → AreOnce (xs ++ n ∷ [])
+pub AreOnce-push : (xs : List ℕ) (n : ℕ) → AreOnce xs → (IsNumberIn xs n → ⊥) → AreOnce (xs ++ n ∷ [])
 AreOnce-push [] n once new = (λ h. h, tt)
 AreOnce-push (x ∷ xs) n once new =
     (λ h. elim (IsOneOf-parts xs (n ∷ []) x h) [ inl a ↦ once.0 a | inr b ↦ elim b [ inl e ↦ new (inl (sym e)) | inr none ↦ none ] ], AreOnce-push xs n once.1 (λ h. new (inr h)))
@@ -37,13 +37,13 @@ AreOnce-without (x ∷ xs) ys n once =
     (λ h. once.0 (elim (IsOneOf-parts xs ys x h) [ inl a ↦ IsOneOf-front xs (n ∷ ys) x a | inr b ↦ IsOneOf-back xs (n ∷ ys) x (inr b) ]), AreOnce-without xs ys n once.1)
 
 -- the one in the middle is none of the others
-pub AreOnce-apart : (xs ys : List ℕ) (n : ℕ) → AreOnce (xs ++ n ∷ ys) → IsOneOf (xs ++ ys) n → ⊥
+pub AreOnce-apart : (xs ys : List ℕ) (n : ℕ) → AreOnce (xs ++ n ∷ ys) → IsNumberIn (xs ++ ys) n → ⊥
 AreOnce-apart [] ys n once h = once.0 h
-AreOnce-apart (x ∷ xs) ys n once h = elim h [ inl e ↦ once.0 (subst (λ k. IsOneOf (xs ++ n ∷ ys) k) (sym e) (IsOneOf-back xs (n ∷ ys) n (inl refl))) | inr k ↦ AreOnce-apart xs ys n once.1 k ]
+AreOnce-apart (x ∷ xs) ys n once h = elim h [ inl e ↦ once.0 (subst (λ k. IsNumberIn (xs ++ n ∷ ys) k) (sym e) (IsOneOf-back xs (n ∷ ys) n (inl refl))) | inr k ↦ AreOnce-apart xs ys n once.1 k ]
 
 -- ---- how many there are
 
-apart : (xs : List ℕ) (n : ℕ) → (IsOneOf xs n → ⊥) → AllByRecursion (λ y. eqb n y ≡ false) xs
+apart : (xs : List ℕ) (n : ℕ) → (IsNumberIn xs n → ⊥) → AllByRecursion (λ y. eqb n y ≡ false) xs
 apart [] n no_one = tt
 apart (x ∷ xs) n no_one = (ne_eqb n x (λ e. no_one (inl (sym e))), apart xs n (λ h. no_one (inr h)))
 
@@ -52,7 +52,7 @@ unfolding IsDistinct
 distinct [] once = tt
 distinct (x ∷ xs) once = (apart xs x once.0, distinct xs once.1)
 
-found : (xs : List ℕ) (n : ℕ) → list_any (eqb n) xs ≡ true → IsOneOf xs n
+found : (xs : List ℕ) (n : ℕ) → list_any (eqb n) xs ≡ true → IsNumberIn xs n
 found [] n any = absurd (cc)
 found (x ∷ xs) n any = elim (eqb_tells n x) [ inl e ↦ inl (sym e.1) | inr e ↦ inr (found xs n (rest (eqb n x) (list_any (eqb n) xs) e.0 any)) ]
   where
@@ -61,5 +61,5 @@ found (x ∷ xs) n any = elim (eqb_tells n x) [ inl e ↦ inl (sym e.1) | inr e 
     rest false b e any = any
 
 -- numbers below a bound, each once, are at most as many
-pub length-AreOnce : (xs : List ℕ) (bound : ℕ) → AreOnce xs → ((n : ℕ) → IsOneOf xs n → n < bound) → length xs ≤ bound
+pub length-AreOnce : (xs : List ℕ) (bound : ℕ) → AreOnce xs → ((n : ℕ) → IsNumberIn xs n → n < bound) → length xs ≤ bound
 length-AreOnce xs bound once below = length-le_from_distinct_below xs bound (distinct xs once) (λ q any. below q (found xs q any))

@@ -8,7 +8,7 @@ use Rattle.lsa_region.specs.laws.Ends.{some_and_none}
 use Rattle.std.specs.Prelude.{◌≡◌, IsSomeAnd}
 use Rattle.rc_version.specs.laws.Staying.{version-kind}
 use Rattle.rc_version.specs.laws.Marked.{marked-objects, marked-then}
-use Rattle.rc_partition.specs.Partitions.{objects_of}
+use Rattle.rc_partition.specs.Partitions.{heads_of}
 use Rattle.rc_partition.proofs.Added.{mid-path, mid-slot, stands-added, end-unlisted}
 use Rattle.rc_partition.proofs.Dropped.{bare-bytes}
 use Rattle.rc_partition.proofs.Passing.{version-end}
@@ -34,9 +34,9 @@ returns-clause-added g c = λ slots front versions back listed h.
     let before = mid-path slots old mid new front root versions back listed h c.known.ensures.well c.known.ensures.summed n end c' k.fresh k.kept in (
       end,
       stands-added slots old mid new front root versions back listed h c.known.ensures.well c.known.ensures.summed n end c' k.fresh k.kept k.well k.made.1 refl (bare-bytes mid n end c' k.made.1 refl) k.unlisted k.live
-          i.inserted (λ e off apart. i.beside (Slot root) [] (reverse (objects_of versions)) None before refl e off apart (λ x. cc)) (i.path (Slot root) [] (reverse (objects_of versions)) None tt tt before refl) i.objects,
+          i.inserted (λ e off apart. i.beside (Slot root) [] (reverse (heads_of versions)) None before refl e off apart (λ x. cc)) (i.path (Slot root) [] (reverse (heads_of versions)) None tt tt before refl) i.objects,
       end-unlisted slots old mid new front root versions back listed h c.known.ensures.well c.known.ensures.summed n end c' k.fresh k.kept k.well k.made.1 refl (bare-bytes mid n end c' k.made.1 refl) k.unlisted k.live
-          i.inserted (λ e off apart. i.beside (Slot root) [] (reverse (objects_of versions)) None before refl e off apart (λ x. cc)) (i.path (Slot root) [] (reverse (objects_of versions)) None tt tt before refl) i.objects,
+          i.inserted (λ e off apart. i.beside (Slot root) [] (reverse (heads_of versions)) None before refl e off apart (λ x. cc)) (i.path (Slot root) [] (reverse (heads_of versions)) None tt tt before refl) i.objects,
     )
 
 pub returns-clause-epoch : goal.returns-clause-epoch
@@ -70,5 +70,5 @@ pub returns-clause-statics : goal.returns-clause-statics
 returns-clause-statics g c = λ q refs d is.
     let old = c.args.region.now in let mid = c.new_version-n.new.region in let new = c.insert_behind.new.region in let n = c.new_version-n.result in let k = c.new_version-n.ensures in let r = c.requires.stands in let root = c.args.root in
     let before = mid-path r.0 old mid new r.1 root r.2 r.3 r.4 r.5 c.known.ensures.well c.known.ensures.summed n k.made.0 (version_of c.args.flag c.args.pt c.args.phase) k.fresh k.kept in
-    c.insert_behind.ensures.beside (Slot root) [] (reverse (objects_of r.2)) None before refl (Obj q 3) ((λ e. cc), (λ e. cc)) (λ e. cc) (λ x. cc)
+    c.insert_behind.ensures.beside (Slot root) [] (reverse (heads_of r.2)) None before refl (Obj q 3) ((λ e. cc), (λ e. cc)) (λ e. cc) (λ x. cc)
     ∙ k.kept.statics q refs d (λ same. some_and_none (body old n) _ k.fresh (subst (λ o. IsSomeAnd (body old o) (λ b. b.0 ≡ VersionKind)) same (version-kind old q refs d is))) is

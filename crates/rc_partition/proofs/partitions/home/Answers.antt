@@ -2,7 +2,7 @@ use Rattle.std.proofs.Common.{◌∷◌, ◌++◌, reverse, sym, subst, None, �
 use Rattle.lsa_region.specs.declared.end.End.TheVariants.{Obj, Slot}
 use Rattle.lsa_region.specs.Region.{link_of, IsEnd}
 use Rattle.lsa_path.specs.Path.{IsPath}
-use Rattle.rc_partition.specs.Partitions.{objects_of}
+use Rattle.rc_partition.specs.Partitions.{heads_of}
 use Rattle.rc_partition.proofs.Dropped.{chain-is, s-stands}
 use Rattle.rc_partition.proofs.Passing.{chain-split, chain-below, below-few, objects-length, version-end}
 use Rattle.rc_partition.proofs.partitions.home.Goals as goal
@@ -29,7 +29,7 @@ chained-requires g c =
 pub returns : goal.returns
 returns g c = λ slots front root older s newer back listed h row.
     let v = c.args.region.now in let k = s-stands slots v front root older s newer back listed h c.known.ensures.well in let same = c.owner-n.ensures s k row in
-    let path = subst (λ n. IsPath 1 0 (link_of v) (Slot root) (reverse (objects_of newer) ++ (n ∷ reverse (objects_of older))) None) (sym same) (chain-is slots v front root older s newer back listed h c.known.ensures.well) in
-    let first = c.root_over.ensures root (reverse (objects_of newer)) (reverse (objects_of older)) path in
-    let second = c.chained.ensures (reverse (objects_of older)) (chain-below v root (reverse (objects_of newer)) c.owner-n.result (reverse (objects_of older)) path) ∙ objects-length older in
+    let path = subst (λ n. IsPath 1 0 (link_of v) (Slot root) (reverse (heads_of newer) ++ (n ∷ reverse (heads_of older))) None) (sym same) (chain-is slots v front root older s newer back listed h c.known.ensures.well) in
+    let first = c.root_over.ensures root (reverse (heads_of newer)) (reverse (heads_of older)) path in
+    let second = c.chained.ensures (reverse (heads_of older)) (chain-below v root (reverse (heads_of newer)) c.owner-n.result (reverse (heads_of older)) path) ∙ objects-length older in
     λ i. (first i, second i)

@@ -1,5 +1,5 @@
 use Rattle.std.proofs.Common.{◌∷◌, ◌++◌, reverse, arith}
-use Rattle.rc_partition.specs.Partitions.{objects_of}
+use Rattle.rc_partition.specs.Partitions.{heads_of}
 use Rattle.rc_partition.proofs.Dropped.{chain-is, slot-is}
 use Rattle.rc_partition.proofs.Passing.{number-length, objects-length}
 use Rattle.rc_partition.proofs.partitions.version.Goals as goal
@@ -19,11 +19,11 @@ below_newer-requires g c =
       omega arith,
       (
         slot-is r.0 c.args.region.now r.1 root r.2 r.3 r.4 r.5 r.6 r.7 c.known.ensures.well,
-        (reverse (objects_of r.4), r.3.object, reverse (objects_of r.2), chain-is r.0 c.args.region.now r.1 root r.2 r.3 r.4 r.5 r.6 r.7 c.known.ensures.well, omega (arith, n, long, r.8)),
+        (reverse (heads_of r.4), r.3.object, reverse (heads_of r.2), chain-is r.0 c.args.region.now r.1 root r.2 r.3 r.4 r.5 r.6 r.7 c.known.ensures.well, omega (arith, n, long, r.8)),
       ),
     )
 
 pub returns : goal.returns
 returns g c = λ slots front older s newer back listed h number.
     let n = number-length older s newer c.count.result (c.count.ensures slots front (older ++ (s ∷ newer)) back listed h) in let long = objects-length newer in
-    c.below_newer.ensures (reverse (objects_of newer)) s.object (reverse (objects_of older)) (chain-is slots c.args.region.now front c.args.root older s newer back listed h c.known.ensures.well) (omega (arith, n, long, number))
+    c.below_newer.ensures (reverse (heads_of newer)) s.object (reverse (heads_of older)) (chain-is slots c.args.region.now front c.args.root older s newer back listed h c.known.ensures.well) (omega (arith, n, long, number))

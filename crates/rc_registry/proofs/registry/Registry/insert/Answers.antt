@@ -1,8 +1,8 @@
 use Rattle.std.proofs.Common.{◌≡◌, ◌∙◌, None, Some, ap, sym, subst, vec_capacity, arith}
 use Rattle.std.proofs.Math.ListN.{set}
 use Rattle.std.specs.VecDeque.{deque_capacity}
-use Rattle.rc_registry.specs.Kept.{IsKept}
-use Rattle.rc_registry.specs.Registry.{Registry, IsOneOf, new_use, put, use_at, with_use}
+use Rattle.rc_registry.specs.Kept.{IsKeptRegistry}
+use Rattle.rc_registry.specs.Registry.{Registry, IsNumberIn, new_use, put, use_at, with_use}
 use Rattle.rc_registry.proofs.Keeping.{kept-added, kept-wider, no-other, seen, taken-then}
 use Rattle.rc_registry.proofs.registry.Registry.insert.Goals as goal
 
@@ -32,7 +32,7 @@ invariant_of-self-2 c =
     (new.long (Some v) (deque_capacity m.dropped) (omega (arith, c.self.invariant.dropped_fit, e.wider.1)) (λ none. (e.room none).2)) (no-other i.uses.items i.dropped.items c.args.self.now c.self.view_is root c.requires) e.owners.stay e.owners.longer e.within in
     let made = new.made (Some c.new_use.result) ∙ ap (λ u. put id (Some u) i.uses.items) c.new_use.ensures in
     rw e.same.2
-    (subst (λ us. IsKept us t.new.vacant.items i.dropped.items (set m.owners.items root.number id) (vec_capacity t.new.vacant) (deque_capacity m.dropped)) (sym made) kept)
+    (subst (λ us. IsKeptRegistry us t.new.vacant.items i.dropped.items (set m.owners.items root.number id) (vec_capacity t.new.vacant) (deque_capacity m.dropped)) (sym made) kept)
 
 pub returns-clause-made : goal.returns-clause-made
 returns-clause-made c =
@@ -54,4 +54,4 @@ returns-clause-fresh c =
     let i = c.self.inside in let m = c.make_room.new in let e = c.in_ok-make_room.ensures in let t = c.take_number-id in let id = t.result in
     let new = taken-then i.uses.items m.uses.items t.new.uses.items i.vacant.items m.vacant.items t.new.vacant.items i.dropped.items i.owners.items (vec_capacity i.vacant) (deque_capacity i.dropped) id
     c.self.invariant e.same.0 e.same.1 t.ensures.taken in
-    subst (λ (r : Registry). IsOneOf r.dropped id → ⊥) c.self.view_is new.fresh
+    subst (λ (r : Registry). IsNumberIn r.dropped id → ⊥) c.self.view_is new.fresh

@@ -1,7 +1,7 @@
 use Rattle.std.proofs.Common.{◌≡◌, ℕ, None, subst, vec_capacity}
 use Rattle.lsa_region.specs.declared.end.Root.{Root}
 use Rattle.std.specs.VecDeque.{deque_capacity}
-use Rattle.rc_registry.specs.Registry.{Registry, AreOnce, HasRoot, IsOneOf, use_at}
+use Rattle.rc_registry.specs.Registry.{Registry, AreOnce, HasRoot, IsNumberIn, use_at}
 use Rattle.rc_registry.specs.laws.Numbers.{IsOneOf-back, AreOnce-back}
 use Rattle.rc_registry.proofs.Keeping.{one-root}
 use Rattle.rc_registry.proofs.registry.Registry.known.Goals as goal
@@ -9,7 +9,7 @@ use Rattle.rc_registry.proofs.registry.Registry.known.Goals as goal
 pub returns-clause-gone : goal.returns-clause-gone
 returns-clause-gone c =
     let i = c.self.inside in
-    subst (λ (r : Registry). (id : ℕ) → IsOneOf r.dropped id → use_at r.uses id ≡ None) c.self.view_is (λ id one. (c.self.invariant.gone id (IsOneOf-back i.vacant.items i.dropped.items id one)).1)
+    subst (λ (r : Registry). (id : ℕ) → IsNumberIn r.dropped id → use_at r.uses id ≡ None) c.self.view_is (λ id one. (c.self.invariant.gone id (IsOneOf-back i.vacant.items i.dropped.items id one)).1)
 
 pub returns-clause-once : goal.returns-clause-once
 returns-clause-once c =

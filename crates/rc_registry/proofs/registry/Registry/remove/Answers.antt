@@ -1,7 +1,7 @@
 use Rattle.std.proofs.Common.{◌∷◌, ◌∙◌, ◌++◌, [], None, ap, sym, subst, vec_capacity, arith}
 use Rattle.std.specs.VecDeque.{deque_capacity}
 use Rattle.std.proofs.Math.ListN.{set}
-use Rattle.rc_registry.specs.Kept.{IsKept}
+use Rattle.rc_registry.specs.Kept.{IsKeptRegistry}
 use Rattle.rc_registry.specs.Registry.{Registry, put}
 use Rattle.rc_registry.specs.laws.Puts.{put-within}
 use Rattle.rc_registry.proofs.Keeping.{dropped-room, is-there, is-within, kept-removed, seen}
@@ -20,7 +20,7 @@ invariant_of-self c =
     let some = is-there i.uses.items i.dropped.items r c.self.view_is id c.requires in
     let kept = kept-removed i.uses.items i.vacant.items i.dropped.items i.owners.items (vec_capacity i.vacant) (deque_capacity i.dropped) c.self.invariant id some in
     let uses = sym (put-within i.uses.items id None (is-within i.uses.items i.dropped.items r c.self.view_is id c.requires)) in
-    rw (c.push_back_reserved.ensures.items, c.push_back_reserved.ensures.capacity) (subst (λ us. IsKept us i.vacant.items (i.dropped.items ++ id ∷ []) i.owners.items (vec_capacity i.vacant) (deque_capacity i.dropped)) uses kept)
+    rw (c.push_back_reserved.ensures.items, c.push_back_reserved.ensures.capacity) (subst (λ us. IsKeptRegistry us i.vacant.items (i.dropped.items ++ id ∷ []) i.owners.items (vec_capacity i.vacant) (deque_capacity i.dropped)) uses kept)
 
 pub returns : goal.returns
 returns c =
