@@ -28,13 +28,13 @@ module _ (slots : Slots) (old new : View) (front : List PartitionEntry) (root : 
     (parts : (q : Ref) → Contains now q → Contains s.entries q ⊎ (body old q ≡ None)) where
   never : (r : Ref) → IsStaticsOf old s.object r → Contains now r → ⊥
   never r static on = elim (parts r on) [
-    | inl entry ↦ entry_apart (body old r) (static-kind old s (s-stands slots old new front root older s newer back listed well chain_of_use h) r static) (entries-kind old s.object s.entries s.version (s-stands slots old new front root older s newer back listed well chain_of_use h) r entry)
-    | inr none ↦ subst (λ (o : Option (Kind × List ℕ)). IsSomeAnd o (λ b. b.0 ≡ Static)) none (static-kind old s (s-stands slots old new front root older s newer back listed well chain_of_use h) r static)
+    | inl entry ↦ entry_apart (body old r) (static-kind old s (s-stands slots old new front root older s newer back listed well kept h) r static) (entries-kind old s.object s.entries s.version (s-stands slots old new front root older s newer back listed well kept h) r entry)
+    | inr none ↦ subst (λ (o : Option (Kind × List ℕ)). IsSomeAnd o (λ b. b.0 ≡ Static)) none (static-kind old s (s-stands slots old new front root older s newer back listed well kept h) r static)
   ]
 
   -- a row of another version now was one before
   other_row : (t : StandingVersion) → t.object ≢ s.object → IsVersionOf old t.object t.entries t.version → (r : Ref) → IsStaticsOf old s.object r → IsRowOfVersion new t r → ⊥
-  other_row t ne k r static row = ne (sym (one-version old well s t (s-stands slots old new front root older s newer back listed well chain_of_use h) k r (inr static) (was row)))
+  other_row t ne k r static row = ne (sym (one-version old well s t (s-stands slots old new front root older s newer back listed well kept h) k r (inr static) (was row)))
     where
       was : IsRowOfVersion new t r → IsRowOfVersion old t r
       was (inl on) = inl on
@@ -43,9 +43,9 @@ module _ (slots : Slots) (old new : View) (front : List PartitionEntry) (root : 
   pub static-stays : (r : Ref) → IsStaticsOf old s.object r → IsRowOfAny new (among front root older (standing s.object now c) newer back) r → IsStaticsOf new s.object r
   static-stays r static w = elim (among-cases front back root older newer (standing s.object now c) w.0 w.1 w.2 w.3) [
     | inl same ↦ own (subst (λ t. IsRowOfVersion new t r) (sym same) w.4)
-    | inr (inl beside) ↦ absurd (other_row w.1 (beside-differs slots old new front root older s newer back listed well chain_of_use h w.1 beside)
+    | inr (inl beside) ↦ absurd (other_row w.1 (beside-differs slots old new front root older s newer back listed well kept h w.1 beside)
         ((h.entries (partition_of root (older ++ (s ∷ newer))) (this-among front back root older newer s)).versions w.1 (elem-still older newer s w.1 beside)) r static w.4)
-    | inr (inr other) ↦ absurd (other_row w.1 (other-differs slots old new front root older s newer back listed well chain_of_use h w.0 other w.1 w.3)
+    | inr (inr other) ↦ absurd (other_row w.1 (other-differs slots old new front root older s newer back listed well kept h w.0 other w.1 w.3)
         ((h.entries w.0 (other-among front back root older newer s w.0 other)).versions w.1 w.3) r static w.4)
   ] where
     own : IsRowOfVersion new (standing s.object now c) r → IsStaticsOf new s.object r
