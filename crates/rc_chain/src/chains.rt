@@ -1,14 +1,15 @@
 //! All chains of a shard.
-ghost use Rattle.std.specs.Prelude.{◌≡◌, ◌↔◌, ◌∷◌, ◌+◌, ◌-◌, ◌*◌, ◌/◌, ◌%◌, ◌^◌, ◌<◌, ◌≤◌, ℕ, List as Sequence, [], true, false, Some, None, IfNone, IfOk, IfSome, IsSomeAnd, IsTrue, OnErr, length, is_some};
+ghost use Rattle.std.specs.Prelude.{◌≡◌, ◌↔◌, ◌∷◌, ◌+◌, ◌-◌, ◌*◌, ◌/◌, ◌%◌, ◌^◌, ◌<◌, ◌≤◌, ℕ, List as Sequence, [], true, false, Some, None, IfNone, IfOk, IfSome, IsSomeAnd, IsTrue, OnErr, length, is_some, cond};
 ghost use Rattle.lsa_pool.specs.Room.{free_count, spare_of};
 ghost use Rattle.lsa_region.specs.Region.{live_bytes};
-ghost use Rattle.rc_core.specs.Chains.{IsPinned};
+ghost use Rattle.rc_core.specs.Chains.{IsPinned, at_place};
+ghost use Rattle.rc_position.specs.Position.{Head};
 ghost use Rattle.rc_memory.specs.Kept.{HasMemory, IsMemory};
 ghost use Rattle.rc_registry.specs.Registry.{IsAfter};
-ghost use Rattle.rc_memory.specs.Memory.{KeptChain, Member, HasChain, HasVersion, IsMemberObject, IsNextChain, IsVersionAt, IsEmpty, IsTold, IsUntouched, IsVersionObject, HasPin, chain_at, counts_raised, mark_passed, on_chain, with_chains, without_snapshot};
+ghost use Rattle.rc_memory.specs.Memory.{KeptChain, Member, HasChain, HasVersion, IsMemberObject, IsNextChain, IsVersionAt, IsEmpty, IsSnapshotTaken, IsTold, IsUntouched, IsVersionObject, HasPin, chain_at, counts_raised, mark_passed, on_chain, snapshot_number, with_chains, without_snapshot};
 ghost use Rattle.lsa_move.specs.Room.{IsCompacted, Tight};
 ghost use Rattle.lsa_store.specs.Stock.{sparse_of};
-ghost use Rattle.rc_core.specs.Steps.{pin_at};
+ghost use Rattle.rc_core.specs.Steps.{MayPopulate, pin_at};
 ghost use Rattle.rc_core.specs.Version.{Version};
 ghost use Rattle.rc_memory.specs.laws.One.{memory-prop};
 
@@ -275,4 +276,61 @@ impl<const S: usize> Chains<S> {
             None => unreachable!(),
         }
     }
+
+    /// Whether a snapshot populates the cache: it pins the newest version of a chain that is found by its key and is not under update.
+    pub fn may_fill(&self, s: &Snap) -> bool
+        requires { HasPin self.now s.now.chain s.now.pin }
+        ensures { (k : KeptChain) (j : ℕ) → chain_at self.now s.now.chain ≡ Some k → pin_at k.chain.pins s.now.pin ≡ Some j → IsTrue result ↔ MayPopulate (at_place Head k.chain) j }
+    {
+        let _ = &self.region;
+        let id = s.chain;
+        let newest = self.versions(id) - 1;
+        let pinned = self.pinned_at(s);
+        fills(pinned, newest, self.is_attached(id), self.is_updating(id))
+    }
+
+    // The number of the version that a snapshot pins.
+    fn snapshot_number(&self, id: u64) -> u64
+        requires { HasChain self.now id }
+        ensures value { (k : KeptChain) → chain_at self.now id ≡ Some k → result ≡ snapshot_number k.chain }
+        ensures there { HasVersion self.now id result }
+    {
+        let _ = &self.region;
+        pinned_number(self.versions(id), self.is_updating(id))
+    }
+
+    /// A snapshot of a chain, which is found by its key: it pins the newest version, or the one below it while an update stands in the newest. The only error is want of memory, which changes nothing.
+    pub fn snapshot(&mut self, id: u64) -> Result<Snap, AllocError>
+        requires { IsSomeAnd (chain_at self.old id) (λ k. k.chain.attached ≡ true) }
+        ensures taken { IfOk result (λ s. (s.chain ≡ id) × IsSnapshotTaken self.old self.new id s.pin s.phase) }
+        ensures err { OnErr result (self.new ≡ self.old) }
+    {
+        let number = self.snapshot_number(id);
+        let phase = self.phase(id, number);
+        let pin = self.registry.pin(id, number)?;
+        Ok(Snap {
+            chain: id,
+            pin,
+            phase,
+        })
+    }
+}
+
+// The number of the version that a snapshot pins, of so many.
+fn pinned_number(versions: u64, updating: bool) -> u64
+    requires some { 0 < versions }
+    requires below { updating ≡ true → 2 ≤ versions }
+    ensures { result ≡ cond updating (versions - 2) (versions - 1) }
+{
+    if updating { versions - 2 } else { versions - 1 }
+}
+
+// Whether a snapshot of this version fills, where this one is the newest.
+fn fills(pinned: u64, newest: u64, attached: bool, updating: bool) -> bool
+    ensures { IsTrue result ↔ (pinned ≡ newest) × (attached ≡ true) × (updating ≡ false) }
+{
+    if updating {
+        return false;
+    }
+    attached && pinned == newest
 }
