@@ -1,12 +1,12 @@
 //! All chains of a shard.
-ghost use Rattle.std.specs.Prelude.{◌≡◌, ◌↔◌, ◌∷◌, ◌+◌, ◌-◌, ◌*◌, ◌/◌, ◌%◌, ◌^◌, ◌<◌, ◌≤◌, ℕ, List as Sequence, [], true, false, Some, None, IfNone, IfOk, IfSome, IsSomeAnd, IsTrue, OnErr, length, is_some, cond};
+ghost use Rattle.std.specs.Prelude.{◌≡◌, ◌↔◌, ◌∷◌, ◌++◌, ◌+◌, ◌-◌, ◌*◌, ◌/◌, ◌%◌, ◌^◌, ◌<◌, ◌≤◌, ℕ, List as Sequence, [], true, false, Some, None, IfNone, IfOk, IfSome, IsSomeAnd, IsTrue, OnErr, length, is_some, cond};
 ghost use Rattle.lsa_pool.specs.Room.{free_count, spare_of};
 ghost use Rattle.lsa_region.specs.Region.{live_bytes};
 ghost use Rattle.rc_core.specs.Chains.{IsPinned, at_place};
 ghost use Rattle.rc_position.specs.Position.{Head};
 ghost use Rattle.rc_memory.specs.Kept.{HasMemory, IsMemory};
 ghost use Rattle.rc_registry.specs.Registry.{IsAfter};
-ghost use Rattle.rc_memory.specs.Memory.{KeptChain, Member, HasChain, HasVersion, IsMemberObject, IsNextChain, IsVersionAt, IsEmpty, IsSnapshotTaken, IsTold, IsUntouched, IsVersionObject, HasPin, chain_at, counts_raised, mark_passed, on_chain, snapshot_number, with_chains, without_snapshot};
+ghost use Rattle.rc_memory.specs.Memory.{KeptChain, Member, HasChain, HasVersion, IsMemberObject, IsNextChain, IsVersionAt, IsEmpty, IsSnapshotTaken, IsTold, IsUntouched, IsVersionObject, HasPin, chain_at, counts_raised, listed_as, mark_passed, on_chain, snapshot_number, with_chains, without_snapshot};
 ghost use Rattle.lsa_move.specs.Room.{IsCompacted, Tight};
 ghost use Rattle.lsa_store.specs.Stock.{sparse_of};
 ghost use Rattle.rc_core.specs.Steps.{MayPopulate, pin_at};
@@ -236,6 +236,14 @@ impl<const S: usize> Chains<S> {
         ensures untouched { IsUntouched self.old self.new }
     {
         compact_one(&mut self.region)
+    }
+
+    /// Makes an object of the recency list the most recent one.
+    pub fn touch(&mut self, r: Ref)
+        requires { (w : Member) × (front : Sequence Member) × (back : Sequence Member) × (self.old.recency ≡ front ++ (w ∷ back)) × IsMemberObject self.old r w }
+        ensures { (w : Member) (front back : Sequence Member) → self.old.recency ≡ front ++ (w ∷ back) → IsMemberObject self.old r w → self.new ≡ listed_as ((front ++ back) ++ (w ∷ [])) self.new.region self.old }
+    {
+        self.recency.touch(&mut self.region, r);
     }
 
     /// Sets or clears the cleaner's mark that it left a chain unmerged.
