@@ -4,7 +4,7 @@ use Rattle.std.specs.Prelude.{Contains, IfNone, IfSome, IsSomeAnd}
 use Rattle.std.proofs.lemmas.List.{map-append}
 use Rattle.rc_position.specs.declared.positions.Pos.{Pos}
 use Rattle.lsa_store.specs.declared.place.Ref.{Ref}
-use Rattle.lsa_list.specs.Recency.{first}
+use Rattle.lsa_list.specs.Recency.{HasRecency, first}
 use Rattle.lsa_region.specs.Region.{View}
 use Rattle.lsa_list.specs.declared.recency.List.{List as Slots}
 use Rattle.rc_partition.specs.Partitions.{AreStanding, IsRowOfVersion, IsRowOfAny, PartitionEntry, StandingVersion, among, partition_of}
@@ -16,6 +16,7 @@ use Rattle.rc_memory.specs.Kept.{AreKept, HasMemory, HoldMemory, IsMemory, Stand
 use Rattle.rc_memory.specs.laws.At.{IsKeptAt, kept-at, present-split, used-there}
 use Rattle.rc_memory.specs.laws.One.{kept-is}
 use Rattle.rc_memory.specs.laws.Places.{heads, no_some, present-at, same_some, tails, version-there}
+use Rattle.rc_partition.specs.laws.Apart.{row-recency}
 use Rattle.rc_partition.specs.laws.Lists.{elem-here}
 use Rattle.lsa_region.specs.declared.end.Root.{Root}
 use Rattle.rc_core.specs.Version.{Version}
@@ -241,3 +242,10 @@ version-found m id j p s n e at same = subst (λ o. IsSomeAnd o (λ q. (t : Stan
 
 pub rooted : (registry : Registry) (id : ℕ) (u : Use) (root : Root) → use_at registry.uses id ≡ Some u → u.root ≡ root → HasRoot registry root id
 rooted registry id u root e same = subst (λ o. IsSomeAnd o (λ x. x.root ≡ root)) (sym e) same
+
+module _ (slots : Slots) (v : View) (registry : Registry) (counts : Counts) (m : Memory) (h : HoldMemory slots v registry counts m) where
+  -- an object at a place has the links of the recency list
+  pub recency-at : (r : Ref) (w : Member) → IsMemberObject m r w → HasRecency v r
+  recency-at r w here =
+      let a = at-place slots v registry counts m h r w here in
+      row-recency v a.version (version-there slots v h.well m.standing h.listed h.stands w.chain w.version a.partition a.version a.chain a.number) r (row-of v a.version w.position r a.object)

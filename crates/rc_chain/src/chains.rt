@@ -1,5 +1,5 @@
 //! All chains of a shard.
-ghost use Rattle.std.specs.Prelude.{◌≡◌, ◌↔◌, ◌∷◌, ◌++◌, ◌+◌, ◌-◌, ◌*◌, ◌/◌, ◌%◌, ◌^◌, ◌<◌, ◌≤◌, ℕ, List as Sequence, [], true, false, Some, None, IfNone, IfOk, IfSome, IsSomeAnd, IsTrue, OnErr, length, is_some, cond};
+ghost use Rattle.std.specs.Prelude.{◌≡◌, ◌↔◌, ◌∷◌, ◌++◌, ◌+◌, ◌-◌, ◌*◌, ◌/◌, ◌%◌, ◌^◌, ◌<◌, ◌≤◌, ℕ, List as Sequence, [], true, false, Some, None, IfNone, IfOk, IfSome, IsSomeAnd, IsTrue, OnErr, length, is_some, cond, Contains};
 ghost use Rattle.lsa_pool.specs.Room.{free_count, spare_of};
 ghost use Rattle.lsa_region.specs.Region.{live_bytes};
 ghost use Rattle.rc_core.specs.Chains.{IsPinned, at_place};
@@ -11,6 +11,7 @@ ghost use Rattle.lsa_move.specs.Room.{IsCompacted, Tight};
 ghost use Rattle.lsa_store.specs.Stock.{sparse_of};
 ghost use Rattle.rc_core.specs.Steps.{MayPopulate, pin_at};
 ghost use Rattle.rc_core.specs.Version.{Version};
+ghost use Rattle.rc_memory.specs.Recency.{MayBeListed, MustBeListed};
 ghost use Rattle.rc_memory.specs.laws.One.{memory-prop};
 
 use lsa_list::List;
@@ -236,6 +237,22 @@ impl<const S: usize> Chains<S> {
         ensures untouched { IsUntouched self.old self.new }
     {
         compact_one(&mut self.region)
+    }
+
+    /// Puts an entry or a static row of a cache chain, which is not in the recency list and may be in it, at its back.
+    pub fn list(&mut self, r: Ref)
+        requires { (w : Member) × IsMemberObject self.old r w × (Contains self.old.recency w → ⊥) × IsSomeAnd (chain_at self.old w.chain) (λ k. MayBeListed k.chain w.version w.position) }
+        ensures { (w : Member) → IsMemberObject self.old r w → self.new ≡ listed_as (self.old.recency ++ (w ∷ [])) self.new.region self.old }
+    {
+        self.recency.push_back(&mut self.region, r);
+    }
+
+    /// Takes an object out of the recency list that need not be in it: an end dummy, or the dummy at an update's place.
+    pub fn unlist(&mut self, r: Ref)
+        requires { (w : Member) × (front : Sequence Member) × (back : Sequence Member) × (self.old.recency ≡ front ++ (w ∷ back)) × IsMemberObject self.old r w × (IsSomeAnd (chain_at self.old w.chain) (λ k. MustBeListed k.chain w.version w.position) → ⊥) }
+        ensures { (w : Member) (front back : Sequence Member) → self.old.recency ≡ front ++ (w ∷ back) → IsMemberObject self.old r w → self.new ≡ listed_as (front ++ back) self.new.region self.old }
+    {
+        self.recency.remove(&mut self.region, r);
     }
 
     /// Makes an object of the recency list the most recent one.
