@@ -1,5 +1,5 @@
 -- Snapshots of a chain by their numbers, and the numbers that are told.
-use Rattle.std.proofs.Common.{◌≡◌, ◌<◌, ◌≤◌, ◌-◌, ℕ, suc, Bool, true, false, cond, List, [], ◌∷◌, Option, Some, None, IsSome, is_some, refl, sym, ap, ◌∙◌, subst, slice_index_or, length, arith}
+use Rattle.std.proofs.Common.{◌≡◌, ◌<◌, ◌≤◌, ◌-◌, ℕ, suc, Bool, true, false, cond, [], ◌∷◌, Option, Some, None, IsSome, is_some, refl, sym, ap, ◌∙◌, subst, length, arith}
 use Rattle.std.specs.Prelude.{IfSome, IsSomeAnd, IsTrue, MatchOption, OnErr, OnOk}
 use Rattle.std.specs.Option.{option_map}
 use Rattle.std.specs.declared.result.Result.{Result}
@@ -179,9 +179,9 @@ pub fills-is : (c : Shown) (j pinned versions : ℕ) (attached updating result :
     → (IsTrue result → MayPopulate (at_place Head c) j) × (MayPopulate (at_place Head c) j → IsTrue result)
 fills-is c j pinned versions attached updating result h p v a u told = (
   λ is. let t = told.0 is in record {
-      newest = let low = h.some in let e = t.0 in omega (arith, low, p, v, e);
-      attached = sym a ∙ t.1;
-      settled = settled_of c.updating (sym u ∙ t.2);
-    },
+    newest = let low = h.some in let e = t.0 in omega (arith, low, p, v, e);
+    attached = sym a ∙ t.1;
+    settled = settled_of c.updating (sym u ∙ t.2);
+  },
   λ m. told.1 (let n = m.newest in omega (arith, n, p, v), a ∙ m.attached, u ∙ unsettled_of c.updating m.settled),
 )

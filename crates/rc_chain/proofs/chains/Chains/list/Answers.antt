@@ -2,7 +2,7 @@ use Rattle.std.proofs.Common.{[], ◌∷◌, ◌++◌, sym, ap, ◌∙◌, subst
 use Rattle.std.specs.Prelude.{Contains, IsSomeAnd}
 use Rattle.lsa_region.specs.Region.{View}
 use Rattle.rc_memory.specs.Memory.{KeptChain, Member, Memory, chain_at, listed_as}
-use Rattle.rc_memory.specs.Recency.{MayBeListed, MustBeListed}
+use Rattle.rc_memory.specs.Recency.{MayBeListed}
 use Rattle.rc_memory.specs.laws.Keeping.{memory-pushed}
 use Rattle.rc_memory.specs.laws.Listed.{unlisted-at}
 use Rattle.rc_memory.specs.laws.One.{kept-is}

@@ -1,4 +1,4 @@
-use Rattle.std.proofs.Common.{◌-◌, ◌<◌, ◌≤◌, cond, sym, ap, ◌∙◌, subst, length, arith}
+use Rattle.std.proofs.Common.{◌<◌, ◌≤◌, sym, ◌∙◌, subst, arith}
 use Rattle.rc_memory.specs.Memory.{chain_at}
 use Rattle.rc_chain.proofs.Reading.{memory-now, some_of}
 use Rattle.rc_chain.proofs.Snapshots.{numbered, snapped-there, sound-here}

@@ -1,8 +1,8 @@
-use Rattle.std.proofs.Common.{[], ◌∷◌, ◌++◌, sym, ap, ◌∙◌, subst, arith}
-use Rattle.std.specs.Prelude.{Contains, IsSomeAnd}
+use Rattle.std.proofs.Common.{◌++◌, sym, ap, ◌∙◌, subst, arith}
+use Rattle.std.specs.Prelude.{IsSomeAnd}
 use Rattle.lsa_region.specs.Region.{View}
 use Rattle.rc_memory.specs.Memory.{KeptChain, Member, Memory, chain_at, listed_as}
-use Rattle.rc_memory.specs.Recency.{MayBeListed, MustBeListed}
+use Rattle.rc_memory.specs.Recency.{MustBeListed}
 use Rattle.rc_memory.specs.laws.Keeping.{memory-taken}
 use Rattle.rc_memory.specs.laws.Listed.{list-at}
 use Rattle.rc_memory.specs.laws.One.{kept-is}
