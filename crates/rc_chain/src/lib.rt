@@ -4,3 +4,4 @@
 mod chains;
 
 pub use chains::{Chains, Snap};
+pub use rc_core::ChainKind;
