@@ -26,9 +26,12 @@ use rc_rowcode::Scratch;
 use std::alloc::{AllocError, Global};
 use std::marker::Model;
 
+mod lives;
+
 /// All chains of versions of a shard, with their snapshots, and the recency list through their entries and static rows. They stand in one region, in which objects may move in any call that takes `&mut self`.
 #[derive(Drop)]
 pub struct Chains<const S: usize> {
+    alloc: Global,
     region: Region<S>,
     recency: List,
     registry: Registry,
@@ -80,6 +83,7 @@ impl<const S: usize> Chains<S> {
         let scratch = Scratch::new(alloc, S)?;
         let other = Scratch::new(alloc, S)?;
         Ok(Chains {
+            alloc,
             region,
             recency: List { front, back },
             registry: Registry::new(alloc),

@@ -1,0 +1,154 @@
+//! Chains that come to be, change as a whole, and go.
+ghost use Rattle.std.specs.Prelude.{◌≡◌, ◌∷◌, ◌++◌, ◌+◌, ◌/◌, ◌<◌, ◌≤◌, ℕ, suc, List as Sequence, [], true, false, Some, None, IfNone, IfOk, IfSome, IsSomeAnd, IsTrue, OnErr, length, Contains};
+ghost use Rattle.lsa_pool.specs.Room.{spare_of};
+ghost use Rattle.lsa_store.specs.declared.place.Ref.{Ref as Name};
+ghost use Rattle.rc_core.specs.Chains.{IsPinned};
+ghost use Rattle.rc_core.specs.Version.{Version, end_position};
+ghost use Rattle.rc_memory.specs.Memory.{KeptChain, Member, HasChain, HasVersion, IsMemberObject, IsVersionAt, chain_at, listed_as, on_chain, on_shown, shown_detached, shown_updating, with_chains};
+ghost use Rattle.rc_memory.specs.Recency.{HasObject, IsLastInner, IsUnderUpdate};
+ghost use Rattle.rc_memory.specs.Changes.{IsWithout, member};
+ghost use Rattle.rc_chain.specs.Lives.{IsBare, IsChainChanged, IsChainDropped, IsChainMade, IsEndListed, IsSameButSlots, IsVersionDropped, flag_of_new, with_end_listed, with_version_over};
+ghost use Rattle.rc_version.specs.Versions.{IsVersionOf};
+
+use super::Chains;
+use lsa_region::{End, Ref, Region};
+use lsa_tree::{Place, Tree};
+use rc_cell::Tomb;
+use rc_core::{ChainKind, Flag};
+use rc_partition::{add_version, drop_version};
+use rc_position::{Pos, Weight};
+use std::alloc::{AllocError, Global};
+
+impl<const S: usize> Chains<S> {
+    // A chain of one version, which is found by its key; its end dummy is out of the recency list.
+    fn make_chain(
+        &mut self,
+        kind: ChainKind,
+        phase: u64,
+        pt: Option<Tomb>,
+    ) -> Result<u64, AllocError>
+        requires fits { 88 ≤ S / 8 }
+        requires spare { 152 ≤ spare_of S self.old.region.usages }
+        ensures made { IfOk result (λ id. IsChainMade id kind pt phase self.old.recency self.old self.new) }
+        ensures room { IfOk result (λ id. spare_of S self.old.region.usages ≤ spare_of S self.new.region.usages + 152) }
+        ensures err { OnErr result (IsSameButSlots self.old self.new) }
+    {
+        let root = self.region.add_root(self.alloc)?;
+        match self.registry.insert(root, kind) {
+            Ok(id) => {
+                add_version(&mut self.region, root, flag_of_new(kind), pt, phase);
+                Ok(id)
+            }
+            Err(error) => {
+                self.region.drop_root(root);
+                Err(error)
+            }
+        }
+    }
+
+    // An update stands in a chain no longer: the last entry before the end of its newest version is in the recency list.
+    fn settle(&mut self, id: u64)
+        requires there { HasChain self.old id }
+        requires listed { (k : KeptChain) → chain_at self.old id ≡ Some k → (j : ℕ) (v : Version) (at : Option Position) → IsUnderUpdate k.chain j → IsVersionAt k.chain.versions j v → IsLastInner v at → Contains self.old.recency (member id j at) }
+        ensures { self.new ≡ with_chains (on_chain id (on_shown (shown_updating false)) self.old.chains) self.old }
+    {
+        self.registry.set_updating(id, false);
+    }
+
+    // A chain in which no update stands is no longer found by its key.
+    fn unfind(&mut self, id: u64)
+        requires there { HasChain self.old id }
+        requires settled { (k : KeptChain) → chain_at self.old id ≡ Some k → k.chain.updating ≡ false }
+        ensures { self.new ≡ with_chains (on_chain id (on_shown shown_detached) self.old.chains) self.old }
+    {
+        self.registry.detach(id);
+    }
+
+    /// Puts a version over those of a chain, which says nothing: its end dummy alone, all flags Inherit. A cache chain, which must be found by its key, is under update then, and the new version's end dummy out of the recency list. It takes 152 bytes.
+    pub fn add_version(&mut self, id: u64, phase: u64)
+        requires there { HasChain self.old id }
+        requires settled { (k : KeptChain) → chain_at self.old id ≡ Some k → k.chain.updating ≡ false }
+        requires found { (k : KeptChain) → chain_at self.old id ≡ Some k → k.chain.kind ≡ Kind.Cache → k.chain.attached ≡ true }
+        requires fits { 88 ≤ S / 8 }
+        requires spare { 152 ≤ spare_of S self.old.region.usages }
+        ensures added { IsChainChanged id (on_shown (with_version_over phase)) self.old.recency self.old self.new }
+        ensures room { spare_of S self.old.region.usages ≤ spare_of S self.new.region.usages + 152 }
+    {
+        let root = self.registry.get(id).root;
+        add_version(&mut self.region, root, Flag::Inherit, None, phase);
+        match self.registry.get(id).kind {
+            ChainKind::Cache => self.registry.set_updating(id, true),
+            ChainKind::Memtable => {}
+        }
+    }
+
+    // A version of a chain goes, of which its end dummy alone is left, out of the recency list.
+    fn drop_bare(&mut self, id: u64, number: u64)
+        requires bare { IsSomeAnd (chain_at self.old id) (λ k. (v : Version) × IsVersionAt k.chain.versions number v × IsBare v) }
+        requires unlisted { (at : Option Position) → Contains self.old.recency (member id number at) → ⊥ }
+        requires unpinned { (k : KeptChain) → chain_at self.old id ≡ Some k → IsPinned k.chain.pins number → ⊥ }
+        requires inner { (k : KeptChain) → chain_at self.old id ≡ Some k → (2 ≤ length k.chain.versions) × (k.chain.updating ≡ true → (suc number < length k.chain.versions) × (3 ≤ length k.chain.versions)) }
+        ensures dropped { IsVersionDropped id number self.old self.new }
+        ensures room { spare_of S self.new.region.usages ≡ spare_of S self.old.region.usages }
+    {
+        let root = self.registry.get(id).root;
+        let n = self.version(id, number);
+        drop_version(&mut self.region, root, n);
+        self.registry.renumber(id, number);
+    }
+
+    // A chain goes, of which the end dummy of one version alone is left, out of the recency list, and which nobody pins. Its number is to be told.
+    fn close(&mut self, id: u64)
+        requires bare { IsSomeAnd (chain_at self.old id) (λ k. (v : Version) × (k.chain.versions ≡ v ∷ []) × IsBare v) }
+        requires unlisted { (at : Option Position) → Contains self.old.recency (member id 0 at) → ⊥ }
+        requires unpinned { (k : KeptChain) (j : ℕ) → chain_at self.old id ≡ Some k → IsPinned k.chain.pins j → ⊥ }
+        ensures dropped { IsChainDropped id self.old.recency self.old self.new }
+        ensures room { spare_of S self.new.region.usages ≡ spare_of S self.old.region.usages }
+    {
+        let root = self.registry.get(id).root;
+        let n = self.version(id, 0);
+        drop_version(&mut self.region, root, n);
+        self.region.drop_root(root);
+        self.registry.remove(id);
+    }
+}
+
+// The flag of all that the version of a new chain says.
+fn flag_of_new(kind: ChainKind) -> Flag
+    ensures { result ≡ Rattle.rc_chain.specs.Lives.flag_of_new kind }
+{
+    match kind {
+        ChainKind::Memtable => Flag::Inherit,
+        ChainKind::Cache => Flag::Unknown,
+    }
+}
+
+// The end dummy of a version, its last entry.
+fn end_entry<const S: usize>(region: &Region<S>, alloc: Global, v: Ref) -> Ref
+    requires { (refs : Sequence Name) × (c : Version) × IsVersionOf region.now v refs c }
+    ensures { (refs : Sequence Name) (c : Version) → IsVersionOf region.now v refs c → (front : Sequence Name) × (refs ≡ front ++ (result ∷ [])) }
+{
+    let tree = Tree {
+        top: End::Obj(v, 2),
+    };
+    let end = Pos {
+        prefix: Key::empty(alloc),
+        weight: Weight::After,
+    };
+    match tree.locate(region, &end) {
+        Place::Here(r) => r,
+        Place::Before(_) => unreachable!(),
+        Place::Last => unreachable!(),
+    }
+}
+
+// The entry before one of a version; None where that is its first.
+fn entry_before<const S: usize>(region: &Region<S>, v: Ref, r: Ref) -> Option<Ref>
+    requires { (front : Sequence Name) × (back : Sequence Name) × (c : Version) × IsVersionOf region.now v (front ++ (r ∷ back)) c }
+    ensures { (front back : Sequence Name) (c : Version) → IsVersionOf region.now v (front ++ (r ∷ back)) c → result ≡ last_entry front }
+{
+    let tree = Tree {
+        top: End::Obj(v, 2),
+    };
+    tree.prev(region, r)
+}
