@@ -4,7 +4,7 @@
 --     IsEndListed       the recency list once an update has ended
 --     IsVersionDropped  a version is gone
 --     IsChainDropped    a chain is gone, and its number is to be told
-use Rattle.std.specs.Prelude.{◌≡◌, ◌⊎◌, ◌<◌, ℕ, suc, Bool, true, false, List, [], ◌∷◌, ◌++◌, Option, Some, None, IfSome, length, Contains, nat_eq, option_map, cond}
+use Rattle.std.specs.Prelude.{◌≡◌, ◌⊎◌, ◌<◌, ℕ, suc, Bool, true, false, List, [], ◌∷◌, ◌++◌, Option, Some, None, IfSome, length, Contains, map as list_map, nat_eq, option_map, cond, ◌≤◌, IsSome}
 use Rattle.std.specs.Option.{option_to_list}
 use Rattle.lsa_store.specs.declared.place.Ref.{Ref}
 use Rattle.lsa_region.specs.Region.{SameButRoots}
@@ -15,13 +15,16 @@ use Rattle.rc_core.specs.declared.entries.ChainKind.TheVariants.{Cache, Memtable
 use Rattle.rc_core.specs.declared.entries.Entry.{Entry}
 use Rattle.rc_core.specs.declared.entries.Flag.{Flag}
 use Rattle.rc_core.specs.declared.entries.Flag.TheVariants.{Inherit, Unknown}
+use Rattle.rc_core.specs.AtPlace.{HasEntryAt}
 use Rattle.rc_core.specs.Chains.{Shown}
+use Rattle.rc_core.specs.Change.{drop_at}
+use Rattle.rc_core.specs.Continuity.{with_entries, without_statics}
 use Rattle.rc_core.specs.Steps.{on_newest, version_of, with_phase, renumbered}
 use Rattle.rc_core.specs.Version.{Version, end_position}
-use Rattle.rc_registry.specs.Registry.{IsNumberIn, put}
+use Rattle.rc_registry.specs.Registry.{AreFree, IsNumberIn, put}
 use Rattle.rc_memory.specs.Memory.{KeptChain, Member, Memory, IsMemberObject, IsVersionAt, IsVersionObject, chain_at, listed_as, on_chain, on_shown, renumbered_member, shown_with, shown_without}
 use Rattle.rc_memory.specs.Recency.{IsLastInner}
-use Rattle.rc_memory.specs.Changes.{IsUnmoved, IsWithout, Nowhere, StandStill, member}
+use Rattle.rc_memory.specs.Changes.{AtAlone, IsUnmoved, IsVersionChanged, IsWithout, Nowhere, OfVersion, StandStill, member}
 
 -- the flag of all that the version of a new chain says: nothing is known in a cache chain, and in a memtable's nothing is said
 abbrev pub flag_of_new : ChainKind → Flag
@@ -93,7 +96,7 @@ relabelled phase k = cond k.chain.attached (on_shown (λ c. shown_with (on_newes
 -- the version of a number of a chain is gone, and with it its end dummy, which was the last of its objects; newer ones have numbers less by one, and the places of their objects with them
 pub record IsVersionDropped (id j : ℕ) (old new : Memory) : Type 0 where
   pub chains : new.chains ≡ on_chain id (on_shown (shown_without j)) old.chains
-  pub recency : (list : List Member) × IsWithout (member id j (Some end_position)) old.recency list × (new.recency ≡ List.map (renumbered_member id j) list)
+  pub recency : (list : List Member) × IsWithout (member id j (Some end_position)) old.recency list × (new.recency ≡ list_map (renumbered_member id j) list)
   pub dropped : new.dropped ≡ old.dropped
   pub counts : new.counts ≡ old.counts
   pub objects : (r : Ref) (w : Member) → IsMemberObject old r w → (w.chain ≡ id → w.version ≡ j → ⊥) → IsMemberObject new r (renumbered_member id j w)
@@ -107,3 +110,52 @@ pub record IsChainDropped (id : ℕ) (list : List Member) (old new : Memory) : T
   pub counts : new.counts ≡ old.counts
   pub objects : (r : Ref) (w : Member) → IsMemberObject old r w → (w.chain ≡ id → ⊥) → IsMemberObject new r w
   pub region : IsUnmoved old.region new.region
+
+-- a cache chain that nobody pins, in which no update stands, and of which no object is listed: it is to be dropped
+pub record IsIdle (m : Memory) (id : ℕ) (c : Shown) : Type 0 where
+  pub cached : c.kind ≡ Cache
+  pub settled : c.updating ≡ false
+  pub unpinned : AreFree c.pins
+  pub unlisted : (j : ℕ) (at : Option Pos) → Contains m.recency (member id j at) → ⊥
+
+-- an entry of the oldest version was freed, which is not the end dummy
+pub record IsEntryFreed (id : ℕ) (old new : Memory) : Type 0 where
+  pub at : Pos
+  pub there : OfVersion old id 0 (λ k v. HasEntryAt at v.entries)
+  pub inner : at ≡ end_position → ⊥
+  pub changed : IsVersionChanged id 0 (λ c. with_entries (drop_at at c.entries) c) (AtAlone (member id 0 (Some at))) old new
+  pub recency : IsWithout (member id 0 (Some at)) old.recency new.recency
+
+-- its static row was freed
+pub record IsStaticFreed (id : ℕ) (old new : Memory) : Type 0 where
+  pub there : OfVersion old id 0 (λ k v. IsSome v.statics)
+  pub changed : IsVersionChanged id 0 without_statics (AtAlone (member id 0 None)) old new
+  pub recency : IsWithout (member id 0 None) old.recency new.recency
+
+-- the chain was dropped, of which the end dummy of one version was left
+pub record IsLastDropped (id : ℕ) (old new : Memory) : Type 0 where
+  pub list : List Member
+  pub recency : IsWithout (member id 0 (Some end_position)) old.recency list
+  pub dropped : IsChainDropped id list old new
+
+-- of the oldest version of a chain one entry was freed, its static row, the version itself with its end dummy, or with it the chain, of which it was the last version
+abbrev pub IsOneFreed : ℕ → Memory → Memory → Type 0
+IsOneFreed id old new = IsEntryFreed id old new ⊎ (IsStaticFreed id old new ⊎ (IsVersionDropped id 0 old new ⊎ IsLastDropped id old new))
+
+-- what is left of a list without its members at these places, in its order
+abbrev pub IsLeft : (Member → Type 0) → List Member → List Member → Type 0
+IsLeft these [] rest = rest ≡ []
+IsLeft these (w ∷ ws) rest = (these w × IsLeft these ws rest) ⊎ ((these w → ⊥) × ((more : List Member) × (rest ≡ w ∷ more) × IsLeft these ws more))
+
+-- the objects at these places that were in the list went to its back, in some order; all others stand before them as they stood
+pub record IsTouched (these : Member → Type 0) (old new : List Member) : Type 0 where
+  pub rest : List Member
+  pub touched : List Member
+  pub split : new ≡ rest ++ touched
+  pub left : IsLeft these old rest
+  pub mine : (w : Member) → Contains touched w → these w × Contains old w
+  pub all : (w : Member) → Contains old w → these w → Contains touched w
+
+-- a place is that of the entry at a position, in a version of a chain up to one
+abbrev pub IsAtUpTo : ℕ → ℕ → Pos → Member → Type 0
+IsAtUpTo id j x w = (w.chain ≡ id) × (w.version ≤ j) × (w.position ≡ Some x)

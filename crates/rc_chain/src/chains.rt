@@ -1,17 +1,19 @@
 //! All chains of a shard.
-ghost use Rattle.std.specs.Prelude.{◌≡◌, ◌↔◌, ◌∷◌, ◌++◌, ◌+◌, ◌-◌, ◌*◌, ◌/◌, ◌%◌, ◌^◌, ◌<◌, ◌≤◌, ℕ, List as Sequence, [], true, false, Some, None, IfNone, IfOk, IfSome, IsSomeAnd, IsTrue, OnErr, length, is_some, cond, Contains};
+ghost use Rattle.std.specs.Prelude.{◌≡◌, ◌↔◌, ◌∷◌, ◌++◌, ◌+◌, ◌-◌, ◌*◌, ◌/◌, ◌%◌, ◌^◌, ◌<◌, ◌≤◌, ℕ, List as Sequence, [], true, false, Some, None, IfNone, IfOk, IfSome, IsSomeAnd, IsTrue, OnErr, length, is_some, cond, sum_by, Contains, IsSome, ◌⊎◌};
 ghost use Rattle.lsa_pool.specs.Room.{free_count, spare_of};
-ghost use Rattle.lsa_region.specs.Region.{live_bytes};
+ghost use Rattle.lsa_region.specs.Region.{body, live_bytes, objects, HasLayout, IsWell, Renamed, SameObjects};
+ghost use Rattle.lsa_store.specs.declared.place.Ref.{Ref as Name};
 ghost use Rattle.rc_core.specs.Chains.{IsPinned, at_place};
 ghost use Rattle.rc_position.specs.Position.{Head};
-ghost use Rattle.rc_memory.specs.Kept.{HasMemory, IsMemory};
-ghost use Rattle.rc_registry.specs.Registry.{IsAfter};
-ghost use Rattle.rc_memory.specs.Memory.{KeptChain, Member, HasChain, HasVersion, IsMemberObject, IsNextChain, IsVersionAt, IsEmpty, IsSnapshotTaken, IsTold, IsUntouched, IsVersionObject, HasPin, chain_at, counts_raised, listed_as, mark_passed, on_chain, snapshot_number, with_chains, without_snapshot};
-ghost use Rattle.lsa_move.specs.Room.{IsCompacted, Tight};
+ghost use Rattle.rc_memory.specs.Kept.{HasMemory, IsMemory, IsSoundChain, present};
+ghost use Rattle.rc_memory.specs.Room.{ChainsFit, chain_bytes, chain_objects};
+ghost use Rattle.rc_registry.specs.Registry.{AreOnce, IsAfter, IsNumberIn};
+ghost use Rattle.rc_memory.specs.Memory.{KeptChain, Member, HasChain, HasVersion, IsMemberObject, IsNextChain, IsVersionAt, IsEmpty, IsSnapshotTaken, IsTold, IsUntouched, IsVersionObject, HasPin, chain_at, counts_raised, listed_as, mark_passed, on_chain, snapshot_number, under_new_names, with_chains, without_snapshot};
+ghost use Rattle.lsa_move.specs.Room.{Compactions, IsCompacted, Tight};
 ghost use Rattle.lsa_store.specs.Stock.{sparse_of};
 ghost use Rattle.rc_core.specs.Steps.{MayPopulate, pin_at};
 ghost use Rattle.rc_core.specs.Version.{Version};
-ghost use Rattle.rc_memory.specs.Recency.{MayBeListed, MustBeListed};
+ghost use Rattle.rc_memory.specs.Recency.{IsRecency, MayBeListed, MustBeListed};
 ghost use Rattle.rc_memory.specs.laws.One.{memory-prop};
 
 use lsa_list::List;
@@ -42,6 +44,7 @@ pub struct Chains<const S: usize> {
 }
 
 impl<const S: usize> Model for Chains<S> {
+    ghost use Rattle.std.specs.Prelude.{◌≡◌, ◌≤◌, ◌^◌};
     ghost use Rattle.rc_memory.specs.Kept.{IsMemory};
     ghost use Rattle.rc_memory.specs.Memory.{Memory};
 
@@ -49,7 +52,7 @@ impl<const S: usize> Model for Chains<S> {
 
     ghost view = { λ c. c.memory.0 };
 
-    ghost invariant = { λ c. (m : Memory) × IsMemory S c.recency c.region c.registry c.counts m };
+    ghost invariant = { λ c. (m : Memory) × IsMemory S c.recency c.region c.registry c.counts m × (c.scratch.size ≡ S) × (c.other.size ≡ S) × (S ≤ 2 ^ 27) };
 }
 
 /// A snapshot of a chain: it sees the version that it pins, with all older ones, until it is given to `release`.
@@ -95,6 +98,24 @@ impl<const S: usize> Chains<S> {
             scratch,
             other,
         })
+    }
+
+    /// What all chains keep: each is sound, the recency list has what it must and nothing else, and what may be joined fits; each object of the region is a version of a chain or stands at a place of one, so that what is live, and how many objects there are, is the sum over the chains. It does nothing.
+    pub fn known(&self)
+        ensures sound { (id : ℕ) → IfSome (chain_at self.now id) (λ k. IsSoundChain k.chain) }
+        ensures rule { IsRecency self.now }
+        ensures fit { ChainsFit S self.now }
+        ensures live { live_bytes self.now.region ≡ sum_by chain_bytes (present self.now.chains) }
+        ensures objects { objects self.now.region ≡ sum_by chain_objects (present self.now.chains) }
+        ensures each { (r : Name) → IsSome (body self.now.region r) → ((id : ℕ) × (j : ℕ) × IsVersionObject self.now id j r) ⊎ ((w : Member) × IsMemberObject self.now r w) }
+        ensures place { (r : Name) (w x : Member) → IsMemberObject self.now r w → IsMemberObject self.now r x → w ≡ x }
+        ensures told { (id : ℕ) → IsNumberIn self.now.dropped id → chain_at self.now id ≡ None }
+        ensures once { AreOnce self.now.dropped }
+        ensures well { IsWell self.now.region }
+        ensures layout { HasLayout self.now.region }
+    {
+        self.region.known();
+        self.registry.known();
     }
 
     /// Raises the counts by so many evictions, by how often no room was found, and by how many bytes the chains became smaller. Each stays at 2^64 - 1.
@@ -226,8 +247,10 @@ impl<const S: usize> Chains<S> {
         ensures full { result ≡ Ensured.Full → spare_of S self.new.region.usages < need }
         ensures tight { result ≡ Ensured.Full → Tight S self.new.region.usages }
         ensures idle { need ≤ spare_of S self.old.region.usages → self.new ≡ self.old }
+        ensures rounds { (rounds : ℕ) × Compactions S need rounds self.old.region self.new.region × (rounds ≤ need / (S / 8) + 1) }
         ensures compacted { self.new.region.compacted ≤ self.old.region.compacted + (need / (S / 8) + 1) }
         ensures moved { self.old.region.moved ≤ self.new.region.moved }
+        ensures renamed { (names : Sequence (Name × Name)) × Renamed self.old.region self.new.region names × (self.new ≡ under_new_names names self.new.region self.old) }
         ensures untouched { IsUntouched self.old self.new }
     {
         ensure(&mut self.region, need)
@@ -238,15 +261,26 @@ impl<const S: usize> Chains<S> {
         ensures tells { result ≡ is_some (sparse_of S self.old.region.usages) }
         ensures same { result ≡ false → self.new ≡ self.old }
         ensures compacted { IfSome (sparse_of S self.old.region.usages) (IsCompacted S self.old.region self.new.region) }
+        ensures renamed { (names : Sequence (Name × Name)) × Renamed self.old.region self.new.region names × (self.new ≡ under_new_names names self.new.region self.old) }
         ensures untouched { IsUntouched self.old self.new }
     {
         compact_one(&mut self.region)
     }
 
+    /// Whether an object is in the recency list.
+    pub fn is_listed(&self, r: Ref) -> bool
+        requires { (w : Member) × IsMemberObject self.now r w }
+        ensures { (w : Member) → IsMemberObject self.now r w → IsTrue result ↔ Contains self.now.recency w }
+    {
+        self.region.known();
+        self.region.link_of(End::Obj(r, 0)).is_some()
+    }
+
     /// Puts an entry or a static row of a cache chain, which is not in the recency list and may be in it, at its back.
     pub fn list(&mut self, r: Ref)
         requires { (w : Member) × IsMemberObject self.old r w × (Contains self.old.recency w → ⊥) × IsSomeAnd (chain_at self.old w.chain) (λ k. MayBeListed k.chain w.version w.position) }
-        ensures { (w : Member) → IsMemberObject self.old r w → self.new ≡ listed_as (self.old.recency ++ (w ∷ [])) self.new.region self.old }
+        ensures listed { (w : Member) → IsMemberObject self.old r w → self.new ≡ listed_as (self.old.recency ++ (w ∷ [])) self.new.region self.old }
+        ensures objects { SameObjects self.old.region self.new.region }
     {
         self.recency.push_back(&mut self.region, r);
     }
@@ -254,7 +288,8 @@ impl<const S: usize> Chains<S> {
     /// Takes an object out of the recency list that need not be in it: an end dummy, or the dummy at an update's place.
     pub fn unlist(&mut self, r: Ref)
         requires { (w : Member) × (front : Sequence Member) × (back : Sequence Member) × (self.old.recency ≡ front ++ (w ∷ back)) × IsMemberObject self.old r w × (IsSomeAnd (chain_at self.old w.chain) (λ k. MustBeListed k.chain w.version w.position) → ⊥) }
-        ensures { (w : Member) (front back : Sequence Member) → self.old.recency ≡ front ++ (w ∷ back) → IsMemberObject self.old r w → self.new ≡ listed_as (front ++ back) self.new.region self.old }
+        ensures unlisted { (w : Member) (front back : Sequence Member) → self.old.recency ≡ front ++ (w ∷ back) → IsMemberObject self.old r w → self.new ≡ listed_as (front ++ back) self.new.region self.old }
+        ensures objects { SameObjects self.old.region self.new.region }
     {
         self.recency.remove(&mut self.region, r);
     }
@@ -262,7 +297,8 @@ impl<const S: usize> Chains<S> {
     /// Makes an object of the recency list the most recent one.
     pub fn touch(&mut self, r: Ref)
         requires { (w : Member) × (front : Sequence Member) × (back : Sequence Member) × (self.old.recency ≡ front ++ (w ∷ back)) × IsMemberObject self.old r w }
-        ensures { (w : Member) (front back : Sequence Member) → self.old.recency ≡ front ++ (w ∷ back) → IsMemberObject self.old r w → self.new ≡ listed_as ((front ++ back) ++ (w ∷ [])) self.new.region self.old }
+        ensures touched { (w : Member) (front back : Sequence Member) → self.old.recency ≡ front ++ (w ∷ back) → IsMemberObject self.old r w → self.new ≡ listed_as ((front ++ back) ++ (w ∷ [])) self.new.region self.old }
+        ensures objects { SameObjects self.old.region self.new.region }
     {
         self.recency.touch(&mut self.region, r);
     }
