@@ -1,3 +1,6 @@
 mod Reading
 mod Opening
 mod Snapshots
+mod Living
+mod Made
+mod Gone

@@ -1,7 +1,8 @@
 -- Chains as they begin, and with their counts raised.
-use Rattle.std.proofs.Common.{◌≡◌, ℕ, [], Some, refl, sym, ap, ◌∙◌, subst}
+use Rattle.std.proofs.Common.{◌≡◌, ◌+◌, ℕ, [], Some, refl, sym, ap, ◌∙◌, subst, arith}
 use Rattle.lsa_region.specs.declared.end.End.TheVariants.{Slot}
-use Rattle.lsa_region.specs.Region.{View, live_bytes, link_of, IsWell}
+use Rattle.lsa_region.specs.Ends.{SlotCounts, slots_in}
+use Rattle.lsa_region.specs.Region.{View, live_bytes, link_of, slots_of, IsWell}
 use Rattle.lsa_list.specs.declared.recency.List.{List as Slots}
 use Rattle.rc_partition.specs.laws.Lists.{elem-none, once-none}
 use Rattle.rc_registry.specs.Registry.{Registry}
@@ -20,6 +21,7 @@ counted-memory S slots v registry counts m h evicted skipped shrunk now a b c = 
     listed = h.held.listed;
     stands = h.held.stands;
     recency = h.held.recency;
+    roots = h.held.roots;
     dropped = h.held.dropped;
     counted =
         let x = ap (λ (k : Counts). raised_by evicted k.evicted) h.held.counted ∙ sym a in let y = ap (λ (k : Counts). raised_by skipped k.skipped) h.held.counted ∙ sym b in
@@ -34,9 +36,9 @@ counted-memory S slots v registry counts m h evicted skipped shrunk now a b c = 
 abbrev pub opened : View → Memory
 opened v = record { chains = []; recency = []; dropped = []; counts = record { evicted = 0; skipped = 0; shrunk = 0 }; region = v; standing = [] }
 
-pub opened-memory : (S : ℕ) (slots : Slots) (v : View) (registry : Registry) → IsWell v → link_of v (Slot slots.front) ≡ Some (Slot slots.back) → live_bytes v ≡ 0 → registry ≡ record { uses = []; dropped = [] }
+pub opened-memory : (S : ℕ) (slots : Slots) (v : View) (registry : Registry) → IsWell v → link_of v (Slot slots.front) ≡ Some (Slot slots.back) → live_bytes v ≡ 0 → (slots_of v).there ≡ 2 → registry ≡ record { uses = []; dropped = [] }
     → IsMemory S slots v registry (record { evicted = 0; skipped = 0; shrunk = 0 }) (opened v)
-opened-memory S slots v registry well link live new = subst (λ r. IsMemory S slots v r (record { evicted = 0; skipped = 0; shrunk = 0 }) (opened v)) (sym new) (record {
+opened-memory S slots v registry well link live roots new = subst (λ r. IsMemory S slots v r (record { evicted = 0; skipped = 0; shrunk = 0 }) (opened v)) (sym new) (record {
   held = record {
     well = well;
     region = refl;
@@ -52,6 +54,7 @@ opened-memory S slots v registry well link live new = subst (λ r. IsMemory S sl
       whole = live;
     };
     recency = tt;
+    roots = roots;
     dropped = refl;
     counted = refl;
   };
@@ -59,3 +62,8 @@ opened-memory S slots v registry well link live new = subst (λ r. IsMemory S sl
   rule = record { once = once-none; members = λ w h. absurd (elem-none w h); complete = λ w h. absurd h };
   fit = λ id. tt;
 })
+
+-- a region with nothing in it has two root slots once two were added
+pub two-roots : (v one two linked : View) → v.roots ≡ [] → (slots_of one).there ≡ (slots_of v).there + 1 → (slots_of two).there ≡ (slots_of one).there + 1 → slots_of linked ≡ slots_of two → (slots_of linked).there ≡ 2
+two-roots v one two linked none first second same =
+    let start : (slots_of v).there ≡ 0 = ap (λ roots. (slots_in roots).there) none in let last : (slots_of linked).there ≡ (slots_of two).there = ap (λ (c : SlotCounts). c.there) same in omega (arith, start, first, second, last)

@@ -14,6 +14,7 @@ ghost use Rattle.lsa_store.specs.Stock.{sparse_of};
 ghost use Rattle.rc_core.specs.Steps.{MayPopulate, pin_at};
 ghost use Rattle.rc_core.specs.Version.{Version};
 ghost use Rattle.rc_memory.specs.Recency.{IsRecency, MayBeListed, MustBeListed};
+ghost use Rattle.rc_memory.specs.Changes.{Nowhere, StandStill};
 ghost use Rattle.rc_memory.specs.laws.One.{memory-prop};
 
 use lsa_list::List;
@@ -281,6 +282,7 @@ impl<const S: usize> Chains<S> {
         requires { (w : Member) × IsMemberObject self.old r w × (Contains self.old.recency w → ⊥) × IsSomeAnd (chain_at self.old w.chain) (λ k. MayBeListed k.chain w.version w.position) }
         ensures listed { (w : Member) → IsMemberObject self.old r w → self.new ≡ listed_as (self.old.recency ++ (w ∷ [])) self.new.region self.old }
         ensures objects { SameObjects self.old.region self.new.region }
+        ensures still { StandStill Nowhere self.old self.new }
     {
         self.recency.push_back(&mut self.region, r);
     }
@@ -290,6 +292,7 @@ impl<const S: usize> Chains<S> {
         requires { (w : Member) × (front : Sequence Member) × (back : Sequence Member) × (self.old.recency ≡ front ++ (w ∷ back)) × IsMemberObject self.old r w × (IsSomeAnd (chain_at self.old w.chain) (λ k. MustBeListed k.chain w.version w.position) → ⊥) }
         ensures unlisted { (w : Member) (front back : Sequence Member) → self.old.recency ≡ front ++ (w ∷ back) → IsMemberObject self.old r w → self.new ≡ listed_as (front ++ back) self.new.region self.old }
         ensures objects { SameObjects self.old.region self.new.region }
+        ensures still { StandStill Nowhere self.old self.new }
     {
         self.recency.remove(&mut self.region, r);
     }
@@ -299,6 +302,7 @@ impl<const S: usize> Chains<S> {
         requires { (w : Member) × (front : Sequence Member) × (back : Sequence Member) × (self.old.recency ≡ front ++ (w ∷ back)) × IsMemberObject self.old r w }
         ensures touched { (w : Member) (front back : Sequence Member) → self.old.recency ≡ front ++ (w ∷ back) → IsMemberObject self.old r w → self.new ≡ listed_as ((front ++ back) ++ (w ∷ [])) self.new.region self.old }
         ensures objects { SameObjects self.old.region self.new.region }
+        ensures still { StandStill Nowhere self.old self.new }
     {
         self.recency.touch(&mut self.region, r);
     }

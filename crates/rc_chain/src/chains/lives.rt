@@ -6,7 +6,7 @@ ghost use Rattle.rc_core.specs.Chains.{IsPinned};
 ghost use Rattle.rc_core.specs.Version.{Version, end_position};
 ghost use Rattle.rc_memory.specs.Memory.{KeptChain, Member, HasChain, HasVersion, IsMemberObject, IsVersionAt, chain_at, listed_as, on_chain, on_shown, shown_detached, shown_updating, with_chains};
 ghost use Rattle.rc_memory.specs.Recency.{IsLastInner, IsUnderUpdate, MustBeListed};
-ghost use Rattle.rc_memory.specs.Changes.{IsWithout, OfVersion, member};
+ghost use Rattle.rc_memory.specs.Changes.{CanDrop, IsWithout, LastIsListed, NothingListed, OfVersion, member};
 ghost use Rattle.rc_chain.specs.Lives.{IsBare, IsChainChanged, IsChainDropped, IsChainMade, IsEndListed, IsLastUnlisted, IsSameButSlots, IsVersionDropped, flag_of_new, with_end_listed, with_version_over};
 ghost use Rattle.rc_version.specs.Versions.{IsVersionOf};
 ghost use Rattle.lsa_region.specs.Region.{SameObjects};
@@ -54,7 +54,7 @@ impl<const S: usize> Chains<S> {
     // An update stands in a chain no longer: the last entry before the end of its newest version is in the recency list.
     fn settle(&mut self, id: u64)
         requires there { HasChain self.old id }
-        requires listed { (k : KeptChain) → chain_at self.old id ≡ Some k → (j : ℕ) (v : Version) (at : Option Position) → IsUnderUpdate k.chain j → IsVersionAt k.chain.versions j v → IsLastInner v at → Contains self.old.recency (member id j at) }
+        requires listed { LastIsListed id self.old }
         ensures { self.new ≡ with_chains (on_chain id (on_shown (shown_updating false)) self.old.chains) self.old }
     {
         self.registry.set_updating(id, false);
@@ -90,9 +90,8 @@ impl<const S: usize> Chains<S> {
     // A version of a chain goes, of which its end dummy alone is left, out of the recency list.
     fn drop_bare(&mut self, id: u64, number: u64)
         requires bare { IsSomeAnd (chain_at self.old id) (λ k. (v : Version) × IsVersionAt k.chain.versions number v × IsBare v) }
-        requires unlisted { (at : Option Position) → Contains self.old.recency (member id number at) → ⊥ }
-        requires unpinned { (k : KeptChain) → chain_at self.old id ≡ Some k → IsPinned k.chain.pins number → ⊥ }
-        requires inner { (k : KeptChain) → chain_at self.old id ≡ Some k → (2 ≤ length k.chain.versions) × (k.chain.updating ≡ true → (suc number < length k.chain.versions) × (3 ≤ length k.chain.versions)) }
+        requires unlisted { NothingListed id number self.old }
+        requires free { (k : KeptChain) → chain_at self.old id ≡ Some k → CanDrop k.chain number }
         ensures dropped { IsVersionDropped id number self.old self.new }
         ensures spare { spare_of S self.new.region.usages ≡ spare_of S self.old.region.usages }
     {
@@ -105,7 +104,7 @@ impl<const S: usize> Chains<S> {
     // A chain goes, of which the end dummy of one version alone is left, out of the recency list, and which nobody pins. Its number is to be told.
     fn close(&mut self, id: u64)
         requires bare { IsSomeAnd (chain_at self.old id) (λ k. (v : Version) × (k.chain.versions ≡ v ∷ []) × IsBare v) }
-        requires unlisted { (at : Option Position) → Contains self.old.recency (member id 0 at) → ⊥ }
+        requires unlisted { NothingListed id 0 self.old }
         requires unpinned { (k : KeptChain) (j : ℕ) → chain_at self.old id ≡ Some k → IsPinned k.chain.pins j → ⊥ }
         ensures dropped { IsChainDropped id self.old.recency self.old self.new }
         ensures spare { spare_of S self.new.region.usages ≡ spare_of S self.old.region.usages }
@@ -217,8 +216,8 @@ impl<const S: usize> Chains<S> {
     /// Drops a version of a chain, of which its end dummy alone is left: newer versions have numbers less by one, and the snapshots of these, and the places of their objects, with them. It is not the newest one, nobody pins it, and where an update stands in the chain two others are left.
     pub fn drop_version(&mut self, id: u64, number: u64)
         requires bare { IsSomeAnd (chain_at self.old id) (λ k. (v : Version) × IsVersionAt k.chain.versions number v × IsBare v) }
-        requires unpinned { (k : KeptChain) → chain_at self.old id ≡ Some k → IsPinned k.chain.pins number → ⊥ }
-        requires older { (k : KeptChain) → chain_at self.old id ≡ Some k → (suc number < length k.chain.versions) × (k.chain.updating ≡ true → 3 ≤ length k.chain.versions) }
+        requires free { (k : KeptChain) → chain_at self.old id ≡ Some k → CanDrop k.chain number }
+        requires older { (k : KeptChain) → chain_at self.old id ≡ Some k → suc number < length k.chain.versions }
         ensures dropped { IsVersionDropped id number self.old self.new }
         ensures spare { spare_of S self.new.region.usages ≡ spare_of S self.old.region.usages }
     {

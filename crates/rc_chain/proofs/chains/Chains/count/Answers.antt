@@ -12,7 +12,7 @@ invariant_of-self-inside g c =
 pub invariant_of-self : goal.invariant_of-self
 invariant_of-self g c =
     let s = c.self.inside in let n = memory-now g.row.S s.recency s.region s.registry s.counts s.memory c.args.self.now c.self.view_is c.self.invariant.0 c.self.invariant.1 in
-    (counts_raised c.args.evicted c.args.skipped c.args.shrunk c.args.self.now, counted-memory g.row.S s.recency s.region s.registry s.counts c.args.self.now n c.args.evicted c.args.skipped c.args.shrunk _ c.saturating_add.ensures c.saturating_add-2.ensures c.saturating_add-3.ensures)
+    (counts_raised c.args.evicted c.args.skipped c.args.shrunk c.args.self.now, counted-memory g.row.S s.recency s.region s.registry s.counts c.args.self.now n c.args.evicted c.args.skipped c.args.shrunk _ c.saturating_add.ensures c.saturating_add-2.ensures c.saturating_add-3.ensures, c.self.invariant.2, c.self.invariant.3, c.self.invariant.4)
 
 pub returns : goal.returns
 returns g c =

@@ -15,7 +15,7 @@ invariant_of-self-inside g c =
 pub invariant_of-self : goal.invariant_of-self
 invariant_of-self g c =
     let s = c.self.inside in let n = memory-now g.row.S s.recency s.region s.registry s.counts s.memory c.args.self.now c.self.view_is c.self.invariant.0 c.self.invariant.1 in
-    (with_chains (on_chain c.args.s.chain (without_snapshot c.args.s.pin) c.args.self.now.chains) c.args.self.now, subst (λ r. IsMemory g.row.S s.recency s.region r s.counts (with_chains (on_chain c.args.s.chain (without_snapshot c.args.s.pin) c.args.self.now.chains) c.args.self.now)) (sym c.unpin.ensures) (memory-released g.row.S s.recency s.region s.registry s.counts c.args.self.now c.args.s.chain n (pin-chain c.args.self.now c.args.s.chain c.args.s.pin c.requires) c.args.s.pin))
+    (with_chains (on_chain c.args.s.chain (without_snapshot c.args.s.pin) c.args.self.now.chains) c.args.self.now, subst (λ r. IsMemory g.row.S s.recency s.region r s.counts (with_chains (on_chain c.args.s.chain (without_snapshot c.args.s.pin) c.args.self.now.chains) c.args.self.now)) (sym c.unpin.ensures) (memory-released g.row.S s.recency s.region s.registry s.counts c.args.self.now c.args.s.chain n (pin-chain c.args.self.now c.args.s.chain c.args.s.pin c.requires) c.args.s.pin), c.self.invariant.2, c.self.invariant.3, c.self.invariant.4)
 
 pub returns : goal.returns
 returns g c =

@@ -24,7 +24,7 @@ invariant_of-self-inside g c =
 pub invariant_of-self : goal.invariant_of-self
 invariant_of-self g c =
     let s = c.self.inside in let n = memory-now g.row.S s.recency s.region s.registry s.counts s.memory c.args.self.now c.self.view_is c.self.invariant.0 c.self.invariant.1 in
-    after-pin g.row.S s.recency s.region s.registry s.counts c.args.self.now n c.args.id c.snapshot_number-number.result (has-chain c.args.self.now c.args.id c.requires) c.snapshot_number-number.ensures.value c.pin.result c.pin.new.self c.pin.ensures.pinned c.pin.ensures.err
+    let x = after-pin g.row.S s.recency s.region s.registry s.counts c.args.self.now n c.args.id c.snapshot_number-number.result (has-chain c.args.self.now c.args.id c.requires) c.snapshot_number-number.ensures.value c.pin.result c.pin.new.self c.pin.ensures.pinned c.pin.ensures.err in (x.0, x.1, c.self.invariant.2, c.self.invariant.3, c.self.invariant.4)
 
 pub returns-in_err-pin-clause-err : goal.returns-in_err-pin-clause-err
 returns-in_err-pin-clause-err g c =
@@ -34,7 +34,7 @@ returns-in_err-pin-clause-err g c =
 pub invariant_of-self-2 : goal.invariant_of-self-2
 invariant_of-self-2 g c =
     let s = c.self.inside in let n = memory-now g.row.S s.recency s.region s.registry s.counts s.memory c.args.self.now c.self.view_is c.self.invariant.0 c.self.invariant.1 in
-    after-pin g.row.S s.recency s.region s.registry s.counts c.args.self.now n c.args.id c.snapshot_number-number.result (has-chain c.args.self.now c.args.id c.requires) c.snapshot_number-number.ensures.value c.pin.result c.pin.new.self c.pin.ensures.pinned c.pin.ensures.err
+    let x = after-pin g.row.S s.recency s.region s.registry s.counts c.args.self.now n c.args.id c.snapshot_number-number.result (has-chain c.args.self.now c.args.id c.requires) c.snapshot_number-number.ensures.value c.pin.result c.pin.new.self c.pin.ensures.pinned c.pin.ensures.err in (x.0, x.1, c.self.invariant.2, c.self.invariant.3, c.self.invariant.4)
 
 pub returns-clause-taken : goal.returns-clause-taken
 returns-clause-taken g c =

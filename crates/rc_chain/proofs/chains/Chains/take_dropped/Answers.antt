@@ -13,7 +13,7 @@ invariant_of-self-inside g c =
 pub invariant_of-self : goal.invariant_of-self
 invariant_of-self g c =
     let s = c.self.inside in let n = memory-now g.row.S s.recency s.region s.registry s.counts s.memory c.args.self.now c.self.view_is c.self.invariant.0 c.self.invariant.1 in
-    (with_dropped c.take_dropped.new.self.dropped c.args.self.now, told-memory g.row.S s.recency s.region s.registry c.take_dropped.new.self s.counts c.args.self.now c.take_dropped.result n c.take_dropped.ensures)
+    (with_dropped c.take_dropped.new.self.dropped c.args.self.now, told-memory g.row.S s.recency s.region s.registry c.take_dropped.new.self s.counts c.args.self.now c.take_dropped.result n c.take_dropped.ensures, c.self.invariant.2, c.self.invariant.3, c.self.invariant.4)
 
 pub returns : goal.returns
 returns g c =

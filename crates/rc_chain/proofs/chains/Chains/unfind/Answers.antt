@@ -1,0 +1,28 @@
+use Rattle.std.proofs.Common.{sym, subst}
+use Rattle.rc_memory.specs.Memory.{chain_detached}
+use Rattle.rc_memory.specs.Kept.{IsMemory}
+use Rattle.rc_memory.specs.laws.Chains.{memory-detached}
+use Rattle.rc_memory.specs.laws.One.{kept-is}
+use Rattle.rc_chain.proofs.Reading.{memory-now, there}
+use Rattle.rc_chain.proofs.Living.{settled-last}
+use Rattle.rc_chain.proofs.chains.Chains.unfind.Goals as goal
+
+pub detach-requires : goal.detach-requires
+detach-requires g c =
+    let s = c.self.inside in let n = memory-now g.row.S s.recency s.region s.registry s.counts s.memory c.args.self.now c.self.view_is c.self.invariant.0 c.self.invariant.1 in
+    there s.recency s.region s.registry s.counts c.args.self.now n.held c.args.id c.requires.there
+
+pub invariant_of-self-inside : goal.invariant_of-self-inside
+invariant_of-self-inside g c =
+    let s = c.self.inside in let n = memory-now g.row.S s.recency s.region s.registry s.counts s.memory c.args.self.now c.self.view_is c.self.invariant.0 c.self.invariant.1 in
+    ((chain_detached c.args.id c.args.self.now, ∣ subst (λ r. IsMemory g.row.S s.recency s.region r s.counts (chain_detached c.args.id c.args.self.now)) (sym c.detach.ensures) (memory-detached g.row.S s.recency s.region s.registry s.counts c.args.self.now c.args.id n c.requires.there (settled-last c.args.self.now c.args.id c.requires.settled)) ∣₁), tt)
+
+pub invariant_of-self : goal.invariant_of-self
+invariant_of-self g c =
+    let s = c.self.inside in let n = memory-now g.row.S s.recency s.region s.registry s.counts s.memory c.args.self.now c.self.view_is c.self.invariant.0 c.self.invariant.1 in
+    (chain_detached c.args.id c.args.self.now, subst (λ r. IsMemory g.row.S s.recency s.region r s.counts (chain_detached c.args.id c.args.self.now)) (sym c.detach.ensures) (memory-detached g.row.S s.recency s.region s.registry s.counts c.args.self.now c.args.id n c.requires.there (settled-last c.args.self.now c.args.id c.requires.settled)), c.self.invariant.2, c.self.invariant.3, c.self.invariant.4)
+
+pub returns : goal.returns
+returns g c =
+    let s = c.self.inside in let n = memory-now g.row.S s.recency s.region s.registry s.counts s.memory c.args.self.now c.self.view_is c.self.invariant.0 c.self.invariant.1 in
+    kept-is g.row.S s.recency s.region c.detach.new.self s.counts c.self-1.given.0 (chain_detached c.args.id c.args.self.now) (subst (λ r. IsMemory g.row.S s.recency s.region r s.counts (chain_detached c.args.id c.args.self.now)) (sym c.detach.ensures) (memory-detached g.row.S s.recency s.region s.registry s.counts c.args.self.now c.args.id n c.requires.there (settled-last c.args.self.now c.args.id c.requires.settled))).held
