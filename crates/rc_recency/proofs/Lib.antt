@@ -1,0 +1,6 @@
+mod Aligned
+mod Held
+mod Changed
+mod Marked
+mod Made
+mod Relisted
