@@ -1,3 +1,5 @@
+mod Asked
+mod Between
 mod Dropped
 mod Freed
 mod Gaps

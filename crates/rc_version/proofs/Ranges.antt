@@ -1,5 +1,5 @@
 -- A version with a range tombstone joined: split at both ends, and raised between.
-use Rattle.std.proofs.Common.{◌≡◌, ℕ, ◌+◌, ◌≤◌, List, [], ◌∷◌, ◌++◌, map, Some, None, IsSome, ◌⊎◌, inl, inr, refl, sym, ap, ◌∙◌, subst, arith}
+use Rattle.std.proofs.Common.{◌≡◌, ℕ, ◌+◌, ◌≤◌, List, [], ◌∷◌, map, Some, None, IsSome, ◌⊎◌, inl, inr, refl, sym, ap, ◌∙◌, subst, arith}
 use Rattle.std.specs.Prelude.{Contains}
 use Rattle.std.proofs.lemmas.List.Elements.{Contains-append_cases, Contains-append_left, Contains-append_right}
 use Rattle.rc_cell.specs.declared.writes.Tomb.{Tomb}
@@ -9,24 +9,23 @@ use Rattle.lsa_store.specs.declared.place.Ref.{Ref}
 use Rattle.lsa_region.specs.declared.end.End.{End}
 use Rattle.lsa_region.specs.declared.end.End.TheVariants.{Obj}
 use Rattle.lsa_region.specs.Region.{View, body, link_of, live_bytes}
-use Rattle.lsa_path.specs.laws.Members.{member-cases, member-here, member-later, member-split}
-use Rattle.lsa_tree.specs.Entries.{AreAscending, IsEntryAtPosition, StandsEarlier}
-use Rattle.lsa_tree.specs.laws.Orders.{all-at, ascending-split, before-at, not-both, stands-once}
+use Rattle.lsa_path.specs.laws.Members.{member-here, member-later}
+use Rattle.lsa_tree.specs.Entries.{IsEntryAtPosition}
+use Rattle.lsa_tree.specs.laws.Orders.{stands-once}
 use Rattle.lsa_tree.specs.laws.Trees.{tree-once}
 use Rattle.lsa_tree.specs.Tree.{IsTree}
-use Rattle.rc_core.specs.Change.{change, changed, join_range, raised_mark, split, with_gap, with_mark, with_marks}
+use Rattle.rc_core.specs.Change.{changed, join_range, raised_mark, split}
 use Rattle.rc_core.specs.Continuity.{with_entries}
 use Rattle.rc_core.specs.declared.entries.Entry.{Entry}
 use Rattle.rc_core.specs.declared.entries.Mark.{Mark}
-use Rattle.rc_core.specs.laws.Surgery.{change-over}
 use Rattle.rc_core.specs.Steps.{range_joined}
-use Rattle.rc_core.specs.Version.{Version, Ascend}
-use Rattle.rc_version.specs.Versions.{tree_of, ArePutAmong, HoldEntries, IsKeptBeside, IsKeptBut, IsSplit, IsVersionOf, IsStaticsOf, IsWeighed, HasWhatWasMade, MayChange, entries_bytes, entry_bytes, statics_bytes, version_bytes}
+use Rattle.rc_core.specs.Version.{Version}
+use Rattle.rc_version.specs.Versions.{tree_of, ArePutAmong, IsKeptBeside, IsKeptBut, IsSplit, IsVersionOf, IsStaticsOf, IsWeighed, HasWhatWasMade, MayChange, entries_bytes, entry_bytes, statics_bytes, version_bytes}
 use Rattle.rc_version.specs.calls.Raising.{IsRaising}
-use Rattle.rc_version.specs.laws.Holding.{IsAround, around}
 use Rattle.rc_version.specs.laws.Objects.{holds-stands}
 use Rattle.rc_version.specs.laws.Staying.{kept-then, kept-wider}
-use Rattle.rc_version.proofs.Gaps.{entry-in, split-here}
+use Rattle.rc_version.proofs.Between.{stretch-raising}
+use Rattle.rc_version.proofs.Gaps.{entry-in}
 use Rattle.rc_version.proofs.Putting.{member-decided}
 use Rattle.rc_version.proofs.Written.{none_or_some}
 
@@ -40,16 +39,6 @@ put-wider v r refs now (inr k) q m = subst (λ l. Contains l q) (sym k.1.3) (eli
   | inl ahead ↦ Contains-append_left k.1.0 (r ∷ k.1.1) q ahead
   | inr later ↦ Contains-append_right k.1.0 (r ∷ k.1.1) q (member-later r q k.1.1 later)
 ])
-
--- what stands behind an entry is one of those behind it
-later-member : (v : View) (front rest : List Ref) (first last : Ref) (from to : Pos) → AreAscending v (front ++ (first ∷ rest)) → IsEntryAtPosition v first from → IsEntryAtPosition v last to → IsBefore from to → Contains (front ++ (first ∷ rest)) last → Contains rest last
-later-member v front rest first last from to asc at_first at_last less k = elim (Contains-append_cases front (first ∷ rest) last k) [
-  | inl ahead ↦ absurd (not-both from to less (before-at v last to from at_last (all-at (λ r. StandsEarlier v r from) front last (ascending-split v front rest first from at_first asc).before ahead)))
-  | inr later ↦ elim (member-cases first last rest later) [
-    | inl same ↦ absurd (let again = subst (λ x. IsBefore x to) (stands-once v last from to (subst (λ r. IsEntryAtPosition v r from) same at_first) at_last) less in not-both to to again again)
-    | inr behind ↦ behind
-  ]
-]
 
 bytes-mapped : (g : Entry → Entry) → ((e : Entry) → entry_bytes (g e) ≡ entry_bytes e) → (es : List Entry) → entries_bytes (map g es) ≡ entries_bytes es
 bytes-mapped g same [] = refl
@@ -103,75 +92,8 @@ module _ (S : ℕ) (old mid new : View) (n first last : Ref) (from to : Pos) (to
         let e = entry-in mid n refs1 c1 v1 first (put-member old first refs refs1 (one.entries refs c h).1) in
         subst (IsEntryAtPosition new first) (stands-once mid first e.0.position from (holds-stands mid first e.0 e.1) one.at) (holds-stands new first e.0 (two.held first e.0 e.1))
 
-    -- where they stand
-    abbrev front : List Ref
-    front = (member-split both first first_in).0
-
-    abbrev rest : List Ref
-    rest = (member-split both first first_in).1
-
-    abbrev front_is : both ≡ front ++ (first ∷ rest)
-    front_is = (member-split both first first_in).2
-
-    last_behind : Contains rest last
-    last_behind = later-member new front rest first last from to (subst (AreAscending new) front_is v2.tree.ascending) first_at two.at less (subst (λ l. Contains l last) front_is last_in)
-
-    abbrev between : List Ref
-    between = (member-split rest last last_behind).0
-
-    abbrev back : List Ref
-    back = (member-split rest last last_behind).1
-
-    abbrev rest_is : rest ≡ between ++ (last ∷ back)
-    rest_is = (member-split rest last last_behind).2
-
-    abbrev w : IsAround new front first rest es
-    w = around new front first rest es (subst (λ l. HoldEntries new l es) front_is v2.entries)
-
-    abbrev z : IsAround new between last back w.behind
-    z = around new between last back w.behind (subst (λ l. HoldEntries new l w.behind) rest_is w.held_behind)
-
-    abbrev entries : List Entry
-    entries = w.before ++ (w.here ∷ (z.before ++ (z.here ∷ z.behind)))
-
-    es_is : es ≡ entries
-    es_is = w.is ∙ ap (λ (l : List Entry). w.before ++ (w.here ∷ l)) z.is
-
-    abbrev target : List Entry
-    target = w.before ++ (with_mark f w.here ∷ (map (with_marks f) z.before ++ (with_gap (f z.here.gap) z.here ∷ z.behind)))
-
     pub range-raising : (target : List Entry) × IsRaising new n first last tomb both c target 0 × (join_range from to tomb c.entries ≡ target)
-    range-raising = (target, raising, ranged)
-      where
-        raising : IsRaising new n first last tomb both c target 0
-        raising = record {
-          front = front;
-          between = between;
-          back = back;
-          before = w.before;
-          here = w.here;
-          inner = z.before;
-          there = z.here;
-          behind = z.behind;
-          all_is = front_is ∙ ap (λ (l : List Ref). front ++ (first ∷ l)) rest_is;
-          version = subst (λ l. IsVersionOf new n both (with_entries l c)) es_is v2;
-          held_before = w.held_before;
-          holds = w.holds;
-          held_inner = z.held_before;
-          last_holds = z.holds;
-          held_behind = z.held_behind;
-          target_is = refl;
-          far = omega arith;
-        }
-
-        same : change f from to es ≡ map (changed f from to) es
-        same = ap (λ l. map (changed f from to) (split to l)) (split-here new n both (with_entries es c) v2 front first rest front_is from first_at)
-            ∙ ap (map (changed f from to)) (let s = member-split both last last_in in split-here new n both (with_entries es c) v2 s.0 last s.1 s.2 to two.at)
-
-        ranged : join_range from to tomb c.entries ≡ target
-        ranged = sym same ∙ ap (change f from to) es_is
-            ∙ (λ i. change f (stands-once new first from w.here.position first_at (holds-stands new first w.here w.holds) i) (stands-once new last to z.here.position two.at (holds-stands new last z.here z.holds) i) entries)
-            ∙ change-over f w.before w.here z.before z.here z.behind (subst Ascend es_is v2.version.ascend)
+    range-raising = stretch-raising new n first last from to tomb both (split to (split from c.entries)) c v2 first_in last_in first_at two.at less
 
     pub range-live : IsWeighed old new c (range_joined from to tomb c)
     range-live = two_weighed (live_bytes old) (live_bytes mid) (live_bytes new) (version_bytes c) (version_bytes c1) (version_bytes (range_joined from to tomb c)) (one.live refs c h)

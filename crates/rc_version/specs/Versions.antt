@@ -1,8 +1,10 @@
 -- A version in the region: which objects hold it, and what they hold.
 --     IsVersionOf     the object is this version, and these are its entries' objects
 --     IsKeptBeside          what a change of one version leaves of all else
-use Rattle.std.specs.Prelude.{◌≡◌, ◌≢◌, ℕ, ◌+◌, ◌-◌, ◌^◌, ◌<◌, ◌≤◌, ◌⊎◌, min, List, [], ◌∷◌, ◌++◌, length, Option, Some, None, IsSome, is_some, Contains, ⊤}
+use Rattle.std.specs.Prelude.{◌≡◌, ◌≢◌, ℕ, ◌+◌, ◌-◌, ◌^◌, ◌<◌, ◌≤◌, ◌⊎◌, min, List, [], ◌∷◌, ◌++◌, length, map, Option, Some, None, IsSome, is_some, Contains, ⊤}
+use Rattle.std.specs.Option.{MatchOption}
 use Rattle.rc_cell.specs.declared.rows.Row.{Row}
+use Rattle.rc_cell.specs.declared.writes.Tomb.{Tomb}
 use Rattle.rc_rowcode.specs.Objects.{dummy_size, static_size, version_size}
 use Rattle.rc_rowcode.specs.Spelling.{pos_code, row_code}
 use Rattle.rc_position.specs.declared.positions.Pos.{Pos}
@@ -18,7 +20,8 @@ use Rattle.lsa_tree.specs.Tree.{IsTree}
 use Rattle.lsa_tree.specs.Entries.{IsEntryAtPosition}
 use Rattle.lsa_pool.specs.Room.{spare_of}
 use Rattle.rc_core.specs.declared.entries.Entry.{Entry}
-use Rattle.rc_core.specs.Change.{joined_onto, split}
+use Rattle.rc_core.specs.AtPlace.{HasEntryAt}
+use Rattle.rc_core.specs.Change.{changed, joined_onto, raised_mark, split}
 use Rattle.rc_core.specs.Continuity.{with_entries}
 use Rattle.rc_core.specs.Steps.{join_statics, row_joined}
 use Rattle.rc_core.specs.Version.{Version, IsVersion, On, end_position, seen}
@@ -136,7 +139,21 @@ version_bytes c = version_size + (statics_bytes c.statics + entries_bytes c.entr
 abbrev pub IsWeighed : View → View → Version → Version → Type 0
 IsWeighed old new before after = live_bytes new + version_bytes before ≡ live_bytes old + version_bytes after
 
+-- ---- what a call finds in a version
+
+-- what is answered where the entry of a version at a position is asked for: one of its objects, which stands there; or none, and none of its objects stands there
+abbrev pub IsEntryFound : View → List Ref → Version → Pos → Option Ref → Type 0
+IsEntryFound v refs c x result = MatchOption result (((r : Ref) → Contains refs r → IsEntryAtPosition v r x → ⊥) × (HasEntryAt x c.entries → ⊥)) (λ r. Contains refs r × IsEntryAtPosition v r x × HasEntryAt x c.entries)
+
+-- what is answered where the static row of a version is asked for: the object that holds it; or none, and it has none
+abbrev pub IsStaticRowFound : View → Version → Option Ref → Type 0
+IsStaticRowFound v c result = MatchOption result (c.statics ≡ None) (λ s. (row : Row) × (c.statics ≡ Some row) × HoldsStatic v s row)
+
 -- ---- what a call does to the entries of a version
+
+-- a version with a range tombstone joined at each of its entries from one position on and before another, and over each gap between them; none is made
+abbrev pub raised_between : Pos → Pos → Tomb → Version → Version
+raised_between from to tomb c = with_entries (map (changed (raised_mark (Some tomb)) from to) c.entries) c
 
 -- the entries are those before, of which r is one; or r, which was not there, is put among them
 abbrev pub ArePutAmong : View → Ref → List Ref → List Ref → Type 0

@@ -1,18 +1,21 @@
 //! The laws of versions in a region, each the contract of a function that does nothing.
-ghost use Rattle.std.specs.Prelude.{◌≡◌, ◌≢◌, ◌∷◌, ◌++◌, List, Option, map, Contains};
+ghost use Rattle.std.specs.Prelude.{◌≡◌, ◌≢◌, ◌↔◌, ◌∷◌, ◌++◌, List, Option, map, Contains};
 ghost use Rattle.rc_position.specs.declared.positions.Pos.{Pos};
 ghost use Rattle.lsa_store.specs.declared.place.Ref.{Ref};
 ghost use Rattle.lsa_region.specs.declared.end.End.{End};
 ghost use Rattle.lsa_region.specs.Ends.{named_as};
 ghost use Rattle.lsa_region.specs.Region.{View, body, link_of, IsWell, Renamed};
-ghost use Rattle.rc_core.specs.Change.{drop_at};
+ghost use Rattle.rc_cell.specs.declared.writes.Tomb.{Tomb};
+ghost use Rattle.rc_core.specs.AtPlace.{HasEntryAt};
+ghost use Rattle.rc_core.specs.Change.{drop_at, split};
 ghost use Rattle.rc_core.specs.Continuity.{with_entries};
 ghost use Rattle.rc_core.specs.declared.entries.Entry.{Entry};
-ghost use Rattle.rc_core.specs.Version.{Behind, On, Spot, Version, IsBeforeEnd, seen, spot_cmp};
+ghost use Rattle.rc_core.specs.Steps.{range_joined};
+ghost use Rattle.rc_core.specs.Version.{Behind, On, Spot, Version, IsBeforeEnd, IsVersion, seen, spot_cmp};
 ghost use Rattle.std.specs.Prelude.{ℕ};
 ghost use Rattle.std.specs.declared.cmp.Ordering.TheVariants.{Less};
 ghost use Rattle.rc_object.specs.Objects.{IsMade};
-ghost use Rattle.rc_version.specs.Versions.{IsKeptBeside, IsOutward, IsSplit, IsVersionOf};
+ghost use Rattle.rc_version.specs.Versions.{IsKeptBeside, IsOutward, IsSplit, IsVersionOf, raised_between};
 
 /// An object is one version, and these objects hold its entries.
 pub fn an_object_is_one_version()
@@ -51,4 +54,14 @@ pub fn a_split_changes_no_answer()
 pub fn a_dropped_entry_changes_answers_between_its_neighbours()
     ensures before { (c : Version) (s : Spot) (front : List Entry) (e next : Entry) (back : List Entry) (v : View) (n : Ref) (refs : List Ref) → IsVersionOf v n refs c → c.entries ≡ front ++ (e ∷ next ∷ back) → IsBeforeEnd s front → seen s (drop_at e.position c.entries) ≡ seen s c.entries }
     ensures behind { (c : Version) (s : Spot) (front : List Entry) (e next : Entry) (back : List Entry) (v : View) (n : Ref) (refs : List Ref) → IsVersionOf v n refs c → c.entries ≡ front ++ (e ∷ next ∷ back) → spot_cmp s next.position ≢ Less → seen s (drop_at e.position c.entries) ≡ seen s c.entries }
+{}
+
+/// To join a range tombstone is to split at both of its ends, and to raise the tombstones between the entries that stand there then.
+pub fn a_joined_range_is_split_and_raised()
+    ensures { (from to : Pos) (tomb : Tomb) (c : Version) → range_joined from to tomb c ≡ raised_between from to tomb (with_entries (split to (split from c.entries)) c) }
+{}
+
+/// An entry of a version stands at a position exactly where a split there makes none.
+pub fn an_entry_stands_where_a_split_makes_none()
+    ensures { (c : Version) (x : Pos) → IsVersion c → HasEntryAt x c.entries ↔ (split x c.entries ≡ c.entries) }
 {}

@@ -1,21 +1,27 @@
-//! A range tombstone joined to a stretch of entries.
+//! A range tombstone joined to a stretch of entries that stand there.
 ghost use Rattle.std.specs.Prelude.{◌≡◌, ◌+◌, ◌≤◌, ◌↔◌, List, [], ◌∷◌, ◌++◌, Some, None, Contains, IsTrue};
 ghost use Rattle.rc_cell.specs.declared.writes.Tomb.{Tomb as TombValue};
+ghost use Rattle.rc_position.specs.Position.{IsBefore};
+ghost use Rattle.lsa_pool.specs.Room.{spare_of};
 ghost use Rattle.lsa_store.specs.declared.place.Ref.{Ref as Name};
 ghost use Rattle.lsa_region.specs.declared.end.End.{End as Link};
-ghost use Rattle.lsa_region.specs.Region.{link_of, objects, IsWell};
+ghost use Rattle.lsa_region.specs.Region.{link_of, live_bytes, objects, IsWell};
+ghost use Rattle.lsa_tree.specs.Entries.{IsEntryAtPosition};
+ghost use Rattle.rc_core.specs.AtPlace.{HasEntryAt};
 ghost use Rattle.rc_core.specs.Change.{raised_mark as raised, with_gap, with_mark};
 ghost use Rattle.rc_core.specs.Continuity.{with_entries};
 ghost use Rattle.rc_core.specs.declared.entries.Entry.{Entry};
 ghost use Rattle.rc_core.specs.Version.{Version};
-ghost use Rattle.rc_version.specs.Versions.{IsVersionOf, IsKeptBeside, IsPartOf};
+ghost use Rattle.rc_version.specs.Versions.{IsVersionOf, IsKeptBeside, IsKeptBut, IsNoneMade, IsPartOf, raised_between};
 ghost use Rattle.rc_version.specs.calls.Raising.{HoldPair, IsRaising};
 
+use crate::finding::entry_at;
 use lsa_region::{End, Ref, Region};
 use lsa_tree::Tree;
 use rc_cell::Tomb;
 use rc_core::raised_mark;
 use rc_object::{marks, set_marks};
+use rc_position::Pos;
 
 // Joins a range tombstone at an entry, and over the gap before the next one.
 fn raise_pair<const S: usize>(region: &mut Region<S>, _v: Ref, e: Ref, next: Ref, tomb: Tomb)
@@ -73,4 +79,33 @@ pub(crate) fn raise_between<const S: usize>(
             }
         }
     }
+}
+
+// The entry of a version at a position at which one stands.
+fn entry_there<const S: usize>(region: &Region<S>, v: Ref, x: &Pos) -> Ref
+    requires { (refs : List Name) × (c : Version) × IsVersionOf region.now v refs c × HasEntryAt x.now c.entries }
+    ensures { (refs : List Name) (c : Version) → IsVersionOf region.now v refs c → Contains refs result × IsEntryAtPosition region.now result x.now }
+{
+    match entry_at(region, v, x) {
+        Some(r) => r,
+        None => unreachable!(),
+    }
+}
+
+/// Joins a range tombstone to what a version says from one position on and before another, at both of which an entry stands: the greater tombstone stands
+/// at each entry and over each gap between them. The entry at the end itself stays, and no object is made.
+pub fn raise<const S: usize>(region: &mut Region<S>, v: Ref, from: &Pos, to: &Pos, tomb: Tomb)
+    requires ascend { IsBefore from.now to.now }
+    requires version { (refs : List Name) × (c : Version) × IsVersionOf region.old v refs c × HasEntryAt from.now c.entries × HasEntryAt to.now c.entries }
+    ensures raised { (refs : List Name) (c : Version) → IsVersionOf region.old v refs c → IsVersionOf region.new v refs (raised_between from.now to.now tomb c) }
+    ensures none { IsNoneMade region.old region.new }
+    ensures statics { link_of region.new (End.Obj v 3) ≡ link_of region.old (End.Obj v 3) }
+    ensures kept { IsKeptBut v region.old region.new }
+    ensures spare { spare_of S region.new.usages ≡ spare_of S region.old.usages }
+    ensures live { live_bytes region.new ≡ live_bytes region.old }
+    ensures well { IsWell region.new }
+{
+    let first = entry_there(region, v, from);
+    let last = entry_there(region, v, to);
+    raise_between(region, v, first, last, tomb);
 }

@@ -68,6 +68,23 @@ pub fn set_static_flag<const S: usize>(region: &mut Region<S>, v: Ref, flag: Fla
     set_head(region, v, now);
 }
 
+/// Gives a version another phase.
+pub fn set_phase<const S: usize>(region: &mut Region<S>, v: Ref, phase: u64)
+    requires { (refs : List Name) × (c : Version) × IsVersionOf region.old v refs c }
+    ensures set { (refs : List Name) (c : Version) → IsVersionOf region.old v refs c → IsVersionOf region.new v refs (steps.with_phase phase c) }
+    ensures kept { IsKeptBut v region.old region.new }
+    ensures rewritten { IsRewritten region.old region.new v }
+    ensures well { IsWell region.new }
+{
+    let head = head_of(region, v);
+    let phased = Head {
+        partition_tombstone: head.partition_tombstone,
+        static_flag: head.static_flag,
+        phase,
+    };
+    set_head(region, v, phased);
+}
+
 /// Joins a partition tombstone to that of a version: the greater one stands.
 pub fn join_pt<const S: usize>(region: &mut Region<S>, v: Ref, tomb: Tomb)
     requires { (refs : List Name) × (c : Version) × IsVersionOf region.old v refs c }
