@@ -151,13 +151,13 @@ first_positions m (e ∷ es) = refl
 -- what is taken out leaves all others
 pub positions-taken : (m : Mark) (x : Pos) (es : List Entry) → HasEntryAt x es → IsPutAt x (positions (take_out m x es)) (positions es)
 positions-taken m x [] h = absurd h
-positions-taken m x (e ∷ es) h = told (eq_by_cmp pos_cmp x e.position) refl
+positions-taken m x (e ∷ es) h = told (λ k. positions-taken m x es k) (eq_by_cmp pos_cmp x e.position) refl
   where
-    told : (b : Bool) → b ≡ eq_by_cmp pos_cmp x e.position → IsPutAt x (positions (cond b (with_first_gap m es) (e ∷ take_out m x es))) (positions (e ∷ es))
-    told true is = let same : x ≡ e.position = (eq_by_cmp-same pos_cmp_total pos_cmp_same x e.position true is).0 refl in ([], positions es, first_positions m es, ap (λ z. z ∷ positions es) (sym same))
-    told false is = elim h [
+    told : (HasEntryAt x es → IsPutAt x (positions (take_out m x es)) (positions es)) → (b : Bool) → b ≡ eq_by_cmp pos_cmp x e.position → IsPutAt x (positions (cond b (with_first_gap m es) (e ∷ take_out m x es))) (positions (e ∷ es))
+    told further true is = let same : x ≡ e.position = (eq_by_cmp-same pos_cmp_total pos_cmp_same x e.position true is).0 refl in ([], positions es, first_positions m es, ap (λ z. z ∷ positions es) (sym same))
+    told further false is = elim h [
       | inl here ↦ absurd (let t : IsTrue false = (eq_by_cmp-same pos_cmp_total pos_cmp_same x e.position false is).1 (sym here) in cc)
-      | inr later ↦ let k = positions-taken m x es later in (e.position ∷ k.0, k.1, ap (λ l. e.position ∷ l) k.2, ap (λ l. e.position ∷ l) k.3)
+      | inr later ↦ let k = further later in (e.position ∷ k.0, k.1, ap (λ l. e.position ∷ l) k.2, ap (λ l. e.position ∷ l) k.3)
     ]
 
 -- ---- objects of entries that stay

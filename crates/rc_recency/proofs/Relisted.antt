@@ -1,5 +1,5 @@
 -- A memory after the recency list changed, and after a version of a chain changed as well.
-use Rattle.std.proofs.Common.{◌≡◌, ◌≢◌, ◌⊎◌, ℕ, List, [], ◌∷◌, ◌++◌, Option, Some, None, length, inl, inr, refl, sym, ap, ◌∙◌, subst, slice_index_or, arith}
+use Rattle.std.proofs.Common.{◌≡◌, ◌≢◌, ◌⊎◌, ℕ, zero, suc, List, [], ◌∷◌, ◌++◌, Option, Some, None, length, inl, inr, refl, sym, ap, ◌∙◌, subst, slice_index_or, arith}
 use Rattle.std.specs.Prelude.{Contains, IsSomeAnd}
 use Rattle.rc_position.specs.declared.positions.Pos.{Pos}
 use Rattle.lsa_store.specs.declared.place.Ref.{Ref}
@@ -25,7 +25,8 @@ use Rattle.rc_memory.specs.declared.counts.Counts.{Counts}
 use Rattle.rc_memory.specs.Memory.{KeptChain, Member, Memory, IsMemberObject, IsObjectAt, IsOfVersion, listed_as}
 use Rattle.rc_memory.specs.Changes.{IsRenewed, IsUnmoved, IsVersionChanged, IsWithout, Nowhere, StandStill}
 use Rattle.rc_memory.specs.Kept.{HoldMemory}
-use Rattle.rc_memory.specs.laws.Listed.{list-at, unlisted-at}
+use Rattle.rc_memory.specs.laws.Listed.{held-pushed, held-taken, list-at, unlisted-at}
+use Rattle.rc_memory.specs.laws.Listing.{listed-decided}
 use Rattle.rc_memory.specs.laws.Places.{version-there}
 use Rattle.rc_memory.specs.laws.Standing.{row-of}
 use Rattle.rc_recency.specs.Holding.{HoldsAfter, IsHeldVersion, IsOffMemtable, IsRelisted, IsTakenOff, list_with}
@@ -83,6 +84,44 @@ module _ (slots : Slots) (old new : View) (registry : Registry) (counts : Counts
 pub unmoved-then : (old mid new : View) → IsUnmoved old mid → IsUnmoved mid new → IsUnmoved old new
 unmoved-then old mid new a b = record { budget = b.budget ∙ a.budget; moved = b.moved ∙ a.moved; compacted = b.compacted ∙ a.compacted; epoch = marked-then old mid new a.epoch b.epoch }
 
+-- ---- an object taken out and put at the back
+
+module _ (slots : Slots) (v : View) (registry : Registry) (counts : Counts) (m : Memory) (h : HoldMemory slots v registry counts m) (r : Ref) (w : Member) (here : IsMemberObject m r w) where
+  -- an object whose link is set is listed, and then it may be taken out
+  pub set-listed : (e : End) → link_of v (Obj r 0) ≡ Some e → Contains m.recency w
+  set-listed e is = elim (listed-decided m.recency w) [
+    | inl on ↦ on
+    | inr off ↦ absurd (let clash : None ≡ Some e = sym (unlisted-at slots v registry counts m h r w (at-place slots v registry counts m h r w here) off 0 (omega arith)) ∙ is in cc)
+  ]
+
+  pub list-there : Contains m.recency w → (xs : List Ref) × (ys : List Ref) × IsList slots v (xs ++ (r ∷ ys))
+  list-there on = let k = elem-split m.recency w on in list-at slots v registry counts m h k.0 w k.1 r k.2 (at-place slots v registry counts m h r w here)
+
+  pub unset-unlisted : link_of v (Obj r 0) ≡ None → IsUnlisted v r
+  unset-unlisted unset = unlisted-at slots v registry counts m h r w (at-place slots v registry counts m h r w here) (off-list slots v registry counts m h r w here unset)
+
+  pub taken-none : link_of v (Obj r 0) ≡ None → IsTakenOff slots v registry counts m w
+  taken-none unset = let off = off-list slots v registry counts m h r w here unset in
+      record { list = m.recency; held = subst (λ z. HoldMemory slots v registry counts (listed_as m.recency z m)) h.region h; without = inl (off, refl); off = off }
+
+pub both-unset : (v : View) (r : Ref) → link_of v (Obj r 0) ≡ None → link_of v (Obj r 1) ≡ None → IsUnlisted v r
+both-unset v r a b zero low = a
+both-unset v r a b (suc zero) low = b
+both-unset v r a b (suc (suc field)) low = absurd (omega (arith, low))
+
+module _ (slots : Slots) (old new : View) (registry : Registry) (counts : Counts) (m : Memory) (h : HoldMemory slots old registry counts m)
+    (elsewhere : (e : End) → IsElsewhere slots old e → link_of new e ≡ link_of old e) (objects : SameObjects old new) (well : IsWell new) (r : Ref) (w : Member) (here : IsMemberObject m r w) where
+  pub taken-off : Contains m.recency w → ((xs ys : List Ref) → IsList slots old (xs ++ (r ∷ ys)) → IsList slots new (xs ++ ys)) → link_of new (Obj r 0) ≡ None → link_of new (Obj r 1) ≡ None → ((e : End) → link_of old e ≡ None → link_of new e ≡ None)
+      → IsTakenOff slots new registry counts m w
+  taken-off on removed first second unset =
+      let k = elem-split m.recency w on in
+      let held = held-taken slots old new registry counts m h elsewhere objects well r k.0 w k.1 k.2 (at-place slots old registry counts m h r w here) removed first second unset in
+      let still = still-listed slots old new registry counts m h (record { links = elsewhere; objects = objects }) (k.0 ++ k.1) in
+      record { list = k.0 ++ k.1; held = held; without = inr (k.0, k.1, k.2, refl); off = off-list slots new registry counts (listed_as (k.0 ++ k.1) new m) held r w (still.objects r w (λ t. t) here) first }
+
+  pub pushed-back : ((xs : List Ref) → IsList slots old xs → IsList slots new (xs ++ (r ∷ []))) → ((e : End) → link_of old e ≡ None → e ≢ Obj r 0 → e ≢ Obj r 1 → link_of new e ≡ None) → HoldMemory slots new registry counts (listed_as (m.recency ++ (w ∷ [])) new m)
+  pushed-back pushed unset = held-pushed slots old new registry counts m h elsewhere objects well r w (at-place slots old registry counts m h r w here) pushed unset
+
 -- ---- a version changed, before the list did and after it
 
 module _ (slots : Slots) (registry : Registry) (counts : Counts) (id j : ℕ) (f : Version → Version) (these : Member → Type 0) where
@@ -139,7 +178,7 @@ pub made-anew : (slots : Slots) (old mid next last : View) (registry : Registry)
 made-anew slots old mid next last registry counts m n w r kind id j f these h first t changed list held here second holds off = (
   listed_as (list_with kind w n.recency) last n,
   holds,
-  then-listed slots registry counts id j f these next last m n (list_with kind w n.recency) held second (listed-then slots registry counts id j f these old mid m n t.list h first changed),
+  (then-listed slots registry counts id j f these next last m n (list_with kind w n.recency) held second (listed-then slots registry counts id j f these old mid m n t.list h first changed),
   subst (λ l. IsRenewed kind w m.recency (list_with kind w l)) (sym list) (renewed kind w m.recency t.list t.without off),
-  (still-listed slots next last registry counts n held second (list_with kind w n.recency)).objects r w (λ x. x) here,
+  (still-listed slots next last registry counts n held second (list_with kind w n.recency)).objects r w (λ x. x) here),
 )
