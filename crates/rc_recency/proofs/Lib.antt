@@ -4,3 +4,4 @@ mod Changed
 mod Marked
 mod Made
 mod Relisted
+mod Renewed

@@ -72,10 +72,12 @@ module _ (slots : Slots) (old new : View) (registry : Registry) (counts : Counts
       }
 
       pub later-alone-with : (r : Ref) → IsOfVersion new (standing v now (f c)) place r → IsLaterWith slots new registry counts id j f (AtAlone (member id j place)) m r (member id j place)
+      unfolding later-alone
       later-alone-with r o = (later-alone, member-later slots old new registry counts m id j k c v h f now kept is summed well summed_new weigh (AtAlone (member id j place)) stay_beside free_there place r o)
 
     pub later-nowhere-with : (stay : (at : Option Pos) (r : Ref) → IsOfVersion old (standing v (standing-as slots old registry counts m id j k c v h).entries c) at r → IsOfVersion new (standing v now (f c)) at r)
         → (at : Option Pos) (r : Ref) → IsOfVersion new (standing v now (f c)) at r → IsLaterWith slots new registry counts id j f Nowhere m r (member id j at)
+    unfolding later-nowhere
     later-nowhere-with stay at r o = (later-nowhere stay, member-later slots old new registry counts m id j k c v h f now kept is summed well summed_new weigh Nowhere (λ p q off a. stay p q a) (λ p on t. t) at r o)
 
   -- where the entries and their objects are those before
