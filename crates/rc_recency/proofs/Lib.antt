@@ -2,6 +2,7 @@ mod Aligned
 mod Held
 mod Changed
 mod Marked
+mod Likes
 mod Made
 mod Relisted
 mod Renewed

@@ -1,4 +1,6 @@
-use Rattle.std.proofs.Common.{Some, sym, subst, arith}
+use Rattle.std.proofs.Common.{◌+◌, ◌≤◌, Some, sym, subst, arith}
+use Rattle.rc_rowcode.specs.Objects.{dummy_size}
+use Rattle.lsa_pool.specs.Room.{spare_of}
 use Rattle.rc_memory.specs.Changes.{member}
 use Rattle.rc_recency.proofs.Held.{standing-as, stands}
 use Rattle.rc_recency.proofs.Renewed.{split-made, split-off, split-pushed, split-there}
@@ -29,3 +31,9 @@ returns-in-None-clause-changed g c = λ registry counts m id j k d h. let old = 
     let l = split-made c.args.list old registry counts m id j k d c.args.v h c.args.x.now c.args.kind g.row.S c.split-r.new.region c.split-r.result none s.split c.known.ensures.summed s.well c.known-in-None.ensures.summed in
     split-pushed c.args.list old registry counts m id j k d c.args.v h c.args.x.now c.args.kind g.row.S c.split-r.new.region c.split-r.result none s.split c.known.ensures.summed s.well c.known-in-None.ensures.summed
     c.push_cached.new.region c.push_cached.ensures.relisted (c.push_cached.ensures.pushed registry counts l.0.memory (member id j (Some c.args.x.now)) l.0.held l.1)
+
+pub returns-in-Some-clause-spare : goal.returns-in-Some-clause-spare
+returns-in-Some-clause-spare g c = omega arith
+
+pub returns-in-None-clause-spare : goal.returns-in-None-clause-spare
+returns-in-None-clause-spare g c = subst (λ us. spare_of g.row.S c.args.region.now.usages ≤ spare_of g.row.S us + dummy_size c.args.x.now) (sym c.push_cached.ensures.relisted.objects.usages) c.split-r.ensures.split.spare

@@ -1,4 +1,6 @@
-use Rattle.std.proofs.Common.{Some, sym, subst, arith}
+use Rattle.std.proofs.Common.{◌+◌, ◌≤◌, Some, sym, subst, arith}
+use Rattle.rc_rowcode.specs.Objects.{dummy_size}
+use Rattle.lsa_pool.specs.Room.{spare_of}
 use Rattle.rc_memory.specs.Changes.{member}
 use Rattle.rc_version.specs.laws.Objects.{holds-stands}
 use Rattle.rc_recency.proofs.Held.{standing-as, stands}
@@ -30,3 +32,10 @@ returns-in-None-clause-changed g c = λ registry counts m id j k d y h held. let
     let l = split-made c.args.list old registry counts m id j k d c.args.v h x c.args.kind g.row.S c.split_like-r.new.region c.split_like-r.result none (s.split y held) c.known.ensures.summed s.well c.known-in-None.ensures.summed in
     split-pushed c.args.list old registry counts m id j k d c.args.v h x c.args.kind g.row.S c.split_like-r.new.region c.split_like-r.result none (s.split y held) c.known.ensures.summed s.well c.known-in-None.ensures.summed
     c.push_cached.new.region c.push_cached.ensures.relisted (c.push_cached.ensures.pushed registry counts l.0.memory (member id j (Some x)) l.0.held l.1)
+
+pub returns-in-Some-clause-spare : goal.returns-in-Some-clause-spare
+returns-in-Some-clause-spare g c = λ y held. omega arith
+
+pub returns-in-None-clause-spare : goal.returns-in-None-clause-spare
+returns-in-None-clause-spare g c = λ y held.
+    subst (λ us. spare_of g.row.S c.args.region.now.usages ≤ spare_of g.row.S us + dummy_size y.position) (sym c.push_cached.ensures.relisted.objects.usages) (c.split_like-r.ensures.split y held).spare
