@@ -4,12 +4,18 @@
 --     IsRenewed           an object was made at a place: in a cache chain it is the most recent one
 --     FitsChanged         what may be joined still makes objects of at most an eighth of a segment
 --     KeepsLast           under update the last entry before the end stays the last one, or is listed
-use Rattle.std.specs.Prelude.{◌≡◌, ◌⊎◌, ℕ, List, [], ◌∷◌, ◌++◌, Option, Some, None, IfSome, length, Contains}
+--     KeepsRows           what is done to a version changes none of its rows, and no position
+--     LastIsListed        the last entry before the end of the version under update is listed
+--     CanDrop             what holds of a version of a chain that may be dropped
+use Rattle.std.specs.Prelude.{◌≡◌, ◌⊎◌, ◌<◌, ◌≤◌, ℕ, suc, true, List, [], ◌∷◌, ◌++◌, Option, Some, IfSome, length, map, Contains}
 use Rattle.rc_position.specs.declared.positions.Pos.{Pos}
 use Rattle.lsa_store.specs.declared.place.Ref.{Ref}
 use Rattle.lsa_region.specs.Region.{View}
+use Rattle.rc_cell.specs.declared.rows.Row.{Row}
 use Rattle.rc_core.specs.declared.entries.ChainKind.{ChainKind}
 use Rattle.rc_core.specs.declared.entries.ChainKind.TheVariants.{Cache, Memtable}
+use Rattle.rc_core.specs.declared.entries.Entry.{Entry}
+use Rattle.rc_core.specs.Chains.{Shown, IsPinned}
 use Rattle.rc_core.specs.Steps.{on_version}
 use Rattle.rc_core.specs.Version.{Version}
 use Rattle.rc_version.specs.Versions.{IsMarked}
@@ -41,10 +47,11 @@ pub record IsVersionChanged (id j : ℕ) (f : Version → Version) (these : Memb
   pub still : StandStill these old new
   pub region : IsUnmoved old.region new.region
 
--- at no place, and at one alone
+-- at no place
 abbrev pub Nowhere : Member → Type 0
 Nowhere w = ⊥
 
+-- at one place alone
 abbrev pub AtAlone : Member → Member → Type 0
 AtAlone place w = w ≡ place
 
@@ -69,6 +76,29 @@ FitsChanged S id j f m = IfSome (chain_at m id) (λ k. FitTogether S (on_version
 -- where the version of a number is the one under update, its last entry before the end is that still when something is done to it, or is listed
 abbrev pub KeepsLast : ℕ → ℕ → (Version → Version) → Memory → Type 0
 KeepsLast id j f m = IfSome (chain_at m id) (λ k. (v : Version) → IsVersionAt k.chain.versions j v → IsUnderUpdate k.chain j → (at : Option Pos) → IsLastInner v at → IsLastInner (f v) at ⊎ Contains m.recency (member id j at))
+
+-- the last entry before the end of the version under update of a chain is listed, where the chain is under update
+abbrev pub LastIsListed : ℕ → Memory → Type 0
+LastIsListed id m = (k : KeptChain) (j : ℕ) (v : Version) (at : Option Pos) → chain_at m id ≡ Some k → IsUnderUpdate k.chain j → IsVersionAt k.chain.versions j v → IsLastInner v at → Contains m.recency (member id j at)
+
+-- nothing of a version of a chain is listed
+abbrev pub NothingListed : ℕ → ℕ → Memory → Type 0
+NothingListed id j m = (at : Option Pos) → Contains m.recency (member id j at) → ⊥
+
+-- a version may be dropped: nobody pins it, and it is not the only one; nor is it under update, or the only one below that
+pub record CanDrop (c : Shown) (j : ℕ) : Type 0 where
+  pub unpinned : IsPinned c.pins j → ⊥
+  pub others : 2 ≤ length c.versions
+  pub settled : c.updating ≡ true → suc j < length c.versions
+  pub below : c.updating ≡ true → 3 ≤ length c.versions
+
+-- where an entry stands, and its row
+abbrev pub position_and_row : Entry → Pos × Option Row
+position_and_row e = (e.position, e.row)
+
+-- what is done to a version changes none of its rows, and no position of its entries
+abbrev pub KeepsRows : (Version → Version) → Type 0
+KeepsRows f = (v : Version) → ((f v).statics ≡ v.statics) × (map position_and_row (f v).entries ≡ map position_and_row v.entries)
 
 -- what holds of a chain and of its version of a number
 abbrev pub OfVersion : Memory → ℕ → ℕ → (KeptChain → Version → Type 0) → Type 0

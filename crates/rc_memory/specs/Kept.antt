@@ -3,9 +3,9 @@
 --     IsSoundChain       what each chain keeps: snapshots pin versions that it has, and nobody pins the one under update
 --     HoldMemory        region, list, table and counts hold this memory
 --     IsMemory      and it keeps its rules
-use Rattle.std.specs.Prelude.{◌≡◌, ◌<◌, ◌≤◌, ℕ, suc, true, List, [], ◌∷◌, Option, Some, None, IfSome, length, map, ⊤}
+use Rattle.std.specs.Prelude.{◌≡◌, ◌<◌, ◌≤◌, ◌+◌, ℕ, suc, true, List, [], ◌∷◌, Option, Some, None, IfSome, length, map, ⊤}
 use Rattle.lsa_store.specs.declared.place.Ref.{Ref}
-use Rattle.lsa_region.specs.Region.{View, IsWell}
+use Rattle.lsa_region.specs.Region.{View, slots_of, IsWell}
 use Rattle.lsa_list.specs.declared.recency.List.{List as Slots}
 use Rattle.rc_core.specs.declared.entries.ChainKind.TheVariants.{Cache}
 use Rattle.rc_core.specs.Chains.{Shown, IsPinned}
@@ -62,7 +62,7 @@ pub record IsSoundChain (c : Shown) : Type 0 where
   pub below : c.updating ≡ true → 2 ≤ length c.versions
   pub unpinned : c.updating ≡ true → (j : ℕ) → IsPinned c.pins j → suc j < length c.versions
 
--- region, recency list, table and counts hold this memory
+-- region, recency list, table and counts hold this memory; two root slots are of the recency list, and one of each chain
 pub record HoldMemory (slots : Slots) (v : View) (registry : Registry) (counts : Counts) (m : Memory) : Type 0 where
   pub well : IsWell v
   pub region : m.region ≡ v
@@ -72,6 +72,7 @@ pub record HoldMemory (slots : Slots) (v : View) (registry : Registry) (counts :
   pub recency : StandAt v m.standing listed m.recency
   pub dropped : m.dropped ≡ registry.dropped
   pub counted : m.counts ≡ counts
+  pub roots : (slots_of v).there ≡ 2 + length (present m.chains)
 
 -- and it keeps the rules of a memory: each chain is sound, the recency list holds what it must, and objects that may be joined fit a segment's eighth
 pub record IsMemory (S : ℕ) (slots : Slots) (v : View) (registry : Registry) (counts : Counts) (m : Memory) : Type 0 where

@@ -103,10 +103,11 @@ on_chain id f chains = put id (option_map f (slice_index_or chains id None)) cha
 abbrev pub on_shown : (Shown → Shown) → KeptChain → KeptChain
 on_shown f k = record { chain = f k.chain; passed = k.passed }
 
--- the chain with other versions, and with something done to the version of a number
+-- the chain with other versions
 abbrev pub shown_with : List Version → Shown → Shown
 shown_with versions c = record { kind = c.kind; versions = versions; attached = c.attached; updating = c.updating; pins = c.pins }
 
+-- the chain with something done to its version of a number
 abbrev pub on_version_of : ℕ → (Version → Version) → Shown → Shown
 on_version_of j f c = shown_with (on_version j f c.versions) c
 
@@ -130,10 +131,11 @@ mark_passed passed k = record { chain = k.chain; passed = passed }
 abbrev pub snapshot_number : Shown → ℕ
 snapshot_number c = cond c.updating (length c.versions - 2) (length c.versions - 1)
 
--- the chain with one snapshot more, and with the snapshot of a number taken back
+-- the chain with one snapshot more, of the version of a number
 abbrev pub with_snapshot : ℕ → KeptChain → KeptChain
 with_snapshot version k = on_shown (λ c. shown_pinned (pinned version c.pins) c) k
 
+-- the chain with the snapshot of a number taken back
 abbrev pub without_snapshot : ℕ → KeptChain → KeptChain
 without_snapshot pin k = on_shown (λ c. shown_pinned (released pin c.pins) c) k
 
@@ -209,6 +211,7 @@ with_standing j t [] = []
 with_standing zero t (s ∷ ss) = t ∷ ss
 with_standing (suc j) t (s ∷ ss) = s ∷ with_standing j t ss
 
+-- the versions of a partition with another one at a number
 abbrev pub partition_with : ℕ → StandingVersion → PartitionEntry → PartitionEntry
 partition_with j t p = partition_of p.root (with_standing j t p.versions)
 
@@ -237,10 +240,11 @@ closed id region m = record { chains = put id None m.chains; recency = m.recency
 
 -- ---- versions that come and go
 
--- the versions of a partition with one over them, and without the one of a number
+-- the versions of a partition with one over them
 abbrev pub partition_and : StandingVersion → PartitionEntry → PartitionEntry
 partition_and t p = partition_of p.root (p.versions ++ (t ∷ []))
 
+-- the versions of a partition without the one of a number
 abbrev pub partition_without : ℕ → PartitionEntry → PartitionEntry
 partition_without j p = partition_of p.root (take j p.versions ++ drop (suc j) p.versions)
 
@@ -273,3 +277,21 @@ fewer_versions id j region m = record {
   region = region;
   standing = put id (option_map (partition_without j) (slice_index_or m.standing id None)) m.standing;
 }
+
+-- the memory with a chain more, of one version as it stands in a region, at a root slot
+abbrev pub chain_made : ℕ → Root → ChainKind → StandingVersion → View → Memory → Memory
+chain_made id root kind t region m = more_versions id t region (opened id root kind region m)
+
+-- ---- updates
+
+-- the memory with a chain under update, which stands in a version over the others
+abbrev pub update_begun : ℕ → StandingVersion → View → Memory → Memory
+update_begun id t region m = with_chains (on_chain id (on_shown (shown_updating true)) (more_versions id t region m).chains) (more_versions id t region m)
+
+-- the memory with a chain no longer under update
+abbrev pub update_ended : ℕ → Memory → Memory
+update_ended id m = with_chains (on_chain id (on_shown (shown_updating false)) m.chains) m
+
+-- the memory with a chain no longer found by its key, and not under update
+abbrev pub chain_detached : ℕ → Memory → Memory
+chain_detached id m = with_chains (on_chain id (on_shown shown_detached) m.chains) m

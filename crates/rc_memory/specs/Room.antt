@@ -14,6 +14,7 @@ use Rattle.rc_memory.specs.Memory.{KeptChain, Memory, chain_at}
 abbrev pub HasRowAt : List Version → Pos → Row → Type 0
 HasRowAt versions x row = (v : Version) × (e : Entry) × Contains versions v × Contains v.entries e × (e.position ≡ x) × (e.row ≡ Some row)
 
+-- some version has this static row
 abbrev pub HasStaticRow : List Version → Row → Type 0
 HasStaticRow versions row = (v : Version) × Contains versions v × (v.statics ≡ Some row)
 
@@ -27,9 +28,10 @@ pub record FitTogether (S : ℕ) (versions : List Version) : Type 0 where
 abbrev pub ChainsFit : ℕ → Memory → Type 0
 ChainsFit S m = (id : ℕ) → IfSome (chain_at m id) (λ k. FitTogether S k.chain.versions)
 
--- how many bytes, and how many objects, a chain takes: 256 and 3 of one version with one row inserted
+-- how many bytes a chain takes: 256 of one version with one row inserted
 abbrev pub chain_bytes : KeptChain → ℕ
 chain_bytes k = sum_by version_bytes k.chain.versions
 
+-- how many objects a chain takes: 3 of one version with one row inserted
 abbrev pub chain_objects : KeptChain → ℕ
 chain_objects k = sum_by version_objects k.chain.versions

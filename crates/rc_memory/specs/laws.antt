@@ -1,6 +1,9 @@
 -- Laws of chains in memory.
 pub mod At
+pub mod Chains
 pub mod Changed
+pub mod Changing
+pub mod Counted
 pub mod Dropped
 pub mod Each
 pub mod Entries
@@ -13,8 +16,11 @@ pub mod Opened
 pub mod Places
 pub mod Put
 pub mod Recent
+pub mod Renewed
+pub mod Rows
 pub mod Rules
 pub mod Standing
 pub mod Statics
+pub mod Still
 pub mod Used
 pub mod Versions

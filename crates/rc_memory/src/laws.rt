@@ -1,5 +1,5 @@
 //! The laws of a shard's memory, each the contract of a function that does nothing.
-ghost use Rattle.std.specs.Prelude.{◌≡◌, ◌≢◌, ◌⊎◌, ◌<◌, ◌≤◌, ◌/◌, ℕ, suc, Bool, true, false, Option, length, map, List, [], ◌∷◌, ◌++◌, None, AllPairs, Contains, IsSomeAnd, Some, IsSome, slice_index_or, sum_by};
+ghost use Rattle.std.specs.Prelude.{◌≡◌, ◌≢◌, ◌⊎◌, ◌<◌, ◌≤◌, ◌/◌, ◌^◌, ℕ, suc, Bool, true, false, Option, length, map, List, [], ◌∷◌, ◌++◌, None, AllPairs, Contains, IsSomeAnd, Some, IsSome, IfSome, slice_index_or, sum_by};
 ghost use Rattle.rc_position.specs.declared.positions.Pos.{Pos};
 ghost use Rattle.rc_core.specs.declared.entries.ChainKind.{ChainKind};
 ghost use Rattle.lsa_region.specs.declared.end.Root.{Root};
@@ -7,24 +7,27 @@ ghost use Rattle.lsa_region.specs.declared.end.End.{End};
 ghost use Rattle.lsa_region.specs.declared.end.End.TheVariants.{Obj};
 ghost use Rattle.lsa_list.specs.Recency.{first, IsElsewhere, IsList};
 ghost use Rattle.rc_core.specs.Version.{Ascend, EndsWithDummy, Version, end_position};
-ghost use Rattle.rc_core.specs.Change.{drop_at, split};
-ghost use Rattle.rc_core.specs.Continuity.{with_entries};
+ghost use Rattle.rc_core.specs.Change.{changed, drop_at, split};
+ghost use Rattle.rc_core.specs.Continuity.{with_entries, without_statics};
 ghost use Rattle.rc_cell.specs.declared.rows.Row.{Row};
 ghost use Rattle.rc_version.specs.Versions.{IsKeptBut, IsUnlisted, IsVersionOf, IsWeighed};
-ghost use Rattle.rc_core.specs.Steps.{pinned, released, row_joined, version_of};
+ghost use Rattle.rc_core.specs.Steps.{join_pt, on_version, pinned, released, row_joined, set_flags, set_static_flag, set_tombs, version_of, with_phase};
 ghost use Rattle.rc_core.specs.Chains.{Shown, IsPinned};
-ghost use Rattle.rc_core.specs.declared.entries.ChainKind.TheVariants.{Cache};
+ghost use Rattle.rc_core.specs.declared.entries.ChainKind.TheVariants.{Cache, Memtable};
+ghost use Rattle.rc_core.specs.declared.entries.Mark.{Mark};
+ghost use Rattle.lsa_pool.specs.Account.{IsSound};
 ghost use Rattle.rc_core.specs.declared.entries.Flag.{Flag};
 ghost use Rattle.rc_cell.specs.declared.writes.Tomb.{Tomb};
 ghost use Rattle.rc_rowcode.specs.Objects.{dummy_size};
 ghost use Rattle.rc_partition.specs.Partitions.{PartitionEntry, StandingVersion, AreStanding, among, partition_of, standing};
 ghost use Rattle.rc_registry.specs.declared.uses.Use.{Use};
 ghost use Rattle.lsa_store.specs.declared.place.Ref.{Ref};
-ghost use Rattle.lsa_region.specs.Region.{View, body, link_of, live_bytes, objects, IsRootAdded, IsRootDropped, IsSummed, IsWell, Renamed, SameButRoots, SameObjects};
+ghost use Rattle.lsa_region.specs.Region.{View, body, link_of, live_bytes, objects, slots_of, IsRootAdded, IsRootDropped, IsSummed, IsWell, Renamed, SameButRoots, SameObjects};
 ghost use Rattle.lsa_list.specs.declared.recency.List.{List as Slots};
 ghost use Rattle.rc_registry.specs.Registry.{Registry, detached, new_use, on_use, put, set_passed, set_updating, with_pin, with_use, without_pin, without_version};
 ghost use Rattle.rc_memory.specs.declared.counts.Counts.{Counts};
-ghost use Rattle.rc_memory.specs.Memory.{KeptChain, Member, Memory, HasChain, IsObjectAt, IsOfVersion, IsVersionAt, IsVersionObject, chain_at, version_changed, closed, fewer_versions, listed_as, mark_passed, more_versions, under_new_names, on_chain, on_shown, on_version_of, opened, renumbered_member, shown_detached, shown_pinned, shown_updating, shown_with, shown_without, with_chains};
+ghost use Rattle.rc_memory.specs.Memory.{KeptChain, Member, Memory, HasChain, HasVersion, IsObjectAt, IsOfVersion, IsVersionAt, IsVersionObject, chain_at, chain_detached, chain_made, version_changed, closed, fewer_versions, listed_as, mark_passed, more_versions, under_new_names, on_chain, on_shown, on_version_of, opened, renumbered_member, shown_detached, shown_pinned, shown_updating, shown_with, shown_without, update_begun, update_ended, with_chains};
+ghost use Rattle.rc_memory.specs.Changes.{AtAlone, CanDrop, FitsChanged, IsRenewed, IsRenewedWhereNone, IsUnmoved, IsVersionChanged, IsWithout, KeepsLast, KeepsRows, LastIsListed, NothingListed, Nowhere, OfVersion, StandStill, member};
 ghost use Rattle.rc_memory.specs.Kept.{HoldMemory, IsMemory, IsSoundChain, chain_of_use, present};
 ghost use Rattle.rc_memory.specs.Recency.{HasObject, IsLastInner, IsRecency, IsUnderUpdate, MayBeListed, MustBeListed};
 ghost use Rattle.rc_memory.specs.Room.{FitTogether, chain_bytes, chain_objects};
@@ -87,11 +90,11 @@ pub fn a_version_may_change()
 
 /// A version of its end dummy alone is put over those of a chain; and one that has no listed object is dropped, when the newer ones have numbers less by one, and their pins and listed objects with them.
 pub fn a_version_comes_and_goes()
-    ensures added { (slots : Slots) (old new : View) (registry : Registry) (counts : Counts) (m : Memory) (id : ℕ) (p : PartitionEntry) (n : Ref) (c : Version) → HoldMemory slots old registry counts m → IsWell new → slice_index_or m.standing id None ≡ Some p →
+    ensures added { (slots : Slots) (old new : View) (registry : Registry) (counts : Counts) (m : Memory) (id : ℕ) (p : PartitionEntry) (n : Ref) (c : Version) → HoldMemory slots old registry counts m → IsWell new → slots_of new ≡ slots_of old → slice_index_or m.standing id None ≡ Some p →
         ((front : List PartitionEntry) (versions : List StandingVersion) (back : List PartitionEntry) (listed : List Ref) → AreStanding slots old (front ++ (partition_of p.root versions ∷ back)) listed →
         (end : Ref) × AreStanding slots new (front ++ (partition_of p.root (versions ++ (standing n (end ∷ []) c ∷ [])) ∷ back)) listed × IsUnlisted new end) →
         ((q : Ref) (refs : List Ref) (d : Version) → IsVersionOf old q refs d → link_of new (Obj q 3) ≡ link_of old (Obj q 3)) → (end : Ref) × HoldMemory slots new registry counts (more_versions id (standing n (end ∷ []) c) new m) × IsUnlisted new end }
-    ensures dropped { (slots : Slots) (old new : View) (registry : Registry) (counts : Counts) (m : Memory) (id j : ℕ) (p : PartitionEntry) (s : StandingVersion) → HoldMemory slots old registry counts m → IsWell new → slice_index_or m.standing id None ≡ Some p → IsVersionAt p.versions j s →
+    ensures dropped { (slots : Slots) (old new : View) (registry : Registry) (counts : Counts) (m : Memory) (id j : ℕ) (p : PartitionEntry) (s : StandingVersion) → HoldMemory slots old registry counts m → IsWell new → slots_of new ≡ slots_of old → slice_index_or m.standing id None ≡ Some p → IsVersionAt p.versions j s →
         ((front : List PartitionEntry) (older : List StandingVersion) (t : StandingVersion) (newer : List StandingVersion) (back : List PartitionEntry) (listed : List Ref) → t.object ≡ s.object →
         AreStanding slots old (among front p.root older t newer back) listed → AreStanding slots new (front ++ (partition_of p.root (older ++ newer) ∷ back)) listed) →
         ((q : Ref) (refs : List Ref) (d : Version) → q ≢ s.object → IsVersionOf old q refs d → link_of new (Obj q 3) ≡ link_of old (Obj q 3)) → HoldMemory slots new (on_use id (without_version j) registry) counts (fewer_versions id j new m) }
@@ -124,11 +127,12 @@ pub fn a_sound_chain_stays_sound()
     ensures fewer { (c : Shown) (j : ℕ) → IsSoundChain c → (IsPinned c.pins j → ⊥) → j < length c.versions → 2 ≤ length c.versions → (c.updating ≡ true → suc j < length c.versions) → (c.updating ≡ true → 3 ≤ length c.versions) → IsSoundChain (shown_without j c) }
 {}
 
-/// Rows that fit together still do where versions go, and where one comes that has its end dummy alone.
+/// Rows that fit together still do where versions go, where one comes that has its end dummy alone, and where one is split at a position whose dummy fits.
 pub fn rows_still_fit()
     ensures fewer { (S : ℕ) (vs ws : List Version) → ((v : Version) → Contains ws v → Contains vs v) → FitTogether S vs → FitTogether S ws }
     ensures none { (S : ℕ) → FitTogether S [] }
     ensures more { (S : ℕ) (vs : List Version) (flag : Flag) (pt : Option Tomb) (phase : ℕ) → dummy_size end_position ≤ S / 8 → FitTogether S vs → FitTogether S (vs ++ (version_of flag pt phase ∷ [])) }
+    ensures split { (S j : ℕ) (x : Pos) (vs : List Version) → dummy_size x ≤ S / 8 → FitTogether S vs → FitTogether S (on_version j (λ c. with_entries (split x c.entries) c) vs) }
 {}
 
 /// The recency list keeps its rule where neither it nor a chain changes, where an object that may be in it is put at its back, where one that need not be in it is taken out, and where one is made the most recent one.
@@ -196,4 +200,75 @@ pub fn each_change_makes_or_takes_one_object()
     ensures split { (v : Version) (x : Pos) → EndsWithDummy v.entries → HasObject (with_entries (split x v.entries) v) (Some x) × ((at : Option Pos) → HasObject v at → HasObject (with_entries (split x v.entries) v) at) × ((at : Option Pos) → HasObject (with_entries (split x v.entries) v) at → HasObject v at ⊎ (at ≡ Some x)) }
     ensures joined { (v : Version) (x : Pos) (row : Row) → EndsWithDummy v.entries → HasObject (row_joined x row v) (Some x) × ((at : Option Pos) → HasObject v at → HasObject (row_joined x row v) at) × ((at : Option Pos) → HasObject (row_joined x row v) at → HasObject v at ⊎ (at ≡ Some x)) }
     ensures dropped { (v : Version) (x : Pos) → Ascend v.entries → ((at : Option Pos) → at ≢ Some x → HasObject v at → HasObject (with_entries (drop_at x v.entries) v) at) × ((at : Option Pos) → HasObject (with_entries (drop_at x v.entries) v) at → HasObject v at × (at ≢ Some x)) }
+{}
+
+/// There is room for one more root slot: each chain takes 152 bytes at least, and 4096 segments hold fewer than 2 ^ 32 - 2 of these.
+pub fn there_is_room_for_a_chain()
+    ensures { (S : ℕ) (slots : Slots) (v : View) (registry : Registry) (counts : Counts) (m : Memory) → HoldMemory slots v registry counts m → ((id : ℕ) → IfSome (chain_at m id) (λ k. IsSoundChain k.chain)) → IsSound S v.usages → length v.usages ≤ 4096 → S ≤ 2 ^ 27 → (slots_of v).there < 2 ^ 32 }
+{}
+
+/// Where one version of a chain changed and its objects stand where they stood, but at one place at most, so do those of all chains, and that version alone is another one. So it is where the recency list changed before it or after it, under which all objects stand still.
+pub fn held_stands_still()
+    ensures everywhere { (slots : Slots) (old new : View) (registry : Registry) (counts : Counts) (m : Memory) (id j : ℕ) (p : PartitionEntry) (s : StandingVersion) (now : List Ref) (c : Version) (f : Version → Version) → HoldMemory slots old registry counts m → slice_index_or m.standing id None ≡ Some p → IsVersionAt p.versions j s → IsKeptBut s.object old new → IsVersionOf new s.object now c → c ≡ f s.version →
+        ((at : Option Pos) (r : Ref) → IsOfVersion old s at r → IsOfVersion new (standing s.object now c) at r) → IsVersionChanged id j f Nowhere m (version_changed id j (standing s.object now c) new m) }
+    ensures beside { (slots : Slots) (old new : View) (registry : Registry) (counts : Counts) (m : Memory) (id j : ℕ) (p : PartitionEntry) (s : StandingVersion) (now : List Ref) (c : Version) (f : Version → Version) (place : Option Pos) → HoldMemory slots old registry counts m → slice_index_or m.standing id None ≡ Some p → IsVersionAt p.versions j s → IsKeptBut s.object old new → IsVersionOf new s.object now c → c ≡ f s.version →
+        ((at : Option Pos) (r : Ref) → at ≢ place → IsOfVersion old s at r → IsOfVersion new (standing s.object now c) at r) → IsVersionChanged id j f (AtAlone (member id j place)) m (version_changed id j (standing s.object now c) new m) }
+    ensures listed { (slots : Slots) (old new : View) (registry : Registry) (counts : Counts) (m : Memory) (list : List Member) → HoldMemory slots old registry counts m → ((e : End) → IsElsewhere slots old e → link_of new e ≡ link_of old e) → SameObjects old new → IsWell new →
+        StandStill Nowhere m (listed_as list new m) × IsUnmoved m.region new }
+    ensures before { (id j : ℕ) (f : Version → Version) (w : Member) (m n : Memory) (list : List Member) (region : View) → StandStill Nowhere m (listed_as list region m) → IsUnmoved m.region region → IsVersionChanged id j f (AtAlone w) (listed_as list region m) n → IsVersionChanged id j f (AtAlone w) m n }
+    ensures behind { (id j : ℕ) (f : Version → Version) (w : Member) (m n : Memory) (list : List Member) (region : View) → IsVersionChanged id j f (AtAlone w) m n → StandStill Nowhere n (listed_as list region n) → IsUnmoved n.region region → IsVersionChanged id j f (AtAlone w) m (listed_as list region n) }
+    ensures kept { (id j : ℕ) (f : Version → Version) (m n : Memory) (list : List Member) (region : View) → IsVersionChanged id j f Nowhere m n → StandStill Nowhere n (listed_as list region n) → IsUnmoved n.region region → IsVersionChanged id j f Nowhere m (listed_as list region n) }
+{}
+
+/// Flags and range tombstones at a position, or from one position on and before another, the partition tombstone, the flag of the static row and the phase are changed, and no row and no position is.
+pub fn marks_change_no_row()
+    ensures flags { (x : Pos) (at gap : Flag) → KeepsRows (set_flags x at gap) }
+    ensures tombs { (x : Pos) (at gap : Option Tomb) → KeepsRows (set_tombs x at gap) }
+    ensures stretch { (g : Mark → Mark) (from to : Pos) → KeepsRows (λ v. with_entries (map (changed g from to) v.entries) v) }
+    ensures head { (tomb : Tomb) → KeepsRows (join_pt tomb) }
+    ensures static_flag { (flag : Flag) → KeepsRows (set_static_flag flag) }
+    ensures phase { (phase : ℕ) → KeepsRows (with_phase phase) }
+{}
+
+/// A memory keeps its rules where a version of a chain changed: where no row did; where it was split, or a row or a static row joined, and what may be joined still fits; and where an entry before the end, or its static row, was taken out. In a cache chain what was made is the most recent one in the recency list, and what was taken out is out of it.
+pub fn a_changed_version_keeps_the_rules()
+    ensures marked { (S : ℕ) (slots : Slots) (old new : View) (registry : Registry) (counts : Counts) (m n : Memory) (id j : ℕ) (f : Version → Version) → IsMemory S slots old registry counts m → HoldMemory slots new registry counts n → n.chains ≡ on_chain id (on_shown (on_version_of j f)) m.chains → HasVersion m id j → n.recency ≡ m.recency → KeepsRows f → IsMemory S slots new registry counts n }
+    ensures split { (S : ℕ) (slots : Slots) (old new : View) (registry : Registry) (counts : Counts) (m n : Memory) (id j : ℕ) (x : Pos) → IsMemory S slots old registry counts m → HoldMemory slots new registry counts n → n.chains ≡ on_chain id (on_shown (on_version_of j (λ c. with_entries (split x c.entries) c))) m.chains → HasVersion m id j →
+        OfVersion m id j (λ k v. IsRenewedWhereNone k.chain.kind v (member id j (Some x)) m.recency n.recency) → FitsChanged S id j (λ c. with_entries (split x c.entries) c) m → KeepsLast id j (λ c. with_entries (split x c.entries) c) m → IsMemory S slots new registry counts n }
+    ensures joined { (S : ℕ) (slots : Slots) (old new : View) (registry : Registry) (counts : Counts) (m n : Memory) (id j : ℕ) (x : Pos) (row : Row) → IsMemory S slots old registry counts m → HoldMemory slots new registry counts n → n.chains ≡ on_chain id (on_shown (on_version_of j (row_joined x row))) m.chains → HasVersion m id j → x ≢ end_position →
+        OfVersion m id j (λ k v. IsRenewed k.chain.kind (member id j (Some x)) m.recency n.recency) → FitsChanged S id j (row_joined x row) m → KeepsLast id j (row_joined x row) m → IsMemory S slots new registry counts n }
+    ensures statics { (S : ℕ) (slots : Slots) (old new : View) (registry : Registry) (counts : Counts) (m n : Memory) (id j : ℕ) (f : Version → Version) → IsMemory S slots old registry counts m → HoldMemory slots new registry counts n → n.chains ≡ on_chain id (on_shown (on_version_of j f)) m.chains → HasVersion m id j → ((v : Version) → ((f v).entries ≡ v.entries) × IsSome (f v).statics) →
+        OfVersion m id j (λ k v. IsRenewed k.chain.kind (member id j None) m.recency n.recency) → FitsChanged S id j f m → IsMemory S slots new registry counts n }
+    ensures dropped { (S : ℕ) (slots : Slots) (old new : View) (registry : Registry) (counts : Counts) (m n : Memory) (id j : ℕ) (x : Pos) → IsMemory S slots old registry counts m → HoldMemory slots new registry counts n → n.chains ≡ on_chain id (on_shown (on_version_of j (λ c. with_entries (drop_at x c.entries) c))) m.chains → HasVersion m id j → x ≢ end_position →
+        IsWithout (member id j (Some x)) m.recency n.recency → IsMemory S slots new registry counts n }
+    ensures undone { (S : ℕ) (slots : Slots) (old new : View) (registry : Registry) (counts : Counts) (m n : Memory) (id j : ℕ) → IsMemory S slots old registry counts m → HoldMemory slots new registry counts n → n.chains ≡ on_chain id (on_shown (on_version_of j without_statics)) m.chains → HasVersion m id j → IsWithout (member id j None) m.recency n.recency → IsMemory S slots new registry counts n }
+{}
+
+/// A memory keeps its rules where a chain of a version of its end dummy comes with its root slot; where such a version is put over those of a memtable, or of a cache chain, which is under update then; where an update ends, or the chain is found no longer, and the last entry before the end of what was under update is listed; where a version is dropped; and where a chain goes with its last version and its root slot.
+pub fn a_memory_keeps_its_rules_as_chains_change()
+    ensures made { (S : ℕ) (slots : Slots) (old mid new : View) (registry : Registry) (counts : Counts) (m : Memory) (id : ℕ) (root : Root) (kind : ChainKind) (n : Ref) (flag : Flag) (pt : Option Tomb) (phase : ℕ) → IsMemory S slots old registry counts m → chain_at m id ≡ None → IsRootAdded old mid root → SameButRoots old mid → IsWell mid → IsWell new → slots_of new ≡ slots_of mid → dummy_size end_position ≤ S / 8 →
+        ((front : List PartitionEntry) (versions : List StandingVersion) (back : List PartitionEntry) (listed : List Ref) → AreStanding slots mid (front ++ (partition_of root versions ∷ back)) listed →
+        (end : Ref) × AreStanding slots new (front ++ (partition_of root (versions ++ (standing n (end ∷ []) (version_of flag pt phase) ∷ [])) ∷ back)) listed × IsUnlisted new end) →
+        ((q : Ref) (refs : List Ref) (d : Version) → IsVersionOf mid q refs d → link_of new (Obj q 3) ≡ link_of mid (Obj q 3)) →
+        (end : Ref) × IsMemory S slots new (with_use id (Some (new_use root kind)) registry) counts (chain_made id root kind (standing n (end ∷ []) (version_of flag pt phase)) new m) × IsUnlisted new end }
+    ensures more { (S : ℕ) (slots : Slots) (old new : View) (registry : Registry) (counts : Counts) (m : Memory) (id : ℕ) (p : PartitionEntry) (n : Ref) (flag : Flag) (pt : Option Tomb) (phase : ℕ) → IsMemory S slots old registry counts m → slice_index_or m.standing id None ≡ Some p → ((k : KeptChain) → chain_at m id ≡ Some k → k.chain.kind ≡ Memtable) → IsWell new → slots_of new ≡ slots_of old → dummy_size end_position ≤ S / 8 →
+        ((front : List PartitionEntry) (versions : List StandingVersion) (back : List PartitionEntry) (listed : List Ref) → AreStanding slots old (front ++ (partition_of p.root versions ∷ back)) listed →
+        (end : Ref) × AreStanding slots new (front ++ (partition_of p.root (versions ++ (standing n (end ∷ []) (version_of flag pt phase) ∷ [])) ∷ back)) listed × IsUnlisted new end) →
+        ((q : Ref) (refs : List Ref) (d : Version) → IsVersionOf old q refs d → link_of new (Obj q 3) ≡ link_of old (Obj q 3)) →
+        (end : Ref) × IsMemory S slots new registry counts (more_versions id (standing n (end ∷ []) (version_of flag pt phase)) new m) × IsUnlisted new end }
+    ensures begun { (S : ℕ) (slots : Slots) (old new : View) (registry : Registry) (counts : Counts) (m : Memory) (id : ℕ) (p : PartitionEntry) (n : Ref) (flag : Flag) (pt : Option Tomb) (phase : ℕ) → IsMemory S slots old registry counts m → slice_index_or m.standing id None ≡ Some p → ((k : KeptChain) → chain_at m id ≡ Some k → (k.chain.kind ≡ Cache) × (k.chain.attached ≡ true) × (k.chain.updating ≡ false)) → IsWell new → slots_of new ≡ slots_of old → dummy_size end_position ≤ S / 8 →
+        ((front : List PartitionEntry) (versions : List StandingVersion) (back : List PartitionEntry) (listed : List Ref) → AreStanding slots old (front ++ (partition_of p.root versions ∷ back)) listed →
+        (end : Ref) × AreStanding slots new (front ++ (partition_of p.root (versions ++ (standing n (end ∷ []) (version_of flag pt phase) ∷ [])) ∷ back)) listed × IsUnlisted new end) →
+        ((q : Ref) (refs : List Ref) (d : Version) → IsVersionOf old q refs d → link_of new (Obj q 3) ≡ link_of old (Obj q 3)) →
+        (end : Ref) × IsMemory S slots new (on_use id (set_updating true) registry) counts (update_begun id (standing n (end ∷ []) (version_of flag pt phase)) new m) × IsUnlisted new end }
+    ensures ended { (S : ℕ) (slots : Slots) (v : View) (registry : Registry) (counts : Counts) (m : Memory) (id : ℕ) → IsMemory S slots v registry counts m → HasChain m id → LastIsListed id m → IsMemory S slots v (on_use id (set_updating false) registry) counts (update_ended id m) }
+    ensures detached { (S : ℕ) (slots : Slots) (v : View) (registry : Registry) (counts : Counts) (m : Memory) (id : ℕ) → IsMemory S slots v registry counts m → HasChain m id → LastIsListed id m → IsMemory S slots v (on_use id detached registry) counts (chain_detached id m) }
+    ensures fewer { (S : ℕ) (slots : Slots) (old new : View) (registry : Registry) (counts : Counts) (m : Memory) (id j : ℕ) (p : PartitionEntry) (s : StandingVersion) → IsMemory S slots old registry counts m → slice_index_or m.standing id None ≡ Some p → IsVersionAt p.versions j s → ((k : KeptChain) → chain_at m id ≡ Some k → CanDrop k.chain j) → NothingListed id j m → IsWell new → slots_of new ≡ slots_of old →
+        ((front : List PartitionEntry) (older : List StandingVersion) (t : StandingVersion) (newer : List StandingVersion) (back : List PartitionEntry) (listed : List Ref) → t.object ≡ s.object → AreStanding slots old (among front p.root older t newer back) listed → AreStanding slots new (front ++ (partition_of p.root (older ++ newer) ∷ back)) listed) →
+        ((q : Ref) (refs : List Ref) (d : Version) → q ≢ s.object → IsVersionOf old q refs d → link_of new (Obj q 3) ≡ link_of old (Obj q 3)) →
+        IsMemory S slots new (on_use id (without_version j) registry) counts (fewer_versions id j new m) }
+    ensures gone { (S : ℕ) (slots : Slots) (old mid new : View) (registry : Registry) (counts : Counts) (m : Memory) (id : ℕ) (root : Root) (s : StandingVersion) → IsMemory S slots old registry counts m → slice_index_or m.standing id None ≡ Some (partition_of root (s ∷ [])) → NothingListed id 0 m → IsWell mid → slots_of mid ≡ slots_of old →
+        ((front : List PartitionEntry) (older : List StandingVersion) (t : StandingVersion) (newer : List StandingVersion) (back : List PartitionEntry) (listed : List Ref) → t.object ≡ s.object → AreStanding slots old (among front root older t newer back) listed → AreStanding slots mid (front ++ (partition_of root (older ++ newer) ∷ back)) listed) →
+        ((q : Ref) (refs : List Ref) (d : Version) → q ≢ s.object → IsVersionOf old q refs d → link_of mid (Obj q 3) ≡ link_of old (Obj q 3)) → IsRootDropped mid new root → SameButRoots mid new → IsWell new →
+        IsMemory S slots new (record { uses = put id None registry.uses; dropped = registry.dropped ++ (id ∷ []) }) counts (closed id new m) }
 {}

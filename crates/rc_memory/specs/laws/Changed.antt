@@ -1,10 +1,11 @@
 -- A memory after one version of a chain changed.
-use Rattle.std.proofs.Common.{◌≡◌, ◌≢◌, ℕ, zero, suc, List, [], ◌∷◌, ◌++◌, Option, Some, None, length, inl, inr, refl, sym, ap, ◌∙◌, subst, map, slice_index_or}
+use Rattle.std.proofs.Common.{◌≡◌, ◌≢◌, ℕ, zero, suc, ◌+◌, List, [], ◌∷◌, ◌++◌, Option, Some, None, length, inl, inr, refl, sym, ap, ◌∙◌, subst, map, slice_index_or}
 use Rattle.std.specs.Prelude.{Contains}
 use Rattle.std.specs.Option.{option_map}
 use Rattle.rc_position.specs.declared.positions.Pos.{Pos}
 use Rattle.lsa_pool.specs.laws.Usages.{decided}
 use Rattle.lsa_store.specs.declared.place.Ref.{Ref}
+use Rattle.lsa_region.specs.Ends.{SlotCounts}
 use Rattle.lsa_region.specs.declared.end.End.TheVariants.{Obj}
 use Rattle.lsa_region.specs.Region.{View, link_of, IsSummed, IsWell}
 use Rattle.lsa_list.specs.declared.recency.List.{List as Slots}
@@ -24,7 +25,7 @@ use Rattle.rc_memory.specs.Memory.{Member, Memory, IsObjectAt, IsOfVersion, IsVe
 use Rattle.rc_memory.specs.Kept.{AreKept, HoldMemory, StandAt, chain_of_use, present}
 use Rattle.rc_memory.specs.laws.Listed.{one-at}
 use Rattle.rc_memory.specs.laws.Places.{same_some, version-place, version-there}
-use Rattle.rc_memory.specs.laws.Put.{beside-at, kept-put, placed, put-at, put-beside, put-same, used-at, IsPlaced, IsUsedAs}
+use Rattle.rc_memory.specs.laws.Put.{beside-at, kept-put, length-same, placed, put-at, put-beside, put-same, used-at, IsPlaced, IsUsedAs}
 use Rattle.rc_memory.specs.laws.Standing.{stand-each}
 
 -- ---- objects of versions that stay
@@ -65,13 +66,13 @@ module _ (slots : Slots) (old new : View) (registry : Registry) (counts : Counts
   abbrev pub place : IsPlaced m.standing id
   place = placed m.standing id
 
-  user : IsUsedAs registry.uses m.chains id p
+  pub user : IsUsedAs registry.uses m.chains id p
   user = used-at registry.uses m.standing m.chains id p h.kept there
 
   after-is : partition_with j (standing s.object now c) p ≡ partition_of p.root (number.older ++ (standing s.object now c ∷ number.newer))
   after-is = ap (λ vs. partition_of p.root vs) (ap (with_standing j (standing s.object now c)) number.split ∙ with-at number.older s number.newer j (standing s.object now c) number.number)
 
-  standing-is : put id (option_map (partition_with j (standing s.object now c)) (slice_index_or m.standing id None)) m.standing ≡ put id (Some (partition_of p.root (number.older ++ (standing s.object now c ∷ number.newer)))) m.standing
+  pub standing-is : put id (option_map (partition_with j (standing s.object now c)) (slice_index_or m.standing id None)) m.standing ≡ put id (Some (partition_of p.root (number.older ++ (standing s.object now c ∷ number.newer)))) m.standing
   standing-is = ap (λ o. put id (option_map (partition_with j (standing s.object now c)) o) m.standing) there ∙ ap (λ q. put id (Some q) m.standing) after-is
 
   chains-are : on_chain id (on_shown (on_version_of j (λ v. c))) m.chains ≡ put id (Some (chain_of_use user.used (partition_of p.root (number.older ++ (standing s.object now c ∷ number.newer))))) m.chains
@@ -93,19 +94,20 @@ module _ (slots : Slots) (old new : View) (registry : Registry) (counts : Counts
   stands-after kept_but is summed well summed_new weigh =
       stands-settled slots old new place.front p.root number.older s number.newer place.back h.listed h.well summed well summed_new kept_but stands_before now c is weigh
 
-  module _ (kept_but : IsKeptBut s.object old new) (is : IsVersionOf new s.object now c)
-      (rows : (w : Member) (r : Ref) → Contains m.recency w → w.chain ≡ id → w.version ≡ j → IsOfVersion old s w.position r → IsOfVersion new (standing s.object now c) w.position r) where
+  module _ (these : Member → Type 0) (kept_but : IsKeptBut s.object old new) (is : IsVersionOf new s.object now c)
+      (rows : (w : Member) (r : Ref) → these w → w.chain ≡ id → w.version ≡ j → IsOfVersion old s w.position r → IsOfVersion new (standing s.object now c) w.position r) where
     stays : (t : StandingVersion) → t.object ≢ s.object → IsVersionOf old t.object t.entries t.version → (at : Option Pos) (r : Ref) → IsOfVersion old t at r → IsOfVersion new t at r
     stays t ne k at r a = of-stays old new t k (kept_but.versions t.object t.entries t.version ne k) (kept_but.statics t.object t.entries t.version ne k) at r a
 
-    module _ (r : Ref) (w : Member) (on : Contains m.recency w) (a : IsObjectAt old m.standing r w) where
+    module _ (r : Ref) (w : Member) (on : these w) (a : IsObjectAt old m.standing r w) where
       a_stands : IsVersionOf old a.version.object a.version.entries a.version.version
       a_stands = version-there slots old h.well m.standing h.listed h.stands w.chain w.version a.partition a.version a.chain a.number
 
       same_place : a.version.object ≡ s.object → (w.chain ≡ id) × (w.version ≡ j)
       same_place e = version-place slots old h.well m.standing h.listed h.stands w.chain id w.version j a.partition p a.version s a.chain there a.number number e
 
-      object_after : IsObjectAt new (put id (Some (partition_of p.root (number.older ++ (standing s.object now c ∷ number.newer)))) m.standing) r w
+      -- an object at one of these places stands there still
+      pub object_after : IsObjectAt new (put id (Some (partition_of p.root (number.older ++ (standing s.object now c ∷ number.newer)))) m.standing) r w
       object_after = elim (decided w.chain id) [
         | inr ne ↦ record {
           partition = a.partition;
@@ -139,6 +141,8 @@ module _ (slots : Slots) (old new : View) (registry : Registry) (counts : Counts
               }
             ]
 
+  module _ (kept_but : IsKeptBut s.object old new) (is : IsVersionOf new s.object now c)
+      (rows : (w : Member) (r : Ref) → Contains m.recency w → w.chain ≡ id → w.version ≡ j → IsOfVersion old s w.position r → IsOfVersion new (standing s.object now c) w.position r) where
     -- all is held as before, with that version in its place
     pub held-changed : IsSummed old → IsWell new → IsSummed new → IsWeighed old new s.version c → HoldMemory slots new registry counts (version_changed id j (standing s.object now c) new m)
     held-changed summed well summed_new weigh = record {
@@ -151,7 +155,8 @@ module _ (slots : Slots) (old new : View) (registry : Registry) (counts : Counts
           (subst (λ ps. AreStanding slots new ps h.listed) (sym (place.with_one (partition_of p.root (number.older ++ (standing s.object now c ∷ number.newer)))))
           (stands-after kept_but is summed well summed_new weigh));
       recency = subst (λ st. StandAt new st h.listed m.recency) (sym standing-is)
-          (stand-each old new m.standing (put id (Some (partition_of p.root (number.older ++ (standing s.object now c ∷ number.newer)))) m.standing) h.listed m.recency (λ r w in_refs on a. object_after r w on a) h.recency);
+          (stand-each old new m.standing (put id (Some (partition_of p.root (number.older ++ (standing s.object now c ∷ number.newer)))) m.standing) h.listed m.recency (λ r w in_refs on a. object_after (Contains m.recency) kept_but is rows r w on a) h.recency);
       dropped = h.dropped;
       counted = h.counted;
+      roots = ap (λ (k : SlotCounts). k.there) kept_but.slots ∙ h.roots ∙ ap (λ n. 2 + n) (sym (length-same m.chains id (on_shown (on_version_of j (λ v. c)))));
     }

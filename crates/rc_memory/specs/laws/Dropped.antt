@@ -10,8 +10,10 @@ use Rattle.rc_partition.specs.laws.Lists.{elem-first, elem-later, elem-map, elem
 use Rattle.rc_registry.specs.Registry.{put}
 use Rattle.rc_memory.specs.Memory.{KeptChain, Member, Memory, IsVersionAt, chain_at, on_chain, on_shown, renumbered_member, shown_without}
 use Rattle.rc_memory.specs.Recency.{IsRecency, MayBeListed, MustBeListed}
+use Rattle.rc_memory.specs.Changes.{member}
+use Rattle.rc_memory.specs.laws.At.{number-low}
 use Rattle.rc_memory.specs.laws.Places.{heads, tails}
-use Rattle.rc_memory.specs.laws.Recent.{at_there, number-low, rule-put, spot, there_at}
+use Rattle.rc_memory.specs.laws.Recent.{at_there, rule-put, there_at}
 use Rattle.rc_memory.specs.laws.Rules.{below_or_above, length-but, renumbered-less}
 use Rattle.rc_memory.specs.laws.Versions.{all-but-is, without-at}
 
@@ -41,14 +43,14 @@ once-mapped g (w ∷ ws) same once = once-cons (g w) (map g ws)
 -- ---- places renumbered
 
 module _ (id j : ℕ) where
-  renumbered-other : (w : Member) → w.chain ≢ id → renumbered_member id j w ≡ w
+  pub renumbered-other : (w : Member) → w.chain ≢ id → renumbered_member id j w ≡ w
   renumbered-other w ne = λ i. record { chain = w.chain; version = cond (ne_eqb w.chain id ne i) (renumbered j w.version) w.version; position = w.position }
 
   renumbered-this : (w : Member) → w.chain ≡ id → renumbered_member id j w ≡ record { chain = w.chain; version = renumbered j w.version; position = w.position }
   renumbered-this w e = λ i. record { chain = w.chain; version = cond (eq-eqb w.chain id e i) (renumbered j w.version) w.version; position = w.position }
 
 module _ (m n : Memory) (id j : ℕ) (k : KeptChain) (v : Version) (there : chain_at m id ≡ Some k) (number : IsVersionAt k.chain.versions j v) (is : n.chains ≡ on_chain id (on_shown (shown_without j)) m.chains) (list : n.recency ≡ map (renumbered_member id j) m.recency)
-    (h : IsRecency m) (free : (at : Option Pos) → Contains m.recency (spot id j at) → ⊥) (below : k.chain.updating ≡ true → suc j < length k.chain.versions) where
+    (h : IsRecency m) (free : (at : Option Pos) → Contains m.recency (member id j at) → ⊥) (below : k.chain.updating ≡ true → suc j < length k.chain.versions) where
   never : (w : Member) → Contains m.recency w → w.chain ≡ id → w.version ≢ j
   never w on e s = free w.position (subst (Contains m.recency) (λ i. record { chain = e i; version = s i; position = w.position }) on)
 
@@ -84,16 +86,16 @@ module _ (m n : Memory) (id j : ℕ) (k : KeptChain) (v : Version) (there : chai
       (λ w ne on. let x = elem-mapped (renumbered_member id j) m.recency w (subst (λ l. Contains l w) list on) in
       subst (Contains m.recency) (sym (renumbered-other id j x.0 (λ c. ne (sym (ap (λ (y : Member). y.chain) x.2) ∙ c))) ∙ x.2) x.1)
       (λ w ne on. subst (λ l. Contains l w) (sym list) (subst (Contains (map (renumbered_member id j) m.recency)) (renumbered-other id j w ne) (elem-map (renumbered_member id j) m.recency w on)))
-      (λ i at on. may i at (elem-mapped (renumbered_member id j) m.recency (spot id i at) (subst (λ l. Contains l (spot id i at)) list on)))
-      (λ i at p. subst (λ l. Contains l (spot id i at)) (sym list) (must i at p))
+      (λ i at on. may i at (elem-mapped (renumbered_member id j) m.recency (member id i at) (subst (λ l. Contains l (member id i at)) list on)))
+      (λ i at p. subst (λ l. Contains l (member id i at)) (sym list) (must i at p))
       h
     where
-      may : (i : ℕ) (at : Option Pos) → (x : Member) × Contains m.recency x × (renumbered_member id j x ≡ spot id i at) → MayBeListed (shown_without j k.chain) i at
+      may : (i : ℕ) (at : Option Pos) → (x : Member) × Contains m.recency x × (renumbered_member id j x ≡ member id i at) → MayBeListed (shown_without j k.chain) i at
       may i at x =
           let chain : x.0.chain ≡ id = ap (λ (y : Member). y.chain) x.2 in let position : x.0.position ≡ at = ap (λ (y : Member). y.position) x.2 in
           let version : renumbered j x.0.version ≡ i = ap (λ (y : Member). y.version) (sym (renumbered-this id j x.0 chain) ∙ x.2) in
           let ne = never x.0 x.1 chain in
-          let p = at_there (λ y. MayBeListed y.chain x.0.version at) (chain_at m id) k (h.members (spot id x.0.version at) (subst (Contains m.recency) (λ t. record { chain = chain t; version = x.0.version; position = position t }) x.1)) there in
+          let p = at_there (λ y. MayBeListed y.chain x.0.version at) (chain_at m id) k (h.members (member id x.0.version at) (subst (Contains m.recency) (λ t. record { chain = chain t; version = x.0.version; position = position t }) x.1)) there in
           record {
             cached = p.cached;
             version = p.version;
@@ -103,13 +105,13 @@ module _ (m n : Memory) (id j : ℕ) (k : KeptChain) (v : Version) (there : chai
             settled = λ u. p.settled (u.0, newest x.0.version i ne version u.0 u.1);
           }
 
-      must : (i : ℕ) (at : Option Pos) → MustBeListed (shown_without j k.chain) i at → Contains (map (renumbered_member id j) m.recency) (spot id i at)
+      must : (i : ℕ) (at : Option Pos) → MustBeListed (shown_without j k.chain) i at → Contains (map (renumbered_member id j) m.recency) (member id i at)
       must i at p =
           let here : IsVersionAt (number.older ++ number.newer) i p.version = subst (λ vs. IsVersionAt vs i p.version) left p.number in
           let was = back-at number.older number.newer v p.version here.older here.newer here.split in
           let ne : was.0 ≢ j = λ e. was.2 (e ∙ sym number.number) in
           let version : renumbered j was.0 ≡ i = ap (λ y. renumbered y was.0) (sym number.number) ∙ was.3 ∙ here.number in
-          let on = h.complete (spot id was.0 at) (there_at (λ y. MustBeListed y.chain was.0 at) (chain_at m id) k (record {
+          let on = h.complete (member id was.0 at) (there_at (λ y. MustBeListed y.chain was.0 at) (chain_at m id) k (record {
             cached = p.cached;
             version = p.version;
             number = subst (λ vs. IsVersionAt vs was.0 p.version) (sym number.split) was.1;
@@ -117,4 +119,4 @@ module _ (m n : Memory) (id j : ℕ) (k : KeptChain) (v : Version) (there : chai
             inner = p.inner;
             passed = λ u. p.passed (u.0, newest-now was.0 i ne version u.0 u.1);
           }) there) in
-          subst (Contains (map (renumbered_member id j) m.recency)) (renumbered-this id j (spot id was.0 at) refl ∙ (λ t. spot id (version t) at)) (elem-map (renumbered_member id j) m.recency (spot id was.0 at) on)
+          subst (Contains (map (renumbered_member id j) m.recency)) (renumbered-this id j (member id was.0 at) refl ∙ (λ t. member id (version t) at)) (elem-map (renumbered_member id j) m.recency (member id was.0 at) on)

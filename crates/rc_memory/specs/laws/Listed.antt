@@ -3,6 +3,7 @@ use Rattle.std.proofs.Common.{◌≡◌, ◌≢◌, ℕ, List, [], ◌∷◌, �
 use Rattle.std.specs.Prelude.{Contains}
 use Rattle.rc_position.specs.declared.positions.Pos.{Pos}
 use Rattle.lsa_store.specs.declared.place.Ref.{Ref}
+use Rattle.lsa_region.specs.Ends.{SlotCounts}
 use Rattle.lsa_region.specs.declared.end.End.{End}
 use Rattle.lsa_region.specs.declared.end.End.TheVariants.{Obj}
 use Rattle.lsa_region.specs.Region.{View, link_of, IsWell, SameObjects}
@@ -144,7 +145,8 @@ module _ (slots : Slots) (old new : View) (registry : Registry) (counts : Counts
   of_kept s None r k a = elsewhere (Obj s.object 3) (version-elsewhere slots old s.object 3 (version-kind old s.object s.entries s.version k)) ∙ a
   of_kept s (Some x) r k a = (a.0, stands-same old new r x (objects.bodies r) a.1)
 
-  object_kept : (r : Ref) (w : Member) → IsObjectAt old m.standing r w → IsObjectAt new m.standing r w
+  -- each object stands where it stood
+  pub object_kept : (r : Ref) (w : Member) → IsObjectAt old m.standing r w → IsObjectAt new m.standing r w
   object_kept r w a = record {
     partition = a.partition;
     version = a.version;
@@ -157,7 +159,7 @@ module _ (slots : Slots) (old new : View) (registry : Registry) (counts : Counts
   all_kept refs ws k = stand-each old new m.standing m.standing refs ws (λ r w on in_ws. object_kept r w) k
 
   held_listed : (refs : List Ref) (ws : List Member) → AreStanding slots new (present m.standing) refs → StandAt new m.standing refs ws → HoldMemory slots new registry counts (listed_as ws new m)
-  held_listed refs ws stands k = record { well = well; region = refl; kept = h.kept; listed = refs; stands = stands; recency = k; dropped = h.dropped; counted = h.counted }
+  held_listed refs ws stands k = record { well = well; region = refl; kept = h.kept; listed = refs; stands = stands; recency = k; dropped = h.dropped; counted = h.counted; roots = ap (λ (c : SlotCounts). c.there) objects.slots ∙ h.roots }
 
   -- one at the back
   pub held-pushed : (r : Ref) (w : Member) → IsObjectAt old m.standing r w → ((xs : List Ref) → IsList slots old xs → IsList slots new (xs ++ (r ∷ []))) → ((e : End) → link_of old e ≡ None → e ≢ Obj r 0 → e ≢ Obj r 1 → link_of new e ≡ None)

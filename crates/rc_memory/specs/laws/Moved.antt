@@ -4,7 +4,7 @@ use Rattle.std.specs.Option.{option_map}
 use Rattle.std.proofs.lemmas.List.{map-append}
 use Rattle.rc_position.specs.declared.positions.Pos.{Pos}
 use Rattle.lsa_store.specs.declared.place.Ref.{Ref}
-use Rattle.lsa_region.specs.Ends.{named_as, end_as}
+use Rattle.lsa_region.specs.Ends.{SlotCounts, named_as, end_as}
 use Rattle.lsa_region.specs.Region.{View, body, IsWell, Renamed}
 use Rattle.lsa_path.specs.laws.Renamed.{some-there}
 use Rattle.lsa_list.specs.declared.recency.List.{List as Slots}
@@ -83,4 +83,5 @@ module _ (slots : Slots) (old new : View) (registry : Registry) (counts : Counts
     }) h.recency;
     dropped = h.dropped;
     counted = h.counted;
+    roots = ap (λ (c : SlotCounts). c.there) renamed.slots ∙ h.roots;
   }

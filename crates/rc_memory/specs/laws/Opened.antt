@@ -1,5 +1,5 @@
 -- A memory with a chain of no version more, and with one less.
-use Rattle.std.proofs.Common.{◌≡◌, ◌≢◌, ℕ, List, [], ◌∷◌, ◌++◌, Option, Some, None, refl, sym, ap, ◌∙◌, subst, map, slice_index_or}
+use Rattle.std.proofs.Common.{◌≡◌, ◌≢◌, ℕ, List, [], ◌∷◌, ◌++◌, Option, Some, None, refl, sym, ap, ◌∙◌, subst, map, slice_index_or, arith}
 use Rattle.std.specs.Prelude.{Contains}
 use Rattle.rc_position.specs.declared.positions.Pos.{Pos}
 use Rattle.lsa_store.specs.declared.place.Ref.{Ref}
@@ -16,11 +16,11 @@ use Rattle.rc_partition.specs.laws.Roots.{stands-with_empty, stands-without_empt
 use Rattle.rc_registry.specs.declared.uses.Use.{Use}
 use Rattle.rc_registry.specs.Registry.{Registry, new_use, put, with_use}
 use Rattle.rc_memory.specs.declared.counts.Counts.{Counts}
-use Rattle.rc_memory.specs.Memory.{KeptChain, Member, Memory, IsObjectAt, IsOfVersion, chain_at, closed, opened}
+use Rattle.rc_memory.specs.Memory.{KeptChain, Member, Memory, IsObjectAt, IsOfVersion, chain_at, closed, empty_chain, opened}
 use Rattle.rc_memory.specs.Kept.{HoldMemory, chain_of_use}
-use Rattle.rc_memory.specs.laws.At.{kept-at}
+use Rattle.rc_memory.specs.laws.At.{kept-at, unused-chain}
 use Rattle.rc_memory.specs.laws.Places.{no_some, same_some}
-use Rattle.rc_memory.specs.laws.Put.{kept-put, placed, put-beside, unused-at}
+use Rattle.rc_memory.specs.laws.Put.{kept-put, length-added, length-gone, placed, put-beside, unused-at, used-at, IsUsedAs}
 use Rattle.rc_memory.specs.laws.Standing.{stand-each, version-in}
 
 module _ (slots : Slots) (old new : View) (registry : Registry) (counts : Counts) (m : Memory) (h : HoldMemory slots old registry counts m)
@@ -46,6 +46,7 @@ module _ (slots : Slots) (old new : View) (registry : Registry) (counts : Counts
             (λ r w in_refs on a. object_same (Some (partition_of root [])) r w (λ e. no_some a.partition (sym none ∙ ap (λ n. slice_index_or m.standing n None) (sym e) ∙ a.chain)) a) h.recency;
         dropped = h.dropped;
         counted = h.counted;
+        roots = omega (arith, added.there, h.roots, length-added m.chains id (empty_chain kind) (unused-chain registry.uses m.standing m.chains id h.kept free));
       }
 
   -- and goes with it
@@ -60,7 +61,11 @@ module _ (slots : Slots) (old new : View) (registry : Registry) (counts : Counts
     recency = stand-each old new m.standing (put id None m.standing) h.listed m.recency (λ r w in_refs on a. object_same None r w (λ e. never r w e a) a) h.recency;
     dropped = ap (λ l. l ++ (id ∷ [])) h.dropped;
     counted = h.counted;
+    roots = omega (arith, gone.there, h.roots, length-gone m.chains id (chain_of_use user.used (partition_of root [])) user.chain);
   } where
+    user : IsUsedAs registry.uses m.chains id (partition_of root [])
+    user = used-at registry.uses m.standing m.chains id (partition_of root []) h.kept there
+
     never : (r : Ref) (w : Member) → w.chain ≡ id → IsObjectAt old m.standing r w → ⊥
     never r w e a = elem-none a.version (subst (λ (q : PartitionEntry). Contains q.versions a.version)
         (same_some a.partition (partition_of root []) (sym a.chain ∙ ap (λ n. slice_index_or m.standing n None) e ∙ there)) (version-in a.partition.versions w.version a.version a.number))

@@ -19,10 +19,12 @@ use Rattle.rc_memory.specs.Kept.{StandAt, present}
 
 -- ---- lists
 
+-- the first of a list
 abbrev HeadIs : {X : Type 0} → X → List X → Type 0
 HeadIs x [] = ⊥
 HeadIs x (y ∷ ys) = x ≡ y
 
+-- all but the first of a list
 abbrev TailIs : {X : Type 0} → List X → List X → Type 0
 TailIs xs [] = ⊥
 TailIs xs (y ∷ ys) = xs ≡ ys

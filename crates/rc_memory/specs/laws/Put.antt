@@ -1,5 +1,6 @@
 -- What stands at the number of a chain is another thing: its use, its versions in the region, and the chain.
 use Rattle.std.proofs.Common.{◌≡◌, ◌≢◌, ℕ, zero, suc, List, [], ◌∷◌, ◌++◌, Option, Some, None, length, refl, sym, ap, ◌∙◌, slice_index_or}
+use Rattle.std.specs.Option.{option_map}
 use Rattle.rc_partition.specs.Partitions.{PartitionEntry}
 use Rattle.rc_registry.specs.declared.uses.Use.{Use}
 use Rattle.rc_registry.specs.Registry.{put}
@@ -57,6 +58,27 @@ placed (Some y ∷ xs) (suc n) = let h = placed xs n in record {
   with_one = λ x. ap (λ l. y ∷ l) (h.with_one x);
   without = ap (λ l. y ∷ l) h.without;
 }
+
+module _ {X : Type 0} where
+  length-beside : (xs ys : List X) (x : X) → length (xs ++ (x ∷ ys)) ≡ suc (length (xs ++ ys))
+  length-beside [] ys x = refl
+  length-beside (y ∷ xs) ys x = ap suc (length-beside xs ys x)
+
+  module _ (xs : List (Option X)) (n : ℕ) where
+    -- one more where there was none
+    pub length-added : (x : X) → slice_index_or xs n None ≡ None → length (present (put n (Some x) xs)) ≡ suc (length (present xs))
+    length-added x e = let p = placed xs n in ap length (p.with_one x) ∙ length-beside p.front p.back x ∙ sym (ap (λ l. suc (length l)) (p.free e))
+
+    -- one less where there was one
+    pub length-gone : (x : X) → slice_index_or xs n None ≡ Some x → suc (length (present (put n None xs))) ≡ length (present xs)
+    length-gone x e = let p = placed xs n in ap (λ l. suc (length l)) p.without ∙ sym (length-beside p.front p.back x) ∙ sym (ap length (p.there x e))
+
+    -- as many where what is there becomes another one
+    pub length-same : (g : X → X) → length (present (put n (option_map g (slice_index_or xs n None)) xs)) ≡ length (present xs)
+    length-same g = elim (slice_index_or xs n None) as (λ o. slice_index_or xs n None ≡ o → length (present (put n (option_map g o) xs)) ≡ length (present xs)) [
+      | None ↦ λ e. let p = placed xs n in ap length (p.without ∙ sym (p.free e))
+      | Some x ↦ λ e. let p = placed xs n in ap length (p.with_one (g x)) ∙ length-beside p.front p.back (g x) ∙ sym (length-beside p.front p.back x) ∙ sym (ap length (p.there x e))
+    ] refl
 
 -- ---- chains
 

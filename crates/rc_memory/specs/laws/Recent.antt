@@ -1,5 +1,5 @@
 -- The recency list holds what it must, and nothing that it may not, after a chain or the list changed.
-use Rattle.std.proofs.Common.{◌≡◌, ◌≢◌, ◌⊎◌, ℕ, suc, ◌<◌, true, false, List, [], ◌∷◌, ◌++◌, Option, Some, None, length, inl, inr, refl, sym, ap, ◌∙◌, subst, slice_index_or, arith}
+use Rattle.std.proofs.Common.{◌≡◌, ◌≢◌, ◌⊎◌, ℕ, suc, true, false, List, [], ◌∷◌, ◌++◌, Option, Some, None, length, inl, inr, refl, sym, ap, ◌∙◌, subst, slice_index_or, arith}
 use Rattle.std.specs.Prelude.{AllPairs, Contains, IsSomeAnd}
 use Rattle.std.specs.Option.{option_map}
 use Rattle.std.proofs.lemmas.List.{append-nil, length-append}
@@ -15,15 +15,13 @@ use Rattle.rc_partition.specs.laws.Lists.{elem-here, elem-left, elem-pushed, ele
 use Rattle.rc_registry.specs.Registry.{put}
 use Rattle.rc_memory.specs.Memory.{KeptChain, Member, Memory, IsVersionAt, chain_at, on_chain, on_shown, on_version_of}
 use Rattle.rc_memory.specs.Recency.{HasObject, IsLastInner, IsRecency, IsUnderUpdate, MayBeListed, MustBeListed}
+use Rattle.rc_memory.specs.Changes.{member}
+use Rattle.rc_memory.specs.laws.At.{number-low}
 use Rattle.rc_memory.specs.laws.Listed.{one-at}
 use Rattle.rc_memory.specs.laws.Places.{heads, tails}
 use Rattle.rc_memory.specs.laws.Put.{beside-at, put-at, put-beside}
 use Rattle.rc_memory.specs.laws.Rules.{length-on}
 use Rattle.rc_memory.specs.laws.Versions.{still-at}
-
--- the place of an object
-abbrev pub spot : ℕ → ℕ → Option Pos → Member
-spot id j at = record { chain = id; version = j; position = at }
 
 -- ---- lists
 
@@ -34,9 +32,6 @@ module _ {X : Type 0} where
 
   pub no-version : (xs : List X) (j : ℕ) (x : X) → xs ≡ [] → IsVersionAt xs j x → ⊥
   no-version xs j x none h = no_parts h.older h.newer x (sym none ∙ h.split)
-
-  pub number-low : (xs : List X) (j : ℕ) (x : X) → IsVersionAt xs j x → j < length xs
-  number-low xs j x h = omega (arith, h.number, length-append h.older (x ∷ h.newer), (let e : length xs ≡ length (h.older ++ (x ∷ h.newer)) = ap length h.split in e))
 
   -- a version with one over the others is that one, or one of these
   pub pushed-at : (xs : List X) (v : X) (j : ℕ) (x : X) (olds news : List X) → xs ++ (v ∷ []) ≡ olds ++ (x ∷ news) → length olds ≡ j → IsVersionAt xs j x ⊎ (v ≡ x)
@@ -59,7 +54,7 @@ module _ (m n : Memory) (id : ℕ) (c : Option KeptChain) (is : n.chains ≡ put
 
   -- the list may be another one at the chain's own places
   pub rule-put : AllPairs ◌≢◌ n.recency → ((w : Member) → w.chain ≢ id → Contains n.recency w → Contains m.recency w) → ((w : Member) → w.chain ≢ id → Contains m.recency w → Contains n.recency w)
-      → ((j : ℕ) (at : Option Pos) → Contains n.recency (spot id j at) → IsSomeAnd c (λ k. MayBeListed k.chain j at)) → ((j : ℕ) (at : Option Pos) → IsSomeAnd c (λ k. MustBeListed k.chain j at) → Contains n.recency (spot id j at))
+      → ((j : ℕ) (at : Option Pos) → Contains n.recency (member id j at) → IsSomeAnd c (λ k. MayBeListed k.chain j at)) → ((j : ℕ) (at : Option Pos) → IsSomeAnd c (λ k. MustBeListed k.chain j at) → Contains n.recency (member id j at))
       → IsRecency m → IsRecency n
   rule-put once fewer more may must h = record {
     once = once;
@@ -92,10 +87,10 @@ there_at P o k h e = subst (λ (x : Option KeptChain). IsSomeAnd x P) (sym e) h
 module _ (m n : Memory) (id : ℕ) (g : KeptChain → KeptChain) (is : n.chains ≡ on_chain id g m.chains) (list : n.recency ≡ m.recency) (h : IsRecency m) where
   -- the list stays
   pub rule-on : ((k : KeptChain) → chain_at m id ≡ Some k → (j : ℕ) (at : Option Pos) → MayBeListed k.chain j at → MayBeListed (g k).chain j at)
-      → ((k : KeptChain) → chain_at m id ≡ Some k → (j : ℕ) (at : Option Pos) → MustBeListed (g k).chain j at → Contains m.recency (spot id j at)) → IsRecency n
+      → ((k : KeptChain) → chain_at m id ≡ Some k → (j : ℕ) (at : Option Pos) → MustBeListed (g k).chain j at → Contains m.recency (member id j at)) → IsRecency n
   rule-on may must = rule-put m n id (option_map g (chain_at m id)) is (subst (AllPairs ◌≢◌) (sym list) h.once) (λ w ne on. subst (λ l. Contains l w) list on) (λ w ne on. subst (λ l. Contains l w) (sym list) on)
-      (λ j at on. on_there (λ k. MayBeListed k.chain j at) (λ k. MayBeListed k.chain j at) g (chain_at m id) (h.members (spot id j at) (subst (λ l. Contains l (spot id j at)) list on)) (λ k e. may k e j at))
-      (λ j at on. subst (λ l. Contains l (spot id j at)) (sym list) (from_there (λ k. MustBeListed k.chain j at) (Contains m.recency (spot id j at)) g (chain_at m id) on (λ k e. must k e j at)))
+      (λ j at on. on_there (λ k. MayBeListed k.chain j at) (λ k. MayBeListed k.chain j at) g (chain_at m id) (h.members (member id j at) (subst (λ l. Contains l (member id j at)) list on)) (λ k e. may k e j at))
+      (λ j at on. subst (λ l. Contains l (member id j at)) (sym list) (from_there (λ k. MustBeListed k.chain j at) (Contains m.recency (member id j at)) g (chain_at m id) on (λ k e. must k e j at)))
       h
 
   -- where kind, versions and update of the chain do, the rule is kept
@@ -108,7 +103,7 @@ module _ (m n : Memory) (id : ℕ) (g : KeptChain → KeptChain) (is : n.chains 
         object = p.object;
         settled = λ u. p.settled (sym (alike k).2 ∙ u.0, u.1 ∙ ap length (alike k).1);
       })
-      (λ k e j at p. h.complete (spot id j at) (there_at (λ x. MustBeListed x.chain j at) (chain_at m id) k (record {
+      (λ k e j at p. h.complete (member id j at) (there_at (λ x. MustBeListed x.chain j at) (chain_at m id) k (record {
         cached = sym (alike k).0 ∙ p.cached;
         version = p.version;
         number = subst (λ vs. IsVersionAt vs j p.version) (alike k).1 p.number;
@@ -135,7 +130,7 @@ module _ (m n : Memory) (id : ℕ) (g : KeptChain → KeptChain) (is : n.chains 
       })
       (λ k e j at p. let number : IsVersionAt (k.chain.versions ++ (version_of flag pt phase ∷ [])) j p.version = subst (λ vs. IsVersionAt vs j p.version) (made k e).1 p.number in
       elim (pushed-at k.chain.versions (version_of flag pt phase) j p.version number.older number.newer number.split number.number) [
-        | inl before ↦ h.complete (spot id j at) (there_at (λ x. MustBeListed x.chain j at) (chain_at m id) k (record {
+        | inl before ↦ h.complete (member id j at) (there_at (λ x. MustBeListed x.chain j at) (chain_at m id) k (record {
           cached = sym (made k e).0 ∙ p.cached;
           version = p.version;
           number = before;
@@ -208,7 +203,7 @@ module _ (m n : Memory) (id : ℕ) (list : n.recency ≡ m.recency) (h : IsRecen
   -- one of a version of its end dummy alone
   pub rule-new : (k : KeptChain) (flag : Flag) (pt : Option Tomb) (phase : ℕ) → n.chains ≡ put id (Some k) m.chains → chain_at m id ≡ None → k.chain.versions ≡ version_of flag pt phase ∷ [] → IsRecency n
   rule-new k flag pt phase is none made = rule-put m n id (Some k) is (subst (AllPairs ◌≢◌) (sym list) h.once) (λ w ne on. subst (λ l. Contains l w) list on) (λ w ne on. subst (λ l. Contains l w) (sym list) on)
-      (λ j at on. absurd (never (λ x. MayBeListed x.chain j at) (chain_at m id) none (h.members (spot id j at) (subst (λ l. Contains l (spot id j at)) list on))))
+      (λ j at on. absurd (never (λ x. MayBeListed x.chain j at) (chain_at m id) none (h.members (member id j at) (subst (λ l. Contains l (member id j at)) list on))))
       (λ j at must. absurd (let number : IsVersionAt (version_of flag pt phase ∷ []) j must.version = subst (λ vs. IsVersionAt vs j must.version) made must.number in
       elim (pushed-at [] (version_of flag pt phase) j must.version number.older number.newer number.split number.number) [
         | inl before ↦ no-version [] j must.version refl before
@@ -225,9 +220,9 @@ module _ (m n : Memory) (id : ℕ) (list : n.recency ≡ m.recency) (h : IsRecen
       only_end (Some x) (inr none_there) inner = none_there
 
   -- one that has no listed object is gone
-  pub rule-gone : n.chains ≡ put id None m.chains → ((j : ℕ) (at : Option Pos) → Contains m.recency (spot id j at) → ⊥) → IsRecency n
+  pub rule-gone : n.chains ≡ put id None m.chains → ((j : ℕ) (at : Option Pos) → Contains m.recency (member id j at) → ⊥) → IsRecency n
   rule-gone is free = rule-put m n id None is (subst (AllPairs ◌≢◌) (sym list) h.once) (λ w ne on. subst (λ l. Contains l w) list on) (λ w ne on. subst (λ l. Contains l w) (sym list) on)
-      (λ j at on. absurd (free j at (subst (λ l. Contains l (spot id j at)) list on))) (λ j at must. absurd must) h
+      (λ j at on. absurd (free j at (subst (λ l. Contains l (member id j at)) list on))) (λ j at must. absurd must) h
 
 -- ---- a version changed, and the list at its places
 
@@ -247,19 +242,19 @@ module _ (vs : List Version) (j : ℕ) (v : Version) (f : Version → Version) (
 module _ (m n : Memory) (id j : ℕ) (f : Version → Version) (k : KeptChain) (v : Version) (there : chain_at m id ≡ Some k) (number : IsVersionAt k.chain.versions j v) (is : n.chains ≡ on_chain id (on_shown (on_version_of j f)) m.chains) (h : IsRecency m) where
   -- it is enough to say of that version which of its objects are listed
   pub rule-version : AllPairs ◌≢◌ n.recency → ((w : Member) → (w.chain ≡ id → w.version ≡ j → ⊥) → Contains n.recency w → Contains m.recency w) → ((w : Member) → (w.chain ≡ id → w.version ≡ j → ⊥) → Contains m.recency w → Contains n.recency w)
-      → ((at : Option Pos) → Contains n.recency (spot id j at) → (k.chain.kind ≡ Cache) × HasObject (f v) at × (IsUnderUpdate k.chain j → at ≢ Some end_position))
-      → ((at : Option Pos) → k.chain.kind ≡ Cache → HasObject (f v) at → at ≢ Some end_position → (IsUnderUpdate k.chain j → IsLastInner (f v) at → ⊥) → Contains n.recency (spot id j at)) → IsRecency n
+      → ((at : Option Pos) → Contains n.recency (member id j at) → (k.chain.kind ≡ Cache) × HasObject (f v) at × (IsUnderUpdate k.chain j → at ≢ Some end_position))
+      → ((at : Option Pos) → k.chain.kind ≡ Cache → HasObject (f v) at → at ≢ Some end_position → (IsUnderUpdate k.chain j → IsLastInner (f v) at → ⊥) → Contains n.recency (member id j at)) → IsRecency n
   rule-version once fewer more may must = rule-put m n id (Some (on_shown (on_version_of j f) k)) (is ∙ ap (λ o. put id (option_map (on_shown (on_version_of j f)) o) m.chains) there) once
       (λ w ne on. fewer w (λ e s. ne e) on) (λ w ne on. more w (λ e s. ne e) on)
       (λ i at on. elim (decided i j) [
-        | inl e ↦ let here = may at (subst (λ x. Contains n.recency (spot id x at)) e on) in record {
+        | inl e ↦ let here = may at (subst (λ x. Contains n.recency (member id x at)) e on) in record {
           cached = here.0;
           version = f v;
           number = subst (λ x. IsVersionAt (on_version j f k.chain.versions) x (f v)) (sym e) (on-at k.chain.versions j v f number);
           object = here.1;
           settled = λ u. here.2 (u.0, ap suc (sym e) ∙ u.1 ∙ length-on j f k.chain.versions);
         }
-        | inr ne ↦ let p = at_there (λ x. MayBeListed x.chain i at) (chain_at m id) k (h.members (spot id i at) (fewer (spot id i at) (λ e s. ne s) on)) there in record {
+        | inr ne ↦ let p = at_there (λ x. MayBeListed x.chain i at) (chain_at m id) k (h.members (member id i at) (fewer (member id i at) (λ e s. ne s) on)) there in record {
           cached = p.cached;
           version = p.version;
           number = on-beside k.chain.versions j v f number i p.version ne p.number;
@@ -270,9 +265,9 @@ module _ (m n : Memory) (id j : ℕ) (f : Version → Version) (k : KeptChain) (
       (λ i at p. elim (decided i j) [
         | inl e ↦
             let version : p.version ≡ f v = one-at (on_version j f k.chain.versions) j p.version (f v) (subst (λ x. IsVersionAt (on_version j f k.chain.versions) x p.version) e p.number) (on-at k.chain.versions j v f number) in
-            subst (λ x. Contains n.recency (spot id x at)) (sym e) (must at p.cached (subst (λ x. HasObject x at) version p.object) p.inner
+            subst (λ x. Contains n.recency (member id x at)) (sym e) (must at p.cached (subst (λ x. HasObject x at) version p.object) p.inner
             (λ u last. p.passed (u.0, ap suc e ∙ u.1 ∙ sym (length-on j f k.chain.versions)) (subst (λ x. IsLastInner x at) (sym version) last)))
-        | inr ne ↦ more (spot id i at) (λ e s. ne s) (h.complete (spot id i at) (there_at (λ x. MustBeListed x.chain i at) (chain_at m id) k (record {
+        | inr ne ↦ more (member id i at) (λ e s. ne s) (h.complete (member id i at) (there_at (λ x. MustBeListed x.chain i at) (chain_at m id) k (record {
           cached = p.cached;
           version = p.version;
           number = beside-on k.chain.versions j v f number i p.version ne p.number;

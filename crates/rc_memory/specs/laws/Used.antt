@@ -1,5 +1,5 @@
 -- A memory after the use of one chain changed.
-use Rattle.std.proofs.Common.{◌≡◌, ℕ, zero, suc, List, [], ◌∷◌, Bool, Option, Some, None, IsSome, refl, sym, ap, ◌∙◌, slice_index_or}
+use Rattle.std.proofs.Common.{◌≡◌, ℕ, zero, suc, ◌+◌, List, [], ◌∷◌, Bool, Option, Some, None, IsSome, refl, sym, ap, ◌∙◌, slice_index_or}
 use Rattle.std.specs.Option.{option_map}
 use Rattle.lsa_region.specs.Region.{View}
 use Rattle.lsa_list.specs.declared.recency.List.{List as Slots}
@@ -10,6 +10,7 @@ use Rattle.rc_core.specs.Steps.{pinned, released}
 use Rattle.rc_memory.specs.declared.counts.Counts.{Counts}
 use Rattle.rc_memory.specs.Memory.{KeptChain, Memory, HasChain, mark_passed, on_chain, on_shown, shown_detached, shown_pinned, shown_updating, with_chains}
 use Rattle.rc_memory.specs.Kept.{AreKept, HoldMemory, IsKeptChain, chain_of_use}
+use Rattle.rc_memory.specs.laws.Put.{length-same}
 
 module _ (f : Use → Use) (g : KeptChain → KeptChain) (root : (u : Use) → (f u).root ≡ u.root) (does : (u : Use) (p : PartitionEntry) → chain_of_use (f u) p ≡ g (chain_of_use u p)) where
   kept_used : (u : Option Use) (p : Option PartitionEntry) (c : Option KeptChain) → IsKeptChain u p c → IsKeptChain (option_map f u) p (option_map g c)
@@ -40,6 +41,7 @@ module _ (slots : Slots) (v : View) (registry : Registry) (counts : Counts) (m :
     recency = h.recency;
     dropped = h.dropped;
     counted = h.counted;
+    roots = h.roots ∙ ap (λ n. 2 + n) (sym (length-same m.chains id g));
   }
 
   pub held-detached : HoldMemory slots v (on_use id detached registry) counts (with_chains (on_chain id (on_shown shown_detached) m.chains) m)

@@ -1,18 +1,19 @@
 -- A memory after a version was put over those of a chain, and after one was dropped.
-use Rattle.std.proofs.Common.{◌≡◌, ◌≢◌, ℕ, zero, suc, Bool, true, false, cond, List, [], ◌∷◌, ◌++◌, Option, Some, None, length, inl, inr, refl, sym, ap, ◌∙◌, subst, map, take, drop, slice_index_or, nat_eq, eq-eqb, ne_eqb}
+use Rattle.std.proofs.Common.{◌≡◌, ◌≢◌, ℕ, zero, suc, ◌+◌, Bool, true, false, cond, List, [], ◌∷◌, ◌++◌, Option, Some, None, length, inl, inr, refl, sym, ap, ◌∙◌, subst, map, take, drop, slice_index_or, nat_eq, eq-eqb, ne_eqb}
 use Rattle.std.specs.Prelude.{Contains}
 use Rattle.std.specs.Option.{option_map}
 use Rattle.std.proofs.lemmas.List.{map-append}
 use Rattle.lsa_pool.specs.laws.Usages.{decided}
 use Rattle.lsa_store.specs.declared.place.Ref.{Ref}
 use Rattle.lsa_region.specs.declared.end.End.TheVariants.{Obj}
-use Rattle.lsa_region.specs.Region.{View, link_of, IsWell}
+use Rattle.lsa_region.specs.Ends.{SlotCounts}
+use Rattle.lsa_region.specs.Region.{View, link_of, slots_of, IsWell}
 use Rattle.lsa_list.specs.declared.recency.List.{List as Slots}
 use Rattle.rc_core.specs.Steps.{all_but, renumbered}
 use Rattle.rc_core.specs.Version.{Version}
-use Rattle.rc_version.specs.Versions.{IsVersionOf, MayChange}
+use Rattle.rc_version.specs.Versions.{IsUnlisted, IsVersionOf, MayChange}
 use Rattle.rc_version.specs.laws.Staying.{kept-same}
-use Rattle.rc_partition.specs.Partitions.{AreStanding, IsRowOfVersion, PartitionEntry, StandingVersion, among, partition_of}
+use Rattle.rc_partition.specs.Partitions.{AreStanding, IsRowOfVersion, PartitionEntry, StandingVersion, among, partition_of, standing}
 use Rattle.rc_partition.specs.laws.Apart.{one-version}
 use Rattle.rc_partition.specs.laws.Changed.{beside-differs, other-among, other-differs, this-among}
 use Rattle.rc_partition.specs.laws.Lists.{elem-here, elem-replaced, elem-still}
@@ -23,7 +24,7 @@ use Rattle.rc_memory.specs.Kept.{AreKept, HoldMemory, StandAt, chain_of_use, pre
 use Rattle.rc_memory.specs.laws.Changed.{of-stays}
 use Rattle.rc_memory.specs.laws.Listed.{listed-at, one-at}
 use Rattle.rc_memory.specs.laws.Places.{heads, same_some, tails, version-place, version-there}
-use Rattle.rc_memory.specs.laws.Put.{kept-put, placed, put-at, put-beside, put-same, used-at, IsUsedAs}
+use Rattle.rc_memory.specs.laws.Put.{kept-put, length-same, placed, put-at, put-beside, put-same, used-at, IsUsedAs}
 use Rattle.rc_memory.specs.laws.Standing.{row-of, stand-each}
 
 -- ---- versions by number
@@ -67,7 +68,7 @@ stand-renumbered v w st new g (r ∷ refs) (x ∷ ws) each h = (each r x (elem-h
 
 module _ (slots : Slots) (old new : View) (registry : Registry) (counts : Counts) (m : Memory) (h : HoldMemory slots old registry counts m) (id : ℕ) (p : PartitionEntry) (there : slice_index_or m.standing id None ≡ Some p) (t : StandingVersion)
     (well : IsWell new) (stands : AreStanding slots new ((placed m.standing id).front ++ (partition_of p.root (p.versions ++ (t ∷ [])) ∷ (placed m.standing id).back)) h.listed)
-    (statics : (n : Ref) (refs : List Ref) (d : Version) → IsVersionOf old n refs d → link_of new (Obj n 3) ≡ link_of old (Obj n 3)) where
+    (same_slots : slots_of new ≡ slots_of old) (statics : (n : Ref) (refs : List Ref) (d : Version) → IsVersionOf old n refs d → link_of new (Obj n 3) ≡ link_of old (Obj n 3)) where
   more : IsUsedAs registry.uses m.chains id p
   more = used-at registry.uses m.standing m.chains id p h.kept there
 
@@ -122,6 +123,7 @@ module _ (slots : Slots) (old new : View) (registry : Registry) (counts : Counts
         (stand-each old new m.standing (put id (Some (partition_of p.root (p.versions ++ (t ∷ [])))) m.standing) h.listed m.recency (λ r w in_refs on a. still_object r w a) h.recency);
     dropped = h.dropped;
     counted = h.counted;
+    roots = ap (λ (k : SlotCounts). k.there) same_slots ∙ h.roots ∙ ap (λ k. 2 + k) (sym (length-same m.chains id (on_shown (λ c. shown_with (c.versions ++ (t.version ∷ [])) c))));
   }
 
 -- ---- a version less
@@ -132,7 +134,7 @@ module _ (slots : Slots) (old new : View) (registry : Registry) (counts : Counts
   stands-whole = subst (λ ps. AreStanding slots old ps h.listed) ((placed m.standing id).there p there ∙ ap (λ vs. (placed m.standing id).front ++ (partition_of p.root vs ∷ (placed m.standing id).back)) number.split) h.stands
 
   module _ (well : IsWell new) (stands : AreStanding slots new ((placed m.standing id).front ++ (partition_of p.root (number.older ++ number.newer) ∷ (placed m.standing id).back)) h.listed)
-      (statics : (n : Ref) (refs : List Ref) (d : Version) → n ≢ s.object → IsVersionOf old n refs d → link_of new (Obj n 3) ≡ link_of old (Obj n 3)) where
+      (same_slots : slots_of new ≡ slots_of old) (statics : (n : Ref) (refs : List Ref) (d : Version) → n ≢ s.object → IsVersionOf old n refs d → link_of new (Obj n 3) ≡ link_of old (Obj n 3)) where
     less : IsUsedAs registry.uses m.chains id p
     less = used-at registry.uses m.standing m.chains id p h.kept there
 
@@ -237,4 +239,25 @@ module _ (slots : Slots) (old new : View) (registry : Registry) (counts : Counts
           (stand-renumbered old new m.standing (put id (Some (partition_of p.root (number.older ++ number.newer))) m.standing) (renumbered_member id j) h.listed m.recency less_object h.recency);
       dropped = h.dropped;
       counted = h.counted;
+      roots = ap (λ (k : SlotCounts). k.there) same_slots ∙ h.roots ∙ ap (λ k. 2 + k) (sym (length-same m.chains id (on_shown (shown_without j))));
     }
+
+-- ---- what calls are told
+
+module _ (slots : Slots) (old new : View) (registry : Registry) (counts : Counts) (m : Memory) (h : HoldMemory slots old registry counts m) (well : IsWell new) (same_slots : slots_of new ≡ slots_of old) (id : ℕ) (p : PartitionEntry) (there : slice_index_or m.standing id None ≡ Some p) where
+  -- a version put over the others of a partition, among whichever others
+  pub held-added : (n : Ref) (c : Version)
+      → ((front : List PartitionEntry) (versions : List StandingVersion) (back : List PartitionEntry) (listed : List Ref) → AreStanding slots old (front ++ (partition_of p.root versions ∷ back)) listed
+      → (end : Ref) × AreStanding slots new (front ++ (partition_of p.root (versions ++ (standing n (end ∷ []) c ∷ [])) ∷ back)) listed × IsUnlisted new end)
+      → ((q : Ref) (refs : List Ref) (d : Version) → IsVersionOf old q refs d → link_of new (Obj q 3) ≡ link_of old (Obj q 3)) → (end : Ref) × HoldMemory slots new registry counts (more_versions id (standing n (end ∷ []) c) new m) × IsUnlisted new end
+  held-added n c added statics =
+      let k = added (placed m.standing id).front p.versions (placed m.standing id).back h.listed (subst (λ ps. AreStanding slots old ps h.listed) ((placed m.standing id).there p there) h.stands) in
+      (k.0, held-more slots old new registry counts m h id p there (standing n (k.0 ∷ []) c) well k.1 same_slots statics, k.2)
+
+  -- one dropped
+  pub held-dropped : (j : ℕ) (s : StandingVersion) → IsVersionAt p.versions j s
+      → ((front : List PartitionEntry) (older : List StandingVersion) (t : StandingVersion) (newer : List StandingVersion) (back : List PartitionEntry) (listed : List Ref) → t.object ≡ s.object
+      → AreStanding slots old (among front p.root older t newer back) listed → AreStanding slots new (front ++ (partition_of p.root (older ++ newer) ∷ back)) listed)
+      → ((q : Ref) (refs : List Ref) (d : Version) → q ≢ s.object → IsVersionOf old q refs d → link_of new (Obj q 3) ≡ link_of old (Obj q 3)) → HoldMemory slots new (on_use id (without_version j) registry) counts (fewer_versions id j new m)
+  held-dropped j s number dropped statics = held-less slots old new registry counts m h id j p s there number well
+      (dropped (placed m.standing id).front number.older s number.newer (placed m.standing id).back h.listed refl (stands-whole slots old new registry counts m h id j p s there number)) same_slots statics
