@@ -14,19 +14,11 @@ use Rattle.rc_memory.specs.declared.counts.Counts.{Counts}
 use Rattle.rc_memory.specs.Memory.{KeptChain, Member, Memory, IsMemberObject, IsObjectAt, IsOfVersion, IsVersionAt, IsVersionObject, chain_at}
 use Rattle.rc_memory.specs.Changes.{member}
 use Rattle.rc_memory.specs.Kept.{HoldMemory, chain_of_use}
-use Rattle.rc_memory.specs.laws.At.{kept-at}
+use Rattle.rc_memory.specs.laws.At.{kept-at, number-mapped}
 use Rattle.rc_memory.specs.laws.Listed.{one-at, stand-object}
 use Rattle.rc_memory.specs.laws.Places.{no_some, same_some, version-there}
 use Rattle.rc_memory.specs.laws.Put.{used-at}
 use Rattle.rc_recency.specs.Holding.{IsFoundAt, IsHeldVersion}
-
--- what stands at a number of a list stands there in the list of what a function gives
-pub number-mapped : {X Y : Type 0} (f : X → Y) (xs : List X) (n : ℕ) (x : X) → IsVersionAt xs n x → IsVersionAt (map f xs) n (f x)
-number-mapped f xs n x h = record { older = map f h.older; newer = map f h.newer; split = ap (map f) h.split ∙ map-append f h.older (x ∷ h.newer); number = mapped f h.older ∙ h.number }
-  where
-    mapped : {X Y : Type 0} (f : X → Y) (ys : List X) → length (map f ys) ≡ length ys
-    mapped f [] = refl
-    mapped f (y ∷ ys) = ap suc (mapped f ys)
 
 -- the version of a number of a chain as it stands in the region, whose object is this one
 pub record IsStandingAs (st : List (Option PartitionEntry)) (id j : ℕ) (c : Version) (n : Ref) : Type 0 where

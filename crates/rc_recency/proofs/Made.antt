@@ -24,7 +24,7 @@ use Rattle.rc_memory.specs.Kept.{HoldMemory}
 use Rattle.rc_memory.specs.laws.Entries.{here-split}
 use Rattle.rc_recency.specs.Holding.{IsHeldVersion}
 use Rattle.rc_recency.proofs.Aligned.{IsPutAt, positions, positions-at, positions-split, positions-taken, stay-gone, stay-held, stay-joined, stay-same}
-use Rattle.rc_recency.proofs.Changed.{held-later, is-changed, later, member-later}
+use Rattle.rc_recency.proofs.Changed.{changed-later, held-later, later, member-later}
 use Rattle.rc_recency.proofs.Held.{own-object, standing-as, stands}
 
 -- another memory is held, with the version changed and the same recency list
@@ -51,7 +51,7 @@ module _ (slots : Slots) (old new : View) (registry : Registry) (counts : Counts
     later-nowhere stay = record {
       memory = later slots old new registry counts m id j k c v h f now kept is summed well summed_new weigh Nowhere (λ at r off o. stay at r o) (λ at on t. t);
       held = held-later slots old new registry counts m id j k c v h f now kept is summed well summed_new weigh Nowhere (λ at r off o. stay at r o) (λ at on t. t);
-      changed = is-changed slots old new registry counts m id j k c v h f now kept is summed well summed_new weigh Nowhere (λ at r off o. stay at r o) (λ at on t. t);
+      changed = changed-later slots old new registry counts m id j k c v h f now kept is summed well summed_new weigh Nowhere (λ at r off o. stay at r o) (λ at on t. t);
       recency = refl;
     }
 
@@ -67,7 +67,7 @@ module _ (slots : Slots) (old new : View) (registry : Registry) (counts : Counts
       later-alone = record {
         memory = later slots old new registry counts m id j k c v h f now kept is summed well summed_new weigh (AtAlone (member id j place)) stay_beside free_there;
         held = held-later slots old new registry counts m id j k c v h f now kept is summed well summed_new weigh (AtAlone (member id j place)) stay_beside free_there;
-        changed = is-changed slots old new registry counts m id j k c v h f now kept is summed well summed_new weigh (AtAlone (member id j place)) stay_beside free_there;
+        changed = changed-later slots old new registry counts m id j k c v h f now kept is summed well summed_new weigh (AtAlone (member id j place)) stay_beside free_there;
         recency = refl;
       }
 

@@ -29,6 +29,7 @@ use Rattle.rc_memory.specs.laws.Listed.{held-pushed, held-taken, list-at, unlist
 use Rattle.rc_memory.specs.laws.Listing.{listed-decided}
 use Rattle.rc_memory.specs.laws.Places.{version-there}
 use Rattle.rc_memory.specs.laws.Standing.{row-of}
+use Rattle.rc_memory.specs.laws.Still.{changed-listed, listed-changed, still-listed, unmoved-listed}
 use Rattle.rc_recency.specs.Holding.{HoldsAfter, IsHeldVersion, IsOffMemtable, IsRelisted, IsTakenOff, list_with}
 
 -- nothing changed
@@ -54,35 +55,6 @@ module _ (slots : Slots) (v : View) (registry : Registry) (counts : Counts) (m :
   off-list r w here unset on =
       let k = elem-split m.recency w on in let l = list-at slots v registry counts m h k.0 w k.1 r k.2 (at-place r w here) in
       (listed-set slots v h.well l.0 l.1 r l.2 (Obj r 0) unset).0 refl
-
-module _ (slots : Slots) (old new : View) (registry : Registry) (counts : Counts) (m : Memory) (h : HoldMemory slots old registry counts m) (relisted : IsRelisted slots old new) (list : List Member) where
-  of_kept : (s : StandingVersion) (at : Option Pos) (r : Ref) → IsVersionOf old s.object s.entries s.version → IsOfVersion old s at r → IsOfVersion new s at r
-  of_kept s None r k a = relisted.links (Obj s.object 3) (version-elsewhere slots old s.object 3 (version-kind old s.object s.entries s.version k)) ∙ a
-  of_kept s (Some x) r k a = (a.0, stands-same old new r x (relisted.objects.bodies r) a.1)
-
-  object_kept : (r : Ref) (w : Member) → IsObjectAt old m.standing r w → IsObjectAt new m.standing r w
-  object_kept r w a = record {
-    partition = a.partition;
-    version = a.version;
-    chain = a.chain;
-    number = a.number;
-    object = of_kept a.version w.position r (version-there slots old h.well m.standing h.listed h.stands w.chain w.version a.partition a.version a.chain a.number) a.object;
-  }
-
-  -- objects stand where they stood
-  pub still-listed : StandStill Nowhere m (listed_as list new m)
-  still-listed = record { versions = λ i a q is. is; objects = λ r w off o. object_kept r w (at-place slots old registry counts m h r w o) }
-
-  pub unmoved-listed : IsUnmoved m.region new
-  unmoved-listed = subst (λ z. IsUnmoved z new) (sym h.region) (record {
-    budget = ap (λ us. length us) relisted.objects.usages;
-    moved = relisted.objects.moved;
-    compacted = relisted.objects.compacted;
-    epoch = marked-objects old new relisted.objects;
-  })
-
-pub unmoved-then : (old mid new : View) → IsUnmoved old mid → IsUnmoved mid new → IsUnmoved old new
-unmoved-then old mid new a b = record { budget = b.budget ∙ a.budget; moved = b.moved ∙ a.moved; compacted = b.compacted ∙ a.compacted; epoch = marked-then old mid new a.epoch b.epoch }
 
 -- ---- an object taken out and put at the back
 
@@ -116,7 +88,7 @@ module _ (slots : Slots) (old new : View) (registry : Registry) (counts : Counts
   taken-off on removed first second unset =
       let k = elem-split m.recency w on in
       let held = held-taken slots old new registry counts m h elsewhere objects well r k.0 w k.1 k.2 (at-place slots old registry counts m h r w here) removed first second unset in
-      let still = still-listed slots old new registry counts m h (record { links = elsewhere; objects = objects }) (k.0 ++ k.1) in
+      let still = still-listed slots old new registry counts m h elsewhere objects well (k.0 ++ k.1) in
       record { list = k.0 ++ k.1; held = held; without = inr (k.0, k.1, k.2, refl); off = off-list slots new registry counts (listed_as (k.0 ++ k.1) new m) held r w (still.objects r w (λ t. t) here) first }
 
   pub pushed-back : ((xs : List Ref) → IsList slots old xs → IsList slots new (xs ++ (r ∷ []))) → ((e : End) → link_of old e ≡ None → e ≢ Obj r 0 → e ≢ Obj r 1 → link_of new e ≡ None) → HoldMemory slots new registry counts (listed_as (m.recency ++ (w ∷ [])) new m)
@@ -125,29 +97,17 @@ module _ (slots : Slots) (old new : View) (registry : Registry) (counts : Counts
 -- ---- a version changed, before the list did and after it
 
 module _ (slots : Slots) (registry : Registry) (counts : Counts) (id j : ℕ) (f : Version → Version) (these : Member → Type 0) where
-  pub listed-then : (old mid : View) (m n : Memory) (list : List Member) → HoldMemory slots old registry counts m → IsRelisted slots old mid → IsVersionChanged id j f these (listed_as list mid m) n → IsVersionChanged id j f these m n
-  listed-then old mid m n list h relisted c = record {
-    chains = c.chains;
-    dropped = c.dropped;
-    counts = c.counts;
-    still = record {
-      versions = λ i a q is. c.still.versions i a q is;
-      objects = λ r w off o. c.still.objects r w off ((still-listed slots old mid registry counts m h relisted list).objects r w (λ t. t) o);
-    };
-    region = unmoved-then m.region mid n.region (unmoved-listed slots old mid registry counts m h relisted list) c.region;
-  }
+  pub listed-then : (old mid : View) (m n : Memory) (list : List Member) → HoldMemory slots old registry counts m → IsRelisted slots old mid → IsWell mid → IsVersionChanged id j f these (listed_as list mid m) n → IsVersionChanged id j f these m n
+  listed-then old mid m n list h relisted well =
+      listed-changed id j f these m n list mid (still-listed slots old mid registry counts m h relisted.links relisted.objects well list) (unmoved-listed slots old mid registry counts m h relisted.links relisted.objects well list)
 
-  pub then-listed : (mid new : View) (m n : Memory) (list : List Member) → HoldMemory slots mid registry counts n → IsRelisted slots mid new → IsVersionChanged id j f these m n → IsVersionChanged id j f these m (listed_as list new n)
-  then-listed mid new m n list h relisted c = record {
-    chains = c.chains;
-    dropped = c.dropped;
-    counts = c.counts;
-    still = record {
-      versions = λ i a q is. c.still.versions i a q is;
-      objects = λ r w off o. (still-listed slots mid new registry counts n h relisted list).objects r w (λ t. t) (c.still.objects r w off o);
-    };
-    region = unmoved-then m.region n.region new c.region (unmoved-listed slots mid new registry counts n h relisted list);
-  }
+  pub then-listed : (mid new : View) (m n : Memory) (list : List Member) → HoldMemory slots mid registry counts n → IsRelisted slots mid new → IsWell new → IsVersionChanged id j f these m n → IsVersionChanged id j f these m (listed_as list new n)
+  then-listed mid new m n list h relisted well c =
+      changed-listed id j f these m n list new c (still-listed slots mid new registry counts n h relisted.links relisted.objects well list) (unmoved-listed slots mid new registry counts n h relisted.links relisted.objects well list)
+
+-- an object stands where it stood beside another recency list
+pub member-listed : (slots : Slots) (old new : View) (registry : Registry) (counts : Counts) (m : Memory) (list : List Member) → HoldMemory slots old registry counts m → IsRelisted slots old new → IsWell new → (r : Ref) (w : Member) → IsMemberObject m r w → IsMemberObject (listed_as list new m) r w
+member-listed slots old new registry counts m list h relisted well r w here = (still-listed slots old new registry counts m h relisted.links relisted.objects well list).objects r w (λ t. t) here
 
 -- a version is held beside another recency list
 pub held-listed : (slots : Slots) (old mid : View) (registry : Registry) (counts : Counts) (m : Memory) (id j : ℕ) (k : KeptChain) (c : Version) (n : Ref) (list : List Member)
@@ -178,7 +138,7 @@ pub made-anew : (slots : Slots) (old mid next last : View) (registry : Registry)
 made-anew slots old mid next last registry counts m n w r kind id j f these h first t changed list held here second holds off = (
   listed_as (list_with kind w n.recency) last n,
   holds,
-  (then-listed slots registry counts id j f these next last m n (list_with kind w n.recency) held second (listed-then slots registry counts id j f these old mid m n t.list h first changed),
+  (then-listed slots registry counts id j f these next last m n (list_with kind w n.recency) held second holds.well (listed-then slots registry counts id j f these old mid m n t.list h first t.held.well changed),
   subst (λ l. IsRenewed kind w m.recency (list_with kind w l)) (sym list) (renewed kind w m.recency t.list t.without off),
-  (still-listed slots next last registry counts n held second (list_with kind w n.recency)).objects r w (λ x. x) here),
+  member-listed slots next last registry counts n (list_with kind w n.recency) held second holds.well r w here),
 )

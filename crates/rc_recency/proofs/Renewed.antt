@@ -27,7 +27,7 @@ use Rattle.rc_recency.specs.Holding.{HoldsAfter, IsHeldVersion, IsOffMemtable, I
 use Rattle.rc_recency.proofs.Changed.{version-unchanged}
 use Rattle.rc_recency.proofs.Held.{entry-found, own-member, standing-as, stands}
 use Rattle.rc_recency.proofs.Made.{IsLater, IsLaterWith, later-split}
-use Rattle.rc_recency.proofs.Relisted.{at-place, held-listed, listed-then, made-anew, renewed-none, still-listed, then-listed}
+use Rattle.rc_recency.proofs.Relisted.{at-place, held-listed, listed-then, made-anew, member-listed, renewed-none, then-listed}
 
 -- room is told by the segments' books
 pub room-kept : (S : ℕ) (old mid : View) (size space needed : ℕ) → mid.usages ≡ old.usages → HasRoomFor S old size space needed → HasRoomFor S mid size space needed
@@ -58,7 +58,7 @@ module _ (slots : Slots) (old mid : View) (registry : Registry) (counts : Counts
   module _ (f : Version → Version) (these : Member → Type 0) (relisted : IsRelisted slots old mid) (next : View) where
     -- the version changed, and the list is that without the place
     pub held-without : IsLater slots next registry counts id j f these (listed_as t.list mid m) → HoldsAfter slots next registry counts (λ n. IsVersionChanged id j f these m n × IsWithout (member id j place) m.recency n.recency)
-    held-without l = (l.memory, l.held, (listed-then slots registry counts id j f these old mid m l.memory t.list h.held relisted l.changed, subst (IsWithout (member id j place) m.recency) (sym l.recency) t.without))
+    held-without l = (l.memory, l.held, (listed-then slots registry counts id j f these old mid m l.memory t.list h.held relisted t.held.well l.changed, subst (IsWithout (member id j place) m.recency) (sym l.recency) t.without))
 
     module _ (r : Ref) (l : IsLaterWith slots next registry counts id j f these (listed_as t.list mid m) r (member id j place)) where
       -- what was made is not listed yet
@@ -104,11 +104,11 @@ module _ (slots : Slots) (old : View) (registry : Registry) (counts : Counts) (m
       listed_as list new l.memory,
       holds,
       (
-        then-listed slots registry counts id j (λ d. with_entries (split x d.entries) d) Nowhere mid new m l.memory list l.held relisted l.changed,
+        then-listed slots registry counts id j (λ d. with_entries (split x d.entries) d) Nowhere mid new m l.memory list l.held relisted holds.well l.changed,
         record {
           made = λ no. subst (λ ws. IsRenewed kind (member id j (Some x)) m.recency (list_with kind (member id j (Some x)) ws)) (sym l.recency) (renewed-none kind (member id j (Some x)) m.recency off_before);
           there = λ has. absurd (none.1 has);
         },
-        (still-listed slots mid new registry counts l.memory l.held relisted list).objects r (member id j (Some x)) (λ z. z) split-made.1,
+        member-listed slots mid new registry counts l.memory list l.held relisted holds.well r (member id j (Some x)) split-made.1,
       ),
     )

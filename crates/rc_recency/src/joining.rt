@@ -32,7 +32,7 @@ use rc_version::{entry_at_key, entry_like, static_row};
 /// In a cache chain it is the most recent one then.
 pub fn join_row<const S: usize>(
     region: &mut Region<S>,
-    list: List,
+    list: &List,
     kind: ChainKind,
     v: Ref,
     key: &Key,
@@ -40,10 +40,10 @@ pub fn join_row<const S: usize>(
     sc: &mut Scratch,
 ) -> Ref
     requires limits { KeyFits key.now }
-    requires row { (registry : Registry) × (counts : Counts) × (m : Memory) × (id : ℕ) × (j : ℕ) × (k : KeptChain) × (c : Version) × (row : Row) × IsHeldVersion list region.old registry counts m id j k c v × IsRowCode code.now row × HasRoomToJoin S region.old sc.old.size (row_pos key.now) row c }
-    ensures changed { (registry : Registry) (counts : Counts) (m : Memory) (id j : ℕ) (k : KeptChain) (c : Version) (row : Row) → IsHeldVersion list region.old registry counts m id j k c v → IsRowCode code.now row → IsOffMemtable kind (member id j (Some (row_pos key.now))) m →
-        HoldsAfter list region.new registry counts (λ n. IsVersionChanged id j (row_joined (row_pos key.now) row) (AtAlone (member id j (Some (row_pos key.now)))) m n × IsRenewed kind (member id j (Some (row_pos key.now))) m.recency n.recency × IsMemberObject n result (member id j (Some (row_pos key.now)))) }
-    ensures spare { (registry : Registry) (counts : Counts) (m : Memory) (id j : ℕ) (k : KeptChain) (c : Version) (row : Row) → IsHeldVersion list region.old registry counts m id j k c v → IsRowCode code.now row → spare_of S region.old.usages ≤ spare_of S region.new.usages + joined_bytes (row_pos key.now) row c }
+    requires row { (registry : Registry) × (counts : Counts) × (m : Memory) × (id : ℕ) × (j : ℕ) × (k : KeptChain) × (c : Version) × (row : Row) × IsHeldVersion list.now region.old registry counts m id j k c v × IsRowCode code.now row × HasRoomToJoin S region.old sc.old.size (row_pos key.now) row c }
+    ensures changed { (registry : Registry) (counts : Counts) (m : Memory) (id j : ℕ) (k : KeptChain) (c : Version) (row : Row) → IsHeldVersion list.now region.old registry counts m id j k c v → IsRowCode code.now row → IsOffMemtable kind (member id j (Some (row_pos key.now))) m →
+        HoldsAfter list.now region.new registry counts (λ n. IsVersionChanged id j (row_joined (row_pos key.now) row) (AtAlone (member id j (Some (row_pos key.now)))) m n × IsRenewed kind (member id j (Some (row_pos key.now))) m.recency n.recency × IsMemberObject n result (member id j (Some (row_pos key.now)))) }
+    ensures spare { (registry : Registry) (counts : Counts) (m : Memory) (id j : ℕ) (k : KeptChain) (c : Version) (row : Row) → IsHeldVersion list.now region.old registry counts m id j k c v → IsRowCode code.now row → spare_of S region.old.usages ≤ spare_of S region.new.usages + joined_bytes (row_pos key.now) row c }
     ensures size { sc.new.size ≡ sc.old.size }
     ensures well { IsWell region.new }
 {
@@ -74,19 +74,19 @@ fn found_like<const S: usize>(region: &Region<S>, v: Ref, e: Ref) -> Option<Ref>
 /// row, whose flag stays. What is made is the most recent one of a cache chain then.
 pub fn join_like<const S: usize>(
     region: &mut Region<S>,
-    list: List,
+    list: &List,
     kind: ChainKind,
     v: Ref,
     e: Ref,
     sc: &mut Scratch,
 ) -> Ref
-    requires { (registry : Registry) × (counts : Counts) × (m : Memory) × (id : ℕ) × (j : ℕ) × (k : KeptChain) × (c : Version) × IsHeldVersion list region.old registry counts m id j k c v × HasRoomLike S region.old sc.old.size e c }
-    ensures entry { (registry : Registry) (counts : Counts) (m : Memory) (id j : ℕ) (k : KeptChain) (c : Version) (y : Entry) (row : Row) → IsHeldVersion list region.old registry counts m id j k c v → HoldsEntry region.old e y → y.row ≡ Some row → IsOffMemtable kind (member id j (Some y.position)) m →
-        HoldsAfter list region.new registry counts (λ n. IsVersionChanged id j (row_joined y.position row) (AtAlone (member id j (Some y.position))) m n × IsRenewed kind (member id j (Some y.position)) m.recency n.recency × IsMemberObject n result (member id j (Some y.position))) }
-    ensures entry_spare { (registry : Registry) (counts : Counts) (m : Memory) (id j : ℕ) (k : KeptChain) (c : Version) (y : Entry) (row : Row) → IsHeldVersion list region.old registry counts m id j k c v → HoldsEntry region.old e y → y.row ≡ Some row → spare_of S region.old.usages ≤ spare_of S region.new.usages + joined_bytes y.position row c }
-    ensures statics { (registry : Registry) (counts : Counts) (m : Memory) (id j : ℕ) (k : KeptChain) (c : Version) (row : Row) → IsHeldVersion list region.old registry counts m id j k c v → HoldsStatic region.old e row → IsOffMemtable kind (member id j None) m →
-        HoldsAfter list region.new registry counts (λ n. IsVersionChanged id j (join_statics row) (AtAlone (member id j None)) m n × IsRenewed kind (member id j None) m.recency n.recency × IsMemberObject n result (member id j None)) }
-    ensures statics_spare { (registry : Registry) (counts : Counts) (m : Memory) (id j : ℕ) (k : KeptChain) (c : Version) (row : Row) → IsHeldVersion list region.old registry counts m id j k c v → HoldsStatic region.old e row → spare_of S region.old.usages ≤ spare_of S region.new.usages + static_size (joined_onto c.statics row) }
+    requires { (registry : Registry) × (counts : Counts) × (m : Memory) × (id : ℕ) × (j : ℕ) × (k : KeptChain) × (c : Version) × IsHeldVersion list.now region.old registry counts m id j k c v × HasRoomLike S region.old sc.old.size e c }
+    ensures entry { (registry : Registry) (counts : Counts) (m : Memory) (id j : ℕ) (k : KeptChain) (c : Version) (y : Entry) (row : Row) → IsHeldVersion list.now region.old registry counts m id j k c v → HoldsEntry region.old e y → y.row ≡ Some row → IsOffMemtable kind (member id j (Some y.position)) m →
+        HoldsAfter list.now region.new registry counts (λ n. IsVersionChanged id j (row_joined y.position row) (AtAlone (member id j (Some y.position))) m n × IsRenewed kind (member id j (Some y.position)) m.recency n.recency × IsMemberObject n result (member id j (Some y.position))) }
+    ensures entry_spare { (registry : Registry) (counts : Counts) (m : Memory) (id j : ℕ) (k : KeptChain) (c : Version) (y : Entry) (row : Row) → IsHeldVersion list.now region.old registry counts m id j k c v → HoldsEntry region.old e y → y.row ≡ Some row → spare_of S region.old.usages ≤ spare_of S region.new.usages + joined_bytes y.position row c }
+    ensures statics { (registry : Registry) (counts : Counts) (m : Memory) (id j : ℕ) (k : KeptChain) (c : Version) (row : Row) → IsHeldVersion list.now region.old registry counts m id j k c v → HoldsStatic region.old e row → IsOffMemtable kind (member id j None) m →
+        HoldsAfter list.now region.new registry counts (λ n. IsVersionChanged id j (join_statics row) (AtAlone (member id j None)) m n × IsRenewed kind (member id j None) m.recency n.recency × IsMemberObject n result (member id j None)) }
+    ensures statics_spare { (registry : Registry) (counts : Counts) (m : Memory) (id j : ℕ) (k : KeptChain) (c : Version) (row : Row) → IsHeldVersion list.now region.old registry counts m id j k c v → HoldsStatic region.old e row → spare_of S region.old.usages ≤ spare_of S region.new.usages + static_size (joined_onto c.statics row) }
     ensures size { sc.new.size ≡ sc.old.size }
     ensures well { IsWell region.new }
 {

@@ -13,11 +13,11 @@ use lsa_region::{End, Ref, Region};
 use rc_core::ChainKind;
 
 /// Takes an object at a place out of the recency list, where it is in it. It is in no list then.
-pub fn take<const S: usize>(region: &mut Region<S>, list: List, r: Ref)
-    requires { (registry : Registry) × (counts : Counts) × (m : Memory) × (w : Member) × HoldMemory list region.old registry counts m × IsMemberObject m r w }
-    ensures taken { (registry : Registry) (counts : Counts) (m : Memory) (w : Member) → HoldMemory list region.old registry counts m → IsMemberObject m r w → IsTakenOff list region.new registry counts m w }
+pub fn take<const S: usize>(region: &mut Region<S>, list: &List, r: Ref)
+    requires { (registry : Registry) × (counts : Counts) × (m : Memory) × (w : Member) × HoldMemory list.now region.old registry counts m × IsMemberObject m r w }
+    ensures taken { (registry : Registry) (counts : Counts) (m : Memory) (w : Member) → HoldMemory list.now region.old registry counts m → IsMemberObject m r w → IsTakenOff list.now region.new registry counts m w }
     ensures unlisted { IsUnlisted region.new r }
-    ensures relisted { IsRelisted list region.old region.new }
+    ensures relisted { IsRelisted list.now region.old region.new }
     ensures well { IsWell region.new }
 {
     region.known();
@@ -28,10 +28,10 @@ pub fn take<const S: usize>(region: &mut Region<S>, list: List, r: Ref)
 }
 
 /// Takes the object that is found at a place out of the recency list, where there is one and it is in it.
-pub(crate) fn take_found<const S: usize>(region: &mut Region<S>, list: List, found: Option<Ref>)
-    requires { (registry : Registry) × (counts : Counts) × (m : Memory) × (w : Member) × HoldMemory list region.old registry counts m × IsFoundAt m w found }
-    ensures taken { (registry : Registry) (counts : Counts) (m : Memory) (w : Member) → HoldMemory list region.old registry counts m → IsFoundAt m w found → IsTakenOff list region.new registry counts m w }
-    ensures relisted { IsRelisted list region.old region.new }
+pub(crate) fn take_found<const S: usize>(region: &mut Region<S>, list: &List, found: Option<Ref>)
+    requires { (registry : Registry) × (counts : Counts) × (m : Memory) × (w : Member) × HoldMemory list.now region.old registry counts m × IsFoundAt m w found }
+    ensures taken { (registry : Registry) (counts : Counts) (m : Memory) (w : Member) → HoldMemory list.now region.old registry counts m → IsFoundAt m w found → IsTakenOff list.now region.new registry counts m w }
+    ensures relisted { IsRelisted list.now region.old region.new }
     ensures well { IsWell region.new }
 {
     match found {
@@ -41,10 +41,10 @@ pub(crate) fn take_found<const S: usize>(region: &mut Region<S>, list: List, fou
 }
 
 /// Puts an object at a place that is not in the recency list at its back, as the most recent one.
-pub fn push<const S: usize>(region: &mut Region<S>, list: List, r: Ref)
-    requires { (registry : Registry) × (counts : Counts) × (m : Memory) × (w : Member) × HoldMemory list region.old registry counts m × IsMemberObject m r w × (Contains m.recency w → ⊥) }
-    ensures pushed { (registry : Registry) (counts : Counts) (m : Memory) (w : Member) → HoldMemory list region.old registry counts m → IsMemberObject m r w → HoldMemory list region.new registry counts (listed_as (m.recency ++ (w ∷ [])) region.new m) }
-    ensures relisted { IsRelisted list region.old region.new }
+pub fn push<const S: usize>(region: &mut Region<S>, list: &List, r: Ref)
+    requires { (registry : Registry) × (counts : Counts) × (m : Memory) × (w : Member) × HoldMemory list.now region.old registry counts m × IsMemberObject m r w × (Contains m.recency w → ⊥) }
+    ensures pushed { (registry : Registry) (counts : Counts) (m : Memory) (w : Member) → HoldMemory list.now region.old registry counts m → IsMemberObject m r w → HoldMemory list.now region.new registry counts (listed_as (m.recency ++ (w ∷ [])) region.new m) }
+    ensures relisted { IsRelisted list.now region.old region.new }
     ensures well { IsWell region.new }
 {
     list.push_back(region, r);
@@ -53,13 +53,13 @@ pub fn push<const S: usize>(region: &mut Region<S>, list: List, r: Ref)
 /// Puts an object that was made at the back of the recency list, where its chain is a cache chain's.
 pub(crate) fn push_cached<const S: usize>(
     region: &mut Region<S>,
-    list: List,
+    list: &List,
     kind: ChainKind,
     r: Ref,
 )
-    requires { (registry : Registry) × (counts : Counts) × (m : Memory) × (w : Member) × HoldMemory list region.old registry counts m × IsMemberObject m r w × (Contains m.recency w → ⊥) }
-    ensures pushed { (registry : Registry) (counts : Counts) (m : Memory) (w : Member) → HoldMemory list region.old registry counts m → IsMemberObject m r w → HoldMemory list region.new registry counts (listed_as (list_with kind w m.recency) region.new m) }
-    ensures relisted { IsRelisted list region.old region.new }
+    requires { (registry : Registry) × (counts : Counts) × (m : Memory) × (w : Member) × HoldMemory list.now region.old registry counts m × IsMemberObject m r w × (Contains m.recency w → ⊥) }
+    ensures pushed { (registry : Registry) (counts : Counts) (m : Memory) (w : Member) → HoldMemory list.now region.old registry counts m → IsMemberObject m r w → HoldMemory list.now region.new registry counts (listed_as (list_with kind w m.recency) region.new m) }
+    ensures relisted { IsRelisted list.now region.old region.new }
     ensures well { IsWell region.new }
 {
     match kind {

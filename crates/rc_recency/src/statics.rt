@@ -24,15 +24,15 @@ use rc_version::static_row;
 /// cache chain it is the most recent one then. An empty row has no object, so none is handed in.
 pub fn set_static<const S: usize>(
     region: &mut Region<S>,
-    list: List,
+    list: &List,
     kind: ChainKind,
     v: Ref,
     code: &[u8],
     flag: Flag,
 )
-    requires { (registry : Registry) × (counts : Counts) × (m : Memory) × (id : ℕ) × (j : ℕ) × (k : KeptChain) × (c : Version) × (row : Row) × IsHeldVersion list region.old registry counts m id j k c v × IsRowCode code.now row × (static_size row ≤ S / 8) × (static_size row ≤ spare_of S region.old.usages) }
-    ensures changed { (registry : Registry) (counts : Counts) (m : Memory) (id j : ℕ) (k : KeptChain) (c : Version) (row : Row) → IsHeldVersion list region.old registry counts m id j k c v → IsRowCode code.now row → IsOffMemtable kind (member id j None) m →
-        HoldsAfter list region.new registry counts (λ n. IsVersionChanged id j (set_statics (Some row) flag) (AtAlone (member id j None)) m n × IsRenewed kind (member id j None) m.recency n.recency) }
+    requires { (registry : Registry) × (counts : Counts) × (m : Memory) × (id : ℕ) × (j : ℕ) × (k : KeptChain) × (c : Version) × (row : Row) × IsHeldVersion list.now region.old registry counts m id j k c v × IsRowCode code.now row × (static_size row ≤ S / 8) × (static_size row ≤ spare_of S region.old.usages) }
+    ensures changed { (registry : Registry) (counts : Counts) (m : Memory) (id j : ℕ) (k : KeptChain) (c : Version) (row : Row) → IsHeldVersion list.now region.old registry counts m id j k c v → IsRowCode code.now row → IsOffMemtable kind (member id j None) m →
+        HoldsAfter list.now region.new registry counts (λ n. IsVersionChanged id j (set_statics (Some row) flag) (AtAlone (member id j None)) m n × IsRenewed kind (member id j None) m.recency n.recency) }
     ensures spare { (row : Row) → IsRowCode code.now row → spare_of S region.old.usages ≤ spare_of S region.new.usages + static_size row }
     ensures well { IsWell region.new }
 {
@@ -48,10 +48,10 @@ pub fn set_static<const S: usize>(
 
 /// Takes the static row of a version out and frees it, where there is one; it leaves the recency list first. Its flag is Unknown then, also where there was
 /// none.
-pub fn drop_static<const S: usize>(region: &mut Region<S>, list: List, v: Ref)
-    requires { (registry : Registry) × (counts : Counts) × (m : Memory) × (id : ℕ) × (j : ℕ) × (k : KeptChain) × (c : Version) × IsHeldVersion list region.old registry counts m id j k c v }
-    ensures changed { (registry : Registry) (counts : Counts) (m : Memory) (id j : ℕ) (k : KeptChain) (c : Version) → IsHeldVersion list region.old registry counts m id j k c v →
-        HoldsAfter list region.new registry counts (λ n. IsVersionChanged id j without_statics (AtAlone (member id j None)) m n × IsWithout (member id j None) m.recency n.recency) }
+pub fn drop_static<const S: usize>(region: &mut Region<S>, list: &List, v: Ref)
+    requires { (registry : Registry) × (counts : Counts) × (m : Memory) × (id : ℕ) × (j : ℕ) × (k : KeptChain) × (c : Version) × IsHeldVersion list.now region.old registry counts m id j k c v }
+    ensures changed { (registry : Registry) (counts : Counts) (m : Memory) (id j : ℕ) (k : KeptChain) (c : Version) → IsHeldVersion list.now region.old registry counts m id j k c v →
+        HoldsAfter list.now region.new registry counts (λ n. IsVersionChanged id j without_statics (AtAlone (member id j None)) m n × IsWithout (member id j None) m.recency n.recency) }
     ensures spare { spare_of S region.new.usages ≡ spare_of S region.old.usages }
     ensures well { IsWell region.new }
 {
