@@ -7,7 +7,7 @@
 --     KeepsRows           what is done to a version changes none of its rows, and no position
 --     LastIsListed        the last entry before the end of the version under update is listed
 --     CanDrop             what holds of a version of a chain that may be dropped
-use Rattle.std.specs.Prelude.{◌≡◌, ◌⊎◌, ◌<◌, ◌≤◌, ℕ, suc, true, List, [], ◌∷◌, ◌++◌, Option, Some, None, IfSome, length, map, Contains}
+use Rattle.std.specs.Prelude.{◌≡◌, ◌⊎◌, ◌<◌, ◌≤◌, ℕ, suc, true, List, [], ◌∷◌, ◌++◌, Option, Some, IfSome, length, map, Contains}
 use Rattle.rc_position.specs.declared.positions.Pos.{Pos}
 use Rattle.lsa_store.specs.declared.place.Ref.{Ref}
 use Rattle.lsa_region.specs.Region.{View}

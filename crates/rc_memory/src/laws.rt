@@ -11,7 +11,7 @@ ghost use Rattle.rc_core.specs.Change.{changed, drop_at, split};
 ghost use Rattle.rc_core.specs.Continuity.{with_entries, without_statics};
 ghost use Rattle.rc_cell.specs.declared.rows.Row.{Row};
 ghost use Rattle.rc_version.specs.Versions.{IsKeptBut, IsUnlisted, IsVersionOf, IsWeighed};
-ghost use Rattle.rc_core.specs.Steps.{join_pt, pinned, released, row_joined, set_flags, set_static_flag, set_tombs, version_of, with_phase};
+ghost use Rattle.rc_core.specs.Steps.{join_pt, on_version, pinned, released, row_joined, set_flags, set_static_flag, set_tombs, version_of, with_phase};
 ghost use Rattle.rc_core.specs.Chains.{Shown, IsPinned};
 ghost use Rattle.rc_core.specs.declared.entries.ChainKind.TheVariants.{Cache, Memtable};
 ghost use Rattle.rc_core.specs.declared.entries.Mark.{Mark};
@@ -127,11 +127,12 @@ pub fn a_sound_chain_stays_sound()
     ensures fewer { (c : Shown) (j : ℕ) → IsSoundChain c → (IsPinned c.pins j → ⊥) → j < length c.versions → 2 ≤ length c.versions → (c.updating ≡ true → suc j < length c.versions) → (c.updating ≡ true → 3 ≤ length c.versions) → IsSoundChain (shown_without j c) }
 {}
 
-/// Rows that fit together still do where versions go, and where one comes that has its end dummy alone.
+/// Rows that fit together still do where versions go, where one comes that has its end dummy alone, and where one is split at a position whose dummy fits.
 pub fn rows_still_fit()
     ensures fewer { (S : ℕ) (vs ws : List Version) → ((v : Version) → Contains ws v → Contains vs v) → FitTogether S vs → FitTogether S ws }
     ensures none { (S : ℕ) → FitTogether S [] }
     ensures more { (S : ℕ) (vs : List Version) (flag : Flag) (pt : Option Tomb) (phase : ℕ) → dummy_size end_position ≤ S / 8 → FitTogether S vs → FitTogether S (vs ++ (version_of flag pt phase ∷ [])) }
+    ensures split { (S j : ℕ) (x : Pos) (vs : List Version) → dummy_size x ≤ S / 8 → FitTogether S vs → FitTogether S (on_version j (λ c. with_entries (split x c.entries) c) vs) }
 {}
 
 /// The recency list keeps its rule where neither it nor a chain changes, where an object that may be in it is put at its back, where one that need not be in it is taken out, and where one is made the most recent one.

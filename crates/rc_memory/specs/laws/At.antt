@@ -58,6 +58,7 @@ none_there : {X : Type 0} (o : Option X) → is_some o ≡ false → o ≡ None
 none_there None e = refl
 none_there (Some x) e = cc e
 
+-- where there is no use there is no chain, and the other way round
 pub unused-chain : (us : List (Option Use)) (ps : List (Option PartitionEntry)) (cs : List (Option KeptChain)) (id : ℕ) → AreKept us ps cs → slice_index_or us id None ≡ None → slice_index_or cs id None ≡ None
 unused-chain us ps cs id h e = none_there (slice_index_or cs id None) (sym (used-there us ps cs id h) ∙ ap is_some e)
 
@@ -67,7 +68,6 @@ no-use us ps cs id h e = none_there (slice_index_or us id None) (used-there us p
 -- ---- one partition among those that are there
 
 -- it is one of those that are there
-
 pub record IsAmong {X : Type 0} (xs : List (Option X)) (x : X) : Type 0 where
   pub front : List X
   pub back : List X

@@ -1,6 +1,6 @@
 -- A memory keeps its rules where a chain is made, and where it goes; where a version is put over those of a chain, and where one is dropped; and where an update ends, and a chain is found no longer.
-use Rattle.std.proofs.Common.{◌≡◌, ◌≢◌, ℕ, zero, suc, ◌<◌, ◌≤◌, ◌/◌, Bool, true, false, List, [], ◌∷◌, ◌++◌, Option, Some, None, length, refl, sym, ap, ◌∙◌, subst, map, slice_index_or, arith}
-use Rattle.std.specs.Prelude.{Contains, IfSome, IsSome, IsSomeAnd}
+use Rattle.std.proofs.Common.{◌≡◌, ◌≢◌, ℕ, zero, suc, ◌<◌, ◌≤◌, ◌/◌, true, false, List, [], ◌∷◌, ◌++◌, Option, Some, None, refl, sym, ap, ◌∙◌, subst, map, slice_index_or, arith}
+use Rattle.std.specs.Prelude.{Contains, IfSome, IsSome}
 use Rattle.std.specs.Option.{option_map}
 use Rattle.std.proofs.lemmas.List.{length-append}
 use Rattle.rc_cell.specs.declared.writes.Tomb.{Tomb}
@@ -14,7 +14,6 @@ use Rattle.lsa_list.specs.declared.recency.List.{List as Slots}
 use Rattle.rc_core.specs.declared.entries.ChainKind.{ChainKind}
 use Rattle.rc_core.specs.declared.entries.ChainKind.TheVariants.{Cache, Memtable}
 use Rattle.rc_core.specs.declared.entries.Flag.{Flag}
-use Rattle.rc_core.specs.Chains.{IsPinned}
 use Rattle.rc_core.specs.Steps.{all_but, version_of}
 use Rattle.rc_core.specs.Version.{Version, end_position}
 use Rattle.rc_version.specs.Versions.{IsUnlisted, IsVersionOf}
@@ -32,7 +31,7 @@ use Rattle.rc_memory.specs.laws.At.{no-use, number-low, number-mapped}
 use Rattle.rc_memory.specs.laws.Dropped.{renumbered-other, rule-fewer}
 use Rattle.rc_memory.specs.laws.Listing.{rule-settled}
 use Rattle.rc_memory.specs.laws.Opened.{held-closed, held-opened}
-use Rattle.rc_memory.specs.laws.Places.{no_some, same_some}
+use Rattle.rc_memory.specs.laws.Places.{same_some}
 use Rattle.rc_memory.specs.laws.Put.{put-at, used-at, IsUsedAs}
 use Rattle.rc_memory.specs.laws.Recent.{at_there, rule-gone, rule-more, rule-new, rule-uncached}
 use Rattle.rc_memory.specs.laws.Rules.{each-on, each-put, fit-fewer, fit-more, fit-none, sound-detached, sound-fewer, sound-more, sound-settled, sound-updating}
@@ -73,26 +72,34 @@ module _ (S : ℕ) (slots : Slots) (old new : View) (registry : Registry) (count
       (statics : (q : Ref) (refs : List Ref) (d : Version) → IsVersionOf old q refs d → link_of new (Obj q 3) ≡ link_of old (Obj q 3)) where
     -- of a memtable
     pub memory-more : ((k : KeptChain) → chain_at m id ≡ Some k → k.chain.kind ≡ Memtable) → (end : Ref) × IsMemory S slots new registry counts (more_versions id (standing n (end ∷ []) (version_of flag pt phase)) new m) × IsUnlisted new end
-    memory-more memtable = let k = held-added slots old new registry counts m h.held well same_slots id p there n (version_of flag pt phase) added statics in (k.0, record {
-      held = k.1;
-      sound = each-on (λ q. IsSoundChain q.chain) m.chains id (on_shown (λ c. shown_with (c.versions ++ (version_of flag pt phase ∷ [])) c)) h.sound (λ q e sound. sound-more q.chain sound (version_of flag pt phase));
-      rule = rule-uncached m (more_versions id (standing n (k.0 ∷ []) (version_of flag pt phase)) new m) id (on_shown (λ c. shown_with (c.versions ++ (version_of flag pt phase ∷ [])) c)) refl refl h.rule
-          (λ q e. ((λ c. let clash : Memtable ≡ Cache = sym (memtable q e) ∙ c in cc), refl));
-      fit = each-on (λ q. FitTogether S q.chain.versions) m.chains id (on_shown (λ c. shown_with (c.versions ++ (version_of flag pt phase ∷ [])) c)) h.fit (λ q e fits. fit-more S q.chain.versions flag pt phase room fits);
-    }, k.2)
+    memory-more memtable = let k = held-added slots old new registry counts m h.held well same_slots id p there n (version_of flag pt phase) added statics in (
+      k.0,
+      record {
+        held = k.1;
+        sound = each-on (λ q. IsSoundChain q.chain) m.chains id (on_shown (λ c. shown_with (c.versions ++ (version_of flag pt phase ∷ [])) c)) h.sound (λ q e sound. sound-more q.chain sound (version_of flag pt phase));
+        rule = rule-uncached m (more_versions id (standing n (k.0 ∷ []) (version_of flag pt phase)) new m) id (on_shown (λ c. shown_with (c.versions ++ (version_of flag pt phase ∷ [])) c)) refl refl h.rule
+            (λ q e. ((λ c. let clash : Memtable ≡ Cache = sym (memtable q e) ∙ c in cc), refl));
+        fit = each-on (λ q. FitTogether S q.chain.versions) m.chains id (on_shown (λ c. shown_with (c.versions ++ (version_of flag pt phase ∷ [])) c)) h.fit (λ q e fits. fit-more S q.chain.versions flag pt phase room fits);
+      },
+      k.2,
+    )
 
     -- of a cache chain, which is under update then
     pub memory-begun : ((k : KeptChain) → chain_at m id ≡ Some k → (k.chain.kind ≡ Cache) × (k.chain.attached ≡ true) × (k.chain.updating ≡ false))
         → (end : Ref) × IsMemory S slots new (on_use id (set_updating true) registry) counts (update_begun id (standing n (end ∷ []) (version_of flag pt phase)) new m) × IsUnlisted new end
-    memory-begun ready = let k = held-added slots old new registry counts m h.held well same_slots id p there n (version_of flag pt phase) added statics in (k.0, record {
-      held = held-updating slots new registry counts (more_versions id (standing n (k.0 ∷ []) (version_of flag pt phase)) new m) id k.1 has true;
-      sound = subst (λ cs. (i : ℕ) → IfSome (slice_index_or cs i None) (λ q. IsSoundChain q.chain)) (sym both)
-          (each-on (λ q. IsSoundChain q.chain) m.chains id begun h.sound (λ q e sound. sound-updating (shown_with (q.chain.versions ++ (version_of flag pt phase ∷ [])) q.chain) (sound-more q.chain sound (version_of flag pt phase)) (ready q e).0 (ready q e).1
-          (omega (arith, length-append q.chain.versions (version_of flag pt phase ∷ []), sound.some)) (λ j on. omega (arith, length-append q.chain.versions (version_of flag pt phase ∷ []), sound.pins j on))));
-      rule = rule-more m (update_begun id (standing n (k.0 ∷ []) (version_of flag pt phase)) new m) id begun both refl h.rule flag pt phase (λ q e. (refl, refl, (ready q e).2));
-      fit = subst (λ cs. (i : ℕ) → IfSome (slice_index_or cs i None) (λ q. FitTogether S q.chain.versions)) (sym both)
-          (each-on (λ q. FitTogether S q.chain.versions) m.chains id begun h.fit (λ q e fits. fit-more S q.chain.versions flag pt phase room fits));
-    }, k.2)
+    memory-begun ready = let k = held-added slots old new registry counts m h.held well same_slots id p there n (version_of flag pt phase) added statics in (
+      k.0,
+      record {
+        held = held-updating slots new registry counts (more_versions id (standing n (k.0 ∷ []) (version_of flag pt phase)) new m) id k.1 has true;
+        sound = subst (λ cs. (i : ℕ) → IfSome (slice_index_or cs i None) (λ q. IsSoundChain q.chain)) (sym both)
+            (each-on (λ q. IsSoundChain q.chain) m.chains id begun h.sound (λ q e sound. sound-updating (shown_with (q.chain.versions ++ (version_of flag pt phase ∷ [])) q.chain) (sound-more q.chain sound (version_of flag pt phase)) (ready q e).0 (ready q e).1
+            (omega (arith, length-append q.chain.versions (version_of flag pt phase ∷ []), sound.some)) (λ j on. omega (arith, length-append q.chain.versions (version_of flag pt phase ∷ []), sound.pins j on))));
+        rule = rule-more m (update_begun id (standing n (k.0 ∷ []) (version_of flag pt phase)) new m) id begun both refl h.rule flag pt phase (λ q e. (refl, refl, (ready q e).2));
+        fit = subst (λ cs. (i : ℕ) → IfSome (slice_index_or cs i None) (λ q. FitTogether S q.chain.versions)) (sym both)
+            (each-on (λ q. FitTogether S q.chain.versions) m.chains id begun h.fit (λ q e fits. fit-more S q.chain.versions flag pt phase room fits));
+      },
+      k.2,
+    )
       where
         begun : KeptChain → KeptChain
         begun q = on_shown (shown_updating true) (on_shown (λ c. shown_with (c.versions ++ (version_of flag pt phase ∷ [])) c) q)
@@ -120,19 +127,22 @@ module _ (S : ℕ) (slots : Slots) (old mid new : View) (registry : Registry) (c
       ∙ put-put m.chains id (Some made) (Some (empty_chain kind))
 
   made-sound : IsSoundChain made.chain
-  made-sound = record { some = omega arith; pins = λ j on. absurd on; cached = λ u. cc u; attached = λ u. cc u; below = λ u. cc u; unpinned = λ u. cc u }
+  made-sound = record { some = omega arith; pins = λ j on. absurd on; cached = λ u. cc u; attached = λ u. refl; below = λ u. cc u; unpinned = λ u. cc u }
 
   pub memory-made : (end : Ref) × IsMemory S slots new (with_use id (Some (new_use root kind)) registry) counts (chain_made id root kind (standing n (end ∷ []) (version_of flag pt phase)) new m) × IsUnlisted new end
   memory-made =
       let first = held-opened slots old mid registry counts m h.held rooted.links same well_mid id root kind rooted (no-use registry.uses m.standing m.chains id h.held.kept none) in
-      let k = held-added slots mid new (with_use id (Some (new_use root kind)) registry) counts (opened id root kind mid m) first well same_slots id (partition_of root []) (put-at m.standing id (Some (partition_of root []))) n (version_of flag pt phase) added statics in
-      (k.0, record {
-        held = k.1;
-        sound = subst (λ cs. (i : ℕ) → IfSome (slice_index_or cs i None) (λ q. IsSoundChain q.chain)) (sym made-chains) (each-put (λ q. IsSoundChain q.chain) m.chains id (Some made) h.sound made-sound);
-        rule = rule-new m (chain_made id root kind (standing n (k.0 ∷ []) (version_of flag pt phase)) new m) id refl h.rule made flag pt phase made-chains none refl;
-        fit = subst (λ cs. (i : ℕ) → IfSome (slice_index_or cs i None) (λ q. FitTogether S q.chain.versions)) (sym made-chains)
-            (each-put (λ q. FitTogether S q.chain.versions) m.chains id (Some made) h.fit (fit-more S [] flag pt phase room (fit-none S)));
-      }, k.2)
+      let k = held-added slots mid new (with_use id (Some (new_use root kind)) registry) counts (opened id root kind mid m) first well same_slots id (partition_of root []) (put-at m.standing id (Some (partition_of root []))) n (version_of flag pt phase) added statics in (
+        k.0,
+        record {
+          held = k.1;
+          sound = subst (λ cs. (i : ℕ) → IfSome (slice_index_or cs i None) (λ q. IsSoundChain q.chain)) (sym made-chains) (each-put (λ q. IsSoundChain q.chain) m.chains id (Some made) h.sound made-sound);
+          rule = rule-new m (chain_made id root kind (standing n (k.0 ∷ []) (version_of flag pt phase)) new m) id refl h.rule made flag pt phase made-chains none refl;
+          fit = subst (λ cs. (i : ℕ) → IfSome (slice_index_or cs i None) (λ q. FitTogether S q.chain.versions)) (sym made-chains)
+              (each-put (λ q. FitTogether S q.chain.versions) m.chains id (Some made) h.fit (fit-more S [] flag pt phase room (fit-none S)));
+        },
+        k.2,
+      )
 
 -- ---- an update ends, and a chain is found no longer
 

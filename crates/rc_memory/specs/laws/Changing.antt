@@ -1,5 +1,5 @@
 -- A memory keeps its rules where one version of a chain changed as calls change it.
-use Rattle.std.proofs.Common.{◌≡◌, ◌≢◌, ◌⊎◌, ℕ, List, [], ◌∷◌, Option, Some, None, IsSome, inl, inr, refl, sym, ap, ◌∙◌, subst, map, slice_index_or}
+use Rattle.std.proofs.Common.{◌≡◌, ◌≢◌, ◌⊎◌, ℕ, List, [], ◌∷◌, Option, Some, None, IsSome, inl, inr, refl, sym, ◌∙◌, subst, slice_index_or}
 use Rattle.std.specs.Prelude.{Contains, IfSome}
 use Rattle.rc_cell.specs.declared.rows.Row.{Row}
 use Rattle.rc_position.specs.declared.positions.Pos.{Pos}
@@ -13,7 +13,7 @@ use Rattle.rc_core.specs.Steps.{on_version, row_joined}
 use Rattle.rc_core.specs.Version.{EndsWithDummy, Version, IsVersion, end_position}
 use Rattle.rc_registry.specs.Registry.{Registry}
 use Rattle.rc_memory.specs.declared.counts.Counts.{Counts}
-use Rattle.rc_memory.specs.Memory.{KeptChain, Member, Memory, HasVersion, IsVersionAt, chain_at, on_chain, on_shown, on_version_of}
+use Rattle.rc_memory.specs.Memory.{KeptChain, Memory, HasVersion, IsVersionAt, chain_at, on_chain, on_shown, on_version_of}
 use Rattle.rc_memory.specs.Recency.{HasObject, IsLastInner, IsRecency, IsUnderUpdate}
 use Rattle.rc_memory.specs.Room.{FitTogether}
 use Rattle.rc_memory.specs.Kept.{HoldMemory, IsMemory, IsSoundChain}
@@ -22,7 +22,7 @@ use Rattle.rc_memory.specs.laws.At.{found-version, version-is}
 use Rattle.rc_memory.specs.laws.Entries.{here-joined, here-split, keeps-dropped, keeps-joined, keeps-split, only-dropped, only-joined, only-split}
 use Rattle.rc_memory.specs.laws.Listing.{pos_decided}
 use Rattle.rc_memory.specs.laws.Renewed.{rule-kept, rule-out, rule-renewed}
-use Rattle.rc_memory.specs.laws.Rows.{fit-changed, last-alike, last-dropped, object-alike, within-alike, within-dropped, within-undone, IsWithin}
+use Rattle.rc_memory.specs.laws.Rows.{fit-changed, last-alike, last-dropped, object-alike, within-alike, within-dropped, within-undone, IsWithin, NoPosition}
 use Rattle.rc_memory.specs.laws.Rules.{each-on, sound-changed}
 
 -- ---- whether an entry stands there
@@ -60,12 +60,12 @@ module _ (S : ℕ) (slots : Slots) (old new : View) (registry : Registry) (count
     }
 
     -- where no row is there but those that were, it does
-    less-fits : ((v : Version) → IsWithin v (f v)) → FitsChanged S id j f m
+    less-fits : ((v : Version) → IsWithin NoPosition v (f v)) → FitsChanged S id j f m
     less-fits less = of (chain_at m id) (h.fit id)
       where
         of : (o : Option KeptChain) → IfSome o (λ k. FitTogether S k.chain.versions) → IfSome o (λ k. FitTogether S (on_version j f k.chain.versions))
         of None fits = tt
-        of (Some k) fits = fit-changed S j f k.chain.versions less fits
+        of (Some k) fits = fit-changed S j f NoPosition (λ x may. absurd may) k.chain.versions less fits
 
     module _ (has : HasVersion m id j) where
       abbrev here : (k : KeptChain) × (v : Version) × (chain_at m id ≡ Some k) × IsVersionAt k.chain.versions j v

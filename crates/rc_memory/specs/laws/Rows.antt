@@ -1,7 +1,9 @@
 -- Rows of a version changed: which are as they were, which are gone, and that all that may be joined still fits.
 use Rattle.std.proofs.Common.{◌≡◌, ◌≢◌, ◌⊎◌, ℕ, zero, suc, ◌≤◌, ◌/◌, Bool, true, false, cond, List, [], ◌∷◌, ◌++◌, Option, Some, None, IsSome, inl, inr, refl, sym, ap, ◌∙◌, subst, map}
-use Rattle.std.specs.Prelude.{Contains, IsTrue}
+use Rattle.std.specs.Prelude.{Contains}
 use Rattle.std.specs.Ordering.{eq_by_cmp}
+use Rattle.std.specs.declared.cmp.Ordering.{Ordering}
+use Rattle.std.specs.declared.cmp.Ordering.TheVariants.{Less, Equal, Greater}
 use Rattle.rc_cell.specs.declared.rows.Row.{Row}
 use Rattle.rc_cell.specs.declared.writes.Tomb.{Tomb}
 use Rattle.rc_position.specs.declared.positions.Pos.{Pos}
@@ -12,7 +14,7 @@ use Rattle.rc_core.specs.declared.entries.Entry.{Entry}
 use Rattle.rc_core.specs.declared.entries.Flag.{Flag}
 use Rattle.rc_core.specs.declared.entries.Mark.{Mark}
 use Rattle.rc_core.specs.AtPlace.{HasEntryAt}
-use Rattle.rc_core.specs.Change.{at_entry, changed, drop_at, lost_mark, take_out, with_first_gap, with_gap}
+use Rattle.rc_core.specs.Change.{at_entry, changed, drop_at, dummy, lost_mark, split, split_by, take_out, with_first_gap, with_gap}
 use Rattle.rc_core.specs.Continuity.{with_entries, without_statics}
 use Rattle.rc_core.specs.Steps.{join_pt, on_version, set_flags, set_static_flag, set_tombs, with_flags, with_phase, with_tombs}
 use Rattle.rc_core.specs.Version.{EndsWithDummy, Version, end_position}
@@ -95,59 +97,94 @@ keeps-phase phase v = (refl, refl)
 
 -- ---- rows of one version that are rows of another one
 
-pub record IsWithin (v w : Version) : Type 0 where
-  pub entries : (e : Entry) → Contains w.entries e → (d : Entry) × Contains v.entries d × (d.position ≡ e.position) × (d.row ≡ e.row)
+-- an entry with this position and this row is among entries
+abbrev pub IsAlikeIn : List Entry → Entry → Type 0
+IsAlikeIn es e = (d : Entry) × Contains es d × (d.position ≡ e.position) × (d.row ≡ e.row)
+
+-- each row of a version is one of another version, and so is each entry but dummies at these positions
+pub record IsWithin (may : Pos → Type 0) (v w : Version) : Type 0 where
+  pub entries : (e : Entry) → Contains w.entries e → IsAlikeIn v.entries e ⊎ (may e.position × (e.row ≡ None))
   pub statics : (row : Row) → w.statics ≡ Some row → v.statics ≡ Some row
 
-pub within-itself : (v : Version) → IsWithin v v
-within-itself v = record { entries = λ e on. (e, on, refl, refl); statics = λ row is. is }
+-- no position
+abbrev pub NoPosition : Pos → Type 0
+NoPosition x = ⊥
 
-pub within-alike : (v w : Version) → w.statics ≡ v.statics → map position_and_row w.entries ≡ map position_and_row v.entries → IsWithin v w
+within-itself : (may : Pos → Type 0) (v : Version) → IsWithin may v v
+within-itself may v = record { entries = λ e on. inl (e, on, refl, refl); statics = λ row is. is }
+
+pub within-alike : (v w : Version) → w.statics ≡ v.statics → map position_and_row w.entries ≡ map position_and_row v.entries → IsWithin NoPosition v w
 within-alike v w statics entries = record {
   entries = λ e on. let k = elem-mapped position_and_row v.entries (position_and_row e) (subst (λ l. Contains l (position_and_row e)) entries (elem-map position_and_row w.entries e on)) in
-      (k.0, k.1, ap (λ (z : Pos × Option Row). z.0) k.2, ap (λ (z : Pos × Option Row). z.1) k.2);
+      inl (k.0, k.1, ap (λ (z : Pos × Option Row). z.0) k.2, ap (λ (z : Pos × Option Row). z.1) k.2);
   statics = λ row is. sym statics ∙ is;
 }
 
-first-within : (m : Mark) (es : List Entry) (e : Entry) → Contains (with_first_gap m es) e → (d : Entry) × Contains es d × (d.position ≡ e.position) × (d.row ≡ e.row)
+first-within : (m : Mark) (es : List Entry) (e : Entry) → Contains (with_first_gap m es) e → IsAlikeIn es e
 first-within m [] e on = absurd (elem-none e on)
 first-within m (f ∷ es) e on = elim (elem-cases (with_gap m f) e es on) [
   | inl same ↦ (f, elem-first f es, ap (λ (k : Entry). k.position) same, ap (λ (k : Entry). k.row) same)
   | inr later ↦ (e, elem-later f e es later, refl, refl)
 ]
 
-taken-within : (m : Mark) (x : Pos) (es : List Entry) (e : Entry) → Contains (take_out m x es) e → (d : Entry) × Contains es d × (d.position ≡ e.position) × (d.row ≡ e.row)
+taken-within : (m : Mark) (x : Pos) (es : List Entry) (e : Entry) → Contains (take_out m x es) e → IsAlikeIn es e
 taken-within m x [] e on = absurd (elem-none e on)
 taken-within m x (f ∷ es) e on = told (eq_by_cmp pos_cmp x f.position) (λ k. taken-within m x es e k) on
   where
-    told : (b : Bool) → (Contains (take_out m x es) e → (d : Entry) × Contains es d × (d.position ≡ e.position) × (d.row ≡ e.row)) → Contains (cond b (with_first_gap m es) (f ∷ take_out m x es)) e
-        → (d : Entry) × Contains (f ∷ es) d × (d.position ≡ e.position) × (d.row ≡ e.row)
+    told : (b : Bool) → (Contains (take_out m x es) e → IsAlikeIn es e) → Contains (cond b (with_first_gap m es) (f ∷ take_out m x es)) e → IsAlikeIn (f ∷ es) e
     told true further h = let k = first-within m es e h in (k.0, elem-later f k.0 es k.1, k.2, k.3)
     told false further h = elim (elem-cases f e (take_out m x es) h) [
       | inl same ↦ (f, elem-first f es, ap (λ (k : Entry). k.position) same, ap (λ (k : Entry). k.row) same)
       | inr later ↦ let k = further later in (k.0, elem-later f k.0 es k.1, k.2, k.3)
     ]
 
-pub within-dropped : (x : Pos) (v : Version) → IsWithin v (with_entries (drop_at x v.entries) v)
-within-dropped x v = record { entries = λ e on. taken-within lost_mark x v.entries e on; statics = λ row is. is }
+pub within-dropped : (x : Pos) (v : Version) → IsWithin NoPosition v (with_entries (drop_at x v.entries) v)
+within-dropped x v = record { entries = λ e on. inl (taken-within lost_mark x v.entries e on); statics = λ row is. is }
 
-pub within-undone : (v : Version) → IsWithin v (without_statics v)
-within-undone v = record { entries = λ e on. (e, on, refl, refl); statics = λ row is. absurd (no_some row is) }
+pub within-undone : (v : Version) → IsWithin NoPosition v (without_statics v)
+within-undone v = record { entries = λ e on. inl (e, on, refl, refl); statics = λ row is. absurd (no_some row is) }
+
+split-within : (x : Pos) (es : List Entry) (e : Entry) → Contains (split x es) e → IsAlikeIn es e ⊎ ((e.position ≡ x) × (e.row ≡ None))
+split-within x [] e on = absurd (elem-none e on)
+split-within x (f ∷ es) e on = told (pos_cmp x f.position) (λ k. split-within x es e k) on
+  where
+    told : (r : Ordering) → (Contains (split x es) e → IsAlikeIn es e ⊎ ((e.position ≡ x) × (e.row ≡ None))) → Contains (split_by r x f es (split x es)) e → IsAlikeIn (f ∷ es) e ⊎ ((e.position ≡ x) × (e.row ≡ None))
+    told Less further h = elim (elem-cases (dummy x f.gap) e (f ∷ es) h) [
+      | inl same ↦ inr (ap (λ (k : Entry). k.position) (sym same), ap (λ (k : Entry). k.row) (sym same))
+      | inr old ↦ inl (e, old, refl, refl)
+    ]
+    told Equal further h = inl (e, h, refl, refl)
+    told Greater further h = elim (elem-cases f e (split x es) h) [
+      | inl same ↦ inl (f, elem-first f es, ap (λ (k : Entry). k.position) same, ap (λ (k : Entry). k.row) same)
+      | inr later ↦ elim (further later) [
+        | inl k ↦ inl (k.0, elem-later f k.0 es k.1, k.2, k.3)
+        | inr made ↦ inr made
+      ]
+    ]
+
+pub within-split : (x : Pos) (v : Version) → IsWithin (λ y. y ≡ x) v (with_entries (split x v.entries) v)
+within-split x v = record { entries = λ e on. split-within x v.entries e on; statics = λ row is. is }
 
 -- ---- what fits still does
 
-module _ (S : ℕ) (vs ws : List Version) (within : (w : Version) → Contains ws w → (v : Version) × Contains vs v × IsWithin v w) where
+module _ (S : ℕ) (may : Pos → Type 0) (fits : (x : Pos) → may x → dummy_size x ≤ S / 8) (vs ws : List Version) (within : (w : Version) → Contains ws w → (v : Version) × Contains vs v × IsWithin may v w) where
   row_was : (x : Pos) (row : Row) → HasRowAt ws x row → HasRowAt vs x row
-  row_was x row k = let v = within k.0 k.2 in let d = v.2.entries k.1 k.3 in (v.0, d.0, v.1, d.1, d.2 ∙ k.4, d.3 ∙ k.5)
+  row_was x row k = let v = within k.0 k.2 in elim (v.2.entries k.1 k.3) [
+    | inl d ↦ (v.0, d.0, v.1, d.1, d.2 ∙ k.4, d.3 ∙ k.5)
+    | inr made ↦ absurd (no_some row (sym made.1 ∙ k.5))
+  ]
 
   static_was : (row : Row) → HasStaticRow ws row → HasStaticRow vs row
   static_was row k = let v = within k.0 k.1 in (v.0, v.1, v.2.statics row k.2)
 
-  pub fit-within : FitTogether S vs → FitTogether S ws
+  fit-within : FitTogether S vs → FitTogether S ws
   fit-within h = record {
     rows = λ x one rows each. h.rows x one rows (λ row on. row_was x row (each row on));
     statics = λ one rows each. h.statics one rows (λ row on. static_was row (each row on));
-    positions = λ w e on in_w. let v = within w on in let d = v.2.entries e in_w in subst (λ y. dummy_size y ≤ S / 8) d.2 (h.positions v.0 d.0 v.1 d.1);
+    positions = λ w e on in_w. let v = within w on in elim (v.2.entries e in_w) [
+      | inl d ↦ subst (λ y. dummy_size y ≤ S / 8) d.2 (h.positions v.0 d.0 v.1 d.1)
+      | inr made ↦ fits e.position made.0
+    ];
   }
 
 -- what is among versions of which one is another is it, or was among them
@@ -162,12 +199,15 @@ on-cases (suc j) f (v ∷ vs) w on = elim (elem-cases v w (on_version j f vs) on
   ]
 ]
 
--- where a version has no row but those that it had
-pub fit-changed : (S j : ℕ) (f : Version → Version) (vs : List Version) → ((v : Version) → IsWithin v (f v)) → FitTogether S vs → FitTogether S (on_version j f vs)
-fit-changed S j f vs less h = fit-within S vs (on_version j f vs) (λ w on. elim (on-cases j f vs w on) [
-  | inl old ↦ (w, old, within-itself w)
-  | inr made ↦ (made.0, made.1, subst (IsWithin made.0) made.2 (less made.0))
+-- where a version has no row but those that it had, and dummies at positions that fit
+pub fit-changed : (S j : ℕ) (f : Version → Version) (may : Pos → Type 0) → ((x : Pos) → may x → dummy_size x ≤ S / 8) → (vs : List Version) → ((v : Version) → IsWithin may v (f v)) → FitTogether S vs → FitTogether S (on_version j f vs)
+fit-changed S j f may fits vs less h = fit-within S may fits vs (on_version j f vs) (λ w on. elim (on-cases j f vs w on) [
+  | inl old ↦ (w, old, within-itself may w)
+  | inr made ↦ (made.0, made.1, subst (IsWithin may made.0) made.2 (less made.0))
 ]) h
+
+pub fit-split : (S j : ℕ) (x : Pos) (vs : List Version) → dummy_size x ≤ S / 8 → FitTogether S vs → FitTogether S (on_version j (λ c. with_entries (split x c.entries) c) vs)
+fit-split S j x vs fits h = fit-changed S j (λ c. with_entries (split x c.entries) c) (λ y. y ≡ x) (λ y e. subst (λ z. dummy_size z ≤ S / 8) (sym e) fits) vs (within-split x) h
 
 -- ---- an entry that is taken out is not the last one before the end, or another one is that then
 

@@ -1,6 +1,6 @@
 -- Where objects stand after one version of a chain changed, and after the recency list did; and that a changed version is one.
 use Rattle.std.proofs.Common.{◌≡◌, ◌⊎◌, ℕ, List, ◌∷◌, ◌++◌, Option, Some, None, length, inl, inr, refl, sym, ap, ◌∙◌, subst, map, slice_index_or}
-use Rattle.std.specs.Prelude.{Contains, IsSomeAnd}
+use Rattle.std.specs.Prelude.{IsSomeAnd}
 use Rattle.std.specs.Option.{option_map}
 use Rattle.lsa_pool.specs.laws.Usages.{decided}
 use Rattle.rc_position.specs.declared.positions.Pos.{Pos}
@@ -16,13 +16,12 @@ use Rattle.rc_version.specs.laws.Marked.{marked-itself, marked-objects, marked-t
 use Rattle.rc_partition.specs.Partitions.{PartitionEntry, StandingVersion, partition_of, standing}
 use Rattle.rc_registry.specs.Registry.{Registry, put}
 use Rattle.rc_memory.specs.declared.counts.Counts.{Counts}
-use Rattle.rc_memory.specs.Memory.{KeptChain, Member, Memory, IsObjectAt, IsOfVersion, IsVersionAt, listed_as, on_chain, on_shown, on_version_of, version_changed}
+use Rattle.rc_memory.specs.Memory.{Member, Memory, IsObjectAt, IsOfVersion, IsVersionAt, listed_as, on_chain, on_shown, on_version_of, version_changed}
 use Rattle.rc_memory.specs.Changes.{IsUnmoved, IsVersionChanged, Nowhere, StandStill, member}
 use Rattle.rc_memory.specs.Kept.{HoldMemory}
 use Rattle.rc_memory.specs.laws.At.{number-mapped}
 use Rattle.rc_memory.specs.laws.Changed.{object_after, standing-is, user}
 use Rattle.rc_memory.specs.laws.Listed.{object_kept, one-at}
-use Rattle.rc_memory.specs.laws.Places.{same_some}
 use Rattle.rc_memory.specs.laws.Put.{beside-at, put-at, put-beside}
 use Rattle.rc_memory.specs.laws.Recent.{on-is}
 

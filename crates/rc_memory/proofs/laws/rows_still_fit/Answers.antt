@@ -1,3 +1,4 @@
+use Rattle.rc_memory.specs.laws.Rows.{fit-split}
 use Rattle.rc_memory.specs.laws.Rules.{fit-fewer, fit-more, fit-none}
 use Rattle.rc_memory.proofs.laws.rows_still_fit.Goals as goal
 
@@ -9,3 +10,6 @@ returns-clause-none c = λ s. fit-none s
 
 pub returns-clause-more : goal.returns-clause-more
 returns-clause-more c = λ s vs flag pt phase room h. fit-more s vs flag pt phase room h
+
+pub returns-clause-split : goal.returns-clause-split
+returns-clause-split c = λ s j x vs fits h. fit-split s j x vs fits h
