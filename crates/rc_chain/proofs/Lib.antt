@@ -4,3 +4,4 @@ mod Snapshots
 mod Living
 mod Made
 mod Gone
+mod Making

@@ -76,6 +76,7 @@ told-memory S slots v old new counts m o h t = record {
     listed = h.held.listed;
     stands = h.held.stands;
     recency = h.held.recency;
+    roots = h.held.roots;
     dropped = refl;
     counted = h.held.counted;
   };

@@ -12,9 +12,9 @@ ghost use Rattle.rc_memory.specs.Memory.{KeptChain, Member, HasChain, HasVersion
 ghost use Rattle.lsa_move.specs.Room.{Compactions, IsCompacted, Tight};
 ghost use Rattle.lsa_store.specs.Stock.{sparse_of};
 ghost use Rattle.rc_core.specs.Steps.{MayPopulate, pin_at};
-ghost use Rattle.rc_core.specs.Version.{Version};
+ghost use Rattle.rc_core.specs.Version.{Version, IsVersion};
 ghost use Rattle.rc_memory.specs.Recency.{IsRecency, MayBeListed, MustBeListed};
-ghost use Rattle.rc_memory.specs.Changes.{Nowhere, StandStill};
+ghost use Rattle.rc_memory.specs.Changes.{Nowhere, OfVersion, StandStill};
 ghost use Rattle.rc_memory.specs.laws.One.{memory-prop};
 
 use lsa_list::List;
@@ -106,6 +106,7 @@ impl<const S: usize> Chains<S> {
         ensures sound { (id : ℕ) → IfSome (chain_at self.now id) (λ k. IsSoundChain k.chain) }
         ensures rule { IsRecency self.now }
         ensures fit { ChainsFit S self.now }
+        ensures versions { (id j : ℕ) → OfVersion self.now id j (λ k v. IsVersion v) }
         ensures live { live_bytes self.now.region ≡ sum_by chain_bytes (present self.now.chains) }
         ensures objects { objects self.now.region ≡ sum_by chain_objects (present self.now.chains) }
         ensures each { (r : Name) → IsSome (body self.now.region r) → ((id : ℕ) × (j : ℕ) × IsVersionObject self.now id j r) ⊎ ((w : Member) × IsMemberObject self.now r w) }

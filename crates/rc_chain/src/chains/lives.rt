@@ -38,6 +38,7 @@ impl<const S: usize> Chains<S> {
         ensures spare { IfOk result (λ id. spare_of S self.old.region.usages ≤ spare_of S self.new.region.usages + 152) }
         ensures err { OnErr result (IsSameButSlots self.old self.new) }
     {
+        self.region.known();
         let root = self.region.add_root(self.alloc)?;
         match self.registry.insert(root, kind) {
             Ok(id) => {

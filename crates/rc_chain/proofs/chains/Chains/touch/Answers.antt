@@ -1,4 +1,4 @@
-use Rattle.std.proofs.Common.{[], ◌∷◌, ◌++◌, sym, ap, ◌∙◌, arith}
+use Rattle.std.proofs.Common.{[], ◌∷◌, ◌++◌, sym, ap, subst, ◌∙◌, arith}
 use Rattle.lsa_region.specs.Region.{View, SameObjects}
 use Rattle.rc_memory.specs.Changes.{Nowhere, StandStill}
 use Rattle.rc_memory.specs.laws.Still.{still-listed}
