@@ -1,0 +1,2 @@
+-- Laws of chains as they are shown.
+pub mod Beside

@@ -1,0 +1,62 @@
+-- Shown chains with the update's place beside them.
+use Rattle.std.specs.Prelude.{◌≡◌, ℕ, Bool, true, false, Option, Some, None, cond, ◌++◌, ◌∷◌, []}
+use Rattle.std.proofs.Common.{refl, sym, ap, ◌∙◌, subst}
+use Rattle.rc_position.specs.Position.{Head, Place}
+use Rattle.rc_core.specs.declared.entries.ChainKind.TheVariants.{Cache, Memtable}
+use Rattle.rc_core.specs.Chains.{Chain, IsUpdating, Shown, at_place}
+use Rattle.rc_core.specs.Continuity.{EachOf}
+use Rattle.rc_core.specs.Merge.{new_version}
+use Rattle.rc_core.specs.Steps.{IsChain, add_version, begin_update}
+use Rattle.rc_core.specs.Version.{IsVersion}
+use Rattle.rc_memory.specs.Kept.{IsSoundChain}
+use Rattle.rc_chain.specs.Lives.{is_cache, with_version_over}
+
+-- ---- the place beside
+
+-- where a place stands beside, the chain says so
+pub beside-true : (b : Bool) (p : Place) → IsUpdating (cond b (Some p) None) → b ≡ true
+beside-true true p u = refl
+beside-true false p u = absurd u
+
+-- that a place stands beside does not depend on where it is
+pub beside-other : (b : Bool) (p q : Place) → IsUpdating (cond b (Some p) None) → IsUpdating (cond b (Some q) None)
+beside-other true p q u = u
+beside-other false p q u = u
+
+pub beside-none : (b : Bool) (p : Place) → b ≡ false → ◌≡◌ {A = Option Place} (cond b (Some p) None) None
+beside-none b p e = ap (λ d. cond d (Some p) None) e
+
+pub beside-some : (b : Bool) (p : Place) → b ≡ true → ◌≡◌ {A = Option Place} (cond b (Some p) None) (Some p)
+beside-some b p e = ap (λ d. cond d (Some p) None) e
+
+-- ---- the chain
+
+pub shown-form : (p : Place) (c : Shown) → IsSoundChain c → EachOf IsVersion c.versions → IsChain (at_place p c)
+shown-form p c s vs = record { versions = vs; pins = s.pins; unpinned = λ u j on. s.unpinned (beside-true c.updating p u) j on }
+
+pub anywhere-form : (p q : Place) (c : Shown) → IsChain (at_place p c) → IsChain (at_place q c)
+anywhere-form p q c ch = record { versions = ch.versions; pins = ch.pins; unpinned = λ u j on. ch.unpinned (beside-other c.updating q p u) j on }
+
+-- where no update stands in it the place is nowhere
+pub anywhere-same : (p q : Place) (c : Shown) → c.updating ≡ false → at_place p c ≡ at_place q c
+anywhere-same p q c e = λ i. record { kind = c.kind; versions = c.versions; attached = c.attached; updating = (beside-none c.updating p e ∙ sym (beside-none c.updating q e)) i; pins = c.pins }
+
+-- ---- a version put over
+
+pub added-beside : (p : Place) (phase : ℕ) (c : Shown) → c.kind ≡ Memtable → c.updating ≡ false → at_place p (with_version_over phase c) ≡ add_version None phase (at_place p c)
+added-beside p phase c k e = λ i. record {
+  kind = c.kind;
+  versions = c.versions ++ (new_version None phase ∷ []);
+  attached = c.attached;
+  updating = (beside-none (is_cache c.kind) p (ap is_cache k) ∙ sym (beside-none c.updating p e)) i;
+  pins = c.pins;
+}
+
+pub begun-beside : (p : Place) (phase : ℕ) (c : Shown) → c.kind ≡ Cache → at_place Head (with_version_over phase c) ≡ begin_update phase (at_place p c)
+begun-beside p phase c k = λ i. record {
+  kind = c.kind;
+  versions = c.versions ++ (new_version None phase ∷ []);
+  attached = c.attached;
+  updating = beside-some (is_cache c.kind) Head (ap is_cache k) i;
+  pins = c.pins;
+}
