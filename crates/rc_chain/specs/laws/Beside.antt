@@ -1,15 +1,17 @@
 -- Shown chains with the update's place beside them.
-use Rattle.std.specs.Prelude.{◌≡◌, ℕ, Bool, true, false, Option, Some, None, cond, ◌++◌, ◌∷◌, []}
-use Rattle.std.proofs.Common.{refl, sym, ap, ◌∙◌, subst}
+use Rattle.std.specs.Prelude.{◌≡◌, ◌-◌, ℕ, suc, Bool, true, false, Option, Some, None, cond, length, ◌++◌, ◌∷◌, []}
+use Rattle.std.proofs.Common.{refl, sym, ap, ◌∙◌, subst, arith}
 use Rattle.rc_position.specs.Position.{Head, Place}
+use Rattle.rc_core.specs.declared.entries.ChainKind.{ChainKind}
 use Rattle.rc_core.specs.declared.entries.ChainKind.TheVariants.{Cache, Memtable}
 use Rattle.rc_core.specs.Chains.{Chain, IsUpdating, Shown, at_place}
 use Rattle.rc_core.specs.Continuity.{EachOf}
 use Rattle.rc_core.specs.Merge.{new_version}
-use Rattle.rc_core.specs.Steps.{IsChain, add_version, begin_update}
+use Rattle.rc_core.specs.Steps.{IsChain, IsSnapshotOf, add_version, begin_update, on_newest, with_phase, with_updating}
 use Rattle.rc_core.specs.Version.{IsVersion}
 use Rattle.rc_memory.specs.Kept.{IsSoundChain}
-use Rattle.rc_chain.specs.Lives.{is_cache, with_version_over}
+use Rattle.rc_memory.specs.Memory.{KeptChain, on_shown, shown_with, snapshot_number}
+use Rattle.rc_chain.specs.Lives.{is_cache, relabelled, with_version_over}
 
 -- ---- the place beside
 
@@ -60,3 +62,41 @@ begun-beside p phase c k = λ i. record {
   updating = beside-some (is_cache c.kind) Head (ap is_cache k) i;
   pins = c.pins;
 }
+
+-- what holds of a chain of either kind
+pub by-kind : (P : Type 0) (kind : ChainKind) → (kind ≡ Memtable → P) → (kind ≡ Cache → P) → P
+by-kind P Memtable m c = m refl
+by-kind P Cache m c = c refl
+
+-- ---- an update that is over
+
+-- under update or not
+pub by-updating : (P : Type 0) (b : Bool) → (b ≡ true → P) → (b ≡ false → P) → P
+by-updating P true t f = t refl
+by-updating P false t f = f refl
+
+pub settled-same : (p : Place) (c : Shown) → c.updating ≡ false → at_place p c ≡ with_updating None (at_place p c)
+settled-same p c e = λ i. record { kind = c.kind; versions = c.versions; attached = c.attached; updating = beside-none c.updating p e i; pins = c.pins }
+
+-- ---- another phase
+
+-- a detached chain is as it was
+pub relabelled-by : (P : KeptChain → Type 0) (phase : ℕ) (k : KeptChain) → (k.chain.attached ≡ true → P (on_shown (λ c. shown_with (on_newest (with_phase phase) c.versions) c) k)) → P k → P (relabelled phase k)
+relabelled-by P phase k f h = by k.chain.attached refl
+  where
+    by : (b : Bool) → k.chain.attached ≡ b → P (cond b (on_shown (λ c. shown_with (on_newest (with_phase phase) c.versions) c) k) k)
+    by true e = f e
+    by false e = h
+
+-- ---- snapshots
+
+pub snapshot-is : (p : Place) (c : Shown) → IsSoundChain c → IsSnapshotOf (at_place p c) (snapshot_number c)
+snapshot-is p c s = by c.updating refl
+  where
+    by : (b : Bool) → c.updating ≡ b → (◌≡◌ {A = Option Place} (cond b (Some p) None) None → suc (cond b (length c.versions - 2) (length c.versions - 1)) ≡ length c.versions) × (IsUpdating (cond b (Some p) None) → suc (suc (cond b (length c.versions - 2) (length c.versions - 1))) ≡ length c.versions)
+    by true e = ((λ n. let u : Some p ≡ None = n in absurd (cc)), (λ _. omega (arith, s.below e)))
+    by false e = ((λ _. omega (arith, s.some)), (λ u. absurd u))
+
+-- no update stands in a memtable's chain
+pub memtable-settled : (c : Shown) → IsSoundChain c → c.kind ≡ Memtable → c.updating ≡ false
+memtable-settled c s m = by-updating (c.updating ≡ false) c.updating (λ e. let u : Memtable ≡ Cache = sym m ∙ s.cached e in absurd (cc)) (λ e. e)
