@@ -1,2 +1,3 @@
 -- Laws of chains as they are shown.
 pub mod Beside
+pub mod Numbered

@@ -1,10 +1,11 @@
 -- Shown chains with the update's place beside them.
-use Rattle.std.specs.Prelude.{◌≡◌, ◌-◌, ℕ, suc, Bool, true, false, Option, Some, None, cond, length, ◌++◌, ◌∷◌, []}
-use Rattle.std.proofs.Common.{refl, sym, ap, ◌∙◌, subst, arith}
+use Rattle.std.specs.Prelude.{◌≡◌, ◌-◌, ◌<◌, ℕ, suc, Bool, true, false, Option, Some, None, cond, length, ◌++◌, ◌∷◌, []}
+use Rattle.std.proofs.Common.{refl, sym, ap, ◌∙◌, ⊎_elim, arith}
 use Rattle.rc_position.specs.Position.{Head, Place}
 use Rattle.rc_core.specs.declared.entries.ChainKind.{ChainKind}
 use Rattle.rc_core.specs.declared.entries.ChainKind.TheVariants.{Cache, Memtable}
-use Rattle.rc_core.specs.Chains.{Chain, IsUpdating, Shown, at_place}
+use Rattle.rc_core.specs.Chains.{IsNeeded, IsPinned, IsUpdating, Shown, at_place}
+use Rattle.rc_core.specs.Free.{IsAbandoned}
 use Rattle.rc_core.specs.Continuity.{EachOf}
 use Rattle.rc_core.specs.Merge.{new_version}
 use Rattle.rc_core.specs.Steps.{IsChain, IsSnapshotOf, add_version, begin_update, on_newest, with_phase, with_updating}
@@ -31,6 +32,11 @@ beside-none b p e = ap (λ d. cond d (Some p) None) e
 pub beside-some : (b : Bool) (p : Place) → b ≡ true → ◌≡◌ {A = Option Place} (cond b (Some p) None) (Some p)
 beside-some b p e = ap (λ d. cond d (Some p) None) e
 
+-- where a chain is under update, and where it is not
+pub updating-or-not : (P : Type 0) (b : Bool) → (b ≡ true → P) → (b ≡ false → P) → P
+updating-or-not P true t f = t refl
+updating-or-not P false t f = f refl
+
 -- ---- the chain
 
 pub shown-form : (p : Place) (c : Shown) → IsSoundChain c → EachOf IsVersion c.versions → IsChain (at_place p c)
@@ -42,6 +48,18 @@ anywhere-form p q c ch = record { versions = ch.versions; pins = ch.pins; unpinn
 -- where no update stands in it the place is nowhere
 pub anywhere-same : (p q : Place) (c : Shown) → c.updating ≡ false → at_place p c ≡ at_place q c
 anywhere-same p q c e = λ i. record { kind = c.kind; versions = c.versions; attached = c.attached; updating = (beside-none c.updating p e ∙ sym (beside-none c.updating q e)) i; pins = c.pins }
+
+-- nobody finds or reads a sound chain that is detached and not pinned
+pub abandoned-is : (p : Place) (c : Shown) → IsSoundChain c → c.attached ≡ false → ((j : ℕ) → IsPinned c.pins j → ⊥) → IsAbandoned (at_place p c)
+abandoned-is p c s gone free = record {
+  detached = gone;
+  settled = updating-or-not (◌≡◌ {A = Option Place} (cond c.updating (Some p) None) None) c.updating (λ u. let e : false ≡ true = sym gone ∙ s.attached u in absurd (cc)) (λ u. beside-none c.updating p u);
+  unpinned = free;
+}
+
+-- nobody needs a version that nobody pins, which is not the newest, nor the one below the newest under update
+pub unneeded-is : (p : Place) (c : Shown) (j : ℕ) → (IsPinned c.pins j → ⊥) → suc j < length c.versions → (c.updating ≡ true → suc (suc j) < length c.versions) → IsNeeded (at_place p c) j → ⊥
+unneeded-is p c j free low inner need = ⊎_elim free (λ h. ⊎_elim (λ a. omega (arith, a.1, low)) (λ u. omega (arith, u.1, inner (beside-true c.updating p u.0))) h) need
 
 -- ---- a version put over
 
@@ -63,17 +81,12 @@ begun-beside p phase c k = λ i. record {
   pins = c.pins;
 }
 
--- what holds of a chain of either kind
-pub by-kind : (P : Type 0) (kind : ChainKind) → (kind ≡ Memtable → P) → (kind ≡ Cache → P) → P
-by-kind P Memtable m c = m refl
-by-kind P Cache m c = c refl
+-- where it is a memtable's, and where a cache chain
+pub either-kind : (P : Type 0) (kind : ChainKind) → (kind ≡ Memtable → P) → (kind ≡ Cache → P) → P
+either-kind P Memtable m c = m refl
+either-kind P Cache m c = c refl
 
 -- ---- an update that is over
-
--- under update or not
-pub by-updating : (P : Type 0) (b : Bool) → (b ≡ true → P) → (b ≡ false → P) → P
-by-updating P true t f = t refl
-by-updating P false t f = f refl
 
 pub settled-same : (p : Place) (c : Shown) → c.updating ≡ false → at_place p c ≡ with_updating None (at_place p c)
 settled-same p c e = λ i. record { kind = c.kind; versions = c.versions; attached = c.attached; updating = beside-none c.updating p e i; pins = c.pins }
@@ -99,4 +112,4 @@ snapshot-is p c s = by c.updating refl
 
 -- no update stands in a memtable's chain
 pub memtable-settled : (c : Shown) → IsSoundChain c → c.kind ≡ Memtable → c.updating ≡ false
-memtable-settled c s m = by-updating (c.updating ≡ false) c.updating (λ e. let u : Memtable ≡ Cache = sym m ∙ s.cached e in absurd (cc)) (λ e. e)
+memtable-settled c s m = updating-or-not (c.updating ≡ false) c.updating (λ e. let u : Memtable ≡ Cache = sym m ∙ s.cached e in absurd (cc)) (λ e. e)

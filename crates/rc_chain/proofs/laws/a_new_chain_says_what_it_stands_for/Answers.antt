@@ -1,5 +1,5 @@
-use Rattle.std.specs.Prelude.{◌≡◌, ◌≢◌, ◌∷◌, [], ℕ, List, None, Option, Some}
-use Rattle.std.proofs.Common.{refl, inl}
+use Rattle.std.specs.Prelude.{◌≡◌, [], ℕ, None, Option, Some}
+use Rattle.std.proofs.Common.{refl}
 use Rattle.rc_cell.specs.declared.writes.Tomb.{Tomb}
 use Rattle.rc_position.specs.Position.{Place}
 use Rattle.rc_mutation.specs.Source.{source_at_static, static_rows}
