@@ -1,3 +1,3 @@
 -- Laws of chains as they are shown.
-pub mod Beside
+pub mod PlaceBeside
 pub mod Numbered

@@ -11,7 +11,7 @@ use Rattle.rc_core.specs.Version.{Version}
 use Rattle.rc_core.specs.laws.Merged.{all_but-parts}
 use Rattle.rc_core.specs.laws.Standing.{NewestIs-back}
 use Rattle.rc_memory.specs.Memory.{IsVersionAt, on_version_of, shown_without}
-use Rattle.rc_chain.specs.laws.Beside.{beside-none, updating-or-not}
+use Rattle.rc_chain.specs.laws.PlaceBeside.{beside-none, updating-or-not}
 
 -- ---- one version changed
 

@@ -2,7 +2,7 @@ use Rattle.std.proofs.Common.{refl}
 use Rattle.rc_core.specs.Chains.{IsChainContinuous, at_place}
 use Rattle.rc_core.specs.Merge.{IsSeenAlike}
 use Rattle.rc_core.specs.Steps.{IsCarriedIn, IsChain}
-use Rattle.rc_chain.specs.laws.Beside.{relabelled-by}
+use Rattle.rc_chain.specs.laws.PlaceBeside.{relabelled-by}
 use Rattle.rc_chain.proofs.laws.a_relabelled_chain_keeps_what_is_said.Goals as goal
 
 pub returns : goal.returns

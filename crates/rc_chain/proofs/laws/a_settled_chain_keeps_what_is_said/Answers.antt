@@ -3,7 +3,7 @@ use Rattle.std.proofs.Common.{subst}
 use Rattle.rc_position.specs.Position.{End}
 use Rattle.rc_core.specs.Chains.{IsChainContinuous, at_place}
 use Rattle.rc_core.specs.Steps.{IsCarriedIn, with_updating}
-use Rattle.rc_chain.specs.laws.Beside.{beside-some, updating-or-not, settled-same}
+use Rattle.rc_chain.specs.laws.PlaceBeside.{beside-some, updating-or-not, settled-same}
 use Rattle.rc_chain.proofs.laws.a_settled_chain_keeps_what_is_said.Goals as goal
 
 pub returns : goal.returns

@@ -1,5 +1,5 @@
 use Rattle.std.proofs.Common.{refl}
-use Rattle.rc_chain.specs.laws.Beside.{abandoned-is, added-beside, anywhere-form, begun-beside, shown-form, unneeded-is}
+use Rattle.rc_chain.specs.laws.PlaceBeside.{abandoned-is, added-beside, anywhere-form, begun-beside, shown-form, unneeded-is}
 use Rattle.rc_chain.proofs.laws.a_shown_chain_is_a_chain_with_its_place.Goals as goal
 
 pub returns : goal.returns

@@ -12,7 +12,7 @@ use Rattle.rc_core.specs.SpotState.{SpotState, through, joined_state}
 use Rattle.rc_core.specs.Merge.{Alike}
 use Rattle.rc_core.specs.Steps.{on_version}
 use Rattle.rc_core.specs.Version.{Version, state_at, state_of, static_state}
-use Rattle.rc_chain.specs.laws.Beside.{beside-none}
+use Rattle.rc_chain.specs.laws.PlaceBeside.{beside-none}
 use Rattle.rc_chain.specs.laws.Numbered.{newest-stays, replaced-beside, said-alike}
 use Rattle.rc_chain.proofs.laws.a_split_version_keeps_what_is_said.Goals as goal
 

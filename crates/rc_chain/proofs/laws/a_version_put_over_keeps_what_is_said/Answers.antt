@@ -4,7 +4,7 @@ use Rattle.rc_position.specs.Position.{Head}
 use Rattle.rc_core.specs.Chains.{IsChainContinuous, IsMemtableChain, at_place, phase_at}
 use Rattle.rc_core.specs.Steps.{IsCarriedIn, IsChain}
 use Rattle.rc_chain.specs.Lives.{with_version_over}
-use Rattle.rc_chain.specs.laws.Beside.{added-beside, anywhere-form, begun-beside, beside-none, either-kind}
+use Rattle.rc_chain.specs.laws.PlaceBeside.{added-beside, anywhere-form, begun-beside, beside-none, either-kind}
 use Rattle.rc_chain.proofs.laws.a_version_put_over_keeps_what_is_said.Goals as goal
 
 pub returns : goal.returns

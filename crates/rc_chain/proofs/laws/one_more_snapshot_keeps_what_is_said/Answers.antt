@@ -2,7 +2,7 @@ use Rattle.rc_core.specs.Chains.{at_place}
 use Rattle.rc_core.specs.Steps.{pinned}
 use Rattle.rc_core.specs.laws.Pins.{pinned-or-new}
 use Rattle.rc_memory.specs.Memory.{snapshot_number}
-use Rattle.rc_chain.specs.laws.Beside.{beside-none, memtable-settled, snapshot-is}
+use Rattle.rc_chain.specs.laws.PlaceBeside.{beside-none, memtable-settled, snapshot-is}
 use Rattle.rc_chain.proofs.laws.one_more_snapshot_keeps_what_is_said.Goals as goal
 
 pub returns : goal.returns
