@@ -29,7 +29,7 @@ ghost use Rattle.rc_core.specs.Merge.{IsSeenAlike, IsSilent};
 ghost use Rattle.rc_core.specs.Parts.{IsFirstPart};
 ghost use Rattle.rc_core.specs.SpotState.{joined_state, through};
 ghost use Rattle.rc_core.specs.StandsFor.{StandsFor};
-ghost use Rattle.rc_core.specs.Steps.{IsCarriedIn, IsChain, IsSnapshotOf, add_version, begin_update, detach, drop_version, free_number, join_flagged_statics, join_pt, new_chain, on_newest, opened_version, pin_at, pinned, range_joined, release, released, renumbered, row_joined, set_flags, set_static_flag, set_statics, set_tombs, snapshot, version_of, with_flags, with_newest, with_phase, with_tombs, with_updating, with_version};
+ghost use Rattle.rc_core.specs.Steps.{IsCarriedIn, IsChain, IsSnapshotOf, MayPopulate, add_version, begin_update, detach, drop_version, free_number, join_flagged_statics, join_pt, new_chain, on_newest, opened_version, pin_at, pinned, range_joined, release, released, renumbered, row_joined, set_flags, set_static_flag, set_statics, set_tombs, snapshot, version_of, with_flags, with_newest, with_phase, with_tombs, with_updating, with_version};
 ghost use Rattle.rc_core.specs.Version.{IsBeforeEnd, IsVersion, On, Spot, Version, end_position, found, seen, state_at, state_of, static_state};
 ghost use Rattle.rc_units.specs.Chained.{objects_of};
 ghost use Rattle.rc_version.specs.Versions.{raised_between};
@@ -83,10 +83,12 @@ use rc_units::laws::chaining::{
     a_shown_chain_says_whether_it_is_under_update, what_is_put_over_is_not_seen_below,
 };
 
-/// A shown chain with the update's place beside it is a chain of the core, and what a call does to the one is an operation on the other. That it is a chain does not depend on the place; nor does whether anybody finds or reads it, or needs a version of it.
+/// A shown chain with the update's place beside it is a chain of the core, and what a call does to the one is an operation on the other. That it is a chain does not depend on the place; nor does whether a snapshot may populate, or whether anybody finds or reads it, or needs a version of it; and where no update stands in it nothing does.
 pub fn a_shown_chain_is_a_chain_with_its_place()
     ensures sound { (p : Place) (c : Shown) → IsSoundChain c → EachOf IsVersion c.versions → IsChain (at_place p c) }
     ensures anywhere { (p q : Place) (c : Shown) → IsChain (at_place p c) → IsChain (at_place q c) }
+    ensures settled { (p q : Place) (c : Shown) → c.updating ≡ false → at_place p c ≡ at_place q c }
+    ensures fills { (p q : Place) (c : Shown) (pin : ℕ) → MayPopulate (at_place p c) pin → MayPopulate (at_place q c) pin }
     ensures abandoned { (p : Place) (c : Shown) → IsSoundChain c → c.attached ≡ false → ((j : ℕ) → IsPinned c.pins j → ⊥) → IsAbandoned (at_place p c) }
     ensures unneeded { (p : Place) (c : Shown) (j : ℕ) → (IsPinned c.pins j → ⊥) → suc j < length c.versions → (c.updating ≡ true → suc (suc j) < length c.versions) → IsNeeded (at_place p c) j → ⊥ }
     ensures updating { (p : Place) (c : Shown) → IsTrue c.updating ↔ IsUpdating (at_place p c).updating }

@@ -8,7 +8,7 @@ use Rattle.rc_core.specs.Chains.{IsNeeded, IsPinned, IsUpdating, Shown, at_place
 use Rattle.rc_core.specs.Free.{IsAbandoned}
 use Rattle.rc_core.specs.Continuity.{EachOf}
 use Rattle.rc_core.specs.Merge.{new_version}
-use Rattle.rc_core.specs.Steps.{IsChain, IsSnapshotOf, add_version, begin_update, on_newest, with_phase, with_updating}
+use Rattle.rc_core.specs.Steps.{IsChain, IsSnapshotOf, MayPopulate, add_version, begin_update, on_newest, with_phase, with_updating}
 use Rattle.rc_core.specs.Version.{IsVersion}
 use Rattle.rc_memory.specs.Kept.{IsSoundChain}
 use Rattle.rc_memory.specs.Memory.{KeptChain, on_shown, shown_with, snapshot_number}
@@ -48,6 +48,15 @@ anywhere-form p q c ch = record { versions = ch.versions; pins = ch.pins; unpinn
 -- where no update stands in it the place is nowhere
 pub anywhere-same : (p q : Place) (c : Shown) → c.updating ≡ false → at_place p c ≡ at_place q c
 anywhere-same p q c e = λ i. record { kind = c.kind; versions = c.versions; attached = c.attached; updating = (beside-none c.updating p e ∙ sym (beside-none c.updating q e)) i; pins = c.pins }
+
+pub anywhere-fills : (p q : Place) (c : Shown) (pin : ℕ) → MayPopulate (at_place p c) pin → MayPopulate (at_place q c) pin
+anywhere-fills p q c pin m = record {
+  newest = m.newest;
+  attached = m.attached;
+  settled = updating-or-not (◌≡◌ {A = Option Place} (cond c.updating (Some q) None) None) c.updating
+      (λ u. let e : ◌≡◌ {A = Option Place} (Some p) None = sym (beside-some c.updating p u) ∙ m.settled in absurd (cc))
+      (λ u. beside-none c.updating q u);
+}
 
 -- nobody finds or reads a sound chain that is detached and not pinned
 pub abandoned-is : (p : Place) (c : Shown) → IsSoundChain c → c.attached ≡ false → ((j : ℕ) → IsPinned c.pins j → ⊥) → IsAbandoned (at_place p c)
