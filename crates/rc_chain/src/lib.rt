@@ -2,6 +2,7 @@
 #![tactic(auto)]
 
 mod chains;
+pub mod laws;
 
 pub use chains::{Chains, Snap};
 pub use rc_core::ChainKind;

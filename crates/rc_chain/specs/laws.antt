@@ -1,0 +1,3 @@
+-- Laws of chains as they are shown.
+pub mod PlaceBeside
+pub mod Numbered
