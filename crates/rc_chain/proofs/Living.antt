@@ -27,7 +27,8 @@ use Rattle.rc_memory.specs.Changes.{IsUnmoved, LastIsListed, Nowhere, StandStill
 use Rattle.rc_memory.specs.laws.Changed.{of-stays}
 use Rattle.rc_memory.specs.laws.Places.{no_some, same_some, version-there}
 use Rattle.rc_memory.specs.laws.Standing.{stand-each}
-use Rattle.rc_chain.proofs.Reading.{chain-stands, some_of}
+use Rattle.rc_chain.specs.Lives.{IsSameButSlots}
+use Rattle.rc_chain.proofs.Reading.{chain-stands, chain-used, some_of}
 use Rattle.rc_memory.specs.laws.At.{no-use}
 
 -- a version stands at a number of a chain
@@ -133,3 +134,11 @@ settled-last m id settled k j v at e under number last = absurd (false-true (sym
   where
     false-true : false ≡ true → ⊥
     false-true x = cc x
+
+-- all is the same where nothing changed
+pub slots-itself : (m : Memory) → IsSameButSlots m m
+slots-itself m = record { same = refl; region = record { bodies = λ r. refl; spots = λ r. refl; usages = refl; epoch = refl; moved = refl; compacted = refl } }
+
+-- the kind of a chain is that of its use
+pub kind-used : (slots : Slots) (v : View) (registry : Registry) (counts : Counts) (m : Memory) (h : HoldMemory slots v registry counts m) (id : ℕ) (k : KeptChain) (u : Use) → chain_at m id ≡ Some k → use_at registry.uses id ≡ Some u → k.chain.kind ≡ u.kind
+kind-used slots v registry counts m h id k u e got = ap (λ (x : KeptChain). x.chain.kind) (chain-used slots v registry counts m h id k u e got).3

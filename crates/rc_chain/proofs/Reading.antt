@@ -45,6 +45,7 @@ module _ (slots : Slots) (v : View) (registry : Registry) (counts : Counts) (m :
     pub front : List PartitionEntry
     pub back : List PartitionEntry
     pub same : k ≡ chain_of_use u partition
+    pub root : partition.root ≡ u.root
     pub at : slice_index_or m.standing id None ≡ Some partition
     pub stands : AreStanding slots v (front ++ (partition_of u.root partition.versions ∷ back)) h.listed
 
@@ -56,6 +57,7 @@ module _ (slots : Slots) (v : View) (registry : Registry) (counts : Counts) (m :
         front = among.front;
         back = among.back;
         same = a.3;
+        root = a.2;
         at = a.1;
         stands = subst (λ ps. AreStanding slots v ps h.listed) (among.split ∙ ap (λ r. among.front ++ (partition_of r a.0.versions ∷ among.back)) a.2) h.stands;
       }
