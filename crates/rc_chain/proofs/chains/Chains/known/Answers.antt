@@ -1,5 +1,5 @@
-use Rattle.std.proofs.Common.{◌≡◌, ℕ, inl, inr, sym, subst}
-use Rattle.std.specs.Prelude.{IsSomeAnd, ◌⊎◌}
+use Rattle.std.proofs.Common.{◌≡◌, ℕ, inl, inr, sym, subst, sum_by}
+use Rattle.std.specs.Prelude.{IsSome, IsSomeAnd, ◌⊎◌}
 use Rattle.lsa_store.specs.declared.place.Ref.{Ref}
 use Rattle.lsa_region.specs.Region.{View, HasLayout, IsWell, body, live_bytes, objects}
 use Rattle.rc_registry.specs.Registry.{AreOnce, IsNumberIn}
