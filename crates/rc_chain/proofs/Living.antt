@@ -27,7 +27,7 @@ use Rattle.rc_memory.specs.Changes.{IsUnmoved, LastIsListed, Nowhere, StandStill
 use Rattle.rc_memory.specs.laws.Changed.{of-stays}
 use Rattle.rc_memory.specs.laws.Places.{no_some, same_some, version-there}
 use Rattle.rc_memory.specs.laws.Standing.{stand-each}
-use Rattle.rc_chain.specs.Lives.{IsSameButSlots}
+use Rattle.rc_chain.specs.Lives.{IsBare, IsSameButSlots}
 use Rattle.rc_chain.proofs.Reading.{chain-stands, chain-used, some_of}
 use Rattle.rc_memory.specs.laws.At.{no-use}
 
@@ -37,7 +37,7 @@ pub record IsStandingAt (m : Memory) (id j : ℕ) (s : StandingVersion) : Type 0
   pub chain : slice_index_or m.standing id None ≡ Some partition
   pub number : IsVersionAt partition.versions j s
 
-versioned : (o : Option PartitionEntry) (j : ℕ) (n : Ref) → IsSomeAnd o (λ p. (s : StandingVersion) × IsVersionAt p.versions j s × (s.object ≡ n)) → (p : PartitionEntry) × (s : StandingVersion) × (o ≡ Some p) × IsVersionAt p.versions j s × (s.object ≡ n)
+pub versioned : (o : Option PartitionEntry) (j : ℕ) (n : Ref) → IsSomeAnd o (λ p. (s : StandingVersion) × IsVersionAt p.versions j s × (s.object ≡ n)) → (p : PartitionEntry) × (s : StandingVersion) × (o ≡ Some p) × IsVersionAt p.versions j s × (s.object ≡ n)
 versioned None j n is = absurd is
 versioned (Some p) j n is = (p, is.0, refl, is.1, is.2)
 
@@ -142,3 +142,19 @@ slots-itself m = record { same = refl; region = record { bodies = λ r. refl; sp
 -- the kind of a chain is that of its use
 pub kind-used : (slots : Slots) (v : View) (registry : Registry) (counts : Counts) (m : Memory) (h : HoldMemory slots v registry counts m) (id : ℕ) (k : KeptChain) (u : Use) → chain_at m id ≡ Some k → use_at registry.uses id ≡ Some u → k.chain.kind ≡ u.kind
 kind-used slots v registry counts m h id k u e got = ap (λ (x : KeptChain). x.chain.kind) (chain-used slots v registry counts m h id k u e got).3
+
+-- a chain of which something holds is there
+pub has-chain : (m : Memory) (id : ℕ) (P : KeptChain → Type 0) → IsSomeAnd (chain_at m id) P → IsSome (chain_at m id)
+has-chain m id P h = of (chain_at m id) h
+  where
+    of : (o : Option KeptChain) → IsSomeAnd o P → IsSome o
+    of None h = absurd h
+    of (Some k) h = refl
+
+-- the only version of a chain is its version of the number 0
+pub only-version : (m : Memory) (id : ℕ) → IsSomeAnd (chain_at m id) (λ k. (v : Version) × (k.chain.versions ≡ v ∷ []) × IsBare v) → IsSomeAnd (chain_at m id) (λ k. (v : Version) × IsVersionAt k.chain.versions 0 v × IsBare v)
+only-version m id h = of (chain_at m id) h
+  where
+    of : (o : Option KeptChain) → IsSomeAnd o (λ k. (v : Version) × (k.chain.versions ≡ v ∷ []) × IsBare v) → IsSomeAnd o (λ k. (v : Version) × IsVersionAt k.chain.versions 0 v × IsBare v)
+    of None h = absurd h
+    of (Some k) h = (h.0, record { older = []; newer = []; split = h.1; number = refl }, h.2)
