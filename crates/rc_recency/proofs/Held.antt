@@ -75,9 +75,12 @@ module _ (slots : Slots) (v : View) (registry : Registry) (counts : Counts) (m :
   -- an object at a place is of a version of a chain
   pub version-of-member : (k : KeptChain) × IsHeldVersion slots v registry counts m id j k a.version.version a.version.object
   version-of-member =
-      let user = used-at registry.uses m.standing m.chains id a.partition h.kept a.chain in (chain_of_use user.used a.partition, record {
-        held = h;
-        chain = user.chain;
-        number = number-mapped (λ (x : StandingVersion). x.version) a.partition.versions j a.version a.number;
-        object = found_at (slice_index_or m.standing id None) a.partition a.version a.chain a.number;
-      })
+      let user = used-at registry.uses m.standing m.chains id a.partition h.kept a.chain in (
+        chain_of_use user.used a.partition,
+        record {
+          held = h;
+          chain = user.chain;
+          number = number-mapped (λ (x : StandingVersion). x.version) a.partition.versions j a.version a.number;
+          object = found_at (slice_index_or m.standing id None) a.partition a.version a.chain a.number;
+        },
+      )

@@ -138,7 +138,9 @@ pub made-anew : (slots : Slots) (old mid next last : View) (registry : Registry)
 made-anew slots old mid next last registry counts m n w r kind id j f these h first t changed list held here second holds off = (
   listed_as (list_with kind w n.recency) last n,
   holds,
-  (then-listed slots registry counts id j f these next last m n (list_with kind w n.recency) held second holds.well (listed-then slots registry counts id j f these old mid m n t.list h first t.held.well changed),
-  subst (λ l. IsRenewed kind w m.recency (list_with kind w l)) (sym list) (renewed kind w m.recency t.list t.without off),
-  member-listed slots next last registry counts n (list_with kind w n.recency) held second holds.well r w here),
+  (
+    then-listed slots registry counts id j f these next last m n (list_with kind w n.recency) held second holds.well (listed-then slots registry counts id j f these old mid m n t.list h first t.held.well changed),
+    subst (λ l. IsRenewed kind w m.recency (list_with kind w l)) (sym list) (renewed kind w m.recency t.list t.without off),
+    member-listed slots next last registry counts n (list_with kind w n.recency) held second holds.well r w here,
+  ),
 )

@@ -20,8 +20,7 @@ take_found-requires g c = let q = c.requires in let old = c.args.region.now in
 pub set_static-requires : goal.set_static-requires
 set_static-requires g c =
     let q = c.requires in let h = q.8 in let old = c.args.region.now in let mid = c.take_found.new.region in
-    let t = c.take_found.ensures.taken q.0 q.1 q.2 (member q.3 q.4 None) h.held (static-found c.args.list.now old q.0 q.1 q.2 q.3 q.4 q.5 q.6 c.args.v h c.static_row.result c.static_row.ensures.named) in
-    (
+    let t = c.take_found.ensures.taken q.0 q.1 q.2 (member q.3 q.4 None) h.held (static-found c.args.list.now old q.0 q.1 q.2 q.3 q.4 q.5 q.6 c.args.v h c.static_row.result c.static_row.ensures.named) in (
       omega arith,
       (
         (mid-entries c.args.list.now old mid q.0 q.1 q.2 q.3 q.4 q.5 q.6 c.args.v h None t, q.6, stands-mid c.args.list.now old mid q.0 q.1 q.2 q.3 q.4 q.5 q.6 c.args.v h None t),
