@@ -1,9 +1,6 @@
-use Rattle.std.proofs.Common.{Some, subst, arith}
-use Rattle.rc_core.specs.Change.{joined_onto}
+use Rattle.std.proofs.Common.{Some, arith}
 use Rattle.rc_core.specs.Steps.{row_joined}
-use Rattle.rc_core.specs.Version.{On, seen}
 use Rattle.rc_position.specs.Position.{row_pos}
-use Rattle.rc_object.specs.Objects.{entry_length}
 use Rattle.rc_version.specs.Versions.{joined_bytes}
 use Rattle.rc_memory.specs.Changes.{AtAlone, member}
 use Rattle.rc_memory.specs.Memory.{listed_as}
