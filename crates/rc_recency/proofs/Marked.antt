@@ -20,7 +20,7 @@ use Rattle.rc_memory.specs.Changes.{IsVersionChanged, Nowhere, member}
 use Rattle.rc_memory.specs.Kept.{HoldMemory}
 use Rattle.rc_recency.specs.Holding.{HoldsAfter, IsHeldVersion}
 use Rattle.rc_recency.proofs.Aligned.{positions}
-use Rattle.rc_recency.proofs.Held.{own-object, standing-as, stands, version-of-member}
+use Rattle.rc_recency.specs.laws.Held.{own-object, standing-as, stands, version-of-member}
 use Rattle.rc_recency.proofs.Made.{later-same}
 
 -- a raised tombstone takes no bytes

@@ -22,7 +22,7 @@ use Rattle.rc_memory.specs.Kept.{HoldMemory}
 use Rattle.rc_memory.specs.laws.Listed.{unlisted-at}
 use Rattle.rc_recency.specs.Holding.{HoldsAfter, IsHeldVersion, IsOffMemtable, IsRelisted, IsTakenOff, list_with}
 use Rattle.rc_recency.proofs.Changed.{version-unchanged}
-use Rattle.rc_recency.proofs.Held.{entry-found, own-member, standing-as, stands}
+use Rattle.rc_recency.specs.laws.Held.{entry-found, own-member, standing-as, stands}
 use Rattle.rc_recency.proofs.Made.{IsLater, IsLaterWith, later-split}
 use Rattle.rc_recency.proofs.Relisted.{held-listed, listed-then, made-anew, member-listed, renewed-none, then-listed}
 

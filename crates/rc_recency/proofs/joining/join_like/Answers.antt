@@ -6,7 +6,7 @@ use Rattle.rc_version.specs.Versions.{joined_bytes}
 use Rattle.rc_version.specs.laws.Objects.{holds-same, static-same}
 use Rattle.rc_memory.specs.Changes.{AtAlone, member}
 use Rattle.rc_memory.specs.Memory.{listed_as}
-use Rattle.rc_recency.proofs.Held.{entry-found, standing-as, stands, static-found}
+use Rattle.rc_recency.specs.laws.Held.{entry-found, standing-as, stands, static-found}
 use Rattle.rc_recency.proofs.Made.{later-joined, later-static-with}
 use Rattle.rc_recency.proofs.Renewed.{held-mid, held-renewed, mid-entries, off-later, room-kept, spare-kept, stands-mid, unlisted-mid}
 use Rattle.rc_recency.proofs.joining.join_like.Goals as goal

@@ -4,7 +4,7 @@ use Rattle.rc_rowcode.specs.Objects.{static_size}
 use Rattle.rc_core.specs.Steps.{set_statics}
 use Rattle.rc_memory.specs.Changes.{AtAlone, member}
 use Rattle.rc_memory.specs.Memory.{listed_as}
-use Rattle.rc_recency.proofs.Held.{standing-as, stands, static-found}
+use Rattle.rc_recency.specs.laws.Held.{standing-as, stands, static-found}
 use Rattle.rc_recency.proofs.Made.{later-static-with}
 use Rattle.rc_recency.proofs.Renewed.{held-mid, held-renewed, mid-entries, off-later, spare-kept, stands-mid, unlisted-mid}
 use Rattle.rc_recency.proofs.statics.set_static.Goals as goal
