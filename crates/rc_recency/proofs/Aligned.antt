@@ -1,11 +1,9 @@
 -- Objects beside positions: which stands where, once an object came among them, took the place of another one, or went.
-use Rattle.std.proofs.Common.{◌≡◌, ◌≢◌, ◌⊎◌, ℕ, suc, Bool, true, false, cond, List, [], ◌∷◌, ◌++◌, length, inl, inr, refl, sym, ap, ◌∙◌, subst, map, arith}
+use Rattle.std.proofs.Common.{◌≡◌, ◌≢◌, ◌⊎◌, suc, Bool, true, false, cond, List, [], ◌∷◌, ◌++◌, length, inl, inr, refl, sym, ap, ◌∙◌, subst, map, arith}
 use Rattle.std.specs.Prelude.{Contains, IsTrue, ⊤}
 use Rattle.std.specs.Cmp.{tied_itself}
 use Rattle.std.specs.Ordering.{eq_by_cmp}
-use Rattle.std.specs.declared.cmp.Ordering.{Ordering}
 use Rattle.std.specs.declared.cmp.Ordering.TheVariants.{Less, Equal, Greater}
-use Rattle.rc_cell.specs.declared.rows.Row.{Row}
 use Rattle.rc_position.specs.declared.positions.Pos.{Pos}
 use Rattle.rc_position.specs.Position.{IsBefore, pos_cmp}
 use Rattle.rc_position.specs.laws.Orders.{eq_by_cmp-same, pos_cmp_same, pos_cmp_total}
@@ -14,7 +12,7 @@ use Rattle.lsa_region.specs.Region.{View}
 use Rattle.lsa_tree.specs.Entries.{AreAscending, IsEntryAtPosition, StandsLater}
 use Rattle.lsa_tree.specs.laws.Orders.{all-at, behind-at, not-both, stands-once}
 use Rattle.rc_core.specs.AtPlace.{HasEntryAt}
-use Rattle.rc_core.specs.Change.{at_entry, dummy, split, split_by, take_out, with_first_gap, with_row}
+use Rattle.rc_core.specs.Change.{at_entry, split, split_by, take_out, with_first_gap}
 use Rattle.rc_core.specs.declared.entries.Entry.{Entry}
 use Rattle.rc_core.specs.declared.entries.Mark.{Mark}
 use Rattle.rc_object.specs.Objects.{HoldsEntry}

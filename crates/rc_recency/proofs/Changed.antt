@@ -19,7 +19,7 @@ use Rattle.rc_memory.specs.laws.Put.{put-at, put-same}
 use Rattle.rc_memory.specs.laws.Recent.{on-is}
 use Rattle.rc_memory.specs.laws.Still.{is-changed, still-itself, unmoved-itself}
 use Rattle.rc_recency.specs.Holding.{IsHeldVersion}
-use Rattle.rc_recency.proofs.Held.{standing-as, IsStandingAs}
+use Rattle.rc_recency.specs.laws.Held.{standing-as, IsStandingAs}
 
 module _ (slots : Slots) (v : View) (registry : Registry) (counts : Counts) (m : Memory) (id j : ℕ) (k : KeptChain) (c : Version) (n : Ref) (h : IsHeldVersion slots v registry counts m id j k c n) (f : Version → Version) where
   -- where the version is what it was nothing changed

@@ -1,5 +1,4 @@
 mod Aligned
-mod Held
 mod Changed
 mod Marked
 mod Likes

@@ -1,5 +1,5 @@
 -- A memory after an object of a version was made, made anew, or taken out.
-use Rattle.std.proofs.Common.{◌≡◌, ◌≢◌, ◌⊎◌, ℕ, List, [], ◌∷◌, ◌++◌, Option, Some, None, inl, inr, refl, sym, ap, ◌∙◌, subst}
+use Rattle.std.proofs.Common.{◌≡◌, ◌≢◌, ◌⊎◌, ℕ, List, ◌∷◌, ◌++◌, Option, Some, None, inl, inr, refl, sym, ap, ◌∙◌, subst}
 use Rattle.std.specs.Prelude.{Contains}
 use Rattle.rc_cell.specs.declared.rows.Row.{Row}
 use Rattle.rc_position.specs.declared.positions.Pos.{Pos}
@@ -25,7 +25,7 @@ use Rattle.rc_memory.specs.laws.Entries.{here-split}
 use Rattle.rc_recency.specs.Holding.{IsHeldVersion}
 use Rattle.rc_recency.proofs.Aligned.{IsPutAt, positions, positions-at, positions-split, positions-taken, stay-gone, stay-held, stay-joined, stay-same}
 use Rattle.rc_recency.proofs.Changed.{changed-later, held-later, later, member-later}
-use Rattle.rc_recency.proofs.Held.{own-object, standing-as, stands}
+use Rattle.rc_recency.specs.laws.Held.{own-object, standing-as, stands}
 
 -- another memory is held, with the version changed and the same recency list
 pub record IsLater (slots : Slots) (v : View) (registry : Registry) (counts : Counts) (id j : ℕ) (f : Version → Version) (these : Member → Type 0) (m : Memory) : Type 0 where

@@ -1,5 +1,5 @@
 -- A memory after marks or the head of a version changed, which take no bytes.
-use Rattle.std.proofs.Common.{◌≡◌, ℕ, ◌+◌, List, [], ◌∷◌, Some, refl, sym, ap, ◌∙◌, map}
+use Rattle.std.proofs.Common.{◌≡◌, ℕ, ◌+◌, List, [], ◌∷◌, Some, refl, sym, ap, map}
 use Rattle.std.specs.Prelude.{Contains}
 use Rattle.rc_cell.specs.declared.writes.Tomb.{Tomb}
 use Rattle.rc_position.specs.declared.positions.Pos.{Pos}
@@ -20,8 +20,8 @@ use Rattle.rc_memory.specs.Changes.{IsVersionChanged, Nowhere, member}
 use Rattle.rc_memory.specs.Kept.{HoldMemory}
 use Rattle.rc_recency.specs.Holding.{HoldsAfter, IsHeldVersion}
 use Rattle.rc_recency.proofs.Aligned.{positions}
-use Rattle.rc_recency.proofs.Held.{own-object, standing-as, stands, version-of-member}
-use Rattle.rc_recency.proofs.Made.{IsLater, later-same}
+use Rattle.rc_recency.specs.laws.Held.{own-object, standing-as, stands, version-of-member}
+use Rattle.rc_recency.proofs.Made.{later-same}
 
 -- a raised tombstone takes no bytes
 pub raised-bytes : (from to : Pos) (tomb : Tomb) (c : Version) → version_bytes (raised_between from to tomb c) ≡ version_bytes c

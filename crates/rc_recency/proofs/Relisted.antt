@@ -1,7 +1,6 @@
 -- A memory after the recency list changed, and after a version of a chain changed as well.
-use Rattle.std.proofs.Common.{◌≡◌, ◌≢◌, ◌⊎◌, ℕ, zero, suc, List, [], ◌∷◌, ◌++◌, Option, Some, None, length, inl, inr, refl, sym, ap, ◌∙◌, subst, slice_index_or, arith}
-use Rattle.std.specs.Prelude.{Contains, IsSomeAnd}
-use Rattle.rc_position.specs.declared.positions.Pos.{Pos}
+use Rattle.std.proofs.Common.{◌≡◌, ◌≢◌, ℕ, zero, suc, List, [], ◌∷◌, ◌++◌, Some, None, inl, inr, refl, sym, ◌∙◌, subst, arith}
+use Rattle.std.specs.Prelude.{Contains}
 use Rattle.lsa_store.specs.declared.place.Ref.{Ref}
 use Rattle.lsa_region.specs.declared.end.End.{End}
 use Rattle.lsa_region.specs.declared.end.End.TheVariants.{Obj}
@@ -9,21 +8,16 @@ use Rattle.lsa_region.specs.Region.{View, link_of, IsWell, SameObjects}
 use Rattle.lsa_list.specs.declared.recency.List.{List as Slots}
 use Rattle.lsa_list.specs.Recency.{HasRecency, IsElsewhere, IsList}
 use Rattle.lsa_list.specs.laws.Lists.{listed-set}
-use Rattle.lsa_tree.specs.laws.Trees.{stands-same}
 use Rattle.rc_core.specs.declared.entries.ChainKind.{ChainKind}
 use Rattle.rc_core.specs.declared.entries.ChainKind.TheVariants.{Cache, Memtable}
 use Rattle.rc_core.specs.Version.{Version}
-use Rattle.rc_version.specs.Versions.{IsUnlisted, IsVersionOf}
-use Rattle.rc_version.specs.laws.Marked.{marked-objects, marked-then}
-use Rattle.rc_version.specs.laws.Staying.{version-kind}
-use Rattle.rc_partition.specs.Partitions.{StandingVersion}
+use Rattle.rc_version.specs.Versions.{IsUnlisted}
 use Rattle.rc_partition.specs.laws.Apart.{row-recency}
-use Rattle.rc_partition.specs.laws.Listed.{version-elsewhere}
 use Rattle.rc_partition.specs.laws.Lists.{elem-here, elem-split}
 use Rattle.rc_registry.specs.Registry.{Registry}
 use Rattle.rc_memory.specs.declared.counts.Counts.{Counts}
-use Rattle.rc_memory.specs.Memory.{KeptChain, Member, Memory, IsMemberObject, IsObjectAt, IsOfVersion, listed_as}
-use Rattle.rc_memory.specs.Changes.{IsRenewed, IsUnmoved, IsVersionChanged, IsWithout, Nowhere, StandStill}
+use Rattle.rc_memory.specs.Memory.{KeptChain, Member, Memory, IsMemberObject, IsObjectAt, listed_as}
+use Rattle.rc_memory.specs.Changes.{IsRenewed, IsVersionChanged, IsWithout}
 use Rattle.rc_memory.specs.Kept.{HoldMemory}
 use Rattle.rc_memory.specs.laws.Listed.{held-pushed, held-taken, list-at, unlisted-at}
 use Rattle.rc_memory.specs.laws.Listing.{listed-decided}
@@ -138,7 +132,9 @@ pub made-anew : (slots : Slots) (old mid next last : View) (registry : Registry)
 made-anew slots old mid next last registry counts m n w r kind id j f these h first t changed list held here second holds off = (
   listed_as (list_with kind w n.recency) last n,
   holds,
-  (then-listed slots registry counts id j f these next last m n (list_with kind w n.recency) held second holds.well (listed-then slots registry counts id j f these old mid m n t.list h first t.held.well changed),
-  subst (λ l. IsRenewed kind w m.recency (list_with kind w l)) (sym list) (renewed kind w m.recency t.list t.without off),
-  member-listed slots next last registry counts n (list_with kind w n.recency) held second holds.well r w here),
+  (
+    then-listed slots registry counts id j f these next last m n (list_with kind w n.recency) held second holds.well (listed-then slots registry counts id j f these old mid m n t.list h first t.held.well changed),
+    subst (λ l. IsRenewed kind w m.recency (list_with kind w l)) (sym list) (renewed kind w m.recency t.list t.without off),
+    member-listed slots next last registry counts n (list_with kind w n.recency) held second holds.well r w here,
+  ),
 )

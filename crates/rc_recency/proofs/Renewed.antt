@@ -1,33 +1,30 @@
 -- A memory after an object left the list, its version changed, and what was made came to the back of the list.
-use Rattle.std.proofs.Common.{◌≡◌, ◌≢◌, ℕ, ◌+◌, ◌≤◌, List, [], ◌∷◌, ◌++◌, Option, Some, None, refl, sym, ap, ◌∙◌, subst}
+use Rattle.std.proofs.Common.{◌≡◌, ℕ, ◌+◌, ◌≤◌, List, Option, Some, None, refl, sym, ap, subst}
 use Rattle.std.specs.Prelude.{Contains}
 use Rattle.rc_position.specs.declared.positions.Pos.{Pos}
 use Rattle.lsa_pool.specs.Room.{spare_of}
 use Rattle.lsa_store.specs.declared.place.Ref.{Ref}
 use Rattle.lsa_region.specs.Region.{View, IsSummed, IsWell}
 use Rattle.lsa_list.specs.declared.recency.List.{List as Slots}
-use Rattle.lsa_tree.specs.laws.Orders.{stands-once}
-use Rattle.lsa_tree.specs.Entries.{IsEntryAtPosition}
 use Rattle.rc_core.specs.Change.{split}
 use Rattle.rc_core.specs.Continuity.{with_entries}
 use Rattle.rc_core.specs.declared.entries.ChainKind.{ChainKind}
-use Rattle.rc_core.specs.declared.entries.Entry.{Entry}
 use Rattle.rc_core.specs.Version.{Version}
 use Rattle.rc_object.specs.Objects.{HasRoomFor}
-use Rattle.rc_version.specs.Versions.{IsEntryFound, IsKeptBut, IsSplit, IsStaticsOf, IsUnlisted, IsVersionOf}
+use Rattle.rc_version.specs.Versions.{IsEntryFound, IsSplit, IsUnlisted, IsVersionOf}
 use Rattle.rc_version.specs.laws.Found.{split-standing}
 use Rattle.rc_partition.specs.Partitions.{standing}
 use Rattle.rc_registry.specs.Registry.{Registry}
 use Rattle.rc_memory.specs.declared.counts.Counts.{Counts}
 use Rattle.rc_memory.specs.Memory.{KeptChain, Member, Memory, IsMemberObject, IsOfVersion, listed_as}
-use Rattle.rc_memory.specs.Changes.{AtAlone, IsRenewed, IsRenewedWhereNone, IsVersionChanged, IsWithout, Nowhere, member}
+use Rattle.rc_memory.specs.Changes.{IsRenewed, IsRenewedWhereNone, IsVersionChanged, IsWithout, Nowhere, member}
 use Rattle.rc_memory.specs.Kept.{HoldMemory}
 use Rattle.rc_memory.specs.laws.Listed.{unlisted-at}
 use Rattle.rc_recency.specs.Holding.{HoldsAfter, IsHeldVersion, IsOffMemtable, IsRelisted, IsTakenOff, list_with}
 use Rattle.rc_recency.proofs.Changed.{version-unchanged}
-use Rattle.rc_recency.proofs.Held.{entry-found, own-member, standing-as, stands}
+use Rattle.rc_recency.specs.laws.Held.{entry-found, own-member, standing-as, stands}
 use Rattle.rc_recency.proofs.Made.{IsLater, IsLaterWith, later-split}
-use Rattle.rc_recency.proofs.Relisted.{at-place, held-listed, listed-then, made-anew, member-listed, renewed-none, then-listed}
+use Rattle.rc_recency.proofs.Relisted.{held-listed, listed-then, made-anew, member-listed, renewed-none, then-listed}
 
 -- room is told by the segments' books
 pub room-kept : (S : ℕ) (old mid : View) (size space needed : ℕ) → mid.usages ≡ old.usages → HasRoomFor S old size space needed → HasRoomFor S mid size space needed

@@ -92,8 +92,8 @@ pub fn join_like<const S: usize>(
 {
     take_found(region, list, found_like(region, v, e));
     region.known();
-    let r = rc_version::join_like(region, v, e, sc);
+    let made = rc_version::join_like(region, v, e, sc);
     region.known();
-    push_cached(region, list, kind, r);
-    r
+    push_cached(region, list, kind, made);
+    made
 }

@@ -2,6 +2,7 @@
 #![tactic(auto)]
 
 mod joining;
+pub mod laws;
 mod listing;
 mod marking;
 mod splitting;

@@ -76,10 +76,10 @@ pub fn split_like<const S: usize>(
     match entry_like(region, v, e) {
         Some(r) => r,
         None => {
-            let r = rc_version::split_like(region, v, e, sc);
+            let made = rc_version::split_like(region, v, e, sc);
             region.known();
-            push_cached(region, list, kind, r);
-            r
+            push_cached(region, list, kind, made);
+            made
         }
     }
 }

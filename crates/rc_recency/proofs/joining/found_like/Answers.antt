@@ -1,5 +1,4 @@
-use Rattle.std.proofs.Common.{Some, is_some, inl, inr, ap, arith}
-use Rattle.std.specs.Prelude.{IsSomeAnd}
+use Rattle.std.proofs.Common.{is_some, inl, inr, ap, arith}
 use Rattle.lsa_path.specs.laws.Renamed.{some-there}
 use Rattle.lsa_region.specs.Region.{body}
 use Rattle.lsa_tree.specs.laws.Trees.{no_entry_at}

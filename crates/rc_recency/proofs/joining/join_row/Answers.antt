@@ -1,13 +1,10 @@
-use Rattle.std.proofs.Common.{Some, subst, arith}
-use Rattle.rc_core.specs.Change.{joined_onto}
+use Rattle.std.proofs.Common.{Some, arith}
 use Rattle.rc_core.specs.Steps.{row_joined}
-use Rattle.rc_core.specs.Version.{On, seen}
 use Rattle.rc_position.specs.Position.{row_pos}
-use Rattle.rc_object.specs.Objects.{entry_length}
 use Rattle.rc_version.specs.Versions.{joined_bytes}
 use Rattle.rc_memory.specs.Changes.{AtAlone, member}
 use Rattle.rc_memory.specs.Memory.{listed_as}
-use Rattle.rc_recency.proofs.Held.{entry-found, standing-as, stands}
+use Rattle.rc_recency.specs.laws.Held.{entry-found, standing-as, stands}
 use Rattle.rc_recency.proofs.Made.{later-joined}
 use Rattle.rc_recency.proofs.Renewed.{held-mid, held-renewed, mid-entries, off-later, room-kept, spare-kept, stands-mid, unlisted-mid}
 use Rattle.rc_recency.proofs.joining.join_row.Goals as goal
@@ -24,12 +21,23 @@ take_found-requires g c = let q = c.requires.row in let h = q.8 in let old = c.a
 pub join_row-r-requires : goal.join_row-r-requires
 join_row-r-requires g c = let q = c.requires.row in let h = q.8 in let old = c.args.region.now in let mid = c.take_found.new.region in let x = row_pos c.args.key.now in
     let found = c.entry_at_key.ensures (standing-as c.args.list.now old q.0 q.1 q.2 q.3 q.4 q.5 q.6 c.args.v h).entries q.6 (stands c.args.list.now old q.0 q.1 q.2 q.3 q.4 q.5 q.6 c.args.v h) in
-    let t = c.take_found.ensures.taken q.0 q.1 q.2 (member q.3 q.4 (Some x)) h.held (entry-found c.args.list.now old q.0 q.1 q.2 q.3 q.4 q.5 q.6 c.args.v h x c.entry_at_key.result found) in
-    (omega arith, (c.requires.limits, (q.7, mid-entries c.args.list.now old mid q.0 q.1 q.2 q.3 q.4 q.5 q.6 c.args.v h (Some x) t, q.6, q.9, record {
-      version = stands-mid c.args.list.now old mid q.0 q.1 q.2 q.3 q.4 q.5 q.6 c.args.v h (Some x) t;
-      room = room-kept g.row.S old mid _ _ _ c.take_found.ensures.relisted.objects.usages q.10;
-      unlisted = λ r on at. unlisted-mid c.args.list.now old mid q.0 q.1 q.2 q.3 q.4 q.5 q.6 c.args.v h (Some x) t r (on, at);
-    })))
+    let t = c.take_found.ensures.taken q.0 q.1 q.2 (member q.3 q.4 (Some x)) h.held (entry-found c.args.list.now old q.0 q.1 q.2 q.3 q.4 q.5 q.6 c.args.v h x c.entry_at_key.result found) in (
+      omega arith,
+      (
+        c.requires.limits,
+        (
+          q.7,
+          mid-entries c.args.list.now old mid q.0 q.1 q.2 q.3 q.4 q.5 q.6 c.args.v h (Some x) t,
+          q.6,
+          q.9,
+          record {
+            version = stands-mid c.args.list.now old mid q.0 q.1 q.2 q.3 q.4 q.5 q.6 c.args.v h (Some x) t;
+            room = room-kept g.row.S old mid _ _ _ c.take_found.ensures.relisted.objects.usages q.10;
+            unlisted = λ r on at. unlisted-mid c.args.list.now old mid q.0 q.1 q.2 q.3 q.4 q.5 q.6 c.args.v h (Some x) t r (on, at);
+          },
+        ),
+      ),
+    )
 
 pub push_cached-requires : goal.push_cached-requires
 push_cached-requires g c = let q = c.requires.row in let h = q.8 in let old = c.args.region.now in let mid = c.take_found.new.region in let next = c.join_row-r.new.region in let x = row_pos c.args.key.now in

@@ -3,7 +3,7 @@ use Rattle.rc_core.specs.Change.{changed, raised_mark}
 use Rattle.std.proofs.Common.{Some}
 use Rattle.rc_version.specs.Versions.{raised_between}
 use Rattle.rc_recency.proofs.Aligned.{positions-each}
-use Rattle.rc_recency.proofs.Held.{standing-as, stands}
+use Rattle.rc_recency.specs.laws.Held.{standing-as, stands}
 use Rattle.rc_recency.proofs.Marked.{held-marked, raised-bytes}
 use Rattle.rc_recency.proofs.marking.raise.Goals as goal
 

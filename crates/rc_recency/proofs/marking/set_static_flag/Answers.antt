@@ -1,6 +1,6 @@
 use Rattle.std.proofs.Common.{refl, arith}
 use Rattle.rc_core.specs.Steps.{set_static_flag}
-use Rattle.rc_recency.proofs.Held.{standing-as, stands}
+use Rattle.rc_recency.specs.laws.Held.{standing-as, stands}
 use Rattle.rc_recency.proofs.Marked.{held-rewritten}
 use Rattle.rc_recency.proofs.marking.set_static_flag.Goals as goal
 

@@ -8,7 +8,7 @@ use Rattle.rc_core.specs.Version.{end_position}
 use Rattle.rc_version.specs.Versions.{IsVersionOf}
 use Rattle.rc_memory.specs.Changes.{AtAlone, member}
 use Rattle.rc_memory.specs.Memory.{listed_as}
-use Rattle.rc_recency.proofs.Held.{own-object}
+use Rattle.rc_recency.specs.laws.Held.{own-object}
 use Rattle.rc_recency.proofs.Made.{later-dropped}
 use Rattle.rc_recency.proofs.Relisted.{member-listed}
 use Rattle.rc_recency.proofs.Renewed.{held-mid, held-without, stands-mid}

@@ -2,7 +2,7 @@ use Rattle.std.proofs.Common.{◌+◌, ◌≤◌, Some, sym, subst, arith}
 use Rattle.rc_rowcode.specs.Objects.{dummy_size}
 use Rattle.lsa_pool.specs.Room.{spare_of}
 use Rattle.rc_memory.specs.Changes.{member}
-use Rattle.rc_recency.proofs.Held.{standing-as, stands}
+use Rattle.rc_recency.specs.laws.Held.{standing-as, stands}
 use Rattle.rc_recency.proofs.Renewed.{split-made, split-off, split-pushed, split-there}
 use Rattle.rc_recency.proofs.splitting.split.Goals as goal
 

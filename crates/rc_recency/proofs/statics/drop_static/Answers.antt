@@ -3,7 +3,7 @@ use Rattle.lsa_pool.specs.Room.{spare_of}
 use Rattle.rc_core.specs.Continuity.{without_statics}
 use Rattle.rc_memory.specs.Changes.{AtAlone, member}
 use Rattle.rc_memory.specs.Memory.{listed_as}
-use Rattle.rc_recency.proofs.Held.{standing-as, stands, static-found}
+use Rattle.rc_recency.specs.laws.Held.{standing-as, stands, static-found}
 use Rattle.rc_recency.proofs.Made.{later-static}
 use Rattle.rc_recency.proofs.Renewed.{held-mid, held-without, mid-entries, stands-mid, unlisted-mid}
 use Rattle.rc_recency.proofs.statics.drop_static.Goals as goal

@@ -4,7 +4,7 @@ use Rattle.rc_rowcode.specs.Objects.{static_size}
 use Rattle.rc_core.specs.Steps.{set_statics}
 use Rattle.rc_memory.specs.Changes.{AtAlone, member}
 use Rattle.rc_memory.specs.Memory.{listed_as}
-use Rattle.rc_recency.proofs.Held.{standing-as, stands, static-found}
+use Rattle.rc_recency.specs.laws.Held.{standing-as, stands, static-found}
 use Rattle.rc_recency.proofs.Made.{later-static-with}
 use Rattle.rc_recency.proofs.Renewed.{held-mid, held-renewed, mid-entries, off-later, spare-kept, stands-mid, unlisted-mid}
 use Rattle.rc_recency.proofs.statics.set_static.Goals as goal
@@ -20,8 +20,7 @@ take_found-requires g c = let q = c.requires in let old = c.args.region.now in
 pub set_static-requires : goal.set_static-requires
 set_static-requires g c =
     let q = c.requires in let h = q.8 in let old = c.args.region.now in let mid = c.take_found.new.region in
-    let t = c.take_found.ensures.taken q.0 q.1 q.2 (member q.3 q.4 None) h.held (static-found c.args.list.now old q.0 q.1 q.2 q.3 q.4 q.5 q.6 c.args.v h c.static_row.result c.static_row.ensures.named) in
-    (
+    let t = c.take_found.ensures.taken q.0 q.1 q.2 (member q.3 q.4 None) h.held (static-found c.args.list.now old q.0 q.1 q.2 q.3 q.4 q.5 q.6 c.args.v h c.static_row.result c.static_row.ensures.named) in (
       omega arith,
       (
         (mid-entries c.args.list.now old mid q.0 q.1 q.2 q.3 q.4 q.5 q.6 c.args.v h None t, q.6, stands-mid c.args.list.now old mid q.0 q.1 q.2 q.3 q.4 q.5 q.6 c.args.v h None t),

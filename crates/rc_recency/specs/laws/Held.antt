@@ -1,7 +1,6 @@
 -- A version of a chain by its object: how it stands in the region, and which objects stand at its places.
-use Rattle.std.proofs.Common.{◌≡◌, ℕ, zero, suc, List, [], ◌∷◌, ◌++◌, Option, Some, None, length, refl, sym, ap, ◌∙◌, subst, map, slice_index_or}
-use Rattle.std.specs.Prelude.{Contains, IfSome, IsSomeAnd}
-use Rattle.std.proofs.lemmas.List.{map-append}
+use Rattle.std.proofs.Common.{◌≡◌, ℕ, List, Option, Some, None, refl, sym, ap, ◌∙◌, subst, map, slice_index_or}
+use Rattle.std.specs.Prelude.{Contains, IsSomeAnd}
 use Rattle.rc_position.specs.declared.positions.Pos.{Pos}
 use Rattle.lsa_store.specs.declared.place.Ref.{Ref}
 use Rattle.lsa_region.specs.Region.{View}
@@ -11,7 +10,7 @@ use Rattle.rc_version.specs.Versions.{IsEntryFound, IsStaticsOf, IsVersionOf}
 use Rattle.rc_partition.specs.Partitions.{PartitionEntry, StandingVersion, standing}
 use Rattle.rc_registry.specs.Registry.{Registry}
 use Rattle.rc_memory.specs.declared.counts.Counts.{Counts}
-use Rattle.rc_memory.specs.Memory.{KeptChain, Member, Memory, IsMemberObject, IsObjectAt, IsOfVersion, IsVersionAt, IsVersionObject, chain_at}
+use Rattle.rc_memory.specs.Memory.{KeptChain, Memory, IsMemberObject, IsObjectAt, IsOfVersion, IsVersionAt}
 use Rattle.rc_memory.specs.Changes.{member}
 use Rattle.rc_memory.specs.Kept.{HoldMemory, chain_of_use}
 use Rattle.rc_memory.specs.laws.At.{kept-at, number-mapped}
@@ -75,9 +74,12 @@ module _ (slots : Slots) (v : View) (registry : Registry) (counts : Counts) (m :
   -- an object at a place is of a version of a chain
   pub version-of-member : (k : KeptChain) × IsHeldVersion slots v registry counts m id j k a.version.version a.version.object
   version-of-member =
-      let user = used-at registry.uses m.standing m.chains id a.partition h.kept a.chain in (chain_of_use user.used a.partition, record {
-        held = h;
-        chain = user.chain;
-        number = number-mapped (λ (x : StandingVersion). x.version) a.partition.versions j a.version a.number;
-        object = found_at (slice_index_or m.standing id None) a.partition a.version a.chain a.number;
-      })
+      let user = used-at registry.uses m.standing m.chains id a.partition h.kept a.chain in (
+        chain_of_use user.used a.partition,
+        record {
+          held = h;
+          chain = user.chain;
+          number = number-mapped (λ (x : StandingVersion). x.version) a.partition.versions j a.version a.number;
+          object = found_at (slice_index_or m.standing id None) a.partition a.version a.chain a.number;
+        },
+      )

@@ -1,0 +1,3 @@
+-- Laws of versions of chains as they are held.
+pub mod Held
+pub mod Placed
