@@ -6,3 +6,5 @@ mod Made
 mod Gone
 mod Making
 mod Bare
+mod Ending
+mod Ended

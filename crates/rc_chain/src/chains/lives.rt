@@ -6,10 +6,11 @@ ghost use Rattle.rc_core.specs.Chains.{IsPinned};
 ghost use Rattle.rc_core.specs.Version.{Version, end_position};
 ghost use Rattle.rc_memory.specs.Memory.{KeptChain, Member, HasChain, HasVersion, IsMemberObject, IsVersionAt, chain_at, listed_as, on_chain, on_shown, shown_detached, shown_updating, with_chains};
 ghost use Rattle.rc_memory.specs.Recency.{IsLastInner, IsUnderUpdate, MustBeListed};
-ghost use Rattle.rc_memory.specs.Changes.{CanDrop, IsWithout, LastIsListed, NothingListed, OfVersion, member};
+ghost use Rattle.rc_memory.specs.Changes.{CanDrop, IsWithout, LastIsListed, Nowhere, NothingListed, OfVersion, StandStill, member};
 ghost use Rattle.rc_chain.specs.Lives.{IsBare, IsChainChanged, IsChainDropped, IsChainMade, IsEndListed, IsLastUnlisted, IsSameButSlots, IsVersionDropped, flag_of_new, with_end_listed, with_version_over};
 ghost use Rattle.rc_version.specs.Versions.{IsVersionOf};
 ghost use Rattle.lsa_region.specs.Region.{SameObjects};
+ghost use Rattle.lsa_tree.specs.Entries.{IsEntryAtPosition};
 ghost use Rattle.lsa_tree.specs.Search.{last_entry};
 ghost use Rattle.rc_core.specs.declared.entries.ChainKind.{ChainKind as Kind};
 ghost use Rattle.rc_position.specs.declared.positions.Pos.{Pos as Position};
@@ -17,11 +18,12 @@ ghost use Rattle.std.specs.Option.{option_to_list};
 
 use super::Chains;
 use lsa_region::{End, Ref, Region};
-use lsa_tree::{Place, Tree};
+use lsa_tree::Tree;
 use rc_cell::Tomb;
 use rc_core::{ChainKind, Flag};
 use rc_partition::{add_version, drop_version};
 use rc_position::{Key, Pos, Weight};
+use rc_version::entry_at;
 use std::alloc::{AllocError, Global};
 
 impl<const S: usize> Chains<S> {
@@ -143,7 +145,9 @@ impl<const S: usize> Chains<S> {
         ensures listed { OfVersion self.old id number (λ k v. (last : Option Member) × IsLastUnlisted id number v self.old.recency last × (self.new ≡ listed_as (self.old.recency ++ option_to_list last) self.new.region self.old)) }
         ensures there { OfVersion self.old id number (λ k v. (at : Option Position) → IsLastInner v at → Contains self.new.recency (member id number at)) }
         ensures objects { SameObjects self.old.region self.new.region }
+        ensures still { StandStill Nowhere self.old self.new }
     {
+        self.known();
         match self.last_inner(id, number) {
             None => {}
             Some(r) => {
@@ -184,9 +188,11 @@ impl<const S: usize> Chains<S> {
         ensures ended { (k : KeptChain) → chain_at self.old id ≡ Some k → (list : Sequence Member) × IsEndListed id k.chain self.old.recency list × IsChainChanged id (on_shown (shown_updating false)) list self.old self.new }
         ensures spare { spare_of S self.new.region.usages ≡ spare_of S self.old.region.usages }
     {
+        self.known();
         if self.is_updating(id) {
             let newest = self.versions(id) - 1;
             self.list_last(id, newest);
+            self.known();
             self.settle(id);
             let end = self.end_of(id, newest);
             self.list(end);
@@ -208,6 +214,7 @@ impl<const S: usize> Chains<S> {
         requires { (w : Member) × IsMemberObject self.old r w × (IsSomeAnd (chain_at self.old w.chain) (λ k. MustBeListed k.chain w.version w.position) → ⊥) }
         ensures taken { (w : Member) → IsMemberObject self.old r w → (list : Sequence Member) × IsWithout w self.old.recency list × (self.new ≡ listed_as list self.new.region self.old) }
         ensures objects { SameObjects self.old.region self.new.region }
+        ensures still { StandStill Nowhere self.old self.new }
     {
         if self.is_listed(r) {
             self.unlist(r);
@@ -241,19 +248,15 @@ fn flag_of_new(kind: ChainKind) -> Flag
 // The end dummy of a version, its last entry.
 fn end_entry<const S: usize>(region: &Region<S>, alloc: Global, v: Ref) -> Ref
     requires { (refs : Sequence Name) × (c : Version) × IsVersionOf region.now v refs c }
-    ensures { (refs : Sequence Name) (c : Version) → IsVersionOf region.now v refs c → (front : Sequence Name) × (refs ≡ front ++ (result ∷ [])) }
+    ensures { (refs : Sequence Name) (c : Version) → IsVersionOf region.now v refs c → (front : Sequence Name) × (refs ≡ front ++ (result ∷ [])) × IsEntryAtPosition region.now result end_position }
 {
-    let tree = Tree {
-        top: End::Obj(v, 2),
-    };
     let end = Pos {
         prefix: Key::empty(alloc),
         weight: Weight::After,
     };
-    match tree.locate(region, &end) {
-        Place::Here(r) => r,
-        Place::Before(_) => unreachable!(),
-        Place::Last => unreachable!(),
+    match entry_at(region, v, &end) {
+        Some(r) => r,
+        None => unreachable!(),
     }
 }
 

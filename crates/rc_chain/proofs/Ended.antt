@@ -1,0 +1,122 @@
+-- An update that has ended: what goes to the back of the recency list, and that it may.
+use Rattle.std.proofs.Common.{◌≡◌, ◌≢◌, ℕ, zero, suc, ◌<◌, ◌≤◌, Bool, true, false, List, [], ◌∷◌, ◌++◌, Option, Some, None, IsSome, IsTrue, length, inl, inr, refl, sym, ap, ◌∙◌, subst, map, slice_index_or, arith}
+use Rattle.std.specs.Prelude.{Contains, IfSome, IsSomeAnd}
+use Rattle.std.specs.Option.{option_map, option_to_list}
+use Rattle.std.proofs.lemmas.List.{append-nil}
+use Rattle.rc_position.specs.declared.positions.Pos.{Pos}
+use Rattle.rc_position.specs.Position.{IsBefore}
+use Rattle.lsa_store.specs.declared.place.Ref.{Ref}
+use Rattle.lsa_region.specs.Region.{View, SameObjects}
+use Rattle.rc_core.specs.AtPlace.{HasEntryAt}
+use Rattle.rc_core.specs.declared.entries.ChainKind.TheVariants.{Cache}
+use Rattle.rc_core.specs.declared.entries.Entry.{Entry}
+use Rattle.rc_core.specs.Chains.{Shown}
+use Rattle.rc_core.specs.Version.{Ascend, EndsWithDummy, Version, IsVersion, end_position}
+use Rattle.rc_core.specs.laws.Placed.{not_end}
+use Rattle.rc_partition.specs.laws.Lists.{elem-here, elem-still}
+use Rattle.rc_memory.specs.Memory.{KeptChain, Member, Memory, HasChain, HasVersion, IsMemberObject, IsVersionAt, chain_at, listed_as, on_chain, on_shown, shown_updating, with_chains}
+use Rattle.rc_memory.specs.Recency.{HasObject, IsLastInner, IsRecency, IsUnderUpdate, MayBeListed}
+use Rattle.rc_memory.specs.Kept.{IsSoundChain}
+use Rattle.rc_memory.specs.Changes.{IsUnmoved, LastIsListed, Nowhere, OfVersion, StandStill, member}
+use Rattle.rc_memory.specs.laws.At.{number-there}
+use Rattle.rc_memory.specs.laws.Listed.{one-at}
+use Rattle.rc_memory.specs.laws.Places.{heads, same_some, tails}
+use Rattle.rc_memory.specs.laws.Put.{put-at}
+use Rattle.rc_memory.specs.laws.Still.{still-then, unmoved-itself, unmoved-objects, unmoved-then}
+use Rattle.rc_chain.specs.Lives.{IsChainChanged, IsEndListed, IsLastUnlisted}
+use Rattle.rc_chain.proofs.Bare.{some-chain}
+
+-- ---- the last entry before the end
+
+short : (gs : List Entry) (e f : Entry) → [] ≡ gs ++ (e ∷ f ∷ []) → ⊥
+short [] e f h = cc h
+short (g ∷ gs) e f h = cc h
+
+one-short : (gs : List Entry) (x e f : Entry) → x ∷ [] ≡ gs ++ (e ∷ f ∷ []) → ⊥
+one-short [] x e f h = short [] f f (cc h)
+one-short (g ∷ gs) x e f h = short gs e f (tails x g [] (gs ++ (e ∷ f ∷ [])) h)
+
+two-last : (fs gs : List Entry) (a b c d : Entry) → fs ++ (a ∷ b ∷ []) ≡ gs ++ (c ∷ d ∷ []) → a ≡ c
+two-last [] [] a b c d h = heads a c (b ∷ []) (d ∷ []) h
+two-last [] (g ∷ gs) a b c d h = absurd (one-short gs b c d (tails a g (b ∷ []) (gs ++ (c ∷ d ∷ [])) h))
+two-last (f ∷ fs) [] a b c d h = absurd (one-short fs d a b (sym (tails f c (fs ++ (a ∷ b ∷ [])) (d ∷ []) h)))
+two-last (f ∷ fs) (g ∷ gs) a b c d h = two-last fs gs a b c d (tails f g (fs ++ (a ∷ b ∷ [])) (gs ++ (c ∷ d ∷ [])) h)
+
+-- there is one at most
+pub last-one : (v : Version) (a b : Option Pos) → IsLastInner v a → IsLastInner v b → a ≡ b
+last-one v a b h k = h.4 ∙ ap (λ (e : Entry). Some e.position) (two-last h.0 k.0 h.1 h.2 k.1 k.2 (sym h.3 ∙ k.3)) ∙ sym k.4
+
+has-among : (front : List Entry) (e : Entry) (back : List Entry) → HasEntryAt e.position (front ++ (e ∷ back))
+has-among [] e back = inl refl
+has-among (f ∷ front) e back = inr (has-among front e back)
+
+-- it is an object of the version
+pub last-there : (v : Version) (at : Option Pos) → IsLastInner v at → HasObject v at
+last-there v at h = subst (HasObject v) (sym h.4) (subst (HasEntryAt h.1.position) (sym h.3) (has-among h.0 h.1 (h.2 ∷ [])))
+
+ascend-last : (front : List Entry) (e f : Entry) → Ascend (front ++ (e ∷ f ∷ [])) → IsBefore e.position f.position
+ascend-last [] e f h = h.0
+ascend-last (g ∷ []) e f h = h.1.0
+ascend-last (g ∷ k ∷ front) e f h = ascend-last (k ∷ front) e f h.1
+
+ends-last : (front : List Entry) (e f : Entry) → EndsWithDummy (front ++ (e ∷ f ∷ [])) → f.position ≡ end_position
+ends-last [] e f h = h.0
+ends-last (g ∷ []) e f h = h.0
+ends-last (g ∷ k ∷ front) e f h = ends-last (k ∷ front) e f h
+
+-- and it is not the end dummy
+pub last-inside : (v : Version) (at : Option Pos) → IsVersion v → IsLastInner v at → at ≢ Some end_position
+last-inside v at is h e =
+    let before : IsBefore h.1.position end_position = subst (IsBefore h.1.position) (ends-last h.0 h.1 h.2 (subst EndsWithDummy h.3 is.ends)) (ascend-last h.0 h.1 h.2 (subst Ascend h.3 is.ascend)) in
+    not_end h.1.position before (same_position (sym h.4 ∙ e))
+  where
+    same_position : Some h.1.position ≡ Some end_position → h.1.position ≡ end_position
+    same_position k = cc k
+
+pub end-there : (v : Version) → IsVersion v → HasObject v (Some end_position)
+end-there v is = of v.entries is.ends
+  where
+    of : (es : List Entry) → EndsWithDummy es → HasEntryAt end_position es
+    of [] h = absurd h
+    of (e ∷ []) h = inl h.0
+    of (e ∷ f ∷ es) h = inr (of (f ∷ es) h)
+
+-- ---- a chain under update
+
+abbrev pub IsUnder : Memory → ℕ → ℕ → Type 0
+IsUnder m id j = IsSomeAnd (chain_at m id) (λ k. (k.chain.updating ≡ true) × (suc j ≡ length k.chain.versions))
+
+pub under-version : (m : Memory) (id j : ℕ) → IsUnder m id j → HasVersion m id j
+under-version m id j h = of (chain_at m id) h
+  where
+    of : (o : Option KeptChain) → IsSomeAnd o (λ k. (k.chain.updating ≡ true) × (suc j ≡ length k.chain.versions)) → IsSomeAnd o (λ k. j < length k.chain.versions)
+    of None h = absurd h
+    of (Some k) h = let e = h.1 in omega (arith, e)
+
+sound-of : (m : Memory) (id : ℕ) (k : KeptChain) → chain_at m id ≡ Some k → ((i : ℕ) → IfSome (chain_at m i) (λ q. IsSoundChain q.chain)) → IsSoundChain k.chain
+sound-of m id k e sound = subst (λ (o : Option KeptChain). IfSome o (λ q. IsSoundChain q.chain)) e (sound id)
+
+module _ (m : Memory) (sound : (i : ℕ) → IfSome (chain_at m i) (λ q. IsSoundChain q.chain)) (versions : (i j : ℕ) → OfVersion m i j (λ k v. IsVersion v)) (id j : ℕ) (under : IsUnder m id j) where
+  -- the last entry before the end may be listed
+  pub may-last : (at : Option Pos) → OfVersion m id j (λ k v. IsLastInner v at) → IsSomeAnd (chain_at m id) (λ k. MayBeListed k.chain j at)
+  may-last at last =
+      let k = some-chain (chain_at m id) (λ k. (k.chain.updating ≡ true) × (suc j ≡ length k.chain.versions)) under in let e = k.2.1 in
+      let v = number-there k.0.chain.versions j (omega (arith, e)) in
+      subst (λ (o : Option KeptChain). IsSomeAnd o (λ q. MayBeListed q.chain j at)) (sym k.1) (record {
+        cached = (sound-of m id k.0 k.1 sound).cached k.2.0;
+        version = v.0;
+        number = v.1;
+        object = last-there v.0 at (last k.0 v.0 k.1 v.1);
+        settled = λ u. last-inside v.0 at (versions id j k.0 v.0 k.1 v.1) (last k.0 v.0 k.1 v.1);
+      })
+
+-- ---- nothing changed
+
+pub same-objects : (v : View) → SameObjects v v
+same-objects v = record { bodies = λ r. refl; ends = λ e there. there; gone = λ e there. there; spots = λ r. refl; slots = refl; usages = refl; epoch = refl; moved = refl; compacted = refl }
+
+pub same-listed : (m : Memory) → m ≡ listed_as (m.recency ++ []) m.region m
+same-listed m = λ i. record { chains = m.chains; recency = sym (append-nil m.recency) i; dropped = m.dropped; counts = m.counts; region = m.region; standing = m.standing }
+
+pub true-false : (b : Bool) → b ≡ true → b ≡ false → ⊥
+true-false b t f = let clash : true ≡ false = sym t ∙ f in cc
