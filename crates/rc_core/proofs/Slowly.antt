@@ -20,8 +20,7 @@ use Rattle.rc_core.specs.declared.entries.Flag.TheVariants.{Known, Unknown, Inhe
 use Rattle.rc_core.specs.SpotState.{SpotState, spot_state, silent, over, under, through, joined_state}
 use Rattle.rc_core.specs.Chain.{decides, newer_first, states_at, content, flagged, flag_over, IsBare, IsKnown}
 use Rattle.rc_core.specs.Merge.{Alike}
-use Rattle.rc_core.specs.Version.{Spot, On, Behind, Version, static_state, state_of, entry_answers, found, seen, spot_cmp, end_position}
-use Rattle.rc_core.specs.Plain.{mark_state}
+use Rattle.rc_core.specs.Version.{Spot, On, Behind, Version, state_of, entry_answers, found, seen, spot_cmp, end_position}
 use Rattle.rc_core.specs.declared.entries.Entry.{Entry}
 use Rattle.rc_core.specs.declared.entries.ChainKind.{ChainKind}
 use Rattle.rc_core.specs.declared.slow.PlainVersion.{PlainVersion}
@@ -115,12 +114,11 @@ row_over below marked joined Unknown rows tombs a b = (b.0 ∙ a.0, b.1 ∙ row_
 row_over below marked joined Inherit rows tombs a b = (b.0 ∙ a.0, b.1 ∙ row_said marked (spot_state below.flag (below.rows ++ []) (below.tombs ++ tombs)) rows a.1 ∙ (λ i. (joined_row (append-nil below.rows i ++ rows), greatest tomb_cmp (below.tombs ++ tombs))))
 
 -- the entry at the place answers
-pub over_here : (below marked joined : SpotState) (s : Spot) (left all : List Entry) (first : Entry) → 1 ≤ length left → first ≡ get_or left 0 first → spot_cmp s first.position ≡ Equal → seen s left ≡ seen s all →
-    Alike marked (under below (mark_state first.at)) → Alike joined (spot_state marked.flag (marked.rows ++ option_to_list first.row) marked.tombs) → Alike joined (under below (state_of (seen s all)))
-over_here below marked joined s [] all first l e c h a b = absurd (omega (arith, l))
-over_here below marked joined s (x ∷ xs) all first l e c h a b =
-    subst (λ f. Alike joined (under below (state_of f))) (sym (ap (λ r. entry_answers r x (seen s xs)) (sym (ap (λ (y : Entry). spot_cmp s y.position) e) ∙ c) ∙ ap (λ (y : Entry). found y.at y.row) (sym e)) ∙ h)
-    (row_over below marked joined first.at.flag (option_to_list first.row) (option_to_list first.at.tomb) a b)
+pub over_here : (below joined : SpotState) (s : Spot) (left all : List Entry) (first : Entry) → 1 ≤ length left → first ≡ get_or left 0 first → spot_cmp s first.position ≡ Equal → seen s left ≡ seen s all →
+    Alike joined (under below (state_of (found first.at first.row))) → Alike joined (under below (state_of (seen s all)))
+over_here below joined s [] all first l e c h a = absurd (omega (arith, l))
+over_here below joined s (x ∷ xs) all first l e c h a =
+    subst (λ f. Alike joined (under below (state_of f))) (sym (ap (λ r. entry_answers r x (seen s xs)) (sym (ap (λ (y : Entry). spot_cmp s y.position) e) ∙ c) ∙ ap (λ (y : Entry). found y.at y.row) (sym e)) ∙ h) a
 
 pub laid_next : (seen next : SpotState) (f : Version → SpotState) (left : List PlainVersion) (first : PlainVersion) (all : SpotState) → 1 ≤ length left → first ≡ get_or left 0 first → Alike next (under seen (f (plain first))) →
     Alike (under seen (through (list_map f (list_map plain left)))) all → Alike (under next (through (list_map f (list_map plain (take (length left - 1) (drop 1 left)))))) all
@@ -129,10 +127,6 @@ laid_next seen next f (v ∷ vs) first all l e a h =
     subst (λ us. Alike (under next (through (list_map f (list_map plain us)))) all) (sym (take_rest (v ∷ vs) 1))
     (alike_trans (under next (through (list_map f (list_map plain vs)))) (under (under seen (f (plain first))) (through (list_map f (list_map plain vs)))) all (alike-above next (under seen (f (plain first))) (through (list_map f (list_map plain vs))) a)
     (subst (λ c. Alike c all) (sym (under-grouping seen (f (plain first)) (through (list_map f (list_map plain vs))) ∙ ap (λ u. under seen (under (f (plain u)) (through (list_map f (list_map plain vs))))) e)) h))
-
--- a static row under its flag
-pub statics_over : (below marked joined : SpotState) (v : PlainVersion) → Alike marked (under below (spot_state v.static_flag [] [])) → Alike joined (spot_state marked.flag (marked.rows ++ option_to_list v.statics) marked.tombs) → Alike joined (under below (static_state (plain v)))
-statics_over below marked joined v a b = row_over below marked joined v.static_flag (option_to_list v.statics) [] a b
 
 -- the greatest partition tombstone so far, with those of what is left
 pub head_next : (now next : Option Tomb) (left : List PlainVersion) (first : PlainVersion) (all : Option Tomb) → 1 ≤ length left → first ≡ get_or left 0 first → next ≡ greater tomb_cmp now first.pt →
@@ -150,8 +144,12 @@ pub head_last : (now : Option Tomb) (left : List PlainVersion) (all : Option Tom
 head_last now [] all l h = sym (tomb-alone now) ∙ ap (greatest tomb_cmp) (sym (append-nil (option_to_list now))) ∙ h
 head_last now (v ∷ vs) all l h = absurd (omega (arith, l))
 
-pub laid_first : (r : Row) (all : SpotState) → r ≡ empty_row → Alike (under (spot_state Inherit (r ∷ []) []) all) all
-laid_first r all e = alike_trans (under (spot_state Inherit (r ∷ []) []) all) (under silent all) all (alike-above (spot_state Inherit (r ∷ []) []) silent all (refl, λ i. ((ap (λ q. joined_row (q ∷ [])) e ∙ no_rows []) i, greatest tomb_cmp []))) (subst (λ c. Alike c all) (sym (under-below all)) (refl, refl))
+-- nothing yet, under all
+pub laid_first : (seen all : SpotState) → Alike seen silent → Alike (under seen all) all
+laid_first seen all h = alike_trans (under seen all) (under silent all) all (alike-above seen silent all h) (subst (λ c. Alike c all) (sym (under-below all)) (refl, refl))
+
+pub nothing : (r : Row) → r ≡ empty_row → Alike (spot_state Inherit (r ∷ []) []) silent
+nothing r e = (refl, λ i. ((ap (λ q. joined_row (q ∷ [])) e ∙ no_rows []) i, greatest tomb_cmp []))
 
 pub content_of : (seen : Seen) (row : Row) (tomb : Option Tomb) (cs : List SpotState) → Alike (seen_state seen) (through cs) → row ≡ joined_row (seen.row ∷ []) → tomb ≡ seen.tomb → ◌≡◌ {A = Row × Option Tomb} (row, tomb) (content cs)
 content_of seen row tomb cs a e f = (λ i. (e i, (f ∙ sym (tomb-alone seen.tomb)) i)) ∙ a.1 ∙ sym (content-through cs)

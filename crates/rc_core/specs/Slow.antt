@@ -1,11 +1,13 @@
 -- Plain vectors as the versions of the definitions.
-use Rattle.std.specs.Prelude.{[], ◌∷◌}
-use Rattle.std.specs.Option.{option_to_list}
+use Rattle.std.specs.Prelude.{◌≡◌, ◌↔◌, Bool, IsTrue, List, [], ◌∷◌, Option}
+use Rattle.std.specs.Option.{MatchOption, option_to_list}
 use Rattle.rc_position.specs.declared.positions.Pos.{Pos}
+use Rattle.rc_core.specs.declared.entries.ChainKind.{ChainKind}
 use Rattle.rc_core.specs.declared.slow.PlainVersion.{PlainVersion}
 use Rattle.rc_core.specs.declared.slow.Seen.{Seen}
 use Rattle.rc_core.specs.declared.slow.Side.{Side}
 use Rattle.rc_core.specs.declared.slow.Side.TheVariants as side
+use Rattle.rc_core.specs.Chain.{IsKnown, flagged, states_at}
 use Rattle.rc_core.specs.SpotState.{SpotState, spot_state}
 use Rattle.rc_core.specs.Version.{Spot, On, Behind, Version}
 
@@ -21,3 +23,7 @@ spot_at side.Behind x = Behind x
 -- what is seen, as a state
 abbrev pub seen_state : Seen → SpotState
 seen_state s = spot_state s.flag (s.row ∷ []) (option_to_list s.tomb)
+
+-- what is answered of a position by what is seen of it alone: whether it is known, or none where the gap behind it decides
+abbrev pub IsDecidedBy : ChainKind → List Version → Pos → Option Bool → Type 0
+IsDecidedBy kind versions x answer = MatchOption answer ((b : Bool) → b ≡ flagged kind (states_at (Behind x) versions) → IsTrue b ↔ IsKnown kind versions x) (λ b. IsTrue b ↔ IsKnown kind versions x)

@@ -17,6 +17,6 @@ pub use plain::{
     mark_of_lost, may_populate, merge_end, merge_head, put_down, raised_mark, release_pin,
 };
 pub use slow::{
-    PlainVersion, Seen, Side, base_at, first_part, head_of, is_flagged_at, is_known_at, seen_at,
-    statics_at,
+    PlainVersion, Seen, Side, as_one, base_at, first_part, head_of, is_flagged_at, is_known_at,
+    known_by, nothing_seen, seen_at, seen_over, statics_at,
 };

@@ -1,20 +1,20 @@
 //! Versions over one another as plain vectors, and slow functions that compute what the definitions of a chain say. They are for tests, and
 //! show that the definitions can be met.
 
-ghost use Rattle.std.specs.Prelude.{◌≡◌, ◌≢◌, ◌↔◌, ◌∷◌, [], IfOk, IsTrue, Option, map};
+ghost use Rattle.std.specs.Prelude.{◌≡◌, ◌≢◌, ◌↔◌, ◌∷◌, [], IfOk, IsTrue, List, Option, map};
 ghost use Rattle.std.specs.Option.{option_to_list};
 ghost use Rattle.rc_cell.specs.Orders.{tomb_cmp};
 ghost use Rattle.rc_cell.specs.Winner.{greatest, joined_row};
 ghost use Rattle.rc_position.specs.Position.{IsBefore, pos_cmp};
 ghost use Rattle.std.specs.declared.cmp.Ordering.TheVariants.{Greater};
 ghost use Rattle.rc_core.specs.Parts.{IsFirstPart, IsNearer, IsReach};
-ghost use Rattle.rc_core.specs.SpotState.{spot_state, through, under};
+ghost use Rattle.rc_core.specs.SpotState.{SpotState, silent, spot_state, through, under};
 ghost use Rattle.rc_core.specs.Chain.{IsKnown, base, states_at, content, flagged};
 ghost use Rattle.rc_core.specs.Continuity.{version_tombs, static_states};
 ghost use Rattle.rc_core.specs.Merge.{Alike};
 ghost use Rattle.rc_core.specs.Plain.{mark_state};
-ghost use Rattle.rc_core.specs.Slow.{plain, seen_state, spot_at};
-ghost use Rattle.rc_core.specs.Version.{state_of, end_position, seen, spot_cmp};
+ghost use Rattle.rc_core.specs.Slow.{IsDecidedBy, plain, seen_state, spot_at};
+ghost use Rattle.rc_core.specs.Version.{On, Version, found, state_of, end_position, seen, spot_cmp};
 
 use crate::entries::{ChainKind, Entry, Flag, Mark};
 use crate::parts::Part;
@@ -102,6 +102,29 @@ fn with_row(alloc: Global, seen: Seen, row: &Option<Row>) -> Result<Seen, AllocE
     }
 }
 
+/// What is seen at a place of which a version says this mark and this row, over what is seen there below that version. The only error is want of memory.
+pub fn seen_over(
+    alloc: Global,
+    below: Seen,
+    mark: Mark,
+    row: &Option<Row>,
+) -> Result<Seen, AllocError>
+    ensures { IfOk result (λ s. Alike (seen_state s) (under (seen_state below) (state_of (found mark row.now)))) }
+{
+    with_row(alloc, marked(alloc, below, mark), row)
+}
+
+/// What is seen where there is no version: nothing.
+pub fn nothing_seen(alloc: Global) -> Seen
+    ensures { Alike (seen_state result) silent }
+{
+    Seen {
+        flag: Flag::Inherit,
+        row: Row::empty(alloc),
+        tomb: None,
+    }
+}
+
 // What a version's entries say of a place, over what is seen below them.
 fn lay_over(
     alloc: Global,
@@ -116,16 +139,16 @@ fn lay_over(
     while let [first, rest @ ..] = left {
         match side_cmp(x, side, &first.position) {
             Ordering::Less => return Ok(marked(alloc, below, first.gap)),
-            Ordering::Equal => return with_row(alloc, marked(alloc, below, first.at), &first.row),
+            Ordering::Equal => return seen_over(alloc, below, first.at, &first.row),
             Ordering::Greater => left = rest,
         }
     }
     Ok(below)
 }
 
-// The rows that were joined as one row.
-fn as_one(alloc: Global, seen: Seen) -> Result<Seen, AllocError>
-    ensures { IfOk result (λ s. (s.flag ≡ seen.flag) × (s.row ≡ joined_row (seen.row ∷ [])) × (s.tomb ≡ seen.tomb)) }
+/// What is seen through all versions of a chain, as the definitions say its content: the rows that were joined as one row. The only error is want of memory.
+pub fn as_one(alloc: Global, seen: Seen) -> Result<Seen, AllocError>
+    ensures { (states : List SpotState) → Alike (seen_state seen) (through states) → IfOk result (λ s. (s.flag ≡ (through states).flag) × ((s.row, s.tomb) ≡ content states)) }
 {
     let mut row = Row::empty(alloc);
     row.join(alloc, &seen.row)?;
@@ -140,11 +163,7 @@ fn as_one(alloc: Global, seen: Seen) -> Result<Seen, AllocError>
 fn laid(alloc: Global, versions: &[PlainVersion], x: &Pos, side: Side) -> Result<Seen, AllocError>
     ensures { IfOk result (λ s. Alike (seen_state s) (through (states_at (spot_at side x.now) (map plain versions.now)))) }
 {
-    let mut seen = Seen {
-        flag: Flag::Inherit,
-        row: Row::empty(alloc),
-        tomb: None,
-    };
+    let mut seen = nothing_seen(alloc);
     let mut left = versions;
     while let [oldest, newer @ ..] = left {
         seen = lay_over(alloc, seen, oldest.entries.as_slice(), x, side)?;
@@ -171,18 +190,14 @@ pub fn seen_at(
 fn laid_statics(alloc: Global, versions: &[PlainVersion]) -> Result<Seen, AllocError>
     ensures { IfOk result (λ s. Alike (seen_state s) (through (static_states (map plain versions.now)))) }
 {
-    let mut seen = Seen {
-        flag: Flag::Inherit,
-        row: Row::empty(alloc),
-        tomb: None,
-    };
+    let mut seen = nothing_seen(alloc);
     let mut left = versions;
     while let [oldest, newer @ ..] = left {
         let mark = Mark {
             flag: oldest.static_flag,
             tomb: None,
         };
-        seen = with_row(alloc, marked(alloc, seen, mark), &oldest.statics)?;
+        seen = seen_over(alloc, seen, mark, &oldest.statics)?;
         left = newer;
     }
     Ok(seen)
@@ -276,6 +291,22 @@ pub fn is_flagged_at(
     Ok(is_known_in(kind, seen_at(alloc, versions, x, side)?.flag))
 }
 
+/// Whether a position is known, by what is seen of it alone; None where it is flagged and no row is seen, and the gap behind it decides.
+pub fn known_by(kind: ChainKind, seen: &Seen, x: &Pos) -> Option<bool>
+    ensures { (versions : List Version) → seen.now.flag ≡ (through (states_at (On x.now) versions)).flag → (seen.now.row, seen.now.tomb) ≡ content (states_at (On x.now) versions) → IsDecidedBy kind versions x.now result }
+{
+    if !is_known_in(kind, seen.flag) {
+        return Some(false);
+    }
+    if !seen.row.is_empty() {
+        return Some(true);
+    }
+    if !is_before_end(x) {
+        return Some(true);
+    }
+    None
+}
+
 /// Whether a position is known: it is flagged and, where no row is seen there, the gap behind it too. The only error is want of memory.
 pub fn is_known_at(
     alloc: Global,
@@ -286,16 +317,10 @@ pub fn is_known_at(
     ensures { IfOk result (λ b. IsTrue b ↔ IsKnown kind (map plain versions.now) x.now) }
 {
     let seen = seen_at(alloc, versions, x, Side::On)?;
-    if !is_known_in(kind, seen.flag) {
-        return Ok(false);
+    match known_by(kind, &seen, x) {
+        Some(known) => Ok(known),
+        None => is_flagged_at(alloc, kind, versions, x, Side::Behind),
     }
-    if !seen.row.is_empty() {
-        return Ok(true);
-    }
-    if !is_before_end(x) {
-        return Ok(true);
-    }
-    is_flagged_at(alloc, kind, versions, x, Side::Behind)
 }
 
 // Whether a position stands behind one and before another.

@@ -8,7 +8,7 @@ use Rattle.rc_core.proofs.Slowly.{laid_first, laid_next}
 use Rattle.rc_core.proofs.slow.laid.Goals as goal
 
 pub loop-left-init : goal.loop-left-init
-loop-left-init c = laid_first c.empty.result (through (states_at (spot_at c.args.side c.args.x.now) (map plain c.args.versions.now))) c.empty.ensures
+loop-left-init c = laid_first (seen_state c.nothing_seen-seen.result) (through (states_at (spot_at c.args.side c.args.x.now) (map plain c.args.versions.now))) c.nothing_seen-seen.ensures
 
 pub loop-left-preserved : goal.loop-left-preserved
 loop-left-preserved c = laid_next (seen_state c.loop-left.seen) (seen_state c.in_ok-seen.seen) (state_at (spot_at c.args.side c.args.x.now)) c.loop-left.left.now c.oldest-item.result
