@@ -8,3 +8,4 @@ mod Making
 mod Bare
 mod Ending
 mod Ended
+mod Dropping

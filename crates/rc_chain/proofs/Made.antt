@@ -49,7 +49,7 @@ mapped-twice : {X : Type 0} (f g : X → X) (o : Option X) → option_map g (opt
 mapped-twice f g None = refl
 mapped-twice f g (Some x) = refl
 
-on-twice : (cs : List (Option KeptChain)) (id : ℕ) (f g : KeptChain → KeptChain) → on_chain id g (on_chain id f cs) ≡ on_chain id (λ k. g (f k)) cs
+pub on-twice : (cs : List (Option KeptChain)) (id : ℕ) (f g : KeptChain → KeptChain) → on_chain id g (on_chain id f cs) ≡ on_chain id (λ k. g (f k)) cs
 on-twice cs id f g = ap (λ o. put id (option_map g o) (on_chain id f cs)) (put-at cs id (option_map f (slice_index_or cs id None)))
     ∙ put-put cs id (option_map g (option_map f (slice_index_or cs id None))) (option_map f (slice_index_or cs id None)) ∙ ap (λ o. put id o cs) (mapped-twice f g (slice_index_or cs id None))
 

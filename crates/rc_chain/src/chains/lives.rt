@@ -171,6 +171,7 @@ impl<const S: usize> Chains<S> {
         ensures spare { IfOk result (λ id. spare_of S self.old.region.usages ≤ spare_of S self.new.region.usages + 152) }
         ensures err { OnErr result (IsSameButSlots self.old self.new) }
     {
+        self.known();
         let id = self.make_chain(kind, phase, pt)?;
         match kind {
             ChainKind::Memtable => {}
@@ -229,6 +230,7 @@ impl<const S: usize> Chains<S> {
         ensures dropped { IsVersionDropped id number self.old self.new }
         ensures spare { spare_of S self.new.region.usages ≡ spare_of S self.old.region.usages }
     {
+        self.known();
         let end = self.end_of(id, number);
         self.take(end);
         self.drop_bare(id, number);
