@@ -5,3 +5,4 @@ mod Living
 mod Made
 mod Gone
 mod Making
+mod Changing

@@ -1,0 +1,84 @@
+//! Changes of one version of a chain, by the number of the chain and that of the version, the oldest being 0. An object that is made in a cache chain goes to the back of the recency list; one that is replaced or dropped leaves it first.
+ghost use Rattle.std.specs.Prelude.{◌≡◌, Some};
+ghost use Rattle.lsa_pool.specs.Room.{spare_of};
+ghost use Rattle.rc_position.specs.declared.positions.Pos.{Pos as Position};
+ghost use Rattle.rc_position.specs.Position.{IsBefore};
+ghost use Rattle.rc_core.specs.AtPlace.{HasEntryAt};
+ghost use Rattle.rc_core.specs.Steps as steps;
+ghost use Rattle.rc_version.specs.Versions.{raised_between};
+ghost use Rattle.rc_memory.specs.Memory.{KeptChain, Member, HasVersion, IsMemberObject};
+ghost use Rattle.rc_memory.specs.Changes.{IsVersionChanged, Nowhere, OfVersion};
+
+use super::Chains;
+use lsa_region::Ref;
+use rc_cell::Tomb;
+use rc_core::Flag;
+use rc_position::Pos;
+
+impl<const S: usize> Chains<S> {
+    /// Gives an entry of a chain other flags, at it and over the gap before it. Its tombstones stay.
+    pub fn set_flags(&mut self, e: Ref, at: Flag, gap: Flag)
+        requires { (w : Member) × (x : Position) × (w.position ≡ Some x) × IsMemberObject self.old e w }
+        ensures set { (w : Member) (x : Position) → w.position ≡ Some x → IsMemberObject self.old e w → IsVersionChanged w.chain w.version (steps.set_flags x at gap) Nowhere self.old self.new }
+        ensures recency { self.new.recency ≡ self.old.recency }
+        ensures spare { spare_of S self.new.region.usages ≡ spare_of S self.old.region.usages }
+    {
+        rc_recency::set_flags(&mut self.region, e, at, gap);
+    }
+
+    /// Gives an entry of a chain other range tombstones, at it and over the gap before it. Its flags stay.
+    pub fn set_tombs(&mut self, e: Ref, at: Option<Tomb>, gap: Option<Tomb>)
+        requires { (w : Member) × (x : Position) × (w.position ≡ Some x) × IsMemberObject self.old e w }
+        ensures set { (w : Member) (x : Position) → w.position ≡ Some x → IsMemberObject self.old e w → IsVersionChanged w.chain w.version (steps.set_tombs x at gap) Nowhere self.old self.new }
+        ensures recency { self.new.recency ≡ self.old.recency }
+        ensures spare { spare_of S self.new.region.usages ≡ spare_of S self.old.region.usages }
+    {
+        rc_recency::set_tombs(&mut self.region, e, at, gap);
+    }
+
+    /// Joins a partition tombstone to that of a version: the greater one stands.
+    pub fn join_pt(&mut self, id: u64, number: u64, tomb: Tomb)
+        requires { HasVersion self.old id number }
+        ensures joined { IsVersionChanged id number (steps.join_pt tomb) Nowhere self.old self.new }
+        ensures recency { self.new.recency ≡ self.old.recency }
+        ensures spare { spare_of S self.new.region.usages ≡ spare_of S self.old.region.usages }
+    {
+        let v = self.version(id, number);
+        rc_recency::join_pt(&mut self.region, v, tomb);
+    }
+
+    /// Gives the static row of a version another flag, also where there is no static row.
+    pub fn set_static_flag(&mut self, id: u64, number: u64, flag: Flag)
+        requires { HasVersion self.old id number }
+        ensures set { IsVersionChanged id number (steps.set_static_flag flag) Nowhere self.old self.new }
+        ensures recency { self.new.recency ≡ self.old.recency }
+        ensures spare { spare_of S self.new.region.usages ≡ spare_of S self.old.region.usages }
+    {
+        let v = self.version(id, number);
+        rc_recency::set_static_flag(&mut self.region, v, flag);
+    }
+
+    // Gives a version another phase.
+    fn set_phase(&mut self, id: u64, number: u64, phase: u64)
+        requires { HasVersion self.old id number }
+        ensures set { IsVersionChanged id number (steps.with_phase phase) Nowhere self.old self.new }
+        ensures recency { self.new.recency ≡ self.old.recency }
+        ensures spare { spare_of S self.new.region.usages ≡ spare_of S self.old.region.usages }
+    {
+        let v = self.version(id, number);
+        rc_recency::set_phase(&mut self.region, v, phase);
+    }
+
+    // The greater range tombstone at each entry of a version from one position on and before another, at both of which entries stand, and over each gap between them.
+    fn raise(&mut self, id: u64, number: u64, from: &Pos, to: &Pos, tomb: Tomb)
+        requires ascend { IsBefore from.now to.now }
+        requires version { HasVersion self.old id number }
+        requires entries { OfVersion self.old id number (λ k v. HasEntryAt from.now v.entries × HasEntryAt to.now v.entries) }
+        ensures raised { IsVersionChanged id number (raised_between from.now to.now tomb) Nowhere self.old self.new }
+        ensures recency { self.new.recency ≡ self.old.recency }
+        ensures spare { spare_of S self.new.region.usages ≡ spare_of S self.old.region.usages }
+    {
+        let v = self.version(id, number);
+        rc_recency::raise(&mut self.region, v, from, to, tomb);
+    }
+}
