@@ -16,7 +16,7 @@ pub raise-requires : goal.raise-requires
 raise-requires g c =
     let s = c.self.inside in let n = memory-now g.row.S s.recency s.region s.registry s.counts s.memory c.args.self.now c.self.view_is c.self.invariant.0 c.self.invariant.1 in
     let v = held-version g.row.S s.recency s.region s.registry s.counts c.args.self.now n c.args.id c.args.number c.requires.version c.version-v.result c.version-v.ensures in
-    (omega arith, (s.recency, s.registry, s.counts, c.args.self.now, c.args.id, c.args.number, v.0, v.1, v.2, (c.requires.entries v.0 v.1 v.2.chain v.2.number).0, (c.requires.entries v.0 v.1 v.2.chain v.2.number).1))
+    (omega arith, (c.requires.ascend, (s.recency, s.registry, s.counts, c.args.self.now, c.args.id, c.args.number, v.0, v.1, v.2, (c.requires.entries v.0 v.1 v.2.chain v.2.number).0, (c.requires.entries v.0 v.1 v.2.chain v.2.number).1)))
 
 pub invariant_of-self-inside : goal.invariant_of-self-inside
 invariant_of-self-inside g c =
