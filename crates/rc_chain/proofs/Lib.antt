@@ -9,3 +9,4 @@ mod Bare
 mod Ending
 mod Ended
 mod Dropping
+mod Changing

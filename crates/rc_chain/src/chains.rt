@@ -29,6 +29,7 @@ use rc_rowcode::Scratch;
 use std::alloc::{AllocError, Global};
 use std::marker::Model;
 
+mod changes;
 mod lives;
 
 /// All chains of versions of a shard, with their snapshots, and the recency list through their entries and static rows. They stand in one region, in which objects may move in any call that takes `&mut self`.

@@ -1,0 +1,142 @@
+//! Changes of one version of a chain, by the number of the chain and that of the version, the oldest being 0. An object that is made in a cache chain goes to the back of the recency list; one that is replaced or dropped leaves it first.
+ghost use Rattle.std.specs.Prelude.{◌≡◌, ◌+◌, ◌/◌, ◌≤◌, Some, None};
+ghost use Rattle.lsa_pool.specs.Room.{spare_of};
+ghost use Rattle.rc_position.specs.declared.positions.Pos.{Pos as Position};
+ghost use Rattle.rc_position.specs.Position.{IsBefore};
+ghost use Rattle.rc_core.specs.AtPlace.{HasEntryAt};
+ghost use Rattle.rc_core.specs.Change as change;
+ghost use Rattle.rc_core.specs.Continuity.{with_entries, without_statics};
+ghost use Rattle.rc_core.specs.Steps as steps;
+ghost use Rattle.rc_core.specs.Version.{Version, end_position};
+ghost use Rattle.rc_rowcode.specs.Objects.{dummy_size};
+ghost use Rattle.rc_rowcode.specs.Spelling.{KeyFits};
+ghost use Rattle.rc_version.specs.Versions.{raised_between};
+ghost use Rattle.rc_memory.specs.Memory.{KeptChain, Member, HasVersion, IsMemberObject};
+ghost use Rattle.rc_memory.specs.Changes.{AtAlone, IsRenewedWhereNone, IsVersionChanged, IsWithout, KeepsLast, Nowhere, OfVersion, member};
+
+use super::Chains;
+use lsa_region::Ref;
+use rc_cell::Tomb;
+use rc_core::Flag;
+use rc_position::Pos;
+
+impl<const S: usize> Chains<S> {
+    /// Gives an entry of a chain other flags, at it and over the gap before it. Its tombstones stay.
+    pub fn set_flags(&mut self, e: Ref, at: Flag, gap: Flag)
+        requires { (w : Member) × (x : Position) × (w.position ≡ Some x) × IsMemberObject self.old e w }
+        ensures set { (w : Member) (x : Position) → w.position ≡ Some x → IsMemberObject self.old e w → IsVersionChanged w.chain w.version (steps.set_flags x at gap) Nowhere self.old self.new }
+        ensures recency { self.new.recency ≡ self.old.recency }
+        ensures spare { spare_of S self.new.region.usages ≡ spare_of S self.old.region.usages }
+    {
+        rc_recency::set_flags(&mut self.region, e, at, gap);
+    }
+
+    /// Gives an entry of a chain other range tombstones, at it and over the gap before it. Its flags stay.
+    pub fn set_tombs(&mut self, e: Ref, at: Option<Tomb>, gap: Option<Tomb>)
+        requires { (w : Member) × (x : Position) × (w.position ≡ Some x) × IsMemberObject self.old e w }
+        ensures set { (w : Member) (x : Position) → w.position ≡ Some x → IsMemberObject self.old e w → IsVersionChanged w.chain w.version (steps.set_tombs x at gap) Nowhere self.old self.new }
+        ensures recency { self.new.recency ≡ self.old.recency }
+        ensures spare { spare_of S self.new.region.usages ≡ spare_of S self.old.region.usages }
+    {
+        rc_recency::set_tombs(&mut self.region, e, at, gap);
+    }
+
+    /// Joins a partition tombstone to that of a version: the greater one stands.
+    pub fn join_pt(&mut self, id: u64, number: u64, tomb: Tomb)
+        requires { HasVersion self.old id number }
+        ensures joined { IsVersionChanged id number (steps.join_pt tomb) Nowhere self.old self.new }
+        ensures recency { self.new.recency ≡ self.old.recency }
+        ensures spare { spare_of S self.new.region.usages ≡ spare_of S self.old.region.usages }
+    {
+        let v = self.version(id, number);
+        rc_recency::join_pt(&mut self.region, v, tomb);
+    }
+
+    /// Gives the static row of a version another flag, also where there is no static row.
+    pub fn set_static_flag(&mut self, id: u64, number: u64, flag: Flag)
+        requires { HasVersion self.old id number }
+        ensures set { IsVersionChanged id number (steps.set_static_flag flag) Nowhere self.old self.new }
+        ensures recency { self.new.recency ≡ self.old.recency }
+        ensures spare { spare_of S self.new.region.usages ≡ spare_of S self.old.region.usages }
+    {
+        let v = self.version(id, number);
+        rc_recency::set_static_flag(&mut self.region, v, flag);
+    }
+
+    // Gives a version another phase.
+    fn set_phase(&mut self, id: u64, number: u64, phase: u64)
+        requires { HasVersion self.old id number }
+        ensures set { IsVersionChanged id number (steps.with_phase phase) Nowhere self.old self.new }
+        ensures recency { self.new.recency ≡ self.old.recency }
+        ensures spare { spare_of S self.new.region.usages ≡ spare_of S self.old.region.usages }
+    {
+        let v = self.version(id, number);
+        rc_recency::set_phase(&mut self.region, v, phase);
+    }
+
+    // The greater range tombstone at each entry of a version from one position on and before another, at both of which entries stand, and over each gap between them.
+    fn raise(&mut self, id: u64, number: u64, from: &Pos, to: &Pos, tomb: Tomb)
+        requires ascend { IsBefore from.now to.now }
+        requires version { HasVersion self.old id number }
+        requires entries { OfVersion self.old id number (λ k v. HasEntryAt from.now v.entries × HasEntryAt to.now v.entries) }
+        ensures raised { IsVersionChanged id number (raised_between from.now to.now tomb) Nowhere self.old self.new }
+        ensures recency { self.new.recency ≡ self.old.recency }
+        ensures spare { spare_of S self.new.region.usages ≡ spare_of S self.old.region.usages }
+    {
+        let v = self.version(id, number);
+        rc_recency::raise(&mut self.region, v, from, to, tomb);
+    }
+
+    /// The entry of a version at a position. Where there is none, a dummy is made with the flag and the tombstone of the gap there, so that no answer at any position changes; in a cache chain it goes to the back of the recency list. Where an update stands in the version, its last entry before the end stays the last one, or is in the recency list.
+    pub fn split(&mut self, id: u64, number: u64, x: &Pos) -> Ref
+        requires limits { KeyFits x.now.prefix }
+        requires version { HasVersion self.old id number }
+        requires spare { dummy_size x.now ≤ spare_of S self.old.region.usages }
+        requires fits { dummy_size x.now ≤ S / 8 }
+        requires last { KeepsLast id number (λ c. with_entries (change.split x.now c.entries) c) self.old }
+        ensures changed { IsVersionChanged id number (λ c. with_entries (change.split x.now c.entries) c) Nowhere self.old self.new }
+        ensures recency { OfVersion self.old id number (λ k v. IsRenewedWhereNone k.chain.kind v (member id number (Some x.now)) self.old.recency self.new.recency) }
+        ensures here { IsMemberObject self.new result (member id number (Some x.now)) }
+        ensures spare { spare_of S self.old.region.usages ≤ spare_of S self.new.region.usages + dummy_size x.now }
+    {
+        let v = self.version(id, number);
+        let kind = self.kind(id);
+        rc_recency::split(&mut self.region, &self.recency, kind, v, x, &mut self.scratch)
+    }
+
+    /// The entry of a version at the position of an entry of another version; else as `split`.
+    pub fn split_like(&mut self, id: u64, number: u64, e: Ref) -> Ref
+        requires version { HasVersion self.old id number }
+        requires entry { (w : Member) × (x : Position) × (w.position ≡ Some x) × IsMemberObject self.old e w × (dummy_size x ≤ spare_of S self.old.region.usages) × KeepsLast id number (λ c. with_entries (change.split x c.entries) c) self.old }
+        ensures changed { (w : Member) (x : Position) → w.position ≡ Some x → IsMemberObject self.old e w → IsVersionChanged id number (λ c. with_entries (change.split x c.entries) c) Nowhere self.old self.new }
+        ensures recency { (w : Member) (x : Position) → w.position ≡ Some x → IsMemberObject self.old e w → OfVersion self.old id number (λ k v. IsRenewedWhereNone k.chain.kind v (member id number (Some x)) self.old.recency self.new.recency) }
+        ensures here { (w : Member) (x : Position) → w.position ≡ Some x → IsMemberObject self.old e w → IsMemberObject self.new result (member id number (Some x)) }
+        ensures spare { (w : Member) (x : Position) → w.position ≡ Some x → IsMemberObject self.old e w → spare_of S self.old.region.usages ≤ spare_of S self.new.region.usages + dummy_size x }
+    {
+        let v = self.version(id, number);
+        let kind = self.kind(id);
+        rc_recency::split_like(&mut self.region, &self.recency, kind, v, e, &mut self.scratch)
+    }
+
+    /// Takes an entry of a version out and frees it, which is not the end dummy: the gap before the next one is Unknown then, and without a tombstone. It leaves the recency list, where it is in it.
+    pub fn drop_entry(&mut self, id: u64, number: u64, e: Ref)
+        requires { (x : Position) × IsMemberObject self.old e (member id number (Some x)) × (x ≡ end_position → ⊥) }
+        ensures dropped { (x : Position) → IsMemberObject self.old e (member id number (Some x)) → IsVersionChanged id number (λ c. with_entries (change.drop_at x c.entries) c) (AtAlone (member id number (Some x))) self.old self.new }
+        ensures recency { (x : Position) → IsMemberObject self.old e (member id number (Some x)) → IsWithout (member id number (Some x)) self.old.recency self.new.recency }
+        ensures spare { spare_of S self.new.region.usages ≡ spare_of S self.old.region.usages }
+    {
+        let v = self.version(id, number);
+        rc_recency::drop_entry(&mut self.region, &self.recency, v, e);
+    }
+
+    /// Takes the static row of a version out and frees it; its flag is Unknown then, also where there was none. It leaves the recency list, where it is in it.
+    pub fn drop_static(&mut self, id: u64, number: u64)
+        requires { HasVersion self.old id number }
+        ensures dropped { IsVersionChanged id number without_statics (AtAlone (member id number None)) self.old self.new }
+        ensures recency { IsWithout (member id number None) self.old.recency self.new.recency }
+        ensures spare { spare_of S self.new.region.usages ≡ spare_of S self.old.region.usages }
+    {
+        let v = self.version(id, number);
+        rc_recency::drop_static(&mut self.region, &self.recency, v);
+    }
+}
