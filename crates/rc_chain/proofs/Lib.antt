@@ -10,3 +10,4 @@ mod Ending
 mod Ended
 mod Dropping
 mod Changing
+mod Read

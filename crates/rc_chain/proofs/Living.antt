@@ -21,7 +21,8 @@ use Rattle.rc_partition.specs.laws.Roots.{stands-with_empty, stands-without_empt
 use Rattle.rc_registry.specs.declared.uses.Use.{Use}
 use Rattle.rc_registry.specs.Registry.{Registry, HasRoot, put, use_at}
 use Rattle.rc_memory.specs.declared.counts.Counts.{Counts}
-use Rattle.rc_memory.specs.Memory.{KeptChain, Member, Memory, IsMemberObject, IsObjectAt, IsOfVersion, IsVersionAt, IsVersionObject, chain_at, listed_as}
+use Rattle.rc_core.specs.Steps.{pin_at}
+use Rattle.rc_memory.specs.Memory.{KeptChain, Member, Memory, HasPin, IsMemberObject, IsObjectAt, IsOfVersion, IsVersionAt, IsVersionObject, chain_at, listed_as}
 use Rattle.rc_memory.specs.Kept.{HoldMemory, IsMemory, present}
 use Rattle.rc_memory.specs.Changes.{IsUnmoved, LastIsListed, Nowhere, StandStill}
 use Rattle.rc_memory.specs.laws.Changed.{of-stays}
@@ -158,3 +159,7 @@ only-version m id h = of (chain_at m id) h
     of : (o : Option KeptChain) → IsSomeAnd o (λ k. (v : Version) × (k.chain.versions ≡ v ∷ []) × IsBare v) → IsSomeAnd o (λ k. (v : Version) × IsVersionAt k.chain.versions 0 v × IsBare v)
     of None h = absurd h
     of (Some k) h = (h.0, record { older = []; newer = []; split = h.1; number = refl }, h.2)
+
+-- a chain that a snapshot pins is there
+pub pin-there : (m : Memory) (id pin : ℕ) → HasPin m id pin → IsSome (chain_at m id)
+pin-there m id pin h = has-chain m id (λ k. IsSome (pin_at k.chain.pins pin)) h

@@ -17,8 +17,7 @@ use Rattle.rc_core.specs.declared.entries.Flag.{Flag}
 use Rattle.rc_core.specs.declared.entries.Flag.TheVariants.{Inherit, Unknown}
 use Rattle.rc_core.specs.AtPlace.{HasEntryAt}
 use Rattle.rc_core.specs.Chains.{Shown}
-use Rattle.rc_core.specs.Change.{drop_at}
-use Rattle.rc_core.specs.Continuity.{with_entries, without_statics}
+use Rattle.rc_core.specs.Free.{free_entry, free_statics}
 use Rattle.rc_core.specs.Steps.{on_newest, version_of, with_phase, renumbered}
 use Rattle.rc_core.specs.Version.{Version, end_position}
 use Rattle.rc_registry.specs.Registry.{AreFree, IsNumberIn, put}
@@ -93,6 +92,15 @@ pub record IsEndListed (id : ℕ) (c : Shown) (old new : List Member) : Type 0 w
 abbrev pub relabelled : ℕ → KeptChain → KeptChain
 relabelled phase k = cond k.chain.attached (on_shown (λ c. shown_with (on_newest (with_phase phase) c.versions) c) k) k
 
+-- so of each chain; all else is as it was
+pub record IsRelabelled (phase : ℕ) (old new : Memory) : Type 0 where
+  pub chains : new.chains ≡ list_map (option_map (relabelled phase)) old.chains
+  pub recency : new.recency ≡ old.recency
+  pub dropped : new.dropped ≡ old.dropped
+  pub counts : new.counts ≡ old.counts
+  pub still : StandStill Nowhere old new
+  pub region : IsUnmoved old.region new.region
+
 -- the version of a number of a chain is gone, and with it its end dummy, which was the last of its objects; newer ones have numbers less by one, and the places of their objects with them
 pub record IsVersionDropped (id j : ℕ) (old new : Memory) : Type 0 where
   pub chains : new.chains ≡ on_chain id (on_shown (shown_without j)) old.chains
@@ -123,13 +131,13 @@ pub record IsEntryFreed (id : ℕ) (old new : Memory) : Type 0 where
   pub at : Pos
   pub there : OfVersion old id 0 (λ k v. HasEntryAt at v.entries)
   pub inner : at ≡ end_position → ⊥
-  pub changed : IsVersionChanged id 0 (λ c. with_entries (drop_at at c.entries) c) (AtAlone (member id 0 (Some at))) old new
+  pub changed : (k : KeptChain) → chain_at old id ≡ Some k → IsVersionChanged id 0 (free_entry k.chain.kind at) (AtAlone (member id 0 (Some at))) old new
   pub recency : IsWithout (member id 0 (Some at)) old.recency new.recency
 
 -- its static row was freed
 pub record IsStaticFreed (id : ℕ) (old new : Memory) : Type 0 where
   pub there : OfVersion old id 0 (λ k v. IsSome v.statics)
-  pub changed : IsVersionChanged id 0 without_statics (AtAlone (member id 0 None)) old new
+  pub changed : (k : KeptChain) → chain_at old id ≡ Some k → IsVersionChanged id 0 (free_statics k.chain.kind) (AtAlone (member id 0 None)) old new
   pub recency : IsWithout (member id 0 None) old.recency new.recency
 
 -- the chain was dropped, of which the end dummy of one version was left

@@ -31,6 +31,8 @@ use std::marker::Model;
 
 mod changes;
 mod lives;
+mod reads;
+mod sweeps;
 
 /// All chains of versions of a shard, with their snapshots, and the recency list through their entries and static rows. They stand in one region, in which objects may move in any call that takes `&mut self`.
 #[derive(Drop)]

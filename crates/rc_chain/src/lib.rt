@@ -6,3 +6,4 @@ pub mod laws;
 
 pub use chains::{Chains, Snap};
 pub use rc_core::ChainKind;
+pub use rc_reading::{ReadAt, ReadHead};

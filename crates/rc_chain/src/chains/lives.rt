@@ -247,8 +247,8 @@ fn flag_of_new(kind: ChainKind) -> Flag
     }
 }
 
-// The end dummy of a version, its last entry.
-fn end_entry<const S: usize>(region: &Region<S>, alloc: Global, v: Ref) -> Ref
+/// The end dummy of a version, its last entry.
+pub(crate) fn end_entry<const S: usize>(region: &Region<S>, alloc: Global, v: Ref) -> Ref
     requires { (refs : Sequence Name) × (c : Version) × IsVersionOf region.now v refs c }
     ensures { (refs : Sequence Name) (c : Version) → IsVersionOf region.now v refs c → (front : Sequence Name) × (refs ≡ front ++ (result ∷ [])) × IsEntryAtPosition region.now result end_position }
 {
@@ -262,8 +262,8 @@ fn end_entry<const S: usize>(region: &Region<S>, alloc: Global, v: Ref) -> Ref
     }
 }
 
-// The entry before one of a version; None where that is its first.
-fn entry_before<const S: usize>(region: &Region<S>, v: Ref, r: Ref) -> Option<Ref>
+/// The entry before one of a version; None where that is its first.
+pub(crate) fn entry_before<const S: usize>(region: &Region<S>, v: Ref, r: Ref) -> Option<Ref>
     requires { (front : Sequence Name) × (back : Sequence Name) × (c : Version) × IsVersionOf region.now v (front ++ (r ∷ back)) c }
     ensures { (front back : Sequence Name) (c : Version) → IsVersionOf region.now v (front ++ (r ∷ back)) c → result ≡ last_entry front }
 {

@@ -1,0 +1,105 @@
+//! What is done to many objects of a chain, or to many chains.
+ghost use Rattle.std.specs.Prelude.{◌≡◌, ◌⊎◌, ◌∷◌, ◌++◌, ◌+◌, ◌<◌, ◌≤◌, ℕ, suc, List as Sequence, [], true, false, Option, Some, None, IsSomeAnd, IsTrue, ◌↔◌, length, map, Contains};
+ghost use Rattle.std.specs.Option.{option_map};
+ghost use Rattle.lsa_pool.specs.Room.{spare_of};
+ghost use Rattle.rc_position.specs.declared.positions.Pos.{Pos as Position};
+ghost use Rattle.rc_position.specs.Position.{row_pos};
+ghost use Rattle.rc_core.specs.declared.entries.ChainKind.{ChainKind as Kind};
+ghost use Rattle.rc_core.specs.Steps.{pin_at};
+ghost use Rattle.rc_core.specs.Version.{Version};
+ghost use Rattle.rc_registry.specs.Registry.{AreFree};
+ghost use Rattle.rc_memory.specs.Memory.{KeptChain, Member, HasChain, HasPin, HasVersion, chain_at, listed_as, on_chain};
+ghost use Rattle.rc_memory.specs.Changes.{IsUnmoved, Nowhere, NothingListed, OfVersion, StandStill, member};
+ghost use Rattle.rc_chain.specs.Lives.{IsAtUpTo, IsBare, IsChainChanged, IsChainDropped, IsIdle, IsOneFreed, IsRelabelled, IsTouched, relabelled};
+
+use super::lives::{end_entry, entry_before};
+use super::{Chains, Snap};
+use lsa_region::Ref;
+use rc_core::{ChainKind, Flag};
+use rc_position::Key;
+use rc_version::{entry_at_key, static_row};
+
+impl<const S: usize> Chains<S> {
+    // Gives the newest version of a chain another phase, where the chain is found by its key.
+    fn relabel_one(&mut self, id: u64, to: u64)
+        requires { HasChain self.old id }
+        ensures relabelled { IsChainChanged id (relabelled to) self.old.recency self.old self.new }
+        ensures spare { spare_of S self.new.region.usages ≡ spare_of S self.old.region.usages }
+    {
+        if self.is_attached(id) {
+            self.known();
+            let newest = self.versions(id) - 1;
+            self.set_phase(id, newest, to);
+        }
+    }
+
+    /// Gives the newest version of each chain that is found by its key another phase. A caller sees to it that the tables of both phases say the same of each such key.
+    pub fn relabel(&mut self, to: u64)
+        ensures relabelled { IsRelabelled to self.old self.new }
+        ensures spare { spare_of S self.new.region.usages ≡ spare_of S self.old.region.usages }
+    {
+        let mut after = None;
+        while let Some(id) = self.next_chain(after) {
+            self.relabel_one(id, to);
+            after = Some(id);
+        }
+    }
+
+    // Whether an object of a version of a cache chain, in which no update stands, is in the recency list.
+    fn has_listed(&self, id: u64, number: u64) -> bool
+        requires { IsSomeAnd (chain_at self.now id) (λ k. (k.chain.kind ≡ Kind.Cache) × (k.chain.updating ≡ false) × (number < length k.chain.versions)) }
+        ensures none { result ≡ false → NothingListed id number self.now }
+        ensures bare { result ≡ false → OfVersion self.now id number (λ k v. IsBare v) }
+        ensures some { IsTrue result → (at : Option Position) × Contains self.now.recency (member id number at) }
+    {
+        self.known();
+        let v = self.version(id, number);
+        if self.last_inner(id, number).is_some() || static_row(&self.region, v).is_some() {
+            return true;
+        }
+        self.is_listed(self.end_of(id, number))
+    }
+
+    // Whether a chain is to be dropped.
+    fn is_idle(&self, id: u64) -> bool
+        requires { HasChain self.now id }
+        ensures { (k : KeptChain) → chain_at self.now id ≡ Some k → IsTrue result ↔ IsIdle self.now id k.chain }
+    {
+        match self.kind(id) {
+            ChainKind::Memtable => return false,
+            ChainKind::Cache => {}
+        }
+        if self.is_updating(id) || !self.registry.is_free(id) {
+            return false;
+        }
+        for number in 0..self.versions(id) {
+            if self.has_listed(id, number) {
+                return false;
+            }
+        }
+        true
+    }
+
+    /// Drops a chain where it is to be dropped: a cache chain that nobody pins, in which no update stands, and of which no object is in the recency list. Its number is to be told then. Else nothing is changed.
+    pub fn sweep(&mut self, id: u64)
+        requires { HasChain self.old id }
+        ensures dropped { (k : KeptChain) → chain_at self.old id ≡ Some k → IsIdle self.old id k.chain → IsChainDropped id self.old.recency self.old self.new }
+        ensures kept { (k : KeptChain) → chain_at self.old id ≡ Some k → (IsIdle self.old id k.chain → ⊥) → self.new ≡ self.old }
+    {
+        if self.is_idle(id) {
+            self.drop_idle(id);
+        }
+    }
+
+    // Drops a chain of which nothing is listed: its versions, the oldest first, and then the chain.
+    fn drop_idle(&mut self, id: u64)
+        requires { IsSomeAnd (chain_at self.old id) (λ k. IsIdle self.old id k.chain) }
+        ensures { IsChainDropped id self.old.recency self.old self.new }
+    {
+        self.known();
+        while self.versions(id) > 1 {
+            self.drop_bare(id, 0);
+        }
+        self.close(id);
+    }
+}
