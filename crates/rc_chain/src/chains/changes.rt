@@ -63,8 +63,8 @@ impl<const S: usize> Chains<S> {
         rc_recency::set_static_flag(&mut self.region, v, flag);
     }
 
-    // Gives a version another phase.
-    fn set_phase(&mut self, id: u64, number: u64, phase: u64)
+    /// Gives a version another phase.
+    pub(crate) fn set_phase(&mut self, id: u64, number: u64, phase: u64)
         requires { HasVersion self.old id number }
         ensures set { IsVersionChanged id number (steps.with_phase phase) Nowhere self.old self.new }
         ensures recency { self.new.recency ≡ self.old.recency }
