@@ -11,3 +11,4 @@ mod Ended
 mod Dropping
 mod Changing
 mod Read
+mod Relabelled

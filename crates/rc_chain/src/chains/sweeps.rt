@@ -6,13 +6,13 @@ ghost use Rattle.rc_position.specs.declared.positions.Pos.{Pos as Position};
 ghost use Rattle.rc_position.specs.Position.{row_pos};
 ghost use Rattle.rc_core.specs.declared.entries.ChainKind.{ChainKind as Kind};
 ghost use Rattle.rc_core.specs.Steps.{pin_at};
-ghost use Rattle.rc_core.specs.Version.{Version};
+ghost use Rattle.rc_core.specs.Version.{Version, end_position};
+ghost use Rattle.rc_memory.specs.Recency.{HasObject};
 ghost use Rattle.rc_registry.specs.Registry.{AreFree};
 ghost use Rattle.rc_memory.specs.Memory.{KeptChain, Member, HasChain, HasPin, HasVersion, chain_at, listed_as, on_chain};
 ghost use Rattle.rc_memory.specs.Changes.{IsUnmoved, Nowhere, NothingListed, OfVersion, StandStill, member};
 ghost use Rattle.rc_chain.specs.Lives.{IsAtUpTo, IsBare, IsChainChanged, IsChainDropped, IsIdle, IsOneFreed, IsRelabelled, IsTouched, relabelled};
 
-use super::lives::{end_entry, entry_before};
 use super::{Chains, Snap};
 use lsa_region::Ref;
 use rc_core::{ChainKind, Flag};
@@ -45,7 +45,21 @@ impl<const S: usize> Chains<S> {
         }
     }
 
-    // Whether an object of a version of a cache chain, in which no update stands, is in the recency list.
+    // Whether a version has an object beside its end dummy.
+    fn has_more(&self, id: u64, number: u64) -> bool
+        requires { HasVersion self.now id number }
+        ensures bare { result ≡ false → OfVersion self.now id number (λ k v. IsBare v) }
+        ensures more { IsTrue result → OfVersion self.now id number (λ k v. (at : Option Position) × HasObject v at × (at ≡ Some end_position → ⊥)) }
+    {
+        self.known();
+        if self.last_inner(id, number).is_some() {
+            return true;
+        }
+        let v = self.version(id, number);
+        static_row(&self.region, v).is_some()
+    }
+
+    // Whether an object of a version of a cache chain, in which no update stands, is in the recency list. Where none is, its end dummy alone is left of it.
     fn has_listed(&self, id: u64, number: u64) -> bool
         requires { IsSomeAnd (chain_at self.now id) (λ k. (k.chain.kind ≡ Kind.Cache) × (k.chain.updating ≡ false) × (number < length k.chain.versions)) }
         ensures none { result ≡ false → NothingListed id number self.now }
@@ -53,11 +67,11 @@ impl<const S: usize> Chains<S> {
         ensures some { IsTrue result → (at : Option Position) × Contains self.now.recency (member id number at) }
     {
         self.known();
-        let v = self.version(id, number);
-        if self.last_inner(id, number).is_some() || static_row(&self.region, v).is_some() {
+        if self.has_more(id, number) {
             return true;
         }
-        self.is_listed(self.end_of(id, number))
+        let end = self.end_of(id, number);
+        self.is_listed(end)
     }
 
     // Whether a chain is to be dropped.
