@@ -141,3 +141,30 @@ module _ (m one : Memory) (id : ℕ) (k : KeptChain) (e : chain_at m id ≡ Some
     still = still-then Nowhere m one two changed.still (subst (StandStill Nowhere one) (sym is) (record { versions = λ i l n is'. is'; objects = λ r w off at. at }));
     region = subst (λ v. IsUnmoved m.region v) (sym (ap (λ (x : Memory). x.region) is)) changed.region;
   }
+
+-- ---- what is listed of a version
+
+module _ (m : Memory) (id j : ℕ) (rule : IsRecency m) (versions : (i l : ℕ) → OfVersion m i l (λ k v. IsVersion v)) where
+  -- an object beside the end dummy is listed, where no update stands in a cache chain
+  pub more-listed : (k : KeptChain) (v : Version) (at : Option Pos) → chain_at m id ≡ Some k → IsVersionAt k.chain.versions j v → k.chain.kind ≡ Cache → k.chain.updating ≡ false → HasObject v at → (at ≡ Some end_position → ⊥) → Contains m.recency (member id j at)
+  more-listed k v at e number cached settled has inner = rule.complete (member id j at) (subst (λ (o : Option KeptChain). IsSomeAnd o (λ q. MustBeListed q.chain j at)) (sym e) (record {
+    cached = cached;
+    version = v;
+    number = number;
+    object = has;
+    inner = inner;
+    passed = λ under last. absurd (let clash : false ≡ true = sym settled ∙ under.0 in cc);
+  }))
+
+  -- of a version of its end dummy alone that is not listed nothing is
+  pub none-of-bare : OfVersion m id j (λ k v. IsBare v) → (Contains m.recency (member id j (Some end_position)) → ⊥) → NothingListed id j m
+  none-of-bare bare off at on =
+      let may = some-chain (chain_at m id) (λ q. MayBeListed q.chain j at) (rule.members (member id j at) on) in
+      off (subst (λ x. Contains m.recency (member id j x)) (bare-place may.2.version at (versions id j may.0 may.2.version may.1 may.2.number) (bare may.0 may.2.version may.1 may.2.number) may.2.object) on)
+
+pub cached-has : (m : Memory) (id j : ℕ) → IsSomeAnd (chain_at m id) (λ k. (k.chain.kind ≡ Cache) × (k.chain.updating ≡ false) × (j < length k.chain.versions)) → HasVersion m id j
+cached-has m id j h = of (chain_at m id) h
+  where
+    of : (o : Option KeptChain) → IsSomeAnd o (λ k. (k.chain.kind ≡ Cache) × (k.chain.updating ≡ false) × (j < length k.chain.versions)) → IsSomeAnd o (λ k. j < length k.chain.versions)
+    of None h = absurd h
+    of (Some k) h = h.2

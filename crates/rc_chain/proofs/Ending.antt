@@ -1,5 +1,5 @@
 -- The end dummy of a version, the last entry before it, and whether an object is listed.
-use Rattle.std.proofs.Common.{◌≡◌, ◌≢◌, ℕ, suc, List, [], ◌∷◌, ◌++◌, Option, Some, None, IsSome, IsTrue, is_some, ◌↔◌, inl, inr, refl, sym, ap, ◌∙◌, subst, arith}
+use Rattle.std.proofs.Common.{◌≡◌, ◌≢◌, ℕ, suc, List, [], ◌∷◌, ◌++◌, Option, Some, None, IsSome, IsTrue, is_some, true, false, ◌↔◌, inl, inr, refl, sym, ap, ◌∙◌, subst, arith}
 use Rattle.std.specs.Prelude.{Contains, IfNone, IfSome, ◌⊎◌}
 use Rattle.rc_position.specs.declared.positions.Pos.{Pos}
 use Rattle.lsa_store.specs.declared.place.Ref.{Ref}
@@ -14,9 +14,9 @@ use Rattle.lsa_tree.specs.laws.Found.{at-once}
 use Rattle.lsa_tree.specs.laws.Orders.{ascending-split}
 use Rattle.rc_core.specs.AtPlace.{HasEntryAt}
 use Rattle.rc_core.specs.declared.entries.Entry.{Entry}
-use Rattle.rc_core.specs.Version.{EndsWithDummy, Version, end_position}
+use Rattle.rc_core.specs.Version.{EndsWithDummy, Version, IsVersion, end_position}
 use Rattle.rc_object.specs.Objects.{HoldsEntry}
-use Rattle.rc_version.specs.Versions.{HoldEntries, IsVersionOf}
+use Rattle.rc_version.specs.Versions.{HoldEntries, IsStaticRowFound, IsVersionOf}
 use Rattle.rc_version.specs.laws.Objects.{holds-stands}
 use Rattle.rc_partition.specs.laws.Lists.{elem-here, elem-split}
 use Rattle.rc_registry.specs.Registry.{Registry}
@@ -32,6 +32,7 @@ use Rattle.rc_memory.specs.Recency.{IsLastInner}
 use Rattle.rc_memory.specs.Kept.{HoldMemory}
 use Rattle.rc_memory.specs.laws.Listed.{list-at, unlisted-at}
 use Rattle.rc_memory.specs.laws.Listing.{listed-decided}
+use Rattle.rc_chain.specs.Lives.{IsBare}
 use Rattle.rc_chain.proofs.Reading.{at-place}
 
 -- ---- lists
@@ -191,3 +192,56 @@ module _ (slots : Slots) (v : View) (registry : Registry) (counts : Counts) (m :
       → IfSome o (λ q. (x : Pos) × IsMemberObject m q (member id j (Some x)) × OfVersion m id j (λ k c. IsLastInner c (Some x))) × IfNone o (OfVersion m id j (λ k c. (at : Option Pos) → IsLastInner c at → ⊥))
   inner-either r told None before = (tt, inner-none r told before)
   inner-either r told (Some q) before = (inner-some r q told before, tt)
+
+last-split : (fs : List Entry) → (fs ≡ []) ⊎ ((gs : List Entry) × (g : Entry) × (fs ≡ gs ++ (g ∷ [])))
+last-split [] = inl refl
+last-split (f ∷ fs) = elim (last-split fs) [
+  | inl none ↦ inr ([], f, ap (λ l. f ∷ l) none)
+  | inr more ↦ inr (f ∷ more.0, more.1, ap (λ l. f ∷ l) more.2)
+]
+
+joined-two : (gs : List Entry) (g e : Entry) → (gs ++ (g ∷ [])) ++ (e ∷ []) ≡ gs ++ (g ∷ e ∷ [])
+joined-two [] g e = refl
+joined-two (f ∷ gs) g e = ap (λ l. f ∷ l) (joined-two gs g e)
+
+-- where there is neither a static row nor an entry before the end, the end dummy alone is left
+pub bare-is : (c : Version) → EndsWithDummy c.entries → c.statics ≡ None → ((at : Option Pos) → IsLastInner c at → ⊥) → IsBare c
+bare-is c ends statics none =
+    let e = ends-split c.entries ends in record {
+      statics = statics;
+      alone = (e.1, e.2 ∙ ap (λ l. l ++ (e.1 ∷ [])) (elim (last-split e.0) [
+        | inl empty ↦ empty
+        | inr more ↦ absurd (none (Some more.1.position) (more.0, more.1, e.1, e.2 ∙ ap (λ l. l ++ (e.1 ∷ [])) more.2 ∙ joined-two more.0 more.1 e.1, refl))
+      ]));
+    }
+
+static-none : (v : View) (c : Version) (row : Option Ref) → is_some row ≡ false → IsStaticRowFound v c row → c.statics ≡ None
+static-none v c None e h = h
+static-none v c (Some r) e h = cc e
+
+static-some : (v : View) (c : Version) (row : Option Ref) → is_some row ≡ true → IsStaticRowFound v c row → IsSome c.statics
+static-some v c None e h = cc e
+static-some v c (Some r) e h = ap is_some h.1
+
+pub some-inner : (o : Option Ref) (P : Ref → Type 0) → IfSome o P → is_some o ≡ true → (r : Ref) × P r
+some-inner None P h e = cc e
+some-inner (Some r) P h e = (r, h)
+
+pub none-inner : (o : Option Ref) (P : Type 0) → IfNone o P → is_some o ≡ false → P
+none-inner None P h e = h
+none-inner (Some r) P h e = cc e
+
+module _ (slots : Slots) (v : View) (registry : Registry) (counts : Counts) (m : Memory) (h : HoldMemory slots v registry counts m) (id j : ℕ) (n : Ref) (has : HasVersion m id j) (object : IsVersionObject m id j n)
+    (row : Option Ref) (told : (refs : List Ref) (c : Version) → IsVersionOf v n refs c → IsStaticRowFound v c row) where
+  -- what is told of the static row is told of the version of the chain
+  pub static-told : OfVersion m id j (λ k c. IsStaticRowFound v c row)
+  static-told k' c' chain' at' =
+      let a = held-version slots v registry counts m h id j n has object in
+      let same : a.1 ≡ c' = one-at a.0.chain.versions j a.1 c' a.2.number (subst (λ (z : KeptChain). IsVersionAt z.chain.versions j c') (same_some k' a.0 (sym chain' ∙ a.2.chain)) at') in
+      subst (λ c. IsStaticRowFound v c row) same (told (standing-as slots v registry counts m id j a.0 a.1 n a.2).entries a.1 (stands slots v registry counts m id j a.0 a.1 n a.2))
+
+  pub bare-told : is_some row ≡ false → ((i l : ℕ) → OfVersion m i l (λ k c. IsVersion c)) → OfVersion m id j (λ k c. (at : Option Pos) → IsLastInner c at → ⊥) → OfVersion m id j (λ k c. IsBare c)
+  bare-told off versions none k c e at = bare-is c (versions id j k c e at).ends (static-none v c row off (static-told k c e at)) (none k c e at)
+
+  pub statics-told : is_some row ≡ true → OfVersion m id j (λ k c. IsSome c.statics)
+  statics-told on k c e at = static-some v c row on (static-told k c e at)
