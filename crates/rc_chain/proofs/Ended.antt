@@ -124,7 +124,7 @@ true-false b t f = let clash : true ≡ false = sym t ∙ f in cc
 -- ---- the update ends
 
 -- what is read of a chain to which something was done
-on-at : (cs : List (Option KeptChain)) (id : ℕ) (f : KeptChain → KeptChain) (k : KeptChain) → slice_index_or cs id None ≡ Some k → slice_index_or (on_chain id f cs) id None ≡ Some (f k)
+pub on-at : (cs : List (Option KeptChain)) (id : ℕ) (f : KeptChain → KeptChain) (k : KeptChain) → slice_index_or cs id None ≡ Some k → slice_index_or (on_chain id f cs) id None ≡ Some (f k)
 on-at cs id f k e = put-at cs id (option_map f (slice_index_or cs id None)) ∙ ap (option_map f) e
 
 -- nothing is done to a chain by what leaves it as it is

@@ -12,3 +12,4 @@ mod Dropping
 mod Changing
 mod Read
 mod Relabelled
+mod Idle

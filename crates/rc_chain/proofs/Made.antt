@@ -34,7 +34,7 @@ use Rattle.rc_memory.specs.laws.Versions.{all-but-is, still-at, without-at}
 use Rattle.rc_chain.specs.Lives.{IsChainChanged, IsChainMade, chain_of_new, flag_of_new, is_cache, with_version_over}
 use Rattle.rc_chain.proofs.Living.{IsStandingAt, all-stand, object-stands}
 
-put-put : {X : Type 0} (xs : List (Option X)) (n : ℕ) (a b : Option X) → put n a (put n b xs) ≡ put n a xs
+pub put-put : {X : Type 0} (xs : List (Option X)) (n : ℕ) (a b : Option X) → put n a (put n b xs) ≡ put n a xs
 put-put [] zero a b = refl
 put-put [] (suc n) a b = ap (λ l. None ∷ l) (put-put [] n a b)
 put-put (x ∷ xs) zero a b = refl

@@ -79,11 +79,15 @@ impl<const S: usize> Chains<S> {
         requires { HasChain self.now id }
         ensures { (k : KeptChain) → chain_at self.now id ≡ Some k → IsTrue result ↔ IsIdle self.now id k.chain }
     {
+        self.known();
         match self.kind(id) {
             ChainKind::Memtable => return false,
             ChainKind::Cache => {}
         }
-        if self.is_updating(id) || !self.registry.is_free(id) {
+        if self.is_updating(id) {
+            return false;
+        }
+        if !self.registry.is_free(id) {
             return false;
         }
         for number in 0..self.versions(id) {
