@@ -1,7 +1,9 @@
 -- One version of a chain changed: the memory then, and what is said of it.
-use Rattle.std.proofs.Common.{◌≡◌, ◌≢◌, ◌+◌, ◌/◌, ◌<◌, ◌≤◌, ℕ, List, [], ◌∷◌, ◌++◌, Option, Some, None, IsSome, length, inl, inr, refl, sym, ap, ◌∙◌, subst, map, slice_index_or, arith}
+use Rattle.std.proofs.Common.{◌≡◌, ◌≢◌, ◌+◌, ◌/◌, ◌<◌, ◌≤◌, ◌⊎◌, ℕ, List, [], ◌∷◌, ◌++◌, Option, Some, None, IsSome, length, inl, inr, refl, sym, ap, ◌∙◌, subst, map, slice_index_or, arith, true, false, zero, suc}
 use Rattle.std.specs.Prelude.{Contains, IfSome, IsSomeAnd}
 use Rattle.std.specs.Cmp.{tied_itself}
+use Rattle.std.specs.Option.{option_map}
+use Rattle.std.specs.Ordering.{is_gt}
 use Rattle.std.specs.declared.cmp.Ordering.TheVariants.{Less, Equal, Greater}
 use Rattle.lsa_pool.specs.Room.{spare_of}
 use Rattle.rc_cell.specs.declared.rows.Row.{Row}
@@ -12,6 +14,7 @@ use Rattle.rc_position.specs.declared.positions.Pos.{Pos}
 use Rattle.rc_position.specs.declared.positions.Weight.TheVariants.{After, At}
 use Rattle.rc_position.specs.Position.{IsBefore, pos_cmp, row_pos}
 use Rattle.rc_position.specs.laws.Orders.{pos_cmp_same, pos_cmp_total}
+use Rattle.rc_position.specs.laws.Bounds.{last_pos-greatest}
 use Rattle.rc_rowcode.specs.Objects.{dummy_size, static_size}
 use Rattle.rc_rowcode.specs.Spelling.{row_code}
 use Rattle.lsa_store.specs.declared.place.Ref.{Ref}
@@ -28,33 +31,44 @@ use Rattle.rc_core.specs.Change.{drop_at, join_row_at, joined_onto, split}
 use Rattle.rc_core.specs.Continuity.{with_entries, without_statics}
 use Rattle.rc_core.specs.Steps.{join_flagged_statics, join_statics, on_version, row_joined, set_statics}
 use Rattle.rc_core.specs.Version.{Ascend, EndsWithDummy, Finding, IsVersion, On, Version, end_position, entry_answers, seen}
-use Rattle.rc_core.specs.laws.Placed.{ahead_of, not_end}
-use Rattle.rc_core.specs.laws.Spots.{ascend-tail, join_row-there, turn_to}
+use Rattle.rc_core.specs.laws.Order.{split-ends, split-is}
+use Rattle.rc_core.specs.laws.Placed.{ahead_of, has-split, not_end, stands-has}
+use Rattle.rc_core.specs.laws.Spots.{ascend-tail, join_row-there, position-reached, split-stands, turn_to}
 use Rattle.rc_object.specs.Objects.{HasRoomFor, HoldsEntry, HoldsStatic, entry_length}
 use Rattle.rc_object.specs.laws.Spelled.{coded_of}
 use Rattle.rc_version.specs.Versions.{HasStatics, HoldEntries, IsVersionOf, bytes_at, joined_bytes}
 use Rattle.rc_version.specs.laws.Objects.{holds-stands}
 use Rattle.rc_partition.specs.Partitions.{PartitionEntry, StandingVersion}
-use Rattle.rc_partition.specs.laws.Lists.{elem-cases, elem-first, elem-here, elem-later, elem-none}
-use Rattle.rc_registry.specs.Registry.{Registry}
+use Rattle.rc_partition.specs.laws.Lists.{elem-cases, elem-first, elem-here, elem-later, elem-left, elem-none}
+use Rattle.rc_registry.specs.Registry.{Registry, put}
 use Rattle.rc_memory.specs.declared.counts.Counts.{Counts}
-use Rattle.rc_memory.specs.Memory.{KeptChain, Member, Memory, HasVersion, IsMemberObject, IsOfVersion, IsVersionAt, IsVersionObject, chain_at, on_shown, on_version_of, shown_with}
-use Rattle.rc_memory.specs.Kept.{HoldMemory, IsMemory, chain_of_use}
+use Rattle.rc_memory.specs.Memory.{KeptChain, Member, Memory, HasVersion, IsMemberObject, IsOfVersion, IsVersionAt, IsVersionObject, chain_at, on_chain, on_shown, on_version_of, shown_with}
+use Rattle.rc_memory.specs.Kept.{HoldMemory, IsMemory, IsSoundChain, chain_of_use}
 use Rattle.rc_memory.specs.Room.{FitTogether, HasRowAt, HasStaticRow}
-use Rattle.rc_memory.specs.Recency.{MayBeListed}
-use Rattle.rc_memory.specs.Changes.{AtAlone, FitsChanged, IsRenewed, IsRenewedWhereNone, IsVersionChanged, IsWithout, KeepsLast, KeepsRows, Nowhere, OfVersion, member}
+use Rattle.rc_memory.specs.Recency.{HasObject, IsLastInner, IsUnderUpdate, MayBeListed, MustBeListed}
+use Rattle.rc_memory.specs.Changes.{AtAlone, FitsChanged, IsRenewed, IsRenewedWhereNone, IsVersionChanged, IsWithout, KeepsLast, KeepsRows, LastIsListed, Nowhere, OfVersion, member}
 use Rattle.rc_memory.specs.laws.At.{found-version, number-low, number-mapped, version-is}
 use Rattle.rc_memory.specs.laws.Changing.{memory-dropped, memory-joined, memory-marked, memory-split, memory-statics, memory-undone}
+use Rattle.rc_memory.specs.laws.Entries.{before-differs, keeps-split, only-split}
 use Rattle.rc_memory.specs.laws.Listed.{one-at}
+use Rattle.rc_memory.specs.laws.Listing.{listed-decided}
 use Rattle.rc_memory.specs.laws.Places.{no_some, same_some, version-there}
-use Rattle.rc_memory.specs.laws.Put.{used-at}
-use Rattle.rc_memory.specs.laws.Recent.{at_there, on-is}
+use Rattle.rc_memory.specs.laws.Put.{put-at, used-at}
+use Rattle.rc_memory.specs.laws.Recent.{at_there, on-is, there_at}
 use Rattle.rc_memory.specs.laws.Rows.{fit-split}
+use Rattle.rc_memory.specs.laws.Rules.{length-on}
+use Rattle.rc_memory.specs.laws.Still.{still-then, unmoved-then}
 use Rattle.rc_recency.specs.Holding.{HasRoomLike, HasRoomToJoin, HoldsAfter, IsHeldVersion, IsOffMemtable}
 use Rattle.rc_chain.proofs.Made.{on-alike}
 use Rattle.rc_chain.proofs.Making.{HasBecome}
 
 -- ---- objects of a version
+
+-- what holds of the version of a number of a chain holds of whichever is of that number
+pub of-version : (m : Memory) (id j : ℕ) (P : KeptChain → Version → Type 0) (k : KeptChain) (c : Version) → chain_at m id ≡ Some k → IsVersionAt k.chain.versions j c → P k c → OfVersion m id j P
+of-version m id j P k c there number p q d e on =
+    let same = same_some k q (sym there ∙ e) in let one = one-at q.chain.versions j c d (subst (λ (x : KeptChain). IsVersionAt x.chain.versions j c) same number) on in
+    subst (P q) one (subst (λ x. P x c) same p)
 
 -- an object at a position of a version
 pub member-position : (m : Memory) (r : Ref) (w : Member) (x : Pos) → w.position ≡ Some x → IsMemberObject m r w → IsMemberObject m r (member w.chain w.version (Some x))
@@ -246,12 +260,6 @@ module _ (S : ℕ) (slots : Slots) (old : View) (registry : Registry) (counts : 
         let value = one-at used.chain.versions j a.1.version c (number-mapped (λ (s : StandingVersion). s.version) a.0.versions j a.1 a.3) at in
         (a.1.entries, subst (λ o. IsVersionOf old o a.1.entries c) a.4 (subst (IsVersionOf old a.1.object a.1.entries) value (version-there slots old h.held.well m.standing h.held.listed h.held.stands id j a.0 a.1 a.2 a.3)))
 
-    -- what holds of it holds of whichever is of that number
-    pub of-version : (P : KeptChain → Version → Type 0) (k : KeptChain) (c : Version) → chain_at m id ≡ Some k → IsVersionAt k.chain.versions j c → P k c → OfVersion m id j P
-    of-version P k c there number p q d e on =
-        let same = same_some k q (sym there ∙ e) in let one = one-at q.chain.versions j c d (subst (λ (x : KeptChain). IsVersionAt x.chain.versions j c) same number) on in
-        subst (P q) one (subst (λ x. P x c) same p)
-
     split-fits : (x : Pos) → dummy_size x ≤ S / 8 → FitsChanged S id j (λ c. with_entries (split x c.entries) c) m
     split-fits x fits = of (chain_at m id) (h.fit id)
       where
@@ -309,7 +317,7 @@ module _ (S : ℕ) (slots : Slots) (old : View) (registry : Registry) (counts : 
           → HoldsAfter slots new registry counts (λ n. IsVersionChanged id j (λ d. with_entries (split x d.entries) d) Nowhere m n × IsRenewedWhereNone kind c (member id j (Some x)) m.recency n.recency × IsMemberObject n r (member id j (Some x)))
           → HasBecome S slots new registry counts (IsSplitAt id j x r m)
       split-here kind x r k c there number same fits last (n, held, is) =
-          let list = of-version (λ q v. IsRenewedWhereNone q.chain.kind v (member id j (Some x)) m.recency n.recency) k c there number (subst (λ y. IsRenewedWhereNone y c (member id j (Some x)) m.recency n.recency) same is.1) in
+          let list = of-version m id j (λ q v. IsRenewedWhereNone q.chain.kind v (member id j (Some x)) m.recency n.recency) k c there number (subst (λ y. IsRenewedWhereNone y c (member id j (Some x)) m.recency n.recency) same is.1) in
           (n, memory-split S slots old new registry counts m n h held id j has x is.0.chains list (split-fits x fits) last, record { changed = is.0; recency = list; here = is.2 })
 
       -- it was split at the position of an entry of another version
@@ -328,7 +336,7 @@ module _ (S : ℕ) (slots : Slots) (old : View) (registry : Registry) (counts : 
 
       module _ (kind : ChainKind) (k : KeptChain) (c : Version) (there : chain_at m id ≡ Some k) (number : IsVersionAt k.chain.versions j c) (same : kind ≡ k.chain.kind) where
         renewed-list : (at : Option Pos) (n : Memory) → IsRenewed kind (member id j at) m.recency n.recency → OfVersion m id j (λ q v. IsRenewed q.chain.kind (member id j at) m.recency n.recency)
-        renewed-list at n list = of-version (λ q v. IsRenewed q.chain.kind (member id j at) m.recency n.recency) k c there number (subst (λ y. IsRenewed y (member id j at) m.recency n.recency) same list)
+        renewed-list at n list = of-version m id j (λ q v. IsRenewed q.chain.kind (member id j at) m.recency n.recency) k c there number (subst (λ y. IsRenewed y (member id j at) m.recency n.recency) same list)
 
         -- a row was joined
         pub joined-here : (x : Pos) (row : Row) (r : Ref) → x ≢ end_position → FitsChanged S id j (row_joined x row) m → KeepsLast id j (row_joined x row) m
@@ -389,7 +397,7 @@ module _ (S : ℕ) (slots : Slots) (old : View) (registry : Registry) (counts : 
   static-row is row said = let st = static-here is in subst (HoldsStatic old e) (same_some st.row row (sym st.statics ∙ said st.chain st.version st.there st.number)) st.held
 
   pub static-said : (is : w.position ≡ None) → SaysStatics m w (static-here is).row
-  static-said is = let st = static-here is in of-version S slots old registry counts m h w.chain w.version (member-version slots old registry counts m h.held e w a) (λ k v. v.statics ≡ Some st.row) st.chain st.version st.there st.number st.statics
+  static-said is = let st = static-here is in of-version m w.chain w.version (λ k v. v.statics ≡ Some st.row) st.chain st.version st.there st.number st.statics
 
   module _ (id j : ℕ) (has : HasVersion m id j) (k : KeptChain) (c : Version) (there : chain_at m id ≡ Some k) (number : IsVersionAt k.chain.versions j c)
       (entry : (x : Pos) → w.position ≡ Some x → (row : Row) × SaysRow m w x row × OfVersion m id j (λ q v. joined_bytes x row v ≤ spare_of S m.region.usages) × FitsChanged S id j (row_joined x row) m × KeepsLast id j (row_joined x row) m)
@@ -433,3 +441,153 @@ module _ (S : ℕ) (slots : Slots) (old : View) (registry : Registry) (counts : 
           of : (p : Option Pos) → w.position ≡ p → (n : Memory) × IsMemory S slots new registry counts n
           of (Some x) is = let q = entry x is in let it = like-entry x is q.0 q.1 in (it.0, it.1)
           of None is = let it = like-statics is (static-here is).row (static-said is) in (it.0, it.1)
+
+-- ---- one change after another
+
+put-put : {X : Type 0} (xs : List (Option X)) (n : ℕ) (a b : Option X) → put n a (put n b xs) ≡ put n a xs
+put-put [] zero a b = refl
+put-put [] (suc n) a b = ap (λ l. None ∷ l) (put-put [] n a b)
+put-put (x ∷ xs) zero a b = refl
+put-put (x ∷ xs) (suc n) a b = ap (λ l. x ∷ l) (put-put xs n a b)
+
+on-both : (j : ℕ) (f g : Version → Version) (vs : List Version) → on_version j g (on_version j f vs) ≡ on_version j (λ v. g (f v)) vs
+on-both j f g [] = refl
+on-both zero f g (v ∷ vs) = refl
+on-both (suc j) f g (v ∷ vs) = ap (λ l. v ∷ l) (on-both j f g vs)
+
+both-chains : (id j : ℕ) (f g : Version → Version) (cs : List (Option KeptChain)) → on_chain id (on_shown (on_version_of j g)) (on_chain id (on_shown (on_version_of j f)) cs) ≡ on_chain id (on_shown (on_version_of j (λ v. g (f v)))) cs
+both-chains id j f g cs =
+    ap (λ o. put id (option_map (on_shown (on_version_of j g)) o) (on_chain id (on_shown (on_version_of j f)) cs)) (put-at cs id (option_map (on_shown (on_version_of j f)) (slice_index_or cs id None)))
+    ∙ put-put cs id (option_map (on_shown (on_version_of j g)) (option_map (on_shown (on_version_of j f)) (slice_index_or cs id None))) (option_map (on_shown (on_version_of j f)) (slice_index_or cs id None)) ∙ ap (λ o. put id o cs) (mapped (slice_index_or cs id None))
+  where
+    mapped : (o : Option KeptChain) → option_map (on_shown (on_version_of j g)) (option_map (on_shown (on_version_of j f)) o) ≡ option_map (on_shown (on_version_of j (λ v. g (f v)))) o
+    mapped None = refl
+    mapped (Some k) = ap (λ vs. Some (on_shown (shown_with vs) k)) (on-both j f g k.chain.versions)
+
+pub changed-both : (id j : ℕ) (f g : Version → Version) (m n o : Memory) → IsVersionChanged id j f Nowhere m n → IsVersionChanged id j g Nowhere n o → IsVersionChanged id j (λ v. g (f v)) Nowhere m o
+changed-both id j f g m n o a b = record {
+  chains = b.chains ∙ ap (on_chain id (on_shown (on_version_of j g))) a.chains ∙ both-chains id j f g m.chains;
+  dropped = b.dropped ∙ a.dropped;
+  counts = b.counts ∙ a.counts;
+  still = still-then Nowhere m n o a.still b.still;
+  region = unmoved-then m.region n.region o.region a.region b.region;
+}
+
+-- the version is there still, and is the changed one
+pub number-after : (j : ℕ) (f : Version → Version) (k : KeptChain) (c : Version) → IsVersionAt k.chain.versions j c → IsVersionAt (on_version j f k.chain.versions) j (f c)
+number-after j f k c number = record { older = number.older; newer = number.newer; split = on-is k.chain.versions j c f number; number = number.number }
+
+pub chain-after : (m n : Memory) (id j : ℕ) (f : Version → Version) → IsVersionChanged id j f Nowhere m n → (k : KeptChain) → chain_at m id ≡ Some k → chain_at n id ≡ Some (on_shown (on_version_of j f) k)
+chain-after m n id j f changed k there = ap (λ cs. slice_index_or cs id None) changed.chains ∙ put-at m.chains id (option_map (on_shown (on_version_of j f)) (chain_at m id)) ∙ ap (option_map (on_shown (on_version_of j f))) there
+
+module _ (m n : Memory) (id j : ℕ) (f : Version → Version) (changed : IsVersionChanged id j f Nowhere m n) (has : HasVersion m id j) where
+  abbrev was : (k : KeptChain) × (v : Version) × (chain_at m id ≡ Some k) × IsVersionAt k.chain.versions j v
+  was = found-version m id j has
+
+  chain-then : chain_at n id ≡ Some (on_shown (on_version_of j f) was.0)
+  chain-then = chain-after m n id j f changed was.0 was.2
+
+  number-then : IsVersionAt (on_version j f was.0.chain.versions) j (f was.1)
+  number-then = number-after j f was.0 was.1 was.3
+
+  pub has-then : HasVersion n id j
+  has-then = there_at (λ k. j < length k.chain.versions) (chain_at n id) (on_shown (on_version_of j f) was.0) (number-low (on_version j f was.0.chain.versions) j (f was.1) number-then) chain-then
+
+  pub of-then : (P : KeptChain → Version → Type 0) → OfVersion m id j (λ k v. P (on_shown (on_version_of j f) k) (f v)) → OfVersion n id j P
+  of-then P each = of-version n id j P (on_shown (on_version_of j f) was.0) (f was.1) chain-then number-then (each was.0 was.1 was.2 was.3)
+
+-- after two splits an entry stands at both positions
+pub split-twice : (x y : Pos) (es : List Entry) → EndsWithDummy es → HasEntryAt x (split y (split x es)) × HasEntryAt y (split y (split x es))
+split-twice x y es ends =
+    let first = split-ends x es ends in
+    (has-split y x (split x es) (stands-has x (split x es) (split-stands x es (position-reached x es ends))), stands-has y (split y (split x es)) (split-stands y (split x es) (position-reached y (split x es) first)))
+
+-- ---- the last entry of a version under update
+
+-- where it is listed it is so after anything that is done
+pub keeps-listed : (m : Memory) (id j : ℕ) (f : Version → Version) → LastIsListed id m → KeepsLast id j f m
+keeps-listed m id j f last = of (chain_at m id) refl
+  where
+    of : (o : Option KeptChain) → chain_at m id ≡ o → IfSome o (λ k. (v : Version) → IsVersionAt k.chain.versions j v → IsUnderUpdate k.chain j → (at : Option Pos) → IsLastInner v at → IsLastInner (f v) at ⊎ Contains m.recency (member id j at))
+    of None e = tt
+    of (Some k) e = λ v number under at inner. inr (last k j v at e under number inner)
+
+inner-before : (front : List Entry) (e end : Entry) → Ascend (front ++ (e ∷ end ∷ [])) → EndsWithDummy (front ++ (e ∷ end ∷ [])) → IsBefore e.position end_position
+inner-before [] e end ascend ends = subst (IsBefore e.position) ends.0 ascend.0
+inner-before (f ∷ []) e end ascend ends = inner-before [] e end ascend.1 ends
+inner-before (f ∷ g ∷ front) e end ascend ends = inner-before (g ∷ front) e end ascend.1 ends
+
+module _ (S : ℕ) (slots : Slots) (old : View) (registry : Registry) (counts : Counts) (m : Memory) (h : IsMemory S slots old registry counts m) (id j : ℕ) (last : LastIsListed id m) (x : Pos) (inner : x ≢ end_position) (n : Memory)
+    (changed : IsVersionChanged id j (λ c. with_entries (split x c.entries) c) Nowhere m n) (list : OfVersion m id j (λ k v. IsRenewedWhereNone k.chain.kind v (member id j (Some x)) m.recency n.recency)) (has : HasVersion m id j) where
+  abbrev then : KeptChain
+  then = on_shown (on_version_of j (λ c. with_entries (split x c.entries) c)) (was m n id j (λ c. with_entries (split x c.entries) c) changed has).0
+
+  module _ (k : KeptChain) (c : Version) (there : chain_at m id ≡ Some k) (number : IsVersionAt k.chain.versions j c) (under : IsUnderUpdate k.chain j) where
+    cached : k.chain.kind ≡ Cache
+    cached = (at_if (chain_at m id) (h.sound id) there).cached under.0
+      where
+        at_if : (o : Option KeptChain) → IfSome o (λ q. IsSoundChain q.chain) → o ≡ Some k → IsSoundChain k.chain
+        at_if o sound e = subst (λ (p : Option KeptChain). IfSome p (λ q. IsSoundChain q.chain)) e sound
+
+    -- each of its entries before the end is listed
+    each-listed : (at : Option Pos) → at ≢ Some end_position → HasObject c at → Contains m.recency (member id j at)
+    each-listed at ne object = elim (listed-decided m.recency (member id j at)) [
+      | inl on ↦ on
+      | inr off ↦ h.rule.complete (member id j at) (there_at (λ q. MustBeListed q.chain j at) (chain_at m id) k
+          (record { cached = cached; version = c; number = number; object = object; inner = ne; passed = λ u l. off (last k j c at there u number l) }) there)
+    ]
+
+    -- and so it is after a split, the entry there too
+    module _ (ne : Some x ≢ Some end_position) where
+      after-split : (at : Option Pos) → at ≢ Some end_position → HasObject c at ⊎ (at ≡ Some x) → Contains n.recency (member id j at)
+      after-split at inside has_one = elim (listed-decided m.recency (member id j (Some x))) [
+        | inl on ↦ let same = (list k c there number).there (object on) in
+            subst (λ l. Contains l (member id j at)) (sym same) (elim has_one [ inl was_there ↦ each-listed at inside was_there | inr here ↦ subst (λ y. Contains m.recency (member id j y)) (sym here) on ])
+        | inr off ↦ made off (subst (λ y. IsRenewed y (member id j (Some x)) m.recency n.recency) cached ((list k c there number).made (λ object_there. off (each-listed (Some x) ne object_there))))
+      ]
+        where
+          object : Contains m.recency (member id j (Some x)) → HasObject c (Some x)
+          object on = let p = at_there (λ q. MayBeListed q.chain j (Some x)) (chain_at m id) k (h.rule.members (member id j (Some x)) on) there in subst (λ v. HasObject v (Some x)) (one-at k.chain.versions j p.version c p.number number) p.object
+
+          made : (Contains m.recency (member id j (Some x)) → ⊥) → IsRenewed Cache (member id j (Some x)) m.recency n.recency → Contains n.recency (member id j at)
+          made off (rest, out, is) = subst (λ l. Contains l (member id j at)) (sym is) (elim has_one [
+            | inl was_there ↦ elem-left rest (member id j (Some x) ∷ []) (member id j at) (elim out [
+              | inl same ↦ subst (λ l. Contains l (member id j at)) (sym same.1) (each-listed at inside was_there)
+              | inr cut ↦ absurd (off (subst (λ l. Contains l (member id j (Some x))) (sym cut.2) (elem-here cut.0 cut.1 (member id j (Some x)))))
+            ])
+            | inr here ↦ subst (λ y. Contains (rest ++ (member id j (Some x) ∷ [])) (member id j y)) (sym here) (elem-here rest [] (member id j (Some x)))
+          ])
+
+  -- so the last entry of the split version is listed, whatever is done to it
+  pub keeps-split-last : (f : Version → Version) → KeepsLast id j f n
+  keeps-split-last f =
+      let a = was m n id j (λ c. with_entries (split x c.entries) c) changed has in
+      subst (λ (o : Option KeptChain). IfSome o (λ k. (v : Version) → IsVersionAt k.chain.versions j v → IsUnderUpdate k.chain j → (at : Option Pos) → IsLastInner v at → IsLastInner (f v) at ⊎ Contains n.recency (member id j at)))
+      (sym (chain-then m n id j (λ c. with_entries (split x c.entries) c) changed has)) (each a.0 a.1 a.2 a.3)
+    where
+      each : (k : KeptChain) (c : Version) → chain_at m id ≡ Some k → IsVersionAt k.chain.versions j c → (v : Version) → IsVersionAt (on_version j (λ d. with_entries (split x d.entries) d) k.chain.versions) j v
+          → (k.chain.updating ≡ true) × (suc j ≡ length (on_version j (λ d. with_entries (split x d.entries) d) k.chain.versions)) → (at : Option Pos) → IsLastInner v at → IsLastInner (f v) at ⊎ Contains n.recency (member id j at)
+      each k c there number v on under at l =
+          let one = one-at (on_version j (λ d. with_entries (split x d.entries) d) k.chain.versions) j v (with_entries (split x c.entries) c) on
+              (number-after j (λ d. with_entries (split x d.entries) d) k c number) in
+          let is = split-is x c (version-is slots old registry counts m h.held id j k c there number) in
+          let entries : split x c.entries ≡ l.0 ++ (l.1 ∷ l.2 ∷ []) = ap (λ (z : Version). z.entries) (sym one) ∙ l.3 in
+          let before = inner-before l.0 l.1 l.2 (subst Ascend entries is.ascend) (subst EndsWithDummy entries is.ends) in
+          let here : HasObject (with_entries (split x c.entries) c) (Some l.1.position) = subst (HasEntryAt l.1.position) (sym entries) (at-among (l.0 ++ (l.1 ∷ l.2 ∷ [])) l.1 (elem-here l.0 (l.2 ∷ []) l.1)) in
+          inr (subst (λ y. Contains n.recency (member id j y)) (sym l.4) (after-split k c there number (under.0, under.1 ∙ length-on j (λ d. with_entries (split x d.entries) d) k.chain.versions) (λ e. inner (same_some x end_position e)) (Some l.1.position)
+          (λ e. before-differs l.1.position end_position before (same_some l.1.position end_position e)) (only-split c x (Some l.1.position) here)))
+
+pub before-apart : (x y : Pos) → IsBefore x y → x ≢ y
+before-apart x y before = before-differs x y before
+
+-- where an entry stands before another one it is not the end dummy
+pub before-inner : (x y : Pos) → IsBefore x y → x ≢ end_position
+before-inner x y before e =
+    let after : pos_cmp y end_position ≡ Greater = ap (pos_cmp y) (sym e) ∙ turn_to x y Less before in let clash : true ≡ false = ap is_gt (sym after) ∙ last_pos-greatest y in cc
+
+-- a second split makes an entry where there was none before the first one
+pub split-both : (kind : ChainKind) (c : Version) (x y : Pos) (w : Member) → w.position ≡ Some y → x ≢ y → (old new : List Member) → IsRenewedWhereNone kind (with_entries (split x c.entries) c) w old new → IsRenewedWhereNone kind c w old new
+split-both kind c x y w is ne old new r = record {
+  made = λ none. r.made (λ object. elim (only-split c x w.position object) [ inl there ↦ none there | inr here ↦ ne (same_some x y (sym here ∙ is)) ]);
+  there = λ object. r.there (keeps-split c x w.position object);
+}

@@ -229,6 +229,7 @@ impl<const S: usize> Chains<S> {
         ensures recency { OfVersion self.old id number (λ k v. (mid : Sequence Member) × IsRenewedWhereNone k.chain.kind v (member id number (Some from.now)) self.old.recency mid × IsRenewedWhereNone k.chain.kind v (member id number (Some to.now)) mid self.new.recency) }
         ensures spare { spare_of S self.old.region.usages ≤ spare_of S self.new.region.usages + (dummy_size from.now + dummy_size to.now) }
     {
+        let _ = &self.region;
         self.split(id, number, from);
         self.split(id, number, to);
         self.raise(id, number, from, to, tomb);

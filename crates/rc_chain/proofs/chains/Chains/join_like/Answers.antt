@@ -66,7 +66,7 @@ returns-clause-entry_spare g c =
     let is = kept-is g.row.S s.recency c.join_like.new.region s.registry s.counts c.self-1.given.0 it.0 it.1.held in
     let en = entry-here g.row.S s.recency s.region s.registry s.counts c.args.self.now n c.args.e w a x e in let same = ap (λ (m : Memory). spare_of g.row.S m.region.usages) is ∙ ap (λ (v : View). spare_of g.row.S v.usages) it.1.held.region in let before = ap (λ (v : View). spare_of g.row.S v.usages) n.held.region in
     let after = subst (λ y. spare_of g.row.S s.region.usages ≤ spare_of g.row.S c.join_like.new.region.usages + joined_bytes y row v.1) en.position (c.join_like.ensures.entry_spare s.registry s.counts c.args.self.now c.args.id c.args.number v.0 v.1 en.entry row v.2 en.held (entry-row g.row.S s.recency s.region s.registry s.counts c.args.self.now n c.args.e w a x e row said)) in
-    of-version g.row.S s.recency s.region s.registry s.counts c.args.self.now n c.args.id c.args.number c.requires.version (λ (k : KeptChain) (d : Version). spare_of g.row.S c.args.self.now.region.usages ≤ spare_of g.row.S c.self-1.given.0.0.region.usages + joined_bytes x row d) v.0 v.1 v.2.chain v.2.number (omega (arith, same, before, after))
+    of-version c.args.self.now c.args.id c.args.number (λ (k : KeptChain) (d : Version). spare_of g.row.S c.args.self.now.region.usages ≤ spare_of g.row.S c.self-1.given.0.0.region.usages + joined_bytes x row d) v.0 v.1 v.2.chain v.2.number (omega (arith, same, before, after))
 
 pub returns-clause-statics_spare : goal.returns-clause-statics_spare
 returns-clause-statics_spare g c =
@@ -76,4 +76,4 @@ returns-clause-statics_spare g c =
     let is = kept-is g.row.S s.recency c.join_like.new.region s.registry s.counts c.self-1.given.0 it.0 it.1.held in
     let same = ap (λ (m : Memory). spare_of g.row.S m.region.usages) is ∙ ap (λ (v : View). spare_of g.row.S v.usages) it.1.held.region in let before = ap (λ (v : View). spare_of g.row.S v.usages) n.held.region in
     let after = c.join_like.ensures.statics_spare s.registry s.counts c.args.self.now c.args.id c.args.number v.0 v.1 row v.2 (static-row g.row.S s.recency s.region s.registry s.counts c.args.self.now n c.args.e w a e row said) in
-    of-version g.row.S s.recency s.region s.registry s.counts c.args.self.now n c.args.id c.args.number c.requires.version (λ (k : KeptChain) (d : Version). spare_of g.row.S c.args.self.now.region.usages ≤ spare_of g.row.S c.self-1.given.0.0.region.usages + static_size (change.joined_onto d.statics row)) v.0 v.1 v.2.chain v.2.number (omega (arith, same, before, after))
+    of-version c.args.self.now c.args.id c.args.number (λ (k : KeptChain) (d : Version). spare_of g.row.S c.args.self.now.region.usages ≤ spare_of g.row.S c.self-1.given.0.0.region.usages + static_size (change.joined_onto d.statics row)) v.0 v.1 v.2.chain v.2.number (omega (arith, same, before, after))

@@ -70,4 +70,4 @@ returns-clause-spare g c =
     let it = joined-here g.row.S s.recency s.region s.registry s.counts c.args.self.now n c.args.id c.args.number c.requires.version c.join_row.new.region c.kind-kind.result v.0 v.1 v.2.chain v.2.number (c.kind-kind.ensures v.0 v.2.chain) (row_pos c.args.key.now) c.args.row.now c.join_row.result (row-inner c.args.key.now) c.requires.fits c.requires.last (c.join_row.ensures.changed s.registry s.counts c.args.self.now c.args.id c.args.number v.0 v.1 c.args.row.now v.2 (c.put_row.ensures.coded, c.bytes.ensures.value ∙ ap (λ (z : Space). z.bytes) c.put_row.ensures.value ∙ ap (λ (z : Space). z.bytes ++ row_code c.args.row.now) c.clear.ensures) (off-memtable g.row.S s.recency s.region s.registry s.counts c.args.self.now n c.args.id c.args.number c.requires.version c.kind-kind.result (Some (row_pos c.args.key.now)) v.0 v.2.chain (c.kind-kind.ensures v.0 v.2.chain))) in
     let is = kept-is g.row.S s.recency c.join_row.new.region s.registry s.counts c.self-1.given.0 it.0 it.1.held in
     let same = ap (λ (m : Memory). spare_of g.row.S m.region.usages) is ∙ ap (λ (v : View). spare_of g.row.S v.usages) it.1.held.region in let before = ap (λ (v : View). spare_of g.row.S v.usages) n.held.region in let after = c.join_row.ensures.spare s.registry s.counts c.args.self.now c.args.id c.args.number v.0 v.1 c.args.row.now v.2 (c.put_row.ensures.coded, c.bytes.ensures.value ∙ ap (λ (z : Space). z.bytes) c.put_row.ensures.value ∙ ap (λ (z : Space). z.bytes ++ row_code c.args.row.now) c.clear.ensures) in
-    of-version g.row.S s.recency s.region s.registry s.counts c.args.self.now n c.args.id c.args.number c.requires.version (λ (k : KeptChain) (d : Version). spare_of g.row.S c.args.self.now.region.usages ≤ spare_of g.row.S c.self-1.given.0.0.region.usages + joined_bytes (row_pos c.args.key.now) c.args.row.now d) v.0 v.1 v.2.chain v.2.number (omega (arith, same, before, after))
+    of-version c.args.self.now c.args.id c.args.number (λ (k : KeptChain) (d : Version). spare_of g.row.S c.args.self.now.region.usages ≤ spare_of g.row.S c.self-1.given.0.0.region.usages + joined_bytes (row_pos c.args.key.now) c.args.row.now d) v.0 v.1 v.2.chain v.2.number (omega (arith, same, before, after))

@@ -84,4 +84,4 @@ returns-clause-spare g c =
     let it = flagged-here g.row.S s.recency s.region s.registry s.counts c.args.self.now n c.args.id c.args.number c.requires.version c.set_static.new.region c.kind-kind.result v.0 v.1 v.2.chain v.2.number (c.kind-kind.ensures v.0 v.2.chain) c.args.row.now c.args.flag c.requires.fits (c.set_static.ensures.changed s.registry s.counts c.args.self.now c.args.id c.args.number v.0 v.1 (change.joined_onto v.1.statics c.args.row.now) v.2 code (off-memtable g.row.S s.recency s.region s.registry s.counts c.args.self.now n c.args.id c.args.number c.requires.version c.kind-kind.result None v.0 v.2.chain (c.kind-kind.ensures v.0 v.2.chain))) in
     let is = kept-is g.row.S s.recency c.set_static.new.region s.registry s.counts c.self-1.given.0 it.0 it.1.held in
     let same = ap (λ (m : Memory). spare_of g.row.S m.region.usages) is ∙ ap (λ (v : View). spare_of g.row.S v.usages) it.1.held.region in let before = ap (λ (v : View). spare_of g.row.S v.usages) n.held.region in let after = c.set_static.ensures.spare (change.joined_onto v.1.statics c.args.row.now) code in
-    of-version g.row.S s.recency s.region s.registry s.counts c.args.self.now n c.args.id c.args.number c.requires.version (λ (k : KeptChain) (d : Version). spare_of g.row.S c.args.self.now.region.usages ≤ spare_of g.row.S c.self-1.given.0.0.region.usages + static_size (change.joined_onto d.statics c.args.row.now)) v.0 v.1 v.2.chain v.2.number (omega (arith, same, before, after))
+    of-version c.args.self.now c.args.id c.args.number (λ (k : KeptChain) (d : Version). spare_of g.row.S c.args.self.now.region.usages ≤ spare_of g.row.S c.self-1.given.0.0.region.usages + static_size (change.joined_onto d.statics c.args.row.now)) v.0 v.1 v.2.chain v.2.number (omega (arith, same, before, after))
