@@ -409,8 +409,14 @@ module _ (S : ℕ) (slots : Slots) (old : View) (registry : Registry) (counts : 
         of : (p : Option Pos) → w.position ≡ p → HasRoomLike S old space e c
         of (Some x) is =
             let q = entry x is in let en = entry-here x is in let spare = subst (λ (v : View). joined_bytes x q.0 c ≤ spare_of S v.usages) h.held.region (q.2 k c there number) in
-            inl (en.entry, q.0, en.held, entry-row x is q.0 q.1, subst (λ y. IsBefore y end_position) (sym en.position) (entry-inner x is q.0 q.1),
-            subst (λ y. HasRoomToJoin S old space y q.0 c) (sym en.position) (room-joined S slots old registry counts m h id j has k c there number space size x q.0 (entry-coded x is q.0 q.1) q.3 spare))
+            inl (
+              en.entry,
+              q.0,
+              en.held,
+              entry-row x is q.0 q.1,
+              subst (λ y. IsBefore y end_position) (sym en.position) (entry-inner x is q.0 q.1),
+              subst (λ y. HasRoomToJoin S old space y q.0 c) (sym en.position) (room-joined S slots old registry counts m h id j has k c there number space size x q.0 (entry-coded x is q.0 q.1) q.3 spare),
+            )
         of None is =
             let st = static-here is in let q = statics st.row is (static-said is) in let spare = subst (λ (v : View). static_size (joined_onto c.statics st.row) ≤ spare_of S v.usages) h.held.region (q.0 k c there number) in
             let fits = static-fits S slots old registry counts m h id j has k c there number (join_statics st.row) st.row (coded_of old e st.row (inl st.held)).ascending refl q.1 in
@@ -519,9 +525,6 @@ inner-before (f ∷ g ∷ front) e end ascend ends = inner-before (g ∷ front) 
 
 module _ (S : ℕ) (slots : Slots) (old : View) (registry : Registry) (counts : Counts) (m : Memory) (h : IsMemory S slots old registry counts m) (id j : ℕ) (last : LastIsListed id m) (x : Pos) (inner : x ≢ end_position) (n : Memory)
     (changed : IsVersionChanged id j (λ c. with_entries (split x c.entries) c) Nowhere m n) (list : OfVersion m id j (λ k v. IsRenewedWhereNone k.chain.kind v (member id j (Some x)) m.recency n.recency)) (has : HasVersion m id j) where
-  abbrev then : KeptChain
-  then = on_shown (on_version_of j (λ c. with_entries (split x c.entries) c)) (was m n id j (λ c. with_entries (split x c.entries) c) changed has).0
-
   module _ (k : KeptChain) (c : Version) (there : chain_at m id ≡ Some k) (number : IsVersionAt k.chain.versions j c) (under : IsUnderUpdate k.chain j) where
     cached : k.chain.kind ≡ Cache
     cached = (at_if (chain_at m id) (h.sound id) there).cached under.0
@@ -569,16 +572,13 @@ module _ (S : ℕ) (slots : Slots) (old : View) (registry : Registry) (counts : 
           → (k.chain.updating ≡ true) × (suc j ≡ length (on_version j (λ d. with_entries (split x d.entries) d) k.chain.versions)) → (at : Option Pos) → IsLastInner v at → IsLastInner (f v) at ⊎ Contains n.recency (member id j at)
       each k c there number v on under at l =
           let one = one-at (on_version j (λ d. with_entries (split x d.entries) d) k.chain.versions) j v (with_entries (split x c.entries) c) on
-              (number-after j (λ d. with_entries (split x d.entries) d) k c number) in
+          (number-after j (λ d. with_entries (split x d.entries) d) k c number) in
           let is = split-is x c (version-is slots old registry counts m h.held id j k c there number) in
           let entries : split x c.entries ≡ l.0 ++ (l.1 ∷ l.2 ∷ []) = ap (λ (z : Version). z.entries) (sym one) ∙ l.3 in
           let before = inner-before l.0 l.1 l.2 (subst Ascend entries is.ascend) (subst EndsWithDummy entries is.ends) in
           let here : HasObject (with_entries (split x c.entries) c) (Some l.1.position) = subst (HasEntryAt l.1.position) (sym entries) (at-among (l.0 ++ (l.1 ∷ l.2 ∷ [])) l.1 (elem-here l.0 (l.2 ∷ []) l.1)) in
           inr (subst (λ y. Contains n.recency (member id j y)) (sym l.4) (after-split k c there number (under.0, under.1 ∙ length-on j (λ d. with_entries (split x d.entries) d) k.chain.versions) (λ e. inner (same_some x end_position e)) (Some l.1.position)
           (λ e. before-differs l.1.position end_position before (same_some l.1.position end_position e)) (only-split c x (Some l.1.position) here)))
-
-pub before-apart : (x y : Pos) → IsBefore x y → x ≢ y
-before-apart x y before = before-differs x y before
 
 -- where an entry stands before another one it is not the end dummy
 pub before-inner : (x y : Pos) → IsBefore x y → x ≢ end_position

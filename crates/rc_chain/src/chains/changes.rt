@@ -71,7 +71,7 @@ impl<const S: usize> Chains<S> {
     }
 
     // Gives a version another phase.
-    fn set_phase(&mut self, id: u64, number: u64, phase: u64)
+    pub(super) fn set_phase(&mut self, id: u64, number: u64, phase: u64)
         requires { HasVersion self.old id number }
         ensures set { IsVersionChanged id number (steps.with_phase phase) Nowhere self.old self.new }
         ensures recency { self.new.recency ≡ self.old.recency }
@@ -108,7 +108,14 @@ impl<const S: usize> Chains<S> {
     {
         let v = self.version(id, number);
         let kind = self.kind(id);
-        rc_recency::split(&mut self.region, &self.recency, kind, v, x, &mut self.scratch)
+        rc_recency::split(
+            &mut self.region,
+            &self.recency,
+            kind,
+            v,
+            x,
+            &mut self.scratch,
+        )
     }
 
     /// The entry of a version at the position of an entry of another version; else as `split`.
@@ -122,7 +129,14 @@ impl<const S: usize> Chains<S> {
     {
         let v = self.version(id, number);
         let kind = self.kind(id);
-        rc_recency::split_like(&mut self.region, &self.recency, kind, v, e, &mut self.scratch)
+        rc_recency::split_like(
+            &mut self.region,
+            &self.recency,
+            kind,
+            v,
+            e,
+            &mut self.scratch,
+        )
     }
 
     /// Takes an entry of a version out and frees it, which is not the end dummy: the gap before the next one is Unknown then, and without a tombstone. It leaves the recency list, where it is in it.
@@ -214,7 +228,14 @@ impl<const S: usize> Chains<S> {
     {
         let v = self.version(id, number);
         let kind = self.kind(id);
-        rc_recency::join_like(&mut self.region, &self.recency, kind, v, e, &mut self.scratch)
+        rc_recency::join_like(
+            &mut self.region,
+            &self.recency,
+            kind,
+            v,
+            e,
+            &mut self.scratch,
+        )
     }
 
     /// Joins a range tombstone to a version, from one position on and before another: the greater one stands at each entry between them and over each gap. Where no entry stands at one of them, a dummy is made there, as `split` makes it.

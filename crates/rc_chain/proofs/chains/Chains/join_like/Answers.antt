@@ -43,20 +43,22 @@ returns-clause-entry g c =
     λ w x row a e said. let s = c.self.inside in let n = memory-now g.row.S s.recency s.region s.registry s.counts s.memory c.args.self.now c.self.view_is c.self.invariant.0 c.self.invariant.1 in
     let v = held-version g.row.S s.recency s.region s.registry s.counts c.args.self.now n c.args.id c.args.number c.requires.version c.version-v.result c.version-v.ensures in
     let it = like-entry g.row.S s.recency s.region s.registry s.counts c.args.self.now n c.args.e w a c.args.id c.args.number c.requires.version v.0 v.1 v.2.chain v.2.number (λ x e. c.requires.entry w x a e) (λ row e said. c.requires.statics w row a e said) c.join_like.new.region c.kind-kind.result (c.kind-kind.ensures v.0 v.2.chain) c.join_like.result (λ y row holds is off. c.join_like.ensures.entry s.registry s.counts c.args.self.now c.args.id c.args.number v.0 v.1 y row v.2 holds is off) (λ row holds off. c.join_like.ensures.statics s.registry s.counts c.args.self.now c.args.id c.args.number v.0 v.1 row v.2 holds off) x e row said in
-    let is = kept-is g.row.S s.recency c.join_like.new.region s.registry s.counts c.self-1.given.0 it.0 it.1.held in
-    (subst (IsVersionChanged c.args.id c.args.number (row_joined x row) (AtAlone (member c.args.id c.args.number (Some x))) c.args.self.now) (sym is) it.2.0.changed,
-    subst (λ (m : Memory). OfVersion c.args.self.now c.args.id c.args.number (λ (k : KeptChain) (v : Version). IsRenewed k.chain.kind (member c.args.id c.args.number (Some x)) c.args.self.now.recency m.recency)) (sym is) it.2.0.recency,
-    subst (λ (m : Memory). IsMemberObject m c.join_like.result (member c.args.id c.args.number (Some x))) (sym is) it.2.1)
+    let is = kept-is g.row.S s.recency c.join_like.new.region s.registry s.counts c.self-1.given.0 it.0 it.1.held in (
+      subst (IsVersionChanged c.args.id c.args.number (row_joined x row) (AtAlone (member c.args.id c.args.number (Some x))) c.args.self.now) (sym is) it.2.0.changed,
+      subst (λ (m : Memory). OfVersion c.args.self.now c.args.id c.args.number (λ (k : KeptChain) (v : Version). IsRenewed k.chain.kind (member c.args.id c.args.number (Some x)) c.args.self.now.recency m.recency)) (sym is) it.2.0.recency,
+      subst (λ (m : Memory). IsMemberObject m c.join_like.result (member c.args.id c.args.number (Some x))) (sym is) it.2.1,
+    )
 
 pub returns-clause-statics : goal.returns-clause-statics
 returns-clause-statics g c =
     λ w row a e said. let s = c.self.inside in let n = memory-now g.row.S s.recency s.region s.registry s.counts s.memory c.args.self.now c.self.view_is c.self.invariant.0 c.self.invariant.1 in
     let v = held-version g.row.S s.recency s.region s.registry s.counts c.args.self.now n c.args.id c.args.number c.requires.version c.version-v.result c.version-v.ensures in
     let it = like-statics g.row.S s.recency s.region s.registry s.counts c.args.self.now n c.args.e w a c.args.id c.args.number c.requires.version v.0 v.1 v.2.chain v.2.number (λ x e. c.requires.entry w x a e) (λ row e said. c.requires.statics w row a e said) c.join_like.new.region c.kind-kind.result (c.kind-kind.ensures v.0 v.2.chain) c.join_like.result (λ y row holds is off. c.join_like.ensures.entry s.registry s.counts c.args.self.now c.args.id c.args.number v.0 v.1 y row v.2 holds is off) (λ row holds off. c.join_like.ensures.statics s.registry s.counts c.args.self.now c.args.id c.args.number v.0 v.1 row v.2 holds off) e row said in
-    let is = kept-is g.row.S s.recency c.join_like.new.region s.registry s.counts c.self-1.given.0 it.0 it.1.held in
-    (subst (IsVersionChanged c.args.id c.args.number (join_statics row) (AtAlone (member c.args.id c.args.number None)) c.args.self.now) (sym is) it.2.0.changed,
-    subst (λ (m : Memory). OfVersion c.args.self.now c.args.id c.args.number (λ (k : KeptChain) (v : Version). IsRenewed k.chain.kind (member c.args.id c.args.number None) c.args.self.now.recency m.recency)) (sym is) it.2.0.recency,
-    subst (λ (m : Memory). IsMemberObject m c.join_like.result (member c.args.id c.args.number None)) (sym is) it.2.1)
+    let is = kept-is g.row.S s.recency c.join_like.new.region s.registry s.counts c.self-1.given.0 it.0 it.1.held in (
+      subst (IsVersionChanged c.args.id c.args.number (join_statics row) (AtAlone (member c.args.id c.args.number None)) c.args.self.now) (sym is) it.2.0.changed,
+      subst (λ (m : Memory). OfVersion c.args.self.now c.args.id c.args.number (λ (k : KeptChain) (v : Version). IsRenewed k.chain.kind (member c.args.id c.args.number None) c.args.self.now.recency m.recency)) (sym is) it.2.0.recency,
+      subst (λ (m : Memory). IsMemberObject m c.join_like.result (member c.args.id c.args.number None)) (sym is) it.2.1,
+    )
 
 pub returns-clause-entry_spare : goal.returns-clause-entry_spare
 returns-clause-entry_spare g c =

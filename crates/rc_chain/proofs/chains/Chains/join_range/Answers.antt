@@ -7,7 +7,8 @@ use Rattle.rc_version.specs.Versions.{raised_between}
 use Rattle.rc_memory.specs.Memory.{KeptChain}
 use Rattle.rc_memory.specs.Changes.{IsRenewedWhereNone, member}
 use Rattle.rc_memory.specs.laws.At.{version-is}
-use Rattle.rc_chain.proofs.Changing.{has-then, of-then, split-twice, keeps-listed, keeps-split-last, changed-both, before-inner, before-apart, split-both, chain-after, number-after}
+use Rattle.rc_memory.specs.laws.Entries.{before-differs}
+use Rattle.rc_chain.proofs.Changing.{has-then, of-then, split-twice, keeps-listed, keeps-split-last, changed-both, before-inner, split-both, chain-after, number-after}
 use Rattle.rc_chain.proofs.Reading.{memory-now}
 use Rattle.rc_chain.proofs.chains.Chains.join_range.Goals as goal
 
@@ -35,7 +36,7 @@ returns-clause-recency g c =
     λ k v e at.
     let there = chain-after c.args.self.now c.split.new.self c.args.id c.args.number (λ (d : Version). with_entries (change.split c.args.from.now d.entries) d) c.split.ensures.changed k e in let number = number-after c.args.number (λ (d : Version). with_entries (change.split c.args.from.now d.entries) d) k v at in
     let second = subst (λ list. IsRenewedWhereNone k.chain.kind (with_entries (change.split c.args.from.now v.entries) v) (member c.args.id c.args.number (Some c.args.to.now)) c.split.new.self.recency list) (sym c.raise.ensures.recency) (c.split-2.ensures.recency _ _ there number) in
-    (c.split.new.self.recency, c.split.ensures.recency k v e at, split-both k.chain.kind v c.args.from.now c.args.to.now (member c.args.id c.args.number (Some c.args.to.now)) refl (before-apart c.args.from.now c.args.to.now c.requires.ascend) c.split.new.self.recency c.raise.new.self.recency second)
+    (c.split.new.self.recency, c.split.ensures.recency k v e at, split-both k.chain.kind v c.args.from.now c.args.to.now (member c.args.id c.args.number (Some c.args.to.now)) refl (before-differs c.args.from.now c.args.to.now c.requires.ascend) c.split.new.self.recency c.raise.new.self.recency second)
 
 pub returns-clause-spare : goal.returns-clause-spare
 returns-clause-spare g c =
