@@ -1,24 +1,31 @@
 //! Changes of one version of a chain, by the number of the chain and that of the version, the oldest being 0. An object that is made in a cache chain goes to the back of the recency list; one that is replaced or dropped leaves it first.
-ghost use Rattle.std.specs.Prelude.{◌≡◌, ◌+◌, ◌/◌, ◌≤◌, Some, None};
+ghost use Rattle.std.specs.Prelude.{◌≡◌, ◌+◌, ◌/◌, ◌≤◌, List as Sequence, [], Some, None, length};
 ghost use Rattle.lsa_pool.specs.Room.{spare_of};
+ghost use Rattle.lsa_store.specs.declared.place.Ref.{Ref as Name};
+ghost use Rattle.rc_cell.specs.declared.rows.Row.{Row as Cells};
 ghost use Rattle.rc_position.specs.declared.positions.Pos.{Pos as Position};
-ghost use Rattle.rc_position.specs.Position.{IsBefore};
+ghost use Rattle.rc_position.specs.Position.{IsBefore, row_pos};
+ghost use Rattle.rc_rowcode.specs.Objects.{dummy_size, static_size};
+ghost use Rattle.rc_rowcode.specs.Spelling.{row_code, KeyFits, RowFits};
 ghost use Rattle.rc_core.specs.AtPlace.{HasEntryAt};
 ghost use Rattle.rc_core.specs.Change as change;
 ghost use Rattle.rc_core.specs.Continuity.{with_entries, without_statics};
 ghost use Rattle.rc_core.specs.Steps as steps;
-ghost use Rattle.rc_core.specs.Version.{Version, end_position};
-ghost use Rattle.rc_rowcode.specs.Objects.{dummy_size};
-ghost use Rattle.rc_rowcode.specs.Spelling.{KeyFits};
-ghost use Rattle.rc_version.specs.Versions.{raised_between};
+ghost use Rattle.rc_core.specs.Version.{On, Version, end_position, seen};
+ghost use Rattle.rc_object.specs.Objects.{IsRowCode};
+ghost use Rattle.rc_version.specs.Versions.{IsVersionOf, bytes_at, joined_bytes, raised_between};
 ghost use Rattle.rc_memory.specs.Memory.{KeptChain, Member, HasVersion, IsMemberObject};
-ghost use Rattle.rc_memory.specs.Changes.{AtAlone, IsRenewedWhereNone, IsVersionChanged, IsWithout, KeepsLast, Nowhere, OfVersion, member};
+ghost use Rattle.rc_memory.specs.Changes.{AtAlone, FitsChanged, IsRenewed, IsRenewedWhereNone, IsVersionChanged, IsWithout, KeepsLast, LastIsListed, Nowhere, OfVersion, member};
 
 use super::Chains;
-use lsa_region::Ref;
-use rc_cell::Tomb;
+use lsa_region::{Ref, Region};
+use rc_cell::{Row, Tomb};
 use rc_core::Flag;
-use rc_position::Pos;
+use rc_object::row_code;
+use rc_position::{Key, Pos};
+use rc_rowcode::laws::joined_row_has_a_code;
+use rc_rowcode::{Scratch, join_codes};
+use rc_version::static_row;
 
 impl<const S: usize> Chains<S> {
     /// Gives an entry of a chain other flags, at it and over the gap before it. Its tombstones stay.
@@ -63,8 +70,8 @@ impl<const S: usize> Chains<S> {
         rc_recency::set_static_flag(&mut self.region, v, flag);
     }
 
-    /// Gives a version another phase.
-    pub(crate) fn set_phase(&mut self, id: u64, number: u64, phase: u64)
+    // Gives a version another phase.
+    pub(super) fn set_phase(&mut self, id: u64, number: u64, phase: u64)
         requires { HasVersion self.old id number }
         ensures set { IsVersionChanged id number (steps.with_phase phase) Nowhere self.old self.new }
         ensures recency { self.new.recency ≡ self.old.recency }
@@ -101,7 +108,14 @@ impl<const S: usize> Chains<S> {
     {
         let v = self.version(id, number);
         let kind = self.kind(id);
-        rc_recency::split(&mut self.region, &self.recency, kind, v, x, &mut self.scratch)
+        rc_recency::split(
+            &mut self.region,
+            &self.recency,
+            kind,
+            v,
+            x,
+            &mut self.scratch,
+        )
     }
 
     /// The entry of a version at the position of an entry of another version; else as `split`.
@@ -115,7 +129,14 @@ impl<const S: usize> Chains<S> {
     {
         let v = self.version(id, number);
         let kind = self.kind(id);
-        rc_recency::split_like(&mut self.region, &self.recency, kind, v, e, &mut self.scratch)
+        rc_recency::split_like(
+            &mut self.region,
+            &self.recency,
+            kind,
+            v,
+            e,
+            &mut self.scratch,
+        )
     }
 
     /// Takes an entry of a version out and frees it, which is not the end dummy: the gap before the next one is Unknown then, and without a tombstone. It leaves the recency list, where it is in it.
@@ -138,5 +159,114 @@ impl<const S: usize> Chains<S> {
     {
         let v = self.version(id, number);
         rc_recency::drop_static(&mut self.region, &self.recency, v);
+    }
+
+    /// Joins a row to what a version has at a key. The entry there is made anew and keeps its flags and tombstones; where there is none, it takes those of the gap. In a cache chain it goes to the back of the recency list.
+    pub fn join_row(&mut self, id: u64, number: u64, key: &Key, row: &Row) -> Ref
+        requires key { KeyFits key.now }
+        requires row { RowFits row.now × (bytes_at (row_pos key.now) (Some row.now) ≤ S / 8) }
+        requires version { HasVersion self.old id number }
+        requires spare { OfVersion self.old id number (λ k v. joined_bytes (row_pos key.now) row.now v ≤ spare_of S self.old.region.usages) }
+        requires fits { FitsChanged S id number (steps.row_joined (row_pos key.now) row.now) self.old }
+        requires last { KeepsLast id number (steps.row_joined (row_pos key.now) row.now) self.old }
+        ensures joined { IsVersionChanged id number (steps.row_joined (row_pos key.now) row.now) (AtAlone (member id number (Some (row_pos key.now)))) self.old self.new }
+        ensures recency { OfVersion self.old id number (λ k v. IsRenewed k.chain.kind (member id number (Some (row_pos key.now))) self.old.recency self.new.recency) }
+        ensures here { IsMemberObject self.new result (member id number (Some (row_pos key.now))) }
+        ensures spare { OfVersion self.old id number (λ k v. spare_of S self.old.region.usages ≤ spare_of S self.new.region.usages + joined_bytes (row_pos key.now) row.now v) }
+    {
+        let v = self.version(id, number);
+        let kind = self.kind(id);
+        self.other.clear();
+        self.other.put_row(row);
+        rc_recency::join_row(
+            &mut self.region,
+            &self.recency,
+            kind,
+            v,
+            key,
+            self.other.bytes(),
+            &mut self.scratch,
+        )
+    }
+
+    /// Joins a row to the static row of a version, which has this flag then, and is made anew: in a cache chain it goes to the back of the recency list.
+    pub fn join_static(&mut self, id: u64, number: u64, row: &Row, flag: Flag)
+        requires row { RowFits row.now × (static_size row.now ≤ S / 8) }
+        requires version { HasVersion self.old id number }
+        requires spare { OfVersion self.old id number (λ k v. static_size (change.joined_onto v.statics row.now) ≤ spare_of S self.old.region.usages) }
+        requires fits { FitsChanged S id number (steps.join_flagged_statics row.now flag) self.old }
+        ensures joined { IsVersionChanged id number (steps.join_flagged_statics row.now flag) (AtAlone (member id number None)) self.old self.new }
+        ensures recency { OfVersion self.old id number (λ k v. IsRenewed k.chain.kind (member id number None) self.old.recency self.new.recency) }
+        ensures spare { OfVersion self.old id number (λ k v. spare_of S self.old.region.usages ≤ spare_of S self.new.region.usages + static_size (change.joined_onto v.statics row.now)) }
+    {
+        let v = self.version(id, number);
+        let kind = self.kind(id);
+        self.other.clear();
+        self.other.put_row(row);
+        self.scratch.clear();
+        put_joined(&self.region, v, self.other.bytes(), &mut self.scratch);
+        rc_recency::set_static(
+            &mut self.region,
+            &self.recency,
+            kind,
+            v,
+            self.scratch.bytes(),
+            flag,
+        );
+    }
+
+    /// Joins the row of an object of another version, which has one, to what a version has in its place: as `join_row` at the position of an entry, or to the static row, whose flag stays.
+    pub fn join_like(&mut self, id: u64, number: u64, e: Ref) -> Ref
+        requires version { HasVersion self.old id number }
+        requires there { (w : Member) × IsMemberObject self.old e w }
+        requires entry { (w : Member) (x : Position) → IsMemberObject self.old e w → w.position ≡ Some x → (row : Cells) × OfVersion self.old w.chain w.version (λ k v. (seen (On x) v.entries).row ≡ Some row) × OfVersion self.old id number (λ k v. joined_bytes x row v ≤ spare_of S self.old.region.usages) × FitsChanged S id number (steps.row_joined x row) self.old × KeepsLast id number (steps.row_joined x row) self.old }
+        requires statics { (w : Member) (row : Cells) → IsMemberObject self.old e w → w.position ≡ None → OfVersion self.old w.chain w.version (λ k v. v.statics ≡ Some row) → OfVersion self.old id number (λ k v. static_size (change.joined_onto v.statics row) ≤ spare_of S self.old.region.usages) × FitsChanged S id number (steps.join_statics row) self.old }
+        ensures entry { (w : Member) (x : Position) (row : Cells) → IsMemberObject self.old e w → w.position ≡ Some x → OfVersion self.old w.chain w.version (λ k v. (seen (On x) v.entries).row ≡ Some row) → IsVersionChanged id number (steps.row_joined x row) (AtAlone (member id number (Some x))) self.old self.new × OfVersion self.old id number (λ k v. IsRenewed k.chain.kind (member id number (Some x)) self.old.recency self.new.recency) × IsMemberObject self.new result (member id number (Some x)) }
+        ensures entry_spare { (w : Member) (x : Position) (row : Cells) → IsMemberObject self.old e w → w.position ≡ Some x → OfVersion self.old w.chain w.version (λ k v. (seen (On x) v.entries).row ≡ Some row) → OfVersion self.old id number (λ k v. spare_of S self.old.region.usages ≤ spare_of S self.new.region.usages + joined_bytes x row v) }
+        ensures statics { (w : Member) (row : Cells) → IsMemberObject self.old e w → w.position ≡ None → OfVersion self.old w.chain w.version (λ k v. v.statics ≡ Some row) → IsVersionChanged id number (steps.join_statics row) (AtAlone (member id number None)) self.old self.new × OfVersion self.old id number (λ k v. IsRenewed k.chain.kind (member id number None) self.old.recency self.new.recency) × IsMemberObject self.new result (member id number None) }
+        ensures statics_spare { (w : Member) (row : Cells) → IsMemberObject self.old e w → w.position ≡ None → OfVersion self.old w.chain w.version (λ k v. v.statics ≡ Some row) → OfVersion self.old id number (λ k v. spare_of S self.old.region.usages ≤ spare_of S self.new.region.usages + static_size (change.joined_onto v.statics row)) }
+    {
+        let v = self.version(id, number);
+        let kind = self.kind(id);
+        rc_recency::join_like(
+            &mut self.region,
+            &self.recency,
+            kind,
+            v,
+            e,
+            &mut self.scratch,
+        )
+    }
+
+    /// Joins a range tombstone to a version, from one position on and before another: the greater one stands at each entry between them and over each gap. Where no entry stands at one of them, a dummy is made there, as `split` makes it.
+    pub fn join_range(&mut self, id: u64, number: u64, from: &Pos, to: &Pos, tomb: Tomb)
+        requires ascend { IsBefore from.now to.now }
+        requires limits { KeyFits from.now.prefix × KeyFits to.now.prefix }
+        requires version { HasVersion self.old id number }
+        requires fits { (dummy_size from.now ≤ S / 8) × (dummy_size to.now ≤ S / 8) }
+        requires spare { dummy_size from.now + dummy_size to.now ≤ spare_of S self.old.region.usages }
+        requires last { LastIsListed id self.old }
+        ensures joined { IsVersionChanged id number (steps.range_joined from.now to.now tomb) Nowhere self.old self.new }
+        ensures recency { OfVersion self.old id number (λ k v. (mid : Sequence Member) × IsRenewedWhereNone k.chain.kind v (member id number (Some from.now)) self.old.recency mid × IsRenewedWhereNone k.chain.kind v (member id number (Some to.now)) mid self.new.recency) }
+        ensures spare { spare_of S self.old.region.usages ≤ spare_of S self.new.region.usages + (dummy_size from.now + dummy_size to.now) }
+    {
+        let _ = &self.region;
+        self.split(id, number, from);
+        self.split(id, number, to);
+        self.raise(id, number, from, to, tomb);
+    }
+}
+
+// Puts the code of the static row of a version with the row of this code joined, into a space in which nothing is; where it has none, this code.
+fn put_joined<const S: usize>(region: &Region<S>, v: Ref, code: &[u8], scratch: &mut Scratch)
+    requires empty { scratch.old.bytes ≡ [] }
+    requires room { (refs : Sequence Name) × (c : Version) × (row : Cells) × IsVersionOf region.now v refs c × IsRowCode code.now row × (length (row_code (change.joined_onto c.statics row)) ≤ scratch.old.size) }
+    ensures joined { (refs : Sequence Name) (c : Version) (row : Cells) → IsVersionOf region.now v refs c → IsRowCode code.now row → IsRowCode scratch.new.bytes (change.joined_onto c.statics row) }
+    ensures size { scratch.new.size ≡ scratch.old.size }
+{
+    joined_row_has_a_code();
+    match static_row(region, v) {
+        Some(s) => join_codes(row_code(region, s), code, scratch),
+        None => scratch.put(code),
     }
 }

@@ -90,8 +90,8 @@ impl<const S: usize> Chains<S> {
         }
     }
 
-    /// A version of a chain goes, of which its end dummy alone is left, out of the recency list.
-    pub(crate) fn drop_bare(&mut self, id: u64, number: u64)
+    // A version of a chain goes, of which its end dummy alone is left, out of the recency list.
+    pub(super) fn drop_bare(&mut self, id: u64, number: u64)
         requires bare { IsSomeAnd (chain_at self.old id) (λ k. (v : Version) × IsVersionAt k.chain.versions number v × IsBare v) }
         requires unlisted { NothingListed id number self.old }
         requires free { (k : KeptChain) → chain_at self.old id ≡ Some k → CanDrop k.chain number }
@@ -104,8 +104,8 @@ impl<const S: usize> Chains<S> {
         self.registry.renumber(id, number);
     }
 
-    /// A chain goes, of which the end dummy of one version alone is left, out of the recency list, and which nobody pins. Its number is to be told.
-    pub(crate) fn close(&mut self, id: u64)
+    // A chain goes, of which the end dummy of one version alone is left, out of the recency list, and which nobody pins. Its number is to be told.
+    pub(super) fn close(&mut self, id: u64)
         requires bare { IsSomeAnd (chain_at self.old id) (λ k. (v : Version) × (k.chain.versions ≡ v ∷ []) × IsBare v) }
         requires unlisted { NothingListed id 0 self.old }
         requires unpinned { (k : KeptChain) (j : ℕ) → chain_at self.old id ≡ Some k → IsPinned k.chain.pins j → ⊥ }
@@ -119,8 +119,8 @@ impl<const S: usize> Chains<S> {
         self.registry.remove(id);
     }
 
-    /// The end dummy of a version of a chain.
-    pub(crate) fn end_of(&self, id: u64, number: u64) -> Ref
+    // The end dummy of a version of a chain.
+    pub(super) fn end_of(&self, id: u64, number: u64) -> Ref
         requires { HasVersion self.now id number }
         ensures { IsMemberObject self.now result (member id number (Some end_position)) }
     {
@@ -128,8 +128,8 @@ impl<const S: usize> Chains<S> {
         end_entry(&self.region, self.alloc, v)
     }
 
-    /// The last entry before the end dummy of a version; None where there is none.
-    pub(crate) fn last_inner(&self, id: u64, number: u64) -> Option<Ref>
+    // The last entry before the end dummy of a version; None where there is none.
+    pub(super) fn last_inner(&self, id: u64, number: u64) -> Option<Ref>
         requires { HasVersion self.now id number }
         ensures some { IfSome result (λ r. (x : Position) × IsMemberObject self.now r (member id number (Some x)) × OfVersion self.now id number (λ k v. IsLastInner v (Some x))) }
         ensures none { IfNone result (OfVersion self.now id number (λ k v. (at : Option Position) → IsLastInner v at → ⊥)) }
@@ -247,8 +247,8 @@ fn flag_of_new(kind: ChainKind) -> Flag
     }
 }
 
-/// The end dummy of a version, its last entry.
-pub(crate) fn end_entry<const S: usize>(region: &Region<S>, alloc: Global, v: Ref) -> Ref
+// The end dummy of a version, its last entry.
+fn end_entry<const S: usize>(region: &Region<S>, alloc: Global, v: Ref) -> Ref
     requires { (refs : Sequence Name) × (c : Version) × IsVersionOf region.now v refs c }
     ensures { (refs : Sequence Name) (c : Version) → IsVersionOf region.now v refs c → (front : Sequence Name) × (refs ≡ front ++ (result ∷ [])) × IsEntryAtPosition region.now result end_position }
 {
@@ -262,8 +262,8 @@ pub(crate) fn end_entry<const S: usize>(region: &Region<S>, alloc: Global, v: Re
     }
 }
 
-/// The entry before one of a version; None where that is its first.
-pub(crate) fn entry_before<const S: usize>(region: &Region<S>, v: Ref, r: Ref) -> Option<Ref>
+// The entry before one of a version; None where that is its first.
+fn entry_before<const S: usize>(region: &Region<S>, v: Ref, r: Ref) -> Option<Ref>
     requires { (front : Sequence Name) × (back : Sequence Name) × (c : Version) × IsVersionOf region.now v (front ++ (r ∷ back)) c }
     ensures { (front back : Sequence Name) (c : Version) → IsVersionOf region.now v (front ++ (r ∷ back)) c → result ≡ last_entry front }
 {
