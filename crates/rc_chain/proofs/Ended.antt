@@ -209,14 +209,18 @@ module _ (m : Memory) (id j : ℕ) (k : KeptChain) (e : chain_at m id ≡ Some k
 
 -- where no update stood all is as it was
 pub unended : (m : Memory) (id : ℕ) (k : KeptChain) → chain_at m id ≡ Some k → k.chain.updating ≡ false → (list : List Member) × IsEndListed id k.chain m.recency list × IsChainChanged id ended list m m
-unended m id k e s = (m.recency, record { settled = λ s'. refl; updated = λ u j v n at. absurd (true-false k.chain.updating u s) }, record {
-  chains = on-itself m.chains id ended k e (λ i. record { chain = record { kind = k.chain.kind; versions = k.chain.versions; attached = k.chain.attached; updating = sym s i; pins = k.chain.pins }; passed = k.passed });
-  recency = refl;
-  dropped = refl;
-  counts = refl;
-  still = record { versions = λ i j n is. is; objects = λ r w off at. at };
-  region = unmoved-itself m.region;
-})
+unended m id k e s = (
+  m.recency,
+  record { settled = λ s'. refl; updated = λ u j v n at. absurd (true-false k.chain.updating u s) },
+  record {
+    chains = on-itself m.chains id ended k e (λ i. record { chain = record { kind = k.chain.kind; versions = k.chain.versions; attached = k.chain.attached; updating = sym s i; pins = k.chain.pins }; passed = k.passed });
+    recency = refl;
+    dropped = refl;
+    counts = refl;
+    still = record { versions = λ i j n is. is; objects = λ r w off at. at };
+    region = unmoved-itself m.region;
+  },
+)
 
 -- the number of the newest version
 pub newest-of : (n : ℕ) (k : KeptChain) → n ≡ length k.chain.versions → IsSoundChain k.chain → suc (n - 1) ≡ length k.chain.versions

@@ -153,11 +153,12 @@ module _ (slots : Slots) (v : View) (registry : Registry) (counts : Counts) (m :
       let l = last-some e.0 q (before e.0 [] w.1 is) in
       let k = holding-split v l.0 q (r ∷ []) w.1.entries (subst (λ z. HoldEntries v z w.1.entries) (ap (λ z. z ++ (r ∷ [])) l.1 ∙ joined l.0 q r) is.entries) in
       let f = holding-split v [] r [] k.2 k.6 in let last : k.2 ≡ f.1 ∷ [] = f.3 ∙ alone f.0 f.1 f.2 f.4 f.6 in
-      let entries : w.1.entries ≡ k.0 ++ (k.1 ∷ f.1 ∷ []) = k.3 ∙ ap (λ z. k.0 ++ (k.1 ∷ z)) last in
-      (k.1.position,
-      own-member slots v registry counts m id j a.0 a.1 n a.2 (Some k.1.position) q
-          (subst (λ z. Contains z q) (sym (e.1 ∙ ap (λ z. z ++ (r ∷ [])) l.1 ∙ joined l.0 q r)) (elem-here l.0 (r ∷ []) q), holds-stands v q k.1 k.5),
-      λ k' c' chain' at'. (k.0, k.1, f.1, subst (λ (z : Version). z.entries ≡ k.0 ++ (k.1 ∷ f.1 ∷ [])) (one-of id j a.0 k' a.1 c' a.2.chain chain' a.2.number at') entries, refl))
+      let entries : w.1.entries ≡ k.0 ++ (k.1 ∷ f.1 ∷ []) = k.3 ∙ ap (λ z. k.0 ++ (k.1 ∷ z)) last in (
+        k.1.position,
+        own-member slots v registry counts m id j a.0 a.1 n a.2 (Some k.1.position) q
+            (subst (λ z. Contains z q) (sym (e.1 ∙ ap (λ z. z ++ (r ∷ [])) l.1 ∙ joined l.0 q r)) (elem-here l.0 (r ∷ []) q), holds-stands v q k.1 k.5),
+        λ k' c' chain' at'. (k.0, k.1, f.1, subst (λ (z : Version). z.entries ≡ k.0 ++ (k.1 ∷ f.1 ∷ [])) (one-of id j a.0 k' a.1 c' a.2.chain chain' a.2.number at') entries, refl),
+      )
     where
       joined : (xs : List Ref) (x y : Ref) → (xs ++ (x ∷ [])) ++ (y ∷ []) ≡ xs ++ (x ∷ y ∷ [])
       joined [] x y = refl
@@ -209,10 +210,13 @@ pub bare-is : (c : Version) → EndsWithDummy c.entries → c.statics ≡ None �
 bare-is c ends statics none =
     let e = ends-split c.entries ends in record {
       statics = statics;
-      alone = (e.1, e.2 ∙ ap (λ l. l ++ (e.1 ∷ [])) (elim (last-split e.0) [
-        | inl empty ↦ empty
-        | inr more ↦ absurd (none (Some more.1.position) (more.0, more.1, e.1, e.2 ∙ ap (λ l. l ++ (e.1 ∷ [])) more.2 ∙ joined-two more.0 more.1 e.1, refl))
-      ]));
+      alone = (
+        e.1,
+        e.2 ∙ ap (λ l. l ++ (e.1 ∷ [])) (elim (last-split e.0) [
+          | inl empty ↦ empty
+          | inr more ↦ absurd (none (Some more.1.position) (more.0, more.1, e.1, e.2 ∙ ap (λ l. l ++ (e.1 ∷ [])) more.2 ∙ joined-two more.0 more.1 e.1, refl))
+        ]),
+      );
     }
 
 static-none : (v : View) (c : Version) (row : Option Ref) → is_some row ≡ false → IsStaticRowFound v c row → c.statics ≡ None

@@ -67,10 +67,12 @@ module _ (S : ℕ) (slots : Slots) (old : View) (registry : Registry) (counts : 
         → HasBecome S slots new (with_use id (Some (new_use root kind)) registry) counts (IsChainMade id kind pt phase m.recency m)
     made-here id kind pt phase n fits free told p =
         let vacant = unused-chain registry.uses m.standing m.chains id h.held.kept free in
-        let k = memory-made S slots old mid new registry counts m h id root kind vacant added same well p.well p.slots n (flag_of_new kind) pt phase (end-size S fits) (p.added slots) p.statics in
-        (chain_made id root kind (standing n (k.0 ∷ []) (version_of (flag_of_new kind) pt phase)) new m, k.1,
-        chain-made-is slots old mid new registry (with_use id (Some (new_use root kind)) registry) counts m h.held id root kind pt phase added same n k.0 k.1.held free vacant
-            (λ on. told (subst (λ l. IsNumberIn l id) h.held.dropped on)) p.statics p.budget p.moved p.compacted p.epoch)
+        let k = memory-made S slots old mid new registry counts m h id root kind vacant added same well p.well p.slots n (flag_of_new kind) pt phase (end-size S fits) (p.added slots) p.statics in (
+          chain_made id root kind (standing n (k.0 ∷ []) (version_of (flag_of_new kind) pt phase)) new m,
+          k.1,
+          chain-made-is slots old mid new registry (with_use id (Some (new_use root kind)) registry) counts m h.held id root kind pt phase added same n k.0 k.1.held free vacant
+              (λ on. told (subst (λ l. IsNumberIn l id) h.held.dropped on)) p.statics p.budget p.moved p.compacted p.epoch,
+        )
 
     -- a root slot came and went
     pub slot-here : IsRootDropped mid new root → SameButRoots mid new → IsWell new → IsMemory S slots new registry counts (listed_as m.recency new m)
@@ -85,16 +87,20 @@ module _ (S : ℕ) (slots : Slots) (old : View) (registry : Registry) (counts : 
   module _ (new : View) (id : ℕ) (p : PartitionEntry) (there : slice_index_or m.standing id None ≡ Some p) (phase : ℕ) (n : Ref) (fits : 88 ≤ S / 8) (u : IsPut old new p.root n Inherit None phase) where
     pub over-memtable : ((k : KeptChain) → chain_at m id ≡ Some k → (k.chain.kind ≡ Memtable) × (k.chain.updating ≡ false)) → HasBecome S slots new registry counts (IsChainChanged id (on_shown (with_version_over phase)) m.recency m)
     over-memtable is =
-        let k = memory-more S slots old new registry counts m h u.well u.slots id p there n Inherit None phase (end-size S fits) (u.added slots) u.statics (λ q e. (is q e).0) in
-        (more_versions id (standing n (k.0 ∷ []) (version_of Inherit None phase)) new m, k.1,
-        version-added-is slots old new registry registry counts m h.held id (standing n (k.0 ∷ []) (version_of Inherit None phase)) p there u.statics u.budget u.moved u.compacted u.epoch phase refl is k.1.held)
+        let k = memory-more S slots old new registry counts m h u.well u.slots id p there n Inherit None phase (end-size S fits) (u.added slots) u.statics (λ q e. (is q e).0) in (
+          more_versions id (standing n (k.0 ∷ []) (version_of Inherit None phase)) new m,
+          k.1,
+          version-added-is slots old new registry registry counts m h.held id (standing n (k.0 ∷ []) (version_of Inherit None phase)) p there u.statics u.budget u.moved u.compacted u.epoch phase refl is k.1.held,
+        )
 
     pub over-cached : ((k : KeptChain) → chain_at m id ≡ Some k → (k.chain.kind ≡ Cache) × (k.chain.attached ≡ true) × (k.chain.updating ≡ false))
         → HasBecome S slots new (on_use id (set_updating true) registry) counts (IsChainChanged id (on_shown (with_version_over phase)) m.recency m)
     over-cached is =
-        let k = memory-begun S slots old new registry counts m h u.well u.slots id p there n Inherit None phase (end-size S fits) (u.added slots) u.statics is in
-        (update_begun id (standing n (k.0 ∷ []) (version_of Inherit None phase)) new m, k.1,
-        update-begun-is slots old new registry (on_use id (set_updating true) registry) counts m h.held id (standing n (k.0 ∷ []) (version_of Inherit None phase)) p there u.statics u.budget u.moved u.compacted u.epoch phase refl (λ q e. (is q e).0) k.1.held)
+        let k = memory-begun S slots old new registry counts m h u.well u.slots id p there n Inherit None phase (end-size S fits) (u.added slots) u.statics is in (
+          update_begun id (standing n (k.0 ∷ []) (version_of Inherit None phase)) new m,
+          k.1,
+          update-begun-is slots old new registry (on_use id (set_updating true) registry) counts m h.held id (standing n (k.0 ∷ []) (version_of Inherit None phase)) p there u.statics u.budget u.moved u.compacted u.epoch phase refl (λ q e. (is q e).0) k.1.held,
+        )
 
   -- a version was dropped
   pub fewer-here : (new : View) (id j : ℕ) (p : PartitionEntry) (s : StandingVersion) → slice_index_or m.standing id None ≡ Some p → IsVersionAt p.versions j s → ((k : KeptChain) → chain_at m id ≡ Some k → CanDrop k.chain j) → NothingListed id j m
@@ -107,6 +113,9 @@ module _ (S : ℕ) (slots : Slots) (old : View) (registry : Registry) (counts : 
   pub gone-here : (mid new : View) (id : ℕ) (root : Root) (s : StandingVersion) → slice_index_or m.standing id None ≡ Some (partition_of root (s ∷ [])) → NothingListed id 0 m → IsTakenAway old mid root s.object → IsRootDropped mid new root → SameButRoots mid new → IsWell new
       → HasBecome S slots new (record { uses = put id None registry.uses; dropped = registry.dropped ++ (id ∷ []) }) counts (IsChainDropped id m.recency m)
   gone-here mid new id root s there free t gone same well =
-      let k = memory-gone S slots old mid new registry counts m h id root s there free t.well t.slots (t.dropped slots) t.statics gone same well in
-      (closed id new m, k, chain-dropped-is slots old mid new registry (record { uses = put id None registry.uses; dropped = registry.dropped ++ (id ∷ []) }) counts m h.held id (partition_of root (s ∷ [])) s there
-          (record { older = []; newer = []; split = refl; number = refl }) root gone same t.statics t.budget t.moved t.compacted t.epoch k.held)
+      let k = memory-gone S slots old mid new registry counts m h id root s there free t.well t.slots (t.dropped slots) t.statics gone same well in (
+        closed id new m,
+        k,
+        chain-dropped-is slots old mid new registry (record { uses = put id None registry.uses; dropped = registry.dropped ++ (id ∷ []) }) counts m h.held id (partition_of root (s ∷ [])) s there
+            (record { older = []; newer = []; split = refl; number = refl }) root gone same t.statics t.budget t.moved t.compacted t.epoch k.held,
+      )

@@ -41,13 +41,17 @@ module _ (S : ℕ) (slots : Slots) (v : View) (registry : Registry) (counts : Co
     -- the versions up to the one that the snapshot pins
     pub read-stands : (read : List StandingVersion) × AreUpTo v u.root n read × ((k : KeptChain) (j : ℕ) → chain_at m id ≡ Some k → pin_at k.chain.pins pin ≡ Some j → (read_versions read ≡ upto k.chain.versions j) × (k.chain.kind ≡ u.kind))
     read-stands =
-        let s = version-stands slots v registry counts m h.held id n u has-version got in
-        (s.number.older ++ (s.version ∷ []), record { slots = slots; front = s.front; older = s.number.older; last = s.version; newer = s.number.newer; back = s.back; listed = h.held.listed; stands = s.stands; below = s.number.number; are = refl },
-        λ k j e pinned.
-            let a = chain-used slots v registry counts m h.held id k u e got in let same = same_some s.partition a.0 (sym s.at ∙ a.1) in
-            let number : n ≡ j = cc (sym (told k e) ∙ pinned) in
-            (took s.number.older s.version s.number.newer n s.number.number
-            ∙ ap (λ l. take (suc n) (map (λ (t : StandingVersion). t.version) l)) (sym s.number.split)
-            ∙ ap (λ q. take (suc n) (map (λ (t : StandingVersion). t.version) q)) (ap (λ (p : PartitionEntry). p.versions) same)
-            ∙ ap (λ (x : KeptChain). take (suc n) x.chain.versions) (sym a.3)
-            ∙ ap (λ i. take (suc i) k.chain.versions) number, ap (λ (x : KeptChain). x.chain.kind) a.3))
+        let s = version-stands slots v registry counts m h.held id n u has-version got in (
+          s.number.older ++ (s.version ∷ []),
+          record { slots = slots; front = s.front; older = s.number.older; last = s.version; newer = s.number.newer; back = s.back; listed = h.held.listed; stands = s.stands; below = s.number.number; are = refl },
+          λ k j e pinned.
+              let a = chain-used slots v registry counts m h.held id k u e got in let same = same_some s.partition a.0 (sym s.at ∙ a.1) in
+              let number : n ≡ j = cc (sym (told k e) ∙ pinned) in (
+                took s.number.older s.version s.number.newer n s.number.number
+                    ∙ ap (λ l. take (suc n) (map (λ (t : StandingVersion). t.version) l)) (sym s.number.split)
+                    ∙ ap (λ q. take (suc n) (map (λ (t : StandingVersion). t.version) q)) (ap (λ (p : PartitionEntry). p.versions) same)
+                    ∙ ap (λ (x : KeptChain). take (suc n) x.chain.versions) (sym a.3)
+                    ∙ ap (λ i. take (suc i) k.chain.versions) number,
+                ap (λ (x : KeptChain). x.chain.kind) a.3,
+              ),
+        )

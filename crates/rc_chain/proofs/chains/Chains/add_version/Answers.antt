@@ -25,7 +25,7 @@ set_updating-requires g c =
 pub add_version-requires : goal.add_version-requires
 add_version-requires g c =
     let s = c.self.inside in let n = memory-now g.row.S s.recency s.region s.registry s.counts s.memory c.args.self.now c.self.view_is c.self.invariant.0 c.self.invariant.1 in
-    let k = some_of (chain_at c.args.self.now c.args.id) c.requires.there in let st = chain-stands s.recency s.region s.registry s.counts c.args.self.now n.held c.args.id k.0 _ k.1 c.get.ensures in 
+    let k = some_of (chain_at c.args.self.now c.args.id) c.requires.there in let st = chain-stands s.recency s.region s.registry s.counts c.args.self.now n.held c.args.id k.0 _ k.1 c.get.ensures in
     (omega arith, ((s.recency, st.front, st.partition.versions, st.back, n.held.listed, st.stands), (c.requires.fits, subst (λ (v : View). 152 ≤ spare_of g.row.S v.usages) n.held.region c.requires.spare)))
 
 pub invariant_of-self-inside : goal.invariant_of-self-inside

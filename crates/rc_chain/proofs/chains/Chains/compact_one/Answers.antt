@@ -47,6 +47,8 @@ returns-clause-compacted g c =
 pub returns-clause-renamed : goal.returns-clause-renamed
 returns-clause-renamed g c =
     let s = c.self.inside in let n = memory-now g.row.S s.recency s.region s.registry s.counts s.memory c.args.self.now c.self.view_is c.self.invariant.0 c.self.invariant.1 in
-    let is = kept-is g.row.S s.recency c.compact_one.new.region s.registry s.counts c.self-1.given.0 (under_new_names c.compact_one.ensures.renamed.0 c.compact_one.new.region c.args.self.now) (memory-moved g.row.S s.recency s.region c.compact_one.new.region s.registry s.counts c.args.self.now n c.compact_one.ensures.renamed.0 c.compact_one.ensures.renamed.1 c.compact_one.ensures.well).held in
-    (c.compact_one.ensures.renamed.0, subst (λ (m : Memory). Renamed c.args.self.now.region m.region c.compact_one.ensures.renamed.0) (sym is) (subst (λ (v : View). Renamed v c.compact_one.new.region c.compact_one.ensures.renamed.0) (sym n.held.region) c.compact_one.ensures.renamed.1),
-    is ∙ ap (λ (v : View). under_new_names c.compact_one.ensures.renamed.0 v c.args.self.now) (sym (ap (λ (m : Memory). m.region) is)))
+    let is = kept-is g.row.S s.recency c.compact_one.new.region s.registry s.counts c.self-1.given.0 (under_new_names c.compact_one.ensures.renamed.0 c.compact_one.new.region c.args.self.now) (memory-moved g.row.S s.recency s.region c.compact_one.new.region s.registry s.counts c.args.self.now n c.compact_one.ensures.renamed.0 c.compact_one.ensures.renamed.1 c.compact_one.ensures.well).held in (
+      c.compact_one.ensures.renamed.0,
+      subst (λ (m : Memory). Renamed c.args.self.now.region m.region c.compact_one.ensures.renamed.0) (sym is) (subst (λ (v : View). Renamed v c.compact_one.new.region c.compact_one.ensures.renamed.0) (sym n.held.region) c.compact_one.ensures.renamed.1),
+      is ∙ ap (λ (v : View). under_new_names c.compact_one.ensures.renamed.0 v c.args.self.now) (sym (ap (λ (m : Memory). m.region) is)),
+    )

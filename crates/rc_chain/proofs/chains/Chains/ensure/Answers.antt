@@ -64,9 +64,11 @@ returns-clause-moved g c =
 pub returns-clause-renamed : goal.returns-clause-renamed
 returns-clause-renamed g c =
     let s = c.self.inside in let n = memory-now g.row.S s.recency s.region s.registry s.counts s.memory c.args.self.now c.self.view_is c.self.invariant.0 c.self.invariant.1 in
-    let is = kept-is g.row.S s.recency c.ensure.new.region s.registry s.counts c.self-1.given.0 (under_new_names c.ensure.ensures.renamed.0 c.ensure.new.region c.args.self.now) (memory-moved g.row.S s.recency s.region c.ensure.new.region s.registry s.counts c.args.self.now n c.ensure.ensures.renamed.0 c.ensure.ensures.renamed.1 c.ensure.ensures.well).held in
-    (c.ensure.ensures.renamed.0, subst (λ (m : Memory). Renamed c.args.self.now.region m.region c.ensure.ensures.renamed.0) (sym is) (subst (λ (v : View). Renamed v c.ensure.new.region c.ensure.ensures.renamed.0) (sym n.held.region) c.ensure.ensures.renamed.1),
-    is ∙ ap (λ (v : View). under_new_names c.ensure.ensures.renamed.0 v c.args.self.now) (sym (ap (λ (m : Memory). m.region) is)))
+    let is = kept-is g.row.S s.recency c.ensure.new.region s.registry s.counts c.self-1.given.0 (under_new_names c.ensure.ensures.renamed.0 c.ensure.new.region c.args.self.now) (memory-moved g.row.S s.recency s.region c.ensure.new.region s.registry s.counts c.args.self.now n c.ensure.ensures.renamed.0 c.ensure.ensures.renamed.1 c.ensure.ensures.well).held in (
+      c.ensure.ensures.renamed.0,
+      subst (λ (m : Memory). Renamed c.args.self.now.region m.region c.ensure.ensures.renamed.0) (sym is) (subst (λ (v : View). Renamed v c.ensure.new.region c.ensure.ensures.renamed.0) (sym n.held.region) c.ensure.ensures.renamed.1),
+      is ∙ ap (λ (v : View). under_new_names c.ensure.ensures.renamed.0 v c.args.self.now) (sym (ap (λ (m : Memory). m.region) is)),
+    )
 
 pub returns-clause-rounds : goal.returns-clause-rounds
 returns-clause-rounds g c =

@@ -53,7 +53,7 @@ invariant_of-self-in-Err g c =
 pub returns-in-Ok-clause-made : goal.returns-in-Ok-clause-made
 returns-in-Ok-clause-made g c =
     let s = c.self.inside in let n = memory-now g.row.S s.recency s.region s.registry s.counts s.memory c.args.self.now c.self.view_is c.self.invariant.0 c.self.invariant.1 in
-    let a = c.in_ok-root.ensures.added in let put = subst (λ f. IsPut c.add_root.new.self c.add_version.new.region c.in_ok-root.root c.add_version.result f c.args.pt c.args.phase) c.flag_of_new.ensures (record { added = c.add_version.ensures.added; statics = c.add_version.ensures.statics; epoch = c.add_version.ensures.epoch; slots = c.add_version.ensures.slots; budget = c.add_version.ensures.budget; moved = c.add_version.ensures.moved; compacted = c.add_version.ensures.compacted; well = c.add_version.ensures.well }) in let it = made-here g.row.S s.recency s.region s.registry s.counts c.args.self.now n c.add_root.new.self c.add_version.new.region c.in_ok-root.root a c.in_ok-root.ensures.same c.in_ok-root.ensures.well c.in-Ok.id c.args.kind c.args.pt c.args.phase c.add_version.result c.requires.fits c.in-Ok.ensures.vacant c.in-Ok.ensures.fresh put in let is = kept-is g.row.S s.recency c.add_version.new.region c.insert.new.self s.counts c.self-in-Ok-1.given.0 it.0 (subst (λ r. IsMemory g.row.S s.recency c.add_version.new.region r s.counts it.0) (sym c.in-Ok.ensures.made) it.1).held in 
+    let a = c.in_ok-root.ensures.added in let put = subst (λ f. IsPut c.add_root.new.self c.add_version.new.region c.in_ok-root.root c.add_version.result f c.args.pt c.args.phase) c.flag_of_new.ensures (record { added = c.add_version.ensures.added; statics = c.add_version.ensures.statics; epoch = c.add_version.ensures.epoch; slots = c.add_version.ensures.slots; budget = c.add_version.ensures.budget; moved = c.add_version.ensures.moved; compacted = c.add_version.ensures.compacted; well = c.add_version.ensures.well }) in let it = made-here g.row.S s.recency s.region s.registry s.counts c.args.self.now n c.add_root.new.self c.add_version.new.region c.in_ok-root.root a c.in_ok-root.ensures.same c.in_ok-root.ensures.well c.in-Ok.id c.args.kind c.args.pt c.args.phase c.add_version.result c.requires.fits c.in-Ok.ensures.vacant c.in-Ok.ensures.fresh put in let is = kept-is g.row.S s.recency c.add_version.new.region c.insert.new.self s.counts c.self-in-Ok-1.given.0 it.0 (subst (λ r. IsMemory g.row.S s.recency c.add_version.new.region r s.counts it.0) (sym c.in-Ok.ensures.made) it.1).held in
     subst (IsChainMade c.in-Ok.id c.args.kind c.args.pt c.args.phase c.args.self.now.recency c.args.self.now) (sym is) it.2
 
 pub returns-in-Ok-clause-spare : goal.returns-in-Ok-clause-spare
@@ -64,7 +64,7 @@ returns-in-Ok-clause-spare g c =
 pub returns-in-Err-clause-err : goal.returns-in-Err-clause-err
 returns-in-Err-clause-err g c =
     let s = c.self.inside in let n = memory-now g.row.S s.recency s.region s.registry s.counts s.memory c.args.self.now c.self.view_is c.self.invariant.0 c.self.invariant.1 in
-    let is = kept-is g.row.S s.recency c.drop_root.new.self c.insert.new.self s.counts c.self-in-Err-1.given.0 (listed_as c.args.self.now.recency c.drop_root.new.self c.args.self.now) (subst (λ r. IsMemory g.row.S s.recency c.drop_root.new.self r s.counts (listed_as c.args.self.now.recency c.drop_root.new.self c.args.self.now)) (sym c.in-Err.ensures.err) (slot-here g.row.S s.recency s.region s.registry s.counts c.args.self.now n c.add_root.new.self c.drop_root.new.self c.in_ok-root.root c.in_ok-root.ensures.added c.in_ok-root.ensures.same c.in_ok-root.ensures.well c.drop_root.ensures.dropped c.drop_root.ensures.same c.drop_root.ensures.well)).held in 
+    let is = kept-is g.row.S s.recency c.drop_root.new.self c.insert.new.self s.counts c.self-in-Err-1.given.0 (listed_as c.args.self.now.recency c.drop_root.new.self c.args.self.now) (subst (λ r. IsMemory g.row.S s.recency c.drop_root.new.self r s.counts (listed_as c.args.self.now.recency c.drop_root.new.self c.args.self.now)) (sym c.in-Err.ensures.err) (slot-here g.row.S s.recency s.region s.registry s.counts c.args.self.now n c.add_root.new.self c.drop_root.new.self c.in_ok-root.root c.in_ok-root.ensures.added c.in_ok-root.ensures.same c.in_ok-root.ensures.well c.drop_root.ensures.dropped c.drop_root.ensures.same c.drop_root.ensures.well)).held in
     subst (IsSameButSlots c.args.self.now) (sym is) (record { same = refl; region = slot-same s.recency s.region s.registry s.counts c.args.self.now n.held c.add_root.new.self c.drop_root.new.self c.in_ok-root.root c.in_ok-root.ensures.added c.in_ok-root.ensures.same c.drop_root.ensures.dropped c.drop_root.ensures.same c.drop_root.ensures.well })
 
 pub returns-in_err-root-clause-err : goal.returns-in_err-root-clause-err
