@@ -1,18 +1,17 @@
 -- A version of which its end dummy alone is left, as it stands in the region.
-use Rattle.std.proofs.Common.{◌≡◌, ℕ, zero, suc, List, [], ◌∷◌, ◌++◌, Option, Some, None, refl, sym, ap, ◌∙◌, subst, slice_index_or, map}
+use Rattle.std.proofs.Common.{◌≡◌, ℕ, List, [], ◌∷◌, ◌++◌, Option, Some, None, refl, sym, ap, ◌∙◌, subst, slice_index_or, map}
 use Rattle.std.specs.Prelude.{Contains, IsSomeAnd}
 use Rattle.lsa_store.specs.declared.place.Ref.{Ref}
 use Rattle.lsa_region.specs.declared.end.Root.{Root}
 use Rattle.lsa_region.specs.declared.end.End.TheVariants.{Slot}
 use Rattle.lsa_region.specs.Region.{View, link_of, IsEnd}
 use Rattle.lsa_list.specs.declared.recency.List.{List as Slots}
-use Rattle.lsa_tree.specs.Entries.{IsEntryAtPosition}
 use Rattle.rc_core.specs.declared.entries.Entry.{Entry}
 use Rattle.rc_core.specs.Version.{Version}
 use Rattle.rc_object.specs.Objects.{HoldsEntry}
-use Rattle.rc_version.specs.Versions.{HoldEntries, IsUnlisted, IsVersionOf}
+use Rattle.rc_version.specs.Versions.{HoldEntries, IsUnlisted}
 use Rattle.rc_version.specs.laws.Objects.{holds-stands}
-use Rattle.rc_partition.specs.Partitions.{AreStanding, PartitionEntry, StandingVersion, among, partition_of, standing}
+use Rattle.rc_partition.specs.Partitions.{AreStanding, PartitionEntry, StandingVersion, among, partition_of}
 use Rattle.rc_partition.specs.laws.Lists.{elem-here}
 use Rattle.rc_partition.specs.laws.Roots.{empty-unset}
 use Rattle.rc_registry.specs.declared.uses.Use.{Use}

@@ -1,11 +1,10 @@
 -- A version that is dropped after its end dummy left the recency list; and a new chain, whose end dummy goes to the list's back.
-use Rattle.std.proofs.Common.{◌≡◌, ◌≢◌, ℕ, zero, suc, ◌<◌, ◌≤◌, false, true, List, [], ◌∷◌, ◌++◌, Option, Some, None, length, inl, inr, refl, sym, ap, ◌∙◌, subst, map, slice_index_or, arith}
-use Rattle.std.specs.Prelude.{Contains, IfSome, IsSome, IsSomeAnd, AllPairs, ◌⊎◌}
+use Rattle.std.proofs.Common.{◌≡◌, ℕ, ◌<◌, false, true, List, [], ◌∷◌, ◌++◌, Option, Some, None, length, inl, inr, refl, sym, ap, ◌∙◌, subst, map, slice_index_or, arith}
+use Rattle.std.specs.Prelude.{Contains, IsSome, IsSomeAnd}
 use Rattle.std.specs.Option.{option_map}
 use Rattle.rc_cell.specs.declared.writes.Tomb.{Tomb}
 use Rattle.rc_position.specs.declared.positions.Pos.{Pos}
-use Rattle.lsa_store.specs.declared.place.Ref.{Ref}
-use Rattle.lsa_region.specs.Region.{View, SameObjects}
+use Rattle.lsa_region.specs.Region.{SameObjects}
 use Rattle.rc_core.specs.AtPlace.{HasEntryAt}
 use Rattle.rc_core.specs.declared.entries.ChainKind.{ChainKind}
 use Rattle.rc_core.specs.declared.entries.ChainKind.TheVariants.{Cache}
@@ -13,7 +12,7 @@ use Rattle.rc_core.specs.declared.entries.Entry.{Entry}
 use Rattle.rc_core.specs.Steps.{version_of}
 use Rattle.rc_core.specs.Version.{EndsWithDummy, Version, IsVersion, end_position}
 use Rattle.rc_partition.specs.laws.Lists.{elem-here}
-use Rattle.rc_memory.specs.Memory.{KeptChain, Member, Memory, HasChain, HasVersion, IsMemberObject, IsVersionAt, chain_at, listed_as, on_chain, on_shown, renumbered_member, shown_detached, shown_without, with_chains}
+use Rattle.rc_memory.specs.Memory.{KeptChain, Member, Memory, HasChain, HasVersion, IsVersionAt, chain_at, listed_as, on_chain, on_shown, renumbered_member, shown_detached, shown_without, with_chains}
 use Rattle.rc_memory.specs.Recency.{HasObject, IsRecency, MayBeListed, MustBeListed}
 use Rattle.rc_memory.specs.Changes.{IsUnmoved, IsWithout, Nowhere, NothingListed, OfVersion, StandStill, member}
 use Rattle.rc_memory.specs.laws.Listed.{one-at}

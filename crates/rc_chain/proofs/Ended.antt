@@ -1,26 +1,23 @@
 -- An update that has ended: what goes to the back of the recency list, and that it may.
-use Rattle.std.proofs.Common.{◌≡◌, ◌≢◌, ℕ, zero, suc, ◌<◌, ◌≤◌, ◌-◌, Bool, true, false, List, [], ◌∷◌, ◌++◌, Option, Some, None, IsSome, IsTrue, length, inl, inr, refl, sym, ap, ◌∙◌, subst, map, slice_index_or, arith}
+use Rattle.std.proofs.Common.{◌≡◌, ◌≢◌, ℕ, suc, ◌<◌, ◌-◌, Bool, true, false, List, [], ◌∷◌, ◌++◌, Option, Some, None, IsSome, length, inl, inr, refl, sym, ap, ◌∙◌, subst, slice_index_or, arith}
 use Rattle.std.specs.Prelude.{Contains, IfSome, IsSomeAnd}
 use Rattle.std.specs.Option.{option_map, option_to_list}
 use Rattle.std.proofs.lemmas.List.{append-nil}
 use Rattle.rc_position.specs.declared.positions.Pos.{Pos}
 use Rattle.rc_position.specs.Position.{IsBefore}
-use Rattle.lsa_store.specs.declared.place.Ref.{Ref}
 use Rattle.lsa_region.specs.Region.{View, SameObjects}
 use Rattle.rc_core.specs.AtPlace.{HasEntryAt}
-use Rattle.rc_core.specs.declared.entries.ChainKind.TheVariants.{Cache}
 use Rattle.rc_core.specs.declared.entries.Entry.{Entry}
-use Rattle.rc_core.specs.Chains.{Shown}
 use Rattle.rc_core.specs.Version.{Ascend, EndsWithDummy, Version, IsVersion, end_position}
 use Rattle.rc_core.specs.laws.Placed.{not_end}
 use Rattle.rc_registry.specs.Registry.{put}
-use Rattle.rc_memory.specs.Memory.{KeptChain, Member, Memory, HasChain, HasVersion, IsMemberObject, IsVersionAt, chain_at, listed_as, on_chain, on_shown, shown_updating, with_chains}
+use Rattle.rc_memory.specs.Memory.{KeptChain, Member, Memory, HasChain, HasVersion, IsVersionAt, chain_at, listed_as, on_chain, on_shown, shown_updating, with_chains}
 use Rattle.rc_memory.specs.Recency.{HasObject, IsLastInner, IsRecency, IsUnderUpdate, MayBeListed}
 use Rattle.rc_memory.specs.Kept.{IsSoundChain}
 use Rattle.rc_memory.specs.Changes.{IsUnmoved, LastIsListed, Nowhere, OfVersion, StandStill, member}
 use Rattle.rc_memory.specs.laws.At.{number-there}
 use Rattle.rc_memory.specs.laws.Listed.{one-at}
-use Rattle.rc_memory.specs.laws.Places.{heads, no_some, same_some, tails}
+use Rattle.rc_memory.specs.laws.Places.{heads, same_some, tails}
 use Rattle.rc_memory.specs.laws.Put.{put-at, put-same}
 use Rattle.rc_memory.specs.laws.Still.{still-then, unmoved-itself, unmoved-objects, unmoved-then}
 use Rattle.rc_chain.specs.Lives.{IsChainChanged, IsEndListed, IsLastUnlisted}

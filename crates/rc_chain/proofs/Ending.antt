@@ -1,5 +1,5 @@
 -- The end dummy of a version, the last entry before it, and whether an object is listed.
-use Rattle.std.proofs.Common.{◌≡◌, ◌≢◌, ℕ, suc, List, [], ◌∷◌, ◌++◌, Option, Some, None, IsSome, IsTrue, is_some, true, false, ◌↔◌, inl, inr, refl, sym, ap, ◌∙◌, subst, arith}
+use Rattle.std.proofs.Common.{◌≡◌, ℕ, List, [], ◌∷◌, ◌++◌, Option, Some, None, IsSome, IsTrue, is_some, true, false, ◌↔◌, inl, inr, refl, sym, ap, ◌∙◌, subst, arith}
 use Rattle.std.specs.Prelude.{Contains, IfNone, IfSome, ◌⊎◌}
 use Rattle.rc_position.specs.declared.positions.Pos.{Pos}
 use Rattle.lsa_store.specs.declared.place.Ref.{Ref}

@@ -1,9 +1,7 @@
 -- What is said of a version that was dropped, and of a chain that is gone.
-use Rattle.std.proofs.Common.{◌≡◌, ◌≢◌, ℕ, suc, Bool, true, false, List, [], ◌∷◌, ◌++◌, Option, Some, None, is_some, length, inl, inr, refl, sym, ap, ◌∙◌, subst, map, slice_index_or, take, drop, nat_eq, cond, eq-eqb, ne_eqb}
-use Rattle.std.specs.Prelude.{Contains}
+use Rattle.std.proofs.Common.{◌≡◌, ◌≢◌, ℕ, suc, List, ◌++◌, Some, None, is_some, length, inl, inr, refl, sym, ap, ◌∙◌, subst, slice_index_or, take, drop, cond, eq-eqb, ne_eqb}
 use Rattle.std.specs.Option.{option_map}
 use Rattle.lsa_pool.specs.laws.Usages.{decided}
-use Rattle.rc_position.specs.declared.positions.Pos.{Pos}
 use Rattle.lsa_store.specs.declared.place.Ref.{Ref}
 use Rattle.lsa_region.specs.declared.end.End.TheVariants.{Obj}
 use Rattle.lsa_region.specs.declared.end.Root.{Root}
@@ -14,9 +12,9 @@ use Rattle.rc_core.specs.Version.{Version, end_position}
 use Rattle.rc_version.specs.Versions.{IsMarked, IsVersionOf}
 use Rattle.rc_version.specs.laws.Marked.{marked-same, marked-then}
 use Rattle.rc_partition.specs.Partitions.{PartitionEntry, StandingVersion}
-use Rattle.rc_registry.specs.Registry.{Registry, put}
+use Rattle.rc_registry.specs.Registry.{Registry}
 use Rattle.rc_memory.specs.declared.counts.Counts.{Counts}
-use Rattle.rc_memory.specs.Memory.{Member, Memory, IsMemberObject, IsVersionAt, closed, fewer_versions, partition_without, renumbered_member}
+use Rattle.rc_memory.specs.Memory.{Member, Memory, IsVersionAt, closed, fewer_versions, partition_without, renumbered_member}
 use Rattle.rc_memory.specs.Kept.{HoldMemory}
 use Rattle.rc_memory.specs.Changes.{IsUnmoved, NothingListed}
 use Rattle.rc_memory.specs.laws.Places.{same_some, version-place}

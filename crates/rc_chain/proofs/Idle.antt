@@ -1,12 +1,11 @@
 -- Chains that are to be dropped: how they are told, and how they go, version by version.
-use Rattle.std.proofs.Common.{◌≡◌, ◌≢◌, ℕ, zero, suc, ◌+◌, ◌<◌, ◌≤◌, ◌↔◌, Bool, true, false, List, [], ◌∷◌, ◌++◌, Option, Some, None, IsSome, IsTrue, length, inl, inr, refl, sym, ap, ◌∙◌, subst, map, take, drop, slice_index_or, arith}
+use Rattle.std.proofs.Common.{◌≡◌, ℕ, zero, suc, ◌+◌, ◌<◌, ◌↔◌, Bool, true, false, List, [], ◌∷◌, ◌++◌, Option, Some, None, IsSome, IsTrue, length, inl, inr, refl, sym, ap, ◌∙◌, subst, map, slice_index_or, arith}
 use Rattle.std.specs.Prelude.{Contains, IfSome, IsSomeAnd, ◌⊎◌}
 use Rattle.std.specs.Option.{option_map}
 use Rattle.rc_position.specs.declared.positions.Pos.{Pos}
 use Rattle.lsa_store.specs.declared.place.Ref.{Ref}
 use Rattle.lsa_region.specs.Region.{View}
 use Rattle.lsa_list.specs.declared.recency.List.{List as Slots}
-use Rattle.rc_core.specs.declared.entries.ChainKind.TheVariants.{Cache}
 use Rattle.rc_core.specs.Chains.{IsPinned}
 use Rattle.rc_core.specs.Steps.{all_but, renumbered}
 use Rattle.rc_core.specs.Version.{Version, IsVersion, end_position}
@@ -15,9 +14,9 @@ use Rattle.rc_registry.specs.declared.uses.Use.{Use}
 use Rattle.rc_registry.specs.Registry.{Registry, AreFree, put, use_at}
 use Rattle.rc_memory.specs.declared.counts.Counts.{Counts}
 use Rattle.rc_memory.specs.Memory.{KeptChain, Member, Memory, IsMemberObject, IsVersionAt, chain_at, on_chain, on_shown, renumbered_member, shown_without}
-use Rattle.rc_memory.specs.Recency.{HasObject, IsRecency, MayBeListed}
+use Rattle.rc_memory.specs.Recency.{IsRecency, MayBeListed}
 use Rattle.rc_memory.specs.Kept.{HoldMemory, IsSoundChain}
-use Rattle.rc_memory.specs.Changes.{CanDrop, IsUnmoved, IsWithout, NothingListed, OfVersion, member}
+use Rattle.rc_memory.specs.Changes.{CanDrop, IsUnmoved, NothingListed, OfVersion, member}
 use Rattle.rc_memory.specs.laws.At.{number-low}
 use Rattle.rc_memory.specs.laws.Dropped.{renumbered-other}
 use Rattle.rc_memory.specs.laws.Places.{same_some}

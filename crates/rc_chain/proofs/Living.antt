@@ -1,32 +1,29 @@
 -- Where objects stand as chains come, change and go; and what becomes of the memory then.
-use Rattle.std.proofs.Common.{◌≡◌, ◌≢◌, ℕ, zero, suc, ◌+◌, ◌<◌, ◌≤◌, Bool, true, false, List, [], ◌∷◌, ◌++◌, Option, Some, None, IsSome, is_some, length, inl, inr, refl, sym, ap, ◌∙◌, subst, map, slice_index_or, nat_eq, cond, arith}
-use Rattle.std.specs.Prelude.{Contains, IfSome, IsSomeAnd}
-use Rattle.std.specs.Option.{option_map}
+use Rattle.std.proofs.Common.{◌≡◌, ℕ, true, false, List, [], ◌∷◌, ◌++◌, Option, Some, None, IsSome, is_some, refl, sym, ap, ◌∙◌, subst, slice_index_or, arith}
+use Rattle.std.specs.Prelude.{Contains, IsSomeAnd}
 use Rattle.std.proofs.lemmas.List.{append-nil}
-use Rattle.lsa_pool.specs.laws.Usages.{decided}
-use Rattle.rc_cell.specs.declared.writes.Tomb.{Tomb}
 use Rattle.rc_position.specs.declared.positions.Pos.{Pos}
 use Rattle.lsa_store.specs.declared.place.Ref.{Ref}
 use Rattle.lsa_region.specs.declared.end.End.{End}
 use Rattle.lsa_region.specs.declared.end.End.TheVariants.{Obj, Slot}
 use Rattle.lsa_region.specs.declared.end.Root.{Root}
-use Rattle.lsa_region.specs.Region.{View, body, link_of, slots_of, IsEnd, IsRootAdded, IsRootDropped, IsWell, SameButRoots}
+use Rattle.lsa_region.specs.Region.{View, body, link_of, IsEnd, IsRootAdded, IsRootDropped, IsWell, SameButRoots}
 use Rattle.lsa_list.specs.declared.recency.List.{List as Slots}
 use Rattle.lsa_tree.specs.laws.Trees.{stands-same}
 use Rattle.rc_core.specs.Version.{Version}
-use Rattle.rc_version.specs.Versions.{IsMarked, IsVersionOf}
+use Rattle.rc_version.specs.Versions.{IsVersionOf}
 use Rattle.rc_partition.specs.Partitions.{AreStanding, PartitionEntry, StandingVersion, partition_of}
 use Rattle.rc_partition.specs.laws.Lists.{elem-here}
 use Rattle.rc_partition.specs.laws.Roots.{stands-with_empty, stands-without_empty}
 use Rattle.rc_registry.specs.declared.uses.Use.{Use}
-use Rattle.rc_registry.specs.Registry.{Registry, HasRoot, put, use_at}
+use Rattle.rc_registry.specs.Registry.{Registry, HasRoot, use_at}
 use Rattle.rc_memory.specs.declared.counts.Counts.{Counts}
 use Rattle.rc_core.specs.Steps.{pin_at}
-use Rattle.rc_memory.specs.Memory.{KeptChain, Member, Memory, HasPin, IsMemberObject, IsObjectAt, IsOfVersion, IsVersionAt, IsVersionObject, chain_at, listed_as}
-use Rattle.rc_memory.specs.Kept.{HoldMemory, IsMemory, present}
-use Rattle.rc_memory.specs.Changes.{IsUnmoved, LastIsListed, Nowhere, StandStill}
+use Rattle.rc_memory.specs.Memory.{KeptChain, Member, Memory, HasPin, IsMemberObject, IsObjectAt, IsOfVersion, IsVersionAt, chain_at, listed_as}
+use Rattle.rc_memory.specs.Kept.{HoldMemory, present}
+use Rattle.rc_memory.specs.Changes.{LastIsListed, Nowhere, StandStill}
 use Rattle.rc_memory.specs.laws.Changed.{of-stays}
-use Rattle.rc_memory.specs.laws.Places.{no_some, same_some, version-there}
+use Rattle.rc_memory.specs.laws.Places.{no_some, version-there}
 use Rattle.rc_memory.specs.laws.Standing.{stand-each}
 use Rattle.rc_chain.specs.Lives.{IsBare, IsSameButSlots}
 use Rattle.rc_chain.proofs.Reading.{chain-stands, chain-used, some_of}

@@ -1,38 +1,32 @@
 -- What is said of a chain that was made, of a version put over others, of one that was dropped, and of a chain that is gone.
-use Rattle.std.proofs.Common.{◌≡◌, ◌≢◌, ℕ, zero, suc, ◌+◌, ◌<◌, ◌≤◌, ◌^◌, ◌-◌, Bool, true, false, List, [], ◌∷◌, ◌++◌, Option, Some, None, IsSome, is_some, length, inl, inr, refl, sym, ap, ◌∙◌, subst, map, slice_index_or, take, drop, nat_eq, cond, arith}
-use Rattle.std.specs.Prelude.{Contains, IfSome, IsSomeAnd}
+use Rattle.std.proofs.Common.{◌≡◌, ℕ, zero, suc, true, false, List, [], ◌∷◌, ◌++◌, Option, Some, None, is_some, length, inl, inr, refl, sym, ap, ◌∙◌, subst, slice_index_or}
 use Rattle.std.specs.Option.{option_map}
 use Rattle.lsa_pool.specs.laws.Usages.{decided}
 use Rattle.rc_cell.specs.declared.writes.Tomb.{Tomb}
-use Rattle.rc_position.specs.declared.positions.Pos.{Pos}
 use Rattle.lsa_store.specs.declared.place.Ref.{Ref}
-use Rattle.lsa_region.specs.declared.end.End.{End}
-use Rattle.lsa_region.specs.declared.end.End.TheVariants.{Obj, Slot}
+use Rattle.lsa_region.specs.declared.end.End.TheVariants.{Obj}
 use Rattle.lsa_region.specs.declared.end.Root.{Root}
-use Rattle.lsa_region.specs.Region.{View, body, link_of, IsEnd, IsRootAdded, IsRootDropped, IsWell, SameButRoots}
+use Rattle.lsa_region.specs.Region.{View, link_of, IsRootAdded, SameButRoots}
 use Rattle.lsa_list.specs.declared.recency.List.{List as Slots}
 use Rattle.rc_core.specs.declared.entries.ChainKind.{ChainKind}
 use Rattle.rc_core.specs.declared.entries.ChainKind.TheVariants.{Cache, Memtable}
-use Rattle.rc_core.specs.declared.entries.Flag.{Flag}
 use Rattle.rc_core.specs.declared.entries.Flag.TheVariants.{Inherit}
-use Rattle.rc_core.specs.Steps.{renumbered, version_of}
+use Rattle.rc_core.specs.Steps.{version_of}
 use Rattle.rc_core.specs.Version.{Version}
 use Rattle.rc_version.specs.Versions.{IsMarked, IsVersionOf}
 use Rattle.rc_version.specs.laws.Marked.{marked-same, marked-then}
 use Rattle.rc_version.specs.laws.Staying.{version-outward}
 use Rattle.rc_partition.specs.Partitions.{PartitionEntry, StandingVersion, partition_of, standing}
-use Rattle.rc_registry.specs.declared.uses.Use.{Use}
 use Rattle.rc_registry.specs.Registry.{Registry, IsNumberIn, put, use_at}
 use Rattle.rc_memory.specs.declared.counts.Counts.{Counts}
-use Rattle.rc_memory.specs.Memory.{KeptChain, Member, Memory, IsMemberObject, IsVersionAt, chain_at, chain_made, closed, empty_chain, fewer_versions, listed_as, more_versions, on_chain, on_shown, opened, partition_and, partition_without, renumbered_member, shown_updating, shown_with, shown_without, update_begun, with_chains}
+use Rattle.rc_memory.specs.Memory.{KeptChain, Memory, IsVersionAt, chain_at, chain_made, empty_chain, more_versions, on_chain, on_shown, partition_and, shown_updating, shown_with, update_begun}
 use Rattle.rc_memory.specs.Kept.{HoldMemory}
-use Rattle.rc_memory.specs.Changes.{IsUnmoved, Nowhere, StandStill}
-use Rattle.rc_memory.specs.laws.At.{no-use}
+use Rattle.rc_memory.specs.Changes.{IsUnmoved}
 use Rattle.rc_memory.specs.laws.Places.{no_some, same_some}
 use Rattle.rc_memory.specs.laws.Put.{put-at, put-beside, unused-at}
-use Rattle.rc_memory.specs.laws.Versions.{all-but-is, still-at, without-at}
-use Rattle.rc_chain.specs.Lives.{IsChainChanged, IsChainMade, chain_of_new, flag_of_new, is_cache, with_version_over}
-use Rattle.rc_chain.proofs.Living.{IsStandingAt, all-stand, object-stands}
+use Rattle.rc_memory.specs.laws.Versions.{still-at}
+use Rattle.rc_chain.specs.Lives.{IsChainChanged, IsChainMade, flag_of_new, is_cache, with_version_over}
+use Rattle.rc_chain.proofs.Living.{IsStandingAt, all-stand}
 
 pub put-put : {X : Type 0} (xs : List (Option X)) (n : ℕ) (a b : Option X) → put n a (put n b xs) ≡ put n a xs
 put-put [] zero a b = refl

@@ -1,5 +1,5 @@
 -- A chain that is made, and a version that is put over those of one: the memory then, and what is said of it.
-use Rattle.std.proofs.Common.{◌≡◌, ℕ, ◌+◌, ◌<◌, ◌≤◌, ◌/◌, true, false, List, [], ◌∷◌, ◌++◌, Option, Some, None, length, refl, sym, ap, ◌∙◌, subst, slice_index_or, arith}
+use Rattle.std.proofs.Common.{◌≡◌, ℕ, ◌≤◌, ◌/◌, true, false, List, [], ◌∷◌, ◌++◌, Option, Some, None, length, refl, subst, slice_index_or, arith}
 use Rattle.lsa_store.specs.declared.place.Ref.{Ref}
 use Rattle.lsa_region.specs.declared.end.End.TheVariants.{Obj}
 use Rattle.lsa_region.specs.declared.end.Root.{Root}
@@ -15,15 +15,13 @@ use Rattle.rc_core.specs.Steps.{version_of}
 use Rattle.rc_core.specs.Version.{Version, end_position}
 use Rattle.rc_version.specs.Versions.{IsMarked, IsUnlisted, IsVersionOf}
 use Rattle.rc_partition.specs.Partitions.{AreStanding, PartitionEntry, StandingVersion, among, partition_of, standing}
-use Rattle.rc_registry.specs.declared.uses.Use.{Use}
 use Rattle.rc_registry.specs.Registry.{Registry, IsNumberIn, new_use, on_use, put, set_updating, use_at, with_use, without_version}
 use Rattle.rc_memory.specs.declared.counts.Counts.{Counts}
 use Rattle.rc_memory.specs.Memory.{KeptChain, Memory, IsVersionAt, chain_at, chain_made, closed, fewer_versions, listed_as, more_versions, on_shown, update_begun}
-use Rattle.rc_memory.specs.Kept.{IsMemory, chain_of_use}
+use Rattle.rc_memory.specs.Kept.{IsMemory}
 use Rattle.rc_memory.specs.Changes.{CanDrop, NothingListed}
 use Rattle.rc_memory.specs.laws.At.{unused-chain}
 use Rattle.rc_memory.specs.laws.Chains.{memory-begun, memory-fewer, memory-gone, memory-made, memory-more}
-use Rattle.rc_memory.specs.laws.Places.{same_some}
 use Rattle.rc_chain.specs.Lives.{IsChainChanged, IsChainDropped, IsChainMade, IsVersionDropped, flag_of_new, with_version_over}
 use Rattle.rc_chain.proofs.Gone.{chain-dropped-is, version-dropped-is}
 use Rattle.rc_chain.proofs.Living.{held-slot}

@@ -1,21 +1,20 @@
 -- The versions that a snapshot sees, as they stand in the region.
-use Rattle.std.proofs.Common.{◌≡◌, ℕ, zero, suc, ◌<◌, List, [], ◌∷◌, ◌++◌, Option, Some, None, IsSome, length, inl, inr, refl, sym, ap, ◌∙◌, subst, map, take, slice_index_or, arith}
-use Rattle.std.specs.Prelude.{IfSome, IsSomeAnd}
+use Rattle.std.proofs.Common.{◌≡◌, ℕ, zero, suc, ◌<◌, List, [], ◌∷◌, ◌++◌, Option, Some, IsSome, length, inl, inr, refl, sym, ap, ◌∙◌, subst, map, take}
+use Rattle.std.specs.Prelude.{IsSomeAnd}
 use Rattle.lsa_region.specs.Region.{View}
 use Rattle.lsa_list.specs.declared.recency.List.{List as Slots}
 use Rattle.rc_core.specs.Chains.{IsPinned, upto}
 use Rattle.rc_core.specs.Steps.{pin_at}
-use Rattle.rc_core.specs.Version.{Version}
 use Rattle.rc_partition.specs.Partitions.{PartitionEntry, StandingVersion}
 use Rattle.rc_registry.specs.declared.uses.Use.{Use}
 use Rattle.rc_registry.specs.Registry.{Registry, use_at}
 use Rattle.rc_memory.specs.declared.counts.Counts.{Counts}
 use Rattle.rc_memory.specs.Memory.{KeptChain, Memory, HasPin, HasVersion, chain_at}
-use Rattle.rc_memory.specs.Kept.{IsMemory, IsSoundChain}
+use Rattle.rc_memory.specs.Kept.{IsMemory}
 use Rattle.rc_reading.specs.Reading.{AreUpTo, read_versions}
 use Rattle.rc_chain.proofs.Bare.{some-chain}
 use Rattle.rc_chain.proofs.Ended.{sound-of}
-use Rattle.rc_chain.proofs.Reading.{chain-kept, chain-used, version-stands}
+use Rattle.rc_chain.proofs.Reading.{chain-used, version-stands}
 use Rattle.rc_memory.specs.laws.Places.{same_some}
 
 pinned-is : (pins : List (Option ℕ)) (i j : ℕ) → pin_at pins i ≡ Some j → IsPinned pins j

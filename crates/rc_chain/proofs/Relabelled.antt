@@ -1,24 +1,21 @@
 -- Chains whose newest versions get another phase, one after another.
 use Rattle.std.proofs.Common.{◌≡◌, ◌≢◌, ℕ, zero, suc, ◌<◌, ◌≤◌, ◌-◌, true, false, List, [], ◌∷◌, Option, Some, None, IsSome, length, inl, inr, refl, sym, ap, ◌∙◌, subst, map, slice_index_or, cond, arith}
-use Rattle.std.specs.Prelude.{IfNone, IfSome, IsSomeAnd, ◌⊎◌}
+use Rattle.std.specs.Prelude.{IfNone, IsSomeAnd, ◌⊎◌}
 use Rattle.std.specs.Option.{option_map}
 use Rattle.lsa_pool.specs.Room.{spare_of}
 use Rattle.lsa_pool.specs.laws.Usages.{decided}
-use Rattle.rc_core.specs.Chains.{Shown}
 use Rattle.rc_core.specs.Steps.{on_newest, on_version, with_phase}
 use Rattle.rc_core.specs.Version.{Version}
 use Rattle.rc_registry.specs.Registry.{IsAfter, put}
 use Rattle.rc_memory.specs.Memory.{KeptChain, Memory, HasVersion, IsNextChain, chain_at, on_chain, on_shown, on_version_of, shown_with}
 use Rattle.rc_memory.specs.Kept.{IsSoundChain}
 use Rattle.rc_memory.specs.Changes.{IsUnmoved, IsVersionChanged, Nowhere, StandStill}
-use Rattle.rc_memory.specs.laws.Places.{no_some}
 use Rattle.rc_memory.specs.laws.Put.{put-at, put-beside}
 use Rattle.rc_memory.specs.laws.Standing.{at-mapped}
 use Rattle.rc_memory.specs.laws.Still.{still-itself, still-then, unmoved-itself, unmoved-then}
 use Rattle.rc_chain.specs.Lives.{IsChainChanged, IsRelabelled, relabelled}
 use Rattle.rc_chain.proofs.Ended.{on-itself}
 use Rattle.rc_chain.proofs.Made.{on-alike}
-use Rattle.rc_chain.proofs.Reading.{some_of}
 
 -- ---- lists
 

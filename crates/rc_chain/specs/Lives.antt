@@ -4,7 +4,7 @@
 --     IsEndListed       the recency list once an update has ended
 --     IsVersionDropped  a version is gone
 --     IsChainDropped    a chain is gone, and its number is to be told
-use Rattle.std.specs.Prelude.{◌≡◌, ◌⊎◌, ◌<◌, ℕ, suc, Bool, true, false, List, [], ◌∷◌, ◌++◌, Option, Some, None, IfSome, length, Contains, map as list_map, nat_eq, option_map, cond, ◌≤◌, IsSome}
+use Rattle.std.specs.Prelude.{◌≡◌, ◌⊎◌, ℕ, suc, Bool, true, false, List, [], ◌∷◌, ◌++◌, Option, Some, None, length, Contains, map as list_map, option_map, cond, ◌≤◌, IsSome}
 use Rattle.std.specs.Option.{option_to_list}
 use Rattle.lsa_store.specs.declared.place.Ref.{Ref}
 use Rattle.lsa_region.specs.Region.{SameButRoots}
@@ -18,10 +18,10 @@ use Rattle.rc_core.specs.declared.entries.Flag.TheVariants.{Inherit, Unknown}
 use Rattle.rc_core.specs.AtPlace.{HasEntryAt}
 use Rattle.rc_core.specs.Chains.{Shown}
 use Rattle.rc_core.specs.Free.{free_entry, free_statics}
-use Rattle.rc_core.specs.Steps.{on_newest, version_of, with_phase, renumbered}
+use Rattle.rc_core.specs.Steps.{on_newest, version_of, with_phase}
 use Rattle.rc_core.specs.Version.{Version, end_position}
 use Rattle.rc_registry.specs.Registry.{AreFree, IsNumberIn, put}
-use Rattle.rc_memory.specs.Memory.{KeptChain, Member, Memory, IsMemberObject, IsVersionAt, IsVersionObject, chain_at, listed_as, on_chain, on_shown, renumbered_member, shown_with, shown_without}
+use Rattle.rc_memory.specs.Memory.{KeptChain, Member, Memory, IsMemberObject, IsVersionAt, chain_at, listed_as, on_chain, on_shown, renumbered_member, shown_with, shown_without}
 use Rattle.rc_memory.specs.Recency.{IsLastInner}
 use Rattle.rc_memory.specs.Changes.{AtAlone, IsUnmoved, IsVersionChanged, IsWithout, Nowhere, OfVersion, StandStill, member}
 

@@ -1,13 +1,9 @@
-use Rattle.std.proofs.Common.{◌≡◌, ◌↔◌, List, Some, IsTrue, refl, sym, subst, arith}
+use Rattle.std.proofs.Common.{◌≡◌, ◌↔◌, List, IsTrue, sym, subst, arith}
 use Rattle.std.specs.Prelude.{IfOk}
 use Rattle.rc_core.specs.declared.entries.ChainKind.{ChainKind}
-use Rattle.rc_core.specs.Chain.{IsKnown, content, flagged, states_at}
+use Rattle.rc_core.specs.Chain.{IsKnown, content, states_at}
 use Rattle.rc_core.specs.Chains.{upto}
 use Rattle.rc_core.specs.Version.{On, Version}
-use Rattle.rc_core.specs.Continuity.{static_states}
-use Rattle.rc_core.specs.Continuity.{version_tombs}
-use Rattle.rc_cell.specs.Orders.{tomb_cmp}
-use Rattle.rc_cell.specs.Winner.{greatest}
 use Rattle.rc_reading.specs.Reading.{IsRowGiven}
 use Rattle.rc_chain.proofs.Read.{read-stands}
 use Rattle.rc_chain.proofs.Living.{pin-there}

@@ -1,5 +1,5 @@
-use Rattle.std.proofs.Common.{◌≡◌, refl, sym, ap, ◌∙◌, subst, arith}
-use Rattle.rc_memory.specs.Memory.{KeptChain, HasChain, chain_at}
+use Rattle.std.proofs.Common.{arith}
+use Rattle.rc_memory.specs.Memory.{chain_at}
 use Rattle.rc_chain.proofs.Dropping.{detached-settled, detached-there, detached-whole}
 use Rattle.rc_chain.proofs.Reading.{some_of}
 use Rattle.rc_chain.proofs.chains.Chains.detach.Goals as goal

@@ -1,4 +1,4 @@
-use Rattle.std.proofs.Common.{◌≡◌, ◌<◌, refl, sym, subst, arith}
+use Rattle.std.proofs.Common.{refl, arith}
 use Rattle.rc_chain.proofs.Idle.{idle-alone, idle-bare-first, idle-can, idle-free, idle-gone, idle-smaller, idle-start, idle-step, idle-there, versions_of}
 use Rattle.rc_chain.proofs.chains.Chains.drop_idle.Goals as goal
 

@@ -1,7 +1,7 @@
-use Rattle.std.proofs.Common.{◌≡◌, Some, refl, sym, ap, ◌∙◌, subst, arith}
+use Rattle.std.proofs.Common.{Some, sym, ap, ◌∙◌, arith}
 use Rattle.rc_core.specs.Version.{end_position}
-use Rattle.rc_memory.specs.Memory.{KeptChain, Memory, chain_at}
-use Rattle.rc_memory.specs.Changes.{CanDrop, member}
+use Rattle.rc_memory.specs.Memory.{Memory, chain_at}
+use Rattle.rc_memory.specs.Changes.{member}
 use Rattle.rc_chain.proofs.Dropping.{bare-has, bare-one, dropped-whole, end-free, nothing-one}
 use Rattle.rc_chain.proofs.chains.Chains.drop_version.Goals as goal
 

@@ -1,10 +1,7 @@
-use Rattle.std.proofs.Common.{◌≡◌, ◌-◌, false, true, [], ◌∷◌, ◌++◌, Some, refl, sym, ap, ◌∙◌, subst, arith}
-use Rattle.lsa_pool.specs.Room.{spare_of}
-use Rattle.std.specs.Prelude.{Contains}
+use Rattle.std.proofs.Common.{◌-◌, Some, sym, ◌∙◌, arith}
 use Rattle.rc_core.specs.Version.{end_position}
-use Rattle.rc_memory.specs.Memory.{KeptChain, HasChain, chain_at}
+use Rattle.rc_memory.specs.Memory.{chain_at}
 use Rattle.rc_memory.specs.Changes.{member}
-use Rattle.rc_chain.specs.Lives.{IsEndListed}
 use Rattle.rc_chain.proofs.Ended.{chain-one, end-may, end-off, ended-changed, ended-listed, last-listed, newest-of, sound-of, unended, version-two}
 use Rattle.rc_chain.proofs.Reading.{some_of}
 use Rattle.rc_chain.proofs.chains.Chains.end_update.Goals as goal

@@ -1,4 +1,4 @@
-use Rattle.std.proofs.Common.{◌≡◌, true, false, Option, Some, None, is_some, refl, sym, ◌∙◌, subst, arith}
+use Rattle.std.proofs.Common.{Some, None, sym, ◌∙◌, arith}
 use Rattle.rc_chain.proofs.Ended.{last-inside, last-there}
 use Rattle.rc_chain.proofs.Ending.{bare-told, held-whole, none-inner, some-inner, statics-told}
 use Rattle.rc_chain.proofs.Reading.{memory-now}

@@ -1,9 +1,9 @@
-use Rattle.std.proofs.Common.{◌≡◌, ◌↔◌, List, Some, IsTrue, refl, sym, subst, arith}
+use Rattle.std.proofs.Common.{◌≡◌, List, sym, subst, arith}
 use Rattle.std.specs.Prelude.{IfOk}
 use Rattle.rc_core.specs.declared.entries.ChainKind.{ChainKind}
-use Rattle.rc_core.specs.Chain.{IsKnown, content, flagged, states_at}
+use Rattle.rc_core.specs.Chain.{content, flagged}
 use Rattle.rc_core.specs.Chains.{upto}
-use Rattle.rc_core.specs.Version.{On, Version}
+use Rattle.rc_core.specs.Version.{Version}
 use Rattle.rc_core.specs.Continuity.{static_states}
 use Rattle.rc_core.specs.Continuity.{version_tombs}
 use Rattle.rc_cell.specs.Orders.{tomb_cmp}

@@ -1,4 +1,4 @@
-use Rattle.std.proofs.Common.{◌≡◌, ◌<◌, ◌≤◌, true, false, inl, inr, refl, sym, ◌∙◌, subst, arith}
+use Rattle.std.proofs.Common.{inl, inr, refl, sym, ◌∙◌, subst, arith}
 use Rattle.rc_memory.specs.Changes.{NothingListed}
 use Rattle.rc_chain.proofs.Ended.{true-false}
 use Rattle.rc_chain.proofs.Idle.{all-unlisted, below-or, free-told}

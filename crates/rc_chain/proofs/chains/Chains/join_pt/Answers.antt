@@ -1,4 +1,4 @@
-use Rattle.std.proofs.Common.{◌≡◌, refl, sym, ap, ◌∙◌, subst, arith}
+use Rattle.std.proofs.Common.{sym, ap, ◌∙◌, subst, arith}
 use Rattle.lsa_pool.specs.Room.{spare_of}
 use Rattle.lsa_region.specs.Region.{View}
 use Rattle.rc_memory.specs.Memory.{Memory}

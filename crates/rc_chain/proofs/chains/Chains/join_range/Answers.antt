@@ -1,4 +1,4 @@
-use Rattle.std.proofs.Common.{◌≡◌, ◌+◌, ◌++◌, ◌≤◌, refl, sym, ◌∙◌, subst, arith, Some}
+use Rattle.std.proofs.Common.{refl, sym, subst, arith, Some}
 use Rattle.rc_core.specs.Change as change
 use Rattle.rc_core.specs.Continuity.{with_entries}
 use Rattle.rc_core.specs.Version.{Version}

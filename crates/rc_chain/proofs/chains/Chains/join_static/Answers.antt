@@ -1,4 +1,4 @@
-use Rattle.std.proofs.Common.{◌≡◌, ◌+◌, ◌++◌, ◌≤◌, refl, sym, ap, ◌∙◌, subst, arith, None}
+use Rattle.std.proofs.Common.{◌+◌, ◌++◌, ◌≤◌, refl, sym, ap, ◌∙◌, subst, arith, None}
 use Rattle.lsa_pool.specs.Room.{spare_of}
 use Rattle.lsa_region.specs.Region.{View}
 use Rattle.rc_rowcode.specs.Objects.{static_size}

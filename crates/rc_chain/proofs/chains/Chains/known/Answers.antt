@@ -1,9 +1,8 @@
-use Rattle.std.proofs.Common.{◌≡◌, ℕ, inl, inr, sym, subst, sum_by}
-use Rattle.std.specs.Prelude.{IsSome, IsSomeAnd, ◌⊎◌}
-use Rattle.lsa_store.specs.declared.place.Ref.{Ref}
+use Rattle.std.proofs.Common.{◌≡◌, inl, inr, sym, subst, sum_by}
+use Rattle.std.specs.Prelude.{IsSome}
 use Rattle.lsa_region.specs.Region.{View, HasLayout, IsWell, body, live_bytes, objects}
 use Rattle.rc_registry.specs.Registry.{AreOnce, IsNumberIn}
-use Rattle.rc_memory.specs.Memory.{Member, Memory, IsMemberObject, IsObjectAt, IsVersionObject, chain_at}
+use Rattle.rc_memory.specs.Memory.{IsObjectAt}
 use Rattle.rc_memory.specs.Room.{chain_bytes, chain_objects}
 use Rattle.rc_memory.specs.Kept.{present}
 use Rattle.rc_memory.specs.laws.At.{version-is}

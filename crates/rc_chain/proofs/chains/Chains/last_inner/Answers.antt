@@ -1,5 +1,4 @@
-use Rattle.std.proofs.Common.{◌≡◌, [], ◌∷◌, ◌++◌, Option, Some, None, sym, ◌∙◌, subst, arith}
-use Rattle.std.specs.Prelude.{IfNone, IfSome}
+use Rattle.std.proofs.Common.{[], sym, subst, arith}
 use Rattle.rc_version.specs.Versions.{IsVersionOf}
 use Rattle.rc_chain.proofs.Ending.{held-whole, inner-either}
 use Rattle.rc_chain.proofs.Reading.{memory-now}

@@ -1,8 +1,7 @@
-use Rattle.std.proofs.Common.{◌≡◌, true, false, [], ◌∷◌, ◌++◌, Option, Some, None, inl, inr, refl, sym, ap, ◌∙◌, subst, arith}
+use Rattle.std.proofs.Common.{[], Option, Some, None, refl, sym, subst, arith}
 use Rattle.std.specs.Prelude.{Contains}
-use Rattle.std.proofs.lemmas.List.{append-nil}
 use Rattle.rc_position.specs.declared.positions.Pos.{Pos}
-use Rattle.rc_memory.specs.Memory.{Member, Memory, listed_as}
+use Rattle.rc_memory.specs.Memory.{Memory}
 use Rattle.rc_memory.specs.Changes.{Nowhere, member}
 use Rattle.rc_memory.specs.laws.Still.{still-itself}
 use Rattle.rc_partition.specs.laws.Lists.{elem-here}

@@ -1,7 +1,7 @@
-use Rattle.std.proofs.Common.{◌≡◌, ◌+◌, ◌≤◌, [], refl, sym, ap, ◌∙◌, subst, arith}
+use Rattle.std.proofs.Common.{◌≤◌, [], refl, sym, ap, ◌∙◌, subst, arith}
 use Rattle.std.proofs.lemmas.List.{append-nil}
 use Rattle.lsa_pool.specs.Room.{spare_of}
-use Rattle.lsa_region.specs.Region.{View, SameButRoots}
+use Rattle.lsa_region.specs.Region.{View}
 use Rattle.rc_partition.specs.Partitions.{AreStanding}
 use Rattle.rc_memory.specs.Memory.{Memory, listed_as}
 use Rattle.rc_memory.specs.Kept.{IsMemory, present}

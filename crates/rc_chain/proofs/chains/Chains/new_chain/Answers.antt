@@ -1,4 +1,4 @@
-use Rattle.std.proofs.Common.{◌≡◌, Some, refl, sym, ◌∙◌, subst, arith}
+use Rattle.std.proofs.Common.{Some, arith}
 use Rattle.rc_core.specs.Version.{end_position}
 use Rattle.rc_memory.specs.Changes.{member}
 use Rattle.rc_chain.proofs.Dropping.{made-may, made-off, made-version, made-whole}

@@ -1,5 +1,3 @@
-use Rattle.std.specs.Prelude.{IfNone}
-use Rattle.rc_registry.specs.Registry.{IsAfter}
 use Rattle.rc_chain.proofs.Relabelled.{relabelled-all, relabelled-smaller, relabelled-start, relabelled-step, none-of}
 use Rattle.rc_chain.proofs.chains.Chains.relabel.Goals as goal
 

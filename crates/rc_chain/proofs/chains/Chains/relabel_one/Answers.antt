@@ -1,4 +1,4 @@
-use Rattle.std.proofs.Common.{◌≡◌, true, false, refl, sym, ◌∙◌, subst, arith}
+use Rattle.std.proofs.Common.{sym, ◌∙◌, arith}
 use Rattle.rc_memory.specs.Memory.{chain_at}
 use Rattle.rc_chain.proofs.Ended.{newest-of, sound-of}
 use Rattle.rc_chain.proofs.Relabelled.{newest-there, relabelled-attached, relabelled-detached}

@@ -1,7 +1,5 @@
-use Rattle.std.proofs.Common.{◌≡◌, true, refl, sym, subst, arith}
-use Rattle.std.specs.Prelude.{IsSomeAnd}
+use Rattle.std.proofs.Common.{arith}
 use Rattle.rc_memory.specs.Memory.{chain_at}
-use Rattle.rc_chain.specs.Lives.{IsIdle}
 use Rattle.rc_chain.proofs.Idle.{some-idle}
 use Rattle.rc_chain.proofs.Ended.{true-false}
 use Rattle.rc_chain.proofs.Reading.{some_of}

@@ -1,5 +1,4 @@
-use Rattle.std.proofs.Common.{◌≡◌, true, false, [], ◌∷◌, ◌++◌, inl, inr, refl, sym, ◌∙◌, arith}
-use Rattle.std.specs.Prelude.{Contains}
+use Rattle.std.proofs.Common.{◌++◌, inl, inr, refl, arith}
 use Rattle.rc_partition.specs.laws.Lists.{elem-split}
 use Rattle.rc_memory.specs.Changes.{Nowhere}
 use Rattle.rc_memory.specs.laws.Still.{still-itself}

@@ -1,4 +1,4 @@
-use Rattle.std.proofs.Common.{◌≡◌, ◌+◌, ◌≤◌, [], ◌∷◌, ◌++◌, length, inl, sym, ap, ◌∙◌, subst, arith}
+use Rattle.std.proofs.Common.{[], ◌∷◌, ◌++◌, length, inl, sym, ap, ◌∙◌, subst, arith}
 use Rattle.rc_cell.specs.Winner.{joined_row}
 use Rattle.rc_rowcode.specs.Space.{Space}
 use Rattle.rc_rowcode.specs.Spelling.{row_code, IsCodedRow}

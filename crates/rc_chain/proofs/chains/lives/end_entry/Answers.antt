@@ -1,11 +1,9 @@
-use Rattle.std.proofs.Common.{◌≡◌, [], ◌∷◌, ◌++◌, refl, sym, subst, arith}
-use Rattle.lsa_store.specs.declared.place.Ref.{Ref}
+use Rattle.std.proofs.Common.{sym, subst}
 use Rattle.rc_position.specs.declared.positions.Pos.{Pos}
 use Rattle.rc_position.specs.declared.positions.Weight.TheVariants.{After}
 use Rattle.rc_core.specs.AtPlace.{HasEntryAt}
 use Rattle.lsa_tree.specs.Entries.{IsEntryAtPosition}
-use Rattle.rc_core.specs.Version.{Version, end_position}
-use Rattle.rc_version.specs.Versions.{IsEntryFound, IsVersionOf}
+use Rattle.rc_version.specs.Versions.{IsEntryFound}
 use Rattle.rc_chain.proofs.Ending.{end-last, has-end}
 use Rattle.rc_chain.proofs.chains.lives.end_entry.Goals as goal
 
