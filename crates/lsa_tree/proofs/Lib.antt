@@ -1,3 +1,4 @@
-mod Changes
-mod Frames
-mod Searches
+mod Placed
+mod Changed
+mod Traded
+mod Walks

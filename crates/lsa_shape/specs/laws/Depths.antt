@@ -7,7 +7,7 @@ use Rattle.lsa_store.specs.declared.place.Ref.{Ref}
 use Rattle.lsa_shape.specs.declared.flank.Flank.{Flank}
 use Rattle.lsa_shape.specs.declared.flank.Flank.TheVariants.{Low, High}
 use Rattle.lsa_shape.specs.Flanks.{other_flank}
-use Rattle.lsa_shape.specs.Shapes.{TreeShape, Leaf, Node, inorder, IsIn, node_on}
+use Rattle.lsa_shape.specs.Shapes.{TreeShape, Leaf, Node, inorder, IsIn, node_on, shape_by}
 use Rattle.lsa_shape.specs.Ways.{Fork, Passed, plug, IsAround}
 use Rattle.lsa_shape.specs.Levels.{Leans, IsLevel, IsLevelAround, shape_size}
 
@@ -94,6 +94,21 @@ pub size-listed : (s : TreeShape) → length (inorder s) ≡ shape_size s
 size-listed Leaf = refl
 size-listed (Node l r t) = omega (arith, length-append (inorder l) (r ∷ inorder t), size-listed l, size-listed t)
 
+node_size : (flank : Flank) (near : TreeShape) (r : Ref) (far : TreeShape) → shape_size (node_on flank near r far) ≡ suc (shape_size near + shape_size far)
+node_size Low near r far = refl
+node_size High near r far = omega arith
+
+-- a tree has an object for each fork of a way in it, and what is at the place
+pub way-size : (way : List Fork) (s : TreeShape) → length way + shape_size s ≤ shape_size (plug way s)
+way-size [] s = omega arith
+way-size (Passed flank r beside ∷ way) s = let w = way-size way (node_on flank s r beside) in omega (arith, w, node_size flank s r beside)
+
+-- a tree that is deep has a root
+pub level-root : (lean : Ref → ℕ) (flank : Flank) (s : TreeShape) (n : ℕ) → IsLevel lean s (suc n) → (near : TreeShape) × (r : Ref) × (far : TreeShape) × (s ≡ node_on flank near r far)
+level-root lean flank Leaf n level = absurd (omega (arith, level))
+level-root lean Low (Node l r t) n level = (l, r, t, refl)
+level-root lean High (Node l r t) n level = (t, r, l, refl)
+
 -- ---- other balances
 
 module _ (lean lean' : Ref → ℕ) where
@@ -115,4 +130,15 @@ module _ (lean lean' : Ref → ℕ) where
     level-kept beside around.0 (λ z i. same z (inr (inl i))) around.2,
     subst (λ b. Leans flank b h around.0 around.1) (sym (same r (inl refl))) around.3,
     around-kept way around.1 n (λ z i. same z (inr (inr i))) around.4,
+  )
+
+  -- and other names
+  pub level-mapped : (refs : Ref → Ref) (s : TreeShape) (n : ℕ) → ((z : Ref) → IsIn z s → lean' (refs z) ≡ lean z) → IsLevel lean s n → IsLevel lean' (shape_by refs s) n
+  level-mapped refs Leaf n same level = level
+  level-mapped refs (Node l r t) n same level = (
+    level.0,
+    level.1,
+    level-mapped refs l level.0 (λ z i. same z (inr (inl i))) level.2,
+    level-mapped refs t level.1 (λ z i. same z (inr (inr i))) level.3,
+    subst (λ b. Leans Low b level.0 level.1 n) (sym (same r (inl refl))) level.4,
   )
