@@ -208,3 +208,10 @@ module _ (v w : View) (tree : Tree) (refs : List Ref) (changed : IsChanged v w t
 
     pub changed-loose : (r : Ref) → (Contains refs r → ⊥) → IsLoose v r → IsLoose w r
     changed-loose r out h = loose-read v w r (same-read (body v r) (body w r) (changed.objects.bodies r out)) (λ f low high. apart r f h.entry out) h
+
+-- an entry is one still
+pub rebalanced-body : (v w : View) (r : Ref) (value : ℕ) → IsRebalanced v w r value → (q : Ref) → IsEntryBody (body v q) → IsEntryBody (body w q)
+rebalanced-body v w r value h q k = alike-body (body v q) (body w q) (balances-alike v w (r ∷ []) h.objects q) k
+
+pub same-body : (v w : View) → SameObjects v w → (q : Ref) → IsEntryBody (body v q) → IsEntryBody (body w q)
+same-body v w same q k = subst IsEntryBody (sym (same.bodies q)) k

@@ -1,5 +1,5 @@
 //! A tree balanced again, from a place up.
-ghost use Rattle.std.specs.Prelude.{◌≡◌, ◌≢◌, suc, false};
+ghost use Rattle.std.specs.Prelude.{◌≡◌, ◌≢◌, ◌<◌, suc, false};
 ghost use Rattle.lsa_region.specs.Region.{IsWell};
 ghost use Rattle.lsa_shape.specs.Flanks.{far_heavy};
 ghost use Rattle.lsa_tree.specs.Entries.{balance_of};
@@ -9,7 +9,16 @@ use crate::links::{balance, child, door, owner, set_balance, turn};
 use lsa_region::{End, Ref, Region};
 use lsa_shape::Flank;
 
-/// Balances an entry p that is deeper on this side by two, with x on that side, which is not deeper on the other one; whether it is as deep as before.
+// One balance where another one is this, else 0.
+fn given(leans: u64, when: u8, then: u8) -> u64
+    ensures when { leans ≡ when → result ≡ then }
+    ensures else_none { leans ≢ when → result ≡ 0 }
+    ensures small { result < 256 }
+{
+    if leans == u64::from(when) { u64::from(then) } else { 0 }
+}
+
+// Balances an entry p that is deeper on this side by two, with x on that side, which is not deeper on the other one; whether it is as deep as before.
 fn mend_once<const S: usize>(
     region: &mut Region<S>,
     side: Flank,
@@ -23,19 +32,19 @@ fn mend_once<const S: usize>(
     ensures well { IsWell region.new }
 {
     region.known();
-    let level = balance(region, x) == 0;
+    let leans = balance(region, x);
     turn(region, side, at, p, x);
-    if level {
+    if leans == 0 {
         set_balance(region, x, u64::from(side.light()));
         set_balance(region, p, u64::from(side.heavy()));
-    } else {
-        set_balance(region, x, 0);
-        set_balance(region, p, 0);
+        return true;
     }
-    level
+    set_balance(region, x, 0);
+    set_balance(region, p, 0);
+    false
 }
 
-/// The same where x is deeper on the other side: the entry z there comes into the place.
+// The same where x is deeper on the other side: the entry z there comes into the place.
 fn mend_twice<const S: usize>(
     region: &mut Region<S>,
     side: Flank,
@@ -53,12 +62,12 @@ fn mend_twice<const S: usize>(
     let leans = balance(region, z);
     turn(region, side.other(), End::Obj(p, side.near()), x, z);
     turn(region, side, at, p, z);
+    set_balance(region, x, given(leans, side.light(), side.heavy()));
+    set_balance(region, p, given(leans, side.heavy(), side.light()));
     set_balance(region, z, 0);
-    set_balance(region, x, if leans == u64::from(side.light()) { u64::from(side.heavy()) } else { 0 });
-    set_balance(region, p, if leans == u64::from(side.heavy()) { u64::from(side.light()) } else { 0 });
 }
 
-/// Balances an entry p that is deeper on this side by two, with x on that side; whether it is as deep as before.
+// Balances an entry p that is deeper on this side by two, with x on that side; whether it is as deep as before.
 fn mend<const S: usize>(
     region: &mut Region<S>,
     side: Flank,

@@ -103,6 +103,7 @@ pub record Steep (v : View) (flank : Flank) (at : End) (p x : Ref) : Type 0 wher
   pub around : IsLevelAround (balance_of v) way there depth
   pub level : IsLevel (balance_of v) (node_on flank near x between) (suc (suc low))
   pub level_far : IsLevel (balance_of v) far low
+  pub leans : balance_of v p ≢ 0
 
 -- it is balanced now, as deep as before or less deep by one
 pub record IsMended (old new : View) (flank : Flank) (at : End) (p x : Ref) (s : Steep old flank at p x) (same : Bool) : Type 0 where
