@@ -6,3 +6,4 @@ mod Searches
 mod Turned
 mod Mended
 mod Twice
+mod Steps

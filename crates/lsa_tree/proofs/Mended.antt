@@ -173,6 +173,7 @@ module _ (v : View) (well : IsWell v) (flank : Flank) (at : End) (p x : Ref) (s 
         };
         as_deep = λ e. refl;
         less_deep = λ e. absurd (let clash : true ≡ false = e in cc);
+        even = λ e. zero_x;
         changed = changed_w;
         level = λ set z zero_z. absurd (set zero_x);
       }
@@ -192,6 +193,7 @@ module _ (v : View) (well : IsWell v) (flank : Flank) (at : End) (p x : Ref) (s 
         };
         as_deep = λ e. absurd (let clash : false ≡ true = e in cc);
         less_deep = λ e. refl;
+        even = λ e. absurd (let clash : false ≡ true = e in cc);
         changed = changed_w;
         level = λ set z zero_z. elim (refs_decided z x) [
           | inl is ↦ ap (balance_of w) is ∙ level_x ∙ is_x

@@ -179,6 +179,7 @@ module _ (v : View) (well : IsWell v) (flank : Flank) (at : End) (p x : Ref) (s 
               };
               as_deep = λ e. absurd (let clash : false ≡ true = e in cc);
               less_deep = λ e. refl;
+              even = λ e. absurd (let clash : false ≡ true = e in cc);
               changed = changed_w;
               level = λ set y zero_y. elim (refs_decided y z) [
                 | inl is ↦ ap (balance_of w) is ∙ three.written

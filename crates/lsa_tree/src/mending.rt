@@ -109,8 +109,7 @@ fn rise<const S: usize>(region: &mut Region<S>, at: End) -> Option<End>
                 return None;
             }
             let x = child(region, at);
-            mend(region, side, above, p, x);
-            None
+            if mend(region, side, above, p, x) { Some(above) } else { None }
         }
     }
 }

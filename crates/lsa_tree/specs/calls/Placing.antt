@@ -1,5 +1,5 @@
 -- A place in the tree of a version, and what inner calls do there.
-use Rattle.std.specs.Prelude.{◌≡◌, ◌≢◌, ◌≤◌, ℕ, suc, nat_eq, cond, Bool, true, false, List, [], ◌∷◌, ◌++◌, length, Option, Some, None, IsSomeAnd, Contains}
+use Rattle.std.specs.Prelude.{◌≡◌, ◌≢◌, ◌⊎◌, ◌≤◌, ℕ, suc, nat_eq, cond, Bool, true, false, List, [], ◌∷◌, ◌++◌, length, Option, Some, None, IsSomeAnd, Contains}
 use Rattle.std.specs.Option.{option_map}
 use Rattle.lsa_kinds.specs.declared.kind.Kind.{Kind}
 use Rattle.lsa_store.specs.declared.place.Ref.{Ref}
@@ -112,8 +112,13 @@ pub record IsMended (old new : View) (flank : Flank) (at : End) (p x : Ref) (s :
   pub place : IsPlaced s.tree new s.refs s.way shape here s.there s.depth
   pub as_deep : same ≡ true → here ≡ suc (suc (suc s.low))
   pub less_deep : same ≡ false → here ≡ suc (suc s.low)
+  pub even : same ≡ true → balance_of old x ≡ 0
   pub changed : IsChanged old new s.tree s.refs
   pub level : balance_of old x ≢ 0 → (z : Ref) → balance_of old z ≡ 0 → balance_of new z ≡ 0
+
+-- a tree that was put in: one entry, or one whose root is deeper on one side
+abbrev pub Leaning : View → TreeShape → ℕ → Type 0
+Leaning v shape here = (here ≡ 1) ⊎ ((l : TreeShape) (r : Ref) (t : TreeShape) → shape ≡ Node l r t → balance_of v r ≢ 0)
 
 -- one step up: the tree is balanced, or the place above is as that one was
 pub record IsStepped (old new : View) (at : End) (p : PlaceIn old at) (next : Option End) : Type 0 where
@@ -121,13 +126,14 @@ pub record IsStepped (old new : View) (at : End) (p : PlaceIn old at) (next : Op
   pub done : next ≡ None → (shape : TreeShape) × (depth : ℕ) × IsBalanced p.tree new p.refs shape depth
   pub on : (e : End) → next ≡ Some e → (way : List Fork) × (shape : TreeShape) × (here : ℕ) × (there : ℕ) × IsPlaced p.tree new p.refs way shape here there p.depth × (hole p.tree.top way ≡ e)
       × (suc (length way) ≡ length p.way) × ((p.here ≡ suc p.there → here ≡ suc there) × (p.there ≡ suc p.here → there ≡ suc here)) × ((z : Ref) → IsIn z p.shape → IsIn z shape)
-  pub level : p.here ≡ suc p.there → (z : Ref) → IsIn z p.shape → balance_of old z ≡ 0 → balance_of new z ≡ 0
+      × (p.here ≡ suc p.there → Leaning old p.shape p.here → Leaning new shape here)
+  pub level : p.here ≡ suc p.there → Leaning old p.shape p.here → (z : Ref) → IsIn z p.shape → balance_of old z ≡ 0 → balance_of new z ≡ 0
 
 -- the whole tree is balanced, of the same entries
 pub record IsSettled (old new : View) (at : End) (p : PlaceIn old at) : Type 0 where
   pub changed : IsChanged old new p.tree p.refs
   pub done : (shape : TreeShape) × (depth : ℕ) × IsBalanced p.tree new p.refs shape depth
-  pub level : p.here ≡ suc p.there → (z : Ref) → IsIn z p.shape → balance_of old z ≡ 0 → balance_of new z ≡ 0
+  pub level : p.here ≡ suc p.there → Leaning old p.shape p.here → (z : Ref) → IsIn z p.shape → balance_of old z ≡ 0 → balance_of new z ≡ 0
 
 -- r where q was and q where r was, in each link of a tree
 abbrev pub traded : Ref → Ref → End → End
