@@ -7,3 +7,4 @@ mod Turned
 mod Mended
 mod Twice
 mod Steps
+mod Settled

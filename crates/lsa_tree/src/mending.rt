@@ -141,25 +141,39 @@ fn sink<const S: usize>(region: &mut Region<S>, at: End) -> Option<End>
 }
 
 /// Balances a tree in which what hangs at an end is deeper by one than the balances say.
-pub(crate) fn grow<const S: usize>(region: &mut Region<S>, at: End)
-    requires { (p : PlaceIn region.old at) × (p.here ≡ suc p.there) }
-    ensures settled { (p : PlaceIn region.old at) → p.here ≡ suc p.there → IsSettled region.old region.new at p }
+pub(crate) fn grow<const S: usize>(region: &mut Region<S>, start: End)
+    requires { (p : PlaceIn region.old start) × (p.here ≡ suc p.there) }
+    ensures settled { (p : PlaceIn region.old start) → p.here ≡ suc p.there → IsSettled region.old region.new start p }
     ensures well { IsWell region.new }
 {
-    match rise(region, at) {
-        None => {}
-        Some(above) => grow(region, above),
+    let mut at = start;
+    loop {
+        region.known();
+        match rise(region, at) {
+            None => return,
+            Some(above) => {
+                region.known();
+                at = above;
+            }
+        }
     }
 }
 
 /// Balances a tree in which what hangs at an end is less deep by one than the balances say.
-pub(crate) fn fall<const S: usize>(region: &mut Region<S>, at: End)
-    requires { (p : PlaceIn region.old at) × (p.there ≡ suc p.here) }
-    ensures settled { (p : PlaceIn region.old at) → p.there ≡ suc p.here → IsSettled region.old region.new at p }
+pub(crate) fn fall<const S: usize>(region: &mut Region<S>, start: End)
+    requires { (p : PlaceIn region.old start) × (p.there ≡ suc p.here) }
+    ensures settled { (p : PlaceIn region.old start) → p.there ≡ suc p.here → IsSettled region.old region.new start p }
     ensures well { IsWell region.new }
 {
-    match sink(region, at) {
-        None => {}
-        Some(above) => fall(region, above),
+    let mut at = start;
+    loop {
+        region.known();
+        match sink(region, at) {
+            None => return,
+            Some(above) => {
+                region.known();
+                at = above;
+            }
+        }
     }
 }
