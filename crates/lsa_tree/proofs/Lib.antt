@@ -8,3 +8,6 @@ mod Mended
 mod Twice
 mod Steps
 mod Settled
+mod Inserted
+mod Exchanged
+mod Severed

@@ -15,7 +15,7 @@ use Rattle.lsa_shape.specs.Ways.{Fork, Passed, plug, hole, way_before, way_behin
 use Rattle.lsa_shape.specs.Levels.{IsLevel, IsLevelAround, Leans, shape_size}
 use Rattle.lsa_shape.specs.Readings.{shape_at, steps_up, one_more}
 use Rattle.lsa_shape.specs.laws.Depths.{level-node}
-use Rattle.lsa_shape.specs.laws.Places.{in-plug}
+use Rattle.lsa_shape.specs.laws.Places.{in-plug, way-to}
 use Rattle.lsa_shape.specs.laws.Sides.{near-most, node-in, hangs-node}
 use Rattle.lsa_tree.specs.declared.tree.Tree.{Tree}
 use Rattle.lsa_tree.specs.Entries.{balance_of}
@@ -23,7 +23,8 @@ use Rattle.lsa_tree.specs.Search.{first_entry, last_entry, last_entry_from}
 use Rattle.lsa_tree.specs.Tree.{IsTree}
 use Rattle.lsa_tree.specs.calls.Placing.{IsFormed, IsPlaced, PlaceIn, owner_of, outermost}
 use Rattle.lsa_tree.specs.calls.Walking.{beside}
-use Rattle.lsa_tree.proofs.Placed.{body-there, below-none, below-some, below-unset, owner-none, owner-some, formed-there, formed-hole, formed-up, formed-read, tree-at}
+use Rattle.lsa_tree.specs.laws.Trees.{in-tree}
+use Rattle.lsa_tree.proofs.Placed.{body-there, below-none, below-some, below-unset, owner-none, owner-some, formed-there, formed-hole, formed-up, formed-read, tree-at, tree-formed, tree-placed}
 
 -- ---- to the outermost entry
 
@@ -299,3 +300,11 @@ near-same Low Low e = refl
 near-same Low High e = cc
 near-same High Low e = cc
 near-same High High e = refl
+
+-- the whole tree, at its top
+abbrev pub top-place : (tree : Tree) (v : View) (refs : List Ref) → IsTree tree v refs → PlaceIn v tree.top
+top-place tree v refs h = record { tree = tree; refs = refs; way = []; shape = h.form.0; here = h.form.1; there = h.form.1; depth = h.form.1; is = tree-placed tree v refs h; end = refl }
+
+-- an entry with the way to it
+pub entry-formed : (tree : Tree) (v : View) (refs : List Ref) → IsTree tree v refs → (r : Ref) → Contains refs r → (way : List Fork) × (l : TreeShape) × (t : TreeShape) × IsFormed tree v refs (plug way (Node l r t))
+entry-formed tree v refs h r on = let w = way-to [] h.form.0 r (in-tree tree v refs r h on) in (w.0, w.1, w.2, subst (IsFormed tree v refs) (sym w.3) (tree-formed tree v refs h))

@@ -90,6 +90,18 @@ module _ (lean : Ref → ℕ) where
       size (inr (inl u)) low high = omega (arith, u.2, low)
       size (inr (inr u)) low high = omega (arith, u.2, high)
 
+-- a balance is at most 2
+pub level-small : (lean : Ref → ℕ) (s : TreeShape) (n : ℕ) (z : Ref) → IsLevel lean s n → IsIn z s → lean z ≤ 2
+level-small lean Leaf n z level i = absurd i
+level-small lean (Node l r t) n z level (inl same) = subst (λ x. lean x ≤ 2) (sym same) (small level.4)
+  where
+    small : {a b : ℕ} → Leans Low (lean r) a b n → lean r ≤ 2
+    small (inl u) = omega (arith, u.0)
+    small (inr (inl u)) = omega (arith, u.0)
+    small (inr (inr u)) = omega (arith, u.0)
+level-small lean (Node l r t) n z level (inr (inl i)) = level-small lean l level.0 z level.2 i
+level-small lean (Node l r t) n z level (inr (inr i)) = level-small lean t level.1 z level.3 i
+
 pub size-listed : (s : TreeShape) → length (inorder s) ≡ shape_size s
 size-listed Leaf = refl
 size-listed (Node l r t) = omega (arith, length-append (inorder l) (r ∷ inorder t), size-listed l, size-listed t)

@@ -1,5 +1,5 @@
 -- Trees that hang at ends, over any way in which ends name ends.
-use Rattle.std.proofs.Common.{◌≡◌, ◌≢◌, ℕ, [], ◌∷◌, ◌++◌, Option, Some, None, inl, inr, ◌⊎◌, refl, sym, ap, ◌∙◌, subst, map, ◌≤◌, arith}
+use Rattle.std.proofs.Common.{zero, suc, ◌≡◌, ◌≢◌, ℕ, [], ◌∷◌, ◌++◌, Option, Some, None, inl, inr, ◌⊎◌, refl, sym, ap, ◌∙◌, subst, map, ◌≤◌, arith}
 use Rattle.std.specs.Option.{option_map}
 use Rattle.std.specs.Prelude.{Contains}
 use Rattle.std.proofs.lemmas.List.{map-append}
@@ -64,6 +64,18 @@ module _ (named : End → Option End) where
   names-in a Leaf h e is = let clash : None ≡ Some e = sym h ∙ is in cc
   names-in a (Node l r t) h e is = (r, inl refl, same_some e (Obj r 2) (sym is ∙ h.0))
 
+  -- so of any of its links
+  pub child-in : (a : End) (s : TreeShape) → HangsAt named a s → (r : Ref) (f : ℕ) → IsIn r s → 3 ≤ f → f ≤ 4 → (e : End) → named (Obj r f) ≡ Some e → (z : Ref) × IsIn z s × (e ≡ Obj z 2)
+  child-in a Leaf h r f i low high e is = absurd i
+  child-in a (Node l q t) h r zero (inl same) low high e is = absurd (omega (arith, low))
+  child-in a (Node l q t) h r (suc zero) (inl same) low high e is = absurd (omega (arith, low))
+  child-in a (Node l q t) h r (suc (suc zero)) (inl same) low high e is = absurd (omega (arith, low))
+  child-in a (Node l q t) h r (suc (suc (suc zero))) (inl same) low high e is = let w = names-in (Obj q 3) l h.1 e (ap (λ x. named (Obj x 3)) (sym same) ∙ is) in (w.0, inr (inl w.1), w.2)
+  child-in a (Node l q t) h r (suc (suc (suc (suc zero)))) (inl same) low high e is = let w = names-in (Obj q 4) t h.2 e (ap (λ x. named (Obj x 4)) (sym same) ∙ is) in (w.0, inr (inr w.1), w.2)
+  child-in a (Node l q t) h r (suc (suc (suc (suc (suc f))))) (inl same) low high e is = absurd (omega (arith, high))
+  child-in a (Node l q t) h r f (inr (inl i)) low high e is = let w = child-in (Obj q 3) l h.1 r f i low high e is in (w.0, inr (inl w.1), w.2)
+  child-in a (Node l q t) h r f (inr (inr i)) low high e is = let w = child-in (Obj q 4) t h.2 r f i low high e is in (w.0, inr (inr w.1), w.2)
+
   -- the links determine the shape
   pub hangs-determined : (a : End) (s t : TreeShape) → HangsAt named a s → HangsAt named a t → s ≡ t
   hangs-determined a Leaf Leaf h k = refl
@@ -76,6 +88,18 @@ module _ (named : End → Option End) where
       (λ i. Node (low i) (same i) (high i))
 
 module _ (named : End → Option End) (well : WellPaired named) where
+  -- what names a link of the tree is one of them, or the end at which it hangs
+  pub names-none : (a : End) (s : TreeShape) → HangsAt named a s → (r : Ref) (f : ℕ) → IsIn r s → 2 ≤ f → f ≤ 4 → (e : End) → e ≢ a → ((z : Ref) → IsIn z s → IsOff e z) → named e ≢ Some (Obj r f)
+  names-none a s h r zero i low high e ne off is = omega (arith, low)
+  names-none a s h r (suc zero) i low high e ne off is = omega (arith, low)
+  names-none a s h r (suc (suc zero)) i low high e ne off is =
+      let w = entered-by named a s h r i in let same = same_some w.0 e (sym (well.mates w.0 (Obj r 2) w.1) ∙ well.mates e (Obj r 2) is) in
+      elim w.2 [
+        | inl at ↦ ne (sym same ∙ at)
+        | inr p ↦ let o = off p.0 p.1 in elim p.2 [ inl lower ↦ o.1 (sym same ∙ lower) | inr upper ↦ o.2 (sym same ∙ upper) ]
+      ]
+  names-none a s h r (suc (suc (suc f))) i low high e ne off is = let w = child-in named a s h r (suc (suc (suc f))) i (omega arith) high e (well.mates e (Obj r (suc (suc (suc f)))) is) in (off w.0 w.1).0 w.2
+
   one_door : (d e : End) (z : Ref) → named d ≡ Some (Obj z 2) → named e ≡ Some (Obj z 2) → d ≡ e
   one_door d e z h k = same_some d e (sym (well.mates d (Obj z 2) h) ∙ well.mates e (Obj z 2) k)
 
