@@ -11,3 +11,5 @@ mod Settled
 mod Inserted
 mod Exchanged
 mod Severed
+mod Plucked
+mod Removed

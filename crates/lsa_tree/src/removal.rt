@@ -35,14 +35,14 @@ pub(crate) fn pluck<const S: usize>(region: &mut Region<S>, r: Ref) -> End
     ensures well { IsWell region.new }
 {
     region.known();
-    if below(region, End::Obj(r, LEFT)).is_none() {
-        return cut(region, Flank::High, r);
-    }
-    match edge(region, Flank::Low, End::Obj(r, RIGHT)) {
-        None => cut(region, Flank::Low, r),
-        Some(next) => {
-            trade(region, r, next);
-            cut(region, Flank::High, r)
-        }
+    match below(region, End::Obj(r, LEFT)) {
+        None => cut(region, Flank::High, r),
+        Some(_) => match edge(region, Flank::Low, End::Obj(r, RIGHT)) {
+            None => cut(region, Flank::Low, r),
+            Some(next) => {
+                trade(region, r, next);
+                cut(region, Flank::High, r)
+            }
+        },
     }
 }
