@@ -6,14 +6,14 @@ use Rattle.std.proofs.lemmas.List.{length-drop}
 use Rattle.rc_position.specs.declared.positions.Pos.{Pos}
 use Rattle.lsa_kinds.specs.declared.kind.Kind.{Kind}
 use Rattle.lsa_kinds.specs.declared.kind.Kind.TheVariants.{Version}
-use Rattle.lsa_kinds.specs.Fields.{number, number_at, IsPut}
+use Rattle.lsa_kinds.specs.Fields.{number_at, IsPut}
 use Rattle.lsa_store.specs.declared.place.Ref.{Ref}
 use Rattle.lsa_region.specs.declared.end.End.{End}
 use Rattle.lsa_region.specs.declared.end.End.TheVariants.{Obj, Slot}
-use Rattle.lsa_region.specs.Region.{View, body, link_of, IsWell, SameObjects, IsWritten}
+use Rattle.lsa_region.specs.Region.{View, body, link_of, SameObjects, IsWritten}
 use Rattle.lsa_region.specs.laws.Refs.{refs_decided}
 use Rattle.lsa_path.specs.laws.Members.{member-cases, member-first, member-later}
-use Rattle.lsa_shape.specs.Shapes.{TreeShape, IsIn, IsOff, StaysBeyond}
+use Rattle.lsa_shape.specs.Shapes.{StaysBeyond}
 use Rattle.lsa_shape.specs.laws.Hanging.{field-off}
 use Rattle.lsa_tree.specs.declared.tree.Tree.{Tree}
 use Rattle.lsa_tree.specs.Entries.{IsEntryKind, IsEntryAtPosition, AreAscending, balance_in, balance_of, but_balance, IsAlike}

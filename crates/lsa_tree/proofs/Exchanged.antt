@@ -1,5 +1,5 @@
 -- A tree in which an entry changed places with another one, of the tree or of none.
-use Rattle.std.proofs.Common.{◌≡◌, ◌≢◌, ℕ, zero, suc, ◌≤◌, ◌<◌, List, [], ◌∷◌, ◌++◌, Option, Some, None, inl, inr, ◌⊎◌, refl, sym, ap, ◌∙◌, subst, map, arith}
+use Rattle.std.proofs.Common.{◌≡◌, ◌≢◌, ℕ, zero, suc, ◌≤◌, ◌<◌, List, [], ◌∷◌, ◌++◌, Option, Some, None, inl, inr, refl, sym, ap, ◌∙◌, subst, map, arith}
 use Rattle.std.specs.Prelude.{IsSomeAnd, Contains}
 use Rattle.std.specs.Option.{option_map}
 use Rattle.rc_position.specs.declared.positions.Pos.{Pos}
@@ -8,13 +8,12 @@ use Rattle.lsa_region.specs.declared.end.End.{End}
 use Rattle.lsa_region.specs.declared.end.End.TheVariants.{Obj, Slot}
 use Rattle.lsa_region.specs.Ends.{swapped_ref}
 use Rattle.lsa_region.specs.Region.{View, body, link_of, IsWell}
-use Rattle.lsa_region.specs.laws.Refs.{refs_decided, swap-here, swap-there, swap-else, swap-twice}
+use Rattle.lsa_region.specs.laws.Refs.{refs_decided, swap-here, swap-there, swap-else}
 use Rattle.lsa_path.specs.laws.Members.{member-cases, member-first, member-later, member-here, map-split, once-split}
-use Rattle.lsa_path.specs.laws.Paths.{same_object, same_some}
-use Rattle.lsa_shape.specs.Shapes.{TreeShape, inorder, IsIn, HangsAt, IsOff, IsClearOf, StaysBeyond, shape_by}
+use Rattle.lsa_shape.specs.Shapes.{TreeShape, IsIn, HangsAt, IsOff, shape_by}
 use Rattle.lsa_shape.specs.Levels.{IsLevel}
 use Rattle.lsa_shape.specs.laws.Depths.{level-mapped, level-small}
-use Rattle.lsa_shape.specs.laws.Hanging.{in-by, in-listed, inorder-by, hangs-mapped, names-none}
+use Rattle.lsa_shape.specs.laws.Hanging.{in-by, inorder-by, hangs-mapped, names-none}
 use Rattle.lsa_shape.specs.laws.Rotations.{off-link}
 use Rattle.lsa_tree.specs.declared.tree.Tree.{Tree}
 use Rattle.lsa_tree.specs.Entries.{IsEntryKind, IsEntryAtPosition, balance_in, balance_of}

@@ -1,5 +1,5 @@
 -- An entry put where nothing hangs.
-use Rattle.std.proofs.Common.{◌≡◌, ◌≢◌, ℕ, suc, ◌≤◌, List, [], ◌∷◌, ◌++◌, Option, Some, None, inl, inr, ◌⊎◌, refl, sym, ap, ◌∙◌, subst, arith}
+use Rattle.std.proofs.Common.{◌≡◌, ◌≢◌, ℕ, ◌≤◌, List, ◌∷◌, ◌++◌, None, inl, inr, ◌⊎◌, refl, sym, ap, ◌∙◌, subst}
 use Rattle.std.specs.Prelude.{IsSomeAnd, Contains}
 use Rattle.std.proofs.lemmas.List.Elements.{Contains-append_left, Contains-append_right, Contains-append_cases}
 use Rattle.rc_position.specs.declared.positions.Pos.{Pos}
@@ -8,21 +8,19 @@ use Rattle.lsa_region.specs.declared.end.End.{End}
 use Rattle.lsa_region.specs.declared.end.End.TheVariants.{Obj}
 use Rattle.lsa_region.specs.Paired.{IsTied}
 use Rattle.lsa_region.specs.Region.{View, body, link_of, IsEnd, IsWell, SameObjects}
-use Rattle.lsa_path.specs.laws.Members.{member-cases, member-first, member-later, member-here}
+use Rattle.lsa_path.specs.laws.Members.{member-cases, member-later, member-here}
 use Rattle.lsa_path.specs.laws.Paths.{same_object, same_field}
-use Rattle.lsa_shape.specs.Shapes.{TreeShape, Leaf, Node, inorder, IsIn, HangsAt, IsOff, IsClearOf, StaysBeyond}
-use Rattle.lsa_shape.specs.Ways.{Fork, plug, hole, way_before, way_behind, IsAround}
-use Rattle.lsa_shape.specs.Levels.{IsLevel, IsLevelAround}
+use Rattle.lsa_shape.specs.Shapes.{Leaf, Node, IsIn, HangsAt, IsOff, StaysBeyond}
+use Rattle.lsa_shape.specs.Ways.{Fork, plug, hole, IsAround}
 use Rattle.lsa_shape.specs.laws.Depths.{around-kept}
-use Rattle.lsa_shape.specs.laws.Hanging.{listed-in}
 use Rattle.lsa_shape.specs.laws.Places.{IsAroundEnd, plug-changed, stays-out, plug-in, around-plug, hole-end, inorder-plug}
 use Rattle.lsa_tree.specs.declared.tree.Tree.{Tree}
 use Rattle.lsa_tree.specs.Entries.{IsEntryKind, IsEntryAtPosition, BelongsBetween, balance_in, balance_of}
-use Rattle.lsa_tree.specs.Tree.{IsTop, IsTree, IsLoose, IsOffTree, SameButBalances}
-use Rattle.lsa_tree.specs.calls.Placing.{IsEntryBody, IsFormed, IsPlaced, PlaceIn, IsVacant, IsChanged, IsSettled}
+use Rattle.lsa_tree.specs.Tree.{IsTree, IsLoose, IsOffTree, SameButBalances}
+use Rattle.lsa_tree.specs.calls.Placing.{IsEntryBody, IsFormed, PlaceIn, IsVacant, IsChanged, IsSettled}
 use Rattle.lsa_tree.specs.laws.Orders.{ascending-with}
 use Rattle.lsa_tree.specs.laws.Trees.{entry-no-top, entry-long, entry-end, tree-entry, tree-once, loose-beside, trees-apart}
-use Rattle.lsa_tree.proofs.Placed.{body-kind, body-there, formed-clear, formed-in, formed-there, formed-hole, formed-tree}
+use Rattle.lsa_tree.proofs.Placed.{formed-clear, formed-in, formed-there, formed-hole, formed-tree}
 use Rattle.lsa_tree.proofs.Changed.{alike-same, balances-alike, balances-narrower, changed-ascending, changed-body, changed-elsewhere, changed-links, changed-loose, changed-others, changed-then, changed-top}
 
 -- where one more stands among members
@@ -152,6 +150,6 @@ module _ (tree : Tree) (v : View) (well : IsWell v) (r : Ref) (loose : IsLoose v
       inserted-objects xs k = subst (SameButBalances v new) (tree-once tree v (front ++ back) xs h k) (balances-narrower v new (front ++ (r ∷ back)) changed.objects (front ++ back)
           (λ q out c. elim (members-with front back r q c) [
             | inl is ↦ subst (λ z. body new z ≡ body v z) (sym is)
-              (alike-same (body v r) (body new r) (balances-alike v new (front ++ (r ∷ back)) changed.objects r) body_r (settled.level refl (inl refl) r (inl refl) (level r ∙ loose.level) ∙ sym loose.level))
+                (alike-same (body v r) (body new r) (balances-alike v new (front ++ (r ∷ back)) changed.objects r) body_r (settled.level refl (inl refl) r (inl refl) (level r ∙ loose.level) ∙ sym loose.level))
             | inr old ↦ absurd (out old)
           ]))

@@ -1,27 +1,24 @@
 -- An entry that is deeper on a side by two is balanced.
-use Rattle.std.proofs.Common.{◌≡◌, ◌≢◌, ℕ, suc, ◌≤◌, ◌<◌, Bool, true, false, List, [], ◌∷◌, ◌++◌, Option, Some, None, IsSome, is_some, inl, inr, ◌⊎◌, refl, sym, ap, ◌∙◌, subst, arith}
+use Rattle.std.proofs.Common.{◌≡◌, ◌≢◌, ℕ, suc, true, false, inl, inr, ◌⊎◌, refl, sym, ap, ◌∙◌, subst, arith}
 use Rattle.std.specs.Prelude.{Contains}
 use Rattle.lsa_store.specs.declared.place.Ref.{Ref}
 use Rattle.lsa_region.specs.declared.end.End.{End}
 use Rattle.lsa_region.specs.declared.end.End.TheVariants.{Obj}
-use Rattle.lsa_region.specs.Region.{View, body, link_of, IsEnd, IsWell, SameObjects}
+use Rattle.lsa_region.specs.Region.{View, body, link_of, IsWell, SameObjects}
 use Rattle.lsa_region.specs.laws.Refs.{refs_decided}
-use Rattle.lsa_path.specs.Path.{entered}
 use Rattle.lsa_shape.specs.declared.flank.Flank.{Flank}
 use Rattle.lsa_shape.specs.declared.flank.Flank.TheVariants.{Low, High}
-use Rattle.lsa_shape.specs.Flanks.{other_flank, near_link, far_link, near_heavy, far_heavy}
-use Rattle.lsa_shape.specs.Shapes.{TreeShape, Leaf, Node, inorder, IsIn, HangsAt, IsClearOf, node_on}
-use Rattle.lsa_shape.specs.Ways.{Fork, Passed, plug, hole, IsAround}
+use Rattle.lsa_shape.specs.Flanks.{near_link, near_heavy, far_heavy}
+use Rattle.lsa_shape.specs.Shapes.{TreeShape, IsIn, HangsAt, IsClearOf, node_on}
+use Rattle.lsa_shape.specs.Ways.{plug, hole, IsAround}
 use Rattle.lsa_shape.specs.Levels.{Leans, IsLevel, IsLevelAround}
-use Rattle.lsa_shape.specs.laws.Depths.{level-node, node-level, level-kept, around-kept, level-root}
-use Rattle.lsa_shape.specs.laws.Hanging.{field-off}
-use Rattle.lsa_shape.specs.laws.Places.{around-apart, in-plug}
-use Rattle.lsa_shape.specs.laws.Sides.{near-root, far-root, sides-apart, node-in, hangs-node, near-clear, far-most, other-node, other-near, other-far}
-use Rattle.lsa_tree.specs.declared.tree.Tree.{Tree}
+use Rattle.lsa_shape.specs.laws.Depths.{level-node, node-level, level-kept, around-kept}
+use Rattle.lsa_shape.specs.laws.Places.{around-apart}
+use Rattle.lsa_shape.specs.laws.Sides.{near-root, far-root, sides-apart, node-in, hangs-node, near-clear}
 use Rattle.lsa_tree.specs.Entries.{balance_in, balance_of}
-use Rattle.lsa_tree.specs.calls.Placing.{IsEntryBody, IsFormed, IsPlaced, IsChanged, IsRebalanced, IsTurned, Steep, IsMended}
-use Rattle.lsa_tree.proofs.Placed.{body-there, below-some, below-node, formed-clear, formed-in, formed-hole, formed-there}
-use Rattle.lsa_tree.proofs.Changed.{changed-then, changed-balance, changed-body, rebalanced-others}
+use Rattle.lsa_tree.specs.calls.Placing.{IsEntryBody, IsFormed, IsChanged, IsRebalanced, IsTurned, Steep, IsMended}
+use Rattle.lsa_tree.proofs.Placed.{formed-clear, formed-in, formed-hole}
+use Rattle.lsa_tree.proofs.Changed.{changed-then, changed-balance, rebalanced-others}
 use Rattle.lsa_tree.proofs.Turned.{Asks, formed-balance, turn-asks, turn-apart, turn-x, turn-y, turned-formed, turned-changed}
 
 pub heavy-set : (flank : Flank) → near_heavy flank ≢ 0

@@ -1,5 +1,5 @@
 -- A place in the tree of a version.
-use Rattle.std.proofs.Common.{◌≡◌, ◌≢◌, ℕ, zero, suc, ◌+◌, ◌≤◌, List, [], ◌∷◌, ◌++◌, length, Option, Some, None, IsSome, is_some, inl, inr, ◌⊎◌, refl, sym, ap, ◌∙◌, subst, arith}
+use Rattle.std.proofs.Common.{◌≡◌, ◌≢◌, ℕ, suc, ◌≤◌, List, [], ◌∷◌, ◌++◌, length, Option, Some, None, IsSome, inl, inr, refl, sym, ap, ◌∙◌, subst, arith}
 use Rattle.std.specs.Prelude.{IsSomeAnd, Contains, AllPairs, sum_by}
 use Rattle.std.proofs.lemmas.List.{append_assoc}
 use Rattle.std.proofs.lemmas.List.Sums.{sum_by-cons}
@@ -16,11 +16,11 @@ use Rattle.lsa_shape.specs.declared.flank.Flank.{Flank}
 use Rattle.lsa_shape.specs.declared.flank.Flank.TheVariants.{Low, High}
 use Rattle.lsa_shape.specs.Shapes.{TreeShape, Leaf, Node, inorder, IsIn, HangsAt, IsClearOf, node_on}
 use Rattle.lsa_shape.specs.Ways.{Fork, Passed, plug, hole, way_before, way_behind}
-use Rattle.lsa_shape.specs.Levels.{IsLevel, IsLevelAround, shape_size}
+use Rattle.lsa_shape.specs.Levels.{IsLevel, shape_size}
 use Rattle.lsa_shape.specs.Readings.{shape_at, steps_up}
 use Rattle.lsa_shape.specs.laws.Hanging.{in-listed, listed-in}
-use Rattle.lsa_shape.specs.laws.Places.{IsAroundEnd, at-hole, around-plug, hole-end, in-plug, way-to, inorder-plug}
-use Rattle.lsa_shape.specs.laws.Depths.{level-plug, plug-level, way-size, size-listed}
+use Rattle.lsa_shape.specs.laws.Places.{IsAroundEnd, at-hole, around-plug, hole-end, way-to, inorder-plug}
+use Rattle.lsa_shape.specs.laws.Depths.{plug-level, way-size, size-listed}
 use Rattle.lsa_shape.specs.laws.Reading.{inorder-once, read-shape, way-steps}
 use Rattle.lsa_tree.specs.declared.tree.Tree.{Tree}
 use Rattle.lsa_tree.specs.Entries.{IsEntryKind, AreAscending, balance_of}
@@ -177,6 +177,6 @@ module _ (tree : Tree) (v : View) (well : IsWell v) where
       let form = subst (IsFormed tree v refs) (sym w.3) f in
       let level = plug-level (balance_of v) way (Node w.1 r w.2) h.form.1 (subst (λ s. IsLevel (balance_of v) s h.form.1) (sym w.3) h.form.3) in
       let list : refs ≡ (way_before way ++ inorder w.1) ++ (r ∷ (inorder w.2 ++ way_behind way)) =
-          sym form.order ∙ inorder-plug way (Node w.1 r w.2) ∙ ap (λ l. way_before way ++ l) (append_assoc (inorder w.1) (r ∷ inorder w.2) (way_behind way)) ∙ sym (append_assoc (way_before way) (inorder w.1) (r ∷ (inorder w.2 ++ way_behind way))) in
+      sym form.order ∙ inorder-plug way (Node w.1 r w.2) ∙ ap (λ l. way_before way ++ l) (append_assoc (inorder w.1) (r ∷ inorder w.2) (way_behind way)) ∙ sym (append_assoc (way_before way) (inorder w.1) (r ∷ (inorder w.2 ++ way_behind way))) in
       let both = split-once front back (way_before way ++ inorder w.1) (inorder w.2 ++ way_behind way) r (tree-pairs tree v well refs h) list in
       (way, w.1, w.2, level.0, h.form.1, record { form = form; level = level.1; around = level.2 }, both.0, both.1)

@@ -1,6 +1,6 @@
 -- An entry out of its tree.
-use Rattle.std.proofs.Common.{◌≡◌, ◌≢◌, ℕ, zero, suc, ◌≤◌, ◌<◌, List, [], ◌∷◌, ◌++◌, Option, Some, None, IsSome, is_some, inl, inr, ◌⊎◌, refl, sym, ap, ◌∙◌, subst, map, arith}
-use Rattle.std.specs.Prelude.{IsSomeAnd, Contains, AllPairs}
+use Rattle.std.proofs.Common.{◌≡◌, ◌≢◌, ℕ, suc, ◌<◌, List, [], ◌∷◌, ◌++◌, Option, Some, None, inl, inr, refl, sym, ap, ◌∙◌, subst, map, arith}
+use Rattle.std.specs.Prelude.{Contains, AllPairs}
 use Rattle.std.specs.Option.{option_map}
 use Rattle.std.proofs.lemmas.List.{append_assoc, map-append}
 use Rattle.std.proofs.lemmas.List.Elements.{Contains-append_left, Contains-append_right, Contains-append_cases}
@@ -8,30 +8,29 @@ use Rattle.lsa_store.specs.declared.place.Ref.{Ref}
 use Rattle.lsa_region.specs.declared.end.End.{End}
 use Rattle.lsa_region.specs.declared.end.End.TheVariants.{Obj}
 use Rattle.lsa_region.specs.Ends.{swapped_ref}
-use Rattle.lsa_region.specs.Region.{View, body, link_of, IsEnd, IsWell}
+use Rattle.lsa_region.specs.Region.{View, body, link_of, IsWell}
 use Rattle.lsa_region.specs.laws.Refs.{swap-here, swap-there, swap-else}
 use Rattle.lsa_path.specs.Path.{entered}
 use Rattle.lsa_path.specs.laws.Members.{member-cases, member-first, member-later, member-here, map-members, once-split}
 use Rattle.lsa_shape.specs.declared.flank.Flank.{Flank}
 use Rattle.lsa_shape.specs.declared.flank.Flank.TheVariants.{Low, High}
-use Rattle.lsa_shape.specs.Shapes.{TreeShape, Leaf, Node, inorder, IsIn, HangsAt, IsOff, node_on, shape_by}
-use Rattle.lsa_shape.specs.Ways.{Fork, Passed, plug, hole, way_before, way_behind}
+use Rattle.lsa_shape.specs.Shapes.{TreeShape, Leaf, Node, inorder, IsIn, HangsAt, node_on, shape_by}
+use Rattle.lsa_shape.specs.Ways.{Fork, plug, hole, way_before, way_behind}
 use Rattle.lsa_shape.specs.Levels.{IsLevel}
 use Rattle.lsa_shape.specs.laws.Depths.{level-plug, level-small}
 use Rattle.lsa_shape.specs.laws.Hanging.{by-in, names-none}
 use Rattle.lsa_shape.specs.laws.Places.{inorder-plug, way-to}
 use Rattle.lsa_shape.specs.laws.Reading.{inorder-once}
 use Rattle.lsa_tree.specs.declared.tree.Tree.{Tree}
-use Rattle.lsa_tree.specs.Entries.{IsEntryKind, balance_of}
+use Rattle.lsa_tree.specs.Entries.{balance_of}
 use Rattle.lsa_tree.specs.Search.{first_entry}
 use Rattle.lsa_tree.specs.Tree.{IsTree}
-use Rattle.lsa_tree.specs.calls.Placing.{IsEntryBody, IsFormed, IsPlaced, PlaceIn, IsChanged, IsTraded, Loosened, IsCut, IsOut, outermost, traded}
+use Rattle.lsa_tree.specs.calls.Placing.{IsEntryBody, IsFormed, IsPlaced, IsChanged, IsTraded, Loosened, IsCut, IsOut, traded}
 use Rattle.lsa_tree.specs.laws.Trees.{in-tree, tree-in, tree-pairs}
-use Rattle.lsa_tree.proofs.Placed.{body-there, below-none, formed-clear, formed-hole, formed-member, split-once, tree-at, tree-formed}
+use Rattle.lsa_tree.proofs.Placed.{below-none, formed-clear, formed-hole, formed-member, split-once, tree-at, tree-formed}
 use Rattle.lsa_tree.proofs.Changed.{changed-then, changed-wider}
 use Rattle.lsa_tree.proofs.Exchanged.{traded-changed, traded-formed, traded-levels}
 use Rattle.lsa_tree.proofs.Traded.{traded-end}
-use Rattle.lsa_tree.proofs.Walks.{side-place, side-entry, side-some, side-none, outer-leaf}
 
 -- the list of a tree at an entry with nothing on its far side, and without it
 cut_list : (flank : Flank) (way : List Fork) (near : TreeShape) (r : Ref) → (front : List Ref) × (back : List Ref) × (inorder (plug way (node_on flank near r Leaf)) ≡ front ++ (r ∷ back)) × (way_before way ++ (inorder near ++ way_behind way) ≡ front ++ back)
@@ -96,15 +95,21 @@ module _ (tree : Tree) (v : View) (well : IsWell v) (front back : List Ref) (r :
     IsOutOf = (way : List Fork) × (shape : TreeShape) × (here : ℕ) × (depth : ℕ) × IsOut v w tree (front ++ (r ∷ back)) (front ++ back) r end way shape here depth
 
     out_of : (flank : Flank) (way : List Fork) (near : TreeShape) (here depth : ℕ) (s : TreeShape) (place : IsPlaced tree v (front ++ (r ∷ back)) way s here here depth) (is : s ≡ node_on flank near r Leaf) → IsCut v w flank r (loosened-at flank way near here depth s place is) end → IsOutOf
-    out_of flank way near here depth s place is cut = (way, near, cut.here, depth, record {
-      place = subst (λ xs. IsPlaced tree w xs way near cut.here (suc cut.here) depth)
-          (cut-rest flank way near r front back once (ap (λ t. inorder (plug way t)) (sym is) ∙ place.form.order)) cut.place;
-      end = cut.end;
-      parent = cut.parent;
-      left = cut.left;
-      right = cut.right;
-      changed = cut.changed;
-    })
+    out_of flank way near here depth s place is cut = (
+      way,
+      near,
+      cut.here,
+      depth,
+      record {
+        place = subst (λ xs. IsPlaced tree w xs way near cut.here (suc cut.here) depth)
+            (cut-rest flank way near r front back once (ap (λ t. inorder (plug way t)) (sym is) ∙ place.form.order)) cut.place;
+        end = cut.end;
+        parent = cut.parent;
+        left = cut.left;
+        right = cut.right;
+        changed = cut.changed;
+      },
+    )
 
     pub out-left : (none : link_of v (Obj r 3) ≡ None) → IsCut v w High r (loosened-left none) end → IsOutOf
     out-left none cut = out_of High at.0 at.2 at.3 at.4 (Node at.1 r at.2) at.5 (left_leaf none) cut
@@ -214,15 +219,21 @@ module _ (tree : Tree) (v : View) (well : IsWell v) (front back : List Ref) (r :
       ]
 
       pub out-next : (w : View) (end : End) → IsCut m w High r loosened-next end → IsOutOf w end
-      out-next w end cut = (to_r.0, to_r.2, cut.here, h.form.1, record {
-        place = subst (λ xs. IsPlaced tree w xs to_r.0 to_r.2 cut.here (suc cut.here) h.form.1)
-            (cut-rest High to_r.0 to_r.2 r (front ++ (next ∷ [])) rest once_new (ap (λ s. inorder (plug to_r.0 s)) (sym leaf) ∙ form_r.order) ∙ append_assoc front (next ∷ []) rest ∙ ap (λ l. front ++ l) (sym follows)) cut.place;
-        end = cut.end;
-        parent = cut.parent;
-        left = cut.left;
-        right = cut.right;
-        changed = changed-then v m tree (front ++ (r ∷ back)) w traded_change (changed-wider m w tree ((front ++ (next ∷ [])) ++ (r ∷ rest)) (front ++ (r ∷ back)) back_in cut.changed);
-      })
+      out-next w end cut = (
+        to_r.0,
+        to_r.2,
+        cut.here,
+        h.form.1,
+        record {
+          place = subst (λ xs. IsPlaced tree w xs to_r.0 to_r.2 cut.here (suc cut.here) h.form.1)
+              (cut-rest High to_r.0 to_r.2 r (front ++ (next ∷ [])) rest once_new (ap (λ s. inorder (plug to_r.0 s)) (sym leaf) ∙ form_r.order) ∙ append_assoc front (next ∷ []) rest ∙ ap (λ l. front ++ l) (sym follows)) cut.place;
+          end = cut.end;
+          parent = cut.parent;
+          left = cut.left;
+          right = cut.right;
+          changed = changed-then v m tree (front ++ (r ∷ back)) w traded_change (changed-wider m w tree ((front ++ (next ∷ [])) ++ (r ∷ rest)) (front ++ (r ∷ back)) back_in cut.changed);
+        },
+      )
 
 pub first-splits : (xs : List Ref) (q : Ref) → first_entry xs ≡ Some q → (rest : List Ref) × (xs ≡ q ∷ rest)
 first-splits [] q is = absurd (let clash : ◌≡◌ {A = Option Ref} None (Some q) = is in cc)

@@ -1,24 +1,24 @@
 -- An entry taken out of its tree.
-use Rattle.std.proofs.Common.{◌≡◌, ◌≢◌, ℕ, suc, ◌≤◌, List, [], ◌∷◌, ◌++◌, Option, Some, None, inl, inr, ◌⊎◌, refl, sym, ap, ◌∙◌, subst, arith}
-use Rattle.std.specs.Prelude.{IsSomeAnd, Contains, AllPairs}
+use Rattle.std.proofs.Common.{◌≡◌, ◌≢◌, ℕ, suc, List, ◌∷◌, ◌++◌, None, sym, ap, ◌∙◌, subst}
+use Rattle.std.specs.Prelude.{IsSomeAnd, Contains}
 use Rattle.lsa_store.specs.declared.place.Ref.{Ref}
 use Rattle.lsa_region.specs.declared.end.End.{End}
 use Rattle.lsa_region.specs.declared.end.End.TheVariants.{Obj}
 use Rattle.lsa_region.specs.Region.{View, body, link_of, IsWell}
 use Rattle.lsa_path.specs.laws.Members.{member-here, once-split}
 use Rattle.lsa_shape.specs.Shapes.{TreeShape, IsIn}
-use Rattle.lsa_shape.specs.Ways.{Fork, plug, hole, IsAround}
+use Rattle.lsa_shape.specs.Ways.{Fork, plug}
 use Rattle.lsa_shape.specs.laws.Depths.{level-kept, around-kept}
 use Rattle.lsa_shape.specs.laws.Hanging.{field-off, hangs-moved}
 use Rattle.lsa_shape.specs.laws.Places.{in-plug, around-plug}
 use Rattle.lsa_tree.specs.declared.tree.Tree.{Tree}
 use Rattle.lsa_tree.specs.Entries.{IsEntryKind, balance_in, balance_of}
 use Rattle.lsa_tree.specs.Tree.{IsTree, IsLoose, IsOffTree, SameButBalances}
-use Rattle.lsa_tree.specs.calls.Placing.{IsEntryBody, IsFormed, IsPlaced, PlaceIn, IsChanged, IsRebalanced, IsSettled, IsOut}
+use Rattle.lsa_tree.specs.calls.Placing.{IsEntryBody, IsFormed, PlaceIn, IsChanged, IsRebalanced, IsSettled, IsOut}
 use Rattle.lsa_tree.specs.laws.Orders.{ascending-without}
 use Rattle.lsa_tree.specs.laws.Trees.{entry-no-top, tree-entry, tree-once, tree-pairs, loose-beside, trees-apart}
 use Rattle.lsa_tree.proofs.Placed.{body-kind, formed-in, formed-tree}
-use Rattle.lsa_tree.proofs.Changed.{balances-alike, changed-ascending, changed-balance, changed-body, changed-elsewhere, changed-loose, changed-others, changed-then, changed-top, changed-wider, rebalanced-body, rebalanced-others}
+use Rattle.lsa_tree.proofs.Changed.{changed-ascending, changed-balance, changed-body, changed-elsewhere, changed-loose, changed-others, changed-then, changed-top, changed-wider, rebalanced-others}
 use Rattle.lsa_tree.proofs.Inserted.{members-more}
 use Rattle.lsa_tree.proofs.Plucked.{plucked-body}
 

@@ -1,5 +1,5 @@
 -- Searching down a tree: the entries before the place stand before what is looked for, those behind it behind.
-use Rattle.std.proofs.Common.{◌≡◌, ◌≢◌, ℕ, suc, ◌+◌, ◌*◌, ◌^◌, ◌<◌, ◌≤◌, List, [], ◌∷◌, ◌++◌, length, Option, Some, None, inl, inr, ◌⊎◌, refl, sym, ap, ◌∙◌, subst, arith}
+use Rattle.std.proofs.Common.{◌≡◌, ℕ, ◌+◌, ◌*◌, ◌^◌, ◌<◌, ◌≤◌, List, [], ◌∷◌, ◌++◌, length, Option, Some, None, inl, inr, ◌⊎◌, refl, sym, ap, ◌∙◌, subst, arith}
 use Rattle.std.specs.Prelude.{Contains}
 use Rattle.std.specs.List.{AllByRecursion}
 use Rattle.std.proofs.lemmas.List.{append_assoc, append-nil, append_cancel_left}
@@ -11,7 +11,6 @@ use Rattle.lsa_region.specs.declared.end.End.TheVariants.{Obj}
 use Rattle.lsa_region.specs.Region.{View, link_of, IsEnd, IsWell, IsSummed, live_bytes}
 use Rattle.lsa_path.specs.Path.{entered}
 use Rattle.lsa_path.specs.laws.Members.{member-here}
-use Rattle.lsa_shape.specs.declared.flank.Flank.{Flank}
 use Rattle.lsa_shape.specs.declared.flank.Flank.TheVariants.{Low, High}
 use Rattle.lsa_shape.specs.Shapes.{TreeShape, Leaf, Node, inorder, HangsAt}
 use Rattle.lsa_shape.specs.Ways.{Fork, Passed, plug, hole, way_before, way_behind}
@@ -20,7 +19,6 @@ use Rattle.lsa_shape.specs.Readings.{shape_at}
 use Rattle.lsa_shape.specs.laws.Depths.{level-node, level-plug, level-size, way-short, size-listed, shallow, leans-less, leans-other}
 use Rattle.lsa_shape.specs.laws.Places.{inorder-plug}
 use Rattle.lsa_tree.specs.declared.tree.Tree.{Tree}
-use Rattle.lsa_tree.specs.declared.tree.Place.{Place}
 use Rattle.lsa_tree.specs.declared.tree.Place.TheVariants.{Here, Before, Last}
 use Rattle.lsa_tree.specs.Entries.{IsEntryAtPosition, StandsEarlier, StandsLater, BelongsBetween, AreAscending, balance_of}
 use Rattle.lsa_tree.specs.Search.{IsFound, first_entry}
@@ -117,13 +115,16 @@ module _ (tree : Tree) (v : View) (well : IsWell v) (summed : IsSummed v) (x : P
       last-vacant front back h fits =
           let same : refs ≡ front ++ back = tree-once tree v refs (front ++ back) reached.whole h in
           let front_is : way_before way ≡ front = sym (belongs-once v front back (way_before way) (way_behind way) x (sym same ∙ last-list) fits last-belongs) in
-          let tails : way_behind way ≡ back = append_cancel_left front (way_behind way) back (ap (λ l. l ++ way_behind way) (sym front_is) ∙ sym last-list ∙ same) in
-          (way, depth, record {
-            place = subst (λ l. IsPlaced tree v l way Leaf 0 0 depth) same (subst (λ n. IsPlaced tree v refs way Leaf n n depth) level_zero (subst (λ t. IsPlaced tree v refs way t here here depth) leaf reached.place));
-            end = reached.end;
-            before = front_is;
-            behind = tails;
-          })
+          let tails : way_behind way ≡ back = append_cancel_left front (way_behind way) back (ap (λ l. l ++ way_behind way) (sym front_is) ∙ sym last-list ∙ same) in (
+            way,
+            depth,
+            record {
+              place = subst (λ l. IsPlaced tree v l way Leaf 0 0 depth) same (subst (λ n. IsPlaced tree v refs way Leaf n n depth) level_zero (subst (λ t. IsPlaced tree v refs way t here here depth) leaf reached.place));
+              end = reached.end;
+              before = front_is;
+              behind = tails;
+            },
+          )
 
     -- an entry hangs there
     module _ (r : Ref) (some : entered 2 (link_of v at) ≡ Some r) where

@@ -1,10 +1,10 @@
 -- Steps up until the tree is balanced.
-use Rattle.std.proofs.Common.{◌≡◌, ℕ, suc, ◌+◌, ◌<◌, List, length, Option, Some, None, refl, sym, ap, ◌∙◌, subst, arith}
+use Rattle.std.proofs.Common.{◌≡◌, ℕ, suc, ◌<◌, List, length, Some, None, refl, subst, arith}
 use Rattle.lsa_store.specs.declared.place.Ref.{Ref}
 use Rattle.lsa_region.specs.declared.end.End.{End}
 use Rattle.lsa_region.specs.Region.{View, link_of, IsWell, IsSummed, live_bytes}
 use Rattle.lsa_shape.specs.Shapes.{TreeShape, IsIn}
-use Rattle.lsa_shape.specs.Ways.{Fork, plug, hole}
+use Rattle.lsa_shape.specs.Ways.{Fork, hole}
 use Rattle.lsa_shape.specs.Readings.{steps_up}
 use Rattle.lsa_tree.specs.Entries.{balance_of}
 use Rattle.lsa_tree.specs.calls.Placing.{IsPlaced, PlaceIn, IsChanged, Leaning, IsStepped, IsSettled}
@@ -31,16 +31,22 @@ abbrev pub IsUnderWayAt : (v : View) → View → (start : End) → End → Plac
 IsUnderWayAt v w start at p = (way : List Fork) × (shape : TreeShape) × (here : ℕ) × (there : ℕ) × IsUnderWay v w start at p way shape here there
 
 pub way-start : (v : View) (start : End) (p : PlaceIn v start) → IsUnderWayAt v v start start p
-way-start v start p = (p.way, p.shape, p.here, p.there, record {
-  place = p.is;
-  end = p.end;
-  up = λ e. e;
-  down = λ e. e;
-  changed = changed-same v p.tree p.refs;
-  leaning = λ g l. l;
-  within = λ z i. i;
-  level = λ g l z i zero_z. zero_z;
-})
+way-start v start p = (
+  p.way,
+  p.shape,
+  p.here,
+  p.there,
+  record {
+    place = p.is;
+    end = p.end;
+    up = λ e. e;
+    down = λ e. e;
+    changed = changed-same v p.tree p.refs;
+    leaning = λ g l. l;
+    within = λ z i. i;
+    level = λ g l z i zero_z. zero_z;
+  },
+)
 
 module _ (v w : View) (start at : End) (p : PlaceIn v start) (way : List Fork) (shape : TreeShape) (here there : ℕ) (u : IsUnderWay v w start at p way shape here there) where
   -- the place that was come to
@@ -56,16 +62,22 @@ module _ (v w : View) (start at : End) (p : PlaceIn v start) (way : List Fork) (
     }
 
     pub way-on : (end : End) → IsStepped w x at place-now (Some end) → IsUnderWayAt v x start end p
-    way-on end s = let o = s.on end refl in (o.0, o.1, o.2, o.3, record {
-      place = o.4;
-      end = o.5;
-      up = λ grown. o.7.0 (u.up grown);
-      down = λ sunk. o.7.1 (u.down sunk);
-      changed = changed-then v w p.tree p.refs x u.changed s.changed;
-      leaning = λ grown leaning. o.9 (u.up grown) (u.leaning grown leaning);
-      within = λ z i. o.8 z (u.within z i);
-      level = λ grown leaning z i zero_z. s.level (u.up grown) (u.leaning grown leaning) z (u.within z i) (u.level grown leaning z i zero_z);
-    })
+    way-on end s = let o = s.on end refl in (
+      o.0,
+      o.1,
+      o.2,
+      o.3,
+      record {
+        place = o.4;
+        end = o.5;
+        up = λ grown. o.7.0 (u.up grown);
+        down = λ sunk. o.7.1 (u.down sunk);
+        changed = changed-then v w p.tree p.refs x u.changed s.changed;
+        leaning = λ grown leaning. o.9 (u.up grown) (u.leaning grown leaning);
+        within = λ z i. o.8 z (u.within z i);
+        level = λ grown leaning z i zero_z. s.level (u.up grown) (u.leaning grown leaning) z (u.within z i) (u.level grown leaning z i zero_z);
+      },
+    )
 
     pub way-less : (end : End) → IsStepped w x at place-now (Some end) → IsWell w → IsSummed w → IsWell x → IsSummed x → above_end x end < above_end w at
     way-less end s well summed well_x summed_x =

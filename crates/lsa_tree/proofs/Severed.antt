@@ -1,5 +1,5 @@
 -- An entry cut off that has nothing on its far side.
-use Rattle.std.proofs.Common.{◌≡◌, ◌≢◌, ℕ, suc, ◌≤◌, List, [], ◌∷◌, ◌++◌, Option, Some, None, IsSome, is_some, inl, inr, ◌⊎◌, refl, sym, ap, ◌∙◌, subst, arith}
+use Rattle.std.proofs.Common.{◌≡◌, ◌≢◌, ℕ, suc, ◌≤◌, ◌++◌, Option, Some, None, IsSome, is_some, inl, inr, refl, sym, ap, ◌∙◌, subst, arith}
 use Rattle.std.specs.Prelude.{Contains}
 use Rattle.std.specs.Option.{option_map}
 use Rattle.lsa_store.specs.declared.place.Ref.{Ref}
@@ -8,21 +8,20 @@ use Rattle.lsa_region.specs.declared.end.End.TheVariants.{Obj}
 use Rattle.lsa_region.specs.Ends.{swapped}
 use Rattle.lsa_region.specs.Paired.{IsExchanged, IsParted}
 use Rattle.lsa_region.specs.Region.{View, body, link_of, IsEnd, IsWell, SameObjects}
-use Rattle.lsa_region.specs.laws.Exchanges.{swap-other, swap-second, map_other}
+use Rattle.lsa_region.specs.laws.Exchanges.{swap-other, swap-second}
 use Rattle.lsa_path.specs.laws.Paths.{same_object, same_field, same_some}
 use Rattle.lsa_shape.specs.declared.flank.Flank.{Flank}
 use Rattle.lsa_shape.specs.Flanks.{near_link, far_link}
-use Rattle.lsa_shape.specs.Shapes.{TreeShape, Leaf, inorder, IsIn, HangsAt, IsOff, IsClearOf, StaysBeyond, node_on}
-use Rattle.lsa_shape.specs.Ways.{Fork, plug, hole, way_before, way_behind, IsAround}
-use Rattle.lsa_shape.specs.Levels.{Leans, IsLevel, IsLevelAround}
+use Rattle.lsa_shape.specs.Shapes.{TreeShape, Leaf, inorder, IsIn, HangsAt, IsClearOf, StaysBeyond, node_on}
+use Rattle.lsa_shape.specs.Ways.{plug, hole, way_before, way_behind}
+use Rattle.lsa_shape.specs.Levels.{Leans, IsLevelAround}
 use Rattle.lsa_shape.specs.laws.Depths.{level-node, plug-level, level-kept, around-kept}
 use Rattle.lsa_shape.specs.laws.Hanging.{names-in, hangs-moved}
 use Rattle.lsa_shape.specs.laws.Places.{plug-changed, stays-out, in-plug, plug-in, around-plug, inorder-plug}
 use Rattle.lsa_shape.specs.laws.Rotations.{off-link, hangs-swapped, hangs-beside, stays-beside}
 use Rattle.lsa_shape.specs.laws.Sides.{near-low, near-most, far-low, far-most, near_differs, node-in, hangs-node, near-root, near-clear, link-sides}
-use Rattle.lsa_tree.specs.declared.tree.Tree.{Tree}
 use Rattle.lsa_tree.specs.Entries.{balance_in, balance_of}
-use Rattle.lsa_tree.specs.calls.Placing.{IsEntryBody, IsFormed, IsPlaced, IsChanged, Loosened, IsCut}
+use Rattle.lsa_tree.specs.calls.Placing.{IsEntryBody, IsFormed, IsChanged, Loosened, IsCut}
 use Rattle.lsa_tree.proofs.Placed.{body-there, formed-clear, formed-in, formed-there, formed-hole}
 use Rattle.lsa_tree.proofs.Changed.{changed-body, changed-links, changed-top}
 
@@ -130,7 +129,7 @@ module _ (v : View) (well : IsWell v) (flank : Flank) (r : Ref) (l : Loosened v 
         here_w = hangs-moved (link_of m) (link_of w) place place l.near
             (parts_of.others place (place_link r 2 root_in (omega arith) (omega arith)) apart)
             (λ z i. let other = λ (f g : ℕ) (e : Obj z f ≡ Obj r g). near_not (subst (λ y. IsIn y l.near) (same_object z r f g e) i) in
-              (parts_of.others (Obj z 3) (other 3 2) (other 3 (near_link flank)), parts_of.others (Obj z 4) (other 4 2) (other 4 (near_link flank)))) near_moved
+            (parts_of.others (Obj z 3) (other 3 2) (other 3 (near_link flank)), parts_of.others (Obj z 4) (other 4 2) (other 4 (near_link flank)))) near_moved
 
         stays : StaysBeyond (link_of v) (link_of w) place (λ z. IsIn z node)
         stays e ne off =

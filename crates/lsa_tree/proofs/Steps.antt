@@ -1,5 +1,5 @@
 -- One step up from a place whose depth changed.
-use Rattle.std.proofs.Common.{◌≡◌, ◌≢◌, ℕ, suc, ◌+◌, ◌≤◌, ◌<◌, Bool, true, false, List, [], ◌∷◌, ◌++◌, length, Option, Some, None, IsSome, is_some, inl, inr, ◌⊎◌, refl, sym, ap, ◌∙◌, subst, arith}
+use Rattle.std.proofs.Common.{◌≡◌, ◌≢◌, ℕ, suc, true, false, List, ◌∷◌, length, Option, Some, None, IsSome, is_some, inl, inr, refl, sym, ap, ◌∙◌, subst, arith}
 use Rattle.std.specs.Prelude.{Contains}
 use Rattle.lsa_store.specs.declared.place.Ref.{Ref}
 use Rattle.lsa_region.specs.declared.end.End.{End}
@@ -8,16 +8,15 @@ use Rattle.lsa_region.specs.Region.{View, body, link_of, IsEnd, IsWell}
 use Rattle.lsa_path.specs.Path.{entered}
 use Rattle.lsa_shape.specs.declared.flank.Flank.{Flank}
 use Rattle.lsa_shape.specs.declared.flank.Flank.TheVariants.{Low, High}
-use Rattle.lsa_shape.specs.Flanks.{other_flank, near_link, far_link, near_heavy, far_heavy}
-use Rattle.lsa_shape.specs.Shapes.{TreeShape, Leaf, Node, inorder, IsIn, HangsAt, IsClearOf, node_on}
+use Rattle.lsa_shape.specs.Flanks.{other_flank, far_link, near_heavy, far_heavy}
+use Rattle.lsa_shape.specs.Shapes.{TreeShape, Node, inorder, IsIn, HangsAt, IsClearOf, node_on}
 use Rattle.lsa_shape.specs.Ways.{Fork, Passed, plug, hole, IsAround}
 use Rattle.lsa_shape.specs.Levels.{Leans, IsLevel, IsLevelAround}
 use Rattle.lsa_shape.specs.laws.Depths.{level-plug, node-level, level-kept, around-kept, level-root}
 use Rattle.lsa_shape.specs.laws.Places.{in-plug, plug-in, around-apart}
 use Rattle.lsa_shape.specs.laws.Sides.{near-root, far-root, node-in, hangs-node, far-most, other-node}
-use Rattle.lsa_tree.specs.declared.tree.Tree.{Tree}
 use Rattle.lsa_tree.specs.Entries.{balance_of}
-use Rattle.lsa_tree.specs.calls.Placing.{IsEntryBody, IsFormed, IsPlaced, PlaceIn, IsChanged, IsBalanced, IsRebalanced, Steep, IsMended, Leaning, IsStepped, owner_of}
+use Rattle.lsa_tree.specs.calls.Placing.{IsEntryBody, IsFormed, PlaceIn, IsChanged, IsRebalanced, Steep, IsMended, Leaning, IsStepped, owner_of}
 use Rattle.lsa_tree.proofs.Placed.{body-there, below-some, below-node, owner-none, owner-some, formed-clear, formed-in, formed-there, formed-hole}
 use Rattle.lsa_tree.proofs.Changed.{changed-same, changed-balance, rebalanced-others}
 use Rattle.lsa_tree.proofs.Turned.{formed-balance, same-members}
@@ -238,10 +237,14 @@ module _ (v : View) (well : IsWell v) (at : End) (p : PlaceIn v at) where
           pub rise-mended : (w : View) → IsMended v w flank end q x rise-steep false → IsStepped v w at p None
           rise-mended w m = record {
             changed = m.changed;
-            done = λ e. (plug fork.1 m.shape, p.depth, record {
-              form = m.place.form;
-              level = level-plug (balance_of w) fork.1 m.shape around.1 p.depth (subst (IsLevel (balance_of w) m.shape) (m.less_deep refl ∙ sym (heavy.1 ∙ ap (λ n. suc n) heavy.0)) m.place.level) m.place.around;
-            });
+            done = λ e. (
+              plug fork.1 m.shape,
+              p.depth,
+              record {
+                form = m.place.form;
+                level = level-plug (balance_of w) fork.1 m.shape around.1 p.depth (subst (IsLevel (balance_of w) m.shape) (m.less_deep refl ∙ sym (heavy.1 ∙ ap (λ n. suc n) heavy.0)) m.place.level) m.place.around;
+              },
+            );
             on = λ e is. absurd (none_some e is);
             level = λ g leaning z i zero_z. m.level (child_set leaning) z zero_z;
           }
@@ -315,10 +318,14 @@ module _ (v : View) (well : IsWell v) (at : End) (p : PlaceIn v at) where
           pub sink-mended : (w : View) → IsMended v w other end q x sink-steep true → IsStepped v w at p None
           sink-mended w m = record {
             changed = m.changed;
-            done = λ e. (plug fork.1 m.shape, p.depth, record {
-              form = m.place.form;
-              level = level-plug (balance_of w) fork.1 m.shape around.1 p.depth (subst (IsLevel (balance_of w) m.shape) (m.as_deep refl ∙ sym (light.1 ∙ ap (λ n. suc n) deeper)) m.place.level) m.place.around;
-            });
+            done = λ e. (
+              plug fork.1 m.shape,
+              p.depth,
+              record {
+                form = m.place.form;
+                level = level-plug (balance_of w) fork.1 m.shape around.1 p.depth (subst (IsLevel (balance_of w) m.shape) (m.as_deep refl ∙ sym (light.1 ∙ ap (λ n. suc n) deeper)) m.place.level) m.place.around;
+              },
+            );
             on = λ e is. absurd (none_some e is);
             level = λ g. absurd (omega (arith, sunk, g));
           }

@@ -1,24 +1,22 @@
 -- A tree after a rotation, and after balances were written.
-use Rattle.std.proofs.Common.{◌≡◌, ◌≢◌, ℕ, suc, ◌≤◌, List, [], ◌∷◌, ◌++◌, Option, Some, None, inl, inr, ◌⊎◌, refl, sym, ap, ◌∙◌, subst, arith}
+use Rattle.std.proofs.Common.{◌≡◌, ◌≢◌, ℕ, List, inl, inr, refl, sym, ◌∙◌, subst, arith}
 use Rattle.std.specs.Prelude.{Contains}
 use Rattle.lsa_store.specs.declared.place.Ref.{Ref}
 use Rattle.lsa_region.specs.declared.end.End.{End}
 use Rattle.lsa_region.specs.declared.end.End.TheVariants.{Obj}
-use Rattle.lsa_region.specs.Region.{View, body, link_of, IsEnd, IsWell, SameObjects}
+use Rattle.lsa_region.specs.Region.{View, link_of, IsEnd, IsWell, SameObjects}
 use Rattle.lsa_path.specs.laws.Paths.{same_object}
 use Rattle.lsa_shape.specs.declared.flank.Flank.{Flank}
 use Rattle.lsa_shape.specs.Flanks.{near_link, far_link}
 use Rattle.lsa_shape.specs.Shapes.{TreeShape, inorder, IsIn, HangsAt, IsClearOf, StaysBeyond, node_on}
-use Rattle.lsa_shape.specs.Ways.{Fork, plug, hole, IsAround}
+use Rattle.lsa_shape.specs.Ways.{Fork, plug, hole}
 use Rattle.lsa_shape.specs.laws.Hanging.{in-listed, listed-in, hangs-moved}
-use Rattle.lsa_shape.specs.laws.Places.{plug-changed, stays-out, plug-order, in-plug, around-apart}
+use Rattle.lsa_shape.specs.laws.Places.{plug-changed, stays-out, plug-order, in-plug}
 use Rattle.lsa_shape.specs.laws.Rotations.{hangs-turned, turned-stays, off-link}
-use Rattle.lsa_shape.specs.laws.Sides.{near-low, near-most, far-low, far-most, node-in, inorder-turned, near-root, hangs-node}
+use Rattle.lsa_shape.specs.laws.Sides.{near-low, near-most, far-most, node-in, inorder-turned, near-root}
 use Rattle.lsa_tree.specs.declared.tree.Tree.{Tree}
-use Rattle.lsa_tree.specs.Entries.{balance_in, balance_of}
-use Rattle.lsa_tree.specs.Tree.{IsTop}
-use Rattle.lsa_tree.specs.calls.Placing.{IsEntryBody, IsFormed, IsChanged, IsRebalanced, IsTurned}
-use Rattle.lsa_tree.proofs.Placed.{body-there, formed-clear, formed-member, formed-in, formed-there, formed-hole}
+use Rattle.lsa_tree.specs.calls.Placing.{IsFormed, IsChanged, IsRebalanced, IsTurned}
+use Rattle.lsa_tree.proofs.Placed.{body-there, formed-clear, formed-in, formed-there, formed-hole}
 use Rattle.lsa_tree.proofs.Changed.{changed-top, changed-body, changed-links, changed-balance}
 
 -- what a rotation asks for

@@ -1,5 +1,5 @@
 -- An entry that is deeper on a side by two is balanced, where what is there is deeper on the other side.
-use Rattle.std.proofs.Common.{◌≡◌, ◌≢◌, ℕ, suc, ◌≤◌, ◌<◌, Bool, true, false, List, [], ◌∷◌, ◌++◌, Option, Some, None, IsSome, is_some, inl, inr, ◌⊎◌, refl, sym, ap, ◌∙◌, subst, arith}
+use Rattle.std.proofs.Common.{◌≡◌, ◌≢◌, ℕ, suc, true, false, ◌∷◌, Some, IsSome, is_some, inl, inr, refl, sym, ap, ◌∙◌, subst, arith}
 use Rattle.std.specs.Prelude.{Contains}
 use Rattle.lsa_store.specs.declared.place.Ref.{Ref}
 use Rattle.lsa_region.specs.declared.end.End.{End}
@@ -8,21 +8,19 @@ use Rattle.lsa_region.specs.Region.{View, body, link_of, IsEnd, IsWell, SameObje
 use Rattle.lsa_region.specs.laws.Refs.{refs_decided}
 use Rattle.lsa_path.specs.Path.{entered}
 use Rattle.lsa_shape.specs.declared.flank.Flank.{Flank}
-use Rattle.lsa_shape.specs.declared.flank.Flank.TheVariants.{Low, High}
 use Rattle.lsa_shape.specs.Flanks.{other_flank, near_link, far_link, near_heavy, far_heavy}
-use Rattle.lsa_shape.specs.Shapes.{TreeShape, Leaf, Node, inorder, IsIn, HangsAt, IsClearOf, node_on}
-use Rattle.lsa_shape.specs.Ways.{Fork, Passed, plug, hole, IsAround}
-use Rattle.lsa_shape.specs.Levels.{Leans, IsLevel, IsLevelAround}
+use Rattle.lsa_shape.specs.Shapes.{TreeShape, IsIn, HangsAt, IsClearOf, node_on}
+use Rattle.lsa_shape.specs.Ways.{Passed, plug, hole}
+use Rattle.lsa_shape.specs.Levels.{Leans, IsLevel}
 use Rattle.lsa_shape.specs.laws.Depths.{level-node, node-level, level-kept, around-kept, level-root}
 use Rattle.lsa_shape.specs.laws.Hanging.{field-off}
-use Rattle.lsa_shape.specs.laws.Places.{around-apart, in-plug}
-use Rattle.lsa_shape.specs.laws.Sides.{near-root, far-root, sides-apart, node-in, hangs-node, near-clear, far-most, other-node, other-near, other-far}
-use Rattle.lsa_tree.specs.declared.tree.Tree.{Tree}
+use Rattle.lsa_shape.specs.laws.Places.{in-plug}
+use Rattle.lsa_shape.specs.laws.Sides.{near-root, far-root, node-in, hangs-node, far-most, other-node}
 use Rattle.lsa_tree.specs.Entries.{balance_in, balance_of}
-use Rattle.lsa_tree.specs.calls.Placing.{IsEntryBody, IsFormed, IsPlaced, IsChanged, IsRebalanced, IsTurned, Steep, IsMended}
-use Rattle.lsa_tree.proofs.Placed.{body-there, below-some, below-node, formed-clear, formed-in, formed-hole, formed-there}
-use Rattle.lsa_tree.proofs.Changed.{changed-then, changed-balance, changed-body, rebalanced-others}
-use Rattle.lsa_tree.proofs.Turned.{Asks, formed-balance, turn-asks, turn-apart, turn-x, turn-y, turned-formed, turned-changed}
+use Rattle.lsa_tree.specs.calls.Placing.{IsEntryBody, IsFormed, IsChanged, IsRebalanced, IsTurned, Steep, IsMended}
+use Rattle.lsa_tree.proofs.Placed.{body-there, below-some, below-node, formed-in, formed-hole}
+use Rattle.lsa_tree.proofs.Changed.{changed-then, changed-balance, rebalanced-others}
+use Rattle.lsa_tree.proofs.Turned.{Asks, formed-balance, turn-asks, turned-formed, turned-changed}
 use Rattle.lsa_tree.proofs.Mended.{heavy-set, light-set, heavy-light, steep-apart, near-x, near-p, between-x, between-p, far-x, far-p, near-between, between-far, around-not, whole-p, whole-x, whole-between, member-p, member-x, steep-x}
 
 leans_twice : (flank : Flank) (lean h k low : ℕ) → lean ≡ far_heavy flank → Leans flank lean h k (suc (suc low)) → (h ≡ low) × (k ≡ suc low)
@@ -63,9 +61,10 @@ module _ (v : View) (well : IsWell v) (flank : Flank) (at : End) (p x : Ref) (s 
 
   pub twice-there : IsEnd v (Obj x (far_link flank)) × IsSome (entered 2 (link_of v (Obj x (far_link flank))))
   twice-there =
-      let root = level-root (balance_of v) flank s.between s.low between_level in
-      (body-there v x (far_link flank) (steep-x v well flank at p x s) (far-most flank),
-       ap is_some (below-node (link_of v) (Obj x (far_link flank)) flank root.0 root.2 root.1 (subst (HangsAt (link_of v) (Obj x (far_link flank))) root.3 between_hangs)))
+      let root = level-root (balance_of v) flank s.between s.low between_level in (
+        body-there v x (far_link flank) (steep-x v well flank at p x s) (far-most flank),
+        ap is_some (below-node (link_of v) (Obj x (far_link flank)) flank root.0 root.2 root.1 (subst (HangsAt (link_of v) (Obj x (far_link flank))) root.3 between_hangs)),
+      )
 
   module _ (z : Ref) (child : entered 2 (link_of v (Obj x (far_link flank))) ≡ Some z) where
     root : (b : TreeShape) × (d : TreeShape) × (s.between ≡ node_on flank b z d)

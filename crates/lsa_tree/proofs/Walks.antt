@@ -1,27 +1,27 @@
 -- Walks in a tree.
-use Rattle.std.proofs.Common.{◌≡◌, ◌≢◌, ℕ, suc, ◌<◌, ◌≤◌, List, [], ◌∷◌, ◌++◌, length, Option, Some, None, IsSome, is_some, inl, inr, ◌⊎◌, refl, sym, ap, ◌∙◌, subst, arith}
+use Rattle.std.proofs.Common.{◌≡◌, ◌≢◌, ℕ, suc, ◌<◌, ◌≤◌, List, [], ◌∷◌, ◌++◌, length, Option, Some, None, inl, refl, sym, ap, ◌∙◌, subst, arith}
 use Rattle.std.specs.Prelude.{Contains}
 use Rattle.std.proofs.lemmas.List.{append-nil}
 use Rattle.lsa_store.specs.declared.place.Ref.{Ref}
 use Rattle.lsa_region.specs.declared.end.End.{End}
 use Rattle.lsa_region.specs.declared.end.End.TheVariants.{Obj}
-use Rattle.lsa_region.specs.Region.{View, body, link_of, IsEnd, IsWell, IsSummed, live_bytes}
+use Rattle.lsa_region.specs.Region.{View, link_of, IsEnd, IsWell, IsSummed, live_bytes}
 use Rattle.lsa_path.specs.Path.{entered}
 use Rattle.lsa_shape.specs.declared.flank.Flank.{Flank}
 use Rattle.lsa_shape.specs.declared.flank.Flank.TheVariants.{Low, High}
 use Rattle.lsa_shape.specs.Flanks.{other_flank, near_link}
-use Rattle.lsa_shape.specs.Shapes.{TreeShape, Leaf, Node, inorder, IsIn, HangsAt, node_on}
+use Rattle.lsa_shape.specs.Shapes.{TreeShape, Leaf, Node, inorder, HangsAt, node_on}
 use Rattle.lsa_shape.specs.Ways.{Fork, Passed, plug, hole, way_before, way_behind}
-use Rattle.lsa_shape.specs.Levels.{IsLevel, IsLevelAround, Leans, shape_size}
+use Rattle.lsa_shape.specs.Levels.{IsLevel, shape_size}
 use Rattle.lsa_shape.specs.Readings.{shape_at, steps_up, one_more}
 use Rattle.lsa_shape.specs.laws.Depths.{level-node}
 use Rattle.lsa_shape.specs.laws.Places.{in-plug, way-to}
-use Rattle.lsa_shape.specs.laws.Sides.{near-most, node-in, hangs-node}
+use Rattle.lsa_shape.specs.laws.Sides.{hangs-node}
 use Rattle.lsa_tree.specs.declared.tree.Tree.{Tree}
 use Rattle.lsa_tree.specs.Entries.{balance_of}
 use Rattle.lsa_tree.specs.Search.{first_entry, last_entry, last_entry_from}
 use Rattle.lsa_tree.specs.Tree.{IsTree}
-use Rattle.lsa_tree.specs.calls.Placing.{IsFormed, IsPlaced, PlaceIn, owner_of, outermost}
+use Rattle.lsa_tree.specs.calls.Placing.{IsFormed, PlaceIn, owner_of, outermost}
 use Rattle.lsa_tree.specs.calls.Walking.{beside}
 use Rattle.lsa_tree.specs.laws.Trees.{in-tree}
 use Rattle.lsa_tree.proofs.Placed.{body-there, below-none, below-some, below-unset, owner-none, owner-some, formed-there, formed-hole, formed-up, formed-read, tree-at, tree-formed, tree-placed}
@@ -69,8 +69,7 @@ module _ (v : View) (well : IsWell v) (summed : IsSummed v) (side : Flank) (star
     pub edging-step : (r : Ref) → entered 2 (link_of v at) ≡ Some r → (next : List Fork) × (u : TreeShape) × IsEdging v side start p (Some r) (Obj r (near_link side)) next u × (shape_size u < shape_size t)
     edging-step r some =
         let w = below-some (link_of v) at side t r edging-hangs some in
-        let node = node_on side w.0 r w.1 in
-        (
+        let node = node_on side w.0 r w.1 in (
           Passed side r w.1 ∷ way,
           w.0,
           record { form = subst (λ s. IsFormed p.tree v p.refs (plug way s)) w.2 e.form; end = refl; same = e.same ∙ ap (outermost side found) w.2 ∙ outer_node side found w.0 r w.1 },
@@ -221,11 +220,15 @@ module _ (v : View) (well : IsWell v) (summed : IsSummed v) where
       let w = tree-at tree v well front back r h in let way = w.0 in
       let n = sided side w.1 w.2 r in
       let hangs = subst (HangsAt (link_of v) (hole tree.top way)) n.2 (formed-hole tree v (front ++ (r ∷ back)) well way (Node w.1 r w.2) w.5.form).0 in
-      let leaf : n.0 ≡ Leaf = below-none (link_of v) (Obj r (near_link side)) n.0 (hangs-node (link_of v) side (hole tree.top way) n.0 r n.1 hangs).1 (ap (entered 2) unset) in
-      (way, w.1, w.2, record {
-        form = w.5.form;
-        same = (λ i. beside side (w.6 i) (w.7 i)) ∙ beside_none side way n.1 w.1 w.2 r (n.2 ∙ ap (λ s. node_on side s r n.1) leaf);
-      })
+      let leaf : n.0 ≡ Leaf = below-none (link_of v) (Obj r (near_link side)) n.0 (hangs-node (link_of v) side (hole tree.top way) n.0 r n.1 hangs).1 (ap (entered 2) unset) in (
+        way,
+        w.1,
+        w.2,
+        record {
+          form = w.5.form;
+          same = (λ i. beside side (w.6 i) (w.7 i)) ∙ beside_none side way n.1 w.1 w.2 r (n.2 ∙ ap (λ s. node_on side s r n.1) leaf);
+        },
+      )
 
   module _ (side : Flank) (tree : Tree) (refs : List Ref) (wanted : Option Ref) (r : Ref) (way : List Fork) (l t : TreeShape) (c : IsClimbing v side tree refs wanted r way l t) where
     pub climbing-none : (e : End) → link_of v (Obj r 2) ≡ Some e → owner_of e ≡ None → None ≡ wanted
@@ -237,11 +240,15 @@ module _ (v : View) (well : IsWell v) (summed : IsSummed v) where
 
     pub climbing-on : (e : End) (on : Flank) (p : Ref) → link_of v (Obj r 2) ≡ Some e → owner_of e ≡ Some (on, p) → on ≡ side
         → (rest : List Fork) × (near : TreeShape) × (far : TreeShape) × IsClimbing v side tree refs wanted p rest near far
-    climbing-on e on p is some same = let w = door-some tree refs way l t r c.form e on p is some in
-        (w.1, w.3, w.4, record {
-          form = w.5;
-          same = c.same ∙ (λ i. beside side (way_before (w.2 i)) (way_behind (w.2 i))) ∙ (λ i. beside side (way_before (Passed (same i) p w.0 ∷ w.1)) (way_behind (Passed (same i) p w.0 ∷ w.1))) ∙ beside_on side p w.0 w.1;
-        })
+    climbing-on e on p is some same = let w = door-some tree refs way l t r c.form e on p is some in (
+      w.1,
+      w.3,
+      w.4,
+      record {
+        form = w.5;
+        same = c.same ∙ (λ i. beside side (way_before (w.2 i)) (way_behind (w.2 i))) ∙ (λ i. beside side (way_before (Passed (same i) p w.0 ∷ w.1)) (way_behind (Passed (same i) p w.0 ∷ w.1))) ∙ beside_on side p w.0 w.1;
+      },
+    )
 
   pub up-less : (tree : Tree) (refs : List Ref) (way : List Fork) (l t : TreeShape) (r : Ref) → IsFormed tree v refs (plug way (Node l r t)) → (e : End) (on : Flank) (p : Ref) → link_of v (Obj r 2) ≡ Some e → owner_of e ≡ Some (on, p) → up_from v p < up_from v r
   up-less tree refs way l t r form e on p is some =

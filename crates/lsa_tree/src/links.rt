@@ -60,7 +60,11 @@ pub(crate) fn owner(at: End) -> Option<(Flank, Ref)>
             if field == LEFT {
                 Some((Flank::Low, r))
             } else {
-                if field == RIGHT { Some((Flank::High, r)) } else { None }
+                if field == RIGHT {
+                    Some((Flank::High, r))
+                } else {
+                    None
+                }
             }
         }
         End::Slot(_) => None,
@@ -98,13 +102,7 @@ pub(crate) fn set_balance<const S: usize>(region: &mut Region<S>, r: Ref, value:
 }
 
 /// A rotation: x, on this side of y, comes into its place.
-pub(crate) fn turn<const S: usize>(
-    region: &mut Region<S>,
-    side: Flank,
-    at: End,
-    y: Ref,
-    x: Ref,
-)
+pub(crate) fn turn<const S: usize>(region: &mut Region<S>, side: Flank, at: End, y: Ref, x: Ref)
     requires at { IsEnd region.old at }
     requires y { IsEnd region.old (Obj y (near_link side)) }
     requires x { IsEnd region.old (Obj x (far_link side)) }

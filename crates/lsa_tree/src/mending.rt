@@ -15,17 +15,15 @@ fn given(leans: u64, when: u8, then: u8) -> u64
     ensures else_none { leans ≢ when → result ≡ 0 }
     ensures small { result < 256 }
 {
-    if leans == u64::from(when) { u64::from(then) } else { 0 }
+    if leans == u64::from(when) {
+        u64::from(then)
+    } else {
+        0
+    }
 }
 
 // Balances an entry p that is deeper on this side by two, with x on that side, which is not deeper on the other one; whether it is as deep as before.
-fn mend_once<const S: usize>(
-    region: &mut Region<S>,
-    side: Flank,
-    at: End,
-    p: Ref,
-    x: Ref,
-) -> bool
+fn mend_once<const S: usize>(region: &mut Region<S>, side: Flank, at: End, p: Ref, x: Ref) -> bool
     requires steep { Steep region.old side at p x }
     requires leans { balance_of region.old x ≢ far_heavy side }
     ensures mended { (s : Steep region.old side at p x) → IsMended region.old region.new side at p x s result }
@@ -45,13 +43,7 @@ fn mend_once<const S: usize>(
 }
 
 // The same where x is deeper on the other side: the entry z there comes into the place.
-fn mend_twice<const S: usize>(
-    region: &mut Region<S>,
-    side: Flank,
-    at: End,
-    p: Ref,
-    x: Ref,
-)
+fn mend_twice<const S: usize>(region: &mut Region<S>, side: Flank, at: End, p: Ref, x: Ref)
     requires steep { Steep region.old side at p x }
     requires leans { balance_of region.old x ≡ far_heavy side }
     ensures mended { (s : Steep region.old side at p x) → IsMended region.old region.new side at p x s false }
@@ -68,13 +60,7 @@ fn mend_twice<const S: usize>(
 }
 
 // Balances an entry p that is deeper on this side by two, with x on that side; whether it is as deep as before.
-fn mend<const S: usize>(
-    region: &mut Region<S>,
-    side: Flank,
-    at: End,
-    p: Ref,
-    x: Ref,
-) -> bool
+fn mend<const S: usize>(region: &mut Region<S>, side: Flank, at: End, p: Ref, x: Ref) -> bool
     requires { Steep region.old side at p x }
     ensures mended { (s : Steep region.old side at p x) → IsMended region.old region.new side at p x s result }
     ensures well { IsWell region.new }
@@ -109,7 +95,11 @@ fn rise<const S: usize>(region: &mut Region<S>, at: End) -> Option<End>
                 return None;
             }
             let x = child(region, at);
-            if mend(region, side, above, p, x) { Some(above) } else { None }
+            if mend(region, side, above, p, x) {
+                Some(above)
+            } else {
+                None
+            }
         }
     }
 }
@@ -135,7 +125,11 @@ fn sink<const S: usize>(region: &mut Region<S>, at: End) -> Option<End>
                 return None;
             }
             let x = child(region, End::Obj(p, side.far()));
-            if mend(region, side.other(), above, p, x) { None } else { Some(above) }
+            if mend(region, side.other(), above, p, x) {
+                None
+            } else {
+                Some(above)
+            }
         }
     }
 }

@@ -1,5 +1,5 @@
 -- The entries of a version in order: what changes leave of them.
-use Rattle.std.proofs.Common.{◌≡◌, ◌≢◌, ℕ, zero, suc, ◌+◌, ◌*◌, ◌^◌, ◌-◌, ◌<◌, ◌≤◌, List, [], ◌∷◌, ◌++◌, length, take, drop, Option, Some, None, IsSome, is_some, inl, inr, refl, sym, ap, ◌∙◌, subst, map, arith}
+use Rattle.std.proofs.Common.{◌≡◌, ◌≢◌, ℕ, zero, suc, ◌+◌, ◌*◌, ◌^◌, ◌-◌, ◌<◌, ◌≤◌, List, [], ◌∷◌, length, take, drop, Option, Some, None, IsSome, is_some, inl, inr, refl, sym, ap, ◌∙◌, subst, map, arith}
 use Rattle.std.specs.Prelude.{IsSomeAnd, Contains, AllPairs}
 use Rattle.std.specs.Option.{option_map}
 use Rattle.std.proofs.lemmas.List.{drop-drop, length-drop, length-append}
@@ -144,8 +144,7 @@ module _ (tree : Tree) (v : View) where
   tree-shallow well refs r h c =
       let w = way-to [] h.form.0 r (in-tree refs r h c) in let way = w.0 in
       let hangs = subst (HangsAt (link_of v) tree.top) (sym w.3) h.form.2 in
-      let level = plug-level (balance_of v) way (Node w.1 r w.2) h.form.1 (subst (λ s. IsLevel (balance_of v) s h.form.1) (sym w.3) h.form.3) in
-      (
+      let level = plug-level (balance_of v) way (Node w.1 r w.2) h.form.1 (subst (λ s. IsLevel (balance_of v) s h.form.1) (sym w.3) h.form.3) in (
         way_objects way,
         way-leads (link_of v) well.paired tree.top way w.1 w.2 r hangs,
         λ d few. let less = shallow (balance_of v) d h.form.0 h.form.1 h.form.3 (omega (arith, few, size-listed h.form.0, ap length h.form.4)) in

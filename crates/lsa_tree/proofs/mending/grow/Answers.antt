@@ -1,4 +1,4 @@
-use Rattle.std.proofs.Common.{◌≡◌, Some, None, sym, ◌∙◌, subst, arith}
+use Rattle.std.proofs.Common.{subst, arith}
 use Rattle.lsa_tree.specs.calls.Placing.{IsStepped}
 use Rattle.lsa_tree.proofs.Settled.{way-start, place-now, settled-now, way-on, way-less}
 use Rattle.lsa_tree.proofs.mending.grow.Goals as goal

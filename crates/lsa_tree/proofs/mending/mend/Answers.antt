@@ -1,4 +1,4 @@
-use Rattle.std.proofs.Common.{◌≡◌, sym, ◌∙◌, arith}
+use Rattle.std.proofs.Common.{arith}
 use Rattle.lsa_tree.proofs.Mended.{steep-x}
 use Rattle.lsa_tree.proofs.mending.mend.Goals as goal
 

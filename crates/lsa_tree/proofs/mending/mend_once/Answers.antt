@@ -1,4 +1,4 @@
-use Rattle.std.proofs.Common.{◌≡◌, refl, sym, ap, ◌∙◌, subst, arith}
+use Rattle.std.proofs.Common.{refl, sym, ◌∙◌, arith}
 use Rattle.lsa_tree.proofs.Changed.{same-body, rebalanced-body}
 use Rattle.lsa_tree.proofs.Mended.{steep-asks, steep-x, steep-p, once-level, once-heavy}
 use Rattle.lsa_tree.proofs.mending.mend_once.Goals as goal

@@ -1,4 +1,4 @@
-use Rattle.std.proofs.Common.{◌≡◌, ℕ, Some, IsSome, refl, sym, ap, ◌∙◌, subst, arith}
+use Rattle.std.proofs.Common.{◌≡◌, ℕ, Some, IsSome, sym, ◌∙◌, subst, arith}
 use Rattle.lsa_region.specs.declared.end.End.TheVariants.{Obj}
 use Rattle.lsa_region.specs.Region.{link_of, IsEnd}
 use Rattle.lsa_path.specs.Path.{entered}
@@ -44,7 +44,7 @@ set_balance-requires-2 g c =
       omega arith,
       (
         rebalanced-body c.turn-2.new.region c.set_balance.new.region c.args.x c.given.result c.set_balance.ensures.written p
-        (same-body c.turn.new.region c.turn-2.new.region c.turn-2.ensures.objects p (same-body v c.turn.new.region c.turn.ensures.objects p (steep-p v c.known.ensures.well c.args.side c.args.at p c.args.x c.requires.steep))),
+            (same-body c.turn.new.region c.turn-2.new.region c.turn-2.ensures.objects p (same-body v c.turn.new.region c.turn.ensures.objects p (steep-p v c.known.ensures.well c.args.side c.args.at p c.args.x c.requires.steep))),
         c.given-2.ensures.small,
       ),
     )
@@ -55,7 +55,7 @@ set_balance-requires-3 g c =
       omega arith,
       (
         rebalanced-body c.set_balance.new.region c.set_balance-2.new.region c.args.p c.given-2.result c.set_balance-2.ensures.written z (rebalanced-body c.turn-2.new.region c.set_balance.new.region c.args.x c.given.result c.set_balance.ensures.written z
-        (same-body c.turn.new.region c.turn-2.new.region c.turn-2.ensures.objects z (same-body v c.turn.new.region c.turn.ensures.objects z (twice-z v c.known.ensures.well c.args.side c.args.at c.args.p c.args.x c.requires.steep c.requires.leans z is)))),
+            (same-body c.turn.new.region c.turn-2.new.region c.turn-2.ensures.objects z (same-body v c.turn.new.region c.turn.ensures.objects z (twice-z v c.known.ensures.well c.args.side c.args.at c.args.p c.args.x c.requires.steep c.requires.leans z is)))),
         omega arith,
       ),
     )

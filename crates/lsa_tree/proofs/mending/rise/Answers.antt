@@ -1,7 +1,4 @@
-use Rattle.std.proofs.Common.{◌≡◌, Some, IsSome, refl, sym, ap, ◌∙◌, subst, arith}
-use Rattle.lsa_region.specs.declared.end.End.TheVariants.{Obj}
-use Rattle.lsa_region.specs.Region.{link_of, IsEnd}
-use Rattle.lsa_path.specs.Path.{entered}
+use Rattle.std.proofs.Common.{refl, sym, ◌∙◌, subst, arith}
 use Rattle.lsa_tree.specs.calls.Placing.{IsMended}
 use Rattle.lsa_tree.proofs.Steps.{stepped-top, owner-body, owner-door, rise-level, rise-light, rise-child, rise-steep, rise-mended, rise-raised}
 use Rattle.lsa_tree.proofs.mending.rise.Goals as goal

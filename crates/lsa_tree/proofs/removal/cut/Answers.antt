@@ -1,4 +1,4 @@
-use Rattle.std.proofs.Common.{◌≡◌, ◌≢◌, sym, subst, arith}
+use Rattle.std.proofs.Common.{◌≢◌, sym, subst, arith}
 use Rattle.lsa_region.specs.declared.end.End.TheVariants.{Obj}
 use Rattle.lsa_region.specs.Paired.{IsExchanged}
 use Rattle.lsa_region.specs.Region.{link_of, IsEnd}

@@ -1,4 +1,4 @@
-use Rattle.std.proofs.Common.{sym, ◌∙◌}
+use Rattle.std.proofs.Common.{◌∙◌}
 use Rattle.lsa_tree.proofs.Searches.{found-next, found-none}
 use Rattle.lsa_tree.proofs.search.next_place.Goals as goal
 

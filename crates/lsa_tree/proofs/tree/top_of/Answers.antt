@@ -1,4 +1,4 @@
-use Rattle.std.proofs.Common.{◌≡◌, List, Some, None, is_some, refl, sym, ap, ◌∙◌, arith}
+use Rattle.std.proofs.Common.{is_some, sym, ap, ◌∙◌, arith}
 use Rattle.lsa_tree.proofs.Walks.{entry-door, entry-there, door-none, door-some, up-less, entry-formed}
 use Rattle.lsa_tree.proofs.tree.top_of.Goals as goal
 

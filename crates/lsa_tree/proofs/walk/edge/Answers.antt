@@ -1,11 +1,8 @@
-use Rattle.std.proofs.Common.{◌≡◌, ◌<◌, ℕ, List, Option, Some, None, refl, sym, ap, ◌∙◌, subst, arith}
+use Rattle.std.proofs.Common.{◌≡◌, ◌<◌, Some, sym, ap, ◌∙◌, subst, arith}
 use Rattle.lsa_store.specs.declared.place.Ref.{Ref}
 use Rattle.lsa_region.specs.declared.end.End.TheVariants.{Obj}
 use Rattle.lsa_region.specs.Region.{link_of}
-use Rattle.lsa_shape.specs.Shapes.{TreeShape}
-use Rattle.lsa_shape.specs.Ways.{Fork}
-use Rattle.lsa_tree.specs.calls.Placing.{PlaceIn}
-use Rattle.lsa_tree.proofs.Walks.{IsEdging, size_below, edging-start, edging-there, edging-found, edging-unset, edging-step, edging-smaller}
+use Rattle.lsa_tree.proofs.Walks.{IsEdging, size_below, edging-there, edging-found, edging-unset, edging-step, edging-smaller}
 use Rattle.lsa_tree.proofs.walk.edge.Goals as goal
 
 pub below-requires : goal.below-requires
@@ -31,8 +28,7 @@ loop-found-smaller g c =
 
 pub loop-found-preserved : goal.loop-found-preserved
 loop-found-preserved g c =
-    let v = c.args.region.now in let r = c.in-Some.r in
-    (
+    let v = c.args.region.now in let r = c.in-Some.r in (
       λ p.
           let w = c.loop-found.invariant.0 p in
           let s = edging-step v c.known.ensures.well c.known.ensures.summed c.args.side c.args.start p c.loop-found.found c.loop-found.at w.0 w.1 w.2 r (sym c.below.ensures ∙ c.in-Some.is) in

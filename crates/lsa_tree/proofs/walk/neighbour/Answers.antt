@@ -1,13 +1,7 @@
-use Rattle.std.proofs.Common.{◌≡◌, List, ◌∷◌, ◌++◌, Option, Some, None, sym, ◌∙◌, subst, arith, ap}
-use Rattle.lsa_store.specs.declared.place.Ref.{Ref}
+use Rattle.std.proofs.Common.{sym, subst, arith}
 use Rattle.lsa_region.specs.declared.end.End.TheVariants.{Obj}
-use Rattle.lsa_region.specs.Region.{link_of}
-use Rattle.lsa_shape.specs.declared.flank.Flank.{Flank}
-use Rattle.lsa_shape.specs.laws.Sides.{near-most}
-use Rattle.lsa_tree.specs.declared.tree.Tree.{Tree}
-use Rattle.lsa_tree.specs.Tree.{IsTree}
-use Rattle.lsa_tree.specs.calls.Placing.{PlaceIn, outermost}
-use Rattle.lsa_tree.proofs.Walks.{side-place, side-some, side-none, edge-some, edge-none}
+use Rattle.lsa_tree.specs.calls.Placing.{PlaceIn}
+use Rattle.lsa_tree.proofs.Walks.{side-place, edge-some, edge-none}
 use Rattle.lsa_tree.proofs.walk.neighbour.Goals as goal
 
 pub edge-requires : goal.edge-requires

@@ -1,4 +1,4 @@
-use Rattle.std.proofs.Common.{◌≡◌, List, [], ◌++◌, length, refl, inl, inr, sym, ap, ◌∙◌, subst, arith}
+use Rattle.std.proofs.Common.{◌≡◌, [], refl, inl, inr, sym, ◌∙◌, subst, arith}
 use Rattle.rc_position.specs.Position.{IsBefore}
 use Rattle.rc_position.specs.laws.Orders.{pos_cmp_same}
 use Rattle.lsa_tree.specs.Entries.{IsEntryAtPosition}

@@ -1,6 +1,5 @@
-use Rattle.std.proofs.Common.{◌≡◌, List, [], refl, ap, ◌∙◌, arith}
+use Rattle.std.proofs.Common.{ap, ◌∙◌, arith}
 use Rattle.lsa_tree.specs.Search.{first_entry}
-use Rattle.lsa_tree.proofs.Placed.{tree-placed}
 use Rattle.lsa_tree.proofs.Walks.{outer-first, top-place}
 use Rattle.lsa_tree.proofs.tree.Tree.first.Goals as goal
 

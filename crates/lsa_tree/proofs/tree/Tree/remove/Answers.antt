@@ -1,4 +1,4 @@
-use Rattle.std.proofs.Common.{◌∷◌, ◌++◌, refl, arith}
+use Rattle.std.proofs.Common.{refl, arith}
 use Rattle.lsa_tree.proofs.Removed.{out-body, sunk-place, removed-tree, removed-others, removed-out, removed-loose, removed-elsewhere, removed-objects}
 use Rattle.lsa_tree.proofs.tree.Tree.remove.Goals as goal
 
