@@ -28,8 +28,49 @@ fn spelled(number: u16) -> [u8; 43]
     ensures { number_at 1 1 result ≡ 0 }
 {
     [
-        0, 0, 0, 0, 0, 0, 0, 0, 0, 0, 0, 0, 0, 0, 0, 0, 0, 0, 0, 0, 0, 0, 0, 0, 0, 0, 0, 0, 11, 0,
-        0, 0, 1, 1, 0, (number % 256) as u8, (number / 256) as u8, 0, 0, 0, 0, 0, 0,
+        0,
+        0,
+        0,
+        0,
+        0,
+        0,
+        0,
+        0,
+        0,
+        0,
+        0,
+        0,
+        0,
+        0,
+        0,
+        0,
+        0,
+        0,
+        0,
+        0,
+        0,
+        0,
+        0,
+        0,
+        0,
+        0,
+        0,
+        0,
+        11,
+        0,
+        0,
+        0,
+        1,
+        1,
+        0,
+        (number % 256) as u8,
+        (number / 256) as u8,
+        0,
+        0,
+        0,
+        0,
+        0,
+        0,
     ]
 }
 
@@ -155,12 +196,7 @@ fn discard(region: &mut Region<4096>, slot: Root, tree: Tree, r: Ref)
 }
 
 // Takes the entry with this number out, if there is one.
-fn take(
-    alloc: Global,
-    region: &mut Region<4096>,
-    slot: Root,
-    number: u16,
-) -> Result<(), AllocError>
+fn take(alloc: Global, region: &mut Region<4096>, slot: Root, number: u16) -> Result<(), AllocError>
     requires { IsHome slot region.old }
     ensures { IsHome slot region.new }
 {
@@ -318,6 +354,62 @@ fn finds(
     Ok(by_key == wanted && by_position == wanted)
 }
 
+// Among 1001 entries a search compares 20 times at most.
+fn compared<L: Ledger>(region: &Region<4096>, tree: Tree, x: &Pos, steps: &mut Steps<L>) -> Place
+    requires { (refs : Sequence Name) × IsTree tree region.now refs × (length refs ≡ 1001) }
+    ensures { steps.new ≤ steps.old + 20 }
+{
+    tree.find(region, x, steps)
+}
+
+// How many links lead up from an entry to the top of its tree, 64 at most.
+fn links_up(tree: Tree, region: &Region<4096>, found: Option<Ref>) -> usize
+    requires { IsEntryFound tree region.now found }
+{
+    match found {
+        Some(r) => links_from(tree, region, r),
+        None => 0,
+    }
+}
+
+// How many links lead up from one of the entries to the top, 64 at most.
+fn links_from(_tree: Tree, region: &Region<4096>, r: Ref) -> usize
+    requires { (front : Sequence Name) × (back : Sequence Name) × IsTree _tree region.now (front ++ (r ∷ back)) }
+{
+    region.known();
+    let mut at = End::Obj(r, 2);
+    for links in 1..64 {
+        match region.link_of(at) {
+            Some(End::Obj(q, field)) => {
+                if field == 2 {
+                    return links;
+                }
+                at = End::Obj(q, 2);
+            }
+            Some(End::Slot(_)) => return 64,
+            None => return 64,
+        }
+    }
+    64
+}
+
+// The most links that lead up from any entry.
+fn most_links(region: &Region<4096>, slot: Root) -> usize
+    requires { IsHome slot region.now }
+{
+    let tree = tree_of(region, slot);
+    let mut most = 0;
+    let mut found = tree.first(region);
+    for _step in 0..region.objects() {
+        let links = links_up(tree, region, found);
+        if links > most {
+            most = links;
+        }
+        found = behind(tree, region, found);
+    }
+    most
+}
+
 // Entries that carry their numbers, and a plain vector of these numbers, ascending.
 #[derive(Drop)]
 struct Beside {
@@ -368,6 +460,11 @@ impl Beside {
         }
         let number = self.plain.remove(place);
         take(alloc, &mut self.region, self.slot, number)
+    }
+
+    // The most links that lead up from any entry.
+    fn most_links(&self) -> usize {
+        most_links(&self.region, self.slot)
     }
 
     // Whether the entries carry the numbers of the vector, and this number is found as it is there; there is no object but the version and the entries.
@@ -442,67 +539,6 @@ fn three_entries(rt: HostRuntime) -> Result<(), Fail> {
     Ok(())
 }
 
-// Among 1001 entries a search compares 20 times at most.
-fn compared<L: Ledger>(
-    region: &Region<4096>,
-    tree: Tree,
-    x: &Pos,
-    steps: &mut Steps<L>,
-) -> Place
-    requires { (refs : Sequence Name) × IsTree tree region.now refs × (length refs ≡ 1001) }
-    ensures { steps.new ≤ steps.old + 20 }
-{
-    tree.find(region, x, steps)
-}
-
-// How many links lead up from an entry to the top of its tree, 64 at most.
-fn links_up(tree: Tree, region: &Region<4096>, found: Option<Ref>) -> usize
-    requires { IsEntryFound tree region.now found }
-{
-    match found {
-        Some(r) => links_from(tree, region, r),
-        None => 0,
-    }
-}
-
-// How many links lead up from one of the entries to the top, 64 at most.
-fn links_from(_tree: Tree, region: &Region<4096>, r: Ref) -> usize
-    requires { (front : Sequence Name) × (back : Sequence Name) × IsTree _tree region.now (front ++ (r ∷ back)) }
-{
-    region.known();
-    let mut at = End::Obj(r, 2);
-    for links in 1..64 {
-        match region.link_of(at) {
-            Some(End::Obj(q, field)) => {
-                if field == 2 {
-                    return links;
-                }
-                at = End::Obj(q, 2);
-            }
-            Some(End::Slot(_)) => return 64,
-            None => return 64,
-        }
-    }
-    64
-}
-
-// The most links that lead up from any entry.
-fn most_links(region: &Region<4096>, slot: Root) -> usize
-    requires { IsHome slot region.now }
-{
-    let tree = tree_of(region, slot);
-    let mut most = 0;
-    let mut found = tree.first(region);
-    for _step in 0..region.objects() {
-        let links = links_up(tree, region, found);
-        if links > most {
-            most = links;
-        }
-        found = behind(tree, region, found);
-    }
-    most
-}
-
 // A thousand and one entries, put in in order: 20 links lead up from any of them at most, though each goes behind all others.
 #[test]
 fn a_thousand_and_one_entries(rt: HostRuntime) -> Result<(), Fail> {
@@ -513,18 +549,13 @@ fn a_thousand_and_one_entries(rt: HostRuntime) -> Result<(), Fail> {
         assert!(rt; beside.add(rt.alloc(), number)?);
     }
     assert!(rt; beside.agrees(rt.alloc(), 500)?);
-    let links = most_links(&beside.region, slot);
+    let links = beside.most_links();
     assert!(rt; links >= 10 && links <= 20, "{links}");
     Ok(())
 }
 
 // One call of the tree, and the same of the vector; false where they differ.
-fn step(
-    beside: &mut Beside,
-    alloc: Global,
-    what: usize,
-    number: u16,
-) -> Result<bool, AllocError> {
+fn step(beside: &mut Beside, alloc: Global, what: usize, number: u16) -> Result<bool, AllocError> {
     match what % 5 {
         0 | 1 => beside.remove(alloc, number as usize / 2)?,
         _ => {
@@ -560,6 +591,6 @@ fn a_hundred_thousand_calls(rt: HostRuntime) -> Result<(), Fail> {
     }
     assert!(rt; beside.plain.len() > 150);
     assert!(rt; beside.region.compacted() > 1000 && beside.region.moved() > 10_000);
-    assert!(rt; most_links(&beside.region, slot) <= 16);
+    assert!(rt; beside.most_links() <= 16);
     Ok(())
 }
