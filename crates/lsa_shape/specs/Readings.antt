@@ -5,7 +5,7 @@ use Rattle.lsa_region.specs.declared.end.End.{End}
 use Rattle.lsa_region.specs.declared.end.End.TheVariants.{Obj, Slot}
 use Rattle.lsa_path.specs.Path.{entered}
 use Rattle.lsa_shape.specs.Shapes.{TreeShape, Leaf, Node}
-use Rattle.lsa_shape.specs.Ways.{Fork, Passed}
+use Rattle.lsa_shape.specs.Ways.{Fork, ForkAt}
 
 -- the tree of an object, if there is one
 abbrev pub rooted : (Ref → TreeShape) → Option Ref → TreeShape
@@ -36,4 +36,4 @@ LeadsUp named start r (q ∷ refs) = ((named (Obj r 2) ≡ Some (Obj q 3)) ⊎ (
 -- the objects that the way passes
 abbrev pub way_objects : List Fork → List Ref
 way_objects [] = []
-way_objects (Passed flank r beside ∷ way) = r ∷ way_objects way
+way_objects (ForkAt flank r beside ∷ way) = r ∷ way_objects way

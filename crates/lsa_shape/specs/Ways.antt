@@ -10,27 +10,27 @@ use Rattle.lsa_shape.specs.Shapes.{TreeShape, inorder, IsIn, node_on}
 
 -- an object that the way passes: on which of its sides the place is, and what hangs on the other one
 pub data Fork : Type 0 where
-  Passed : Flank → Ref → TreeShape → Fork
+  ForkAt : Flank → Ref → TreeShape → Fork
 
 -- the tree with this at the place; the nearest fork comes first
 abbrev pub plug : List Fork → TreeShape → TreeShape
 plug [] s = s
-plug (Passed flank r beside ∷ way) s = plug way (node_on flank s r beside)
+plug (ForkAt flank r beside ∷ way) s = plug way (node_on flank s r beside)
 
 -- the end at which the place hangs, in a tree that hangs at this one
 abbrev pub hole : End → List Fork → End
 hole start [] = start
-hole start (Passed flank r beside ∷ way) = Obj r (near_link flank)
+hole start (ForkAt flank r beside ∷ way) = Obj r (near_link flank)
 
 -- the objects of a fork before the place
 abbrev pub fork_before : Fork → List Ref
-fork_before (Passed Low r beside) = []
-fork_before (Passed High r beside) = inorder beside ++ (r ∷ [])
+fork_before (ForkAt Low r beside) = []
+fork_before (ForkAt High r beside) = inorder beside ++ (r ∷ [])
 
 -- the objects of a fork behind the place
 abbrev pub fork_behind : Fork → List Ref
-fork_behind (Passed Low r beside) = r ∷ inorder beside
-fork_behind (Passed High r beside) = []
+fork_behind (ForkAt Low r beside) = r ∷ inorder beside
+fork_behind (ForkAt High r beside) = []
 
 -- the objects before the place
 abbrev pub way_before : List Fork → List Ref
@@ -45,4 +45,4 @@ way_behind (fork ∷ way) = fork_behind fork ++ way_behind way
 -- the object is one of those around the place
 abbrev pub IsAround : Ref → List Fork → Type 0
 IsAround z [] = ⊥
-IsAround z (Passed flank r beside ∷ way) = (z ≡ r) ⊎ (IsIn z beside ⊎ IsAround z way)
+IsAround z (ForkAt flank r beside ∷ way) = (z ≡ r) ⊎ (IsIn z beside ⊎ IsAround z way)

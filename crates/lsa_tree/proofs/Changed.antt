@@ -18,7 +18,7 @@ use Rattle.lsa_shape.specs.laws.Hanging.{field-off}
 use Rattle.lsa_tree.specs.declared.tree.Tree.{Tree}
 use Rattle.lsa_tree.specs.Entries.{IsEntryKind, IsEntryAtPosition, AreAscending, balance_in, balance_of, but_balance, IsAlike}
 use Rattle.lsa_tree.specs.Tree.{IsTop, IsTree, IsLoose, IsOffTree, SameButBalances}
-use Rattle.lsa_tree.specs.calls.Placing.{IsEntryBody, IsChanged, IsRebalanced}
+use Rattle.lsa_tree.specs.calls.Placing.{IsEntryBody, IsTreeChanged, IsRebalanced}
 use Rattle.lsa_tree.specs.laws.Orders.{ascending-kept}
 use Rattle.lsa_tree.specs.laws.Trees.{entry-no-top, off-top, off-entry, tree-entry, loose-read, same-read, same-objects, tree-linked, kind-kept, alike-stands}
 
@@ -153,22 +153,22 @@ rebalanced-others v w r value h q ne = ap balance_in (h.objects.bodies q (not_on
 -- ---- changes of one tree
 
 module _ (u v : View) (tree : Tree) (refs : List Ref) where
-  pub changed-wider : (all : List Ref) → ((q : Ref) → Contains refs q → Contains all q) → IsChanged u v tree refs → IsChanged u v tree all
+  pub changed-wider : (all : List Ref) → ((q : Ref) → Contains refs q → Contains all q) → IsTreeChanged u v tree refs → IsTreeChanged u v tree all
   changed-wider all wider c = record { links = λ e ne off. c.links e ne (λ z i. off z (wider z i)); objects = balances-wider u v refs c.objects all wider }
 
-  pub changed-then : (w : View) → IsChanged u v tree refs → IsChanged v w tree refs → IsChanged u w tree refs
+  pub changed-then : (w : View) → IsTreeChanged u v tree refs → IsTreeChanged v w tree refs → IsTreeChanged u w tree refs
   changed-then w c d = record { links = λ e ne off. d.links e ne off ∙ c.links e ne off; objects = balances-then u v refs c.objects w d.objects }
 
-  pub changed-links : SameObjects u v → StaysBeyond (link_of u) (link_of v) tree.top (Contains refs) → IsChanged u v tree refs
+  pub changed-links : SameObjects u v → StaysBeyond (link_of u) (link_of v) tree.top (Contains refs) → IsTreeChanged u v tree refs
   changed-links same stays = record { links = stays; objects = same-objects u v refs same }
 
-  pub changed-balance : (r : Ref) (value : ℕ) → Contains refs r → IsRebalanced u v r value → IsChanged u v tree refs
+  pub changed-balance : (r : Ref) (value : ℕ) → Contains refs r → IsRebalanced u v r value → IsTreeChanged u v tree refs
   changed-balance r value c h = record {
     links = λ e ne off. h.links e;
     objects = balances-wider u v (r ∷ []) h.objects refs (λ q i. elim (member-cases r q [] i) [ inl same ↦ subst (Contains refs) same c | inr none ↦ absurd (omega (arith, none.1)) ]);
   }
 
-pub changed-same : (u : View) (tree : Tree) (refs : List Ref) → IsChanged u u tree refs
+pub changed-same : (u : View) (tree : Tree) (refs : List Ref) → IsTreeChanged u u tree refs
 changed-same u tree refs = record {
   links = λ e ne off. refl;
   objects = record { alike = λ q c. refl; bodies = λ q out. refl; ends = λ e h. h; gone = λ e h. h; spots = λ q. refl; slots = refl; usages = refl; epoch = refl; moved = refl; compacted = refl };
@@ -176,7 +176,7 @@ changed-same u tree refs = record {
 
 -- ---- what such a change leaves
 
-module _ (v w : View) (tree : Tree) (refs : List Ref) (changed : IsChanged v w tree refs) where
+module _ (v w : View) (tree : Tree) (refs : List Ref) (changed : IsTreeChanged v w tree refs) where
   pub changed-version : (r : Ref) → IsSomeAnd (body v r) (λ b. b.0 ≡ Version) → IsSomeAnd (body w r) (λ b. b.0 ≡ Version)
   changed-version r h = alike-version (body v r) (body w r) (balances-alike v w refs changed.objects r) h
 

@@ -18,7 +18,7 @@ use Rattle.lsa_shape.specs.laws.Rotations.{off-link}
 use Rattle.lsa_tree.specs.declared.tree.Tree.{Tree}
 use Rattle.lsa_tree.specs.Entries.{IsEntryKind, IsEntryAtPosition, balance_in, balance_of}
 use Rattle.lsa_tree.specs.Tree.{IsTop, IsTree, IsLoose, IsOffTree, SameButBalances}
-use Rattle.lsa_tree.specs.calls.Placing.{IsEntryBody, IsFormed, IsChanged, IsTraded, traded}
+use Rattle.lsa_tree.specs.calls.Placing.{IsEntryBody, IsFormed, IsTreeChanged, IsTraded, traded}
 use Rattle.lsa_tree.specs.laws.Orders.{ascending-replaced}
 use Rattle.lsa_tree.specs.laws.Trees.{entry-no-top, entry-long, in-tree, tree-in, tree-entry, tree-once, tree-pairs, loose-beside, trees-apart}
 use Rattle.lsa_tree.proofs.Placed.{body-kind, formed-tree, tree-formed}
@@ -81,7 +81,7 @@ module _ (tree : Tree) (v w : View) (well : IsWell v) (r q : Ref) (ne : r ≢ q)
 
     -- what is beyond the tree and the other entry stays
     pub traded-changed : (members : List Ref) → ((z : Ref) → IsIn z s → Contains members z) → Contains members r → Contains members q
-        → ((e : End) → e ≢ tree.top → ((z : Ref) → Contains members z → IsOff e z) → (n : ℕ) → 2 ≤ n → n ≤ 4 → (link_of v e ≢ Some (Obj r n)) × (link_of v e ≢ Some (Obj q n))) → IsChanged v w tree members
+        → ((e : End) → e ≢ tree.top → ((z : Ref) → Contains members z → IsOff e z) → (n : ℕ) → 2 ≤ n → n ≤ 4 → (link_of v e ≢ Some (Obj r n)) × (link_of v e ≢ Some (Obj q n))) → IsTreeChanged v w tree members
     traded-changed members inside on_r on_q mates = record {
       links = λ e no_top off. traded-beside e (off r on_r) (off q on_q) (mates e no_top off);
       objects = balances-wider v w (r ∷ (q ∷ [])) t.objects members (λ z c. elim (member-cases r z (q ∷ []) c) [
@@ -128,7 +128,7 @@ module _ (tree : Tree) (v w : View) (well : IsWell v) (r q : Ref) (front back : 
     unset (suc (suc (suc (suc zero)))) low high = loose.right
     unset (suc (suc (suc (suc (suc n))))) low high = absurd (omega (arith, high))
 
-    changed : IsChanged v w tree (q ∷ (front ++ (r ∷ back)))
+    changed : IsTreeChanged v w tree (q ∷ (front ++ (r ∷ back)))
     changed = traded-changed tree v w well r q replaced-apart t replaced-body replaced-other (front ++ (r ∷ back)) h.form.0 old_form (q ∷ (front ++ (r ∷ back)))
         (λ z i. member-later q z (front ++ (r ∷ back)) (tree-in tree v (front ++ (r ∷ back)) z h i)) (member-later q r (front ++ (r ∷ back)) member) (member-first q (front ++ (r ∷ back)))
         (λ e no_top off n low high. (

@@ -17,7 +17,7 @@ use Rattle.lsa_shape.specs.laws.Places.{IsAroundEnd, plug-changed, stays-out, pl
 use Rattle.lsa_tree.specs.declared.tree.Tree.{Tree}
 use Rattle.lsa_tree.specs.Entries.{IsEntryKind, IsEntryAtPosition, BelongsBetween, balance_in, balance_of}
 use Rattle.lsa_tree.specs.Tree.{IsTree, IsLoose, IsOffTree, SameButBalances}
-use Rattle.lsa_tree.specs.calls.Placing.{IsEntryBody, IsFormed, PlaceIn, IsVacant, IsChanged, IsSettled}
+use Rattle.lsa_tree.specs.calls.Placing.{IsEntryBody, IsFormed, PlaceIn, IsVacant, IsTreeChanged, IsSettled}
 use Rattle.lsa_tree.specs.laws.Orders.{ascending-with}
 use Rattle.lsa_tree.specs.laws.Trees.{entry-no-top, entry-long, entry-end, tree-entry, tree-once, loose-beside, trees-apart}
 use Rattle.lsa_tree.proofs.Placed.{formed-clear, formed-in, formed-there, formed-hole, formed-tree}
@@ -78,7 +78,7 @@ module _ (tree : Tree) (v : View) (well : IsWell v) (r : Ref) (loose : IsLoose v
     top_off : IsOff tree.top r
     top_off = let off = λ (f : ℕ) (is : tree.top ≡ Obj r f). entry-no-top v tree.top r f vac.place.form.top loose.entry (sym is) in (off 2, off 3, off 4)
 
-    pub attached-changed : IsChanged v w tree (front ++ (r ∷ back))
+    pub attached-changed : IsTreeChanged v w tree (front ++ (r ∷ back))
     attached-changed = changed-links v w tree (front ++ (r ∷ back)) same
         (stays-out (link_of v) (link_of w) well.paired tree.top way Leaf (λ z. z ≡ r) (Contains (front ++ (r ∷ back)))
         (λ z is. subst (Contains (front ++ (r ∷ back))) (sym is) (member-here front back r)) (λ z i. members-more front back r z (formed-in tree v (front ++ back) (plug way Leaf) vac.place.form z i)) stays)
@@ -122,7 +122,7 @@ module _ (tree : Tree) (v : View) (well : IsWell v) (r : Ref) (loose : IsLoose v
     }
 
     module _ (new : View) (settled : IsSettled w new at attached) where
-      changed : IsChanged v new tree (front ++ (r ∷ back))
+      changed : IsTreeChanged v new tree (front ++ (r ∷ back))
       changed = changed-then v w tree (front ++ (r ∷ back)) new attached-changed settled.changed
 
       entries : (z : Ref) → Contains (front ++ (r ∷ back)) z → IsSomeAnd (body v z) (λ b. IsEntryKind b.0)

@@ -11,12 +11,12 @@ use Rattle.lsa_shape.specs.declared.flank.Flank.TheVariants.{Low, High}
 use Rattle.lsa_shape.specs.Flanks.{near_link, near_heavy, far_heavy}
 use Rattle.lsa_shape.specs.Shapes.{TreeShape, IsIn, HangsAt, IsClearOf, node_on}
 use Rattle.lsa_shape.specs.Ways.{plug, hole, IsAround}
-use Rattle.lsa_shape.specs.Levels.{Leans, IsLevel, IsLevelAround}
+use Rattle.lsa_shape.specs.Levels.{HasBalance, IsLevel, IsLevelAround}
 use Rattle.lsa_shape.specs.laws.Depths.{level-node, node-level, level-kept, around-kept}
 use Rattle.lsa_shape.specs.laws.Places.{around-apart}
 use Rattle.lsa_shape.specs.laws.Sides.{near-root, far-root, sides-apart, node-in, hangs-node, near-clear}
 use Rattle.lsa_tree.specs.Entries.{balance_in, balance_of}
-use Rattle.lsa_tree.specs.calls.Placing.{IsEntryBody, IsFormed, IsChanged, IsRebalanced, IsTurned, Steep, IsMended}
+use Rattle.lsa_tree.specs.calls.Placing.{IsEntryBody, IsFormed, IsTreeChanged, IsRebalanced, IsRotated, Steep, IsMended}
 use Rattle.lsa_tree.proofs.Placed.{formed-clear, formed-in, formed-hole}
 use Rattle.lsa_tree.proofs.Changed.{changed-then, changed-balance, rebalanced-others}
 use Rattle.lsa_tree.proofs.Turned.{Asks, formed-balance, turn-asks, turn-apart, turn-x, turn-y, turned-formed, turned-changed}
@@ -34,7 +34,7 @@ heavy-light Low e = cc
 heavy-light High e = cc
 
 -- what stands where x leans not to the other side
-leans_once : (flank : Flank) (lean h k low : ℕ) → lean ≢ far_heavy flank → Leans flank lean h k (suc (suc low)) → ((lean ≡ 0) × (h ≡ suc low) × (k ≡ suc low)) ⊎ ((lean ≡ near_heavy flank) × (h ≡ suc low) × (k ≡ low))
+leans_once : (flank : Flank) (lean h k low : ℕ) → lean ≢ far_heavy flank → HasBalance flank lean h k (suc (suc low)) → ((lean ≡ 0) × (h ≡ suc low) × (k ≡ suc low)) ⊎ ((lean ≡ near_heavy flank) × (h ≡ suc low) × (k ≡ low))
 leans_once flank lean h k low ne (inl w) = inl (w.0, omega (arith, w.1, w.2), omega (arith, w.2))
 leans_once flank lean h k low ne (inr (inl w)) = inr (w.0, omega (arith, w.2), omega (arith, w.1, w.2))
 leans_once flank lean h k low ne (inr (inr w)) = absurd (ne w.0)
@@ -120,9 +120,9 @@ module _ (v : View) (well : IsWell v) (flank : Flank) (at : End) (p x : Ref) (s 
   steep-p = s.form.entries p (turn-y s.tree v s.refs well s.way flank s.near s.between s.far x p s.form)
 
   -- one rotation, and two balances written
-  module _ (t u w : View) (turned : IsTurned (link_of v) (link_of t) flank at p x) (same : SameObjects v t) (to_x to_p : ℕ) (first : IsRebalanced t u x to_x) (second : IsRebalanced u w p to_p) where
-    turned_here : IsTurned (link_of v) (link_of t) flank place p x
-    turned_here = subst (λ e. IsTurned (link_of v) (link_of t) flank e p x) (sym s.end) turned
+  module _ (t u w : View) (turned : IsRotated (link_of v) (link_of t) flank at p x) (same : SameObjects v t) (to_x to_p : ℕ) (first : IsRebalanced t u x to_x) (second : IsRebalanced u w p to_p) where
+    turned_here : IsRotated (link_of v) (link_of t) flank place p x
+    turned_here = subst (λ e. IsRotated (link_of v) (link_of t) flank e p x) (sym s.end) turned
 
     form_t : IsFormed s.tree t s.refs (plug s.way (node_on flank s.near x (node_on flank s.between p s.far)))
     form_t = turned-formed s.tree v s.refs well s.way flank s.near s.between s.far x p s.form t turned_here same
@@ -132,7 +132,7 @@ module _ (v : View) (well : IsWell v) (flank : Flank) (at : End) (p x : Ref) (s 
         let shape = plug s.way (node_on flank s.near x (node_on flank s.between p s.far)) in
         formed-balance s.tree u w s.refs shape p to_p member-p second (formed-balance s.tree t u s.refs shape x to_x member-x first form_t)
 
-    changed_w : IsChanged v w s.tree s.refs
+    changed_w : IsTreeChanged v w s.tree s.refs
     changed_w = changed-then v u s.tree s.refs w (changed-then v t s.tree s.refs u (turned-changed s.tree v s.refs well s.way flank s.near s.between s.far x p s.form t turned_here same) (changed-balance t u s.tree s.refs x to_x member-x first))
         (changed-balance u w s.tree s.refs p to_p member-p second)
 
@@ -145,18 +145,18 @@ module _ (v : View) (well : IsWell v) (flank : Flank) (at : End) (p x : Ref) (s 
     around_w : IsLevelAround (balance_of w) s.way s.there s.depth
     around_w = around-kept (balance_of v) (balance_of w) s.way s.there s.depth (λ z i. level_z z (around-not z x whole-x i) (around-not z p whole-p i)) s.around
 
-    parts : (h : ℕ) × (k : ℕ) × IsLevel (balance_of v) s.near h × IsLevel (balance_of v) s.between k × Leans flank (balance_of v x) h k (suc (suc s.low))
+    parts : (h : ℕ) × (k : ℕ) × IsLevel (balance_of v) s.near h × IsLevel (balance_of v) s.between k × HasBalance flank (balance_of v x) h k (suc (suc s.low))
     parts = level-node (balance_of v) flank s.near x s.between (suc (suc s.low)) s.level
 
-    put : (h k m n : ℕ) → IsLevel (balance_of v) s.near h → IsLevel (balance_of v) s.between k → Leans flank to_p k s.low m → Leans flank to_x h m n → IsLevel (balance_of w) (node_on flank s.near x (node_on flank s.between p s.far)) n
+    put : (h k m n : ℕ) → IsLevel (balance_of v) s.near h → IsLevel (balance_of v) s.between k → HasBalance flank to_p k s.low m → HasBalance flank to_x h m n → IsLevel (balance_of w) (node_on flank s.near x (node_on flank s.between p s.far)) n
     put h k m n near between leans_p leans_x =
         node-level (balance_of w) flank s.near x (node_on flank s.between p s.far) h m n
         (level-kept (balance_of v) (balance_of w) s.near h (λ z i. level_z z (near-x z i) (near-p z i)) near)
         (node-level (balance_of w) flank s.between p s.far k s.low m
         (level-kept (balance_of v) (balance_of w) s.between k (λ z i. level_z z (between-x z i) (between-p z i)) between)
         (level-kept (balance_of v) (balance_of w) s.far s.low (λ z i. level_z z (far-x z i) (far-p z i)) s.level_far)
-        (subst (λ b. Leans flank b k s.low m) (sym second.written) leans_p))
-        (subst (λ b. Leans flank b h m n) (sym level_x) leans_x)
+        (subst (λ b. HasBalance flank b k s.low m) (sym second.written) leans_p))
+        (subst (λ b. HasBalance flank b h m n) (sym level_x) leans_x)
 
     pub once-level : balance_of v x ≡ 0 → to_x ≡ far_heavy flank → to_p ≡ near_heavy flank → IsMended v w flank at p x s true
     once-level zero_x is_x is_p = elim (leans_once flank (balance_of v x) parts.0 parts.1 s.low (λ e. light-set flank (sym e ∙ zero_x)) parts.4) [

@@ -15,7 +15,7 @@ use Rattle.lsa_path.specs.laws.Members.{member-first, member-later, member-here,
 use Rattle.lsa_shape.specs.declared.flank.Flank.{Flank}
 use Rattle.lsa_shape.specs.declared.flank.Flank.TheVariants.{Low, High}
 use Rattle.lsa_shape.specs.Shapes.{TreeShape, Leaf, Node, inorder, IsIn, HangsAt, IsClearOf, node_on}
-use Rattle.lsa_shape.specs.Ways.{Fork, Passed, plug, hole, way_before, way_behind}
+use Rattle.lsa_shape.specs.Ways.{Fork, ForkAt, plug, hole, way_before, way_behind}
 use Rattle.lsa_shape.specs.Levels.{IsLevel, shape_size}
 use Rattle.lsa_shape.specs.Readings.{shape_at, steps_up}
 use Rattle.lsa_shape.specs.laws.Hanging.{in-listed, listed-in}
@@ -63,7 +63,7 @@ module _ (named : End → Option End) (a : End) where
 
 -- ---- owners
 
-owner_near : (flank : Flank) (r : Ref) (beside : TreeShape) (way : List Fork) (start : End) → owner_of (hole start (Passed flank r beside ∷ way)) ≡ Some (flank, r)
+owner_near : (flank : Flank) (r : Ref) (beside : TreeShape) (way : List Fork) (start : End) → owner_of (hole start (ForkAt flank r beside ∷ way)) ≡ Some (flank, r)
 owner_near Low r beside way start = refl
 owner_near High r beside way start = refl
 
@@ -75,15 +75,15 @@ module _ (v : View) (top at : End) (is_top : IsTop v top) where
   -- the place is the top
   pub owner-none : (way : List Fork) → hole top way ≡ at → owner_of at ≡ None → way ≡ []
   owner-none [] end none = refl
-  owner-none (Passed flank r beside ∷ way) end none = absurd (let clash : ◌≡◌ {A = Option (Flank × Ref)} (Some (flank, r)) None = sym (owner_near flank r beside way top) ∙ ap owner_of end ∙ none in cc)
+  owner-none (ForkAt flank r beside ∷ way) end none = absurd (let clash : ◌≡◌ {A = Option (Flank × Ref)} (Some (flank, r)) None = sym (owner_near flank r beside way top) ∙ ap owner_of end ∙ none in cc)
 
   -- the nearest fork is this
-  pub owner-some : (way : List Fork) (flank : Flank) (r : Ref) → hole top way ≡ at → owner_of at ≡ Some (flank, r) → (beside : TreeShape) × (rest : List Fork) × (way ≡ Passed flank r beside ∷ rest)
+  pub owner-some : (way : List Fork) (flank : Flank) (r : Ref) → hole top way ≡ at → owner_of at ≡ Some (flank, r) → (beside : TreeShape) × (rest : List Fork) × (way ≡ ForkAt flank r beside ∷ rest)
   owner-some [] flank r end some = absurd (let clash : ◌≡◌ {A = Option (Flank × Ref)} None (Some (flank, r)) = sym (owner_top v top is_top) ∙ ap owner_of end ∙ some in cc)
-  owner-some (Passed side q beside ∷ rest) flank r end some =
+  owner-some (ForkAt side q beside ∷ rest) flank r end some =
       let same : ◌≡◌ {A = Option (Flank × Ref)} (Some (side, q)) (Some (flank, r)) = sym (owner_near side q beside rest top) ∙ ap owner_of end ∙ some in
       let both : ◌≡◌ {A = Flank × Ref} (side, q) (flank, r) = cc in
-      (beside, rest, (λ i. Passed (both i).0 (both i).1 beside ∷ rest))
+      (beside, rest, (λ i. ForkAt (both i).0 (both i).1 beside ∷ rest))
 
 -- ---- what is formed
 

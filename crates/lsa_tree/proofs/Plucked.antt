@@ -25,7 +25,7 @@ use Rattle.lsa_tree.specs.declared.tree.Tree.{Tree}
 use Rattle.lsa_tree.specs.Entries.{balance_of}
 use Rattle.lsa_tree.specs.Search.{first_entry}
 use Rattle.lsa_tree.specs.Tree.{IsTree}
-use Rattle.lsa_tree.specs.calls.Placing.{IsEntryBody, IsFormed, IsPlaced, IsChanged, IsTraded, Loosened, IsCut, IsOut, traded}
+use Rattle.lsa_tree.specs.calls.Placing.{IsEntryBody, IsFormed, IsPlaced, IsTreeChanged, IsTraded, Loosened, IsCut, IsOut, traded}
 use Rattle.lsa_tree.specs.laws.Trees.{in-tree, tree-in, tree-pairs}
 use Rattle.lsa_tree.proofs.Placed.{below-none, formed-clear, formed-hole, formed-member, split-once, tree-at, tree-formed}
 use Rattle.lsa_tree.proofs.Changed.{changed-then, changed-wider}
@@ -197,7 +197,7 @@ module _ (tree : Tree) (v : View) (well : IsWell v) (front back : List Ref) (r :
       once_new : AllPairs ◌≢◌ ((front ++ (next ∷ [])) ++ (r ∷ rest))
       once_new = subst (AllPairs ◌≢◌) new_form.order (inorder-once (link_of m) well_m.paired tree.top (shape_by (swapped_ref r next) h.form.0) new_form.hangs (formed-clear tree m ((front ++ (next ∷ [])) ++ (r ∷ rest)) (shape_by (swapped_ref r next) h.form.0) new_form))
 
-      traded_change : IsChanged v m tree (front ++ (r ∷ back))
+      traded_change : IsTreeChanged v m tree (front ++ (r ∷ back))
       traded_change = traded-changed tree v m well r next next-apart t plucked-body next-body (front ++ (r ∷ back)) h.form.0 old_form (front ++ (r ∷ back))
           (λ z i. tree-in tree v (front ++ (r ∷ back)) z h i) (member-here front back r) next_member
           (λ e no_top off n low high. (

@@ -14,7 +14,7 @@ use Rattle.lsa_shape.specs.laws.Places.{in-plug, around-plug}
 use Rattle.lsa_tree.specs.declared.tree.Tree.{Tree}
 use Rattle.lsa_tree.specs.Entries.{IsEntryKind, balance_in, balance_of}
 use Rattle.lsa_tree.specs.Tree.{IsTree, IsLoose, IsOffTree, SameButBalances}
-use Rattle.lsa_tree.specs.calls.Placing.{IsEntryBody, IsFormed, PlaceIn, IsChanged, IsRebalanced, IsSettled, IsOut}
+use Rattle.lsa_tree.specs.calls.Placing.{IsEntryBody, IsFormed, PlaceIn, IsTreeChanged, IsRebalanced, IsSettled, IsOut}
 use Rattle.lsa_tree.specs.laws.Orders.{ascending-without}
 use Rattle.lsa_tree.specs.laws.Trees.{entry-no-top, tree-entry, tree-once, tree-pairs, loose-beside, trees-apart}
 use Rattle.lsa_tree.proofs.Placed.{body-kind, formed-in, formed-tree}
@@ -42,7 +42,7 @@ module _ (tree : Tree) (v : View) (well : IsWell v) (front back : List Ref) (r :
     pub level : (z : Ref) → z ≢ r → balance_of x z ≡ balance_of w z
     level = rebalanced-others w x r 0 written
 
-    changed_x : IsChanged w x tree (front ++ (r ∷ back))
+    changed_x : IsTreeChanged w x tree (front ++ (r ∷ back))
     changed_x = changed-balance w x tree (front ++ (r ∷ back)) r 0 member written
 
     pub form : IsFormed tree x (front ++ back) (plug way shape)
@@ -71,7 +71,7 @@ module _ (tree : Tree) (v : View) (well : IsWell v) (front back : List Ref) (r :
     }
 
     module _ (new : View) (settled : IsSettled x new at sunk-place) where
-      changed : IsChanged v new tree (front ++ (r ∷ back))
+      changed : IsTreeChanged v new tree (front ++ (r ∷ back))
       changed = changed-then v x tree (front ++ (r ∷ back)) new (changed-then v w tree (front ++ (r ∷ back)) x out.changed changed_x) (changed-wider x new tree (front ++ back) (front ++ (r ∷ back)) (members-more front back r) settled.changed)
 
       entries : (z : Ref) → Contains (front ++ (r ∷ back)) z → IsSomeAnd (body v z) (λ b. IsEntryKind b.0)

@@ -13,8 +13,8 @@ use Rattle.lsa_path.specs.Path.{entered}
 use Rattle.lsa_path.specs.laws.Members.{member-here}
 use Rattle.lsa_shape.specs.declared.flank.Flank.TheVariants.{Low, High}
 use Rattle.lsa_shape.specs.Shapes.{TreeShape, Leaf, Node, inorder, HangsAt}
-use Rattle.lsa_shape.specs.Ways.{Fork, Passed, plug, hole, way_before, way_behind}
-use Rattle.lsa_shape.specs.Levels.{IsLevel, Leans, shape_size}
+use Rattle.lsa_shape.specs.Ways.{Fork, ForkAt, plug, hole, way_before, way_behind}
+use Rattle.lsa_shape.specs.Levels.{IsLevel, HasBalance, shape_size}
 use Rattle.lsa_shape.specs.Readings.{shape_at}
 use Rattle.lsa_shape.specs.laws.Depths.{level-node, level-plug, level-size, way-short, size-listed, shallow, leans-less, leans-other}
 use Rattle.lsa_shape.specs.laws.Places.{inorder-plug}
@@ -141,7 +141,7 @@ module _ (tree : Tree) (v : View) (well : IsWell v) (summed : IsSummed v) (x : P
       pub node-stands : (y : Pos) × IsEntryAtPosition v r y
       node-stands = let w = ascending-back v (way_before way ++ inorder root.0) (r ∷ (inorder root.1 ++ way_behind way)) ascends in (w.0.0, w.0.1)
 
-      level : (h : ℕ) × (k : ℕ) × IsLevel (balance_of v) root.0 h × IsLevel (balance_of v) root.1 k × Leans Low (balance_of v r) h k here
+      level : (h : ℕ) × (k : ℕ) × IsLevel (balance_of v) root.0 h × IsLevel (balance_of v) root.1 k × HasBalance Low (balance_of v r) h k here
       level = level-node (balance_of v) Low root.0 r root.1 here (subst (λ t. IsLevel (balance_of v) t here) root.2 reached.place.level)
 
       -- it stands at the position
@@ -159,7 +159,7 @@ module _ (tree : Tree) (v : View) (well : IsWell v) (summed : IsSummed v) (x : P
 
       -- it stands before the position
       module _ (y : Pos) (stands : IsEntryAtPosition v r y) (less : IsBefore y x) where
-        high_reached : IsReached tree v x (Obj r 4) next refs (Passed High r root.0 ∷ way) root.1 level.1 depth
+        high_reached : IsReached tree v x (Obj r 4) next refs (ForkAt High r root.0 ∷ way) root.1 level.1 depth
         high_reached =
             let split = ascending-split v (way_before way ++ inorder root.0) (inorder root.1 ++ way_behind way) r y stands ascends in
             record {
@@ -180,11 +180,11 @@ module _ (tree : Tree) (v : View) (well : IsWell v) (summed : IsSummed v) (x : P
             earlier a b xs less' h = all-mapped (λ q. StandsEarlier v q a) (λ q. StandsEarlier v q b) xs (λ q k. (k.0, k.1, before-trans k.0 a b k.2 less')) h
 
         pub node-high : (on : List Fork) × (u : TreeShape) × (below : ℕ) × IsReached tree v x (Obj r 4) next refs on u below depth × (length on ≡ length way + 1)
-        node-high = (Passed High r root.0 ∷ way, root.1, level.1, high_reached, omega arith)
+        node-high = (ForkAt High r root.0 ∷ way, root.1, level.1, high_reached, omega arith)
 
       -- it stands behind the position
       module _ (y : Pos) (stands : IsEntryAtPosition v r y) (more : IsBefore x y) where
-        low_reached : IsReached tree v x (Obj r 3) (Some r) refs (Passed Low r root.1 ∷ way) root.0 level.0 depth
+        low_reached : IsReached tree v x (Obj r 3) (Some r) refs (ForkAt Low r root.1 ∷ way) root.0 level.0 depth
         low_reached =
             let split = ascending-split v (way_before way ++ inorder root.0) (inorder root.1 ++ way_behind way) r y stands ascends in
             record {
@@ -201,13 +201,13 @@ module _ (tree : Tree) (v : View) (well : IsWell v) (summed : IsSummed v) (x : P
             }
 
         pub node-low : (on : List Fork) × (u : TreeShape) × (below : ℕ) × IsReached tree v x (Obj r 3) (Some r) refs on u below depth × (length on ≡ length way + 1)
-        node-low = (Passed Low r root.1 ∷ way, root.0, level.0, low_reached, omega arith)
+        node-low = (ForkAt Low r root.1 ∷ way, root.0, level.0, low_reached, omega arith)
 
       pub node-smaller : (f : ℕ) → (f ≡ 3) ⊎ (f ≡ 4) → size_below v (Obj r f) < size_below v at
       node-smaller f side =
           let form : IsFormed tree v refs (plug way (Node root.0 r root.1)) = subst (λ t. IsFormed tree v refs (plug way t)) root.2 reached.place.form in
-          let low : shape_at (live_bytes v) (link_of v) (Obj r 3) ≡ root.0 = formed-read tree v refs well summed (Passed Low r root.1 ∷ way) root.0 form in
-          let high : shape_at (live_bytes v) (link_of v) (Obj r 4) ≡ root.1 = formed-read tree v refs well summed (Passed High r root.0 ∷ way) root.1 form in
+          let low : shape_at (live_bytes v) (link_of v) (Obj r 3) ≡ root.0 = formed-read tree v refs well summed (ForkAt Low r root.1 ∷ way) root.0 form in
+          let high : shape_at (live_bytes v) (link_of v) (Obj r 4) ≡ root.1 = formed-read tree v refs well summed (ForkAt High r root.0 ∷ way) root.1 form in
           let whole : shape_size s ≡ shape_size (Node root.0 r root.1) = ap shape_size root.2 in
           elim side [
             | inl is ↦ subst (λ n. size_below v (Obj r n) < size_below v at) (sym is) (omega (arith, reached_size, whole, ap shape_size low))

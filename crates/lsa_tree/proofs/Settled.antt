@@ -7,7 +7,7 @@ use Rattle.lsa_shape.specs.Shapes.{TreeShape, IsIn}
 use Rattle.lsa_shape.specs.Ways.{Fork, hole}
 use Rattle.lsa_shape.specs.Readings.{steps_up}
 use Rattle.lsa_tree.specs.Entries.{balance_of}
-use Rattle.lsa_tree.specs.calls.Placing.{IsPlaced, PlaceIn, IsChanged, Leaning, IsStepped, IsSettled}
+use Rattle.lsa_tree.specs.calls.Placing.{IsPlaced, PlaceIn, IsTreeChanged, IsTipped, IsStepped, IsSettled}
 use Rattle.lsa_tree.proofs.Placed.{formed-up}
 use Rattle.lsa_tree.proofs.Changed.{changed-same, changed-then}
 
@@ -21,10 +21,10 @@ pub record IsUnderWay (v w : View) (start at : End) (p : PlaceIn v start) (way :
   pub end : hole p.tree.top way ≡ at
   pub up : p.here ≡ suc p.there → here ≡ suc there
   pub down : p.there ≡ suc p.here → there ≡ suc here
-  pub changed : IsChanged v w p.tree p.refs
-  pub leaning : p.here ≡ suc p.there → Leaning v p.shape p.here → Leaning w shape here
+  pub changed : IsTreeChanged v w p.tree p.refs
+  pub leaning : p.here ≡ suc p.there → IsTipped v p.shape p.here → IsTipped w shape here
   pub within : (z : Ref) → IsIn z p.shape → IsIn z shape
-  pub level : p.here ≡ suc p.there → Leaning v p.shape p.here → (z : Ref) → IsIn z p.shape → balance_of v z ≡ 0 → balance_of w z ≡ 0
+  pub level : p.here ≡ suc p.there → IsTipped v p.shape p.here → (z : Ref) → IsIn z p.shape → balance_of v z ≡ 0 → balance_of w z ≡ 0
 
 -- as one value
 abbrev pub IsUnderWayAt : (v : View) → View → (start : End) → End → PlaceIn v start → Type 0

@@ -14,14 +14,14 @@ use Rattle.lsa_shape.specs.declared.flank.Flank.{Flank}
 use Rattle.lsa_shape.specs.Flanks.{near_link, far_link}
 use Rattle.lsa_shape.specs.Shapes.{TreeShape, Leaf, inorder, IsIn, HangsAt, IsClearOf, StaysBeyond, node_on}
 use Rattle.lsa_shape.specs.Ways.{plug, hole, way_before, way_behind}
-use Rattle.lsa_shape.specs.Levels.{Leans, IsLevelAround}
+use Rattle.lsa_shape.specs.Levels.{HasBalance, IsLevelAround}
 use Rattle.lsa_shape.specs.laws.Depths.{level-node, plug-level, level-kept, around-kept}
 use Rattle.lsa_shape.specs.laws.Hanging.{names-in, hangs-moved}
 use Rattle.lsa_shape.specs.laws.Places.{plug-changed, stays-out, in-plug, plug-in, around-plug, inorder-plug}
 use Rattle.lsa_shape.specs.laws.Rotations.{off-link, hangs-swapped, hangs-beside, stays-beside}
 use Rattle.lsa_shape.specs.laws.Sides.{near-low, near-most, far-low, far-most, near_differs, node-in, hangs-node, near-root, near-clear, link-sides}
 use Rattle.lsa_tree.specs.Entries.{balance_in, balance_of}
-use Rattle.lsa_tree.specs.calls.Placing.{IsEntryBody, IsFormed, IsChanged, Loosened, IsCut}
+use Rattle.lsa_tree.specs.calls.Placing.{IsEntryBody, IsFormed, IsTreeChanged, Loosened, IsCut}
 use Rattle.lsa_tree.proofs.Placed.{body-there, formed-clear, formed-in, formed-there, formed-hole}
 use Rattle.lsa_tree.proofs.Changed.{changed-body, changed-links, changed-top}
 
@@ -139,7 +139,7 @@ module _ (v : View) (well : IsWell v) (flank : Flank) (r : Ref) (l : Loosened v 
             (λ n. off_r.0 (same_some e (Obj r 2) (sym n ∙ parts.0)))
             (λ n. let z = names-in (link_of v) (Obj r (near_link flank)) l.near parts.1 e n in (off z.0 (near_in z.0 z.1)).0 z.2)
 
-        changed : IsChanged v w l.tree l.refs
+        changed : IsTreeChanged v w l.tree l.refs
         changed = changed-links v w l.tree l.refs same
             (stays-out (link_of v) (link_of w) well.paired l.tree.top l.way node (λ z. IsIn z node) (Contains l.refs) (λ z i. formed-in l.tree v l.refs (plug l.way node) l.form z (in-plug l.way node z i)) (λ z i. formed-in l.tree v l.refs (plug l.way node) l.form z i) stays)
 
@@ -157,7 +157,7 @@ module _ (v : View) (well : IsWell v) (flank : Flank) (r : Ref) (l : Loosened v 
         level_same : (z : Ref) → balance_of w z ≡ balance_of v z
         level_same z = ap balance_in (same.bodies z)
 
-        deep : (h k : ℕ) → k ≡ 0 → (n : ℕ) → Leans flank (balance_of v r) h k n → n ≡ suc h
+        deep : (h k : ℕ) → k ≡ 0 → (n : ℕ) → HasBalance flank (balance_of v r) h k n → n ≡ suc h
         deep h k zero_k n (inl a) = omega (arith, zero_k, a.1, a.2)
         deep h k zero_k n (inr (inl a)) = a.2
         deep h k zero_k n (inr (inr a)) = absurd (omega (arith, zero_k, a.1))

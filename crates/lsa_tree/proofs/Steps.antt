@@ -10,13 +10,13 @@ use Rattle.lsa_shape.specs.declared.flank.Flank.{Flank}
 use Rattle.lsa_shape.specs.declared.flank.Flank.TheVariants.{Low, High}
 use Rattle.lsa_shape.specs.Flanks.{other_flank, far_link, near_heavy, far_heavy}
 use Rattle.lsa_shape.specs.Shapes.{TreeShape, Node, inorder, IsIn, HangsAt, IsClearOf, node_on}
-use Rattle.lsa_shape.specs.Ways.{Fork, Passed, plug, hole, IsAround}
-use Rattle.lsa_shape.specs.Levels.{Leans, IsLevel, IsLevelAround}
+use Rattle.lsa_shape.specs.Ways.{Fork, ForkAt, plug, hole, IsAround}
+use Rattle.lsa_shape.specs.Levels.{HasBalance, IsLevel, IsLevelAround}
 use Rattle.lsa_shape.specs.laws.Depths.{level-plug, node-level, level-kept, around-kept, level-root}
 use Rattle.lsa_shape.specs.laws.Places.{in-plug, plug-in, around-apart}
 use Rattle.lsa_shape.specs.laws.Sides.{near-root, far-root, node-in, hangs-node, far-most, other-node}
 use Rattle.lsa_tree.specs.Entries.{balance_of}
-use Rattle.lsa_tree.specs.calls.Placing.{IsEntryBody, IsFormed, PlaceIn, IsChanged, IsRebalanced, Steep, IsMended, Leaning, IsStepped, owner_of}
+use Rattle.lsa_tree.specs.calls.Placing.{IsEntryBody, IsFormed, PlaceIn, IsTreeChanged, IsRebalanced, Steep, IsMended, IsTipped, IsStepped, owner_of}
 use Rattle.lsa_tree.proofs.Placed.{body-there, below-some, below-node, owner-none, owner-some, formed-clear, formed-in, formed-there, formed-hole}
 use Rattle.lsa_tree.proofs.Changed.{changed-same, changed-balance, rebalanced-others}
 use Rattle.lsa_tree.proofs.Turned.{formed-balance, same-members}
@@ -44,7 +44,7 @@ module _ (v : View) (well : IsWell v) (at : End) (p : PlaceIn v at) where
   }
 
   module _ (flank : Flank) (q : Ref) (some : owner_of at ≡ Some (flank, q)) where
-    pub fork : (beside : TreeShape) × (rest : List Fork) × (p.way ≡ Passed flank q beside ∷ rest)
+    pub fork : (beside : TreeShape) × (rest : List Fork) × (p.way ≡ ForkAt flank q beside ∷ rest)
     fork = owner-some v p.tree.top at p.is.form.top p.way flank q p.end some
 
     abbrev node : TreeShape
@@ -53,7 +53,7 @@ module _ (v : View) (well : IsWell v) (at : End) (p : PlaceIn v at) where
     pub form : IsFormed p.tree v p.refs (plug fork.1 (node_on flank p.shape q fork.0))
     form = subst (λ w. IsFormed p.tree v p.refs (plug w p.shape)) fork.2 p.is.form
 
-    pub around : (far : ℕ) × (above : ℕ) × IsLevel (balance_of v) fork.0 far × Leans flank (balance_of v q) p.there far above × IsLevelAround (balance_of v) fork.1 above p.depth
+    pub around : (far : ℕ) × (above : ℕ) × IsLevel (balance_of v) fork.0 far × HasBalance flank (balance_of v q) p.there far above × IsLevelAround (balance_of v) fork.1 above p.depth
     around = subst (λ w. IsLevelAround (balance_of v) w p.there p.depth) fork.2 p.is.around
 
     hangs : HangsAt (link_of v) (hole p.tree.top fork.1) (node_on flank p.shape q fork.0) × IsClearOf (hole p.tree.top fork.1) (node_on flank p.shape q fork.0)
@@ -95,22 +95,22 @@ module _ (v : View) (well : IsWell v) (at : End) (p : PlaceIn v at) where
         form_w : IsFormed p.tree w p.refs (plug fork.1 (node_on flank p.shape q fork.0))
         form_w = formed-balance p.tree v w p.refs (plug fork.1 (node_on flank p.shape q fork.0)) q value member written form
 
-        changed_w : IsChanged v w p.tree p.refs
+        changed_w : IsTreeChanged v w p.tree p.refs
         changed_w = changed-balance v w p.tree p.refs q value member written
 
         level_z : (z : Ref) → z ≢ q → balance_of w z ≡ balance_of v z
         level_z = rebalanced-others v w q value written
 
-        level_node : (n : ℕ) → Leans flank value p.here around.0 n → IsLevel (balance_of w) (node_on flank p.shape q fork.0) n
+        level_node : (n : ℕ) → HasBalance flank value p.here around.0 n → IsLevel (balance_of w) (node_on flank p.shape q fork.0) n
         level_node n leans = node-level (balance_of w) flank p.shape q fork.0 p.here around.0 n
             (level-kept (balance_of v) (balance_of w) p.shape p.here (λ z i. level_z z (near_not z i)) p.is.level) (level-kept (balance_of v) (balance_of w) fork.0 around.0 (λ z i. level_z z (far_not z i)) around.2)
-            (subst (λ b. Leans flank b p.here around.0 n) (sym written.written) leans)
+            (subst (λ b. HasBalance flank b p.here around.0 n) (sym written.written) leans)
 
         around_w : IsLevelAround (balance_of w) fork.1 around.1 p.depth
         around_w = around-kept (balance_of v) (balance_of w) fork.1 around.1 p.depth (λ z i. level_z z (around_not z i)) around.4
 
         -- and the tree is balanced
-        stepped_done : Leans flank value p.here around.0 around.1 → IsStepped v w at p None
+        stepped_done : HasBalance flank value p.here around.0 around.1 → IsStepped v w at p None
         stepped_done leans = record {
           changed = changed_w;
           done = λ e. (plug fork.1 (node_on flank p.shape q fork.0), p.depth, record { form = form_w; level = level-plug (balance_of w) fork.1 (node_on flank p.shape q fork.0) around.1 p.depth (level_node around.1 leans) around_w });
@@ -119,7 +119,7 @@ module _ (v : View) (well : IsWell v) (at : End) (p : PlaceIn v at) where
         }
 
         -- or the place above is as this one was
-        stepped_on : (n : ℕ) → Leans flank value p.here around.0 n → (p.here ≡ suc p.there → n ≡ suc around.1) → (p.there ≡ suc p.here → around.1 ≡ suc n) → (p.here ≡ suc p.there → value ≢ 0) → IsStepped v w at p (Some end)
+        stepped_on : (n : ℕ) → HasBalance flank value p.here around.0 n → (p.here ≡ suc p.there → n ≡ suc around.1) → (p.there ≡ suc p.here → around.1 ≡ suc n) → (p.here ≡ suc p.there → value ≢ 0) → IsStepped v w at p (Some end)
         stepped_on n leans up down set = record {
           changed = changed_w;
           done = λ e. absurd (some_none end e);
@@ -142,7 +142,7 @@ module _ (v : View) (well : IsWell v) (at : End) (p : PlaceIn v at) where
         pub rise-level : p.here ≡ suc p.there → balance_of v q ≡ 0 → value ≡ near_heavy flank → IsStepped v w at p (Some end)
         rise-level grown zero_q is = go around.3
           where
-            go : Leans flank (balance_of v q) p.there around.0 around.1 → IsStepped v w at p (Some end)
+            go : HasBalance flank (balance_of v q) p.there around.0 around.1 → IsStepped v w at p (Some end)
             go (inl l) = stepped_on (suc p.here) (inr (inl (is, grown ∙ ap (λ n. suc n) l.1, refl))) (λ e. omega (arith, grown, l.1, l.2)) (λ e. absurd (omega (arith, grown, e))) (λ g e. heavy-set flank (sym is ∙ e))
             go (inr (inl l)) = absurd (heavy-set flank (sym l.0 ∙ zero_q))
             go (inr (inr l)) = absurd (light-set flank (sym l.0 ∙ zero_q))
@@ -150,7 +150,7 @@ module _ (v : View) (well : IsWell v) (at : End) (p : PlaceIn v at) where
         pub rise-light : p.here ≡ suc p.there → balance_of v q ≡ far_heavy flank → balance_of v q ≢ 0 → value ≡ 0 → IsStepped v w at p None
         rise-light grown light_q set is = go around.3
           where
-            go : Leans flank (balance_of v q) p.there around.0 around.1 → IsStepped v w at p None
+            go : HasBalance flank (balance_of v q) p.there around.0 around.1 → IsStepped v w at p None
             go (inl l) = absurd (set l.0)
             go (inr (inl l)) = absurd (heavy-light flank (sym l.0 ∙ light_q))
             go (inr (inr l)) = stepped_done (inl (is, grown ∙ sym l.1, l.2))
@@ -159,7 +159,7 @@ module _ (v : View) (well : IsWell v) (at : End) (p : PlaceIn v at) where
         pub sink-heavy : p.there ≡ suc p.here → balance_of v q ≡ near_heavy flank → value ≡ 0 → IsStepped v w at p (Some end)
         sink-heavy sunk heavy_q is = go around.3
           where
-            go : Leans flank (balance_of v q) p.there around.0 around.1 → IsStepped v w at p (Some end)
+            go : HasBalance flank (balance_of v q) p.there around.0 around.1 → IsStepped v w at p (Some end)
             go (inl l) = absurd (heavy-set flank (sym heavy_q ∙ l.0))
             go (inr (inl l)) = stepped_on (suc around.0) (inl (is, omega (arith, sunk, l.1), refl)) (λ e. absurd (omega (arith, sunk, e))) (λ e. omega (arith, l.1, l.2)) (λ g. absurd (omega (arith, sunk, g)))
             go (inr (inr l)) = absurd (heavy-light flank (sym heavy_q ∙ l.0))
@@ -167,7 +167,7 @@ module _ (v : View) (well : IsWell v) (at : End) (p : PlaceIn v at) where
         pub sink-level : p.there ≡ suc p.here → balance_of v q ≡ 0 → value ≡ far_heavy flank → IsStepped v w at p None
         sink-level sunk zero_q is = go around.3
           where
-            go : Leans flank (balance_of v q) p.there around.0 around.1 → IsStepped v w at p None
+            go : HasBalance flank (balance_of v q) p.there around.0 around.1 → IsStepped v w at p None
             go (inl l) = stepped_done (inr (inr (is, sym l.1 ∙ sunk, l.2)))
             go (inr (inl l)) = absurd (heavy-set flank (sym l.0 ∙ zero_q))
             go (inr (inr l)) = absurd (light-set flank (sym l.0 ∙ zero_q))
@@ -187,7 +187,7 @@ module _ (v : View) (well : IsWell v) (at : End) (p : PlaceIn v at) where
         heavy : (p.there ≡ suc around.0) × (around.1 ≡ suc p.there)
         heavy = go around.3
           where
-            go : Leans flank (balance_of v q) p.there around.0 around.1 → (p.there ≡ suc around.0) × (around.1 ≡ suc p.there)
+            go : HasBalance flank (balance_of v q) p.there around.0 around.1 → (p.there ≡ suc around.0) × (around.1 ≡ suc p.there)
             go (inl l) = absurd (set l.0)
             go (inr (inl l)) = (l.1, l.2)
             go (inr (inr l)) = absurd (not_light l.0)
@@ -230,7 +230,7 @@ module _ (v : View) (well : IsWell v) (at : End) (p : PlaceIn v at) where
           sided Low a b = (a, b, refl)
           sided High a b = (b, a, refl)
 
-          child_set : Leaning v p.shape p.here → balance_of v x ≢ 0
+          child_set : IsTipped v p.shape p.here → balance_of v x ≢ 0
           child_set (inl one) zero_x = omega (arith, one, deep)
           child_set (inr all) zero_x = let w = sided flank root_of.0 root_of.1 in all w.0 x w.1 (root_of.2 ∙ w.2) zero_x
 
@@ -273,7 +273,7 @@ module _ (v : View) (well : IsWell v) (at : End) (p : PlaceIn v at) where
         light : (around.0 ≡ suc p.there) × (around.1 ≡ suc around.0)
         light = go around.3
           where
-            go : Leans flank (balance_of v q) p.there around.0 around.1 → (around.0 ≡ suc p.there) × (around.1 ≡ suc around.0)
+            go : HasBalance flank (balance_of v q) p.there around.0 around.1 → (around.0 ≡ suc p.there) × (around.1 ≡ suc around.0)
             go (inl l) = absurd (set l.0)
             go (inr (inl l)) = absurd (not_heavy l.0)
             go (inr (inr l)) = (l.1, l.2)

@@ -15,7 +15,7 @@ use Rattle.lsa_path.specs.laws.Paths.{same_field, same_object}
 use Rattle.lsa_shape.specs.declared.flank.Flank.{Flank}
 use Rattle.lsa_shape.specs.Flanks.{near_link, far_link}
 use Rattle.lsa_tree.specs.Entries.{balance_in, balance_of}
-use Rattle.lsa_tree.specs.calls.Placing.{IsRebalanced, IsTraded, IsTurned, traded}
+use Rattle.lsa_tree.specs.calls.Placing.{IsRebalanced, IsTraded, IsRotated, traded}
 use Rattle.lsa_tree.specs.laws.Trees.{same-objects}
 use Rattle.lsa_tree.proofs.Changed.{balances-then, balances-wider, rebalanced-others}
 
@@ -90,7 +90,7 @@ module _ (u x y z p w : View) (r q : Ref) (ne : r ≢ q)
   }
 
 -- the two exchanges of a rotation
-pub turned-is : (old middle new : End → Option End) (flank : Flank) (at : End) (y x : Ref) (n f : ℕ) → n ≡ near_link flank → f ≡ far_link flank → IsExchanged old middle at (Obj y n) → IsExchanged middle new (Obj y n) (Obj x f) → IsTurned old new flank at y x
+pub turned-is : (old middle new : End → Option End) (flank : Flank) (at : End) (y x : Ref) (n f : ℕ) → n ≡ near_link flank → f ≡ far_link flank → IsExchanged old middle at (Obj y n) → IsExchanged middle new (Obj y n) (Obj x f) → IsRotated old new flank at y x
 turned-is old middle new flank at y x n f near far first second = record {
   middle = middle;
   first = subst (λ m. IsExchanged old middle at (Obj y m)) near first;

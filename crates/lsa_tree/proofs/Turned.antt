@@ -15,7 +15,7 @@ use Rattle.lsa_shape.specs.laws.Places.{plug-changed, stays-out, plug-order, in-
 use Rattle.lsa_shape.specs.laws.Rotations.{hangs-turned, turned-stays, off-link}
 use Rattle.lsa_shape.specs.laws.Sides.{near-low, near-most, far-most, node-in, inorder-turned, near-root}
 use Rattle.lsa_tree.specs.declared.tree.Tree.{Tree}
-use Rattle.lsa_tree.specs.calls.Placing.{IsFormed, IsChanged, IsRebalanced, IsTurned}
+use Rattle.lsa_tree.specs.calls.Placing.{IsFormed, IsTreeChanged, IsRebalanced, IsRotated}
 use Rattle.lsa_tree.proofs.Placed.{body-there, formed-clear, formed-in, formed-there, formed-hole}
 use Rattle.lsa_tree.proofs.Changed.{changed-top, changed-body, changed-links, changed-balance}
 
@@ -29,7 +29,7 @@ same-members s t same z i = listed-in t z (subst (λ l. Contains l z) same (in-l
 
 module _ (tree : Tree) (v w : View) (refs : List Ref) where
   -- where links stay
-  pub formed-kept : (s : TreeShape) → ((e : End) → link_of w e ≡ link_of v e) → IsChanged v w tree refs → IsFormed tree v refs s → IsFormed tree w refs s
+  pub formed-kept : (s : TreeShape) → ((e : End) → link_of w e ≡ link_of v e) → IsTreeChanged v w tree refs → IsFormed tree v refs s → IsFormed tree w refs s
   formed-kept s links changed f = record {
     top = changed-top v w tree refs changed tree.top f.top;
     entries = λ z i. changed-body v w tree refs changed z (f.entries z i);
@@ -43,7 +43,7 @@ module _ (tree : Tree) (v w : View) (refs : List Ref) where
   -- where what hangs at a place was changed there, of the same objects in the same order
   module _ (well : IsWell v) (way : List Fork) (s t : TreeShape) (f : IsFormed tree v refs (plug way s)) (same : SameObjects v w) (here : HangsAt (link_of w) (hole tree.top way) t)
       (stays : StaysBeyond (link_of v) (link_of w) (hole tree.top way) (λ z. IsIn z s)) (order : inorder t ≡ inorder s) where
-    pub changed-there : IsChanged v w tree refs
+    pub changed-there : IsTreeChanged v w tree refs
     changed-there = changed-links v w tree refs same
         (stays-out (link_of v) (link_of w) well.paired tree.top way s (λ z. IsIn z s) (Contains refs) (λ z i. formed-in tree v refs (plug way s) f z (in-plug way s z i)) (λ z i. formed-in tree v refs (plug way s) f z i) stays)
 
@@ -90,13 +90,13 @@ module _ (tree : Tree) (v : View) (refs : List Ref) (well : IsWell v) (way : Lis
     ),
   )
 
-  module _ (w : View) (turned : IsTurned (link_of v) (link_of w) flank (hole tree.top way) y x) (same : SameObjects v w) where
+  module _ (w : View) (turned : IsRotated (link_of v) (link_of w) flank (hole tree.top way) y x) (same : SameObjects v w) where
     pub turned-formed : IsFormed tree w refs (plug way (node_on flank a x (node_on flank b y c)))
     turned-formed = formed-there_changed tree v w refs well way whole (node_on flank a x (node_on flank b y c)) f same
         (hangs-turned (link_of v) turned.middle (link_of w) well.paired flank (hole tree.top way) x y turned.first turned.second a b c at.0 at.1)
         (turned-stays (link_of v) turned.middle (link_of w) well.paired flank (hole tree.top way) x y turned.first turned.second a b c at.0 at.1) (inorder-turned flank a x b y c)
 
-    pub turned-changed : IsChanged v w tree refs
+    pub turned-changed : IsTreeChanged v w tree refs
     turned-changed = changed-there tree v w refs well way whole (node_on flank a x (node_on flank b y c)) f same
         (hangs-turned (link_of v) turned.middle (link_of w) well.paired flank (hole tree.top way) x y turned.first turned.second a b c at.0 at.1)
         (turned-stays (link_of v) turned.middle (link_of w) well.paired flank (hole tree.top way) x y turned.first turned.second a b c at.0 at.1) (inorder-turned flank a x b y c)

@@ -10,27 +10,27 @@ use Rattle.lsa_path.specs.Path.{entered}
 use Rattle.lsa_shape.specs.declared.flank.Flank.{Flank}
 use Rattle.lsa_shape.specs.Flanks.{other_flank, near_link, far_link, near_heavy, far_heavy}
 use Rattle.lsa_shape.specs.Shapes.{TreeShape, IsIn, HangsAt, IsClearOf, node_on}
-use Rattle.lsa_shape.specs.Ways.{Passed, plug, hole}
-use Rattle.lsa_shape.specs.Levels.{Leans, IsLevel}
+use Rattle.lsa_shape.specs.Ways.{ForkAt, plug, hole}
+use Rattle.lsa_shape.specs.Levels.{HasBalance, IsLevel}
 use Rattle.lsa_shape.specs.laws.Depths.{level-node, node-level, level-kept, around-kept, level-root}
 use Rattle.lsa_shape.specs.laws.Hanging.{field-off}
 use Rattle.lsa_shape.specs.laws.Places.{in-plug}
 use Rattle.lsa_shape.specs.laws.Sides.{near-root, far-root, node-in, hangs-node, far-most, other-node}
 use Rattle.lsa_tree.specs.Entries.{balance_in, balance_of}
-use Rattle.lsa_tree.specs.calls.Placing.{IsEntryBody, IsFormed, IsChanged, IsRebalanced, IsTurned, Steep, IsMended}
+use Rattle.lsa_tree.specs.calls.Placing.{IsEntryBody, IsFormed, IsTreeChanged, IsRebalanced, IsRotated, Steep, IsMended}
 use Rattle.lsa_tree.proofs.Placed.{body-there, below-some, below-node, formed-in, formed-hole}
 use Rattle.lsa_tree.proofs.Changed.{changed-then, changed-balance, rebalanced-others}
 use Rattle.lsa_tree.proofs.Turned.{Asks, formed-balance, turn-asks, turned-formed, turned-changed}
 use Rattle.lsa_tree.proofs.Mended.{heavy-set, light-set, heavy-light, steep-apart, near-x, near-p, between-x, between-p, far-x, far-p, near-between, between-far, around-not, whole-p, whole-x, whole-between, member-p, member-x, steep-x}
 
-leans_twice : (flank : Flank) (lean h k low : ℕ) → lean ≡ far_heavy flank → Leans flank lean h k (suc (suc low)) → (h ≡ low) × (k ≡ suc low)
+leans_twice : (flank : Flank) (lean h k low : ℕ) → lean ≡ far_heavy flank → HasBalance flank lean h k (suc (suc low)) → (h ≡ low) × (k ≡ suc low)
 leans_twice flank lean h k low is (inl w) = absurd (light-set flank (sym is ∙ w.0))
 leans_twice flank lean h k low is (inr (inl w)) = absurd (heavy-light flank (sym w.0 ∙ is))
 leans_twice flank lean h k low is (inr (inr w)) = (omega (arith, w.1, w.2), omega (arith, w.2))
 
 -- the balances that the other two have then
-leans_apart : (flank : Flank) (lean h k low to_x to_p : ℕ) → Leans flank lean h k (suc low) → (lean ≡ far_heavy flank → to_x ≡ near_heavy flank) → (lean ≢ far_heavy flank → to_x ≡ 0) → (lean ≡ near_heavy flank → to_p ≡ far_heavy flank) → (lean ≢ near_heavy flank → to_p ≡ 0)
-    → Leans flank to_x low h (suc low) × Leans flank to_p k low (suc low)
+leans_apart : (flank : Flank) (lean h k low to_x to_p : ℕ) → HasBalance flank lean h k (suc low) → (lean ≡ far_heavy flank → to_x ≡ near_heavy flank) → (lean ≢ far_heavy flank → to_x ≡ 0) → (lean ≡ near_heavy flank → to_p ≡ far_heavy flank) → (lean ≢ near_heavy flank → to_p ≡ 0)
+    → HasBalance flank to_x low h (suc low) × HasBalance flank to_p k low (suc low)
 leans_apart flank lean h k low to_x to_p (inl w) x_light x_else p_heavy p_else =
     let even : k ≡ low = omega (arith, w.2) in
     (inl (x_else (λ e. light-set flank (sym e ∙ w.0)), sym (w.1 ∙ even), ap (λ n. suc n) (sym (w.1 ∙ even))), inl (p_else (λ e. heavy-set flank (sym e ∙ w.0)), even, refl))
@@ -42,7 +42,7 @@ leans_apart flank lean h k low to_x to_p (inr (inr w)) x_light x_else p_heavy p_
     (inr (inl (x_light w.0, sym even ∙ w.1, refl)), inl (p_else (λ e. heavy-light flank (sym e ∙ w.0)), even, refl))
 
 module _ (v : View) (well : IsWell v) (flank : Flank) (at : End) (p x : Ref) (s : Steep v flank at p x) (leans : balance_of v x ≡ far_heavy flank) where
-  parts : (h : ℕ) × (k : ℕ) × IsLevel (balance_of v) s.near h × IsLevel (balance_of v) s.between k × Leans flank (balance_of v x) h k (suc (suc s.low))
+  parts : (h : ℕ) × (k : ℕ) × IsLevel (balance_of v) s.near h × IsLevel (balance_of v) s.between k × HasBalance flank (balance_of v x) h k (suc (suc s.low))
   parts = level-node (balance_of v) flank s.near x s.between (suc (suc s.low)) s.level
 
   depths : (parts.0 ≡ s.low) × (parts.1 ≡ suc s.low)
@@ -86,32 +86,32 @@ module _ (v : View) (well : IsWell v) (flank : Flank) (at : End) (p x : Ref) (s 
     no_p = between-p v well flank at p x s z z_in
 
     -- as the first rotation sees it, one place down and from the other side
-    form_below : IsFormed s.tree v s.refs (plug (Passed flank p s.far ∷ s.way) (node_on (other_flank flank) (node_on (other_flank flank) root.1 z root.0) x s.near))
-    form_below = subst (λ t. IsFormed s.tree v s.refs (plug (Passed flank p s.far ∷ s.way) t))
+    form_below : IsFormed s.tree v s.refs (plug (ForkAt flank p s.far ∷ s.way) (node_on (other_flank flank) (node_on (other_flank flank) root.1 z root.0) x s.near))
+    form_below = subst (λ t. IsFormed s.tree v s.refs (plug (ForkAt flank p s.far ∷ s.way) t))
         (ap (λ t. node_on flank s.near x t) (root.2 ∙ sym (other-node flank root.0 z root.1)) ∙ sym (other-node flank s.near x (node_on (other_flank flank) root.1 z root.0))) s.form
 
     pub twice-first : Asks v (other_flank flank) (Obj p (near_link flank)) x z
-    twice-first = turn-asks s.tree v s.refs well (Passed flank p s.far ∷ s.way) (other_flank flank) root.1 root.0 s.near z x form_below
+    twice-first = turn-asks s.tree v s.refs well (ForkAt flank p s.far ∷ s.way) (other_flank flank) root.1 root.0 s.near z x form_below
 
-    module _ (t : View) (turned : IsTurned (link_of v) (link_of t) (other_flank flank) (Obj p (near_link flank)) x z) (same : SameObjects v t) (well_t : IsWell t) where
+    module _ (t : View) (turned : IsRotated (link_of v) (link_of t) (other_flank flank) (Obj p (near_link flank)) x z) (same : SameObjects v t) (well_t : IsWell t) where
       form_t : IsFormed s.tree t s.refs (plug s.way (node_on flank (node_on flank (node_on flank s.near x root.0) z root.1) p s.far))
-      form_t = subst (λ u. IsFormed s.tree t s.refs (plug (Passed flank p s.far ∷ s.way) u))
+      form_t = subst (λ u. IsFormed s.tree t s.refs (plug (ForkAt flank p s.far ∷ s.way) u))
           (other-node flank (node_on (other_flank flank) root.0 x s.near) z root.1 ∙ ap (λ u. node_on flank u z root.1) (other-node flank s.near x root.0))
-          (turned-formed s.tree v s.refs well (Passed flank p s.far ∷ s.way) (other_flank flank) root.1 root.0 s.near z x form_below t turned same)
+          (turned-formed s.tree v s.refs well (ForkAt flank p s.far ∷ s.way) (other_flank flank) root.1 root.0 s.near z x form_below t turned same)
 
-      changed_t : IsChanged v t s.tree s.refs
-      changed_t = turned-changed s.tree v s.refs well (Passed flank p s.far ∷ s.way) (other_flank flank) root.1 root.0 s.near z x form_below t turned same
+      changed_t : IsTreeChanged v t s.tree s.refs
+      changed_t = turned-changed s.tree v s.refs well (ForkAt flank p s.far ∷ s.way) (other_flank flank) root.1 root.0 s.near z x form_below t turned same
 
       pub twice-second : Asks t flank at p z
       twice-second = subst (λ e. Asks t flank e p z) s.end (turn-asks s.tree t s.refs well_t s.way flank (node_on flank s.near x root.0) root.1 s.far z p form_t)
 
-      module _ (u : View) (turned_u : IsTurned (link_of t) (link_of u) flank at p z) (same_u : SameObjects t u) (a b w : View) (to_x to_p : ℕ)
+      module _ (u : View) (turned_u : IsRotated (link_of t) (link_of u) flank at p z) (same_u : SameObjects t u) (a b w : View) (to_x to_p : ℕ)
           (one : IsRebalanced u a x to_x) (two : IsRebalanced a b p to_p) (three : IsRebalanced b w z 0) where
         abbrev result : TreeShape
         result = node_on flank (node_on flank s.near x root.0) z (node_on flank root.1 p s.far)
 
-        turned_here : IsTurned (link_of t) (link_of u) flank (hole s.tree.top s.way) p z
-        turned_here = subst (λ e. IsTurned (link_of t) (link_of u) flank e p z) (sym s.end) turned_u
+        turned_here : IsRotated (link_of t) (link_of u) flank (hole s.tree.top s.way) p z
+        turned_here = subst (λ e. IsRotated (link_of t) (link_of u) flank e p z) (sym s.end) turned_u
 
         form_u : IsFormed s.tree u s.refs (plug s.way result)
         form_u = turned-formed s.tree t s.refs well_t s.way flank (node_on flank s.near x root.0) root.1 s.far z p form_t u turned_here same_u
@@ -120,7 +120,7 @@ module _ (v : View) (well : IsWell v) (flank : Flank) (at : End) (p x : Ref) (s 
         form_w = formed-balance s.tree b w s.refs (plug s.way result) z 0 member_z three
             (formed-balance s.tree a b s.refs (plug s.way result) p to_p (member-p v well flank at p x s) two (formed-balance s.tree u a s.refs (plug s.way result) x to_x (member-x v well flank at p x s) one form_u))
 
-        changed_w : IsChanged v w s.tree s.refs
+        changed_w : IsTreeChanged v w s.tree s.refs
         changed_w =
             let tree = s.tree in let refs = s.refs in
             changed-then v b tree refs w (changed-then v a tree refs b (changed-then v u tree refs a (changed-then v t tree refs u changed_t
@@ -170,8 +170,8 @@ module _ (v : View) (well : IsWell v) (flank : Flank) (at : End) (p x : Ref) (s 
               place = record {
                 form = form_w;
                 level = node-level (balance_of w) flank (node_on flank s.near x root.0) z (node_on flank root.1 p s.far) (suc s.low) (suc s.low) (suc (suc s.low))
-                    (node-level (balance_of w) flank s.near x root.0 s.low mid.0 (suc s.low) on_near on_low (subst (λ n. Leans flank n s.low mid.0 (suc s.low)) (sym level_x) apart.0))
-                    (node-level (balance_of w) flank root.1 p s.far mid.1 s.low (suc s.low) on_high on_far (subst (λ n. Leans flank n mid.1 s.low (suc s.low)) (sym level_p) apart.1))
+                    (node-level (balance_of w) flank s.near x root.0 s.low mid.0 (suc s.low) on_near on_low (subst (λ n. HasBalance flank n s.low mid.0 (suc s.low)) (sym level_x) apart.0))
+                    (node-level (balance_of w) flank root.1 p s.far mid.1 s.low (suc s.low) on_high on_far (subst (λ n. HasBalance flank n mid.1 s.low (suc s.low)) (sym level_p) apart.1))
                     (inl (three.written, refl, refl));
                 around = around-kept (balance_of v) (balance_of w) s.way s.there s.depth
                     (λ y i. level_y y (around-not v well flank at p x s y x (whole-x v well flank at p x s) i) (around-not v well flank at p x s y p (whole-p v well flank at p x s) i) (around-not v well flank at p x s y z (whole-between v well flank at p x s z z_in) i)) s.around;

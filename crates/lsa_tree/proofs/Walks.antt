@@ -11,7 +11,7 @@ use Rattle.lsa_shape.specs.declared.flank.Flank.{Flank}
 use Rattle.lsa_shape.specs.declared.flank.Flank.TheVariants.{Low, High}
 use Rattle.lsa_shape.specs.Flanks.{other_flank, near_link}
 use Rattle.lsa_shape.specs.Shapes.{TreeShape, Leaf, Node, inorder, HangsAt, node_on}
-use Rattle.lsa_shape.specs.Ways.{Fork, Passed, plug, hole, way_before, way_behind}
+use Rattle.lsa_shape.specs.Ways.{Fork, ForkAt, plug, hole, way_before, way_behind}
 use Rattle.lsa_shape.specs.Levels.{IsLevel, shape_size}
 use Rattle.lsa_shape.specs.Readings.{shape_at, steps_up, one_more}
 use Rattle.lsa_shape.specs.laws.Depths.{level-node}
@@ -22,7 +22,7 @@ use Rattle.lsa_tree.specs.Entries.{balance_of}
 use Rattle.lsa_tree.specs.Search.{first_entry, last_entry, last_entry_from}
 use Rattle.lsa_tree.specs.Tree.{IsTree}
 use Rattle.lsa_tree.specs.calls.Placing.{IsFormed, PlaceIn, owner_of, outermost}
-use Rattle.lsa_tree.specs.calls.Walking.{beside}
+use Rattle.lsa_tree.specs.calls.Walking.{neighbour_on}
 use Rattle.lsa_tree.specs.laws.Trees.{in-tree}
 use Rattle.lsa_tree.proofs.Placed.{body-there, below-none, below-some, below-unset, owner-none, owner-some, formed-there, formed-hole, formed-up, formed-read, tree-at, tree-formed, tree-placed}
 
@@ -70,7 +70,7 @@ module _ (v : View) (well : IsWell v) (summed : IsSummed v) (side : Flank) (star
     edging-step r some =
         let w = below-some (link_of v) at side t r edging-hangs some in
         let node = node_on side w.0 r w.1 in (
-          Passed side r w.1 ∷ way,
+          ForkAt side r w.1 ∷ way,
           w.0,
           record { form = subst (λ s. IsFormed p.tree v p.refs (plug way s)) w.2 e.form; end = refl; same = e.same ∙ ap (outermost side found) w.2 ∙ outer_node side found w.0 r w.1 },
           subst (λ n. shape_size w.0 < n) (ap shape_size (sym w.2)) (near_smaller side w.0 r w.1),
@@ -143,14 +143,14 @@ last_any a b (y ∷ ys) q e none = e
 
 -- the outermost of what is on a side is beside the entry
 beside_some : (side : Flank) (way : List Fork) (near far : TreeShape) (q : Ref) → outermost (other_flank side) None near ≡ Some q
-    → (l t : TreeShape) (r : Ref) → Node l r t ≡ node_on side near r far → beside side (way_before way ++ inorder l) (inorder t ++ way_behind way) ≡ Some q
+    → (l t : TreeShape) (r : Ref) → Node l r t ≡ node_on side near r far → neighbour_on side (way_before way ++ inorder l) (inorder t ++ way_behind way) ≡ Some q
 beside_some Low way near far q e l t r is = let same : l ≡ near = cc in
     ap (λ s. last_entry (way_before way ++ inorder s)) same ∙ last_join None (way_before way) (inorder near) ∙ last_any (last_entry (way_before way)) None (inorder near) q (sym (outer-last near) ∙ e) refl
 beside_some High way near far q e l t r is = let same : t ≡ near = cc in
     ap (λ s. first_entry (inorder s ++ way_behind way)) same ∙ first_some (inorder near) (way_behind way) q (sym (outer-first near) ∙ e)
 
 -- where nothing is there, those of the way are
-beside_none : (side : Flank) (way : List Fork) (far : TreeShape) (l t : TreeShape) (r : Ref) → Node l r t ≡ node_on side Leaf r far → beside side (way_before way ++ inorder l) (inorder t ++ way_behind way) ≡ beside side (way_before way) (way_behind way)
+beside_none : (side : Flank) (way : List Fork) (far : TreeShape) (l t : TreeShape) (r : Ref) → Node l r t ≡ node_on side Leaf r far → neighbour_on side (way_before way ++ inorder l) (inorder t ++ way_behind way) ≡ neighbour_on side (way_before way) (way_behind way)
 beside_none Low way far l t r is = let same : l ≡ Leaf = cc in ap (λ s. last_entry (way_before way ++ inorder s)) same ∙ ap last_entry (append-nil (way_before way))
 beside_none High way far l t r is = let same : t ≡ Leaf = cc in ap (λ s. first_entry (inorder s ++ way_behind way)) same
 
@@ -159,17 +159,17 @@ sided Low l t r = (l, t, refl)
 sided High l t r = (t, l, refl)
 
 -- a fork on the way
-beside_on : (side : Flank) (p : Ref) (s : TreeShape) (way : List Fork) → beside side (way_before (Passed side p s ∷ way)) (way_behind (Passed side p s ∷ way)) ≡ beside side (way_before way) (way_behind way)
+beside_on : (side : Flank) (p : Ref) (s : TreeShape) (way : List Fork) → neighbour_on side (way_before (ForkAt side p s ∷ way)) (way_behind (ForkAt side p s ∷ way)) ≡ neighbour_on side (way_before way) (way_behind way)
 beside_on Low p s way = ap last_entry (append-nil (way_before way))
 beside_on High p s way = refl
 
-beside_past : (side on : Flank) (p : Ref) (s : TreeShape) (way : List Fork) → on ≢ side → beside side (way_before (Passed on p s ∷ way)) (way_behind (Passed on p s ∷ way)) ≡ Some p
+beside_past : (side on : Flank) (p : Ref) (s : TreeShape) (way : List Fork) → on ≢ side → neighbour_on side (way_before (ForkAt on p s ∷ way)) (way_behind (ForkAt on p s ∷ way)) ≡ Some p
 beside_past Low Low p s way ne = absurd (ne refl)
 beside_past High High p s way ne = absurd (ne refl)
 beside_past Low High p s way ne = last_join None (way_before way) (inorder s ++ (p ∷ [])) ∙ last_past (last_entry (way_before way)) (inorder s) [] p
 beside_past High Low p s way ne = refl
 
-beside_top : (side : Flank) → beside side [] [] ≡ None
+beside_top : (side : Flank) → neighbour_on side [] [] ≡ None
 beside_top Low = refl
 beside_top High = refl
 
@@ -178,7 +178,7 @@ beside_top High = refl
 -- the entry r hangs at the end of a way, and beside the way is what is looked for
 pub record IsClimbing (v : View) (side : Flank) (tree : Tree) (refs : List Ref) (wanted : Option Ref) (r : Ref) (way : List Fork) (l t : TreeShape) : Type 0 where
   pub form : IsFormed tree v refs (plug way (Node l r t))
-  pub same : wanted ≡ beside side (way_before way) (way_behind way)
+  pub same : wanted ≡ neighbour_on side (way_before way) (way_behind way)
 
 -- how many entries lead up from one
 abbrev pub up_from : View → Ref → ℕ
@@ -203,7 +203,7 @@ module _ (v : View) (well : IsWell v) (summed : IsSummed v) where
         door_is d at = let both : Some (hole tree.top way) ≡ Some d = sym entry-door ∙ at in cc
 
     pub door-some : (e : End) (on : Flank) (p : Ref) → link_of v (Obj r 2) ≡ Some e → owner_of e ≡ Some (on, p)
-        → (s : TreeShape) × (rest : List Fork) × (way ≡ Passed on p s ∷ rest) × (near : TreeShape) × (far : TreeShape) × IsFormed tree v refs (plug rest (Node near p far))
+        → (s : TreeShape) × (rest : List Fork) × (way ≡ ForkAt on p s ∷ rest) × (near : TreeShape) × (far : TreeShape) × IsFormed tree v refs (plug rest (Node near p far))
     door-some e on p is some =
         let both : Some (hole tree.top way) ≡ Some e = sym entry-door ∙ is in let same : hole tree.top way ≡ e = cc in
         let w = owner-some v tree.top e form.top way on p same some in
@@ -215,7 +215,7 @@ module _ (v : View) (well : IsWell v) (summed : IsSummed v) where
         nodes High a q b = (b, a, refl)
 
   pub climbing-start : (side : Flank) (tree : Tree) (front back : List Ref) (r : Ref) → IsTree tree v (front ++ (r ∷ back)) → link_of v (Obj r (near_link side)) ≡ None
-      → (way : List Fork) × (l : TreeShape) × (t : TreeShape) × IsClimbing v side tree (front ++ (r ∷ back)) (beside side front back) r way l t
+      → (way : List Fork) × (l : TreeShape) × (t : TreeShape) × IsClimbing v side tree (front ++ (r ∷ back)) (neighbour_on side front back) r way l t
   climbing-start side tree front back r h unset =
       let w = tree-at tree v well front back r h in let way = w.0 in
       let n = sided side w.1 w.2 r in
@@ -226,17 +226,17 @@ module _ (v : View) (well : IsWell v) (summed : IsSummed v) where
         w.2,
         record {
           form = w.5.form;
-          same = (λ i. beside side (w.6 i) (w.7 i)) ∙ beside_none side way n.1 w.1 w.2 r (n.2 ∙ ap (λ s. node_on side s r n.1) leaf);
+          same = (λ i. neighbour_on side (w.6 i) (w.7 i)) ∙ beside_none side way n.1 w.1 w.2 r (n.2 ∙ ap (λ s. node_on side s r n.1) leaf);
         },
       )
 
   module _ (side : Flank) (tree : Tree) (refs : List Ref) (wanted : Option Ref) (r : Ref) (way : List Fork) (l t : TreeShape) (c : IsClimbing v side tree refs wanted r way l t) where
     pub climbing-none : (e : End) → link_of v (Obj r 2) ≡ Some e → owner_of e ≡ None → None ≡ wanted
-    climbing-none e is none = let w = door-none tree refs way l t r c.form e is none in sym (c.same ∙ (λ i. beside side (way_before (w.0 i)) (way_behind (w.0 i))) ∙ beside_top side)
+    climbing-none e is none = let w = door-none tree refs way l t r c.form e is none in sym (c.same ∙ (λ i. neighbour_on side (way_before (w.0 i)) (way_behind (w.0 i))) ∙ beside_top side)
 
     pub climbing-past : (e : End) (on : Flank) (p : Ref) → link_of v (Obj r 2) ≡ Some e → owner_of e ≡ Some (on, p) → on ≢ side → Some p ≡ wanted
     climbing-past e on p is some ne = let w = door-some tree refs way l t r c.form e on p is some in
-        sym (c.same ∙ (λ i. beside side (way_before (w.2 i)) (way_behind (w.2 i))) ∙ beside_past side on p w.0 w.1 ne)
+        sym (c.same ∙ (λ i. neighbour_on side (way_before (w.2 i)) (way_behind (w.2 i))) ∙ beside_past side on p w.0 w.1 ne)
 
     pub climbing-on : (e : End) (on : Flank) (p : Ref) → link_of v (Obj r 2) ≡ Some e → owner_of e ≡ Some (on, p) → on ≡ side
         → (rest : List Fork) × (near : TreeShape) × (far : TreeShape) × IsClimbing v side tree refs wanted p rest near far
@@ -246,7 +246,7 @@ module _ (v : View) (well : IsWell v) (summed : IsSummed v) where
       w.4,
       record {
         form = w.5;
-        same = c.same ∙ (λ i. beside side (way_before (w.2 i)) (way_behind (w.2 i))) ∙ (λ i. beside side (way_before (Passed (same i) p w.0 ∷ w.1)) (way_behind (Passed (same i) p w.0 ∷ w.1))) ∙ beside_on side p w.0 w.1;
+        same = c.same ∙ (λ i. neighbour_on side (way_before (w.2 i)) (way_behind (w.2 i))) ∙ (λ i. neighbour_on side (way_before (ForkAt (same i) p w.0 ∷ w.1)) (way_behind (ForkAt (same i) p w.0 ∷ w.1))) ∙ beside_on side p w.0 w.1;
       },
     )
 
@@ -266,7 +266,7 @@ module _ (v : View) (well : IsWell v) (summed : IsSummed v) where
         record {
           tree = tree;
           refs = refs;
-          way = Passed side r n.1 ∷ w.0;
+          way = ForkAt side r n.1 ∷ w.0;
           shape = n.0;
           here = level.0;
           there = level.0;
@@ -276,10 +276,10 @@ module _ (v : View) (well : IsWell v) (summed : IsSummed v) where
         }
 
     -- is what is beside it, where something is
-    pub side-some : (q : Ref) → outermost (other_flank side) None (sided side (tree-at tree v well front back r h).1 (tree-at tree v well front back r h).2 r).0 ≡ Some q → Some q ≡ beside side front back
+    pub side-some : (q : Ref) → outermost (other_flank side) None (sided side (tree-at tree v well front back r h).1 (tree-at tree v well front back r h).2 r).0 ≡ Some q → Some q ≡ neighbour_on side front back
     side-some q e =
         let w = tree-at tree v well front back r h in let n = sided side w.1 w.2 r in
-        sym ((λ i. beside side (w.6 i) (w.7 i)) ∙ beside_some side w.0 n.0 n.1 q e w.1 w.2 r n.2)
+        sym ((λ i. neighbour_on side (w.6 i) (w.7 i)) ∙ beside_some side w.0 n.0 n.1 q e w.1 w.2 r n.2)
 
     pub side-none : outermost (other_flank side) None (sided side (tree-at tree v well front back r h).1 (tree-at tree v well front back r h).2 r).0 ≡ None → link_of v (Obj r (near_link side)) ≡ None
     side-none e =
@@ -295,7 +295,7 @@ module _ (v : View) (well : IsWell v) (summed : IsSummed v) where
       outer_shape : found ≡ outermost (other_flank side) None (sided side (tree-at tree v well front back r h).1 (tree-at tree v well front back r h).2 r).0
       outer_shape = (subst (λ m. ((p : PlaceIn v (Obj r m)) → found ≡ outermost (other_flank side) None p.shape)) is_near (subst (λ o. ((p : PlaceIn v (Obj r n)) → found ≡ outermost o None p.shape)) is_other outer)) side-place
 
-      pub edge-some : (q : Ref) → found ≡ Some q → Some q ≡ beside side front back
+      pub edge-some : (q : Ref) → found ≡ Some q → Some q ≡ neighbour_on side front back
       edge-some q is = side-some q (sym outer_shape ∙ is)
 
       pub edge-none : found ≡ None → link_of v (Obj r (near_link side)) ≡ None

@@ -5,7 +5,7 @@ ghost use Rattle.lsa_region.specs.Region.{body, link_of, IsEnd, IsWell, SameObje
 ghost use Rattle.lsa_path.specs.Path.{entered};
 ghost use Rattle.lsa_shape.specs.Flanks.{near_link, far_link};
 ghost use Rattle.lsa_tree.specs.Entries.{balance_of};
-ghost use Rattle.lsa_tree.specs.calls.Placing.{IsEntryBody, IsRebalanced, IsTurned, IsTraded, owner_of};
+ghost use Rattle.lsa_tree.specs.calls.Placing.{IsEntryBody, IsRebalanced, IsRotated, IsTraded, owner_of};
 
 use lsa_kinds::layout::entry::Balance;
 use lsa_region::{End, Ref, Region};
@@ -108,7 +108,7 @@ pub(crate) fn turn<const S: usize>(region: &mut Region<S>, side: Flank, at: End,
     requires x { IsEnd region.old (Obj x (far_link side)) }
     requires apart { at ≢ Obj y (near_link side) }
     requires differ { Obj y (near_link side) ≢ Obj x (far_link side) }
-    ensures turned { IsTurned (link_of region.old) (link_of region.new) side at y x }
+    ensures turned { IsRotated (link_of region.old) (link_of region.new) side at y x }
     ensures objects { SameObjects region.old region.new }
     ensures well { IsWell region.new }
 {

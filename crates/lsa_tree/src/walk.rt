@@ -7,7 +7,7 @@ ghost use Rattle.lsa_shape.specs.Flanks.{near_link};
 ghost use Rattle.lsa_tree.specs.declared.tree.Tree.{Tree as Ordered};
 ghost use Rattle.lsa_tree.specs.Tree.{IsTree};
 ghost use Rattle.lsa_tree.specs.calls.Placing.{PlaceIn, outermost};
-ghost use Rattle.lsa_tree.specs.calls.Walking.{beside};
+ghost use Rattle.lsa_tree.specs.calls.Walking.{neighbour_on};
 
 use crate::links::{below, door, owner};
 use lsa_region::{End, Ref, Region};
@@ -36,7 +36,7 @@ pub(crate) fn edge<const S: usize>(region: &Region<S>, side: Flank, start: End) 
 /// The first entry on the way up from an entry of which that one is on the other side.
 fn above<const S: usize>(region: &Region<S>, side: Flank, start: Ref) -> Option<Ref>
     requires { (tree : Ordered) × (front : List Name) × (back : List Name) × IsTree tree region.now (front ++ (start ∷ back)) }
-    ensures { (tree : Ordered) (front back : List Name) → IsTree tree region.now (front ++ (start ∷ back)) → link_of region.now (Obj start (near_link side)) ≡ None → result ≡ beside side front back }
+    ensures { (tree : Ordered) (front back : List Name) → IsTree tree region.now (front ++ (start ∷ back)) → link_of region.now (Obj start (near_link side)) ≡ None → result ≡ neighbour_on side front back }
 {
     region.known();
     let mut r = start;
@@ -57,7 +57,7 @@ fn above<const S: usize>(region: &Region<S>, side: Flank, start: Ref) -> Option<
 /// The next entry on this side of one of the entries of a tree.
 pub(crate) fn neighbour<const S: usize>(region: &Region<S>, side: Flank, r: Ref) -> Option<Ref>
     requires { (tree : Ordered) × (front : List Name) × (back : List Name) × IsTree tree region.now (front ++ (r ∷ back)) }
-    ensures { (tree : Ordered) (front back : List Name) → IsTree tree region.now (front ++ (r ∷ back)) → result ≡ beside side front back }
+    ensures { (tree : Ordered) (front back : List Name) → IsTree tree region.now (front ++ (r ∷ back)) → result ≡ neighbour_on side front back }
 {
     region.known();
     match edge(region, side.other(), End::Obj(r, side.near())) {

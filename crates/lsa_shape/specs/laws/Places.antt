@@ -11,7 +11,7 @@ use Rattle.lsa_shape.specs.declared.flank.Flank.{Flank}
 use Rattle.lsa_shape.specs.declared.flank.Flank.TheVariants.{Low, High}
 use Rattle.lsa_shape.specs.Flanks.{near_link, far_link}
 use Rattle.lsa_shape.specs.Shapes.{TreeShape, Leaf, Node, inorder, IsIn, HangsAt, IsOff, IsClearOf, StaysBeyond, node_on}
-use Rattle.lsa_shape.specs.Ways.{Fork, Passed, plug, hole, fork_before, fork_behind, way_before, way_behind, IsAround}
+use Rattle.lsa_shape.specs.Ways.{Fork, ForkAt, plug, hole, fork_before, fork_behind, way_before, way_behind, IsAround}
 use Rattle.lsa_shape.specs.laws.Hanging.{field-off, hangs-moved}
 use Rattle.lsa_shape.specs.laws.Sides.{near_differs, in-node, node-in, inorder-node, hangs-node, node-hangs, near-root, near-clear, far-root, sides-apart}
 
@@ -19,25 +19,25 @@ use Rattle.lsa_shape.specs.laws.Sides.{near_differs, in-node, node-in, inorder-n
 
 pub in-plug : (way : List Fork) (s : TreeShape) (z : Ref) → IsIn z s → IsIn z (plug way s)
 in-plug [] s z i = i
-in-plug (Passed flank r beside ∷ way) s z i = in-plug way (node_on flank s r beside) z (node-in flank s r beside z (inr (inl i)))
+in-plug (ForkAt flank r beside ∷ way) s z i = in-plug way (node_on flank s r beside) z (node-in flank s r beside z (inr (inl i)))
 
 pub around-plug : (way : List Fork) (s : TreeShape) (z : Ref) → IsAround z way → IsIn z (plug way s)
 around-plug [] s z i = absurd i
-around-plug (Passed flank r beside ∷ way) s z (inl same) = in-plug way (node_on flank s r beside) z (node-in flank s r beside z (inl same))
-around-plug (Passed flank r beside ∷ way) s z (inr (inl i)) = in-plug way (node_on flank s r beside) z (node-in flank s r beside z (inr (inr i)))
-around-plug (Passed flank r beside ∷ way) s z (inr (inr i)) = around-plug way (node_on flank s r beside) z i
+around-plug (ForkAt flank r beside ∷ way) s z (inl same) = in-plug way (node_on flank s r beside) z (node-in flank s r beside z (inl same))
+around-plug (ForkAt flank r beside ∷ way) s z (inr (inl i)) = in-plug way (node_on flank s r beside) z (node-in flank s r beside z (inr (inr i)))
+around-plug (ForkAt flank r beside ∷ way) s z (inr (inr i)) = around-plug way (node_on flank s r beside) z i
 
 pub plug-in : (way : List Fork) (s : TreeShape) (z : Ref) → IsIn z (plug way s) → IsIn z s ⊎ IsAround z way
 plug-in [] s z i = inl i
-plug-in (Passed flank r beside ∷ way) s z i = elim (plug-in way (node_on flank s r beside) z i) [
+plug-in (ForkAt flank r beside ∷ way) s z i = elim (plug-in way (node_on flank s r beside) z i) [
   | inl here ↦ elim (in-node flank s r beside z here) [ inl same ↦ inr (inl same) | inr (inl near) ↦ inl near | inr (inr far) ↦ inr (inr (inl far)) ]
   | inr there ↦ inr (inr (inr there))
 ]
 
 pub inorder-plug : (way : List Fork) (s : TreeShape) → inorder (plug way s) ≡ way_before way ++ (inorder s ++ way_behind way)
 inorder-plug [] s = sym (append-nil (inorder s))
-inorder-plug (Passed flank r beside ∷ way) s =
-    let fork = Passed flank r beside in let front = fork_before fork in let back = fork_behind fork in
+inorder-plug (ForkAt flank r beside ∷ way) s =
+    let fork = ForkAt flank r beside in let front = fork_before fork in let back = fork_behind fork in
     inorder-plug way (node_on flank s r beside) ∙ ap (λ l. way_before way ++ (l ++ way_behind way)) (inorder-node flank s r beside)
     ∙ ap (λ l. way_before way ++ l) (append_assoc front (inorder s ++ back) (way_behind way) ∙ ap (λ l. front ++ l) (append_assoc (inorder s) back (way_behind way)))
     ∙ sym (append_assoc (way_before way) front (inorder s ++ (back ++ way_behind way)))
@@ -50,31 +50,31 @@ plug-order way s t same = inorder-plug way t ∙ ap (λ l. way_before way ++ (l 
 pub way-to : (way : List Fork) (s : TreeShape) (z : Ref) → IsIn z s → (on : List Fork) × (l : TreeShape) × (t : TreeShape) × (plug on (Node l z t) ≡ plug way s)
 way-to way Leaf z i = absurd i
 way-to way (Node l r t) z (inl same) = (way, l, t, ap (λ q. plug way (Node l q t)) same)
-way-to way (Node l r t) z (inr (inl low)) = way-to (Passed Low r t ∷ way) l z low
-way-to way (Node l r t) z (inr (inr high)) = way-to (Passed High r l ∷ way) t z high
+way-to way (Node l r t) z (inr (inl low)) = way-to (ForkAt Low r t ∷ way) l z low
+way-to way (Node l r t) z (inr (inr high)) = way-to (ForkAt High r l ∷ way) t z high
 
 -- ---- what hangs around a place
 
 -- each fork hangs where the place behind it does, and what is beside it on its other side
 abbrev pub HangsAround : (End → Option End) → End → List Fork → Type 0
 HangsAround named start [] = ⊤
-HangsAround named start (Passed flank r beside ∷ way) = (named (hole start way) ≡ Some (Obj r 2)) × HangsAt named (Obj r (far_link flank)) beside × HangsAround named start way
+HangsAround named start (ForkAt flank r beside ∷ way) = (named (hole start way) ≡ Some (Obj r 2)) × HangsAt named (Obj r (far_link flank)) beside × HangsAround named start way
 
 module _ (named : End → Option End) (start : End) where
   pub hangs-around : (way : List Fork) (s : TreeShape) → HangsAt named start (plug way s) → HangsAround named start way × HangsAt named (hole start way) s
   hangs-around [] s h = (tt, h)
-  hangs-around (Passed flank r beside ∷ way) s h =
+  hangs-around (ForkAt flank r beside ∷ way) s h =
       let w = hangs-around way (node_on flank s r beside) h in let n = hangs-node named flank (hole start way) s r beside w.1 in ((n.0, n.2, w.0), n.1)
 
   pub around-hangs : (way : List Fork) (s : TreeShape) → HangsAround named start way → HangsAt named (hole start way) s → HangsAt named start (plug way s)
   around-hangs [] s a h = h
-  around-hangs (Passed flank r beside ∷ way) s a h = around-hangs way (node_on flank s r beside) a.2 (node-hangs named flank (hole start way) s r beside a.0 h a.1)
+  around-hangs (ForkAt flank r beside ∷ way) s a h = around-hangs way (node_on flank s r beside) a.2 (node-hangs named flank (hole start way) s r beside a.0 h a.1)
 
 -- the end is the start, or a link of an object around the place
 abbrev pub IsAroundEnd : End → End → List Fork → Type 0
 IsAroundEnd e start way = (e ≡ start) ⊎ ((z : Ref) × IsAround z way × ((e ≡ Obj z 3) ⊎ (e ≡ Obj z 4)))
 
-further : (e start : End) (flank : Flank) (r : Ref) (beside : TreeShape) (way : List Fork) → IsAroundEnd e start way → IsAroundEnd e start (Passed flank r beside ∷ way)
+further : (e start : End) (flank : Flank) (r : Ref) (beside : TreeShape) (way : List Fork) → IsAroundEnd e start way → IsAroundEnd e start (ForkAt flank r beside ∷ way)
 further e start flank r beside way (inl same) = inl same
 further e start flank r beside way (inr w) = inr (w.0, inr (inr w.1), w.2)
 
@@ -88,20 +88,20 @@ far_end High r = inl refl
 
 pub hole-end : (start : End) (way : List Fork) → IsAroundEnd (hole start way) start way
 hole-end start [] = inl refl
-hole-end start (Passed flank r beside ∷ way) = inr (r, inl refl, near_end flank r)
+hole-end start (ForkAt flank r beside ∷ way) = inr (r, inl refl, near_end flank r)
 
 module _ (named : End → Option End) (well : WellPaired named) (start : End) where
   -- what is at a place hangs there, and the place is no link of it
   pub at-hole : (way : List Fork) (s : TreeShape) → HangsAt named start (plug way s) → IsClearOf start (plug way s) → HangsAt named (hole start way) s × IsClearOf (hole start way) s
   at-hole [] s h clear = (h, clear)
-  at-hole (Passed flank r beside ∷ way) s h clear =
+  at-hole (ForkAt flank r beside ∷ way) s h clear =
       let w = at-hole way (node_on flank s r beside) h clear in
       ((hangs-node named flank (hole start way) s r beside w.0).1, near-clear named well flank (hole start way) s r beside w.0 w.1 (near_link flank))
 
   -- none of its objects is around it
   pub around-apart : (way : List Fork) (s : TreeShape) → HangsAt named start (plug way s) → IsClearOf start (plug way s) → (z : Ref) → IsIn z s → IsAround z way → ⊥
   around-apart [] s h clear z i j = j
-  around-apart (Passed flank r beside ∷ way) s h clear z i j =
+  around-apart (ForkAt flank r beside ∷ way) s h clear z i j =
       let w = at-hole way (node_on flank s r beside) h clear in
       elim j [
         | inl same ↦ near-root named well flank (hole start way) s r beside w.0 w.1 (subst (λ x. IsIn x s) same i)
@@ -113,7 +113,7 @@ module _ (named : End → Option End) (well : WellPaired named) (start : End) wh
 module _ (old new : End → Option End) (well : WellPaired old) (start : End) where
   pub around-stays : (way : List Fork) (s : TreeShape) → HangsAt old start (plug way s) → IsClearOf start (plug way s) → ((e : End) → IsAroundEnd e start way → e ≢ hole start way → new e ≡ old e) → HangsAround new start way
   around-stays [] s h clear keep = tt
-  around-stays (Passed flank r beside ∷ way) s h clear keep =
+  around-stays (ForkAt flank r beside ∷ way) s h clear keep =
       let node = node_on flank s r beside in let w = at-hole old well start way node h clear in let near = near_link flank in
       let root : IsIn r node = node-in flank s r beside r (inl refl) in
       let others : (z : Ref) → IsIn z beside → z ≢ r = λ z i same. far-root old well flank (hole start way) s r beside w.0 w.1 (subst (λ x. IsIn x beside) same i) in

@@ -13,7 +13,7 @@ use Rattle.lsa_shape.specs.declared.flank.Flank.{Flank}
 use Rattle.lsa_shape.specs.declared.flank.Flank.TheVariants.{Low, High}
 use Rattle.lsa_shape.specs.Flanks.{near_link}
 use Rattle.lsa_shape.specs.Shapes.{TreeShape, Leaf, Node, inorder, HangsAt, IsClearOf}
-use Rattle.lsa_shape.specs.Ways.{Fork, Passed, plug, hole}
+use Rattle.lsa_shape.specs.Ways.{Fork, ForkAt, plug, hole}
 use Rattle.lsa_shape.specs.Levels.{shape_size}
 use Rattle.lsa_shape.specs.Readings.{rooted, shape_at, one_more, steps_up, LeadsUp, way_objects}
 use Rattle.lsa_shape.specs.laws.Hanging.{listed-in, root-low, root-high, parts-apart, root-clear_low, root-clear_high}
@@ -43,7 +43,7 @@ module _ (named : End → Option End) (well : WellPaired named) (v : Ref) where
   up_around zero [] le h = refl
   up_around (suc most) [] le h = refl
   up_around zero (fork ∷ way) le h = absurd (omega (arith, le))
-  up_around (suc most) (Passed flank r beside ∷ way) le h =
+  up_around (suc most) (ForkAt flank r beside ∷ way) le h =
       ap (λ b. cond b 0 (one_more (steps_up most named) (named (Obj r 2)))) (near_not_two flank)
       ∙ ap (one_more (steps_up most named)) (well.mates (hole (Obj v 2) way) (Obj r 2) h.0)
       ∙ ap (λ n. suc n) (up_around most way (omega (arith, le)) h.2)
@@ -55,8 +55,8 @@ module _ (named : End → Option End) (well : WellPaired named) (v : Ref) where
 module _ (named : End → Option End) (well : WellPaired named) (start : End) where
   leads_around : (r : Ref) (way : List Fork) → named (hole start way) ≡ Some (Obj r 2) → HangsAround named start way → LeadsUp named start r (way_objects way)
   leads_around r [] here h = well.mates start (Obj r 2) here
-  leads_around r (Passed Low q beside ∷ way) here h = (inl (well.mates (Obj q 3) (Obj r 2) here), leads_around q way h.0 h.2)
-  leads_around r (Passed High q beside ∷ way) here h = (inr (well.mates (Obj q 4) (Obj r 2) here), leads_around q way h.0 h.2)
+  leads_around r (ForkAt Low q beside ∷ way) here h = (inl (well.mates (Obj q 3) (Obj r 2) here), leads_around q way h.0 h.2)
+  leads_around r (ForkAt High q beside ∷ way) here h = (inr (well.mates (Obj q 4) (Obj r 2) here), leads_around q way h.0 h.2)
 
   -- the objects of the way lead up from the object at the place
   pub way-leads : (way : List Fork) (l t : TreeShape) (r : Ref) → HangsAt named start (plug way (Node l r t)) → LeadsUp named start r (way_objects way)
@@ -64,7 +64,7 @@ module _ (named : End → Option End) (well : WellPaired named) (start : End) wh
 
 pub objects-long : (way : List Fork) → length (way_objects way) ≡ length way
 objects-long [] = refl
-objects-long (Passed flank r beside ∷ way) = ap (λ n. suc n) (objects-long way)
+objects-long (ForkAt flank r beside ∷ way) = ap (λ n. suc n) (objects-long way)
 
 -- ---- each once
 

@@ -9,7 +9,7 @@ use Rattle.lsa_shape.specs.declared.flank.Flank.{Flank}
 use Rattle.lsa_shape.specs.declared.flank.Flank.TheVariants.{Low, High}
 use Rattle.lsa_shape.specs.Flanks.{other_flank, near_link, far_link, near_heavy, far_heavy}
 use Rattle.lsa_shape.specs.Shapes.{TreeShape, inorder, IsIn, HangsAt, IsClearOf, node_on}
-use Rattle.lsa_shape.specs.Ways.{Passed, fork_before, fork_behind}
+use Rattle.lsa_shape.specs.Ways.{ForkAt, fork_before, fork_behind}
 use Rattle.lsa_shape.specs.laws.Hanging.{root-low, root-high, root-clear_low, root-clear_high, parts-apart}
 
 -- ---- links
@@ -73,7 +73,7 @@ node-in High near r far z (inl same) = inl same
 node-in High near r far z (inr (inl i)) = inr (inr i)
 node-in High near r far z (inr (inr i)) = inr (inl i)
 
-pub inorder-node : (flank : Flank) (near : TreeShape) (r : Ref) (far : TreeShape) → inorder (node_on flank near r far) ≡ fork_before (Passed flank r far) ++ (inorder near ++ fork_behind (Passed flank r far))
+pub inorder-node : (flank : Flank) (near : TreeShape) (r : Ref) (far : TreeShape) → inorder (node_on flank near r far) ≡ fork_before (ForkAt flank r far) ++ (inorder near ++ fork_behind (ForkAt flank r far))
 inorder-node Low near r far = refl
 inorder-node High near r far = sym (append_assoc (inorder far) (r ∷ []) (inorder near ++ []) ∙ ap (λ l. inorder far ++ (r ∷ l)) (append-nil (inorder near)))
 

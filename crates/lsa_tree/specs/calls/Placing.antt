@@ -55,7 +55,7 @@ pub record IsVacant (tree : Tree) (v : View) (front back : List Ref) (at : End) 
   pub behind : way_behind way ≡ back
 
 -- what a change of one tree changes: its top, and links and balances of these
-pub record IsChanged (old new : View) (tree : Tree) (members : List Ref) : Type 0 where
+pub record IsTreeChanged (old new : View) (tree : Tree) (members : List Ref) : Type 0 where
   pub links : StaysBeyond (link_of old) (link_of new) tree.top (Contains members)
   pub objects : SameButBalances old new members
 
@@ -82,7 +82,7 @@ pub record IsRebalanced (old new : View) (r : Ref) (balance : ℕ) : Type 0 wher
   pub objects : SameButBalances old new (r ∷ [])
 
 -- the end has changed places with the near link of y, and that one then with the far link of x
-pub record IsTurned (old new : End → Option End) (flank : Flank) (at : End) (y x : Ref) : Type 0 where
+pub record IsRotated (old new : End → Option End) (flank : Flank) (at : End) (y x : Ref) : Type 0 where
   pub middle : End → Option End
   pub first : IsExchanged old middle at (Obj y (near_link flank))
   pub second : IsExchanged middle new (Obj y (near_link flank)) (Obj x (far_link flank))
@@ -113,27 +113,27 @@ pub record IsMended (old new : View) (flank : Flank) (at : End) (p x : Ref) (s :
   pub as_deep : same ≡ true → here ≡ suc (suc (suc s.low))
   pub less_deep : same ≡ false → here ≡ suc (suc s.low)
   pub even : same ≡ true → balance_of old x ≡ 0
-  pub changed : IsChanged old new s.tree s.refs
+  pub changed : IsTreeChanged old new s.tree s.refs
   pub level : balance_of old x ≢ 0 → (z : Ref) → balance_of old z ≡ 0 → balance_of new z ≡ 0
 
 -- a tree that was put in: one entry, or one whose root is deeper on one side
-abbrev pub Leaning : View → TreeShape → ℕ → Type 0
-Leaning v shape here = (here ≡ 1) ⊎ ((l : TreeShape) (r : Ref) (t : TreeShape) → shape ≡ Node l r t → balance_of v r ≢ 0)
+abbrev pub IsTipped : View → TreeShape → ℕ → Type 0
+IsTipped v shape here = (here ≡ 1) ⊎ ((l : TreeShape) (r : Ref) (t : TreeShape) → shape ≡ Node l r t → balance_of v r ≢ 0)
 
 -- one step up: the tree is balanced, or the place above is as that one was
 pub record IsStepped (old new : View) (at : End) (p : PlaceIn old at) (next : Option End) : Type 0 where
-  pub changed : IsChanged old new p.tree p.refs
+  pub changed : IsTreeChanged old new p.tree p.refs
   pub done : next ≡ None → (shape : TreeShape) × (depth : ℕ) × IsBalanced p.tree new p.refs shape depth
   pub on : (e : End) → next ≡ Some e → (way : List Fork) × (shape : TreeShape) × (here : ℕ) × (there : ℕ) × IsPlaced p.tree new p.refs way shape here there p.depth × (hole p.tree.top way ≡ e)
       × (suc (length way) ≡ length p.way) × ((p.here ≡ suc p.there → here ≡ suc there) × (p.there ≡ suc p.here → there ≡ suc here)) × ((z : Ref) → IsIn z p.shape → IsIn z shape)
-      × (p.here ≡ suc p.there → Leaning old p.shape p.here → Leaning new shape here)
-  pub level : p.here ≡ suc p.there → Leaning old p.shape p.here → (z : Ref) → IsIn z p.shape → balance_of old z ≡ 0 → balance_of new z ≡ 0
+      × (p.here ≡ suc p.there → IsTipped old p.shape p.here → IsTipped new shape here)
+  pub level : p.here ≡ suc p.there → IsTipped old p.shape p.here → (z : Ref) → IsIn z p.shape → balance_of old z ≡ 0 → balance_of new z ≡ 0
 
 -- the whole tree is balanced, of the same entries
 pub record IsSettled (old new : View) (at : End) (p : PlaceIn old at) : Type 0 where
-  pub changed : IsChanged old new p.tree p.refs
+  pub changed : IsTreeChanged old new p.tree p.refs
   pub done : (shape : TreeShape) × (depth : ℕ) × IsBalanced p.tree new p.refs shape depth
-  pub level : p.here ≡ suc p.there → Leaning old p.shape p.here → (z : Ref) → IsIn z p.shape → balance_of old z ≡ 0 → balance_of new z ≡ 0
+  pub level : p.here ≡ suc p.there → IsTipped old p.shape p.here → (z : Ref) → IsIn z p.shape → balance_of old z ≡ 0 → balance_of new z ≡ 0
 
 -- r where q was and q where r was, in each link of a tree
 abbrev pub traded : Ref → Ref → End → End
@@ -164,7 +164,7 @@ pub record IsCut (old new : View) (flank : Flank) (r : Ref) (w : Loosened old fl
   pub parent : link_of new (Obj r 2) ≡ None
   pub left : link_of new (Obj r 3) ≡ None
   pub right : link_of new (Obj r 4) ≡ None
-  pub changed : IsChanged old new w.tree w.refs
+  pub changed : IsTreeChanged old new w.tree w.refs
 
 -- an entry is out of its tree, which is balanced but for this place, less deep by one
 pub record IsOut (old new : View) (tree : Tree) (refs rest : List Ref) (r : Ref) (at : End) (way : List Fork) (shape : TreeShape) (here depth : ℕ) : Type 0 where
@@ -173,4 +173,4 @@ pub record IsOut (old new : View) (tree : Tree) (refs rest : List Ref) (r : Ref)
   pub parent : link_of new (Obj r 2) ≡ None
   pub left : link_of new (Obj r 3) ≡ None
   pub right : link_of new (Obj r 4) ≡ None
-  pub changed : IsChanged old new tree refs
+  pub changed : IsTreeChanged old new tree refs

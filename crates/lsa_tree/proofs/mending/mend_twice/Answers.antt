@@ -3,7 +3,7 @@ use Rattle.lsa_region.specs.declared.end.End.TheVariants.{Obj}
 use Rattle.lsa_region.specs.Region.{link_of, IsEnd}
 use Rattle.lsa_path.specs.Path.{entered}
 use Rattle.lsa_shape.specs.declared.flank.Flank.{Flank}
-use Rattle.lsa_tree.specs.calls.Placing.{IsTurned}
+use Rattle.lsa_tree.specs.calls.Placing.{IsRotated}
 use Rattle.lsa_tree.proofs.Changed.{same-body, rebalanced-body}
 use Rattle.lsa_tree.proofs.Mended.{steep-x, steep-p}
 use Rattle.lsa_tree.proofs.Turned.{Asks}
@@ -28,7 +28,7 @@ turn-requires g c =
 pub turn-requires-2 : goal.turn-requires-2
 turn-requires-2 g c =
     let v = c.args.region.now in let t = c.turn.new.region in let z = c.child-z.result in let is = subst (λ f. entered 2 (link_of v (Obj c.args.x f)) ≡ Some z) c.far.ensures c.child-z.ensures in
-    let turned = subst (λ (q : Flank × ℕ). IsTurned (link_of v) (link_of t) q.0 (Obj c.args.p q.1) c.args.x z) (λ i. (c.other.ensures i, c.near.ensures i)) c.turn.ensures.turned in
+    let turned = subst (λ (q : Flank × ℕ). IsRotated (link_of v) (link_of t) q.0 (Obj c.args.p q.1) c.args.x z) (λ i. (c.other.ensures i, c.near.ensures i)) c.turn.ensures.turned in
     (omega arith, twice-second v c.known.ensures.well c.args.side c.args.at c.args.p c.args.x c.requires.steep c.requires.leans z is t turned c.turn.ensures.objects c.turn.ensures.well)
 
 pub set_balance-requires : goal.set_balance-requires
@@ -63,7 +63,7 @@ set_balance-requires-3 g c =
 pub returns-clause-mended : goal.returns-clause-mended
 returns-clause-mended g c = λ s.
     let v = c.args.region.now in let t = c.turn.new.region in let z = c.child-z.result in let is = subst (λ f. entered 2 (link_of v (Obj c.args.x f)) ≡ Some z) c.far.ensures c.child-z.ensures in
-    let turned = subst (λ (q : Flank × ℕ). IsTurned (link_of v) (link_of t) q.0 (Obj c.args.p q.1) c.args.x z) (λ i. (c.other.ensures i, c.near.ensures i)) c.turn.ensures.turned in
+    let turned = subst (λ (q : Flank × ℕ). IsRotated (link_of v) (link_of t) q.0 (Obj c.args.p q.1) c.args.x z) (λ i. (c.other.ensures i, c.near.ensures i)) c.turn.ensures.turned in
     twice-mended v c.known.ensures.well c.args.side c.args.at c.args.p c.args.x s c.requires.leans z is t turned c.turn.ensures.objects c.turn.ensures.well c.turn-2.new.region c.turn-2.ensures.turned c.turn-2.ensures.objects
     c.set_balance.new.region c.set_balance-2.new.region c.set_balance-3.new.region c.given.result c.given-2.result c.set_balance.ensures.written c.set_balance-2.ensures.written c.set_balance-3.ensures.written
     (λ e. c.given.ensures.when (c.balance-leans.ensures ∙ e ∙ sym c.light.ensures) ∙ c.heavy.ensures) (λ ne. c.given.ensures.else_none (λ e. ne (sym c.balance-leans.ensures ∙ e ∙ c.light.ensures)))
