@@ -1,3 +1,15 @@
-mod Changes
-mod Frames
+mod Placed
+mod Changed
+mod Traded
+mod Walks
 mod Searches
+mod Turned
+mod Mended
+mod Twice
+mod Steps
+mod Settled
+mod Inserted
+mod Exchanged
+mod Severed
+mod Plucked
+mod Removed

@@ -1,251 +1,215 @@
--- A search along the entries: what stands before the end that it has come to, and what is ahead.
-use Rattle.std.proofs.Common.{◌≡◌, ◌+◌, ◌<◌, ◌≤◌, List, [], ◌∷◌, ◌++◌, length, reverse, Option, Some, None, refl, sym, ap, ◌∙◌, subst, arith}
+-- Searching down a tree: the entries before the place stand before what is looked for, those behind it behind.
+use Rattle.std.proofs.Common.{◌≡◌, ℕ, ◌+◌, ◌*◌, ◌^◌, ◌<◌, ◌≤◌, List, [], ◌∷◌, ◌++◌, length, Option, Some, None, inl, inr, ◌⊎◌, refl, sym, ap, ◌∙◌, subst, arith}
 use Rattle.std.specs.Prelude.{Contains}
 use Rattle.std.specs.List.{AllByRecursion}
-use Rattle.std.proofs.lemmas.List.Elements.{Contains-append_left}
-use Rattle.std.proofs.lemmas.List.{append-nil, append_assoc, length-append, length-reverse, reverse-append}
+use Rattle.std.proofs.lemmas.List.{append_assoc, append-nil, append_cancel_left}
 use Rattle.rc_position.specs.declared.positions.Pos.{Pos}
 use Rattle.rc_position.specs.Position.{IsBefore}
 use Rattle.lsa_store.specs.declared.place.Ref.{Ref}
 use Rattle.lsa_region.specs.declared.end.End.{End}
-use Rattle.lsa_region.specs.declared.end.End.TheVariants.{Obj, Slot}
-use Rattle.lsa_region.specs.Region.{View, link_of, IsEnd, IsWell, IsSummed, objects}
-use Rattle.lsa_path.specs.Path.{IsPath, behind, entered, walk}
-use Rattle.lsa_path.specs.laws.Members.{member-first, member-later, member-here, member-split}
-use Rattle.lsa_path.specs.laws.Passing.{path-walked, path-few, path-back_before}
-use Rattle.lsa_path.specs.laws.Paths.{path-rest}
+use Rattle.lsa_region.specs.declared.end.End.TheVariants.{Obj}
+use Rattle.lsa_region.specs.Region.{View, link_of, IsEnd, IsWell, IsSummed, live_bytes}
+use Rattle.lsa_path.specs.Path.{entered}
+use Rattle.lsa_path.specs.laws.Members.{member-here}
+use Rattle.lsa_shape.specs.declared.flank.Flank.TheVariants.{Low, High}
+use Rattle.lsa_shape.specs.Shapes.{TreeShape, Leaf, Node, inorder, HangsAt}
+use Rattle.lsa_shape.specs.Ways.{Fork, ForkAt, plug, hole, way_before, way_behind}
+use Rattle.lsa_shape.specs.Levels.{IsLevel, HasBalance, shape_size}
+use Rattle.lsa_shape.specs.Readings.{shape_at}
+use Rattle.lsa_shape.specs.laws.Depths.{level-node, level-plug, level-size, way-short, size-listed, shallow, leans-less, leans-other}
+use Rattle.lsa_shape.specs.laws.Places.{inorder-plug}
 use Rattle.lsa_tree.specs.declared.tree.Tree.{Tree}
 use Rattle.lsa_tree.specs.declared.tree.Place.TheVariants.{Here, Before, Last}
-use Rattle.lsa_tree.specs.Entries.{IsEntryAtPosition, StandsEarlier, BelongsBetween}
-use Rattle.lsa_tree.specs.Search.{IsFound, first_entry, last_entry, last_entry_from}
-use Rattle.lsa_tree.specs.Tree.{IsTop, IsTree}
-use Rattle.lsa_tree.specs.laws.Orders.{all-both, all-further, ascending-back, ascending-split, belongs-once, never-at}
-use Rattle.lsa_tree.specs.laws.Trees.{fields_differ, entry-end, top-end, top-outside, tree-once, tree-entry, trees-same}
+use Rattle.lsa_tree.specs.Entries.{IsEntryAtPosition, StandsEarlier, StandsLater, BelongsBetween, AreAscending, balance_of}
+use Rattle.lsa_tree.specs.Search.{IsFound, first_entry}
+use Rattle.lsa_tree.specs.Tree.{IsTree}
+use Rattle.lsa_tree.specs.calls.Placing.{IsFormed, IsPlaced, IsVacant}
+use Rattle.lsa_tree.specs.laws.Orders.{all-both, all-back, all-further, all-mapped, before-trans, ascending-back, ascending-split, belongs-once, never-at}
+use Rattle.lsa_tree.specs.laws.Trees.{tree-once}
+use Rattle.lsa_tree.proofs.Placed.{below-none, below-some, formed-there, formed-hole, formed-read, tree-placed}
+use Rattle.lsa_tree.proofs.Walks.{size_below}
 
--- the entries that an end leads to
-abbrev pub ahead : View → End → List Ref
-ahead v at = walk (objects v) 3 4 (link_of v) at
-
--- those passed stand before the position, and the end is the one behind them
-pub record IsReached (tree : Tree) (v : View) (x : Pos) (at : End) (passed : List Ref) : Type 0 where
-  pub whole : IsTree tree v (passed ++ ahead v at)
-  pub here : behind 4 tree.top passed ≡ at
-  pub before : AllByRecursion (λ r. StandsEarlier v r x) passed
-
-behind_one : (s : End) (xs : List Ref) (r : Ref) → behind 4 s (xs ++ (r ∷ [])) ≡ Obj r 4
-behind_one s [] r = refl
-behind_one s (x ∷ xs) r = behind_one (Obj x 4) xs r
-
-length_back : (xs ys : List Ref) → length ys ≤ length (xs ++ ys)
-length_back xs ys = omega (arith, length-append xs ys)
-
-behind_end : (v : View) (s : End) (xs : List Ref) → IsEnd v s → ((r : Ref) → Contains xs r → IsEnd v (Obj r 4)) → IsEnd v (behind 4 s xs)
-behind_end v s [] here all = here
-behind_end v s (x ∷ xs) here all = behind_end v (Obj x 4) xs (all x (member-first x xs)) (λ r c. all r (member-later x r xs c))
-
-module _ (tree : Tree) (v : View) (well : IsWell v) (summed : IsSummed v) where
-  few : (refs : List Ref) → IsTree tree v refs → length refs ≤ objects v
-  few refs h = path-few 3 4 fields_differ v well summed tree.top refs None (top-outside v tree.top h.top) h.path
-
-  -- from the end behind some entries the others are ahead
-  pub ahead-rest : (xs ys : List Ref) (at : End) → IsTree tree v (xs ++ ys) → behind 4 tree.top xs ≡ at → ahead v at ≡ ys
-  ahead-rest xs ys at h is = path-walked 3 4 (link_of v) (objects v) at ys None (omega (arith, few (xs ++ ys) h, length_back xs ys)) refl
-      (subst (λ e. IsPath 3 4 (link_of v) e ys None) is (path-rest 3 4 (link_of v) tree.top xs ys None h.path))
-
-  pub reached-start : (refs : List Ref) (x : Pos) → IsTree tree v refs → IsReached tree v x tree.top []
-  reached-start refs x h = record { whole = subst (IsTree tree v) (sym (ahead-rest [] refs tree.top h refl)) h; here = refl; before = tt }
-
-  module _ (x : Pos) (at : End) (passed : List Ref) (reached : IsReached tree v x at passed) where
-    path_ahead : IsPath 3 4 (link_of v) at (ahead v at) None
-    path_ahead = subst (λ e. IsPath 3 4 (link_of v) e (ahead v at) None) reached.here (path-rest 3 4 (link_of v) tree.top passed (ahead v at) None reached.whole.path)
-
-    -- the end is there
-    pub reached-end : IsEnd v at
-    reached-end = subst (IsEnd v) reached.here
-        (behind_end v tree.top passed (top-end v tree.top reached.whole.top) (λ r c. entry-end v r 4 (tree-entry tree v (passed ++ ahead v at) r reached.whole (Contains-append_left passed (ahead v at) r c)) (omega arith)))
-
-    -- nothing is ahead
-    pub reached-last : entered 3 (link_of v at) ≡ None → ahead v at ≡ []
-    reached-last none = last_of (ahead v at) path_ahead
-      where
-        last_of : (ys : List Ref) → IsPath 3 4 (link_of v) at ys None → ys ≡ []
-        last_of [] p = refl
-        last_of (y ∷ ys) p = let clash : Some y ≡ None = sym (ap (entered 3) p.0) ∙ none in cc
-
-    -- the next entry is the first of those ahead
-    pub reached-next : (r : Ref) → entered 3 (link_of v at) ≡ Some r → (rest : List Ref) × (ahead v at ≡ r ∷ rest)
-    reached-next r some = next_of (ahead v at) path_ahead
-      where
-        next_of : (ys : List Ref) → IsPath 3 4 (link_of v) at ys None → (rest : List Ref) × (ys ≡ r ∷ rest)
-        next_of [] p = let clash : None ≡ Some r = sym (ap (entered 3) p) ∙ some in cc
-        next_of (y ∷ ys) p = let same : Some y ≡ Some r = sym (ap (entered 3) p.0) ∙ some in let first : y ≡ r = cc in (ys, ap (λ z. z ∷ ys) first)
-
-    module _ (r : Ref) (rest : List Ref) (leads : ahead v at ≡ r ∷ rest) where
-      whole_split : IsTree tree v (passed ++ (r ∷ rest))
-      whole_split = subst (λ l. IsTree tree v (passed ++ l)) leads reached.whole
-
-      -- it stands somewhere
-      pub reached-stands : (y : Pos) × IsEntryAtPosition v r y
-      reached-stands = let w = ascending-back v passed (r ∷ rest) whole_split.ascending in (w.0.0, w.0.1)
-
-      -- where it stands before the position it is passed
-      pub reached-step : (y : Pos) → IsEntryAtPosition v r y → IsBefore y x → IsReached tree v x (Obj r 4) (passed ++ (r ∷ []))
-      reached-step y at_y less =
-          let longer : IsTree tree v ((passed ++ (r ∷ [])) ++ rest) = subst (IsTree tree v) (sym (append_assoc passed (r ∷ []) rest)) whole_split in
-          let is = behind_one tree.top passed r in
-          record {
-            whole = subst (λ l. IsTree tree v ((passed ++ (r ∷ [])) ++ l)) (sym (ahead-rest (passed ++ (r ∷ [])) rest (Obj r 4) longer is)) longer;
-            here = is;
-            before = all-both (λ q. StandsEarlier v q x) passed (r ∷ []) reached.before ((y, at_y, less), tt);
-          }
-
-      -- and fewer are ahead
-      pub reached-less : length (ahead v (Obj r 4)) < length (ahead v at)
-      reached-less =
-          let longer : IsTree tree v ((passed ++ (r ∷ [])) ++ rest) = subst (IsTree tree v) (sym (append_assoc passed (r ∷ []) rest)) whole_split in
-          omega (arith, ap length leads, ap length (ahead-rest (passed ++ (r ∷ [])) rest (Obj r 4) longer (behind_one tree.top passed r)))
-
-      -- where it stands at the position it is found
-      pub found-here : IsEntryAtPosition v r x → (refs : List Ref) → IsTree tree v refs → IsFound v refs x (Here r)
-      found-here at_x refs h = (passed, rest, tree-once tree v refs (passed ++ (r ∷ rest)) h whole_split, at_x, record { before = reached.before; behind = (ascending-split v passed rest r x at_x whole_split.ascending).behind })
-
-      belongs_before : (y : Pos) → IsEntryAtPosition v r y → IsBefore x y → BelongsBetween v x passed (r ∷ rest)
-      belongs_before y at_y less = record { before = reached.before; behind = ((y, at_y, less), all-further v x y rest less (ascending-split v passed rest r y at_y whole_split.ascending).behind) }
-
-      -- where it stands behind the position it is the next one
-      pub found-before : (y : Pos) → IsEntryAtPosition v r y → IsBefore x y → (refs : List Ref) → IsTree tree v refs → IsFound v refs x (Before r)
-      found-before y at_y less refs h = (passed, rest, tree-once tree v refs (passed ++ (r ∷ rest)) h whole_split, belongs_before y at_y less)
-
-      -- so many were passed, and one more
-      pub passed-more : (refs : List Ref) → IsTree tree v refs → length passed + 1 ≤ length refs
-      passed-more refs h = omega (arith, ap length (tree-once tree v refs (passed ++ (r ∷ rest)) h whole_split), length-append passed (r ∷ rest))
-
-      place_of : (zs : List Ref) → BelongsBetween v x passed zs → passed ++ zs ≡ passed ++ (r ∷ rest) → (front back : List Ref) → IsTree tree v (front ++ back) → BelongsBetween v x front back → behind 4 tree.top front ≡ at
-      place_of zs fits is front back h k =
-          ap (behind 4 tree.top) (belongs-once v front back passed zs x (tree-once tree v (front ++ back) (passed ++ (r ∷ rest)) h whole_split ∙ sym is) k fits) ∙ reached.here
-
-      pub spot-before : (y : Pos) → IsEntryAtPosition v r y → IsBefore x y → (front back : List Ref) → IsTree tree v (front ++ back) → BelongsBetween v x front back → behind 4 tree.top front ≡ at
-      spot-before y at_y less front back h k = place_of (r ∷ rest) (belongs_before y at_y less) refl front back h k
-
-      -- an entry at the position belongs to no place
-      pub spot-here : IsEntryAtPosition v r x → (front back : List Ref) → IsTree tree v (front ++ back) → BelongsBetween v x front back → ⊥
-      spot-here at_x front back h k = never-at v x r (front ++ back) (subst (λ l. Contains l r) (sym (tree-once tree v (front ++ back) (passed ++ (r ∷ rest)) h whole_split)) (member-here passed rest r)) front back refl k at_x
-
-    -- where nothing is ahead none is found
-    module _ (none : ahead v at ≡ []) where
-      all_passed : IsTree tree v passed
-      all_passed = subst (IsTree tree v) (append-nil passed) (subst (λ l. IsTree tree v (passed ++ l)) none reached.whole)
-
-      pub found-last : (refs : List Ref) → IsTree tree v refs → IsFound v refs x Last
-      found-last refs h = subst (λ l. BelongsBetween v x l []) (sym (tree-once tree v refs passed h all_passed)) (record { before = reached.before; behind = tt })
-
-      pub passed-all : (refs : List Ref) → IsTree tree v refs → length passed ≤ length refs
-      passed-all refs h = omega (arith, ap length (tree-once tree v refs passed h all_passed))
-
-      pub passed-whole : (refs : List Ref) → IsTree tree v refs → length refs ≡ length passed
-      passed-whole refs h = ap length (tree-once tree v refs passed h all_passed)
-
-      pub spot-last : (front back : List Ref) → IsTree tree v (front ++ back) → BelongsBetween v x front back → behind 4 tree.top front ≡ at
-      spot-last front back h k = ap (behind 4 tree.top)
-          (belongs-once v front back passed [] x (tree-once tree v (front ++ back) passed h all_passed ∙ sym (append-nil passed)) k (record { before = reached.before; behind = tt })) ∙ reached.here
-
--- ---- neighbours
-
--- what an end of a tree leads to is the first entry ahead
-pub entered-first : (named : End → Option End) (s : End) (xs : List Ref) → IsPath 3 4 named s xs None → entered 3 (named s) ≡ first_entry xs
-entered-first named s [] p = ap (entered 3) p
-entered-first named s (x ∷ xs) p = ap (entered 3) p.0
-
-entered_onward : (x : Ref) (xs : List Ref) → entered 4 (Some (behind 4 (Obj x 4) xs)) ≡ last_entry_from (Some x) xs
-entered_onward x [] = refl
-entered_onward x (y ∷ ys) = entered_onward y ys
-
-entered_top : (v : View) (e : End) → IsTop v e → entered 4 (Some e) ≡ None
-entered_top v (Obj r f) h = ap (λ n. entered 4 (Some (Obj r n))) h.0
-entered_top v (Slot s) h = absurd h
-
--- the end behind some entries is the last one's
-pub entered-last : (v : View) (top : End) (xs : List Ref) → IsTop v top → entered 4 (Some (behind 4 top xs)) ≡ last_entry xs
-entered-last v top [] h = entered_top v top h
-entered-last v top (x ∷ xs) h = entered_onward x xs
-
--- ---- the way back to the top
-
--- r is an entry of the tree, and those before the entry that the way back has come to lead to the top
-pub record IsTraced (tree : Tree) (v : View) (r at : Ref) (refs before : List Ref) : Type 0 where
+pub record IsReached (tree : Tree) (v : View) (x : Pos) (at : End) (next : Option Ref) (refs : List Ref) (way : List Fork) (s : TreeShape) (here depth : ℕ) : Type 0 where
   pub whole : IsTree tree v refs
-  pub member : Contains refs r
-  pub path : IsPath 4 3 (link_of v) (Obj at 3) before (Some tree.top)
-  pub few : length before ≤ objects v
-  pub entries : AllByRecursion (Contains refs) (at ∷ before)
+  pub place : IsPlaced tree v refs way s here here depth
+  pub end : hole tree.top way ≡ at
+  pub before : AllByRecursion (λ r. StandsEarlier v r x) (way_before way)
+  pub behind : AllByRecursion (λ r. StandsLater v r x) (way_behind way)
+  pub first : first_entry (way_behind way) ≡ next
 
--- those that lead from an entry to the top
-abbrev pub back_to_top : View → Ref → List Ref
-back_to_top v at = walk (objects v) 4 3 (link_of v) (Obj at 3)
+-- the place as one value
+abbrev pub IsReachedAt : Tree → View → Pos → End → Option Ref → List Ref → Type 0
+IsReachedAt tree v x at next refs = (way : List Fork) × (s : TreeShape) × (here : ℕ) × (depth : ℕ) × IsReached tree v x at next refs way s here depth
 
-all_of : (P : Ref → Type 0) (xs : List Ref) → ((q : Ref) → Contains xs q → P q) → AllByRecursion P xs
-all_of P [] all = tt
-all_of P (x ∷ xs) all = (all x (member-first x xs), all_of P xs (λ q c. all q (member-later x q xs c)))
+pub found-next : (v : View) (refs front back : List Ref) (x : Pos) → refs ≡ front ++ back → BelongsBetween v x front back → (r : Ref) → first_entry back ≡ Some r → IsFound v refs x (Before r)
+found-next v refs front [] x is fits r first = absurd (let clash : ◌≡◌ {A = Option Ref} None (Some r) = first in cc)
+found-next v refs front (y ∷ back) x is fits r first = let same : y ≡ r = cc in (front, back, is ∙ ap (λ z. front ++ (z ∷ back)) same, subst (λ z. BelongsBetween v x front (z ∷ back)) same fits)
 
-all_reversed : (P : Ref → Type 0) (xs : List Ref) → AllByRecursion P xs → AllByRecursion P (reverse xs)
-all_reversed P [] h = tt
-all_reversed P (x ∷ xs) h = subst (AllByRecursion P) (sym (reverse-append (x ∷ []) xs)) (all-both P (reverse xs) (x ∷ []) (all_reversed P xs h.1) (h.0, tt))
+pub found-none : (v : View) (refs front back : List Ref) (x : Pos) → refs ≡ front ++ back → BelongsBetween v x front back → first_entry back ≡ None → IsFound v refs x Last
+found-none v refs front [] x is fits first = subst (λ l. BelongsBetween v x l []) (sym (is ∙ append-nil front)) fits
+found-none v refs front (y ∷ back) x is fits first = absurd (let clash : ◌≡◌ {A = Option Ref} (Some y) None = first in cc)
 
-module _ (v : View) (well : IsWell v) (summed : IsSummed v) (r : Ref) where
-  traced_split : (tree : Tree) (front back : List Ref) → IsTree tree v (front ++ (r ∷ back)) → IsTraced tree v r r (front ++ (r ∷ back)) (reverse front)
-  traced_split tree front back h = record {
-    whole = h;
-    member = member-here front back r;
-    path = path-back_before 3 4 (link_of v) well.paired tree.top front back r None h.path;
-    few = omega (arith, few tree v well summed (front ++ (r ∷ back)) h, length-append front (r ∷ back), length-reverse front);
-    entries = (member-here front back r, all_reversed (Contains (front ++ (r ∷ back))) front (all_of (Contains (front ++ (r ∷ back))) front (Contains-append_left front (r ∷ back))));
-  }
+module _ (tree : Tree) (v : View) (well : IsWell v) (summed : IsSummed v) (x : Pos) (refs : List Ref) where
+  pub reached-start : (h : IsTree tree v refs) → IsReached tree v x tree.top None refs [] h.form.0 h.form.1 h.form.1
+  reached-start h = record { whole = h; place = tree-placed tree v refs h; end = refl; before = tt; behind = tt; first = refl }
 
-  -- the way back begins at the entry
-  pub traced-start : (tree : Tree) (refs : List Ref) → IsTree tree v refs → Contains refs r → (before : List Ref) × IsTraced tree v r r refs before
-  traced-start tree refs h c = let w = member-split refs r c in
-      (reverse w.0, subst (λ l. IsTraced tree v r r l (reverse w.0)) (sym w.2) (traced_split tree w.0 w.1 (subst (IsTree tree v) w.2 h)))
+  module _ (at : End) (next : Option Ref) (way : List Fork) (s : TreeShape) (here depth : ℕ) (reached : IsReached tree v x at next refs way s here depth) where
+    pub reached-there : IsEnd v at
+    reached-there = subst (IsEnd v) reached.end (formed-there tree v refs way s reached.place.form)
 
-  module _ (tree : Tree) (at : Ref) (refs before : List Ref) (traced : IsTraced tree v r at refs before) where
-    pub traced-end : IsEnd v (Obj at 3)
-    traced-end = entry-end v at 3 (tree-entry tree v refs at traced.whole traced.entries.0) (omega arith)
+    hangs : HangsAt (link_of v) at s
+    hangs = subst (λ e. HangsAt (link_of v) e s) reached.end (formed-hole tree v refs well way s reached.place.form).0
 
-    -- what the links say is left
-    pub traced-walked : back_to_top v at ≡ before
-    traced-walked = path-walked 4 3 (link_of v) (objects v) (Obj at 3) before (Some tree.top) traced.few (entered_top v tree.top traced.whole.top) traced.path
+    -- so many were compared, no more than the tree is deep
+    reached_size : size_below v at ≡ shape_size s
+    reached_size = subst (λ e. size_below v e ≡ shape_size s) reached.end (ap shape_size (formed-read tree v refs well summed way s reached.place.form))
 
-    -- where no entry is before it the top is
-    pub traced-last : entered 4 (link_of v (Obj at 3)) ≡ None → link_of v (Obj at 3) ≡ Some tree.top
-    traced-last none = last_of before traced.path
-      where
-        last_of : (ys : List Ref) → IsPath 4 3 (link_of v) (Obj at 3) ys (Some tree.top) → link_of v (Obj at 3) ≡ Some tree.top
-        last_of [] p = p
-        last_of (y ∷ ys) p = let clash : Some y ≡ None = sym (ap (entered 4) p.0) ∙ none in cc
+    pub reached-size : size_below v at ≡ shape_size s
+    reached-size = reached_size
 
-    -- the entry before it is the first of those left
-    pub traced-next : (q : Ref) → entered 4 (link_of v (Obj at 3)) ≡ Some q → (rest : List Ref) × (before ≡ q ∷ rest) × IsTraced tree v r q refs rest
-    traced-next q some = next_of before traced.path traced.few traced.entries.1
-      where
-        next_of : (ys : List Ref) → IsPath 4 3 (link_of v) (Obj at 3) ys (Some tree.top) → length ys ≤ objects v → AllByRecursion (Contains refs) ys → (rest : List Ref) × (ys ≡ q ∷ rest) × IsTraced tree v r q refs rest
-        next_of [] p le all = let clash : None ≡ Some q = sym (entered_top v tree.top traced.whole.top) ∙ ap (entered 4) (sym p) ∙ some in cc
-        next_of (y ∷ ys) p le all =
-            let same : Some y ≡ Some q = sym (ap (entered 4) p.0) ∙ some in let first : y ≡ q = cc in (
-              ys,
-              ap (λ z. z ∷ ys) first,
-              record {
-                whole = traced.whole;
-                member = traced.member;
-                path = subst (λ z. IsPath 4 3 (link_of v) (Obj z 3) ys (Some tree.top)) first p.1;
-                few = omega (arith, le);
-                entries = (subst (Contains refs) first all.0, all.1);
-              },
-            )
+    -- what was compared, and how deep it is here, is no more than there are entries, and no more than twice the logarithm of these
+    whole_level : IsLevel (balance_of v) (plug way s) depth
+    whole_level = level-plug (balance_of v) way s here depth reached.place.level reached.place.around
 
-    pub traced-less : (q : Ref) → entered 4 (link_of v (Obj at 3)) ≡ Some q → length (back_to_top v q) < length (back_to_top v at)
-    traced-less q some = let w = traced-next q some in
-        let here : length (back_to_top v at) ≡ length before = ap length traced-walked in let longer : length before ≡ length (q ∷ w.0) = ap length w.1 in
-        let next : length (back_to_top v q) ≡ length w.0 = ap length (path-walked 4 3 (link_of v) (objects v) (Obj q 3) w.0 (Some tree.top) w.2.few (entered_top v tree.top traced.whole.top) w.2.path) in omega (arith, here, longer, next)
+    sized : shape_size (plug way s) ≡ length refs
+    sized = sym (size-listed (plug way s)) ∙ ap length reached.place.form.order
 
-    -- so the end that is named there is the top of each tree in which the entry stands
-    pub traced-top : entered 4 (link_of v (Obj at 3)) ≡ None → (other : Tree) (xs : List Ref) → IsTree other v xs → Contains xs r → link_of v (Obj at 3) ≡ Some other.top
-    traced-top none other xs h c = traced-last none ∙ ap (λ (t : Tree). Some t.top) (trees-same v well tree other refs xs traced.whole h r traced.member c)
+    short : length way + here ≤ depth
+    short = way-short (balance_of v) way here depth reached.place.around
+
+    pub steps-most : length way + here ≤ length refs
+    steps-most = omega (arith, short, sized, level-size (balance_of v) (plug way s) depth whole_level)
+
+    pub steps-less : (d : ℕ) → length refs + 1 < 2 ^ d → length way + here ≤ 2 * d
+    steps-less d few = let less = shallow (balance_of v) d (plug way s) depth whole_level (omega (arith, few, sized)) in omega (arith, short, less)
+
+    list : refs ≡ way_before way ++ (inorder s ++ way_behind way)
+    list = sym reached.place.form.order ∙ inorder-plug way s
+
+    -- nothing hangs there
+    module _ (none : entered 2 (link_of v at) ≡ None) where
+      leaf : s ≡ Leaf
+      leaf = below-none (link_of v) at s hangs none
+
+      pub last-list : refs ≡ way_before way ++ way_behind way
+      last-list = list ∙ ap (λ t. way_before way ++ (inorder t ++ way_behind way)) leaf
+
+      pub last-belongs : BelongsBetween v x (way_before way) (way_behind way)
+      last-belongs = record { before = reached.before; behind = reached.behind }
+
+      pub last-some : shape_size s ≡ 0
+      last-some = ap shape_size leaf
+
+      -- where the place is the top there is no entry
+      pub last-way : 0 < length refs → 0 < length way
+      last-way some = on way leaf sized
+        where
+          on : (ways : List Fork) → s ≡ Leaf → shape_size (plug ways s) ≡ length refs → 0 < length ways
+          on [] none size = absurd (let zero_size = ap shape_size none in omega (arith, some, size, zero_size))
+          on (fork ∷ ways) none size = omega arith
+
+      level_zero : here ≡ 0
+      level_zero = subst (λ t. IsLevel (balance_of v) t here) leaf reached.place.level
+
+      pub last-vacant : (front back : List Ref) → IsTree tree v (front ++ back) → BelongsBetween v x front back → (on : List Fork) × (deep : ℕ) × IsVacant tree v front back at on deep
+      last-vacant front back h fits =
+          let same : refs ≡ front ++ back = tree-once tree v refs (front ++ back) reached.whole h in
+          let front_is : way_before way ≡ front = sym (belongs-once v front back (way_before way) (way_behind way) x (sym same ∙ last-list) fits last-belongs) in
+          let tails : way_behind way ≡ back = append_cancel_left front (way_behind way) back (ap (λ l. l ++ way_behind way) (sym front_is) ∙ sym last-list ∙ same) in (
+            way,
+            depth,
+            record {
+              place = subst (λ l. IsPlaced tree v l way Leaf 0 0 depth) same (subst (λ n. IsPlaced tree v refs way Leaf n n depth) level_zero (subst (λ t. IsPlaced tree v refs way t here here depth) leaf reached.place));
+              end = reached.end;
+              before = front_is;
+              behind = tails;
+            },
+          )
+
+    -- an entry hangs there
+    module _ (r : Ref) (some : entered 2 (link_of v at) ≡ Some r) where
+      root : (l : TreeShape) × (t : TreeShape) × (s ≡ Node l r t)
+      root = below-some (link_of v) at Low s r hangs some
+
+      node_list : refs ≡ (way_before way ++ inorder root.0) ++ (r ∷ (inorder root.1 ++ way_behind way))
+      node_list = list ∙ ap (λ t. way_before way ++ (inorder t ++ way_behind way)) root.2 ∙ ap (λ l. way_before way ++ l) (append_assoc (inorder root.0) (r ∷ inorder root.1) (way_behind way))
+          ∙ sym (append_assoc (way_before way) (inorder root.0) (r ∷ (inorder root.1 ++ way_behind way)))
+
+      ascends : AreAscending v ((way_before way ++ inorder root.0) ++ (r ∷ (inorder root.1 ++ way_behind way)))
+      ascends = subst (AreAscending v) node_list reached.whole.ascending
+
+      pub node-stands : (y : Pos) × IsEntryAtPosition v r y
+      node-stands = let w = ascending-back v (way_before way ++ inorder root.0) (r ∷ (inorder root.1 ++ way_behind way)) ascends in (w.0.0, w.0.1)
+
+      level : (h : ℕ) × (k : ℕ) × IsLevel (balance_of v) root.0 h × IsLevel (balance_of v) root.1 k × HasBalance Low (balance_of v r) h k here
+      level = level-node (balance_of v) Low root.0 r root.1 here (subst (λ t. IsLevel (balance_of v) t here) root.2 reached.place.level)
+
+      -- it stands at the position
+      pub node-found : IsEntryAtPosition v r x → IsFound v refs x (Here r)
+      node-found at_x =
+          (way_before way ++ inorder root.0, inorder root.1 ++ way_behind way, node_list, at_x, ascending-split v (way_before way ++ inorder root.0) (inorder root.1 ++ way_behind way) r x at_x ascends)
+
+      pub node-never : IsEntryAtPosition v r x → (front back : List Ref) → IsTree tree v (front ++ back) → BelongsBetween v x front back → ⊥
+      node-never at_x front back h fits = never-at v x r (front ++ back)
+          (subst (λ l. Contains l r) (sym node_list ∙ tree-once tree v refs (front ++ back) reached.whole h) (member-here (way_before way ++ inorder root.0) (inorder root.1 ++ way_behind way) r)) front back refl fits at_x
+
+      -- one was compared, and less is left
+      pub node-deep : 1 ≤ here
+      node-deep = omega (arith, (leans-less Low (balance_of v r) level.0 level.1 here level.4).0)
+
+      -- it stands before the position
+      module _ (y : Pos) (stands : IsEntryAtPosition v r y) (less : IsBefore y x) where
+        high_reached : IsReached tree v x (Obj r 4) next refs (ForkAt High r root.0 ∷ way) root.1 level.1 depth
+        high_reached =
+            let split = ascending-split v (way_before way ++ inorder root.0) (inorder root.1 ++ way_behind way) r y stands ascends in
+            record {
+              whole = reached.whole;
+              place = record {
+                form = subst (λ t. IsFormed tree v refs (plug way t)) root.2 reached.place.form;
+                level = level.3;
+                around = (level.0, here, level.2, leans-other Low (balance_of v r) level.0 level.1 here level.4, reached.place.around);
+              };
+              end = refl;
+              before = all-both (λ q. StandsEarlier v q x) (way_before way) (inorder root.0 ++ (r ∷ [])) reached.before
+                  (all-both (λ q. StandsEarlier v q x) (inorder root.0) (r ∷ []) (earlier y x (inorder root.0) less (all-back (λ q. StandsEarlier v q y) (way_before way) (inorder root.0) split.before)) ((y, stands, less), tt));
+              behind = reached.behind;
+              first = reached.first;
+            }
+          where
+            earlier : (a b : Pos) (xs : List Ref) → IsBefore a b → AllByRecursion (λ q. StandsEarlier v q a) xs → AllByRecursion (λ q. StandsEarlier v q b) xs
+            earlier a b xs less' h = all-mapped (λ q. StandsEarlier v q a) (λ q. StandsEarlier v q b) xs (λ q k. (k.0, k.1, before-trans k.0 a b k.2 less')) h
+
+        pub node-high : (on : List Fork) × (u : TreeShape) × (below : ℕ) × IsReached tree v x (Obj r 4) next refs on u below depth × (length on ≡ length way + 1)
+        node-high = (ForkAt High r root.0 ∷ way, root.1, level.1, high_reached, omega arith)
+
+      -- it stands behind the position
+      module _ (y : Pos) (stands : IsEntryAtPosition v r y) (more : IsBefore x y) where
+        low_reached : IsReached tree v x (Obj r 3) (Some r) refs (ForkAt Low r root.1 ∷ way) root.0 level.0 depth
+        low_reached =
+            let split = ascending-split v (way_before way ++ inorder root.0) (inorder root.1 ++ way_behind way) r y stands ascends in
+            record {
+              whole = reached.whole;
+              place = record {
+                form = subst (λ t. IsFormed tree v refs (plug way t)) root.2 reached.place.form;
+                level = level.2;
+                around = (level.1, here, level.3, level.4, reached.place.around);
+              };
+              end = refl;
+              before = subst (AllByRecursion (λ q. StandsEarlier v q x)) (sym (append-nil (way_before way))) reached.before;
+              behind = ((y, stands, more), all-further v x y (inorder root.1 ++ way_behind way) more split.behind);
+              first = refl;
+            }
+
+        pub node-low : (on : List Fork) × (u : TreeShape) × (below : ℕ) × IsReached tree v x (Obj r 3) (Some r) refs on u below depth × (length on ≡ length way + 1)
+        node-low = (ForkAt Low r root.1 ∷ way, root.0, level.0, low_reached, omega arith)
+
+      pub node-smaller : (f : ℕ) → (f ≡ 3) ⊎ (f ≡ 4) → size_below v (Obj r f) < size_below v at
+      node-smaller f side =
+          let form : IsFormed tree v refs (plug way (Node root.0 r root.1)) = subst (λ t. IsFormed tree v refs (plug way t)) root.2 reached.place.form in
+          let low : shape_at (live_bytes v) (link_of v) (Obj r 3) ≡ root.0 = formed-read tree v refs well summed (ForkAt Low r root.1 ∷ way) root.0 form in
+          let high : shape_at (live_bytes v) (link_of v) (Obj r 4) ≡ root.1 = formed-read tree v refs well summed (ForkAt High r root.0 ∷ way) root.1 form in
+          let whole : shape_size s ≡ shape_size (Node root.0 r root.1) = ap shape_size root.2 in
+          elim side [
+            | inl is ↦ subst (λ n. size_below v (Obj r n) < size_below v at) (sym is) (omega (arith, reached_size, whole, ap shape_size low))
+            | inr is ↦ subst (λ n. size_below v (Obj r n) < size_below v at) (sym is) (omega (arith, reached_size, whole, ap shape_size high))
+          ]

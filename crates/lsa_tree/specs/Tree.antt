@@ -1,14 +1,14 @@
 -- The entries of a version in order. How they are linked is known to this crate alone: its users go by the laws.
-use Rattle.std.specs.Prelude.{◌≡◌, ◌≢◌, ◌⊎◌, List, None, IsSomeAnd, Contains}
-use Rattle.std.specs.List.{AllByRecursion}
+use Rattle.std.specs.Prelude.{◌≡◌, ◌≢◌, ◌⊎◌, ℕ, List, None, IsSomeAnd, Contains}
 use Rattle.lsa_kinds.specs.declared.kind.Kind.TheVariants.{Version}
 use Rattle.lsa_store.specs.declared.place.Ref.{Ref}
 use Rattle.lsa_region.specs.declared.end.End.{End}
 use Rattle.lsa_region.specs.declared.end.End.TheVariants.{Obj, Slot}
 use Rattle.lsa_region.specs.Ends.{end_as}
 use Rattle.lsa_region.specs.Region.{View, body, link_of, IsEnd, location_of, slots_of}
-use Rattle.lsa_path.specs.Path.{IsPath}
 use Rattle.lsa_path.specs.Roles.{Role, role_at, Parent, Left, Right, Entries}
+use Rattle.lsa_shape.specs.Shapes.{TreeShape, HangsAt, inorder}
+use Rattle.lsa_shape.specs.Levels.{IsLevel}
 use Rattle.lsa_tree.specs.declared.tree.Tree.{Tree}
 use Rattle.lsa_tree.specs.Entries.{IsEntryKind, AreAscending, IsAlike, balance_of}
 
@@ -17,17 +17,11 @@ abbrev pub IsTop : View → End → Type 0
 IsTop v (Obj r field) = (field ≡ 2) × IsSomeAnd (body v r) (λ b. b.0 ≡ Version)
 IsTop v (Slot root) = ⊥
 
--- how an entry stands in its list: it has no parent, and its balance is 0
-pub record IsFlat (v : View) (r : Ref) : Type 0 where
-  pub parent : link_of v (Obj r 2) ≡ None
-  pub level : balance_of v r ≡ 0
-
--- the tree holds these entries, in ascending order of their positions
+-- the tree holds these entries, in ascending order of their positions: a balanced tree hangs at its top
 pub record IsTree (tree : Tree) (v : View) (refs : List Ref) : Type 0 where
   pub top : IsTop v tree.top
-  pub path : IsPath 3 4 (link_of v) tree.top refs None
   pub ascending : AreAscending v refs
-  pub listed : AllByRecursion (IsFlat v) refs
+  pub form : (shape : TreeShape) × (depth : ℕ) × HangsAt (link_of v) tree.top shape × IsLevel (balance_of v) shape depth × (inorder shape ≡ refs)
 
 -- an entry that is in no tree, and that can be put into one: none of its links to entries is set, and its balance is 0
 pub record IsLoose (v : View) (r : Ref) : Type 0 where

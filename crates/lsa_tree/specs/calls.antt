@@ -1,2 +1,4 @@
 -- What inner functions of this crate promise each other; no public clause speaks of it.
+pub mod Placing
 pub mod Seeking
+pub mod Walking

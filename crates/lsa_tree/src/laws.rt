@@ -1,5 +1,5 @@
 //! The laws of ordered entries, each the contract of a function that does nothing. Users of a tree go by them, and not by how it is linked.
-ghost use Rattle.std.specs.Prelude.{◌≡◌, ◌≢◌, ◌↔◌, ℕ, ◌+◌, ◌≤◌, List, [], ◌∷◌, ◌++◌, length, map, drop, Option, Some, None, IsSome, IsSomeAnd, Contains, AllPairs};
+ghost use Rattle.std.specs.Prelude.{◌≡◌, ◌≢◌, ◌↔◌, ℕ, ◌+◌, ◌*◌, ◌^◌, ◌<◌, ◌≤◌, List, [], ◌∷◌, ◌++◌, length, map, drop, Option, Some, None, IsSome, IsSomeAnd, Contains, AllPairs};
 ghost use Rattle.std.specs.Option.{option_map};
 ghost use Rattle.rc_position.specs.declared.positions.Pos.{Pos};
 ghost use Rattle.lsa_kinds.specs.declared.kind.Kind.{Kind};
@@ -10,6 +10,7 @@ ghost use Rattle.lsa_region.specs.declared.end.End.{End};
 ghost use Rattle.lsa_region.specs.declared.end.End.TheVariants.{Obj};
 ghost use Rattle.lsa_region.specs.Ends.{named_as};
 ghost use Rattle.lsa_region.specs.Region.{View, body, link_of, IsEnd, IsWell, IsSummed, IsAdded, IsFreed, IsWritten, Renamed, objects};
+ghost use Rattle.lsa_shape.specs.Readings.{LeadsUp};
 ghost use Rattle.lsa_tree.specs.declared.tree.Tree.{Tree};
 ghost use Rattle.lsa_tree.specs.declared.tree.Place.{Place};
 ghost use Rattle.lsa_tree.specs.Entries.{IsEntryKind, IsEntryAtPosition, BelongsBetween, AreAscending, IsAlike, IsReadAlike};
@@ -36,6 +37,11 @@ pub fn a_tree_has_each_entry_once()
     ensures once { (tree : Tree) (v : View) (refs : List Ref) → IsWell v → IsTree tree v refs → AllPairs ◌≢◌ refs }
     ensures beside { (tree : Tree) (v : View) (front back : List Ref) (r : Ref) → IsWell v → IsTree tree v (front ++ (r ∷ back)) → Contains (front ++ back) r → ⊥ }
     ensures few { (tree : Tree) (v : View) (refs : List Ref) → IsWell v → IsSummed v → IsTree tree v refs → length refs ≤ objects v }
+{}
+
+/// A tree is balanced, and stays so: from an entry to the top of its tree are at most 2 d links, where 2 ^ d is greater than the number of entries and one.
+pub fn a_tree_is_shallow()
+    ensures { (tree : Tree) (v : View) (refs : List Ref) (r : Ref) → IsWell v → IsTree tree v refs → Contains refs r → (up : List Ref) × LeadsUp (link_of v) tree.top r up × ((d : ℕ) → length refs + 1 < 2 ^ d → length (r ∷ up) ≤ 2 * d) }
 {}
 
 /// The trees of two versions have no entry in common.

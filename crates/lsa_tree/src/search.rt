@@ -1,27 +1,24 @@
 //! Searching for a position among entries, whose codes are compared in place.
-ghost use Rattle.std.specs.Prelude.{◌≡◌, ◌++◌, List, Option, Some, None};
+ghost use Rattle.std.specs.Prelude.{◌≡◌, ◌++◌, ℕ, List};
 ghost use Rattle.rc_position.specs.declared.positions.Pos.{Pos};
 ghost use Rattle.rc_position.specs.Position.{pos_cmp};
 ghost use Rattle.rc_rowcode.specs.Spelling.{pos_code, IsPos};
 ghost use Rattle.lsa_store.specs.declared.place.Ref.{Ref as Name};
-ghost use Rattle.lsa_path.specs.Path.{behind, entered};
+ghost use Rattle.lsa_region.specs.Region.{View};
+ghost use Rattle.lsa_shape.specs.Ways.{Fork};
 ghost use Rattle.lsa_tree.specs.Entries.{IsEntryAtPosition, BelongsBetween};
 ghost use Rattle.lsa_tree.specs.Tree.{IsTree};
-ghost use Rattle.lsa_tree.specs.Search.{IsFound};
+ghost use Rattle.lsa_tree.specs.Search.{IsFound, first_entry};
+ghost use Rattle.lsa_tree.specs.calls.Placing.{IsVacant};
 ghost use Rattle.lsa_tree.specs.calls.Seeking.{IsSought};
 
+use crate::links::{LEFT, RIGHT, below};
 use crate::tree::{Place, Tree};
 use lsa_kinds::layout::entry::PositionSize;
 use lsa_region::{End, Ref, Region};
 use rc_position::{Key, Pos};
 use rc_rowcode::{compare_code_with_key, compare_code_with_pos, compare_codes};
 use std::cmp::Ordering;
-
-/// The link of an entry to the one before it.
-pub(crate) const LEFT: u8 = 3;
-
-/// The link of an entry to the one behind it.
-pub(crate) const RIGHT: u8 = 4;
 
 /// A position that is looked for, wherever it lies.
 #[derive(Clone, Copy)]
@@ -55,18 +52,17 @@ pub(crate) fn position<const S: usize>(region: &Region<S>, r: Ref) -> &[u8]
     &bytes[32..32 + size]
 }
 
-/// The object whose link of this number is named, if one is.
-pub(crate) fn object(named: Option<End>, link: u8) -> Option<Ref>
-    ensures { result ≡ entered link named }
+/// Where an entry that was passed on the way stands behind what is looked for, and none was found at it: the last such one is the next entry.
+pub(crate) fn next_place(next: Option<Ref>) -> Place
+    ensures { (v : View) (refs front back : List Name) (x : Pos) → refs ≡ front ++ back → BelongsBetween v x front back → first_entry back ≡ next → IsFound v refs x result }
 {
-    match named {
-        Some(End::Obj(r, field)) => { if field == link { Some(r) } else { None } }
-        Some(End::Slot(_)) => None,
-        None => None,
+    match next {
+        Some(r) => Place::Before(r),
+        None => Place::Last,
     }
 }
 
-/// The end behind which a position belongs, and what is found there.
+/// The end at which an entry of a position belongs, and what is found there.
 pub(crate) fn seek<const S: usize>(
     region: &Region<S>,
     tree: Tree,
@@ -75,17 +71,21 @@ pub(crate) fn seek<const S: usize>(
     requires tree { (refs : List Name) × IsTree tree region.now refs }
     requires sought { (x : Pos) × IsSought sought x }
     ensures found { (refs : List Name) (x : Pos) → IsTree tree region.now refs → IsSought sought.entry x → IsFound region.now refs x result.1 }
-    ensures belongs { (front back : List Name) (x : Pos) → IsTree tree region.now (front ++ back) → IsSought sought.entry x → BelongsBetween region.now x front back → behind RIGHT tree.top front ≡ result.0 }
+    ensures vacant { (front back : List Name) (x : Pos) → IsTree tree region.now (front ++ back) → IsSought sought.entry x → BelongsBetween region.now x front back → (way : List Fork) × (depth : ℕ) × IsVacant tree region.now front back result.0 way depth }
 {
     region.known();
     let mut at = tree.top;
+    let mut next = None;
     loop {
-        match object(region.link_of(at), LEFT) {
-            None => return (at, Place::Last),
+        match below(region, at) {
+            None => return (at, next_place(next)),
             Some(r) => match order(position(region, r), sought) {
                 Ordering::Less => at = End::Obj(r, RIGHT),
                 Ordering::Equal => return (at, Place::Here(r)),
-                Ordering::Greater => return (at, Place::Before(r)),
+                Ordering::Greater => {
+                    next = Some(r);
+                    at = End::Obj(r, LEFT);
+                }
             },
         }
     }

@@ -1,5 +1,5 @@
 //! Entries in the order of their positions.
-ghost use Rattle.std.specs.Prelude.{◌≡◌, ◌≢◌, ◌+◌, ◌<◌, ◌≤◌, ℕ, List, ◌∷◌, ◌++◌, length, Option, Some, None, IsSome, Contains};
+ghost use Rattle.std.specs.Prelude.{◌≡◌, ◌≢◌, ◌+◌, ◌*◌, ◌^◌, ◌<◌, ◌≤◌, ℕ, List, ◌∷◌, ◌++◌, length, Contains};
 ghost use Rattle.rc_position.specs.declared.positions.Pos.{Pos as Position};
 ghost use Rattle.rc_position.specs.Position.{row_pos};
 ghost use Rattle.lsa_store.specs.declared.place.Ref.{Ref as Name};
@@ -10,9 +10,13 @@ ghost use Rattle.lsa_tree.specs.Entries.{IsEntryAtPosition, BelongsBetween, bala
 ghost use Rattle.lsa_tree.specs.Tree.{IsTree, IsLoose, IsOffTree, SameButBalances};
 ghost use Rattle.lsa_tree.specs.Search.{IsFound, first_entry, last_entry};
 
-use crate::search::{LEFT, RIGHT, Sought, object, position, seek};
-use lsa_path::{exchange_objects, insert_behind, take_out};
+use crate::links::{LEFT, PARENT, RIGHT, below, door, owner, set_balance, trade};
+use crate::mending::{fall, grow};
+use crate::removal::pluck;
+use crate::search::{Sought, next_place, position, seek};
+use crate::walk::{edge, neighbour};
 use lsa_region::{End, Ref, Region};
+use lsa_shape::Flank;
 use rc_position::{Key, Pos, Steps};
 use rc_rowcode::compare_code_with_pos_counted;
 use std::cmp::Ordering;
@@ -38,7 +42,7 @@ pub enum Place {
 
 impl Tree {
     /// What stands at a position: the entry there, or else the next one, or none. It compares the position with each entry once at most, and
-    /// counts these comparisons.
+    /// with no more than 2 d of them where 2 ^ d is greater than their number and one, and counts these comparisons.
     pub fn find<const S: usize, L: Ledger>(
         &self,
         region: &Region<S>,
@@ -48,17 +52,22 @@ impl Tree {
         requires { (refs : List Name) × IsTree self.now region.now refs }
         ensures found { (refs : List Name) → IsTree self.now region.now refs → IsFound region.now refs x.now result }
         ensures most { (refs : List Name) → IsTree self.now region.now refs → steps.new ≤ steps.old + length refs }
+        ensures bounded { (refs : List Name) (d : ℕ) → IsTree self.now region.now refs → length refs + 1 < 2 ^ d → steps.new ≤ steps.old + 2 * d }
         ensures counted { (refs : List Name) → IsTree self.now region.now refs → 0 < length refs → steps.old < steps.new }
     {
         region.known();
         let mut at = self.top;
+        let mut next = None;
         loop {
-            match object(region.link_of(at), LEFT) {
-                None => return Place::Last,
+            match below(region, at) {
+                None => return next_place(next),
                 Some(r) => match compare_code_with_pos_counted(position(region, r), x, steps) {
                     Ordering::Less => at = End::Obj(r, RIGHT),
                     Ordering::Equal => return Place::Here(r),
-                    Ordering::Greater => return Place::Before(r),
+                    Ordering::Greater => {
+                        next = Some(r);
+                        at = End::Obj(r, LEFT);
+                    }
                 },
             }
         }
@@ -94,7 +103,8 @@ impl Tree {
         requires { (refs : List Name) × IsTree self.now region.now refs }
         ensures { (refs : List Name) → IsTree self.now region.now refs → result ≡ first_entry refs }
     {
-        object(region.link_of(self.top), LEFT)
+        region.known();
+        edge(region, Flank::Low, self.top)
     }
 
     /// The entry behind one of the entries; None exactly where that is the last one.
@@ -102,8 +112,7 @@ impl Tree {
         requires { (front : List Name) × (back : List Name) × IsTree self.now region.now (front ++ (r ∷ back)) }
         ensures { (front back : List Name) → IsTree self.now region.now (front ++ (r ∷ back)) → result ≡ first_entry back }
     {
-        region.known();
-        object(region.link_of(End::Obj(r, RIGHT)), LEFT)
+        neighbour(region, Flank::High, r)
     }
 
     /// The entry before one of the entries; None exactly where that is the first one.
@@ -111,8 +120,7 @@ impl Tree {
         requires { (front : List Name) × (back : List Name) × IsTree self.now region.now (front ++ (r ∷ back)) }
         ensures { (front back : List Name) → IsTree self.now region.now (front ++ (r ∷ back)) → result ≡ last_entry front }
     {
-        region.known();
-        object(region.link_of(End::Obj(r, LEFT)), RIGHT)
+        neighbour(region, Flank::Low, r)
     }
 
     /// Puts a loose entry where it belongs: none of the entries stands at its position.
@@ -128,7 +136,8 @@ impl Tree {
     {
         region.known();
         let (at, _) = seek(region, *self, Sought::Code(position(region, r)));
-        insert_behind(region, at, r, LEFT, RIGHT);
+        region.link(at, End::Obj(r, PARENT));
+        grow(region, at);
     }
 
     /// Takes one of the entries out. It is loose then.
@@ -143,7 +152,9 @@ impl Tree {
         ensures well { IsWell region.new }
     {
         region.known();
-        take_out(region, r, LEFT, RIGHT);
+        let at = pluck(region, r);
+        set_balance(region, r, 0);
+        fall(region, at);
     }
 
     /// Puts a loose entry into the place of one of the entries, at whose position it stands: no search. It has that one's balance then, and that one is loose.
@@ -161,7 +172,7 @@ impl Tree {
         ensures well { IsWell region.new }
     {
         region.known();
-        exchange_objects(region, old, new, LEFT, RIGHT);
+        trade(region, old, new);
     }
 }
 
@@ -173,21 +184,10 @@ pub fn top_of<const S: usize>(region: &Region<S>, r: Ref) -> End
     region.known();
     let mut at = r;
     loop {
-        let before = region.link_of(End::Obj(at, LEFT));
-        match object(before, RIGHT) {
-            Some(q) => at = q,
-            None => return set(before),
+        let end = door(region, at);
+        match owner(end) {
+            None => return end,
+            Some((_, q)) => at = q,
         }
-    }
-}
-
-// The end that is named.
-fn set(named: Option<End>) -> End
-    requires { IsSome named }
-    ensures { named ≡ Some result }
-{
-    match named {
-        Some(end) => end,
-        None => unreachable!(),
     }
 }

@@ -1,13 +1,11 @@
 -- A version that a slot names, and its entries, after each change.
-use Rattle.std.proofs.Common.{◌≡◌, ◌≢◌, ℕ, zero, suc, ◌+◌, ◌≤◌, List, [], ◌∷◌, ◌++◌, length, Option, Some, None, IsSome, refl, sym, ap, ◌∙◌, subst, map, arith}
+use Rattle.std.proofs.Common.{◌≡◌, ◌≢◌, ℕ, zero, suc, ◌<◌, ◌≤◌, List, [], ◌∷◌, ◌++◌, length, Option, Some, None, IsSome, refl, sym, ap, ◌∙◌, subst, map, arith}
 use Rattle.std.specs.Prelude.{IsSomeAnd}
 use Rattle.std.specs.Option.{option_map}
 use Rattle.std.proofs.lemmas.List.{append_assoc}
-use Rattle.rc_position.specs.declared.positions.Pos.{Pos}
-use Rattle.rc_rowcode.specs.Spelling.{pos_code}
-use Rattle.lsa_kinds.specs.Fields.{number_at}
 use Rattle.lsa_kinds.specs.declared.kind.Kind.{Kind}
-use Rattle.lsa_kinds.specs.declared.kind.Kind.TheVariants.{Version}
+use Rattle.lsa_kinds.specs.declared.kind.Kind.TheVariants.{Version, RowEntry, Dummy, Static}
+use Rattle.lsa_kinds.specs.Kinds.{links_of}
 use Rattle.lsa_store.specs.declared.place.Ref.{Ref}
 use Rattle.lsa_region.specs.declared.end.Root.{Root}
 use Rattle.lsa_region.specs.declared.end.End.{End}
@@ -19,10 +17,9 @@ use Rattle.lsa_region.specs.laws.Ends.{no-end, few-links}
 use Rattle.lsa_path.specs.laws.Members.{member-here}
 use Rattle.lsa_path.specs.laws.Renamed.{some-there}
 use Rattle.lsa_tree.specs.declared.tree.Tree.{Tree}
-use Rattle.lsa_tree.specs.Entries.{IsEntryKind, SpellsEntryAt, IsEntryAtPosition, position_in}
 use Rattle.lsa_tree.specs.Search.{first_entry, last_entry, last_entry_from}
 use Rattle.lsa_tree.specs.Tree.{IsTop, IsTree, IsLoose, IsOffTree, tree_as}
-use Rattle.lsa_tree.specs.laws.Trees.{tree-entry, tree-added, tree-freed, tree-renamed, tree-empty, loose-beside, no_entry_at}
+use Rattle.lsa_tree.specs.laws.Trees.{entry-end, tree-entry, tree-added, tree-freed, tree-renamed, tree-empty, loose-beside, no_entry_at}
 use Rattle.lsa_tree_tests.specs.Walking.{HoldsTree, IsHome, IsEntryFound}
 
 -- ---- one of the entries
@@ -57,6 +54,9 @@ slot-off v slot = ((λ e. cc), (λ e. cc), (λ e. cc), (λ e. cc))
 
 pub held-kept : (slot : Root) (v w : View) (tree : Tree) (refs now : List Ref) → HoldsTree slot v tree refs → link_of w (Slot slot) ≡ link_of v (Slot slot) → IsTree tree w now → HoldsTree slot w tree now
 held-kept slot v w tree refs now h same holds = record { version = h.version; named = same ∙ h.named; top = h.top; holds = holds }
+
+pub held-as : (slot : Root) (v : View) (tree : Tree) (refs now : List Ref) → HoldsTree slot v tree refs → refs ≡ now → HoldsTree slot v tree now
+held-as slot v tree refs now h same = subst (HoldsTree slot v tree) same h
 
 pub home-kept : (slot : Root) (v w : View) (tree : Tree) (refs now : List Ref) → HoldsTree slot v tree refs → link_of w (Slot slot) ≡ link_of v (Slot slot) → IsTree tree w now → IsHome slot w
 home-kept slot v w tree refs now h same holds = (tree, now, held-kept slot v w tree refs now h same holds)
@@ -112,13 +112,25 @@ free-of v r well h less more (suc (suc (suc zero))) = h.left
 free-of v r well h less more (suc (suc (suc (suc zero)))) = h.right
 free-of v r well h less more (suc (suc (suc (suc (suc f))))) = no-end v well (Obj r (suc (suc (suc (suc (suc f)))))) (λ there. let few = few-links v r (suc (suc (suc (suc (suc f))))) there in omega (arith, few))
 
-entry_same : (o p : Option (Kind × List ℕ)) (bytes others : List ℕ) (x : Pos) → IsSomeAnd o (λ b. IsEntryKind b.0) → IsSomeAnd p (λ b. SpellsEntryAt b x) → IsSomeAnd o (λ b. b.1 ≡ bytes) → IsSomeAnd p (λ b. b.1 ≡ others) → bytes ≡ others → IsSomeAnd o (λ b. SpellsEntryAt b x)
-entry_same None p bytes others x kind h is is' same = absurd kind
-entry_same (Some b) None bytes others x kind h is is' same = absurd h
-entry_same (Some b) (Some d) bytes others x kind h is is' same =
-    let spelled : d.1 ≡ b.1 = is' ∙ sym same ∙ sym is in
-    record { kind = kind; inside = subst (λ l. 32 + number_at 28 4 l ≤ length l) spelled h.inside; place = h.place; code = subst (λ l. position_in l ≡ pos_code x) spelled h.code }
+-- ---- the way up
 
--- an entry with the same bytes as another stands at the same position
-pub same-place : (tree : Tree) (v : View) (front back : List Ref) (r : Ref) → IsTree tree v (front ++ (r ∷ back)) → (q : Ref) (x : Pos) → IsEntryAtPosition v q x → (bytes others : List ℕ) → IsSomeAnd (body v r) (λ b. b.1 ≡ bytes) → IsSomeAnd (body v q) (λ b. b.1 ≡ others) → bytes ≡ others → IsEntryAtPosition v r x
-same-place tree v front back r h q x stands bytes others is is' same = entry_same (body v r) (body v q) bytes others x (tree-entry tree v (front ++ (r ∷ back)) r h (member-here front back r)) stands is is' same
+links_three : (kind : Kind) → 2 < links_of kind
+links_three Version = omega arith
+links_three RowEntry = omega arith
+links_three Dummy = omega arith
+links_three Static = omega arith
+
+three_at : (o : Option (Kind × List ℕ)) (f : ℕ) → IsSomeAnd o (λ b. f < links_of b.0) → IsSomeAnd o (λ b. 2 < links_of b.0)
+three_at None f h = h
+three_at (Some b) f h = links_three b.0
+
+-- each object has a link 2
+pub link-two : (v : View) (r : Ref) (f : ℕ) → IsEnd v (Obj r f) → IsEnd v (Obj r 2)
+link-two v r f h = three_at (body v r) f h
+
+-- and so has what an end names
+pub named-two : (v : View) → IsWell v → (e : End) (r : Ref) (f : ℕ) → link_of v e ≡ Some (Obj r f) → IsEnd v (Obj r 2)
+named-two v well e r f is = link-two v r f (well.ends e (Obj r f) is)
+
+pub entry-two : (tree : Tree) (v : View) (front back : List Ref) (r : Ref) → IsTree tree v (front ++ (r ∷ back)) → IsEnd v (Obj r 2)
+entry-two tree v front back r h = entry-end v r 2 (tree-entry tree v (front ++ (r ∷ back)) r h (member-here front back r)) (omega arith)

@@ -1,5 +1,5 @@
 //! Entries put in, taken out, exchanged, found and moved, beside a plain vector of their numbers: tests of `lsa_tree`.
-ghost use Rattle.std.specs.Prelude.{◌≡◌, ℕ, ◌≤◌, List as Sequence, length, ◌∷◌, ◌++◌, true, Some, None, IfOk};
+ghost use Rattle.std.specs.Prelude.{◌≡◌, ℕ, ◌+◌, ◌≤◌, List as Sequence, length, ◌∷◌, ◌++◌, true, Some, None, IfOk};
 ghost use Rattle.rc_position.specs.declared.positions.Pos.{Pos as Position};
 ghost use Rattle.lsa_kinds.specs.Fields.{number_at};
 ghost use Rattle.lsa_pool.specs.Room.{spare_of};
@@ -24,19 +24,61 @@ use std::test::Fail;
 
 // The bytes of a dummy at the row of the key of one number: 32 fixed ones, of which those at 28 tell the length 11; then the weight 1, one component, its
 // kind 0, and the number in 8 bytes.
-fn spelled(number: u8) -> [u8; 43]
+fn spelled(number: u16) -> [u8; 43]
     ensures { number_at 1 1 result ≡ 0 }
 {
     [
-        0, 0, 0, 0, 0, 0, 0, 0, 0, 0, 0, 0, 0, 0, 0, 0, 0, 0, 0, 0, 0, 0, 0, 0, 0, 0, 0, 0, 11, 0,
-        0, 0, 1, 1, 0, number, 0, 0, 0, 0, 0, 0, 0,
+        0,
+        0,
+        0,
+        0,
+        0,
+        0,
+        0,
+        0,
+        0,
+        0,
+        0,
+        0,
+        0,
+        0,
+        0,
+        0,
+        0,
+        0,
+        0,
+        0,
+        0,
+        0,
+        0,
+        0,
+        0,
+        0,
+        0,
+        0,
+        11,
+        0,
+        0,
+        0,
+        1,
+        1,
+        0,
+        (number % 256) as u8,
+        (number / 256) as u8,
+        0,
+        0,
+        0,
+        0,
+        0,
+        0,
     ]
 }
 
 // The number in the bytes of an entry.
-fn number_in(bytes: &[u8]) -> Option<u8> {
-    match bytes.get(35) {
-        Some(number) => Some(*number),
+fn number_in(bytes: &[u8]) -> Option<u16> {
+    match bytes.get(35..37) {
+        Some([low, high]) => Some(u16::from(*low) + 256 * u16::from(*high)),
+        Some(_) => None,
         None => None,
     }
 }
@@ -76,7 +118,7 @@ fn tree_of(region: &Region<4096>, slot: Root) -> Tree
 }
 
 // Makes an entry with this number, which is in no tree.
-fn make(region: &mut Region<4096>, _slot: Root, number: u8) -> Ref
+fn make(region: &mut Region<4096>, _slot: Root, number: u16) -> Ref
     requires room { 96 ≤ spare_of 4096 region.old.usages }
     requires home { IsHome _slot region.old }
     ensures home { IsHome _slot region.new }
@@ -84,29 +126,6 @@ fn make(region: &mut Region<4096>, _slot: Root, number: u8) -> Ref
 {
     let bytes = spelled(number);
     region.alloc_obj(Kind::Dummy, &bytes)
-}
-
-// Puts a loose entry in; false where one is at its position.
-fn put(alloc: Global, region: &mut Region<4096>, slot: Root, r: Ref) -> Result<bool, AllocError>
-    requires home { IsHome slot region.old }
-    requires loose { IsLoose region.old r }
-    ensures { IsHome slot region.new }
-{
-    if !is_entry(alloc, region, r)? {
-        return Ok(false);
-    }
-    let tree = tree_of(region, slot);
-    match tree.find_like(region, r) {
-        Place::Here(_) => Ok(false),
-        Place::Before(_) => {
-            tree.insert(region, r);
-            Ok(true)
-        }
-        Place::Last => {
-            tree.insert(region, r);
-            Ok(true)
-        }
-    }
 }
 
 // Whether an end names nothing.
@@ -176,66 +195,55 @@ fn discard(region: &mut Region<4096>, slot: Root, tree: Tree, r: Ref)
     free(region, slot, r);
 }
 
-// Takes the entry at this place out.
-fn take(region: &mut Region<4096>, slot: Root, place: usize)
+// Takes the entry with this number out, if there is one.
+fn take(alloc: Global, region: &mut Region<4096>, slot: Root, number: u16) -> Result<(), AllocError>
     requires { IsHome slot region.old }
     ensures { IsHome slot region.new }
 {
+    let key = Key::from_slice(alloc, &[Comp::Int(i64::from(number))])?;
     let tree = tree_of(region, slot);
-    match nth(tree, region, place) {
-        Some(r) => discard(region, slot, tree, r),
-        None => {}
+    match tree.locate_key(region, &key) {
+        Place::Here(r) => discard(region, slot, tree, r),
+        Place::Before(_) => {}
+        Place::Last => {}
     }
+    Ok(())
 }
 
-// Whether bytes are the same.
-fn is_same(bytes: &[u8], others: &[u8]) -> bool
-    ensures { result ≡ true → bytes.now ≡ others.now }
-{
-    bytes == others
-}
-
-// Puts a loose entry into the place of one at its position, and frees that one; false where they stand at different ones.
-fn exchange(
-    alloc: Global,
-    region: &mut Region<4096>,
-    slot: Root,
-    tree: Tree,
-    old: Ref,
-    new: Ref,
-) -> Result<bool, AllocError>
+// Puts a loose entry into the place of one at its position, and frees that one.
+fn exchange(region: &mut Region<4096>, slot: Root, tree: Tree, old: Ref, new: Ref)
     requires held { (front : Sequence Name) × (back : Sequence Name) × HoldsTree slot region.old tree (front ++ (old ∷ back)) }
     requires loose { IsLoose region.old new }
+    requires alike { (x : Position) × IsEntryAtPosition region.old old x × IsEntryAtPosition region.old new x }
     ensures { IsHome slot region.new }
 {
-    if !is_entry(alloc, region, new)? {
-        return Ok(false);
-    }
-    if !is_same(region.bytes(old), region.bytes(new)) {
-        return Ok(false);
-    }
     tree.replace(region, old, new);
     free(region, slot, old);
-    Ok(true)
 }
 
-// Puts a new entry with this number into the place of the entry at this place; false where that carries another number.
-fn exchange_at(
-    alloc: Global,
-    region: &mut Region<4096>,
-    slot: Root,
-    place: usize,
-    number: u8,
-) -> Result<bool, AllocError>
-    requires room { 96 ≤ spare_of 4096 region.old.usages }
+// Puts a loose entry in, or into the place of the one at its position; false where it is none.
+fn put(alloc: Global, region: &mut Region<4096>, slot: Root, r: Ref) -> Result<bool, AllocError>
     requires home { IsHome slot region.old }
+    requires loose { IsLoose region.old r }
     ensures { IsHome slot region.new }
 {
-    let new = make(region, slot, number);
+    if !is_entry(alloc, region, r)? {
+        return Ok(false);
+    }
     let tree = tree_of(region, slot);
-    match nth(tree, region, place) {
-        Some(old) => exchange(alloc, region, slot, tree, old, new),
-        None => Ok(false),
+    match tree.find_like(region, r) {
+        Place::Here(old) => {
+            exchange(region, slot, tree, old, r);
+            Ok(true)
+        }
+        Place::Before(_) => {
+            tree.insert(region, r);
+            Ok(true)
+        }
+        Place::Last => {
+            tree.insert(region, r);
+            Ok(true)
+        }
     }
 }
 
@@ -253,7 +261,7 @@ fn has_room(region: &mut Region<4096>, _slot: Root) -> bool
 }
 
 // The number that an entry carries, if there is one.
-fn number_of(tree: Tree, region: &Region<4096>, found: Option<Ref>) -> Option<u8>
+fn number_of(tree: Tree, region: &Region<4096>, found: Option<Ref>) -> Option<u16>
     requires { IsEntryFound tree region.now found }
 {
     match found {
@@ -263,7 +271,7 @@ fn number_of(tree: Tree, region: &Region<4096>, found: Option<Ref>) -> Option<u8
 }
 
 // Whether the entries carry these numbers, in this order.
-fn leads_through(tree: Tree, region: &Region<4096>, numbers: &[u8]) -> bool
+fn leads_through(tree: Tree, region: &Region<4096>, numbers: &[u16]) -> bool
     requires { (refs : Sequence Name) × IsTree tree region.now refs }
 {
     let mut found = tree.first(region);
@@ -288,7 +296,7 @@ fn ahead(tree: Tree, region: &Region<4096>, found: Option<Ref>) -> Option<Ref>
 }
 
 // Whether the entries back from the last of so many carry these numbers, in the opposite order.
-fn leads_back(tree: Tree, region: &Region<4096>, numbers: &[u8]) -> bool
+fn leads_back(tree: Tree, region: &Region<4096>, numbers: &[u16]) -> bool
     requires { (refs : Sequence Name) × IsTree tree region.now refs }
 {
     if numbers.len() == 0 {
@@ -305,7 +313,7 @@ fn leads_back(tree: Tree, region: &Region<4096>, numbers: &[u8]) -> bool
 }
 
 // Whether the entry is at the position, and the number of that one, or of the next one.
-fn told(_tree: Tree, region: &Region<4096>, place: Place) -> (bool, Option<u8>)
+fn told(_tree: Tree, region: &Region<4096>, place: Place) -> (bool, Option<u16>)
     requires { (refs : Sequence Name) × (x : Position) × IsTree _tree region.now refs × IsFound region.now refs x place }
 {
     match place {
@@ -316,7 +324,7 @@ fn told(_tree: Tree, region: &Region<4096>, place: Place) -> (bool, Option<u8>)
 }
 
 // The same by a vector of ascending numbers.
-fn expected(numbers: &[u8], number: u8) -> (bool, Option<u8>) {
+fn expected(numbers: &[u16], number: u16) -> (bool, Option<u16>) {
     for other in numbers.iter() {
         if *other >= number {
             return (*other == number, Some(*other));
@@ -330,8 +338,8 @@ fn finds(
     alloc: Global,
     tree: Tree,
     region: &Region<4096>,
-    numbers: &[u8],
-    number: u8,
+    numbers: &[u16],
+    number: u16,
 ) -> Result<bool, AllocError>
     requires { (refs : Sequence Name) × IsTree tree region.now refs }
 {
@@ -346,12 +354,68 @@ fn finds(
     Ok(by_key == wanted && by_position == wanted)
 }
 
+// Among 1001 entries a search compares 20 times at most.
+fn compared<L: Ledger>(region: &Region<4096>, tree: Tree, x: &Pos, steps: &mut Steps<L>) -> Place
+    requires { (refs : Sequence Name) × IsTree tree region.now refs × (length refs ≡ 1001) }
+    ensures { steps.new ≤ steps.old + 20 }
+{
+    tree.find(region, x, steps)
+}
+
+// How many links lead up from an entry to the top of its tree, 64 at most.
+fn links_up(tree: Tree, region: &Region<4096>, found: Option<Ref>) -> usize
+    requires { IsEntryFound tree region.now found }
+{
+    match found {
+        Some(r) => links_from(tree, region, r),
+        None => 0,
+    }
+}
+
+// How many links lead up from one of the entries to the top, 64 at most.
+fn links_from(_tree: Tree, region: &Region<4096>, r: Ref) -> usize
+    requires { (front : Sequence Name) × (back : Sequence Name) × IsTree _tree region.now (front ++ (r ∷ back)) }
+{
+    region.known();
+    let mut at = End::Obj(r, 2);
+    for links in 1..64 {
+        match region.link_of(at) {
+            Some(End::Obj(q, field)) => {
+                if field == 2 {
+                    return links;
+                }
+                at = End::Obj(q, 2);
+            }
+            Some(End::Slot(_)) => return 64,
+            None => return 64,
+        }
+    }
+    64
+}
+
+// The most links that lead up from any entry.
+fn most_links(region: &Region<4096>, slot: Root) -> usize
+    requires { IsHome slot region.now }
+{
+    let tree = tree_of(region, slot);
+    let mut most = 0;
+    let mut found = tree.first(region);
+    for _step in 0..region.objects() {
+        let links = links_up(tree, region, found);
+        if links > most {
+            most = links;
+        }
+        found = behind(tree, region, found);
+    }
+    most
+}
+
 // Entries that carry their numbers, and a plain vector of these numbers, ascending.
 #[derive(Drop)]
 struct Beside {
     region: Region<4096>,
     slot: Root,
-    plain: Vec<u8>,
+    plain: Vec<u16>,
 }
 
 impl Model for Beside {
@@ -366,7 +430,7 @@ impl Model for Beside {
 }
 
 // Where a number belongs among ascending ones.
-fn place_in(numbers: &[u8], number: u8) -> usize
+fn place_in(numbers: &[u16], number: u16) -> usize
     ensures { result ≤ length numbers.now }
 {
     match numbers.iter().position(|other| *other >= number) {
@@ -377,30 +441,34 @@ fn place_in(numbers: &[u8], number: u8) -> usize
 
 impl Beside {
     // Puts an entry with this number in, or exchanges the one that is there; false where that fails.
-    fn add(&mut self, alloc: Global, number: u8) -> Result<bool, AllocError> {
+    fn add(&mut self, alloc: Global, number: u16) -> Result<bool, AllocError> {
         if !has_room(&mut self.region, self.slot) {
             return Ok(false);
         }
         let place = place_in(self.plain.as_slice(), number);
-        if self.plain.contains(&number) {
-            return exchange_at(alloc, &mut self.region, self.slot, place, number);
+        if !self.plain.contains(&number) {
+            self.plain.insert(place, number)?;
         }
         let r = make(&mut self.region, self.slot, number);
-        self.plain.insert(place, number)?;
         put(alloc, &mut self.region, self.slot, r)
     }
 
-    // Takes the entry at this place out, if there is one.
-    fn remove(&mut self, place: usize) {
+    // Takes the entry at this place of the vector out, if there is one.
+    fn remove(&mut self, alloc: Global, place: usize) -> Result<(), AllocError> {
         if place >= self.plain.len() {
-            return;
+            return Ok(());
         }
-        let _number = self.plain.remove(place);
-        take(&mut self.region, self.slot, place);
+        let number = self.plain.remove(place);
+        take(alloc, &mut self.region, self.slot, number)
+    }
+
+    // The most links that lead up from any entry.
+    fn most_links(&self) -> usize {
+        most_links(&self.region, self.slot)
     }
 
     // Whether the entries carry the numbers of the vector, and this number is found as it is there; there is no object but the version and the entries.
-    fn agrees(&self, alloc: Global, number: u8) -> Result<bool, AllocError> {
+    fn agrees(&self, alloc: Global, number: u16) -> Result<bool, AllocError> {
         let tree = tree_of(&self.region, self.slot);
         let numbers = self.plain.as_slice();
         let lead = leads_through(tree, &self.region, numbers)
@@ -413,7 +481,7 @@ impl Beside {
 }
 
 // A version without entries, which a slot names.
-fn empty(mut region: Region<4096>, slot: Root, plain: Vec<u8>) -> Beside
+fn empty(mut region: Region<4096>, slot: Root, plain: Vec<u16>) -> Beside
     requires there { IsEnd region (End.Slot slot) }
     requires unset { link_of region (End.Slot slot) ≡ None }
     requires room { 64 ≤ spare_of 4096 region.usages }
@@ -433,8 +501,8 @@ fn counted<L: Ledger>(
     alloc: Global,
     beside: &Beside,
     blank: Blank,
-    number: u8,
-) -> Result<(bool, Option<u8>), AllocError>
+    number: u16,
+) -> Result<(bool, Option<u16>), AllocError>
     requires name { blank.name ≡ L.name }
     requires parts { blank.parts ≡ L.parts }
     requires one { blank.parts ≡ 1 }
@@ -465,33 +533,48 @@ fn three_entries(rt: HostRuntime) -> Result<(), Fail> {
     assert!(rt; beside.agrees(rt.alloc(), 91)?);
     let found = counted::<Brand>(rt.alloc(), &beside, Blank::new(1), 90)?;
     assert_eq!(rt; found, (false, Some(200)));
-    beside.remove(0);
+    beside.remove(rt.alloc(), 0)?;
     assert!(rt; beside.agrees(rt.alloc(), 7)?);
     assert_eq!(rt; beside.region.live(), 64 + 2 * 96);
     Ok(())
 }
 
+// A thousand and one entries, put in in order: 20 links lead up from any of them at most, though each goes behind all others.
+#[test]
+fn a_thousand_and_one_entries(rt: HostRuntime) -> Result<(), Fail> {
+    let mut region = Region::<4096>::open(rt.alloc(), 40)?;
+    let slot = region.add_root(rt.alloc())?;
+    let mut beside = empty(region, slot, Vec::new(rt.alloc()));
+    for number in 0..1001 {
+        assert!(rt; beside.add(rt.alloc(), number)?);
+    }
+    assert!(rt; beside.agrees(rt.alloc(), 500)?);
+    let links = beside.most_links();
+    assert!(rt; links >= 10 && links <= 20, "{links}");
+    Ok(())
+}
+
 // One call of the tree, and the same of the vector; false where they differ.
-fn step(beside: &mut Beside, alloc: Global, what: usize, number: u8) -> Result<bool, AllocError> {
+fn step(beside: &mut Beside, alloc: Global, what: usize, number: u16) -> Result<bool, AllocError> {
     match what % 5 {
-        0 | 1 => beside.remove(number as usize / 2),
+        0 | 1 => beside.remove(alloc, number as usize / 2)?,
         _ => {
             if !beside.add(alloc, number)? {
                 return Ok(false);
             }
         }
     }
-    Ok(what % 8 != 0 || beside.agrees(alloc, number)?)
+    Ok(what % 100 != 0 || beside.agrees(alloc, number)?)
 }
 
-// Two thousand calls over some hundred entries, in segments that hold hardly more.
+// A hundred thousand calls over some two hundred entries, in segments that hold hardly more.
 #[test]
-fn two_thousand_calls(rt: HostRuntime) -> Result<(), Fail> {
-    let mut region = Region::<4096>::open(rt.alloc(), 5)?;
+fn a_hundred_thousand_calls(rt: HostRuntime) -> Result<(), Fail> {
+    let mut region = Region::<4096>::open(rt.alloc(), 12)?;
     let slot = region.add_root(rt.alloc())?;
     let mut beside = empty(region, slot, Vec::new(rt.alloc()));
     let mut state: u64 = 1;
-    for call in 0..2000 {
+    for call in 0..100_000 {
         state = state
             .wrapping_mul(6_364_136_223_846_793_005)
             .wrapping_add(1_442_695_040_888_963_407);
@@ -501,12 +584,13 @@ fn two_thousand_calls(rt: HostRuntime) -> Result<(), Fail> {
                 &mut beside,
                 rt.alloc(),
                 dice % 1000,
-                (dice / 1000 % 256) as u8
+                (dice / 1000 % 512) as u16
             )?,
             "at {call}"
         );
     }
-    assert!(rt; beside.plain.len() > 100);
-    assert!(rt; beside.region.compacted() > 20 && beside.region.moved() > 500);
+    assert!(rt; beside.plain.len() > 150);
+    assert!(rt; beside.region.compacted() > 1000 && beside.region.moved() > 10_000);
+    assert!(rt; beside.most_links() <= 16);
     Ok(())
 }

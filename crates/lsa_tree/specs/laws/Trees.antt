@@ -1,9 +1,8 @@
 -- The entries of a version in order: what changes leave of them.
-use Rattle.std.proofs.Common.{◌≡◌, ◌≢◌, ℕ, zero, suc, ◌+◌, ◌-◌, ◌<◌, ◌≤◌, List, [], ◌∷◌, length, take, drop, Option, Some, None, IsSome, is_some, inl, inr, refl, sym, ap, ◌∙◌, subst, map, arith}
-use Rattle.std.specs.Prelude.{IsSomeAnd, Contains}
+use Rattle.std.proofs.Common.{◌≡◌, ◌≢◌, ℕ, zero, suc, ◌+◌, ◌*◌, ◌^◌, ◌-◌, ◌<◌, ◌≤◌, List, [], ◌∷◌, length, take, drop, Option, Some, None, IsSome, is_some, inl, inr, refl, sym, ap, ◌∙◌, subst, map, arith}
+use Rattle.std.specs.Prelude.{IsSomeAnd, Contains, AllPairs}
 use Rattle.std.specs.Option.{option_map}
-use Rattle.std.specs.List.{AllByRecursion}
-use Rattle.std.proofs.lemmas.List.{drop-drop, length-drop}
+use Rattle.std.proofs.lemmas.List.{drop-drop, length-drop, length-append}
 use Rattle.rc_position.specs.declared.positions.Pos.{Pos}
 use Rattle.lsa_kinds.specs.declared.kind.Kind.{Kind}
 use Rattle.lsa_kinds.specs.declared.kind.Kind.TheVariants.{Version, RowEntry, Dummy, Static}
@@ -13,22 +12,24 @@ use Rattle.lsa_store.specs.declared.place.Ref.{Ref}
 use Rattle.lsa_region.specs.declared.end.End.{End}
 use Rattle.lsa_region.specs.declared.end.End.TheVariants.{Obj, Slot}
 use Rattle.lsa_region.specs.Ends.{named_as, end_as}
-use Rattle.lsa_region.specs.Region.{View, body, link_of, IsEnd, IsWell, SameObjects, IsAdded, IsFreed, IsWritten, Renamed}
+use Rattle.lsa_region.specs.Region.{View, body, link_of, IsEnd, IsWell, IsSummed, objects, SameObjects, IsAdded, IsFreed, IsWritten, Renamed}
 use Rattle.lsa_region.specs.laws.Ends.{ends_decided}
 use Rattle.lsa_region.specs.laws.Refs.{refs_decided}
-use Rattle.lsa_path.specs.Path.{IsOutside, IsOfLive}
 use Rattle.lsa_path.specs.Roles.{role_of, role_in, role_at, Parent, Left, Right, Entries}
-use Rattle.lsa_path.specs.laws.Members.{member-first, member-later, all-from_members}
-use Rattle.lsa_path.specs.laws.Passing.{path-determined, path-entered, paths-disjoint}
-use Rattle.lsa_path.specs.laws.Paths.{same_object, path-same, path-everywhere}
-use Rattle.lsa_path.specs.laws.Renamed.{some-there, path-renamed}
+use Rattle.lsa_path.specs.laws.Paths.{same_object}
+use Rattle.lsa_path.specs.laws.Renamed.{some-there}
+use Rattle.lsa_shape.specs.Shapes.{TreeShape, Leaf, Node, inorder, IsIn, HangsAt, IsOff, IsClearOf, shape_by}
+use Rattle.lsa_shape.specs.laws.Hanging.{in-listed, listed-in, entered-by, hangs-determined, hangs-apart, hangs-moved, hangs-mapped, inorder-by}
+use Rattle.lsa_shape.specs.declared.flank.Flank.TheVariants.{Low}
+use Rattle.lsa_shape.specs.Levels.{IsLevel}
+use Rattle.lsa_shape.specs.Readings.{LeadsUp, way_objects}
+use Rattle.lsa_shape.specs.laws.Depths.{level-kept, level-mapped, plug-level, shallow, way-short, leans-less, size-listed}
+use Rattle.lsa_shape.specs.laws.Places.{way-to}
+use Rattle.lsa_shape.specs.laws.Reading.{inorder-once, way-leads, objects-long}
 use Rattle.lsa_tree.specs.declared.tree.Tree.{Tree}
-use Rattle.lsa_tree.specs.Entries.{IsEntryKind, SpellsEntryAt, IsEntryAtPosition, balance_in, but_balance, IsAlike, tree_part, IsReadAlike}
-use Rattle.lsa_tree.specs.Tree.{IsTop, IsFlat, IsTree, IsLoose, IsOffTree, IsTreeRole, IsOfTree, SameButBalances, tree_as}
-use Rattle.lsa_tree.specs.laws.Orders.{all-members, ascending-kept, ascending-named, ascending-stands}
-
-pub fields_differ : ◌≢◌ {A = ℕ} 3 4
-fields_differ e = cc
+use Rattle.lsa_tree.specs.Entries.{IsEntryKind, SpellsEntryAt, IsEntryAtPosition, balance_in, balance_of, but_balance, IsAlike, tree_part, IsReadAlike}
+use Rattle.lsa_tree.specs.Tree.{IsTop, IsTree, IsLoose, IsOffTree, IsTreeRole, IsOfTree, SameButBalances, tree_as}
+use Rattle.lsa_tree.specs.laws.Orders.{ascending-kept, ascending-named, ascending-stands}
 
 -- ---- entries and versions
 
@@ -59,10 +60,6 @@ version_has (Some b) h = subst (λ k. 2 < links_of k) (sym h) (omega arith)
 pub top-end : (v : View) (e : End) → IsTop v e → IsEnd v e
 top-end v (Obj r f) h = subst (λ n. IsEnd v (Obj r n)) (sym h.0) (version_has (body v r) h.1)
 top-end v (Slot s) h = absurd h
-
-pub top-outside : (v : View) (e : End) → IsTop v e → IsOutside 3 4 e
-top-outside v (Obj r f) h = ((λ e. let clash : ◌≡◌ {A = ℕ} 2 3 = sym h.0 ∙ e in cc), (λ e. let clash : ◌≡◌ {A = ℕ} 2 4 = sym h.0 ∙ e in cc))
-top-outside v (Slot s) h = absurd h
 
 no_entry : (kind : Kind) → kind ≡ Version → IsEntryKind kind → ⊥
 no_entry kind e (inl d) = let clash : Version ≡ RowEntry = sym e ∙ d in cc
@@ -98,32 +95,71 @@ module _ (v : View) (e : End) (off : IsOffTree v e) where
   off-top (Obj r f) h is = off.3 (ap (role_at v) is ∙ ap (role_in (body v r)) h.0 ∙ top_role (body v r) h.1)
   off-top (Slot s) h is = h
 
-  pub off-entry : (r : Ref) → IsSomeAnd (body v r) (λ b. IsEntryKind b.0) → (e ≢ Obj r 3) × (e ≢ Obj r 4)
-  off-entry r h = let w = entry_roles (body v r) h in ((λ is. off.1 (ap (role_at v) is ∙ w.1)), (λ is. off.2 (ap (role_at v) is ∙ w.2)))
+  pub off-entry : (r : Ref) → IsSomeAnd (body v r) (λ b. IsEntryKind b.0) → IsOff e r
+  off-entry r h = let w = entry_roles (body v r) h in ((λ is. off.0 (ap (role_at v) is ∙ w.0)), (λ is. off.1 (ap (role_at v) is ∙ w.1)), (λ is. off.2 (ap (role_at v) is ∙ w.2)))
 
 -- ---- one tree
+
+-- a body with a balance
+body_long : (o : Option (Kind × List ℕ)) (x : Pos) → IsSomeAnd o (λ b. SpellsEntryAt b x) → IsSomeAnd o (λ b. IsEntryKind b.0 × (3 ≤ length b.1))
+body_long None x h = h
+body_long (Some b) x h = (h.kind, omega (arith, h.inside))
+
+pub entry-long : (v : View) (r : Ref) (x : Pos) → IsEntryAtPosition v r x → IsSomeAnd (body v r) (λ b. IsEntryKind b.0 × (3 ≤ length b.1))
+entry-long v r x h = body_long (body v r) x h
 
 module _ (tree : Tree) (v : View) where
   -- the links determine the entries
   pub tree-once : (xs ys : List Ref) → IsTree tree v xs → IsTree tree v ys → xs ≡ ys
-  tree-once xs ys h k = (path-determined 3 4 (link_of v) tree.top xs ys None None refl refl h.path k.path).0
+  tree-once xs ys h k = sym h.form.4 ∙ ap inorder (hangs-determined (link_of v) tree.top h.form.0 k.form.0 h.form.2 k.form.2) ∙ k.form.4
 
   pub tree-entry : (refs : List Ref) (r : Ref) → IsTree tree v refs → Contains refs r → IsSomeAnd (body v r) (λ b. IsEntryKind b.0)
   tree-entry refs r h c = let w = ascending-stands v refs r h.ascending c in stands-entry v r w.0 w.1
 
+  -- what is in its shape
+  pub tree-in : (refs : List Ref) (r : Ref) (h : IsTree tree v refs) → IsIn r h.form.0 → Contains refs r
+  tree-in refs r h i = subst (λ l. Contains l r) h.form.4 (in-listed h.form.0 r i)
+
+  pub in-tree : (refs : List Ref) (r : Ref) (h : IsTree tree v refs) → Contains refs r → IsIn r h.form.0
+  in-tree refs r h c = listed-in h.form.0 r (subst (λ l. Contains l r) (sym h.form.4) c)
+
+  -- the top is no link of an entry
+  pub clear-entries : (e : End) (s : TreeShape) → IsTop v e → ((z : Ref) → IsIn z s → IsSomeAnd (body v z) (λ b. IsEntryKind b.0)) → IsClearOf e s
+  clear-entries e s top entries z i =
+      let off = λ (f : ℕ) (is : e ≡ Obj z f). entry-no-top v e z f top (entries z i) (sym is) in (off 2, off 3, off 4)
+
+  pub tree-clear : (refs : List Ref) (h : IsTree tree v refs) → IsClearOf tree.top h.form.0
+  tree-clear refs h = clear-entries tree.top h.form.0 h.top (λ z i. tree-entry refs z h (tree-in refs z h i))
+
+  -- each entry is in it once
+  pub tree-pairs : IsWell v → (refs : List Ref) → IsTree tree v refs → AllPairs ◌≢◌ refs
+  tree-pairs well refs h = subst (AllPairs ◌≢◌) h.form.4 (inorder-once (link_of v) well.paired tree.top h.form.0 h.form.2 (tree-clear refs h))
+
+  -- and there are no more than objects
+  pub tree-few : IsWell v → IsSummed v → (refs : List Ref) → IsTree tree v refs → length refs ≤ objects v
+  tree-few well summed refs h = summed.few refs (tree-pairs well refs h) (λ r c. some-there _ (body v r) (tree-entry refs r h c))
+
+  -- few entries lead up from each of them to the top
+  pub tree-shallow : IsWell v → (refs : List Ref) (r : Ref) → IsTree tree v refs → Contains refs r → (up : List Ref) × LeadsUp (link_of v) tree.top r up × ((d : ℕ) → length refs + 1 < 2 ^ d → length (r ∷ up) ≤ 2 * d)
+  tree-shallow well refs r h c =
+      let w = way-to [] h.form.0 r (in-tree refs r h c) in let way = w.0 in
+      let hangs = subst (HangsAt (link_of v) tree.top) (sym w.3) h.form.2 in
+      let level = plug-level (balance_of v) way (Node w.1 r w.2) h.form.1 (subst (λ s. IsLevel (balance_of v) s h.form.1) (sym w.3) h.form.3) in (
+        way_objects way,
+        way-leads (link_of v) well.paired tree.top way w.1 w.2 r hangs,
+        λ d few. let less = shallow (balance_of v) d h.form.0 h.form.1 h.form.3 (omega (arith, few, size-listed h.form.0, ap length h.form.4)) in
+            let short = way-short (balance_of v) way level.0 h.form.1 level.2 in let high = leans-less Low (balance_of v r) level.1.0 level.1.1 level.0 level.1.4 in omega (arith, less, short, high.0, objects-long way),
+      )
+
   -- an entry is entered
-  pub tree-left : IsWell v → (refs : List Ref) (r : Ref) → IsTree tree v refs → Contains refs r → link_of v (Obj r 3) ≢ None
-  tree-left well refs r h c none = let w = path-entered 3 4 (link_of v) tree.top refs None h.path r c in let clash : None ≡ Some w.0 = sym none ∙ well.paired.mates w.0 (Obj r 3) w.1 in cc
+  pub tree-entered : IsWell v → (refs : List Ref) (r : Ref) → IsTree tree v refs → Contains refs r → link_of v (Obj r 2) ≢ None
+  tree-entered well refs r h c none = let w = entered-by (link_of v) tree.top h.form.0 h.form.2 r (in-tree refs r h c) in let clash : None ≡ Some w.0 = sym none ∙ well.paired.mates w.0 (Obj r 2) w.1 in cc
 
   -- a loose entry is none of them
   pub loose-beside : IsWell v → (refs : List Ref) (r : Ref) → IsTree tree v refs → IsLoose v r → Contains refs r → ⊥
-  loose-beside well refs r h loose c = tree-left well refs r h c loose.left
+  loose-beside well refs r h loose c = tree-entered well refs r h c loose.parent
 
 -- ---- two views
-
--- an entry reads as it did
-pub listed-same : (v w : View) (r : Ref) → body w r ≡ body v r → link_of w (Obj r 2) ≡ link_of v (Obj r 2) → IsFlat v r → IsFlat w r
-listed-same v w r same here h = record { parent = here ∙ h.parent; level = ap balance_in same ∙ h.level }
 
 pub stands-same : (v w : View) (r : Ref) (x : Pos) → body w r ≡ body v r → IsEntryAtPosition v r x → IsEntryAtPosition w r x
 stands-same v w r x same h = subst (λ o. IsSomeAnd o (λ b. SpellsEntryAt b x)) (sym same) h
@@ -187,9 +223,6 @@ module _ (v w : View) (r : Ref) (same : IsReadAlike (body v r) (body w r)) where
   pub stands-read : (x : Pos) → IsEntryAtPosition v r x → IsEntryAtPosition w r x
   stands-read x h = reads_at (body v r) (body w r) x same h
 
-  pub listed-read : link_of w (Obj r 2) ≡ link_of v (Obj r 2) → IsFlat v r → IsFlat w r
-  listed-read here h = record { parent = here ∙ h.parent; level = reads_balance (body v r) (body w r) same ∙ h.level }
-
   pub loose-read : ((f : ℕ) → 2 ≤ f → f ≤ 4 → link_of w (Obj r f) ≡ link_of v (Obj r f)) → IsLoose v r → IsLoose w r
   loose-read links h = record {
     entry = reads_kind (body v r) (body w r) same h.entry;
@@ -210,9 +243,14 @@ pub tree-linked : (tree : Tree) (v w : View) (refs : List Ref) → IsTop w tree.
     → ((r : Ref) → Contains refs r → IsReadAlike (body v r) (body w r)) → ((r : Ref) → Contains refs r → (f : ℕ) → 2 ≤ f → f ≤ 4 → link_of w (Obj r f) ≡ link_of v (Obj r f)) → IsTree tree v refs → IsTree tree w refs
 tree-linked tree v w refs top here same links h = record {
   top = top;
-  path = path-same 3 4 (link_of v) (link_of w) tree.top refs None here (all-from_members 4 (λ e. link_of w e ≡ link_of v e) refs (λ r c. links r c 4 (omega arith) (omega arith))) h.path;
   ascending = ascending-kept v w refs (λ r c x k. stands-read v w r (same r c) x k) h.ascending;
-  listed = all-members (IsFlat v) (IsFlat w) refs (λ r c k. listed-read v w r (same r c) (links r c 2 (omega arith) (omega arith)) k) h.listed;
+  form = (
+    h.form.0,
+    h.form.1,
+    hangs-moved (link_of v) (link_of w) tree.top tree.top h.form.0 here (λ z i. let c = tree-in tree v refs z h i in (links z c 3 (omega arith) (omega arith), links z c 4 (omega arith) (omega arith))) h.form.2,
+    level-kept (balance_of v) (balance_of w) h.form.0 h.form.1 (λ z i. reads_balance (body v z) (body w z) (same z (tree-in tree v refs z h i))) h.form.3,
+    h.form.4,
+  );
 }
 
 -- and where versions stay versions
@@ -222,7 +260,9 @@ tree-kept tree v w refs versions here same links h = tree-linked tree v w refs (
 
 -- other trees share no entry with one
 pub trees-apart : (v : View) → IsWell v → (tree other : Tree) (xs ys : List Ref) → other.top ≢ tree.top → IsTree tree v xs → IsTree other v ys → (r : Ref) → Contains xs r → Contains ys r → ⊥
-trees-apart v well tree other xs ys ne h k = paths-disjoint 3 4 fields_differ (link_of v) well.paired tree.top other.top xs ys None None (top-outside v tree.top h.top) (top-outside v other.top k.top) ne h.path k.path
+trees-apart v well tree other xs ys ne h k r on too = hangs-apart (link_of v) well.paired tree.top other.top h.form.0 k.form.0 (λ e. ne (sym e)) h.form.2 k.form.2
+    (clear-entries tree v tree.top k.form.0 h.top (λ z i. tree-entry other v ys z k (tree-in other v ys z k i)))
+    (clear-entries tree v other.top h.form.0 k.top (λ z i. tree-entry tree v xs z h (tree-in tree v xs z h i))) r (in-tree tree v xs r h on) (in-tree other v ys r k too)
 
 -- an entry stands in one tree
 pub trees-same : (v : View) → IsWell v → (tree other : Tree) (xs ys : List Ref) → IsTree tree v xs → IsTree other v ys → (r : Ref) → Contains xs r → Contains ys r → tree ≡ other
@@ -320,9 +360,14 @@ loose-made v w r kind bytes added h level = record {
 pub tree-freed : (tree : Tree) (v w : View) (r : Ref) → IsFreed v w r → (refs : List Ref) → (Contains refs r → ⊥) → tree.top ≢ Obj r 2 → IsTree tree v refs → IsTree tree w refs
 tree-freed tree v w r freed refs beside apart h = record {
   top = freed_top tree.top apart h.top;
-  path = path-everywhere 3 4 (link_of v) (link_of w) tree.top refs None freed.links h.path;
   ascending = ascending-kept v w refs (λ q c x k. stands-read v w q (kept q c) x k) h.ascending;
-  listed = all-members (IsFlat v) (IsFlat w) refs (λ q c k. listed-read v w q (kept q c) (freed.links (Obj q 2)) k) h.listed;
+  form = (
+    h.form.0,
+    h.form.1,
+    hangs-moved (link_of v) (link_of w) tree.top tree.top h.form.0 (freed.links tree.top) (λ z i. (freed.links (Obj z 3), freed.links (Obj z 4))) h.form.2,
+    level-kept (balance_of v) (balance_of w) h.form.0 h.form.1 (λ z i. reads_balance (body v z) (body w z) (kept z (tree-in tree v refs z h i))) h.form.3,
+    h.form.4,
+  );
 }
   where
     kept : (q : Ref) → Contains refs q → IsReadAlike (body v q) (body w q)
@@ -380,12 +425,16 @@ module _ (v w : View) (r : Ref) (change : List ℕ → List ℕ) (written : IsWr
           (h.others 1 1 apart, sym (far (change b.1)) ∙ ap (drop (28 - (offset + width))) h.behind ∙ far b.1)
 
 -- a version without entries
+no_entries : (s : TreeShape) → inorder s ≡ [] → s ≡ Leaf
+no_entries Leaf none = refl
+no_entries (Node l r t) none = absurd (let long = ap length none in omega (arith, long, length-append (inorder l) (r ∷ inorder t)))
+
 module _ (tree : Tree) (v : View) where
   pub tree-empty : IsTop v tree.top → link_of v tree.top ≡ None → IsTree tree v []
-  tree-empty top unset = record { top = top; path = unset; ascending = tt; listed = tt }
+  tree-empty top unset = record { top = top; ascending = tt; form = (Leaf, 0, unset, refl, refl) }
 
   pub empty-unset : IsTree tree v [] → link_of v tree.top ≡ None
-  empty-unset h = h.path
+  empty-unset h = subst (HangsAt (link_of v) tree.top) (no_entries h.form.0 h.form.4) h.form.2
 
   pub unset-empty : (refs : List Ref) → IsTree tree v refs → link_of v tree.top ≡ None → refs ≡ []
   unset-empty refs h unset = tree-once tree v refs [] h (tree-empty h.top unset)
@@ -399,28 +448,28 @@ module _ (old new : View) (names : List (Ref × Ref)) (renamed : Renamed old new
   unset_renamed : (r : Ref) (f : ℕ) → IsSome (body old r) → link_of old (Obj r f) ≡ None → link_of new (Obj (named_as names r) f) ≡ None
   unset_renamed r f live unset = renamed.links r f live ∙ ap (option_map (end_as names)) unset
 
-  listed_renamed : (r : Ref) → IsSome (body old r) → IsFlat old r → IsFlat new (named_as names r)
-  listed_renamed r live h = record { parent = unset_renamed r 2 live h.parent; level = ap balance_in (renamed.bodies r live) ∙ h.level }
-
-  all_listed : (refs : List Ref) → ((r : Ref) → Contains refs r → IsSome (body old r)) → AllByRecursion (IsFlat old) refs → AllByRecursion (IsFlat new) (map (named_as names) refs)
-  all_listed [] live h = tt
-  all_listed (r ∷ refs) live h = (listed_renamed r (live r (member-first r refs)) h.0, all_listed refs (λ q c. live q (member-later r q refs c)) h.1)
-
   top_renamed : (e : End) → IsTop old e → IsTop new (end_as names e)
   top_renamed (Obj r f) h = (h.0, version-same (body old r) (body new (named_as names r)) (renamed.bodies r (some-there _ (body old r) h.1)) h.1)
   top_renamed (Slot s) h = h
 
-  top_live : (e : End) → IsTop old e → IsOfLive old e
-  top_live (Obj r f) h = some-there _ (body old r) h.1
-  top_live (Slot s) h = absurd h
+  link_renamed : (e : End) → IsTop old e → link_of new (end_as names e) ≡ option_map (end_as names) (link_of old e)
+  link_renamed (Obj r f) h = renamed.links r f (some-there _ (body old r) h.1)
+  link_renamed (Slot s) h = absurd h
 
   pub tree-renamed : (tree : Tree) (refs : List Ref) → IsTree tree old refs → IsTree (tree_as names tree) new (map (named_as names) refs)
-  tree-renamed tree refs h = record {
-    top = top_renamed tree.top h.top;
-    path = path-renamed old new names renamed well 3 4 tree.top refs None (top_live tree.top h.top) h.path;
-    ascending = ascending-named old new (named_as names) stands-renamed refs h.ascending;
-    listed = all_listed refs (λ r c. some-there _ (body old r) (tree-entry tree old refs r h c)) h.listed;
-  }
+  tree-renamed tree refs h =
+      let live : (z : Ref) → IsIn z h.form.0 → IsSome (body old z) = λ z i. some-there _ (body old z) (tree-entry tree old refs z h (tree-in tree old refs z h i)) in
+      record {
+        top = top_renamed tree.top h.top;
+        ascending = ascending-named old new (named_as names) stands-renamed refs h.ascending;
+        form = (
+          shape_by (named_as names) h.form.0,
+          h.form.1,
+          hangs-mapped (link_of old) (link_of new) (end_as names) (named_as names) tree.top h.form.0 (λ z i f low high. refl) (link_renamed tree.top h.top) (λ z i f low high. renamed.links z f (live z i)) h.form.2,
+          level-mapped (balance_of old) (balance_of new) (named_as names) h.form.0 h.form.1 (λ z i. ap balance_in (renamed.bodies z (live z i))) h.form.3,
+          inorder-by (named_as names) h.form.0 ∙ ap (map (named_as names)) h.form.4,
+        );
+      }
 
   pub loose-renamed : (r : Ref) → IsLoose old r → IsLoose new (named_as names r)
   loose-renamed r h = let live = some-there _ (body old r) h.entry in record {

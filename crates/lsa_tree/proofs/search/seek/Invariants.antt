@@ -1,13 +1,15 @@
--- The entries passed stand before what is looked for; those ahead become fewer.
-use Rattle.std.proofs.Common.{List, length}
+-- The entries before the place stand before what is looked for, and those behind it behind; less hangs there each time.
+use Rattle.std.proofs.Common.{List}
 use Rattle.rc_position.specs.declared.positions.Pos.{Pos}
 use Rattle.lsa_store.specs.declared.place.Ref.{Ref}
+use Rattle.lsa_tree.specs.Tree.{IsTree}
 use Rattle.lsa_tree.specs.calls.Seeking.{IsSought}
-use Rattle.lsa_tree.proofs.Searches.{IsReached, ahead}
+use Rattle.lsa_tree.proofs.Searches.{IsReachedAt}
+use Rattle.lsa_tree.proofs.Walks.{size_below}
 use Rattle.lsa_tree.proofs.search.seek.Given as goal
 
 abbrev pub invariant-loop-r : goal.invariant-loop-r
-invariant-loop-r g l = (x : Pos) → IsSought l.fn.sought x → (passed : List Ref) × IsReached l.fn.tree l.region x l.at passed
+invariant-loop-r g l = (x : Pos) (refs : List Ref) → IsSought l.fn.sought x → IsTree l.fn.tree l.region refs → IsReachedAt l.fn.tree l.region x l.at l.next refs
 
 abbrev pub decreases-loop-r : goal.decreases-loop-r
-decreases-loop-r g l = length (ahead l.region l.at)
+decreases-loop-r g l = size_below l.region l.at

@@ -1,45 +1,44 @@
-use Rattle.std.proofs.Common.{None, ◌∷◌, arith}
-use Rattle.lsa_tree.specs.laws.Trees.{fields_differ, entry-end, top-outside, same-objects}
-use Rattle.lsa_tree.proofs.Changes.{here-entry, apart-from, other-beside, replaced-tree, replaced-others, replaced-out, replaced-loose, replaced-balance, replaced-elsewhere}
+use Rattle.std.proofs.Common.{arith}
+use Rattle.lsa_tree.proofs.Exchanged.{replaced-apart, replaced-few, replaced-body, replaced-other, replaced-tree, replaced-others, replaced-out, replaced-loose, replaced-elsewhere, replaced-objects}
 use Rattle.lsa_tree.proofs.tree.Tree.replace.Goals as goal
 
-pub exchange_objects-requires : goal.exchange_objects-requires
-exchange_objects-requires g c =
-    let v = c.args.region.now in let r = c.args.old in let q = c.args.new in let xs = c.requires.stands.0 in let ys = c.requires.stands.1 in let h = c.requires.stands.2 in let well = c.known.ensures.well in let tree = c.args.self.now in
-    let entry = here-entry v well tree xs ys r h in let other = c.requires.loose.entry in
-    (omega arith, (entry-end v r 3 entry (omega arith), (entry-end v r 4 entry (omega arith), (entry-end v q 3 other (omega arith), (entry-end v q 4 other (omega arith), (fields_differ, apart-from v well tree xs ys r h q c.requires.loose))))))
+pub trade-requires : goal.trade-requires
+trade-requires g c =
+    let v = c.args.region.now in let well = c.known.ensures.well in let tree = c.args.self.now in let r = c.args.old in let q = c.args.new in let loose = c.requires.loose in let a = c.requires.alike in let x = a.0 in
+    let s = c.requires.stands in let front = s.0 in let back = s.1 in let h = s.2 in
+    let w = v in (omega arith, (replaced-body tree v w well r q front back h loose x a.1 a.2, (replaced-other tree v w well r q front back h loose x a.1 a.2, (replaced-few tree v w well r q front back h loose x a.1 a.2, replaced-apart tree v w well r q front back h loose x a.1 a.2))))
 
 pub returns-clause-replaced : goal.returns-clause-replaced
-returns-clause-replaced g c = λ xs ys h.
-    let v = c.args.region.now in let w = c.exchange_objects.new.region in let x = c.exchange_objects.ensures in let tree = c.args.self.now in let r = c.args.old in let q = c.args.new in let well = c.known.ensures.well in
-    let apart = apart-from v well tree c.requires.stands.0 c.requires.stands.1 r c.requires.stands.2 q c.requires.loose in
-    replaced-tree v well tree w x.objects r q c.requires.loose apart x.exchanged xs ys h c.requires.alike.0 c.requires.alike.1 c.requires.alike.2
-    (x.path tree.top xs ys None (top-outside v tree.top h.top) tt (other-beside v well tree w x.objects r q c.requires.loose apart x.exchanged xs ys h) h.path)
+returns-clause-replaced g c = λ front back h.
+    let v = c.args.region.now in let well = c.known.ensures.well in let tree = c.args.self.now in let r = c.args.old in let q = c.args.new in let loose = c.requires.loose in let a = c.requires.alike in let x = a.0 in let w = c.trade.new.region in
+    replaced-tree tree v w well r q front back h loose x a.1 a.2 c.trade.ensures.traded
 
 pub returns-clause-others : goal.returns-clause-others
 returns-clause-others g c =
-    let v = c.args.region.now in let x = c.exchange_objects.ensures in let well = c.known.ensures.well in let tree = c.args.self.now in let r = c.args.old in let q = c.args.new in let xs = c.requires.stands.0 in let ys = c.requires.stands.1 in let h = c.requires.stands.2 in
-    replaced-others v well tree c.exchange_objects.new.region x.objects r q c.requires.loose (apart-from v well tree xs ys r h q c.requires.loose) x.exchanged xs ys h
+    let v = c.args.region.now in let well = c.known.ensures.well in let tree = c.args.self.now in let r = c.args.old in let q = c.args.new in let loose = c.requires.loose in let a = c.requires.alike in let x = a.0 in let w = c.trade.new.region in
+    let s = c.requires.stands in let front = s.0 in let back = s.1 in let h = s.2 in
+    replaced-others tree v w well r q front back h loose x a.1 a.2 c.trade.ensures.traded
 
 pub returns-clause-out : goal.returns-clause-out
 returns-clause-out g c =
-    let v = c.args.region.now in let x = c.exchange_objects.ensures in let well = c.known.ensures.well in let tree = c.args.self.now in let r = c.args.old in let q = c.args.new in let xs = c.requires.stands.0 in let ys = c.requires.stands.1 in let h = c.requires.stands.2 in
-    replaced-out v well tree c.exchange_objects.new.region x.objects r q c.requires.loose (apart-from v well tree xs ys r h q c.requires.loose) x.exchanged xs ys h
+    let v = c.args.region.now in let well = c.known.ensures.well in let tree = c.args.self.now in let r = c.args.old in let q = c.args.new in let loose = c.requires.loose in let a = c.requires.alike in let x = a.0 in let w = c.trade.new.region in
+    let s = c.requires.stands in let front = s.0 in let back = s.1 in let h = s.2 in
+    replaced-out tree v w well r q front back h loose x a.1 a.2 c.trade.ensures.traded
 
 pub returns-clause-loose : goal.returns-clause-loose
 returns-clause-loose g c =
-    let v = c.args.region.now in let x = c.exchange_objects.ensures in let well = c.known.ensures.well in let tree = c.args.self.now in let r = c.args.old in let q = c.args.new in let xs = c.requires.stands.0 in let ys = c.requires.stands.1 in let h = c.requires.stands.2 in
-    replaced-loose v well tree c.exchange_objects.new.region x.objects r q c.requires.loose (apart-from v well tree xs ys r h q c.requires.loose) x.exchanged xs ys h
-
-pub returns-clause-balance : goal.returns-clause-balance
-returns-clause-balance g c =
-    let v = c.args.region.now in let x = c.exchange_objects.ensures in let well = c.known.ensures.well in let tree = c.args.self.now in let r = c.args.old in let q = c.args.new in let xs = c.requires.stands.0 in let ys = c.requires.stands.1 in let h = c.requires.stands.2 in
-    replaced-balance v well tree c.exchange_objects.new.region x.objects r q c.requires.loose (apart-from v well tree xs ys r h q c.requires.loose) x.exchanged xs ys h
+    let v = c.args.region.now in let well = c.known.ensures.well in let tree = c.args.self.now in let r = c.args.old in let q = c.args.new in let loose = c.requires.loose in let a = c.requires.alike in let x = a.0 in let w = c.trade.new.region in
+    let s = c.requires.stands in let front = s.0 in let back = s.1 in let h = s.2 in
+    replaced-loose tree v w well r q front back h loose x a.1 a.2 c.trade.ensures.traded
 
 pub returns-clause-elsewhere : goal.returns-clause-elsewhere
 returns-clause-elsewhere g c =
-    let v = c.args.region.now in let x = c.exchange_objects.ensures in let well = c.known.ensures.well in let tree = c.args.self.now in let r = c.args.old in let q = c.args.new in let xs = c.requires.stands.0 in let ys = c.requires.stands.1 in let h = c.requires.stands.2 in
-    replaced-elsewhere v well tree c.exchange_objects.new.region x.objects r q c.requires.loose (apart-from v well tree xs ys r h q c.requires.loose) x.exchanged xs ys h
+    let v = c.args.region.now in let well = c.known.ensures.well in let tree = c.args.self.now in let r = c.args.old in let q = c.args.new in let loose = c.requires.loose in let a = c.requires.alike in let x = a.0 in let w = c.trade.new.region in
+    let s = c.requires.stands in let front = s.0 in let back = s.1 in let h = s.2 in
+    replaced-elsewhere tree v w well r q front back h loose x a.1 a.2 c.trade.ensures.traded
 
 pub returns-clause-objects : goal.returns-clause-objects
-returns-clause-objects g c = λ refs h. same-objects c.args.region.now c.exchange_objects.new.region (c.args.new ∷ refs) c.exchange_objects.ensures.objects
+returns-clause-objects g c =
+    let v = c.args.region.now in let well = c.known.ensures.well in let tree = c.args.self.now in let r = c.args.old in let q = c.args.new in let loose = c.requires.loose in let a = c.requires.alike in let x = a.0 in let w = c.trade.new.region in
+    let s = c.requires.stands in let front = s.0 in let back = s.1 in let h = s.2 in
+    replaced-objects tree v w well r q front back h loose x a.1 a.2 c.trade.ensures.traded
