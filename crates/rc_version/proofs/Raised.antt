@@ -6,9 +6,8 @@ use Rattle.rc_cell.specs.declared.writes.Tomb.{Tomb}
 use Rattle.lsa_store.specs.declared.place.Ref.{Ref}
 use Rattle.lsa_region.specs.declared.end.End.TheVariants.{Obj}
 use Rattle.lsa_region.specs.Region.{View, body, objects, IsSummed, IsWell}
-use Rattle.lsa_path.specs.laws.Passing.{path-few}
 use Rattle.lsa_tree.specs.Tree.{IsTree}
-use Rattle.lsa_tree.specs.laws.Trees.{fields_differ, top-outside, tree-once}
+use Rattle.lsa_tree.specs.laws.Trees.{tree-few, tree-once}
 use Rattle.lsa_path.specs.laws.Members.{member-first, member-here, member-later}
 use Rattle.lsa_tree.specs.Entries.{IsReadAlike}
 use Rattle.lsa_tree.specs.Search.{first_entry}
@@ -204,4 +203,4 @@ pub raising-ends : (v : View) (n passed last : Ref) (tomb : Tomb) (all : List Re
 raising-ends v n passed last tomb all c target steps w = omega (arith, w.far, ap length w.all_is, length-append w.front (passed ∷ (w.between ++ (last ∷ w.back))))
 
 pub raising-few : (v : View) (n passed last : Ref) (tomb : Tomb) (all : List Ref) (c : Version) (target : List Entry) (steps : ℕ) → IsWell v → IsSummed v → IsRaising v n passed last tomb all c target steps → length all ≤ objects v
-raising-few v n passed last tomb all c target steps well summed w = path-few 3 4 fields_differ v well summed (Obj n 2) all None (top-outside v (Obj n 2) w.version.tree.top) w.version.tree.path
+raising-few v n passed last tomb all c target steps well summed w = tree-few (tree_of n) v well summed all w.version.tree

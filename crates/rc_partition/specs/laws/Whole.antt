@@ -16,14 +16,13 @@ use Rattle.lsa_region.specs.declared.end.End.TheVariants.{Obj}
 use Rattle.lsa_region.specs.Layout.{object_extent}
 use Rattle.lsa_region.specs.Region.{View, body, link_of, live_bytes, objects, IsWell, IsSummed}
 use Rattle.lsa_region.specs.laws.Refs.{refs_decided}
-use Rattle.lsa_path.specs.laws.Passing.{path-once}
 use Rattle.lsa_path.specs.laws.Renamed.{some-there}
 use Rattle.lsa_list.specs.declared.recency.List.{List as Slots}
 use Rattle.lsa_list.specs.Recency.{object_of}
-use Rattle.lsa_tree.specs.laws.Trees.{top-outside}
+use Rattle.lsa_tree.specs.laws.Trees.{tree-pairs}
 use Rattle.rc_core.specs.declared.entries.Entry.{Entry}
 use Rattle.rc_rowcode.specs.Objects.{static_size}
-use Rattle.rc_version.specs.Versions.{version_head, HasStatics, HoldEntries, IsVersionOf, IsStaticsOf, statics_bytes, entries_bytes, version_bytes}
+use Rattle.rc_version.specs.Versions.{tree_of, version_head, HasStatics, HoldEntries, IsVersionOf, IsStaticsOf, statics_bytes, entries_bytes, version_bytes}
 use Rattle.rc_version.specs.laws.Objects.{head-extent, holds-extent}
 use Rattle.rc_version.specs.laws.Staying.{version-kind, entries-kind}
 use Rattle.rc_partition.specs.Partitions.{StandingVersion, PartitionEntry, AreStanding, IsPartitionEntry, IsRowOfVersion, IsRowOfAny, heads_of, roots_of, static_objects, version_objects, partition_objects, partition_bytes}
@@ -115,11 +114,8 @@ module _ (v : View) (s : StandingVersion) (h : IsVersionOf v s.object s.entries 
         | inr entry ↦ row-version v s h s.object (inl entry) (version-kind v s.object s.entries s.version h)
       ])
       (once-both (named_object (object_of (link_of v (Obj s.object 3)))) s.entries (static_once v (object_of (link_of v (Obj s.object 3))))
-      (path-once 3 4 four_differ (link_of v) well.paired (Obj s.object 2) s.entries None (top-outside v (Obj s.object 2) h.tree.top) h.tree.path)
+      (tree-pairs (tree_of s.object) v well s.entries h.tree)
       static_beside)
-    where
-      four_differ : ◌≢◌ {A = ℕ} 3 4
-      four_differ e = cc
 
   pub parts-sum : sum_by (λ r. object_extent (body v r)) (parts_of v s) ≡ version_bytes s.version
   parts-sum = sum_by-cons (λ r. object_extent (body v r)) s.object (named_object (object_of (link_of v (Obj s.object 3))) ++ s.entries)

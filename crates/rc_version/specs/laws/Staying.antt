@@ -14,7 +14,7 @@ use Rattle.lsa_path.specs.laws.Renamed.{some-there}
 use Rattle.lsa_tree.specs.declared.tree.Tree.{Tree}
 use Rattle.lsa_tree.specs.Entries.{IsEntryKind}
 use Rattle.lsa_tree.specs.Tree.{IsTree, IsOffRole, IsOffTree, SameButBalances}
-use Rattle.lsa_tree.specs.laws.Trees.{no_entry_at, tree-entry, tree-left, tree-linked, tree-added, tree-freed, tree-written_beside, trees-apart, same-read, version-same, top-kept}
+use Rattle.lsa_tree.specs.laws.Trees.{no_entry_at, tree-entered, tree-entry, tree-linked, tree-added, tree-freed, tree-written_beside, trees-apart, same-read, version-same, top-kept}
 use Rattle.rc_core.specs.declared.entries.Entry.{Entry}
 use Rattle.rc_core.specs.Continuity.{with_entries}
 use Rattle.rc_core.specs.Version.{Version, IsVersion}
@@ -222,7 +222,7 @@ module _ (v w : View) (n : Ref) (touched : List Ref) (step : IsTreeStep v w n to
 module _ (v w : View) (r : Ref) (well : IsWell v) (freed : IsFreed v w r) (unset : (field : ℕ) → link_of v (Obj r field) ≡ None) where
   -- it was no entry of a version, and no static row of one
   pub freed-entry : (m : Ref) (refs : List Ref) → IsTree (tree_of m) v refs → Contains refs r → ⊥
-  freed-entry m refs h k = tree-left (tree_of m) v well refs r h k (unset 3)
+  freed-entry m refs h k = tree-entered (tree_of m) v well refs r h k (unset 2)
 
   pub freed-static : (m : Ref) → link_of v (Obj m 3) ≡ Some (Obj r 2) → ⊥
   freed-static m link = let clash : None ≡ Some (Obj m 3) = sym (unset 2) ∙ well.paired.mates (Obj m 3) (Obj r 2) link in cc
