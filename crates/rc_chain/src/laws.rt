@@ -1,6 +1,6 @@
 //! The laws of chains as they are shown: what each call of a chain keeps, as the core says it of the chain with the update's place beside it. Each is the contract of a function that does nothing.
 
-ghost use Rattle.std.specs.Prelude.{◌≡◌, ◌≢◌, ◌⊎◌, ◌↔◌, ◌<◌, ◌++◌, ◌∷◌, [], ℕ, suc, true, false, IsTrue, List, None, Option, Some, cond, drop, length, map, option_map};
+ghost use Rattle.std.specs.Prelude.{◌≡◌, ◌≢◌, ◌⊎◌, ◌↔◌, ◌<◌, ◌++◌, ◌∷◌, [], ℕ, suc, true, false, IsTrue, List, None, Option, Some, cond, drop, length, map, sum_by, option_map};
 ghost use Rattle.std.specs.Option.{option_to_list};
 ghost use Rattle.rc_cell.specs.declared.rows.Row.{Row};
 ghost use Rattle.rc_cell.specs.declared.writes.Tomb.{Tomb};
@@ -33,8 +33,10 @@ ghost use Rattle.rc_core.specs.Steps.{IsCarriedIn, IsChain, IsSnapshotOf, MayPop
 ghost use Rattle.rc_core.specs.Version.{IsBeforeEnd, IsVersion, On, Spot, Version, end_position, found, seen, state_at, state_of, static_state};
 ghost use Rattle.rc_units.specs.Chained.{objects_of};
 ghost use Rattle.rc_version.specs.Versions.{raised_between};
-ghost use Rattle.rc_memory.specs.Kept.{IsSoundChain};
-ghost use Rattle.rc_memory.specs.Memory.{KeptChain, on_version_of, shown_detached, shown_pinned, shown_updating, shown_with, shown_without, snapshot_number, with_snapshot, without_snapshot};
+ghost use Rattle.rc_rowcode.specs.Spelling.{pos_code, row_code};
+ghost use Rattle.rc_memory.specs.Kept.{IsSoundChain, present};
+ghost use Rattle.rc_memory.specs.Room.{chain_bytes, chain_objects};
+ghost use Rattle.rc_memory.specs.Memory.{KeptChain, Memory, on_version_of, shown_detached, shown_pinned, shown_updating, shown_with, shown_without, snapshot_number, with_snapshot, without_snapshot};
 ghost use Rattle.rc_chain.specs.Lives.{chain_of_new, flag_of_new, relabelled, with_version_over};
 
 use rc_core::laws::carrying::{
@@ -432,3 +434,9 @@ pub fn a_freed_version_keeps_what_is_said()
     a_freed_object_leaves_a_chain();
     a_freed_object_leaves_less();
 }
+
+/// The worked numbers: where a memtable's only chain has one version with one row inserted, whose position and row have codes of 11 bytes each, three objects are there, its head, its entry and its end dummy, and 256 bytes are live.
+pub fn one_inserted_row_takes_three_objects()
+    ensures { (m : Memory) (k : KeptChain) (x : Pos) (row : Row) (phase : ℕ) → present m.chains ≡ k ∷ [] → k.chain.versions ≡ row_joined x row (version_of Inherit None phase) ∷ [] → IsBefore x end_position → length (pos_code x) ≡ 11 → length (row_code row) ≡ 11 →
+        (sum_by chain_objects (present m.chains) ≡ 3) × (sum_by chain_bytes (present m.chains) ≡ 256) }
+{}
