@@ -13,3 +13,4 @@ mod Changing
 mod Read
 mod Relabelled
 mod Idle
+mod Touching

@@ -2,6 +2,7 @@
 ghost use Rattle.std.specs.Prelude.{◌≡◌, ◌⊎◌, ◌∷◌, ◌++◌, ◌+◌, ◌<◌, ◌≤◌, ℕ, suc, List as Sequence, [], true, false, Option, Some, None, IsSomeAnd, IsTrue, ◌↔◌, length, map, Contains};
 ghost use Rattle.std.specs.Option.{option_map};
 ghost use Rattle.lsa_pool.specs.Room.{spare_of};
+ghost use Rattle.lsa_region.specs.Region.{SameObjects};
 ghost use Rattle.rc_position.specs.declared.positions.Pos.{Pos as Position};
 ghost use Rattle.rc_position.specs.Position.{row_pos};
 ghost use Rattle.rc_core.specs.declared.entries.ChainKind.{ChainKind as Kind};
@@ -11,6 +12,7 @@ ghost use Rattle.rc_memory.specs.Recency.{HasObject};
 ghost use Rattle.rc_registry.specs.Registry.{AreFree};
 ghost use Rattle.rc_memory.specs.Memory.{KeptChain, Member, HasChain, HasPin, HasVersion, chain_at, listed_as, on_chain};
 ghost use Rattle.rc_memory.specs.Changes.{IsUnmoved, Nowhere, NothingListed, OfVersion, StandStill, member};
+ghost use Rattle.rc_recency.specs.Holding.{IsFoundAt};
 ghost use Rattle.rc_chain.specs.Lives.{IsAtUpTo, IsBare, IsChainChanged, IsChainDropped, IsIdle, IsOneFreed, IsRelabelled, IsTouched, relabelled};
 
 use super::{Chains, Snap};
@@ -119,5 +121,44 @@ impl<const S: usize> Chains<S> {
             self.drop_bare(id, 0);
         }
         self.close(id);
+    }
+
+    // The entry of a version at a key. Where there is none, none is in the recency list.
+    fn entry_of(&self, id: u64, number: u64, key: &Key) -> Option<Ref>
+        requires { HasVersion self.now id number }
+        ensures { IsFoundAt self.now (member id number (Some (row_pos key.now))) result }
+    {
+        let v = self.version(id, number);
+        entry_at_key(&self.region, v, key)
+    }
+
+    // Makes the entry of a version at a key the most recent object, where it is in the recency list.
+    fn touch_one(&mut self, id: u64, number: u64, key: &Key)
+        requires { HasVersion self.old id number }
+        ensures touched { (front back : Sequence Member) → self.old.recency ≡ front ++ (member id number (Some (row_pos key.now)) ∷ back) → self.new ≡ listed_as ((front ++ back) ++ (member id number (Some (row_pos key.now)) ∷ [])) self.new.region self.old }
+        ensures unlisted { (Contains self.old.recency (member id number (Some (row_pos key.now))) → ⊥) → self.new ≡ self.old }
+        ensures objects { SameObjects self.old.region self.new.region }
+        ensures still { StandStill Nowhere self.old self.new }
+    {
+        if let Some(e) = self.entry_of(id, number, key) {
+            if self.is_listed(e) {
+                self.touch(e);
+            }
+        }
+    }
+
+    /// Makes the entries at a key the most recent objects, in the version that a snapshot pins and in all below it, where they are in the recency list. Nothing else is changed.
+    pub fn touch_key(&mut self, s: &Snap, key: &Key)
+        requires { HasPin self.old s.now.chain s.now.pin }
+        ensures touched { (k : KeptChain) (j : ℕ) → chain_at self.old s.now.chain ≡ Some k → pin_at k.chain.pins s.now.pin ≡ Some j → (list : Sequence Member) × IsTouched (IsAtUpTo s.now.chain j (row_pos key.now)) self.old.recency list × (self.new ≡ listed_as list self.new.region self.old) }
+        ensures objects { SameObjects self.old.region self.new.region }
+        ensures still { StandStill Nowhere self.old self.new }
+    {
+        self.known();
+        let last = self.pinned_at(s);
+        for number in 0..last {
+            self.touch_one(s.chain, number, key);
+        }
+        self.touch_one(s.chain, last, key);
     }
 }
