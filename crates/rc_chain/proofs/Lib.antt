@@ -14,3 +14,4 @@ mod Read
 mod Relabelled
 mod Idle
 mod Touching
+mod Freeing

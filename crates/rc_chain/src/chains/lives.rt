@@ -211,7 +211,7 @@ impl<const S: usize> Chains<S> {
     }
 
     // An object leaves the recency list, where it is in it; it need not be in it.
-    fn take(&mut self, r: Ref)
+    pub(super) fn take(&mut self, r: Ref)
         requires { (w : Member) × IsMemberObject self.old r w × (IsSomeAnd (chain_at self.old w.chain) (λ k. MustBeListed k.chain w.version w.position) → ⊥) }
         ensures taken { (w : Member) → IsMemberObject self.old r w → (list : Sequence Member) × IsWithout w self.old.recency list × (self.new ≡ listed_as list self.new.region self.old) }
         ensures objects { SameObjects self.old.region self.new.region }

@@ -38,7 +38,7 @@ returns-else-is_listed-clause-still g c =
 
 pub returns-in_default-clause-touched : goal.returns-in_default-clause-touched
 returns-in_default-clause-touched g c =
-    λ front back e. absurd (unfound c.args.self.now (member c.args.id c.args.number (Some (row_pos c.args.key.now))) c.entry_of.result c.in_default.not-Some c.entry_of.ensures (subst (λ l. Contains l (member c.args.id c.args.number (Some (row_pos c.args.key.now)))) (sym e) (elem-here front back (member c.args.id c.args.number (Some (row_pos c.args.key.now))))))
+    λ front back e. absurd (unfound c.args.self.now (member c.args.id c.args.number (Some (row_pos c.args.key.now))) c.keyed_entry.result c.in_default.not-Some c.keyed_entry.ensures (subst (λ l. Contains l (member c.args.id c.args.number (Some (row_pos c.args.key.now)))) (sym e) (elem-here front back (member c.args.id c.args.number (Some (row_pos c.args.key.now))))))
 
 pub returns-in_default-clause-objects : goal.returns-in_default-clause-objects
 returns-in_default-clause-objects g c =

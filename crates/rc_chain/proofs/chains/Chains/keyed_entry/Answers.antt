@@ -3,7 +3,7 @@ use Rattle.rc_position.specs.Position.{row_pos}
 use Rattle.rc_chain.proofs.Ending.{held-whole}
 use Rattle.rc_chain.proofs.Reading.{memory-now}
 use Rattle.rc_chain.proofs.Touching.{entry-told}
-use Rattle.rc_chain.proofs.chains.Chains.entry_of.Goals as goal
+use Rattle.rc_chain.proofs.chains.Chains.keyed_entry.Goals as goal
 
 pub entry_at_key-requires : goal.entry_at_key-requires
 entry_at_key-requires g c =
