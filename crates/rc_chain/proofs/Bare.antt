@@ -22,7 +22,7 @@ use Rattle.rc_memory.specs.Kept.{HoldMemory}
 use Rattle.rc_memory.specs.Changes.{NothingListed, member}
 use Rattle.rc_memory.specs.laws.Listed.{unlisted-at}
 use Rattle.rc_memory.specs.laws.Places.{same_some, version-there}
-use Rattle.rc_chain.specs.Lives.{IsBare}
+use Rattle.rc_chain.specs.Lives.{IsEndAlone}
 use Rattle.rc_memory.specs.laws.At.{present-split}
 use Rattle.rc_chain.proofs.Living.{versioned}
 use Rattle.rc_chain.proofs.Making.{IsTakenAway}
@@ -70,10 +70,10 @@ module _ (slots : Slots) (v : View) (registry : Registry) (counts : Counts) (m :
       number-one k.chain.versions j c s.version at (subst (λ (x : KeptChain). IsVersionAt x.chain.versions j s.version) (sym a.same)
       (number-mapped (λ (t : StandingVersion). t.version) a.partition.versions j s (subst (λ (q : PartitionEntry). IsVersionAt q.versions j s) same number)))
 
-  pub bare-at : (id j : ℕ) (n : Ref) (u : Use) → use_at registry.uses id ≡ Some u → IsSomeAnd (chain_at m id) (λ k. (c : Version) × IsVersionAt k.chain.versions j c × IsBare c) → NothingListed id j m → IsVersionObject m id j n
+  pub bare-at : (id j : ℕ) (n : Ref) (u : Use) → use_at registry.uses id ≡ Some u → IsSomeAnd (chain_at m id) (λ k. (c : Version) × IsVersionAt k.chain.versions j c × IsEndAlone c) → NothingListed id j m → IsVersionObject m id j n
       → IsBareAt slots v m h.listed id j n u.root
   bare-at id j n u got some free is =
-      let k = some-chain (chain_at m id) (λ k. (c : Version) × IsVersionAt k.chain.versions j c × IsBare c) some in let a = versioned (slice_index_or m.standing id None) j n is in
+      let k = some-chain (chain_at m id) (λ k. (c : Version) × IsVersionAt k.chain.versions j c × IsEndAlone c) some in let a = versioned (slice_index_or m.standing id None) j n is in
       let st = chain-stands slots v registry counts m h id k.0 u k.1 got in let same = same_some a.0 st.partition (sym a.2 ∙ st.at) in
       let c = version-same id j k.0 k.2.0 a.0 a.1 k.1 k.2.1 a.2 a.3 in
       let number : IsVersionAt st.partition.versions j a.1 = subst (λ (q : PartitionEntry). IsVersionAt q.versions j a.1) same a.3 in

@@ -20,7 +20,7 @@ use Rattle.rc_memory.specs.laws.Places.{no_some, same_some}
 use Rattle.rc_memory.specs.laws.Put.{put-at}
 use Rattle.rc_memory.specs.laws.Renewed.{without-off, without-old}
 use Rattle.rc_memory.specs.laws.Still.{still-then, unmoved-objects, unmoved-then}
-use Rattle.rc_chain.specs.Lives.{IsBare, IsChainChanged, IsChainMade, IsVersionDropped, chain_of_new, flag_of_new, with_end_listed}
+use Rattle.rc_chain.specs.Lives.{IsEndAlone, IsChainChanged, IsChainMade, IsVersionDropped, chain_of_new, flag_of_new, with_end_listed}
 use Rattle.rc_memory.specs.laws.At.{number-low}
 use Rattle.rc_chain.proofs.Bare.{some-chain}
 use Rattle.rc_chain.proofs.Ended.{ended}
@@ -29,7 +29,7 @@ use Rattle.rc_chain.proofs.Made.{on-twice}
 -- ---- a version dropped
 
 -- the only place of a version of its end dummy alone
-pub bare-place : (v : Version) (at : Option Pos) → IsVersion v → IsBare v → HasObject v at → at ≡ Some end_position
+pub bare-place : (v : Version) (at : Option Pos) → IsVersion v → IsEndAlone v → HasObject v at → at ≡ Some end_position
 bare-place v None is bare h = absurd (none_of v.statics bare.statics h)
   where
     none_of : {X : Type 0} (o : Option X) → o ≡ None → IsSome o → ⊥
@@ -45,12 +45,12 @@ bare-place v (Some x) is bare h = ap (λ y. Some y) (one bare.alone.0 (subst (Ha
 pub end-free : (m : Memory) (id j : ℕ) → IsSomeAnd (chain_at m id) (λ k. MustBeListed k.chain j (Some end_position)) → ⊥
 end-free m id j must = let k = some-chain (chain_at m id) (λ k. MustBeListed k.chain j (Some end_position)) must in k.2.inner refl
 
-module _ (m : Memory) (id j : ℕ) (rule : IsRecency m) (versions : (i l : ℕ) → OfVersion m i l (λ k v. IsVersion v)) (bare : IsSomeAnd (chain_at m id) (λ k. (v : Version) × IsVersionAt k.chain.versions j v × IsBare v))
+module _ (m : Memory) (id j : ℕ) (rule : IsRecency m) (versions : (i l : ℕ) → OfVersion m i l (λ k v. IsVersion v)) (bare : IsSomeAnd (chain_at m id) (λ k. (v : Version) × IsVersionAt k.chain.versions j v × IsEndAlone v))
     (list : List Member) (without : IsWithout (member id j (Some end_position)) m.recency list) where
   -- nothing else of the version was listed
   pub none-listed : (at : Option Pos) → Contains list (member id j at) → ⊥
   none-listed at on =
-      let k = some-chain (chain_at m id) (λ k. (v : Version) × IsVersionAt k.chain.versions j v × IsBare v) bare in
+      let k = some-chain (chain_at m id) (λ k. (v : Version) × IsVersionAt k.chain.versions j v × IsEndAlone v) bare in
       let may = some-chain (chain_at m id) (λ q. MayBeListed q.chain j at) (rule.members (member id j at) (without-old (member id j (Some end_position)) m.recency list without (member id j at) on)) in
       let same : k.0 ≡ may.0 = same_some k.0 may.0 (sym k.1 ∙ may.1) in
       let v : may.2.version ≡ k.2.0 = one-at k.0.chain.versions j may.2.version k.2.0 (subst (λ (x : KeptChain). IsVersionAt x.chain.versions j may.2.version) (sym same) may.2.number) k.2.1 in
@@ -58,8 +58,8 @@ module _ (m : Memory) (id j : ℕ) (rule : IsRecency m) (versions : (i l : ℕ) 
       without-off (member id j (Some end_position)) m.recency list without rule.once (subst (λ x. Contains list (member id j x)) place on)
 
   module _ (one : Memory) (taken : one ≡ listed_as list one.region m) (objects : SameObjects m.region one.region) (still : StandStill Nowhere m one) where
-    pub bare-one : IsSomeAnd (chain_at one id) (λ k. (v : Version) × IsVersionAt k.chain.versions j v × IsBare v)
-    bare-one = subst (λ (x : Memory). IsSomeAnd (chain_at x id) (λ k. (v : Version) × IsVersionAt k.chain.versions j v × IsBare v)) (sym taken) bare
+    pub bare-one : IsSomeAnd (chain_at one id) (λ k. (v : Version) × IsVersionAt k.chain.versions j v × IsEndAlone v)
+    bare-one = subst (λ (x : Memory). IsSomeAnd (chain_at x id) (λ k. (v : Version) × IsVersionAt k.chain.versions j v × IsEndAlone v)) (sym taken) bare
 
     pub nothing-one : NothingListed id j one
     nothing-one = subst (NothingListed id j) (sym taken) none-listed
@@ -112,10 +112,10 @@ module _ (m one : Memory) (id : ℕ) (kind : ChainKind) (pt : Option Tomb) (phas
     region = unmoved-then m.region one.region two.region made.region (unmoved-objects one.region two.region objects);
   }
 
-pub bare-has : (m : Memory) (id j : ℕ) → IsSomeAnd (chain_at m id) (λ k. (v : Version) × IsVersionAt k.chain.versions j v × IsBare v) → HasVersion m id j
+pub bare-has : (m : Memory) (id j : ℕ) → IsSomeAnd (chain_at m id) (λ k. (v : Version) × IsVersionAt k.chain.versions j v × IsEndAlone v) → HasVersion m id j
 bare-has m id j h = of (chain_at m id) h
   where
-    of : (o : Option KeptChain) → IsSomeAnd o (λ k. (v : Version) × IsVersionAt k.chain.versions j v × IsBare v) → IsSomeAnd o (λ k. j < length k.chain.versions)
+    of : (o : Option KeptChain) → IsSomeAnd o (λ k. (v : Version) × IsVersionAt k.chain.versions j v × IsEndAlone v) → IsSomeAnd o (λ k. j < length k.chain.versions)
     of None h = absurd h
     of (Some k) h = number-low k.chain.versions j h.0 h.1
 
@@ -156,7 +156,7 @@ module _ (m : Memory) (id j : ℕ) (rule : IsRecency m) (versions : (i l : ℕ) 
   }))
 
   -- of a version of its end dummy alone that is not listed nothing is
-  pub none-of-bare : OfVersion m id j (λ k v. IsBare v) → (Contains m.recency (member id j (Some end_position)) → ⊥) → NothingListed id j m
+  pub none-of-bare : OfVersion m id j (λ k v. IsEndAlone v) → (Contains m.recency (member id j (Some end_position)) → ⊥) → NothingListed id j m
   none-of-bare bare off at on =
       let may = some-chain (chain_at m id) (λ q. MayBeListed q.chain j at) (rule.members (member id j at) on) in
       off (subst (λ x. Contains m.recency (member id j x)) (bare-place may.2.version at (versions id j may.0 may.2.version may.1 may.2.number) (bare may.0 may.2.version may.1 may.2.number) may.2.object) on)

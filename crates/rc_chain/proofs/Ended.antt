@@ -43,7 +43,7 @@ two-last (f ∷ fs) (g ∷ gs) a b c d h = two-last fs gs a b c d (tails f g (fs
 pub last-one : (v : Version) (a b : Option Pos) → IsLastInner v a → IsLastInner v b → a ≡ b
 last-one v a b h k = h.4 ∙ ap (λ (e : Entry). Some e.position) (two-last h.0 k.0 h.1 h.2 k.1 k.2 (sym h.3 ∙ k.3)) ∙ sym k.4
 
-has-among : (front : List Entry) (e : Entry) (back : List Entry) → HasEntryAt e.position (front ++ (e ∷ back))
+pub has-among : (front : List Entry) (e : Entry) (back : List Entry) → HasEntryAt e.position (front ++ (e ∷ back))
 has-among [] e back = inl refl
 has-among (f ∷ front) e back = inr (has-among front e back)
 
@@ -56,7 +56,7 @@ ascend-last [] e f h = h.0
 ascend-last (g ∷ []) e f h = h.1.0
 ascend-last (g ∷ k ∷ front) e f h = ascend-last (k ∷ front) e f h.1
 
-ends-last : (front : List Entry) (e f : Entry) → EndsWithDummy (front ++ (e ∷ f ∷ [])) → f.position ≡ end_position
+pub ends-last : (front : List Entry) (e f : Entry) → EndsWithDummy (front ++ (e ∷ f ∷ [])) → f.position ≡ end_position
 ends-last [] e f h = h.0
 ends-last (g ∷ []) e f h = h.0
 ends-last (g ∷ k ∷ front) e f h = ends-last (k ∷ front) e f h

@@ -32,7 +32,7 @@ use Rattle.rc_memory.specs.Recency.{IsLastInner}
 use Rattle.rc_memory.specs.Kept.{HoldMemory}
 use Rattle.rc_memory.specs.laws.Listed.{list-at, unlisted-at}
 use Rattle.rc_memory.specs.laws.Listing.{listed-decided}
-use Rattle.rc_chain.specs.Lives.{IsBare}
+use Rattle.rc_chain.specs.Lives.{IsEndAlone}
 use Rattle.rc_chain.proofs.Reading.{at-place}
 
 -- ---- lists
@@ -206,7 +206,7 @@ joined-two [] g e = refl
 joined-two (f ∷ gs) g e = ap (λ l. f ∷ l) (joined-two gs g e)
 
 -- where there is neither a static row nor an entry before the end, the end dummy alone is left
-pub bare-is : (c : Version) → EndsWithDummy c.entries → c.statics ≡ None → ((at : Option Pos) → IsLastInner c at → ⊥) → IsBare c
+pub bare-is : (c : Version) → EndsWithDummy c.entries → c.statics ≡ None → ((at : Option Pos) → IsLastInner c at → ⊥) → IsEndAlone c
 bare-is c ends statics none =
     let e = ends-split c.entries ends in record {
       statics = statics;
@@ -219,13 +219,16 @@ bare-is c ends statics none =
       );
     }
 
-static-none : (v : View) (c : Version) (row : Option Ref) → is_some row ≡ false → IsStaticRowFound v c row → c.statics ≡ None
-static-none v c None e h = h
-static-none v c (Some r) e h = cc e
+static-same : (v : View) (c : Version) (row : Option Ref) → IsStaticRowFound v c row → is_some row ≡ is_some c.statics
+static-same v c None h = sym (ap is_some h)
+static-same v c (Some r) h = sym (ap is_some h.1)
 
-static-some : (v : View) (c : Version) (row : Option Ref) → is_some row ≡ true → IsStaticRowFound v c row → IsSome c.statics
-static-some v c None e h = cc e
-static-some v c (Some r) e h = ap is_some h.1
+pub no-statics : (c : Version) → is_some c.statics ≡ false → c.statics ≡ None
+no-statics c off = of c.statics off
+  where
+    of : {X : Type 0} (o : Option X) → is_some o ≡ false → o ≡ None
+    of None e = refl
+    of (Some x) e = cc e
 
 pub some-inner : (o : Option Ref) (P : Ref → Type 0) → IfSome o P → is_some o ≡ true → (r : Ref) × P r
 some-inner None P h e = cc e
@@ -238,14 +241,11 @@ none-inner (Some r) P h e = cc e
 module _ (slots : Slots) (v : View) (registry : Registry) (counts : Counts) (m : Memory) (h : HoldMemory slots v registry counts m) (id j : ℕ) (n : Ref) (has : HasVersion m id j) (object : IsVersionObject m id j n)
     (row : Option Ref) (told : (refs : List Ref) (c : Version) → IsVersionOf v n refs c → IsStaticRowFound v c row) where
   -- what is told of the static row is told of the version of the chain
-  pub static-told : OfVersion m id j (λ k c. IsStaticRowFound v c row)
+  static-told : OfVersion m id j (λ k c. IsStaticRowFound v c row)
   static-told k' c' chain' at' =
       let a = held-version slots v registry counts m h id j n has object in
       let same : a.1 ≡ c' = one-at a.0.chain.versions j a.1 c' a.2.number (subst (λ (z : KeptChain). IsVersionAt z.chain.versions j c') (same_some k' a.0 (sym chain' ∙ a.2.chain)) at') in
       subst (λ c. IsStaticRowFound v c row) same (told (standing-as slots v registry counts m id j a.0 a.1 n a.2).entries a.1 (stands slots v registry counts m id j a.0 a.1 n a.2))
 
-  pub bare-told : is_some row ≡ false → ((i l : ℕ) → OfVersion m i l (λ k c. IsVersion c)) → OfVersion m id j (λ k c. (at : Option Pos) → IsLastInner c at → ⊥) → OfVersion m id j (λ k c. IsBare c)
-  bare-told off versions none k c e at = bare-is c (versions id j k c e at).ends (static-none v c row off (static-told k c e at)) (none k c e at)
-
-  pub statics-told : is_some row ≡ true → OfVersion m id j (λ k c. IsSome c.statics)
-  statics-told on k c e at = static-some v c row on (static-told k c e at)
+  pub static-there : OfVersion m id j (λ k c. is_some row ≡ is_some c.statics)
+  static-there k c e at = static-same v c row (static-told k c e at)

@@ -24,7 +24,7 @@ use Rattle.rc_memory.specs.laws.Put.{put-at, put-same}
 use Rattle.rc_memory.specs.laws.Still.{unmoved-itself, unmoved-then}
 use Rattle.rc_memory.specs.laws.Versions.{all-but-is}
 use Rattle.rc_partition.specs.laws.Lists.{elem-first, elem-here, elem-later}
-use Rattle.rc_chain.specs.Lives.{IsBare, IsChainDropped, IsIdle, IsVersionDropped}
+use Rattle.rc_chain.specs.Lives.{IsEndAlone, IsChainDropped, IsIdle, IsVersionDropped}
 use Rattle.rc_chain.proofs.Bare.{some-chain}
 use Rattle.rc_chain.proofs.Dropping.{more-listed}
 use Rattle.rc_chain.proofs.Ended.{last-inside, last-there, on-at, sound-of}
@@ -59,7 +59,7 @@ pub record IsDroppingIdle (id : ℕ) (old now : Memory) : Type 0 where
   pub settled : chain.chain.updating ≡ false
   pub free : AreFree chain.chain.pins
   pub some : 0 < length chain.chain.versions
-  pub bare : (j : ℕ) (v : Version) → IsVersionAt chain.chain.versions j v → IsBare v
+  pub bare : (j : ℕ) (v : Version) → IsVersionAt chain.chain.versions j v → IsEndAlone v
   pub unlisted : (j : ℕ) (at : Option Pos) → Contains now.recency (member id j at) → ⊥
   pub chains : now.chains ≡ put id (Some chain) old.chains
   pub recency : now.recency ≡ old.recency
@@ -68,7 +68,7 @@ pub record IsDroppingIdle (id : ℕ) (old now : Memory) : Type 0 where
   pub objects : (r : Ref) (w : Member) → IsMemberObject old r w → (w.chain ≡ id → ⊥) → IsMemberObject now r w
   pub region : IsUnmoved old.region now.region
 
-idle-bare : (m : Memory) (id : ℕ) (k : KeptChain) → chain_at m id ≡ Some k → IsIdle m id k.chain → IsRecency m → ((i l : ℕ) → OfVersion m i l (λ k v. IsVersion v)) → (j : ℕ) (v : Version) → IsVersionAt k.chain.versions j v → IsBare v
+idle-bare : (m : Memory) (id : ℕ) (k : KeptChain) → chain_at m id ≡ Some k → IsIdle m id k.chain → IsRecency m → ((i l : ℕ) → OfVersion m i l (λ k v. IsVersion v)) → (j : ℕ) (v : Version) → IsVersionAt k.chain.versions j v → IsEndAlone v
 idle-bare m id k e idle rule versions j v at =
     bare-is v (versions id j k v e at).ends (no-row v.statics (λ row has. idle.unlisted j None (more-listed m id j rule versions k v None e at idle.cached idle.settled (subst IsSome (sym has) refl) (λ same. cc same))))
     (λ place last. idle.unlisted j place (more-listed m id j rule versions k v place e at idle.cached idle.settled (last-there v place last) (last-inside v place (versions id j k v e at) last)))
@@ -115,10 +115,10 @@ module _ (id : ℕ) (old now : Memory) (h : IsDroppingIdle id old now) where
   pub idle-there : IsSome (chain_at now id)
   idle-there = subst IsSome (sym h.there) refl
 
-  pub idle-bare-first : IsSomeAnd (chain_at now id) (λ k. (v : Version) × IsVersionAt k.chain.versions 0 v × IsBare v)
+  pub idle-bare-first : IsSomeAnd (chain_at now id) (λ k. (v : Version) × IsVersionAt k.chain.versions 0 v × IsEndAlone v)
   idle-bare-first =
       let f = first in let at : IsVersionAt h.chain.chain.versions 0 f.0 = record { older = []; newer = f.1; split = f.2; number = refl } in
-      subst (λ (o : Option KeptChain). IsSomeAnd o (λ k. (v : Version) × IsVersionAt k.chain.versions 0 v × IsBare v)) (sym h.there) (f.0, at, h.bare 0 f.0 at)
+      subst (λ (o : Option KeptChain). IsSomeAnd o (λ k. (v : Version) × IsVersionAt k.chain.versions 0 v × IsEndAlone v)) (sym h.there) (f.0, at, h.bare 0 f.0 at)
 
   pub idle-can : 1 < length h.chain.chain.versions → (k : KeptChain) → chain_at now id ≡ Some k → CanDrop k.chain 0
   idle-can more k e = subst (λ (x : KeptChain). CanDrop x.chain 0) (same_some h.chain k (sym h.there ∙ e)) (record {
@@ -168,11 +168,11 @@ module _ (id : ℕ) (old now : Memory) (h : IsDroppingIdle id old now) where
         let f = first in let long = ap length f.2 in let a = ap count less_there ∙ told (on_shown (shown_without 0) h.chain) ∙ ap length f.3 in let b = ap count h.there ∙ told h.chain in omega (arith, a, b, long)
 
   -- the last one
-  pub idle-alone : (n : ℕ) → n ≡ length h.chain.chain.versions → (1 < n → ⊥) → IsSomeAnd (chain_at now id) (λ k. (v : Version) × (k.chain.versions ≡ v ∷ []) × IsBare v)
+  pub idle-alone : (n : ℕ) → n ≡ length h.chain.chain.versions → (1 < n → ⊥) → IsSomeAnd (chain_at now id) (λ k. (v : Version) × (k.chain.versions ≡ v ∷ []) × IsEndAlone v)
   idle-alone n is few =
       let f = first in let long = ap length f.2 in let only : f.1 ≡ [] = empty f.1 (λ more. few (omega (arith, is, long, more))) in
       let at : IsVersionAt h.chain.chain.versions 0 f.0 = record { older = []; newer = f.1; split = f.2; number = refl } in
-      subst (λ (o : Option KeptChain). IsSomeAnd o (λ k. (v : Version) × (k.chain.versions ≡ v ∷ []) × IsBare v)) (sym h.there) (f.0, f.2 ∙ ap (λ l. f.0 ∷ l) only, h.bare 0 f.0 at)
+      subst (λ (o : Option KeptChain). IsSomeAnd o (λ k. (v : Version) × (k.chain.versions ≡ v ∷ []) × IsEndAlone v)) (sym h.there) (f.0, f.2 ∙ ap (λ l. f.0 ∷ l) only, h.bare 0 f.0 at)
     where
       empty : (l : List Version) → (0 < length l → ⊥) → l ≡ []
       empty [] none = refl

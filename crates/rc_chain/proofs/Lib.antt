@@ -14,3 +14,5 @@ mod Read
 mod Relabelled
 mod Idle
 mod OneRow
+mod Touching
+mod Freeing

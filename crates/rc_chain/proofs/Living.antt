@@ -25,7 +25,7 @@ use Rattle.rc_memory.specs.Changes.{LastIsListed, Nowhere, StandStill}
 use Rattle.rc_memory.specs.laws.Changed.{of-stays}
 use Rattle.rc_memory.specs.laws.Places.{no_some, version-there}
 use Rattle.rc_memory.specs.laws.Standing.{stand-each}
-use Rattle.rc_chain.specs.Lives.{IsBare, IsSameButSlots}
+use Rattle.rc_chain.specs.Lives.{IsEndAlone, IsSameButSlots}
 use Rattle.rc_chain.proofs.Reading.{chain-stands, chain-used, some_of}
 use Rattle.rc_memory.specs.laws.At.{no-use}
 
@@ -150,10 +150,10 @@ has-chain m id P h = of (chain_at m id) h
     of (Some k) h = refl
 
 -- the only version of a chain is its version of the number 0
-pub only-version : (m : Memory) (id : ℕ) → IsSomeAnd (chain_at m id) (λ k. (v : Version) × (k.chain.versions ≡ v ∷ []) × IsBare v) → IsSomeAnd (chain_at m id) (λ k. (v : Version) × IsVersionAt k.chain.versions 0 v × IsBare v)
+pub only-version : (m : Memory) (id : ℕ) → IsSomeAnd (chain_at m id) (λ k. (v : Version) × (k.chain.versions ≡ v ∷ []) × IsEndAlone v) → IsSomeAnd (chain_at m id) (λ k. (v : Version) × IsVersionAt k.chain.versions 0 v × IsEndAlone v)
 only-version m id h = of (chain_at m id) h
   where
-    of : (o : Option KeptChain) → IsSomeAnd o (λ k. (v : Version) × (k.chain.versions ≡ v ∷ []) × IsBare v) → IsSomeAnd o (λ k. (v : Version) × IsVersionAt k.chain.versions 0 v × IsBare v)
+    of : (o : Option KeptChain) → IsSomeAnd o (λ k. (v : Version) × (k.chain.versions ≡ v ∷ []) × IsEndAlone v) → IsSomeAnd o (λ k. (v : Version) × IsVersionAt k.chain.versions 0 v × IsEndAlone v)
     of None h = absurd h
     of (Some k) h = (h.0, record { older = []; newer = []; split = h.1; number = refl }, h.2)
 

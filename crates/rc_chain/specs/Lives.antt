@@ -35,7 +35,7 @@ abbrev pub chain_of_new : ChainKind → Option Tomb → ℕ → KeptChain
 chain_of_new kind pt phase = record { chain = record { kind = kind; versions = version_of (flag_of_new kind) pt phase ∷ []; attached = true; updating = false; pins = [] }; passed = false }
 
 -- of a version its end dummy alone is left
-pub record IsBare (v : Version) : Type 0 where
+pub record IsEndAlone (v : Version) : Type 0 where
   pub statics : v.statics ≡ None
   pub alone : (e : Entry) × (v.entries ≡ e ∷ [])
 
@@ -151,16 +151,16 @@ abbrev pub IsOneFreed : ℕ → Memory → Memory → Type 0
 IsOneFreed id old new = IsEntryFreed id old new ⊎ (IsStaticFreed id old new ⊎ (IsVersionDropped id 0 old new ⊎ IsLastDropped id old new))
 
 -- what is left of a list without its members at these places, in its order
-abbrev pub IsLeft : (Member → Type 0) → List Member → List Member → Type 0
-IsLeft these [] rest = rest ≡ []
-IsLeft these (w ∷ ws) rest = (these w × IsLeft these ws rest) ⊎ ((these w → ⊥) × ((more : List Member) × (rest ≡ w ∷ more) × IsLeft these ws more))
+abbrev pub IsRemainder : (Member → Type 0) → List Member → List Member → Type 0
+IsRemainder these [] rest = rest ≡ []
+IsRemainder these (w ∷ ws) rest = (these w × IsRemainder these ws rest) ⊎ ((these w → ⊥) × ((more : List Member) × (rest ≡ w ∷ more) × IsRemainder these ws more))
 
 -- the objects at these places that were in the list went to its back, in some order; all others stand before them as they stood
 pub record IsTouched (these : Member → Type 0) (old new : List Member) : Type 0 where
   pub rest : List Member
   pub touched : List Member
   pub split : new ≡ rest ++ touched
-  pub left : IsLeft these old rest
+  pub left : IsRemainder these old rest
   pub mine : (w : Member) → Contains touched w → these w × Contains old w
   pub all : (w : Member) → Contains old w → these w → Contains touched w
 

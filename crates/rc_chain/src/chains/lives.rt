@@ -7,7 +7,7 @@ ghost use Rattle.rc_core.specs.Version.{Version, end_position};
 ghost use Rattle.rc_memory.specs.Memory.{KeptChain, Member, HasChain, HasVersion, IsMemberObject, IsVersionAt, chain_at, listed_as, on_chain, on_shown, shown_detached, shown_updating, with_chains};
 ghost use Rattle.rc_memory.specs.Recency.{IsLastInner, IsUnderUpdate, MustBeListed};
 ghost use Rattle.rc_memory.specs.Changes.{CanDrop, IsWithout, LastIsListed, Nowhere, NothingListed, OfVersion, StandStill, member};
-ghost use Rattle.rc_chain.specs.Lives.{IsBare, IsChainChanged, IsChainDropped, IsChainMade, IsEndListed, IsLastUnlisted, IsSameButSlots, IsVersionDropped, flag_of_new, with_end_listed, with_version_over};
+ghost use Rattle.rc_chain.specs.Lives.{IsEndAlone, IsChainChanged, IsChainDropped, IsChainMade, IsEndListed, IsLastUnlisted, IsSameButSlots, IsVersionDropped, flag_of_new, with_end_listed, with_version_over};
 ghost use Rattle.rc_version.specs.Versions.{IsVersionOf};
 ghost use Rattle.lsa_region.specs.Region.{SameObjects};
 ghost use Rattle.lsa_tree.specs.Entries.{IsEntryAtPosition};
@@ -92,7 +92,7 @@ impl<const S: usize> Chains<S> {
 
     // A version of a chain goes, of which its end dummy alone is left, out of the recency list.
     pub(super) fn drop_bare(&mut self, id: u64, number: u64)
-        requires bare { IsSomeAnd (chain_at self.old id) (λ k. (v : Version) × IsVersionAt k.chain.versions number v × IsBare v) }
+        requires bare { IsSomeAnd (chain_at self.old id) (λ k. (v : Version) × IsVersionAt k.chain.versions number v × IsEndAlone v) }
         requires unlisted { NothingListed id number self.old }
         requires free { (k : KeptChain) → chain_at self.old id ≡ Some k → CanDrop k.chain number }
         ensures dropped { IsVersionDropped id number self.old self.new }
@@ -106,7 +106,7 @@ impl<const S: usize> Chains<S> {
 
     // A chain goes, of which the end dummy of one version alone is left, out of the recency list, and which nobody pins. Its number is to be told.
     pub(super) fn close(&mut self, id: u64)
-        requires bare { IsSomeAnd (chain_at self.old id) (λ k. (v : Version) × (k.chain.versions ≡ v ∷ []) × IsBare v) }
+        requires bare { IsSomeAnd (chain_at self.old id) (λ k. (v : Version) × (k.chain.versions ≡ v ∷ []) × IsEndAlone v) }
         requires unlisted { NothingListed id 0 self.old }
         requires unpinned { (k : KeptChain) (j : ℕ) → chain_at self.old id ≡ Some k → IsPinned k.chain.pins j → ⊥ }
         ensures dropped { IsChainDropped id self.old.recency self.old self.new }
@@ -211,7 +211,7 @@ impl<const S: usize> Chains<S> {
     }
 
     // An object leaves the recency list, where it is in it; it need not be in it.
-    fn take(&mut self, r: Ref)
+    pub(super) fn take(&mut self, r: Ref)
         requires { (w : Member) × IsMemberObject self.old r w × (IsSomeAnd (chain_at self.old w.chain) (λ k. MustBeListed k.chain w.version w.position) → ⊥) }
         ensures taken { (w : Member) → IsMemberObject self.old r w → (list : Sequence Member) × IsWithout w self.old.recency list × (self.new ≡ listed_as list self.new.region self.old) }
         ensures objects { SameObjects self.old.region self.new.region }
@@ -224,7 +224,7 @@ impl<const S: usize> Chains<S> {
 
     /// Drops a version of a chain, of which its end dummy alone is left: newer versions have numbers less by one, and the snapshots of these, and the places of their objects, with them. It is not the newest one, nobody pins it, and where an update stands in the chain two others are left.
     pub fn drop_version(&mut self, id: u64, number: u64)
-        requires bare { IsSomeAnd (chain_at self.old id) (λ k. (v : Version) × IsVersionAt k.chain.versions number v × IsBare v) }
+        requires bare { IsSomeAnd (chain_at self.old id) (λ k. (v : Version) × IsVersionAt k.chain.versions number v × IsEndAlone v) }
         requires free { (k : KeptChain) → chain_at self.old id ≡ Some k → CanDrop k.chain number }
         requires older { (k : KeptChain) → chain_at self.old id ≡ Some k → suc number < length k.chain.versions }
         ensures dropped { IsVersionDropped id number self.old self.new }
