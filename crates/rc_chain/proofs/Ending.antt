@@ -1,5 +1,5 @@
 -- The end dummy of a version, the last entry before it, and whether an object is listed.
-use Rattle.std.proofs.Common.{◌≡◌, ℕ, List, [], ◌∷◌, ◌++◌, Option, Some, None, IsSome, IsTrue, is_some, true, false, ◌↔◌, inl, inr, refl, sym, ap, ◌∙◌, subst, arith}
+use Rattle.std.proofs.Common.{◌≡◌, ℕ, List, [], ◌∷◌, ◌++◌, Option, Some, None, IsTrue, is_some, true, false, ◌↔◌, inl, inr, refl, sym, ap, ◌∙◌, subst, arith}
 use Rattle.std.specs.Prelude.{Contains, IfNone, IfSome, ◌⊎◌}
 use Rattle.rc_position.specs.declared.positions.Pos.{Pos}
 use Rattle.lsa_store.specs.declared.place.Ref.{Ref}
@@ -14,7 +14,7 @@ use Rattle.lsa_tree.specs.laws.Found.{at-once}
 use Rattle.lsa_tree.specs.laws.Orders.{ascending-split}
 use Rattle.rc_core.specs.AtPlace.{HasEntryAt}
 use Rattle.rc_core.specs.declared.entries.Entry.{Entry}
-use Rattle.rc_core.specs.Version.{EndsWithDummy, Version, IsVersion, end_position}
+use Rattle.rc_core.specs.Version.{EndsWithDummy, Version, end_position}
 use Rattle.rc_object.specs.Objects.{HoldsEntry}
 use Rattle.rc_version.specs.Versions.{HoldEntries, IsStaticRowFound, IsVersionOf}
 use Rattle.rc_version.specs.laws.Objects.{holds-stands}

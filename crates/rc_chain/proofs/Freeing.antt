@@ -1,5 +1,5 @@
 -- Objects of a chain that nobody finds or reads, which are freed one by one.
-use Rattle.std.proofs.Common.{◌≡◌, ◌≢◌, ◌⊎◌, ℕ, zero, suc, ◌<◌, ◌≤◌, List, [], ◌∷◌, ◌++◌, Option, Some, None, IsSome, is_some, Bool, true, false, cond, length, inl, inr, refl, sym, ap, ◌∙◌, subst, append_assoc, slice_index_or, arith}
+use Rattle.std.proofs.Common.{◌≡◌, ◌≢◌, ℕ, zero, suc, ◌<◌, List, [], ◌∷◌, ◌++◌, Option, Some, None, IsSome, is_some, Bool, true, false, cond, length, inl, inr, refl, sym, ap, ◌∙◌, subst, append_assoc, slice_index_or, arith}
 use Rattle.std.specs.Prelude.{Contains, IfSome, IsSomeAnd}
 use Rattle.std.specs.Cmp.{tied_itself}
 use Rattle.std.specs.Option.{option_map}
@@ -8,9 +8,8 @@ use Rattle.std.specs.declared.cmp.Ordering.TheVariants.{Less}
 use Rattle.rc_position.specs.declared.positions.Pos.{Pos}
 use Rattle.rc_position.specs.Position.{pos_cmp}
 use Rattle.rc_position.specs.laws.Orders.{pos_cmp_total}
-use Rattle.lsa_store.specs.declared.place.Ref.{Ref}
 use Rattle.lsa_region.specs.Region.{SameObjects}
-use Rattle.rc_core.specs.declared.entries.ChainKind.TheVariants.{Cache, Memtable}
+use Rattle.rc_core.specs.declared.entries.ChainKind.TheVariants.{Memtable}
 use Rattle.rc_core.specs.declared.entries.Entry.{Entry}
 use Rattle.rc_core.specs.declared.entries.Flag.{Flag}
 use Rattle.rc_core.specs.declared.entries.Flag.TheVariants.{Inherit}
@@ -25,11 +24,11 @@ use Rattle.rc_core.specs.laws.Placed.{ahead_of, not_end}
 use Rattle.rc_core.specs.laws.Spots.{ascend-tail, turn_to}
 use Rattle.rc_partition.specs.laws.Lists.{elem-cases, elem-none}
 use Rattle.rc_registry.specs.Registry.{AreFree, put}
-use Rattle.rc_memory.specs.Memory.{KeptChain, Member, Memory, HasVersion, IsMemberObject, IsVersionAt, chain_at, listed_as, on_shown, on_version_of, shown_with}
-use Rattle.rc_memory.specs.Recency.{IsLastInner, IsRecency}
+use Rattle.rc_memory.specs.Memory.{KeptChain, Member, Memory, HasVersion, IsVersionAt, chain_at, listed_as, on_shown, on_version_of, shown_with}
+use Rattle.rc_memory.specs.Recency.{IsLastInner}
 use Rattle.rc_memory.specs.Kept.{IsSoundChain}
-use Rattle.rc_memory.specs.Changes.{CanDrop, IsUnmoved, IsVersionChanged, IsWithout, Nowhere, NothingListed, OfVersion, StandStill, member}
-use Rattle.rc_memory.specs.laws.At.{found-version, number-low, number-there}
+use Rattle.rc_memory.specs.Changes.{CanDrop, IsVersionChanged, IsWithout, Nowhere, OfVersion, StandStill, member}
+use Rattle.rc_memory.specs.laws.At.{found-version, number-low}
 use Rattle.rc_memory.specs.laws.Listed.{one-at}
 use Rattle.rc_memory.specs.laws.Places.{same_some}
 use Rattle.rc_memory.specs.laws.Recent.{there_at}
@@ -93,9 +92,9 @@ module _ (v : Version) (x : Pos) (is : IsVersion v) (last : IsLastInner v (Some 
   pub quiet-freed : (flag : Flag) (y : Entry) → Contains v.entries y → y.position ≡ end_position → flag ≡ y.at.flag → set_flags end_position flag Inherit (with_entries (drop_at x v.entries) v) ≡ free_entry Memtable x v
   quiet-freed flag y on at same =
       let entries : at_entry end_position (with_flags flag Inherit) (drop_at x v.entries) ≡ take_out (mark Inherit None) x v.entries =
-          subst (λ es. at_entry end_position (with_flags flag Inherit) (drop_at x es) ≡ take_out (mark Inherit None) x es) (sym last.3)
-          (subst (λ z. at_entry end_position (with_flags flag Inherit) (drop_at z (last.0 ++ (last.1 ∷ last.2 ∷ []))) ≡ take_out (mark Inherit None) z (last.0 ++ (last.1 ∷ last.2 ∷ []))) (sym (same_some x last.1.position last.4))
-          (quiet-last flag last.0 last.1 last.2 (subst Ascend last.3 is.ascend) end_at (same ∙ ap (λ (e : Entry). e.at.flag) (end_one y on at)))) in
+      subst (λ es. at_entry end_position (with_flags flag Inherit) (drop_at x es) ≡ take_out (mark Inherit None) x es) (sym last.3)
+      (subst (λ z. at_entry end_position (with_flags flag Inherit) (drop_at z (last.0 ++ (last.1 ∷ last.2 ∷ []))) ≡ take_out (mark Inherit None) z (last.0 ++ (last.1 ∷ last.2 ∷ []))) (sym (same_some x last.1.position last.4))
+      (quiet-last flag last.0 last.1 last.2 (subst Ascend last.3 is.ascend) end_at (same ∙ ap (λ (e : Entry). e.at.flag) (end_one y on at)))) in
       ap (λ es. with_entries es v) entries
 
 -- ---- one change after another, which are one
@@ -121,7 +120,7 @@ pub has-changed : (m n : Memory) (id j : ℕ) (f : Version → Version) (these :
 has-changed m n id j f these changed has =
     let a = found-version m id j has in
     there_at (λ k. j < length k.chain.versions) (chain_at n id) (on_shown (on_version_of j f) a.0) (number-low (on_version j f a.0.chain.versions) j (f a.1) (number-after j f a.0 a.1 a.3))
-        (ap (λ cs. slice_index_or cs id None) changed.chains ∙ on-at m.chains id (on_shown (on_version_of j f)) a.0 a.2)
+    (ap (λ cs. slice_index_or cs id None) changed.chains ∙ on-at m.chains id (on_shown (on_version_of j f)) a.0 a.2)
 
 -- ---- an entry freed
 
@@ -137,7 +136,7 @@ module _ (m : Memory) (id : ℕ) (x : Pos) (versions : (i l : ℕ) → OfVersion
       → IsVersionChanged id 0 (λ c. with_entries (drop_at x c.entries) c) these m one → IsVersionChanged id 0 (set_flags end_position flag Inherit) Nowhere one two → IsVersionChanged id 0 (free_entry Memtable x) these m two
   freed-memtable these one two flag y on at same a b =
       changed-joined (λ c. with_entries (drop_at x c.entries) c) (set_flags end_position flag Inherit) (free_entry Memtable x) id 0 these m one two a b
-          (λ k v e number. quiet-freed v x (versions id 0 k v e number) (last k v e number) flag y (on k v e number) at same)
+      (λ k v e number. quiet-freed v x (versions id 0 k v e number) (last k v e number) flag y (on k v e number) at same)
 
 -- ---- a chain that nobody finds or reads
 
@@ -163,7 +162,7 @@ module _ (m : Memory) (id : ℕ) (left : IsSomeAnd (chain_at m id) (λ k. (k.cha
   left-bare versions off none =
       let a = found-version m id 0 left-has in
       subst (λ (o : Option KeptChain). IsSomeAnd o (λ k. (v : Version) × IsVersionAt k.chain.versions 0 v × IsEndAlone v)) (sym a.2)
-          (a.1, a.3, bare-is a.1 (versions id 0 a.0 a.1 a.2 a.3).ends (no-statics a.1 (off a.0 a.1 a.2 a.3)) (none a.0 a.1 a.2 a.3))
+      (a.1, a.3, bare-is a.1 (versions id 0 a.0 a.1 a.2 a.3).ends (no-statics a.1 (off a.0 a.1 a.2 a.3)) (none a.0 a.1 a.2 a.3))
 
 -- ---- the last version freed
 
@@ -193,8 +192,8 @@ module _ (m : Memory) (id : ℕ) (bare : IsSomeAnd (chain_at m id) (λ k. (v : V
       last-bare =
           let k = some-chain (chain_at m id) (λ k. (v : Version) × IsVersionAt k.chain.versions 0 v × IsEndAlone v) bare in
           subst (λ (x : Memory). IsSomeAnd (chain_at x id) (λ k. (v : Version) × (k.chain.versions ≡ v ∷ []) × IsEndAlone v)) (sym taken)
-              (subst (λ (o : Option KeptChain). IsSomeAnd o (λ k. (v : Version) × (k.chain.versions ≡ v ∷ []) × IsEndAlone v)) (sym k.1)
-              (k.2.0, alone k.0.chain.versions k.2.0 k.2.1 (λ more. few (let is = told k.0 k.1 in omega (arith, is, more))), k.2.2))
+          (subst (λ (o : Option KeptChain). IsSomeAnd o (λ k. (v : Version) × (k.chain.versions ≡ v ∷ []) × IsEndAlone v)) (sym k.1)
+          (k.2.0, alone k.0.chain.versions k.2.0 k.2.1 (λ more. few (let is = told k.0 k.1 in omega (arith, is, more))), k.2.2))
 
       pub last-free : (k : KeptChain) (j : ℕ) → chain_at one id ≡ Some k → IsPinned k.chain.pins j → ⊥
       last-free k j e on = (free k (ap (λ (x : Memory). chain_at x id) (sym taken) ∙ e)).1 j on

@@ -1,5 +1,5 @@
 -- The entries at a key that become the most recent objects, version by version.
-use Rattle.std.proofs.Common.{◌≡◌, ◌≢◌, ◌⊎◌, ℕ, suc, ◌+◌, ◌<◌, ◌≤◌, List, [], ◌∷◌, ◌++◌, Option, Some, None, is_some, length, inl, inr, refl, sym, ap, ◌∙◌, subst, append_assoc, arith}
+use Rattle.std.proofs.Common.{◌≡◌, ◌≢◌, ◌⊎◌, ℕ, ◌+◌, ◌<◌, ◌≤◌, List, [], ◌∷◌, ◌++◌, Option, Some, None, length, inl, inr, refl, sym, ap, ◌∙◌, subst, append_assoc, arith}
 use Rattle.std.specs.Prelude.{AllPairs, Contains, IfSome, IsSome, IsSomeAnd}
 use Rattle.std.proofs.lemmas.List.{append-nil}
 use Rattle.std.proofs.lemmas.List.Elements.{Contains-append_cases}
@@ -11,7 +11,7 @@ use Rattle.rc_core.specs.Steps.{pin_at}
 use Rattle.rc_core.specs.Version.{Version}
 use Rattle.rc_core.specs.laws.Pins.{pin-is-pinned}
 use Rattle.rc_version.specs.Versions.{IsEntryFound, IsVersionOf}
-use Rattle.rc_partition.specs.laws.Lists.{elem-cases, elem-first, elem-here, elem-later, elem-left, elem-none, elem-pushed, elem-split, elem-still, once-beside, once-with, once-without}
+use Rattle.rc_partition.specs.laws.Lists.{elem-cases, elem-first, elem-here, elem-later, elem-left, elem-none, elem-pushed, elem-split, once-beside, once-with, once-without}
 use Rattle.rc_registry.specs.Registry.{Registry}
 use Rattle.rc_memory.specs.declared.counts.Counts.{Counts}
 use Rattle.rc_memory.specs.Memory.{KeptChain, Member, Memory, HasPin, HasVersion, IsVersionObject, chain_at, listed_as}
@@ -130,21 +130,25 @@ module _ (these : Member → Type 0) (old list : List Member) (h : IsTouched the
         let in_rest : Contains h.rest x = elim (Contains-append_cases h.rest h.touched x (subst (λ l. Contains l x) h.split on)) [ inl here ↦ here | inr moved ↦ absurd (fresh (h.mine x moved).0) ] in
         let s = elem-split h.rest x in_rest in
         let split : list ≡ s.0 ++ (x ∷ (s.1 ++ h.touched)) = h.split ∙ ap (λ l. l ++ h.touched) s.2 ∙ append_assoc s.0 (x ∷ s.1) h.touched in
-        let gone : Contains (s.0 ++ (s.1 ++ h.touched)) x → ⊥ = once-beside s.0 (s.1 ++ h.touched) x (subst (AllPairs ◌≢◌) split once) in
-        (s.0, s.1 ++ h.touched, split, record {
-          rest = s.0 ++ s.1;
-          touched = h.touched ++ (x ∷ []);
-          split = ap (λ l. l ++ (x ∷ [])) (sym (append_assoc s.0 s.1 h.touched)) ∙ append_assoc (s.0 ++ s.1) h.touched (x ∷ []);
-          left = left-on these x old s.0 s.1 (subst (IsRemainder these old) s.2 h.left) (λ at. gone (subst (λ l. Contains l x) (append_assoc s.0 s.1 h.touched) (elem-left (s.0 ++ s.1) h.touched x at)));
-          mine = λ w at. elim (elem-pushed h.touched x w at) [
-            | inl before ↦ let m = h.mine w before in (inl m.0, m.1)
-            | inr this ↦ (inr (sym this), subst (Contains old) this (left-old these old h.rest x h.left in_rest))
-          ];
-          all = λ w at is. elim is [
-            | inl this ↦ elem-left h.touched (x ∷ []) w (h.all w at this)
-            | inr same ↦ subst (Contains (h.touched ++ (x ∷ []))) (sym same) (elem-here h.touched [] x)
-          ];
-        })
+        let gone : Contains (s.0 ++ (s.1 ++ h.touched)) x → ⊥ = once-beside s.0 (s.1 ++ h.touched) x (subst (AllPairs ◌≢◌) split once) in (
+          s.0,
+          s.1 ++ h.touched,
+          split,
+          record {
+            rest = s.0 ++ s.1;
+            touched = h.touched ++ (x ∷ []);
+            split = ap (λ l. l ++ (x ∷ [])) (sym (append_assoc s.0 s.1 h.touched)) ∙ append_assoc (s.0 ++ s.1) h.touched (x ∷ []);
+            left = left-on these x old s.0 s.1 (subst (IsRemainder these old) s.2 h.left) (λ at. gone (subst (λ l. Contains l x) (append_assoc s.0 s.1 h.touched) (elem-left (s.0 ++ s.1) h.touched x at)));
+            mine = λ w at. elim (elem-pushed h.touched x w at) [
+              | inl before ↦ let m = h.mine w before in (inl m.0, m.1)
+              | inr this ↦ (inr (sym this), subst (Contains old) this (left-old these old h.rest x h.left in_rest))
+            ];
+            all = λ w at is. elim is [
+              | inl this ↦ elem-left h.touched (x ∷ []) w (h.all w at this)
+              | inr same ↦ subst (Contains (h.touched ++ (x ∷ []))) (sym same) (elem-here h.touched [] x)
+            ];
+          },
+        )
 
 -- ---- version by version
 
@@ -232,8 +236,8 @@ module _ (id : ℕ) (x : Pos) (n : ℕ) (old now new : Memory) (h : IsTouchingKe
     | inl on ↦
         let t = touched-on (IsAtBelow id n x) old.recency h.list h.touched this fresh h.once on in
         more ((t.0 ++ t.1) ++ (this ∷ [])) (touched t.0 t.1 (list_now ∙ t.2) ∙ ap (λ (m : Memory). listed_as ((t.0 ++ t.1) ++ (this ∷ [])) new.region m) h.same)
-            (let before = subst (AllPairs ◌≢◌) t.2 h.once in once-with (t.0 ++ t.1) [] this (λ at. once-beside t.0 t.1 this before (subst (λ l. Contains l this) (append-nil (t.0 ++ t.1)) at)) (subst (AllPairs ◌≢◌) (sym (append-nil (t.0 ++ t.1))) (once-without t.0 t.1 this before)))
-            t.3
+        (let before = subst (AllPairs ◌≢◌) t.2 h.once in once-with (t.0 ++ t.1) [] this (λ at. once-beside t.0 t.1 this before (subst (λ l. Contains l this) (append-nil (t.0 ++ t.1)) at)) (subst (AllPairs ◌≢◌) (sym (append-nil (t.0 ++ t.1))) (once-without t.0 t.1 this before)))
+        t.3
     | inr off ↦
         let same : new ≡ now = unlisted (λ at. off (subst (λ l. Contains l this) list_now at)) in
         more h.list (same ∙ h.same ∙ ap (λ (m : Memory). listed_as h.list m.region old) (sym same)) h.once (touched-off (IsAtBelow id n x) old.recency h.list h.touched this fresh off)
@@ -249,7 +253,7 @@ module _ (id pin last : ℕ) (x : Pos) (old : Memory) (has : HasPin old id pin) 
       let k = some-chain (chain_at old id) (λ k. IsSome (pin_at k.chain.pins pin)) has in
       let pins = (sound-of old id k.0 k.1 sound).pins last (pin-is-pinned k.0.chain.pins pin last (pinned k.0 k.1)) in
       subst (λ (m : Memory). IsSomeAnd (chain_at m id) (λ q. j < length q.chain.versions)) (sym h.same)
-          (subst (λ (o : Option KeptChain). IsSomeAnd o (λ q. j < length q.chain.versions)) (sym k.1) (omega (arith, pins, low)))
+      (subst (λ (o : Option KeptChain). IsSomeAnd o (λ q. j < length q.chain.versions)) (sym k.1) (omega (arith, pins, low)))
 
   pub touched-all : (new : Memory) → IsTouchingKey id x (last + 1) old new → (k : KeptChain) (j : ℕ) → chain_at old id ≡ Some k → pin_at k.chain.pins pin ≡ Some j → (list : List Member) × IsTouched (IsAtUpTo id j x) old.recency list × (new ≡ listed_as list new.region old)
   touched-all new h k j e at =

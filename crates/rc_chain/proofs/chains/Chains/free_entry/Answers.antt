@@ -1,6 +1,5 @@
-use Rattle.std.proofs.Common.{◌≡◌, Some, refl, sym, ap, ◌∙◌, subst, arith}
+use Rattle.std.proofs.Common.{Some, refl, sym, ap, ◌∙◌, subst, arith}
 use Rattle.std.specs.Prelude.{Contains}
-use Rattle.rc_core.specs.declared.entries.ChainKind.TheVariants.{Cache, Memtable}
 use Rattle.rc_core.specs.declared.entries.Mark.{Mark}
 use Rattle.rc_core.specs.Free.{free_entry}
 use Rattle.rc_core.specs.Version.{Version, end_position}

@@ -1,4 +1,4 @@
-use Rattle.std.proofs.Common.{◌≡◌, true, false, inl, inr, sym, ◌∙◌, arith}
+use Rattle.std.proofs.Common.{inl, inr, sym, ◌∙◌, arith}
 use Rattle.rc_chain.proofs.Freeing.{left-bare, left-free, left-has}
 use Rattle.rc_chain.proofs.chains.Chains.free_one.Goals as goal
 

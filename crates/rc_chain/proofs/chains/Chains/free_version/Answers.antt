@@ -1,4 +1,4 @@
-use Rattle.std.proofs.Common.{◌<◌, ◌≤◌, Some, inl, inr, refl, subst, arith}
+use Rattle.std.proofs.Common.{Some, inl, inr, arith}
 use Rattle.rc_core.specs.Version.{end_position}
 use Rattle.rc_memory.specs.Changes.{member}
 use Rattle.rc_chain.proofs.Dropping.{bare-has, end-free, nothing-one}

@@ -1,4 +1,4 @@
-use Rattle.std.proofs.Common.{◌≡◌, ◌∙◌, arith}
+use Rattle.std.proofs.Common.{◌∙◌, arith}
 use Rattle.rc_chain.proofs.Ending.{held-whole, static-there}
 use Rattle.rc_chain.proofs.Reading.{memory-now}
 use Rattle.rc_chain.proofs.chains.Chains.has_static.Goals as goal

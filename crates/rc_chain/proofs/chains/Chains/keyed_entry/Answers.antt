@@ -1,4 +1,4 @@
-use Rattle.std.proofs.Common.{Some, arith}
+use Rattle.std.proofs.Common.{arith}
 use Rattle.rc_position.specs.Position.{row_pos}
 use Rattle.rc_chain.proofs.Ending.{held-whole}
 use Rattle.rc_chain.proofs.Reading.{memory-now}

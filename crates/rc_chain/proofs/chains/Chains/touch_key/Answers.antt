@@ -1,4 +1,4 @@
-use Rattle.std.proofs.Common.{◌≡◌, ◌<◌, ◌≤◌, subst, arith}
+use Rattle.std.proofs.Common.{subst, arith}
 use Rattle.rc_position.specs.Position.{row_pos}
 use Rattle.rc_chain.proofs.Touching.{IsTouchingKey, touched-all, touching-has, touching-start, touching-step}
 use Rattle.rc_chain.proofs.chains.Chains.touch_key.Goals as goal

@@ -1,4 +1,4 @@
-use Rattle.std.proofs.Common.{◌≡◌, true, false, ◌∷◌, ◌++◌, Some, refl, sym, subst, arith}
+use Rattle.std.proofs.Common.{Some, sym, subst, arith}
 use Rattle.std.specs.Prelude.{Contains}
 use Rattle.rc_position.specs.Position.{row_pos}
 use Rattle.rc_partition.specs.laws.Lists.{elem-here, elem-split}
