@@ -5,7 +5,7 @@ ghost use Rattle.lsa_store.specs.declared.place.Ref.{Ref as Name};
 ghost use Rattle.rc_core.specs.Chains.{IsPinned};
 ghost use Rattle.rc_core.specs.Version.{Version, end_position};
 ghost use Rattle.rc_memory.specs.Memory.{KeptChain, Member, HasChain, HasVersion, IsMemberObject, IsVersionAt, chain_at, listed_as, on_chain, on_shown, shown_detached, shown_updating, with_chains};
-ghost use Rattle.rc_memory.specs.Recency.{IsLastInner, IsUnderUpdate, MustBeListed};
+ghost use Rattle.rc_memory.specs.Recency.{IsLastInner, MustBeListed};
 ghost use Rattle.rc_memory.specs.Changes.{CanDrop, IsWithout, LastIsListed, Nowhere, NothingListed, OfVersion, StandStill, member};
 ghost use Rattle.rc_chain.specs.Lives.{IsEndAlone, IsChainChanged, IsChainDropped, IsChainMade, IsEndListed, IsLastUnlisted, IsSameButSlots, IsVersionDropped, flag_of_new, with_end_listed, with_version_over};
 ghost use Rattle.rc_version.specs.Versions.{IsVersionOf};

@@ -1,6 +1,5 @@
 //! What is done to many objects of a chain, or to many chains.
-ghost use Rattle.std.specs.Prelude.{◌≡◌, ◌⊎◌, ◌∷◌, ◌++◌, ◌+◌, ◌<◌, ◌≤◌, ℕ, suc, List as Sequence, [], true, false, Option, Some, None, IsSomeAnd, IsSome, IsTrue, is_some, ◌↔◌, length, map, Contains};
-ghost use Rattle.std.specs.Option.{option_map};
+ghost use Rattle.std.specs.Prelude.{◌≡◌, ◌⊎◌, ◌∷◌, ◌++◌, ◌+◌, ◌<◌, ℕ, List as Sequence, [], true, false, Option, Some, None, IsSomeAnd, IsSome, IsTrue, is_some, ◌↔◌, length, Contains};
 ghost use Rattle.lsa_pool.specs.Room.{spare_of};
 ghost use Rattle.lsa_region.specs.Region.{SameObjects};
 ghost use Rattle.rc_position.specs.declared.positions.Pos.{Pos as Position};
@@ -10,8 +9,8 @@ ghost use Rattle.rc_core.specs.Steps.{pin_at};
 ghost use Rattle.rc_core.specs.Version.{Version, end_position};
 ghost use Rattle.rc_memory.specs.Recency.{HasObject, IsLastInner};
 ghost use Rattle.rc_registry.specs.Registry.{AreFree};
-ghost use Rattle.rc_memory.specs.Memory.{KeptChain, Member, HasChain, HasPin, HasVersion, IsMemberObject, IsVersionAt, chain_at, listed_as, on_chain};
-ghost use Rattle.rc_memory.specs.Changes.{IsUnmoved, Nowhere, NothingListed, OfVersion, StandStill, member};
+ghost use Rattle.rc_memory.specs.Memory.{KeptChain, Member, HasChain, HasPin, HasVersion, IsMemberObject, IsVersionAt, chain_at, listed_as};
+ghost use Rattle.rc_memory.specs.Changes.{Nowhere, NothingListed, OfVersion, StandStill, member};
 ghost use Rattle.rc_recency.specs.Holding.{IsFoundAt};
 ghost use Rattle.rc_chain.specs.Lives.{IsAtUpTo, IsEndAlone, IsChainChanged, IsChainDropped, IsEntryFreed, IsIdle, IsLastDropped, IsOneFreed, IsRelabelled, IsStaticFreed, IsTouched, IsVersionDropped, relabelled};
 
