@@ -113,6 +113,7 @@ impl<const S: usize> Chains<S> {
         requires { HasChain self.old id }
         ensures dropped { (k : KeptChain) → chain_at self.old id ≡ Some k → IsIdle self.old id k.chain → IsChainDropped id self.old.recency self.old self.new }
         ensures kept { (k : KeptChain) → chain_at self.old id ≡ Some k → (IsIdle self.old id k.chain → ⊥) → self.new ≡ self.old }
+        ensures spare { spare_of S self.new.region.usages ≡ spare_of S self.old.region.usages }
     {
         if self.is_idle(id) {
             self.drop_idle(id);
@@ -122,7 +123,8 @@ impl<const S: usize> Chains<S> {
     // Drops a chain of which nothing is listed: its versions, the oldest first, and then the chain.
     fn drop_idle(&mut self, id: u64)
         requires { IsSomeAnd (chain_at self.old id) (λ k. IsIdle self.old id k.chain) }
-        ensures { IsChainDropped id self.old.recency self.old self.new }
+        ensures dropped { IsChainDropped id self.old.recency self.old self.new }
+        ensures spare { spare_of S self.new.region.usages ≡ spare_of S self.old.region.usages }
     {
         self.known();
         while self.versions(id) > 1 {
@@ -173,7 +175,8 @@ impl<const S: usize> Chains<S> {
     // Frees the last entry before the end of the oldest version of a chain.
     fn free_entry(&mut self, id: u64, e: Ref)
         requires { (x : Position) × IsMemberObject self.old e (member id 0 (Some x)) × OfVersion self.old id 0 (λ k v. IsLastInner v (Some x)) }
-        ensures { IsEntryFreed id self.old self.new }
+        ensures freed { IsEntryFreed id self.old self.new }
+        ensures spare { spare_of S self.new.region.usages ≡ spare_of S self.old.region.usages }
     {
         self.known();
         let kind = self.kind(id);
@@ -190,7 +193,8 @@ impl<const S: usize> Chains<S> {
     fn free_statics(&mut self, id: u64)
         requires version { HasVersion self.old id 0 }
         requires there { OfVersion self.old id 0 (λ k v. IsSome v.statics) }
-        ensures { IsStaticFreed id self.old self.new }
+        ensures freed { IsStaticFreed id self.old self.new }
+        ensures spare { spare_of S self.new.region.usages ≡ spare_of S self.old.region.usages }
     {
         let kind = self.kind(id);
         self.drop_static(id, 0);
@@ -204,7 +208,8 @@ impl<const S: usize> Chains<S> {
     fn free_version(&mut self, id: u64)
         requires bare { IsSomeAnd (chain_at self.old id) (λ k. (v : Version) × IsVersionAt k.chain.versions 0 v × IsEndAlone v) }
         requires free { (k : KeptChain) → chain_at self.old id ≡ Some k → (k.chain.updating ≡ false) × AreFree k.chain.pins }
-        ensures { IsVersionDropped id 0 self.old self.new ⊎ IsLastDropped id self.old self.new }
+        ensures freed { IsVersionDropped id 0 self.old self.new ⊎ IsLastDropped id self.old self.new }
+        ensures spare { spare_of S self.new.region.usages ≡ spare_of S self.old.region.usages }
     {
         self.known();
         if self.versions(id) > 1 {
@@ -219,7 +224,8 @@ impl<const S: usize> Chains<S> {
     /// Frees one object of a chain that is not found by its key and that nobody pins: the last entry before the end of its oldest version; where its end dummy alone is left of the entries, the static row; where there is none, the version with the end dummy, and with its last version the chain, whose number is to be told then. What a cache chain said there is Unknown, and a memtable's chain says nothing there.
     pub fn free_one(&mut self, id: u64)
         requires { IsSomeAnd (chain_at self.old id) (λ k. (k.chain.attached ≡ false) × AreFree k.chain.pins) }
-        ensures { IsOneFreed id self.old self.new }
+        ensures freed { IsOneFreed id self.old self.new }
+        ensures spare { spare_of S self.new.region.usages ≡ spare_of S self.old.region.usages }
     {
         self.known();
         match self.last_inner(id, 0) {

@@ -22,14 +22,14 @@ pub free_version-requires : goal.free_version-requires
 free_version-requires g c =
     (omega arith, (left-bare c.args.self.now c.args.id c.requires c.known.ensures.sound c.known.ensures.versions (λ k v e at. sym (c.has_static.ensures k v e at) ∙ c.if-has_static.false) c.in-None.ensures.none, left-free c.args.self.now c.args.id c.requires c.known.ensures.sound))
 
-pub returns-in-Some : goal.returns-in-Some
-returns-in-Some g c =
-    inl c.free_entry.ensures
+pub returns-in-Some-clause-freed : goal.returns-in-Some-clause-freed
+returns-in-Some-clause-freed g c =
+    inl c.free_entry.ensures.freed
 
-pub returns-then-has_static : goal.returns-then-has_static
-returns-then-has_static g c =
-    inr (inl c.free_statics.ensures)
+pub returns-then-has_static-clause-freed : goal.returns-then-has_static-clause-freed
+returns-then-has_static-clause-freed g c =
+    inr (inl c.free_statics.ensures.freed)
 
-pub returns-else-has_static : goal.returns-else-has_static
-returns-else-has_static g c =
-    inr (inr c.free_version.ensures)
+pub returns-else-has_static-clause-freed : goal.returns-else-has_static-clause-freed
+returns-else-has_static-clause-freed g c =
+    inr (inr c.free_version.ensures.freed)

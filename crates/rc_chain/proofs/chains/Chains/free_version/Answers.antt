@@ -25,10 +25,10 @@ pub close-requires : goal.close-requires
 close-requires g c =
     let t = c.take.ensures.taken (member c.args.id 0 (Some end_position)) c.end_of-end.ensures in (omega arith, (last-bare c.args.self.now c.args.id c.requires.bare c.requires.free c.versions.result c.versions.ensures (λ more. let few = c.if-versions-gt1.false in omega (arith, few, more)) t.0 c.take.new.self t.2, (nothing-one c.args.self.now c.args.id 0 c.known.ensures.rule c.known.ensures.versions c.requires.bare t.0 t.1 c.take.new.self t.2 c.take.ensures.objects c.take.ensures.still, last-free c.args.self.now c.args.id c.requires.bare c.requires.free c.versions.result c.versions.ensures (λ more. let few = c.if-versions-gt1.false in omega (arith, few, more)) t.0 c.take.new.self t.2)))
 
-pub returns-then-versions-gt1 : goal.returns-then-versions-gt1
-returns-then-versions-gt1 g c =
+pub returns-then-versions-gt1-clause-freed : goal.returns-then-versions-gt1-clause-freed
+returns-then-versions-gt1-clause-freed g c =
     inl c.drop_version.ensures.dropped
 
-pub returns-else-versions-gt1 : goal.returns-else-versions-gt1
-returns-else-versions-gt1 g c =
+pub returns-else-versions-gt1-clause-freed : goal.returns-else-versions-gt1-clause-freed
+returns-else-versions-gt1-clause-freed g c =
     let t = c.take.ensures.taken (member c.args.id 0 (Some end_position)) c.end_of-end.ensures in inr (last-dropped c.args.self.now c.args.id c.requires.bare c.requires.free c.versions.result c.versions.ensures (λ more. let few = c.if-versions-gt1.false in omega (arith, few, more)) t.0 c.take.new.self t.2 t.1 c.take.ensures.objects c.take.ensures.still c.close.new.self c.close.ensures.dropped)

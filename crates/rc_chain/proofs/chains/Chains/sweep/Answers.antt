@@ -19,4 +19,4 @@ returns-else-is_idle-clause-dropped g c =
 
 pub returns-then-is_idle-clause-dropped : goal.returns-then-is_idle-clause-dropped
 returns-then-is_idle-clause-dropped g c =
-    λ k e idle. c.drop_idle.ensures
+    λ k e idle. c.drop_idle.ensures.dropped
