@@ -25,5 +25,5 @@ pub taken-there : (old new : Memory) (id pin phase : ℕ) (k : KeptChain) → ch
 taken-there old new id pin phase k e taken =
     let number : pin ≡ free_number k.chain.pins = subst (λ (o : Option KeptChain). IfSome o (λ q. pin ≡ free_number q.chain.pins)) e taken.number in
     let at : chain_at new id ≡ Some (with_snapshot (snapshot_number k.chain) k) =
-        ap (λ (m : Memory). chain_at m id) taken.now ∙ put-at old.chains id (option_map (λ q. with_snapshot (snapshot_number q.chain) q) (slice_index_or old.chains id None)) ∙ ap (option_map (λ q. with_snapshot (snapshot_number q.chain) q)) e in
+    ap (λ (m : Memory). chain_at m id) taken.now ∙ put-at old.chains id (option_map (λ q. with_snapshot (snapshot_number q.chain) q) (slice_index_or old.chains id None)) ∙ ap (option_map (λ q. with_snapshot (snapshot_number q.chain) q)) e in
     subst (λ (o : Option KeptChain). IsSomeAnd o (λ q. IsSome (pin_at q.chain.pins pin))) (sym at) (subst (λ n. IsSome (pin_at (pinned (snapshot_number k.chain) k.chain.pins) n)) (sym number) (pinned-there k.chain.pins (snapshot_number k.chain)))

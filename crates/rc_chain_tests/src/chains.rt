@@ -46,7 +46,10 @@ fn new_chains(rt: HostRuntime) -> Result<(), Fail> {
         let mut chains = Chains::<4096>::open(rt.alloc(), 4)?;
         let (head, at) = known_of_new(rt.alloc(), &mut chains, kind)?;
         assert_eq!(rt; (head, at), (known, known));
-        assert_eq!(rt; (chains.region().objects(), chains.region().live()), (2, 152));
+        assert_eq!(rt;
+            (chains.region().objects(), chains.region().live()),
+            (2, 152)
+        );
     }
     Ok(())
 }
