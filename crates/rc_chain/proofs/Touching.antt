@@ -1,8 +1,9 @@
 -- The entries at a key that become the most recent objects, version by version.
-use Rattle.std.proofs.Common.{◌≡◌, ◌≢◌, ◌⊎◌, ℕ, ◌+◌, ◌<◌, ◌≤◌, List, [], ◌∷◌, ◌++◌, Option, Some, None, length, inl, inr, refl, sym, ap, ◌∙◌, subst, append_assoc, arith}
+use Rattle.std.proofs.Common.{◌≡◌, ◌≢◌, ◌⊎◌, ℕ, ◌+◌, ◌<◌, ◌≤◌, List, [], ◌∷◌, ◌++◌, Option, Some, None, length, inl, inr, refl, sym, ap, ◌∙◌, subst, append_assoc, slice_index_or, suc, arith}
 use Rattle.std.specs.Prelude.{AllPairs, Contains, IfSome, IsSome, IsSomeAnd}
 use Rattle.std.proofs.lemmas.List.{append-nil}
-use Rattle.std.proofs.lemmas.List.Elements.{Contains-append_cases}
+use Rattle.std.proofs.lemmas.List.Elements.{Contains-append_cases, Contains-get_or}
+use Rattle.std.proofs.lemmas.List.Kept.{AllPairs-cons}
 use Rattle.rc_position.specs.declared.positions.Pos.{Pos}
 use Rattle.lsa_store.specs.declared.place.Ref.{Ref}
 use Rattle.lsa_region.specs.Region.{View, SameObjects}
@@ -42,6 +43,18 @@ entry-told slots v registry counts m h id j n has object x o told =
 pub unfound : (m : Memory) (w : Member) (o : Option Ref) → ((r : Ref) → o ≡ Some r → ⊥) → IsFoundAt m w o → Contains m.recency w → ⊥
 unfound m w None none found = found
 unfound m w (Some r) none found = absurd (none r refl)
+
+-- ---- one more at the end of a list in order
+
+module _ {X : Type 0} (R : X → X → Type 0) where
+  pairs-pushed : (xs : List X) (a : X) → ((y : X) → Contains xs y → R y a) → AllPairs R xs → AllPairs R (xs ++ (a ∷ []))
+  pairs-pushed [] a last all = λ i j d less within. absurd (omega (arith, less, within))
+  pairs-pushed (x ∷ xs) a last all = AllPairs-cons R x (xs ++ (a ∷ []))
+      (λ k d within. elim (elem-pushed xs a (slice_index_or (xs ++ (a ∷ [])) k d) (Contains-get_or (xs ++ (a ∷ [])) k d within)) [
+        | inl before ↦ subst (R x) before.2 (all 0 (suc before.0) (slice_index_or (xs ++ (a ∷ [])) k d) (omega arith) (let low = before.1 in omega (arith, low)))
+        | inr same ↦ subst (R x) same (last x (elem-first x xs))
+      ])
+      (pairs-pushed xs a (λ y on. last y (elem-later x y xs on)) (λ i j d less within. all (suc i) (suc j) d (omega (arith, less)) (omega (arith, within))))
 
 -- ---- a list without its members at some places
 
@@ -109,6 +122,7 @@ module _ (these : Member → Type 0) (old list : List Member) (h : IsTouched the
     left = left-as these those to from old h.rest h.left;
     mine = λ w on. let m = h.mine w on in (to w m.0, m.1);
     all = λ w on at. h.all w on (from w at);
+    ascending = h.ascending;
   }
 
   module _ (x : Member) (fresh : these x → ⊥) where
@@ -120,13 +134,14 @@ module _ (these : Member → Type 0) (old list : List Member) (h : IsTouched the
       left = left-off these x old h.rest h.left none;
       mine = λ w on. let m = h.mine w on in (inl m.0, m.1);
       all = λ w on at. elim at [ inl this ↦ h.all w on this | inr same ↦ absurd (none (left-stays these old h.rest x h.left fresh (subst (Contains old) same on))) ];
+      ascending = h.ascending;
     } where
       none : Contains h.rest x → ⊥
       none on = off (subst (λ l. Contains l x) (sym h.split) (elem-left h.rest h.touched x on))
 
     -- where it is listed it stands among what was left, and goes to the back
-    touched-on : AllPairs ◌≢◌ list → Contains list x → (front : List Member) × (back : List Member) × (list ≡ front ++ (x ∷ back)) × IsTouched (λ w. these w ⊎ (w ≡ x)) old ((front ++ back) ++ (x ∷ []))
-    touched-on once on =
+    touched-on : ((w : Member) → these w → w.version < x.version) → AllPairs ◌≢◌ list → Contains list x → (front : List Member) × (back : List Member) × (list ≡ front ++ (x ∷ back)) × IsTouched (λ w. these w ⊎ (w ≡ x)) old ((front ++ back) ++ (x ∷ []))
+    touched-on later once on =
         let in_rest : Contains h.rest x = elim (Contains-append_cases h.rest h.touched x (subst (λ l. Contains l x) h.split on)) [ inl here ↦ here | inr moved ↦ absurd (fresh (h.mine x moved).0) ] in
         let s = elem-split h.rest x in_rest in
         let split : list ≡ s.0 ++ (x ∷ (s.1 ++ h.touched)) = h.split ∙ ap (λ l. l ++ h.touched) s.2 ∙ append_assoc s.0 (x ∷ s.1) h.touched in
@@ -147,6 +162,7 @@ module _ (these : Member → Type 0) (old list : List Member) (h : IsTouched the
               | inl this ↦ elem-left h.touched (x ∷ []) w (h.all w at this)
               | inr same ↦ subst (Contains (h.touched ++ (x ∷ []))) (sym same) (elem-here h.touched [] x)
             ];
+            ascending = pairs-pushed (λ (a b : Member). a.version < b.version) h.touched x (λ w at. later w (h.mine w at).0) h.ascending;
           },
         )
 
@@ -192,6 +208,7 @@ touching-start id x m once = record {
     left = left-none (IsAtBelow id 0 x) (λ w at. let low = at.1 in absurd (omega (arith, low))) m.recency;
     mine = λ w on. absurd (elem-none w on);
     all = λ w on at. let low = at.1 in absurd (omega (arith, low));
+    ascending = λ i j d less within. absurd (omega (arith, less, within));
   };
   same = refl;
   once = once;
@@ -234,7 +251,7 @@ module _ (id : ℕ) (x : Pos) (n : ℕ) (old now new : Memory) (h : IsTouchingKe
   pub touching-step : IsTouchingKey id x (n + 1) old new
   touching-step = elim (listed-decided h.list this) [
     | inl on ↦
-        let t = touched-on (IsAtBelow id n x) old.recency h.list h.touched this fresh h.once on in
+        let t = touched-on (IsAtBelow id n x) old.recency h.list h.touched this fresh (λ w at. at.1) h.once on in
         more ((t.0 ++ t.1) ++ (this ∷ [])) (touched t.0 t.1 (list_now ∙ t.2) ∙ ap (λ (m : Memory). listed_as ((t.0 ++ t.1) ++ (this ∷ [])) new.region m) h.same)
         (let before = subst (AllPairs ◌≢◌) t.2 h.once in once-with (t.0 ++ t.1) [] this (λ at. once-beside t.0 t.1 this before (subst (λ l. Contains l this) (append-nil (t.0 ++ t.1)) at)) (subst (AllPairs ◌≢◌) (sym (append-nil (t.0 ++ t.1))) (once-without t.0 t.1 this before)))
         t.3

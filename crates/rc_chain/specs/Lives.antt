@@ -4,7 +4,7 @@
 --     IsEndListed       the recency list once an update has ended
 --     IsVersionDropped  a version is gone
 --     IsChainDropped    a chain is gone, and its number is to be told
-use Rattle.std.specs.Prelude.{◌≡◌, ◌⊎◌, ℕ, suc, Bool, true, false, List, [], ◌∷◌, ◌++◌, Option, Some, None, length, Contains, map as list_map, option_map, cond, ◌≤◌, IsSome}
+use Rattle.std.specs.Prelude.{◌≡◌, ◌⊎◌, ℕ, suc, Bool, true, false, List, [], ◌∷◌, ◌++◌, Option, Some, None, length, AllPairs, Contains, map as list_map, option_map, cond, ◌<◌, ◌≤◌, IsSome}
 use Rattle.std.specs.Option.{option_to_list}
 use Rattle.lsa_store.specs.declared.place.Ref.{Ref}
 use Rattle.lsa_region.specs.Region.{SameButRoots}
@@ -155,7 +155,7 @@ abbrev pub IsRemainder : (Member → Type 0) → List Member → List Member →
 IsRemainder these [] rest = rest ≡ []
 IsRemainder these (w ∷ ws) rest = (these w × IsRemainder these ws rest) ⊎ ((these w → ⊥) × ((more : List Member) × (rest ≡ w ∷ more) × IsRemainder these ws more))
 
--- the objects at these places that were in the list went to its back, in some order; all others stand before them as they stood
+-- the objects at these places that were in the list went to its back, those of older versions first; all others stand before them as they stood
 pub record IsTouched (these : Member → Type 0) (old new : List Member) : Type 0 where
   pub rest : List Member
   pub touched : List Member
@@ -163,6 +163,7 @@ pub record IsTouched (these : Member → Type 0) (old new : List Member) : Type 
   pub left : IsRemainder these old rest
   pub mine : (w : Member) → Contains touched w → these w × Contains old w
   pub all : (w : Member) → Contains old w → these w → Contains touched w
+  pub ascending : AllPairs (λ (a b : Member). a.version < b.version) touched
 
 -- a place is that of the entry at a position, in a version of a chain up to one
 abbrev pub IsAtUpTo : ℕ → ℕ → Pos → Member → Type 0
