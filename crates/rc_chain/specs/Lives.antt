@@ -4,7 +4,7 @@
 --     IsEndListed       the recency list once an update has ended
 --     IsVersionDropped  a version is gone
 --     IsChainDropped    a chain is gone, and its number is to be told
-use Rattle.std.specs.Prelude.{◌≡◌, ◌⊎◌, ℕ, suc, Bool, true, false, List, [], ◌∷◌, ◌++◌, Option, Some, None, length, AllPairs, Contains, map as list_map, option_map, cond, ◌<◌, ◌≤◌, IsSome}
+use Rattle.std.specs.Prelude.{◌≡◌, ◌⊎◌, ℕ, suc, Bool, true, false, List, [], ◌∷◌, ◌++◌, Option, Some, None, length, AllPairs, Contains, map as list_map, option_map, cond, ◌<◌, ◌≤◌, IsSome, IsSomeAnd}
 use Rattle.std.specs.Option.{option_to_list}
 use Rattle.lsa_store.specs.declared.place.Ref.{Ref}
 use Rattle.lsa_region.specs.Region.{SameButRoots}
@@ -126,17 +126,19 @@ pub record IsIdle (m : Memory) (id : ℕ) (c : Shown) : Type 0 where
   pub unpinned : AreFree c.pins
   pub unlisted : (j : ℕ) (at : Option Pos) → Contains m.recency (member id j at) → ⊥
 
--- an entry of the oldest version was freed, which is not the end dummy
+-- the last entry before the end of the oldest version was freed
 pub record IsEntryFreed (id : ℕ) (old new : Memory) : Type 0 where
   pub at : Pos
   pub there : OfVersion old id 0 (λ k v. HasEntryAt at v.entries)
   pub inner : at ≡ end_position → ⊥
+  pub last : OfVersion old id 0 (λ k v. IsLastInner v (Some at))
   pub changed : (k : KeptChain) → chain_at old id ≡ Some k → IsVersionChanged id 0 (free_entry k.chain.kind at) (AtAlone (member id 0 (Some at))) old new
   pub recency : IsWithout (member id 0 (Some at)) old.recency new.recency
 
--- its static row was freed
+-- its static row was freed, where no entry stands before the end
 pub record IsStaticFreed (id : ℕ) (old new : Memory) : Type 0 where
   pub there : OfVersion old id 0 (λ k v. IsSome v.statics)
+  pub alone : OfVersion old id 0 (λ k v. (at : Option Pos) → IsLastInner v at → ⊥)
   pub changed : (k : KeptChain) → chain_at old id ≡ Some k → IsVersionChanged id 0 (free_statics k.chain.kind) (AtAlone (member id 0 None)) old new
   pub recency : IsWithout (member id 0 None) old.recency new.recency
 
@@ -146,9 +148,9 @@ pub record IsLastDropped (id : ℕ) (old new : Memory) : Type 0 where
   pub recency : IsWithout (member id 0 (Some end_position)) old.recency list
   pub dropped : IsChainDropped id list old new
 
--- of the oldest version of a chain one entry was freed, its static row, the version itself with its end dummy, or with it the chain, of which it was the last version
+-- of the oldest version of a chain the last entry before the end was freed; where none was there, its static row; where its end dummy alone was left, the version itself with it, or with both the chain, of which it was the last version
 abbrev pub IsOneFreed : ℕ → Memory → Memory → Type 0
-IsOneFreed id old new = IsEntryFreed id old new ⊎ (IsStaticFreed id old new ⊎ (IsVersionDropped id 0 old new ⊎ IsLastDropped id old new))
+IsOneFreed id old new = IsEntryFreed id old new ⊎ (IsStaticFreed id old new ⊎ (IsSomeAnd (chain_at old id) (λ k. (v : Version) × IsVersionAt k.chain.versions 0 v × IsEndAlone v) × (IsVersionDropped id 0 old new ⊎ IsLastDropped id old new)))
 
 -- what is left of a list without its members at these places, in its order
 abbrev pub IsRemainder : (Member → Type 0) → List Member → List Member → Type 0

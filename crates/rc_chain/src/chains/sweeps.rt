@@ -193,6 +193,7 @@ impl<const S: usize> Chains<S> {
     fn free_statics(&mut self, id: u64)
         requires version { HasVersion self.old id 0 }
         requires there { OfVersion self.old id 0 (λ k v. IsSome v.statics) }
+        requires alone { OfVersion self.old id 0 (λ k v. (at : Option Position) → IsLastInner v at → ⊥) }
         ensures freed { IsStaticFreed id self.old self.new }
         ensures spare { spare_of S self.new.region.usages ≡ spare_of S self.old.region.usages }
     {

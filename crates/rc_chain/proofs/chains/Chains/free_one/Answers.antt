@@ -16,7 +16,7 @@ has_static-requires g c =
 
 pub free_statics-requires : goal.free_statics-requires
 free_statics-requires g c =
-    (omega arith, (left-has c.args.self.now c.args.id c.requires c.known.ensures.sound, λ k v e at. sym (c.has_static.ensures k v e at) ∙ c.if-has_static.true))
+    (omega arith, (left-has c.args.self.now c.args.id c.requires c.known.ensures.sound, ((λ k v e at. sym (c.has_static.ensures k v e at) ∙ c.if-has_static.true), c.in-None.ensures.none)))
 
 pub free_version-requires : goal.free_version-requires
 free_version-requires g c =
@@ -32,4 +32,4 @@ returns-then-has_static-clause-freed g c =
 
 pub returns-else-has_static-clause-freed : goal.returns-else-has_static-clause-freed
 returns-else-has_static-clause-freed g c =
-    inr (inr c.free_version.ensures.freed)
+    inr (inr (left-bare c.args.self.now c.args.id c.requires c.known.ensures.sound c.known.ensures.versions (λ k v e at. sym (c.has_static.ensures k v e at) ∙ c.if-has_static.false) c.in-None.ensures.none, c.free_version.ensures.freed))
