@@ -51,9 +51,6 @@ pub record IsAsked (size need : ℕ) (old new : View) (asked full : ℕ) : Type 
   pub rounds : (rounds : ℕ) × Compactions size need rounds old new
   pub answers : ((full ≡ 0) × (0 < asked → need ≤ spare_of size new.usages)) ⊎ ((full ≡ asked) × (spare_of size new.usages < need) × Tight size new.usages)
 
-pub asked-none : (size need : ℕ) (v : View) → IsAsked size need v v 0 0
-asked-none size need v = record { rounds = (0, refl); answers = inl (refl, λ l. absurd (omega (arith, l))) }
-
 pub asked-more : (size need : ℕ) (old mid new : View) (asked full found : ℕ) → IsAsked size need old mid asked full → asked + 1 < 2 ^ 64 →
     (0 < found → found ≡ 1) → (0 < found → spare_of size new.usages < need) → (0 < found → Tight size new.usages) → (found ≡ 0 → need ≤ spare_of size new.usages) →
     (need ≤ spare_of size mid.usages → new ≡ mid) → (rounds : ℕ) × Compactions size need rounds mid new → IsAsked size need old new (asked + 1) (min (full + found) (2 ^ 64 - 1))

@@ -1,5 +1,5 @@
 -- The recency list: the references on the path between its two root slots, the least recent first.
-use Rattle.std.specs.Prelude.{◌≢◌, ℕ, List, [], ◌∷◌, ◌++◌, Option, Some, None, IsSomeAnd, IfSome, ⊤}
+use Rattle.std.specs.Prelude.{◌≢◌, List, [], ◌∷◌, ◌++◌, Option, Some, None, IsSomeAnd, IfSome, ⊤}
 use Rattle.std.specs.Option.{option_map}
 use Rattle.lsa_kinds.specs.declared.kind.Kind.{Kind}
 use Rattle.lsa_kinds.specs.declared.kind.Kind.TheVariants.{Version}

@@ -1,8 +1,7 @@
 -- The sums over the usages after one of them changed.
-use Rattle.std.proofs.Common.{◌≡◌, ℕ, zero, suc, ◌+◌, ◌-◌, ◌*◌, ◌^◌, ◌<◌, ◌≤◌, List, [], ◌∷◌, length, replicate, refl, sym, ap, arith}
+use Rattle.std.proofs.Common.{◌≡◌, ℕ, zero, suc, ◌+◌, ◌-◌, ◌*◌, ◌^◌, ◌<◌, ◌≤◌, List, [], ◌∷◌, length, replicate, refl, arith}
 use Rattle.std.proofs.Math.ListN.{set}
-use Rattle.std.proofs.lemmas.List.{length-set, length-replicate}
-use Rattle.std.proofs.lemmas.List.Folds.{sum_by-replicate}
+use Rattle.std.proofs.lemmas.List.{length-set}
 use Rattle.std.proofs.lemmas.List.Sums.{sum_by-set, sum_by-cons, count_by-le-length}
 use Rattle.lsa_pool.specs.declared.Usage.{Usage}
 use Rattle.lsa_pool.specs.Room.{nothing, usage_of, live_sum, is_sparse, sparse_count}
@@ -38,15 +37,3 @@ replicate_at : (n m : ℕ) → usage_of (replicate n nothing) m ≡ nothing
 replicate_at zero m = refl
 replicate_at (suc n) zero = refl
 replicate_at (suc n) (suc m) = replicate_at n m
-
-none_counted : (size n : ℕ) → sparse_count size (replicate n nothing) ≡ 0
-none_counted size n = omega (arith, sum_by-replicate (is_counted size) n nothing)
-
-pub tallied-new : (size n : ℕ) → n ≤ 4096 → size ≤ 2 ^ 27 → IsTallied size (replicate n nothing) 0 0
-tallied-new size n few small = record {
-  few = omega (arith, length-replicate n nothing);
-  small = small;
-  each = λ m. omega (arith, ap (λ (u : Usage). u.live) (replicate_at n m));
-  total = omega (arith, sum_by-replicate (λ (u : Usage). u.live) n nothing);
-  counted = sym (none_counted size n);
-}

@@ -22,7 +22,7 @@ use Rattle.lsa_region.specs.Layout.{Location}
 use Rattle.lsa_region.specs.Paired.{IsTied, IsParted, IsExchanged}
 use Rattle.lsa_region.specs.Region.{View, body, link_of, slots_of, IsEnd, IsWell, SameObjects, IsRegion, IsAdded, IsFreed, IsWritten, location_of, IsRootAdded, IsRootDropped}
 use Rattle.lsa_region.specs.laws.Refs.{refs_decided}
-use Rattle.lsa_region.specs.laws.Ends.{some_and_none, none_unless, ends_decided}
+use Rattle.lsa_region.specs.laws.Ends.{some_and_none, ends_decided}
 use Rattle.lsa_region.specs.laws.Exchanges.{exchanged-well, exchanged-from, swapped-holds}
 use Rattle.lsa_region.proofs.Wells.{well-tie, well-part}
 
@@ -317,8 +317,3 @@ given-free size v us r some given = (of (body v r) some given).2
     of : (o : Option (Kind × List ℕ)) → IsSome o → IsSomeAnd o (λ b. IsGivenBack size v.usages us r.segment (rounded_size b.0 (length b.1))) → (k : ℕ) × IsGivenBack size v.usages us r.segment k × (free_count us ≡ free_count v.usages)
     of None some given = absurd given
     of (Some b) some given = (rounded_size b.0 (length b.1), given, given.free)
-
--- an object that is not there has no link that is set
-pub unset-fresh : (v : View) (r : Ref) → IsRegion v → body v r ≡ None → (field : ℕ) → link_of v (Obj r field) ≡ None
-unset-fresh v r region fresh field = none_unless (link_of v (Obj r field)) (λ y e.
-    some_and_none (body v r) (λ b. field < links_of b.0) fresh (region.well.ends y (Obj r field) (region.well.paired.mates (Obj r field) y e)))

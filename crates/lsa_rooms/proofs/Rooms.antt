@@ -322,7 +322,3 @@ four P a b c d (suc zero) lt = b
 four P a b c d (suc (suc zero)) lt = c
 four P a b c d (suc (suc (suc zero))) lt = d
 four P a b c d (suc (suc (suc (suc f)))) lt = absurd (omega (arith, lt))
-
--- slots of different numbers are different
-pub roots-differ : (r s : Root) → (r.number ≡ s.number → ⊥) → r ≢ s
-roots-differ r s ne same = ne (ap (λ (x : Root). x.number) same)

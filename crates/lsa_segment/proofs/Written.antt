@@ -1,6 +1,6 @@
 -- Places that are written.
 use Rattle.std.proofs.Common.{◌≡◌, ℕ, ◌+◌, ◌-◌, ◌<◌, ◌≤◌, ◌⊎◌, inl, inr, List, [], ◌∷◌, ◌++◌, length, get_or, set, take, drop, map, Option, Some, None, refl, sym, ap, ◌∙◌, arith, length-append, length-take, length-drop}
-use Rattle.std.proofs.lemmas.List.{length-map, map-append, append_assoc, take-append-le, drop-append-le, take_at, drop_at, set_at, drop_more, take_more, drop-drop, drop-take, take-take, take-map, drop-map, length-take-le, take-append-drop}
+use Rattle.std.proofs.lemmas.List.{length-map, map-append, append_assoc, take-append-le, drop-append-le, take_at, drop_at, set_at, drop_more, take_more, drop-drop, drop-take, take-take, take-map, drop-map, length-take-le}
 use Rattle.circular_buffer.specs.Places.{somes, IsRun}
 use Rattle.lsa_segment.specs.Places.{written}
 
@@ -18,9 +18,6 @@ pub length-written : (places : List (Option ℕ)) (from : ℕ) (bytes : List ℕ
 length-written places from bytes inside =
     let rest = drop (from + length bytes) places in
     omega (arith, length-append (take from places) (map some bytes ++ rest), length-append (map some bytes) rest, length-map bytes some, length-take from places, length-drop (from + length bytes) places)
-
-pub written-none : (places : List (Option ℕ)) (from : ℕ) → written places from [] ≡ places
-written-none places from = let at : from + 0 ≡ from = omega arith in ap (λ k. take from places ++ drop k places) at ∙ take-append-drop from places
 
 -- one byte more
 pub one_more : (places : List (Option ℕ)) (from : ℕ) (bytes : List ℕ) (byte at : ℕ) → at ≡ from + length bytes → at < length places

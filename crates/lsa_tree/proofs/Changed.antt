@@ -6,11 +6,11 @@ use Rattle.std.proofs.lemmas.List.{length-drop}
 use Rattle.rc_position.specs.declared.positions.Pos.{Pos}
 use Rattle.lsa_kinds.specs.declared.kind.Kind.{Kind}
 use Rattle.lsa_kinds.specs.declared.kind.Kind.TheVariants.{Version}
-use Rattle.lsa_kinds.specs.Fields.{number_at, IsPut}
+use Rattle.lsa_kinds.specs.Fields.{number_at}
 use Rattle.lsa_store.specs.declared.place.Ref.{Ref}
 use Rattle.lsa_region.specs.declared.end.End.{End}
 use Rattle.lsa_region.specs.declared.end.End.TheVariants.{Obj, Slot}
-use Rattle.lsa_region.specs.Region.{View, body, link_of, SameObjects, IsWritten}
+use Rattle.lsa_region.specs.Region.{View, body, link_of, SameObjects}
 use Rattle.lsa_region.specs.laws.Refs.{refs_decided}
 use Rattle.lsa_path.specs.laws.Members.{member-cases, member-first, member-later}
 use Rattle.lsa_shape.specs.Shapes.{StaysBeyond}
@@ -120,32 +120,6 @@ module _ (u v : View) (refs : List Ref) (b : SameButBalances u v refs) where
   }
 
 -- ---- a balance that is written
-
-pub written-balance : (v w : View) (r : Ref) (value : ℕ) (change : List ℕ → List ℕ) → IsWritten v w r change → IsSomeAnd (body v r) (λ b. IsPut b.1 (change b.1) 1 1 value) → IsRebalanced v w r value
-written-balance v w r value change written put = record {
-  links = written.links;
-  written = level (body v r) (body w r) written.here put;
-  objects = record {
-    alike = λ q c. elim (member-cases r q [] c) [ inl same ↦ subst (λ x. IsAlike (body v x) (body w x)) same (alike (body v r) (body w r) written.here put) | inr none ↦ absurd (omega (arith, none.1)) ];
-    bodies = λ q out. written.others q (λ same. out (subst (Contains (r ∷ [])) (sym same) (member-first r [])));
-    ends = written.ends;
-    gone = written.gone;
-    spots = written.spots;
-    slots = written.slots;
-    usages = written.usages;
-    epoch = written.epoch;
-    moved = written.moved;
-    compacted = written.compacted;
-  };
-}
-  where
-    level : (o p : Option (Kind × List ℕ)) → IsSomeAnd o (λ b. p ≡ Some (b.0, change b.1)) → IsSomeAnd o (λ b. IsPut b.1 (change b.1) 1 1 value) → balance_in p ≡ value
-    level None p h k = absurd h
-    level (Some b) p h k = ap balance_in h ∙ k.written
-
-    alike : (o p : Option (Kind × List ℕ)) → IsSomeAnd o (λ b. p ≡ Some (b.0, change b.1)) → IsSomeAnd o (λ b. IsPut b.1 (change b.1) 1 1 value) → IsAlike o p
-    alike None p h k = absurd h
-    alike (Some b) p h k = ap (option_map but_balance) h ∙ (λ i. Some (b.0, (k.before i, k.behind i)))
 
 pub rebalanced-others : (v w : View) (r : Ref) (value : ℕ) → IsRebalanced v w r value → (q : Ref) → q ≢ r → balance_of w q ≡ balance_of v q
 rebalanced-others v w r value h q ne = ap balance_in (h.objects.bodies q (not_one r q ne))

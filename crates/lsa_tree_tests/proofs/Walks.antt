@@ -1,5 +1,5 @@
 -- A version that a slot names, and its entries, after each change.
-use Rattle.std.proofs.Common.{◌≡◌, ◌≢◌, ℕ, zero, suc, ◌<◌, ◌≤◌, List, [], ◌∷◌, ◌++◌, length, Option, Some, None, IsSome, refl, sym, ap, ◌∙◌, subst, map, arith}
+use Rattle.std.proofs.Common.{◌≡◌, ◌≢◌, ℕ, zero, suc, ◌<◌, ◌≤◌, List, [], ◌∷◌, ◌++◌, Option, Some, None, IsSome, refl, sym, ap, ◌∙◌, subst, map, arith}
 use Rattle.std.specs.Prelude.{IsSomeAnd}
 use Rattle.std.specs.Option.{option_map}
 use Rattle.std.proofs.lemmas.List.{append_assoc}
@@ -20,28 +20,28 @@ use Rattle.lsa_tree.specs.declared.tree.Tree.{Tree}
 use Rattle.lsa_tree.specs.Search.{first_entry, last_entry, last_entry_from}
 use Rattle.lsa_tree.specs.Tree.{IsTop, IsTree, IsLoose, IsOffTree, tree_as}
 use Rattle.lsa_tree.specs.laws.Trees.{entry-end, tree-entry, tree-added, tree-freed, tree-renamed, tree-empty, loose-beside, no_entry_at}
-use Rattle.lsa_tree_tests.specs.Walking.{HoldsTree, IsHome, IsEntryFound}
+use Rattle.lsa_tree_tests.specs.Walking.{HoldsTree, IsHome, IsTreeEntry}
 
 -- ---- one of the entries
 
 module _ (tree : Tree) (v : View) where
-  pub one-first : (refs : List Ref) → IsTree tree v refs → (o : Option Ref) → o ≡ first_entry refs → IsEntryFound tree v o
-  one-first [] h o e = subst (IsEntryFound tree v) (sym e) tt
-  one-first (r ∷ refs) h o e = subst (IsEntryFound tree v) (sym e) ([], refs, h)
+  pub one-first : (refs : List Ref) → IsTree tree v refs → (o : Option Ref) → o ≡ first_entry refs → IsTreeEntry tree v o
+  one-first [] h o e = subst (IsTreeEntry tree v) (sym e) tt
+  one-first (r ∷ refs) h o e = subst (IsTreeEntry tree v) (sym e) ([], refs, h)
 
-  pub one-next : (front back : List Ref) (r : Ref) → IsTree tree v (front ++ (r ∷ back)) → (o : Option Ref) → o ≡ first_entry back → IsEntryFound tree v o
-  one-next front [] r h o e = subst (IsEntryFound tree v) (sym e) tt
-  one-next front (q ∷ back) r h o e = subst (IsEntryFound tree v) (sym e) (front ++ (r ∷ []), back, subst (IsTree tree v) (sym (append_assoc front (r ∷ []) (q ∷ back))) h)
+  pub one-next : (front back : List Ref) (r : Ref) → IsTree tree v (front ++ (r ∷ back)) → (o : Option Ref) → o ≡ first_entry back → IsTreeEntry tree v o
+  one-next front [] r h o e = subst (IsTreeEntry tree v) (sym e) tt
+  one-next front (q ∷ back) r h o e = subst (IsTreeEntry tree v) (sym e) (front ++ (r ∷ []), back, subst (IsTree tree v) (sym (append_assoc front (r ∷ []) (q ∷ back))) h)
 
   last_split : (x : Ref) (xs : List Ref) → (rest : List Ref) × (q : Ref) × (x ∷ xs ≡ rest ++ (q ∷ [])) × (last_entry_from (Some x) xs ≡ Some q)
   last_split x [] = ([], x, refl, refl)
   last_split x (y ∷ ys) = let w = last_split y ys in (x ∷ w.0, w.1, ap (λ l. x ∷ l) w.2, w.3)
 
-  pub one-last : (front back : List Ref) (r : Ref) → IsTree tree v (front ++ (r ∷ back)) → (o : Option Ref) → o ≡ last_entry front → IsEntryFound tree v o
-  one-last [] back r h o e = subst (IsEntryFound tree v) (sym e) tt
+  pub one-last : (front back : List Ref) (r : Ref) → IsTree tree v (front ++ (r ∷ back)) → (o : Option Ref) → o ≡ last_entry front → IsTreeEntry tree v o
+  one-last [] back r h o e = subst (IsTreeEntry tree v) (sym e) tt
   one-last (x ∷ front) back r h o e =
       let w = last_split x front in
-      subst (IsEntryFound tree v) (sym (e ∙ w.3)) (w.0, r ∷ back, subst (IsTree tree v) (ap (λ l. l ++ (r ∷ back)) w.2 ∙ append_assoc w.0 (w.1 ∷ []) (r ∷ back)) h)
+      subst (IsTreeEntry tree v) (sym (e ∙ w.3)) (w.0, r ∷ back, subst (IsTree tree v) (ap (λ l. l ++ (r ∷ back)) w.2 ∙ append_assoc w.0 (w.1 ∷ []) (r ∷ back)) h)
 
   pub one-there : (front back : List Ref) (r : Ref) → IsTree tree v (front ++ (r ∷ back)) → IsSome (body v r)
   one-there front back r h = some-there _ (body v r) (tree-entry tree v (front ++ (r ∷ back)) r h (member-here front back r))

@@ -19,5 +19,5 @@ abbrev pub IsHome : Root → View → Type 0
 IsHome slot v = (tree : Tree) × (refs : List Ref) × HoldsTree slot v tree refs
 
 -- the object is one of the entries, if it is an object
-abbrev pub IsEntryFound : Tree → View → Option Ref → Type 0
-IsEntryFound tree v found = IfSome found (λ r. (front : List Ref) × (back : List Ref) × IsTree tree v (front ++ (r ∷ back)))
+abbrev pub IsTreeEntry : Tree → View → Option Ref → Type 0
+IsTreeEntry tree v found = IfSome found (λ r. (front : List Ref) × (back : List Ref) × IsTree tree v (front ++ (r ∷ back)))

@@ -8,7 +8,7 @@ ghost use Rattle.lsa_region.specs.Region.{link_of, IsEnd};
 ghost use Rattle.lsa_tree.specs.Entries.{IsEntryAtPosition};
 ghost use Rattle.lsa_tree.specs.Search.{IsFound};
 ghost use Rattle.lsa_tree.specs.Tree.{IsTree, IsLoose};
-ghost use Rattle.lsa_tree_tests.specs.Walking.{HoldsTree, IsHome, IsEntryFound};
+ghost use Rattle.lsa_tree_tests.specs.Walking.{HoldsTree, IsHome, IsTreeEntry};
 
 use lsa_kinds::Kind;
 use lsa_kinds::layout::entry::PositionSize;
@@ -166,7 +166,7 @@ fn free(region: &mut Region<4096>, _slot: Root, r: Ref)
 // The entry at this place, if there is one.
 fn nth(tree: Tree, region: &Region<4096>, place: usize) -> Option<Ref>
     requires { (refs : Sequence Name) × IsTree tree region.now refs }
-    ensures { IsEntryFound tree region.now result }
+    ensures { IsTreeEntry tree region.now result }
 {
     let mut found = tree.first(region);
     for _step in 0..place {
@@ -177,8 +177,8 @@ fn nth(tree: Tree, region: &Region<4096>, place: usize) -> Option<Ref>
 
 // The entry behind one, if there is one.
 fn behind(tree: Tree, region: &Region<4096>, found: Option<Ref>) -> Option<Ref>
-    requires { IsEntryFound tree region.now found }
-    ensures { IsEntryFound tree region.now result }
+    requires { IsTreeEntry tree region.now found }
+    ensures { IsTreeEntry tree region.now result }
 {
     match found {
         Some(r) => tree.next(region, r),
@@ -262,7 +262,7 @@ fn has_room(region: &mut Region<4096>, _slot: Root) -> bool
 
 // The number that an entry carries, if there is one.
 fn number_of(tree: Tree, region: &Region<4096>, found: Option<Ref>) -> Option<u16>
-    requires { IsEntryFound tree region.now found }
+    requires { IsTreeEntry tree region.now found }
 {
     match found {
         Some(r) => number_in(region.bytes(r)),
@@ -286,8 +286,8 @@ fn leads_through(tree: Tree, region: &Region<4096>, numbers: &[u16]) -> bool
 
 // The entry before one, if there is one.
 fn ahead(tree: Tree, region: &Region<4096>, found: Option<Ref>) -> Option<Ref>
-    requires { IsEntryFound tree region.now found }
-    ensures { IsEntryFound tree region.now result }
+    requires { IsTreeEntry tree region.now found }
+    ensures { IsTreeEntry tree region.now result }
 {
     match found {
         Some(r) => tree.prev(region, r),
@@ -364,7 +364,7 @@ fn compared<L: Ledger>(region: &Region<4096>, tree: Tree, x: &Pos, steps: &mut S
 
 // How many links lead up from an entry to the top of its tree, 64 at most.
 fn links_up(tree: Tree, region: &Region<4096>, found: Option<Ref>) -> usize
-    requires { IsEntryFound tree region.now found }
+    requires { IsTreeEntry tree region.now found }
 {
     match found {
         Some(r) => links_from(tree, region, r),

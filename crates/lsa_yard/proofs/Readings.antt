@@ -162,9 +162,6 @@ length-over : (old new : List ℕ) (k : ℕ) → k + length new ≤ length old �
 length-over old new k inside =
     omega (arith, length-append (take k old) (new ++ drop (k + length new) old), length-append new (drop (k + length new) old), length-take k old, length-drop (k + length new) old)
 
-pub with_rest : Cell → List ℕ → Cell
-with_rest c rest = record { kind = c.kind; rest = rest }
-
 pub write-rest : (size : ℕ) (bytes : List ℕ) (offset : ℕ) (c : Cell) (k : ℕ) (new : List ℕ) → IsSpelled size bytes → cell_at (cells_in bytes) offset ≡ Some c → k + length new ≤ length c.rest
     → IsSpelled size (overwritten bytes (offset + (8 + k)) new)
     × IsReplaced (cells_in bytes) (cells_in (overwritten bytes (offset + (8 + k)) new)) offset c (record c { rest = overwritten c.rest k new })

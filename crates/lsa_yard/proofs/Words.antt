@@ -1,21 +1,9 @@
 -- A number in 8 bytes, and a size in 4.
-use Rattle.std.proofs.Common.{◌≡◌, ℕ, ◌*◌, ◌/◌, ◌%◌, List, [], ◌∷◌, length, refl, sym, ap, ◌∙◌, arith, w32, w64}
-use Rattle.std.specs.Int.{from_le_bytes, to_le_bytes}
+use Rattle.std.proofs.Common.{◌≡◌, ℕ, ◌*◌, ◌/◌, ◌%◌, List, ◌∷◌, refl, sym, ap, ◌∙◌, w32}
+use Rattle.std.specs.Int.{to_le_bytes}
 use Rattle.std.proofs.Math.Nat.{div-div-eq-div-mul}
-use Rattle.lsa_kinds.specs.Fields.{number, spelled}
+use Rattle.lsa_kinds.specs.Fields.{number}
 use Rattle.lsa_yard.specs.Spelled.{size_field}
-
-pub number-word : (bytes : List ℕ) → length bytes ≡ 8 → number bytes ≡ from_le_bytes w64 bytes
-number-word (a ∷ b ∷ c ∷ d ∷ e ∷ f ∷ g ∷ h ∷ []) long = omega arith
-number-word [] long = absurd (omega (arith, long))
-number-word (a ∷ []) long = absurd (omega (arith, long))
-number-word (a ∷ b ∷ []) long = absurd (omega (arith, long))
-number-word (a ∷ b ∷ c ∷ []) long = absurd (omega (arith, long))
-number-word (a ∷ b ∷ c ∷ d ∷ []) long = absurd (omega (arith, long))
-number-word (a ∷ b ∷ c ∷ d ∷ e ∷ []) long = absurd (omega (arith, long))
-number-word (a ∷ b ∷ c ∷ d ∷ e ∷ f ∷ []) long = absurd (omega (arith, long))
-number-word (a ∷ b ∷ c ∷ d ∷ e ∷ f ∷ g ∷ []) long = absurd (omega (arith, long))
-number-word (a ∷ b ∷ c ∷ d ∷ e ∷ f ∷ g ∷ h ∷ i ∷ more) long = absurd (omega (arith, long))
 
 -- one byte more
 more : {a b : ℕ} {l m : List ℕ} → b ≡ a → l ≡ m → a % 256 ∷ l ≡ b % 256 ∷ m
@@ -36,9 +24,6 @@ shifted n =
     let five = ap (λ k. k / 256) four ∙ div-div-eq-div-mul n (256 * 256 * 256 * 256) 256 in let six = ap (λ k. k / 256) five ∙ div-div-eq-div-mul n (256 * 256 * 256 * 256 * 256) 256 in
     let seven = ap (λ k. k / 256) six ∙ div-div-eq-div-mul n (256 * 256 * 256 * 256 * 256 * 256) 256 in
     record { two = two; three = three; four = four; five = five; six = six; seven = seven }
-
-pub spelled-word : (n : ℕ) → to_le_bytes w64 n ≡ spelled 8 n
-spelled-word n = let s = shifted n in more refl (more refl (more s.two (more s.three (more s.four (more s.five (more s.six (more s.seven refl)))))))
 
 pub spelled-size : (n : ℕ) → to_le_bytes w32 n ≡ size_field n
 unfolding size_field

@@ -86,14 +86,7 @@ pub none_left : (x to first : Pos) (left all : List Entry) → length left < 1 �
 none_left x to first [] all l n = n.1 to (nearest x to n.0)
 none_left x to first (e ∷ es) all l n = absurd (omega (arith, l))
 
-pub no_version_left : (x to upto : Pos) (left : List PlainVersion) (all : List Version) → length left < 1 → Reaches x to upto (list_map plain left) all → IsReach all x upto to
-no_version_left x to upto [] all l n = n.1 to (reached x to n.0)
-no_version_left x to upto (e ∷ es) all l n = absurd (omega (arith, l))
-
 -- ---- orders
-
-pub before_bound : (x upto : Pos) → pos_cmp x upto ≢ Greater → (pos_cmp x upto ≡ Equal → ⊥) → IsBefore x upto
-before_bound x upto g e = elim (pos_cmp x upto) as (λ r. (r ≡ Greater → ⊥) → (r ≡ Equal → ⊥) → r ≡ Less) [ Less ↦ λ _ _. refl | Equal ↦ λ _ h. absurd (h refl) | Greater ↦ λ h _. absurd (h refl) ] g e
 
 pub before_the_end : (x upto : Pos) → IsBefore x upto → IsBefore x end_position
 before_the_end x upto l = elim (pos_cmp upto end_position) as (λ r. pos_cmp upto end_position ≡ r → IsBefore x end_position) [

@@ -1,5 +1,5 @@
 -- What the slow functions compute.
-use Rattle.std.specs.Prelude.{◌≡◌, ◌≤◌, ◌+◌, ◌<◌, ℕ, Bool, true, false, IsTrue, List, [], ◌∷◌, ◌++◌, Option, Some, None, cond, length, take, drop, ◌-◌, map as list_map}
+use Rattle.std.specs.Prelude.{◌≡◌, ◌≤◌, ◌+◌, ◌<◌, ℕ, Bool, true, false, IsTrue, List, [], ◌∷◌, ◌++◌, Option, Some, None, length, take, drop, ◌-◌, map as list_map}
 use Rattle.std.proofs.Common.{get_or, append-nil, refl, sym, ap, ◌∙◌, subst, arith}
 use Rattle.std.proofs.lemmas.List.{append_assoc, take_rest}
 use Rattle.std.specs.Option.{option_to_list}
@@ -18,7 +18,7 @@ use Rattle.std.specs.declared.cmp.Ordering.TheVariants.{Less, Equal}
 use Rattle.rc_core.specs.declared.entries.Flag.{Flag}
 use Rattle.rc_core.specs.declared.entries.Flag.TheVariants.{Known, Unknown, Inherit}
 use Rattle.rc_core.specs.SpotState.{SpotState, spot_state, silent, over, under, through, joined_state}
-use Rattle.rc_core.specs.Chain.{decides, newer_first, states_at, content, flagged, flag_over, IsBare, IsKnown}
+use Rattle.rc_core.specs.Chain.{decides, states_at, content, flagged, flag_over, IsBare, IsKnown}
 use Rattle.rc_core.specs.Merge.{Alike}
 use Rattle.rc_core.specs.Version.{Spot, On, Behind, Version, state_of, entry_answers, found, seen, spot_cmp, end_position}
 use Rattle.rc_core.specs.declared.entries.Entry.{Entry}
@@ -97,12 +97,6 @@ before_by_prefix x l = by_prefix x.prefix x.weight l
 abbrev pub or_newer : ℕ → Option ℕ → Option ℕ → Option ℕ
 or_newer n found (Some k) = Some (n + k)
 or_newer n found None = found
-
-pub next_base : (n : ℕ) (found : Option ℕ) (f : Flag) (b : Option ℕ) → or_newer (n + 1) (cond (decides f) (Some n) found) b ≡ or_newer n found (newer_first f b)
-next_base n found f (Some k) = ap Some (omega arith)
-next_base n found Known None = ap Some (omega arith)
-next_base n found Unknown None = ap Some (omega arith)
-next_base n found Inherit None = refl
 
 -- ---- a version laid over what is seen
 

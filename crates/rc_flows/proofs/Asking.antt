@@ -1,14 +1,12 @@
 -- What two lists, and the tables of a set behind them, ask for.
-use Rattle.std.specs.Prelude.{◌≡◌, ℕ, ◌≤◌, ◌+◌, Bool, true, false, IsSome, IsTrue, Option, Some, None}
+use Rattle.std.specs.Prelude.{◌≡◌, ℕ, ◌≤◌, ◌+◌, true, IsSome, IsTrue, Option, Some, None}
 use Rattle.std.specs.Option.{is_some}
 use Rattle.std.proofs.Common.{refl, sym, ap, ◌∙◌, subst, arith}
 use Rattle.std.specs.Cmp.{tied_itself}
 use Rattle.std.specs.Ordering.{is_le}
 use Rattle.rc_position.specs.declared.positions.Pos.{Pos}
-use Rattle.rc_position.specs.Position.{pos_cmp}
 use Rattle.rc_position.specs.laws.Orders.{pos_cmp_total}
-use Rattle.rc_stream.specs.Did.{Deed, IsQuiet, Spends}
-use Rattle.rc_stream.specs.Moving.{Keeps}
+use Rattle.rc_stream.specs.Did.{IsQuiet, Spends}
 use Rattle.rc_stream.specs.Places.{Reaches}
 use Rattle.rc_stream.specs.Stream.{Stream}
 use Rattle.rc_tables.specs.Streams.{DidAsk, Lazy, asks_left}

@@ -1,6 +1,6 @@
 -- What the files of a folder hold after some steps: the tables that were there, and then those that were flushed, each of which holds the
 -- parts of a run of the accepted writes, one run behind another.
-use Rattle.std.specs.Prelude.{◌≡◌, ℕ, ◌≤◌, List, [], ◌∷◌, ◌++◌, length, take, map as list_map, Option, All, option_map, ⊤, if◌then◌else◌}
+use Rattle.std.specs.Prelude.{◌≡◌, ℕ, ◌≤◌, List, [], ◌∷◌, ◌++◌, length, take, map as list_map, All, option_map, ⊤, if◌then◌else◌}
 use Rattle.std.specs.FinMap as map
 use Rattle.rc_outside.specs.Files.{Files}
 use Rattle.rc_schema.specs.SchemaValue.{SchemaValue}

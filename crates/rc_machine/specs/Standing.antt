@@ -1,5 +1,5 @@
 -- What every server of the machine keeps, whatever else it has: the schema, and what is known of the folder's tables.
-use Rattle.std.specs.Prelude.{◌≡◌, ℕ, ◌≤◌, List, length, Option, All}
+use Rattle.std.specs.Prelude.{◌≡◌, ◌≤◌, List, length, Option, All}
 use Rattle.rc_outside.specs.Files.{Files}
 use Rattle.rc_schema.specs.SchemaValue.{SchemaValue}
 use Rattle.rc_tfile.specs.declared.info.TableInfo.{TableInfo}

@@ -79,10 +79,6 @@ no_row : (row : Option Row) (kind : Kind) → kind ≡ entry_kind row → (kind 
 no_row None kind e ne = refl
 no_row (Some r) kind e ne = absurd (ne e)
 
-pub row_none : (o : Option (Kind × List ℕ)) (e : Entry) (kind : Kind) → IsSomeAnd o (λ b. SpellsEntry b e) → IsSomeAnd o (λ b. b.0 ≡ kind) → (kind ≡ RowEntry → ⊥) → e.row ≡ None
-row_none None e kind h k ne = absurd h
-row_none (Some b) e kind h k ne = no_row e.row kind (sym k ∙ h.kind) ne
-
 pub onto_is : (have : Option Row) (own row r q : Row) → have ≡ Some own → r ≡ own → q ≡ row → joined_onto have row ≡ joined_row (r ∷ q ∷ [])
 onto_is have own row r q is first second =
     ap (λ o. joined_onto o row) is ∙ ap (λ a. joined_row (a ∷ row ∷ [])) (sym first) ∙ ap (λ a. joined_row (r ∷ a ∷ [])) (sym second)

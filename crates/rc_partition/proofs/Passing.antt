@@ -135,9 +135,6 @@ first_behind s (x ∷ xs) q e = absurd (no_slot x xs q e)
 fewer : (passed front rest xs : ℕ) → front ≡ rest + 1 → passed + front ≡ xs → passed + 1 + rest ≡ xs
 fewer passed front rest xs one all = omega (arith, one, all)
 
-pub climbs-start : (v : View) (n : Ref) → Climbs v n n 0
-climbs-start v n = λ root xs ys p. (xs, ys, p, omega arith)
-
 module _ (v : View) (well : IsWell v) (n at : Ref) (passed : ℕ) (h : Climbs v n at passed) where
   up_named : (root : Root) (xs ys : List Ref) (p : IsPath 1 0 (link_of v) (Slot root) (xs ++ (n ∷ ys)) None) → link_of v (Obj at 1) ≡ Some (behind 0 (Slot root) (h root xs ys p).0)
   up_named root xs ys p = let w = h root xs ys p in path-named 1 0 fields_differ (link_of v) well.paired (Slot root) w.0 w.1 at None w.2

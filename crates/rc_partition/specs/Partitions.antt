@@ -89,9 +89,10 @@ pub record AreStanding (slots : Slots) (v : View) (partitions : List PartitionEn
 abbrev pub among : List PartitionEntry → Root → List StandingVersion → StandingVersion → List StandingVersion → List PartitionEntry → List PartitionEntry
 among front root older s newer back = front ++ (partition_of root (older ++ (s ∷ newer)) ∷ back)
 
--- a version, and a partition, under the new names of the objects
+-- a version under the new names of the objects
 abbrev pub version_as : List (Ref × Ref) → StandingVersion → StandingVersion
 version_as names s = standing (named_as names s.object) (map (named_as names) s.entries) s.version
 
+-- a partition under the new names of the objects
 abbrev pub partition_as : List (Ref × Ref) → PartitionEntry → PartitionEntry
 partition_as names p = partition_of p.root (map (version_as names) p.versions)

@@ -22,7 +22,7 @@ use Rattle.rc_tfile.specs.TableText.{IsTable, IsOtherSchema, FirstDamage}
 use Rattle.rc_tfile.specs.Walking.{ChecksTable}
 use Rattle.rc_plain.specs.declared.opening.OpenErr.{OpenErr}
 use Rattle.rc_plain.specs.declared.opening.OpenErr.TheVariants.{Fault, Damaged, OtherSchema, NoMemory}
-use Rattle.rc_machine.specs.State.{Table, numbers, opened_state}
+use Rattle.rc_machine.specs.State.{Table, numbers}
 use Rattle.rc_machine.specs.Tables.{AreListed, AreTables, IsStoredTable, IsFirstBad}
 use Rattle.rc_machine.specs.Serving.{checks_of}
 use Rattle.rc_machine.specs.laws.Folder.{apart, apart_under, first_T, less_of, not_none, second_T}
@@ -126,18 +126,6 @@ refused None schema all done rest infos n (OtherSchema table) h is d bad = tt
 refused (Some told) schema all done rest infos n (OtherSchema table) h is d bad =
     subst (λ j. IsFirstBad told schema j None) (sym bad.0) (first_bad told schema all done rest infos n None h is d bad.1.0 bad.1.1 bad.1.2)
 refused files schema all done rest infos n NoMemory h is d bad = tt
-
--- the program that is opened
-pub stands_opened : (files : Option Files) (schema : SchemaValue) (tables : List Table) (infos : List TableInfo) → AreTables files schema tables → AreListed files schema tables infos
-    → (segments : ℕ) → Stands files (record { schema = schema; infos = infos; sealed = []; active = []; readers = [] }) (opened_state segments files schema tables infos)
-stands_opened files schema tables infos are known segments = record {
-  over = record { schema = refl; files = refl; infos = refl; tables = are; listed = known; stored = omega (arith); sealed = omega (arith); fit = λ k d l. absurd (omega arith) };
-  log = refl;
-  sealed = refl;
-  whole = refl;
-  left = refl;
-  readers = refl;
-}
 
 -- the numbers before one, it, and those behind it
 pub cut : (all : List ℕ) (i : ℕ) → i < length all → all ≡ take i all ++ get_or all i 0 ∷ drop (suc i) all

@@ -24,13 +24,13 @@ use Rattle.rc_tables.specs.Located.{SaysOf}
 use Rattle.rc_tables.specs.Tables.{HoldsTables, IsDamageOf, IsJoinedAt, IsSomeJoin, changes_at, listing}
 use Rattle.rc_lines.specs.Fits.{CommandFits}
 use Rattle.rc_lines.specs.declared.commands.Command.{Command}
-use Rattle.rc_lines.specs.declared.commands.Command.TheVariants.{Nothing, SetSchema, Put, OpenRead, Read, Close, Flush, FlushBegin}
+use Rattle.rc_lines.specs.declared.commands.Command.TheVariants.{Put, OpenRead, Read, Close}
 use Rattle.rc_lines.specs.declared.commands.Reply.{Reply}
 use Rattle.rc_lines.specs.declared.commands.Reply.TheVariants as replies
-use Rattle.rc_lines.specs.declared.commands.Refusal.TheVariants.{SchemaDiffers, NoReader, ReaderInUse, TooManyReaders, ReadFault, Damaged}
+use Rattle.rc_lines.specs.declared.commands.Refusal.TheVariants.{NoReader, ReaderInUse, TooManyReaders, ReadFault, Damaged}
 use Rattle.rc_machine.specs.State.{State, Reader, Table, unstored}
 use Rattle.rc_machine.specs.Steps.{most_readers, reader_with, reader_past, sealing}
-use Rattle.rc_machine.specs.Serving.{Takes, Stops, IsLeft}
+use Rattle.rc_machine.specs.Serving.{Takes}
 use Rattle.rc_plain.specs.Stands.{Keeping, Stands, rests}
 use Rattle.rc_plain.specs.calls.Answering.{IsAnswer}
 use Rattle.rc_plain.specs.calls.Storing.{sealed_all}
@@ -132,15 +132,6 @@ takes_put files k w active fits more = λ m s.
     (record m { log = m.log ++ w ∷ [] }, inl (refl, refl), subst (λ active. Stands files (writing k active) (record m { log = m.log ++ w ∷ [] })) (sym more) (stands_writing files k m w fits s))
 
 -- ---- steps that change nothing
-
-pub takes_nothing : (files : Option Files) (k : Keeping) → Takes Stands files k Nothing replies.Nothing files k
-takes_nothing files k = λ m s. (m, (refl, refl), s)
-
-pub takes_schema : (files : Option Files) (k : Keeping) (schema : SchemaValue) → k.schema ≡ schema → Takes Stands files k (SetSchema schema) replies.Fine files k
-takes_schema files k schema e = λ m s. (m, inl (s.over.schema ∙ e, (refl, refl)), s)
-
-pub takes_other_schema : (files : Option Files) (k : Keeping) (schema : SchemaValue) → k.schema ≢ schema → Takes Stands files k (SetSchema schema) (replies.Refused SchemaDiffers) files k
-takes_other_schema files k schema h = λ m s. (m, inr ((λ e. h (sym s.over.schema ∙ e)), (refl, refl)), s)
 
 pub takes_in_use : (files : Option Files) (k : Keeping) (id : ℕ) (key : List ℕ) (slice : Slice) (rest : List OutLine) → lookup (λ q. q == id) k.readers ≡ Some rest
     → Takes Stands files k (OpenRead id key slice) (replies.Refused ReaderInUse) files k
@@ -302,15 +293,6 @@ stands_sealed files k m s =
     }
 
 -- ---- want of memory
-
-left_same : (m : State) (command : Command) → IsLeft m command m
-left_same m Flush = inl refl
-left_same m FlushBegin = inl refl
-left_same m command = refl
-
-pub stops_same : (files files' : Option Files) (k k' : Keeping) (command : Command) → k' ≡ k → files' ≡ files → Stops Stands files k command files' k'
-stops_same files files' k k' command same still = λ m s.
-    (m, left_same m command, subst (λ files. Stands files k' m) (sym still) (subst (λ k. Stands files k m) (sym same) s))
 
 -- ---- from what the program keeps inside
 

@@ -1,8 +1,7 @@
 -- What opening the plain program must answer.
 use Rattle.std.specs.FinMap as map
-use Rattle.std.specs.Prelude.{◌≡◌, ℕ, ◌≤◌, List, Option, None, Some, Result, IfErr, IfSome, ⊤}
+use Rattle.std.specs.Prelude.{◌≡◌, ℕ, ◌≤◌, List, Option, None, Some, IfSome, ⊤}
 use Rattle.rc_outside.specs.Files.{Files}
-use Rattle.rc_outside.specs.Faults.{Rose}
 use Rattle.rc_schema.specs.SchemaValue.{SchemaValue}
 use Rattle.rc_mutation.specs.declared.mutations.Partition.{Partition}
 use Rattle.rc_tfile.specs.declared.info.TableInfo.{TableInfo}

@@ -31,11 +31,6 @@ same-root r s e = λ i. record { number = e i }
 
 -- ---- what is kept
 
--- where nothing is there
-pub kept-new : (vacant_room dropped_room : ℕ) → IsKeptRegistry [] [] [] [] vacant_room dropped_room
-kept-new vacant_room dropped_room =
-    record { gone = λ id one. absurd one; once = tt; vacant_fit = omega arith; dropped_fit = omega arith; owned = λ id u e. absurd (cc) }
-
 module _ (uses : List (Option Use)) (vacant dropped owners : List ℕ) (vacant_room dropped_room : ℕ) (kept : IsKeptRegistry uses vacant dropped owners vacant_room dropped_room) where
   -- one chain has a root slot
   pub one-root : (root : Root) (i j : ℕ) → IsSomeAnd (use_at uses i) (λ u. u.root ≡ root) → IsSomeAnd (use_at uses j) (λ u. u.root ≡ root) → i ≡ j

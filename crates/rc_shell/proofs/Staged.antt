@@ -198,12 +198,6 @@ fault_answered store store' old schema At line before now s p same rose le check
   e,
 )
 
--- memory ran out before the machine was open
-pub unopened_answered : (store store' : StoreView) (old : Moment) (line : List ℕ) (At : Moment → Type 0) (before now : List ℕ) (r : Result (Option Ending) AllocError) → IsErr r
-    → KeepsMoment None store old → store'.0 ≡ store.0 → store.1 ≤ store'.1 → Checks store.0 store.2 store'.2 → Answered LineStep EndsRun LeavesStore old line At store' before now r
-unopened_answered store store' old line At before now (Err e) is s same le checks = inl (left_waiting store store' old s same le checks)
-unopened_answered store store' old line At before now (Ok x) is s same le checks = absurd (cc)
-
 -- What a command did, once the machine is open.
 pub record Served (store store' : StoreView) (k k' : Keeping) (m : State) (command : Command) (reply : Reply) : Type 0 where
   pub next : State
@@ -279,12 +273,6 @@ refusal_answered store k old line before now refusal s p e =
       serves old store 0 k s.0 s.1,
       e,
     )
-
--- memory ran out before the line's command was known
-pub unread_answered : (store : StoreView) (k : Option Keeping) (old : Moment) (line before now : List ℕ) (At : Moment → Type 0) (r : Result (Option Ending) AllocError) → IsErr r → LeavesStore old store
-    → Answered LineStep EndsRun LeavesStore old line At store before now r
-unread_answered store k old line before now At (Err e) is l = inl l
-unread_answered store k old line before now At (Ok x) is l = absurd (cc)
 
 -- before the first line the program stands for the start
 pub begins_stood : (place : Option Keeping) (words : Words) (store : StoreView) → place ≡ None → KeepsMoment place store (start_moment words store)

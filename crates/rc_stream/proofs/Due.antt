@@ -13,18 +13,12 @@ use Rattle.rc_stream.specs.Moving.{AheadOfBoth, HoldBoth, IsDueAhead, MaySeek, S
 use Rattle.rc_stream.proofs.Going.{may-later}
 use Rattle.rc_stream.proofs.MergeLaws.{head-merged}
 use Rattle.rc_stream.proofs.Seeking.{sought-sought}
-use Rattle.rc_stream.proofs.Wholes.{both-on, holds-on}
 
 abbrev Seen : Type 1
 Seen = Stream → Type 0
 
 abbrev Ahead : Type 1
 Ahead = Pos → Type 0
-
-pub settled-seen : (P Q P' Q' : Seen) (h k h' k' : Held) (due due' : Option Pos) (x : Pos) → due ≡ Some x → due' ≡ None → ((m : Stream) → HoldBoth P h Q k m → HoldBoth P' h' Q' k' (sought x m)) → (s : Stream) → SoughtBoth P h Q k due s → SoughtBoth P' h' Q' k' due' s
-settled-seen P Q P' Q' h k h' k' due due' x e e' go s b =
-    let c : SoughtBoth P h Q k (Some x) s = subst (λ d. SoughtBoth P h Q k d s) e b in
-    subst (λ d. SoughtBoth P' h' Q' k' d s) (sym e') (subst (HoldBoth P' h' Q' k') (sym c.2) (go c.0 c.1))
 
 pub refused-seen : (P Q P' Q' : Seen) (h k h' k' : Held) (due due' : Option Pos) (x : Pos) → due ≡ Some x → due' ≡ Some x → ((m : Stream) → HoldBoth P h Q k m → (n : Stream) × HoldBoth P' h' Q' k' n × (sought x n ≡ sought x m)) → (s : Stream) → SoughtBoth P h Q k due s → SoughtBoth P' h' Q' k' due' s
 refused-seen P Q P' Q' h k h' k' due due' x e e' again s b =
@@ -36,12 +30,6 @@ pub settled-ahead : (A B A' B' : Ahead) (l k l' k' : Look) (due due' : Option Po
 settled-ahead A B A' B' l k l' k' due due' x e e' a b y r =
     let on : Reaches x y = subst (λ d. AheadOfBoth A l B k d y) e r in
     subst (λ d. AheadOfBoth A' l' B' k' d y) (sym e') (may-later A' l' x y on a, may-later B' k' x y on b)
-
-pub refused-ahead : (A B A' B' : Ahead) (l k l' k' : Look) (due due' : Option Pos) (x : Pos) → due ≡ Some x → due' ≡ Some x → (y : Pos) → AheadOfBoth A l B k due y → AheadOfBoth A' l' B' k' due' y
-refused-ahead A B A' B' l k l' k' due due' x e e' y r = subst (λ d. AheadOfBoth A' l' B' k' d y) (sym e') (subst (λ d. AheadOfBoth A l B k d y) e r)
-
-pub due-ahead : (A B : Ahead) (l k : Look) (due : Option Pos) (x : Pos) → due ≡ Some x → IsDueAhead A l B k due → MaySeek A l x × MaySeek B k x
-due-ahead A B l k due x e d = subst (IsDueAhead A l B k) e d
 
 -- what was ahead may be sought to
 pub sought-due : (A B : Ahead) (l k : Look) (due : Option Pos) (x : Pos) → IsDueAhead A l B k due → AheadOfBoth A l B k due x → MaySeek A l x × MaySeek B k x
@@ -61,21 +49,6 @@ head-both P Q h k r s is b =
 pub head-sought : (P Q : Seen) (h k : Held) (due : Option Pos) (r : Head) (s : Stream) → ((a b : Stream) → P a → Q b → r ≡ joined_head a.head b.head) → SoughtBoth P h Q k due s → r ≡ s.head
 head-sought P Q h k None r s is b = head-both P Q h k r s is b
 head-sought P Q h k (Some x) r s is b = head-both P Q h k r b.0 is b.1 ∙ ap (λ (t : Stream). t.head) (sym b.2)
-
-pub both-seen : (P Q P' Q' : Seen) (h k : Held) (due : Option Pos) (s : Stream) → ((t : Stream) → P t → P' t) → ((t : Stream) → Q t → Q' t) → SoughtBoth P h Q k due s → SoughtBoth P' h Q' k due s
-both-seen P Q P' Q' h k None s one other b = both-on P Q P' Q' h k h k s (λ t a. holds-on P P' h t one a) (λ t a. holds-on Q Q' k t other a) b
-both-seen P Q P' Q' h k (Some x) s one other b = (b.0, both-on P Q P' Q' h k h k b.0 (λ t a. holds-on P P' h t one a) (λ t a. holds-on Q Q' k t other a) b.1, b.2)
-
-pub may-on : (A A' : Ahead) (l : Look) (x : Pos) → ((y : Pos) → A y → A' y) → MaySeek A l x → MaySeek A' l x
-may-on A A' l x go may y r from = go y (may y r from)
-
-pub due-on : (A B A' B' : Ahead) (l k : Look) (due : Option Pos) → ((y : Pos) → A y → A' y) → ((y : Pos) → B y → B' y) → IsDueAhead A l B k due → IsDueAhead A' l B' k due
-due-on A B A' B' l k None one other d = tt
-due-on A B A' B' l k (Some x) one other d = (may-on A A' l x one d.0, may-on B B' k x other d.1)
-
-pub ahead-on : (A B A' B' : Ahead) (l k : Look) (due : Option Pos) (x : Pos) → ((y : Pos) → A y → A' y) → ((y : Pos) → B y → B' y) → AheadOfBoth A l B k due x → AheadOfBoth A' l B' k due x
-ahead-on A B A' B' l k None x one other r = (may-on A A' l x one r.0, may-on B B' k x other r.1)
-ahead-on A B A' B' l k (Some y) x one other r = r
 
 pub head-result : (P Q : Seen) (h k : Held) (due : Option Pos) (r : Result Head StreamErr) (s : Stream) → ((a b : Stream) → P a → Q b → IfOk r (λ v. v ≡ joined_head a.head b.head)) → SoughtBoth P h Q k due s → IfOk r (λ v. v ≡ s.head)
 head-result P Q h k due (Ok v) s is b = head-sought P Q h k due v s is b

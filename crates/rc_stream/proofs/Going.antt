@@ -1,9 +1,8 @@
 -- What calls one after another make of a home and a store, and of what causes a refusal.
-use Rattle.std.specs.Prelude.{◌≡◌, ℕ, zero, suc, ◌≤◌, Option, Result, Ok, Err}
-use Rattle.std.proofs.Common.{refl, sym, ◌∙◌, subst, arith, inl, inr}
+use Rattle.std.specs.Prelude.{◌≡◌, ℕ, zero, suc, ◌≤◌}
+use Rattle.std.proofs.Common.{refl, sym, ◌∙◌, subst, inl, inr}
 use Rattle.rc_position.specs.declared.positions.Pos.{Pos}
 use Rattle.rc_position.specs.Position.{pos_cmp}
-use Rattle.rc_outside.specs.Faults.{Rose}
 use Rattle.rc_outside.specs.Files.{Files}
 use Rattle.rc_stream.specs.declared.holding.Held.{Held}
 use Rattle.rc_stream.specs.declared.holding.Look.{Look}
@@ -12,16 +11,11 @@ use Rattle.rc_stream.specs.declared.holding.Step.TheVariants as step
 use Rattle.rc_stream.specs.declared.holding.Turn.{Turn}
 use Rattle.rc_stream.specs.declared.holding.Turn.TheVariants as turn
 use Rattle.rc_stream.specs.declared.streams.StreamErr.{StreamErr}
-use Rattle.rc_stream.specs.declared.streams.StreamErr.TheVariants.{Fault, Damaged, NoMemory}
-use Rattle.rc_stream.specs.Causes.{Caused}
 use Rattle.rc_stream.specs.Merging.{place_of}
 use Rattle.rc_stream.specs.Places.{Reaches}
 use Rattle.rc_stream.specs.Holding.{TakesTurn, IsFrom, StepReaches}
 use Rattle.rc_stream.specs.Moving.{Either, Keeps, MaySeek, Moved, Moves, Once}
 use Rattle.rc_stream.proofs.Says.{le_le}
-
-pub moved-none : {H W : Type 0} (P Q : H → W → H → W → Type 0) (h : H) (w : W) → Moved P Q h w h w
-moved-none P Q h w = (zero, (refl, refl))
 
 same-states : {H W : Type 0} (P : H → W → Type 0) (h g : H) (w v : W) → h ≡ g → w ≡ v → P h w → P g v
 same-states P h g w v e f p = subst (λ u. P g u) f (subst (λ k. P k w) e p)
@@ -45,16 +39,6 @@ moved-moved P Q h w g v k u m r = more P Q m.0 h w g v k u m.1 r
 pub once-keeps : {H W X : Type 0} (P : H → W → H → W → Type 0) (stands : X → H → W → Type 0) (x : X) (h : H) (w : W) (g : H) (v : W) → Keeps P stands → Once P h w g v → stands x h w → stands x g v
 once-keeps P stands x h w g v keeps (inl e) s = same-states (stands x) h g w v e.0 e.1 s
 once-keeps P stands x h w g v keeps (inr m) s = keeps x h w g v m s
-
-rose_more : (before mid now : ℕ) → before ≤ mid → Rose mid now → Rose before now
-rose_more before mid now h r = omega (arith, h, r)
-
--- a refusal of a later call has its cause since an earlier one
-pub caused-after : {X : Type 0} (r : Result X StreamErr) (files files' : Option Files) (before mid now : ℕ) → files' ≡ files → before ≤ mid → Caused r files' mid now → Caused r files before now
-caused-after (Ok v) files files' before mid now e h c = omega (arith, h, c)
-caused-after (Err Fault) files files' before mid now e h c = (omega (arith, h, c.0), rose_more before mid now h c.1)
-caused-after (Err (Damaged file offset)) files files' before mid now e h c = (omega (arith, h, c.0), sym e ∙ c.1)
-caused-after (Err NoMemory) files files' before mid now e h c = omega (arith, h, c)
 
 -- ---- from where both go on after a step
 

@@ -47,10 +47,6 @@ pub alone-is : (tomb other : Option Tomb) (f : Frag) (fs : List Frag) → Some f
 alone-is tomb other f [] e = absurd (cc)
 alone-is tomb other f (g ∷ gs) e = ap (λ h. told (greater tomb_cmp tomb other) (beside other h)) (same-some f g e)
 
-pub alone-none : (tomb other : Option Tomb) (fs : List Frag) → None ≡ first_of fs → step.Nothing ≡ alone tomb other fs
-alone-none tomb other [] e = refl
-alone-none tomb other (g ∷ gs) e = absurd (cc)
-
 -- whether a fragment is a change
 abbrev pub is_change : Frag → Bool
 is_change (frag.Start pt) = false

@@ -109,16 +109,6 @@ le_not Less e = absurd (cc)
 le_not Equal e = absurd (cc)
 le_not Greater e = refl
 
-lt_eq : (r : Ordering) → is_lt r ≡ false → is_lt (ordering_then r Equal) ≡ false
-lt_eq Less e = absurd (cc)
-lt_eq Equal e = refl
-lt_eq Greater e = refl
-
-le_lt : (r : Ordering) → is_le r ≡ false → is_lt (ordering_then r Less) ≡ false
-le_lt Less e = absurd (cc)
-le_lt Equal e = absurd (cc)
-le_lt Greater e = refl
-
 -- what a seek to x does not pass does not stand before the places of x
 pub unpassed : (x : Pos) (f : Frag) → IsInner f → is_passed x f ≡ false → is_lt (place_order (place_of f) (x, 0)) ≡ false
 unpassed x (frag.Start pt) i h = absurd i
@@ -126,13 +116,6 @@ unpassed x (frag.Static row) i h = absurd i
 unpassed x (frag.Row key row) i h = lt_not (pos_cmp (row_pos key) x) h
 unpassed x (frag.Change from tomb) i h = le_not (pos_cmp from x) h
 unpassed x frag.End i h = absurd i
-
-pub unpassed-row : (x : Pos) (f : Frag) → IsInner f → is_passed x f ≡ false → is_lt (place_order (place_of f) (x, 1)) ≡ false
-unpassed-row x (frag.Start pt) i h = absurd i
-unpassed-row x (frag.Static row) i h = absurd i
-unpassed-row x (frag.Row key row) i h = lt_eq (pos_cmp (row_pos key) x) h
-unpassed-row x (frag.Change from tomb) i h = le_lt (pos_cmp from x) h
-unpassed-row x frag.End i h = absurd i
 
 is_less_lt : (r : Ordering) → r ≡ Less → is_lt r ≡ true
 is_less_lt r e = ap is_lt e

@@ -133,10 +133,6 @@ rows_among-first frag.End fs = refl
 pub joined_before : (xs ys zs : List (List Comp × Row)) → joined_rows xs ≡ joined_rows ys → joined_rows (xs ++ zs) ≡ joined_rows (ys ++ zs)
 joined_before xs ys zs e = joined_rows-append xs zs ∙ ap (λ rs. joined_rows (rs ++ joined_rows zs)) e ∙ sym (joined_rows-append ys zs)
 
-pub mapped_twice : (made more : List Piece) (o : Option (List Piece)) → option_map (λ ps. (made ++ more) ++ ps) o ≡ option_map (λ ps. made ++ ps) (option_map (λ ps. more ++ ps) o)
-mapped_twice made more None = refl
-mapped_twice made more (Some ps) = ap Some (append_assoc made more ps)
-
 -- ---- the loop over rows
 
 pub front_first : (x : Frag) (xs : List Frag) → 1 ≤ length xs → x ≡ get_or xs 0 x → xs ≡ x ∷ drop 1 xs

@@ -17,7 +17,7 @@ use Rattle.rc_tfile.specs.laws.Follows.{all_append}
 use Rattle.rc_tables.specs.Located.{IsLocatedOf, SaysOf, WhereTold}
 use Rattle.rc_stream.specs.declared.streams.StreamErr.{StreamErr}
 use Rattle.rc_stream.specs.declared.streams.StreamErr.TheVariants.{Fault, Damaged, NoMemory}
-use Rattle.rc_tables.specs.Tables.{AreHeld, HoldsTables, IsDamageIn, IsDamageOf, IsSomeJoin, JoinsSome, changes_at, changes_in, listing, lists_key}
+use Rattle.rc_tables.specs.Tables.{AreHeld, HoldsTables, IsDamageIn, IsDamageOf, JoinsSome, changes_at, changes_in, listing, lists_key}
 use Rattle.rc_tables.proofs.Places.{key_is}
 use Rattle.rc_tables.proofs.Searching.{keys_ascend, none_there, located, dir_is}
 
@@ -43,14 +43,6 @@ joining_one files schema key info infos joined more tables done (table ∷ rest)
 pub joining_on : (files : Option Files) (schema : SchemaValue) (key : List ℕ) (all : List TableInfo) (joined more : Mutation) (info : TableInfo) (infos : List TableInfo) → Joining files schema key all joined (info ∷ infos) → Joins files schema key info joined more → Joining files schema key all more infos
 joining_on files schema key all joined more info infos so_far joins tables holds =
     (let r = so_far tables holds in joining_one files schema key info infos joined more tables r.0 r.1 joins r.2 r.3 r.4)
-
-joining_over : (files : Option Files) (schema : SchemaValue) (key : List ℕ) (joined : Mutation) (tables : List (ℕ × List Partition)) (done : List Mutation) (rest : List (ℕ × List Partition))
-    → HoldsTables files schema [] rest → IsJoinOf joined done → changes_at key tables ≡ done ++ changes_at key rest → IsJoinOf joined (changes_at key tables)
-joining_over files schema key joined tables done [] holds is e = subst (λ (ms : List Mutation). IsJoinOf joined ms) (sym (e ∙ append-nil done)) is
-joining_over files schema key joined tables done (table ∷ rest) holds is e = absurd holds
-
-pub joining_ends : (files : Option Files) (schema : SchemaValue) (key : List ℕ) (all : List TableInfo) (joined : Mutation) → Joining files schema key all joined [] → (tables : List (ℕ × List Partition)) → HoldsTables files schema all tables → IsJoinOf joined (changes_at key tables)
-joining_ends files schema key all joined so_far tables holds = (let r = so_far tables holds in joining_over files schema key joined tables r.0 r.1 r.2 r.3 r.4)
 
 first_there : (files : Option Files) (schema : SchemaValue) (info : TableInfo) (infos : List TableInfo) (rest : List (ℕ × List Partition)) → HoldsTables files schema (info ∷ infos) rest → AreHeld files schema (info ∷ [])
 first_there files schema info infos [] holds = absurd holds
@@ -124,9 +116,6 @@ some_on schema key all joined more info infos so_far joins = record {
   count = omega (arith, so_far.count, joins.count, listing_first key info infos, length-append so_far.changes joins.changes);
   fit = all_append (SaysOf schema) so_far.changes joins.changes so_far.fit joins.fit;
 }
-
-pub some_ends : (schema : SchemaValue) (key : List ℕ) (all : List TableInfo) (joined : Mutation) → SomeSoFar schema key all joined [] → IsSomeJoin schema all key joined
-some_ends schema key all joined so_far = record { changes = so_far.changes; joined = so_far.joins; count = omega (arith, so_far.count); fit = so_far.fit }
 
 -- nothing was joined of a table that does not list the key
 pub joins_nothing : (schema : SchemaValue) (key : List ℕ) (info : TableInfo) (joined : Mutation) → JoinsSome schema (info ∷ []) key joined joined

@@ -176,10 +176,6 @@ front_kept (x ∷ xs) ys (suc k) h = (let r = front_kept xs ys k (omega (arith, 
 same_first : (r s : PartRef) (rs ss : List PartRef) → r ∷ rs ≡ s ∷ ss → (r ≡ s) × (rs ≡ ss)
 same_first r s rs ss e = (cc, cc)
 
-content_bytes : (files : Option Files) (n : ℕ) (bytes content : List ℕ) → IsContent files n bytes → IsContent files n content → bytes ≡ content
-content_bytes None n bytes content g h = absurd g
-content_bytes (Some files) n bytes content g h = (let e : Some bytes ≡ Some content = sym g ∙ h in cc)
-
 bytes_told : (files : Option Files) (n off : ℕ) (piece bytes : List ℕ) → IsContent files n bytes → AreBytesOf files n off piece → piece ≡ take (length piece) (drop off bytes)
 bytes_told None n off piece bytes is h = absurd is
 bytes_told (Some files) n off piece bytes is h = h bytes is

@@ -1,5 +1,5 @@
 -- What is read of the directory gives the span of a partition, and lies in the file.
-use Rattle.std.proofs.Common.{◌≡◌, ℕ, ◌+◌, ◌-◌, ◌≤◌, ◌<◌, ◌^◌, List, ◌∷◌, ◌++◌, length, take, drop, Option, Some, None, refl, sym, ap, ◌∙◌, subst, arith, append_assoc, inl}
+use Rattle.std.proofs.Common.{◌≡◌, ℕ, ◌+◌, ◌-◌, ◌≤◌, ◌<◌, ◌^◌, List, ◌∷◌, ◌++◌, length, take, drop, Option, Some, None, refl, sym, ap, ◌∙◌, subst, arith, append_assoc}
 use Rattle.std.specs.Prelude.{◌↔◌, IsSomeAnd}
 use Rattle.std.specs.List.{flat_map, AllByRecursion}
 use Rattle.std.proofs.lemmas.List.{drop_at, take_at, length-append}
@@ -12,14 +12,13 @@ use Rattle.rc_tfile.specs.Items.{item_code, bytes_code, offset_code, IsItem, IsP
 use Rattle.rc_tfile.specs.Reading.{Starts}
 use Rattle.rc_schema.specs.SchemaValue.{SchemaValue}
 use Rattle.rc_stream.specs.declared.streams.StreamErr.{StreamErr}
-use Rattle.rc_stream.specs.declared.streams.StreamErr.TheVariants.{Fault, Damaged, NoMemory}
 use Rattle.rc_writes.specs.Allowed.{IsStaticOf}
 use Rattle.rc_tfile.specs.TableText.{part_items}
 use Rattle.rc_tfile.specs.Before.{offset}
 use Rattle.rc_tfile.specs.laws.Starting.{key_free, rest_of}
 use Rattle.std.proofs.lemmas.Nat.{from_le_bytes-to_le_bytes_8}
 use Rattle.rc_tables.specs.declared.locating.Span.{Span}
-use Rattle.rc_tables.specs.Located.{Contradicts, IsAtSpan, IsLocated, IsLocatedOf, IsStreamHostError, IsSpan, IsEntryAt, EndsAt, MayLie, SaysNoPart, SaysNoSpan, SaysOf, SaysSpan, glimpsed, WhereTold}
+use Rattle.rc_tables.specs.Located.{IsLocated, IsLocatedOf, IsSpan, IsEntryAt, EndsAt, MayLie, SaysNoPart, SaysNoSpan, SaysOf, SaysSpan, glimpsed, WhereTold}
 use Rattle.rc_tables.specs.Rebuilt.{AllCome, ArePartItems, number_at_front}
 use Rattle.rc_mutation.specs.Fragments.{rows_and_changes}
 use Rattle.rc_tables.proofs.Places.{where_from, where_to, begins_there, ends_there, in_order, lies_there, reads_within, key_is, is_mutation, items_there, comes_there}
@@ -146,21 +145,6 @@ none_decoded (Some files) schema n at here behind from to piece found told spans
     absurd (let q = sym there ∙ decoded (Some files) schema n at here behind told.0 from to piece found told.1 (spans told.0 told.1.0) size read exact in cc)
 
 -- ---- damage
-
-pub at_span : (schema : SchemaValue) (n at : ℕ) (here : PartRef) (behind : List PartRef) (e : StreamErr) → IsAtSpan n at here behind e → Contradicts schema n at here behind e
-at_span schema n at here behind Fault h = tt
-at_span schema n at here behind (Damaged file offset) h = (h.0, inl (h.1, h.2))
-at_span schema n at here behind NoMemory h = tt
-
-pub outside_part : (schema : SchemaValue) (n at : ℕ) (here : PartRef) (behind : List PartRef) (e : StreamErr) → IsStreamHostError e → Contradicts schema n at here behind e
-outside_part schema n at here behind Fault h = tt
-outside_part schema n at here behind (Damaged file offset) h = absurd h
-outside_part schema n at here behind NoMemory h = tt
-
-pub outside_span : (n at : ℕ) (here : PartRef) (behind : List PartRef) (e : StreamErr) → IsStreamHostError e → IsAtSpan n at here behind e
-outside_span n at here behind Fault h = tt
-outside_span n at here behind (Damaged file offset) h = absurd h
-outside_span n at here behind NoMemory h = tt
 
 -- where no span is found, the bytes say none
 pub no_span : (at : ℕ) (here : PartRef) (behind : List PartRef) (piece : List ℕ) (found : Option Span) → length piece ≡ here.dir_len + glimpsed behind

@@ -125,9 +125,6 @@ abbrev pub Going : List ℕ → List Frag → List ℕ → Type 0
 Going bytes made left = (fs : List Frag) → AllByRecursion IsSpellable fs → bytes ≡ flat_map frag_code fs ++ 4 ∷ []
     → (gs : List Frag) × (fs ≡ made ++ gs) × AllByRecursion IsSpellable gs × (left ≡ flat_map frag_code gs ++ 4 ∷ [])
 
-pub going_start : (bytes : List ℕ) → Going bytes [] bytes
-going_start bytes fs is e = (fs, refl, is, e)
-
 some_pair : (x u : Frag × ℕ) → Some x ≡ Some u → x ≡ u
 some_pair x u e = cc
 

@@ -4,7 +4,6 @@ use Rattle.std.specs.Prelude.{Contains}
 use Rattle.std.proofs.lemmas.List.Elements.{Contains-append_left, Contains-append_right}
 use Rattle.rc_cell.specs.declared.writes.Tomb.{Tomb}
 use Rattle.lsa_store.specs.declared.place.Ref.{Ref}
-use Rattle.lsa_region.specs.declared.end.End.TheVariants.{Obj}
 use Rattle.lsa_region.specs.Region.{View, body, objects, IsSummed, IsWell}
 use Rattle.lsa_tree.specs.Tree.{IsTree}
 use Rattle.lsa_tree.specs.laws.Trees.{tree-few, tree-once}

@@ -1,6 +1,6 @@
 -- Laws of recency lists.
 use Rattle.std.proofs.Common.{◌≡◌, ◌≢◌, ℕ, ◌<◌, List, [], ◌∷◌, ◌++◌, Option, Some, None, IsSome, is_some, inl, inr, refl, sym, ap, ◌∙◌, subst, map, arith}
-use Rattle.std.specs.Prelude.{IsSomeAnd, IfSome, Contains, slice_index_or}
+use Rattle.std.specs.Prelude.{IsSomeAnd, IfSome, Contains}
 use Rattle.std.specs.Option.{option_map}
 use Rattle.lsa_kinds.specs.declared.kind.Kind.{Kind}
 use Rattle.lsa_kinds.specs.declared.kind.Kind.TheVariants.{Version, RowEntry, Dummy, Static}
@@ -72,10 +72,6 @@ recency-same v w same r h = subst (λ o. IsSomeAnd o (λ b. b.0 ≢ Version)) (s
 pub recent-same : (v w : View) → ((r : Ref) → body w r ≡ body v r) → (xs : List Ref) → AllHaveRecency v xs → AllHaveRecency w xs
 recent-same v w same [] h = tt
 recent-same v w same (x ∷ xs) h = (recency-same v w same x h.0, recent-same v w same xs h.1)
-
-pub elsewhere-same : (slots : Slots) (v w : View) → ((r : Ref) → body w r ≡ body v r) → (e : End) → IsElsewhere slots v e → IsElsewhere slots w e
-elsewhere-same slots v w same (Obj r f) h = subst (λ o. IfSome o (λ b. (role_of b.0 f ≢ LessRecent) × (role_of b.0 f ≢ MoreRecent))) (sym (same r)) h
-elsewhere-same slots v w same (Slot s) h = h
 
 less : (kind : Kind) → kind ≢ Version → role_of kind 0 ≡ LessRecent
 less Version h = absurd (h refl)

@@ -4,7 +4,7 @@ use Rattle.std.specs.Prelude.{Contains}
 use Rattle.std.specs.Option.{option_map}
 use Rattle.lsa_store.specs.declared.place.Ref.{Ref}
 use Rattle.lsa_region.specs.declared.end.End.{End}
-use Rattle.lsa_region.specs.declared.end.End.TheVariants.{Obj, Slot}
+use Rattle.lsa_region.specs.declared.end.End.TheVariants.{Obj}
 use Rattle.lsa_region.specs.Ends.{same_ref, named_as, swapped}
 use Rattle.lsa_region.specs.Paired.{WellPaired, IsExchanged}
 use Rattle.lsa_region.specs.laws.Refs.{refs_decided, ref-itself, ref-false}

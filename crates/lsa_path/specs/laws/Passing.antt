@@ -7,13 +7,13 @@ use Rattle.std.proofs.lemmas.List.Elements.{Contains-get_or}
 use Rattle.std.proofs.lemmas.List.Kept.{AllPairs-cons}
 use Rattle.lsa_store.specs.declared.place.Ref.{Ref}
 use Rattle.lsa_region.specs.declared.end.End.{End}
-use Rattle.lsa_region.specs.declared.end.End.TheVariants.{Obj, Slot}
+use Rattle.lsa_region.specs.declared.end.End.TheVariants.{Obj}
 use Rattle.lsa_region.specs.Layout.{object_extent}
 use Rattle.lsa_region.specs.Paired.{WellPaired}
 use Rattle.lsa_region.specs.Region.{View, body, link_of, IsWell, IsSummed, objects, live_bytes}
 use Rattle.lsa_path.specs.Path.{IsPath, IsOutside, behind, AllOnward, entered, followed, walk}
 use Rattle.lsa_path.specs.laws.Members.{member-cases, member-split, all-member, once-split}
-use Rattle.lsa_path.specs.laws.Paths.{same_object, same_some, all_map, path-rest, fresh-next, fresh-start, fresh-behind, paths-apart}
+use Rattle.lsa_path.specs.laws.Paths.{same_object, same_some, path-rest, fresh-next, fresh-start, fresh-behind, paths-apart}
 use Rattle.lsa_path.specs.laws.Renamed.{some-there}
 
 enters : (i : ℕ) (r : Ref) → entered i (Some (Obj r i)) ≡ Some r

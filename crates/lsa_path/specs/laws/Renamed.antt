@@ -1,6 +1,6 @@
 -- A path after its objects got other names, and where some of its links name others.
-use Rattle.std.proofs.Common.{◌≡◌, ◌≢◌, ℕ, List, [], ◌∷◌, Option, Some, None, refl, sym, ap, ◌∙◌, subst, map}
-use Rattle.std.specs.Prelude.{IsSome, IsSomeAnd, ⊤}
+use Rattle.std.proofs.Common.{◌≡◌, ◌≢◌, ℕ, List, [], ◌∷◌, Option, Some, None, refl, ap, ◌∙◌, subst, map}
+use Rattle.std.specs.Prelude.{IsSome, IsSomeAnd}
 use Rattle.std.specs.Option.{option_map}
 use Rattle.lsa_store.specs.declared.place.Ref.{Ref}
 use Rattle.lsa_region.specs.declared.end.End.{End}

@@ -1,12 +1,11 @@
 -- What a change of links of some roles leaves of those of another role.
-use Rattle.std.proofs.Common.{◌≡◌, ◌≢◌, ℕ, List, Option, Some, None, refl, sym, ap, ◌∙◌, subst}
+use Rattle.std.proofs.Common.{◌≡◌, ◌≢◌, ℕ, List, Option, Some, None, sym, ap, ◌∙◌, subst}
 use Rattle.std.specs.Prelude.{IfSome}
 use Rattle.lsa_store.specs.declared.place.Ref.{Ref}
 use Rattle.lsa_region.specs.declared.end.End.{End}
-use Rattle.lsa_region.specs.declared.end.End.TheVariants.{Obj, Slot}
-use Rattle.lsa_region.specs.Region.{View, body, link_of}
+use Rattle.lsa_region.specs.Region.{View, link_of}
 use Rattle.lsa_path.specs.Path.{IsPath, AllOnward, IsInserted, IsTakenOut}
-use Rattle.lsa_path.specs.Roles.{Role, role_at, role_in}
+use Rattle.lsa_path.specs.Roles.{Role, role_at}
 use Rattle.lsa_path.specs.laws.Paths.{all_map, path-same}
 
 -- ends of different roles are different
@@ -33,8 +32,3 @@ module _ (v : View) (new : End → Option End) (role : Role) where
   -- a path left by links of the role
   pub path-role : (i o : ℕ) (s : End) (xs : List Ref) (f : Option End) → ((e : End) → role_at v e ≡ role → new e ≡ link_of v e) → new s ≡ link_of v s → AllOnward o (λ e. role_at v e ≡ role) xs → IsPath i o (link_of v) s xs f → IsPath i o new s xs f
   path-role i o s xs f same here all p = path-same i o (link_of v) new s xs f here (all_map o (λ e. role_at v e ≡ role) (λ e. new e ≡ link_of v e) xs same all) p
-
--- roles go by bodies
-pub role-same : (v w : View) (e : End) → ((r : Ref) → body w r ≡ body v r) → role_at w e ≡ role_at v e
-role-same v w (Obj r field) same = ap (λ o. role_in o field) (same r)
-role-same v w (Slot s) same = refl

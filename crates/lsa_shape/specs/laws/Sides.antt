@@ -7,7 +7,7 @@ use Rattle.lsa_region.specs.declared.end.End.TheVariants.{Obj}
 use Rattle.lsa_region.specs.Paired.{WellPaired}
 use Rattle.lsa_shape.specs.declared.flank.Flank.{Flank}
 use Rattle.lsa_shape.specs.declared.flank.Flank.TheVariants.{Low, High}
-use Rattle.lsa_shape.specs.Flanks.{other_flank, near_link, far_link, near_heavy, far_heavy}
+use Rattle.lsa_shape.specs.Flanks.{other_flank, near_link, far_link}
 use Rattle.lsa_shape.specs.Shapes.{TreeShape, inorder, IsIn, HangsAt, IsClearOf, node_on}
 use Rattle.lsa_shape.specs.Ways.{ForkAt, fork_before, fork_behind}
 use Rattle.lsa_shape.specs.laws.Hanging.{root-low, root-high, root-clear_low, root-clear_high, parts-apart}
@@ -33,22 +33,6 @@ far-most High = omega arith
 pub near_differs : (flank : Flank) → near_link flank ≢ far_link flank
 near_differs Low e = cc
 near_differs High e = cc
-
-pub other-near : (flank : Flank) → near_link (other_flank flank) ≡ far_link flank
-other-near Low = refl
-other-near High = refl
-
-pub other-far : (flank : Flank) → far_link (other_flank flank) ≡ near_link flank
-other-far Low = refl
-other-far High = refl
-
-pub other-heavy : (flank : Flank) → near_heavy (other_flank flank) ≡ far_heavy flank
-other-heavy Low = refl
-other-heavy High = refl
-
-pub other-light : (flank : Flank) → far_heavy (other_flank flank) ≡ near_heavy flank
-other-light Low = refl
-other-light High = refl
 
 pub other-node : (flank : Flank) (near : TreeShape) (r : Ref) (far : TreeShape) → node_on (other_flank flank) far r near ≡ node_on flank near r far
 other-node Low near r far = refl

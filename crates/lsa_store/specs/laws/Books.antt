@@ -5,7 +5,7 @@ use Rattle.std.proofs.lemmas.List.{get_or-set_same, get_or-set_other}
 use Rattle.std.proofs.lemmas.List.Quantifiers.{position-Some}
 use Rattle.std.specs.Option.{option_map_or}
 use Rattle.lsa_pool.specs.declared.Usage.{Usage}
-use Rattle.lsa_pool.specs.declared.State.TheVariants.{Active, Closed}
+use Rattle.lsa_pool.specs.declared.State.TheVariants.{Closed}
 use Rattle.lsa_pool.specs.Room.{nothing, is_state_active, usage_of, free_count, live_sum, active_of, active_room, spare_of}
 use Rattle.lsa_pool.specs.laws.Usages.{active-state, closed-inside, set_elim}
 use Rattle.lsa_store.specs.Stock.{stock_of, IsTurned, IsCredited, IsTaken, IsGivenBack}
@@ -20,17 +20,6 @@ pub closed-apart : (us : List Usage) (n a : ℕ) → (usage_of us n).state ≡ C
 closed-apart us n a closed active same = let e = active-state us a active in let d : (usage_of us a).state ≡ Closed = ap (λ k. (usage_of us k).state) (sym same) ∙ closed in let clash = sym e ∙ d in cc
 
 -- ---- what one step changes
-
--- a closed segment, and one that was free and is active: what is used and live is as it was
-pub counts-turned : (us us1 us2 : List Usage) (a n : ℕ) → a < length us → us1 ≡ set us a (record (usage_of us a) { state = Closed }) → n < length us1 → (usage_of us1 n).used ≡ 0 → (usage_of us1 n).live ≡ 0
-    → us2 ≡ set us1 n (record nothing { state = Active }) → (m : ℕ) → ((usage_of us2 m).used ≡ (usage_of us m).used) × ((usage_of us2 m).live ≡ (usage_of us m).live)
-counts-turned us us1 us2 a n inside closed within used live taken m =
-    let first : (k : ℕ) → ((usage_of us1 k).used ≡ (usage_of us k).used) × ((usage_of us1 k).live ≡ (usage_of us k).live) = λ k.
-    subst (λ l. ((usage_of l k).used ≡ (usage_of us k).used) × ((usage_of l k).live ≡ (usage_of us k).live)) (sym closed)
-    (set_elim nothing (λ j (u : Usage). (u.used ≡ (usage_of us j).used) × (u.live ≡ (usage_of us j).live)) us a (record (usage_of us a) { state = Closed }) k inside (refl, refl) (λ _. (refl, refl))) in
-    subst (λ l. ((usage_of l m).used ≡ (usage_of us m).used) × ((usage_of l m).live ≡ (usage_of us m).live)) (sym taken)
-    (set_elim nothing (λ j (u : Usage). (u.used ≡ (usage_of us j).used) × (u.live ≡ (usage_of us j).live)) us1 n (record nothing { state = Active }) m within
-    (sym used ∙ (first n).0, sym live ∙ (first n).1) (λ _. first m))
 
 -- what is used stays where something live goes
 pub used-debit : (us us' : List Usage) (n size : ℕ) → n < length us → us' ≡ set us n (record (usage_of us n) { live = (usage_of us n).live - size }) → (m : ℕ) → (usage_of us' m).used ≡ (usage_of us m).used
@@ -55,9 +44,6 @@ room-same size us us' active used =
       | Some m ↦ λ e. ap (λ k. size - k) (used m e)
     ] refl
 
-pub spare-same : (size : ℕ) (us us' : List Usage) → free_count us' ≡ free_count us → active_room size us' ≡ active_room size us → spare_of size us' ≡ spare_of size us
-spare-same size us us' free room = ap (λ k. (k - 1) * (7 * size / 8) + (active_room size us' - size / 8)) free ∙ ap (λ k. (free_count us - 1) * (7 * size / 8) + (k - size / 8)) room
-
 -- ---- what is spare
 
 -- a turn of the active segment leaves what is spare
@@ -69,9 +55,6 @@ spare-turn size need before (suc m) room room' even one whole short small enough
     let K = 7 * size / 8 in let less : suc m - 1 ≡ m = omega arith in let same : before - 1 ≡ suc m = omega arith in
     let left : (suc m - 1) * K ≡ m * K = ap (λ k. k * K) less in let right : (before - 1) * K ≡ suc m * K = ap (λ k. k * K) same in
     omega arith
-
-pub turn-free : (size need : ℕ) (us : List Usage) → 0 < stock_of size us → active_room size us < need → need ≤ size / 8 → 0 < free_count us
-turn-free size need us some short fits = elim (free_count us) as (λ k. 0 < k * (7 * size / 8) + (active_room size us - size / 8) → 0 < k) [ zero ↦ λ h. absurd (omega arith) | suc k ↦ λ h. omega arith ] some
 
 pub spare-turned : (size need : ℕ) (old new : List Usage) → size % 64 ≡ 0 → 0 < free_count old → need ≤ size / 8 → need ≤ spare_of size old → IsTurned size old new need → (spare_of size new ≡ spare_of size old) × (0 < free_count new)
 spare-turned size need old new even reserve fits spare (inl same) = (ap (spare_of size) same, subst (λ l. 0 < free_count l) (sym same) reserve)
@@ -95,13 +78,6 @@ stock-reserve size us reserve = elim (free_count us) as (λ k. 0 < k → k * (7 
   | zero ↦ λ h. absurd (omega arith)
   | suc k ↦ λ h. let less : (suc k - 1) * (7 * size / 8) ≡ k * (7 * size / 8) = ap (λ j. j * (7 * size / 8)) (omega arith) in omega arith
 ] reserve
-
--- what the closed segment had live, three quarters at most, went from the stock, which then got its seven eighths
-pub spare-rises : (size live : ℕ) (old mid new : List Usage) → size % 64 ≡ 0 → live ≤ 3 * size / 4 → 0 < free_count old → stock_of size old ≤ stock_of size mid + live → free_count new ≡ free_count mid + 1 → active_room size new ≡ active_room size mid
-    → spare_of size old + size / 8 ≤ spare_of size new
-spare-rises size live old mid new even sparse reserve stock free room =
-    let K = 7 * size / 8 in let frees : (free_count new - 1) * K ≡ free_count mid * K = ap (λ k. k * K) (omega (arith, free)) in
-    omega (arith, frees, room, stock, sparse, even, stock-reserve size old reserve)
 
 -- ---- an object is made, and one goes
 

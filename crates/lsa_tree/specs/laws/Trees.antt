@@ -164,19 +164,6 @@ module _ (tree : Tree) (v : View) where
 pub stands-same : (v w : View) (r : Ref) (x : Pos) → body w r ≡ body v r → IsEntryAtPosition v r x → IsEntryAtPosition w r x
 stands-same v w r x same h = subst (λ o. IsSomeAnd o (λ b. SpellsEntryAt b x)) (sym same) h
 
-pub loose-same : (v w : View) (r : Ref) → body w r ≡ body v r → link_of w (Obj r 2) ≡ link_of v (Obj r 2) → link_of w (Obj r 3) ≡ link_of v (Obj r 3) → link_of w (Obj r 4) ≡ link_of v (Obj r 4) → IsLoose v r → IsLoose w r
-loose-same v w r same a b c h = record {
-  entry = subst (λ o. IsSomeAnd o (λ b. IsEntryKind b.0)) (sym same) h.entry;
-  parent = a ∙ h.parent;
-  left = b ∙ h.left;
-  right = c ∙ h.right;
-  level = ap balance_in same ∙ h.level;
-}
-
-top_in : (e : End) → (Option (Kind × List ℕ) → Type 0) → (Ref → Option (Kind × List ℕ)) → Type 0
-top_in (Obj r f) P o = P (o r)
-top_in (Slot s) P o = ⊥
-
 pub top-kept : (v w : View) (e : End) → ((r : Ref) → IsSomeAnd (body v r) (λ b. b.0 ≡ Version) → IsSomeAnd (body w r) (λ b. b.0 ≡ Version)) → IsTop v e → IsTop w e
 top-kept v w (Obj r f) keep h = (h.0, keep r h.1)
 top-kept v w (Slot s) keep h = h

@@ -25,11 +25,6 @@ use Rattle.rc_core.specs.Chain.{flagged, content, states_at, flag_over, IsBare, 
 use Rattle.rc_core.specs.Continuity.{IsWithin, static_states, version_tombs, HoldNoMore, IsContinuous, SameOrLost, IsSameOrLost, IsKeptOrLost, IsEvicted, EachOf, with_entries, without_statics}
 use Rattle.rc_core.specs.laws.Folding.{flagged-through, content-through}
 
-under_lost : (older newer : SpotState) → older.flag ≡ Unknown → (f : Flag) → newer.flag ≡ f → (over f older newer ≡ newer) ⊎ ((over f older newer).flag ≡ Unknown)
-under_lost older newer l Known e = inl refl
-under_lost older newer l Unknown e = inr e
-under_lost older newer l Inherit e = inr l
-
 decided : (a b newer : SpotState) (f : Flag) → over f a newer ≡ newer → (f ≡ Inherit → ⊥) → over f a newer ≡ over f b newer
 decided a b newer Known e h = refl
 decided a b newer Unknown e h = refl

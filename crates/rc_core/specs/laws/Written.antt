@@ -23,7 +23,7 @@ use Rattle.rc_position.specs.laws.Orders.{pos_cmp_total, pos_cmp_same}
 use Rattle.rc_ranges.specs.declared.pieces.Piece.{Piece}
 use Rattle.rc_ranges.specs.Cover.{cover, tombs_over}
 use Rattle.rc_mutation.specs.declared.mutations.Mutation.{Mutation}
-use Rattle.rc_mutation.specs.Source.{SameSource, source_at, source_at_head, source_at_static, static_rows, rows_in, all_rows, all_pieces}
+use Rattle.rc_mutation.specs.Source.{SameSource, source_at_head, source_at_static, static_rows, rows_in, all_rows, all_pieces}
 use Rattle.rc_mutation.specs.Source as source
 use Rattle.rc_mutation.specs.laws.Sources.{partition_tombs-append, static_rows-append}
 use Rattle.rc_core.specs.declared.entries.ChainKind.TheVariants.{Memtable}

@@ -1,5 +1,5 @@
 -- What a step may change of a state, by cases: every law over steps goes by these.
-use Rattle.std.proofs.Common.{◌≡◌, ◌≢◌, ◌⊎◌, inl, inr, ℕ, ◌-◌, ◌==◌, nat_lt, Bool, true, false, not, List, [], ◌∷◌, ◌++◌, length, Option, Some, None, MatchBool, MatchOption, refl, sym, ap, subst, ◌∙◌}
+use Rattle.std.proofs.Common.{◌≡◌, ◌≢◌, ◌⊎◌, inl, inr, ℕ, ◌-◌, ◌==◌, nat_lt, Bool, true, false, not, List, [], ◌∷◌, ◌++◌, length, Option, Some, None, MatchBool, MatchOption, refl, ap, ◌∙◌}
 use Rattle.std.specs.List.{filter}
 use Rattle.rc_position.specs.declared.slices.Slice.{Slice}
 use Rattle.rc_mutation.specs.declared.mutations.Partition.{Partition}
@@ -11,7 +11,7 @@ use Rattle.rc_lines.specs.declared.commands.Refusal.TheVariants.{TooManyReaders,
 use Rattle.rc_lines.specs.declared.commands.Reply.{Reply}
 use Rattle.rc_lines.specs.declared.commands.Reply.TheVariants as replies
 use Rattle.rc_machine.specs.State.{State, Reader, numbers, reader_of}
-use Rattle.rc_machine.specs.Steps.{Steps, Opens, Gives, Stores, Flushes, Refuses, IsFlushed, with_table, without_sealed, sealing, next_number, last_number, most_readers}
+use Rattle.rc_machine.specs.Steps.{Steps, Opens, Gives, Stores, Refuses, IsFlushed, with_table, without_sealed, sealing, next_number, last_number, most_readers}
 use Rattle.rc_machine.specs.Flushed.{accepted_by}
 
 -- nothing but readers; a write behind the others; writes are sealed; they are written as a table, which the cache has in steps or at once; or the

@@ -1,9 +1,7 @@
 -- The parts of writes that fit a schema fit a table of it.
-use Rattle.std.specs.Prelude.{◌≡◌, ◌≢◌, ℕ, All, Bool, true, false, ◌&&◌, List, [], ◌∷◌, Option, Some, None, map as list_map, nat_lt, Result, Ok, Err, if◌then◌else◌, slice_index_or}
+use Rattle.std.specs.Prelude.{◌≡◌, ◌≢◌, ℕ, All, Bool, true, false, ◌&&◌, List, [], ◌∷◌, Option, None, map as list_map, nat_lt, Result, Ok, Err, if◌then◌else◌, slice_index_or}
 use Rattle.std.proofs.Common.{refl, sym, ap, ◌∙◌, subst, append-nil}
 use Rattle.std.specs.Ordering.{eq_by_cmp}
-use Rattle.std.specs.Option.{is_none}
-use Rattle.std.specs.Result.{is_ok}
 use Rattle.std.specs.List.{list_all}
 use Rattle.std.specs.FinMap as map
 use Rattle.rc_cell.specs.declared.rows.Row.{Row}
@@ -13,7 +11,6 @@ use Rattle.rc_cell.specs.Winner.{empty_row, joined_row}
 use Rattle.rc_position.specs.declared.comps.Comp.{Comp}
 use Rattle.rc_position.specs.declared.positions.Pos.{Pos}
 use Rattle.rc_position.specs.declared.positions.Weight.{Weight}
-use Rattle.rc_position.specs.declared.positions.Weight.TheVariants.{Before, At, After}
 use Rattle.rc_position.specs.Position.{bytes_cmp}
 use Rattle.rc_ranges.specs.declared.pieces.Piece.{Piece}
 use Rattle.rc_ranges.specs.Cover.{cover}
@@ -32,7 +29,7 @@ use Rattle.rc_lines.specs.Fits.{CommandFits}
 use Rattle.rc_writes.specs.Allowed.{ChangeFits, IsRangeBound, IsRowOf, IsStaticOf}
 use Rattle.rc_tfile.specs.TableText.{PartsFit}
 use Rattle.rc_machine.specs.laws.FittingBounds.{bounds_kept, start}
-use Rattle.rc_machine.specs.laws.FittingValues.{Each, all_of_each, both, each_filter, each_flat_map, each_map, each_of_all, each_of_test, each_so, test_of_each}
+use Rattle.rc_machine.specs.laws.FittingValues.{Each, all_of_each, each_filter, each_flat_map, each_map, each_of_all, each_of_test, each_so, test_of_each}
 use Rattle.rc_machine.specs.laws.FittingJoins.{joined_marker, joined_tomb, each_joined, rows_said}
 use Rattle.rc_machine.specs.laws.FittingKeys.{ascend_as}
 

@@ -1,5 +1,5 @@
 -- What was flushed: each step keeps what the tables and files hold.
-use Rattle.std.proofs.Common.{◌≡◌, ℕ, zero, suc, ◌+◌, ◌==◌, ◌-◌, ◌<◌, ◌≤◌, Bool, true, false, List, [], ◌∷◌, ◌++◌, length, take, drop, map, Option, Some, None, refl, sym, ap, subst, ◌∙◌, append_assoc, append-nil, arith, le_refl, length-append}
+use Rattle.std.proofs.Common.{◌≡◌, ℕ, zero, suc, ◌+◌, ◌==◌, ◌-◌, ◌<◌, ◌≤◌, Bool, true, false, List, [], ◌∷◌, ◌++◌, length, take, drop, Option, Some, None, refl, sym, ap, subst, ◌∙◌, append_assoc, append-nil, arith, le_refl, length-append}
 use Rattle.std.specs.Prelude.{All, if◌then◌else◌, option_map}
 use Rattle.std.specs.FinMap as finite
 use Rattle.std.proofs.lemmas.List.{map-append, take-append-le, take-append-drop, take-take, drop-take}
@@ -8,7 +8,6 @@ use Rattle.rc_outside.specs.Files.{Files}
 use Rattle.rc_schema.specs.SchemaValue.{SchemaValue}
 use Rattle.rc_mutation.specs.declared.mutations.Partition.{Partition}
 use Rattle.rc_mutation.specs.declared.mutations.Write.{Write}
-use Rattle.rc_mutation.specs.Fragments.{IsParts}
 use Rattle.rc_tfile.specs.Before.{text}
 use Rattle.rc_tfile.specs.TableText.{whole_table, IsTable}
 use Rattle.rc_lines.specs.declared.commands.Command.{Command}

@@ -3,7 +3,7 @@ use Rattle.std.proofs.Common.{◌≡◌, ◌≢◌, ℕ, ◌+◌, ◌-◌, ◌*�
 use Rattle.std.specs.Prelude.{IsSomeAnd, IfSome}
 use Rattle.std.specs.Option.{option_map}
 use Rattle.std.proofs.Math.Seq.{drop-append_seam, take-append_seam, drop-length}
-use Rattle.std.proofs.lemmas.List.{take-append-le, drop-append-le, take-append-drop, drop-drop, length-take-le, append-nil}
+use Rattle.std.proofs.lemmas.List.{take-append-le, drop-append-le, drop-drop, append-nil}
 use Rattle.std.proofs.lemmas.Slice.{drop-append-drop}
 use Rattle.rc_cell.specs.declared.writes.Tomb.{Tomb}
 use Rattle.rc_cell.specs.declared.rows.Row.{Row}
@@ -167,11 +167,6 @@ pub but_marks_kept : (b : Kind × List ℕ) (front : List ℕ) → length front 
 but_marks_kept b front long level =
     let same : number_at 1 1 (front ++ drop 28 b.1) ≡ number_at 1 1 b.1 = number_front 1 1 front (drop 28 b.1) (omega (arith, long)) ∙ level in
     ap (λ n. (b.0, (n, drop 28 (front ++ drop 28 b.1)))) same ∙ ap (λ l. (b.0, (number_at 1 1 b.1, l))) (drop-append-drop 28 b.1 front 28 (omega arith) long)
-
--- a field within the front is the same in the front alone
-pub front_same : (offset width n : ℕ) (bytes : List ℕ) → offset + width ≤ n → n ≤ length bytes → number_at offset width (take n bytes) ≡ number_at offset width bytes
-front_same offset width n bytes inside enough =
-    sym (number_front offset width (take n bytes) (drop n bytes) (omega (arith, length-take-le n bytes enough))) ∙ ap (number_at offset width) (take-append-drop n bytes)
 
 -- ---- bytes that are written over those of an object
 

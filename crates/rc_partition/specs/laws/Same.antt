@@ -16,6 +16,7 @@ use Rattle.rc_partition.specs.Partitions.{StandingVersion, PartitionEntry, AreSt
 use Rattle.rc_partition.specs.laws.Apart.{entries-apart, entry-once, same_root}
 use Rattle.rc_partition.specs.laws.Lists.{elem-first, elem-here, elem-later, elem-map, once-head, once-tail}
 
+-- a value is the first of a list
 abbrev pub HeadIs : {X : Type 0} → X → List X → Type 0
 HeadIs x [] = ⊥
 HeadIs x (y ∷ ys) = x ≡ y
@@ -23,6 +24,7 @@ HeadIs x (y ∷ ys) = x ≡ y
 pub heads : {X : Type 0} (x y : X) (xs ys : List X) → x ∷ xs ≡ y ∷ ys → x ≡ y
 heads x y xs ys e = subst (HeadIs x) e refl
 
+-- a list is what follows the first of another
 abbrev pub TailIs : {X : Type 0} → List X → List X → Type 0
 TailIs xs [] = ⊥
 TailIs xs (y ∷ ys) = xs ≡ ys

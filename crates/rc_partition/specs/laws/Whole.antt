@@ -128,6 +128,7 @@ module _ (v : View) (s : StandingVersion) (h : IsVersionOf v s.object s.entries 
 
 -- ---- versions of different objects together
 
+-- the objects of all these versions
 abbrev pub all_parts : View → List StandingVersion → List Ref
 all_parts v vs = flat_map (parts_of v) vs
 

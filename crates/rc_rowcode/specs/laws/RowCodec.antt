@@ -130,9 +130,6 @@ cells_again : (es : List (ℕ × Cell)) (rest : List ℕ) → AreCells es → pa
 unfolding parse_cells
 cells_again es rest fits = entries_again 0 es rest (from_zero es fits.0 fits.1)
 
-pub cells_codec : Codec cells_code AreCells parse_cells
-cells_codec = record { took = cells_took; again = cells_again }
-
 -- what a reader of entries made ascends, and is at most 32 long
 pub entries_ascend : (n : ℕ) (bytes : List ℕ) (x : List (ℕ × Cell) × List ℕ) → IsBytes bytes → parse_entries n 0 bytes ≡ Some x → IsTrue (ascending x.0)
 entries_ascend n bytes x fits e = let t = entries_took n 0 bytes x fits e in holds (is_sorted nat_cmp x.0) (from_sorted 0 x.0 t.fits.1)

@@ -1,6 +1,6 @@
-use Rattle.std.proofs.Common.{◌≡◌, Some, None, inl, inr, sym, ap, ◌∙◌}
+use Rattle.std.proofs.Common.{◌≡◌, inl, inr, sym, ap, ◌∙◌}
 use Rattle.lsa_region.specs.declared.end.End.{End}
-use Rattle.lsa_region.specs.Region.{View, link_of}
+use Rattle.lsa_region.specs.Region.{link_of}
 use Rattle.lsa_region.specs.laws.Ends.{ends_decided}
 use Rattle.lsa_bench.proofs.ties.change.Goals as goal
 

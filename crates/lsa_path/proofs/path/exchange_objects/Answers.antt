@@ -1,8 +1,5 @@
-use Rattle.std.proofs.Common.{arith}
 use Rattle.lsa_region.specs.Region.{link_of}
 use Rattle.lsa_path.specs.laws.Exchanged.{objects-exchanged, path-renamed_objects, path-replaced, exchanged-beside}
-use Rattle.lsa_path.specs.laws.Paths.{same_object}
-use Rattle.lsa_path.specs.laws.Steps.{objects-trans}
 use Rattle.lsa_path.proofs.path.exchange_objects.Goals as goal
 
 pub returns-clause-exchanged : goal.returns-clause-exchanged

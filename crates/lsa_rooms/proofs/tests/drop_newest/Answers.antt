@@ -1,5 +1,4 @@
 use Rattle.std.proofs.Common.{◌≡◌, [], ◌∷◌, Some, None, sym, ◌∙◌, subst, arith}
-use Rattle.lsa_kinds.specs.declared.kind.Kind.TheVariants.{Version}
 use Rattle.lsa_path.specs.laws.Members.{member-first}
 use Rattle.lsa_rooms.specs.Room.{StandsInRegion}
 use Rattle.lsa_rooms.proofs.Rooms.{chain-there, kind-same}

@@ -1,4 +1,4 @@
-use Rattle.std.proofs.Common.{◌≡◌, ℕ, ◌<◌, zero, suc, None, arith}
+use Rattle.std.proofs.Common.{◌≡◌, ◌<◌, None, arith}
 use Rattle.lsa_kinds.specs.declared.kind.Kind.TheVariants.{Version}
 use Rattle.lsa_region.specs.declared.end.End.TheVariants.{Obj}
 use Rattle.lsa_region.specs.Region.{body, link_of}

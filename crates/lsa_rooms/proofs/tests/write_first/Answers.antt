@@ -1,4 +1,3 @@
-use Rattle.std.proofs.Common.{arith}
 use Rattle.lsa_rooms.proofs.Rooms.{stands-unlinked, written-kinds}
 use Rattle.lsa_rooms.proofs.tests.write_first.Goals as goal
 

@@ -1,5 +1,4 @@
 use Rattle.std.proofs.Common.{◌++◌, ◌∷◌, subst}
-use Rattle.lsa_tree.specs.declared.tree.Place.TheVariants.{Here}
 use Rattle.lsa_tree.specs.Search.{IsFound}
 use Rattle.lsa_tree_tests.proofs.Walks.{held-as}
 use Rattle.lsa_tree_tests.proofs.tree.take.Goals as goal

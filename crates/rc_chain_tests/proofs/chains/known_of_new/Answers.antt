@@ -1,6 +1,5 @@
 use Rattle.std.proofs.Common.{sym, subst, arith}
 use Rattle.rc_memory.specs.Memory.{HasPin}
-use Rattle.rc_chain.specs.Lives.{chain_of_new}
 use Rattle.rc_chain_tests.proofs.Pins.{made-at, made-attached, taken-there}
 use Rattle.rc_chain_tests.proofs.chains.known_of_new.Goals as goal
 

@@ -1,7 +1,7 @@
 -- By the laws of merges, of two lists and tables.
-use Rattle.std.specs.Prelude.{◌≡◌, true, IfOk, ℕ, ◌≤◌, ◌+◌}
+use Rattle.std.specs.Prelude.{◌≡◌, true, ◌≤◌, ◌+◌}
 use Rattle.std.specs.Option.{is_some}
-use Rattle.std.proofs.Common.{refl, sym, ap, subst, arith}
+use Rattle.std.proofs.Common.{ap, subst, arith}
 use Rattle.rc_stream.specs.Did.{both_left, both_settled}
 use Rattle.rc_stream.specs.Moving.{SoughtBoth}
 use Rattle.rc_tables.specs.Streams.{IsReady, Lazy, IsLazyOf, asks_left}
