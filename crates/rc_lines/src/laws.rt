@@ -7,7 +7,7 @@ ghost use Rattle.rc_cell.specs.declared.writes.Tomb.{Tomb};
 ghost use Rattle.rc_cell.specs.Winner.{IsRow};
 ghost use Rattle.rc_position.specs.declared.comps.Comp.{Comp};
 ghost use Rattle.rc_rowcode.specs.Spelling.{IsTomb};
-ghost use Rattle.rc_schema.specs.Checks.{checked_prefix};
+ghost use Rattle.rc_schema.specs.Checks.{is_key_of};
 ghost use Rattle.rc_schema.specs.SchemaValue.{SchemaValue, is_schema};
 ghost use Rattle.rc_spelling.specs.Printed.{AreBytes};
 ghost use Rattle.rc_spelling.specs.Words.{words};
@@ -17,7 +17,7 @@ ghost use Rattle.rc_lines.specs.declared.commands.Command.{Command};
 ghost use Rattle.rc_lines.specs.declared.commands.Command.TheVariants.{Put};
 ghost use Rattle.rc_lines.specs.declared.shapes.Shape.{Shape};
 ghost use Rattle.rc_lines.specs.Fits.{CommandFits};
-ghost use Rattle.rc_lines.specs.Grammar.{longest_line, parse};
+ghost use Rattle.rc_lines.specs.Grammar.{parse};
 ghost use Rattle.rc_lines.specs.calls.ByShape.{parse_by_shape, shape_meaning};
 ghost use Rattle.rc_lines.specs.Lines.{AreComponents, AreValues, IsPartitionKey, IsSayableCommand, command_line, dead_row, delete_text, delpart_text, insert_text, live_row};
 ghost use Rattle.rc_lines.specs.Plain.{HasCounts, plain_line};
@@ -28,7 +28,7 @@ use crate::reading::LONGEST_LINE;
 
 /// The constant is the grammar's number.
 pub fn longest_line_is_named()
-    ensures { LONGEST_LINE ≡ longest_line }
+    ensures { LONGEST_LINE ≡ 65536 }
 {}
 
 /// A line means by the form of its words what it means by their shape, by which it is read.
@@ -62,7 +62,7 @@ pub fn sayable_lines_read_back()
 
 /// The line of what one line can say commands what it means under the schema that was taken, if one was, where it is not too long.
 pub fn sayable_lines_are_meant()
-    ensures { (taken : Option SchemaValue) (shape : Shape) (line : List ℕ) → shape_line shape ≡ Some line → IsSayable shape → length line ≤ longest_line →
+    ensures { (taken : Option SchemaValue) (shape : Shape) (line : List ℕ) → shape_line shape ≡ Some line → IsSayable shape → length line ≤ 65536 →
         parse taken line ≡ shape_meaning taken (Some shape) }
 {}
 
@@ -95,7 +95,7 @@ pub fn inserts_read_back()
 /// The deletion of a row, with its key as replies print it, writes its tombstone, and nothing else.
 pub fn deletes_read_back()
     ensures { (schema : SchemaValue) (key : List ℕ) (ck : List Comp) (tomb : Tomb) → IsTrue (is_schema schema) → IsPartitionKey key → AreComponents ck → IsTomb tomb →
-        checked_prefix true schema ck ≡ Ok tt →
+        IsTrue (is_key_of true schema ck) →
         parse (Some schema) (delete_text key ck tomb) ≡ Ok (Put (record { key = key; change = row_alone ck (dead_row tomb) })) }
 {}
 

@@ -39,7 +39,7 @@ use Rattle.rc_lines.specs.declared.shapes.Shape.TheVariants.{Plain, Open, Writte
 use Rattle.rc_lines.specs.declared.shapes.Stamp.{Stamp}
 use Rattle.rc_lines.specs.declared.shapes.Stamp.TheVariants.{Alive, Gone}
 use Rattle.rc_lines.specs.Fits.{CommandFits}
-use Rattle.rc_lines.specs.Grammar.{longest_line, is_comment, schema_said, parse}
+use Rattle.rc_lines.specs.Grammar.{is_comment, schema_said, parse}
 use Rattle.rc_lines.specs.calls.ByShape.{shape_meaning, line_meaning, parse_by_shape}
 use Rattle.rc_lines.specs.Lines.{pieces_said, cells_said, parts_said, change_said, command_line, AreComponents, AreStamped, HasOneStamp, IsSayableRow, IsSayableWrite, IsSayableCommand}
 use Rattle.rc_lines.specs.Parts.{without_front, stamp_of, key_of, pieces_of}
@@ -47,8 +47,8 @@ use Rattle.rc_lines.specs.calls.ShapeParts.{tomb_of, named_cells, some_cells_of,
 use Rattle.rc_lines.specs.Plain.{IsCount}
 use Rattle.rc_lines.specs.Sayable.{stamped, shape_line, IsStamped, IsStampInRange}
 use Rattle.rc_lines.specs.calls.Shapes.{row_change, inserted, update_change, removed, deleted, range_deleted, partition_deleted, static_set, static_removed, insert_of, update_of, unset_of, delete_of, delrange_of, delpart_of, static_change, unstatic_of, cell_change_of, deletion_of, change_of, write_of, open_shape, open_of, bare_of, begin_of, told_of, numbered_of, read_of, step_of, counted_of, plain_of, shape_of}
-use Rattle.rc_lines.specs.UnderSchema.{component_of, prefix_of, key_under, slice_between, is_partition_key}
-use Rattle.rc_lines.specs.calls.ShapeMeaning.{is_short_slice, slice_under, cell_named, columns_from, by_column, key_said, slice_said, is_short_change, has_wrong_key, has_unknown_column, is_within, mutation_of, refusal_of, command_of, meaning}
+use Rattle.rc_lines.specs.UnderSchema.{component_of, prefix_of, slice_between, is_partition_key}
+use Rattle.rc_lines.specs.calls.ShapeMeaning.{key_under, is_short_slice, slice_under, cell_named, columns_from, by_column, key_said, slice_said, is_short_change, has_wrong_key, has_unknown_column, is_within, mutation_of, refusal_of, command_of, meaning}
 use Rattle.rc_lines.specs.laws.ByShape.{by_shape}
 use Rattle.rc_lines.specs.laws.Fitting.{columns_ascend}
 use Rattle.rc_lines.specs.laws.FittingCommands.{commands_fit, is_less, line_cases, no_cause, same_command}
@@ -305,7 +305,6 @@ unwrapped P None other p q = q
 unwrapped P (Some x) other p q = p
 
 key_heard_under : (pieces : List (List ℕ)) (schema : SchemaValue) → AreAllBytes pieces → AreComponents (key_said pieces schema)
-unfolding key_under
 key_heard_under pieces schema are =
     unwrapped AreComponents (key_under pieces schema.ck) [] (chosen AreComponents (length pieces == length schema.ck) (prefix_of pieces schema.ck) None (prefix_heard_under pieces schema.ck are) tt) tt
 
@@ -471,7 +470,7 @@ said_heard schema line None command are e fits h = shape_meaning_heard schema (s
 shape_commands_sayable : (schema : SchemaValue) (line : List ℕ) (command : Command) → AreBytes line → CommandFits schema command → parse_by_shape (Some schema) line ≡ Ok command → HasLine schema command
 unfolding parse_by_shape
 shape_commands_sayable schema line command are fits h =
-    line_cases (HasLine schema) (nat_lt longest_line (length line)) (is_comment line) (line_meaning (Some schema) line (schema_said line)) command (tt, refl)
+    line_cases (HasLine schema) (nat_lt 65536 (length line)) (is_comment line) (line_meaning (Some schema) line (schema_said line)) command (tt, refl)
     (said_heard schema line (schema_said line) command are refl fits) h
 
 -- each command that a line of bytes gives is one that one line can say, and has a line
