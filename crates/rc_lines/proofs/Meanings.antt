@@ -10,6 +10,7 @@ use Rattle.rc_lines.specs.declared.commands.Command.TheVariants.{Put}
 use Rattle.rc_lines.specs.declared.commands.Refusal.{Refusal}
 use Rattle.rc_lines.specs.declared.commands.Refusal.TheVariants.{WrongKey, UnknownColumn, TooLong}
 use Rattle.rc_lines.specs.declared.shapes.Change.{Change}
+use Rattle.rc_lines.specs.declared.shapes.Shape.TheVariants.{Written}
 use Rattle.rc_lines.specs.UnderSchema.{is_partition_key}
 use Rattle.rc_lines.specs.calls.ShapeMeaning.{is_wrong_change, is_unknown_change, is_short_change, mutation_of, refusal_of, unless, change_meaning, meaning}
 
@@ -29,6 +30,8 @@ cases false false true false m key = refl
 cases false false false true m key = refl
 cases false false false false m key = refl
 
+pub write_told : (schema : SchemaValue) (key : List ℕ) (change : Change) →
+    meaning schema (Written key change) ≡ told (change_meaning schema change) (if is_partition_key key then Some key else None)
 unfolding meaning refusal_of change_meaning
 write_told schema key change =
     cases (is_wrong_change schema change) (is_unknown_change schema change) (is_short_change schema change) (is_partition_key key) (mutation_of schema change) key

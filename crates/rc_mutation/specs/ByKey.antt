@@ -164,6 +164,8 @@ sorted-joined_rows es = sorted-each (λ k. joined_row (rows_at k es)) (map.entri
 pub rows_at-joined_rows : (q : List Comp) (es : KeyedRows) → rows_at q (joined_rows es) ≡ option_to_list (joined_if_any (rows_at q es))
 rows_at-joined_rows q es = rows_at-ascending q (joined_rows es) (sorted-joined_rows es) ∙ ap option_to_list (find-joined_rows q es)
 
+-- joined rows have the same keys
+pub keys_of-joined_rows : (es : KeyedRows) → keys_of (joined_rows es) ≡ keys es
 unfolding joined_rows
 keys_of-joined_rows es = keys_of-each (λ k. joined_row (rows_at k es)) (keys es)
 

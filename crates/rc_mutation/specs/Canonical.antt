@@ -1,7 +1,7 @@
 -- The rows and changes of tombstone of a partition, one after another: the rule that each of them meets behind what stands before it.
 --     IsCanonicalList     rows and changes that meet the rule, behind a place with a tombstone in force
 --     IsMutationOf        a mutation has a partition tombstone, a static row, and such rows and changes
-use Rattle.std.specs.Prelude.{◌≡◌, ◌≢◌, All, List, [], ◌∷◌, ◌++◌, Option, Some, None, IfSome, IsTrue}
+use Rattle.std.specs.Prelude.{◌≡◌, ◌≢◌, All, List, [], ◌∷◌, ◌++◌, Option, Some, None, IfSome, IsTrue, map as list_map}
 use Rattle.rc_cell.specs.declared.rows.Row.{Row}
 use Rattle.rc_cell.specs.declared.writes.Tomb.{Tomb}
 use Rattle.rc_cell.specs.Columns.{ascending}

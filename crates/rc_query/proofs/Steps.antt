@@ -2,6 +2,8 @@
 use Rattle.std.proofs.Common.{◌≡◌, ℕ, ◌+◌, ◌<◌, Bool, true, ◌||◌, List, [], ◌∷◌, ◌++◌, Option, Some, None, cond, length, take, get_or, refl, sym, ap, ◌∙◌, append-nil, append_assoc, arith}
 use Rattle.std.specs.Prelude.{IsTrue, not, ◌==◌, suc}
 use Rattle.std.specs.declared.cmp.Ordering.{Ordering}
+use Rattle.std.specs.declared.cmp.Ordering.TheVariants.{Less, Equal, Greater}
+use Rattle.std.specs.Ordering.{is_ge, is_le, ordering_reverse}
 use Rattle.std.specs.Option.{option_to_list}
 use Rattle.std.specs.List.{filter_map, list_any, cons_option}
 use Rattle.std.proofs.lemmas.Bool.Decides.{nat_tests}
@@ -18,6 +20,8 @@ use Rattle.rc_cell.specs.ByColumn.{winners-ascending}
 use Rattle.rc_cell.specs.Winner.{winners}
 use Rattle.rc_position.specs.declared.comps.Comp.{Comp}
 use Rattle.rc_position.specs.declared.positions.Pos.{Pos}
+use Rattle.rc_position.specs.Position.{pos_cmp}
+use Rattle.rc_position.specs.laws.Orders.{pos_cmp_total}
 use Rattle.rc_query.specs.declared.lines.OutLine.TheVariants as line
 use Rattle.rc_mutation.specs.Fragments.{has_any}
 use Rattle.rc_query.specs.Answer.{line_of, live_values, static_line}
@@ -64,3 +68,17 @@ static_line-ascending head row values h is =
 
 not_zero : (n : ℕ) → not (suc n == 0) ≡ true
 not_zero n = grind (arith, nat_tests)
+
+-- whether a list is empty
+pub has_any-length : {X : Type 0} (xs : List X) → not (length xs == 0) ≡ has_any xs
+has_any-length [] = refl
+has_any-length (x ∷ xs) = not_zero (length xs)
+
+reversed_ge : (r : Ordering) → is_ge (ordering_reverse r) ≡ is_le r
+reversed_ge Less = refl
+reversed_ge Equal = refl
+reversed_ge Greater = refl
+
+-- a position stands behind another, or at it, where that one stands before it, or at it
+pub turned_ge : (x y : Pos) → is_ge (pos_cmp x y) ≡ is_le (pos_cmp y x)
+turned_ge x y = ap is_ge (pos_cmp_total.antisymm x y) ∙ reversed_ge (pos_cmp y x)

@@ -1,5 +1,5 @@
 -- The first of some pieces, where all of them are components.
-use Rattle.std.proofs.Common.{◌≡◌, ℕ, suc, zero, true, false, List, [], ◌∷◌, take, drop, map, Option, Some, None, refl, ap, sym, ◌∙◌, ◌≤◌, length, arith}
+use Rattle.std.proofs.Common.{◌≡◌, ℕ, suc, zero, Bool, true, false, List, [], ◌∷◌, take, drop, map, Option, Some, None, refl, ap, sym, ◌∙◌, ◌≤◌, length, arith}
 use Rattle.std.specs.Option.{option_map, option_and_then, is_some}
 use Rattle.std.proofs.lemmas.List.{take-map, drop-map, length-map}
 use Rattle.rc_spelling.specs.Spelling.{component_spelled, pieces_spelled}
@@ -61,6 +61,18 @@ ahead : (o : Option (List ℕ)) (p : Option (List (List ℕ))) → is_some o ≡
 ahead None p h = cc
 ahead (Some component) None h = refl
 ahead (Some component) (Some components) h = refl
+
+not_ahead : (o : Option (List ℕ)) (p : Option (List (List ℕ))) → is_some o ≡ false → is_some (option_and_then (λ component. option_map (λ components. component ∷ components) p) o) ≡ false
+not_ahead None p h = refl
+not_ahead (Some component) p h = cc
+
+-- a component before others
+pub component_ahead : (piece : List ℕ) (pieces : List (List ℕ)) → is_some (component_spelled piece) ≡ true → is_some (pieces_spelled (piece ∷ pieces)) ≡ is_some (pieces_spelled pieces)
+component_ahead piece pieces h = ahead (component_spelled piece) (pieces_spelled pieces) h
+
+-- what is no component before others
+pub none_ahead : (piece : List ℕ) (pieces : List (List ℕ)) → is_some (component_spelled piece) ≡ false → is_some (pieces_spelled (piece ∷ pieces)) ≡ false
+none_ahead piece pieces h = not_ahead (component_spelled piece) (pieces_spelled pieces) h
 
 -- the same of what is seen of the pieces
 pub first_seen : {X : Type 0} (f : X → List ℕ) (n : ℕ) (xs front back : List X) → front ≡ take n xs → back ≡ drop n xs → is_some (pieces_spelled (map f back)) ≡ true
