@@ -58,11 +58,3 @@ abbrev pub tomb_in_force : ItemsBefore → Option Tomb
 tomb_in_force (ChangeItem x tomb ∷ before) = tomb
 tomb_in_force (RowItem key row ∷ before) = tomb_in_force before
 tomb_in_force before = None
-
--- a partition's key is greater than the one before, and a fragment's position than that of the fragment before
-abbrev pub IsNextKey : ItemsBefore → List ℕ → Type 0
-IsNextKey before key = IfSome (last_key before) (λ last. bytes_cmp last key ≡ Less)
-
--- the position comes after the last one
-abbrev pub IsNextPos : ItemsBefore → Pos → Type 0
-IsNextPos before x = IfSome (last_pos before) (λ last. IsBefore last x)
