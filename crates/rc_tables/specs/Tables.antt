@@ -2,7 +2,7 @@
 --     HoldsTables     the tables of a set are those of these partitions, and their files have these texts
 --     changes_at      what the tables say of a key, in the tables' order
 --     IsStreamAt      a stream is that of the join of all that the tables say of a key
-use Rattle.std.specs.Prelude.{◌≡◌, ◌⊎◌, ℕ, ◌≤◌, Bool, IsTrue, List, [], ◌∷◌, ◌++◌, length, drop, map as list_map, filter, All, Option, ⊤}
+use Rattle.std.specs.Prelude.{◌≡◌, ◌⊎◌, ℕ, ◌≤◌, IsTrue, List, [], ◌∷◌, ◌++◌, length, drop, map as list_map, filter, All, Option, ⊤}
 use Rattle.std.specs.Ordering.{eq_by_cmp}
 use Rattle.std.specs.List.{flat_map, list_any, AllByRecursion}
 use Rattle.std.specs.FinMap.{is_sorted}

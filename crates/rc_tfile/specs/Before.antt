@@ -1,9 +1,8 @@
 -- What stands before an item: the items from the nearest one back to the head, and what they determine.
-use Rattle.std.specs.Prelude.{◌≡◌, ℕ, List, [], ◌∷◌, ◌++◌, length, Option, Some, None, IfSome}
-use Rattle.std.specs.declared.cmp.Ordering.TheVariants.{Less}
+use Rattle.std.specs.Prelude.{ℕ, List, [], ◌∷◌, ◌++◌, length, Option, Some, None}
 use Rattle.rc_cell.specs.declared.writes.Tomb.{Tomb}
 use Rattle.rc_position.specs.declared.positions.Pos.{Pos}
-use Rattle.rc_position.specs.Position.{bytes_cmp, row_pos, IsBefore}
+use Rattle.rc_position.specs.Position.{row_pos}
 use Rattle.rc_tfile.specs.Items.{Item, HeadItem, PartItem, RowItem, ChangeItem, EndItem, StopItem, EntryItem, BlockItem, TailItem, item_code}
 
 -- items, the nearest first

@@ -6,7 +6,7 @@ use Rattle.rc_mutation.specs.declared.mutations.Partition.{Partition}
 use Rattle.rc_tfile.specs.declared.info.PartRef.{PartRef}
 use Rattle.rc_tfile.specs.declared.info.TableInfo.{TableInfo}
 use Rattle.rc_tfile.specs.Items.{item_code}
-use Rattle.rc_tfile.specs.Before.{ItemsBefore, offset}
+use Rattle.rc_tfile.specs.Before.{offset}
 use Rattle.rc_tfile.specs.Blocks.{DirectoryEntry, entry_items, entries}
 use Rattle.rc_tfile.specs.TableText.{items_to_stop}
 
