@@ -7,7 +7,7 @@ use Rattle.std.specs.Io.KnownBytes.{Appends, Consumes, Keeps, IsAtEnd}
 use Rattle.std.proofs.KnownBytes.{Appends-trans, Appends-nil, Consumes-trans, Consumes-nil, Consumes-kept}
 use Rattle.rc_outside.specs.Faults.{Rose}
 use Rattle.rc_shell.specs.Lines.{IsLine, last_line}
-use Rattle.rc_shell.specs.Run.{IsWhole, IsWritten, Answers, Served, WasRead, Due, Ran, EndedBecause, piece_size}
+use Rattle.rc_shell.specs.Run.{IsWhole, IsWritten, Answers, Served, Due, Ran, EndedBecause}
 use Rattle.rc_shell.specs.calls.Feed.{FaultsAfter, DueOfLine, DueOfBytes, ServedLine, ServedLast, Serves, SoFar, EndedBy, kept}
 use Rattle.rc_shell.specs.Status.{status_of}
 use Rattle.rc_shell.specs.declared.status.Ending.TheVariants.{BadTable, StoreFault}
@@ -86,20 +86,20 @@ module _ {State Seen : Type 0} (Step : State → List ℕ → List ℕ → State
 
   -- what is due for bytes, behind whole lines and an unfinished one, is due for the run
   due_run : (start now : State) (limit : ℕ) (left : Option (List ℕ)) (taken rest bytes : List ℕ) (after : Seen) (texts : List (List ℕ)) → Served Step start taken texts rest now → IsLine rest
-      → length bytes ≤ piece_size → length (taken ++ bytes) ≤ limit
+      → length bytes ≤ 65536 → length (taken ++ bytes) ≤ limit
       → (s : Status) (ps : List (List ℕ)) → DueOfBytes Step Ends Leaves now (rest ++ bytes) after s ps → Due Step Ends Leaves (Run segments) start limit left (taken ++ bytes) after s (texts ++ ps)
   due_run start now limit left taken rest bytes after texts p line small few statuses.NoMemory ps d =
       (d.0, d.1, Served-append Step start now d.1 [] taken bytes texts ps rest d.0 p d.2, few, near_cut rest bytes d.2.0 d.0 line small d.2.1, d.3)
   due_run start now limit left taken rest bytes after texts p line small few statuses.BadTable ps d =
-      (d.0, ended_behind Step Ends Leaves (WasRead Step Ends Leaves limit left (taken ++ bytes)) start now [] taken bytes rest texts after p statuses.BadTable ps d.0 d.1, few, near_cut rest bytes d.1.4.0 d.0 line small d.1.4.1)
+      (d.0, ended_behind Step Ends Leaves (IsAtEnd left × (length (taken ++ bytes) < limit)) start now [] taken bytes rest texts after p statuses.BadTable ps d.0 d.1, few, near_cut rest bytes d.1.4.0 d.0 line small d.1.4.1)
   due_run start now limit left taken rest bytes after texts p line small few statuses.StoreFault ps d =
-      (d.0, ended_behind Step Ends Leaves (WasRead Step Ends Leaves limit left (taken ++ bytes)) start now [] taken bytes rest texts after p statuses.StoreFault ps d.0 d.1, few, near_cut rest bytes d.1.4.0 d.0 line small d.1.4.1)
+      (d.0, ended_behind Step Ends Leaves (IsAtEnd left × (length (taken ++ bytes) < limit)) start now [] taken bytes rest texts after p statuses.StoreFault ps d.0 d.1, few, near_cut rest bytes d.1.4.0 d.0 line small d.1.4.1)
   due_run start now limit left taken rest bytes after texts p line small few s ps d = absurd d
 
   -- bytes were served in part
   pub stopped : (start : State) (limit : ℕ) (At Next : State → Type 0) (held held' : List ℕ) (count n : ℕ) (left mid left' written between written' : Option (List ℕ)) (after : Seen) (i i1 i2 o o1 o2 : ℕ) (bytes : List ℕ) (stop : Stop)
       → SoFar Step Ends Leaves start At held count left mid written between i i1 o o1
-      → Consumes mid left' bytes → length bytes ≡ n → count + n ≤ limit → length bytes ≤ piece_size → i2 ≡ i1
+      → Consumes mid left' bytes → length bytes ≡ n → count + n ≤ limit → length bytes ≤ 65536 → i2 ≡ i1
       → ((rest : List ℕ) (now : State) → IsLine rest → held ≡ kept rest → At now → Serves Step Ends Leaves now rest bytes Next held' after between written' o1 o2 (Err stop))
       → Ran Step Ends Leaves (Run segments) start limit (status_of stop) left left' written written' after i i2 o o2
   stopped start limit At Next held held' count n left mid left' written between written' after i i1 i2 o o1 o2 bytes stop s took many few small same serves =
@@ -211,7 +211,7 @@ module _ {State Seen : Type 0} (Step : State → List ℕ → List ℕ → State
 
   -- what is due for the last line is due for the run
   due_last : (start now : State) (limit : ℕ) (left : Option (List ℕ)) (taken rest : List ℕ) (after : Seen) (texts : List (List ℕ)) (stop : Stop) → Served Step start taken texts rest now → IsLine rest → length taken ≤ limit
-      → WasRead Step Ends Leaves limit left taken → (ps : List (List ℕ)) → DueOfLine Step Ends Leaves now rest after (status_of stop) ps
+      → IsAtEnd left × (length taken < limit) → (ps : List (List ℕ)) → DueOfLine Step Ends Leaves now rest after (status_of stop) ps
       → Due Step Ends Leaves (Run segments) start limit left taken after (status_of stop) (texts ++ ps)
   due_last start now limit left taken rest after texts NoMemory s line most read ps d =
       (rest, now, subst (λ ts. Served Step start taken ts rest now) (sym (append-nil texts) ∙ ap (λ t. texts ++ t) (sym d.1)) s, most, near_line rest line, d.0)
@@ -222,7 +222,7 @@ module _ {State Seen : Type 0} (Step : State → List ℕ → List ℕ → State
       (rest, (texts, now, rest, d.0, s, (line, inr (refl, read)), d.1, ap (λ t. texts ++ t) d.2), most, near_line rest line)
 
   due_last_cut : (start now : State) (limit : ℕ) (left : Option (List ℕ)) (taken rest : List ℕ) (after : Seen) (texts : List (List ℕ)) → rest ≢ [] → Served Step start taken texts rest now → IsLine rest → length taken ≤ limit
-      → WasRead Step Ends Leaves limit left taken → (s : Status) (ps : List (List ℕ)) → DueOfLine Step Ends Leaves now rest after s ps → (t : Status) × Due Step Ends Leaves (Run segments) start limit left taken after t (texts ++ ps)
+      → IsAtEnd left × (length taken < limit) → (s : Status) (ps : List (List ℕ)) → DueOfLine Step Ends Leaves now rest after s ps → (t : Status) × Due Step Ends Leaves (Run segments) start limit left taken after t (texts ++ ps)
   due_last_cut start now limit left taken rest after texts some s line most read statuses.Done ps d = (
     statuses.Done,
     (
