@@ -15,6 +15,10 @@ use Rattle.rc_lines.specs.Forms.{forms}
 use Rattle.rc_lines.specs.Parts.{without_front}
 use Rattle.rc_lines.specs.UnderSchema.{need}
 
+-- the longest line, in bytes, without its newline
+abbrev pub longest_line : ℕ
+longest_line = 65536
+
 -- whether a line is empty or a comment
 abbrev pub is_comment : List ℕ → Bool
 is_comment [] = true
@@ -24,11 +28,11 @@ is_comment (first ∷ rest) = first == 35
 unfoldable pub schema_said : List ℕ → Option SchemaValue
 schema_said line = option_and_then (λ text. schema_of_words (words text)) (without_front (codes "schema ") line)
 
--- what a line commands under the schema that was taken, if one was, or why it is refused: a line is bad of more than 65536 bytes without its newline; one that is no schema line, empty or a comment is bad where its words
+-- what a line commands under the schema that was taken, if one was, or why it is refused: one that is too long is bad, and one that is no schema line, empty or a comment is bad where its words
 -- have none of the forms, and else needs a schema, under which it says what the first of them says that they have
 unfoldable pub parse : Option SchemaValue → List ℕ → Result Command Refusal
 parse taken line =
-    if nat_lt 65536 (length line) then Err BadLine
+    if nat_lt longest_line (length line) then Err BadLine
     else if is_comment line then Ok Nothing
     else option_map_or (λ schema. Ok (SetSchema schema)) (schema_said line) (need (slice_get (filter_map (λ form. form (words line)) forms) 0) BadLine (λ saying. need taken NoSchema saying))
 

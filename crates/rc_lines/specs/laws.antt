@@ -23,21 +23,21 @@ use Rattle.std.proofs.Common.{refl, sym, subst, ap, ◌∙◌, arith}
 use Rattle.std.proofs.lemmas.List.{length-take, take_all}
 use Rattle.std.proofs.lemmas.Bool.Decides.{nat_tests}
 use Rattle.rc_schema.specs.SchemaValue.{SchemaValue}
-use Rattle.rc_lines.specs.Grammar.{parse}
+use Rattle.rc_lines.specs.Grammar.{longest_line, parse}
 use Rattle.rc_lines.specs.declared.commands.Refusal.TheVariants.{BadLine}
 
 front_is_long : (n : ℕ) (line : List ℕ) → n < length line → n < length (take (n + 1) line)
 front_is_long n line long = omega (arith, length-take (n + 1) line)
 
 -- a line that is too long is a bad line, whatever it begins with
-pub long_line : (taken : Option SchemaValue) (line : List ℕ) → nat_lt 65536 (length line) ≡ true → parse taken line ≡ Err BadLine
+pub long_line : (taken : Option SchemaValue) (line : List ℕ) → nat_lt longest_line (length line) ≡ true → parse taken line ≡ Err BadLine
 unfolding parse
 long_line taken line long = rw long refl
 
-at_limit : (n : ℕ) → n ≡ 65536 → (line : List ℕ) → nat_lt n (length line) ≡ true → nat_lt 65536 (length line) ≡ true
+at_limit : (n : ℕ) → n ≡ longest_line → (line : List ℕ) → nat_lt n (length line) ≡ true → nat_lt longest_line (length line) ≡ true
 at_limit n e line long = subst (λ (m : ℕ). nat_lt m (length line) ≡ true) e long
 
-cut_at : (n : ℕ) → n ≡ 65536 → (taken : Option SchemaValue) (line : List ℕ) → parse taken (take (n + 1) line) ≡ parse taken line
+cut_at : (n : ℕ) → n ≡ longest_line → (taken : Option SchemaValue) (line : List ℕ) → parse taken (take (n + 1) line) ≡ parse taken line
 cut_at n e taken line =
     elim (nat_lt n (length line)) as (λ b. nat_lt n (length line) ≡ b → parse taken (take (n + 1) line) ≡ parse taken line) [
       | true ↦ λ t. (let short : n < length line = grind (arith, nat_tests) in

@@ -17,7 +17,7 @@ ghost use Rattle.rc_lines.specs.declared.commands.Command.{Command};
 ghost use Rattle.rc_lines.specs.declared.commands.Command.TheVariants.{Put};
 ghost use Rattle.rc_lines.specs.declared.shapes.Shape.{Shape};
 ghost use Rattle.rc_lines.specs.Fits.{CommandFits};
-ghost use Rattle.rc_lines.specs.Grammar.{parse};
+ghost use Rattle.rc_lines.specs.Grammar.{longest_line, parse};
 ghost use Rattle.rc_lines.specs.calls.ByShape.{parse_by_shape, shape_meaning};
 ghost use Rattle.rc_lines.specs.Lines.{AreComponents, AreValues, IsPartitionKey, IsSayableCommand, command_line, dead_row, delete_text, delpart_text, insert_text, live_row};
 ghost use Rattle.rc_lines.specs.Plain.{HasCounts, plain_line};
@@ -28,7 +28,7 @@ use crate::reading::LONGEST_LINE;
 
 /// The constant is the grammar's number.
 pub fn longest_line_is_named()
-    ensures { LONGEST_LINE ≡ 65536 }
+    ensures { LONGEST_LINE ≡ longest_line }
 {}
 
 /// A line means by the form of its words what it means by their shape, by which it is read.
@@ -62,7 +62,7 @@ pub fn sayable_lines_read_back()
 
 /// The line of what one line can say commands what it means under the schema that was taken, if one was, where it is not too long.
 pub fn sayable_lines_are_meant()
-    ensures { (taken : Option SchemaValue) (shape : Shape) (line : List ℕ) → shape_line shape ≡ Some line → IsSayable shape → length line ≤ 65536 →
+    ensures { (taken : Option SchemaValue) (shape : Shape) (line : List ℕ) → shape_line shape ≡ Some line → IsSayable shape → length line ≤ longest_line →
         parse taken line ≡ shape_meaning taken (Some shape) }
 {}
 

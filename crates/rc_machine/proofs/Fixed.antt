@@ -12,7 +12,7 @@ use Rattle.rc_lines.specs.declared.commands.Refusal.TheVariants.{NoReader, Reade
 use Rattle.rc_lines.specs.declared.commands.Reply.{Reply}
 use Rattle.rc_lines.specs.declared.commands.Reply.TheVariants as replies
 use Rattle.rc_machine.specs.State.{State, Reader, numbers, reader_of}
-use Rattle.rc_machine.specs.Steps.{Steps, AfterSteps, Refuses, Opens, Gives, Stores, is_of, next_number, with_table, without_sealed}
+use Rattle.rc_machine.specs.Steps.{Steps, AfterSteps, Refuses, Opens, Gives, Stores, is_of, most_readers, last_number, next_number, with_table, without_sealed}
 
 abbrev Readers : Type 0
 Readers = List (ℕ × Reader)
@@ -109,11 +109,11 @@ fixed m id r (SetSchema schema) reply new e h (inl s) = still m new id r reply e
 fixed m id r (SetSchema schema) reply new e h (inr s) = still m new id r reply e s.1.1
 fixed m id r (Put w) reply new e h (inl s) = stays m new id r reply e (ap (λ (m : State). m.readers) s.1)
 fixed m id r (Put w) reply new e h (inr s) = still m new id r reply e s.1.1
-fixed m id r (OpenRead other key slice) reply new e h s = tries m new id r reply e other key slice (reader_of other m) (nat_lt (length m.readers) 64) s
+fixed m id r (OpenRead other key slice) reply new e h s = tries m new id r reply e other key slice (reader_of other m) (nat_lt (length m.readers) most_readers) s
 fixed m id r (Read other count) reply new e h s = read m new id r reply e other count (reader_of other m) h s
 fixed m id r (Close other) reply new e h s = shut m new id r reply e other (reader_of other m) h s
-fixed m id r Flush reply new e h s = flushed m new id r reply e without_sealed (λ m. refl) m.written (m.stored == length m.log) (nat_lt 4294967295 (next_number (numbers m.tables))) s
-fixed m id r FlushBegin reply new e h s = flushed m new id r reply e (λ m. m) (λ m. refl) m.written (m.stored == length m.log) (nat_lt 4294967295 (next_number (numbers m.tables))) s
+fixed m id r Flush reply new e h s = flushed m new id r reply e without_sealed (λ m. refl) m.written (m.stored == length m.log) (nat_lt last_number (next_number (numbers m.tables))) s
+fixed m id r FlushBegin reply new e h s = flushed m new id r reply e (λ m. m) (λ m. refl) m.written (m.stored == length m.log) (nat_lt last_number (next_number (numbers m.tables))) s
 fixed m id r (FlushStep count) reply new e h s = stepped m new id r reply e m.written (nat_lt count m.left) (m.left - count) s
 fixed m id r (Evict count) reply new e h s = still m new id r reply e s.1
 fixed m id r (Compact count) reply new e h s = still m new id r reply e s.1

@@ -37,6 +37,14 @@ use Rattle.rc_lines.specs.declared.commands.Refusal.TheVariants.{SchemaDiffers, 
 use Rattle.rc_machine.specs.State.{State, Reader, numbers, unstored, reader_of}
 use Rattle.rc_machine.specs.Room.{MayBeFull}
 
+-- at most so many readers are open at once
+abbrev pub most_readers : ℕ
+most_readers = 64
+
+-- the greatest number of a table
+abbrev pub last_number : ℕ
+last_number = 4294967295
+
 -- one more than the last of tables' numbers, or 1
 abbrev pub next_number : List ℕ → ℕ
 next_number ns = fold (λ last n. n) 0 ns + 1
@@ -106,18 +114,18 @@ without_sealed m = record m { stored = m.sealed; written = false; left = 0 }
 abbrev pub Stores : State → (State → State) → Reply → State → Type 0
 Stores m on reply new = ((parts : List Partition) × IsFlushed m parts × Does (on (with_table m parts)) reply new) ⊎ Refuses (record m { sealed = sealing m }) WriteFault reply new
 
--- a flush begins: none is in progress, there is something to flush, and a number for its table, of which the greatest is 2^32 - 1
+-- a flush begins: none is in progress, there is something to flush, and a number for its table
 abbrev pub Flushes : State → (State → State) → Reply → State → Type 0
 Flushes m on reply new = MatchBool m.written (Refuses m FlushInProgress reply new) (MatchBool (m.stored == length m.log) (Refuses m NothingToFlush reply new)
-    (MatchBool (nat_lt 4294967295 (next_number (numbers m.tables))) (Refuses m NoNumber reply new) (Stores m on reply new)))
+    (MatchBool (nat_lt last_number (next_number (numbers m.tables))) (Refuses m NoNumber reply new) (Stores m on reply new)))
 
--- from a state a command may be answered by the reply, and the other state is next; at most 64 readers are open at once
+-- from a state a command may be answered by the reply, and the other state is next
 abbrev pub Steps : State → Command → Reply → State → Type 0
 Steps m Nothing reply new = (reply ≡ replies.Nothing) × (new ≡ m)
 Steps m (SetSchema schema) reply new = ((m.schema ≡ schema) × Does m reply new) ⊎ ((m.schema ≢ schema) × Refuses m SchemaDiffers reply new)
 Steps m (Put w) reply new = Does (record m { log = m.log ++ w ∷ [] }) reply new ⊎ (MayBeFull m w × Refuses m Full reply new)
 Steps m (OpenRead id key slice) reply new =
-    MatchOption (reader_of id m) (MatchBool (nat_lt (length m.readers) 64) (Opens m id key slice reply new) (Refuses m TooManyReaders reply new)) (λ r. Refuses m ReaderInUse reply new)
+    MatchOption (reader_of id m) (MatchBool (nat_lt (length m.readers) most_readers) (Opens m id key slice reply new) (Refuses m TooManyReaders reply new)) (λ r. Refuses m ReaderInUse reply new)
 Steps m (Read id count) reply new = MatchOption (reader_of id m) (Refuses m NoReader reply new) (λ r. Gives m id count r reply new)
 Steps m (Close id) reply new = MatchOption (reader_of id m) (Refuses m NoReader reply new) (λ r. Does (record m { readers = filter (λ reader. not (reader.0 == id)) m.readers }) reply new)
 Steps m Flush reply new = Flushes m without_sealed reply new

@@ -4,6 +4,7 @@ use Rattle.std.specs.List.{position, position_or_len}
 use Rattle.std.specs.Map.{lookup, set_value}
 use Rattle.std.proofs.lemmas.Bool.Decides.{nat_tests}
 use Rattle.rc_query.specs.declared.lines.OutLine.{OutLine}
+use Rattle.rc_machine.specs.Steps.{most_readers}
 
 abbrev pub Readers : Type 0
 Readers = List (ℕ × List OutLine)
@@ -92,8 +93,8 @@ open_none readers id None e none = place_none readers id (sym e)
 open_none readers id (Some at) e none = absurd (cc)
 
 -- whether as many readers are open as may be
-pub fewer : (n : ℕ) → n < 64 → nat_lt n 64 ≡ true
+pub fewer : (n : ℕ) → n < most_readers → nat_lt n most_readers ≡ true
 fewer n h = grind (arith, nat_tests, h)
 
-pub as_many : (n : ℕ) → 64 ≤ n → nat_lt n 64 ≡ false
+pub as_many : (n : ℕ) → most_readers ≤ n → nat_lt n most_readers ≡ false
 as_many n h = grind (arith, nat_tests, h)

@@ -29,7 +29,7 @@ use Rattle.rc_lines.specs.declared.commands.Reply.{Reply}
 use Rattle.rc_lines.specs.declared.commands.Reply.TheVariants as replies
 use Rattle.rc_lines.specs.declared.commands.Refusal.TheVariants.{NoReader, ReaderInUse, TooManyReaders, ReadFault, Damaged}
 use Rattle.rc_machine.specs.State.{State, Reader, Table, unstored}
-use Rattle.rc_machine.specs.Steps.{reader_with, reader_past, sealing}
+use Rattle.rc_machine.specs.Steps.{most_readers, reader_with, reader_past, sealing}
 use Rattle.rc_machine.specs.Serving.{Takes}
 use Rattle.rc_plain.specs.Stands.{Keeping, Stands, rests}
 use Rattle.rc_plain.specs.calls.Answering.{IsAnswer}
@@ -137,19 +137,19 @@ pub takes_in_use : (files : Option Files) (k : Keeping) (id : ℕ) (key : List �
     → Takes Stands files k (OpenRead id key slice) (replies.Refused ReaderInUse) files k
 takes_in_use files k id key slice rest e = λ m s. (m, rw ((open_some files k m id rest s e).1) (refl, refl), s)
 
-pub takes_too_many : (files : Option Files) (k : Keeping) (id : ℕ) (key : List ℕ) (slice : Slice) → lookup (λ q. q == id) k.readers ≡ None → 64 ≤ length k.readers
+pub takes_too_many : (files : Option Files) (k : Keeping) (id : ℕ) (key : List ℕ) (slice : Slice) → lookup (λ q. q == id) k.readers ≡ None → most_readers ≤ length k.readers
     → Takes Stands files k (OpenRead id key slice) (replies.Refused TooManyReaders) files k
 takes_too_many files k id key slice e many = λ m s.
-    (m, rw (open_none files k m id s e, as_many (length m.readers) (subst (λ n. 64 ≤ n) (sym (count_is files k m s)) many)) (refl, refl), s)
+    (m, rw (open_none files k m id s e, as_many (length m.readers) (subst (λ n. most_readers ≤ n) (sym (count_is files k m s)) many)) (refl, refl), s)
 
-few : (files : Option Files) (k : Keeping) (m : State) → Stands files k m → length k.readers < 64 → nat_lt (length m.readers) 64 ≡ true
-few files k m s h = fewer (length m.readers) (subst (λ n. n < 64) (sym (count_is files k m s)) h)
+few : (files : Option Files) (k : Keeping) (m : State) → Stands files k m → length k.readers < most_readers → nat_lt (length m.readers) most_readers ≡ true
+few files k m s h = fewer (length m.readers) (subst (λ n. n < most_readers) (sym (count_is files k m s)) h)
 
-pub takes_fault : (files : Option Files) (k : Keeping) (id : ℕ) (key : List ℕ) (slice : Slice) → lookup (λ q. q == id) k.readers ≡ None → length k.readers < 64
+pub takes_fault : (files : Option Files) (k : Keeping) (id : ℕ) (key : List ℕ) (slice : Slice) → lookup (λ q. q == id) k.readers ≡ None → length k.readers < most_readers
     → Takes Stands files k (OpenRead id key slice) (replies.Refused ReadFault) files k
 takes_fault files k id key slice e h = λ m s. (m, rw (open_none files k m id s e, few files k m s h) (inr (inl (refl, refl))), s)
 
-pub takes_damaged : (files : Option Files) (k : Keeping) (id : ℕ) (key : List ℕ) (slice : Slice) (file offset : ℕ) → lookup (λ q. q == id) k.readers ≡ None → length k.readers < 64
+pub takes_damaged : (files : Option Files) (k : Keeping) (id : ℕ) (key : List ℕ) (slice : Slice) (file offset : ℕ) → lookup (λ q. q == id) k.readers ≡ None → length k.readers < most_readers
     → files ≡ None → IsDamageOf k.schema key k.infos (stream_err.Damaged file offset) → Takes Stands files k (OpenRead id key slice) (replies.Refused (Damaged file offset)) files k
 takes_damaged files k id key slice file offset e h none damage = λ m s.
     let damaged : IsDamageOf m.schema key m.infos (stream_err.Damaged file offset) =
@@ -159,7 +159,7 @@ takes_damaged files k id key slice file offset e h none damage = λ m s.
 
 -- ---- readers
 
-pub takes_open : (files : Option Files) (k : Keeping) (id : ℕ) (key : List ℕ) (slice : Slice) (lines : List OutLine) (readers : Readers) → lookup (λ q. q == id) k.readers ≡ None → length k.readers < 64
+pub takes_open : (files : Option Files) (k : Keeping) (id : ℕ) (key : List ℕ) (slice : Slice) (lines : List OutLine) (readers : Readers) → lookup (λ q. q == id) k.readers ≡ None → length k.readers < most_readers
     → ((m : State) → Stands files k m → IsAnswer m key slice lines) → readers ≡ k.readers ++ (id, lines) ∷ [] → Takes Stands files k (OpenRead id key slice) replies.Fine files (reading k readers)
 takes_open files k id key slice lines readers e h answered more = λ m s.
     let said = answered m s in

@@ -17,7 +17,7 @@ use Rattle.rc_lines.specs.declared.commands.Reply.{Reply}
 use Rattle.rc_lines.specs.declared.commands.Reply.TheVariants as replies
 use Rattle.rc_lines.specs.declared.commands.Refusal.TheVariants.{FlushInProgress, NothingToFlush, NoNumber, WriteFault}
 use Rattle.rc_machine.specs.State.{State, numbers}
-use Rattle.rc_machine.specs.Steps.{Flushes, IsFlushed, Stores, Refuses, next_number, sealing, with_table, without_sealed}
+use Rattle.rc_machine.specs.Steps.{Flushes, IsFlushed, Stores, Refuses, next_number, last_number, sealing, with_table, without_sealed}
 use Rattle.rc_machine.specs.Serving.{Takes, Stops}
 use Rattle.rc_machine.specs.laws.Folder.{is_no_file}
 use Rattle.rc_plain.specs.Stands.{Keeping, Stands}
@@ -45,26 +45,26 @@ some_left : (files : Option Files) (k : Keeping) (m : State) → Stands files k 
 some_left files k m s some = (let count = log_length files k m s in grind (arith, nat_tests, count, some))
 
 -- no flush is in progress
-flushes : (on : State → State) (m : State) (reply : Reply) (new : State) (a b : Bool) → m.written ≡ false → (m.stored == length m.log) ≡ a → nat_lt 4294967295 (next_number (numbers m.tables)) ≡ b
+flushes : (on : State → State) (m : State) (reply : Reply) (new : State) (a b : Bool) → m.written ≡ false → (m.stored == length m.log) ≡ a → nat_lt last_number (next_number (numbers m.tables)) ≡ b
     → MatchBool a (Refuses m NothingToFlush reply new) (MatchBool b (Refuses m NoNumber reply new) (Stores m on reply new)) → Flushes m on reply new
 flushes on m reply new a b whole e f h =
-    subst (λ (x : Bool). MatchBool x (Refuses m FlushInProgress reply new) (MatchBool (m.stored == length m.log) (Refuses m NothingToFlush reply new) (MatchBool (nat_lt 4294967295 (next_number (numbers m.tables))) (Refuses m NoNumber reply new) (Stores m on reply new)))) (sym whole)
-    (subst (λ (x : Bool). MatchBool x (Refuses m NothingToFlush reply new) (MatchBool (nat_lt 4294967295 (next_number (numbers m.tables))) (Refuses m NoNumber reply new) (Stores m on reply new))) (sym e)
+    subst (λ (x : Bool). MatchBool x (Refuses m FlushInProgress reply new) (MatchBool (m.stored == length m.log) (Refuses m NothingToFlush reply new) (MatchBool (nat_lt last_number (next_number (numbers m.tables))) (Refuses m NoNumber reply new) (Stores m on reply new)))) (sym whole)
+    (subst (λ (x : Bool). MatchBool x (Refuses m NothingToFlush reply new) (MatchBool (nat_lt last_number (next_number (numbers m.tables))) (Refuses m NoNumber reply new) (Stores m on reply new))) (sym e)
     (subst (λ (y : Bool). MatchBool a (Refuses m NothingToFlush reply new) (MatchBool y (Refuses m NoNumber reply new) (Stores m on reply new))) (sym f) h))
 
 pub takes_no_flush : (files : Option Files) (k : Keeping) → length k.sealed + length k.active ≡ 0 → Takes Stands files k Flush (replies.Refused NothingToFlush) files k
-takes_no_flush files k none = λ m s. (m, flushes without_sealed m _ m true (nat_lt 4294967295 (next_number (numbers m.tables))) s.whole (all_stored files k m s none) refl (refl, refl), s)
+takes_no_flush files k none = λ m s. (m, flushes without_sealed m _ m true (nat_lt last_number (next_number (numbers m.tables))) s.whole (all_stored files k m s none) refl (refl, refl), s)
 
 pub takes_no_number : (files : Option Files) (k : Keeping) → 1 ≤ length k.sealed + length k.active → IsNextNumber k.infos None → Takes Stands files k Flush (replies.Refused NoNumber) files k
 takes_no_number files k some past = λ m s.
     let next : next_number (map (λ (i : TableInfo). i.number) k.infos) ≡ next_number (numbers m.tables) = next_is files k m _ s refl in
-    let late : nat_lt 4294967295 (next_number (numbers m.tables)) ≡ true = grind (arith, nat_tests, past, next) in
+    let late : nat_lt last_number (next_number (numbers m.tables)) ≡ true = grind (arith, nat_tests, past, next) in
     (m, flushes without_sealed m _ m false true s.whole (some_left files k m s some) late (refl, refl), s)
 
-in_time : (files : Option Files) (k : Keeping) (m : State) (n : ℕ) → Stands files k m → IsNextNumber k.infos (Some n) → nat_lt 4294967295 (next_number (numbers m.tables)) ≡ false
+in_time : (files : Option Files) (k : Keeping) (m : State) (n : ℕ) → Stands files k m → IsNextNumber k.infos (Some n) → nat_lt last_number (next_number (numbers m.tables)) ≡ false
 in_time files k m n s is =
     let next : n ≡ next_number (numbers m.tables) = next_is files k m n s is.0 in
-    let within : n ≤ 4294967295 = is.1 in
+    let within : n ≤ last_number = is.1 in
     grind (arith, nat_tests, within, next)
 
 -- the store failed: the writes stay sealed

@@ -7,7 +7,7 @@ use Rattle.std.specs.Io.KnownBytes.{Appends, Consumes, Keeps, IsAtEnd}
 use Rattle.std.proofs.KnownBytes.{Appends-trans, Appends-nil, Consumes-trans, Consumes-nil, Consumes-kept}
 use Rattle.rc_outside.specs.Faults.{Rose}
 use Rattle.rc_shell.specs.Lines.{IsLine, last_line}
-use Rattle.rc_shell.specs.Run.{IsWhole, IsWritten, Answers, Served, Due, Ran, EndedBecause}
+use Rattle.rc_shell.specs.Run.{piece_size, IsWhole, IsWritten, Answers, Served, Due, Ran, EndedBecause}
 use Rattle.rc_shell.specs.calls.Feed.{FaultsAfter, DueOfLine, DueOfBytes, ServedLine, ServedLast, Serves, SoFar, EndedBy, kept}
 use Rattle.rc_shell.specs.Status.{status_of}
 use Rattle.rc_shell.specs.declared.status.Ending.TheVariants.{BadTable, StoreFault}
@@ -86,7 +86,7 @@ module _ {State Seen : Type 0} (Step : State → List ℕ → List ℕ → State
 
   -- what is due for bytes, behind whole lines and an unfinished one, is due for the run
   due_run : (start now : State) (limit : ℕ) (left : Option (List ℕ)) (taken rest bytes : List ℕ) (after : Seen) (texts : List (List ℕ)) → Served Step start taken texts rest now → IsLine rest
-      → length bytes ≤ 65536 → length (taken ++ bytes) ≤ limit
+      → length bytes ≤ piece_size → length (taken ++ bytes) ≤ limit
       → (s : Status) (ps : List (List ℕ)) → DueOfBytes Step Ends Leaves now (rest ++ bytes) after s ps → Due Step Ends Leaves (Run segments) start limit left (taken ++ bytes) after s (texts ++ ps)
   due_run start now limit left taken rest bytes after texts p line small few statuses.NoMemory ps d =
       (d.0, d.1, Served-append Step start now d.1 [] taken bytes texts ps rest d.0 p d.2, few, near_cut rest bytes d.2.0 d.0 line small d.2.1, d.3)
@@ -99,7 +99,7 @@ module _ {State Seen : Type 0} (Step : State → List ℕ → List ℕ → State
   -- bytes were served in part
   pub stopped : (start : State) (limit : ℕ) (At Next : State → Type 0) (held held' : List ℕ) (count n : ℕ) (left mid left' written between written' : Option (List ℕ)) (after : Seen) (i i1 i2 o o1 o2 : ℕ) (bytes : List ℕ) (stop : Stop)
       → SoFar Step Ends Leaves start At held count left mid written between i i1 o o1
-      → Consumes mid left' bytes → length bytes ≡ n → count + n ≤ limit → length bytes ≤ 65536 → i2 ≡ i1
+      → Consumes mid left' bytes → length bytes ≡ n → count + n ≤ limit → length bytes ≤ piece_size → i2 ≡ i1
       → ((rest : List ℕ) (now : State) → IsLine rest → held ≡ kept rest → At now → Serves Step Ends Leaves now rest bytes Next held' after between written' o1 o2 (Err stop))
       → Ran Step Ends Leaves (Run segments) start limit (status_of stop) left left' written written' after i i2 o o2
   stopped start limit At Next held held' count n left mid left' written between written' after i i1 i2 o o1 o2 bytes stop s took many few small same serves =

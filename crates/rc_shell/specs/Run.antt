@@ -19,10 +19,14 @@ EndedBecause InputFault input input' output output' = Rose input input' × (outp
 EndedBecause OutputFault input input' output output' = Rose output output'
 EndedBecause status input input' output output' = (input' ≡ input) × (output' ≡ output)
 
--- Behind each newline in the bytes that were taken and not answered stand fewer than a piece, of 65,536 bytes, for which the input is asked at once:
+-- so many bytes of the input are asked for at once, at most: a piece
+abbrev pub piece_size : ℕ
+piece_size = 65536
+
+-- Behind each newline in the bytes that were taken and not answered stand fewer than a piece:
 -- so at most a piece was taken ahead of the line that is answered next.
 abbrev pub IsNear : List ℕ → Type 0
-IsNear more = (line rest : List ℕ) → more ≡ line ++ 10 ∷ rest → length rest < 65536
+IsNear more = (line rest : List ℕ) → more ≡ line ++ 10 ∷ rest → length rest < piece_size
 
 -- What is written of pieces that were due with a status.
 module _ (Due : Status → List (List ℕ) → Type 0) where

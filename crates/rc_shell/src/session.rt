@@ -5,7 +5,7 @@ ghost use Rattle.std.specs.Io.KnownBytes.{Appends, IsAtEnd};
 ghost use Rattle.rc_outside.specs.Faults.{Rose};
 ghost use Rattle.rc_shell.specs.Lines.{IsLine};
 ghost use Rattle.rc_shell.specs.calls.Feed.{PushedText, PushedAnswer, ServedLine, ServedLast, Serves, SoFar, TurnGave, EndedBy, kept};
-ghost use Rattle.rc_shell.specs.Run.{Ran};
+ghost use Rattle.rc_shell.specs.Run.{piece_size, Ran};
 ghost use Rattle.rc_shell.specs.Status.{stop_by};
 ghost use Rattle.rc_shell.specs.Step.{Moment, LineStep, EndsRun, LeavesStore};
 ghost use Rattle.rc_shell.specs.declared.words.Words.TheVariants.{Run};
@@ -186,7 +186,7 @@ impl<S: Server> Session<S> {
         out: &mut K,
     ) -> Result<usize, Status>
         requires room { 0 < length piece.old }
-        requires small { length piece.old ≤ 65536 }
+        requires small { length piece.old ≤ piece_size }
         requires stands { (now : Moment) × S.stands self.old.server (W.files store.old, W.faults store.old, W.asks store.old) now }
         ensures within { IfOk result (λ count. (0 < count) × (count ≤ length piece.old)) }
         ensures stands { OnOk result ((now : Moment) × S.stands self.new.server (W.files store.new, W.faults store.new, W.asks store.new) now) }
@@ -220,7 +220,7 @@ impl<S: Server> Session<S> {
         limit: u64,
     ) -> Status
         requires room { 0 < length piece.old }
-        requires small { length piece.old ≤ 65536 }
+        requires small { length piece.old ≤ piece_size }
         requires fresh { self.old.held.items ≡ [] }
         requires stands { (now : Moment) × S.stands self.old.server (W.files store.old, W.faults store.old, W.asks store.old) now }
         ensures { (start : Moment) → S.stands self.old.server (W.files store.old, W.faults store.old, W.asks store.old) start →

@@ -3,14 +3,14 @@ use Rattle.std.proofs.Common.{◌≡◌, ◌+◌, true, false, List, [], ◌∷�
 use Rattle.std.specs.Prelude.{nat_le}
 use Rattle.std.specs.List.{AllByRecursion}
 use Rattle.rc_tfile.specs.declared.blocks.Block.{Block}
-use Rattle.rc_tfile.specs.Blocks.{with_fragment}
+use Rattle.rc_tfile.specs.Blocks.{block_limit, with_fragment}
 
-pub joins_last : (bs : List Block) (b new : Block) → nat_le (b.len + new.len) 4096 ≡ true → with_fragment (bs ++ b ∷ []) new ≡ bs ++ record b { len = b.len + new.len } ∷ []
+pub joins_last : (bs : List Block) (b new : Block) → nat_le (b.len + new.len) block_limit ≡ true → with_fragment (bs ++ b ∷ []) new ≡ bs ++ record b { len = b.len + new.len } ∷ []
 joins_last [] b new h = rw h refl
 joins_last (c ∷ []) b new h = rw h refl
 joins_last (c ∷ d ∷ bs) b new h = ap (λ xs. c ∷ xs) (joins_last (d ∷ bs) b new h)
 
-pub begins_behind : (bs : List Block) (b new : Block) → nat_le (b.len + new.len) 4096 ≡ false → with_fragment (bs ++ b ∷ []) new ≡ (bs ++ b ∷ []) ++ new ∷ []
+pub begins_behind : (bs : List Block) (b new : Block) → nat_le (b.len + new.len) block_limit ≡ false → with_fragment (bs ++ b ∷ []) new ≡ (bs ++ b ∷ []) ++ new ∷ []
 begins_behind [] b new h = rw h refl
 begins_behind (c ∷ []) b new h = rw h refl
 begins_behind (c ∷ d ∷ bs) b new h = ap (λ xs. c ∷ xs) (begins_behind (d ∷ bs) b new h)

@@ -8,14 +8,18 @@ use Rattle.rc_tfile.specs.declared.blocks.Block.{Block}
 use Rattle.rc_tfile.specs.Items.{Item, PartItem, RowItem, ChangeItem, EndItem, StopItem, EntryItem, BlockItem, TailItem, item_code}
 use Rattle.rc_tfile.specs.Before.{ItemsBefore, offset, last_key, tomb_in_force}
 
+-- the longest block of more than one fragment, in bytes
+abbrev pub block_limit : ℕ
+block_limit = 4096
+
 -- a block of one fragment, which stands behind these items at a position
 abbrev pub new_block : ItemsBefore → Item → Pos → Block
 new_block before x first = record { off = offset before; len = length (item_code x); tomb = tomb_in_force before; first = first }
 
--- a fragment joins the last block, unless there is none or it would make the block longer than 4,096 bytes; then its own block begins
+-- a fragment joins the last block, unless there is none or it would make the block longer than the limit; then its own block begins
 abbrev pub with_fragment : List Block → Block → List Block
 with_fragment [] new = new ∷ []
-with_fragment (b ∷ []) new = if nat_le (b.len + new.len) 4096 then record b { len = b.len + new.len } ∷ [] else b ∷ new ∷ []
+with_fragment (b ∷ []) new = if nat_le (b.len + new.len) block_limit then record b { len = b.len + new.len } ∷ [] else b ∷ new ∷ []
 with_fragment (b ∷ c ∷ bs) new = b ∷ with_fragment (c ∷ bs) new
 
 -- the blocks of the partition so far: its rows and changes grouped in order

@@ -3,7 +3,7 @@
 ghost use Rattle.std.specs.Prelude.{◌≡◌, ◌+◌, [], IsTrue, OnOk, nat_le};
 ghost use Rattle.std.specs.List.{AllByRecursion};
 ghost use Rattle.rc_rowcode.specs.Spelling.{KeyFits};
-ghost use Rattle.rc_tfile.specs.Blocks.{with_fragment};
+ghost use Rattle.rc_tfile.specs.Blocks.{block_limit, with_fragment};
 
 use rc_cell::Tomb;
 use rc_position::{PartKey, Pos};
@@ -87,14 +87,14 @@ impl Blocks {
 
 // Whether a fragment of this length may join a block of that length.
 fn may_join(block: u32, fragment: u32) -> bool
-    ensures { result ≡ nat_le (block + fragment) 4096 }
+    ensures { result ≡ nat_le (block + fragment) block_limit }
 {
     fragment <= BLOCK_LIMIT && block <= BLOCK_LIMIT - fragment
 }
 
 // A block that grew by so many bytes.
 fn joined(block: Block, fragment: u32) -> Block
-    requires { IsTrue (nat_le (block.len + fragment) 4096) }
+    requires { IsTrue (nat_le (block.len + fragment) block_limit) }
     ensures { result ≡ record block { len = block.len + fragment } }
 {
     Block {

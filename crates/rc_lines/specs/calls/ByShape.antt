@@ -9,7 +9,7 @@ use Rattle.rc_lines.specs.declared.commands.Refusal.TheVariants.{BadLine, NoSche
 use Rattle.rc_lines.specs.declared.shapes.Shape.{Shape}
 use Rattle.rc_lines.specs.calls.Shapes.{shape_of}
 use Rattle.rc_lines.specs.calls.ShapeMeaning.{meaning}
-use Rattle.rc_lines.specs.Grammar.{is_comment, schema_said}
+use Rattle.rc_lines.specs.Grammar.{longest_line, is_comment, schema_said}
 
 -- what a line of a shape, or of none, commands under a schema, or under none
 abbrev pub shape_meaning : Option SchemaValue → Option Shape → Result Command Refusal
@@ -25,6 +25,6 @@ line_meaning taken line None = shape_meaning taken (shape_of (words line))
 -- what a line commands under the schema that was taken, if one was, or why it is refused
 unfoldable pub parse_by_shape : Option SchemaValue → List ℕ → Result Command Refusal
 parse_by_shape taken line =
-    if nat_lt 65536 (length line) then Err BadLine
+    if nat_lt longest_line (length line) then Err BadLine
     else if is_comment line then Ok Nothing
     else line_meaning taken line (schema_said line)

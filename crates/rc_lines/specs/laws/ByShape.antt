@@ -23,7 +23,7 @@ use Rattle.rc_lines.specs.declared.shapes.Change.TheVariants.{OfRow, OfStatic, O
 use Rattle.rc_lines.specs.declared.shapes.Shape.{Shape}
 use Rattle.rc_lines.specs.declared.shapes.Shape.TheVariants.{Plain, Open, Written}
 use Rattle.rc_lines.specs.Forms.{forms}
-use Rattle.rc_lines.specs.Grammar.{is_comment, schema_said, parse}
+use Rattle.rc_lines.specs.Grammar.{longest_line, is_comment, schema_said, parse}
 use Rattle.rc_lines.specs.UnderSchema.{need, put_parts, slice_of, columns_of, is_partition_key, row_written, statics_written, range_written, partition_written, slice_opened}
 use Rattle.rc_lines.specs.calls.ByShape.{shape_meaning, line_meaning, parse_by_shape}
 use Rattle.rc_lines.specs.calls.ShapeMeaning.{key_under, are_columns, are_short, have_short_values, is_short_slice, cell_named, columns_from, by_column, slice_under, rows_said, refusal_of, unless, meaning}
@@ -159,4 +159,4 @@ line_alike taken line None =
 -- what a line means by its form it means by its shape
 pub by_shape : (taken : Option SchemaValue) (line : List ℕ) → parse taken line ≡ parse_by_shape taken line
 unfolding parse parse_by_shape
-by_shape taken line = ap (λ later. if nat_lt 65536 (length line) then Err BadLine else if is_comment line then Ok Nothing else later) (line_alike taken line (schema_said line))
+by_shape taken line = ap (λ later. if nat_lt longest_line (length line) then Err BadLine else if is_comment line then Ok Nothing else later) (line_alike taken line (schema_said line))

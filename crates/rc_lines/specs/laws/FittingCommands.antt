@@ -36,7 +36,7 @@ use Rattle.rc_lines.specs.declared.shapes.Shape.TheVariants.{Plain, Open, Writte
 use Rattle.rc_writes.specs.Single.{is_single}
 use Rattle.rc_lines.specs.Fits.{CommandFits}
 use Rattle.rc_lines.specs.laws.Tests.{is_bound, fits_bound, fits_key, fits_cells, fits_slice, fits_write, slice_passes, write_passes}
-use Rattle.rc_lines.specs.Grammar.{is_comment, schema_said, parse}
+use Rattle.rc_lines.specs.Grammar.{longest_line, is_comment, schema_said, parse}
 use Rattle.rc_lines.specs.calls.ByShape.{shape_meaning, line_meaning, parse_by_shape}
 use Rattle.rc_lines.specs.calls.Shapes.{shape_of}
 use Rattle.rc_lines.specs.UnderSchema.{prefix_of, slice_between, is_partition_key}
@@ -217,7 +217,7 @@ line_cases P false false r command p f h = f h
 shape_commands_fit : (schema : SchemaValue) (line : List ℕ) (command : Command) → parse_by_shape (Some schema) line ≡ Ok command → CommandFits schema command
 unfolding parse_by_shape
 shape_commands_fit schema line command h =
-    line_cases (CommandFits schema) (nat_lt 65536 (length line)) (is_comment line) (line_meaning (Some schema) line (schema_said line)) command tt
+    line_cases (CommandFits schema) (nat_lt longest_line (length line)) (is_comment line) (line_meaning (Some schema) line (schema_said line)) command tt
     (said_fits schema line (schema_said line) command) h
 
 -- each command that a line gives under a schema fits it

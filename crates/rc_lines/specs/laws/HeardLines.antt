@@ -39,7 +39,7 @@ use Rattle.rc_lines.specs.declared.shapes.Shape.TheVariants.{Plain, Open, Writte
 use Rattle.rc_lines.specs.declared.shapes.Stamp.{Stamp}
 use Rattle.rc_lines.specs.declared.shapes.Stamp.TheVariants.{Alive, Gone}
 use Rattle.rc_lines.specs.Fits.{CommandFits}
-use Rattle.rc_lines.specs.Grammar.{is_comment, schema_said, parse}
+use Rattle.rc_lines.specs.Grammar.{longest_line, is_comment, schema_said, parse}
 use Rattle.rc_lines.specs.calls.ByShape.{shape_meaning, line_meaning, parse_by_shape}
 use Rattle.rc_lines.specs.Lines.{pieces_said, cells_said, parts_said, change_said, command_line, AreComponents, AreStamped, HasOneStamp, IsSayableRow, IsSayableWrite, IsSayableCommand}
 use Rattle.rc_lines.specs.Parts.{without_front, stamp_of, key_of, pieces_of}
@@ -470,7 +470,7 @@ said_heard schema line None command are e fits h = shape_meaning_heard schema (s
 shape_commands_sayable : (schema : SchemaValue) (line : List ℕ) (command : Command) → AreBytes line → CommandFits schema command → parse_by_shape (Some schema) line ≡ Ok command → HasLine schema command
 unfolding parse_by_shape
 shape_commands_sayable schema line command are fits h =
-    line_cases (HasLine schema) (nat_lt 65536 (length line)) (is_comment line) (line_meaning (Some schema) line (schema_said line)) command (tt, refl)
+    line_cases (HasLine schema) (nat_lt longest_line (length line)) (is_comment line) (line_meaning (Some schema) line (schema_said line)) command (tt, refl)
     (said_heard schema line (schema_said line) command are refl fits) h
 
 -- each command that a line of bytes gives is one that one line can say, and has a line

@@ -54,7 +54,7 @@ use Rattle.rc_lines.specs.declared.shapes.Shape.TheVariants.{Open, Written}
 use Rattle.rc_lines.specs.declared.shapes.Stamp.{Stamp}
 use Rattle.rc_lines.specs.declared.shapes.Stamp.TheVariants.{Alive}
 use Rattle.rc_lines.specs.Fits.{CommandFits}
-use Rattle.rc_lines.specs.Grammar.{schema_said, parse}
+use Rattle.rc_lines.specs.Grammar.{longest_line, schema_said, parse}
 use Rattle.rc_lines.specs.calls.ByShape.{line_meaning, parse_by_shape}
 use Rattle.rc_lines.specs.Lines.{pieces_said, is_before, start_said, end_said, cells_said, change_said, command_line, IsPartitionKey, AreComponents, AreStamped, HasOneStamp, IsSayableWrite, IsSayableCommand}
 use Rattle.rc_lines.specs.Parts.{without_front}
@@ -423,7 +423,7 @@ schema_back schema lists line is e =
     let few = few_names lists is in
     let names = schema_names lists is in
     let made : codes "schema " ++ schema_text lists ≡ line = same_line (codes "schema " ++ schema_text lists) line e in
-    let fits : nat_lt 65536 (length (codes "schema " ++ schema_text lists)) ≡ false =
+    let fits : nat_lt longest_line (length (codes "schema " ++ schema_text lists)) ≡ false =
     (let short : length (codes "schema " ++ schema_text lists) ≤ 65536 = schema_short lists few.0.1 few.1.0 few.1.1 names.0.0 names.1.0 in grind (arith, nat_tests)) in
     subst (λ (l : List ℕ). parse (Some schema) l ≡ Ok (SetSchema lists)) made
     (by_shape (Some schema) (codes "schema " ++ schema_text lists)

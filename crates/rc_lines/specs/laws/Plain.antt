@@ -16,7 +16,7 @@ use Rattle.rc_lines.specs.declared.commands.Command.{Command}
 use Rattle.rc_lines.specs.declared.commands.Command.TheVariants.{Nothing, SetSchema, Put, OpenRead, Read, Close, Flush, FlushBegin, FlushStep, Evict, Compact, Clean, Stats}
 use Rattle.rc_lines.specs.declared.commands.Refusal.TheVariants.{BadLine}
 use Rattle.rc_lines.specs.declared.shapes.Shape.TheVariants.{Plain}
-use Rattle.rc_lines.specs.Grammar.{is_comment, schema_said, parse}
+use Rattle.rc_lines.specs.Grammar.{longest_line, is_comment, schema_said, parse}
 use Rattle.rc_lines.specs.calls.ByShape.{shape_meaning, line_meaning, parse_by_shape}
 use Rattle.rc_lines.specs.Parts.{without_front}
 use Rattle.rc_lines.specs.Plain.{HasCounts, IsCount, plain_line}
@@ -30,7 +30,7 @@ use Rattle.rc_lines.specs.laws.Spelled.{count_back}
 told : (schema : SchemaValue) (line : List ℕ) (command : Command) → length line ≤ 65536 → is_comment line ≡ false → schema_said line ≡ None → shape_of (words line) ≡ Some (Plain command) → parse (Some schema) line ≡ Ok command
 unfolding parse_by_shape meaning refusal_of
 told schema line command short said_some no_schema shape =
-    let fits : nat_lt 65536 (length line) ≡ false = grind (arith, nat_tests) in
+    let fits : nat_lt longest_line (length line) ≡ false = grind (arith, nat_tests) in
     by_shape (Some schema) line
     ∙ (λ i. if fits i then Err BadLine else if said_some i then Ok Nothing else line_meaning (Some schema) line (no_schema i)) ∙ ap (shape_meaning (Some schema)) shape
 

@@ -12,7 +12,7 @@ use Rattle.rc_lines.specs.declared.commands.Command.TheVariants.{Nothing, SetSch
 use Rattle.rc_lines.specs.declared.commands.Refusal.{Refusal}
 use Rattle.rc_lines.specs.declared.commands.Refusal.TheVariants.{BadLine, NoSchema, WrongKey, UnknownColumn, TooLong}
 use Rattle.rc_lines.specs.Forms.{forms}
-use Rattle.rc_lines.specs.Grammar.{is_comment, schema_said, parse}
+use Rattle.rc_lines.specs.Grammar.{longest_line, is_comment, schema_said, parse}
 use Rattle.rc_lines.specs.UnderSchema.{Saying, need}
 use Rattle.rc_lines.specs.calls.ByShape.{shape_meaning, line_meaning, parse_by_shape}
 use Rattle.rc_lines.specs.calls.ShapeMeaning.{has_wrong_key, has_unknown_column, is_within, refusal_of, command_of, unless, meaning}
@@ -55,7 +55,7 @@ module _ (P : Refusal → Type 0) (bad : P BadLine) (no_schema : P NoSchema) (wr
 
   shaped_is : (taken : Option SchemaValue) (line : List ℕ) (refusal : Refusal) → parse_by_shape taken line ≡ Err refusal → P refusal
   unfolding parse_by_shape
-  shaped_is taken line refusal e = line_is (nat_lt 65536 (length line)) (is_comment line) (line_meaning taken line (schema_said line)) refusal (said_is taken line (schema_said line) refusal) e
+  shaped_is taken line refusal e = line_is (nat_lt longest_line (length line)) (is_comment line) (line_meaning taken line (schema_said line)) refusal (said_is taken line (schema_said line) refusal) e
 
   pub of_line : (taken : Option SchemaValue) (line : List ℕ) (refusal : Refusal) → parse taken line ≡ Err refusal → P refusal
   of_line taken line refusal e = shaped_is taken line refusal (sym (by_shape taken line) ∙ e)
@@ -85,7 +85,7 @@ either false false later command f e = f e
 pub early : (line : List ℕ) (command : Command) → parse None line ≡ Ok command → IsEarly command
 unfolding parse
 early line command e =
-    either (nat_lt 65536 (length line)) (is_comment line) (later None (schema_said line) (slice_get (filter_map (λ form. form (words line)) forms) 0)) command (later_early (schema_said line) (slice_get (filter_map (λ form. form (words line)) forms) 0) command) e
+    either (nat_lt longest_line (length line)) (is_comment line) (later None (schema_said line) (slice_get (filter_map (λ form. form (words line)) forms) 0)) command (later_early (schema_said line) (slice_get (filter_map (λ form. form (words line)) forms) 0) command) e
 
 later_alike : (taken found : Option SchemaValue) (said : Option Saying) (schema : SchemaValue) → later None found said ≡ Ok (SetSchema schema) → later taken found said ≡ Ok (SetSchema schema)
 later_alike taken (Some other) said schema e = e
@@ -102,5 +102,5 @@ alike false false early late schema f e = f e
 pub schema_line : (taken : Option SchemaValue) (line : List ℕ) (schema : SchemaValue) → parse None line ≡ Ok (SetSchema schema) → parse taken line ≡ Ok (SetSchema schema)
 unfolding parse
 schema_line taken line schema e =
-    alike (nat_lt 65536 (length line)) (is_comment line) (later None (schema_said line) (slice_get (filter_map (λ form. form (words line)) forms) 0)) (later taken (schema_said line) (slice_get (filter_map (λ form. form (words line)) forms) 0)) schema
+    alike (nat_lt longest_line (length line)) (is_comment line) (later None (schema_said line) (slice_get (filter_map (λ form. form (words line)) forms) 0)) (later taken (schema_said line) (slice_get (filter_map (λ form. form (words line)) forms) 0)) schema
     (later_alike taken (schema_said line) (slice_get (filter_map (λ form. form (words line)) forms) 0) schema) e

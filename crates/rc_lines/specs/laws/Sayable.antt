@@ -25,7 +25,7 @@ use Rattle.rc_lines.specs.declared.shapes.Shape.{Shape}
 use Rattle.rc_lines.specs.declared.shapes.Shape.TheVariants.{Plain, Open, Written}
 use Rattle.rc_lines.specs.declared.shapes.Stamp.{Stamp}
 use Rattle.rc_lines.specs.declared.shapes.Stamp.TheVariants.{Alive, Gone}
-use Rattle.rc_lines.specs.Grammar.{is_comment, schema_said, parse}
+use Rattle.rc_lines.specs.Grammar.{longest_line, is_comment, schema_said, parse}
 use Rattle.rc_lines.specs.calls.ByShape.{shape_meaning, line_meaning, parse_by_shape}
 use Rattle.rc_lines.specs.Parts.{without_front}
 use Rattle.rc_lines.specs.calls.ShapeParts.{named_cells, some_cells_of, no_bound}
@@ -256,11 +256,11 @@ pub shape_back : (shape : Shape) (line : List ℕ) → shape_line shape ≡ Some
 shape_back shape line e is = (said_all shape line e is).0
 
 -- and commands what it means, where it is not too long
-pub meaning_back : (taken : Option SchemaValue) (shape : Shape) (line : List ℕ) → shape_line shape ≡ Some line → IsSayable shape → length line ≤ 65536
+pub meaning_back : (taken : Option SchemaValue) (shape : Shape) (line : List ℕ) → shape_line shape ≡ Some line → IsSayable shape → length line ≤ longest_line
     → parse taken line ≡ shape_meaning taken (Some shape)
 unfolding parse_by_shape
 meaning_back taken shape line e is short =
     let s = said_all shape line e is in
-    let fits : nat_lt 65536 (length line) ≡ false = grind (arith, nat_tests) in
+    let fits : nat_lt longest_line (length line) ≡ false = grind (arith, nat_tests) in
     by_shape taken line
     ∙ (λ i. if fits i then Err BadLine else if s.1 i then Ok Nothing else line_meaning taken line (s.2 i)) ∙ ap (shape_meaning taken) s.0

@@ -11,7 +11,7 @@ use Rattle.rc_lines.specs.declared.commands.Refusal.TheVariants.{TooManyReaders,
 use Rattle.rc_lines.specs.declared.commands.Reply.{Reply}
 use Rattle.rc_lines.specs.declared.commands.Reply.TheVariants as replies
 use Rattle.rc_machine.specs.State.{State, Reader, numbers, reader_of}
-use Rattle.rc_machine.specs.Steps.{Steps, Opens, Gives, Stores, Refuses, IsFlushed, with_table, without_sealed, sealing, next_number}
+use Rattle.rc_machine.specs.Steps.{Steps, Opens, Gives, Stores, Refuses, IsFlushed, with_table, without_sealed, sealing, next_number, last_number, most_readers}
 use Rattle.rc_machine.specs.Flushed.{accepted_by}
 
 -- nothing but readers; a write behind the others; writes are sealed; they are written as a table, which the cache has in steps or at once; or the
@@ -83,11 +83,11 @@ change_of m (SetSchema schema) reply new (inl s) = same m (SetSchema schema) rep
 change_of m (SetSchema schema) reply new (inr s) = same m (SetSchema schema) reply new refl s.1.1
 change_of m (Put w) reply new (inl s) = Writes w s.1 (ap (λ r. accepted_by (Put w) r) s.0)
 change_of m (Put w) reply new (inr s) = same m (Put w) reply new (ap (λ r. accepted_by (Put w) r) s.1.0) s.1.1
-change_of m (OpenRead id key slice) reply new s = tries m (OpenRead id key slice) reply new refl id key slice (reader_of id m) (nat_lt (length m.readers) 64) s
+change_of m (OpenRead id key slice) reply new s = tries m (OpenRead id key slice) reply new refl id key slice (reader_of id m) (nat_lt (length m.readers) most_readers) s
 change_of m (Read id count) reply new s = reads m (Read id count) reply new refl id count (reader_of id m) s
 change_of m (Close id) reply new s = closes m (Close id) reply new refl (filter (λ reader. not (reader.0 == id)) m.readers) (reader_of id m) s
-change_of m Flush reply new s = flushes m Flush reply new refl without_sealed (λ parts is idle e. Stored parts is idle e refl) m.written (m.stored == length m.log) (nat_lt 4294967295 (next_number (numbers m.tables))) refl s
-change_of m FlushBegin reply new s = flushes m FlushBegin reply new refl (λ next. next) (λ parts is idle e. Begins parts is idle e refl) m.written (m.stored == length m.log) (nat_lt 4294967295 (next_number (numbers m.tables))) refl s
+change_of m Flush reply new s = flushes m Flush reply new refl without_sealed (λ parts is idle e. Stored parts is idle e refl) m.written (m.stored == length m.log) (nat_lt last_number (next_number (numbers m.tables))) refl s
+change_of m FlushBegin reply new s = flushes m FlushBegin reply new refl (λ next. next) (λ parts is idle e. Begins parts is idle e refl) m.written (m.stored == length m.log) (nat_lt last_number (next_number (numbers m.tables))) refl s
 change_of m (FlushStep count) reply new s = steps m (FlushStep count) reply new refl m.written (nat_lt count m.left) (m.left - count) refl s
 change_of m (Evict count) reply new s = same m (Evict count) reply new refl s.1
 change_of m (Compact count) reply new s = same m (Compact count) reply new refl s.1

@@ -11,7 +11,7 @@ use Rattle.rc_tfile.specs.declared.info.TableInfo.{TableInfo}
 use Rattle.rc_lines.specs.declared.commands.Refusal.TheVariants.{WriteFault}
 use Rattle.rc_lines.specs.declared.commands.Reply.{Reply}
 use Rattle.rc_lines.specs.declared.commands.Reply.TheVariants as replies
-use Rattle.rc_machine.specs.Steps.{next_number}
+use Rattle.rc_machine.specs.Steps.{next_number, last_number}
 use Rattle.rc_plain.specs.Stands.{Keeping}
 
 -- the writes are sealed, unless some are
@@ -28,8 +28,8 @@ pub record IsTableStored (files : Option Files) (k : Keeping) (n : ℕ) (files' 
 
 -- one more than the last of the tables' numbers, or 1; none behind the greatest number
 abbrev pub IsNextNumber : List TableInfo → Option ℕ → Type 0
-IsNextNumber infos None = 4294967295 < next_number (list_map (λ i. i.number) infos)
-IsNextNumber infos (Some n) = (n ≡ next_number (list_map (λ i. i.number) infos)) × (n ≤ 4294967295)
+IsNextNumber infos None = last_number < next_number (list_map (λ i. i.number) infos)
+IsNextNumber infos (Some n) = (n ≡ next_number (list_map (λ i. i.number) infos)) × (n ≤ last_number)
 
 -- the reply to a flush: the sealed writes stand in table n, or the store failed and nothing changed
 abbrev pub IsFlushAnswered : Option Files → Keeping → ℕ → Option Files → Keeping → Reply → Type 0

@@ -1,4 +1,5 @@
 -- Each way in which a turn ends.
+use Rattle.rc_shell.specs.Run.{piece_size}
 use Rattle.std.proofs.Common.{◌≡◌, ◌<◌, ◌≤◌, ◌+◌, [], length, take, arith, subst}
 use Rattle.std.proofs.lemmas.List.{length-take-le}
 use Rattle.std.specs.Io.KnownBytes.{Consumes}
@@ -43,7 +44,7 @@ returns-in-Err-feed-clause-run g c = λ start limit count left written i o fits 
     let whole : length (take c.in-Ok.count c.pull.new.into) ≡ c.in-Ok.count = length-take-le c.in-Ok.count c.pull.new.into c.in-Ok.ensures.within in
     let within : c.in-Ok.count ≤ length c.pull.new.into = c.in-Ok.ensures.within in
     let most : count + c.in-Ok.count ≤ limit = omega arith in
-    let small : length (take c.in-Ok.count c.pull.new.into) ≤ 65536 = omega (arith, whole, within, c.requires.small) in
+    let small : length (take c.in-Ok.count c.pull.new.into) ≤ piece_size = omega (arith, whole, within, c.requires.small) in
     rw c.status-in-Err-feed.ensures (stopped LineStep EndsRun LeavesStore segments start limit _ (g.S.Server.stands c.feed.new.self.server (g.W.Store.files c.feed.new.store, g.W.Store.faults c.feed.new.store, g.W.Store.asks c.feed.new.store)) _ c.feed.new.self.held.items count c.in-Ok.count left _ _ written _ _ _
     i _ _ o _ _ (take c.in-Ok.count c.pull.new.into) c.in-Err-feed.stop s
     c.in-Ok.ensures.taken.0 whole most small c.in-Ok.ensures.cause (λ rest now line is at. c.in-Err-feed.ensures.served rest now line is at))
