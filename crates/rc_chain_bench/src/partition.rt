@@ -34,12 +34,13 @@ fn has_room(chains: &mut Chains<SEGMENT>) -> bool
 
 /// A partition of no row; None where there is no room.
 pub(crate) fn new_partition(chains: &mut Chains<SEGMENT>) -> Result<Option<u64>, AllocError>
-    ensures made { IfOk result (λ made. IfSome made (λ id. IsPartition chains.new id)) }
+    ensures { IfOk result (λ made. IfSome made (λ id. IsPartition chains.new id)) }
 {
     if !has_room(chains) {
         return Ok(None);
     }
-    Ok(Some(chains.new_chain(ChainKind::Memtable, 0, None)?))
+    let id = chains.new_chain(ChainKind::Memtable, 0, None)?;
+    Ok(Some(id))
 }
 
 /// Joins a row to the newest version of a partition; false where there is no room.
