@@ -1,5 +1,5 @@
 -- Versions whose rows have codes: whatever is joined in them has one, too, and is small.
-use Rattle.std.proofs.Common.{◌≡◌, ◌⊎◌, ℕ, zero, suc, ◌+◌, ◌≤◌, Bool, true, false, cond, List, [], ◌∷◌, ◌++◌, length, map, Option, Some, None, inl, inr, refl, sym, ap, ◌∙◌, subst, arith}
+use Rattle.std.proofs.Common.{ℕ, zero, suc, ◌+◌, ◌≤◌, Bool, true, false, cond, List, [], ◌∷◌, ◌++◌, length, map, Option, Some, None, inl, inr, sym, ◌∙◌, subst, arith}
 use Rattle.std.specs.Prelude.{Contains, IfSome}
 use Rattle.std.specs.List.{AllByRecursion}
 use Rattle.std.specs.Ordering.{eq_by_cmp}
@@ -10,16 +10,15 @@ use Rattle.rc_cell.specs.Winner.{joined_row}
 use Rattle.rc_cell.specs.laws.{joined_row-cons, joined_row-one}
 use Rattle.rc_position.specs.declared.positions.Pos.{Pos}
 use Rattle.rc_position.specs.Position.{pos_cmp}
-use Rattle.rc_position.specs.laws.Orders.{eq_by_cmp-same, pos_cmp_same, pos_cmp_total}
 use Rattle.rc_rowcode.specs.Objects.{dummy_size}
 use Rattle.rc_rowcode.specs.Spelling.{pos_code, row_code, IsCodedRow, KeyFits}
 use Rattle.rc_rowcode.specs.laws.Limits.{row_limits}
 use Rattle.rc_rowcode.specs.laws.Sizes.{pos_code_small, row_code_small}
 use Rattle.lsa_kinds.specs.Kinds.{up8}
 use Rattle.rc_core.specs.declared.entries.Entry.{Entry}
-use Rattle.rc_core.specs.Change.{at_entry, join_row_at, joined_onto, split, split_by, with_row}
+use Rattle.rc_core.specs.Change.{joined_onto, split, split_by, with_row}
 use Rattle.rc_core.specs.Steps.{on_version, row_joined}
-use Rattle.rc_core.specs.Version.{Finding, Spot, Version, On, entry_answers, seen, spot_cmp}
+use Rattle.rc_core.specs.Version.{Spot, Version, On, entry_answers, seen, spot_cmp}
 use Rattle.rc_version.specs.Versions.{bytes_at, joined_bytes}
 use Rattle.rc_partition.specs.laws.Lists.{elem-cases, elem-first, elem-later, elem-none}
 use Rattle.rc_memory.specs.Room.{FitTogether, HasRowAt}
