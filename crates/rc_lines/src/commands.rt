@@ -18,51 +18,24 @@ pub enum Command {
     SetSchema(Schema),
     /// A write to one partition.
     Put(Write),
-    /// Opens a reader of a slice of a partition under an id.
-    OpenRead {
-        /// The reader's id.
-        id: u32,
-        /// The partition's key.
-        key: PartKey,
-        /// Which rows the reader is given: those between two bounds, the first below the second.
-        slice: Slice,
-    },
-    /// Asks a reader for its next lines.
-    Read {
-        /// The reader's id.
-        id: u32,
-        /// At most how many lines.
-        count: u32,
-    },
-    /// Closes a reader.
-    Close {
-        /// The reader's id.
-        id: u32,
-    },
+    /// Opens a reader of a partition under an id: it is given the rows of a slice, between two bounds of which the first is below the second.
+    OpenRead { id: u32, key: PartKey, slice: Slice },
+    /// Asks the reader of an id for its next lines, so many at most.
+    Read { id: u32, count: u32 },
+    /// Closes the reader of an id.
+    Close { id: u32 },
     /// Writes the memtable as a table, and brings the cache up to it.
     Flush,
     /// Writes the memtable as a table, and leaves bringing the cache up to it to the steps that follow.
     FlushBegin,
-    /// Brings the cache up to the table that was written last, a few units further.
-    FlushStep {
-        /// At most how many units.
-        count: u32,
-    },
-    /// Evicts objects of the cache, the least recent first.
-    Evict {
-        /// At most how many objects.
-        count: u32,
-    },
-    /// Compacts sparse segments.
-    Compact {
-        /// At most how many segments.
-        count: u32,
-    },
-    /// Merges versions that nobody reads.
-    Clean {
-        /// At most how many units.
-        count: u32,
-    },
+    /// Brings the cache up to the table that was written last, at most so many units further.
+    FlushStep { count: u32 },
+    /// Evicts at most so many objects of the cache, the least recent first.
+    Evict { count: u32 },
+    /// Compacts at most so many sparse segments.
+    Compact { count: u32 },
+    /// Merges versions that nobody reads, in at most so many units.
+    Clean { count: u32 },
     /// Asks for the figures of the cache.
     Stats,
 }
@@ -101,12 +74,7 @@ pub enum Refusal {
     /// The store failed while a table was written.
     WriteFault,
     /// A table is not what it was when it was checked or written.
-    Damaged {
-        /// The table's number.
-        file: u32,
-        /// The first byte that does not fit.
-        offset: u64,
-    },
+    Damaged { file: u32, offset: u64 },
     /// A flush would write a table, and the largest table number is 4294967295.
     NoNumber,
 }
@@ -150,12 +118,7 @@ pub enum Reply {
     /// The command was done.
     Fine,
     /// A reader's next lines, and whether there are more behind them.
-    Given {
-        /// The lines.
-        lines: Lines,
-        /// Whether the reader has lines left.
-        more: bool,
-    },
+    Given { lines: Lines, more: bool },
     /// Units of the flush are left.
     Going,
     /// No unit of the flush is left.
