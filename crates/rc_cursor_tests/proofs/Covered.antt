@@ -12,20 +12,21 @@ use Rattle.rc_position.specs.declared.positions.Weight.TheVariants.{Before, At}
 use Rattle.rc_position.specs.Position.{IsBefore, pos_cmp}
 use Rattle.rc_position.specs.laws.Bounds.{last_pos-greatest}
 use Rattle.rc_rowcode.specs.Objects.{dummy_size}
-use Rattle.rc_rowcode.specs.Spelling.{IsPos, pos_code}
+use Rattle.rc_rowcode.specs.Spelling.{IsPos, KeyFits, pos_code}
 use Rattle.rc_core.specs.declared.entries.ChainKind.{ChainKind}
 use Rattle.rc_core.specs.Version.{Version, end_position}
 use Rattle.rc_stream.specs.Places.{Reaches}
 use Rattle.rc_memory.specs.Changes.{IsVersionChanged, LastIsListed, Nowhere}
 use Rattle.rc_memory.specs.laws.Places.{same_some}
 use Rattle.rc_memory.specs.laws.Put.{put-at}
-use Rattle.rc_memory.specs.Memory.{HasVersion, KeptChain, Member, Memory, chain_at, on_shown, on_version_of}
+use Rattle.rc_memory.specs.Memory.{HasPin, HasVersion, IsSnapshotTaken, KeptChain, Member, Memory, chain_at, on_shown, on_version_of}
+use Rattle.rc_chain.specs.declared.chains.Snap.{Snap}
 use Rattle.rc_chain.specs.Lives.{IsChainMade, chain_of_new}
 
 abbrev pub bare : Weight → Pos
 bare w = record { prefix = []; weight = w }
 
-pub front-first : IsBefore (bare Before) (bare At)
+front-first : IsBefore (bare Before) (bare At)
 unfolding pos_cmp
 front-first = refl
 
@@ -38,8 +39,22 @@ to-end x = by (pos_cmp x end_position) refl
     by Equal e = ap is_le e
     by Greater e = let u : true ≡ false = sym (ap is_gt e) ∙ last_pos-greatest x in absurd (cc)
 
-pub bare-small : ((x : Pos) → IsPos x → length (pos_code x) ≤ 266) → (w : Weight) → dummy_size (bare w) ≤ 352
-bare-small short w = let l = short (bare w) (omega arith, tt) in omega (arith, l)
+small : ((x : Pos) → IsPos x → length (pos_code x) ≤ 266) → (w : Weight) → dummy_size (bare w) ≤ 352
+small short w = let l = short (bare w) (omega arith, tt) in omega (arith, l)
+
+no_components : KeyFits []
+no_components = (omega arith, λ k d l. absurd (omega (arith, l)))
+
+-- what is asked of the bounds of a range
+pub record AreBounds (from to : Pos) : Type 0 where
+  pub ascend : IsBefore from to
+  pub limits : KeyFits from.prefix × KeyFits to.prefix
+  pub first : dummy_size from ≤ 352
+  pub second : dummy_size to ≤ 352
+
+pub bounds : ((x : Pos) → IsPos x → length (pos_code x) ≤ 266) → (from to : Pos) → from ≡ bare Before → to ≡ bare At → AreBounds from to
+bounds short from to e k = subst (λ f. AreBounds f to) (sym e) (subst (AreBounds (bare Before)) (sym k)
+    (record { ascend = front-first; limits = (no_components, no_components); first = small short Before; second = small short At }))
 
 module _ (old new : Memory) (id : ℕ) (kind : ChainKind) (pt : Option Tomb) (phase : ℕ) (list : List Member) (made : IsChainMade id kind pt phase list old new) where
   pub made-at : chain_at new id ≡ Some (chain_of_new kind pt phase)
@@ -58,3 +73,9 @@ module _ (old new : Memory) (id : ℕ) (kind : ChainKind) (pt : Option Tomb) (ph
 
     pub changed-attached : IsSomeAnd (chain_at now id) (λ k. k.chain.attached ≡ true)
     changed-attached = subst (λ (o : Option KeptChain). IsSomeAnd o (λ k. k.chain.attached ≡ true)) (sym changed-at) refl
+
+    -- a snapshot of it that was taken is there
+    pub changed-taken : ((m n : Memory) (s : Snap) (k : KeptChain) → chain_at m s.chain ≡ Some k → IsSnapshotTaken m n s.chain s.pin s.phase → HasPin n s.chain s.pin)
+        → (after : Memory) (s : Snap) → (s.chain ≡ id) × IsSnapshotTaken now after id s.pin s.phase → HasPin after s.chain s.pin
+    changed-taken there after s t = let k = on_shown (on_version_of 0 f) (chain_of_new kind pt phase) in
+        there now after s k (subst (λ i. chain_at now i ≡ Some k) (sym t.0) changed-at) (subst (λ i. IsSnapshotTaken now after i s.pin s.phase) (sym t.0) t.1)
