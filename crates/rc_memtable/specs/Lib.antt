@@ -1,0 +1,4 @@
+pub mod Fits
+pub mod Writes
+pub mod Steps
+pub mod LetGo
