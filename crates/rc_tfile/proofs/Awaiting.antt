@@ -1,5 +1,5 @@
 -- The items that must come behind the stop, one after another.
-use Rattle.std.proofs.Common.{◌≡◌, ◌≢◌, ℕ, ◌+◌, ◌≤◌, List, [], ◌∷◌, ◌++◌, length, drop, map as list_map, Option, Result, Ok, Err, refl, sym, ap, ◌∙◌, subst, append_assoc, append-nil}
+use Rattle.std.proofs.Common.{◌≡◌, ◌≢◌, ℕ, ◌+◌, ◌≤◌, List, [], ◌∷◌, ◌++◌, length, drop, map as list_map, Option, Result, Ok, Err, refl, sym, ap, ◌∙◌, subst, arith, append_assoc, append-nil, ⊎_elim}
 use Rattle.std.specs.Prelude.{MatchResult, ⊤}
 use Rattle.std.specs.List.{flat_map, AllByRecursion}
 use Rattle.rc_outside.specs.Files.{Files}
@@ -13,11 +13,12 @@ use Rattle.rc_tfile.specs.Before.{ItemsBefore, Start, Between, Inside, Behind, t
 use Rattle.rc_tfile.specs.Blocks.{DirectoryEntry, entries, entry_items, ending, due}
 use Rattle.rc_tfile.specs.TableText.{ItemFits, AllFit, EndsWithTail, IsDue, MayStand}
 use Rattle.rc_tfile.specs.calls.Outlined.{IsListed}
-use Rattle.rc_tfile.specs.Checking.{IsContent}
+use Rattle.rc_tfile.specs.Checking.{IsContent, IsHostError}
 use Rattle.rc_tfile.specs.calls.Windows.{ReadAhead, IsFull, IsAheadIn}
 use Rattle.rc_tfile.specs.Walking.{IsRefusalOf, IsCheckRefused, Awaits, Expects, Meets, Misses, EndsFront, Overruns, IsWhole}
+use Rattle.std.proofs.lemmas.List.{length-append}
 use Rattle.rc_tfile.specs.laws.Follows.{followed_by-append, all_append}
-use Rattle.rc_tfile.proofs.Ahead.{ahead_decides}
+use Rattle.rc_tfile.proofs.Ahead.{ahead_decides, no_more}
 use Rattle.rc_tfile.proofs.Turns.{offset_is, first_damage}
 
 -- ---- bytes that must come next
@@ -28,7 +29,37 @@ miss files front code w off few told full h none content is =
     let at = told content is in
     (w.ahead ++ at.unread, offset_is content front w off at h, at.whole, λ more e. (let there = ahead_decides content front w at full code more few (at.whole ∙ ap (λ t. front ++ t) e) in none there.0 there.1))
 
+pub outside_miss : (bytes front code : List ℕ) (e : CheckErr) → IsHostError e → Misses bytes front code e
+outside_miss bytes front code Fault h = tt
+outside_miss bytes front code (Damaged off) h = absurd h
+outside_miss bytes front code OtherSchema h = absurd h
+outside_miss bytes front code NoMemory h = tt
+
 -- ---- nothing may come
+
+some_unread : (ahead unread : List ℕ) → (ahead ≡ [] → ⊥) → ahead ++ unread ≢ []
+some_unread [] unread h = λ e. h refl
+some_unread (x ∷ ahead) unread h = λ e. absurd cc
+
+pub overrun : (files : Option Files) (front : List ℕ) (w : ReadAhead) (off : ℕ) → IsAheadIn files front w → off + length w.ahead ≡ w.read → (w.ahead ≡ [] → ⊥) → (content : List ℕ) → IsContent files w.number content → Overruns content front (Damaged off)
+overrun files front w off told h some content is =
+    let at = told content is in
+    (w.ahead ++ at.unread, offset_is content front w off at h, at.whole, some_unread w.ahead at.unread some)
+
+pub outside_overrun : (bytes front : List ℕ) (e : CheckErr) → IsHostError e → Overruns bytes front e
+outside_overrun bytes front Fault h = tt
+outside_overrun bytes front (Damaged off) h = absurd h
+outside_overrun bytes front OtherSchema h = absurd h
+outside_overrun bytes front NoMemory h = tt
+
+pub all_read : (files : Option Files) (front : List ℕ) (w : ReadAhead) → IsAheadIn files front w → IsFull w → w.ahead ≡ [] → (content : List ℕ) → IsContent files w.number content → content ≡ front
+all_read files front w told full empty content is =
+    let at = told content is in
+    let none : length w.ahead ≡ 0 = ap length empty in
+    let lengths : length content ≡ length front + (length w.ahead + length at.unread) = ap length at.whole ∙ length-append front (w.ahead ++ at.unread) ∙ ap (λ n. length front + n) (length-append w.ahead at.unread) in
+    let read : w.read ≡ w.size = ⊎_elim (λ e. e) (λ many. absurd (omega (arith, many, none))) full in
+    let left : at.unread ≡ [] = no_more at.unread (omega (arith, read, at.size, at.read, lengths)) in
+    at.whole ∙ ap (λ t. front ++ t) ((λ i. empty i ++ left i)) ∙ append-nil front
 
 -- ---- the items behind the stop
 

@@ -1,17 +1,55 @@
 -- What a further item makes of an outline.
-use Rattle.std.proofs.Common.{◌≡◌, ℕ, ◌+◌, false, List, [], ◌∷◌, ◌++◌, Option, Some, None, refl, sym, ap, ◌∙◌, arith, length-append}
+use Rattle.std.proofs.Common.{◌≡◌, ℕ, ◌+◌, true, false, List, [], ◌∷◌, ◌++◌, Option, Some, None, refl, sym, ap, ◌∙◌, arith, length-append}
+use Rattle.std.specs.Prelude.{IsSome}
 use Rattle.std.specs.Option.{unwrap_or}
 use Rattle.rc_cell.specs.declared.writes.Tomb.{Tomb}
 use Rattle.rc_position.specs.declared.positions.Pos.{Pos}
 use Rattle.rc_tfile.specs.declared.blocks.Block.{Block}
 use Rattle.rc_tfile.specs.declared.outline.Outline.{Outline}
-use Rattle.rc_tfile.specs.Items.{Item, EndItem, item_code, bytes_of_item}
+use Rattle.rc_tfile.specs.Items.{Item, HeadItem, PartItem, RowItem, ChangeItem, EndItem, StopItem, EntryItem, BlockItem, TailItem, item_code, bytes_of_item}
 use Rattle.rc_tfile.specs.Before.{ItemsBefore, text, offset, last_key}
-use Rattle.rc_tfile.specs.Blocks.{DirectoryEntry, nearest_entry}
-use Rattle.rc_tfile.specs.calls.Outlined.{IsOutline}
+use Rattle.rc_tfile.specs.Blocks.{DirectoryEntry, with_fragment, nearest_entry}
+use Rattle.rc_tfile.specs.calls.Outlined.{IsOutline, IsFragment}
 
 pub offset_more : (before : ItemsBefore) (x : Item) (off size next : ℕ) → off ≡ offset before → size ≡ bytes_of_item x → next ≡ off + size → next ≡ offset (x ∷ before)
 offset_more before x off size next p q r = omega (arith, p, q, r, length-append (text before) (item_code x))
+
+block_is : (off size : ℕ) (tomb : Option Tomb) (x : Pos) (off' size' : ℕ) (tomb' : Option Tomb) (x' : Pos) → off ≡ off' → size ≡ size' → tomb ≡ tomb' → x ≡ x'
+    → (let b : Block = record { off = off; len = size; tomb = tomb; first = x } in b) ≡ record { off = off'; len = size'; tomb = tomb'; first = x' }
+block_is off size tomb x off' size' tomb' x' p q r s = λ i. record { off = p i; len = q i; tomb = r i; first = s i }
+
+pub fragment_taken : (before : ItemsBefore) (item : Item) (o o' : Outline) (x : Pos) (tomb : Option Tomb) (size : ℕ) → IsOutline before o → IsFragment before item x tomb → size ≡ bytes_of_item item
+    → o'.off ≡ o.off + size → o'.key ≡ o.key → IsSome o'.key → o'.inside ≡ true → o'.part ≡ o.part → o'.last ≡ Some x → o'.tomb ≡ tomb
+    → o'.blocks ≡ with_fragment o.blocks (record { off = o.off; len = size; tomb = o.tomb; first = x }) → o'.listed.items ≡ o.listed.items → IsOutline (item ∷ before) o'
+fragment_taken before (RowItem key row) o o' x tomb size is f s off k opened ins part last t bs l = record {
+  off = offset_more before (RowItem key row) o.off size o'.off is.off s off;
+  key = k ∙ is.key;
+  «inside» = rw ins refl;
+  opened = λ _. opened;
+  part = part ∙ is.part;
+  last = last ∙ ap Some f.0;
+  tomb = t ∙ f.1;
+  blocks = bs ∙ (λ i. with_fragment (is.blocks i) (block_is o.off size o.tomb x _ _ _ _ is.off s is.tomb f.0 i));
+  listed = l ∙ is.listed;
+}
+fragment_taken before (ChangeItem y new) o o' x tomb size is f s off k opened ins part last t bs l = record {
+  off = offset_more before (ChangeItem y new) o.off size o'.off is.off s off;
+  key = k ∙ is.key;
+  «inside» = rw ins refl;
+  opened = λ _. opened;
+  part = part ∙ is.part;
+  last = last ∙ ap Some f.0;
+  tomb = t ∙ f.1;
+  blocks = bs ∙ (λ i. with_fragment (is.blocks i) (block_is o.off size o.tomb x _ _ _ _ is.off s is.tomb f.0 i));
+  listed = l ∙ is.listed;
+}
+fragment_taken before (HeadItem schema) o o' x tomb size is f s off k opened ins part last t bs l = absurd f
+fragment_taken before (PartItem key pt statics) o o' x tomb size is f s off k opened ins part last t bs l = absurd f
+fragment_taken before EndItem o o' x tomb size is f s off k opened ins part last t bs l = absurd f
+fragment_taken before StopItem o o' x tomb size is f s off k opened ins part last t bs l = absurd f
+fragment_taken before (EntryItem key off' blocks) o o' x tomb size is f s off k opened ins part last t bs l = absurd f
+fragment_taken before (BlockItem b) o o' x tomb size is f s off k opened ins part last t bs l = absurd f
+fragment_taken before (TailItem off' parts) o o' x tomb size is f s off k opened ins part last t bs l = absurd f
 
 pub ended : (before : ItemsBefore) (o o' : Outline) (key : List ℕ) → IsOutline before o → o.key ≡ Some key
     → o'.off ≡ o.off + 1 → o'.key ≡ o.key → o'.inside ≡ false → o'.part ≡ o.part → o'.last ≡ None → o'.tomb ≡ None → o'.blocks ≡ []

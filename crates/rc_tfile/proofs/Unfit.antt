@@ -139,3 +139,7 @@ only_change schema before bytes p h k =
 pub only_end : (schema : SchemaValue) (before : ItemsBefore) (bytes : List ℕ) → item_place before ≡ Inside → (rest : List ℕ) × (bytes ≡ 4 ∷ rest) → (tomb_in_force before ≡ None → ⊥) → Nothing schema before bytes
 only_end schema before bytes p h k =
     nothing_inside schema before bytes p (no_row_behind schema before bytes (other_byte 4 2 bytes (λ e. absurd (omega (arith, e))) h)) (no_change_behind schema before bytes (other_byte 4 3 bytes (λ e. absurd (omega (arith, e))) h)) (λ r f e. k f.1.1)
+
+pub no_item_inside : (schema : SchemaValue) (before : ItemsBefore) (bytes : List ℕ) → item_place before ≡ Inside → ((rest : List ℕ) → bytes ≡ 2 ∷ rest → ⊥) → ((rest : List ℕ) → bytes ≡ 3 ∷ rest → ⊥) → ((rest : List ℕ) → bytes ≡ 4 ∷ rest → ⊥) → Nothing schema before bytes
+no_item_inside schema before bytes p h k m =
+    nothing_inside schema before bytes p (no_row_behind schema before bytes h) (no_change_behind schema before bytes k) (λ r f e. m r e)

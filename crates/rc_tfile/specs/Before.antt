@@ -4,7 +4,7 @@ use Rattle.std.specs.declared.cmp.Ordering.TheVariants.{Less}
 use Rattle.rc_cell.specs.declared.writes.Tomb.{Tomb}
 use Rattle.rc_position.specs.declared.positions.Pos.{Pos}
 use Rattle.rc_position.specs.Position.{bytes_cmp, row_pos, IsBefore}
-use Rattle.rc_tfile.specs.Items.{Item, HeadItem, PartItem, RowItem, ChangeItem, EndItem, item_code}
+use Rattle.rc_tfile.specs.Items.{Item, HeadItem, PartItem, RowItem, ChangeItem, EndItem, StopItem, EntryItem, BlockItem, TailItem, item_code}
 
 -- items, the nearest first
 abbrev pub ItemsBefore : Type 0

@@ -15,7 +15,7 @@ use Rattle.rc_mutation.specs.declared.fragments.Frag.TheVariants as frag
 use Rattle.rc_mutation.specs.declared.mutations.Partition.{Partition}
 use Rattle.rc_mutation.specs.Fragments.{fragments}
 use Rattle.rc_writes.specs.Allowed.{IsStaticOf, IsRowOf, IsRangeBound, ChangeFits}
-use Rattle.rc_tfile.specs.Items.{Item, HeadItem, PartItem, RowItem, ChangeItem, EndItem, StopItem, TailItem, item_code, IsItem}
+use Rattle.rc_tfile.specs.Items.{Item, HeadItem, PartItem, RowItem, ChangeItem, EndItem, StopItem, EntryItem, BlockItem, TailItem, item_code, IsItem}
 use Rattle.rc_tfile.specs.Before.{ItemsBefore, text, offset, followed_by, Between, Inside, item_place, tomb_in_force, IsNextKey, IsNextPos}
 use Rattle.rc_tfile.specs.Blocks.{ending, due}
 

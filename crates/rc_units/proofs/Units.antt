@@ -1,6 +1,6 @@
 -- Units of the cleaner on the versions of a chain.
 use Rattle.std.specs.Prelude.{◌≡◌, ◌+◌, ◌≤◌, ℕ, zero, suc, true, false, IsTrue, List, [], ◌∷◌, ◌++◌, Option, Some, None, cond, length}
-use Rattle.std.proofs.Common.{refl, sym, ap, ◌∙◌, subst, arith}
+use Rattle.std.proofs.Common.{refl, sym, ap, ◌∙◌, subst, arith, ⊎_elim}
 use Rattle.std.specs.Option.{option_to_list}
 use Rattle.std.specs.Ordering.{is_eq, is_gt}
 use Rattle.std.specs.Cmp.{tied_itself}
@@ -17,17 +17,19 @@ use Rattle.rc_mutation.specs.declared.mutations.Mutation.{Mutation}
 use Rattle.rc_core.specs.declared.entries.ChainKind.{ChainKind}
 use Rattle.rc_core.specs.declared.entries.ChainKind.TheVariants.{Memtable, Cache}
 use Rattle.rc_core.specs.declared.entries.Entry.{Entry}
-use Rattle.rc_core.specs.SpotState.{SpotState}
-use Rattle.rc_core.specs.Chains.{IsCarried}
+use Rattle.rc_core.specs.declared.entries.Flag.TheVariants.{Inherit}
+use Rattle.rc_core.specs.SpotState.{SpotState, over, through}
+use Rattle.rc_core.specs.Chains.{AllInherit, IsCarried}
 use Rattle.rc_core.specs.Version.{Spot, Version, IsVersion, Ascend, EndsWithDummy, found, seen, spot_cmp, entry_answers, end_position}
-use Rattle.rc_core.specs.Chain.{states_at, content, flagged}
+use Rattle.rc_core.specs.Chain.{states_at, content, flagged, flag_over, IsEvenAt}
 use Rattle.rc_core.specs.Change.{drop_at, without_gap, lose_first_gap, lost_mark}
-use Rattle.rc_core.specs.Continuity.{EachOf, IsContinuous, IsEvicted, with_entries, without_statics}
-use Rattle.rc_core.specs.Merge.{Alike, IsSeenAlike, IsMerged, IsSilent}
+use Rattle.rc_core.specs.Continuity.{EachOf, IsContinuous, IsEvicted, IsSameOrLost, with_entries, without_statics}
+use Rattle.rc_core.specs.Merge.{Alike, IsSeenAlike, IsMerged, IsPutDown, IsSilent}
+use Rattle.rc_core.specs.laws.Folding.{flagged-through}
 use Rattle.rc_core.specs.laws.Updating.{carried}
-use Rattle.rc_core.specs.laws.Losing.{entry-evicted, statics-evicted}
-use Rattle.rc_core.specs.laws.Merging.{merged-seen, dropped-seen}
-use Rattle.rc_core.specs.laws.Keeping.{dropped-continuous, merged-continuous}
+use Rattle.rc_core.specs.laws.Losing.{entry-evicted, statics-evicted, evicted-continuous, evicted-seen, known-before}
+use Rattle.rc_core.specs.laws.Merging.{merged-seen, dropped-seen, alike-seen, alike-even}
+use Rattle.rc_core.specs.laws.Keeping.{dropped-continuous, each_less, each_two, merged-continuous}
 use Rattle.rc_units.specs.Clean.{cleaned, cleaned_by, entry_cleaned, cache_cleaned_by, cleaned_without_room, further, clean_times, units_of, static_units, gap_said, merge_entry, end_merged, emptied, statics_said, statics_onto}
 use Rattle.rc_units.proofs.Under.{pt_known}
 use Rattle.rc_units.proofs.Cleaning.{statics-merged, entry-merged, end-merged, emptied-silent}
@@ -134,6 +136,9 @@ unit-carried updating front mid back v w x i j =
     carried updating (front ++ v ∷ w ∷ mid) (front ++ v ∷ w ∷ back) (front ++ (cleaned v w ++ mid)) (front ++ (cleaned v w ++ back)) x
     (unit-seen front mid v w i j) (unit-seen front back v w i j)
 
+pub unit-even : (kind : ChainKind) (front back : List Version) (v w : Version) (x : Pos) → IsVersion v → IsVersion w → IsEvenAt kind (front ++ v ∷ w ∷ back) x → IsEvenAt kind (front ++ (cleaned v w ++ back)) x
+unit-even kind front back v w x i j = alike-even kind (front ++ v ∷ w ∷ back) (front ++ (cleaned v w ++ back)) x (unit-seen front back v w i j)
+
 -- ---- a whole merge
 
 pub times-seen : (n : ℕ) (front back : List Version) (v w : Version) → IsVersion v → IsVersion w → IsSeenAlike (front ++ v ∷ w ∷ back) (front ++ (clean_times n v w ++ back))
@@ -142,6 +147,9 @@ times-seen n front back v w i j =
     (λ a b c d m h. alike-both _ _ _ h (merged-seen front back a b c d m))
     (λ a b s t h. alike-both _ _ _ h (dropped-seen front back a b s t))
     n v w i j (alike-again (front ++ v ∷ w ∷ back))
+
+further_one : (f : Version → Version → List Version) (w : Version) → length (further f (w ∷ [])) ≡ 1
+further_one f w = refl
 
 whole : (k : ℕ) (v w : Version) → IsVersion v → IsVersion w → units_of v ≤ k → length (clean_times k v w) ≡ 1
 whole zero v w i j le = elim v.entries as (λ es. v.entries ≡ es → static_units v.statics + length es ≤ 0 → length (clean_times 0 v w) ≡ 1) [
@@ -204,6 +212,13 @@ module _ (P : List Version → Type 0) (front back : List Version)
   lost-kept Memtable = p
   lost-kept Cache = lost_statics v.statics
 
+pub lost-continuous : (kind : ChainKind) (reach : Option Place) (writes : List Mutation) (front back : List Version) (v w : Version) → IsVersion v → IsVersion w →
+    IsContinuous reach writes (front ++ v ∷ w ∷ back) → IsContinuous reach writes (front ++ (cleaned_without_room kind v w ++ back))
+lost-continuous kind reach writes front back v w i j k =
+    lost-kept (IsContinuous reach writes) front back
+    (λ a b c d m h. merged-continuous reach writes front back a b c d m h) (λ a b s t h. dropped-continuous reach writes front back a b s t h)
+    (λ a b c e h. evicted-continuous reach writes front (b ∷ back) a c e h) v w i j k kind
+
 -- what was said from the first entry on and before the next is lost
 pub first-lost : (s : Spot) (n : Entry) (back : List Entry) → spot_cmp s n.position ≡ Less → seen s (lose_first_gap (n ∷ back)) ≡ found lost_mark None
 first-lost s n back h = ap (λ r. entry_answers r (without_gap n) (seen s back)) h
@@ -211,6 +226,26 @@ first-lost s n back h = ap (λ r. entry_answers r (without_gap n) (seen s back))
 -- what is known now was known before with the same content
 abbrev pub KnownBefore : List Version → List Version → Type 0
 KnownBefore before now = (s : Spot) → IsTrue (flagged Cache (states_at s now)) → IsTrue (flagged Cache (states_at s before)) × (content (states_at s now) ≡ content (states_at s before))
+
+known_both : (us vs ws : List Version) → KnownBefore us vs → KnownBefore vs ws → KnownBefore us ws
+known_both us vs ws h k s f = let a = k s f in let b = h s a.0 in (b.0, a.1 ∙ b.1)
+
+alike_flagged : (us vs : List SpotState) → Alike (through vs) (through us) → flagged Cache vs ≡ flagged Cache us
+alike_flagged us vs h = flagged-through Cache vs ∙ ap (flag_over Cache) h.0 ∙ sym (flagged-through Cache us)
+
+alike_known : (us vs : List Version) → IsSeenAlike us vs → KnownBefore us vs
+alike_known us vs h s f = (sym (alike_flagged (states_at s us) (states_at s vs) (h.clustered s)) ∙ f, alike-seen us vs s h)
+
+lost_known : (us vs : List Version) → IsSameOrLost us vs → KnownBefore us vs
+lost_known us vs h s f = known-before (states_at s us) (states_at s vs) (h.clustered s) f
+
+pub lost-known : (kind : ChainKind) (front back : List Version) (v w : Version) → IsVersion v → IsVersion w → KnownBefore (front ++ v ∷ w ∷ back) (front ++ (cleaned_without_room kind v w ++ back))
+lost-known kind front back v w i j =
+    lost-kept (KnownBefore (front ++ v ∷ w ∷ back)) front back
+    (λ a b c d m h. known_both (front ++ v ∷ w ∷ back) (front ++ a ∷ b ∷ back) (front ++ c ∷ d ∷ back) h (alike_known (front ++ a ∷ b ∷ back) (front ++ c ∷ d ∷ back) (merged-seen front back a b c d m)))
+    (λ a b s t h. known_both (front ++ v ∷ w ∷ back) (front ++ a ∷ b ∷ back) (front ++ b ∷ back) h (alike_known (front ++ a ∷ b ∷ back) (front ++ b ∷ back) (dropped-seen front back a b s t)))
+    (λ a b c e h. known_both (front ++ v ∷ w ∷ back) (front ++ a ∷ b ∷ back) (front ++ c ∷ b ∷ back) h (lost_known (front ++ a ∷ b ∷ back) (front ++ c ∷ b ∷ back) (evicted-seen front (b ∷ back) a c e)))
+    v w i j (λ s f. (f, refl)) kind
 
 module _ (v w : Version) (i : IsVersion v) (j : IsVersion w) where
   lost_entries_versions : (es : List Entry) → v.entries ≡ es → EachOf IsVersion (cache_cleaned_by None es v w)
@@ -227,3 +262,19 @@ module _ (v w : Version) (i : IsVersion v) (j : IsVersion w) where
   lost-versions Cache = lost_statics_versions v.statics
 
 -- ---- a memtable's chain: where both versions inherit everywhere, they still do
+
+alike_inherit : (c d e f : SpotState) → IsPutDown c d e f → c.flag ≡ Inherit → d.flag ≡ Inherit → (e.flag ≡ Inherit) × (f.flag ≡ Inherit)
+alike_inherit c d e f p h k = ⊎_elim
+    (λ q. (ap (λ (x : SpotState). x.flag) q.0 ∙ h, ap (λ (x : SpotState). x.flag) q.1 ∙ k))
+    (λ q. (ap (λ (x : SpotState). x.flag) q.0, q.1.0 ∙ ap (λ g. (over g c d).flag) k ∙ h))
+    p
+
+-- two versions that put states down keep the flags of a memtable
+inherit_two : (a b c d : Version) → IsMerged a b c d → AllInherit a → AllInherit b → AllInherit c × AllInherit d
+inherit_two a b c d m h k = (
+  record { statics = (alike_inherit _ _ _ _ m.statics h.statics k.statics).0; clustered = λ s. (alike_inherit _ _ _ _ (m.clustered s) (h.clustered s) (k.clustered s)).0 },
+  record { statics = (alike_inherit _ _ _ _ m.statics h.statics k.statics).1; clustered = λ s. (alike_inherit _ _ _ _ (m.clustered s) (h.clustered s) (k.clustered s)).1 },
+)
+
+pub unit-inherits : (front back : List Version) (v w : Version) → IsVersion v → IsVersion w → EachOf AllInherit (front ++ v ∷ w ∷ back) → EachOf AllInherit (front ++ (cleaned v w ++ back))
+unit-inherits front back v w i j h = unit-kept (EachOf AllInherit) front back (λ a b c d m k. each_two AllInherit front back a b c d k (inherit_two a b c d m)) (λ a b s t k. each_less AllInherit front (b ∷ back) a k) v w i j h

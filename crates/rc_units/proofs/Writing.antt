@@ -1,19 +1,26 @@
 -- What the plain functions make: one element after another, and in place.
-use Rattle.std.specs.Prelude.{◌≡◌, ◌+◌, ◌<◌, ◌≤◌, ℕ, zero, suc, true, not, ◌==◌, List, [], ◌∷◌, ◌++◌, drop, length, take, map as list_map}
+use Rattle.std.specs.Prelude.{◌≡◌, ◌+◌, ◌<◌, ◌≤◌, ℕ, zero, suc, true, not, ◌==◌, List, [], ◌∷◌, ◌++◌, Option, drop, length, take, map as list_map}
 use Rattle.std.proofs.Common.{refl, sym, ap, ◌∙◌, subst, arith, slice_index_or, slice_set}
 use Rattle.std.proofs.lemmas.List.{take_all}
 use Rattle.std.specs.Ordering.{is_lt}
 use Rattle.rc_cell.specs.declared.rows.Row.{Row}
 use Rattle.rc_cell.specs.declared.writes.Tomb.{Tomb}
+use Rattle.rc_cell.specs.Winner.{joined_row}
 use Rattle.rc_position.specs.declared.comps.Comp.{Comp}
 use Rattle.rc_position.specs.declared.positions.Pos.{Pos}
 use Rattle.rc_position.specs.declared.positions.Weight.{Weight}
 use Rattle.rc_position.specs.declared.positions.Weight.TheVariants.{Before, At, After}
 use Rattle.rc_position.specs.Position.{pos_cmp, prefix_cmp}
 use Rattle.rc_core.specs.declared.entries.Flag.{Flag}
+use Rattle.rc_core.specs.declared.entries.Flag.TheVariants.{Known, Unknown, Inherit}
 use Rattle.rc_core.specs.declared.entries.Mark.{Mark}
-use Rattle.rc_core.specs.SpotState.{SpotState}
+use Rattle.rc_core.specs.SpotState.{SpotState, over, under}
+use Rattle.rc_core.specs.Change.{mark}
+use Rattle.rc_core.specs.Merge.{Alike}
+use Rattle.rc_core.specs.Plain.{mark_state, mark_by, mark_under}
 use Rattle.rc_core.specs.Version.{end_position}
+use Rattle.rc_core.specs.laws.Losing.{tomb-alone}
+use Rattle.rc_units.proofs.Under.{greater_says}
 
 -- ---- each element made
 
@@ -42,6 +49,17 @@ whole-set f (x ∷ xs) zero le = absurd (omega arith)
 whole-set f (x ∷ xs) (suc i) le = ap (λ zs. f x ∷ zs) (whole-set f xs i (omega arith))
 
 -- ---- marks that say the same are one
+
+pub same-mark : (m n : Mark) (c : SpotState) → Alike (mark_state m) c → Alike (mark_state n) c → m ≡ n
+same-mark m n c h k = λ i. mark ((h.0 ∙ sym k.0) i) ((sym (tomb-alone m.tomb) ∙ ap (λ (a : Row × Option Tomb). a.1) (h.1 ∙ sym k.1) ∙ tomb-alone n.tomb) i)
+
+mark_alike : (f : Flag) (m : Mark) (t : Option Tomb) → Alike (mark_state (mark_by f m (mark f t))) (over f (mark_state m) (mark_state (mark f t)))
+mark_alike Known m t = (refl, refl)
+mark_alike Unknown m t = (refl, refl)
+mark_alike Inherit m t = (refl, λ i. (joined_row [], greater_says m.tomb t i))
+
+pub mark-down : (older newer m : Mark) → Alike (mark_state m) (under (mark_state older) (mark_state newer)) → m ≡ mark_under older newer
+mark-down older newer m h = same-mark m (mark_under older newer) (under (mark_state older) (mark_state newer)) h (mark_alike newer.flag older newer.tomb)
 
 -- ---- the end
 

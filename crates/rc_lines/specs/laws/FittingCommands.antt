@@ -8,6 +8,7 @@ use Rattle.std.specs.declared.cmp.Ordering.TheVariants.{Less, Equal, Greater}
 use Rattle.std.specs.List.{list_all}
 use Rattle.std.specs.Option.{is_none, unwrap_or}
 use Rattle.std.specs.Ordering.{is_lt}
+use Rattle.std.proofs.lemmas.Bool.Decides.{Decides-eqb}
 use Rattle.rc_cell.specs.declared.rows.Row.{Row}
 use Rattle.rc_cell.specs.declared.writes.Cell.{Cell}
 use Rattle.rc_cell.specs.declared.writes.Tomb.{Tomb}
@@ -68,6 +69,9 @@ cells_fit : (is_static : Bool) (schema : SchemaValue) (cells : List (ℕ × Cell
     → fits_cells is_static schema cells ≡ true
 unfolding checked_cells
 cells_fit is_static schema cells p q = rw (p, q) refl
+
+equal_numbers : (n m : ℕ) → n ≡ m → n == m ≡ true
+equal_numbers n m h = (Decides-eqb n m).1 h
 
 full_fits : (pieces : List (List ℕ)) (kinds : List CkKind) (key : List Comp) → key_under pieces kinds ≡ Some key → fits_kinds true kinds key ≡ true
 unfolding key_under

@@ -1,5 +1,6 @@
 -- What is being built, after one piece and another.
 use Rattle.std.proofs.Common.{◌≡◌, List, ℕ, [], ◌∷◌, ◌++◌, ◌∙◌, length, Option, Some, None, refl, sym, ap, append-nil, append_assoc}
+use Rattle.std.specs.Prelude.{IsSome}
 use Rattle.rc_outside.specs.Files.{Draft, Files, grown, new_draft, with_draft}
 use Rattle.std.specs.List.{flat_map}
 use Rattle.std.proofs.lemmas.Grind.{flat_map-append}
@@ -18,10 +19,19 @@ use Rattle.rc_tfile.specs.Stored.{with_file}
 back : (xs : List ℕ) → xs ≡ xs ++ []
 back xs = sym (append-nil xs)
 
+pub grown_nil : (b : Option (Option Draft)) → b ≡ grown b []
+grown_nil None = refl
+grown_nil (Some None) = refl
+grown_nil (Some (Some d)) = λ i. Some (Some (d.0, back d.1 i))
+
 pub grown_more : (b : Option (Option Draft)) (xs ys : List ℕ) → grown (grown b xs) ys ≡ grown b (xs ++ ys)
 grown_more None xs ys = refl
 grown_more (Some None) xs ys = refl
 grown_more (Some (Some d)) xs ys = λ i. Some (Some (d.0, append_assoc d.1 xs ys i))
+
+pub grown_some : (b : Option (Option Draft)) (xs : List ℕ) → IsSome b → IsSome (grown b xs)
+grown_some None xs h = h
+grown_some (Some d) xs h = refl
 
 pub finished : (files : Option Files) (n : ℕ) (bytes : List ℕ) → with_draft files (grown (new_draft files n) bytes) ≡ with_file files n bytes
 finished None n bytes = refl

@@ -1,7 +1,7 @@
 -- Reading one value behind another: what the bytes begin with.
 use Rattle.std.proofs.Common.{◌≡◌, ℕ, ◌+◌, ◌≤◌, List, [], ◌∷◌, ◌++◌, length, take, drop, Option, Some, None, refl, sym, ap, ◌∙◌, arith, append_assoc}
 use Rattle.std.specs.Prelude.{IfSome}
-use Rattle.std.proofs.lemmas.List.{take_at, drop_at, take-append-drop, length-append}
+use Rattle.std.proofs.lemmas.List.{take_at, drop_at, take-append-drop, length-append, length-take-le}
 use Rattle.rc_cell.specs.declared.writes.Tomb.{Tomb}
 use Rattle.rc_rowcode.specs.Spelling.{ReadsPrefix, optional_code, tomb_code, key_code, pos_code, row_code, IsTomb, IsKey, IsPos, IsCodedRow}
 use Rattle.rc_rowcode.specs.laws.Codecs.{tomb_codec, optional_codec, key_codec, pos_codec}
@@ -84,12 +84,34 @@ pub tomb_missing : (bytes rest : List ℕ) → ((r : List ℕ) → bytes ≡ 0 �
 tomb_missing bytes rest h p k None more fits e = h more e
 tomb_missing bytes rest h p k (Some t) more fits e = k t more fits (ap rest_of (sym p ∙ e))
 
+pub no_option : (bytes : List ℕ) → ((r : List ℕ) → bytes ≡ 0 ∷ r → ⊥) → ((r : List ℕ) → bytes ≡ 1 ∷ r → ⊥) → Starts (optional_code tomb_code) IsOptional bytes None
+no_option bytes h k None more fits e = h more e
+no_option bytes h k (Some t) more fits e = k (tomb_code t ++ more) e
+
 -- ---- a partition key
 
 -- the first byte; 0 where there is none
 abbrev first_of_list : List ℕ → ℕ
 first_of_list [] = 0
 first_of_list (x ∷ xs) = x
+
+pub no_key : (bytes : List ℕ) → bytes ≡ [] → Starts bytes_code IsPartKey bytes None
+no_key bytes p = λ x more fits e. absurd (let q : [] ≡ length x ∷ (x ++ more) = sym p ∙ e in cc)
+
+pub key_missing : (bytes rest : List ℕ) (len : ℕ) → bytes ≡ len ∷ rest → (1 ≤ len → len ≤ 64 → len ≤ length rest → ⊥) → Starts bytes_code IsPartKey bytes None
+key_missing bytes rest len p h = λ x more fits e.
+    let q : len ∷ rest ≡ length x ∷ (x ++ more) = sym p ∙ e in
+    let l : len ≡ length x = ap first_of_list q in
+    let r : length rest ≡ length x + length more = ap (λ t. length (rest_of t)) q ∙ length-append x more in
+    h (omega (arith, l, fits.0)) (omega (arith, l, fits.1)) (omega (arith, l, r))
+
+pub key_there : (bytes rest : List ℕ) (len : ℕ) → bytes ≡ len ∷ rest → 1 ≤ len → len ≤ 64 → len ≤ length rest → Starts bytes_code IsPartKey bytes (Some (take len rest, 1 + len))
+key_there bytes rest len p some few enough =
+    let t = take len rest in
+    let l : length t ≡ len = length-take-le len rest enough in
+    let parts : bytes ≡ (length t ∷ t) ++ drop len rest = p ∙ (λ i. sym l i ∷ sym (take-append-drop len rest) i) in
+    let whole : 1 + len ≡ length (length t ∷ t) = omega (arith, l) in
+    ((omega (arith, l, some), omega (arith, l, few)), parts ∙ ap (λ d. (length t ∷ t) ++ d) (sym (drop_at (length t ∷ t) (drop len rest) (1 + len) (sym whole)) ∙ ap (drop (1 + len)) (sym parts)), whole)
 
 pub key_free : PrefixFree bytes_code IsPartKey
 key_free = λ a b x y f g e.
