@@ -2,7 +2,7 @@
 use Rattle.std.specs.Prelude.{◌≡◌, ◌⊎◌, ◌≤◌, ◌+◌, ℕ, zero, suc, Bool, true, false, IsTrue, ◌&&◌, Option}
 use Rattle.std.proofs.Common.{refl, sym, ap, ◌∙◌, subst, arith, inl, inr}
 use Rattle.rc_position.specs.declared.positions.Pos.{Pos}
-use Rattle.rc_stream.specs.Did.{Call, InTurn, Deed, IsQuiet, MergeDid, OneCall, OurCall, Spends, StepsInTurn, TheirCall, merge_did, both_left, both_settled}
+use Rattle.rc_stream.specs.Did.{Call, InTurn, Deed, IsQuiet, MergeDid, OneCall, OurCall, Spends, StepsInTurn, TheirCall, merge_did, both_left, both_settled, Call.OfHead, Call.OfNext, Call.OfSeek}
 
 -- ---- chains of steps
 

@@ -1,6 +1,6 @@
 -- Each went on, or one that was refused is as it was.
 use Rattle.std.proofs.Common.{Ok, Err, Some, true, false, refl}
-use Rattle.rc_stream.specs.Did.{OneCall, answered}
+use Rattle.rc_stream.specs.Did.{Call.OfSeek, OneCall, answered}
 use Rattle.rc_stream.specs.Stream.{sought}
 use Rattle.rc_stream.proofs.Chains.{chain-after, once-called, once-called-theirs}
 use Rattle.rc_stream.proofs.Going.{moved-moved, once-ours, once-theirs}

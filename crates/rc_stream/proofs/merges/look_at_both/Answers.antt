@@ -1,6 +1,6 @@
 -- Both were called, one after the other.
 use Rattle.std.proofs.Common.{true, false, refl, None, inl}
-use Rattle.rc_stream.specs.Did.{OneCall, answered}
+use Rattle.rc_stream.specs.Did.{Call.OfNext, OneCall, answered}
 use Rattle.rc_stream.proofs.Chains.{chain-after, chain-stopped, once-called, once-called-theirs}
 use Rattle.rc_stream.proofs.Ending.{covers-theirs}
 use Rattle.rc_stream.proofs.Going.{moved-moved, once-keeps, once-ours, once-theirs}
