@@ -2,7 +2,7 @@
 --     IsGrown      a chain got something in its newest version, which nobody pinned, or got that version first
 --     AreOthersKept   all but one chain is as it was
 --     IsApplied    one write more
-use Rattle.std.specs.Prelude.{◌≡◌, ℕ, List, ◌++◌, ◌∷◌, [], Some, None, IfSome, IsSomeAnd, cond}
+use Rattle.std.specs.Prelude.{◌≡◌, ℕ, List, ◌++◌, ◌∷◌, [], Option, Some, None, cond}
 use Rattle.std.specs.Ordering.{eq_by_cmp}
 use Rattle.rc_position.specs.Position.{bytes_cmp}
 use Rattle.rc_schema.specs.SchemaValue.{SchemaValue}
@@ -12,7 +12,8 @@ use Rattle.rc_core.specs.Chains.{IsPinned, upto}
 use Rattle.rc_registry.specs.Registry.{IsNumberIn}
 use Rattle.rc_memory.specs.Memory.{KeptChain, Memory, chain_at}
 use Rattle.rc_memory.specs.Changes.{IsUnmoved, StandStill}
-use Rattle.rc_memtable.specs.Writes.{HasWrites, KeepsChanges, chain_of}
+use Rattle.rc_memtable.specs.Changes.{KeepsChanges}
+use Rattle.rc_memtable.specs.Writes.{HasWrites, chain_of}
 
 -- what each snapshot sees is as it was, and so is all else of the chain but its versions
 pub record IsGrown (old new : KeptChain) : Type 0 where
@@ -34,7 +35,7 @@ pub record AreOthersKept (id : ℕ) (old new : Memory) : Type 0 where
 
 -- a change was written into a chain: it stands for its changes with this one behind them
 pub record IsWritten (schema : SchemaValue) (id : ℕ) (change : Mutation) (old new : Memory) : Type 0 where
-  pub grown : IfSome (chain_at old id) (λ k. IsSomeAnd (chain_at new id) (λ n. IsGrown k n × ((changes : List Mutation) → KeepsChanges schema k.chain changes → KeepsChanges schema n.chain (changes ++ change ∷ []))))
+  pub grown : (k : KeptChain) → chain_at old id ≡ Some k → (n : KeptChain) × (chain_at new id ≡ Some n) × IsGrown k n × ((changes : List Mutation) → KeepsChanges schema k.chain changes → KeepsChanges schema n.chain (changes ++ change ∷ []))
   pub others : AreOthersKept id old new
 
 -- A write was put behind those that the memtable stood for. Its key has a chain, the one that it had, or a new one, whose number no chain had nor was to be told.
@@ -42,6 +43,6 @@ pub record IsApplied (schema : SchemaValue) (w : Write) (before now : List (List
   pub stands : (writes : List Write) → HasWrites schema before old writes → HasWrites schema now new (writes ++ w ∷ [])
   pub id : ℕ
   pub keys : (key : List ℕ) → chain_of now key ≡ cond (eq_by_cmp bytes_cmp w.key key) (Some id) (chain_of before key)
-  pub had : (n : ℕ) → chain_of before w.key ≡ Some n → (n ≡ id) × IfSome (chain_at old id) (λ k. IsSomeAnd (chain_at new id) (IsGrown k))
+  pub had : (n : ℕ) → chain_of before w.key ≡ Some n → (n ≡ id) × ((k : KeptChain) → chain_at old id ≡ Some k → (now : KeptChain) × (chain_at new id ≡ Some now) × IsGrown k now)
   pub made : chain_of before w.key ≡ None → (chain_at old id ≡ None) × (IsNumberIn old.dropped id → ⊥)
   pub others : AreOthersKept id old new

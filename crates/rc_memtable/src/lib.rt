@@ -1,7 +1,10 @@
 //! The writes of a shard that stand in no table, in chains of the region.
 #![tactic(auto)]
 
+mod freeing;
 mod memtable;
+mod numbers;
 mod writing;
 
+pub use freeing::{free_if_unpinned, release};
 pub use memtable::Memtable;
