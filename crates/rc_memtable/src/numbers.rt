@@ -1,5 +1,7 @@
 //! The numbers of chains by partition key.
-ghost use Rattle.std.specs.Prelude.{◌≡◌, ◌+◌, ◌/◌, ◌≤◌, ℕ, List as Sequence, Some, None, IfOk, IsSome, OnErr, cond};
+ghost use Rattle.std.specs.Prelude.{◌≡◌, ◌+◌, ◌/◌, ◌≤◌, ℕ, List as Sequence, Some, None, IfOk, IsSome, OnErr, OnOk, cond};
+ghost use Rattle.std.specs.BTreeMap.{is_at};
+ghost use Rattle.std.specs.Map.{remove_entry};
 ghost use Rattle.std.specs.Ordering.{eq_by_cmp};
 ghost use Rattle.lsa_pool.specs.Room.{spare_of};
 ghost use Rattle.rc_position.specs.Position.{bytes_cmp};
@@ -29,6 +31,29 @@ fn set_number(numbers: &mut BTreeMap<PartKey, u64>, key: &PartKey, id: u64)
     }
 }
 
+// A place for a key that has no number. The only error is want of memory, which changes nothing.
+fn add_place(
+    numbers: &mut BTreeMap<PartKey, u64>,
+    alloc: Global,
+    key: &PartKey,
+) -> Result<(), AllocError>
+    requires absent { chain_of numbers.old.entries key.now ≡ None }
+    ensures ok { OnOk result ((q : Sequence ℕ) → chain_of numbers.new.entries q ≡ cond (eq_by_cmp bytes_cmp key.now q) (Some 0) (chain_of numbers.old.entries q)) }
+    ensures back { OnOk result (remove_entry (is_at (bytes_cmp key.now)) numbers.new.entries ≡ numbers.old.entries) }
+    ensures same { OnErr result (numbers.new.entries ≡ numbers.old.entries) }
+{
+    let copy = key.copy(alloc)?;
+    numbers.insert(copy, 0)?;
+    Ok(())
+}
+
+// Takes the place of a key out.
+fn drop_place(numbers: &mut BTreeMap<PartKey, u64>, key: &PartKey)
+    ensures { numbers.new.entries ≡ remove_entry (is_at (bytes_cmp key.now)) numbers.old.entries }
+{
+    numbers.remove(key);
+}
+
 /// Makes a chain for a key that has none, and gives its number. The only error is want of memory, after which numbers and chains are as they were.
 pub(crate) fn add_chain<const S: usize>(
     numbers: &mut BTreeMap<PartKey, u64>,
@@ -45,15 +70,14 @@ pub(crate) fn add_chain<const S: usize>(
     ensures same { OnErr result (numbers.new.entries ≡ numbers.old.entries) }
     ensures err { OnErr result (IsSameButSlots chains.old chains.new) }
 {
-    let copy = key.copy(alloc)?;
-    numbers.insert(copy, 0)?;
+    add_place(numbers, alloc, key)?;
     match chains.new_chain(ChainKind::Memtable, 0, None) {
         Ok(id) => {
             set_number(numbers, key, id);
             Ok(id)
         }
         Err(error) => {
-            numbers.remove(key);
+            drop_place(numbers, key);
             Err(error)
         }
     }

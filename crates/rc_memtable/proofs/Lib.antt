@@ -1,0 +1,9 @@
+mod Fitting
+mod OnePlace
+mod Kept
+mod Named
+mod Numbered
+mod Room
+mod Steps
+mod Freeing
+mod Ready
