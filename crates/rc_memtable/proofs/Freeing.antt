@@ -160,6 +160,7 @@ module _ (id : ℕ) (old now : Memory) (t : IsThere id old now) (rule : IsRecenc
           let b = before f in omega (arith, a, b, less)
 
       pub freeing-less : IsOneFreed id now new → objects_left (chain_at new id) < objects_left (chain_at now id)
+      unfolding entry-then then-there static-then version-then
       freeing-less (inl e) = let f = first sound in
           changed-less (free_entry t.chain.chain.kind e.at) (entry-then e).there f (entry f.0 f.1 e.at (e.there t.chain f.0 t.there (at-first f)))
       freeing-less (inr (inl e)) = let f = first sound in

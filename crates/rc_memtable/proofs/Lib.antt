@@ -7,3 +7,4 @@ mod Room
 mod Steps
 mod Freeing
 mod Ready
+mod Applied

@@ -23,7 +23,7 @@ use Rattle.rc_core.specs.declared.entries.Flag.TheVariants.{Inherit}
 use Rattle.rc_core.specs.Change.{joined_onto}
 use Rattle.rc_core.specs.StandsFor.{written_pt, written_range, written_row, written_statics}
 use Rattle.rc_core.specs.Steps.{join_flagged_statics, join_pt, range_joined, row_joined}
-use Rattle.rc_core.specs.Version.{IsVersion, Version}
+use Rattle.rc_core.specs.Version.{IsVersion, On, Version, seen}
 use Rattle.rc_version.specs.Versions.{bytes_at, joined_bytes}
 use Rattle.rc_memory.specs.Kept.{IsSoundChain}
 use Rattle.rc_memory.specs.Memory.{HasVersion, Member, Memory, chain_at}
@@ -75,7 +75,7 @@ module _ (S : ℕ) (schema : SchemaValue) (m : Memory) (id number bytes : ℕ) (
 
     pub row-room : largest_entry schema ≤ bytes → OfVersion m id number (λ k v. joined_bytes (row_pos key) row v ≤ spare_of S m.region.usages)
     row-room enough = of-fitting m id r.kept.0 r.kept.2 sound versions number r.kept.3.0 schema (λ v. joined_bytes (row_pos key) row v ≤ spare_of S m.region.usages) r.kept.4.fits
-        (λ v fits. let j = joined-there schema key row h up v fits in let s = entry-small schema r.limits key _ j.0 j.1 in let spare = r.spare in omega (arith, s, spare, enough))
+        (λ v fits. let j = joined-there schema key row h up v fits in let s = entry-small schema r.limits key (joined_onto (seen (On (row_pos key)) v.entries).row row) j.0 j.1 in let spare = r.spare in omega (arith, s, spare, enough))
 
     pub row-fitting : FitsChanged S id number (row_joined (row_pos key) row) m
     row-fitting = fits-by (row_joined (row_pos key) row) (row-fits schema key row h up)
@@ -95,7 +95,7 @@ module _ (S : ℕ) (schema : SchemaValue) (m : Memory) (id number bytes : ℕ) (
 
     pub static-room : largest_static schema ≤ bytes → OfVersion m id number (λ k v. static_size (joined_onto v.statics row) ≤ spare_of S m.region.usages)
     static-room enough = of-fitting m id r.kept.0 r.kept.2 sound versions number r.kept.3.0 schema (λ v. static_size (joined_onto v.statics row) ≤ spare_of S m.region.usages) r.kept.4.fits
-        (λ v fits. let j = joined-static schema v.statics row fits.statics h up in let s = static-small schema r.limits _ j.0 j.1 in let spare = r.spare in omega (arith, s, spare, enough))
+        (λ v fits. let j = joined-static schema v.statics row fits.statics h up in let s = static-small schema r.limits (joined_onto v.statics row) j.0 j.1 in let spare = r.spare in omega (arith, s, spare, enough))
 
     pub static-fitting : FitsChanged S id number (join_flagged_statics row Inherit) m
     static-fitting = fits-by (join_flagged_statics row Inherit) (statics-fit schema row Inherit h up)

@@ -6,9 +6,9 @@ use Rattle.rc_registry.specs.Registry.{AreFree, put}
 use Rattle.rc_memory.specs.Memory.{KeptChain, Memory, chain_at, on_chain, on_shown, shown_detached}
 
 -- the chains are these, and so are the numbers to be told; the recency list and the counts are as they were
-pub record HasLeft (chains : List (Option KeptChain)) (dropped : List ℕ) (old new : Memory) : Type 0 where
-  pub chains : new.chains ≡ chains
-  pub dropped : new.dropped ≡ dropped
+pub record HasLeft (those : List (Option KeptChain)) (told : List ℕ) (old new : Memory) : Type 0 where
+  pub chains : new.chains ≡ those
+  pub dropped : new.dropped ≡ told
   pub recency : new.recency ≡ old.recency
   pub counts : new.counts ≡ old.counts
 
