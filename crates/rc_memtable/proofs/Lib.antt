@@ -5,6 +5,8 @@ mod Named
 mod Numbered
 mod Room
 mod Steps
-mod Freeing
+mod Freed
 mod Ready
 mod Applied
+mod Snapshots
+mod LettingGo

@@ -1,11 +1,15 @@
 //! How a memtable's chains are let go.
-ghost use Rattle.std.specs.Prelude.{◌≡◌, ◌↔◌, ℕ, true, false, Some, IsTrue, IfSome, IsSomeAnd};
+ghost use Rattle.std.specs.Prelude.{◌≡◌, ◌↔◌, ℕ, [], true, false, Some, IsTrue, IsSomeAnd, map};
 ghost use Rattle.rc_core.specs.declared.entries.ChainKind.{ChainKind as Kind};
 ghost use Rattle.rc_registry.specs.Registry.{AreFree};
 ghost use Rattle.rc_memory.specs.Memory.{KeptChain, HasChain, HasPin, chain_at, on_chain, with_chains, without_snapshot};
-ghost use Rattle.rc_memtable.specs.LetGo.{IsFreed, IsGone, IsLetGo};
+ghost use Rattle.rc_memtable.specs.LetGo.{AreLetGo, IsFreed, IsGone, IsLetGo};
+ghost use Rattle.rc_memtable.specs.calls.Writing.{AreMemtables};
 
 use rc_chain::{Chains, Snap};
+use rc_units::laws::chaining::a_freed_object_leaves_less;
+use rc_position::PartKey;
+use std::collections::BTreeMap;
 
 // Whether nobody pins a chain.
 fn is_unpinned<const S: usize>(chains: &Chains<S>, id: u64) -> bool
@@ -26,7 +30,9 @@ fn free_chain<const S: usize>(chains: &mut Chains<S>, id: u64)
     requires { IsSomeAnd (chain_at chains.old id) (λ k. (k.chain.kind ≡ Kind.Memtable) × (k.chain.attached ≡ false) × AreFree k.chain.pins) }
     ensures { IsGone id chains.old chains.new }
 {
+    a_freed_object_leaves_less();
     while chains.is_there(id) {
+        chains.known();
         chains.free_one(id);
     }
 }
@@ -45,8 +51,8 @@ pub fn free_if_unpinned<const S: usize>(chains: &mut Chains<S>, id: u64)
 pub fn release<const S: usize>(chains: &mut Chains<S>, s: Snap)
     requires pin { HasPin chains.old s.chain s.pin }
     requires memtable { IsSomeAnd (chain_at chains.old s.chain) (λ k. k.chain.kind ≡ Kind.Memtable) }
-    ensures found { IfSome (chain_at chains.old s.chain) (λ k. k.chain.attached ≡ true → chains.new ≡ with_chains (on_chain s.chain (without_snapshot s.pin) chains.old.chains) chains.old) }
-    ensures freed { IfSome (chain_at chains.old s.chain) (λ k. k.chain.attached ≡ false → IsFreed s.chain (with_chains (on_chain s.chain (without_snapshot s.pin) chains.old.chains) chains.old) chains.new) }
+    ensures found { (k : KeptChain) → chain_at chains.old s.chain ≡ Some k → k.chain.attached ≡ true → chains.new ≡ with_chains (on_chain s.chain (without_snapshot s.pin) chains.old.chains) chains.old }
+    ensures freed { (k : KeptChain) → chain_at chains.old s.chain ≡ Some k → k.chain.attached ≡ false → IsFreed s.chain (with_chains (on_chain s.chain (without_snapshot s.pin) chains.old.chains) chains.old) chains.new }
 {
     let id = s.chain;
     chains.release(s);
@@ -55,11 +61,25 @@ pub fn release<const S: usize>(chains: &mut Chains<S>, s: Snap)
     }
 }
 
-/// A chain is no longer found by its key, and where nobody pins it it is gone.
-pub(crate) fn let_go<const S: usize>(chains: &mut Chains<S>, id: u64)
+// A chain is no longer found by its key, and where nobody pins it it is gone.
+fn let_go<const S: usize>(chains: &mut Chains<S>, id: u64)
     requires { IsSomeAnd (chain_at chains.old id) (λ k. k.chain.kind ≡ Kind.Memtable) }
     ensures { IsLetGo id chains.old chains.new }
 {
     chains.detach(id);
     free_if_unpinned(chains, id);
+}
+
+/// Lets the chains of all keys go, by ascending key: none is found by its key any more, and those that nobody pins are freed.
+pub(crate) fn let_all_go<const S: usize>(
+    numbers: &mut BTreeMap<PartKey, u64>,
+    chains: &mut Chains<S>,
+)
+    requires { AreMemtables numbers.old.entries chains.old }
+    ensures none { numbers.new.entries ≡ [] }
+    ensures gone { AreLetGo (map (λ e. e.1) numbers.old.entries) chains.old chains.new }
+{
+    while let Some((_key, id)) = numbers.pop_first() {
+        let_go(chains, id);
+    }
 }

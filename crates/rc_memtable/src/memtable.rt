@@ -17,7 +17,7 @@ ghost use Rattle.rc_schema.specs.Largest.{largest_static};
 ghost use Rattle.rc_writes.specs.Allowed.{ChangeFits};
 ghost use Rattle.rc_writes.specs.Single.{IsSingle};
 
-use crate::freeing::let_go;
+use crate::freeing::let_all_go;
 use crate::numbers::{add_chain, number_of};
 use crate::writing::write_into;
 use rc_cell::Row;
@@ -129,9 +129,7 @@ impl Memtable {
         ensures none { (schema : SchemaValue) (m : Memory) → HasWrites schema self.new m [] }
         ensures gone { AreLetGo (map (λ e. e.1) self.old) chains.old chains.new }
     {
-        while let Some((_key, id)) = self.chains.pop_first() {
-            let_go(chains, id);
-        }
+        let_all_go(&mut self.chains, chains);
     }
 }
 
