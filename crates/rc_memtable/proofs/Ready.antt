@@ -1,5 +1,5 @@
 -- What each write into the newest version of a chain asks for is there, and what it leaves.
-use Rattle.std.proofs.Common.{◌≡◌, ◌≤◌, ◌<◌, ◌/◌, ◌*◌, ◌+◌, ℕ, suc, true, false, not, cond, Bool, List, [], ◌∷◌, ◌++◌, Option, Some, None, Ok, is_some, length, refl, sym, ap, ◌∙◌, subst, arith}
+use Rattle.std.proofs.Common.{◌≡◌, ◌≤◌, ◌<◌, ◌/◌, ◌*◌, ◌+◌, ℕ, suc, true, false, not, cond, Bool, List, [], ◌∷◌, ◌++◌, Option, Some, None, Ok, is_some, length, refl, sym, ap, ◌∙◌, subst, slice_index_or, arith}
 use Rattle.std.specs.Prelude.{All, IfSome, IsTrue, ◌&&◌, ◌||◌, nat_le}
 use Rattle.lsa_pool.specs.Room.{spare_of}
 use Rattle.rc_cell.specs.declared.rows.Row.{Row}
@@ -159,3 +159,17 @@ pub need-of-statics : (schema : SchemaValue) (m : Mutation) → m.rows ≡ [] �
 need-of-statics schema m r q w = ap (λ (rows : List (List Comp × Row)). cond (has_any rows) (largest_entry schema) (cond (has_any m.ranges) (2 * largest_entry schema) (cond (is_written m.statics) (largest_static schema) 0))) r
     ∙ ap (λ (ranges : List Piece). cond (has_any ranges) (2 * largest_entry schema) (cond (is_written m.statics) (largest_static schema) 0)) q
     ∙ ap (λ (b : Bool). cond b (largest_static schema) 0) w
+
+-- ---- lists and options as the code takes them apart
+
+pub first-of-slice : {X : Type 0} (xs all : List X) (x : X) → xs ≡ all → x ≡ slice_index_or xs 0 x → 1 ≤ length xs → (rest : List X) × (all ≡ x ∷ rest)
+first-of-slice [] all x same is long = absurd (omega (arith, long))
+first-of-slice (y ∷ ys) all x same is long = (ys, sym same ∙ ap (λ z. z ∷ ys) (sym is))
+
+pub none-of : {X : Type 0} (o : Option X) → ((x : X) → o ≡ Some x → ⊥) → o ≡ None
+none-of None h = refl
+none-of (Some x) h = absurd (h x refl)
+
+pub nothing-of-slice : {X : Type 0} (xs all : List X) → xs ≡ all → length xs < 1 → all ≡ []
+nothing-of-slice [] all same short = sym same
+nothing-of-slice (x ∷ xs) all same short = absurd (omega (arith, short))
