@@ -9,7 +9,7 @@ use Rattle.rc_mutation.specs.declared.mutations.Mutation.{Mutation}
 use Rattle.rc_mutation.specs.declared.mutations.Write.{Write}
 use Rattle.rc_mutation.specs.Source.{changes_to}
 use Rattle.rc_core.specs.declared.entries.ChainKind.TheVariants.{Memtable}
-use Rattle.rc_core.specs.Chains.{Shown}
+use Rattle.rc_core.specs.Chains.{IsPinned, Shown}
 use Rattle.rc_core.specs.laws.Opening.{fresh-memtable}
 use Rattle.rc_core.specs.laws.Written.{nothing-stands}
 use Rattle.rc_registry.specs.Registry.{put}
@@ -19,11 +19,11 @@ use Rattle.rc_memory.specs.laws.Put.{put-at, put-beside}
 use Rattle.rc_memory.specs.laws.Still.{still-wider}
 use Rattle.rc_chain.specs.Lives.{IsChainMade, chain_of_new}
 use Rattle.rc_memtable.specs.Changes.{KeepsChanges}
-use Rattle.rc_memtable.specs.Writes.{HasWrites, chain_of, names}
+use Rattle.rc_memtable.specs.Writes.{HasWrites, IsNewestPinned, TakesVersion, chain_of, names}
 use Rattle.rc_memtable.specs.Steps.{AreOthersKept, IsApplied, IsGrown, IsWritten}
 use Rattle.rc_memtable.proofs.Fitting.{new-fits}
 use Rattle.rc_memtable.proofs.Named.{changes-more, key-differs, key-is, key-itself, key-or-not, names-more, unnamed}
-use Rattle.rc_memtable.proofs.Steps.{chain-beside, kept-then}
+use Rattle.rc_memtable.proofs.Steps.{chain-beside, chain-is, kept-then}
 
 -- ---- no writes
 
@@ -50,8 +50,19 @@ empty-of (x ∷ xs) e = absurd (omega (arith, e))
 
 -- ---- a chain that came to be
 
-fresh-kept : (schema : SchemaValue) → KeepsChanges schema (chain_of_new Memtable None 0).chain []
+pub made-now : (old mid : Memory) (id : ℕ) → IsChainMade id Memtable None 0 old.recency old mid → chain_at mid id ≡ Some (chain_of_new Memtable None 0)
+made-now old mid id made = ap (λ cs. slice_index_or cs id None) made.chains ∙ put-at old.chains id (Some (chain_of_new Memtable None 0))
+
+pub fresh-kept : (schema : SchemaValue) → KeepsChanges schema (chain_of_new Memtable None 0).chain []
 fresh-kept schema = record { kind = refl; attached = refl; form = fresh-memtable None 0; stands = nothing-stands 0; fits = (new-fits schema 0, tt) }
+
+-- nobody pins its newest version
+pub made-unpinned : (old mid : Memory) (id : ℕ) → IsChainMade id Memtable None 0 old.recency old mid → IsNewestPinned mid id → ⊥
+made-unpinned old mid id made p = chain-is (λ k. IsPinned k.chain.pins (length k.chain.versions - 1)) (chain_at mid id) (chain_of_new Memtable None 0) (made-now old mid id made) p
+
+-- where a key has no chain a version is made
+pub version-taken : {A : Type 0} (m : Memory) (o : Option ℕ) → o ≡ None → (TakesVersion m o → A) → A
+version-taken m o none h = h (subst (TakesVersion m) (sym none) tt)
 
 -- ---- one write more
 
@@ -107,7 +118,7 @@ module _ (schema : SchemaValue) (w : Write) (old new : Memory) (id : ℕ) (h : I
 module _ (schema : SchemaValue) (w : Write) (old mid new : Memory) (id : ℕ) (made : IsChainMade id Memtable None 0 old.recency old mid) (h : IsWritten schema id w.change mid new)
     (before now : List (List ℕ × ℕ)) (none : chain_of before w.key ≡ None) (keys : (q : List ℕ) → chain_of now q ≡ cond (eq_by_cmp bytes_cmp w.key q) (Some id) (chain_of before q)) where
   made-there : chain_at mid id ≡ Some (chain_of_new Memtable None 0)
-  made-there = ap (λ cs. slice_index_or cs id None) made.chains ∙ put-at old.chains id (Some (chain_of_new Memtable None 0))
+  made-there = made-now old mid id made
 
   made-others : AreOthersKept id old mid
   made-others = record {

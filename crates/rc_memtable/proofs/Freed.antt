@@ -46,6 +46,13 @@ first-gone : (vs : List Version) → 0 < length vs → (v : Version) × (rest : 
 first-gone [] h = absurd (omega (arith, h))
 first-gone (v ∷ vs) h = (v, vs, refl, all-but-is [] v vs 0 refl)
 
+-- what is below one more is below, or is it
+pub below-or : (j n : ℕ) → j < n + 1 → (j < n) ⊎ (j ≡ n)
+below-or zero zero h = inr refl
+below-or zero (suc n) h = inl (omega arith)
+below-or (suc j) zero h = absurd (omega (arith, h))
+below-or (suc j) (suc n) h = elim (below-or j n (omega (arith, h))) [ inl low ↦ inl (omega (arith, low)) | inr same ↦ inr (ap suc same) ]
+
 -- ---- what is freed
 
 -- how many objects a chain has, where it is there

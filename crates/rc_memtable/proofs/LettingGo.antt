@@ -1,5 +1,5 @@
 -- The chains of a memtable are let go, one after another.
-use Rattle.std.proofs.Common.{inl, inr, ◌≡◌, ◌≢◌, ◌⊎◌, ℕ, Bool, true, false, cond, List, [], ◌∷◌, ◌++◌, Option, Some, None, map, refl, sym, ap, ◌∙◌, subst, slice_index_or}
+use Rattle.std.proofs.Common.{inl, inr, ◌≡◌, ◌≢◌, ◌⊎◌, ◌<◌, length, arith, ℕ, Bool, true, false, cond, List, [], ◌∷◌, ◌++◌, Option, Some, None, map, refl, sym, ap, ◌∙◌, subst, slice_index_or}
 use Rattle.std.specs.Prelude.{IfSome, IsSomeAnd}
 use Rattle.std.specs.Option.{option_map}
 use Rattle.std.specs.Ordering.{eq_by_cmp}
@@ -10,7 +10,7 @@ use Rattle.rc_core.specs.declared.entries.ChainKind.TheVariants.{Memtable}
 use Rattle.rc_core.specs.Chains.{Shown}
 use Rattle.rc_registry.specs.Registry.{AreFree, put}
 use Rattle.rc_memory.specs.Kept.{IsSoundChain}
-use Rattle.rc_memory.specs.Memory.{KeptChain, Member, Memory, chain_at, on_chain, on_shown, shown_detached}
+use Rattle.rc_memory.specs.Memory.{KeptChain, Member, Memory, chain_at, on_chain, on_shown, shown_detached, with_chains, without_snapshot}
 use Rattle.rc_memory.specs.laws.Places.{no_some, same_some}
 use Rattle.rc_chain.specs.Lives.{IsChainChanged, IsEndListed}
 use Rattle.rc_chain.specs.laws.PlaceBeside.{memtable-settled}
@@ -30,9 +30,13 @@ has-memtables schema chains m writes h = record {
 
 -- ---- one chain
 
-some-memtable : (o : Option KeptChain) → IsSomeAnd o (λ k. k.chain.kind ≡ Memtable) → (k : KeptChain) × (o ≡ Some k) × (k.chain.kind ≡ Memtable)
+pub some-memtable : (o : Option KeptChain) → IsSomeAnd o (λ k. k.chain.kind ≡ Memtable) → (k : KeptChain) × (o ≡ Some k) × (k.chain.kind ≡ Memtable)
 some-memtable None h = absurd h
 some-memtable (Some k) h = (k, refl, h)
+
+-- a snapshot of it is taken back
+pub released-there : (m n : Memory) (id pin : ℕ) (k : KeptChain) → n ≡ with_chains (on_chain id (without_snapshot pin) m.chains) m → chain_at m id ≡ Some k → chain_at n id ≡ Some (without_snapshot pin k)
+released-there m n id pin k e there = chain-now m n id (without_snapshot pin) k (ap (λ (o : Memory). o.chains) e) there
 
 -- a memtable's chain is detached, and freed where nobody pins it
 module _ (id : ℕ) (old mid new : Memory) (memtable : IsSomeAnd (chain_at old id) (λ k. k.chain.kind ≡ Memtable)) (sound : (i : ℕ) → IfSome (chain_at old i) (λ k. IsSoundChain k.chain))
@@ -105,3 +109,8 @@ letting-step all left less p old now new h first found fewer gone = record {
 
 pub letting-over : (all left : List (List ℕ × ℕ)) (old now : Memory) → IsLettingGo all left old now → left ≡ [] → AreLetGo (map (λ e. e.1) all) old now
 letting-over all left old now h none = h.rest now (subst (λ (es : List (List ℕ × ℕ)). AreLetGo (map (λ e. e.1) es) now now) (sym none) refl)
+
+-- no entry is left where the first one is none
+pub empty-unless : {X : Type 0} (xs : List X) → (0 < length xs → false ≡ true) → xs ≡ []
+empty-unless [] h = refl
+empty-unless (x ∷ xs) h = let e = h (omega arith) in absurd (cc)

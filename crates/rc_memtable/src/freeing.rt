@@ -66,6 +66,7 @@ fn let_go<const S: usize>(chains: &mut Chains<S>, id: u64)
     requires { IsSomeAnd (chain_at chains.old id) (λ k. k.chain.kind ≡ Kind.Memtable) }
     ensures { IsLetGo id chains.old chains.new }
 {
+    chains.known();
     chains.detach(id);
     free_if_unpinned(chains, id);
 }

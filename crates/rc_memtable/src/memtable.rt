@@ -117,6 +117,7 @@ impl Memtable {
         ensures stands { (schema : SchemaValue) (writes : Sequence Written) → HasWrites schema self.now chains.old writes → HasWrites schema self.now chains.new writes }
         ensures err { OnErr result (chains.new ≡ chains.old) }
     {
+        chains.known();
         match number_of(&self.chains, key) {
             None => Ok(None),
             Some(id) => Ok(Some(chains.snapshot(id)?)),
