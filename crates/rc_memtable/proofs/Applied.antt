@@ -1,26 +1,24 @@
 -- What a memtable stands for: nothing at first, and one write more after each.
-use Rattle.std.proofs.Common.{inl, inr, ◌≡◌, ◌≢◌, ◌⊎◌, ◌<◌, ◌+◌, ◌-◌, ℕ, zero, suc, Bool, true, false, cond, List, [], ◌∷◌, ◌++◌, Option, Some, None, is_some, length, refl, sym, ap, ◌∙◌, subst, slice_index_or, arith}
+use Rattle.std.proofs.Common.{◌≡◌, ◌-◌, ℕ, true, false, cond, List, [], ◌∷◌, ◌++◌, Option, Some, None, is_some, length, refl, sym, ap, ◌∙◌, subst, slice_index_or, arith}
 use Rattle.std.specs.Prelude.{◌||◌}
-use Rattle.std.specs.Option.{option_map}
 use Rattle.std.specs.Ordering.{eq_by_cmp}
-use Rattle.rc_position.specs.Position.{Head, bytes_cmp}
+use Rattle.rc_position.specs.Position.{bytes_cmp}
 use Rattle.rc_schema.specs.SchemaValue.{SchemaValue}
 use Rattle.rc_mutation.specs.declared.mutations.Mutation.{Mutation}
 use Rattle.rc_mutation.specs.declared.mutations.Write.{Write}
 use Rattle.rc_mutation.specs.Source.{changes_to}
 use Rattle.rc_core.specs.declared.entries.ChainKind.TheVariants.{Memtable}
-use Rattle.rc_core.specs.Chains.{IsPinned, Shown}
+use Rattle.rc_core.specs.Chains.{IsPinned}
 use Rattle.rc_core.specs.laws.Opening.{fresh-memtable}
 use Rattle.rc_core.specs.laws.Written.{nothing-stands}
-use Rattle.rc_registry.specs.Registry.{put}
 use Rattle.rc_memory.specs.Memory.{KeptChain, Memory, chain_at}
 use Rattle.rc_memory.specs.laws.Places.{no_some, same_some}
-use Rattle.rc_memory.specs.laws.Put.{put-at, put-beside}
+use Rattle.rc_memory.specs.laws.Put.{put-at}
 use Rattle.rc_memory.specs.laws.Still.{still-wider}
 use Rattle.rc_chain.specs.Lives.{IsChainMade, chain_of_new}
 use Rattle.rc_memtable.specs.Changes.{KeepsChanges}
 use Rattle.rc_memtable.specs.Writes.{HasWrites, IsNewestPinned, TakesVersion, chain_of, names}
-use Rattle.rc_memtable.specs.Steps.{AreOthersKept, IsApplied, IsGrown, IsWritten}
+use Rattle.rc_memtable.specs.Steps.{AreOthersKept, IsApplied, IsWritten}
 use Rattle.rc_memtable.proofs.Fitting.{new-fits}
 use Rattle.rc_memtable.proofs.Named.{changes-more, key-differs, key-is, key-itself, key-or-not, names-more, unnamed}
 use Rattle.rc_memtable.proofs.Steps.{chain-beside, chain-is, kept-then}
@@ -96,7 +94,7 @@ module _ (schema : SchemaValue) (w : Write) (old new : Memory) (id : ℕ) (h : I
           (λ there. a.keys key ∙ sym (names-more key writes w ∙ ap (λ b. cond b true (names key writes)) there));
       kept = λ key i e. key-or-not (Kept new i (changes_to key (writes ++ w ∷ []))) (eq_by_cmp bytes_cmp w.key key)
           (λ here. let same : id ≡ i = same_some id i (sym (at-key key here) ∙ e) in
-              subst (λ (n : ℕ). Kept new n (changes_to key (writes ++ w ∷ []))) same (subst (Kept new id) (sym (more-here key writes here)) (one-more (changes_to key writes) (a.kept key id (at-key key here)))))
+          subst (λ (n : ℕ). Kept new n (changes_to key (writes ++ w ∷ []))) same (subst (Kept new id) (sym (more-here key writes here)) (one-more (changes_to key writes) (a.kept key id (at-key key here)))))
           (λ there. subst (Kept new i) (sym (more-there key writes there)) (as-before i (changes_to key writes) (λ same. key-differs w.key key there (a.apart w.key key id found (e ∙ ap Some same))) (a.kept key i e)));
       apart = a.apart;
     }
@@ -150,19 +148,19 @@ module _ (schema : SchemaValue) (w : Write) (old mid new : Memory) (id : ℕ) (m
         (λ there. ap is_some (there-now key there) ∙ a.keys key ∙ sym (names-more key writes w ∙ ap (λ b. cond b true (names key writes)) there));
     kept = λ key i e. key-or-not (Kept schema w mid new id h new i (changes_to key (writes ++ w ∷ []))) (eq_by_cmp bytes_cmp w.key key)
         (λ here. let same : id ≡ i = same_some id i (sym (here-now key here) ∙ e) in
-            let unwritten : changes_to key writes ≡ [] = unnamed key writes (sym (a.keys key) ∙ ap is_some (ap (chain_of before) (sym (key-is w.key key here)) ∙ none)) in
-            subst (λ (n : ℕ). Kept schema w mid new id h new n (changes_to key (writes ++ w ∷ []))) same
-            (subst (Kept schema w mid new id h new id) (sym (more-here schema w mid new id h key writes here ∙ ap (λ cs. cs ++ w.change ∷ []) unwritten)) (one-more schema w mid new id h [] first-change)))
+        let unwritten : changes_to key writes ≡ [] = unnamed key writes (sym (a.keys key) ∙ ap is_some (ap (chain_of before) (sym (key-is w.key key here)) ∙ none)) in
+        subst (λ (n : ℕ). Kept schema w mid new id h new n (changes_to key (writes ++ w ∷ []))) same
+        (subst (Kept schema w mid new id h new id) (sym (more-here schema w mid new id h key writes here ∙ ap (λ cs. cs ++ w.change ∷ []) unwritten)) (one-more schema w mid new id h [] first-change)))
         (λ there. let was = sym (there-now key there) ∙ e in let k = a.kept key i was in let ne = not-new writes a key i was in
-            subst (Kept schema w mid new id h new i) (sym (more-there schema w mid new id h key writes there))
-            (as-before schema w mid new id h i (changes_to key writes) ne (k.0, made-others.others i ne ∙ k.1, k.2)));
+        subst (Kept schema w mid new id h new i) (sym (more-there schema w mid new id h key writes there))
+        (as-before schema w mid new id h i (changes_to key writes) ne (k.0, made-others.others i ne ∙ k.1, k.2)));
     apart = λ key other i e f. key-or-not (key ≡ other) (eq_by_cmp bytes_cmp w.key key)
         (λ here. key-or-not (key ≡ other) (eq_by_cmp bytes_cmp w.key other)
-            (λ also. sym (key-is w.key key here) ∙ key-is w.key other also)
-            (λ there. absurd (not-new writes a other i (sym (there-now other there) ∙ f) (sym (same_some id i (sym (here-now key here) ∙ e))))))
+        (λ also. sym (key-is w.key key here) ∙ key-is w.key other also)
+        (λ there. absurd (not-new writes a other i (sym (there-now other there) ∙ f) (sym (same_some id i (sym (here-now key here) ∙ e))))))
         (λ there. key-or-not (key ≡ other) (eq_by_cmp bytes_cmp w.key other)
-            (λ also. absurd (not-new writes a key i (sym (there-now key there) ∙ e) (sym (same_some id i (sym (here-now other also) ∙ f)))))
-            (λ apart. a.apart key other i (sym (there-now key there) ∙ e) (sym (there-now other apart) ∙ f)));
+        (λ also. absurd (not-new writes a key i (sym (there-now key there) ∙ e) (sym (same_some id i (sym (here-now other also) ∙ f)))))
+        (λ apart. a.apart key other i (sym (there-now key there) ∙ e) (sym (there-now other apart) ∙ f)));
   }
 
   pub new-applied : IsApplied schema w before now old new

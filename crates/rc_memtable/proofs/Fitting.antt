@@ -1,13 +1,13 @@
 -- What is of a schema stays of it: a new version, and one into which something of the schema is joined.
-use Rattle.std.proofs.Common.{◌≡◌, ◌≤◌, ◌/◌, ℕ, zero, suc, Bool, true, false, cond, List, [], ◌∷◌, ◌++◌, Option, Some, None, Ok, length, map, refl, sym, ap, ◌∙◌, subst, arith}
-use Rattle.std.specs.Prelude.{IfSome, IsTrue, ◌&&◌, ◌==◌, Result, Err, if◌then◌else◌}
-use Rattle.std.specs.List.{AllByRecursion, list_all}
+use Rattle.std.proofs.Common.{◌≡◌, ℕ, zero, suc, Bool, true, false, cond, List, [], ◌∷◌, Option, Some, None, Ok, length, map, refl, sym, ap, subst}
+use Rattle.std.specs.Prelude.{IfSome, ◌&&◌, ◌==◌, Result, Err, if◌then◌else◌}
+use Rattle.std.specs.List.{list_all}
 use Rattle.std.specs.Ordering.{eq_by_cmp, is_eq}
 use Rattle.std.specs.declared.cmp.Ordering.{Ordering}
 use Rattle.std.specs.declared.cmp.Ordering.TheVariants.{Less, Equal, Greater}
 use Rattle.rc_cell.specs.declared.rows.Row.{Row}
 use Rattle.rc_cell.specs.declared.writes.Tomb.{Tomb}
-use Rattle.rc_cell.specs.Winner.{IsRow, joined_row}
+use Rattle.rc_cell.specs.Winner.{IsRow}
 use Rattle.rc_cell.specs.laws.{IsRow-joined_row}
 use Rattle.rc_cell.specs.laws.Each.{joined_marker, joined_tomb}
 use Rattle.rc_position.specs.declared.comps.Comp.{Comp}
@@ -17,7 +17,7 @@ use Rattle.rc_position.specs.laws.Orders.{pos_cmp_same}
 use Rattle.rc_schema.specs.SchemaValue.{SchemaValue}
 use Rattle.rc_schema.specs.declared.checks.SchemaErr.{SchemaErr}
 use Rattle.rc_schema.specs.declared.checks.SchemaErr.TheVariants.{WrongKey, TooLong}
-use Rattle.rc_schema.specs.Checks.{are_of_kinds, checked_cells, checked_prefix, fits_kinds, is_short}
+use Rattle.rc_schema.specs.Checks.{are_of_kinds, checked_prefix, is_short}
 use Rattle.rc_schema.specs.laws.Fitting.{joined_fits}
 use Rattle.rc_writes.specs.Allowed.{IsRangeBound, IsRowOf, IsStaticOf}
 use Rattle.rc_core.specs.declared.entries.Entry.{Entry}
@@ -25,10 +25,10 @@ use Rattle.rc_core.specs.declared.entries.Flag.{Flag}
 use Rattle.rc_core.specs.declared.entries.Flag.TheVariants.{Inherit}
 use Rattle.rc_core.specs.declared.entries.Mark.{Mark}
 use Rattle.rc_core.specs.AtPlace.{EachEntry}
-use Rattle.rc_core.specs.Change.{changed, dummy, join_row_at, joined_onto, raised_mark, split, split_by, with_row}
-use Rattle.rc_core.specs.Continuity.{EachOf, joined_options}
+use Rattle.rc_core.specs.Change.{changed, dummy, joined_onto, raised_mark, split, split_by, with_row}
+use Rattle.rc_core.specs.Continuity.{EachOf}
 use Rattle.rc_core.specs.Steps.{join_flagged_statics, join_pt, on_version, range_joined, row_joined, version_of}
-use Rattle.rc_core.specs.Version.{Finding, On, Version, end_position, entry_answers, found, seen}
+use Rattle.rc_core.specs.Version.{Finding, On, Version, entry_answers, seen}
 use Rattle.rc_memtable.specs.Fits.{IsEntryOf, IsVersionOf}
 
 -- ---- entries

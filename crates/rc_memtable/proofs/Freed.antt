@@ -1,11 +1,10 @@
 -- A memtable's chain goes, object by object.
-use Rattle.std.proofs.Common.{inl, inr, ◌≡◌, ◌⊎◌, ◌<◌, ◌+◌, ℕ, zero, suc, Bool, true, false, List, [], ◌∷◌, ◌++◌, Option, Some, None, IsSome, is_some, length, map, refl, sym, ap, ◌∙◌, subst, slice_index_or, arith}
-use Rattle.std.specs.Prelude.{Contains, IfSome, IsSomeAnd}
+use Rattle.std.proofs.Common.{inl, inr, ◌≡◌, ◌⊎◌, ◌<◌, ◌+◌, ℕ, zero, suc, true, false, List, [], ◌∷◌, ◌++◌, Option, Some, None, is_some, length, map, refl, sym, ap, ◌∙◌, subst, slice_index_or, arith}
+use Rattle.std.specs.Prelude.{Contains, IsSomeAnd}
 use Rattle.std.specs.Option.{option_map}
 use Rattle.rc_position.specs.declared.positions.Pos.{Pos}
 use Rattle.rc_core.specs.declared.entries.ChainKind.TheVariants.{Cache, Memtable}
 use Rattle.rc_core.specs.AtPlace.{HasEntryAt}
-use Rattle.rc_core.specs.Chains.{IsPinned}
 use Rattle.rc_core.specs.Free.{free_entry, free_statics}
 use Rattle.rc_core.specs.Steps.{all_but, on_version, renumbered}
 use Rattle.rc_core.specs.Version.{IsVersion, Version, end_position}
@@ -17,12 +16,12 @@ use Rattle.rc_memory.specs.Memory.{KeptChain, Member, Memory, IsVersionAt, chain
 use Rattle.rc_memory.specs.Recency.{IsRecency, MayBeListed}
 use Rattle.rc_memory.specs.Changes.{IsWithout, OfVersion, member}
 use Rattle.rc_memory.specs.laws.Dropped.{renumbered-other}
-use Rattle.rc_memory.specs.laws.Places.{no_some, same_some}
+use Rattle.rc_memory.specs.laws.Places.{same_some}
 use Rattle.rc_memory.specs.laws.Put.{put-at, put-same}
 use Rattle.rc_memory.specs.laws.Versions.{all-but-is}
-use Rattle.rc_chain.specs.Lives.{IsChainDropped, IsEntryFreed, IsLastDropped, IsOneFreed, IsStaticFreed, IsVersionDropped}
+use Rattle.rc_chain.specs.Lives.{IsEntryFreed, IsLastDropped, IsOneFreed, IsStaticFreed, IsVersionDropped}
 use Rattle.rc_memtable.specs.LetGo.{HasLeft, IsGone}
-use Rattle.rc_memtable.proofs.Steps.{chain-is, chain-now, is-chain}
+use Rattle.rc_memtable.proofs.Steps.{chain-now}
 
 -- ---- lists
 
@@ -134,7 +133,7 @@ module _ (id : ℕ) (old now : Memory) (t : IsThere id old now) (rule : IsRecenc
     version-then : IsVersionDropped id 0 now new → IsThere id old new
     version-then d = then-there (on_shown (shown_without 0)) (t.left.0, t.left.1, free-renumbered t.chain.chain.pins t.left.2) d.chains d.dropped d.counts
         (d.recency.2 ∙ ap (map (renumbered_member id 0)) (list-stays (member id 0 (Some end_position)) d.recency.0 refl d.recency.1)
-          ∙ mapped-same (renumbered_member id 0) now.recency (λ w on. renumbered-other id 0 w (λ at. unlisted w at on)))
+        ∙ mapped-same (renumbered_member id 0) now.recency (λ w on. renumbered-other id 0 w (λ at. unlisted w at on)))
 
     last-then : IsLastDropped id now new → IsGone id old new
     last-then d = record {

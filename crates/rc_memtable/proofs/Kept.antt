@@ -1,5 +1,5 @@
 -- A chain keeps its changes: with one more joined into the newest version, and with a version over the others.
-use Rattle.std.proofs.Common.{◌≡◌, ◌<◌, ℕ, suc, true, false, cond, List, [], ◌∷◌, ◌++◌, Option, Some, None, length, refl, sym, ap, ◌∙◌, subst, arith}
+use Rattle.std.proofs.Common.{◌≡◌, ◌<◌, ℕ, suc, false, List, [], ◌∷◌, ◌++◌, None, length, refl, sym, ap, subst}
 use Rattle.rc_cell.specs.declared.rows.Row.{Row}
 use Rattle.rc_cell.specs.declared.writes.Tomb.{Tomb}
 use Rattle.rc_cell.specs.Winner.{IsRow}
@@ -14,13 +14,13 @@ use Rattle.rc_core.specs.declared.entries.Flag.TheVariants.{Inherit}
 use Rattle.rc_core.specs.Chains.{AllInherit, IsMemtableChain, Shown, at_place, upto}
 use Rattle.rc_core.specs.Continuity.{EachOf}
 use Rattle.rc_core.specs.StandsFor.{StandsFor, written_pt, written_range, written_row, written_statics}
-use Rattle.rc_core.specs.Steps.{IsChain, join_flagged_statics, join_pt, join_statics, on_newest, on_version, range_joined, row_joined, with_newest}
+use Rattle.rc_core.specs.Steps.{IsChain, join_flagged_statics, join_pt, join_statics, on_newest, range_joined, row_joined}
 use Rattle.rc_core.specs.Version.{Version}
 use Rattle.rc_core.specs.laws.MemtableChains.{added-memtable}
 use Rattle.rc_core.specs.laws.Memtables.{pt-memtable, range-memtable, row-memtable, statics-memtable}
 use Rattle.rc_core.specs.laws.Standing.{Stand, stand-older}
 use Rattle.rc_core.specs.laws.Surgery.{each-of-both}
-use Rattle.rc_core.specs.laws.Written.{added-stands, nothing-stands, pt-written, range-written, row-written, statics-written}
+use Rattle.rc_core.specs.laws.Written.{added-stands, pt-written, range-written, row-written, statics-written}
 use Rattle.rc_memory.specs.Memory.{on_version_of, shown_with}
 use Rattle.rc_chain.specs.Lives.{with_version_over}
 use Rattle.rc_chain.specs.laws.Numbered.{on-newest}

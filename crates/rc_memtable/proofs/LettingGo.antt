@@ -1,5 +1,5 @@
 -- The chains of a memtable are let go, one after another.
-use Rattle.std.proofs.Common.{inl, inr, ◌≡◌, ◌≢◌, ◌⊎◌, ◌<◌, length, arith, ℕ, Bool, true, false, cond, List, [], ◌∷◌, ◌++◌, Option, Some, None, map, refl, sym, ap, ◌∙◌, subst, slice_index_or}
+use Rattle.std.proofs.Common.{inl, inr, ◌≡◌, ◌<◌, length, arith, ℕ, Bool, true, false, cond, List, [], ◌∷◌, ◌++◌, Option, Some, None, map, refl, sym, ap, ◌∙◌, subst}
 use Rattle.std.specs.Prelude.{IfSome, IsSomeAnd}
 use Rattle.std.specs.Option.{option_map}
 use Rattle.std.specs.Ordering.{eq_by_cmp}
@@ -7,18 +7,17 @@ use Rattle.rc_position.specs.Position.{bytes_cmp}
 use Rattle.rc_schema.specs.SchemaValue.{SchemaValue}
 use Rattle.rc_mutation.specs.declared.mutations.Write.{Write}
 use Rattle.rc_core.specs.declared.entries.ChainKind.TheVariants.{Memtable}
-use Rattle.rc_core.specs.Chains.{Shown}
 use Rattle.rc_registry.specs.Registry.{AreFree, put}
 use Rattle.rc_memory.specs.Kept.{IsSoundChain}
 use Rattle.rc_memory.specs.Memory.{KeptChain, Member, Memory, chain_at, on_chain, on_shown, shown_detached, with_chains, without_snapshot}
 use Rattle.rc_memory.specs.laws.Places.{no_some, same_some}
 use Rattle.rc_chain.specs.Lives.{IsChainChanged, IsEndListed}
 use Rattle.rc_chain.specs.laws.PlaceBeside.{memtable-settled}
-use Rattle.rc_memtable.specs.LetGo.{AreLetGo, HasLeft, IsFreed, IsGone, IsLetGo}
+use Rattle.rc_memtable.specs.LetGo.{AreLetGo, HasLeft, IsFreed, IsLetGo}
 use Rattle.rc_memtable.specs.Writes.{HasWrites, chain_of}
 use Rattle.rc_memtable.specs.calls.Writing.{AreMemtables}
-use Rattle.rc_memtable.proofs.Named.{key-differs, key-or-not}
-use Rattle.rc_memtable.proofs.Steps.{chain-beside, chain-is, chain-now, is-chain, of-chain}
+use Rattle.rc_memtable.proofs.Named.{key-differs}
+use Rattle.rc_memtable.proofs.Steps.{chain-beside, chain-now, is-chain, of-chain}
 use Rattle.rc_memtable.proofs.Freed.{put-put}
 
 -- what a memtable that stands for writes has
@@ -60,12 +59,15 @@ module _ (id : ℕ) (old mid new : Memory) (memtable : IsSomeAnd (chain_at old i
 
   pub let-go-then : IsFreed id mid new → IsLetGo id old new
   let-go-then freed k e = let same : its.0 ≡ k = same_some its.0 k (sym its.1 ∙ e) in elim (freed (on_shown shown_detached its.0) mid-there) [
-    | inl gone ↦ inl (subst (λ (q : KeptChain). AreFree q.chain.pins) same gone.0, record {
+    | inl gone ↦ inl (
+      subst (λ (q : KeptChain). AreFree q.chain.pins) same gone.0,
+      record {
         chains = gone.1.chains ∙ ap (put id None) mid-left.chains ∙ put-put old.chains id None (option_map (on_shown shown_detached) (chain_at old id));
         dropped = gone.1.dropped ∙ ap (λ ns. ns ++ id ∷ []) mid-left.dropped;
         recency = gone.1.recency ∙ mid-left.recency;
         counts = gone.1.counts ∙ mid-left.counts;
-      })
+      },
+    )
     | inr kept ↦ inr (subst (λ (q : KeptChain). AreFree q.chain.pins → ⊥) same kept.0, subst (HasLeft (on_chain id (on_shown shown_detached) old.chains) old.dropped old) (sym kept.1) mid-left)
   ]
 

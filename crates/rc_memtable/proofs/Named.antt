@@ -7,7 +7,6 @@ use Rattle.std.specs.declared.cmp.Ordering.{Ordering}
 use Rattle.std.specs.declared.cmp.Ordering.TheVariants.{Less, Equal, Greater}
 use Rattle.rc_position.specs.Position.{bytes_cmp}
 use Rattle.rc_position.specs.laws.Orders.{bytes_cmp_same, bytes_cmp_total}
-use Rattle.rc_mutation.specs.declared.mutations.Mutation.{Mutation}
 use Rattle.rc_mutation.specs.declared.mutations.Write.{Write}
 use Rattle.rc_mutation.specs.Source.{changes_to}
 use Rattle.rc_memtable.specs.Writes.{names}
@@ -47,10 +46,10 @@ pub changes-more : (key : List ℕ) (writes : List Write) (w : Write) → change
 changes-more key [] w = of-choice (map (λ (u : Write). u.change)) (eq_by_cmp bytes_cmp w.key key) (w ∷ []) []
 changes-more key (v ∷ vs) w = elim (eq_by_cmp bytes_cmp v.key key) as
     (λ b. map (λ (u : Write). u.change) (cond b (v ∷ of_key key (vs ++ w ∷ [])) (of_key key (vs ++ w ∷ [])))
-      ≡ cond (eq_by_cmp bytes_cmp w.key key) (map (λ (u : Write). u.change) (cond b (v ∷ of_key key vs) (of_key key vs)) ++ w.change ∷ []) (map (λ (u : Write). u.change) (cond b (v ∷ of_key key vs) (of_key key vs)))) [
-  | true ↦ ap (λ cs. v.change ∷ cs) (changes-more key vs w) ∙ of-choice (λ cs. v.change ∷ cs) (eq_by_cmp bytes_cmp w.key key) (changes_to key vs ++ w.change ∷ []) (changes_to key vs)
-  | false ↦ changes-more key vs w
-]
+    ≡ cond (eq_by_cmp bytes_cmp w.key key) (map (λ (u : Write). u.change) (cond b (v ∷ of_key key vs) (of_key key vs)) ++ w.change ∷ []) (map (λ (u : Write). u.change) (cond b (v ∷ of_key key vs) (of_key key vs)))) [
+      | true ↦ ap (λ cs. v.change ∷ cs) (changes-more key vs w) ∙ of-choice (λ cs. v.change ∷ cs) (eq_by_cmp bytes_cmp w.key key) (changes_to key vs ++ w.change ∷ []) (changes_to key vs)
+      | false ↦ changes-more key vs w
+    ]
 
 pub names-more : (key : List ℕ) (writes : List Write) (w : Write) → names key (writes ++ w ∷ []) ≡ cond (eq_by_cmp bytes_cmp w.key key) true (names key writes)
 names-more key [] w = elim (eq_by_cmp bytes_cmp w.key key) as (λ b. (b || false) ≡ cond b true false) [ true ↦ refl | false ↦ refl ]

@@ -1,6 +1,6 @@
 -- How many bytes a write takes.
-use Rattle.std.proofs.Common.{◌≡◌, ◌≤◌, ◌*◌, ◌/◌, ◌+◌, ◌-◌, ℕ, Bool, true, false, cond, List, Option, Some, None, IsSome, IsTrue, ◌↔◌, length, refl, sym, ap, ◌∙◌, subst, arith}
-use Rattle.std.specs.Prelude.{IfSome, IsSomeAnd}
+use Rattle.std.proofs.Common.{◌≡◌, ◌≤◌, ◌*◌, ◌/◌, ◌+◌, ◌-◌, ℕ, Bool, true, false, cond, List, Option, Some, None, IsSome, IsTrue, ◌↔◌, length, refl, sym, subst, arith}
+use Rattle.std.specs.Prelude.{IfSome}
 use Rattle.rc_schema.specs.SchemaValue.{SchemaValue}
 use Rattle.rc_schema.specs.Largest.{largest_entry, largest_static}
 use Rattle.rc_mutation.specs.declared.mutations.Mutation.{Mutation}
@@ -41,9 +41,10 @@ some-there (Some k) h = (k, refl)
 
 -- whether the newest version is pinned is told by its number
 pub newest-told : (m : Memory) (id n : ℕ) (b : Bool) (k : KeptChain) → chain_at m id ≡ Some k → n ≡ length k.chain.versions - 1 → (IsTrue b ↔ IsPinned k.chain.pins n) → IsTrue b ↔ IsNewestPinned m id
-newest-told m id n b k there number told =
-    ((λ t. is-chain (λ k. IsPinned k.chain.pins (length k.chain.versions - 1)) (chain_at m id) k there (subst (IsPinned k.chain.pins) number (told.0 t))),
-      (λ p. told.1 (subst (IsPinned k.chain.pins) (sym number) (chain-is (λ k. IsPinned k.chain.pins (length k.chain.versions - 1)) (chain_at m id) k there p))))
+newest-told m id n b k there number told = (
+  (λ t. is-chain (λ k. IsPinned k.chain.pins (length k.chain.versions - 1)) (chain_at m id) k there (subst (IsPinned k.chain.pins) number (told.0 t))),
+  (λ p. told.1 (subst (IsPinned k.chain.pins) (sym number) (chain-is (λ k. IsPinned k.chain.pins (length k.chain.versions - 1)) (chain_at m id) k there p))),
+)
 
 -- what is enough for a write that takes a version, and for one that does not
 pub room-with : (schema : SchemaValue) (chains : List (List ℕ × ℕ)) (m : Memory) (w : Write) (n : ℕ) → n ≡ joined_need schema w.change → IsRoomFor schema chains m w (152 + n)

@@ -1,23 +1,22 @@
 -- What each write into the newest version of a chain asks for is there, and what it leaves.
-use Rattle.std.proofs.Common.{◌≡◌, ◌≤◌, ◌<◌, ◌/◌, ◌*◌, ◌+◌, ℕ, suc, true, false, not, cond, Bool, List, [], ◌∷◌, ◌++◌, Option, Some, None, Ok, is_some, length, refl, sym, ap, ◌∙◌, subst, slice_index_or, arith}
-use Rattle.std.specs.Prelude.{All, IfSome, IsTrue, ◌&&◌, ◌||◌, nat_le}
+use Rattle.std.proofs.Common.{◌≡◌, ◌≤◌, ◌<◌, ◌/◌, ◌*◌, ◌+◌, ℕ, true, false, cond, Bool, List, [], ◌∷◌, Option, Some, None, is_some, length, refl, sym, ap, ◌∙◌, subst, slice_index_or, arith}
+use Rattle.std.specs.Prelude.{All, IfSome, IsTrue, ◌&&◌, nat_le}
 use Rattle.lsa_pool.specs.Room.{spare_of}
 use Rattle.rc_cell.specs.declared.rows.Row.{Row}
 use Rattle.rc_cell.specs.declared.writes.Tomb.{Tomb}
 use Rattle.rc_cell.specs.Winner.{IsRow}
 use Rattle.rc_position.specs.declared.comps.Comp.{Comp}
 use Rattle.rc_position.specs.declared.positions.Pos.{Pos}
-use Rattle.rc_position.specs.Position.{Head, IsBefore, row_pos}
+use Rattle.rc_position.specs.Position.{row_pos}
 use Rattle.rc_ranges.specs.declared.pieces.Piece.{Piece}
 use Rattle.rc_rowcode.specs.Objects.{dummy_size, static_size}
 use Rattle.rc_rowcode.specs.Spelling.{KeyFits, RowFits}
-use Rattle.rc_schema.specs.SchemaValue.{SchemaValue, is_schema}
+use Rattle.rc_schema.specs.SchemaValue.{SchemaValue}
 use Rattle.rc_schema.specs.Largest.{largest_entry, largest_static}
 use Rattle.rc_schema.specs.laws.Fitting.{cells_fit, dummy_within, key_fits}
 use Rattle.rc_mutation.specs.declared.mutations.Mutation.{Mutation}
 use Rattle.rc_mutation.specs.Fragments.{has_any, is_written}
-use Rattle.rc_mutation.specs.Source.{IsMutation}
-use Rattle.rc_writes.specs.Allowed.{ChangeFits, IsRangeBound, IsRowOf, IsStaticOf}
+use Rattle.rc_writes.specs.Allowed.{IsRangeBound, IsRowOf, IsStaticOf}
 use Rattle.rc_writes.specs.Single.{IsSingle, just_one}
 use Rattle.rc_core.specs.declared.entries.Flag.TheVariants.{Inherit}
 use Rattle.rc_core.specs.Change.{joined_onto}
@@ -33,7 +32,7 @@ use Rattle.rc_memtable.specs.Fits.{IsVersionOf}
 use Rattle.rc_memtable.specs.Steps.{IsWritten}
 use Rattle.rc_memtable.specs.Writes.{joined_need}
 use Rattle.rc_memtable.specs.calls.Writing.{IsReady}
-use Rattle.rc_memtable.proofs.Fitting.{joined-static, joined-there, on-fits, range-fits, row-fits, statics-fit}
+use Rattle.rc_memtable.proofs.Fitting.{joined-static, joined-there, on-fits, row-fits, statics-fit}
 use Rattle.rc_memtable.proofs.Kept.{pt-kept, range-kept, row-kept, statics-kept}
 use Rattle.rc_memtable.proofs.Room.{entry-small, fit-together, static-small}
 use Rattle.rc_memtable.proofs.Steps.{fits-then, its-form, its-number, its-sound, last-listed, last-then, list-kept, of-fitting, range-list-kept, written-there}

@@ -1,8 +1,7 @@
 -- What a chain of a schema holds fits an eighth of a segment.
-use Rattle.std.proofs.Common.{inl, inr, ◌≡◌, ◌≤◌, ◌/◌, ◌+◌, ◌*◌, ℕ, zero, suc, true, false, List, [], ◌∷◌, ◌++◌, Option, Some, None, Ok, length, refl, sym, ap, ◌∙◌, subst, arith}
+use Rattle.std.proofs.Common.{inl, inr, ◌≡◌, ◌≤◌, ℕ, true, false, List, [], ◌∷◌, Option, Some, None, Ok, sym, subst, arith}
 use Rattle.std.specs.Prelude.{Contains, IfSome, IsTrue}
 use Rattle.std.specs.List.{AllByRecursion}
-use Rattle.lsa_kinds.specs.Kinds.{up8}
 use Rattle.rc_cell.specs.declared.rows.Row.{Row}
 use Rattle.rc_cell.specs.Winner.{IsRow, joined_row}
 use Rattle.rc_cell.specs.laws.{IsRow-joined_row}
@@ -10,8 +9,7 @@ use Rattle.rc_cell.specs.laws.Each.{joined_marker, joined_tomb}
 use Rattle.rc_position.specs.declared.comps.Comp.{Comp}
 use Rattle.rc_position.specs.declared.positions.Pos.{Pos}
 use Rattle.rc_position.specs.Position.{row_pos}
-use Rattle.rc_rowcode.specs.Objects.{dummy_size, static_size}
-use Rattle.rc_rowcode.specs.Spelling.{pos_code, row_code}
+use Rattle.rc_rowcode.specs.Objects.{static_size}
 use Rattle.rc_schema.specs.SchemaValue.{SchemaValue, is_schema}
 use Rattle.rc_schema.specs.Checks.{checked_cells}
 use Rattle.rc_schema.specs.Largest.{largest_entry, largest_static}

@@ -1,16 +1,15 @@
 -- What a memtable stands for stays with a snapshot more, which sees it.
-use Rattle.std.proofs.Common.{inl, inr, ◌≡◌, ◌≢◌, ◌⊎◌, ◌<◌, ◌+◌, ◌-◌, ℕ, zero, suc, Bool, true, false, cond, List, [], ◌∷◌, ◌++◌, take, Option, Some, None, is_some, length, refl, sym, ap, ◌∙◌, subst, slice_index_or, arith}
-use Rattle.std.specs.Prelude.{IfSome, IsSomeAnd}
+use Rattle.std.proofs.Common.{inl, inr, ◌≡◌, ◌⊎◌, ◌-◌, ℕ, zero, suc, cond, List, [], ◌∷◌, take, Some, length, refl, sym, ap, ◌∙◌, subst, arith}
+use Rattle.std.specs.Prelude.{IfSome}
 use Rattle.rc_position.specs.Position.{Head}
 use Rattle.rc_schema.specs.SchemaValue.{SchemaValue}
 use Rattle.rc_mutation.specs.declared.mutations.Mutation.{Mutation}
 use Rattle.rc_mutation.specs.declared.mutations.Write.{Write}
 use Rattle.rc_mutation.specs.Source.{changes_to}
 use Rattle.rc_core.specs.declared.entries.ChainKind.TheVariants.{Memtable}
-use Rattle.rc_core.specs.Chains.{IsMemtableChain, Shown, at_place, upto}
+use Rattle.rc_core.specs.Chains.{Shown, at_place, upto}
 use Rattle.rc_core.specs.StandsFor.{StandsFor}
 use Rattle.rc_core.specs.Steps.{free_number, pin_at, pinned}
-use Rattle.rc_core.specs.Version.{Version}
 use Rattle.rc_core.specs.laws.MemtableChains.{snapshot-memtable}
 use Rattle.rc_core.specs.laws.Pins.{pin-given}
 use Rattle.rc_memory.specs.Kept.{IsSoundChain}
@@ -78,6 +77,8 @@ module _ (m n : Memory) (id pin phase : ℕ) (taken : IsSnapshotTaken m n id pin
       let s = of-chain (λ k. IsSoundChain k.chain) (chain_at m id) old.0 old.1 (sound id) in
       let same : with_snapshot (snapshot_number old.0.chain) old.0 ≡ k = same_some _ k (sym (taken-now old.0 old.1) ∙ now) in
       let number : pin ≡ free_number old.0.chain.pins = of-chain (λ k. pin ≡ free_number k.chain.pins) (chain_at m id) old.0 old.1 taken.number in
-      subst (λ (q : KeptChain). (j : ℕ) × (pin_at q.chain.pins pin ≡ Some j) × StandsFor (changes_to key writes) (upto q.chain.versions j)) same
-      (snapshot_number old.0.chain, ap (pin_at (pinned (snapshot_number old.0.chain) old.0.chain.pins)) number ∙ pin-given (snapshot_number old.0.chain) old.0.chain.pins,
-        subst (StandsFor (changes_to key writes)) (sym (take-all old.0.chain.versions (suc (snapshot_number old.0.chain)) (newest-number old.0.chain s old.2.kind))) old.2.stands)
+      subst (λ (q : KeptChain). (j : ℕ) × (pin_at q.chain.pins pin ≡ Some j) × StandsFor (changes_to key writes) (upto q.chain.versions j)) same (
+        snapshot_number old.0.chain,
+        ap (pin_at (pinned (snapshot_number old.0.chain) old.0.chain.pins)) number ∙ pin-given (snapshot_number old.0.chain) old.0.chain.pins,
+        subst (StandsFor (changes_to key writes)) (sym (take-all old.0.chain.versions (suc (snapshot_number old.0.chain)) (newest-number old.0.chain s old.2.kind))) old.2.stands,
+      )

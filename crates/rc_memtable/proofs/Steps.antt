@@ -1,5 +1,5 @@
 -- One version of one chain changed, or put over the others: what becomes of that chain, and that the others are kept.
-use Rattle.std.proofs.Common.{inl, inr, ◌≡◌, ◌≢◌, ◌⊎◌, ◌<◌, ◌≤◌, ◌+◌, ◌-◌, ℕ, zero, suc, true, false, cond, List, [], ◌∷◌, ◌++◌, Option, Some, None, length, refl, sym, ap, ◌∙◌, subst, slice_index_or, arith, length-append}
+use Rattle.std.proofs.Common.{inl, inr, ◌≡◌, ◌⊎◌, ◌<◌, ◌+◌, ℕ, suc, true, false, List, [], ◌∷◌, ◌++◌, Option, Some, None, length, refl, sym, ap, ◌∙◌, subst, slice_index_or, arith, length-append}
 use Rattle.std.specs.Prelude.{Contains, IfSome, IsSomeAnd}
 use Rattle.std.specs.Option.{option_map}
 use Rattle.rc_position.specs.Position.{Head}
@@ -10,9 +10,9 @@ use Rattle.rc_core.specs.declared.entries.ChainKind.{ChainKind}
 use Rattle.rc_core.specs.declared.entries.ChainKind.TheVariants.{Memtable}
 use Rattle.rc_core.specs.declared.entries.Entry.{Entry}
 use Rattle.rc_core.specs.AtPlace.{HasEntryAt}
-use Rattle.rc_core.specs.Chains.{IsPinned, Shown, at_place, upto}
+use Rattle.rc_core.specs.Chains.{IsPinned, at_place, upto}
 use Rattle.rc_core.specs.Continuity.{EachOf}
-use Rattle.rc_core.specs.Steps.{IsChain, on_newest, on_version, version_of}
+use Rattle.rc_core.specs.Steps.{IsChain, on_version, version_of}
 use Rattle.rc_core.specs.declared.entries.Flag.TheVariants.{Inherit}
 use Rattle.rc_core.specs.Version.{IsVersion, Version}
 use Rattle.rc_core.specs.laws.Memtables.{left-alone}
@@ -20,7 +20,7 @@ use Rattle.rc_core.specs.laws.Surgery.{each-of-back}
 use Rattle.rc_registry.specs.Registry.{put}
 use Rattle.rc_memory.specs.Kept.{IsSoundChain}
 use Rattle.rc_memory.specs.Memory.{HasVersion, KeptChain, Member, Memory, IsVersionAt, chain_at, on_chain, on_shown, on_version_of}
-use Rattle.rc_memory.specs.Recency.{HasObject, IsLastInner, IsUnderUpdate}
+use Rattle.rc_memory.specs.Recency.{IsLastInner, IsUnderUpdate}
 use Rattle.rc_memory.specs.Room.{FitTogether}
 use Rattle.rc_memory.specs.Changes.{FitsChanged, IsRenewed, IsRenewedWhereNone, IsVersionChanged, KeepsLast, LastIsListed, OfVersion, member}
 use Rattle.rc_memory.specs.laws.At.{number-there}
@@ -31,11 +31,10 @@ use Rattle.rc_memory.specs.laws.Rules.{below_or_above}
 use Rattle.rc_memory.specs.laws.Still.{still-itself, still-then, still-wider, unmoved-itself, unmoved-then}
 use Rattle.rc_chain.specs.Lives.{IsChainChanged, is_cache, with_version_over}
 use Rattle.rc_chain.specs.laws.Numbered.{on-newest}
-use Rattle.rc_chain.specs.laws.PlaceBeside.{memtable-settled, shown-form}
+use Rattle.rc_chain.specs.laws.PlaceBeside.{shown-form}
 use Rattle.rc_memtable.specs.Fits.{IsVersionOf}
 use Rattle.rc_memtable.specs.Changes.{KeepsChanges}
 use Rattle.rc_memtable.specs.Steps.{AreOthersKept, IsGrown, IsWritten}
-use Rattle.rc_memtable.specs.Writes.{IsNewestPinned}
 use Rattle.rc_memtable.specs.calls.Writing.{IsFreeNewest, IsOpened}
 use Rattle.rc_memtable.proofs.Kept.{over-below, over-kept}
 

@@ -1,6 +1,5 @@
 -- What a schema allows of the versions of a chain: where their entries stand, and their rows.
 use Rattle.std.specs.Prelude.{◌≡◌, false, Ok, IfSome}
-use Rattle.rc_cell.specs.declared.rows.Row.{Row}
 use Rattle.rc_cell.specs.Winner.{IsRow}
 use Rattle.rc_position.specs.Position.{row_pos}
 use Rattle.rc_schema.specs.SchemaValue.{SchemaValue}

@@ -2,7 +2,7 @@
 --     IsGrown      a chain got something in its newest version, which nobody pinned, or got that version first
 --     AreOthersKept   all but one chain is as it was
 --     IsApplied    one write more
-use Rattle.std.specs.Prelude.{◌≡◌, ℕ, List, ◌++◌, ◌∷◌, [], Option, Some, None, cond}
+use Rattle.std.specs.Prelude.{◌≡◌, ℕ, List, ◌++◌, ◌∷◌, [], Some, None, cond}
 use Rattle.std.specs.Ordering.{eq_by_cmp}
 use Rattle.rc_position.specs.Position.{bytes_cmp}
 use Rattle.rc_schema.specs.SchemaValue.{SchemaValue}

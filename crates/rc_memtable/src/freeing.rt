@@ -7,8 +7,8 @@ ghost use Rattle.rc_memtable.specs.LetGo.{AreLetGo, IsFreed, IsGone, IsLetGo};
 ghost use Rattle.rc_memtable.specs.calls.Writing.{AreMemtables};
 
 use rc_chain::{Chains, Snap};
-use rc_units::laws::chaining::a_freed_object_leaves_less;
 use rc_position::PartKey;
+use rc_units::laws::chaining::a_freed_object_leaves_less;
 use std::collections::BTreeMap;
 
 // Whether nobody pins a chain.

@@ -1,9 +1,6 @@
-use Rattle.std.proofs.Common.{List, ◌∷◌, IsTrue, sym, ap, ◌∙◌, subst}
-use Rattle.rc_cell.specs.declared.rows.Row.{Row}
+use Rattle.std.proofs.Common.{IsTrue, sym, ap, ◌∙◌, subst}
 use Rattle.rc_cell.specs.Columns.{ascending}
 use Rattle.rc_cell.specs.Winner.{IsRow}
-use Rattle.rc_position.specs.declared.comps.Comp.{Comp}
-use Rattle.rc_ranges.specs.declared.pieces.Piece.{Piece}
 use Rattle.rc_mutation.specs.declared.mutations.Mutation.{Mutation}
 use Rattle.rc_writes.specs.Allowed.{IsRangeBound, IsRowOf, IsStaticOf}
 use Rattle.rc_core.specs.StandsFor.{written_statics}

@@ -1,4 +1,4 @@
-use Rattle.std.proofs.Common.{◌≡◌, ◌≤◌, ◌+◌, ℕ, List, [], Option, Some, None, cond, sym, ap, ◌∙◌, subst, arith}
+use Rattle.std.proofs.Common.{◌≡◌, ◌≤◌, ◌+◌, ℕ, List, [], Some, None, cond, sym, ap, ◌∙◌, subst, arith}
 use Rattle.std.specs.Ordering.{eq_by_cmp}
 use Rattle.lsa_pool.specs.Room.{spare_of}
 use Rattle.rc_position.specs.Position.{bytes_cmp}
@@ -13,16 +13,21 @@ write_into-requires-in-None g c =
     let made = c.in_ok-id-in-None.ensures.made in
     let none : chain_of c.args.self.now c.args.w.now.key ≡ None = subst (λ (cs : List (List ℕ × ℕ)). chain_of cs c.args.w.now.key ≡ None) c.self.view_is (sym c.in-None.ensures) in
     let room : 152 + joined_need c.args.schema.now c.args.w.now.change ≤ spare_of g.row.S c.args.chains.now.region.usages = version-taken c.args.chains.now (chain_of c.args.self.now c.args.w.now.key) none c.requires.room.version in
-    let spare = c.in_ok-id-in-None.ensures.spare in
-    (omega arith, (c.args.schema.now, record {
-      limits = c.ck-limits.ensures.limits;
-      small = c.requires.small;
-      single = c.requires.single;
-      fits = c.requires.fits;
-      kept = (chain_of_new Memtable None 0, [], made-now c.args.chains.now c.add_chain.new.chains c.in_ok-id-in-None.id made, fresh-kept c.args.schema.now);
-      joined = omega (arith, room, spare);
-      version = λ p. absurd (made-unpinned c.args.chains.now c.add_chain.new.chains c.in_ok-id-in-None.id made p);
-    }))
+    let spare = c.in_ok-id-in-None.ensures.spare in (
+      omega arith,
+      (
+        c.args.schema.now,
+        record {
+          limits = c.ck-limits.ensures.limits;
+          small = c.requires.small;
+          single = c.requires.single;
+          fits = c.requires.fits;
+          kept = (chain_of_new Memtable None 0, [], made-now c.args.chains.now c.add_chain.new.chains c.in_ok-id-in-None.id made, fresh-kept c.args.schema.now);
+          joined = omega (arith, room, spare);
+          version = λ p. absurd (made-unpinned c.args.chains.now c.add_chain.new.chains c.in_ok-id-in-None.id made p);
+        },
+      ),
+    )
 
 pub returns-in-Some-clause-applied : goal.returns-in-Some-clause-applied
 returns-in-Some-clause-applied g c =
