@@ -1,11 +1,12 @@
 -- The forms of lines: the words that each has, in order, and what they say under a schema.
-use Rattle.std.specs.Prelude.{ℕ, true, ◌&&◌, nat_le, List, [], ◌∷◌, length, codes, Option, Some, None, Ok, if◌then◌else◌, option_and_then}
+use Rattle.std.specs.Prelude.{ℕ, true, ◌&&◌, nat_le, List, [], ◌∷◌, length, map as list_map, codes, Option, Some, None, Ok, if◌then◌else◌, option_and_then}
 use Rattle.rc_cell.specs.declared.writes.Cell.{Cell}
 use Rattle.rc_cell.specs.declared.writes.Tomb.{Tomb}
+use Rattle.rc_schema.specs.SchemaValue.{are_distinct_by}
 use Rattle.rc_spelling.specs.Numbers.{count_of}
-use Rattle.rc_spelling.specs.Words.{is_word}
+use Rattle.rc_spelling.specs.Words.{is_word, each_of}
 use Rattle.rc_lines.specs.declared.commands.Command.TheVariants.{Read, Close, Flush, FlushBegin, FlushStep, Evict, Compact, Clean, Stats}
-use Rattle.rc_lines.specs.Parts.{stamp_of, time_of, key_of, pieces_of, cell_set, cell_unset, each_of, are_distinct, from_limit, to_limit}
+use Rattle.rc_lines.specs.Parts.{stamp_of, time_of, key_of, pieces_of, cell_set, cell_unset, from_limit, to_limit}
 use Rattle.rc_lines.specs.UnderSchema.{Saying, row_written, statics_written, range_written, partition_written, slice_opened}
 
 -- what words say, where they are of a form
@@ -37,7 +38,7 @@ tomb_words more = word_as stamp_of (λ ts. word_as time_of (λ dt. more (record 
 -- words of columns up to the end, at least so many, no name twice
 abbrev pub columns_to_end : ℕ → (List ℕ → Option (List ℕ × Cell)) → (List (List ℕ × Cell) → Saying) → Form
 columns_to_end least read saying words =
-    option_and_then (λ cells. if nat_le least (length cells) && are_distinct cells then Some (saying cells) else None) (each_of read words)
+    option_and_then (λ cells. if nat_le least (length cells) && are_distinct_by is_word (list_map (λ e. e.0) cells) then Some (saying cells) else None) (each_of read words)
 
 -- the forms: an insert with a marker, an update without one; dead cells; tombstones of a row, a range and the partition; static cells, live and dead; the opening of a
 -- reader of all rows or of those between two limits, its next lines and its end; then what is done to the memtable, the cache and the memory

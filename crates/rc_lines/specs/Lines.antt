@@ -28,7 +28,6 @@ use Rattle.rc_lines.specs.declared.shapes.Stamp.{Stamp}
 use Rattle.rc_lines.specs.declared.shapes.Stamp.TheVariants.{Alive}
 use Rattle.rc_lines.specs.Plain.{IsCount, HasCounts, plain_line}
 use Rattle.rc_lines.specs.Sayable.{stamped, shape_line, IsStampInRange, IsStamped}
-use Rattle.rc_lines.specs.Texts.{value_text}
 use Rattle.rc_lines.specs.UnderSchema.{is_partition_key}
 
 -- ---- the line
@@ -54,6 +53,10 @@ end_said x = record { pieces = pieces_said x.prefix; inclusive = not (is_before 
 -- the name of a column by its number, nothing where the number is no column's
 abbrev pub column_name : List (List ℕ) → ℕ → List ℕ
 column_name names column = slice_index_or names column []
+
+-- ` NAME=VALUE` of a column's value
+abbrev pub value_text : List (List ℕ) → ℕ × List ℕ → List ℕ
+value_text names shown = 32 ∷ (column_name names shown.0 ++ 61 ∷ printed shown.1)
 
 -- each cell with the name of its column
 abbrev pub cells_said : List (List ℕ) → List (ℕ × Cell) → List (List ℕ × Cell)

@@ -1,11 +1,11 @@
 -- The parts of a line's words.
-use Rattle.std.specs.Prelude.{ℕ, ℤ, Bool, true, false, ◌+◌, ◌-◌, ◌==◌, List, [], ◌∷◌, length, take, drop, map as list_map, codes, Option, Some, None, if◌then◌else◌, option_and_then}
+use Rattle.std.specs.Prelude.{ℕ, ℤ, Bool, true, false, ◌+◌, ◌-◌, ◌==◌, List, [], ◌∷◌, length, take, drop, codes, Option, Some, None, if◌then◌else◌, option_and_then}
 use Rattle.std.specs.List.{position}
 use Rattle.std.specs.Option.{option_map, option_or}
 use Rattle.rc_cell.specs.declared.writes.Cell.{Cell}
 use Rattle.rc_cell.specs.declared.writes.Cell.TheVariants.{Live, Dead}
 use Rattle.rc_cell.specs.declared.writes.Tomb.{Tomb}
-use Rattle.rc_schema.specs.SchemaValue.{is_name, are_distinct_by}
+use Rattle.rc_schema.specs.SchemaValue.{is_name}
 use Rattle.rc_spelling.specs.Numbers.{number_of, signed_of}
 use Rattle.rc_spelling.specs.Spelling.{bytes_spelled, components_spelled}
 use Rattle.rc_spelling.specs.Words.{is_word}
@@ -60,12 +60,3 @@ cell_set ts word = option_and_then (λ at. named (take at word) (option_map (λ 
 -- `NAME`, a dead cell
 abbrev pub cell_unset : Tomb → List ℕ → Option (List ℕ × Cell)
 cell_unset tomb word = named word (Some (Dead tomb.ts tomb.dt))
-
--- what each word says, where each says something
-abbrev pub each_of : {A : Type 0} → (List ℕ → Option A) → List (List ℕ) → Option (List A)
-each_of read [] = Some []
-each_of read (word ∷ words) = option_and_then (λ item. option_map (λ items. item ∷ items) (each_of read words)) (read word)
-
--- whether no name stands there twice
-abbrev pub are_distinct : List (List ℕ × Cell) → Bool
-are_distinct cells = are_distinct_by is_word (list_map (λ e. e.0) cells)

@@ -19,8 +19,8 @@ use Rattle.rc_lines.specs.declared.shapes.Shape.{Shape}
 use Rattle.rc_lines.specs.declared.shapes.Shape.TheVariants.{Plain, Open, Written}
 use Rattle.rc_lines.specs.declared.shapes.Stamp.{Stamp}
 use Rattle.rc_lines.specs.declared.shapes.Stamp.TheVariants.{Alive, Gone}
-use Rattle.rc_lines.specs.Parts.{are_distinct}
 use Rattle.rc_lines.specs.Plain.{IsCount}
+use Rattle.rc_lines.specs.calls.ShapeParts.{are_distinct}
 
 -- ---- the line
 

@@ -1,5 +1,5 @@
 -- The texts of replies.
-use Rattle.std.specs.Prelude.{ℕ, Bool, List, [], ◌∷◌, ◌++◌, flat_map, codes, decimal, slice_index_or, if◌then◌else◌}
+use Rattle.std.specs.Prelude.{ℕ, List, [], ◌∷◌, ◌++◌, flat_map, codes, decimal, slice_index_or, if◌then◌else◌}
 use Rattle.rc_schema.specs.SchemaValue.{SchemaValue}
 use Rattle.rc_spelling.specs.Printed.{printed, key_text}
 use Rattle.rc_query.specs.declared.lines.OutLine.{OutLine}
@@ -10,18 +10,14 @@ use Rattle.rc_lines.specs.declared.commands.Refusal.TheVariants.{BadLine, NoSche
 use Rattle.rc_lines.specs.declared.commands.Reply.{Reply}
 use Rattle.rc_lines.specs.declared.commands.Reply.TheVariants.{Nothing, Fine, Given, Going, Done, Stats, Refused}
 
--- ` NAME=VALUE`
-abbrev pub value_text : List (List ℕ) → ℕ × List ℕ → List ℕ
-value_text names shown = 32 ∷ (slice_index_or names shown.0 [] ++ 61 ∷ printed shown.1)
+-- ` NAME=VALUE` for each value, with the number of its column
+unfoldable pub values_text : List (List ℕ) → List (ℕ × List ℕ) → List ℕ
+values_text names shown = flat_map (λ e. 32 ∷ (slice_index_or names e.0 [] ++ 61 ∷ printed e.1)) shown
 
 -- a line that a reader is given
 abbrev pub line_text : SchemaValue → OutLine → List ℕ
-line_text schema (Static shown) = codes "static" ++ flat_map (value_text schema.statics) shown ++ 10 ∷ []
-line_text schema (Row key shown) = codes "row " ++ key_text key ++ flat_map (value_text schema.cols) shown ++ 10 ∷ []
-
--- the lines that a reader is given, and whether there are more
-abbrev pub given_text : SchemaValue → List OutLine → Bool → List ℕ
-given_text schema lines more = flat_map (line_text schema) lines ++ (if more then codes "more\n" else codes "end\n")
+line_text schema (Static shown) = codes "static" ++ values_text schema.statics shown ++ 10 ∷ []
+line_text schema (Row key shown) = codes "row " ++ key_text key ++ values_text schema.cols shown ++ 10 ∷ []
 
 -- the text of a refusal
 abbrev pub refusal_text : Refusal → List ℕ
@@ -43,22 +39,18 @@ refusal_text WriteFault = codes "? write fault\n"
 refusal_text (Damaged file offset) = codes "? damaged " ++ decimal file ++ codes " at " ++ decimal offset ++ codes "\n"
 refusal_text NoNumber = codes "? no number\n"
 
--- ` NAME=NUMBER`
-abbrev pub figure_text : List ℕ × ℕ → List ℕ
-figure_text figure = 32 ∷ (figure.0 ++ 61 ∷ decimal figure.1)
-
 -- the line of the figures
 unfoldable pub figures_text : Figures → List ℕ
 figures_text f =
-    codes "stats" ++ flat_map figure_text ((codes "segments", f.segments) ∷ (codes "free", f.free) ∷ (codes "objects", f.objects) ∷ (codes "live", f.live)
-    ∷ (codes "partitions", f.partitions) ∷ (codes "rows", f.rows) ∷ (codes "dummies", f.dummies) ∷ (codes "hits", f.hits) ∷ (codes "misses", f.misses) ∷ (codes "evicted", f.evicted)
-    ∷ (codes "moved", f.moved) ∷ (codes "skipped", f.skipped) ∷ (codes "asks", f.asks) ∷ []) ++ codes "\n"
+    codes "stats" ++ flat_map (λ (e : List ℕ × ℕ). 32 ∷ (e.0 ++ 61 ∷ decimal e.1)) ((codes "segments", f.segments) ∷ (codes "free", f.free) ∷ (codes "objects", f.objects)
+    ∷ (codes "live", f.live) ∷ (codes "partitions", f.partitions) ∷ (codes "rows", f.rows) ∷ (codes "dummies", f.dummies) ∷ (codes "hits", f.hits) ∷ (codes "misses", f.misses)
+    ∷ (codes "evicted", f.evicted) ∷ (codes "moved", f.moved) ∷ (codes "skipped", f.skipped) ∷ (codes "asks", f.asks) ∷ []) ++ codes "\n"
 
 -- the text of a reply under a schema: its lines, each ended by a newline
 unfoldable pub reply_text : SchemaValue → Reply → List ℕ
 reply_text schema Nothing = []
 reply_text schema Fine = codes "ok\n"
-reply_text schema (Given lines more) = given_text schema lines more
+reply_text schema (Given lines more) = flat_map (line_text schema) lines ++ (if more then codes "more\n" else codes "end\n")
 reply_text schema Going = codes "going\n"
 reply_text schema Done = codes "done\n"
 reply_text schema (Stats figures) = figures_text figures

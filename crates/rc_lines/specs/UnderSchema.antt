@@ -35,10 +35,6 @@ prefix_of [] kinds = Some []
 prefix_of (piece ∷ pieces) [] = None
 prefix_of (piece ∷ pieces) (kind ∷ kinds) = option_and_then (λ component. option_map (λ key. component ∷ key) (prefix_of pieces kinds)) (component_of kind piece)
 
--- the components of a key: as many as there are kinds
-unfoldable pub key_under : List (List ℕ) → List CkKind → Option (List Comp)
-key_under pieces kinds = if length pieces == length kinds then prefix_of pieces kinds else None
-
 -- the positions between two of which the first is below the second
 unfoldable pub slice_between : Pos → Pos → Option Slice
 slice_between from to = if is_lt (pos_cmp from to) then Some (record { from = from; to = to }) else None
@@ -69,10 +65,10 @@ need (Some value) refusal more = more value
 abbrev pub put_parts : List ℕ → Option Tomb → Row → List (List Comp × Row) → List Piece → Command
 put_parts key pt statics rows ranges = Put (record { key = key; change = record { pt = pt; statics = statics; rows = rows; ranges = ranges } })
 
--- a row is written: a marker, a tombstone and cells
+-- a row is written: a marker, a tombstone and cells; its key has as many components as there are kinds
 unfoldable pub row_written : List ℕ → List (List ℕ) → Option ℤ → Option Tomb → List (List ℕ × Cell) → Saying
 row_written key ck marker tomb cells schema =
-    need (key_under ck schema.ck) WrongKey (λ k. need (columns_of schema.cols cells) UnknownColumn (λ found.
+    need (if length ck == length schema.ck then prefix_of ck schema.ck else None) WrongKey (λ k. need (columns_of schema.cols cells) UnknownColumn (λ found.
     if is_partition_key key && (list_all is_short k && list_all (λ e. has_short_value e.1) found)
     then Ok (put_parts key None empty_row ((k, record { marker = marker; tomb = tomb; cells = found }) ∷ []) []) else Err TooLong))
 

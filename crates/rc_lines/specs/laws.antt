@@ -23,7 +23,7 @@ use Rattle.std.proofs.Common.{refl, sym, subst, ap, ◌∙◌, arith}
 use Rattle.std.proofs.lemmas.List.{length-take, take_all}
 use Rattle.std.proofs.lemmas.Bool.Decides.{nat_tests}
 use Rattle.rc_schema.specs.SchemaValue.{SchemaValue}
-use Rattle.rc_lines.specs.Grammar.{parse, longest_line}
+use Rattle.rc_lines.specs.Grammar.{longest_line, parse}
 use Rattle.rc_lines.specs.declared.commands.Refusal.TheVariants.{BadLine}
 
 front_is_long : (n : ℕ) (line : List ℕ) → n < length line → n < length (take (n + 1) line)

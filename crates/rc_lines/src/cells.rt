@@ -8,8 +8,8 @@ ghost use Rattle.std.specs.Option.{option_map, IfSome};
 ghost use Rattle.std.specs.Ordering.{nat_cmp};
 ghost use Rattle.rc_schema.specs.SchemaValue.{are_distinct_by};
 ghost use Rattle.rc_spelling.specs.Words.{is_word};
-ghost use Rattle.rc_lines.specs.calls.ShapeParts.{live_of, set_of, split_set, cell_said, each_cell_of, named_cells, some_cells_of};
-ghost use Rattle.rc_lines.specs.Parts.{named, are_distinct};
+ghost use Rattle.rc_lines.specs.calls.ShapeParts.{are_distinct, live_of, set_of, split_set, cell_said, each_cell_of, named_cells, some_cells_of};
+ghost use Rattle.rc_lines.specs.Parts.{named};
 
 use crate::parts::is_name;
 use crate::shapes::{Named, Stamp};

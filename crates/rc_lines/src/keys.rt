@@ -4,8 +4,8 @@ ghost use Rattle.std.specs.Prelude.{◌≡◌, IfOk, IsTrue, false, length, map,
 ghost use Rattle.std.specs.Option.{option_map, IfSome};
 ghost use Rattle.rc_position.specs.Position.{IsBefore};
 ghost use Rattle.rc_schema.specs.Checks.{are_of_kinds, fits_kinds};
-ghost use Rattle.rc_lines.specs.UnderSchema.{component_of, prefix_of, key_under, slice_between};
-ghost use Rattle.rc_lines.specs.calls.ShapeMeaning.{slice_under};
+ghost use Rattle.rc_lines.specs.UnderSchema.{component_of, prefix_of, slice_between};
+ghost use Rattle.rc_lines.specs.calls.ShapeMeaning.{key_under, slice_under};
 
 use crate::shapes::{Bound, Pieces};
 use rc_position::{Comp, Key, Pos, Slice, Text, end_pos, start_pos};
@@ -64,7 +64,6 @@ fn prefix(alloc: Global, pieces: &Pieces, kinds: &[CkKind]) -> Result<Option<Key
 }
 
 /// The full key whose components' bytes these are.
-#[tactic(auto, unfolding(crate::specs::UnderSchema::key_under))]
 pub(crate) fn full_key(
     alloc: Global,
     pieces: &Pieces,

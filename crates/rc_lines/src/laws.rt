@@ -7,7 +7,7 @@ ghost use Rattle.rc_cell.specs.declared.writes.Tomb.{Tomb};
 ghost use Rattle.rc_cell.specs.Winner.{IsRow};
 ghost use Rattle.rc_position.specs.declared.comps.Comp.{Comp};
 ghost use Rattle.rc_rowcode.specs.Spelling.{IsTomb};
-ghost use Rattle.rc_schema.specs.Checks.{checked_prefix};
+ghost use Rattle.rc_schema.specs.Checks.{is_key_of};
 ghost use Rattle.rc_schema.specs.SchemaValue.{SchemaValue, is_schema};
 ghost use Rattle.rc_spelling.specs.Printed.{AreBytes};
 ghost use Rattle.rc_spelling.specs.Words.{words};
@@ -95,7 +95,7 @@ pub fn inserts_read_back()
 /// The deletion of a row, with its key as replies print it, writes its tombstone, and nothing else.
 pub fn deletes_read_back()
     ensures { (schema : SchemaValue) (key : List ℕ) (ck : List Comp) (tomb : Tomb) → IsTrue (is_schema schema) → IsPartitionKey key → AreComponents ck → IsTomb tomb →
-        checked_prefix true schema ck ≡ Ok tt →
+        IsTrue (is_key_of true schema ck) →
         parse (Some schema) (delete_text key ck tomb) ≡ Ok (Put (record { key = key; change = row_alone ck (dead_row tomb) })) }
 {}
 

@@ -3,8 +3,8 @@
 ghost use Rattle.std.specs.Prelude.{◌≡◌, ◌++◌, ◌∷◌, decimal, flat_map, OnOk, OnErr};
 ghost use Rattle.rc_spelling.specs.Printed.{printed};
 ghost use Rattle.rc_lines.specs.Lines.{column_name};
-ghost use Rattle.rc_lines.specs.Texts.{value_text, line_text, given_text, refusal_text, figures_text, reply_text};
-ghost use Rattle.rc_lines.specs.calls.TextParts.{fixed_text, named_figure, memory_text, cached_text, served_text, done_text, figure_parts};
+ghost use Rattle.rc_lines.specs.Texts.{values_text, line_text, refusal_text, figures_text, reply_text};
+ghost use Rattle.rc_lines.specs.calls.TextParts.{given_text, fixed_text, named_figure, memory_text, cached_text, served_text, done_text, figure_parts};
 ghost use Rattle.rc_lines.specs.declared.commands.Refusal.TheVariants.{Damaged};
 
 use crate::commands::{Figures, Refusal, Reply};
@@ -38,7 +38,7 @@ fn print_value(name: &[u8], value: &Value, text: &mut Vec<u8>) -> Result<(), All
 
 /// Appends ` NAME=VALUE` for each value.
 fn print_values(names: &[Text], shown: &[(u8, Value)], text: &mut Vec<u8>) -> Result<(), AllocError>
-    ensures { OnOk result (text.new.items ≡ text.old.items ++ flat_map (value_text names.now) shown.now) }
+    ensures { OnOk result (text.new.items ≡ text.old.items ++ values_text names.now shown.now) }
 {
     for (column, value) in shown {
         print_value(column_name(names, *column), value, text)?;

@@ -19,8 +19,7 @@ entry_weight x = 88 + length (pos_code x)
 -- what a write may take of the memory for rows: a version and a dummy; each row with its entry; each range with an entry at both of its bounds; and
 -- the static row
 abbrev pub weight : Mutation → ℕ
-weight m =
-    512 + sum_by (λ e. entry_weight (row_pos e.0) + length (row_code e.1)) m.rows
+weight m = 512 + sum_by (λ e. entry_weight (row_pos e.0) + length (row_code e.1)) m.rows
     + sum_by (λ p. entry_weight p.from + entry_weight p.to) m.ranges + (if is_written m.statics then 40 + length (row_code m.statics) else 0)
 
 -- the writes that are held: from the first one on that stands in no table, now or when an open reader was opened

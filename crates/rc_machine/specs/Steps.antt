@@ -74,9 +74,8 @@ reader_with m key slice lines = record { key = key; slice = slice; place = slice
 
 -- a reader is opened: its answer is fixed now, to what the tables say and then the writes that stand in none; or its partition could not be read
 abbrev pub Opens : State → ℕ → List ℕ → Slice → Reply → State → Type 0
-Opens m id key slice reply new =
-    ((said : List Mutation) × IsSaid m key said × Does (record m { readers = m.readers ++ (id, reader_with m key slice (answer (said ++ changes_to key (unstored m)) slice)) ∷ [] }) reply new)
-    ⊎ ReadFails m key reply new
+Opens m id key slice reply new = ((said : List Mutation) × IsSaid m key said
+    × Does (record m { readers = m.readers ++ (id, reader_with m key slice (answer (said ++ changes_to key (unstored m)) slice)) ∷ [] }) reply new) ⊎ ReadFails m key reply new
 
 -- the position behind lines that were given, of which the first begin behind x: behind the last row
 abbrev pub position_behind : Pos → List OutLine → Pos
@@ -90,9 +89,8 @@ reader_past count r = record r { place = if nat_lt count (length r.rest) then po
 
 -- a reader gives its next lines, and whether there are more; or its partition could not be read
 abbrev pub Gives : State → ℕ → ℕ → Reader → Reply → State → Type 0
-Gives m id count r reply new =
-    ((reply ≡ replies.Given (take count r.rest) (nat_lt count (length r.rest))) × (new ≡ record m { readers = set_value (λ k. k == id) m.readers (reader_past count r) }))
-    ⊎ ReadFails m r.key reply new
+Gives m id count r reply new = ((reply ≡ replies.Given (take count r.rest) (nat_lt count (length r.rest)))
+    × (new ≡ record m { readers = set_value (λ k. k == id) m.readers (reader_past count r) })) ⊎ ReadFails m r.key reply new
 
 -- how many writes stand in tables or in the next one, once what is not sealed yet is sealed, unless something is
 abbrev pub sealing : State → ℕ
@@ -104,14 +102,9 @@ IsFlushed m parts = IsParts parts (take (sealing m - m.stored) (unstored m)) × 
 
 -- the state in which the sealed writes stand in one more table, with its file, and the cache does not have it yet
 abbrev pub with_table : State → List Partition → State
-with_table m parts = let n = next_number (numbers m.tables) in record m {
-  files = option_map (λ files. map.insert files n (text (whole_table m.schema parts))) m.files;
-  tables = m.tables ++ (n, parts) ∷ [];
-  infos = m.infos ++ info_of n m.schema parts ∷ [];
-  sealed = sealing m;
-  written = true;
-  left = units parts;
-}
+with_table m parts = let n = next_number (numbers m.tables) in
+    let files = option_map (λ files. map.insert files n (text (whole_table m.schema parts))) m.files in
+    record m { files = files; tables = m.tables ++ (n, parts) ∷ []; infos = m.infos ++ info_of n m.schema parts ∷ []; sealed = sealing m; written = true; left = units parts }
 
 -- the state once the cache has the last table: the sealed writes stand in tables
 abbrev pub without_sealed : State → State
@@ -123,8 +116,7 @@ Stores m on reply new = ((parts : List Partition) × IsFlushed m parts × Does (
 
 -- a flush begins: none is in progress, there is something to flush, and a number for its table
 abbrev pub Flushes : State → (State → State) → Reply → State → Type 0
-Flushes m on reply new =
-    MatchBool m.written (Refuses m FlushInProgress reply new) (MatchBool (m.stored == length m.log) (Refuses m NothingToFlush reply new)
+Flushes m on reply new = MatchBool m.written (Refuses m FlushInProgress reply new) (MatchBool (m.stored == length m.log) (Refuses m NothingToFlush reply new)
     (MatchBool (nat_lt last_number (next_number (numbers m.tables))) (Refuses m NoNumber reply new) (Stores m on reply new)))
 
 -- from a state a command may be answered by the reply, and the other state is next
@@ -138,9 +130,8 @@ Steps m (Read id count) reply new = MatchOption (reader_of id m) (Refuses m NoRe
 Steps m (Close id) reply new = MatchOption (reader_of id m) (Refuses m NoReader reply new) (λ r. Does (record m { readers = filter (λ reader. not (reader.0 == id)) m.readers }) reply new)
 Steps m Flush reply new = Flushes m without_sealed reply new
 Steps m FlushBegin reply new = Flushes m (λ next. next) reply new
-Steps m (FlushStep count) reply new =
-    MatchBool m.written (MatchBool (nat_lt count m.left) ((reply ≡ replies.Going) × (new ≡ record m { left = m.left - count })) ((reply ≡ replies.Done) × (new ≡ without_sealed m)))
-    (Refuses m NoFlush reply new)
+Steps m (FlushStep count) reply new = MatchBool m.written (MatchBool (nat_lt count m.left) ((reply ≡ replies.Going) × (new ≡ record m { left = m.left - count }))
+    ((reply ≡ replies.Done) × (new ≡ without_sealed m))) (Refuses m NoFlush reply new)
 Steps m Stats reply new = (figures : Figures) × (reply ≡ replies.Stats figures) × (new ≡ m)
 Steps m command reply new = Does m reply new
 

@@ -18,7 +18,7 @@ use Rattle.rc_memory.specs.laws.Still.{still-wider}
 use Rattle.rc_chain.specs.Lives.{IsChainMade, chain_of_new}
 use Rattle.rc_memtable.specs.Changes.{KeepsChanges}
 use Rattle.rc_memtable.specs.Writes.{HasWrites, IsNewestPinned, TakesVersion, chain_of, names}
-use Rattle.rc_memtable.specs.Steps.{AreOthersKept, IsApplied, IsWritten}
+use Rattle.rc_memtable.specs.Steps.{AreOthersKept, IsApplied, IsChangeWritten}
 use Rattle.rc_memtable.proofs.Fitting.{new-fits}
 use Rattle.rc_memtable.proofs.Named.{changes-more, key-differs, key-is, key-itself, key-or-not, names-more, unnamed}
 use Rattle.rc_memtable.proofs.Steps.{chain-beside, chain-is, kept-then}
@@ -64,7 +64,7 @@ version-taken m o none h = h (subst (TakesVersion m) (sym none) tt)
 
 -- ---- one write more
 
-module _ (schema : SchemaValue) (w : Write) (old new : Memory) (id : ℕ) (h : IsWritten schema id w.change old new) where
+module _ (schema : SchemaValue) (w : Write) (old new : Memory) (id : ℕ) (h : IsChangeWritten schema id w.change old new) where
   -- what a chain keeps, of the key of the write and of another key
   more-here : (key : List ℕ) (writes : List Write) → eq_by_cmp bytes_cmp w.key key ≡ true → changes_to key (writes ++ w ∷ []) ≡ changes_to key writes ++ w.change ∷ []
   more-here key writes here = changes-more key writes w ∙ ap (λ b. cond b (changes_to key writes ++ w.change ∷ []) (changes_to key writes)) here
@@ -113,7 +113,7 @@ module _ (schema : SchemaValue) (w : Write) (old new : Memory) (id : ℕ) (h : I
 
 -- ---- into a new chain
 
-module _ (schema : SchemaValue) (w : Write) (old mid new : Memory) (id : ℕ) (made : IsChainMade id Memtable None 0 old.recency old mid) (h : IsWritten schema id w.change mid new)
+module _ (schema : SchemaValue) (w : Write) (old mid new : Memory) (id : ℕ) (made : IsChainMade id Memtable None 0 old.recency old mid) (h : IsChangeWritten schema id w.change mid new)
     (before now : List (List ℕ × ℕ)) (none : chain_of before w.key ≡ None) (keys : (q : List ℕ) → chain_of now q ≡ cond (eq_by_cmp bytes_cmp w.key q) (Some id) (chain_of before q)) where
   made-there : chain_at mid id ≡ Some (chain_of_new Memtable None 0)
   made-there = made-now old mid id made

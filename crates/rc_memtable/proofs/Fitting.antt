@@ -29,7 +29,7 @@ use Rattle.rc_core.specs.Change.{changed, dummy, joined_onto, raised_mark, split
 use Rattle.rc_core.specs.Continuity.{EachOf}
 use Rattle.rc_core.specs.Steps.{join_flagged_statics, join_pt, on_version, range_joined, row_joined, version_of}
 use Rattle.rc_core.specs.Version.{Finding, On, Version, entry_answers, seen}
-use Rattle.rc_memtable.specs.Fits.{IsEntryOf, IsVersionOf}
+use Rattle.rc_memtable.specs.Fits.{IsEntryUnder, IsVersionUnder}
 
 -- ---- entries
 
@@ -70,7 +70,7 @@ module _ (schema : SchemaValue) where
   unfolding checked_prefix
   nothing-fits = refl
 
-  dummy-of : (x : Pos) → checked_prefix false schema x.prefix ≡ Ok tt → (m : Mark) → IsEntryOf schema (dummy x m)
+  dummy-of : (x : Pos) → checked_prefix false schema x.prefix ≡ Ok tt → (m : Mark) → IsEntryUnder schema (dummy x m)
   dummy-of x h m = record { position = h; row = tt }
 
   -- ---- rows joined
@@ -88,61 +88,61 @@ module _ (schema : SchemaValue) where
   row-at key x None e h = tt
   row-at key x (Some r) e h = (subst (λ (k : List Comp). IsRowOf schema k r) (ap (λ (y : Pos). y.prefix) e) h.1, h.2)
 
-  joined-entry : (key : List Comp) (row : Row) → IsRowOf schema key row → IsRow row → (e : Entry) → row_pos key ≡ e.position → IsEntryOf schema e → IsEntryOf schema (with_row row e)
+  joined-entry : (key : List Comp) (row : Row) → IsRowOf schema key row → IsRow row → (e : Entry) → row_pos key ≡ e.position → IsEntryUnder schema e → IsEntryUnder schema (with_row row e)
   joined-entry key row h up e at is = record {
     position = is.position;
     row = let j = joined-row key e.row row (row-at key e.position e.row (sym at) is.row) h up in subst (λ (y : Pos). (y ≡ row_pos y.prefix) × IsRowOf schema y.prefix (joined_onto e.row row) × IsRow (joined_onto e.row row)) at (refl, j.0, j.1);
   }
 
-  pub row-fits : (key : List Comp) (row : Row) → IsRowOf schema key row → IsRow row → (v : Version) → IsVersionOf schema v → IsVersionOf schema (row_joined (row_pos key) row v)
+  pub row-fits : (key : List Comp) (row : Row) → IsRowOf schema key row → IsRow row → (v : Version) → IsVersionUnder schema v → IsVersionUnder schema (row_joined (row_pos key) row v)
   row-fits key row h up v is = record {
     statics = is.statics;
-    entries = each-map (IsEntryOf schema) (λ e. cond (eq_by_cmp pos_cmp (row_pos key) e.position) (with_row row e) e)
-        (λ e k. elim (eq_by_cmp pos_cmp (row_pos key) e.position) as (λ b. eq_by_cmp pos_cmp (row_pos key) e.position ≡ b → IsEntryOf schema (cond b (with_row row e) e)) [
+    entries = each-map (IsEntryUnder schema) (λ e. cond (eq_by_cmp pos_cmp (row_pos key) e.position) (with_row row e) e)
+        (λ e k. elim (eq_by_cmp pos_cmp (row_pos key) e.position) as (λ b. eq_by_cmp pos_cmp (row_pos key) e.position ≡ b → IsEntryUnder schema (cond b (with_row row e) e)) [
           | true ↦ λ q. joined-entry key row h up e (pos_cmp_same (row_pos key) e.position (is-equal (pos_cmp (row_pos key) e.position) q)) k
           | false ↦ λ q. k
         ] refl)
-        (split (row_pos key) v.entries) (split-each (IsEntryOf schema) (row_pos key) (dummy-of (row_pos key) (looser key h.0)) v.entries is.entries);
+        (split (row_pos key) v.entries) (split-each (IsEntryUnder schema) (row_pos key) (dummy-of (row_pos key) (looser key h.0)) v.entries is.entries);
   }
 
-  changed-entry : (from to : Pos) (tomb : Tomb) (e : Entry) → IsEntryOf schema e → IsEntryOf schema (changed (raised_mark (Some tomb)) from to e)
+  changed-entry : (from to : Pos) (tomb : Tomb) (e : Entry) → IsEntryUnder schema e → IsEntryUnder schema (changed (raised_mark (Some tomb)) from to e)
   changed-entry from to tomb e is = record { position = is.position; row = is.row }
 
-  pub range-fits : (from to : Pos) (tomb : Tomb) → IsRangeBound schema from → IsRangeBound schema to → (v : Version) → IsVersionOf schema v → IsVersionOf schema (range_joined from to tomb v)
+  pub range-fits : (from to : Pos) (tomb : Tomb) → IsRangeBound schema from → IsRangeBound schema to → (v : Version) → IsVersionUnder schema v → IsVersionUnder schema (range_joined from to tomb v)
   range-fits from to tomb f t v is = record {
     statics = is.statics;
-    entries = each-map (IsEntryOf schema) (changed (raised_mark (Some tomb)) from to) (changed-entry from to tomb) (split to (split from v.entries))
-        (split-each (IsEntryOf schema) to (dummy-of to t.1) (split from v.entries) (split-each (IsEntryOf schema) from (dummy-of from f.1) v.entries is.entries));
+    entries = each-map (IsEntryUnder schema) (changed (raised_mark (Some tomb)) from to) (changed-entry from to tomb) (split to (split from v.entries))
+        (split-each (IsEntryUnder schema) to (dummy-of to t.1) (split from v.entries) (split-each (IsEntryUnder schema) from (dummy-of from f.1) v.entries is.entries));
   }
 
-  pub statics-fit : (row : Row) (flag : Flag) → IsStaticOf schema row → IsRow row → (v : Version) → IsVersionOf schema v → IsVersionOf schema (join_flagged_statics row flag v)
+  pub statics-fit : (row : Row) (flag : Flag) → IsStaticOf schema row → IsRow row → (v : Version) → IsVersionUnder schema v → IsVersionUnder schema (join_flagged_statics row flag v)
   statics-fit row flag h up v is = record { statics = joined-static v.statics row is.statics h up; entries = is.entries }
 
-  pub pt-fits : (tomb : Tomb) (v : Version) → IsVersionOf schema v → IsVersionOf schema (join_pt tomb v)
+  pub pt-fits : (tomb : Tomb) (v : Version) → IsVersionUnder schema v → IsVersionUnder schema (join_pt tomb v)
   pt-fits tomb v is = record { statics = is.statics; entries = is.entries }
 
-  pub new-fits : (phase : ℕ) → IsVersionOf schema (version_of Inherit None phase)
+  pub new-fits : (phase : ℕ) → IsVersionUnder schema (version_of Inherit None phase)
   new-fits phase = record { statics = tt; entries = (record { position = nothing-fits; row = tt }, tt) }
 
   -- ---- versions
 
-  pub on-fits : (j : ℕ) (f : Version → Version) → ((v : Version) → IsVersionOf schema v → IsVersionOf schema (f v)) → (vs : List Version) → EachOf (IsVersionOf schema) vs → EachOf (IsVersionOf schema) (on_version j f vs)
+  pub on-fits : (j : ℕ) (f : Version → Version) → ((v : Version) → IsVersionUnder schema v → IsVersionUnder schema (f v)) → (vs : List Version) → EachOf (IsVersionUnder schema) vs → EachOf (IsVersionUnder schema) (on_version j f vs)
   on-fits j f keeps [] h = tt
   on-fits zero f keeps (v ∷ vs) h = (keeps v h.0, h.1)
   on-fits (suc j) f keeps (v ∷ vs) h = (h.0, on-fits j f keeps vs h.1)
 
   -- ---- the row that a version has at a key
 
-  answered-row : (key : List Comp) (r : Ordering) (e : Entry) (rest : Finding) → (r ≡ Equal → row_pos key ≡ e.position) → IsEntryOf schema e → IfSome rest.row (λ q. IsRowOf schema key q × IsRow q) → IfSome (entry_answers r e rest).row (λ q. IsRowOf schema key q × IsRow q)
+  answered-row : (key : List Comp) (r : Ordering) (e : Entry) (rest : Finding) → (r ≡ Equal → row_pos key ≡ e.position) → IsEntryUnder schema e → IfSome rest.row (λ q. IsRowOf schema key q × IsRow q) → IfSome (entry_answers r e rest).row (λ q. IsRowOf schema key q × IsRow q)
   answered-row key Less e rest at is k = tt
   answered-row key Equal e rest at is k = row-at key e.position e.row (sym (at refl)) is.row
   answered-row key Greater e rest at is k = k
 
-  pub seen-row : (key : List Comp) (es : List Entry) → EachEntry (IsEntryOf schema) es → IfSome (seen (On (row_pos key)) es).row (λ q. IsRowOf schema key q × IsRow q)
+  pub seen-row : (key : List Comp) (es : List Entry) → EachEntry (IsEntryUnder schema) es → IfSome (seen (On (row_pos key)) es).row (λ q. IsRowOf schema key q × IsRow q)
   seen-row key [] h = tt
   seen-row key (e ∷ es) h = answered-row key (pos_cmp (row_pos key) e.position) e (seen (On (row_pos key)) es) (pos_cmp_same (row_pos key) e.position) h.0 (seen-row key es h.1)
 
   -- the row that a version has there then
-  pub joined-there : (key : List Comp) (row : Row) → IsRowOf schema key row → IsRow row → (v : Version) → IsVersionOf schema v →
+  pub joined-there : (key : List Comp) (row : Row) → IsRowOf schema key row → IsRow row → (v : Version) → IsVersionUnder schema v →
       IsRowOf schema key (joined_onto (seen (On (row_pos key)) v.entries).row row) × IsRow (joined_onto (seen (On (row_pos key)) v.entries).row row)
   joined-there key row h up v is = joined-row key (seen (On (row_pos key)) v.entries).row row (seen-row key v.entries is.entries) h up

@@ -25,7 +25,7 @@ use Rattle.rc_memory.specs.Memory.{on_version_of, shown_with}
 use Rattle.rc_chain.specs.Lives.{with_version_over}
 use Rattle.rc_chain.specs.laws.Numbered.{on-newest}
 use Rattle.rc_chain.specs.laws.PlaceBeside.{added-beside}
-use Rattle.rc_memtable.specs.Fits.{IsVersionOf}
+use Rattle.rc_memtable.specs.Fits.{IsVersionUnder}
 use Rattle.rc_memtable.specs.Changes.{KeepsChanges}
 use Rattle.rc_memtable.proofs.Fitting.{new-fits, on-fits, pt-fits, range-fits, row-fits, statics-fit}
 
@@ -39,7 +39,7 @@ newest-alike row (v ∷ []) h = ap (λ w. w ∷ []) (sym (inherit-joined row v h
 newest-alike row (v ∷ w ∷ vs) h = ap (λ us. v ∷ us) (newest-alike row (w ∷ vs) h.1)
 
 module _ (schema : SchemaValue) (c : Shown) (j : ℕ) (newest : suc j ≡ length c.versions) (form : IsChain (at_place Head c)) (changes : List Mutation) (k : KeepsChanges schema c changes) where
-  written-by : (f : Version → Version) (write : Mutation) → IsMemtableChain (at_place Head (shown_with (on_newest f c.versions) c)) → StandsFor (changes ++ write ∷ []) (on_newest f c.versions) → ((v : Version) → IsVersionOf schema v → IsVersionOf schema (f v)) →
+  written-by : (f : Version → Version) (write : Mutation) → IsMemtableChain (at_place Head (shown_with (on_newest f c.versions) c)) → StandsFor (changes ++ write ∷ []) (on_newest f c.versions) → ((v : Version) → IsVersionUnder schema v → IsVersionUnder schema (f v)) →
       KeepsChanges schema (on_version_of j f c) (changes ++ write ∷ [])
   written-by f write m s fits = let same = sym (on-newest j f c.versions newest) in record {
     kind = k.kind;
@@ -72,7 +72,7 @@ module _ (schema : SchemaValue) (c : Shown) (j : ℕ) (newest : suc j ≡ length
     attached = k.attached;
     form = subst IsMemtableChain (sym (added-beside Head phase c k.kind settled)) (added-memtable (at_place Head c) j None phase newest form k.attached k.form);
     stands = added-stands changes c.versions phase k.stands;
-    fits = each-of-both (IsVersionOf schema) c.versions _ k.fits (new-fits schema phase, tt);
+    fits = each-of-both (IsVersionUnder schema) c.versions _ k.fits (new-fits schema phase, tt);
   }
 
 -- each version up to an older one is as it was

@@ -13,7 +13,7 @@ use Rattle.rc_memory.specs.Memory.{KeptChain, Member, Memory, chain_at, on_chain
 use Rattle.rc_memory.specs.laws.Places.{no_some, same_some}
 use Rattle.rc_chain.specs.Lives.{IsChainChanged, IsEndListed}
 use Rattle.rc_chain.specs.laws.PlaceBeside.{memtable-settled}
-use Rattle.rc_memtable.specs.LetGo.{AreLetGo, HasLeft, IsFreed, IsLetGo}
+use Rattle.rc_memtable.specs.LetGo.{AreLetGo, HasLeft, IsFreedUnpinned, IsLetGo}
 use Rattle.rc_memtable.specs.Writes.{HasWrites, chain_of}
 use Rattle.rc_memtable.specs.calls.Writing.{AreMemtables}
 use Rattle.rc_memtable.proofs.Named.{key-differs}
@@ -57,7 +57,7 @@ module _ (id : ℕ) (old mid new : Memory) (memtable : IsSomeAnd (chain_at old i
   pub detached-is : IsSomeAnd (chain_at mid id) (λ k. (k.chain.kind ≡ Memtable) × (k.chain.attached ≡ false))
   detached-is = is-chain (λ k. (k.chain.kind ≡ Memtable) × (k.chain.attached ≡ false)) (chain_at mid id) (on_shown shown_detached its.0) mid-there (its.2, refl)
 
-  pub let-go-then : IsFreed id mid new → IsLetGo id old new
+  pub let-go-then : IsFreedUnpinned id mid new → IsLetGo id old new
   let-go-then freed k e = let same : its.0 ≡ k = same_some its.0 k (sym its.1 ∙ e) in elim (freed (on_shown shown_detached its.0) mid-there) [
     | inl gone ↦ inl (
       subst (λ (q : KeptChain). AreFree q.chain.pins) same gone.0,

@@ -28,20 +28,20 @@ use Rattle.rc_memory.specs.Kept.{IsSoundChain}
 use Rattle.rc_memory.specs.Memory.{HasVersion, Member, Memory, chain_at}
 use Rattle.rc_memory.specs.Changes.{AtAlone, FitsChanged, IsRenewed, IsRenewedWhereNone, IsVersionChanged, KeepsLast, LastIsListed, Nowhere, OfVersion, member}
 use Rattle.rc_chain.specs.laws.PlaceBeside.{memtable-settled}
-use Rattle.rc_memtable.specs.Fits.{IsVersionOf}
-use Rattle.rc_memtable.specs.Steps.{IsWritten}
+use Rattle.rc_memtable.specs.Fits.{IsVersionUnder}
+use Rattle.rc_memtable.specs.Steps.{IsChangeWritten}
 use Rattle.rc_memtable.specs.Writes.{joined_need}
-use Rattle.rc_memtable.specs.calls.Writing.{IsReady}
+use Rattle.rc_memtable.specs.calls.Writing.{CanJoinNewest}
 use Rattle.rc_memtable.proofs.Fitting.{joined-static, joined-there, on-fits, row-fits, statics-fit}
 use Rattle.rc_memtable.proofs.Kept.{pt-kept, range-kept, row-kept, statics-kept}
 use Rattle.rc_memtable.proofs.Room.{entry-small, fit-together, static-small}
 use Rattle.rc_memtable.proofs.Steps.{fits-then, its-form, its-number, its-sound, last-listed, last-then, list-kept, of-fitting, range-list-kept, written-there}
 
 -- fewer bytes are there, too
-pub ready-less : (S : ℕ) (schema : SchemaValue) (m : Memory) (id number a b : ℕ) → b ≤ a → IsReady S schema m id number a → IsReady S schema m id number b
+pub ready-less : (S : ℕ) (schema : SchemaValue) (m : Memory) (id number a b : ℕ) → b ≤ a → CanJoinNewest S schema m id number a → CanJoinNewest S schema m id number b
 ready-less S schema m id number a b less r = let spare = r.spare in record { limits = r.limits; small = r.small; kept = r.kept; spare = omega (arith, less, spare) }
 
-module _ (S : ℕ) (schema : SchemaValue) (m : Memory) (id number bytes : ℕ) (r : IsReady S schema m id number bytes) (sound : (i : ℕ) → IfSome (chain_at m i) (λ k. IsSoundChain k.chain)) (versions : (i j : ℕ) → OfVersion m i j (λ k v. IsVersion v)) where
+module _ (S : ℕ) (schema : SchemaValue) (m : Memory) (id number bytes : ℕ) (r : CanJoinNewest S schema m id number bytes) (sound : (i : ℕ) → IfSome (chain_at m i) (λ k. IsSoundChain k.chain)) (versions : (i j : ℕ) → OfVersion m i j (λ k v. IsVersion v)) where
   pub ready-number : HasVersion m id number
   ready-number = its-number m id r.kept.0 r.kept.2 sound versions number r.kept.3.0
 
@@ -54,12 +54,12 @@ module _ (S : ℕ) (schema : SchemaValue) (m : Memory) (id number bytes : ℕ) (
   pub ready-listed : LastIsListed id m
   ready-listed = last-listed m id r.kept.0 r.kept.2 sound versions settled
 
-  fits-by : (f : Version → Version) → ((v : Version) → IsVersionOf schema v → IsVersionOf schema (f v)) → FitsChanged S id number f m
+  fits-by : (f : Version → Version) → ((v : Version) → IsVersionUnder schema v → IsVersionUnder schema (f v)) → FitsChanged S id number f m
   fits-by f keeps = fits-then m id r.kept.0 r.kept.2 sound versions number r.kept.3.0 S f (fit-together schema r.limits S r.small _ (on-fits schema number f keeps r.kept.0.chain.versions r.kept.4.fits))
 
   -- ---- a partition tombstone
 
-  pub pt-there : (tomb : Tomb) (n : Memory) → IsVersionChanged id number (join_pt tomb) Nowhere m n → n.recency ≡ m.recency → (other : SchemaValue) → IsWritten other id (written_pt tomb) m n
+  pub pt-there : (tomb : Tomb) (n : Memory) → IsVersionChanged id number (join_pt tomb) Nowhere m n → n.recency ≡ m.recency → (other : SchemaValue) → IsChangeWritten other id (written_pt tomb) m n
   pt-there tomb n h list other = written-there m id r.kept.0 r.kept.2 sound versions number r.kept.3.0 r.kept.3.1 other (written_pt tomb) (join_pt tomb) Nowhere n (λ w no. absurd no) h list
       (λ changes keeps. pt-kept other r.kept.0.chain number r.kept.3.0 (its-form m id r.kept.0 r.kept.2 sound versions) changes keeps tomb)
 
@@ -81,7 +81,7 @@ module _ (S : ℕ) (schema : SchemaValue) (m : Memory) (id number bytes : ℕ) (
 
   pub row-there : (key : List Comp) (row : Row) (n : Memory) → IsVersionChanged id number (row_joined (row_pos key) row) (AtAlone (member id number (Some (row_pos key)))) m n →
       OfVersion m id number (λ k v. IsRenewed k.chain.kind (member id number (Some (row_pos key))) m.recency n.recency) →
-      (other : SchemaValue) → IsRowOf other key row → IsRow row → IsWritten other id (written_row key row) m n
+      (other : SchemaValue) → IsRowOf other key row → IsRow row → IsChangeWritten other id (written_row key row) m n
   row-there key row n c list other h up = written-there m id r.kept.0 r.kept.2 sound versions number r.kept.3.0 r.kept.3.1 other (written_row key row) (row_joined (row_pos key) row) (AtAlone (member id number (Some (row_pos key)))) n
       (λ w at. ap (λ (x : Member). x.chain) at) c (list-kept m id r.kept.0 r.kept.2 sound versions number r.kept.3.0 r.kept.4.kind (member id number (Some (row_pos key))) n list)
       (λ changes keeps. row-kept other r.kept.0.chain number r.kept.3.0 (its-form m id r.kept.0 r.kept.2 sound versions) changes keeps key row h up)
@@ -101,7 +101,7 @@ module _ (S : ℕ) (schema : SchemaValue) (m : Memory) (id number bytes : ℕ) (
 
   pub static-there : (row : Row) (n : Memory) → IsVersionChanged id number (join_flagged_statics row Inherit) (AtAlone (member id number None)) m n →
       OfVersion m id number (λ k v. IsRenewed k.chain.kind (member id number None) m.recency n.recency) →
-      (other : SchemaValue) → IsStaticOf other row → IsRow row → IsWritten other id (written_statics row) m n
+      (other : SchemaValue) → IsStaticOf other row → IsRow row → IsChangeWritten other id (written_statics row) m n
   static-there row n c list other h up = written-there m id r.kept.0 r.kept.2 sound versions number r.kept.3.0 r.kept.3.1 other (written_statics row) (join_flagged_statics row Inherit) (AtAlone (member id number None)) n
       (λ w at. ap (λ (x : Member). x.chain) at) c (list-kept m id r.kept.0 r.kept.2 sound versions number r.kept.3.0 r.kept.4.kind (member id number None) n list)
       (λ changes keeps. statics-kept other r.kept.0.chain number r.kept.3.0 (its-form m id r.kept.0 r.kept.2 sound versions) changes keeps row h up)
@@ -120,7 +120,7 @@ module _ (S : ℕ) (schema : SchemaValue) (m : Memory) (id number bytes : ℕ) (
 
   pub range-there : (from to : Pos) (tomb : Tomb) (n : Memory) → IsVersionChanged id number (range_joined from to tomb) Nowhere m n →
       OfVersion m id number (λ k v. (mid : List Member) × IsRenewedWhereNone k.chain.kind v (member id number (Some from)) m.recency mid × IsRenewedWhereNone k.chain.kind v (member id number (Some to)) mid n.recency) →
-      (other : SchemaValue) → IsRangeBound other from → IsRangeBound other to → IsWritten other id (written_range from to tomb) m n
+      (other : SchemaValue) → IsRangeBound other from → IsRangeBound other to → IsChangeWritten other id (written_range from to tomb) m n
   range-there from to tomb n c list other f t = written-there m id r.kept.0 r.kept.2 sound versions number r.kept.3.0 r.kept.3.1 other (written_range from to tomb) (range_joined from to tomb) Nowhere n
       (λ w no. absurd no) c (range-list-kept m id r.kept.0 r.kept.2 sound versions number r.kept.3.0 r.kept.4.kind from to n list)
       (λ changes keeps. range-kept other r.kept.0.chain number r.kept.3.0 (its-form m id r.kept.0 r.kept.2 sound versions) changes keeps from to tomb f t)

@@ -22,7 +22,7 @@ use Rattle.rc_core.specs.Version.{Version}
 use Rattle.rc_version.specs.Versions.{bytes_at}
 use Rattle.rc_partition.specs.laws.Lists.{elem-cases, elem-first, elem-later, elem-none}
 use Rattle.rc_memory.specs.Room.{FitTogether, HasRowAt, HasStaticRow}
-use Rattle.rc_memtable.specs.Fits.{IsEntryOf, IsVersionOf}
+use Rattle.rc_memtable.specs.Fits.{IsEntryUnder, IsVersionUnder}
 use Rattle.rc_memtable.specs.Writes.{AreSmall}
 
 -- what holds of each holds of one of them
@@ -48,17 +48,17 @@ module _ (schema : SchemaValue) (limits : IsTrue (is_schema schema)) where
   static-small row h up = static_within schema row limits h.0 h.1 h.2 up
 
   -- the row of an entry at a position is of the schema, and the position is that of its key
-  row-has : (vs : List Version) → EachOf (IsVersionOf schema) vs → (x : Pos) (row : Row) → HasRowAt vs x row → IsRowOf schema x.prefix row × (x ≡ row_pos x.prefix)
+  row-has : (vs : List Version) → EachOf (IsVersionUnder schema) vs → (x : Pos) (row : Row) → HasRowAt vs x row → IsRowOf schema x.prefix row × (x ≡ row_pos x.prefix)
   row-has vs h x row has =
-      let e = (entry-in (IsEntryOf schema) has.0.entries (each-in (IsVersionOf schema) vs h has.0 has.2).entries has.1 has.3).row in
+      let e = (entry-in (IsEntryUnder schema) has.0.entries (each-in (IsVersionUnder schema) vs h has.0 has.2).entries has.1 has.3).row in
       let r = subst (λ (o : Option Row). IfSome o (λ r. (has.1.position ≡ row_pos has.1.position.prefix) × IsRowOf schema has.1.position.prefix r × IsRow r)) has.5 e in
       subst (λ (y : Pos). IsRowOf schema y.prefix row × (y ≡ row_pos y.prefix)) has.4 (r.1, r.0)
 
-  static-has : (vs : List Version) → EachOf (IsVersionOf schema) vs → (row : Row) → HasStaticRow vs row → IsStaticOf schema row
-  static-has vs h row has = (subst (λ (o : Option Row). IfSome o (λ r. IsStaticOf schema r × IsRow r)) has.2 (each-in (IsVersionOf schema) vs h has.0 has.1).statics).0
+  static-has : (vs : List Version) → EachOf (IsVersionUnder schema) vs → (row : Row) → HasStaticRow vs row → IsStaticOf schema row
+  static-has vs h row has = (subst (λ (o : Option Row). IfSome o (λ r. IsStaticOf schema r × IsRow r)) has.2 (each-in (IsVersionUnder schema) vs h has.0 has.1).statics).0
 
   module _ (S : ℕ) (small : AreSmall S schema) where
-    pub fit-together : (vs : List Version) → EachOf (IsVersionOf schema) vs → FitTogether S vs
+    pub fit-together : (vs : List Version) → EachOf (IsVersionUnder schema) vs → FitTogether S vs
     fit-together vs h = record {
       rows = λ x one rows each.
           let first = row-has vs h x one (each one (elem-first one rows)) in
@@ -74,7 +74,7 @@ module _ (schema : SchemaValue) (limits : IsTrue (is_schema schema)) where
           let within = static-small (joined_row (one ∷ rows)) (marker, tomb, cells) (IsRow-joined_row (one ∷ rows)) in
           omega (arith, within, small.statics);
       positions = λ v e on in_v.
-          let within = dummy_within false schema e.position (entry-in (IsEntryOf schema) v.entries (each-in (IsVersionOf schema) vs h v on).entries e in_v).position in
+          let within = dummy_within false schema e.position (entry-in (IsEntryUnder schema) v.entries (each-in (IsVersionUnder schema) vs h v on).entries e in_v).position in
           omega (arith, within, small.entry);
     }
 

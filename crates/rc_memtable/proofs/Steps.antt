@@ -32,9 +32,9 @@ use Rattle.rc_memory.specs.laws.Still.{still-itself, still-then, still-wider, un
 use Rattle.rc_chain.specs.Lives.{IsChainChanged, is_cache, with_version_over}
 use Rattle.rc_chain.specs.laws.Numbered.{on-newest}
 use Rattle.rc_chain.specs.laws.PlaceBeside.{shown-form}
-use Rattle.rc_memtable.specs.Fits.{IsVersionOf}
+use Rattle.rc_memtable.specs.Fits.{IsVersionUnder}
 use Rattle.rc_memtable.specs.Changes.{KeepsChanges}
-use Rattle.rc_memtable.specs.Steps.{AreOthersKept, IsGrown, IsWritten}
+use Rattle.rc_memtable.specs.Steps.{AreOthersKept, IsGrown, IsChangeWritten}
 use Rattle.rc_memtable.specs.calls.Writing.{IsFreeNewest, IsOpened}
 use Rattle.rc_memtable.proofs.Kept.{over-below, over-kept}
 
@@ -146,7 +146,7 @@ module _ (m : Memory) (id : ℕ) (k : KeptChain) (there : chain_at m id ≡ Some
 
     -- a write is there, and no other chain was touched
     pub written-there : (IsPinned k.chain.pins j → ⊥) → (schema : SchemaValue) (write : Mutation) (f : Version → Version) (these : Member → Type 0) (n : Memory) → ((w : Member) → these w → w.chain ≡ id) → IsVersionChanged id j f these m n → n.recency ≡ m.recency →
-        ((changes : List Mutation) → KeepsChanges schema k.chain changes → KeepsChanges schema (on_version_of j f k.chain) (changes ++ write ∷ [])) → IsWritten schema id write m n
+        ((changes : List Mutation) → KeepsChanges schema k.chain changes → KeepsChanges schema (on_version_of j f k.chain) (changes ++ write ∷ [])) → IsChangeWritten schema id write m n
     written-there free schema write f these n own h list keeps = record {
       grown = λ q e. subst (λ (p : KeptChain). (n' : KeptChain) × (chain_at n id ≡ Some n') × IsGrown p n' × ((changes : List Mutation) → KeepsChanges schema p.chain changes → KeepsChanges schema n'.chain (changes ++ write ∷ [])))
           (same_some k q (sym there ∙ e))
@@ -167,8 +167,8 @@ module _ (m : Memory) (id : ℕ) (k : KeptChain) (there : chain_at m id ≡ Some
         twice-kept k.chain.kind its-version.0 id j to r.0 n.recency memtable r.2 ∙ twice-kept k.chain.kind its-version.0 id j from m.recency r.0 memtable r.1
 
     -- what holds of each version of a schema holds of this one
-    pub of-fitting : (schema : SchemaValue) (P : Version → Type 0) → EachOf (IsVersionOf schema) k.chain.versions → ((v : Version) → IsVersionOf schema v → P v) → OfVersion m id j (λ q v. P v)
-    of-fitting schema P fits h q v e at = h v (each-at (IsVersionOf schema) k.chain.versions j v fits (subst (λ (p : KeptChain). IsVersionAt p.chain.versions j v) (sym (same_some k q (sym there ∙ e))) at))
+    pub of-fitting : (schema : SchemaValue) (P : Version → Type 0) → EachOf (IsVersionUnder schema) k.chain.versions → ((v : Version) → IsVersionUnder schema v → P v) → OfVersion m id j (λ q v. P v)
+    of-fitting schema P fits h q v e at = h v (each-at (IsVersionUnder schema) k.chain.versions j v fits (subst (λ (p : KeptChain). IsVersionAt p.chain.versions j v) (sym (same_some k q (sym there ∙ e))) at))
 
     -- what fits still does
     pub fits-then : (S : ℕ) (f : Version → Version) → FitTogether S (on_version j f k.chain.versions) → FitsChanged S id j f m
@@ -218,7 +218,7 @@ pub opened-itself : (m : Memory) (id newest : ℕ) → ((k : KeptChain) → chai
 opened-itself m id newest free = record { grown = λ k e. (k, e, grown-itself k, free k e, λ schema changes keeps. keeps); others = kept-itself id m }
 
 -- a write into a chain whose newest version nobody pins
-pub opened-written : (schema : SchemaValue) (id number : ℕ) (change : Mutation) (m n o : Memory) → IsOpened id number m n → IsWritten schema id change n o → IsWritten schema id change m o
+pub opened-written : (schema : SchemaValue) (id number : ℕ) (change : Mutation) (m n o : Memory) → IsOpened id number m n → IsChangeWritten schema id change n o → IsChangeWritten schema id change m o
 opened-written schema id number change m n o a b = record {
   grown = λ k e. let p = a.grown k e in let q = b.grown p.0 p.1 in (q.0, q.1, grown-then k p.0 q.0 p.2 q.2, λ changes keeps. q.3 changes (p.4 schema changes keeps));
   others = kept-then id m n o a.others b.others;

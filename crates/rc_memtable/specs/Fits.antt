@@ -10,11 +10,11 @@ use Rattle.rc_core.specs.AtPlace.{EachEntry}
 use Rattle.rc_core.specs.Version.{Version}
 
 -- an entry stands at a position of the schema; where it has a row, that is one of the schema, and it stands at the row's position
-pub record IsEntryOf (schema : SchemaValue) (e : Entry) : Type 0 where
+pub record IsEntryUnder (schema : SchemaValue) (e : Entry) : Type 0 where
   pub position : checked_prefix false schema e.position.prefix ≡ Ok tt
   pub row : IfSome e.row (λ row. (e.position ≡ row_pos e.position.prefix) × IsRowOf schema e.position.prefix row × IsRow row)
 
 -- each entry of a version is one of the schema, and so is its static row
-pub record IsVersionOf (schema : SchemaValue) (v : Version) : Type 0 where
-  pub entries : EachEntry (IsEntryOf schema) v.entries
+pub record IsVersionUnder (schema : SchemaValue) (v : Version) : Type 0 where
+  pub entries : EachEntry (IsEntryUnder schema) v.entries
   pub statics : IfSome v.statics (λ row. IsStaticOf schema row × IsRow row)

@@ -17,8 +17,8 @@ abbrev pub IsGone : ℕ → Memory → Memory → Type 0
 IsGone id old new = HasLeft (put id None old.chains) (old.dropped ++ id ∷ []) old new
 
 -- a chain is gone where nobody pins it; else all is as it was
-abbrev pub IsFreed : ℕ → Memory → Memory → Type 0
-IsFreed id old new = (k : KeptChain) → chain_at old id ≡ Some k → (AreFree k.chain.pins × IsGone id old new) ⊎ ((AreFree k.chain.pins → ⊥) × (new ≡ old))
+abbrev pub IsFreedUnpinned : ℕ → Memory → Memory → Type 0
+IsFreedUnpinned id old new = (k : KeptChain) → chain_at old id ≡ Some k → (AreFree k.chain.pins × IsGone id old new) ⊎ ((AreFree k.chain.pins → ⊥) × (new ≡ old))
 
 -- a chain is gone where nobody pins it; else it is no longer found by its key
 abbrev pub IsLetGo : ℕ → Memory → Memory → Type 0

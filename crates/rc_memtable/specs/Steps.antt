@@ -34,7 +34,7 @@ pub record AreOthersKept (id : ℕ) (old new : Memory) : Type 0 where
   pub region : IsUnmoved old.region new.region
 
 -- a change was written into a chain: it stands for its changes with this one behind them
-pub record IsWritten (schema : SchemaValue) (id : ℕ) (change : Mutation) (old new : Memory) : Type 0 where
+pub record IsChangeWritten (schema : SchemaValue) (id : ℕ) (change : Mutation) (old new : Memory) : Type 0 where
   pub grown : (k : KeptChain) → chain_at old id ≡ Some k → (n : KeptChain) × (chain_at new id ≡ Some n) × IsGrown k n × ((changes : List Mutation) → KeepsChanges schema k.chain changes → KeepsChanges schema n.chain (changes ++ change ∷ []))
   pub others : AreOthersKept id old new
 

@@ -3,7 +3,7 @@ ghost use Rattle.std.specs.Prelude.{◌≡◌, ◌↔◌, ℕ, [], true, false, 
 ghost use Rattle.rc_core.specs.declared.entries.ChainKind.{ChainKind as Kind};
 ghost use Rattle.rc_registry.specs.Registry.{AreFree};
 ghost use Rattle.rc_memory.specs.Memory.{KeptChain, HasChain, HasPin, chain_at, on_chain, with_chains, without_snapshot};
-ghost use Rattle.rc_memtable.specs.LetGo.{AreLetGo, IsFreed, IsGone, IsLetGo};
+ghost use Rattle.rc_memtable.specs.LetGo.{AreLetGo, IsFreedUnpinned, IsGone, IsLetGo};
 ghost use Rattle.rc_memtable.specs.calls.Writing.{AreMemtables};
 
 use rc_chain::{Chains, Snap};
@@ -40,7 +40,7 @@ fn free_chain<const S: usize>(chains: &mut Chains<S>, id: u64)
 /// Frees a memtable's chain that is no longer found by its key, where nobody pins it: it is gone then, and its number is to be told. Else nothing is changed.
 pub fn free_if_unpinned<const S: usize>(chains: &mut Chains<S>, id: u64)
     requires { IsSomeAnd (chain_at chains.old id) (λ k. (k.chain.kind ≡ Kind.Memtable) × (k.chain.attached ≡ false)) }
-    ensures { IsFreed id chains.old chains.new }
+    ensures { IsFreedUnpinned id chains.old chains.new }
 {
     if is_unpinned(chains, id) {
         free_chain(chains, id);
@@ -52,7 +52,7 @@ pub fn release<const S: usize>(chains: &mut Chains<S>, s: Snap)
     requires pin { HasPin chains.old s.chain s.pin }
     requires memtable { IsSomeAnd (chain_at chains.old s.chain) (λ k. k.chain.kind ≡ Kind.Memtable) }
     ensures found { (k : KeptChain) → chain_at chains.old s.chain ≡ Some k → k.chain.attached ≡ true → chains.new ≡ with_chains (on_chain s.chain (without_snapshot s.pin) chains.old.chains) chains.old }
-    ensures freed { (k : KeptChain) → chain_at chains.old s.chain ≡ Some k → k.chain.attached ≡ false → IsFreed s.chain (with_chains (on_chain s.chain (without_snapshot s.pin) chains.old.chains) chains.old) chains.new }
+    ensures freed { (k : KeptChain) → chain_at chains.old s.chain ≡ Some k → k.chain.attached ≡ false → IsFreedUnpinned s.chain (with_chains (on_chain s.chain (without_snapshot s.pin) chains.old.chains) chains.old) chains.new }
 {
     let id = s.chain;
     chains.release(s);

@@ -12,8 +12,8 @@ ghost use Rattle.rc_core.specs.StandsFor.{written_pt, written_range, written_row
 ghost use Rattle.rc_memory.specs.Memory.{KeptChain, chain_at};
 ghost use Rattle.rc_memtable.specs.Changes.{KeepsChanges};
 ghost use Rattle.rc_memtable.specs.Writes.{IsNewestPinned, joined_need};
-ghost use Rattle.rc_memtable.specs.Steps.{IsWritten};
-ghost use Rattle.rc_memtable.specs.calls.Writing.{CanWrite, IsOpened, IsReady};
+ghost use Rattle.rc_memtable.specs.Steps.{IsChangeWritten};
+ghost use Rattle.rc_memtable.specs.calls.Writing.{CanWrite, IsOpened, CanJoinNewest};
 
 use rc_cell::{Row, Tomb};
 use rc_chain::Chains;
@@ -23,8 +23,8 @@ use rc_position::{Key, Pos};
 
 // A partition tombstone into the newest version of a chain.
 fn write_tomb<const S: usize>(chains: &mut Chains<S>, id: u64, number: u64, tomb: Tomb)
-    requires { (schema : SchemaValue) × IsReady S schema chains.old id number 0 }
-    ensures { (schema : SchemaValue) → IsWritten schema id (written_pt tomb) chains.old chains.new }
+    requires { (schema : SchemaValue) × CanJoinNewest S schema chains.old id number 0 }
+    ensures { (schema : SchemaValue) → IsChangeWritten schema id (written_pt tomb) chains.old chains.new }
 {
     chains.known();
     chains.join_pt(id, number, tomb);
@@ -32,8 +32,8 @@ fn write_tomb<const S: usize>(chains: &mut Chains<S>, id: u64, number: u64, tomb
 
 // A static row into the newest version of a chain.
 fn write_static<const S: usize>(chains: &mut Chains<S>, id: u64, number: u64, row: &Row)
-    requires { (schema : SchemaValue) × IsReady S schema chains.old id number (largest_static schema) × IsStaticOf schema row.now × IsRow row.now }
-    ensures { (schema : SchemaValue) → IsStaticOf schema row.now → IsRow row.now → IsWritten schema id (written_statics row.now) chains.old chains.new }
+    requires { (schema : SchemaValue) × CanJoinNewest S schema chains.old id number (largest_static schema) × IsStaticOf schema row.now × IsRow row.now }
+    ensures { (schema : SchemaValue) → IsStaticOf schema row.now → IsRow row.now → IsChangeWritten schema id (written_statics row.now) chains.old chains.new }
 {
     chains.known();
     chains.join_static(id, number, row, Flag::Inherit);
@@ -41,8 +41,8 @@ fn write_static<const S: usize>(chains: &mut Chains<S>, id: u64, number: u64, ro
 
 // A row into the newest version of a chain.
 fn write_row<const S: usize>(chains: &mut Chains<S>, id: u64, number: u64, key: &Key, row: &Row)
-    requires { (schema : SchemaValue) × IsReady S schema chains.old id number (largest_entry schema) × IsRowOf schema key.now row.now × IsRow row.now }
-    ensures { (schema : SchemaValue) → IsRowOf schema key.now row.now → IsRow row.now → IsWritten schema id (written_row key.now row.now) chains.old chains.new }
+    requires { (schema : SchemaValue) × CanJoinNewest S schema chains.old id number (largest_entry schema) × IsRowOf schema key.now row.now × IsRow row.now }
+    ensures { (schema : SchemaValue) → IsRowOf schema key.now row.now → IsRow row.now → IsChangeWritten schema id (written_row key.now row.now) chains.old chains.new }
 {
     chains.known();
     chains.join_row(id, number, key, row);
@@ -57,8 +57,8 @@ fn write_range<const S: usize>(
     to: &Pos,
     tomb: Tomb,
 )
-    requires { (schema : SchemaValue) × IsReady S schema chains.old id number (2 * largest_entry schema) × IsRangeBound schema from.now × IsRangeBound schema to.now × IsBefore from.now to.now }
-    ensures { (schema : SchemaValue) → IsRangeBound schema from.now → IsRangeBound schema to.now → IsWritten schema id (written_range from.now to.now tomb) chains.old chains.new }
+    requires { (schema : SchemaValue) × CanJoinNewest S schema chains.old id number (2 * largest_entry schema) × IsRangeBound schema from.now × IsRangeBound schema to.now × IsBefore from.now to.now }
+    ensures { (schema : SchemaValue) → IsRangeBound schema from.now → IsRangeBound schema to.now → IsChangeWritten schema id (written_range from.now to.now tomb) chains.old chains.new }
 {
     chains.known();
     chains.join_range(id, number, from, to, tomb);
@@ -83,8 +83,8 @@ fn open_newest<const S: usize>(chains: &mut Chains<S>, id: u64) -> u64
 
 // What a write says of its partition into the newest version of a chain.
 fn write_newest<const S: usize>(chains: &mut Chains<S>, id: u64, number: u64, change: &Mutation)
-    requires { (schema : SchemaValue) × IsReady S schema chains.old id number (joined_need schema change.now) × IsSingle change.now × ChangeFits schema change.now }
-    ensures { (schema : SchemaValue) → ChangeFits schema change.now → IsWritten schema id change.now chains.old chains.new }
+    requires { (schema : SchemaValue) × CanJoinNewest S schema chains.old id number (joined_need schema change.now) × IsSingle change.now × ChangeFits schema change.now }
+    ensures { (schema : SchemaValue) → ChangeFits schema change.now → IsChangeWritten schema id change.now chains.old chains.new }
 {
     change.holds_together();
     if let Some(tomb) = change.pt {
@@ -102,7 +102,7 @@ fn write_newest<const S: usize>(chains: &mut Chains<S>, id: u64, number: u64, ch
 /// Writes what a write says of its partition into a chain: into its newest version, over which another one is put first where a snapshot pins it.
 pub(crate) fn write_into<const S: usize>(chains: &mut Chains<S>, id: u64, change: &Mutation)
     requires { (schema : SchemaValue) × CanWrite S schema chains.old id change.now }
-    ensures { (schema : SchemaValue) → ChangeFits schema change.now → IsWritten schema id change.now chains.old chains.new }
+    ensures { (schema : SchemaValue) → ChangeFits schema change.now → IsChangeWritten schema id change.now chains.old chains.new }
 {
     let number = open_newest(chains, id);
     write_newest(chains, id, number, change);

@@ -30,24 +30,18 @@ live_values cover cells = filter_map (λ e. option_map (λ value. (e.0, value)) 
 
 -- the static line of static rows under the partition tombstone: the live values of their columns' winners, if there is one
 abbrev pub static_line : Option Tomb → List Row → Option OutLine
-static_line head rows =
-    let values = live_values head (winners (all_cells rows)) in
+static_line head rows = let values = live_values head (winners (all_cells rows)) in
     if has_any values then Some (line.Static values) else None
 
 -- the line of rows written at one key under a cover: the live values of its columns' winners. It has one if there is such a value,
 -- or a marker that survives the cover
 abbrev pub line_of : Option Tomb → List Comp → List Row → Option OutLine
-line_of cover key rows =
-    let values = live_values cover (winners (all_cells rows)) in
+line_of cover key rows = let values = live_values cover (winners (all_cells rows)) in
     if has_any values || list_any (survives cover) (markers rows) then Some (line.Row key values) else None
-
--- the line of a key
-abbrev pub line_at : List Mutation → List Comp → Option OutLine
-line_at changes key = line_of (row_cover changes key) key (rows_at key (all_rows changes))
 
 -- the lines of the keys that occur and stand in the slice, ascending, each once
 abbrev pub row_lines : List Mutation → Slice → List OutLine
-row_lines changes slice = filter_map (line_at changes) (filter (in_slice slice) (keys (all_rows changes)))
+row_lines changes slice = filter_map (λ key. line_of (row_cover changes key) key (rows_at key (all_rows changes))) (filter (in_slice slice) (keys (all_rows changes)))
 
 -- the static line, whatever the slice; then the row lines
 unfoldable pub answer : List Mutation → Slice → List OutLine

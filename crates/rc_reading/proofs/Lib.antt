@@ -1,3 +1,4 @@
 mod Findings
 mod Laying
+mod Nearest
 mod Reread

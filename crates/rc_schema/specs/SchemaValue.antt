@@ -1,5 +1,5 @@
 -- A schema as three lists, and the limits that every schema keeps.
-use Rattle.std.specs.Prelude.{ℕ, Bool, true, false, not, ◌&&◌, ◌||◌, ◌==◌, nat_le, nat_eq, List, [], ◌∷◌, ◌++◌, length}
+use Rattle.std.specs.Prelude.{ℕ, Bool, true, false, not, ◌&&◌, ◌||◌, ◌==◌, nat_le, List, [], ◌∷◌, ◌++◌, length}
 use Rattle.std.specs.Char.{is_ascii_digit, is_ascii_lowercase}
 use Rattle.std.specs.List.{list_all, list_any}
 use Rattle.rc_schema.specs.declared.kinds.CkKind.{CkKind}
@@ -11,28 +11,18 @@ pub record SchemaValue : Type 0 where
   pub statics : List (List ℕ)
   pub cols : List (List ℕ)
 
--- the byte may stand in a name: a lowercase letter, a digit or `_`
-abbrev pub is_name_byte : ℕ → Bool
-is_name_byte byte = is_ascii_lowercase byte || (is_ascii_digit byte || byte == 95)
-
 -- the name of a column: a lower-case letter, then at most 31 lower-case letters, digits or `_`
 abbrev pub is_name : List ℕ → Bool
 is_name [] = false
-is_name (first ∷ rest) = is_ascii_lowercase first && (nat_le (length rest) 31 && list_all is_name_byte rest)
+is_name (first ∷ rest) = is_ascii_lowercase first && (nat_le (length rest) 31 && list_all (λ byte. is_ascii_lowercase byte || (is_ascii_digit byte || byte == 95)) rest)
 
 -- whether no two are the same
 abbrev pub are_distinct_by : {X : Type 0} → (X → X → Bool) → List X → Bool
 are_distinct_by same [] = true
 are_distinct_by same (x ∷ xs) = not (list_any (same x) xs) && are_distinct_by same xs
 
--- 1 to 4 components, at most 8 static and 32 regular columns
-abbrev pub are_few : ℕ → ℕ → ℕ → Bool
-are_few ck statics cols = (nat_le 1 ck && nat_le ck 4) && (nat_le statics 8 && nat_le cols 32)
-
--- the names are names, all distinct
-abbrev pub are_names : List (List ℕ) → Bool
-are_names names = list_all is_name names && are_distinct_by is_word names
-
--- the limits of a schema
+-- the limits of a schema: 1 to 4 components, at most 8 static and 32 regular columns, and all names distinct
 abbrev pub is_schema : SchemaValue → Bool
-is_schema s = are_few (length s.ck) (length s.statics) (length s.cols) && are_names (s.statics ++ s.cols)
+is_schema s =
+    ((nat_le 1 (length s.ck) && nat_le (length s.ck) 4) && (nat_le (length s.statics) 8 && nat_le (length s.cols) 32))
+    && (list_all is_name (s.statics ++ s.cols) && are_distinct_by is_word (s.statics ++ s.cols))

@@ -2,7 +2,7 @@
 
 ghost use Rattle.std.specs.Prelude.{◌≡◌, ◌∷◌, ◌++◌, OnOk, flat_map, length, map, codes};
 ghost use Rattle.std.specs.List.{join_with_byte};
-ghost use Rattle.rc_schema.specs.SchemaText.{kind_text, kinds_text, names_text};
+ghost use Rattle.rc_schema.specs.SchemaText.{kind_text, names_text};
 
 use crate::kinds::CkKind;
 use rc_position::Text;
@@ -32,7 +32,7 @@ fn print_more_kinds(kinds: &[CkKind], text: &mut Vec<u8>) -> Result<(), AllocErr
 /// Appends a kind and more, with commas between them.
 #[tactic(auto, using(crate::proofs::Joined::kinds_behind))]
 fn print_joined_kinds(first: CkKind, rest: &[CkKind], text: &mut Vec<u8>) -> Result<(), AllocError>
-    ensures { OnOk result (text.new.items ≡ text.old.items ++ kinds_text (first ∷ rest.now)) }
+    ensures { OnOk result (text.new.items ≡ text.old.items ++ join_with_byte 44 (map kind_text (first ∷ rest.now))) }
 {
     text.extend_from_slice(kind_text(first))?;
     print_more_kinds(rest, text)?;
@@ -41,7 +41,7 @@ fn print_joined_kinds(first: CkKind, rest: &[CkKind], text: &mut Vec<u8>) -> Res
 
 /// Appends the kinds, with commas between them.
 pub(crate) fn print_kinds(kinds: &[CkKind], text: &mut Vec<u8>) -> Result<(), AllocError>
-    ensures { OnOk result (text.new.items ≡ text.old.items ++ kinds_text kinds.now) }
+    ensures { OnOk result (text.new.items ≡ text.old.items ++ join_with_byte 44 (map kind_text kinds.now)) }
 {
     match kinds {
         [] => Ok(()),

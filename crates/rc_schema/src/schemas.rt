@@ -2,8 +2,9 @@
 
 ghost use Rattle.std.specs.Prelude.{◌≡◌, ◌↔◌, ◌++◌, ◌&&◌, IfOk, IsTrue, OnOk, Some, None, map, nat_le, length, ◌≤◌, ◌<◌, IfSome};
 ghost use Rattle.std.specs.List.{list_all, join_with_byte};
-ghost use Rattle.rc_schema.specs.SchemaValue.{SchemaValue, are_few, are_names, is_schema};
-ghost use Rattle.rc_schema.specs.SchemaText.{schema_text, kind_text, names_text, lists_named, are_listed, schema_listed, marked, schema_of_words, schema_of, ReadsSchema};
+ghost use Rattle.rc_schema.specs.SchemaValue.{SchemaValue, is_schema};
+ghost use Rattle.rc_schema.specs.Tests.{are_few, lists_named, are_listed, marked};
+ghost use Rattle.rc_schema.specs.SchemaText.{schema_text, kind_text, names_text, schema_listed, schema_of_words, schema_of, ReadsSchema};
 ghost use Rattle.rc_rowcode.specs.Spelling.{KeyFits, RowFits};
 ghost use Rattle.rc_schema.specs.Checks.{column_of, checked_prefix, checked_cells, column_count};
 ghost use Rattle.rc_schema.specs.Largest.{component_size, components_size, largest_entry, largest_static};
@@ -118,7 +119,7 @@ fn made(
 }
 
 /// The schema of KINDS, NAMES and NAMES.
-#[tactic(auto, unfolding(crate::specs::SchemaText::schema_listed))]
+#[tactic(auto, using(crate::specs::laws::SchemaTexts::listed_tested))]
 fn listed(
     alloc: Global,
     ck: &[u8],
@@ -138,7 +139,6 @@ fn listed(
 }
 
 /// The schema of three words.
-#[tactic(auto, unfolding(crate::specs::SchemaText::marked))]
 fn marked(
     alloc: Global,
     ck: &[u8],
@@ -173,7 +173,6 @@ fn worded(alloc: Global, words: &[&[u8]]) -> Result<Option<Schema>, AllocError>
 }
 
 /// The schema of a text, where it has one.
-#[tactic(auto, unfolding(crate::specs::SchemaText::schema_of))]
 fn found(alloc: Global, text: &[u8]) -> Result<Option<Schema>, AllocError>
     ensures { IfOk result (λ found. found ≡ schema_of text.now) }
 {

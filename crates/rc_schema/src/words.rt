@@ -2,7 +2,8 @@
 
 ghost use Rattle.std.specs.Prelude.{◌≡◌, IfOk, IsTrue, map, ◌==◌, codes};
 ghost use Rattle.std.specs.List.{list_all, slice_split};
-ghost use Rattle.rc_schema.specs.SchemaText.{items, is_kind, kind_named, names_of, begins};
+ghost use Rattle.rc_schema.specs.SchemaText.{names_of};
+ghost use Rattle.rc_schema.specs.Tests.{is_kind, kind_named};
 ghost use Rattle.rc_spelling.specs.Words.{words};
 
 use crate::kinds::CkKind;
@@ -18,7 +19,7 @@ pub(crate) fn words<'a>(alloc: Global, text: &'a [u8]) -> Result<Vec<&'a [u8]>, 
 
 /// What stands between the commas, in order.
 pub(crate) fn items<'a>(alloc: Global, word: &'a [u8]) -> Result<Vec<&'a [u8]>, AllocError>
-    ensures { IfOk result (λ found. map (λ item. item.now) found.items ≡ items word.now) }
+    ensures { IfOk result (λ found. map (λ item. item.now) found.items ≡ slice_split (λ byte. byte == 44) word.now) }
 {
     word.split(|byte| *byte == b',').collect(alloc)
 }

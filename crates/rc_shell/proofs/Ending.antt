@@ -7,7 +7,7 @@ use Rattle.std.specs.Io.KnownBytes.{Appends, Consumes, Keeps, IsAtEnd}
 use Rattle.std.proofs.KnownBytes.{Appends-trans, Appends-nil, Consumes-trans, Consumes-nil, Consumes-kept}
 use Rattle.rc_outside.specs.Faults.{Rose}
 use Rattle.rc_shell.specs.Lines.{IsLine, last_line}
-use Rattle.rc_shell.specs.Run.{IsWhole, IsWritten, Answers, Served, WasRead, Due, Ran, EndedBecause, piece_size}
+use Rattle.rc_shell.specs.Run.{piece_size, IsWhole, IsWritten, Answers, Served, Due, Ran, EndedBecause}
 use Rattle.rc_shell.specs.calls.Feed.{FaultsAfter, DueOfLine, DueOfBytes, ServedLine, ServedLast, Serves, SoFar, EndedBy, kept}
 use Rattle.rc_shell.specs.Status.{status_of}
 use Rattle.rc_shell.specs.declared.status.Ending.TheVariants.{BadTable, StoreFault}
@@ -91,9 +91,9 @@ module _ {State Seen : Type 0} (Step : State → List ℕ → List ℕ → State
   due_run start now limit left taken rest bytes after texts p line small few statuses.NoMemory ps d =
       (d.0, d.1, Served-append Step start now d.1 [] taken bytes texts ps rest d.0 p d.2, few, near_cut rest bytes d.2.0 d.0 line small d.2.1, d.3)
   due_run start now limit left taken rest bytes after texts p line small few statuses.BadTable ps d =
-      (d.0, ended_behind Step Ends Leaves (WasRead Step Ends Leaves limit left (taken ++ bytes)) start now [] taken bytes rest texts after p statuses.BadTable ps d.0 d.1, few, near_cut rest bytes d.1.4.0 d.0 line small d.1.4.1)
+      (d.0, ended_behind Step Ends Leaves (IsAtEnd left × (length (taken ++ bytes) < limit)) start now [] taken bytes rest texts after p statuses.BadTable ps d.0 d.1, few, near_cut rest bytes d.1.4.0 d.0 line small d.1.4.1)
   due_run start now limit left taken rest bytes after texts p line small few statuses.StoreFault ps d =
-      (d.0, ended_behind Step Ends Leaves (WasRead Step Ends Leaves limit left (taken ++ bytes)) start now [] taken bytes rest texts after p statuses.StoreFault ps d.0 d.1, few, near_cut rest bytes d.1.4.0 d.0 line small d.1.4.1)
+      (d.0, ended_behind Step Ends Leaves (IsAtEnd left × (length (taken ++ bytes) < limit)) start now [] taken bytes rest texts after p statuses.StoreFault ps d.0 d.1, few, near_cut rest bytes d.1.4.0 d.0 line small d.1.4.1)
   due_run start now limit left taken rest bytes after texts p line small few s ps d = absurd d
 
   -- bytes were served in part
@@ -211,7 +211,7 @@ module _ {State Seen : Type 0} (Step : State → List ℕ → List ℕ → State
 
   -- what is due for the last line is due for the run
   due_last : (start now : State) (limit : ℕ) (left : Option (List ℕ)) (taken rest : List ℕ) (after : Seen) (texts : List (List ℕ)) (stop : Stop) → Served Step start taken texts rest now → IsLine rest → length taken ≤ limit
-      → WasRead Step Ends Leaves limit left taken → (ps : List (List ℕ)) → DueOfLine Step Ends Leaves now rest after (status_of stop) ps
+      → IsAtEnd left × (length taken < limit) → (ps : List (List ℕ)) → DueOfLine Step Ends Leaves now rest after (status_of stop) ps
       → Due Step Ends Leaves (Run segments) start limit left taken after (status_of stop) (texts ++ ps)
   due_last start now limit left taken rest after texts NoMemory s line most read ps d =
       (rest, now, subst (λ ts. Served Step start taken ts rest now) (sym (append-nil texts) ∙ ap (λ t. texts ++ t) (sym d.1)) s, most, near_line rest line, d.0)
@@ -222,7 +222,7 @@ module _ {State Seen : Type 0} (Step : State → List ℕ → List ℕ → State
       (rest, (texts, now, rest, d.0, s, (line, inr (refl, read)), d.1, ap (λ t. texts ++ t) d.2), most, near_line rest line)
 
   due_last_cut : (start now : State) (limit : ℕ) (left : Option (List ℕ)) (taken rest : List ℕ) (after : Seen) (texts : List (List ℕ)) → rest ≢ [] → Served Step start taken texts rest now → IsLine rest → length taken ≤ limit
-      → WasRead Step Ends Leaves limit left taken → (s : Status) (ps : List (List ℕ)) → DueOfLine Step Ends Leaves now rest after s ps → (t : Status) × Due Step Ends Leaves (Run segments) start limit left taken after t (texts ++ ps)
+      → IsAtEnd left × (length taken < limit) → (s : Status) (ps : List (List ℕ)) → DueOfLine Step Ends Leaves now rest after s ps → (t : Status) × Due Step Ends Leaves (Run segments) start limit left taken after t (texts ++ ps)
   due_last_cut start now limit left taken rest after texts some s line most read statuses.Done ps d = (
     statuses.Done,
     (

@@ -1,13 +1,14 @@
 -- A run is one of lines that were answered, and perhaps a last line.
-use Rattle.std.proofs.Common.{◌≡◌, inl, inr, ℕ, ◌+◌, ◌-◌, ◌^◌, ◌≤◌, min, List, [], ◌∷◌, ◌++◌, Option, refl, sym, ap, subst, ◌∙◌, append_assoc, append-nil, arith}
+use Rattle.std.proofs.Common.{◌≡◌, inl, inr, ℕ, ◌+◌, ◌-◌, ◌^◌, ◌<◌, ◌≤◌, length, min, List, [], ◌∷◌, ◌++◌, Option, refl, sym, ap, subst, ◌∙◌, append_assoc, append-nil, arith}
 use Rattle.std.specs.Prelude.{codes, Result, Ok}
 use Rattle.std.specs.List.{concat, count_by}
+use Rattle.std.specs.Io.KnownBytes.{IsAtEnd}
 use Rattle.rc_outside.specs.Faults.{Rose}
 use Rattle.rc_lines.specs.declared.commands.Command.{Command}
 use Rattle.rc_lines.specs.declared.commands.Command.TheVariants.{SetSchema}
 use Rattle.rc_lines.specs.declared.commands.Refusal.{Refusal}
 use Rattle.rc_shell.specs.Lines.{last_line}
-use Rattle.rc_shell.specs.Run.{Answers, IsWhole, IsCutOff, IsWritten, IsEnded, IsNear, Due, WasRead}
+use Rattle.rc_shell.specs.Run.{Answers, IsWhole, IsCutOff, IsWritten, IsEnded, IsNear, Due}
 use Rattle.rc_shell.specs.Step.{Moment, Stage, Waiting, StoreView, LineStep, EndsRun, EndsRunAt, LeavesStore, meaning_at, start_moment, tells_fault}
 use Rattle.rc_shell.specs.Holding.{OfLines, AreFirstLines, fault_of}
 use Rattle.rc_shell.specs.declared.status.Status.{Status}
@@ -115,14 +116,18 @@ of_due (Run n) before after limit left taken statuses.NoMemory pieces d = record
   faults = no_fault (Run n) before after taken statuses.NoMemory pieces d.2.0 d.1 refl d.2.2 d.5;
 }
 of_due (Run n) before after limit left taken statuses.BadTable pieces d =
-    ended (Run n) before after taken limit (WasRead LineStep EndsRun LeavesStore limit left taken) statuses.BadTable pieces d.0 d.1 d.3
+    ended (Run n) before after taken limit (IsAtEnd left × (length taken < limit)) statuses.BadTable pieces d.0 d.1 d.3
     (no_fault (Run n) before after taken statuses.BadTable d.1.0 d.1.4.0 d.1.1 refl d.1.4.2 d.1.6.0)
 of_due (Run n) before after limit left taken statuses.StoreFault pieces d =
-    ended (Run n) before after taken limit (WasRead LineStep EndsRun LeavesStore limit left taken) statuses.StoreFault pieces d.0 d.1 d.3
+    ended (Run n) before after taken limit (IsAtEnd left × (length taken < limit)) statuses.StoreFault pieces d.0 d.1 d.3
     (one_further (2 ^ 64 - 1) before.1 (count_by tells_fault d.1.0) d.1.1.faults after.1 (faults_are_counted_lem (start_moment (Run n) before) d.1.1 d.1.4.0 d.1.0 d.1.4.2)
     (store_rose d.1.1.stage (meaning_at d.1.1.stage d.1.2) d.1.3 d.1.1.faults after.1 d.1.6.1))
-of_due (Run n) before after limit left taken statuses.BadWords pieces d = absurd d
-of_due (Run n) before after limit left taken statuses.OutputFault pieces d = absurd d
+of_due (Run n) before after limit left taken statuses.BadWords pieces d =
+    ended (Run n) before after taken limit (IsAtEnd left × (length taken < limit)) statuses.BadWords pieces d.0 d.1 d.3
+    (no_fault (Run n) before after taken statuses.BadWords d.1.0 d.1.4.0 d.1.1 refl d.1.4.2 d.1.6.0)
+of_due (Run n) before after limit left taken statuses.OutputFault pieces d =
+    ended (Run n) before after taken limit (IsAtEnd left × (length taken < limit)) statuses.OutputFault pieces d.0 d.1 d.3
+    (no_fault (Run n) before after taken statuses.OutputFault d.1.0 d.1.4.0 d.1.1 refl d.1.4.2 d.1.6.0)
 of_due Refused before after limit left taken statuses.BadWords pieces d = record {
   lines = [];
   texts = [];

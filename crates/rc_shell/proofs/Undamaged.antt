@@ -15,7 +15,7 @@ use Rattle.rc_lines.specs.declared.commands.Reply.TheVariants.{Nothing, Fine, Gi
 use Rattle.rc_lines.specs.Grammar.{parse}
 use Rattle.rc_lines.specs.Texts.{reply_text, refusal_text, figures_text}
 use Rattle.rc_machine.specs.State.{State, Reader, numbers, reader_of}
-use Rattle.rc_machine.specs.Steps.{Steps, Opens, Gives, Stores, Refuses, most_readers, last_number, next_number, without_sealed}
+use Rattle.rc_machine.specs.Steps.{Steps, Opens, Gives, Stores, Refuses, next_number, without_sealed}
 use Rattle.rc_machine.specs.laws.Changes.{Change, Reads, Writes, Seals, Begins, Stored, Goes, Ends, change_of}
 use Rattle.rc_shell.specs.Run.{Answers}
 use Rattle.rc_shell.specs.Step.{Moment, Stage, Waiting, Serving, LineStep, StageStep, files_of, meaning_at}
@@ -114,11 +114,11 @@ module _ (m : State) (files : Files) (told : m.files ≡ Some files) (reply : Re
   sound_step (SetSchema schema) (inr s) = is (Refused SchemaDiffers) tt s.1.0
   sound_step (Put w) (inl s) = is Fine tt s.0
   sound_step (Put w) (inr s) = is (Refused Full) tt s.1.0
-  sound_step (OpenRead id key slice) s = tries id key slice (reader_of id m) (nat_lt (length m.readers) most_readers) s
+  sound_step (OpenRead id key slice) s = tries id key slice (reader_of id m) (nat_lt (length m.readers) 64) s
   sound_step (Read id count) s = reads id count (reader_of id m) s
   sound_step (Close id) s = closes _ (reader_of id m) s
-  sound_step Flush s = flushes without_sealed m.written (m.stored == length m.log) (nat_lt last_number (next_number (numbers m.tables))) s
-  sound_step FlushBegin s = flushes (λ next. next) m.written (m.stored == length m.log) (nat_lt last_number (next_number (numbers m.tables))) s
+  sound_step Flush s = flushes without_sealed m.written (m.stored == length m.log) (nat_lt 4294967295 (next_number (numbers m.tables))) s
+  sound_step FlushBegin s = flushes (λ next. next) m.written (m.stored == length m.log) (nat_lt 4294967295 (next_number (numbers m.tables))) s
   sound_step (FlushStep count) s = steps m.written (nat_lt count m.left) _ _ s
   sound_step (Evict count) s = is Fine tt s.0
   sound_step (Compact count) s = is Fine tt s.0

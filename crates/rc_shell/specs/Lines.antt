@@ -1,6 +1,7 @@
 -- How bytes are cut into lines.
-use Rattle.std.specs.Prelude.{◌≡◌, ◌≢◌, ◌⊎◌, ℕ, List, [], ◌∷◌, ◌++◌}
+use Rattle.std.specs.Prelude.{◌≡◌, ◌≢◌, ◌⊎◌, ℕ, List, [], ◌∷◌, ◌++◌, if◌then◌else◌}
 use Rattle.std.specs.List.{AllByRecursion, flat_map}
+use Rattle.rc_mutation.specs.Fragments.{has_any}
 
 -- a line has no newline in it
 abbrev pub IsLine : List ℕ → Type 0
@@ -16,8 +17,7 @@ BeginsWithLines bytes lines more = (bytes ≡ joined_lines lines ++ more) × All
 
 -- what stands behind the last newline is a line where it is not empty
 abbrev pub last_line : List ℕ → List (List ℕ)
-last_line [] = []
-last_line (byte ∷ rest) = (byte ∷ rest) ∷ []
+last_line rest = if has_any rest then rest ∷ [] else []
 
 -- the bytes begin with this line: a newline ends it; or it is all of them, where these are the last ones
 abbrev pub IsNextLine : Type 0 → List ℕ → List ℕ → Type 0

@@ -9,7 +9,7 @@ use Rattle.rc_shell.specs.Lines.{IsLine, BeginsWithLines, last_line, IsNextLine}
 use Rattle.rc_shell.specs.declared.words.Words.{Words}
 use Rattle.rc_shell.specs.declared.words.Words.TheVariants.{Run, Refused}
 use Rattle.rc_shell.specs.declared.status.Status.{Status}
-use Rattle.rc_shell.specs.declared.status.Status.TheVariants.{Done, BadWords, BadTable, NoMemory, InputFault, OutputFault, StoreFault, InputLimit}
+use Rattle.rc_shell.specs.declared.status.Status.TheVariants.{Done, BadWords, NoMemory, InputFault, OutputFault, InputLimit}
 
 -- Why it ended so. The input's count of faults rose where that is the status, and at most where memory or the output failed besides;
 -- the output's rose where that is the status, and nowhere else.
@@ -23,8 +23,8 @@ EndedBecause status input input' output output' = (input' ≡ input) × (output'
 abbrev pub piece_size : ℕ
 piece_size = 65536
 
--- Behind each newline in the bytes that were taken and not answered stand fewer than a piece: so at most a piece was taken ahead of the line that
--- is answered next.
+-- Behind each newline in the bytes that were taken and not answered stand fewer than a piece:
+-- so at most a piece was taken ahead of the line that is answered next.
 abbrev pub IsNear : List ℕ → Type 0
 IsNear more = (line rest : List ℕ) → more ≡ line ++ 10 ∷ rest → length rest < piece_size
 
@@ -59,30 +59,26 @@ module _ {State : Type 0} (Step : State → List ℕ → List ℕ → State → 
 module _ {State Seen : Type 0} (Step : State → List ℕ → List ℕ → State → Type 0) (Ends : State → List ℕ → Status → List ℕ → Seen → Type 0) (Leaves : State → Seen → Type 0) where
   -- behind whole lines that are answered, and before more bytes, a line ends the run: the pieces are the texts and its last line
   abbrev pub IsEnded : Type 0 → State → List ℕ → Seen → Status → List (List ℕ) → List ℕ → Type 0
-  IsEnded AreLast start bytes after status pieces more =
-      (texts : List (List ℕ)) × (end : State) × (line : List ℕ) × (last : List ℕ) × Served Step start bytes texts more end × IsNextLine AreLast more line × Ends end line status last after × (pieces ≡ texts ++ last ∷ [])
-
-  -- the input was read to its end, below the limit
-  abbrev pub WasRead : ℕ → Option (List ℕ) → List ℕ → Type 0
-  WasRead limit left taken = IsAtEnd left × (length taken < limit)
+  IsEnded AreLast start bytes after status pieces more = (texts : List (List ℕ)) × (end : State) × (line : List ℕ) × (last : List ℕ) × Served Step start bytes texts more end
+      × IsNextLine AreLast more line × Ends end line status last after × (pieces ≡ texts ++ last ∷ [])
 
   -- What was due, piece by piece, by the words: for the bytes that were taken, what the input has left, what is seen of the store then, and a
   -- status.
   abbrev pub Due : Words → State → ℕ → Option (List ℕ) → List ℕ → Seen → Status → List (List ℕ) → Type 0
-  -- the text for each line, the last one without a newline too
-  Due (Run segments) start limit left taken after Done pieces =
-      (lines : List (List ℕ)) × (rest : List ℕ) × (end : State) × BeginsWithLines taken lines rest × IsLine rest × WasRead limit left taken × Answers Step start (lines ++ last_line rest) pieces end × Leaves end after
+  -- the text for each line, the last one without a newline too: the input was read to its end, below the limit
+  Due (Run segments) start limit left taken after Done pieces = (lines : List (List ℕ)) × (rest : List ℕ) × (end : State) × BeginsWithLines taken lines rest
+      × IsLine rest × (IsAtEnd left × (length taken < limit)) × Answers Step start (lines ++ last_line rest) pieces end × Leaves end after
   -- the text for each whole line, then a last line on the fault
-  Due (Run segments) start limit left taken after InputFault pieces =
-      (texts : List (List ℕ)) × (rest : List ℕ) × (end : State) × Served Step start taken texts rest end × IsLine rest × (length taken < limit) × Leaves end after × (pieces ≡ texts ++ codes "! input fault\n" ∷ [])
+  Due (Run segments) start limit left taken after InputFault pieces = (texts : List (List ℕ)) × (rest : List ℕ) × (end : State) × Served Step start taken texts rest end
+      × IsLine rest × (length taken < limit) × Leaves end after × (pieces ≡ texts ++ codes "! input fault\n" ∷ [])
   -- the text for each whole line, then a last line on the limit
-  Due (Run segments) start limit left taken after InputLimit pieces =
-      (texts : List (List ℕ)) × (rest : List ℕ) × (end : State) × Served Step start taken texts rest end × IsLine rest × (length taken ≡ limit) × Leaves end after × (pieces ≡ texts ++ codes "! input limit\n" ∷ [])
+  Due (Run segments) start limit left taken after InputLimit pieces = (texts : List (List ℕ)) × (rest : List ℕ) × (end : State) × Served Step start taken texts rest end
+      × IsLine rest × (length taken ≡ limit) × Leaves end after × (pieces ≡ texts ++ codes "! input limit\n" ∷ [])
   -- the text for each of some first lines
   Due (Run segments) start limit left taken after NoMemory pieces = (more : List ℕ) × (end : State) × Served Step start taken pieces more end × (length taken ≤ limit) × IsNear more × Leaves end after
-  -- the text for each of some first lines, then the last line for the next one, which ends the run
-  Due (Run segments) start limit left taken after BadTable pieces = (more : List ℕ) × IsEnded (WasRead limit left taken) start taken after BadTable pieces more × (length taken ≤ limit) × IsNear more
-  Due (Run segments) start limit left taken after StoreFault pieces = (more : List ℕ) × IsEnded (WasRead limit left taken) start taken after StoreFault pieces more × (length taken ≤ limit) × IsNear more
+  -- the text for each of some first lines, then the last line for the next one, which ends the run with this status
+  Due (Run segments) start limit left taken after status pieces = (more : List ℕ) × IsEnded (IsAtEnd left × (length taken < limit)) start taken after status pieces more
+      × (length taken ≤ limit) × IsNear more
   -- nothing is taken where the words are refused
   Due Refused start limit left taken after BadWords pieces = (taken ≡ []) × Leaves start after × (pieces ≡ codes "! bad words\n" ∷ [])
   -- nothing else is due

@@ -9,11 +9,8 @@ const USUAL_SEGMENTS: u32 = 32;
 /// What the words ask for.
 #[derive(Clone, Copy, Debug, PartialEq, Eq)]
 pub enum Words {
-    /// To serve the lines of the input.
-    Run {
-        /// The budget of memory, in segments.
-        segments: u32,
-    },
+    /// To serve the lines of the input, with a budget of memory in segments.
+    Run { segments: u32 },
     /// Nothing that the program does.
     Refused,
 }

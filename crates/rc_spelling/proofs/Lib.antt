@@ -1,3 +1,4 @@
 pub mod Digits
+pub mod Joined
 pub mod Steps
 pub mod Pieces

@@ -3,4 +3,5 @@ pub mod Words
 pub mod Numbers
 pub mod Spelling
 pub mod Printed
+pub mod Glyphs
 pub mod laws

@@ -14,19 +14,11 @@ is_numeral (first ∷ rest) = if first == 48 then length rest == 0 else list_all
 unfoldable pub number_of : ℕ → List ℕ → Option ℕ
 number_of most word = if is_numeral word && nat_le (digits_value 10 word) most then Some (digits_value 10 word) else None
 
--- the number below 0 that a minus before the word makes; `-0` is no number
-unfoldable pub negative_of : List ℕ → Option ℤ
-negative_of word = option_and_then (λ value. if value == 0 then None else Some (neg_ℤ (pos value))) (number_of (2 ^ 63) word)
-
--- a number from 0 to 2^63 - 1
-unfoldable pub positive_of : List ℕ → Option ℤ
-positive_of word = option_map pos (number_of (2 ^ 63 - 1) word)
-
--- a number within 64 bits that may have a minus before it
-abbrev pub signed_of : List ℕ → Option ℤ
-signed_of [] = None
-signed_of (first ∷ rest) = if first == 45 then negative_of rest else positive_of (first ∷ rest)
-
 -- a number from 1 to `most`
 unfoldable pub count_of : ℕ → List ℕ → Option ℕ
 count_of most word = option_and_then (λ value. if value == 0 then None else Some value) (number_of most word)
+
+-- a number within 64 bits that may have a minus before it; `-0` is no number
+abbrev pub signed_of : List ℕ → Option ℤ
+signed_of [] = None
+signed_of (first ∷ rest) = if first == 45 then option_map (λ n. neg_ℤ (pos n)) (count_of (2 ^ 63) rest) else option_map pos (number_of (2 ^ 63 - 1) (first ∷ rest))

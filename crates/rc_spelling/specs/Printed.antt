@@ -1,10 +1,10 @@
 -- How bytes and the components of a clustering key are printed.
-use Rattle.std.specs.Prelude.{ℕ, ◌+◌, ◌/◌, ◌%◌, ◌<◌, Bool, ◌||◌, ◌==◌, nat_lt, List, [], ◌∷◌, ◌++◌, flat_map, codes, if◌then◌else◌}
+use Rattle.std.specs.Prelude.{ℕ, ◌+◌, ◌/◌, ◌%◌, ◌<◌, Bool, ◌||◌, ◌==◌, nat_lt, List, [], ◌∷◌, flat_map, map, codes, if◌then◌else◌}
 use Rattle.std.specs.Char.{is_ascii_alphanumeric}
 use Rattle.std.specs.Fmt.{signed_decimal}
 use Rattle.std.specs.Int.{w64}
 use Rattle.std.specs.Int.RustNames.{FitsSigned}
-use Rattle.std.specs.List.{AllByRecursion}
+use Rattle.std.specs.List.{AllByRecursion, join_with_byte}
 use Rattle.rc_position.specs.declared.comps.Comp.{Comp}
 use Rattle.rc_position.specs.declared.comps.Comp.TheVariants.{Int, Text}
 
@@ -16,32 +16,19 @@ stands_for_itself byte = is_ascii_alphanumeric byte || (byte == 95 || (byte == 4
 abbrev pub hexadecimal : ℕ → ℕ
 hexadecimal n = if nat_lt n 10 then 48 + n else 55 + n
 
--- a byte as it is printed: itself, or `%` and two hexadecimal digits
-abbrev pub spelled_byte : ℕ → List ℕ
-spelled_byte byte = if stands_for_itself byte then byte ∷ [] else 37 ∷ hexadecimal (byte / 16) ∷ hexadecimal (byte % 16) ∷ []
-
--- bytes as they are printed
+-- bytes as they are printed: each as itself, or as `%` and two hexadecimal digits
 abbrev pub printed : List ℕ → List ℕ
-printed bytes = flat_map spelled_byte bytes
+printed bytes = flat_map (λ byte. if stands_for_itself byte then byte ∷ [] else 37 ∷ hexadecimal (byte / 16) ∷ hexadecimal (byte % 16) ∷ []) bytes
 
--- a text component; `''` stands for the empty text
-abbrev pub text_component : List ℕ → List ℕ
-text_component [] = codes "''"
-text_component (byte ∷ bytes) = printed (byte ∷ bytes)
-
--- a component: a decimal number, or a text
+-- a component: a decimal number, or a text, of which `''` stands for the empty one
 abbrev pub component_text : Comp → List ℕ
 component_text (Int number) = signed_decimal number
-component_text (Text bytes) = text_component bytes
-
--- a comma and a component
-abbrev pub other_component : Comp → List ℕ
-other_component component = 44 ∷ component_text component
+component_text (Text []) = codes "''"
+component_text (Text (byte ∷ bytes)) = printed (byte ∷ bytes)
 
 -- the components of a key, with commas between them
 abbrev pub key_text : List Comp → List ℕ
-key_text [] = []
-key_text (first ∷ rest) = component_text first ++ flat_map other_component rest
+key_text components = join_with_byte 44 (map component_text components)
 
 -- the bytes that a printed component spells: an int's decimal number, or a text
 abbrev pub bytes_of_component : Comp → List ℕ

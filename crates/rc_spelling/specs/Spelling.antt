@@ -1,17 +1,13 @@
 -- How bytes and the components of a clustering key are spelled in a word.
-use Rattle.std.specs.Prelude.{ℕ, ◌+◌, ◌*◌, Bool, ◌&&◌, ◌||◌, not, ◌==◌, nat_lt, nat_eq, List, [], ◌∷◌, codes, Option, Some, None, option_and_then, if◌then◌else◌}
+use Rattle.std.specs.Prelude.{ℕ, ◌+◌, ◌*◌, Bool, ◌&&◌, ◌||◌, not, ◌==◌, nat_lt, List, [], ◌∷◌, codes, Option, Some, None, option_and_then, if◌then◌else◌}
 use Rattle.std.specs.Char.{digit_value, is_ascii_hexdigit}
 use Rattle.std.specs.List.{slice_split}
 use Rattle.std.specs.Option.{option_map}
-use lib.Pointwise.{pointwise}
+use Rattle.rc_spelling.specs.Words.{is_word, each_of}
 
--- the marks of the grammar: `%`, `,`, `(`, `)`, `[`, `]` and `'`
-abbrev pub is_mark : ℕ → Bool
-is_mark byte = (byte == 37 || (byte == 44 || byte == 39)) || ((byte == 40 || byte == 41) || (byte == 91 || byte == 93))
-
--- a byte that may stand for itself: above the space, not the delete byte, and no mark
+-- a byte that may stand for itself: above the space, not the delete byte, and no mark of the grammar, `%`, `,`, `'`, `(`, `)`, `[` and `]`
 abbrev pub stands_alone : ℕ → Bool
-stands_alone byte = nat_lt 32 byte && not (byte == 127 || is_mark byte)
+stands_alone byte = nat_lt 32 byte && not (byte == 127 || ((byte == 37 || (byte == 44 || byte == 39)) || ((byte == 40 || byte == 41) || (byte == 91 || byte == 93))))
 
 -- the byte that `%` and two hexadecimal digits, in either case, stand for
 abbrev pub escaped : ℕ → ℕ → Option ℕ
@@ -33,20 +29,11 @@ bytes_spelled (byte ∷ next ∷ []) = lone_byte byte (bytes_spelled (next ∷ [
 bytes_spelled (byte ∷ next ∷ other ∷ rest) =
     if byte == 37 then escape next other (bytes_spelled rest) else lone_byte byte (bytes_spelled (next ∷ other ∷ rest))
 
--- two quotes, which stand for the empty text
-abbrev pub is_empty_text : List ℕ → Bool
-is_empty_text piece = pointwise nat_eq piece (codes "''")
-
--- the bytes of a component: `''` or a spelling that is not empty
+-- the bytes of a component: `''` for none, or a spelling that is not empty
 abbrev pub component_spelled : List ℕ → Option (List ℕ)
 component_spelled [] = None
-component_spelled (byte ∷ rest) = if is_empty_text (byte ∷ rest) then Some [] else bytes_spelled (byte ∷ rest)
-
--- the bytes of each piece, where all of them are components
-abbrev pub pieces_spelled : List (List ℕ) → Option (List (List ℕ))
-pieces_spelled [] = Some []
-pieces_spelled (piece ∷ rest) = option_and_then (λ component. option_map (λ components. component ∷ components) (pieces_spelled rest)) (component_spelled piece)
+component_spelled (byte ∷ rest) = if is_word (byte ∷ rest) (codes "''") then Some [] else bytes_spelled (byte ∷ rest)
 
 -- the bytes of one component and more, with commas between them
 unfoldable pub components_spelled : List ℕ → Option (List (List ℕ))
-components_spelled word = pieces_spelled (slice_split (λ byte. byte == 44) word)
+components_spelled word = each_of component_spelled (slice_split (λ byte. byte == 44) word)

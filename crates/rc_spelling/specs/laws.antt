@@ -20,8 +20,10 @@ use Rattle.std.specs.List.{list_all, All, AllByRecursion, slice_split}
 use Rattle.rc_position.specs.declared.comps.Comp.{Comp}
 use Rattle.rc_position.specs.declared.comps.Comp.TheVariants.{Int, Text}
 use Rattle.rc_spelling.specs.Numbers.{signed_of}
-use Rattle.rc_spelling.specs.Printed.{AreBytes, IsComponent, stands_for_itself, hexadecimal, printed, spelled_byte, text_component, component_text, key_text, bytes_of_component}
-use Rattle.rc_spelling.specs.Spelling.{stands_alone, escaped, lone_byte, escape, bytes_spelled, is_empty_text, component_spelled, pieces_spelled, components_spelled}
+use Rattle.rc_spelling.specs.Printed.{AreBytes, IsComponent, stands_for_itself, hexadecimal, printed, component_text, key_text, bytes_of_component}
+use Rattle.rc_spelling.specs.Glyphs.{spelled_byte}
+use Rattle.rc_spelling.specs.Spelling.{stands_alone, escaped, lone_byte, escape, bytes_spelled, component_spelled, components_spelled}
+use Rattle.rc_spelling.specs.Words.{is_word, each_of}
 
 both : (b c : Bool) → b && c ≡ true → (b ≡ true) × (c ≡ true)
 both true c h = (refl, h)
@@ -99,7 +101,7 @@ is_component : (word bytes : List ℕ) → bytes_spelled word ≡ Some bytes →
 is_component [] [] h some = absurd (omega arith)
 is_component [] (byte ∷ bytes) h some = cc
 is_component (first ∷ rest) bytes h some =
-    elim (is_empty_text (first ∷ rest)) as (λ b. is_empty_text (first ∷ rest) ≡ b → cond b (Some []) (bytes_spelled (first ∷ rest)) ≡ Some bytes) [
+    elim (is_word (first ∷ rest) (codes "''")) as (λ b. is_word (first ∷ rest) (codes "''") ≡ b → cond b (Some []) (bytes_spelled (first ∷ rest)) ≡ Some bytes) [
       | true ↦ λ e. (let quotes : first ∷ rest ≡ codes "''" = same_text (first ∷ rest) (codes "''") (sym e) in
           let no : ◌≡◌ {A = Option (List ℕ)} None (Some bytes) = ap bytes_spelled (sym quotes) ∙ h in
           cc)
@@ -121,7 +123,7 @@ int_back (negsuc n) fits =
     let k = decimal_is_IsNumeral (suc n) (omega (arith, ints)) in
     is_component (45 ∷ decimal (suc n)) (45 ∷ decimal (suc n)) (alone_ahead 45 (decimal (suc n)) refl ∙ ap (option_map (λ more. 45 ∷ more)) (digits_back_alone (decimal (suc n)) k.0.1)) (omega arith)
 
-text_back : (bytes : List ℕ) → AreBytes bytes → component_spelled (text_component bytes) ≡ Some bytes
+text_back : (bytes : List ℕ) → AreBytes bytes → component_spelled (component_text (Text bytes)) ≡ Some bytes
 text_back [] small = refl
 text_back (byte ∷ bytes) small = is_component (printed (byte ∷ bytes)) (byte ∷ bytes) (printed_bytes_read_back (byte ∷ bytes) small) (omega arith)
 
@@ -164,7 +166,7 @@ spelled_lacks : (bytes : List ℕ) → Lacks (printed bytes)
 spelled_lacks [] = All-nil (λ byte. is_comma byte ≡ false)
 spelled_lacks (byte ∷ bytes) = All-append (λ x. is_comma x ≡ false) (spelled_byte byte) (printed bytes) (byte_lacks byte) (spelled_lacks bytes)
 
-text_lacks : (bytes : List ℕ) → Lacks (text_component bytes)
+text_lacks : (bytes : List ℕ) → Lacks (component_text (Text bytes))
 text_lacks [] = All-from_recursion (λ x. is_comma x ≡ false) (39 ∷ 39 ∷ []) (refl, (refl, tt))
 text_lacks (byte ∷ bytes) = spelled_lacks (byte ∷ bytes)
 
@@ -176,7 +178,7 @@ component_lacks (Text bytes) small = text_lacks bytes
 
 -- it is cut at its commas into its components
 cut : (first : Comp) (rest : List Comp) → AllByRecursion IsComponent (first ∷ rest) → slice_split is_comma (key_text (first ∷ rest)) ≡ map component_text (first ∷ rest)
-cut first [] are = ap (slice_split is_comma) (append-nil (component_text first)) ∙ slice_split_none is_comma (component_text first) (component_lacks first are.0)
+cut first [] are = slice_split_none is_comma (component_text first) (component_lacks first are.0)
 cut first (next ∷ rest) are =
     slice_split_at is_comma (component_text first) 44 (key_text (next ∷ rest)) (component_lacks first are.0) refl
     ∙ ap (λ words. component_text first ∷ words) (cut next rest are.1)
@@ -185,12 +187,12 @@ both_some : (one : Option (List ℕ)) (others : Option (List (List ℕ))) (bytes
     → option_and_then (λ component. option_map (λ components. component ∷ components) others) one ≡ Some (bytes ∷ more)
 both_some one others bytes more p q = rw (p, q) refl
 
-pieces_back : (key : List Comp) → AllByRecursion IsComponent key → pieces_spelled (map component_text key) ≡ Some (map bytes_of_component key)
+pieces_back : (key : List Comp) → AllByRecursion IsComponent key → each_of component_spelled (map component_text key) ≡ Some (map bytes_of_component key)
 pieces_back [] are = refl
 pieces_back (first ∷ rest) are =
-    both_some (component_spelled (component_text first)) (pieces_spelled (map component_text rest)) (bytes_of_component first) (map bytes_of_component rest) (component_back first are.0) (pieces_back rest are.1)
+    both_some (component_spelled (component_text first)) (each_of component_spelled (map component_text rest)) (bytes_of_component first) (map bytes_of_component rest) (component_back first are.0) (pieces_back rest are.1)
 
 -- a printed key spells the bytes of its components
 pub printed_keys_read_back : (first : Comp) (rest : List Comp) → AllByRecursion IsComponent (first ∷ rest) → components_spelled (key_text (first ∷ rest)) ≡ Some (map bytes_of_component (first ∷ rest))
 unfolding components_spelled
-printed_keys_read_back first rest are = ap pieces_spelled (cut first rest are) ∙ pieces_back (first ∷ rest) are
+printed_keys_read_back first rest are = ap (each_of component_spelled) (cut first rest are) ∙ pieces_back (first ∷ rest) are

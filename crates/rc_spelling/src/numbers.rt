@@ -1,11 +1,11 @@
 //! Numbers as a line has them.
 
-ghost use Rattle.std.specs.Prelude.{◌≡◌, ℕ, ◌+◌, ◌*◌, ◌<◌, ◌≤◌, ◌^◌, IsTrue, Option, Some, None};
+ghost use Rattle.std.specs.Prelude.{◌≡◌, ℕ, ◌+◌, ◌*◌, ◌<◌, ◌≤◌, ◌^◌, ◌-◌, pos, neg_ℤ, IsTrue, Option, Some, None};
 ghost use Rattle.std.specs.Char.{digit_value, is_ascii_digit};
 ghost use Rattle.std.specs.List.{list_all};
-ghost use Rattle.std.specs.Option.{IfSome, SomeIff};
+ghost use Rattle.std.specs.Option.{IfSome, SomeIff, option_map};
 ghost use Rattle.std.specs.Str.Parse.{digits_value};
-ghost use Rattle.rc_spelling.specs.Numbers.{is_numeral, number_of, count_of, negative_of, positive_of, signed_of};
+ghost use Rattle.rc_spelling.specs.Numbers.{is_numeral, number_of, count_of, signed_of};
 
 /// Whether each byte is a decimal digit.
 fn are_digits(word: &[u8]) -> bool
@@ -78,9 +78,9 @@ pub fn count(word: &[u8], most: u32) -> Option<u32>
 }
 
 /// The number below 0 whose digits behind the minus these are.
-#[tactic(auto, using(crate::proofs::Digits::below_zero), unfolding(crate::specs::Numbers::negative_of))]
+#[tactic(auto, using(crate::proofs::Digits::below_zero), unfolding(crate::specs::Numbers::count_of))]
 fn negative(digits: &[u8]) -> Option<i64>
-    ensures { result ≡ negative_of digits.now }
+    ensures { result ≡ option_map (λ n. neg_ℤ (pos n)) (count_of (2 ^ 63) digits.now) }
 {
     let size = number(digits, 1 << 63)?;
     if size == 0 {
@@ -90,9 +90,9 @@ fn negative(digits: &[u8]) -> Option<i64>
 }
 
 /// The number from 0 on that the word is.
-#[tactic(auto, using(std::proofs::lemmas::Int::ints), unfolding(crate::specs::Numbers::positive_of))]
+#[tactic(auto, using(std::proofs::lemmas::Int::ints))]
 fn positive(word: &[u8]) -> Option<i64>
-    ensures { result ≡ positive_of word.now }
+    ensures { result ≡ option_map pos (number_of (2 ^ 63 - 1) word.now) }
 {
     let value = number(word, i64::MAX as u64)?;
     Some(value as i64)

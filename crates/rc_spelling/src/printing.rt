@@ -1,7 +1,9 @@
 //! How bytes and the components of a key are printed.
 
-ghost use Rattle.std.specs.Prelude.{◌≡◌, ◌<◌, ◌++◌, flat_map, OnOk};
-ghost use Rattle.rc_spelling.specs.Printed.{stands_for_itself, hexadecimal, spelled_byte, printed, component_text, text_component, other_component, key_text};
+ghost use Rattle.std.specs.Prelude.{◌≡◌, ◌<◌, ◌∷◌, ◌++◌, flat_map, OnOk};
+ghost use Rattle.rc_spelling.specs.Printed.{stands_for_itself, hexadecimal, printed, component_text, key_text};
+ghost use Rattle.rc_spelling.specs.Glyphs.{spelled_byte, other_component};
+ghost use Rattle.rc_position.specs.declared.comps.Comp.TheVariants.{Text};
 
 use itoa::Buffer;
 use rc_position::Comp;
@@ -45,7 +47,7 @@ pub fn print_bytes(bytes: &[u8], text: &mut Vec<u8>) -> Result<(), AllocError>
 
 /// Appends a text component.
 fn print_text(bytes: &[u8], text: &mut Vec<u8>) -> Result<(), AllocError>
-    ensures { OnOk result (text.new.items ≡ text.old.items ++ text_component bytes.now) }
+    ensures { OnOk result (text.new.items ≡ text.old.items ++ component_text (Text bytes.now)) }
 {
     match bytes {
         [] => text.extend_from_slice(b"''"),
@@ -77,6 +79,16 @@ fn print_others(components: &[Comp], text: &mut Vec<u8>) -> Result<(), AllocErro
     Ok(())
 }
 
+/// Appends a component and more, with commas between them.
+#[tactic(auto, using(crate::proofs::Joined::others_behind))]
+fn print_joined(first: &Comp, rest: &[Comp], text: &mut Vec<u8>) -> Result<(), AllocError>
+    ensures { OnOk result (text.new.items ≡ text.old.items ++ key_text (first.now ∷ rest.now)) }
+{
+    print_component(first, text)?;
+    print_others(rest, text)?;
+    Ok(())
+}
+
 /// Appends the components of a key, with commas between them. The only error is want of memory, and then a part of
 /// them may be appended.
 pub fn print_key(components: &[Comp], text: &mut Vec<u8>) -> Result<(), AllocError>
@@ -84,9 +96,6 @@ pub fn print_key(components: &[Comp], text: &mut Vec<u8>) -> Result<(), AllocErr
 {
     match components {
         [] => Ok(()),
-        [first, rest @ ..] => {
-            print_component(first, text)?;
-            print_others(rest, text)
-        }
+        [first, rest @ ..] => print_joined(first, rest, text),
     }
 }

@@ -1,29 +1,24 @@
 //! What bytes and which components a word spells.
 
-ghost use Rattle.std.specs.Prelude.{◌≡◌, IfOk, IsTrue, map, take};
+ghost use Rattle.std.specs.Prelude.{◌≡◌, IfOk, IsTrue, codes, map, take};
 ghost use Rattle.std.specs.Char.{digit_value, is_ascii_hexdigit};
 ghost use Rattle.std.specs.Option.{is_some, option_map};
-ghost use Rattle.rc_spelling.specs.Spelling.{is_mark, stands_alone, escaped, bytes_spelled, is_empty_text, component_spelled, pieces_spelled, components_spelled};
+ghost use Rattle.rc_spelling.specs.Spelling.{stands_alone, escaped, bytes_spelled, component_spelled, components_spelled};
+ghost use Rattle.rc_spelling.specs.Words.{is_word, each_of};
 ghost use Rattle.rc_spelling.specs.calls.Fronts.{first_alone, first_escaped, first_spelled};
 
 use crate::cutting::cut;
 use std::alloc::{AllocError, Global};
 
-/// Whether a byte is a mark of the grammar.
-fn is_mark(byte: u8) -> bool
-    ensures { result ≡ is_mark byte }
-{
-    match byte {
-        b'%' | b',' | b'\'' | b'(' | b')' | b'[' | b']' => true,
-        _ => false,
-    }
-}
-
 /// Whether a byte may stand for itself.
 fn stands_alone(byte: u8) -> bool
     ensures { result ≡ stands_alone byte }
 {
-    byte > b' ' && !(byte == 0x7f || is_mark(byte))
+    match byte {
+        0..=b' ' | 0x7f => false,
+        b'%' | b',' | b'\'' | b'(' | b')' | b'[' | b']' => false,
+        _ => true,
+    }
 }
 
 /// The number that a hexadecimal digit stands for.
@@ -110,7 +105,7 @@ fn spells(word: &[u8]) -> bool
 
 /// Whether a piece is two quotes.
 fn is_empty_text(piece: &[u8]) -> bool
-    ensures { result ≡ is_empty_text piece.now }
+    ensures { result ≡ is_word piece.now (codes "''") }
 {
     piece == b"''".as_slice()
 }
@@ -143,7 +138,7 @@ fn read_component(alloc: Global, piece: &[u8]) -> Result<Option<Vec<u8>>, AllocE
 /// Whether all pieces are components.
 #[tactic(auto, using(crate::proofs::Pieces::component_ahead, crate::proofs::Pieces::none_ahead))]
 fn are_components(pieces: &[&[u8]]) -> bool
-    ensures { result ≡ is_some (pieces_spelled (map (λ piece. piece.now) pieces.now)) }
+    ensures { result ≡ is_some (each_of component_spelled (map (λ piece. piece.now) pieces.now)) }
 {
     let mut left = pieces;
     while let [piece, rest @ ..] = left {
@@ -157,7 +152,7 @@ fn are_components(pieces: &[&[u8]]) -> bool
 
 /// The bytes of each piece, where all of them are components.
 fn read_pieces(alloc: Global, pieces: &[&[u8]]) -> Result<Option<Vec<Vec<u8>>>, AllocError>
-    ensures { IfOk result (λ found. option_map (λ made. map (λ bytes. bytes.items) made.items) found ≡ pieces_spelled (map (λ piece. piece.now) pieces.now)) }
+    ensures { IfOk result (λ found. option_map (λ made. map (λ bytes. bytes.items) made.items) found ≡ each_of component_spelled (map (λ piece. piece.now) pieces.now)) }
 {
     let mut components = Vec::with_capacity(alloc, pieces.len())?;
     for piece in pieces {
@@ -175,7 +170,7 @@ fn read_first(
     pieces: &[&[u8]],
     most: usize,
 ) -> Result<Option<Vec<Vec<u8>>>, AllocError>
-    ensures { IfOk result (λ found. option_map (λ made. map (λ bytes. bytes.items) made.items) found ≡ option_map (take most) (pieces_spelled (map (λ piece. piece.now) pieces.now))) }
+    ensures { IfOk result (λ found. option_map (λ made. map (λ bytes. bytes.items) made.items) found ≡ option_map (take most) (each_of component_spelled (map (λ piece. piece.now) pieces.now))) }
 {
     if pieces.len() <= most {
         return read_pieces(alloc, pieces);

@@ -1,8 +1,9 @@
 -- One table after another is joined.
-use Rattle.std.proofs.Common.{◌≡◌, ℕ, ◌+◌, ◌≤◌, ◌<◌, true, false, cond, List, [], ◌∷◌, ◌++◌, length, get_or, drop, Option, Some, None, refl, sym, ap, ◌∙◌, subst, arith, append-nil, append_assoc, length-append, inl, inr, map as list_map}
+use Rattle.std.proofs.Common.{Bool, ◌≡◌, ℕ, ◌+◌, ◌≤◌, ◌<◌, true, false, cond, List, [], ◌∷◌, ◌++◌, length, get_or, drop, Option, Some, None, refl, sym, ap, ◌∙◌, subst, arith, append-nil, append_assoc, length-append, inl, inr, map as list_map}
 use Rattle.std.specs.Prelude.{◌≢◌, All, IsTrue, filter}
 use Rattle.std.specs.FinMap.{is_sorted}
-use Rattle.std.specs.List.{AllByRecursion}
+use Rattle.std.specs.List.{AllByRecursion, list_any}
+use Rattle.std.specs.Ordering.{eq_by_cmp}
 use Rattle.rc_cell.specs.Winner.{empty_row}
 use Rattle.rc_outside.specs.Files.{Files}
 use Rattle.rc_position.specs.Position.{bytes_cmp}
@@ -17,7 +18,7 @@ use Rattle.rc_tfile.specs.laws.Follows.{all_append}
 use Rattle.rc_tables.specs.Located.{IsLocatedOf, SaysOf, WhereTold}
 use Rattle.rc_stream.specs.declared.streams.StreamErr.{StreamErr}
 use Rattle.rc_stream.specs.declared.streams.StreamErr.TheVariants.{Fault, Damaged, NoMemory}
-use Rattle.rc_tables.specs.Tables.{AreHeld, HoldsTables, IsDamageIn, IsDamageOf, JoinsSome, changes_at, changes_in, listing, lists_key}
+use Rattle.rc_tables.specs.Tables.{AreHeld, HoldsTables, IsDamageIn, IsDamageOf, JoinsSome, changes_at, changes_in, listing}
 use Rattle.rc_tables.proofs.Places.{key_is}
 use Rattle.rc_tables.proofs.Searching.{keys_ascend, none_there, located, dir_is}
 
@@ -53,6 +54,10 @@ pub first_held : (files : Option Files) (schema : SchemaValue) (key : List ℕ) 
 first_held None schema key all joined info infos held so_far = tt
 first_held (Some files) schema key all joined info infos held so_far =
     (let r = so_far held.0 held.1 in first_there (Some files) schema info infos r.1 r.2)
+
+-- whether a table lists a key
+abbrev lists_key : List ℕ → TableInfo → Bool
+lists_key key info = list_any (λ r. eq_by_cmp bytes_cmp key r.key) info.parts
 
 pub listing_first : (key : List ℕ) (info : TableInfo) (infos : List TableInfo) → listing key (info ∷ infos) ≡ listing key (info ∷ []) + listing key infos
 listing_first key info infos =

@@ -20,8 +20,8 @@ use Rattle.rc_mutation.specs.laws.FragMerge.{merge, merge_into, merge-in_order, 
 use Rattle.rc_stream.specs.Stream.{is_clustered}
 use Rattle.rc_tfile.specs.Items.{PartItem, RowItem, ChangeItem, EndItem, item_code}
 use Rattle.rc_tfile.specs.Before.{ItemsBefore, offset, followed_by, last_key}
-use Rattle.rc_tfile.specs.Blocks.{DirectoryEntry, entries, nearest_entry, entry_items, blocks, part_offset}
-use Rattle.rc_tfile.specs.Info.{refs_from, directory_entry_size}
+use Rattle.rc_tfile.specs.Blocks.{DirectoryEntry, entries, entry_items, blocks, part_offset}
+use Rattle.rc_tfile.specs.Info.{refs_from}
 use Rattle.rc_tfile.specs.TableText.{frag_items, part_items}
 use Rattle.rc_tfile.specs.laws.Follows.{followed_by-append}
 
@@ -114,7 +114,11 @@ part_offset-inner (frag.End ∷ fs) h c = absurd (let e = h.0 in cc)
 abbrev pub entry_of : ItemsBefore → Partition → DirectoryEntry
 entry_of b p = record { key = p.key; off = offset b; blocks = blocks (inside b p) }
 
-entry_is : (b : ItemsBefore) (p : Partition) → IsMutation p.change → nearest_entry (inside b p) ≡ entry_of b p
+-- how many bytes of the directory a partition and its blocks take
+abbrev pub directory_entry_size : DirectoryEntry → ℕ
+directory_entry_size e = length (flat_map item_code (entry_items e))
+
+entry_is : (b : ItemsBefore) (p : Partition) → IsMutation p.change → (let e : DirectoryEntry = record { key = unwrap_or (last_key (inside b p)) []; off = part_offset (inside b p); blocks = blocks (inside b p) } in e) ≡ entry_of b p
 entry_is b p is =
     let begun = PartItem p.key p.change.pt p.change.statics ∷ b in
     let inner = between-inner p.change is in

@@ -16,7 +16,7 @@ use Rattle.rc_tfile.specs.Items.{Item, HeadItem, PartItem, RowItem, ChangeItem, 
 use Rattle.rc_tfile.specs.Before.{ItemsBefore, text, offset, followed_by, tomb_in_force, last_pos}
 use Rattle.rc_tfile.specs.Blocks.{DirectoryEntry, entries, entry_items, ending}
 use Rattle.rc_tfile.specs.Checking.{IsContent}
-use Rattle.rc_tfile.specs.Info.{refs, refs_from, directory_entry_size}
+use Rattle.rc_tfile.specs.Info.{refs_from, info_of}
 use Rattle.rc_writes.specs.Allowed.{IsStaticOf}
 use Rattle.rc_tfile.specs.TableText.{AllFit, items_to_stop, frag_items, whole_table, part_items}
 use Rattle.rc_tfile.specs.laws.Follows.{followed_by-append, text-followed_by, by_recursion}
@@ -25,7 +25,7 @@ use Rattle.rc_tables.specs.Located.{IsLocated, IsSpan, IsEntryAt, EndsAt, MayLie
 use Rattle.rc_tables.specs.Rebuilt.{AllCome}
 use Rattle.rc_mutation.specs.Fragments.{rows_and_changes}
 use Rattle.rc_tables.specs.laws.Ascending.{front_fits}
-use Rattle.rc_tables.proofs.Listing.{Inner, between-inner, items_of, entry_of, entries_behind, entries_are, entries_behind-append, length-entries, listing, listing-append, refs_from-append, length-refs}
+use Rattle.rc_tables.proofs.Listing.{directory_entry_size, Inner, between-inner, items_of, entry_of, entries_behind, entries_are, entries_behind-append, length-entries, listing, listing-append, refs_from-append, length-refs}
 
 -- ---- what fits
 
@@ -95,7 +95,7 @@ module _ (schema : SchemaValue) (before : List Partition) (p : Partition) (behin
       ∙ entries_are parts are (HeadItem schema ∷ [])
       ∙ entries_behind-append before (p ∷ behind) (HeadItem schema ∷ [])
 
-  pub refs_split : AllByRecursion (λ q. IsMutation q.change) parts → drop (length before) (refs (items_to_stop schema parts))
+  pub refs_split : AllByRecursion (λ q. IsMutation q.change) parts → drop (length before) ((info_of 0 schema parts).parts)
       ≡ record { key = p.key; dir_off = dir + length (listing earlier); dir_len = directory_entry_size mine } ∷ refs_from (dir + length (listing earlier) + directory_entry_size mine) later
   refs_split are =
       ap (λ es. drop (length before) (refs_from dir es)) (entries_split are)

@@ -26,13 +26,13 @@ use Rattle.rc_tfile.specs.Checking.{IsContent}
 use Rattle.rc_tfile.specs.Items.{HeadItem}
 use Rattle.rc_tfile.specs.Before.{ItemsBefore, offset, followed_by}
 use Rattle.rc_tfile.specs.Blocks.{DirectoryEntry, entries}
-use Rattle.rc_tfile.specs.Info.{refs, refs_from, info_of, directory_entry_size}
+use Rattle.rc_tfile.specs.Info.{refs_from, info_of}
 use Rattle.rc_tfile.specs.TableText.{IsTable, items_to_stop, part_items}
 use Rattle.rc_tfile.specs.laws.Drafts.{body_is}
 use Rattle.rc_tfile.specs.laws.Follows.{by_recursion}
 use Rattle.rc_tables.specs.Located.{IsLocatedOf}
 use Rattle.rc_tables.specs.Tables.{IsHeld, changes_in, listing}
-use Rattle.rc_tables.proofs.Listing.{entry_of, entries_behind, entries_are, length-entries, length-refs}
+use Rattle.rc_tables.proofs.Listing.{directory_entry_size, entry_of, entries_behind, entries_are, length-entries, length-refs}
 
 less : (r : Ordering) → T (is_lt r) → r ≡ Less
 less Less h = refl
@@ -169,7 +169,7 @@ module _ (files : Option Files) (schema : SchemaValue) (table : ℕ × List Part
       ap (λ (t : TableInfo). t.parts) same
       ∙ ap (refs_from at_dir) (ap entries (body_is schema table.1) ∙ entries_are table.1 (by_recursion (λ p. IsMutation p.change) table.1 held.mutations) start)
 
-  parts_refs : info.parts ≡ refs (items_to_stop schema table.1)
+  parts_refs : info.parts ≡ (info_of 0 schema table.1).parts
   parts_refs = ap (λ (t : TableInfo). t.parts) same
 
   pub keys_ascend : IsTrue (is_sorted bytes_cmp (list_map (λ r. (r.key, r.dir_off)) info.parts))
@@ -204,7 +204,7 @@ module _ (files : Option Files) (schema : SchemaValue) (table : ℕ × List Part
             table = subst (λ (ps : List Partition). IsTable held.bytes schema ps) split.1 held.text;
             mutations = subst (λ (ps : List Partition). All (λ q. IsMutation q.change) ps) split.1 held.mutations;
             directory = e ∙ ap (λ ps. offset (items_to_stop schema ps)) split.1;
-            refs = listed ∙ ap (drop i) (parts_refs ∙ ap (λ ps. refs (items_to_stop schema ps)) split.1) ∙ ap (λ k. drop k (refs (items_to_stop schema (before ++ p ∷ later)))) (sym size);
+            refs = listed ∙ ap (drop i) (parts_refs ∙ ap (λ ps. (info_of 0 schema ps).parts) split.1) ∙ ap (λ k. drop k ((info_of 0 schema (before ++ p ∷ later)).parts)) (sym size);
           },
           refl,
         ),

@@ -9,7 +9,7 @@ use Rattle.rc_tfile.specs.declared.info.PartRef.{PartRef}
 use Rattle.rc_tfile.specs.Items.{item_code, EntryItem}
 use Rattle.rc_tfile.specs.Before.{offset}
 use Rattle.rc_tfile.specs.Checking.{IsContent}
-use Rattle.rc_tfile.specs.Info.{refs}
+use Rattle.rc_tfile.specs.Info.{info_of}
 use Rattle.rc_mutation.specs.declared.mutations.Mutation.{Mutation}
 use Rattle.rc_stream.specs.declared.streams.StreamErr.{StreamErr}
 use Rattle.rc_stream.specs.declared.streams.StreamErr.TheVariants.{Fault, Damaged, NoMemory}
@@ -32,7 +32,7 @@ pub record IsLocated (files : Option Files) (n dir : ℕ) (listed : List PartRef
   pub table : IsTable bytes schema (before ++ p ∷ behind)
   pub mutations : All (λ q. IsMutation q.change) (before ++ p ∷ behind)
   pub directory : dir ≡ offset (items_to_stop schema (before ++ p ∷ behind))
-  pub refs : listed ≡ drop (length before) (refs (items_to_stop schema (before ++ p ∷ behind)))
+  pub refs : listed ≡ drop (length before) ((info_of n schema (before ++ p ∷ behind)).parts)
 
 -- the same of a table of this schema
 abbrev pub IsLocatedOf : Option Files → SchemaValue → ℕ → ℕ → List PartRef → Partition → Type 0

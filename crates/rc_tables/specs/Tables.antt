@@ -2,7 +2,7 @@
 --     HoldsTables     the tables of a set are those of these partitions, and their files have these texts
 --     changes_at      what the tables say of a key, in the tables' order
 --     IsStreamAt      a stream is that of the join of all that the tables say of a key
-use Rattle.std.specs.Prelude.{◌≡◌, ◌⊎◌, ℕ, ◌≤◌, Bool, IsTrue, List, [], ◌∷◌, ◌++◌, length, drop, map as list_map, filter, All, Option, ⊤}
+use Rattle.std.specs.Prelude.{◌≡◌, ◌⊎◌, ℕ, ◌≤◌, IsTrue, List, [], ◌∷◌, ◌++◌, length, drop, map as list_map, filter, All, Option, ⊤}
 use Rattle.std.specs.Ordering.{eq_by_cmp}
 use Rattle.std.specs.List.{flat_map, list_any, AllByRecursion}
 use Rattle.std.specs.FinMap.{is_sorted}
@@ -46,13 +46,9 @@ changes_in key parts = list_map (λ p. p.change) (filter (λ p. eq_by_cmp bytes_
 abbrev pub changes_at : List ℕ → List (ℕ × List Partition) → List Mutation
 changes_at key tables = flat_map (λ table. changes_in key table.1) tables
 
--- whether a table lists a key
-abbrev pub lists_key : List ℕ → TableInfo → Bool
-lists_key key info = list_any (λ r. eq_by_cmp bytes_cmp key r.key) info.parts
-
 -- how many tables list a key
 abbrev pub listing : List ℕ → List TableInfo → ℕ
-listing key infos = length (filter (lists_key key) infos)
+listing key infos = length (filter (λ info. list_any (λ r. eq_by_cmp bytes_cmp key r.key) info.parts) infos)
 
 -- a mutation is the join of all that the tables say of a key
 abbrev pub IsJoinedAt : List ℕ → List (ℕ × List Partition) → Mutation → Type 0

@@ -11,11 +11,11 @@ use Rattle.rc_tfile.specs.declared.outline.Outline.{Outline}
 use Rattle.rc_tfile.specs.Items.{Item, HeadItem, PartItem, RowItem, ChangeItem, EndItem, StopItem, EntryItem, BlockItem, TailItem, item_code, IsItem}
 use Rattle.rc_tfile.specs.Before.{ItemsBefore, Start, Between, Inside, Behind, text, offset, item_place, followed_by}
 use Rattle.rc_tfile.specs.Blocks.{DirectoryEntry, entries, entry_items, ending, due}
-use Rattle.rc_tfile.specs.TableText.{ItemFits, AllFit, EndsWithTail, IsDue, MayStand}
+use Rattle.rc_tfile.specs.TableText.{ItemFits, AllFit, MayStand}
 use Rattle.rc_tfile.specs.calls.Outlined.{IsListed}
 use Rattle.rc_tfile.specs.Checking.{IsContent, IsHostError}
 use Rattle.rc_tfile.specs.calls.Windows.{ReadAhead, IsFull, IsAheadIn}
-use Rattle.rc_tfile.specs.Walking.{IsRefusalOf, IsCheckRefused, Awaits, Expects, Meets, Misses, EndsFront, Overruns, IsWhole}
+use Rattle.rc_tfile.specs.Walking.{EndsWithTail, IsRefusalOf, IsCheckRefused, Awaits, Expects, Meets, Misses, EndsFront, Overruns, IsWhole}
 use Rattle.std.proofs.lemmas.List.{length-append}
 use Rattle.rc_tfile.specs.laws.Follows.{followed_by-append, all_append}
 use Rattle.rc_tfile.proofs.Ahead.{ahead_decides, no_more}
@@ -97,7 +97,7 @@ late_due (EntryItem key off blocks) before more h e = ap (drop 1) e
 late_due (BlockItem b) before more h e = ap (drop 1) e
 late_due (TailItem off parts) before more h e = ap (drop 1) e
 
-late_stands : (schema : SchemaValue) (x : Item) (before : ItemsBefore) → IsLate x → IsDue before x → MayStand schema before x
+late_stands : (schema : SchemaValue) (x : Item) (before : ItemsBefore) → IsLate x → ((more : List Item) × (due before ≡ x ∷ more)) → MayStand schema before x
 late_stands schema (HeadItem other) before h d = absurd h
 late_stands schema (PartItem key pt statics) before h d = absurd h
 late_stands schema (RowItem key row) before h d = absurd h
@@ -118,7 +118,7 @@ inside_no_behind : Inside ≡ Behind → ⊥
 inside_no_behind e = absurd cc
 
 -- behind the stop, only what is due fits
-only_due : (schema : SchemaValue) (before : ItemsBefore) (x : Item) → item_place before ≡ Behind → ItemFits schema before x → IsDue before x
+only_due : (schema : SchemaValue) (before : ItemsBefore) (x : Item) → item_place before ≡ Behind → ItemFits schema before x → (more : List Item) × (due before ≡ x ∷ more)
 only_due schema before (HeadItem other) p f = absurd (start_no_behind (sym (ap item_place f.1.0) ∙ p))
 only_due schema before (PartItem key pt statics) p f = absurd (between_no_behind (sym f.1.0 ∙ p))
 only_due schema before (RowItem key row) p f = absurd (inside_no_behind (sym f.1.0 ∙ p))

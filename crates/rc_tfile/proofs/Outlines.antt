@@ -1,24 +1,24 @@
 -- What a further item makes of an outline.
-use Rattle.std.proofs.Common.{◌≡◌, ℕ, ◌+◌, true, false, List, [], ◌∷◌, ◌++◌, Option, Some, None, refl, sym, ap, ◌∙◌, arith, length-append}
+use Rattle.std.proofs.Common.{◌≡◌, ℕ, ◌+◌, true, false, List, [], ◌∷◌, ◌++◌, Option, Some, None, refl, sym, ap, ◌∙◌, arith, length, length-append}
 use Rattle.std.specs.Prelude.{IsSome}
 use Rattle.std.specs.Option.{unwrap_or}
 use Rattle.rc_cell.specs.declared.writes.Tomb.{Tomb}
 use Rattle.rc_position.specs.declared.positions.Pos.{Pos}
 use Rattle.rc_tfile.specs.declared.blocks.Block.{Block}
 use Rattle.rc_tfile.specs.declared.outline.Outline.{Outline}
-use Rattle.rc_tfile.specs.Items.{Item, HeadItem, PartItem, RowItem, ChangeItem, EndItem, StopItem, EntryItem, BlockItem, TailItem, item_code, bytes_of_item}
+use Rattle.rc_tfile.specs.Items.{Item, HeadItem, PartItem, RowItem, ChangeItem, EndItem, StopItem, EntryItem, BlockItem, TailItem, item_code}
 use Rattle.rc_tfile.specs.Before.{ItemsBefore, text, offset, last_key}
-use Rattle.rc_tfile.specs.Blocks.{DirectoryEntry, with_fragment, nearest_entry}
+use Rattle.rc_tfile.specs.Blocks.{DirectoryEntry, blocks, part_offset, with_fragment}
 use Rattle.rc_tfile.specs.calls.Outlined.{IsOutline, IsFragment}
 
-pub offset_more : (before : ItemsBefore) (x : Item) (off size next : ℕ) → off ≡ offset before → size ≡ bytes_of_item x → next ≡ off + size → next ≡ offset (x ∷ before)
+pub offset_more : (before : ItemsBefore) (x : Item) (off size next : ℕ) → off ≡ offset before → size ≡ length (item_code x) → next ≡ off + size → next ≡ offset (x ∷ before)
 offset_more before x off size next p q r = omega (arith, p, q, r, length-append (text before) (item_code x))
 
 block_is : (off size : ℕ) (tomb : Option Tomb) (x : Pos) (off' size' : ℕ) (tomb' : Option Tomb) (x' : Pos) → off ≡ off' → size ≡ size' → tomb ≡ tomb' → x ≡ x'
     → (let b : Block = record { off = off; len = size; tomb = tomb; first = x } in b) ≡ record { off = off'; len = size'; tomb = tomb'; first = x' }
 block_is off size tomb x off' size' tomb' x' p q r s = λ i. record { off = p i; len = q i; tomb = r i; first = s i }
 
-pub fragment_taken : (before : ItemsBefore) (item : Item) (o o' : Outline) (x : Pos) (tomb : Option Tomb) (size : ℕ) → IsOutline before o → IsFragment before item x tomb → size ≡ bytes_of_item item
+pub fragment_taken : (before : ItemsBefore) (item : Item) (o o' : Outline) (x : Pos) (tomb : Option Tomb) (size : ℕ) → IsOutline before o → IsFragment before item x tomb → size ≡ length (item_code item)
     → o'.off ≡ o.off + size → o'.key ≡ o.key → IsSome o'.key → o'.inside ≡ true → o'.part ≡ o.part → o'.last ≡ Some x → o'.tomb ≡ tomb
     → o'.blocks ≡ with_fragment o.blocks (record { off = o.off; len = size; tomb = o.tomb; first = x }) → o'.listed.items ≡ o.listed.items → IsOutline (item ∷ before) o'
 fragment_taken before (RowItem key row) o o' x tomb size is f s off k opened ins part last t bs l = record {
@@ -56,7 +56,7 @@ pub ended : (before : ItemsBefore) (o o' : Outline) (key : List ℕ) → IsOutli
     → o'.listed.items ≡ o.listed.items ++ record { key = key; off = o.part; blocks = o.blocks } ∷ [] → IsOutline (EndItem ∷ before) o'
 ended before o o' key is some off k ins part last t bs l =
     let at : last_key before ≡ Some key = sym is.key ∙ some in
-    let same : (let e : DirectoryEntry = record { key = key; off = o.part; blocks = o.blocks } in e) ≡ nearest_entry before = let named : key ≡ unwrap_or (last_key before) [] = sym (ap (λ (k : Option (List ℕ)). unwrap_or k []) at) in λ i. record { key = named i; off = is.part i; blocks = is.blocks i } in record {
+    let same : (let e : DirectoryEntry = record { key = key; off = o.part; blocks = o.blocks } in e) ≡ (let e : DirectoryEntry = record { key = unwrap_or (last_key before) []; off = part_offset before; blocks = blocks before } in e) = let named : key ≡ unwrap_or (last_key before) [] = sym (ap (λ (k : Option (List ℕ)). unwrap_or k []) at) in λ i. record { key = named i; off = is.part i; blocks = is.blocks i } in record {
       off = offset_more before EndItem o.off 1 o'.off is.off refl off;
       key = k ∙ is.key;
       «inside» = rw ins refl;

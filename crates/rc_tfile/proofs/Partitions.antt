@@ -21,10 +21,10 @@ use Rattle.rc_mutation.specs.laws.Rebuilt.{is-rebuilt}
 use Rattle.rc_tfile.specs.declared.info.PartRef.{PartRef}
 use Rattle.rc_tfile.specs.declared.outline.Outline.{Outline}
 use Rattle.rc_tfile.specs.Items.{HeadItem, PartItem, RowItem, ChangeItem, EndItem, StopItem, EntryItem, BlockItem, TailItem}
-use Rattle.rc_tfile.specs.Before.{ItemsBefore, ItemPlace, Start, Between, Inside, Behind, item_place, text, followed_by, last_pos, tomb_in_force}
-use Rattle.rc_tfile.specs.Blocks.{ending}
+use Rattle.rc_tfile.specs.Before.{ItemsBefore, offset, ItemPlace, Start, Between, Inside, Behind, item_place, text, followed_by, last_pos, tomb_in_force}
+use Rattle.rc_tfile.specs.Blocks.{entries, ending}
 use Rattle.rc_tfile.specs.TableText.{AllFit, frag_items, part_items, items_to_stop}
-use Rattle.rc_tfile.specs.Info.{refs, refs_from}
+use Rattle.rc_tfile.specs.Info.{info_of, refs_from}
 use Rattle.rc_tfile.specs.calls.Outlined.{IsListed}
 use Rattle.rc_tfile.specs.Checking.{IsContent}
 use Rattle.rc_tfile.specs.Walking.{ChecksTable, IsWhole}
@@ -147,7 +147,7 @@ pub table_found : (files : Option Files) (k n : ℕ) (schema : SchemaValue) (bef
     → parts ≡ refs_from o.off o.listed.items → IsContent files k bytes → ChecksTable bytes n schema (Ok (record { number = n; parts = parts }))
 table_found files k n schema before o parts bytes fit is whole same content =
     let found = parts_found schema before fit in
-    let listed : parts ≡ refs (items_to_stop schema found.0) = same ∙ (λ i. refs_from (is.off i) (is.listed i)) ∙ ap refs found.1 in (
+    let listed : parts ≡ (info_of n schema found.0).parts = same ∙ (λ i. refs_from (is.off i) (is.listed i)) ∙ ap (λ b. refs_from (offset b) (entries b)) found.1 in (
       found.0,
       found.2,
       record {

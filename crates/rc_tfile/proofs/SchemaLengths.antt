@@ -4,8 +4,9 @@ use Rattle.std.specs.List.{AllByRecursion, list_all, join_with_byte}
 use Rattle.std.proofs.lemmas.Bool.{leb-true}
 use Rattle.rc_schema.specs.declared.kinds.CkKind.{CkKind}
 use Rattle.rc_schema.specs.declared.kinds.CkKind.TheVariants.{Int, Text}
-use Rattle.rc_schema.specs.SchemaValue.{SchemaValue, is_name, are_few, is_schema}
-use Rattle.rc_schema.specs.SchemaText.{kind_text, kinds_text, names_text, schema_text}
+use Rattle.rc_schema.specs.SchemaValue.{SchemaValue, is_name, is_schema}
+use Rattle.rc_schema.specs.Tests.{are_few}
+use Rattle.rc_schema.specs.SchemaText.{kind_text, names_text, schema_text}
 
 -- words of at most 32 bytes
 abbrev AreShort : List (List ℕ) → Type 0
@@ -65,10 +66,10 @@ length-text s ck statics cols names =
       length-join 44 (map kind_text s.ck) (short_kinds s.ck),
       length-names s.statics names.0,
       length-names s.cols names.1,
-      length-append (codes "ck=") (kinds_text s.ck),
+      length-append (codes "ck=") (join_with_byte 44 (map kind_text s.ck)),
       length-append (codes "static=") (names_text s.statics),
       length-append (codes "cols=") (names_text s.cols),
-      length-append (codes "ck=" ++ kinds_text s.ck) (32 ∷ (codes "static=" ++ names_text s.statics) ++ 32 ∷ (codes "cols=" ++ names_text s.cols)),
+      length-append (codes "ck=" ++ join_with_byte 44 (map kind_text s.ck)) (32 ∷ (codes "static=" ++ names_text s.statics) ++ 32 ∷ (codes "cols=" ++ names_text s.cols)),
       length-append (codes "static=" ++ names_text s.statics) (32 ∷ (codes "cols=" ++ names_text s.cols)),
     )
 

@@ -7,14 +7,14 @@ use Rattle.rc_tfile.specs.declared.checking.CheckErr.{CheckErr}
 use Rattle.rc_tfile.specs.declared.checking.CheckErr.TheVariants.{Fault, Damaged, OtherSchema, NoMemory}
 use Rattle.rc_tfile.specs.declared.outline.Outline.{Outline}
 use Rattle.rc_tfile.specs.declared.stepping.Next.TheVariants as next
-use Rattle.rc_tfile.specs.Items.{Item, HeadItem, PartItem, RowItem, ChangeItem, EndItem, StopItem, EntryItem, BlockItem, TailItem, item_code, bytes_of_item, IsItem}
+use Rattle.rc_tfile.specs.Items.{Item, HeadItem, PartItem, RowItem, ChangeItem, EndItem, StopItem, EntryItem, BlockItem, TailItem, item_code, IsItem}
 use Rattle.rc_tfile.specs.Before.{ItemsBefore, Start, Behind, text, offset, item_place}
-use Rattle.rc_tfile.specs.TableText.{ItemFits, AllFit, EndsWithTail, IsOtherSchema, FirstDamage}
+use Rattle.rc_tfile.specs.TableText.{ItemFits, AllFit, IsOtherSchema, FirstDamage}
 use Rattle.rc_tfile.specs.calls.Outlined.{IsOutline, outline_place}
 use Rattle.rc_tfile.specs.Checking.{ChecksHead, IsNextItem, AsksFew}
 use Rattle.rc_tfile.specs.Reading.{Starts}
 use Rattle.rc_tfile.specs.calls.Windows.{ReadAhead, IsAhead, IsFull, IsAheadIn, past, reads_left}
-use Rattle.rc_tfile.specs.Walking.{IsRefusalOf, IsCheckRefused, StandsAhead, Stopped}
+use Rattle.rc_tfile.specs.Walking.{EndsWithTail, IsRefusalOf, IsCheckRefused, StandsAhead, Stopped}
 use Rattle.rc_tfile.proofs.Ahead.{ahead_decides}
 use Rattle.rc_tfile.proofs.Heads.{one_schema}
 use Rattle.rc_tfile.proofs.Unfit.{Nothing, between_no_start, inside_no_start}
@@ -72,7 +72,7 @@ head_refused bytes schema (Damaged off) h = record {
   fit = tt;
   here = h.0;
   unfit = λ x more f e. (let a = alone schema x f in h.1 schema (a.0 ++ more, a.1, e ∙ ap (λ t. t ++ more) a.2 ∙ append_assoc (item_code (HeadItem schema)) a.0 more));
-  not_whole = λ t. absurd t;
+  not_whole = λ dir parts earlier e. absurd (let q : [] ≡ TailItem dir parts ∷ earlier = e in cc);
   same_schema = λ o. h.1 o.other (o.more, o.fits, o.head);
 }
 head_refused bytes schema OtherSchema h = absurd h
@@ -80,7 +80,7 @@ head_refused bytes schema NoMemory h = tt
 
 -- behind the head
 pub head_stands : (files : Option Files) (schema found : SchemaValue) (o : Outline) (w v : ReadAhead) (size : ℕ) → IsAheadIn files [] w → Starts (λ z. item_code (HeadItem z)) (λ z. IsItem (HeadItem z)) w.ahead (Some (found, size)) → found ≡ schema → v ≡ past size w
-    → ((z : SchemaValue) → size ≡ bytes_of_item (HeadItem z) → IsOutline (HeadItem z ∷ []) o) → StandsAhead files schema o v
+    → ((z : SchemaValue) → size ≡ length (item_code (HeadItem z)) → IsOutline (HeadItem z ∷ []) o) → StandsAhead files schema o v
 head_stands files schema found o w v size told starts same p outline =
     let is : Starts (λ z. item_code (HeadItem z)) (λ z. IsItem (HeadItem z)) w.ahead (Some (schema, size)) = subst (λ z. Starts (λ y. item_code (HeadItem y)) (λ y. IsItem (HeadItem y)) w.ahead (Some (z, size))) same starts in record {
       before = HeadItem schema ∷ [];
@@ -106,7 +106,7 @@ first_damage content behind schema before off fit some e here whole none = recor
   fit = fit;
   here = here;
   unfit = none;
-  not_whole = whole;
+  not_whole = λ dir parts earlier e. whole (subst EndsWithTail (sym e) tt);
   same_schema = same_schema content behind schema before fit some e;
 }
 

@@ -1,9 +1,8 @@
 -- What stands before an item: the items from the nearest one back to the head, and what they determine.
-use Rattle.std.specs.Prelude.{◌≡◌, ℕ, List, [], ◌∷◌, ◌++◌, length, Option, Some, None, IfSome}
-use Rattle.std.specs.declared.cmp.Ordering.TheVariants.{Less}
+use Rattle.std.specs.Prelude.{ℕ, List, [], ◌∷◌, ◌++◌, length, Option, Some, None}
 use Rattle.rc_cell.specs.declared.writes.Tomb.{Tomb}
 use Rattle.rc_position.specs.declared.positions.Pos.{Pos}
-use Rattle.rc_position.specs.Position.{bytes_cmp, row_pos, IsBefore}
+use Rattle.rc_position.specs.Position.{row_pos}
 use Rattle.rc_tfile.specs.Items.{Item, HeadItem, PartItem, RowItem, ChangeItem, EndItem, StopItem, EntryItem, BlockItem, TailItem, item_code}
 
 -- items, the nearest first
@@ -58,11 +57,3 @@ abbrev pub tomb_in_force : ItemsBefore → Option Tomb
 tomb_in_force (ChangeItem x tomb ∷ before) = tomb
 tomb_in_force (RowItem key row ∷ before) = tomb_in_force before
 tomb_in_force before = None
-
--- a partition's key is greater than the one before, and a fragment's position than that of the fragment before
-abbrev pub IsNextKey : ItemsBefore → List ℕ → Type 0
-IsNextKey before key = IfSome (last_key before) (λ last. bytes_cmp last key ≡ Less)
-
--- the position comes after the last one
-abbrev pub IsNextPos : ItemsBefore → Pos → Type 0
-IsNextPos before x = IfSome (last_pos before) (λ last. IsBefore last x)

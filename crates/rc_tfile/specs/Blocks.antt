@@ -5,7 +5,7 @@ use Rattle.std.specs.Option.{unwrap_or}
 use Rattle.rc_position.specs.declared.positions.Pos.{Pos}
 use Rattle.rc_position.specs.Position.{row_pos}
 use Rattle.rc_tfile.specs.declared.blocks.Block.{Block}
-use Rattle.rc_tfile.specs.Items.{Item, HeadItem, PartItem, RowItem, ChangeItem, EndItem, StopItem, EntryItem, BlockItem, TailItem, bytes_of_item}
+use Rattle.rc_tfile.specs.Items.{Item, PartItem, RowItem, ChangeItem, EndItem, StopItem, EntryItem, BlockItem, TailItem, item_code}
 use Rattle.rc_tfile.specs.Before.{ItemsBefore, offset, last_key, tomb_in_force}
 
 -- the longest block of more than one fragment, in bytes
@@ -14,7 +14,7 @@ block_limit = 4096
 
 -- a block of one fragment, which stands behind these items at a position
 abbrev pub new_block : ItemsBefore → Item → Pos → Block
-new_block before x first = record { off = offset before; len = bytes_of_item x; tomb = tomb_in_force before; first = first }
+new_block before x first = record { off = offset before; len = length (item_code x); tomb = tomb_in_force before; first = first }
 
 -- a fragment joins the last block, unless there is none or it would make the block longer than the limit; then its own block begins
 abbrev pub with_fragment : List Block → Block → List Block
@@ -40,14 +40,10 @@ pub record DirectoryEntry : Type 0 where
   pub off : ℕ
   pub blocks : List Block
 
--- the entry of the nearest partition
-abbrev pub nearest_entry : ItemsBefore → DirectoryEntry
-nearest_entry before = record { key = unwrap_or (last_key before) []; off = part_offset before; blocks = blocks before }
-
 -- the entries of the partitions that have ended, in the order of the file
 abbrev pub entries : ItemsBefore → List DirectoryEntry
 entries [] = []
-entries (EndItem ∷ before) = entries before ++ nearest_entry before ∷ []
+entries (EndItem ∷ before) = entries before ++ record { key = unwrap_or (last_key before) []; off = part_offset before; blocks = blocks before } ∷ []
 entries (x ∷ before) = entries before
 
 -- a partition in the directory, followed by its blocks

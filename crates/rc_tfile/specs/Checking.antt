@@ -8,7 +8,7 @@ use Rattle.rc_tfile.specs.declared.checking.CheckErr.TheVariants.{Fault, Damaged
 use Rattle.rc_tfile.specs.declared.outline.Outline.{Outline}
 use Rattle.rc_tfile.specs.declared.stepping.Next.{Next}
 use Rattle.rc_tfile.specs.declared.stepping.Next.TheVariants as next
-use Rattle.rc_tfile.specs.Items.{Item, HeadItem, StopItem, item_code, bytes_of_item, IsItem}
+use Rattle.rc_tfile.specs.Items.{Item, HeadItem, StopItem, item_code, IsItem}
 use Rattle.rc_tfile.specs.Before.{ItemsBefore}
 use Rattle.rc_tfile.specs.TableText.{ItemFits}
 use Rattle.rc_tfile.specs.calls.Outlined.{IsOutline, IsListed}
@@ -32,7 +32,7 @@ ChecksHead bytes (Err NoMemory) = ⊤
 
 -- the same of a head and its length
 abbrev pub ChecksSized : List ℕ → Result (SchemaValue × ℕ) CheckErr → Type 0
-ChecksSized bytes (Ok found) = HasHead bytes found.0 × (found.1 ≡ bytes_of_item (HeadItem found.0))
+ChecksSized bytes (Ok found) = HasHead bytes found.0 × (found.1 ≡ length (item_code (HeadItem found.0)))
 ChecksSized bytes (Err e) = ChecksHead bytes (Err e)
 
 -- the store failed, or memory ran out
@@ -55,6 +55,6 @@ AsksFew before now bytes = now ≤ before + (length bytes / 2048 + 2)
 
 -- what the next item was, of those that stand behind others
 abbrev pub IsNextItem : SchemaValue → ItemsBefore → List ℕ → Outline → Next → Type 0
-IsNextItem schema before bytes o (next.Fits size) = (x : Item) × (more : List ℕ) × ItemFits schema before x × (bytes ≡ item_code x ++ more) × (size ≡ bytes_of_item x) × IsOutline (x ∷ before) o
+IsNextItem schema before bytes o (next.Fits size) = (x : Item) × (more : List ℕ) × ItemFits schema before x × (bytes ≡ item_code x ++ more) × (size ≡ length (item_code x)) × IsOutline (x ∷ before) o
 IsNextItem schema before bytes o next.Stops = (more : List ℕ) × ItemFits schema before StopItem × (bytes ≡ item_code StopItem ++ more) × IsListed (StopItem ∷ before) o
 IsNextItem schema before bytes o next.Unfit = (x : Item) (more : List ℕ) → ItemFits schema before x → bytes ≡ item_code x ++ more → ⊥

@@ -6,23 +6,15 @@ use Rattle.rc_mutation.specs.declared.mutations.Partition.{Partition}
 use Rattle.rc_tfile.specs.declared.info.PartRef.{PartRef}
 use Rattle.rc_tfile.specs.declared.info.TableInfo.{TableInfo}
 use Rattle.rc_tfile.specs.Items.{item_code}
-use Rattle.rc_tfile.specs.Before.{ItemsBefore, offset}
+use Rattle.rc_tfile.specs.Before.{offset}
 use Rattle.rc_tfile.specs.Blocks.{DirectoryEntry, entry_items, entries}
 use Rattle.rc_tfile.specs.TableText.{items_to_stop}
 
--- how many bytes of the directory an entry takes
-abbrev pub directory_entry_size : DirectoryEntry → ℕ
-directory_entry_size e = length (flat_map item_code (entry_items e))
-
--- entries one behind another, the first at an offset
+-- where the directory lists partitions, the first at an offset: one behind another, each with as many bytes as its items take
 abbrev pub refs_from : ℕ → List DirectoryEntry → List PartRef
 refs_from off [] = []
-refs_from off (e ∷ es) = record { key = e.key; dir_off = off; dir_len = directory_entry_size e } ∷ refs_from (off + directory_entry_size e) es
+refs_from off (e ∷ es) = let size = length (flat_map item_code (entry_items e)) in record { key = e.key; dir_off = off; dir_len = size } ∷ refs_from (off + size) es
 
--- the partitions' entries, the first of which stands behind the stop
-abbrev pub refs : ItemsBefore → List PartRef
-refs before = refs_from (offset before) (entries before)
-
--- what is known of the table of these partitions that has this number
+-- what is known of the table of these partitions that has this number: the directory begins behind the stop
 abbrev pub info_of : ℕ → SchemaValue → List Partition → TableInfo
-info_of n schema parts = record { number = n; parts = refs (items_to_stop schema parts) }
+info_of n schema parts = let before = items_to_stop schema parts in record { number = n; parts = refs_from (offset before) (entries before) }

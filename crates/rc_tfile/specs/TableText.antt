@@ -4,34 +4,32 @@
 --     FirstDamage        the first item that does not fit or is not whole begins at an offset
 --     IsOtherSchema      a well-formed head of another schema
 --     PartsFit           the partitions that a table can hold
-use Rattle.std.specs.Prelude.{◌≡◌, ◌≢◌, ℕ, List, [], ◌∷◌, ◌++◌, map as list_map, All, IsTrue, None, ⊤}
+use Rattle.std.specs.Prelude.{◌≡◌, ◌≢◌, ℕ, List, [], ◌∷◌, ◌++◌, map as list_map, All, IsTrue, None, IfSome, ⊤}
 use Rattle.std.specs.List.{flat_map}
 use Rattle.std.specs.FinMap.{is_sorted}
+use Rattle.std.specs.declared.cmp.Ordering.TheVariants.{Less}
 use Rattle.rc_cell.specs.Winner.{empty_row}
 use Rattle.rc_position.specs.Position.{bytes_cmp, row_pos}
 use Rattle.rc_schema.specs.SchemaValue.{SchemaValue}
 use Rattle.rc_mutation.specs.declared.fragments.Frag.{Frag}
 use Rattle.rc_mutation.specs.declared.fragments.Frag.TheVariants as frag
 use Rattle.rc_mutation.specs.declared.mutations.Partition.{Partition}
+use Rattle.rc_mutation.specs.Canonical.{ComesNext}
 use Rattle.rc_mutation.specs.Fragments.{fragments}
 use Rattle.rc_writes.specs.Allowed.{IsStaticOf, IsRowOf, IsRangeBound, ChangeFits}
-use Rattle.rc_tfile.specs.Items.{Item, HeadItem, PartItem, RowItem, ChangeItem, EndItem, StopItem, EntryItem, BlockItem, TailItem, item_code, IsItem}
-use Rattle.rc_tfile.specs.Before.{ItemsBefore, text, offset, followed_by, Between, Inside, item_place, tomb_in_force, IsNextKey, IsNextPos}
+use Rattle.rc_tfile.specs.Items.{Item, HeadItem, PartItem, RowItem, ChangeItem, EndItem, StopItem, TailItem, item_code, IsItem}
+use Rattle.rc_tfile.specs.Before.{ItemsBefore, text, offset, followed_by, Between, Inside, item_place, last_key, last_pos, tomb_in_force}
 use Rattle.rc_tfile.specs.Blocks.{ending, due}
 
--- the item is the next of those that must come
-abbrev pub IsDue : ItemsBefore → Item → Type 0
-IsDue before x = (more : List Item) × (due before ≡ x ∷ more)
-
--- an item may stand behind others
+-- an item may stand behind others: keys and positions strictly ascend, and behind the stop it is the next of those that must come
 abbrev pub MayStand : SchemaValue → ItemsBefore → Item → Type 0
 MayStand schema before (HeadItem other) = (before ≡ []) × (other ≡ schema)
-MayStand schema before (PartItem key pt statics) = (item_place before ≡ Between) × IsNextKey before key × IsStaticOf schema statics
-MayStand schema before (RowItem key row) = (item_place before ≡ Inside) × IsNextPos before (row_pos key) × IsRowOf schema key row × (row ≢ empty_row)
-MayStand schema before (ChangeItem x tomb) = (item_place before ≡ Inside) × IsNextPos before x × IsRangeBound schema x × (tomb ≢ tomb_in_force before)
+MayStand schema before (PartItem key pt statics) = (item_place before ≡ Between) × IfSome (last_key before) (λ last. bytes_cmp last key ≡ Less) × IsStaticOf schema statics
+MayStand schema before (RowItem key row) = (item_place before ≡ Inside) × ComesNext (last_pos before) (row_pos key) × IsRowOf schema key row × (row ≢ empty_row)
+MayStand schema before (ChangeItem x tomb) = (item_place before ≡ Inside) × ComesNext (last_pos before) x × IsRangeBound schema x × (tomb ≢ tomb_in_force before)
 MayStand schema before EndItem = (item_place before ≡ Inside) × (tomb_in_force before ≡ None)
 MayStand schema before StopItem = item_place before ≡ Between
-MayStand schema before x = IsDue before x
+MayStand schema before x = (more : List Item) × (due before ≡ x ∷ more)
 
 -- an item fits where it stands
 abbrev pub ItemFits : SchemaValue → ItemsBefore → Item → Type 0
@@ -74,11 +72,6 @@ pub record IsOtherSchema (bytes : List ℕ) (schema : SchemaValue) : Type 0 wher
   pub fits : IsItem (HeadItem other)
   pub differs : other ≢ schema
 
--- the items end with the tail
-abbrev pub EndsWithTail : ItemsBefore → Type 0
-EndsWithTail (TailItem off parts ∷ before) = ⊤
-EndsWithTail before = ⊥
-
 -- the bytes begin with items that fit, and at the offset behind them no item fits that is there whole; behind the tail bytes follow
 pub record FirstDamage (bytes : List ℕ) (schema : SchemaValue) (off : ℕ) : Type 0 where
   pub before : ItemsBefore
@@ -87,7 +80,7 @@ pub record FirstDamage (bytes : List ℕ) (schema : SchemaValue) (off : ℕ) : T
   pub fit : AllFit schema before
   pub here : off ≡ offset before
   pub unfit : (x : Item) (more : List ℕ) → ItemFits schema before x → behind ≡ item_code x ++ more → ⊥
-  pub not_whole : EndsWithTail before → behind ≢ []
+  pub not_whole : (dir parts : ℕ) (earlier : ItemsBefore) → before ≡ TailItem dir parts ∷ earlier → behind ≢ []
   pub same_schema : IsOtherSchema bytes schema → ⊥
 
 -- partitions that a table of the schema can hold: keys strictly ascend, and what each says fits the schema

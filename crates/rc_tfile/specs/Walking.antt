@@ -13,14 +13,19 @@ use Rattle.rc_tfile.specs.declared.info.TableInfo.{TableInfo}
 use Rattle.rc_tfile.specs.declared.checking.CheckErr.{CheckErr}
 use Rattle.rc_tfile.specs.declared.checking.CheckErr.TheVariants.{Fault, Damaged, OtherSchema, NoMemory}
 use Rattle.rc_tfile.specs.declared.outline.Outline.{Outline}
-use Rattle.rc_tfile.specs.Items.{Item, StopItem}
+use Rattle.rc_tfile.specs.Items.{Item, StopItem, TailItem}
 use Rattle.rc_tfile.specs.Before.{ItemsBefore, Behind, text, item_place, followed_by}
 use Rattle.rc_tfile.specs.Blocks.{due, ending}
-use Rattle.rc_tfile.specs.TableText.{AllFit, EndsWithTail, IsTable, IsOtherSchema, FirstDamage}
+use Rattle.rc_tfile.specs.TableText.{AllFit, IsTable, IsOtherSchema, FirstDamage}
 use Rattle.rc_tfile.specs.Info.{info_of}
 use Rattle.rc_tfile.specs.calls.Outlined.{IsOutline, IsListed}
 use Rattle.rc_tfile.specs.Checking.{IsContent}
 use Rattle.rc_tfile.specs.calls.Windows.{ReadAhead, IsAheadIn}
+
+-- the items end with the tail
+abbrev pub EndsWithTail : ItemsBefore → Type 0
+EndsWithTail (TailItem off parts ∷ before) = ⊤
+EndsWithTail before = ⊥
 
 -- what a refusal says of these bytes
 abbrev pub IsRefusalOf : List ℕ → SchemaValue → CheckErr → Type 0

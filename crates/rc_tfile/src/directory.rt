@@ -5,7 +5,7 @@ ghost use Rattle.std.specs.List.{flat_map, AllByRecursion};
 ghost use Rattle.rc_rowcode.specs.Spelling.{KeyFits};
 ghost use Rattle.rc_tfile.specs.Items.{item_code, EntryItem, BlockItem, TailItem, IsItem};
 ghost use Rattle.rc_tfile.specs.Blocks.{entry_items};
-ghost use Rattle.rc_tfile.specs.Info.{refs_from, directory_entry_size};
+ghost use Rattle.rc_tfile.specs.Info.{refs_from};
 ghost use Rattle.rc_tfile.specs.calls.Windows.{largest};
 
 use crate::blocks::{Block, Listed};
@@ -103,7 +103,7 @@ pub(crate) fn refs_of(alloc: Global, off: u64, entries: &[Listed]) -> Result<Par
 
 // How many bytes of the directory a partition and its blocks take.
 fn entry_size(alloc: Global, listed: &Listed) -> Result<u32, AllocError>
-    ensures size { IfOk result (λ size. size ≡ directory_entry_size listed.now) }
+    ensures size { IfOk result (λ size. size ≡ length (flat_map item_code (entry_items listed.now))) }
     ensures items { IfOk result (λ _. AllByRecursion IsItem (entry_items listed.now)) }
 {
     let mut out = Vec::new(alloc);

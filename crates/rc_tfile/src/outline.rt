@@ -7,7 +7,7 @@ ghost use Rattle.rc_position.specs.declared.comps.Comp.{Comp};
 ghost use Rattle.rc_position.specs.Position.{row_pos};
 ghost use Rattle.rc_schema.specs.SchemaValue.{SchemaValue};
 ghost use Rattle.rc_rowcode.specs.Spelling.{KeyFits};
-ghost use Rattle.rc_tfile.specs.Items.{Item, HeadItem, PartItem, RowItem, ChangeItem, EndItem, StopItem, bytes_of_item};
+ghost use Rattle.rc_tfile.specs.Items.{Item, HeadItem, PartItem, RowItem, ChangeItem, EndItem, StopItem, item_code};
 ghost use Rattle.rc_tfile.specs.Before.{ItemsBefore};
 ghost use Rattle.rc_tfile.specs.Blocks.{new_block};
 ghost use Rattle.rc_tfile.specs.calls.Outlined.{IsOutline, IsListed, IsFragment};
@@ -62,7 +62,7 @@ pub(crate) fn short(size: usize) -> Result<u32, AllocError>
 impl Outline {
     /// Behind a head of so many bytes.
     pub(crate) fn new(alloc: Global, size: usize) -> Self
-        ensures { (schema : SchemaValue) → size ≡ bytes_of_item (HeadItem schema) → IsOutline (HeadItem schema ∷ []) result }
+        ensures { (schema : SchemaValue) → size ≡ length (item_code (HeadItem schema)) → IsOutline (HeadItem schema ∷ []) result }
     {
         Outline {
             off: size as u64,
@@ -91,7 +91,7 @@ impl Outline {
         key: &PartKey,
         size: usize,
     ) -> Result<(), AllocError>
-        ensures outline { (before : ItemsBefore) (pt : Option Tomb) (statics : Row) → IsOutline before self.old → size ≡ bytes_of_item (PartItem key.now pt statics) →
+        ensures outline { (before : ItemsBefore) (pt : Option Tomb) (statics : Row) → IsOutline before self.old → size ≡ length (item_code (PartItem key.now pt statics)) →
             OnOk result (IsOutline (PartItem key.now pt statics ∷ before) self.new) }
         ensures opened { OnOk result (IsSome self.new.key) }
     {
@@ -117,7 +117,7 @@ impl Outline {
         requires key { KeyFits x.now.prefix }
         requires opened { IsSome self.old.key }
         ensures opened { IsSome self.new.key }
-        ensures outline { (before : ItemsBefore) (item : Item) → IsOutline before self.old → IsFragment before item x.now tomb → size ≡ bytes_of_item item →
+        ensures outline { (before : ItemsBefore) (item : Item) → IsOutline before self.old → IsFragment before item x.now tomb → size ≡ length (item_code item) →
             OnOk result (IsOutline (item ∷ before) self.new) }
     {
         let off = further(self.off, size)?;

@@ -11,9 +11,9 @@ use Rattle.rc_tfile.specs.declared.info.TableInfo.{TableInfo}
 use Rattle.rc_tfile.specs.Items.{Item, HeadItem, StopItem, EntryItem, BlockItem, TailItem, item_code, IsItem}
 use Rattle.rc_tfile.specs.Before.{ItemsBefore, text, offset, followed_by}
 use Rattle.rc_tfile.specs.Blocks.{DirectoryEntry, entries, entry_items, ending}
-use Rattle.rc_tfile.specs.TableText.{ItemFits, AllFit, EndsWithTail, part_items, items_to_stop, whole_table, IsTable, IsOtherSchema, FirstDamage}
+use Rattle.rc_tfile.specs.TableText.{ItemFits, AllFit, part_items, items_to_stop, whole_table, IsTable, IsOtherSchema, FirstDamage}
 use Rattle.rc_tfile.specs.Checking.{IsHostError}
-use Rattle.rc_tfile.specs.Info.{refs, info_of}
+use Rattle.rc_tfile.specs.Info.{refs_from, info_of}
 use Rattle.rc_tfile.specs.Walking.{ChecksTable}
 use Rattle.rc_tfile.specs.laws.Follows.{followed_by-append, text-followed_by}
 use Rattle.rc_verdict.proofs.Items.{some_bytes, one_item, one_head}
@@ -72,11 +72,6 @@ one_before schema b c m n f g e none past =
 none_at_the_end : (schema : SchemaValue) (before : ItemsBefore) → Nothing schema before []
 none_at_the_end schema before x more f e = absurd (omega (arith, ap length e, length-append (item_code x) more, some_bytes x))
 
-ends : (schema : SchemaValue) (parts : List Partition) → EndsWithTail (whole_table schema parts)
-ends schema parts =
-    let b = items_to_stop schema parts in
-    subst EndsWithTail (sym (followed_by-append b (flat_map entry_items (entries b)) (TailItem (offset b) (length (entries b)) ∷ []))) tt
-
 -- items without what stands behind the nearest stop
 abbrev up_to_stop : ItemsBefore → ItemsBefore
 up_to_stop [] = []
@@ -112,7 +107,9 @@ module _ (bytes : List ℕ) (schema : SchemaValue) where
       let t = whole_table schema parts in
       let same : t ≡ damage.before = one_before schema t damage.before [] damage.behind is.fit damage.fit (sym (whole parts is) ∙ damage.spelled) (none_at_the_end schema t) damage.unfit in
       let rest : [] ≡ damage.behind = same_rest (text t) [] damage.behind (sym (whole parts is) ∙ damage.spelled ∙ ap (λ b. text b ++ damage.behind) (sym same)) in
-      damage.not_whole (subst EndsWithTail same (ends schema parts)) (sym rest)
+      let b = items_to_stop schema parts in
+      let tail : t ≡ TailItem (offset b) (length (entries b)) ∷ followed_by b (flat_map entry_items (entries b)) = followed_by-append b (flat_map entry_items (entries b)) (TailItem (offset b) (length (entries b)) ∷ []) in
+      damage.not_whole (offset b) (length (entries b)) (followed_by b (flat_map entry_items (entries b))) (sym same ∙ tail) (sym rest)
 
   pub one_damage : (one two : ℕ) → FirstDamage bytes schema one → FirstDamage bytes schema two → one ≡ two
   one_damage one two d c = d.here ∙ ap offset (one_before schema d.before c.before d.behind c.behind d.fit c.fit (sym d.spelled ∙ c.spelled) d.unfit c.unfit) ∙ sym c.here
@@ -133,7 +130,7 @@ module _ (bytes : List ℕ) (schema : SchemaValue) where
   one_info : (n : ℕ) (one two : List Partition) → IsTable bytes schema one → IsTable bytes schema two → info_of n schema one ≡ info_of n schema two
   one_info n one two h k =
       let same : items_to_stop schema one ≡ items_to_stop schema two = sym (body_of schema one) ∙ ap up_to_stop (one_table one two h k) ∙ body_of schema two in
-      λ i. record { number = n; parts = refs (same i) }
+      λ i. record { number = n; parts = refs_from (offset (same i)) (entries (same i)) }
 
 -- what is known of a text is one answer
 pub one_answer : (bytes : List ℕ) (n : ℕ) (schema : SchemaValue) (one two : Result TableInfo CheckErr) → ChecksTable bytes n schema one → ChecksTable bytes n schema two → IfErr one (λ e. IsHostError e → ⊥) → IfErr two (λ e. IsHostError e → ⊥) → one ≡ two

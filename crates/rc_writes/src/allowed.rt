@@ -10,6 +10,7 @@ use rc_ranges::Piece;
 use rc_schema::Schema;
 
 /// Whether a row is a static row of the schema: no marker, no tombstone, static columns, values of at most 256 bytes.
+#[tactic(auto, using(rc_schema::specs::laws::Fitting::cells_tested))]
 pub fn is_static_of(schema: &Schema, row: &Row) -> bool
     ensures { IsTrue result ↔ IsStaticOf schema.now row.now }
 {
@@ -18,6 +19,7 @@ pub fn is_static_of(schema: &Schema, row: &Row) -> bool
 
 /// Whether a row and its key are of the schema: a full key of its kinds with texts of at most 64 bytes, regular columns,
 /// values of at most 256 bytes.
+#[tactic(auto, using(rc_schema::specs::laws::Fitting::key_tested, rc_schema::specs::laws::Fitting::cells_tested))]
 pub fn is_row_of(schema: &Schema, key: &Key, row: &Row) -> bool
     ensures { IsTrue result ↔ IsRowOf schema.now key.now row.now }
 {
@@ -25,6 +27,7 @@ pub fn is_row_of(schema: &Schema, key: &Key, row: &Row) -> bool
 }
 
 /// Whether a range may begin or end at a position under the schema: before or after the keys with a prefix of its kinds.
+#[tactic(auto, using(rc_schema::specs::laws::Fitting::key_tested))]
 pub fn is_bound_of(schema: &Schema, x: &Pos) -> bool
     ensures { IsTrue result ↔ IsRangeBound schema.now x.now }
 {

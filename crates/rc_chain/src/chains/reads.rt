@@ -1,19 +1,23 @@
 //! What a snapshot sees of its chain.
-ghost use Rattle.std.specs.Prelude.{◌≡◌, ◌↔◌, ℕ, Some, IfOk, IsTrue};
+ghost use Rattle.std.specs.Prelude.{◌≡◌, ◌≢◌, ◌↔◌, ℕ, Some, IfOk, IsTrue};
+ghost use Rattle.std.specs.declared.cmp.Ordering.TheVariants.{Greater};
 ghost use Rattle.rc_cell.specs.Orders.{tomb_cmp};
 ghost use Rattle.rc_cell.specs.Winner.{greatest};
 ghost use Rattle.rc_core.specs.Chain.{IsKnown, content, flagged, states_at};
 ghost use Rattle.rc_core.specs.Chains.{upto};
 ghost use Rattle.rc_core.specs.Continuity.{static_states};
 ghost use Rattle.rc_core.specs.Continuity.{version_tombs};
+ghost use Rattle.rc_core.specs.Parts.{IsFirstPart};
 ghost use Rattle.rc_core.specs.Steps.{pin_at};
 ghost use Rattle.rc_core.specs.Version.{On};
+ghost use Rattle.rc_position.specs.Position.{pos_cmp};
 ghost use Rattle.rc_memory.specs.Memory.{KeptChain, HasPin, chain_at};
 ghost use Rattle.rc_reading.specs.Reading.{IsRowGiven};
 
 use super::{Chains, Snap};
+use rc_core::Part;
 use rc_position::Pos;
-use rc_reading::{ReadAt, ReadHead, at, head};
+use rc_reading::{ReadAt, ReadHead, at, first_part, head};
 use std::alloc::AllocError;
 
 impl<const S: usize> Chains<S> {
@@ -39,5 +43,24 @@ impl<const S: usize> Chains<S> {
         let number = self.pinned_at(s);
         let used = self.registry.get(s.chain);
         head(self.alloc, &self.region, used.root, number, used.kind)
+    }
+
+    /// The first part of what a snapshot sees from a position on, up to a bound that is not before it: the row there, or how far it is known that there is none, or how far the place is not known. It costs a few searches in each version. The only error is want of memory.
+    pub fn first_part(&self, s: &Snap, x: &Pos, bound: &Pos) -> Result<Part, AllocError>
+        requires pin { HasPin self.now s.now.chain s.now.pin }
+        requires ahead { pos_cmp x.now bound.now ≢ Greater }
+        ensures { (k : KeptChain) (j : ℕ) → chain_at self.now s.now.chain ≡ Some k → pin_at k.chain.pins s.now.pin ≡ Some j → IfOk result (IsFirstPart k.chain.kind (upto k.chain.versions j) x.now bound.now) }
+    {
+        let number = self.pinned_at(s);
+        let used = self.registry.get(s.chain);
+        first_part(
+            self.alloc,
+            &self.region,
+            used.root,
+            number,
+            used.kind,
+            x,
+            bound,
+        )
     }
 }

@@ -1,5 +1,5 @@
 -- What a shape means under a schema: its command, or the first cause, over the whole line, why it is refused.
-use Rattle.std.specs.Prelude.{ℕ, Bool, true, false, not, ◌&&◌, ◌+◌, List, [], ◌∷◌, ◌++◌, Option, Some, None, Result, Ok, Err, if◌then◌else◌, option_and_then}
+use Rattle.std.specs.Prelude.{ℕ, Bool, true, false, not, ◌&&◌, ◌+◌, ◌==◌, List, [], ◌∷◌, ◌++◌, length, Option, Some, None, Result, Ok, Err, if◌then◌else◌, option_and_then}
 use Rattle.std.specs.List.{list_all}
 use Rattle.std.specs.Option.{option_map, option_to_list, is_some, is_none, unwrap_or}
 use Rattle.rc_cell.specs.declared.rows.Row.{Row}
@@ -24,7 +24,7 @@ use Rattle.rc_lines.specs.declared.shapes.Change.{Change}
 use Rattle.rc_lines.specs.declared.shapes.Change.TheVariants.{OfRow, OfStatic, OfRange, OfPartition}
 use Rattle.rc_lines.specs.declared.shapes.Shape.{Shape}
 use Rattle.rc_lines.specs.declared.shapes.Shape.TheVariants.{Plain, Open, Written}
-use Rattle.rc_lines.specs.UnderSchema.{prefix_of, key_under, slice_between, is_partition_key}
+use Rattle.rc_lines.specs.UnderSchema.{prefix_of, slice_between, is_partition_key}
 
 -- the positions between two bounds
 unfoldable pub slice_under : Bound → Bound → List CkKind → Option Slice
@@ -49,6 +49,10 @@ by_column names cells = columns_from 0 names cells
 -- the names of the static columns, or of the regular ones
 abbrev pub columns_said : Bool → SchemaValue → List (List ℕ)
 columns_said is_static schema = if is_static then schema.statics else schema.cols
+
+-- the components of a key: as many as there are kinds
+abbrev pub key_under : List (List ℕ) → List CkKind → Option (List Comp)
+key_under pieces kinds = if length pieces == length kinds then prefix_of pieces kinds else None
 
 -- the components of a key that is not wrong
 abbrev pub key_said : List (List ℕ) → SchemaValue → List Comp

@@ -1,16 +1,17 @@
 -- The parts of a line as the reading by shapes has them: stamps, cells and bounds.
-use Rattle.std.specs.Prelude.{ℕ, ℤ, Bool, true, false, ◌+◌, ◌==◌, List, [], ◌∷◌, take, drop, codes, Option, Some, None, if◌then◌else◌, option_and_then}
+use Rattle.std.specs.Prelude.{ℕ, ℤ, Bool, true, false, ◌+◌, ◌==◌, List, [], ◌∷◌, take, drop, map as list_map, codes, Option, Some, None, if◌then◌else◌, option_and_then}
 use Rattle.std.specs.List.{position}
 use Rattle.std.specs.Option.{option_map}
 use Rattle.rc_cell.specs.declared.writes.Cell.{Cell}
 use Rattle.rc_cell.specs.declared.writes.Cell.TheVariants.{Live, Dead}
 use Rattle.rc_cell.specs.declared.writes.Tomb.{Tomb}
+use Rattle.rc_schema.specs.SchemaValue.{are_distinct_by}
 use Rattle.rc_spelling.specs.Words.{is_word}
 use Rattle.rc_spelling.specs.Spelling.{bytes_spelled}
 use Rattle.rc_lines.specs.declared.shapes.Bound.{Bound}
 use Rattle.rc_lines.specs.declared.shapes.Stamp.{Stamp}
 use Rattle.rc_lines.specs.declared.shapes.Stamp.TheVariants.{Alive, Gone}
-use Rattle.rc_lines.specs.Parts.{without_front, without_back, stamp_of, time_of, pieces_of, named, are_distinct}
+use Rattle.rc_lines.specs.Parts.{without_front, without_back, stamp_of, time_of, pieces_of, named}
 
 -- a tombstone, `ts=TS dt=DT`
 unfoldable pub tomb_of : List ℕ → List ℕ → Option Tomb
@@ -37,6 +38,10 @@ cell_said (Gone tomb) word = named word (Some (Dead tomb.ts tomb.dt))
 abbrev pub each_cell_of : Stamp → List (List ℕ) → Option (List (List ℕ × Cell))
 each_cell_of stamp [] = Some []
 each_cell_of stamp (word ∷ words) = option_and_then (λ cell. option_map (λ cells. cell ∷ cells) (each_cell_of stamp words)) (cell_said stamp word)
+
+-- whether no name stands there twice
+abbrev pub are_distinct : List (List ℕ × Cell) → Bool
+are_distinct cells = are_distinct_by is_word (list_map (λ e. e.0) cells)
 
 -- the columns that words speak of, none of them twice
 unfoldable pub named_cells : Stamp → List (List ℕ) → Option (List (List ℕ × Cell))

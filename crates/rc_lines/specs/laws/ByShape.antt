@@ -24,9 +24,9 @@ use Rattle.rc_lines.specs.declared.shapes.Shape.{Shape}
 use Rattle.rc_lines.specs.declared.shapes.Shape.TheVariants.{Plain, Open, Written}
 use Rattle.rc_lines.specs.Forms.{forms}
 use Rattle.rc_lines.specs.Grammar.{longest_line, is_comment, schema_said, parse}
-use Rattle.rc_lines.specs.UnderSchema.{need, put_parts, key_under, slice_of, columns_of, is_partition_key, row_written, statics_written, range_written, partition_written, slice_opened}
+use Rattle.rc_lines.specs.UnderSchema.{need, put_parts, slice_of, columns_of, is_partition_key, row_written, statics_written, range_written, partition_written, slice_opened}
 use Rattle.rc_lines.specs.calls.ByShape.{shape_meaning, line_meaning, parse_by_shape}
-use Rattle.rc_lines.specs.calls.ShapeMeaning.{are_columns, are_short, have_short_values, is_short_slice, cell_named, columns_from, by_column, slice_under, rows_said, refusal_of, unless, meaning}
+use Rattle.rc_lines.specs.calls.ShapeMeaning.{key_under, are_columns, are_short, have_short_values, is_short_slice, cell_named, columns_from, by_column, slice_under, rows_said, refusal_of, unless, meaning}
 use Rattle.rc_lines.specs.calls.Shapes.{shape_of}
 use Rattle.rc_lines.specs.laws.Named.{columns_stay, row_stays}
 use Rattle.rc_lines.specs.laws.Said.{If, Said, SaidShape, shape_said}

@@ -15,9 +15,9 @@ use Rattle.rc_schema.specs.Checks.{column_of}
 use Rattle.rc_schema.specs.SchemaValue.{is_name, are_distinct_by}
 use Rattle.rc_spelling.specs.Words.{is_word}
 use Rattle.rc_lines.specs.Lines.{cells_said}
-use Rattle.rc_lines.specs.Parts.{are_distinct}
 use Rattle.rc_lines.specs.calls.ShapeMeaning.{cell_named, columns_from, by_column, are_columns}
 use Rattle.rc_lines.specs.laws.Halves.{both}
+use Rattle.rc_lines.specs.calls.ShapeParts.{are_distinct}
 
 -- ---- names that are distinct
 

@@ -21,7 +21,7 @@ use Rattle.rc_position.specs.Position.{pos_cmp, start_bound, end_bound, IsBefore
 use Rattle.rc_mutation.specs.Fragments.{has_any, is_written}
 use Rattle.rc_query.specs.Answer.{whole_slice}
 use Rattle.rc_schema.specs.declared.kinds.CkKind.{CkKind}
-use Rattle.rc_schema.specs.Checks.{are_of_kinds, fits_kinds, column_count, checked_prefix, checked_cells}
+use Rattle.rc_schema.specs.Checks.{are_of_kinds, fits_kinds, column_count}
 use Rattle.rc_schema.specs.SchemaValue.{SchemaValue}
 use Rattle.rc_spelling.specs.Words.{words}
 use Rattle.rc_lines.specs.declared.commands.Command.{Command}
@@ -39,8 +39,8 @@ use Rattle.rc_lines.specs.laws.Tests.{is_bound, fits_bound, fits_key, fits_cells
 use Rattle.rc_lines.specs.Grammar.{longest_line, is_comment, schema_said, parse}
 use Rattle.rc_lines.specs.calls.ByShape.{shape_meaning, line_meaning, parse_by_shape}
 use Rattle.rc_lines.specs.calls.Shapes.{shape_of}
-use Rattle.rc_lines.specs.UnderSchema.{prefix_of, key_under, slice_between, is_partition_key}
-use Rattle.rc_lines.specs.calls.ShapeMeaning.{are_columns, are_short, have_short_values, is_short_slice, slice_under, by_column, key_said, slice_said, has_wrong_key, has_unknown_column, is_within, is_wrong_change, is_unknown_change, is_short_change, rows_said, mutation_of, refusal_of, command_of, unless, meaning}
+use Rattle.rc_lines.specs.UnderSchema.{prefix_of, slice_between, is_partition_key}
+use Rattle.rc_lines.specs.calls.ShapeMeaning.{key_under, are_columns, are_short, have_short_values, is_short_slice, slice_under, by_column, key_said, slice_said, has_wrong_key, has_unknown_column, is_within, is_wrong_change, is_unknown_change, is_short_change, rows_said, mutation_of, refusal_of, command_of, unless, meaning}
 use Rattle.rc_lines.specs.laws.Fitting.{prefix_fits, prefix_is_as_long, columns_are_known, start_fits, end_fits}
 use Rattle.rc_lines.specs.laws.Said.{If, after, Said, SaidShape, shape_said}
 use Rattle.rc_lines.specs.laws.Halves.{both, join}
@@ -62,19 +62,16 @@ if_some false o x h = cc
 -- keys, cells and slices that fit
 
 key_fits : (full : Bool) (schema : SchemaValue) (key : List Comp) → fits_kinds full schema.ck key ≡ true → are_short key ≡ true → fits_key full schema key ≡ true
-unfolding checked_prefix
 key_fits full schema key p q = rw (p, q) refl
 
 cells_fit : (is_static : Bool) (schema : SchemaValue) (cells : List (ℕ × Cell)) → list_all (λ e. nat_lt e.0 (column_count is_static schema)) cells ≡ true → have_short_values cells ≡ true
     → fits_cells is_static schema cells ≡ true
-unfolding checked_cells
 cells_fit is_static schema cells p q = rw (p, q) refl
 
 equal_numbers : (n m : ℕ) → n ≡ m → n == m ≡ true
 equal_numbers n m h = (Decides-eqb n m).1 h
 
 full_fits : (pieces : List (List ℕ)) (kinds : List CkKind) (key : List Comp) → key_under pieces kinds ≡ Some key → fits_kinds true kinds key ≡ true
-unfolding key_under
 full_fits pieces kinds key h =
     let parts = if_some (length pieces == length kinds) (prefix_of pieces kinds) key h in
     join (are_of_kinds key kinds) (length key == length kinds) (prefix_fits pieces kinds key parts.1)
@@ -133,7 +130,6 @@ slice_stays schema (Some slice) p some short =
 -- writes that fit
 
 no_cells_fit : (is_static : Bool) (schema : SchemaValue) → fits_cells is_static schema [] ≡ true
-unfolding checked_cells
 no_cells_fit is_static schema = refl
 
 row_alone : (schema : SchemaValue) (key : List Comp) (row : Row) → is_written row ≡ true → fits_key true schema key ≡ true → fits_cells false schema row.cells ≡ true →

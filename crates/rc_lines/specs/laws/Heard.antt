@@ -15,15 +15,15 @@ use Rattle.rc_cell.specs.declared.writes.Cell.{Cell}
 use Rattle.rc_cell.specs.declared.writes.Cell.TheVariants.{Live, Dead}
 use Rattle.rc_rowcode.specs.Spelling.{IsTomb}
 use Rattle.rc_schema.specs.SchemaValue.{is_name}
-use Rattle.rc_spelling.specs.Numbers.{is_numeral, number_of, negative_of, positive_of, signed_of, count_of}
+use Rattle.rc_spelling.specs.Numbers.{is_numeral, number_of, signed_of, count_of}
 use Rattle.rc_spelling.specs.Printed.{AreBytes}
-use Rattle.rc_spelling.specs.Spelling.{stands_alone, escaped, lone_byte, escape, bytes_spelled, is_empty_text, component_spelled, pieces_spelled, components_spelled}
+use Rattle.rc_spelling.specs.Spelling.{stands_alone, escaped, lone_byte, escape, bytes_spelled, component_spelled, components_spelled}
 use Rattle.rc_lines.specs.declared.shapes.Bound.{Bound}
 use Rattle.rc_lines.specs.declared.shapes.Stamp.{Stamp}
 use Rattle.rc_lines.specs.declared.shapes.Stamp.TheVariants.{Alive, Gone}
-use Rattle.rc_lines.specs.Parts.{without_front, without_back, stamp_of, time_of, key_of, named, are_distinct, pieces_of}
-use Rattle.rc_lines.specs.calls.ShapeParts.{tomb_of, live_of, split_set, set_of, cell_said, each_cell_of, named_cells, some_cells_of, no_bound, bound_at, marked_bound, from_of, to_of, range_start, range_end}
-use Rattle.rc_spelling.specs.Words.{is_word}
+use Rattle.rc_lines.specs.Parts.{without_front, without_back, stamp_of, time_of, key_of, named, pieces_of}
+use Rattle.rc_lines.specs.calls.ShapeParts.{are_distinct, tomb_of, live_of, split_set, set_of, cell_said, each_cell_of, named_cells, some_cells_of, no_bound, bound_at, marked_bound, from_of, to_of, range_start, range_end}
+use Rattle.rc_spelling.specs.Words.{each_of, is_word}
 use Rattle.rc_lines.specs.Plain.{IsCount}
 use Rattle.rc_lines.specs.Sayable.{IsStamped}
 use Rattle.rc_lines.specs.laws.Halves.{both, up_to}
@@ -117,13 +117,13 @@ AreAllBytes pieces = AllByRecursion AreBytes pieces
 
 component_heard : (word : List ℕ) → AreBytes word → If AreBytes (component_spelled word)
 component_heard [] are = tt
-component_heard (byte ∷ rest) are = chosen AreBytes (is_empty_text (byte ∷ rest)) (Some []) (bytes_spelled (byte ∷ rest)) tt (bytes_heard (byte ∷ rest) are)
+component_heard (byte ∷ rest) are = chosen AreBytes (is_word (byte ∷ rest) (codes "''")) (Some []) (bytes_spelled (byte ∷ rest)) tt (bytes_heard (byte ∷ rest) are)
 
-pieces_heard : (words : List (List ℕ)) → AreAllBytes words → If AreAllBytes (pieces_spelled words)
+pieces_heard : (words : List (List ℕ)) → AreAllBytes words → If AreAllBytes (each_of component_spelled words)
 pieces_heard [] are = tt
 pieces_heard (word ∷ words) are =
-    after AreAllBytes AreBytes (λ component. option_map (λ components. component ∷ components) (pieces_spelled words)) (component_spelled word) (component_heard word are.0)
-    (λ component is. made AreAllBytes AreAllBytes (λ components. component ∷ components) (pieces_spelled words) (pieces_heard words are.1) (λ components rest. (is, rest)))
+    after AreAllBytes AreBytes (λ component. option_map (λ components. component ∷ components) (each_of component_spelled words)) (component_spelled word) (component_heard word are.0)
+    (λ component is. made AreAllBytes AreAllBytes (λ components. component ∷ components) (each_of component_spelled words) (pieces_heard words are.1) (λ components rest. (is, rest)))
 
 taken_pieces : (n : ℕ) (pieces : List (List ℕ)) → AreAllBytes pieces → AreAllBytes (take n pieces)
 taken_pieces zero pieces are = tt
@@ -133,7 +133,7 @@ taken_pieces (suc n) (piece ∷ pieces) are = (are.0, taken_pieces n pieces are.
 pub prefix_heard : (word : List ℕ) → AreBytes word → If AreAllBytes (pieces_of word)
 unfolding pieces_of components_spelled
 prefix_heard word are =
-    made AreAllBytes AreAllBytes (take 5) (pieces_spelled (slice_split (λ byte. byte == 44) word)) (pieces_heard (slice_split (λ byte. byte == 44) word) (words_heard (λ byte. byte == 44) word are))
+    made AreAllBytes AreAllBytes (take 5) (each_of component_spelled (slice_split (λ byte. byte == 44) word)) (pieces_heard (slice_split (λ byte. byte == 44) word) (words_heard (λ byte. byte == 44) word are))
     (λ pieces all. taken_pieces 5 pieces all)
 
 -- the components of a bound are bytes
@@ -179,11 +179,14 @@ number_heard most word =
 some_number : (n : ℕ) → n == 0 ≡ false → 1 ≤ n
 some_number n h = grind (arith, nat_tests)
 
-pub count_heard : (word : List ℕ) → If IsCount (count_of 4294967295 word)
+some_heard : (most : ℕ) (word : List ℕ) → If (λ n. (1 ≤ n) × (n ≤ most)) (count_of most word)
 unfolding count_of
-count_heard word =
-    after IsCount (λ n. n ≤ 4294967295) (λ value. if value == 0 then None else Some value) (number_of 4294967295 word) (number_heard 4294967295 word)
-    (λ value most. unlike IsCount (value == 0) value (λ e. (some_number value e, most)))
+some_heard most word =
+    after (λ n. (1 ≤ n) × (n ≤ most)) (λ n. n ≤ most) (λ value. if value == 0 then None else Some value) (number_of most word) (number_heard most word)
+    (λ value small. unlike (λ n. (1 ≤ n) × (n ≤ most)) (value == 0) value (λ e. (some_number value e, small)))
+
+pub count_heard : (word : List ℕ) → If IsCount (count_of 4294967295 word)
+count_heard word = some_heard 4294967295 word
 
 -- a signed number within 64 bits
 abbrev IsSigned : ℤ → Type 0
@@ -193,22 +196,21 @@ minus_fits : (n : ℕ) → 1 ≤ n → n ≤ 2 ^ 63 → IsSigned (neg_ℤ (pos n
 minus_fits zero some most = absurd (omega arith)
 minus_fits (suc n) some most = omega (arith, ints)
 
-negative_heard : (word : List ℕ) → If IsSigned (negative_of word)
-unfolding negative_of
+negative_heard : (word : List ℕ) → If IsSigned (option_map (λ n. neg_ℤ (pos n)) (count_of (2 ^ 63) word))
 negative_heard word =
-    after IsSigned (λ n. n ≤ 2 ^ 63) (λ value. if value == 0 then None else Some (neg_ℤ (pos value))) (number_of (2 ^ 63) word) (number_heard (2 ^ 63) word)
-    (λ value most. unlike IsSigned (value == 0) (neg_ℤ (pos value)) (λ e. minus_fits value (some_number value e) most))
+    made IsSigned (λ n. (1 ≤ n) × (n ≤ 2 ^ 63)) (λ n. neg_ℤ (pos n)) (count_of (2 ^ 63) word) (some_heard (2 ^ 63) word) (λ n within. minus_fits n within.0 within.1)
 
 plus_fits : (n : ℕ) → n ≤ 2 ^ 63 - 1 → IsSigned (pos n)
 plus_fits n most = omega (arith, ints)
 
-positive_heard : (word : List ℕ) → If IsSigned (positive_of word)
-unfolding positive_of
+positive_heard : (word : List ℕ) → If IsSigned (option_map pos (number_of (2 ^ 63 - 1) word))
 positive_heard word = made IsSigned (λ n. n ≤ 2 ^ 63 - 1) pos (number_of (2 ^ 63 - 1) word) (number_heard (2 ^ 63 - 1) word) plus_fits
 
 pub signed_heard : (word : List ℕ) → If IsSigned (signed_of word)
 signed_heard [] = tt
-signed_heard (first ∷ rest) = chosen IsSigned (first == 45) (negative_of rest) (positive_of (first ∷ rest)) (negative_heard rest) (positive_heard (first ∷ rest))
+signed_heard (first ∷ rest) =
+    chosen IsSigned (first == 45) (option_map (λ n. neg_ℤ (pos n)) (count_of (2 ^ 63) rest)) (option_map pos (number_of (2 ^ 63 - 1) (first ∷ rest)))
+    (negative_heard rest) (positive_heard (first ∷ rest))
 
 pub stamp_heard : (word : List ℕ) → If IsSigned (stamp_of word)
 unfolding stamp_of

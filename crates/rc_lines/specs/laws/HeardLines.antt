@@ -47,8 +47,8 @@ use Rattle.rc_lines.specs.calls.ShapeParts.{tomb_of, named_cells, some_cells_of,
 use Rattle.rc_lines.specs.Plain.{IsCount}
 use Rattle.rc_lines.specs.Sayable.{stamped, shape_line, IsStamped, IsStampInRange}
 use Rattle.rc_lines.specs.calls.Shapes.{row_change, inserted, update_change, removed, deleted, range_deleted, partition_deleted, static_set, static_removed, insert_of, update_of, unset_of, delete_of, delrange_of, delpart_of, static_change, unstatic_of, cell_change_of, deletion_of, change_of, write_of, open_shape, open_of, bare_of, begin_of, told_of, numbered_of, read_of, step_of, counted_of, plain_of, shape_of}
-use Rattle.rc_lines.specs.UnderSchema.{component_of, prefix_of, key_under, slice_between, is_partition_key}
-use Rattle.rc_lines.specs.calls.ShapeMeaning.{is_short_slice, slice_under, cell_named, columns_from, by_column, key_said, slice_said, is_short_change, has_wrong_key, has_unknown_column, is_within, mutation_of, refusal_of, command_of, meaning}
+use Rattle.rc_lines.specs.UnderSchema.{component_of, prefix_of, slice_between, is_partition_key}
+use Rattle.rc_lines.specs.calls.ShapeMeaning.{key_under, is_short_slice, slice_under, cell_named, columns_from, by_column, key_said, slice_said, is_short_change, has_wrong_key, has_unknown_column, is_within, mutation_of, refusal_of, command_of, meaning}
 use Rattle.rc_lines.specs.laws.ByShape.{by_shape}
 use Rattle.rc_lines.specs.laws.Fitting.{columns_ascend}
 use Rattle.rc_lines.specs.laws.FittingCommands.{commands_fit, is_less, line_cases, no_cause, same_command}
@@ -305,7 +305,6 @@ unwrapped P None other p q = q
 unwrapped P (Some x) other p q = p
 
 key_heard_under : (pieces : List (List ℕ)) (schema : SchemaValue) → AreAllBytes pieces → AreComponents (key_said pieces schema)
-unfolding key_under
 key_heard_under pieces schema are =
     unwrapped AreComponents (key_under pieces schema.ck) [] (chosen AreComponents (length pieces == length schema.ck) (prefix_of pieces schema.ck) None (prefix_heard_under pieces schema.ck are) tt) tt
 

@@ -21,9 +21,11 @@ use Rattle.rc_rowcode.specs.Spelling.{IsTomb}
 use Rattle.rc_schema.specs.Checks.{is_short, has_short_value}
 use Rattle.rc_schema.specs.declared.kinds.CkKind.{CkKind}
 use Rattle.rc_schema.specs.declared.kinds.CkKind.TheVariants.{Int, Text}
-use Rattle.rc_schema.specs.SchemaValue.{SchemaValue, is_name, is_name_byte}
-use Rattle.rc_schema.specs.SchemaText.{kind_text, kinds_text, names_text, schema_text}
-use Rattle.rc_spelling.specs.Printed.{IsComponent, bytes_of_component, stands_for_itself, hexadecimal, spelled_byte, printed, text_component, other_component}
+use Rattle.rc_schema.specs.SchemaValue.{SchemaValue, is_name}
+use Rattle.rc_schema.specs.Tests.{is_name_byte}
+use Rattle.rc_schema.specs.SchemaText.{kind_text, names_text, schema_text}
+use Rattle.rc_spelling.specs.Printed.{IsComponent, bytes_of_component, stands_for_itself, hexadecimal, printed, component_text}
+use Rattle.rc_spelling.specs.Glyphs.{spelled_byte}
 use Rattle.rc_lines.specs.declared.shapes.Change.TheVariants.{OfRow, OfStatic, OfRange, OfPartition}
 use Rattle.rc_lines.specs.declared.shapes.Shape.TheVariants.{Open, Written}
 use Rattle.rc_lines.specs.declared.shapes.Stamp.{Stamp}
@@ -76,35 +78,24 @@ pub spelled_short : (bytes : List ℕ) → length (printed bytes) ≤ 3 * length
 spelled_short [] = omega arith
 spelled_short (byte ∷ bytes) = omega (arith, length-append (spelled_byte byte) (printed bytes), byte_short byte, spelled_short bytes)
 
-text_short : (bytes : List ℕ) → length (text_component bytes) ≤ 3 * length bytes + 2
+text_short : (bytes : List ℕ) → length (component_text (comps.Text bytes)) ≤ 3 * length bytes + 2
 text_short [] = omega arith
 text_short (byte ∷ bytes) = omega (arith, spelled_short (byte ∷ bytes))
 
-component_short : (component : Comp) → is_short component ≡ true → IsComponent component → length (text_component (bytes_of_component component)) ≤ 194
+component_short : (component : Comp) → is_short component ≡ true → IsComponent component → length (component_text (comps.Text (bytes_of_component component))) ≤ 194
 component_short (comps.Int number) h is = omega (arith, text_short (signed_decimal number), signed_short number is)
 component_short (comps.Text bytes) h is = omega (arith, text_short bytes, up_to (length bytes) 64 h)
 
-others_short : (prefix : List Comp) → are_short prefix ≡ true → AreComponents prefix
-    → length (flat_map other_component (list_map (λ piece. comps.Text piece) (pieces_said prefix))) ≤ 195 * length prefix
-others_short [] h is = omega arith
-others_short (component ∷ prefix) h is =
-    let halves = both (is_short component) (list_all is_short prefix) h in
-    omega (
-      arith,
-      length-append (text_component (bytes_of_component component)) (flat_map other_component (list_map (λ piece. comps.Text piece) (pieces_said prefix))),
-      component_short component halves.0 is.0,
-      others_short prefix halves.1 is.1,
-    )
-
 pub prefix_short : (prefix : List Comp) → are_short prefix ≡ true → AreComponents prefix → length (prefix_word (pieces_said prefix)) ≤ 195 * length prefix
 prefix_short [] h is = omega arith
-prefix_short (component ∷ prefix) h is =
-    let halves = both (is_short component) (list_all is_short prefix) h in
+prefix_short (component ∷ []) h is = omega (arith, component_short component (both (is_short component) true h).0 is.0)
+prefix_short (component ∷ next ∷ prefix) h is =
+    let halves = both (is_short component) (list_all is_short (next ∷ prefix)) h in
     omega (
       arith,
-      length-append (text_component (bytes_of_component component)) (flat_map other_component (list_map (λ piece. comps.Text piece) (pieces_said prefix))),
+      length-append (component_text (comps.Text (bytes_of_component component))) (44 ∷ prefix_word (pieces_said (next ∷ prefix))),
       component_short component halves.0 is.0,
-      others_short prefix halves.1 is.1,
+      prefix_short (next ∷ prefix) halves.1 is.1,
     )
 
 from_short : (inclusive : Bool) (prefix : List Comp) → are_short prefix ≡ true → AreComponents prefix → length (from_text inclusive (pieces_said prefix)) ≤ 195 * length prefix + 1
@@ -228,7 +219,7 @@ unfolding schema_text
 schema_short s ck statics cols p q =
     omega (
       arith,
-      joined_short 32 ((codes "ck=" ++ kinds_text s.ck) ∷ (codes "static=" ++ names_text s.statics) ∷ (codes "cols=" ++ names_text s.cols) ∷ []),
+      joined_short 32 ((codes "ck=" ++ join_with_byte 44 (list_map kind_text s.ck)) ∷ (codes "static=" ++ names_text s.statics) ∷ (codes "cols=" ++ names_text s.cols) ∷ []),
       joined_short 44 (list_map kind_text s.ck),
       kinds_short s.ck,
       names_short s.statics p,

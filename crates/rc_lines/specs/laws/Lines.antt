@@ -32,11 +32,11 @@ use Rattle.rc_position.specs.declared.slices.Slice.{Slice}
 use Rattle.rc_position.specs.Position.{prefix_cmp, pos_cmp, start_bound, end_bound, IsBefore}
 use Rattle.rc_query.specs.Answer.{whole_slice}
 use Rattle.rc_ranges.specs.declared.pieces.Piece.{Piece}
-use Rattle.rc_schema.specs.declared.checks.SchemaErr.{SchemaErr}
 use Rattle.rc_schema.specs.declared.kinds.CkKind.{CkKind}
 use Rattle.rc_schema.specs.declared.kinds.CkKind.TheVariants.{Int, Text}
-use Rattle.rc_schema.specs.Checks.{is_of_kind, are_of_kinds, fits_kinds, is_short, column_count, checked_prefix, checked_cells}
-use Rattle.rc_schema.specs.SchemaValue.{SchemaValue, is_name, are_distinct_by, are_few, are_names, is_schema}
+use Rattle.rc_schema.specs.Checks.{is_of_kind, are_of_kinds, fits_kinds, is_short, column_count, is_key_of, are_cells_of}
+use Rattle.rc_schema.specs.SchemaValue.{SchemaValue, is_name, are_distinct_by, is_schema}
+use Rattle.rc_schema.specs.Tests.{are_few, are_names}
 use Rattle.rc_spelling.specs.Words.{is_word}
 use Rattle.rc_schema.specs.laws.SchemaTexts.{text_reads_back}
 use Rattle.rc_schema.specs.SchemaText.{schema_text}
@@ -59,8 +59,8 @@ use Rattle.rc_lines.specs.calls.ByShape.{line_meaning, parse_by_shape}
 use Rattle.rc_lines.specs.Lines.{pieces_said, is_before, start_said, end_said, cells_said, change_said, command_line, IsPartitionKey, AreComponents, AreStamped, HasOneStamp, IsSayableWrite, IsSayableCommand}
 use Rattle.rc_lines.specs.Parts.{without_front}
 use Rattle.rc_lines.specs.Sayable.{stamped, shape_line, IsSomeKey, IsPrefix, IsLimit, IsStamped, IsNamedCell, AreSayableCells, IsSayable, IsSayableChange}
-use Rattle.rc_lines.specs.UnderSchema.{component_of, prefix_of, key_under, slice_between, is_partition_key}
-use Rattle.rc_lines.specs.calls.ShapeMeaning.{are_short, have_short_values, is_short_slice, slice_under, by_column, is_wrong_change, is_unknown_change, is_short_change, rows_said, mutation_of, refusal_of, unless, meaning}
+use Rattle.rc_lines.specs.UnderSchema.{component_of, prefix_of, slice_between, is_partition_key}
+use Rattle.rc_lines.specs.calls.ShapeMeaning.{key_under, are_short, have_short_values, is_short_slice, slice_under, by_column, is_wrong_change, is_unknown_change, is_short_change, rows_said, mutation_of, refusal_of, unless, meaning}
 use Rattle.rc_lines.specs.laws.ByShape.{by_shape}
 use Rattle.rc_lines.specs.laws.Columns.{AreBelow, columns_back, known, name_at, names_apart, few_cells}
 use Rattle.rc_lines.specs.laws.Lengths.{IsShortPrefix, spelled_short, partition_short, piece_short, open_short, row_short, static_short, schema_short}
@@ -92,7 +92,6 @@ as_many [] = refl
 as_many (component ∷ prefix) = ap (λ (n : ℕ). suc n) (as_many prefix)
 
 key_back : (key : List Comp) (kinds : List CkKind) → fits_kinds true kinds key ≡ true → AreComponents key → key_under (pieces_said key) kinds ≡ Some key
-unfolding key_under
 key_back key kinds h is =
     let halves = both (are_of_kinds key kinds) (length key == length kinds) h in
     let full : (length (pieces_said key) == length kinds) ≡ true = ap (λ (n : ℕ). n == length kinds) (as_many key) ∙ halves.1 in
@@ -121,19 +120,12 @@ slice_back from to kinds f t a b c d before =
 
 -- ---- what the checks let through
 
-passes : (b c : Bool) (one other : SchemaErr) → ◌≡◌ {A = Result (Unit {0}) SchemaErr} (if b then (if c then Ok tt else Err one) else Err other) (Ok tt) → (b ≡ true) × (c ≡ true)
-passes true true one other h = (refl, refl)
-passes true false one other h = absurd (cc)
-passes false c one other h = absurd (cc)
+prefix_passes : (full : Bool) (schema : SchemaValue) (key : List Comp) → is_key_of full schema key ≡ true → (fits_kinds full schema.ck key ≡ true) × (are_short key ≡ true)
+prefix_passes full schema key h = both (fits_kinds full schema.ck key) (list_all is_short key) h
 
-prefix_passes : (full : Bool) (schema : SchemaValue) (key : List Comp) → checked_prefix full schema key ≡ Ok tt → (fits_kinds full schema.ck key ≡ true) × (are_short key ≡ true)
-unfolding checked_prefix
-prefix_passes full schema key h = passes (fits_kinds full schema.ck key) (list_all is_short key) _ _ h
-
-cells_pass : (is_static : Bool) (schema : SchemaValue) (cells : List (ℕ × Cell)) → checked_cells is_static schema cells ≡ Ok tt
+cells_pass : (is_static : Bool) (schema : SchemaValue) (cells : List (ℕ × Cell)) → are_cells_of (column_count is_static schema) cells ≡ true
     → (list_all (λ e. nat_lt e.0 (column_count is_static schema)) cells ≡ true) × (have_short_values cells ≡ true)
-unfolding checked_cells
-cells_pass is_static schema cells h = passes (list_all (λ e. nat_lt e.0 (column_count is_static schema)) cells) (have_short_values cells) _ _ h
+cells_pass is_static schema cells h = both (list_all (λ e. nat_lt e.0 (column_count is_static schema)) cells) (have_short_values cells) h
 
 within : (n m : ℕ) → nat_lt n m ≡ true → n < m
 within n m h = grind (arith, nat_tests)
@@ -378,7 +370,7 @@ module _ (schema : SchemaValue) (is : is_schema schema ≡ true) (key : List ℕ
       )
 
   -- a prefix of the schema's kinds
-  few_components : (prefix : List Comp) → checked_prefix false schema prefix ≡ Ok tt → AreComponents prefix → IsShortPrefix prefix
+  few_components : (prefix : List Comp) → is_key_of false schema prefix ≡ true → AreComponents prefix → IsShortPrefix prefix
   few_components prefix h is_said =
       let tests = prefix_passes false schema prefix h in
       let most = at_most prefix schema.ck (both (are_of_kinds prefix schema.ck) true tests.0).0 in

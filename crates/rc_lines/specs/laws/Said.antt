@@ -19,8 +19,8 @@ use Rattle.rc_lines.specs.declared.shapes.Shape.TheVariants.{Plain, Open, Writte
 use Rattle.rc_lines.specs.declared.shapes.Stamp.{Stamp}
 use Rattle.rc_lines.specs.declared.shapes.Stamp.TheVariants.{Alive, Gone}
 use Rattle.rc_lines.specs.Fits.{CommandFits}
-use Rattle.rc_lines.specs.Parts.{pieces_of, stamp_of, key_of, are_distinct}
-use Rattle.rc_lines.specs.calls.ShapeParts.{tomb_of, cell_said, each_cell_of, named_cells, some_cells_of, no_bound, range_start, range_end}
+use Rattle.rc_lines.specs.Parts.{pieces_of, stamp_of, key_of}
+use Rattle.rc_lines.specs.calls.ShapeParts.{are_distinct, tomb_of, cell_said, each_cell_of, named_cells, some_cells_of, no_bound, range_start, range_end}
 use Rattle.rc_spelling.specs.Words.{is_word}
 use Rattle.rc_lines.specs.calls.Shapes.{row_change, inserted, update_change, removed, deleted, range_deleted, partition_deleted, static_set, static_removed, insert_of, update_of, unset_of, delete_of, delrange_of, delpart_of, static_change, unstatic_of, cell_change_of, deletion_of, change_of, write_of, open_shape, open_of, bare_of, begin_of, told_of, numbered_of, read_of, step_of, counted_of, plain_of, shape_of}
 

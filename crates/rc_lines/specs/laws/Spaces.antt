@@ -14,8 +14,10 @@ use Rattle.std.proofs.lemmas.List.Elements.{All-from_recursion, All-nil, All-con
 use Rattle.std.proofs.lemmas.List.Splits.{slice_split_none, slice_split_at}
 use Rattle.std.proofs.lemmas.Str.Parse.{digit_from_value}
 use Rattle.rc_position.specs.declared.comps.Comp.TheVariants.{Text}
-use Rattle.rc_schema.specs.SchemaValue.{is_name, is_name_byte}
-use Rattle.rc_spelling.specs.Printed.{stands_for_itself, hexadecimal, spelled_byte, printed, text_component, other_component}
+use Rattle.rc_schema.specs.SchemaValue.{is_name}
+use Rattle.rc_schema.specs.Tests.{is_name_byte}
+use Rattle.rc_spelling.specs.Printed.{stands_for_itself, hexadecimal, printed, component_text}
+use Rattle.rc_spelling.specs.Glyphs.{spelled_byte}
 use Rattle.rc_spelling.specs.Words.{words}
 use Rattle.rc_lines.specs.Sayable.{prefix_word}
 use Rattle.rc_lines.specs.laws.Halves.{both}
@@ -68,20 +70,16 @@ pub spelled_spaceless : (bytes : List ℕ) → IsSpaceless (printed bytes)
 spelled_spaceless [] = All-nil (λ byte. (byte == 32) ≡ false)
 spelled_spaceless (byte ∷ bytes) = All-append (λ x. (x == 32) ≡ false) (spelled_byte byte) (printed bytes) (byte_spaceless byte) (spelled_spaceless bytes)
 
-component_spaceless : (piece : List ℕ) → IsSpaceless (text_component piece)
+component_spaceless : (piece : List ℕ) → IsSpaceless (component_text (Text piece))
 component_spaceless [] = All-from_recursion (λ x. (x == 32) ≡ false) (39 ∷ 39 ∷ []) (refl, (refl, tt))
 component_spaceless (byte ∷ piece) = spelled_spaceless (byte ∷ piece)
 
-others_spaceless : (pieces : List (List ℕ)) → IsSpaceless (flat_map other_component (list_map (λ piece. Text piece) pieces))
-others_spaceless [] = All-nil (λ byte. (byte == 32) ≡ false)
-others_spaceless (piece ∷ pieces) =
-    All-cons (λ byte. (byte == 32) ≡ false) 44 _ refl
-    (All-append (λ byte. (byte == 32) ≡ false) (text_component piece) (flat_map other_component (list_map (λ piece. Text piece) pieces)) (component_spaceless piece) (others_spaceless pieces))
-
 pub prefix_spaceless : (pieces : List (List ℕ)) → IsSpaceless (prefix_word pieces)
 prefix_spaceless [] = All-nil (λ byte. (byte == 32) ≡ false)
-prefix_spaceless (piece ∷ pieces) =
-    All-append (λ byte. (byte == 32) ≡ false) (text_component piece) (flat_map other_component (list_map (λ piece. Text piece) pieces)) (component_spaceless piece) (others_spaceless pieces)
+prefix_spaceless (piece ∷ []) = component_spaceless piece
+prefix_spaceless (piece ∷ next ∷ pieces) =
+    All-append (λ byte. (byte == 32) ≡ false) (component_text (Text piece)) (44 ∷ prefix_word (next ∷ pieces)) (component_spaceless piece)
+    (All-cons (λ byte. (byte == 32) ≡ false) 44 (prefix_word (next ∷ pieces)) refl (prefix_spaceless (next ∷ pieces)))
 
 -- ---- names
 

@@ -25,8 +25,8 @@ use Rattle.rc_spelling.specs.Printed.{AreBytes, IsComponent, bytes_of_component,
 use Rattle.rc_spelling.specs.Spelling.{bytes_spelled, components_spelled}
 use Rattle.rc_lines.specs.declared.shapes.Bound.{Bound}
 use Rattle.rc_lines.specs.declared.shapes.Stamp.{Stamp}
-use Rattle.rc_lines.specs.Parts.{without_front, without_back, stamp_of, time_of, key_of, named, are_distinct, pieces_of}
-use Rattle.rc_lines.specs.calls.ShapeParts.{tomb_of, live_of, split_set, set_of, cell_said, each_cell_of, named_cells, some_cells_of, no_bound, bound_at, marked_bound, from_of, to_of, range_start, range_end}
+use Rattle.rc_lines.specs.Parts.{without_front, without_back, stamp_of, time_of, key_of, named, pieces_of}
+use Rattle.rc_lines.specs.calls.ShapeParts.{are_distinct, tomb_of, live_of, split_set, set_of, cell_said, each_cell_of, named_cells, some_cells_of, no_bound, bound_at, marked_bound, from_of, to_of, range_start, range_end}
 use Rattle.rc_spelling.specs.Words.{is_word}
 use Rattle.rc_lines.specs.Sayable.{prefix_word, from_text, to_text, cell_word, IsSomeKey, IsPrefix, IsLimit, IsBound, IsStamped, IsNamedCell, AreSayableCells}
 use Rattle.rc_lines.specs.laws.Spaces.{name_plain, IsPlainByte}

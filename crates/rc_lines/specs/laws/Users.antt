@@ -1,6 +1,6 @@
 -- The lines of deletions and inserts in the words of a user: their text, and the command that it gives.
 use Rattle.std.proofs.Common.{◌≡◌, ◌≤◌, ◌<◌, ◌^◌, ℕ, ℤ, pos, negsuc, suc, true, List, [], ◌∷◌, ◌++◌, flat_map, length, refl, sym, ap, ◌∙◌, arith, append-nil}
-use Rattle.std.specs.Prelude.{codes, map as list_map, Ok}
+use Rattle.std.specs.Prelude.{codes, map as list_map, Ok, IsTrue}
 use Rattle.std.specs.declared.option.Option.TheVariants.{Some}
 use Rattle.std.specs.Char.{is_ascii_alphanumeric}
 use Rattle.std.specs.Fmt.{decimal, signed_decimal}
@@ -20,18 +20,17 @@ use Rattle.rc_position.specs.declared.comps.Comp.{Comp}
 use Rattle.rc_position.specs.declared.comps.Comp.TheVariants as comps
 use Rattle.rc_ranges.specs.declared.pieces.Piece.{Piece}
 use Rattle.rc_rowcode.specs.Spelling.{IsTomb}
-use Rattle.rc_schema.specs.Checks.{checked_prefix, checked_cells}
+use Rattle.rc_schema.specs.Checks.{is_key_of}
 use Rattle.rc_schema.specs.SchemaValue.{SchemaValue, is_schema}
 use Rattle.rc_spelling.specs.laws.{plain_values_stay}
-use Rattle.rc_spelling.specs.Printed.{IsComponent, bytes_of_component, printed, text_component, component_text, other_component, key_text}
+use Rattle.rc_spelling.specs.Printed.{IsComponent, bytes_of_component, printed, component_text, key_text}
 use Rattle.rc_writes.specs.Allowed.{ChangeFits, IsRangeBound, IsRowOf, IsStaticOf}
 use Rattle.rc_writes.specs.Single.{row_alone, partition_alone}
 use Rattle.rc_lines.specs.declared.commands.Command.TheVariants.{Put}
 use Rattle.rc_lines.specs.declared.shapes.Stamp.TheVariants.{Alive, Gone}
 use Rattle.rc_lines.specs.Grammar.{parse}
-use Rattle.rc_lines.specs.Lines.{pieces_said, cells_said, command_line, delpart_text, delete_text, live_cells, live_row, dead_row, AreValues, IsPartitionKey, AreComponents, HasOneStamp}
+use Rattle.rc_lines.specs.Lines.{value_text, pieces_said, cells_said, command_line, delpart_text, delete_text, live_cells, live_row, dead_row, AreValues, IsPartitionKey, AreComponents, HasOneStamp}
 use Rattle.rc_lines.specs.Sayable.{prefix_word, cell_word, cells_words, stamp_words, IsStamped}
-use Rattle.rc_lines.specs.Texts.{value_text}
 use Rattle.rc_lines.specs.laws.Lines.{command_back}
 
 -- ---- the texts
@@ -50,24 +49,23 @@ digits_stay (c ∷ cs) d =
 number_stays : (n : ℕ) → n < 2 ^ 64 → printed (decimal n) ≡ decimal n
 number_stays n small = plain_values_stay (decimal n) (digits_stay (decimal n) (decimal_is_IsNumeral n small).0.1)
 
-some_text : (bytes : List ℕ) → 1 ≤ length bytes → text_component bytes ≡ printed bytes
+some_text : (bytes : List ℕ) → 1 ≤ length bytes → component_text (comps.Text bytes) ≡ printed bytes
 some_text [] some = absurd (omega arith)
 some_text (byte ∷ bytes) some = refl
 
-component_stays : (component : Comp) → IsComponent component → text_component (bytes_of_component component) ≡ component_text component
+component_stays : (component : Comp) → IsComponent component → component_text (comps.Text (bytes_of_component component)) ≡ component_text component
 component_stays (comps.Int (pos n)) is =
     some_text (decimal n) (decimal_is_IsNumeral n (omega (arith, ints))).0.0 ∙ number_stays n (omega (arith, ints))
 component_stays (comps.Int (negsuc n)) is = ap (λ (more : List ℕ). 45 ∷ more) (number_stays (suc n) (omega (arith, ints)))
 component_stays (comps.Text bytes) is = refl
 
-others_stay : (prefix : List Comp) → AreComponents prefix → flat_map other_component (list_map (λ piece. comps.Text piece) (pieces_said prefix)) ≡ flat_map other_component prefix
-others_stay [] is = refl
-others_stay (component ∷ prefix) is = λ i. (44 ∷ component_stays component is.0 i) ++ others_stay prefix is.1 i
+components_stay : (prefix : List Comp) → AreComponents prefix → list_map component_text (list_map (λ piece. comps.Text piece) (pieces_said prefix)) ≡ list_map component_text prefix
+components_stay [] is = refl
+components_stay (component ∷ prefix) is = λ i. component_stays component is.0 i ∷ components_stay prefix is.1 i
 
 -- a line has a key as replies print it
 pub keys_stay : (prefix : List Comp) → AreComponents prefix → prefix_word (pieces_said prefix) ≡ key_text prefix
-keys_stay [] is = refl
-keys_stay (component ∷ prefix) is = λ i. component_stays component is.0 i ++ others_stay prefix is.1 i
+keys_stay prefix is = ap (join_with_byte 44) (components_stay prefix is)
 
 -- and values as replies print them
 values_stay : (names : List (List ℕ)) (ts : ℤ) (values : List (ℕ × List ℕ))
@@ -78,7 +76,6 @@ values_stay names ts (shown ∷ values) = ap (λ (more : List ℕ). value_text n
 -- ---- the commands
 
 nothing_static : (schema : SchemaValue) → IsStaticOf schema empty_row
-unfolding checked_cells
 nothing_static schema = (refl, refl, refl)
 
 row_fits : (schema : SchemaValue) (ck : List Comp) (row : Row) → IsRowOf schema ck row → ChangeFits schema (row_alone ck row)
@@ -112,9 +109,8 @@ insert_back schema key ck ts values is is_key comps_are fits_ts are fits sorted 
     ∙ (λ i. codes "insert " ++ (printed key ++ 32 ∷ (keys_stay ck comps_are i ++ (codes " ts=" ++ (signed_decimal ts ++ values_stay schema.cols ts values i)))))))
 
 -- the tombstone of a row
-pub delete_back : (schema : SchemaValue) (key : List ℕ) (ck : List Comp) (tomb : Tomb) → is_schema schema ≡ true → IsPartitionKey key → AreComponents ck → IsTomb tomb → checked_prefix true schema ck ≡ Ok tt
+pub delete_back : (schema : SchemaValue) (key : List ℕ) (ck : List Comp) (tomb : Tomb) → is_schema schema ≡ true → IsPartitionKey key → AreComponents ck → IsTomb tomb → IsTrue (is_key_of true schema ck)
     → parse (Some schema) (delete_text key ck tomb) ≡ Ok (Put (record { key = key; change = row_alone ck (dead_row tomb) }))
-unfolding checked_cells
 delete_back schema key ck tomb is is_key comps_are is_tomb fits =
     row_back schema key ck (dead_row tomb) _ is is_key comps_are (fits, refl) refl is_tomb
     (ap (λ (line : List ℕ). Some line)

@@ -11,7 +11,7 @@ use Rattle.rc_cell.specs.declared.writes.Cell.{Cell}
 use Rattle.rc_cell.specs.declared.writes.Cell.TheVariants.{Live}
 use Rattle.rc_cell.specs.declared.writes.Tomb.{Tomb}
 use Rattle.rc_spelling.specs.Numbers.{count_of}
-use Rattle.rc_spelling.specs.Words.{is_word}
+use Rattle.rc_spelling.specs.Words.{is_word, each_of}
 use Rattle.rc_spelling.specs.Spelling.{bytes_spelled}
 use Rattle.rc_lines.specs.declared.commands.Command.{Command}
 use Rattle.rc_lines.specs.declared.commands.Command.TheVariants.{Read, Close, FlushBegin, FlushStep, Evict, Compact, Clean}
@@ -23,9 +23,9 @@ use Rattle.rc_lines.specs.declared.shapes.Shape.TheVariants.{Plain, Open, Writte
 use Rattle.rc_lines.specs.declared.shapes.Stamp.{Stamp}
 use Rattle.rc_lines.specs.declared.shapes.Stamp.TheVariants.{Alive, Gone}
 use Rattle.rc_lines.specs.Forms.{Form, columns_to_end, forms}
-use Rattle.rc_lines.specs.Parts.{without_front, without_back, stamp_of, time_of, key_of, pieces_of, named, cell_set, cell_unset, each_of, are_distinct, limit_of, from_limit, to_limit}
+use Rattle.rc_lines.specs.Parts.{without_front, without_back, stamp_of, time_of, key_of, pieces_of, named, cell_set, cell_unset, limit_of, from_limit, to_limit}
 use Rattle.rc_lines.specs.UnderSchema.{Saying, row_written, statics_written, range_written, partition_written, slice_opened}
-use Rattle.rc_lines.specs.calls.ShapeParts.{tomb_of, live_of, split_set, set_of, cell_said, each_cell_of, named_cells, some_cells_of, no_bound, bound_at, marked_bound, from_of, to_of, range_start, range_end}
+use Rattle.rc_lines.specs.calls.ShapeParts.{are_distinct, tomb_of, live_of, split_set, set_of, cell_said, each_cell_of, named_cells, some_cells_of, no_bound, bound_at, marked_bound, from_of, to_of, range_start, range_end}
 use Rattle.rc_lines.specs.calls.Shapes.{row_change, inserted, update_change, removed, deleted, range_deleted, partition_deleted, static_set, static_removed, cell_change_of, deletion_of, change_of, write_of, open_shape, open_of, bare_of, told_of, numbered_of, read_of, step_of, counted_of, plain_of, shape_of}
 
 -- ---- what a shape says

@@ -1,5 +1,5 @@
 -- The parts of writes that fit a schema fit a table of it.
-use Rattle.std.specs.Prelude.{◌≡◌, ◌≢◌, ℕ, All, Bool, true, false, ◌&&◌, List, [], ◌∷◌, Option, None, map as list_map, nat_lt, Result, Ok, Err, if◌then◌else◌, slice_index_or}
+use Rattle.std.specs.Prelude.{◌≡◌, ◌≢◌, ℕ, All, Bool, true, false, ◌&&◌, List, [], ◌∷◌, Option, None, map as list_map, nat_lt, slice_index_or}
 use Rattle.std.proofs.Common.{refl, sym, ap, ◌∙◌, subst, append-nil}
 use Rattle.std.specs.Ordering.{eq_by_cmp}
 use Rattle.std.specs.List.{list_all}
@@ -14,10 +14,8 @@ use Rattle.rc_position.specs.declared.positions.Weight.{Weight}
 use Rattle.rc_position.specs.Position.{bytes_cmp}
 use Rattle.rc_ranges.specs.declared.pieces.Piece.{Piece}
 use Rattle.rc_ranges.specs.Cover.{cover}
-use Rattle.rc_schema.specs.declared.checks.SchemaErr.{SchemaErr}
-use Rattle.rc_schema.specs.declared.checks.SchemaErr.TheVariants.{UnknownColumn, TooLong}
 use Rattle.rc_schema.specs.SchemaValue.{SchemaValue}
-use Rattle.rc_schema.specs.Checks.{checked_prefix, checked_cells, column_count, has_short_value}
+use Rattle.rc_schema.specs.Checks.{is_key_of, are_cells_of, column_count, has_short_value}
 use Rattle.rc_mutation.specs.declared.mutations.Mutation.{Mutation}
 use Rattle.rc_mutation.specs.declared.mutations.Partition.{Partition}
 use Rattle.rc_mutation.specs.declared.mutations.Write.{Write}
@@ -35,39 +33,32 @@ use Rattle.rc_machine.specs.laws.FittingKeys.{ascend_as}
 
 -- ---- cells that fit, one by one
 
--- what a check answers
-abbrev Checked : Type 0
-Checked = Result (Unit {0}) SchemaErr
-
 -- a cell of a column of the schema, with a value within the limits
 abbrev CellFits : Bool → SchemaValue → (ℕ × Cell) → Type 0
 CellFits is_static schema e = (nat_lt e.0 (column_count is_static schema) ≡ true) × (has_short_value e.1 ≡ true)
 
-no_fault : (a b : Bool) → ◌≡◌ {A = Checked} (if a then (if b then Ok tt else Err TooLong) else Err UnknownColumn) (Ok tt) → (a ≡ true) × (b ≡ true)
-no_fault true true h = (refl, refl)
-no_fault true false h = absurd (cc)
-no_fault false b h = absurd (cc)
+both : (a b : Bool) → a && b ≡ true → (a ≡ true) × (b ≡ true)
+both true b h = (refl, h)
+both false b h = absurd (cc)
 
 paired : (is_static : Bool) (schema : SchemaValue) (cells : List (ℕ × Cell)) → Each (λ e. nat_lt e.0 (column_count is_static schema) ≡ true) cells → Each (λ e. has_short_value e.1 ≡ true) cells → Each (CellFits is_static schema) cells
 paired is_static schema [] g h = tt
 paired is_static schema (e ∷ es) g h = ((g.0, h.0), paired is_static schema es g.1 h.1)
 
-each_cell : (is_static : Bool) (schema : SchemaValue) (cells : List (ℕ × Cell)) → checked_cells is_static schema cells ≡ Ok tt → Each (CellFits is_static schema) cells
-unfolding checked_cells
+each_cell : (is_static : Bool) (schema : SchemaValue) (cells : List (ℕ × Cell)) → are_cells_of (column_count is_static schema) cells ≡ true → Each (CellFits is_static schema) cells
 each_cell is_static schema cells h =
     let known = λ (e : ℕ × Cell). nat_lt e.0 (column_count is_static schema) in
     let short = λ (e : ℕ × Cell). has_short_value e.1 in
-    let tests = no_fault (list_all known cells) (list_all short cells) h in
+    let tests = both (list_all known cells) (list_all short cells) h in
     paired is_static schema cells (each_of_test known cells tests.0) (each_of_test short cells tests.1)
 
-all_cells_fit : (is_static : Bool) (schema : SchemaValue) (cells : List (ℕ × Cell)) → Each (CellFits is_static schema) cells → checked_cells is_static schema cells ≡ Ok tt
-unfolding checked_cells
+all_cells_fit : (is_static : Bool) (schema : SchemaValue) (cells : List (ℕ × Cell)) → Each (CellFits is_static schema) cells → are_cells_of (column_count is_static schema) cells ≡ true
 all_cells_fit is_static schema cells h =
     let known = λ (e : ℕ × Cell). nat_lt e.0 (column_count is_static schema) in
     let short = λ (e : ℕ × Cell). has_short_value e.1 in
     let all_known : list_all known cells ≡ true = test_of_each known cells (each_so (CellFits is_static schema) (λ e. known e ≡ true) cells h (λ e f. f.0)) in
     let all_short : list_all short cells ≡ true = test_of_each short cells (each_so (CellFits is_static schema) (λ e. short e ≡ true) cells h (λ e f. f.1)) in
-    λ i. if all_known i then (if all_short i then Ok tt else Err TooLong) else Err UnknownColumn
+    λ i. all_known i && all_short i
 
 -- ---- what a write that fits says
 
@@ -85,7 +76,6 @@ changes_fit schema key writes h =
 
 -- all positions begin between rows, at no components
 start_fits : (schema : SchemaValue) → IsRangeBound schema start
-unfolding checked_prefix
 start_fits schema = (λ e. absurd (cc), refl)
 
 module _ (schema : SchemaValue) (m : Mutation) (changes : List Mutation) (is : IsMutation m) (same : SameSource (m ∷ []) changes) (fit : Each (ChangeFits schema) changes) where
@@ -95,7 +85,7 @@ module _ (schema : SchemaValue) (m : Mutation) (changes : List Mutation) (is : I
       let e : m.statics ≡ joined_row rows = sym (statics-one m is) ∙ same.statics in
       let marker : (joined_row rows).marker ≡ None = joined_marker rows (each_map (λ r. r.marker ≡ None) (λ c. c.statics) changes (each_so (ChangeFits schema) (λ c. c.statics.marker ≡ None) changes fit (λ c f. f.statics.0))) in
       let tomb : (joined_row rows).tomb ≡ None = joined_tomb rows (each_map (λ r. r.tomb ≡ None) (λ c. c.statics) changes (each_so (ChangeFits schema) (λ c. c.statics.tomb ≡ None) changes fit (λ c f. f.statics.1))) in
-      let cells : checked_cells true schema (joined_row rows).cells ≡ Ok tt =
+      let cells : are_cells_of (column_count true schema) (joined_row rows).cells ≡ true =
       all_cells_fit true schema (joined_row rows).cells (each_joined (CellFits true schema) rows
       (each_map (λ r. Each (CellFits true schema) r.cells) (λ c. c.statics) changes
       (each_so (ChangeFits schema) (λ c. Each (CellFits true schema) c.statics.cells) changes fit (λ c f. each_cell true schema c.statics.cells f.statics.2)))) in
@@ -103,7 +93,7 @@ module _ (schema : SchemaValue) (m : Mutation) (changes : List Mutation) (is : I
 
   rows_fit : Each (λ e. IsRowOf schema e.0 e.1) m.rows
   rows_fit =
-      let HasKey : List Comp → Type 0 = λ key. checked_prefix true schema key ≡ Ok tt in
+      let HasKey : List Comp → Type 0 = λ key. is_key_of true schema key ≡ true in
       let keys : Each (λ (e : List Comp × Row). HasKey e.0) (all_rows changes) =
       each_flat_map (λ (e : List Comp × Row). HasKey e.0) (λ c. c.rows) changes
       (each_so (ChangeFits schema) (λ c. Each (λ (e : List Comp × Row). HasKey e.0) c.rows) changes fit

@@ -17,7 +17,7 @@ abbrev pub IsFreeNewest : ℕ → Shown → Type 0
 IsFreeNewest number c = (suc number ≡ length c.versions) × (IsPinned c.pins number → ⊥)
 
 -- something of a schema may be joined into the newest version of a chain, for which there are so many bytes
-pub record IsReady (S : ℕ) (schema : SchemaValue) (m : Memory) (id number bytes : ℕ) : Type 0 where
+pub record CanJoinNewest (S : ℕ) (schema : SchemaValue) (m : Memory) (id number bytes : ℕ) : Type 0 where
   pub limits : IsTrue (is_schema schema)
   pub small : AreSmall S schema
   pub kept : (k : KeptChain) × (changes : List Mutation) × (chain_at m id ≡ Some k) × IsFreeNewest number k.chain × KeepsChanges schema k.chain changes

@@ -29,7 +29,7 @@ use Rattle.rc_mutation.specs.laws.JoinedRows.{joined_rows-again, joined_rows-row
 use Rattle.rc_query.specs.declared.lines.OutLine.{OutLine}
 use Rattle.rc_query.specs.declared.lines.OutLine.TheVariants as line
 use Rattle.rc_mutation.specs.Fragments.{has_any}
-use Rattle.rc_query.specs.Answer.{live_values, in_slice, line_of, line_at, static_line, answer}
+use Rattle.rc_query.specs.Answer.{live_values, in_slice, line_of, static_line, answer}
 
 less_lt : (a b : Bool) → cond a Less (cond b Greater Equal) ≡ Less → a ≡ true
 less_lt true b e = refl
@@ -131,6 +131,10 @@ greatest-three ps rs ts =
 cover-in_force : (changes : List Mutation) (key : List Comp) → row_cover changes key ≡ in_force (outer_cover changes key) (joined_row (rows_at key (all_rows changes)))
 unfolding joined_row range_tomb
 cover-in_force changes key = greatest-three (partition_tombs changes) (tombs_over (all_pieces changes) (row_pos key)) (tombs (rows_at key (all_rows changes)))
+
+-- the line of a key
+abbrev pub line_at : List Mutation → List Comp → Option OutLine
+line_at changes key = line_of (row_cover changes key) key (rows_at key (all_rows changes))
 
 line_at-joined_row : (changes : List Mutation) (key : List Comp) → line_at changes key ≡ row_line (outer_cover changes key) key (joined_row (rows_at key (all_rows changes)))
 line_at-joined_row changes key =

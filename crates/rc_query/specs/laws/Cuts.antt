@@ -20,7 +20,8 @@ use Rattle.rc_ranges.specs.laws.Order.{before-lt, covers-lt, gt-lt, le-trans, lt
 use Rattle.rc_mutation.specs.ByKey.{KeyedRows, keys_of}
 use Rattle.rc_mutation.specs.declared.mutations.Mutation.{Mutation}
 use Rattle.rc_mutation.specs.Source.{all_rows}
-use Rattle.rc_query.specs.Answer.{in_slice, line_at, row_lines, sliced_before, sliced_from}
+use Rattle.rc_query.specs.Answer.{in_slice, row_lines, sliced_before, sliced_from}
+use Rattle.rc_query.specs.laws.Answers.{line_at}
 
 less : (r : Ordering) → T (is_lt r) → r ≡ Less
 less Less h = refl

@@ -1,6 +1,7 @@
 -- What the checks let through is within the limits of the codes, makes no larger objects than the schema's largest, and is joined to what they let through.
-use Rattle.std.specs.Prelude.{ℕ, Bool, true, false, ◌≡◌, ◌&&◌, ◌==◌, ◌≤◌, ◌<◌, ◌+◌, nat_le, nat_lt, List, [], ◌∷◌, ◌++◌, length, None, Result, Ok, Err, IsTrue, All, if◌then◌else◌}
-use Rattle.std.proofs.Common.{refl, ap, arith, length-append}
+use Rattle.std.specs.Prelude.{ℕ, Bool, true, false, ◌≡◌, ◌&&◌, ◌==◌, ◌≤◌, ◌<◌, nat_le, nat_lt, List, [], ◌∷◌, ◌++◌, length, None, Result, Ok, Err, IsTrue, All, if◌then◌else◌}
+use Rattle.std.proofs.Common.{refl, ap, ◌∙◌, arith, length-append}
+use Rattle.std.specs.Result.{is_ok}
 use Rattle.std.specs.List.{list_all, flat_map, AllByRecursion}
 use Rattle.std.proofs.lemmas.Bool.{leb-true, ltb-true}
 use Rattle.std.proofs.lemmas.List.Elements.{All-from_recursion}
@@ -21,8 +22,9 @@ use Rattle.rc_schema.specs.declared.kinds.CkKind.{CkKind}
 use Rattle.rc_schema.specs.declared.kinds.CkKind.TheVariants.{Int, Text}
 use Rattle.rc_schema.specs.declared.checks.SchemaErr.{SchemaErr}
 use Rattle.rc_schema.specs.declared.checks.SchemaErr.TheVariants.{WrongKey, UnknownColumn, TooLong}
-use Rattle.rc_schema.specs.SchemaValue.{SchemaValue, are_few, are_names, is_schema}
-use Rattle.rc_schema.specs.Checks.{is_of_kind, are_of_kinds, fits_kinds, is_short, has_short_value, checked_prefix, checked_cells, column_count}
+use Rattle.rc_schema.specs.SchemaValue.{SchemaValue, is_schema}
+use Rattle.rc_schema.specs.Tests.{are_few, are_names}
+use Rattle.rc_schema.specs.Checks.{is_of_kind, are_of_kinds, fits_kinds, is_short, has_short_value, is_key_of, are_cells_of, checked_prefix, checked_cells, column_count}
 use Rattle.rc_schema.specs.Largest.{component_size, components_size, cells_size, largest_entry, largest_static}
 
 -- what a check answers
@@ -49,6 +51,31 @@ cells_tests : (is_static : Bool) (s : SchemaValue) (cells : List (ℕ × Cell)) 
     → (list_all (λ e. nat_lt e.0 (column_count is_static s)) cells ≡ true) × (list_all (λ e. has_short_value e.1) cells ≡ true)
 unfolding checked_cells
 cells_tests is_static s cells h = passed TooLong UnknownColumn (list_all (λ e. nat_lt e.0 (column_count is_static s)) cells) (list_all (λ e. has_short_value e.1) cells) h
+
+-- what is refused is what does not fit
+
+two_tests : (e f : SchemaErr) (a b : Bool) → is_ok {T = Unit {0}} {E = SchemaErr} (if a then (if b then Ok tt else Err e) else Err f) ≡ a && b
+two_tests e f true true = refl
+two_tests e f true false = refl
+two_tests e f false b = refl
+
+pub key_tested : (full : Bool) (s : SchemaValue) (key : List Comp) → is_ok (checked_prefix full s key) ≡ is_key_of full s key
+unfolding checked_prefix
+key_tested full s key = two_tests TooLong WrongKey (fits_kinds full s.ck key) (list_all is_short key)
+
+pub cells_tested : (is_static : Bool) (s : SchemaValue) (cells : List (ℕ × Cell)) → is_ok (checked_cells is_static s cells) ≡ are_cells_of (column_count is_static s) cells
+unfolding checked_cells
+cells_tested is_static s cells = two_tests TooLong UnknownColumn (list_all (λ e. nat_lt e.0 (column_count is_static s)) cells) (list_all (λ e. has_short_value e.1) cells)
+
+fine : (r : Checked) → is_ok r ≡ true → r ≡ Ok tt
+fine (Ok u) h = refl
+fine (Err e) h = absurd (cc)
+
+pub key_passes : (full : Bool) (s : SchemaValue) (key : List Comp) → is_key_of full s key ≡ true → checked_prefix full s key ≡ Ok tt
+key_passes full s key h = fine (checked_prefix full s key) (key_tested full s key ∙ h)
+
+pub cells_pass : (is_static : Bool) (s : SchemaValue) (cells : List (ℕ × Cell)) → are_cells_of (column_count is_static s) cells ≡ true → checked_cells is_static s cells ≡ Ok tt
+cells_pass is_static s cells h = fine (checked_cells is_static s cells) (cells_tested is_static s cells ∙ h)
 
 -- ---- within the limits of the codes
 

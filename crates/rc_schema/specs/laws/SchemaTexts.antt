@@ -1,7 +1,8 @@
 -- Reading a schema's text and printing it are inverse, for crates above to cite.
-use Rattle.std.specs.Prelude.{ℕ, Bool, true, false, cond, not, ◌&&◌, ◌||◌, ◌==◌, nat_le, ◌≤◌, List, [], ◌∷◌, ◌++◌, map as list_map, drop, length, codes, Option, Some, None, ◌≡◌}
+use Rattle.std.specs.Prelude.{ℕ, Bool, true, false, cond, not, ◌&&◌, ◌||◌, ◌==◌, nat_le, ◌≤◌, List, [], ◌∷◌, ◌++◌, map as list_map, drop, length, codes, Option, Some, None, option_and_then, ◌≡◌, if◌then◌else◌}
 use Rattle.std.proofs.Common.{refl, sym, ap, ◌∙◌, subst, arith}
 use Rattle.std.specs.Char.{is_ascii_lowercase}
+use Rattle.std.specs.Option.{option_map}
 use Rattle.std.specs.List.{list_all, slice_split, onto_first, join_with_byte}
 use Rattle.std.proofs.lemmas.Bool.Decides.{nat_tests, Decides-eqb}
 use Rattle.std.proofs.lemmas.Slice.Eq.{starts_is}
@@ -10,9 +11,10 @@ use Rattle.std.proofs.lemmas.List.Splits.{slice_split-cons_yes, slice_split-cons
 use Rattle.std.proofs.lemmas.List.Folds.{list_all-append}
 use Rattle.rc_schema.specs.declared.kinds.CkKind.{CkKind}
 use Rattle.rc_schema.specs.declared.kinds.CkKind.TheVariants.{Int, Text}
-use Rattle.rc_schema.specs.SchemaValue.{SchemaValue, is_name, is_name_byte, are_names, are_distinct_by, is_schema}
-use Rattle.rc_spelling.specs.Words.{is_word, words}
-use Rattle.rc_schema.specs.SchemaText.{kind_text, kinds_text, names_text, schema_text, items, is_kind, kind_named, names_of, lists_named, are_listed, begins, schema_listed, marked, schema_of_words, schema_of}
+use Rattle.rc_schema.specs.SchemaValue.{SchemaValue, is_name, are_distinct_by, is_schema}
+use Rattle.rc_spelling.specs.Words.{is_word, words, each_of}
+use Rattle.rc_schema.specs.SchemaText.{kind_text, names_text, schema_text, read_kind, names_of, schema_listed, schema_of_words, schema_of}
+use Rattle.rc_schema.specs.Tests.{is_name_byte, are_names, is_kind, kind_named, lists_named, are_listed, begins, marked}
 
 both : (b c : Bool) → b && c ≡ true → (b ≡ true) × (c ≡ true)
 both true c h = (refl, h)
@@ -63,6 +65,14 @@ lacks-join c d differ (word ∷ other ∷ rest) h =
     lacks-append c word (d ∷ join_with_byte d (other ∷ rest)) parts.0 (join (not (d == c)) (lacks c (join_with_byte d (other ∷ rest))) differ (lacks-join c d differ (other ∷ rest) parts.1))
 
 -- kinds
+
+-- kinds with commas between them
+abbrev kinds_text : List CkKind → List ℕ
+kinds_text kinds = join_with_byte 44 (list_map kind_text kinds)
+
+-- the items of a word, between commas
+abbrev items : List ℕ → List (List ℕ)
+items word = slice_split (λ byte. byte == 44) word
 
 kind_lacks : (k : CkKind) → (lacks 32 (kind_text k) ≡ true) × (lacks 44 (kind_text k) ≡ true)
 kind_lacks Int = (refl, refl)
@@ -162,6 +172,38 @@ parts_of s h =
       cols = each.1;
     }
 
+-- what words say, tested first and read then
+
+one_kind : (a b : Bool) → cond a (Some Int) (cond b (Some Text) None) ≡ cond (a || b) (Some (cond a Int Text)) None
+one_kind true b = refl
+one_kind false true = refl
+one_kind false false = refl
+
+first_kind : (b c : Bool) (kind : CkKind) (kinds : List CkKind) →
+    option_and_then (λ k. option_map (λ ks. k ∷ ks) (cond c (Some kinds) None)) (cond b (Some kind) None) ≡ cond (b && c) (Some (kind ∷ kinds)) None
+first_kind true true kind kinds = refl
+first_kind true false kind kinds = refl
+first_kind false c kind kinds = refl
+
+kinds_tested : (words : List (List ℕ)) → each_of read_kind words ≡ cond (list_all is_kind words) (Some (list_map kind_named words)) None
+kinds_tested [] = refl
+kinds_tested (word ∷ words) =
+    (λ i. option_and_then (λ k. option_map (λ ks. k ∷ ks) (kinds_tested words i)) (one_kind (is_word word (codes "int")) (is_word word (codes "text")) i))
+    ∙ first_kind (is_kind word) (list_all is_kind words) (kind_named word) (list_map kind_named words)
+
+within_limits : (b c : Bool) (kinds : List CkKind) (statics cols : List (List ℕ)) → is_schema (record { ck = kinds; statics = statics; cols = cols }) ≡ c
+    → option_and_then (λ s. if is_schema s then Some s else None) (option_map {U = SchemaValue} (λ ks. record { ck = ks; statics = statics; cols = cols }) (cond b (Some kinds) None))
+    ≡ cond (b && c) (Some (record { ck = kinds; statics = statics; cols = cols })) None
+within_limits true c kinds statics cols e = ap (λ d. cond d (Some (record { ck = kinds; statics = statics; cols = cols })) None) e
+within_limits false c kinds statics cols e = refl
+
+pub listed_tested : (ck statics cols : List ℕ) → schema_listed ck statics cols
+    ≡ cond (are_listed (slice_split (λ byte. byte == 44) ck) (names_of statics) (names_of cols)) (Some (lists_named (slice_split (λ byte. byte == 44) ck) (names_of statics) (names_of cols))) None
+unfolding schema_listed
+listed_tested ck statics cols =
+    ap (λ o. option_and_then (λ s. if is_schema s then Some s else None) (option_map {U = SchemaValue} (λ ks. record { ck = ks; statics = names_of statics; cols = names_of cols }) o)) (kinds_tested (items ck))
+    ∙ within_limits (list_all is_kind (items ck)) (is_schema (lists_named (items ck) (names_of statics) (names_of cols))) (list_map kind_named (items ck)) (names_of statics) (names_of cols) refl
+
 same_if : (b : Bool) (x y : SchemaValue) → b ≡ true → x ≡ y → cond b (Some x) None ≡ Some y
 same_if b x y p q = rw (p, q) refl
 
@@ -173,21 +215,20 @@ named_back s p =
     λ i. record { ck = ck i; statics = statics i; cols = cols i }
 
 listed_back : (s : SchemaValue) → is_schema s ≡ true → schema_listed (kinds_text s.ck) (names_text s.statics) (names_text s.cols) ≡ Some s
-unfolding schema_listed
 listed_back s h =
     let p = parts_of s h in
     let named = lists_named (items (kinds_text s.ck)) (names_of (names_text s.statics)) (names_of (names_text s.cols)) in
-    same_if (are_listed (items (kinds_text s.ck)) (names_of (names_text s.statics)) (names_of (names_text s.cols))) named s
+    listed_tested (kinds_text s.ck) (names_text s.statics) (names_text s.cols)
+    ∙ same_if (are_listed (items (kinds_text s.ck)) (names_of (names_text s.statics)) (names_of (names_text s.cols))) named s
     (join (list_all is_kind (items (kinds_text s.ck))) (is_schema named) (ap (list_all is_kind) (items_back s.ck p.some_kind) ∙ kinds_are s.ck) (ap is_schema (named_back s p) ∙ h))
     (named_back s p)
 
 marked_back : (ck statics cols : List ℕ) → marked (codes "ck=" ++ ck) (codes "static=" ++ statics) (codes "cols=" ++ cols) ≡ schema_listed ck statics cols
-unfolding marked
 marked_back ck statics cols = refl
 
 -- the text of a schema within the limits is read as that schema
 pub text_reads_back : (s : SchemaValue) → is_schema s ≡ true → schema_of (schema_text s) ≡ Some s
-unfolding schema_of schema_text
+unfolding schema_text
 text_reads_back s h =
     let p = parts_of s h in
     let statics = names_text_lacks s.statics p.statics in
@@ -251,17 +292,15 @@ inside : (x y : SchemaValue) → ◌≡◌ {A = Option SchemaValue} (Some x) (So
 inside x y h = cc
 
 listed_read : (ck statics cols : List ℕ) (s : SchemaValue) → schema_listed ck statics cols ≡ Some s → Read s ck statics cols
-unfolding schema_listed
 listed_read ck statics cols s h =
     let named = lists_named (items ck) (names_of statics) (names_of cols) in
-    let parts = if_some (are_listed (items ck) (names_of statics) (names_of cols)) (Some named) s h in
+    let parts = if_some (are_listed (items ck) (names_of statics) (names_of cols)) (Some named) s (sym (listed_tested ck statics cols) ∙ h) in
     let halves = both (list_all is_kind (items ck)) (is_schema named) parts.0 in
     let whole : Read named ck statics cols = record { kinds = kinds_word ck halves.0; statics = names_word statics; cols = names_word cols; within = halves.1 } in
     subst (λ (x : SchemaValue). Read x ck statics cols) (inside named s parts.1) whole
 
 marked_read : (ck statics cols : List ℕ) (s : SchemaValue) → marked ck statics cols ≡ Some s
     → (codes "ck=" ++ kinds_text s.ck ≡ ck) × (codes "static=" ++ names_text s.statics ≡ statics) × (codes "cols=" ++ names_text s.cols ≡ cols) × (is_schema s ≡ true)
-unfolding marked
 marked_read ck statics cols s h =
     let parts = if_some (begins (codes "ck=") ck && (begins (codes "static=") statics && begins (codes "cols=") cols)) (schema_listed (drop 3 ck) (drop 7 statics) (drop 5 cols)) s h in
     let first = both (begins (codes "ck=") ck) (begins (codes "static=") statics && begins (codes "cols=") cols) parts.0 in
@@ -288,10 +327,8 @@ words_read (ck ∷ statics ∷ cols ∷ more ∷ rest) s h = cc
 
 -- a text that is read as a schema is that schema's text
 pub read_is_the_text : (text : List ℕ) (s : SchemaValue) → schema_of text ≡ Some s → schema_text s ≡ text
-unfolding schema_of
 read_is_the_text text s h = (words_read (words text) s h).0 ∙ join_with_byte-slice_split 32 text
 
 -- and the schema is within the limits
 pub read_is_within : (text : List ℕ) (s : SchemaValue) → schema_of text ≡ Some s → is_schema s ≡ true
-unfolding schema_of
 read_is_within text s h = (words_read (words text) s h).1

@@ -12,7 +12,7 @@ use Rattle.std.proofs.lemmas.Int.{ints}
 use Rattle.std.proofs.lemmas.Fmt.{decimal_is_IsNumeral, decimal_digit, first_decimal}
 use Rattle.std.proofs.lemmas.Str.Parse.{digit_from_value}
 use lib.IntN.{ℤ, pos, negsuc, neg_ℤ}
-use Rattle.rc_spelling.specs.Numbers.{is_numeral, number_of, negative_of, positive_of, signed_of}
+use Rattle.rc_spelling.specs.Numbers.{is_numeral, number_of, count_of, signed_of}
 
 -- a numeral of at most `most` is a number
 pub number_some : (most : ℕ) (word : List ℕ) → is_numeral word ≡ true → digits_value 10 word ≤ most → number_of most word ≡ Some (digits_value 10 word)
@@ -47,25 +47,24 @@ decimal_number most n small few =
     let k = decimal_is_IsNumeral n small in
     number_some most (decimal n) (decimal_numeral n small) (omega (arith, k.1)) ∙ ap Some k.1
 
-no_minus : (ds : List ℕ) → 0 < length ds → AllDigits 10 ds → signed_of ds ≡ positive_of ds
+no_minus : (ds : List ℕ) → 0 < length ds → AllDigits 10 ds → signed_of ds ≡ option_map pos (number_of (2 ^ 63 - 1) ds)
 no_minus [] some d = absurd (omega arith)
 no_minus (first ∷ rest) some d =
     let within = digit_from_value first d.0 in
     let e : first == 45 ≡ false = grind (arith, nat_tests) in
-    ap (λ b. cond b (negative_of rest) (positive_of (first ∷ rest))) e
+    ap (λ b. cond b (option_map (λ n. neg_ℤ (pos n)) (count_of (2 ^ 63) rest)) (option_map pos (number_of (2 ^ 63 - 1) (first ∷ rest)))) e
 
 pub positive_back : (n : ℕ) → n < 2 ^ 63 → signed_of (decimal n) ≡ Some (pos n)
-unfolding positive_of
 positive_back n small =
     let k = decimal_is_IsNumeral n (omega arith) in
     no_minus (decimal n) k.0.0 k.0.1 ∙ ap (option_map pos) (decimal_number (2 ^ 63 - 1) n (omega arith) (omega arith))
 
 pub negative_back : (n : ℕ) → n < 2 ^ 63 → signed_of (45 ∷ decimal (suc n)) ≡ Some (negsuc n)
-unfolding negative_of
+unfolding count_of
 negative_back n small =
     let some : suc n == 0 ≡ false = grind (arith, nat_tests) in
-    ap (option_and_then (λ value. if value == 0 then None else Some (neg_ℤ (pos value)))) (decimal_number (2 ^ 63) (suc n) (omega arith) (omega arith))
-    ∙ ap (λ b. cond b None (Some (negsuc n))) some
+    ap (λ o. option_map (λ m. neg_ℤ (pos m)) (option_and_then (λ value. if value == 0 then None else Some value) o)) (decimal_number (2 ^ 63) (suc n) (omega arith) (omega arith))
+    ∙ ap (λ b. option_map (λ m. neg_ℤ (pos m)) (cond b None (Some (suc n)))) some
 
 pub signed_back : (number : ℤ) → FitsSigned w64 number → signed_of (signed_decimal number) ≡ Some number
 signed_back (pos n) fits = positive_back n (omega (arith, ints))

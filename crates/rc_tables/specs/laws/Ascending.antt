@@ -17,7 +17,7 @@ use Rattle.rc_mutation.specs.declared.mutations.Mutation.{Mutation}
 use Rattle.rc_mutation.specs.declared.mutations.Partition.{Partition}
 use Rattle.rc_mutation.specs.Fragments.{fragments}
 use Rattle.rc_tfile.specs.Items.{Item, HeadItem, PartItem, RowItem, ChangeItem, EndItem, StopItem}
-use Rattle.rc_tfile.specs.Before.{ItemsBefore, followed_by, last_key, IsNextKey}
+use Rattle.rc_tfile.specs.Before.{ItemsBefore, followed_by, last_key}
 use Rattle.rc_tfile.specs.Blocks.{ending}
 use Rattle.rc_tfile.specs.TableText.{AllFit, items_to_stop, whole_table, part_items, frag_items}
 use Rattle.rc_tfile.specs.laws.Follows.{followed_by-append}
@@ -74,7 +74,7 @@ last_key-part : (p : Partition) (b : ItemsBefore) → last_key (followed_by b (p
 last_key-part p b = last_key-frags (fragments p.change) (PartItem p.key p.change.pt p.change.statics ∷ b)
 
 module _ (schema : SchemaValue) where
-  is_next : (p : Partition) (xs : List Item) (b : ItemsBefore) → AllFit schema (followed_by b (part_items p ++ xs)) → IsNextKey b p.key
+  is_next : (p : Partition) (xs : List Item) (b : ItemsBefore) → AllFit schema (followed_by b (part_items p ++ xs)) → IfSome (last_key b) (λ last. bytes_cmp last p.key ≡ Less)
   is_next p xs b h = (front_fits schema (flat_map frag_items (fragments p.change) ++ xs) (PartItem p.key p.change.pt p.change.statics ∷ b) h).1.1.1
 
   abbrev keyed : List Partition → List Keyed
@@ -89,7 +89,7 @@ module _ (schema : SchemaValue) where
       let on : AllFit schema (followed_by behind (flat_map part_items (q ∷ ps) ++ more)) =
       subst (AllFit schema) (ap (followed_by b) items ∙ followed_by-append b (part_items p) (flat_map part_items (q ∷ ps) ++ more)) h in
       let up : T (is_sorted bytes_cmp (keyed (q ∷ ps))) = ascending (q ∷ ps) more behind on in
-      let next : IsNextKey behind q.key =
+      let next : IfSome (last_key behind) (λ last. bytes_cmp last q.key ≡ Less) =
       is_next q (flat_map part_items ps ++ more) behind (subst (λ (xs : List Item). AllFit schema (followed_by behind xs)) (append_assoc (part_items q) (flat_map part_items ps) more) on) in
       let above : bytes_cmp p.key q.key ≡ Less = subst (λ (o : Option (List ℕ)). IfSome o (λ last. bytes_cmp last q.key ≡ Less)) (last_key-part p b) next in
       both (below_all bytes_cmp p.key (keyed (q ∷ ps))) (is_sorted bytes_cmp (keyed (q ∷ ps))) (below_first p.key (q.key, q.change) (keyed ps) above up) up

@@ -10,7 +10,7 @@ use Rattle.rc_schema.specs.SchemaValue.{SchemaValue}
 use Rattle.rc_mutation.specs.declared.mutations.Partition.{Partition}
 use Rattle.rc_tfile.specs.Before.{ItemsBefore, text, offset, followed_by}
 use Rattle.rc_tfile.specs.TableText.{part_items, items_to_stop, whole_table}
-use Rattle.rc_tfile.specs.Info.{refs, refs_from}
+use Rattle.rc_tfile.specs.Info.{refs_from}
 use Rattle.rc_tfile.specs.laws.Follows.{followed_by-append, text-followed_by}
 use Rattle.rc_tfile.specs.Blocks.{entries, entry_items, ending}
 use Rattle.rc_tfile.specs.calls.Outlined.{IsListed}
@@ -75,5 +75,5 @@ table_built b0 b1 b2 b3 schema parts p q r =
     r ∙ ap (λ b. grown b end) (q ∙ ap (λ b. grown b middle) p ∙ grown_more b0 head middle) ∙ grown_more b0 (head ++ middle) end ∙ ap (grown b0) (sym (table_text schema parts))
 
 -- the references that an outline gives are those of the table
-pub refs_are : (schema : SchemaValue) (parts : List Partition) (o : Outline) → IsListed (StopItem ∷ parts_of schema parts) o → refs_from o.off o.listed.items ≡ refs (items_to_stop schema parts)
-refs_are schema parts o is = (λ i. refs_from (is.off i) (is.listed i)) ∙ ap refs (sym (body_is schema parts))
+pub refs_are : (schema : SchemaValue) (parts : List Partition) (o : Outline) → IsListed (StopItem ∷ parts_of schema parts) o → refs_from o.off o.listed.items ≡ refs_from (offset (items_to_stop schema parts)) (entries (items_to_stop schema parts))
+refs_are schema parts o is = (λ i. refs_from (is.off i) (is.listed i)) ∙ ap (λ b. refs_from (offset b) (entries b)) (sym (body_is schema parts))

@@ -26,7 +26,7 @@ use Rattle.rc_writes.specs.Allowed.{ChangeFits, IsRangeBound, IsRowOf}
 use Rattle.rc_mutation.specs.Canonical.{IsBounded, IsCanonicalList}
 use Rattle.rc_mutation.specs.laws.CanonicalListed.{listed}
 use Rattle.rc_tfile.specs.Items.{Item, HeadItem, PartItem, RowItem, ChangeItem, EndItem, StopItem, EntryItem, BlockItem, TailItem, IsItem}
-use Rattle.rc_tfile.specs.Before.{ItemsBefore, Between, Inside, text, followed_by, item_place, last_key, last_pos, tomb_in_force, IsNextKey}
+use Rattle.rc_tfile.specs.Before.{ItemsBefore, Between, Inside, text, followed_by, item_place, last_key, last_pos, tomb_in_force}
 use Rattle.rc_tfile.specs.Blocks.{DirectoryEntry, entries, entry_items, ending, due}
 use Rattle.rc_tfile.specs.TableText.{MayStand, AllFit, frag_items, part_items, items_to_stop, whole_table, IsTable, PartsFit}
 use Rattle.rc_tfile.specs.laws.Drafts.{parts_of, body_is}
@@ -136,7 +136,7 @@ key_behind before p =
 -- the key of the first of some partitions comes next
 abbrev NextKey : ItemsBefore → List Partition → Type 0
 NextKey before [] = ⊤
-NextKey before (p ∷ ps) = IsNextKey before p.key
+NextKey before (p ∷ ps) = IfSome (last_key before) (λ last. bytes_cmp last p.key ≡ Less)
 
 next_key : (before : ItemsBefore) (p : Partition) (ps : List Partition) → T (below_all bytes_cmp p.key (list_map (λ (q : Partition). (q.key, q.change)) ps)) → NextKey (behind before p) ps
 next_key before p [] h = tt
@@ -223,7 +223,7 @@ module _ (schema : SchemaValue) where
 
   -- ---- the partitions
 
-  part_stands : (p : Partition) (before : ItemsBefore) → item_place before ≡ Between → IsNextKey before p.key → IsMutation p.change → ChangeFits schema p.change → Stand before (part_items p)
+  part_stands : (p : Partition) (before : ItemsBefore) → item_place before ≡ Between → IfSome (last_key before) (λ last. bytes_cmp last p.key ≡ Less) → IsMutation p.change → ChangeFits schema p.change → Stand before (part_items p)
   part_stands p before b k is fits =
       let start = PartItem p.key p.change.pt p.change.statics ∷ before in
       let bounded : IsBounded p.change.ranges = λ j d lt. (let q = fits.ranges j d lt in (q.0.0, q.1.0)) in (

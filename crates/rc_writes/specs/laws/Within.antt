@@ -3,7 +3,7 @@ use Rattle.std.specs.Prelude.{◌≡◌, Bool, true, false, ◌&&◌, zero, suc,
 use Rattle.std.proofs.Common.{refl, arith}
 use Rattle.std.specs.List.{list_all}
 use Rattle.rc_schema.specs.SchemaValue.{SchemaValue, is_schema}
-use Rattle.rc_schema.specs.laws.Fitting.{key_fits, cells_fit}
+use Rattle.rc_schema.specs.laws.Fitting.{key_fits, cells_fit, key_passes, cells_pass}
 use Rattle.rc_mutation.specs.declared.mutations.Mutation.{Mutation}
 use Rattle.rc_writes.specs.Allowed.{ChangeFits}
 use Rattle.rc_writes.specs.Limits.{IsWithinLimits}
@@ -21,7 +21,7 @@ all_within P p (x ∷ xs) f h (suc k) d lt = all_within P p xs f (both (p x) (li
 -- what is written of a partition and fits a schema is within the limits of the byte codes
 pub change-within : (schema : SchemaValue) (m : Mutation) → IsTrue (is_schema schema) → ChangeFits schema m → IsWithinLimits m
 change-within schema m is fits = record {
-  statics = cells_fit true schema m.statics.cells is fits.statics.2;
-  rows = λ k d lt. (let row = fits.rows k d lt in (key_fits true schema _ is row.0, cells_fit false schema _ is row.1));
-  ranges = λ k d lt. (let range = fits.ranges k d lt in (key_fits false schema _ is range.0.1, key_fits false schema _ is range.1.1));
+  statics = cells_fit true schema m.statics.cells is (cells_pass true schema m.statics.cells fits.statics.2);
+  rows = λ k d lt. (let row = fits.rows k d lt in (key_fits true schema _ is (key_passes true schema _ row.0), cells_fit false schema _ is (cells_pass false schema _ row.1)));
+  ranges = λ k d lt. (let range = fits.ranges k d lt in (key_fits false schema _ is (key_passes false schema _ range.0.1), key_fits false schema _ is (key_passes false schema _ range.1.1)));
 }

@@ -1,5 +1,6 @@
 -- One call after another; the last of them may be refused.
-use Rattle.std.proofs.Common.{true, sym, ◌∙◌, inl, arith}
+use Rattle.std.proofs.Common.{true, false, refl, sym, ◌∙◌, inl, arith}
+use Rattle.rc_stream.specs.Did.{Call.OfHead, Call.OfNext, Call.OfSeek}
 use Rattle.rc_flows.proofs.Asking.{reaches_itself}
 use Rattle.rc_flows.proofs.reading.read_some.Goals as goal
 

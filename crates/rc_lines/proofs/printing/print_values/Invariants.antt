@@ -1,6 +1,6 @@
 use Rattle.std.proofs.Common.{◌≡◌, ◌++◌, take}
 use Rattle.std.specs.List.{flat_map}
-use Rattle.rc_lines.specs.Texts.{value_text}
+use Rattle.rc_lines.specs.Lines.{value_text}
 use Rattle.rc_lines.proofs.printing.print_values.Given as goal
 
 abbrev pub invariant-loop-column : goal.invariant-loop-column

@@ -1,8 +1,8 @@
 -- Each way in which a turn ends.
+use Rattle.rc_shell.specs.Run.{piece_size}
 use Rattle.std.proofs.Common.{◌≡◌, ◌<◌, ◌≤◌, ◌+◌, [], length, take, arith, subst}
 use Rattle.std.proofs.lemmas.List.{length-take-le}
 use Rattle.std.specs.Io.KnownBytes.{Consumes}
-use Rattle.rc_shell.specs.Run.{piece_size}
 use Rattle.rc_shell.specs.Step.{LineStep, EndsRun, LeavesStore}
 use Rattle.rc_shell.proofs.Ending.{went_on, stopped, input_failed, input_ended, end_stopped}
 use Rattle.rc_shell.proofs.session.Session.turn.Goals as goal

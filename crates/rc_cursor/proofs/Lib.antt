@@ -1,0 +1,4 @@
+mod Heads
+mod Parts
+mod Readable
+mod Taken
