@@ -1,13 +1,14 @@
 -- What is of a schema stays of it: a new version, and one into which something of the schema is joined.
-use Rattle.std.proofs.Common.{◌≡◌, ℕ, zero, suc, Bool, true, false, cond, List, [], ◌∷◌, Option, Some, None, Ok, length, map, refl, sym, ap, subst}
+use Rattle.std.proofs.Common.{◌≡◌, ℕ, zero, suc, Bool, true, false, cond, List, [], ◌∷◌, Option, Some, None, Ok, length, map, refl, sym, ap, ◌∙◌, subst}
 use Rattle.std.specs.Prelude.{IfSome, ◌&&◌, ◌==◌, Result, Err, if◌then◌else◌}
-use Rattle.std.specs.List.{list_all}
+use Rattle.std.specs.List.{AllByRecursion, list_all}
+use Rattle.std.specs.Result.{is_ok}
 use Rattle.std.specs.Ordering.{eq_by_cmp, is_eq}
 use Rattle.std.specs.declared.cmp.Ordering.{Ordering}
 use Rattle.std.specs.declared.cmp.Ordering.TheVariants.{Less, Equal, Greater}
 use Rattle.rc_cell.specs.declared.rows.Row.{Row}
 use Rattle.rc_cell.specs.declared.writes.Tomb.{Tomb}
-use Rattle.rc_cell.specs.Winner.{IsRow}
+use Rattle.rc_cell.specs.Winner.{IsRow, joined_row}
 use Rattle.rc_cell.specs.laws.{IsRow-joined_row}
 use Rattle.rc_cell.specs.laws.Each.{joined_marker, joined_tomb}
 use Rattle.rc_position.specs.declared.comps.Comp.{Comp}
@@ -15,10 +16,8 @@ use Rattle.rc_position.specs.declared.positions.Pos.{Pos}
 use Rattle.rc_position.specs.Position.{pos_cmp, row_pos}
 use Rattle.rc_position.specs.laws.Orders.{pos_cmp_same}
 use Rattle.rc_schema.specs.SchemaValue.{SchemaValue}
-use Rattle.rc_schema.specs.declared.checks.SchemaErr.{SchemaErr}
-use Rattle.rc_schema.specs.declared.checks.SchemaErr.TheVariants.{WrongKey, TooLong}
-use Rattle.rc_schema.specs.Checks.{are_of_kinds, checked_prefix, is_short}
-use Rattle.rc_schema.specs.laws.Fitting.{joined_fits}
+use Rattle.rc_schema.specs.Checks.{are_cells_of, are_of_kinds, checked_cells, column_count, is_key_of, is_short}
+use Rattle.rc_schema.specs.laws.Fitting.{cells_pass, cells_tested, joined_fits}
 use Rattle.rc_writes.specs.Allowed.{IsRangeBound, IsRowOf, IsStaticOf}
 use Rattle.rc_core.specs.declared.entries.Entry.{Entry}
 use Rattle.rc_core.specs.declared.entries.Flag.{Flag}
@@ -56,32 +55,38 @@ module _ (schema : SchemaValue) where
   -- ---- positions
 
   -- a key of the schema is a prefix of one
-  looser-test : (a c b : Bool) → ◌≡◌ {A = Result (Unit {0}) SchemaErr} (if a && c then (if b then Ok tt else Err TooLong) else Err WrongKey) (Ok tt) → ◌≡◌ {A = Result (Unit {0}) SchemaErr} (if a && true then (if b then Ok tt else Err TooLong) else Err WrongKey) (Ok tt)
+  looser-test : (a c b : Bool) → (a && c) && b ≡ true → (a && true) && b ≡ true
   looser-test true true b h = h
   looser-test true false b h = absurd (cc)
   looser-test false c b h = absurd (cc)
 
-  pub looser : (key : List Comp) → checked_prefix true schema key ≡ Ok tt → checked_prefix false schema key ≡ Ok tt
-  unfolding checked_prefix
+  pub looser : (key : List Comp) → is_key_of true schema key ≡ true → is_key_of false schema key ≡ true
   looser key h = looser-test (are_of_kinds key schema.ck) (length key == length schema.ck) (list_all is_short key) h
 
   -- so is nothing of one
-  pub nothing-fits : checked_prefix false schema [] ≡ Ok tt
-  unfolding checked_prefix
+  pub nothing-fits : is_key_of false schema [] ≡ true
   nothing-fits = refl
 
-  dummy-of : (x : Pos) → checked_prefix false schema x.prefix ≡ Ok tt → (m : Mark) → IsEntryUnder schema (dummy x m)
+  -- rows of the schema are one as one
+  all-pass : (is_static : Bool) (rows : List Row) → AllByRecursion (λ r. are_cells_of (column_count is_static schema) r.cells ≡ true) rows → AllByRecursion (λ r. checked_cells is_static schema r.cells ≡ Ok tt) rows
+  all-pass is_static [] h = tt
+  all-pass is_static (r ∷ rows) h = (cells_pass is_static schema r.cells h.0, all-pass is_static rows h.1)
+
+  pub cells-joined : (is_static : Bool) (rows : List Row) → AllByRecursion (λ r. are_cells_of (column_count is_static schema) r.cells ≡ true) rows → are_cells_of (column_count is_static schema) (joined_row rows).cells ≡ true
+  cells-joined is_static rows h = sym (cells_tested is_static schema (joined_row rows).cells) ∙ ap is_ok (joined_fits is_static schema rows (all-pass is_static rows h))
+
+  dummy-of : (x : Pos) → is_key_of false schema x.prefix ≡ true → (m : Mark) → IsEntryUnder schema (dummy x m)
   dummy-of x h m = record { position = h; row = tt }
 
   -- ---- rows joined
 
   joined-row : (key : List Comp) (o : Option Row) (row : Row) → IfSome o (λ r. IsRowOf schema key r × IsRow r) → IsRowOf schema key row → IsRow row → IsRowOf schema key (joined_onto o row) × IsRow (joined_onto o row)
   joined-row key None row k h up = (h, up)
-  joined-row key (Some r) row k h up = ((h.0, joined_fits false schema (r ∷ row ∷ []) (k.0.1, (h.1, tt))), IsRow-joined_row (r ∷ row ∷ []))
+  joined-row key (Some r) row k h up = ((h.0, cells-joined false (r ∷ row ∷ []) (k.0.1, (h.1, tt))), IsRow-joined_row (r ∷ row ∷ []))
 
   pub joined-static : (o : Option Row) (row : Row) → IfSome o (λ r. IsStaticOf schema r × IsRow r) → IsStaticOf schema row → IsRow row → IsStaticOf schema (joined_onto o row) × IsRow (joined_onto o row)
   joined-static None row k h up = (h, up)
-  joined-static (Some r) row k h up = ((joined_marker (r ∷ row ∷ []) (k.0.0, (h.0, tt)), joined_tomb (r ∷ row ∷ []) (k.0.1, (h.1, tt)), joined_fits true schema (r ∷ row ∷ []) (k.0.2, (h.2, tt))), IsRow-joined_row (r ∷ row ∷ []))
+  joined-static (Some r) row k h up = ((joined_marker (r ∷ row ∷ []) (k.0.0, (h.0, tt)), joined_tomb (r ∷ row ∷ []) (k.0.1, (h.1, tt)), cells-joined true (r ∷ row ∷ []) (k.0.2, (h.2, tt))), IsRow-joined_row (r ∷ row ∷ []))
 
   -- the row that an entry has, where it stands at the position of a key
   row-at : (key : List Comp) (x : Pos) (o : Option Row) → x ≡ row_pos key → IfSome o (λ row. (x ≡ row_pos x.prefix) × IsRowOf schema x.prefix row × IsRow row) → IfSome o (λ r. IsRowOf schema key r × IsRow r)

@@ -11,3 +11,4 @@ mod Applied
 mod Snapshots
 mod LettingGo
 mod Needing
+mod Leaving

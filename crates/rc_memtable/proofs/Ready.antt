@@ -13,7 +13,7 @@ use Rattle.rc_rowcode.specs.Objects.{dummy_size, static_size}
 use Rattle.rc_rowcode.specs.Spelling.{KeyFits, RowFits}
 use Rattle.rc_schema.specs.SchemaValue.{SchemaValue}
 use Rattle.rc_schema.specs.Largest.{largest_entry, largest_static}
-use Rattle.rc_schema.specs.laws.Fitting.{cells_fit, dummy_within, key_fits}
+use Rattle.rc_schema.specs.laws.Fitting.{cells_fit, cells_pass, dummy_within, key_fits, key_passes}
 use Rattle.rc_mutation.specs.declared.mutations.Mutation.{Mutation}
 use Rattle.rc_mutation.specs.Fragments.{has_any, is_written}
 use Rattle.rc_writes.specs.Allowed.{IsRangeBound, IsRowOf, IsStaticOf}
@@ -67,10 +67,10 @@ module _ (S : ℕ) (schema : SchemaValue) (m : Memory) (id number bytes : ℕ) (
 
   module _ (key : List Comp) (row : Row) (h : IsRowOf schema key row) (up : IsRow row) where
     pub row-limits : RowFits row × (bytes_at (row_pos key) (Some row) ≤ S / 8)
-    row-limits = (cells_fit false schema row.cells r.limits h.1, (let s = entry-small schema r.limits key row h up in let e = r.small.entry in omega (arith, s, e)))
+    row-limits = (cells_fit false schema row.cells r.limits (cells_pass false schema row.cells h.1), (let s = entry-small schema r.limits key row h up in let e = r.small.entry in omega (arith, s, e)))
 
     pub row-key : KeyFits key
-    row-key = key_fits true schema key r.limits h.0
+    row-key = key_fits true schema key r.limits (key_passes true schema key h.0)
 
     pub row-room : largest_entry schema ≤ bytes → OfVersion m id number (λ k v. joined_bytes (row_pos key) row v ≤ spare_of S m.region.usages)
     row-room enough = of-fitting m id r.kept.0 r.kept.2 sound versions number r.kept.3.0 schema (λ v. joined_bytes (row_pos key) row v ≤ spare_of S m.region.usages) r.kept.4.fits
@@ -90,7 +90,7 @@ module _ (S : ℕ) (schema : SchemaValue) (m : Memory) (id number bytes : ℕ) (
 
   module _ (row : Row) (h : IsStaticOf schema row) (up : IsRow row) where
     pub static-limits : RowFits row × (static_size row ≤ S / 8)
-    static-limits = (cells_fit true schema row.cells r.limits h.2, (let s = static-small schema r.limits row h up in let e = r.small.statics in omega (arith, s, e)))
+    static-limits = (cells_fit true schema row.cells r.limits (cells_pass true schema row.cells h.2), (let s = static-small schema r.limits row h up in let e = r.small.statics in omega (arith, s, e)))
 
     pub static-room : largest_static schema ≤ bytes → OfVersion m id number (λ k v. static_size (joined_onto v.statics row) ≤ spare_of S m.region.usages)
     static-room enough = of-fitting m id r.kept.0 r.kept.2 sound versions number r.kept.3.0 schema (λ v. static_size (joined_onto v.statics row) ≤ spare_of S m.region.usages) r.kept.4.fits
@@ -110,13 +110,13 @@ module _ (S : ℕ) (schema : SchemaValue) (m : Memory) (id number bytes : ℕ) (
 
   module _ (x : Pos) (h : IsRangeBound schema x) where
     pub bound-key : KeyFits x.prefix
-    bound-key = key_fits false schema x.prefix r.limits h.1
+    bound-key = key_fits false schema x.prefix r.limits (key_passes false schema x.prefix h.1)
 
     pub bound-small : dummy_size x ≤ S / 8
-    bound-small = let s = dummy_within false schema x h.1 in let e = r.small.entry in omega (arith, s, e)
+    bound-small = let s = dummy_within false schema x (key_passes false schema x.prefix h.1) in let e = r.small.entry in omega (arith, s, e)
 
   pub range-room : (from to : Pos) → IsRangeBound schema from → IsRangeBound schema to → 2 * largest_entry schema ≤ bytes → dummy_size from + dummy_size to ≤ spare_of S m.region.usages
-  range-room from to f t enough = let a = dummy_within false schema from f.1 in let b = dummy_within false schema to t.1 in let spare = r.spare in omega (arith, a, b, spare, enough)
+  range-room from to f t enough = let a = dummy_within false schema from (key_passes false schema from.prefix f.1) in let b = dummy_within false schema to (key_passes false schema to.prefix t.1) in let spare = r.spare in omega (arith, a, b, spare, enough)
 
   pub range-there : (from to : Pos) (tomb : Tomb) (n : Memory) → IsVersionChanged id number (range_joined from to tomb) Nowhere m n →
       OfVersion m id number (λ k v. (mid : List Member) × IsRenewedWhereNone k.chain.kind v (member id number (Some from)) m.recency mid × IsRenewedWhereNone k.chain.kind v (member id number (Some to)) mid n.recency) →

@@ -1,5 +1,5 @@
 -- What a chain of a schema holds fits an eighth of a segment.
-use Rattle.std.proofs.Common.{inl, inr, ◌≡◌, ◌≤◌, ℕ, true, false, List, [], ◌∷◌, Option, Some, None, Ok, sym, subst, arith}
+use Rattle.std.proofs.Common.{inl, inr, ◌≡◌, ◌≤◌, ℕ, true, false, List, [], ◌∷◌, Option, Some, None, Ok, length, sym, subst, arith}
 use Rattle.std.specs.Prelude.{Contains, IfSome, IsTrue}
 use Rattle.std.specs.List.{AllByRecursion}
 use Rattle.rc_cell.specs.declared.rows.Row.{Row}
@@ -11,9 +11,9 @@ use Rattle.rc_position.specs.declared.positions.Pos.{Pos}
 use Rattle.rc_position.specs.Position.{row_pos}
 use Rattle.rc_rowcode.specs.Objects.{static_size}
 use Rattle.rc_schema.specs.SchemaValue.{SchemaValue, is_schema}
-use Rattle.rc_schema.specs.Checks.{checked_cells}
+use Rattle.rc_schema.specs.Checks.{are_cells_of}
 use Rattle.rc_schema.specs.Largest.{largest_entry, largest_static}
-use Rattle.rc_schema.specs.laws.Fitting.{dummy_within, entry_within, joined_fits, static_within}
+use Rattle.rc_schema.specs.laws.Fitting.{cells_pass, dummy_within, entry_within, key_passes, static_within}
 use Rattle.rc_writes.specs.Allowed.{IsRowOf, IsStaticOf}
 use Rattle.rc_core.specs.declared.entries.Entry.{Entry}
 use Rattle.rc_core.specs.AtPlace.{EachEntry}
@@ -24,6 +24,7 @@ use Rattle.rc_partition.specs.laws.Lists.{elem-cases, elem-first, elem-later, el
 use Rattle.rc_memory.specs.Room.{FitTogether, HasRowAt, HasStaticRow}
 use Rattle.rc_memtable.specs.Fits.{IsEntryUnder, IsVersionUnder}
 use Rattle.rc_memtable.specs.Writes.{AreSmall}
+use Rattle.rc_memtable.proofs.Fitting.{cells-joined}
 
 -- what holds of each holds of one of them
 each-in : (P : Version → Type 0) (vs : List Version) → EachOf P vs → (v : Version) → Contains vs v → P v
@@ -42,10 +43,10 @@ all-in P (row ∷ rows) h = (h row (elem-first row rows), all-in P rows (λ r on
 module _ (schema : SchemaValue) (limits : IsTrue (is_schema schema)) where
   -- an entry of a row of the schema
   pub entry-small : (key : List Comp) (row : Row) → IsRowOf schema key row → IsRow row → bytes_at (row_pos key) (Some row) ≤ largest_entry schema
-  entry-small key row h up = entry_within schema key row limits h.0 h.1 up
+  entry-small key row h up = entry_within schema key row limits (key_passes true schema key h.0) (cells_pass false schema row.cells h.1) up
 
   pub static-small : (row : Row) → IsStaticOf schema row → IsRow row → static_size row ≤ largest_static schema
-  static-small row h up = static_within schema row limits h.0 h.1 h.2 up
+  static-small row h up = static_within schema row limits h.0 h.1 (cells_pass true schema row.cells h.2) up
 
   -- the row of an entry at a position is of the schema, and the position is that of its key
   row-has : (vs : List Version) → EachOf (IsVersionUnder schema) vs → (x : Pos) (row : Row) → HasRowAt vs x row → IsRowOf schema x.prefix row × (x ≡ row_pos x.prefix)
@@ -62,7 +63,7 @@ module _ (schema : SchemaValue) (limits : IsTrue (is_schema schema)) where
     fit-together vs h = record {
       rows = λ x one rows each.
           let first = row-has vs h x one (each one (elem-first one rows)) in
-          let cells = joined_fits false schema (one ∷ rows) (all-in (λ row. checked_cells false schema row.cells ≡ Ok tt) (one ∷ rows) (λ row on. (row-has vs h x row (each row on)).0.1)) in
+          let cells = cells-joined schema false (one ∷ rows) (all-in (λ row. are_cells_of (length schema.cols) row.cells ≡ true) (one ∷ rows) (λ row on. (row-has vs h x row (each row on)).0.1)) in
           let within = entry-small x.prefix (joined_row (one ∷ rows)) (first.0.0, cells) (IsRow-joined_row (one ∷ rows)) in
           let here : bytes_at x (Some (joined_row (one ∷ rows))) ≤ largest_entry schema = subst (λ (y : Pos). bytes_at y (Some (joined_row (one ∷ rows))) ≤ largest_entry schema) (sym first.1) within in
           omega (arith, here, small.entry);
@@ -70,11 +71,11 @@ module _ (schema : SchemaValue) (limits : IsTrue (is_schema schema)) where
           let all = all-in (IsStaticOf schema) (one ∷ rows) (λ row on. static-has vs h row (each row on)) in
           let marker = joined_marker (one ∷ rows) (all-in (λ row. row.marker ≡ None) (one ∷ rows) (λ row on. (static-has vs h row (each row on)).0)) in
           let tomb = joined_tomb (one ∷ rows) (all-in (λ row. row.tomb ≡ None) (one ∷ rows) (λ row on. (static-has vs h row (each row on)).1)) in
-          let cells = joined_fits true schema (one ∷ rows) (all-in (λ row. checked_cells true schema row.cells ≡ Ok tt) (one ∷ rows) (λ row on. (static-has vs h row (each row on)).2)) in
+          let cells = cells-joined schema true (one ∷ rows) (all-in (λ row. are_cells_of (length schema.statics) row.cells ≡ true) (one ∷ rows) (λ row on. (static-has vs h row (each row on)).2)) in
           let within = static-small (joined_row (one ∷ rows)) (marker, tomb, cells) (IsRow-joined_row (one ∷ rows)) in
           omega (arith, within, small.statics);
       positions = λ v e on in_v.
-          let within = dummy_within false schema e.position (entry-in (IsEntryUnder schema) v.entries (each-in (IsVersionUnder schema) vs h v on).entries e in_v).position in
+          let within = dummy_within false schema e.position (key_passes false schema e.position.prefix (entry-in (IsEntryUnder schema) v.entries (each-in (IsVersionUnder schema) vs h v on).entries e in_v).position) in
           omega (arith, within, small.entry);
     }
 

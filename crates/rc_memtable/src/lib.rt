@@ -2,6 +2,7 @@
 #![tactic(auto)]
 
 mod freeing;
+pub mod laws;
 mod memtable;
 mod numbers;
 mod writing;
