@@ -1,6 +1,6 @@
 -- What is of a schema stays of it: a new version, and one into which something of the schema is joined.
 use Rattle.std.proofs.Common.{◌≡◌, ℕ, zero, suc, Bool, true, false, cond, List, [], ◌∷◌, Option, Some, None, Ok, length, map, refl, sym, ap, ◌∙◌, subst}
-use Rattle.std.specs.Prelude.{IfSome, ◌&&◌, ◌==◌, Result, Err, if◌then◌else◌}
+use Rattle.std.specs.Prelude.{IfSome, ◌&&◌, ◌==◌}
 use Rattle.std.specs.List.{AllByRecursion, list_all}
 use Rattle.std.specs.Result.{is_ok}
 use Rattle.std.specs.Ordering.{eq_by_cmp, is_eq}

@@ -1,5 +1,5 @@
 -- What a chain of a schema holds fits an eighth of a segment.
-use Rattle.std.proofs.Common.{inl, inr, ◌≡◌, ◌≤◌, ℕ, true, false, List, [], ◌∷◌, Option, Some, None, Ok, length, sym, subst, arith}
+use Rattle.std.proofs.Common.{inl, inr, ◌≡◌, ◌≤◌, ℕ, true, false, List, [], ◌∷◌, Option, Some, None, length, sym, subst, arith}
 use Rattle.std.specs.Prelude.{Contains, IfSome, IsTrue}
 use Rattle.std.specs.List.{AllByRecursion}
 use Rattle.rc_cell.specs.declared.rows.Row.{Row}
