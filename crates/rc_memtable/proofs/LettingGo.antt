@@ -1,0 +1,118 @@
+-- The chains of a memtable are let go, one after another.
+use Rattle.std.proofs.Common.{inl, inr, ◌≡◌, ◌<◌, length, arith, ℕ, Bool, true, false, cond, List, [], ◌∷◌, ◌++◌, Option, Some, None, map, refl, sym, ap, ◌∙◌, subst}
+use Rattle.std.specs.Prelude.{IfSome, IsSomeAnd}
+use Rattle.std.specs.Option.{option_map}
+use Rattle.std.specs.Ordering.{eq_by_cmp}
+use Rattle.rc_position.specs.Position.{bytes_cmp}
+use Rattle.rc_schema.specs.SchemaValue.{SchemaValue}
+use Rattle.rc_mutation.specs.declared.mutations.Write.{Write}
+use Rattle.rc_core.specs.declared.entries.ChainKind.TheVariants.{Memtable}
+use Rattle.rc_registry.specs.Registry.{AreFree, put}
+use Rattle.rc_memory.specs.Kept.{IsSoundChain}
+use Rattle.rc_memory.specs.Memory.{KeptChain, Member, Memory, chain_at, on_chain, on_shown, shown_detached, with_chains, without_snapshot}
+use Rattle.rc_memory.specs.laws.Places.{no_some, same_some}
+use Rattle.rc_chain.specs.Lives.{IsChainChanged, IsEndListed}
+use Rattle.rc_chain.specs.laws.PlaceBeside.{memtable-settled}
+use Rattle.rc_memtable.specs.LetGo.{AreLetGo, HasLeft, IsFreedUnpinned, IsLetGo}
+use Rattle.rc_memtable.specs.Writes.{HasWrites, chain_of}
+use Rattle.rc_memtable.specs.calls.Writing.{AreMemtables}
+use Rattle.rc_memtable.proofs.Named.{key-differs}
+use Rattle.rc_memtable.proofs.Steps.{chain-beside, chain-now, is-chain, of-chain}
+use Rattle.rc_memtable.proofs.Freed.{put-put}
+
+-- what a memtable that stands for writes has
+pub has-memtables : (schema : SchemaValue) (chains : List (List ℕ × ℕ)) (m : Memory) (writes : List Write) → HasWrites schema chains m writes → AreMemtables chains m
+has-memtables schema chains m writes h = record {
+  kept = λ key id e. let k = h.kept key id e in is-chain (λ k. k.chain.kind ≡ Memtable) (chain_at m id) k.0 k.1 k.2.kind;
+  apart = h.apart;
+}
+
+-- ---- one chain
+
+pub some-memtable : (o : Option KeptChain) → IsSomeAnd o (λ k. k.chain.kind ≡ Memtable) → (k : KeptChain) × (o ≡ Some k) × (k.chain.kind ≡ Memtable)
+some-memtable None h = absurd h
+some-memtable (Some k) h = (k, refl, h)
+
+-- a snapshot of it is taken back
+pub released-there : (m n : Memory) (id pin : ℕ) (k : KeptChain) → n ≡ with_chains (on_chain id (without_snapshot pin) m.chains) m → chain_at m id ≡ Some k → chain_at n id ≡ Some (without_snapshot pin k)
+released-there m n id pin k e there = chain-now m n id (without_snapshot pin) k (ap (λ (o : Memory). o.chains) e) there
+
+-- a memtable's chain is detached, and freed where nobody pins it
+module _ (id : ℕ) (old mid new : Memory) (memtable : IsSomeAnd (chain_at old id) (λ k. k.chain.kind ≡ Memtable)) (sound : (i : ℕ) → IfSome (chain_at old i) (λ k. IsSoundChain k.chain))
+    (detached : (k : KeptChain) → chain_at old id ≡ Some k → (list : List Member) × IsEndListed id k.chain old.recency list × IsChainChanged id (on_shown shown_detached) list old mid) where
+  its : (k : KeptChain) × (chain_at old id ≡ Some k) × (k.chain.kind ≡ Memtable)
+  its = some-memtable (chain_at old id) memtable
+
+  mid-left : HasLeft (on_chain id (on_shown shown_detached) old.chains) old.dropped old mid
+  mid-left = let d = detached its.0 its.1 in record {
+    chains = d.2.chains;
+    dropped = d.2.dropped;
+    recency = d.2.recency ∙ d.1.settled (memtable-settled its.0.chain (of-chain (λ k. IsSoundChain k.chain) (chain_at old id) its.0 its.1 (sound id)) its.2);
+    counts = d.2.counts;
+  }
+
+  mid-there : chain_at mid id ≡ Some (on_shown shown_detached its.0)
+  mid-there = chain-now old mid id (on_shown shown_detached) its.0 mid-left.chains its.1
+
+  pub detached-is : IsSomeAnd (chain_at mid id) (λ k. (k.chain.kind ≡ Memtable) × (k.chain.attached ≡ false))
+  detached-is = is-chain (λ k. (k.chain.kind ≡ Memtable) × (k.chain.attached ≡ false)) (chain_at mid id) (on_shown shown_detached its.0) mid-there (its.2, refl)
+
+  pub let-go-then : IsFreedUnpinned id mid new → IsLetGo id old new
+  let-go-then freed k e = let same : its.0 ≡ k = same_some its.0 k (sym its.1 ∙ e) in elim (freed (on_shown shown_detached its.0) mid-there) [
+    | inl gone ↦ inl (
+      subst (λ (q : KeptChain). AreFree q.chain.pins) same gone.0,
+      record {
+        chains = gone.1.chains ∙ ap (put id None) mid-left.chains ∙ put-put old.chains id None (option_map (on_shown shown_detached) (chain_at old id));
+        dropped = gone.1.dropped ∙ ap (λ ns. ns ++ id ∷ []) mid-left.dropped;
+        recency = gone.1.recency ∙ mid-left.recency;
+        counts = gone.1.counts ∙ mid-left.counts;
+      },
+    )
+    | inr kept ↦ inr (subst (λ (q : KeptChain). AreFree q.chain.pins → ⊥) same kept.0, subst (HasLeft (on_chain id (on_shown shown_detached) old.chains) old.dropped old) (sym kept.1) mid-left)
+  ]
+
+-- ---- one after another
+
+-- other chains are as they were
+left-beside : (id : ℕ) (old new : Memory) → IsSomeAnd (chain_at old id) (λ k. k.chain.kind ≡ Memtable) → IsLetGo id old new → (i : ℕ) → (i ≡ id → ⊥) → chain_at new i ≡ chain_at old i
+left-beside id old new memtable h i ne = let k = some-memtable (chain_at old id) memtable in elim (h k.0 k.1) [
+  | inl gone ↦ chain-beside old new id None i gone.1.chains ne
+  | inr kept ↦ chain-beside old new id (option_map (on_shown shown_detached) (chain_at old id)) i kept.1.chains ne
+]
+
+none-none : (b : Bool) (o : Option ℕ) (i : ℕ) → cond b None o ≡ Some i → (b ≡ false) × (o ≡ Some i)
+none-none true o i e = absurd (no_some i e)
+none-none false o i e = (refl, e)
+
+-- the chains that are left are memtables' still
+pub memtables-then : (key : List ℕ) (id : ℕ) (before now : List (List ℕ × ℕ)) (old new : Memory) → AreMemtables before old → chain_of before key ≡ Some id → ((q : List ℕ) → chain_of now q ≡ cond (eq_by_cmp bytes_cmp key q) None (chain_of before q)) →
+    IsLetGo id old new → AreMemtables now new
+memtables-then key id before now old new a found less h = record {
+  kept = λ q i e. let was = none-none (eq_by_cmp bytes_cmp key q) (chain_of before q) i (sym (less q) ∙ e) in
+      let ne : i ≡ id → ⊥ = λ same. key-differs key q was.0 (a.apart key q id found (was.1 ∙ ap Some same)) in
+      subst (λ (o : Option KeptChain). IsSomeAnd o (λ k. k.chain.kind ≡ Memtable)) (sym (left-beside id old new (a.kept key id found) h i ne)) (a.kept q i was.1);
+  apart = λ q r i e f. a.apart q r i (none-none (eq_by_cmp bytes_cmp key q) (chain_of before q) i (sym (less q) ∙ e)).1 (none-none (eq_by_cmp bytes_cmp key r) (chain_of before r) i (sym (less r) ∙ f)).1;
+}
+
+-- what is left to be let go, and then all of it
+pub record IsLettingGo (all left : List (List ℕ × ℕ)) (old now : Memory) : Type 0 where
+  pub memtables : AreMemtables left now
+  pub rest : (end : Memory) → AreLetGo (map (λ e. e.1) left) now end → AreLetGo (map (λ e. e.1) all) old end
+
+pub letting-start : (all : List (List ℕ × ℕ)) (m : Memory) → AreMemtables all m → IsLettingGo all all m m
+letting-start all m h = record { memtables = h; rest = λ end gone. gone }
+
+pub letting-step : (all left less : List (List ℕ × ℕ)) (p : List ℕ × ℕ) (old now new : Memory) → IsLettingGo all left old now → left ≡ p ∷ less → chain_of left p.0 ≡ Some p.1 → ((q : List ℕ) → chain_of less q ≡ cond (eq_by_cmp bytes_cmp p.0 q) None (chain_of left q)) →
+    IsLetGo p.1 now new → IsLettingGo all less old new
+letting-step all left less p old now new h first found fewer gone = record {
+  memtables = memtables-then p.0 p.1 left less now new h.memtables found fewer gone;
+  rest = λ end more. h.rest end (subst (λ (es : List (List ℕ × ℕ)). AreLetGo (map (λ e. e.1) es) now end) (sym first) (new, gone, more));
+}
+
+pub letting-over : (all left : List (List ℕ × ℕ)) (old now : Memory) → IsLettingGo all left old now → left ≡ [] → AreLetGo (map (λ e. e.1) all) old now
+letting-over all left old now h none = h.rest now (subst (λ (es : List (List ℕ × ℕ)). AreLetGo (map (λ e. e.1) es) now now) (sym none) refl)
+
+-- no entry is left where the first one is none
+pub empty-unless : {X : Type 0} (xs : List X) → (0 < length xs → false ≡ true) → xs ≡ []
+empty-unless [] h = refl
+empty-unless (x ∷ xs) h = let e = h (omega arith) in absurd (cc)

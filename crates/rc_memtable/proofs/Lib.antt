@@ -1,0 +1,14 @@
+mod Fitting
+mod OnePlace
+mod Kept
+mod Named
+mod Numbered
+mod Room
+mod Steps
+mod Freed
+mod Ready
+mod Applied
+mod Snapshots
+mod LettingGo
+mod Needing
+mod Leaving

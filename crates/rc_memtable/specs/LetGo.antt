@@ -1,0 +1,30 @@
+-- How a memtable's chains are let go, once a table has their writes.
+--     IsLetGo      a chain is no longer found, and where nobody pins it it is gone
+--     AreLetGo     so of chains one after another
+use Rattle.std.specs.Prelude.{◌≡◌, ◌⊎◌, ℕ, List, [], ◌∷◌, ◌++◌, Option, Some, None}
+use Rattle.rc_registry.specs.Registry.{AreFree, put}
+use Rattle.rc_memory.specs.Memory.{KeptChain, Memory, chain_at, on_chain, on_shown, shown_detached}
+
+-- the chains are these, and so are the numbers to be told; the recency list and the counts are as they were
+pub record HasLeft (those : List (Option KeptChain)) (told : List ℕ) (old new : Memory) : Type 0 where
+  pub chains : new.chains ≡ those
+  pub dropped : new.dropped ≡ told
+  pub recency : new.recency ≡ old.recency
+  pub counts : new.counts ≡ old.counts
+
+-- a chain is gone, and its number is to be told
+abbrev pub IsGone : ℕ → Memory → Memory → Type 0
+IsGone id old new = HasLeft (put id None old.chains) (old.dropped ++ id ∷ []) old new
+
+-- a chain is gone where nobody pins it; else all is as it was
+abbrev pub IsFreedUnpinned : ℕ → Memory → Memory → Type 0
+IsFreedUnpinned id old new = (k : KeptChain) → chain_at old id ≡ Some k → (AreFree k.chain.pins × IsGone id old new) ⊎ ((AreFree k.chain.pins → ⊥) × (new ≡ old))
+
+-- a chain is gone where nobody pins it; else it is no longer found by its key
+abbrev pub IsLetGo : ℕ → Memory → Memory → Type 0
+IsLetGo id old new = (k : KeptChain) → chain_at old id ≡ Some k → (AreFree k.chain.pins × IsGone id old new) ⊎ ((AreFree k.chain.pins → ⊥) × HasLeft (on_chain id (on_shown shown_detached) old.chains) old.dropped old new)
+
+-- so of each of these chains, in this order
+abbrev pub AreLetGo : List ℕ → Memory → Memory → Type 0
+AreLetGo [] old new = new ≡ old
+AreLetGo (id ∷ ids) old new = (mid : Memory) × IsLetGo id old mid × AreLetGo ids mid new

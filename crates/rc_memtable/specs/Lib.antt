@@ -1,0 +1,6 @@
+pub mod Fits
+pub mod Changes
+pub mod Writes
+pub mod Steps
+pub mod LetGo
+pub mod calls
