@@ -1,7 +1,7 @@
 -- What is read of the stream below, in a stretch that is not known.
 --     Fillings      fills, one after another
 --     Took..        what a fragment that was read makes of a place
-use Rattle.std.specs.Prelude.{◌≡◌, ◌≢◌, ◌⊎◌, ⊤, ⊥, cond, List, Option, Some, None}
+use Rattle.std.specs.Prelude.{◌≡◌, ◌≢◌, ◌⊎◌, ⊤, cond, List, Option, Some, None}
 use Rattle.std.specs.Ordering.{is_le}
 use Rattle.rc_cell.specs.declared.rows.Row.{Row}
 use Rattle.rc_cell.specs.declared.writes.Tomb.{Tomb}

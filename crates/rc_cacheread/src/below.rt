@@ -1,5 +1,5 @@
 // A stretch that is not known is read below.
-ghost use Rattle.std.specs.Prelude.{◌≡◌, IfOk, OnOk, true, ⊥};
+ghost use Rattle.std.specs.Prelude.{◌≡◌, IfOk, OnOk, true};
 ghost use Rattle.rc_position.specs.declared.positions.Pos.{Pos};
 ghost use Rattle.rc_position.specs.Position.{IsBefore};
 ghost use Rattle.rc_stream.specs.Causes.{Caused};

@@ -4,7 +4,7 @@ ghost use Rattle.rc_cell.specs.Winner.{empty_row};
 ghost use Rattle.rc_position.specs.declared.positions.Pos.{Pos};
 ghost use Rattle.rc_position.specs.Position.{row_pos};
 ghost use Rattle.rc_stream.specs.Places.{Reaches};
-ghost use Rattle.rc_stream.specs.Snapshot.{Throughout};
+ghost use Rattle.rc_stream.specs.Snapshot.{There, Throughout};
 ghost use Rattle.rc_cacheread.specs.Below.{Fillings, SaysUpto, TellsHere, TookChange, TookHere, TookNothing, TookRow, TookRowHere};
 
 use crate::spots::{Found, RowAt, Spot};
@@ -24,6 +24,7 @@ pub(crate) fn fill_gap<H, P: Filler<H>>(
     requires ready { P.ready filler.old home.old }
     requires fits { (p : P) (x : Pos) → P.fits p x }
     requires source { Throughout from.now to.now (λ x. P.source filler.old home.old x (empty_row, tomb)) }
+    ensures source { (x : Pos) (v : There) → P.source filler.old home.old x v → P.source filler.new home.new x v }
     ensures did { Fillings P.fills filler.old home.old filler.new home.new }
     ensures ready { P.ready filler.new home.new }
 {
@@ -114,16 +115,37 @@ pub(crate) fn take_upto<H, P: Filler<H>>(
     requires ready { P.ready filler.old home.old }
     requires fits { (p : P) (x : Pos) → P.fits p x }
     requires source { SaysUpto (P.source filler.old home.old) spot.old.place upto spot.old.tomb }
+    requires on { Reaches spot.old.place upto }
     ensures took { TookNothing upto spot.old spot.new }
     ensures did { Fillings P.fills filler.old home.old filler.new home.new }
     ensures ready { P.ready filler.new home.new }
 {
     fill_gap(filler, home, &spot.place, &upto, spot.tomb);
-    if upto.weight == Weight::At {
-        let row = Row::empty(alloc);
-        filler.row(home, &upto.prefix, &row, spot.tomb);
-    }
+    fill_none(alloc, filler, home, &upto, spot.tomb);
     spot.place = upto;
+}
+
+// Takes in that no row stands at a position, if it is that of a row.
+fn fill_none<H, P: Filler<H>>(
+    alloc: Global,
+    filler: &mut P,
+    home: &mut H,
+    at: &Pos,
+    tomb: Option<Tomb>,
+)
+    requires ready { P.ready filler.old home.old }
+    requires fits { (p : P) (x : Pos) → P.fits p x }
+    requires source { P.source filler.old home.old at.now (empty_row, tomb) }
+    ensures did { Fillings P.fills filler.old home.old filler.new home.new }
+    ensures ready { P.ready filler.new home.new }
+{
+    match at.weight {
+        Weight::At => {
+            let row = Row::empty(alloc);
+            filler.row(home, &at.prefix, &row, tomb);
+        }
+        Weight::Before | Weight::After => {}
+    }
 }
 
 // Takes what was read below at the place itself, where no tombstone is in force unless a change says so: a row, if one stands there.

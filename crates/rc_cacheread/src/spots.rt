@@ -1,5 +1,5 @@
 // Where a reader stands, and what of what it read is due.
-ghost use Rattle.std.specs.Prelude.{◌≡◌, ◌&&◌, not, None, Some, false, true, IfOk, OnErr};
+ghost use Rattle.std.specs.Prelude.{◌≡◌, ◌&&◌, not, is_some, None, Some, false, true, IfOk, OnErr};
 ghost use Rattle.rc_position.specs.declared.positions.Pos.{Pos};
 ghost use Rattle.rc_position.specs.Position.{pos_cmp};
 ghost use Rattle.std.specs.Ordering.{is_gt};
@@ -258,6 +258,7 @@ impl Spot {
 
     // Gives the change to the tombstone that was in force where a seek went, if it stands at the position or before it.
     fn give_again(&mut self, upto: &Pos) -> Turn
+        requires { is_some self.old.again ≡ true }
         ensures { (to : Pos) → Gives to upto.now self.old self.new result }
     {
         match self.again.take() {

@@ -1,0 +1,5 @@
+pub mod Chains
+pub mod Leaving
+pub mod Lists
+pub mod Orders
+pub mod Idle
