@@ -31,7 +31,7 @@ not-none t b e f = e ∙ ap not f
 
 pub idle-front : (s : Spot) → IsIdle s → front s ≡ []
 idle-front s i =
-    ap (λ a. again_due a s.told ++ due_change s ++ row_due s.row s.place.prefix) i.again
+    ap (λ a. again_due a s.told ++ (due_change s ++ row_due s.row s.place.prefix)) i.again
     ∙ ap (λ b. cond b [] (frag.Change (change_place s) s.tomb ∷ []) ++ row_due s.row s.place.prefix) i.told
     ∙ ap (λ r. row_due r s.place.prefix) i.row
 
@@ -47,7 +47,7 @@ unsame (Some t) e = refl
 
 pub closed-front : (s : Spot) → IsIdle s → is_some s.tomb ≡ true → front (record { place = s.place; row = s.row; told = s.told; again = s.again; tomb = None; since = None }) ≡ frag.Change (stand s) None ∷ []
 closed-front s i e =
-    ap (λ a. again_due a s.told ++ cond (same_tomb s.told None) [] (frag.Change s.place None ∷ []) ++ row_due s.row s.place.prefix) i.again
+    ap (λ a. again_due a s.told ++ (cond (same_tomb s.told None) [] (frag.Change s.place None ∷ []) ++ row_due s.row s.place.prefix)) i.again
     ∙ ap (λ b. cond b [] (frag.Change s.place None ∷ []) ++ row_due s.row s.place.prefix) (ap (λ t. same_tomb t None) (same-tombs s.told s.tomb i.told) ∙ unsame s.tomb e)
     ∙ ap (λ r. frag.Change s.place None ∷ row_due r s.place.prefix) i.row
     ∙ ap (λ x. frag.Change x None ∷ []) (sym (idle-stand s i))
@@ -149,7 +149,7 @@ sought-change s t x a h p r u g m n =
     let b = same_tomb s.told s.tomb in
     let l = leaves-on x (told_of s) s.told s.told (front s) (due_change s ++ R) (due_change s ++ R) (passed-again x s.again s.told (due_change s ++ R) a) (kept-change x (change_place s) s.told s.tomb R b h) in
     subst (IsSought x s) (λ i. spot (sym p i) (sym r i) (sym u i) (sym g i) (sym m i) (sym n i)) (record {
-      due = opened s.told x (due_change s ++ R) ∙ ap (λ z. opening x z ++ due_change s ++ R) (sym l.tomb_there) ∙ ap (λ z. opening x (force x (told_of s) (front s)) ++ z) (sym l.left);
+      due = opened s.told x (due_change s ++ R) ∙ ap (λ z. opening x z ++ (due_change s ++ R)) (sym l.tomb_there) ∙ ap (λ z. opening x (force x (told_of s) (front s)) ++ z) (sym l.left);
       from = refl;
       told = told-none s.told x;
       tomb = refl;
@@ -166,7 +166,7 @@ sought-row s t x a h k p r u g m =
     (leaves-on x s.told s.tomb s.tomb (due_change s ++ R) R R (passed-change x (change_place s) s.told s.tomb R b refl h) (kept-row x s.row s.place.prefix s.tomb k)) in
     subst (IsSought x s) (λ i. spot (sym p i) (sym r i) (sym u i) (sym g i) (sym m i) t.since) (record {
       due =
-          ap (λ z. again_due (told_at s.tomb x) s.tomb ++ change_at z (since_or t.since s.place) s.tomb ++ R) (same-itself s.tomb)
+          ap (λ z. again_due (told_at s.tomb x) s.tomb ++ (change_at z (since_or t.since s.place) s.tomb ++ R)) (same-itself s.tomb)
           ∙ opened s.tomb x R
           ∙ ap (λ z. opening x z ++ R) (sym l.tomb_there)
           ∙ ap (λ z. opening x (force x (told_of s) (front s)) ++ z) (sym l.left);
@@ -187,7 +187,7 @@ went-on s t x b a h k w =
   by_way : (b : Bool) → Leaves x (told_of s) (front s) s.tomb [] → WentTo x (spot s.place s.row s.tomb None s.tomb s.since) t b → GoesOn x s t b
   by_way false l w = subst (IsSought x s) (λ i. spot (sym w.1 i) (sym w.2 i) (sym w.3 i) (sym w.4 i) (sym w.5 i) t.since) (record {
     due =
-        ap (λ z. again_due (told_at s.tomb x) s.tomb ++ change_at z (since_or t.since (stand s)) s.tomb ++ []) (same-itself s.tomb)
+        ap (λ z. again_due (told_at s.tomb x) s.tomb ++ (change_at z (since_or t.since (stand s)) s.tomb ++ [])) (same-itself s.tomb)
         ∙ opened s.tomb x []
         ∙ ap (λ z. opening x z ++ []) (sym l.tomb_there)
         ∙ ap (λ z. opening x (force x (told_of s) (front s)) ++ z) (sym l.left);
@@ -209,7 +209,7 @@ over-alike s t d p r u g m n e a =
   no-due row.Given key e = refl
   nothing-due : front s ≡ []
   nothing-due =
-      ap (λ z. again_due z s.told ++ due_change s ++ row_due s.row s.place.prefix) a
+      ap (λ z. again_due z s.told ++ (due_change s ++ row_due s.row s.place.prefix)) a
       ∙ ap (λ z. cond z [] (frag.Change (change_place s) s.tomb ∷ []) ++ row_due s.row s.place.prefix) e
       ∙ no-due s.row s.place.prefix d
 

@@ -46,7 +46,7 @@ row_due row.Given key = []
 
 -- what is due
 abbrev pub front : Spot → List Frag
-front s = again_due s.again s.told ++ due_change s ++ row_due s.row s.place.prefix
+front s = again_due s.again s.told ++ (due_change s ++ row_due s.row s.place.prefix)
 
 -- the tombstone that was told, or none where it is to be told again
 abbrev pub told_or : Option Pos → Option Tomb → Option Tomb
