@@ -1,5 +1,7 @@
 pub mod Chains
+pub mod Idle
 pub mod Leaving
 pub mod Lists
 pub mod Orders
-pub mod Idle
+pub mod Outcomes
+pub mod Streams

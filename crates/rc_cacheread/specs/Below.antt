@@ -41,9 +41,9 @@ SaysUpto source x upto tomb = (y : Pos) → Reaches x y → Reaches y upto → s
 abbrev pub IsElsewhere : Spot → Spot → Type 0
 IsElsewhere s t = (t.told ≡ s.told) × (t.again ≡ s.again) × (t.tomb ≡ s.tomb)
 
--- a row was read: it is due at its place, unless it is empty, or stands before the place
+-- a row was read: it is due at its place, unless it is empty; one that stands before the place is passed over
 abbrev pub TookRow : List Comp → Row → Spot → Spot → Type 0
-TookRow key r s t = ((t ≡ s) × ((r ≡ empty_row) ⊎ IsBefore (row_pos key) s.place)) ⊎ (Reaches s.place (row_pos key) × (r ≢ empty_row) × (t.place ≡ row_pos key) × (t.row ≡ row.Due r) × IsElsewhere s t)
+TookRow key r s t = ((t ≡ s) × IsBefore (row_pos key) s.place) ⊎ (Reaches s.place (row_pos key) × (t.place ≡ row_pos key) × IsElsewhere s t × (((r ≡ empty_row) × (t.row ≡ s.row)) ⊎ ((r ≢ empty_row) × (t.row ≡ row.Due r))))
 
 -- a change was read: from its place on its tombstone is in force, unless it stands before the place
 abbrev pub TookChange : Pos → Option Tomb → Spot → Spot → Type 0

@@ -49,7 +49,7 @@ pub(crate) fn take_row<H, P: Filler<H>>(
     ensures did { Fillings P.fills filler.old home.old filler.new home.new }
     ensures ready { P.ready filler.new home.new }
 {
-    if row.is_empty() || key.compare_with_pos(&spot.place).is_lt() {
+    if key.compare_with_pos(&spot.place).is_lt() {
         return;
     }
     let at = Pos {
@@ -57,6 +57,10 @@ pub(crate) fn take_row<H, P: Filler<H>>(
         weight: Weight::At,
     };
     fill_gap(filler, home, &spot.place, &at, spot.tomb);
+    if row.is_empty() {
+        spot.place = at;
+        return;
+    }
     filler.row(home, &at.prefix, &row, spot.tomb);
     spot.place = at;
     spot.row = RowAt::Due(row);
