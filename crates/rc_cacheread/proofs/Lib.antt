@@ -1,4 +1,5 @@
 pub mod Chains
+pub mod Going
 pub mod Idle
 pub mod Leaving
 pub mod Lists
