@@ -166,3 +166,61 @@ module _ (S : Pos → There → Type 0) (seen now : Stream → Type 0) (to upto 
   gone (Some (frag.Change from next)) a z w g k n (inr (h, o, p), q) =
       gone-end (Some (frag.Change from next)) z o p (before-outcome S seen now to s.place N s.tomb end from next g n (before-reach s.place end inside) e h (near-within upto end)) (λ x d. reach-through from end x (reach-through from N end k (near-within upto end)) d) q
   gone (Some frag.End) a z w g k n o = untrue (sym k)
+
+-- ---- at the place itself
+
+pub tells-here : (S : Pos → There → Type 0) (T : Row → Type 0) (seen : Stream → Type 0) (x to : Pos) (u : Option Tomb) (got : Option Frag) → Leads S T seen Sought x to u → IsBefore x to → ((t : Stream) → seen t → got ≡ first_upto x t.left) → TellsHere S x (found_of got)
+tells-here S T seen x to u None l b g = tt
+tells-here S T seen x to u (Some (frag.Start pt)) l b g = tt
+tells-here S T seen x to u (Some (frag.Static r)) l b g = tt
+tells-here S T seen x to u (Some (frag.Row key r)) l b g = λ e. l.each x (r, None) (reach-itself x) b (λ t s f. sym (subst (λ z. there z t.tomb t.left ≡ (r, None)) e (first-row key r x x None t f (sym (g t s))).there_is))
+tells-here S T seen x to u (Some (frag.Change from next)) l b g = tt
+tells-here S T seen x to u (Some frag.End) l b g = tt
+
+module _ (S : Pos → There → Type 0) (seen now : Stream → Type 0) (to upto : Pos) (s t : Spot) (i : IsIdle s) (inside : IsBefore s.place to) where
+  abbrev Here : Option Frag → Type 0
+  Here got = Gone S seen now to upto Sought s Within t got step.Passed
+
+  abbrev GivenHere : Option Frag → Type 0
+  GivenHere got = (u : Stream) → seen u → got ≡ first_upto s.place u.left
+
+  abbrev OnHere : Option Frag → Type 0
+  OnHere got = (u : Stream) → seen u → now (took got u)
+
+  put-here : (got : Option Frag) (y : Pos) (v : Option Tomb) (due : List Frag) → stand t ≡ y → t.tomb ≡ v → front t ≡ due → Reaches s.place y → told_of t ≡ told_of s → Outcome S seen now to Sought s.place s.tomb Within y v due → ((x : Pos) → Reaches y x → Passes (Ok got) x) → Here got
+  put-here got y v due q m f on u o pass = record {
+    on = subst (λ (w : Pos × Pos). Reaches w.0 w.1) (λ j. (sym (idle-stand s i) j, sym q j)) on;
+    told = u;
+    outcome = subst (λ x. Outcome S seen now to Sought x s.tomb Within (stand t) t.tomb (front t)) (sym (idle-stand s i)) (outcome-at S seen now to Sought s.place s.tomb Within Within y (stand t) v t.tomb due (front t) refl q m f o);
+    passes = λ x h. pass x (subst (λ w. Reaches w x) q h);
+    came = inl refl;
+  }
+
+  here-changed : (got : Option Frag) (next : Option Tomb) → IsChanged next s t → Outcome S seen now to Sought s.place s.tomb Within s.place next (change_if s.place s.tomb next) → ((x : Pos) → Reaches s.place x → Passes (Ok got) x) → Here got
+  here-changed got next c o pass =
+      put-here got s.place next (change_if s.place s.tomb next) (ap (λ r. behind r t.place) (c.row ∙ i.row) ∙ c.place) c.now
+      (front-changed s t next i c.told c.again c.now c.since ∙ ap (λ r. change_if t.place s.tomb next ++ row_due r t.place.prefix) (c.row ∙ i.row) ∙ append-none (change_if t.place s.tomb next) ∙ ap (λ y. change_if y s.tomb next) c.place)
+      (reach-itself s.place) (told-elsewhere s t c.told c.again) o pass
+
+  as-changed : (key : List Comp) (r : Row) → TookRowHere key r s t → t.row ≡ s.row → IsChanged None s t
+  as-changed key r c l = record { place = c.place; row = l; told = c.told; again = c.again; now = c.tomb; since = c.since }
+
+  here-row : (key : List Comp) (r : Row) → GivenHere (Some (frag.Row key r)) → OnHere (Some (frag.Row key r)) → Reaches (row_pos key) s.place → (c : TookRowHere key r s t) → ((t.row ≡ s.row) × ((r ≡ empty_row) ⊎ (row_pos key ≢ s.place))) ⊎ ((row_pos key ≡ s.place) × (r ≢ empty_row) × (t.row ≡ row.Due r)) → Here (Some (frag.Row key r))
+  here-row key r g n k c (inl (l, inl d)) = here-changed (Some (frag.Row key r)) None (as-changed key r c l) (empty-here S seen now to s.place s.tomb inside key r g n d) (λ x h. reach-through (row_pos key) s.place x k h)
+  here-row key r g n k c (inl (l, inr d)) = here-changed (Some (frag.Row key r)) None (as-changed key r c l) (other-here S seen now to s.place s.tomb inside key r g n d) (λ x h. reach-through (row_pos key) s.place x k h)
+  here-row key r g n k c (inr (e, d, l)) =
+      let at : t.place ≡ row_pos key = c.place ∙ sym e in
+      put-here (Some (frag.Row key r)) (behind_row key) None (change_if s.place s.tomb None ++ (frag.Row key r ∷ [])) (λ j. behind (l j) (at j)) c.tomb
+      (front-changed s t None i c.told c.again c.tomb c.since ∙ (λ j. change_if (c.place j) s.tomb None ++ row_due (l j) (at j).prefix))
+      (subst (λ z. Reaches z (behind_row key)) e (before-reach (row_pos key) (behind_row key) (behind-its-row key)))
+      (told-elsewhere s t c.told c.again)
+      (row-here S seen now to s.place s.tomb inside key r g n e d)
+      (λ x m. reach-through (row_pos key) (behind_row key) x (before-reach (row_pos key) (behind_row key) (behind-its-row key)) m)
+
+  pub gone-here : (got : Option Frag) → GivenHere got → IfSome got (λ f. IsTrue (is_upto s.place f)) → OnHere got → TookHere (found_of got) s t → Here got
+  gone-here None g k n c = here-changed None None c (none-here S seen now to s.place s.tomb inside g n) (λ x h. tt)
+  gone-here (Some (frag.Start pt)) g k n c = untrue (sym k)
+  gone-here (Some (frag.Static r)) g k n c = untrue (sym k)
+  gone-here (Some (frag.Row key r)) g k n c = here-row key r g n k c c.due
+  gone-here (Some (frag.Change from next)) g k n c = here-changed (Some (frag.Change from next)) next c (change-here S seen now to s.place s.tomb inside from next g n) (λ x h. reach-through from s.place x k h)
+  gone-here (Some frag.End) g k n c = untrue (sym k)

@@ -5,4 +5,6 @@ pub mod Leaving
 pub mod Lists
 pub mod Orders
 pub mod Outcomes
+pub mod Seeking
+pub mod Stepping
 pub mod Streams

@@ -187,7 +187,7 @@ change-force : (x : Pos) (tomb next : Option Tomb) (fs : List Frag) → IsOrdere
 change-force x tomb next fs o = ap tomb_side (over-change x tomb next fs x (reach-itself x)) ∙ stop x (x, 0) next fs o.2 o.1 (irreflexive (x, 0))
 
 -- what is first says something at its place
-first-says : (tomb : Option Tomb) (f : Frag) (fs : List Frag) → IsOrdered (f ∷ fs) → IsTelling tomb (f ∷ fs) → AreWritten (f ∷ fs) → there (at_of f) tomb (f ∷ fs) ≡ (empty_row, tomb) → ⊥
+pub first-says : (tomb : Option Tomb) (f : Frag) (fs : List Frag) → IsOrdered (f ∷ fs) → IsTelling tomb (f ∷ fs) → AreWritten (f ∷ fs) → there (at_of f) tomb (f ∷ fs) ≡ (empty_row, tomb) → ⊥
 first-says tomb (frag.Start pt) fs o t w e = o.0
 first-says tomb (frag.Static row) fs o t w e = o.0
 first-says tomb (frag.Row key row) fs o t w e = w.0 (ap row_side (sym (row-said key row tomb fs) ∙ e))

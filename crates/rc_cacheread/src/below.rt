@@ -68,6 +68,8 @@ fn settle<H, W: Store, K: Known<H>, F: Frags<H, W>, P: Filler<H>>(
 ) -> Result<(), StreamErr>
     requires ready { IsReady (of_known K.ready K.place K.knows K.heads K.did) (of_below F.ready F.seen F.ahead F.moves F.did) (of_filler P.ready P.fits P.may P.lost P.source P.knows P.statics_are P.knows_statics P.fills) reader.old home.old store.old }
     requires idle { IsIdle reader.old.spot }
+    requires within { IsBefore reader.old.spot.place reader.old.to }
+    requires missing { (v : There) → K.knows reader.old.known home.old reader.old.spot.place v → ⊥ }
     ensures says { (s : Stream) → Sees (of_known K.ready K.place K.knows K.heads K.did) (of_below F.ready F.seen F.ahead F.moves F.did) (of_filler P.ready P.fits P.may P.lost P.source P.knows P.statics_are P.knows_statics P.fills) reader.old home.old store.old s → Sees (of_known K.ready K.place K.knows K.heads K.did) (of_below F.ready F.seen F.ahead F.moves F.did) (of_filler P.ready P.fits P.may P.lost P.source P.knows P.statics_are P.knows_statics P.fills) reader.new home.new store.new s }
     ensures did { (y : Pos) → Reaches reader.old.spot.place y → InTurn (OneCall (of_known K.ready K.place K.knows K.heads K.did) (of_below F.ready F.seen F.ahead F.moves F.did) (of_filler P.ready P.fits P.may P.lost P.source P.knows P.statics_are P.knows_statics P.fills) (OfNext y)) (answered result) (state reader.old home.old store.old) (state reader.new home.new store.new) }
     ensures stage { OnOk result (IsSettled reader.new.stage) }
