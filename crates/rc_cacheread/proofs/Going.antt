@@ -1,5 +1,5 @@
 -- What was read below is taken: where the reader stands then, and what is due.
-use Rattle.std.specs.Prelude.{◌≡◌, ◌≢◌, ◌⊎◌, true, false, cond, List, [], ◌∷◌, ◌++◌, Option, Some, None, Ok, IfSome, IsTrue}
+use Rattle.std.specs.Prelude.{◌≡◌, ◌≢◌, ◌⊎◌, Bool, true, false, cond, List, [], ◌∷◌, ◌++◌, Option, Some, None, Ok, IfSome, IsTrue}
 use Rattle.std.proofs.Common.{refl, sym, ap, ◌∙◌, subst, inl, inr}
 use Rattle.rc_cell.specs.declared.rows.Row.{Row}
 use Rattle.rc_cell.specs.declared.writes.Tomb.{Tomb}
@@ -21,7 +21,7 @@ use Rattle.rc_cacheread.specs.declared.spots.Step.{Step}
 use Rattle.rc_cacheread.specs.declared.spots.Step.TheVariants as step
 use Rattle.rc_cacheread.specs.Below.{IsChanged, IsElsewhere, Tells, TellsHere, TookChange, TookFound, TookHere, TookNothing, TookRow, TookRowHere, found_of, near_of}
 use Rattle.rc_cacheread.specs.Reading.{Reads, behind_row, there}
-use Rattle.rc_cacheread.specs.Sharing.{Fits, Leads}
+use Rattle.rc_cacheread.specs.Sharing.{Fits, IsAt, Leads}
 use Rattle.rc_cacheread.specs.Spots.{IsIdle, again_due, behind, change_place, due_change, front, row_due, since_or, stand, told_of, told_or}
 use Rattle.rc_cacheread.proofs.Idle.{idle-front, idle-stand, idle-told}
 use Rattle.rc_cacheread.proofs.Lists.{behind-its-row, change_if, same-tombs, untrue}
@@ -224,3 +224,12 @@ module _ (S : Pos → There → Type 0) (seen now : Stream → Type 0) (to upto 
   gone-here (Some (frag.Row key r)) g k n c = here-row key r g n k c c.due
   gone-here (Some (frag.Change from next)) g k n c = here-changed (Some (frag.Change from next)) next c (change-here S seen now to s.place s.tomb inside from next g n) (λ x h. reach-through from s.place x k h)
   gone-here (Some frag.End) g k n c = untrue (sym k)
+
+-- ---- where the snapshot lags, and what leads at the place
+
+pub at-on : (b : Bool) (p x y : Pos) → b ≡ true → IsAt b p x → Reaches x y → IsAt b p y
+at-on true p x y e a h = reach-through p x y a h
+at-on false p x y e a h = untrue (sym e)
+
+pub leads-here : (S S' : Pos → There → Type 0) (T : Row → Type 0) (seen : Stream → Type 0) (x y to : Pos) (u : Option Tomb) (a : Stage) {b : Stage} → a ≡ b → x ≡ y → ((z : Pos) (d : There) → S z d → S' z d) → Leads S T seen a x to u → Leads S' T seen b y to u
+leads-here S S' T seen x y to u a {b} p q s l = subst (λ (z : Stage × Pos). Leads S' T seen z.0 z.1 to u) (λ i. (p i, q i)) (record { each = λ z d h k f. s z d (l.each z d h k f); static_row = l.static_row })

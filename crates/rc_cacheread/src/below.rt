@@ -204,6 +204,7 @@ fn take_found<H, P: Filler<H>>(
     requires ready { P.ready filler.old home.old }
     requires fits { (p : P) (x : Pos) → P.fits p x }
     requires near { near ≡ near_of upto.now end }
+    requires on { Reaches spot.old.place near }
     requires source { Tells (P.source filler.old home.old) spot.old.place near end spot.old.tomb found }
     ensures took { TookFound found near end upto.now spot.old spot.new stage.old stage.new result }
     ensures did { Fillings P.fills filler.old home.old filler.new home.new }
@@ -217,10 +218,10 @@ fn take_found<H, P: Filler<H>>(
         Found::Change(from, tomb) => {
             if from < end {
                 take_change(filler, spot, home, from, tomb);
-            } else {
-                take_end(filler, spot, home, end);
-                *stage = Stage::Away;
+                return Step::Passed;
             }
+            take_end(filler, spot, home, end);
+            *stage = Stage::Away;
             Step::Passed
         }
         Found::Nothing => {
