@@ -233,3 +233,7 @@ at-on false p x y e a h = untrue (sym e)
 
 pub leads-here : (S S' : Pos → There → Type 0) (T : Row → Type 0) (seen : Stream → Type 0) (x y to : Pos) (u : Option Tomb) (a : Stage) {b : Stage} → a ≡ b → x ≡ y → ((z : Pos) (d : There) → S z d → S' z d) → Leads S T seen a x to u → Leads S' T seen b y to u
 leads-here S S' T seen x y to u a {b} p q s l = subst (λ (z : Stage × Pos). Leads S' T seen z.0 z.1 to u) (λ i. (p i, q i)) (record { each = λ z d h k f. s z d (l.each z d h k f); static_row = l.static_row })
+
+pub at-lags : (b : Bool) (p x : Pos) → IsAt b p x → Reaches p x
+at-lags true p x a = a
+at-lags false p x a = subst (Reaches p) a (reach-itself p)

@@ -12,7 +12,7 @@ use Rattle.rc_cacheread.specs.Did.{KnownStep}
 use Rattle.rc_cacheread.specs.Sharing.{Fit, Kept, OfBelow, OfFiller, OfKnown, Shares}
 use Rattle.rc_cacheread.proofs.Chains.{chain-keeps}
 
-both-ways : {A B C : Type 0} → A ↔ B → B ↔ C → A ↔ C
+pub both-ways : {A B C : Type 0} → A ↔ B → B ↔ C → A ↔ C
 both-ways p q = (λ a. q.0 (p.0 a), λ c. p.1 (q.1 c))
 
 module _ {K F P H W : Type 0} (kn : OfKnown K H) (be : OfBelow F H W) (fi : OfFiller P H) where

@@ -5,6 +5,7 @@ pub mod Leaving
 pub mod Lists
 pub mod Orders
 pub mod Outcomes
+pub mod Parting
 pub mod Seeking
 pub mod Stepping
 pub mod Streams

@@ -166,6 +166,14 @@ module _ {K F P H W : Type 0} (kn : OfKnown K H) (be : OfBelow F H W) (fi : OfFi
     by_rest [] reads says k = inl (reach-through near upto y n k)
     by_rest (f ∷ fs) reads says k = by_first f fs reads says (is_le (pos_cmp upto (at_of f))) k
 
+  -- whether the snapshot lags is no part of what is read
+  pub sees-lags : (r : CacheReader K F P) (h : H) (w : W) (b : Bool) (s : Stream) → Sees kn be fi r h w s → Sees kn be fi (reader_of r.known r.below r.filler r.to r.spot r.stage b) h w s
+  sees-lags r h w b s d = record { rest = d.rest; tomb = d.tomb; left = d.left; reads = d.reads; pt = d.pt; static_row = d.static_row; below = d.below }
+
+  pub ends-on : (r n : CacheReader K F P) (h g : H) (w v : W) (upto y : Pos) → ((s : Stream) → Sees kn be fi r h w s → Sees kn be fi n g v s) → Ends r h w upto y → Ends n g v upto y
+  ends-on r n h g w v upto y on (inl k) = inl k
+  ends-on r n h g w v upto y on (inr (s, d, q)) = inr (s, on s d, q)
+
   -- ---- calls
 
   pub known-calls : (c : Call) (b : F) (p : P) (w : W) (ok : Bool) (k l : K) (h g : H) → InTurn (KnownStep kn.did) ok (k, h) (l, g) → InTurn (OneCall kn be fi c) ok (k, b, p, h, w) (l, b, p, g, w)

@@ -53,7 +53,8 @@ pub(crate) fn read_below<H, W: Store, K: Known<H>, F: Frags<H, W>, P: Filler<H>>
     match settle(alloc, reader, home, store) {
         Ok(()) => match reader.stage {
             Stage::Sought => look_here(alloc, reader, home, store, upto),
-            Stage::Away | Stage::Within => go_below(alloc, reader, home, store, end, upto),
+            Stage::Within => go_below(alloc, reader, home, store, end, upto),
+            Stage::Away => Ok(Step::Passed),
         },
         Err(error) => Err(error),
     }

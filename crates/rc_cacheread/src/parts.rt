@@ -1,5 +1,5 @@
 // The parts of a snapshot.
-ghost use Rattle.std.specs.Prelude.{◌≡◌, IfOk};
+ghost use Rattle.std.specs.Prelude.{◌≡◌, false, IfOk, OnErr, OnOk};
 ghost use Rattle.std.specs.Result.{is_ok};
 ghost use Rattle.rc_position.specs.declared.positions.Pos.{Pos};
 ghost use Rattle.rc_position.specs.Position.{IsBefore};
@@ -15,12 +15,41 @@ ghost use Rattle.rc_cacheread.specs.Spots.{IsIdle};
 
 use crate::below::read_below;
 use crate::readers::{CacheReader, Stage};
-use crate::spots::{RowAt, Step};
+use crate::spots::Step;
 use rc_core::Part;
 use rc_outside::Store;
 use rc_position::Pos;
 use rc_stream::{Filler, Frags, Known, StreamErr};
 use std::alloc::{AllocError, Global};
+
+// The snapshot goes on to a place, if it lags before it. The only error is want of memory.
+fn catch_up<H, K: Known<H>>(
+    alloc: Global,
+    known: &mut K,
+    lags: &mut bool,
+    home: &mut H,
+    place: &Pos,
+) -> Result<(), AllocError>
+    requires ready { K.ready known.old home.old }
+    requires at { IsAt lags.old (K.place known.old) place.now }
+    ensures ok { OnOk result (K.place known.new ≡ place.now) }
+    ensures lags { OnOk result (lags.new ≡ false) }
+    ensures err { OnErr result (IsAt lags.new (K.place known.new) place.now) }
+    ensures knows { SameKnown (K.knows known.old home.old) (K.knows known.new home.new) }
+    ensures did { InTurn (KnownStep K.did) (is_ok result) (known.old, home.old) (known.new, home.new) }
+    ensures ready { K.ready known.new home.new }
+{
+    if !*lags {
+        return Ok(());
+    }
+    match known.pass(alloc, home, place) {
+        Ok(()) => {
+            *lags = false;
+            Ok(())
+        }
+        Err(error) => Err(error),
+    }
+}
 
 // The first part of a snapshot from a place on, before which it may lag. The only error is want of memory.
 fn next_part<H, K: Known<H>>(
@@ -40,13 +69,10 @@ fn next_part<H, K: Known<H>>(
     ensures did { InTurn (KnownStep K.did) (is_ok result) (known.old, home.old) (known.new, home.new) }
     ensures ready { K.ready known.new home.new }
 {
-    if *lags {
-        match known.pass(alloc, home, place) {
-            Ok(()) => *lags = false,
-            Err(error) => return Err(error),
-        }
+    match catch_up(alloc, known, lags, home, place) {
+        Ok(()) => known.next_known(alloc, home, to),
+        Err(error) => Err(error),
     }
-    known.next_known(alloc, home, to)
 }
 
 // Reads the first part from the place on: what stands there is then due, or was passed over.
@@ -80,10 +106,9 @@ pub(crate) fn read_part<H, W: Store, K: Known<H>, F: Frags<H, W>, P: Filler<H>>(
         &reader.spot.place,
         &reader.to,
     ) {
-        Ok(Part::Row { key: _, row, tomb }) => {
+        Ok(Part::Row { key, row, tomb }) => {
             reader.stage = Stage::Away;
-            reader.spot.change_to(tomb);
-            reader.spot.row = RowAt::Due(row);
+            reader.spot.read_row(row, tomb);
             Ok(Step::Passed)
         }
         Ok(Part::Gap { to, tomb }) => {

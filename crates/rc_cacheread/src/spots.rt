@@ -107,6 +107,19 @@ impl Spot {
         self.since = None;
     }
 
+    // This row stands at the place, and this tombstone is in force there.
+    pub(crate) fn read_row(&mut self, row: Row, tomb: Option<Tomb>)
+        ensures place { self.new.place ≡ self.old.place }
+        ensures row { self.new.row ≡ RowAt.Due row }
+        ensures told { self.new.told ≡ self.old.told }
+        ensures again { self.new.again ≡ self.old.again }
+        ensures tomb { self.new.tomb ≡ tomb }
+        ensures since { self.new.since ≡ None }
+    {
+        self.change_to(tomb);
+        self.row = RowAt::Due(row);
+    }
+
     // Nothing stands from the place on and before another one, and this tombstone is in force.
     pub(crate) fn go_over(&mut self, to: Pos, tomb: Option<Tomb>)
         ensures place { self.new.place ≡ to }

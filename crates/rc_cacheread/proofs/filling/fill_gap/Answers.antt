@@ -2,7 +2,7 @@
 use Rattle.std.proofs.Common.{refl}
 use Rattle.rc_cacheread.proofs.Lists.{has-row}
 use Rattle.rc_cacheread.proofs.Leaving.{fills-left}
-use Rattle.rc_cacheread.proofs.Stepping.{end-reaches}
+use Rattle.rc_cacheread.proofs.Parting.{ready-known}
 use Rattle.rc_cacheread.proofs.filling.fill_gap.Goals as goal
 
 pub returns-then-is_lt-clause-did : goal.returns-then-is_lt-clause-did
