@@ -29,7 +29,7 @@ use Rattle.rc_cacheread.proofs.Orders.{before-reach, before-reaches, near-is, ne
 use Rattle.rc_cacheread.proofs.Outcomes.{Outcome, before-outcome, change-before, change-here, change-outcome, empty-here, empty-outcome, end-outcome, none-here, other-here, outcome-at, row-before, row-here, row-outcome, upto-outcome}
 use Rattle.rc_cacheread.proofs.Streams.{first-change, first-row, nothing-says}
 
-append-none : (xs : List Frag) → xs ++ [] ≡ xs
+pub append-none : (xs : List Frag) → xs ++ [] ≡ xs
 append-none [] = refl
 append-none (x ∷ xs) = ap (λ l. x ∷ l) (append-none xs)
 

@@ -41,7 +41,7 @@ idle-stand s i = ap (λ r. behind r s.place) i.row
 pub idle-told : (s : Spot) → IsIdle s → told_of s ≡ s.tomb
 idle-told s i = ap (λ a. told_or a s.told) i.again ∙ same-tombs s.told s.tomb i.told
 
-unsame : (t : Option Tomb) → is_some t ≡ true → same_tomb t None ≡ false
+pub unsame : (t : Option Tomb) → is_some t ≡ true → same_tomb t None ≡ false
 unsame None e = untrue (sym e)
 unsame (Some t) e = refl
 
@@ -226,5 +226,5 @@ gives-over to upto s t u (turn.Given f) o m g = absurd (never f (front u) (sym o
   never : (f : Frag) (fs : List Frag) → [] ≡ f ∷ fs → ⊥
   never f fs e = absurd (cc)
 gives-over to upto s t u turn.Nothing o m g = (alike-on s t u (o.0 ∙ sym o.4) o.1 o.2 m g.0, g.1)
-gives-over to upto s t u turn.Closed o m g = (o.4, subst (Reaches to) o.1 g.1, g.2 ∙ o.1, g.3 ∙ o.2, g.4, g.5 ∙ ap (λ x. frag.Change x None ∷ []) o.1)
+gives-over to upto s t u turn.Closed o m g = (o.4, subst (Reaches to) o.1 g.1, g.2 ∙ o.1, g.3 ∙ o.2, g.4, g.5 ∙ ap (λ x. frag.Change x None ∷ []) o.1, sym (ap (λ z. same_tomb z None) m) ∙ g.6)
 gives-over to upto s t u turn.Unread o m g = (alike-on s t u (o.0 ∙ sym o.4) o.1 o.2 m g.0, g.1, g.2, g.3)

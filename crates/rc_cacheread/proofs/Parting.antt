@@ -1,5 +1,5 @@
 -- The parts of a snapshot: what they leave to be read.
-use Rattle.std.specs.Prelude.{◌≡◌, ◌≢◌, ◌⊎◌, Bool, List, [], ◌∷◌, ◌++◌, Option, Some, None, Result, Ok, Err, IfOk, IsTrue}
+use Rattle.std.specs.Prelude.{◌≡◌, ◌≢◌, ◌⊎◌, Bool, cond, List, [], ◌∷◌, ◌++◌, Option, Some, None, Result, Ok, Err, IfOk, IsTrue}
 use Rattle.std.proofs.Common.{refl, sym, ap, ◌∙◌, subst, inl, inr}
 use Rattle.std.specs.declared.alloc.AllocError.{AllocError}
 use Rattle.rc_cell.specs.declared.rows.Row.{Row}
@@ -13,6 +13,7 @@ use Rattle.rc_core.specs.declared.parts.Part.TheVariants as part
 use Rattle.rc_mutation.specs.declared.fragments.Frag.{Frag}
 use Rattle.rc_mutation.specs.declared.fragments.Frag.TheVariants as frag
 use Rattle.rc_mutation.specs.declared.fragments.HeadAt.{HeadAt}
+use Rattle.rc_stream.specs.Merging.{same_tomb}
 use Rattle.rc_stream.specs.Places.{Reaches}
 use Rattle.rc_stream.specs.Snapshot.{IsPartFrom, SameKnown, There, Throughout}
 use Rattle.rc_stream.specs.Stream.{Stream, force}
@@ -22,9 +23,11 @@ use Rattle.rc_cacheread.specs.declared.readers.Stage.TheVariants.{Away, Sought, 
 use Rattle.rc_cacheread.specs.declared.spots.Spot.{Spot}
 use Rattle.rc_cacheread.specs.Reading.{Reads, behind_row, there}
 use Rattle.rc_cacheread.specs.Sharing.{Fits, IsAt, IsReady, IsSaid, IsWhole, Leads, OfBelow, OfFiller, OfKnown, Sees}
-use Rattle.rc_cacheread.specs.Spots.{IsIdle, front, stand, told_of}
+use Rattle.rc_cacheread.specs.Spots.{IsIdle, again_due, change_place, due_change, front, row_due, since_or, stand, told_of}
+use Rattle.rc_cacheread.proofs.Going.{append-none}
+use Rattle.rc_cacheread.proofs.Idle.{idle-front}
 use Rattle.rc_cacheread.proofs.Leaving.{KnownLeft, both-ways}
-use Rattle.rc_cacheread.proofs.Lists.{behind-its-row, change_if, gap-read, has-row, turns}
+use Rattle.rc_cacheread.proofs.Lists.{behind-its-row, change_if, gap-read, has-row, same-tombs, turns}
 use Rattle.rc_cacheread.proofs.Orders.{before-reach, before-reaches, reach-itself, reach-through}
 use Rattle.rc_cacheread.proofs.Outcomes.{Advance, Carries, leads-on, reads-on}
 use Rattle.rc_cacheread.proofs.Stepping.{reader_of}
@@ -75,6 +78,19 @@ advance-row S x to key row u t fs r b e k d =
 
 pub advance-at : (S : Pos → There → Type 0) (to : Pos) (u : Option Tomb) (fs : List Frag) (y y' : Pos) (v v' : Option Tomb) (due due' : List Frag) → y' ≡ y → v' ≡ v → due' ≡ due → Advance S to u fs y v due → Advance S to u fs y' v' due'
 advance-at S to u fs y y' v v' due due' p q r a = subst (λ (z : Pos × Option Tomb × List Frag). Advance S to u fs z.0 z.1 z.2) (λ i. (sym p i, sym q i, sym r i)) a
+
+pub advance-same : (S : Pos → There → Type 0) (to : Pos) (s : Spot) (fs : List Frag) → IsIdle s → Reads S (stand s) to s.tomb fs → Advance S to s.tomb fs (stand s) s.tomb (front s)
+advance-same S to s fs i r = record { left = fs; begins = ap (λ l. l ++ fs) (sym (idle-front s i)); reads = r; says = λ z h. refl }
+
+-- behind a gap the change is due where the gap began
+pub front-over : (s t : Spot) (next : Option Tomb) → IsIdle s → t.row ≡ s.row → t.told ≡ s.told → t.again ≡ s.again → t.tomb ≡ next → t.since ≡ Some s.place → front t ≡ change_if s.place s.tomb next
+front-over s t next i w u a m n =
+    ap (λ z. again_due z t.told ++ (due_change t ++ row_due t.row t.place.prefix)) (a ∙ i.again)
+    ∙ ap (λ z. cond (same_tomb z t.tomb) [] (frag.Change (change_place t) t.tomb ∷ []) ++ row_due t.row t.place.prefix) (u ∙ same-tombs s.told s.tomb i.told)
+    ∙ ap (λ z. cond (same_tomb s.tomb t.tomb) [] (frag.Change (since_or z t.place) t.tomb ∷ []) ++ row_due t.row t.place.prefix) n
+    ∙ ap (λ z. change_if s.place s.tomb z ++ row_due t.row t.place.prefix) m
+    ∙ ap (λ z. change_if s.place s.tomb next ++ row_due z t.place.prefix) (w ∙ i.row)
+    ∙ append-none (change_if s.place s.tomb next)
 
 -- ---- where the stream below may stand for the same
 

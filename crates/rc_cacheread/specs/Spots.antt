@@ -88,7 +88,7 @@ EndsUpto to upto s = (first_upto upto (front s) ≡ None) × (front s ≡ [] →
 abbrev pub Gives : (to upto : Pos) → Spot → Spot → Turn → Type 0
 Gives to upto s t (turn.Given f) = (front s ≡ f ∷ front t) × (is_upto upto f ≡ true) × (told_of t ≡ tomb_after (told_of s) f) × (stand t ≡ stand s) × (t.tomb ≡ s.tomb)
 Gives to upto s t turn.Nothing = IsAlike s t × EndsUpto to upto t
-Gives to upto s t turn.Closed = (front s ≡ []) × Reaches to (stand s) × (stand t ≡ stand s) × (told_of t ≡ told_of s) × (t.tomb ≡ None) × (front t ≡ frag.Change (stand s) None ∷ [])
+Gives to upto s t turn.Closed = (front s ≡ []) × Reaches to (stand s) × (stand t ≡ stand s) × (told_of t ≡ told_of s) × (t.tomb ≡ None) × (front t ≡ frag.Change (stand s) None ∷ []) × (same_tomb s.tomb None ≡ false)
 Gives to upto s t turn.Unread = IsAlike s t × IsIdle t × Reaches t.place upto × IsBefore t.place to
 
 -- what a seek leaves of what is due

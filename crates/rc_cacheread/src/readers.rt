@@ -91,7 +91,10 @@ fn round<H, W: Store, K: Known<H>, F: Frags<H, W>, P: Filler<H>>(
     match reader.spot.give(alloc, &reader.to, upto) {
         Ok(Turn::Given(frag)) => Ok(Step::Given(frag)),
         Ok(Turn::Nothing) => Ok(Step::Nothing),
-        Ok(Turn::Closed) => Ok(Step::Passed),
+        Ok(Turn::Closed) => {
+            reader.stage = Stage::Away;
+            Ok(Step::Passed)
+        }
         Ok(Turn::Unread) => read_part(alloc, reader, home, store, upto),
         Err(_) => Err(StreamErr::NoMemory),
     }

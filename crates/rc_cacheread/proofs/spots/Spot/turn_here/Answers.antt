@@ -5,7 +5,7 @@ use Rattle.rc_position.specs.Position.{IsBefore}
 use Rattle.rc_stream.specs.Places.{Reaches}
 use Rattle.rc_stream.specs.Stream.{first_upto}
 use Rattle.rc_cacheread.proofs.Orders.{is-gt, is-lt, not-gt, not-lt}
-use Rattle.rc_cacheread.proofs.Idle.{closed-front, idle-front, idle-stand, not-none, none-of}
+use Rattle.rc_cacheread.proofs.Idle.{closed-front, idle-front, idle-stand, not-none, none-of, unsame}
 use Rattle.rc_cacheread.proofs.spots.Spot.turn_here.Goals as goal
 
 pub returns-then-is_gt : goal.returns-then-is_gt
@@ -40,4 +40,5 @@ returns c =
       refl,
       refl,
       closed-front s c.requires (not-none s.tomb c.is_none.result c.is_none.ensures c.if-is_none.false),
+      unsame s.tomb (not-none s.tomb c.is_none.result c.is_none.ensures c.if-is_none.false),
     )
