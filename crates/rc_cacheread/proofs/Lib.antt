@@ -9,3 +9,4 @@ pub mod Parting
 pub mod Seeking
 pub mod Stepping
 pub mod Streams
+pub mod Turning
