@@ -6,6 +6,7 @@ pub mod Lists
 pub mod Orders
 pub mod Outcomes
 pub mod Parting
+pub mod Rounds
 pub mod Seeking
 pub mod Stepping
 pub mod Streams

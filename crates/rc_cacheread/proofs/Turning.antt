@@ -6,15 +6,18 @@ use Rattle.rc_position.specs.declared.positions.Pos.{Pos}
 use Rattle.rc_position.specs.Position.{IsBefore}
 use Rattle.rc_mutation.specs.declared.fragments.Frag.{Frag}
 use Rattle.rc_mutation.specs.declared.fragments.Frag.TheVariants as frag
+use Rattle.rc_mutation.specs.declared.fragments.HeadAt.{HeadAt}
+use Rattle.rc_stream.specs.Did.{OfNext}
 use Rattle.rc_stream.specs.Merging.{same_tomb}
 use Rattle.rc_stream.specs.Places.{Reaches}
-use Rattle.rc_stream.specs.Snapshot.{There}
+use Rattle.rc_stream.specs.Snapshot.{SameKnown, There}
 use Rattle.rc_stream.specs.Stream.{Stream, first_upto, is_upto, rest}
 use Rattle.rc_cacheread.specs.declared.readers.CacheReader.{CacheReader}
 use Rattle.rc_cacheread.specs.declared.readers.Stage.{Stage}
 use Rattle.rc_cacheread.specs.declared.readers.Stage.TheVariants.{Away}
 use Rattle.rc_cacheread.specs.declared.spots.Spot.{Spot}
 use Rattle.rc_cacheread.specs.declared.spots.Turn.TheVariants as turn
+use Rattle.rc_cacheread.specs.Did.{IsKnownFor}
 use Rattle.rc_cacheread.specs.Reading.{Reads, there}
 use Rattle.rc_cacheread.specs.Sharing.{Fits, IsAt, IsReady, IsSaid, IsWhole, Leads, OfBelow, OfFiller, OfKnown, Sees}
 use Rattle.rc_cacheread.specs.Spots.{EndsUpto, Gives, IsAlike, front, stand, told_of}
@@ -131,3 +134,7 @@ first-of x f fs e = ap (λ b. cond b (Some f) None) e
 -- what was due is first
 pub first-left : (x : Pos) (f : Frag) (left fs : List Frag) {due now : List Frag} → left ≡ due ++ fs → due ≡ f ∷ now → is_upto x f ≡ true → (first_upto x left ≡ Some f) × (rest left ≡ now ++ fs)
 first-left x f left fs {due} {now} l d e = (ap (first_upto x) (l ∙ ap (λ z. z ++ fs) d) ∙ first-of x f (now ++ fs) e, ap rest (l ∙ ap (λ z. z ++ fs) d))
+
+-- what is known for a call stays known where the snapshot knows the same
+pub still-known : (y : Pos) (a b : Pos → There → Type 0) (p q : HeadAt → Type 0) (x z to end : Pos) → Reaches x z → to ≡ end → SameKnown a b → IsKnownFor (OfNext y) a p x to → IsKnownFor (OfNext y) b q z end
+still-known y a b p q x z to end on e s k = λ i h m l. (let v = k i (reach-through x z i on h) m (subst (IsBefore i) (sym e) l) in (v.0, (s i v.0).0 v.1))

@@ -48,10 +48,11 @@ IsKnownFor OfHead knows heads x to = (at : HeadAt) → heads at → IsTrue at.kn
 IsKnownFor (OfSeek y) knows heads x to = ⊤
 IsKnownFor (OfNext y) knows heads x to = (z : Pos) → Reaches x z → Reaches z y → IsBefore z to → ((v : There) × knows z v)
 
--- a call of a reader is a chain of calls of its parts, a refused one last; where what it passes is known, of the snapshot alone
+-- a call of a reader is a chain of calls of its parts, a refused one last, and goes on; where what it passes is known, of the snapshot alone, and it still is known
 pub record ReaderDid {K F P H W : Type 0} (kn : OfKnown K H) (be : OfBelow F H W) (fi : OfFiller P H) (r : CacheReader K F P) (h : H) (w : W) (c : Call) (ok : Bool) (n : CacheReader K F P) (g : H) (v : W) : Type 0 where
   pub calls : InTurn (OneCall kn be fi c) ok (state r h w) (state n g v)
-  pub quiet : IsKnownFor c (kn.knows r.known h) (kn.heads r.known h) (stand r.spot) r.to → IsQuiet kn ok (state r h w) (state n g v)
+  pub on : Reaches (stand r.spot) (stand n.spot)
+  pub quiet : IsKnownFor c (kn.knows r.known h) (kn.heads r.known h) (stand r.spot) r.to → IsQuiet kn ok (state r h w) (state n g v) × IsKnownFor c (kn.knows n.known g) (kn.heads n.known g) (stand n.spot) n.to
 
 -- what a step leaves, where this holds of the stream: nothing stands up to x; or something was read; or the first was given, which stands there
 abbrev pub StepSays : Result Step StreamErr → Pos → Stream → (Stream → Type 0) → Type 0

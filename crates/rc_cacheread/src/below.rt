@@ -11,7 +11,7 @@ ghost use Rattle.rc_stream.specs.Stream.{Stream};
 ghost use Rattle.rc_cacheread.specs.Below.{Fillings, IsSettled, Tells, TookFound, found_of, near_of, sought_stage};
 ghost use Rattle.rc_cacheread.specs.Did.{IsStepUpto, OneCall, StepSays, state};
 ghost use Rattle.rc_cacheread.specs.Sharing.{IsReady, Sees, of_below, of_filler, of_known};
-ghost use Rattle.rc_cacheread.specs.Spots.{IsIdle};
+ghost use Rattle.rc_cacheread.specs.Spots.{IsIdle, stand};
 
 use crate::filling::{take_change, take_end, take_here, take_row, take_upto};
 use crate::readers::{CacheReader, Stage};
@@ -42,6 +42,7 @@ pub(crate) fn read_below<H, W: Store, K: Known<H>, F: Frags<H, W>, P: Filler<H>>
     ensures says { (s : Stream) → Sees (of_known K.ready K.place K.knows K.heads K.did) (of_below F.ready F.seen F.ahead F.moves F.did) (of_filler P.ready P.fits P.may P.lost P.source P.knows P.statics_are P.knows_statics P.fills) reader.old home.old store.old s → StepSays result upto.now s (Sees (of_known K.ready K.place K.knows K.heads K.did) (of_below F.ready F.seen F.ahead F.moves F.did) (of_filler P.ready P.fits P.may P.lost P.source P.knows P.statics_are P.knows_statics P.fills) reader.new home.new store.new) }
     ensures upto { IfOk result (IsStepUpto upto.now) }
     ensures did { (y : Pos) → ReachesEnd (Sees (of_known K.ready K.place K.knows K.heads K.did) (of_below F.ready F.seen F.ahead F.moves F.did) (of_filler P.ready P.fits P.may P.lost P.source P.knows P.statics_are P.knows_statics P.fills) reader.old home.old store.old) upto.now y → InTurn (OneCall (of_known K.ready K.place K.knows K.heads K.did) (of_below F.ready F.seen F.ahead F.moves F.did) (of_filler P.ready P.fits P.may P.lost P.source P.knows P.statics_are P.knows_statics P.fills) (OfNext y)) (answered result) (state reader.old home.old store.old) (state reader.new home.new store.new) }
+    ensures on { Reaches (stand reader.old.spot) (stand reader.new.spot) }
     ensures to { reader.new.to ≡ reader.old.to }
     ensures ready { IsReady (of_known K.ready K.place K.knows K.heads K.did) (of_below F.ready F.seen F.ahead F.moves F.did) (of_filler P.ready P.fits P.may P.lost P.source P.knows P.statics_are P.knows_statics P.fills) reader.new home.new store.new }
     ensures damage { Blames (F.damage reader.old.below) (F.damage reader.new.below) result }
@@ -125,6 +126,7 @@ fn look_here<H, W: Store, K: Known<H>, F: Frags<H, W>, P: Filler<H>>(
     ensures says { (s : Stream) → Sees (of_known K.ready K.place K.knows K.heads K.did) (of_below F.ready F.seen F.ahead F.moves F.did) (of_filler P.ready P.fits P.may P.lost P.source P.knows P.statics_are P.knows_statics P.fills) reader.old home.old store.old s → StepSays result upto.now s (Sees (of_known K.ready K.place K.knows K.heads K.did) (of_below F.ready F.seen F.ahead F.moves F.did) (of_filler P.ready P.fits P.may P.lost P.source P.knows P.statics_are P.knows_statics P.fills) reader.new home.new store.new) }
     ensures upto { IfOk result (IsStepUpto upto.now) }
     ensures did { (y : Pos) → ReachesEnd (Sees (of_known K.ready K.place K.knows K.heads K.did) (of_below F.ready F.seen F.ahead F.moves F.did) (of_filler P.ready P.fits P.may P.lost P.source P.knows P.statics_are P.knows_statics P.fills) reader.old home.old store.old) upto.now y → InTurn (OneCall (of_known K.ready K.place K.knows K.heads K.did) (of_below F.ready F.seen F.ahead F.moves F.did) (of_filler P.ready P.fits P.may P.lost P.source P.knows P.statics_are P.knows_statics P.fills) (OfNext y)) (answered result) (state reader.old home.old store.old) (state reader.new home.new store.new) }
+    ensures on { Reaches (stand reader.old.spot) (stand reader.new.spot) }
     ensures to { reader.new.to ≡ reader.old.to }
     ensures ready { IsReady (of_known K.ready K.place K.knows K.heads K.did) (of_below F.ready F.seen F.ahead F.moves F.did) (of_filler P.ready P.fits P.may P.lost P.source P.knows P.statics_are P.knows_statics P.fills) reader.new home.new store.new }
     ensures damage { Blames (F.damage reader.old.below) (F.damage reader.new.below) result }
@@ -163,6 +165,7 @@ fn go_below<H, W: Store, K: Known<H>, F: Frags<H, W>, P: Filler<H>>(
     ensures says { (s : Stream) → Sees (of_known K.ready K.place K.knows K.heads K.did) (of_below F.ready F.seen F.ahead F.moves F.did) (of_filler P.ready P.fits P.may P.lost P.source P.knows P.statics_are P.knows_statics P.fills) reader.old home.old store.old s → StepSays result upto.now s (Sees (of_known K.ready K.place K.knows K.heads K.did) (of_below F.ready F.seen F.ahead F.moves F.did) (of_filler P.ready P.fits P.may P.lost P.source P.knows P.statics_are P.knows_statics P.fills) reader.new home.new store.new) }
     ensures upto { IfOk result (IsStepUpto upto.now) }
     ensures did { (y : Pos) → ReachesEnd (Sees (of_known K.ready K.place K.knows K.heads K.did) (of_below F.ready F.seen F.ahead F.moves F.did) (of_filler P.ready P.fits P.may P.lost P.source P.knows P.statics_are P.knows_statics P.fills) reader.old home.old store.old) upto.now y → InTurn (OneCall (of_known K.ready K.place K.knows K.heads K.did) (of_below F.ready F.seen F.ahead F.moves F.did) (of_filler P.ready P.fits P.may P.lost P.source P.knows P.statics_are P.knows_statics P.fills) (OfNext y)) (answered result) (state reader.old home.old store.old) (state reader.new home.new store.new) }
+    ensures on { Reaches (stand reader.old.spot) (stand reader.new.spot) }
     ensures to { reader.new.to ≡ reader.old.to }
     ensures ready { IsReady (of_known K.ready K.place K.knows K.heads K.did) (of_below F.ready F.seen F.ahead F.moves F.did) (of_filler P.ready P.fits P.may P.lost P.source P.knows P.statics_are P.knows_statics P.fills) reader.new home.new store.new }
     ensures damage { Blames (F.damage reader.old.below) (F.damage reader.new.below) result }

@@ -11,7 +11,7 @@ ghost use Rattle.rc_stream.specs.Snapshot.{IsPartFrom, SameKnown, There, place_b
 ghost use Rattle.rc_stream.specs.Stream.{Stream};
 ghost use Rattle.rc_cacheread.specs.Did.{IsQuiet, IsStepUpto, KnownStep, OneCall, StepSays, state};
 ghost use Rattle.rc_cacheread.specs.Sharing.{IsAt, IsReady, Sees, of_below, of_filler, of_known};
-ghost use Rattle.rc_cacheread.specs.Spots.{IsIdle};
+ghost use Rattle.rc_cacheread.specs.Spots.{IsIdle, stand};
 
 use crate::below::read_below;
 use crate::readers::{CacheReader, Stage};
@@ -91,6 +91,8 @@ pub(crate) fn read_part<H, W: Store, K: Known<H>, F: Frags<H, W>, P: Filler<H>>(
     ensures upto { IfOk result (IsStepUpto upto.now) }
     ensures did { (y : Pos) → ReachesEnd (Sees (of_known K.ready K.place K.knows K.heads K.did) (of_below F.ready F.seen F.ahead F.moves F.did) (of_filler P.ready P.fits P.may P.lost P.source P.knows P.statics_are P.knows_statics P.fills) reader.old home.old store.old) upto.now y → InTurn (OneCall (of_known K.ready K.place K.knows K.heads K.did) (of_below F.ready F.seen F.ahead F.moves F.did) (of_filler P.ready P.fits P.may P.lost P.source P.knows P.statics_are P.knows_statics P.fills) (OfNext y)) (answered result) (state reader.old home.old store.old) (state reader.new home.new store.new) }
     ensures quiet { (v : There) → K.knows reader.old.known home.old reader.old.spot.place v → IsQuiet (of_known K.ready K.place K.knows K.heads K.did) (answered result) (state reader.old home.old store.old) (state reader.new home.new store.new) }
+    ensures keeps { (v : There) → K.knows reader.old.known home.old reader.old.spot.place v → SameKnown (K.knows reader.old.known home.old) (K.knows reader.new.known home.new) }
+    ensures on { Reaches (stand reader.old.spot) (stand reader.new.spot) }
     ensures to { reader.new.to ≡ reader.old.to }
     ensures ready { IsReady (of_known K.ready K.place K.knows K.heads K.did) (of_below F.ready F.seen F.ahead F.moves F.did) (of_filler P.ready P.fits P.may P.lost P.source P.knows P.statics_are P.knows_statics P.fills) reader.new home.new store.new }
     ensures damage { Blames (F.damage reader.old.below) (F.damage reader.new.below) result }

@@ -106,6 +106,22 @@ returns-in-Ok-next-clause-ready g c =
     (λ x on. c.in-Ok-next.ensures.ahead x (o.passes x on) (c.requires.ready.ahead x (reach-through (stand r.spot) (stand n.spot) x o.on on)))
     (at-on r.lags (kn.place r.known) (stand r.spot) (stand n.spot) c.requires.lags c.requires.ready.place o.on)
 
+pub returns-in-Ok-next-clause-on : goal.returns-in-Ok-next-clause-on
+returns-in-Ok-next-clause-on g c =
+    let kn = (of_known g.K.Known.ready g.K.Known.place g.K.Known.knows g.K.Known.heads g.K.Known.did) in
+    let be = (of_below g.F.Frags.ready g.F.Frags.seen g.F.Frags.ahead g.F.Frags.moves g.F.Frags.did) in
+    let fi = (of_filler g.P.Filler.ready g.P.Filler.fits g.P.Filler.may g.P.Filler.lost g.P.Filler.source g.P.Filler.knows g.P.Filler.statics_are g.P.Filler.knows_statics g.P.Filler.fills) in
+    let r = c.args.reader.now in
+    let h = c.args.home.now in
+    let w = c.args.store.now in
+    let n = reader_of r.known c.next.new.self c.take_found.new.filler r.to c.take_found.new.spot c.take_found.new.stage r.lags in
+    let after = c.requires.ready.shares.after_below r.known r.below c.next.new.self r.filler h w c.next.new.home c.next.new.store c.requires.ready.fit c.in-Ok-next.ensures.moves c.in-Ok-next.ensures.ready in
+    let filled = fills-left kn be fi c.requires.ready.shares r.known c.next.new.self c.next.new.store (r.filler, c.next.new.home) (c.take_found.new.filler, c.take_found.new.home) c.take_found.ensures.did after.0 in
+    let kept = kept-kept kn be fi r.known r.known r.known r.filler r.filler c.take_found.new.filler h c.next.new.home c.take_found.new.home after.1 filled.kept in
+    let near : c.in-Ok.near ≡ near_of c.args.upto.now c.args.end = c.in-Ok.ensures in
+    let o : Gone (fi.source r.filler h) (be.seen r.below h w) (be.seen c.next.new.self c.take_found.new.home c.next.new.store) r.to c.args.upto.now r.stage r.spot c.take_found.new.stage c.take_found.new.spot c.in-Ok-next.got c.take_found.result = subst (λ b. Gone (fi.source r.filler h) (be.seen r.below h w) (be.seen c.next.new.self c.take_found.new.home c.next.new.store) r.to c.args.upto.now b r.spot c.take_found.new.stage c.take_found.new.spot c.in-Ok-next.got c.take_found.result) (sym c.requires.stage) (gone (fi.source r.filler h) (be.seen r.below h w) (be.seen c.next.new.self c.take_found.new.home c.next.new.store) r.to c.args.upto.now c.args.end r.spot c.take_found.new.spot c.requires.idle c.take_found.new.stage c.requires.inside c.requires.near c.requires.end c.in-Ok-next.got r.stage c.take_found.result c.requires.stage (λ t s. c.in-Ok-next.ensures.gives t s ∙ ap (λ x. first_upto x t.left) near) (subst (λ x. IfSome c.in-Ok-next.got (λ f. IsTrue (is_upto x f))) near c.in-Ok-next.ensures.upto) (λ t s. filled.seen (left_by (Ok c.in-Ok-next.got) t) (c.in-Ok-next.ensures.seen t s)) (subst (λ (z : Found × Pos). TookFound z.0 z.1 c.args.end c.args.upto.now r.spot c.take_found.new.spot r.stage c.take_found.new.stage c.take_found.result) (λ i. (c.found.ensures i, near i)) c.take_found.ensures.took)) in
+    o.on
+
 pub returns-in-Err-next-clause-says : goal.returns-in-Err-next-clause-says
 returns-in-Err-next-clause-says g c = λ s.
     let kn = (of_known g.K.Known.ready g.K.Known.place g.K.Known.knows g.K.Known.heads g.K.Known.did) in

@@ -85,6 +85,21 @@ returns-in-Ok-clause-ready g c =
     (λ x on. c.in-Ok.ensures.ahead x (o.passes x on) (c.requires.ready.ahead x (reach-through (stand r.spot) (stand n.spot) x o.on on)))
     (at-on r.lags (kn.place r.known) (stand r.spot) (stand n.spot) c.requires.lags c.requires.ready.place o.on)
 
+pub returns-in-Ok-clause-on : goal.returns-in-Ok-clause-on
+returns-in-Ok-clause-on g c =
+    let kn = (of_known g.K.Known.ready g.K.Known.place g.K.Known.knows g.K.Known.heads g.K.Known.did) in
+    let be = (of_below g.F.Frags.ready g.F.Frags.seen g.F.Frags.ahead g.F.Frags.moves g.F.Frags.did) in
+    let fi = (of_filler g.P.Filler.ready g.P.Filler.fits g.P.Filler.may g.P.Filler.lost g.P.Filler.source g.P.Filler.knows g.P.Filler.statics_are g.P.Filler.knows_statics g.P.Filler.fills) in
+    let r = c.args.reader.now in
+    let h = c.args.home.now in
+    let w = c.args.store.now in
+    let n = reader_of r.known c.next.new.self c.take_here.new.filler r.to c.take_here.new.spot Within r.lags in
+    let after = c.requires.ready.shares.after_below r.known r.below c.next.new.self r.filler h w c.next.new.home c.next.new.store c.requires.ready.fit c.in-Ok.ensures.moves c.in-Ok.ensures.ready in
+    let filled = fills-left kn be fi c.requires.ready.shares r.known c.next.new.self c.next.new.store (r.filler, c.next.new.home) (c.take_here.new.filler, c.take_here.new.home) c.take_here.ensures.did after.0 in
+    let kept = kept-kept kn be fi r.known r.known r.known r.filler r.filler c.take_here.new.filler h c.next.new.home c.take_here.new.home after.1 filled.kept in
+    let o : Gone (fi.source r.filler h) (be.seen r.below h w) (be.seen c.next.new.self c.take_here.new.home c.next.new.store) r.to c.args.upto.now r.stage r.spot Within c.take_here.new.spot c.in-Ok.got step.Passed = subst (λ b. Gone (fi.source r.filler h) (be.seen r.below h w) (be.seen c.next.new.self c.take_here.new.home c.next.new.store) r.to c.args.upto.now b r.spot Within c.take_here.new.spot c.in-Ok.got step.Passed) (sym c.requires.stage) (gone-here (fi.source r.filler h) (be.seen r.below h w) (be.seen c.next.new.self c.take_here.new.home c.next.new.store) r.to c.args.upto.now r.spot c.take_here.new.spot c.requires.idle c.requires.within c.in-Ok.got c.in-Ok.ensures.gives c.in-Ok.ensures.upto (λ t s. filled.seen (left_by (Ok c.in-Ok.got) t) (c.in-Ok.ensures.seen t s)) (subst (λ f. TookHere f r.spot c.take_here.new.spot) c.found.ensures c.take_here.ensures.took)) in
+    o.on
+
 pub returns-in-Err-clause-says : goal.returns-in-Err-clause-says
 returns-in-Err-clause-says g c = λ s.
     let kn = (of_known g.K.Known.ready g.K.Known.place g.K.Known.knows g.K.Known.heads g.K.Known.did) in

@@ -1,6 +1,8 @@
 -- The stream below was sought, and is then looked at or read on.
 use Rattle.std.proofs.Common.{true, refl, sym, subst}
 use Rattle.rc_stream.specs.Did.{OfNext, answered}
+use Rattle.rc_stream.specs.Places.{Reaches}
+use Rattle.rc_cacheread.proofs.Orders.{reach-itself}
 use Rattle.rc_cacheread.specs.Below.{IsSettled}
 use Rattle.rc_cacheread.specs.Did.{OneCall, state}
 use Rattle.rc_cacheread.specs.Sharing.{of_below, of_filler, of_known}
@@ -79,3 +81,12 @@ returns-in-Err-clause-did g c = λ y covers.
     let h = c.args.home.now in
     let w = c.args.store.now in
     c.in-Err.ensures.did y (end-reaches kn be fi r h w c.args.upto.now y c.requires.idle c.requires.near covers)
+
+pub returns-in-Sought-clause-on : goal.returns-in-Sought-clause-on
+returns-in-Sought-clause-on g c = subst (λ s. Reaches (stand s) (stand c.look_here.new.reader.spot)) c.in-Ok.ensures.spot c.look_here.ensures.on
+
+pub returns-in-Within-clause-on : goal.returns-in-Within-clause-on
+returns-in-Within-clause-on g c = subst (λ s. Reaches (stand s) (stand c.go_below.new.reader.spot)) c.in-Ok.ensures.spot c.go_below.ensures.on
+
+pub returns-in-Err-clause-on : goal.returns-in-Err-clause-on
+returns-in-Err-clause-on g c = subst (λ s. Reaches (stand c.args.reader.now.spot) (stand s)) (sym c.in-Err.ensures.spot) (reach-itself (stand c.args.reader.now.spot))

@@ -74,6 +74,22 @@ returns-in-Ok-Row-clause-ready g c =
     let carries = carries-away (be.seen r.below h w) (be.seen r.below c.next_part.new.home w) r.stage (stand r.spot) (stand s) r.spot.tomb s.tomb left.seen in
     ready-known kn be fi r c.next_part.new.known s Away c.next_part.new.lags h c.next_part.new.home w left c.next_part.ensures.knows on carries c.requires.ready (subst (IsAt c.next_part.new.lags (kn.place c.next_part.new.known)) (sym stands) (subst (λ p. IsAt c.next_part.new.lags (kn.place c.next_part.new.known) (place_behind (Ok p) r.spot.place)) c.in-Ok-Row.field-0-is c.in-Ok-Row.ensures.at))
 
+pub returns-in-Ok-Row-clause-on : goal.returns-in-Ok-Row-clause-on
+returns-in-Ok-Row-clause-on g c =
+    let kn = (of_known g.K.Known.ready g.K.Known.place g.K.Known.knows g.K.Known.heads g.K.Known.did) in
+    let be = (of_below g.F.Frags.ready g.F.Frags.seen g.F.Frags.ahead g.F.Frags.moves g.F.Frags.did) in
+    let fi = (of_filler g.P.Filler.ready g.P.Filler.fits g.P.Filler.may g.P.Filler.lost g.P.Filler.source g.P.Filler.knows g.P.Filler.statics_are g.P.Filler.knows_statics g.P.Filler.fills) in
+    let r = c.args.reader.now in
+    let h = c.args.home.now in
+    let w = c.args.store.now in
+    let s = c.read_row.new.self in
+    let q = c.read_row.ensures in
+    let d : IsPartFrom (kn.knows r.known h) r.spot.place r.to (part.Row c.in-Ok-Row.key c.in-Ok-Row.row c.in-Ok-Row.tomb) = subst (IsPartFrom (kn.knows r.known h) r.spot.place r.to) c.in-Ok-Row.field-0-is c.in-Ok-Row.ensures.part in
+    let at : s.place ≡ row_pos c.in-Ok-Row.key = q.place ∙ d.1 in
+    let stands : stand s ≡ behind_row c.in-Ok-Row.key = λ i. behind (q.row i) (at i) in
+    let on : Reaches (stand r.spot) (stand s) = subst (λ (z : Pos × Pos). Reaches z.0 z.1) (λ i. (sym (idle-stand r.spot c.requires.idle ∙ d.1) i, sym stands i)) (before-reach (row_pos c.in-Ok-Row.key) (behind_row c.in-Ok-Row.key) (behind-its-row c.in-Ok-Row.key)) in
+    on
+
 pub returns-in-Ok-Gap-clause-says : goal.returns-in-Ok-Gap-clause-says
 returns-in-Ok-Gap-clause-says g c = λ z v.
     let kn = (of_known g.K.Known.ready g.K.Known.place g.K.Known.knows g.K.Known.heads g.K.Known.did) in
@@ -120,6 +136,21 @@ returns-in-Ok-Gap-clause-ready g c =
     let left = known-left kn be fi c.requires.ready.shares r.below r.filler w true (r.known, h) (c.next_part.new.known, c.next_part.new.home) c.in-Ok-Gap.ensures.did c.requires.ready.fit in
     let carries = carries-away (be.seen r.below h w) (be.seen r.below c.next_part.new.home w) r.stage (stand r.spot) (stand s) r.spot.tomb s.tomb left.seen in
     ready-known kn be fi r c.next_part.new.known s Away c.next_part.new.lags h c.next_part.new.home w left c.next_part.ensures.knows on carries c.requires.ready (subst (IsAt c.next_part.new.lags (kn.place c.next_part.new.known)) (sym stands) (subst (λ p. IsAt c.next_part.new.lags (kn.place c.next_part.new.known) (place_behind (Ok p) r.spot.place)) c.in-Ok-Gap.field-0-is c.in-Ok-Gap.ensures.at))
+
+pub returns-in-Ok-Gap-clause-on : goal.returns-in-Ok-Gap-clause-on
+returns-in-Ok-Gap-clause-on g c =
+    let kn = (of_known g.K.Known.ready g.K.Known.place g.K.Known.knows g.K.Known.heads g.K.Known.did) in
+    let be = (of_below g.F.Frags.ready g.F.Frags.seen g.F.Frags.ahead g.F.Frags.moves g.F.Frags.did) in
+    let fi = (of_filler g.P.Filler.ready g.P.Filler.fits g.P.Filler.may g.P.Filler.lost g.P.Filler.source g.P.Filler.knows g.P.Filler.statics_are g.P.Filler.knows_statics g.P.Filler.fills) in
+    let r = c.args.reader.now in
+    let h = c.args.home.now in
+    let w = c.args.store.now in
+    let s = c.go_over.new.self in
+    let q = c.go_over.ensures in
+    let d : IsPartFrom (kn.knows r.known h) r.spot.place r.to (part.Gap c.in-Ok-Gap.to c.in-Ok-Gap.tomb) = subst (IsPartFrom (kn.knows r.known h) r.spot.place r.to) c.in-Ok-Gap.field-0-is c.in-Ok-Gap.ensures.part in
+    let stands : stand s ≡ c.in-Ok-Gap.to = ap (λ z. behind z s.place) (q.row ∙ c.requires.idle.row) ∙ q.place in
+    let on : Reaches (stand r.spot) (stand s) = subst (λ (z : Pos × Pos). Reaches z.0 z.1) (λ i. (sym (idle-stand r.spot c.requires.idle) i, sym stands i)) (before-reach r.spot.place c.in-Ok-Gap.to d.0.0) in
+    on
 
 pub read_below-requires-clause-ready : goal.read_below-requires-clause-ready
 read_below-requires-clause-ready g c =
@@ -208,3 +239,27 @@ returns-in-Err-clause-ready g c =
     let left = known-left kn be fi c.requires.ready.shares r.below r.filler w false (r.known, h) (c.next_part.new.known, c.next_part.new.home) c.in-Err.ensures.did c.requires.ready.fit in
     let carries = carries-same (be.seen r.below h w) (be.seen r.below c.next_part.new.home w) r.stage (stand r.spot) r.spot.tomb left.seen in
     ready-known kn be fi r c.next_part.new.known r.spot r.stage c.next_part.new.lags h c.next_part.new.home w left c.next_part.ensures.knows (reach-itself (stand r.spot)) carries c.requires.ready (subst (IsAt c.next_part.new.lags (kn.place c.next_part.new.known)) (sym (idle-stand r.spot c.requires.idle)) c.in-Err.ensures.at)
+
+pub returns-in-Ok-Missing-clause-on : goal.returns-in-Ok-Missing-clause-on
+returns-in-Ok-Missing-clause-on g c = c.read_below.ensures.on
+
+pub returns-in-Ok-Missing-clause-keeps : goal.returns-in-Ok-Missing-clause-keeps
+returns-in-Ok-Missing-clause-keeps g c = λ v k. absurd ((subst (IsPartFrom (g.K.Known.knows c.args.reader.now.known c.args.home.now) c.args.reader.now.spot.place c.args.reader.now.to) c.in-Ok-Missing.field-0-is c.in-Ok-Missing.ensures.part).1 v k)
+
+pub returns-in-Ok-End-clause-on : goal.returns-in-Ok-End-clause-on
+returns-in-Ok-End-clause-on g c = reach-itself (stand c.args.reader.now.spot)
+
+pub returns-in-Err-clause-on : goal.returns-in-Err-clause-on
+returns-in-Err-clause-on g c = reach-itself (stand c.args.reader.now.spot)
+
+pub returns-in-Ok-Row-clause-keeps : goal.returns-in-Ok-Row-clause-keeps
+returns-in-Ok-Row-clause-keeps g c = λ v k. c.next_part.ensures.knows
+
+pub returns-in-Ok-Gap-clause-keeps : goal.returns-in-Ok-Gap-clause-keeps
+returns-in-Ok-Gap-clause-keeps g c = λ v k. c.next_part.ensures.knows
+
+pub returns-in-Ok-End-clause-keeps : goal.returns-in-Ok-End-clause-keeps
+returns-in-Ok-End-clause-keeps g c = λ v k. c.next_part.ensures.knows
+
+pub returns-in-Err-clause-keeps : goal.returns-in-Err-clause-keeps
+returns-in-Err-clause-keeps g c = λ v k. c.next_part.ensures.knows
