@@ -145,3 +145,24 @@ module _ {K F P H W : Type 0} (kn : OfKnown K H) (be : OfBelow F H W) (fi : OfFi
       says = λ y k b. n.3 y k ∙ t.says y (reach-through (stand r.spot) (stand s) y on k) b ∙ adv.says y k;
       static_row = n.4 ∙ t.static_row;
     }))
+
+  -- where the spot is as it was
+  pub sees-known-still : (e : s ≡ r.spot) → (z : Stream) → Sees kn be fi r h w z → Sees kn be fi N g w z
+  sees-known-still e z d = record {
+    rest = d.rest;
+    tomb = d.tomb ∙ ap told_of (sym e);
+    left = d.left ∙ ap (λ x. front x ++ d.rest) (sym e);
+    reads = subst (λ x. Reads (fi.source r.filler g) (stand x) r.to x.tomb d.rest) (sym e) (reads-on (fi.source r.filler h) (fi.source r.filler g) (stand r.spot) r.to r.spot.tomb d.rest (λ y x. (left.kept.source y x).1) d.reads);
+    pt = λ at k. (let b = left.kept.pts at k in sym b.2 ∙ d.pt b.0 b.1);
+    static_row = λ row x. d.static_row row ((left.kept.statics row).1 x);
+    below = cover d.below;
+  } where
+    cover : IsWhole (kn.knows r.known h) (kn.heads r.known h) (stand r.spot) r.to ⊎ IsSaid (be.seen r.below h w) r.stage r.to r.spot d.rest z.head.statics → IsWhole (kn.knows l g) (kn.heads l g) (stand s) r.to ⊎ IsSaid (be.seen r.below g w) a r.to s d.rest z.head.statics
+    cover (inl x) = inl (whole-on x)
+    cover (inr t) = (let n = c.each t.stream t.stands t.fits in inr (record {
+      stream = n.0;
+      stands = n.1;
+      fits = n.2;
+      says = λ y k b. n.3 y k ∙ t.says y (reach-through (stand r.spot) (stand s) y on k) b ∙ ap (λ x. there y x.tomb d.rest) (sym e);
+      static_row = n.4 ∙ t.static_row;
+    }))

@@ -6,8 +6,8 @@ use Rattle.rc_cacheread.specs.declared.readers.CacheReader.{CacheReader}
 use Rattle.rc_cacheread.specs.Did.{KnownStep, OneCall, ReaderDid, state}
 use Rattle.rc_cacheread.specs.Sharing.{OfBelow, OfFiller, OfKnown}
 use Rattle.rc_cacheread.specs.Spots.{stand}
-use Rattle.rc_cacheread.proofs.Chains.{chain-after, chain-stop}
-use Rattle.rc_cacheread.proofs.Orders.{reach-through}
+use Rattle.rc_cacheread.proofs.Chains.{chain-after, chain-none, chain-stop}
+use Rattle.rc_cacheread.proofs.Orders.{reach-itself, reach-through}
 
 module _ {K F P H W : Type 0} (kn : OfKnown K H) (be : OfBelow F H W) (fi : OfFiller P H) where
   pub did-after : (r n m : CacheReader K F P) (h g f : H) (w v u : W) (c : Call) (ok : Bool) → ReaderDid kn be fi r h w c true n g v → ReaderDid kn be fi n g v c ok m f u → ReaderDid kn be fi r h w c ok m f u
@@ -25,4 +25,11 @@ module _ {K F P H W : Type 0} (kn : OfKnown K H) (be : OfBelow F H W) (fi : OfFi
     calls = chain-stop (OneCall kn be fi c) (state r h w) (state n g v) a.calls;
     on = a.on;
     quiet = λ k. (let x = a.quiet k in ((chain-stop (KnownStep kn.did) (r.known, h) (n.known, g) x.0.0, x.0.1, x.0.2, x.0.3), x.1));
+  }
+
+  pub did-nothing : (r : CacheReader K F P) (h : H) (w : W) (c : Call) → ReaderDid kn be fi r h w c true r h w
+  did-nothing r h w c = record {
+    calls = chain-none (OneCall kn be fi c) true (state r h w);
+    on = reach-itself (stand r.spot);
+    quiet = λ k. ((chain-none (KnownStep kn.did) true (r.known, h), refl, refl, refl), k);
   }

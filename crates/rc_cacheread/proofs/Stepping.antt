@@ -92,6 +92,20 @@ module _ {K F P H W : Type 0} (kn : OfKnown K H) (be : OfBelow F H W) (fi : OfFi
           });
       }
 
+  -- where spot, stage and slice are as they were, so is the stream
+  pub sees-still : (r n : CacheReader K F P) (h g : H) (w v : W) (s : Stream) → Kept kn fi r.known r.filler h n.known n.filler g → r.spot ≡ n.spot → r.stage ≡ n.stage → r.to ≡ n.to → (Whole r h → ⊥) → ((t : Stream) → be.seen r.below h w t → be.seen n.below g v t) → Sees kn be fi r h w s → Sees kn be fi n g v s
+  sees-still r n h g w v s kept e a q none on d =
+      let t = said r h w s d none in
+      record {
+        rest = d.rest;
+        tomb = d.tomb ∙ ap told_of e;
+        left = d.left ∙ ap (λ z. front z ++ d.rest) e;
+        reads = subst (λ (z : Spot × Pos). Reads (fi.source n.filler g) (stand z.0) z.1 z.0.tomb d.rest) (λ i. (e i, q i)) (reads-on (fi.source r.filler h) (fi.source n.filler g) (stand r.spot) r.to r.spot.tomb d.rest (λ z x. (kept.source z x).1) d.reads);
+        pt = λ at k. (let b = kept.pts at k in sym b.2 ∙ d.pt b.0 b.1);
+        static_row = λ row x. d.static_row row ((kept.statics row).1 x);
+        below = inr (subst (λ (z : Spot × Stage × Pos). IsSaid (be.seen n.below g v) z.1 z.2 z.0 d.rest s.head.statics) (λ i. (e i, a i, q i)) (record { stream = t.stream; stands = on t.stream t.stands; fits = t.fits; says = t.says; static_row = t.static_row }));
+      }
+
   none-at : (S : Pos → There → Type 0) (x to : Pos) (u : Option Tomb) (fs : List Frag) → Reads S x to u fs → there x u fs ≡ (empty_row, u) → first_upto x fs ≡ None
   none-at S x to u [] r e = refl
   none-at S x to u (f ∷ fs) r e =

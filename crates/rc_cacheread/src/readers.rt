@@ -1,19 +1,18 @@
 // A reader over a snapshot that is known in part.
-ghost use Rattle.std.specs.Prelude.{◌≡◌, IfOk, IfSome, IsTrue};
-ghost use Rattle.rc_mutation.specs.declared.fragments.HeadAt.{HeadAt};
+ghost use Rattle.std.specs.Prelude.{◌≡◌, false, IfOk, IfSome, IsTrue};
 ghost use Rattle.rc_position.specs.declared.positions.Pos.{Pos};
 ghost use Rattle.rc_stream.specs.Calls.{left_by};
 ghost use Rattle.rc_stream.specs.Causes.{Caused};
-ghost use Rattle.rc_stream.specs.Did.{ReachesEnd, answered, Call.OfHead, Call.OfNext};
+ghost use Rattle.rc_stream.specs.Did.{InTurn, ReachesEnd, answered, Call.OfHead, Call.OfNext};
 ghost use Rattle.rc_stream.specs.Showing.{Blames};
 ghost use Rattle.rc_stream.specs.Stream.{Stream, first_upto, is_upto};
-ghost use Rattle.rc_cacheread.specs.Did.{IsStepUpto, ReaderDid, StepSays};
+ghost use Rattle.rc_cacheread.specs.Did.{IsStepUpto, OneCall, ReaderDid, StepSays, state};
 ghost use Rattle.rc_cacheread.specs.Making.{IsNewReader};
 ghost use Rattle.rc_cacheread.specs.Sharing.{IsReady, Sees, of_below, of_filler, of_known};
 
 use crate::parts::read_part;
 use crate::spots::{Spot, Step, Turn};
-use rc_mutation::{Frag, Head};
+use rc_mutation::{Frag, Head, HeadAt};
 use rc_outside::Store;
 use rc_position::{Pos, Slice};
 use rc_stream::{Filler, Frags, Known, StreamErr};
@@ -133,7 +132,7 @@ fn next_fragment<H, W: Store, K: Known<H>, F: Frags<H, W>, P: Filler<H>>(
     Err(StreamErr::NoMemory)
 }
 
-// The head: of the snapshot, where its static row is known; else with the static row that stands below, which is taken in.
+// The head: of the snapshot, where its static row is known; else with the static row that stands below.
 fn whole_head<H, W: Store, K: Known<H>, F: Frags<H, W>, P: Filler<H>>(
     alloc: Global,
     reader: &mut CacheReader<K, F, P>,
@@ -144,8 +143,6 @@ fn whole_head<H, W: Store, K: Known<H>, F: Frags<H, W>, P: Filler<H>>(
     ensures head { (s : Stream) → Sees (of_known K.ready K.place K.knows K.heads K.did) (of_below F.ready F.seen F.ahead F.moves F.did) (of_filler P.ready P.fits P.may P.lost P.source P.knows P.statics_are P.knows_statics P.fills) reader.old home.old store.old s → IfOk result (λ head. head ≡ s.head) }
     ensures seen { (s : Stream) → Sees (of_known K.ready K.place K.knows K.heads K.did) (of_below F.ready F.seen F.ahead F.moves F.did) (of_filler P.ready P.fits P.may P.lost P.source P.knows P.statics_are P.knows_statics P.fills) reader.old home.old store.old s → Sees (of_known K.ready K.place K.knows K.heads K.did) (of_below F.ready F.seen F.ahead F.moves F.did) (of_filler P.ready P.fits P.may P.lost P.source P.knows P.statics_are P.knows_statics P.fills) reader.new home.new store.new s }
     ensures did { ReaderDid (of_known K.ready K.place K.knows K.heads K.did) (of_below F.ready F.seen F.ahead F.moves F.did) (of_filler P.ready P.fits P.may P.lost P.source P.knows P.statics_are P.knows_statics P.fills) reader.old home.old store.old OfHead (answered result) reader.new home.new store.new }
-    ensures spot { reader.new.spot ≡ reader.old.spot }
-    ensures to { reader.new.to ≡ reader.old.to }
     ensures ready { IsReady (of_known K.ready K.place K.knows K.heads K.did) (of_below F.ready F.seen F.ahead F.moves F.did) (of_filler P.ready P.fits P.may P.lost P.source P.knows P.statics_are P.knows_statics P.fills) reader.new home.new store.new }
     ensures damage { Blames (F.damage reader.old.below) (F.damage reader.new.below) result }
     ensures cause { Caused result (W.files store.old) (W.faults store.old) (W.faults store.new) }
@@ -153,22 +150,44 @@ fn whole_head<H, W: Store, K: Known<H>, F: Frags<H, W>, P: Filler<H>>(
     ensures building { W.building store.new ≡ W.building store.old }
 {
     match reader.known.head_known(alloc, home) {
-        Ok(at) => {
-            if at.known {
-                return Ok(at.head);
-            }
-            match reader.below.head(alloc, home, store) {
-                Ok(head) => {
-                    reader.filler.statics(home, &head.statics);
-                    Ok(Head {
-                        pt: at.head.pt,
-                        statics: head.statics,
-                    })
-                }
-                Err(error) => Err(error),
-            }
-        }
+        Ok(at) => match at.known {
+            true => Ok(at.head),
+            false => head_below(alloc, reader, home, store, at),
+        },
         Err(_) => Err(StreamErr::NoMemory),
+    }
+}
+
+// The head of a snapshot with the static row that stands below, which is taken in.
+fn head_below<H, W: Store, K: Known<H>, F: Frags<H, W>, P: Filler<H>>(
+    alloc: Global,
+    reader: &mut CacheReader<K, F, P>,
+    home: &mut H,
+    store: &mut W,
+    at: HeadAt,
+) -> Result<Head, StreamErr>
+    requires ready { IsReady (of_known K.ready K.place K.knows K.heads K.did) (of_below F.ready F.seen F.ahead F.moves F.did) (of_filler P.ready P.fits P.may P.lost P.source P.knows P.statics_are P.knows_statics P.fills) reader.old home.old store.old }
+    requires head { K.heads reader.old.known home.old at }
+    requires unknown { at.known ≡ false }
+    ensures head { (s : Stream) → Sees (of_known K.ready K.place K.knows K.heads K.did) (of_below F.ready F.seen F.ahead F.moves F.did) (of_filler P.ready P.fits P.may P.lost P.source P.knows P.statics_are P.knows_statics P.fills) reader.old home.old store.old s → IfOk result (λ head. head ≡ s.head) }
+    ensures seen { (s : Stream) → Sees (of_known K.ready K.place K.knows K.heads K.did) (of_below F.ready F.seen F.ahead F.moves F.did) (of_filler P.ready P.fits P.may P.lost P.source P.knows P.statics_are P.knows_statics P.fills) reader.old home.old store.old s → Sees (of_known K.ready K.place K.knows K.heads K.did) (of_below F.ready F.seen F.ahead F.moves F.did) (of_filler P.ready P.fits P.may P.lost P.source P.knows P.statics_are P.knows_statics P.fills) reader.new home.new store.new s }
+    ensures calls { InTurn (OneCall (of_known K.ready K.place K.knows K.heads K.did) (of_below F.ready F.seen F.ahead F.moves F.did) (of_filler P.ready P.fits P.may P.lost P.source P.knows P.statics_are P.knows_statics P.fills) OfHead) (answered result) (state reader.old home.old store.old) (state reader.new home.new store.new) }
+    ensures spot { reader.new.spot ≡ reader.old.spot }
+    ensures ready { IsReady (of_known K.ready K.place K.knows K.heads K.did) (of_below F.ready F.seen F.ahead F.moves F.did) (of_filler P.ready P.fits P.may P.lost P.source P.knows P.statics_are P.knows_statics P.fills) reader.new home.new store.new }
+    ensures damage { Blames (F.damage reader.old.below) (F.damage reader.new.below) result }
+    ensures cause { Caused result (W.files store.old) (W.faults store.old) (W.faults store.new) }
+    ensures files { W.files store.new ≡ W.files store.old }
+    ensures building { W.building store.new ≡ W.building store.old }
+{
+    match reader.below.head(alloc, home, store) {
+        Ok(head) => {
+            reader.filler.statics(home, &head.statics);
+            Ok(Head {
+                pt: at.head.pt,
+                statics: head.statics,
+            })
+        }
+        Err(error) => Err(error),
     }
 }
 

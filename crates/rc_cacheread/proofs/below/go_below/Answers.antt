@@ -155,3 +155,9 @@ returns-in-Err-next-clause-ready g c =
     let n = reader_of r.known c.next.new.self r.filler r.to r.spot r.stage r.lags in
     let after = c.requires.ready.shares.after_below r.known r.below c.next.new.self r.filler h w c.next.new.home c.next.new.store c.requires.ready.fit c.in-Err-next.ensures.moves c.in-Err-next.ensures.ready in
     ready-on kn be fi r n h c.next.new.home w c.next.new.store c.requires.ready.shares after.0 after.1 (led kn be fi r h w c.requires.ready (no-whole kn be fi r h c.requires.idle c.requires.within c.requires.missing)) (idle-outcome (fi.source r.filler h) (be.seen r.below h w) (be.seen c.next.new.self c.next.new.home c.next.new.store) r.to r.spot c.requires.idle r.stage c.in-Err-next.ensures.seen).carries (reach-itself (stand r.spot)) refl (λ x on. c.in-Err-next.ensures.ahead x tt (c.requires.ready.ahead x on)) c.requires.ready.place
+
+pub returns-in-Err-clause-on : goal.returns-in-Err-clause-on
+returns-in-Err-clause-on g c = reach-itself (stand c.args.reader.now.spot)
+
+pub returns-in-Err-next-clause-on : goal.returns-in-Err-next-clause-on
+returns-in-Err-next-clause-on g c = reach-itself (stand c.args.reader.now.spot)

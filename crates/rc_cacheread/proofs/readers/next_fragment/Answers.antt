@@ -1,13 +1,32 @@
 -- A round goes on from where the rounds before it came to.
 use Rattle.std.specs.Prelude.{◌≡◌}
-use Rattle.std.proofs.Common.{Ok, true, false, sym, ap, ◌∙◌, subst, arith}
+use Rattle.std.proofs.Common.{Ok, true, false, refl, sym, ap, ◌∙◌, subst, arith}
 use Rattle.rc_stream.specs.Did.{OfNext, answered}
 use Rattle.rc_cacheread.specs.declared.spots.Step.TheVariants as step
 use Rattle.rc_cacheread.specs.Did.{ReaderDid, StepSays}
 use Rattle.rc_cacheread.specs.Sharing.{Sees, of_below, of_filler, of_known}
-use Rattle.rc_cacheread.proofs.Rounds.{did-after, did-stopped}
+use Rattle.rc_cacheread.proofs.Rounds.{did-after, did-nothing, did-stopped}
 use Rattle.rc_cacheread.proofs.Stepping.{ends-on}
 use Rattle.rc_cacheread.proofs.readers.next_fragment.Goals as goal
+
+pub loop-rounds-init : goal.loop-rounds-init
+loop-rounds-init g c =
+    let kn = (of_known g.K.Known.ready g.K.Known.place g.K.Known.knows g.K.Known.heads g.K.Known.did) in
+    let be = (of_below g.F.Frags.ready g.F.Frags.seen g.F.Frags.ahead g.F.Frags.moves g.F.Frags.did) in
+    let fi = (of_filler g.P.Filler.ready g.P.Filler.fits g.P.Filler.may g.P.Filler.lost g.P.Filler.source g.P.Filler.knows g.P.Filler.statics_are g.P.Filler.knows_statics g.P.Filler.fills) in
+    let r = c.args.reader.now in
+    let h = c.args.home.now in
+    let w = c.args.store.now in
+    record {
+      ready = c.requires.ready;
+      says = λ s d. d;
+      did = λ y k. did-nothing kn be fi r h w (OfNext y);
+      to = refl;
+      damage = λ file offset d. d;
+      faults = omega arith;
+      files = refl;
+      building = refl;
+    }
 
 pub loop-rounds-preserved : goal.loop-rounds-preserved
 loop-rounds-preserved g c =
