@@ -184,34 +184,35 @@ went-on s t x b a h k w =
     leaves-on x (told_of s) s.told s.tomb (front s) (due_change s ++ R) [] (passed-again x s.again s.told (due_change s ++ R) a)
     (leaves-on x s.told s.tomb s.tomb (due_change s ++ R) R [] (passed-change x (change_place s) s.told s.tomb R (same_tomb s.told s.tomb) refl h) (passed-row x s.row s.place.prefix s.tomb k)) in
     by_way b l w where
-  by_way : (b : Bool) → Leaves x (told_of s) (front s) s.tomb [] → WentTo x (spot s.place s.row s.tomb None s.tomb s.since) t b → GoesOn x s t b
-  by_way false l w = subst (IsSought x s) (λ i. spot (sym w.1 i) (sym w.2 i) (sym w.3 i) (sym w.4 i) (sym w.5 i) t.since) (record {
-    due =
-        ap (λ z. again_due (told_at s.tomb x) s.tomb ++ (change_at z (since_or t.since (stand s)) s.tomb ++ [])) (same-itself s.tomb)
-        ∙ opened s.tomb x []
-        ∙ ap (λ z. opening x z ++ []) (sym l.tomb_there)
-        ∙ ap (λ z. opening x (force x (told_of s) (front s)) ++ z) (sym l.left);
-    from = refl;
-    told = told-none s.tomb x;
-    tomb = refl;
-    before = λ _. w.0;
-  })
-  by_way true l w = record { due = l.left; force = l.tomb_there; on = w.0; place = w.1; row = w.2; told = w.3; again = w.4; tomb = w.5 }
+      by_way : (b : Bool) → Leaves x (told_of s) (front s) s.tomb [] → WentTo x (spot s.place s.row s.tomb None s.tomb s.since) t b → GoesOn x s t b
+      by_way false l w = subst (IsSought x s) (λ i. spot (sym w.1 i) (sym w.2 i) (sym w.3 i) (sym w.4 i) (sym w.5 i) t.since) (record {
+        due =
+            ap (λ z. again_due (told_at s.tomb x) s.tomb ++ (change_at z (since_or t.since (stand s)) s.tomb ++ [])) (same-itself s.tomb)
+            ∙ opened s.tomb x []
+            ∙ ap (λ z. opening x z ++ []) (sym l.tomb_there)
+            ∙ ap (λ z. opening x (force x (told_of s) (front s)) ++ z) (sym l.left);
+        from = refl;
+        told = told-none s.tomb x;
+        tomb = refl;
+        before = λ _. w.0;
+      })
+      by_way true l w = record { due = l.left; force = l.tomb_there; on = w.0; place = w.1; row = w.2; told = w.3; again = w.4; tomb = w.5 }
 
 -- a row that was given is stepped over
 pub over-alike : (s t : Spot) → is_row_due s.row ≡ false → t.place ≡ stand s → t.row ≡ row.Unread → t.told ≡ s.told → t.again ≡ s.again → t.tomb ≡ s.tomb → t.since ≡ s.since → same_tomb s.told s.tomb ≡ true → s.again ≡ None → (front t ≡ []) × (stand t ≡ stand s) × (told_of t ≡ told_of s) × IsIdle t × (front s ≡ [])
 over-alike s t d p r u g m n e a =
     let idle : IsIdle t = record { again = g ∙ a; told = ap (λ z. same_tomb z t.tomb) u ∙ ap (same_tomb s.told) m ∙ e; row = r } in
-    (idle-front t idle, idle-stand t idle ∙ p, ap (λ z. told_or z t.told) g ∙ ap (told_or s.again) u, idle, nothing-due)  where
-  no-due : (r : RowAt) (key : List Comp) → is_row_due r ≡ false → row_due r key ≡ []
-  no-due row.Unread key e = refl
-  no-due (row.Due r) key e = untrue e
-  no-due row.Given key e = refl
-  nothing-due : front s ≡ []
-  nothing-due =
-      ap (λ z. again_due z s.told ++ (due_change s ++ row_due s.row s.place.prefix)) a
-      ∙ ap (λ z. cond z [] (frag.Change (change_place s) s.tomb ∷ []) ++ row_due s.row s.place.prefix) e
-      ∙ no-due s.row s.place.prefix d
+    (idle-front t idle, idle-stand t idle ∙ p, ap (λ z. told_or z t.told) g ∙ ap (told_or s.again) u, idle, nothing-due) where
+      no-due : (r : RowAt) (key : List Comp) → is_row_due r ≡ false → row_due r key ≡ []
+      no-due row.Unread key e = refl
+      no-due (row.Due r) key e = untrue e
+      no-due row.Given key e = refl
+
+      nothing-due : front s ≡ []
+      nothing-due =
+          ap (λ z. again_due z s.told ++ (due_change s ++ row_due s.row s.place.prefix)) a
+          ∙ ap (λ z. cond z [] (frag.Change (change_place s) s.tomb ∷ []) ++ row_due s.row s.place.prefix) e
+          ∙ no-due s.row s.place.prefix d
 
 pub no-again : (a : Option Pos) → is_some a ≡ false → a ≡ None
 no-again None e = refl

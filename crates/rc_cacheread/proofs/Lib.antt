@@ -8,6 +8,7 @@ pub mod Outcomes
 pub mod Parting
 pub mod Rounds
 pub mod Seeking
+pub mod Sought
 pub mod Stepping
 pub mod Streams
 pub mod Turning

@@ -1,13 +1,22 @@
 -- What calls of a reader did, one after another.
-use Rattle.std.specs.Prelude.{◌≡◌, Bool, true, false}
+use Rattle.std.specs.Prelude.{◌≡◌, ℕ, Bool, true, false}
 use Rattle.std.proofs.Common.{refl, ◌∙◌}
 use Rattle.rc_stream.specs.Did.{Call}
+use Rattle.rc_stream.specs.Showing.{FileSpots, IsNamed}
+use Rattle.rc_stream.specs.declared.streams.StreamErr.{StreamErr}
+use Rattle.rc_stream.specs.declared.streams.StreamErr.TheVariants.{Fault, Damaged, NoMemory}
 use Rattle.rc_cacheread.specs.declared.readers.CacheReader.{CacheReader}
 use Rattle.rc_cacheread.specs.Did.{KnownStep, OneCall, ReaderDid, state}
 use Rattle.rc_cacheread.specs.Sharing.{OfBelow, OfFiller, OfKnown}
 use Rattle.rc_cacheread.specs.Spots.{stand}
 use Rattle.rc_cacheread.proofs.Chains.{chain-after, chain-none, chain-stop}
 use Rattle.rc_cacheread.proofs.Orders.{reach-itself, reach-through}
+
+-- a refusal that names a spot names one that could be named before
+pub named-on : (spots now : FileSpots) (e : StreamErr) → ((file offset : ℕ) → now file offset → spots file offset) → IsNamed now e → IsNamed spots e
+named-on spots now Fault l n = n
+named-on spots now (Damaged file offset) l n = l file offset n
+named-on spots now NoMemory l n = n
 
 module _ {K F P H W : Type 0} (kn : OfKnown K H) (be : OfBelow F H W) (fi : OfFiller P H) where
   pub did-after : (r n m : CacheReader K F P) (h g f : H) (w v u : W) (c : Call) (ok : Bool) → ReaderDid kn be fi r h w c true n g v → ReaderDid kn be fi n g v c ok m f u → ReaderDid kn be fi r h w c ok m f u

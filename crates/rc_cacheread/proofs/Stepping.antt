@@ -84,12 +84,12 @@ module _ {K F P H W : Type 0} (kn : OfKnown K H) (be : OfBelow F H W) (fi : OfFi
         pt = λ at a. (let b = kept.pts at a in sym b.2 ∙ d.pt b.0 b.1);
         static_row = λ row x. d.static_row row ((kept.statics row).1 x);
         below = inr (record {
-            stream = c.0;
-            stands = c.1;
-            fits = c.2;
-            says = λ z k b. c.3 z k ∙ t.says z (reach-through (stand r.spot) (stand n.spot) z on k) (subst (λ y. IsBefore z y) (sym e) b) ∙ adv.says z k;
-            static_row = c.4 ∙ t.static_row;
-          });
+          stream = c.0;
+          stands = c.1;
+          fits = c.2;
+          says = λ z k b. c.3 z k ∙ t.says z (reach-through (stand r.spot) (stand n.spot) z on k) (subst (λ y. IsBefore z y) (sym e) b) ∙ adv.says z k;
+          static_row = c.4 ∙ t.static_row;
+        });
       }
 
   -- where spot, stage and slice are as they were, so is the stream
@@ -118,10 +118,13 @@ module _ {K F P H W : Type 0} (kn : OfKnown K H) (be : OfBelow F H W) (fi : OfFi
   step-says r n h g w v upto got z s kept f e none o d = by_step o.came where
     now : Sees kn be fi n g v s
     now = sees-on r n h g w v s kept f o.told o.on e none o.outcome d
+
     t : IsSaid (be.seen r.below h w) r.stage r.to r.spot d.rest s.head.statics
     t = said r h w s d none
+
     adv : Advance (fi.source r.filler h) r.to r.spot.tomb d.rest (stand n.spot) n.spot.tomb (front n.spot)
     adv = o.outcome.advance d.rest t.stream d.reads t.stands t.fits t.says
+
     by_step : Came (be.seen r.below h w) r.stage r.spot n.spot r.to upto z → StepSays (Ok z) upto s (Sees kn be fi n g v)
     by_step (inl p) = subst (λ y. StepSays (Ok y) upto s (Sees kn be fi n g v)) (sym p) now
     by_step (inr (p, c, q, m, b, k)) =
@@ -158,17 +161,19 @@ module _ {K F P H W : Type 0} (kn : OfKnown K H) (be : OfBelow F H W) (fi : OfFi
         | inl k ↦ nearer (is_le (pos_cmp near (at_of g))) refl k
         | inr b ↦ absurd (first-says u f fs r.ordered r.telling r.written (sym e ∙ quiet-before (at_of f) (at_of g) v (g ∷ gs) b (from-first g gs o) ∙ (λ i. (empty_row, m i))))
       ] where
-    nearer : (b : Bool) → is_le (pos_cmp near (at_of g)) ≡ b → Reaches (at_of g) (at_of f) → Reaches (cond b near (at_of g)) (at_of f)
-    nearer true e k = reach-through near (at_of g) (at_of f) e k
-    nearer false e k = k
+        nearer : (b : Bool) → is_le (pos_cmp near (at_of g)) ≡ b → Reaches (at_of g) (at_of f) → Reaches (cond b near (at_of g)) (at_of f)
+        nearer true e k = reach-through near (at_of g) (at_of f) e k
+        nearer false e k = k
 
   pub end-on : (r : CacheReader K F P) (h : H) (w : W) (upto near y : Pos) → IsIdle r.spot → r.stage ≡ Within → Reaches near upto → Reaches near r.to → (Whole r h → ⊥) → Ends r h w upto y → ReachesEnd (be.seen r.below h w) near y
   end-on r h w upto near y i a n e none (inl k) = inl (reach-through near upto y n k)
   end-on r h w upto near y i a n e none (inr (s, d, q)) = by_rest d.rest d.reads (t.says) (subst (λ fs. Reaches (bound_of upto fs) y) (left-from r h w s i d).0 q) where
     t : IsSaid (be.seen r.below h w) r.stage r.to r.spot d.rest s.head.statics
     t = said r h w s d none
+
     fits : Fits Within (stand r.spot) r.spot.tomb t.stream
     fits = subst (λ b. Fits b (stand r.spot) r.spot.tomb t.stream) a t.fits
+
     by_first : (f : Frag) (fs : List Frag) → Reads (fi.source r.filler h) (stand r.spot) r.to r.spot.tomb (f ∷ fs) → ((z : Pos) → Reaches (stand r.spot) z → IsBefore z r.to → there z t.stream.tomb t.stream.left ≡ there z r.spot.tomb (f ∷ fs)) → (b : Bool) → Reaches (cond b upto (at_of f)) y → ReachesEnd (be.seen r.below h w) near y
     by_first f fs reads says true k = inl (reach-through near upto y n k)
     by_first f fs reads says false k =
@@ -176,6 +181,7 @@ module _ {K F P H W : Type 0} (kn : OfKnown K H) (be : OfBelow F H W) (fi : OfFi
           | inl m ↦ inl (reach-through near (at_of f) y m k)
           | inr b ↦ inr (t.stream, t.stands, reach-through (bound_of near t.stream.left) (at_of f) y (first-by (fi.source r.filler h) (stand r.spot) near r.to r.spot.tomb t.stream.tomb f fs t.stream.left reads fits.0 fits.3 (says (at_of f) reads.from.0 (before-reaches (at_of f) near r.to b e))) k)
         ]
+
     by_rest : (fs : List Frag) → Reads (fi.source r.filler h) (stand r.spot) r.to r.spot.tomb fs → ((z : Pos) → Reaches (stand r.spot) z → IsBefore z r.to → there z t.stream.tomb t.stream.left ≡ there z r.spot.tomb fs) → Reaches (bound_of upto fs) y → ReachesEnd (be.seen r.below h w) near y
     by_rest [] reads says k = inl (reach-through near upto y n k)
     by_rest (f ∷ fs) reads says k = by_first f fs reads says (is_le (pos_cmp upto (at_of f))) k

@@ -118,15 +118,15 @@ module _ {K F P H W : Type 0} (kn : OfKnown K H) (be : OfBelow F H W) (fi : OfFi
         static_row = d.static_row;
         below = cover d.below x.left;
       } where
-    cover : (c : IsWhole (kn.knows r.known h) (kn.heads r.known h) (stand r.spot) r.to ⊎ IsSaid (be.seen r.below h w) r.stage r.to r.spot d.rest s.head.statics) (fs : List Frag) → IsWhole (kn.knows r.known h) (kn.heads r.known h) (stand t) r.to ⊎ IsSaid (be.seen r.below h w) Away r.to t fs s.head.statics
-    cover (inl x) fs = inl (subst (λ z. IsWhole (kn.knows r.known h) (kn.heads r.known h) z r.to) (sym g.2) x)
-    cover (inr x) fs = (let n = carries.each x.stream x.stands x.fits in inr (record {
-      stream = n.0;
-      stands = n.1;
-      fits = n.2;
-      says = λ y k b. absurd (never-before y r.to (reach-through r.to (stand r.spot) y g.1 (subst (λ z. Reaches z y) g.2 k)) b);
-      static_row = n.4 ∙ x.static_row;
-    }))
+        cover : (c : IsWhole (kn.knows r.known h) (kn.heads r.known h) (stand r.spot) r.to ⊎ IsSaid (be.seen r.below h w) r.stage r.to r.spot d.rest s.head.statics) (fs : List Frag) → IsWhole (kn.knows r.known h) (kn.heads r.known h) (stand t) r.to ⊎ IsSaid (be.seen r.below h w) Away r.to t fs s.head.statics
+        cover (inl x) fs = inl (subst (λ z. IsWhole (kn.knows r.known h) (kn.heads r.known h) z r.to) (sym g.2) x)
+        cover (inr x) fs = (let n = carries.each x.stream x.stands x.fits in inr (record {
+          stream = n.0;
+          stands = n.1;
+          fits = n.2;
+          says = λ y k b. absurd (never-before y r.to (reach-through r.to (stand r.spot) y g.1 (subst (λ z. Reaches z y) g.2 k)) b);
+          static_row = n.4 ∙ x.static_row;
+        }))
 
 first-of : (x : Pos) (f : Frag) (fs : List Frag) → is_upto x f ≡ true → first_upto x (f ∷ fs) ≡ Some f
 first-of x f fs e = ap (λ b. cond b (Some f) None) e

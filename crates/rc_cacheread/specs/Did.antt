@@ -30,9 +30,9 @@ IsBelow (OfNext y) d = (d ≡ OfNext y) ⊎ ((x : Pos) × (d ≡ OfSeek x) × Re
 -- a call of the snapshot, of the stream below, or of the filler; a fill is never refused
 abbrev pub OneCall : {K F P H W : Type 0} → OfKnown K H → OfBelow F H W → OfFiller P H → Call → Bool → K × F × P × H × W → K × F × P × H × W → Type 0
 OneCall kn be fi c ok s t =
-  (KnownStep kn.did ok (s.0, s.3) (t.0, t.3) × (t.1 ≡ s.1) × (t.2 ≡ s.2) × (t.4 ≡ s.4))
-  ⊎ (((d : Call) × IsBelow c d × be.did s.1 s.3 s.4 d ok t.1 t.3 t.4 × (t.0 ≡ s.0) × (t.2 ≡ s.2))
-  ⊎ ((ok ≡ true) × fi.fills s.2 s.3 t.2 t.3 × (t.0 ≡ s.0) × (t.1 ≡ s.1) × (t.4 ≡ s.4)))
+    (KnownStep kn.did ok (s.0, s.3) (t.0, t.3) × (t.1 ≡ s.1) × (t.2 ≡ s.2) × (t.4 ≡ s.4))
+    ⊎ (((d : Call) × IsBelow c d × be.did s.1 s.3 s.4 d ok t.1 t.3 t.4 × (t.0 ≡ s.0) × (t.2 ≡ s.2))
+    ⊎ ((ok ≡ true) × fi.fills s.2 s.3 t.2 t.3 × (t.0 ≡ s.0) × (t.1 ≡ s.1) × (t.4 ≡ s.4)))
 
 -- a reader with its home and its store
 abbrev pub state : {K F P H W : Type 0} → CacheReader K F P → H → W → K × F × P × H × W

@@ -89,11 +89,11 @@ pub record Kept {K P H : Type 0} (kn : OfKnown K H) (fi : OfFiller P H) (k : K) 
 -- a call of one part leaves what the others need; each position fits the filler
 pub record Shares {K F P H W : Type 0} (kn : OfKnown K H) (be : OfBelow F H W) (fi : OfFiller P H) : Type 0 where
   pub after_known : (k : K) (b : F) (p : P) (h : H) (w : W) (c : Call) (ok : Bool) (l : K) (g : H) → Fit kn be fi k b p h w → kn.did k h c ok l g
-    → Fit kn be fi l b p g w × Kept kn fi k p h l p g × ((at : HeadAt) → kn.heads l g at → kn.heads k h at) × ((s : Stream) → be.seen b h w s → be.seen b g w s)
+      → Fit kn be fi l b p g w × Kept kn fi k p h l p g × ((at : HeadAt) → kn.heads l g at → kn.heads k h at) × ((s : Stream) → be.seen b h w s → be.seen b g w s)
   pub after_below : (k : K) (b c : F) (p : P) (h : H) (w : W) (g : H) (v : W) → Fit kn be fi k b p h w → be.moves h w g v → be.ready c g v
-    → Fit kn be fi k c p g v × Kept kn fi k p h k p g × SameKnown (kn.knows k h) (kn.knows k g)
+      → Fit kn be fi k c p g v × Kept kn fi k p h k p g × SameKnown (kn.knows k h) (kn.knows k g)
   pub after_fill : (k : K) (b : F) (p : P) (h : H) (w : W) (q : P) (g : H) → Fit kn be fi k b p h w → fi.fills p h q g
-    → Fit kn be fi k b q g w × Kept kn fi k p h k q g × ((s : Stream) → be.seen b h w s → be.seen b g w s)
+      → Fit kn be fi k b q g w × Kept kn fi k p h k q g × ((s : Stream) → be.seen b h w s → be.seen b g w s)
   pub fits : (p : P) (x : Pos) → fi.fits p x
 
 -- ---- the stream below

@@ -91,12 +91,7 @@ pub(crate) fn take_change<H, P: Filler<H>>(
 }
 
 // Takes in that nothing stands before the end of the stretch.
-pub(crate) fn take_end<H, P: Filler<H>>(
-    filler: &mut P,
-    spot: &mut Spot,
-    home: &mut H,
-    end: Pos,
-)
+pub(crate) fn take_end<H, P: Filler<H>>(filler: &mut P, spot: &mut Spot, home: &mut H, end: Pos)
     requires ready { P.ready filler.old home.old }
     requires fits { (p : P) (x : Pos) → P.fits p x }
     requires source { Throughout spot.old.place end (λ x. P.source filler.old home.old x (empty_row, spot.old.tomb)) }
@@ -174,13 +169,7 @@ pub(crate) fn take_here<H, P: Filler<H>>(
 }
 
 // Takes a row that was read below, if it stands at the place itself, where no tombstone is in force. One that is empty says nothing.
-fn take_row_here<H, P: Filler<H>>(
-    filler: &mut P,
-    spot: &mut Spot,
-    home: &mut H,
-    key: Key,
-    row: Row,
-)
+fn take_row_here<H, P: Filler<H>>(filler: &mut P, spot: &mut Spot, home: &mut H, key: Key, row: Row)
     requires ready { P.ready filler.old home.old }
     requires fits { (p : P) (x : Pos) → P.fits p x }
     requires row { row_pos key ≡ spot.old.place → P.source filler.old home.old spot.old.place (row, None) }

@@ -149,13 +149,14 @@ fn whole_head<H, W: Store, K: Known<H>, F: Frags<H, W>, P: Filler<H>>(
     ensures files { W.files store.new ≡ W.files store.old }
     ensures building { W.building store.new ≡ W.building store.old }
 {
-    match reader.known.head_known(alloc, home) {
-        Ok(at) => match at.known {
-            true => Ok(at.head),
-            false => head_below(alloc, reader, home, store, at),
-        },
-        Err(_) => Err(StreamErr::NoMemory),
+    let at = match reader.known.head_known(alloc, home) {
+        Ok(at) => at,
+        Err(_) => return Err(StreamErr::NoMemory),
+    };
+    if at.known {
+        return Ok(at.head);
     }
+    head_below(alloc, reader, home, store, at)
 }
 
 // The head of a snapshot with the static row that stands below, which is taken in.

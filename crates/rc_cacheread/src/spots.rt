@@ -247,12 +247,7 @@ impl Spot {
     }
 
     // What comes next, up to a position, in a slice that ends at `to`. The only error is want of memory: then all is as it was.
-    pub(crate) fn give(
-        &mut self,
-        alloc: Global,
-        to: &Pos,
-        upto: &Pos,
-    ) -> Result<Turn, AllocError>
+    pub(crate) fn give(&mut self, alloc: Global, to: &Pos, upto: &Pos) -> Result<Turn, AllocError>
         ensures ok { IfOk result (Gives to.now upto.now self.old self.new) }
         ensures err { OnErr result (self.new ≡ self.old) }
     {

@@ -102,4 +102,3 @@ returns-in-Err-clause-ready g c =
     let n = reader_of r.known c.seek.new.self r.filler r.to r.spot r.stage r.lags in
     let after = c.requires.ready.shares.after_below r.known r.below c.seek.new.self r.filler h w c.seek.new.home c.seek.new.store c.requires.ready.fit c.in-Err.ensures.moves c.in-Err.ensures.ready in
     ready-on kn be fi r n h c.seek.new.home w c.seek.new.store c.requires.ready.shares after.0 after.1 (led kn be fi r h w c.requires.ready (no-whole kn be fi r h c.requires.idle c.requires.within c.requires.missing)) (idle-outcome (fi.source r.filler h) (be.seen r.below h w) (be.seen c.seek.new.self c.seek.new.home c.seek.new.store) r.to r.spot c.requires.idle r.stage c.in-Err.ensures.seen).carries (reach-itself (stand r.spot)) refl (λ x on. c.in-Err.ensures.kept x (c.requires.ready.ahead x on)) c.requires.ready.place
-

@@ -3,9 +3,10 @@ use Rattle.std.specs.Prelude.{◌≡◌}
 use Rattle.std.proofs.Common.{Ok, true, false, refl, sym, ap, ◌∙◌, subst, arith}
 use Rattle.rc_stream.specs.Did.{OfNext, answered}
 use Rattle.rc_cacheread.specs.declared.spots.Step.TheVariants as step
-use Rattle.rc_cacheread.specs.Did.{ReaderDid, StepSays}
+use Rattle.std.specs.Prelude.{IfOk}
+use Rattle.rc_cacheread.specs.Did.{IsStepUpto, ReaderDid, StepSays}
 use Rattle.rc_cacheread.specs.Sharing.{Sees, of_below, of_filler, of_known}
-use Rattle.rc_cacheread.proofs.Rounds.{did-after, did-nothing, did-stopped}
+use Rattle.rc_cacheread.proofs.Rounds.{did-after, did-nothing, did-stopped, named-on}
 use Rattle.rc_cacheread.proofs.Stepping.{ends-on}
 use Rattle.rc_cacheread.proofs.readers.next_fragment.Goals as goal
 
@@ -136,3 +137,39 @@ returns-clause-did g c = λ y covers.
     let h = c.args.home.now in
     let w = c.args.store.now in
     did-stopped kn be fi r c.loop-rounds.reader h c.loop-rounds.home w c.loop-rounds.store (OfNext y) (c.loop-rounds.invariant.did y covers)
+
+pub returns-in-Ok-Given-clause-damage : goal.returns-in-Ok-Given-clause-damage
+returns-in-Ok-Given-clause-damage g c = record { named = tt; less = λ file offset d. c.loop-rounds.invariant.damage file offset (c.round.ensures.damage.less file offset d) }
+
+pub returns-in-Ok-Nothing-clause-damage : goal.returns-in-Ok-Nothing-clause-damage
+returns-in-Ok-Nothing-clause-damage g c = record { named = tt; less = λ file offset d. c.loop-rounds.invariant.damage file offset (c.round.ensures.damage.less file offset d) }
+
+pub returns-in-Err-clause-damage : goal.returns-in-Err-clause-damage
+returns-in-Err-clause-damage g c = record { named = named-on (g.F.Frags.damage c.args.reader.now.below) (g.F.Frags.damage c.loop-rounds.reader.below) c.in-Err.error c.loop-rounds.invariant.damage c.in-Err.ensures.damage.named; less = λ file offset d. c.loop-rounds.invariant.damage file offset (c.in-Err.ensures.damage.less file offset d) }
+
+pub returns-clause-damage : goal.returns-clause-damage
+returns-clause-damage g c = record { named = tt; less = c.loop-rounds.invariant.damage }
+
+pub returns-in-Ok-Given-clause-upto : goal.returns-in-Ok-Given-clause-upto
+returns-in-Ok-Given-clause-upto g c = subst (λ r. IfOk r (IsStepUpto c.args.upto.now)) (c.in-Ok-Given.is ∙ ap Ok c.in-Ok-Given.field-0-is) c.round.ensures.upto
+
+pub returns-in-Err-clause-left : goal.returns-in-Err-clause-left
+returns-in-Err-clause-left g c = λ s d. c.in-Err.ensures.says s (c.loop-rounds.invariant.says s d)
+
+pub returns-clause-left : goal.returns-clause-left
+returns-clause-left g c = c.loop-rounds.invariant.says
+
+pub returns-in-Ok-Given-clause-ready : goal.returns-in-Ok-Given-clause-ready
+returns-in-Ok-Given-clause-ready g c = c.round.ensures.ready
+
+pub returns-in-Ok-Nothing-clause-ready : goal.returns-in-Ok-Nothing-clause-ready
+returns-in-Ok-Nothing-clause-ready g c = c.round.ensures.ready
+
+pub returns-in-Err-clause-ready : goal.returns-in-Err-clause-ready
+returns-in-Err-clause-ready g c = c.round.ensures.ready
+
+pub returns-clause-ready : goal.returns-clause-ready
+returns-clause-ready g c = c.loop-rounds.invariant.ready
+
+pub round-requires : goal.round-requires
+round-requires g c = c.loop-rounds.invariant.ready
