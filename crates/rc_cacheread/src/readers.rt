@@ -193,7 +193,7 @@ fn head_below<H, W: Store, K: Known<H>, F: Frags<H, W>, P: Filler<H>>(
 }
 
 impl<H, W: Store, K: Known<H>, F: Frags<H, W>, P: Filler<H>> Frags<H, W> for CacheReader<K, F, P> {
-    ghost use Rattle.std.specs.Prelude.{◌≡◌, ⊤, ⊥};
+    ghost use Rattle.std.specs.Prelude.{◌≡◌, ⊤};
     ghost use Rattle.rc_cacheread.specs.Did.{ReaderDid, ReaderMoves};
     ghost use Rattle.rc_cacheread.specs.Sharing.{IsReady, Sees, of_below, of_filler, of_known};
     ghost use Rattle.rc_stream.specs.Showing.{IsFromStart};

@@ -95,8 +95,8 @@ returns-in-Ok-clause-ready g c =
     let seen : (t : Stream) → be.seen r.below h w t → be.seen c.head.new.self c.statics.new.home c.head.new.store t = λ t s. filled.seen t (c.in-Ok.ensures.seen t s) in
     ready-on kn be fi r n h c.statics.new.home w c.head.new.store c.requires.ready.shares filled.fit kept (led kn be fi r h w c.requires.ready none) (carries-same (be.seen r.below h w) (be.seen c.head.new.self c.statics.new.home c.head.new.store) r.stage (stand r.spot) r.spot.tomb seen) (reach-itself (stand r.spot)) refl (λ x on. c.in-Ok.ensures.ahead x (c.requires.ready.ahead x on)) c.requires.ready.place
 
-pub returns-in-Err-clause-seen : goal.returns-in-Err-clause-seen
-returns-in-Err-clause-seen g c = λ s d.
+pub returns-clause-seen : goal.returns-clause-seen
+returns-clause-seen g c = λ s d.
     let kn = (of_known g.K.Known.ready g.K.Known.place g.K.Known.knows g.K.Known.heads g.K.Known.did) in
     let be = (of_below g.F.Frags.ready g.F.Frags.seen g.F.Frags.ahead g.F.Frags.moves g.F.Frags.did) in
     let fi = (of_filler g.P.Filler.ready g.P.Filler.fits g.P.Filler.may g.P.Filler.lost g.P.Filler.source g.P.Filler.knows g.P.Filler.statics_are g.P.Filler.knows_statics g.P.Filler.fills) in
@@ -107,8 +107,8 @@ returns-in-Err-clause-seen g c = λ s d.
     let after = c.requires.ready.shares.after_below r.known r.below c.head.new.self r.filler h w c.head.new.home c.head.new.store c.requires.ready.fit c.in-Err.ensures.moves c.in-Err.ensures.ready in
     sees-still kn be fi r (reader_of r.known c.head.new.self r.filler r.to r.spot r.stage r.lags) h c.head.new.home w c.head.new.store s after.1 refl refl refl none c.in-Err.ensures.seen d
 
-pub returns-in-Err-clause-calls : goal.returns-in-Err-clause-calls
-returns-in-Err-clause-calls g c =
+pub returns-clause-calls : goal.returns-clause-calls
+returns-clause-calls g c =
     let kn = (of_known g.K.Known.ready g.K.Known.place g.K.Known.knows g.K.Known.heads g.K.Known.did) in
     let be = (of_below g.F.Frags.ready g.F.Frags.seen g.F.Frags.ahead g.F.Frags.moves g.F.Frags.did) in
     let fi = (of_filler g.P.Filler.ready g.P.Filler.fits g.P.Filler.may g.P.Filler.lost g.P.Filler.source g.P.Filler.knows g.P.Filler.statics_are g.P.Filler.knows_statics g.P.Filler.fills) in
@@ -117,8 +117,8 @@ returns-in-Err-clause-calls g c =
     let w = c.args.store.now in
     chain-one (OneCall kn be fi OfHead) false (r.known, r.below, r.filler, h, w) (r.known, c.head.new.self, r.filler, c.head.new.home, c.head.new.store) (below-call kn be fi OfHead r.known r.filler false r.below c.head.new.self h c.head.new.home w c.head.new.store OfHead refl c.in-Err.ensures.did)
 
-pub returns-in-Err-clause-ready : goal.returns-in-Err-clause-ready
-returns-in-Err-clause-ready g c =
+pub returns-clause-ready : goal.returns-clause-ready
+returns-clause-ready g c =
     let kn = (of_known g.K.Known.ready g.K.Known.place g.K.Known.knows g.K.Known.heads g.K.Known.did) in
     let be = (of_below g.F.Frags.ready g.F.Frags.seen g.F.Frags.ahead g.F.Frags.moves g.F.Frags.did) in
     let fi = (of_filler g.P.Filler.ready g.P.Filler.fits g.P.Filler.may g.P.Filler.lost g.P.Filler.source g.P.Filler.knows g.P.Filler.statics_are g.P.Filler.knows_statics g.P.Filler.fills) in

@@ -172,4 +172,4 @@ pub returns-clause-ready : goal.returns-clause-ready
 returns-clause-ready g c = c.loop-rounds.invariant.ready
 
 pub round-requires : goal.round-requires
-round-requires g c = c.loop-rounds.invariant.ready
+round-requires g c = record { ready = c.loop-rounds.invariant.ready }
