@@ -14,7 +14,7 @@ use Rattle.rc_mutation.specs.declared.fragments.Frag.TheVariants as frag
 use Rattle.rc_mutation.specs.Fragments.{place_order, tomb_after}
 use Rattle.rc_stream.specs.Stream.{force, is_passed, row_at}
 use Rattle.rc_stream.specs.Merging.{IsOrdered, IsTelling, StandsBefore, changes_nothing, place_of, rows_here, same_tomb}
-use Rattle.rc_stream.proofs.Ordered.{Place, Lt, place_total, place_same, before-through, irreflexive, itself, no_rows, passes-itself, stop, unpassed}
+use Rattle.rc_stream.specs.laws.Ordered.{Place, Lt, place_total, place_same, before-through, irreflexive, itself, no_rows, passes-itself, stop, unpassed}
 use Rattle.rc_stream.proofs.Stepping.{other_rank}
 
 same-itself : (t : Option Tomb) → same_tomb t t ≡ true

@@ -23,7 +23,7 @@ use Rattle.rc_stream.specs.Merging.{IsOrdered, StandsBefore, both_say, changes_n
 use Rattle.rc_stream.specs.Holding.{held}
 use Rattle.rc_stream.specs.Moving.{HoldBoth, Holds}
 use Rattle.rc_stream.proofs.Going.{reaches-through}
-use Rattle.rc_stream.proofs.Ordered.{Place, passes-itself}
+use Rattle.rc_stream.specs.laws.Ordered.{Place, passes-itself}
 use Rattle.rc_stream.proofs.Rounds.{all-past}
 use Rattle.rc_stream.proofs.Stepping.{Entries, ents, ents-cons, ents-none, values}
 use Rattle.rc_stream.proofs.Wholes.{Seen, ordered}

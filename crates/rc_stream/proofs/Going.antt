@@ -15,7 +15,7 @@ use Rattle.rc_stream.specs.Merging.{place_of}
 use Rattle.rc_stream.specs.Places.{Reaches}
 use Rattle.rc_stream.specs.Holding.{TakesTurn, IsFrom, StepReaches}
 use Rattle.rc_stream.specs.Moving.{Either, Keeps, MaySeek, Moved, Moves, Once}
-use Rattle.rc_stream.proofs.Says.{le_le}
+use Rattle.rc_stream.specs.laws.Says.{le_le}
 
 same-states : {H W : Type 0} (P : H → W → Type 0) (h g : H) (w v : W) → h ≡ g → w ≡ v → P h w → P g v
 same-states P h g w v e f p = subst (λ u. P g u) f (subst (λ k. P k w) e p)

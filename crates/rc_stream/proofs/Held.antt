@@ -24,12 +24,12 @@ use Rattle.rc_position.specs.declared.positions.Weight.TheVariants.{Before}
 use Rattle.rc_position.specs.laws.Bounds.{first_pos-least}
 use Rattle.rc_position.specs.laws.Orders.{pos_cmp_total}
 use Rattle.rc_stream.specs.Places.{Reaches}
-use Rattle.rc_stream.proofs.Says.{le_le}
+use Rattle.rc_stream.specs.laws.Says.{le_le}
 use Rattle.rc_mutation.specs.Fragments.{place_order}
 use Rattle.rc_stream.specs.declared.holding.Turn.{Turn}
 use Rattle.rc_stream.specs.declared.holding.Turn.TheVariants as turn
 use Rattle.rc_stream.specs.Merging.{IsInner, IsOrdered, StandsBefore, beside, changes_nothing, place_of, together}
-use Rattle.rc_stream.proofs.Ordered.{Place, place_same}
+use Rattle.rc_stream.specs.laws.Ordered.{Place, place_same}
 use Rattle.rc_stream.specs.Holding.{IsFrom, is_near, row_of, turn_of, StandsOver, TakesFirst, alone, behind_first, dropped, held, later, look_taken, looked, nearer, paired, told}
 use Rattle.rc_cell.specs.Winner.{first_of}
 

@@ -35,7 +35,7 @@ use Rattle.rc_mutation.specs.Source.{IsJoinOf, IsMutation, joined_rows, rows_in}
 use Rattle.rc_mutation.specs.laws.FragMerge.{merge, merge_into, merge-in_order, fragment_of, rows-placed, changes-placed}
 use Rattle.rc_stream.specs.Stream.{Stream, force, stream_of}
 use Rattle.rc_stream.specs.Merging.{IsInner, IsOrdered, IsTelling, StandsBefore, joined_head, merged, place_of, rows_here, same_tomb}
-use Rattle.rc_stream.proofs.Ordered.{Place, place_total, place_same}
+use Rattle.rc_stream.specs.laws.Ordered.{Place, place_total, place_same}
 use Rattle.rc_stream.proofs.Merged.{one_row}
 use Rattle.rc_stream.proofs.MergeLaws.{determined-stream, head-merged, ordered-merged, rows-merged, telling-merged, tomb-merged, tombs-merged}
 use Rattle.rc_stream.proofs.Whole.{stream, stream-of_fragments}

@@ -9,10 +9,8 @@ pub mod Joining
 pub mod Looking
 pub mod MergeLaws
 pub mod Merged
-pub mod Ordered
 pub mod Passing
 pub mod Rounds
-pub mod Says
 pub mod Seeking
 pub mod Showing
 pub mod Stepping

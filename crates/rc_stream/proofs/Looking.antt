@@ -24,8 +24,8 @@ use Rattle.rc_stream.specs.Merging.{IsOrdered, StandsBefore, place_of}
 use Rattle.rc_stream.specs.Holding.{HeldFits, IsFrom, StandsOver, WentOn, tomb_behind, held, look_passed, front_passed, looked, passes_held, whole}
 use Rattle.rc_stream.specs.Moving.{MaySeek, look_after}
 use Rattle.rc_stream.proofs.Held.{same-some}
-use Rattle.rc_stream.proofs.Ordered.{not_passed, over, passes-itself, stop}
-use Rattle.rc_stream.proofs.Seeking.{sought-ordered}
+use Rattle.rc_stream.specs.laws.Ordered.{not_passed, over, passes-itself, stop}
+use Rattle.rc_stream.specs.laws.Sought.{sought-ordered}
 
 -- ---- looking
 

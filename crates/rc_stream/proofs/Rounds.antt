@@ -30,7 +30,7 @@ use Rattle.rc_stream.specs.Holding.{TakesTurn, HeldFits, IsStepUpto, TakesFirst,
 use Rattle.rc_stream.specs.Moving.{StepSays}
 use Rattle.rc_stream.proofs.Held.{upto-beside, upto-together}
 use Rattle.rc_stream.proofs.Merged.{merged-says}
-use Rattle.rc_stream.proofs.Ordered.{Place, Lt, before-through, over, place_total, place_same}
+use Rattle.rc_stream.specs.laws.Ordered.{Place, Lt, before-through, over, place_total, place_same}
 use Rattle.rc_stream.proofs.Stepping.{after-beside, after-theirs, after-together, beside_theirs, nothing-after, step-ours, step-theirs, step-together, tell}
 
 -- ---- up to a position

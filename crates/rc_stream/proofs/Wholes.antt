@@ -23,7 +23,7 @@ use Rattle.rc_stream.specs.Places.{bound_of}
 use Rattle.rc_stream.specs.Holding.{TakesTurn, HeldFits, WentOn, held, looked, passes_held, turn_of, whole}
 use Rattle.rc_stream.specs.Moving.{HoldBoth, Holds, KeepsSeen, Once, StepLeaves, StepSays, look_after}
 use Rattle.rc_stream.proofs.Looking.{beyond, first-is, fits-sought, fits-within, none_held, nothing-held, within}
-use Rattle.rc_stream.proofs.Ordered.{passes-itself}
+use Rattle.rc_stream.specs.laws.Ordered.{passes-itself}
 use Rattle.rc_stream.proofs.Rounds.{stepped}
 use Rattle.rc_stream.proofs.Seeking.{sought-merged, sought-sought}
 

@@ -1,7 +1,7 @@
 -- A snapshot that is read by its parts, and what fills it.
 --     IsPartFrom     the first part from a place on
 --     Answers        why a fill was answered so
-use Rattle.std.specs.Prelude.{◌≡◌, ◌↔◌, ℕ, ◌<◌, Option, Result, Ok, Err}
+use Rattle.std.specs.Prelude.{◌≡◌, ◌≢◌, ◌↔◌, ℕ, ◌<◌, Option, Result, Ok, Err}
 use Rattle.rc_cell.specs.declared.rows.Row.{Row}
 use Rattle.rc_cell.specs.declared.writes.Tomb.{Tomb}
 use Rattle.rc_cell.specs.Winner.{empty_row}
@@ -27,9 +27,9 @@ Throughout from to P = (x : Pos) → Reaches from x → IsBefore x to → P x
 abbrev pub EndsPart : Pos → Pos → Pos → Type 0
 EndsPart x upto to = IsBefore x to × Reaches to upto
 
--- the first part from x on, up to a bound, where this is known
+-- the first part from x on, up to a bound, where this is known; a row that is given is not empty
 abbrev pub IsPartFrom : (Pos → There → Type 0) → Pos → Pos → Part → Type 0
-IsPartFrom knows x upto (part.Row key row tomb) = IsBefore x upto × (x ≡ row_pos key) × knows x (row, tomb)
+IsPartFrom knows x upto (part.Row key row tomb) = IsBefore x upto × (x ≡ row_pos key) × knows x (row, tomb) × (row ≢ empty_row)
 IsPartFrom knows x upto (part.Gap to tomb) = EndsPart x upto to × Throughout x to (λ y. knows y (empty_row, tomb))
 IsPartFrom knows x upto (part.Missing to) = EndsPart x upto to × ((v : There) → knows x v → ⊥)
 IsPartFrom knows x upto part.End = x ≡ upto

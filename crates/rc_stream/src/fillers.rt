@@ -50,6 +50,9 @@ pub trait Filler<H> {
 
     ghost knows_statics: { Self → H → Row → Type 0 };
 
+    // what a call does to a filler and its home
+    ghost fills: { Self → H → Self → H → Type 0 };
+
     /// Takes in that from one position on and before another there is no row, and that this range tombstone is in force.
     fn gap(&mut self, home: &mut H, from: &Pos, to: &Pos, tomb: Option<Tomb>) -> Fill
         requires ready { ready self.old home.old }
@@ -63,6 +66,7 @@ pub trait Filler<H> {
         ensures sound { (x : Pos) (v : There) → knows self.new home.new x v → source self.new home.new x v }
         ensures source { (x : Pos) (v : There) → source self.old home.old x v → source self.new home.new x v }
         ensures may { may self.old home.old → may self.new home.new }
+        ensures did { fills self.old home.old self.new home.new }
         ensures ready { ready self.new home.new };
 
     /// Takes in that this row is at its key, and that this range tombstone is in force there.
@@ -76,6 +80,7 @@ pub trait Filler<H> {
         ensures sound { (x : Pos) (v : There) → knows self.new home.new x v → source self.new home.new x v }
         ensures source { (x : Pos) (v : There) → source self.old home.old x v → source self.new home.new x v }
         ensures may { may self.old home.old → may self.new home.new }
+        ensures did { fills self.old home.old self.new home.new }
         ensures ready { ready self.new home.new };
 
     /// Takes in that this is the static row.
@@ -88,5 +93,6 @@ pub trait Filler<H> {
         ensures sound { (x : Pos) (v : There) → knows self.new home.new x v → source self.new home.new x v }
         ensures source { (x : Pos) (v : There) → source self.old home.old x v → source self.new home.new x v }
         ensures may { may self.old home.old → may self.new home.new }
+        ensures did { fills self.old home.old self.new home.new }
         ensures ready { ready self.new home.new };
 }

@@ -4,7 +4,7 @@ use Rattle.rc_stream.specs.Did.{Call.OfNext, OneCall, answered}
 use Rattle.rc_stream.proofs.Chains.{chain-after, chain-stopped, once-called, once-called-theirs}
 use Rattle.rc_stream.proofs.Ending.{covers-theirs}
 use Rattle.rc_stream.proofs.Going.{moved-moved, once-keeps, once-ours, once-theirs}
-use Rattle.rc_stream.proofs.Ordered.{passes-itself}
+use Rattle.rc_stream.specs.laws.Ordered.{passes-itself}
 use Rattle.rc_stream.specs.Showing.{EitherSpot}
 use Rattle.rc_stream.proofs.Blaming.{blames-after, blames-memory, blames-ours, blames-theirs}
 use Rattle.rc_stream.proofs.merges.look_at_both.Goals as goal

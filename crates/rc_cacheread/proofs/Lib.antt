@@ -1,0 +1,14 @@
+pub mod Chains
+pub mod Going
+pub mod Idle
+pub mod Leaving
+pub mod Lists
+pub mod Orders
+pub mod Outcomes
+pub mod Parting
+pub mod Rounds
+pub mod Seeking
+pub mod Sought
+pub mod Stepping
+pub mod Streams
+pub mod Turning

@@ -1,0 +1,140 @@
+-- A reader after what was due was given, or the slice ended.
+use Rattle.std.specs.Prelude.{◌≡◌, ◌⊎◌, Bool, true, false, cond, List, [], ◌∷◌, ◌++◌, Option, Some, None}
+use Rattle.std.proofs.Common.{refl, sym, ap, ◌∙◌, subst, inl, inr}
+use Rattle.rc_cell.specs.declared.writes.Tomb.{Tomb}
+use Rattle.rc_position.specs.declared.positions.Pos.{Pos}
+use Rattle.rc_position.specs.Position.{IsBefore}
+use Rattle.rc_mutation.specs.declared.fragments.Frag.{Frag}
+use Rattle.rc_mutation.specs.declared.fragments.Frag.TheVariants as frag
+use Rattle.rc_mutation.specs.declared.fragments.HeadAt.{HeadAt}
+use Rattle.rc_stream.specs.Did.{OfNext}
+use Rattle.rc_stream.specs.Merging.{same_tomb}
+use Rattle.rc_stream.specs.Places.{Reaches}
+use Rattle.rc_stream.specs.Snapshot.{SameKnown, There}
+use Rattle.rc_stream.specs.Stream.{Stream, first_upto, is_upto, rest}
+use Rattle.rc_cacheread.specs.declared.readers.CacheReader.{CacheReader}
+use Rattle.rc_cacheread.specs.declared.readers.Stage.{Stage}
+use Rattle.rc_cacheread.specs.declared.readers.Stage.TheVariants.{Away}
+use Rattle.rc_cacheread.specs.declared.spots.Spot.{Spot}
+use Rattle.rc_cacheread.specs.declared.spots.Turn.TheVariants as turn
+use Rattle.rc_cacheread.specs.Did.{IsKnownFor}
+use Rattle.rc_cacheread.specs.Reading.{Reads, there}
+use Rattle.rc_cacheread.specs.Sharing.{Fits, IsAt, IsReady, IsSaid, IsWhole, Leads, OfBelow, OfFiller, OfKnown, Sees}
+use Rattle.rc_cacheread.specs.Spots.{EndsUpto, Gives, IsAlike, front, stand, told_of}
+use Rattle.rc_cacheread.proofs.Lists.{change_if, ended, none-upto, turns}
+use Rattle.rc_cacheread.proofs.Orders.{before-reaches, never-before, reach-itself, reach-through}
+use Rattle.rc_cacheread.proofs.Outcomes.{Carries, leads-on}
+use Rattle.rc_cacheread.proofs.Parting.{carries-away}
+use Rattle.rc_cacheread.proofs.Stepping.{reader_of}
+
+abbrev Behind : Type 0
+Behind = Pos × Option Tomb
+
+-- a reader of another spot, with the same stand and tombstone, and the same to be due
+module _ {K F P H W : Type 0} (kn : OfKnown K H) (be : OfBelow F H W) (fi : OfFiller P H) (r : CacheReader K F P) (t : Spot) (h : H) (w : W) (p : stand t ≡ stand r.spot) (m : t.tomb ≡ r.spot.tomb) where
+  abbrev N : CacheReader K F P
+  N = reader_of r.known r.below r.filler r.to t r.stage r.lags
+
+  pub ready-alike : IsReady kn be fi r h w → IsReady kn be fi N h w
+  ready-alike d = record {
+    fit = d.fit;
+    shares = d.shares;
+    covered = subst (λ (z : Behind). IsWhole (kn.knows r.known h) (kn.heads r.known h) z.0 r.to ⊎ Leads (fi.source r.filler h) (fi.statics_are r.filler h) (be.seen r.below h w) r.stage z.0 r.to z.1) (λ i. (sym p i, sym m i)) d.covered;
+    ahead = subst (λ z. (x : Pos) → Reaches z x → be.ahead r.below x) (sym p) d.ahead;
+    place = subst (λ z. IsAt r.lags (kn.place r.known) z) (sym p) d.place;
+  }
+
+  said-alike : (fs : List Frag) (s : Stream) → IsSaid (be.seen r.below h w) r.stage r.to r.spot fs s.head.statics → IsSaid (be.seen r.below h w) r.stage r.to t fs s.head.statics
+  said-alike fs s d = record {
+    stream = d.stream;
+    stands = d.stands;
+    fits = subst (λ (z : Behind). Fits r.stage z.0 z.1 d.stream) (λ i. (sym p i, sym m i)) d.fits;
+    says = subst (λ (z : Behind). (y : Pos) → Reaches z.0 y → IsBefore y r.to → there y d.stream.tomb d.stream.left ≡ there y z.1 fs) (λ i. (sym p i, sym m i)) d.says;
+    static_row = d.static_row;
+  }
+
+  -- what it stands for, where that is the rest behind what is due
+  pub sees-at : (s z : Stream) → (d : Sees kn be fi r h w s) → z.head ≡ s.head → z.tomb ≡ told_of t → z.left ≡ front t ++ d.rest → Sees kn be fi N h w z
+  sees-at s z d e u l = record {
+    rest = d.rest;
+    tomb = u;
+    left = l;
+    reads = subst (λ (x : Behind). Reads (fi.source r.filler h) x.0 r.to x.1 d.rest) (λ i. (sym p i, sym m i)) d.reads;
+    pt = λ at k. d.pt at k ∙ ap (λ x. x.pt) (sym e);
+    static_row = λ row k. d.static_row row k ∙ ap (λ x. x.statics) (sym e);
+    below = cover d.below;
+  } where
+    cover : IsWhole (kn.knows r.known h) (kn.heads r.known h) (stand r.spot) r.to ⊎ IsSaid (be.seen r.below h w) r.stage r.to r.spot d.rest s.head.statics → IsWhole (kn.knows r.known h) (kn.heads r.known h) (stand t) r.to ⊎ IsSaid (be.seen r.below h w) r.stage r.to t d.rest z.head.statics
+    cover (inl x) = inl (subst (λ y. IsWhole (kn.knows r.known h) (kn.heads r.known h) y r.to) (sym p) x)
+    cover (inr x) = inr (subst (IsSaid (be.seen r.below h w) r.stage r.to t d.rest) (ap (λ y. y.statics) (sym e)) (said-alike d.rest s x))
+
+pub sees-alike : {K F P H W : Type 0} (kn : OfKnown K H) (be : OfBelow F H W) (fi : OfFiller P H) (r : CacheReader K F P) (t : Spot) (h : H) (w : W) (s : Stream) → IsAlike r.spot t → Sees kn be fi r h w s → Sees kn be fi (reader_of r.known r.below r.filler r.to t r.stage r.lags) h w s
+sees-alike kn be fi r t h w s a d = sees-at kn be fi r t h w a.from a.tomb s s d refl (d.tomb ∙ sym a.told) (d.left ∙ ap (λ l. l ++ d.rest) (sym a.due))
+
+left-over : (x : Pos) (due rest : List Frag) → first_upto x due ≡ None → (due ≡ [] → first_upto x rest ≡ None) → first_upto x (due ++ rest) ≡ None
+left-over x [] rest e f = f refl
+left-over x (g ∷ gs) rest e f = e
+
+-- nothing is left up to the position
+pub nothing-left : {K F P H W : Type 0} (kn : OfKnown K H) (be : OfBelow F H W) (fi : OfFiller P H) (r : CacheReader K F P) (h : H) (w : W) (upto : Pos) (s : Stream) → EndsUpto r.to upto r.spot → Sees kn be fi r h w s → first_upto upto s.left ≡ None
+nothing-left kn be fi r h w upto s e d = ap (first_upto upto) d.left ∙ left-over upto (front r.spot) d.rest e.0 (λ n. by_way (e.1 n)) where
+  by_way : IsBefore upto (stand r.spot) ⊎ (Reaches r.to (stand r.spot) × (r.spot.tomb ≡ None)) → first_upto upto d.rest ≡ None
+  by_way (inl b) = none-upto (stand r.spot) upto d.rest b d.reads.from
+  by_way (inr (on, n)) = ap (first_upto upto) (ended (fi.source r.filler h) (stand r.spot) r.to d.rest (subst (λ t. Reads (fi.source r.filler h) (stand r.spot) r.to t d.rest) n d.reads) on)
+
+-- ---- the slice ended
+
+module _ {K F P H W : Type 0} (kn : OfKnown K H) (be : OfBelow F H W) (fi : OfFiller P H) (r : CacheReader K F P) (t : Spot) (h : H) (w : W) (g : (front r.spot ≡ []) × Reaches r.to (stand r.spot) × (stand t ≡ stand r.spot) × (told_of t ≡ told_of r.spot) × (t.tomb ≡ None) × (front t ≡ frag.Change (stand r.spot) None ∷ []) × (same_tomb r.spot.tomb None ≡ false)) where
+  abbrev M : CacheReader K F P
+  M = reader_of r.known r.below r.filler r.to t Away r.lags
+
+  carries : Carries (be.seen r.below h w) r.stage (stand r.spot) r.spot.tomb (be.seen r.below h w) Away (stand t) t.tomb
+  carries = carries-away (be.seen r.below h w) (be.seen r.below h w) r.stage (stand r.spot) (stand t) r.spot.tomb t.tomb (λ x k. k)
+
+  on : Reaches (stand r.spot) (stand t)
+  on = subst (Reaches (stand r.spot)) (sym g.2) (reach-itself (stand r.spot))
+
+  pub ready-closed : IsReady kn be fi r h w → IsReady kn be fi M h w
+  ready-closed d = record {
+    fit = d.fit;
+    shares = d.shares;
+    covered = cover d.covered;
+    ahead = λ x k. d.ahead x (reach-through (stand r.spot) (stand t) x on k);
+    place = subst (λ z. IsAt r.lags (kn.place r.known) z) (sym g.2) d.place;
+  } where
+    cover : IsWhole (kn.knows r.known h) (kn.heads r.known h) (stand r.spot) r.to ⊎ Leads (fi.source r.filler h) (fi.statics_are r.filler h) (be.seen r.below h w) r.stage (stand r.spot) r.to r.spot.tomb → IsWhole (kn.knows r.known h) (kn.heads r.known h) (stand t) r.to ⊎ Leads (fi.source r.filler h) (fi.statics_are r.filler h) (be.seen r.below h w) Away (stand t) r.to t.tomb
+    cover (inl x) = inl (subst (λ z. IsWhole (kn.knows r.known h) (kn.heads r.known h) z r.to) (sym g.2) x)
+    cover (inr x) = inr (leads-on (fi.source r.filler h) (fi.source r.filler h) (fi.statics_are r.filler h) (fi.statics_are r.filler h) (be.seen r.below h w) (be.seen r.below h w) r.to r.stage (stand r.spot) r.spot.tomb Away (stand t) t.tomb carries on (λ z d k. k) (λ row k. k) x)
+
+  pub sees-closed : (s : Stream) → Sees kn be fi r h w s → Sees kn be fi M h w s
+  sees-closed s d =
+      let x = turns (fi.source r.filler h) (stand r.spot) r.to r.spot.tomb None d.rest d.reads (ap (λ (v : There). v.1) (d.reads.beyond (stand r.spot) (reach-itself (stand r.spot)) g.1)) in
+      record {
+        rest = x.left;
+        tomb = d.tomb ∙ sym g.3;
+        left = d.left ∙ ap (λ l. l ++ d.rest) g.0 ∙ x.begins ∙ ap (λ b. cond b [] (frag.Change (stand r.spot) None ∷ []) ++ x.left) g.6 ∙ ap (λ l. l ++ x.left) (sym g.5);
+        reads = subst (λ (z : Behind). Reads (fi.source r.filler h) z.0 r.to z.1 x.left) (λ i. (sym g.2 i, sym g.4 i)) x.reads;
+        pt = d.pt;
+        static_row = d.static_row;
+        below = cover d.below x.left;
+      } where
+        cover : (c : IsWhole (kn.knows r.known h) (kn.heads r.known h) (stand r.spot) r.to ⊎ IsSaid (be.seen r.below h w) r.stage r.to r.spot d.rest s.head.statics) (fs : List Frag) → IsWhole (kn.knows r.known h) (kn.heads r.known h) (stand t) r.to ⊎ IsSaid (be.seen r.below h w) Away r.to t fs s.head.statics
+        cover (inl x) fs = inl (subst (λ z. IsWhole (kn.knows r.known h) (kn.heads r.known h) z r.to) (sym g.2) x)
+        cover (inr x) fs = (let n = carries.each x.stream x.stands x.fits in inr (record {
+          stream = n.0;
+          stands = n.1;
+          fits = n.2;
+          says = λ y k b. absurd (never-before y r.to (reach-through r.to (stand r.spot) y g.1 (subst (λ z. Reaches z y) g.2 k)) b);
+          static_row = n.4 ∙ x.static_row;
+        }))
+
+first-of : (x : Pos) (f : Frag) (fs : List Frag) → is_upto x f ≡ true → first_upto x (f ∷ fs) ≡ Some f
+first-of x f fs e = ap (λ b. cond b (Some f) None) e
+
+-- what was due is first
+pub first-left : (x : Pos) (f : Frag) (left fs : List Frag) {due now : List Frag} → left ≡ due ++ fs → due ≡ f ∷ now → is_upto x f ≡ true → (first_upto x left ≡ Some f) × (rest left ≡ now ++ fs)
+first-left x f left fs {due} {now} l d e = (ap (first_upto x) (l ∙ ap (λ z. z ++ fs) d) ∙ first-of x f (now ++ fs) e, ap rest (l ∙ ap (λ z. z ++ fs) d))
+
+-- what is known for a call stays known where the snapshot knows the same
+pub still-known : (y : Pos) (a b : Pos → There → Type 0) (p q : HeadAt → Type 0) (x z to end : Pos) → Reaches x z → to ≡ end → SameKnown a b → IsKnownFor (OfNext y) a p x to → IsKnownFor (OfNext y) b q z end
+still-known y a b p q x z to end on e s k = λ i h m l. (let v = k i (reach-through x z i on h) m (subst (IsBefore i) (sym e) l) in (v.0, (s i v.0).0 v.1))

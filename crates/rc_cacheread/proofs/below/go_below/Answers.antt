@@ -1,0 +1,163 @@
+-- What stands below from the place on is taken.
+use Rattle.std.specs.Prelude.{◌≡◌, IfSome, IsTrue}
+use Rattle.std.proofs.Common.{Ok, true, false, refl, sym, ap, ◌∙◌, subst, inl, inr}
+use Rattle.rc_position.specs.declared.positions.Pos.{Pos}
+use Rattle.rc_stream.specs.Calls.{left_by}
+use Rattle.rc_stream.specs.Did.{OfNext, ReachesEnd}
+use Rattle.rc_stream.specs.Places.{Reaches}
+use Rattle.rc_stream.specs.Stream.{first_upto, is_upto}
+use Rattle.rc_cacheread.specs.declared.readers.Stage.TheVariants.{Within}
+use Rattle.rc_cacheread.specs.declared.spots.Found.{Found}
+use Rattle.rc_cacheread.specs.Below.{Tells, TookFound, near_of}
+use Rattle.rc_cacheread.specs.Did.{OneCall}
+use Rattle.rc_cacheread.specs.Sharing.{of_below, of_filler, of_known}
+use Rattle.rc_cacheread.specs.Spots.{stand}
+use Rattle.rc_cacheread.proofs.Chains.{chain-none, chain-one, many-many, one}
+use Rattle.rc_cacheread.proofs.Going.{Gone, at-on, gone, leads-here, tells}
+use Rattle.rc_cacheread.proofs.Idle.{idle-front, idle-stand}
+use Rattle.rc_cacheread.proofs.Leaving.{fills-left, kept-kept}
+use Rattle.rc_cacheread.proofs.Orders.{near-is, near-on, near-within, reach-itself, reach-through}
+use Rattle.rc_cacheread.proofs.Seeking.{idle-outcome}
+use Rattle.rc_cacheread.proofs.Stepping.{below-call, end-on, fill-calls, led, no-whole, reader_of, ready-on, sees-on, step-says}
+use Rattle.rc_cacheread.proofs.below.go_below.Goals as goal
+
+pub returns-in-Err-clause-did : goal.returns-in-Err-clause-did
+returns-in-Err-clause-did g c = λ y covers.
+    let kn = (of_known g.K.Known.ready g.K.Known.place g.K.Known.knows g.K.Known.heads g.K.Known.did) in
+    let be = (of_below g.F.Frags.ready g.F.Frags.seen g.F.Frags.ahead g.F.Frags.moves g.F.Frags.did) in
+    let fi = (of_filler g.P.Filler.ready g.P.Filler.fits g.P.Filler.may g.P.Filler.lost g.P.Filler.source g.P.Filler.knows g.P.Filler.statics_are g.P.Filler.knows_statics g.P.Filler.fills) in
+    let r = c.args.reader.now in
+    let h = c.args.home.now in
+    let w = c.args.store.now in
+    chain-none (OneCall kn be fi (OfNext y)) false (r.known, r.below, r.filler, h, w)
+
+pub take_found-requires-clause-ready : goal.take_found-requires-clause-ready
+take_found-requires-clause-ready g c =
+    let kn = (of_known g.K.Known.ready g.K.Known.place g.K.Known.knows g.K.Known.heads g.K.Known.did) in
+    let be = (of_below g.F.Frags.ready g.F.Frags.seen g.F.Frags.ahead g.F.Frags.moves g.F.Frags.did) in
+    let fi = (of_filler g.P.Filler.ready g.P.Filler.fits g.P.Filler.may g.P.Filler.lost g.P.Filler.source g.P.Filler.knows g.P.Filler.statics_are g.P.Filler.knows_statics g.P.Filler.fills) in
+    let r = c.args.reader.now in
+    let h = c.args.home.now in
+    let w = c.args.store.now in
+    (c.requires.ready.shares.after_below r.known r.below c.next.new.self r.filler h w c.next.new.home c.next.new.store c.requires.ready.fit c.in-Ok-next.ensures.moves c.in-Ok-next.ensures.ready).0.filler
+
+pub take_found-requires-clause-on : goal.take_found-requires-clause-on
+take_found-requires-clause-on g c = subst (Reaches c.args.reader.now.spot.place) (sym c.in-Ok.ensures) (near-on c.args.reader.now.spot.place c.args.upto.now c.args.end c.requires.near c.requires.end)
+
+pub take_found-requires-clause-source : goal.take_found-requires-clause-source
+take_found-requires-clause-source g c =
+    let kn = (of_known g.K.Known.ready g.K.Known.place g.K.Known.knows g.K.Known.heads g.K.Known.did) in
+    let be = (of_below g.F.Frags.ready g.F.Frags.seen g.F.Frags.ahead g.F.Frags.moves g.F.Frags.did) in
+    let fi = (of_filler g.P.Filler.ready g.P.Filler.fits g.P.Filler.may g.P.Filler.lost g.P.Filler.source g.P.Filler.knows g.P.Filler.statics_are g.P.Filler.knows_statics g.P.Filler.fills) in
+    let r = c.args.reader.now in
+    let h = c.args.home.now in
+    let w = c.args.store.now in
+    let near : c.in-Ok.near ≡ near_of c.args.upto.now c.args.end = c.in-Ok.ensures in
+    let after = c.requires.ready.shares.after_below r.known r.below c.next.new.self r.filler h w c.next.new.home c.next.new.store c.requires.ready.fit c.in-Ok-next.ensures.moves c.in-Ok-next.ensures.ready in
+    let l = led kn be fi r h w c.requires.ready (no-whole kn be fi r h c.requires.idle c.requires.within c.requires.missing) in
+    let m = leads-here (fi.source r.filler h) (fi.source r.filler c.next.new.home) (fi.statics_are r.filler h) (be.seen r.below h w) (stand r.spot) r.spot.place r.to r.spot.tomb r.stage c.requires.stage (idle-stand r.spot c.requires.idle) (λ x v. (after.1.source x v).0) l in
+    subst (λ (z : Found × Pos). Tells (fi.source r.filler c.next.new.home) r.spot.place z.1 c.args.end r.spot.tomb z.0) (λ i. (sym c.found.ensures i, sym near i)) (tells (fi.source r.filler c.next.new.home) (fi.statics_are r.filler h) (be.seen r.below h w) r.spot.place c.args.upto.now c.args.end r.to r.spot.tomb c.in-Ok-next.got m c.requires.inside (λ t s. c.in-Ok-next.ensures.gives t s ∙ ap (λ x. first_upto x t.left) near) (subst (λ x. IfSome c.in-Ok-next.got (λ f. IsTrue (is_upto x f))) near c.in-Ok-next.ensures.upto))
+
+pub returns-in-Ok-next-clause-says : goal.returns-in-Ok-next-clause-says
+returns-in-Ok-next-clause-says g c = λ s.
+    let kn = (of_known g.K.Known.ready g.K.Known.place g.K.Known.knows g.K.Known.heads g.K.Known.did) in
+    let be = (of_below g.F.Frags.ready g.F.Frags.seen g.F.Frags.ahead g.F.Frags.moves g.F.Frags.did) in
+    let fi = (of_filler g.P.Filler.ready g.P.Filler.fits g.P.Filler.may g.P.Filler.lost g.P.Filler.source g.P.Filler.knows g.P.Filler.statics_are g.P.Filler.knows_statics g.P.Filler.fills) in
+    let r = c.args.reader.now in
+    let h = c.args.home.now in
+    let w = c.args.store.now in
+    let n = reader_of r.known c.next.new.self c.take_found.new.filler r.to c.take_found.new.spot c.take_found.new.stage r.lags in
+    let after = c.requires.ready.shares.after_below r.known r.below c.next.new.self r.filler h w c.next.new.home c.next.new.store c.requires.ready.fit c.in-Ok-next.ensures.moves c.in-Ok-next.ensures.ready in
+    let filled = fills-left kn be fi c.requires.ready.shares r.known c.next.new.self c.next.new.store (r.filler, c.next.new.home) (c.take_found.new.filler, c.take_found.new.home) c.take_found.ensures.did after.0 in
+    let kept = kept-kept kn be fi r.known r.known r.known r.filler r.filler c.take_found.new.filler h c.next.new.home c.take_found.new.home after.1 filled.kept in
+    let near : c.in-Ok.near ≡ near_of c.args.upto.now c.args.end = c.in-Ok.ensures in
+    let o : Gone (fi.source r.filler h) (be.seen r.below h w) (be.seen c.next.new.self c.take_found.new.home c.next.new.store) r.to c.args.upto.now r.stage r.spot c.take_found.new.stage c.take_found.new.spot c.in-Ok-next.got c.take_found.result = subst (λ b. Gone (fi.source r.filler h) (be.seen r.below h w) (be.seen c.next.new.self c.take_found.new.home c.next.new.store) r.to c.args.upto.now b r.spot c.take_found.new.stage c.take_found.new.spot c.in-Ok-next.got c.take_found.result) (sym c.requires.stage) (gone (fi.source r.filler h) (be.seen r.below h w) (be.seen c.next.new.self c.take_found.new.home c.next.new.store) r.to c.args.upto.now c.args.end r.spot c.take_found.new.spot c.requires.idle c.take_found.new.stage c.requires.inside c.requires.near c.requires.end c.in-Ok-next.got r.stage c.take_found.result c.requires.stage (λ t s. c.in-Ok-next.ensures.gives t s ∙ ap (λ x. first_upto x t.left) near) (subst (λ x. IfSome c.in-Ok-next.got (λ f. IsTrue (is_upto x f))) near c.in-Ok-next.ensures.upto) (λ t s. filled.seen (left_by (Ok c.in-Ok-next.got) t) (c.in-Ok-next.ensures.seen t s)) (subst (λ (z : Found × Pos). TookFound z.0 z.1 c.args.end c.args.upto.now r.spot c.take_found.new.spot r.stage c.take_found.new.stage c.take_found.result) (λ i. (c.found.ensures i, near i)) c.take_found.ensures.took)) in
+    step-says kn be fi r n h c.take_found.new.home w c.next.new.store c.args.upto.now c.in-Ok-next.got c.take_found.result s kept (idle-front r.spot c.requires.idle) refl (no-whole kn be fi r h c.requires.idle c.requires.within c.requires.missing) o
+
+pub returns-in-Ok-next-clause-did : goal.returns-in-Ok-next-clause-did
+returns-in-Ok-next-clause-did g c = λ y covers.
+    let kn = (of_known g.K.Known.ready g.K.Known.place g.K.Known.knows g.K.Known.heads g.K.Known.did) in
+    let be = (of_below g.F.Frags.ready g.F.Frags.seen g.F.Frags.ahead g.F.Frags.moves g.F.Frags.did) in
+    let fi = (of_filler g.P.Filler.ready g.P.Filler.fits g.P.Filler.may g.P.Filler.lost g.P.Filler.source g.P.Filler.knows g.P.Filler.statics_are g.P.Filler.knows_statics g.P.Filler.fills) in
+    let r = c.args.reader.now in
+    let h = c.args.home.now in
+    let w = c.args.store.now in
+    let near : c.in-Ok.near ≡ near_of c.args.upto.now c.args.end = c.in-Ok.ensures in
+    let e = end-on kn be fi r h w c.args.upto.now (near_of c.args.upto.now c.args.end) y c.requires.idle c.requires.stage (near-is c.args.upto.now c.args.end).0 (reach-through (near_of c.args.upto.now c.args.end) c.args.end r.to (near-within c.args.upto.now c.args.end) c.requires.inside) (no-whole kn be fi r h c.requires.idle c.requires.within c.requires.missing) covers in
+    many-many (OneCall kn be fi (OfNext y)) (r.known, r.below, r.filler, h, w) (r.known, c.next.new.self, r.filler, c.next.new.home, c.next.new.store) (r.known, c.next.new.self, c.take_found.new.filler, c.take_found.new.home, c.next.new.store)
+    (one (OneCall kn be fi (OfNext y)) (r.known, r.below, r.filler, h, w) (r.known, c.next.new.self, r.filler, c.next.new.home, c.next.new.store) (below-call kn be fi (OfNext y) r.known r.filler true r.below c.next.new.self h c.next.new.home w c.next.new.store (OfNext y) (inl refl) (c.in-Ok-next.ensures.did y (subst (λ x. ReachesEnd (be.seen r.below h w) x y) (sym near) e))))
+    (fill-calls kn be fi (OfNext y) r.known c.next.new.self c.next.new.store r.filler c.take_found.new.filler c.next.new.home c.take_found.new.home c.take_found.ensures.did)
+
+pub returns-in-Ok-next-clause-ready : goal.returns-in-Ok-next-clause-ready
+returns-in-Ok-next-clause-ready g c =
+    let kn = (of_known g.K.Known.ready g.K.Known.place g.K.Known.knows g.K.Known.heads g.K.Known.did) in
+    let be = (of_below g.F.Frags.ready g.F.Frags.seen g.F.Frags.ahead g.F.Frags.moves g.F.Frags.did) in
+    let fi = (of_filler g.P.Filler.ready g.P.Filler.fits g.P.Filler.may g.P.Filler.lost g.P.Filler.source g.P.Filler.knows g.P.Filler.statics_are g.P.Filler.knows_statics g.P.Filler.fills) in
+    let r = c.args.reader.now in
+    let h = c.args.home.now in
+    let w = c.args.store.now in
+    let n = reader_of r.known c.next.new.self c.take_found.new.filler r.to c.take_found.new.spot c.take_found.new.stage r.lags in
+    let after = c.requires.ready.shares.after_below r.known r.below c.next.new.self r.filler h w c.next.new.home c.next.new.store c.requires.ready.fit c.in-Ok-next.ensures.moves c.in-Ok-next.ensures.ready in
+    let filled = fills-left kn be fi c.requires.ready.shares r.known c.next.new.self c.next.new.store (r.filler, c.next.new.home) (c.take_found.new.filler, c.take_found.new.home) c.take_found.ensures.did after.0 in
+    let kept = kept-kept kn be fi r.known r.known r.known r.filler r.filler c.take_found.new.filler h c.next.new.home c.take_found.new.home after.1 filled.kept in
+    let near : c.in-Ok.near ≡ near_of c.args.upto.now c.args.end = c.in-Ok.ensures in
+    let o : Gone (fi.source r.filler h) (be.seen r.below h w) (be.seen c.next.new.self c.take_found.new.home c.next.new.store) r.to c.args.upto.now r.stage r.spot c.take_found.new.stage c.take_found.new.spot c.in-Ok-next.got c.take_found.result = subst (λ b. Gone (fi.source r.filler h) (be.seen r.below h w) (be.seen c.next.new.self c.take_found.new.home c.next.new.store) r.to c.args.upto.now b r.spot c.take_found.new.stage c.take_found.new.spot c.in-Ok-next.got c.take_found.result) (sym c.requires.stage) (gone (fi.source r.filler h) (be.seen r.below h w) (be.seen c.next.new.self c.take_found.new.home c.next.new.store) r.to c.args.upto.now c.args.end r.spot c.take_found.new.spot c.requires.idle c.take_found.new.stage c.requires.inside c.requires.near c.requires.end c.in-Ok-next.got r.stage c.take_found.result c.requires.stage (λ t s. c.in-Ok-next.ensures.gives t s ∙ ap (λ x. first_upto x t.left) near) (subst (λ x. IfSome c.in-Ok-next.got (λ f. IsTrue (is_upto x f))) near c.in-Ok-next.ensures.upto) (λ t s. filled.seen (left_by (Ok c.in-Ok-next.got) t) (c.in-Ok-next.ensures.seen t s)) (subst (λ (z : Found × Pos). TookFound z.0 z.1 c.args.end c.args.upto.now r.spot c.take_found.new.spot r.stage c.take_found.new.stage c.take_found.result) (λ i. (c.found.ensures i, near i)) c.take_found.ensures.took)) in
+    ready-on kn be fi r n h c.take_found.new.home w c.next.new.store c.requires.ready.shares filled.fit kept (led kn be fi r h w c.requires.ready (no-whole kn be fi r h c.requires.idle c.requires.within c.requires.missing)) o.outcome.carries o.on refl
+    (λ x on. c.in-Ok-next.ensures.ahead x (o.passes x on) (c.requires.ready.ahead x (reach-through (stand r.spot) (stand n.spot) x o.on on)))
+    (at-on r.lags (kn.place r.known) (stand r.spot) (stand n.spot) c.requires.lags c.requires.ready.place o.on)
+
+pub returns-in-Ok-next-clause-on : goal.returns-in-Ok-next-clause-on
+returns-in-Ok-next-clause-on g c =
+    let kn = (of_known g.K.Known.ready g.K.Known.place g.K.Known.knows g.K.Known.heads g.K.Known.did) in
+    let be = (of_below g.F.Frags.ready g.F.Frags.seen g.F.Frags.ahead g.F.Frags.moves g.F.Frags.did) in
+    let fi = (of_filler g.P.Filler.ready g.P.Filler.fits g.P.Filler.may g.P.Filler.lost g.P.Filler.source g.P.Filler.knows g.P.Filler.statics_are g.P.Filler.knows_statics g.P.Filler.fills) in
+    let r = c.args.reader.now in
+    let h = c.args.home.now in
+    let w = c.args.store.now in
+    let n = reader_of r.known c.next.new.self c.take_found.new.filler r.to c.take_found.new.spot c.take_found.new.stage r.lags in
+    let after = c.requires.ready.shares.after_below r.known r.below c.next.new.self r.filler h w c.next.new.home c.next.new.store c.requires.ready.fit c.in-Ok-next.ensures.moves c.in-Ok-next.ensures.ready in
+    let filled = fills-left kn be fi c.requires.ready.shares r.known c.next.new.self c.next.new.store (r.filler, c.next.new.home) (c.take_found.new.filler, c.take_found.new.home) c.take_found.ensures.did after.0 in
+    let kept = kept-kept kn be fi r.known r.known r.known r.filler r.filler c.take_found.new.filler h c.next.new.home c.take_found.new.home after.1 filled.kept in
+    let near : c.in-Ok.near ≡ near_of c.args.upto.now c.args.end = c.in-Ok.ensures in
+    let o : Gone (fi.source r.filler h) (be.seen r.below h w) (be.seen c.next.new.self c.take_found.new.home c.next.new.store) r.to c.args.upto.now r.stage r.spot c.take_found.new.stage c.take_found.new.spot c.in-Ok-next.got c.take_found.result = subst (λ b. Gone (fi.source r.filler h) (be.seen r.below h w) (be.seen c.next.new.self c.take_found.new.home c.next.new.store) r.to c.args.upto.now b r.spot c.take_found.new.stage c.take_found.new.spot c.in-Ok-next.got c.take_found.result) (sym c.requires.stage) (gone (fi.source r.filler h) (be.seen r.below h w) (be.seen c.next.new.self c.take_found.new.home c.next.new.store) r.to c.args.upto.now c.args.end r.spot c.take_found.new.spot c.requires.idle c.take_found.new.stage c.requires.inside c.requires.near c.requires.end c.in-Ok-next.got r.stage c.take_found.result c.requires.stage (λ t s. c.in-Ok-next.ensures.gives t s ∙ ap (λ x. first_upto x t.left) near) (subst (λ x. IfSome c.in-Ok-next.got (λ f. IsTrue (is_upto x f))) near c.in-Ok-next.ensures.upto) (λ t s. filled.seen (left_by (Ok c.in-Ok-next.got) t) (c.in-Ok-next.ensures.seen t s)) (subst (λ (z : Found × Pos). TookFound z.0 z.1 c.args.end c.args.upto.now r.spot c.take_found.new.spot r.stage c.take_found.new.stage c.take_found.result) (λ i. (c.found.ensures i, near i)) c.take_found.ensures.took)) in
+    o.on
+
+pub returns-in-Err-next-clause-says : goal.returns-in-Err-next-clause-says
+returns-in-Err-next-clause-says g c = λ s.
+    let kn = (of_known g.K.Known.ready g.K.Known.place g.K.Known.knows g.K.Known.heads g.K.Known.did) in
+    let be = (of_below g.F.Frags.ready g.F.Frags.seen g.F.Frags.ahead g.F.Frags.moves g.F.Frags.did) in
+    let fi = (of_filler g.P.Filler.ready g.P.Filler.fits g.P.Filler.may g.P.Filler.lost g.P.Filler.source g.P.Filler.knows g.P.Filler.statics_are g.P.Filler.knows_statics g.P.Filler.fills) in
+    let r = c.args.reader.now in
+    let h = c.args.home.now in
+    let w = c.args.store.now in
+    let n = reader_of r.known c.next.new.self r.filler r.to r.spot r.stage r.lags in
+    let after = c.requires.ready.shares.after_below r.known r.below c.next.new.self r.filler h w c.next.new.home c.next.new.store c.requires.ready.fit c.in-Err-next.ensures.moves c.in-Err-next.ensures.ready in
+    sees-on kn be fi r n h c.next.new.home w c.next.new.store s after.1 (idle-front r.spot c.requires.idle) refl (reach-itself (stand r.spot)) refl (no-whole kn be fi r h c.requires.idle c.requires.within c.requires.missing) (idle-outcome (fi.source r.filler h) (be.seen r.below h w) (be.seen c.next.new.self c.next.new.home c.next.new.store) r.to r.spot c.requires.idle r.stage c.in-Err-next.ensures.seen)
+
+pub returns-in-Err-next-clause-did : goal.returns-in-Err-next-clause-did
+returns-in-Err-next-clause-did g c = λ y covers.
+    let kn = (of_known g.K.Known.ready g.K.Known.place g.K.Known.knows g.K.Known.heads g.K.Known.did) in
+    let be = (of_below g.F.Frags.ready g.F.Frags.seen g.F.Frags.ahead g.F.Frags.moves g.F.Frags.did) in
+    let fi = (of_filler g.P.Filler.ready g.P.Filler.fits g.P.Filler.may g.P.Filler.lost g.P.Filler.source g.P.Filler.knows g.P.Filler.statics_are g.P.Filler.knows_statics g.P.Filler.fills) in
+    let r = c.args.reader.now in
+    let h = c.args.home.now in
+    let w = c.args.store.now in
+    chain-one (OneCall kn be fi (OfNext y)) false (r.known, r.below, r.filler, h, w) (r.known, c.next.new.self, r.filler, c.next.new.home, c.next.new.store) (below-call kn be fi (OfNext y) r.known r.filler false r.below c.next.new.self h c.next.new.home w c.next.new.store (OfNext y) (inl refl) (c.in-Err-next.ensures.did y (subst (λ x. ReachesEnd (be.seen r.below h w) x y) (sym c.in-Ok.ensures) (end-on kn be fi r h w c.args.upto.now (near_of c.args.upto.now c.args.end) y c.requires.idle c.requires.stage (near-is c.args.upto.now c.args.end).0 (reach-through (near_of c.args.upto.now c.args.end) c.args.end r.to (near-within c.args.upto.now c.args.end) c.requires.inside) (no-whole kn be fi r h c.requires.idle c.requires.within c.requires.missing) covers))))
+
+pub returns-in-Err-next-clause-ready : goal.returns-in-Err-next-clause-ready
+returns-in-Err-next-clause-ready g c =
+    let kn = (of_known g.K.Known.ready g.K.Known.place g.K.Known.knows g.K.Known.heads g.K.Known.did) in
+    let be = (of_below g.F.Frags.ready g.F.Frags.seen g.F.Frags.ahead g.F.Frags.moves g.F.Frags.did) in
+    let fi = (of_filler g.P.Filler.ready g.P.Filler.fits g.P.Filler.may g.P.Filler.lost g.P.Filler.source g.P.Filler.knows g.P.Filler.statics_are g.P.Filler.knows_statics g.P.Filler.fills) in
+    let r = c.args.reader.now in
+    let h = c.args.home.now in
+    let w = c.args.store.now in
+    let n = reader_of r.known c.next.new.self r.filler r.to r.spot r.stage r.lags in
+    let after = c.requires.ready.shares.after_below r.known r.below c.next.new.self r.filler h w c.next.new.home c.next.new.store c.requires.ready.fit c.in-Err-next.ensures.moves c.in-Err-next.ensures.ready in
+    ready-on kn be fi r n h c.next.new.home w c.next.new.store c.requires.ready.shares after.0 after.1 (led kn be fi r h w c.requires.ready (no-whole kn be fi r h c.requires.idle c.requires.within c.requires.missing)) (idle-outcome (fi.source r.filler h) (be.seen r.below h w) (be.seen c.next.new.self c.next.new.home c.next.new.store) r.to r.spot c.requires.idle r.stage c.in-Err-next.ensures.seen).carries (reach-itself (stand r.spot)) refl (λ x on. c.in-Err-next.ensures.ahead x tt (c.requires.ready.ahead x on)) c.requires.ready.place
+
+pub returns-in-Err-clause-on : goal.returns-in-Err-clause-on
+returns-in-Err-clause-on g c = reach-itself (stand c.args.reader.now.spot)
+
+pub returns-in-Err-next-clause-on : goal.returns-in-Err-next-clause-on
+returns-in-Err-next-clause-on g c = reach-itself (stand c.args.reader.now.spot)

@@ -1,0 +1,92 @@
+-- The stream below was sought, and is then looked at or read on.
+use Rattle.std.proofs.Common.{true, refl, sym, subst}
+use Rattle.rc_stream.specs.Did.{OfNext, answered}
+use Rattle.rc_stream.specs.Places.{Reaches}
+use Rattle.rc_cacheread.proofs.Orders.{reach-itself}
+use Rattle.rc_cacheread.specs.Below.{IsSettled}
+use Rattle.rc_cacheread.specs.Did.{OneCall, state}
+use Rattle.rc_cacheread.specs.Sharing.{of_below, of_filler, of_known}
+use Rattle.rc_cacheread.specs.Spots.{stand}
+use Rattle.rc_cacheread.proofs.Chains.{chain-after}
+use Rattle.rc_cacheread.proofs.Going.{at-lags}
+use Rattle.rc_cacheread.proofs.Stepping.{end-reaches, ends-on, sees-lags}
+use Rattle.rc_cacheread.proofs.below.read_below.Goals as goal
+
+pub settle-requires-clause-ready : goal.settle-requires-clause-ready
+settle-requires-clause-ready g c =
+    let d = c.requires.ready in
+    record { fit = d.fit; shares = d.shares; covered = d.covered; ahead = d.ahead; place = at-lags c.args.reader.now.lags (g.K.Known.place c.args.reader.now.known) (stand c.args.reader.now.spot) d.place }
+
+pub returns-in-Sought-clause-says : goal.returns-in-Sought-clause-says
+returns-in-Sought-clause-says g c = λ s d.
+    let kn = (of_known g.K.Known.ready g.K.Known.place g.K.Known.knows g.K.Known.heads g.K.Known.did) in
+    let be = (of_below g.F.Frags.ready g.F.Frags.seen g.F.Frags.ahead g.F.Frags.moves g.F.Frags.did) in
+    let fi = (of_filler g.P.Filler.ready g.P.Filler.fits g.P.Filler.may g.P.Filler.lost g.P.Filler.source g.P.Filler.knows g.P.Filler.statics_are g.P.Filler.knows_statics g.P.Filler.fills) in
+    let r = c.args.reader.now in
+    let h = c.args.home.now in
+    let w = c.args.store.now in
+    c.look_here.ensures.says s (c.in-Ok.ensures.says s (sees-lags kn be fi r h w true s d))
+
+pub returns-in-Sought-clause-did : goal.returns-in-Sought-clause-did
+returns-in-Sought-clause-did g c = λ y covers.
+    let kn = (of_known g.K.Known.ready g.K.Known.place g.K.Known.knows g.K.Known.heads g.K.Known.did) in
+    let be = (of_below g.F.Frags.ready g.F.Frags.seen g.F.Frags.ahead g.F.Frags.moves g.F.Frags.did) in
+    let fi = (of_filler g.P.Filler.ready g.P.Filler.fits g.P.Filler.may g.P.Filler.lost g.P.Filler.source g.P.Filler.knows g.P.Filler.statics_are g.P.Filler.knows_statics g.P.Filler.fills) in
+    let r = c.args.reader.now in
+    let h = c.args.home.now in
+    let w = c.args.store.now in
+    let on = end-reaches kn be fi r h w c.args.upto.now y c.requires.idle c.requires.near covers in
+    chain-after (OneCall kn be fi (OfNext y)) (answered c.look_here.result) (state r h w) (state c.settle.new.reader c.settle.new.home c.settle.new.store) (state c.look_here.new.reader c.look_here.new.home c.look_here.new.store) (c.in-Ok.ensures.did y on) (c.look_here.ensures.did y (ends-on kn be fi r c.settle.new.reader h c.settle.new.home w c.settle.new.store c.args.upto.now y (λ s d. c.in-Ok.ensures.says s (sees-lags kn be fi r h w true s d)) covers))
+
+pub returns-in-Within-clause-says : goal.returns-in-Within-clause-says
+returns-in-Within-clause-says g c = λ s d.
+    let kn = (of_known g.K.Known.ready g.K.Known.place g.K.Known.knows g.K.Known.heads g.K.Known.did) in
+    let be = (of_below g.F.Frags.ready g.F.Frags.seen g.F.Frags.ahead g.F.Frags.moves g.F.Frags.did) in
+    let fi = (of_filler g.P.Filler.ready g.P.Filler.fits g.P.Filler.may g.P.Filler.lost g.P.Filler.source g.P.Filler.knows g.P.Filler.statics_are g.P.Filler.knows_statics g.P.Filler.fills) in
+    let r = c.args.reader.now in
+    let h = c.args.home.now in
+    let w = c.args.store.now in
+    c.go_below.ensures.says s (c.in-Ok.ensures.says s (sees-lags kn be fi r h w true s d))
+
+pub returns-in-Within-clause-did : goal.returns-in-Within-clause-did
+returns-in-Within-clause-did g c = λ y covers.
+    let kn = (of_known g.K.Known.ready g.K.Known.place g.K.Known.knows g.K.Known.heads g.K.Known.did) in
+    let be = (of_below g.F.Frags.ready g.F.Frags.seen g.F.Frags.ahead g.F.Frags.moves g.F.Frags.did) in
+    let fi = (of_filler g.P.Filler.ready g.P.Filler.fits g.P.Filler.may g.P.Filler.lost g.P.Filler.source g.P.Filler.knows g.P.Filler.statics_are g.P.Filler.knows_statics g.P.Filler.fills) in
+    let r = c.args.reader.now in
+    let h = c.args.home.now in
+    let w = c.args.store.now in
+    let on = end-reaches kn be fi r h w c.args.upto.now y c.requires.idle c.requires.near covers in
+    chain-after (OneCall kn be fi (OfNext y)) (answered c.go_below.result) (state r h w) (state c.settle.new.reader c.settle.new.home c.settle.new.store) (state c.go_below.new.reader c.go_below.new.home c.go_below.new.store) (c.in-Ok.ensures.did y on) (c.go_below.ensures.did y (ends-on kn be fi r c.settle.new.reader h c.settle.new.home w c.settle.new.store c.args.upto.now y (λ s d. c.in-Ok.ensures.says s (sees-lags kn be fi r h w true s d)) covers))
+
+pub returns-in-Away : goal.returns-in-Away
+returns-in-Away g c = absurd (subst IsSettled c.in-Away.is c.in-Ok.ensures.stage)
+
+pub returns-in-Err-clause-says : goal.returns-in-Err-clause-says
+returns-in-Err-clause-says g c = λ s d.
+    let kn = (of_known g.K.Known.ready g.K.Known.place g.K.Known.knows g.K.Known.heads g.K.Known.did) in
+    let be = (of_below g.F.Frags.ready g.F.Frags.seen g.F.Frags.ahead g.F.Frags.moves g.F.Frags.did) in
+    let fi = (of_filler g.P.Filler.ready g.P.Filler.fits g.P.Filler.may g.P.Filler.lost g.P.Filler.source g.P.Filler.knows g.P.Filler.statics_are g.P.Filler.knows_statics g.P.Filler.fills) in
+    let r = c.args.reader.now in
+    let h = c.args.home.now in
+    let w = c.args.store.now in
+    c.in-Err.ensures.says s (sees-lags kn be fi r h w true s d)
+
+pub returns-in-Err-clause-did : goal.returns-in-Err-clause-did
+returns-in-Err-clause-did g c = λ y covers.
+    let kn = (of_known g.K.Known.ready g.K.Known.place g.K.Known.knows g.K.Known.heads g.K.Known.did) in
+    let be = (of_below g.F.Frags.ready g.F.Frags.seen g.F.Frags.ahead g.F.Frags.moves g.F.Frags.did) in
+    let fi = (of_filler g.P.Filler.ready g.P.Filler.fits g.P.Filler.may g.P.Filler.lost g.P.Filler.source g.P.Filler.knows g.P.Filler.statics_are g.P.Filler.knows_statics g.P.Filler.fills) in
+    let r = c.args.reader.now in
+    let h = c.args.home.now in
+    let w = c.args.store.now in
+    c.in-Err.ensures.did y (end-reaches kn be fi r h w c.args.upto.now y c.requires.idle c.requires.near covers)
+
+pub returns-in-Sought-clause-on : goal.returns-in-Sought-clause-on
+returns-in-Sought-clause-on g c = subst (λ s. Reaches (stand s) (stand c.look_here.new.reader.spot)) c.in-Ok.ensures.spot c.look_here.ensures.on
+
+pub returns-in-Within-clause-on : goal.returns-in-Within-clause-on
+returns-in-Within-clause-on g c = subst (λ s. Reaches (stand s) (stand c.go_below.new.reader.spot)) c.in-Ok.ensures.spot c.go_below.ensures.on
+
+pub returns-in-Err-clause-on : goal.returns-in-Err-clause-on
+returns-in-Err-clause-on g c = subst (λ s. Reaches (stand c.args.reader.now.spot) (stand s)) (sym c.in-Err.ensures.spot) (reach-itself (stand c.args.reader.now.spot))

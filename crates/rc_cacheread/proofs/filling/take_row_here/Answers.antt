@@ -1,0 +1,48 @@
+-- The row stands at the place itself, and is not empty; or it says nothing.
+use Rattle.std.specs.Prelude.{◌≡◌}
+use Rattle.std.proofs.Common.{refl, sym, ap, ◌∙◌, subst, inl, inr}
+use Rattle.std.specs.Ordering.{is_eq}
+use Rattle.rc_position.specs.Position.{pos_cmp, row_pos}
+use Rattle.rc_cacheread.specs.Below.{Filling}
+use Rattle.rc_cacheread.proofs.Chains.{one}
+use Rattle.rc_cacheread.proofs.Lists.{untrue}
+use Rattle.rc_cacheread.proofs.Orders.{at-itself, is-eq}
+use Rattle.rc_cacheread.proofs.filling.take_row_here.Goals as goal
+use Rattle.rc_cacheread.proofs.filling.take_row_here.Goals.{then-is_empty-via-then-is_empty, then-is_empty-via-else-is_empty+then-not-is_eq}
+
+pub returns-then-is_empty-clause-took : goal.returns-then-is_empty-clause-took
+returns-then-is_empty-clause-took g c =
+    record {
+      place = c.change_to.ensures.place;
+      told = c.change_to.ensures.told;
+      again = c.change_to.ensures.again;
+      tomb = c.change_to.ensures.tomb;
+      since = c.change_to.ensures.since;
+      due = inl (
+        c.change_to.ensures.row,
+        elim c.then-is_empty.branch [
+          | then-is_empty-via-then-is_empty w ↦ inl (c.is_empty.ensures.0 w.if-is_empty.true)
+          | then-is_empty-via-else-is_empty+then-not-is_eq w ↦ inr (λ e. untrue (sym (at-itself (row_pos c.args.key) c.change_to.new.self.place (e ∙ sym c.change_to.ensures.place)) ∙ ap is_eq (sym w.compare_with_pos.ensures) ∙ sym w.is_eq.ensures ∙ w.if-not-is_eq.true))
+        ],
+      );
+    }
+
+pub row-requires-clause-source : goal.row-requires-clause-source
+row-requires-clause-source g c =
+    let same : row_pos c.args.key ≡ c.args.spot.now.place = is-eq (row_pos c.args.key) c.change_to.new.self.place (ap is_eq (sym c.compare_with_pos.ensures) ∙ sym c.is_eq.ensures ∙ c.if-not-is_eq.false) ∙ c.change_to.ensures.place in
+    subst (λ z. g.P.Filler.source c.args.filler.now c.args.home.now z (c.args.row, _)) (sym same) (c.requires.row same)
+
+pub returns-clause-took : goal.returns-clause-took
+returns-clause-took g c =
+    let same : row_pos c.args.key ≡ c.args.spot.now.place = is-eq (row_pos c.args.key) c.change_to.new.self.place (ap is_eq (sym c.compare_with_pos.ensures) ∙ sym c.is_eq.ensures ∙ c.if-not-is_eq.false) ∙ c.change_to.ensures.place in
+    record {
+      place = c.change_to.ensures.place;
+      told = c.change_to.ensures.told;
+      again = c.change_to.ensures.again;
+      tomb = c.change_to.ensures.tomb;
+      since = c.change_to.ensures.since;
+      due = inr (same, λ e. untrue (sym (c.is_empty.ensures.1 e) ∙ c.if-is_empty.false), refl);
+    }
+
+pub returns-clause-did : goal.returns-clause-did
+returns-clause-did g c = one (λ ok. Filling g.P.Filler.fills) (c.args.filler.now, c.args.home.now) (c.row.new.self, c.row.new.home) c.row.ensures.did

@@ -1,0 +1,130 @@
+-- The static row that stands below is the source's.
+use Rattle.std.specs.Prelude.{◌≡◌}
+use Rattle.std.proofs.Common.{true, false, refl, sym, ap, ◌∙◌, subst}
+use Rattle.rc_mutation.specs.declared.fragments.Head.{Head}
+use Rattle.rc_stream.specs.Did.{OfHead}
+use Rattle.rc_stream.specs.Stream.{Stream}
+use Rattle.rc_cacheread.specs.Did.{OneCall}
+use Rattle.rc_cacheread.specs.Sharing.{IsWhole, of_below, of_filler, of_known}
+use Rattle.rc_cacheread.specs.Spots.{stand}
+use Rattle.rc_cacheread.proofs.Chains.{chain-one, many-many, one}
+use Rattle.rc_cacheread.proofs.Leaving.{fills-left, kept-kept}
+use Rattle.rc_cacheread.proofs.Lists.{untrue}
+use Rattle.rc_cacheread.proofs.Orders.{reach-itself}
+use Rattle.rc_cacheread.proofs.Outcomes.{carries-same}
+use Rattle.rc_cacheread.proofs.Stepping.{below-call, fill-calls, led, reader_of, ready-on, said, sees-still}
+use Rattle.rc_cacheread.proofs.readers.head_below.Goals as goal
+
+pub statics-requires-clause-ready : goal.statics-requires-clause-ready
+statics-requires-clause-ready g c =
+    let kn = (of_known g.K.Known.ready g.K.Known.place g.K.Known.knows g.K.Known.heads g.K.Known.did) in
+    let be = (of_below g.F.Frags.ready g.F.Frags.seen g.F.Frags.ahead g.F.Frags.moves g.F.Frags.did) in
+    let fi = (of_filler g.P.Filler.ready g.P.Filler.fits g.P.Filler.may g.P.Filler.lost g.P.Filler.source g.P.Filler.knows g.P.Filler.statics_are g.P.Filler.knows_statics g.P.Filler.fills) in
+    let r = c.args.reader.now in
+    let h = c.args.home.now in
+    let w = c.args.store.now in
+    (c.requires.ready.shares.after_below r.known r.below c.head.new.self r.filler h w c.head.new.home c.head.new.store c.requires.ready.fit c.in-Ok.ensures.moves c.in-Ok.ensures.ready).0.filler
+
+pub statics-requires-clause-source : goal.statics-requires-clause-source
+statics-requires-clause-source g c =
+    let kn = (of_known g.K.Known.ready g.K.Known.place g.K.Known.knows g.K.Known.heads g.K.Known.did) in
+    let be = (of_below g.F.Frags.ready g.F.Frags.seen g.F.Frags.ahead g.F.Frags.moves g.F.Frags.did) in
+    let fi = (of_filler g.P.Filler.ready g.P.Filler.fits g.P.Filler.may g.P.Filler.lost g.P.Filler.source g.P.Filler.knows g.P.Filler.statics_are g.P.Filler.knows_statics g.P.Filler.fills) in
+    let r = c.args.reader.now in
+    let h = c.args.home.now in
+    let w = c.args.store.now in
+    let none = (λ (v : IsWhole (kn.knows r.known h) (kn.heads r.known h) (stand r.spot) r.to). untrue (sym (v.head c.args.at c.requires.head) ∙ c.requires.unknown)) in
+    let after = c.requires.ready.shares.after_below r.known r.below c.head.new.self r.filler h w c.head.new.home c.head.new.store c.requires.ready.fit c.in-Ok.ensures.moves c.in-Ok.ensures.ready in
+    (after.1.statics c.in-Ok.head.statics).0 ((led kn be fi r h w c.requires.ready none).static_row c.in-Ok.head.statics (λ t s f. ap (λ (x : Head). x.statics) (c.in-Ok.ensures.head t s)))
+
+pub returns-in-Ok-clause-head : goal.returns-in-Ok-clause-head
+returns-in-Ok-clause-head g c = λ s d.
+    let kn = (of_known g.K.Known.ready g.K.Known.place g.K.Known.knows g.K.Known.heads g.K.Known.did) in
+    let be = (of_below g.F.Frags.ready g.F.Frags.seen g.F.Frags.ahead g.F.Frags.moves g.F.Frags.did) in
+    let fi = (of_filler g.P.Filler.ready g.P.Filler.fits g.P.Filler.may g.P.Filler.lost g.P.Filler.source g.P.Filler.knows g.P.Filler.statics_are g.P.Filler.knows_statics g.P.Filler.fills) in
+    let r = c.args.reader.now in
+    let h = c.args.home.now in
+    let w = c.args.store.now in
+    let none = (λ (v : IsWhole (kn.knows r.known h) (kn.heads r.known h) (stand r.spot) r.to). untrue (sym (v.head c.args.at c.requires.head) ∙ c.requires.unknown)) in
+    let t = said kn be fi r h w s d none in
+    let row = ap (λ (x : Head). x.statics) (c.in-Ok.ensures.head t.stream t.stands) ∙ t.static_row in
+    let pt = d.pt c.args.at c.requires.head in
+    λ i. record { pt = pt i; statics = row i }
+
+pub returns-in-Ok-clause-seen : goal.returns-in-Ok-clause-seen
+returns-in-Ok-clause-seen g c = λ s d.
+    let kn = (of_known g.K.Known.ready g.K.Known.place g.K.Known.knows g.K.Known.heads g.K.Known.did) in
+    let be = (of_below g.F.Frags.ready g.F.Frags.seen g.F.Frags.ahead g.F.Frags.moves g.F.Frags.did) in
+    let fi = (of_filler g.P.Filler.ready g.P.Filler.fits g.P.Filler.may g.P.Filler.lost g.P.Filler.source g.P.Filler.knows g.P.Filler.statics_are g.P.Filler.knows_statics g.P.Filler.fills) in
+    let r = c.args.reader.now in
+    let h = c.args.home.now in
+    let w = c.args.store.now in
+    let none = (λ (v : IsWhole (kn.knows r.known h) (kn.heads r.known h) (stand r.spot) r.to). untrue (sym (v.head c.args.at c.requires.head) ∙ c.requires.unknown)) in
+    let after = c.requires.ready.shares.after_below r.known r.below c.head.new.self r.filler h w c.head.new.home c.head.new.store c.requires.ready.fit c.in-Ok.ensures.moves c.in-Ok.ensures.ready in
+    let filled = fills-left kn be fi c.requires.ready.shares r.known c.head.new.self c.head.new.store (r.filler, c.head.new.home) (c.statics.new.self, c.statics.new.home) (1, ((c.statics.new.self, c.statics.new.home), c.statics.ensures.did, refl)) after.0 in
+    let kept = kept-kept kn be fi r.known r.known r.known r.filler r.filler c.statics.new.self h c.head.new.home c.statics.new.home after.1 filled.kept in
+    let n = reader_of r.known c.head.new.self c.statics.new.self r.to r.spot r.stage r.lags in
+    let seen : (t : Stream) → be.seen r.below h w t → be.seen c.head.new.self c.statics.new.home c.head.new.store t = λ t s. filled.seen t (c.in-Ok.ensures.seen t s) in
+    sees-still kn be fi r n h c.statics.new.home w c.head.new.store s kept refl refl refl none seen d
+
+pub returns-in-Ok-clause-calls : goal.returns-in-Ok-clause-calls
+returns-in-Ok-clause-calls g c =
+    let kn = (of_known g.K.Known.ready g.K.Known.place g.K.Known.knows g.K.Known.heads g.K.Known.did) in
+    let be = (of_below g.F.Frags.ready g.F.Frags.seen g.F.Frags.ahead g.F.Frags.moves g.F.Frags.did) in
+    let fi = (of_filler g.P.Filler.ready g.P.Filler.fits g.P.Filler.may g.P.Filler.lost g.P.Filler.source g.P.Filler.knows g.P.Filler.statics_are g.P.Filler.knows_statics g.P.Filler.fills) in
+    let r = c.args.reader.now in
+    let h = c.args.home.now in
+    let w = c.args.store.now in
+    many-many (OneCall kn be fi OfHead) (r.known, r.below, r.filler, h, w) (r.known, c.head.new.self, r.filler, c.head.new.home, c.head.new.store) (r.known, c.head.new.self, c.statics.new.self, c.statics.new.home, c.head.new.store)
+    (one (OneCall kn be fi OfHead) (r.known, r.below, r.filler, h, w) (r.known, c.head.new.self, r.filler, c.head.new.home, c.head.new.store) (below-call kn be fi OfHead r.known r.filler true r.below c.head.new.self h c.head.new.home w c.head.new.store OfHead refl c.in-Ok.ensures.did))
+    (fill-calls kn be fi OfHead r.known c.head.new.self c.head.new.store r.filler c.statics.new.self c.head.new.home c.statics.new.home (1, ((c.statics.new.self, c.statics.new.home), c.statics.ensures.did, refl)))
+
+pub returns-in-Ok-clause-ready : goal.returns-in-Ok-clause-ready
+returns-in-Ok-clause-ready g c =
+    let kn = (of_known g.K.Known.ready g.K.Known.place g.K.Known.knows g.K.Known.heads g.K.Known.did) in
+    let be = (of_below g.F.Frags.ready g.F.Frags.seen g.F.Frags.ahead g.F.Frags.moves g.F.Frags.did) in
+    let fi = (of_filler g.P.Filler.ready g.P.Filler.fits g.P.Filler.may g.P.Filler.lost g.P.Filler.source g.P.Filler.knows g.P.Filler.statics_are g.P.Filler.knows_statics g.P.Filler.fills) in
+    let r = c.args.reader.now in
+    let h = c.args.home.now in
+    let w = c.args.store.now in
+    let none = (λ (v : IsWhole (kn.knows r.known h) (kn.heads r.known h) (stand r.spot) r.to). untrue (sym (v.head c.args.at c.requires.head) ∙ c.requires.unknown)) in
+    let after = c.requires.ready.shares.after_below r.known r.below c.head.new.self r.filler h w c.head.new.home c.head.new.store c.requires.ready.fit c.in-Ok.ensures.moves c.in-Ok.ensures.ready in
+    let filled = fills-left kn be fi c.requires.ready.shares r.known c.head.new.self c.head.new.store (r.filler, c.head.new.home) (c.statics.new.self, c.statics.new.home) (1, ((c.statics.new.self, c.statics.new.home), c.statics.ensures.did, refl)) after.0 in
+    let kept = kept-kept kn be fi r.known r.known r.known r.filler r.filler c.statics.new.self h c.head.new.home c.statics.new.home after.1 filled.kept in
+    let n = reader_of r.known c.head.new.self c.statics.new.self r.to r.spot r.stage r.lags in
+    let seen : (t : Stream) → be.seen r.below h w t → be.seen c.head.new.self c.statics.new.home c.head.new.store t = λ t s. filled.seen t (c.in-Ok.ensures.seen t s) in
+    ready-on kn be fi r n h c.statics.new.home w c.head.new.store c.requires.ready.shares filled.fit kept (led kn be fi r h w c.requires.ready none) (carries-same (be.seen r.below h w) (be.seen c.head.new.self c.statics.new.home c.head.new.store) r.stage (stand r.spot) r.spot.tomb seen) (reach-itself (stand r.spot)) refl (λ x on. c.in-Ok.ensures.ahead x (c.requires.ready.ahead x on)) c.requires.ready.place
+
+pub returns-clause-seen : goal.returns-clause-seen
+returns-clause-seen g c = λ s d.
+    let kn = (of_known g.K.Known.ready g.K.Known.place g.K.Known.knows g.K.Known.heads g.K.Known.did) in
+    let be = (of_below g.F.Frags.ready g.F.Frags.seen g.F.Frags.ahead g.F.Frags.moves g.F.Frags.did) in
+    let fi = (of_filler g.P.Filler.ready g.P.Filler.fits g.P.Filler.may g.P.Filler.lost g.P.Filler.source g.P.Filler.knows g.P.Filler.statics_are g.P.Filler.knows_statics g.P.Filler.fills) in
+    let r = c.args.reader.now in
+    let h = c.args.home.now in
+    let w = c.args.store.now in
+    let none = (λ (v : IsWhole (kn.knows r.known h) (kn.heads r.known h) (stand r.spot) r.to). untrue (sym (v.head c.args.at c.requires.head) ∙ c.requires.unknown)) in
+    let after = c.requires.ready.shares.after_below r.known r.below c.head.new.self r.filler h w c.head.new.home c.head.new.store c.requires.ready.fit c.in-Err.ensures.moves c.in-Err.ensures.ready in
+    sees-still kn be fi r (reader_of r.known c.head.new.self r.filler r.to r.spot r.stage r.lags) h c.head.new.home w c.head.new.store s after.1 refl refl refl none c.in-Err.ensures.seen d
+
+pub returns-clause-calls : goal.returns-clause-calls
+returns-clause-calls g c =
+    let kn = (of_known g.K.Known.ready g.K.Known.place g.K.Known.knows g.K.Known.heads g.K.Known.did) in
+    let be = (of_below g.F.Frags.ready g.F.Frags.seen g.F.Frags.ahead g.F.Frags.moves g.F.Frags.did) in
+    let fi = (of_filler g.P.Filler.ready g.P.Filler.fits g.P.Filler.may g.P.Filler.lost g.P.Filler.source g.P.Filler.knows g.P.Filler.statics_are g.P.Filler.knows_statics g.P.Filler.fills) in
+    let r = c.args.reader.now in
+    let h = c.args.home.now in
+    let w = c.args.store.now in
+    chain-one (OneCall kn be fi OfHead) false (r.known, r.below, r.filler, h, w) (r.known, c.head.new.self, r.filler, c.head.new.home, c.head.new.store) (below-call kn be fi OfHead r.known r.filler false r.below c.head.new.self h c.head.new.home w c.head.new.store OfHead refl c.in-Err.ensures.did)
+
+pub returns-clause-ready : goal.returns-clause-ready
+returns-clause-ready g c =
+    let kn = (of_known g.K.Known.ready g.K.Known.place g.K.Known.knows g.K.Known.heads g.K.Known.did) in
+    let be = (of_below g.F.Frags.ready g.F.Frags.seen g.F.Frags.ahead g.F.Frags.moves g.F.Frags.did) in
+    let fi = (of_filler g.P.Filler.ready g.P.Filler.fits g.P.Filler.may g.P.Filler.lost g.P.Filler.source g.P.Filler.knows g.P.Filler.statics_are g.P.Filler.knows_statics g.P.Filler.fills) in
+    let r = c.args.reader.now in
+    let h = c.args.home.now in
+    let w = c.args.store.now in
+    let none = (λ (v : IsWhole (kn.knows r.known h) (kn.heads r.known h) (stand r.spot) r.to). untrue (sym (v.head c.args.at c.requires.head) ∙ c.requires.unknown)) in
+    let after = c.requires.ready.shares.after_below r.known r.below c.head.new.self r.filler h w c.head.new.home c.head.new.store c.requires.ready.fit c.in-Err.ensures.moves c.in-Err.ensures.ready in
+    ready-on kn be fi r (reader_of r.known c.head.new.self r.filler r.to r.spot r.stage r.lags) h c.head.new.home w c.head.new.store c.requires.ready.shares after.0 after.1 (led kn be fi r h w c.requires.ready none) (carries-same (be.seen r.below h w) (be.seen c.head.new.self c.head.new.home c.head.new.store) r.stage (stand r.spot) r.spot.tomb c.in-Err.ensures.seen) (reach-itself (stand r.spot)) refl (λ x on. c.in-Err.ensures.ahead x (c.requires.ready.ahead x on)) c.requires.ready.place

@@ -1,0 +1,178 @@
+-- What was due was given, or more was read.
+use Rattle.std.specs.Prelude.{◌≡◌}
+use Rattle.std.proofs.Common.{Some, true, false, refl, sym, ap, ◌∙◌, subst}
+use Rattle.rc_stream.specs.Did.{OfNext, answered}
+use Rattle.rc_stream.specs.Places.{Reaches}
+use Rattle.rc_stream.specs.Stream.{took}
+use Rattle.rc_mutation.specs.Fragments.{tomb_after}
+use Rattle.rc_cacheread.specs.declared.spots.Turn.TheVariants as turn
+use Rattle.rc_cacheread.specs.Did.{IsKnownFor, KnownStep, OneCall}
+use Rattle.rc_cacheread.specs.Sharing.{of_below, of_filler, of_known}
+use Rattle.rc_cacheread.specs.Spots.{Gives, stand, told_of}
+use Rattle.rc_cacheread.proofs.Chains.{chain-none}
+use Rattle.rc_cacheread.proofs.Idle.{idle-stand}
+use Rattle.rc_cacheread.proofs.Orders.{reach-itself}
+use Rattle.rc_cacheread.proofs.Stepping.{end-reaches, ends-on, reader_of}
+use Rattle.rc_cacheread.proofs.Turning.{first-left, nothing-left, ready-alike, ready-closed, sees-alike, sees-at, sees-closed, still-known}
+use Rattle.rc_cacheread.proofs.readers.round.Goals as goal
+
+pub returns-in-Ok-Given-clause-says : goal.returns-in-Ok-Given-clause-says
+returns-in-Ok-Given-clause-says g c = λ s d.
+    let kn = (of_known g.K.Known.ready g.K.Known.place g.K.Known.knows g.K.Known.heads g.K.Known.did) in
+    let be = (of_below g.F.Frags.ready g.F.Frags.seen g.F.Frags.ahead g.F.Frags.moves g.F.Frags.did) in
+    let fi = (of_filler g.P.Filler.ready g.P.Filler.fits g.P.Filler.may g.P.Filler.lost g.P.Filler.source g.P.Filler.knows g.P.Filler.statics_are g.P.Filler.knows_statics g.P.Filler.fills) in
+    let r = c.args.reader.now in
+    let h = c.args.home.now in
+    let w = c.args.store.now in
+    let e : Gives r.to c.args.upto.now r.spot c.give.new.self (turn.Given c.in-Ok-Given.frag) = subst (Gives r.to c.args.upto.now r.spot c.give.new.self) c.in-Ok-Given.field-0-is c.in-Ok-Given.ensures.ok in
+    let l = first-left c.args.upto.now c.in-Ok-Given.frag s.left d.rest (d.left) e.0 e.1 in
+    (sees-at kn be fi r c.give.new.self h w e.3 e.4 s (took (Some c.in-Ok-Given.frag) s) d refl (ap (λ t. tomb_after t c.in-Ok-Given.frag) d.tomb ∙ sym e.2) l.1, l.0)
+
+pub returns-in-Ok-Nothing-clause-says : goal.returns-in-Ok-Nothing-clause-says
+returns-in-Ok-Nothing-clause-says g c = λ s d.
+    let kn = (of_known g.K.Known.ready g.K.Known.place g.K.Known.knows g.K.Known.heads g.K.Known.did) in
+    let be = (of_below g.F.Frags.ready g.F.Frags.seen g.F.Frags.ahead g.F.Frags.moves g.F.Frags.did) in
+    let fi = (of_filler g.P.Filler.ready g.P.Filler.fits g.P.Filler.may g.P.Filler.lost g.P.Filler.source g.P.Filler.knows g.P.Filler.statics_are g.P.Filler.knows_statics g.P.Filler.fills) in
+    let r = c.args.reader.now in
+    let h = c.args.home.now in
+    let w = c.args.store.now in
+    let e : Gives r.to c.args.upto.now r.spot c.give.new.self turn.Nothing = subst (Gives r.to c.args.upto.now r.spot c.give.new.self) c.in-Ok-Nothing.field-0-is c.in-Ok-Nothing.ensures.ok in
+    let n = sees-alike kn be fi r c.give.new.self h w s e.0 d in
+    (n, nothing-left kn be fi (reader_of r.known r.below r.filler r.to c.give.new.self r.stage r.lags) h w c.args.upto.now s e.1 n)
+
+pub returns-in-Ok-Nothing-clause-ready : goal.returns-in-Ok-Nothing-clause-ready
+returns-in-Ok-Nothing-clause-ready g c =
+    let kn = (of_known g.K.Known.ready g.K.Known.place g.K.Known.knows g.K.Known.heads g.K.Known.did) in
+    let be = (of_below g.F.Frags.ready g.F.Frags.seen g.F.Frags.ahead g.F.Frags.moves g.F.Frags.did) in
+    let fi = (of_filler g.P.Filler.ready g.P.Filler.fits g.P.Filler.may g.P.Filler.lost g.P.Filler.source g.P.Filler.knows g.P.Filler.statics_are g.P.Filler.knows_statics g.P.Filler.fills) in
+    let r = c.args.reader.now in
+    let h = c.args.home.now in
+    let w = c.args.store.now in
+    let e : Gives r.to c.args.upto.now r.spot c.give.new.self turn.Nothing = subst (Gives r.to c.args.upto.now r.spot c.give.new.self) c.in-Ok-Nothing.field-0-is c.in-Ok-Nothing.ensures.ok in
+    ready-alike kn be fi r c.give.new.self h w e.0.from e.0.tomb c.requires.ready
+
+pub returns-in-Ok-Closed-clause-says : goal.returns-in-Ok-Closed-clause-says
+returns-in-Ok-Closed-clause-says g c = λ s d.
+    let kn = (of_known g.K.Known.ready g.K.Known.place g.K.Known.knows g.K.Known.heads g.K.Known.did) in
+    let be = (of_below g.F.Frags.ready g.F.Frags.seen g.F.Frags.ahead g.F.Frags.moves g.F.Frags.did) in
+    let fi = (of_filler g.P.Filler.ready g.P.Filler.fits g.P.Filler.may g.P.Filler.lost g.P.Filler.source g.P.Filler.knows g.P.Filler.statics_are g.P.Filler.knows_statics g.P.Filler.fills) in
+    let r = c.args.reader.now in
+    let h = c.args.home.now in
+    let w = c.args.store.now in
+    let e : Gives r.to c.args.upto.now r.spot c.give.new.self turn.Closed = subst (Gives r.to c.args.upto.now r.spot c.give.new.self) c.in-Ok-Closed.field-0-is c.in-Ok-Closed.ensures.ok in
+    sees-closed kn be fi r c.give.new.self h w e s d
+
+pub returns-in-Ok-Closed-clause-ready : goal.returns-in-Ok-Closed-clause-ready
+returns-in-Ok-Closed-clause-ready g c =
+    let kn = (of_known g.K.Known.ready g.K.Known.place g.K.Known.knows g.K.Known.heads g.K.Known.did) in
+    let be = (of_below g.F.Frags.ready g.F.Frags.seen g.F.Frags.ahead g.F.Frags.moves g.F.Frags.did) in
+    let fi = (of_filler g.P.Filler.ready g.P.Filler.fits g.P.Filler.may g.P.Filler.lost g.P.Filler.source g.P.Filler.knows g.P.Filler.statics_are g.P.Filler.knows_statics g.P.Filler.fills) in
+    let r = c.args.reader.now in
+    let h = c.args.home.now in
+    let w = c.args.store.now in
+    let e : Gives r.to c.args.upto.now r.spot c.give.new.self turn.Closed = subst (Gives r.to c.args.upto.now r.spot c.give.new.self) c.in-Ok-Closed.field-0-is c.in-Ok-Closed.ensures.ok in
+    ready-closed kn be fi r c.give.new.self h w e c.requires.ready
+
+pub read_part-requires-clause-ready : goal.read_part-requires-clause-ready
+read_part-requires-clause-ready g c =
+    let kn = (of_known g.K.Known.ready g.K.Known.place g.K.Known.knows g.K.Known.heads g.K.Known.did) in
+    let be = (of_below g.F.Frags.ready g.F.Frags.seen g.F.Frags.ahead g.F.Frags.moves g.F.Frags.did) in
+    let fi = (of_filler g.P.Filler.ready g.P.Filler.fits g.P.Filler.may g.P.Filler.lost g.P.Filler.source g.P.Filler.knows g.P.Filler.statics_are g.P.Filler.knows_statics g.P.Filler.fills) in
+    let r = c.args.reader.now in
+    let h = c.args.home.now in
+    let w = c.args.store.now in
+    let e : Gives r.to c.args.upto.now r.spot c.give.new.self turn.Unread = subst (Gives r.to c.args.upto.now r.spot c.give.new.self) c.in-Ok-Unread.field-0-is c.in-Ok-Unread.ensures.ok in
+    ready-alike kn be fi r c.give.new.self h w e.0.from e.0.tomb c.requires.ready
+
+pub returns-in-Ok-Unread-clause-says : goal.returns-in-Ok-Unread-clause-says
+returns-in-Ok-Unread-clause-says g c = λ s d.
+    let kn = (of_known g.K.Known.ready g.K.Known.place g.K.Known.knows g.K.Known.heads g.K.Known.did) in
+    let be = (of_below g.F.Frags.ready g.F.Frags.seen g.F.Frags.ahead g.F.Frags.moves g.F.Frags.did) in
+    let fi = (of_filler g.P.Filler.ready g.P.Filler.fits g.P.Filler.may g.P.Filler.lost g.P.Filler.source g.P.Filler.knows g.P.Filler.statics_are g.P.Filler.knows_statics g.P.Filler.fills) in
+    let r = c.args.reader.now in
+    let h = c.args.home.now in
+    let w = c.args.store.now in
+    let e : Gives r.to c.args.upto.now r.spot c.give.new.self turn.Unread = subst (Gives r.to c.args.upto.now r.spot c.give.new.self) c.in-Ok-Unread.field-0-is c.in-Ok-Unread.ensures.ok in
+    c.read_part.ensures.says s (sees-alike kn be fi r c.give.new.self h w s e.0 d)
+
+pub returns-in-Ok-Given-clause-did : goal.returns-in-Ok-Given-clause-did
+returns-in-Ok-Given-clause-did g c = λ y covers.
+    let kn = (of_known g.K.Known.ready g.K.Known.place g.K.Known.knows g.K.Known.heads g.K.Known.did) in
+    let be = (of_below g.F.Frags.ready g.F.Frags.seen g.F.Frags.ahead g.F.Frags.moves g.F.Frags.did) in
+    let fi = (of_filler g.P.Filler.ready g.P.Filler.fits g.P.Filler.may g.P.Filler.lost g.P.Filler.source g.P.Filler.knows g.P.Filler.statics_are g.P.Filler.knows_statics g.P.Filler.fills) in
+    let r = c.args.reader.now in
+    let h = c.args.home.now in
+    let w = c.args.store.now in
+    let e : Gives r.to c.args.upto.now r.spot c.give.new.self (turn.Given c.in-Ok-Given.frag) = subst (Gives r.to c.args.upto.now r.spot c.give.new.self) c.in-Ok-Given.field-0-is c.in-Ok-Given.ensures.ok in
+    record {
+      calls = chain-none (OneCall kn be fi (OfNext y)) true (r.known, r.below, r.filler, h, w);
+      on = subst (Reaches (stand r.spot)) (sym e.3) (reach-itself (stand r.spot));
+      quiet = λ q. ((chain-none (KnownStep kn.did) true (r.known, h), refl, refl, refl), subst (λ x. IsKnownFor (OfNext y) (kn.knows r.known h) (kn.heads r.known h) x r.to) (sym e.3) q);
+    }
+
+pub returns-in-Ok-Nothing-clause-did : goal.returns-in-Ok-Nothing-clause-did
+returns-in-Ok-Nothing-clause-did g c = λ y covers.
+    let kn = (of_known g.K.Known.ready g.K.Known.place g.K.Known.knows g.K.Known.heads g.K.Known.did) in
+    let be = (of_below g.F.Frags.ready g.F.Frags.seen g.F.Frags.ahead g.F.Frags.moves g.F.Frags.did) in
+    let fi = (of_filler g.P.Filler.ready g.P.Filler.fits g.P.Filler.may g.P.Filler.lost g.P.Filler.source g.P.Filler.knows g.P.Filler.statics_are g.P.Filler.knows_statics g.P.Filler.fills) in
+    let r = c.args.reader.now in
+    let h = c.args.home.now in
+    let w = c.args.store.now in
+    let e : Gives r.to c.args.upto.now r.spot c.give.new.self turn.Nothing = subst (Gives r.to c.args.upto.now r.spot c.give.new.self) c.in-Ok-Nothing.field-0-is c.in-Ok-Nothing.ensures.ok in
+    record {
+      calls = chain-none (OneCall kn be fi (OfNext y)) true (r.known, r.below, r.filler, h, w);
+      on = subst (Reaches (stand r.spot)) (sym e.0.from) (reach-itself (stand r.spot));
+      quiet = λ q. ((chain-none (KnownStep kn.did) true (r.known, h), refl, refl, refl), subst (λ x. IsKnownFor (OfNext y) (kn.knows r.known h) (kn.heads r.known h) x r.to) (sym e.0.from) q);
+    }
+
+pub returns-in-Ok-Closed-clause-did : goal.returns-in-Ok-Closed-clause-did
+returns-in-Ok-Closed-clause-did g c = λ y covers.
+    let kn = (of_known g.K.Known.ready g.K.Known.place g.K.Known.knows g.K.Known.heads g.K.Known.did) in
+    let be = (of_below g.F.Frags.ready g.F.Frags.seen g.F.Frags.ahead g.F.Frags.moves g.F.Frags.did) in
+    let fi = (of_filler g.P.Filler.ready g.P.Filler.fits g.P.Filler.may g.P.Filler.lost g.P.Filler.source g.P.Filler.knows g.P.Filler.statics_are g.P.Filler.knows_statics g.P.Filler.fills) in
+    let r = c.args.reader.now in
+    let h = c.args.home.now in
+    let w = c.args.store.now in
+    let e : Gives r.to c.args.upto.now r.spot c.give.new.self turn.Closed = subst (Gives r.to c.args.upto.now r.spot c.give.new.self) c.in-Ok-Closed.field-0-is c.in-Ok-Closed.ensures.ok in
+    record {
+      calls = chain-none (OneCall kn be fi (OfNext y)) true (r.known, r.below, r.filler, h, w);
+      on = subst (Reaches (stand r.spot)) (sym e.2) (reach-itself (stand r.spot));
+      quiet = λ q. ((chain-none (KnownStep kn.did) true (r.known, h), refl, refl, refl), subst (λ x. IsKnownFor (OfNext y) (kn.knows r.known h) (kn.heads r.known h) x r.to) (sym e.2) q);
+    }
+
+pub returns-in-Ok-Unread-clause-did : goal.returns-in-Ok-Unread-clause-did
+returns-in-Ok-Unread-clause-did g c = λ y covers.
+    let kn = (of_known g.K.Known.ready g.K.Known.place g.K.Known.knows g.K.Known.heads g.K.Known.did) in
+    let be = (of_below g.F.Frags.ready g.F.Frags.seen g.F.Frags.ahead g.F.Frags.moves g.F.Frags.did) in
+    let fi = (of_filler g.P.Filler.ready g.P.Filler.fits g.P.Filler.may g.P.Filler.lost g.P.Filler.source g.P.Filler.knows g.P.Filler.statics_are g.P.Filler.knows_statics g.P.Filler.fills) in
+    let r = c.args.reader.now in
+    let h = c.args.home.now in
+    let w = c.args.store.now in
+    let e : Gives r.to c.args.upto.now r.spot c.give.new.self turn.Unread = subst (Gives r.to c.args.upto.now r.spot c.give.new.self) c.in-Ok-Unread.field-0-is c.in-Ok-Unread.ensures.ok in
+    let n = reader_of r.known r.below r.filler r.to c.give.new.self r.stage r.lags in
+    let now = ends-on kn be fi r n h h w w c.args.upto.now y (λ s d. sees-alike kn be fi r c.give.new.self h w s e.0 d) covers in
+    let place = n.spot.place in
+    let k = sym (idle-stand n.spot e.1) ∙ e.0.from in
+    let on = subst (λ x. Reaches x (stand c.read_part.new.reader.spot)) e.0.from c.read_part.ensures.on in
+    record {
+      calls = c.read_part.ensures.did y now;
+      on = on;
+      quiet = λ q.
+          let v = q place (subst (λ z. Reaches (stand r.spot) z) (sym k) (reach-itself (stand r.spot))) (end-reaches kn be fi n h w c.args.upto.now y e.1 e.2 now) e.3 in
+          (c.read_part.ensures.quiet v.0 v.1, still-known y (kn.knows r.known h) (kn.knows c.read_part.new.reader.known c.read_part.new.home) (kn.heads r.known h) (kn.heads c.read_part.new.reader.known c.read_part.new.home) (stand r.spot) (stand c.read_part.new.reader.spot) r.to c.read_part.new.reader.to on (sym c.read_part.ensures.to) (c.read_part.ensures.keeps v.0 v.1) q);
+    }
+
+pub returns-in-Err-clause-did : goal.returns-in-Err-clause-did
+returns-in-Err-clause-did g c = λ y covers.
+    let kn = (of_known g.K.Known.ready g.K.Known.place g.K.Known.knows g.K.Known.heads g.K.Known.did) in
+    let be = (of_below g.F.Frags.ready g.F.Frags.seen g.F.Frags.ahead g.F.Frags.moves g.F.Frags.did) in
+    let fi = (of_filler g.P.Filler.ready g.P.Filler.fits g.P.Filler.may g.P.Filler.lost g.P.Filler.source g.P.Filler.knows g.P.Filler.statics_are g.P.Filler.knows_statics g.P.Filler.fills) in
+    let r = c.args.reader.now in
+    let h = c.args.home.now in
+    let w = c.args.store.now in
+    let same : c.give.new.self ≡ r.spot = c.in-Err.ensures.err in
+    record {
+      calls = chain-none (OneCall kn be fi (OfNext y)) false (r.known, r.below, r.filler, h, w);
+      on = subst (λ s. Reaches (stand r.spot) (stand s)) (sym same) (reach-itself (stand r.spot));
+      quiet = λ q. ((chain-none (KnownStep kn.did) false (r.known, h), refl, refl, refl), subst (λ s. IsKnownFor (OfNext y) (kn.knows r.known h) (kn.heads r.known h) (stand s) r.to) (sym same) q);
+    }

@@ -1,0 +1,170 @@
+-- The head of the snapshot, or that with the static row below.
+use Rattle.std.specs.Prelude.{◌≡◌}
+use Rattle.std.proofs.Common.{true, false, refl, sym, ap, ◌∙◌, subst}
+use Rattle.rc_stream.specs.Did.{OfHead, answered}
+use Rattle.rc_stream.specs.Places.{Reaches}
+use Rattle.rc_cacheread.specs.Did.{KnownStep, OneCall, state}
+use Rattle.rc_cacheread.specs.Sharing.{IsAt, of_below, of_filler, of_known}
+use Rattle.rc_cacheread.specs.Spots.{stand}
+use Rattle.rc_cacheread.proofs.Chains.{chain-after, chain-one}
+use Rattle.rc_cacheread.proofs.Leaving.{known-left}
+use Rattle.rc_cacheread.proofs.Lists.{untrue}
+use Rattle.rc_cacheread.proofs.Orders.{reach-itself}
+use Rattle.rc_cacheread.proofs.Outcomes.{carries-same}
+use Rattle.rc_cacheread.proofs.Parting.{ready-known, sees-known-still}
+use Rattle.rc_cacheread.proofs.Stepping.{known-calls, reader_of}
+use Rattle.rc_cacheread.proofs.readers.whole_head.Goals as goal
+
+pub returns-then-at-clause-head : goal.returns-then-at-clause-head
+returns-then-at-clause-head g c = λ s d.
+    let a = c.in-Ok.at in
+    let pt = d.pt a c.in-Ok.ensures.head in
+    let row = d.static_row a.head.statics (c.requires.ready.fit.sound_statics a c.in-Ok.ensures.head c.if-at.true) in
+    λ i. record { pt = pt i; statics = row i }
+
+pub returns-then-at-clause-seen : goal.returns-then-at-clause-seen
+returns-then-at-clause-seen g c = λ s d.
+    let kn = (of_known g.K.Known.ready g.K.Known.place g.K.Known.knows g.K.Known.heads g.K.Known.did) in
+    let be = (of_below g.F.Frags.ready g.F.Frags.seen g.F.Frags.ahead g.F.Frags.moves g.F.Frags.did) in
+    let fi = (of_filler g.P.Filler.ready g.P.Filler.fits g.P.Filler.may g.P.Filler.lost g.P.Filler.source g.P.Filler.knows g.P.Filler.statics_are g.P.Filler.knows_statics g.P.Filler.fills) in
+    let r = c.args.reader.now in
+    let h = c.args.home.now in
+    let w = c.args.store.now in
+    let one = (chain-one (KnownStep kn.did) true (r.known, h) (c.head_known.new.self, c.head_known.new.home) (OfHead, c.in-Ok.ensures.did)) in
+    let left = known-left kn be fi c.requires.ready.shares r.below r.filler w true (r.known, h) (c.head_known.new.self, c.head_known.new.home) one c.requires.ready.fit in
+    sees-known-still kn be fi r c.head_known.new.self r.spot r.stage r.lags h c.head_known.new.home w left c.head_known.ensures.knows (reach-itself (stand r.spot)) (carries-same (be.seen r.below h w) (be.seen r.below c.head_known.new.home w) r.stage (stand r.spot) r.spot.tomb left.seen) refl s d
+
+pub returns-then-at-clause-did : goal.returns-then-at-clause-did
+returns-then-at-clause-did g c =
+    let kn = (of_known g.K.Known.ready g.K.Known.place g.K.Known.knows g.K.Known.heads g.K.Known.did) in
+    let be = (of_below g.F.Frags.ready g.F.Frags.seen g.F.Frags.ahead g.F.Frags.moves g.F.Frags.did) in
+    let fi = (of_filler g.P.Filler.ready g.P.Filler.fits g.P.Filler.may g.P.Filler.lost g.P.Filler.source g.P.Filler.knows g.P.Filler.statics_are g.P.Filler.knows_statics g.P.Filler.fills) in
+    let r = c.args.reader.now in
+    let h = c.args.home.now in
+    let w = c.args.store.now in
+    let one = (chain-one (KnownStep kn.did) true (r.known, h) (c.head_known.new.self, c.head_known.new.home) (OfHead, c.in-Ok.ensures.did)) in
+    let left = known-left kn be fi c.requires.ready.shares r.below r.filler w true (r.known, h) (c.head_known.new.self, c.head_known.new.home) one c.requires.ready.fit in
+    record {
+      calls = known-calls kn be fi OfHead r.below r.filler w true r.known c.head_known.new.self h c.head_known.new.home one;
+      on = reach-itself (stand r.spot);
+      quiet = λ q. ((one, refl, refl, refl), λ a k. q a (left.heads a k));
+    }
+
+pub returns-then-at-clause-ready : goal.returns-then-at-clause-ready
+returns-then-at-clause-ready g c =
+    let kn = (of_known g.K.Known.ready g.K.Known.place g.K.Known.knows g.K.Known.heads g.K.Known.did) in
+    let be = (of_below g.F.Frags.ready g.F.Frags.seen g.F.Frags.ahead g.F.Frags.moves g.F.Frags.did) in
+    let fi = (of_filler g.P.Filler.ready g.P.Filler.fits g.P.Filler.may g.P.Filler.lost g.P.Filler.source g.P.Filler.knows g.P.Filler.statics_are g.P.Filler.knows_statics g.P.Filler.fills) in
+    let r = c.args.reader.now in
+    let h = c.args.home.now in
+    let w = c.args.store.now in
+    let one = (chain-one (KnownStep kn.did) true (r.known, h) (c.head_known.new.self, c.head_known.new.home) (OfHead, c.in-Ok.ensures.did)) in
+    let left = known-left kn be fi c.requires.ready.shares r.below r.filler w true (r.known, h) (c.head_known.new.self, c.head_known.new.home) one c.requires.ready.fit in
+    ready-known kn be fi r c.head_known.new.self r.spot r.stage r.lags h c.head_known.new.home w left c.head_known.ensures.knows (reach-itself (stand r.spot)) (carries-same (be.seen r.below h w) (be.seen r.below c.head_known.new.home w) r.stage (stand r.spot) r.spot.tomb left.seen) c.requires.ready (subst (λ p. IsAt r.lags p (stand r.spot)) (sym c.head_known.ensures.place) c.requires.ready.place)
+
+pub returns-then-at-clause-damage : goal.returns-then-at-clause-damage
+returns-then-at-clause-damage g c = record { named = tt; less = λ file offset d. d }
+
+pub head_below-requires-clause-ready : goal.head_below-requires-clause-ready
+head_below-requires-clause-ready g c =
+    let kn = (of_known g.K.Known.ready g.K.Known.place g.K.Known.knows g.K.Known.heads g.K.Known.did) in
+    let be = (of_below g.F.Frags.ready g.F.Frags.seen g.F.Frags.ahead g.F.Frags.moves g.F.Frags.did) in
+    let fi = (of_filler g.P.Filler.ready g.P.Filler.fits g.P.Filler.may g.P.Filler.lost g.P.Filler.source g.P.Filler.knows g.P.Filler.statics_are g.P.Filler.knows_statics g.P.Filler.fills) in
+    let r = c.args.reader.now in
+    let h = c.args.home.now in
+    let w = c.args.store.now in
+    let one = (chain-one (KnownStep kn.did) true (r.known, h) (c.head_known.new.self, c.head_known.new.home) (OfHead, c.in-Ok.ensures.did)) in
+    let left = known-left kn be fi c.requires.ready.shares r.below r.filler w true (r.known, h) (c.head_known.new.self, c.head_known.new.home) one c.requires.ready.fit in
+    ready-known kn be fi r c.head_known.new.self r.spot r.stage r.lags h c.head_known.new.home w left c.head_known.ensures.knows (reach-itself (stand r.spot)) (carries-same (be.seen r.below h w) (be.seen r.below c.head_known.new.home w) r.stage (stand r.spot) r.spot.tomb left.seen) c.requires.ready (subst (λ p. IsAt r.lags p (stand r.spot)) (sym c.head_known.ensures.place) c.requires.ready.place)
+
+pub head_below-requires-clause-head : goal.head_below-requires-clause-head
+head_below-requires-clause-head g c = c.head_known.ensures.heads c.in-Ok.at c.in-Ok.ensures.head
+
+pub head_below-requires-clause-unknown : goal.head_below-requires-clause-unknown
+head_below-requires-clause-unknown g c = c.if-at.false
+
+pub returns-clause-head : goal.returns-clause-head
+returns-clause-head g c = λ s d.
+    let kn = (of_known g.K.Known.ready g.K.Known.place g.K.Known.knows g.K.Known.heads g.K.Known.did) in
+    let be = (of_below g.F.Frags.ready g.F.Frags.seen g.F.Frags.ahead g.F.Frags.moves g.F.Frags.did) in
+    let fi = (of_filler g.P.Filler.ready g.P.Filler.fits g.P.Filler.may g.P.Filler.lost g.P.Filler.source g.P.Filler.knows g.P.Filler.statics_are g.P.Filler.knows_statics g.P.Filler.fills) in
+    let r = c.args.reader.now in
+    let h = c.args.home.now in
+    let w = c.args.store.now in
+    let one = (chain-one (KnownStep kn.did) true (r.known, h) (c.head_known.new.self, c.head_known.new.home) (OfHead, c.in-Ok.ensures.did)) in
+    let left = known-left kn be fi c.requires.ready.shares r.below r.filler w true (r.known, h) (c.head_known.new.self, c.head_known.new.home) one c.requires.ready.fit in
+    c.head_below.ensures.head s (sees-known-still kn be fi r c.head_known.new.self r.spot r.stage r.lags h c.head_known.new.home w left c.head_known.ensures.knows (reach-itself (stand r.spot)) (carries-same (be.seen r.below h w) (be.seen r.below c.head_known.new.home w) r.stage (stand r.spot) r.spot.tomb left.seen) refl s d)
+
+pub returns-clause-seen : goal.returns-clause-seen
+returns-clause-seen g c = λ s d.
+    let kn = (of_known g.K.Known.ready g.K.Known.place g.K.Known.knows g.K.Known.heads g.K.Known.did) in
+    let be = (of_below g.F.Frags.ready g.F.Frags.seen g.F.Frags.ahead g.F.Frags.moves g.F.Frags.did) in
+    let fi = (of_filler g.P.Filler.ready g.P.Filler.fits g.P.Filler.may g.P.Filler.lost g.P.Filler.source g.P.Filler.knows g.P.Filler.statics_are g.P.Filler.knows_statics g.P.Filler.fills) in
+    let r = c.args.reader.now in
+    let h = c.args.home.now in
+    let w = c.args.store.now in
+    let one = (chain-one (KnownStep kn.did) true (r.known, h) (c.head_known.new.self, c.head_known.new.home) (OfHead, c.in-Ok.ensures.did)) in
+    let left = known-left kn be fi c.requires.ready.shares r.below r.filler w true (r.known, h) (c.head_known.new.self, c.head_known.new.home) one c.requires.ready.fit in
+    c.head_below.ensures.seen s (sees-known-still kn be fi r c.head_known.new.self r.spot r.stage r.lags h c.head_known.new.home w left c.head_known.ensures.knows (reach-itself (stand r.spot)) (carries-same (be.seen r.below h w) (be.seen r.below c.head_known.new.home w) r.stage (stand r.spot) r.spot.tomb left.seen) refl s d)
+
+pub returns-clause-did : goal.returns-clause-did
+returns-clause-did g c =
+    let kn = (of_known g.K.Known.ready g.K.Known.place g.K.Known.knows g.K.Known.heads g.K.Known.did) in
+    let be = (of_below g.F.Frags.ready g.F.Frags.seen g.F.Frags.ahead g.F.Frags.moves g.F.Frags.did) in
+    let fi = (of_filler g.P.Filler.ready g.P.Filler.fits g.P.Filler.may g.P.Filler.lost g.P.Filler.source g.P.Filler.knows g.P.Filler.statics_are g.P.Filler.knows_statics g.P.Filler.fills) in
+    let r = c.args.reader.now in
+    let h = c.args.home.now in
+    let w = c.args.store.now in
+    let one = (chain-one (KnownStep kn.did) true (r.known, h) (c.head_known.new.self, c.head_known.new.home) (OfHead, c.in-Ok.ensures.did)) in
+    let left = known-left kn be fi c.requires.ready.shares r.below r.filler w true (r.known, h) (c.head_known.new.self, c.head_known.new.home) one c.requires.ready.fit in
+    record {
+      calls = chain-after (OneCall kn be fi OfHead) (answered c.head_below.result) (state r h w) (c.head_known.new.self, r.below, r.filler, c.head_known.new.home, w) (state c.head_below.new.reader c.head_below.new.home c.head_below.new.store) (known-calls kn be fi OfHead r.below r.filler w true r.known c.head_known.new.self h c.head_known.new.home one) c.head_below.ensures.calls;
+      on = subst (λ s. Reaches (stand r.spot) (stand s)) (sym c.head_below.ensures.spot) (reach-itself (stand r.spot));
+      quiet = λ q. untrue (sym (q c.in-Ok.at c.in-Ok.ensures.head) ∙ c.if-at.false);
+    }
+
+pub returns-clause-damage : goal.returns-clause-damage
+returns-clause-damage g c = c.head_below.ensures.damage
+
+pub returns-in-Err-clause-seen : goal.returns-in-Err-clause-seen
+returns-in-Err-clause-seen g c = λ s d.
+    let kn = (of_known g.K.Known.ready g.K.Known.place g.K.Known.knows g.K.Known.heads g.K.Known.did) in
+    let be = (of_below g.F.Frags.ready g.F.Frags.seen g.F.Frags.ahead g.F.Frags.moves g.F.Frags.did) in
+    let fi = (of_filler g.P.Filler.ready g.P.Filler.fits g.P.Filler.may g.P.Filler.lost g.P.Filler.source g.P.Filler.knows g.P.Filler.statics_are g.P.Filler.knows_statics g.P.Filler.fills) in
+    let r = c.args.reader.now in
+    let h = c.args.home.now in
+    let w = c.args.store.now in
+    let one = (chain-one (KnownStep kn.did) false (r.known, h) (c.head_known.new.self, c.head_known.new.home) (OfHead, c.in-Err.ensures.did)) in
+    let left = known-left kn be fi c.requires.ready.shares r.below r.filler w false (r.known, h) (c.head_known.new.self, c.head_known.new.home) one c.requires.ready.fit in
+    sees-known-still kn be fi r c.head_known.new.self r.spot r.stage r.lags h c.head_known.new.home w left c.head_known.ensures.knows (reach-itself (stand r.spot)) (carries-same (be.seen r.below h w) (be.seen r.below c.head_known.new.home w) r.stage (stand r.spot) r.spot.tomb left.seen) refl s d
+
+pub returns-in-Err-clause-did : goal.returns-in-Err-clause-did
+returns-in-Err-clause-did g c =
+    let kn = (of_known g.K.Known.ready g.K.Known.place g.K.Known.knows g.K.Known.heads g.K.Known.did) in
+    let be = (of_below g.F.Frags.ready g.F.Frags.seen g.F.Frags.ahead g.F.Frags.moves g.F.Frags.did) in
+    let fi = (of_filler g.P.Filler.ready g.P.Filler.fits g.P.Filler.may g.P.Filler.lost g.P.Filler.source g.P.Filler.knows g.P.Filler.statics_are g.P.Filler.knows_statics g.P.Filler.fills) in
+    let r = c.args.reader.now in
+    let h = c.args.home.now in
+    let w = c.args.store.now in
+    let one = (chain-one (KnownStep kn.did) false (r.known, h) (c.head_known.new.self, c.head_known.new.home) (OfHead, c.in-Err.ensures.did)) in
+    let left = known-left kn be fi c.requires.ready.shares r.below r.filler w false (r.known, h) (c.head_known.new.self, c.head_known.new.home) one c.requires.ready.fit in
+    record {
+      calls = known-calls kn be fi OfHead r.below r.filler w false r.known c.head_known.new.self h c.head_known.new.home one;
+      on = reach-itself (stand r.spot);
+      quiet = λ q. ((one, refl, refl, refl), λ a k. q a (left.heads a k));
+    }
+
+pub returns-in-Err-clause-ready : goal.returns-in-Err-clause-ready
+returns-in-Err-clause-ready g c =
+    let kn = (of_known g.K.Known.ready g.K.Known.place g.K.Known.knows g.K.Known.heads g.K.Known.did) in
+    let be = (of_below g.F.Frags.ready g.F.Frags.seen g.F.Frags.ahead g.F.Frags.moves g.F.Frags.did) in
+    let fi = (of_filler g.P.Filler.ready g.P.Filler.fits g.P.Filler.may g.P.Filler.lost g.P.Filler.source g.P.Filler.knows g.P.Filler.statics_are g.P.Filler.knows_statics g.P.Filler.fills) in
+    let r = c.args.reader.now in
+    let h = c.args.home.now in
+    let w = c.args.store.now in
+    let one = (chain-one (KnownStep kn.did) false (r.known, h) (c.head_known.new.self, c.head_known.new.home) (OfHead, c.in-Err.ensures.did)) in
+    let left = known-left kn be fi c.requires.ready.shares r.below r.filler w false (r.known, h) (c.head_known.new.self, c.head_known.new.home) one c.requires.ready.fit in
+    ready-known kn be fi r c.head_known.new.self r.spot r.stage r.lags h c.head_known.new.home w left c.head_known.ensures.knows (reach-itself (stand r.spot)) (carries-same (be.seen r.below h w) (be.seen r.below c.head_known.new.home w) r.stage (stand r.spot) r.spot.tomb left.seen) c.requires.ready (subst (λ p. IsAt r.lags p (stand r.spot)) (sym c.head_known.ensures.place) c.requires.ready.place)
+
+pub returns-in-Err-clause-damage : goal.returns-in-Err-clause-damage
+returns-in-Err-clause-damage g c = record { named = tt; less = λ file offset d. d }

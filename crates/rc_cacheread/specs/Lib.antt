@@ -1,0 +1,6 @@
+pub mod Below
+pub mod Did
+pub mod Making
+pub mod Reading
+pub mod Sharing
+pub mod Spots
