@@ -4,6 +4,7 @@ use Rattle.std.specs.Prelude.{◌⊎◌, ◌≢◌, Ok}
 use Rattle.std.specs.Cmp.{tied_itself}
 use Rattle.std.specs.declared.cmp.Ordering.TheVariants.{Greater}
 use Rattle.std.specs.Ordering.{is_le, is_lt}
+use Rattle.rc_cell.specs.declared.rows.Row.{Row}
 use Rattle.rc_cell.specs.declared.writes.Tomb.{Tomb}
 use Rattle.rc_cell.specs.Winner.{empty_row}
 use Rattle.rc_position.specs.declared.positions.Pos.{Pos}
@@ -36,7 +37,9 @@ not-passed x y h e = let u : false ≡ true = sym (ap is_le e) ∙ h in cc
 
 module _ (alike : (kind : ChainKind) (versions : List Version) (x bound to : Pos) (tomb : Option Tomb) → IsFirstPart kind versions x bound (part.Gap to tomb) → IsEvenAt kind versions x → (y : Pos) → covers x to y ≡ true → (content (states_at (On y) versions) ≡ (empty_row, tomb)) × IsKnown kind versions y) where
   pub part-seen : (kind : ChainKind) (versions : List Version) (x bound : Pos) (p : Part) → AreReadable kind versions → IsFirstPart kind versions x bound p → IsPartFrom (IsKnownAs kind versions) x bound p
-  part-seen kind versions x bound (part.Row key row tomb) r p = (p.0, r.keys x p.1 (λ e. p.2 (record { inside = before-end x bound p.0; no_row = e })) ∙ ap row_pos (sym p.3), record { known = p.1; there = p.4 })
+  part-seen kind versions x bound (part.Row key row tomb) r p =
+      let filled : (content (states_at (On x) versions)).0 ≢ empty_row = λ e. p.2 (record { inside = before-end x bound p.0; no_row = e }) in
+      (p.0, r.keys x p.1 filled ∙ ap row_pos (sym p.3), record { known = p.1; there = p.4 }, λ e. filled (ap (λ (q : Row × Option Tomb). q.0) p.4 ∙ e))
   part-seen kind versions x bound (part.Gap to tomb) r p = ((p.3.ahead, ends to bound p.3.within), λ y a b. let s = alike kind versions x bound to tomb p (r.even x) y (λ i. a i && is_lt (b i)) in record { known = s.1; there = s.0 })
   part-seen kind versions x bound (part.Missing to) r p = ((p.2.ahead, ends to bound p.2.within), λ v k. p.1 k.known)
   part-seen kind versions x bound part.End r p = p
