@@ -25,12 +25,6 @@ use Rattle.rc_memtable.proofs.Steps.{chain-beside, chain-is, kept-then}
 
 -- ---- no writes
 
-pub has-nothing : (schema : SchemaValue) (m : Memory) → HasWrites schema [] m []
-has-nothing schema m = record { keys = λ key. refl; kept = λ key id e. absurd (no_some id e); apart = λ key other id e. absurd (no_some id e) }
-
-pub nothing-has : (schema : SchemaValue) (m : Memory) (chains : List (List ℕ × ℕ)) → chains ≡ [] → HasWrites schema chains m []
-nothing-has schema m chains none = subst (λ (cs : List (List ℕ × ℕ)). HasWrites schema cs m []) (sym none) (has-nothing schema m)
-
 -- a memtable of no chains stands for no writes, and of some for some
 pub none-written : (schema : SchemaValue) (m : Memory) (writes : List Write) → HasWrites schema [] m writes → writes ≡ []
 none-written schema m [] h = refl

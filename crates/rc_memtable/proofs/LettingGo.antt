@@ -4,8 +4,6 @@ use Rattle.std.specs.Prelude.{IfSome, IsSomeAnd}
 use Rattle.std.specs.Option.{option_map}
 use Rattle.std.specs.Ordering.{eq_by_cmp}
 use Rattle.rc_position.specs.Position.{bytes_cmp}
-use Rattle.rc_schema.specs.SchemaValue.{SchemaValue}
-use Rattle.rc_mutation.specs.declared.mutations.Write.{Write}
 use Rattle.rc_core.specs.declared.entries.ChainKind.TheVariants.{Memtable}
 use Rattle.rc_registry.specs.Registry.{AreFree, put}
 use Rattle.rc_memory.specs.Kept.{IsSoundChain}
@@ -14,18 +12,11 @@ use Rattle.rc_memory.specs.laws.Places.{no_some, same_some}
 use Rattle.rc_chain.specs.Lives.{IsChainChanged, IsEndListed}
 use Rattle.rc_chain.specs.laws.PlaceBeside.{memtable-settled}
 use Rattle.rc_memtable.specs.LetGo.{AreLetGo, HasLeft, IsFreedUnpinned, IsLetGo}
-use Rattle.rc_memtable.specs.Writes.{HasWrites, chain_of}
+use Rattle.rc_memtable.specs.Writes.{chain_of}
 use Rattle.rc_memtable.specs.calls.Writing.{AreMemtables}
 use Rattle.rc_memtable.proofs.Named.{key-differs}
 use Rattle.rc_memtable.proofs.Steps.{chain-beside, chain-now, is-chain, of-chain}
 use Rattle.rc_memtable.proofs.Freed.{put-put}
-
--- what a memtable that stands for writes has
-pub has-memtables : (schema : SchemaValue) (chains : List (List ℕ × ℕ)) (m : Memory) (writes : List Write) → HasWrites schema chains m writes → AreMemtables chains m
-has-memtables schema chains m writes h = record {
-  kept = λ key id e. let k = h.kept key id e in is-chain (λ k. k.chain.kind ≡ Memtable) (chain_at m id) k.0 k.1 k.2.kind;
-  apart = h.apart;
-}
 
 -- ---- one chain
 

@@ -10,5 +10,4 @@ mod Ready
 mod Applied
 mod Snapshots
 mod LettingGo
-mod Needing
 mod Leaving

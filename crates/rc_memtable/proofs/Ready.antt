@@ -1,6 +1,6 @@
 -- What each write into the newest version of a chain asks for is there, and what it leaves.
-use Rattle.std.proofs.Common.{◌≡◌, ◌≤◌, ◌<◌, ◌/◌, ◌*◌, ◌+◌, ℕ, true, false, cond, Bool, List, [], ◌∷◌, Option, Some, None, is_some, length, refl, sym, ap, ◌∙◌, subst, slice_index_or, arith}
-use Rattle.std.specs.Prelude.{All, IfSome, IsTrue, ◌&&◌, nat_le}
+use Rattle.std.proofs.Common.{◌≡◌, ◌≤◌, ◌<◌, ◌/◌, ◌*◌, ◌+◌, ℕ, true, false, List, [], ◌∷◌, Option, Some, None, length, refl, sym, ap, ◌∙◌, subst, slice_index_or, arith}
+use Rattle.std.specs.Prelude.{All, IfSome}
 use Rattle.lsa_pool.specs.Room.{spare_of}
 use Rattle.rc_cell.specs.declared.rows.Row.{Row}
 use Rattle.rc_cell.specs.declared.writes.Tomb.{Tomb}
@@ -8,16 +8,12 @@ use Rattle.rc_cell.specs.Winner.{IsRow}
 use Rattle.rc_position.specs.declared.comps.Comp.{Comp}
 use Rattle.rc_position.specs.declared.positions.Pos.{Pos}
 use Rattle.rc_position.specs.Position.{row_pos}
-use Rattle.rc_ranges.specs.declared.pieces.Piece.{Piece}
 use Rattle.rc_rowcode.specs.Objects.{dummy_size, static_size}
 use Rattle.rc_rowcode.specs.Spelling.{KeyFits, RowFits}
 use Rattle.rc_schema.specs.SchemaValue.{SchemaValue}
 use Rattle.rc_schema.specs.Largest.{largest_entry, largest_static}
 use Rattle.rc_schema.specs.laws.Fitting.{cells_fit, cells_pass, dummy_within, key_fits, key_passes}
-use Rattle.rc_mutation.specs.declared.mutations.Mutation.{Mutation}
-use Rattle.rc_mutation.specs.Fragments.{has_any, is_written}
 use Rattle.rc_writes.specs.Allowed.{IsRangeBound, IsRowOf, IsStaticOf}
-use Rattle.rc_writes.specs.Single.{IsSingle, just_one}
 use Rattle.rc_core.specs.declared.entries.Flag.TheVariants.{Inherit}
 use Rattle.rc_core.specs.Change.{joined_onto}
 use Rattle.rc_core.specs.StandsFor.{written_pt, written_range, written_row, written_statics}
@@ -30,16 +26,11 @@ use Rattle.rc_memory.specs.Changes.{AtAlone, FitsChanged, IsRenewed, IsRenewedWh
 use Rattle.rc_chain.specs.laws.PlaceBeside.{memtable-settled}
 use Rattle.rc_memtable.specs.Fits.{IsVersionUnder}
 use Rattle.rc_memtable.specs.Steps.{IsChangeWritten}
-use Rattle.rc_memtable.specs.Writes.{joined_need}
 use Rattle.rc_memtable.specs.calls.Writing.{CanJoinNewest}
 use Rattle.rc_memtable.proofs.Fitting.{joined-static, joined-there, on-fits, row-fits, statics-fit}
 use Rattle.rc_memtable.proofs.Kept.{pt-kept, range-kept, row-kept, statics-kept}
 use Rattle.rc_memtable.proofs.Room.{entry-small, fit-together, static-small}
 use Rattle.rc_memtable.proofs.Steps.{fits-then, its-form, its-number, its-sound, last-listed, last-then, list-kept, of-fitting, range-list-kept, written-there}
-
--- fewer bytes are there, too
-pub ready-less : (S : ℕ) (schema : SchemaValue) (m : Memory) (id number a b : ℕ) → b ≤ a → CanJoinNewest S schema m id number a → CanJoinNewest S schema m id number b
-ready-less S schema m id number a b less r = let spare = r.spare in record { limits = r.limits; small = r.small; kept = r.kept; spare = omega (arith, less, spare) }
 
 module _ (S : ℕ) (schema : SchemaValue) (m : Memory) (id number bytes : ℕ) (r : CanJoinNewest S schema m id number bytes) (sound : (i : ℕ) → IfSome (chain_at m i) (λ k. IsSoundChain k.chain)) (versions : (i j : ℕ) → OfVersion m i j (λ k v. IsVersion v)) where
   pub ready-number : HasVersion m id number
@@ -135,29 +126,6 @@ one-of p = p.0
 
 pub other-of : {A B : Type 0} → A × B → B
 other-of p = p.1
-
-pub need-of-row : (schema : SchemaValue) (m : Mutation) (row : List Comp × Row) (rest : List (List Comp × Row)) → m.rows ≡ row ∷ rest → joined_need schema m ≡ largest_entry schema
-need-of-row schema m row rest e = ap (λ (rows : List (List Comp × Row)). cond (has_any rows) (largest_entry schema) (cond (has_any m.ranges) (2 * largest_entry schema) (cond (is_written m.statics) (largest_static schema) 0))) e
-
-pub need-of-range : (schema : SchemaValue) (m : Mutation) (p : Piece) (rest : List Piece) → m.rows ≡ [] → m.ranges ≡ p ∷ rest → joined_need schema m ≡ 2 * largest_entry schema
-need-of-range schema m p rest none e = ap (λ (rows : List (List Comp × Row)). cond (has_any rows) (largest_entry schema) (cond (has_any m.ranges) (2 * largest_entry schema) (cond (is_written m.statics) (largest_static schema) 0))) none
-    ∙ ap (λ (ranges : List Piece). cond (has_any ranges) (2 * largest_entry schema) (cond (is_written m.statics) (largest_static schema) 0)) e
-
--- a static row is written where nothing else is
-just-static : (b c : Bool) → IsTrue (just_one false b false false && c) → b ≡ true
-just-static true c h = refl
-just-static false c h = absurd (cc)
-
-pub static-written : (m : Mutation) → IsSingle m → m.pt ≡ None → m.rows ≡ [] → m.ranges ≡ [] → is_written m.statics ≡ true
-static-written m s p r q = just-static (is_written m.statics) (nat_le (length m.rows) 1 && nat_le (length m.ranges) 1)
-    (subst (λ (d : Bool). IsTrue (just_one false (is_written m.statics) false d && (nat_le (length m.rows) 1 && nat_le (length m.ranges) 1))) (ap has_any q)
-    (subst (λ (c : Bool). IsTrue (just_one false (is_written m.statics) c (has_any m.ranges) && (nat_le (length m.rows) 1 && nat_le (length m.ranges) 1))) (ap has_any r)
-    (subst (λ (a : Bool). IsTrue (just_one a (is_written m.statics) (has_any m.rows) (has_any m.ranges) && (nat_le (length m.rows) 1 && nat_le (length m.ranges) 1))) (ap is_some p) s)))
-
-pub need-of-statics : (schema : SchemaValue) (m : Mutation) → m.rows ≡ [] → m.ranges ≡ [] → is_written m.statics ≡ true → joined_need schema m ≡ largest_static schema
-need-of-statics schema m r q w = ap (λ (rows : List (List Comp × Row)). cond (has_any rows) (largest_entry schema) (cond (has_any m.ranges) (2 * largest_entry schema) (cond (is_written m.statics) (largest_static schema) 0))) r
-    ∙ ap (λ (ranges : List Piece). cond (has_any ranges) (2 * largest_entry schema) (cond (is_written m.statics) (largest_static schema) 0)) q
-    ∙ ap (λ (b : Bool). cond b (largest_static schema) 0) w
 
 -- ---- lists and options as the code takes them apart
 

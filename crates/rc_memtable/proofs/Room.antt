@@ -78,7 +78,3 @@ module _ (schema : SchemaValue) (limits : IsTrue (is_schema schema)) where
           let within = dummy_within false schema e.position (key_passes false schema e.position.prefix (entry-in (IsEntryUnder schema) v.entries (each-in (IsVersionUnder schema) vs h v on).entries e in_v).position) in
           omega (arith, within, small.entry);
     }
-
--- an entry takes 88 bytes at least
-pub entry-large : (schema : SchemaValue) → 88 ≤ largest_entry schema
-entry-large schema = omega arith

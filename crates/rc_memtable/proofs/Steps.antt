@@ -28,7 +28,7 @@ use Rattle.rc_memory.specs.laws.Listing.{pos_decided}
 use Rattle.rc_memory.specs.laws.Places.{same_some}
 use Rattle.rc_memory.specs.laws.Put.{put-at, put-beside}
 use Rattle.rc_memory.specs.laws.Rules.{below_or_above}
-use Rattle.rc_memory.specs.laws.Still.{still-itself, still-then, still-wider, unmoved-itself, unmoved-then}
+use Rattle.rc_memory.specs.laws.Still.{still-then, still-wider, unmoved-then}
 use Rattle.rc_chain.specs.Lives.{IsChainChanged, is_cache, with_version_over}
 use Rattle.rc_chain.specs.laws.Numbered.{on-newest}
 use Rattle.rc_chain.specs.laws.PlaceBeside.{shown-form}
@@ -90,9 +90,6 @@ twice-kept kind v id j x old new is h = elim (entry-or-not x v.entries) [ inl th
 
 -- ---- the other chains
 
-pub kept-itself : (id : ℕ) (m : Memory) → AreOthersKept id m m
-kept-itself id m = record { others = λ i ne. refl; recency = refl; dropped = refl; counts = refl; still = still-itself (λ w. w.chain ≡ id) m; region = unmoved-itself m.region }
-
 pub kept-then : (id : ℕ) (m n o : Memory) → AreOthersKept id m n → AreOthersKept id n o → AreOthersKept id m o
 kept-then id m n o a b = record {
   others = λ i ne. b.others i ne ∙ a.others i ne;
@@ -114,9 +111,6 @@ changed-kept id j f these m n own h list = record {
 }
 
 -- ---- a chain and its newest version, which nobody pins
-
-pub grown-itself : (k : KeptChain) → IsGrown k k
-grown-itself k = record { kind = refl; attached = refl; updating = refl; pins = refl; passed = refl; below = λ j on. refl }
 
 pub grown-then : (a b c : KeptChain) → IsGrown a b → IsGrown b c → IsGrown a c
 grown-then a b c g h = record {
@@ -212,10 +206,6 @@ module _ (m : Memory) (id : ℕ) (k : KeptChain) (there : chain_at m id ≡ Some
           region = h.region;
         };
       }
-
--- nothing was put over
-pub opened-itself : (m : Memory) (id newest : ℕ) → ((k : KeptChain) → chain_at m id ≡ Some k → IsFreeNewest newest k.chain) → IsOpened id newest m m
-opened-itself m id newest free = record { grown = λ k e. (k, e, grown-itself k, free k e, λ schema changes keeps. keeps); others = kept-itself id m }
 
 -- a write into a chain whose newest version nobody pins
 pub opened-written : (schema : SchemaValue) (id number : ℕ) (change : Mutation) (m n o : Memory) → IsOpened id number m n → IsChangeWritten schema id change n o → IsChangeWritten schema id change m o

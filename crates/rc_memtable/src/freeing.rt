@@ -1,5 +1,5 @@
 //! How a memtable's chains are let go.
-ghost use Rattle.std.specs.Prelude.{◌≡◌, ◌↔◌, ℕ, [], true, false, Some, IsTrue, IsSomeAnd, map};
+ghost use Rattle.std.specs.Prelude.{◌≡◌, ◌↔◌, [], true, false, Some, IsTrue, IsSomeAnd, map};
 ghost use Rattle.rc_core.specs.declared.entries.ChainKind.{ChainKind as Kind};
 ghost use Rattle.rc_registry.specs.Registry.{AreFree};
 ghost use Rattle.rc_memory.specs.Memory.{KeptChain, HasChain, HasPin, chain_at, on_chain, with_chains, without_snapshot};

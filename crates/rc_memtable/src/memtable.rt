@@ -1,5 +1,5 @@
 //! A memtable: by partition key the chain of what is written of the partition.
-ghost use Rattle.std.specs.Prelude.{◌≡◌, ◌↔◌, ◌≤◌, ◌*◌, ◌/◌, ℕ, false, List as Sequence, [], Some, None, IsTrue, IsSomeAnd, IfNone, IfOk, IfSome, OnOk, OnErr, cond, map};
+ghost use Rattle.std.specs.Prelude.{◌≡◌, ◌↔◌, ◌≤◌, ◌*◌, ◌/◌, ℕ, false, List as Sequence, [], Some, None, IsTrue, IfNone, IfOk, IfSome, OnOk, OnErr, cond, map};
 ghost use Rattle.lsa_pool.specs.Room.{spare_of};
 ghost use Rattle.rc_schema.specs.SchemaValue.{SchemaValue};
 ghost use Rattle.rc_mutation.specs.declared.mutations.Write.{Write as Written};

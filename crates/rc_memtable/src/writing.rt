@@ -1,5 +1,5 @@
 //! What is written into one chain: one thing at a time, into its newest version, which nobody pins.
-ghost use Rattle.std.specs.Prelude.{◌≡◌, ◌+◌, ◌*◌, ◌/◌, ◌≤◌, ℕ, true, List as Sequence, Some};
+ghost use Rattle.std.specs.Prelude.{◌≡◌, ◌+◌, ◌*◌, ◌/◌, ◌≤◌, ℕ, List as Sequence, Some};
 ghost use Rattle.lsa_pool.specs.Room.{spare_of};
 ghost use Rattle.rc_cell.specs.Winner.{IsRow};
 ghost use Rattle.rc_position.specs.Position.{IsBefore};
