@@ -1,0 +1,5 @@
+mod Limits
+mod Listed
+mod Lives
+mod Steps
+mod Turns

@@ -1,0 +1,152 @@
+//! The calls on snapshots.
+
+ghost use Rattle.std.specs.Prelude.{◌≡◌, Contains, false};
+ghost use Rattle.rc_chain_walk.specs.declared.known.Held.{Held as Kept};
+ghost use Rattle.rc_chain_walk.specs.Walking.{IsKnown};
+
+use crate::homes::SEGMENT;
+use crate::known::{Held, Known};
+use rc_chain::{Chains, ReadAt, ReadHead, Snap};
+use rc_position::{Key, Pos};
+use std::alloc::AllocError;
+
+/// `snapshot`: the snapshot; none where the chain is not found by its key.
+pub(crate) fn snapshot(
+    chains: &mut Chains<SEGMENT>,
+    known: &mut Known,
+    id: u64,
+) -> Result<Option<Held>, AllocError>
+    requires { IsKnown chains.old known.old }
+    ensures { IsKnown chains.new known.new }
+{
+    if !chains.is_there(id) || !chains.is_attached(id) {
+        return Ok(None);
+    }
+    known.held.reserve(1)?;
+    let held = held_of(chains.snapshot(id)?);
+    known.held.push(held)?;
+    Ok(Some(held))
+}
+
+// What is kept of a snapshot.
+fn held_of(snap: Snap) -> Held
+    ensures { result ≡ record { chain = snap.chain; pin = snap.pin; phase = snap.phase } }
+{
+    let Snap { chain, pin, phase } = snap;
+    Held { chain, pin, phase }
+}
+
+// The snapshot that is held.
+fn snap_of(held: Held) -> Snap
+    ensures chain { result.chain ≡ held.chain }
+    ensures pin { result.pin ≡ held.pin }
+{
+    Snap {
+        chain: held.chain,
+        pin: held.pin,
+        phase: held.phase,
+    }
+}
+
+// Whether a snapshot is among others.
+fn is_among(held: &[Held], one: Held) -> bool
+    ensures { result ≡ false → (other : Kept) → Contains held.now other → other.chain ≡ one.chain → other.pin ≡ one.pin → ⊥ }
+{
+    for other in held {
+        if other.chain == one.chain && other.pin == one.pin {
+            return true;
+        }
+    }
+    false
+}
+
+/// `release`, of the one at an index.
+pub(crate) fn release(chains: &mut Chains<SEGMENT>, known: &mut Known, index: usize) -> Option<Held>
+    requires { IsKnown chains.old known.old }
+    ensures { IsKnown chains.new known.new }
+{
+    if index >= known.held.len() {
+        return None;
+    }
+    let held = known.held.remove(index);
+    if is_among(known.held.as_slice(), held) {
+        return None;
+    }
+    chains.release(snap_of(held));
+    Some(held)
+}
+
+/// `touch_key`, by the one at an index.
+pub(crate) fn touch_key(
+    chains: &mut Chains<SEGMENT>,
+    known: &Known,
+    index: usize,
+    key: &Key,
+) -> Option<Held>
+    requires { IsKnown chains.old known.now }
+    ensures { IsKnown chains.new known.now }
+{
+    match known.held.get(index) {
+        Some(held) => {
+            let snap = snap_of(*held);
+            chains.touch_key(&snap, key);
+            let _held = held_of(snap);
+            Some(*held)
+        }
+        None => None,
+    }
+}
+
+/// `pinned_at` and `may_fill`, of the one at an index.
+pub(crate) fn standing(chains: &Chains<SEGMENT>, known: &Known, index: usize) -> Option<(u64, bool)>
+    requires { IsKnown chains.now known.now }
+{
+    match known.held.get(index) {
+        Some(held) => {
+            let snap = snap_of(*held);
+            let shown = (chains.pinned_at(&snap), chains.may_fill(&snap));
+            let _held = held_of(snap);
+            Some(shown)
+        }
+        None => None,
+    }
+}
+
+/// `at`, of the one at an index.
+pub(crate) fn seen_at(
+    chains: &Chains<SEGMENT>,
+    known: &Known,
+    index: usize,
+    x: &Pos,
+) -> Result<Option<ReadAt>, AllocError>
+    requires { IsKnown chains.now known.now }
+{
+    match known.held.get(index) {
+        Some(held) => {
+            let snap = snap_of(*held);
+            let seen = chains.at(&snap, x);
+            let _held = held_of(snap);
+            Ok(Some(seen?))
+        }
+        None => Ok(None),
+    }
+}
+
+/// `head`, of the one at an index.
+pub(crate) fn seen_head(
+    chains: &Chains<SEGMENT>,
+    known: &Known,
+    index: usize,
+) -> Result<Option<ReadHead>, AllocError>
+    requires { IsKnown chains.now known.now }
+{
+    match known.held.get(index) {
+        Some(held) => {
+            let snap = snap_of(*held);
+            let seen = chains.head(&snap);
+            let _held = held_of(snap);
+            Ok(Some(seen?))
+        }
+        None => Ok(None),
+    }
+}
