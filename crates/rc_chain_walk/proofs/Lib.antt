@@ -1,5 +1,7 @@
+mod Fitting
+mod Fresh
 mod Limits
 mod Listed
-mod Lives
 mod Steps
 mod Turns
+mod Wholes

@@ -55,6 +55,10 @@ pub onto-fits : (o : Option Row) (row : Row) → IfSome o RowFits → RowFits ro
 onto-fits None row h k = k
 onto-fits (Some old) row h k = joined-fits (old ∷ row ∷ []) (two_fit old row h k)
 
+pub onto-is_row : (o : Option Row) (row : Row) → IsRow row → IsRow (joined_onto o row)
+onto-is_row None row is = is
+onto-is_row (Some old) row is = IsRow-joined_row (old ∷ row ∷ [])
+
 onto_small : (o : Option Row) (row : Row) → IfSome o RowFits → RowFits row → IsRow row → length (row_code (joined_onto o row)) ≤ 8599
 onto_small None row h k is = row_code_small row is k
 onto_small (Some old) row h k is = joined-small (old ∷ row ∷ []) (two_fit old row h k)
@@ -98,7 +102,7 @@ answered Less e rest h k = tt
 answered Equal e rest h k = h
 answered Greater e rest h k = k
 
-seen-fits : (s : Spot) (es : List Entry) → ((e : Entry) → Contains es e → IfSome e.row RowFits) → IfSome (seen s es).row RowFits
+pub seen-fits : (s : Spot) (es : List Entry) → ((e : Entry) → Contains es e → IfSome e.row RowFits) → IfSome (seen s es).row RowFits
 seen-fits s [] each = tt
 seen-fits s (e ∷ es) each = answered (spot_cmp s e.position) e (seen s es) (each e (elem-first e es)) (seen-fits s es (λ f on. each f (elem-later e f es on)))
 

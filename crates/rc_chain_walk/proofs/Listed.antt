@@ -1,6 +1,6 @@
 -- What is in the recency list: after an object was made, and of the version under update.
-use Rattle.std.proofs.Common.{◌≡◌, ◌≢◌, ◌⊎◌, ℕ, suc, true, List, [], ◌∷◌, ◌++◌, Option, Some, None, IsSome, length, inl, inr, refl, sym, ap, ◌∙◌, subst}
-use Rattle.std.specs.Prelude.{Contains, IfSome}
+use Rattle.std.proofs.Common.{◌≡◌, ◌≢◌, ◌⊎◌, ℕ, suc, true, false, List, [], ◌∷◌, ◌++◌, Option, Some, None, IsSome, length, inl, inr, refl, sym, ap, ◌∙◌, subst}
+use Rattle.std.specs.Prelude.{Contains, IfSome, IsSomeAnd}
 use Rattle.rc_position.specs.declared.positions.Pos.{Pos}
 use Rattle.rc_position.specs.Position.{IsBefore}
 use Rattle.rc_cell.specs.declared.rows.Row.{Row}
@@ -13,17 +13,18 @@ use Rattle.rc_core.specs.Continuity.{with_entries}
 use Rattle.rc_core.specs.Steps.{row_joined}
 use Rattle.rc_core.specs.Version.{Ascend, EndsWithDummy, IsVersion, Version, end_position}
 use Rattle.rc_core.specs.laws.Spots.{ascend-tail}
-use Rattle.rc_partition.specs.laws.Lists.{elem-cases, elem-first, elem-here, elem-left, elem-none, elem-split}
+use Rattle.rc_partition.specs.laws.Lists.{elem-cases, elem-first, elem-here, elem-left, elem-none, elem-replaced, elem-split}
 use Rattle.rc_memory.specs.Memory.{KeptChain, Member, Memory, HasVersion, IsVersionAt, chain_at}
 use Rattle.rc_memory.specs.Kept.{IsSoundChain}
 use Rattle.rc_memory.specs.Changes.{IsRenewed, IsRenewedWhereNone, IsVersionChanged, IsWithout, KeepsLast, LastIsListed, Nowhere, OfVersion, member}
-use Rattle.rc_memory.specs.Recency.{HasObject, IsLastInner, IsUnderUpdate}
+use Rattle.rc_memory.specs.Recency.{HasObject, IsLastInner, IsUnderUpdate, MayBeListed, MustBeListed}
 use Rattle.rc_memory.specs.laws.At.{found-version}
 use Rattle.rc_memory.specs.laws.Entries.{before-differs, only-joined, split-has}
 use Rattle.rc_memory.specs.laws.Listing.{listed-decided, pos_decided}
+use Rattle.rc_memory.specs.laws.Places.{same_some}
 use Rattle.rc_memory.specs.laws.Renewed.{without-still}
 use Rattle.rc_chain_walk.specs.Walking.{IsFull, IsLastListed}
-use Rattle.rc_chain_walk.proofs.Steps.{KeepsEntries, from-if, to-if}
+use Rattle.rc_chain_walk.proofs.Steps.{KeepsEntries, KeepsListed, from-if, from-some, to-if, to-some}
 
 -- ---- an object was made
 
@@ -38,7 +39,7 @@ module _ (w : Member) (old new : List Member) where
   pub renewed-here : (kind : ChainKind) → kind ≡ Cache → IsRenewed kind w old new → Contains new w
   renewed-here kind cached is = let k = subst (λ c. IsRenewed c w old new) cached is in subst (λ l. Contains l w) (sym k.2) (elem-here k.0 [] w)
 
-has-decided : (x : Pos) (es : List Entry) → HasEntryAt x es ⊎ (HasEntryAt x es → ⊥)
+pub has-decided : (x : Pos) (es : List Entry) → HasEntryAt x es ⊎ (HasEntryAt x es → ⊥)
 has-decided x [] = inr (λ h. h)
 has-decided x (e ∷ es) = elim (pos_decided e.position x) [
   | inl here ↦ inl (inl here)
@@ -68,8 +69,8 @@ module _ (m n : Memory) (id j : ℕ) (there : HasVersion m id j) where
     cached k at u = (from-if (λ (k : KeptChain). IsSoundChain k.chain) (chain_at m id) k (sound id) at).cached u.0
 
     module _ (x : Pos) (renewed : OfVersion m id j (λ k v. IsRenewedWhereNone k.chain.kind v (member id j (Some x)) m.recency n.recency)) where
-      pub split-more : (w : Member) → Contains m.recency w → Contains n.recency w
-      split-more w on = let k = found-version m id j there in where_none-more k.0.chain.kind k.1 (member id j (Some x)) m.recency n.recency (renewed k.0 k.1 k.2 k.3) w on
+      pub split-listed : KeepsListed m n
+      split-listed i l y inner on = let k = found-version m id j there in where_none-more k.0.chain.kind k.1 (member id j (Some x)) m.recency n.recency (renewed k.0 k.1 k.2 k.3) (member i l (Some y)) on
 
       pub split-only : KeepsEntries id j (λ (c : Version). with_entries (split x c.entries) c) m n
       split-only k v y at number on = elim (split-has x y v.entries on) [
@@ -89,11 +90,8 @@ module _ (m n : Memory) (id j : ℕ) (there : HasVersion m id j) where
       ]
 
   module _ (at : Option Pos) (renewed : OfVersion m id j (λ k v. IsRenewed k.chain.kind (member id j at) m.recency n.recency)) where
-    pub renewed-kept : (w : Member) → Contains m.recency w → Contains n.recency w
-    renewed-kept w on = let k = found-version m id j there in renewed-more (member id j at) m.recency n.recency k.0.chain.kind (renewed k.0 k.1 k.2 k.3) w on
-
-  pub entries-only : (f : Version → Version) → ((v : Version) (x : Pos) → HasEntryAt x (f v).entries → HasEntryAt x v.entries) → KeepsEntries id j f m n
-  entries-only f only k v x at number on = inl (only v x on)
+    pub renewed-listed : KeepsListed m n
+    renewed-listed i l y inner on = let k = found-version m id j there in renewed-more (member id j at) m.recency n.recency k.0.chain.kind (renewed k.0 k.1 k.2 k.3) (member i l (Some y)) on
 
 -- ---- the last entry before the end
 
@@ -126,3 +124,28 @@ module _ (m : Memory) (id : ℕ) (versions : (i l : ℕ) → OfVersion m i l (λ
 -- so its last entry stays the last one, or is listed
 pub last-keeps : (m : Memory) (id j : ℕ) (f : Version → Version) → IsLastListed id j m → KeepsLast id j f m
 last-keeps m id j f last = to-if _ (chain_at m id) (λ k there v number u at l. inr (last k v at there u number l))
+
+-- ---- end dummies
+
+pub ends-has : (es : List Entry) → EndsWithDummy es → HasEntryAt end_position es
+ends-has [] h = absurd h
+ends-has (e ∷ []) h = inl h.0
+ends-has (e ∷ f ∷ es) h = inr (ends-has (f ∷ es) h)
+
+-- the end dummy of a version of a cache chain, in which no update stands, may be in the list
+pub may-list : (m : Memory) (id j : ℕ) → HasVersion m id j → ((i l : ℕ) → OfVersion m i l (λ k v. IsVersion v)) → ((k : KeptChain) → chain_at m id ≡ Some k → k.chain.kind ≡ Cache) → ((k : KeptChain) → chain_at m id ≡ Some k → k.chain.updating ≡ false)
+    → IsSomeAnd (chain_at m id) (λ k. MayBeListed k.chain j (Some end_position))
+may-list m id j has versions cached settled =
+    let a = found-version m id j has in
+    to-some (λ (k : KeptChain). MayBeListed k.chain j (Some end_position)) (chain_at m id) a.0 a.2
+    (record { cached = cached a.0 a.2; version = a.1; number = a.3; object = ends-has a.1.entries (versions id j a.0 a.1 a.2 a.3).ends; settled = λ u. absurd (let clash : false ≡ true = sym (settled a.0 a.2) ∙ u.0 in cc) })
+
+pub end-free : (m : Memory) (id j : ℕ) → IsSomeAnd (chain_at m id) (λ k. MustBeListed k.chain j (Some end_position)) → ⊥
+end-free m id j must = let k = from-some (λ (k : KeptChain). MustBeListed k.chain j (Some end_position)) (chain_at m id) must in k.2.inner refl
+
+-- without an end dummy the list has what it had of other entries
+pub ended-listed : (m n : Memory) (id j : ℕ) (front back : List Member) → m.recency ≡ front ++ (member id j (Some end_position) ∷ back) → n.recency ≡ front ++ back → KeepsListed m n
+ended-listed m n id j front back is list i l x inner on = subst (λ ws. Contains ws (member i l (Some x))) (sym list) (elim (elem-replaced front back (member id j (Some end_position)) (member i l (Some x)) (subst (λ ws. Contains ws (member i l (Some x))) is on)) [
+  | inl same ↦ absurd (inner (sym (same_some end_position x (ap (λ (w : Member). w.position) same))))
+  | inr beside ↦ beside
+])

@@ -1,5 +1,5 @@
 -- What is known of the chains from one call to the next, after each sort of call.
-use Rattle.std.proofs.Common.{◌≡◌, ◌≢◌, ◌⊎◌, ℕ, suc, true, false, List, [], ◌∷◌, ◌++◌, Option, Some, None, IsSome, length, inl, inr, refl, sym, ap, ◌∙◌, subst, slice_index_or, arith}
+use Rattle.std.proofs.Common.{◌≡◌, ◌≢◌, ◌⊎◌, ◌<◌, ℕ, zero, suc, true, false, List, [], ◌∷◌, ◌++◌, Option, Some, None, IsSome, length, inl, inr, refl, sym, ap, ◌∙◌, subst, slice_index_or, arith}
 use Rattle.std.specs.Prelude.{Contains, IfSome, IsSomeAnd}
 use Rattle.std.specs.Option.{option_map}
 use Rattle.lsa_pool.specs.laws.Usages.{decided}
@@ -9,7 +9,7 @@ use Rattle.rc_core.specs.Steps.{on_version, pin_at}
 use Rattle.rc_core.specs.Version.{Version, end_position}
 use Rattle.rc_partition.specs.laws.Lists.{elem-cases, elem-first, elem-here, elem-later, elem-left, elem-none}
 use Rattle.rc_registry.specs.Registry.{put}
-use Rattle.rc_memory.specs.Memory.{KeptChain, Member, Memory, HasPin, HasVersion, IsVersionAt, chain_at, on_chain, on_shown, on_version_of}
+use Rattle.rc_memory.specs.Memory.{KeptChain, Member, Memory, HasPin, HasVersion, IsTold, IsVersionAt, chain_at, on_chain, on_shown, on_version_of}
 use Rattle.rc_memory.specs.Changes.{IsRenewed, IsRenewedWhereNone, IsVersionChanged, IsWithout, member}
 use Rattle.rc_memory.specs.Recency.{HasObject, IsUnderUpdate}
 use Rattle.rc_memory.specs.laws.At.{found-version}
@@ -49,6 +49,10 @@ module _ (known new : Known) where
   pub bare-none : (P : Numbered → Type 0) → new.bare ≡ None → IfSome new.bare P
   bare-none P e = subst (λ o. IfSome o P) (sym e) tt
 
+-- each entry that was listed is still, but end dummies
+abbrev pub KeepsListed : Memory → Memory → Type 0
+KeepsListed m n = (i l : ℕ) (x : Pos) → x ≢ end_position → Contains m.recency (member i l (Some x)) → Contains n.recency (member i l (Some x))
+
 -- ---- the list alone changed
 
 module _ (m n : Memory) (same : n.chains ≡ m.chains) where
@@ -56,18 +60,18 @@ module _ (m n : Memory) (same : n.chains ≡ m.chains) where
   at_same i = ap (λ cs. slice_index_or cs i None) same
 
   -- where all that was listed is still
-  pub known-listed : (known : Known) → ((w : Member) → w.position ≢ Some end_position → Contains m.recency w → Contains n.recency w) → IsKnown m known → IsKnown n known
+  pub known-listed : (known : Known) → KeepsListed m n → IsKnown m known → IsKnown n known
   known-listed known more h = record {
     limits = λ i. subst (λ o. IfSome o AreWithinLimits) (sym (at_same i)) (h.limits i);
     held = λ s on. subst (λ (o : Option KeptChain). IsSomeAnd o (λ k. IsSome (pin_at k.chain.pins s.pin))) (sym (at_same s.chain)) (h.held s on);
     full = to-if (λ i. IfSome (chain_at n i) (IsFull i n.recency)) known.full (λ i e. to-if (IsFull i n.recency) (chain_at n i) (λ k there j v x u number on inner.
-        more (member i j (Some x)) (λ end. inner (same_some x end_position end)) (from-if (IsFull i m.recency) (chain_at m i) k (from-if (λ i. IfSome (chain_at m i) (IsFull i m.recency)) known.full i h.full e) (sym (at_same i) ∙ there) j v x u number on inner)));
+        more i j x inner (from-if (IsFull i m.recency) (chain_at m i) k (from-if (λ i. IfSome (chain_at m i) (IsFull i m.recency)) known.full i h.full e) (sym (at_same i) ∙ there) j v x u number on inner)));
     bare = to-if (λ b. IsSomeAnd (chain_at n b.chain) (HasBare b.version)) known.bare (λ b e. subst (λ o. IsSomeAnd o (HasBare b.version)) (sym (at_same b.chain))
         (from-if (λ b. IsSomeAnd (chain_at m b.chain) (HasBare b.version)) known.bare b h.bare e));
   }
 
   pub known-same : (known : Known) → n.recency ≡ m.recency → IsKnown m known → IsKnown n known
-  known-same known list = known-listed known (λ w inner on. subst (λ l. Contains l w) (sym list) on)
+  known-same known list = known-listed known (λ i j x inner on. subst (λ l. Contains l (member i j (Some x))) (sym list) on)
 
   -- where it is not known what is under update
   pub known-chains : (known : Known) → known.full ≡ None → IsKnown m known → IsKnown n known
@@ -87,6 +91,19 @@ known-less m known new held full bare h = record {
   full = full-none known new (λ i. IfSome (chain_at m i) (IsFull i m.recency)) full;
   bare = bare-none known new (λ b. IsSomeAnd (chain_at m b.chain) (HasBare b.version)) bare;
 }
+
+-- which version is bare is as it was, or unknown
+pub known-fewer : (m : Memory) (known new : Known) → new.held ≡ known.held → new.full ≡ None → ((b : Numbered) → new.bare ≡ Some b → known.bare ≡ Some b) → IsKnown m known → IsKnown m new
+known-fewer m known new held full bare h = record {
+  limits = h.limits;
+  held = λ s on. h.held s (subst (λ l. Contains l s) (λ i. (held i).items) on);
+  full = full-none known new (λ i. IfSome (chain_at m i) (IsFull i m.recency)) full;
+  bare = to-if (λ b. IsSomeAnd (chain_at m b.chain) (HasBare b.version)) new.bare (λ b e. from-if (λ b. IsSomeAnd (chain_at m b.chain) (HasBare b.version)) known.bare b h.bare (bare b e));
+}
+
+pub told-same : (m n : Memory) (o : Option ℕ) → IsTold m n o → (n.chains ≡ m.chains) × (n.recency ≡ m.recency)
+told-same m n None is = (ap (λ (x : Memory). x.chains) is.1, ap (λ (x : Memory). x.recency) is.1)
+told-same m n (Some id) is = (ap (λ (x : Memory). x.chains) is.1, ap (λ (x : Memory). x.recency) is.1)
 
 -- ---- one chain changed
 
@@ -146,6 +163,13 @@ module _ (m n : Memory) (id : ℕ) (g : KeptChain → KeptChain) (is : n.chains 
 
 -- ---- one version changed
 
+pub version-among : (vs : List Version) (j : ℕ) (v : Version) → IsVersionAt vs j v → Contains vs v
+version-among vs j v number = subst (λ l. Contains l v) (sym number.split) (elem-here number.older number.newer v)
+
+-- a version that was there is
+pub has-still : (m n : Memory) (id j : ℕ) (f : Version → Version) → n.chains ≡ on_chain id (on_shown (on_version_of j f)) m.chains → (i l : ℕ) → HasVersion m i l → HasVersion n i l
+has-still m n id j f is i l there = some-on m n id (on_shown (on_version_of j f)) is (λ (k : KeptChain). l < length k.chain.versions) i there (λ k same at p. subst (λ z. l < z) (sym (length-on j f k.chain.versions)) p)
+
 -- what is said of the entries of a version, and of those listed at its places
 abbrev pub KeepsEntries : ℕ → ℕ → (Version → Version) → Memory → Memory → Type 0
 KeepsEntries id j f m n = (k : KeptChain) (v : Version) (x : Pos) → chain_at m id ≡ Some k → IsVersionAt k.chain.versions j v → HasEntryAt x (f v).entries → HasEntryAt x v.entries ⊎ (IsUnderUpdate k.chain j → Contains n.recency (member id j (Some x)))
@@ -161,12 +185,12 @@ on_each (suc j) f (v ∷ vs) w on = elim (elem-cases v w (on_version j f vs) on)
   ]
 ]
 
-limits_on : (j : ℕ) (f : Version → Version) (k : KeptChain) → ((v : Version) → IsWithinLimits v → IsWithinLimits (f v)) → AreWithinLimits k → AreWithinLimits (on_shown (on_version_of j f) k)
-limits_on j f k keeps h w on = elim (on_each j f k.chain.versions w on) [ inl old ↦ h w old | inr made ↦ subst IsWithinLimits made.2 (keeps made.0 (h made.0 made.1)) ]
+pub limits-on : (j : ℕ) (f : Version → Version) (k : KeptChain) → ((v : Version) → IsWithinLimits v → IsWithinLimits (f v)) → AreWithinLimits k → AreWithinLimits (on_shown (on_version_of j f) k)
+limits-on j f k keeps h w on = elim (on_each j f k.chain.versions w on) [ inl old ↦ h w old | inr made ↦ subst IsWithinLimits made.2 (keeps made.0 (h made.0 made.1)) ]
 
 module _ (m n : Memory) (id j : ℕ) (f : Version → Version) (is : n.chains ≡ on_chain id (on_shown (on_version_of j f)) m.chains) (there : HasVersion m id j) where
-  full_on : ((w : Member) → Contains m.recency w → Contains n.recency w) → KeepsEntries id j f m n → (i : ℕ) → IfSome (chain_at m i) (IsFull i m.recency) → IfSome (chain_at n i) (IsFull i n.recency)
-  full_on more only i h = if-on m n id (on_shown (on_version_of j f)) is (IsFull i m.recency) (IsFull i n.recency) i h here (λ k ne p l v x u number on inner. more (member i l (Some x)) (p l v x u number on inner))
+  full_on : KeepsListed m n → KeepsEntries id j f m n → (i : ℕ) → IfSome (chain_at m i) (IsFull i m.recency) → IfSome (chain_at n i) (IsFull i n.recency)
+  full_on more only i h = if-on m n id (on_shown (on_version_of j f)) is (IsFull i m.recency) (IsFull i n.recency) i h here (λ k ne p l v x u number on inner. more i l x inner (p l v x u number on inner))
     where
       here : (k : KeptChain) → i ≡ id → chain_at m id ≡ Some k → IsFull i m.recency k → IsFull i n.recency (on_shown (on_version_of j f) k)
       here k same at p l v x u number on inner =
@@ -177,10 +201,10 @@ module _ (m n : Memory) (id j : ℕ) (f : Version → Version) (is : n.chains �
             | inl e ↦
                 let is_v : v ≡ f found.1 = one-at (on_version j f k.chain.versions) j v (f found.1) (subst (λ z. IsVersionAt (on_version j f k.chain.versions) z v) e number) (on-at k.chain.versions j found.1 f version) in
                 elim (only k found.1 x at version (subst (λ (z : Version). HasEntryAt x z.entries) is_v on)) [
-                  | inl old ↦ more (member i l (Some x)) (p l found.1 x under (subst (λ z. IsVersionAt k.chain.versions z found.1) (sym e) version) old inner)
+                  | inl old ↦ more i l x inner (p l found.1 x under (subst (λ z. IsVersionAt k.chain.versions z found.1) (sym e) version) old inner)
                   | inr made ↦ subst (Contains n.recency) (λ a. member (sym same a) (sym e a) (Some x)) (made (u.0, ap suc (sym e) ∙ under.1))
                 ]
-            | inr ne ↦ more (member i l (Some x)) (p l v x under (beside-on k.chain.versions j found.1 f version l v ne number) on inner)
+            | inr ne ↦ more i l x inner (p l v x under (beside-on k.chain.versions j found.1 f version l v ne number) on inner)
           ]
 
   bare_on : (k : KeptChain) (l : ℕ) → l ≢ j → chain_at m id ≡ Some k → HasBare l k → HasBare l (on_shown (on_version_of j f) k)
@@ -195,11 +219,11 @@ module _ (m n : Memory) (id j : ℕ) (f : Version → Version) (is : n.chains �
 
   -- where all that was listed is still, and what is made is
   pub known-changed : (known new : Known) → IsKnown m known → new.held ≡ known.held → new.full ≡ known.full → IsKnownBeside id j known new → ((v : Version) → IsWithinLimits v → IsWithinLimits (f v))
-      → ((w : Member) → Contains m.recency w → Contains n.recency w) → KeepsEntries id j f m n → IsKnown n new
-  known-changed known new h held full beside limits more only = known-on m n id (on_shown (on_version_of j f)) is known new h held (λ k at p. limits_on j f k limits p) (λ k pin at p. p)
+      → KeepsListed m n → KeepsEntries id j f m n → IsKnown n new
+  known-changed known new h held full beside limits more only = known-on m n id (on_shown (on_version_of j f)) is known new h held (λ k at p. limits-on j f k limits p) (λ k pin at p. p)
       (to-if _ new.full (λ i e. full_on more only i (from-if (λ i. IfSome (chain_at m i) (IsFull i m.recency)) known.full i h.full (sym full ∙ e)))) (bare_beside known new h beside)
 
   -- where what is under update is known no longer
   pub known-lost : (known new : Known) → IsKnown m known → new.held ≡ known.held → new.full ≡ None → IsKnownBeside id j known new → ((v : Version) → IsWithinLimits v → IsWithinLimits (f v)) → IsKnown n new
-  known-lost known new h held full beside limits = known-on m n id (on_shown (on_version_of j f)) is known new h held (λ k at p. limits_on j f k limits p) (λ k pin at p. p)
+  known-lost known new h held full beside limits = known-on m n id (on_shown (on_version_of j f)) is known new h held (λ k at p. limits-on j f k limits p) (λ k pin at p. p)
       (full-none known new _ full) (bare_beside known new h beside)

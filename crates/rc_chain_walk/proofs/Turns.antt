@@ -30,8 +30,8 @@ use Rattle.rc_chain.specs.Lives.{IsIdle, IsOneFreed, IsRemainder, IsTouched}
 use Rattle.rc_chain_walk.specs.declared.known.Known.{Known}
 use Rattle.rc_chain_walk.specs.declared.known.Numbered.{Numbered}
 use Rattle.rc_chain_walk.specs.Walking.{AreWithinLimits, HasBare, IsKnown, IsKnownBeside, IsWithinLimits}
-use Rattle.rc_chain_walk.proofs.Lives.{free-pin, known-put, known-without}
-use Rattle.rc_chain_walk.proofs.Steps.{from-if, known-lost, to-if}
+use Rattle.rc_chain_walk.proofs.Wholes.{free-pin, known-put, known-without}
+use Rattle.rc_chain_walk.proofs.Steps.{KeepsListed, from-if, known-lost, to-if}
 
 -- ---- the list
 
@@ -80,14 +80,11 @@ first_limits mark (f ∷ es) P gap each e on = elim (elem-cases (with_gap mark f
 
 taken_limits : (mark : Mark) (x : Pos) (es : List Entry) (P : Entry → Type 0) → ((e : Entry) → P e → P (with_gap mark e)) → ((e : Entry) → Contains es e → P e) → (e : Entry) → Contains (take_out mark x es) e → P e
 taken_limits mark x [] P gap each e on = each e on
-taken_limits mark x (f ∷ es) P gap each e on = told (eq_by_cmp pos_cmp x f.position) on
+taken_limits mark x (f ∷ es) P gap each e on = told (λ later. taken_limits mark x es P gap (λ g inside. each g (elem-later f g es inside)) e later) (eq_by_cmp pos_cmp x f.position) on
   where
-    told : (b : Bool) → Contains (cond b (with_first_gap mark es) (f ∷ take_out mark x es)) e → P e
-    told true on = first_limits mark es P gap (λ g inside. each g (elem-later f g es inside)) e on
-    told false on = elim (elem-cases f e (take_out mark x es) on) [
-      | inl same ↦ subst P same (each f (elem-first f es))
-      | inr later ↦ taken_limits mark x es P gap (λ g inside. each g (elem-later f g es inside)) e later
-    ]
+    told : (Contains (take_out mark x es) e → P e) → (b : Bool) → Contains (cond b (with_first_gap mark es) (f ∷ take_out mark x es)) e → P e
+    told further true there = first_limits mark es P gap (λ g inside. each g (elem-later f g es inside)) e there
+    told further false there = elim (elem-cases f e (take_out mark x es) there) [ inl same ↦ subst P same (each f (elem-first f es)) | inr later ↦ further later ]
 
 pub freed-limits : (kind : ChainKind) (x : Pos) (v : Version) → IsWithinLimits v → IsWithinLimits (free_entry kind x v)
 freed-limits kind x v h = record {
@@ -154,3 +151,7 @@ idle-decided m id k = elim (kind_decided k.chain.kind) [
     ]
   ]
 ]
+
+-- an object went to the back
+pub turned-listed : (m n : Memory) (w : Member) (front back : List Member) → m.recency ≡ front ++ (w ∷ back) → n.recency ≡ (front ++ back) ++ (w ∷ []) → KeepsListed m n
+turned-listed m n w front back is list i l x inner on = subst (λ ws. Contains ws (member i l (Some x))) (sym list) (turned-more front back w (member i l (Some x)) (subst (λ ws. Contains ws (member i l (Some x))) is on))

@@ -1,9 +1,13 @@
 -- What is known of a shard's chains between two calls of the walk.
-use Rattle.std.specs.Prelude.{◌≡◌, ◌≢◌, ℕ, List, Option, Some, IfSome, IsSomeAnd, Contains}
+use Rattle.std.specs.Prelude.{◌≡◌, ◌≢◌, ℕ, List, [], ◌∷◌, Option, Some, None, IfSome, IsSomeAnd, Contains}
+use Rattle.rc_cell.specs.declared.rows.Row.{Row}
 use Rattle.rc_position.specs.declared.positions.Pos.{Pos}
 use Rattle.rc_rowcode.specs.Spelling.{KeyFits, RowFits}
+use Rattle.rc_core.specs.declared.entries.ChainKind.TheVariants.{Cache}
 use Rattle.rc_core.specs.declared.entries.Entry.{Entry}
+use Rattle.rc_core.specs.declared.entries.Flag.TheVariants.{Inherit}
 use Rattle.rc_core.specs.AtPlace.{HasEntryAt}
+use Rattle.rc_core.specs.Steps.{version_of}
 use Rattle.rc_core.specs.Version.{Version, end_position}
 use Rattle.rc_memory.specs.Memory.{KeptChain, Member, Memory, HasPin, IsVersionAt, chain_at}
 use Rattle.rc_memory.specs.Changes.{member}
@@ -37,6 +41,14 @@ pub record IsKnown (m : Memory) (known : Known) : Type 0 where
   pub held : (h : Held) → Contains known.held.items h → HasPin m h.chain h.pin
   pub full : IfSome known.full (λ id. IfSome (chain_at m id) (IsFull id m.recency))
   pub bare : IfSome known.bare (λ b. IsSomeAnd (chain_at m b.chain) (HasBare b.version))
+
+-- the newest version of a cache chain, which is under update, and of which the end dummy alone is there
+abbrev pub IsFresh : ℕ → ℕ → ℕ → Memory → Type 0
+IsFresh id j phase m = IsSomeAnd (chain_at m id) (λ k. (k.chain.kind ≡ Cache) × IsUnderUpdate k.chain j × IsVersionAt k.chain.versions j (version_of Inherit None phase))
+
+-- a version that is under update, of which the end dummy and a static row alone are there
+abbrev pub IsLone : ℕ → ℕ → Row → Memory → Type 0
+IsLone id j row m = IsSomeAnd (chain_at m id) (λ k. IsUnderUpdate k.chain j × ((v : Version) × IsVersionAt k.chain.versions j v × (v.statics ≡ Some row) × ((e : Entry) × (v.entries ≡ e ∷ []))))
 
 -- where a version is under update, its last entry before the end is in the recency list
 abbrev pub IsLastListed : ℕ → ℕ → Memory → Type 0

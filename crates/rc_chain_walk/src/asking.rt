@@ -173,7 +173,7 @@ fn ask_standing(
 {
     if let Some((at, fills)) = standing(chains, known, index) {
         tally.expect(at == number as u64, "pinned_at");
-        let newest = number + 1 == plain.versions.len();
+        let newest = number == plain.versions.len().saturating_sub(1);
         let wanted = newest && plain.attached && !plain.updating;
         tally.expect(fills == wanted, "may_fill");
     }

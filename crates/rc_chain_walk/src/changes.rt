@@ -5,7 +5,7 @@ ghost use Rattle.rc_chain_walk.specs.Walking.{IsKnown};
 
 use crate::homes::{SEGMENT, has_version, object_at};
 use crate::known::{Known, Numbered};
-use crate::plain::end_position;
+use crate::plain::is_end;
 use rc_cell::Tomb;
 use rc_chain::Chains;
 use rc_core::Flag;
@@ -77,7 +77,7 @@ pub(crate) fn drop_entry(
     requires limits { KeyFits x.now.prefix }
     ensures { IsKnown chains.new known.new }
 {
-    if *x == end_position(alloc) {
+    if is_end(alloc, x) {
         return false;
     }
     match object_at(chains, known, at, x) {

@@ -46,7 +46,7 @@ pub(crate) fn may_make(chains: &Chains<SEGMENT>, known: &Known, id: u64, number:
     if !chains.is_updating(id) {
         return true;
     }
-    if number + 1 < chains.versions(id) {
+    if number < chains.versions(id).saturating_sub(1) {
         return true;
     }
     is_full(known, id)

@@ -1,6 +1,7 @@
 //! What is known of the chains from one call to the next: the snapshots that are held, and of two versions what they say.
 
-ghost use Rattle.std.specs.Prelude.{◌≡◌, [], false, None, Some, IfSome};
+ghost use Rattle.std.specs.Prelude.{◌≡◌, ◌⊎◌, [], false, None, Some, IfSome};
+ghost use Rattle.rc_chain_walk.specs.declared.known.Numbered.{Numbered as Version};
 ghost use Rattle.rc_chain_walk.specs.Walking.{IsKnownBeside};
 
 use std::alloc::Global;
@@ -60,6 +61,16 @@ impl Known {
         self.bare = None;
     }
 
+    /// A version is put over those of a chain: nothing is in it that could be out of the list. It is this one that is known as bare, unless another one stays so.
+    pub(crate) fn begin(&mut self, id: u64, version: u64, stays: bool)
+        ensures held { self.new.held ≡ self.old.held }
+        ensures full { self.new.full ≡ Some id }
+        ensures bare { (b : Version) → self.new.bare ≡ Some b → (self.old.bare ≡ Some b) ⊎ ((b.chain ≡ id) × (b.version ≡ version)) }
+    {
+        self.full = Some(id);
+        self.bare = next_bare(self.bare, Numbered { chain: id, version }, stays);
+    }
+
     /// The version under update is known no longer.
     pub(crate) fn forget_full(&mut self)
         ensures held { self.new.held ≡ self.old.held }
@@ -111,4 +122,14 @@ impl Known {
             None => false,
         }
     }
+}
+
+// The version that is known as bare then.
+fn next_bare(old: Option<Numbered>, new: Numbered, stays: bool) -> Option<Numbered>
+    ensures { (b : Version) → result ≡ Some b → (old ≡ Some b) ⊎ (b ≡ new) }
+{
+    if stays {
+        return old;
+    }
+    Some(new)
 }

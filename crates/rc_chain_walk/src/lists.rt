@@ -6,10 +6,10 @@ ghost use Rattle.rc_rowcode.specs.Spelling.{KeyFits};
 ghost use Rattle.rc_memory.specs.Memory.{KeptChain, HasChain, chain_at};
 ghost use Rattle.rc_chain_walk.specs.Walking.{IsKnown};
 
-use crate::homes::{SEGMENT, has_room, object_at};
+use crate::homes::{SEGMENT, object_at};
 use crate::known::{Known, Numbered};
-use crate::lives::{is_cache_chain, may_add};
-use crate::plain::end_position;
+use crate::lives::{begin_update, is_cache_chain};
+use crate::plain::{end_position, is_end};
 use rc_chain::Chains;
 use rc_position::Pos;
 use std::alloc::Global;
@@ -39,7 +39,10 @@ pub(crate) fn list_end(
     match object_at(chains, known, at, &end_position(alloc)) {
         Some(end) => {
             chains.known();
-            if !may_list(chains, at.chain) || chains.is_listed(end) {
+            if !may_list(chains, at.chain) {
+                return false;
+            }
+            if chains.is_listed(end) {
                 return false;
             }
             chains.list(end);
@@ -84,11 +87,11 @@ pub(crate) fn touch(
 {
     match object_at(chains, known, at, x) {
         Some(e) => {
-            let listed = chains.is_listed(e);
-            if listed {
-                chains.touch(e);
+            if !chains.is_listed(e) {
+                return Some(false);
             }
-            Some(listed)
+            chains.touch(e);
+            Some(true)
         }
         None => None,
     }
@@ -107,16 +110,16 @@ pub(crate) fn unlist_last(
     requires limits { KeyFits x.now.prefix }
     ensures { IsKnown chains.new known.new }
 {
-    if *x == end_position(alloc) || !has_room(chains, known) {
+    if is_end(alloc, x) {
         return false;
     }
-    if !may_add(chains, id) || !is_cache_chain(chains, id) {
-        return false;
+    match begin_update(chains, known, id, phase) {
+        Some(number) => {
+            let e = chains.split(id, number, x);
+            chains.known();
+            chains.unlist(e);
+            true
+        }
+        None => false,
     }
-    known.forget();
-    let number = chains.versions(id);
-    chains.add_version(id, phase);
-    let e = chains.split(id, number, x);
-    chains.unlist(e);
-    true
 }

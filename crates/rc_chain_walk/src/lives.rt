@@ -1,12 +1,12 @@
 //! The calls on chains as a whole. Each tests what it needs, and answers whether it was made.
 
-ghost use Rattle.std.specs.Prelude.{◌≡◌, ◌<◌, ◌≤◌, ℕ, suc, true, false, Some, length};
+ghost use Rattle.std.specs.Prelude.{◌≡◌, ◌<◌, ◌≤◌, ℕ, suc, true, false, None, Some, IfSome, length};
 ghost use Rattle.lsa_pool.specs.Room.{spare_of};
 ghost use Rattle.rc_core.specs.declared.entries.ChainKind.{ChainKind as Kind};
 ghost use Rattle.rc_registry.specs.Registry.{AreFree};
 ghost use Rattle.rc_memory.specs.Memory.{KeptChain, HasChain, chain_at};
 ghost use Rattle.rc_memory.specs.Changes.{CanDrop};
-ghost use Rattle.rc_chain_walk.specs.Walking.{IsKnown};
+ghost use Rattle.rc_chain_walk.specs.Walking.{IsFresh, IsKnown};
 
 use crate::homes::{SEGMENT, has_room};
 use crate::known::{Known, Numbered};
@@ -29,7 +29,10 @@ pub(crate) fn new_chain(
         return Ok(None);
     }
     known.forget_full();
-    Ok(Some(chains.new_chain(kind, phase, pt)?))
+    match chains.new_chain(kind, phase, pt) {
+        Ok(id) => Ok(Some(id)),
+        Err(error) => Err(error),
+    }
 }
 
 /// Whether a version may be put over those of a chain.
@@ -38,7 +41,10 @@ pub(crate) fn may_add(chains: &Chains<SEGMENT>, id: u64) -> bool
     ensures settled { result ≡ true → (k : KeptChain) → chain_at chains.now id ≡ Some k → k.chain.updating ≡ false }
     ensures found { result ≡ true → (k : KeptChain) → chain_at chains.now id ≡ Some k → k.chain.kind ≡ Kind.Cache → k.chain.attached ≡ true }
 {
-    if !chains.is_there(id) || chains.is_updating(id) {
+    if !chains.is_there(id) {
+        return false;
+    }
+    if chains.is_updating(id) {
         return false;
     }
     match chains.kind(id) {
@@ -69,16 +75,45 @@ pub(crate) fn add_version(
     requires { IsKnown chains.old known.old }
     ensures { IsKnown chains.new known.new }
 {
-    if !has_room(chains, known) || !may_add(chains, id) {
+    if !has_room(chains, known) {
+        return false;
+    }
+    if !may_add(chains, id) {
         return false;
     }
     let version = chains.versions(id);
     chains.add_version(id, phase);
-    known.full = Some(id);
-    if !stays {
-        known.bare = Some(Numbered { chain: id, version });
-    }
+    known.begin(id, version, stays);
     true
+}
+
+/// `add_version` of a cache chain: the number of the version.
+pub(crate) fn begin_update(
+    chains: &mut Chains<SEGMENT>,
+    known: &mut Known,
+    id: u64,
+    phase: u64,
+) -> Option<u64>
+    requires known { IsKnown chains.old known.old }
+    ensures known { IsKnown chains.new known.new }
+    ensures full { IfSome result (λ j. known.new.full ≡ None) }
+    ensures bare { IfSome result (λ j. known.new.bare ≡ None) }
+    ensures room { IfSome result (λ j. 30000 ≤ spare_of 131072 chains.new.region.usages) }
+    ensures fresh { IfSome result (λ j. IsFresh id j phase chains.new) }
+{
+    if !has_room(chains, known) {
+        return None;
+    }
+    if !may_add(chains, id) {
+        return None;
+    }
+    if !is_cache_chain(chains, id) {
+        return None;
+    }
+    known.forget();
+    let number = chains.versions(id);
+    chains.add_version(id, phase);
+    Some(number)
 }
 
 /// `end_update`, also where no update stands in the chain.
@@ -173,6 +208,7 @@ fn is_free(chains: &Chains<SEGMENT>, id: u64) -> bool
     requires { HasChain chains.now id }
     ensures { result ≡ true → (k : KeptChain) → chain_at chains.now id ≡ Some k → AreFree k.chain.pins }
 {
+    chains.known();
     for number in 0..chains.versions(id) {
         if chains.is_pinned(id, number) {
             return false;
@@ -186,9 +222,16 @@ pub(crate) fn free_one(chains: &mut Chains<SEGMENT>, known: &mut Known, id: u64)
     requires { IsKnown chains.old known.old }
     ensures { IsKnown chains.new known.new }
 {
-    if !chains.is_there(id) || chains.is_attached(id) || !is_free(chains, id) {
+    if !chains.is_there(id) {
         return false;
     }
+    if chains.is_attached(id) {
+        return false;
+    }
+    if !is_free(chains, id) {
+        return false;
+    }
+    chains.known();
     known.forget_chain(id);
     chains.free_one(id);
     true
@@ -201,10 +244,16 @@ fn may_drop(chains: &Chains<SEGMENT>, id: u64, number: u64) -> bool
     ensures older { result ≡ true → (k : KeptChain) → chain_at chains.now id ≡ Some k → suc number < length k.chain.versions }
 {
     let versions = chains.versions(id);
-    if number + 1 >= versions || chains.is_pinned(id, number) {
+    if number >= versions.saturating_sub(1) {
         return false;
     }
-    !chains.is_updating(id) || versions > 2
+    if chains.is_pinned(id, number) {
+        return false;
+    }
+    if !chains.is_updating(id) {
+        return true;
+    }
+    versions > 2
 }
 
 /// `drop_version`, of the version that is known as bare: which one.

@@ -1,6 +1,7 @@
 //! The plain chains: what each call does to them, by the plain functions of the core.
 
-ghost use Rattle.std.specs.Prelude.{◌≡◌};
+ghost use Rattle.std.specs.Prelude.{◌≡◌, ◌≢◌, false};
+ghost use Rattle.rc_core.specs.Version as versions;
 
 use crate::places::{Place, Recency};
 use rc_cell::{Row, Tomb};
@@ -31,12 +32,19 @@ pub(crate) struct PlainChain {
 
 /// The position of the end dummy.
 pub(crate) fn end_position(alloc: Global) -> Pos
-    ensures { result ≡ Rattle.rc_core.specs.Version.end_position }
+    ensures { result ≡ versions.end_position }
 {
     Pos {
         prefix: Key::empty(alloc),
         weight: Weight::After,
     }
+}
+
+/// Whether a position is that of the end dummy.
+pub(crate) fn is_end(alloc: Global, x: &Pos) -> bool
+    ensures { result ≡ false → x.now ≢ versions.end_position }
+{
+    *x == end_position(alloc)
 }
 
 /// Whether a chain is one of a cache.

@@ -36,7 +36,10 @@ pub(crate) fn join_row(
     ensures room { IfSome result (λ r. 30000 ≤ spare_of 131072 chains.new.region.usages) }
     ensures here { IfSome result (λ r. IsMemberObject chains.new r (member at.chain at.version (Some (row_pos key.now)))) }
 {
-    if !has_room(chains, known) || !may_make(chains, known, at.chain, at.version) {
+    if !has_room(chains, known) {
+        return None;
+    }
+    if !may_make(chains, known, at.chain, at.version) {
         return None;
     }
     known.forget_bare(at.chain, at.version);
@@ -60,7 +63,10 @@ pub(crate) fn join_range(
     requires ascend { IsBefore from.now to.now }
     ensures { IsKnown chains.new known.new }
 {
-    if !has_room(chains, known) || !may_join(chains, known, at.chain, at.version) {
+    if !has_room(chains, known) {
+        return false;
+    }
+    if !may_join(chains, known, at.chain, at.version) {
         return false;
     }
     known.forget_bare(at.chain, at.version);
@@ -81,7 +87,10 @@ pub(crate) fn join_static(
     requires row { RowFits row.now }
     ensures { IsKnown chains.new known.new }
 {
-    if !has_room(chains, known) || !has_version(chains, at.chain, at.version) {
+    if !has_room(chains, known) {
+        return false;
+    }
+    if !has_version(chains, at.chain, at.version) {
         return false;
     }
     known.forget_bare(at.chain, at.version);

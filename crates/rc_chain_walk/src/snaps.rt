@@ -1,6 +1,7 @@
 //! The calls on snapshots.
 
-ghost use Rattle.std.specs.Prelude.{◌≡◌, Contains, false};
+ghost use Rattle.std.specs.Prelude.{◌≡◌, ◌<◌, Contains, IfSome, false, length};
+ghost use Rattle.rc_memory.specs.Memory.{HasPin};
 ghost use Rattle.rc_chain_walk.specs.declared.known.Held.{Held as Kept};
 ghost use Rattle.rc_chain_walk.specs.Walking.{IsKnown};
 
@@ -19,13 +20,28 @@ pub(crate) fn snapshot(
     requires { IsKnown chains.old known.old }
     ensures { IsKnown chains.new known.new }
 {
-    if !chains.is_there(id) || !chains.is_attached(id) {
+    if !chains.is_there(id) {
         return Ok(None);
     }
-    known.held.reserve(1)?;
-    let held = held_of(chains.snapshot(id)?);
-    known.held.push(held)?;
-    Ok(Some(held))
+    if !chains.is_attached(id) {
+        return Ok(None);
+    }
+    match chains.snapshot(id) {
+        Ok(snap) => Ok(Some(hold(chains, known, held_of(snap))?)),
+        Err(error) => Err(error),
+    }
+}
+
+// A snapshot is held.
+fn hold(_chains: &Chains<SEGMENT>, known: &mut Known, held: Held) -> Result<Held, AllocError>
+    requires known { IsKnown _chains.now known.old }
+    requires there { HasPin _chains.now held.chain held.pin }
+    ensures { IsKnown _chains.now known.new }
+{
+    match known.held.push(held) {
+        Ok(()) => Ok(held),
+        Err(_full) => Err(AllocError),
+    }
 }
 
 // What is kept of a snapshot.
@@ -60,6 +76,25 @@ fn is_among(held: &[Held], one: Held) -> bool
     false
 }
 
+// Takes the one at an index out.
+fn take(held: &mut Vec<Held>, index: usize) -> Held
+    requires { index < length held.old.items }
+    ensures one { Contains held.old.items result }
+    ensures others { (other : Kept) → Contains held.new.items other → Contains held.old.items other }
+{
+    held.remove(index)
+}
+
+// The one at an index.
+fn held_at(known: &Known, index: usize) -> Option<Held>
+    ensures { IfSome result (λ held. Contains known.now.held.items held) }
+{
+    if index < known.held.len() {
+        return Some(known.held[index]);
+    }
+    None
+}
+
 /// `release`, of the one at an index.
 pub(crate) fn release(chains: &mut Chains<SEGMENT>, known: &mut Known, index: usize) -> Option<Held>
     requires { IsKnown chains.old known.old }
@@ -68,7 +103,7 @@ pub(crate) fn release(chains: &mut Chains<SEGMENT>, known: &mut Known, index: us
     if index >= known.held.len() {
         return None;
     }
-    let held = known.held.remove(index);
+    let held = take(&mut known.held, index);
     if is_among(known.held.as_slice(), held) {
         return None;
     }
@@ -86,12 +121,12 @@ pub(crate) fn touch_key(
     requires { IsKnown chains.old known.now }
     ensures { IsKnown chains.new known.now }
 {
-    match known.held.get(index) {
+    match held_at(known, index) {
         Some(held) => {
-            let snap = snap_of(*held);
+            let snap = snap_of(held);
             chains.touch_key(&snap, key);
             let _held = held_of(snap);
-            Some(*held)
+            Some(held)
         }
         None => None,
     }
@@ -101,9 +136,9 @@ pub(crate) fn touch_key(
 pub(crate) fn standing(chains: &Chains<SEGMENT>, known: &Known, index: usize) -> Option<(u64, bool)>
     requires { IsKnown chains.now known.now }
 {
-    match known.held.get(index) {
+    match held_at(known, index) {
         Some(held) => {
-            let snap = snap_of(*held);
+            let snap = snap_of(held);
             let shown = (chains.pinned_at(&snap), chains.may_fill(&snap));
             let _held = held_of(snap);
             Some(shown)
@@ -121,9 +156,9 @@ pub(crate) fn seen_at(
 ) -> Result<Option<ReadAt>, AllocError>
     requires { IsKnown chains.now known.now }
 {
-    match known.held.get(index) {
+    match held_at(known, index) {
         Some(held) => {
-            let snap = snap_of(*held);
+            let snap = snap_of(held);
             let seen = chains.at(&snap, x);
             let _held = held_of(snap);
             Ok(Some(seen?))
@@ -140,9 +175,9 @@ pub(crate) fn seen_head(
 ) -> Result<Option<ReadHead>, AllocError>
     requires { IsKnown chains.now known.now }
 {
-    match known.held.get(index) {
+    match held_at(known, index) {
         Some(held) => {
-            let snap = snap_of(*held);
+            let snap = snap_of(held);
             let seen = chains.head(&snap);
             let _held = held_of(snap);
             Ok(Some(seen?))

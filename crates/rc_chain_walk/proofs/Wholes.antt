@@ -26,11 +26,11 @@ use Rattle.rc_memory.specs.laws.Places.{no_some, same_some}
 use Rattle.rc_memory.specs.laws.Recent.{pushed-at}
 use Rattle.rc_memory.specs.laws.Standing.{at-mapped}
 use Rattle.rc_memory.specs.laws.Versions.{still-at}
-use Rattle.rc_chain.specs.Lives.{IsChainChanged, IsChainDropped, IsChainMade, IsEndAlone, IsIdle, IsRelabelled, chain_of_new, flag_of_new, relabelled, with_version_over}
+use Rattle.rc_chain.specs.Lives.{IsChainChanged, IsChainDropped, IsChainMade, IsEndAlone, IsIdle, IsRelabelled, chain_of_new, flag_of_new, is_cache, relabelled, with_version_over}
 use Rattle.rc_chain_walk.specs.declared.known.Held.{Held}
 use Rattle.rc_chain_walk.specs.declared.known.Known.{Known}
 use Rattle.rc_chain_walk.specs.declared.known.Numbered.{Numbered}
-use Rattle.rc_chain_walk.specs.Walking.{AreWithinLimits, HasBare, IsFull, IsKnown, IsWithinLimits}
+use Rattle.rc_chain_walk.specs.Walking.{AreWithinLimits, HasBare, IsFresh, IsFull, IsKnown, IsWithinLimits}
 use Rattle.rc_chain_walk.proofs.Limits.{limits-new}
 use Rattle.rc_chain_walk.proofs.Steps.{bare-none, bare-on, from-if, from-some, full-none, if-on, known-on, put_beside, put_here, some-on, to-if, to-some}
 
@@ -57,7 +57,7 @@ module _ (m n : Memory) (id : ℕ) (g : KeptChain → KeptChain) (is : n.chains 
 -- ---- a version is put over others
 
 module _ (m n : Memory) (id phase : ℕ) (k : KeptChain) (there : chain_at m id ≡ Some k) (is : n.chains ≡ on_chain id (on_shown (with_version_over phase)) m.chains) where
-  over : Version
+  abbrev over : Version
   over = version_of Inherit None phase
 
   over_limits : (q : KeptChain) → AreWithinLimits q → AreWithinLimits (on_shown (with_version_over phase) q)
@@ -92,6 +92,13 @@ module _ (m n : Memory) (id phase : ℕ) (k : KeptChain) (there : chain_at m id 
         ]
         | inr this ↦ to-some (HasBare b.version) (chain_at n b.chain) (on_shown (with_version_over phase) k) (ap (chain_at n) this.0 ∙ over_here) (subst (λ j. HasBare j (on_shown (with_version_over phase) k)) (sym this.1) over_bare)
       ]))
+
+  pub known-over_less : (known new : Known) → IsKnown m known → new.held ≡ known.held → new.full ≡ None → new.bare ≡ None → IsKnown n new
+  known-over_less known new h held full bare = known-on m n id (on_shown (with_version_over phase)) is known new h held (λ q at p. over_limits q p) (λ q pin at p. p) (full-none known new _ full) (bare-none known new _ bare)
+
+  pub over-fresh : k.chain.kind ≡ Cache → IsFresh id (length k.chain.versions) phase n
+  over-fresh cached = to-some _ (chain_at n id) (on_shown (with_version_over phase) k) over_here
+      (cached, (ap is_cache cached, (let size = length-append k.chain.versions (over ∷ []) in omega (arith, size))), record { older = k.chain.versions; newer = []; split = refl; number = refl })
 
 -- ---- a chain comes to be, or goes
 
@@ -135,7 +142,8 @@ bare-other m known id h none b e same = absurd (subst (λ o. IsSomeAnd o (HasBar
 -- ---- a version goes
 
 elem_taken : (j : ℕ) (vs : List Version) (v : Version) → Contains (take j vs ++ drop (suc j) vs) v → Contains vs v
-elem_taken j [] v on = on
+elem_taken zero [] v on = on
+elem_taken (suc j) [] v on = on
 elem_taken zero (w ∷ vs) v on = elem-later w v vs on
 elem_taken (suc j) (w ∷ vs) v on = elim (elem-cases w v (take j vs ++ drop (suc j) vs) on) [ inl same ↦ subst (Contains (w ∷ vs)) same (elem-first w vs) | inr later ↦ elem-later w v vs (elem_taken j vs v later) ]
 

@@ -1,0 +1,7 @@
+use Rattle.std.proofs.Common.{◌≡◌, ◌≢◌, ◌⊎◌, ◌++◌, ◌∷◌, [], List, Option, Some, None, IsSome, ℕ, true, false, inl, inr, refl, sym, ap, ◌∙◌, subst, arith, length}
+use Rattle.rc_chain_walk.proofs.Wholes.{known-relabelled}
+use Rattle.rc_chain_walk.proofs.lives.relabel.Goals as goal
+
+pub returns : goal.returns
+returns c =
+    known-relabelled c.args.chains.now c.relabel.new.self c.args.to c.relabel.ensures.relabelled.chains c.args.known.now c.forget.new.self c.requires c.forget.ensures.held c.forget.ensures.full c.forget.ensures.bare
