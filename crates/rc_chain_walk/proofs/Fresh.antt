@@ -29,7 +29,7 @@ use Rattle.rc_memory.specs.laws.Listed.{one-at}
 use Rattle.rc_memory.specs.laws.Places.{no_some, same_some}
 use Rattle.rc_memory.specs.laws.Recent.{on-at}
 use Rattle.rc_memory.specs.laws.Rules.{length-on}
-use Rattle.rc_chain_walk.specs.Walking.{IsFresh, IsLone}
+use Rattle.rc_chain_walk.specs.Walking.{HasLone, IsFresh, IsLone}
 use Rattle.rc_chain_walk.proofs.Listed.{renewed-here}
 use Rattle.rc_chain_walk.proofs.Steps.{from-some, put_here, to-if, to-some}
 
@@ -117,7 +117,7 @@ module _ (m : Memory) (id j : ℕ) (row : Row) (lone : IsLone id j row m) where
 
 -- a chain that did not change has it still
 pub lone-same : (m n : Memory) (id j : ℕ) (row : Row) → n.chains ≡ m.chains → IsLone id j row m → IsLone id j row n
-lone-same m n id j row same lone = subst (λ cs. IsSomeAnd (slice_index_or cs id None) _) (sym same) lone
+lone-same m n id j row same lone = subst (λ cs. IsSomeAnd (slice_index_or cs id None) (HasLone j row)) (sym same) lone
 
 -- the first object of the list, where it is one of the version
 pub home-none : (m : Memory) (r : Ref) (w : Member) (rest : List Member) → m.recency ≡ w ∷ rest → IsMemberObject m r w → (id j : ℕ) (row : Row) → IsLone id j row m → IsRecency m → ((i l : ℕ) → OfVersion m i l (λ k v. IsVersion v)) → w.chain ≡ id → w.version ≡ j

@@ -161,6 +161,18 @@ module _ (m n : Memory) (id : ℕ) (g : KeptChain → KeptChain) (is : n.chains 
   bare-on known new h told = to-if (λ b. IsSomeAnd (chain_at n b.chain) (HasBare b.version)) new.bare (λ b e.
       some-on (HasBare b.version) b.chain (from-if (λ b. IsSomeAnd (chain_at m b.chain) (HasBare b.version)) known.bare b h.bare (told b e).0) (λ k same there p. (told b e).1 k same there p))
 
+-- less of what is held
+pub known-sub : (m : Memory) (known new : Known) → ((s : Held) → Contains new.held.items s → Contains known.held.items s) → new.full ≡ known.full → new.bare ≡ known.bare → IsKnown m known → IsKnown m new
+known-sub m known new less full bare h = record {
+  limits = h.limits;
+  held = λ s on. h.held s (less s on);
+  full = subst (λ o. IfSome o (λ i. IfSome (chain_at m i) (IsFull i m.recency))) (sym full) h.full;
+  bare = subst (λ o. IfSome o (λ (b : Numbered). IsSomeAnd (chain_at m b.chain) (HasBare b.version))) (sym bare) h.bare;
+}
+
+pub beside-same : (id j : ℕ) (known new : Known) → new.bare ≡ known.bare → IsKnownBeside id j known known → IsKnownBeside id j known new
+beside-same id j known new e h = subst (λ o. IfSome o (λ (b : Numbered). (known.bare ≡ Some b) × (b.chain ≡ id → b.version ≡ j → ⊥))) (sym e) h
+
 -- ---- one version changed
 
 pub version-among : (vs : List Version) (j : ℕ) (v : Version) → IsVersionAt vs j v → Contains vs v

@@ -1,6 +1,8 @@
 -- What is listed after calls on the recency list, and what is known after an object was freed and a chain was swept.
 use Rattle.std.proofs.Common.{◌≡◌, ◌≢◌, ◌⊎◌, ℕ, suc, true, false, List, [], ◌∷◌, ◌++◌, Option, Some, None, IsSome, length, inl, inr, refl, sym, ap, ◌∙◌, subst, map}
 use Rattle.std.specs.Prelude.{Contains, IfSome, IsSomeAnd}
+use Rattle.std.specs.List.{AllByRecursion}
+use Rattle.rc_core.specs.Steps.{pin_at}
 use Rattle.lsa_pool.specs.laws.Usages.{decided}
 use Rattle.lsa_kinds.specs.declared.kind.Kind.{Kind}
 use Rattle.lsa_store.specs.declared.place.Ref.{Ref}
@@ -26,12 +28,13 @@ use Rattle.rc_memory.specs.Memory.{KeptChain, Member, Memory, HasPin, HasVersion
 use Rattle.rc_memory.specs.Changes.{IsWithout, member}
 use Rattle.rc_memory.specs.laws.Listing.{listed-decided}
 use Rattle.rc_memory.specs.laws.Renewed.{without-still}
-use Rattle.rc_chain.specs.Lives.{IsIdle, IsOneFreed, IsRemainder, IsTouched}
+use Rattle.rc_chain.specs.Lives.{IsAtUpTo, IsIdle, IsOneFreed, IsRemainder, IsTouched}
+use Rattle.rc_chain_walk.specs.declared.known.Held.{Held}
 use Rattle.rc_chain_walk.specs.declared.known.Known.{Known}
 use Rattle.rc_chain_walk.specs.declared.known.Numbered.{Numbered}
-use Rattle.rc_chain_walk.specs.Walking.{AreWithinLimits, HasBare, IsKnown, IsKnownBeside, IsWithinLimits}
-use Rattle.rc_chain_walk.proofs.Wholes.{free-pin, known-put, known-without}
-use Rattle.rc_chain_walk.proofs.Steps.{KeepsListed, from-if, known-lost, to-if}
+use Rattle.rc_chain_walk.specs.Walking.{AreWithinLimits, HasBare, IsKnown, IsKnownBeside, IsOther, IsWithinLimits}
+use Rattle.rc_chain_walk.proofs.Wholes.{free-pin, known-put, known-without, some-number}
+use Rattle.rc_chain_walk.proofs.Steps.{KeepsListed, from-if, from-some, known-listed, known-lost, to-if}
 
 -- ---- the list
 
@@ -155,3 +158,23 @@ idle-decided m id k = elim (kind_decided k.chain.kind) [
 -- an object went to the back
 pub turned-listed : (m n : Memory) (w : Member) (front back : List Member) → m.recency ≡ front ++ (w ∷ back) → n.recency ≡ (front ++ back) ++ (w ∷ []) → KeepsListed m n
 turned-listed m n w front back is list i l x inner on = subst (λ ws. Contains ws (member i l (Some x))) (sym list) (turned-more front back w (member i l (Some x)) (subst (λ ws. Contains ws (member i l (Some x))) is on))
+
+-- the first object went to the back
+pub turned : (m n : Memory) (found : Option Ref) (r : Ref) → found ≡ Some r → IfSome found (λ r. (w : Member) × (rest : List Member) × (m.recency ≡ w ∷ rest) × IsMemberObject m r w) → (known : Known) → IsKnown m known
+    → ((w : Member) (front back : List Member) → m.recency ≡ front ++ (w ∷ back) → IsMemberObject m r w → n ≡ listed_as ((front ++ back) ++ (w ∷ [])) n.region m) → IsKnown n known
+turned m n found r is first known h touched =
+    let f = from-if (λ r. (w : Member) × (rest : List Member) × (m.recency ≡ w ∷ rest) × IsMemberObject m r w) found r first is in let t = touched f.0 [] f.1 f.2 f.3 in
+    known-listed m n (ap (λ (x : Memory). x.chains) t) known (turned-listed m n f.0 [] f.1 f.2 (ap (λ (x : Memory). x.recency) t)) h
+
+-- the entries at a key went to the back
+pub keyed : (m n : Memory) (id pin : ℕ) (x : Pos) → HasPin m id pin
+    → ((k : KeptChain) (j : ℕ) → chain_at m id ≡ Some k → pin_at k.chain.pins pin ≡ Some j → (list : List Member) × IsTouched (IsAtUpTo id j x) m.recency list × (n ≡ listed_as list n.region m)) → (known : Known) → IsKnown m known → IsKnown n known
+keyed m n id pin x has touched known h =
+    let k = from-some (λ (k : KeptChain). IsSome (pin_at k.chain.pins pin)) (chain_at m id) has in let j = some-number (pin_at k.0.chain.pins pin) k.2 in let t = touched k.0 j.0 k.1 j.1 in
+    known-listed m n (ap (λ (y : Memory). y.chains) t.2) known
+    (λ i l y inner on. subst (λ ws. Contains ws (member i l (Some y))) (sym (ap (λ (z : Memory). z.recency) t.2)) (touched-more (IsAtUpTo id j.0 x) m.recency t.0 (member i l (Some y)) t.1 on)) h
+
+-- a snapshot is another one than those of a list
+pub others : (one : Held) (held : List Held) → AllByRecursion (IsOther one) held → (other : Held) → Contains held other → IsOther one other
+others one [] all other on = absurd (elem-none other on)
+others one (h ∷ held) all other on = elim (elem-cases h other held on) [ inl same ↦ subst (IsOther one) same all.0 | inr later ↦ others one held all.1 other later ]

@@ -124,13 +124,13 @@ module _ (m n : Memory) (id : ℕ) (c : Option KeptChain) (is : n.chains ≡ put
 pub no-chain_pin : (m : Memory) (id pin : ℕ) → chain_at m id ≡ None → HasPin m id pin → ⊥
 no-chain_pin m id pin none has = subst (λ (o : Option KeptChain). IsSomeAnd o (λ k. IsSome (pin_at k.chain.pins pin))) none has
 
-some_of : (o : Option ℕ) → IsSome o → (j : ℕ) × (o ≡ Some j)
-some_of None h = cc h
-some_of (Some j) h = (j, refl)
+pub some-number : (o : Option ℕ) → IsSome o → (j : ℕ) × (o ≡ Some j)
+some-number None h = cc h
+some-number (Some j) h = (j, refl)
 
 pub free-pin : (m : Memory) (id pin : ℕ) (k : KeptChain) → chain_at m id ≡ Some k → AreFree k.chain.pins → HasPin m id pin → ⊥
 free-pin m id pin k there free has =
-    let p = subst (λ (o : Option KeptChain). IsSomeAnd o (λ k. IsSome (pin_at k.chain.pins pin))) there has in let j = some_of (pin_at k.chain.pins pin) p in free j.0 (pin-is-pinned k.chain.pins pin j.0 j.1)
+    let p = subst (λ (o : Option KeptChain). IsSomeAnd o (λ k. IsSome (pin_at k.chain.pins pin))) there has in let j = some-number (pin_at k.chain.pins pin) p in free j.0 (pin-is-pinned k.chain.pins pin j.0 j.1)
 
 pub new-limits : (kind : ChainKind) (pt : Option Tomb) (phase : ℕ) → AreWithinLimits (chain_of_new kind pt phase)
 new-limits kind pt phase v on = elim (elem-cases _ v [] on) [ inl same ↦ subst IsWithinLimits same (limits-new (flag_of_new kind) pt phase) | inr none ↦ absurd (elem-none v none) ]

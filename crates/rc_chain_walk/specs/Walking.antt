@@ -47,8 +47,16 @@ abbrev pub IsFresh : ℕ → ℕ → ℕ → Memory → Type 0
 IsFresh id j phase m = IsSomeAnd (chain_at m id) (λ k. (k.chain.kind ≡ Cache) × IsUnderUpdate k.chain j × IsVersionAt k.chain.versions j (version_of Inherit None phase))
 
 -- a version that is under update, of which the end dummy and a static row alone are there
+abbrev pub HasLone : ℕ → Row → KeptChain → Type 0
+HasLone j row k = IsUnderUpdate k.chain j × ((v : Version) × IsVersionAt k.chain.versions j v × (v.statics ≡ Some row) × ((e : Entry) × (v.entries ≡ e ∷ [])))
+
+-- so of a chain
 abbrev pub IsLone : ℕ → ℕ → Row → Memory → Type 0
-IsLone id j row m = IsSomeAnd (chain_at m id) (λ k. IsUnderUpdate k.chain j × ((v : Version) × IsVersionAt k.chain.versions j v × (v.statics ≡ Some row) × ((e : Entry) × (v.entries ≡ e ∷ []))))
+IsLone id j row m = IsSomeAnd (chain_at m id) (HasLone j row)
+
+-- a snapshot is another one
+abbrev pub IsOther : Held → Held → Type 0
+IsOther one other = other.chain ≡ one.chain → other.pin ≡ one.pin → ⊥
 
 -- where a version is under update, its last entry before the end is in the recency list
 abbrev pub IsLastListed : ℕ → ℕ → Memory → Type 0

@@ -1,10 +1,11 @@
 //! What is known of the chains from one call to the next: the snapshots that are held, and of two versions what they say.
 
-ghost use Rattle.std.specs.Prelude.{◌≡◌, ◌⊎◌, [], false, None, Some, IfSome};
+ghost use Rattle.std.specs.Prelude.{◌≡◌, ◌⊎◌, ◌<◌, [], ◌∷◌, ◌++◌, false, None, Some, Contains, IfSome, OnErr, OnOk, length};
+ghost use Rattle.rc_chain_walk.specs.declared.known.Held.{Held as Snapshot};
 ghost use Rattle.rc_chain_walk.specs.declared.known.Numbered.{Numbered as Version};
 ghost use Rattle.rc_chain_walk.specs.Walking.{IsKnownBeside};
 
-use std::alloc::Global;
+use std::alloc::{AllocError, Global};
 
 /// A snapshot that is held.
 #[derive(Clone, Copy)]
@@ -49,6 +50,28 @@ impl Known {
             full: None,
             bare: None,
         }
+    }
+
+    /// A snapshot more is held. The only error is want of memory, which changes nothing.
+    pub(crate) fn hold(&mut self, held: Held) -> Result<(), AllocError>
+        ensures ok { OnOk result (self.new.held.items ≡ self.old.held.items ++ (held ∷ [])) }
+        ensures err { OnErr result (self.new.held.items ≡ self.old.held.items) }
+        ensures full { self.new.full ≡ self.old.full }
+        ensures bare { self.new.bare ≡ self.old.bare }
+    {
+        self.held.push(held)?;
+        Ok(())
+    }
+
+    /// Takes out the snapshot of an index.
+    pub(crate) fn take(&mut self, index: usize) -> Held
+        requires { index < length self.old.held.items }
+        ensures one { Contains self.old.held.items result }
+        ensures others { (other : Snapshot) → Contains self.new.held.items other → Contains self.old.held.items other }
+        ensures full { self.new.full ≡ self.old.full }
+        ensures bare { self.new.bare ≡ self.old.bare }
+    {
+        self.held.remove(index)
     }
 
     /// The versions are known no longer.

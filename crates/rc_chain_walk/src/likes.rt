@@ -110,7 +110,10 @@ fn is_home(chains: &Chains<SEGMENT>, r: Ref, id: u64, number: u64) -> bool
     if chain != id {
         return false;
     }
-    version == number
+    if version != number {
+        return false;
+    }
+    true
 }
 
 // Puts a version over those of a cache chain, and joins a row to its static row: the number of the version.
@@ -159,13 +162,13 @@ fn join_first(
 {
     row_in_range(row);
     match first_of(chains, row, id, number) {
-        Some((r, turns)) => {
+        Some(found) => {
             chains.known();
             if !has_version(chains, to.chain, to.version) {
                 return None;
             }
-            let _made = chains.join_like(to.chain, to.version, r);
-            Some(turns)
+            let _made = chains.join_like(to.chain, to.version, found.0);
+            Some(found.1)
         }
         None => None,
     }

@@ -253,7 +253,10 @@ fn may_drop(chains: &Chains<SEGMENT>, id: u64, number: u64) -> bool
     if !chains.is_updating(id) {
         return true;
     }
-    versions > 2
+    if versions <= 2 {
+        return false;
+    }
+    true
 }
 
 /// `drop_version`, of the version that is known as bare: which one.

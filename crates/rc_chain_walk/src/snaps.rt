@@ -1,9 +1,9 @@
 //! The calls on snapshots.
 
-ghost use Rattle.std.specs.Prelude.{◌≡◌, ◌<◌, Contains, IfSome, false, length};
+ghost use Rattle.std.specs.Prelude.{◌≡◌, Contains, IfSome, false};
+ghost use Rattle.std.specs.List.{AllByRecursion};
 ghost use Rattle.rc_memory.specs.Memory.{HasPin};
-ghost use Rattle.rc_chain_walk.specs.declared.known.Held.{Held as Kept};
-ghost use Rattle.rc_chain_walk.specs.Walking.{IsKnown};
+ghost use Rattle.rc_chain_walk.specs.Walking.{IsKnown, IsOther};
 
 use crate::homes::SEGMENT;
 use crate::known::{Held, Known};
@@ -38,9 +38,9 @@ fn hold(_chains: &Chains<SEGMENT>, known: &mut Known, held: Held) -> Result<Held
     requires there { HasPin _chains.now held.chain held.pin }
     ensures { IsKnown _chains.now known.new }
 {
-    match known.held.push(held) {
+    match known.hold(held) {
         Ok(()) => Ok(held),
-        Err(_full) => Err(AllocError),
+        Err(error) => Err(error),
     }
 }
 
@@ -64,25 +64,25 @@ fn snap_of(held: Held) -> Snap
     }
 }
 
-// Whether a snapshot is among others.
-fn is_among(held: &[Held], one: Held) -> bool
-    ensures { result ≡ false → (other : Kept) → Contains held.now other → other.chain ≡ one.chain → other.pin ≡ one.pin → ⊥ }
+// Whether two snapshots are one.
+fn is_same(other: Held, one: Held) -> bool
+    ensures { result ≡ false → IsOther one other }
 {
-    for other in held {
-        if other.chain == one.chain && other.pin == one.pin {
-            return true;
-        }
-    }
-    false
+    other.chain == one.chain && other.pin == one.pin
 }
 
-// Takes the one at an index out.
-fn take(held: &mut Vec<Held>, index: usize) -> Held
-    requires { index < length held.old.items }
-    ensures one { Contains held.old.items result }
-    ensures others { (other : Kept) → Contains held.new.items other → Contains held.old.items other }
+// Whether a snapshot is among others.
+fn is_among(held: &[Held], one: Held) -> bool
+    ensures { result ≡ false → AllByRecursion (IsOther one) held.now }
 {
-    held.remove(index)
+    let mut left = held;
+    while let [first, rest @ ..] = left {
+        if is_same(*first, one) {
+            return true;
+        }
+        left = rest;
+    }
+    false
 }
 
 // The one at an index.
@@ -103,7 +103,7 @@ pub(crate) fn release(chains: &mut Chains<SEGMENT>, known: &mut Known, index: us
     if index >= known.held.len() {
         return None;
     }
-    let held = take(&mut known.held, index);
+    let held = known.take(index);
     if is_among(known.held.as_slice(), held) {
         return None;
     }

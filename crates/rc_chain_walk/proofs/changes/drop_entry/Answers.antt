@@ -1,7 +1,6 @@
-use Rattle.std.proofs.Common.{◌≡◌, ◌≢◌, ◌⊎◌, ◌++◌, ◌∷◌, [], List, Option, Some, None, IsSome, ℕ, true, false, inl, inr, refl, sym, ap, ◌∙◌, subst, arith, length}
-use Rattle.rc_chain_walk.proofs.Steps.{from-if, known-lost}
+use Rattle.std.proofs.Common.{arith}
+use Rattle.rc_chain_walk.proofs.Steps.{beside-same, from-if, known-lost}
 use Rattle.rc_chain_walk.proofs.Fitting.{limits-dropped}
-use Rattle.std.specs.Prelude.{IfSome}
 use Rattle.rc_core.specs.Change.{drop_at}
 use Rattle.rc_core.specs.Continuity.{with_entries}
 use Rattle.rc_core.specs.Version.{Version}
@@ -15,4 +14,4 @@ returns-in-Some c =
     let o = c.object_at.ensures in let m = c.object_at.new.chains in let id = c.args.at.chain in let j = c.args.at.version in let e = c.in-Some.e in let here = from-if _ c.object_at.result e o.here c.in-Some.is in
     let n = c.drop_entry.new.self in let x = c.args.x.now in
     known-lost m n id j (λ (v : Version). with_entries (drop_at x v.entries) v) (c.drop_entry.ensures.dropped x here).chains (from-if _ c.object_at.result e o.there c.in-Some.is) c.object_at.new.known c.forget_full.new.self o.known
-    c.forget_full.ensures.held c.forget_full.ensures.full (subst (λ b. IfSome b _) (sym c.forget_full.ensures.bare) (from-if _ c.object_at.result e o.beside c.in-Some.is)) (limits-dropped x)
+    c.forget_full.ensures.held c.forget_full.ensures.full (beside-same id j c.object_at.new.known c.forget_full.new.self c.forget_full.ensures.bare (from-if _ c.object_at.result e o.beside c.in-Some.is)) (limits-dropped x)

@@ -1,4 +1,4 @@
-use Rattle.std.proofs.Common.{◌≡◌, ◌≢◌, ◌⊎◌, ◌++◌, ◌∷◌, [], List, Option, Some, None, IsSome, ℕ, true, false, inl, inr, refl, sym, ap, ◌∙◌, subst, arith, length}
+use Rattle.std.proofs.Common.{refl}
 use Rattle.rc_chain_walk.proofs.Fitting.{known-entries, limits-undone, undone-listed}
 use Rattle.rc_core.specs.Continuity.{without_statics}
 use Rattle.rc_chain_walk.proofs.changes.drop_static.Goals as goal

@@ -1,7 +1,6 @@
-use Rattle.std.proofs.Common.{◌≡◌, ◌≢◌, ◌⊎◌, ◌++◌, ◌∷◌, [], List, Option, Some, None, IsSome, ℕ, true, false, inl, inr, refl, sym, ap, ◌∙◌, subst, arith, length}
 use Rattle.rc_chain_walk.proofs.Fitting.{known-kept}
-use Rattle.rc_core.specs.Steps.{join_pt, set_static_flag}
-use Rattle.rc_memory.specs.laws.Rows.{keeps-head, keeps-static_flag}
+use Rattle.rc_core.specs.Steps.{join_pt}
+use Rattle.rc_memory.specs.laws.Rows.{keeps-head}
 use Rattle.rc_chain_walk.proofs.changes.join_pt.Goals as goal
 
 pub returns : goal.returns

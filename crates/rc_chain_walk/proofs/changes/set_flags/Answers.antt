@@ -1,9 +1,9 @@
-use Rattle.std.proofs.Common.{◌≡◌, ◌≢◌, ◌⊎◌, ◌++◌, ◌∷◌, [], List, Option, Some, None, IsSome, ℕ, true, false, inl, inr, refl, sym, ap, ◌∙◌, subst, arith, length}
+use Rattle.std.proofs.Common.{Some, refl, arith}
 use Rattle.rc_chain_walk.proofs.Steps.{from-if}
 use Rattle.rc_chain_walk.proofs.Fitting.{known-kept}
-use Rattle.rc_core.specs.Steps.{set_flags, set_tombs}
+use Rattle.rc_core.specs.Steps.{set_flags}
 use Rattle.rc_memory.specs.Changes.{member}
-use Rattle.rc_memory.specs.laws.Rows.{keeps-flags, keeps-tombs}
+use Rattle.rc_memory.specs.laws.Rows.{keeps-flags}
 use Rattle.rc_chain_walk.proofs.changes.set_flags.Goals as goal
 
 pub set_flags-requires : goal.set_flags-requires

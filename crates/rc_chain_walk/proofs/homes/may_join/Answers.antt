@@ -1,4 +1,3 @@
-use Rattle.std.proofs.Common.{◌≡◌, ◌≢◌, ◌⊎◌, ◌++◌, ◌∷◌, [], List, Option, Some, None, IsSome, ℕ, true, false, inl, inr, refl, sym, ap, ◌∙◌, subst, arith, length}
 use Rattle.rc_chain_walk.proofs.Steps.{from-if}
 use Rattle.rc_chain_walk.proofs.Listed.{full-last}
 use Rattle.rc_chain_walk.proofs.homes.may_join.Goals as goal

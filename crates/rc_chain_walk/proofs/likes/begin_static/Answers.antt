@@ -1,4 +1,4 @@
-use Rattle.std.proofs.Common.{◌≡◌, ◌≢◌, ◌⊎◌, ◌++◌, ◌∷◌, [], List, Option, Some, None, IsSome, ℕ, true, false, inl, inr, refl, sym, ap, ◌∙◌, subst, arith, length}
+use Rattle.std.proofs.Common.{refl, arith}
 use Rattle.rc_chain_walk.proofs.Steps.{bare-none, from-if, known-lost}
 use Rattle.rc_chain_walk.proofs.Fitting.{fits-changed, static-spare}
 use Rattle.rc_chain_walk.proofs.Limits.{limits-flagged, static-small}

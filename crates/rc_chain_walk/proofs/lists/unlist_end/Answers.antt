@@ -1,7 +1,7 @@
-use Rattle.std.proofs.Common.{◌≡◌, ◌≢◌, ◌⊎◌, ◌++◌, ◌∷◌, [], List, Option, Some, None, IsSome, ℕ, true, false, inl, inr, refl, sym, ap, ◌∙◌, subst, arith, length}
+use Rattle.std.proofs.Common.{Some, ap, subst, arith}
 use Rattle.rc_chain_walk.proofs.Steps.{from-if, known-listed}
 use Rattle.rc_chain_walk.proofs.Listed.{end-free, ended-listed}
-use Rattle.rc_memory.specs.Memory.{Memory, Member}
+use Rattle.rc_memory.specs.Memory.{Memory}
 use Rattle.rc_memory.specs.Changes.{member}
 use Rattle.rc_core.specs.Version.{end_position}
 use Rattle.rc_memory.specs.Memory.{IsMemberObject}

@@ -1,8 +1,8 @@
-use Rattle.std.proofs.Common.{◌≡◌, ◌≢◌, ◌⊎◌, ◌++◌, ◌∷◌, [], List, Option, Some, None, IsSome, ℕ, true, false, inl, inr, refl, sym, ap, ◌∙◌, subst, arith, length}
+use Rattle.std.proofs.Common.{Some, refl, ap, arith}
 use Rattle.rc_chain_walk.proofs.Steps.{bare-none, from-if, known-chains, known-lost}
 use Rattle.rc_chain_walk.proofs.Limits.{dummy-small, limits-split}
 use Rattle.rc_chain_walk.proofs.Fresh.{fresh-free, fresh-has, fresh-last, fresh-listed, inner-before}
-use Rattle.rc_memory.specs.Memory.{Memory, Member}
+use Rattle.rc_memory.specs.Memory.{Memory}
 use Rattle.rc_memory.specs.Changes.{member}
 use Rattle.rc_core.specs.Change.{split}
 use Rattle.rc_core.specs.Continuity.{with_entries}

@@ -1,4 +1,4 @@
-use Rattle.std.proofs.Common.{◌≡◌, ◌≢◌, ◌⊎◌, ◌++◌, ◌∷◌, [], List, Option, Some, None, IsSome, ℕ, true, false, inl, inr, refl, sym, ap, ◌∙◌, subst, arith, length}
+use Rattle.std.proofs.Common.{inl, inr, ◌∙◌, arith}
 use Rattle.rc_chain_walk.proofs.Wholes.{chain-there, known-over}
 use Rattle.rc_chain_walk.proofs.lives.add_version.Goals as goal
 

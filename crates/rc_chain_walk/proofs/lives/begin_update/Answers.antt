@@ -1,4 +1,4 @@
-use Rattle.std.proofs.Common.{◌≡◌, ◌≢◌, ◌⊎◌, ◌++◌, ◌∷◌, [], List, Option, Some, None, IsSome, ℕ, true, false, inl, inr, refl, sym, ap, ◌∙◌, subst, arith, length}
+use Rattle.std.proofs.Common.{sym, subst, arith}
 use Rattle.rc_chain_walk.proofs.Wholes.{chain-there, known-over_less, over-fresh}
 use Rattle.rc_chain_walk.specs.Walking.{IsFresh}
 use Rattle.rc_chain_walk.proofs.lives.begin_update.Goals as goal

@@ -1,6 +1,6 @@
-use Rattle.std.proofs.Common.{◌≡◌, ◌≢◌, ◌⊎◌, ◌++◌, ◌∷◌, [], List, Option, Some, None, IsSome, ℕ, true, false, inl, inr, refl, sym, ap, ◌∙◌, subst, arith, length}
+use Rattle.std.proofs.Common.{refl, sym, ◌∙◌}
 use Rattle.rc_chain_walk.proofs.Wholes.{chain-there, known-settled}
-use Rattle.rc_memory.specs.Memory.{on_shown, shown_detached, shown_updating}
+use Rattle.rc_memory.specs.Memory.{on_shown, shown_detached}
 use Rattle.rc_chain_walk.proofs.lives.detach.Goals as goal
 
 pub returns : goal.returns

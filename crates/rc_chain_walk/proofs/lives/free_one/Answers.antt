@@ -1,4 +1,4 @@
-use Rattle.std.proofs.Common.{◌≡◌, ◌≢◌, ◌⊎◌, ◌++◌, ◌∷◌, [], List, Option, Some, None, IsSome, ℕ, true, false, inl, inr, refl, sym, ap, ◌∙◌, subst, arith, length}
+use Rattle.std.proofs.Common.{sym, ◌∙◌, arith}
 use Rattle.rc_chain_walk.proofs.Steps.{from-if, to-some}
 use Rattle.rc_chain_walk.proofs.Wholes.{chain-there}
 use Rattle.rc_chain_walk.proofs.Turns.{known-freed}

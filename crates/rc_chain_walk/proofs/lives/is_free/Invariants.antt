@@ -1,5 +1,5 @@
 -- Nobody pins the versions that were passed.
-use Rattle.std.proofs.Common.{◌≡◌, ◌≤◌, ◌<◌, ℕ, Some}
+use Rattle.std.proofs.Common.{◌≡◌, ◌<◌, ℕ, Some}
 use Rattle.rc_core.specs.Chains.{IsPinned}
 use Rattle.rc_memory.specs.Memory.{KeptChain, chain_at}
 use Rattle.rc_chain_walk.proofs.lives.is_free.Given as goal

@@ -1,5 +1,5 @@
-use Rattle.std.proofs.Common.{◌≡◌, ◌≢◌, ◌⊎◌, ◌++◌, ◌∷◌, [], List, Option, Some, None, IsSome, ℕ, true, false, inl, inr, refl, sym, ap, ◌∙◌, subst, arith, length}
-use Rattle.rc_chain_walk.proofs.Steps.{known-fuller, known-same}
+use Rattle.std.proofs.Common.{sym, ap, ◌∙◌}
+use Rattle.rc_chain_walk.proofs.Steps.{known-fewer, known-same}
 use Rattle.rc_chain_walk.proofs.Wholes.{bare-other, known-put, new-limits, no-chain_pin}
 use Rattle.rc_memory.specs.Memory.{Memory}
 use Rattle.rc_chain_walk.proofs.lives.new_chain.Goals as goal
@@ -15,4 +15,4 @@ pub returns-in-Err : goal.returns-in-Err
 returns-in-Err c =
     let m = c.has_room.new.chains in let n = c.new_chain.new.self in let same = c.in-Err.ensures.err.same in
     known-same m n (ap (λ (x : Memory). x.chains) same) c.forget_full.new.self (ap (λ (x : Memory). x.recency) same)
-    (known-fuller m c.args.known.now c.forget_full.new.self c.forget_full.ensures.held c.forget_full.ensures.full c.forget_full.ensures.bare c.has_room.ensures.known)
+    (known-fewer m c.args.known.now c.forget_full.new.self c.forget_full.ensures.held c.forget_full.ensures.full (λ b e. sym c.forget_full.ensures.bare ∙ e) c.has_room.ensures.known)

@@ -1,4 +1,3 @@
-use Rattle.std.proofs.Common.{◌≡◌, ◌≢◌, ◌⊎◌, ◌++◌, ◌∷◌, [], List, Option, Some, None, IsSome, ℕ, true, false, inl, inr, refl, sym, ap, ◌∙◌, subst, arith, length}
 use Rattle.rc_chain_walk.proofs.Wholes.{known-relabelled}
 use Rattle.rc_chain_walk.proofs.lives.relabel.Goals as goal
 

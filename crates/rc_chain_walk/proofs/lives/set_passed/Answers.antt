@@ -1,4 +1,4 @@
-use Rattle.std.proofs.Common.{◌≡◌, ◌≢◌, ◌⊎◌, ◌++◌, ◌∷◌, [], List, Option, Some, None, IsSome, ℕ, true, false, inl, inr, refl, sym, ap, ◌∙◌, subst, arith, length}
+use Rattle.std.proofs.Common.{refl, ap}
 use Rattle.rc_chain_walk.proofs.Wholes.{known-alike}
 use Rattle.rc_memory.specs.Memory.{Memory, mark_passed}
 use Rattle.rc_chain_walk.proofs.lives.set_passed.Goals as goal

@@ -1,4 +1,4 @@
-use Rattle.std.proofs.Common.{◌≡◌, ◌≢◌, ◌⊎◌, ◌++◌, ◌∷◌, [], List, Option, Some, None, IsSome, ℕ, true, false, inl, inr, refl, sym, ap, ◌∙◌, subst, arith, length}
+use Rattle.std.proofs.Common.{None, inl, inr, sym, ap, ◌∙◌}
 use Rattle.rc_chain_walk.proofs.Steps.{from-if, known-fewer, known-same}
 use Rattle.rc_chain_walk.proofs.Wholes.{chain-there, free-pin, known-put}
 use Rattle.rc_chain_walk.proofs.Turns.{idle-decided}

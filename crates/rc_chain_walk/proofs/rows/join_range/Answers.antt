@@ -1,4 +1,4 @@
-use Rattle.std.proofs.Common.{◌≡◌, ◌≢◌, ◌⊎◌, ◌++◌, ◌∷◌, [], List, Option, Some, None, IsSome, ℕ, true, false, inl, inr, refl, sym, ap, ◌∙◌, subst, arith, length}
+use Rattle.std.proofs.Common.{arith}
 use Rattle.rc_chain_walk.proofs.Steps.{known-changed}
 use Rattle.rc_chain_walk.proofs.Fitting.{limits-ranged, ranged-listed, ranged-only}
 use Rattle.rc_chain_walk.proofs.Limits.{dummy-small}

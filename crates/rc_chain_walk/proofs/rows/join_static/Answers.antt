@@ -1,4 +1,4 @@
-use Rattle.std.proofs.Common.{◌≡◌, ◌≢◌, ◌⊎◌, ◌++◌, ◌∷◌, [], List, Option, Some, None, IsSome, ℕ, true, false, inl, inr, refl, sym, ap, ◌∙◌, subst, arith, length}
+use Rattle.std.proofs.Common.{None, refl, arith}
 use Rattle.rc_chain_walk.proofs.Fitting.{fits-changed, known-entries, static-spare}
 use Rattle.rc_chain_walk.proofs.Listed.{renewed-listed}
 use Rattle.rc_chain_walk.proofs.Limits.{limits-flagged, static-small}
