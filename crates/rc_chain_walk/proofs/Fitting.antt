@@ -31,19 +31,19 @@ use Rattle.rc_memory.specs.laws.Recent.{on-at}
 use Rattle.rc_memory.specs.laws.Renewed.{without-still}
 use Rattle.rc_memory.specs.laws.Rows.{NoPosition, keeps-marks, object-alike, within-alike, within-dropped, within-undone}
 use Rattle.rc_chain_walk.specs.declared.known.Known.{Known}
-use Rattle.rc_chain_walk.specs.Walking.{AreWithinLimits, IsKnown, IsLastListed, IsLone, IsKnownBeside, IsWithinLimits}
+use Rattle.rc_chain_walk.specs.Walking.{HaveCodedParts, IsTracked, IsLastListed, IsLone, IsKnownBeside, HasCodedParts}
 use Rattle.rc_chain_walk.proofs.Limits.{joined-bytes-small, joined-static-small, limits-fit, limits-flagged, limits-joined, limits-split, limits-statics, limits-within, onto-fits, onto-is_row, seen-fits}
 use Rattle.rc_chain_walk.proofs.Listed.{has-decided, last-keeps, renewed-here, where_none-more}
 use Rattle.rc_chain_walk.proofs.Steps.{KeepsEntries, KeepsListed, from-if, from-some, known-changed, limits-on, put_here, to-if, version-among}
 
 -- ---- versions within the limits
 
-module _ (m : Memory) (id j : ℕ) (limits : (i : ℕ) → IfSome (chain_at m i) AreWithinLimits) where
-  pub limits-at : OfVersion m id j (λ k v. IsWithinLimits v)
-  limits-at k v at number = from-if AreWithinLimits (chain_at m id) k (limits id) at v (version-among k.chain.versions j v number)
+module _ (m : Memory) (id j : ℕ) (limits : (i : ℕ) → IfSome (chain_at m i) HaveCodedParts) where
+  pub limits-at : OfVersion m id j (λ k v. HasCodedParts v)
+  limits-at k v at number = from-if HaveCodedParts (chain_at m id) k (limits id) at v (version-among k.chain.versions j v number)
 
-  pub fits-changed : (f : Version → Version) → ((v : Version) → IsWithinLimits v → IsWithinLimits (f v)) → FitsChanged 131072 id j f m
-  fits-changed f keeps = to-if _ (chain_at m id) (λ k at. limits-fit (on_version j f k.chain.versions) (limits-on j f k keeps (from-if AreWithinLimits (chain_at m id) k (limits id) at)))
+  pub fits-changed : (f : Version → Version) → ((v : Version) → HasCodedParts v → HasCodedParts (f v)) → FitsChanged 131072 id j f m
+  fits-changed f keeps = to-if _ (chain_at m id) (λ k at. limits-fit (on_version j f k.chain.versions) (limits-on j f k keeps (from-if HaveCodedParts (chain_at m id) k (limits id) at)))
 
   pub row-spare : (x : Pos) (row : Row) (spare : ℕ) → KeyFits x.prefix → RowFits row → IsRow row → 8952 ≤ spare → OfVersion m id j (λ k v. joined_bytes x row v ≤ spare)
   row-spare x row spare fits h is room k v at number = let small = joined-bytes-small x row v fits h is (limits-at k v at number) in omega (arith, small, room)
@@ -51,13 +51,13 @@ module _ (m : Memory) (id j : ℕ) (limits : (i : ℕ) → IfSome (chain_at m i)
   pub static-spare : (row : Row) (spare : ℕ) → RowFits row → IsRow row → 8638 ≤ spare → OfVersion m id j (λ k v. static_size (joined_onto v.statics row) ≤ spare)
   static-spare row spare h is room k v at number = let small = joined-static-small row v h is (limits-at k v at number) in omega (arith, small, room)
 
-pub limits-kept : (f : Version → Version) → KeepsRows f → (v : Version) → IsWithinLimits v → IsWithinLimits (f v)
+pub limits-kept : (f : Version → Version) → KeepsRows f → (v : Version) → HasCodedParts v → HasCodedParts (f v)
 limits-kept f keeps v h = limits-within NoPosition v (f v) (within-alike v (f v) (keeps v).0 (keeps v).1) (λ y none. absurd none) h
 
-pub limits-dropped : (x : Pos) (v : Version) → IsWithinLimits v → IsWithinLimits (with_entries (drop_at x v.entries) v)
+pub limits-dropped : (x : Pos) (v : Version) → HasCodedParts v → HasCodedParts (with_entries (drop_at x v.entries) v)
 limits-dropped x v h = limits-within NoPosition v _ (within-dropped x v) (λ y none. absurd none) h
 
-pub limits-undone : (v : Version) → IsWithinLimits v → IsWithinLimits (without_statics v)
+pub limits-undone : (v : Version) → HasCodedParts v → HasCodedParts (without_statics v)
 limits-undone v h = limits-within NoPosition v _ (within-undone v) (λ y none. absurd none) h
 
 -- ---- what is known
@@ -65,15 +65,15 @@ limits-undone v h = limits-within NoPosition v _ (within-undone v) (λ y none. a
 pub same-listed : (m n : Memory) → n.recency ≡ m.recency → KeepsListed m n
 same-listed m n list i l x inner on = subst (λ ws. Contains ws (member i l (Some x))) (sym list) on
 
-module _ (m n : Memory) (id j : ℕ) (f : Version → Version) (is : n.chains ≡ on_chain id (on_shown (on_version_of j f)) m.chains) (there : HasVersion m id j) (known new : Known) (h : IsKnown m known)
+module _ (m n : Memory) (id j : ℕ) (f : Version → Version) (is : n.chains ≡ on_chain id (on_shown (on_version_of j f)) m.chains) (there : HasVersion m id j) (known new : Known) (h : IsTracked m known)
     (held : new.held ≡ known.held) (full : new.full ≡ known.full) (beside : IsKnownBeside id j known new) where
   -- rows and positions stay, and the list
-  pub known-kept : KeepsRows f → n.recency ≡ m.recency → IsKnown n new
+  pub known-kept : KeepsRows f → n.recency ≡ m.recency → IsTracked n new
   known-kept keeps list = known-changed m n id j f is there known new h held full beside (limits-kept f keeps) (same-listed m n list)
       (λ k v x at number on. inl (object-alike (f v) v (sym (keeps v).0) (sym (keeps v).1) (Some x) on))
 
   -- the entries stay
-  pub known-entries : ((v : Version) → IsWithinLimits v → IsWithinLimits (f v)) → ((v : Version) → (f v).entries ≡ v.entries) → KeepsListed m n → IsKnown n new
+  pub known-entries : ((v : Version) → HasCodedParts v → HasCodedParts (f v)) → ((v : Version) → (f v).entries ≡ v.entries) → KeepsListed m n → IsTracked n new
   known-entries limits same listed = known-changed m n id j f is there known new h held full beside limits listed (λ k v x at number on. inl (subst (HasEntryAt x) (same v) on))
 
 -- the static row left the list
@@ -83,7 +83,7 @@ undone-listed m n id j without i l x inner on = without-still (member id j None)
 -- ---- a row that was joined
 
 module _ (m n : Memory) (id j : ℕ) (x : Pos) (row : Row) (is : n.chains ≡ on_chain id (on_shown (on_version_of j (row_joined x row))) m.chains) (there : HasVersion m id j)
-    (versions : (i l : ℕ) → OfVersion m i l (λ k v. IsVersion v)) (limits : (i : ℕ) → IfSome (chain_at m i) AreWithinLimits) (fits : RowFits row) (is_row : IsRow row) where
+    (versions : (i l : ℕ) → OfVersion m i l (λ k v. IsVersion v)) (limits : (i : ℕ) → IfSome (chain_at m i) HaveCodedParts) (fits : RowFits row) (is_row : IsRow row) where
   pub joined-there : (joined : Row) × RowFits joined × IsRow joined × OfVersion n id j (λ k v. (seen (On x) v.entries).row ≡ Some joined)
   joined-there =
       let a = found-version m id j there in let old = (seen (On x) a.1.entries).row in
@@ -127,7 +127,7 @@ module _ (m n : Memory) (id j : ℕ) (from to : Pos) (tomb : Tomb) (there : HasV
         ]
       ]
 
-pub limits-ranged : (from to : Pos) (tomb : Tomb) (v : Version) → KeyFits from.prefix → KeyFits to.prefix → IsWithinLimits v → IsWithinLimits (range_joined from to tomb v)
+pub limits-ranged : (from to : Pos) (tomb : Tomb) (v : Version) → KeyFits from.prefix → KeyFits to.prefix → HasCodedParts v → HasCodedParts (range_joined from to tomb v)
 limits-ranged from to tomb v fits fits_to h =
     limits-kept (λ w. with_entries (map (changed (raised_mark (Some tomb)) from to) w.entries) w) (keeps-marks (raised_mark (Some tomb)) from to) (with_entries (split to (split from v.entries)) v)
     (limits-split to (with_entries (split from v.entries) v) fits_to (limits-split from v fits h))
@@ -135,7 +135,7 @@ limits-ranged from to tomb v fits fits_to h =
 -- ---- a row of another version
 
 -- what `join_like` asks for of the entry of a row that was joined
-module _ (m : Memory) (id j : ℕ) (limits : (i : ℕ) → IfSome (chain_at m i) AreWithinLimits) (from_id from_j : ℕ) where
+module _ (m : Memory) (id j : ℕ) (limits : (i : ℕ) → IfSome (chain_at m i) HaveCodedParts) (from_id from_j : ℕ) where
   pub like-fits : (w : Member) (y x : Pos) → w ≡ member from_id from_j (Some x) → y ≡ x → (row : Row) → OfVersion m from_id from_j (λ k v. (seen (On x) v.entries).row ≡ Some row) → KeyFits x.prefix → RowFits row → IsRow row
       → (spare : ℕ) → 8952 ≤ spare → IsLastListed id j m
       → (row : Row) × OfVersion m w.chain w.version (λ k v. (seen (On y) v.entries).row ≡ Some row) × OfVersion m id j (λ k v. joined_bytes y row v ≤ spare) × FitsChanged 131072 id j (row_joined y row) m × KeepsLast id j (row_joined y row) m

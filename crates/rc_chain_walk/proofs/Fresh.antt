@@ -29,7 +29,7 @@ use Rattle.rc_memory.specs.laws.Listed.{one-at}
 use Rattle.rc_memory.specs.laws.Places.{no_some, same_some}
 use Rattle.rc_memory.specs.laws.Recent.{on-at}
 use Rattle.rc_memory.specs.laws.Rules.{length-on}
-use Rattle.rc_chain_walk.specs.Walking.{HasLone, IsFresh, IsLone}
+use Rattle.rc_chain_walk.specs.Walking.{HasLone, IsBegun, IsLone}
 use Rattle.rc_chain_walk.proofs.Listed.{renewed-here}
 use Rattle.rc_chain_walk.proofs.Steps.{from-some, put_here, to-if, to-some}
 
@@ -38,7 +38,7 @@ no_inner [] d e end clash = cc clash
 no_inner (f ∷ []) d e end clash = cc clash
 no_inner (f ∷ g ∷ front) d e end clash = cc clash
 
-module _ (m : Memory) (id j phase : ℕ) (fresh : IsFresh id j phase m) where
+module _ (m : Memory) (id j phase : ℕ) (fresh : IsBegun id j phase m) where
   abbrev over : Version
   over = version_of Inherit None phase
 

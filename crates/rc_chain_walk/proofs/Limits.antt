@@ -27,7 +27,7 @@ use Rattle.rc_version.specs.Versions.{bytes_at, joined_bytes}
 use Rattle.rc_partition.specs.laws.Lists.{elem-cases, elem-first, elem-later, elem-mapped, elem-none}
 use Rattle.rc_memory.specs.Room.{FitTogether, HasRowAt, HasStaticRow}
 use Rattle.rc_memory.specs.laws.Rows.{IsWithin, within-split}
-use Rattle.rc_chain_walk.specs.Walking.{IsWithinLimits}
+use Rattle.rc_chain_walk.specs.Walking.{HasCodedParts}
 
 -- ---- rows
 
@@ -86,7 +86,7 @@ static-small row k is = static_at_small row (row_code_small row is k)
 -- ---- what may be joined
 
 -- where each version is within the limits, what may be joined fits together
-pub limits-fit : (vs : List Version) → ((v : Version) → Contains vs v → IsWithinLimits v) → FitTogether 131072 vs
+pub limits-fit : (vs : List Version) → ((v : Version) → Contains vs v → HasCodedParts v) → FitTogether 131072 vs
 limits-fit vs each = record {
   rows = λ x one rows from.
       let first = from one (elem-first one rows) in
@@ -107,16 +107,16 @@ seen-fits s [] each = tt
 seen-fits s (e ∷ es) each = answered (spot_cmp s e.position) e (seen s es) (each e (elem-first e es)) (seen-fits s es (λ f on. each f (elem-later e f es on)))
 
 -- an entry with a row joined is small
-pub joined-bytes-small : (x : Pos) (row : Row) (v : Version) → KeyFits x.prefix → RowFits row → IsRow row → IsWithinLimits v → joined_bytes x row v ≤ 8952
+pub joined-bytes-small : (x : Pos) (row : Row) (v : Version) → KeyFits x.prefix → RowFits row → IsRow row → HasCodedParts v → joined_bytes x row v ≤ 8952
 joined-bytes-small x row v fits k is h = row_at_small x (joined_onto (seen (On x) v.entries).row row) fits (onto_small (seen (On x) v.entries).row row (seen-fits (On x) v.entries h.rows) k is)
 
-pub joined-static-small : (row : Row) (v : Version) → RowFits row → IsRow row → IsWithinLimits v → static_size (joined_onto v.statics row) ≤ 8638
+pub joined-static-small : (row : Row) (v : Version) → RowFits row → IsRow row → HasCodedParts v → static_size (joined_onto v.statics row) ≤ 8638
 joined-static-small row v k is h = static_at_small (joined_onto v.statics row) (onto_small v.statics row h.statics k is)
 
 -- ---- a version after a call
 
 -- of which each row is one that it had, and each position, or one within the limits
-pub limits-within : (may : Pos → Type 0) (v w : Version) → IsWithin may v w → ((x : Pos) → may x → KeyFits x.prefix) → IsWithinLimits v → IsWithinLimits w
+pub limits-within : (may : Pos → Type 0) (v w : Version) → IsWithin may v w → ((x : Pos) → may x → KeyFits x.prefix) → HasCodedParts v → HasCodedParts w
 limits-within may v w within fits h = record {
   positions = λ e on. elim (within.entries e on) [ inl d ↦ subst (λ (y : Pos). KeyFits y.prefix) d.2 (h.positions d.0 d.1) | inr made ↦ fits e.position made.0 ];
   rows = λ e on. elim (within.entries e on) [ inl d ↦ subst (λ (o : Option Row). IfSome o RowFits) d.3 (h.rows d.0 d.1) | inr made ↦ subst (λ (o : Option Row). IfSome o RowFits) (sym made.1) tt ];
@@ -126,7 +126,7 @@ limits-within may v w within fits h = record {
   ] refl;
 }
 
-pub limits-split : (x : Pos) (v : Version) → KeyFits x.prefix → IsWithinLimits v → IsWithinLimits (with_entries (split x v.entries) v)
+pub limits-split : (x : Pos) (v : Version) → KeyFits x.prefix → HasCodedParts v → HasCodedParts (with_entries (split x v.entries) v)
 limits-split x v fits = limits-within (λ y. y ≡ x) v (with_entries (split x v.entries) v) (within-split x v) (λ y e. subst (λ (z : Pos). KeyFits z.prefix) (sym e) fits)
 
 at_position : (b : Bool) (row : Row) (e : Entry) → KeyFits e.position.prefix → KeyFits (cond b (with_row row e) e).position.prefix
@@ -138,7 +138,7 @@ at_row true row e k h = onto-fits e.row row h k
 at_row false row e k h = h
 
 -- to which a row was joined
-pub limits-joined : (x : Pos) (row : Row) (v : Version) → KeyFits x.prefix → RowFits row → IsWithinLimits v → IsWithinLimits (row_joined x row v)
+pub limits-joined : (x : Pos) (row : Row) (v : Version) → KeyFits x.prefix → RowFits row → HasCodedParts v → HasCodedParts (row_joined x row v)
 limits-joined x row v fits k h =
     let s = limits-split x v fits h in let g : Entry → Entry = λ e. cond (eq_by_cmp pos_cmp x e.position) (with_row row e) e in record {
       positions = λ e on. let d = elem-mapped g (split x v.entries) e on in subst (λ (f : Entry). KeyFits f.position.prefix) d.2 (at_position (eq_by_cmp pos_cmp x d.0.position) row d.0 (s.positions d.0 d.1));
@@ -146,14 +146,14 @@ limits-joined x row v fits k h =
       statics = h.statics;
     }
 
-pub limits-flagged : (row : Row) (flag : Flag) (v : Version) → RowFits row → IsWithinLimits v → IsWithinLimits (join_flagged_statics row flag v)
+pub limits-flagged : (row : Row) (flag : Flag) (v : Version) → RowFits row → HasCodedParts v → HasCodedParts (join_flagged_statics row flag v)
 limits-flagged row flag v k h = record { positions = h.positions; rows = h.rows; statics = onto-fits v.statics row h.statics k }
 
-pub limits-statics : (row : Row) (v : Version) → RowFits row → IsWithinLimits v → IsWithinLimits (join_statics row v)
+pub limits-statics : (row : Row) (v : Version) → RowFits row → HasCodedParts v → HasCodedParts (join_statics row v)
 limits-statics row v k h = record { positions = h.positions; rows = h.rows; statics = onto-fits v.statics row h.statics k }
 
 -- of which the end dummy alone is there
-pub limits-new : (flag : Flag) (pt : Option Tomb) (phase : ℕ) → IsWithinLimits (version_of flag pt phase)
+pub limits-new : (flag : Flag) (pt : Option Tomb) (phase : ℕ) → HasCodedParts (version_of flag pt phase)
 limits-new flag pt phase = record {
   positions = λ e on. elim (elem-cases _ e [] on) [ inl same ↦ subst (λ (f : Entry). KeyFits f.position.prefix) same (omega arith, All-from_recursion CompFits [] tt) | inr none ↦ absurd (elem-none e none) ];
   rows = λ e on. elim (elem-cases _ e [] on) [ inl same ↦ subst (λ (f : Entry). IfSome f.row RowFits) same tt | inr none ↦ absurd (elem-none e none) ];

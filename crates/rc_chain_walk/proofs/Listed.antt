@@ -23,7 +23,7 @@ use Rattle.rc_memory.specs.laws.Entries.{before-differs, only-joined, split-has}
 use Rattle.rc_memory.specs.laws.Listing.{listed-decided, pos_decided}
 use Rattle.rc_memory.specs.laws.Places.{same_some}
 use Rattle.rc_memory.specs.laws.Renewed.{without-still}
-use Rattle.rc_chain_walk.specs.Walking.{IsFull, IsLastListed}
+use Rattle.rc_chain_walk.specs.Walking.{IsListedWhole, IsLastListed}
 use Rattle.rc_chain_walk.proofs.Steps.{KeepsEntries, KeepsListed, from-if, from-some, to-if, to-some}
 
 -- ---- an object was made
@@ -117,9 +117,9 @@ last_inner v at is l = (
 )
 
 module _ (m : Memory) (id : ℕ) (versions : (i l : ℕ) → OfVersion m i l (λ k v. IsVersion v)) where
-  pub full-last : IfSome (chain_at m id) (IsFull id m.recency) → LastIsListed id m
+  pub full-last : IfSome (chain_at m id) (IsListedWhole id m.recency) → LastIsListed id m
   full-last full k j v at there u number l =
-      let e = last_inner v at (versions id j k v there number) l in subst (λ a. Contains m.recency (member id j a)) (sym e.1) (from-if (IsFull id m.recency) (chain_at m id) k full there j v e.0 u number e.2 e.3)
+      let e = last_inner v at (versions id j k v there number) l in subst (λ a. Contains m.recency (member id j a)) (sym e.1) (from-if (IsListedWhole id m.recency) (chain_at m id) k full there j v e.0 u number e.2 e.3)
 
 -- so its last entry stays the last one, or is listed
 pub last-keeps : (m : Memory) (id j : ℕ) (f : Version → Version) → IsLastListed id j m → KeepsLast id j f m

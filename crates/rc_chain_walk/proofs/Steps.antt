@@ -22,7 +22,7 @@ use Rattle.rc_chain.specs.Lives.{IsEndAlone}
 use Rattle.rc_chain_walk.specs.declared.known.Held.{Held}
 use Rattle.rc_chain_walk.specs.declared.known.Known.{Known}
 use Rattle.rc_chain_walk.specs.declared.known.Numbered.{Numbered}
-use Rattle.rc_chain_walk.specs.Walking.{AreWithinLimits, HasBare, IsFull, IsKnown, IsKnownBeside, IsWithinLimits}
+use Rattle.rc_chain_walk.specs.Walking.{HaveCodedParts, HasBare, IsListedWhole, IsTracked, IsKnownBeside, HasCodedParts}
 
 -- ---- options
 
@@ -60,44 +60,44 @@ module _ (m n : Memory) (same : n.chains ≡ m.chains) where
   at_same i = ap (λ cs. slice_index_or cs i None) same
 
   -- where all that was listed is still
-  pub known-listed : (known : Known) → KeepsListed m n → IsKnown m known → IsKnown n known
+  pub known-listed : (known : Known) → KeepsListed m n → IsTracked m known → IsTracked n known
   known-listed known more h = record {
-    limits = λ i. subst (λ o. IfSome o AreWithinLimits) (sym (at_same i)) (h.limits i);
+    limits = λ i. subst (λ o. IfSome o HaveCodedParts) (sym (at_same i)) (h.limits i);
     held = λ s on. subst (λ (o : Option KeptChain). IsSomeAnd o (λ k. IsSome (pin_at k.chain.pins s.pin))) (sym (at_same s.chain)) (h.held s on);
-    full = to-if (λ i. IfSome (chain_at n i) (IsFull i n.recency)) known.full (λ i e. to-if (IsFull i n.recency) (chain_at n i) (λ k there j v x u number on inner.
-        more i j x inner (from-if (IsFull i m.recency) (chain_at m i) k (from-if (λ i. IfSome (chain_at m i) (IsFull i m.recency)) known.full i h.full e) (sym (at_same i) ∙ there) j v x u number on inner)));
+    full = to-if (λ i. IfSome (chain_at n i) (IsListedWhole i n.recency)) known.full (λ i e. to-if (IsListedWhole i n.recency) (chain_at n i) (λ k there j v x u number on inner.
+        more i j x inner (from-if (IsListedWhole i m.recency) (chain_at m i) k (from-if (λ i. IfSome (chain_at m i) (IsListedWhole i m.recency)) known.full i h.full e) (sym (at_same i) ∙ there) j v x u number on inner)));
     bare = to-if (λ b. IsSomeAnd (chain_at n b.chain) (HasBare b.version)) known.bare (λ b e. subst (λ o. IsSomeAnd o (HasBare b.version)) (sym (at_same b.chain))
         (from-if (λ b. IsSomeAnd (chain_at m b.chain) (HasBare b.version)) known.bare b h.bare e));
   }
 
-  pub known-same : (known : Known) → n.recency ≡ m.recency → IsKnown m known → IsKnown n known
+  pub known-same : (known : Known) → n.recency ≡ m.recency → IsTracked m known → IsTracked n known
   known-same known list = known-listed known (λ i j x inner on. subst (λ l. Contains l (member i j (Some x))) (sym list) on)
 
   -- where it is not known what is under update
-  pub known-chains : (known : Known) → known.full ≡ None → IsKnown m known → IsKnown n known
+  pub known-chains : (known : Known) → known.full ≡ None → IsTracked m known → IsTracked n known
   known-chains known full h = record {
-    limits = λ i. subst (λ o. IfSome o AreWithinLimits) (sym (at_same i)) (h.limits i);
+    limits = λ i. subst (λ o. IfSome o HaveCodedParts) (sym (at_same i)) (h.limits i);
     held = λ s on. subst (λ (o : Option KeptChain). IsSomeAnd o (λ k. IsSome (pin_at k.chain.pins s.pin))) (sym (at_same s.chain)) (h.held s on);
-    full = full-none known known (λ i. IfSome (chain_at n i) (IsFull i n.recency)) full;
+    full = full-none known known (λ i. IfSome (chain_at n i) (IsListedWhole i n.recency)) full;
     bare = to-if (λ b. IsSomeAnd (chain_at n b.chain) (HasBare b.version)) known.bare (λ b e. subst (λ o. IsSomeAnd o (HasBare b.version)) (sym (at_same b.chain))
         (from-if (λ b. IsSomeAnd (chain_at m b.chain) (HasBare b.version)) known.bare b h.bare e));
   }
 
 -- less is known
-pub known-less : (m : Memory) (known new : Known) → new.held ≡ known.held → new.full ≡ None → new.bare ≡ None → IsKnown m known → IsKnown m new
+pub known-less : (m : Memory) (known new : Known) → new.held ≡ known.held → new.full ≡ None → new.bare ≡ None → IsTracked m known → IsTracked m new
 known-less m known new held full bare h = record {
   limits = h.limits;
   held = λ s on. h.held s (subst (λ l. Contains l s) (λ i. (held i).items) on);
-  full = full-none known new (λ i. IfSome (chain_at m i) (IsFull i m.recency)) full;
+  full = full-none known new (λ i. IfSome (chain_at m i) (IsListedWhole i m.recency)) full;
   bare = bare-none known new (λ b. IsSomeAnd (chain_at m b.chain) (HasBare b.version)) bare;
 }
 
 -- which version is bare is as it was, or unknown
-pub known-fewer : (m : Memory) (known new : Known) → new.held ≡ known.held → new.full ≡ None → ((b : Numbered) → new.bare ≡ Some b → known.bare ≡ Some b) → IsKnown m known → IsKnown m new
+pub known-fewer : (m : Memory) (known new : Known) → new.held ≡ known.held → new.full ≡ None → ((b : Numbered) → new.bare ≡ Some b → known.bare ≡ Some b) → IsTracked m known → IsTracked m new
 known-fewer m known new held full bare h = record {
   limits = h.limits;
   held = λ s on. h.held s (subst (λ l. Contains l s) (λ i. (held i).items) on);
-  full = full-none known new (λ i. IfSome (chain_at m i) (IsFull i m.recency)) full;
+  full = full-none known new (λ i. IfSome (chain_at m i) (IsListedWhole i m.recency)) full;
   bare = to-if (λ b. IsSomeAnd (chain_at m b.chain) (HasBare b.version)) new.bare (λ b e. from-if (λ b. IsSomeAnd (chain_at m b.chain) (HasBare b.version)) known.bare b h.bare (bare b e));
 }
 
@@ -144,29 +144,29 @@ module _ (m n : Memory) (id : ℕ) (g : KeptChain → KeptChain) (is : n.chains 
   ]
 
   -- all but what is known of one version
-  pub known-on : (known new : Known) → IsKnown m known → new.held ≡ known.held
-      → ((k : KeptChain) → chain_at m id ≡ Some k → AreWithinLimits k → AreWithinLimits (g k))
+  pub known-on : (known new : Known) → IsTracked m known → new.held ≡ known.held
+      → ((k : KeptChain) → chain_at m id ≡ Some k → HaveCodedParts k → HaveCodedParts (g k))
       → ((k : KeptChain) (pin : ℕ) → chain_at m id ≡ Some k → IsSome (pin_at k.chain.pins pin) → IsSome (pin_at (g k).chain.pins pin))
-      → IfSome new.full (λ i. IfSome (chain_at n i) (IsFull i n.recency)) → IfSome new.bare (λ b. IsSomeAnd (chain_at n b.chain) (HasBare b.version)) → IsKnown n new
+      → IfSome new.full (λ i. IfSome (chain_at n i) (IsListedWhole i n.recency)) → IfSome new.bare (λ b. IsSomeAnd (chain_at n b.chain) (HasBare b.version)) → IsTracked n new
   known-on known new h held limits pins full bare = record {
-    limits = λ i. if-on AreWithinLimits AreWithinLimits i (h.limits i) (λ k same there p. limits k there p) (λ k ne p. p);
+    limits = λ i. if-on HaveCodedParts HaveCodedParts i (h.limits i) (λ k same there p. limits k there p) (λ k ne p. p);
     held = λ s on. some-on (λ k. IsSome (pin_at k.chain.pins s.pin)) s.chain (h.held s (subst (λ l. Contains l s) (λ i. (held i).items) on)) (λ k same there p. pins k s.pin there p);
     full = full;
     bare = bare;
   }
 
   -- a version that was bare is
-  pub bare-on : (known new : Known) → IsKnown m known → ((b : Numbered) → new.bare ≡ Some b → (known.bare ≡ Some b) × ((k : KeptChain) → b.chain ≡ id → chain_at m id ≡ Some k → HasBare b.version k → HasBare b.version (g k)))
+  pub bare-on : (known new : Known) → IsTracked m known → ((b : Numbered) → new.bare ≡ Some b → (known.bare ≡ Some b) × ((k : KeptChain) → b.chain ≡ id → chain_at m id ≡ Some k → HasBare b.version k → HasBare b.version (g k)))
       → IfSome new.bare (λ b. IsSomeAnd (chain_at n b.chain) (HasBare b.version))
   bare-on known new h told = to-if (λ b. IsSomeAnd (chain_at n b.chain) (HasBare b.version)) new.bare (λ b e.
       some-on (HasBare b.version) b.chain (from-if (λ b. IsSomeAnd (chain_at m b.chain) (HasBare b.version)) known.bare b h.bare (told b e).0) (λ k same there p. (told b e).1 k same there p))
 
 -- less of what is held
-pub known-sub : (m : Memory) (known new : Known) → ((s : Held) → Contains new.held.items s → Contains known.held.items s) → new.full ≡ known.full → new.bare ≡ known.bare → IsKnown m known → IsKnown m new
+pub known-sub : (m : Memory) (known new : Known) → ((s : Held) → Contains new.held.items s → Contains known.held.items s) → new.full ≡ known.full → new.bare ≡ known.bare → IsTracked m known → IsTracked m new
 known-sub m known new less full bare h = record {
   limits = h.limits;
   held = λ s on. h.held s (less s on);
-  full = subst (λ o. IfSome o (λ i. IfSome (chain_at m i) (IsFull i m.recency))) (sym full) h.full;
+  full = subst (λ o. IfSome o (λ i. IfSome (chain_at m i) (IsListedWhole i m.recency))) (sym full) h.full;
   bare = subst (λ o. IfSome o (λ (b : Numbered). IsSomeAnd (chain_at m b.chain) (HasBare b.version))) (sym bare) h.bare;
 }
 
@@ -197,14 +197,14 @@ on_each (suc j) f (v ∷ vs) w on = elim (elem-cases v w (on_version j f vs) on)
   ]
 ]
 
-pub limits-on : (j : ℕ) (f : Version → Version) (k : KeptChain) → ((v : Version) → IsWithinLimits v → IsWithinLimits (f v)) → AreWithinLimits k → AreWithinLimits (on_shown (on_version_of j f) k)
-limits-on j f k keeps h w on = elim (on_each j f k.chain.versions w on) [ inl old ↦ h w old | inr made ↦ subst IsWithinLimits made.2 (keeps made.0 (h made.0 made.1)) ]
+pub limits-on : (j : ℕ) (f : Version → Version) (k : KeptChain) → ((v : Version) → HasCodedParts v → HasCodedParts (f v)) → HaveCodedParts k → HaveCodedParts (on_shown (on_version_of j f) k)
+limits-on j f k keeps h w on = elim (on_each j f k.chain.versions w on) [ inl old ↦ h w old | inr made ↦ subst HasCodedParts made.2 (keeps made.0 (h made.0 made.1)) ]
 
 module _ (m n : Memory) (id j : ℕ) (f : Version → Version) (is : n.chains ≡ on_chain id (on_shown (on_version_of j f)) m.chains) (there : HasVersion m id j) where
-  full_on : KeepsListed m n → KeepsEntries id j f m n → (i : ℕ) → IfSome (chain_at m i) (IsFull i m.recency) → IfSome (chain_at n i) (IsFull i n.recency)
-  full_on more only i h = if-on m n id (on_shown (on_version_of j f)) is (IsFull i m.recency) (IsFull i n.recency) i h here (λ k ne p l v x u number on inner. more i l x inner (p l v x u number on inner))
+  full_on : KeepsListed m n → KeepsEntries id j f m n → (i : ℕ) → IfSome (chain_at m i) (IsListedWhole i m.recency) → IfSome (chain_at n i) (IsListedWhole i n.recency)
+  full_on more only i h = if-on m n id (on_shown (on_version_of j f)) is (IsListedWhole i m.recency) (IsListedWhole i n.recency) i h here (λ k ne p l v x u number on inner. more i l x inner (p l v x u number on inner))
     where
-      here : (k : KeptChain) → i ≡ id → chain_at m id ≡ Some k → IsFull i m.recency k → IsFull i n.recency (on_shown (on_version_of j f) k)
+      here : (k : KeptChain) → i ≡ id → chain_at m id ≡ Some k → IsListedWhole i m.recency k → IsListedWhole i n.recency (on_shown (on_version_of j f) k)
       here k same at p l v x u number on inner =
           let found = found-version m id j there in
           let version : IsVersionAt k.chain.versions j found.1 = subst (λ (q : KeptChain). IsVersionAt q.chain.versions j found.1) (same_some found.0 k (sym found.2 ∙ at)) found.3 in
@@ -225,17 +225,17 @@ module _ (m n : Memory) (id j : ℕ) (f : Version → Version) (is : n.chains �
       let version : IsVersionAt k.chain.versions j found.1 = subst (λ (q : KeptChain). IsVersionAt q.chain.versions j found.1) (same_some found.0 k (sym found.2 ∙ at)) found.3 in
       (b.0, on-beside k.chain.versions j found.1 f version l b.0 ne b.1, b.2)
 
-  bare_beside : (known new : Known) → IsKnown m known → IsKnownBeside id j known new → IfSome new.bare (λ b. IsSomeAnd (chain_at n b.chain) (HasBare b.version))
+  bare_beside : (known new : Known) → IsTracked m known → IsKnownBeside id j known new → IfSome new.bare (λ b. IsSomeAnd (chain_at n b.chain) (HasBare b.version))
   bare_beside known new h beside = bare-on m n id (on_shown (on_version_of j f)) is known new h (λ b e. let told = from-if (λ (b : Numbered). (known.bare ≡ Some b) × (b.chain ≡ id → b.version ≡ j → ⊥)) new.bare b beside e in
       (told.0, λ k same at p. bare_on k b.version (told.1 same) at p))
 
   -- where all that was listed is still, and what is made is
-  pub known-changed : (known new : Known) → IsKnown m known → new.held ≡ known.held → new.full ≡ known.full → IsKnownBeside id j known new → ((v : Version) → IsWithinLimits v → IsWithinLimits (f v))
-      → KeepsListed m n → KeepsEntries id j f m n → IsKnown n new
+  pub known-changed : (known new : Known) → IsTracked m known → new.held ≡ known.held → new.full ≡ known.full → IsKnownBeside id j known new → ((v : Version) → HasCodedParts v → HasCodedParts (f v))
+      → KeepsListed m n → KeepsEntries id j f m n → IsTracked n new
   known-changed known new h held full beside limits more only = known-on m n id (on_shown (on_version_of j f)) is known new h held (λ k at p. limits-on j f k limits p) (λ k pin at p. p)
-      (to-if _ new.full (λ i e. full_on more only i (from-if (λ i. IfSome (chain_at m i) (IsFull i m.recency)) known.full i h.full (sym full ∙ e)))) (bare_beside known new h beside)
+      (to-if _ new.full (λ i e. full_on more only i (from-if (λ i. IfSome (chain_at m i) (IsListedWhole i m.recency)) known.full i h.full (sym full ∙ e)))) (bare_beside known new h beside)
 
   -- where what is under update is known no longer
-  pub known-lost : (known new : Known) → IsKnown m known → new.held ≡ known.held → new.full ≡ None → IsKnownBeside id j known new → ((v : Version) → IsWithinLimits v → IsWithinLimits (f v)) → IsKnown n new
+  pub known-lost : (known new : Known) → IsTracked m known → new.held ≡ known.held → new.full ≡ None → IsKnownBeside id j known new → ((v : Version) → HasCodedParts v → HasCodedParts (f v)) → IsTracked n new
   known-lost known new h held full beside limits = known-on m n id (on_shown (on_version_of j f)) is known new h held (λ k at p. limits-on j f k limits p) (λ k pin at p. p)
       (full-none known new _ full) (bare_beside known new h beside)

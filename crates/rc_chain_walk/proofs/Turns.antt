@@ -32,7 +32,7 @@ use Rattle.rc_chain.specs.Lives.{IsAtUpTo, IsIdle, IsOneFreed, IsRemainder, IsTo
 use Rattle.rc_chain_walk.specs.declared.known.Held.{Held}
 use Rattle.rc_chain_walk.specs.declared.known.Known.{Known}
 use Rattle.rc_chain_walk.specs.declared.known.Numbered.{Numbered}
-use Rattle.rc_chain_walk.specs.Walking.{AreWithinLimits, HasBare, IsKnown, IsKnownBeside, IsOther, IsWithinLimits}
+use Rattle.rc_chain_walk.specs.Walking.{HaveCodedParts, HasBare, IsTracked, IsKnownBeside, IsOther, HasCodedParts}
 use Rattle.rc_chain_walk.proofs.Wholes.{free-pin, known-put, known-without, some-number}
 use Rattle.rc_chain_walk.proofs.Steps.{KeepsListed, from-if, from-some, known-listed, known-lost, to-if}
 
@@ -89,14 +89,14 @@ taken_limits mark x (f ∷ es) P gap each e on = told (λ later. taken_limits ma
     told further true there = first_limits mark es P gap (λ g inside. each g (elem-later f g es inside)) e there
     told further false there = elim (elem-cases f e (take_out mark x es) there) [ inl same ↦ subst P same (each f (elem-first f es)) | inr later ↦ further later ]
 
-pub freed-limits : (kind : ChainKind) (x : Pos) (v : Version) → IsWithinLimits v → IsWithinLimits (free_entry kind x v)
+pub freed-limits : (kind : ChainKind) (x : Pos) (v : Version) → HasCodedParts v → HasCodedParts (free_entry kind x v)
 freed-limits kind x v h = record {
   positions = taken_limits (freed_mark kind) x v.entries _ (λ e p. p) h.positions;
   rows = taken_limits (freed_mark kind) x v.entries _ (λ e p. p) h.rows;
   statics = h.statics;
 }
 
-pub freed_static-limits : (kind : ChainKind) (v : Version) → IsWithinLimits v → IsWithinLimits (free_statics kind v)
+pub freed_static-limits : (kind : ChainKind) (v : Version) → HasCodedParts v → HasCodedParts (free_statics kind v)
 freed_static-limits kind v h = record { positions = h.positions; rows = h.rows; statics = tt }
 
 -- where it is known no longer which version of a chain is bare
@@ -104,7 +104,7 @@ pub beside-chain : (id j : ℕ) (known new : Known) → IfSome new.bare (λ (b :
 beside-chain id j known new h = to-if _ new.bare (λ b e. let told = from-if (λ (b : Numbered). (known.bare ≡ Some b) × (b.chain ≡ id → ⊥)) new.bare b h e in (told.0, λ same number. told.1 same))
 
 module _ (m n : Memory) (id : ℕ) (k : KeptChain) (there : chain_at m id ≡ Some k) (free : AreFree k.chain.pins) (has : HasVersion m id 0) (freed : IsOneFreed id m n) where
-  pub known-freed : (known new : Known) → IsKnown m known → new.held ≡ known.held → new.full ≡ None → IfSome new.bare (λ (b : Numbered). (known.bare ≡ Some b) × (b.chain ≡ id → ⊥)) → IsKnown n new
+  pub known-freed : (known new : Known) → IsTracked m known → new.held ≡ known.held → new.full ≡ None → IfSome new.bare (λ (b : Numbered). (known.bare ≡ Some b) × (b.chain ≡ id → ⊥)) → IsTracked n new
   known-freed known new h held full bare = elim freed [
     | inl entry ↦ known-lost m n id 0 (free_entry k.chain.kind entry.at) (entry.changed k there).chains has known new h held full (beside-chain id 0 known new bare) (freed-limits k.chain.kind entry.at)
     | inr (inl static) ↦ known-lost m n id 0 (free_statics k.chain.kind) (static.changed k there).chains has known new h held full (beside-chain id 0 known new bare) (freed_static-limits k.chain.kind)
@@ -160,15 +160,15 @@ pub turned-listed : (m n : Memory) (w : Member) (front back : List Member) → m
 turned-listed m n w front back is list i l x inner on = subst (λ ws. Contains ws (member i l (Some x))) (sym list) (turned-more front back w (member i l (Some x)) (subst (λ ws. Contains ws (member i l (Some x))) is on))
 
 -- the first object went to the back
-pub turned : (m n : Memory) (found : Option Ref) (r : Ref) → found ≡ Some r → IfSome found (λ r. (w : Member) × (rest : List Member) × (m.recency ≡ w ∷ rest) × IsMemberObject m r w) → (known : Known) → IsKnown m known
-    → ((w : Member) (front back : List Member) → m.recency ≡ front ++ (w ∷ back) → IsMemberObject m r w → n ≡ listed_as ((front ++ back) ++ (w ∷ [])) n.region m) → IsKnown n known
+pub turned : (m n : Memory) (found : Option Ref) (r : Ref) → found ≡ Some r → IfSome found (λ r. (w : Member) × (rest : List Member) × (m.recency ≡ w ∷ rest) × IsMemberObject m r w) → (known : Known) → IsTracked m known
+    → ((w : Member) (front back : List Member) → m.recency ≡ front ++ (w ∷ back) → IsMemberObject m r w → n ≡ listed_as ((front ++ back) ++ (w ∷ [])) n.region m) → IsTracked n known
 turned m n found r is first known h touched =
     let f = from-if (λ r. (w : Member) × (rest : List Member) × (m.recency ≡ w ∷ rest) × IsMemberObject m r w) found r first is in let t = touched f.0 [] f.1 f.2 f.3 in
     known-listed m n (ap (λ (x : Memory). x.chains) t) known (turned-listed m n f.0 [] f.1 f.2 (ap (λ (x : Memory). x.recency) t)) h
 
 -- the entries at a key went to the back
 pub keyed : (m n : Memory) (id pin : ℕ) (x : Pos) → HasPin m id pin
-    → ((k : KeptChain) (j : ℕ) → chain_at m id ≡ Some k → pin_at k.chain.pins pin ≡ Some j → (list : List Member) × IsTouched (IsAtUpTo id j x) m.recency list × (n ≡ listed_as list n.region m)) → (known : Known) → IsKnown m known → IsKnown n known
+    → ((k : KeptChain) (j : ℕ) → chain_at m id ≡ Some k → pin_at k.chain.pins pin ≡ Some j → (list : List Member) × IsTouched (IsAtUpTo id j x) m.recency list × (n ≡ listed_as list n.region m)) → (known : Known) → IsTracked m known → IsTracked n known
 keyed m n id pin x has touched known h =
     let k = from-some (λ (k : KeptChain). IsSome (pin_at k.chain.pins pin)) (chain_at m id) has in let j = some-number (pin_at k.0.chain.pins pin) k.2 in let t = touched k.0 j.0 k.1 j.1 in
     known-listed m n (ap (λ (y : Memory). y.chains) t.2) known

@@ -18,33 +18,33 @@ use Rattle.rc_chain_walk.specs.declared.known.Known.{Known}
 use Rattle.rc_chain_walk.specs.declared.known.Numbered.{Numbered}
 
 -- positions and rows of a version are within the limits of their codes
-pub record IsWithinLimits (v : Version) : Type 0 where
+pub record HasCodedParts (v : Version) : Type 0 where
   pub positions : (e : Entry) → Contains v.entries e → KeyFits e.position.prefix
   pub rows : (e : Entry) → Contains v.entries e → IfSome e.row RowFits
   pub statics : IfSome v.statics RowFits
 
 -- so is each version of a chain
-abbrev pub AreWithinLimits : KeptChain → Type 0
-AreWithinLimits k = (v : Version) → Contains k.chain.versions v → IsWithinLimits v
+abbrev pub HaveCodedParts : KeptChain → Type 0
+HaveCodedParts k = (v : Version) → Contains k.chain.versions v → HasCodedParts v
 
 -- each entry of the version of a chain that is under update is in a list, but the end dummy
-abbrev pub IsFull : ℕ → List Member → KeptChain → Type 0
-IsFull id list k = (j : ℕ) (v : Version) (x : Pos) → IsUnderUpdate k.chain j → IsVersionAt k.chain.versions j v → HasEntryAt x v.entries → x ≢ end_position → Contains list (member id j (Some x))
+abbrev pub IsListedWhole : ℕ → List Member → KeptChain → Type 0
+IsListedWhole id list k = (j : ℕ) (v : Version) (x : Pos) → IsUnderUpdate k.chain j → IsVersionAt k.chain.versions j v → HasEntryAt x v.entries → x ≢ end_position → Contains list (member id j (Some x))
 
 -- of a version of a chain its end dummy alone is left
 abbrev pub HasBare : ℕ → KeptChain → Type 0
 HasBare j k = (v : Version) × IsVersionAt k.chain.versions j v × IsEndAlone v
 
 -- what holds of the chains from one call to the next
-pub record IsKnown (m : Memory) (known : Known) : Type 0 where
-  pub limits : (id : ℕ) → IfSome (chain_at m id) AreWithinLimits
+pub record IsTracked (m : Memory) (known : Known) : Type 0 where
+  pub limits : (id : ℕ) → IfSome (chain_at m id) HaveCodedParts
   pub held : (h : Held) → Contains known.held.items h → HasPin m h.chain h.pin
-  pub full : IfSome known.full (λ id. IfSome (chain_at m id) (IsFull id m.recency))
+  pub full : IfSome known.full (λ id. IfSome (chain_at m id) (IsListedWhole id m.recency))
   pub bare : IfSome known.bare (λ b. IsSomeAnd (chain_at m b.chain) (HasBare b.version))
 
 -- the newest version of a cache chain, which is under update, and of which the end dummy alone is there
-abbrev pub IsFresh : ℕ → ℕ → ℕ → Memory → Type 0
-IsFresh id j phase m = IsSomeAnd (chain_at m id) (λ k. (k.chain.kind ≡ Cache) × IsUnderUpdate k.chain j × IsVersionAt k.chain.versions j (version_of Inherit None phase))
+abbrev pub IsBegun : ℕ → ℕ → ℕ → Memory → Type 0
+IsBegun id j phase m = IsSomeAnd (chain_at m id) (λ k. (k.chain.kind ≡ Cache) × IsUnderUpdate k.chain j × IsVersionAt k.chain.versions j (version_of Inherit None phase))
 
 -- a version that is under update, of which the end dummy and a static row alone are there
 abbrev pub HasLone : ℕ → Row → KeptChain → Type 0

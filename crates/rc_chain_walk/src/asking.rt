@@ -1,6 +1,6 @@
 //! What the chains show, beside what the plain chains say.
 
-ghost use Rattle.rc_chain_walk.specs.Walking.{IsKnown};
+ghost use Rattle.rc_chain_walk.specs.Walking.{IsTracked};
 
 use crate::homes::{SEGMENT, has_version};
 use crate::known::{Held, Known};
@@ -75,7 +75,7 @@ pub(crate) fn ask_chains(
     positions: &[Pos],
     tally: &mut Tally,
 ) -> Result<(), AllocError>
-    requires { IsKnown chains.now known.now }
+    requires { IsTracked chains.now known.now }
 {
     ask_numbers(chains, plain.chains.as_slice(), tally);
     for chain in &plain.chains {
@@ -133,7 +133,7 @@ fn ask_snapshots(
     positions: &[Pos],
     tally: &mut Tally,
 ) -> Result<(), AllocError>
-    requires { IsKnown chains.now known.now }
+    requires { IsTracked chains.now known.now }
 {
     for index in 0..known.held.len() {
         if let Some(held) = held_of(known, index, plain.id) {
@@ -169,7 +169,7 @@ fn ask_standing(
     plain: &PlainChain,
     tally: &mut Tally,
 )
-    requires { IsKnown chains.now known.now }
+    requires { IsTracked chains.now known.now }
 {
     if let Some((at, fills)) = standing(chains, known, index) {
         tally.expect(at == number as u64, "pinned_at");
@@ -189,7 +189,7 @@ fn ask_head(
     plain: &PlainChain,
     tally: &mut Tally,
 ) -> Result<(), AllocError>
-    requires { IsKnown chains.now known.now }
+    requires { IsTracked chains.now known.now }
 {
     if let Some(head) = seen_head(chains, known, index)? {
         is_head(alloc, &head, versions, plain, tally)?;
@@ -225,7 +225,7 @@ fn ask_at(
     x: &Pos,
     tally: &mut Tally,
 ) -> Result<(), AllocError>
-    requires { IsKnown chains.now known.now }
+    requires { IsTracked chains.now known.now }
 {
     if let Some(seen) = seen_at(chains, known, index, x)? {
         is_at(alloc, &seen, versions, plain, x, tally)?;

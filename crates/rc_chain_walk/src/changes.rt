@@ -1,7 +1,7 @@
 //! The calls on one version.
 
 ghost use Rattle.rc_rowcode.specs.Spelling.{KeyFits};
-ghost use Rattle.rc_chain_walk.specs.Walking.{IsKnown};
+ghost use Rattle.rc_chain_walk.specs.Walking.{IsTracked};
 
 use crate::homes::{SEGMENT, has_version, object_at};
 use crate::known::{Known, Numbered};
@@ -14,9 +14,9 @@ use std::alloc::Global;
 
 /// `split`.
 pub(crate) fn split(chains: &mut Chains<SEGMENT>, known: &mut Known, at: Numbered, x: &Pos) -> bool
-    requires known { IsKnown chains.old known.old }
+    requires known { IsTracked chains.old known.old }
     requires limits { KeyFits x.now.prefix }
-    ensures { IsKnown chains.new known.new }
+    ensures { IsTracked chains.new known.new }
 {
     object_at(chains, known, at, x).is_some()
 }
@@ -30,9 +30,9 @@ pub(crate) fn set_flags(
     on: Flag,
     gap: Flag,
 ) -> bool
-    requires known { IsKnown chains.old known.old }
+    requires known { IsTracked chains.old known.old }
     requires limits { KeyFits x.now.prefix }
-    ensures { IsKnown chains.new known.new }
+    ensures { IsTracked chains.new known.new }
 {
     match object_at(chains, known, at, x) {
         Some(e) => {
@@ -52,9 +52,9 @@ pub(crate) fn set_tombs(
     on: Option<Tomb>,
     gap: Option<Tomb>,
 ) -> bool
-    requires known { IsKnown chains.old known.old }
+    requires known { IsTracked chains.old known.old }
     requires limits { KeyFits x.now.prefix }
-    ensures { IsKnown chains.new known.new }
+    ensures { IsTracked chains.new known.new }
 {
     match object_at(chains, known, at, x) {
         Some(e) => {
@@ -73,9 +73,9 @@ pub(crate) fn drop_entry(
     at: Numbered,
     x: &Pos,
 ) -> bool
-    requires known { IsKnown chains.old known.old }
+    requires known { IsTracked chains.old known.old }
     requires limits { KeyFits x.now.prefix }
-    ensures { IsKnown chains.new known.new }
+    ensures { IsTracked chains.new known.new }
 {
     if is_end(alloc, x) {
         return false;
@@ -92,8 +92,8 @@ pub(crate) fn drop_entry(
 
 /// `drop_static`.
 pub(crate) fn drop_static(chains: &mut Chains<SEGMENT>, known: &mut Known, at: Numbered) -> bool
-    requires { IsKnown chains.old known.old }
-    ensures { IsKnown chains.new known.new }
+    requires { IsTracked chains.old known.old }
+    ensures { IsTracked chains.new known.new }
 {
     if !has_version(chains, at.chain, at.version) {
         return false;
@@ -110,8 +110,8 @@ pub(crate) fn join_pt(
     at: Numbered,
     tomb: Tomb,
 ) -> bool
-    requires { IsKnown chains.old known.old }
-    ensures { IsKnown chains.new known.new }
+    requires { IsTracked chains.old known.old }
+    ensures { IsTracked chains.new known.new }
 {
     if !has_version(chains, at.chain, at.version) {
         return false;
@@ -128,8 +128,8 @@ pub(crate) fn set_static_flag(
     at: Numbered,
     flag: Flag,
 ) -> bool
-    requires { IsKnown chains.old known.old }
-    ensures { IsKnown chains.new known.new }
+    requires { IsTracked chains.old known.old }
+    ensures { IsTracked chains.new known.new }
 {
     if !has_version(chains, at.chain, at.version) {
         return false;

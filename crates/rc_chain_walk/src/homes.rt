@@ -6,7 +6,7 @@ ghost use Rattle.lsa_region.specs.Region.{body};
 ghost use Rattle.rc_rowcode.specs.Spelling.{KeyFits};
 ghost use Rattle.rc_memory.specs.Memory.{HasVersion, IsMemberObject};
 ghost use Rattle.rc_memory.specs.Changes.{LastIsListed, member};
-ghost use Rattle.rc_chain_walk.specs.Walking.{IsKnown, IsKnownBeside, IsLastListed};
+ghost use Rattle.rc_chain_walk.specs.Walking.{IsTracked, IsKnownBeside, IsLastListed};
 
 use crate::known::{Known, Numbered};
 use lsa_kinds::Kind;
@@ -35,7 +35,7 @@ pub(crate) fn has_version(chains: &Chains<SEGMENT>, id: u64, number: u64) -> boo
 
 /// Whether an entry may be made in a version: it is there, and where an update stands in it each of its entries is in the recency list.
 pub(crate) fn may_make(chains: &Chains<SEGMENT>, known: &Known, id: u64, number: u64) -> bool
-    requires { IsKnown chains.now known.now }
+    requires { IsTracked chains.now known.now }
     ensures there { result ≡ true → HasVersion chains.now id number }
     ensures last { result ≡ true → IsLastListed id number chains.now }
 {
@@ -64,7 +64,7 @@ fn is_full(known: &Known, id: u64) -> bool
 
 /// Whether a range tombstone may be joined in a chain: where an update stands in it, each entry there is in the recency list.
 pub(crate) fn may_join(chains: &Chains<SEGMENT>, known: &Known, id: u64, number: u64) -> bool
-    requires { IsKnown chains.now known.now }
+    requires { IsTracked chains.now known.now }
     ensures there { result ≡ true → HasVersion chains.now id number }
     ensures last { result ≡ true → LastIsListed id chains.now }
 {
@@ -80,8 +80,8 @@ pub(crate) fn may_join(chains: &Chains<SEGMENT>, known: &Known, id: u64, number:
 
 /// Makes room for what a call makes, by moves where it must; false where there is none.
 pub(crate) fn has_room(chains: &mut Chains<SEGMENT>, _known: &Known) -> bool
-    requires { IsKnown chains.old _known.now }
-    ensures known { IsKnown chains.new _known.now }
+    requires { IsTracked chains.old _known.now }
+    ensures known { IsTracked chains.new _known.now }
     ensures room { result ≡ true → 40000 ≤ spare_of 131072 chains.new.region.usages }
 {
     match chains.ensure(ROOM) {
@@ -92,8 +92,8 @@ pub(crate) fn has_room(chains: &mut Chains<SEGMENT>, _known: &Known) -> bool
 
 /// Empties a segment, so that its objects move; false where none is sparse.
 pub(crate) fn empty_one(chains: &mut Chains<SEGMENT>, _known: &Known) -> bool
-    requires { IsKnown chains.old _known.now }
-    ensures { IsKnown chains.new _known.now }
+    requires { IsTracked chains.old _known.now }
+    ensures { IsTracked chains.new _known.now }
 {
     chains.compact_one()
 }
@@ -105,9 +105,9 @@ pub(crate) fn object_at(
     at: Numbered,
     x: &Pos,
 ) -> Option<Ref>
-    requires known { IsKnown chains.old known.old }
+    requires known { IsTracked chains.old known.old }
     requires limits { KeyFits x.now.prefix }
-    ensures known { IsKnown chains.new known.new }
+    ensures known { IsTracked chains.new known.new }
     ensures here { IfSome result (λ r. IsMemberObject chains.new r (member at.chain at.version (Some x.now))) }
     ensures there { IfSome result (λ r. HasVersion chains.new at.chain at.version) }
     ensures beside { IfSome result (λ r. IsKnownBeside at.chain at.version known.new known.new) }

@@ -6,7 +6,7 @@ ghost use Rattle.rc_cell.specs.declared.rows.Row.{Row as Joined};
 ghost use Rattle.rc_rowcode.specs.Spelling.{KeyFits, RowFits};
 ghost use Rattle.rc_memory.specs.Memory.{Member, IsMemberObject};
 ghost use Rattle.rc_memory.specs.Changes.{member};
-ghost use Rattle.rc_chain_walk.specs.Walking.{IsKnown, IsLone};
+ghost use Rattle.rc_chain_walk.specs.Walking.{IsTracked, IsLone};
 
 use crate::homes::{SEGMENT, has_version, may_make, object_at};
 use crate::known::{Known, Numbered};
@@ -27,9 +27,9 @@ pub(crate) fn split_like(
     from: Numbered,
     x: &Pos,
 ) -> bool
-    requires known { IsKnown chains.old known.old }
+    requires known { IsTracked chains.old known.old }
     requires limits { KeyFits x.now.prefix }
-    ensures { IsKnown chains.new known.new }
+    ensures { IsTracked chains.new known.new }
 {
     if !may_make(chains, known, to.chain, to.version) {
         return false;
@@ -57,10 +57,10 @@ pub(crate) fn join_like(
     key: &Key,
     row: &Row,
 ) -> bool
-    requires known { IsKnown chains.old known.old }
+    requires known { IsTracked chains.old known.old }
     requires key { KeyFits key.now }
     requires row { RowFits row.now }
-    ensures { IsKnown chains.new known.new }
+    ensures { IsTracked chains.new known.new }
 {
     if !may_make(chains, known, to.chain, to.version) {
         return false;
@@ -125,9 +125,9 @@ fn begin_static(
     row: &Row,
     flag: Flag,
 ) -> Option<u64>
-    requires known { IsKnown chains.old known.old }
+    requires known { IsTracked chains.old known.old }
     requires row { RowFits row.now }
-    ensures known { IsKnown chains.new known.new }
+    ensures known { IsTracked chains.new known.new }
     ensures full { IfSome result (λ j. known.new.full ≡ None) }
     ensures bare { IfSome result (λ j. known.new.bare ≡ None) }
     ensures room { IfSome result (λ j. 20000 ≤ spare_of 131072 chains.new.region.usages) }
@@ -152,13 +152,13 @@ fn join_first(
     number: u64,
     row: &Row,
 ) -> Option<u64>
-    requires known { IsKnown chains.old known.old }
+    requires known { IsTracked chains.old known.old }
     requires full { known.old.full ≡ None }
     requires bare { known.old.bare ≡ None }
     requires row { RowFits row.now }
     requires room { 20000 ≤ spare_of 131072 chains.old.region.usages }
     requires lone { IsLone id number row.now chains.old }
-    ensures { IsKnown chains.new known.new }
+    ensures { IsTracked chains.new known.new }
 {
     row_in_range(row);
     match first_of(chains, row, id, number) {
@@ -184,9 +184,9 @@ pub(crate) fn join_static_like(
     row: &Row,
     flag: Flag,
 ) -> Option<u64>
-    requires known { IsKnown chains.old known.old }
+    requires known { IsTracked chains.old known.old }
     requires row { RowFits row.now }
-    ensures { IsKnown chains.new known.new }
+    ensures { IsTracked chains.new known.new }
 {
     if !has_version(chains, to.chain, to.version) {
         return None;

@@ -4,7 +4,7 @@ ghost use Rattle.std.specs.Prelude.{◌≡◌, true, false, Some};
 ghost use Rattle.rc_core.specs.declared.entries.ChainKind.{ChainKind as Kind};
 ghost use Rattle.rc_rowcode.specs.Spelling.{KeyFits};
 ghost use Rattle.rc_memory.specs.Memory.{KeptChain, HasChain, chain_at};
-ghost use Rattle.rc_chain_walk.specs.Walking.{IsKnown};
+ghost use Rattle.rc_chain_walk.specs.Walking.{IsTracked};
 
 use crate::homes::{SEGMENT, object_at};
 use crate::known::{Known, Numbered};
@@ -33,8 +33,8 @@ pub(crate) fn list_end(
     known: &mut Known,
     at: Numbered,
 ) -> bool
-    requires { IsKnown chains.old known.old }
-    ensures { IsKnown chains.new known.new }
+    requires { IsTracked chains.old known.old }
+    ensures { IsTracked chains.new known.new }
 {
     match object_at(chains, known, at, &end_position(alloc)) {
         Some(end) => {
@@ -59,8 +59,8 @@ pub(crate) fn unlist_end(
     known: &mut Known,
     at: Numbered,
 ) -> bool
-    requires { IsKnown chains.old known.old }
-    ensures { IsKnown chains.new known.new }
+    requires { IsTracked chains.old known.old }
+    ensures { IsTracked chains.new known.new }
 {
     match object_at(chains, known, at, &end_position(alloc)) {
         Some(end) => {
@@ -81,9 +81,9 @@ pub(crate) fn touch(
     at: Numbered,
     x: &Pos,
 ) -> Option<bool>
-    requires known { IsKnown chains.old known.old }
+    requires known { IsTracked chains.old known.old }
     requires limits { KeyFits x.now.prefix }
-    ensures { IsKnown chains.new known.new }
+    ensures { IsTracked chains.new known.new }
 {
     match object_at(chains, known, at, x) {
         Some(e) => {
@@ -106,9 +106,9 @@ pub(crate) fn unlist_last(
     phase: u64,
     x: &Pos,
 ) -> bool
-    requires known { IsKnown chains.old known.old }
+    requires known { IsTracked chains.old known.old }
     requires limits { KeyFits x.now.prefix }
-    ensures { IsKnown chains.new known.new }
+    ensures { IsTracked chains.new known.new }
 {
     if is_end(alloc, x) {
         return false;

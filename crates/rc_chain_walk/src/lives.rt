@@ -6,7 +6,7 @@ ghost use Rattle.rc_core.specs.declared.entries.ChainKind.{ChainKind as Kind};
 ghost use Rattle.rc_registry.specs.Registry.{AreFree};
 ghost use Rattle.rc_memory.specs.Memory.{KeptChain, HasChain, chain_at};
 ghost use Rattle.rc_memory.specs.Changes.{CanDrop};
-ghost use Rattle.rc_chain_walk.specs.Walking.{IsFresh, IsKnown};
+ghost use Rattle.rc_chain_walk.specs.Walking.{IsBegun, IsTracked};
 
 use crate::homes::{SEGMENT, has_room};
 use crate::known::{Known, Numbered};
@@ -22,8 +22,8 @@ pub(crate) fn new_chain(
     phase: u64,
     pt: Option<Tomb>,
 ) -> Result<Option<u64>, AllocError>
-    requires { IsKnown chains.old known.old }
-    ensures { IsKnown chains.new known.new }
+    requires { IsTracked chains.old known.old }
+    ensures { IsTracked chains.new known.new }
 {
     if !has_room(chains, known) {
         return Ok(None);
@@ -72,8 +72,8 @@ pub(crate) fn add_version(
     phase: u64,
     stays: bool,
 ) -> bool
-    requires { IsKnown chains.old known.old }
-    ensures { IsKnown chains.new known.new }
+    requires { IsTracked chains.old known.old }
+    ensures { IsTracked chains.new known.new }
 {
     if !has_room(chains, known) {
         return false;
@@ -94,12 +94,12 @@ pub(crate) fn begin_update(
     id: u64,
     phase: u64,
 ) -> Option<u64>
-    requires known { IsKnown chains.old known.old }
-    ensures known { IsKnown chains.new known.new }
+    requires known { IsTracked chains.old known.old }
+    ensures known { IsTracked chains.new known.new }
     ensures full { IfSome result (λ j. known.new.full ≡ None) }
     ensures bare { IfSome result (λ j. known.new.bare ≡ None) }
     ensures room { IfSome result (λ j. 30000 ≤ spare_of 131072 chains.new.region.usages) }
-    ensures fresh { IfSome result (λ j. IsFresh id j phase chains.new) }
+    ensures fresh { IfSome result (λ j. IsBegun id j phase chains.new) }
 {
     if !has_room(chains, known) {
         return None;
@@ -118,8 +118,8 @@ pub(crate) fn begin_update(
 
 /// `end_update`, also where no update stands in the chain.
 pub(crate) fn end_update(chains: &mut Chains<SEGMENT>, known: &mut Known, id: u64) -> bool
-    requires { IsKnown chains.old known.old }
-    ensures { IsKnown chains.new known.new }
+    requires { IsTracked chains.old known.old }
+    ensures { IsTracked chains.new known.new }
 {
     if !chains.is_there(id) {
         return false;
@@ -131,8 +131,8 @@ pub(crate) fn end_update(chains: &mut Chains<SEGMENT>, known: &mut Known, id: u6
 
 /// `detach`.
 pub(crate) fn detach(chains: &mut Chains<SEGMENT>, known: &mut Known, id: u64) -> bool
-    requires { IsKnown chains.old known.old }
-    ensures { IsKnown chains.new known.new }
+    requires { IsTracked chains.old known.old }
+    ensures { IsTracked chains.new known.new }
 {
     if !chains.is_there(id) {
         return false;
@@ -149,8 +149,8 @@ pub(crate) fn set_passed(
     id: u64,
     passed: bool,
 ) -> bool
-    requires { IsKnown chains.old _known.now }
-    ensures { IsKnown chains.new _known.now }
+    requires { IsTracked chains.old _known.now }
+    ensures { IsTracked chains.new _known.now }
 {
     if !chains.is_there(id) {
         return false;
@@ -161,8 +161,8 @@ pub(crate) fn set_passed(
 
 /// `relabel`.
 pub(crate) fn relabel(chains: &mut Chains<SEGMENT>, known: &mut Known, to: u64)
-    requires { IsKnown chains.old known.old }
-    ensures { IsKnown chains.new known.new }
+    requires { IsTracked chains.old known.old }
+    ensures { IsTracked chains.new known.new }
 {
     known.forget();
     chains.relabel(to);
@@ -176,24 +176,24 @@ pub(crate) fn count(
     skipped: u64,
     shrunk: u64,
 )
-    requires { IsKnown chains.old _known.now }
-    ensures { IsKnown chains.new _known.now }
+    requires { IsTracked chains.old _known.now }
+    ensures { IsTracked chains.new _known.now }
 {
     chains.count(evicted, skipped, shrunk);
 }
 
 /// `take_dropped`.
 pub(crate) fn take_dropped(chains: &mut Chains<SEGMENT>, _known: &Known) -> Option<u64>
-    requires { IsKnown chains.old _known.now }
-    ensures { IsKnown chains.new _known.now }
+    requires { IsTracked chains.old _known.now }
+    ensures { IsTracked chains.new _known.now }
 {
     chains.take_dropped()
 }
 
 /// `sweep`.
 pub(crate) fn sweep(chains: &mut Chains<SEGMENT>, known: &mut Known, id: u64) -> bool
-    requires { IsKnown chains.old known.old }
-    ensures { IsKnown chains.new known.new }
+    requires { IsTracked chains.old known.old }
+    ensures { IsTracked chains.new known.new }
 {
     if !chains.is_there(id) {
         return false;
@@ -219,8 +219,8 @@ fn is_free(chains: &Chains<SEGMENT>, id: u64) -> bool
 
 /// `free_one`.
 pub(crate) fn free_one(chains: &mut Chains<SEGMENT>, known: &mut Known, id: u64) -> bool
-    requires { IsKnown chains.old known.old }
-    ensures { IsKnown chains.new known.new }
+    requires { IsTracked chains.old known.old }
+    ensures { IsTracked chains.new known.new }
 {
     if !chains.is_there(id) {
         return false;
@@ -261,8 +261,8 @@ fn may_drop(chains: &Chains<SEGMENT>, id: u64, number: u64) -> bool
 
 /// `drop_version`, of the version that is known as bare: which one.
 pub(crate) fn drop_version(chains: &mut Chains<SEGMENT>, known: &mut Known) -> Option<Numbered>
-    requires { IsKnown chains.old known.old }
-    ensures { IsKnown chains.new known.new }
+    requires { IsTracked chains.old known.old }
+    ensures { IsTracked chains.new known.new }
 {
     match known.bare {
         Some(bare) => {

@@ -9,7 +9,7 @@ ghost use Rattle.rc_position.specs.Position.{IsBefore, row_pos};
 ghost use Rattle.rc_rowcode.specs.Spelling.{KeyFits, RowFits};
 ghost use Rattle.rc_memory.specs.Memory.{IsMemberObject};
 ghost use Rattle.rc_memory.specs.Changes.{OfVersion, member};
-ghost use Rattle.rc_chain_walk.specs.Walking.{IsKnown};
+ghost use Rattle.rc_chain_walk.specs.Walking.{IsTracked};
 
 use crate::homes::{SEGMENT, has_room, has_version, may_join, may_make};
 use crate::known::{Known, Numbered};
@@ -28,10 +28,10 @@ pub(crate) fn join_row(
     key: &Key,
     row: &Row,
 ) -> Option<Ref>
-    requires known { IsKnown chains.old known.old }
+    requires known { IsTracked chains.old known.old }
     requires key { KeyFits key.now }
     requires row { RowFits row.now }
-    ensures known { IsKnown chains.new known.new }
+    ensures known { IsTracked chains.new known.new }
     ensures row { IfSome result (λ r. (joined : Joined) × RowFits joined × IsRow joined × OfVersion chains.new at.chain at.version (λ k v. (seen (On (row_pos key.now)) v.entries).row ≡ Some joined)) }
     ensures room { IfSome result (λ r. 30000 ≤ spare_of 131072 chains.new.region.usages) }
     ensures here { IfSome result (λ r. IsMemberObject chains.new r (member at.chain at.version (Some (row_pos key.now)))) }
@@ -57,11 +57,11 @@ pub(crate) fn join_range(
     to: &Pos,
     tomb: Tomb,
 ) -> bool
-    requires known { IsKnown chains.old known.old }
+    requires known { IsTracked chains.old known.old }
     requires from { KeyFits from.now.prefix }
     requires to { KeyFits to.now.prefix }
     requires ascend { IsBefore from.now to.now }
-    ensures { IsKnown chains.new known.new }
+    ensures { IsTracked chains.new known.new }
 {
     if !has_room(chains, known) {
         return false;
@@ -83,9 +83,9 @@ pub(crate) fn join_static(
     row: &Row,
     flag: Flag,
 ) -> bool
-    requires known { IsKnown chains.old known.old }
+    requires known { IsTracked chains.old known.old }
     requires row { RowFits row.now }
-    ensures { IsKnown chains.new known.new }
+    ensures { IsTracked chains.new known.new }
 {
     if !has_room(chains, known) {
         return false;

@@ -3,7 +3,7 @@
 ghost use Rattle.std.specs.Prelude.{◌≡◌, Contains, IfSome, false};
 ghost use Rattle.std.specs.List.{AllByRecursion};
 ghost use Rattle.rc_memory.specs.Memory.{HasPin};
-ghost use Rattle.rc_chain_walk.specs.Walking.{IsKnown, IsOther};
+ghost use Rattle.rc_chain_walk.specs.Walking.{IsTracked, IsOther};
 
 use crate::homes::SEGMENT;
 use crate::known::{Held, Known};
@@ -17,8 +17,8 @@ pub(crate) fn snapshot(
     known: &mut Known,
     id: u64,
 ) -> Result<Option<Held>, AllocError>
-    requires { IsKnown chains.old known.old }
-    ensures { IsKnown chains.new known.new }
+    requires { IsTracked chains.old known.old }
+    ensures { IsTracked chains.new known.new }
 {
     if !chains.is_there(id) {
         return Ok(None);
@@ -34,9 +34,9 @@ pub(crate) fn snapshot(
 
 // A snapshot is held.
 fn hold(_chains: &Chains<SEGMENT>, known: &mut Known, held: Held) -> Result<Held, AllocError>
-    requires known { IsKnown _chains.now known.old }
+    requires known { IsTracked _chains.now known.old }
     requires there { HasPin _chains.now held.chain held.pin }
-    ensures { IsKnown _chains.now known.new }
+    ensures { IsTracked _chains.now known.new }
 {
     match known.hold(held) {
         Ok(()) => Ok(held),
@@ -97,8 +97,8 @@ fn held_at(known: &Known, index: usize) -> Option<Held>
 
 /// `release`, of the one at an index.
 pub(crate) fn release(chains: &mut Chains<SEGMENT>, known: &mut Known, index: usize) -> Option<Held>
-    requires { IsKnown chains.old known.old }
-    ensures { IsKnown chains.new known.new }
+    requires { IsTracked chains.old known.old }
+    ensures { IsTracked chains.new known.new }
 {
     if index >= known.held.len() {
         return None;
@@ -118,8 +118,8 @@ pub(crate) fn touch_key(
     index: usize,
     key: &Key,
 ) -> Option<Held>
-    requires { IsKnown chains.old known.now }
-    ensures { IsKnown chains.new known.now }
+    requires { IsTracked chains.old known.now }
+    ensures { IsTracked chains.new known.now }
 {
     match held_at(known, index) {
         Some(held) => {
@@ -134,7 +134,7 @@ pub(crate) fn touch_key(
 
 /// `pinned_at` and `may_fill`, of the one at an index.
 pub(crate) fn standing(chains: &Chains<SEGMENT>, known: &Known, index: usize) -> Option<(u64, bool)>
-    requires { IsKnown chains.now known.now }
+    requires { IsTracked chains.now known.now }
 {
     match held_at(known, index) {
         Some(held) => {
@@ -154,7 +154,7 @@ pub(crate) fn seen_at(
     index: usize,
     x: &Pos,
 ) -> Result<Option<ReadAt>, AllocError>
-    requires { IsKnown chains.now known.now }
+    requires { IsTracked chains.now known.now }
 {
     match held_at(known, index) {
         Some(held) => {
@@ -173,7 +173,7 @@ pub(crate) fn seen_head(
     known: &Known,
     index: usize,
 ) -> Result<Option<ReadHead>, AllocError>
-    requires { IsKnown chains.now known.now }
+    requires { IsTracked chains.now known.now }
 {
     match held_at(known, index) {
         Some(held) => {

@@ -1,6 +1,6 @@
 //! The recency list in its order: each object of it goes to its back in turn, which leaves the list as it was.
 
-ghost use Rattle.rc_chain_walk.specs.Walking.{IsKnown};
+ghost use Rattle.rc_chain_walk.specs.Walking.{IsTracked};
 
 use crate::homes::{SEGMENT, position_of};
 use crate::known::Known;
@@ -16,8 +16,8 @@ fn turn(
     chains: &mut Chains<SEGMENT>,
     _known: &Known,
 ) -> Result<Option<(u64, u64, Option<Pos>)>, AllocError>
-    requires { IsKnown chains.old _known.now }
-    ensures { IsKnown chains.new _known.now }
+    requires { IsTracked chains.old _known.now }
+    ensures { IsTracked chains.new _known.now }
 {
     match chains.front() {
         Some(r) => {
@@ -51,8 +51,8 @@ pub(crate) fn turn_round(
     recency: &Recency,
     tally: &mut Tally,
 ) -> Result<(), AllocError>
-    requires { IsKnown chains.old known.now }
-    ensures { IsKnown chains.new known.now }
+    requires { IsTracked chains.old known.now }
+    ensures { IsTracked chains.new known.now }
 {
     for place in &recency.places {
         let first = turn(alloc, chains, known)?;

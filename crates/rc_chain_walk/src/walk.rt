@@ -43,13 +43,13 @@ pub(crate) struct Walk {
 
 impl Model for Walk {
     ghost use Rattle.rc_memory.specs.Memory.{Memory};
-    ghost use Rattle.rc_chain_walk.specs.Walking.{IsKnown};
+    ghost use Rattle.rc_chain_walk.specs.Walking.{IsTracked};
 
     ghost Value = { Memory };
 
     ghost view = { λ w. w.chains };
 
-    ghost invariant = { λ w. IsKnown w.chains w.known };
+    ghost invariant = { λ w. IsTracked w.chains w.known };
 }
 
 /// No chain, in a region of six segments.
@@ -69,10 +69,38 @@ impl Walk {
     pub(crate) fn step(&mut self, alloc: Global, tally: &mut Tally) -> Result<(), AllocError> {
         let fading = self.plain.detached();
         match fading {
-            Some(id) if self.chance.happens(40) => self.fade(alloc, id, tally)?,
-            _ => self.some_call(alloc, tally)?,
+            Some(id) if self.chance.happens(25) => self.fade(alloc, id, tally)?,
+            _ => self.go_on(alloc, tally)?,
         }
         self.ask(alloc, tally)
+    }
+
+    // Some call, or one that brings a bare version nearer to being dropped.
+    fn go_on(&mut self, alloc: Global, tally: &mut Tally) -> Result<(), AllocError> {
+        match self.known.bare {
+            Some(bare) if self.chance.happens(40) => self.ripen(alloc, bare, tally),
+            _ => self.some_call(alloc, tally),
+        }
+    }
+
+    // A version is put over a bare one and pinned, and the bare one is dropped.
+    fn ripen(
+        &mut self,
+        alloc: Global,
+        bare: Numbered,
+        tally: &mut Tally,
+    ) -> Result<(), AllocError> {
+        let id = bare.chain;
+        self.touched = id;
+        if (self.plain.versions(id) as u64) < bare.version.saturating_add(2) {
+            self.end_update(alloc, id, tally)?;
+            return self.add_version(alloc, id, true, tally);
+        }
+        if self.chance.happens(50) {
+            self.snapshot(id, tally)
+        } else {
+            self.drop_version(alloc, tally)
+        }
     }
 
     // A chain that is not found by its key is freed bit by bit, once its snapshots are taken back.
@@ -163,8 +191,14 @@ impl Walk {
         match lot {
             0..2 => self.new_chain(alloc, tally),
             2 => self.short_life(alloc, tally),
-            3..8 => self.add_version(alloc, tally),
-            8..11 => self.end_update(alloc, tally),
+            3..8 => {
+                let (id, stays) = (self.some_chain(), self.known.bare.is_some());
+                self.add_version(alloc, id, stays, tally)
+            }
+            8..11 => {
+                let id = self.some_chain();
+                self.end_update(alloc, id, tally)
+            }
             11 => self.on_end(alloc, tally),
             12 => {
                 let id = self.some_chain();
@@ -216,13 +250,17 @@ impl Walk {
         Ok(())
     }
 
-    fn add_version(&mut self, alloc: Global, tally: &mut Tally) -> Result<(), AllocError> {
-        let id = self.some_chain();
+    fn add_version(
+        &mut self,
+        alloc: Global,
+        id: u64,
+        stays: bool,
+        tally: &mut Tally,
+    ) -> Result<(), AllocError> {
         if self.plain.versions(id) >= MOST_VERSIONS {
             return Ok(());
         }
         let phase = self.some_phase();
-        let stays = self.chance.happens(60);
         let made = lives::add_version(&mut self.chains, &mut self.known, id, phase, stays);
         tally.made("add_version", made);
         if made {
@@ -231,8 +269,7 @@ impl Walk {
         Ok(())
     }
 
-    fn end_update(&mut self, alloc: Global, tally: &mut Tally) -> Result<(), AllocError> {
-        let id = self.some_chain();
+    fn end_update(&mut self, alloc: Global, id: u64, tally: &mut Tally) -> Result<(), AllocError> {
         let made = lives::end_update(&mut self.chains, &mut self.known, id);
         tally.made("end_update", made);
         if made {
@@ -283,7 +320,10 @@ impl Walk {
 
     fn on_uses(&mut self, alloc: Global, lot: u32, tally: &mut Tally) -> Result<(), AllocError> {
         match lot {
-            16..19 => self.snapshot(tally),
+            16..19 => {
+                let id = self.some_chain();
+                self.snapshot(id, tally)
+            }
             19..21 => Ok(self.release(tally)),
             21..26 => self.touch_key(alloc, tally),
             26 => Ok(self.relabel(tally)),
@@ -293,8 +333,7 @@ impl Walk {
         }
     }
 
-    fn snapshot(&mut self, tally: &mut Tally) -> Result<(), AllocError> {
-        let id = self.some_chain();
+    fn snapshot(&mut self, id: u64, tally: &mut Tally) -> Result<(), AllocError> {
         if self.known.held.len() >= MOST_SNAPSHOTS {
             return Ok(());
         }

@@ -1,6 +1,6 @@
 use Rattle.std.proofs.Common.{sym, subst, arith}
 use Rattle.rc_chain_walk.proofs.Wholes.{chain-there, known-over_less, over-fresh}
-use Rattle.rc_chain_walk.specs.Walking.{IsFresh}
+use Rattle.rc_chain_walk.specs.Walking.{IsBegun}
 use Rattle.rc_chain_walk.proofs.lives.begin_update.Goals as goal
 
 pub add_version-requires : goal.add_version-requires
@@ -16,4 +16,4 @@ returns-clause-known c =
 pub returns-clause-fresh : goal.returns-clause-fresh
 returns-clause-fresh c =
     let m = c.has_room.new.chains in let n = c.add_version.new.self in let k = chain-there m c.args.id (c.may_add.ensures.there c.if-not-may_add.false) in
-    subst (λ j. IsFresh c.args.id j c.args.phase n) (sym (c.versions-number.ensures k.0 k.1)) (over-fresh m n c.args.id c.args.phase k.0 k.1 c.add_version.ensures.added.chains (c.is_cache_chain.ensures c.if-not-is_cache_chain.false k.0 k.1))
+    subst (λ j. IsBegun c.args.id j c.args.phase n) (sym (c.versions-number.ensures k.0 k.1)) (over-fresh m n c.args.id c.args.phase k.0 k.1 c.add_version.ensures.added.chains (c.is_cache_chain.ensures c.if-not-is_cache_chain.false k.0 k.1))

@@ -15,5 +15,5 @@ pub returns : goal.returns
 returns c =
     let m = c.args.chains.now in let n = c.release.new.self in let snap = c.snap_of.result in let e = c.release.ensures in
     known-released m n snap.chain (without_snapshot snap.pin) (ap (λ (x : Memory). x.chains) e) (ap (λ (x : Memory). x.recency) e) (λ k. refl) (λ k. refl) snap.pin (released-still snap.pin) c.args.known.now c.take-held.new.self c.requires
-    (λ s on. (c.take-held.ensures.others s on, λ chain pin. others c.take-held.result c.take-held.new.self.held.items (subst (AllByRecursion (IsOther c.take-held.result)) c.as_slice.ensures.PART (c.is_among.ensures c.if-is_among.false)) s on (chain ∙ c.snap_of.ensures.chain) (pin ∙ c.snap_of.ensures.pin)))
+    (λ s on. (c.take-held.ensures.others s on, λ chain pin. others c.take-held.result c.take-held.new.self.held.items (subst (AllByRecursion (IsOther c.take-held.result)) c.as_slice.ensures.value (c.is_among.ensures c.if-is_among.false)) s on (chain ∙ c.snap_of.ensures.chain) (pin ∙ c.snap_of.ensures.pin)))
     c.take-held.ensures.full c.take-held.ensures.bare
