@@ -1,6 +1,6 @@
 -- What a call on one version asks for, and what is known after it.
-use Rattle.std.proofs.Common.{◌≡◌, ◌≢◌, ◌⊎◌, ◌≤◌, ◌+◌, ◌/◌, ℕ, suc, true, List, [], ◌∷◌, ◌++◌, Option, Some, None, length, inl, inr, refl, sym, ap, ◌∙◌, subst, map, arith}
-use Rattle.std.specs.Prelude.{Contains, IfSome, IsSomeAnd}
+use Rattle.std.proofs.Common.{◌≡◌, ◌≤◌, ℕ, List, Some, None, inl, inr, sym, ap, ◌∙◌, subst, map, arith}
+use Rattle.std.specs.Prelude.{Contains, IfSome}
 use Rattle.std.specs.Option.{option_map}
 use Rattle.rc_cell.specs.declared.rows.Row.{Row}
 use Rattle.rc_cell.specs.declared.writes.Tomb.{Tomb}
@@ -9,20 +9,17 @@ use Rattle.rc_position.specs.declared.positions.Pos.{Pos}
 use Rattle.rc_rowcode.specs.Objects.{static_size}
 use Rattle.rc_rowcode.specs.Spelling.{KeyFits, RowFits}
 use Rattle.rc_core.specs.declared.entries.ChainKind.TheVariants.{Cache}
-use Rattle.rc_core.specs.declared.entries.Entry.{Entry}
-use Rattle.rc_core.specs.declared.entries.Flag.{Flag}
 use Rattle.rc_core.specs.AtPlace.{HasEntryAt}
 use Rattle.rc_core.specs.Change.{changed, drop_at, joined_onto, raised_mark, split}
 use Rattle.rc_core.specs.Continuity.{with_entries, without_statics}
-use Rattle.rc_core.specs.Steps.{join_flagged_statics, join_statics, on_version, range_joined, row_joined}
-use Rattle.rc_core.specs.Version.{Finding, IsVersion, On, Version, end_position, seen}
+use Rattle.rc_core.specs.Steps.{join_statics, on_version, range_joined, row_joined}
+use Rattle.rc_core.specs.Version.{Finding, IsVersion, On, Version, seen}
 use Rattle.rc_core.specs.laws.Spots.{join_row-there}
 use Rattle.rc_version.specs.Versions.{joined_bytes}
 use Rattle.rc_memory.specs.Memory.{KeptChain, Member, Memory, HasVersion, IsVersionAt, chain_at, on_chain, on_shown, on_version_of}
 use Rattle.rc_memory.specs.Kept.{IsSoundChain}
-use Rattle.rc_memory.specs.Changes.{FitsChanged, KeepsLast, IsRenewed, IsRenewedWhereNone, IsWithout, KeepsRows, OfVersion, member}
+use Rattle.rc_memory.specs.Changes.{FitsChanged, KeepsLast, IsRenewedWhereNone, IsWithout, KeepsRows, OfVersion, member}
 use Rattle.rc_memory.specs.Recency.{IsUnderUpdate}
-use Rattle.rc_memory.specs.Room.{FitTogether}
 use Rattle.rc_memory.specs.laws.At.{found-version}
 use Rattle.rc_memory.specs.laws.Entries.{split-has}
 use Rattle.rc_memory.specs.laws.Listed.{one-at}
@@ -32,7 +29,7 @@ use Rattle.rc_memory.specs.laws.Renewed.{without-still}
 use Rattle.rc_memory.specs.laws.Rows.{NoPosition, keeps-marks, object-alike, within-alike, within-dropped, within-undone}
 use Rattle.rc_chain_walk.specs.declared.known.Known.{Known}
 use Rattle.rc_chain_walk.specs.Walking.{HaveCodedParts, IsTracked, IsLastListed, IsLone, IsKnownBeside, HasCodedParts}
-use Rattle.rc_chain_walk.proofs.Limits.{joined-bytes-small, joined-static-small, limits-fit, limits-flagged, limits-joined, limits-split, limits-statics, limits-within, onto-fits, onto-is_row, seen-fits}
+use Rattle.rc_chain_walk.proofs.Limits.{joined-bytes-small, joined-static-small, limits-fit, limits-joined, limits-split, limits-statics, limits-within, onto-fits, onto-is_row, seen-fits}
 use Rattle.rc_chain_walk.proofs.Listed.{has-decided, last-keeps, renewed-here, where_none-more}
 use Rattle.rc_chain_walk.proofs.Steps.{KeepsEntries, KeepsListed, from-if, from-some, known-changed, limits-on, put_here, to-if, version-among}
 

@@ -1,6 +1,6 @@
 -- A version that was put over those of a cache chain, and what is made in it first.
-use Rattle.std.proofs.Common.{◌≡◌, ◌≢◌, ◌⊎◌, ◌≤◌, ◌<◌, ℕ, suc, true, false, List, [], ◌∷◌, ◌++◌, Option, Some, None, length, inl, inr, refl, sym, ap, ◌∙◌, subst, slice_index_or, arith}
-use Rattle.std.specs.Prelude.{Contains, IfSome, IsSomeAnd}
+use Rattle.std.proofs.Common.{◌≡◌, ◌≢◌, ◌<◌, ℕ, true, false, List, [], ◌∷◌, ◌++◌, Option, Some, None, length, inl, inr, refl, sym, ap, ◌∙◌, subst, slice_index_or}
+use Rattle.std.specs.Prelude.{Contains, IsSomeAnd}
 use Rattle.std.specs.Option.{option_map}
 use Rattle.std.specs.Ordering.{is_gt}
 use Rattle.std.specs.declared.cmp.Ordering.{Ordering}
@@ -22,11 +22,11 @@ use Rattle.rc_core.specs.Steps.{join_flagged_statics, on_version, version_of}
 use Rattle.rc_core.specs.Version.{EndsWithDummy, IsVersion, Version, end_position}
 use Rattle.rc_partition.specs.laws.Lists.{elem-first, elem-split}
 use Rattle.rc_memory.specs.Memory.{KeptChain, Member, Memory, HasVersion, IsMemberObject, IsVersionAt, chain_at, on_chain, on_shown, on_version_of}
-use Rattle.rc_memory.specs.Changes.{IsRenewed, IsRenewedWhereNone, KeepsLast, OfVersion, member}
-use Rattle.rc_memory.specs.Recency.{HasObject, IsLastInner, IsRecency, IsUnderUpdate, MayBeListed, MustBeListed}
+use Rattle.rc_memory.specs.Changes.{IsRenewedWhereNone, KeepsLast, OfVersion, member}
+use Rattle.rc_memory.specs.Recency.{HasObject, IsRecency, IsUnderUpdate, MayBeListed, MustBeListed}
 use Rattle.rc_memory.specs.laws.At.{number-low}
 use Rattle.rc_memory.specs.laws.Listed.{one-at}
-use Rattle.rc_memory.specs.laws.Places.{no_some, same_some}
+use Rattle.rc_memory.specs.laws.Places.{same_some}
 use Rattle.rc_memory.specs.laws.Recent.{on-at}
 use Rattle.rc_memory.specs.laws.Rules.{length-on}
 use Rattle.rc_chain_walk.specs.Walking.{HasLone, IsBegun, IsLone}

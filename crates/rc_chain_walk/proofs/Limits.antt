@@ -1,5 +1,5 @@
 -- Positions and rows within the limits of their codes: they make objects that fit, and what a call does to a version leaves them so.
-use Rattle.std.proofs.Common.{◌≡◌, ◌≤◌, ◌+◌, ◌/◌, ℕ, Bool, true, false, cond, List, [], ◌∷◌, length, Option, Some, None, inl, inr, refl, sym, ap, ◌∙◌, subst, map, arith}
+use Rattle.std.proofs.Common.{◌≡◌, ◌≤◌, ◌+◌, ℕ, Bool, true, false, cond, List, [], ◌∷◌, length, Option, Some, None, inl, inr, refl, sym, subst, arith}
 use Rattle.std.specs.Prelude.{Contains, IfSome}
 use Rattle.std.specs.List.{AllByRecursion}
 use Rattle.std.proofs.lemmas.List.Elements.{All-from_recursion, recursion_from_All}
@@ -19,13 +19,13 @@ use Rattle.rc_rowcode.specs.Spelling.{CompFits, EntryFits, KeyFits, RowFits, pos
 use Rattle.rc_rowcode.specs.laws.Sizes.{pos_code_small, row_code_small}
 use Rattle.rc_core.specs.declared.entries.Entry.{Entry}
 use Rattle.rc_core.specs.declared.entries.Flag.{Flag}
-use Rattle.rc_core.specs.Change.{at_entry, joined_onto, split, with_row}
-use Rattle.rc_core.specs.Continuity.{with_entries, joined_options}
-use Rattle.rc_core.specs.Steps.{join_flagged_statics, join_statics, row_joined, set_statics, version_of}
-use Rattle.rc_core.specs.Version.{Finding, On, Spot, Version, end_position, entry_answers, seen, spot_cmp}
+use Rattle.rc_core.specs.Change.{joined_onto, split, with_row}
+use Rattle.rc_core.specs.Continuity.{with_entries}
+use Rattle.rc_core.specs.Steps.{join_flagged_statics, join_statics, row_joined, version_of}
+use Rattle.rc_core.specs.Version.{Finding, On, Spot, Version, entry_answers, seen, spot_cmp}
 use Rattle.rc_version.specs.Versions.{bytes_at, joined_bytes}
 use Rattle.rc_partition.specs.laws.Lists.{elem-cases, elem-first, elem-later, elem-mapped, elem-none}
-use Rattle.rc_memory.specs.Room.{FitTogether, HasRowAt, HasStaticRow}
+use Rattle.rc_memory.specs.Room.{FitTogether}
 use Rattle.rc_memory.specs.laws.Rows.{IsWithin, within-split}
 use Rattle.rc_chain_walk.specs.Walking.{HasCodedParts}
 

@@ -1,5 +1,5 @@
 -- What is in the recency list: after an object was made, and of the version under update.
-use Rattle.std.proofs.Common.{◌≡◌, ◌≢◌, ◌⊎◌, ℕ, suc, true, false, List, [], ◌∷◌, ◌++◌, Option, Some, None, IsSome, length, inl, inr, refl, sym, ap, ◌∙◌, subst}
+use Rattle.std.proofs.Common.{◌≡◌, ◌≢◌, ◌⊎◌, ℕ, true, false, List, [], ◌∷◌, ◌++◌, Option, Some, None, IsSome, inl, inr, refl, sym, ap, ◌∙◌, subst}
 use Rattle.std.specs.Prelude.{Contains, IfSome, IsSomeAnd}
 use Rattle.rc_position.specs.declared.positions.Pos.{Pos}
 use Rattle.rc_position.specs.Position.{IsBefore}
@@ -13,10 +13,10 @@ use Rattle.rc_core.specs.Continuity.{with_entries}
 use Rattle.rc_core.specs.Steps.{row_joined}
 use Rattle.rc_core.specs.Version.{Ascend, EndsWithDummy, IsVersion, Version, end_position}
 use Rattle.rc_core.specs.laws.Spots.{ascend-tail}
-use Rattle.rc_partition.specs.laws.Lists.{elem-cases, elem-first, elem-here, elem-left, elem-none, elem-replaced, elem-split}
-use Rattle.rc_memory.specs.Memory.{KeptChain, Member, Memory, HasVersion, IsVersionAt, chain_at}
+use Rattle.rc_partition.specs.laws.Lists.{elem-cases, elem-first, elem-here, elem-left, elem-none, elem-replaced}
+use Rattle.rc_memory.specs.Memory.{KeptChain, Member, Memory, HasVersion, chain_at}
 use Rattle.rc_memory.specs.Kept.{IsSoundChain}
-use Rattle.rc_memory.specs.Changes.{IsRenewed, IsRenewedWhereNone, IsVersionChanged, IsWithout, KeepsLast, LastIsListed, Nowhere, OfVersion, member}
+use Rattle.rc_memory.specs.Changes.{IsRenewed, IsRenewedWhereNone, KeepsLast, LastIsListed, OfVersion, member}
 use Rattle.rc_memory.specs.Recency.{HasObject, IsLastInner, IsUnderUpdate, MayBeListed, MustBeListed}
 use Rattle.rc_memory.specs.laws.At.{found-version}
 use Rattle.rc_memory.specs.laws.Entries.{before-differs, only-joined, split-has}

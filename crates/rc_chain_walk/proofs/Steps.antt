@@ -1,5 +1,5 @@
 -- What is known of the chains from one call to the next, after each sort of call.
-use Rattle.std.proofs.Common.{◌≡◌, ◌≢◌, ◌⊎◌, ◌<◌, ℕ, zero, suc, true, false, List, [], ◌∷◌, ◌++◌, Option, Some, None, IsSome, length, inl, inr, refl, sym, ap, ◌∙◌, subst, slice_index_or, arith}
+use Rattle.std.proofs.Common.{◌≡◌, ◌≢◌, ◌⊎◌, ◌<◌, ℕ, zero, suc, List, [], ◌∷◌, Option, Some, None, IsSome, length, inl, inr, refl, sym, ap, ◌∙◌, subst, slice_index_or}
 use Rattle.std.specs.Prelude.{Contains, IfSome, IsSomeAnd}
 use Rattle.std.specs.Option.{option_map}
 use Rattle.lsa_pool.specs.laws.Usages.{decided}
@@ -7,18 +7,17 @@ use Rattle.rc_position.specs.declared.positions.Pos.{Pos}
 use Rattle.rc_core.specs.AtPlace.{HasEntryAt}
 use Rattle.rc_core.specs.Steps.{on_version, pin_at}
 use Rattle.rc_core.specs.Version.{Version, end_position}
-use Rattle.rc_partition.specs.laws.Lists.{elem-cases, elem-first, elem-here, elem-later, elem-left, elem-none}
+use Rattle.rc_partition.specs.laws.Lists.{elem-cases, elem-first, elem-here, elem-later}
 use Rattle.rc_registry.specs.Registry.{put}
-use Rattle.rc_memory.specs.Memory.{KeptChain, Member, Memory, HasPin, HasVersion, IsTold, IsVersionAt, chain_at, on_chain, on_shown, on_version_of}
-use Rattle.rc_memory.specs.Changes.{IsRenewed, IsRenewedWhereNone, IsVersionChanged, IsWithout, member}
-use Rattle.rc_memory.specs.Recency.{HasObject, IsUnderUpdate}
+use Rattle.rc_memory.specs.Memory.{KeptChain, Memory, HasVersion, IsTold, IsVersionAt, chain_at, on_chain, on_shown, on_version_of}
+use Rattle.rc_memory.specs.Changes.{member}
+use Rattle.rc_memory.specs.Recency.{IsUnderUpdate}
 use Rattle.rc_memory.specs.laws.At.{found-version}
 use Rattle.rc_memory.specs.laws.Listed.{one-at}
 use Rattle.rc_memory.specs.laws.Places.{no_some, same_some}
 use Rattle.rc_memory.specs.laws.Put.{put-at, put-beside}
-use Rattle.rc_memory.specs.laws.Recent.{beside-on, on-at, on-beside, there_at}
+use Rattle.rc_memory.specs.laws.Recent.{beside-on, on-at, on-beside}
 use Rattle.rc_memory.specs.laws.Rules.{length-on}
-use Rattle.rc_chain.specs.Lives.{IsEndAlone}
 use Rattle.rc_chain_walk.specs.declared.known.Held.{Held}
 use Rattle.rc_chain_walk.specs.declared.known.Known.{Known}
 use Rattle.rc_chain_walk.specs.declared.known.Numbered.{Numbered}

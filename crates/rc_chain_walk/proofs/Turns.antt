@@ -1,38 +1,32 @@
 -- What is listed after calls on the recency list, and what is known after an object was freed and a chain was swept.
-use Rattle.std.proofs.Common.{◌≡◌, ◌≢◌, ◌⊎◌, ℕ, suc, true, false, List, [], ◌∷◌, ◌++◌, Option, Some, None, IsSome, length, inl, inr, refl, sym, ap, ◌∙◌, subst, map}
+use Rattle.std.proofs.Common.{◌≡◌, ◌≢◌, ◌⊎◌, ℕ, true, false, List, [], ◌∷◌, ◌++◌, Option, Some, None, IsSome, inl, inr, refl, sym, ap, subst}
 use Rattle.std.specs.Prelude.{Contains, IfSome, IsSomeAnd}
 use Rattle.std.specs.List.{AllByRecursion}
 use Rattle.rc_core.specs.Steps.{pin_at}
 use Rattle.lsa_pool.specs.laws.Usages.{decided}
-use Rattle.lsa_kinds.specs.declared.kind.Kind.{Kind}
 use Rattle.lsa_store.specs.declared.place.Ref.{Ref}
 use Rattle.lsa_region.specs.declared.end.End.TheVariants.{Obj}
-use Rattle.lsa_region.specs.Region.{View, body, link_of, IsEnd, IsWell}
-use Rattle.rc_cell.specs.declared.rows.Row.{Row}
+use Rattle.lsa_region.specs.Region.{body, IsWell}
 use Rattle.rc_position.specs.declared.positions.Pos.{Pos}
 use Rattle.rc_core.specs.declared.entries.ChainKind.{ChainKind}
 use Rattle.rc_core.specs.declared.entries.ChainKind.TheVariants.{Cache, Memtable}
 use Rattle.rc_core.specs.declared.entries.Mark.{Mark}
 use Rattle.rc_core.specs.declared.entries.Entry.{Entry}
-use Rattle.rc_core.specs.Chains.{IsPinned}
 use Rattle.rc_core.specs.Change.{take_out, with_first_gap, with_gap}
-use Rattle.rc_core.specs.Continuity.{with_entries}
 use Rattle.rc_core.specs.Free.{free_entry, free_statics, freed_mark}
-use Rattle.rc_core.specs.Version.{Version, end_position}
+use Rattle.rc_core.specs.Version.{Version}
 use Rattle.std.specs.Ordering.{eq_by_cmp}
 use Rattle.rc_position.specs.Position.{pos_cmp}
 use Rattle.std.proofs.Common.{Bool, cond}
 use Rattle.rc_partition.specs.laws.Lists.{elem-cases, elem-first, elem-here, elem-later, elem-left, elem-none, elem-replaced}
 use Rattle.rc_registry.specs.Registry.{AreFree}
-use Rattle.rc_memory.specs.Memory.{KeptChain, Member, Memory, HasPin, HasVersion, IsMemberObject, IsOfVersion, IsVersionAt, chain_at, listed_as}
-use Rattle.rc_memory.specs.Changes.{IsWithout, member}
-use Rattle.rc_memory.specs.laws.Listing.{listed-decided}
-use Rattle.rc_memory.specs.laws.Renewed.{without-still}
+use Rattle.rc_memory.specs.Memory.{KeptChain, Member, Memory, HasPin, HasVersion, IsMemberObject, IsOfVersion, chain_at, listed_as}
+use Rattle.rc_memory.specs.Changes.{member}
 use Rattle.rc_chain.specs.Lives.{IsAtUpTo, IsIdle, IsOneFreed, IsRemainder, IsTouched}
 use Rattle.rc_chain_walk.specs.declared.known.Held.{Held}
 use Rattle.rc_chain_walk.specs.declared.known.Known.{Known}
 use Rattle.rc_chain_walk.specs.declared.known.Numbered.{Numbered}
-use Rattle.rc_chain_walk.specs.Walking.{HaveCodedParts, HasBare, IsTracked, IsKnownBeside, IsOther, HasCodedParts}
+use Rattle.rc_chain_walk.specs.Walking.{IsTracked, IsKnownBeside, IsOther, HasCodedParts}
 use Rattle.rc_chain_walk.proofs.Wholes.{free-pin, known-put, known-without, some-number}
 use Rattle.rc_chain_walk.proofs.Steps.{KeepsListed, from-if, from-some, known-listed, known-lost, to-if}
 

@@ -1,32 +1,27 @@
 -- What is known of the chains after the calls on chains as a whole.
-use Rattle.std.proofs.Common.{◌≡◌, ◌≢◌, ◌⊎◌, ◌<◌, ◌≤◌, ◌+◌, ◌-◌, ℕ, zero, suc, Bool, true, false, cond, List, [], ◌∷◌, ◌++◌, Option, Some, None, IsSome, length, inl, inr, refl, sym, ap, ◌∙◌, subst, slice_index_or, arith, take, drop, length-append}
+use Rattle.std.proofs.Common.{◌≡◌, ◌≢◌, ◌⊎◌, ℕ, zero, suc, Bool, true, false, cond, List, [], ◌∷◌, ◌++◌, Option, Some, None, IsSome, length, inl, inr, refl, sym, ap, ◌∙◌, subst, slice_index_or, arith, take, drop, length-append}
 use Rattle.std.specs.Prelude.{Contains, IfSome, IsSomeAnd, map as list_map}
 use Rattle.std.specs.Option.{option_map}
 use Rattle.lsa_pool.specs.laws.Usages.{decided}
 use Rattle.rc_cell.specs.declared.writes.Tomb.{Tomb}
-use Rattle.rc_position.specs.declared.positions.Pos.{Pos}
 use Rattle.rc_core.specs.declared.entries.ChainKind.{ChainKind}
-use Rattle.rc_core.specs.declared.entries.ChainKind.TheVariants.{Cache, Memtable}
-use Rattle.rc_core.specs.declared.entries.Entry.{Entry}
+use Rattle.rc_core.specs.declared.entries.ChainKind.TheVariants.{Cache}
 use Rattle.rc_core.specs.declared.entries.Flag.TheVariants.{Inherit}
 use Rattle.rc_core.specs.AtPlace.{HasEntryAt}
-use Rattle.rc_core.specs.Chains.{Shown, IsPinned}
-use Rattle.rc_core.specs.Free.{free_entry, free_statics}
-use Rattle.rc_core.specs.Steps.{all_but, free_number, on_newest, pin_at, pinned, released, renumbered, version_of, with_phase}
-use Rattle.rc_core.specs.Version.{EndsWithDummy, Version, end_position}
+use Rattle.rc_core.specs.Chains.{Shown}
+use Rattle.rc_core.specs.Steps.{free_number, on_newest, pin_at, pinned, renumbered, version_of, with_phase}
+use Rattle.rc_core.specs.Version.{Version}
 use Rattle.rc_core.specs.laws.Pins.{pin-given, pin-is-pinned, pin-kept, pin-others, pin-renumbered}
-use Rattle.rc_partition.specs.laws.Lists.{elem-cases, elem-first, elem-later, elem-none, elem-pushed, elem-left, elem-still}
+use Rattle.rc_partition.specs.laws.Lists.{elem-cases, elem-first, elem-later, elem-none, elem-pushed}
 use Rattle.rc_registry.specs.Registry.{AreFree, put}
-use Rattle.rc_memory.specs.Memory.{KeptChain, Member, Memory, HasChain, HasPin, IsSnapshotTaken, IsVersionAt, chain_at, on_chain, on_shown, shown_detached, shown_updating, shown_with, shown_without, snapshot_number, with_snapshot, without_snapshot}
-use Rattle.rc_memory.specs.Changes.{CanDrop, IsVersionChanged, member}
-use Rattle.rc_memory.specs.Kept.{IsSoundChain}
-use Rattle.rc_memory.specs.Recency.{IsUnderUpdate}
+use Rattle.rc_memory.specs.Memory.{KeptChain, Member, Memory, HasChain, HasPin, IsSnapshotTaken, IsVersionAt, chain_at, on_chain, on_shown, shown_with, shown_without, snapshot_number, with_snapshot, without_snapshot}
+use Rattle.rc_memory.specs.Changes.{member}
 use Rattle.rc_memory.specs.laws.At.{number-low}
-use Rattle.rc_memory.specs.laws.Places.{no_some, same_some}
+use Rattle.rc_memory.specs.laws.Places.{same_some}
 use Rattle.rc_memory.specs.laws.Recent.{pushed-at}
 use Rattle.rc_memory.specs.laws.Standing.{at-mapped}
 use Rattle.rc_memory.specs.laws.Versions.{still-at}
-use Rattle.rc_chain.specs.Lives.{IsChainChanged, IsChainDropped, IsChainMade, IsEndAlone, IsIdle, IsRelabelled, chain_of_new, flag_of_new, is_cache, relabelled, with_version_over}
+use Rattle.rc_chain.specs.Lives.{chain_of_new, flag_of_new, is_cache, relabelled, with_version_over}
 use Rattle.rc_chain_walk.specs.declared.known.Held.{Held}
 use Rattle.rc_chain_walk.specs.declared.known.Known.{Known}
 use Rattle.rc_chain_walk.specs.declared.known.Numbered.{Numbered}

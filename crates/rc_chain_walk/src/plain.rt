@@ -447,7 +447,7 @@ impl PlainChain {
         recency.take(&self.place(alloc, number, x)?);
         if let Some(version) = self.versions.get_mut(number)
             && let Some(index) = inner_at(version.entries.as_slice(), x)
-            && index + 1 < version.entries.len()
+            && index < version.entries.len().saturating_sub(1)
         {
             rc_core::drop_entry(&mut version.entries, index);
         }

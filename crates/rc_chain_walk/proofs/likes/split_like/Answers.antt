@@ -1,4 +1,4 @@
-use Rattle.std.proofs.Common.{◌≡◌, ◌≢◌, ◌⊎◌, ◌++◌, ◌∷◌, [], List, Option, Some, None, IsSome, ℕ, true, false, inl, inr, refl, sym, ap, ◌∙◌, subst, arith, length}
+use Rattle.std.proofs.Common.{Some, refl, arith}
 use Rattle.rc_chain_walk.proofs.Steps.{from-if, known-changed}
 use Rattle.rc_chain_walk.proofs.Listed.{last-keeps, split-listed, split-only}
 use Rattle.rc_chain_walk.proofs.Limits.{dummy-small, limits-split}

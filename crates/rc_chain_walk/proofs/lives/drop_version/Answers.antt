@@ -1,4 +1,4 @@
-use Rattle.std.proofs.Common.{◌≡◌, ◌≢◌, ◌⊎◌, ◌++◌, ◌∷◌, [], List, Option, Some, None, IsSome, ℕ, true, false, inl, inr, refl, sym, ap, ◌∙◌, subst, arith, length}
+use Rattle.std.proofs.Common.{◌≡◌, Some, None, sym, ap, ◌∙◌, arith}
 use Rattle.rc_chain_walk.proofs.Steps.{from-if, from-some}
 use Rattle.rc_chain_walk.proofs.Wholes.{known-without}
 use Rattle.std.specs.Prelude.{is_some}

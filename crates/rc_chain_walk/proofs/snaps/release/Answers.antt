@@ -1,6 +1,6 @@
 use Rattle.std.specs.List.{AllByRecursion}
 use Rattle.rc_chain_walk.specs.Walking.{IsOther}
-use Rattle.std.proofs.Common.{◌≡◌, ◌≢◌, ◌⊎◌, ◌++◌, ◌∷◌, [], List, Option, Some, None, IsSome, ℕ, true, false, inl, inr, refl, sym, ap, ◌∙◌, subst, arith, length}
+use Rattle.std.proofs.Common.{refl, sym, ap, ◌∙◌, subst, arith}
 use Rattle.rc_chain_walk.proofs.Wholes.{known-released, released-still}
 use Rattle.rc_chain_walk.proofs.Turns.{others}
 use Rattle.rc_memory.specs.Memory.{HasPin, Memory, without_snapshot}
