@@ -19,10 +19,10 @@ use Rattle.rc_cacheread.specs.declared.spots.RowAt.TheVariants as row
 use Rattle.rc_cacheread.specs.declared.spots.Spot.{Spot}
 use Rattle.rc_cacheread.specs.declared.spots.Step.{Step}
 use Rattle.rc_cacheread.specs.declared.spots.Step.TheVariants as step
-use Rattle.rc_cacheread.specs.Below.{IsChanged, IsElsewhere, Tells, TellsHere, TookChange, TookFound, TookHere, TookNothing, TookRow, TookRowHere, found_of, near_of}
-use Rattle.rc_cacheread.specs.Reading.{Reads, behind_row, there}
-use Rattle.rc_cacheread.specs.Sharing.{Fits, IsAt, Leads}
-use Rattle.rc_cacheread.specs.Spots.{IsIdle, again_due, behind, change_place, due_change, front, row_due, since_or, stand, told_of, told_or}
+use Rattle.rc_cacheread.specs.Below.{IsChangeTaken, IsBesidePlace, Tells, TellsHere, TookChange, TookFound, TookHere, TookNothing, TookRow, TookRowHere, found_of, near_of}
+use Rattle.rc_cacheread.specs.Reading.{Reads, behind_row, said_at}
+use Rattle.rc_cacheread.specs.Sharing.{Fits, IsPlaceAt, Leads}
+use Rattle.rc_cacheread.specs.Spots.{HasNothingDue, again_due, past_row, change_place, due_change, front, row_due, since_or, stand, tomb_told, told_or}
 use Rattle.rc_cacheread.proofs.Idle.{idle-front, idle-stand, idle-told}
 use Rattle.rc_cacheread.proofs.Lists.{behind-its-row, change_if, same-tombs, untrue}
 use Rattle.rc_cacheread.proofs.Orders.{before-reach, before-reaches, near-is, near-on, near-row, near-within, never-before, reach-before, reach-itself, reach-through, same-place}
@@ -34,16 +34,16 @@ append-none [] = refl
 append-none (x ∷ xs) = ap (λ l. x ∷ l) (append-none xs)
 
 -- where nothing but place and row changed, the row alone is due
-pub front-elsewhere : (s t : Spot) → IsIdle s → IsElsewhere s t → front t ≡ row_due t.row t.place.prefix
+pub front-elsewhere : (s t : Spot) → HasNothingDue s → IsBesidePlace s t → front t ≡ row_due t.row t.place.prefix
 front-elsewhere s t i e =
     ap (λ a. again_due a t.told ++ (due_change t ++ row_due t.row t.place.prefix)) (e.1 ∙ i.again)
     ∙ ap (λ b. cond b [] (frag.Change (change_place t) t.tomb ∷ []) ++ row_due t.row t.place.prefix) (ap (λ z. same_tomb z t.tomb) e.0 ∙ ap (same_tomb s.told) e.2 ∙ i.told)
 
-pub told-elsewhere : (s t : Spot) → t.told ≡ s.told → t.again ≡ s.again → told_of t ≡ told_of s
+pub told-elsewhere : (s t : Spot) → t.told ≡ s.told → t.again ≡ s.again → tomb_told t ≡ tomb_told s
 told-elsewhere s t u a = ap (λ z. told_or z t.told) a ∙ ap (told_or s.again) u
 
 -- where another tombstone is in force from the place on, the change to it is due
-pub front-changed : (s t : Spot) (next : Option Tomb) → IsIdle s → t.told ≡ s.told → t.again ≡ s.again → t.tomb ≡ next → t.since ≡ None → front t ≡ change_if t.place s.tomb next ++ row_due t.row t.place.prefix
+pub front-changed : (s t : Spot) (next : Option Tomb) → HasNothingDue s → t.told ≡ s.told → t.again ≡ s.again → t.tomb ≡ next → t.since ≡ None → front t ≡ change_if t.place s.tomb next ++ row_due t.row t.place.prefix
 front-changed s t next i u a m n =
     ap (λ z. again_due z t.told ++ (due_change t ++ row_due t.row t.place.prefix)) (a ∙ i.again)
     ∙ ap (λ z. cond (same_tomb z t.tomb) [] (frag.Change (change_place t) t.tomb ∷ []) ++ row_due t.row t.place.prefix) (u ∙ same-tombs s.told s.tomb i.told)
@@ -52,12 +52,12 @@ front-changed s t next i u a m n =
 
 -- what a step came to
 abbrev pub Came : (seen : Stream → Type 0) (a : Stage) (s t : Spot) (to upto : Pos) → Step → Type 0
-Came seen a s t to upto z = (z ≡ step.Passed) ⊎ ((z ≡ step.Nothing) × (front t ≡ []) × (stand t ≡ upto) × (t.tomb ≡ s.tomb) × IsBefore upto to × ((u : Stream) → seen u → Fits a (stand s) s.tomb u → there upto u.tomb u.left ≡ (empty_row, s.tomb)))
+Came seen a s t to upto z = (z ≡ step.Passed) ⊎ ((z ≡ step.Nothing) × (front t ≡ []) × (stand t ≡ upto) × (t.tomb ≡ s.tomb) × IsBefore upto to × ((u : Stream) → seen u → Fits a (stand s) s.tomb u → said_at upto u.tomb u.left ≡ (empty_row, s.tomb)))
 
 -- where the reader stands after something was read below
 pub record Gone (S : Pos → There → Type 0) (seen now : Stream → Type 0) (to upto : Pos) (a : Stage) (s : Spot) (b : Stage) (t : Spot) (got : Option Frag) (z : Step) : Type 0 where
   pub on : Reaches (stand s) (stand t)
-  pub told : told_of t ≡ told_of s
+  pub told : tomb_told t ≡ tomb_told s
   pub outcome : Outcome S seen now to a (stand s) s.tomb b (stand t) t.tomb (front t)
   pub passes : (x : Pos) → Reaches (stand t) x → Passes (Ok got) x
   pub came : Came seen a s t to upto z
@@ -83,7 +83,7 @@ tells S T seen x upto end to u (Some frag.End) l e g k = untrue (sym k)
 
 -- ---- behind the place
 
-module _ (S : Pos → There → Type 0) (seen now : Stream → Type 0) (to upto end : Pos) (s t : Spot) (i : IsIdle s) (b : Stage) (e : Reaches end to) (near : Reaches s.place upto) (inside : IsBefore s.place end) where
+module _ (S : Pos → There → Type 0) (seen now : Stream → Type 0) (to upto end : Pos) (s t : Spot) (i : HasNothingDue s) (b : Stage) (e : Reaches end to) (near : Reaches s.place upto) (inside : IsBefore s.place end) where
   abbrev N : Pos
   N = near_of upto end
 
@@ -99,16 +99,16 @@ module _ (S : Pos → There → Type 0) (seen now : Stream → Type 0) (to upto 
   P : stand s ≡ s.place
   P = idle-stand s i
 
-  unread : stand t ≡ behind t.row t.place
+  unread : stand t ≡ past_row t.row t.place
   unread = refl
 
   at-place : (x : Pos) → t.place ≡ x → t.row ≡ s.row → stand t ≡ x
-  at-place x p r = ap (λ z. behind z t.place) (r ∙ i.row) ∙ p
+  at-place x p r = ap (λ z. past_row z t.place) (r ∙ i.row) ∙ p
 
-  none-due : IsElsewhere s t → t.row ≡ s.row → front t ≡ []
+  none-due : IsBesidePlace s t → t.row ≡ s.row → front t ≡ []
   none-due o r = front-elsewhere s t i o ∙ ap (λ z. row_due z t.place.prefix) (r ∙ i.row)
 
-  put : (got : Option Frag) (z : Step) (b' : Stage) (y : Pos) (v : Option Tomb) (due : List Frag) → b ≡ b' → stand t ≡ y → t.tomb ≡ v → front t ≡ due → Reaches s.place y → told_of t ≡ told_of s → Outcome S seen now to Within s.place s.tomb b' y v due → ((x : Pos) → Reaches y x → Passes (Ok got) x) → Came seen Within s t to upto z → Result got z
+  put : (got : Option Frag) (z : Step) (b' : Stage) (y : Pos) (v : Option Tomb) (due : List Frag) → b ≡ b' → stand t ≡ y → t.tomb ≡ v → front t ≡ due → Reaches s.place y → tomb_told t ≡ tomb_told s → Outcome S seen now to Within s.place s.tomb b' y v due → ((x : Pos) → Reaches y x → Passes (Ok got) x) → Came seen Within s t to upto z → Result got z
   put got z b' y v due p q m f on u o pass came = record {
     on = subst (λ (w : Pos × Pos). Reaches w.0 w.1) (λ j. (sym P j, sym q j)) on;
     told = u;
@@ -119,7 +119,7 @@ module _ (S : Pos → There → Type 0) (seen now : Stream → Type 0) (to upto 
 
   gone-row : (key : List Comp) (r : Row) (z : Step) → Given (Some (frag.Row key r)) → On (Some (frag.Row key r)) → Reaches (row_pos key) N → TookRow key r s t → b ≡ Within → z ≡ step.Passed → Result (Some (frag.Row key r)) z
   gone-row key r z g n k (inl (q, c)) p w =
-      put (Some (frag.Row key r)) z Within s.place s.tomb [] p (ap stand q ∙ P) (ap (λ (o : Spot). o.tomb) q) (ap front q ∙ idle-front s i) (reach-itself s.place) (ap told_of q)
+      put (Some (frag.Row key r)) z Within s.place s.tomb [] p (ap stand q ∙ P) (ap (λ (o : Spot). o.tomb) q) (ap front q ∙ idle-front s i) (reach-itself s.place) (ap tomb_told q)
       (row-before S seen now to s.place N s.tomb key r Within refl g (λ h. never-before (row_pos key) s.place h c))
       (λ x h. reach-through (row_pos key) s.place x (before-reach (row_pos key) s.place c) h)
       (inl w)
@@ -129,7 +129,7 @@ module _ (S : Pos → There → Type 0) (seen now : Stream → Type 0) (to upto 
       (λ x m. m)
       (inl w)
   gone-row key r z g n k (inr (h, q, o, inr (d, l))) p w =
-      put (Some (frag.Row key r)) z Within (behind_row key) s.tomb (frag.Row key r ∷ []) p (λ j. behind (l j) (q j)) o.2 (front-elsewhere s t i o ∙ (λ j. row_due (l j) (q j).prefix)) (reach-through s.place (row_pos key) (behind_row key) h (before-reach (row_pos key) (behind_row key) (behind-its-row key))) (told-elsewhere s t o.0 o.1)
+      put (Some (frag.Row key r)) z Within (behind_row key) s.tomb (frag.Row key r ∷ []) p (λ j. past_row (l j) (q j)) o.2 (front-elsewhere s t i o ∙ (λ j. row_due (l j) (q j).prefix)) (reach-through s.place (row_pos key) (behind_row key) h (before-reach (row_pos key) (behind_row key) (behind-its-row key))) (told-elsewhere s t o.0 o.1)
       (row-outcome S seen now to s.place N s.tomb key r g n h (before-reaches (row_pos key) end to (near-row key upto end k) e) d)
       (λ x m. reach-through (row_pos key) (behind_row key) x (before-reach (row_pos key) (behind_row key) (behind-its-row key)) m)
       (inl w)
@@ -139,7 +139,7 @@ module _ (S : Pos → There → Type 0) (seen now : Stream → Type 0) (to upto 
 
   gone-change : (from : Pos) (next : Option Tomb) (z : Step) → Given (Some (frag.Change from next)) → On (Some (frag.Change from next)) → IsBefore from end → TookChange from next s t → b ≡ Within → z ≡ step.Passed → Result (Some (frag.Change from next)) z
   gone-change from next z g n k (inl (q, c)) p w =
-      put (Some (frag.Change from next)) z Within s.place s.tomb [] p (ap stand q ∙ P) (ap (λ (o : Spot). o.tomb) q) (ap front q ∙ idle-front s i) (reach-itself s.place) (ap told_of q)
+      put (Some (frag.Change from next)) z Within s.place s.tomb [] p (ap stand q ∙ P) (ap (λ (o : Spot). o.tomb) q) (ap front q ∙ idle-front s i) (reach-itself s.place) (ap tomb_told q)
       (change-before S seen now to s.place N s.tomb from next g (λ h. never-before from s.place h c))
       (λ x h. reach-through from s.place x (before-reach from s.place c) h)
       (inl w)
@@ -173,11 +173,11 @@ pub tells-here : (S : Pos → There → Type 0) (T : Row → Type 0) (seen : Str
 tells-here S T seen x to u None l b g = tt
 tells-here S T seen x to u (Some (frag.Start pt)) l b g = tt
 tells-here S T seen x to u (Some (frag.Static r)) l b g = tt
-tells-here S T seen x to u (Some (frag.Row key r)) l b g = λ e. l.each x (r, None) (reach-itself x) b (λ t s f. sym (subst (λ z. there z t.tomb t.left ≡ (r, None)) e (first-row key r x x None t f (sym (g t s))).there_is))
+tells-here S T seen x to u (Some (frag.Row key r)) l b g = λ e. l.each x (r, None) (reach-itself x) b (λ t s f. sym (subst (λ z. said_at z t.tomb t.left ≡ (r, None)) e (first-row key r x x None t f (sym (g t s))).there_is))
 tells-here S T seen x to u (Some (frag.Change from next)) l b g = tt
 tells-here S T seen x to u (Some frag.End) l b g = tt
 
-module _ (S : Pos → There → Type 0) (seen now : Stream → Type 0) (to upto : Pos) (s t : Spot) (i : IsIdle s) (inside : IsBefore s.place to) where
+module _ (S : Pos → There → Type 0) (seen now : Stream → Type 0) (to upto : Pos) (s t : Spot) (i : HasNothingDue s) (inside : IsBefore s.place to) where
   abbrev Here : Option Frag → Type 0
   Here got = Gone S seen now to upto Sought s Within t got step.Passed
 
@@ -187,7 +187,7 @@ module _ (S : Pos → There → Type 0) (seen now : Stream → Type 0) (to upto 
   abbrev OnHere : Option Frag → Type 0
   OnHere got = (u : Stream) → seen u → now (took got u)
 
-  put-here : (got : Option Frag) (y : Pos) (v : Option Tomb) (due : List Frag) → stand t ≡ y → t.tomb ≡ v → front t ≡ due → Reaches s.place y → told_of t ≡ told_of s → Outcome S seen now to Sought s.place s.tomb Within y v due → ((x : Pos) → Reaches y x → Passes (Ok got) x) → Here got
+  put-here : (got : Option Frag) (y : Pos) (v : Option Tomb) (due : List Frag) → stand t ≡ y → t.tomb ≡ v → front t ≡ due → Reaches s.place y → tomb_told t ≡ tomb_told s → Outcome S seen now to Sought s.place s.tomb Within y v due → ((x : Pos) → Reaches y x → Passes (Ok got) x) → Here got
   put-here got y v due q m f on u o pass = record {
     on = subst (λ (w : Pos × Pos). Reaches w.0 w.1) (λ j. (sym (idle-stand s i) j, sym q j)) on;
     told = u;
@@ -196,13 +196,13 @@ module _ (S : Pos → There → Type 0) (seen now : Stream → Type 0) (to upto 
     came = inl refl;
   }
 
-  here-changed : (got : Option Frag) (next : Option Tomb) → IsChanged next s t → Outcome S seen now to Sought s.place s.tomb Within s.place next (change_if s.place s.tomb next) → ((x : Pos) → Reaches s.place x → Passes (Ok got) x) → Here got
+  here-changed : (got : Option Frag) (next : Option Tomb) → IsChangeTaken next s t → Outcome S seen now to Sought s.place s.tomb Within s.place next (change_if s.place s.tomb next) → ((x : Pos) → Reaches s.place x → Passes (Ok got) x) → Here got
   here-changed got next c o pass =
-      put-here got s.place next (change_if s.place s.tomb next) (ap (λ r. behind r t.place) (c.row ∙ i.row) ∙ c.place) c.now
+      put-here got s.place next (change_if s.place s.tomb next) (ap (λ r. past_row r t.place) (c.row ∙ i.row) ∙ c.place) c.now
       (front-changed s t next i c.told c.again c.now c.since ∙ ap (λ r. change_if t.place s.tomb next ++ row_due r t.place.prefix) (c.row ∙ i.row) ∙ append-none (change_if t.place s.tomb next) ∙ ap (λ y. change_if y s.tomb next) c.place)
       (reach-itself s.place) (told-elsewhere s t c.told c.again) o pass
 
-  as-changed : (key : List Comp) (r : Row) → TookRowHere key r s t → t.row ≡ s.row → IsChanged None s t
+  as-changed : (key : List Comp) (r : Row) → TookRowHere key r s t → t.row ≡ s.row → IsChangeTaken None s t
   as-changed key r c l = record { place = c.place; row = l; told = c.told; again = c.again; now = c.tomb; since = c.since }
 
   here-row : (key : List Comp) (r : Row) → GivenHere (Some (frag.Row key r)) → OnHere (Some (frag.Row key r)) → Reaches (row_pos key) s.place → (c : TookRowHere key r s t) → ((t.row ≡ s.row) × ((r ≡ empty_row) ⊎ (row_pos key ≢ s.place))) ⊎ ((row_pos key ≡ s.place) × (r ≢ empty_row) × (t.row ≡ row.Due r)) → Here (Some (frag.Row key r))
@@ -210,7 +210,7 @@ module _ (S : Pos → There → Type 0) (seen now : Stream → Type 0) (to upto 
   here-row key r g n k c (inl (l, inr d)) = here-changed (Some (frag.Row key r)) None (as-changed key r c l) (other-here S seen now to s.place s.tomb inside key r g n d) (λ x h. reach-through (row_pos key) s.place x k h)
   here-row key r g n k c (inr (e, d, l)) =
       let at : t.place ≡ row_pos key = c.place ∙ sym e in
-      put-here (Some (frag.Row key r)) (behind_row key) None (change_if s.place s.tomb None ++ (frag.Row key r ∷ [])) (λ j. behind (l j) (at j)) c.tomb
+      put-here (Some (frag.Row key r)) (behind_row key) None (change_if s.place s.tomb None ++ (frag.Row key r ∷ [])) (λ j. past_row (l j) (at j)) c.tomb
       (front-changed s t None i c.told c.again c.tomb c.since ∙ (λ j. change_if (c.place j) s.tomb None ++ row_due (l j) (at j).prefix))
       (subst (λ z. Reaches z (behind_row key)) e (before-reach (row_pos key) (behind_row key) (behind-its-row key)))
       (told-elsewhere s t c.told c.again)
@@ -227,13 +227,13 @@ module _ (S : Pos → There → Type 0) (seen now : Stream → Type 0) (to upto 
 
 -- ---- where the snapshot lags, and what leads at the place
 
-pub at-on : (b : Bool) (p x y : Pos) → b ≡ true → IsAt b p x → Reaches x y → IsAt b p y
+pub at-on : (b : Bool) (p x y : Pos) → b ≡ true → IsPlaceAt b p x → Reaches x y → IsPlaceAt b p y
 at-on true p x y e a h = reach-through p x y a h
 at-on false p x y e a h = untrue (sym e)
 
 pub leads-here : (S S' : Pos → There → Type 0) (T : Row → Type 0) (seen : Stream → Type 0) (x y to : Pos) (u : Option Tomb) (a : Stage) {b : Stage} → a ≡ b → x ≡ y → ((z : Pos) (d : There) → S z d → S' z d) → Leads S T seen a x to u → Leads S' T seen b y to u
 leads-here S S' T seen x y to u a {b} p q s l = subst (λ (z : Stage × Pos). Leads S' T seen z.0 z.1 to u) (λ i. (p i, q i)) (record { each = λ z d h k f. s z d (l.each z d h k f); static_row = l.static_row })
 
-pub at-lags : (b : Bool) (p x : Pos) → IsAt b p x → Reaches p x
+pub at-lags : (b : Bool) (p x : Pos) → IsPlaceAt b p x → Reaches p x
 at-lags true p x a = a
 at-lags false p x a = subst (Reaches p) a (reach-itself p)

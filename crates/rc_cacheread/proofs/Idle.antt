@@ -19,7 +19,7 @@ use Rattle.rc_cacheread.specs.declared.spots.RowAt.TheVariants as row
 use Rattle.rc_cacheread.specs.declared.spots.Spot.{Spot}
 use Rattle.rc_cacheread.specs.declared.spots.Turn.{Turn}
 use Rattle.rc_cacheread.specs.declared.spots.Turn.TheVariants as turn
-use Rattle.rc_cacheread.specs.Spots.{Gives, GoesOn, IsAlike, IsBegun, IsIdle, IsSought, WentTo, again_due, behind, change_place, due_change, front, is_behind, is_row_due, is_row_from, row_due, since_or, stand, told_at, told_of, told_or}
+use Rattle.rc_cacheread.specs.Spots.{GivesDue, GoesOn, IsSameSpot, IsBegunAt, HasNothingDue, IsSpotSought, WentTo, again_due, past_row, change_place, due_change, front, is_behind, is_row_due, is_row_from, row_due, since_or, stand, told_at, tomb_told, told_or}
 use Rattle.rc_cacheread.proofs.Lists.{same-itself, same-tombs, untrue}
 
 pub none-of : (t : Option Tomb) → is_some t ≡ false → t ≡ None
@@ -29,23 +29,23 @@ none-of (Some t) e = untrue e
 pub not-none : (t : Option Tomb) (b : Bool) → is_some t ≡ not b → b ≡ false → is_some t ≡ true
 not-none t b e f = e ∙ ap not f
 
-pub idle-front : (s : Spot) → IsIdle s → front s ≡ []
+pub idle-front : (s : Spot) → HasNothingDue s → front s ≡ []
 idle-front s i =
     ap (λ a. again_due a s.told ++ (due_change s ++ row_due s.row s.place.prefix)) i.again
     ∙ ap (λ b. cond b [] (frag.Change (change_place s) s.tomb ∷ []) ++ row_due s.row s.place.prefix) i.told
     ∙ ap (λ r. row_due r s.place.prefix) i.row
 
-pub idle-stand : (s : Spot) → IsIdle s → stand s ≡ s.place
-idle-stand s i = ap (λ r. behind r s.place) i.row
+pub idle-stand : (s : Spot) → HasNothingDue s → stand s ≡ s.place
+idle-stand s i = ap (λ r. past_row r s.place) i.row
 
-pub idle-told : (s : Spot) → IsIdle s → told_of s ≡ s.tomb
+pub idle-told : (s : Spot) → HasNothingDue s → tomb_told s ≡ s.tomb
 idle-told s i = ap (λ a. told_or a s.told) i.again ∙ same-tombs s.told s.tomb i.told
 
 pub unsame : (t : Option Tomb) → is_some t ≡ true → same_tomb t None ≡ false
 unsame None e = untrue (sym e)
 unsame (Some t) e = refl
 
-pub closed-front : (s : Spot) → IsIdle s → is_some s.tomb ≡ true → front (record { place = s.place; row = s.row; told = s.told; again = s.again; tomb = None; since = None }) ≡ frag.Change (stand s) None ∷ []
+pub closed-front : (s : Spot) → HasNothingDue s → is_some s.tomb ≡ true → front (record { place = s.place; row = s.row; told = s.told; again = s.again; tomb = None; since = None }) ≡ frag.Change (stand s) None ∷ []
 closed-front s i e =
     ap (λ a. again_due a s.told ++ (cond (same_tomb s.told None) [] (frag.Change s.place None ∷ []) ++ row_due s.row s.place.prefix)) i.again
     ∙ ap (λ b. cond b [] (frag.Change s.place None ∷ []) ++ row_due s.row s.place.prefix) (ap (λ t. same_tomb t None) (same-tombs s.told s.tomb i.told) ∙ unsame s.tomb e)
@@ -143,13 +143,13 @@ abbrev pub spot : Pos → RowAt → Option Tomb → Option Pos → Option Tomb �
 spot a b c d e f = record { place = a; row = b; told = c; again = d; tomb = e; since = f }
 
 -- a change is due behind the position
-pub sought-change : (s t : Spot) (x : Pos) → is_behind s.again x ≡ false → (not (same_tomb s.told s.tomb) && is_gt (pos_cmp (change_place s) x)) ≡ true → t.place ≡ s.place → t.row ≡ s.row → t.told ≡ s.told → t.again ≡ told_at s.told x → t.tomb ≡ s.tomb → t.since ≡ s.since → IsSought x s t
+pub sought-change : (s t : Spot) (x : Pos) → is_behind s.again x ≡ false → (not (same_tomb s.told s.tomb) && is_gt (pos_cmp (change_place s) x)) ≡ true → t.place ≡ s.place → t.row ≡ s.row → t.told ≡ s.told → t.again ≡ told_at s.told x → t.tomb ≡ s.tomb → t.since ≡ s.since → IsSpotSought x s t
 sought-change s t x a h p r u g m n =
     let R = row_due s.row s.place.prefix in
     let b = same_tomb s.told s.tomb in
-    let l = leaves-on x (told_of s) s.told s.told (front s) (due_change s ++ R) (due_change s ++ R) (passed-again x s.again s.told (due_change s ++ R) a) (kept-change x (change_place s) s.told s.tomb R b h) in
-    subst (IsSought x s) (λ i. spot (sym p i) (sym r i) (sym u i) (sym g i) (sym m i) (sym n i)) (record {
-      due = opened s.told x (due_change s ++ R) ∙ ap (λ z. opening x z ++ (due_change s ++ R)) (sym l.tomb_there) ∙ ap (λ z. opening x (force x (told_of s) (front s)) ++ z) (sym l.left);
+    let l = leaves-on x (tomb_told s) s.told s.told (front s) (due_change s ++ R) (due_change s ++ R) (passed-again x s.again s.told (due_change s ++ R) a) (kept-change x (change_place s) s.told s.tomb R b h) in
+    subst (IsSpotSought x s) (λ i. spot (sym p i) (sym r i) (sym u i) (sym g i) (sym m i) (sym n i)) (record {
+      due = opened s.told x (due_change s ++ R) ∙ ap (λ z. opening x z ++ (due_change s ++ R)) (sym l.tomb_there) ∙ ap (λ z. opening x (force x (tomb_told s) (front s)) ++ z) (sym l.left);
       from = refl;
       told = told-none s.told x;
       tomb = refl;
@@ -157,19 +157,19 @@ sought-change s t x a h p r u g m n =
     })
 
 -- a row is due at the position or behind it
-pub sought-row : (s t : Spot) (x : Pos) → is_behind s.again x ≡ false → (not (same_tomb s.told s.tomb) && is_gt (pos_cmp (change_place s) x)) ≡ false → is_row_from s.row s.place.prefix x ≡ true → t.place ≡ s.place → t.row ≡ s.row → t.told ≡ s.tomb → t.again ≡ told_at s.tomb x → t.tomb ≡ s.tomb → IsSought x s t
+pub sought-row : (s t : Spot) (x : Pos) → is_behind s.again x ≡ false → (not (same_tomb s.told s.tomb) && is_gt (pos_cmp (change_place s) x)) ≡ false → is_row_from s.row s.place.prefix x ≡ true → t.place ≡ s.place → t.row ≡ s.row → t.told ≡ s.tomb → t.again ≡ told_at s.tomb x → t.tomb ≡ s.tomb → IsSpotSought x s t
 sought-row s t x a h k p r u g m =
     let R = row_due s.row s.place.prefix in
     let b = same_tomb s.told s.tomb in
     let l =
-    leaves-on x (told_of s) s.told s.tomb (front s) (due_change s ++ R) R (passed-again x s.again s.told (due_change s ++ R) a)
+    leaves-on x (tomb_told s) s.told s.tomb (front s) (due_change s ++ R) R (passed-again x s.again s.told (due_change s ++ R) a)
     (leaves-on x s.told s.tomb s.tomb (due_change s ++ R) R R (passed-change x (change_place s) s.told s.tomb R b refl h) (kept-row x s.row s.place.prefix s.tomb k)) in
-    subst (IsSought x s) (λ i. spot (sym p i) (sym r i) (sym u i) (sym g i) (sym m i) t.since) (record {
+    subst (IsSpotSought x s) (λ i. spot (sym p i) (sym r i) (sym u i) (sym g i) (sym m i) t.since) (record {
       due =
           ap (λ z. again_due (told_at s.tomb x) s.tomb ++ (change_at z (since_or t.since s.place) s.tomb ++ R)) (same-itself s.tomb)
           ∙ opened s.tomb x R
           ∙ ap (λ z. opening x z ++ R) (sym l.tomb_there)
-          ∙ ap (λ z. opening x (force x (told_of s) (front s)) ++ z) (sym l.left);
+          ∙ ap (λ z. opening x (force x (tomb_told s) (front s)) ++ z) (sym l.left);
       from = refl;
       told = told-none s.tomb x;
       tomb = refl;
@@ -181,16 +181,16 @@ pub went-on : (s t : Spot) (x : Pos) (b : Bool) → is_behind s.again x ≡ fals
 went-on s t x b a h k w =
     let R = row_due s.row s.place.prefix in
     let l =
-    leaves-on x (told_of s) s.told s.tomb (front s) (due_change s ++ R) [] (passed-again x s.again s.told (due_change s ++ R) a)
+    leaves-on x (tomb_told s) s.told s.tomb (front s) (due_change s ++ R) [] (passed-again x s.again s.told (due_change s ++ R) a)
     (leaves-on x s.told s.tomb s.tomb (due_change s ++ R) R [] (passed-change x (change_place s) s.told s.tomb R (same_tomb s.told s.tomb) refl h) (passed-row x s.row s.place.prefix s.tomb k)) in
     by_way b l w where
-      by_way : (b : Bool) → Leaves x (told_of s) (front s) s.tomb [] → WentTo x (spot s.place s.row s.tomb None s.tomb s.since) t b → GoesOn x s t b
-      by_way false l w = subst (IsSought x s) (λ i. spot (sym w.1 i) (sym w.2 i) (sym w.3 i) (sym w.4 i) (sym w.5 i) t.since) (record {
+      by_way : (b : Bool) → Leaves x (tomb_told s) (front s) s.tomb [] → WentTo x (spot s.place s.row s.tomb None s.tomb s.since) t b → GoesOn x s t b
+      by_way false l w = subst (IsSpotSought x s) (λ i. spot (sym w.1 i) (sym w.2 i) (sym w.3 i) (sym w.4 i) (sym w.5 i) t.since) (record {
         due =
             ap (λ z. again_due (told_at s.tomb x) s.tomb ++ (change_at z (since_or t.since (stand s)) s.tomb ++ [])) (same-itself s.tomb)
             ∙ opened s.tomb x []
             ∙ ap (λ z. opening x z ++ []) (sym l.tomb_there)
-            ∙ ap (λ z. opening x (force x (told_of s) (front s)) ++ z) (sym l.left);
+            ∙ ap (λ z. opening x (force x (tomb_told s) (front s)) ++ z) (sym l.left);
         from = refl;
         told = told-none s.tomb x;
         tomb = refl;
@@ -199,9 +199,9 @@ went-on s t x b a h k w =
       by_way true l w = record { due = l.left; force = l.tomb_there; on = w.0; place = w.1; row = w.2; told = w.3; again = w.4; tomb = w.5 }
 
 -- a row that was given is stepped over
-pub over-alike : (s t : Spot) → is_row_due s.row ≡ false → t.place ≡ stand s → t.row ≡ row.Unread → t.told ≡ s.told → t.again ≡ s.again → t.tomb ≡ s.tomb → t.since ≡ s.since → same_tomb s.told s.tomb ≡ true → s.again ≡ None → (front t ≡ []) × (stand t ≡ stand s) × (told_of t ≡ told_of s) × IsIdle t × (front s ≡ [])
+pub over-alike : (s t : Spot) → is_row_due s.row ≡ false → t.place ≡ stand s → t.row ≡ row.Unread → t.told ≡ s.told → t.again ≡ s.again → t.tomb ≡ s.tomb → t.since ≡ s.since → same_tomb s.told s.tomb ≡ true → s.again ≡ None → (front t ≡ []) × (stand t ≡ stand s) × (tomb_told t ≡ tomb_told s) × HasNothingDue t × (front s ≡ [])
 over-alike s t d p r u g m n e a =
-    let idle : IsIdle t = record { again = g ∙ a; told = ap (λ z. same_tomb z t.tomb) u ∙ ap (same_tomb s.told) m ∙ e; row = r } in
+    let idle : HasNothingDue t = record { again = g ∙ a; told = ap (λ z. same_tomb z t.tomb) u ∙ ap (same_tomb s.told) m ∙ e; row = r } in
     (idle-front t idle, idle-stand t idle ∙ p, ap (λ z. told_or z t.told) g ∙ ap (told_or s.again) u, idle, nothing-due) where
       no-due : (r : RowAt) (key : List Comp) → is_row_due r ≡ false → row_due r key ≡ []
       no-due row.Unread key e = refl
@@ -218,11 +218,11 @@ pub no-again : (a : Option Pos) → is_some a ≡ false → a ≡ None
 no-again None e = refl
 no-again (Some x) e = untrue e
 
-alike-on : (s t u : Spot) → front t ≡ front s → stand t ≡ stand s → told_of t ≡ told_of s → t.tomb ≡ s.tomb → IsAlike t u → IsAlike s u
+alike-on : (s t u : Spot) → front t ≡ front s → stand t ≡ stand s → tomb_told t ≡ tomb_told s → t.tomb ≡ s.tomb → IsSameSpot t u → IsSameSpot s u
 alike-on s t u f p o m a = record { due = a.due ∙ f; from = a.from ∙ p; told = a.told ∙ o; tomb = a.tomb ∙ m }
 
 -- what comes next behind a row that was given
-pub gives-over : (to upto : Pos) (s t u : Spot) (r : Turn) → (front t ≡ []) × (stand t ≡ stand s) × (told_of t ≡ told_of s) × IsIdle t × (front s ≡ []) → t.tomb ≡ s.tomb → Gives to upto t u r → Gives to upto s u r
+pub gives-over : (to upto : Pos) (s t u : Spot) (r : Turn) → (front t ≡ []) × (stand t ≡ stand s) × (tomb_told t ≡ tomb_told s) × HasNothingDue t × (front s ≡ []) → t.tomb ≡ s.tomb → GivesDue to upto t u r → GivesDue to upto s u r
 gives-over to upto s t u (turn.Given f) o m g = absurd (never f (front u) (sym o.0 ∙ g.0)) where
   never : (f : Frag) (fs : List Frag) → [] ≡ f ∷ fs → ⊥
   never f fs e = absurd (cc)

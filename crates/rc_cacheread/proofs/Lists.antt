@@ -25,7 +25,7 @@ use Rattle.rc_stream.specs.Stream.{first_upto, force, is_passed, is_upto, onward
 use Rattle.rc_stream.specs.laws.Ordered.{irreflexive, itself, stop}
 use Rattle.rc_stream.specs.laws.Says.{force-onward, force-opening, rows-onward, rows-opening}
 use Rattle.rc_stream.specs.laws.Sought.{onward-ordered, sought-ordered, sought-telling}
-use Rattle.rc_cacheread.specs.Reading.{AreWritten, IsApart, Reads, StandFrom, behind_row, nothing_there, row_of_these, there}
+use Rattle.rc_cacheread.specs.Reading.{AreWritten, AreRowsApart, Reads, StandFrom, behind_row, nothing_there, row_of_these, said_at}
 use Rattle.rc_cacheread.proofs.Orders.{before-reach, before-reaches, either-way, is-lt, never-before, not-le, reach-before, reach-itself, reach-through, same-place, turned-before}
 
 -- ---- tombstones
@@ -97,7 +97,7 @@ force-behind x y tomb [] b h = refl
 force-behind x y tomb (f ∷ fs) b h = ap (λ c. cond c (force x (tomb_after tomb f) fs) tomb) (unpassed-behind x f (before-reaches x y (at_of f) b h.0))
 
 -- before all fragments nothing is said but the tombstone in force
-pub quiet-before : (x y : Pos) (tomb : Option Tomb) (fs : List Frag) → IsBefore x y → StandFrom y fs → there x tomb fs ≡ (empty_row, tomb)
+pub quiet-before : (x y : Pos) (tomb : Option Tomb) (fs : List Frag) → IsBefore x y → StandFrom y fs → said_at x tomb fs ≡ (empty_row, tomb)
 quiet-before x y tomb fs b h = ap (λ rs. pair (row_of_these rs) (force x tomb fs)) (no-rows-behind x y fs b h) ∙ ap (pair empty_row) (force-behind x y tomb fs b h)
 
 then-le : (r s : Ordering) → ordering_then r s ≡ Less → is_le r ≡ true
@@ -126,7 +126,7 @@ cond-none f true e = absurd (cc)
 cond-none f false e = refl
 
 -- where nothing stands up to a position, nothing is said there but the tombstone in force
-pub quiet-upto : (near y : Pos) (tomb : Option Tomb) (fs : List Frag) → IsOrdered fs → first_upto near fs ≡ None → Reaches y near → there y tomb fs ≡ (empty_row, tomb)
+pub quiet-upto : (near y : Pos) (tomb : Option Tomb) (fs : List Frag) → IsOrdered fs → first_upto near fs ≡ None → Reaches y near → said_at y tomb fs ≡ (empty_row, tomb)
 quiet-upto near y tomb [] o e r = refl
 quiet-upto near y tomb (f ∷ fs) o e r = quiet-before y (at_of f) tomb (f ∷ fs) (reach-before y near (at_of f) r (behind-upto near f o.0 (cond-none f (is_upto near f) e))) (from-first f fs o)
 
@@ -136,18 +136,18 @@ from-upto near (f ∷ fs) o e = from-on near (at_of f) (f ∷ fs) (before-reach 
 
 -- ---- what the first says
 
-pub row-said : (key : List Comp) (row : Row) (tomb : Option Tomb) (fs : List Frag) → there (row_pos key) tomb (frag.Row key row ∷ fs) ≡ (row, tomb)
+pub row-said : (key : List Comp) (row : Row) (tomb : Option Tomb) (fs : List Frag) → said_at (row_pos key) tomb (frag.Row key row ∷ fs) ≡ (row, tomb)
 row-said key row tomb fs =
     let x = row_pos key in
     ap (λ d. pair (row_of_these (cond d (row ∷ []) [] ++ rows_here x fs)) (force x tomb (frag.Row key row ∷ fs))) (itself x)
     ∙ ap (λ r. pair row (cond (is_lt r) (force x tomb fs) tomb)) (tied_itself pos_cmp_total x)
 
-pub over-row : (key : List Comp) (row : Row) (tomb : Option Tomb) (fs : List Frag) (y : Pos) → IsBefore (row_pos key) y → there y tomb (frag.Row key row ∷ fs) ≡ there y tomb fs
+pub over-row : (key : List Comp) (row : Row) (tomb : Option Tomb) (fs : List Frag) (y : Pos) → IsBefore (row_pos key) y → said_at y tomb (frag.Row key row ∷ fs) ≡ said_at y tomb fs
 over-row key row tomb fs y b =
     ap (λ r. pair (row_of_these (cond (is_eq r) (row ∷ []) [] ++ rows_here y fs)) (force y tomb (frag.Row key row ∷ fs))) (turned-before (row_pos key) y b)
     ∙ ap (λ r. pair (row_of_these (rows_here y fs)) (cond (is_lt r) (force y tomb fs) tomb)) b
 
-pub over-change : (from : Pos) (tomb next : Option Tomb) (fs : List Frag) (y : Pos) → Reaches from y → there y tomb (frag.Change from next ∷ fs) ≡ there y next fs
+pub over-change : (from : Pos) (tomb next : Option Tomb) (fs : List Frag) (y : Pos) → Reaches from y → said_at y tomb (frag.Change from next ∷ fs) ≡ said_at y next fs
 over-change from tomb next fs y r = ap (λ c. pair (row_of_these (rows_here y fs)) (cond c (force y next fs) tomb)) r
 
 pub behind-its-row : (key : List Comp) → IsBefore (row_pos key) (behind_row key)
@@ -157,17 +157,17 @@ behind-its-row key = subst (λ k. IsBefore (row_pos k) (behind_row key)) (append
   append-none (x ∷ xs) = ap (λ ys. x ∷ ys) (append-none xs)
 
 -- an empty row says nothing
-pub over-empty : (key : List Comp) (row : Row) (tomb : Option Tomb) (fs : List Frag) → row ≡ empty_row → IsOrdered (frag.Row key row ∷ fs) → IsApart (frag.Row key row ∷ fs) → (y : Pos) → there y tomb (frag.Row key row ∷ fs) ≡ there y tomb fs
+pub over-empty : (key : List Comp) (row : Row) (tomb : Option Tomb) (fs : List Frag) → row ≡ empty_row → IsOrdered (frag.Row key row ∷ fs) → AreRowsApart (frag.Row key row ∷ fs) → (y : Pos) → said_at y tomb (frag.Row key row ∷ fs) ≡ said_at y tomb fs
 over-empty key row tomb fs e o a y =
     elim (either-way y (row_pos key)) [
       | inl h ↦ elim (either-way (row_pos key) y) [
         | inl k ↦
             let same : y ≡ row_pos key = same-place y (row_pos key) h k in
-            ap (λ z. there z tomb (frag.Row key row ∷ fs)) same
+            ap (λ z. said_at z tomb (frag.Row key row ∷ fs)) same
             ∙ row-said key row tomb fs
             ∙ ap (λ r. pair r tomb) e
             ∙ sym (quiet-before (row_pos key) (behind_row key) tomb fs (behind-its-row key) a.0)
-            ∙ ap (λ z. there z tomb fs) (sym same)
+            ∙ ap (λ z. said_at z tomb fs) (sym same)
         | inr k ↦
             quiet-before y (row_pos key) tomb (frag.Row key row ∷ fs) k (from-first (frag.Row key row) fs o)
             ∙ sym (quiet-before y (row_pos key) tomb fs k (from-behind (row_pos key, 1) fs o.1))
@@ -187,7 +187,7 @@ change-force : (x : Pos) (tomb next : Option Tomb) (fs : List Frag) → IsOrdere
 change-force x tomb next fs o = ap tomb_side (over-change x tomb next fs x (reach-itself x)) ∙ stop x (x, 0) next fs o.2 o.1 (irreflexive (x, 0))
 
 -- what is first says something at its place
-pub first-says : (tomb : Option Tomb) (f : Frag) (fs : List Frag) → IsOrdered (f ∷ fs) → IsTelling tomb (f ∷ fs) → AreWritten (f ∷ fs) → there (at_of f) tomb (f ∷ fs) ≡ (empty_row, tomb) → ⊥
+pub first-says : (tomb : Option Tomb) (f : Frag) (fs : List Frag) → IsOrdered (f ∷ fs) → IsTelling tomb (f ∷ fs) → AreWritten (f ∷ fs) → said_at (at_of f) tomb (f ∷ fs) ≡ (empty_row, tomb) → ⊥
 first-says tomb (frag.Start pt) fs o t w e = o.0
 first-says tomb (frag.Static row) fs o t w e = o.0
 first-says tomb (frag.Row key row) fs o t w e = w.0 (ap row_side (sym (row-said key row tomb fs) ∙ e))
@@ -195,7 +195,7 @@ first-says tomb (frag.Change from next) fs o t w e = unlike tomb next t.0 (sym (
 first-says tomb frag.End fs o t w e = o.0
 
 -- over a stretch where nothing is said nothing stands
-pub from-gap : (x z : Pos) (tomb : Option Tomb) (fs : List Frag) → IsOrdered fs → IsTelling tomb fs → AreWritten fs → StandFrom x fs → ((y : Pos) → Reaches x y → IsBefore y z → there y tomb fs ≡ (empty_row, tomb)) → StandFrom z fs
+pub from-gap : (x z : Pos) (tomb : Option Tomb) (fs : List Frag) → IsOrdered fs → IsTelling tomb fs → AreWritten fs → StandFrom x fs → ((y : Pos) → Reaches x y → IsBefore y z → said_at y tomb fs ≡ (empty_row, tomb)) → StandFrom z fs
 from-gap x z tomb [] o t w h q = tt
 from-gap x z tomb (f ∷ fs) o t w h q =
     elim (either-way z (at_of f)) [
@@ -203,7 +203,7 @@ from-gap x z tomb (f ∷ fs) o t w h q =
       | inr b ↦ absurd (first-says tomb f fs o t w (q (at_of f) h.0 b))
     ]
 
-pub gap-read : (S : Pos → There → Type 0) (x z to : Pos) (tomb : Option Tomb) (fs : List Frag) → Reads S x to tomb fs → Reaches x z → ((y : Pos) → Reaches x y → IsBefore y z → there y tomb fs ≡ (empty_row, tomb)) → Reads S z to tomb fs
+pub gap-read : (S : Pos → There → Type 0) (x z to : Pos) (tomb : Option Tomb) (fs : List Frag) → Reads S x to tomb fs → Reaches x z → ((y : Pos) → Reaches x y → IsBefore y z → said_at y tomb fs ≡ (empty_row, tomb)) → Reads S z to tomb fs
 gap-read S x z to tomb fs r on q = record {
   ordered = r.ordered;
   telling = r.telling;
@@ -224,7 +224,7 @@ pub record Turns (S : Pos → There → Type 0) (x to : Pos) (tomb next : Option
   pub left : List Frag
   pub begins : fs ≡ change_if x tomb next ++ left
   pub reads : Reads S x to next left
-  pub says : (y : Pos) → Reaches x y → there y tomb fs ≡ there y next left
+  pub says : (y : Pos) → Reaches x y → said_at y tomb fs ≡ said_at y next left
 
 begins-changed : (x : Pos) (tomb next : Option Tomb) (fs : List Frag) → IsOrdered fs → StandFrom x fs → force x tomb fs ≡ next → same_tomb tomb next ≡ false → (gs : List Frag) × (fs ≡ frag.Change x next ∷ gs)
 begins-changed x tomb next [] o h e d = absurd (unlike tomb next d e)
@@ -267,7 +267,7 @@ turns S x to tomb next fs r e =
             left = fs;
             begins = ap (λ c. cond c [] (frag.Change x next ∷ []) ++ fs) (sym k);
             reads = subst (λ t. Reads S x to t fs) same r;
-            says = λ y h. ap (λ t. there y t fs) same;
+            says = λ y h. ap (λ t. said_at y t fs) same;
           }
       | false ↦ λ k.
           let c = begins-changed x tomb next fs r.ordered r.from e k in
@@ -275,7 +275,7 @@ turns S x to tomb next fs r e =
             left = c.0;
             begins = c.1 ∙ ap (λ b. cond b [] (frag.Change x next ∷ []) ++ c.0) (sym k);
             reads = taken-change S x to tomb next fs c.0 c.1 r;
-            says = λ y h. ap (there y tomb) c.1 ∙ over-change x tomb next c.0 y h;
+            says = λ y h. ap (said_at y tomb) c.1 ∙ over-change x tomb next c.0 y h;
           }
     ] refl
 
@@ -285,9 +285,9 @@ pub record HasRow (S : Pos → There → Type 0) (key : List Comp) (row : Row) (
   pub left : List Frag
   pub begins : fs ≡ frag.Row key row ∷ left
   pub reads : Reads S (behind_row key) to tomb left
-  pub says : (y : Pos) → Reaches (behind_row key) y → there y tomb fs ≡ there y tomb left
+  pub says : (y : Pos) → Reaches (behind_row key) y → said_at y tomb fs ≡ said_at y tomb left
 
-begins-row : (key : List Comp) (row : Row) (tomb : Option Tomb) (fs : List Frag) → IsOrdered fs → IsTelling tomb fs → StandFrom (row_pos key) fs → there (row_pos key) tomb fs ≡ (row, tomb) → row ≢ empty_row → (gs : List Frag) × (fs ≡ frag.Row key row ∷ gs)
+begins-row : (key : List Comp) (row : Row) (tomb : Option Tomb) (fs : List Frag) → IsOrdered fs → IsTelling tomb fs → StandFrom (row_pos key) fs → said_at (row_pos key) tomb fs ≡ (row, tomb) → row ≢ empty_row → (gs : List Frag) × (fs ≡ frag.Row key row ∷ gs)
 begins-row key row tomb [] o t h e d = absurd (d (ap row_side (sym e)))
 begins-row key row tomb (frag.Start pt ∷ fs) o t h e d = absurd o.0
 begins-row key row tomb (frag.Static r ∷ fs) o t h e d = absurd o.0
@@ -296,7 +296,7 @@ begins-row key row tomb (frag.Row key' r ∷ fs) o t h e d =
       | inl k ↦
           let same : row_pos key' ≡ row_pos key = same-place (row_pos key') (row_pos key) k h.0 in
           let keys : key' ≡ key = ap (λ (p : Pos). p.prefix) same in
-          let rows : r ≡ row = ap row_side (sym (row-said key' r tomb fs) ∙ ap (λ z. there z tomb (frag.Row key' r ∷ fs)) same ∙ e) in
+          let rows : r ≡ row = ap row_side (sym (row-said key' r tomb fs) ∙ ap (λ z. said_at z tomb (frag.Row key' r ∷ fs)) same ∙ e) in
           (fs, λ i. frag.Row (keys i) (rows i) ∷ fs)
       | inr b ↦ absurd (d (ap row_side (sym e ∙ quiet-before (row_pos key) (row_pos key') tomb (frag.Row key' r ∷ fs) b (from-first (frag.Row key' r) fs o))))
     ]
@@ -309,7 +309,7 @@ begins-row key row tomb (frag.Change from next ∷ fs) o t h e d =
     ]
 begins-row key row tomb (frag.End ∷ fs) o t h e d = absurd o.0
 
-pub has-row : (S : Pos → There → Type 0) (key : List Comp) (row : Row) (to : Pos) (tomb : Option Tomb) (fs : List Frag) → Reads S (row_pos key) to tomb fs → there (row_pos key) tomb fs ≡ (row, tomb) → row ≢ empty_row → HasRow S key row to tomb fs
+pub has-row : (S : Pos → There → Type 0) (key : List Comp) (row : Row) (to : Pos) (tomb : Option Tomb) (fs : List Frag) → Reads S (row_pos key) to tomb fs → said_at (row_pos key) tomb fs ≡ (row, tomb) → row ≢ empty_row → HasRow S key row to tomb fs
 has-row S key row to tomb fs r e d =
     let c = begins-row key row tomb fs r.ordered r.telling r.from e d in
     let gs = c.0 in
@@ -327,7 +327,7 @@ has-row S key row to tomb fs r e d =
         within = λ y v h b s. q.within y v (before-reach (row_pos key) y (on y h)) b s ∙ over-row key row tomb gs y (on y h);
         beyond = λ y h k. sym (over-row key row tomb gs y (on y h)) ∙ q.beyond y (before-reach (row_pos key) y (on y h)) k;
       };
-      says = λ y h. ap (there y tomb) c.1 ∙ over-row key row tomb gs y (on y h);
+      says = λ y h. ap (said_at y tomb) c.1 ∙ over-row key row tomb gs y (on y h);
     }
 
 -- ---- the end of the slice, and a seek
@@ -346,16 +346,16 @@ written-onward x (f ∷ fs) h = elim (is_passed x f) as (λ b. AreWritten (cond 
   rest-written (frag.Change from tomb) fs h = h
   rest-written frag.End fs h = h
 
-pub rest-apart : (f : Frag) (fs : List Frag) → IsApart (f ∷ fs) → IsApart fs
+pub rest-apart : (f : Frag) (fs : List Frag) → AreRowsApart (f ∷ fs) → AreRowsApart fs
 rest-apart (frag.Start pt) fs h = h
 rest-apart (frag.Static row) fs h = h
 rest-apart (frag.Row key row) fs h = h.1
 rest-apart (frag.Change from tomb) fs h = h
 rest-apart frag.End fs h = h
 
-apart-onward : (x : Pos) (fs : List Frag) → IsApart fs → IsApart (onward x fs)
+apart-onward : (x : Pos) (fs : List Frag) → AreRowsApart fs → AreRowsApart (onward x fs)
 apart-onward x [] h = tt
-apart-onward x (f ∷ fs) h = elim (is_passed x f) as (λ b. IsApart (cond b (onward x fs) (f ∷ fs))) [ true ↦ apart-onward x fs (rest-apart f fs h) | false ↦ h ]
+apart-onward x (f ∷ fs) h = elim (is_passed x f) as (λ b. AreRowsApart (cond b (onward x fs) (f ∷ fs))) [ true ↦ apart-onward x fs (rest-apart f fs h) | false ↦ h ]
 
 abbrev pub sought_from : Pos → Option Tomb → List Frag → List Frag
 sought_from x tomb fs = opening x (force x tomb fs) ++ onward x fs
@@ -364,7 +364,7 @@ written-opening : (x : Pos) (t : Option Tomb) (fs : List Frag) → AreWritten fs
 written-opening x None fs h = h
 written-opening x (Some t) fs h = h
 
-apart-opening : (x : Pos) (t : Option Tomb) (fs : List Frag) → IsApart fs → IsApart (opening x t ++ fs)
+apart-opening : (x : Pos) (t : Option Tomb) (fs : List Frag) → AreRowsApart fs → AreRowsApart (opening x t ++ fs)
 apart-opening x None fs h = h
 apart-opening x (Some t) fs h = h
 
@@ -372,13 +372,13 @@ from-opening : (x : Pos) (t : Option Tomb) (fs : List Frag) → StandFrom x fs �
 from-opening x None fs h = h
 from-opening x (Some t) fs h = (reach-itself x, h)
 
-pub sought-apart : (x : Pos) (tomb : Option Tomb) (fs : List Frag) → IsApart fs → IsApart (sought_from x tomb fs)
+pub sought-apart : (x : Pos) (tomb : Option Tomb) (fs : List Frag) → AreRowsApart fs → AreRowsApart (sought_from x tomb fs)
 sought-apart x tomb fs h = apart-opening x (force x tomb fs) (onward x fs) (apart-onward x fs h)
 
 pub sought-from : (x : Pos) (tomb : Option Tomb) (fs : List Frag) → IsOrdered fs → StandFrom x (sought_from x tomb fs)
 sought-from x tomb fs o = from-opening x (force x tomb fs) (onward x fs) (from-behind (x, 0) (onward x fs) (onward-ordered x fs o).1)
 
-pub sought-there : (x y : Pos) (tomb : Option Tomb) (fs : List Frag) → Reaches x y → there y None (sought_from x tomb fs) ≡ there y tomb fs
+pub sought-there : (x y : Pos) (tomb : Option Tomb) (fs : List Frag) → Reaches x y → said_at y None (sought_from x tomb fs) ≡ said_at y tomb fs
 sought-there x y tomb fs h =
     ap (λ rs. pair (row_of_these rs) (force y None (sought_from x tomb fs))) (rows-opening x y (force x tomb fs) (onward x fs) ∙ rows-onward x y h fs)
     ∙ ap (pair (row_of_these (rows_here y fs))) (force-opening x y h (force x tomb fs) (onward x fs) ∙ sym (force-onward x y h tomb fs))

@@ -15,7 +15,7 @@ use Rattle.rc_stream.specs.Snapshot.{There}
 use Rattle.rc_stream.specs.Stream.{Stream, first_upto, force, took}
 use Rattle.rc_cacheread.specs.declared.readers.Stage.{Stage}
 use Rattle.rc_cacheread.specs.declared.readers.Stage.TheVariants.{Away, Sought, Within}
-use Rattle.rc_cacheread.specs.Reading.{IsApart, Reads, behind_row, there}
+use Rattle.rc_cacheread.specs.Reading.{AreRowsApart, Reads, behind_row, said_at}
 use Rattle.rc_cacheread.specs.Sharing.{Fits, Leads}
 use Rattle.rc_cacheread.proofs.Lists.{behind-its-row, change_if, gap-read, has-row, turns}
 use Rattle.rc_cacheread.proofs.Orders.{before-reach, before-reaches, reach-before, reach-itself, reach-through, same-place}
@@ -23,19 +23,19 @@ use Rattle.rc_cacheread.proofs.Streams.{first-change, first-row, nothing-fits, n
 
 -- each stream that may stand below becomes one that may stand below afterwards, and says the same from there on
 pub record Carries (seen : Stream → Type 0) (a : Stage) (x : Pos) (u : Option Tomb) (now : Stream → Type 0) (b : Stage) (y : Pos) (v : Option Tomb) : Type 0 where
-  pub each : (t : Stream) → seen t → Fits a x u t → (n : Stream) × now n × Fits b y v n × ((z : Pos) → Reaches y z → there z n.tomb n.left ≡ there z t.tomb t.left) × (n.head.statics ≡ t.head.statics)
+  pub each : (t : Stream) → seen t → Fits a x u t → (n : Stream) × now n × Fits b y v n × ((z : Pos) → Reaches y z → said_at z n.tomb n.left ≡ said_at z t.tomb t.left) × (n.head.statics ≡ t.head.statics)
 
 -- what was read is due, and the rest is left to be read
 pub record Advance (S : Pos → There → Type 0) (to : Pos) (u : Option Tomb) (fs : List Frag) (y : Pos) (v : Option Tomb) (due : List Frag) : Type 0 where
   pub left : List Frag
   pub begins : fs ≡ due ++ left
   pub reads : Reads S y to v left
-  pub says : (z : Pos) → Reaches y z → there z u fs ≡ there z v left
+  pub says : (z : Pos) → Reaches y z → said_at z u fs ≡ said_at z v left
 
 -- both together
 pub record Outcome (S : Pos → There → Type 0) (seen now : Stream → Type 0) (to : Pos) (a : Stage) (x : Pos) (u : Option Tomb) (b : Stage) (y : Pos) (v : Option Tomb) (due : List Frag) : Type 0 where
   pub carries : Carries seen a x u now b y v
-  pub advance : (fs : List Frag) (t : Stream) → Reads S x to u fs → seen t → Fits a x u t → ((z : Pos) → Reaches x z → IsBefore z to → there z t.tomb t.left ≡ there z u fs) → Advance S to u fs y v due
+  pub advance : (fs : List Frag) (t : Stream) → Reads S x to u fs → seen t → Fits a x u t → ((z : Pos) → Reaches x z → IsBefore z to → said_at z t.tomb t.left ≡ said_at z u fs) → Advance S to u fs y v due
 
 pub outcome-at : (S : Pos → There → Type 0) (seen now : Stream → Type 0) (to : Pos) (a : Stage) (x : Pos) (u : Option Tomb) (b b' : Stage) (y y' : Pos) (v v' : Option Tomb) (due due' : List Frag) → b' ≡ b → y' ≡ y → v' ≡ v → due' ≡ due → Outcome S seen now to a x u b y v due → Outcome S seen now to a x u b' y' v' due'
 outcome-at S seen now to a x u b b' y y' v v' due due' p q r s o = subst (λ (z : Stage × Pos × Option Tomb × List Frag). Outcome S seen now to a x u z.0 z.1 z.2 z.3) (λ i. (sym p i, sym q i, sym r i, sym s i)) o
@@ -63,7 +63,7 @@ module _ (S : Pos → There → Type 0) (seen now : Stream → Type 0) (to x nea
     advance = λ fs t reads s f q.
         let z = row_pos key in
         let g = first-row key r x near u t f (sym (gives t s)) in
-        let e : there z u fs ≡ (r, u) = sym (q z h b) ∙ g.there_is in
+        let e : said_at z u fs ≡ (r, u) = sym (q z h b) ∙ g.there_is in
         let here = gap-read S x z to u fs reads h (λ y k l. sym (q y k (before-reaches y z to l (before-reach z to b))) ∙ g.before y l) in
         let w = has-row S key r to u fs here e d in
         record { left = w.left; begins = w.begins; reads = w.reads; says = w.says };
@@ -162,10 +162,10 @@ module _ (S : Pos → There → Type 0) (seen now : Stream → Type 0) (to x : P
       carries = record { each = λ t s f. (let g = first-row key r x x None t f (sym (gives t s)) in (took (Some (frag.Row key r)) t, on t s, g.fits, g.says, refl)) };
       advance = λ fs t reads s f q.
           let g = first-row key r x x None t f (sym (gives t s)) in
-          let k : there x t.tomb t.left ≡ (r, None) = subst (λ z. there z t.tomb t.left ≡ (r, None)) e g.there_is in
-          let m : there x u fs ≡ (r, None) = sym (q x (reach-itself x) b) ∙ k in
+          let k : said_at x t.tomb t.left ≡ (r, None) = subst (λ z. said_at z t.tomb t.left ≡ (r, None)) e g.there_is in
+          let m : said_at x u fs ≡ (r, None) = sym (q x (reach-itself x) b) ∙ k in
           let w = turns S x to u None fs reads (ap (λ (d : There). d.1) m) in
-          let n : there (row_pos key) None w.left ≡ (r, None) = subst (λ z. there z None w.left ≡ (r, None)) (sym e) (sym (w.says x (reach-itself x)) ∙ m) in
+          let n : said_at (row_pos key) None w.left ≡ (r, None) = subst (λ z. said_at z None w.left ≡ (r, None)) (sym e) (sym (w.says x (reach-itself x)) ∙ m) in
           let v = has-row S key r to None w.left (subst (λ z. Reads S z to None w.left) (sym e) w.reads) n d in
           let over : (y : Pos) → Reaches (behind_row key) y → Reaches x y = λ y l. subst (λ z. Reaches z y) e (reach-through (row_pos key) (behind_row key) y (before-reach (row_pos key) (behind_row key) (behind-its-row key)) l) in
           record {
@@ -188,7 +188,7 @@ module _ (S : Pos → There → Type 0) (seen now : Stream → Type 0) (to x : P
       };
       advance = λ fs t reads s f q.
           let g = first-row key r x x None t f (sym (gives t s)) in
-          let e : force x u fs ≡ None = ap (λ (d : There). d.1) (sym (q x (reach-itself x) b) ∙ subst (λ z. there z t.tomb t.left ≡ (r, None)) (same-place (row_pos key) x g.upto g.on) g.there_is) in
+          let e : force x u fs ≡ None = ap (λ (d : There). d.1) (sym (q x (reach-itself x) b) ∙ subst (λ z. said_at z t.tomb t.left ≡ (r, None)) (same-place (row_pos key) x g.upto g.on) g.there_is) in
           let w = turns S x to u None fs reads e in
           record { left = w.left; begins = w.begins; reads = w.reads; says = w.says };
     }

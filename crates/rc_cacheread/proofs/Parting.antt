@@ -21,9 +21,9 @@ use Rattle.rc_cacheread.specs.declared.readers.CacheReader.{CacheReader}
 use Rattle.rc_cacheread.specs.declared.readers.Stage.{Stage}
 use Rattle.rc_cacheread.specs.declared.readers.Stage.TheVariants.{Away, Sought, Within}
 use Rattle.rc_cacheread.specs.declared.spots.Spot.{Spot}
-use Rattle.rc_cacheread.specs.Reading.{Reads, behind_row, there}
-use Rattle.rc_cacheread.specs.Sharing.{Fits, IsAt, IsReady, IsSaid, IsWhole, Leads, OfBelow, OfFiller, OfKnown, Sees}
-use Rattle.rc_cacheread.specs.Spots.{IsIdle, again_due, change_place, due_change, front, row_due, since_or, stand, told_of}
+use Rattle.rc_cacheread.specs.Reading.{Reads, behind_row, said_at}
+use Rattle.rc_cacheread.specs.Sharing.{Fits, IsPlaceAt, IsReady, IsSaidBelow, IsAllKnown, Leads, OfBelow, OfFiller, OfKnown, Sees}
+use Rattle.rc_cacheread.specs.Spots.{HasNothingDue, again_due, change_place, due_change, front, row_due, since_or, stand, tomb_told}
 use Rattle.rc_cacheread.proofs.Going.{append-none}
 use Rattle.rc_cacheread.proofs.Idle.{idle-front}
 use Rattle.rc_cacheread.proofs.Leaving.{KnownLeft, both-ways}
@@ -50,7 +50,7 @@ part-on a b x upto (Err e) s d = d
 pub advance-gap : (S : Pos → There → Type 0) (x to end : Pos) (u t : Option Tomb) (fs : List Frag) → Reads S x to u fs → IsBefore x end → Reaches end to → Throughout x end (λ y. S y (empty_row, t)) → Advance S to u fs end t (change_if x u t)
 advance-gap S x to end u t fs r b e k =
     let on : IsBefore x to = before-reaches x end to b e in
-    let at : there x u fs ≡ (empty_row, t) = sym (r.within x (empty_row, t) (reach-itself x) on (k x (reach-itself x) b)) in
+    let at : said_at x u fs ≡ (empty_row, t) = sym (r.within x (empty_row, t) (reach-itself x) on (k x (reach-itself x) b)) in
     let w = turns S x to u t fs r (ap (λ (v : There). v.1) at) in
     record {
       left = w.left;
@@ -65,9 +65,9 @@ joined (x ∷ xs) f ys = ap (λ l. x ∷ l) (joined xs f ys)
 
 pub advance-row : (S : Pos → There → Type 0) (x to : Pos) (key : List Comp) (row : Row) (u t : Option Tomb) (fs : List Frag) → Reads S x to u fs → IsBefore x to → x ≡ row_pos key → S x (row, t) → row ≢ empty_row → Advance S to u fs (behind_row key) t (change_if x u t ++ (frag.Row key row ∷ []))
 advance-row S x to key row u t fs r b e k d =
-    let at : there x u fs ≡ (row, t) = sym (r.within x (row, t) (reach-itself x) b k) in
+    let at : said_at x u fs ≡ (row, t) = sym (r.within x (row, t) (reach-itself x) b k) in
     let w = turns S x to u t fs r (ap (λ (v : There). v.1) at) in
-    let here : there (row_pos key) t w.left ≡ (row, t) = subst (λ z. there z t w.left ≡ (row, t)) e (sym (w.says x (reach-itself x)) ∙ at) in
+    let here : said_at (row_pos key) t w.left ≡ (row, t) = subst (λ z. said_at z t w.left ≡ (row, t)) e (sym (w.says x (reach-itself x)) ∙ at) in
     let v = has-row S key row to t w.left (subst (λ z. Reads S z to t w.left) e w.reads) here d in
     record {
       left = v.left;
@@ -79,11 +79,11 @@ advance-row S x to key row u t fs r b e k d =
 pub advance-at : (S : Pos → There → Type 0) (to : Pos) (u : Option Tomb) (fs : List Frag) (y y' : Pos) (v v' : Option Tomb) (due due' : List Frag) → y' ≡ y → v' ≡ v → due' ≡ due → Advance S to u fs y v due → Advance S to u fs y' v' due'
 advance-at S to u fs y y' v v' due due' p q r a = subst (λ (z : Pos × Option Tomb × List Frag). Advance S to u fs z.0 z.1 z.2) (λ i. (sym p i, sym q i, sym r i)) a
 
-pub advance-same : (S : Pos → There → Type 0) (to : Pos) (s : Spot) (fs : List Frag) → IsIdle s → Reads S (stand s) to s.tomb fs → Advance S to s.tomb fs (stand s) s.tomb (front s)
+pub advance-same : (S : Pos → There → Type 0) (to : Pos) (s : Spot) (fs : List Frag) → HasNothingDue s → Reads S (stand s) to s.tomb fs → Advance S to s.tomb fs (stand s) s.tomb (front s)
 advance-same S to s fs i r = record { left = fs; begins = ap (λ l. l ++ fs) (sym (idle-front s i)); reads = r; says = λ z h. refl }
 
 -- behind a gap the change is due where the gap began
-pub front-over : (s t : Spot) (next : Option Tomb) → IsIdle s → t.row ≡ s.row → t.told ≡ s.told → t.again ≡ s.again → t.tomb ≡ next → t.since ≡ Some s.place → front t ≡ change_if s.place s.tomb next
+pub front-over : (s t : Spot) (next : Option Tomb) → HasNothingDue s → t.row ≡ s.row → t.told ≡ s.told → t.again ≡ s.again → t.tomb ≡ next → t.since ≡ Some s.place → front t ≡ change_if s.place s.tomb next
 front-over s t next i w u a m n =
     ap (λ z. again_due z t.told ++ (due_change t ++ row_due t.row t.place.prefix)) (a ∙ i.again)
     ∙ ap (λ z. cond (same_tomb z t.tomb) [] (frag.Change (change_place t) t.tomb ∷ []) ++ row_due t.row t.place.prefix) (u ∙ same-tombs s.told s.tomb i.told)
@@ -108,13 +108,13 @@ module _ {K F P H W : Type 0} (kn : OfKnown K H) (be : OfBelow F H W) (fi : OfFi
   abbrev N : CacheReader K F P
   N = reader_of l r.below r.filler r.to s a lags
 
-  whole-on : IsWhole (kn.knows r.known h) (kn.heads r.known h) (stand r.spot) r.to → IsWhole (kn.knows l g) (kn.heads l g) (stand s) r.to
+  whole-on : IsAllKnown (kn.knows r.known h) (kn.heads r.known h) (stand r.spot) r.to → IsAllKnown (kn.knows l g) (kn.heads l g) (stand s) r.to
   whole-on d = record {
     each = λ y k b. (let v = d.each y (reach-through (stand r.spot) (stand s) y on k) b in (v.0, (same y v.0).0 v.1));
     head = λ at k. d.head at (left.heads at k);
   }
 
-  pub ready-known : IsReady kn be fi r h w → IsAt lags (kn.place l) (stand s) → IsReady kn be fi N g w
+  pub ready-known : IsReady kn be fi r h w → IsPlaceAt lags (kn.place l) (stand s) → IsReady kn be fi N g w
   ready-known d p = record {
     fit = left.fit;
     shares = d.shares;
@@ -122,11 +122,11 @@ module _ {K F P H W : Type 0} (kn : OfKnown K H) (be : OfBelow F H W) (fi : OfFi
     ahead = λ x k. d.ahead x (reach-through (stand r.spot) (stand s) x on k);
     place = p;
   } where
-    cover : IsWhole (kn.knows r.known h) (kn.heads r.known h) (stand r.spot) r.to ⊎ Leads (fi.source r.filler h) (fi.statics_are r.filler h) (be.seen r.below h w) r.stage (stand r.spot) r.to r.spot.tomb → IsWhole (kn.knows l g) (kn.heads l g) (stand s) r.to ⊎ Leads (fi.source r.filler g) (fi.statics_are r.filler g) (be.seen r.below g w) a (stand s) r.to s.tomb
+    cover : IsAllKnown (kn.knows r.known h) (kn.heads r.known h) (stand r.spot) r.to ⊎ Leads (fi.source r.filler h) (fi.statics_are r.filler h) (be.seen r.below h w) r.stage (stand r.spot) r.to r.spot.tomb → IsAllKnown (kn.knows l g) (kn.heads l g) (stand s) r.to ⊎ Leads (fi.source r.filler g) (fi.statics_are r.filler g) (be.seen r.below g w) a (stand s) r.to s.tomb
     cover (inl x) = inl (whole-on x)
     cover (inr x) = inr (leads-on (fi.source r.filler h) (fi.source r.filler g) (fi.statics_are r.filler h) (fi.statics_are r.filler g) (be.seen r.below h w) (be.seen r.below g w) r.to r.stage (stand r.spot) r.spot.tomb a (stand s) s.tomb c on (λ z d. (left.kept.source z d).0) (λ row. (left.kept.statics row).0) x)
 
-  pub sees-known : (z : Stream) → (d : Sees kn be fi r h w z) → front r.spot ≡ [] → told_of s ≡ told_of r.spot → Advance (fi.source r.filler h) r.to r.spot.tomb d.rest (stand s) s.tomb (front s) → Sees kn be fi N g w z
+  pub sees-known : (z : Stream) → (d : Sees kn be fi r h w z) → front r.spot ≡ [] → tomb_told s ≡ tomb_told r.spot → Advance (fi.source r.filler h) r.to r.spot.tomb d.rest (stand s) s.tomb (front s) → Sees kn be fi N g w z
   sees-known z d f u adv = record {
     rest = adv.left;
     tomb = d.tomb ∙ sym u;
@@ -136,7 +136,7 @@ module _ {K F P H W : Type 0} (kn : OfKnown K H) (be : OfBelow F H W) (fi : OfFi
     static_row = λ row x. d.static_row row ((left.kept.statics row).1 x);
     below = cover d.below;
   } where
-    cover : IsWhole (kn.knows r.known h) (kn.heads r.known h) (stand r.spot) r.to ⊎ IsSaid (be.seen r.below h w) r.stage r.to r.spot d.rest z.head.statics → IsWhole (kn.knows l g) (kn.heads l g) (stand s) r.to ⊎ IsSaid (be.seen r.below g w) a r.to s adv.left z.head.statics
+    cover : IsAllKnown (kn.knows r.known h) (kn.heads r.known h) (stand r.spot) r.to ⊎ IsSaidBelow (be.seen r.below h w) r.stage r.to r.spot d.rest z.head.statics → IsAllKnown (kn.knows l g) (kn.heads l g) (stand s) r.to ⊎ IsSaidBelow (be.seen r.below g w) a r.to s adv.left z.head.statics
     cover (inl x) = inl (whole-on x)
     cover (inr t) = (let n = c.each t.stream t.stands t.fits in inr (record {
       stream = n.0;
@@ -150,19 +150,19 @@ module _ {K F P H W : Type 0} (kn : OfKnown K H) (be : OfBelow F H W) (fi : OfFi
   pub sees-known-still : (e : s ≡ r.spot) → (z : Stream) → Sees kn be fi r h w z → Sees kn be fi N g w z
   sees-known-still e z d = record {
     rest = d.rest;
-    tomb = d.tomb ∙ ap told_of (sym e);
+    tomb = d.tomb ∙ ap tomb_told (sym e);
     left = d.left ∙ ap (λ x. front x ++ d.rest) (sym e);
     reads = subst (λ x. Reads (fi.source r.filler g) (stand x) r.to x.tomb d.rest) (sym e) (reads-on (fi.source r.filler h) (fi.source r.filler g) (stand r.spot) r.to r.spot.tomb d.rest (λ y x. (left.kept.source y x).1) d.reads);
     pt = λ at k. (let b = left.kept.pts at k in sym b.2 ∙ d.pt b.0 b.1);
     static_row = λ row x. d.static_row row ((left.kept.statics row).1 x);
     below = cover d.below;
   } where
-    cover : IsWhole (kn.knows r.known h) (kn.heads r.known h) (stand r.spot) r.to ⊎ IsSaid (be.seen r.below h w) r.stage r.to r.spot d.rest z.head.statics → IsWhole (kn.knows l g) (kn.heads l g) (stand s) r.to ⊎ IsSaid (be.seen r.below g w) a r.to s d.rest z.head.statics
+    cover : IsAllKnown (kn.knows r.known h) (kn.heads r.known h) (stand r.spot) r.to ⊎ IsSaidBelow (be.seen r.below h w) r.stage r.to r.spot d.rest z.head.statics → IsAllKnown (kn.knows l g) (kn.heads l g) (stand s) r.to ⊎ IsSaidBelow (be.seen r.below g w) a r.to s d.rest z.head.statics
     cover (inl x) = inl (whole-on x)
     cover (inr t) = (let n = c.each t.stream t.stands t.fits in inr (record {
       stream = n.0;
       stands = n.1;
       fits = n.2;
-      says = λ y k b. n.3 y k ∙ t.says y (reach-through (stand r.spot) (stand s) y on k) b ∙ ap (λ x. there y x.tomb d.rest) (sym e);
+      says = λ y k b. n.3 y k ∙ t.says y (reach-through (stand r.spot) (stand s) y on k) b ∙ ap (λ x. said_at y x.tomb d.rest) (sym e);
       static_row = n.4 ∙ t.static_row;
     }))

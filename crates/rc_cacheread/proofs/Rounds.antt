@@ -6,7 +6,7 @@ use Rattle.rc_stream.specs.Showing.{FileSpots, IsNamed}
 use Rattle.rc_stream.specs.declared.streams.StreamErr.{StreamErr}
 use Rattle.rc_stream.specs.declared.streams.StreamErr.TheVariants.{Fault, Damaged, NoMemory}
 use Rattle.rc_cacheread.specs.declared.readers.CacheReader.{CacheReader}
-use Rattle.rc_cacheread.specs.Did.{KnownStep, OneCall, ReaderDid, state}
+use Rattle.rc_cacheread.specs.Did.{KnownStep, ReaderCall, ReaderDid, reader_state}
 use Rattle.rc_cacheread.specs.Sharing.{OfBelow, OfFiller, OfKnown}
 use Rattle.rc_cacheread.specs.Spots.{stand}
 use Rattle.rc_cacheread.proofs.Chains.{chain-after, chain-none, chain-stop}
@@ -21,7 +21,7 @@ named-on spots now NoMemory l n = n
 module _ {K F P H W : Type 0} (kn : OfKnown K H) (be : OfBelow F H W) (fi : OfFiller P H) where
   pub did-after : (r n m : CacheReader K F P) (h g f : H) (w v u : W) (c : Call) (ok : Bool) → ReaderDid kn be fi r h w c true n g v → ReaderDid kn be fi n g v c ok m f u → ReaderDid kn be fi r h w c ok m f u
   did-after r n m h g f w v u c ok a b = record {
-    calls = chain-after (OneCall kn be fi c) ok (state r h w) (state n g v) (state m f u) a.calls b.calls;
+    calls = chain-after (ReaderCall kn be fi c) ok (reader_state r h w) (reader_state n g v) (reader_state m f u) a.calls b.calls;
     on = reach-through (stand r.spot) (stand n.spot) (stand m.spot) a.on b.on;
     quiet = λ k.
         let x = a.quiet k in
@@ -31,14 +31,14 @@ module _ {K F P H W : Type 0} (kn : OfKnown K H) (be : OfBelow F H W) (fi : OfFi
 
   pub did-stopped : (r n : CacheReader K F P) (h g : H) (w v : W) (c : Call) → ReaderDid kn be fi r h w c true n g v → ReaderDid kn be fi r h w c false n g v
   did-stopped r n h g w v c a = record {
-    calls = chain-stop (OneCall kn be fi c) (state r h w) (state n g v) a.calls;
+    calls = chain-stop (ReaderCall kn be fi c) (reader_state r h w) (reader_state n g v) a.calls;
     on = a.on;
     quiet = λ k. (let x = a.quiet k in ((chain-stop (KnownStep kn.did) (r.known, h) (n.known, g) x.0.0, x.0.1, x.0.2, x.0.3), x.1));
   }
 
   pub did-nothing : (r : CacheReader K F P) (h : H) (w : W) (c : Call) → ReaderDid kn be fi r h w c true r h w
   did-nothing r h w c = record {
-    calls = chain-none (OneCall kn be fi c) true (state r h w);
+    calls = chain-none (ReaderCall kn be fi c) true (reader_state r h w);
     on = reach-itself (stand r.spot);
     quiet = λ k. ((chain-none (KnownStep kn.did) true (r.known, h), refl, refl, refl), k);
   }

@@ -11,7 +11,7 @@ use Rattle.rc_cacheread.specs.declared.readers.Stage.TheVariants.{Sought, Within
 use Rattle.rc_cacheread.specs.declared.spots.Spot.{Spot}
 use Rattle.rc_cacheread.specs.Below.{sought_stage}
 use Rattle.rc_cacheread.specs.Sharing.{Fits}
-use Rattle.rc_cacheread.specs.Spots.{IsIdle, front, stand}
+use Rattle.rc_cacheread.specs.Spots.{HasNothingDue, front, stand}
 use Rattle.rc_cacheread.proofs.Idle.{idle-front, idle-stand}
 use Rattle.rc_cacheread.proofs.Outcomes.{Outcome, carries-same}
 use Rattle.rc_cacheread.proofs.Streams.{fits-sought, sought-fits, sought-says}
@@ -20,7 +20,7 @@ settled : (x : Pos) (tomb : Option Tomb) (b : Stage) (t : Stream) → b ≡ soug
 settled x None b t e f = subst (λ c. Fits c x None t) (sym e) f
 settled x (Some u) b t e f = subst (λ c. Fits c x (Some u) t) (sym e) f
 
-pub sought-outcome : (S : Pos → There → Type 0) (seen now : Stream → Type 0) (to : Pos) (s : Spot) → IsIdle s → (a b : Stage) → b ≡ sought_stage s.tomb → ((t : Stream) → seen t → now (sought s.place t)) → Outcome S seen now to a (stand s) s.tomb b (stand s) s.tomb (front s)
+pub sought-outcome : (S : Pos → There → Type 0) (seen now : Stream → Type 0) (to : Pos) (s : Spot) → HasNothingDue s → (a b : Stage) → b ≡ sought_stage s.tomb → ((t : Stream) → seen t → now (sought s.place t)) → Outcome S seen now to a (stand s) s.tomb b (stand s) s.tomb (front s)
 sought-outcome S seen now to s i a b e on = record {
   carries = record {
     each = λ t p f.
@@ -32,7 +32,7 @@ sought-outcome S seen now to s i a b e on = record {
 }
 
 -- nothing changes
-pub idle-outcome : (S : Pos → There → Type 0) (seen now : Stream → Type 0) (to : Pos) (s : Spot) → IsIdle s → (a : Stage) → ((t : Stream) → seen t → now t) → Outcome S seen now to a (stand s) s.tomb a (stand s) s.tomb (front s)
+pub idle-outcome : (S : Pos → There → Type 0) (seen now : Stream → Type 0) (to : Pos) (s : Spot) → HasNothingDue s → (a : Stage) → ((t : Stream) → seen t → now t) → Outcome S seen now to a (stand s) s.tomb a (stand s) s.tomb (front s)
 idle-outcome S seen now to s i a on = record {
   carries = carries-same seen now a (stand s) s.tomb on;
   advance = λ fs t r p f q. record { left = fs; begins = ap (λ l. l ++ fs) (sym (idle-front s i)); reads = r; says = λ z h. refl };

@@ -12,9 +12,9 @@ use Rattle.rc_stream.specs.Stream.{Stream, force, is_passed, onward, opening, so
 use Rattle.rc_cacheread.specs.declared.readers.CacheReader.{CacheReader}
 use Rattle.rc_cacheread.specs.declared.readers.Stage.TheVariants.{Away}
 use Rattle.rc_cacheread.specs.declared.spots.Spot.{Spot}
-use Rattle.rc_cacheread.specs.Reading.{Reads, StandFrom, there}
-use Rattle.rc_cacheread.specs.Sharing.{IsAt, IsReady, IsSaid, IsWhole, Leads, OfBelow, OfFiller, OfKnown, Sees}
-use Rattle.rc_cacheread.specs.Spots.{IsBegun, IsIdle, IsSought, front, stand, told_of}
+use Rattle.rc_cacheread.specs.Reading.{Reads, StandFrom, said_at}
+use Rattle.rc_cacheread.specs.Sharing.{IsPlaceAt, IsReady, IsSaidBelow, IsAllKnown, Leads, OfBelow, OfFiller, OfKnown, Sees}
+use Rattle.rc_cacheread.specs.Spots.{IsBegunAt, HasNothingDue, IsSpotSought, front, stand, tomb_told}
 use Rattle.rc_cacheread.proofs.Going.{at-lags}
 use Rattle.rc_cacheread.proofs.Idle.{idle-front, idle-stand, idle-told}
 use Rattle.rc_cacheread.proofs.Lists.{at_of, same-itself, sought-read, sought-there, sought_from, unpassed-behind}
@@ -59,19 +59,19 @@ passed-all x t (f ∷ fs) rest e =
       never f fs e = absurd (cc)
 
 module _ {K F P H W : Type 0} (kn : OfKnown K H) (be : OfBelow F H W) (fi : OfFiller P H) (r : CacheReader K F P) (t : Spot) (x : Pos) (h : H) (w : W) where
-  pub sees-sought : IsSought x r.spot t → (s : Stream) → Sees kn be fi r h w s → Sees kn be fi (reader_of r.known r.below r.filler r.to t r.stage r.lags) h w (sought x s)
+  pub sees-sought : IsSpotSought x r.spot t → (s : Stream) → Sees kn be fi r h w s → Sees kn be fi (reader_of r.known r.below r.filler r.to t r.stage r.lags) h w (sought x s)
   sees-sought g s d =
-      let q = through x (stand r.spot) (told_of r.spot) (front r.spot) d.rest g.before d.reads.from in
-      let tomb : force x s.tomb s.left ≡ force x (told_of r.spot) (front r.spot) = (λ i. force x (d.tomb i) (d.left i)) ∙ q.0 in
+      let q = through x (stand r.spot) (tomb_told r.spot) (front r.spot) d.rest g.before d.reads.from in
+      let tomb : force x s.tomb s.left ≡ force x (tomb_told r.spot) (front r.spot) = (λ i. force x (d.tomb i) (d.left i)) ∙ q.0 in
       let left : onward x s.left ≡ onward x (front r.spot) ++ d.rest = ap (onward x) d.left ∙ q.1 in
       sees-at kn be fi r t h w g.from g.tomb s (sought x s) d refl (sym g.told)
-      ((λ i. opening x (tomb i) ++ left i) ∙ joined (opening x (force x (told_of r.spot) (front r.spot))) (onward x (front r.spot)) d.rest ∙ ap (λ l. l ++ d.rest) (sym g.due))
+      ((λ i. opening x (tomb i) ++ left i) ∙ joined (opening x (force x (tomb_told r.spot) (front r.spot))) (onward x (front r.spot)) d.rest ∙ ap (λ l. l ++ d.rest) (sym g.due))
 
-  module _ (g : IsBegun x r.spot t) where
+  module _ (g : IsBegunAt x r.spot t) where
     abbrev N : CacheReader K F P
     N = reader_of r.known r.below r.filler r.to t Away true
 
-    idle : IsIdle t
+    idle : HasNothingDue t
     idle = record { again = g.again; told = (λ i. same_tomb (g.told i) (g.tomb i)); row = g.row }
 
     at : stand t ≡ x
@@ -83,7 +83,7 @@ module _ {K F P H W : Type 0} (kn : OfKnown K H) (be : OfBelow F H W) (fi : OfFi
     carries : Carries (be.seen r.below h w) r.stage (stand r.spot) r.spot.tomb (be.seen r.below h w) Away (stand t) t.tomb
     carries = carries-away (be.seen r.below h w) (be.seen r.below h w) r.stage (stand r.spot) (stand t) r.spot.tomb t.tomb (λ y k. k)
 
-    whole-on : IsWhole (kn.knows r.known h) (kn.heads r.known h) (stand r.spot) r.to → IsWhole (kn.knows r.known h) (kn.heads r.known h) (stand t) r.to
+    whole-on : IsAllKnown (kn.knows r.known h) (kn.heads r.known h) (stand r.spot) r.to → IsAllKnown (kn.knows r.known h) (kn.heads r.known h) (stand t) r.to
     whole-on d = record { each = λ y k b. d.each y (reach-through (stand r.spot) (stand t) y on-begun k) b; head = d.head }
 
     pub ready-begun : IsReady kn be fi r h w → IsReady kn be fi N h w
@@ -94,13 +94,13 @@ module _ {K F P H W : Type 0} (kn : OfKnown K H) (be : OfBelow F H W) (fi : OfFi
       ahead = λ y k. d.ahead y (reach-through (stand r.spot) (stand t) y on-begun k);
       place = reach-through (kn.place r.known) (stand r.spot) (stand t) (at-lags r.lags (kn.place r.known) (stand r.spot) d.place) on-begun;
     } where
-      cover : IsWhole (kn.knows r.known h) (kn.heads r.known h) (stand r.spot) r.to ⊎ Leads (fi.source r.filler h) (fi.statics_are r.filler h) (be.seen r.below h w) r.stage (stand r.spot) r.to r.spot.tomb → IsWhole (kn.knows r.known h) (kn.heads r.known h) (stand t) r.to ⊎ Leads (fi.source r.filler h) (fi.statics_are r.filler h) (be.seen r.below h w) Away (stand t) r.to t.tomb
+      cover : IsAllKnown (kn.knows r.known h) (kn.heads r.known h) (stand r.spot) r.to ⊎ Leads (fi.source r.filler h) (fi.statics_are r.filler h) (be.seen r.below h w) r.stage (stand r.spot) r.to r.spot.tomb → IsAllKnown (kn.knows r.known h) (kn.heads r.known h) (stand t) r.to ⊎ Leads (fi.source r.filler h) (fi.statics_are r.filler h) (be.seen r.below h w) Away (stand t) r.to t.tomb
       cover (inl y) = inl (whole-on y)
       cover (inr y) = inr (leads-on (fi.source r.filler h) (fi.source r.filler h) (fi.statics_are r.filler h) (fi.statics_are r.filler h) (be.seen r.below h w) (be.seen r.below h w) r.to r.stage (stand r.spot) r.spot.tomb Away (stand t) t.tomb carries on-begun (λ z d k. k) (λ row k. k) y)
 
     pub sees-begun : (s : Stream) → Sees kn be fi r h w s → Sees kn be fi N h w (sought x s)
     sees-begun s d =
-        let q = passed-all x (told_of r.spot) (front r.spot) d.rest g.due in
+        let q = passed-all x (tomb_told r.spot) (front r.spot) d.rest g.due in
         let tomb : force x s.tomb s.left ≡ force x r.spot.tomb d.rest = (λ i. force x (d.tomb i) (d.left i)) ∙ q.0 ∙ ap (λ u. force x u d.rest) g.force in
         let left : onward x s.left ≡ onward x d.rest = ap (onward x) d.left ∙ q.1 in
         let reads = sought-read (fi.source r.filler h) (stand r.spot) x r.to r.spot.tomb d.rest d.reads g.on in
@@ -113,12 +113,12 @@ module _ {K F P H W : Type 0} (kn : OfKnown K H) (be : OfBelow F H W) (fi : OfFi
           static_row = d.static_row;
           below = cover s d d.below;
         } where
-          cover : (s : Stream) (d : Sees kn be fi r h w s) → IsWhole (kn.knows r.known h) (kn.heads r.known h) (stand r.spot) r.to ⊎ IsSaid (be.seen r.below h w) r.stage r.to r.spot d.rest s.head.statics → IsWhole (kn.knows r.known h) (kn.heads r.known h) (stand t) r.to ⊎ IsSaid (be.seen r.below h w) Away r.to t (sought_from x r.spot.tomb d.rest) s.head.statics
+          cover : (s : Stream) (d : Sees kn be fi r h w s) → IsAllKnown (kn.knows r.known h) (kn.heads r.known h) (stand r.spot) r.to ⊎ IsSaidBelow (be.seen r.below h w) r.stage r.to r.spot d.rest s.head.statics → IsAllKnown (kn.knows r.known h) (kn.heads r.known h) (stand t) r.to ⊎ IsSaidBelow (be.seen r.below h w) Away r.to t (sought_from x r.spot.tomb d.rest) s.head.statics
           cover s d (inl y) = inl (whole-on y)
           cover s d (inr y) = (let n = carries.each y.stream y.stands y.fits in inr (record {
             stream = n.0;
             stands = n.1;
             fits = n.2;
-            says = λ z k b. n.3 z k ∙ y.says z (reach-through (stand r.spot) (stand t) z on-begun k) b ∙ sym (sought-there x z r.spot.tomb d.rest (subst (λ v. Reaches v z) at k)) ∙ ap (λ u. there z u (sought_from x r.spot.tomb d.rest)) (sym g.tomb);
+            says = λ z k b. n.3 z k ∙ y.says z (reach-through (stand r.spot) (stand t) z on-begun k) b ∙ sym (sought-there x z r.spot.tomb d.rest (subst (λ v. Reaches v z) at k)) ∙ ap (λ u. said_at z u (sought_from x r.spot.tomb d.rest)) (sym g.tomb);
             static_row = n.4 ∙ y.static_row;
           }))

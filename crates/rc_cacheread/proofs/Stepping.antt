@@ -20,10 +20,10 @@ use Rattle.rc_cacheread.specs.declared.spots.Spot.{Spot}
 use Rattle.rc_cacheread.specs.declared.spots.Step.{Step}
 use Rattle.rc_cacheread.specs.declared.spots.Step.TheVariants as step
 use Rattle.rc_cacheread.specs.Below.{Fillings, Filling}
-use Rattle.rc_cacheread.specs.Did.{IsBelow, KnownStep, OneCall, StepSays, state}
-use Rattle.rc_cacheread.specs.Reading.{Reads, StandFrom, there}
-use Rattle.rc_cacheread.specs.Sharing.{Fit, Fits, IsAt, IsReady, IsSaid, IsWhole, Kept, Leads, OfBelow, OfFiller, OfKnown, Sees, Shares}
-use Rattle.rc_cacheread.specs.Spots.{IsIdle, front, stand, told_of}
+use Rattle.rc_cacheread.specs.Did.{IsBelow, KnownStep, ReaderCall, ReaderStepSays, reader_state}
+use Rattle.rc_cacheread.specs.Reading.{Reads, StandFrom, said_at}
+use Rattle.rc_cacheread.specs.Sharing.{Fit, Fits, IsPlaceAt, IsReady, IsSaidBelow, IsAllKnown, Kept, Leads, OfBelow, OfFiller, OfKnown, Sees, Shares}
+use Rattle.rc_cacheread.specs.Spots.{HasNothingDue, front, stand, tomb_told}
 use Rattle.rc_cacheread.proofs.Chains.{chain-on, chain-one, one}
 use Rattle.rc_cacheread.proofs.Going.{Came, Gone}
 use Rattle.rc_cacheread.proofs.Idle.{idle-front, idle-stand, idle-told}
@@ -39,12 +39,12 @@ module _ {K F P H W : Type 0} (kn : OfKnown K H) (be : OfBelow F H W) (fi : OfFi
   -- ---- what is not known is not all known
 
   abbrev Whole : CacheReader K F P → H → Type 0
-  Whole r h = IsWhole (kn.knows r.known h) (kn.heads r.known h) (stand r.spot) r.to
+  Whole r h = IsAllKnown (kn.knows r.known h) (kn.heads r.known h) (stand r.spot) r.to
 
   abbrev Led : CacheReader K F P → H → W → Type 0
   Led r h w = Leads (fi.source r.filler h) (fi.statics_are r.filler h) (be.seen r.below h w) r.stage (stand r.spot) r.to r.spot.tomb
 
-  pub no-whole : (r : CacheReader K F P) (h : H) → IsIdle r.spot → IsBefore r.spot.place r.to → ((v : There) → kn.knows r.known h r.spot.place v → ⊥) → Whole r h → ⊥
+  pub no-whole : (r : CacheReader K F P) (h : H) → HasNothingDue r.spot → IsBefore r.spot.place r.to → ((v : There) → kn.knows r.known h r.spot.place v → ⊥) → Whole r h → ⊥
   no-whole r h i b m w = (let d = w.each r.spot.place (subst (λ x. Reaches x r.spot.place) (sym (idle-stand r.spot i)) (reach-itself r.spot.place)) b in m d.0 d.1)
 
   pub led : (r : CacheReader K F P) (h : H) (w : W) → IsReady kn be fi r h w → (Whole r h → ⊥) → Led r h w
@@ -53,15 +53,15 @@ module _ {K F P H W : Type 0} (kn : OfKnown K H) (be : OfBelow F H W) (fi : OfFi
     choose (inl x) = absurd (n x)
     choose (inr x) = x
 
-  pub said : (r : CacheReader K F P) (h : H) (w : W) (s : Stream) → (d : Sees kn be fi r h w s) → (Whole r h → ⊥) → IsSaid (be.seen r.below h w) r.stage r.to r.spot d.rest s.head.statics
+  pub said : (r : CacheReader K F P) (h : H) (w : W) (s : Stream) → (d : Sees kn be fi r h w s) → (Whole r h → ⊥) → IsSaidBelow (be.seen r.below h w) r.stage r.to r.spot d.rest s.head.statics
   said r h w s d n = choose d.below where
-    choose : Whole r h ⊎ IsSaid (be.seen r.below h w) r.stage r.to r.spot d.rest s.head.statics → IsSaid (be.seen r.below h w) r.stage r.to r.spot d.rest s.head.statics
+    choose : Whole r h ⊎ IsSaidBelow (be.seen r.below h w) r.stage r.to r.spot d.rest s.head.statics → IsSaidBelow (be.seen r.below h w) r.stage r.to r.spot d.rest s.head.statics
     choose (inl x) = absurd (n x)
     choose (inr x) = x
 
   -- ---- after a step
 
-  pub ready-on : (r n : CacheReader K F P) (h g : H) (w v : W) → Shares kn be fi → Fit kn be fi n.known n.below n.filler g v → Kept kn fi r.known r.filler h n.known n.filler g → Led r h w → Carries (be.seen r.below h w) r.stage (stand r.spot) r.spot.tomb (be.seen n.below g v) n.stage (stand n.spot) n.spot.tomb → Reaches (stand r.spot) (stand n.spot) → r.to ≡ n.to → ((x : Pos) → Reaches (stand n.spot) x → be.ahead n.below x) → IsAt n.lags (kn.place n.known) (stand n.spot) → IsReady kn be fi n g v
+  pub ready-on : (r n : CacheReader K F P) (h g : H) (w v : W) → Shares kn be fi → Fit kn be fi n.known n.below n.filler g v → Kept kn fi r.known r.filler h n.known n.filler g → Led r h w → Carries (be.seen r.below h w) r.stage (stand r.spot) r.spot.tomb (be.seen n.below g v) n.stage (stand n.spot) n.spot.tomb → Reaches (stand r.spot) (stand n.spot) → r.to ≡ n.to → ((x : Pos) → Reaches (stand n.spot) x → be.ahead n.below x) → IsPlaceAt n.lags (kn.place n.known) (stand n.spot) → IsReady kn be fi n g v
   ready-on r n h g w v shares fit kept l c on e a p = record {
     fit = fit;
     shares = shares;
@@ -71,7 +71,7 @@ module _ {K F P H W : Type 0} (kn : OfKnown K H) (be : OfBelow F H W) (fi : OfFi
     place = p;
   }
 
-  pub sees-on : (r n : CacheReader K F P) (h g : H) (w v : W) (s : Stream) → Kept kn fi r.known r.filler h n.known n.filler g → front r.spot ≡ [] → told_of n.spot ≡ told_of r.spot → Reaches (stand r.spot) (stand n.spot) → r.to ≡ n.to → (Whole r h → ⊥) → Outcome (fi.source r.filler h) (be.seen r.below h w) (be.seen n.below g v) r.to r.stage (stand r.spot) r.spot.tomb n.stage (stand n.spot) n.spot.tomb (front n.spot) → Sees kn be fi r h w s → Sees kn be fi n g v s
+  pub sees-on : (r n : CacheReader K F P) (h g : H) (w v : W) (s : Stream) → Kept kn fi r.known r.filler h n.known n.filler g → front r.spot ≡ [] → tomb_told n.spot ≡ tomb_told r.spot → Reaches (stand r.spot) (stand n.spot) → r.to ≡ n.to → (Whole r h → ⊥) → Outcome (fi.source r.filler h) (be.seen r.below h w) (be.seen n.below g v) r.to r.stage (stand r.spot) r.spot.tomb n.stage (stand n.spot) n.spot.tomb (front n.spot) → Sees kn be fi r h w s → Sees kn be fi n g v s
   sees-on r n h g w v s kept f u on e none o d =
       let t = said r h w s d none in
       let adv = o.advance d.rest t.stream d.reads t.stands t.fits t.says in
@@ -98,49 +98,49 @@ module _ {K F P H W : Type 0} (kn : OfKnown K H) (be : OfBelow F H W) (fi : OfFi
       let t = said r h w s d none in
       record {
         rest = d.rest;
-        tomb = d.tomb ∙ ap told_of e;
+        tomb = d.tomb ∙ ap tomb_told e;
         left = d.left ∙ ap (λ z. front z ++ d.rest) e;
         reads = subst (λ (z : Spot × Pos). Reads (fi.source n.filler g) (stand z.0) z.1 z.0.tomb d.rest) (λ i. (e i, q i)) (reads-on (fi.source r.filler h) (fi.source n.filler g) (stand r.spot) r.to r.spot.tomb d.rest (λ z x. (kept.source z x).1) d.reads);
         pt = λ at k. (let b = kept.pts at k in sym b.2 ∙ d.pt b.0 b.1);
         static_row = λ row x. d.static_row row ((kept.statics row).1 x);
-        below = inr (subst (λ (z : Spot × Stage × Pos). IsSaid (be.seen n.below g v) z.1 z.2 z.0 d.rest s.head.statics) (λ i. (e i, a i, q i)) (record { stream = t.stream; stands = on t.stream t.stands; fits = t.fits; says = t.says; static_row = t.static_row }));
+        below = inr (subst (λ (z : Spot × Stage × Pos). IsSaidBelow (be.seen n.below g v) z.1 z.2 z.0 d.rest s.head.statics) (λ i. (e i, a i, q i)) (record { stream = t.stream; stands = on t.stream t.stands; fits = t.fits; says = t.says; static_row = t.static_row }));
       }
 
-  none-at : (S : Pos → There → Type 0) (x to : Pos) (u : Option Tomb) (fs : List Frag) → Reads S x to u fs → there x u fs ≡ (empty_row, u) → first_upto x fs ≡ None
+  none-at : (S : Pos → There → Type 0) (x to : Pos) (u : Option Tomb) (fs : List Frag) → Reads S x to u fs → said_at x u fs ≡ (empty_row, u) → first_upto x fs ≡ None
   none-at S x to u [] r e = refl
   none-at S x to u (f ∷ fs) r e =
       elim (either-way (at_of f) x) [
-        | inl h ↦ absurd (first-says u f fs r.ordered r.telling r.written (subst (λ y. there y u (f ∷ fs) ≡ (empty_row, u)) (sym (same-place (at_of f) x h r.from.0)) e))
+        | inl h ↦ absurd (first-says u f fs r.ordered r.telling r.written (subst (λ y. said_at y u (f ∷ fs) ≡ (empty_row, u)) (sym (same-place (at_of f) x h r.from.0)) e))
         | inr b ↦ ap (λ c. cond c (Some f) None) (upto-behind x f b)
       ]
 
-  pub step-says : (r n : CacheReader K F P) (h g : H) (w v : W) (upto : Pos) (got : Option Frag) (z : Step) (s : Stream) → Kept kn fi r.known r.filler h n.known n.filler g → front r.spot ≡ [] → r.to ≡ n.to → (Whole r h → ⊥) → Gone (fi.source r.filler h) (be.seen r.below h w) (be.seen n.below g v) r.to upto r.stage r.spot n.stage n.spot got z → Sees kn be fi r h w s → StepSays (Ok z) upto s (Sees kn be fi n g v)
+  pub step-says : (r n : CacheReader K F P) (h g : H) (w v : W) (upto : Pos) (got : Option Frag) (z : Step) (s : Stream) → Kept kn fi r.known r.filler h n.known n.filler g → front r.spot ≡ [] → r.to ≡ n.to → (Whole r h → ⊥) → Gone (fi.source r.filler h) (be.seen r.below h w) (be.seen n.below g v) r.to upto r.stage r.spot n.stage n.spot got z → Sees kn be fi r h w s → ReaderStepSays (Ok z) upto s (Sees kn be fi n g v)
   step-says r n h g w v upto got z s kept f e none o d = by_step o.came where
     now : Sees kn be fi n g v s
     now = sees-on r n h g w v s kept f o.told o.on e none o.outcome d
 
-    t : IsSaid (be.seen r.below h w) r.stage r.to r.spot d.rest s.head.statics
+    t : IsSaidBelow (be.seen r.below h w) r.stage r.to r.spot d.rest s.head.statics
     t = said r h w s d none
 
     adv : Advance (fi.source r.filler h) r.to r.spot.tomb d.rest (stand n.spot) n.spot.tomb (front n.spot)
     adv = o.outcome.advance d.rest t.stream d.reads t.stands t.fits t.says
 
-    by_step : Came (be.seen r.below h w) r.stage r.spot n.spot r.to upto z → StepSays (Ok z) upto s (Sees kn be fi n g v)
-    by_step (inl p) = subst (λ y. StepSays (Ok y) upto s (Sees kn be fi n g v)) (sym p) now
+    by_step : Came (be.seen r.below h w) r.stage r.spot n.spot r.to upto z → ReaderStepSays (Ok z) upto s (Sees kn be fi n g v)
+    by_step (inl p) = subst (λ y. ReaderStepSays (Ok y) upto s (Sees kn be fi n g v)) (sym p) now
     by_step (inr (p, c, q, m, b, k)) =
         let on : Reaches (stand r.spot) upto = subst (Reaches (stand r.spot)) q o.on in
-        let said-there : there upto r.spot.tomb d.rest ≡ (empty_row, r.spot.tomb) = sym (t.says upto on b) ∙ k t.stream t.stands t.fits in
+        let said-there : said_at upto r.spot.tomb d.rest ≡ (empty_row, r.spot.tomb) = sym (t.says upto on b) ∙ k t.stream t.stands t.fits in
         let left : s.left ≡ adv.left = d.left ∙ ap (λ l. l ++ d.rest) f ∙ adv.begins ∙ ap (λ l. l ++ adv.left) c in
         let reads : Reads (fi.source r.filler h) upto r.to n.spot.tomb adv.left = subst (λ y. Reads (fi.source r.filler h) y r.to n.spot.tomb adv.left) q adv.reads in
-        let quiet : there upto n.spot.tomb adv.left ≡ (empty_row, n.spot.tomb) = sym (adv.says upto (subst (λ y. Reaches y upto) (sym q) (reach-itself upto))) ∙ said-there ∙ (λ i. (empty_row, sym m i)) in
-        subst (λ y. StepSays (Ok y) upto s (Sees kn be fi n g v)) (sym p) (now, ap (first_upto upto) left ∙ none-at (fi.source r.filler h) upto r.to n.spot.tomb adv.left reads quiet)
+        let quiet : said_at upto n.spot.tomb adv.left ≡ (empty_row, n.spot.tomb) = sym (adv.says upto (subst (λ y. Reaches y upto) (sym q) (reach-itself upto))) ∙ said-there ∙ (λ i. (empty_row, sym m i)) in
+        subst (λ y. ReaderStepSays (Ok y) upto s (Sees kn be fi n g v)) (sym p) (now, ap (first_upto upto) left ∙ none-at (fi.source r.filler h) upto r.to n.spot.tomb adv.left reads quiet)
 
   -- ---- how far the stream below may be asked
 
   abbrev Ends : CacheReader K F P → H → W → Pos → Pos → Type 0
   Ends r h w upto y = ReachesEnd (Sees kn be fi r h w) upto y
 
-  left-from : (r : CacheReader K F P) (h : H) (w : W) (s : Stream) → IsIdle r.spot → (d : Sees kn be fi r h w s) → (s.left ≡ d.rest) × StandFrom r.spot.place d.rest
+  left-from : (r : CacheReader K F P) (h : H) (w : W) (s : Stream) → HasNothingDue r.spot → (d : Sees kn be fi r h w s) → (s.left ≡ d.rest) × StandFrom r.spot.place d.rest
   left-from r h w s i d = (d.left ∙ ap (λ l. l ++ d.rest) (idle-front r.spot i), subst (λ x. StandFrom x d.rest) (idle-stand r.spot i) d.reads.from)
 
   bound-on : (x upto y : Pos) (fs : List Frag) → Reaches x upto → StandFrom x fs → Reaches (bound_of upto fs) y → Reaches x y
@@ -150,11 +150,11 @@ module _ {K F P H W : Type 0} (kn : OfKnown K H) (be : OfBelow F H W) (fi : OfFi
     choose true k = reach-through x upto y a k
     choose false k = reach-through x (at_of f) y h.0 k
 
-  pub end-reaches : (r : CacheReader K F P) (h : H) (w : W) (upto y : Pos) → IsIdle r.spot → Reaches r.spot.place upto → Ends r h w upto y → Reaches r.spot.place y
+  pub end-reaches : (r : CacheReader K F P) (h : H) (w : W) (upto y : Pos) → HasNothingDue r.spot → Reaches r.spot.place upto → Ends r h w upto y → Reaches r.spot.place y
   end-reaches r h w upto y i a (inl k) = reach-through r.spot.place upto y a k
   end-reaches r h w upto y i a (inr (s, d, q)) = (let l = left-from r h w s i d in bound-on r.spot.place upto y d.rest a l.1 (subst (λ fs. Reaches (bound_of upto fs) y) l.0 q))
 
-  first-by : (S : Pos → There → Type 0) (x near to : Pos) (u v : Option Tomb) (f : Frag) (fs gs : List Frag) → Reads S x to u (f ∷ fs) → IsOrdered gs → v ≡ u → there (at_of f) v gs ≡ there (at_of f) u (f ∷ fs) → Reaches (bound_of near gs) (at_of f)
+  first-by : (S : Pos → There → Type 0) (x near to : Pos) (u v : Option Tomb) (f : Frag) (fs gs : List Frag) → Reads S x to u (f ∷ fs) → IsOrdered gs → v ≡ u → said_at (at_of f) v gs ≡ said_at (at_of f) u (f ∷ fs) → Reaches (bound_of near gs) (at_of f)
   first-by S x near to u v f fs [] r o m e = absurd (first-says u f fs r.ordered r.telling r.written (sym e ∙ (λ i. (empty_row, m i))))
   first-by S x near to u v f fs (g ∷ gs) r o m e =
       elim (either-way (at_of g) (at_of f)) [
@@ -165,16 +165,16 @@ module _ {K F P H W : Type 0} (kn : OfKnown K H) (be : OfBelow F H W) (fi : OfFi
         nearer true e k = reach-through near (at_of g) (at_of f) e k
         nearer false e k = k
 
-  pub end-on : (r : CacheReader K F P) (h : H) (w : W) (upto near y : Pos) → IsIdle r.spot → r.stage ≡ Within → Reaches near upto → Reaches near r.to → (Whole r h → ⊥) → Ends r h w upto y → ReachesEnd (be.seen r.below h w) near y
+  pub end-on : (r : CacheReader K F P) (h : H) (w : W) (upto near y : Pos) → HasNothingDue r.spot → r.stage ≡ Within → Reaches near upto → Reaches near r.to → (Whole r h → ⊥) → Ends r h w upto y → ReachesEnd (be.seen r.below h w) near y
   end-on r h w upto near y i a n e none (inl k) = inl (reach-through near upto y n k)
   end-on r h w upto near y i a n e none (inr (s, d, q)) = by_rest d.rest d.reads (t.says) (subst (λ fs. Reaches (bound_of upto fs) y) (left-from r h w s i d).0 q) where
-    t : IsSaid (be.seen r.below h w) r.stage r.to r.spot d.rest s.head.statics
+    t : IsSaidBelow (be.seen r.below h w) r.stage r.to r.spot d.rest s.head.statics
     t = said r h w s d none
 
     fits : Fits Within (stand r.spot) r.spot.tomb t.stream
     fits = subst (λ b. Fits b (stand r.spot) r.spot.tomb t.stream) a t.fits
 
-    by_first : (f : Frag) (fs : List Frag) → Reads (fi.source r.filler h) (stand r.spot) r.to r.spot.tomb (f ∷ fs) → ((z : Pos) → Reaches (stand r.spot) z → IsBefore z r.to → there z t.stream.tomb t.stream.left ≡ there z r.spot.tomb (f ∷ fs)) → (b : Bool) → Reaches (cond b upto (at_of f)) y → ReachesEnd (be.seen r.below h w) near y
+    by_first : (f : Frag) (fs : List Frag) → Reads (fi.source r.filler h) (stand r.spot) r.to r.spot.tomb (f ∷ fs) → ((z : Pos) → Reaches (stand r.spot) z → IsBefore z r.to → said_at z t.stream.tomb t.stream.left ≡ said_at z r.spot.tomb (f ∷ fs)) → (b : Bool) → Reaches (cond b upto (at_of f)) y → ReachesEnd (be.seen r.below h w) near y
     by_first f fs reads says true k = inl (reach-through near upto y n k)
     by_first f fs reads says false k =
         elim (either-way near (at_of f)) [
@@ -182,7 +182,7 @@ module _ {K F P H W : Type 0} (kn : OfKnown K H) (be : OfBelow F H W) (fi : OfFi
           | inr b ↦ inr (t.stream, t.stands, reach-through (bound_of near t.stream.left) (at_of f) y (first-by (fi.source r.filler h) (stand r.spot) near r.to r.spot.tomb t.stream.tomb f fs t.stream.left reads fits.0 fits.3 (says (at_of f) reads.from.0 (before-reaches (at_of f) near r.to b e))) k)
         ]
 
-    by_rest : (fs : List Frag) → Reads (fi.source r.filler h) (stand r.spot) r.to r.spot.tomb fs → ((z : Pos) → Reaches (stand r.spot) z → IsBefore z r.to → there z t.stream.tomb t.stream.left ≡ there z r.spot.tomb fs) → Reaches (bound_of upto fs) y → ReachesEnd (be.seen r.below h w) near y
+    by_rest : (fs : List Frag) → Reads (fi.source r.filler h) (stand r.spot) r.to r.spot.tomb fs → ((z : Pos) → Reaches (stand r.spot) z → IsBefore z r.to → said_at z t.stream.tomb t.stream.left ≡ said_at z r.spot.tomb fs) → Reaches (bound_of upto fs) y → ReachesEnd (be.seen r.below h w) near y
     by_rest [] reads says k = inl (reach-through near upto y n k)
     by_rest (f ∷ fs) reads says k = by_first f fs reads says (is_le (pos_cmp upto (at_of f))) k
 
@@ -196,14 +196,14 @@ module _ {K F P H W : Type 0} (kn : OfKnown K H) (be : OfBelow F H W) (fi : OfFi
 
   -- ---- calls
 
-  pub known-calls : (c : Call) (b : F) (p : P) (w : W) (ok : Bool) (k l : K) (h g : H) → InTurn (KnownStep kn.did) ok (k, h) (l, g) → InTurn (OneCall kn be fi c) ok (k, b, p, h, w) (l, b, p, g, w)
-  known-calls c b p w ok k l h g d = chain-on (OneCall kn be fi c) (KnownStep kn.did) (λ (s : K × H). (s.0, b, p, s.1, w)) (λ ok s t e. inl (e, refl, refl, refl)) ok (k, h) (l, g) d
+  pub known-calls : (c : Call) (b : F) (p : P) (w : W) (ok : Bool) (k l : K) (h g : H) → InTurn (KnownStep kn.did) ok (k, h) (l, g) → InTurn (ReaderCall kn be fi c) ok (k, b, p, h, w) (l, b, p, g, w)
+  known-calls c b p w ok k l h g d = chain-on (ReaderCall kn be fi c) (KnownStep kn.did) (λ (s : K × H). (s.0, b, p, s.1, w)) (λ ok s t e. inl (e, refl, refl, refl)) ok (k, h) (l, g) d
 
-  pub below-call : (c : Call) (k : K) (p : P) (ok : Bool) (b n : F) (h g : H) (w v : W) (d : Call) → IsBelow c d → be.did b h w d ok n g v → OneCall kn be fi c ok (k, b, p, h, w) (k, n, p, g, v)
+  pub below-call : (c : Call) (k : K) (p : P) (ok : Bool) (b n : F) (h g : H) (w v : W) (d : Call) → IsBelow c d → be.did b h w d ok n g v → ReaderCall kn be fi c ok (k, b, p, h, w) (k, n, p, g, v)
   below-call c k p ok b n h g w v d i e = inr (inl (d, i, e, refl, refl))
 
-  pub fill-calls : (c : Call) (k : K) (b : F) (w : W) (p q : P) (h g : H) → Fillings fi.fills p h q g → Many (OneCall kn be fi c true) (k, b, p, h, w) (k, b, q, g, w)
-  fill-calls c k b w p q h g d = chain-on (OneCall kn be fi c) (λ ok s t. (ok ≡ true) × Filling fi.fills s t) (λ (s : P × H). (k, b, s.0, s.1, w)) (λ ok s t e. inr (inr (e.0, e.1, refl, refl, refl))) true (p, h) (q, g) (marked d.0 (p, h) (q, g) d.1) where
+  pub fill-calls : (c : Call) (k : K) (b : F) (w : W) (p q : P) (h g : H) → Fillings fi.fills p h q g → Many (ReaderCall kn be fi c true) (k, b, p, h, w) (k, b, q, g, w)
+  fill-calls c k b w p q h g d = chain-on (ReaderCall kn be fi c) (λ ok s t. (ok ≡ true) × Filling fi.fills s t) (λ (s : P × H). (k, b, s.0, s.1, w)) (λ ok s t e. inr (inr (e.0, e.1, refl, refl, refl))) true (p, h) (q, g) (marked d.0 (p, h) (q, g) d.1) where
     marked : (n : ℕ) (s t : P × H) → StepsInTurn (Filling fi.fills) n s t → Many (λ s t. (true ≡ true) × Filling fi.fills s t) s t
     marked zero s t e = (0, e)
     marked (suc n) s t e = (let r = marked n e.0 t e.2 in (suc r.0, (e.0, (refl, e.1), r.1)))

@@ -18,9 +18,9 @@ use Rattle.rc_cacheread.specs.declared.readers.Stage.TheVariants.{Away}
 use Rattle.rc_cacheread.specs.declared.spots.Spot.{Spot}
 use Rattle.rc_cacheread.specs.declared.spots.Turn.TheVariants as turn
 use Rattle.rc_cacheread.specs.Did.{IsKnownFor}
-use Rattle.rc_cacheread.specs.Reading.{Reads, there}
-use Rattle.rc_cacheread.specs.Sharing.{Fits, IsAt, IsReady, IsSaid, IsWhole, Leads, OfBelow, OfFiller, OfKnown, Sees}
-use Rattle.rc_cacheread.specs.Spots.{EndsUpto, Gives, IsAlike, front, stand, told_of}
+use Rattle.rc_cacheread.specs.Reading.{Reads, said_at}
+use Rattle.rc_cacheread.specs.Sharing.{Fits, IsPlaceAt, IsReady, IsSaidBelow, IsAllKnown, Leads, OfBelow, OfFiller, OfKnown, Sees}
+use Rattle.rc_cacheread.specs.Spots.{EndsUpto, GivesDue, IsSameSpot, front, stand, tomb_told}
 use Rattle.rc_cacheread.proofs.Lists.{change_if, ended, none-upto, turns}
 use Rattle.rc_cacheread.proofs.Orders.{before-reaches, never-before, reach-itself, reach-through}
 use Rattle.rc_cacheread.proofs.Outcomes.{Carries, leads-on}
@@ -39,22 +39,22 @@ module _ {K F P H W : Type 0} (kn : OfKnown K H) (be : OfBelow F H W) (fi : OfFi
   ready-alike d = record {
     fit = d.fit;
     shares = d.shares;
-    covered = subst (λ (z : Behind). IsWhole (kn.knows r.known h) (kn.heads r.known h) z.0 r.to ⊎ Leads (fi.source r.filler h) (fi.statics_are r.filler h) (be.seen r.below h w) r.stage z.0 r.to z.1) (λ i. (sym p i, sym m i)) d.covered;
+    covered = subst (λ (z : Behind). IsAllKnown (kn.knows r.known h) (kn.heads r.known h) z.0 r.to ⊎ Leads (fi.source r.filler h) (fi.statics_are r.filler h) (be.seen r.below h w) r.stage z.0 r.to z.1) (λ i. (sym p i, sym m i)) d.covered;
     ahead = subst (λ z. (x : Pos) → Reaches z x → be.ahead r.below x) (sym p) d.ahead;
-    place = subst (λ z. IsAt r.lags (kn.place r.known) z) (sym p) d.place;
+    place = subst (λ z. IsPlaceAt r.lags (kn.place r.known) z) (sym p) d.place;
   }
 
-  said-alike : (fs : List Frag) (s : Stream) → IsSaid (be.seen r.below h w) r.stage r.to r.spot fs s.head.statics → IsSaid (be.seen r.below h w) r.stage r.to t fs s.head.statics
+  said-alike : (fs : List Frag) (s : Stream) → IsSaidBelow (be.seen r.below h w) r.stage r.to r.spot fs s.head.statics → IsSaidBelow (be.seen r.below h w) r.stage r.to t fs s.head.statics
   said-alike fs s d = record {
     stream = d.stream;
     stands = d.stands;
     fits = subst (λ (z : Behind). Fits r.stage z.0 z.1 d.stream) (λ i. (sym p i, sym m i)) d.fits;
-    says = subst (λ (z : Behind). (y : Pos) → Reaches z.0 y → IsBefore y r.to → there y d.stream.tomb d.stream.left ≡ there y z.1 fs) (λ i. (sym p i, sym m i)) d.says;
+    says = subst (λ (z : Behind). (y : Pos) → Reaches z.0 y → IsBefore y r.to → said_at y d.stream.tomb d.stream.left ≡ said_at y z.1 fs) (λ i. (sym p i, sym m i)) d.says;
     static_row = d.static_row;
   }
 
   -- what it stands for, where that is the rest behind what is due
-  pub sees-at : (s z : Stream) → (d : Sees kn be fi r h w s) → z.head ≡ s.head → z.tomb ≡ told_of t → z.left ≡ front t ++ d.rest → Sees kn be fi N h w z
+  pub sees-at : (s z : Stream) → (d : Sees kn be fi r h w s) → z.head ≡ s.head → z.tomb ≡ tomb_told t → z.left ≡ front t ++ d.rest → Sees kn be fi N h w z
   sees-at s z d e u l = record {
     rest = d.rest;
     tomb = u;
@@ -64,11 +64,11 @@ module _ {K F P H W : Type 0} (kn : OfKnown K H) (be : OfBelow F H W) (fi : OfFi
     static_row = λ row k. d.static_row row k ∙ ap (λ x. x.statics) (sym e);
     below = cover d.below;
   } where
-    cover : IsWhole (kn.knows r.known h) (kn.heads r.known h) (stand r.spot) r.to ⊎ IsSaid (be.seen r.below h w) r.stage r.to r.spot d.rest s.head.statics → IsWhole (kn.knows r.known h) (kn.heads r.known h) (stand t) r.to ⊎ IsSaid (be.seen r.below h w) r.stage r.to t d.rest z.head.statics
-    cover (inl x) = inl (subst (λ y. IsWhole (kn.knows r.known h) (kn.heads r.known h) y r.to) (sym p) x)
-    cover (inr x) = inr (subst (IsSaid (be.seen r.below h w) r.stage r.to t d.rest) (ap (λ y. y.statics) (sym e)) (said-alike d.rest s x))
+    cover : IsAllKnown (kn.knows r.known h) (kn.heads r.known h) (stand r.spot) r.to ⊎ IsSaidBelow (be.seen r.below h w) r.stage r.to r.spot d.rest s.head.statics → IsAllKnown (kn.knows r.known h) (kn.heads r.known h) (stand t) r.to ⊎ IsSaidBelow (be.seen r.below h w) r.stage r.to t d.rest z.head.statics
+    cover (inl x) = inl (subst (λ y. IsAllKnown (kn.knows r.known h) (kn.heads r.known h) y r.to) (sym p) x)
+    cover (inr x) = inr (subst (IsSaidBelow (be.seen r.below h w) r.stage r.to t d.rest) (ap (λ y. y.statics) (sym e)) (said-alike d.rest s x))
 
-pub sees-alike : {K F P H W : Type 0} (kn : OfKnown K H) (be : OfBelow F H W) (fi : OfFiller P H) (r : CacheReader K F P) (t : Spot) (h : H) (w : W) (s : Stream) → IsAlike r.spot t → Sees kn be fi r h w s → Sees kn be fi (reader_of r.known r.below r.filler r.to t r.stage r.lags) h w s
+pub sees-alike : {K F P H W : Type 0} (kn : OfKnown K H) (be : OfBelow F H W) (fi : OfFiller P H) (r : CacheReader K F P) (t : Spot) (h : H) (w : W) (s : Stream) → IsSameSpot r.spot t → Sees kn be fi r h w s → Sees kn be fi (reader_of r.known r.below r.filler r.to t r.stage r.lags) h w s
 sees-alike kn be fi r t h w s a d = sees-at kn be fi r t h w a.from a.tomb s s d refl (d.tomb ∙ sym a.told) (d.left ∙ ap (λ l. l ++ d.rest) (sym a.due))
 
 left-over : (x : Pos) (due rest : List Frag) → first_upto x due ≡ None → (due ≡ [] → first_upto x rest ≡ None) → first_upto x (due ++ rest) ≡ None
@@ -84,7 +84,7 @@ nothing-left kn be fi r h w upto s e d = ap (first_upto upto) d.left ∙ left-ov
 
 -- ---- the slice ended
 
-module _ {K F P H W : Type 0} (kn : OfKnown K H) (be : OfBelow F H W) (fi : OfFiller P H) (r : CacheReader K F P) (t : Spot) (h : H) (w : W) (g : (front r.spot ≡ []) × Reaches r.to (stand r.spot) × (stand t ≡ stand r.spot) × (told_of t ≡ told_of r.spot) × (t.tomb ≡ None) × (front t ≡ frag.Change (stand r.spot) None ∷ []) × (same_tomb r.spot.tomb None ≡ false)) where
+module _ {K F P H W : Type 0} (kn : OfKnown K H) (be : OfBelow F H W) (fi : OfFiller P H) (r : CacheReader K F P) (t : Spot) (h : H) (w : W) (g : (front r.spot ≡ []) × Reaches r.to (stand r.spot) × (stand t ≡ stand r.spot) × (tomb_told t ≡ tomb_told r.spot) × (t.tomb ≡ None) × (front t ≡ frag.Change (stand r.spot) None ∷ []) × (same_tomb r.spot.tomb None ≡ false)) where
   abbrev M : CacheReader K F P
   M = reader_of r.known r.below r.filler r.to t Away r.lags
 
@@ -100,10 +100,10 @@ module _ {K F P H W : Type 0} (kn : OfKnown K H) (be : OfBelow F H W) (fi : OfFi
     shares = d.shares;
     covered = cover d.covered;
     ahead = λ x k. d.ahead x (reach-through (stand r.spot) (stand t) x on k);
-    place = subst (λ z. IsAt r.lags (kn.place r.known) z) (sym g.2) d.place;
+    place = subst (λ z. IsPlaceAt r.lags (kn.place r.known) z) (sym g.2) d.place;
   } where
-    cover : IsWhole (kn.knows r.known h) (kn.heads r.known h) (stand r.spot) r.to ⊎ Leads (fi.source r.filler h) (fi.statics_are r.filler h) (be.seen r.below h w) r.stage (stand r.spot) r.to r.spot.tomb → IsWhole (kn.knows r.known h) (kn.heads r.known h) (stand t) r.to ⊎ Leads (fi.source r.filler h) (fi.statics_are r.filler h) (be.seen r.below h w) Away (stand t) r.to t.tomb
-    cover (inl x) = inl (subst (λ z. IsWhole (kn.knows r.known h) (kn.heads r.known h) z r.to) (sym g.2) x)
+    cover : IsAllKnown (kn.knows r.known h) (kn.heads r.known h) (stand r.spot) r.to ⊎ Leads (fi.source r.filler h) (fi.statics_are r.filler h) (be.seen r.below h w) r.stage (stand r.spot) r.to r.spot.tomb → IsAllKnown (kn.knows r.known h) (kn.heads r.known h) (stand t) r.to ⊎ Leads (fi.source r.filler h) (fi.statics_are r.filler h) (be.seen r.below h w) Away (stand t) r.to t.tomb
+    cover (inl x) = inl (subst (λ z. IsAllKnown (kn.knows r.known h) (kn.heads r.known h) z r.to) (sym g.2) x)
     cover (inr x) = inr (leads-on (fi.source r.filler h) (fi.source r.filler h) (fi.statics_are r.filler h) (fi.statics_are r.filler h) (be.seen r.below h w) (be.seen r.below h w) r.to r.stage (stand r.spot) r.spot.tomb Away (stand t) t.tomb carries on (λ z d k. k) (λ row k. k) x)
 
   pub sees-closed : (s : Stream) → Sees kn be fi r h w s → Sees kn be fi M h w s
@@ -118,8 +118,8 @@ module _ {K F P H W : Type 0} (kn : OfKnown K H) (be : OfBelow F H W) (fi : OfFi
         static_row = d.static_row;
         below = cover d.below x.left;
       } where
-        cover : (c : IsWhole (kn.knows r.known h) (kn.heads r.known h) (stand r.spot) r.to ⊎ IsSaid (be.seen r.below h w) r.stage r.to r.spot d.rest s.head.statics) (fs : List Frag) → IsWhole (kn.knows r.known h) (kn.heads r.known h) (stand t) r.to ⊎ IsSaid (be.seen r.below h w) Away r.to t fs s.head.statics
-        cover (inl x) fs = inl (subst (λ z. IsWhole (kn.knows r.known h) (kn.heads r.known h) z r.to) (sym g.2) x)
+        cover : (c : IsAllKnown (kn.knows r.known h) (kn.heads r.known h) (stand r.spot) r.to ⊎ IsSaidBelow (be.seen r.below h w) r.stage r.to r.spot d.rest s.head.statics) (fs : List Frag) → IsAllKnown (kn.knows r.known h) (kn.heads r.known h) (stand t) r.to ⊎ IsSaidBelow (be.seen r.below h w) Away r.to t fs s.head.statics
+        cover (inl x) fs = inl (subst (λ z. IsAllKnown (kn.knows r.known h) (kn.heads r.known h) z r.to) (sym g.2) x)
         cover (inr x) fs = (let n = carries.each x.stream x.stands x.fits in inr (record {
           stream = n.0;
           stands = n.1;

@@ -38,12 +38,12 @@ abbrev pub SaysUpto : (Pos → There → Type 0) → (x upto : Pos) → Option T
 SaysUpto source x upto tomb = (y : Pos) → Reaches x y → Reaches y upto → source y (empty_row, tomb)
 
 -- all but the place and the row there is as it was
-abbrev pub IsElsewhere : Spot → Spot → Type 0
-IsElsewhere s t = (t.told ≡ s.told) × (t.again ≡ s.again) × (t.tomb ≡ s.tomb)
+abbrev pub IsBesidePlace : Spot → Spot → Type 0
+IsBesidePlace s t = (t.told ≡ s.told) × (t.again ≡ s.again) × (t.tomb ≡ s.tomb)
 
 -- a row was read: it is due at its place, unless it is empty; one that stands before the place is passed over
 abbrev pub TookRow : List Comp → Row → Spot → Spot → Type 0
-TookRow key r s t = ((t ≡ s) × IsBefore (row_pos key) s.place) ⊎ (Reaches s.place (row_pos key) × (t.place ≡ row_pos key) × IsElsewhere s t × (((r ≡ empty_row) × (t.row ≡ s.row)) ⊎ ((r ≢ empty_row) × (t.row ≡ row.Due r))))
+TookRow key r s t = ((t ≡ s) × IsBefore (row_pos key) s.place) ⊎ (Reaches s.place (row_pos key) × (t.place ≡ row_pos key) × IsBesidePlace s t × (((r ≡ empty_row) × (t.row ≡ s.row)) ⊎ ((r ≢ empty_row) × (t.row ≡ row.Due r))))
 
 -- a change was read: from its place on its tombstone is in force, unless it stands before the place
 abbrev pub TookChange : Pos → Option Tomb → Spot → Spot → Type 0
@@ -51,7 +51,7 @@ TookChange from tomb s t = ((t ≡ s) × IsBefore from s.place) ⊎ (Reaches s.p
 
 -- nothing was read up to a position
 abbrev pub TookNothing : Pos → Spot → Spot → Type 0
-TookNothing x s t = (t.place ≡ x) × (t.row ≡ s.row) × IsElsewhere s t
+TookNothing x s t = (t.place ≡ x) × (t.row ≡ s.row) × IsBesidePlace s t
 
 -- a row was read where no tombstone is in force at the place: it is due, unless it is empty, or stands elsewhere
 pub record TookRowHere (key : List Comp) (r : Row) (s t : Spot) : Type 0 where
@@ -63,7 +63,7 @@ pub record TookRowHere (key : List Comp) (r : Row) (s t : Spot) : Type 0 where
   pub due : ((t.row ≡ s.row) × ((r ≡ empty_row) ⊎ (row_pos key ≢ s.place))) ⊎ ((row_pos key ≡ s.place) × (r ≢ empty_row) × (t.row ≡ row.Due r))
 
 -- from the place on this tombstone is in force
-pub record IsChanged (tomb : Option Tomb) (s t : Spot) : Type 0 where
+pub record IsChangeTaken (tomb : Option Tomb) (s t : Spot) : Type 0 where
   pub place : t.place ≡ s.place
   pub row : t.row ≡ s.row
   pub told : t.told ≡ s.told
@@ -74,8 +74,8 @@ pub record IsChanged (tomb : Option Tomb) (s t : Spot) : Type 0 where
 -- what was read at the place itself
 abbrev pub TookHere : Found → Spot → Spot → Type 0
 TookHere (found.Row key r) s t = TookRowHere key r s t
-TookHere (found.Change from tomb) s t = IsChanged tomb s t
-TookHere found.Nothing s t = IsChanged None s t
+TookHere (found.Change from tomb) s t = IsChangeTaken tomb s t
+TookHere found.Nothing s t = IsChangeTaken None s t
 
 -- the source at the place, as far as it was read
 abbrev pub TellsHere : (Pos → There → Type 0) → Pos → Found → Type 0
@@ -120,7 +120,7 @@ sought_stage None = Within
 sought_stage (Some tomb) = Sought
 
 -- it was sought, or is at the place
-abbrev pub IsSettled : Stage → Type 0
-IsSettled Away = ⊥
-IsSettled Sought = ⊤
-IsSettled Within = ⊤
+abbrev pub IsNotAway : Stage → Type 0
+IsNotAway Away = ⊥
+IsNotAway Sought = ⊤
+IsNotAway Within = ⊤

@@ -1,5 +1,5 @@
 -- What a call of a reader did: calls of its parts, one after another.
---     OneCall        a call of the snapshot, of the stream below, or of the filler
+--     ReaderCall     a call of the snapshot, of the stream below, or of the filler
 --     ReaderDid      a call of a reader: which calls, and none but the snapshot's where what is passed is known
 use Rattle.std.specs.Prelude.{◌≡◌, ◌⊎◌, Bool, true, false, Result, Ok, Err, IsTrue, ⊤}
 use Rattle.rc_position.specs.declared.positions.Pos.{Pos}
@@ -28,15 +28,15 @@ IsBelow (OfSeek x) d = ⊥
 IsBelow (OfNext y) d = (d ≡ OfNext y) ⊎ ((x : Pos) × (d ≡ OfSeek x) × Reaches x y)
 
 -- a call of the snapshot, of the stream below, or of the filler; a fill is never refused
-abbrev pub OneCall : {K F P H W : Type 0} → OfKnown K H → OfBelow F H W → OfFiller P H → Call → Bool → K × F × P × H × W → K × F × P × H × W → Type 0
-OneCall kn be fi c ok s t =
+abbrev pub ReaderCall : {K F P H W : Type 0} → OfKnown K H → OfBelow F H W → OfFiller P H → Call → Bool → K × F × P × H × W → K × F × P × H × W → Type 0
+ReaderCall kn be fi c ok s t =
     (KnownStep kn.did ok (s.0, s.3) (t.0, t.3) × (t.1 ≡ s.1) × (t.2 ≡ s.2) × (t.4 ≡ s.4))
     ⊎ (((d : Call) × IsBelow c d × be.did s.1 s.3 s.4 d ok t.1 t.3 t.4 × (t.0 ≡ s.0) × (t.2 ≡ s.2))
     ⊎ ((ok ≡ true) × fi.fills s.2 s.3 t.2 t.3 × (t.0 ≡ s.0) × (t.1 ≡ s.1) × (t.4 ≡ s.4)))
 
 -- a reader with its home and its store
-abbrev pub state : {K F P H W : Type 0} → CacheReader K F P → H → W → K × F × P × H × W
-state r h w = (r.known, r.below, r.filler, h, w)
+abbrev pub reader_state : {K F P H W : Type 0} → CacheReader K F P → H → W → K × F × P × H × W
+reader_state r h w = (r.known, r.below, r.filler, h, w)
 
 -- only the snapshot was called
 abbrev pub IsQuiet : {K F P H W : Type 0} → OfKnown K H → Bool → K × F × P × H × W → K × F × P × H × W → Type 0
@@ -50,22 +50,22 @@ IsKnownFor (OfNext y) knows heads x to = (z : Pos) → Reaches x z → Reaches z
 
 -- a call of a reader is a chain of calls of its parts, a refused one last, and goes on; where what it passes is known, of the snapshot alone, and it still is known
 pub record ReaderDid {K F P H W : Type 0} (kn : OfKnown K H) (be : OfBelow F H W) (fi : OfFiller P H) (r : CacheReader K F P) (h : H) (w : W) (c : Call) (ok : Bool) (n : CacheReader K F P) (g : H) (v : W) : Type 0 where
-  pub calls : InTurn (OneCall kn be fi c) ok (state r h w) (state n g v)
+  pub calls : InTurn (ReaderCall kn be fi c) ok (reader_state r h w) (reader_state n g v)
   pub on : Reaches (stand r.spot) (stand n.spot)
-  pub quiet : IsKnownFor c (kn.knows r.known h) (kn.heads r.known h) (stand r.spot) r.to → IsQuiet kn ok (state r h w) (state n g v) × IsKnownFor c (kn.knows n.known g) (kn.heads n.known g) (stand n.spot) n.to
+  pub quiet : IsKnownFor c (kn.knows r.known h) (kn.heads r.known h) (stand r.spot) r.to → IsQuiet kn ok (reader_state r h w) (reader_state n g v) × IsKnownFor c (kn.knows n.known g) (kn.heads n.known g) (stand n.spot) n.to
 
 -- what a step leaves, where this holds of the stream: nothing stands up to x; or something was read; or the first was given, which stands there
-abbrev pub StepSays : Result Step StreamErr → Pos → Stream → (Stream → Type 0) → Type 0
-StepSays (Ok step.Nothing) x s now = now s × (first_upto x s.left ≡ None)
-StepSays (Ok step.Passed) x s now = now s
-StepSays (Ok (step.Given f)) x s now = now (took (Some f) s) × (first_upto x s.left ≡ Some f)
-StepSays (Err e) x s now = now s
+abbrev pub ReaderStepSays : Result Step StreamErr → Pos → Stream → (Stream → Type 0) → Type 0
+ReaderStepSays (Ok step.Nothing) x s now = now s × (first_upto x s.left ≡ None)
+ReaderStepSays (Ok step.Passed) x s now = now s
+ReaderStepSays (Ok (step.Given f)) x s now = now (took (Some f) s) × (first_upto x s.left ≡ Some f)
+ReaderStepSays (Err e) x s now = now s
 
 -- what a step gave stands at x or before it
-abbrev pub IsStepUpto : Pos → Step → Type 0
-IsStepUpto x step.Nothing = ⊤
-IsStepUpto x step.Passed = ⊤
-IsStepUpto x (step.Given f) = IsTrue (is_upto x f)
+abbrev pub IsReaderStepUpto : Pos → Step → Type 0
+IsReaderStepUpto x step.Nothing = ⊤
+IsReaderStepUpto x step.Passed = ⊤
+IsReaderStepUpto x (step.Given f) = IsTrue (is_upto x f)
 
 -- what calls of a reader may make of a home and a store: calls of its parts, whichever they are
 pub record ReaderMoves {K F P H W : Type 0} (kn : OfKnown K H) (be : OfBelow F H W) (fi : OfFiller P H) (h : H) (w : W) (g : H) (v : W) : Type 0 where
@@ -73,4 +73,4 @@ pub record ReaderMoves {K F P H W : Type 0} (kn : OfKnown K H) (be : OfBelow F H
   pub t : K × F × P
   pub c : Call
   pub ok : Bool
-  pub calls : InTurn (OneCall kn be fi c) ok (s.0, s.1, s.2, h, w) (t.0, t.1, t.2, g, v)
+  pub calls : InTurn (ReaderCall kn be fi c) ok (s.0, s.1, s.2, h, w) (t.0, t.1, t.2, g, v)

@@ -1,6 +1,6 @@
 -- What a reader stands for: from a place on, the canonical stream of a source in a slice.
---     there       what a stream says at a position: the row, empty where there is none, and the range tombstone in force
---     Reads       rows and changes that say what the source is from a place on and before the slice's end, and nothing behind it
+--     said_at    what a stream says at a position: the row, empty where there is none, and the range tombstone in force
+--     Reads      rows and changes that say what the source is from a place on and before the slice's end, and nothing behind it
 use Rattle.std.specs.Prelude.{◌≡◌, ◌≢◌, List, [], ◌∷◌, Option, None}
 use Rattle.rc_cell.specs.declared.rows.Row.{Row}
 use Rattle.rc_cell.specs.declared.writes.Tomb.{Tomb}
@@ -22,8 +22,8 @@ row_of_these [] = empty_row
 row_of_these (row ∷ rows) = row
 
 -- what rows and changes say at x, where this tombstone is in force before them
-abbrev pub there : Pos → Option Tomb → List Frag → There
-there x tomb fs = (row_of_these (rows_here x fs), force x tomb fs)
+abbrev pub said_at : Pos → Option Tomb → List Frag → There
+said_at x tomb fs = (row_of_these (rows_here x fs), force x tomb fs)
 
 -- no row, and no range tombstone
 abbrev pub nothing_there : There
@@ -39,10 +39,10 @@ StandFrom x [] = Unit {0}
 StandFrom x (f ∷ fs) = Reaches x (place_of f).0 × StandFrom x fs
 
 -- what stands behind a row stands behind each position of which its key is a prefix
-abbrev pub IsApart : List Frag → Type 0
-IsApart [] = Unit {0}
-IsApart (frag.Row key row ∷ fs) = StandFrom (behind_row key) fs × IsApart fs
-IsApart (f ∷ fs) = IsApart fs
+abbrev pub AreRowsApart : List Frag → Type 0
+AreRowsApart [] = Unit {0}
+AreRowsApart (frag.Row key row ∷ fs) = StandFrom (behind_row key) fs × AreRowsApart fs
+AreRowsApart (f ∷ fs) = AreRowsApart fs
 
 -- no row is empty
 abbrev pub AreWritten : List Frag → Type 0
@@ -55,7 +55,7 @@ pub record Reads (source : Pos → There → Type 0) (x to : Pos) (tomb : Option
   pub ordered : IsOrdered fs
   pub telling : IsTelling tomb fs
   pub written : AreWritten fs
-  pub apart : IsApart fs
+  pub apart : AreRowsApart fs
   pub from : StandFrom x fs
-  pub within : (y : Pos) (v : There) → Reaches x y → IsBefore y to → source y v → v ≡ there y tomb fs
-  pub beyond : (y : Pos) → Reaches x y → Reaches to y → there y tomb fs ≡ nothing_there
+  pub within : (y : Pos) (v : There) → Reaches x y → IsBefore y to → source y v → v ≡ said_at y tomb fs
+  pub beyond : (y : Pos) → Reaches x y → Reaches to y → said_at y tomb fs ≡ nothing_there

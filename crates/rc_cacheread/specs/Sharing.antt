@@ -21,8 +21,8 @@ use Rattle.rc_cacheread.specs.declared.readers.CacheReader.{CacheReader}
 use Rattle.rc_cacheread.specs.declared.readers.Stage.{Stage}
 use Rattle.rc_cacheread.specs.declared.readers.Stage.TheVariants.{Away, Sought, Within}
 use Rattle.rc_cacheread.specs.declared.spots.Spot.{Spot}
-use Rattle.rc_cacheread.specs.Reading.{IsApart, Reads, StandFrom, there}
-use Rattle.rc_cacheread.specs.Spots.{front, stand, told_of}
+use Rattle.rc_cacheread.specs.Reading.{AreRowsApart, Reads, StandFrom, said_at}
+use Rattle.rc_cacheread.specs.Spots.{front, stand, tomb_told}
 
 -- ---- the words of the parts
 
@@ -100,49 +100,49 @@ pub record Shares {K F P H W : Type 0} (kn : OfKnown K H) (be : OfBelow F H W) (
 
 -- a stream below is in order; where it was sought, it stands from x on, and the tombstone before it is none, or the one in force at x
 abbrev pub Fits : Stage → Pos → Option Tomb → Stream → Type 0
-Fits Away x tomb t = IsOrdered t.left × IsApart t.left
-Fits Sought x tomb t = IsOrdered t.left × IsApart t.left × StandFrom x t.left × (t.tomb ≡ None)
-Fits Within x tomb t = IsOrdered t.left × IsApart t.left × StandFrom x t.left × (t.tomb ≡ tomb)
+Fits Away x tomb t = IsOrdered t.left × AreRowsApart t.left
+Fits Sought x tomb t = IsOrdered t.left × AreRowsApart t.left × StandFrom x t.left × (t.tomb ≡ None)
+Fits Within x tomb t = IsOrdered t.left × AreRowsApart t.left × StandFrom x t.left × (t.tomb ≡ tomb)
 
 -- what each stream says that may stand below is the source, from x on and before `to`; and its static row is the source's
 pub record Leads (source : Pos → There → Type 0) (statics : Row → Type 0) (seen : Stream → Type 0) (stage : Stage) (x to : Pos) (tomb : Option Tomb) : Type 0 where
-  pub each : (y : Pos) (v : There) → Reaches x y → IsBefore y to → ((t : Stream) → seen t → Fits stage x tomb t → v ≡ there y t.tomb t.left) → source y v
+  pub each : (y : Pos) (v : There) → Reaches x y → IsBefore y to → ((t : Stream) → seen t → Fits stage x tomb t → v ≡ said_at y t.tomb t.left) → source y v
   pub static_row : (row : Row) → ((t : Stream) → seen t → Fits stage x tomb t → row ≡ t.head.statics) → statics row
 
 -- the head is known, and each position from x on and before `to`
-pub record IsWhole (knows : Pos → There → Type 0) (heads : HeadAt → Type 0) (x to : Pos) : Type 0 where
+pub record IsAllKnown (knows : Pos → There → Type 0) (heads : HeadAt → Type 0) (x to : Pos) : Type 0 where
   pub each : (y : Pos) → Reaches x y → IsBefore y to → ((v : There) × knows y v)
   pub head : (at : HeadAt) → heads at → IsTrue at.known
 
 -- a stream stands below that says what these fragments say, from the place on and before `to`
-pub record IsSaid (seen : Stream → Type 0) (stage : Stage) (to : Pos) (s : Spot) (fs : List Frag) (statics : Row) : Type 0 where
+pub record IsSaidBelow (seen : Stream → Type 0) (stage : Stage) (to : Pos) (s : Spot) (fs : List Frag) (statics : Row) : Type 0 where
   pub stream : Stream
   pub stands : seen stream
   pub fits : Fits stage (stand s) s.tomb stream
-  pub says : (y : Pos) → Reaches (stand s) y → IsBefore y to → there y stream.tomb stream.left ≡ there y s.tomb fs
+  pub says : (y : Pos) → Reaches (stand s) y → IsBefore y to → said_at y stream.tomb stream.left ≡ said_at y s.tomb fs
   pub static_row : stream.head.statics ≡ statics
 
 -- ---- the reader
 
 -- the snapshot's place is where nothing was read from, or before it where it lags
-abbrev pub IsAt : Bool → Pos → Pos → Type 0
-IsAt true place x = Reaches place x
-IsAt false place x = place ≡ x
+abbrev pub IsPlaceAt : Bool → Pos → Pos → Type 0
+IsPlaceAt true place x = Reaches place x
+IsPlaceAt false place x = place ≡ x
 
 -- all that a reader needs: all of the slice is known, or what may stand below is the source there
 pub record IsReady {K F P H W : Type 0} (kn : OfKnown K H) (be : OfBelow F H W) (fi : OfFiller P H) (r : CacheReader K F P) (h : H) (w : W) : Type 0 where
   pub fit : Fit kn be fi r.known r.below r.filler h w
   pub shares : Shares kn be fi
-  pub covered : IsWhole (kn.knows r.known h) (kn.heads r.known h) (stand r.spot) r.to ⊎ Leads (fi.source r.filler h) (fi.statics_are r.filler h) (be.seen r.below h w) r.stage (stand r.spot) r.to r.spot.tomb
+  pub covered : IsAllKnown (kn.knows r.known h) (kn.heads r.known h) (stand r.spot) r.to ⊎ Leads (fi.source r.filler h) (fi.statics_are r.filler h) (be.seen r.below h w) r.stage (stand r.spot) r.to r.spot.tomb
   pub ahead : (x : Pos) → Reaches (stand r.spot) x → be.ahead r.below x
-  pub place : IsAt r.lags (kn.place r.known) (stand r.spot)
+  pub place : IsPlaceAt r.lags (kn.place r.known) (stand r.spot)
 
 -- it stands for a stream: what is due, and then what the source says
 pub record Sees {K F P H W : Type 0} (kn : OfKnown K H) (be : OfBelow F H W) (fi : OfFiller P H) (r : CacheReader K F P) (h : H) (w : W) (s : Stream) : Type 0 where
   pub rest : List Frag
-  pub tomb : s.tomb ≡ told_of r.spot
+  pub tomb : s.tomb ≡ tomb_told r.spot
   pub left : s.left ≡ front r.spot ++ rest
   pub reads : Reads (fi.source r.filler h) (stand r.spot) r.to r.spot.tomb rest
   pub pt : (at : HeadAt) → kn.heads r.known h at → at.head.pt ≡ s.head.pt
   pub static_row : (row : Row) → fi.statics_are r.filler h row → row ≡ s.head.statics
-  pub below : IsWhole (kn.knows r.known h) (kn.heads r.known h) (stand r.spot) r.to ⊎ IsSaid (be.seen r.below h w) r.stage r.to r.spot rest s.head.statics
+  pub below : IsAllKnown (kn.knows r.known h) (kn.heads r.known h) (stand r.spot) r.to ⊎ IsSaidBelow (be.seen r.below h w) r.stage r.to r.spot rest s.head.statics

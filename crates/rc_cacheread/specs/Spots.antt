@@ -1,6 +1,6 @@
 -- Where a reader stands, and what is due there.
---     front, stand      what is due; from where on nothing was read
---     Gives, GoesOn     what comes next at a place; what a seek makes of it
+--     front, stand         what is due; from where on nothing was read
+--     GivesDue, GoesOn     what comes next at a place; what a seek makes of it
 use Rattle.std.specs.Prelude.{◌≡◌, ◌⊎◌, Bool, true, false, cond, List, [], ◌∷◌, ◌++◌, Option, Some, None}
 use Rattle.std.specs.Ordering.{is_ge, is_gt}
 use Rattle.rc_cell.specs.declared.writes.Tomb.{Tomb}
@@ -54,30 +54,30 @@ told_or None told = told
 told_or (Some x) told = None
 
 -- the tombstone in force before what is due
-abbrev pub told_of : Spot → Option Tomb
-told_of s = told_or s.again s.told
+abbrev pub tomb_told : Spot → Option Tomb
+tomb_told s = told_or s.again s.told
 
 -- what stands behind the row at a place, if that was read; else the place itself
-abbrev pub behind : RowAt → Pos → Pos
-behind row.Unread x = x
-behind (row.Due r) x = behind_row x.prefix
-behind row.Given x = behind_row x.prefix
+abbrev pub past_row : RowAt → Pos → Pos
+past_row row.Unread x = x
+past_row (row.Due r) x = behind_row x.prefix
+past_row row.Given x = behind_row x.prefix
 
 -- from where on nothing was read
 abbrev pub stand : Spot → Pos
-stand s = behind s.row s.place
+stand s = past_row s.row s.place
 
 -- nothing is due, and the place was not read
-pub record IsIdle (s : Spot) : Type 0 where
+pub record HasNothingDue (s : Spot) : Type 0 where
   pub again : s.again ≡ None
   pub told : same_tomb s.told s.tomb ≡ true
   pub row : s.row ≡ row.Unread
 
 -- the same is due, and the same was read
-pub record IsAlike (s t : Spot) : Type 0 where
+pub record IsSameSpot (s t : Spot) : Type 0 where
   pub due : front t ≡ front s
   pub from : stand t ≡ stand s
-  pub told : told_of t ≡ told_of s
+  pub told : tomb_told t ≡ tomb_told s
   pub tomb : t.tomb ≡ s.tomb
 
 -- nothing is left up to `upto`, as far as what was read tells: the first that is due stands behind it, or nothing is due and the place is behind it, or the slice has ended
@@ -85,24 +85,24 @@ abbrev pub EndsUpto : (to upto : Pos) → Spot → Type 0
 EndsUpto to upto s = (first_upto upto (front s) ≡ None) × (front s ≡ [] → IsBefore upto (stand s) ⊎ (Reaches to (stand s) × (s.tomb ≡ None)))
 
 -- what came next at a place: what was due, if it stands at `upto` or before it; nothing; the end of the slice, where a tombstone was in force; or the place is to be read
-abbrev pub Gives : (to upto : Pos) → Spot → Spot → Turn → Type 0
-Gives to upto s t (turn.Given f) = (front s ≡ f ∷ front t) × (is_upto upto f ≡ true) × (told_of t ≡ tomb_after (told_of s) f) × (stand t ≡ stand s) × (t.tomb ≡ s.tomb)
-Gives to upto s t turn.Nothing = IsAlike s t × EndsUpto to upto t
-Gives to upto s t turn.Closed = (front s ≡ []) × Reaches to (stand s) × (stand t ≡ stand s) × (told_of t ≡ told_of s) × (t.tomb ≡ None) × (front t ≡ frag.Change (stand s) None ∷ []) × (same_tomb s.tomb None ≡ false)
-Gives to upto s t turn.Unread = IsAlike s t × IsIdle t × Reaches t.place upto × IsBefore t.place to
+abbrev pub GivesDue : (to upto : Pos) → Spot → Spot → Turn → Type 0
+GivesDue to upto s t (turn.Given f) = (front s ≡ f ∷ front t) × (is_upto upto f ≡ true) × (tomb_told t ≡ tomb_after (tomb_told s) f) × (stand t ≡ stand s) × (t.tomb ≡ s.tomb)
+GivesDue to upto s t turn.Nothing = IsSameSpot s t × EndsUpto to upto t
+GivesDue to upto s t turn.Closed = (front s ≡ []) × Reaches to (stand s) × (stand t ≡ stand s) × (tomb_told t ≡ tomb_told s) × (t.tomb ≡ None) × (front t ≡ frag.Change (stand s) None ∷ []) × (same_tomb s.tomb None ≡ false)
+GivesDue to upto s t turn.Unread = IsSameSpot s t × HasNothingDue t × Reaches t.place upto × IsBefore t.place to
 
 -- what a seek leaves of what is due
-pub record IsSought (x : Pos) (s t : Spot) : Type 0 where
-  pub due : front t ≡ opening x (force x (told_of s) (front s)) ++ onward x (front s)
+pub record IsSpotSought (x : Pos) (s t : Spot) : Type 0 where
+  pub due : front t ≡ opening x (force x (tomb_told s) (front s)) ++ onward x (front s)
   pub from : stand t ≡ stand s
-  pub told : told_of t ≡ None
+  pub told : tomb_told t ≡ None
   pub tomb : t.tomb ≡ s.tomb
   pub before : onward x (front s) ≡ [] → IsBefore x (stand s)
 
 -- all that is due stands before x, and from there on nothing was read
-pub record IsBegun (x : Pos) (s t : Spot) : Type 0 where
+pub record IsBegunAt (x : Pos) (s t : Spot) : Type 0 where
   pub due : onward x (front s) ≡ []
-  pub force : force x (told_of s) (front s) ≡ s.tomb
+  pub force : force x (tomb_told s) (front s) ≡ s.tomb
   pub on : Reaches (stand s) x
   pub place : t.place ≡ x
   pub row : t.row ≡ row.Unread
@@ -112,8 +112,8 @@ pub record IsBegun (x : Pos) (s t : Spot) : Type 0 where
 
 -- what a seek to x does: it stays within what was read, or begins anew behind it
 abbrev pub GoesOn : Pos → Spot → Spot → Bool → Type 0
-GoesOn x s t false = IsSought x s t
-GoesOn x s t true = IsBegun x s t
+GoesOn x s t false = IsSpotSought x s t
+GoesOn x s t true = IsBegunAt x s t
 
 -- the tombstone that was told is to be told again at x, if there is one
 abbrev pub told_at : Option Tomb → Pos → Option Pos

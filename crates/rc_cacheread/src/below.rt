@@ -8,10 +8,10 @@ ghost use Rattle.rc_stream.specs.Places.{Reaches};
 ghost use Rattle.rc_stream.specs.Showing.{Blames};
 ghost use Rattle.rc_stream.specs.Snapshot.{SameKnown, There};
 ghost use Rattle.rc_stream.specs.Stream.{Stream};
-ghost use Rattle.rc_cacheread.specs.Below.{Fillings, IsSettled, Tells, TookFound, found_of, near_of, sought_stage};
-ghost use Rattle.rc_cacheread.specs.Did.{IsStepUpto, OneCall, StepSays, state};
+ghost use Rattle.rc_cacheread.specs.Below.{Fillings, IsNotAway, Tells, TookFound, found_of, near_of, sought_stage};
+ghost use Rattle.rc_cacheread.specs.Did.{IsReaderStepUpto, ReaderCall, ReaderStepSays, reader_state};
 ghost use Rattle.rc_cacheread.specs.Sharing.{IsReady, Sees, of_below, of_filler, of_known};
-ghost use Rattle.rc_cacheread.specs.Spots.{IsIdle, stand};
+ghost use Rattle.rc_cacheread.specs.Spots.{HasNothingDue, stand};
 
 use crate::filling::{take_change, take_end, take_here, take_row, take_upto};
 use crate::readers::{CacheReader, Stage};
@@ -33,15 +33,15 @@ pub(crate) fn read_below<H, W: Store, K: Known<H>, F: Frags<H, W>, P: Filler<H>>
     upto: &Pos,
 ) -> Result<Step, StreamErr>
     requires ready { IsReady (of_known K.ready K.place K.knows K.heads K.did) (of_below F.ready F.seen F.ahead F.moves F.did) (of_filler P.ready P.fits P.may P.lost P.source P.knows P.statics_are P.knows_statics P.fills) reader.old home.old store.old }
-    requires idle { IsIdle reader.old.spot }
+    requires idle { HasNothingDue reader.old.spot }
     requires near { Reaches reader.old.spot.place upto.now }
     requires within { IsBefore reader.old.spot.place reader.old.to }
     requires missing { (v : There) → K.knows reader.old.known home.old reader.old.spot.place v → ⊥ }
     requires end { IsBefore reader.old.spot.place end }
     requires inside { Reaches end reader.old.to }
-    ensures says { (s : Stream) → Sees (of_known K.ready K.place K.knows K.heads K.did) (of_below F.ready F.seen F.ahead F.moves F.did) (of_filler P.ready P.fits P.may P.lost P.source P.knows P.statics_are P.knows_statics P.fills) reader.old home.old store.old s → StepSays result upto.now s (Sees (of_known K.ready K.place K.knows K.heads K.did) (of_below F.ready F.seen F.ahead F.moves F.did) (of_filler P.ready P.fits P.may P.lost P.source P.knows P.statics_are P.knows_statics P.fills) reader.new home.new store.new) }
-    ensures upto { IfOk result (IsStepUpto upto.now) }
-    ensures did { (y : Pos) → ReachesEnd (Sees (of_known K.ready K.place K.knows K.heads K.did) (of_below F.ready F.seen F.ahead F.moves F.did) (of_filler P.ready P.fits P.may P.lost P.source P.knows P.statics_are P.knows_statics P.fills) reader.old home.old store.old) upto.now y → InTurn (OneCall (of_known K.ready K.place K.knows K.heads K.did) (of_below F.ready F.seen F.ahead F.moves F.did) (of_filler P.ready P.fits P.may P.lost P.source P.knows P.statics_are P.knows_statics P.fills) (OfNext y)) (answered result) (state reader.old home.old store.old) (state reader.new home.new store.new) }
+    ensures says { (s : Stream) → Sees (of_known K.ready K.place K.knows K.heads K.did) (of_below F.ready F.seen F.ahead F.moves F.did) (of_filler P.ready P.fits P.may P.lost P.source P.knows P.statics_are P.knows_statics P.fills) reader.old home.old store.old s → ReaderStepSays result upto.now s (Sees (of_known K.ready K.place K.knows K.heads K.did) (of_below F.ready F.seen F.ahead F.moves F.did) (of_filler P.ready P.fits P.may P.lost P.source P.knows P.statics_are P.knows_statics P.fills) reader.new home.new store.new) }
+    ensures upto { IfOk result (IsReaderStepUpto upto.now) }
+    ensures did { (y : Pos) → ReachesEnd (Sees (of_known K.ready K.place K.knows K.heads K.did) (of_below F.ready F.seen F.ahead F.moves F.did) (of_filler P.ready P.fits P.may P.lost P.source P.knows P.statics_are P.knows_statics P.fills) reader.old home.old store.old) upto.now y → InTurn (ReaderCall (of_known K.ready K.place K.knows K.heads K.did) (of_below F.ready F.seen F.ahead F.moves F.did) (of_filler P.ready P.fits P.may P.lost P.source P.knows P.statics_are P.knows_statics P.fills) (OfNext y)) (answered result) (reader_state reader.old home.old store.old) (reader_state reader.new home.new store.new) }
     ensures on { Reaches (stand reader.old.spot) (stand reader.new.spot) }
     ensures to { reader.new.to ≡ reader.old.to }
     ensures ready { IsReady (of_known K.ready K.place K.knows K.heads K.did) (of_below F.ready F.seen F.ahead F.moves F.did) (of_filler P.ready P.fits P.may P.lost P.source P.knows P.statics_are P.knows_statics P.fills) reader.new home.new store.new }
@@ -69,12 +69,12 @@ fn settle<H, W: Store, K: Known<H>, F: Frags<H, W>, P: Filler<H>>(
     store: &mut W,
 ) -> Result<(), StreamErr>
     requires ready { IsReady (of_known K.ready K.place K.knows K.heads K.did) (of_below F.ready F.seen F.ahead F.moves F.did) (of_filler P.ready P.fits P.may P.lost P.source P.knows P.statics_are P.knows_statics P.fills) reader.old home.old store.old }
-    requires idle { IsIdle reader.old.spot }
+    requires idle { HasNothingDue reader.old.spot }
     requires within { IsBefore reader.old.spot.place reader.old.to }
     requires missing { (v : There) → K.knows reader.old.known home.old reader.old.spot.place v → ⊥ }
     ensures says { (s : Stream) → Sees (of_known K.ready K.place K.knows K.heads K.did) (of_below F.ready F.seen F.ahead F.moves F.did) (of_filler P.ready P.fits P.may P.lost P.source P.knows P.statics_are P.knows_statics P.fills) reader.old home.old store.old s → Sees (of_known K.ready K.place K.knows K.heads K.did) (of_below F.ready F.seen F.ahead F.moves F.did) (of_filler P.ready P.fits P.may P.lost P.source P.knows P.statics_are P.knows_statics P.fills) reader.new home.new store.new s }
-    ensures did { (y : Pos) → Reaches reader.old.spot.place y → InTurn (OneCall (of_known K.ready K.place K.knows K.heads K.did) (of_below F.ready F.seen F.ahead F.moves F.did) (of_filler P.ready P.fits P.may P.lost P.source P.knows P.statics_are P.knows_statics P.fills) (OfNext y)) (answered result) (state reader.old home.old store.old) (state reader.new home.new store.new) }
-    ensures stage { OnOk result (IsSettled reader.new.stage) }
+    ensures did { (y : Pos) → Reaches reader.old.spot.place y → InTurn (ReaderCall (of_known K.ready K.place K.knows K.heads K.did) (of_below F.ready F.seen F.ahead F.moves F.did) (of_filler P.ready P.fits P.may P.lost P.source P.knows P.statics_are P.knows_statics P.fills) (OfNext y)) (answered result) (reader_state reader.old home.old store.old) (reader_state reader.new home.new store.new) }
+    ensures stage { OnOk result (IsNotAway reader.new.stage) }
     ensures spot { reader.new.spot ≡ reader.old.spot }
     ensures lags { reader.new.lags ≡ reader.old.lags }
     ensures known { reader.new.known ≡ reader.old.known }
@@ -117,15 +117,15 @@ fn look_here<H, W: Store, K: Known<H>, F: Frags<H, W>, P: Filler<H>>(
     upto: &Pos,
 ) -> Result<Step, StreamErr>
     requires ready { IsReady (of_known K.ready K.place K.knows K.heads K.did) (of_below F.ready F.seen F.ahead F.moves F.did) (of_filler P.ready P.fits P.may P.lost P.source P.knows P.statics_are P.knows_statics P.fills) reader.old home.old store.old }
-    requires idle { IsIdle reader.old.spot }
+    requires idle { HasNothingDue reader.old.spot }
     requires near { Reaches reader.old.spot.place upto.now }
     requires within { IsBefore reader.old.spot.place reader.old.to }
     requires missing { (v : There) → K.knows reader.old.known home.old reader.old.spot.place v → ⊥ }
     requires lags { reader.old.lags ≡ true }
     requires stage { reader.old.stage ≡ Stage.Sought }
-    ensures says { (s : Stream) → Sees (of_known K.ready K.place K.knows K.heads K.did) (of_below F.ready F.seen F.ahead F.moves F.did) (of_filler P.ready P.fits P.may P.lost P.source P.knows P.statics_are P.knows_statics P.fills) reader.old home.old store.old s → StepSays result upto.now s (Sees (of_known K.ready K.place K.knows K.heads K.did) (of_below F.ready F.seen F.ahead F.moves F.did) (of_filler P.ready P.fits P.may P.lost P.source P.knows P.statics_are P.knows_statics P.fills) reader.new home.new store.new) }
-    ensures upto { IfOk result (IsStepUpto upto.now) }
-    ensures did { (y : Pos) → ReachesEnd (Sees (of_known K.ready K.place K.knows K.heads K.did) (of_below F.ready F.seen F.ahead F.moves F.did) (of_filler P.ready P.fits P.may P.lost P.source P.knows P.statics_are P.knows_statics P.fills) reader.old home.old store.old) upto.now y → InTurn (OneCall (of_known K.ready K.place K.knows K.heads K.did) (of_below F.ready F.seen F.ahead F.moves F.did) (of_filler P.ready P.fits P.may P.lost P.source P.knows P.statics_are P.knows_statics P.fills) (OfNext y)) (answered result) (state reader.old home.old store.old) (state reader.new home.new store.new) }
+    ensures says { (s : Stream) → Sees (of_known K.ready K.place K.knows K.heads K.did) (of_below F.ready F.seen F.ahead F.moves F.did) (of_filler P.ready P.fits P.may P.lost P.source P.knows P.statics_are P.knows_statics P.fills) reader.old home.old store.old s → ReaderStepSays result upto.now s (Sees (of_known K.ready K.place K.knows K.heads K.did) (of_below F.ready F.seen F.ahead F.moves F.did) (of_filler P.ready P.fits P.may P.lost P.source P.knows P.statics_are P.knows_statics P.fills) reader.new home.new store.new) }
+    ensures upto { IfOk result (IsReaderStepUpto upto.now) }
+    ensures did { (y : Pos) → ReachesEnd (Sees (of_known K.ready K.place K.knows K.heads K.did) (of_below F.ready F.seen F.ahead F.moves F.did) (of_filler P.ready P.fits P.may P.lost P.source P.knows P.statics_are P.knows_statics P.fills) reader.old home.old store.old) upto.now y → InTurn (ReaderCall (of_known K.ready K.place K.knows K.heads K.did) (of_below F.ready F.seen F.ahead F.moves F.did) (of_filler P.ready P.fits P.may P.lost P.source P.knows P.statics_are P.knows_statics P.fills) (OfNext y)) (answered result) (reader_state reader.old home.old store.old) (reader_state reader.new home.new store.new) }
     ensures on { Reaches (stand reader.old.spot) (stand reader.new.spot) }
     ensures to { reader.new.to ≡ reader.old.to }
     ensures ready { IsReady (of_known K.ready K.place K.knows K.heads K.did) (of_below F.ready F.seen F.ahead F.moves F.did) (of_filler P.ready P.fits P.may P.lost P.source P.knows P.statics_are P.knows_statics P.fills) reader.new home.new store.new }
@@ -154,7 +154,7 @@ fn go_below<H, W: Store, K: Known<H>, F: Frags<H, W>, P: Filler<H>>(
     upto: &Pos,
 ) -> Result<Step, StreamErr>
     requires ready { IsReady (of_known K.ready K.place K.knows K.heads K.did) (of_below F.ready F.seen F.ahead F.moves F.did) (of_filler P.ready P.fits P.may P.lost P.source P.knows P.statics_are P.knows_statics P.fills) reader.old home.old store.old }
-    requires idle { IsIdle reader.old.spot }
+    requires idle { HasNothingDue reader.old.spot }
     requires near { Reaches reader.old.spot.place upto.now }
     requires within { IsBefore reader.old.spot.place reader.old.to }
     requires missing { (v : There) → K.knows reader.old.known home.old reader.old.spot.place v → ⊥ }
@@ -162,9 +162,9 @@ fn go_below<H, W: Store, K: Known<H>, F: Frags<H, W>, P: Filler<H>>(
     requires inside { Reaches end reader.old.to }
     requires lags { reader.old.lags ≡ true }
     requires stage { reader.old.stage ≡ Stage.Within }
-    ensures says { (s : Stream) → Sees (of_known K.ready K.place K.knows K.heads K.did) (of_below F.ready F.seen F.ahead F.moves F.did) (of_filler P.ready P.fits P.may P.lost P.source P.knows P.statics_are P.knows_statics P.fills) reader.old home.old store.old s → StepSays result upto.now s (Sees (of_known K.ready K.place K.knows K.heads K.did) (of_below F.ready F.seen F.ahead F.moves F.did) (of_filler P.ready P.fits P.may P.lost P.source P.knows P.statics_are P.knows_statics P.fills) reader.new home.new store.new) }
-    ensures upto { IfOk result (IsStepUpto upto.now) }
-    ensures did { (y : Pos) → ReachesEnd (Sees (of_known K.ready K.place K.knows K.heads K.did) (of_below F.ready F.seen F.ahead F.moves F.did) (of_filler P.ready P.fits P.may P.lost P.source P.knows P.statics_are P.knows_statics P.fills) reader.old home.old store.old) upto.now y → InTurn (OneCall (of_known K.ready K.place K.knows K.heads K.did) (of_below F.ready F.seen F.ahead F.moves F.did) (of_filler P.ready P.fits P.may P.lost P.source P.knows P.statics_are P.knows_statics P.fills) (OfNext y)) (answered result) (state reader.old home.old store.old) (state reader.new home.new store.new) }
+    ensures says { (s : Stream) → Sees (of_known K.ready K.place K.knows K.heads K.did) (of_below F.ready F.seen F.ahead F.moves F.did) (of_filler P.ready P.fits P.may P.lost P.source P.knows P.statics_are P.knows_statics P.fills) reader.old home.old store.old s → ReaderStepSays result upto.now s (Sees (of_known K.ready K.place K.knows K.heads K.did) (of_below F.ready F.seen F.ahead F.moves F.did) (of_filler P.ready P.fits P.may P.lost P.source P.knows P.statics_are P.knows_statics P.fills) reader.new home.new store.new) }
+    ensures upto { IfOk result (IsReaderStepUpto upto.now) }
+    ensures did { (y : Pos) → ReachesEnd (Sees (of_known K.ready K.place K.knows K.heads K.did) (of_below F.ready F.seen F.ahead F.moves F.did) (of_filler P.ready P.fits P.may P.lost P.source P.knows P.statics_are P.knows_statics P.fills) reader.old home.old store.old) upto.now y → InTurn (ReaderCall (of_known K.ready K.place K.knows K.heads K.did) (of_below F.ready F.seen F.ahead F.moves F.did) (of_filler P.ready P.fits P.may P.lost P.source P.knows P.statics_are P.knows_statics P.fills) (OfNext y)) (answered result) (reader_state reader.old home.old store.old) (reader_state reader.new home.new store.new) }
     ensures on { Reaches (stand reader.old.spot) (stand reader.new.spot) }
     ensures to { reader.new.to ≡ reader.old.to }
     ensures ready { IsReady (of_known K.ready K.place K.knows K.heads K.did) (of_below F.ready F.seen F.ahead F.moves F.did) (of_filler P.ready P.fits P.may P.lost P.source P.knows P.statics_are P.knows_statics P.fills) reader.new home.new store.new }

@@ -9,9 +9,9 @@ ghost use Rattle.rc_stream.specs.Places.{Reaches};
 ghost use Rattle.rc_stream.specs.Showing.{Blames};
 ghost use Rattle.rc_stream.specs.Snapshot.{IsPartFrom, SameKnown, There, place_behind};
 ghost use Rattle.rc_stream.specs.Stream.{Stream};
-ghost use Rattle.rc_cacheread.specs.Did.{IsQuiet, IsStepUpto, KnownStep, OneCall, StepSays, state};
-ghost use Rattle.rc_cacheread.specs.Sharing.{IsAt, IsReady, Sees, of_below, of_filler, of_known};
-ghost use Rattle.rc_cacheread.specs.Spots.{IsIdle, stand};
+ghost use Rattle.rc_cacheread.specs.Did.{IsQuiet, IsReaderStepUpto, KnownStep, ReaderCall, ReaderStepSays, reader_state};
+ghost use Rattle.rc_cacheread.specs.Sharing.{IsPlaceAt, IsReady, Sees, of_below, of_filler, of_known};
+ghost use Rattle.rc_cacheread.specs.Spots.{HasNothingDue, stand};
 
 use crate::below::read_below;
 use crate::readers::{CacheReader, Stage};
@@ -31,10 +31,10 @@ fn catch_up<H, K: Known<H>>(
     place: &Pos,
 ) -> Result<(), AllocError>
     requires ready { K.ready known.old home.old }
-    requires at { IsAt lags.old (K.place known.old) place.now }
+    requires at { IsPlaceAt lags.old (K.place known.old) place.now }
     ensures ok { OnOk result (K.place known.new ≡ place.now) }
     ensures lags { OnOk result (lags.new ≡ false) }
-    ensures err { OnErr result (IsAt lags.new (K.place known.new) place.now) }
+    ensures err { OnErr result (IsPlaceAt lags.new (K.place known.new) place.now) }
     ensures knows { SameKnown (K.knows known.old home.old) (K.knows known.new home.new) }
     ensures did { InTurn (KnownStep K.did) (is_ok result) (known.old, home.old) (known.new, home.new) }
     ensures ready { K.ready known.new home.new }
@@ -61,10 +61,10 @@ fn next_part<H, K: Known<H>>(
     to: &Pos,
 ) -> Result<Part, AllocError>
     requires ready { K.ready known.old home.old }
-    requires at { IsAt lags.old (K.place known.old) place.now }
+    requires at { IsPlaceAt lags.old (K.place known.old) place.now }
     requires order { IsBefore place.now to.now }
     ensures part { IfOk result (IsPartFrom (K.knows known.old home.old) place.now to.now) }
-    ensures at { IsAt lags.new (K.place known.new) (place_behind result place.now) }
+    ensures at { IsPlaceAt lags.new (K.place known.new) (place_behind result place.now) }
     ensures knows { SameKnown (K.knows known.old home.old) (K.knows known.new home.new) }
     ensures did { InTurn (KnownStep K.did) (is_ok result) (known.old, home.old) (known.new, home.new) }
     ensures ready { K.ready known.new home.new }
@@ -84,13 +84,13 @@ pub(crate) fn read_part<H, W: Store, K: Known<H>, F: Frags<H, W>, P: Filler<H>>(
     upto: &Pos,
 ) -> Result<Step, StreamErr>
     requires ready { IsReady (of_known K.ready K.place K.knows K.heads K.did) (of_below F.ready F.seen F.ahead F.moves F.did) (of_filler P.ready P.fits P.may P.lost P.source P.knows P.statics_are P.knows_statics P.fills) reader.old home.old store.old }
-    requires idle { IsIdle reader.old.spot }
+    requires idle { HasNothingDue reader.old.spot }
     requires near { Reaches reader.old.spot.place upto.now }
     requires within { IsBefore reader.old.spot.place reader.old.to }
-    ensures says { (s : Stream) → Sees (of_known K.ready K.place K.knows K.heads K.did) (of_below F.ready F.seen F.ahead F.moves F.did) (of_filler P.ready P.fits P.may P.lost P.source P.knows P.statics_are P.knows_statics P.fills) reader.old home.old store.old s → StepSays result upto.now s (Sees (of_known K.ready K.place K.knows K.heads K.did) (of_below F.ready F.seen F.ahead F.moves F.did) (of_filler P.ready P.fits P.may P.lost P.source P.knows P.statics_are P.knows_statics P.fills) reader.new home.new store.new) }
-    ensures upto { IfOk result (IsStepUpto upto.now) }
-    ensures did { (y : Pos) → ReachesEnd (Sees (of_known K.ready K.place K.knows K.heads K.did) (of_below F.ready F.seen F.ahead F.moves F.did) (of_filler P.ready P.fits P.may P.lost P.source P.knows P.statics_are P.knows_statics P.fills) reader.old home.old store.old) upto.now y → InTurn (OneCall (of_known K.ready K.place K.knows K.heads K.did) (of_below F.ready F.seen F.ahead F.moves F.did) (of_filler P.ready P.fits P.may P.lost P.source P.knows P.statics_are P.knows_statics P.fills) (OfNext y)) (answered result) (state reader.old home.old store.old) (state reader.new home.new store.new) }
-    ensures quiet { (v : There) → K.knows reader.old.known home.old reader.old.spot.place v → IsQuiet (of_known K.ready K.place K.knows K.heads K.did) (answered result) (state reader.old home.old store.old) (state reader.new home.new store.new) }
+    ensures says { (s : Stream) → Sees (of_known K.ready K.place K.knows K.heads K.did) (of_below F.ready F.seen F.ahead F.moves F.did) (of_filler P.ready P.fits P.may P.lost P.source P.knows P.statics_are P.knows_statics P.fills) reader.old home.old store.old s → ReaderStepSays result upto.now s (Sees (of_known K.ready K.place K.knows K.heads K.did) (of_below F.ready F.seen F.ahead F.moves F.did) (of_filler P.ready P.fits P.may P.lost P.source P.knows P.statics_are P.knows_statics P.fills) reader.new home.new store.new) }
+    ensures upto { IfOk result (IsReaderStepUpto upto.now) }
+    ensures did { (y : Pos) → ReachesEnd (Sees (of_known K.ready K.place K.knows K.heads K.did) (of_below F.ready F.seen F.ahead F.moves F.did) (of_filler P.ready P.fits P.may P.lost P.source P.knows P.statics_are P.knows_statics P.fills) reader.old home.old store.old) upto.now y → InTurn (ReaderCall (of_known K.ready K.place K.knows K.heads K.did) (of_below F.ready F.seen F.ahead F.moves F.did) (of_filler P.ready P.fits P.may P.lost P.source P.knows P.statics_are P.knows_statics P.fills) (OfNext y)) (answered result) (reader_state reader.old home.old store.old) (reader_state reader.new home.new store.new) }
+    ensures quiet { (v : There) → K.knows reader.old.known home.old reader.old.spot.place v → IsQuiet (of_known K.ready K.place K.knows K.heads K.did) (answered result) (reader_state reader.old home.old store.old) (reader_state reader.new home.new store.new) }
     ensures keeps { (v : There) → K.knows reader.old.known home.old reader.old.spot.place v → SameKnown (K.knows reader.old.known home.old) (K.knows reader.new.known home.new) }
     ensures on { Reaches (stand reader.old.spot) (stand reader.new.spot) }
     ensures to { reader.new.to ≡ reader.old.to }

@@ -4,7 +4,7 @@ ghost use Rattle.rc_position.specs.declared.positions.Pos.{Pos};
 ghost use Rattle.rc_position.specs.Position.{pos_cmp};
 ghost use Rattle.std.specs.Ordering.{is_gt};
 ghost use Rattle.rc_stream.specs.Merging.{same_tomb};
-ghost use Rattle.rc_cacheread.specs.Spots.{Gives, GoesOn, IsAlike, IsIdle, WentTo, change_place, is_behind, is_row_due, is_row_from, stand, told_at};
+ghost use Rattle.rc_cacheread.specs.Spots.{GivesDue, GoesOn, IsSameSpot, HasNothingDue, WentTo, change_place, is_behind, is_row_due, is_row_from, stand, told_at};
 
 use rc_cell::{Row, Tomb};
 use rc_mutation::Frag;
@@ -136,7 +136,7 @@ impl Spot {
     // Goes on to a position; whether it stands behind all that was read. The only error is want of memory: then the same is due.
     pub(crate) fn seek(&mut self, alloc: Global, to: &Pos) -> Result<bool, AllocError>
         ensures ok { IfOk result (GoesOn to.now self.old self.new) }
-        ensures err { OnErr result (IsAlike self.old self.new) }
+        ensures err { OnErr result (IsSameSpot self.old self.new) }
     {
         let place = to.copy(alloc)?;
         if self.is_again_behind(to) {
@@ -248,7 +248,7 @@ impl Spot {
 
     // What comes next, up to a position, in a slice that ends at `to`. The only error is want of memory: then all is as it was.
     pub(crate) fn give(&mut self, alloc: Global, to: &Pos, upto: &Pos) -> Result<Turn, AllocError>
-        ensures ok { IfOk result (Gives to.now upto.now self.old self.new) }
+        ensures ok { IfOk result (GivesDue to.now upto.now self.old self.new) }
         ensures err { OnErr result (self.new ≡ self.old) }
     {
         if self.again.is_some() {
@@ -264,10 +264,10 @@ impl Spot {
         Ok(self.turn_here(to, upto))
     }
 
-    // Gives the change to the tombstone that was in force where a seek went, if it stands at the position or before it.
+    // GivesDue the change to the tombstone that was in force where a seek went, if it stands at the position or before it.
     fn give_again(&mut self, upto: &Pos) -> Turn
         requires { is_some self.old.again ≡ true }
-        ensures { (to : Pos) → Gives to upto.now self.old self.new result }
+        ensures { (to : Pos) → GivesDue to upto.now self.old self.new result }
     {
         match self.again.take() {
             Some(from) => {
@@ -281,11 +281,11 @@ impl Spot {
         }
     }
 
-    // Gives the change that is due, if it stands at the position or before it.
+    // GivesDue the change that is due, if it stands at the position or before it.
     fn give_change(&mut self, alloc: Global, upto: &Pos) -> Result<Turn, AllocError>
         requires again { self.old.again ≡ None }
         requires due { same_tomb self.old.told self.old.tomb ≡ false }
-        ensures ok { (to : Pos) → IfOk result (Gives to upto.now self.old self.new) }
+        ensures ok { (to : Pos) → IfOk result (GivesDue to upto.now self.old self.new) }
         ensures err { OnErr result (self.new ≡ self.old) }
     {
         let from = self.change_place();
@@ -307,12 +307,12 @@ impl Spot {
         }
     }
 
-    // Gives the row that is due, if it stands at the position or before it.
+    // GivesDue the row that is due, if it stands at the position or before it.
     fn give_row(&mut self, alloc: Global, upto: &Pos) -> Result<Turn, AllocError>
         requires again { self.old.again ≡ None }
         requires told { same_tomb self.old.told self.old.tomb ≡ true }
         requires due { is_row_due self.old.row ≡ true }
-        ensures ok { (to : Pos) → IfOk result (Gives to upto.now self.old self.new) }
+        ensures ok { (to : Pos) → IfOk result (GivesDue to upto.now self.old self.new) }
         ensures err { OnErr result (self.new ≡ self.old) }
     {
         if self.place.prefix.compare_with_pos(upto).is_gt() {
@@ -352,8 +352,8 @@ impl Spot {
 
     // What comes next where nothing is due.
     fn turn_here(&mut self, to: &Pos, upto: &Pos) -> Turn
-        requires { IsIdle self.old }
-        ensures { Gives to.now upto.now self.old self.new result }
+        requires { HasNothingDue self.old }
+        ensures { GivesDue to.now upto.now self.old self.new result }
     {
         if self.place.cmp(upto).is_gt() {
             return Turn::Nothing;

@@ -3,7 +3,7 @@ use Rattle.std.specs.Prelude.{ℕ, Bool, true, ◌==◌, nat_lt, List, [], ◌�
 use Rattle.std.specs.List.{filter_map, slice_get}
 use Rattle.std.specs.Option.{option_map_or}
 use Rattle.rc_schema.specs.SchemaValue.{SchemaValue}
-use Rattle.rc_schema.specs.SchemaText.{schema_of_words}
+use Rattle.rc_schema.specs.SchemaText.{schema_of}
 use Rattle.rc_spelling.specs.Words.{words}
 use Rattle.rc_lines.specs.declared.commands.Command.{Command}
 use Rattle.rc_lines.specs.declared.commands.Command.TheVariants.{Nothing, SetSchema}
@@ -26,7 +26,7 @@ is_comment (first ∷ rest) = first == 35
 
 -- the schema of a schema line, `schema TEXT`
 unfoldable pub schema_said : List ℕ → Option SchemaValue
-schema_said line = option_and_then (λ text. schema_of_words (words text)) (without_front (codes "schema ") line)
+schema_said line = option_and_then schema_of (without_front (codes "schema ") line)
 
 -- what a line commands under the schema that was taken, if one was, or why it is refused: one that is too long is bad, and one that is no schema line, empty or a comment is bad where its words
 -- have none of the forms, and else needs a schema, under which it says what the first of them says that they have

@@ -73,7 +73,7 @@ pub enum Refusal {
     ReadFault,
     /// The store failed while a table was written.
     WriteFault,
-    /// A table is not what it was when it was checked or written.
+    /// A table is not what it was when it was checked or written: its number, and where in it, in bytes.
     Damaged { file: u32, offset: u64 },
     /// A flush would write a table, and the largest table number is 4294967295.
     NoNumber,

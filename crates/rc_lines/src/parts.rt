@@ -3,8 +3,7 @@
 ghost use Rattle.std.specs.Prelude.{◌≡◌, IfOk};
 ghost use Rattle.std.specs.List.{list_all};
 ghost use Rattle.std.specs.Option.{option_copied};
-ghost use Rattle.rc_schema.specs.SchemaValue.{is_name};
-ghost use Rattle.rc_schema.specs.Tests.{is_name_byte};
+ghost use Rattle.rc_schema.specs.SchemaValue.{is_name, is_name_byte};
 ghost use Rattle.rc_lines.specs.Parts.{without_front, without_back, stamp_of, time_of, key_of};
 ghost use Rattle.rc_lines.specs.calls.ShapeParts.{tomb_of};
 ghost use Rattle.rc_spelling.specs.Words.{is_word};

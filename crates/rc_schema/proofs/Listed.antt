@@ -1,7 +1,8 @@
 -- What words list, over what references point to.
 use Rattle.std.proofs.Common.{◌≡◌, ℕ, suc, Bool, ◌&&◌, ◌∙◌, List, [], ◌∷◌, ◌++◌, length, Bor, refl, ap, map}
 use Rattle.std.specs.List.{list_all}
-use Rattle.rc_schema.specs.Tests.{are_few, are_names, is_kind, kind_named, are_listed}
+use Rattle.rc_schema.specs.calls.Tests.{is_kind, kind_named, are_listed}
+use Rattle.rc_schema.specs.SchemaValue.{are_few, are_names}
 use Rattle.rc_schema.proofs.Seen.{all_seen, lengths_seen}
 
 abbrev now : Bor (List ℕ) → List ℕ

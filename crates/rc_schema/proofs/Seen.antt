@@ -1,8 +1,7 @@
 -- Tests and maps over what references point to.
 use Rattle.std.proofs.Common.{◌≡◌, ℕ, suc, Bool, not, ◌&&◌, ◌||◌, ◌∙◌, List, [], ◌∷◌, ◌++◌, length, Bor, refl, ap, map}
 use Rattle.std.specs.List.{list_all, list_any}
-use Rattle.rc_schema.specs.SchemaValue.{is_name, are_distinct_by}
-use Rattle.rc_schema.specs.Tests.{are_names}
+use Rattle.rc_schema.specs.SchemaValue.{is_name, are_distinct_by, are_names}
 use Rattle.rc_spelling.specs.Words.{is_word}
 use Rattle.std.proofs.lemmas.List.Folds.{list_all-map}
 use Rattle.std.proofs.lemmas.List.{map-append}

@@ -38,17 +38,17 @@ abbrev pub has_short_value : Cell → Bool
 has_short_value (Live ts value) = nat_le (length value) 256
 has_short_value (Dead ts dt) = true
 
--- a key of the schema, or where it need not be full a prefix of one: components of its kinds, texts of at most 64 bytes
+-- whether a key, or where it need not be full a prefix of one, has the counts and kinds of components
+abbrev pub fits_kinds : Bool → List CkKind → List Comp → Bool
+fits_kinds full kinds key = are_of_kinds key kinds && (if full then length key == length kinds else true)
+
+-- a key of the schema, or where it need not be full a prefix of one, with texts of at most 64 bytes
 abbrev pub is_key_of : Bool → SchemaValue → List Comp → Bool
-is_key_of full schema key = (are_of_kinds key schema.ck && (if full then length key == length schema.ck else true)) && list_all is_short key
+is_key_of full schema key = fits_kinds full schema.ck key && list_all is_short key
 
 -- cells of so many columns, with values of at most 256 bytes
 abbrev pub are_cells_of : ℕ → List (ℕ × Cell) → Bool
 are_cells_of columns cells = list_all (λ e. nat_lt e.0 columns) cells && list_all (λ e. has_short_value e.1) cells
-
--- whether a key, or where it need not be full a prefix of one, has the counts and kinds of components
-abbrev pub fits_kinds : Bool → List CkKind → List Comp → Bool
-fits_kinds full kinds key = are_of_kinds key kinds && (if full then length key == length kinds else true)
 
 -- what is wrong with a key, or with a prefix of one
 unfoldable pub checked_prefix : Bool → SchemaValue → List Comp → Result (Unit {0}) SchemaErr

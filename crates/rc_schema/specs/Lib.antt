@@ -1,6 +1,6 @@
 pub mod SchemaValue
 pub mod SchemaText
-pub mod Tests
 pub mod Checks
 pub mod Largest
+pub mod calls
 pub mod laws

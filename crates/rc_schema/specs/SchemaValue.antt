@@ -11,18 +11,28 @@ pub record SchemaValue : Type 0 where
   pub statics : List (List ℕ)
   pub cols : List (List ℕ)
 
--- the name of a column: a lower-case letter, then at most 31 lower-case letters, digits or `_`
+-- the byte may stand in a name: a lower-case letter, a digit or `_`
+abbrev pub is_name_byte : ℕ → Bool
+is_name_byte byte = is_ascii_lowercase byte || (is_ascii_digit byte || byte == 95)
+
+-- the name of a column: a lower-case letter, then at most 31 bytes of names
 abbrev pub is_name : List ℕ → Bool
 is_name [] = false
-is_name (first ∷ rest) = is_ascii_lowercase first && (nat_le (length rest) 31 && list_all (λ byte. is_ascii_lowercase byte || (is_ascii_digit byte || byte == 95)) rest)
+is_name (first ∷ rest) = is_ascii_lowercase first && (nat_le (length rest) 31 && list_all is_name_byte rest)
 
 -- whether no two are the same
 abbrev pub are_distinct_by : {X : Type 0} → (X → X → Bool) → List X → Bool
 are_distinct_by same [] = true
 are_distinct_by same (x ∷ xs) = not (list_any (same x) xs) && are_distinct_by same xs
 
--- the limits of a schema: 1 to 4 components, at most 8 static and 32 regular columns, and all names distinct
+-- 1 to 4 components, at most 8 static and 32 regular columns
+abbrev pub are_few : ℕ → ℕ → ℕ → Bool
+are_few ck statics cols = (nat_le 1 ck && nat_le ck 4) && (nat_le statics 8 && nat_le cols 32)
+
+-- the names are names, all distinct
+abbrev pub are_names : List (List ℕ) → Bool
+are_names names = list_all is_name names && are_distinct_by is_word names
+
+-- the limits of a schema: its components and columns are few, and all names are names, no two the same
 abbrev pub is_schema : SchemaValue → Bool
-is_schema s =
-    ((nat_le 1 (length s.ck) && nat_le (length s.ck) 4) && (nat_le (length s.statics) 8 && nat_le (length s.cols) 32))
-    && (list_all is_name (s.statics ++ s.cols) && are_distinct_by is_word (s.statics ++ s.cols))
+is_schema s = are_few (length s.ck) (length s.statics) (length s.cols) && are_names (s.statics ++ s.cols)

@@ -2,8 +2,7 @@
 
 ghost use Rattle.std.specs.Prelude.{◌≡◌, ◌++◌, IfOk, map};
 ghost use Rattle.std.specs.List.{list_all, list_any};
-ghost use Rattle.rc_schema.specs.SchemaValue.{is_name, are_distinct_by};
-ghost use Rattle.rc_schema.specs.Tests.{is_name_byte, are_names};
+ghost use Rattle.rc_schema.specs.SchemaValue.{is_name, are_distinct_by, is_name_byte, are_names};
 ghost use Rattle.rc_spelling.specs.Words.{is_word};
 
 use std::alloc::{AllocError, Global};

@@ -2,8 +2,8 @@
 
 ghost use Rattle.std.specs.Prelude.{◌≡◌, ◌↔◌, ◌++◌, ◌&&◌, IfOk, IsTrue, OnOk, Some, None, map, nat_le, length, ◌≤◌, ◌<◌, IfSome};
 ghost use Rattle.std.specs.List.{list_all, join_with_byte};
-ghost use Rattle.rc_schema.specs.SchemaValue.{SchemaValue, is_schema};
-ghost use Rattle.rc_schema.specs.Tests.{are_few, lists_named, are_listed, marked};
+ghost use Rattle.rc_schema.specs.SchemaValue.{SchemaValue, is_schema, are_few};
+ghost use Rattle.rc_schema.specs.calls.Tests.{lists_named, are_listed, marked};
 ghost use Rattle.rc_schema.specs.SchemaText.{schema_text, kind_text, names_text, schema_listed, schema_of_words, schema_of, ReadsSchema};
 ghost use Rattle.rc_rowcode.specs.Spelling.{KeyFits, RowFits};
 ghost use Rattle.rc_schema.specs.Checks.{column_of, checked_prefix, checked_cells, column_count};

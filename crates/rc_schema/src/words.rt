@@ -3,7 +3,7 @@
 ghost use Rattle.std.specs.Prelude.{◌≡◌, IfOk, IsTrue, map, ◌==◌, codes};
 ghost use Rattle.std.specs.List.{list_all, slice_split};
 ghost use Rattle.rc_schema.specs.SchemaText.{names_of};
-ghost use Rattle.rc_schema.specs.Tests.{is_kind, kind_named};
+ghost use Rattle.rc_schema.specs.calls.Tests.{is_kind, kind_named};
 ghost use Rattle.rc_spelling.specs.Words.{words};
 
 use crate::kinds::CkKind;

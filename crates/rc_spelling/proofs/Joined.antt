@@ -3,7 +3,7 @@ use Rattle.std.proofs.Common.{◌≡◌, ℕ, List, [], ◌∷◌, ◌++◌, sym
 use Rattle.std.specs.List.{flat_map}
 use Rattle.rc_position.specs.declared.comps.Comp.{Comp}
 use Rattle.rc_spelling.specs.Printed.{component_text, key_text}
-use Rattle.rc_spelling.specs.Glyphs.{other_component}
+use Rattle.rc_spelling.specs.calls.Joining.{other_component}
 
 components_joined : (first : Comp) (rest : List Comp) → key_text (first ∷ rest) ≡ component_text first ++ flat_map other_component rest
 components_joined first [] = sym (append-nil (component_text first))

@@ -3,5 +3,4 @@ pub mod Words
 pub mod Numbers
 pub mod Spelling
 pub mod Printed
-pub mod Glyphs
 pub mod laws

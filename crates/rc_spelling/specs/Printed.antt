@@ -16,9 +16,13 @@ stands_for_itself byte = is_ascii_alphanumeric byte || (byte == 95 || (byte == 4
 abbrev pub hexadecimal : ℕ → ℕ
 hexadecimal n = if nat_lt n 10 then 48 + n else 55 + n
 
--- bytes as they are printed: each as itself, or as `%` and two hexadecimal digits
+-- a byte as it is printed: itself, or `%` and two hexadecimal digits
+abbrev pub spelled_byte : ℕ → List ℕ
+spelled_byte byte = if stands_for_itself byte then byte ∷ [] else 37 ∷ hexadecimal (byte / 16) ∷ hexadecimal (byte % 16) ∷ []
+
+-- bytes as they are printed
 abbrev pub printed : List ℕ → List ℕ
-printed bytes = flat_map (λ byte. if stands_for_itself byte then byte ∷ [] else 37 ∷ hexadecimal (byte / 16) ∷ hexadecimal (byte % 16) ∷ []) bytes
+printed bytes = flat_map spelled_byte bytes
 
 -- a component: a decimal number, or a text, of which `''` stands for the empty one
 abbrev pub component_text : Comp → List ℕ

@@ -20,8 +20,7 @@ use Rattle.std.specs.List.{list_all, All, AllByRecursion, slice_split}
 use Rattle.rc_position.specs.declared.comps.Comp.{Comp}
 use Rattle.rc_position.specs.declared.comps.Comp.TheVariants.{Int, Text}
 use Rattle.rc_spelling.specs.Numbers.{signed_of}
-use Rattle.rc_spelling.specs.Printed.{AreBytes, IsComponent, stands_for_itself, hexadecimal, printed, component_text, key_text, bytes_of_component}
-use Rattle.rc_spelling.specs.Glyphs.{spelled_byte}
+use Rattle.rc_spelling.specs.Printed.{AreBytes, IsComponent, stands_for_itself, hexadecimal, printed, component_text, key_text, bytes_of_component, spelled_byte}
 use Rattle.rc_spelling.specs.Spelling.{stands_alone, escaped, lone_byte, escape, bytes_spelled, component_spelled, components_spelled}
 use Rattle.rc_spelling.specs.Words.{is_word, each_of}
 

@@ -1,8 +1,8 @@
 //! How bytes and the components of a key are printed.
 
 ghost use Rattle.std.specs.Prelude.{◌≡◌, ◌<◌, ◌∷◌, ◌++◌, flat_map, OnOk};
-ghost use Rattle.rc_spelling.specs.Printed.{stands_for_itself, hexadecimal, printed, component_text, key_text};
-ghost use Rattle.rc_spelling.specs.Glyphs.{spelled_byte, other_component};
+ghost use Rattle.rc_spelling.specs.Printed.{stands_for_itself, hexadecimal, printed, component_text, key_text, spelled_byte};
+ghost use Rattle.rc_spelling.specs.calls.Joining.{other_component};
 ghost use Rattle.rc_position.specs.declared.comps.Comp.TheVariants.{Text};
 
 use itoa::Buffer;

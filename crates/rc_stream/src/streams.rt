@@ -13,14 +13,9 @@ pub enum StreamErr {
     /// The store failed, and its count of faults rose.
     #[error("a call to the store failed")]
     Fault,
-    /// The bytes of a file contradict the file as it was checked or written.
+    /// The bytes of a file contradict the file as it was checked or written: its number, and where in it, in bytes.
     #[error("file {file} is damaged at {offset}")]
-    Damaged {
-        /// The number of the file.
-        file: u32,
-        /// Where in the file, in bytes.
-        offset: u64,
-    },
+    Damaged { file: u32, offset: u64 },
     /// Memory was refused.
     #[error("out of memory")]
     NoMemory,

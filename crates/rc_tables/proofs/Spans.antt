@@ -8,8 +8,8 @@ use Rattle.rc_rowcode.specs.Spelling.{time_code}
 use Rattle.rc_mutation.specs.declared.mutations.Mutation.{Mutation}
 use Rattle.rc_mutation.specs.declared.mutations.Partition.{Partition}
 use Rattle.rc_tfile.specs.declared.info.PartRef.{PartRef}
-use Rattle.rc_tfile.specs.Items.{item_code, offset_code, IsItem}
-use Rattle.rc_tfile.specs.Reading.{bytes_code, IsPartKey, Starts}
+use Rattle.rc_tfile.specs.Items.{item_code, offset_code, IsItem, bytes_code, IsPartKey}
+use Rattle.rc_tfile.specs.Reading.{Starts}
 use Rattle.rc_schema.specs.SchemaValue.{SchemaValue}
 use Rattle.rc_stream.specs.declared.streams.StreamErr.{StreamErr}
 use Rattle.rc_writes.specs.Allowed.{IsStaticOf}

@@ -14,8 +14,8 @@ use Rattle.rc_mutation.specs.declared.fragments.Frag.TheVariants as frag
 use Rattle.rc_mutation.specs.declared.mutations.Mutation.{Mutation}
 use Rattle.rc_mutation.specs.Source.{IsMutation}
 use Rattle.rc_tfile.specs.declared.reading.Part.{Part}
-use Rattle.rc_tfile.specs.Items.{Item, PartItem, RowItem, ChangeItem, EndItem, item_code, IsItem}
-use Rattle.rc_tfile.specs.Reading.{bytes_code, IsPartKey, Starts, part_item}
+use Rattle.rc_tfile.specs.Items.{Item, PartItem, RowItem, ChangeItem, EndItem, item_code, IsItem, bytes_code, IsPartKey}
+use Rattle.rc_tfile.specs.Reading.{Starts, part_item}
 use Rattle.rc_tfile.specs.TableText.{frag_items, part_items}
 use Rattle.rc_tfile.specs.laws.Starting.{PrefixFree, IsOptional, rest_of, both_free, key_free, full_key_free, pos_free, row_free, optional_free}
 use Rattle.rc_tables.specs.Rebuilt.{frag_code, IsSpellable}

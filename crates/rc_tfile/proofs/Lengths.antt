@@ -10,8 +10,7 @@ use Rattle.rc_rowcode.specs.Spelling.{stamp_code, time_code, tomb_code, optional
 use Rattle.rc_rowcode.specs.laws.Sizes.{length-stamp, length-time, key_small, cells_small}
 use Rattle.rc_rowcode.specs.laws.Limits.{key_limits, row_limits}
 use Rattle.rc_tfile.specs.declared.blocks.Block.{Block}
-use Rattle.rc_tfile.specs.Items.{Item, HeadItem, PartItem, RowItem, ChangeItem, EndItem, StopItem, EntryItem, BlockItem, TailItem, item_code, offset_code, IsItem}
-use Rattle.rc_tfile.specs.Reading.{bytes_code}
+use Rattle.rc_tfile.specs.Items.{Item, HeadItem, PartItem, RowItem, ChangeItem, EndItem, StopItem, EntryItem, BlockItem, TailItem, item_code, offset_code, IsItem, bytes_code}
 use Rattle.rc_tfile.specs.Before.{ItemsBefore, Behind, item_place}
 use Rattle.rc_tfile.specs.TableText.{ItemFits}
 use Rattle.rc_tfile.proofs.Ahead.{head_within}

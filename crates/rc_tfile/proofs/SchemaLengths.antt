@@ -4,8 +4,7 @@ use Rattle.std.specs.List.{AllByRecursion, list_all, join_with_byte}
 use Rattle.std.proofs.lemmas.Bool.{leb-true}
 use Rattle.rc_schema.specs.declared.kinds.CkKind.{CkKind}
 use Rattle.rc_schema.specs.declared.kinds.CkKind.TheVariants.{Int, Text}
-use Rattle.rc_schema.specs.SchemaValue.{SchemaValue, is_name, is_schema}
-use Rattle.rc_schema.specs.Tests.{are_few}
+use Rattle.rc_schema.specs.SchemaValue.{SchemaValue, is_name, is_schema, are_few}
 use Rattle.rc_schema.specs.SchemaText.{kind_text, names_text, schema_text}
 
 -- words of at most 32 bytes

@@ -28,23 +28,31 @@ pub data Item : Type 0 where
 unfoldable pub offset_code : ℕ → List ℕ
 offset_code n = to_le_bytes w64 n
 
--- the spelling of an item: a partition's key stands behind its length in one byte
+-- bytes behind their number in one byte
+abbrev pub bytes_code : List ℕ → List ℕ
+bytes_code bytes = length bytes ∷ bytes
+
+-- the spelling of an item
 abbrev pub item_code : Item → List ℕ
 item_code (HeadItem schema) = codes "RCT1" ++ (length_code (length (schema_text schema)) ++ schema_text schema)
-item_code (PartItem key pt statics) = 1 ∷ length key ∷ (key ++ (optional_code tomb_code pt ++ row_code statics))
+item_code (PartItem key pt statics) = 1 ∷ (bytes_code key ++ (optional_code tomb_code pt ++ row_code statics))
 item_code (RowItem key row) = 2 ∷ (key_code key ++ row_code row)
 item_code (ChangeItem x tomb) = 3 ∷ (pos_code x ++ optional_code tomb_code tomb)
 item_code EndItem = 4 ∷ []
 item_code StopItem = 5 ∷ []
-item_code (EntryItem key off blocks) = 6 ∷ length key ∷ (key ++ (offset_code off ++ time_code blocks))
+item_code (EntryItem key off blocks) = 6 ∷ (bytes_code key ++ (offset_code off ++ time_code blocks))
 item_code (BlockItem b) = 7 ∷ (offset_code b.off ++ (time_code b.len ++ (optional_code tomb_code b.tomb ++ pos_code b.first)))
 item_code (TailItem off parts) = offset_code off ++ (time_code parts ++ codes "RCTE")
 
--- the items that spellings stand for: a partition key has 1 to 64 bytes; each value is within its limits, each number within its width (the values
--- that the directory's items have besides come from the partitions)
+-- a partition key has 1 to 64 bytes
+abbrev pub IsPartKey : List ℕ → Type 0
+IsPartKey key = (1 ≤ length key) × (length key ≤ 64)
+
+-- the items that spellings stand for: each value is within its limits, each number within its width (the values that the directory's items have
+-- besides come from the partitions)
 abbrev pub IsItem : Item → Type 0
 IsItem (HeadItem schema) = IsTrue (is_schema schema) × (length (schema_text schema) < 2 ^ 16)
-IsItem (PartItem key pt statics) = ((1 ≤ length key) × (length key ≤ 64)) × (IfSome pt IsTomb × IsCodedRow statics)
+IsItem (PartItem key pt statics) = IsPartKey key × (IfSome pt IsTomb × IsCodedRow statics)
 IsItem (RowItem key row) = IsKey key × IsCodedRow row
 IsItem (ChangeItem x tomb) = IsPos x × IfSome tomb IsTomb
 IsItem (EntryItem key off blocks) = (off < 2 ^ 64) × (blocks < 2 ^ 32)

@@ -1,24 +1,16 @@
 -- What reading the front of bytes answers.
-use Rattle.std.specs.Prelude.{◌≡◌, ◌<◌, ◌≤◌, ◌^◌, ℕ, List, ◌∷◌, ◌++◌, length, drop, Option, Some, None, IfSome, IsTrue}
+use Rattle.std.specs.Prelude.{◌≡◌, ◌<◌, ◌^◌, ℕ, List, ◌++◌, length, drop, Option, Some, None, IfSome, IsTrue}
 use Rattle.rc_rowcode.specs.Spelling.{length_code, optional_code, tomb_code, row_code, IsTomb, IsCodedRow}
 use Rattle.rc_schema.specs.SchemaValue.{SchemaValue, is_schema}
 use Rattle.rc_schema.specs.SchemaText.{schema_text}
 use Rattle.rc_mutation.specs.declared.fragments.Head.{Head}
 use Rattle.rc_tfile.specs.declared.reading.Part.{Part}
-use Rattle.rc_tfile.specs.Items.{Item, PartItem}
+use Rattle.rc_tfile.specs.Items.{Item, PartItem, bytes_code, IsPartKey}
 
 -- the value whose spelling the bytes begin with, and its length; none where they begin with no value's spelling
 abbrev pub Starts : {X : Type 0} → (X → List ℕ) → (X → Type 0) → List ℕ → Option (X × ℕ) → Type 0
 Starts {X} code is bytes None = (x : X) (more : List ℕ) → is x → bytes ≡ code x ++ more → ⊥
 Starts code is bytes (Some found) = is found.0 × (bytes ≡ code found.0 ++ drop found.1 bytes) × (found.1 ≡ length (code found.0))
-
--- bytes behind their number in one byte
-abbrev pub bytes_code : List ℕ → List ℕ
-bytes_code bytes = length bytes ∷ bytes
-
--- a partition key has 1 to 64 bytes
-abbrev pub IsPartKey : List ℕ → Type 0
-IsPartKey key = (1 ≤ length key) × (length key ≤ 64)
 
 -- a part's item, and what it has behind its first byte
 abbrev pub part_item : Part → Item

@@ -3,8 +3,7 @@
 ghost use Rattle.std.specs.Prelude.{◌≡◌, ◌<◌, ◌^◌, ◌++◌, length, OnOk};
 ghost use Rattle.rc_schema.specs.SchemaText.{schema_text};
 ghost use Rattle.rc_rowcode.specs.Spelling.{length_code, time_code, optional_code, tomb_code, KeyFits, RowFits};
-ghost use Rattle.rc_tfile.specs.Items.{offset_code, item_code, HeadItem, PartItem, RowItem, ChangeItem, EntryItem, BlockItem, TailItem, IsItem};
-ghost use Rattle.rc_tfile.specs.Reading.{bytes_code};
+ghost use Rattle.rc_tfile.specs.Items.{offset_code, item_code, HeadItem, PartItem, RowItem, ChangeItem, EntryItem, BlockItem, TailItem, IsItem, bytes_code};
 
 use crate::blocks::Block;
 use rc_cell::{Row, Tomb};

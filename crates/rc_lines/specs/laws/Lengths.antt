@@ -21,11 +21,9 @@ use Rattle.rc_rowcode.specs.Spelling.{IsTomb}
 use Rattle.rc_schema.specs.Checks.{is_short, has_short_value}
 use Rattle.rc_schema.specs.declared.kinds.CkKind.{CkKind}
 use Rattle.rc_schema.specs.declared.kinds.CkKind.TheVariants.{Int, Text}
-use Rattle.rc_schema.specs.SchemaValue.{SchemaValue, is_name}
-use Rattle.rc_schema.specs.Tests.{is_name_byte}
+use Rattle.rc_schema.specs.SchemaValue.{SchemaValue, is_name, is_name_byte}
 use Rattle.rc_schema.specs.SchemaText.{kind_text, names_text, schema_text}
-use Rattle.rc_spelling.specs.Printed.{IsComponent, bytes_of_component, stands_for_itself, hexadecimal, printed, component_text}
-use Rattle.rc_spelling.specs.Glyphs.{spelled_byte}
+use Rattle.rc_spelling.specs.Printed.{IsComponent, bytes_of_component, stands_for_itself, hexadecimal, printed, component_text, spelled_byte}
 use Rattle.rc_lines.specs.declared.shapes.Change.TheVariants.{OfRow, OfStatic, OfRange, OfPartition}
 use Rattle.rc_lines.specs.declared.shapes.Shape.TheVariants.{Open, Written}
 use Rattle.rc_lines.specs.declared.shapes.Stamp.{Stamp}

@@ -35,8 +35,7 @@ use Rattle.rc_ranges.specs.declared.pieces.Piece.{Piece}
 use Rattle.rc_schema.specs.declared.kinds.CkKind.{CkKind}
 use Rattle.rc_schema.specs.declared.kinds.CkKind.TheVariants.{Int, Text}
 use Rattle.rc_schema.specs.Checks.{is_of_kind, are_of_kinds, fits_kinds, is_short, column_count, is_key_of, are_cells_of}
-use Rattle.rc_schema.specs.SchemaValue.{SchemaValue, is_name, are_distinct_by, is_schema}
-use Rattle.rc_schema.specs.Tests.{are_few, are_names}
+use Rattle.rc_schema.specs.SchemaValue.{SchemaValue, is_name, are_distinct_by, is_schema, are_few, are_names}
 use Rattle.rc_spelling.specs.Words.{is_word}
 use Rattle.rc_schema.specs.laws.SchemaTexts.{text_reads_back}
 use Rattle.rc_schema.specs.SchemaText.{schema_text}

@@ -14,10 +14,8 @@ use Rattle.std.proofs.lemmas.List.Elements.{All-from_recursion, All-nil, All-con
 use Rattle.std.proofs.lemmas.List.Splits.{slice_split_none, slice_split_at}
 use Rattle.std.proofs.lemmas.Str.Parse.{digit_from_value}
 use Rattle.rc_position.specs.declared.comps.Comp.TheVariants.{Text}
-use Rattle.rc_schema.specs.SchemaValue.{is_name}
-use Rattle.rc_schema.specs.Tests.{is_name_byte}
-use Rattle.rc_spelling.specs.Printed.{stands_for_itself, hexadecimal, printed, component_text}
-use Rattle.rc_spelling.specs.Glyphs.{spelled_byte}
+use Rattle.rc_schema.specs.SchemaValue.{is_name, is_name_byte}
+use Rattle.rc_spelling.specs.Printed.{stands_for_itself, hexadecimal, printed, component_text, spelled_byte}
 use Rattle.rc_spelling.specs.Words.{words}
 use Rattle.rc_lines.specs.Sayable.{prefix_word}
 use Rattle.rc_lines.specs.laws.Halves.{both}

@@ -22,8 +22,7 @@ use Rattle.rc_schema.specs.declared.kinds.CkKind.{CkKind}
 use Rattle.rc_schema.specs.declared.kinds.CkKind.TheVariants.{Int, Text}
 use Rattle.rc_schema.specs.declared.checks.SchemaErr.{SchemaErr}
 use Rattle.rc_schema.specs.declared.checks.SchemaErr.TheVariants.{WrongKey, UnknownColumn, TooLong}
-use Rattle.rc_schema.specs.SchemaValue.{SchemaValue, is_schema}
-use Rattle.rc_schema.specs.Tests.{are_few, are_names}
+use Rattle.rc_schema.specs.SchemaValue.{SchemaValue, is_schema, are_few, are_names}
 use Rattle.rc_schema.specs.Checks.{is_of_kind, are_of_kinds, fits_kinds, is_short, has_short_value, is_key_of, are_cells_of, checked_prefix, checked_cells, column_count}
 use Rattle.rc_schema.specs.Largest.{component_size, components_size, cells_size, largest_entry, largest_static}
 

@@ -11,10 +11,10 @@ use Rattle.std.proofs.lemmas.List.Splits.{slice_split-cons_yes, slice_split-cons
 use Rattle.std.proofs.lemmas.List.Folds.{list_all-append}
 use Rattle.rc_schema.specs.declared.kinds.CkKind.{CkKind}
 use Rattle.rc_schema.specs.declared.kinds.CkKind.TheVariants.{Int, Text}
-use Rattle.rc_schema.specs.SchemaValue.{SchemaValue, is_name, are_distinct_by, is_schema}
+use Rattle.rc_schema.specs.SchemaValue.{SchemaValue, is_name, are_distinct_by, is_schema, is_name_byte, are_names}
 use Rattle.rc_spelling.specs.Words.{is_word, words, each_of}
 use Rattle.rc_schema.specs.SchemaText.{kind_text, names_text, schema_text, read_kind, names_of, schema_listed, schema_of_words, schema_of}
-use Rattle.rc_schema.specs.Tests.{is_name_byte, are_names, is_kind, kind_named, lists_named, are_listed, begins, marked}
+use Rattle.rc_schema.specs.calls.Tests.{is_kind, kind_named, lists_named, are_listed, begins, marked}
 
 both : (b c : Bool) → b && c ≡ true → (b ≡ true) × (c ≡ true)
 both true c h = (refl, h)

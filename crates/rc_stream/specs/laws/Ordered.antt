@@ -16,9 +16,11 @@ use Rattle.rc_mutation.specs.Fragments.{place_order, tomb_after}
 use Rattle.rc_stream.specs.Stream.{force, is_passed, row_at}
 use Rattle.rc_stream.specs.Merging.{IsInner, IsOrdered, StandsBefore, place_of, rows_here}
 
+-- where a fragment stands: its position, and its turn among those of that position
 abbrev pub Place : Type 0
 Place = Pos × ℕ
 
+-- one place is before another
 abbrev pub Lt : Place → Place → Type 0
 Lt p q = place_order p q ≡ Less
 

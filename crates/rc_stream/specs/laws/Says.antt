@@ -74,6 +74,7 @@ pub rows-opening : (x y : Pos) (tomb : Option Tomb) (fs : List Frag) → flat_ma
 rows-opening x y None fs = refl
 rows-opening x y (Some tomb) fs = refl
 
+-- what is said at a position: the rows there, and the tombstone in force
 abbrev said : List Row → Option Tomb → List Row × Option Tomb
 said rows tomb = (rows, tomb)
 

@@ -41,6 +41,7 @@ onward-ordered x (f ∷ fs) o =
       | false ↦ λ e. (let h = behind_seek x f o.0 e in (o, (h, before-through (x, 0) (place_of f) fs h o.1)))
     ] refl
 
+-- what is left of fragments once x was sought
 abbrev pub sought_left : Pos → Option Tomb → List Frag → List Frag
 sought_left x tomb fs = opening x (force x tomb fs) ++ onward x fs
 

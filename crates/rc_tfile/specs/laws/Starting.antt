@@ -7,7 +7,8 @@ use Rattle.rc_rowcode.specs.Spelling.{ReadsPrefix, optional_code, tomb_code, key
 use Rattle.rc_rowcode.specs.laws.Codecs.{tomb_codec, optional_codec, key_codec, pos_codec}
 use Rattle.rc_rowcode.specs.laws.RowCodec.{row_codec}
 use Rattle.rc_rowcode.specs.laws.Read.{one_spelling}
-use Rattle.rc_tfile.specs.Reading.{bytes_code, IsPartKey, Starts}
+use Rattle.rc_tfile.specs.Reading.{Starts}
+use Rattle.rc_tfile.specs.Items.{bytes_code, IsPartKey}
 
 -- no spelling begins another
 abbrev pub PrefixFree : {X : Type 0} → (X → List ℕ) → (X → Type 0) → Type 0

@@ -9,7 +9,7 @@ use Rattle.rc_stream.specs.Stream.{first_upto, is_upto}
 use Rattle.rc_cacheread.specs.declared.readers.Stage.TheVariants.{Within}
 use Rattle.rc_cacheread.specs.declared.spots.Found.{Found}
 use Rattle.rc_cacheread.specs.Below.{Tells, TookFound, near_of}
-use Rattle.rc_cacheread.specs.Did.{OneCall}
+use Rattle.rc_cacheread.specs.Did.{ReaderCall}
 use Rattle.rc_cacheread.specs.Sharing.{of_below, of_filler, of_known}
 use Rattle.rc_cacheread.specs.Spots.{stand}
 use Rattle.rc_cacheread.proofs.Chains.{chain-none, chain-one, many-many, one}
@@ -29,7 +29,7 @@ returns-in-Err-clause-did g c = λ y covers.
     let r = c.args.reader.now in
     let h = c.args.home.now in
     let w = c.args.store.now in
-    chain-none (OneCall kn be fi (OfNext y)) false (r.known, r.below, r.filler, h, w)
+    chain-none (ReaderCall kn be fi (OfNext y)) false (r.known, r.below, r.filler, h, w)
 
 pub take_found-requires-clause-ready : goal.take_found-requires-clause-ready
 take_found-requires-clause-ready g c =
@@ -84,8 +84,8 @@ returns-in-Ok-next-clause-did g c = λ y covers.
     let w = c.args.store.now in
     let near : c.in-Ok.near ≡ near_of c.args.upto.now c.args.end = c.in-Ok.ensures in
     let e = end-on kn be fi r h w c.args.upto.now (near_of c.args.upto.now c.args.end) y c.requires.idle c.requires.stage (near-is c.args.upto.now c.args.end).0 (reach-through (near_of c.args.upto.now c.args.end) c.args.end r.to (near-within c.args.upto.now c.args.end) c.requires.inside) (no-whole kn be fi r h c.requires.idle c.requires.within c.requires.missing) covers in
-    many-many (OneCall kn be fi (OfNext y)) (r.known, r.below, r.filler, h, w) (r.known, c.next.new.self, r.filler, c.next.new.home, c.next.new.store) (r.known, c.next.new.self, c.take_found.new.filler, c.take_found.new.home, c.next.new.store)
-    (one (OneCall kn be fi (OfNext y)) (r.known, r.below, r.filler, h, w) (r.known, c.next.new.self, r.filler, c.next.new.home, c.next.new.store) (below-call kn be fi (OfNext y) r.known r.filler true r.below c.next.new.self h c.next.new.home w c.next.new.store (OfNext y) (inl refl) (c.in-Ok-next.ensures.did y (subst (λ x. ReachesEnd (be.seen r.below h w) x y) (sym near) e))))
+    many-many (ReaderCall kn be fi (OfNext y)) (r.known, r.below, r.filler, h, w) (r.known, c.next.new.self, r.filler, c.next.new.home, c.next.new.store) (r.known, c.next.new.self, c.take_found.new.filler, c.take_found.new.home, c.next.new.store)
+    (one (ReaderCall kn be fi (OfNext y)) (r.known, r.below, r.filler, h, w) (r.known, c.next.new.self, r.filler, c.next.new.home, c.next.new.store) (below-call kn be fi (OfNext y) r.known r.filler true r.below c.next.new.self h c.next.new.home w c.next.new.store (OfNext y) (inl refl) (c.in-Ok-next.ensures.did y (subst (λ x. ReachesEnd (be.seen r.below h w) x y) (sym near) e))))
     (fill-calls kn be fi (OfNext y) r.known c.next.new.self c.next.new.store r.filler c.take_found.new.filler c.next.new.home c.take_found.new.home c.take_found.ensures.did)
 
 pub returns-in-Ok-next-clause-ready : goal.returns-in-Ok-next-clause-ready
@@ -142,7 +142,7 @@ returns-in-Err-next-clause-did g c = λ y covers.
     let r = c.args.reader.now in
     let h = c.args.home.now in
     let w = c.args.store.now in
-    chain-one (OneCall kn be fi (OfNext y)) false (r.known, r.below, r.filler, h, w) (r.known, c.next.new.self, r.filler, c.next.new.home, c.next.new.store) (below-call kn be fi (OfNext y) r.known r.filler false r.below c.next.new.self h c.next.new.home w c.next.new.store (OfNext y) (inl refl) (c.in-Err-next.ensures.did y (subst (λ x. ReachesEnd (be.seen r.below h w) x y) (sym c.in-Ok.ensures) (end-on kn be fi r h w c.args.upto.now (near_of c.args.upto.now c.args.end) y c.requires.idle c.requires.stage (near-is c.args.upto.now c.args.end).0 (reach-through (near_of c.args.upto.now c.args.end) c.args.end r.to (near-within c.args.upto.now c.args.end) c.requires.inside) (no-whole kn be fi r h c.requires.idle c.requires.within c.requires.missing) covers))))
+    chain-one (ReaderCall kn be fi (OfNext y)) false (r.known, r.below, r.filler, h, w) (r.known, c.next.new.self, r.filler, c.next.new.home, c.next.new.store) (below-call kn be fi (OfNext y) r.known r.filler false r.below c.next.new.self h c.next.new.home w c.next.new.store (OfNext y) (inl refl) (c.in-Err-next.ensures.did y (subst (λ x. ReachesEnd (be.seen r.below h w) x y) (sym c.in-Ok.ensures) (end-on kn be fi r h w c.args.upto.now (near_of c.args.upto.now c.args.end) y c.requires.idle c.requires.stage (near-is c.args.upto.now c.args.end).0 (reach-through (near_of c.args.upto.now c.args.end) c.args.end r.to (near-within c.args.upto.now c.args.end) c.requires.inside) (no-whole kn be fi r h c.requires.idle c.requires.within c.requires.missing) covers))))
 
 pub returns-in-Err-next-clause-ready : goal.returns-in-Err-next-clause-ready
 returns-in-Err-next-clause-ready g c =

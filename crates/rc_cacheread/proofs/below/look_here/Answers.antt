@@ -6,7 +6,7 @@ use Rattle.rc_stream.specs.Places.{Reaches}
 use Rattle.rc_cacheread.specs.declared.readers.Stage.TheVariants.{Sought, Within}
 use Rattle.rc_cacheread.specs.declared.spots.Step.TheVariants as step
 use Rattle.rc_cacheread.specs.Below.{TellsHere, TookHere}
-use Rattle.rc_cacheread.specs.Did.{OneCall}
+use Rattle.rc_cacheread.specs.Did.{ReaderCall}
 use Rattle.rc_cacheread.specs.Sharing.{Leads, of_below, of_filler, of_known}
 use Rattle.rc_cacheread.specs.Spots.{stand}
 use Rattle.rc_cacheread.proofs.Chains.{chain-one, many-many, one}
@@ -64,8 +64,8 @@ returns-in-Ok-clause-did g c = λ y covers.
     let h = c.args.home.now in
     let w = c.args.store.now in
     let on = end-reaches kn be fi r h w c.args.upto.now y c.requires.idle c.requires.near covers in
-    many-many (OneCall kn be fi (OfNext y)) (r.known, r.below, r.filler, h, w) (r.known, c.next.new.self, r.filler, c.next.new.home, c.next.new.store) (r.known, c.next.new.self, c.take_here.new.filler, c.take_here.new.home, c.next.new.store)
-    (one (OneCall kn be fi (OfNext y)) (r.known, r.below, r.filler, h, w) (r.known, c.next.new.self, r.filler, c.next.new.home, c.next.new.store) (below-call kn be fi (OfNext y) r.known r.filler true r.below c.next.new.self h c.next.new.home w c.next.new.store (OfNext y) (inl refl) (c.in-Ok.ensures.did y (inl on))))
+    many-many (ReaderCall kn be fi (OfNext y)) (r.known, r.below, r.filler, h, w) (r.known, c.next.new.self, r.filler, c.next.new.home, c.next.new.store) (r.known, c.next.new.self, c.take_here.new.filler, c.take_here.new.home, c.next.new.store)
+    (one (ReaderCall kn be fi (OfNext y)) (r.known, r.below, r.filler, h, w) (r.known, c.next.new.self, r.filler, c.next.new.home, c.next.new.store) (below-call kn be fi (OfNext y) r.known r.filler true r.below c.next.new.self h c.next.new.home w c.next.new.store (OfNext y) (inl refl) (c.in-Ok.ensures.did y (inl on))))
     (fill-calls kn be fi (OfNext y) r.known c.next.new.self c.next.new.store r.filler c.take_here.new.filler c.next.new.home c.take_here.new.home c.take_here.ensures.did)
 
 pub returns-in-Ok-clause-ready : goal.returns-in-Ok-clause-ready
@@ -120,7 +120,7 @@ returns-in-Err-clause-did g c = λ y covers.
     let r = c.args.reader.now in
     let h = c.args.home.now in
     let w = c.args.store.now in
-    chain-one (OneCall kn be fi (OfNext y)) false (r.known, r.below, r.filler, h, w) (r.known, c.next.new.self, r.filler, c.next.new.home, c.next.new.store) (below-call kn be fi (OfNext y) r.known r.filler false r.below c.next.new.self h c.next.new.home w c.next.new.store (OfNext y) (inl refl) (c.in-Err.ensures.did y (inl (end-reaches kn be fi r h w c.args.upto.now y c.requires.idle c.requires.near covers))))
+    chain-one (ReaderCall kn be fi (OfNext y)) false (r.known, r.below, r.filler, h, w) (r.known, c.next.new.self, r.filler, c.next.new.home, c.next.new.store) (below-call kn be fi (OfNext y) r.known r.filler false r.below c.next.new.self h c.next.new.home w c.next.new.store (OfNext y) (inl refl) (c.in-Err.ensures.did y (inl (end-reaches kn be fi r h w c.args.upto.now y c.requires.idle c.requires.near covers))))
 
 pub returns-in-Err-clause-ready : goal.returns-in-Err-clause-ready
 returns-in-Err-clause-ready g c =

@@ -2,7 +2,7 @@
 use Rattle.std.proofs.Common.{true, false, refl, sym, ap, ◌∙◌, subst, inr}
 use Rattle.rc_stream.specs.Did.{OfNext, OfSeek}
 use Rattle.rc_stream.specs.Places.{Reaches}
-use Rattle.rc_cacheread.specs.Did.{OneCall}
+use Rattle.rc_cacheread.specs.Did.{ReaderCall}
 use Rattle.rc_cacheread.specs.Sharing.{of_below, of_filler, of_known}
 use Rattle.rc_cacheread.specs.Spots.{stand}
 use Rattle.rc_cacheread.proofs.Chains.{chain-one}
@@ -35,7 +35,7 @@ returns-in-Ok-clause-did g c = λ y on.
     let r = c.args.reader.now in
     let h = c.args.home.now in
     let w = c.args.store.now in
-    chain-one (OneCall kn be fi (OfNext y)) true (r.known, r.below, r.filler, h, w) (r.known, c.seek.new.self, r.filler, c.seek.new.home, c.seek.new.store) (below-call kn be fi (OfNext y) r.known r.filler true r.below c.seek.new.self h c.seek.new.home w c.seek.new.store (OfSeek r.spot.place) (inr (r.spot.place, refl, on)) c.in-Ok.ensures.did)
+    chain-one (ReaderCall kn be fi (OfNext y)) true (r.known, r.below, r.filler, h, w) (r.known, c.seek.new.self, r.filler, c.seek.new.home, c.seek.new.store) (below-call kn be fi (OfNext y) r.known r.filler true r.below c.seek.new.self h c.seek.new.home w c.seek.new.store (OfSeek r.spot.place) (inr (r.spot.place, refl, on)) c.in-Ok.ensures.did)
 
 pub returns-in-Ok-clause-knows : goal.returns-in-Ok-clause-knows
 returns-in-Ok-clause-knows g c =
@@ -79,7 +79,7 @@ returns-in-Err-clause-did g c = λ y on.
     let r = c.args.reader.now in
     let h = c.args.home.now in
     let w = c.args.store.now in
-    chain-one (OneCall kn be fi (OfNext y)) false (r.known, r.below, r.filler, h, w) (r.known, c.seek.new.self, r.filler, c.seek.new.home, c.seek.new.store) (below-call kn be fi (OfNext y) r.known r.filler false r.below c.seek.new.self h c.seek.new.home w c.seek.new.store (OfSeek r.spot.place) (inr (r.spot.place, refl, on)) c.in-Err.ensures.did)
+    chain-one (ReaderCall kn be fi (OfNext y)) false (r.known, r.below, r.filler, h, w) (r.known, c.seek.new.self, r.filler, c.seek.new.home, c.seek.new.store) (below-call kn be fi (OfNext y) r.known r.filler false r.below c.seek.new.self h c.seek.new.home w c.seek.new.store (OfSeek r.spot.place) (inr (r.spot.place, refl, on)) c.in-Err.ensures.did)
 
 pub returns-in-Err-clause-knows : goal.returns-in-Err-clause-knows
 returns-in-Err-clause-knows g c =

@@ -3,7 +3,7 @@ use Rattle.std.proofs.Common.{true, false, refl, sym, ◌∙◌, subst}
 use Rattle.rc_stream.specs.Did.{OfSeek}
 use Rattle.rc_stream.specs.Places.{Reaches}
 use Rattle.rc_cacheread.specs.Did.{KnownStep}
-use Rattle.rc_cacheread.specs.Sharing.{IsAt}
+use Rattle.rc_cacheread.specs.Sharing.{IsPlaceAt}
 use Rattle.rc_cacheread.proofs.Chains.{chain-none, chain-one}
 use Rattle.rc_cacheread.proofs.Going.{at-lags}
 use Rattle.rc_cacheread.proofs.parts.catch_up.Goals as goal
@@ -18,4 +18,4 @@ pub returns-in-Err-clause-did : goal.returns-in-Err-clause-did
 returns-in-Err-clause-did g c = chain-one (KnownStep g.K.Known.did) false (c.args.known.now, c.args.home.now) (c.pass.new.self, c.pass.new.home) (OfSeek c.args.place.now, c.in-Err.ensures.did)
 
 pub returns-in-Err-clause-err : goal.returns-in-Err-clause-err
-returns-in-Err-clause-err g c = subst (λ p. IsAt c.args.lags.now p c.args.place.now) (sym c.in-Err.ensures.err) c.requires.at
+returns-in-Err-clause-err g c = subst (λ p. IsPlaceAt c.args.lags.now p c.args.place.now) (sym c.in-Err.ensures.err) c.requires.at

@@ -7,7 +7,7 @@ use Rattle.rc_stream.specs.Did.{OfNext}
 use Rattle.rc_stream.specs.Places.{Reaches}
 use Rattle.rc_stream.specs.Snapshot.{IsPartFrom, place_behind}
 use Rattle.rc_cacheread.specs.Did.{KnownStep}
-use Rattle.rc_cacheread.specs.Sharing.{IsAt}
+use Rattle.rc_cacheread.specs.Sharing.{IsPlaceAt}
 use Rattle.rc_cacheread.proofs.Chains.{chain-after, chain-one}
 use Rattle.rc_cacheread.proofs.Orders.{before-reach}
 use Rattle.rc_cacheread.proofs.Parting.{part-on, same-same}
@@ -20,7 +20,7 @@ pub returns-in-Ok-clause-part : goal.returns-in-Ok-clause-part
 returns-in-Ok-clause-part g c = part-on (g.K.Known.knows c.args.known.now c.args.home.now) (g.K.Known.knows c.catch_up.new.known c.catch_up.new.home) c.args.place.now c.args.to.now c.next_known.result c.catch_up.ensures.knows (subst (λ x. IfOk c.next_known.result (IsPartFrom (g.K.Known.knows c.catch_up.new.known c.catch_up.new.home) x c.args.to.now)) c.in-Ok.ensures.ok c.next_known.ensures.part)
 
 pub returns-in-Ok-clause-at : goal.returns-in-Ok-clause-at
-returns-in-Ok-clause-at g c = subst (λ b. IsAt b (g.K.Known.place c.next_known.new.self) (place_behind c.next_known.result c.args.place.now)) (sym c.in-Ok.ensures.lags) (c.next_known.ensures.place ∙ ap (place_behind c.next_known.result) c.in-Ok.ensures.ok)
+returns-in-Ok-clause-at g c = subst (λ b. IsPlaceAt b (g.K.Known.place c.next_known.new.self) (place_behind c.next_known.result c.args.place.now)) (sym c.in-Ok.ensures.lags) (c.next_known.ensures.place ∙ ap (place_behind c.next_known.result) c.in-Ok.ensures.ok)
 
 pub returns-in-Ok-clause-knows : goal.returns-in-Ok-clause-knows
 returns-in-Ok-clause-knows g c = same-same (g.K.Known.knows c.args.known.now c.args.home.now) (g.K.Known.knows c.catch_up.new.known c.catch_up.new.home) (g.K.Known.knows c.next_known.new.self c.next_known.new.home) c.catch_up.ensures.knows c.next_known.ensures.knows

@@ -9,10 +9,10 @@ use Rattle.rc_stream.specs.Did.{OfNext, answered}
 use Rattle.rc_stream.specs.Places.{Reaches}
 use Rattle.rc_stream.specs.Snapshot.{IsPartFrom, place_behind}
 use Rattle.rc_cacheread.specs.declared.readers.Stage.TheVariants.{Away}
-use Rattle.rc_cacheread.specs.Did.{OneCall, state}
+use Rattle.rc_cacheread.specs.Did.{ReaderCall, reader_state}
 use Rattle.rc_cacheread.specs.Reading.{behind_row}
-use Rattle.rc_cacheread.specs.Sharing.{IsAt, of_below, of_filler, of_known}
-use Rattle.rc_cacheread.specs.Spots.{behind, front, row_due, stand, told_of}
+use Rattle.rc_cacheread.specs.Sharing.{IsPlaceAt, of_below, of_filler, of_known}
+use Rattle.rc_cacheread.specs.Spots.{past_row, front, row_due, stand, tomb_told}
 use Rattle.rc_cacheread.proofs.Chains.{chain-after}
 use Rattle.rc_cacheread.proofs.Going.{append-none, front-changed, told-elsewhere}
 use Rattle.rc_cacheread.proofs.Idle.{idle-front, idle-stand}
@@ -36,7 +36,7 @@ returns-in-Ok-Row-clause-says g c = λ z v.
     let q = c.read_row.ensures in
     let d : IsPartFrom (kn.knows r.known h) r.spot.place r.to (part.Row c.in-Ok-Row.key c.in-Ok-Row.row c.in-Ok-Row.tomb) = subst (IsPartFrom (kn.knows r.known h) r.spot.place r.to) c.in-Ok-Row.field-0-is c.in-Ok-Row.ensures.part in
     let at : s.place ≡ row_pos c.in-Ok-Row.key = q.place ∙ d.1 in
-    let stands : stand s ≡ behind_row c.in-Ok-Row.key = λ i. behind (q.row i) (at i) in
+    let stands : stand s ≡ behind_row c.in-Ok-Row.key = λ i. past_row (q.row i) (at i) in
     let on : Reaches (stand r.spot) (stand s) = subst (λ (z : Pos × Pos). Reaches z.0 z.1) (λ i. (sym (idle-stand r.spot c.requires.idle ∙ d.1) i, sym stands i)) (before-reach (row_pos c.in-Ok-Row.key) (behind_row c.in-Ok-Row.key) (behind-its-row c.in-Ok-Row.key)) in
     let left = known-left kn be fi c.requires.ready.shares r.below r.filler w true (r.known, h) (c.next_part.new.known, c.next_part.new.home) c.in-Ok-Row.ensures.did c.requires.ready.fit in
     let carries = carries-away (be.seen r.below h w) (be.seen r.below c.next_part.new.home w) r.stage (stand r.spot) (stand s) r.spot.tomb s.tomb left.seen in
@@ -68,11 +68,11 @@ returns-in-Ok-Row-clause-ready g c =
     let q = c.read_row.ensures in
     let d : IsPartFrom (kn.knows r.known h) r.spot.place r.to (part.Row c.in-Ok-Row.key c.in-Ok-Row.row c.in-Ok-Row.tomb) = subst (IsPartFrom (kn.knows r.known h) r.spot.place r.to) c.in-Ok-Row.field-0-is c.in-Ok-Row.ensures.part in
     let at : s.place ≡ row_pos c.in-Ok-Row.key = q.place ∙ d.1 in
-    let stands : stand s ≡ behind_row c.in-Ok-Row.key = λ i. behind (q.row i) (at i) in
+    let stands : stand s ≡ behind_row c.in-Ok-Row.key = λ i. past_row (q.row i) (at i) in
     let on : Reaches (stand r.spot) (stand s) = subst (λ (z : Pos × Pos). Reaches z.0 z.1) (λ i. (sym (idle-stand r.spot c.requires.idle ∙ d.1) i, sym stands i)) (before-reach (row_pos c.in-Ok-Row.key) (behind_row c.in-Ok-Row.key) (behind-its-row c.in-Ok-Row.key)) in
     let left = known-left kn be fi c.requires.ready.shares r.below r.filler w true (r.known, h) (c.next_part.new.known, c.next_part.new.home) c.in-Ok-Row.ensures.did c.requires.ready.fit in
     let carries = carries-away (be.seen r.below h w) (be.seen r.below c.next_part.new.home w) r.stage (stand r.spot) (stand s) r.spot.tomb s.tomb left.seen in
-    ready-known kn be fi r c.next_part.new.known s Away c.next_part.new.lags h c.next_part.new.home w left c.next_part.ensures.knows on carries c.requires.ready (subst (IsAt c.next_part.new.lags (kn.place c.next_part.new.known)) (sym stands) (subst (λ p. IsAt c.next_part.new.lags (kn.place c.next_part.new.known) (place_behind (Ok p) r.spot.place)) c.in-Ok-Row.field-0-is c.in-Ok-Row.ensures.at))
+    ready-known kn be fi r c.next_part.new.known s Away c.next_part.new.lags h c.next_part.new.home w left c.next_part.ensures.knows on carries c.requires.ready (subst (IsPlaceAt c.next_part.new.lags (kn.place c.next_part.new.known)) (sym stands) (subst (λ p. IsPlaceAt c.next_part.new.lags (kn.place c.next_part.new.known) (place_behind (Ok p) r.spot.place)) c.in-Ok-Row.field-0-is c.in-Ok-Row.ensures.at))
 
 pub returns-in-Ok-Row-clause-on : goal.returns-in-Ok-Row-clause-on
 returns-in-Ok-Row-clause-on g c =
@@ -86,7 +86,7 @@ returns-in-Ok-Row-clause-on g c =
     let q = c.read_row.ensures in
     let d : IsPartFrom (kn.knows r.known h) r.spot.place r.to (part.Row c.in-Ok-Row.key c.in-Ok-Row.row c.in-Ok-Row.tomb) = subst (IsPartFrom (kn.knows r.known h) r.spot.place r.to) c.in-Ok-Row.field-0-is c.in-Ok-Row.ensures.part in
     let at : s.place ≡ row_pos c.in-Ok-Row.key = q.place ∙ d.1 in
-    let stands : stand s ≡ behind_row c.in-Ok-Row.key = λ i. behind (q.row i) (at i) in
+    let stands : stand s ≡ behind_row c.in-Ok-Row.key = λ i. past_row (q.row i) (at i) in
     let on : Reaches (stand r.spot) (stand s) = subst (λ (z : Pos × Pos). Reaches z.0 z.1) (λ i. (sym (idle-stand r.spot c.requires.idle ∙ d.1) i, sym stands i)) (before-reach (row_pos c.in-Ok-Row.key) (behind_row c.in-Ok-Row.key) (behind-its-row c.in-Ok-Row.key)) in
     on
 
@@ -101,7 +101,7 @@ returns-in-Ok-Gap-clause-says g c = λ z v.
     let s = c.go_over.new.self in
     let q = c.go_over.ensures in
     let d : IsPartFrom (kn.knows r.known h) r.spot.place r.to (part.Gap c.in-Ok-Gap.to c.in-Ok-Gap.tomb) = subst (IsPartFrom (kn.knows r.known h) r.spot.place r.to) c.in-Ok-Gap.field-0-is c.in-Ok-Gap.ensures.part in
-    let stands : stand s ≡ c.in-Ok-Gap.to = ap (λ z. behind z s.place) (q.row ∙ c.requires.idle.row) ∙ q.place in
+    let stands : stand s ≡ c.in-Ok-Gap.to = ap (λ z. past_row z s.place) (q.row ∙ c.requires.idle.row) ∙ q.place in
     let on : Reaches (stand r.spot) (stand s) = subst (λ (z : Pos × Pos). Reaches z.0 z.1) (λ i. (sym (idle-stand r.spot c.requires.idle) i, sym stands i)) (before-reach r.spot.place c.in-Ok-Gap.to d.0.0) in
     let left = known-left kn be fi c.requires.ready.shares r.below r.filler w true (r.known, h) (c.next_part.new.known, c.next_part.new.home) c.in-Ok-Gap.ensures.did c.requires.ready.fit in
     let carries = carries-away (be.seen r.below h w) (be.seen r.below c.next_part.new.home w) r.stage (stand r.spot) (stand s) r.spot.tomb s.tomb left.seen in
@@ -131,11 +131,11 @@ returns-in-Ok-Gap-clause-ready g c =
     let s = c.go_over.new.self in
     let q = c.go_over.ensures in
     let d : IsPartFrom (kn.knows r.known h) r.spot.place r.to (part.Gap c.in-Ok-Gap.to c.in-Ok-Gap.tomb) = subst (IsPartFrom (kn.knows r.known h) r.spot.place r.to) c.in-Ok-Gap.field-0-is c.in-Ok-Gap.ensures.part in
-    let stands : stand s ≡ c.in-Ok-Gap.to = ap (λ z. behind z s.place) (q.row ∙ c.requires.idle.row) ∙ q.place in
+    let stands : stand s ≡ c.in-Ok-Gap.to = ap (λ z. past_row z s.place) (q.row ∙ c.requires.idle.row) ∙ q.place in
     let on : Reaches (stand r.spot) (stand s) = subst (λ (z : Pos × Pos). Reaches z.0 z.1) (λ i. (sym (idle-stand r.spot c.requires.idle) i, sym stands i)) (before-reach r.spot.place c.in-Ok-Gap.to d.0.0) in
     let left = known-left kn be fi c.requires.ready.shares r.below r.filler w true (r.known, h) (c.next_part.new.known, c.next_part.new.home) c.in-Ok-Gap.ensures.did c.requires.ready.fit in
     let carries = carries-away (be.seen r.below h w) (be.seen r.below c.next_part.new.home w) r.stage (stand r.spot) (stand s) r.spot.tomb s.tomb left.seen in
-    ready-known kn be fi r c.next_part.new.known s Away c.next_part.new.lags h c.next_part.new.home w left c.next_part.ensures.knows on carries c.requires.ready (subst (IsAt c.next_part.new.lags (kn.place c.next_part.new.known)) (sym stands) (subst (λ p. IsAt c.next_part.new.lags (kn.place c.next_part.new.known) (place_behind (Ok p) r.spot.place)) c.in-Ok-Gap.field-0-is c.in-Ok-Gap.ensures.at))
+    ready-known kn be fi r c.next_part.new.known s Away c.next_part.new.lags h c.next_part.new.home w left c.next_part.ensures.knows on carries c.requires.ready (subst (IsPlaceAt c.next_part.new.lags (kn.place c.next_part.new.known)) (sym stands) (subst (λ p. IsPlaceAt c.next_part.new.lags (kn.place c.next_part.new.known) (place_behind (Ok p) r.spot.place)) c.in-Ok-Gap.field-0-is c.in-Ok-Gap.ensures.at))
 
 pub returns-in-Ok-Gap-clause-on : goal.returns-in-Ok-Gap-clause-on
 returns-in-Ok-Gap-clause-on g c =
@@ -148,7 +148,7 @@ returns-in-Ok-Gap-clause-on g c =
     let s = c.go_over.new.self in
     let q = c.go_over.ensures in
     let d : IsPartFrom (kn.knows r.known h) r.spot.place r.to (part.Gap c.in-Ok-Gap.to c.in-Ok-Gap.tomb) = subst (IsPartFrom (kn.knows r.known h) r.spot.place r.to) c.in-Ok-Gap.field-0-is c.in-Ok-Gap.ensures.part in
-    let stands : stand s ≡ c.in-Ok-Gap.to = ap (λ z. behind z s.place) (q.row ∙ c.requires.idle.row) ∙ q.place in
+    let stands : stand s ≡ c.in-Ok-Gap.to = ap (λ z. past_row z s.place) (q.row ∙ c.requires.idle.row) ∙ q.place in
     let on : Reaches (stand r.spot) (stand s) = subst (λ (z : Pos × Pos). Reaches z.0 z.1) (λ i. (sym (idle-stand r.spot c.requires.idle) i, sym stands i)) (before-reach r.spot.place c.in-Ok-Gap.to d.0.0) in
     on
 
@@ -162,7 +162,7 @@ read_below-requires-clause-ready g c =
     let w = c.args.store.now in
     let left = known-left kn be fi c.requires.ready.shares r.below r.filler w true (r.known, h) (c.next_part.new.known, c.next_part.new.home) c.in-Ok-Missing.ensures.did c.requires.ready.fit in
     let carries = carries-same (be.seen r.below h w) (be.seen r.below c.next_part.new.home w) r.stage (stand r.spot) r.spot.tomb left.seen in
-    ready-known kn be fi r c.next_part.new.known r.spot r.stage c.next_part.new.lags h c.next_part.new.home w left c.next_part.ensures.knows (reach-itself (stand r.spot)) carries c.requires.ready (subst (IsAt c.next_part.new.lags (kn.place c.next_part.new.known)) (sym (idle-stand r.spot c.requires.idle)) (subst (λ p. IsAt c.next_part.new.lags (kn.place c.next_part.new.known) (place_behind (Ok p) r.spot.place)) c.in-Ok-Missing.field-0-is c.in-Ok-Missing.ensures.at))
+    ready-known kn be fi r c.next_part.new.known r.spot r.stage c.next_part.new.lags h c.next_part.new.home w left c.next_part.ensures.knows (reach-itself (stand r.spot)) carries c.requires.ready (subst (IsPlaceAt c.next_part.new.lags (kn.place c.next_part.new.known)) (sym (idle-stand r.spot c.requires.idle)) (subst (λ p. IsPlaceAt c.next_part.new.lags (kn.place c.next_part.new.known) (place_behind (Ok p) r.spot.place)) c.in-Ok-Missing.field-0-is c.in-Ok-Missing.ensures.at))
 
 pub returns-in-Ok-Missing-clause-says : goal.returns-in-Ok-Missing-clause-says
 returns-in-Ok-Missing-clause-says g c = λ z v.
@@ -187,7 +187,7 @@ returns-in-Ok-Missing-clause-did g c = λ y covers.
     let left = known-left kn be fi c.requires.ready.shares r.below r.filler w true (r.known, h) (c.next_part.new.known, c.next_part.new.home) c.in-Ok-Missing.ensures.did c.requires.ready.fit in
     let carries = carries-same (be.seen r.below h w) (be.seen r.below c.next_part.new.home w) r.stage (stand r.spot) r.spot.tomb left.seen in
     let n = reader_of c.next_part.new.known r.below r.filler r.to r.spot r.stage c.next_part.new.lags in
-    chain-after (OneCall kn be fi (OfNext y)) (answered c.read_below.result) (state r h w) (state n c.next_part.new.home w) (state c.read_below.new.reader c.read_below.new.home c.read_below.new.store)
+    chain-after (ReaderCall kn be fi (OfNext y)) (answered c.read_below.result) (reader_state r h w) (reader_state n c.next_part.new.home w) (reader_state c.read_below.new.reader c.read_below.new.home c.read_below.new.store)
     (known-calls kn be fi (OfNext y) r.below r.filler w true r.known c.next_part.new.known h c.next_part.new.home c.in-Ok-Missing.ensures.did)
     (c.read_below.ensures.did y (ends-on kn be fi r n h c.next_part.new.home w w c.args.upto.now y (λ z v. sees-known kn be fi r c.next_part.new.known r.spot r.stage c.next_part.new.lags h c.next_part.new.home w left c.next_part.ensures.knows (reach-itself (stand r.spot)) carries z v (idle-front r.spot c.requires.idle) refl (advance-same (fi.source r.filler h) r.to r.spot v.rest c.requires.idle v.reads)) covers))
 
@@ -238,7 +238,7 @@ returns-in-Err-clause-ready g c =
     let w = c.args.store.now in
     let left = known-left kn be fi c.requires.ready.shares r.below r.filler w false (r.known, h) (c.next_part.new.known, c.next_part.new.home) c.in-Err.ensures.did c.requires.ready.fit in
     let carries = carries-same (be.seen r.below h w) (be.seen r.below c.next_part.new.home w) r.stage (stand r.spot) r.spot.tomb left.seen in
-    ready-known kn be fi r c.next_part.new.known r.spot r.stage c.next_part.new.lags h c.next_part.new.home w left c.next_part.ensures.knows (reach-itself (stand r.spot)) carries c.requires.ready (subst (IsAt c.next_part.new.lags (kn.place c.next_part.new.known)) (sym (idle-stand r.spot c.requires.idle)) c.in-Err.ensures.at)
+    ready-known kn be fi r c.next_part.new.known r.spot r.stage c.next_part.new.lags h c.next_part.new.home w left c.next_part.ensures.knows (reach-itself (stand r.spot)) carries c.requires.ready (subst (IsPlaceAt c.next_part.new.lags (kn.place c.next_part.new.known)) (sym (idle-stand r.spot c.requires.idle)) c.in-Err.ensures.at)
 
 pub returns-in-Ok-Missing-clause-on : goal.returns-in-Ok-Missing-clause-on
 returns-in-Ok-Missing-clause-on g c = c.read_below.ensures.on

@@ -4,8 +4,8 @@ use Rattle.std.proofs.Common.{true, false, refl, sym, ap, ◌∙◌, subst}
 use Rattle.rc_mutation.specs.declared.fragments.Head.{Head}
 use Rattle.rc_stream.specs.Did.{OfHead}
 use Rattle.rc_stream.specs.Stream.{Stream}
-use Rattle.rc_cacheread.specs.Did.{OneCall}
-use Rattle.rc_cacheread.specs.Sharing.{IsWhole, of_below, of_filler, of_known}
+use Rattle.rc_cacheread.specs.Did.{ReaderCall}
+use Rattle.rc_cacheread.specs.Sharing.{IsAllKnown, of_below, of_filler, of_known}
 use Rattle.rc_cacheread.specs.Spots.{stand}
 use Rattle.rc_cacheread.proofs.Chains.{chain-one, many-many, one}
 use Rattle.rc_cacheread.proofs.Leaving.{fills-left, kept-kept}
@@ -33,7 +33,7 @@ statics-requires-clause-source g c =
     let r = c.args.reader.now in
     let h = c.args.home.now in
     let w = c.args.store.now in
-    let none = (λ (v : IsWhole (kn.knows r.known h) (kn.heads r.known h) (stand r.spot) r.to). untrue (sym (v.head c.args.at c.requires.head) ∙ c.requires.unknown)) in
+    let none = (λ (v : IsAllKnown (kn.knows r.known h) (kn.heads r.known h) (stand r.spot) r.to). untrue (sym (v.head c.args.at c.requires.head) ∙ c.requires.unknown)) in
     let after = c.requires.ready.shares.after_below r.known r.below c.head.new.self r.filler h w c.head.new.home c.head.new.store c.requires.ready.fit c.in-Ok.ensures.moves c.in-Ok.ensures.ready in
     (after.1.statics c.in-Ok.head.statics).0 ((led kn be fi r h w c.requires.ready none).static_row c.in-Ok.head.statics (λ t s f. ap (λ (x : Head). x.statics) (c.in-Ok.ensures.head t s)))
 
@@ -45,7 +45,7 @@ returns-in-Ok-clause-head g c = λ s d.
     let r = c.args.reader.now in
     let h = c.args.home.now in
     let w = c.args.store.now in
-    let none = (λ (v : IsWhole (kn.knows r.known h) (kn.heads r.known h) (stand r.spot) r.to). untrue (sym (v.head c.args.at c.requires.head) ∙ c.requires.unknown)) in
+    let none = (λ (v : IsAllKnown (kn.knows r.known h) (kn.heads r.known h) (stand r.spot) r.to). untrue (sym (v.head c.args.at c.requires.head) ∙ c.requires.unknown)) in
     let t = said kn be fi r h w s d none in
     let row = ap (λ (x : Head). x.statics) (c.in-Ok.ensures.head t.stream t.stands) ∙ t.static_row in
     let pt = d.pt c.args.at c.requires.head in
@@ -59,7 +59,7 @@ returns-in-Ok-clause-seen g c = λ s d.
     let r = c.args.reader.now in
     let h = c.args.home.now in
     let w = c.args.store.now in
-    let none = (λ (v : IsWhole (kn.knows r.known h) (kn.heads r.known h) (stand r.spot) r.to). untrue (sym (v.head c.args.at c.requires.head) ∙ c.requires.unknown)) in
+    let none = (λ (v : IsAllKnown (kn.knows r.known h) (kn.heads r.known h) (stand r.spot) r.to). untrue (sym (v.head c.args.at c.requires.head) ∙ c.requires.unknown)) in
     let after = c.requires.ready.shares.after_below r.known r.below c.head.new.self r.filler h w c.head.new.home c.head.new.store c.requires.ready.fit c.in-Ok.ensures.moves c.in-Ok.ensures.ready in
     let filled = fills-left kn be fi c.requires.ready.shares r.known c.head.new.self c.head.new.store (r.filler, c.head.new.home) (c.statics.new.self, c.statics.new.home) (1, ((c.statics.new.self, c.statics.new.home), c.statics.ensures.did, refl)) after.0 in
     let kept = kept-kept kn be fi r.known r.known r.known r.filler r.filler c.statics.new.self h c.head.new.home c.statics.new.home after.1 filled.kept in
@@ -75,8 +75,8 @@ returns-in-Ok-clause-calls g c =
     let r = c.args.reader.now in
     let h = c.args.home.now in
     let w = c.args.store.now in
-    many-many (OneCall kn be fi OfHead) (r.known, r.below, r.filler, h, w) (r.known, c.head.new.self, r.filler, c.head.new.home, c.head.new.store) (r.known, c.head.new.self, c.statics.new.self, c.statics.new.home, c.head.new.store)
-    (one (OneCall kn be fi OfHead) (r.known, r.below, r.filler, h, w) (r.known, c.head.new.self, r.filler, c.head.new.home, c.head.new.store) (below-call kn be fi OfHead r.known r.filler true r.below c.head.new.self h c.head.new.home w c.head.new.store OfHead refl c.in-Ok.ensures.did))
+    many-many (ReaderCall kn be fi OfHead) (r.known, r.below, r.filler, h, w) (r.known, c.head.new.self, r.filler, c.head.new.home, c.head.new.store) (r.known, c.head.new.self, c.statics.new.self, c.statics.new.home, c.head.new.store)
+    (one (ReaderCall kn be fi OfHead) (r.known, r.below, r.filler, h, w) (r.known, c.head.new.self, r.filler, c.head.new.home, c.head.new.store) (below-call kn be fi OfHead r.known r.filler true r.below c.head.new.self h c.head.new.home w c.head.new.store OfHead refl c.in-Ok.ensures.did))
     (fill-calls kn be fi OfHead r.known c.head.new.self c.head.new.store r.filler c.statics.new.self c.head.new.home c.statics.new.home (1, ((c.statics.new.self, c.statics.new.home), c.statics.ensures.did, refl)))
 
 pub returns-in-Ok-clause-ready : goal.returns-in-Ok-clause-ready
@@ -87,7 +87,7 @@ returns-in-Ok-clause-ready g c =
     let r = c.args.reader.now in
     let h = c.args.home.now in
     let w = c.args.store.now in
-    let none = (λ (v : IsWhole (kn.knows r.known h) (kn.heads r.known h) (stand r.spot) r.to). untrue (sym (v.head c.args.at c.requires.head) ∙ c.requires.unknown)) in
+    let none = (λ (v : IsAllKnown (kn.knows r.known h) (kn.heads r.known h) (stand r.spot) r.to). untrue (sym (v.head c.args.at c.requires.head) ∙ c.requires.unknown)) in
     let after = c.requires.ready.shares.after_below r.known r.below c.head.new.self r.filler h w c.head.new.home c.head.new.store c.requires.ready.fit c.in-Ok.ensures.moves c.in-Ok.ensures.ready in
     let filled = fills-left kn be fi c.requires.ready.shares r.known c.head.new.self c.head.new.store (r.filler, c.head.new.home) (c.statics.new.self, c.statics.new.home) (1, ((c.statics.new.self, c.statics.new.home), c.statics.ensures.did, refl)) after.0 in
     let kept = kept-kept kn be fi r.known r.known r.known r.filler r.filler c.statics.new.self h c.head.new.home c.statics.new.home after.1 filled.kept in
@@ -103,7 +103,7 @@ returns-clause-seen g c = λ s d.
     let r = c.args.reader.now in
     let h = c.args.home.now in
     let w = c.args.store.now in
-    let none = (λ (v : IsWhole (kn.knows r.known h) (kn.heads r.known h) (stand r.spot) r.to). untrue (sym (v.head c.args.at c.requires.head) ∙ c.requires.unknown)) in
+    let none = (λ (v : IsAllKnown (kn.knows r.known h) (kn.heads r.known h) (stand r.spot) r.to). untrue (sym (v.head c.args.at c.requires.head) ∙ c.requires.unknown)) in
     let after = c.requires.ready.shares.after_below r.known r.below c.head.new.self r.filler h w c.head.new.home c.head.new.store c.requires.ready.fit c.in-Err.ensures.moves c.in-Err.ensures.ready in
     sees-still kn be fi r (reader_of r.known c.head.new.self r.filler r.to r.spot r.stage r.lags) h c.head.new.home w c.head.new.store s after.1 refl refl refl none c.in-Err.ensures.seen d
 
@@ -115,7 +115,7 @@ returns-clause-calls g c =
     let r = c.args.reader.now in
     let h = c.args.home.now in
     let w = c.args.store.now in
-    chain-one (OneCall kn be fi OfHead) false (r.known, r.below, r.filler, h, w) (r.known, c.head.new.self, r.filler, c.head.new.home, c.head.new.store) (below-call kn be fi OfHead r.known r.filler false r.below c.head.new.self h c.head.new.home w c.head.new.store OfHead refl c.in-Err.ensures.did)
+    chain-one (ReaderCall kn be fi OfHead) false (r.known, r.below, r.filler, h, w) (r.known, c.head.new.self, r.filler, c.head.new.home, c.head.new.store) (below-call kn be fi OfHead r.known r.filler false r.below c.head.new.self h c.head.new.home w c.head.new.store OfHead refl c.in-Err.ensures.did)
 
 pub returns-clause-ready : goal.returns-clause-ready
 returns-clause-ready g c =
@@ -125,6 +125,6 @@ returns-clause-ready g c =
     let r = c.args.reader.now in
     let h = c.args.home.now in
     let w = c.args.store.now in
-    let none = (λ (v : IsWhole (kn.knows r.known h) (kn.heads r.known h) (stand r.spot) r.to). untrue (sym (v.head c.args.at c.requires.head) ∙ c.requires.unknown)) in
+    let none = (λ (v : IsAllKnown (kn.knows r.known h) (kn.heads r.known h) (stand r.spot) r.to). untrue (sym (v.head c.args.at c.requires.head) ∙ c.requires.unknown)) in
     let after = c.requires.ready.shares.after_below r.known r.below c.head.new.self r.filler h w c.head.new.home c.head.new.store c.requires.ready.fit c.in-Err.ensures.moves c.in-Err.ensures.ready in
     ready-on kn be fi r (reader_of r.known c.head.new.self r.filler r.to r.spot r.stage r.lags) h c.head.new.home w c.head.new.store c.requires.ready.shares after.0 after.1 (led kn be fi r h w c.requires.ready none) (carries-same (be.seen r.below h w) (be.seen c.head.new.self c.head.new.home c.head.new.store) r.stage (stand r.spot) r.spot.tomb c.in-Err.ensures.seen) (reach-itself (stand r.spot)) refl (λ x on. c.in-Err.ensures.ahead x (c.requires.ready.ahead x on)) c.requires.ready.place

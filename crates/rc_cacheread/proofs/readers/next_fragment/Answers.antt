@@ -4,7 +4,7 @@ use Rattle.std.proofs.Common.{Ok, true, false, refl, sym, ap, ◌∙◌, subst, 
 use Rattle.rc_stream.specs.Did.{OfNext, answered}
 use Rattle.rc_cacheread.specs.declared.spots.Step.TheVariants as step
 use Rattle.std.specs.Prelude.{IfOk}
-use Rattle.rc_cacheread.specs.Did.{IsStepUpto, ReaderDid, StepSays}
+use Rattle.rc_cacheread.specs.Did.{IsReaderStepUpto, ReaderDid, ReaderStepSays}
 use Rattle.rc_cacheread.specs.Sharing.{Sees, of_below, of_filler, of_known}
 use Rattle.rc_cacheread.proofs.Rounds.{did-after, did-nothing, did-stopped, named-on}
 use Rattle.rc_cacheread.proofs.Stepping.{ends-on}
@@ -41,7 +41,7 @@ loop-rounds-preserved g c =
     let passed = c.in-Ok-Passed.is ∙ ap Ok c.in-Ok-Passed.field-0-is in
     record {
       ready = c.round.ensures.ready;
-      says = λ s d. subst (λ x. StepSays x c.args.upto.now s (Sees kn be fi c.round.new.reader c.round.new.home c.round.new.store)) passed (c.round.ensures.says s (l.invariant.says s d));
+      says = λ s d. subst (λ x. ReaderStepSays x c.args.upto.now s (Sees kn be fi c.round.new.reader c.round.new.home c.round.new.store)) passed (c.round.ensures.says s (l.invariant.says s d));
       did = λ y covers. did-after kn be fi r l.reader c.round.new.reader h l.home c.round.new.home w l.store c.round.new.store (OfNext y) true (l.invariant.did y covers)
           (subst (λ x. ReaderDid kn be fi l.reader l.home l.store (OfNext y) (answered x) c.round.new.reader c.round.new.home c.round.new.store) passed (c.round.ensures.did y (ends-on kn be fi r l.reader h l.home w l.store c.args.upto.now y l.invariant.says covers)));
       to = c.round.ensures.to ∙ l.invariant.to;
@@ -59,7 +59,7 @@ returns-in-Ok-Given-clause-gives g c = λ s d.
     let r = c.args.reader.now in
     let h = c.args.home.now in
     let w = c.args.store.now in
-    let x = subst (λ x. StepSays x c.args.upto.now s (Sees kn be fi c.round.new.reader c.round.new.home c.round.new.store)) (c.in-Ok-Given.is ∙ ap Ok c.in-Ok-Given.field-0-is) (c.round.ensures.says s (c.loop-rounds.invariant.says s d)) in
+    let x = subst (λ x. ReaderStepSays x c.args.upto.now s (Sees kn be fi c.round.new.reader c.round.new.home c.round.new.store)) (c.in-Ok-Given.is ∙ ap Ok c.in-Ok-Given.field-0-is) (c.round.ensures.says s (c.loop-rounds.invariant.says s d)) in
     sym x.1
 
 pub returns-in-Ok-Given-clause-left : goal.returns-in-Ok-Given-clause-left
@@ -70,7 +70,7 @@ returns-in-Ok-Given-clause-left g c = λ s d.
     let r = c.args.reader.now in
     let h = c.args.home.now in
     let w = c.args.store.now in
-    let x = subst (λ x. StepSays x c.args.upto.now s (Sees kn be fi c.round.new.reader c.round.new.home c.round.new.store)) (c.in-Ok-Given.is ∙ ap Ok c.in-Ok-Given.field-0-is) (c.round.ensures.says s (c.loop-rounds.invariant.says s d)) in
+    let x = subst (λ x. ReaderStepSays x c.args.upto.now s (Sees kn be fi c.round.new.reader c.round.new.home c.round.new.store)) (c.in-Ok-Given.is ∙ ap Ok c.in-Ok-Given.field-0-is) (c.round.ensures.says s (c.loop-rounds.invariant.says s d)) in
     x.0
 
 pub returns-in-Ok-Nothing-clause-gives : goal.returns-in-Ok-Nothing-clause-gives
@@ -81,7 +81,7 @@ returns-in-Ok-Nothing-clause-gives g c = λ s d.
     let r = c.args.reader.now in
     let h = c.args.home.now in
     let w = c.args.store.now in
-    let x = subst (λ x. StepSays x c.args.upto.now s (Sees kn be fi c.round.new.reader c.round.new.home c.round.new.store)) (c.in-Ok-Nothing.is ∙ ap Ok c.in-Ok-Nothing.field-0-is) (c.round.ensures.says s (c.loop-rounds.invariant.says s d)) in
+    let x = subst (λ x. ReaderStepSays x c.args.upto.now s (Sees kn be fi c.round.new.reader c.round.new.home c.round.new.store)) (c.in-Ok-Nothing.is ∙ ap Ok c.in-Ok-Nothing.field-0-is) (c.round.ensures.says s (c.loop-rounds.invariant.says s d)) in
     sym x.1
 
 pub returns-in-Ok-Nothing-clause-left : goal.returns-in-Ok-Nothing-clause-left
@@ -92,7 +92,7 @@ returns-in-Ok-Nothing-clause-left g c = λ s d.
     let r = c.args.reader.now in
     let h = c.args.home.now in
     let w = c.args.store.now in
-    let x = subst (λ x. StepSays x c.args.upto.now s (Sees kn be fi c.round.new.reader c.round.new.home c.round.new.store)) (c.in-Ok-Nothing.is ∙ ap Ok c.in-Ok-Nothing.field-0-is) (c.round.ensures.says s (c.loop-rounds.invariant.says s d)) in
+    let x = subst (λ x. ReaderStepSays x c.args.upto.now s (Sees kn be fi c.round.new.reader c.round.new.home c.round.new.store)) (c.in-Ok-Nothing.is ∙ ap Ok c.in-Ok-Nothing.field-0-is) (c.round.ensures.says s (c.loop-rounds.invariant.says s d)) in
     x.0
 
 pub returns-in-Ok-Given-clause-did : goal.returns-in-Ok-Given-clause-did
@@ -151,7 +151,7 @@ pub returns-clause-damage : goal.returns-clause-damage
 returns-clause-damage g c = record { named = tt; less = c.loop-rounds.invariant.damage }
 
 pub returns-in-Ok-Given-clause-upto : goal.returns-in-Ok-Given-clause-upto
-returns-in-Ok-Given-clause-upto g c = subst (λ r. IfOk r (IsStepUpto c.args.upto.now)) (c.in-Ok-Given.is ∙ ap Ok c.in-Ok-Given.field-0-is) c.round.ensures.upto
+returns-in-Ok-Given-clause-upto g c = subst (λ r. IfOk r (IsReaderStepUpto c.args.upto.now)) (c.in-Ok-Given.is ∙ ap Ok c.in-Ok-Given.field-0-is) c.round.ensures.upto
 
 pub returns-in-Err-clause-left : goal.returns-in-Err-clause-left
 returns-in-Err-clause-left g c = λ s d. c.in-Err.ensures.says s (c.loop-rounds.invariant.says s d)

@@ -6,9 +6,9 @@ use Rattle.rc_stream.specs.Places.{Reaches}
 use Rattle.rc_stream.specs.Stream.{took}
 use Rattle.rc_mutation.specs.Fragments.{tomb_after}
 use Rattle.rc_cacheread.specs.declared.spots.Turn.TheVariants as turn
-use Rattle.rc_cacheread.specs.Did.{IsKnownFor, KnownStep, OneCall}
+use Rattle.rc_cacheread.specs.Did.{IsKnownFor, KnownStep, ReaderCall}
 use Rattle.rc_cacheread.specs.Sharing.{of_below, of_filler, of_known}
-use Rattle.rc_cacheread.specs.Spots.{Gives, stand, told_of}
+use Rattle.rc_cacheread.specs.Spots.{GivesDue, stand, tomb_told}
 use Rattle.rc_cacheread.proofs.Chains.{chain-none}
 use Rattle.rc_cacheread.proofs.Idle.{idle-stand}
 use Rattle.rc_cacheread.proofs.Orders.{reach-itself}
@@ -24,7 +24,7 @@ returns-in-Ok-Given-clause-says g c = λ s d.
     let r = c.args.reader.now in
     let h = c.args.home.now in
     let w = c.args.store.now in
-    let e : Gives r.to c.args.upto.now r.spot c.give.new.self (turn.Given c.in-Ok-Given.frag) = subst (Gives r.to c.args.upto.now r.spot c.give.new.self) c.in-Ok-Given.field-0-is c.in-Ok-Given.ensures.ok in
+    let e : GivesDue r.to c.args.upto.now r.spot c.give.new.self (turn.Given c.in-Ok-Given.frag) = subst (GivesDue r.to c.args.upto.now r.spot c.give.new.self) c.in-Ok-Given.field-0-is c.in-Ok-Given.ensures.ok in
     let l = first-left c.args.upto.now c.in-Ok-Given.frag s.left d.rest (d.left) e.0 e.1 in
     (sees-at kn be fi r c.give.new.self h w e.3 e.4 s (took (Some c.in-Ok-Given.frag) s) d refl (ap (λ t. tomb_after t c.in-Ok-Given.frag) d.tomb ∙ sym e.2) l.1, l.0)
 
@@ -36,7 +36,7 @@ returns-in-Ok-Nothing-clause-says g c = λ s d.
     let r = c.args.reader.now in
     let h = c.args.home.now in
     let w = c.args.store.now in
-    let e : Gives r.to c.args.upto.now r.spot c.give.new.self turn.Nothing = subst (Gives r.to c.args.upto.now r.spot c.give.new.self) c.in-Ok-Nothing.field-0-is c.in-Ok-Nothing.ensures.ok in
+    let e : GivesDue r.to c.args.upto.now r.spot c.give.new.self turn.Nothing = subst (GivesDue r.to c.args.upto.now r.spot c.give.new.self) c.in-Ok-Nothing.field-0-is c.in-Ok-Nothing.ensures.ok in
     let n = sees-alike kn be fi r c.give.new.self h w s e.0 d in
     (n, nothing-left kn be fi (reader_of r.known r.below r.filler r.to c.give.new.self r.stage r.lags) h w c.args.upto.now s e.1 n)
 
@@ -48,7 +48,7 @@ returns-in-Ok-Nothing-clause-ready g c =
     let r = c.args.reader.now in
     let h = c.args.home.now in
     let w = c.args.store.now in
-    let e : Gives r.to c.args.upto.now r.spot c.give.new.self turn.Nothing = subst (Gives r.to c.args.upto.now r.spot c.give.new.self) c.in-Ok-Nothing.field-0-is c.in-Ok-Nothing.ensures.ok in
+    let e : GivesDue r.to c.args.upto.now r.spot c.give.new.self turn.Nothing = subst (GivesDue r.to c.args.upto.now r.spot c.give.new.self) c.in-Ok-Nothing.field-0-is c.in-Ok-Nothing.ensures.ok in
     ready-alike kn be fi r c.give.new.self h w e.0.from e.0.tomb c.requires.ready
 
 pub returns-in-Ok-Closed-clause-says : goal.returns-in-Ok-Closed-clause-says
@@ -59,7 +59,7 @@ returns-in-Ok-Closed-clause-says g c = λ s d.
     let r = c.args.reader.now in
     let h = c.args.home.now in
     let w = c.args.store.now in
-    let e : Gives r.to c.args.upto.now r.spot c.give.new.self turn.Closed = subst (Gives r.to c.args.upto.now r.spot c.give.new.self) c.in-Ok-Closed.field-0-is c.in-Ok-Closed.ensures.ok in
+    let e : GivesDue r.to c.args.upto.now r.spot c.give.new.self turn.Closed = subst (GivesDue r.to c.args.upto.now r.spot c.give.new.self) c.in-Ok-Closed.field-0-is c.in-Ok-Closed.ensures.ok in
     sees-closed kn be fi r c.give.new.self h w e s d
 
 pub returns-in-Ok-Closed-clause-ready : goal.returns-in-Ok-Closed-clause-ready
@@ -70,7 +70,7 @@ returns-in-Ok-Closed-clause-ready g c =
     let r = c.args.reader.now in
     let h = c.args.home.now in
     let w = c.args.store.now in
-    let e : Gives r.to c.args.upto.now r.spot c.give.new.self turn.Closed = subst (Gives r.to c.args.upto.now r.spot c.give.new.self) c.in-Ok-Closed.field-0-is c.in-Ok-Closed.ensures.ok in
+    let e : GivesDue r.to c.args.upto.now r.spot c.give.new.self turn.Closed = subst (GivesDue r.to c.args.upto.now r.spot c.give.new.self) c.in-Ok-Closed.field-0-is c.in-Ok-Closed.ensures.ok in
     ready-closed kn be fi r c.give.new.self h w e c.requires.ready
 
 pub read_part-requires-clause-ready : goal.read_part-requires-clause-ready
@@ -81,7 +81,7 @@ read_part-requires-clause-ready g c =
     let r = c.args.reader.now in
     let h = c.args.home.now in
     let w = c.args.store.now in
-    let e : Gives r.to c.args.upto.now r.spot c.give.new.self turn.Unread = subst (Gives r.to c.args.upto.now r.spot c.give.new.self) c.in-Ok-Unread.field-0-is c.in-Ok-Unread.ensures.ok in
+    let e : GivesDue r.to c.args.upto.now r.spot c.give.new.self turn.Unread = subst (GivesDue r.to c.args.upto.now r.spot c.give.new.self) c.in-Ok-Unread.field-0-is c.in-Ok-Unread.ensures.ok in
     ready-alike kn be fi r c.give.new.self h w e.0.from e.0.tomb c.requires.ready
 
 pub returns-in-Ok-Unread-clause-says : goal.returns-in-Ok-Unread-clause-says
@@ -92,7 +92,7 @@ returns-in-Ok-Unread-clause-says g c = λ s d.
     let r = c.args.reader.now in
     let h = c.args.home.now in
     let w = c.args.store.now in
-    let e : Gives r.to c.args.upto.now r.spot c.give.new.self turn.Unread = subst (Gives r.to c.args.upto.now r.spot c.give.new.self) c.in-Ok-Unread.field-0-is c.in-Ok-Unread.ensures.ok in
+    let e : GivesDue r.to c.args.upto.now r.spot c.give.new.self turn.Unread = subst (GivesDue r.to c.args.upto.now r.spot c.give.new.self) c.in-Ok-Unread.field-0-is c.in-Ok-Unread.ensures.ok in
     c.read_part.ensures.says s (sees-alike kn be fi r c.give.new.self h w s e.0 d)
 
 pub returns-in-Ok-Given-clause-did : goal.returns-in-Ok-Given-clause-did
@@ -103,9 +103,9 @@ returns-in-Ok-Given-clause-did g c = λ y covers.
     let r = c.args.reader.now in
     let h = c.args.home.now in
     let w = c.args.store.now in
-    let e : Gives r.to c.args.upto.now r.spot c.give.new.self (turn.Given c.in-Ok-Given.frag) = subst (Gives r.to c.args.upto.now r.spot c.give.new.self) c.in-Ok-Given.field-0-is c.in-Ok-Given.ensures.ok in
+    let e : GivesDue r.to c.args.upto.now r.spot c.give.new.self (turn.Given c.in-Ok-Given.frag) = subst (GivesDue r.to c.args.upto.now r.spot c.give.new.self) c.in-Ok-Given.field-0-is c.in-Ok-Given.ensures.ok in
     record {
-      calls = chain-none (OneCall kn be fi (OfNext y)) true (r.known, r.below, r.filler, h, w);
+      calls = chain-none (ReaderCall kn be fi (OfNext y)) true (r.known, r.below, r.filler, h, w);
       on = subst (Reaches (stand r.spot)) (sym e.3) (reach-itself (stand r.spot));
       quiet = λ q. ((chain-none (KnownStep kn.did) true (r.known, h), refl, refl, refl), subst (λ x. IsKnownFor (OfNext y) (kn.knows r.known h) (kn.heads r.known h) x r.to) (sym e.3) q);
     }
@@ -118,9 +118,9 @@ returns-in-Ok-Nothing-clause-did g c = λ y covers.
     let r = c.args.reader.now in
     let h = c.args.home.now in
     let w = c.args.store.now in
-    let e : Gives r.to c.args.upto.now r.spot c.give.new.self turn.Nothing = subst (Gives r.to c.args.upto.now r.spot c.give.new.self) c.in-Ok-Nothing.field-0-is c.in-Ok-Nothing.ensures.ok in
+    let e : GivesDue r.to c.args.upto.now r.spot c.give.new.self turn.Nothing = subst (GivesDue r.to c.args.upto.now r.spot c.give.new.self) c.in-Ok-Nothing.field-0-is c.in-Ok-Nothing.ensures.ok in
     record {
-      calls = chain-none (OneCall kn be fi (OfNext y)) true (r.known, r.below, r.filler, h, w);
+      calls = chain-none (ReaderCall kn be fi (OfNext y)) true (r.known, r.below, r.filler, h, w);
       on = subst (Reaches (stand r.spot)) (sym e.0.from) (reach-itself (stand r.spot));
       quiet = λ q. ((chain-none (KnownStep kn.did) true (r.known, h), refl, refl, refl), subst (λ x. IsKnownFor (OfNext y) (kn.knows r.known h) (kn.heads r.known h) x r.to) (sym e.0.from) q);
     }
@@ -133,9 +133,9 @@ returns-in-Ok-Closed-clause-did g c = λ y covers.
     let r = c.args.reader.now in
     let h = c.args.home.now in
     let w = c.args.store.now in
-    let e : Gives r.to c.args.upto.now r.spot c.give.new.self turn.Closed = subst (Gives r.to c.args.upto.now r.spot c.give.new.self) c.in-Ok-Closed.field-0-is c.in-Ok-Closed.ensures.ok in
+    let e : GivesDue r.to c.args.upto.now r.spot c.give.new.self turn.Closed = subst (GivesDue r.to c.args.upto.now r.spot c.give.new.self) c.in-Ok-Closed.field-0-is c.in-Ok-Closed.ensures.ok in
     record {
-      calls = chain-none (OneCall kn be fi (OfNext y)) true (r.known, r.below, r.filler, h, w);
+      calls = chain-none (ReaderCall kn be fi (OfNext y)) true (r.known, r.below, r.filler, h, w);
       on = subst (Reaches (stand r.spot)) (sym e.2) (reach-itself (stand r.spot));
       quiet = λ q. ((chain-none (KnownStep kn.did) true (r.known, h), refl, refl, refl), subst (λ x. IsKnownFor (OfNext y) (kn.knows r.known h) (kn.heads r.known h) x r.to) (sym e.2) q);
     }
@@ -148,7 +148,7 @@ returns-in-Ok-Unread-clause-did g c = λ y covers.
     let r = c.args.reader.now in
     let h = c.args.home.now in
     let w = c.args.store.now in
-    let e : Gives r.to c.args.upto.now r.spot c.give.new.self turn.Unread = subst (Gives r.to c.args.upto.now r.spot c.give.new.self) c.in-Ok-Unread.field-0-is c.in-Ok-Unread.ensures.ok in
+    let e : GivesDue r.to c.args.upto.now r.spot c.give.new.self turn.Unread = subst (GivesDue r.to c.args.upto.now r.spot c.give.new.self) c.in-Ok-Unread.field-0-is c.in-Ok-Unread.ensures.ok in
     let n = reader_of r.known r.below r.filler r.to c.give.new.self r.stage r.lags in
     let now = ends-on kn be fi r n h h w w c.args.upto.now y (λ s d. sees-alike kn be fi r c.give.new.self h w s e.0 d) covers in
     let place = n.spot.place in
@@ -172,7 +172,7 @@ returns-in-Err-clause-did g c = λ y covers.
     let w = c.args.store.now in
     let same : c.give.new.self ≡ r.spot = c.in-Err.ensures.err in
     record {
-      calls = chain-none (OneCall kn be fi (OfNext y)) false (r.known, r.below, r.filler, h, w);
+      calls = chain-none (ReaderCall kn be fi (OfNext y)) false (r.known, r.below, r.filler, h, w);
       on = subst (λ s. Reaches (stand r.spot) (stand s)) (sym same) (reach-itself (stand r.spot));
       quiet = λ q. ((chain-none (KnownStep kn.did) false (r.known, h), refl, refl, refl), subst (λ s. IsKnownFor (OfNext y) (kn.knows r.known h) (kn.heads r.known h) (stand s) r.to) (sym same) q);
     }

@@ -3,8 +3,8 @@ use Rattle.std.specs.Prelude.{◌≡◌}
 use Rattle.std.proofs.Common.{true, false, refl, sym, ap, ◌∙◌, subst}
 use Rattle.rc_stream.specs.Did.{OfHead, answered}
 use Rattle.rc_stream.specs.Places.{Reaches}
-use Rattle.rc_cacheread.specs.Did.{KnownStep, OneCall, state}
-use Rattle.rc_cacheread.specs.Sharing.{IsAt, of_below, of_filler, of_known}
+use Rattle.rc_cacheread.specs.Did.{KnownStep, ReaderCall, reader_state}
+use Rattle.rc_cacheread.specs.Sharing.{IsPlaceAt, of_below, of_filler, of_known}
 use Rattle.rc_cacheread.specs.Spots.{stand}
 use Rattle.rc_cacheread.proofs.Chains.{chain-after, chain-one}
 use Rattle.rc_cacheread.proofs.Leaving.{known-left}
@@ -60,7 +60,7 @@ returns-then-at-clause-ready g c =
     let w = c.args.store.now in
     let one = (chain-one (KnownStep kn.did) true (r.known, h) (c.head_known.new.self, c.head_known.new.home) (OfHead, c.in-Ok.ensures.did)) in
     let left = known-left kn be fi c.requires.ready.shares r.below r.filler w true (r.known, h) (c.head_known.new.self, c.head_known.new.home) one c.requires.ready.fit in
-    ready-known kn be fi r c.head_known.new.self r.spot r.stage r.lags h c.head_known.new.home w left c.head_known.ensures.knows (reach-itself (stand r.spot)) (carries-same (be.seen r.below h w) (be.seen r.below c.head_known.new.home w) r.stage (stand r.spot) r.spot.tomb left.seen) c.requires.ready (subst (λ p. IsAt r.lags p (stand r.spot)) (sym c.head_known.ensures.place) c.requires.ready.place)
+    ready-known kn be fi r c.head_known.new.self r.spot r.stage r.lags h c.head_known.new.home w left c.head_known.ensures.knows (reach-itself (stand r.spot)) (carries-same (be.seen r.below h w) (be.seen r.below c.head_known.new.home w) r.stage (stand r.spot) r.spot.tomb left.seen) c.requires.ready (subst (λ p. IsPlaceAt r.lags p (stand r.spot)) (sym c.head_known.ensures.place) c.requires.ready.place)
 
 pub returns-then-at-clause-damage : goal.returns-then-at-clause-damage
 returns-then-at-clause-damage g c = record { named = tt; less = λ file offset d. d }
@@ -75,7 +75,7 @@ head_below-requires-clause-ready g c =
     let w = c.args.store.now in
     let one = (chain-one (KnownStep kn.did) true (r.known, h) (c.head_known.new.self, c.head_known.new.home) (OfHead, c.in-Ok.ensures.did)) in
     let left = known-left kn be fi c.requires.ready.shares r.below r.filler w true (r.known, h) (c.head_known.new.self, c.head_known.new.home) one c.requires.ready.fit in
-    ready-known kn be fi r c.head_known.new.self r.spot r.stage r.lags h c.head_known.new.home w left c.head_known.ensures.knows (reach-itself (stand r.spot)) (carries-same (be.seen r.below h w) (be.seen r.below c.head_known.new.home w) r.stage (stand r.spot) r.spot.tomb left.seen) c.requires.ready (subst (λ p. IsAt r.lags p (stand r.spot)) (sym c.head_known.ensures.place) c.requires.ready.place)
+    ready-known kn be fi r c.head_known.new.self r.spot r.stage r.lags h c.head_known.new.home w left c.head_known.ensures.knows (reach-itself (stand r.spot)) (carries-same (be.seen r.below h w) (be.seen r.below c.head_known.new.home w) r.stage (stand r.spot) r.spot.tomb left.seen) c.requires.ready (subst (λ p. IsPlaceAt r.lags p (stand r.spot)) (sym c.head_known.ensures.place) c.requires.ready.place)
 
 pub head_below-requires-clause-head : goal.head_below-requires-clause-head
 head_below-requires-clause-head g c = c.head_known.ensures.heads c.in-Ok.at c.in-Ok.ensures.head
@@ -118,7 +118,7 @@ returns-clause-did g c =
     let one = (chain-one (KnownStep kn.did) true (r.known, h) (c.head_known.new.self, c.head_known.new.home) (OfHead, c.in-Ok.ensures.did)) in
     let left = known-left kn be fi c.requires.ready.shares r.below r.filler w true (r.known, h) (c.head_known.new.self, c.head_known.new.home) one c.requires.ready.fit in
     record {
-      calls = chain-after (OneCall kn be fi OfHead) (answered c.head_below.result) (state r h w) (c.head_known.new.self, r.below, r.filler, c.head_known.new.home, w) (state c.head_below.new.reader c.head_below.new.home c.head_below.new.store) (known-calls kn be fi OfHead r.below r.filler w true r.known c.head_known.new.self h c.head_known.new.home one) c.head_below.ensures.calls;
+      calls = chain-after (ReaderCall kn be fi OfHead) (answered c.head_below.result) (reader_state r h w) (c.head_known.new.self, r.below, r.filler, c.head_known.new.home, w) (reader_state c.head_below.new.reader c.head_below.new.home c.head_below.new.store) (known-calls kn be fi OfHead r.below r.filler w true r.known c.head_known.new.self h c.head_known.new.home one) c.head_below.ensures.calls;
       on = subst (λ s. Reaches (stand r.spot) (stand s)) (sym c.head_below.ensures.spot) (reach-itself (stand r.spot));
       quiet = λ q. untrue (sym (q c.in-Ok.at c.in-Ok.ensures.head) ∙ c.if-at.false);
     }
@@ -164,7 +164,7 @@ returns-in-Err-clause-ready g c =
     let w = c.args.store.now in
     let one = (chain-one (KnownStep kn.did) false (r.known, h) (c.head_known.new.self, c.head_known.new.home) (OfHead, c.in-Err.ensures.did)) in
     let left = known-left kn be fi c.requires.ready.shares r.below r.filler w false (r.known, h) (c.head_known.new.self, c.head_known.new.home) one c.requires.ready.fit in
-    ready-known kn be fi r c.head_known.new.self r.spot r.stage r.lags h c.head_known.new.home w left c.head_known.ensures.knows (reach-itself (stand r.spot)) (carries-same (be.seen r.below h w) (be.seen r.below c.head_known.new.home w) r.stage (stand r.spot) r.spot.tomb left.seen) c.requires.ready (subst (λ p. IsAt r.lags p (stand r.spot)) (sym c.head_known.ensures.place) c.requires.ready.place)
+    ready-known kn be fi r c.head_known.new.self r.spot r.stage r.lags h c.head_known.new.home w left c.head_known.ensures.knows (reach-itself (stand r.spot)) (carries-same (be.seen r.below h w) (be.seen r.below c.head_known.new.home w) r.stage (stand r.spot) r.spot.tomb left.seen) c.requires.ready (subst (λ p. IsPlaceAt r.lags p (stand r.spot)) (sym c.head_known.ensures.place) c.requires.ready.place)
 
 pub returns-in-Err-clause-damage : goal.returns-in-Err-clause-damage
 returns-in-Err-clause-damage g c = record { named = tt; less = λ file offset d. d }

@@ -1,6 +1,6 @@
 use Rattle.std.proofs.Common.{◌≡◌, ◌++◌, take}
 use Rattle.std.specs.List.{flat_map}
-use Rattle.rc_spelling.specs.Glyphs.{other_component}
+use Rattle.rc_spelling.specs.calls.Joining.{other_component}
 use Rattle.rc_spelling.proofs.printing.print_others.Given as goal
 
 abbrev pub invariant-loop-component : goal.invariant-loop-component

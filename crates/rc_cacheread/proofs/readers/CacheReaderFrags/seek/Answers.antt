@@ -2,7 +2,7 @@
 use Rattle.std.proofs.Common.{true, false, refl, sym, subst}
 use Rattle.rc_stream.specs.Did.{OfHead, OfSeek}
 use Rattle.rc_stream.specs.Places.{Reaches}
-use Rattle.rc_cacheread.specs.Did.{KnownStep, OneCall}
+use Rattle.rc_cacheread.specs.Did.{KnownStep, ReaderCall}
 use Rattle.rc_cacheread.specs.Sharing.{of_below, of_filler, of_known}
 use Rattle.rc_cacheread.specs.Spots.{GoesOn, stand}
 use Rattle.rc_cacheread.proofs.Chains.{chain-none}
@@ -40,7 +40,7 @@ returns-in-Ok-false-clause-did g c =
     let h = c.args._home.now in
     let w = c.args._store.now in
     record {
-      calls = chain-none (OneCall kn be fi (OfSeek c.args.to.now)) true (r.known, r.below, r.filler, h, w);
+      calls = chain-none (ReaderCall kn be fi (OfSeek c.args.to.now)) true (r.known, r.below, r.filler, h, w);
       on = subst (Reaches (stand r.spot)) (sym (subst (GoesOn c.args.to.now c.args.self.now.spot c.seek.new.self) c.in-Ok-false.field-0-test c.in-Ok-false.ensures.ok).from) (reach-itself (stand r.spot));
       quiet = λ q. ((chain-none (KnownStep kn.did) true (r.known, h), refl, refl, refl), tt);
     }
@@ -53,7 +53,7 @@ returns-in-Ok-false-clause-moves g c =
     let r = c.args.self.now in
     let h = c.args._home.now in
     let w = c.args._store.now in
-    record { s = (r.known, r.below, r.filler); t = (r.known, r.below, r.filler); c = OfHead; ok = true; calls = chain-none (OneCall kn be fi OfHead) true (r.known, r.below, r.filler, h, w) }
+    record { s = (r.known, r.below, r.filler); t = (r.known, r.below, r.filler); c = OfHead; ok = true; calls = chain-none (ReaderCall kn be fi OfHead) true (r.known, r.below, r.filler, h, w) }
 
 pub returns-in-Ok-false-clause-damage : goal.returns-in-Ok-false-clause-damage
 returns-in-Ok-false-clause-damage g c = record { named = tt; less = λ file offset d. d }
@@ -87,7 +87,7 @@ returns-in-Ok-true-clause-did g c =
     let h = c.args._home.now in
     let w = c.args._store.now in
     record {
-      calls = chain-none (OneCall kn be fi (OfSeek c.args.to.now)) true (r.known, r.below, r.filler, h, w);
+      calls = chain-none (ReaderCall kn be fi (OfSeek c.args.to.now)) true (r.known, r.below, r.filler, h, w);
       on = on-begun kn be fi r c.seek.new.self c.args.to.now h w (subst (GoesOn c.args.to.now c.args.self.now.spot c.seek.new.self) c.in-Ok-true.field-0-test c.in-Ok-true.ensures.ok);
       quiet = λ q. ((chain-none (KnownStep kn.did) true (r.known, h), refl, refl, refl), tt);
     }
@@ -100,7 +100,7 @@ returns-in-Ok-true-clause-moves g c =
     let r = c.args.self.now in
     let h = c.args._home.now in
     let w = c.args._store.now in
-    record { s = (r.known, r.below, r.filler); t = (r.known, r.below, r.filler); c = OfHead; ok = true; calls = chain-none (OneCall kn be fi OfHead) true (r.known, r.below, r.filler, h, w) }
+    record { s = (r.known, r.below, r.filler); t = (r.known, r.below, r.filler); c = OfHead; ok = true; calls = chain-none (ReaderCall kn be fi OfHead) true (r.known, r.below, r.filler, h, w) }
 
 pub returns-in-Ok-true-clause-damage : goal.returns-in-Ok-true-clause-damage
 returns-in-Ok-true-clause-damage g c = record { named = tt; less = λ file offset d. d }
@@ -134,7 +134,7 @@ returns-in-Err-clause-did g c =
     let h = c.args._home.now in
     let w = c.args._store.now in
     record {
-      calls = chain-none (OneCall kn be fi (OfSeek c.args.to.now)) false (r.known, r.below, r.filler, h, w);
+      calls = chain-none (ReaderCall kn be fi (OfSeek c.args.to.now)) false (r.known, r.below, r.filler, h, w);
       on = subst (Reaches (stand r.spot)) (sym c.in-Err.ensures.err.from) (reach-itself (stand r.spot));
       quiet = λ q. ((chain-none (KnownStep kn.did) false (r.known, h), refl, refl, refl), tt);
     }
@@ -147,7 +147,7 @@ returns-in-Err-clause-moves g c =
     let r = c.args.self.now in
     let h = c.args._home.now in
     let w = c.args._store.now in
-    record { s = (r.known, r.below, r.filler); t = (r.known, r.below, r.filler); c = OfHead; ok = false; calls = chain-none (OneCall kn be fi OfHead) false (r.known, r.below, r.filler, h, w) }
+    record { s = (r.known, r.below, r.filler); t = (r.known, r.below, r.filler); c = OfHead; ok = false; calls = chain-none (ReaderCall kn be fi OfHead) false (r.known, r.below, r.filler, h, w) }
 
 pub returns-in-Err-clause-damage : goal.returns-in-Err-clause-damage
 returns-in-Err-clause-damage g c = record { named = tt; less = λ file offset d. d }

@@ -1,24 +1,11 @@
 -- The tests of a schema and the reading of its text one by one, as functions make them; that together they are what a schema is, and what a text reads as, is proved (laws/SchemaTexts).
-use Rattle.std.specs.Prelude.{ℕ, Bool, ◌&&◌, ◌||◌, ◌==◌, nat_le, nat_eq, List, map as list_map, drop, codes, Option, None, if◌then◌else◌}
-use Rattle.std.specs.Char.{is_ascii_digit, is_ascii_lowercase}
+use Rattle.std.specs.Prelude.{ℕ, Bool, ◌&&◌, ◌||◌, nat_eq, List, map as list_map, drop, codes, Option, None, if◌then◌else◌}
 use Rattle.std.specs.List.{list_all, starts_with}
 use Rattle.rc_schema.specs.declared.kinds.CkKind.{CkKind}
 use Rattle.rc_schema.specs.declared.kinds.CkKind.TheVariants.{Int, Text}
-use Rattle.rc_schema.specs.SchemaValue.{SchemaValue, is_name, are_distinct_by, is_schema}
+use Rattle.rc_schema.specs.SchemaValue.{SchemaValue, is_schema}
 use Rattle.rc_schema.specs.SchemaText.{schema_listed}
 use Rattle.rc_spelling.specs.Words.{is_word}
-
--- the byte may stand in a name: a lowercase letter, a digit or `_`
-abbrev pub is_name_byte : ℕ → Bool
-is_name_byte byte = is_ascii_lowercase byte || (is_ascii_digit byte || byte == 95)
-
--- 1 to 4 components, at most 8 static and 32 regular columns
-abbrev pub are_few : ℕ → ℕ → ℕ → Bool
-are_few ck statics cols = (nat_le 1 ck && nat_le ck 4) && (nat_le statics 8 && nat_le cols 32)
-
--- the names are names, all distinct
-abbrev pub are_names : List (List ℕ) → Bool
-are_names names = list_all is_name names && are_distinct_by is_word names
 
 -- `int` and `text`
 abbrev pub is_kind : List ℕ → Bool
