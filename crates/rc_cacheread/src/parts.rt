@@ -1,6 +1,7 @@
 // The parts of a snapshot.
 ghost use Rattle.std.specs.Prelude.{◌≡◌, false, IfOk, OnErr, OnOk};
 ghost use Rattle.std.specs.Result.{is_ok};
+ghost use Rattle.rc_outside.specs.Files.{HoldsSameFiles};
 ghost use Rattle.rc_position.specs.declared.positions.Pos.{Pos};
 ghost use Rattle.rc_position.specs.Position.{IsBefore};
 ghost use Rattle.rc_stream.specs.Causes.{Caused};
@@ -97,8 +98,7 @@ pub(crate) fn read_part<H, W: Store, K: Known<H>, F: Frags<H, W>, P: Filler<H>>(
     ensures ready { IsReady (of_known K.ready K.place K.knows K.heads K.did) (of_below F.ready F.seen F.ahead F.moves F.did) (of_filler P.ready P.fits P.may P.lost P.source P.knows P.statics_are P.knows_statics P.fills) reader.new home.new store.new }
     ensures damage { Blames (F.damage reader.old.below) (F.damage reader.new.below) result }
     ensures cause { Caused result (W.files store.old) (W.faults store.old) (W.faults store.new) }
-    ensures files { W.files store.new ≡ W.files store.old }
-    ensures building { W.building store.new ≡ W.building store.old }
+    ensures store { HoldsSameFiles W.files W.building store.old store.new }
 {
     match next_part(
         alloc,

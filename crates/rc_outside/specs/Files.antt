@@ -12,6 +12,10 @@ Files = map.FinMap nat_cmp (List ℕ)
 abbrev pub Draft : Type 0
 Draft = ℕ × List ℕ
 
+-- a store is as it was, but for its counts: the files that it tells are the same, and what is being built is
+abbrev pub HoldsSameFiles : {W F D : Type 0} → (W → F) → (W → D) → (before now : W) → Type 0
+HoldsSameFiles files building before now = (files now ≡ files before) × (building now ≡ building before)
+
 -- n is a file, where the files are told
 abbrev pub IsFile : Option Files → ℕ → Type 0
 IsFile None n = ⊤

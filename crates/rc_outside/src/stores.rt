@@ -1,6 +1,6 @@
 // Where files lie.
 ghost use Rattle.std.specs.Prelude.{◌≡◌, ℕ, ◌≤◌, Option, None, length, IsSome, IfOk, OnOk, MatchResult};
-ghost use Rattle.rc_outside.specs.Files.{Files, Draft, IsFile, IsNoFile, LiesInFile, AreNumbers, IsSizeOf, AreBytesOf, new_draft, grown, with_draft, unless_refused};
+ghost use Rattle.rc_outside.specs.Files.{HoldsSameFiles, Files, Draft, IsFile, IsNoFile, LiesInFile, AreNumbers, IsSizeOf, AreBytesOf, new_draft, grown, with_draft, unless_refused};
 ghost use Rattle.rc_outside.specs.Faults.{raised};
 
 use super::sources::Failed;
@@ -39,8 +39,7 @@ pub trait Store {
     /// is refused: both leave the store as it was, but for the count of faults.
     fn numbers(&mut self, alloc: Global) -> Result<Vec<u32>, StoreErr>
         ensures numbers { IfOk result (λ v. AreNumbers (files self.old) v.items) }
-        ensures files { files self.new ≡ files self.old }
-        ensures building { building self.new ≡ building self.old }
+        ensures store { HoldsSameFiles files building self.old self.new }
         ensures faults { RisesIfFault OnFault result (faults self.old) (faults self.new) }
         ensures asks { asks self.new ≡ asks self.old };
 
@@ -48,8 +47,7 @@ pub trait Store {
     fn size(&mut self, n: u32) -> Result<u64, Failed>
         requires { IsFile (files self.old) n }
         ensures size { IfOk result (λ k. IsSizeOf (files self.old) n k) }
-        ensures files { files self.new ≡ files self.old }
-        ensures building { building self.new ≡ building self.old }
+        ensures store { HoldsSameFiles files building self.old self.new }
         ensures faults { RisesIfFailed result (faults self.old) (faults self.new) }
         ensures asks { asks self.new ≡ asks self.old };
 
@@ -59,8 +57,7 @@ pub trait Store {
     fn read_at(&mut self, n: u32, off: u64, into: &mut [u8]) -> Result<(), Failed>
         requires { LiesInFile (files self.old) n off (length into.old) }
         ensures bytes { OnOk result (AreBytesOf (files self.old) n off into.new) }
-        ensures files { files self.new ≡ files self.old }
-        ensures building { building self.new ≡ building self.old }
+        ensures store { HoldsSameFiles files building self.old self.new }
         ensures faults { RisesIfFailed result (faults self.old) (faults self.new) }
         ensures asks { asks self.new ≡ raised (asks self.old) };
 

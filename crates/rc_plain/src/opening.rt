@@ -2,7 +2,7 @@
 
 ghost use Rattle.std.specs.Prelude.{◌≡◌, ◌≤◌, ◌+◌, ◌++◌, ℕ, [], ◌∷◌, IfErr, IfOk, IfSome, List, OnOk};
 ghost use Rattle.std.specs.FinMap.{values};
-ghost use Rattle.rc_outside.specs.Files.{AreNumbers, IsFile};
+ghost use Rattle.rc_outside.specs.Files.{HoldsSameFiles, AreNumbers, IsFile};
 ghost use Rattle.rc_tfile.specs.declared.info.TableInfo.{TableInfo};
 ghost use Rattle.rc_tfile.specs.Checking.{IsContent, AsksFew};
 ghost use Rattle.rc_machine.specs.State.{Table};
@@ -54,7 +54,7 @@ fn checked<W: Store>(
     ensures table { IfOk result (IsChecked (W.files store.old) schema.now n) }
     ensures bad { IfErr result (IsBadFile (W.files store.old) schema.now n) }
     ensures faults { RisesIfFault OnOpenFault result (W.faults store.old) (W.faults store.new) }
-    ensures files { W.files store.new ≡ W.files store.old }
+    ensures store { HoldsSameFiles W.files W.building store.old store.new }
     ensures asks { (bytes : List ℕ) → IsContent (W.files store.old) n bytes → AsksFew (W.asks store.old) (W.asks store.new) bytes }
 {
     match check_table(alloc, store, n, schema) {
@@ -81,7 +81,7 @@ fn add_checked<W: Store>(
     ensures added { OnOk result ((info : TableInfo) × IsChecked (W.files store.old) schema.now n info × (tables.new ≡ tables.old ++ info ∷ [])) }
     ensures bad { IfErr result (IsBadFile (W.files store.old) schema.now n) }
     ensures faults { RisesIfFault OnOpenFault result (W.faults store.old) (W.faults store.new) }
-    ensures files { W.files store.new ≡ W.files store.old }
+    ensures store { HoldsSameFiles W.files W.building store.old store.new }
     ensures asks { (bytes : List ℕ) → IsContent (W.files store.old) n bytes → AsksFew (W.asks store.old) (W.asks store.new) bytes }
 {
     match checked(alloc, store, n, schema) {
@@ -109,7 +109,7 @@ fn check_each<W: Store>(
     ensures tables { IfOk result (λ infos. (tables : List Table) × AreTables (W.files store.old) schema.now tables × AreListed (W.files store.old) schema.now tables infos) }
     ensures refused { IfErr result (IsOpeningRefused (W.files store.old) schema.now) }
     ensures faults { RisesIfFault OnOpenFault result (W.faults store.old) (W.faults store.new) }
-    ensures files { W.files store.new ≡ W.files store.old }
+    ensures store { HoldsSameFiles W.files W.building store.old store.new }
     ensures asks { IfSome (W.files store.old) (λ told. W.asks store.new ≤ W.asks store.old + checks_of (values told)) }
 {
     let mut tables = none;
@@ -132,7 +132,7 @@ pub(crate) fn check_tables<W: Store>(
     ensures tables { IfOk result (λ infos. (tables : List Table) × AreTables (W.files store.old) schema.now tables × AreListed (W.files store.old) schema.now tables infos) }
     ensures refused { IfErr result (IsOpeningRefused (W.files store.old) schema.now) }
     ensures faults { RisesIfFault OnOpenFault result (W.faults store.old) (W.faults store.new) }
-    ensures files { W.files store.new ≡ W.files store.old }
+    ensures store { HoldsSameFiles W.files W.building store.old store.new }
     ensures asks { IfSome (W.files store.old) (λ told. W.asks store.new ≤ W.asks store.old + checks_of (values told)) }
 {
     match store.numbers(alloc) {

@@ -2,7 +2,7 @@
 
 ghost use Rattle.std.specs.Prelude.{◌≡◌, ◌+◌, ◌*◌, ◌≤◌, ◌++◌, ℕ, List, Option, All, IsTrue, MatchBool, length, IfErr, IfOk, IfSome, OnErr};
 ghost use Rattle.std.specs.FinMap.{values};
-ghost use Rattle.rc_outside.specs.Files.{Files, IsNoFile};
+ghost use Rattle.rc_outside.specs.Files.{HoldsSameFiles, Files, IsNoFile};
 ghost use Rattle.rc_outside.specs.Faults.{Rose, RisesIfFault};
 ghost use Rattle.rc_mutation.specs.declared.mutations.Mutation.{Mutation};
 ghost use Rattle.rc_mutation.specs.Source.{changes_to, IsJoinOf};
@@ -68,7 +68,7 @@ impl Plain {
             × ((segments : ℕ) → Stands (W.files store.new) plain (opened_state segments (W.files store.old) schema tables infos))) }
         ensures refused { IfErr result (IsOpeningRefused (W.files store.old) schema) }
         ensures faults { RisesIfFault OnOpenFault result (W.faults store.old) (W.faults store.new) }
-        ensures files { W.files store.new ≡ W.files store.old }
+        ensures store { HoldsSameFiles W.files W.building store.old store.new }
         ensures asks { IfSome (W.files store.old) (λ told. W.asks store.new ≤ W.asks store.old + checks_of (values told)) }
     {
         let tables = check_tables(alloc, store, &schema)?;
@@ -157,7 +157,7 @@ impl Plain {
         ensures step { IfOk result (λ reply. Takes Stands (W.files store.old) self.old (Command.OpenRead id key.now slice.now) reply (W.files store.new) self.new) }
         ensures err { OnErr result (self.new ≡ self.old) }
         ensures faults { FaultsAreCounted result (W.faults store.old) (W.faults store.new) }
-        ensures files { W.files store.new ≡ W.files store.old }
+        ensures store { HoldsSameFiles W.files W.building store.old store.new }
         ensures asks { W.asks store.new ≤ W.asks store.old + 2 * listing key.now self.old.infos }
     {
         if place_of(self.readers.as_slice(), id).is_some() {
@@ -191,7 +191,7 @@ impl Plain {
         ensures lines { IfOk result (λ lines. (m : State) → Stands (W.files store.old) self.now m → IsAnswer m key.now slice.now lines) }
         ensures damaged { IfErr result (IsDamageOf self.now.schema key.now self.now.infos) }
         ensures cause { Caused result (W.files store.old) (W.faults store.old) (W.faults store.new) }
-        ensures files { W.files store.new ≡ W.files store.old }
+        ensures store { HoldsSameFiles W.files W.building store.old store.new }
         ensures asks { W.asks store.new ≤ W.asks store.old + 2 * listing key.now self.now.infos }
     {
         let change = read_joined(alloc, store, &self.tables, &self.schema, key)?;

@@ -1,5 +1,6 @@
 // Two streams as one.
 ghost use Rattle.std.specs.Prelude.{◌≡◌, [], None, Some, IfOk, IfSome, IsTrue, OnOk};
+ghost use Rattle.rc_outside.specs.Files.{HoldsSameFiles};
 ghost use Rattle.rc_position.specs.declared.positions.Pos.{Pos};
 ghost use Rattle.rc_stream.specs.Calls.{left_by};
 ghost use Rattle.rc_stream.specs.Causes.{Caused};
@@ -49,8 +50,7 @@ fn look_at_both<H, W: Store, A: Frags<H, W>, B: Frags<H, W>>(
     ensures moves { Moved A.moves B.moves home.old store.old home.new store.new }
     ensures damage { Blames (EitherSpot (A.damage ours.old) (B.damage theirs.old)) (EitherSpot (A.damage ours.new) (B.damage theirs.new)) result }
     ensures cause { Caused result (W.files store.old) (W.faults store.old) (W.faults store.new) }
-    ensures files { W.files store.new ≡ W.files store.old }
-    ensures building { W.building store.new ≡ W.building store.old }
+    ensures store { HoldsSameFiles W.files W.building store.old store.new }
 {
     match look_ahead(alloc, ours, ours_held, home, store, upto) {
         Ok(()) => match bound(alloc, ours_held, upto) {
@@ -88,8 +88,7 @@ fn round<H, W: Store, A: Frags<H, W>, B: Frags<H, W>>(
     ensures moves { Moved A.moves B.moves home.old store.old home.new store.new }
     ensures damage { Blames (EitherSpot (A.damage ours.old) (B.damage theirs.old)) (EitherSpot (A.damage ours.new) (B.damage theirs.new)) result }
     ensures cause { Caused result (W.files store.old) (W.faults store.old) (W.faults store.new) }
-    ensures files { W.files store.new ≡ W.files store.old }
-    ensures building { W.building store.new ≡ W.building store.old }
+    ensures store { HoldsSameFiles W.files W.building store.old store.new }
 {
     match look_at_both(
         alloc,
@@ -138,8 +137,7 @@ fn next_of_both<H, W: Store, A: Frags<H, W>, B: Frags<H, W>>(
     ensures moves { Moved A.moves B.moves home.old store.old home.new store.new }
     ensures damage { Blames (EitherSpot (A.damage ours.old) (B.damage theirs.old)) (EitherSpot (A.damage ours.new) (B.damage theirs.new)) result }
     ensures cause { Caused result (W.files store.old) (W.faults store.old) (W.faults store.new) }
-    ensures files { W.files store.new ≡ W.files store.old }
-    ensures building { W.building store.new ≡ W.building store.old }
+    ensures store { HoldsSameFiles W.files W.building store.old store.new }
 {
     let mut rounds = u64::MAX;
     while rounds > 0 {
@@ -192,8 +190,7 @@ fn go_on_in_both<H, W: Store, A: Frags<H, W>, B: Frags<H, W>>(
     ensures moves { Moved A.moves B.moves home.old store.old home.new store.new }
     ensures damage { Blames (EitherSpot (A.damage ours.old) (B.damage theirs.old)) (EitherSpot (A.damage ours.new) (B.damage theirs.new)) result }
     ensures cause { Caused result (W.files store.old) (W.faults store.old) (W.faults store.new) }
-    ensures files { W.files store.new ≡ W.files store.old }
-    ensures building { W.building store.new ≡ W.building store.old }
+    ensures store { HoldsSameFiles W.files W.building store.old store.new }
 {
     match go_on(alloc, ours, ours_held, home, store, to) {
         Ok(()) => go_on(alloc, theirs, theirs_held, home, store, to),
@@ -229,8 +226,7 @@ fn settle<H, W: Store, A: Frags<H, W>, B: Frags<H, W>>(
     ensures moves { Moved A.moves B.moves home.old store.old home.new store.new }
     ensures damage { Blames (EitherSpot (A.damage ours.old) (B.damage theirs.old)) (EitherSpot (A.damage ours.new) (B.damage theirs.new)) result }
     ensures cause { Caused result (W.files store.old) (W.faults store.old) (W.faults store.new) }
-    ensures files { W.files store.new ≡ W.files store.old }
-    ensures building { W.building store.new ≡ W.building store.old }
+    ensures store { HoldsSameFiles W.files W.building store.old store.new }
 {
     match due.take() {
         None => Ok(()),
@@ -285,8 +281,7 @@ fn head_of_both<H, W: Store, A: Frags<H, W>, B: Frags<H, W>>(
     ensures did { HeadsOnce A.did B.did (answered result) (ours.old, theirs.old, home.old, store.old) (ours.new, theirs.new, home.new, store.new) }
     ensures damage { Blames (EitherSpot (A.damage ours.old) (B.damage theirs.old)) (EitherSpot (A.damage ours.new) (B.damage theirs.new)) result }
     ensures cause { Caused result (W.files store.old) (W.faults store.old) (W.faults store.new) }
-    ensures files { W.files store.new ≡ W.files store.old }
-    ensures building { W.building store.new ≡ W.building store.old }
+    ensures store { HoldsSameFiles W.files W.building store.old store.new }
 {
     match ours.head(alloc, home, store) {
         Ok(head) => match theirs.head(alloc, home, store) {

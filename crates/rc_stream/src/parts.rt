@@ -1,5 +1,6 @@
 // One of two streams that are merged, with what is held of it.
 ghost use Rattle.std.specs.Prelude.{◌≡◌, [], None, OnOk};
+ghost use Rattle.rc_outside.specs.Files.{HoldsSameFiles};
 ghost use Rattle.rc_position.specs.declared.positions.Pos.{Pos};
 ghost use Rattle.rc_stream.specs.Calls.{sought_by};
 ghost use Rattle.rc_stream.specs.Causes.{Caused};
@@ -33,8 +34,7 @@ pub(crate) fn look_ahead<H, W: Store, A: Frags<H, W>>(
     ensures moves { Once A.moves home.old store.old home.new store.new }
     ensures damage { Blames (A.damage stream.old) (A.damage stream.new) result }
     ensures cause { Caused result (W.files store.old) (W.faults store.old) (W.faults store.new) }
-    ensures files { W.files store.new ≡ W.files store.old }
-    ensures building { W.building store.new ≡ W.building store.old }
+    ensures store { HoldsSameFiles W.files W.building store.old store.new }
 {
     if !kept.is_empty() {
         return Ok(());
@@ -66,8 +66,7 @@ pub(crate) fn go_on<H, W: Store, A: Frags<H, W>>(
     ensures moves { Once A.moves home.old store.old home.new store.new }
     ensures damage { Blames (A.damage stream.old) (A.damage stream.new) result }
     ensures cause { Caused result (W.files store.old) (W.faults store.old) (W.faults store.new) }
-    ensures files { W.files store.new ≡ W.files store.old }
-    ensures building { W.building store.new ≡ W.building store.old }
+    ensures store { HoldsSameFiles W.files W.building store.old store.new }
 {
     match kept.go_on(alloc, to) {
         Ok(false) => Ok(()),

@@ -1,5 +1,6 @@
 // A partition as a stream.
 ghost use Rattle.std.specs.Prelude.{◌≡◌, IfOk, IfSome, IsTrue, OnOk, OnErr};
+ghost use Rattle.rc_outside.specs.Files.{HoldsSameFiles};
 
 use rc_mutation::{Frag, Head};
 use rc_outside::Store;
@@ -83,8 +84,7 @@ pub trait Frags<H, W: Store> {
         ensures did { did self.old home.old store.old OfHead (answered result) self.new home.new store.new }
         ensures damage { Blames (damage self.old) (damage self.new) result }
         ensures cause { Caused result (W.files store.old) (W.faults store.old) (W.faults store.new) }
-        ensures files { W.files store.new ≡ W.files store.old }
-        ensures building { W.building store.new ≡ W.building store.old };
+        ensures store { HoldsSameFiles W.files W.building store.old store.new };
 
     /// Goes on to a position that is not before its place: the first is then a change there where a tombstone is in force
     /// there. `StreamErr::Fault` when the store fails, `StreamErr::Damaged` when bytes of a file contradict it,
@@ -106,8 +106,7 @@ pub trait Frags<H, W: Store> {
         ensures did { did self.old home.old store.old (OfSeek to.now) (answered result) self.new home.new store.new }
         ensures damage { Blames (damage self.old) (damage self.new) result }
         ensures cause { Caused result (W.files store.old) (W.faults store.old) (W.faults store.new) }
-        ensures files { W.files store.new ≡ W.files store.old }
-        ensures building { W.building store.new ≡ W.building store.old };
+        ensures store { HoldsSameFiles W.files W.building store.old store.new };
 
     /// Takes the first row or change that is left and gives it, if it stands at `upto` or before it; none exactly where
     /// no such stands there, and then the stream is as before. `StreamErr::Fault` when the store fails,
@@ -130,6 +129,5 @@ pub trait Frags<H, W: Store> {
         ensures did { (y : Pos) → ReachesEnd (seen self.old home.old store.old) upto.now y → did self.old home.old store.old (OfNext y) (answered result) self.new home.new store.new }
         ensures damage { Blames (damage self.old) (damage self.new) result }
         ensures cause { Caused result (W.files store.old) (W.faults store.old) (W.faults store.new) }
-        ensures files { W.files store.new ≡ W.files store.old }
-        ensures building { W.building store.new ≡ W.building store.old };
+        ensures store { HoldsSameFiles W.files W.building store.old store.new };
 }

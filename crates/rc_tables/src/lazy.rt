@@ -1,6 +1,7 @@
 //! A partition in all tables of a set as a stream.
 
 ghost use Rattle.std.specs.Prelude.{◌≡◌, ◌≤◌, ◌+◌, ◌*◌, IfErr, IfOk, IfSome, IsSome, IsTrue, None, OnOk, Some};
+ghost use Rattle.rc_outside.specs.Files.{HoldsSameFiles};
 ghost use Rattle.rc_stream.specs.Calls.{left_by, sought_by};
 ghost use Rattle.rc_stream.specs.Causes.{Caused};
 ghost use Rattle.rc_stream.specs.Stream.{Stream, first_upto, is_upto, sought, took};
@@ -68,8 +69,7 @@ impl TableFrags {
         ensures tables { SameTables self.old self.new }
         ensures damaged { IfErr result (IsDamageOf self.old.schema self.old.key self.old.infos) }
         ensures cause { Caused result (W.files store.old) (W.faults store.old) (W.faults store.new) }
-        ensures files { W.files store.new ≡ W.files store.old }
-        ensures building { W.building store.new ≡ W.building store.old }
+        ensures store { HoldsSameFiles W.files W.building store.old store.new }
         ensures asks { DidAsk (answered result) self.old (W.asks store.old) self.new (W.asks store.new) }
     {
         match self.take_read(alloc, store) {
@@ -98,8 +98,7 @@ impl TableFrags {
         ensures tables { SameTables self.old self.new }
         ensures damaged { IfErr result (IsDamageOf self.old.schema self.old.key self.old.infos) }
         ensures cause { Caused result (W.files store.old) (W.faults store.old) (W.faults store.new) }
-        ensures files { W.files store.new ≡ W.files store.old }
-        ensures building { W.building store.new ≡ W.building store.old }
+        ensures store { HoldsSameFiles W.files W.building store.old store.new }
         ensures asks { DidAsk (answered result) self.old (W.asks store.old) self.new (W.asks store.new) }
     {
         match self.take_read(alloc, store) {
@@ -131,8 +130,7 @@ impl TableFrags {
         ensures tables { SameTables self.old self.new }
         ensures damaged { IfErr result (IsDamageOf self.old.schema self.old.key self.old.infos) }
         ensures cause { Caused result (W.files store.old) (W.faults store.old) (W.faults store.new) }
-        ensures files { W.files store.new ≡ W.files store.old }
-        ensures building { W.building store.new ≡ W.building store.old }
+        ensures store { HoldsSameFiles W.files W.building store.old store.new }
         ensures asks { DidAsk (answered result) self.old (W.asks store.old) self.new (W.asks store.new) }
     {
         match self.take_read(alloc, store) {
@@ -157,8 +155,7 @@ impl TableFrags {
         ensures refused { IfErr result (λ _. self.new.read ≡ self.old.read) }
         ensures damaged { IfErr result (IsDamageOf self.old.schema self.old.key self.old.infos) }
         ensures cause { Caused result (W.files store.old) (W.faults store.old) (W.faults store.new) }
-        ensures files { W.files store.new ≡ W.files store.old }
-        ensures building { W.building store.new ≡ W.building store.old }
+        ensures store { HoldsSameFiles W.files W.building store.old store.new }
         ensures asks { W.asks store.new ≤ W.asks store.old + asks_left self.old }
         ensures quiet { IsSome self.old.read → W.asks store.new ≡ W.asks store.old }
     {
@@ -264,8 +261,7 @@ fn read_list<W: Store>(
     ensures some { IfOk result (IsSomeStream schema.now set.now key.now) }
     ensures damaged { IfErr result (IsDamageOf schema.now key.now set.now) }
     ensures cause { Caused result (W.files store.old) (W.faults store.old) (W.faults store.new) }
-    ensures files { W.files store.new ≡ W.files store.old }
-    ensures building { W.building store.new ≡ W.building store.old }
+    ensures store { HoldsSameFiles W.files W.building store.old store.new }
     ensures asks { W.asks store.new ≤ W.asks store.old + 2 * listing key.now set.now }
 {
     let joined = read_joined(alloc, store, set, schema, key)?;

@@ -2,7 +2,7 @@
 
 ghost use Rattle.std.specs.Prelude.{◌≡◌, ◌≤◌, ◌+◌, ℕ, ◌∷◌, drop, IfErr, IfOk, IfSome, Some, length};
 ghost use Rattle.rc_mutation.specs.declared.mutations.Partition.{Partition};
-ghost use Rattle.rc_outside.specs.Files.{LiesInFile, AreBytesOf};
+ghost use Rattle.rc_outside.specs.Files.{HoldsSameFiles, LiesInFile, AreBytesOf};
 ghost use Rattle.rc_stream.specs.Causes.{Caused};
 ghost use Rattle.rc_tables.specs.Rebuilt.{number_at_front};
 ghost use Rattle.rc_tables.specs.Located.{EndsAt, glimpsed, IsAtSpan, IsEntryAt, IsLocated, IsStreamHostError, IsSpan, MayLie, SaysSpan, WhereTold};
@@ -41,8 +41,7 @@ pub(crate) fn read_range<W: Store>(
     ensures outside { IfErr result IsStreamHostError }
     ensures size { IfOk result (λ piece. length piece.items ≡ count) }
     ensures cause { Caused result (W.files store.old) (W.faults store.old) (W.faults store.new) }
-    ensures files { W.files store.new ≡ W.files store.old }
-    ensures building { W.building store.new ≡ W.building store.old }
+    ensures store { HoldsSameFiles W.files W.building store.old store.new }
     ensures asks { W.asks store.new ≤ W.asks store.old + 1 }
 {
     let Ok(mut piece) = zeros(alloc, count) else {
@@ -77,8 +76,7 @@ pub(crate) fn locate<W: Store>(
     ensures said { IfOk result (λ span. SaysSpan dir here.now later.now span.from span.to) }
     ensures damaged { IfErr result (IsAtSpan n dir here.now later.now) }
     ensures cause { Caused result (W.files store.old) (W.faults store.old) (W.faults store.new) }
-    ensures files { W.files store.new ≡ W.files store.old }
-    ensures building { W.building store.new ≡ W.building store.old }
+    ensures store { HoldsSameFiles W.files W.building store.old store.new }
     ensures asks { W.asks store.new ≤ W.asks store.old + 1 }
 {
     let count = here.dir_len as usize + glimpse(later);

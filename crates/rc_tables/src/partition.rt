@@ -1,6 +1,7 @@
 //! A partition read from one table.
 
 ghost use Rattle.std.specs.Prelude.{◌≡◌, ◌≤◌, ◌+◌, ◌∷◌, IfErr, IfOk};
+ghost use Rattle.rc_outside.specs.Files.{HoldsSameFiles};
 ghost use Rattle.rc_mutation.specs.declared.mutations.Partition.{Partition};
 ghost use Rattle.rc_stream.specs.Causes.{Caused};
 ghost use Rattle.rc_tables.specs.Located.{Contradicts, IsLocatedOf, SaysOf, WhereTold};
@@ -31,8 +32,7 @@ pub(crate) fn read_partition<W: Store>(
     ensures fits { IfOk result (SaysOf schema.now) }
     ensures damaged { IfErr result (Contradicts schema.now n dir here.now later.now) }
     ensures cause { Caused result (W.files store.old) (W.faults store.old) (W.faults store.new) }
-    ensures files { W.files store.new ≡ W.files store.old }
-    ensures building { W.building store.new ≡ W.building store.old }
+    ensures store { HoldsSameFiles W.files W.building store.old store.new }
     ensures asks { W.asks store.new ≤ W.asks store.old + 2 }
 {
     let span = locate(alloc, store, n, dir, here, later)?;

@@ -3,6 +3,7 @@
 ghost use Rattle.std.specs.Prelude.{◌≡◌, ◌≢◌, ◌≤◌, ◌<◌, ◌+◌, ◌*◌, [], ◌∷◌, ◌++◌, All, ℕ, IfErr, IfOk, IfSome, IfNone, IsTrue, List, length, map, OnOk};
 ghost use Rattle.std.specs.FinMap.{is_sorted};
 ghost use Rattle.std.specs.List.{HoldsAt};
+ghost use Rattle.rc_outside.specs.Files.{HoldsSameFiles};
 ghost use Rattle.rc_position.specs.Position.{bytes_cmp};
 ghost use Rattle.rc_mutation.specs.declared.mutations.Mutation.{Mutation};
 ghost use Rattle.rc_mutation.specs.declared.mutations.Partition.{Partition};
@@ -38,8 +39,7 @@ pub fn read_joined<W: Store>(
     ensures mutation { IfOk result IsMutation }
     ensures damaged { IfErr result (IsDamageOf schema.now key.now set.now) }
     ensures cause { Caused result (W.files store.old) (W.faults store.old) (W.faults store.new) }
-    ensures files { W.files store.new ≡ W.files store.old }
-    ensures building { W.building store.new ≡ W.building store.old }
+    ensures store { HoldsSameFiles W.files W.building store.old store.new }
     ensures asks { W.asks store.new ≤ W.asks store.old + 2 * listing key.now set.now }
 {
     let mut joined = Mutation::empty(alloc);
@@ -67,8 +67,7 @@ fn join_table<W: Store>(
     ensures some { OnOk result (JoinsSome schema.now (info.now ∷ []) key.now joined.old joined.new) }
     ensures damaged { IfErr result (IsDamageOf schema.now key.now (info.now ∷ [])) }
     ensures cause { Caused result (W.files store.old) (W.faults store.old) (W.faults store.new) }
-    ensures files { W.files store.new ≡ W.files store.old }
-    ensures building { W.building store.new ≡ W.building store.old }
+    ensures store { HoldsSameFiles W.files W.building store.old store.new }
     ensures asks { W.asks store.new ≤ W.asks store.old + 2 * listing key.now (info.now ∷ []) }
 {
     let parts = info.parts.as_slice();

@@ -1,7 +1,7 @@
 //! Files read: the schema in the head of one.
 
 ghost use Rattle.std.specs.Prelude.{◌≡◌, ◌≢◌, ◌≤◌, ◌+◌, ℕ, List, [], length, Some, Err, IfOk, OnOk};
-ghost use Rattle.rc_outside.specs.Files.{IsFile};
+ghost use Rattle.rc_outside.specs.Files.{HoldsSameFiles, IsFile};
 ghost use Rattle.rc_tfile.specs.Items.{item_code, HeadItem, IsItem};
 ghost use Rattle.rc_tfile.specs.Reading.{Starts};
 ghost use Rattle.rc_tfile.specs.calls.Windows.{IsOpen, IsAheadIn, reads_left};
@@ -43,8 +43,7 @@ pub(crate) fn head_of<W: Store>(
 ) -> Result<(Schema, usize), CheckErr>
     requires open { IsOpen (W.files store.old) file.old }
     requires start { IsAheadIn (W.files store.old) [] file.old }
-    ensures files { W.files store.new ≡ W.files store.old }
-    ensures building { W.building store.new ≡ W.building store.old }
+    ensures store { HoldsSameFiles W.files W.building store.old store.new }
     ensures faults { RisesIfFault OnCheckFault result (W.faults store.old) (W.faults store.new) }
     ensures open { OnOk result (IsOpen (W.files store.new) file.new) }
     ensures told { OnOk result (IsAheadIn (W.files store.new) [] file.new) }
@@ -71,8 +70,7 @@ pub fn read_schema<W: Store>(alloc: Global, store: &mut W, n: u32) -> Result<Sch
     requires { IsFile (W.files store.old) n }
     ensures schema { (bytes : List ℕ) → IsContent (W.files store.old) n bytes → ChecksHead bytes result }
     ensures never { result ≢ Err CheckErr.OtherSchema }
-    ensures files { W.files store.new ≡ W.files store.old }
-    ensures building { W.building store.new ≡ W.building store.old }
+    ensures store { HoldsSameFiles W.files W.building store.old store.new }
     ensures faults { RisesIfFault OnCheckFault result (W.faults store.old) (W.faults store.new) }
     ensures asks { (bytes : List ℕ) → IsContent (W.files store.old) n bytes → AsksFew (W.asks store.old) (W.asks store.new) bytes }
 {

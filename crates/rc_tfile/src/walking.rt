@@ -2,7 +2,7 @@
 
 ghost use Rattle.std.specs.Prelude.{◌≡◌, ◌≤◌, ◌+◌, ◌<◌, ◌↔◌, ℕ, List, [], ◌∷◌, ◌++◌, map, length, true, IsTrue, IfOk, IfErr, OnOk, MatchResult};
 ghost use Rattle.std.specs.List.{flat_map, AllByRecursion};
-ghost use Rattle.rc_outside.specs.Files.{IsFile};
+ghost use Rattle.rc_outside.specs.Files.{HoldsSameFiles, IsFile};
 ghost use Rattle.rc_schema.specs.SchemaValue.{SchemaValue};
 ghost use Rattle.rc_rowcode.specs.Spelling.{KeyFits};
 ghost use Rattle.rc_tfile.specs.Items.{EntryItem, BlockItem, TailItem};
@@ -34,8 +34,7 @@ fn check_head<W: Store>(
 ) -> Result<Outline, CheckErr>
     requires open { IsOpen (W.files store.old) file.old }
     requires start { IsAheadIn (W.files store.old) [] file.old }
-    ensures files { W.files store.new ≡ W.files store.old }
-    ensures building { W.building store.new ≡ W.building store.old }
+    ensures store { HoldsSameFiles W.files W.building store.old store.new }
     ensures faults { RisesIfFault OnCheckFault result (W.faults store.old) (W.faults store.new) }
     ensures open { OnOk result (IsOpen (W.files store.new) file.new) }
     ensures number { file.new.number ≡ file.old.number }
@@ -62,8 +61,7 @@ fn check_item<W: Store>(
 ) -> Result<bool, CheckErr>
     requires open { IsOpen (W.files store.old) file.old }
     requires stands { StandsAhead (W.files store.old) schema.now outline.old file.old }
-    ensures files { W.files store.new ≡ W.files store.old }
-    ensures building { W.building store.new ≡ W.building store.old }
+    ensures store { HoldsSameFiles W.files W.building store.old store.new }
     ensures faults { RisesIfFault OnCheckFault result (W.faults store.old) (W.faults store.new) }
     ensures open { OnOk result (IsOpen (W.files store.new) file.new) }
     ensures number { file.new.number ≡ file.old.number }
@@ -100,8 +98,7 @@ fn check_parts<W: Store>(
 ) -> Result<(), CheckErr>
     requires open { IsOpen (W.files store.old) file.old }
     requires stands { StandsAhead (W.files store.old) schema.now outline.old file.old }
-    ensures files { W.files store.new ≡ W.files store.old }
-    ensures building { W.building store.new ≡ W.building store.old }
+    ensures store { HoldsSameFiles W.files W.building store.old store.new }
     ensures faults { RisesIfFault OnCheckFault result (W.faults store.old) (W.faults store.new) }
     ensures open { OnOk result (IsOpen (W.files store.new) file.new) }
     ensures number { file.new.number ≡ file.old.number }
@@ -135,8 +132,7 @@ fn expect<W: Store>(
 ) -> Result<(), CheckErr>
     requires open { IsOpen (W.files store.old) file.old }
     requires short { length code.now ≤ largest }
-    ensures files { W.files store.new ≡ W.files store.old }
-    ensures building { W.building store.new ≡ W.building store.old }
+    ensures store { HoldsSameFiles W.files W.building store.old store.new }
     ensures faults { RisesIfFault OnCheckFault result (W.faults store.old) (W.faults store.new) }
     ensures open { OnOk result (IsOpen (W.files store.new) file.new) }
     ensures number { file.new.number ≡ file.old.number }
@@ -163,8 +159,7 @@ fn check_block<W: Store>(
 ) -> Result<(), CheckErr>
     requires open { IsOpen (W.files store.old) file.old }
     requires limits { KeyFits block.now.first.prefix }
-    ensures files { W.files store.new ≡ W.files store.old }
-    ensures building { W.building store.new ≡ W.building store.old }
+    ensures store { HoldsSameFiles W.files W.building store.old store.new }
     ensures faults { RisesIfFault OnCheckFault result (W.faults store.old) (W.faults store.new) }
     ensures open { OnOk result (IsOpen (W.files store.new) file.new) }
     ensures number { file.new.number ≡ file.old.number }
@@ -187,8 +182,7 @@ fn check_blocks<W: Store>(
 ) -> Result<(), CheckErr>
     requires open { IsOpen (W.files store.old) file.old }
     requires limits { AllByRecursion (λ b. KeyFits b.first.prefix) blocks.now }
-    ensures files { W.files store.new ≡ W.files store.old }
-    ensures building { W.building store.new ≡ W.building store.old }
+    ensures store { HoldsSameFiles W.files W.building store.old store.new }
     ensures faults { RisesIfFault OnCheckFault result (W.faults store.old) (W.faults store.new) }
     ensures open { OnOk result (IsOpen (W.files store.new) file.new) }
     ensures number { file.new.number ≡ file.old.number }
@@ -212,8 +206,7 @@ fn check_entry<W: Store>(
     listed: &Listed,
 ) -> Result<(), CheckErr>
     requires open { IsOpen (W.files store.old) file.old }
-    ensures files { W.files store.new ≡ W.files store.old }
-    ensures building { W.building store.new ≡ W.building store.old }
+    ensures store { HoldsSameFiles W.files W.building store.old store.new }
     ensures faults { RisesIfFault OnCheckFault result (W.faults store.old) (W.faults store.new) }
     ensures open { OnOk result (IsOpen (W.files store.new) file.new) }
     ensures number { file.new.number ≡ file.old.number }
@@ -235,8 +228,7 @@ fn check_listed<W: Store>(
     listed: &Listed,
 ) -> Result<(), CheckErr>
     requires open { IsOpen (W.files store.old) file.old }
-    ensures files { W.files store.new ≡ W.files store.old }
-    ensures building { W.building store.new ≡ W.building store.old }
+    ensures store { HoldsSameFiles W.files W.building store.old store.new }
     ensures faults { RisesIfFault OnCheckFault result (W.faults store.old) (W.faults store.new) }
     ensures open { OnOk result (IsOpen (W.files store.new) file.new) }
     ensures number { file.new.number ≡ file.old.number }
@@ -256,8 +248,7 @@ fn check_directory<W: Store>(
     entries: &[Listed],
 ) -> Result<(), CheckErr>
     requires open { IsOpen (W.files store.old) file.old }
-    ensures files { W.files store.new ≡ W.files store.old }
-    ensures building { W.building store.new ≡ W.building store.old }
+    ensures store { HoldsSameFiles W.files W.building store.old store.new }
     ensures faults { RisesIfFault OnCheckFault result (W.faults store.old) (W.faults store.new) }
     ensures open { OnOk result (IsOpen (W.files store.new) file.new) }
     ensures number { file.new.number ≡ file.old.number }
@@ -282,8 +273,7 @@ fn check_tail<W: Store>(
     parts: usize,
 ) -> Result<(), CheckErr>
     requires open { IsOpen (W.files store.old) file.old }
-    ensures files { W.files store.new ≡ W.files store.old }
-    ensures building { W.building store.new ≡ W.building store.old }
+    ensures store { HoldsSameFiles W.files W.building store.old store.new }
     ensures faults { RisesIfFault OnCheckFault result (W.faults store.old) (W.faults store.new) }
     ensures open { OnOk result (IsOpen (W.files store.new) file.new) }
     ensures number { file.new.number ≡ file.old.number }
@@ -300,8 +290,7 @@ fn check_tail<W: Store>(
 // Nothing may follow.
 fn check_end<W: Store>(alloc: Global, store: &mut W, file: &mut Window) -> Result<(), CheckErr>
     requires open { IsOpen (W.files store.old) file.old }
-    ensures files { W.files store.new ≡ W.files store.old }
-    ensures building { W.building store.new ≡ W.building store.old }
+    ensures store { HoldsSameFiles W.files W.building store.old store.new }
     ensures faults { RisesIfFault OnCheckFault result (W.faults store.old) (W.faults store.new) }
     ensures number { file.new.number ≡ file.old.number }
     ensures asks { W.asks store.new ≤ W.asks store.old + reads_left file.old }
@@ -324,8 +313,7 @@ fn check_ending<W: Store>(
     outline: &Outline,
 ) -> Result<(), CheckErr>
     requires open { IsOpen (W.files store.old) file.old }
-    ensures files { W.files store.new ≡ W.files store.old }
-    ensures building { W.building store.new ≡ W.building store.old }
+    ensures store { HoldsSameFiles W.files W.building store.old store.new }
     ensures faults { RisesIfFault OnCheckFault result (W.faults store.old) (W.faults store.new) }
     ensures number { file.new.number ≡ file.old.number }
     ensures asks { W.asks store.new ≤ W.asks store.old + reads_left file.old }
@@ -346,8 +334,7 @@ fn check_items<W: Store>(
 ) -> Result<Outline, CheckErr>
     requires open { IsOpen (W.files store.old) file.old }
     requires start { IsAheadIn (W.files store.old) [] file.old }
-    ensures files { W.files store.new ≡ W.files store.old }
-    ensures building { W.building store.new ≡ W.building store.old }
+    ensures store { HoldsSameFiles W.files W.building store.old store.new }
     ensures faults { RisesIfFault OnCheckFault result (W.faults store.old) (W.faults store.new) }
     ensures number { file.new.number ≡ file.old.number }
     ensures asks { W.asks store.new ≤ W.asks store.old + reads_left file.old }
@@ -373,8 +360,7 @@ pub fn check_table<W: Store>(
 ) -> Result<TableInfo, CheckErr>
     requires { IsFile (W.files store.old) n }
     ensures table { (bytes : List ℕ) → IsContent (W.files store.old) n bytes → ChecksTable bytes n schema.now result }
-    ensures files { W.files store.new ≡ W.files store.old }
-    ensures building { W.building store.new ≡ W.building store.old }
+    ensures store { HoldsSameFiles W.files W.building store.old store.new }
     ensures faults { RisesIfFault OnCheckFault result (W.faults store.old) (W.faults store.new) }
     ensures asks { (bytes : List ℕ) → IsContent (W.files store.old) n bytes → AsksFew (W.asks store.old) (W.asks store.new) bytes }
 {

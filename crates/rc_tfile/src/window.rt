@@ -1,7 +1,7 @@
 //! A file that is read in pieces, from its start to its end.
 
 ghost use Rattle.std.specs.Prelude.{◌≡◌, ℕ, ◌+◌, ◌≤◌, [], List, Option, IfErr, IfOk, MatchResult, OnOk, length, min};
-ghost use Rattle.rc_outside.specs.Files.{Files, IsFile, LiesInFile};
+ghost use Rattle.rc_outside.specs.Files.{HoldsSameFiles, Files, IsFile, LiesInFile};
 ghost use Rattle.rc_outside.specs.Faults.{RisesIfFault};
 ghost use Rattle.rc_tfile.specs.Checking.{IsHostError, OnCheckFault};
 ghost use Rattle.rc_tfile.specs.calls.Windows.{ReadAhead, IsFull, IsOpen, IsAheadIn, past, bytes_left, reads_left};
@@ -47,8 +47,7 @@ impl Window {
     /// The start of file `n`, of which nothing is read yet.
     pub(crate) fn open<W: Store>(alloc: Global, store: &mut W, n: u32) -> Result<Window, CheckErr>
         requires { IsFile (W.files store.old) n }
-        ensures files { W.files store.new ≡ W.files store.old }
-        ensures building { W.building store.new ≡ W.building store.old }
+        ensures store { HoldsSameFiles W.files W.building store.old store.new }
         ensures faults { RisesIfFault OnCheckFault result (W.faults store.old) (W.faults store.new) }
         ensures asks { W.asks store.new ≡ W.asks store.old }
         ensures told { IfOk result (λ w. IsAheadIn (W.files store.new) [] w) }
@@ -97,8 +96,7 @@ impl Window {
     /// Reads on, where less is ahead than an item may have. Then an item, or all that is left, is ahead.
     pub(crate) fn refill<W: Store>(&mut self, alloc: Global, store: &mut W) -> Result<(), CheckErr>
         requires { IsOpen (W.files store.old) self.old }
-        ensures files { W.files store.new ≡ W.files store.old }
-        ensures building { W.building store.new ≡ W.building store.old }
+        ensures store { HoldsSameFiles W.files W.building store.old store.new }
         ensures faults { RisesIfFault OnCheckFault result (W.faults store.old) (W.faults store.new) }
         ensures open { OnOk result (IsOpen (W.files store.new) self.new) }
         ensures full { OnOk result (IsFull self.new) }
@@ -124,8 +122,7 @@ impl Window {
     fn read<W: Store>(&mut self, alloc: Global, store: &mut W, count: usize) -> Result<(), CheckErr>
         requires lies { LiesInFile (W.files store.old) self.old.number self.old.read count }
         requires within { self.old.read + count ≤ self.old.size }
-        ensures files { W.files store.new ≡ W.files store.old }
-        ensures building { W.building store.new ≡ W.building store.old }
+        ensures store { HoldsSameFiles W.files W.building store.old store.new }
         ensures faults { RisesIfFault OnCheckFault result (W.faults store.old) (W.faults store.new) }
         ensures told { (front : List ℕ) → IsAheadIn (W.files store.old) front self.old → OnOk result (IsAheadIn (W.files store.new) front self.new) }
         ensures grown { OnOk result ((self.new.read ≡ self.old.read + count) × (length self.new.ahead ≡ length self.old.ahead + count)) }

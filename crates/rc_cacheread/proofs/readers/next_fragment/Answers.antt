@@ -47,8 +47,8 @@ loop-rounds-preserved g c =
       to = c.round.ensures.to ∙ l.invariant.to;
       damage = λ file offset d. l.invariant.damage file offset (c.round.ensures.damage.less file offset d);
       faults = omega (arith, l.invariant.faults, c.in-Ok-Passed.ensures.cause);
-      files = c.round.ensures.files ∙ l.invariant.files;
-      building = c.round.ensures.building ∙ l.invariant.building;
+      files = c.round.ensures.store.0 ∙ l.invariant.files;
+      building = c.round.ensures.store.1 ∙ l.invariant.building;
     }
 
 pub returns-in-Ok-Given-clause-gives : goal.returns-in-Ok-Given-clause-gives

@@ -11,6 +11,7 @@ pub loop-n-init : goal.loop-n-init
 loop-n-init g c = record {
   done = subst (λ (infos : List TableInfo). Done (g.W.Store.files c.args.store.now) c.args.schema.now [] infos) (sym c.requires.none) (done_none (g.W.Store.files c.args.store.now) c.args.schema.now);
   files = refl;
+  building = refl;
   asks = asks_start (g.W.Store.files c.args.store.now) (g.W.Store.asks c.args.store.now);
   faults = omega arith;
 }
@@ -35,7 +36,8 @@ loop-n-preserved g c =
       done =
           subst (λ (infos : List TableInfo). Done (g.W.Store.files c.args.store.now) c.args.schema.now (take (c.loop-n.n-index + 1) c.args.numbers.now) infos) (sym added.2)
           (done_next (g.W.Store.files c.args.store.now) c.args.schema.now c.args.numbers.now c.loop-n.n-index c.loop-n.tables added.0 c.loop-n-test.true is c.loop-n.invariant.done);
-      files = c.in-Ok.ensures.files ∙ c.loop-n.invariant.files;
+      files = c.in-Ok.ensures.store.0 ∙ c.loop-n.invariant.files;
+      building = c.in-Ok.ensures.store.1 ∙ c.loop-n.invariant.building;
       asks = asks_on (g.W.Store.files c.args.store.now) c.args.numbers.now c.loop-n.n-index (g.W.Store.asks c.loop-n.store) (g.W.Store.asks c.add_checked.new.store) (g.W.Store.asks c.args.store.now) c.requires.all c.loop-n-test.true
           (subst (λ (files : Option Files). (bytes : List ℕ) → IsContent files (get_or c.args.numbers.now c.loop-n.n-index 0) bytes → AsksFew (g.W.Store.asks c.loop-n.store) (g.W.Store.asks c.add_checked.new.store) bytes) c.loop-n.invariant.files c.in-Ok.ensures.asks) c.loop-n.invariant.asks;
       faults = omega (arith, c.in-Ok.ensures.faults.0, c.loop-n.invariant.faults);

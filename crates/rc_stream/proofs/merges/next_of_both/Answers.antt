@@ -48,8 +48,8 @@ loop-rounds-preserved g c =
       moves = moved-moved g.A.Frags.moves g.B.Frags.moves c.args.home.now c.args.store.now c.loop-rounds.home c.loop-rounds.store c.round.new.home c.round.new.store c.loop-rounds.invariant.moves c.round.ensures.moves;
       damage = λ file offset d. c.loop-rounds.invariant.damage file offset (c.round.ensures.damage.less file offset d);
       faults = omega (arith, c.loop-rounds.invariant.faults, c.in-Ok-Passed.ensures.cause);
-      files = c.round.ensures.files ∙ c.loop-rounds.invariant.files;
-      building = c.round.ensures.building ∙ c.loop-rounds.invariant.building;
+      files = c.round.ensures.store.0 ∙ c.loop-rounds.invariant.files;
+      building = c.round.ensures.store.1 ∙ c.loop-rounds.invariant.building;
     }
 
 pub returns-in-Ok-Given-clause-did : goal.returns-in-Ok-Given-clause-did

@@ -49,8 +49,8 @@ loop-left-preserved g c =
           (subst (λ (i : TableInfo). JoinsSome c.args.schema.now (i ∷ []) c.args.key.now c.loop-left.joined c.join_table.new.joined) c.as_ref.ensures c.in_ok-join_table.ensures.some));
       damage = λ e d. c.loop-left.invariant.damage e (subst (λ (ts : List TableInfo). IsDamageOf c.args.schema.now c.args.key.now ts e) (sym tables)
           (damage_behind c.args.schema.now c.args.key.now info infos e (subst (λ (ts : List TableInfo). IsDamageOf c.args.schema.now c.args.key.now ts e) (sym rest) d)));
-      files = c.in_ok-join_table.ensures.files ∙ c.loop-left.invariant.files;
-      building = c.in_ok-join_table.ensures.building ∙ c.loop-left.invariant.building;
+      files = c.in_ok-join_table.ensures.store.0 ∙ c.loop-left.invariant.files;
+      building = c.in_ok-join_table.ensures.store.1 ∙ c.loop-left.invariant.building;
       faults = omega (arith, c.in_ok-join_table.ensures.cause, c.loop-left.invariant.faults);
       asks = omega (arith, c.in_ok-join_table.ensures.asks, c.loop-left.invariant.asks, ap (listing c.args.key.now) tables, listing_first c.args.key.now info infos, ap (listing c.args.key.now) rest, ap (λ (i : TableInfo). listing c.args.key.now (i ∷ [])) c.as_ref.ensures);
     }

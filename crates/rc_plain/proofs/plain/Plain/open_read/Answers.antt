@@ -31,7 +31,7 @@ returns-in_ok-push-in-Ok-clause-step g c =
     let shut = open_none c.self.inside.readers.items c.args.id c.place_of.result (subst (λ (rs : Readers). c.place_of.result ≡ position (λ reader. reader.0 == c.args.id) rs) c.as_slice.ensures.value c.place_of.ensures) c.if-is_some.ensures in
     let few : length c.self.inside.readers.items < most_readers = omega (arith, c.if-len-ge-MOST_READERS.false, c.len.ensures, c.self.inside.readers.ok) in
     from (OpenRead c.args.id c.args.key.now c.args.slice.now) replies.Fine c.self.view_is
-    (to_files (OpenRead c.args.id c.args.key.now c.args.slice.now) replies.Fine c.in-Ok.ensures.files
+    (to_files (OpenRead c.args.id c.args.key.now c.args.slice.now) replies.Fine c.in-Ok.ensures.store.0
     (takes_open (g.W.Store.files c.args.store.now) _ c.args.id c.args.key.now c.args.slice.now c.in-Ok.lines c.push.new.self.items shut few
     (λ m s. c.in-Ok.ensures.lines m (subst (λ (k : Keeping). Stands (g.W.Store.files c.args.store.now) k m) c.self.view_is s))
     (◌∙◌ {A = Readers} c.in_ok-push-in-Ok.ensures.items (ap (λ (lines : List OutLine). c.self.inside.readers.items ++ (c.args.id, lines) ∷ []) c.new.ensures))))
@@ -40,7 +40,7 @@ pub returns-in-Err-Fault-clause-step : goal.returns-in-Err-Fault-clause-step
 returns-in-Err-Fault-clause-step g c =
     let shut = open_none c.self.inside.readers.items c.args.id c.place_of.result (subst (λ (rs : Readers). c.place_of.result ≡ position (λ reader. reader.0 == c.args.id) rs) c.as_slice.ensures.value c.place_of.ensures) c.if-is_some.ensures in
     let few : length c.self.inside.readers.items < most_readers = omega (arith, c.if-len-ge-MOST_READERS.false, c.len.ensures, c.self.inside.readers.ok) in
-    stay (OpenRead c.args.id c.args.key.now c.args.slice.now) (replies.Refused ReadFault) c.self.view_is (to_files (OpenRead c.args.id c.args.key.now c.args.slice.now) (replies.Refused ReadFault) c.answer.ensures.files (takes_fault (g.W.Store.files c.args.store.now) _ c.args.id c.args.key.now c.args.slice.now shut few))
+    stay (OpenRead c.args.id c.args.key.now c.args.slice.now) (replies.Refused ReadFault) c.self.view_is (to_files (OpenRead c.args.id c.args.key.now c.args.slice.now) (replies.Refused ReadFault) c.answer.ensures.store.0 (takes_fault (g.W.Store.files c.args.store.now) _ c.args.id c.args.key.now c.args.slice.now shut few))
 
 pub returns-in-Err-Damaged-clause-step : goal.returns-in-Err-Damaged-clause-step
 returns-in-Err-Damaged-clause-step g c =
@@ -51,4 +51,4 @@ returns-in-Err-Damaged-clause-step g c =
     let damage : IsDamageOf c.self.inside.schema c.args.key.now c.self.inside.tables (stream_err.Damaged c.in-Err-Damaged.file c.in-Err-Damaged.offset) =
     subst (λ (e : StreamErr). IsDamageOf c.self.inside.schema c.args.key.now c.self.inside.tables e) c.in-Err-Damaged.field-0-is
     (damage_seen _ _ c.args.key.now c.in-Err-Damaged.field-0 (sym c.self.view_is) c.in-Err-Damaged.ensures.damaged) in
-    stay (OpenRead c.args.id c.args.key.now c.args.slice.now) (replies.Refused (Damaged c.in-Err-Damaged.file c.in-Err-Damaged.offset)) c.self.view_is (to_files (OpenRead c.args.id c.args.key.now c.args.slice.now) (replies.Refused (Damaged c.in-Err-Damaged.file c.in-Err-Damaged.offset)) c.answer.ensures.files (takes_damaged (g.W.Store.files c.args.store.now) _ c.args.id c.args.key.now c.args.slice.now c.in-Err-Damaged.file c.in-Err-Damaged.offset shut few none damage))
+    stay (OpenRead c.args.id c.args.key.now c.args.slice.now) (replies.Refused (Damaged c.in-Err-Damaged.file c.in-Err-Damaged.offset)) c.self.view_is (to_files (OpenRead c.args.id c.args.key.now c.args.slice.now) (replies.Refused (Damaged c.in-Err-Damaged.file c.in-Err-Damaged.offset)) c.answer.ensures.store.0 (takes_damaged (g.W.Store.files c.args.store.now) _ c.args.id c.args.key.now c.args.slice.now c.in-Err-Damaged.file c.in-Err-Damaged.offset shut few none damage))

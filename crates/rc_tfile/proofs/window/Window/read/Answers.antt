@@ -8,7 +8,7 @@ use Rattle.rc_tfile.proofs.window.Window.read.Goals as goal
 
 pub returns-clause-told : goal.returns-clause-told
 returns-clause-told g c = λ front told content here.
-    let is = subst (λ f. IsContent f c.self.inside.number content) c.in_default.ensures.files here in
+    let is = subst (λ f. IsContent f c.self.inside.number content) c.in_default.ensures.store.0 here in
     let old = (subst (λ (w : ReadAhead). IsAheadIn (g.W.Store.files c.args.store.now) front w) (sym c.self.view_is) told) content is in
     let piece : c.as_slice.result.now ≡ c.read_at.new.into = c.as_slice.ensures.value ∙ take_at c.read_at.new.into _ c.in_ok-piece.piece.len (omega (arith, c.read_at.auto.into, c.as_mut_slice.ensures.len)) in
     let got = bytes_told (g.W.Store.files c.args.store.now) c.self.inside.number c.self.inside.end c.read_at.new.into content is c.in_default.ensures.bytes in
