@@ -10,7 +10,8 @@ use Rattle.lsa_region.specs.Ends.{named_as}
 use Rattle.lsa_region.specs.Region.{View, body, IsWell, IsAdded, Renamed}
 use Rattle.lsa_path.specs.laws.Renamed.{some-there}
 use Rattle.lsa_list.specs.declared.recency.List.{List as Slots}
-use Rattle.lsa_list.specs.Recency.{IsList, IsOneOf, first}
+use Rattle.lsa_list.specs.Recency.{IsList, first}
+use Rattle.lsa_list.specs.calls.Recency.{IsOneOf}
 use Rattle.lsa_list.specs.laws.Lists.{recent-at, list-added, list-renamed}
 
 module _ (slots : Slots) (v : View) where

@@ -1,5 +1,5 @@
 -- The recency list: the references on the path between its two root slots, the least recent first.
-use Rattle.std.specs.Prelude.{◌≢◌, List, [], ◌∷◌, ◌++◌, Option, Some, None, IsSomeAnd, IfSome, ⊤}
+use Rattle.std.specs.Prelude.{◌≢◌, List, [], ◌∷◌, Option, Some, None, IsSomeAnd, IfSome, ⊤}
 use Rattle.std.specs.Option.{option_map}
 use Rattle.lsa_kinds.specs.declared.kind.Kind.{Kind}
 use Rattle.lsa_kinds.specs.declared.kind.Kind.TheVariants.{Version}
@@ -33,10 +33,6 @@ pub record IsList (slots : Slots) (v : View) (refs : List Ref) : Type 0 where
 abbrev pub IsElsewhere : Slots → View → End → Type 0
 IsElsewhere slots v (Obj r field) = IfSome (body v r) (λ b. (role_of b.0 field ≢ LessRecent) × (role_of b.0 field ≢ MoreRecent))
 IsElsewhere slots v (Slot root) = (root ≢ slots.front) × (root ≢ slots.back)
-
--- the object is one of the list, if it is an object
-abbrev pub IsOneOf : Slots → View → Option Ref → Type 0
-IsOneOf slots v found = IfSome found (λ r. (xs : List Ref) × (ys : List Ref) × IsList slots v (xs ++ (r ∷ ys)))
 
 -- the least recent of these references; None where there is none
 abbrev pub first : List Ref → Option Ref

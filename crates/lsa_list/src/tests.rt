@@ -2,7 +2,8 @@
 ghost use Rattle.std.specs.Prelude.{◌≡◌, ◌≢◌, ℕ, List as Sequence, ◌∷◌, ◌++◌, true, None, IsSome};
 ghost use Rattle.lsa_store.specs.declared.place.Ref.{Ref as Name};
 ghost use Rattle.lsa_region.specs.Region.{body, link_of, IsEnd};
-ghost use Rattle.lsa_list.specs.Recency.{IsList, IsOneOf};
+ghost use Rattle.lsa_list.specs.Recency.{IsList};
+ghost use Rattle.lsa_list.specs.calls.Recency.{IsOneOf};
 
 use crate::List;
 use lsa_kinds::{Kind, links};

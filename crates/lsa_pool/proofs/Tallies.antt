@@ -5,7 +5,8 @@ use Rattle.std.proofs.lemmas.List.{length-set}
 use Rattle.std.proofs.lemmas.List.Sums.{sum_by-set, sum_by-cons, count_by-le-length}
 use Rattle.lsa_pool.specs.declared.Usage.{Usage}
 use Rattle.lsa_pool.specs.Room.{nothing, usage_of, live_sum, is_sparse, sparse_count}
-use Rattle.lsa_pool.specs.Account.{is_counted, IsTallied}
+use Rattle.lsa_pool.specs.Account.{IsTallied}
+use Rattle.lsa_pool.specs.calls.Account.{is_counted}
 use Rattle.lsa_pool.specs.laws.Usages.{set_elim}
 use Rattle.lsa_pool.proofs.Books.{live_sum-set}
 

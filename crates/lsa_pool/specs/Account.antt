@@ -1,8 +1,8 @@
 -- How a pool of segments of size bytes keeps its books.
-use Rattle.std.specs.Prelude.{◌≡◌, ◌≢◌, ℕ, ◌<◌, ◌≤◌, ◌^◌, cond, List, length, slice_index, Option, Some}
+use Rattle.std.specs.Prelude.{◌≡◌, ◌≢◌, ℕ, ◌<◌, ◌≤◌, ◌^◌, List, length, slice_index, Option, Some}
 use Rattle.lsa_pool.specs.declared.Usage.{Usage}
 use Rattle.lsa_pool.specs.declared.State.TheVariants.{Free, Active}
-use Rattle.lsa_pool.specs.Room.{usage_of, free_count, live_sum, is_sparse, sparse_count}
+use Rattle.lsa_pool.specs.Room.{usage_of, free_count, live_sum, sparse_count}
 
 -- what holds of the usages of every pool of segments of size bytes
 pub record IsSound (size : ℕ) (us : List Usage) : Type 0 where
@@ -23,10 +23,6 @@ pub record IsKept (size : ℕ) (us : List Usage) (free_list : List ℕ) (free_le
   pub once : (j k : ℕ) → j < k → k < free_len → slice_index free_list j ≢ slice_index free_list k
   pub active_is : (n : ℕ) → active ≡ Some n → (usage_of us n).state ≡ Active
   pub only : (n : ℕ) → (usage_of us n).state ≡ Active → active ≡ Some n
-
--- 1 for a sparse segment, 0 for another one
-abbrev pub is_counted : ℕ → Usage → ℕ
-is_counted size u = cond (is_sparse size u) 1 0
 
 -- so many bytes are live in all, and so many segments are sparse
 pub record IsTallied (size : ℕ) (us : List Usage) (live sparse : ℕ) : Type 0 where

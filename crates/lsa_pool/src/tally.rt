@@ -1,7 +1,7 @@
 //! The usages of segments, with the sums over them that are asked often.
 ghost use Rattle.std.specs.Prelude.{◌≡◌, ◌^◌, ◌<◌, ◌≤◌, length, replicate, slice_set, IfOk};
 ghost use Rattle.lsa_pool.specs.Room.{nothing, usage_of, live_sum, sparse_count};
-ghost use Rattle.lsa_pool.specs.Account.{is_counted};
+ghost use Rattle.lsa_pool.specs.calls.Account.{is_counted};
 
 use crate::{State, Usage};
 use std::alloc::{AllocError, Global};

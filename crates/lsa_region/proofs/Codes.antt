@@ -9,7 +9,8 @@ use Rattle.lsa_store.specs.laws.Places.{standing}
 use Rattle.lsa_store.specs.laws.Written.{object-and, lie-used, lie-even}
 use Rattle.lsa_region.specs.declared.end.End.{End}
 use Rattle.lsa_region.specs.declared.end.End.TheVariants.{Obj, Slot}
-use Rattle.lsa_region.specs.Codes.{link_code, end_in, end_of, IsCodable}
+use Rattle.lsa_region.specs.Codes.{end_in, end_of}
+use Rattle.lsa_region.specs.calls.Codes.{link_code, IsCodable}
 use Rattle.lsa_region.specs.Ends.{IsEndIn}
 use Rattle.lsa_region.specs.laws.Ends.{links_few}
 use Rattle.lsa_region.specs.laws.Refs.{not_true}

@@ -23,9 +23,10 @@ use Rattle.lsa_region.specs.declared.end.Root.{Root}
 use Rattle.lsa_region.specs.declared.end.End.{End}
 use Rattle.lsa_region.specs.declared.end.End.TheVariants.{Obj, Slot}
 use Rattle.lsa_region.specs.Codes.{end_of}
-use Rattle.lsa_region.specs.Ends.{same_ref, swapped, swapped_ref, end_by, IsSameShape}
+use Rattle.lsa_region.specs.Ends.{same_ref, swapped, swapped_ref}
+use Rattle.lsa_region.specs.calls.Ends.{end_by, IsSameShape}
 use Rattle.lsa_region.specs.Paired.{IsExchanged}
-use Rattle.lsa_region.specs.Moves.{view_in, partly, IsCarrying, IsRenamedBy, IsRelieved, IsMovedTo}
+use Rattle.lsa_region.specs.calls.Moves.{view_in, partly, IsCarrying, IsRenamedBy, IsRelieved, IsMovedTo}
 use Rattle.lsa_region.specs.Region.{View, body, link_of, slots_of, IsEnd, IsWell}
 use Rattle.lsa_region.specs.laws.Refs.{refs_decided, swap-here, swap-there, swap-else, swap-twice}
 use Rattle.lsa_region.specs.laws.Ends.{some_and_none, past-links}

@@ -13,9 +13,10 @@ use Rattle.lsa_region.specs.declared.end.End.{End}
 use Rattle.lsa_region.specs.declared.end.End.TheVariants.{Obj, Slot}
 use Rattle.lsa_store.specs.Objects.{body_in}
 use Rattle.lsa_store.specs.Stored.{Stored}
-use Rattle.lsa_region.specs.Ends.{slots_in, named_in, IsEndIn, named_as, end_as, end_by}
+use Rattle.lsa_region.specs.Ends.{slots_in, named_in, IsEndIn, named_as, end_as}
+use Rattle.lsa_region.specs.calls.Ends.{end_by}
 use Rattle.lsa_region.specs.Layout.{Location}
-use Rattle.lsa_region.specs.Moves.{view_in, IsRenamedBy}
+use Rattle.lsa_region.specs.calls.Moves.{view_in, IsRenamedBy}
 use Rattle.lsa_region.specs.Region.{View, body, link_of, location_of, IsEnd, IsWell, AreLive, Renamed, IsEmptied}
 use Rattle.lsa_region.specs.laws.Ends.{no-end}
 use Rattle.lsa_region.specs.laws.Names.{all_refs, are_live, names_of, firsts, seconds, named-by, some_and}

@@ -17,8 +17,10 @@ use Rattle.lsa_store.specs.laws.Written.{object-and, set-here, set-others, set-b
 use Rattle.lsa_region.specs.declared.end.Root.{Root}
 use Rattle.lsa_region.specs.declared.end.End.{End}
 use Rattle.lsa_region.specs.declared.end.End.TheVariants.{Obj, Slot}
-use Rattle.lsa_region.specs.Codes.{link_code, end_of, IsCodable}
-use Rattle.lsa_region.specs.Ends.{SlotCounts, slots_in, named_in, IsEndIn, IsSetIn, IsSameShape, joined}
+use Rattle.lsa_region.specs.Codes.{end_of}
+use Rattle.lsa_region.specs.calls.Codes.{link_code, IsCodable}
+use Rattle.lsa_region.specs.Ends.{SlotCounts, slots_in, named_in, IsEndIn, joined}
+use Rattle.lsa_region.specs.calls.Ends.{IsSetIn, IsSameShape}
 use Rattle.lsa_region.specs.laws.Refs.{refs_decided}
 use Rattle.lsa_region.proofs.Codes.{end-code, code-small}
 use Rattle.lsa_region.proofs.Vacancies.{there, count-set}

@@ -1,7 +1,7 @@
 pub mod Codes
 pub mod Ends
 pub mod Layout
-pub mod Moves
 pub mod Paired
 pub mod Region
 pub mod laws
+pub mod calls

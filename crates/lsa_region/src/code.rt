@@ -1,6 +1,7 @@
 //! The number that stands in a link, and the end that it tells.
 ghost use Rattle.std.specs.Prelude.{◌≡◌, IfSome};
-ghost use Rattle.lsa_region.specs.Codes.{link_code, end_of, IsCodable};
+ghost use Rattle.lsa_region.specs.Codes.{end_of};
+ghost use Rattle.lsa_region.specs.calls.Codes.{link_code, IsCodable};
 
 use crate::end::{End, Root};
 use lsa_store::Ref;

@@ -1,6 +1,7 @@
 //! The links in objects, and the root slots: what each of these ends names.
 ghost use Rattle.std.specs.Prelude.{◌≡◌, ◌≢◌, ℕ, ◌+◌, ◌*◌, ◌^◌, ◌<◌, ◌≤◌, length, true, false, Option, Some, None, IfOk, IfSome};
-ghost use Rattle.lsa_region.specs.Ends.{named_in, slots_in, IsEndIn, IsSetIn, IsSameShape, same_ref, same_end};
+ghost use Rattle.lsa_region.specs.Ends.{named_in, slots_in, IsEndIn, same_ref, same_end};
+ghost use Rattle.lsa_region.specs.calls.Ends.{IsSetIn, IsSameShape};
 ghost use Rattle.lsa_region.specs.Paired.{WellPaired, IsTied, IsParted, IsExchanged};
 
 use crate::code::{code, end as told};

@@ -7,10 +7,11 @@ ghost use Rattle.lsa_yard.specs.Cells.{extent};
 ghost use Rattle.lsa_store.specs.declared.place.Ref.{Ref as Name};
 ghost use Rattle.lsa_store.specs.Objects.{cells_of, cell_in, body_in, live_count};
 ghost use Rattle.lsa_store.specs.Stock.{stock_of, sparse_of};
-ghost use Rattle.lsa_region.specs.Ends.{named_in, slots_in, IsEndIn, IsSameShape};
+ghost use Rattle.lsa_region.specs.Ends.{named_in, slots_in, IsEndIn};
+ghost use Rattle.lsa_region.specs.calls.Ends.{IsSameShape};
 ghost use Rattle.lsa_region.specs.Paired.{IsExchanged};
 ghost use Rattle.lsa_region.specs.Region.{body, IsWell, objects_in};
-ghost use Rattle.lsa_region.specs.Moves.{view_in, IsCarrying, IsRenamedBy, IsMovedTo, IsSweeping};
+ghost use Rattle.lsa_region.specs.calls.Moves.{view_in, IsCarrying, IsRenamedBy, IsMovedTo, IsSweeping};
 
 use crate::end::End;
 use crate::links::exchange;

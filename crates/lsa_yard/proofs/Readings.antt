@@ -9,7 +9,8 @@ use Rattle.lsa_kinds.specs.Kinds.{kind_code, links_of, up8}
 use Rattle.lsa_kinds.specs.Fields.{number, number_at}
 use Rattle.lsa_segment.specs.Bytes.{part, overwritten}
 use Rattle.lsa_yard.specs.Cells.{Cell, size_of, extent, cell_at, links_size, body_of, body_at, link_in, fresh, IsReplaced}
-use Rattle.lsa_yard.specs.Spelled.{mark_of, kind_numbered, head_of, size_field, spell, spells, cells_in, IsProper, IsSpelled}
+use Rattle.lsa_yard.specs.Spelled.{mark_of, kind_numbered, size_field, spell, spells, cells_in, IsProper, IsSpelled}
+use Rattle.lsa_yard.specs.calls.Spelled.{head_of}
 use Rattle.lsa_yard.specs.laws.Reading.{size-least, kind-mark, length-size_field, number-size_field, length-spell, length-spells, spells-append, extent-append, spelled_by}
 use Rattle.lsa_yard.specs.laws.Changes.{split, at-within}
 use Rattle.lsa_yard.specs.laws.Middles.{part-middle, overwritten-middle}

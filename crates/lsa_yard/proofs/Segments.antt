@@ -7,7 +7,8 @@ use Rattle.lsa_kinds.specs.declared.kind.Kind.{Kind}
 use Rattle.lsa_kinds.specs.Kinds.{links_of, up8}
 use Rattle.lsa_segment.specs.Bytes.{overwritten}
 use Rattle.lsa_yard.specs.Cells.{Cell, size_of, cell_at, body_at, extent, fresh, gap_of, IsChangedAt, IsReplaced}
-use Rattle.lsa_yard.specs.Spelled.{head_of, size_field, spell, cells_in, IsSpelled, AreSpelled}
+use Rattle.lsa_yard.specs.Spelled.{size_field, spell, cells_in, IsSpelled, AreSpelled}
+use Rattle.lsa_yard.specs.calls.Spelled.{head_of}
 use Rattle.lsa_yard.specs.laws.Reading.{length-size_field}
 use Rattle.lsa_yard.proofs.Readings.{IsObject, IsSeen, object-of, seen, seen-cell, linked-in, written, killed, pushed, fresh-spelling, and_some, none-stand, yard-long}
 

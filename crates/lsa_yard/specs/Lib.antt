@@ -1,3 +1,4 @@
 pub mod Cells
 pub mod Spelled
 pub mod laws
+pub mod calls

@@ -1,8 +1,8 @@
 -- How cells are spelled in bytes, and how they are read.
-use Rattle.std.specs.Prelude.{◌≡◌, ℕ, zero, suc, ◌+◌, ◌-◌, ◌*◌, ◌^◌, ◌<◌, ◌≤◌, List, [], ◌∷◌, ◌++◌, length, take, drop, replicate, slice_index_or, Option, Some, None, All}
+use Rattle.std.specs.Prelude.{◌≡◌, ℕ, zero, suc, ◌+◌, ◌-◌, ◌^◌, ◌<◌, ◌≤◌, List, [], ◌∷◌, ◌++◌, length, take, drop, replicate, slice_index_or, Option, Some, None, All}
 use Rattle.lsa_kinds.specs.declared.kind.Kind.{Kind}
 use Rattle.lsa_kinds.specs.declared.kind.Kind.TheVariants.{Version, RowEntry, Dummy, Static}
-use Rattle.lsa_kinds.specs.Kinds.{kind_code, links_of, up8}
+use Rattle.lsa_kinds.specs.Kinds.{kind_code, up8}
 use Rattle.lsa_kinds.specs.Fields.{number_at, spelled}
 use Rattle.lsa_yard.specs.Cells.{Cell, size_of, links_size}
 
@@ -23,10 +23,6 @@ kind_numbered (suc (suc (suc (suc (suc n))))) = None
 -- the header's last 4 bytes: the size before it is rounded up
 unfoldable pub size_field : ℕ → List ℕ
 size_field size = spelled 4 size
-
--- the header of an object with so many bytes behind its links, and the links, which are all 0
-abbrev pub head_of : Kind → ℕ → List ℕ
-head_of kind len = kind_code kind ∷ 0 ∷ 0 ∷ 0 ∷ (size_field (8 + 8 * links_of kind + len) ++ replicate (8 * links_of kind) 0)
 
 -- the bytes of a cell: the header, of which three bytes are 0, the rest, and zeros up to its size
 abbrev pub spell : Cell → List ℕ

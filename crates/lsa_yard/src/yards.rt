@@ -3,7 +3,8 @@ ghost use Rattle.std.specs.Prelude.{◌≡◌, ◌≢◌, ℕ, ◌+◌, ◌-◌,
 ghost use Rattle.lsa_kinds.specs.Fields.{number, spelled};
 ghost use Rattle.lsa_kinds.specs.Kinds.{kind_code, links_of, up8};
 ghost use Rattle.lsa_yard.specs.Cells.{size_of, extent, cell_at, body_at, link_in, fresh, with_link, with_bytes, gap_of, IsChangedAt};
-ghost use Rattle.lsa_yard.specs.Spelled.{head_of, size_field, IsProper};
+ghost use Rattle.lsa_yard.specs.Spelled.{size_field, IsProper};
+ghost use Rattle.lsa_yard.specs.calls.Spelled.{head_of};
 
 use lsa_kinds::layout::header::Size;
 use lsa_kinds::{Kind, links, round_up};

@@ -8,7 +8,7 @@ use Rattle.rc_cell.specs.declared.rows.Row.{Row}
 use Rattle.rc_cell.specs.Orders.{timestamp_of, is_live_cell, tomb_cmp}
 use Rattle.rc_cell.specs.Deletion.{survives, surviving_marker, surviving_cells, shadowed_row, has_life}
 use Rattle.rc_cell.specs.Greatest.{greater}
-use Rattle.rc_cell.specs.Survivors.{in_force-greater}
+use Rattle.rc_cell.specs.laws.Survivors.{in_force-greater}
 use Rattle.rc_cell.specs.laws.{same_row}
 
 -- what a body of `shadow` has made is the shadowed row

@@ -26,11 +26,6 @@ surviving_marker tomb (Some ts) = if survives tomb ts then Some ts else None
 abbrev pub surviving_cells : Option Tomb → List (ℕ × Cell) → List (ℕ × Cell)
 surviving_cells tomb cells = filter (λ e. survives tomb (timestamp_of e.1)) cells
 
--- the cell, where it is there and the tombstone does not delete it
-abbrev pub surviving_cell : Option Tomb → Option Cell → Option Cell
-surviving_cell tomb None = None
-surviving_cell tomb (Some cell) = if survives tomb (timestamp_of cell) then Some cell else None
-
 -- what a covering tombstone leaves of a row: its own tombstone, and the marker and the cells that survive
 unfoldable pub shadowed_row : Option Tomb → Row → Row
 shadowed_row cover row = record {

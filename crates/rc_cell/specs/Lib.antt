@@ -1,9 +1,7 @@
-pub mod Beats
-pub mod ByColumn
 pub mod Columns
 pub mod Greatest
 pub mod laws
 pub mod Orders
-pub mod Survivors
 pub mod Winner
 pub mod Deletion
+pub mod calls

@@ -2,6 +2,10 @@
 pub mod Each
 pub mod Joined
 pub mod Merge
+pub mod ByColumn
+pub mod Beats
+pub mod Survivors
+pub mod Greatest
 use Rattle.std.specs.Prelude.{ℕ, ℤ, List, [], ◌∷◌, ◌++◌, Option, Some, None, ◌≡◌}
 use Rattle.std.proofs.Common.{refl, sym, ap, ◌∙◌, append-nil}
 use Rattle.std.specs.Ordering.{nat_cmp, int_cmp}
@@ -16,9 +20,9 @@ use Rattle.rc_cell.specs.declared.writes.Tomb.{Tomb}
 use Rattle.rc_cell.specs.declared.rows.Row.{Row}
 use Rattle.rc_cell.specs.Orders.{tomb_cmp, tomb_cmp_total}
 use Rattle.rc_cell.specs.Winner.{greatest, markers, tombs, all_cells, cells_at, at_column, winner, winners, joined_row, empty_row, IsRow, SaysNoMore}
-use Rattle.rc_cell.specs.Greatest.{greatest-append, greatest-swap, greatest-twice, greatest-one, greatest-none}
-use Rattle.rc_cell.specs.Beats.{tomb_cmp-IsAntisymmetric}
-use Rattle.rc_cell.specs.ByColumn.{ascending-winners, at_column-winners, find-winners, winners-append, winners-swap, winners-twice, winners-ascending}
+use Rattle.rc_cell.specs.laws.Greatest.{greatest-none, greatest-append, greatest-swap, greatest-twice, greatest-one}
+use Rattle.rc_cell.specs.laws.Beats.{tomb_cmp-IsAntisymmetric}
+use Rattle.rc_cell.specs.laws.ByColumn.{ascending-winners, at_column-winners, find-winners, winners-append, winners-swap, winners-twice, winners-ascending}
 
 pub same_row : {m n : Option ℤ} {s t : Option Tomb} {es fs : List (ℕ × Cell)} → m ≡ n → s ≡ t → es ≡ fs → ◌≡◌ {A = Row} (record { marker = m; tomb = s; cells = es }) (record { marker = n; tomb = t; cells = fs })
 same_row e f g = λ i. record { marker = e i; tomb = f i; cells = g i }

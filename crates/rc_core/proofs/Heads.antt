@@ -5,8 +5,9 @@ use Rattle.std.proofs.lemmas.List.{append_assoc}
 use Rattle.std.specs.Option.{option_to_list}
 use Rattle.rc_cell.specs.declared.writes.Tomb.{Tomb}
 use Rattle.rc_cell.specs.Orders.{tomb_cmp, tomb_cmp_total}
-use Rattle.rc_cell.specs.Beats.{tomb_cmp-IsAntisymmetric}
-use Rattle.rc_cell.specs.Greatest.{greater, greatest-two, greatest-swap}
+use Rattle.rc_cell.specs.laws.Beats.{tomb_cmp-IsAntisymmetric}
+use Rattle.rc_cell.specs.Greatest.{greater}
+use Rattle.rc_cell.specs.laws.Greatest.{greatest-two, greatest-swap}
 use Rattle.rc_cell.specs.Winner.{greatest}
 use Rattle.rc_core.specs.Version.{Version}
 use Rattle.rc_core.specs.Continuity.{version_tombs}

@@ -4,8 +4,9 @@ use Rattle.std.proofs.Common.{refl, sym, ap, ◌∙◌, subst, arith, get_or, se
 use Rattle.std.specs.Option.{option_to_list}
 use Rattle.rc_cell.specs.declared.writes.Tomb.{Tomb}
 use Rattle.rc_cell.specs.Orders.{tomb_cmp, tomb_cmp_total}
-use Rattle.rc_cell.specs.Beats.{tomb_cmp-IsAntisymmetric}
-use Rattle.rc_cell.specs.Greatest.{greater, greatest-two}
+use Rattle.rc_cell.specs.laws.Beats.{tomb_cmp-IsAntisymmetric}
+use Rattle.rc_cell.specs.Greatest.{greater}
+use Rattle.rc_cell.specs.laws.Greatest.{greatest-two}
 use Rattle.rc_cell.specs.Winner.{greatest, joined_row}
 use Rattle.rc_core.specs.declared.entries.Entry.{Entry}
 use Rattle.rc_core.specs.declared.entries.Flag.TheVariants.{Inherit}

@@ -24,7 +24,8 @@ use Rattle.rc_reading.specs.laws.{before-end}
 use Rattle.rc_memory.specs.Memory.{HasPin, KeptChain, Memory, chain_at}
 use Rattle.rc_chain.specs.declared.chains.Snap.{Snap}
 use Rattle.rc_stream.specs.Snapshot.{IsPartFrom, place_behind}
-use Rattle.rc_cursor.specs.Snapshots.{AreReadable, IsKnownAs, kind_in, kind_seen, place_past, versions_in, versions_seen, versions_upto}
+use Rattle.rc_cursor.specs.Snapshots.{AreReadable, IsKnownAs, kind_in, kind_seen, versions_in, versions_seen, versions_upto}
+use Rattle.rc_cursor.specs.calls.Snapshots.{place_past}
 use Rattle.rc_cursor.proofs.Readable.{found}
 
 ends : (to bound : Pos) → (to ≡ bound) ⊎ IsBefore to bound → Reaches to bound

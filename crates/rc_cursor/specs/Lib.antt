@@ -1,2 +1,3 @@
 pub mod Readers
 pub mod Snapshots
+pub mod calls

@@ -6,7 +6,6 @@ use Rattle.std.specs.Prelude.{◌≡◌, ◌≢◌, ℕ, List, [], Option, Some,
 use Rattle.rc_cell.specs.Orders.{tomb_cmp}
 use Rattle.rc_cell.specs.Winner.{empty_row, greatest}
 use Rattle.rc_position.specs.declared.positions.Pos.{Pos}
-use Rattle.rc_position.specs.declared.positions.Weight.TheVariants.{After}
 use Rattle.rc_position.specs.Position.{row_pos}
 use Rattle.rc_mutation.specs.declared.fragments.HeadAt.{HeadAt}
 use Rattle.rc_core.specs.Chain.{IsEvenAt, IsKnown, content, flagged, states_at}
@@ -14,8 +13,6 @@ use Rattle.rc_core.specs.Chains.{upto}
 use Rattle.rc_core.specs.Continuity.{static_states, version_tombs}
 use Rattle.rc_core.specs.declared.entries.ChainKind.{ChainKind}
 use Rattle.rc_core.specs.declared.entries.ChainKind.TheVariants.{Cache}
-use Rattle.rc_core.specs.declared.parts.Part.{Part}
-use Rattle.rc_core.specs.declared.parts.Part.TheVariants as part
 use Rattle.rc_core.specs.Steps.{pin_at}
 use Rattle.rc_core.specs.Version.{On, Version}
 use Rattle.rc_memory.specs.Memory.{KeptChain, Memory, chain_at}
@@ -72,10 +69,3 @@ pub record AreReadable (kind : ChainKind) (versions : List Version) : Type 0 whe
 -- what a snapshot sees can be read by its parts
 abbrev pub IsReadable : Memory → Snap → Type 0
 IsReadable m s = AreReadable (kind_seen m s) (versions_seen m s)
-
--- the place past a part that begins at x: behind the key of x after a row, at the end of a gap, else x
-abbrev pub place_past : Part → Pos → Pos
-place_past (part.Row key row tomb) x = record { prefix = x.prefix; weight = After }
-place_past (part.Gap to tomb) x = to
-place_past (part.Missing to) x = x
-place_past part.End x = x

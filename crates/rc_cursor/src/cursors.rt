@@ -4,7 +4,8 @@ ghost use Rattle.rc_core.specs.Parts.{IsFirstPart};
 ghost use Rattle.rc_memory.specs.Memory.{HasPin};
 ghost use Rattle.rc_stream.specs.Places.{Reaches};
 ghost use Rattle.rc_stream.specs.Snapshot.{IsPartFrom, place_behind};
-ghost use Rattle.rc_cursor.specs.Snapshots.{IsReadable, Knows, kind_seen, place_past, versions_seen};
+ghost use Rattle.rc_cursor.specs.Snapshots.{IsReadable, Knows, kind_seen, versions_seen};
+ghost use Rattle.rc_cursor.specs.calls.Snapshots.{place_past};
 
 use crate::laws::a_first_part_is_what_is_seen;
 use rc_chain::{Chains, Snap};

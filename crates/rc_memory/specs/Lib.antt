@@ -4,3 +4,4 @@ pub mod Room
 pub mod Kept
 pub mod Changes
 pub mod laws
+pub mod calls

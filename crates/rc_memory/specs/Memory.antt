@@ -147,13 +147,6 @@ with_chains chains m = record { chains = chains; recency = m.recency; dropped = 
 abbrev pub with_dropped : List ℕ → Memory → Memory
 with_dropped dropped m = record { chains = m.chains; recency = m.recency; dropped = dropped; counts = m.counts; region = m.region; standing = m.standing }
 
--- the counts, the recency list and the dropped numbers are as they were, and the chains are these
-pub record HasChains (now : List (Option KeptChain)) (old new : Memory) : Type 0 where
-  pub chains : new.chains ≡ now
-  pub recency : new.recency ≡ old.recency
-  pub dropped : new.dropped ≡ old.dropped
-  pub counts : new.counts ≡ old.counts
-
 -- a snapshot of this number is there
 abbrev pub HasPin : Memory → ℕ → ℕ → Type 0
 HasPin m id pin = IsSomeAnd (chain_at m id) (λ k. IsSome (pin_at k.chain.pins pin))

@@ -5,7 +5,7 @@ use Rattle.std.specs.Option.{is_none}
 use Rattle.std.specs.List.{cons_option}
 use Rattle.std.specs.Ordering.{int_cmp}
 use Rattle.rc_cell.specs.declared.rows.Row.{Row}
-use Rattle.rc_cell.specs.Greatest.{greatest-none}
+use Rattle.rc_cell.specs.laws.Greatest.{greatest-none}
 use Rattle.rc_cell.specs.Orders.{tomb_cmp}
 use Rattle.rc_cell.specs.Winner.{greatest, joined_row}
 use Rattle.rc_mutation.specs.Statics.{has_cells_alone}

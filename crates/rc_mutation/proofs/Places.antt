@@ -11,16 +11,16 @@ use Rattle.std.specs.FinMap.{find, put, is_sorted}
 use Rattle.std.specs.FinMap.Entries.{below_all, by_order}
 use Rattle.std.proofs.lemmas.List.Sorted.{searchable_from_sorted}
 use Rattle.rc_cell.specs.declared.rows.Row.{Row}
-use Rattle.rc_cell.specs.ByColumn.{test_of, first, second}
+use Rattle.rc_cell.specs.laws.ByColumn.{test_of, first, second}
 use Rattle.rc_position.specs.declared.comps.Comp.{Comp}
 use Rattle.rc_position.specs.Position.{key_cmp}
 use Rattle.rc_position.specs.laws.Orders.{key_cmp_total, key_cmp_same}
 use Rattle.rc_cell.specs.Columns.{ascending}
 use Rattle.rc_cell.specs.Winner.{empty_row, joined_row}
 use Rattle.rc_mutation.specs.Rows.{joined_rows, IsRows}
-use Rattle.rc_mutation.specs.ByKey.{KeyedRows}
+use Rattle.rc_mutation.specs.laws.ByKey.{KeyedRows}
 use Rattle.rc_mutation.specs.laws.JoinedRows.{joined_to, joined_rows-put, IsRows-joined_rows}
-use Rattle.rc_mutation.specs.Place.{IsAt, IsGapFor}
+use Rattle.rc_mutation.specs.calls.Place.{IsAt, IsGapFor}
 
 less : (r : Ordering) → T (is_lt r) → r ≡ Less
 less Less h = refl

@@ -9,14 +9,14 @@ use Rattle.std.specs.FinMap.{find, is_sorted}
 use Rattle.std.specs.FinMap.Entries.{below_all}
 use Rattle.rc_cell.specs.declared.rows.Row.{Row}
 use Rattle.rc_cell.specs.Columns.{ascending}
-use Rattle.rc_cell.specs.ByColumn.{test_of, both, first, second}
+use Rattle.rc_cell.specs.laws.ByColumn.{test_of, both, first, second}
 use Rattle.rc_cell.specs.laws.{joined_row-one}
 use Rattle.rc_cell.specs.Winner.{empty_row, joined_row}
 use Rattle.rc_position.specs.declared.comps.Comp.{Comp}
 use Rattle.rc_position.specs.Position.{key_cmp}
 use Rattle.rc_position.specs.laws.Orders.{key_cmp_total, key_cmp_same}
 use Rattle.rc_mutation.specs.Rows.{joined_rows, IsRows}
-use Rattle.rc_mutation.specs.ByKey.{KeyedRows, same_key, rows_at-append, rows_at-ascending, same_rows, joined_if_any, find-joined_rows, sorted-joined_rows}
+use Rattle.rc_mutation.specs.laws.ByKey.{KeyedRows, same_key, rows_at-append, rows_at-ascending, same_rows, joined_if_any, find-joined_rows, sorted-joined_rows}
 use Rattle.rc_mutation.specs.laws.JoinedRows.{found, IsRows-joined_rows}
 
 -- what two rows at one key join to

@@ -1,9 +1,8 @@
-pub mod ByKey
 pub mod Canonical
 pub mod Fragments
-pub mod Place
 pub mod Rows
 pub mod Source
 pub mod Slices
 pub mod Statics
 pub mod laws
+pub mod calls

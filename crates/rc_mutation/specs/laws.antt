@@ -9,3 +9,4 @@ pub mod CanonicalListed
 pub mod CanonicalMerging
 pub mod CanonicalPieces
 pub mod Rebuilt
+pub mod ByKey

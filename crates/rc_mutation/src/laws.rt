@@ -11,7 +11,7 @@ ghost use Rattle.rc_mutation.specs.declared.mutations.Write.{Write};
 ghost use Rattle.rc_mutation.specs.Fragments.{IsParts, units};
 ghost use Rattle.rc_mutation.specs.Source.{IsJoinOf, IsMutation, SameSource};
 ghost use Rattle.rc_cell.specs.Winner.{empty_row};
-ghost use Rattle.rc_mutation.specs.ByKey.{joined_if_any};
+ghost use Rattle.rc_mutation.specs.laws.ByKey.{joined_if_any};
 ghost use Rattle.rc_mutation.specs.Rows.{IsRows, joined_rows, rows_at};
 
 /// Any two parts of a list of rows may be joined first.

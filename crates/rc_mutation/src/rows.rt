@@ -5,7 +5,7 @@ ghost use Rattle.std.specs.FinMap.{is_sorted};
 ghost use Rattle.rc_cell.specs.Columns.{ascending};
 ghost use Rattle.rc_cell.specs.Winner.{empty_row, joined_row};
 ghost use Rattle.rc_position.specs.Position.{key_cmp};
-ghost use Rattle.rc_mutation.specs.Place.{IsAt, IsGapFor};
+ghost use Rattle.rc_mutation.specs.calls.Place.{IsAt, IsGapFor};
 ghost use Rattle.rc_mutation.specs.Rows.{IsRows, joined_rows};
 
 use rc_cell::Row;

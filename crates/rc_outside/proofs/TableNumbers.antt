@@ -5,7 +5,7 @@ use Rattle.std.specs.Str.{all_ascii_digits}
 use Rattle.std.specs.Str.Parse.{ParsesUnsigned, digits_value}
 use Rattle.std.proofs.lemmas.Str.Parse.{IsNumeralModel, numerals_by_value, tells_all_ascii_digits, parse_plain, digit_at}
 use Rattle.std.proofs.lemmas.Fmt.{first_decimal, decimal-digits_value, decimal_digit, parse-decimal}
-use Rattle.rc_outside.specs.TableNames.{ReadsNumber}
+use Rattle.rc_outside.specs.calls.TableNames.{ReadsNumber}
 
 own : IsNumeralModel (λ ds. all_ascii_digits ds ≡ true) (digits_value 10)
 own = numerals_by_value _ tells_all_ascii_digits

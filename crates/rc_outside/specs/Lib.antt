@@ -5,3 +5,4 @@ pub mod Host
 pub mod Pushed
 pub mod States
 pub mod TableNames
+pub mod calls

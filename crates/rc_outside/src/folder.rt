@@ -3,8 +3,10 @@ ghost use Rattle.std.specs.Prelude.{◌≡◌, ◌≤◌, ℕ, None, Some, IsSom
 ghost use Rattle.std.specs.Io.KnownBytes.{Appends};
 ghost use Rattle.std.specs.List.Sorted.{IsStrictlyIncreasing};
 ghost use Rattle.rc_outside.specs.Faults.{raised, RisesIfFailed, RisesIfFault, OnFault, Rose};
-ghost use Rattle.rc_outside.specs.Host.{Heard, HeardOrFailed, IsToldAs, StandsIn, bytes_of_draft};
-ghost use Rattle.rc_outside.specs.TableNames.{in_folder, draft_name, table_name};
+ghost use Rattle.rc_outside.specs.Host.{StandsIn, bytes_of_draft};
+ghost use Rattle.rc_outside.specs.calls.Host.{Heard, HeardOrFailed, IsToldAs};
+ghost use Rattle.rc_outside.specs.TableNames.{table_name};
+ghost use Rattle.rc_outside.specs.calls.TableNames.{in_folder, draft_name};
 
 use super::counts::raise;
 use super::host::{append_whole, draft_options, read_range, told_as};

@@ -2,7 +2,8 @@
 ghost use Rattle.std.specs.Prelude.{◌≡◌, ◌↔◌, OnOk};
 ghost use Rattle.std.specs.Io.KnownBytes.{Appends};
 ghost use Rattle.std.specs.IoError.{error_kind};
-ghost use Rattle.rc_outside.specs.Host.{StandsIn, made_afresh};
+ghost use Rattle.rc_outside.specs.Host.{StandsIn};
+ghost use Rattle.rc_outside.specs.calls.Host.{made_afresh};
 
 use super::stores::StoreErr;
 use std::fs::OpenOptions;

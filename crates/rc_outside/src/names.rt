@@ -1,7 +1,8 @@
 // The names in the folder, and which of them are those of tables.
 ghost use Rattle.std.specs.Prelude.{◌≡◌, ◌↔◌, ◌++◌, ℕ, Contains, IfOk, MatchResult, OnOk, OnErr, string_bytes, slice_index};
 ghost use Rattle.std.specs.List.Sorted.{IsStrictlyIncreasing};
-ghost use Rattle.rc_outside.specs.TableNames.{ReadsNumber, ReadsTableName, Takes, in_folder, table_name, draft_name};
+ghost use Rattle.rc_outside.specs.TableNames.{ReadsTableName, Takes, table_name};
+ghost use Rattle.rc_outside.specs.calls.TableNames.{ReadsNumber, in_folder, draft_name};
 
 use std::alloc::{AllocError, Global};
 

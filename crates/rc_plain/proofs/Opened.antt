@@ -11,7 +11,7 @@ use Rattle.std.specs.FinMap.Entries.{below_all}
 use Rattle.std.proofs.Math.Seq.{split_at}
 use Rattle.std.proofs.lemmas.List.{length-map, map-append}
 use Rattle.std.proofs.lemmas.List.Elements.{All-append, All-cons, All-head, All-tail}
-use Rattle.rc_cell.specs.ByColumn.{same_column}
+use Rattle.rc_cell.specs.laws.ByColumn.{same_column}
 use Rattle.rc_outside.specs.Files.{Files, IsFile, AreNumbers}
 use Rattle.rc_schema.specs.SchemaValue.{SchemaValue}
 use Rattle.rc_mutation.specs.declared.mutations.Partition.{Partition}
@@ -27,7 +27,8 @@ use Rattle.rc_machine.specs.Tables.{AreListed, AreTables, IsStoredTable, IsFirst
 use Rattle.rc_machine.specs.Serving.{checks_of}
 use Rattle.rc_machine.specs.laws.Folder.{apart, apart_under, first_T, less_of, not_none, second_T}
 use Rattle.rc_plain.specs.Stands.{Stands}
-use Rattle.rc_plain.specs.Opening.{IsChecked, IsBadFile, IsOpeningRefused}
+use Rattle.rc_plain.specs.Opening.{IsOpeningRefused}
+use Rattle.rc_plain.specs.calls.Opening.{IsChecked, IsBadFile}
 
 -- the first files are tables, and this is known of them
 pub record Done (files : Option Files) (schema : SchemaValue) (done : List ℕ) (known : List TableInfo) : Type 0 where

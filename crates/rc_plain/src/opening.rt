@@ -9,7 +9,8 @@ ghost use Rattle.rc_machine.specs.State.{Table};
 ghost use Rattle.rc_machine.specs.Tables.{AreListed, AreTables};
 ghost use Rattle.rc_machine.specs.Serving.{checks_of};
 ghost use Rattle.rc_outside.specs.Faults.{RisesIfFault};
-ghost use Rattle.rc_plain.specs.Opening.{IsBadFile, IsChecked, IsOpeningRefused, OnOpenFault};
+ghost use Rattle.rc_plain.specs.Opening.{IsOpeningRefused, OnOpenFault};
+ghost use Rattle.rc_plain.specs.calls.Opening.{IsBadFile, IsChecked};
 
 use rc_outside::{Store, StoreErr};
 use rc_schema::Schema;

@@ -13,10 +13,11 @@ use Rattle.rc_cell.specs.declared.rows.Row.{Row}
 use Rattle.rc_cell.specs.Columns.{ascending}
 use Rattle.rc_cell.specs.Deletion.{in_force, survives}
 use Rattle.rc_cell.specs.declared.writes.Tomb.{Tomb}
-use Rattle.rc_cell.specs.Beats.{tomb_cmp-IsAntisymmetric}
-use Rattle.rc_cell.specs.Greatest.{greater, greatest-two}
+use Rattle.rc_cell.specs.laws.Beats.{tomb_cmp-IsAntisymmetric}
+use Rattle.rc_cell.specs.Greatest.{greater}
+use Rattle.rc_cell.specs.laws.Greatest.{greatest-two}
 use Rattle.rc_cell.specs.Orders.{tomb_cmp, tomb_cmp_total}
-use Rattle.rc_cell.specs.ByColumn.{winners-ascending}
+use Rattle.rc_cell.specs.laws.ByColumn.{winners-ascending}
 use Rattle.rc_cell.specs.Winner.{winners}
 use Rattle.rc_position.specs.declared.comps.Comp.{Comp}
 use Rattle.rc_position.specs.declared.positions.Pos.{Pos}

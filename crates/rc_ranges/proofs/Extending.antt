@@ -9,7 +9,7 @@ use Rattle.rc_position.specs.Position.{pos_cmp, IsBefore}
 use Rattle.rc_position.specs.laws.Orders.{pos_cmp_total, pos_cmp_same}
 use Rattle.rc_cell.specs.Orders.{tomb_cmp, tomb_cmp_total}
 use Rattle.rc_cell.specs.Greatest.{greater}
-use Rattle.rc_cell.specs.Beats.{tomb_cmp-IsAntisymmetric}
+use Rattle.rc_cell.specs.laws.Beats.{tomb_cmp-IsAntisymmetric}
 use Rattle.rc_ranges.specs.declared.pieces.Piece.{Piece}
 use Rattle.rc_ranges.specs.Cover.{cover, MayFollow, IsCanonical}
 use Rattle.rc_ranges.specs.calls.Sweep.{lt, goes_on, extended}

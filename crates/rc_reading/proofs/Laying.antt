@@ -3,8 +3,9 @@ use Rattle.std.proofs.Common.{◌≡◌, ℕ, zero, suc, ◌+◌, ◌<◌, List,
 use Rattle.std.proofs.lemmas.List.{take_at}
 use Rattle.std.specs.Option.{option_to_list}
 use Rattle.rc_cell.specs.declared.writes.Tomb.{Tomb}
-use Rattle.rc_cell.specs.Beats.{tomb_cmp-IsAntisymmetric}
-use Rattle.rc_cell.specs.Greatest.{greater, greatest-two}
+use Rattle.rc_cell.specs.laws.Beats.{tomb_cmp-IsAntisymmetric}
+use Rattle.rc_cell.specs.Greatest.{greater}
+use Rattle.rc_cell.specs.laws.Greatest.{greatest-two}
 use Rattle.rc_cell.specs.Orders.{tomb_cmp, tomb_cmp_total}
 use Rattle.rc_cell.specs.Winner.{greatest}
 use Rattle.lsa_store.specs.declared.place.Ref.{Ref}
@@ -22,7 +23,8 @@ use Rattle.rc_version.specs.Versions.{IsVersionOf}
 use Rattle.rc_partition.specs.laws.Lists.{elem-here}
 use Rattle.rc_partition.specs.Partitions.{AreStanding, PartitionEntry, StandingVersion, among, partition_of}
 use Rattle.rc_reading.specs.declared.said.Asked.{Asked}
-use Rattle.rc_reading.specs.Reading.{AreUpTo, finding_at, read_versions, states_read}
+use Rattle.rc_reading.specs.Reading.{AreUpTo, read_versions}
+use Rattle.rc_reading.specs.calls.Reading.{finding_at, states_read}
 
 -- ---- places in a list
 

@@ -25,7 +25,7 @@ use Rattle.rc_version.specs.Versions.{HoldEntries, IsVersionOf}
 use Rattle.rc_version.specs.laws.Holding.{AreAround, IsAround, around, both-around, each-earlier, later-at, none-held}
 use Rattle.rc_version.specs.laws.Objects.{holds-stands}
 use Rattle.rc_partition.specs.Partitions.{StandingVersion}
-use Rattle.rc_reading.specs.Gaps.{IsNextBehind}
+use Rattle.rc_reading.specs.calls.Gaps.{IsNextBehind}
 use Rattle.rc_reading.specs.Reading.{read_versions}
 
 -- ---- entries that do not stand between two positions

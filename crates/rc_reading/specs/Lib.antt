@@ -1,3 +1,3 @@
-pub mod Gaps
 pub mod Reading
 pub mod laws
+pub mod calls

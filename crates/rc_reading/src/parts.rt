@@ -11,7 +11,7 @@ ghost use Rattle.rc_object.specs.Objects.{HoldsEntry};
 ghost use Rattle.rc_version.specs.Versions.{IsVersionOf};
 ghost use Rattle.rc_partition.specs.Partitions.{StandingVersion};
 ghost use Rattle.rc_reading.specs.Reading.{AreUpTo, read_versions};
-ghost use Rattle.rc_reading.specs.Gaps.{IsGapEnd, IsNextBehind};
+ghost use Rattle.rc_reading.specs.calls.Gaps.{IsGapEnd, IsNextBehind};
 
 use crate::reads::{ReadAt, at};
 use lsa_region::{End, Ref, Region, Root};

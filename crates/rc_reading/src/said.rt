@@ -10,7 +10,7 @@ ghost use Rattle.rc_core.specs.Slow.{spot_at};
 ghost use Rattle.rc_core.specs.Version.{Behind, Version, found, seen};
 ghost use Rattle.rc_object.specs.Objects.{HoldsEntry};
 ghost use Rattle.rc_version.specs.Versions.{IsVersionOf};
-ghost use Rattle.rc_reading.specs.Reading.{IsFindingRead, IsRowRead, finding_at};
+ghost use Rattle.rc_reading.specs.calls.Reading.{IsFindingRead, IsRowRead, finding_at};
 
 use lsa_kinds::Kind;
 use lsa_region::{End, Ref, Region};

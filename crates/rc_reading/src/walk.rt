@@ -10,7 +10,8 @@ ghost use Rattle.rc_core.specs.SpotState.{through, under};
 ghost use Rattle.rc_core.specs.Version.{Version, state_of};
 ghost use Rattle.rc_version.specs.Versions.{IsVersionOf};
 ghost use Rattle.rc_partition.specs.Partitions.{StandingVersion};
-ghost use Rattle.rc_reading.specs.Reading.{AreUpTo, finding_at, read_versions, states_read};
+ghost use Rattle.rc_reading.specs.Reading.{AreUpTo, read_versions};
+ghost use Rattle.rc_reading.specs.calls.Reading.{finding_at, states_read};
 
 use crate::said::{Asked, row_of, said};
 use lsa_region::{Ref, Region, Root};

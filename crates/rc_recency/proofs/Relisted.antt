@@ -24,7 +24,8 @@ use Rattle.rc_memory.specs.laws.Listing.{listed-decided}
 use Rattle.rc_memory.specs.laws.Places.{version-there}
 use Rattle.rc_memory.specs.laws.Standing.{row-of}
 use Rattle.rc_memory.specs.laws.Still.{changed-listed, listed-changed, still-listed, unmoved-listed}
-use Rattle.rc_recency.specs.Holding.{HoldsAfter, IsHeldVersion, IsOffMemtable, IsRelisted, IsTakenOff, list_with}
+use Rattle.rc_recency.specs.Holding.{HoldsAfter, IsHeldVersion, IsOffMemtable, IsRelisted, IsTakenOff}
+use Rattle.rc_recency.specs.calls.Holding.{list_with}
 
 -- nothing changed
 pub relisted-itself : (slots : Slots) (v : View) → IsRelisted slots v v

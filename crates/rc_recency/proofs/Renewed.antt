@@ -20,7 +20,8 @@ use Rattle.rc_memory.specs.Memory.{KeptChain, Member, Memory, IsMemberObject, Is
 use Rattle.rc_memory.specs.Changes.{IsRenewed, IsRenewedWhereNone, IsVersionChanged, IsWithout, Nowhere, member}
 use Rattle.rc_memory.specs.Kept.{HoldMemory}
 use Rattle.rc_memory.specs.laws.Listed.{unlisted-at}
-use Rattle.rc_recency.specs.Holding.{HoldsAfter, IsHeldVersion, IsOffMemtable, IsRelisted, IsTakenOff, list_with}
+use Rattle.rc_recency.specs.Holding.{HoldsAfter, IsHeldVersion, IsOffMemtable, IsRelisted, IsTakenOff}
+use Rattle.rc_recency.specs.calls.Holding.{list_with}
 use Rattle.rc_recency.proofs.Changed.{version-unchanged}
 use Rattle.rc_recency.specs.laws.Held.{entry-found, own-member, standing-as, stands}
 use Rattle.rc_recency.proofs.Made.{IsLater, IsLaterWith, later-split}

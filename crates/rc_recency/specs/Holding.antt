@@ -3,7 +3,7 @@
 --     HoldsAfter      they hold some memory then, of which this is true
 --     IsTakenOff      they hold the memory with a list that has a place no more
 --     IsRelisted      nothing but links of the recency list changed
-use Rattle.std.specs.Prelude.{◌≡◌, ◌⊎◌, ℕ, List, [], ◌∷◌, ◌++◌, length, Option, Some, None, Contains}
+use Rattle.std.specs.Prelude.{◌≡◌, ◌⊎◌, ℕ, List, length, Option, Some, None, Contains}
 use Rattle.rc_cell.specs.declared.rows.Row.{Row}
 use Rattle.rc_position.specs.declared.positions.Pos.{Pos}
 use Rattle.rc_position.specs.Position.{IsBefore}
@@ -15,7 +15,7 @@ use Rattle.lsa_region.specs.Region.{View, link_of, SameObjects}
 use Rattle.lsa_list.specs.declared.recency.List.{List as Slots}
 use Rattle.lsa_list.specs.Recency.{IsElsewhere}
 use Rattle.rc_core.specs.declared.entries.ChainKind.{ChainKind}
-use Rattle.rc_core.specs.declared.entries.ChainKind.TheVariants.{Cache, Memtable}
+use Rattle.rc_core.specs.declared.entries.ChainKind.TheVariants.{Memtable}
 use Rattle.rc_core.specs.declared.entries.Entry.{Entry}
 use Rattle.rc_core.specs.Change.{joined_onto}
 use Rattle.rc_core.specs.Version.{On, Version, end_position, seen}
@@ -54,11 +54,6 @@ IsFoundAt m w (Some r) = IsMemberObject m r w
 pub record IsRelisted (slots : Slots) (old new : View) : Type 0 where
   pub links : (e : End) → IsElsewhere slots old e → link_of new e ≡ link_of old e
   pub objects : SameObjects old new
-
--- the recency list with a place at its back, where the chain is a cache chain's
-abbrev pub list_with : ChainKind → Member → List Member → List Member
-list_with Memtable w list = list
-list_with Cache w list = list ++ (w ∷ [])
 
 -- the place of what is made anew is in the recency list of no memtable
 abbrev pub IsOffMemtable : ChainKind → Member → Memory → Type 0

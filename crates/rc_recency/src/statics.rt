@@ -12,7 +12,8 @@ ghost use Rattle.rc_registry.specs.Registry.{Registry};
 ghost use Rattle.rc_memory.specs.declared.counts.Counts.{Counts};
 ghost use Rattle.rc_memory.specs.Memory.{KeptChain, Memory};
 ghost use Rattle.rc_memory.specs.Changes.{AtAlone, IsRenewed, IsVersionChanged, IsWithout, member};
-ghost use Rattle.rc_recency.specs.Holding.{HoldsAfter, IsHeldVersion, IsOffMemtable, list_with};
+ghost use Rattle.rc_recency.specs.Holding.{HoldsAfter, IsHeldVersion, IsOffMemtable};
+ghost use Rattle.rc_recency.specs.calls.Holding.{list_with};
 
 use crate::listing::{push_cached, take_found};
 use lsa_list::List;

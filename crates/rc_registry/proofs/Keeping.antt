@@ -6,7 +6,8 @@ use Rattle.std.proofs.lemmas.Bool.Decides.{eqb_tells}
 use Rattle.std.proofs.lemmas.List.{length-set, get_or-set_other, get_or-set_same, length-append}
 use Rattle.lsa_region.specs.declared.end.Root.{Root}
 use Rattle.rc_registry.specs.Registry.{Use, Registry, use_at, put, on_use, IsThere, HasRoot, IsNumberIn, AreOnce}
-use Rattle.rc_registry.specs.Kept.{IsKeptRegistry, IsTakenNumber, IsLonger}
+use Rattle.rc_registry.specs.Kept.{IsKeptRegistry}
+use Rattle.rc_registry.specs.calls.Kept.{IsTakenNumber, IsLonger}
 use Rattle.rc_registry.specs.laws.Numbers.{IsOneOf-front, IsOneOf-back, IsOneOf-parts, AreOnce-push, AreOnce-without, AreOnce-apart, length-AreOnce}
 use Rattle.rc_registry.specs.laws.Puts.{there, chain_of, put-within, put-behind, at-put, beside-put, long-put}
 

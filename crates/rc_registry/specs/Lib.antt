@@ -1,3 +1,4 @@
 pub mod Kept
 pub mod laws
 pub mod Registry
+pub mod calls

@@ -5,7 +5,7 @@ ghost use Rattle.std.specs.Vec.{vec_capacity};
 ghost use Rattle.std.specs.VecDeque.{deque_capacity};
 ghost use Rattle.rc_core.specs.Chains.{IsPinned};
 ghost use Rattle.rc_core.specs.Steps.{free_number, pin_at};
-ghost use Rattle.rc_registry.specs.Kept.{IsLonger, IsTakenNumber};
+ghost use Rattle.rc_registry.specs.calls.Kept.{IsLonger, IsTakenNumber};
 ghost use Rattle.rc_registry.specs.Registry.{AreFree, AreOnce, HasRoot, IsAfter, IsNext, IsNumberIn, IsThere, detached, new_use, on_use, put, set_passed, set_updating, use_at, with_pin, with_use, without_pin, without_version};
 
 use crate::uses::{self, Use, new_use};

@@ -13,7 +13,7 @@ use Rattle.rc_cell.specs.Columns.{ascending}
 use Rattle.rc_cell.specs.Orders.{cell_cmp, tomb_cmp}
 use Rattle.rc_cell.specs.Winner.{winners, joined_row}
 use Rattle.rc_cell.specs.Greatest.{greater}
-use Rattle.rc_cell.specs.ByColumn.{ascending-winners}
+use Rattle.rc_cell.specs.laws.ByColumn.{ascending-winners}
 use Rattle.rc_cell.specs.laws.Joined.{joined_of}
 use Rattle.rc_cell.specs.laws.Merge.{pick, merge, merge_into, merge-winners}
 use Rattle.rc_rowcode.specs.Spelling.{stamp_code, tomb_code, optional_code, entry_code, cells_code, row_code, IsTomb, IsCell, IsEntry, IsCodedRow}

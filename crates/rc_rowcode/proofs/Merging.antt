@@ -9,7 +9,7 @@ use Rattle.std.specs.FinMap.Entries.{below_all}
 use Rattle.rc_cell.specs.declared.writes.Cell.{Cell}
 use Rattle.rc_cell.specs.Columns.{ascending}
 use Rattle.rc_cell.specs.Winner.{winner, winners}
-use Rattle.rc_cell.specs.ByColumn.{holds, test_of, second, winners-ascending}
+use Rattle.rc_cell.specs.laws.ByColumn.{holds, test_of, second, winners-ascending}
 use Rattle.rc_cell.specs.laws.Merge.{pick, merge, merge-winners, picked, winner-pair}
 use Rattle.rc_cell.specs.Orders.{cell_cmp}
 use Rattle.rc_rowcode.specs.calls.Reading.{parse_entry}

@@ -1,7 +1,8 @@
 -- The front of a line that is held is answered, and what it is answered is pushed.
 use Rattle.std.proofs.Common.{◌≡◌, ◌⊎◌, ℕ, List, [], ◌++◌, inl, inr, Option, Some, None, Result, Ok, Err, refl, ap, subst, ◌∙◌}
 use Rattle.rc_shell.specs.calls.Feed.{Answered, PushedText, PushedEnding, PushedAnswer, ServedLine, kept}
-use Rattle.rc_shell.specs.Status.{status_at, stop_by}
+use Rattle.rc_shell.specs.Status.{status_at}
+use Rattle.rc_shell.specs.calls.Status.{stop_by}
 use Rattle.rc_lines.specs.laws.{long_lines_are_cut}
 use Rattle.rc_shell.specs.Step.{Moment, Stage, Waiting, Serving, StoreView, LineStep, StageStep, MayAsk, EndsRun, EndsRunAt, LeavesStore, meaning_at, served as meaning_served}
 use Rattle.rc_shell.specs.declared.status.Status.{Status}

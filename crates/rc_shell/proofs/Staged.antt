@@ -24,7 +24,9 @@ use Rattle.rc_machine.specs.laws.Holding.{schema_stays}
 use Rattle.rc_plain.specs.Stands.{Keeping, Stands}
 use Rattle.rc_shell.specs.calls.Feed.{Answered}
 use Rattle.rc_shell.specs.Step.{Moment, Stage, StoreView, Waiting, Serving, StageStep, LineStep, EndsRun, EndsRunAt, LeavesStore, MayAsk, MayHaveAsked, files_of, meaning_at, served, start_moment, bad_table, tells_fault}
-use Rattle.rc_shell.specs.Late.{KeepsMoment, asked_nothing, schema_set, stood_leaves}
+use Rattle.rc_shell.specs.Late.{KeepsMoment}
+use Rattle.rc_shell.specs.calls.Late.{schema_set}
+use Rattle.rc_shell.specs.laws.Late.{asked_nothing, stood_leaves}
 use Rattle.rc_shell.specs.declared.status.Ending.{Ending}
 use Rattle.rc_shell.specs.declared.status.Ending.TheVariants.{BadTable, StoreFault}
 use Rattle.rc_shell.specs.declared.status.Status.TheVariants as statuses

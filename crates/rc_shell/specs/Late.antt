@@ -1,40 +1,11 @@
 -- What the program keeps, and for which moment of a run it stands.
-use Rattle.std.specs.Prelude.{◌≡◌, ℕ, ◌*◌, ◌≤◌, length, Option, Some, None}
-use Rattle.std.specs.FinMap as map
-use Rattle.std.proofs.Common.{subst, sym, ap, ◌∙◌, le_refl}
-use Rattle.std.proofs.Math.Nat.{le-add_right}
-use Rattle.rc_schema.specs.SchemaValue.{SchemaValue}
-use Rattle.rc_lines.specs.declared.commands.Command.{Command}
-use Rattle.rc_lines.specs.declared.commands.Command.TheVariants.{SetSchema}
-use Rattle.rc_machine.specs.Serving.{checks_of}
+use Rattle.std.specs.Prelude.{◌≡◌, Option, Some, None}
 use Rattle.rc_machine.specs.State.{State}
 use Rattle.rc_plain.specs.Stands.{Keeping, Stands}
-use Rattle.rc_shell.specs.Step.{Moment, Stage, StoreView, Waiting, Serving, LeavesStore, MayHaveAsked, files_of}
-
--- the schema of a schema line
-abbrev pub schema_set : Command → Option SchemaValue
-schema_set (SetSchema schema) = Some schema
-schema_set command = None
+use Rattle.rc_shell.specs.Step.{Moment, StoreView, Waiting, Serving}
 
 -- What the program keeps over a store stands for a moment: nothing before a schema line was taken, then what the machine keeps; the counts
 -- are the store's.
 abbrev pub KeepsMoment : Option Keeping → StoreView → Moment → Type 0
 KeepsMoment None store now = (now.stage ≡ Waiting store.0) × (now.faults ≡ store.1) × (now.asks ≡ store.2)
 KeepsMoment (Some keeping) store now = (m : State) × Stands store.0 keeping m × (now.stage ≡ Serving m) × (now.faults ≡ store.1) × (now.asks ≡ store.2)
-
-le_same : {a b : ℕ} → a ≡ b → a ≤ b
-le_same {a} e = subst (λ n. a ≤ n) e (le_refl a)
-
--- nothing was asked for since
-pub asked_nothing : (stage : Stage) (asks : ℕ) → MayHaveAsked stage asks asks
-asked_nothing (Waiting None) asks = tt
-asked_nothing (Waiting (Some files)) asks = le-add_right asks (checks_of (map.values files))
-asked_nothing (Serving m) asks = le-add_right asks (2 * length m.infos)
-
-asked_same : (stage : Stage) {a b : ℕ} → a ≡ b → MayHaveAsked stage a b
-asked_same stage {a} e = subst (λ n. MayHaveAsked stage a n) e (asked_nothing stage a)
-
--- the moment for which the program stands has the store's files
-pub stood_leaves : (kept : Option Keeping) (store : StoreView) (now : Moment) → KeepsMoment kept store now → LeavesStore now store
-stood_leaves None store now s = (ap files_of (sym s.0), le_same s.1, asked_same now.stage s.2)
-stood_leaves (Some keeping) store now s = (sym s.1.over.files ∙ ap files_of (sym s.2), le_same s.3, asked_same now.stage s.4)

@@ -6,3 +6,4 @@ pub mod Step
 pub mod Words
 pub mod Holding
 pub mod Late
+pub mod laws

@@ -1,5 +1,5 @@
 -- The status of a run that stopped, and the number with which the program exits.
-use Rattle.std.specs.Prelude.{ℕ, Result, Ok, Err}
+use Rattle.std.specs.Prelude.{ℕ}
 use Rattle.rc_shell.specs.declared.status.Status.{Status}
 use Rattle.rc_shell.specs.declared.status.Status.TheVariants as statuses
 use Rattle.rc_shell.specs.declared.status.Ending.{Ending}
@@ -17,11 +17,6 @@ abbrev pub status_of : Stop → Status
 status_of NoMemory = statuses.NoMemory
 status_of OutputFault = statuses.OutputFault
 status_of (Ended ending) = status_at ending
-
--- the stop where the last line of an ending was pushed, or was not
-abbrev pub stop_by : Result Unit Stop → Ending → Stop
-stop_by (Ok _) ending = Ended ending
-stop_by (Err stop) ending = stop
 
 -- the number with which the program exits
 abbrev pub exit_code : Status → ℕ

@@ -9,7 +9,8 @@ ghost use Rattle.rc_machine.specs.Built.{is_built};
 ghost use Rattle.rc_plain.specs.Stands.{Stands};
 ghost use Rattle.rc_shell.specs.calls.Feed.{Answered};
 ghost use Rattle.rc_shell.specs.Step.{Moment, LineStep, EndsRun, LeavesStore, bad_table, served};
-ghost use Rattle.rc_shell.specs.Late.{KeepsMoment, schema_set};
+ghost use Rattle.rc_shell.specs.Late.{KeepsMoment};
+ghost use Rattle.rc_shell.specs.calls.Late.{schema_set};
 
 use crate::server::Server;
 use crate::status::Ending;
@@ -30,7 +31,8 @@ pub(crate) struct LateMachine {
 }
 
 impl Server for LateMachine {
-    ghost use Rattle.rc_shell.specs.Late.{KeepsMoment, stood_leaves};
+    ghost use Rattle.rc_shell.specs.Late.{KeepsMoment};
+    ghost use Rattle.rc_shell.specs.laws.Late.{stood_leaves};
 
     ghost stands = { λ server store now. KeepsMoment server.machine store now };
 

@@ -6,7 +6,7 @@ ghost use Rattle.rc_outside.specs.Faults.{Rose};
 ghost use Rattle.rc_shell.specs.Lines.{IsLine};
 ghost use Rattle.rc_shell.specs.calls.Feed.{PushedText, PushedAnswer, ServedLine, ServedLast, Serves, SoFar, TurnGave, EndedBy, kept};
 ghost use Rattle.rc_shell.specs.Run.{piece_size, Ran};
-ghost use Rattle.rc_shell.specs.Status.{stop_by};
+ghost use Rattle.rc_shell.specs.calls.Status.{stop_by};
 ghost use Rattle.rc_shell.specs.Step.{Moment, LineStep, EndsRun, LeavesStore};
 ghost use Rattle.rc_shell.specs.declared.words.Words.TheVariants.{Run};
 

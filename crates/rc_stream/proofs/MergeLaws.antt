@@ -6,7 +6,7 @@ use Rattle.rc_cell.specs.declared.writes.Tomb.{Tomb}
 use Rattle.rc_cell.specs.Greatest.{greater}
 use Rattle.rc_cell.specs.Orders.{tomb_cmp}
 use Rattle.rc_position.specs.declared.positions.Pos.{Pos}
-use Rattle.rc_mutation.specs.ByKey.{joined_if_any}
+use Rattle.rc_mutation.specs.laws.ByKey.{joined_if_any}
 use Rattle.rc_stream.specs.Stream.{Stream, force, says}
 use Rattle.rc_stream.specs.Merging.{IsOrdered, IsTelling, joined_head, merged, rows_here}
 use Rattle.rc_stream.proofs.Merged.{merged-says}

@@ -14,7 +14,7 @@ use Rattle.rc_position.specs.declared.positions.Pos.{Pos}
 use Rattle.rc_position.specs.Position.{pos_cmp, row_pos}
 use Rattle.rc_mutation.specs.declared.fragments.Frag.{Frag}
 use Rattle.rc_mutation.specs.declared.fragments.Frag.TheVariants as frag
-use Rattle.rc_mutation.specs.ByKey.{joined_if_any}
+use Rattle.rc_mutation.specs.laws.ByKey.{joined_if_any}
 use Rattle.rc_mutation.specs.Fragments.{place_order, tomb_after}
 use Rattle.rc_stream.specs.Stream.{force, is_passed, row_at}
 use Rattle.rc_stream.specs.Merging.{IsInner, IsOrdered, IsTelling, StandsBefore, beside, changes_nothing, merged_left, place_of, rows_here, together}

@@ -9,7 +9,7 @@ use Rattle.std.specs.FinMap.{put}
 use Rattle.std.specs.FinMap.Entries.{by_order}
 use Rattle.rc_cell.specs.declared.rows.Row.{Row}
 use Rattle.rc_cell.specs.declared.writes.Tomb.{Tomb}
-use Rattle.rc_cell.specs.Beats.{tomb_cmp-IsAntisymmetric}
+use Rattle.rc_cell.specs.laws.Beats.{tomb_cmp-IsAntisymmetric}
 use Rattle.rc_cell.specs.Greatest.{greater}
 use Rattle.rc_cell.specs.laws.{joined_row-one}
 use Rattle.rc_cell.specs.Orders.{tomb_cmp}

@@ -4,7 +4,7 @@ ghost use Rattle.std.specs.Prelude.{◌≡◌, ◌++◌, ◌∷◌, [], ℕ, Boo
 ghost use Rattle.std.specs.Option.{option_to_list};
 ghost use Rattle.rc_cell.specs.Greatest.{greater};
 ghost use Rattle.rc_cell.specs.Orders.{tomb_cmp};
-ghost use Rattle.rc_mutation.specs.ByKey.{joined_if_any};
+ghost use Rattle.rc_mutation.specs.laws.ByKey.{joined_if_any};
 ghost use Rattle.rc_stream.specs.Merging.{IsOrdered, IsTelling, joined_head, merged, rows_here};
 ghost use Rattle.std.specs.Ordering.{is_le};
 ghost use Rattle.rc_position.specs.declared.positions.Pos.{Pos};

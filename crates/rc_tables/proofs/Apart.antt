@@ -16,7 +16,7 @@ use Rattle.rc_position.specs.laws.Orders.{pos_cmp_same, pos_cmp_total}
 use Rattle.rc_ranges.specs.declared.pieces.Piece.{Piece}
 use Rattle.rc_ranges.specs.Cover.{MayFollow}
 use Rattle.rc_cell.specs.Orders.{tomb_cmp, tomb_cmp_total}
-use Rattle.rc_cell.specs.Beats.{tomb_cmp-IsAntisymmetric}
+use Rattle.rc_cell.specs.laws.Beats.{tomb_cmp-IsAntisymmetric}
 use Rattle.rc_mutation.specs.declared.fragments.Frag.{Frag}
 use Rattle.rc_mutation.specs.declared.fragments.Frag.TheVariants as frag
 use Rattle.rc_mutation.specs.declared.mutations.Mutation.{Mutation}
@@ -25,7 +25,7 @@ use Rattle.rc_mutation.specs.Fragments.{begins_at, changes_of, placed_change, pl
 use Rattle.rc_mutation.specs.Rows.{joined_rows, IsRows}
 use Rattle.rc_mutation.specs.laws.JoinedRows.{joined_rows-append, joined_rows-rows}
 use Rattle.rc_mutation.specs.laws.FragMerge.{merge, merge_into, fragment_of}
-use Rattle.rc_tables.specs.Rebuilt.{AllWritten, changes_among, pieces_between, rows_among}
+use Rattle.rc_tables.specs.calls.Rebuilt.{AllWritten, changes_among, pieces_between, rows_among}
 use Rattle.rc_tables.proofs.Listing.{between-merge}
 
 abbrev Keyed : Type 0

@@ -23,7 +23,8 @@ use Rattle.rc_cell.specs.Columns.{ascending}
 use Rattle.rc_tfile.specs.Items.{IsItem, PartItem, item_code}
 use Rattle.rc_writes.specs.Allowed.{ChangeFits, IsRangeBound, IsRowOf, IsStaticOf}
 use Rattle.rc_tfile.specs.laws.Follows.{all_of}
-use Rattle.rc_tables.specs.Rebuilt.{AllCome, ArePartItems, IsSpellable, MayCome, open_range, changes_among, ended, frag_code, pieces_between, rows_among}
+use Rattle.rc_tables.specs.Rebuilt.{AllCome, ArePartItems, MayCome}
+use Rattle.rc_tables.specs.calls.Rebuilt.{IsSpellable, open_range, changes_among, ended, frag_code, pieces_between, rows_among}
 use Rattle.rc_tables.proofs.Apart.{front_first, ranges_between, rows_between}
 use Rattle.rc_tables.proofs.Spelled.{IsPartBytes, IsPartItem, code_of_part, items_spelled}
 

@@ -15,10 +15,12 @@ use Rattle.rc_mutation.specs.laws.Sources.{IsJoinOf-none, IsJoinOf-more}
 use Rattle.rc_tfile.specs.declared.info.PartRef.{PartRef}
 use Rattle.rc_tfile.specs.declared.info.TableInfo.{TableInfo}
 use Rattle.rc_tfile.specs.laws.Follows.{all_append}
-use Rattle.rc_tables.specs.Located.{IsLocatedOf, SaysOf, WhereTold}
+use Rattle.rc_tables.specs.Located.{SaysOf, WhereTold}
+use Rattle.rc_tables.specs.calls.Located.{IsLocatedOf}
 use Rattle.rc_stream.specs.declared.streams.StreamErr.{StreamErr}
 use Rattle.rc_stream.specs.declared.streams.StreamErr.TheVariants.{Fault, Damaged, NoMemory}
-use Rattle.rc_tables.specs.Tables.{AreHeld, HoldsTables, IsDamageIn, IsDamageOf, JoinsSome, changes_at, changes_in, listing}
+use Rattle.rc_tables.specs.Tables.{AreHeld, HoldsTables, IsDamageIn, IsDamageOf, changes_at, changes_in, listing}
+use Rattle.rc_tables.specs.calls.Tables.{JoinsSome}
 use Rattle.rc_tables.proofs.Places.{key_is}
 use Rattle.rc_tables.proofs.Searching.{keys_ascend, none_there, located, dir_is}
 

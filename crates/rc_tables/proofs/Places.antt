@@ -21,7 +21,8 @@ use Rattle.rc_writes.specs.Allowed.{IsStaticOf}
 use Rattle.rc_tfile.specs.TableText.{AllFit, items_to_stop, frag_items, whole_table, part_items}
 use Rattle.rc_tfile.specs.laws.Follows.{followed_by-append, text-followed_by, by_recursion}
 use Rattle.rc_tfile.specs.laws.Drafts.{parts_of, body_is}
-use Rattle.rc_tables.specs.Located.{IsLocated, IsSpan, IsEntryAt, EndsAt, MayLie, glimpsed}
+use Rattle.rc_tables.specs.Located.{IsEntryAt, EndsAt, MayLie, glimpsed}
+use Rattle.rc_tables.specs.calls.Located.{IsLocated, IsSpan}
 use Rattle.rc_tables.specs.Rebuilt.{AllCome}
 use Rattle.rc_mutation.specs.Fragments.{rows_and_changes}
 use Rattle.rc_tables.specs.laws.Ascending.{front_fits}

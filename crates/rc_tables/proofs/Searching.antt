@@ -12,7 +12,7 @@ use Rattle.std.specs.Cmp.{tied_itself}
 use Rattle.std.specs.FinMap.{is_sorted}
 use Rattle.std.specs.FinMap.Entries.{below_all}
 use Rattle.std.proofs.lemmas.List.{drop_more, length-take-le}
-use Rattle.rc_cell.specs.ByColumn.{test_of, first, second, both, holds}
+use Rattle.rc_cell.specs.laws.ByColumn.{test_of, first, second, both, holds}
 use Rattle.rc_outside.specs.Files.{Files}
 use Rattle.rc_position.specs.Position.{bytes_cmp}
 use Rattle.rc_position.specs.laws.Orders.{bytes_cmp_total, bytes_cmp_same}
@@ -30,7 +30,7 @@ use Rattle.rc_tfile.specs.Info.{refs_from, info_of}
 use Rattle.rc_tfile.specs.TableText.{IsTable, items_to_stop, part_items}
 use Rattle.rc_tfile.specs.laws.Drafts.{body_is}
 use Rattle.rc_tfile.specs.laws.Follows.{by_recursion}
-use Rattle.rc_tables.specs.Located.{IsLocatedOf}
+use Rattle.rc_tables.specs.calls.Located.{IsLocatedOf}
 use Rattle.rc_tables.specs.Tables.{IsHeld, changes_in, listing}
 use Rattle.rc_tables.proofs.Listing.{directory_entry_size, entry_of, entries_behind, entries_are, length-entries, length-refs}
 

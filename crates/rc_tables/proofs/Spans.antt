@@ -18,8 +18,10 @@ use Rattle.rc_tfile.specs.Before.{offset}
 use Rattle.rc_tfile.specs.laws.Starting.{key_free, rest_of}
 use Rattle.std.proofs.lemmas.Nat.{from_le_bytes-to_le_bytes_8}
 use Rattle.rc_tables.specs.declared.locating.Span.{Span}
-use Rattle.rc_tables.specs.Located.{IsLocated, IsLocatedOf, IsSpan, IsEntryAt, EndsAt, MayLie, SaysNoPart, SaysNoSpan, SaysOf, SaysSpan, glimpsed, WhereTold}
-use Rattle.rc_tables.specs.Rebuilt.{AllCome, ArePartItems, number_at_front}
+use Rattle.rc_tables.specs.Located.{IsEntryAt, EndsAt, MayLie, SaysNoPart, SaysNoSpan, SaysOf, SaysSpan, glimpsed, WhereTold}
+use Rattle.rc_tables.specs.calls.Located.{IsLocated, IsLocatedOf, IsSpan}
+use Rattle.rc_tables.specs.Rebuilt.{AllCome, ArePartItems}
+use Rattle.rc_tables.specs.calls.Rebuilt.{number_at_front}
 use Rattle.rc_mutation.specs.Fragments.{rows_and_changes}
 use Rattle.rc_tables.proofs.Places.{where_from, where_to, begins_there, ends_there, in_order, lies_there, reads_within, key_is, is_mutation, items_there, comes_there}
 use Rattle.rc_tables.proofs.Coming.{change_fits}

@@ -18,7 +18,7 @@ use Rattle.rc_tfile.specs.Items.{Item, PartItem, RowItem, ChangeItem, EndItem, i
 use Rattle.rc_tfile.specs.Reading.{Starts, part_item}
 use Rattle.rc_tfile.specs.TableText.{frag_items, part_items}
 use Rattle.rc_tfile.specs.laws.Starting.{PrefixFree, IsOptional, rest_of, both_free, key_free, full_key_free, pos_free, row_free, optional_free}
-use Rattle.rc_tables.specs.Rebuilt.{frag_code, IsSpellable}
+use Rattle.rc_tables.specs.calls.Rebuilt.{frag_code, IsSpellable}
 use Rattle.rc_mutation.specs.Fragments.{rows_and_changes}
 use Rattle.rc_tables.proofs.Listing.{Inner, between-inner, items_of}
 

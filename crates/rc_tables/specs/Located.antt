@@ -1,50 +1,21 @@
 -- Where a partition lies in a table file.
-use Rattle.std.specs.Prelude.{◌≡◌, ◌⊎◌, ℕ, ◌+◌, ◌-◌, ◌<◌, ◌≤◌, ◌^◌, min, List, [], ◌∷◌, ◌++◌, length, drop, All, Option, Some, None, ⊤}
-use Rattle.std.specs.List.{flat_map}
+use Rattle.std.specs.Prelude.{◌≡◌, ◌⊎◌, ℕ, ◌+◌, ◌-◌, ◌<◌, ◌≤◌, ◌^◌, min, List, [], ◌∷◌, ◌++◌, length, drop, Option, Some, None, ⊤}
 use Rattle.rc_outside.specs.Files.{Files}
 use Rattle.rc_schema.specs.SchemaValue.{SchemaValue}
-use Rattle.rc_mutation.specs.declared.mutations.Partition.{Partition}
 use Rattle.rc_mutation.specs.Source.{IsMutation}
 use Rattle.rc_tfile.specs.declared.info.PartRef.{PartRef}
 use Rattle.rc_tfile.specs.Items.{item_code, EntryItem}
 use Rattle.rc_tfile.specs.Before.{offset}
-use Rattle.rc_tfile.specs.Checking.{IsContent}
-use Rattle.rc_tfile.specs.Info.{info_of}
 use Rattle.rc_mutation.specs.declared.mutations.Mutation.{Mutation}
 use Rattle.rc_stream.specs.declared.streams.StreamErr.{StreamErr}
-use Rattle.rc_stream.specs.declared.streams.StreamErr.TheVariants.{Fault, Damaged, NoMemory}
+use Rattle.rc_stream.specs.declared.streams.StreamErr.TheVariants.{Damaged}
 use Rattle.rc_writes.specs.Allowed.{ChangeFits}
-use Rattle.rc_tfile.specs.TableText.{IsTable, items_to_stop, part_items}
 use Rattle.rc_tables.specs.Rebuilt.{ArePartItems}
 
 -- so much is owed where the files are told
 abbrev pub WhereTold : Option Files → Type 0 → Type 0
 WhereTold None P = ⊤
 WhereTold (Some files) P = P
-
--- file n is a table of partitions, of which p is one: the directory begins at an offset, and lists p and those behind it so
-pub record IsLocated (files : Option Files) (n dir : ℕ) (listed : List PartRef) (p : Partition) : Type 0 where
-  pub schema : SchemaValue
-  pub before : List Partition
-  pub behind : List Partition
-  pub bytes : List ℕ
-  pub content : IsContent files n bytes
-  pub table : IsTable bytes schema (before ++ p ∷ behind)
-  pub mutations : All (λ q. IsMutation q.change) (before ++ p ∷ behind)
-  pub directory : dir ≡ offset (items_to_stop schema (before ++ p ∷ behind))
-  pub refs : listed ≡ drop (length before) ((info_of n schema (before ++ p ∷ behind)).parts)
-
--- the same of a table of this schema
-abbrev pub IsLocatedOf : Option Files → SchemaValue → ℕ → ℕ → List PartRef → Partition → Type 0
-IsLocatedOf files schema n dir listed p = (is : IsLocated files n dir listed p) × (is.schema ≡ schema)
-
--- the items of p lie in file n from one offset up to another
-pub record IsSpan (files : Option Files) (n : ℕ) (p : Partition) (from to : ℕ) : Type 0 where
-  pub front : List ℕ
-  pub behind : List ℕ
-  pub content : IsContent files n (front ++ (flat_map item_code (part_items p) ++ behind))
-  pub begins : from ≡ length front
-  pub ends : to ≡ from + length (flat_map item_code (part_items p))
 
 -- how many bytes are read of what the directory says of the first of these partitions: no more than 78, which hold what comes before its blocks
 abbrev pub glimpsed : List PartRef → ℕ
@@ -90,18 +61,6 @@ pub record SaysNoPart (schema : SchemaValue) (dir : ℕ) (here : PartRef) (later
   pub bytes : List ℕ
   pub count : length bytes ≡ to - from
   pub none : (m : Mutation) → ArePartItems schema here.key m bytes → ⊥
-
--- the store failed, or memory was refused
-abbrev pub IsStreamHostError : StreamErr → Type 0
-IsStreamHostError Fault = ⊤
-IsStreamHostError (Damaged file offset) = ⊥
-IsStreamHostError NoMemory = ⊤
-
--- Damaged names file n, and where bytes of the directory begin that were read and contradict the table as checked
-abbrev pub IsAtSpan : ℕ → ℕ → PartRef → List PartRef → StreamErr → Type 0
-IsAtSpan n dir here later Fault = ⊤
-IsAtSpan n dir here later (Damaged file offset) = (file ≡ n) × (offset ≡ here.dir_off) × SaysNoSpan dir here later
-IsAtSpan n dir here later NoMemory = ⊤
 
 -- Damaged names file n, and where bytes begin that were read and contradict the table as checked: what its directory says of a partition, or
 -- the items of the partition

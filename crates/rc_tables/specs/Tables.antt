@@ -2,7 +2,7 @@
 --     HoldsTables     the tables of a set are those of these partitions, and their files have these texts
 --     changes_at      what the tables say of a key, in the tables' order
 --     IsStreamAt      a stream is that of the join of all that the tables say of a key
-use Rattle.std.specs.Prelude.{◌≡◌, ◌⊎◌, ℕ, ◌≤◌, IsTrue, List, [], ◌∷◌, ◌++◌, length, drop, map as list_map, filter, All, Option, ⊤}
+use Rattle.std.specs.Prelude.{◌≡◌, ◌⊎◌, ℕ, ◌≤◌, IsTrue, List, [], ◌∷◌, length, drop, map as list_map, filter, All, Option, ⊤}
 use Rattle.std.specs.Ordering.{eq_by_cmp}
 use Rattle.std.specs.List.{flat_map, list_any, AllByRecursion}
 use Rattle.std.specs.FinMap.{is_sorted}
@@ -70,13 +70,6 @@ AreHeld files schema infos = (tables : List (ℕ × List Partition)) × HoldsTab
 pub record IsSomeJoin (schema : SchemaValue) (infos : List TableInfo) (key : List ℕ) (m : Mutation) : Type 0 where
   pub changes : List Mutation
   pub joined : IsJoinOf m changes
-  pub count : length changes ≤ listing key infos
-  pub fit : AllByRecursion (SaysOf schema) changes
-
--- some changes of a key were joined to a mutation, at most one of each table that lists it
-pub record JoinsSome (schema : SchemaValue) (infos : List TableInfo) (key : List ℕ) (old now : Mutation) : Type 0 where
-  pub changes : List Mutation
-  pub joined : (done : List Mutation) → IsJoinOf old done → IsJoinOf now (done ++ changes)
   pub count : length changes ≤ listing key infos
   pub fit : AllByRecursion (SaysOf schema) changes
 

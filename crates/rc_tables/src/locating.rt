@@ -4,8 +4,9 @@ ghost use Rattle.std.specs.Prelude.{◌≡◌, ◌≤◌, ◌+◌, ℕ, ◌∷�
 ghost use Rattle.rc_mutation.specs.declared.mutations.Partition.{Partition};
 ghost use Rattle.rc_outside.specs.Files.{HoldsSameFiles, LiesInFile, AreBytesOf};
 ghost use Rattle.rc_stream.specs.Causes.{Caused};
-ghost use Rattle.rc_tables.specs.Rebuilt.{number_at_front};
-ghost use Rattle.rc_tables.specs.Located.{EndsAt, glimpsed, IsAtSpan, IsEntryAt, IsLocated, IsStreamHostError, IsSpan, MayLie, SaysSpan, WhereTold};
+ghost use Rattle.rc_tables.specs.calls.Rebuilt.{number_at_front};
+ghost use Rattle.rc_tables.specs.Located.{EndsAt, glimpsed, IsEntryAt, MayLie, SaysSpan, WhereTold};
+ghost use Rattle.rc_tables.specs.calls.Located.{IsAtSpan, IsLocated, IsStreamHostError, IsSpan};
 
 use rc_outside::Store;
 use rc_position::PartKey;
@@ -165,7 +166,7 @@ fn part_offset(alloc: Global, bytes: &[u8], key: &PartKey) -> Result<Option<u64>
 }
 
 // The number in the first eight bytes, if there are as many.
-#[tactic(auto, unfolding(crate::specs::Rebuilt::number_at_front))]
+#[tactic(auto, unfolding(crate::specs::calls::Rebuilt::number_at_front))]
 fn number_at(bytes: &[u8]) -> Option<u64>
     ensures { result ≡ number_at_front bytes.now }
 {

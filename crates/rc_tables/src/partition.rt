@@ -4,7 +4,8 @@ ghost use Rattle.std.specs.Prelude.{◌≡◌, ◌≤◌, ◌+◌, ◌∷◌, If
 ghost use Rattle.rc_outside.specs.Files.{HoldsSameFiles};
 ghost use Rattle.rc_mutation.specs.declared.mutations.Partition.{Partition};
 ghost use Rattle.rc_stream.specs.Causes.{Caused};
-ghost use Rattle.rc_tables.specs.Located.{Contradicts, IsLocatedOf, SaysOf, WhereTold};
+ghost use Rattle.rc_tables.specs.Located.{Contradicts, SaysOf, WhereTold};
+ghost use Rattle.rc_tables.specs.calls.Located.{IsLocatedOf};
 
 use crate::decoding::decode;
 use crate::locating::{locate, read_range};

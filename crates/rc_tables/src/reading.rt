@@ -10,7 +10,8 @@ ghost use Rattle.rc_mutation.specs.declared.mutations.Partition.{Partition};
 ghost use Rattle.rc_mutation.specs.Source.{IsJoinOf, IsMutation};
 ghost use Rattle.rc_stream.specs.Causes.{Caused};
 ghost use Rattle.rc_tables.specs.Located.{WhereTold};
-ghost use Rattle.rc_tables.specs.Tables.{AreHeld, changes_in, HoldsTables, IsDamageOf, IsJoinedAt, IsSomeJoin, JoinsSome, listing};
+ghost use Rattle.rc_tables.specs.Tables.{AreHeld, changes_in, HoldsTables, IsDamageOf, IsJoinedAt, IsSomeJoin, listing};
+ghost use Rattle.rc_tables.specs.calls.Tables.{JoinsSome};
 
 use crate::partition::read_partition;
 use crate::sets::TableSet;

@@ -8,7 +8,7 @@ ghost use Rattle.rc_ranges.specs.Cover.{IsCanonical, MayFollow};
 ghost use Rattle.rc_mutation.specs.declared.mutations.Mutation.{Mutation};
 ghost use Rattle.rc_mutation.specs.Rows.{IsRows, joined_rows};
 ghost use Rattle.rc_mutation.specs.Source.{IsMutation};
-ghost use Rattle.rc_tables.specs.Rebuilt.{AllWritten, open_range, changes_among, ended, pieces_between, rows_among};
+ghost use Rattle.rc_tables.specs.calls.Rebuilt.{AllWritten, open_range, changes_among, ended, pieces_between, rows_among};
 ghost use Rattle.rc_mutation.specs.Fragments.{rows_and_changes};
 
 use rc_cell::Tomb;

@@ -15,7 +15,8 @@ use Rattle.rc_tfile.specs.TableText.{ItemFits, AllFit, MayStand}
 use Rattle.rc_tfile.specs.calls.Outlined.{IsListed}
 use Rattle.rc_tfile.specs.Checking.{IsContent, IsHostError}
 use Rattle.rc_tfile.specs.calls.Windows.{ReadAhead, IsFull, IsAheadIn}
-use Rattle.rc_tfile.specs.Walking.{EndsWithTail, IsRefusalOf, IsCheckRefused, Awaits, Expects, Meets, Misses, EndsFront, Overruns, IsWhole}
+use Rattle.rc_tfile.specs.Walking.{IsRefusalOf}
+use Rattle.rc_tfile.specs.calls.Walking.{EndsWithTail, IsCheckRefused, Awaits, Expects, Meets, Misses, EndsFront, Overruns, IsWhole}
 use Rattle.std.proofs.lemmas.List.{length-append}
 use Rattle.rc_tfile.specs.laws.Follows.{followed_by-append, all_append}
 use Rattle.rc_tfile.proofs.Ahead.{ahead_decides, no_more}

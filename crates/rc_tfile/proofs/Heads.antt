@@ -8,7 +8,8 @@ use Rattle.rc_rowcode.specs.laws.Fields.{IsBytes, length_codec}
 use Rattle.rc_schema.specs.SchemaValue.{SchemaValue}
 use Rattle.rc_schema.specs.SchemaText.{schema_text, schema_of}
 use Rattle.rc_schema.specs.laws.SchemaTexts.{text_reads_back, read_is_the_text, read_is_within}
-use Rattle.rc_tfile.specs.Reading.{Starts, text_code, HasText}
+use Rattle.rc_tfile.specs.Reading.{Starts}
+use Rattle.rc_tfile.specs.calls.Reading.{text_code, HasText}
 
 pub length_of_length : (n : ℕ) → length (length_code n) ≡ 2
 unfolding length_code

@@ -27,7 +27,8 @@ use Rattle.rc_tfile.specs.TableText.{AllFit, frag_items, part_items, items_to_st
 use Rattle.rc_tfile.specs.Info.{info_of, refs_from}
 use Rattle.rc_tfile.specs.calls.Outlined.{IsListed}
 use Rattle.rc_tfile.specs.Checking.{IsContent}
-use Rattle.rc_tfile.specs.Walking.{ChecksTable, IsWhole}
+use Rattle.rc_tfile.specs.Walking.{ChecksTable}
+use Rattle.rc_tfile.specs.calls.Walking.{IsWhole}
 use Rattle.rc_tfile.specs.laws.Follows.{followed_by-append, all_append, all_of}
 use Rattle.rc_tfile.specs.laws.Drafts.{parts_of, body_is}
 

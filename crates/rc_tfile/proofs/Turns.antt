@@ -11,10 +11,12 @@ use Rattle.rc_tfile.specs.Items.{Item, HeadItem, PartItem, RowItem, ChangeItem, 
 use Rattle.rc_tfile.specs.Before.{ItemsBefore, Start, Behind, text, offset, item_place}
 use Rattle.rc_tfile.specs.TableText.{ItemFits, AllFit, IsOtherSchema, FirstDamage}
 use Rattle.rc_tfile.specs.calls.Outlined.{IsOutline, outline_place}
-use Rattle.rc_tfile.specs.Checking.{ChecksHead, IsNextItem, AsksFew}
+use Rattle.rc_tfile.specs.Checking.{ChecksHead, AsksFew}
+use Rattle.rc_tfile.specs.calls.Checking.{IsNextItem}
 use Rattle.rc_tfile.specs.Reading.{Starts}
 use Rattle.rc_tfile.specs.calls.Windows.{ReadAhead, IsAhead, IsFull, IsAheadIn, past, reads_left}
-use Rattle.rc_tfile.specs.Walking.{EndsWithTail, IsRefusalOf, IsCheckRefused, StandsAhead, Stopped}
+use Rattle.rc_tfile.specs.Walking.{IsRefusalOf}
+use Rattle.rc_tfile.specs.calls.Walking.{EndsWithTail, IsCheckRefused, StandsAhead, Stopped}
 use Rattle.rc_tfile.proofs.Ahead.{ahead_decides}
 use Rattle.rc_tfile.proofs.Heads.{one_schema}
 use Rattle.rc_tfile.proofs.Unfit.{Nothing, between_no_start, inside_no_start}

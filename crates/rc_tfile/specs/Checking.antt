@@ -1,17 +1,11 @@
 -- What reading a file must answer, given what it holds.
-use Rattle.std.specs.Prelude.{◌≡◌, ℕ, ◌+◌, ◌/◌, ◌≤◌, List, ◌∷◌, ◌++◌, length, Option, None, Some, Result, Ok, Err, ⊤}
+use Rattle.std.specs.Prelude.{◌≡◌, ℕ, ◌+◌, ◌/◌, ◌≤◌, List, ◌++◌, length, Option, None, Some, Result, Ok, Err, ⊤}
 use Rattle.std.specs.FinMap as map
 use Rattle.rc_outside.specs.Files.{Files}
 use Rattle.rc_schema.specs.SchemaValue.{SchemaValue}
 use Rattle.rc_tfile.specs.declared.checking.CheckErr.{CheckErr}
 use Rattle.rc_tfile.specs.declared.checking.CheckErr.TheVariants.{Fault, Damaged, OtherSchema, NoMemory}
-use Rattle.rc_tfile.specs.declared.outline.Outline.{Outline}
-use Rattle.rc_tfile.specs.declared.stepping.Next.{Next}
-use Rattle.rc_tfile.specs.declared.stepping.Next.TheVariants as next
-use Rattle.rc_tfile.specs.Items.{Item, HeadItem, StopItem, item_code, IsItem}
-use Rattle.rc_tfile.specs.Before.{ItemsBefore}
-use Rattle.rc_tfile.specs.TableText.{ItemFits}
-use Rattle.rc_tfile.specs.calls.Outlined.{IsOutline, IsListed}
+use Rattle.rc_tfile.specs.Items.{HeadItem, item_code, IsItem}
 
 -- file n has these bytes, where the files are told
 abbrev pub IsContent : Option Files → ℕ → List ℕ → Type 0
@@ -30,11 +24,6 @@ ChecksHead bytes (Err OtherSchema) = ⊥
 ChecksHead bytes (Err Fault) = ⊤
 ChecksHead bytes (Err NoMemory) = ⊤
 
--- the same of a head and its length
-abbrev pub ChecksSized : List ℕ → Result (SchemaValue × ℕ) CheckErr → Type 0
-ChecksSized bytes (Ok found) = HasHead bytes found.0 × (found.1 ≡ length (item_code (HeadItem found.0)))
-ChecksSized bytes (Err e) = ChecksHead bytes (Err e)
-
 -- the store failed, or memory ran out
 abbrev pub IsHostError : CheckErr → Type 0
 IsHostError Fault = ⊤
@@ -52,9 +41,3 @@ OnCheckFault NoMemory P = ⊤
 -- the count of asked ranges rises by at most one for each 2048 bytes of the file, and two
 abbrev pub AsksFew : (before now : ℕ) → List ℕ → Type 0
 AsksFew before now bytes = now ≤ before + (length bytes / 2048 + 2)
-
--- what the next item was, of those that stand behind others
-abbrev pub IsNextItem : SchemaValue → ItemsBefore → List ℕ → Outline → Next → Type 0
-IsNextItem schema before bytes o (next.Fits size) = (x : Item) × (more : List ℕ) × ItemFits schema before x × (bytes ≡ item_code x ++ more) × (size ≡ length (item_code x)) × IsOutline (x ∷ before) o
-IsNextItem schema before bytes o next.Stops = (more : List ℕ) × ItemFits schema before StopItem × (bytes ≡ item_code StopItem ++ more) × IsListed (StopItem ∷ before) o
-IsNextItem schema before bytes o next.Unfit = (x : Item) (more : List ℕ) → ItemFits schema before x → bytes ≡ item_code x ++ more → ⊥

@@ -2,3 +2,7 @@
 pub mod Limits
 pub mod Outlined
 pub mod Windows
+pub mod Checking
+pub mod Reading
+pub mod Stored
+pub mod Walking

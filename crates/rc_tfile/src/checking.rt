@@ -6,7 +6,8 @@ ghost use Rattle.rc_tfile.specs.Items.{item_code, HeadItem, IsItem};
 ghost use Rattle.rc_tfile.specs.Reading.{Starts};
 ghost use Rattle.rc_tfile.specs.calls.Windows.{IsOpen, IsAheadIn, reads_left};
 ghost use Rattle.rc_outside.specs.Faults.{RisesIfFault};
-ghost use Rattle.rc_tfile.specs.Checking.{IsContent, ChecksHead, ChecksSized, AsksFew, OnCheckFault};
+ghost use Rattle.rc_tfile.specs.Checking.{IsContent, ChecksHead, AsksFew, OnCheckFault};
+ghost use Rattle.rc_tfile.specs.calls.Checking.{ChecksSized};
 
 use crate::reading::read_head;
 use crate::window::Window;

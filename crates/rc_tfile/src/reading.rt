@@ -5,7 +5,8 @@ ghost use Rattle.std.specs.Option.{option_map};
 ghost use Rattle.rc_rowcode.specs.calls.Reading.{parse_length};
 ghost use Rattle.rc_rowcode.specs.Spelling.{optional_code, tomb_code, key_code, pos_code, row_code, IsTomb, IsKey, IsPos, IsCodedRow, KeyFits};
 ghost use Rattle.rc_tfile.specs.Items.{item_code, HeadItem, ChangeItem, RowItem, IsItem, bytes_code, IsPartKey};
-ghost use Rattle.rc_tfile.specs.Reading.{Starts, head_code, part_code, part_item, text_code, HasText, IsHead, IsPart};
+ghost use Rattle.rc_tfile.specs.Reading.{Starts, part_item};
+ghost use Rattle.rc_tfile.specs.calls.Reading.{head_code, part_code, text_code, HasText, IsHead, IsPart};
 
 use crate::spelling::{CHANGE, PART, ROW};
 use rc_cell::{Row, Tomb};

@@ -7,7 +7,7 @@ ghost use Rattle.rc_cell.specs.Winner.{empty_row};
 ghost use Rattle.rc_writes.specs.Allowed.{IsRowOf};
 ghost use Rattle.rc_tfile.specs.Before.{ItemsBefore};
 ghost use Rattle.rc_tfile.specs.calls.Outlined.{IsOutline};
-ghost use Rattle.rc_tfile.specs.Checking.{IsNextItem};
+ghost use Rattle.rc_tfile.specs.calls.Checking.{IsNextItem};
 
 use crate::outline::Outline;
 use crate::reading::{behind, read_change, read_part, read_row_item};

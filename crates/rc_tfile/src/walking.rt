@@ -12,7 +12,8 @@ ghost use Rattle.rc_tfile.specs.calls.Outlined.{IsListed};
 ghost use Rattle.rc_outside.specs.Faults.{RisesIfFault};
 ghost use Rattle.rc_tfile.specs.Checking.{IsContent, AsksFew, OnCheckFault};
 ghost use Rattle.rc_tfile.specs.calls.Windows.{IsOpen, IsAheadIn, bytes_left, reads_left, largest};
-ghost use Rattle.rc_tfile.specs.Walking.{ChecksTable, IsCheckRefused, StandsAhead, Stopped, Walks, Awaits, Expects, Meets, EndsFront, IsWhole, IsWalked};
+ghost use Rattle.rc_tfile.specs.Walking.{ChecksTable};
+ghost use Rattle.rc_tfile.specs.calls.Walking.{IsCheckRefused, StandsAhead, Stopped, Walks, Awaits, Expects, Meets, EndsFront, IsWhole, IsWalked};
 
 use crate::blocks::{Block, Listed};
 use crate::checking::{CheckErr, head_of};

@@ -12,7 +12,8 @@ ghost use Rattle.rc_tfile.specs.Blocks.{entry_items, ending};
 ghost use Rattle.rc_tfile.specs.Info.{info_of};
 ghost use Rattle.rc_tfile.specs.calls.Outlined.{IsListed, IsOutline};
 ghost use Rattle.rc_outside.specs.Faults.{RisesIfFault};
-ghost use Rattle.rc_tfile.specs.Stored.{with_file, write_err_of, OnWriteFault};
+ghost use Rattle.rc_tfile.specs.Stored.{with_file, OnWriteFault};
+ghost use Rattle.rc_tfile.specs.calls.Stored.{write_err_of};
 ghost use Rattle.rc_tfile.specs.calls.Limits.{FragFits};
 ghost use Rattle.rc_tfile.specs.TableText.{frag_items, part_items, whole_table, PartsFit};
 

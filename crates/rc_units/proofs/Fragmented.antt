@@ -11,7 +11,7 @@ use Rattle.std.specs.Ordering.{is_eq, is_lt, eq_by_cmp, ordering_then}
 use Rattle.rc_cell.specs.declared.rows.Row.{Row}
 use Rattle.rc_cell.specs.declared.writes.Cell.{Cell}
 use Rattle.rc_cell.specs.declared.writes.Tomb.{Tomb}
-use Rattle.rc_cell.specs.ByColumn.{first, second, test_of}
+use Rattle.rc_cell.specs.laws.ByColumn.{first, second, test_of}
 use Rattle.rc_cell.specs.laws.{joined_row-none}
 use Rattle.rc_cell.specs.Winner.{joined_row, empty_row}
 use Rattle.rc_position.specs.declared.comps.Comp.{Comp}

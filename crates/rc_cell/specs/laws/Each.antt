@@ -8,7 +8,7 @@ use Rattle.std.specs.List.{filter, filter_map, flat_map, cons_option, list_all, 
 use Rattle.rc_cell.specs.declared.rows.Row.{Row}
 use Rattle.rc_cell.specs.declared.writes.Cell.{Cell}
 use Rattle.rc_cell.specs.declared.writes.Tomb.{Tomb}
-use Rattle.rc_cell.specs.Greatest.{greatest-none}
+use Rattle.rc_cell.specs.laws.Greatest.{greatest-none}
 use Rattle.rc_cell.specs.Orders.{tomb_cmp}
 use Rattle.rc_cell.specs.Winner.{all_cells, at_column, columns, first_of, greatest, joined_row, markers, tombs, winner, winners}
 

@@ -12,8 +12,8 @@ use Rattle.rc_cell.specs.Orders.{cell_cmp}
 use Rattle.rc_cell.specs.Columns.{ascending}
 use Rattle.rc_cell.specs.Winner.{winner, winners}
 use Rattle.rc_cell.specs.Greatest.{greater}
-use Rattle.rc_cell.specs.Beats.{winner-two}
-use Rattle.rc_cell.specs.ByColumn.{holds, test_of, both, first, second, less, find-below, same_column, at_column-append, at_column-ascending, find-winners, ascending-winners, same_cells}
+use Rattle.rc_cell.specs.laws.Beats.{winner-two}
+use Rattle.rc_cell.specs.laws.ByColumn.{holds, test_of, both, first, second, less, find-below, same_column, at_column-append, at_column-ascending, find-winners, ascending-winners, same_cells}
 
 -- the winner of two
 abbrev pub pick : Cell → Cell → Cell

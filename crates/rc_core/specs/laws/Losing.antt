@@ -6,8 +6,8 @@ use Rattle.std.specs.List.{cons_option}
 use Rattle.rc_cell.specs.declared.rows.Row.{Row}
 use Rattle.rc_cell.specs.declared.writes.Tomb.{Tomb}
 use Rattle.rc_cell.specs.Orders.{tomb_cmp, tomb_cmp_total}
-use Rattle.rc_cell.specs.Beats.{tomb_cmp-IsAntisymmetric}
-use Rattle.rc_cell.specs.Greatest.{greatest-one}
+use Rattle.rc_cell.specs.laws.Beats.{tomb_cmp-IsAntisymmetric}
+use Rattle.rc_cell.specs.laws.Greatest.{greatest-one}
 use Rattle.rc_cell.specs.laws.{joined_row-one, IsRow-joined_row}
 use Rattle.rc_cell.specs.Winner.{greatest, joined_row}
 use Rattle.rc_position.specs.declared.positions.Pos.{Pos}

@@ -8,8 +8,8 @@ use Rattle.std.specs.Option.{option_to_list}
 use Rattle.rc_cell.specs.declared.rows.Row.{Row}
 use Rattle.rc_cell.specs.declared.writes.Tomb.{Tomb}
 use Rattle.rc_cell.specs.Orders.{tomb_cmp, tomb_cmp_total}
-use Rattle.rc_cell.specs.Beats.{tomb_cmp-IsAntisymmetric}
-use Rattle.rc_cell.specs.Greatest.{greatest-twice}
+use Rattle.rc_cell.specs.laws.Beats.{tomb_cmp-IsAntisymmetric}
+use Rattle.rc_cell.specs.laws.Greatest.{greatest-twice}
 use Rattle.rc_cell.specs.laws.{joined_row-twice, joined_row-none}
 use Rattle.rc_cell.specs.Winner.{greatest, joined_row, empty_row}
 use Rattle.rc_position.specs.declared.positions.Pos.{Pos}

@@ -7,8 +7,8 @@ use Rattle.std.specs.Option.{option_to_list}
 use Rattle.rc_cell.specs.declared.rows.Row.{Row}
 use Rattle.rc_cell.specs.declared.writes.Tomb.{Tomb}
 use Rattle.rc_cell.specs.Orders.{tomb_cmp, tomb_cmp_total}
-use Rattle.rc_cell.specs.Beats.{tomb_cmp-IsAntisymmetric}
-use Rattle.rc_cell.specs.Greatest.{greatest-swap, greatest-twice}
+use Rattle.rc_cell.specs.laws.Beats.{tomb_cmp-IsAntisymmetric}
+use Rattle.rc_cell.specs.laws.Greatest.{greatest-swap, greatest-twice}
 use Rattle.rc_cell.specs.laws.{joined_row-append, joined_row-swap, joined_row-twice}
 use Rattle.rc_ranges.specs.Cover.{cover, tombs_over}
 use Rattle.rc_mutation.specs.laws.Sources.{static_rows-append}

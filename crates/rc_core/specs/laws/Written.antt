@@ -10,8 +10,9 @@ use Rattle.std.specs.List.{filter}
 use Rattle.rc_cell.specs.declared.rows.Row.{Row}
 use Rattle.rc_cell.specs.declared.writes.Tomb.{Tomb}
 use Rattle.rc_cell.specs.Orders.{tomb_cmp, tomb_cmp_total}
-use Rattle.rc_cell.specs.Beats.{tomb_cmp-IsAntisymmetric}
-use Rattle.rc_cell.specs.Greatest.{greater, greatest-two}
+use Rattle.rc_cell.specs.laws.Beats.{tomb_cmp-IsAntisymmetric}
+use Rattle.rc_cell.specs.Greatest.{greater}
+use Rattle.rc_cell.specs.laws.Greatest.{greatest-two}
 use Rattle.rc_cell.specs.laws.{joined_row-none, joined_row-swap}
 use Rattle.rc_cell.specs.Winner.{greatest, joined_row, empty_row}
 use Rattle.rc_position.specs.declared.comps.Comp.{Comp}

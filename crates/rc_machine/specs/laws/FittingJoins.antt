@@ -12,8 +12,8 @@ use Rattle.std.specs.FinMap.Entries.{below_all}
 use Rattle.rc_cell.specs.declared.rows.Row.{Row}
 use Rattle.rc_cell.specs.declared.writes.Cell.{Cell}
 use Rattle.rc_cell.specs.declared.writes.Tomb.{Tomb}
-use Rattle.rc_cell.specs.ByColumn.{first, second, test_of}
-use Rattle.rc_cell.specs.Greatest.{greatest-none}
+use Rattle.rc_cell.specs.laws.ByColumn.{first, second, test_of}
+use Rattle.rc_cell.specs.laws.Greatest.{greatest-none}
 use Rattle.rc_cell.specs.laws.{joined_row-none, joined_row-one}
 use Rattle.rc_cell.specs.Orders.{tomb_cmp}
 use Rattle.rc_cell.specs.Winner.{all_cells, at_column, columns, empty_row, first_of, greatest, IsRow, joined_row, markers, tombs, winner, winners}
@@ -21,7 +21,7 @@ use Rattle.rc_position.specs.declared.comps.Comp.{Comp}
 use Rattle.rc_position.specs.laws.Orders.{key_cmp_total}
 use Rattle.rc_position.specs.Position.{key_cmp, row_pos}
 use Rattle.rc_mutation.specs.declared.mutations.Mutation.{Mutation}
-use Rattle.rc_mutation.specs.ByKey.{KeyedRows, itself, keys_of, occurs, rows_at-absent, rows_at-ascending, same_key}
+use Rattle.rc_mutation.specs.laws.ByKey.{KeyedRows, itself, keys_of, occurs, rows_at-absent, rows_at-ascending, same_key}
 use Rattle.rc_mutation.specs.Source.{all_rows, IsMutation, rows_at, SameSource}
 use Rattle.rc_machine.specs.laws.FittingValues.{Each, If, each_filter, each_filter_map, each_flat_map, each_map, if_map}
 

@@ -7,7 +7,7 @@ use Rattle.std.specs.List.{list_all}
 use Rattle.std.specs.FinMap as map
 use Rattle.std.specs.FinMap.{is_sorted}
 use Rattle.std.specs.FinMap.Entries.{below_all}
-use Rattle.rc_cell.specs.ByColumn.{holds}
+use Rattle.rc_cell.specs.laws.ByColumn.{holds}
 
 module _ {K : Type 0} (R : K → K → Ordering) where
   -- whether keys strictly ascend

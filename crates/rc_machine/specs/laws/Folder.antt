@@ -12,7 +12,7 @@ use Rattle.std.specs.FinMap.Entries.{below_all, by_order}
 use Rattle.std.proofs.lemmas.Bool.Decides.{nat_tests}
 use Rattle.std.proofs.lemmas.List.{map-append}
 use Rattle.std.proofs.Math.Seq.{get_or-append_seam}
-use Rattle.rc_cell.specs.ByColumn.{same_column}
+use Rattle.rc_cell.specs.laws.ByColumn.{same_column}
 use Rattle.rc_outside.specs.Files.{Files, IsNoFile}
 use Rattle.rc_schema.specs.SchemaValue.{SchemaValue}
 use Rattle.rc_mutation.specs.declared.mutations.Write.{Write}

@@ -10,7 +10,7 @@ use Rattle.std.specs.FinMap.{find, is_sorted, IsAntisymmetric, nat_cmp-IsAntisym
 use Rattle.std.specs.FinMap.Entries.{below_all, same_entries}
 use Rattle.rc_cell.specs.declared.rows.Row.{Row}
 use Rattle.rc_cell.specs.declared.writes.Tomb.{Tomb}
-use Rattle.rc_cell.specs.ByColumn.{holds, test_of, both, first, second}
+use Rattle.rc_cell.specs.laws.ByColumn.{holds, test_of, both, first, second}
 use Rattle.rc_position.specs.declared.comps.Comp.{Comp}
 use Rattle.rc_position.specs.declared.positions.Pos.{Pos}
 use Rattle.rc_position.specs.Position.{key_cmp, pos_cmp, row_pos, IsBefore}

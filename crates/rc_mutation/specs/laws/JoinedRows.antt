@@ -13,14 +13,14 @@ use Rattle.std.specs.FinMap.{find, put, is_sorted}
 use Rattle.std.specs.FinMap.Entries.{is_sorted-put, find-put}
 use Rattle.rc_cell.specs.declared.rows.Row.{Row}
 use Rattle.rc_cell.specs.Columns.{ascending}
-use Rattle.rc_cell.specs.ByColumn.{holds, test_of}
+use Rattle.rc_cell.specs.laws.ByColumn.{holds, test_of}
 use Rattle.rc_cell.specs.Winner.{empty_row, joined_row}
 use Rattle.rc_cell.specs.laws.{IsRow-joined_row, joined_row-none, joined_row-one, joined_row-append, joined_row-swap, joined_row-twice}
 use Rattle.rc_position.specs.declared.comps.Comp.{Comp}
 use Rattle.rc_position.specs.Position.{key_cmp}
 use Rattle.rc_position.specs.laws.Orders.{key_cmp_total}
 use Rattle.rc_mutation.specs.Rows.{rows_at, joined_rows, IsRows}
-use Rattle.rc_mutation.specs.ByKey.{KeyedRows, occurs, keys_of, same_key, rows_at-append, rows_at-ascending, same_rows, joined_if_any, find-joined_rows, sorted-joined_rows, rows_at-joined_rows, all-joined_rows}
+use Rattle.rc_mutation.specs.laws.ByKey.{KeyedRows, occurs, keys_of, same_key, rows_at-append, rows_at-ascending, same_rows, joined_if_any, find-joined_rows, sorted-joined_rows, rows_at-joined_rows, all-joined_rows}
 
 if_any-append : (us vs : List Row) → joined_if_any (us ++ vs) ≡ joined_if_any (option_to_list (joined_if_any us) ++ option_to_list (joined_if_any vs))
 if_any-append [] [] = refl

@@ -16,10 +16,11 @@ use Rattle.std.proofs.lemmas.List.Elements.{filter_map-append}
 use Rattle.std.proofs.lemmas.Grind.{flat_map-append}
 use Rattle.rc_cell.specs.declared.rows.Row.{Row}
 use Rattle.rc_cell.specs.declared.writes.Tomb.{Tomb}
-use Rattle.rc_cell.specs.Beats.{tomb_cmp-IsAntisymmetric}
-use Rattle.rc_cell.specs.ByColumn.{test_of}
+use Rattle.rc_cell.specs.laws.Beats.{tomb_cmp-IsAntisymmetric}
+use Rattle.rc_cell.specs.laws.ByColumn.{test_of}
 use Rattle.rc_cell.specs.Columns.{ascending}
-use Rattle.rc_cell.specs.Greatest.{greater, greatest-append, greatest-swap, greatest-twice, greatest-none, greatest-one, greatest-two}
+use Rattle.rc_cell.specs.Greatest.{greater}
+use Rattle.rc_cell.specs.laws.Greatest.{greatest-none, greatest-append, greatest-swap, greatest-twice, greatest-one, greatest-two}
 use Rattle.rc_cell.specs.laws.{IsRow-joined_row, joined_row-none, joined_row-one, joined_row-append, joined_row-swap, joined_row-twice}
 use Rattle.rc_cell.specs.Orders.{tomb_cmp, tomb_cmp_total}
 use Rattle.rc_cell.specs.Winner.{empty_row, greatest, joined_row}
@@ -34,7 +35,7 @@ use Rattle.rc_ranges.specs.Cover.{cover as range_tomb}
 use Rattle.rc_ranges.specs.laws.Covering.{cover-append}
 use Rattle.rc_ranges.specs.laws.Determined.{determined}
 use Rattle.rc_mutation.specs.declared.mutations.Mutation.{Mutation}
-use Rattle.rc_mutation.specs.ByKey.{rows_at-joined_rows, rows_at-ascending, joined_if_any, same_rows}
+use Rattle.rc_mutation.specs.laws.ByKey.{rows_at-joined_rows, rows_at-ascending, joined_if_any, same_rows}
 use Rattle.rc_mutation.specs.laws.JoinedRows.{found, joined_rows-again, joined_rows-append, joined_rows-rows, joined_rows-swap, joined_rows-twice}
 use Rattle.rc_mutation.specs.Source.{all_pieces, all_rows, IsJoinOf, IsMutation, IsRows, joined_rows, partition_tombs, rows_at, rows_in, SameSource, source_at_head, source_at_static, static_rows}
 

@@ -10,12 +10,13 @@ use Rattle.std.specs.FinMap.{int_cmp-IsAntisymmetric}
 use Rattle.rc_cell.specs.declared.rows.Row.{Row}
 use Rattle.rc_cell.specs.declared.writes.Tomb.{Tomb}
 use Rattle.rc_cell.specs.Deletion.{in_force, survives}
-use Rattle.rc_cell.specs.Beats.{tomb_cmp-IsAntisymmetric}
+use Rattle.rc_cell.specs.laws.Beats.{tomb_cmp-IsAntisymmetric}
 use Rattle.rc_cell.specs.Orders.{tomb_cmp, tomb_cmp_total}
 use Rattle.rc_cell.specs.laws.{IsRow-joined_row, joined_row-one}
-use Rattle.rc_cell.specs.Greatest.{greater, top, greatest-append, greatest-two, greatest-top}
+use Rattle.rc_cell.specs.Greatest.{greater}
+use Rattle.rc_cell.specs.laws.Greatest.{top, greatest-append, greatest-two, greatest-top}
 use Rattle.rc_cell.specs.Winner.{all_cells, greatest, joined_row, markers, tombs, winners}
-use Rattle.rc_cell.specs.ByColumn.{ascending-winners, winners-ascending}
+use Rattle.rc_cell.specs.laws.ByColumn.{ascending-winners, winners-ascending}
 use Rattle.rc_position.specs.declared.comps.Comp.{Comp}
 use Rattle.rc_mutation.specs.declared.mutations.Mutation.{Mutation}
 use Rattle.rc_position.specs.declared.positions.Pos.{Pos}
@@ -24,7 +25,7 @@ use Rattle.rc_position.specs.Position.{row_pos}
 use Rattle.rc_ranges.specs.Cover.{tombs_over, cover as range_tomb}
 use Rattle.rc_mutation.specs.Source.{all_pieces, all_rows, row_cover, IsJoinOf, IsRows, joined_rows, keys, partition_tombs, rows_at, source_at_head, source_at_static, static_rows}
 use Rattle.rc_mutation.specs.laws.Sources.{head-one}
-use Rattle.rc_mutation.specs.ByKey.{joined_rows-is}
+use Rattle.rc_mutation.specs.laws.ByKey.{joined_rows-is}
 use Rattle.rc_mutation.specs.laws.JoinedRows.{joined_rows-again, joined_rows-rows}
 use Rattle.rc_query.specs.declared.lines.OutLine.{OutLine}
 use Rattle.rc_query.specs.declared.lines.OutLine.TheVariants as line

@@ -10,7 +10,7 @@ use Rattle.std.specs.FinMap.{is_sorted}
 use Rattle.std.specs.FinMap.Entries.{below_all, is_sorted-where_key, where_key}
 use Rattle.rc_cell.specs.declared.rows.Row.{Row}
 use Rattle.rc_cell.specs.declared.writes.Tomb.{Tomb}
-use Rattle.rc_cell.specs.ByColumn.{both, holds, test_of, first, second}
+use Rattle.rc_cell.specs.laws.ByColumn.{both, holds, test_of, first, second}
 use Rattle.rc_cell.specs.Greatest.{greater}
 use Rattle.rc_cell.specs.Orders.{tomb_cmp}
 use Rattle.rc_position.specs.declared.comps.Comp.{Comp}

@@ -10,14 +10,14 @@ use Rattle.std.specs.List.{filter, filter_map}
 use Rattle.std.specs.FinMap as map
 use Rattle.std.specs.FinMap.{is_sorted}
 use Rattle.std.specs.FinMap.Entries.{below_all}
-use Rattle.rc_cell.specs.ByColumn.{first, second}
+use Rattle.rc_cell.specs.laws.ByColumn.{first, second}
 use Rattle.rc_position.specs.declared.comps.Comp.{Comp}
 use Rattle.rc_position.specs.declared.positions.Pos.{Pos}
 use Rattle.rc_position.specs.declared.slices.Slice.{Slice}
 use Rattle.rc_position.specs.Position.{key_cmp, pos_cmp, row_pos}
 use Rattle.rc_ranges.specs.calls.Sweep.{lt}
 use Rattle.rc_ranges.specs.laws.Order.{before-lt, covers-lt, gt-lt, le-trans, lt-le, lt-asym}
-use Rattle.rc_mutation.specs.ByKey.{KeyedRows, keys_of}
+use Rattle.rc_mutation.specs.laws.ByKey.{KeyedRows, keys_of}
 use Rattle.rc_mutation.specs.declared.mutations.Mutation.{Mutation}
 use Rattle.rc_mutation.specs.Source.{all_rows}
 use Rattle.rc_query.specs.Answer.{in_slice, row_lines, sliced_before, sliced_from}

@@ -7,7 +7,7 @@ use Rattle.rc_cell.specs.declared.rows.Row.{Row}
 use Rattle.rc_cell.specs.declared.writes.Cell.{Cell}
 use Rattle.rc_cell.specs.declared.writes.Cell.TheVariants.{Live, Dead}
 use Rattle.rc_cell.specs.declared.writes.Tomb.{Tomb}
-use Rattle.rc_cell.specs.ByColumn.{winners-ascending}
+use Rattle.rc_cell.specs.laws.ByColumn.{winners-ascending}
 use Rattle.rc_cell.specs.Columns.{ascending}
 use Rattle.rc_cell.specs.Deletion.{has_life, in_force, shadowed_row, surviving_cells, surviving_marker, survives}
 use Rattle.rc_cell.specs.Orders.{is_live_cell}

@@ -8,7 +8,7 @@ use Rattle.std.specs.FinMap.{is_sorted}
 use Rattle.std.specs.FinMap.Entries.{below_all}
 use Rattle.rc_cell.specs.declared.rows.Row.{Row}
 use Rattle.rc_cell.specs.declared.writes.Tomb.{Tomb}
-use Rattle.rc_cell.specs.ByColumn.{both, first, holds, second}
+use Rattle.rc_cell.specs.laws.ByColumn.{both, first, holds, second}
 use Rattle.rc_cell.specs.Columns.{ascending}
 use Rattle.rc_cell.specs.Greatest.{greater}
 use Rattle.rc_cell.specs.laws.{IsRow-joined_row, joined_row-append, joined_row-none}
@@ -18,7 +18,7 @@ use Rattle.rc_position.specs.declared.comps.Comp.{Comp}
 use Rattle.rc_position.specs.declared.slices.Slice.{Slice}
 use Rattle.rc_position.specs.Position.{key_cmp, row_pos}
 use Rattle.rc_mutation.specs.declared.mutations.Mutation.{Mutation}
-use Rattle.rc_mutation.specs.ByKey.{KeyedRows, all-joined_rows, sorted-joined_rows}
+use Rattle.rc_mutation.specs.laws.ByKey.{KeyedRows, all-joined_rows, sorted-joined_rows}
 use Rattle.rc_mutation.specs.Fragments.{has_any, is_written}
 use Rattle.rc_mutation.specs.laws.Written.{unwritten}
 use Rattle.rc_mutation.specs.Source.{all_rows, IsRows, joined_rows, rows_at, SameSource, source_at_head, source_at_static}

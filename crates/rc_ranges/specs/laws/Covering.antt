@@ -5,8 +5,9 @@ use Rattle.rc_position.specs.Position.{covers}
 use Rattle.rc_cell.specs.declared.writes.Tomb.{Tomb}
 use Rattle.rc_cell.specs.Orders.{tomb_cmp, tomb_cmp_total}
 use Rattle.rc_cell.specs.Winner.{greatest}
-use Rattle.rc_cell.specs.Greatest.{greater, top, greatest-top, greatest-none}
-use Rattle.rc_cell.specs.Beats.{tomb_cmp-IsAntisymmetric}
+use Rattle.rc_cell.specs.Greatest.{greater}
+use Rattle.rc_cell.specs.laws.Greatest.{top, greatest-none, greatest-top}
+use Rattle.rc_cell.specs.laws.Beats.{tomb_cmp-IsAntisymmetric}
 use Rattle.rc_ranges.specs.declared.pieces.Piece.{Piece}
 use Rattle.rc_ranges.specs.Cover.{cover, tombs_over, IsCanonical}
 use Rattle.rc_ranges.specs.calls.Sweep.{lt}

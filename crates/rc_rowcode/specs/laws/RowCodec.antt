@@ -11,7 +11,7 @@ use Rattle.std.proofs.lemmas.Bool.{ltb-false, le-ltb, ltb-true, lt-ltb}
 use Rattle.rc_cell.specs.declared.writes.Cell.{Cell}
 use Rattle.rc_cell.specs.declared.rows.Row.{Row}
 use Rattle.rc_cell.specs.Columns.{ascending}
-use Rattle.rc_cell.specs.ByColumn.{holds, test_of, both, first, second}
+use Rattle.rc_cell.specs.laws.ByColumn.{holds, test_of, both, first, second}
 use Rattle.rc_rowcode.specs.Spelling.{stamp_code, optional_code, tomb_code, entry_code, cells_code, row_code, IsEntry, IsCodedRow}
 use Rattle.rc_rowcode.specs.calls.Reading.{parse_stamp, parse_optional, parse_tomb, parse_cell, parse_entry, parse_entries, parse_cells, parse_row}
 use Rattle.rc_rowcode.specs.laws.Fields.{IsBytes, bytes_rest, Took, Codec, bind_some, map_some, guard_some, some_is, stamp_codec}

@@ -11,7 +11,7 @@ use Rattle.rc_cell.specs.declared.writes.Tomb.{Tomb}
 use Rattle.rc_cell.specs.declared.rows.Row.{Row}
 use Rattle.rc_cell.specs.Columns.{ascending}
 use Rattle.rc_cell.specs.Winner.{IsRow}
-use Rattle.rc_cell.specs.ByColumn.{test_of, first, second}
+use Rattle.rc_cell.specs.laws.ByColumn.{test_of, first, second}
 use Rattle.rc_position.specs.declared.comps.Comp.{Comp}
 use Rattle.rc_position.specs.declared.comps.Comp.TheVariants.{Int, Text}
 use Rattle.rc_position.specs.declared.positions.Pos.{Pos}

@@ -7,7 +7,7 @@ use Rattle.std.specs.declared.cmp.Ordering.TheVariants.{Less, Equal, Greater}
 use Rattle.std.specs.Ordering.{is_lt}
 use Rattle.std.specs.FinMap.{is_sorted}
 use Rattle.std.specs.FinMap.Entries.{below_all}
-use Rattle.rc_cell.specs.ByColumn.{both, first, second}
+use Rattle.rc_cell.specs.laws.ByColumn.{both, first, second}
 use Rattle.rc_position.specs.Position.{bytes_cmp}
 use Rattle.rc_position.specs.laws.Orders.{bytes_cmp_total}
 use Rattle.rc_schema.specs.SchemaValue.{SchemaValue}

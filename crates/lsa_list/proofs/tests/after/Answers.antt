@@ -1,5 +1,5 @@
 use Rattle.std.proofs.Common.{Some, subst}
-use Rattle.lsa_list.specs.Recency.{IsOneOf}
+use Rattle.lsa_list.specs.calls.Recency.{IsOneOf}
 use Rattle.lsa_list.proofs.Walks.{one-next}
 use Rattle.lsa_list.proofs.tests.after.Goals as goal
 

@@ -1,5 +1,5 @@
 use Rattle.std.proofs.Common.{Some, subst}
-use Rattle.lsa_list.specs.Recency.{IsOneOf}
+use Rattle.lsa_list.specs.calls.Recency.{IsOneOf}
 use Rattle.lsa_list.proofs.tests.remove_at.Goals as goal
 
 pub discard-requires : goal.discard-requires

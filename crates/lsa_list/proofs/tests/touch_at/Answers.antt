@@ -1,5 +1,5 @@
 use Rattle.std.proofs.Common.{Some, [], ◌∷◌, ◌++◌, subst, arith}
-use Rattle.lsa_list.specs.Recency.{IsOneOf}
+use Rattle.lsa_list.specs.calls.Recency.{IsOneOf}
 use Rattle.lsa_list.proofs.tests.touch_at.Goals as goal
 
 pub touch-requires : goal.touch-requires

@@ -2,7 +2,7 @@ use Rattle.std.proofs.Common.{subst, sym}
 use Rattle.lsa_yard.specs.Cells.{with_link}
 use Rattle.lsa_store.specs.Objects.{IsChangedIn}
 use Rattle.lsa_region.specs.declared.end.End.TheVariants.{Slot}
-use Rattle.lsa_region.specs.Ends.{IsSetIn}
+use Rattle.lsa_region.specs.calls.Ends.{IsSetIn}
 use Rattle.lsa_region.proofs.Codes.{codable-some}
 use Rattle.lsa_region.proofs.Sets.{set-field, set-root}
 use Rattle.lsa_region.proofs.links.set.Goals as goal

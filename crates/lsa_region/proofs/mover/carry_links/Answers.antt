@@ -1,7 +1,7 @@
 use Rattle.std.proofs.Common.{◌<◌, ◌∙◌, arith}
 use Rattle.lsa_kinds.specs.Kinds.{links_of}
 use Rattle.lsa_region.specs.declared.end.End.TheVariants.{Obj}
-use Rattle.lsa_region.specs.Moves.{view_in}
+use Rattle.lsa_region.specs.calls.Moves.{view_in}
 use Rattle.lsa_region.proofs.Movers.{carry-init, carry-step, linked-there, links-apart}
 use Rattle.lsa_region.proofs.Regions.{well-exchange}
 use Rattle.lsa_region.proofs.mover.carry_links.Goals as goal

@@ -1,4 +1,4 @@
-use Rattle.lsa_region.specs.Moves.{view_in, IsCarrying}
+use Rattle.lsa_region.specs.calls.Moves.{view_in, IsCarrying}
 use Rattle.lsa_region.specs.Region.{IsWell}
 use Rattle.lsa_region.proofs.mover.carry_links.Given as goal
 

@@ -2,7 +2,7 @@ use Rattle.std.proofs.Common.{◌<◌, length, refl, sym, ◌∙◌, arith}
 use Rattle.lsa_pool.specs.laws.Usages.{closed-inside}
 use Rattle.lsa_store.specs.laws.Books.{stock-reserve}
 use Rattle.lsa_store.specs.laws.Sparse.{sparse-is}
-use Rattle.lsa_region.specs.Moves.{view_in}
+use Rattle.lsa_region.specs.calls.Moves.{view_in}
 use Rattle.lsa_region.proofs.Regions.{links-same, well-same}
 use Rattle.lsa_region.proofs.Sets.{end-kept}
 use Rattle.lsa_region.proofs.Sweeps.{swept-none, swept-gone, swept-count, renamed-keeps, released-bodies, released-words}

@@ -1,4 +1,4 @@
-use Rattle.rc_cell.specs.Beats.{beats-is_gt}
+use Rattle.rc_cell.specs.laws.Beats.{beats-is_gt}
 use Rattle.rc_cell.proofs.laws.order_follows_rules.Goals as goal
 
 pub returns : goal.returns

@@ -1,5 +1,5 @@
-use Rattle.rc_cell.specs.ByColumn.{holds}
-use Rattle.rc_mutation.specs.ByKey.{sorted-joined_rows, find-joined_rows}
+use Rattle.rc_cell.specs.laws.ByColumn.{holds}
+use Rattle.rc_mutation.specs.laws.ByKey.{sorted-joined_rows, find-joined_rows}
 use Rattle.rc_mutation.proofs.laws.joined_rows_by_key.Goals as goal
 
 pub returns : goal.returns

@@ -2,7 +2,7 @@
 use Rattle.std.proofs.Common.{subst, sym, ◌∙◌}
 use Rattle.std.specs.List.{insert}
 use Rattle.rc_mutation.specs.Rows.{IsRows}
-use Rattle.rc_mutation.specs.Place.{IsAt, IsGapFor}
+use Rattle.rc_mutation.specs.calls.Place.{IsAt, IsGapFor}
 use Rattle.rc_mutation.proofs.Places.{join_at, join_in_gap, joined_is_rows, on_ok, rows_at_place}
 use Rattle.rc_mutation.proofs.rows.join_into.Goals as goal
 

@@ -3,7 +3,7 @@ use Rattle.std.proofs.Common.{◌≡◌, [], ◌∙◌, List, ℕ, suc, ◌+◌,
 use Rattle.rc_outside.specs.Files.{Files, IsFile}
 use Rattle.rc_tfile.specs.declared.info.TableInfo.{TableInfo}
 use Rattle.rc_tfile.specs.Checking.{AsksFew, IsContent}
-use Rattle.rc_plain.specs.Opening.{IsChecked, IsBadFile}
+use Rattle.rc_plain.specs.calls.Opening.{IsChecked, IsBadFile}
 use Rattle.rc_plain.proofs.Opened.{Done, asks_end, asks_on, asks_start, cut, done_none, done_next, done_all, is_file, refused}
 use Rattle.rc_plain.proofs.opening.check_each.Goals as goal
 

@@ -1,7 +1,7 @@
 use Rattle.std.proofs.Common.{◌≡◌, refl, sym, ◌∙◌, subst}
 use Rattle.std.specs.Prelude.{◌⊎◌}
 use Rattle.std.specs.declared.cmp.Ordering.TheVariants.{Equal, Greater}
-use Rattle.rc_reading.specs.Gaps.{IsNextBehind}
+use Rattle.rc_reading.specs.calls.Gaps.{IsNextBehind}
 use Rattle.rc_reading.proofs.Nearest.{is-nearer, none-nearer, not-nearer}
 use Rattle.rc_reading.proofs.parts.nearer.Goals as goal
 

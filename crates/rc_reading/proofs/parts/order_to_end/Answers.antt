@@ -1,6 +1,6 @@
 use Rattle.std.proofs.Common.{arith, sym, ap, ◌∙◌, subst}
 use Rattle.rc_position.specs.Position.{pos_cmp}
-use Rattle.rc_reading.specs.Gaps.{IsGapEnd}
+use Rattle.rc_reading.specs.calls.Gaps.{IsGapEnd}
 use Rattle.rc_reading.proofs.Nearest.{place-coded}
 use Rattle.rc_reading.proofs.parts.order_to_end.Goals as goal
 

@@ -3,7 +3,7 @@ use Rattle.std.proofs.Common.{List, take}
 use Rattle.rc_position.specs.declared.positions.Pos.{Pos}
 use Rattle.rc_core.specs.Parts.{IsReach}
 use Rattle.rc_partition.specs.Partitions.{StandingVersion}
-use Rattle.rc_reading.specs.Gaps.{IsGapEnd}
+use Rattle.rc_reading.specs.calls.Gaps.{IsGapEnd}
 use Rattle.rc_reading.specs.Reading.{AreUpTo, read_versions}
 use Rattle.rc_reading.proofs.parts.reach.Given as goal
 

@@ -1,6 +1,6 @@
 use Rattle.std.proofs.Common.{None, arith, refl, sym, ◌∙◌, subst}
 use Rattle.rc_core.specs.Plain.{no_mark}
-use Rattle.rc_reading.specs.Reading.{IsFindingRead}
+use Rattle.rc_reading.specs.calls.Reading.{IsFindingRead}
 use Rattle.rc_reading.proofs.Findings.{found-end, found-next, next-held}
 use Rattle.rc_reading.proofs.said.behind_entry.Goals as goal
 

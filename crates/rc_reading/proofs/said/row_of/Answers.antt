@@ -3,7 +3,7 @@ use Rattle.rc_rowcode.specs.calls.Reading.{parse_row}
 use Rattle.rc_rowcode.specs.laws.RowCodec.{row_codec}
 use Rattle.rc_rowcode.specs.Spelling.{row_code, IsCodedRow, ReadsPrefix}
 use Rattle.rc_object.specs.laws.Spelled.{coded_of}
-use Rattle.rc_reading.specs.Reading.{IsRowRead}
+use Rattle.rc_reading.specs.calls.Reading.{IsRowRead}
 use Rattle.rc_reading.proofs.Reread.{always-read, same-read}
 use Rattle.rc_reading.proofs.said.row_of.Goals as goal
 

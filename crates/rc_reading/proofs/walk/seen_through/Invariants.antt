@@ -4,7 +4,8 @@ use Rattle.rc_core.specs.Merge.{Alike}
 use Rattle.rc_core.specs.Slow.{seen_state}
 use Rattle.rc_core.specs.SpotState.{through}
 use Rattle.rc_partition.specs.Partitions.{StandingVersion}
-use Rattle.rc_reading.specs.Reading.{AreUpTo, states_read}
+use Rattle.rc_reading.specs.Reading.{AreUpTo}
+use Rattle.rc_reading.specs.calls.Reading.{states_read}
 use Rattle.rc_reading.proofs.walk.seen_through.Given as goal
 
 abbrev pub invariant-loop-i : goal.invariant-loop-i

@@ -10,7 +10,8 @@ use Rattle.rc_tfile.specs.declared.reading.Part.{Part}
 use Rattle.rc_tfile.specs.Items.{PartItem, item_code}
 use Rattle.rc_tfile.specs.Reading.{Starts}
 use Rattle.rc_writes.specs.Allowed.{IsStaticOf}
-use Rattle.rc_tables.specs.Rebuilt.{AllCome, IsSpellable, frag_code}
+use Rattle.rc_tables.specs.Rebuilt.{AllCome}
+use Rattle.rc_tables.specs.calls.Rebuilt.{IsSpellable, frag_code}
 use Rattle.rc_mutation.specs.Fragments.{rows_and_changes}
 use Rattle.rc_tables.proofs.Coming.{decoded_exactly, none_found}
 use Rattle.rc_tables.proofs.Spelled.{IsPartBytes, part_bytes, found_is, part_free, code_of_part, IsPartItem}

@@ -1,7 +1,7 @@
 -- The first byte decides which of the two it is.
 use Rattle.std.proofs.Common.{Some, length}
 use Rattle.std.specs.Prelude.{IfOk, ◌≡◌}
-use Rattle.rc_tables.specs.Rebuilt.{frag_code}
+use Rattle.rc_tables.specs.calls.Rebuilt.{frag_code}
 use Rattle.rc_tables.proofs.Spelled.{finds_row, finds_change}
 use Rattle.rc_tables.proofs.decoding.read_fragment.Goals as goal
 

@@ -4,7 +4,7 @@ use Rattle.std.proofs.lemmas.List.{take_rest}
 use Rattle.rc_mutation.specs.declared.fragments.Frag.{Frag}
 use Rattle.std.specs.Prelude.{IfSome}
 use Rattle.std.specs.List.{flat_map, AllByRecursion}
-use Rattle.rc_tables.specs.Rebuilt.{IsSpellable, frag_code}
+use Rattle.rc_tables.specs.calls.Rebuilt.{IsSpellable, frag_code}
 use Rattle.rc_tables.proofs.Spelled.{Finds, Going, going_on, going_stops, going_ends, spelled_on, text_on}
 use Rattle.rc_tables.proofs.decoding.read_fragments.Goals as goal
 

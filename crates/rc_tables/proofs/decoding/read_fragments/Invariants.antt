@@ -1,7 +1,7 @@
 -- What is left spells what is left of the fragments, and what was read spells the rest.
 use Rattle.std.proofs.Common.{◌≡◌, ◌++◌, length}
 use Rattle.std.specs.List.{flat_map, AllByRecursion}
-use Rattle.rc_tables.specs.Rebuilt.{IsSpellable, frag_code}
+use Rattle.rc_tables.specs.calls.Rebuilt.{IsSpellable, frag_code}
 use Rattle.rc_tables.proofs.Spelled.{Going}
 use Rattle.rc_tables.proofs.decoding.read_fragments.Given as goal
 

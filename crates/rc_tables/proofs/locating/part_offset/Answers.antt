@@ -7,7 +7,7 @@ use Rattle.std.proofs.lemmas.List.{take_rest}
 use Rattle.rc_position.specs.Position.{bytes_cmp}
 use Rattle.rc_position.specs.laws.Orders.{bytes_cmp_total}
 use Rattle.rc_tfile.specs.Items.{bytes_code}
-use Rattle.rc_tables.specs.Rebuilt.{number_at_front}
+use Rattle.rc_tables.specs.calls.Rebuilt.{number_at_front}
 use Rattle.rc_tables.proofs.Spans.{entry_key, entry_number}
 use Rattle.rc_tables.proofs.locating.part_offset.Goals as goal
 

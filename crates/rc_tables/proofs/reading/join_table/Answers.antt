@@ -8,7 +8,8 @@ use Rattle.std.proofs.lemmas.Result.{err_from_is_err_and}
 use Rattle.rc_position.specs.Position.{bytes_cmp}
 use Rattle.rc_mutation.specs.declared.mutations.Partition.{Partition}
 use Rattle.rc_tfile.specs.declared.info.PartRef.{PartRef}
-use Rattle.rc_tables.specs.Located.{IsLocatedOf, WhereTold}
+use Rattle.rc_tables.specs.Located.{WhereTold}
+use Rattle.rc_tables.specs.calls.Located.{IsLocatedOf}
 use Rattle.rc_tables.proofs.Joined.{damage_one, joins_none, joins_nothing, joins_one, joins_said, listed_there}
 use Rattle.rc_tables.proofs.Searching.{counted}
 use Rattle.rc_tables.proofs.reading.join_table.Goals as goal

@@ -4,7 +4,8 @@ use Rattle.std.proofs.lemmas.List.{take_rest}
 use Rattle.std.proofs.lemmas.Result.{err_from_is_err_and}
 use Rattle.rc_tfile.specs.declared.info.TableInfo.{TableInfo}
 use Rattle.rc_tables.specs.Located.{WhereTold}
-use Rattle.rc_tables.specs.Tables.{AreHeld, IsDamageOf, JoinsSome, listing}
+use Rattle.rc_tables.specs.Tables.{AreHeld, IsDamageOf, listing}
+use Rattle.rc_tables.specs.calls.Tables.{JoinsSome}
 use Rattle.rc_tables.proofs.Joined.{Joining, Joins, SomeSoFar, damage_behind, damage_first, first_held, joining_on, joining_start, listing_first, map_first, some_on, some_start}
 use Rattle.rc_tables.proofs.reading.read_joined.Goals as goal
 

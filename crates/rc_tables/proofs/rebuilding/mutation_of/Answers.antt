@@ -5,7 +5,7 @@ use Rattle.rc_position.specs.declared.comps.Comp.{Comp}
 use Rattle.rc_ranges.specs.declared.pieces.Piece.{Piece}
 use Rattle.rc_mutation.specs.declared.fragments.Head.{Head}
 use Rattle.rc_mutation.specs.Statics.{has_cells_alone}
-use Rattle.rc_tables.specs.Rebuilt.{rows_among}
+use Rattle.rc_tables.specs.calls.Rebuilt.{rows_among}
 use Rattle.rc_tables.proofs.Apart.{rows_ready, ranges_ready, rows_between}
 use Rattle.rc_tables.proofs.rebuilding.mutation_of.Goals as goal
 

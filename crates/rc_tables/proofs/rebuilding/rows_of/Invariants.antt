@@ -1,7 +1,7 @@
 -- The rows so far and those that are left are those of all.
 use Rattle.std.proofs.Common.{◌≡◌, ◌++◌, length}
 use Rattle.rc_mutation.specs.Rows.{joined_rows}
-use Rattle.rc_tables.specs.Rebuilt.{AllWritten, rows_among}
+use Rattle.rc_tables.specs.calls.Rebuilt.{AllWritten, rows_among}
 use Rattle.rc_tables.proofs.rebuilding.rows_of.Given as goal
 
 abbrev pub invariant-loop-left : goal.invariant-loop-left

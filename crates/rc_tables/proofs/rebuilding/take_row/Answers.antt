@@ -3,7 +3,7 @@ use Rattle.std.proofs.Common.{[], ◌∷◌, ◌++◌, ap, sym, subst, refl, ◌
 use Rattle.rc_mutation.specs.declared.fragments.Frag.{Frag}
 use Rattle.rc_mutation.specs.Rows.{joined_rows}
 use Rattle.rc_mutation.specs.laws.JoinedRows.{joined_rows-again}
-use Rattle.rc_tables.specs.Rebuilt.{AllWritten, rows_among}
+use Rattle.rc_tables.specs.calls.Rebuilt.{AllWritten, rows_among}
 use Rattle.rc_tables.proofs.rebuilding.take_row.Goals as goal
 
 pub returns-then-is_empty-clause-written : goal.returns-then-is_empty-clause-written

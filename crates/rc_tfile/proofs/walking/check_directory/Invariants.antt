@@ -6,7 +6,7 @@ use Rattle.rc_schema.specs.SchemaValue.{SchemaValue}
 use Rattle.rc_tfile.specs.Items.{Item}
 use Rattle.rc_tfile.specs.Before.{ItemsBefore}
 use Rattle.rc_tfile.specs.calls.Windows.{IsOpen, reads_left}
-use Rattle.rc_tfile.specs.Walking.{Awaits}
+use Rattle.rc_tfile.specs.calls.Walking.{Awaits}
 use Rattle.rc_tfile.proofs.walking.check_directory.Given as goal
 
 abbrev pub invariant-loop-left : goal.invariant-loop-left

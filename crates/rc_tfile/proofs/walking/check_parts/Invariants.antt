@@ -1,7 +1,7 @@
 -- Items that fit stand before what is ahead.
 use Rattle.std.proofs.Common.{◌≡◌, ◌≤◌, ◌+◌}
 use Rattle.rc_tfile.specs.calls.Windows.{IsOpen, bytes_left, reads_left}
-use Rattle.rc_tfile.specs.Walking.{StandsAhead}
+use Rattle.rc_tfile.specs.calls.Walking.{StandsAhead}
 use Rattle.rc_tfile.proofs.walking.check_parts.Given as goal
 
 abbrev pub invariant-loop-err : goal.invariant-loop-err

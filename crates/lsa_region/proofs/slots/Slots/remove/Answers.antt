@@ -1,7 +1,7 @@
 use Rattle.std.proofs.Common.{◌≡◌, None, Some, get_or, subst, arith}
 use Rattle.std.proofs.Math.ListN.{set}
 use Rattle.std.proofs.lemmas.List.{length-set}
-use Rattle.lsa_region.specs.Ends.{IsSlotDropped}
+use Rattle.lsa_region.specs.calls.Ends.{IsSlotDropped}
 use Rattle.lsa_region.proofs.Vacancies.{vacancy-give}
 use Rattle.lsa_region.proofs.SlotsLaws.{slot-dropped}
 use Rattle.lsa_region.proofs.slots.Slots.remove.Goals as goal

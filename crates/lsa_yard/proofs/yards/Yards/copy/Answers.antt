@@ -4,7 +4,8 @@ use Rattle.lsa_kinds.specs.declared.kind.Kind.{Kind}
 use Rattle.lsa_kinds.specs.Kinds.{links_of, up8}
 use Rattle.lsa_segment.specs.Bytes.{part}
 use Rattle.lsa_yard.specs.Cells.{Cell, size_of, extent, cell_at, body_at, fresh}
-use Rattle.lsa_yard.specs.Spelled.{head_of, cells_in}
+use Rattle.lsa_yard.specs.Spelled.{cells_in}
+use Rattle.lsa_yard.specs.calls.Spelled.{head_of}
 use Rattle.lsa_yard.proofs.Readings.{read-own, from_some, and_some, fits-behind}
 use Rattle.lsa_yard.proofs.Segments.{found, long-at, counted, grown, length-head, whole-cell}
 use Rattle.lsa_yard.proofs.yards.Yards.copy.Goals as goal

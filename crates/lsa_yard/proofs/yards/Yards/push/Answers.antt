@@ -1,6 +1,6 @@
 use Rattle.std.proofs.Common.{◌≡◌, ◌+◌, ◌*◌, ◌<◌, [], length, get_or, ap, ◌∙◌, arith}
 use Rattle.lsa_kinds.specs.Kinds.{links_of, up8}
-use Rattle.lsa_yard.specs.Spelled.{head_of}
+use Rattle.lsa_yard.specs.calls.Spelled.{head_of}
 use Rattle.lsa_yard.proofs.Readings.{fits-behind}
 use Rattle.lsa_yard.proofs.Segments.{long-at, counted, grown, length-head, whole-cell}
 use Rattle.lsa_yard.proofs.yards.Yards.push.Goals as goal

@@ -1,5 +1,5 @@
 -- The winners ascend by column.
-use Rattle.rc_cell.specs.ByColumn.{ascending-winners}
+use Rattle.rc_cell.specs.laws.ByColumn.{ascending-winners}
 use Rattle.rc_cell.proofs.columns.Cells.joined.Goals as goal
 
 pub invariant_of-result : goal.invariant_of-result

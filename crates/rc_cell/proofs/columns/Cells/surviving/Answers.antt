@@ -1,5 +1,5 @@
 -- What survives ascends.
-use Rattle.rc_cell.specs.Survivors.{ascending-surviving_cells}
+use Rattle.rc_cell.specs.laws.Survivors.{ascending-surviving_cells}
 use Rattle.rc_cell.proofs.columns.Cells.surviving.Goals as goal
 
 pub invariant_of-result : goal.invariant_of-result

@@ -1,5 +1,5 @@
 use Rattle.std.proofs.Common.{sym, ap}
-use Rattle.rc_cursor.specs.Snapshots.{place_past}
+use Rattle.rc_cursor.specs.calls.Snapshots.{place_past}
 use Rattle.rc_cursor.proofs.cursors.Cursor.go_past.Goals as goal
 
 pub returns-in-Row-clause-ok : goal.returns-in-Row-clause-ok

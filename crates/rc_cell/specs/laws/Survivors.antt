@@ -11,10 +11,12 @@ use Rattle.rc_cell.specs.declared.rows.Row.{Row}
 use Rattle.rc_cell.specs.Orders.{timestamp_of, tomb_cmp, tomb_cmp_total}
 use Rattle.rc_cell.specs.Columns.{ascending}
 use Rattle.rc_cell.specs.Winner.{IsRow}
-use Rattle.rc_cell.specs.Deletion.{survives, in_force, surviving_cell, surviving_cells, shadowed_row}
-use Rattle.rc_cell.specs.Greatest.{greater, greatest-two}
-use Rattle.rc_cell.specs.Beats.{tomb_cmp-IsAntisymmetric}
-use Rattle.rc_cell.specs.ByColumn.{holds, test_of, both, first, second, same_column, find-below}
+use Rattle.rc_cell.specs.Deletion.{survives, in_force, surviving_cells, shadowed_row}
+use Rattle.rc_cell.specs.calls.Deletion.{surviving_cell}
+use Rattle.rc_cell.specs.Greatest.{greater}
+use Rattle.rc_cell.specs.laws.Greatest.{greatest-two}
+use Rattle.rc_cell.specs.laws.Beats.{tomb_cmp-IsAntisymmetric}
+use Rattle.rc_cell.specs.laws.ByColumn.{holds, test_of, both, first, second, same_column, find-below}
 
 below-filter : (x : ℕ) (p : ℕ × Cell → Bool) (es : List (ℕ × Cell)) → T (below_all nat_cmp x es) → T (below_all nat_cmp x (filter p es))
 below-filter x p [] h = tt

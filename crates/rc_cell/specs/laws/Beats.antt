@@ -11,7 +11,8 @@ use Rattle.rc_cell.specs.declared.writes.Cell.TheVariants.{Live, Dead}
 use Rattle.std.specs.FinMap.{IsAntisymmetric, int_cmp-IsAntisymmetric, nat_cmp-IsAntisymmetric, slice_cmp-IsAntisymmetric}
 use Rattle.std.specs.Option.{option_to_list}
 use Rattle.rc_cell.specs.Orders.{timestamp_of, rank_of, bytes_of, deletion_time_of, cell_cmp, cell_cmp_total, tomb_cmp}
-use Rattle.rc_cell.specs.Greatest.{greater, greatest-append, greatest-swap, greatest-twice, greatest-one, greatest-two}
+use Rattle.rc_cell.specs.Greatest.{greater}
+use Rattle.rc_cell.specs.laws.Greatest.{greatest-append, greatest-swap, greatest-twice, greatest-one, greatest-two}
 use Rattle.rc_cell.specs.Winner.{is_larger, beats_at_tie, beats, unbeaten, winner, greatest}
 
 lt_test : (a b : Bool) → is_lt (cond a Less (cond b Greater Equal)) ≡ a

@@ -11,7 +11,7 @@ use Rattle.std.specs.FinMap as map
 use Rattle.std.specs.FinMap.{find, is_sorted}
 use Rattle.std.specs.FinMap.Entries.{below_all, same_entries, is_some-find}
 use Rattle.rc_cell.specs.declared.rows.Row.{Row}
-use Rattle.rc_cell.specs.ByColumn.{both, first, second}
+use Rattle.rc_cell.specs.laws.ByColumn.{both, first, second}
 use Rattle.rc_cell.specs.Winner.{joined_row}
 use Rattle.rc_position.specs.declared.comps.Comp.{Comp}
 use Rattle.rc_position.specs.Position.{key_cmp}

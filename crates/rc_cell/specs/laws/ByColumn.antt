@@ -13,7 +13,7 @@ use Rattle.std.specs.FinMap.Entries.{below_all, same_entries, is_some-find}
 use Rattle.rc_cell.specs.declared.writes.Cell.{Cell}
 use Rattle.rc_cell.specs.Columns.{ascending}
 use Rattle.rc_cell.specs.Winner.{at_column, columns, winner, winners}
-use Rattle.rc_cell.specs.Beats.{winner-append, winner-swap, winner-twice, winner-one, winner-none}
+use Rattle.rc_cell.specs.laws.Beats.{winner-append, winner-swap, winner-twice, winner-one, winner-none}
 
 pub holds : (b : Bool) → T b → b ≡ true
 holds true h = refl

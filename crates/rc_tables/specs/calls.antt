@@ -1,0 +1,4 @@
+-- What inner functions of this crate promise each other; no public clause speaks of it.
+pub mod Located
+pub mod Rebuilt
+pub mod Tables
