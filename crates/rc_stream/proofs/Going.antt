@@ -5,12 +5,14 @@ use Rattle.rc_position.specs.declared.positions.Pos.{Pos}
 use Rattle.rc_position.specs.Position.{pos_cmp}
 use Rattle.rc_outside.specs.Files.{Files}
 use Rattle.rc_stream.specs.declared.holding.Held.{Held}
-use Rattle.rc_stream.specs.declared.holding.Look.{Look}
+use Rattle.rc_stream.specs.declared.merges.Merge.{Merge}
+use Rattle.rc_stream.specs.declared.parts.Peeked.{Peeked}
 use Rattle.rc_stream.specs.declared.holding.Step.{Step}
 use Rattle.rc_stream.specs.declared.holding.Step.TheVariants as step
 use Rattle.rc_stream.specs.declared.holding.Turn.{Turn}
 use Rattle.rc_stream.specs.declared.holding.Turn.TheVariants as turn
 use Rattle.rc_stream.specs.declared.streams.StreamErr.{StreamErr}
+use Rattle.rc_stream.specs.Both.{MaySeekBoth}
 use Rattle.rc_stream.specs.Merging.{place_of}
 use Rattle.rc_stream.specs.Places.{Reaches}
 use Rattle.rc_stream.specs.Holding.{TakesTurn, IsFrom, StepReaches}
@@ -64,5 +66,8 @@ reaches-on step.Passed x y r u = tt
 reaches-on (step.Given f) x y r u = reaches-through (place_of f).0 x y r u
 
 -- what may be sought from x on may be sought from each later position on
-pub may-later : (ahead : Pos → Type 0) (l : Look) (x y : Pos) → Reaches x y → MaySeek ahead l x → MaySeek ahead l y
-may-later ahead l x y r may z u from = may z (reaches-through x y z u r) from
+pub may-later : {A : Type 0} (ahead : A → Pos → Type 0) (p : Peeked A) (x y : Pos) → Reaches x y → MaySeek ahead p x → MaySeek ahead p y
+may-later ahead p x y r may z u from = may z (reaches-through x y z u r) from
+
+pub both-later : {A B : Type 0} (ahead : A → Pos → Type 0) (ahead' : B → Pos → Type 0) (m : Merge A B) (x y : Pos) → Reaches x y → MaySeekBoth ahead ahead' m x → MaySeekBoth ahead ahead' m y
+both-later ahead ahead' m x y r may = (may-later ahead m.ours x y r may.0, may-later ahead' m.theirs x y r may.1)

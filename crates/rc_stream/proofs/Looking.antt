@@ -22,7 +22,7 @@ use Rattle.rc_stream.specs.Stream.{Stream, first_upto, force, is_passed, is_upto
 use Rattle.rc_mutation.specs.Fragments.{tomb_after}
 use Rattle.rc_stream.specs.Merging.{IsOrdered, StandsBefore, place_of}
 use Rattle.rc_stream.specs.Holding.{HeldFits, IsFrom, StandsOver, WentOn, tomb_behind, held, look_passed, front_passed, looked, passes_held, whole}
-use Rattle.rc_stream.specs.Moving.{MaySeek, look_after}
+use Rattle.rc_stream.specs.Moving.{look_after}
 use Rattle.rc_stream.proofs.Held.{same-some}
 use Rattle.rc_stream.specs.laws.Ordered.{not_passed, over, passes-itself, stop}
 use Rattle.rc_stream.specs.laws.Sought.{sought-ordered}
@@ -41,8 +41,12 @@ pub nothing-held : (xs : List Frag) → is_nil xs ≡ true → xs ≡ []
 nothing-held [] e = refl
 nothing-held (x ∷ xs) e = absurd (cc)
 
+-- each position from x on that is not before what was taken is one of these
+abbrev pub May : (Pos → Type 0) → Look → Pos → Type 0
+May ahead l x = (y : Pos) → Reaches x y → IsFrom l y → ahead y
+
 abbrev Kept : (ahead now : Pos → Type 0) → Look → Look → Pos → Type 0
-Kept ahead now old l x = MaySeek ahead old x → MaySeek now l x
+Kept ahead now old l x = May ahead old x → May now l x
 
 ahead-got : (ahead now : Pos → Type 0) (got : Option Frag) (fr : Front) (l : Look) → is_nil (front_change fr ++ looked l) ≡ true → ((x : Pos) → Passes (Ok got) x → ahead x → now x) → (x : Pos) → Kept ahead now l (look_after got l) x
 ahead-got ahead now None fr l n go x may y r from = go y tt (may y r from)
@@ -53,7 +57,7 @@ ahead-got ahead now (Some f) (front.Passed t) (look.Next g) n go x may y r from 
 ahead-got ahead now (Some f) (front.Passed t) (look.Past z g) n go x may y r from = absurd (cc)
 
 pub ahead-looked : (ahead now : Pos → Type 0) (got : Option Frag) (h : Held) (l : Look) → is_nil (held h) ≡ true → l ≡ look_after got h.look → ((x : Pos) → Passes (Ok got) x → ahead x → now x) → (x : Pos) → Kept ahead now h.look l x
-ahead-looked ahead now got h l n same go x may = subst (λ m. MaySeek now m x) (sym same) (ahead-got ahead now got h.front h.look n go x may)
+ahead-looked ahead now got h l n same go x may = subst (λ m. May now m x) (sym same) (ahead-got ahead now got h.front h.look n go x may)
 
 -- ---- seeking
 
@@ -83,7 +87,7 @@ passed-from x (look.Over z) e = e
 passed-from x (look.Next f) e = passed-place x f e
 passed-from x (look.Past z f) e = (and_first (is_le (pos_cmp z x)) (is_passed x f) e, passed-place x f (and_second (is_le (pos_cmp z x)) (is_passed x f) e))
 
-pub ahead-there : (ahead : Pos → Type 0) (x : Pos) (h : Held) → passes_held x h ≡ true → MaySeek ahead h.look x → ahead x
+pub ahead-there : (ahead : Pos → Type 0) (x : Pos) (h : Held) → passes_held x h ≡ true → May ahead h.look x → ahead x
 ahead-there ahead x h e may = may x (passes-itself x) (passed-from x h.look (and_second (front_passed x h.front) (look_passed x h.look) e))
 
 behind-ordered : (fs gs : List Frag) → IsOrdered (fs ++ gs) → IsOrdered gs

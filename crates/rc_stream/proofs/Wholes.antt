@@ -13,6 +13,7 @@ use Rattle.rc_stream.specs.declared.holding.Step.{Step}
 use Rattle.rc_stream.specs.declared.holding.Step.TheVariants as step
 use Rattle.rc_stream.specs.declared.lists.Front.{Front}
 use Rattle.rc_stream.specs.declared.lists.Front.TheVariants as front
+use Rattle.rc_stream.specs.declared.parts.Peeked.{Peeked}
 use Rattle.rc_stream.specs.declared.streams.StreamErr.{StreamErr}
 use Rattle.rc_stream.specs.Calls.{sought_by}
 use Rattle.rc_stream.specs.Fronts.{front_change}
@@ -21,7 +22,9 @@ use Rattle.rc_mutation.specs.Fragments.{tomb_after}
 use Rattle.rc_stream.specs.Merging.{IsOrdered, StandsBefore, merged}
 use Rattle.rc_stream.specs.Places.{bound_of}
 use Rattle.rc_stream.specs.Holding.{TakesTurn, HeldFits, WentOn, held, looked, passes_held, turn_of, whole}
-use Rattle.rc_stream.specs.Moving.{HoldBoth, Holds, KeepsSeen, Once, StepLeaves, StepSays, look_after}
+use Rattle.rc_stream.specs.Moving.{Holds, IsPutBack, KeepsSeen, Once, StepLeaves, StepSays, look_after}
+use Rattle.rc_stream.specs.Showing.{MergesTwo}
+use Rattle.rc_stream.specs.Both.{IsLookedUpto}
 use Rattle.rc_stream.proofs.Looking.{beyond, first-is, fits-sought, fits-within, none_held, nothing-held, within}
 use Rattle.rc_stream.specs.laws.Ordered.{passes-itself}
 use Rattle.rc_stream.proofs.Rounds.{stepped}
@@ -30,13 +33,17 @@ use Rattle.rc_stream.proofs.Seeking.{sought-merged, sought-sought}
 abbrev pub Seen : Type 1
 Seen = Stream → Type 0
 
-pub holds-on : (P Q : Seen) (h : Held) (t : Stream) → ((s : Stream) → P s → Q s) → Holds P h t → Holds Q h t
+pub holds-on : (P Q : Seen) (h : Held) (t : Stream) → ((s : Stream) → P s → Q s) → IsPutBack P h t → IsPutBack Q h t
 holds-on P Q h t go k = record { stream = k.stream; stands = go k.stream k.stands; fits = k.fits; same = k.same }
 
 -- a part stands on where the other was called
-pub once-holds : {H W X : Type 0} (P : H → W → H → W → Type 0) (seen : X → H → W → Stream → Type 0) (x : X) (h : H) (w : W) (g : H) (v : W) → KeepsSeen P seen → Once P h w g v → (k : Held) (t : Stream) → Holds (seen x h w) k t → Holds (seen x g v) k t
-once-holds P seen x h w g v keeps (inl e) k t a = holds-on (seen x h w) (seen x g v) k t (λ s q. subst (λ u. seen x g u s) e.1 (subst (λ z. seen x z w s) e.0 q)) a
-once-holds P seen x h w g v keeps (inr m) k t a = holds-on (seen x h w) (seen x g v) k t (λ s q. keeps x s h w g v m q) a
+pub once-holds : {H W X : Type 0} (P : H → W → H → W → Type 0) (seen : X → H → W → Stream → Type 0) (p : Peeked X) (h : H) (w : W) (g : H) (v : W) → KeepsSeen P seen → Once P h w g v → (t : Stream) → Holds seen p h w t → Holds seen p g v t
+once-holds P seen p h w g v keeps (inl e) t a = holds-on (seen p.stream h w) (seen p.stream g v) p.held t (λ s q. subst (λ u. seen p.stream g u s) e.1 (subst (λ z. seen p.stream z w s) e.0 q)) a
+once-holds P seen p h w g v keeps (inr m) t a = holds-on (seen p.stream h w) (seen p.stream g v) p.held t (λ s q. keeps p.stream s h w g v m q) a
+
+-- what holds of both streams, where other things hold of each
+abbrev pub two-on : (P Q P' Q' : Seen) (m : Stream) → ((t : Stream) → P t → P' t) → ((t : Stream) → Q t → Q' t) → MergesTwo P Q m → MergesTwo P' Q' m
+two-on P Q P' Q' m one other b = record { ours = b.ours; theirs = b.theirs; first = one b.ours b.first; second = other b.theirs b.second; joins = b.joins }
 
 -- ---- looking
 
@@ -56,12 +63,12 @@ took-holds f s (front.Passed t) (look.Past z g) n fits e = absurd (cc)
 as_now : (fr : Front) (l : Look) (now : Held) → now.front ≡ fr → now.look ≡ l → hold fr l ≡ now
 as_now fr l now e k = λ i. hold (sym e i) (sym k i)
 
-pub looked-holds : (P Q : Seen) (x : Pos) (got : Option Frag) (h now : Held) (t : Stream) → is_nil (held h) ≡ true → now.front ≡ h.front → now.look ≡ look_after got h.look → ((s : Stream) → P s → got ≡ first_upto x s.left) → ((s : Stream) → P s → Q (took got s)) → Holds P h t → Holds Q now t
-looked-holds P Q x None h now t n fr l gives go k = subst (λ m. Holds Q m t) (as_now h.front h.look now fr l) (holds-on P Q h t go k)
+pub looked-holds : (P Q : Seen) (x : Pos) (got : Option Frag) (h now : Held) (t : Stream) → is_nil (held h) ≡ true → now.front ≡ h.front → now.look ≡ look_after got h.look → ((s : Stream) → P s → got ≡ first_upto x s.left) → ((s : Stream) → P s → Q (took got s)) → IsPutBack P h t → IsPutBack Q now t
+looked-holds P Q x None h now t n fr l gives go k = subst (λ m. IsPutBack Q m t) (as_now h.front h.look now fr l) (holds-on P Q h t go k)
 looked-holds P Q x (Some f) h now t n fr l gives go k =
     let first = first-is x k.stream.left f (gives k.stream k.stands) in
     let both = took-holds f k.stream h.front h.look n k.fits first.0 in
-    subst (λ m. Holds Q m t) (as_now h.front (look_after (Some f) h.look) now fr l)
+    subst (λ m. IsPutBack Q m t) (as_now h.front (look_after (Some f) h.look) now fr l)
     (record { stream = took (Some f) k.stream; stands = go k.stream k.stands; fits = both.0; same = k.same ∙ both.1 })
 
 something : (f : Frag) (fs : List Frag) (l : Look) → fs ++ looked (look_after (Some f) l) ≡ [] → ⊥
@@ -71,16 +78,16 @@ something f [] (look.Next g) e = cc
 something f [] (look.Past z g) e = cc
 something f (g ∷ fs) l e = cc
 
-pub looked-known : (P : Seen) (x : Pos) (got : Option Frag) (h now : Held) (t : Stream) → is_nil (held h) ≡ true → now.look ≡ look_after got h.look → ((s : Stream) → P s → got ≡ first_upto x s.left) → Holds P h t → held now ≡ [] → first_upto x t.left ≡ None
+pub looked-known : (P : Seen) (x : Pos) (got : Option Frag) (h now : Held) (t : Stream) → is_nil (held h) ≡ true → now.look ≡ look_after got h.look → ((s : Stream) → P s → got ≡ first_upto x s.left) → IsPutBack P h t → held now ≡ [] → first_upto x t.left ≡ None
 looked-known P x None h now t n l gives k e = ap (λ (u : Stream). first_upto x u.left) k.same ∙ ap (λ hs. first_upto x (hs ++ k.stream.left)) (nothing-held (held h) n) ∙ sym (gives k.stream k.stands)
 looked-known P x (Some f) h now t n l gives k e = absurd (something f (front_change now.front) h.look (ap (λ m. front_change now.front ++ looked m) (sym l) ∙ e))
 
 -- ---- seeking
 
-pub within-holds : (P : Seen) (x : Pos) (h now : Held) (t : Stream) → passes_held x h ≡ false → WentOn x h now → Holds P h t → Holds P now (sought x t)
+pub within-holds : (P : Seen) (x : Pos) (h now : Held) (t : Stream) → passes_held x h ≡ false → WentOn x h now → IsPutBack P h t → IsPutBack P now (sought x t)
 within-holds P x h now t e w k = record { stream = k.stream; stands = k.stands; fits = fits-within x h now k.stream k.fits e w; same = ap (sought x) k.same ∙ sym (within x h now k.stream k.fits e w) }
 
-pub sought-holds : (P Q : Seen) (x : Pos) (h now : Held) (t : Stream) → passes_held x h ≡ true → now ≡ none_held → ((s : Stream) → P s → Q (sought x s)) → Holds P h t → Holds Q now (sought x t)
+pub sought-holds : (P Q : Seen) (x : Pos) (h now : Held) (t : Stream) → passes_held x h ≡ true → now ≡ none_held → ((s : Stream) → P s → Q (sought x s)) → IsPutBack P h t → IsPutBack Q now (sought x t)
 sought-holds P Q x h now t e none go k = record {
   stream = sought x k.stream;
   stands = go k.stream k.stands;
@@ -88,7 +95,7 @@ sought-holds P Q x h now t e none go k = record {
   same = ap (sought x) k.same ∙ beyond x h k.stream k.fits e ∙ ap (λ (m : Held). whole m (sought x k.stream)) (sym none);
 }
 
-pub ordered : (P : Seen) (h : Held) (t : Stream) → Holds P h t → IsOrdered t.left
+pub ordered : (P : Seen) (h : Held) (t : Stream) → IsPutBack P h t → IsOrdered t.left
 ordered P h t k = subst (λ (u : Stream). IsOrdered u.left) (sym k.same) k.fits.ordered
 
 again : (r : Result (Unit {0}) StreamErr) (x : Pos) (t : Stream) → sought x (sought_by r x t) ≡ sought x t
@@ -96,66 +103,59 @@ again (Ok u) x t = sought-sought x x t (passes-itself x)
 again (Err e) x t = refl
 
 -- one went on, or both: a later seek forgets it
-pub sought-either : (P Q P' Q' : Seen) (x : Pos) (h k h' k' : Held) (ra rb : Result (Unit {0}) StreamErr) (m : Stream) → ((t : Stream) → Holds P h t → Holds P' h' (sought_by ra x t)) → ((t : Stream) → Holds Q k t → Holds Q' k' (sought_by rb x t)) → HoldBoth P h Q k m → (n : Stream) × HoldBoth P' h' Q' k' n × (sought x n ≡ sought x m)
+pub sought-either : (P Q P' Q' : Seen) (x : Pos) (h k h' k' : Held) (ra rb : Result (Unit {0}) StreamErr) (m : Stream) → ((t : Stream) → IsPutBack P h t → IsPutBack P' h' (sought_by ra x t)) → ((t : Stream) → IsPutBack Q k t → IsPutBack Q' k' (sought_by rb x t)) → MergesTwo (IsPutBack P h) (IsPutBack Q k) m → (n : Stream) × MergesTwo (IsPutBack P' h') (IsPutBack Q' k') n × (sought x n ≡ sought x m)
 sought-either P Q P' Q' x h k h' k' ra rb m one other b =
     let s = b.ours in
     let t = b.theirs in
-    let one' = one s b.holds_ours in
-    let other' = other t b.holds_theirs in (
+    let one' = one s b.first in
+    let other' = other t b.second in (
       merged (sought_by ra x s) (sought_by rb x t),
-      record { ours = sought_by ra x s; theirs = sought_by rb x t; holds_ours = one'; holds_theirs = other'; joins = refl },
+      record { ours = sought_by ra x s; theirs = sought_by rb x t; first = one'; second = other'; joins = refl },
       sought-merged x (sought_by ra x s) (sought_by rb x t) (ordered P' h' (sought_by ra x s) one') (ordered Q' k' (sought_by rb x t) other')
           ∙ (λ i. merged (again ra x s i) (again rb x t i))
-          ∙ sym (sought-merged x s t (ordered P h s b.holds_ours) (ordered Q k t b.holds_theirs))
+          ∙ sym (sought-merged x s t (ordered P h s b.first) (ordered Q k t b.second))
           ∙ ap (sought x) (sym b.joins),
     )
 
-pub sought-both : (P Q P' Q' : Seen) (x : Pos) (h k h' k' : Held) (m : Stream) → ((t : Stream) → Holds P h t → Holds P' h' (sought x t)) → ((t : Stream) → Holds Q k t → Holds Q' k' (sought x t)) → HoldBoth P h Q k m → HoldBoth P' h' Q' k' (sought x m)
+pub sought-both : (P Q P' Q' : Seen) (x : Pos) (h k h' k' : Held) (m : Stream) → ((t : Stream) → IsPutBack P h t → IsPutBack P' h' (sought x t)) → ((t : Stream) → IsPutBack Q k t → IsPutBack Q' k' (sought x t)) → MergesTwo (IsPutBack P h) (IsPutBack Q k) m → MergesTwo (IsPutBack P' h') (IsPutBack Q' k') (sought x m)
 sought-both P Q P' Q' x h k h' k' m one other b = record {
   ours = sought x b.ours;
   theirs = sought x b.theirs;
-  holds_ours = one b.ours b.holds_ours;
-  holds_theirs = other b.theirs b.holds_theirs;
-  joins = ap (sought x) b.joins ∙ sought-merged x b.ours b.theirs (ordered P h b.ours b.holds_ours) (ordered Q k b.theirs b.holds_theirs);
+  first = one b.ours b.first;
+  second = other b.theirs b.second;
+  joins = ap (sought x) b.joins ∙ sought-merged x b.ours b.theirs (ordered P h b.ours b.first) (ordered Q k b.theirs b.second);
 }
 
 -- ---- a step
 
-below : (P : Seen) (x : Pos) (h : Held) (t : Stream) (k : Holds P h t) → held h ≡ [] → first_upto x t.left ≡ None → first_upto x k.stream.left ≡ None
+below : (P : Seen) (x : Pos) (h : Held) (t : Stream) (k : IsPutBack P h t) → held h ≡ [] → first_upto x t.left ≡ None → first_upto x k.stream.left ≡ None
 below P x h t k n e = sym (λ i. first_upto x (n i ++ k.stream.left)) ∙ ap (λ (u : Stream). first_upto x u.left) (sym k.same) ∙ e
 
-after_step : (P Q : Seen) (h k : Held) (s : Step) (x : Pos) (m n : Stream) → HoldBoth P h Q k n → StepSays s x m n → StepLeaves (Ok s) x m (HoldBoth P h Q k)
-after_step P Q h k step.Nothing x m n b d = (subst (HoldBoth P h Q k) d.0 b, d.1)
-after_step P Q h k step.Passed x m n b d = subst (HoldBoth P h Q k) d b
-after_step P Q h k (step.Given f) x m n b d = (subst (HoldBoth P h Q k) d.1 b, d.0)
+after_step : (P Q : Seen) (h k : Held) (s : Step) (x : Pos) (m n : Stream) → MergesTwo (IsPutBack P h) (IsPutBack Q k) n → StepSays s x m n → StepLeaves (Ok s) x m (MergesTwo (IsPutBack P h) (IsPutBack Q k))
+after_step P Q h k step.Nothing x m n b d = (subst (MergesTwo (IsPutBack P h) (IsPutBack Q k)) d.0 b, d.1)
+after_step P Q h k step.Passed x m n b d = subst (MergesTwo (IsPutBack P h) (IsPutBack Q k)) d b
+after_step P Q h k (step.Given f) x m n b d = (subst (MergesTwo (IsPutBack P h) (IsPutBack Q k)) d.1 b, d.0)
 
-pub step-holds : (P Q : Seen) (x : Pos) (h k h' k' : Held) (s : Step) (m ta tb : Stream) → Holds P h ta → Holds Q k tb → m ≡ merged ta tb → (held h ≡ [] → first_upto x ta.left ≡ None) → (held k ≡ [] → first_upto (bound_of x (held h)) tb.left ≡ None) → TakesTurn (turn_of x (held h) (held k)) s h k h' k' → StepLeaves (Ok s) x m (HoldBoth P h' Q k')
+pub step-holds : (P Q : Seen) (x : Pos) (h k h' k' : Held) (s : Step) (m ta tb : Stream) → IsPutBack P h ta → IsPutBack Q k tb → m ≡ merged ta tb → (held h ≡ [] → first_upto x ta.left ≡ None) → (held k ≡ [] → first_upto (bound_of x (held h)) tb.left ≡ None) → TakesTurn (turn_of x (held h) (held k)) s h k h' k' → StepLeaves (Ok s) x m (MergesTwo (IsPutBack P h') (IsPutBack Q k'))
 step-holds P Q x h k h' k' s m ta tb a b e none none' d =
     let st = stepped x a.stream b.stream h k a.fits b.fits s h' k' (λ n. below P x h ta a n (none n)) (λ n. below Q (bound_of x (held h)) k tb b n (none' n)) d in
     after_step P Q h' k' s x m (merged (whole h' a.stream) (whole k' b.stream))
     (record {
       ours = whole h' a.stream;
       theirs = whole k' b.stream;
-      holds_ours = record { stream = a.stream; stands = a.stands; fits = st.fits_ours; same = refl };
-      holds_theirs = record { stream = b.stream; stands = b.stands; fits = st.fits_theirs; same = refl };
+      first = record { stream = a.stream; stands = a.stands; fits = st.fits_ours; same = refl };
+      second = record { stream = b.stream; stands = b.stands; fits = st.fits_theirs; same = refl };
       joins = refl;
     })
     (subst (λ (u : Stream). StepSays s x u (merged (whole h' a.stream) (whole k' b.stream))) (sym (e ∙ (λ i. merged (a.same i) (b.same i)))) st.says)
 
 -- ---- two parts
 
-pub both-on : (P Q P' Q' : Seen) (h k h' k' : Held) (m : Stream) → ((t : Stream) → Holds P h t → Holds P' h' t) → ((t : Stream) → Holds Q k t → Holds Q' k' t) → HoldBoth P h Q k m → HoldBoth P' h' Q' k' m
-both-on P Q P' Q' h k h' k' m one other b = record {
-  ours = b.ours;
-  theirs = b.theirs;
-  holds_ours = one b.ours b.holds_ours;
-  holds_theirs = other b.theirs b.holds_theirs;
-  joins = b.joins;
-}
-
-pub sought-ok : (P Q P' Q' : Seen) (x : Pos) (h k h' k' : Held) (r : Result (Unit {0}) StreamErr) → ((t : Stream) → Holds P h t → Holds P' h' (sought x t)) → ((t : Stream) → Holds Q k t → Holds Q' k' (sought_by r x t)) → OnOk r ((m : Stream) → HoldBoth P h Q k m → HoldBoth P' h' Q' k' (sought x m))
+pub sought-ok : (P Q P' Q' : Seen) (x : Pos) (h k h' k' : Held) (r : Result (Unit {0}) StreamErr) → ((t : Stream) → IsPutBack P h t → IsPutBack P' h' (sought x t)) → ((t : Stream) → IsPutBack Q k t → IsPutBack Q' k' (sought_by r x t)) → OnOk r ((m : Stream) → MergesTwo (IsPutBack P h) (IsPutBack Q k) m → MergesTwo (IsPutBack P' h') (IsPutBack Q' k') (sought x m))
 sought-ok P Q P' Q' x h k h' k' (Ok u) one other = λ m b. sought-both P Q P' Q' x h k h' k' m one other b
 sought-ok P Q P' Q' x h k h' k' (Err e) one other = tt
 
-pub both : (P Q : Seen) (h k : Held) (m s t : Stream) → Holds P h s → Holds Q k t → m ≡ merged s t → HoldBoth P h Q k m
-both P Q h k m s t a b e = record { ours = s; theirs = t; holds_ours = a; holds_theirs = b; joins = e }
+-- both were looked at, where the second answered
+pub looked-both : (P Q P' Q' R : Seen) (x near : Pos) (h' k' : Held) (r : Result (Unit {0}) StreamErr) → near ≡ bound_of x (held h') → ((t : Stream) → P t → P' t) → ((t : Stream) → Q t → R t) → ((t : Stream) → Q t → Q' t) → ((t : Stream) → P t → IsLookedUpto h' x t) → OnOk r ((t : Stream) → R t → IsLookedUpto k' near t) → OnOk r ((m : Stream) → MergesTwo P Q m → (b : MergesTwo P' Q' m) × IsLookedUpto h' x b.ours × IsLookedUpto k' (bound_of x (held h')) b.theirs)
+looked-both P Q P' Q' R x near h' k' (Ok u) e one mid other none none' = λ m b. (two-on P Q P' Q' m one other b, none b.ours b.first, subst (λ z. IsLookedUpto k' z b.theirs) e (none' b.theirs (mid b.theirs b.second)))
+looked-both P Q P' Q' R x near h' k' (Err e') e one mid other none none' = tt

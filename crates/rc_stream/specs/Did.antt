@@ -8,7 +8,7 @@ use Rattle.std.specs.Prelude.{◌≡◌, ◌⊎◌, ◌≤◌, ◌+◌, ◌&&◌
 use Rattle.rc_position.specs.declared.positions.Pos.{Pos}
 use Rattle.rc_stream.specs.declared.streams.StreamErr.{StreamErr}
 use Rattle.rc_stream.specs.declared.merges.Merge.{Merge}
-use Rattle.rc_stream.specs.Moving.{nothing_held}
+use Rattle.rc_stream.specs.Moving.{unpeeked}
 use Rattle.rc_stream.specs.Stream.{Stream}
 use Rattle.rc_stream.specs.Places.{Reaches, bound_of}
 
@@ -89,9 +89,13 @@ PartsDid did did' due (OfNext y) ok s t = InTurn (OneCall did did' due y) ok s t
 pub record MergeDid {A B H W : Type 0} (did : Deed A H W) (did' : Deed B H W) (due : Option Pos) (c : Call) (ok : Bool) (s t : A × B × H × W) : Type 0 where
   pub calls : PartsDid did did' due c ok s t
 
--- the same, of the merge itself
+-- the two streams of a merge, its home and its store
+abbrev pub merge_state : {A B H W : Type 0} → Merge A B → H → W → A × B × H × W
+merge_state m h w = (m.ours.stream, m.theirs.stream, h, w)
+
+-- a call of a merge, by its parts' calls
 abbrev pub merge_did : {A B H W : Type 0} → Deed A H W → Deed B H W → Deed (Merge A B) H W
-merge_did did did' m h w c ok n g v = MergeDid did did' m.due c ok (m.ours, m.theirs, h, w) (n.ours, n.theirs, g, v)
+merge_did did did' m h w c ok n g v = MergeDid did did' m.due c ok (merge_state m h w) (merge_state n g v)
 
 -- what is left to be asked for is all that calls ask for: an answered one leaves that much less, and a refused one asks for no more
 pub record Spends {S H W : Type 0} (did : Deed S H W) (left : S → ℕ) (asks : W → ℕ) : Type 0 where
@@ -105,16 +109,12 @@ pub record IsQuiet {S H W : Type 0} (did : Deed S H W) (settled : S → Bool) (a
 
 -- what both parts of a merge may still ask for
 abbrev pub both_left : {A B : Type 0} → (A → ℕ) → (B → ℕ) → Merge A B → ℕ
-both_left left left' m = left m.ours + left' m.theirs
+both_left left left' m = left m.ours.stream + left' m.theirs.stream
 
 -- whether both parts of a merge are settled
 abbrev pub both_settled : {A B : Type 0} → (A → Bool) → (B → Bool) → Merge A B → Bool
-both_settled settled settled' m = settled m.ours && settled' m.theirs
+both_settled settled settled' m = settled m.ours.stream && settled' m.theirs.stream
 
 -- a new merge of two parts: nothing is held of them, and no seek is due
-pub record IsNewMerge {A B : Type 0} (a : A) (b : B) (m : Merge A B) : Type 0 where
-  pub ours : m.ours ≡ a
-  pub theirs : m.theirs ≡ b
-  pub ours_held : m.ours_held ≡ nothing_held
-  pub theirs_held : m.theirs_held ≡ nothing_held
-  pub due : m.due ≡ None
+abbrev pub IsNewMerge : {A B : Type 0} → A → B → Merge A B → Type 0
+IsNewMerge a b m = m ≡ record { ours = unpeeked a; theirs = unpeeked b; due = None }

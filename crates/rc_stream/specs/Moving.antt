@@ -8,23 +8,27 @@ use Rattle.rc_stream.specs.declared.lists.Front.TheVariants as front
 use Rattle.rc_stream.specs.declared.holding.Step.{Step}
 use Rattle.rc_stream.specs.declared.holding.Step.TheVariants as step
 use Rattle.rc_stream.specs.Places.{Reaches}
-use Rattle.rc_stream.specs.Stream.{Stream, first_upto, sought, took}
+use Rattle.rc_stream.specs.Stream.{Stream, first_upto, took}
 use Rattle.rc_stream.specs.declared.streams.StreamErr.{StreamErr}
 use Rattle.rc_stream.specs.declared.holding.Held.{Held}
-use Rattle.rc_stream.specs.Merging.{merged}
+use Rattle.rc_stream.specs.declared.parts.Peeked.{Peeked}
 use Rattle.rc_stream.specs.Holding.{HeldFits, IsFrom, StepReaches, whole}
 
 -- nothing is held
 abbrev pub nothing_held : Held
 nothing_held = record { front = front.Passed None; look = look.Open }
 
+-- a stream of which nothing is held
+abbrev pub unpeeked : {A : Type 0} → A → Peeked A
+unpeeked a = record { stream = a; held = nothing_held }
+
 -- a home and a store are as they were, or as a call made them
 abbrev pub Once : {H W : Type 0} → (H → W → H → W → Type 0) → H → W → H → W → Type 0
 Once {H} {W} moves h w g v = ((h ≡ g) × (w ≡ v)) ⊎ moves h w g v
 
 -- each position from x on that is not before what was taken is ahead of the stream
-abbrev pub MaySeek : (Pos → Type 0) → Look → Pos → Type 0
-MaySeek ahead l x = (y : Pos) → Reaches x y → IsFrom l y → ahead y
+abbrev pub MaySeek : {A : Type 0} → (A → Pos → Type 0) → Peeked A → Pos → Type 0
+MaySeek ahead p x = (y : Pos) → Reaches x y → IsFrom p.held.look y → ahead p.stream y
 
 -- what was looked at, after a fragment was taken from the stream, if one was
 abbrev pub look_after : Option Frag → Look → Look
@@ -34,20 +38,16 @@ look_after (Some f) (look.Over z) = look.Past z f
 look_after (Some f) (look.Next g) = look.Next f
 look_after (Some f) (look.Past z g) = look.Past z f
 
--- a part stands for one of these streams; with what is held of it put back before it, that is this whole stream
-pub record Holds (seen : Stream → Type 0) (h : Held) (all : Stream) : Type 0 where
+-- one of these streams, with what is held put back before it, is this whole one
+pub record IsPutBack (P : Stream → Type 0) (h : Held) (all : Stream) : Type 0 where
   pub stream : Stream
-  pub stands : seen stream
+  pub stands : P stream
   pub fits : HeldFits h stream
   pub same : all ≡ whole h stream
 
--- two parts, each with what is held of it, stand for streams that merge to this one
-pub record HoldBoth (seen : Stream → Type 0) (h : Held) (seen' : Stream → Type 0) (h' : Held) (both : Stream) : Type 0 where
-  pub ours : Stream
-  pub theirs : Stream
-  pub holds_ours : Holds seen h ours
-  pub holds_theirs : Holds seen' h' theirs
-  pub joins : both ≡ merged ours theirs
+-- a stream with what is held of it stands for this whole one
+abbrev pub Holds : {A H W : Type 0} → (A → H → W → Stream → Type 0) → Peeked A → H → W → Stream → Type 0
+Holds seen p h w all = IsPutBack (seen p.stream h w) p.held all
 
 -- what a step makes of the stream of a merge: nothing stands up to x; a change was passed over; or the first was taken, which stands there
 abbrev pub StepSays : Step → Pos → Stream → Stream → Type 0
@@ -87,18 +87,3 @@ KeepsSeen {H} {W} {X} moves seen = (t : X) (s : Stream) (h : H) (w : W) (g : H) 
 abbrev pub RoundReaches : Result Step StreamErr → Pos → Type 0
 RoundReaches (Ok s) x = StepReaches s x
 RoundReaches (Err e) x = ⊤
-
--- two parts, each with what is held of it, stand for streams that merge to this one, or to one that a seek that is due makes this one
-abbrev pub SoughtBoth : (Stream → Type 0) → Held → (Stream → Type 0) → Held → Option Pos → Stream → Type 0
-SoughtBoth seen h seen' h' None s = HoldBoth seen h seen' h' s
-SoughtBoth seen h seen' h' (Some x) s = (t : Stream) × HoldBoth seen h seen' h' t × (s ≡ sought x t)
-
--- x is ahead of both parts, or not before the seek that is due
-abbrev pub AheadOfBoth : (Pos → Type 0) → Look → (Pos → Type 0) → Look → Option Pos → Pos → Type 0
-AheadOfBoth ahead l ahead' l' None x = MaySeek ahead l x × MaySeek ahead' l' x
-AheadOfBoth ahead l ahead' l' (Some y) x = Reaches y x
-
--- both parts may be sought to where a seek is due
-abbrev pub IsDueAhead : (Pos → Type 0) → Look → (Pos → Type 0) → Look → Option Pos → Type 0
-IsDueAhead ahead l ahead' l' None = ⊤
-IsDueAhead ahead l ahead' l' (Some x) = MaySeek ahead l x × MaySeek ahead' l' x

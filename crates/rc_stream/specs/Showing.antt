@@ -6,7 +6,7 @@ use Rattle.std.specs.Prelude.{◌≡◌, ◌⊎◌, ℕ, ⊤, None, Result, IfEr
 use Rattle.rc_mutation.specs.declared.fragments.Head.{Head}
 use Rattle.rc_stream.specs.declared.streams.StreamErr.{StreamErr}
 use Rattle.rc_stream.specs.declared.streams.StreamErr.TheVariants.{Fault, Damaged, NoMemory}
-use Rattle.rc_stream.specs.Merging.{IsOrdered, joined_head, merged}
+use Rattle.rc_stream.specs.Merging.{IsOrdered, merged}
 use Rattle.rc_stream.specs.Stream.{Stream}
 
 -- a stream from its beginning: no tombstone is in force before its first, and its rows and changes are in order
@@ -28,14 +28,6 @@ pub record MergesTwo (P Q : Stream → Type 0) (s : Stream) : Type 0 where
   pub first : P ours
   pub second : Q theirs
   pub joins : s ≡ merged ours theirs
-
--- the heads of two parts show their streams, and this head is that of both
-pub record ShowsBoth (might stands might' stands' : Stream → Type 0) (head : Head) : Type 0 where
-  pub ours : Head
-  pub theirs : Head
-  pub first : ShowsOne might stands ours
-  pub second : ShowsOne might' stands' theirs
-  pub joins : head ≡ joined_head ours theirs
 
 -- files and offsets in them
 abbrev pub FileSpots : Type 1

@@ -2,7 +2,7 @@
 use Rattle.std.specs.Prelude.{◌≡◌, ◌⊎◌, ◌≤◌, ◌+◌, ℕ, zero, suc, Bool, true, false, IsTrue, ◌&&◌, Option}
 use Rattle.std.proofs.Common.{refl, sym, ap, ◌∙◌, subst, arith, inl, inr}
 use Rattle.rc_position.specs.declared.positions.Pos.{Pos}
-use Rattle.rc_stream.specs.Did.{Call, InTurn, Deed, IsQuiet, MergeDid, OneCall, OurCall, Spends, StepsInTurn, TheirCall, merge_did, both_left, both_settled, Call.OfHead, Call.OfNext, Call.OfSeek}
+use Rattle.rc_stream.specs.Did.{Call, InTurn, Deed, IsQuiet, MergeDid, OneCall, OurCall, Spends, StepsInTurn, TheirCall, merge_did, merge_state, both_left, both_settled, Call.OfHead, Call.OfNext, Call.OfSeek}
 
 -- ---- chains of steps
 
@@ -93,8 +93,8 @@ module _ {A B H W : Type 0} (did : Deed A H W) (did' : Deed B H W) (asks : W →
     -- a merge spends what its parts do
     pub merge-spends : Spends (merge_did did did') (both_left left left') asks
     merge-spends = record {
-      answered = λ s h w c t g v m. merge-answered s.due c (s.ours, s.theirs, h, w) (t.ours, t.theirs, g, v) m;
-      refused = λ s h w c t g v m. merge-refused s.due c (s.ours, s.theirs, h, w) (t.ours, t.theirs, g, v) m;
+      answered = λ s h w c t g v m. merge-answered s.due c (merge_state s h w) (merge_state t g v) m;
+      refused = λ s h w c t g v m. merge-refused s.due c (merge_state s h w) (merge_state t g v) m;
     }
 
   module _ (settled : A → Bool) (settled' : B → Bool) (ours : IsQuiet did settled asks) (theirs : IsQuiet did' settled' asks) where
@@ -147,6 +147,6 @@ module _ {A B H W : Type 0} (did : Deed A H W) (did' : Deed B H W) (asks : W →
     -- a merge of parts that are settled asks for nothing
     pub merge-is-quiet : IsQuiet (merge_did did did') (both_settled settled settled') asks
     merge-is-quiet = record {
-      quiet = λ s h w c ok t g v q m. (let p = merge-quiet s.due c ok (s.ours, s.theirs, h, w) (t.ours, t.theirs, g, v) m (first_of (settled s.ours) (settled' s.theirs) q) (second_of (settled s.ours) (settled' s.theirs) q) in (p.0, both_of (settled t.ours) (settled' t.theirs) p.1 p.2));
-      head = λ s h w t g v m. (let p = merge-head s.due (s.ours, s.theirs, h, w) (t.ours, t.theirs, g, v) m in both_of (settled t.ours) (settled' t.theirs) p.0 p.1);
+      quiet = λ s h w c ok t g v q m. (let p = merge-quiet s.due c ok (merge_state s h w) (merge_state t g v) m (first_of (settled s.ours.stream) (settled' s.theirs.stream) q) (second_of (settled s.ours.stream) (settled' s.theirs.stream) q) in (p.0, both_of (settled t.ours.stream) (settled' t.theirs.stream) p.1 p.2));
+      head = λ s h w t g v m. (let p = merge-head s.due (merge_state s h w) (merge_state t g v) m in both_of (settled t.ours.stream) (settled' t.theirs.stream) p.0 p.1);
     }
