@@ -2,7 +2,7 @@
 ghost use Rattle.std.specs.Prelude.{◌≡◌, false, IfOk, IfSome, IsTrue};
 ghost use Rattle.rc_outside.specs.Files.{HoldsSameFiles};
 ghost use Rattle.rc_position.specs.declared.positions.Pos.{Pos};
-ghost use Rattle.rc_stream.specs.Calls.{left_by};
+ghost use Rattle.rc_stream.specs.Leaving.{left_by};
 ghost use Rattle.rc_stream.specs.Causes.{Caused};
 ghost use Rattle.rc_stream.specs.Did.{InTurn, ReachesEnd, answered, Call.OfHead, Call.OfNext};
 ghost use Rattle.rc_stream.specs.Showing.{Blames};

@@ -2,7 +2,8 @@
 use Rattle.std.specs.Prelude.{◌≡◌, ◌⊎◌, ℕ, zero, suc, Bool, true, false, Option, None}
 use Rattle.std.proofs.Common.{refl, sym, subst, inl, inr}
 use Rattle.rc_position.specs.declared.positions.Pos.{Pos}
-use Rattle.rc_stream.specs.Did.{Call, InTurn, Deed, IsOurs, IsTheirs, Many, OnceDid, OneCall, StepsInTurn, Call.OfHead, Call.OfNext, Call.OfSeek}
+use Rattle.rc_stream.specs.Did.{Call, InTurn, Deed, IsOurs, IsTheirs, Many, OneCall, StepsInTurn, Call.OfHead, Call.OfNext, Call.OfSeek}
+use Rattle.rc_stream.specs.calls.Did.{OnceDid}
 
 module _ {S : Type 0} (step : Bool → S → S → Type 0) where
   many-none : (s : S) → Many (step true) s s

@@ -15,7 +15,8 @@ use Rattle.rc_stream.specs.declared.streams.StreamErr.{StreamErr}
 use Rattle.rc_stream.specs.Both.{MaySeekBoth}
 use Rattle.rc_stream.specs.Merging.{place_of}
 use Rattle.rc_stream.specs.Places.{Reaches}
-use Rattle.rc_stream.specs.Holding.{TakesTurn, IsFrom, StepReaches}
+use Rattle.rc_stream.specs.Holding.{IsFrom}
+use Rattle.rc_stream.specs.calls.Holding.{TakesTurn, StepReaches}
 use Rattle.rc_stream.specs.Moving.{Either, Keeps, MaySeek, Moved, Moves, Once}
 use Rattle.rc_stream.specs.laws.Says.{le_le}
 

@@ -28,9 +28,11 @@ use Rattle.rc_stream.specs.laws.Says.{le_le}
 use Rattle.rc_mutation.specs.Fragments.{place_order}
 use Rattle.rc_stream.specs.declared.holding.Turn.{Turn}
 use Rattle.rc_stream.specs.declared.holding.Turn.TheVariants as turn
-use Rattle.rc_stream.specs.Merging.{IsInner, IsOrdered, StandsBefore, beside, changes_nothing, place_of, together}
+use Rattle.rc_stream.specs.Merging.{IsInner, IsOrdered, StandsBefore, changes_nothing, place_of, together}
+use Rattle.rc_stream.specs.calls.Merging.{beside}
 use Rattle.rc_stream.specs.laws.Ordered.{Place, place_same}
-use Rattle.rc_stream.specs.Holding.{IsFrom, is_near, row_of, turn_of, StandsOver, TakesFirst, alone, behind_first, dropped, held, later, look_taken, looked, nearer, paired, told}
+use Rattle.rc_stream.specs.Holding.{IsFrom, StandsOver, held, later, looked, nearer}
+use Rattle.rc_stream.specs.calls.Holding.{is_near, row_of, turn_of, TakesFirst, alone, behind_first, dropped, look_taken, paired, told}
 use Rattle.rc_cell.specs.Winner.{first_of}
 
 abbrev front_held : Front → Look → List Frag

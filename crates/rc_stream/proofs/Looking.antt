@@ -21,8 +21,9 @@ use Rattle.rc_stream.specs.Places.{Passes, Reaches}
 use Rattle.rc_stream.specs.Stream.{Stream, first_upto, force, is_passed, is_upto, onward, opening, rest, sought}
 use Rattle.rc_mutation.specs.Fragments.{tomb_after}
 use Rattle.rc_stream.specs.Merging.{IsOrdered, StandsBefore, place_of}
-use Rattle.rc_stream.specs.Holding.{HeldFits, IsFrom, StandsOver, WentOn, tomb_behind, held, look_passed, front_passed, looked, passes_held, whole}
-use Rattle.rc_stream.specs.Moving.{look_after}
+use Rattle.rc_stream.specs.Holding.{HeldFits, IsFrom, StandsOver, tomb_behind, held, looked, whole}
+use Rattle.rc_stream.specs.calls.Holding.{WentOn, look_passed, front_passed, passes_held}
+use Rattle.rc_stream.specs.calls.Moving.{look_after}
 use Rattle.rc_stream.proofs.Held.{same-some}
 use Rattle.rc_stream.specs.laws.Ordered.{not_passed, over, passes-itself, stop}
 use Rattle.rc_stream.specs.laws.Sought.{sought-ordered}

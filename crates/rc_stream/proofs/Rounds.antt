@@ -24,10 +24,12 @@ use Rattle.rc_stream.specs.declared.holding.Turn.{Turn}
 use Rattle.rc_stream.specs.declared.holding.Turn.TheVariants as turn
 use Rattle.rc_stream.specs.Fronts.{front_tomb}
 use Rattle.rc_stream.specs.Stream.{Stream, first_upto, is_upto, rest}
-use Rattle.rc_stream.specs.Merging.{IsInner, IsOrdered, StandsBefore, beside, changes_nothing, joined_head, merged, merged_left, place_of, together}
+use Rattle.rc_stream.specs.Merging.{IsInner, IsOrdered, StandsBefore, changes_nothing, joined_head, merged, merged_left, place_of, together}
+use Rattle.rc_stream.specs.calls.Merging.{beside}
 use Rattle.rc_stream.specs.Places.{bound_of}
-use Rattle.rc_stream.specs.Holding.{TakesTurn, HeldFits, IsStepUpto, TakesFirst, alone, begins_upto, nearer, tomb_behind, behind_first, held, is_near, paired, told, turn_of, whole}
-use Rattle.rc_stream.specs.Moving.{StepSays}
+use Rattle.rc_stream.specs.Holding.{HeldFits, nearer, tomb_behind, held, whole}
+use Rattle.rc_stream.specs.calls.Holding.{TakesTurn, IsStepUpto, TakesFirst, alone, begins_upto, behind_first, is_near, paired, told, turn_of}
+use Rattle.rc_stream.specs.calls.Moving.{StepSays}
 use Rattle.rc_stream.proofs.Held.{upto-beside, upto-together}
 use Rattle.rc_stream.proofs.Merged.{merged-says}
 use Rattle.rc_stream.specs.laws.Ordered.{Place, Lt, before-through, over, place_total, place_same}

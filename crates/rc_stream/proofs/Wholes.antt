@@ -15,16 +15,18 @@ use Rattle.rc_stream.specs.declared.lists.Front.{Front}
 use Rattle.rc_stream.specs.declared.lists.Front.TheVariants as front
 use Rattle.rc_stream.specs.declared.parts.Peeked.{Peeked}
 use Rattle.rc_stream.specs.declared.streams.StreamErr.{StreamErr}
-use Rattle.rc_stream.specs.Calls.{sought_by}
+use Rattle.rc_stream.specs.Leaving.{sought_by}
 use Rattle.rc_stream.specs.Fronts.{front_change}
 use Rattle.rc_stream.specs.Stream.{Stream, first_upto, rest, sought, took}
 use Rattle.rc_mutation.specs.Fragments.{tomb_after}
 use Rattle.rc_stream.specs.Merging.{IsOrdered, StandsBefore, merged}
 use Rattle.rc_stream.specs.Places.{bound_of}
-use Rattle.rc_stream.specs.Holding.{TakesTurn, HeldFits, WentOn, held, looked, passes_held, turn_of, whole}
-use Rattle.rc_stream.specs.Moving.{Holds, IsPutBack, KeepsSeen, Once, StepLeaves, StepSays, look_after}
+use Rattle.rc_stream.specs.Holding.{HeldFits, held, looked, whole}
+use Rattle.rc_stream.specs.calls.Holding.{TakesTurn, WentOn, passes_held, turn_of}
+use Rattle.rc_stream.specs.Moving.{Holds, IsPutBack, KeepsSeen, Once}
+use Rattle.rc_stream.specs.calls.Moving.{StepLeaves, StepSays, look_after}
 use Rattle.rc_stream.specs.Showing.{MergesTwo}
-use Rattle.rc_stream.specs.Both.{IsLookedUpto}
+use Rattle.rc_stream.specs.calls.Both.{IsLookedUpto}
 use Rattle.rc_stream.proofs.Looking.{beyond, first-is, fits-sought, fits-within, none_held, nothing-held, within}
 use Rattle.rc_stream.specs.laws.Ordered.{passes-itself}
 use Rattle.rc_stream.proofs.Rounds.{stepped}

@@ -2,16 +2,14 @@
 --     HoldBoth        both stand for streams that merge to this one
 --     KeepEachOther   the calls of each leave the other one standing
 --     SoughtBoth      so, once a seek that is due was done
-use Rattle.std.specs.Prelude.{◌≡◌, [], Option, Some, None, IfSome}
+use Rattle.std.specs.Prelude.{◌≡◌, Option, Some, None, IfSome}
 use Rattle.rc_position.specs.declared.positions.Pos.{Pos}
-use Rattle.rc_stream.specs.declared.holding.Held.{Held}
 use Rattle.rc_stream.specs.declared.merges.Merge.{Merge}
-use Rattle.rc_stream.specs.declared.parts.Peeked.{Peeked}
 use Rattle.rc_stream.specs.Holding.{held}
 use Rattle.rc_stream.specs.Moving.{Holds, Keeps, KeepsSeen, MaySeek, nothing_held}
-use Rattle.rc_stream.specs.Places.{Reaches, bound_of}
+use Rattle.rc_stream.specs.Places.{Reaches}
 use Rattle.rc_stream.specs.Showing.{EitherSpot, FileSpots, MergesTwo}
-use Rattle.rc_stream.specs.Stream.{Stream, first_upto, sought}
+use Rattle.rc_stream.specs.Stream.{Stream, sought}
 
 -- ---- both
 
@@ -45,16 +43,6 @@ MightBoth might might' m s = MergesTwo (might m.ours.stream) (might' m.theirs.st
 -- what the calls of one of both may name as damaged
 abbrev pub SpotsOfBoth : {A B : Type 0} → (A → FileSpots) → (B → FileSpots) → Merge A B → FileSpots
 SpotsOfBoth damage damage' m file offset = EitherSpot (damage m.ours.stream) (damage' m.theirs.stream) file offset
-
--- ---- both were looked at
-
--- where nothing is held of a stream, nothing of it stands up to x
-abbrev pub IsLookedUpto : Held → Pos → Stream → Type 0
-IsLookedUpto h x s = held h ≡ [] → first_upto x s.left ≡ None
-
--- both stand for streams that merge to this one; ours was looked at up to x, and theirs up to the nearer of x and the first that is held of ours
-abbrev pub LookedBoth : {A B H W : Type 0} → (A → H → W → Stream → Type 0) → (B → H → W → Stream → Type 0) → Merge A B → H → W → Pos → Stream → Type 0
-LookedBoth seen seen' m h w x s = (b : HoldBoth seen seen' m h w s) × IsLookedUpto m.ours.held x b.ours × IsLookedUpto m.theirs.held (bound_of x (held m.ours.held)) b.theirs
 
 -- ---- a seek that is due
 

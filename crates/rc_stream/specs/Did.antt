@@ -45,10 +45,6 @@ InTurn {S} step false s t = (u : S) × Many (step true) s u × ((u ≡ t) ⊎ st
 abbrev pub Deed : Type 0 → Type 0 → Type 0 → Type 1
 Deed S H W = S → H → W → Call → Bool → S → H → W → Type 0
 
--- a call that was made, or was not needed
-abbrev pub OnceDid : {S H W : Type 0} → Deed S H W → S → H → W → Call → Bool → S → H → W → Type 0
-OnceDid did s h w c ok t g v = ((s ≡ t) × (h ≡ g) × (w ≡ v)) ⊎ did s h w c ok t g v
-
 -- two parts, a home and a store, before and after a call of the first part
 abbrev pub OurCall : {A B H W : Type 0} → Deed A H W → Call → Bool → A × B × H × W → A × B × H × W → Type 0
 OurCall did c ok s t = did s.0 s.2 s.3 c ok t.0 t.2 t.3 × (t.1 ≡ s.1)

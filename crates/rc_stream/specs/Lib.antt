@@ -1,5 +1,5 @@
 pub mod Both
-pub mod Calls
+pub mod Leaving
 pub mod Causes
 pub mod Did
 pub mod Fronts
@@ -11,3 +11,4 @@ pub mod Showing
 pub mod Snapshot
 pub mod Stream
 pub mod laws
+pub mod calls

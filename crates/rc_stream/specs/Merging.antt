@@ -97,14 +97,6 @@ joined_head h k = record { pt = greater tomb_cmp h.pt k.pt; statics = joined_row
 unfoldable pub merged : Stream → Stream → Stream
 merged s t = record { head = joined_head s.head t.head; tomb = greater tomb_cmp s.tomb t.tomb; left = merged_left s.tomb s.left t.tomb t.left }
 
--- a fragment that only one of both has at its place, where the other has this tombstone in force
-abbrev pub beside : Option Tomb → Frag → Frag
-beside other (frag.Start pt) = frag.Start pt
-beside other (frag.Static row) = frag.Static row
-beside other (frag.Row key row) = frag.Row key row
-beside other (frag.Change from next) = frag.Change from (greater tomb_cmp next other)
-beside other frag.End = frag.End
-
 -- two fragments at one place as one
 abbrev pub together : Frag → Frag → Frag
 together (frag.Row key row) (frag.Row key' row') = frag.Row key (joined_row (row ∷ row' ∷ []))

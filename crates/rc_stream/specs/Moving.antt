@@ -1,18 +1,13 @@
 -- How a stream and what is held of it go together over a home and a store.
-use Rattle.std.specs.Prelude.{◌≡◌, ◌⊎◌, ℕ, zero, suc, ⊤, Option, Some, None, Result, Ok, Err}
+use Rattle.std.specs.Prelude.{◌≡◌, ◌⊎◌, ℕ, zero, suc, None}
 use Rattle.rc_position.specs.declared.positions.Pos.{Pos}
-use Rattle.rc_mutation.specs.declared.fragments.Frag.{Frag}
-use Rattle.rc_stream.specs.declared.holding.Look.{Look}
 use Rattle.rc_stream.specs.declared.holding.Look.TheVariants as look
 use Rattle.rc_stream.specs.declared.lists.Front.TheVariants as front
-use Rattle.rc_stream.specs.declared.holding.Step.{Step}
-use Rattle.rc_stream.specs.declared.holding.Step.TheVariants as step
 use Rattle.rc_stream.specs.Places.{Reaches}
-use Rattle.rc_stream.specs.Stream.{Stream, first_upto, took}
-use Rattle.rc_stream.specs.declared.streams.StreamErr.{StreamErr}
+use Rattle.rc_stream.specs.Stream.{Stream}
 use Rattle.rc_stream.specs.declared.holding.Held.{Held}
 use Rattle.rc_stream.specs.declared.parts.Peeked.{Peeked}
-use Rattle.rc_stream.specs.Holding.{HeldFits, IsFrom, StepReaches, whole}
+use Rattle.rc_stream.specs.Holding.{HeldFits, IsFrom, whole}
 
 -- nothing is held
 abbrev pub nothing_held : Held
@@ -30,14 +25,6 @@ Once {H} {W} moves h w g v = ((h ≡ g) × (w ≡ v)) ⊎ moves h w g v
 abbrev pub MaySeek : {A : Type 0} → (A → Pos → Type 0) → Peeked A → Pos → Type 0
 MaySeek ahead p x = (y : Pos) → Reaches x y → IsFrom p.held.look y → ahead p.stream y
 
--- what was looked at, after a fragment was taken from the stream, if one was
-abbrev pub look_after : Option Frag → Look → Look
-look_after None l = l
-look_after (Some f) look.Open = look.Next f
-look_after (Some f) (look.Over z) = look.Past z f
-look_after (Some f) (look.Next g) = look.Next f
-look_after (Some f) (look.Past z g) = look.Past z f
-
 -- one of these streams, with what is held put back before it, is this whole one
 pub record IsPutBack (P : Stream → Type 0) (h : Held) (all : Stream) : Type 0 where
   pub stream : Stream
@@ -48,12 +35,6 @@ pub record IsPutBack (P : Stream → Type 0) (h : Held) (all : Stream) : Type 0 
 -- a stream with what is held of it stands for this whole one
 abbrev pub Holds : {A H W : Type 0} → (A → H → W → Stream → Type 0) → Peeked A → H → W → Stream → Type 0
 Holds seen p h w all = IsPutBack (seen p.stream h w) p.held all
-
--- what a step makes of the stream of a merge: nothing stands up to x; a change was passed over; or the first was taken, which stands there
-abbrev pub StepSays : Step → Pos → Stream → Stream → Type 0
-StepSays step.Nothing x s now = (now ≡ s) × (first_upto x s.left ≡ None)
-StepSays step.Passed x s now = now ≡ s
-StepSays (step.Given f) x s now = (first_upto x s.left ≡ Some f) × (now ≡ took (Some f) s)
 
 -- a step of one of two kinds
 abbrev pub Either : {H W : Type 0} → (P Q : H → W → H → W → Type 0) → H → W → H → W → Type 0
@@ -68,13 +49,6 @@ Moves {H} {W} moves (suc n) h w g v = (k : H) × (u : W) × moves h w k u × Mov
 abbrev pub Moved : {H W : Type 0} → (P Q : H → W → H → W → Type 0) → H → W → H → W → Type 0
 Moved P Q h w g v = (n : ℕ) × Moves (Either P Q) n h w g v
 
--- what a step leaves of the stream of a merge, where this holds of what is left; a refused one leaves it as it was
-abbrev pub StepLeaves : Result Step StreamErr → Pos → Stream → (Stream → Type 0) → Type 0
-StepLeaves (Ok step.Nothing) x s now = now s × (first_upto x s.left ≡ None)
-StepLeaves (Ok step.Passed) x s now = now s
-StepLeaves (Ok (step.Given f)) x s now = now (took (Some f) s) × (first_upto x s.left ≡ Some f)
-StepLeaves (Err e) x s now = now s
-
 -- what calls of one part may make of home and store leaves another one standing
 abbrev pub Keeps : {H W X : Type 0} → (H → W → H → W → Type 0) → (X → H → W → Type 0) → Type 0
 Keeps {H} {W} {X} moves stands = (t : X) (h : H) (w : W) (g : H) (v : W) → moves h w g v → stands t h w → stands t g v
@@ -82,8 +56,3 @@ Keeps {H} {W} {X} moves stands = (t : X) (h : H) (w : W) (g : H) (v : W) → mov
 -- what calls of one part may make of home and store leaves each stream that another one stands for
 abbrev pub KeepsSeen : {H W X : Type 0} → (H → W → H → W → Type 0) → (X → H → W → Stream → Type 0) → Type 0
 KeepsSeen {H} {W} {X} moves seen = (t : X) (s : Stream) (h : H) (w : W) (g : H) (v : W) → moves h w g v → seen t h w s → seen t g v s
-
--- x is not before the fragment that a step gave, if it gave one; any x where it was refused
-abbrev pub RoundReaches : Result Step StreamErr → Pos → Type 0
-RoundReaches (Ok s) x = StepReaches s x
-RoundReaches (Err e) x = ⊤

@@ -7,10 +7,12 @@ ghost use Rattle.rc_cell.specs.Winner.{joined_row, first_of};
 ghost use Rattle.rc_mutation.specs.Fragments.{place_order};
 ghost use Rattle.rc_stream.specs.Fronts.{front_change, front_tomb};
 ghost use Rattle.rc_stream.specs.Stream.{rest};
-ghost use Rattle.rc_stream.specs.Merging.{beside, changes_nothing, place_of, same_tomb, together};
-ghost use Rattle.rc_stream.specs.Moving.{look_after};
+ghost use Rattle.rc_stream.specs.Merging.{changes_nothing, place_of, same_tomb, together};
+ghost use Rattle.rc_stream.specs.calls.Merging.{beside};
+ghost use Rattle.rc_stream.specs.calls.Moving.{look_after};
 ghost use Rattle.rc_stream.specs.Places.{bound_of};
-ghost use Rattle.rc_stream.specs.Holding.{TakesTurn, TakesFirst, WentOn, alone, begins_upto, behind_first, dropped, held, is_near, look_passed, look_taken, looked, nearer, paired, passed_over, passes_held, row_of, row_of_both, told, turn_between, turn_of};
+ghost use Rattle.rc_stream.specs.Holding.{held, looked, nearer, turn_between};
+ghost use Rattle.rc_stream.specs.calls.Holding.{TakesTurn, TakesFirst, WentOn, alone, begins_upto, behind_first, dropped, is_near, look_passed, look_taken, paired, passed_over, passes_held, row_of, row_of_both, told, turn_of};
 
 use crate::lists::{Front, front_at, passes, row_pos, stands_upto, tomb_after};
 use rc_cell::{Row, Tomb};

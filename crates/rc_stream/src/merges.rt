@@ -2,12 +2,14 @@
 ghost use Rattle.std.specs.Prelude.{◌≡◌, None, Some, IfOk, IfSome, IsTrue, OnOk};
 ghost use Rattle.rc_outside.specs.Files.{HoldsSameFiles};
 ghost use Rattle.rc_position.specs.declared.positions.Pos.{Pos};
-ghost use Rattle.rc_stream.specs.Both.{AheadOfBoth, BothFresh, BothReady, HoldBoth, IsDueAhead, KeepEachOther, LookedBoth, MaySeekBoth, MightBoth, SoughtBoth, SpotsOfBoth};
-ghost use Rattle.rc_stream.specs.Calls.{left_by};
+ghost use Rattle.rc_stream.specs.Both.{AheadOfBoth, BothFresh, BothReady, HoldBoth, IsDueAhead, KeepEachOther, MaySeekBoth, MightBoth, SoughtBoth, SpotsOfBoth};
+ghost use Rattle.rc_stream.specs.calls.Both.{LookedBoth};
+ghost use Rattle.rc_stream.specs.Leaving.{left_by};
 ghost use Rattle.rc_stream.specs.Causes.{Caused};
 ghost use Rattle.rc_stream.specs.Did.{InTurn, ReachesEnd, HeadsOnce, IsNewMerge, OneCall, answered, merge_state};
-ghost use Rattle.rc_stream.specs.Holding.{IsStepUpto};
-ghost use Rattle.rc_stream.specs.Moving.{Moved, RoundReaches, StepLeaves};
+ghost use Rattle.rc_stream.specs.calls.Holding.{IsStepUpto};
+ghost use Rattle.rc_stream.specs.Moving.{Moved};
+ghost use Rattle.rc_stream.specs.calls.Moving.{RoundReaches, StepLeaves};
 ghost use Rattle.rc_stream.specs.Merging.{joined_head};
 ghost use Rattle.rc_stream.specs.Places.{Passes};
 ghost use Rattle.rc_stream.specs.Showing.{Blames, ShowsOne};

@@ -2,11 +2,12 @@
 ghost use Rattle.std.specs.Prelude.{◌≡◌, [], None, OnOk};
 ghost use Rattle.rc_outside.specs.Files.{HoldsSameFiles};
 ghost use Rattle.rc_position.specs.declared.positions.Pos.{Pos};
-ghost use Rattle.rc_stream.specs.Both.{IsLookedUpto};
-ghost use Rattle.rc_stream.specs.Calls.{sought_by};
+ghost use Rattle.rc_stream.specs.calls.Both.{IsLookedUpto};
+ghost use Rattle.rc_stream.specs.Leaving.{sought_by};
 ghost use Rattle.rc_stream.specs.Causes.{Caused};
 ghost use Rattle.rc_stream.specs.Holding.{held};
-ghost use Rattle.rc_stream.specs.Did.{ReachesEnd, OnceDid, answered, Call.OfNext, Call.OfSeek};
+ghost use Rattle.rc_stream.specs.Did.{ReachesEnd, answered, Call.OfNext, Call.OfSeek};
+ghost use Rattle.rc_stream.specs.calls.Did.{OnceDid};
 ghost use Rattle.rc_stream.specs.Moving.{Holds, MaySeek, Once, unpeeked};
 ghost use Rattle.rc_stream.specs.Showing.{Blames};
 ghost use Rattle.rc_stream.specs.Stream.{Stream};

@@ -38,7 +38,7 @@ impl From<AllocError> for StreamErr {
 pub trait Frags<H, W: Store> {
     ghost use Rattle.std.specs.Prelude.{◌≡◌, ℕ, Bool};
     ghost use Rattle.rc_position.specs.declared.positions.Pos.{Pos};
-    ghost use Rattle.rc_stream.specs.Calls.{left_by, sought_by};
+    ghost use Rattle.rc_stream.specs.Leaving.{left_by, sought_by};
     ghost use Rattle.rc_stream.specs.Did.{Call, ReachesEnd, answered, Call.OfHead, Call.OfNext, Call.OfSeek};
     ghost use Rattle.rc_stream.specs.Causes.{Caused};
     ghost use Rattle.rc_stream.specs.Stream.{Stream, first_upto, is_upto};

@@ -4,7 +4,7 @@ use Rattle.std.specs.Prelude.{◌≡◌, ◌≤◌, ◌+◌, ℕ, Bool, Option, 
 use Rattle.rc_position.specs.declared.positions.Pos.{Pos}
 use Rattle.rc_mutation.specs.declared.fragments.Frag.{Frag}
 use Rattle.rc_mutation.specs.declared.fragments.Head.{Head}
-use Rattle.rc_stream.specs.Calls.{left_by, sought_by}
+use Rattle.rc_stream.specs.Leaving.{left_by, sought_by}
 use Rattle.rc_stream.specs.Stream.{Stream, first_upto, sought, took}
 use Rattle.rc_stream.specs.declared.streams.StreamErr.{StreamErr}
 use Rattle.rc_tables.specs.Streams.{DidAsk, Lazy, MayBe, Settled, asks_left, to_ask}

@@ -2,7 +2,7 @@
 
 ghost use Rattle.std.specs.Prelude.{◌≡◌, ◌≤◌, ◌+◌, ◌*◌, IfErr, IfOk, IfSome, IsSome, IsTrue, None, OnOk, Some};
 ghost use Rattle.rc_outside.specs.Files.{HoldsSameFiles};
-ghost use Rattle.rc_stream.specs.Calls.{left_by, sought_by};
+ghost use Rattle.rc_stream.specs.Leaving.{left_by, sought_by};
 ghost use Rattle.rc_stream.specs.Causes.{Caused};
 ghost use Rattle.rc_stream.specs.Stream.{Stream, first_upto, is_upto, sought, took};
 ghost use Rattle.rc_tables.specs.Located.{WhereTold};

@@ -2,7 +2,7 @@
 use Rattle.std.specs.Prelude.{◌≡◌, IfSome, IsTrue}
 use Rattle.std.proofs.Common.{Ok, true, false, refl, sym, ap, ◌∙◌, subst, inl, inr}
 use Rattle.rc_position.specs.declared.positions.Pos.{Pos}
-use Rattle.rc_stream.specs.Calls.{left_by}
+use Rattle.rc_stream.specs.Leaving.{left_by}
 use Rattle.rc_stream.specs.Did.{OfNext, ReachesEnd}
 use Rattle.rc_stream.specs.Places.{Reaches}
 use Rattle.rc_stream.specs.Stream.{first_upto, is_upto}

@@ -1,6 +1,6 @@
 -- What stands below at the place is taken.
 use Rattle.std.proofs.Common.{Ok, true, false, refl, sym, ap, ◌∙◌, subst, inl, inr}
-use Rattle.rc_stream.specs.Calls.{left_by}
+use Rattle.rc_stream.specs.Leaving.{left_by}
 use Rattle.rc_stream.specs.Did.{OfNext}
 use Rattle.rc_stream.specs.Places.{Reaches}
 use Rattle.rc_cacheread.specs.declared.readers.Stage.TheVariants.{Sought, Within}

@@ -3,7 +3,8 @@ use Rattle.std.proofs.Common.{sym, ap, ◌∙◌, subst, cond}
 use Rattle.rc_cell.specs.Greatest.{greater}
 use Rattle.rc_cell.specs.Orders.{tomb_cmp}
 use Rattle.rc_stream.specs.Merging.{changes_nothing, together}
-use Rattle.rc_stream.specs.Holding.{TakesFirst, dropped, held, row_of_both, told}
+use Rattle.rc_stream.specs.Holding.{held}
+use Rattle.rc_stream.specs.calls.Holding.{TakesFirst, dropped, row_of_both, told}
 use Rattle.rc_stream.proofs.Held.{no_ours, no_theirs, one-place, paired-is, took-one, dropped-together, silent-ours, silent-theirs, place-together, row-first}
 use Rattle.rc_stream.proofs.holding.step_both.Goals as goal
 

@@ -3,8 +3,8 @@ use Rattle.std.specs.Prelude.{IfOk}
 use Rattle.std.proofs.Common.{sym, ap, ◌∙◌, subst, Ok, None, true, false, arith}
 use Rattle.rc_stream.specs.Both.{HoldBoth, SpotsOfBoth}
 use Rattle.rc_stream.specs.Did.{InTurn, OneCall, answered, merge_state}
-use Rattle.rc_stream.specs.Holding.{IsStepUpto}
-use Rattle.rc_stream.specs.Moving.{RoundReaches, StepLeaves}
+use Rattle.rc_stream.specs.calls.Holding.{IsStepUpto}
+use Rattle.rc_stream.specs.calls.Moving.{RoundReaches, StepLeaves}
 use Rattle.rc_stream.proofs.Blaming.{blames-later}
 use Rattle.rc_stream.proofs.Chains.{chain-after, chain-stopped, many-many}
 use Rattle.rc_stream.proofs.Ending.{covers-on}

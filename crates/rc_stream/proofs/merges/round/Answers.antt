@@ -3,7 +3,8 @@ use Rattle.std.proofs.Common.{sym, subst, None}
 use Rattle.rc_stream.specs.declared.holding.Held.{Held}
 use Rattle.rc_stream.specs.Both.{SpotsOfBoth}
 use Rattle.rc_stream.specs.Did.{OneCall, merge_state}
-use Rattle.rc_stream.specs.Holding.{held, turn_of}
+use Rattle.rc_stream.specs.Holding.{held}
+use Rattle.rc_stream.specs.calls.Holding.{turn_of}
 use Rattle.rc_stream.specs.Moving.{Holds, IsPutBack}
 use Rattle.rc_stream.proofs.Blaming.{blames-err, blames-memory, blames-ok}
 use Rattle.rc_stream.proofs.Chains.{chain-stopped}

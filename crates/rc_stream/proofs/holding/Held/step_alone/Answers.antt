@@ -2,8 +2,10 @@
 use Rattle.std.proofs.Common.{sym, ap, ◌∙◌, subst, cond}
 use Rattle.rc_cell.specs.Greatest.{greater}
 use Rattle.rc_cell.specs.Orders.{tomb_cmp}
-use Rattle.rc_stream.specs.Merging.{beside, changes_nothing}
-use Rattle.rc_stream.specs.Holding.{TakesFirst, dropped, held, told}
+use Rattle.rc_stream.specs.Merging.{changes_nothing}
+use Rattle.rc_stream.specs.calls.Merging.{beside}
+use Rattle.rc_stream.specs.Holding.{held}
+use Rattle.rc_stream.specs.calls.Holding.{TakesFirst, dropped, told}
 use Rattle.rc_stream.proofs.Held.{alone-is, took-none, took-one, dropped-beside, silent-beside, place-beside}
 use Rattle.rc_stream.proofs.holding.Held.step_alone.Goals as goal
 

@@ -1,7 +1,7 @@
 -- The calls of a seek that was due, and those of the rounds.
 use Rattle.std.proofs.Common.{◌∙◌, None}
 use Rattle.rc_stream.specs.Both.{HoldBoth, MaySeekBoth, SoughtBoth, SpotsOfBoth}
-use Rattle.rc_stream.specs.Calls.{left_by}
+use Rattle.rc_stream.specs.Leaving.{left_by}
 use Rattle.rc_stream.specs.Did.{OneCall, answered, merge_state}
 use Rattle.rc_stream.proofs.Blaming.{blames-after, blames-err}
 use Rattle.rc_stream.proofs.Chains.{also-due, chain-after, chain-on}
