@@ -36,7 +36,7 @@ module _ {S : Type 0} (step : Bool → S → S → Type 0) where
 -- ---- what calls ask for
 
 module _ {S H W : Type 0} (did : Deed S H W) (asks : W → ℕ) where
-  abbrev State : Type 0
+  abbrev pub State : Type 0
   State = S × H × W
 
   module _ (left : S → ℕ) (sp : Spends did left asks) where
@@ -62,7 +62,7 @@ module _ {S H W : Type 0} (did : Deed S H W) (asks : W → ℕ) where
     opened-refused x s t (inr c) = omega (arith, sp.answered s.0 s.1 s.2 OfHead c.0.0 c.0.1 c.0.2 c.1, sought x c.0 t c.2)
 
   module _ (settled : S → Bool) (q : IsQuiet did settled asks) where
-    abbrev Keeps : State → State → Type 0
+    abbrev pub Keeps : State → State → Type 0
     Keeps s t = IsTrue (settled s.0) → (asks t.2 ≡ asks s.2) × IsTrue (settled t.0)
 
     pub read-quiet : (y : Pos) (ok : Bool) (s t : State) → InTurn (OneStep did (OfNext y)) ok s t → Keeps s t

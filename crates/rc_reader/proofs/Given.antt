@@ -13,10 +13,10 @@ use Rattle.rc_reader.proofs.Holding.{Seen}
 
 -- ---- of lists: what is left is made, or more than so many are made of it
 
-abbrev Lines : Type 0
+abbrev pub Lines : Type 0
 Lines = List OutLine
 
-abbrev IsMade : ℕ → Lines → Lines → Type 0
+abbrev pub IsMade : ℕ → Lines → Lines → Type 0
 IsMade n made lines = IsTrue (nat_lt n (length made)) ⊎ (lines ≡ made)
 
 taken-list : (n : ℕ) (made others lines : Lines) → lines ≡ made ++ others → IsMade n made lines → take n made ≡ take n lines

@@ -1,5 +1,5 @@
 -- What is left to a reader while its stream and its work go on.
-use Rattle.std.specs.Prelude.{◌≡◌, ◌⊎◌, ◌<◌, ◌≤◌, ℕ, List, [], ◌∷◌, ◌++◌, length, Option, Some, None}
+use Rattle.std.specs.Prelude.{◌≡◌, ◌⊎◌, ◌<◌, ◌≤◌, ℕ, true, false, IsSome, is_some, List, [], ◌∷◌, ◌++◌, length, Option, Some, None}
 use Rattle.std.proofs.Common.{refl, sym, ap, ◌∙◌, subst, append-nil, arith, inl, inr}
 use Rattle.std.specs.Option.{option_to_list}
 use Rattle.rc_position.specs.declared.positions.Pos.{Pos}
@@ -43,43 +43,66 @@ pub goes-put : (P : Seen) (w v : Work) → ((x : Pos) (fs : List Frag) → lengt
 goes-put P w v same to y n few (inl r) = inl (subst (λ x. Reaches x y) (sym to) r)
 goes-put P w v same to y n few (inr h) = inr (h.0, h.1, subst (λ ls. n < length ls) (sym (same y h.0.left (omega (arith, few, h.2)))) h.2)
 
--- ---- the first of the stream is taken
+-- ---- the stream is asked for its next
 
--- a work with this fragment taken, where none was
-pub record HasTaken (w v : Work) (f : Frag) : Type 0 where
+-- a work with what the stream gave, where nothing was taken
+pub record HasGot (w v : Work) (got : Option Frag) : Type 0 where
   pub idle : w.taken ≡ None
-  pub taken : v.taken ≡ Some f
+  pub taken : v.taken ≡ got
   pub compactor : v.compactor ≡ w.compactor
   pub lines : v.lines.items ≡ w.lines.items
   pub to : v.to ≡ w.to
 
-taken-lines : (w v : Work) (f : Frag) → HasTaken w v f → (x : Pos) (fs : List Frag) → fs ≡ f ∷ rest fs → lines_before x w fs ≡ lines_before x v (rest fs)
-taken-lines w v f t x fs is =
-    (λ i. w.lines.items ++ compacted w.compactor.0.pt w.compactor.1 (until x (option_to_list (t.idle i) ++ is i)))
-    ∙ sym (λ i. t.lines i ++ compacted (t.compactor i).0.pt (t.compactor i).1 (until x (option_to_list (t.taken i) ++ rest fs)))
+-- what is left of fragments behind what was given
+abbrev behind : Option Frag → List Frag → List Frag
+behind None fs = fs
+behind (Some f) fs = rest fs
 
-pub left-taken : (P Q : Seen) (w v : Work) (f : Frag) → HasTaken w v f → ((s : Stream) → P s → Some f ≡ first_upto w.to s.left) → ((s : Stream) → P s → Q (took (Some f) s)) →
-    (lines : List OutLine) → HasLeft P w lines → HasLeft Q v lines
-left-taken P Q w v f t first on lines h = record {
-  stream = took (Some f) h.stream;
-  stands = on h.stream h.stands;
-  are = h.are ∙ taken-lines w v f t w.to h.stream.left (first-is w.to f h.stream.left (first h.stream h.stands)) ∙ ap (λ x. lines_before x v (rest h.stream.left)) (sym t.to);
-}
+split : (x : Pos) (got : Option Frag) (fs : List Frag) → got ≡ first_upto x fs → fs ≡ option_to_list got ++ behind got fs
+split x None fs e = refl
+split x (Some f) fs e = first-is x f fs e
 
-pub goes-taken : (P Q : Seen) (w v : Work) (f : Frag) → HasTaken w v f → ((s : Stream) → P s → Some f ≡ first_upto w.to s.left) → ((s : Stream) → P s → Q (took (Some f) s)) →
-    (y : Pos) (n : ℕ) → GoesNoFurther P w n y → GoesNoFurther Q v n y
-goes-taken P Q w v f t first on y n (inl r) = inl (subst (λ x. Reaches x y) (sym t.to) r)
-goes-taken P Q w v f t first on y n (inr h) =
-    inr (took (Some f) h.0, on h.0 h.1, subst (λ ls. n < length ls) (taken-lines w v f t y h.0.left (first-is w.to f h.0.left (first h.0 h.1))) h.2)
+took-left : (got : Option Frag) (s : Stream) → (took got s).left ≡ behind got s.left
+took-left None s = refl
+took-left (Some f) s = refl
 
--- ---- none is left up to the end of the slice
+got-lines : (w v : Work) (got : Option Frag) → HasGot w v got → (x : Pos) (s : Stream) → got ≡ first_upto w.to s.left → lines_before x w s.left ≡ lines_before x v (took got s).left
+got-lines w v got t x s first =
+    (λ i. w.lines.items ++ compacted w.compactor.0.pt w.compactor.1 (until x (option_to_list (t.idle i) ++ split w.to got s.left first i)))
+    ∙ sym (λ i. t.lines i ++ compacted (t.compactor i).0.pt (t.compactor i).1 (until x (option_to_list (t.taken i) ++ took-left got s i)))
 
-pub ended : (P : Seen) (w : Work) → w.taken ≡ None → ((s : Stream) → P s → None ≡ first_upto w.to s.left) → (lines : List OutLine) → HasLeft P w lines → lines ≡ w.lines.items
-ended P w idle none lines h =
+module _ (P Q : Seen) (w v : Work) (got : Option Frag) (t : HasGot w v got) (first : (s : Stream) → P s → got ≡ first_upto w.to s.left) (on : (s : Stream) → P s → Q (took got s)) where
+  pub left-got : (lines : List OutLine) → HasLeft P w lines → HasLeft Q v lines
+  left-got lines h = record {
+    stream = took got h.stream;
+    stands = on h.stream h.stands;
+    are = h.are ∙ got-lines w v got t w.to h.stream (first h.stream h.stands) ∙ ap (λ x. lines_before x v (took got h.stream).left) (sym t.to);
+  }
+
+  pub goes-got : (y : Pos) (n : ℕ) → GoesNoFurther P w n y → GoesNoFurther Q v n y
+  goes-got y n (inl r) = inl (subst (λ x. Reaches x y) (sym t.to) r)
+  goes-got y n (inr h) = inr (took got h.0, on h.0 h.1, subst (λ ls. n < length ls) (got-lines w v got t y h.0 (first h.0 h.1)) h.2)
+
+-- none is left up to the end of the slice
+none-there : (got : Option Frag) → is_some got ≡ false → got ≡ None
+none-there None e = refl
+none-there (Some f) e = absurd (cc)
+
+pub ended : (P : Seen) (w v : Work) (got : Option Frag) → HasGot w v got → is_some v.taken ≡ false → ((s : Stream) → P s → got ≡ first_upto w.to s.left) → (lines : List OutLine) → HasLeft P w lines → lines ≡ v.lines.items
+ended P w v got t none first lines h =
+    let nothing : got ≡ None = none-there got (ap is_some (sym t.taken) ∙ none) in
     h.are
-    ∙ (λ i. w.lines.items ++ compacted w.compactor.0.pt w.compactor.1 (until w.to (option_to_list (idle i) ++ h.stream.left)))
-    ∙ ap (λ fs. w.lines.items ++ compacted w.compactor.0.pt w.compactor.1 fs) (none-left w.to h.stream.left (none h.stream h.stands))
+    ∙ (λ i. w.lines.items ++ compacted w.compactor.0.pt w.compactor.1 (until w.to (option_to_list (t.idle i) ++ h.stream.left)))
+    ∙ ap (λ fs. w.lines.items ++ compacted w.compactor.0.pt w.compactor.1 fs) (none-left w.to h.stream.left (sym nothing ∙ first h.stream h.stands))
     ∙ append-nil w.lines.items
+    ∙ sym t.lines
+
+pub is-there : (o : Option Frag) → is_some o ≡ true → IsSome o
+is-there None e = absurd (cc)
+is-there (Some f) e = refl
+
+pub not-there : (o : Option Frag) → is_some o ≡ false → o ≡ None
+not-there o e = none-there o e
 
 pub all-made : (P : Seen) (w : Work) (made : List OutLine) → ((fs : List Frag) → lines_before w.to w fs ≡ made) → (lines : List OutLine) → HasLeft P w lines → lines ≡ made
 all-made P w made is lines h = h.are ∙ is h.stream.left

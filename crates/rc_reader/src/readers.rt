@@ -167,11 +167,10 @@ fn fetch<H, W: Store, S: Frags<H, W>>(
         return Ok(true);
     }
     match stream.next(alloc, home, store, &work.to) {
-        Ok(Some(frag)) => {
-            work.taken = Some(frag);
-            Ok(true)
+        Ok(got) => {
+            work.taken = got;
+            Ok(work.taken.is_some())
         }
-        Ok(None) => Ok(false),
         Err(error) => Err(error),
     }
 }
