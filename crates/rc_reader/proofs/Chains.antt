@@ -4,7 +4,7 @@ use Rattle.std.proofs.Common.{refl, sym, ◌∙◌, subst, arith, inl, inr}
 use Rattle.rc_position.specs.declared.positions.Pos.{Pos}
 use Rattle.rc_stream.specs.Did.{InTurn, Deed, IsQuiet, Many, Spends, StepsInTurn, Call.OfHead, Call.OfNext, Call.OfSeek}
 use Rattle.rc_stream.specs.laws.Spent.{chain-answered, chain-keeps, chain-refused}
-use Rattle.rc_reader.specs.Steps.{OneStep, Opening}
+use Rattle.rc_reader.specs.Steps.{OneStep, OpenCalls}
 
 module _ {S : Type 0} (step : Bool → S → S → Type 0) where
   pub many-none : (s : S) → Many (step true) s s
@@ -50,14 +50,14 @@ module _ {S H W : Type 0} (did : Deed S H W) (asks : W → ℕ) where
         chain-refused (OneStep did (OfNext y)) (λ z. asks z.2 + left z.0) (λ z. asks z.2)
         (λ u v d. sp.answered u.0 u.1 u.2 (OfNext y) v.0 v.1 v.2 d) (λ u v d. sp.refused u.0 u.1 u.2 (OfNext y) v.0 v.1 v.2 d) (λ z. omega arith) s t c
 
-    pub opened-answered : (x : Pos) (s t : State) → Opening did x true s t → asks t.2 + left t.0 ≤ asks s.2 + left s.0
+    pub opened-answered : (x : Pos) (s t : State) → OpenCalls did x true s t → asks t.2 + left t.0 ≤ asks s.2 + left s.0
     opened-answered x s t c = omega (arith, sp.answered s.0 s.1 s.2 OfHead c.0.0 c.0.1 c.0.2 c.1, sp.answered c.0.0 c.0.1 c.0.2 (OfSeek x) t.0 t.1 t.2 c.2)
 
     sought : (x : Pos) (u t : State) → (u ≡ t) ⊎ OneStep did (OfSeek x) false u t → asks t.2 ≤ asks u.2 + left u.0
     sought x u t (inl e) = subst (λ z. asks z.2 ≤ asks u.2 + left u.0) e (omega arith)
     sought x u t (inr d) = sp.refused u.0 u.1 u.2 (OfSeek x) t.0 t.1 t.2 d
 
-    pub opened-refused : (x : Pos) (s t : State) → Opening did x false s t → asks t.2 ≤ asks s.2 + left s.0
+    pub opened-refused : (x : Pos) (s t : State) → OpenCalls did x false s t → asks t.2 ≤ asks s.2 + left s.0
     opened-refused x s t (inl d) = sp.refused s.0 s.1 s.2 OfHead t.0 t.1 t.2 d
     opened-refused x s t (inr c) = omega (arith, sp.answered s.0 s.1 s.2 OfHead c.0.0 c.0.1 c.0.2 c.1, sought x c.0 t c.2)
 
@@ -70,5 +70,5 @@ module _ {S H W : Type 0} (did : Deed S H W) (asks : W → ℕ) where
         chain-keeps (OneStep did (OfNext y)) Keeps (λ z a. (refl, a)) (λ u v w k l a. (let p = k a in let r = l p.1 in (r.0 ∙ p.0, r.1)))
         (λ b u v d a. q.quiet u.0 u.1 u.2 (OfNext y) b v.0 v.1 v.2 a d) ok s t c
 
-    pub opened-quiet : (x : Pos) (s t : State) → Opening did x true s t → IsTrue (settled t.0)
+    pub opened-quiet : (x : Pos) (s t : State) → OpenCalls did x true s t → IsTrue (settled t.0)
     opened-quiet x s t c = (q.quiet c.0.0 c.0.1 c.0.2 (OfSeek x) true t.0 t.1 t.2 (q.head s.0 s.1 s.2 c.0.0 c.0.1 c.0.2 c.1) c.2).1

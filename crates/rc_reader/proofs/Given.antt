@@ -1,12 +1,12 @@
 -- What a read gives of the lines that are left, by those that are made.
 use Rattle.std.specs.Prelude.{◌≡◌, ◌⊎◌, ◌<◌, ◌≤◌, ◌+◌, ℕ, true, IsTrue, List, [], ◌++◌, length, take, drop, nat_lt}
-use Rattle.std.proofs.Common.{refl, sym, ap, ◌∙◌, subst, arith, inl, inr, length-append, drop-nil}
+use Rattle.std.proofs.Common.{refl, sym, ap, ◌∙◌, subst, arith, inl, inr, length-append}
 use Rattle.std.proofs.lemmas.Bool.{lt-ltb, ltb-true}
 use Rattle.std.proofs.lemmas.List.{append_cancel_left, append-nil, drop-append-le, take-append-le}
 use Rattle.std.specs.Option.{option_to_list}
 use Rattle.rc_query.specs.declared.lines.OutLine.{OutLine}
 use Rattle.rc_query.specs.Compacting.{compacted}
-use Rattle.rc_reader.specs.Left.{HasLeft, lines_before, until}
+use Rattle.rc_reader.specs.Left.{Remains, lines_before, until}
 use Rattle.rc_reader.specs.calls.Making.{AreEnough}
 use Rattle.rc_reader.specs.declared.work.Work.{Work}
 use Rattle.rc_reader.proofs.Holding.{Seen}
@@ -38,21 +38,21 @@ left-list n made others lines e (inr s) =
 
 -- ---- of works
 
-others_of : (P : Seen) (v : Work) (lines : Lines) → HasLeft P v lines → Lines
+abbrev others_of : (P : Seen) (v : Work) (lines : Lines) → Remains P v lines → Lines
 others_of P v lines h = compacted v.compactor.0.pt v.compactor.1 (until v.to (option_to_list v.taken ++ h.stream.left))
 
-made-is : (n : ℕ) (P : Seen) (w v : Work) → AreEnough n (HasLeft P w) v.lines.items → (lines : Lines) → HasLeft P w lines → IsMade n v.lines.items lines
+made-is : (n : ℕ) (P : Seen) (w v : Work) → AreEnough n (Remains P w) v.lines.items → (lines : Lines) → Remains P w lines → IsMade n v.lines.items lines
 made-is n P w v (inl t) lines h = inl t
 made-is n P w v (inr all) lines h = inr (all lines h)
 
-module _ (n : ℕ) (P Q : Seen) (w v : Work) (on : (lines : Lines) → HasLeft P w lines → HasLeft Q v lines) (enough : AreEnough n (HasLeft P w) v.lines.items) where
-  pub gives : (lines : Lines) → HasLeft P w lines → take n v.lines.items ≡ take n lines
+module _ (n : ℕ) (P Q : Seen) (w v : Work) (on : (lines : Lines) → Remains P w lines → Remains Q v lines) (enough : AreEnough n (Remains P w) v.lines.items) where
+  pub gives : (lines : Lines) → Remains P w lines → take n v.lines.items ≡ take n lines
   gives lines h = let k = on lines h in taken-list n v.lines.items (others_of Q v lines k) lines k.are (made-is n P w v enough lines h)
 
-  pub tells : (lines : Lines) → HasLeft P w lines → nat_lt n (length v.lines.items) ≡ nat_lt n (length lines)
+  pub tells : (lines : Lines) → Remains P w lines → nat_lt n (length v.lines.items) ≡ nat_lt n (length lines)
   tells lines h = let k = on lines h in more-list n v.lines.items (others_of Q v lines k) lines k.are (made-is n P w v enough lines h)
 
-  pub leaves : (u : Work) → u.taken ≡ v.taken → u.compactor ≡ v.compactor → u.to ≡ v.to → u.lines.items ≡ drop n v.lines.items → (lines : Lines) → HasLeft P w lines → HasLeft Q u (drop n lines)
+  pub leaves : (u : Work) → u.taken ≡ v.taken → u.compactor ≡ v.compactor → u.to ≡ v.to → u.lines.items ≡ drop n v.lines.items → (lines : Lines) → Remains P w lines → Remains Q u (drop n lines)
   leaves u t c to l lines h = let k = on lines h in record {
     stream = k.stream;
     stands = k.stands;

@@ -12,7 +12,7 @@ use Rattle.rc_stream.specs.Did.{ReachesEnd}
 use Rattle.rc_stream.specs.Places.{Reaches}
 use Rattle.rc_stream.specs.Showing.{ShowsOne}
 use Rattle.rc_stream.specs.Stream.{Stream, first_upto, rest, sought, took}
-use Rattle.rc_reader.specs.Left.{HasLeft, LeavesOne, lines_before, slice_lines, until}
+use Rattle.rc_reader.specs.Left.{Remains, LeavesOne, lines_before, slice_lines, until}
 use Rattle.rc_reader.specs.Steps.{GoesNoFurther}
 use Rattle.rc_reader.specs.declared.work.Work.{Work}
 use Rattle.rc_reader.proofs.Putting.{first-is, near, none-left}
@@ -22,7 +22,7 @@ Seen = Stream → Type 0
 
 -- ---- the stream alone goes on
 
-pub left-on : (P Q : Seen) (w : Work) → ((s : Stream) → P s → Q s) → (lines : List OutLine) → HasLeft P w lines → HasLeft Q w lines
+pub left-on : (P Q : Seen) (w : Work) → ((s : Stream) → P s → Q s) → (lines : List OutLine) → Remains P w lines → Remains Q w lines
 left-on P Q w on lines h = record { stream = h.stream; stands = on h.stream h.stands; are = h.are }
 
 pub goes-on : (P Q : Seen) (w : Work) → ((s : Stream) → P s → Q s) → (y : Pos) (n : ℕ) → GoesNoFurther P w n y → GoesNoFurther Q w n y
@@ -31,7 +31,7 @@ goes-on P Q w on y n (inr h) = inr (h.0, on h.0 h.1, h.2)
 
 -- ---- the work alone goes on
 
-pub left-put : (P : Seen) (w v : Work) → ((fs : List Frag) → lines_before w.to v fs ≡ lines_before w.to w fs) → v.to ≡ w.to → (lines : List OutLine) → HasLeft P w lines → HasLeft P v lines
+pub left-put : (P : Seen) (w v : Work) → ((fs : List Frag) → lines_before w.to v fs ≡ lines_before w.to w fs) → v.to ≡ w.to → (lines : List OutLine) → Remains P w lines → Remains P v lines
 left-put P w v same to lines h = record {
   stream = h.stream;
   stands = h.stands;
@@ -72,7 +72,7 @@ got-lines w v got t x s first =
     ∙ sym (λ i. t.lines i ++ compacted (t.compactor i).0.pt (t.compactor i).1 (until x (option_to_list (t.taken i) ++ took-left got s i)))
 
 module _ (P Q : Seen) (w v : Work) (got : Option Frag) (t : HasGot w v got) (first : (s : Stream) → P s → got ≡ first_upto w.to s.left) (on : (s : Stream) → P s → Q (took got s)) where
-  pub left-got : (lines : List OutLine) → HasLeft P w lines → HasLeft Q v lines
+  pub left-got : (lines : List OutLine) → Remains P w lines → Remains Q v lines
   left-got lines h = record {
     stream = took got h.stream;
     stands = on h.stream h.stands;
@@ -88,7 +88,7 @@ none-there : (got : Option Frag) → is_some got ≡ false → got ≡ None
 none-there None e = refl
 none-there (Some f) e = absurd (cc)
 
-pub ended : (P : Seen) (w v : Work) (got : Option Frag) → HasGot w v got → is_some v.taken ≡ false → ((s : Stream) → P s → got ≡ first_upto w.to s.left) → (lines : List OutLine) → HasLeft P w lines → lines ≡ v.lines.items
+pub ended : (P : Seen) (w v : Work) (got : Option Frag) → HasGot w v got → is_some v.taken ≡ false → ((s : Stream) → P s → got ≡ first_upto w.to s.left) → (lines : List OutLine) → Remains P w lines → lines ≡ v.lines.items
 ended P w v got t none first lines h =
     let nothing : got ≡ None = none-there got (ap is_some (sym t.taken) ∙ none) in
     h.are
@@ -104,7 +104,7 @@ is-there (Some f) e = refl
 pub not-there : (o : Option Frag) → is_some o ≡ false → o ≡ None
 not-there o e = none-there o e
 
-pub all-made : (P : Seen) (w : Work) (made : List OutLine) → ((fs : List Frag) → lines_before w.to w fs ≡ made) → (lines : List OutLine) → HasLeft P w lines → lines ≡ made
+pub all-made : (P : Seen) (w : Work) (made : List OutLine) → ((fs : List Frag) → lines_before w.to w fs ≡ made) → (lines : List OutLine) → Remains P w lines → lines ≡ made
 all-made P w made is lines h = h.are ∙ is h.stream.left
 
 -- ---- how far the stream is asked
@@ -122,9 +122,9 @@ reaches-end P w y n few (inr h) idle =
 -- ---- the beginning
 
 -- a work at its beginning, under this head
-pub record IsBegun (head : Head) (to : Pos) (w : Work) : Type 0 where
-  pub lines : (fs : List Frag) → lines_before to w fs ≡ compacted_all head (until to fs)
-  pub to : w.to ≡ to
+pub record IsBegun (head : Head) (end : Pos) (w : Work) : Type 0 where
+  pub lines : (fs : List Frag) → lines_before end w fs ≡ compacted_all head (until end fs)
+  pub to : w.to ≡ end
 
 begun-lines : (head : Head) (slice : Slice) (w : Work) → IsBegun head slice.to w → (s : Stream) → head ≡ s.head → slice_lines slice s ≡ lines_before w.to w (sought slice.from s).left
 begun-lines head slice w b s e =
@@ -132,10 +132,10 @@ begun-lines head slice w b s e =
     ∙ sym (b.lines (sought slice.from s).left)
     ∙ ap (λ x. lines_before x w (sought slice.from s).left) (sym b.to)
 
-pub left-begun : (P : Seen) (head : Head) (slice : Slice) (w : Work) → IsBegun head slice.to w → (s : Stream) → head ≡ s.head → P (sought slice.from s) → HasLeft P w (slice_lines slice s)
+pub left-begun : (P : Seen) (head : Head) (slice : Slice) (w : Work) → IsBegun head slice.to w → (s : Stream) → head ≡ s.head → P (sought slice.from s) → Remains P w (slice_lines slice s)
 left-begun P head slice w b s e p = record { stream = sought slice.from s; stands = p; are = begun-lines head slice w b s e }
 
-pub shown-begun : (might P Q : Seen) (head : Head) (slice : Slice) (w : Work) → IsBegun head slice.to w → ((s : Stream) → P s → Q (sought slice.from s)) → ShowsOne might P head → LeavesOne might slice (HasLeft Q w)
+pub shown-begun : (might P Q : Seen) (head : Head) (slice : Slice) (w : Work) → IsBegun head slice.to w → ((s : Stream) → P s → Q (sought slice.from s)) → ShowsOne might P head → LeavesOne might slice (Remains Q w)
 shown-begun might P Q head slice w b on one = record {
   stream = one.stream;
   possible = one.possible;

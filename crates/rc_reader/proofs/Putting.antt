@@ -59,7 +59,7 @@ line-keeps head tomb frag.End l e = refl
 
 -- ---- the first of fragments
 
-given : Frag → Option Frag → Frag
+abbrev given : Frag → Option Frag → Frag
 given d None = d
 given d (Some f) = f
 

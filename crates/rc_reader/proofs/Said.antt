@@ -19,7 +19,7 @@ use Rattle.rc_position.specs.declared.positions.Pos.{Pos}
 use Rattle.rc_position.specs.declared.slices.Slice.{Slice}
 use Rattle.rc_position.specs.Position.{covers, key_cmp, pos_cmp, row_pos}
 use Rattle.rc_position.specs.laws.Orders.{pos_cmp_total}
-use Rattle.rc_mutation.specs.ByKey.{same_key, same_rows}
+use Rattle.rc_mutation.specs.laws.ByKey.{same_key, same_rows}
 use Rattle.rc_mutation.specs.declared.fragments.Frag.{Frag}
 use Rattle.rc_mutation.specs.declared.fragments.Frag.TheVariants as frag
 use Rattle.rc_mutation.specs.Fragments.{place_order, tomb_after}

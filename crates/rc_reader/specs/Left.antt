@@ -43,14 +43,14 @@ abbrev pub lines_before : Pos → Work → List Frag → List OutLine
 lines_before x work fs = work.lines.items ++ compacted work.compactor.0.pt work.compactor.1 (until x (option_to_list work.taken ++ fs))
 
 -- a stream stands for one of these, of which with the work these lines are left before the end of the slice
-pub record HasLeft (seen : Stream → Type 0) (work : Work) (lines : List OutLine) : Type 0 where
+pub record Remains (seen : Stream → Type 0) (work : Work) (lines : List OutLine) : Type 0 where
   pub stream : Stream
   pub stands : seen stream
   pub are : lines ≡ lines_before work.to work stream.left
 
 -- these lines are left to a reader over a home and a store: its stream stands there for one that leaves them
 abbrev pub AreLeft : {S H W : Type 0} → (S → H → W → Stream → Type 0) → Reader S → H → W → List OutLine → Type 0
-AreLeft seen r h w lines = HasLeft (seen r.stream h w) r.work lines
+AreLeft seen r h w lines = Remains (seen r.stream h w) r.work lines
 
 -- what is left of lines after a call that gives the first so many: the others, and all of them where it was refused
 abbrev pub left_after : {T : Type 0} → Result T StreamErr → ℕ → List OutLine → List OutLine

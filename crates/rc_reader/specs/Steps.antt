@@ -1,7 +1,7 @@
 -- What the calls of a reader did to its stream, its home and its store.
---     MayRead        a reader may be read on
+--     MayGive        a reader may be read on
 --     OneStep        one call of a stream
---     Opening        the head, and then a seek
+--     OpenCalls        the head, and then a seek
 --     GoesNoFurther  where a read ends
 --     MovedOn        what any number of calls make of a home and a store
 use Rattle.std.specs.Prelude.{◌≡◌, ◌⊎◌, ◌<◌, ℕ, Bool, true, false, length, Result, Ok, Err}
@@ -16,17 +16,17 @@ use Rattle.rc_reader.specs.declared.work.Work.{Work}
 use Rattle.rc_reader.specs.Left.{lines_before}
 
 -- a reader may be read on over a home and a store: its stream is ready there
-abbrev pub MayRead : {S H W : Type 0} → (S → H → W → Type 0) → Reader S → H → W → Type 0
-MayRead ready r h w = ready r.stream h w
+abbrev pub MayGive : {S H W : Type 0} → (S → H → W → Type 0) → Reader S → H → W → Type 0
+MayGive ready r h w = ready r.stream h w
 
 -- a stream, a home and a store, before and after this call of the stream
 abbrev pub OneStep : {S H W : Type 0} → Deed S H W → Call → Bool → S × H × W → S × H × W → Type 0
 OneStep did c ok s t = did s.0 s.1 s.2 c ok t.0 t.1 t.2
 
 -- before and after a call for the head, and then a seek to x; where one was refused, none followed
-abbrev pub Opening : {S H W : Type 0} → Deed S H W → Pos → Bool → S × H × W → S × H × W → Type 0
-Opening {S} {H} {W} did x true s t = (u : S × H × W) × OneStep did OfHead true s u × OneStep did (OfSeek x) true u t
-Opening {S} {H} {W} did x false s t = OneStep did OfHead false s t ⊎ ((u : S × H × W) × OneStep did OfHead true s u × ((u ≡ t) ⊎ OneStep did (OfSeek x) false u t))
+abbrev pub OpenCalls : {S H W : Type 0} → Deed S H W → Pos → Bool → S × H × W → S × H × W → Type 0
+OpenCalls {S} {H} {W} did x true s t = (u : S × H × W) × OneStep did OfHead true s u × OneStep did (OfSeek x) true u t
+OpenCalls {S} {H} {W} did x false s t = OneStep did OfHead false s t ⊎ ((u : S × H × W) × OneStep did OfHead true s u × ((u ≡ t) ⊎ OneStep did (OfSeek x) false u t))
 
 -- a read of so many lines takes nothing behind y: y is not before the end of the slice, or more lines are left before y, of one of the streams
 -- that are stood for

@@ -8,8 +8,8 @@ ghost use Rattle.rc_stream.specs.Causes.{Caused};
 ghost use Rattle.rc_stream.specs.Did.{InTurn, IsQuiet, ReachesEnd, Spends, answered, Call.OfNext};
 ghost use Rattle.rc_stream.specs.Showing.{Blames};
 ghost use Rattle.rc_stream.specs.Stream.{Stream};
-ghost use Rattle.rc_reader.specs.Left.{AreLeft, HasLeft, LeavesOne, left_after, slice_lines};
-ghost use Rattle.rc_reader.specs.Steps.{GoesNoFurther, MayRead, MovedOn, OneStep, Opening, stream_after, without_stream};
+ghost use Rattle.rc_reader.specs.Left.{AreLeft, Remains, LeavesOne, left_after, slice_lines};
+ghost use Rattle.rc_reader.specs.Steps.{GoesNoFurther, MayGive, MovedOn, OneStep, OpenCalls, stream_after, without_stream};
 ghost use Rattle.rc_reader.specs.calls.Making.{AreEnough};
 
 use crate::work::{Work, give};
@@ -45,14 +45,14 @@ impl<S> Reader<S> {
         ensures left { (s : Stream) → S.seen stream home.old store.old s → IfOk result (λ reader. AreLeft S.seen reader home.new store.new (slice_lines slice.now s)) }
         ensures shown { S.fresh stream → IfOk result (λ reader. LeavesOne (S.might stream) slice.now (AreLeft S.seen reader home.new store.new)) }
         ensures to { IfOk result (λ reader. reader.work.to ≡ slice.now.to) }
-        ensures may { IfOk result (λ reader. MayRead S.ready reader home.new store.new) }
+        ensures may { IfOk result (λ reader. MayGive S.ready reader home.new store.new) }
         ensures back { (s : Stream) → S.seen stream home.old store.old s → IfErr result (λ e. S.seen e.0 home.new store.new s) }
         ensures ready { IfErr result (λ e. S.ready e.0 home.new store.new) }
         ensures ahead { (x : Pos) → S.ahead stream x → IfErr result (λ e. S.ahead e.0 x) }
         ensures spends { (left : S → ℕ) → Spends S.did left W.asks → MatchResult result (λ reader. W.asks store.new + left reader.stream ≤ W.asks store.old + left stream) (λ _. W.asks store.new ≤ W.asks store.old + left stream) }
         ensures quiet { (settled : S → Bool) → IsQuiet S.did settled W.asks → IfOk result (λ reader. IsTrue (settled reader.stream)) }
         ensures moves { MovedOn S.moves home.old store.old home.new store.new }
-        ensures did { Opening S.did slice.now.from (answered (without_stream result)) (stream, home.old, store.old) (stream_after result, home.new, store.new) }
+        ensures did { OpenCalls S.did slice.now.from (answered (without_stream result)) (stream, home.old, store.old) (stream_after result, home.new, store.new) }
         ensures damage { Blames (S.damage stream) (S.damage (stream_after result)) (without_stream result) }
         ensures cause { Caused (without_stream result) (W.files store.old) (W.faults store.old) (W.faults store.new) }
         ensures store { HoldsSameFiles W.files W.building store.old store.new }
@@ -76,12 +76,12 @@ impl<S> Reader<S> {
     ) -> Result<(Lines, bool), StreamErr>
     where
         S: Frags<H, W>,
-        requires { MayRead S.ready self.old home.old store.old }
+        requires { MayGive S.ready self.old home.old store.old }
         ensures gives { (lines : List OutLine) → AreLeft S.seen self.old home.old store.old lines → IfOk result (λ gave. gave.0 ≡ take count lines) }
         ensures more { (lines : List OutLine) → AreLeft S.seen self.old home.old store.old lines → IfOk result (λ gave. gave.1 ≡ nat_lt count (length lines)) }
         ensures left { (lines : List OutLine) → AreLeft S.seen self.old home.old store.old lines → AreLeft S.seen self.new home.new store.new (left_after result count lines) }
         ensures to { self.new.work.to ≡ self.old.work.to }
-        ensures may { MayRead S.ready self.new home.new store.new }
+        ensures may { MayGive S.ready self.new home.new store.new }
         ensures spends { (left : S → ℕ) → Spends S.did left W.asks → MatchResult result (λ _. W.asks store.new + left self.new.stream ≤ W.asks store.old + left self.old.stream) (λ _. W.asks store.new ≤ W.asks store.old + left self.old.stream) }
         ensures quiet { (settled : S → Bool) → IsQuiet S.did settled W.asks → IsTrue (settled self.old.stream) → (W.asks store.new ≡ W.asks store.old) × IsTrue (settled self.new.stream) }
         ensures moves { MovedOn S.moves home.old store.old home.new store.new }
@@ -117,14 +117,14 @@ fn begin<H, W: Store, S: Frags<H, W>>(
 ) -> Result<Work, StreamErr>
     requires ready { S.ready stream.old home.old store.old }
     requires ahead { S.ahead stream.old slice.now.from }
-    ensures left { (s : Stream) → S.seen stream.old home.old store.old s → IfOk result (λ work. HasLeft (S.seen stream.new home.new store.new) work (slice_lines slice.now s)) }
-    ensures shown { S.fresh stream.old → IfOk result (λ work. LeavesOne (S.might stream.old) slice.now (HasLeft (S.seen stream.new home.new store.new) work)) }
+    ensures left { (s : Stream) → S.seen stream.old home.old store.old s → IfOk result (λ work. Remains (S.seen stream.new home.new store.new) work (slice_lines slice.now s)) }
+    ensures shown { S.fresh stream.old → IfOk result (λ work. LeavesOne (S.might stream.old) slice.now (Remains (S.seen stream.new home.new store.new) work)) }
     ensures to { IfOk result (λ work. work.to ≡ slice.now.to) }
     ensures back { (s : Stream) → S.seen stream.old home.old store.old s → OnErr result (S.seen stream.new home.new store.new s) }
     ensures ahead { (x : Pos) → S.ahead stream.old x → OnErr result (S.ahead stream.new x) }
     ensures ready { S.ready stream.new home.new store.new }
     ensures moves { MovedOn S.moves home.old store.old home.new store.new }
-    ensures did { Opening S.did slice.now.from (answered result) (stream.old, home.old, store.old) (stream.new, home.new, store.new) }
+    ensures did { OpenCalls S.did slice.now.from (answered result) (stream.old, home.old, store.old) (stream.new, home.new, store.new) }
     ensures damage { Blames (S.damage stream.old) (S.damage stream.new) result }
     ensures cause { Caused result (W.files store.old) (W.faults store.old) (W.faults store.new) }
     ensures store { HoldsSameFiles W.files W.building store.old store.new }
@@ -150,9 +150,9 @@ fn fetch<H, W: Store, S: Frags<H, W>>(
     store: &mut W,
 ) -> Result<bool, StreamErr>
     requires { S.ready stream.old home.old store.old }
-    ensures left { (lines : List OutLine) → HasLeft (S.seen stream.old home.old store.old) work.old lines → HasLeft (S.seen stream.new home.new store.new) work.new lines }
+    ensures left { (lines : List OutLine) → Remains (S.seen stream.old home.old store.old) work.old lines → Remains (S.seen stream.new home.new store.new) work.new lines }
     ensures taken { IfOk result (λ found. found ≡ true → IsSome work.new.taken) }
-    ensures end { IfOk result (λ found. found ≡ false → (lines : List OutLine) → HasLeft (S.seen stream.old home.old store.old) work.old lines → lines ≡ work.new.lines.items) }
+    ensures end { IfOk result (λ found. found ≡ false → (lines : List OutLine) → Remains (S.seen stream.old home.old store.old) work.old lines → lines ≡ work.new.lines.items) }
     ensures made { work.new.lines ≡ work.old.lines }
     ensures to { work.new.to ≡ work.old.to }
     ensures ready { S.ready stream.new home.new store.new }
@@ -184,8 +184,8 @@ fn step<H, W: Store, S: Frags<H, W>>(
     store: &mut W,
 ) -> Result<bool, StreamErr>
     requires { S.ready stream.old home.old store.old }
-    ensures left { (lines : List OutLine) → HasLeft (S.seen stream.old home.old store.old) work.old lines → HasLeft (S.seen stream.new home.new store.new) work.new lines }
-    ensures end { IfOk result (λ more. more ≡ false → (lines : List OutLine) → HasLeft (S.seen stream.old home.old store.old) work.old lines → lines ≡ work.new.lines.items) }
+    ensures left { (lines : List OutLine) → Remains (S.seen stream.old home.old store.old) work.old lines → Remains (S.seen stream.new home.new store.new) work.new lines }
+    ensures end { IfOk result (λ more. more ≡ false → (lines : List OutLine) → Remains (S.seen stream.old home.old store.old) work.old lines → lines ≡ work.new.lines.items) }
     ensures to { work.new.to ≡ work.old.to }
     ensures ready { S.ready stream.new home.new store.new }
     ensures moves { MovedOn S.moves home.old store.old home.new store.new }
@@ -215,8 +215,8 @@ fn make<H, W: Store, S: Frags<H, W>>(
     count: u32,
 ) -> Result<(), StreamErr>
     requires { S.ready stream.old home.old store.old }
-    ensures left { (lines : List OutLine) → HasLeft (S.seen stream.old home.old store.old) work.old lines → HasLeft (S.seen stream.new home.new store.new) work.new lines }
-    ensures enough { OnOk result (AreEnough count (HasLeft (S.seen stream.old home.old store.old) work.old) work.new.lines.items) }
+    ensures left { (lines : List OutLine) → Remains (S.seen stream.old home.old store.old) work.old lines → Remains (S.seen stream.new home.new store.new) work.new lines }
+    ensures enough { OnOk result (AreEnough count (Remains (S.seen stream.old home.old store.old) work.old) work.new.lines.items) }
     ensures to { work.new.to ≡ work.old.to }
     ensures ready { S.ready stream.new home.new store.new }
     ensures moves { MovedOn S.moves home.old store.old home.new store.new }

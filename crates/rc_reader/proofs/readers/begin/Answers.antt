@@ -27,36 +27,36 @@ returns-in-Ok-seek-clause-damage g c =
     let D = g.S.Frags.damage in
     blames-value (D c.args.stream.now) (D c.seek.new.self) _ (λ file offset d. c.head.ensures.damage.less file offset (c.seek.ensures.damage.less file offset d))
 
-pub returns-in-Err-seek-clause-moves : goal.returns-in-Err-seek-clause-moves
-returns-in-Err-seek-clause-moves g c =
+pub returns-in-Ok-new-clause-moves : goal.returns-in-Ok-new-clause-moves
+returns-in-Ok-new-clause-moves g c =
     let M = g.S.Frags.moves in
     moved-moved M c.args.home.now c.args.store.now c.head.new.home c.head.new.store c.seek.new.home c.seek.new.store
     (moved-one M c.args.home.now c.args.store.now c.head.new.home c.head.new.store c.head.ensures.moves) (moved-one M c.head.new.home c.head.new.store c.seek.new.home c.seek.new.store c.seek.ensures.moves)
 
-pub returns-in-Err-seek-clause-did : goal.returns-in-Err-seek-clause-did
-returns-in-Err-seek-clause-did g c = inr ((c.head.new.self, c.head.new.home, c.head.new.store), c.in-Ok.ensures.did, inr c.in-Err-seek.ensures.did)
+pub returns-in-Ok-new-clause-did : goal.returns-in-Ok-new-clause-did
+returns-in-Ok-new-clause-did g c = inr ((c.head.new.self, c.head.new.home, c.head.new.store), c.in-Ok.ensures.did, inr c.in-Err-seek.ensures.did)
 
-pub returns-in-Err-seek-clause-damage : goal.returns-in-Err-seek-clause-damage
-returns-in-Err-seek-clause-damage g c =
+pub returns-in-Ok-new-clause-damage : goal.returns-in-Ok-new-clause-damage
+returns-in-Ok-new-clause-damage g c =
     let D = g.S.Frags.damage in
     blames-error (D c.args.stream.now) (D c.head.new.self) (D c.seek.new.self) c.in-Err-seek.error c.head.ensures.damage.less c.in-Err-seek.ensures.damage
 
-pub returns-in-Err-new-clause-moves : goal.returns-in-Err-new-clause-moves
-returns-in-Err-new-clause-moves g c = moved-one g.S.Frags.moves c.args.home.now c.args.store.now c.head.new.home c.head.new.store c.head.ensures.moves
+pub returns-in-Ok-clause-moves : goal.returns-in-Ok-clause-moves
+returns-in-Ok-clause-moves g c = moved-one g.S.Frags.moves c.args.home.now c.args.store.now c.head.new.home c.head.new.store c.head.ensures.moves
 
-pub returns-in-Err-new-clause-did : goal.returns-in-Err-new-clause-did
-returns-in-Err-new-clause-did g c = inr ((c.head.new.self, c.head.new.home, c.head.new.store), c.in-Ok.ensures.did, inl refl)
+pub returns-in-Ok-clause-did : goal.returns-in-Ok-clause-did
+returns-in-Ok-clause-did g c = inr ((c.head.new.self, c.head.new.home, c.head.new.store), c.in-Ok.ensures.did, inl refl)
 
-pub returns-in-Err-new-clause-damage : goal.returns-in-Err-new-clause-damage
-returns-in-Err-new-clause-damage g c = blames-memory (g.S.Frags.damage c.args.stream.now) (g.S.Frags.damage c.head.new.self) c.head.ensures.damage.less
+pub returns-in-Ok-clause-damage : goal.returns-in-Ok-clause-damage
+returns-in-Ok-clause-damage g c = blames-memory (g.S.Frags.damage c.args.stream.now) (g.S.Frags.damage c.head.new.self) c.head.ensures.damage.less
 
-pub returns-in-Err-clause-moves : goal.returns-in-Err-clause-moves
-returns-in-Err-clause-moves g c = moved-one g.S.Frags.moves c.args.home.now c.args.store.now c.head.new.home c.head.new.store c.head.ensures.moves
+pub returns-clause-moves : goal.returns-clause-moves
+returns-clause-moves g c = moved-one g.S.Frags.moves c.args.home.now c.args.store.now c.head.new.home c.head.new.store c.head.ensures.moves
 
-pub returns-in-Err-clause-did : goal.returns-in-Err-clause-did
-returns-in-Err-clause-did g c = inl c.in-Err.ensures.did
+pub returns-clause-did : goal.returns-clause-did
+returns-clause-did g c = inl c.in-Err.ensures.did
 
-pub returns-in-Err-clause-damage : goal.returns-in-Err-clause-damage
-returns-in-Err-clause-damage g c =
+pub returns-clause-damage : goal.returns-clause-damage
+returns-clause-damage g c =
     let D = g.S.Frags.damage in
     blames-error (D c.args.stream.now) (D c.args.stream.now) (D c.head.new.self) c.in-Err.error (λ file offset d. d) c.in-Err.ensures.damage

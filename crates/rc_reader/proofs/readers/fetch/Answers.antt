@@ -27,19 +27,21 @@ returns-then-is_some-clause-end g c = λ e. absurd (cc)
 
 pub returns-in-Ok-clause-left : goal.returns-in-Ok-clause-left
 returns-in-Ok-clause-left g c =
-    left-got (g.S.Frags.seen c.args.stream.now c.args.home.now c.args.store.now) (g.S.Frags.seen c.next.new.self c.next.new.home c.next.new.store) c.args.work.now c.new.work c.in-Ok.got
+    left-got (g.S.Frags.seen c.args.stream.now c.args.home.now c.args.store.now) (g.S.Frags.seen c.next.new.self c.next.new.home c.next.new.store) c.args.work.now (record c.args.work.now { taken = c.in-Ok.got }) c.in-Ok.got
     (record { idle = not-there c.args.work.now.taken (sym c.is_some.ensures ∙ c.if-is_some.false); taken = refl; compactor = refl; lines = refl; to = refl }) c.in-Ok.ensures.gives c.in-Ok.ensures.seen
 
 pub returns-in-Ok-clause-goes : goal.returns-in-Ok-clause-goes
 returns-in-Ok-clause-goes g c =
-    goes-got (g.S.Frags.seen c.args.stream.now c.args.home.now c.args.store.now) (g.S.Frags.seen c.next.new.self c.next.new.home c.next.new.store) c.args.work.now c.new.work c.in-Ok.got
+    goes-got (g.S.Frags.seen c.args.stream.now c.args.home.now c.args.store.now) (g.S.Frags.seen c.next.new.self c.next.new.home c.next.new.store) c.args.work.now (record c.args.work.now { taken = c.in-Ok.got }) c.in-Ok.got
     (record { idle = not-there c.args.work.now.taken (sym c.is_some.ensures ∙ c.if-is_some.false); taken = refl; compactor = refl; lines = refl; to = refl }) c.in-Ok.ensures.gives c.in-Ok.ensures.seen
 
 pub returns-in-Ok-clause-end : goal.returns-in-Ok-clause-end
-returns-in-Ok-clause-end g c = ?
+returns-in-Ok-clause-end g c = λ e.
+    ended (g.S.Frags.seen c.args.stream.now c.args.home.now c.args.store.now) c.args.work.now (record c.args.work.now { taken = c.in-Ok.got }) c.in-Ok.got
+    (record { idle = not-there c.args.work.now.taken (sym c.is_some.ensures ∙ c.if-is_some.false); taken = refl; compactor = refl; lines = refl; to = refl }) (sym c.is_some-in-Ok.ensures ∙ e) c.in-Ok.ensures.gives
 
 pub returns-in-Ok-clause-taken : goal.returns-in-Ok-clause-taken
-returns-in-Ok-clause-taken g c = ?
+returns-in-Ok-clause-taken g c = λ e. is-there c.in-Ok.got (sym c.is_some-in-Ok.ensures ∙ e)
 
 pub returns-in-Ok-clause-did : goal.returns-in-Ok-clause-did
 returns-in-Ok-clause-did g c = λ y covers.

@@ -3,13 +3,13 @@ use Rattle.std.proofs.Common.{◌≡◌, ◌≤◌, ℕ, true, List}
 use Rattle.rc_position.specs.declared.positions.Pos.{Pos}
 use Rattle.rc_query.specs.declared.lines.OutLine.{OutLine}
 use Rattle.rc_stream.specs.Did.{Many, Call.OfNext}
-use Rattle.rc_reader.specs.Left.{HasLeft}
+use Rattle.rc_reader.specs.Left.{Remains}
 use Rattle.rc_reader.specs.Steps.{GoesNoFurther, MovedOn, OneStep}
 use Rattle.rc_reader.proofs.readers.make.Given as goal
 
 abbrev pub invariant-loop-rounds : goal.invariant-loop-rounds
 invariant-loop-rounds g l = record {
-  left : (lines : List OutLine) → HasLeft (g.S.Frags.seen l.initial.stream l.initial.home l.initial.store) l.initial.work lines → HasLeft (g.S.Frags.seen l.stream l.home l.store) l.work lines;
+  left : (lines : List OutLine) → Remains (g.S.Frags.seen l.initial.stream l.initial.home l.initial.store) l.initial.work lines → Remains (g.S.Frags.seen l.stream l.home l.store) l.work lines;
   goes : (y : Pos) → GoesNoFurther (g.S.Frags.seen l.initial.stream l.initial.home l.initial.store) l.initial.work l.count y → GoesNoFurther (g.S.Frags.seen l.stream l.home l.store) l.work l.count y;
   did : (y : Pos) → GoesNoFurther (g.S.Frags.seen l.initial.stream l.initial.home l.initial.store) l.initial.work l.count y → Many (OneStep g.S.Frags.did (OfNext y) true) (l.initial.stream, l.initial.home, l.initial.store) (l.stream, l.home, l.store);
   to : l.work.to ≡ l.initial.work.to;

@@ -11,13 +11,13 @@ use Rattle.rc_reader.proofs.Homes.{blames-error, blames-memory, blames-value}
 use Rattle.rc_reader.proofs.readers.Reader.read.Goals as goal
 
 pub returns-in-Ok-give-clause-gives : goal.returns-in-Ok-give-clause-gives
-returns-in-Ok-give-clause-gives g c = λ lines h. c.in-Ok-give.ensures.given ∙ gives c.args.count (g.S.Frags.seen c.args.self.now.stream c.args.home.now c.args.store.now) (g.S.Frags.seen c.make.new.stream c.make.new.home c.make.new.store) c.args.self.now.work c.make.new.work c.make.ensures.left c.in-Ok.ensures lines h
+returns-in-Ok-give-clause-gives g c = λ lines h. c.in-Ok-give.ensures.given ∙ gives c.args.count (g.S.Frags.seen c.args.self.now.stream c.args.home.now c.args.store.now) (g.S.Frags.seen c.make.new.stream c.make.new.home c.make.new.store) c.args.self.now.work c.make.new.work c.make.ensures.left c.in-Ok.ensures.enough lines h
 
 pub returns-in-Ok-give-clause-more : goal.returns-in-Ok-give-clause-more
-returns-in-Ok-give-clause-more g c = λ lines h. c.in-Ok-give.ensures.more ∙ tells c.args.count (g.S.Frags.seen c.args.self.now.stream c.args.home.now c.args.store.now) (g.S.Frags.seen c.make.new.stream c.make.new.home c.make.new.store) c.args.self.now.work c.make.new.work c.make.ensures.left c.in-Ok.ensures lines h
+returns-in-Ok-give-clause-more g c = λ lines h. c.in-Ok-give.ensures.more ∙ tells c.args.count (g.S.Frags.seen c.args.self.now.stream c.args.home.now c.args.store.now) (g.S.Frags.seen c.make.new.stream c.make.new.home c.make.new.store) c.args.self.now.work c.make.new.work c.make.ensures.left c.in-Ok.ensures.enough lines h
 
 pub returns-in-Ok-give-clause-left : goal.returns-in-Ok-give-clause-left
-returns-in-Ok-give-clause-left g c = λ lines h. leaves c.args.count (g.S.Frags.seen c.args.self.now.stream c.args.home.now c.args.store.now) (g.S.Frags.seen c.make.new.stream c.make.new.home c.make.new.store) c.args.self.now.work c.make.new.work c.make.ensures.left c.in-Ok.ensures c.new.self.work refl refl refl c.in-Ok-give.ensures.left lines h
+returns-in-Ok-give-clause-left g c = λ lines h. leaves c.args.count (g.S.Frags.seen c.args.self.now.stream c.args.home.now c.args.store.now) (g.S.Frags.seen c.make.new.stream c.make.new.home c.make.new.store) c.args.self.now.work c.make.new.work c.make.ensures.left c.in-Ok.ensures.enough (record c.make.new.work { lines = c.give.new.lines }) refl refl refl c.in-Ok-give.ensures.left lines h
 
 pub returns-in-Ok-give-clause-spends : goal.returns-in-Ok-give-clause-spends
 returns-in-Ok-give-clause-spends g c = λ left sp. read-answered g.S.Frags.did g.W.Store.asks left sp c.args.self.now.work.to (c.args.self.now.stream, c.args.home.now, c.args.store.now) (c.make.new.stream, c.make.new.home, c.make.new.store) (c.in-Ok.ensures.did c.args.self.now.work.to (inl (passes-itself c.args.self.now.work.to)))
@@ -32,7 +32,7 @@ pub returns-in-Ok-give-clause-damage : goal.returns-in-Ok-give-clause-damage
 returns-in-Ok-give-clause-damage g c = blames-value (g.S.Frags.damage c.args.self.now.stream) (g.S.Frags.damage c.make.new.stream) _ c.make.ensures.damage.less
 
 pub returns-in-Err-give-clause-left : goal.returns-in-Err-give-clause-left
-returns-in-Err-give-clause-left g c = λ lines h. left-put (g.S.Frags.seen c.make.new.stream c.make.new.home c.make.new.store) c.make.new.work c.new.self.work (same-lines c.make.new.work c.new.self.work refl refl c.give.ensures.err c.make.new.work.to) refl lines (c.make.ensures.left lines h)
+returns-in-Err-give-clause-left g c = λ lines h. left-put (g.S.Frags.seen c.make.new.stream c.make.new.home c.make.new.store) c.make.new.work (record c.make.new.work { lines = c.give.new.lines }) (same-lines c.make.new.work (record c.make.new.work { lines = c.give.new.lines }) refl refl c.give.ensures.err c.make.new.work.to) refl lines (c.make.ensures.left lines h)
 
 pub returns-in-Err-give-clause-did : goal.returns-in-Err-give-clause-did
 returns-in-Err-give-clause-did g c = λ y h. chain-stopped (OneStep g.S.Frags.did (OfNext y)) (c.args.self.now.stream, c.args.home.now, c.args.store.now) (c.make.new.stream, c.make.new.home, c.make.new.store) (c.in-Ok.ensures.did y h)
