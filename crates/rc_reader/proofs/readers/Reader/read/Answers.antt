@@ -32,7 +32,7 @@ pub returns-in-Ok-give-clause-damage : goal.returns-in-Ok-give-clause-damage
 returns-in-Ok-give-clause-damage g c = blames-value (g.S.Frags.damage c.args.self.now.stream) (g.S.Frags.damage c.make.new.stream) _ c.make.ensures.damage.less
 
 pub returns-in-Err-give-clause-left : goal.returns-in-Err-give-clause-left
-returns-in-Err-give-clause-left g c = λ lines h. left-put (g.S.Frags.seen c.make.new.stream c.make.new.home c.make.new.store) c.make.new.work (record c.make.new.work { lines = c.give.new.lines }) (same-lines c.make.new.work (record c.make.new.work { lines = c.give.new.lines }) refl refl c.give.ensures.err c.make.new.work.to) refl lines (c.make.ensures.left lines h)
+returns-in-Err-give-clause-left g c = λ lines h. left-put (g.S.Frags.seen c.make.new.stream c.make.new.home c.make.new.store) c.make.new.work (record c.make.new.work { lines = c.give.new.lines }) (same-lines c.make.new.work (record c.make.new.work { lines = c.give.new.lines }) refl refl c.in-Err-give.ensures.err c.make.new.work.to) refl lines (c.make.ensures.left lines h)
 
 pub returns-in-Err-give-clause-did : goal.returns-in-Err-give-clause-did
 returns-in-Err-give-clause-did g c = λ y h. chain-stopped (OneStep g.S.Frags.did (OfNext y)) (c.args.self.now.stream, c.args.home.now, c.args.store.now) (c.make.new.stream, c.make.new.home, c.make.new.store) (c.in-Ok.ensures.did y h)
