@@ -1,12 +1,10 @@
 //! A snapshot fills the cache: a gap, a row, the static row.
 
-use crate::chain::{Chain, put_entries};
-use crate::checks::Effect;
-use crate::history::{History, Step};
-use crate::source::{Said, Source};
-use crate::universe::{KEYS, position};
+use crate::history::History;
+use crate::step::{Effect, Step};
 use rc_cell::{Row, Tomb};
 use rc_core::{Entry, Flag, Mark, PlainVersion, filled_mark, may_populate};
+use rc_history_parts::{Chain, KEYS, Said, Source, position, put_entries};
 use rc_position::{Pos, Weight};
 use rc_units::{join_row, split_entries};
 use std::alloc::{AllocError, Global};
