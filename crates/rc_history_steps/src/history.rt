@@ -103,6 +103,15 @@ fn add_some(
     source.add(alloc, &change)
 }
 
+/// A phase more, in which nothing is written.
+pub(crate) fn push_again(alloc: Global, sources: &mut Vec<Source>) -> Result<(), AllocError> {
+    if let Some(last) = sources.last() {
+        let source = last.copy(alloc)?;
+        sources.push(source)?;
+    }
+    Ok(())
+}
+
 // The phase of a chain that is opened: of a memtable a new one, of which no writes are yet.
 fn opened_phase(alloc: Global, history: &mut History) -> Result<usize, AllocError> {
     if let ChainKind::Memtable = history.chain.kind {
@@ -155,20 +164,33 @@ fn snapshot(history: &mut History) -> Result<Option<Step>, AllocError> {
     let Some(version) = chain.snapshot_version() else {
         return Ok(None);
     };
-    if !chain.attached {
-        return Ok(None);
+    if chain.attached && pin(&mut chain.pins, version)? {
+        return Ok(Some(Step::carrying("snapshot", Effect::Open)));
     }
-    for pin in chain.pins.iter_mut() {
+    Ok(None)
+}
+
+// A version is pinned, at a number that is free or a new one; whether there was one.
+fn pin(pins: &mut Vec<Option<usize>>, version: usize) -> Result<bool, AllocError> {
+    if pin_free(pins.as_mut_slice(), version) {
+        return Ok(true);
+    }
+    if pins.len() > 3 {
+        return Ok(false);
+    }
+    pins.push(Some(version))?;
+    Ok(true)
+}
+
+// A version is pinned at the first number that is free; whether there is one.
+fn pin_free(pins: &mut [Option<usize>], version: usize) -> bool {
+    for pin in pins.iter_mut() {
         if pin.is_none() {
             *pin = Some(version);
-            return Ok(Some(Step::carrying("snapshot", Effect::Open)));
+            return true;
         }
     }
-    if chain.pins.len() > 3 {
-        return Ok(None);
-    }
-    chain.pins.push(Some(version))?;
-    Ok(Some(Step::carrying("snapshot", Effect::Open)))
+    false
 }
 
 fn release(history: &mut History) -> Option<Step> {

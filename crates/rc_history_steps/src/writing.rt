@@ -1,7 +1,7 @@
 //! Writes to a memtable's chain, each of one thing: they go into the newest version, or into a new one where a snapshot pins that.
 
 use crate::filling::join_statics;
-use crate::history::History;
+use crate::history::{History, push_again};
 use crate::step::{Effect, Step};
 use rc_cell::Row;
 use rc_core::{Flag, PlainVersion};
@@ -37,15 +37,9 @@ fn add_version(
     chain: &mut Chain,
     sources: &mut Vec<Source>,
 ) -> Result<(), AllocError> {
-    let Some(last) = sources.last() else {
-        return Ok(());
-    };
-    let source = last.copy(alloc)?;
-    chain
-        .versions
-        .push(version_of(alloc, Flag::Inherit, sources.len())?)?;
-    sources.push(source)?;
-    Ok(())
+    let version = version_of(alloc, Flag::Inherit, sources.len())?;
+    chain.versions.push(version)?;
+    push_again(alloc, sources)
 }
 
 // The newest version, and what its writes say.
@@ -74,11 +68,19 @@ fn write_statics(alloc: Global, history: &mut History) -> Result<Option<Step>, A
         tomb: None,
         cells: some_cells(alloc, &mut history.chance)?,
     };
+    put_statics(alloc, history, &row)
+}
+
+fn put_statics(
+    alloc: Global,
+    history: &mut History,
+    row: &Row,
+) -> Result<Option<Step>, AllocError> {
     let Some((version, source)) = newest(&mut history.chain, &mut history.sources) else {
         return Ok(None);
     };
-    join_statics(alloc, version, &row)?;
-    source.statics.join(alloc, &row)?;
+    join_statics(alloc, version, row)?;
+    source.statics.join(alloc, row)?;
     Ok(Some(Step::new("write of a static row", Effect::Open)))
 }
 
@@ -99,11 +101,16 @@ fn write_range(alloc: Global, history: &mut History) -> Result<Option<Step>, All
 
 fn write_row(alloc: Global, history: &mut History) -> Result<Option<Step>, AllocError> {
     let row = some_row(alloc, &mut history.chance)?;
+    write_some(alloc, history, &row)
+}
+
+// A row at some key.
+fn write_some(alloc: Global, history: &mut History, row: &Row) -> Result<Option<Step>, AllocError> {
     let Some(number) = KEYS.get(history.chance.index(KEYS.len())) else {
         return Ok(None);
     };
     let at = position(alloc, *number, Weight::At)?;
-    put_row(alloc, history, &at, &row)
+    put_row(alloc, history, &at, row)
 }
 
 fn put_row(
