@@ -1,13 +1,13 @@
 //! The definitions of continuity, tried at every position of the universe.
 
-use crate::chain::{Chain, Place, alone, upto};
-use crate::source::{Said, Source, is_same_row};
-use crate::tally::Tally;
-use crate::universe::{Universe, behind_key, end_position, is_row_of, start_position};
 use rc_cell::{Row, Tomb};
 use rc_core::{
     ChainKind, Entry, Flag, Part, PlainVersion, Seen, Side, base_at, first_part, head_of,
     is_at_place, is_known_at, is_known_in, seen_at, statics_at,
+};
+use rc_history_parts::{
+    Chain, Place, Said, Source, Tally, Universe, alone, behind_key, end_position, is_same_row,
+    start_position, upto,
 };
 use rc_mutation::greater_tomb;
 use rc_position::{Key, Pos, Weight};
@@ -130,15 +130,29 @@ fn check_version(
     number: usize,
     tally: &mut Tally,
 ) -> Result<(), AllocError> {
-    let reach = chain.reach(alloc, number)?;
-    check_kind(alloc, universe, source, chain, number, &reach, tally)?;
     let versions = upto(chain.versions.as_slice(), number);
     for x in &universe.all {
         check_base(alloc, versions, x, Side::On, tally)?;
         check_base(alloc, versions, x, Side::Behind, tally)?;
     }
+    let reach = chain.reach(alloc, number)?;
+    check_reached(alloc, universe, source, chain, number, &reach, tally)
+}
+
+// The same of a version that an update has reached as far as this, if there is one.
+fn check_reached(
+    alloc: Global,
+    universe: &Universe,
+    source: &Source,
+    chain: &Chain,
+    number: usize,
+    reach: &Option<Place>,
+    tally: &mut Tally,
+) -> Result<(), AllocError> {
+    check_kind(alloc, universe, source, chain, number, reach, tally)?;
     if chain.is_needed(number) {
-        check_needed(alloc, universe, source, chain.kind, versions, &reach, tally)?;
+        let versions = upto(chain.versions.as_slice(), number);
+        check_needed(alloc, universe, source, chain.kind, versions, reach, tally)?;
     }
     Ok(())
 }
@@ -193,7 +207,8 @@ fn check_needed(
     Ok(())
 }
 
-fn is_reached(reach: &Option<Place>, x: &Pos) -> bool {
+/// Whether a position stands before the update's place, where there is one.
+pub(crate) fn is_reached(reach: &Option<Place>, x: &Pos) -> bool {
     match reach {
         Some(place) => place.is_past(x),
         None => true,
@@ -286,6 +301,19 @@ fn check_position(
     if !is_known_in(kind, seen.flag) {
         return Ok(());
     }
+    check_seen(alloc, kind, source, versions, x, &seen, tally)
+}
+
+// The same of a position at which this is seen, which is flagged.
+fn check_seen(
+    alloc: Global,
+    kind: ChainKind,
+    source: &Source,
+    versions: &[PlainVersion],
+    x: &Pos,
+    seen: &Seen,
+    tally: &mut Tally,
+) -> Result<(), AllocError> {
     if let Some(said) = source.at(x) {
         tally.expect(
             is_same_row(&seen.row, &said.row) && seen.tomb == said.tomb,
@@ -293,7 +321,7 @@ fn check_position(
         );
     }
     if seen.row.is_empty() && *x < end_position(alloc) {
-        check_bare(alloc, kind, versions, x, seen.tomb, tally)?;
+        return check_bare(alloc, kind, versions, x, seen.tomb, tally);
     }
     Ok(())
 }
@@ -326,9 +354,21 @@ fn check_base(
     tally: &mut Tally,
 ) -> Result<(), AllocError> {
     let joined = from_base(alloc, versions, x, side)?;
+    check_joined(alloc, versions, x, side, &joined, tally)
+}
+
+// What is seen is this.
+fn check_joined(
+    alloc: Global,
+    versions: &[PlainVersion],
+    x: &Pos,
+    side: Side,
+    joined: &Seen,
+    tally: &mut Tally,
+) -> Result<(), AllocError> {
     let seen = seen_at(alloc, versions, x, side)?;
     tally.expect(
-        is_same_seen(&seen, &joined),
+        is_same_seen(&seen, joined),
         "what is seen is what stands from the base on",
     );
     Ok(())
@@ -359,18 +399,29 @@ fn join_all(
 ) -> Result<(), AllocError> {
     let base = base_at(versions, x, side);
     for number in base.unwrap_or(0)..versions.len() {
-        let one = seen_at(alloc, alone(versions, number), x, side)?;
-        if Some(number) == base {
-            joined.flag = one.flag;
-        }
-        joined.row.join(alloc, &one.row)?;
-        joined.tomb = greater_tomb(joined.tomb, one.tomb);
+        let one = seen_at(alloc, alone(versions, number), x, side);
+        join_one(alloc, one, Some(number) == base, joined)?;
     }
     Ok(())
 }
 
-/// Whether the same is seen.
-pub(crate) fn is_same_seen(seen: &Seen, other: &Seen) -> bool {
+// What one version holds, whose flag it is where that is the base.
+fn join_one(
+    alloc: Global,
+    one: Result<Seen, AllocError>,
+    is_base: bool,
+    joined: &mut Seen,
+) -> Result<(), AllocError> {
+    let one = one?;
+    if is_base {
+        joined.flag = one.flag;
+    }
+    joined.tomb = greater_tomb(joined.tomb, one.tomb);
+    joined.row.join(alloc, &one.row)
+}
+
+// Whether the same is seen.
+fn is_same_seen(seen: &Seen, other: &Seen) -> bool {
     let flags = is_known_in(ChainKind::Cache, seen.flag)
         == is_known_in(ChainKind::Cache, other.flag)
         && is_deciding(seen.flag) == is_deciding(other.flag);
@@ -404,17 +455,26 @@ fn check_writes(
     versions: &[PlainVersion],
     tally: &mut Tally,
 ) -> Result<(), AllocError> {
-    let statics = statics_at(alloc, versions)?;
-    tally.expect(
-        is_same_row(&statics.row, &source.statics) && head_of(versions) == source.pt,
-        "the head and the static row of a memtable are those of its writes",
-    );
     for said in &source.places {
         tally.expect(
             is_known_at(alloc, ChainKind::Memtable, versions, &said.position)?,
             "every place of a memtable is known",
         );
     }
+    check_written_head(alloc, source, versions, tally)
+}
+
+fn check_written_head(
+    alloc: Global,
+    source: &Source,
+    versions: &[PlainVersion],
+    tally: &mut Tally,
+) -> Result<(), AllocError> {
+    let statics = statics_at(alloc, versions)?;
+    tally.expect(
+        is_same_row(&statics.row, &source.statics) && head_of(versions) == source.pt,
+        "the head and the static row of a memtable are those of its writes",
+    );
     Ok(())
 }
 
@@ -428,29 +488,55 @@ fn check_reading(
 ) -> Result<(), AllocError> {
     let end = end_position(alloc);
     let mut place = start_position(alloc);
+    read_parts(alloc, kind, source, versions, &mut place, &end, tally)
+}
+
+// The parts from a place on.
+fn read_parts(
+    alloc: Global,
+    kind: ChainKind,
+    source: &Source,
+    versions: &[PlainVersion],
+    place: &mut Pos,
+    end: &Pos,
+    tally: &mut Tally,
+) -> Result<(), AllocError> {
     for _ in 0..64 {
-        let Some(next) = read_part(alloc, kind, source, versions, &place, &end, tally)? else {
+        if !read_part(alloc, kind, source, versions, place, end, tally)? {
             return Ok(());
-        };
-        tally.expect(place < next, "a part ends behind its beginning");
-        place = next;
+        }
     }
     tally.expect(false, "a reader comes to the end");
     Ok(())
 }
 
-// The first part from a place on against the source; where the next one begins.
+// The first part from a place on against the source; whether there is one, and then the place is where the next one begins.
 fn read_part(
     alloc: Global,
     kind: ChainKind,
     source: &Source,
     versions: &[PlainVersion],
-    place: &Pos,
+    place: &mut Pos,
     end: &Pos,
     tally: &mut Tally,
-) -> Result<Option<Pos>, AllocError> {
+) -> Result<bool, AllocError> {
     let part = part_at(alloc, kind, versions, place, end)?;
-    check_part(alloc, source, place, &part, tally)
+    let next = check_part(alloc, source, place, &part, tally);
+    go_on(place, next, tally)
+}
+
+// The place is where the next part begins, if there is one.
+fn go_on(
+    place: &mut Pos,
+    next: Result<Option<Pos>, AllocError>,
+    tally: &mut Tally,
+) -> Result<bool, AllocError> {
+    let Some(next) = next? else {
+        return Ok(false);
+    };
+    tally.expect(*place < next, "a part ends behind its beginning");
+    *place = next;
+    Ok(true)
 }
 
 // The first part from a place on; the end where the place is behind it.
@@ -520,211 +606,4 @@ fn check_gap(source: &Source, from: &Pos, to: &Pos, tomb: Option<Tomb>, tally: &
 
 fn is_gap(said: &Said, tomb: Option<Tomb>) -> bool {
     said.row.is_empty() && said.tomb == tomb
-}
-
-/// What is seen of one place.
-#[derive(Drop)]
-pub(crate) struct Sight {
-    /// The position; none of the static row.
-    position: Option<Pos>,
-    /// Whether it is the gap right behind the position.
-    behind: bool,
-    /// What is seen.
-    seen: Seen,
-}
-
-/// What is seen of a version that somebody needs: at each position and over the gap behind it, and the static row last.
-#[derive(Drop)]
-pub(crate) struct Picture {
-    /// In order.
-    pub(crate) sights: Vec<Sight>,
-}
-
-// Pictures of the versions of a chain that somebody needs, the oldest first.
-fn pictures(alloc: Global, universe: &Universe, chain: &Chain) -> Result<Vec<Picture>, AllocError> {
-    let mut made = Vec::new(alloc);
-    for number in 0..chain.versions.len() {
-        if chain.is_needed(number) {
-            made.push(picture_of(alloc, universe, upto(chain.versions.as_slice(), number))?)?;
-        }
-    }
-    Ok(made)
-}
-
-fn picture_of(
-    alloc: Global,
-    universe: &Universe,
-    versions: &[PlainVersion],
-) -> Result<Picture, AllocError> {
-    let mut sights = Vec::new(alloc);
-    push_sights(alloc, universe, versions, &mut sights)?;
-    Ok(Picture { sights })
-}
-
-fn push_sights(
-    alloc: Global,
-    universe: &Universe,
-    versions: &[PlainVersion],
-    sights: &mut Vec<Sight>,
-) -> Result<(), AllocError> {
-    for x in &universe.all {
-        sights.push(sight_at(alloc, versions, x, Side::On)?)?;
-        sights.push(sight_at(alloc, versions, x, Side::Behind)?)?;
-    }
-    sights.push(Sight {
-        position: None,
-        behind: false,
-        seen: statics_at(alloc, versions)?,
-    })?;
-    Ok(())
-}
-
-fn sight_at(
-    alloc: Global,
-    versions: &[PlainVersion],
-    x: &Pos,
-    side: Side,
-) -> Result<Sight, AllocError> {
-    let position = x.copy(alloc)?;
-    Ok(Sight {
-        position: Some(position),
-        behind: matches!(side, Side::Behind),
-        seen: seen_at(alloc, versions, x, side)?,
-    })
-}
-
-/// What is seen of a chain, and what is carried.
-#[derive(Drop)]
-pub(crate) struct View {
-    /// Of each version that somebody needs, the oldest first.
-    pub(crate) pictures: Vec<Picture>,
-    /// At each position of the universe whether it is carried.
-    pub(crate) carried: Vec<bool>,
-}
-
-impl View {
-    /// What is seen of a chain now.
-    pub(crate) fn of(
-        alloc: Global,
-        universe: &Universe,
-        chain: &Chain,
-    ) -> Result<Self, AllocError> {
-        let pictures = pictures(alloc, universe, chain)?;
-        Ok(View {
-            pictures,
-            carried: carried(alloc, universe, chain)?,
-        })
-    }
-}
-
-/// What a step may do to what is seen.
-#[derive(Clone, Copy)]
-pub(crate) enum Effect {
-    /// Nothing changes in any version.
-    Nothing,
-    /// What is known was known before, and is the same.
-    Less,
-    /// From one stop of the universe on and before another everything is known, in the newest version; else nothing changes.
-    Between(usize, usize),
-    /// The row of a number is known, in the newest version; else nothing changes.
-    Row(i64),
-    /// The static row of the newest version is known; else nothing changes.
-    Statics,
-    /// Other versions are needed than before, or the newest has gone on.
-    Open,
-}
-
-/// What was seen before a step against what is seen now.
-pub(crate) fn check_effect(
-    universe: &Universe,
-    kind: ChainKind,
-    effect: Effect,
-    before: &[Picture],
-    now: &[Picture],
-    tally: &mut Tally,
-) {
-    if let Effect::Open = effect {
-        return;
-    }
-    tally.expect(
-        before.len() == now.len(),
-        "the versions that are needed stay",
-    );
-    let mut left = now.len();
-    for (old, new) in before.iter().zip(now.iter()) {
-        left = left.saturating_sub(1);
-        for (was, is) in old.sights.iter().zip(new.sights.iter()) {
-            tally.expect(
-                keeps(
-                    kind,
-                    effect,
-                    left == 0 && is_filled(universe, effect, is),
-                    was,
-                    is,
-                ),
-                "what a step does not touch stays",
-            );
-        }
-    }
-}
-
-// Whether a place is seen as the effect of a step has it, which makes it known or not.
-fn keeps(kind: ChainKind, effect: Effect, filled: bool, was: &Sight, is: &Sight) -> bool {
-    let known_now = is_known_in(kind, is.seen.flag);
-    let same = known_now == is_known_in(kind, was.seen.flag)
-        && !filled
-        && is.seen.tomb == was.seen.tomb
-        && is_same_row(&is.seen.row, &was.seen.row);
-    let touched = match effect {
-        Effect::Less => !known_now,
-        _ => known_now && filled,
-    };
-    same || touched
-}
-
-// Whether a place is one that a fill makes known.
-fn is_filled(universe: &Universe, effect: Effect, sight: &Sight) -> bool {
-    match (effect, &sight.position) {
-        (Effect::Between(from, to), Some(x)) => universe.is_between(from, to, x),
-        (Effect::Row(number), Some(x)) => is_row_of(x, number) && !sight.behind,
-        (Effect::Statics, None) => true,
-        _ => false,
-    }
-}
-
-// At each position of the universe whether it is carried: known in the version that a snapshot pins and, before the update's place, in the
-// newest too.
-fn carried(alloc: Global, universe: &Universe, chain: &Chain) -> Result<Vec<bool>, AllocError> {
-    if !chain.attached || chain.versions.is_empty() {
-        return Ok(Vec::new(alloc));
-    }
-    let reach = chain.place(alloc)?;
-    let mut made = Vec::new(alloc);
-    for x in &universe.all {
-        made.push(is_carried(alloc, chain, &reach, x)?)?;
-    }
-    Ok(made)
-}
-
-fn is_carried(
-    alloc: Global,
-    chain: &Chain,
-    reach: &Option<Place>,
-    x: &Pos,
-) -> Result<bool, AllocError> {
-    let all = chain.versions.as_slice();
-    let pinned = match chain.snapshot_version() {
-        Some(number) => upto(all, number),
-        None => all,
-    };
-    let before = is_known_at(alloc, chain.kind, pinned, x)?;
-    let over = !is_reached(reach, x) || is_known_at(alloc, chain.kind, all, x)?;
-    Ok(before && over)
-}
-
-/// Carried positions stay carried.
-pub(crate) fn check_carried(before: &[bool], now: &[bool], tally: &mut Tally) {
-    for (was, is) in before.iter().zip(now.iter()) {
-        tally.expect(!*was || *is, "what is carried stays carried");
-    }
 }

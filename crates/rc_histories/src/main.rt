@@ -2,24 +2,16 @@
 //! of continuity, tried at every position of a small partition. What is printed is how often each kind of step was taken, and what was found.
 #![tactic(auto)]
 
-mod chain;
-mod chance;
 mod checks;
-mod cleaning;
-mod evicting;
-mod filling;
-mod history;
-mod source;
-mod tally;
-mod universe;
-mod updating;
-mod writing;
+mod views;
 
-use history::History;
+use checks::check_chain;
 use rc_core::ChainKind;
+use rc_history_parts::Tally;
+use rc_history_steps::{History, Step};
 use std::alloc::{AllocError, Global};
 use std::io;
-use tally::Tally;
+use views::{View, check_view};
 
 /// How many histories are replayed.
 const HISTORIES: u64 = 110;
@@ -42,9 +34,46 @@ fn replay(alloc: Global, seed: u64, tally: &mut Tally) -> Result<(), AllocError>
 fn replay_steps(alloc: Global, history: &mut History, tally: &mut Tally) -> Result<(), AllocError> {
     for _ in 0..STEPS {
         if tally.broken.is_none() {
-            history.step(alloc, tally)?;
+            replay_step(alloc, history, tally)?;
         }
     }
+    Ok(())
+}
+
+// One step, if what chance takes is lawful now, and every definition after it.
+fn replay_step(alloc: Global, history: &mut History, tally: &mut Tally) -> Result<(), AllocError> {
+    let before = View::of(alloc, &history.universe, &history.chain)?;
+    let taken = history.take_step(alloc, tally);
+    check_taken(alloc, history, taken, &before, tally)
+}
+
+// The same of a step that was taken, if one was.
+fn check_taken(
+    alloc: Global,
+    history: &History,
+    taken: Result<Option<Step>, AllocError>,
+    before: &View,
+    tally: &mut Tally,
+) -> Result<(), AllocError> {
+    match taken? {
+        Some(step) => check_step(alloc, history, step, before, tally),
+        None => Ok(()),
+    }
+}
+
+// Every definition after a step, and what was seen before it against what is seen now.
+fn check_step(
+    alloc: Global,
+    history: &History,
+    step: Step,
+    before: &View,
+    tally: &mut Tally,
+) -> Result<(), AllocError> {
+    tally.count(step.kind);
+    let sources = history.sources.as_slice();
+    check_chain(alloc, &history.universe, sources, &history.chain, tally)?;
+    let now = View::of(alloc, &history.universe, &history.chain)?;
+    check_view(history, step, before, &now, tally);
     Ok(())
 }
 

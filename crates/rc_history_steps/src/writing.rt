@@ -1,13 +1,14 @@
 //! Writes to a memtable's chain, each of one thing: they go into the newest version, or into a new one where a snapshot pins that.
 
-use crate::chain::{Chain, put_entries, version_of};
-use crate::checks::Effect;
 use crate::filling::join_statics;
-use crate::history::{History, Step};
-use crate::source::{Source, some_bounds, some_cells, some_row, some_tomb};
-use crate::universe::{KEYS, position};
+use crate::history::{History, push_again};
+use crate::step::{Effect, Step};
 use rc_cell::Row;
 use rc_core::{Flag, PlainVersion};
+use rc_history_parts::{
+    Chain, KEYS, Source, position, put_entries, some_bounds, some_cells, some_row, some_tomb,
+    version_of,
+};
 use rc_mutation::greater_tomb;
 use rc_position::{Pos, Weight};
 use rc_units::{join_row, raise_entries};
@@ -36,15 +37,9 @@ fn add_version(
     chain: &mut Chain,
     sources: &mut Vec<Source>,
 ) -> Result<(), AllocError> {
-    let Some(last) = sources.last() else {
-        return Ok(());
-    };
-    let source = last.copy(alloc)?;
-    chain
-        .versions
-        .push(version_of(alloc, Flag::Inherit, sources.len())?)?;
-    sources.push(source)?;
-    Ok(())
+    let version = version_of(alloc, Flag::Inherit, sources.len())?;
+    chain.versions.push(version)?;
+    push_again(alloc, sources)
 }
 
 // The newest version, and what its writes say.
@@ -73,11 +68,19 @@ fn write_statics(alloc: Global, history: &mut History) -> Result<Option<Step>, A
         tomb: None,
         cells: some_cells(alloc, &mut history.chance)?,
     };
+    put_statics(alloc, history, &row)
+}
+
+fn put_statics(
+    alloc: Global,
+    history: &mut History,
+    row: &Row,
+) -> Result<Option<Step>, AllocError> {
     let Some((version, source)) = newest(&mut history.chain, &mut history.sources) else {
         return Ok(None);
     };
-    join_statics(alloc, version, &row)?;
-    source.statics.join(alloc, &row)?;
+    join_statics(alloc, version, row)?;
+    source.statics.join(alloc, row)?;
     Ok(Some(Step::new("write of a static row", Effect::Open)))
 }
 
@@ -98,11 +101,16 @@ fn write_range(alloc: Global, history: &mut History) -> Result<Option<Step>, All
 
 fn write_row(alloc: Global, history: &mut History) -> Result<Option<Step>, AllocError> {
     let row = some_row(alloc, &mut history.chance)?;
+    write_some(alloc, history, &row)
+}
+
+// A row at some key.
+fn write_some(alloc: Global, history: &mut History, row: &Row) -> Result<Option<Step>, AllocError> {
     let Some(number) = KEYS.get(history.chance.index(KEYS.len())) else {
         return Ok(None);
     };
     let at = position(alloc, *number, Weight::At)?;
-    put_row(alloc, history, &at, &row)
+    put_row(alloc, history, &at, row)
 }
 
 fn put_row(

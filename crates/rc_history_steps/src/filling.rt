@@ -1,12 +1,10 @@
 //! A snapshot fills the cache: a gap, a row, the static row.
 
-use crate::chain::{Chain, put_entries};
-use crate::checks::Effect;
-use crate::history::{History, Step};
-use crate::source::{Said, Source};
-use crate::universe::{KEYS, position};
+use crate::history::History;
+use crate::step::{Effect, Step};
 use rc_cell::{Row, Tomb};
 use rc_core::{Entry, Flag, Mark, PlainVersion, filled_mark, may_populate};
+use rc_history_parts::{Chain, KEYS, Said, Source, position, put_entries};
 use rc_position::{Pos, Weight};
 use rc_units::{join_row, split_entries};
 use std::alloc::{AllocError, Global};
@@ -40,12 +38,26 @@ pub(crate) fn fill_gap(alloc: Global, history: &mut History) -> Result<Option<St
     let Some((version, source)) = to_fill(&mut history.chain, history.sources.as_slice()) else {
         return Ok(None);
     };
+    if fill_between(alloc, version, source, from, to)? {
+        return Ok(Some(Step::carrying("fill of a gap", Effect::Between(first, second))));
+    }
+    Ok(None)
+}
+
+// The gap between two positions, where the writes say of no row and of one tombstone; whether they do.
+fn fill_between(
+    alloc: Global,
+    version: &mut PlainVersion,
+    source: &Source,
+    from: &Pos,
+    to: &Pos,
+) -> Result<bool, AllocError> {
     let Some(tomb) = tomb_of_gap(source, from, to) else {
-        return Ok(None);
+        return Ok(false);
     };
     let made = with_gap(alloc, from, to, tomb, version.entries.as_slice());
     put_entries(version, made)?;
-    Ok(Some(Step::carrying("fill of a gap", Effect::Between(first, second))))
+    Ok(true)
 }
 
 // The one tombstone that the writes say from one position on and before another, where they say of no row.
@@ -102,14 +114,24 @@ pub(crate) fn fill_row(alloc: Global, history: &mut History) -> Result<Option<St
     let Some(number) = KEYS.get(history.chance.index(KEYS.len())) else {
         return Ok(None);
     };
-    let at = position(alloc, *number, Weight::At)?;
     let Some((version, source)) = to_fill(&mut history.chain, history.sources.as_slice()) else {
         return Ok(None);
     };
-    if fill_said(alloc, version, source, &at)? {
+    if fill_number(alloc, version, source, *number)? {
         return Ok(Some(Step::carrying("fill of a row", Effect::Row(*number))));
     }
     Ok(None)
+}
+
+// The row of a number, where the writes say of one; whether they do.
+fn fill_number(
+    alloc: Global,
+    version: &mut PlainVersion,
+    source: &Source,
+    number: i64,
+) -> Result<bool, AllocError> {
+    let at = position(alloc, number, Weight::At)?;
+    fill_said(alloc, version, source, &at)
 }
 
 // The row that the writes say of at a position; whether they say of one.

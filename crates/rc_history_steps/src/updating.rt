@@ -1,15 +1,15 @@
 //! An update of the newest version: unit by unit, or given up where there is no room.
 
-use crate::chain::{Chain, Place, Update, put_entries, version_of};
-use crate::checks::Effect;
 use crate::filling::join_statics;
-use crate::history::{History, Step};
-use crate::source::{Source, some_mutation};
-use crate::tally::Tally;
-use crate::universe::{behind_key, end_position, start_position};
+use crate::history::{History, push_again};
+use crate::step::{Effect, Step};
 use rc_cell::Tomb;
 use rc_core::{Entry, Flag, PlainVersion, is_at_place};
-use rc_mutation::{Frag, Mutation, greater_tomb};
+use rc_history_parts::{
+    Chain, Place, Source, Tally, Update, behind_key, end_position, put_entries, some_mutation,
+    start_position, version_of,
+};
+use rc_mutation::{Frag, FragList, Mutation, greater_tomb};
 use rc_position::{Pos, Weight};
 use rc_units::{copy_entries, force_behind, lose_rest, put_fragment, split_entries};
 use std::alloc::{AllocError, Global};
@@ -20,9 +20,18 @@ pub(crate) fn begin(alloc: Global, history: &mut History) -> Result<Option<Step>
         return Ok(None);
     }
     let change = some_mutation(alloc, &history.universe, &mut history.chance)?;
+    begin_change(alloc, history, &change)
+}
+
+// A flush of this.
+fn begin_change(
+    alloc: Global,
+    history: &mut History,
+    change: &Mutation,
+) -> Result<Option<Step>, AllocError> {
     let phase = history.sources.len();
-    if push_source(alloc, &mut history.sources, &change)? {
-        return begin_with(alloc, history, &change, phase);
+    if push_source(alloc, &mut history.sources, change)? {
+        return begin_with(alloc, history, change, phase);
     }
     Ok(None)
 }
@@ -60,26 +69,30 @@ fn begin_with(
     }
     let version = version_of(alloc, Flag::Inherit, phase)?;
     history.chain.versions.push(version)?;
-    let fragments = change.fragments(alloc)?;
-    history.chain.update = Some(Update {
-        fragments,
+    put_update(&mut history.chain, change.fragments(alloc))?;
+    Ok(Some(Step::carrying("update begun", Effect::Open)))
+}
+
+// An update of these fragments stands in the chain; without memory none.
+fn put_update(
+    chain: &mut Chain,
+    fragments: Result<FragList, AllocError>,
+) -> Result<(), AllocError> {
+    chain.update = Some(Update {
+        fragments: fragments?,
         next: 0,
         force: None,
     });
-    Ok(Some(Step::carrying("update begun", Effect::Open)))
+    Ok(())
 }
 
 /// A flush that does not name the partition: the newest version of an attached chain stands for the new phase.
 pub(crate) fn relabel(alloc: Global, history: &mut History) -> Result<Option<Step>, AllocError> {
-    if history.chain.is_updating() {
+    if history.chain.is_updating() || history.sources.is_empty() {
         return Ok(None);
     }
-    let Some(last) = history.sources.last() else {
-        return Ok(None);
-    };
-    let source = last.copy(alloc)?;
     let phase = history.sources.len();
-    history.sources.push(source)?;
+    push_again(alloc, &mut history.sources)?;
     if history.chain.attached
         && let Some(version) = history.chain.versions.last_mut()
     {
@@ -95,15 +108,26 @@ pub(crate) fn unit(
     tally: &mut Tally,
 ) -> Result<Option<Step>, AllocError> {
     let room = !history.chance.happens(6);
-    let Some(place) = history.chain.place(alloc)? else {
-        return Ok(None);
-    };
+    match history.chain.place(alloc)? {
+        Some(place) => unit_at(alloc, history, &place, room, tally),
+        None => Ok(None),
+    }
+}
+
+// The unit at a place, where there is room or not.
+fn unit_at(
+    alloc: Global,
+    history: &mut History,
+    place: &Place,
+    room: bool,
+    tally: &mut Tally,
+) -> Result<Option<Step>, AllocError> {
     if let Place::End = place {
         history.chain.update = None;
         return Ok(Some(Step::carrying("update ended", Effect::Open)));
     }
     if !room && place.is_past_head() {
-        return Ok(give_up(alloc, &mut history.chain, &place));
+        return Ok(give_up(alloc, &mut history.chain, place));
     }
     advance(alloc, history, tally)
 }
@@ -129,9 +153,19 @@ fn advance(
         return Ok(None);
     };
     let kind = put_next(alloc, update, version)?;
-    let place = update.place(alloc)?;
-    refuse_spoiled(alloc, &place, version, tally)?;
+    refuse_next(alloc, update, version, tally)?;
     Ok(Some(Step::carrying(kind, Effect::Open)))
+}
+
+// Versions that are spoiled stand not at the update's place.
+fn refuse_next(
+    alloc: Global,
+    update: &Update,
+    version: &PlainVersion,
+    tally: &mut Tally,
+) -> Result<(), AllocError> {
+    let place = update.place(alloc)?;
+    refuse_spoiled(alloc, &place, version, tally)
 }
 
 // The next fragment goes into the version; what kind of unit that is.
@@ -140,16 +174,25 @@ fn put_next(
     update: &mut Update,
     version: &mut PlainVersion,
 ) -> Result<&'static str, AllocError> {
-    let number = update.next.saturating_add(1);
-    let next = update.place_of(alloc, number)?;
+    let next = update.place_of(alloc, update.next.saturating_add(1))?;
+    put_before(alloc, update, &next, version)
+}
+
+// The next fragment, whose next place is this.
+fn put_before(
+    alloc: Global,
+    update: &mut Update,
+    next: &Place,
+    version: &mut PlainVersion,
+) -> Result<&'static str, AllocError> {
     let Some(fragment) = update.fragments.as_slice().get(update.next) else {
         return Ok("update ended");
     };
-    put(alloc, update.force, fragment, &next, version)?;
-    let kind = kind_of(fragment, &next);
+    put(alloc, update.force, fragment, next, version)?;
+    let kind = kind_of(fragment, next);
     let force = force_behind(update.force, fragment);
     update.force = force;
-    update.next = number;
+    update.next = update.next.saturating_add(1);
     Ok(kind)
 }
 
@@ -239,12 +282,24 @@ fn refuse_dummy(
 ) -> Result<(), AllocError> {
     let behind = behind_key(alloc, &place.prefix)?;
     if *place < behind && behind < end_position(alloc) {
-        let spoiled = of_entries(split_entries(alloc, &behind, version.entries.as_slice())?);
-        tally.expect(
-            !is_at_place(place, &spoiled),
-            "a dummy behind the place is refused",
-        );
+        return refuse_dummy_at(alloc, place, &behind, version, tally);
     }
+    Ok(())
+}
+
+// A version with a dummy here.
+fn refuse_dummy_at(
+    alloc: Global,
+    place: &Pos,
+    behind: &Pos,
+    version: &PlainVersion,
+    tally: &mut Tally,
+) -> Result<(), AllocError> {
+    let spoiled = of_entries(split_entries(alloc, behind, version.entries.as_slice())?);
+    tally.expect(
+        !is_at_place(place, &spoiled),
+        "a dummy behind the place is refused",
+    );
     Ok(())
 }
 

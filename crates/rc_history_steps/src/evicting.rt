@@ -1,10 +1,9 @@
 //! Eviction of one object: an entry, the gap before an end dummy, a static row.
 
-use crate::chain::{Chain, Place};
-use crate::checks::Effect;
-use crate::history::{History, Step};
-use crate::universe::end_position;
+use crate::history::History;
+use crate::step::{Effect, Step};
 use rc_core::{Entry, Flag, PlainVersion, drop_entry, evict_under_update, mark_of_lost};
+use rc_history_parts::{Chain, Place, end_position};
 use std::alloc::{AllocError, Global};
 
 /// Some object of some version of a cache's chain.
@@ -12,16 +11,25 @@ pub(crate) fn evict(alloc: Global, history: &mut History) -> Result<Option<Step>
     let number = history.chance.index(history.chain.versions.len());
     let statics = history.chance.happens(15);
     let reach = history.chain.reach(alloc, number)?;
-    let Some(version) = history.chain.versions.get_mut(number) else {
-        return Ok(None);
-    };
+    Ok(evict_from(alloc, history, number, statics, &reach))
+}
+
+// The same of the version of a number, which an update has reached as far as this, if there is one.
+fn evict_from(
+    alloc: Global,
+    history: &mut History,
+    number: usize,
+    statics: bool,
+    reach: &Option<Place>,
+) -> Option<Step> {
+    let version = history.chain.versions.get_mut(number)?;
     if statics {
-        return Ok(evict_statics(version));
+        return evict_statics(version);
     }
     let index = history.chance.index(version.entries.len());
     match reach {
-        Some(place) => Ok(evict_at_place(alloc, &place, version, index)),
-        None => Ok(evict_entry(&mut version.entries, index)),
+        Some(place) => evict_at_place(alloc, place, version, index),
+        None => evict_entry(&mut version.entries, index),
     }
 }
 

@@ -4,21 +4,21 @@ use rc_position::{Comp, Key, Pos, Weight};
 use std::alloc::{AllocError, Global};
 
 /// The keys of the rows.
-pub(crate) const KEYS: [i64; 3] = [1, 3, 4];
+pub const KEYS: [i64; 3] = [1, 3, 4];
 
 /// The positions of a partition.
 #[derive(Drop)]
-pub(crate) struct Universe {
+pub struct Universe {
     /// Where the definitions are tried, in order.
-    pub(crate) all: Vec<Pos>,
+    pub all: Vec<Pos>,
     /// Where a range may begin or end, in order.
-    pub(crate) bounds: Vec<Pos>,
+    pub bounds: Vec<Pos>,
     /// Where a gap that is filled may begin or end, in order: the bounds, and the rows.
-    pub(crate) stops: Vec<Pos>,
+    pub stops: Vec<Pos>,
 }
 
 /// The position of a number.
-pub(crate) fn position(alloc: Global, number: i64, weight: Weight) -> Result<Pos, AllocError> {
+pub fn position(alloc: Global, number: i64, weight: Weight) -> Result<Pos, AllocError> {
     Ok(Pos {
         prefix: Key::from_slice(alloc, &[Comp::Int(number)])?,
         weight,
@@ -26,7 +26,7 @@ pub(crate) fn position(alloc: Global, number: i64, weight: Weight) -> Result<Pos
 }
 
 /// Before every row.
-pub(crate) fn start_position(alloc: Global) -> Pos {
+pub fn start_position(alloc: Global) -> Pos {
     Pos {
         prefix: Key::empty(alloc),
         weight: Weight::Before,
@@ -34,7 +34,7 @@ pub(crate) fn start_position(alloc: Global) -> Pos {
 }
 
 /// Behind every row.
-pub(crate) fn end_position(alloc: Global) -> Pos {
+pub fn end_position(alloc: Global) -> Pos {
     Pos {
         prefix: Key::empty(alloc),
         weight: Weight::After,
@@ -42,7 +42,7 @@ pub(crate) fn end_position(alloc: Global) -> Pos {
 }
 
 /// Whether a position is that of the row of a number.
-pub(crate) fn is_row_of(x: &Pos, number: i64) -> bool {
+pub fn is_row_of(x: &Pos, number: i64) -> bool {
     match (x.prefix.as_slice(), x.weight) {
         ([Comp::Int(key)], Weight::At) => *key == number,
         _ => false,
@@ -50,7 +50,7 @@ pub(crate) fn is_row_of(x: &Pos, number: i64) -> bool {
 }
 
 /// Right behind the rows of a key.
-pub(crate) fn behind_key(alloc: Global, key: &Key) -> Result<Pos, AllocError> {
+pub fn behind_key(alloc: Global, key: &Key) -> Result<Pos, AllocError> {
     Ok(Pos {
         prefix: key.copy(alloc)?,
         weight: Weight::After,
@@ -59,7 +59,7 @@ pub(crate) fn behind_key(alloc: Global, key: &Key) -> Result<Pos, AllocError> {
 
 impl Universe {
     /// Whether a position stands from one stop on and before another.
-    pub(crate) fn is_between(&self, from: usize, to: usize, x: &Pos) -> bool {
+    pub fn is_between(&self, from: usize, to: usize, x: &Pos) -> bool {
         match (self.stops.get(from), self.stops.get(to)) {
             (Some(from), Some(to)) => *from <= *x && *x < *to,
             _ => false,
@@ -67,25 +67,44 @@ impl Universe {
     }
 
     /// The positions at the keys and their bounds; for the definitions also rows that nobody writes, one of them longer than a key.
-    pub(crate) fn new(alloc: Global) -> Result<Self, AllocError> {
-        let all = all_of(alloc)?;
-        let bounds = ends_of(alloc, &[Weight::Before, Weight::After])?;
-        let stops = ends_of(alloc, &[Weight::Before, Weight::At, Weight::After])?;
-        Ok(Universe { all, bounds, stops })
+    pub fn new(alloc: Global) -> Result<Self, AllocError> {
+        let mut universe = Universe {
+            all: Vec::new(alloc),
+            bounds: Vec::new(alloc),
+            stops: Vec::new(alloc),
+        };
+        universe.fill(alloc)?;
+        Ok(universe)
+    }
+
+    fn fill(&mut self, alloc: Global) -> Result<(), AllocError> {
+        push_all(alloc, &mut self.all)?;
+        push_ends(alloc, &mut self.bounds, &[Weight::Before, Weight::After])?;
+        push_ends(
+            alloc,
+            &mut self.stops,
+            &[Weight::Before, Weight::At, Weight::After],
+        )
     }
 }
 
-// The start, at each key the positions of these weights, and the end.
-fn ends_of(alloc: Global, weights: &[Weight]) -> Result<Vec<Pos>, AllocError> {
-    let mut made = vec![in alloc; start_position(alloc)]?;
-    push_ends(alloc, &mut made, weights)?;
-    Ok(made)
+// One position more.
+fn push_position(
+    alloc: Global,
+    made: &mut Vec<Pos>,
+    number: i64,
+    weight: Weight,
+) -> Result<(), AllocError> {
+    made.push(position(alloc, number, weight)?)?;
+    Ok(())
 }
 
+// The start, at each key the positions of these weights, and the end.
 fn push_ends(alloc: Global, made: &mut Vec<Pos>, weights: &[Weight]) -> Result<(), AllocError> {
+    made.push(start_position(alloc))?;
     for number in KEYS {
         for weight in weights {
-            made.push(position(alloc, number, *weight)?)?;
+            push_position(alloc, made, number, *weight)?;
         }
     }
     made.push(end_position(alloc))?;
@@ -93,32 +112,27 @@ fn push_ends(alloc: Global, made: &mut Vec<Pos>, weights: &[Weight]) -> Result<(
 }
 
 // Where the definitions are tried.
-fn all_of(alloc: Global) -> Result<Vec<Pos>, AllocError> {
-    let mut all = vec![in alloc; start_position(alloc)]?;
-    push_all(alloc, &mut all)?;
-    Ok(all)
-}
-
 fn push_all(alloc: Global, all: &mut Vec<Pos>) -> Result<(), AllocError> {
-    all.push(position(alloc, 0, Weight::At)?)?;
+    all.push(start_position(alloc))?;
+    push_position(alloc, all, 0, Weight::At)?;
     for number in KEYS {
         push_key(alloc, all, number)?;
     }
-    all.push(position(alloc, 5, Weight::At)?)?;
+    push_position(alloc, all, 5, Weight::At)?;
     all.push(end_position(alloc))?;
     Ok(())
 }
 
 // The positions at a key: its bounds, its row, a longer one at 3, and behind 1 the row of 2, which nobody writes.
 fn push_key(alloc: Global, all: &mut Vec<Pos>, number: i64) -> Result<(), AllocError> {
-    all.push(position(alloc, number, Weight::Before)?)?;
-    all.push(position(alloc, number, Weight::At)?)?;
+    push_position(alloc, all, number, Weight::Before)?;
+    push_position(alloc, all, number, Weight::At)?;
     if number == 3 {
         all.push(longer(alloc, number)?)?;
     }
-    all.push(position(alloc, number, Weight::After)?)?;
+    push_position(alloc, all, number, Weight::After)?;
     if number == 1 {
-        all.push(position(alloc, 2, Weight::At)?)?;
+        push_position(alloc, all, 2, Weight::At)?;
     }
     Ok(())
 }

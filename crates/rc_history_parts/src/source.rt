@@ -10,29 +10,29 @@ use std::cmp::Ordering;
 
 /// What writes say of one position.
 #[derive(Drop)]
-pub(crate) struct Said {
+pub struct Said {
     /// Where.
-    pub(crate) position: Pos,
+    pub position: Pos,
     /// The rows as one.
-    pub(crate) row: Row,
+    pub row: Row,
     /// The greatest range tombstone.
-    pub(crate) tomb: Option<Tomb>,
+    pub tomb: Option<Tomb>,
 }
 
 /// What writes say of a partition.
 #[derive(Drop)]
-pub(crate) struct Source {
+pub struct Source {
     /// The greatest partition tombstone.
-    pub(crate) pt: Option<Tomb>,
+    pub pt: Option<Tomb>,
     /// The static rows as one.
-    pub(crate) statics: Row,
+    pub statics: Row,
     /// At each position of the universe, in order.
-    pub(crate) places: Vec<Said>,
+    pub places: Vec<Said>,
 }
 
 impl Source {
     /// Of no writes.
-    pub(crate) fn empty(alloc: Global, universe: &Universe) -> Result<Self, AllocError> {
+    pub fn empty(alloc: Global, universe: &Universe) -> Result<Self, AllocError> {
         let places = empty_places(alloc, universe)?;
         Ok(Source {
             pt: None,
@@ -42,7 +42,7 @@ impl Source {
     }
 
     /// An equal table.
-    pub(crate) fn copy(&self, alloc: Global) -> Result<Self, AllocError> {
+    pub fn copy(&self, alloc: Global) -> Result<Self, AllocError> {
         let statics = self.statics.copy(alloc)?;
         Ok(Source {
             pt: self.pt,
@@ -52,7 +52,7 @@ impl Source {
     }
 
     /// One more row written.
-    pub(crate) fn add_row(&mut self, alloc: Global, at: &Pos, row: &Row) -> Result<(), AllocError> {
+    pub fn add_row(&mut self, alloc: Global, at: &Pos, row: &Row) -> Result<(), AllocError> {
         for said in self.places.iter_mut() {
             if said.position == *at {
                 said.row.join(alloc, row)?;
@@ -71,7 +71,7 @@ impl Source {
     }
 
     /// One more range tombstone written, from one position on and before another.
-    pub(crate) fn add_range(&mut self, from: &Pos, to: &Pos, tomb: Tomb) {
+    pub fn add_range(&mut self, from: &Pos, to: &Pos, tomb: Tomb) {
         for said in self.places.iter_mut() {
             if *from <= said.position && said.position < *to {
                 said.tomb = greater_tomb(said.tomb, Some(tomb));
@@ -80,7 +80,7 @@ impl Source {
     }
 
     /// Another mutation written.
-    pub(crate) fn add(&mut self, alloc: Global, change: &Mutation) -> Result<(), AllocError> {
+    pub fn add(&mut self, alloc: Global, change: &Mutation) -> Result<(), AllocError> {
         self.pt = greater_tomb(self.pt, change.pt);
         self.statics.join(alloc, change.statics.as_row())?;
         for (key, row) in change.rows.as_slice() {
@@ -93,7 +93,7 @@ impl Source {
     }
 
     /// What is said at a position of the universe.
-    pub(crate) fn at(&self, x: &Pos) -> Option<&Said> {
+    pub fn at(&self, x: &Pos) -> Option<&Said> {
         for said in &self.places {
             if said.position == *x {
                 return Some(said);
@@ -134,14 +134,14 @@ fn copy_places(alloc: Global, said: &[Said]) -> Result<Vec<Said>, AllocError> {
 }
 
 /// Whether two rows are one.
-pub(crate) fn is_same_row(row: &Row, other: &Row) -> bool {
+pub fn is_same_row(row: &Row, other: &Row) -> bool {
     row.marker == other.marker
         && row.tomb == other.tomb
         && row.cells.as_slice() == other.cells.as_slice()
 }
 
 /// A tombstone of some timestamp.
-pub(crate) fn some_tomb(chance: &mut Chance) -> Tomb {
+pub fn some_tomb(chance: &mut Chance) -> Tomb {
     Tomb {
         ts: 1 + i64::from(chance.below(5)),
         dt: chance.below(2),
@@ -149,14 +149,14 @@ pub(crate) fn some_tomb(chance: &mut Chance) -> Tomb {
 }
 
 /// One cell, which deletes a column.
-pub(crate) fn some_cells(alloc: Global, chance: &mut Chance) -> Result<Cells, AllocError> {
+pub fn some_cells(alloc: Global, chance: &mut Chance) -> Result<Cells, AllocError> {
     let column = if chance.happens(50) { 0 } else { 1 };
     let ts = 1 + i64::from(chance.below(5));
     Cells::from_slice(alloc, &[(column, Cell::Dead { ts, dt: 0 })])
 }
 
 /// A row of which something is written: a marker, a tombstone, or a cell.
-pub(crate) fn some_row(alloc: Global, chance: &mut Chance) -> Result<Row, AllocError> {
+pub fn some_row(alloc: Global, chance: &mut Chance) -> Result<Row, AllocError> {
     let marker = 1 + i64::from(chance.below(5));
     let mut row = Row::empty(alloc);
     match chance.below(4) {
@@ -168,10 +168,7 @@ pub(crate) fn some_row(alloc: Global, chance: &mut Chance) -> Result<Row, AllocE
 }
 
 /// Two bounds of the universe, the lesser first; none where chance takes one twice.
-pub(crate) fn some_bounds<'a>(
-    chance: &mut Chance,
-    bounds: &'a [Pos],
-) -> Option<(&'a Pos, &'a Pos)> {
+pub fn some_bounds<'a>(chance: &mut Chance, bounds: &'a [Pos]) -> Option<(&'a Pos, &'a Pos)> {
     let first = bounds.get(chance.index(bounds.len()))?;
     let second = bounds.get(chance.index(bounds.len()))?;
     match first.cmp(second) {
@@ -182,16 +179,25 @@ pub(crate) fn some_bounds<'a>(
 }
 
 /// What an update writes: at the head, of the static row, rows and range tombstones, each or none.
-pub(crate) fn some_mutation(
+pub fn some_mutation(
     alloc: Global,
     universe: &Universe,
     chance: &mut Chance,
 ) -> Result<Mutation, AllocError> {
     let mut change = Mutation::empty(alloc);
-    write_head(alloc, &mut change, chance)?;
-    write_rows(alloc, &mut change, chance)?;
-    write_ranges(alloc, &mut change, universe, chance)?;
+    write_all(alloc, &mut change, universe, chance)?;
     Ok(change)
+}
+
+fn write_all(
+    alloc: Global,
+    change: &mut Mutation,
+    universe: &Universe,
+    chance: &mut Chance,
+) -> Result<(), AllocError> {
+    write_head(alloc, change, chance)?;
+    write_rows(alloc, change, chance)?;
+    write_ranges(alloc, change, universe, chance)
 }
 
 fn write_head(alloc: Global, change: &mut Mutation, chance: &mut Chance) -> Result<(), AllocError> {

@@ -51,8 +51,18 @@ fn span_of(word: &[u8]) -> Option<Span> {
 fn add_span(alloc: Global, ranges: &mut Ranges, span: Span) -> Result<(), AllocError> {
     let from = pos(alloc, span.from, Weight::Before)?;
     let to = pos(alloc, span.to, Weight::Before)?;
-    if from < to {
-        ranges.add(alloc, &from, &to, Tomb { ts: span.ts, dt: 7 })?;
+    add_between(alloc, ranges, &from, &to, span.ts)
+}
+
+fn add_between(
+    alloc: Global,
+    ranges: &mut Ranges,
+    from: &Pos,
+    to: &Pos,
+    ts: i64,
+) -> Result<(), AllocError> {
+    if *from < *to {
+        return ranges.add(alloc, from, to, Tomb { ts, dt: 7 });
     }
     Ok(())
 }
@@ -98,8 +108,13 @@ fn tell_pieces(pieces: &[Piece], text: &mut String) -> Result<(), AllocError> {
 // The tombstones of spans, the first one joined last.
 fn joined_of(alloc: Global, first: &[u8], others: &[&[u8]]) -> Result<Ranges, AllocError> {
     let mut joined = ranges_of(alloc, others)?;
-    joined.join(alloc, &ranges_of(alloc, &[first])?)?;
+    join_first(alloc, &mut joined, first)?;
     Ok(joined)
+}
+
+fn join_first(alloc: Global, joined: &mut Ranges, first: &[u8]) -> Result<(), AllocError> {
+    let one = ranges_of(alloc, &[first])?;
+    joined.join(alloc, &one)
 }
 
 fn tell_joined(
@@ -117,6 +132,21 @@ fn tell_added(alloc: Global, spans: &[&[u8]], text: &mut String) -> Result<(), A
     tell_pieces(added.as_slice(), text)
 }
 
+// Tells what spans added one after another come to, or that it is not this.
+fn tell_added_as(
+    alloc: Global,
+    spans: &[&[u8]],
+    joined: &str,
+    text: &mut String,
+) -> Result<(), AllocError> {
+    tell_added(alloc, spans, text)?;
+    if text.as_str() == joined {
+        return Ok(());
+    }
+    text.clear();
+    text.push_str("differs")
+}
+
 /// Tells what spans come to, added one after another or joined to the first one, or that these differ.
 pub(crate) fn adds(alloc: Global, spans: &[&[u8]], text: &mut String) -> Result<(), AllocError> {
     let [first, others @ ..] = spans else {
@@ -124,12 +154,7 @@ pub(crate) fn adds(alloc: Global, spans: &[&[u8]], text: &mut String) -> Result<
     };
     let mut joined = String::new(alloc);
     tell_joined(alloc, first, others, &mut joined)?;
-    tell_added(alloc, spans, text)?;
-    if text.as_str() == joined.as_str() {
-        return Ok(());
-    }
-    text.clear();
-    text.push_str("differs")
+    tell_added_as(alloc, spans, joined.as_str(), text)
 }
 
 fn stamp(tomb: Option<Tomb>) -> Option<i64> {
@@ -198,21 +223,31 @@ fn at_row(ranges: &Ranges, x: &Pos) -> Option<i64> {
 // One list and the others joined.
 fn both_of(alloc: Global, first: &Ranges, others: &[Ranges]) -> Result<Ranges, AllocError> {
     let mut both = first.copy(alloc)?;
+    join_others(alloc, &mut both, others)?;
+    Ok(both)
+}
+
+fn join_others(alloc: Global, both: &mut Ranges, others: &[Ranges]) -> Result<(), AllocError> {
     for other in others {
         both.join(alloc, other)?;
     }
-    Ok(both)
+    Ok(())
 }
 
 // Two at a time, and the last alone where their count is odd.
 fn in_pairs(alloc: Global, all: &[Ranges]) -> Result<Vec<Ranges>, AllocError> {
     let mut pairs = Vec::new(alloc);
+    push_pairs(alloc, all, &mut pairs)?;
+    Ok(pairs)
+}
+
+fn push_pairs(alloc: Global, all: &[Ranges], pairs: &mut Vec<Ranges>) -> Result<(), AllocError> {
     for pair in all.chunks(2) {
         if let [first, others @ ..] = pair {
             pairs.push(both_of(alloc, first, others)?)?;
         }
     }
-    Ok(pairs)
+    Ok(())
 }
 
 fn stamp_of(word: &[u8], from: i64) -> i64 {
@@ -226,14 +261,13 @@ fn stamp_of(word: &[u8], from: i64) -> i64 {
 }
 
 // 10,000 lists of one span over ten numbers each, which begin one number after another.
-fn many_of(alloc: Global, word: &[u8]) -> Result<Vec<Ranges>, AllocError> {
-    let mut all = Vec::new(alloc);
+fn push_many(alloc: Global, word: &[u8], all: &mut Vec<Ranges>) -> Result<(), AllocError> {
     for from in 0..10_000i64 {
         let to = from.saturating_add(10);
         let ts = stamp_of(word, from);
         all.push(range_of(alloc, Span { from, to, ts })?)?;
     }
-    Ok(all)
+    Ok(())
 }
 
 fn range_of(alloc: Global, span: Span) -> Result<Ranges, AllocError> {
@@ -244,11 +278,23 @@ fn range_of(alloc: Global, span: Span) -> Result<Ranges, AllocError> {
 
 /// Tells how many pieces many spans come to.
 pub(crate) fn many(alloc: Global, word: &[u8], text: &mut String) -> Result<(), AllocError> {
-    let mut all = many_of(alloc, word)?;
-    for _round in 0..14 {
-        all = in_pairs(alloc, all.as_slice())?;
-    }
+    let mut all = Vec::new(alloc);
+    join_many(alloc, word, &mut all)?;
     tell_count(all.as_slice(), text)
+}
+
+// Many spans, two lists at a time until one is left.
+fn join_many(alloc: Global, word: &[u8], all: &mut Vec<Ranges>) -> Result<(), AllocError> {
+    push_many(alloc, word, all)?;
+    for _round in 0..14 {
+        join_pairs(alloc, all)?;
+    }
+    Ok(())
+}
+
+fn join_pairs(alloc: Global, all: &mut Vec<Ranges>) -> Result<(), AllocError> {
+    *all = in_pairs(alloc, all.as_slice())?;
+    Ok(())
 }
 
 // Tells how many pieces the one list has.

@@ -85,8 +85,13 @@ fn wins_over(
 // The row of one cell joined with that of another.
 fn joined_row(alloc: Global, cell: &Cell, other: &Cell) -> Result<Row, AllocError> {
     let mut joined = row_of(alloc, cell)?;
-    joined.join(alloc, &row_of(alloc, other)?)?;
+    join_cell(alloc, &mut joined, other)?;
     Ok(joined)
+}
+
+fn join_cell(alloc: Global, joined: &mut Row, other: &Cell) -> Result<(), AllocError> {
+    let row = row_of(alloc, other)?;
+    joined.join(alloc, &row)
 }
 
 fn winner(alloc: Global, first: &Cell, second: &Cell, text: &mut String) -> Result<(), AllocError> {

@@ -9,7 +9,7 @@ use std::alloc::{AllocError, Global};
 
 /// The place of an update: that of its next fragment.
 #[derive(Drop)]
-pub(crate) enum Place {
+pub enum Place {
     /// The head.
     Head,
     /// The static row.
@@ -22,7 +22,7 @@ pub(crate) enum Place {
 
 impl Place {
     /// The place of a fragment.
-    pub(crate) fn of(alloc: Global, fragment: &Frag) -> Result<Self, AllocError> {
+    fn of(alloc: Global, fragment: &Frag) -> Result<Self, AllocError> {
         Ok(match fragment {
             Frag::Start(_) => Place::Head,
             Frag::Static(_) => Place::Static,
@@ -36,7 +36,7 @@ impl Place {
     }
 
     /// Whether the head stands before the place.
-    pub(crate) fn is_past_head(&self) -> bool {
+    pub fn is_past_head(&self) -> bool {
         match self {
             Place::Head => false,
             Place::Static | Place::At(_) | Place::End => true,
@@ -44,7 +44,7 @@ impl Place {
     }
 
     /// Whether the static row stands before the place.
-    pub(crate) fn is_past_statics(&self) -> bool {
+    pub fn is_past_statics(&self) -> bool {
         match self {
             Place::Head | Place::Static => false,
             Place::At(_) | Place::End => true,
@@ -52,7 +52,7 @@ impl Place {
     }
 
     /// Whether a position stands before the place.
-    pub(crate) fn is_past(&self, x: &Pos) -> bool {
+    pub fn is_past(&self, x: &Pos) -> bool {
         match self {
             Place::Head | Place::Static => false,
             Place::At(place) => *x < *place,
@@ -63,18 +63,18 @@ impl Place {
 
 /// An update that stands in the newest version.
 #[derive(Drop)]
-pub(crate) struct Update {
+pub struct Update {
     /// The fragments of what it writes.
-    pub(crate) fragments: FragList,
+    pub fragments: FragList,
     /// The number of the next one.
-    pub(crate) next: usize,
+    pub next: usize,
     /// The range tombstone in force before the next one, as the fragments have it.
-    pub(crate) force: Option<Tomb>,
+    pub force: Option<Tomb>,
 }
 
 impl Update {
     /// The place of the fragment of a number: the end behind the last fragment.
-    pub(crate) fn place_of(&self, alloc: Global, number: usize) -> Result<Place, AllocError> {
+    pub fn place_of(&self, alloc: Global, number: usize) -> Result<Place, AllocError> {
         match self.fragments.as_slice().get(number) {
             Some(fragment) => Place::of(alloc, fragment),
             None => Ok(Place::End),
@@ -82,29 +82,29 @@ impl Update {
     }
 
     /// The update's place.
-    pub(crate) fn place(&self, alloc: Global) -> Result<Place, AllocError> {
+    pub fn place(&self, alloc: Global) -> Result<Place, AllocError> {
         self.place_of(alloc, self.next)
     }
 }
 
 /// The versions of a partition over one another; none where there is no chain.
 #[derive(Drop)]
-pub(crate) struct Chain {
+pub struct Chain {
     /// What stands below the oldest version.
-    pub(crate) kind: ChainKind,
+    pub kind: ChainKind,
     /// The versions, the oldest first.
-    pub(crate) versions: Vec<PlainVersion>,
+    pub versions: Vec<PlainVersion>,
     /// Whether the chain is found by its key.
-    pub(crate) attached: bool,
+    pub attached: bool,
     /// At the number of a snapshot that of the version which it pins; none at a number that is free.
-    pub(crate) pins: Vec<Option<usize>>,
+    pub pins: Vec<Option<usize>>,
     /// The update that stands in the newest version.
-    pub(crate) update: Option<Update>,
+    pub update: Option<Update>,
 }
 
 impl Chain {
     /// No chain.
-    pub(crate) fn none(alloc: Global, kind: ChainKind) -> Self {
+    pub fn none(alloc: Global, kind: ChainKind) -> Self {
         Chain {
             kind,
             versions: Vec::new(alloc),
@@ -115,17 +115,17 @@ impl Chain {
     }
 
     /// Whether an update stands in it.
-    pub(crate) fn is_updating(&self) -> bool {
+    pub fn is_updating(&self) -> bool {
         self.update.is_some()
     }
 
     /// Whether a version is the newest.
-    pub(crate) fn is_newest(&self, number: usize) -> bool {
+    pub fn is_newest(&self, number: usize) -> bool {
         number < self.versions.len() && number == self.versions.len() - 1
     }
 
     /// Whether a snapshot pins a version.
-    pub(crate) fn is_pinned(&self, number: usize) -> bool {
+    pub fn is_pinned(&self, number: usize) -> bool {
         for pin in &self.pins {
             if *pin == Some(number) {
                 return true;
@@ -135,7 +135,7 @@ impl Chain {
     }
 
     /// Whether no snapshot is left.
-    pub(crate) fn is_unpinned(&self) -> bool {
+    pub fn is_unpinned(&self) -> bool {
         for pin in &self.pins {
             if pin.is_some() {
                 return false;
@@ -145,7 +145,7 @@ impl Chain {
     }
 
     /// The number of the version that a snapshot pins which is taken now: the newest, or the one below it under update; none where there is none.
-    pub(crate) fn snapshot_version(&self) -> Option<usize> {
+    pub fn snapshot_version(&self) -> Option<usize> {
         if self.is_updating() {
             self.versions.len().checked_sub(2)
         } else {
@@ -154,7 +154,7 @@ impl Chain {
     }
 
     /// Whether somebody reads a version or will: it is pinned, the newest of an attached chain, or the one below the newest under update.
-    pub(crate) fn is_needed(&self, number: usize) -> bool {
+    pub fn is_needed(&self, number: usize) -> bool {
         if self.is_pinned(number) || self.attached && self.is_newest(number) {
             return true;
         }
@@ -162,7 +162,7 @@ impl Chain {
     }
 
     /// The place of the update that stands in it; none where there is none.
-    pub(crate) fn place(&self, alloc: Global) -> Result<Option<Place>, AllocError> {
+    pub fn place(&self, alloc: Global) -> Result<Option<Place>, AllocError> {
         match &self.update {
             Some(update) => Ok(Some(update.place(alloc)?)),
             None => Ok(None),
@@ -170,7 +170,7 @@ impl Chain {
     }
 
     /// The update's place, of the newest version under update; none of every other.
-    pub(crate) fn reach(&self, alloc: Global, number: usize) -> Result<Option<Place>, AllocError> {
+    pub fn reach(&self, alloc: Global, number: usize) -> Result<Option<Place>, AllocError> {
         if self.is_newest(number) {
             return self.place(alloc);
         }
@@ -179,7 +179,7 @@ impl Chain {
 }
 
 /// The entries of a version are these from now on; without memory it stays.
-pub(crate) fn put_entries(
+pub fn put_entries(
     version: &mut PlainVersion,
     made: Result<Vec<Entry>, AllocError>,
 ) -> Result<(), AllocError> {
@@ -188,11 +188,7 @@ pub(crate) fn put_entries(
 }
 
 /// A version of its end dummy alone, whose flags are all this one.
-pub(crate) fn version_of(
-    alloc: Global,
-    flag: Flag,
-    phase: usize,
-) -> Result<PlainVersion, AllocError> {
+pub fn version_of(alloc: Global, flag: Flag, phase: usize) -> Result<PlainVersion, AllocError> {
     let mark = Mark { flag, tomb: None };
     let end = Entry {
         position: end_position(alloc),
@@ -210,7 +206,7 @@ pub(crate) fn version_of(
 }
 
 /// The versions up to the one of a number.
-pub(crate) fn upto(versions: &[PlainVersion], number: usize) -> &[PlainVersion] {
+pub fn upto(versions: &[PlainVersion], number: usize) -> &[PlainVersion] {
     if number < versions.len() {
         &versions[..number + 1]
     } else {
@@ -219,7 +215,7 @@ pub(crate) fn upto(versions: &[PlainVersion], number: usize) -> &[PlainVersion] 
 }
 
 /// The version of a number alone.
-pub(crate) fn alone(versions: &[PlainVersion], number: usize) -> &[PlainVersion] {
+pub fn alone(versions: &[PlainVersion], number: usize) -> &[PlainVersion] {
     if number < versions.len() {
         &versions[number..number + 1]
     } else {

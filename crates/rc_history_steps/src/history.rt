@@ -1,70 +1,31 @@
 //! A history: a chain, what the writes of each phase say, and one random lawful step after another.
 
-use crate::chain::{Chain, version_of};
-use crate::chance::Chance;
-use crate::checks::{Effect, View, check_carried, check_chain, check_effect};
 use crate::cleaning::{clean, free};
 use crate::evicting::evict;
 use crate::filling::{fill_gap, fill_row, fill_statics};
-use crate::source::{Source, some_mutation};
-use crate::tally::Tally;
-use crate::universe::Universe;
+use crate::step::{Effect, Step};
 use crate::updating::{begin, relabel, unit};
 use crate::writing::write;
 use rc_core::{ChainKind, Flag, PlainVersion, release_pin};
+use rc_history_parts::{Chain, Chance, Source, Tally, Universe, some_mutation, version_of};
 use std::alloc::{AllocError, Global};
-
-/// A step that was taken.
-#[derive(Clone, Copy)]
-pub(crate) struct Step {
-    /// Its kind.
-    pub(crate) kind: &'static str,
-    /// What it may do to what is seen.
-    pub(crate) effect: Effect,
-    /// Whether what is carried before it is carried behind it.
-    pub(crate) carries: bool,
-    /// Whether a version was dropped.
-    pub(crate) dropped: bool,
-}
-
-impl Step {
-    /// A step which drops no version.
-    pub(crate) fn new(kind: &'static str, effect: Effect) -> Self {
-        Step {
-            kind,
-            effect,
-            carries: false,
-            dropped: false,
-        }
-    }
-
-    /// A step which drops no version, and keeps what is carried.
-    pub(crate) fn carrying(kind: &'static str, effect: Effect) -> Self {
-        Step {
-            kind,
-            effect,
-            carries: true,
-            dropped: false,
-        }
-    }
-}
 
 /// A chain and what the writes say.
 #[derive(Drop)]
-pub(crate) struct History {
+pub struct History {
     /// The positions.
-    pub(crate) universe: Universe,
+    pub universe: Universe,
     /// What the writes of each phase say. The newest version of an attached chain stands for the last.
-    pub(crate) sources: Vec<Source>,
+    pub sources: Vec<Source>,
     /// The chain.
-    pub(crate) chain: Chain,
+    pub chain: Chain,
     /// What decides the steps.
-    pub(crate) chance: Chance,
+    pub chance: Chance,
 }
 
 impl History {
     /// No chain yet; of a cache some writes below it.
-    pub(crate) fn new(alloc: Global, kind: ChainKind, seed: u64) -> Result<Self, AllocError> {
+    pub fn new(alloc: Global, kind: ChainKind, seed: u64) -> Result<Self, AllocError> {
         let universe = Universe::new(alloc)?;
         let mut chance = Chance::new(seed);
         let sources = first_sources(alloc, kind, &universe, &mut chance)?;
@@ -76,57 +37,12 @@ impl History {
         })
     }
 
-    /// One step, if what chance takes is lawful now, and every definition after it.
-    pub(crate) fn step(&mut self, alloc: Global, tally: &mut Tally) -> Result<(), AllocError> {
-        let before = View::of(alloc, &self.universe, &self.chain)?;
-        self.step_from(alloc, &before, tally)
-    }
-
-    // The same, where this was seen before it.
-    fn step_from(
+    /// One step, if what chance takes is lawful now.
+    pub fn take_step(
         &mut self,
         alloc: Global,
-        before: &View,
         tally: &mut Tally,
-    ) -> Result<(), AllocError> {
-        match self.take_step(alloc, tally)? {
-            Some(step) => self.check_step(alloc, before, step, tally),
-            None => Ok(()),
-        }
-    }
-
-    // Every definition after a step, and what was seen before it against what is seen now.
-    fn check_step(
-        &self,
-        alloc: Global,
-        before: &View,
-        step: Step,
-        tally: &mut Tally,
-    ) -> Result<(), AllocError> {
-        tally.count(step.kind);
-        let sources = self.sources.as_slice();
-        check_chain(alloc, &self.universe, sources, &self.chain, tally)?;
-        let now = View::of(alloc, &self.universe, &self.chain)?;
-        self.check_view(step, before, &now, tally);
-        Ok(())
-    }
-
-    // What is seen and what is carried before a step against what is now.
-    fn check_view(&self, step: Step, before: &View, now: &View, tally: &mut Tally) {
-        check_effect(
-            &self.universe,
-            self.chain.kind,
-            step.effect,
-            before.pictures.as_slice(),
-            now.pictures.as_slice(),
-            tally,
-        );
-        if step.carries {
-            check_carried(before.carried.as_slice(), now.carried.as_slice(), tally);
-        }
-    }
-
-    fn take_step(&mut self, alloc: Global, tally: &mut Tally) -> Result<Option<Step>, AllocError> {
+    ) -> Result<Option<Step>, AllocError> {
         if self.chain.versions.is_empty() {
             return open(alloc, self);
         }
@@ -187,6 +103,15 @@ fn add_some(
     source.add(alloc, &change)
 }
 
+/// A phase more, in which nothing is written.
+pub(crate) fn push_again(alloc: Global, sources: &mut Vec<Source>) -> Result<(), AllocError> {
+    if let Some(last) = sources.last() {
+        let source = last.copy(alloc)?;
+        sources.push(source)?;
+    }
+    Ok(())
+}
+
 // The phase of a chain that is opened: of a memtable a new one, of which no writes are yet.
 fn opened_phase(alloc: Global, history: &mut History) -> Result<usize, AllocError> {
     if let ChainKind::Memtable = history.chain.kind {
@@ -239,20 +164,33 @@ fn snapshot(history: &mut History) -> Result<Option<Step>, AllocError> {
     let Some(version) = chain.snapshot_version() else {
         return Ok(None);
     };
-    if !chain.attached {
-        return Ok(None);
+    if chain.attached && pin(&mut chain.pins, version)? {
+        return Ok(Some(Step::carrying("snapshot", Effect::Open)));
     }
-    for pin in chain.pins.iter_mut() {
+    Ok(None)
+}
+
+// A version is pinned, at a number that is free or a new one; whether there was one.
+fn pin(pins: &mut Vec<Option<usize>>, version: usize) -> Result<bool, AllocError> {
+    if pin_free(pins.as_mut_slice(), version) {
+        return Ok(true);
+    }
+    if pins.len() > 3 {
+        return Ok(false);
+    }
+    pins.push(Some(version))?;
+    Ok(true)
+}
+
+// A version is pinned at the first number that is free; whether there is one.
+fn pin_free(pins: &mut [Option<usize>], version: usize) -> bool {
+    for pin in pins.iter_mut() {
         if pin.is_none() {
             *pin = Some(version);
-            return Ok(Some(Step::carrying("snapshot", Effect::Open)));
+            return true;
         }
     }
-    if chain.pins.len() > 3 {
-        return Ok(None);
-    }
-    chain.pins.push(Some(version))?;
-    Ok(Some(Step::carrying("snapshot", Effect::Open)))
+    false
 }
 
 fn release(history: &mut History) -> Option<Step> {

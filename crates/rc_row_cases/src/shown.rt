@@ -70,9 +70,18 @@ fn tell_first(alloc: Global, value: &Value, text: &mut String) -> Result<(), All
 // The rows of two writes.
 fn rows_of(alloc: Global, first: &[u8], second: &[u8]) -> Result<Rows, AllocError> {
     let mut rows = Rows::empty(alloc);
-    join_word(alloc, &mut rows, first)?;
-    join_word(alloc, &mut rows, second)?;
+    join_words(alloc, &mut rows, first, second)?;
     Ok(rows)
+}
+
+fn join_words(
+    alloc: Global,
+    rows: &mut Rows,
+    first: &[u8],
+    second: &[u8],
+) -> Result<(), AllocError> {
+    join_word(alloc, rows, first)?;
+    join_word(alloc, rows, second)
 }
 
 fn join_word(alloc: Global, rows: &mut Rows, word: &[u8]) -> Result<(), AllocError> {
@@ -115,9 +124,13 @@ fn join_rows(alloc: Global, rows: &mut Rows) -> Result<(), AllocError> {
 fn four_rows(alloc: Global, pt: &[u8]) -> Result<Mutation, AllocError> {
     let mut change = Mutation::empty(alloc);
     change.pt = tomb_of(pt);
-    change.statics = statics_of(alloc)?;
-    join_rows(alloc, &mut change.rows)?;
+    write_four(alloc, &mut change)?;
     Ok(change)
+}
+
+fn write_four(alloc: Global, change: &mut Mutation) -> Result<(), AllocError> {
+    change.statics = statics_of(alloc)?;
+    join_rows(alloc, &mut change.rows)
 }
 
 // Behind 1, up to 3.
@@ -163,9 +176,17 @@ fn lines_of(alloc: Global, compactor: &mut Compactor, frags: &[Frag]) -> Result<
 
 // How many lines the fragments of a mutation give.
 fn lines_of_fragments(alloc: Global, change: &Mutation) -> Result<u8, AllocError> {
-    let frags = change.fragments(alloc)?;
     let mut compactor = compactor_of(alloc, change)?;
-    lines_of(alloc, &mut compactor, frags.as_slice())
+    lines_put(alloc, &mut compactor, change)
+}
+
+fn lines_put(
+    alloc: Global,
+    compactor: &mut Compactor,
+    change: &Mutation,
+) -> Result<u8, AllocError> {
+    let frags = change.fragments(alloc)?;
+    lines_of(alloc, compactor, frags.as_slice())
 }
 
 /// Tells how many lines a slice of four rows has, and how many their fragments give.

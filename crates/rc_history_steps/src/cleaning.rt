@@ -1,14 +1,13 @@
 //! The cleaner: a part of a version that nobody reads goes under the next newer one, or is lost where there is no room; and the objects of
 //! a chain that nobody finds or reads are freed one at a time.
 
-use crate::chain::{Chain, put_entries};
-use crate::checks::Effect;
 use crate::evicting::is_left;
-use crate::history::{History, Step};
-use crate::tally::Tally;
+use crate::history::History;
+use crate::step::{Effect, Step};
 use rc_core::{
     ChainKind, Flag, Mark, PlainVersion, drop_entry, flag_under, mark_of_lost, merge_head,
 };
+use rc_history_parts::{Chain, Tally, put_entries};
 use rc_units::{
     close_gap, may_merge, merge_end_dummy, merge_first_entry, next_to_clean, put_row_down,
 };

@@ -2,7 +2,7 @@
 //! `row regular COLUMN CELL` and `row static COLUMN CELL` check a row of one cell under one static and two regular columns.
 
 use crate::answers::{NO_CASE, says, tell_either};
-use crate::positions::key_of;
+use crate::keys::key_of;
 use crate::rows::cell_of;
 use rc_cell::{Cell, Cells, Row};
 use rc_position::Key;

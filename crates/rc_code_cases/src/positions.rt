@@ -9,28 +9,37 @@ use std::alloc::{AllocError, Global};
 use std::cmp::Ordering;
 
 // The component that bytes spell: a number is an int.
-fn comp_of(bytes: Vec<u8>) -> Comp {
-    match signed(bytes.as_slice()) {
-        Some(number) => Comp::Int(number),
-        None => Comp::Text(Text::from_vec(bytes)),
+fn comp_of(alloc: Global, bytes: &[u8]) -> Result<Comp, AllocError> {
+    match signed(bytes) {
+        Some(number) => Ok(Comp::Int(number)),
+        None => Ok(Comp::Text(Text::from_slice(alloc, bytes)?)),
     }
 }
 
-fn comps_of(alloc: Global, spelled: Vec<Vec<u8>>) -> Result<Vec<Comp>, AllocError> {
-    let mut comps = Vec::new(alloc);
+fn push_components(
+    alloc: Global,
+    spelled: &[Vec<u8>],
+    comps: &mut Vec<Comp>,
+) -> Result<(), AllocError> {
     for bytes in spelled {
-        comps.push(comp_of(bytes))?;
+        comps.push(comp_of(alloc, bytes.as_slice())?)?;
     }
-    Ok(comps)
+    Ok(())
 }
 
-/// The key that a word spells: a component that is a number is an int.
-pub(crate) fn key_of(alloc: Global, word: &[u8]) -> Result<Option<Key>, AllocError> {
+fn key_spelled(alloc: Global, spelled: &[Vec<u8>]) -> Result<Key, AllocError> {
+    let mut comps = Vec::new(alloc);
+    push_components(alloc, spelled, &mut comps)?;
+    Ok(Key::from_vec(comps))
+}
+
+// The key that a word spells: a component that is a number is an int.
+fn key_of(alloc: Global, word: &[u8]) -> Result<Option<Key>, AllocError> {
     if says(word, "*") {
         return Ok(Some(Key::empty(alloc)));
     }
     match read_components(alloc, word, 5)? {
-        Some(spelled) => Ok(Some(Key::from_vec(comps_of(alloc, spelled)?))),
+        Some(spelled) => Ok(Some(key_spelled(alloc, spelled.as_slice())?)),
         None => Ok(None),
     }
 }
