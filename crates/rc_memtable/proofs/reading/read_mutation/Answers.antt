@@ -1,5 +1,4 @@
-use Rattle.std.proofs.Common.{◌≡◌, Option, subst}
-use Rattle.rc_cell.specs.declared.rows.Row.{Row}
+use Rattle.std.proofs.Common.{◌≡◌}
 use Rattle.rc_cell.specs.Orders.{tomb_cmp}
 use Rattle.rc_cell.specs.Winner.{greatest}
 use Rattle.rc_core.specs.Chain.{content}
@@ -12,8 +11,7 @@ use Rattle.rc_memtable.proofs.reading.read_mutation.Goals as goal
 
 pub returns : goal.returns
 returns g c schema versions changes seen say =
-    let seen_row = said-of (λ kind vs. IsRowGiven c.in_ok-pt.field-0.row (content (static_states vs)).0) c.args.chains.now c.args.s.now.chain c.args.s.now.pin versions seen c.in_ok-pt.ensures.row in
-    let row = subst (λ (o : Option Row). IsRowGiven o (content (static_states versions)).0) c.in_ok-pt.row-is seen_row in
+    let row = said-of (λ kind vs. IsRowGiven c.in_ok-pt.field-0.row (content (static_states vs)).0) c.args.chains.now c.args.s.now.chain c.args.s.now.pin versions seen c.in_ok-pt.ensures.row in
     says-the-same schema versions changes say _
     (said-of (λ kind vs. c.in_ok-pt.field-0.pt ≡ greatest tomb_cmp (version_tombs vs)) c.args.chains.now c.args.s.now.chain c.args.s.now.pin versions seen c.in_ok-pt.ensures.pt)
     (c.statics_of.ensures (content (static_states versions)).0 row (static-marker schema versions say.fits) (static-tomb schema versions say.fits))
