@@ -11,3 +11,14 @@ mod Applied
 mod Snapshots
 mod LettingGo
 mod Leaving
+mod Near
+mod Lengths
+mod Standing
+mod Whole
+mod Ending
+mod Taking
+mod Told
+mod Seen
+mod Taken
+mod Listed
+mod Ways

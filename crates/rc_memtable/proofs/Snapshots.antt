@@ -27,7 +27,7 @@ same-or-not zero (suc j) = inr (λ e. omega (arith, e))
 same-or-not (suc i) zero = inr (λ e. omega (arith, e))
 same-or-not (suc i) (suc j) = elim (same-or-not i j) [ inl e ↦ inl (ap suc e) | inr ne ↦ inr (λ e. ne (omega (arith, e))) ]
 
-take-all : {X : Type 0} (xs : List X) (n : ℕ) → n ≡ length xs → take n xs ≡ xs
+pub take-all : {X : Type 0} (xs : List X) (n : ℕ) → n ≡ length xs → take n xs ≡ xs
 take-all [] zero e = refl
 take-all [] (suc n) e = refl
 take-all (x ∷ xs) zero e = absurd (omega (arith, e))
@@ -44,7 +44,7 @@ has-then schema chains m n writes each h = record {
 }
 
 -- the snapshot is of the newest version
-newest-number : (c : Shown) → IsSoundChain c → c.kind ≡ Memtable → suc (snapshot_number c) ≡ length c.versions
+pub newest-number : (c : Shown) → IsSoundChain c → c.kind ≡ Memtable → suc (snapshot_number c) ≡ length c.versions
 newest-number c sound memtable =
     let number : snapshot_number c ≡ length c.versions - 1 = ap (λ b. cond b (length c.versions - 2) (length c.versions - 1)) (memtable-settled c sound memtable) in let some = sound.some in omega (arith, number, some)
 

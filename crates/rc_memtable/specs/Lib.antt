@@ -3,4 +3,5 @@ pub mod Changes
 pub mod Writes
 pub mod Steps
 pub mod LetGo
+pub mod Partitions
 pub mod calls

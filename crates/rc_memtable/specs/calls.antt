@@ -1,2 +1,3 @@
 -- What inner functions promise each other.
 pub mod Writing
+pub mod Reading

@@ -5,6 +5,8 @@ mod freeing;
 pub mod laws;
 mod memtable;
 mod numbers;
+mod partitions;
+mod reading;
 mod writing;
 
 pub use freeing::{free_if_unpinned, release};

@@ -12,17 +12,19 @@ ghost use Rattle.rc_memory.specs.Memory.{KeptChain, Memory, HasChain, IsSnapshot
 ghost use Rattle.rc_memtable.specs.Writes.{HasWrites, AreSmall, IsNewestPinned, IsRoomFor, TakesVersion, chain_of, names};
 ghost use Rattle.rc_memtable.specs.Steps.{IsApplied};
 ghost use Rattle.rc_memtable.specs.LetGo.{AreLetGo};
-ghost use Rattle.rc_mutation.specs.Fragments.{is_written};
+ghost use Rattle.rc_memtable.specs.Partitions.{AreAsBefore};
+ghost use Rattle.rc_mutation.specs.Fragments.{IsParts, is_written};
 ghost use Rattle.rc_schema.specs.Largest.{largest_static};
 ghost use Rattle.rc_writes.specs.Allowed.{ChangeFits};
 ghost use Rattle.rc_writes.specs.Single.{IsSingle};
 
 use crate::freeing::let_all_go;
 use crate::numbers::{add_chain, number_of};
+use crate::partitions::partitions_of;
 use crate::writing::write_into;
 use rc_cell::Row;
 use rc_chain::{Chains, Snap};
-use rc_mutation::{Mutation, Write};
+use rc_mutation::{Mutation, Partition, Write};
 use rc_position::PartKey;
 use rc_schema::Schema;
 use std::alloc::{AllocError, Global};
@@ -122,6 +124,20 @@ impl Memtable {
             None => Ok(None),
             Some(id) => Ok(Some(chains.snapshot(id)?)),
         }
+    }
+
+    /// The partitions of what it stands for, by ascending key, as a table is made of them: each key that a write names, with what all writes to it say. Each chain is read by a snapshot that is taken back. The only error is want of memory; chains and memtable are then, too, as they were.
+    pub fn partitions<const S: usize>(
+        &self,
+        alloc: Global,
+        chains: &mut Chains<S>,
+    ) -> Result<Vec<Partition>, AllocError>
+        requires { (schema : SchemaValue) × (writes : Sequence Written) × HasWrites schema self.now chains.old writes }
+        ensures parts { (schema : SchemaValue) (writes : Sequence Written) → HasWrites schema self.now chains.old writes → IfOk result (λ parts. IsParts parts.items writes) }
+        ensures stands { (schema : SchemaValue) (writes : Sequence Written) → HasWrites schema self.now chains.old writes → HasWrites schema self.now chains.new writes }
+        ensures left { AreAsBefore chains.old chains.new }
+    {
+        partitions_of(alloc, &self.chains, chains)
     }
 
     /// Lets all chains go, by ascending key: none is found by its key any more, and those that nobody pins are freed object by object. It stands for no writes then.

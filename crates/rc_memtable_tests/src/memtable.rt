@@ -67,6 +67,22 @@ fn write_inserted(
     }
 }
 
+// How many partitions a memtable has, and how many rows the first one has.
+fn counted(
+    alloc: Global,
+    memtable: &Memtable,
+    chains: &mut Chains<4096>,
+) -> Result<(usize, usize), AllocError>
+    requires { (schema : SchemaValue) × (writes : Sequence Written) × HasWrites schema memtable.now chains.old writes }
+    ensures { (schema : SchemaValue) (writes : Sequence Written) → HasWrites schema memtable.now chains.old writes → HasWrites schema memtable.now chains.new writes }
+{
+    let parts = memtable.partitions(alloc, chains)?;
+    match parts.as_slice() {
+        [part, _rest @ ..] => Ok((parts.len(), part.change.rows.as_slice().len())),
+        [] => Ok((0, 0)),
+    }
+}
+
 // A version with one row inserted, whose position and row have codes of 11 bytes each, is three objects in 256 bytes; let go, none is left.
 #[test]
 fn an_inserted_row_takes_three_objects(rt: HostRuntime) -> Result<(), Fail> {
@@ -79,6 +95,7 @@ fn an_inserted_row_takes_three_objects(rt: HostRuntime) -> Result<(), Fail> {
         (chains.region().objects(), chains.region().live()),
         (3, 256)
     );
+    assert_eq!(rt; counted(rt.alloc(), &memtable, &mut chains)?, (1, 1));
     memtable.drop_all(&mut chains);
     assert!(rt; memtable.is_empty());
     assert_eq!(rt; (chains.region().objects(), chains.region().live()), (0, 0));
