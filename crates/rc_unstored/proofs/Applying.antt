@@ -15,8 +15,8 @@ use Rattle.rc_memtable.specs.Writes.{HasWrites, IsNewestPinned, IsRoomFor, Takes
 use Rattle.rc_unstored.specs.Memtables.{HaveWrites, IsFullFor, Memtables, NoneShared, with_memory}
 use Rattle.rc_unstored.specs.Readers.{AllStillSee}
 use Rattle.rc_unstored.proofs.Chains.{chain-same, same-or-not}
-use Rattle.rc_unstored.proofs.Keeping.{beside-has}
-use Rattle.rc_unstored.proofs.Pins.{KeptIn, all-seen, more-in, nothing-in, same-in}
+use Rattle.rc_unstored.proofs.Keeping.{beside-has, both-moved}
+use Rattle.rc_unstored.proofs.Pins.{KeptIn, all-seen, chains-same, more-in, nothing-in, same-in, seen-then}
 
 -- ---- room, after objects have moved
 
@@ -79,3 +79,12 @@ module _ (schema : SchemaValue) (w : Write) (sealed before now : List (List ℕ 
 
   pub applied-seen : AllStillSee m n
   applied-seen = all-seen m n each-chain
+
+-- ---- after objects have moved to make room
+
+module _ (schema : SchemaValue) (w : Write) (u : Memtables) (now : List (List ℕ × ℕ)) (mid n : Memory) (same : mid.chains ≡ u.memory.chains) (a : IsApplied schema w u.active now mid n) where
+  pub put-stands : (writes later : List Write) → HaveWrites schema u writes later → HaveWrites schema (record { memory = n; sealed = u.sealed; active = now }) writes (later ++ w ∷ [])
+  put-stands writes later h = applied-stands schema w u.sealed u.active now mid n a writes later (both-moved schema u mid writes later same h)
+
+  pub put-seen : AllStillSee u.memory n
+  put-seen = seen-then u.memory mid n (chains-same u.memory mid (chain-same u.memory mid same)).alike (applied-seen schema w u.sealed u.active now mid n a)

@@ -91,11 +91,14 @@ module _ (s : Snap) (m n : Memory) (pin : HasPin m s.chain s.pin) where
           | inr same ↦ same-in (chain_at mid s.chain) (chain_at n s.chain) (ap (λ (q : Memory). chain_at q s.chain) same) p
         ])
 
-    pub others-seen : OthersStillSee s m n
-    others-seen t ne on = let x = (elim (same-or-not t.chain s.chain) [
+    any-chain : (t : Snap) → (t.chain ≡ s.chain → t.pin ≡ s.pin → ⊥) → SeenIn t.pin (chain_at m t.chain) (chain_at n t.chain)
+    any-chain t ne = elim (same-or-not t.chain s.chain) [
       | inl same ↦ subst (λ (i : ℕ). SeenIn t.pin (chain_at m i) (chain_at n i)) (sym same) (of-its-chain t.pin (ne same))
       | inr off ↦ same-in (chain_at m t.chain) (chain_at n t.chain) (beside t.chain off) t.pin
-    ]) on in record { pin = x.0; versions = x.1; kind = x.2 }
+    ]
+
+    pub others-seen : OthersStillSee s m n
+    others-seen t ne on = let x = any-chain t ne on in record { pin = x.0; versions = x.1; kind = x.2 }
 
     pub one-gone : HasPin n s.chain s.pin → ⊥
     one-gone on = elim done [
