@@ -1,6 +1,6 @@
 -- What leaves the chains of both memtables as they were leaves their writes.
 use Rattle.std.proofs.Common.{◌≡◌, ◌≢◌, ℕ, Bool, true, false, cond, List, [], ◌∷◌, ◌++◌, Option, Some, None, is_some, refl, sym, ap, ◌∙◌, subst}
-use Rattle.std.specs.Prelude.{IsTrue}
+use Rattle.std.specs.Prelude.{OnErr, Result, Ok, Err}
 use Rattle.std.specs.Ordering.{eq_by_cmp, is_eq}
 use Rattle.std.specs.Cmp.{eq_by_cmp_equiv}
 use Rattle.std.specs.declared.cmp.Ordering.{Ordering}
@@ -81,3 +81,8 @@ sees-then key writes m n s h a = record {
   stands = subst (StandsFor (changes_to key writes)) (sym a.versions) h.stands;
   readable = subst (λ kind. AreReadable kind (versions_seen n s)) (sym a.kind) (subst (AreReadable (kind_seen m s)) (sym a.versions) h.readable);
 }
+
+-- what holds holds after a failure
+pub on-err : {A E : Type 0} (r : Result A E) (P : Type 0) → P → OnErr r P
+on-err (Ok x) P h = tt
+on-err (Err e) P h = h
