@@ -86,3 +86,8 @@ sees-then key writes m n s h a = record {
 pub on-err : {A E : Type 0} (r : Result A E) (P : Type 0) → P → OnErr r P
 on-err (Ok x) P h = tt
 on-err (Err e) P h = h
+
+-- where both together are none the first is none
+pub first-none : (xs ys : List Write) → xs ++ ys ≡ [] → xs ≡ []
+first-none [] ys e = refl
+first-none (x ∷ xs) ys e = absurd (cc)

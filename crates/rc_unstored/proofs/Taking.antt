@@ -135,3 +135,26 @@ module _ (m n : Memory) (keys : List (List ℕ × ℕ)) (key : List ℕ) where
         | Ok f ↦ λ a b e. found-beside f a b
         | Err x ↦ λ a b e other apart schema writes h. beside-has schema other m n writes (λ k i f. ap (λ (z : Memory). chain_at z i) e) h
       ] none taken err
+
+-- ---- two snapshots, one after the other
+
+-- one that was given back
+pub back-same : (m n : Memory) (keys : List (List ℕ × ℕ)) (key : List ℕ) (o : Option Snap) → IfSome o (IsTaken m n keys key) → (o ≡ None → n ≡ m) → AreSameSnapshots m (given_back o n)
+back-same m n keys key None taken none = chains-same m n (λ i. ap (λ (q : Memory). chain_at q i) (none refl))
+back-same m n keys key (Some s) taken none = taken-back m n keys key s taken
+
+-- the first one sees what it saw
+pub key-then : (key : List ℕ) (writes : List Write) (m mid n : Memory) (o : Option Snap) → AllStillSee mid n → IsSnapshotOfKey key writes m mid o → IsSnapshotOfKey key writes m n o
+key-then key writes m mid n None a h = h
+key-then key writes m mid n (Some s) a h = (h.0, sees-then key writes mid n s h.1 (a s h.1.there.pin), h.2)
+
+-- the second one was not there before the first one
+pub key-before : (key : List ℕ) (writes : List Write) (m mid n : Memory) (o : Option Snap) → AllStillSee m mid → IsSnapshotOfKey key writes mid n o → IsSnapshotOfKey key writes m n o
+key-before key writes m mid n None a h = h
+key-before key writes m mid n (Some s) a h = (h.0, h.1, λ on. h.2 (a s on).pin)
+
+-- they are of two chains
+pub two-chains : (these those : List (List ℕ × ℕ)) (key : List ℕ) (a b c d : Memory) (o p : Option Snap) → NoneShared these those → IfSome o (IsTaken a b these key) → IfSome p (IsTaken c d those key) → IfSome o (λ s. IfSome p (λ t. s.chain ≡ t.chain → ⊥))
+two-chains these those key a b c d None p apart x y = tt
+two-chains these those key a b c d (Some s) None apart x y = tt
+two-chains these those key a b c d (Some s) (Some t) apart x y = λ same. apart key key t.chain (x.0 ∙ ap Some same) y.0

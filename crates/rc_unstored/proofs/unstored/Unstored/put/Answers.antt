@@ -12,8 +12,8 @@ returns-in_err-apply-in-Ready-clause-err g c =
     let u : Memtables = record { memory = c.self.inside.chains; sealed = c.self.inside.sealed; active = c.self.inside.active } in
     let e = c.in_err-apply-in-Ready.ensures in
     on-err c.from_residual.result _ (λ writes later h.
-      subst (λ active. HaveWrites c.args.schema.now (record { memory = c.apply.new.chains; sealed = c.self.inside.sealed; active = active }) writes later) (sym e.same)
-      (both-moved c.args.schema.now u c.apply.new.chains writes later (ap (λ (m : Memory). m.chains) e.err.same ∙ c.ensure.ensures.untouched.chains) (subst (λ (x : Memtables). HaveWrites c.args.schema.now x writes later) (sym c.self.view_is) h)))
+    subst (λ active. HaveWrites c.args.schema.now (record { memory = c.apply.new.chains; sealed = c.self.inside.sealed; active = active }) writes later) (sym e.same)
+    (both-moved c.args.schema.now u c.apply.new.chains writes later (ap (λ (m : Memory). m.chains) e.err.same ∙ c.ensure.ensures.untouched.chains) (subst (λ (x : Memtables). HaveWrites c.args.schema.now x writes later) (sym c.self.view_is) h)))
 
 pub returns-in-Full-clause-stands : goal.returns-in-Full-clause-stands
 returns-in-Full-clause-stands g c writes later h =
