@@ -70,3 +70,14 @@ there-then m n t keeps h = record { sealed = one-kept m n t.sealed keeps h.seale
 
 pub sees-along : (s : Snap) (a b c : Memory) → StillSees s a b → StillSees s b c → StillSees s a c
 sees-along s a b c x y = record { pin = y.pin; versions = y.versions ∙ x.versions; kind = y.kind ∙ x.kind }
+
+-- the second one is there once the first one was taken back
+pub second-there : (m n : Memory) (a b : Option Snap) → IfSome b (HasSnap m) → IfSome a (λ s. IfSome b (λ o. s.chain ≡ o.chain → ⊥)) → ((s : Snap) → IfSome a (λ t. s.chain ≡ t.chain → s.pin ≡ t.pin → ⊥) → HasPin m s.chain s.pin → StillSees s m n) → IfSome b (HasSnap n)
+second-there m n a None h apart others = tt
+second-there m n None (Some o) h apart others = let k = others o tt h.pin in record { pin = k.pin; kind = k.kind ∙ h.kind }
+second-there m n (Some s) (Some o) h apart others = let k = others o (λ same pin. apart (sym same)) h.pin in record { pin = k.pin; kind = k.kind ∙ h.kind }
+
+-- what another one sees, once both were taken back
+pub sees-past : (s : Snap) (t : Snaps) (a b c : Memory) → IsNoneOf t s → ((s : Snap) → IfSome t.sealed (λ x. s.chain ≡ x.chain → s.pin ≡ x.pin → ⊥) → HasPin a s.chain s.pin → StillSees s a b) → ((s : Snap) → IfSome t.active (λ x. s.chain ≡ x.chain → s.pin ≡ x.pin → ⊥) → HasPin b s.chain s.pin → StillSees s b c) →
+    HasPin a s.chain s.pin → StillSees s a c
+sees-past s t a b c none first second on = let x = first s none.0 on in sees-along s a b c x (second s none.1 x.pin)

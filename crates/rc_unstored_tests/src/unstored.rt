@@ -1,12 +1,13 @@
 //! Two readers of a partition, one before its writes are sealed and one after: tests of `rc_unstored`.
-ghost use Rattle.std.specs.Prelude.{IfOk};
+ghost use Rattle.std.specs.Prelude.{◌≡◌, IfOk, IfSome};
 ghost use Rattle.rc_schema.specs.SchemaValue.{SchemaValue};
 ghost use Rattle.rc_memory.specs.Memory.{HasPin};
 ghost use Rattle.rc_chain.specs.declared.chains.Snap.{Snap as Snapshot};
-ghost use Rattle.rc_unstored.specs.Readers.{AllStillSee, StillSees};
+ghost use Rattle.rc_unstored.specs.Readers.{AllStillSee, HasSnap, StillSees};
 ghost use Rattle.rc_unstored_tests.specs.Holding.{AreThere, HaveSome, IsNoneOf};
 
 use rc_cell::Row;
+use rc_chain::Snap;
 use rc_mutation::{Mutation, Rows, Write};
 use rc_position::{Comp, Key, PartKey};
 use rc_schema::Schema;
@@ -96,6 +97,17 @@ fn open_later(
     open_reader(unstored, schema, key)
 }
 
+// Takes a snapshot of a reader back, where there is one.
+fn close_one(unstored: &mut Unstored<4096>, taken: Option<Snap>)
+    requires { IfSome taken (HasSnap unstored.old.memory) }
+    ensures stands { (schema : SchemaValue) → HaveSome schema unstored.old → HaveSome schema unstored.new }
+    ensures others { (s : Snapshot) → IfSome taken (λ t. s.chain ≡ t.chain → s.pin ≡ t.pin → ⊥) → HasPin unstored.old.memory s.chain s.pin → StillSees s unstored.old.memory unstored.new.memory }
+{
+    if let Some(s) = taken {
+        unstored.release(s);
+    }
+}
+
 // Takes both snapshots of a reader back.
 fn close_reader(unstored: &mut Unstored<4096>, reader: Snaps)
     requires { AreThere unstored.old.memory reader }
@@ -103,12 +115,8 @@ fn close_reader(unstored: &mut Unstored<4096>, reader: Snaps)
     ensures others { (s : Snapshot) → IsNoneOf reader s → HasPin unstored.old.memory s.chain s.pin → StillSees s unstored.old.memory unstored.new.memory }
 {
     let Snaps { sealed, active } = reader;
-    if let Some(s) = sealed {
-        unstored.release(s);
-    }
-    if let Some(s) = active {
-        unstored.release(s);
-    }
+    close_one(unstored, sealed);
+    close_one(unstored, active);
 }
 
 // How many objects there are, and how many bytes of them.
