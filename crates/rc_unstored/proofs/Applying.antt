@@ -1,0 +1,90 @@
+-- One write more behind the later ones.
+use Rattle.std.proofs.Common.{inl, inr, ◌≡◌, ◌⊎◌, ◌≤◌, ◌<◌, ◌+◌, ◌-◌, ℕ, Bool, true, false, cond, List, [], ◌∷◌, ◌++◌, Option, Some, None, length, refl, sym, ap, ◌∙◌, subst, arith}
+use Rattle.std.specs.Prelude.{IsSomeAnd}
+use Rattle.std.specs.Ordering.{eq_by_cmp}
+use Rattle.lsa_move.specs.Room.{Tight}
+use Rattle.lsa_pool.specs.Room.{spare_of}
+use Rattle.rc_position.specs.Position.{bytes_cmp}
+use Rattle.rc_schema.specs.SchemaValue.{SchemaValue}
+use Rattle.rc_mutation.specs.declared.mutations.Write.{Write}
+use Rattle.rc_core.specs.Chains.{IsPinned}
+use Rattle.rc_memory.specs.Memory.{KeptChain, Memory, chain_at}
+use Rattle.rc_memory.specs.laws.Places.{no_some, same_some}
+use Rattle.rc_memtable.specs.Steps.{IsApplied}
+use Rattle.rc_memtable.specs.Writes.{HasWrites, IsNewestPinned, IsRoomFor, TakesVersion, chain_of, joined_need}
+use Rattle.rc_unstored.specs.Memtables.{HaveWrites, IsFullFor, Memtables, NoneShared, with_memory}
+use Rattle.rc_unstored.specs.Readers.{AllStillSee}
+use Rattle.rc_unstored.proofs.Chains.{chain-same, same-or-not}
+use Rattle.rc_unstored.proofs.Keeping.{beside-has, both-moved}
+use Rattle.rc_unstored.proofs.Pins.{KeptIn, all-seen, chains-same, more-in, nothing-in, same-in, seen-then}
+
+-- ---- room, after objects have moved
+
+takes-same : (m n : Memory) → n.chains ≡ m.chains → (o : Option ℕ) → TakesVersion n o → TakesVersion m o
+takes-same m n same None h = tt
+takes-same m n same (Some id) h = subst (λ (q : Option KeptChain). IsSomeAnd q (λ k. IsPinned k.chain.pins (length k.chain.versions - 1))) (chain-same m n same id) h
+
+pub room-more : (schema : SchemaValue) (chains : List (List ℕ × ℕ)) (w : Write) (m n : Memory) (bytes more : ℕ) → n.chains ≡ m.chains → bytes ≤ more → IsRoomFor schema chains m w bytes → IsRoomFor schema chains n w more
+room-more schema chains w m n bytes more same up h = record {
+  joined = let j = h.joined in omega (arith, j, up);
+  version = λ t. let v = h.version (takes-same m n same (chain_of chains w.key) t) in omega (arith, v, up);
+}
+
+-- no room, where fewer bytes are spare than the least that are enough
+pub full-for : (S : ℕ) (schema : SchemaValue) (w : Write) (u : Memtables) (m : Memory) (need : ℕ) → u.memory.chains ≡ m.chains → ((bytes : ℕ) → IsRoomFor schema u.active m w bytes → need ≤ bytes) →
+    spare_of S u.memory.region.usages < need → Tight S u.memory.region.usages → IsFullFor S schema w u
+full-for S schema w u m need same least few tight = record {
+  few = λ room. let low = least (spare_of S u.memory.region.usages) (room-more schema u.active w u.memory m (spare_of S u.memory.region.usages) (spare_of S u.memory.region.usages) (sym same) (omega arith) room) in omega (arith, low, few);
+  tight = tight;
+}
+
+-- ---- a write applied to one of two memtables
+
+one-of-two : (b : Bool) (id : ℕ) (o : Option ℕ) (i : ℕ) → cond b (Some id) o ≡ Some i → (id ≡ i) ⊎ (o ≡ Some i)
+one-of-two true id o i e = inl (same_some id i e)
+one-of-two false id o i e = inr e
+
+module _ (schema : SchemaValue) (w : Write) (sealed before now : List (List ℕ × ℕ)) (m n : Memory) (a : IsApplied schema w before now m n) where
+  -- its chain is none of the other one
+  off : (o : Option ℕ) → chain_of before w.key ≡ o → (writes : List Write) → HasWrites schema sealed m writes → NoneShared sealed before → (key : List ℕ) (i : ℕ) → chain_of sealed key ≡ Some i → i ≡ a.id → ⊥
+  off None none writes h apart key i e same = let k = h.kept key i e in no_some k.0 (sym (a.made none).0 ∙ ap (chain_at m) (sym same) ∙ k.1)
+  off (Some j) some writes h apart key i e same = apart key w.key i e (some ∙ ap Some ((a.had j some).0 ∙ sym same))
+
+  pub applied-beside : (writes : List Write) → HasWrites schema sealed m writes → NoneShared sealed before → (key : List ℕ) (i : ℕ) → chain_of sealed key ≡ Some i → chain_at n i ≡ chain_at m i
+  applied-beside writes h apart key i e = a.others.others i (off (chain_of before w.key) refl writes h apart key i e)
+
+  pub applied-apart : (writes : List Write) → HasWrites schema sealed m writes → NoneShared sealed before → NoneShared sealed now
+  applied-apart writes h apart key other i e f = elim (one-of-two (eq_by_cmp bytes_cmp w.key other) a.id (chain_of before other) i (sym (a.keys other) ∙ f)) [
+    | inl same ↦ off (chain_of before w.key) refl writes h apart key i e (sym same)
+    | inr was ↦ apart key other i e was
+  ]
+
+  pub applied-stands : (writes later : List Write) → HaveWrites schema (record { memory = m; sealed = sealed; active = before }) writes later → HaveWrites schema (record { memory = n; sealed = sealed; active = now }) writes (later ++ w ∷ [])
+  applied-stands writes later h = record {
+    sealed = beside-has schema sealed m n writes (applied-beside writes h.sealed h.apart) h.sealed;
+    active = a.stands later h.active;
+    apart = applied-apart writes h.sealed h.apart;
+  }
+
+  -- what snapshots see stays
+  its-chain : (o : Option ℕ) → chain_of before w.key ≡ o → KeptIn (chain_at m a.id) (chain_at n a.id)
+  its-chain None none = nothing-in (chain_at m a.id) (chain_at n a.id) (a.made none).0
+  its-chain (Some j) some = more-in (chain_at m a.id) (chain_at n a.id) (λ k there. (a.had j some).1 k there)
+
+  each-chain : (i : ℕ) → KeptIn (chain_at m i) (chain_at n i)
+  each-chain i = elim (same-or-not i a.id) [
+    | inl same ↦ subst (λ (j : ℕ). KeptIn (chain_at m j) (chain_at n j)) (sym same) (its-chain (chain_of before w.key) refl)
+    | inr ne ↦ same-in (chain_at m i) (chain_at n i) (a.others.others i ne)
+  ]
+
+  pub applied-seen : AllStillSee m n
+  applied-seen = all-seen m n each-chain
+
+-- ---- after objects have moved to make room
+
+module _ (schema : SchemaValue) (w : Write) (u : Memtables) (now : List (List ℕ × ℕ)) (mid n : Memory) (same : mid.chains ≡ u.memory.chains) (a : IsApplied schema w u.active now mid n) where
+  pub put-stands : (writes later : List Write) → HaveWrites schema u writes later → HaveWrites schema (record { memory = n; sealed = u.sealed; active = now }) writes (later ++ w ∷ [])
+  put-stands writes later h = applied-stands schema w u.sealed u.active now mid n a writes later (both-moved schema u mid writes later same h)
+
+  pub put-seen : AllStillSee u.memory n
+  put-seen = seen-then u.memory mid n (chains-same u.memory mid (chain-same u.memory mid same)).alike (applied-seen schema w u.sealed u.active now mid n a)

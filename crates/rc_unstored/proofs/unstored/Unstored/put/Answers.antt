@@ -1,0 +1,36 @@
+use Rattle.std.proofs.Common.{refl, sym, ap, ◌∙◌, subst}
+use Rattle.rc_memory.specs.Memory.{Memory}
+use Rattle.rc_unstored.specs.Memtables.{HaveWrites, Memtables}
+use Rattle.rc_unstored.specs.Readers.{AllStillSee}
+use Rattle.rc_unstored.proofs.Applying.{full-for, put-seen, put-stands}
+use Rattle.rc_unstored.proofs.Keeping.{both-moved, on-err}
+use Rattle.rc_unstored.proofs.unstored.Unstored.put.Goals as goal
+
+-- objects moved, or root slots were made: the chains are as they were
+pub returns-in_err-apply-in-Ready-clause-err : goal.returns-in_err-apply-in-Ready-clause-err
+returns-in_err-apply-in-Ready-clause-err g c =
+    let u : Memtables = record { memory = c.self.inside.chains; sealed = c.self.inside.sealed; active = c.self.inside.active } in
+    let e = c.in_err-apply-in-Ready.ensures in
+    on-err c.from_residual.result _ (λ writes later h.
+    subst (λ active. HaveWrites c.args.schema.now (record { memory = c.apply.new.chains; sealed = c.self.inside.sealed; active = active }) writes later) (sym e.same)
+    (both-moved c.args.schema.now u c.apply.new.chains writes later (ap (λ (m : Memory). m.chains) e.err.same ∙ c.ensure.ensures.untouched.chains) (subst (λ (x : Memtables). HaveWrites c.args.schema.now x writes later) (sym c.self.view_is) h)))
+
+pub returns-in-Full-clause-stands : goal.returns-in-Full-clause-stands
+returns-in-Full-clause-stands g c writes later h =
+    let u : Memtables = record { memory = c.self.inside.chains; sealed = c.self.inside.sealed; active = c.self.inside.active } in
+    both-moved c.args.schema.now u c.ensure.new.self writes later c.ensure.ensures.untouched.chains (subst (λ (x : Memtables). HaveWrites c.args.schema.now x writes later) (sym c.self.view_is) h)
+
+pub returns-in-Full-clause-full : goal.returns-in-Full-clause-full
+returns-in-Full-clause-full g c e =
+    full-for g.row.S c.args.schema.now c.args.w.now (record { memory = c.ensure.new.self; sealed = c.self.inside.sealed; active = c.self.inside.active }) c.self.inside.chains c.need-need.result c.ensure.ensures.untouched.chains c.need-need.ensures.least (c.in-Full.ensures.full refl) (c.in-Full.ensures.tight refl)
+
+pub returns-in_ok-apply-in-Ready-clause-stands : goal.returns-in_ok-apply-in-Ready-clause-stands
+returns-in_ok-apply-in-Ready-clause-stands g c writes later h =
+    let u : Memtables = record { memory = c.self.inside.chains; sealed = c.self.inside.sealed; active = c.self.inside.active } in
+    put-stands c.args.schema.now c.args.w.now u c.apply.new.self c.ensure.new.self c.apply.new.chains c.ensure.ensures.untouched.chains c.in_ok-apply-in-Ready.ensures.applied writes later (subst (λ (x : Memtables). HaveWrites c.args.schema.now x writes later) (sym c.self.view_is) h)
+
+pub returns-in_ok-apply-in-Ready-clause-seen : goal.returns-in_ok-apply-in-Ready-clause-seen
+returns-in_ok-apply-in-Ready-clause-seen g c =
+    let u : Memtables = record { memory = c.self.inside.chains; sealed = c.self.inside.sealed; active = c.self.inside.active } in
+    subst (λ (x : Memtables). AllStillSee x.memory c.apply.new.chains) c.self.view_is
+    (put-seen c.args.schema.now c.args.w.now u c.apply.new.self c.ensure.new.self c.apply.new.chains c.ensure.ensures.untouched.chains c.in_ok-apply-in-Ready.ensures.applied)

@@ -1,0 +1,3 @@
+pub mod Memtables
+pub mod Readers
+pub mod calls

@@ -1,0 +1,211 @@
+//! Both memtables of a shard, with its chains.
+ghost use Rattle.std.specs.Prelude.{◌≡◌, ◌↔◌, ◌∷◌, ◌++◌, ◌+◌, ◌-◌, ◌*◌, ◌/◌, ◌%◌, ◌^◌, ◌≤◌, ℕ, false, List as Sequence, [], Some, None, IfOk, IfSome, IsTrue, OnErr, cond, is_some, length};
+ghost use Rattle.lsa_move.specs.Room.{IsCompacted};
+ghost use Rattle.lsa_pool.specs.Room.{free_count, spare_of};
+ghost use Rattle.lsa_region.specs.Region.{live_bytes};
+ghost use Rattle.lsa_store.specs.Stock.{sparse_of};
+ghost use Rattle.rc_schema.specs.SchemaValue.{SchemaValue};
+ghost use Rattle.rc_mutation.specs.declared.mutations.Write.{Write as Written};
+ghost use Rattle.rc_writes.specs.Allowed.{ChangeFits};
+ghost use Rattle.rc_writes.specs.Single.{IsSingle};
+ghost use Rattle.rc_memory.specs.Memory.{HasPin, IsEmpty, IsSnapshotTaken, IsUntouched};
+ghost use Rattle.rc_memtable.specs.Writes.{AreSmall, HasWrites, chain_of};
+ghost use Rattle.rc_unstored.specs.calls.Giving.{given_back};
+ghost use Rattle.rc_unstored.specs.Memtables.{DoAscend, HaveWrites, IsFullFor, NoneShared};
+ghost use Rattle.rc_unstored.specs.Readers.{OthersStillSee, AreSameSnapshots, AllStillSee, HasSnap, IsSnapshotOfKey};
+
+use lsa_move::Ensured;
+use rc_chain::{Chains, Snap};
+use rc_cursor::laws::a_snapshot_can_be_read;
+use rc_memtable::laws::what_leaves_a_memtables_chains_leaves_its_writes;
+use rc_memtable::{Memtable, release};
+use rc_mutation::Write;
+use rc_position::PartKey;
+use rc_schema::Schema;
+use std::alloc::{AllocError, Global};
+use std::marker::Model;
+use std::mem;
+
+/// The writes of a shard that stand in no table: those that are sealed for the next one, and the later ones, in the chains of the shard. A contract sees these as `Memtables`.
+#[derive(Drop)]
+pub struct Unstored<const S: usize> {
+    chains: Chains<S>,
+    sealed: Memtable,
+    active: Memtable,
+}
+
+impl<const S: usize> Model for Unstored<S> {
+    ghost use Rattle.rc_unstored.specs.Memtables.{Memtables};
+
+    ghost Value = { Memtables };
+
+    ghost view = { λ u. record { memory = u.chains; sealed = u.sealed; active = u.active } };
+}
+
+/// What a reader of a partition holds: a snapshot of what is sealed of it, and one of what is written since, each where something is.
+pub struct Snaps {
+    /// Of the sealed writes.
+    pub sealed: Option<Snap>,
+    /// Of the later ones.
+    pub active: Option<Snap>,
+}
+
+impl<const S: usize> Unstored<S> {
+    /// No writes, and no chain, in a region of so many segments, all of them taken now.
+    pub fn open(alloc: Global, segments: u32) -> Result<Self, AllocError>
+        requires few { segments ≤ 4096 }
+        requires some { 4 ≤ segments }
+        requires small { S ≤ 2 ^ 27 }
+        requires even { S % 64 ≡ 0 }
+        ensures none { IfOk result (λ u. (schema : SchemaValue) → HaveWrites schema u [] []) }
+        ensures empty { IfOk result (λ u. IsEmpty u.memory) }
+        ensures spare { IfOk result (λ u. spare_of S u.memory.region.usages ≡ (segments - 2) * (7 * S / 8) + (S - S / 8)) }
+        ensures free { IfOk result (λ u. free_count u.memory.region.usages + 1 ≡ segments) }
+        ensures budget { IfOk result (λ u. length u.memory.region.usages ≡ segments) }
+        ensures live { IfOk result (λ u. live_bytes u.memory.region ≡ 0) }
+        ensures numbers { IfOk result (λ u. (u.memory.region.epoch ≡ 0) × (u.memory.region.moved ≡ 0) × (u.memory.region.compacted ≡ 0)) }
+    {
+        Ok(Unstored {
+            chains: Chains::open(alloc, segments)?,
+            sealed: Memtable::new(alloc),
+            active: Memtable::new(alloc),
+        })
+    }
+
+    /// The chains, with what all of them take.
+    pub fn chains(&self) -> &Chains<S>
+        ensures { result.now ≡ self.now.memory }
+    {
+        &self.chains
+    }
+
+    /// Whether writes are sealed.
+    pub fn is_sealed(&self) -> bool
+        ensures { (schema : SchemaValue) (writes later : Sequence Written) → HaveWrites schema self.now writes later → IsTrue result ↔ (writes ≡ [] → ⊥) }
+    {
+        !self.sealed.is_empty()
+    }
+
+    /// Whether all writes stand in tables: none is sealed, and there is no later one.
+    pub fn is_empty(&self) -> bool
+        ensures { (schema : SchemaValue) (writes later : Sequence Written) → HaveWrites schema self.now writes later → IsTrue result ↔ (writes ++ later ≡ []) }
+    {
+        self.sealed.is_empty() && self.active.is_empty()
+    }
+
+    /// Puts a write to one place, which fits the schema, behind the later ones, once there is room for it. False where there is none and none can be made: then no write is put. The only error is want of memory, which leaves the writes as they were.
+    pub fn put(&mut self, alloc: Global, schema: &Schema, w: &Write) -> Result<bool, AllocError>
+        requires small { AreSmall S schema.now }
+        requires single { IsSingle w.now.change }
+        requires fits { ChangeFits schema.now w.now.change }
+        requires kept { (writes : Sequence Written) × (later : Sequence Written) × HaveWrites schema.now self.old writes later }
+        ensures stands { IfOk result (λ done. (writes later : Sequence Written) → HaveWrites schema.now self.old writes later → HaveWrites schema.now self.new writes (cond done (later ++ w.now ∷ []) later)) }
+        ensures full { IfOk result (λ done. done ≡ false → IsFullFor S schema.now w.now self.new) }
+        ensures err { OnErr result ((writes later : Sequence Written) → HaveWrites schema.now self.old writes later → HaveWrites schema.now self.new writes later) }
+        ensures seen { AllStillSee self.old.memory self.new.memory }
+    {
+        let need = self.active.need(&self.chains, schema, w);
+        match self.chains.ensure(need) {
+            Ensured::Full => Ok(false),
+            Ensured::Ready => {
+                self.active.apply(alloc, &mut self.chains, schema, w)?;
+                Ok(true)
+            }
+        }
+    }
+
+    /// Snapshots of what is written of the partition of a key, of the sealed writes and of the later ones, each exactly where one of them names the key. The only error is want of memory: then no snapshot is there that was not.
+    pub fn snapshot(&mut self, key: &PartKey) -> Result<Snaps, AllocError>
+        requires kept { (schema : SchemaValue) × (writes : Sequence Written) × (later : Sequence Written) × HaveWrites schema self.old writes later }
+        ensures sealed { IfOk result (λ taken. (schema : SchemaValue) (writes later : Sequence Written) → HaveWrites schema self.old writes later → IsSnapshotOfKey key.now writes self.old.memory self.new.memory taken.sealed) }
+        ensures active { IfOk result (λ taken. (schema : SchemaValue) (writes later : Sequence Written) → HaveWrites schema self.old writes later → IsSnapshotOfKey key.now later self.old.memory self.new.memory taken.active) }
+        ensures apart { IfOk result (λ taken. IfSome taken.sealed (λ s. IfSome taken.active (λ t. s.chain ≡ t.chain → ⊥))) }
+        ensures stands { (schema : SchemaValue) (writes later : Sequence Written) → HaveWrites schema self.old writes later → HaveWrites schema self.new writes later }
+        ensures seen { AllStillSee self.old.memory self.new.memory }
+        ensures err { OnErr result (AreSameSnapshots self.old.memory self.new.memory) }
+    {
+        let sealed = snapshot_beside(&self.sealed, &self.active, &mut self.chains, key)?;
+        match snapshot_beside(&self.active, &self.sealed, &mut self.chains, key) {
+            Ok(active) => Ok(Snaps { sealed, active }),
+            Err(error) => {
+                give_back(&mut self.chains, sealed);
+                Err(error)
+            }
+        }
+    }
+
+    /// Takes a snapshot back. Other snapshots see what they saw. What was let go is freed with its last snapshot.
+    pub fn release(&mut self, s: Snap)
+        requires { HasSnap self.old.memory s }
+        ensures stands { (schema : SchemaValue) (writes later : Sequence Written) → HaveWrites schema self.old writes later → HaveWrites schema self.new writes later }
+        ensures others { OthersStillSee s self.old.memory self.new.memory }
+        ensures gone { HasPin self.new.memory s.chain s.pin → ⊥ }
+    {
+        what_leaves_a_memtables_chains_leaves_its_writes();
+        release(&mut self.chains, s);
+    }
+
+    /// Seals the later writes, where none are sealed: then there are no later ones. Else nothing is changed.
+    pub fn seal(&mut self)
+        ensures sealed { (schema : SchemaValue) (later : Sequence Written) → HaveWrites schema self.old [] later → HaveWrites schema self.new later [] }
+        ensures kept { (schema : SchemaValue) (w : Written) (writes later : Sequence Written) → HaveWrites schema self.old (w ∷ writes) later → self.new ≡ self.old }
+        ensures chains { self.new.memory ≡ self.old.memory }
+    {
+        if self.sealed.is_empty() {
+            mem::swap(&mut self.sealed, &mut self.active);
+        }
+    }
+
+    /// Lets the sealed writes go, which a table has: none are sealed then. Snapshots of them see what they saw.
+    pub fn drop_sealed(&mut self)
+        requires kept { (schema : SchemaValue) × (writes : Sequence Written) × (later : Sequence Written) × HaveWrites schema self.old writes later }
+        ensures gone { DoAscend self.old.sealed → (schema : SchemaValue) (writes later : Sequence Written) → HaveWrites schema self.old writes later → HaveWrites schema self.new [] later }
+        ensures seen { DoAscend self.old.sealed → AllStillSee self.old.memory self.new.memory }
+    {
+        self.sealed.drop_all(&mut self.chains);
+    }
+
+    /// Empties the closed segment with least live bytes, where one is sparse; false exactly where none is. The writes are those that they were, and snapshots see what they saw.
+    pub fn compact_one(&mut self) -> bool
+        ensures tells { result ≡ is_some (sparse_of S self.old.memory.region.usages) }
+        ensures same { result ≡ false → self.new ≡ self.old }
+        ensures compacted { IfSome (sparse_of S self.old.memory.region.usages) (IsCompacted S self.old.memory.region self.new.memory.region) }
+        ensures untouched { IsUntouched self.old.memory self.new.memory }
+        ensures stands { (schema : SchemaValue) (writes later : Sequence Written) → HaveWrites schema self.old writes later → HaveWrites schema self.new writes later }
+        ensures seen { AreSameSnapshots self.old.memory self.new.memory }
+    {
+        self.chains.compact_one()
+    }
+}
+
+// A snapshot of what one memtable has of a key, beside another one, whose writes stay too.
+fn snapshot_beside<const S: usize>(
+    memtable: &Memtable,
+    other: &Memtable,
+    chains: &mut Chains<S>,
+    key: &PartKey,
+) -> Result<Option<Snap>, AllocError>
+    requires { (schema : SchemaValue) × (writes : Sequence Written) × HasWrites schema memtable.now chains.old writes }
+    ensures sees { IfOk result (λ found. (schema : SchemaValue) (writes : Sequence Written) → HasWrites schema memtable.now chains.old writes → IsSnapshotOfKey key.now writes chains.old chains.new found) }
+    ensures taken { IfOk result (λ found. IfSome found (λ s. (chain_of memtable.now key.now ≡ Some s.chain) × IsSnapshotTaken chains.old chains.new s.chain s.pin s.phase)) }
+    ensures same { IfOk result (λ found. found ≡ None → chains.new ≡ chains.old) }
+    ensures stands { (schema : SchemaValue) (writes : Sequence Written) → HasWrites schema memtable.now chains.old writes → HasWrites schema memtable.now chains.new writes }
+    ensures beside { NoneShared memtable.now other.now → (schema : SchemaValue) (writes : Sequence Written) → HasWrites schema other.now chains.old writes → HasWrites schema other.now chains.new writes }
+    ensures seen { AllStillSee chains.old chains.new }
+    ensures err { OnErr result (chains.new ≡ chains.old) }
+{
+    a_snapshot_can_be_read();
+    memtable.snapshot(chains, key)
+}
+
+// A snapshot is given back, where there is one. A memtable stands for what it stood for.
+fn give_back<const S: usize>(chains: &mut Chains<S>, taken: Option<Snap>)
+    requires { IfSome taken (λ s. HasPin chains.old s.chain s.pin) }
+    ensures now { chains.new ≡ given_back taken chains.old }
+    ensures stands { (schema : SchemaValue) (keys : Sequence (Sequence ℕ × ℕ)) (writes : Sequence Written) → HasWrites schema keys chains.old writes → HasWrites schema keys chains.new writes }
+{
+    what_leaves_a_memtables_chains_leaves_its_writes();
+    if let Some(s) = taken {
+        chains.release(s);
+    }
+}

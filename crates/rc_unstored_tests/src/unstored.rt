@@ -1,0 +1,172 @@
+//! Two readers of a partition, one before its writes are sealed and one after: tests of `rc_unstored`.
+ghost use Rattle.std.specs.Prelude.{◌≡◌, IfOk, IfSome};
+ghost use Rattle.rc_schema.specs.SchemaValue.{SchemaValue};
+ghost use Rattle.rc_memory.specs.Memory.{HasPin};
+ghost use Rattle.rc_chain.specs.declared.chains.Snap.{Snap as Snapshot};
+ghost use Rattle.rc_unstored.specs.Readers.{AllStillSee, HasSnap, StillSees};
+ghost use Rattle.rc_unstored_tests.specs.Holding.{AreThere, HaveSome, IsNoneOf};
+
+use rc_cell::Row;
+use rc_chain::Snap;
+use rc_mutation::{Mutation, Rows, Write};
+use rc_position::{Comp, Key, PartKey};
+use rc_schema::Schema;
+use rc_unstored::{Snaps, Unstored};
+use rc_writes::{change_fits, is_single};
+use std::alloc::{AllocError, Global};
+use std::test::Fail;
+
+// A row that was inserted at a key of the partition p, and nothing else of it.
+fn inserted(alloc: Global, at: i64) -> Result<Write, AllocError> {
+    let key = Key::from_slice(alloc, &[Comp::Int(at)])?;
+    let mut row = Row::empty(alloc);
+    row.marker = Some(1);
+    let mut change = Mutation::empty(alloc);
+    change.rows = Rows::of_one(alloc, key, row)?;
+    Ok(Write {
+        key: PartKey::from_slice(alloc, b"p")?,
+        change,
+    })
+}
+
+// Puts a write, where it is to one place, fits the schema and has room; whether it was put.
+fn put(
+    alloc: Global,
+    unstored: &mut Unstored<4096>,
+    schema: &Schema,
+    w: &Write,
+) -> Result<bool, AllocError>
+    requires { HaveSome schema.now unstored.old }
+    ensures stands { HaveSome schema.now unstored.new }
+    ensures seen { AllStillSee unstored.old.memory unstored.new.memory }
+{
+    if schema.largest_entry() > 512 || schema.largest_static() > 512 {
+        return Ok(false);
+    }
+    if !is_single(&w.change) || !change_fits(&w.change, schema) {
+        return Ok(false);
+    }
+    unstored.put(alloc, schema, w)
+}
+
+// Puts an inserted row at a key; whether it was put.
+fn put_row(
+    alloc: Global,
+    unstored: &mut Unstored<4096>,
+    schema: &Schema,
+    at: i64,
+) -> Result<bool, AllocError>
+    requires { HaveSome schema.now unstored.old }
+    ensures stands { HaveSome schema.now unstored.new }
+    ensures seen { AllStillSee unstored.old.memory unstored.new.memory }
+{
+    let w = inserted(alloc, at)?;
+    put(alloc, unstored, schema, &w)
+}
+
+// Opens a reader of the partition: its snapshots are new.
+fn open_reader(
+    unstored: &mut Unstored<4096>,
+    schema: &Schema,
+    key: &PartKey,
+) -> Result<Snaps, AllocError>
+    requires { HaveSome schema.now unstored.old }
+    ensures there { IfOk result (AreThere unstored.new.memory) }
+    ensures fresh { IfOk result (λ t. (s : Snapshot) → HasPin unstored.old.memory s.chain s.pin → IsNoneOf t s) }
+    ensures stands { HaveSome schema.now unstored.new }
+    ensures seen { AllStillSee unstored.old.memory unstored.new.memory }
+{
+    unstored.snapshot(key)
+}
+
+// Seals what was written, puts another row, and opens a reader of both.
+fn open_later(
+    alloc: Global,
+    unstored: &mut Unstored<4096>,
+    schema: &Schema,
+    key: &PartKey,
+) -> Result<Snaps, AllocError>
+    requires { HaveSome schema.now unstored.old }
+    ensures there { IfOk result (AreThere unstored.new.memory) }
+    ensures fresh { IfOk result (λ t. (s : Snapshot) → HasPin unstored.old.memory s.chain s.pin → IsNoneOf t s) }
+    ensures stands { HaveSome schema.now unstored.new }
+    ensures seen { AllStillSee unstored.old.memory unstored.new.memory }
+{
+    unstored.seal();
+    let _put = put_row(alloc, unstored, schema, 9)?;
+    open_reader(unstored, schema, key)
+}
+
+// Takes a snapshot of a reader back, where there is one.
+fn close_one(unstored: &mut Unstored<4096>, taken: Option<Snap>)
+    requires { IfSome taken (HasSnap unstored.old.memory) }
+    ensures stands { (schema : SchemaValue) → HaveSome schema unstored.old → HaveSome schema unstored.new }
+    ensures others { (s : Snapshot) → IfSome taken (λ t. s.chain ≡ t.chain → s.pin ≡ t.pin → ⊥) → HasPin unstored.old.memory s.chain s.pin → StillSees s unstored.old.memory unstored.new.memory }
+{
+    if let Some(s) = taken {
+        unstored.release(s);
+    }
+}
+
+// Takes both snapshots of a reader back.
+fn close_reader(unstored: &mut Unstored<4096>, reader: Snaps)
+    requires { AreThere unstored.old.memory reader }
+    ensures stands { (schema : SchemaValue) → HaveSome schema unstored.old → HaveSome schema unstored.new }
+    ensures others { (s : Snapshot) → IsNoneOf reader s → HasPin unstored.old.memory s.chain s.pin → StillSees s unstored.old.memory unstored.new.memory }
+{
+    let Snaps { sealed, active } = reader;
+    close_one(unstored, sealed);
+    close_one(unstored, active);
+}
+
+// How many objects there are, and how many bytes of them.
+fn size(unstored: &Unstored<4096>) -> (u64, usize) {
+    let region = unstored.chains().region();
+    (region.objects(), region.live())
+}
+
+// What is there once two rows are written, once a third is put behind the seal and both readers are open, once the later reader is closed, and once both are and the sealed writes are let go.
+fn sizes(
+    alloc: Global,
+    unstored: &mut Unstored<4096>,
+    schema: &Schema,
+) -> Result<[(u64, usize); 4], AllocError>
+    requires { HaveSome schema.now unstored.old }
+{
+    let key = PartKey::from_slice(alloc, b"p")?;
+    let _first = put_row(alloc, unstored, schema, 7)?;
+    let _second = put_row(alloc, unstored, schema, 8)?;
+    let early = open_reader(unstored, schema, &key)?;
+    let written = size(unstored);
+    match open_later(alloc, unstored, schema, &key) {
+        Ok(late) => {
+            let open = size(unstored);
+            close_reader(unstored, late);
+            let closed = size(unstored);
+            close_reader(unstored, early);
+            unstored.drop_sealed();
+            Ok([written, open, closed, size(unstored)])
+        }
+        Err(error) => {
+            close_reader(unstored, early);
+            Err(error)
+        }
+    }
+}
+
+// Two rows of a partition, whose positions and rows have codes of 11 bytes each, are four objects in 360 bytes, and a third behind the seal is three more in 256, all of which stay while readers come and go; once the sealed writes are let go, the third row's are left.
+#[test]
+fn two_readers_and_a_seal_between(rt: HostRuntime) -> Result<(), Fail> {
+    let alloc = rt.alloc();
+    let mut unstored = Unstored::<4096>::open(alloc, 4)?;
+    assert!(rt; unstored.is_empty());
+    match Schema::read(alloc, b"ck=int static=- cols=a") {
+        Ok(schema) => {
+            let sizes = sizes(alloc, &mut unstored, &schema)?;
+            assert_eq!(rt; sizes, [(4, 360), (7, 616), (7, 616), (3, 256)]);
+        }
+        Err(_) => assert!(rt; false),
+    }
+    assert!(rt; !unstored.is_sealed());
+    Ok(())
+}
