@@ -12,10 +12,10 @@ use Rattle.rc_stream.specs.Snapshot.{There, Throughout}
 use Rattle.rc_cacheread.specs.declared.spots.RowAt.TheVariants as row
 use Rattle.rc_cacheread.specs.declared.spots.Spot.{Spot}
 use Rattle.rc_cacheread.specs.Below.{TakenIn}
-use Rattle.rc_cacheread.specs.Passing.{IsInsideRow, IsKnownOver}
+use Rattle.rc_cacheread.specs.Passing.{IsKnownFrom, IsKnownOver, PassesWhole}
 use Rattle.rc_cacheread.specs.Reading.{behind_row}
 use Rattle.rc_cacheread.specs.Spots.{past_row, stand}
-use Rattle.rc_cacheread.proofs.Orders.{either-way, never-before, reach-through, same-place}
+use Rattle.rc_cacheread.proofs.Orders.{behind-within, either-way, never-before, reach-through, same-place}
 
 -- what is as it was at the end was never anything else
 pub between : (a b c : ℕ) → a ≤ b → b ≤ c → a ≡ c → (a ≡ b) × (b ≡ c)
@@ -25,10 +25,6 @@ between a b c h k e = (omega (arith, h, k, e), omega (arith, h, k, e))
 pub same-stand : (s t : Spot) → t.place ≡ s.place → t.row ≡ s.row → s.row ≡ row.Unread → stand t ≡ s.place
 same-stand s t p e u = λ i. past_row ((e ∙ u) i) (p i)
 
--- a position is known, or inside a row
-abbrev Reads-of : (Pos → There → Type 0) → Pos → Pos → Type 0
-Reads-of knows x z = ((v : There) × knows z v) ⊎ IsInsideRow knows x z
-
 module _ (knows : Pos → There → Type 0) where
   pub over-nothing : (x y : Pos) → y ≡ x → IsKnownOver knows x y
   over-nothing x y e = λ z h b. absurd (never-before z x h (subst (IsBefore z) e b))
@@ -36,7 +32,7 @@ module _ (knows : Pos → There → Type 0) where
   pub over-gap : (x y : Pos) (tomb : Option Tomb) → Throughout x y (λ z. knows z (empty_row, tomb)) → IsKnownOver knows x y
   over-gap x y tomb d = λ z h b. inl ((empty_row, tomb), d z h b)
 
-  row-or-inside : (x z : Pos) (key : List Comp) (r : Row) (tomb : Option Tomb) → Reaches x (row_pos key) → knows (row_pos key) (r, tomb) → r ≢ empty_row → Reaches (row_pos key) z → IsBefore z (behind_row key) → Reads-of knows x z
+  row-or-inside : (x z : Pos) (key : List Comp) (r : Row) (tomb : Option Tomb) → Reaches x (row_pos key) → knows (row_pos key) (r, tomb) → r ≢ empty_row → Reaches (row_pos key) z → IsBefore z (behind_row key) → IsKnownFrom knows x z
   row-or-inside x z key r tomb on k w h b =
       elim (either-way z (row_pos key)) [
         | inl m ↦ inl ((r, tomb), subst (λ y. knows y (r, tomb)) (same-place (row_pos key) z h m) k)
@@ -45,17 +41,17 @@ module _ (knows : Pos → There → Type 0) where
 
   pub over-row : (x : Pos) (key : List Comp) (r : Row) (tomb : Option Tomb) → Reaches x (row_pos key) → IsKnownOver knows x (row_pos key) → knows (row_pos key) (r, tomb) → r ≢ empty_row → IsKnownOver knows x (behind_row key)
   over-row x key r tomb on d k w = λ z h b. by_way z h b (either-way (row_pos key) z) where
-    by_way : (z : Pos) → Reaches x z → IsBefore z (behind_row key) → Reaches (row_pos key) z ⊎ IsBefore z (row_pos key) → Reads-of knows x z
+    by_way : (z : Pos) → Reaches x z → IsBefore z (behind_row key) → Reaches (row_pos key) z ⊎ IsBefore z (row_pos key) → IsKnownFrom knows x z
     by_way z h b (inl m) = row-or-inside x z key r tomb on k w m b
     by_way z h b (inr c) = d z h c
 
-  wider : (x y z : Pos) → Reaches x y → Reads-of knows y z → Reads-of knows x z
+  wider : (x y z : Pos) → Reaches x y → IsKnownFrom knows y z → IsKnownFrom knows x z
   wider x y z on (inl d) = inl d
   wider x y z on (inr d) = inr (record { key = d.key; row = d.row; tomb = d.tomb; known = d.known; written = d.written; on = reach-through x y (row_pos d.key) on d.on; behind = d.behind; before = d.before })
 
   pub over-over : (x y z : Pos) → Reaches x y → IsKnownOver knows x y → IsKnownOver knows y z → IsKnownOver knows x z
   over-over x y z on a b = λ w h c. by_way w h c (either-way y w) where
-    by_way : (w : Pos) → Reaches x w → IsBefore w z → Reaches y w ⊎ IsBefore w y → Reads-of knows x w
+    by_way : (w : Pos) → Reaches x w → IsBefore w z → Reaches y w ⊎ IsBefore w y → IsKnownFrom knows x w
     by_way w h c (inl m) = wider x y w on (b w m c)
     by_way w h c (inr m) = a w h m
 
@@ -63,12 +59,32 @@ module _ (knows : Pos → There → Type 0) where
   over-ends x x' y y' e k d = subst (λ (z : Pos × Pos). IsKnownOver knows z.0 z.1) (λ i. (sym e i, sym k i)) d
 
   module _ (now : Pos → There → Type 0) (on : (x : Pos) (v : There) → knows x v → now x v) where
-    still : (x z : Pos) → Reads-of knows x z → Reads-of now x z
+    still : (x z : Pos) → IsKnownFrom knows x z → IsKnownFrom now x z
     still x z (inl d) = inl (d.0, on z d.0 d.1)
     still x z (inr d) = inr (record { key = d.key; row = d.row; tomb = d.tomb; known = on (row_pos d.key) (d.row, d.tomb) d.known; written = d.written; on = d.on; behind = d.behind; before = d.before })
 
     pub over-still : (x y : Pos) → IsKnownOver knows x y → IsKnownOver now x y
     over-still x y d = λ z h b. still x z (d z h b)
+
+-- ---- rows that are passed
+
+module _ (knows : Pos → There → Type 0) where
+  pub whole-nothing : (x y : Pos) → y ≡ x → PassesWhole knows x y
+  whole-nothing x y e = λ key r tomb k d on b. absurd (never-before (row_pos key) x on (subst (IsBefore (row_pos key)) e b))
+
+  pub whole-row : (key : List Comp) → PassesWhole knows (row_pos key) (behind_row key)
+  whole-row key = λ other r tomb k d on b. behind-within key other on b
+
+  pub whole-gap : (x y : Pos) (tomb : Option Tomb) → ((z : Pos) (v w : There) → knows z v → knows z w → v ≡ w) → Throughout x y (λ z. knows z (empty_row, tomb)) → PassesWhole knows x y
+  whole-gap x y tomb one g = λ key r other k d on b. absurd (d (ap (λ (v : There). v.0) (one (row_pos key) (r, other) (empty_row, tomb) k (g (row_pos key) on b))))
+
+  pub whole-ends : (x x' y y' : Pos) → x' ≡ x → y' ≡ y → PassesWhole knows x y → PassesWhole knows x' y'
+  whole-ends x x' y y' e k d = subst (λ (z : Pos × Pos). PassesWhole knows z.0 z.1) (λ i. (sym e i, sym k i)) d
+
+  -- the place itself is inside no row from there on
+  pub known-here : (x z : Pos) → z ≡ x → IsKnownFrom knows x z → (v : There) × knows z v
+  known-here x z e (inl d) = d
+  known-here x z e (inr d) = absurd (never-before (row_pos d.key) x d.on (subst (IsBefore (row_pos d.key)) e d.behind))
 
 -- ---- fills
 

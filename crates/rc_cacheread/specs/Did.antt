@@ -15,7 +15,7 @@ use Rattle.std.specs.Prelude.{Option, Some, None}
 use Rattle.rc_cacheread.specs.declared.readers.CacheReader.{CacheReader}
 use Rattle.rc_cacheread.specs.declared.spots.Step.{Step}
 use Rattle.rc_cacheread.specs.declared.spots.Step.TheVariants as step
-use Rattle.rc_cacheread.specs.Passing.{IsKnownOver}
+use Rattle.rc_cacheread.specs.Passing.{IsKnownFrom, IsKnownOver}
 use Rattle.rc_cacheread.specs.Sharing.{IsStaticRowKnown, OfBelow, OfFiller, OfKnown}
 use Rattle.rc_cacheread.specs.Spots.{stand}
 
@@ -44,11 +44,11 @@ reader_state r h w = (r.known, r.below, r.filler, h, w)
 abbrev pub IsQuiet : {K F P H W : Type 0} → OfKnown K H → Bool → K × F × P × H × W → K × F × P × H × W → Type 0
 IsQuiet kn ok s t = InTurn (KnownStep kn.did) ok (s.0, s.3) (t.0, t.3) × (t.1 ≡ s.1) × (t.2 ≡ s.2) × (t.4 ≡ s.4)
 
--- what a call passes is known: the static row; or, of the slice, each position from the place on and up to y
+-- what a call passes is known: the static row; or, of the slice, each position from the place on and up to y, but for those inside a row
 abbrev pub IsKnownFor : Call → (Pos → There → Type 0) → (HeadAt → Type 0) → (x to : Pos) → Type 0
 IsKnownFor OfHead knows heads x to = IsStaticRowKnown heads
 IsKnownFor (OfSeek y) knows heads x to = ⊤
-IsKnownFor (OfNext y) knows heads x to = (z : Pos) → Reaches x z → Reaches z y → IsBefore z to → ((v : There) × knows z v)
+IsKnownFor (OfNext y) knows heads x to = (z : Pos) → Reaches x z → Reaches z y → IsBefore z to → IsKnownFrom knows x z
 
 -- what a call passed is known: the static row, if the head was answered; or each position from the place before the call on and before the place after it; a seek passes over nothing
 abbrev pub IsFilledFor : Call → Bool → (Pos → There → Type 0) → (HeadAt → Type 0) → (x y : Pos) → Type 0

@@ -23,6 +23,14 @@ pub record IsInsideRow (knows : Pos → There → Type 0) (from x : Pos) : Type 
   pub behind : IsBefore (row_pos key) x
   pub before : IsBefore x (behind_row key)
 
--- from one position on and before another one each position is known, or inside a row that is
+-- a position is known, or inside a row that is
+abbrev pub IsKnownFrom : (Pos → There → Type 0) → (from x : Pos) → Type 0
+IsKnownFrom knows from x = ((v : There) × knows x v) ⊎ IsInsideRow knows from x
+
+-- from one position on and before another one each is known, or inside a row that is
 abbrev pub IsKnownOver : (Pos → There → Type 0) → (from to : Pos) → Type 0
-IsKnownOver knows from to = Throughout from to (λ x. ((v : There) × knows x v) ⊎ IsInsideRow knows from x)
+IsKnownOver knows from to = Throughout from to (IsKnownFrom knows from)
+
+-- from one position on and before another one no row that is known is passed in part
+abbrev pub PassesWhole : (Pos → There → Type 0) → (from to : Pos) → Type 0
+PassesWhole knows from to = (key : List Comp) (row : Row) (tomb : Option Tomb) → knows (row_pos key) (row, tomb) → row ≢ empty_row → Reaches from (row_pos key) → IsBefore (row_pos key) to → Reaches (behind_row key) to

@@ -91,7 +91,7 @@ pub record Kept {K P H : Type 0} (kn : OfKnown K H) (fi : OfFiller P H) (k : K) 
   pub lost : fi.lost h ≤ fi.lost g
   pub static_row : Unlost (fi.may p h) (fi.lost h) (fi.lost g) (IsStaticRowKnown (kn.heads k h) → IsStaticRowKnown (kn.heads l g))
 
--- a call of one part leaves what the others need; each position fits the filler; over a home a snapshot has one head
+-- a call of one part leaves what the others need; each position fits the filler; over a home a snapshot has one head, and knows one thing at a position
 pub record Shares {K F P H W : Type 0} (kn : OfKnown K H) (be : OfBelow F H W) (fi : OfFiller P H) : Type 0 where
   pub after_known : (k : K) (b : F) (p : P) (h : H) (w : W) (c : Call) (ok : Bool) (l : K) (g : H) → Fit kn be fi k b p h w → kn.did k h c ok l g
       → Fit kn be fi l b p g w × Kept kn fi k p h l p g × ((at : HeadAt) → kn.heads l g at → kn.heads k h at) × ((s : Stream) → be.seen b h w s → be.seen b g w s)
@@ -101,6 +101,7 @@ pub record Shares {K F P H W : Type 0} (kn : OfKnown K H) (be : OfBelow F H W) (
       → Fit kn be fi k b q g w × Kept kn fi k p h k q g × ((s : Stream) → be.seen b h w s → be.seen b g w s)
   pub fits : (p : P) (x : Pos) → fi.fits p x
   pub one_head : (k : K) (h : H) (a b : HeadAt) → kn.heads k h a → kn.heads k h b → a ≡ b
+  pub one_there : (k : K) (h : H) (x : Pos) (v w : There) → kn.knows k h x v → kn.knows k h x w → v ≡ w
 
 -- ---- the stream below
 

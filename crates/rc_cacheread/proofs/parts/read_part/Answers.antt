@@ -24,7 +24,7 @@ use Rattle.rc_cacheread.proofs.Parting.{advance-at, advance-gap, advance-row, ad
 use Rattle.rc_cacheread.proofs.Stepping.{ends-on, known-calls, reader_of}
 use Rattle.rc_cacheread.specs.Passing.{IsKnownOver}
 use Rattle.rc_cacheread.proofs.Filled.{filled-known, filled-then}
-use Rattle.rc_cacheread.proofs.Passed.{over-ends, over-gap, over-nothing, over-row}
+use Rattle.rc_cacheread.proofs.Passed.{over-ends, over-gap, over-nothing, over-row, whole-ends, whole-gap, whole-nothing, whole-row}
 use Rattle.rc_cacheread.proofs.parts.read_part.Goals as goal
 
 pub returns-in-Ok-Row-clause-says : goal.returns-in-Ok-Row-clause-says
@@ -337,3 +337,31 @@ returns-in-Err-clause-filled g c =
     let k = c.next_part.new.home in
     let left = known-left kn be fi c.requires.ready.shares r.below r.filler w false (r.known, h) (c.next_part.new.known, c.next_part.new.home) c.in-Err.ensures.did c.requires.ready.fit in
     filled-known kn be fi r.below r.filler w r.known l h k (IsKnownOver (kn.knows l k) (stand r.spot) (stand r.spot)) left c.next_part.ensures.knows (over-nothing (kn.knows l k) (stand r.spot) (stand r.spot) refl)
+
+pub returns-in-Ok-Row-clause-whole : goal.returns-in-Ok-Row-clause-whole
+returns-in-Ok-Row-clause-whole g c = λ v k.
+    let knows = g.K.Known.knows c.args.reader.now.known c.args.home.now in
+    let r = c.args.reader.now in
+    let key = c.in-Ok-Row.key in
+    let s = c.read_row.new.self in
+    let d : IsPartFrom knows r.spot.place r.to (part.Row key c.in-Ok-Row.row c.in-Ok-Row.tomb) = subst (IsPartFrom knows r.spot.place r.to) c.in-Ok-Row.field-0-is c.in-Ok-Row.ensures.part in
+    let at : s.place ≡ row_pos key = c.read_row.ensures.place ∙ d.1 in
+    whole-ends knows (row_pos key) (stand r.spot) (behind_row key) (stand s) (idle-stand r.spot c.requires.idle ∙ d.1) (λ i. past_row (c.read_row.ensures.row i) (at i)) (whole-row knows key)
+
+pub returns-in-Ok-Gap-clause-whole : goal.returns-in-Ok-Gap-clause-whole
+returns-in-Ok-Gap-clause-whole g c = λ v k.
+    let knows = g.K.Known.knows c.args.reader.now.known c.args.home.now in
+    let r = c.args.reader.now in
+    let s = c.go_over.new.self in
+    let q = c.go_over.ensures in
+    let d : IsPartFrom knows r.spot.place r.to (part.Gap c.in-Ok-Gap.to c.in-Ok-Gap.tomb) = subst (IsPartFrom knows r.spot.place r.to) c.in-Ok-Gap.field-0-is c.in-Ok-Gap.ensures.part in
+    whole-ends knows r.spot.place (stand r.spot) c.in-Ok-Gap.to (stand s) (idle-stand r.spot c.requires.idle) (ap (λ z. past_row z s.place) (q.row ∙ c.requires.idle.row) ∙ q.place) (whole-gap knows r.spot.place c.in-Ok-Gap.to c.in-Ok-Gap.tomb (c.requires.ready.shares.one_there r.known c.args.home.now) d.1)
+
+pub returns-in-Ok-Missing-clause-whole : goal.returns-in-Ok-Missing-clause-whole
+returns-in-Ok-Missing-clause-whole g c = λ v k. absurd ((subst (IsPartFrom (g.K.Known.knows c.args.reader.now.known c.args.home.now) c.args.reader.now.spot.place c.args.reader.now.to) c.in-Ok-Missing.field-0-is c.in-Ok-Missing.ensures.part).1 v k)
+
+pub returns-in-Ok-End-clause-whole : goal.returns-in-Ok-End-clause-whole
+returns-in-Ok-End-clause-whole g c = λ v k. whole-nothing (g.K.Known.knows c.args.reader.now.known c.args.home.now) (stand c.args.reader.now.spot) (stand c.args.reader.now.spot) refl
+
+pub returns-in-Err-clause-whole : goal.returns-in-Err-clause-whole
+returns-in-Err-clause-whole g c = λ v k. whole-nothing (g.K.Known.knows c.args.reader.now.known c.args.home.now) (stand c.args.reader.now.spot) (stand c.args.reader.now.spot) refl

@@ -16,7 +16,7 @@ use Rattle.rc_cacheread.proofs.Stepping.{end-reaches, ends-on, reader_of}
 use Rattle.rc_cacheread.proofs.Turning.{first-left, nothing-left, ready-alike, ready-closed, sees-alike, sees-at, sees-closed, still-known}
 use Rattle.rc_cacheread.specs.Passing.{IsKnownOver}
 use Rattle.rc_cacheread.proofs.Filled.{filled-still}
-use Rattle.rc_cacheread.proofs.Passed.{over-nothing}
+use Rattle.rc_cacheread.proofs.Passed.{known-here, over-nothing, whole-ends}
 use Rattle.rc_cacheread.proofs.readers.round.Goals as goal
 
 pub returns-in-Ok-Given-clause-says : goal.returns-in-Ok-Given-clause-says
@@ -164,8 +164,8 @@ returns-in-Ok-Unread-clause-did g c = λ y covers.
       calls = c.read_part.ensures.did y now;
       on = on;
       quiet = λ q.
-          let v = q place (subst (λ z. Reaches (stand r.spot) z) (sym k) (reach-itself (stand r.spot))) (end-reaches kn be fi n h w c.args.upto.now y e.1 e.2 now) e.3 in
-          (c.read_part.ensures.quiet v.0 v.1, still-known y (kn.knows r.known h) (kn.knows c.read_part.new.reader.known c.read_part.new.home) (kn.heads r.known h) (kn.heads c.read_part.new.reader.known c.read_part.new.home) (stand r.spot) (stand c.read_part.new.reader.spot) r.to c.read_part.new.reader.to on (sym c.read_part.ensures.to) (c.read_part.ensures.keeps v.0 v.1) q);
+          let v = known-here (kn.knows r.known h) (stand r.spot) place k (q place (subst (λ z. Reaches (stand r.spot) z) (sym k) (reach-itself (stand r.spot))) (end-reaches kn be fi n h w c.args.upto.now y e.1 e.2 now) e.3) in
+          (c.read_part.ensures.quiet v.0 v.1, still-known (kn.knows r.known h) (kn.knows c.read_part.new.reader.known c.read_part.new.home) (c.read_part.ensures.keeps v.0 v.1) (stand r.spot) (stand c.read_part.new.reader.spot) (whole-ends (kn.knows r.known h) (stand n.spot) (stand r.spot) (stand c.read_part.new.reader.spot) (stand c.read_part.new.reader.spot) (sym e.0.from) refl (c.read_part.ensures.whole v.0 v.1)) y (kn.heads r.known h) (kn.heads c.read_part.new.reader.known c.read_part.new.home) r.to c.read_part.new.reader.to on (sym c.read_part.ensures.to) q);
       filled = subst (λ x. ReaderFilled kn fi r.known r.filler h c.read_part.new.reader.known c.read_part.new.reader.filler c.read_part.new.home (IsKnownOver (kn.knows c.read_part.new.reader.known c.read_part.new.home) x (stand c.read_part.new.reader.spot))) e.0.from c.read_part.ensures.filled;
     }
 
