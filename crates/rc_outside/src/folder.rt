@@ -57,7 +57,7 @@ impl<'a, R: Files + AllocGlobal + Clone + Drop> FolderStore<'a, R> {
 }
 
 impl<'a, R: Files + AllocGlobal + Clone + Drop> Store for FolderStore<'a, R> {
-    ghost use Rattle.rc_outside.specs.Files.{AreBytesOf, unless_refused, grown};
+    ghost use Rattle.rc_outside.specs.Files.{AreBytesOf, HoldsSameFiles, unless_refused, grown};
 
     ghost files = { λ _. None };
 
@@ -81,6 +81,7 @@ impl<'a, R: Files + AllocGlobal + Clone + Drop> Store for FolderStore<'a, R> {
         ensures place { OnOk result ((file : R.File) × StandsIn ⟦<R::File as Read>⟧.remaining ⟦<R::File as Seek>⟧.stream_position ⟦<R::File as Seek>⟧.stream_bytes file off into.new) }
         ensures bytes { OnOk result (AreBytesOf None n off into.new) }
         ensures building { self.new.building ≡ self.old.building }
+        ensures store { HoldsSameFiles ⟦<FolderStore<'a, R> as Store>⟧.files ⟦<FolderStore<'a, R> as Store>⟧.building self.old self.new }
         ensures faults { RisesIfFailed result self.old.faults self.new.faults }
         ensures asks { self.new.asks ≡ raised self.old.asks }
     {
