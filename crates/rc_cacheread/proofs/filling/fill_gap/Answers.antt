@@ -15,6 +15,6 @@ pub returns-then-is_lt-clause-taken : goal.returns-then-is_lt-clause-taken
 returns-then-is_lt-clause-taken g c =
     record { still = c.gap.ensures.may; each = c.gap.ensures.keeps; now = c.gap.ensures.known }
 
-pub returns-clause-taken : goal.returns-clause-taken
-returns-clause-taken g c =
+pub returns-else-is_lt-clause-taken : goal.returns-else-is_lt-clause-taken
+returns-else-is_lt-clause-taken g c =
     record { still = λ m. m; each = λ m e x v d. d; now = λ m e x h b. absurd (never-before x c.args.to.now (reach-through c.args.to.now c.args.from.now x (not-lt c.args.from.now c.args.to.now (ap is_lt (sym c.cmp.ensures) ∙ sym c.is_lt.ensures ∙ c.if-is_lt.false)) h) b) }

@@ -7,7 +7,7 @@ use Rattle.rc_core.specs.declared.parts.Part.TheVariants as part
 use Rattle.rc_mutation.specs.declared.fragments.Frag.TheVariants as frag
 use Rattle.rc_stream.specs.Did.{OfNext, answered}
 use Rattle.rc_stream.specs.Places.{Reaches}
-use Rattle.rc_stream.specs.Snapshot.{IsPartFrom, place_behind}
+use Rattle.rc_stream.specs.Snapshot.{IsPartFrom, There, place_behind}
 use Rattle.rc_cacheread.specs.declared.readers.Stage.TheVariants.{Away}
 use Rattle.rc_cacheread.specs.Did.{ReaderCall, reader_state}
 use Rattle.rc_cacheread.specs.Reading.{behind_row}
@@ -281,7 +281,7 @@ returns-in-Ok-Row-clause-filled g c =
     let s = c.read_row.new.self in
     let q = c.read_row.ensures in
     let key = c.in-Ok-Row.key in
-    let v = (c.in-Ok-Row.row, c.in-Ok-Row.tomb) in
+    let v : There = (c.in-Ok-Row.row, c.in-Ok-Row.tomb) in
     let d : IsPartFrom (kn.knows r.known h) r.spot.place r.to (part.Row key c.in-Ok-Row.row c.in-Ok-Row.tomb) = subst (IsPartFrom (kn.knows r.known h) r.spot.place r.to) c.in-Ok-Row.field-0-is c.in-Ok-Row.ensures.part in
     let at : s.place ≡ row_pos key = q.place ∙ d.1 in
     let stands : stand s ≡ behind_row key = λ i. past_row (q.row i) (at i) in
