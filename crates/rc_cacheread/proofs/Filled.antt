@@ -1,6 +1,6 @@
 -- What calls of the parts leave of what is known, one after another.
-use Rattle.std.specs.Prelude.{◌≡◌, ◌≤◌, ℕ, ⊤, IsTrue}
-use Rattle.std.proofs.Common.{refl, sym, ap, ◌∙◌, subst, arith}
+use Rattle.std.specs.Prelude.{◌≡◌, ⊤}
+use Rattle.std.proofs.Common.{refl, arith}
 use Rattle.rc_position.specs.declared.positions.Pos.{Pos}
 use Rattle.rc_stream.specs.Places.{Reaches}
 use Rattle.rc_stream.specs.Snapshot.{SameKnown, There}
@@ -9,7 +9,7 @@ use Rattle.rc_cacheread.specs.Did.{ReaderFilled}
 use Rattle.rc_cacheread.specs.Passing.{IsKnownOver}
 use Rattle.rc_cacheread.specs.Sharing.{Fit, Kept, OfBelow, OfFiller, OfKnown, Shares}
 use Rattle.rc_cacheread.proofs.Leaving.{FillsLeft, KnownLeft, fills-left}
-use Rattle.rc_cacheread.proofs.Passed.{between, over-ends, over-nothing, over-over, over-still}
+use Rattle.rc_cacheread.proofs.Passed.{between, over-ends, over-over, over-still}
 
 module _ {K P H : Type 0} (kn : OfKnown K H) (fi : OfFiller P H) where
   pub filled-still : (k : K) (p : P) (h : H) (A : Type 0) → A → ReaderFilled kn fi k p h k p h A

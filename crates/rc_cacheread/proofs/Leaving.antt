@@ -1,11 +1,8 @@
 -- What calls of the snapshot, and fills, leave of the other parts.
-use Rattle.std.specs.Prelude.{◌≡◌, ◌↔◌, ◌≤◌, ℕ, Bool, true}
-use Rattle.std.proofs.Common.{refl, sym, ◌∙◌, arith}
-use Rattle.rc_cell.specs.declared.rows.Row.{Row}
-use Rattle.rc_position.specs.declared.positions.Pos.{Pos}
+use Rattle.std.specs.Prelude.{◌↔◌, Bool, true}
+use Rattle.std.proofs.Common.{refl, ◌∙◌, arith}
 use Rattle.rc_mutation.specs.declared.fragments.HeadAt.{HeadAt}
-use Rattle.rc_stream.specs.Did.{InTurn, Many}
-use Rattle.rc_stream.specs.Snapshot.{SameKnown, There}
+use Rattle.rc_stream.specs.Did.{InTurn}
 use Rattle.rc_stream.specs.Stream.{Stream}
 use Rattle.rc_cacheread.specs.Below.{Filling, Fillings}
 use Rattle.rc_cacheread.specs.Did.{KnownStep}

@@ -1,5 +1,5 @@
 -- What calls of a reader did, one after another.
-use Rattle.std.specs.Prelude.{◌≡◌, ℕ, Bool, true, false}
+use Rattle.std.specs.Prelude.{ℕ, Bool, true, false}
 use Rattle.std.proofs.Common.{refl, ◌∙◌}
 use Rattle.rc_position.specs.declared.positions.Pos.{Pos}
 use Rattle.rc_stream.specs.Did.{OfNext}

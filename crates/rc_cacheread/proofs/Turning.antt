@@ -1,5 +1,5 @@
 -- A reader after what was due was given, or the slice ended.
-use Rattle.std.specs.Prelude.{◌≡◌, ◌⊎◌, Bool, true, false, cond, List, [], ◌∷◌, ◌++◌, Option, Some, None}
+use Rattle.std.specs.Prelude.{◌≡◌, ◌⊎◌, true, false, cond, List, [], ◌∷◌, ◌++◌, Option, Some, None}
 use Rattle.std.proofs.Common.{refl, sym, ap, ◌∙◌, subst, inl, inr}
 use Rattle.rc_cell.specs.declared.writes.Tomb.{Tomb}
 use Rattle.rc_position.specs.declared.positions.Pos.{Pos}
@@ -13,17 +13,15 @@ use Rattle.rc_stream.specs.Places.{Reaches}
 use Rattle.rc_stream.specs.Snapshot.{SameKnown, There}
 use Rattle.rc_stream.specs.Stream.{Stream, first_upto, is_upto, rest}
 use Rattle.rc_cacheread.specs.declared.readers.CacheReader.{CacheReader}
-use Rattle.rc_cacheread.specs.declared.readers.Stage.{Stage}
 use Rattle.rc_cacheread.specs.declared.readers.Stage.TheVariants.{Away}
 use Rattle.rc_cacheread.specs.declared.spots.Spot.{Spot}
-use Rattle.rc_cacheread.specs.declared.spots.Turn.TheVariants as turn
 use Rattle.rc_cacheread.specs.Did.{IsKnownFor}
 use Rattle.rc_cacheread.specs.Passing.{IsKnownFrom, PassesWhole}
 use Rattle.rc_cacheread.specs.Reading.{Reads, behind_row, said_at}
 use Rattle.rc_cacheread.specs.Sharing.{Fits, IsPlaceAt, IsReady, IsSaidBelow, IsAllKnown, Leads, OfBelow, OfFiller, OfKnown, Sees}
-use Rattle.rc_cacheread.specs.Spots.{EndsUpto, GivesDue, IsSameSpot, front, stand, tomb_told}
-use Rattle.rc_cacheread.proofs.Lists.{change_if, ended, none-upto, turns}
-use Rattle.rc_cacheread.proofs.Orders.{before-reaches, either-way, never-before, reach-itself, reach-through}
+use Rattle.rc_cacheread.specs.Spots.{EndsUpto, IsSameSpot, front, stand, tomb_told}
+use Rattle.rc_cacheread.proofs.Lists.{ended, none-upto, turns}
+use Rattle.rc_cacheread.proofs.Orders.{either-way, never-before, reach-itself, reach-through}
 use Rattle.rc_cacheread.proofs.Outcomes.{Carries, leads-on}
 use Rattle.rc_cacheread.proofs.Parting.{carries-away}
 use Rattle.rc_cacheread.proofs.Stepping.{reader_of}

@@ -6,12 +6,12 @@ use Rattle.std.specs.Prelude.{◌≡◌, ◌⊎◌, ◌≤◌, Bool, true, false
 use Rattle.rc_position.specs.declared.positions.Pos.{Pos}
 use Rattle.rc_position.specs.Position.{IsBefore}
 use Rattle.rc_mutation.specs.declared.fragments.HeadAt.{HeadAt}
-use Rattle.rc_stream.specs.Did.{Call, Deed, InTurn, OfHead, OfNext, OfSeek}
+use Rattle.rc_stream.specs.Did.{Call, InTurn, OfHead, OfNext, OfSeek}
 use Rattle.rc_stream.specs.Places.{Reaches}
 use Rattle.rc_stream.specs.Snapshot.{There, Unlost}
 use Rattle.rc_stream.specs.Stream.{Stream, first_upto, is_upto, took}
 use Rattle.rc_stream.specs.declared.streams.StreamErr.{StreamErr}
-use Rattle.std.specs.Prelude.{Option, Some, None}
+use Rattle.std.specs.Prelude.{Some, None}
 use Rattle.rc_cacheread.specs.declared.readers.CacheReader.{CacheReader}
 use Rattle.rc_cacheread.specs.declared.spots.Step.{Step}
 use Rattle.rc_cacheread.specs.declared.spots.Step.TheVariants as step

@@ -5,7 +5,7 @@
 --     Shares     a call of one part leaves the others as they need to be
 --     IsReady    all that a reader needs
 --     Sees       it stands for a stream
-use Rattle.std.specs.Prelude.{◌≡◌, ◌⊎◌, ◌↔◌, ◌≤◌, ℕ, ⊤, Bool, true, false, IsTrue, List, ◌++◌, Option, None}
+use Rattle.std.specs.Prelude.{◌≡◌, ◌⊎◌, ◌↔◌, ◌≤◌, ℕ, Bool, true, false, IsTrue, List, ◌++◌, Option, None}
 use Rattle.rc_cell.specs.declared.rows.Row.{Row}
 use Rattle.rc_cell.specs.declared.writes.Tomb.{Tomb}
 use Rattle.rc_position.specs.declared.positions.Pos.{Pos}

@@ -1,12 +1,11 @@
 -- What stands below from the place on is taken.
 use Rattle.std.specs.Prelude.{◌≡◌, IfSome, IsTrue}
-use Rattle.std.proofs.Common.{Ok, true, false, refl, sym, ap, ◌∙◌, subst, inl, inr}
+use Rattle.std.proofs.Common.{Ok, true, false, refl, sym, ap, ◌∙◌, subst, inl}
 use Rattle.rc_position.specs.declared.positions.Pos.{Pos}
 use Rattle.rc_stream.specs.Calls.{left_by}
 use Rattle.rc_stream.specs.Did.{OfNext, ReachesEnd}
 use Rattle.rc_stream.specs.Places.{Reaches}
 use Rattle.rc_stream.specs.Stream.{first_upto, is_upto}
-use Rattle.rc_cacheread.specs.declared.readers.Stage.TheVariants.{Within}
 use Rattle.rc_cacheread.specs.declared.spots.Found.{Found}
 use Rattle.rc_cacheread.specs.Below.{Tells, TookFound, near_of}
 use Rattle.rc_cacheread.specs.Did.{ReaderCall}

@@ -1,13 +1,12 @@
 -- What stands below at the place is taken.
-use Rattle.std.proofs.Common.{Ok, true, false, refl, sym, ap, ◌∙◌, subst, inl, inr}
+use Rattle.std.proofs.Common.{Ok, true, false, refl, sym, subst, inl}
 use Rattle.rc_stream.specs.Calls.{left_by}
 use Rattle.rc_stream.specs.Did.{OfNext}
-use Rattle.rc_stream.specs.Places.{Reaches}
-use Rattle.rc_cacheread.specs.declared.readers.Stage.TheVariants.{Sought, Within}
+use Rattle.rc_cacheread.specs.declared.readers.Stage.TheVariants.{Within}
 use Rattle.rc_cacheread.specs.declared.spots.Step.TheVariants as step
 use Rattle.rc_cacheread.specs.Below.{TellsHere, TookHere}
 use Rattle.rc_cacheread.specs.Did.{ReaderCall}
-use Rattle.rc_cacheread.specs.Sharing.{Leads, of_below, of_filler, of_known}
+use Rattle.rc_cacheread.specs.Sharing.{of_below, of_filler, of_known}
 use Rattle.rc_cacheread.specs.Spots.{stand}
 use Rattle.rc_cacheread.proofs.Chains.{chain-one, many-many, one}
 use Rattle.rc_cacheread.proofs.Going.{Gone, at-on, gone-here, leads-here, tells-here}
@@ -17,7 +16,7 @@ use Rattle.rc_cacheread.proofs.Orders.{reach-itself, reach-through}
 use Rattle.rc_cacheread.proofs.Seeking.{idle-outcome}
 use Rattle.rc_cacheread.proofs.Stepping.{below-call, end-reaches, fill-calls, led, no-whole, reader_of, ready-on, sees-on, step-says}
 use Rattle.rc_cacheread.specs.Passing.{IsKnownOver}
-use Rattle.rc_cacheread.proofs.Filled.{filled-below, filled-read, stays-lost}
+use Rattle.rc_cacheread.proofs.Filled.{filled-below, filled-read}
 use Rattle.rc_cacheread.proofs.Passed.{over-nothing}
 use Rattle.rc_cacheread.proofs.below.look_here.Goals as goal
 

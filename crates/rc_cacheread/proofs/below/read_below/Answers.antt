@@ -1,5 +1,5 @@
 -- The stream below was sought, and is then looked at or read on.
-use Rattle.std.proofs.Common.{true, refl, sym, subst, ap}
+use Rattle.std.proofs.Common.{true, sym, subst, ap}
 use Rattle.rc_stream.specs.Did.{OfNext, answered}
 use Rattle.rc_stream.specs.Places.{Reaches}
 use Rattle.rc_cacheread.proofs.Orders.{reach-itself}

@@ -1,5 +1,5 @@
 -- The stream below was sought to the place, or is as it was.
-use Rattle.std.proofs.Common.{true, false, refl, sym, ap, ◌∙◌, subst, inr}
+use Rattle.std.proofs.Common.{true, false, refl, sym, subst, inr}
 use Rattle.rc_stream.specs.Did.{OfNext, OfSeek}
 use Rattle.rc_stream.specs.Places.{Reaches}
 use Rattle.rc_cacheread.specs.Did.{ReaderCall}

@@ -1,10 +1,6 @@
 -- One fill, if the stretch is not empty.
 use Rattle.std.proofs.Common.{refl, ap, sym, ◌∙◌}
-use Rattle.rc_cacheread.proofs.Lists.{has-row}
-use Rattle.rc_cacheread.proofs.Leaving.{fills-left}
-use Rattle.rc_cacheread.proofs.Parting.{ready-known}
-use Rattle.rc_position.specs.declared.positions.Pos.{Pos}
-use Rattle.rc_cacheread.proofs.Orders.{not-lt, never-before, reach-before, reach-itself, reach-through}
+use Rattle.rc_cacheread.proofs.Orders.{not-lt, never-before, reach-through}
 use Rattle.std.specs.Ordering.{is_lt}
 use Rattle.rc_cacheread.proofs.filling.fill_gap.Goals as goal
 

@@ -1,5 +1,5 @@
 -- The change stands at the place or behind it.
-use Rattle.std.proofs.Common.{refl, sym, inr, ap, ◌∙◌}
+use Rattle.std.proofs.Common.{refl, sym, inr, ap}
 use Rattle.rc_cacheread.proofs.Orders.{not-lt}
 use Rattle.rc_cacheread.specs.Spots.{past_row, stand}
 use Rattle.rc_cacheread.proofs.Passed.{taken-gap, taken-nothing}

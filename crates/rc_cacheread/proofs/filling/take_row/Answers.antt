@@ -1,5 +1,4 @@
 -- The row stands at the place or behind it, and is not empty.
-use Rattle.std.specs.Prelude.{◌≡◌}
 use Rattle.std.proofs.Common.{refl, sym, ap, ◌∙◌, inl, inr}
 use Rattle.std.specs.Ordering.{is_lt}
 use Rattle.rc_position.specs.Position.{row_pos}

@@ -2,7 +2,7 @@
 use Rattle.std.specs.Prelude.{◌≡◌}
 use Rattle.std.proofs.Common.{refl, sym, ap, ◌∙◌, subst, inl, inr}
 use Rattle.std.specs.Ordering.{is_eq}
-use Rattle.rc_position.specs.Position.{pos_cmp, row_pos}
+use Rattle.rc_position.specs.Position.{row_pos}
 use Rattle.rc_cacheread.specs.Below.{Filling}
 use Rattle.rc_cacheread.proofs.Chains.{one}
 use Rattle.rc_cacheread.proofs.Lists.{untrue}

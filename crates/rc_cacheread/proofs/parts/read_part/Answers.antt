@@ -1,6 +1,6 @@
 -- What each part leaves to be read.
-use Rattle.std.specs.Prelude.{◌≡◌, ◌++◌, List, [], ◌∷◌, ⊤}
-use Rattle.std.proofs.Common.{Ok, Err, true, false, refl, sym, ap, ◌∙◌, subst}
+use Rattle.std.specs.Prelude.{◌≡◌, ◌++◌, [], ◌∷◌, ⊤}
+use Rattle.std.proofs.Common.{Ok, true, false, refl, sym, ap, ◌∙◌, subst}
 use Rattle.rc_position.specs.declared.positions.Pos.{Pos}
 use Rattle.rc_position.specs.Position.{IsBefore, row_pos}
 use Rattle.rc_core.specs.declared.parts.Part.TheVariants as part
@@ -12,14 +12,14 @@ use Rattle.rc_cacheread.specs.declared.readers.Stage.TheVariants.{Away}
 use Rattle.rc_cacheread.specs.Did.{ReaderCall, reader_state}
 use Rattle.rc_cacheread.specs.Reading.{behind_row}
 use Rattle.rc_cacheread.specs.Sharing.{IsPlaceAt, of_below, of_filler, of_known}
-use Rattle.rc_cacheread.specs.Spots.{past_row, front, row_due, stand, tomb_told}
+use Rattle.rc_cacheread.specs.Spots.{past_row, front, row_due, stand}
 use Rattle.rc_cacheread.proofs.Chains.{chain-after}
-use Rattle.rc_cacheread.proofs.Going.{append-none, front-changed, told-elsewhere}
+use Rattle.rc_cacheread.proofs.Going.{front-changed, told-elsewhere}
 use Rattle.rc_cacheread.proofs.Idle.{idle-front, idle-stand}
 use Rattle.rc_cacheread.proofs.Leaving.{known-left}
 use Rattle.rc_cacheread.proofs.Lists.{behind-its-row, change_if}
 use Rattle.rc_cacheread.proofs.Orders.{before-reach, never-before, reach-itself}
-use Rattle.rc_cacheread.proofs.Outcomes.{Advance, carries-same}
+use Rattle.rc_cacheread.proofs.Outcomes.{carries-same}
 use Rattle.rc_cacheread.proofs.Parting.{advance-at, advance-gap, advance-row, advance-same, carries-away, front-over, ready-known, sees-known}
 use Rattle.rc_cacheread.proofs.Stepping.{ends-on, known-calls, reader_of}
 use Rattle.rc_cacheread.specs.Passing.{IsKnownOver}

@@ -1,6 +1,6 @@
 -- The static row that stands below is the source's.
-use Rattle.std.specs.Prelude.{◌≡◌, ⊤}
-use Rattle.std.proofs.Common.{true, false, refl, sym, ap, ◌∙◌, subst}
+use Rattle.std.specs.Prelude.{⊤}
+use Rattle.std.proofs.Common.{true, false, refl, sym, ap, ◌∙◌}
 use Rattle.rc_mutation.specs.declared.fragments.Head.{Head}
 use Rattle.rc_stream.specs.Did.{OfHead}
 use Rattle.rc_stream.specs.Stream.{Stream}

@@ -1,8 +1,6 @@
 -- A round goes on from where the rounds before it came to.
-use Rattle.std.specs.Prelude.{◌≡◌}
 use Rattle.std.proofs.Common.{Ok, true, false, refl, sym, ap, ◌∙◌, subst, arith}
 use Rattle.rc_stream.specs.Did.{OfNext, answered}
-use Rattle.rc_cacheread.specs.declared.spots.Step.TheVariants as step
 use Rattle.std.specs.Prelude.{IfOk}
 use Rattle.rc_cacheread.specs.Did.{IsReaderStepUpto, ReaderDid, ReaderStepSays}
 use Rattle.rc_cacheread.specs.Sharing.{Sees, of_below, of_filler, of_known}

@@ -1,14 +1,14 @@
 -- What was due was given, or more was read.
 use Rattle.std.specs.Prelude.{◌≡◌}
 use Rattle.std.proofs.Common.{Some, true, false, refl, sym, ap, ◌∙◌, subst}
-use Rattle.rc_stream.specs.Did.{OfNext, answered}
+use Rattle.rc_stream.specs.Did.{OfNext}
 use Rattle.rc_stream.specs.Places.{Reaches}
 use Rattle.rc_stream.specs.Stream.{took}
 use Rattle.rc_mutation.specs.Fragments.{tomb_after}
 use Rattle.rc_cacheread.specs.declared.spots.Turn.TheVariants as turn
 use Rattle.rc_cacheread.specs.Did.{IsKnownFor, KnownStep, ReaderCall, ReaderFilled}
 use Rattle.rc_cacheread.specs.Sharing.{of_below, of_filler, of_known}
-use Rattle.rc_cacheread.specs.Spots.{GivesDue, stand, tomb_told}
+use Rattle.rc_cacheread.specs.Spots.{GivesDue, stand}
 use Rattle.rc_cacheread.proofs.Chains.{chain-none}
 use Rattle.rc_cacheread.proofs.Idle.{idle-stand}
 use Rattle.rc_cacheread.proofs.Orders.{reach-itself}

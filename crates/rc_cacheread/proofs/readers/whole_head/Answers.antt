@@ -1,6 +1,6 @@
 -- The head of the snapshot, or that with the static row below.
-use Rattle.std.specs.Prelude.{◌≡◌, ⊤, IsTrue}
-use Rattle.std.proofs.Common.{true, false, refl, sym, ap, ◌∙◌, subst}
+use Rattle.std.specs.Prelude.{⊤, IsTrue}
+use Rattle.std.proofs.Common.{true, false, refl, sym, ◌∙◌, subst}
 use Rattle.rc_stream.specs.Did.{OfHead, answered}
 use Rattle.rc_stream.specs.Places.{Reaches}
 use Rattle.rc_cacheread.specs.Did.{KnownStep, ReaderCall, reader_state, IsFilledFor}
@@ -12,7 +12,7 @@ use Rattle.rc_cacheread.proofs.Lists.{untrue}
 use Rattle.rc_cacheread.proofs.Orders.{reach-itself}
 use Rattle.rc_cacheread.proofs.Outcomes.{carries-same}
 use Rattle.rc_cacheread.proofs.Parting.{ready-known, sees-known-still}
-use Rattle.rc_cacheread.proofs.Stepping.{known-calls, reader_of}
+use Rattle.rc_cacheread.proofs.Stepping.{known-calls}
 use Rattle.rc_mutation.specs.declared.fragments.HeadAt.{HeadAt}
 use Rattle.rc_cacheread.proofs.Filled.{filled-known, filled-then}
 use Rattle.rc_cacheread.proofs.readers.whole_head.Goals as goal
