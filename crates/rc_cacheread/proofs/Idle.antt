@@ -6,9 +6,8 @@ use Rattle.std.specs.declared.cmp.Ordering.TheVariants.{Less, Equal, Greater}
 use Rattle.std.specs.Ordering.{is_ge, is_gt, is_le, is_lt}
 use Rattle.rc_position.specs.declared.comps.Comp.{Comp}
 use Rattle.rc_position.specs.declared.positions.Pos.{Pos}
-use Rattle.rc_position.specs.Position.{IsBefore, pos_cmp, row_pos}
+use Rattle.rc_position.specs.Position.{pos_cmp, row_pos}
 use Rattle.rc_cell.specs.declared.writes.Tomb.{Tomb}
-use Rattle.rc_mutation.specs.Fragments.{tomb_after}
 use Rattle.rc_mutation.specs.declared.fragments.Frag.{Frag}
 use Rattle.rc_mutation.specs.declared.fragments.Frag.TheVariants as frag
 use Rattle.rc_stream.specs.Merging.{same_tomb}
@@ -19,7 +18,7 @@ use Rattle.rc_cacheread.specs.declared.spots.RowAt.TheVariants as row
 use Rattle.rc_cacheread.specs.declared.spots.Spot.{Spot}
 use Rattle.rc_cacheread.specs.declared.spots.Turn.{Turn}
 use Rattle.rc_cacheread.specs.declared.spots.Turn.TheVariants as turn
-use Rattle.rc_cacheread.specs.Spots.{GivesDue, GoesOn, IsSameSpot, IsBegunAt, HasNothingDue, IsSpotSought, WentTo, again_due, past_row, change_place, due_change, front, is_behind, is_row_due, is_row_from, row_due, since_or, stand, told_at, tomb_told, told_or}
+use Rattle.rc_cacheread.specs.Spots.{GivesDue, GoesOn, IsSameSpot, HasNothingDue, IsSpotSought, WentTo, again_due, past_row, change_place, due_change, front, is_behind, is_row_due, is_row_from, row_due, since_or, stand, told_at, tomb_told, told_or}
 use Rattle.rc_cacheread.proofs.Lists.{same-itself, same-tombs, untrue}
 
 pub none-of : (t : Option Tomb) → is_some t ≡ false → t ≡ None

@@ -1,16 +1,14 @@
 -- What calls of the snapshot, and fills, leave of the other parts.
-use Rattle.std.specs.Prelude.{◌≡◌, ◌↔◌, ◌≤◌, ℕ, Bool, true}
-use Rattle.std.proofs.Common.{refl, sym, ◌∙◌, arith}
-use Rattle.rc_cell.specs.declared.rows.Row.{Row}
-use Rattle.rc_position.specs.declared.positions.Pos.{Pos}
+use Rattle.std.specs.Prelude.{◌↔◌, Bool, true}
+use Rattle.std.proofs.Common.{refl, ◌∙◌, arith}
 use Rattle.rc_mutation.specs.declared.fragments.HeadAt.{HeadAt}
-use Rattle.rc_stream.specs.Did.{InTurn, Many}
-use Rattle.rc_stream.specs.Snapshot.{SameKnown, There}
+use Rattle.rc_stream.specs.Did.{InTurn}
 use Rattle.rc_stream.specs.Stream.{Stream}
 use Rattle.rc_cacheread.specs.Below.{Filling, Fillings}
 use Rattle.rc_cacheread.specs.Did.{KnownStep}
 use Rattle.rc_cacheread.specs.Sharing.{Fit, Kept, OfBelow, OfFiller, OfKnown, Shares}
 use Rattle.rc_cacheread.proofs.Chains.{chain-keeps}
+use Rattle.rc_cacheread.proofs.Passed.{between}
 
 pub both-ways : {A B C : Type 0} → A ↔ B → B ↔ C → A ↔ C
 both-ways p q = (λ a. q.0 (p.0 a), λ c. p.1 (q.1 c))
@@ -23,6 +21,7 @@ module _ {K F P H W : Type 0} (kn : OfKnown K H) (be : OfBelow F H W) (fi : OfFi
     pts = λ at a. (at, a, refl);
     may = λ m. m;
     lost = omega arith;
+    static_row = λ m e d. d;
   }
 
   pub kept-kept : (k l m : K) (p q r : P) (h g f : H) → Kept kn fi k p h l q g → Kept kn fi l q g m r f → Kept kn fi k p h m r f
@@ -32,6 +31,7 @@ module _ {K F P H W : Type 0} (kn : OfKnown K H) (be : OfBelow F H W) (fi : OfFi
     pts = λ at d. (let y = b.pts at d in let z = a.pts y.0 y.1 in (z.0, z.1, z.2 ∙ y.2));
     may = λ d. b.may (a.may d);
     lost = omega (arith, a.lost, b.lost);
+    static_row = λ y e d. (let u = between (fi.lost h) (fi.lost g) (fi.lost f) a.lost b.lost e in b.static_row (a.may y) u.1 (a.static_row y u.0 d));
   }
 
   -- what calls of the snapshot leave

@@ -1,4 +1,5 @@
 pub mod Chains
+pub mod Filled
 pub mod Going
 pub mod Idle
 pub mod Leaving
@@ -6,6 +7,7 @@ pub mod Lists
 pub mod Orders
 pub mod Outcomes
 pub mod Parting
+pub mod Passed
 pub mod Rounds
 pub mod Seeking
 pub mod Sought

@@ -193,3 +193,21 @@ near-on x upto end h b = (near-is upto end).2 x h (last-on x end end.weight refl
 
 pub near-row : (key : List Comp) (upto end : Pos) → Reaches (row_pos key) (near_of upto end) → IsBefore (row_pos key) end
 near-row key upto end h = row-inside key end end.weight refl (reach-through (row_pos key) (near_of upto end) (last_of end) h (near-is upto end).1)
+
+-- ---- what stands inside a row
+
+within-behind : (ks ls : List Comp) → is_le (prefix_cmp ks At ls At) ≡ true → prefix_cmp ls At ks After ≡ Less → is_le (prefix_cmp ls After ks After) ≡ true
+within-behind [] [] h b = refl
+within-behind [] (d ∷ ds) h b = refl
+within-behind (c ∷ cs) [] h b = absurd (cc)
+within-behind (c ∷ cs) (d ∷ ds) h b =
+    elim (comp_cmp d c) as (λ r. comp_cmp d c ≡ r → ordering_then r (prefix_cmp ds At cs After) ≡ Less → is_le (ordering_then r (prefix_cmp ds After cs After)) ≡ true) [
+      | Less ↦ λ e k. refl
+      | Equal ↦ λ e k. within-behind cs ds (subst (λ r. is_le (ordering_then r (prefix_cmp cs At ds At)) ≡ true) (comp_cmp_total.antisymm c d ∙ ap ordering_reverse e) h) k
+      | Greater ↦ λ e k. absurd (cc)
+    ] refl b
+
+-- what stands behind a row that is inside another one stands before what stands behind that one
+pub behind-within : (ks ls : List Comp) → Reaches (row_pos ks) (row_pos ls) → IsBefore (row_pos ls) (record { prefix = ks; weight = After }) → Reaches (record { prefix = ls; weight = After }) (record { prefix = ks; weight = After })
+unfolding pos_cmp
+behind-within ks ls h b = within-behind ks ls h b

@@ -9,16 +9,15 @@ use Rattle.rc_position.specs.declared.positions.Pos.{Pos}
 use Rattle.rc_position.specs.Position.{IsBefore, row_pos}
 use Rattle.rc_mutation.specs.declared.fragments.Frag.{Frag}
 use Rattle.rc_mutation.specs.declared.fragments.Frag.TheVariants as frag
-use Rattle.rc_stream.specs.Merging.{IsOrdered}
 use Rattle.rc_stream.specs.Places.{Reaches}
 use Rattle.rc_stream.specs.Snapshot.{There}
 use Rattle.rc_stream.specs.Stream.{Stream, first_upto, force, took}
 use Rattle.rc_cacheread.specs.declared.readers.Stage.{Stage}
 use Rattle.rc_cacheread.specs.declared.readers.Stage.TheVariants.{Away, Sought, Within}
-use Rattle.rc_cacheread.specs.Reading.{AreRowsApart, Reads, behind_row, said_at}
+use Rattle.rc_cacheread.specs.Reading.{Reads, behind_row, said_at}
 use Rattle.rc_cacheread.specs.Sharing.{Fits, Leads}
 use Rattle.rc_cacheread.proofs.Lists.{behind-its-row, change_if, gap-read, has-row, turns}
-use Rattle.rc_cacheread.proofs.Orders.{before-reach, before-reaches, reach-before, reach-itself, reach-through, same-place}
+use Rattle.rc_cacheread.proofs.Orders.{before-reach, before-reaches, reach-itself, reach-through, same-place}
 use Rattle.rc_cacheread.proofs.Streams.{first-change, first-row, nothing-fits, nothing-says}
 
 -- each stream that may stand below becomes one that may stand below afterwards, and says the same from there on

@@ -1,15 +1,19 @@
 -- What calls of a reader did, one after another.
-use Rattle.std.specs.Prelude.{◌≡◌, ℕ, Bool, true, false}
+use Rattle.std.specs.Prelude.{ℕ, Bool, true, false}
 use Rattle.std.proofs.Common.{refl, ◌∙◌}
-use Rattle.rc_stream.specs.Did.{Call}
+use Rattle.rc_position.specs.declared.positions.Pos.{Pos}
+use Rattle.rc_stream.specs.Did.{OfNext}
 use Rattle.rc_stream.specs.Showing.{FileSpots, IsNamed}
 use Rattle.rc_stream.specs.declared.streams.StreamErr.{StreamErr}
 use Rattle.rc_stream.specs.declared.streams.StreamErr.TheVariants.{Fault, Damaged, NoMemory}
 use Rattle.rc_cacheread.specs.declared.readers.CacheReader.{CacheReader}
 use Rattle.rc_cacheread.specs.Did.{KnownStep, ReaderCall, ReaderDid, reader_state}
+use Rattle.rc_cacheread.specs.Passing.{IsKnownOver}
 use Rattle.rc_cacheread.specs.Sharing.{OfBelow, OfFiller, OfKnown}
 use Rattle.rc_cacheread.specs.Spots.{stand}
 use Rattle.rc_cacheread.proofs.Chains.{chain-after, chain-none, chain-stop}
+use Rattle.rc_cacheread.proofs.Filled.{filled-over, filled-still}
+use Rattle.rc_cacheread.proofs.Passed.{over-nothing}
 use Rattle.rc_cacheread.proofs.Orders.{reach-itself, reach-through}
 
 -- a refusal that names a spot names one that could be named before
@@ -19,26 +23,29 @@ named-on spots now (Damaged file offset) l n = l file offset n
 named-on spots now NoMemory l n = n
 
 module _ {K F P H W : Type 0} (kn : OfKnown K H) (be : OfBelow F H W) (fi : OfFiller P H) where
-  pub did-after : (r n m : CacheReader K F P) (h g f : H) (w v u : W) (c : Call) (ok : Bool) → ReaderDid kn be fi r h w c true n g v → ReaderDid kn be fi n g v c ok m f u → ReaderDid kn be fi r h w c ok m f u
-  did-after r n m h g f w v u c ok a b = record {
-    calls = chain-after (ReaderCall kn be fi c) ok (reader_state r h w) (reader_state n g v) (reader_state m f u) a.calls b.calls;
+  pub did-after : (r n m : CacheReader K F P) (h g f : H) (w v u : W) (y : Pos) (ok : Bool) → ReaderDid kn be fi r h w (OfNext y) true n g v → ReaderDid kn be fi n g v (OfNext y) ok m f u → ReaderDid kn be fi r h w (OfNext y) ok m f u
+  did-after r n m h g f w v u y ok a b = record {
+    calls = chain-after (ReaderCall kn be fi (OfNext y)) ok (reader_state r h w) (reader_state n g v) (reader_state m f u) a.calls b.calls;
     on = reach-through (stand r.spot) (stand n.spot) (stand m.spot) a.on b.on;
     quiet = λ k.
         let x = a.quiet k in
-        let y = b.quiet x.1 in
-        ((chain-after (KnownStep kn.did) ok (r.known, h) (n.known, g) (m.known, f) x.0.0 y.0.0, y.0.1 ∙ x.0.1, y.0.2 ∙ x.0.2, y.0.3 ∙ x.0.3), y.1);
+        let z = b.quiet x.1 in
+        ((chain-after (KnownStep kn.did) ok (r.known, h) (n.known, g) (m.known, f) x.0.0 z.0.0, z.0.1 ∙ x.0.1, z.0.2 ∙ x.0.2, z.0.3 ∙ x.0.3), z.1);
+    filled = filled-over kn fi r.known n.known m.known r.filler n.filler m.filler h g f (stand r.spot) (stand n.spot) (stand m.spot) a.on a.filled b.filled;
   }
 
-  pub did-stopped : (r n : CacheReader K F P) (h g : H) (w v : W) (c : Call) → ReaderDid kn be fi r h w c true n g v → ReaderDid kn be fi r h w c false n g v
-  did-stopped r n h g w v c a = record {
-    calls = chain-stop (ReaderCall kn be fi c) (reader_state r h w) (reader_state n g v) a.calls;
+  pub did-stopped : (r n : CacheReader K F P) (h g : H) (w v : W) (y : Pos) → ReaderDid kn be fi r h w (OfNext y) true n g v → ReaderDid kn be fi r h w (OfNext y) false n g v
+  did-stopped r n h g w v y a = record {
+    calls = chain-stop (ReaderCall kn be fi (OfNext y)) (reader_state r h w) (reader_state n g v) a.calls;
     on = a.on;
     quiet = λ k. (let x = a.quiet k in ((chain-stop (KnownStep kn.did) (r.known, h) (n.known, g) x.0.0, x.0.1, x.0.2, x.0.3), x.1));
+    filled = a.filled;
   }
 
-  pub did-nothing : (r : CacheReader K F P) (h : H) (w : W) (c : Call) → ReaderDid kn be fi r h w c true r h w
-  did-nothing r h w c = record {
-    calls = chain-none (ReaderCall kn be fi c) true (reader_state r h w);
+  pub did-nothing : (r : CacheReader K F P) (h : H) (w : W) (y : Pos) → ReaderDid kn be fi r h w (OfNext y) true r h w
+  did-nothing r h w y = record {
+    calls = chain-none (ReaderCall kn be fi (OfNext y)) true (reader_state r h w);
     on = reach-itself (stand r.spot);
     quiet = λ k. ((chain-none (KnownStep kn.did) true (r.known, h), refl, refl, refl), k);
+    filled = filled-still kn fi r.known r.filler h (IsKnownOver (kn.knows r.known h) (stand r.spot) (stand r.spot)) (over-nothing (kn.knows r.known h) (stand r.spot) (stand r.spot) refl);
   }

@@ -1,13 +1,13 @@
 -- The stream below is sought to the place.
-use Rattle.std.specs.Prelude.{◌≡◌, ◌++◌, List, [], Option, Some, None}
-use Rattle.std.proofs.Common.{refl, sym, ap, ◌∙◌, subst}
+use Rattle.std.specs.Prelude.{◌≡◌, ◌++◌, Option, Some, None}
+use Rattle.std.proofs.Common.{refl, sym, ap, subst}
 use Rattle.rc_cell.specs.declared.writes.Tomb.{Tomb}
 use Rattle.rc_position.specs.declared.positions.Pos.{Pos}
 use Rattle.rc_stream.specs.Places.{Reaches}
 use Rattle.rc_stream.specs.Snapshot.{There}
 use Rattle.rc_stream.specs.Stream.{Stream, sought}
 use Rattle.rc_cacheread.specs.declared.readers.Stage.{Stage}
-use Rattle.rc_cacheread.specs.declared.readers.Stage.TheVariants.{Sought, Within}
+use Rattle.rc_cacheread.specs.declared.readers.Stage.TheVariants.{Sought}
 use Rattle.rc_cacheread.specs.declared.spots.Spot.{Spot}
 use Rattle.rc_cacheread.specs.Below.{sought_stage}
 use Rattle.rc_cacheread.specs.Sharing.{Fits}

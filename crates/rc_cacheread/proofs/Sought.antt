@@ -1,5 +1,5 @@
 -- A reader after a seek: what is due is passed up to the position, and the rest is read from there on.
-use Rattle.std.specs.Prelude.{◌≡◌, ◌⊎◌, Bool, true, false, cond, List, [], ◌∷◌, ◌++◌, Option, Some, None}
+use Rattle.std.specs.Prelude.{◌≡◌, ◌⊎◌, true, false, cond, List, [], ◌∷◌, ◌++◌, Option}
 use Rattle.std.proofs.Common.{refl, sym, ap, ◌∙◌, subst, inl, inr}
 use Rattle.rc_cell.specs.declared.writes.Tomb.{Tomb}
 use Rattle.rc_position.specs.declared.positions.Pos.{Pos}
@@ -13,12 +13,12 @@ use Rattle.rc_cacheread.specs.declared.readers.CacheReader.{CacheReader}
 use Rattle.rc_cacheread.specs.declared.readers.Stage.TheVariants.{Away}
 use Rattle.rc_cacheread.specs.declared.spots.Spot.{Spot}
 use Rattle.rc_cacheread.specs.Reading.{Reads, StandFrom, said_at}
-use Rattle.rc_cacheread.specs.Sharing.{IsPlaceAt, IsReady, IsSaidBelow, IsAllKnown, Leads, OfBelow, OfFiller, OfKnown, Sees}
+use Rattle.rc_cacheread.specs.Sharing.{IsReady, IsSaidBelow, IsAllKnown, Leads, OfBelow, OfFiller, OfKnown, Sees}
 use Rattle.rc_cacheread.specs.Spots.{IsBegunAt, HasNothingDue, IsSpotSought, front, stand, tomb_told}
 use Rattle.rc_cacheread.proofs.Going.{at-lags}
 use Rattle.rc_cacheread.proofs.Idle.{idle-front, idle-stand, idle-told}
-use Rattle.rc_cacheread.proofs.Lists.{at_of, same-itself, sought-read, sought-there, sought_from, unpassed-behind}
-use Rattle.rc_cacheread.proofs.Orders.{before-reaches, reach-itself, reach-through}
+use Rattle.rc_cacheread.proofs.Lists.{at_of, sought-read, sought-there, sought_from, unpassed-behind}
+use Rattle.rc_cacheread.proofs.Orders.{before-reaches, reach-through}
 use Rattle.rc_cacheread.proofs.Outcomes.{Carries, leads-on}
 use Rattle.rc_cacheread.proofs.Parting.{carries-away}
 use Rattle.rc_cacheread.proofs.Stepping.{reader_of}

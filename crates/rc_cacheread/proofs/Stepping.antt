@@ -1,8 +1,7 @@
 -- A reader after a step: it is ready, stands for what it stood for, and its parts were called.
-use Rattle.std.specs.Prelude.{◌≡◌, ◌⊎◌, ◌↔◌, ℕ, zero, suc, Bool, true, false, cond, List, [], ◌∷◌, ◌++◌, Option, Some, None, Ok}
+use Rattle.std.specs.Prelude.{◌≡◌, ◌⊎◌, ℕ, zero, suc, Bool, true, false, cond, List, [], ◌∷◌, ◌++◌, Option, Some, None, Ok}
 use Rattle.std.proofs.Common.{refl, sym, ap, ◌∙◌, subst, inl, inr}
 use Rattle.std.specs.Ordering.{is_le}
-use Rattle.rc_cell.specs.declared.rows.Row.{Row}
 use Rattle.rc_cell.specs.declared.writes.Tomb.{Tomb}
 use Rattle.rc_cell.specs.Winner.{empty_row}
 use Rattle.rc_position.specs.declared.positions.Pos.{Pos}
@@ -15,20 +14,19 @@ use Rattle.rc_stream.specs.Snapshot.{There}
 use Rattle.rc_stream.specs.Stream.{Stream, first_upto}
 use Rattle.rc_cacheread.specs.declared.readers.CacheReader.{CacheReader}
 use Rattle.rc_cacheread.specs.declared.readers.Stage.{Stage}
-use Rattle.rc_cacheread.specs.declared.readers.Stage.TheVariants.{Away, Sought, Within}
+use Rattle.rc_cacheread.specs.declared.readers.Stage.TheVariants.{Within}
 use Rattle.rc_cacheread.specs.declared.spots.Spot.{Spot}
 use Rattle.rc_cacheread.specs.declared.spots.Step.{Step}
-use Rattle.rc_cacheread.specs.declared.spots.Step.TheVariants as step
 use Rattle.rc_cacheread.specs.Below.{Fillings, Filling}
-use Rattle.rc_cacheread.specs.Did.{IsBelow, KnownStep, ReaderCall, ReaderStepSays, reader_state}
+use Rattle.rc_cacheread.specs.Did.{IsBelow, KnownStep, ReaderCall, ReaderStepSays}
 use Rattle.rc_cacheread.specs.Reading.{Reads, StandFrom, said_at}
 use Rattle.rc_cacheread.specs.Sharing.{Fit, Fits, IsPlaceAt, IsReady, IsSaidBelow, IsAllKnown, Kept, Leads, OfBelow, OfFiller, OfKnown, Sees, Shares}
 use Rattle.rc_cacheread.specs.Spots.{HasNothingDue, front, stand, tomb_told}
-use Rattle.rc_cacheread.proofs.Chains.{chain-on, chain-one, one}
+use Rattle.rc_cacheread.proofs.Chains.{chain-on}
 use Rattle.rc_cacheread.proofs.Going.{Came, Gone}
-use Rattle.rc_cacheread.proofs.Idle.{idle-front, idle-stand, idle-told}
-use Rattle.rc_cacheread.proofs.Lists.{at_of, first-says, quiet-before, from-first, untrue, upto-behind}
-use Rattle.rc_cacheread.proofs.Orders.{before-reach, before-reaches, either-way, not-le, reach-itself, reach-through, same-place}
+use Rattle.rc_cacheread.proofs.Idle.{idle-front, idle-stand}
+use Rattle.rc_cacheread.proofs.Lists.{at_of, first-says, quiet-before, from-first, upto-behind}
+use Rattle.rc_cacheread.proofs.Orders.{before-reaches, either-way, reach-itself, reach-through, same-place}
 use Rattle.rc_cacheread.proofs.Outcomes.{Advance, Carries, Outcome, leads-on, reads-on}
 
 -- a reader of these parts

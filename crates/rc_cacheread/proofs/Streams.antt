@@ -1,6 +1,6 @@
 -- What the stream below says, by what was read of it.
 use Rattle.std.specs.Prelude.{◌≡◌, Bool, true, false, cond, List, [], ◌∷◌, Option, Some, None}
-use Rattle.std.proofs.Common.{refl, sym, ap, ◌∙◌, subst, inl, inr}
+use Rattle.std.proofs.Common.{refl, sym, ap, ◌∙◌, subst}
 use Rattle.rc_cell.specs.declared.rows.Row.{Row}
 use Rattle.rc_cell.specs.declared.writes.Tomb.{Tomb}
 use Rattle.rc_cell.specs.Winner.{empty_row}
@@ -18,8 +18,8 @@ use Rattle.rc_cacheread.specs.declared.readers.Stage.{Stage}
 use Rattle.rc_cacheread.specs.declared.readers.Stage.TheVariants.{Away, Sought, Within}
 use Rattle.rc_cacheread.specs.Reading.{AreRowsApart, StandFrom, behind_row, said_at}
 use Rattle.rc_cacheread.specs.Sharing.{Fits}
-use Rattle.rc_cacheread.proofs.Lists.{at_of, behind-its-row, from-behind, from-first, from-upto, over-change, over-empty, over-row, quiet-before, quiet-upto, rest-apart, row-said, sought-apart, sought-from, sought-there}
-use Rattle.rc_cacheread.proofs.Orders.{before-reach, before-reaches, reach-itself}
+use Rattle.rc_cacheread.proofs.Lists.{behind-its-row, from-behind, from-first, from-upto, over-change, over-empty, over-row, quiet-before, quiet-upto, row-said, sought-apart, sought-from, sought-there}
+use Rattle.rc_cacheread.proofs.Orders.{before-reaches, reach-itself}
 
 abbrev is_first : Bool → Frag → Frag → Type 0
 is_first b g f = (g ≡ f) × (b ≡ true)

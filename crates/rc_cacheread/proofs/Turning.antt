@@ -1,9 +1,9 @@
 -- A reader after what was due was given, or the slice ended.
-use Rattle.std.specs.Prelude.{◌≡◌, ◌⊎◌, Bool, true, false, cond, List, [], ◌∷◌, ◌++◌, Option, Some, None}
+use Rattle.std.specs.Prelude.{◌≡◌, ◌⊎◌, true, false, cond, List, [], ◌∷◌, ◌++◌, Option, Some, None}
 use Rattle.std.proofs.Common.{refl, sym, ap, ◌∙◌, subst, inl, inr}
 use Rattle.rc_cell.specs.declared.writes.Tomb.{Tomb}
 use Rattle.rc_position.specs.declared.positions.Pos.{Pos}
-use Rattle.rc_position.specs.Position.{IsBefore}
+use Rattle.rc_position.specs.Position.{IsBefore, row_pos}
 use Rattle.rc_mutation.specs.declared.fragments.Frag.{Frag}
 use Rattle.rc_mutation.specs.declared.fragments.Frag.TheVariants as frag
 use Rattle.rc_mutation.specs.declared.fragments.HeadAt.{HeadAt}
@@ -13,16 +13,15 @@ use Rattle.rc_stream.specs.Places.{Reaches}
 use Rattle.rc_stream.specs.Snapshot.{SameKnown, There}
 use Rattle.rc_stream.specs.Stream.{Stream, first_upto, is_upto, rest}
 use Rattle.rc_cacheread.specs.declared.readers.CacheReader.{CacheReader}
-use Rattle.rc_cacheread.specs.declared.readers.Stage.{Stage}
 use Rattle.rc_cacheread.specs.declared.readers.Stage.TheVariants.{Away}
 use Rattle.rc_cacheread.specs.declared.spots.Spot.{Spot}
-use Rattle.rc_cacheread.specs.declared.spots.Turn.TheVariants as turn
 use Rattle.rc_cacheread.specs.Did.{IsKnownFor}
-use Rattle.rc_cacheread.specs.Reading.{Reads, said_at}
+use Rattle.rc_cacheread.specs.Passing.{IsKnownFrom, PassesWhole}
+use Rattle.rc_cacheread.specs.Reading.{Reads, behind_row, said_at}
 use Rattle.rc_cacheread.specs.Sharing.{Fits, IsPlaceAt, IsReady, IsSaidBelow, IsAllKnown, Leads, OfBelow, OfFiller, OfKnown, Sees}
-use Rattle.rc_cacheread.specs.Spots.{EndsUpto, GivesDue, IsSameSpot, front, stand, tomb_told}
-use Rattle.rc_cacheread.proofs.Lists.{change_if, ended, none-upto, turns}
-use Rattle.rc_cacheread.proofs.Orders.{before-reaches, never-before, reach-itself, reach-through}
+use Rattle.rc_cacheread.specs.Spots.{EndsUpto, IsSameSpot, front, stand, tomb_told}
+use Rattle.rc_cacheread.proofs.Lists.{ended, none-upto, turns}
+use Rattle.rc_cacheread.proofs.Orders.{either-way, never-before, reach-itself, reach-through}
 use Rattle.rc_cacheread.proofs.Outcomes.{Carries, leads-on}
 use Rattle.rc_cacheread.proofs.Parting.{carries-away}
 use Rattle.rc_cacheread.proofs.Stepping.{reader_of}
@@ -135,6 +134,15 @@ first-of x f fs e = ap (λ b. cond b (Some f) None) e
 pub first-left : (x : Pos) (f : Frag) (left fs : List Frag) {due now : List Frag} → left ≡ due ++ fs → due ≡ f ∷ now → is_upto x f ≡ true → (first_upto x left ≡ Some f) × (rest left ≡ now ++ fs)
 first-left x f left fs {due} {now} l d e = (ap (first_upto x) (l ∙ ap (λ z. z ++ fs) d) ∙ first-of x f (now ++ fs) e, ap rest (l ∙ ap (λ z. z ++ fs) d))
 
--- what is known for a call stays known where the snapshot knows the same
-pub still-known : (y : Pos) (a b : Pos → There → Type 0) (p q : HeadAt → Type 0) (x z to end : Pos) → Reaches x z → to ≡ end → SameKnown a b → IsKnownFor (OfNext y) a p x to → IsKnownFor (OfNext y) b q z end
-still-known y a b p q x z to end on e s k = λ i h m l. (let v = k i (reach-through x z i on h) m (subst (IsBefore i) (sym e) l) in (v.0, (s i v.0).0 v.1))
+-- what is known for a call stays known where the snapshot knows the same, and no row was passed in part
+module _ (a b : Pos → There → Type 0) (s : SameKnown a b) (x z : Pos) (whole : PassesWhole a x z) where
+  still-from : (i : Pos) → Reaches z i → IsKnownFrom a x i → IsKnownFrom b z i
+  still-from i h (inl v) = inl (v.0, (s i v.0).0 v.1)
+  still-from i h (inr d) =
+      elim (either-way z (row_pos d.key)) [
+        | inl on ↦ inr (record { key = d.key; row = d.row; tomb = d.tomb; known = (s (row_pos d.key) (d.row, d.tomb)).0 d.known; written = d.written; on = on; behind = d.behind; before = d.before })
+        | inr before ↦ absurd (never-before i (behind_row d.key) (reach-through (behind_row d.key) z i (whole d.key d.row d.tomb d.known d.written d.on before) h) d.before)
+      ]
+
+  pub still-known : (y : Pos) (p q : HeadAt → Type 0) (to end : Pos) → Reaches x z → to ≡ end → IsKnownFor (OfNext y) a p x to → IsKnownFor (OfNext y) b q z end
+  still-known y p q to end on e k = λ i h m l. still-from i h (k i (reach-through x z i on h) m (subst (IsBefore i) (sym e) l))

@@ -1,7 +1,8 @@
 -- What is read of the stream below, in a stretch that is not known.
 --     Fillings      fills, one after another
+--     TakenIn       what fills leave of what is known
 --     Took..        what a fragment that was read makes of a place
-use Rattle.std.specs.Prelude.{◌≡◌, ◌≢◌, ◌⊎◌, ⊤, cond, List, Option, Some, None}
+use Rattle.std.specs.Prelude.{◌≡◌, ◌≢◌, ◌⊎◌, ◌≤◌, ℕ, ⊤, cond, List, Option, Some, None}
 use Rattle.std.specs.Ordering.{is_le}
 use Rattle.rc_cell.specs.declared.rows.Row.{Row}
 use Rattle.rc_cell.specs.declared.writes.Tomb.{Tomb}
@@ -15,7 +16,7 @@ use Rattle.rc_stream.specs.Did.{Many}
 use Rattle.rc_stream.specs.Places.{Reaches}
 use Rattle.rc_mutation.specs.declared.fragments.Frag.{Frag}
 use Rattle.rc_mutation.specs.declared.fragments.Frag.TheVariants as frag
-use Rattle.rc_stream.specs.Snapshot.{There, Throughout}
+use Rattle.rc_stream.specs.Snapshot.{There, Throughout, Unlost}
 use Rattle.rc_cacheread.specs.declared.readers.Stage.{Stage}
 use Rattle.rc_cacheread.specs.declared.readers.Stage.TheVariants.{Away, Sought, Within}
 use Rattle.rc_cacheread.specs.declared.spots.Found.{Found}
@@ -32,6 +33,16 @@ Filling fills s t = fills s.0 s.1 t.0 t.1
 -- fills, one after another
 abbrev pub Fillings : {P H : Type 0} → (P → H → P → H → Type 0) → P → H → P → H → Type 0
 Fillings {P} {H} fills p h q g = Many {S = P × H} (Filling fills) (p, h) (q, g)
+
+-- what was lost before fills, or along them, is not forgotten by fills after those
+abbrev pub StaysLost : {P H : Type 0} → (P → H → P → H → Type 0) → (H → ℕ) → P → H → Type 0
+StaysLost {P} {H} fills lost p h = (q : P) (g : H) (r : P) (i : H) → Fillings fills p h q g → Fillings fills q g r i → lost g ≤ lost i
+
+-- after fills: what may be filled still may be, and where nothing was lost, what was known still is, and this is now
+pub record TakenIn {P H : Type 0} (may : P → H → Type 0) (lost : H → ℕ) (knows : P → H → Pos → There → Type 0) (p : P) (h : H) (q : P) (g : H) (this : Type 0) : Type 0 where
+  pub still : may p h → may q g
+  pub each : Unlost (may p h) (lost h) (lost g) ((x : Pos) (v : There) → knows p h x v → knows q g x v)
+  pub now : Unlost (may p h) (lost h) (lost g) this
 
 -- from x on up to a position, itself among them, the source has no row, and this tombstone
 abbrev pub SaysUpto : (Pos → There → Type 0) → (x upto : Pos) → Option Tomb → Type 0

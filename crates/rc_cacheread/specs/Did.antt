@@ -1,20 +1,22 @@
 -- What a call of a reader did: calls of its parts, one after another.
 --     ReaderCall     a call of the snapshot, of the stream below, or of the filler
---     ReaderDid      a call of a reader: which calls, and none but the snapshot's where what is passed is known
-use Rattle.std.specs.Prelude.{◌≡◌, ◌⊎◌, Bool, true, false, Result, Ok, Err, IsTrue, ⊤}
+--     ReaderFilled   what calls leave of what is known
+--     ReaderDid      a call of a reader: which calls, none but the snapshot's where what is passed is known, and that it is known afterwards
+use Rattle.std.specs.Prelude.{◌≡◌, ◌⊎◌, ◌≤◌, Bool, true, false, Result, Ok, Err, IsTrue, ⊤}
 use Rattle.rc_position.specs.declared.positions.Pos.{Pos}
 use Rattle.rc_position.specs.Position.{IsBefore}
 use Rattle.rc_mutation.specs.declared.fragments.HeadAt.{HeadAt}
-use Rattle.rc_stream.specs.Did.{Call, Deed, InTurn, OfHead, OfNext, OfSeek}
+use Rattle.rc_stream.specs.Did.{Call, InTurn, OfHead, OfNext, OfSeek}
 use Rattle.rc_stream.specs.Places.{Reaches}
-use Rattle.rc_stream.specs.Snapshot.{There}
+use Rattle.rc_stream.specs.Snapshot.{There, Unlost}
 use Rattle.rc_stream.specs.Stream.{Stream, first_upto, is_upto, took}
 use Rattle.rc_stream.specs.declared.streams.StreamErr.{StreamErr}
-use Rattle.std.specs.Prelude.{Option, Some, None}
+use Rattle.std.specs.Prelude.{Some, None}
 use Rattle.rc_cacheread.specs.declared.readers.CacheReader.{CacheReader}
 use Rattle.rc_cacheread.specs.declared.spots.Step.{Step}
 use Rattle.rc_cacheread.specs.declared.spots.Step.TheVariants as step
-use Rattle.rc_cacheread.specs.Sharing.{OfBelow, OfFiller, OfKnown}
+use Rattle.rc_cacheread.specs.Passing.{IsKnownFrom, IsKnownOver}
+use Rattle.rc_cacheread.specs.Sharing.{IsStaticRowKnown, OfBelow, OfFiller, OfKnown}
 use Rattle.rc_cacheread.specs.Spots.{stand}
 
 -- a call of a snapshot over its home
@@ -42,17 +44,33 @@ reader_state r h w = (r.known, r.below, r.filler, h, w)
 abbrev pub IsQuiet : {K F P H W : Type 0} → OfKnown K H → Bool → K × F × P × H × W → K × F × P × H × W → Type 0
 IsQuiet kn ok s t = InTurn (KnownStep kn.did) ok (s.0, s.3) (t.0, t.3) × (t.1 ≡ s.1) × (t.2 ≡ s.2) × (t.4 ≡ s.4)
 
--- what a call passes is known: the static row; or, of the slice, each position from the place on and up to y
+-- what a call passes is known: the static row; or, of the slice, each position from the place on and up to y, but for those inside a row
 abbrev pub IsKnownFor : Call → (Pos → There → Type 0) → (HeadAt → Type 0) → (x to : Pos) → Type 0
-IsKnownFor OfHead knows heads x to = (at : HeadAt) → heads at → IsTrue at.known
+IsKnownFor OfHead knows heads x to = IsStaticRowKnown heads
 IsKnownFor (OfSeek y) knows heads x to = ⊤
-IsKnownFor (OfNext y) knows heads x to = (z : Pos) → Reaches x z → Reaches z y → IsBefore z to → ((v : There) × knows z v)
+IsKnownFor (OfNext y) knows heads x to = (z : Pos) → Reaches x z → Reaches z y → IsBefore z to → IsKnownFrom knows x z
 
--- a call of a reader is a chain of calls of its parts, a refused one last, and goes on; where what it passes is known, of the snapshot alone, and it still is known
+-- what a call passed is known: the static row, if the head was answered; or each position from the place before the call on and before the place after it; a seek passes over nothing
+abbrev pub IsFilledFor : Call → Bool → (Pos → There → Type 0) → (HeadAt → Type 0) → (x y : Pos) → Type 0
+IsFilledFor OfHead true knows heads x y = IsStaticRowKnown heads
+IsFilledFor OfHead false knows heads x y = ⊤
+IsFilledFor (OfSeek z) ok knows heads x y = ⊤
+IsFilledFor (OfNext z) ok knows heads x y = IsKnownOver knows x y
+
+-- after calls: what may be filled still may be, and what was lost is not forgotten; where it may be filled and nothing was lost, what was known still is, and this is now
+pub record ReaderFilled {K P H : Type 0} (kn : OfKnown K H) (fi : OfFiller P H) (k : K) (p : P) (h : H) (l : K) (q : P) (g : H) (this : Type 0) : Type 0 where
+  pub still : fi.may p h → fi.may q g
+  pub lost : fi.lost h ≤ fi.lost g
+  pub each : Unlost (fi.may p h) (fi.lost h) (fi.lost g) ((x : Pos) (v : There) → kn.knows k h x v → kn.knows l g x v)
+  pub static_row : Unlost (fi.may p h) (fi.lost h) (fi.lost g) (IsStaticRowKnown (kn.heads k h) → IsStaticRowKnown (kn.heads l g))
+  pub now : Unlost (fi.may p h) (fi.lost h) (fi.lost g) this
+
+-- a call of a reader is a chain of calls of its parts, a refused one last, and goes on; where what it passes is known, of the snapshot alone, and it still is known; where the filler may fill and nothing was lost, what it passed is known afterwards
 pub record ReaderDid {K F P H W : Type 0} (kn : OfKnown K H) (be : OfBelow F H W) (fi : OfFiller P H) (r : CacheReader K F P) (h : H) (w : W) (c : Call) (ok : Bool) (n : CacheReader K F P) (g : H) (v : W) : Type 0 where
   pub calls : InTurn (ReaderCall kn be fi c) ok (reader_state r h w) (reader_state n g v)
   pub on : Reaches (stand r.spot) (stand n.spot)
   pub quiet : IsKnownFor c (kn.knows r.known h) (kn.heads r.known h) (stand r.spot) r.to → IsQuiet kn ok (reader_state r h w) (reader_state n g v) × IsKnownFor c (kn.knows n.known g) (kn.heads n.known g) (stand n.spot) n.to
+  pub filled : ReaderFilled kn fi r.known r.filler h n.known n.filler g (IsFilledFor c ok (kn.knows n.known g) (kn.heads n.known g) (stand r.spot) (stand n.spot))
 
 -- what a step leaves, where this holds of the stream: nothing stands up to x; or something was read; or the first was given, which stands there
 abbrev pub ReaderStepSays : Result Step StreamErr → Pos → Stream → (Stream → Type 0) → Type 0

@@ -5,7 +5,7 @@
 --     Shares     a call of one part leaves the others as they need to be
 --     IsReady    all that a reader needs
 --     Sees       it stands for a stream
-use Rattle.std.specs.Prelude.{◌≡◌, ◌⊎◌, ◌↔◌, ◌≤◌, ℕ, ⊤, Bool, true, false, IsTrue, List, ◌++◌, Option, None}
+use Rattle.std.specs.Prelude.{◌≡◌, ◌⊎◌, ◌↔◌, ◌≤◌, ℕ, Bool, true, false, IsTrue, List, ◌++◌, Option, None}
 use Rattle.rc_cell.specs.declared.rows.Row.{Row}
 use Rattle.rc_cell.specs.declared.writes.Tomb.{Tomb}
 use Rattle.rc_position.specs.declared.positions.Pos.{Pos}
@@ -15,7 +15,7 @@ use Rattle.rc_mutation.specs.declared.fragments.HeadAt.{HeadAt}
 use Rattle.rc_stream.specs.Did.{Call}
 use Rattle.rc_stream.specs.Merging.{IsOrdered}
 use Rattle.rc_stream.specs.Places.{Reaches}
-use Rattle.rc_stream.specs.Snapshot.{SameKnown, There}
+use Rattle.rc_stream.specs.Snapshot.{SameKnown, There, Unlost}
 use Rattle.rc_stream.specs.Stream.{Stream}
 use Rattle.rc_cacheread.specs.declared.readers.CacheReader.{CacheReader}
 use Rattle.rc_cacheread.specs.declared.readers.Stage.{Stage}
@@ -78,15 +78,20 @@ pub record Fit {K F P H W : Type 0} (kn : OfKnown K H) (be : OfBelow F H W) (fi 
   pub same : SameKnown (fi.knows p h) (kn.knows k h)
   pub same_statics : (row : Row) → fi.knows_statics p h row → (at : HeadAt) → kn.heads k h at → IsTrue at.known
 
--- the source is as it was, what may be filled still may be, and what was lost is not forgotten
+-- the static row is known
+abbrev pub IsStaticRowKnown : (HeadAt → Type 0) → Type 0
+IsStaticRowKnown heads = (at : HeadAt) → heads at → IsTrue at.known
+
+-- the source is as it was, what may be filled still may be, and what was lost is not forgotten; where nothing was lost, a static row that was known still is
 pub record Kept {K P H : Type 0} (kn : OfKnown K H) (fi : OfFiller P H) (k : K) (p : P) (h : H) (l : K) (q : P) (g : H) : Type 0 where
   pub source : SameKnown (fi.source p h) (fi.source q g)
   pub statics : (row : Row) → fi.statics_are p h row ↔ fi.statics_are q g row
   pub pts : (at : HeadAt) → kn.heads l g at → (before : HeadAt) × kn.heads k h before × (before.head.pt ≡ at.head.pt)
   pub may : fi.may p h → fi.may q g
   pub lost : fi.lost h ≤ fi.lost g
+  pub static_row : Unlost (fi.may p h) (fi.lost h) (fi.lost g) (IsStaticRowKnown (kn.heads k h) → IsStaticRowKnown (kn.heads l g))
 
--- a call of one part leaves what the others need; each position fits the filler
+-- a call of one part leaves what the others need; each position fits the filler; over a home a snapshot has one head, and knows one thing at a position
 pub record Shares {K F P H W : Type 0} (kn : OfKnown K H) (be : OfBelow F H W) (fi : OfFiller P H) : Type 0 where
   pub after_known : (k : K) (b : F) (p : P) (h : H) (w : W) (c : Call) (ok : Bool) (l : K) (g : H) → Fit kn be fi k b p h w → kn.did k h c ok l g
       → Fit kn be fi l b p g w × Kept kn fi k p h l p g × ((at : HeadAt) → kn.heads l g at → kn.heads k h at) × ((s : Stream) → be.seen b h w s → be.seen b g w s)
@@ -95,6 +100,8 @@ pub record Shares {K F P H W : Type 0} (kn : OfKnown K H) (be : OfBelow F H W) (
   pub after_fill : (k : K) (b : F) (p : P) (h : H) (w : W) (q : P) (g : H) → Fit kn be fi k b p h w → fi.fills p h q g
       → Fit kn be fi k b q g w × Kept kn fi k p h k q g × ((s : Stream) → be.seen b h w s → be.seen b g w s)
   pub fits : (p : P) (x : Pos) → fi.fits p x
+  pub one_head : (k : K) (h : H) (a b : HeadAt) → kn.heads k h a → kn.heads k h b → a ≡ b
+  pub one_there : (k : K) (h : H) (x : Pos) (v w : There) → kn.knows k h x v → kn.knows k h x w → v ≡ w
 
 -- ---- the stream below
 
@@ -112,7 +119,7 @@ pub record Leads (source : Pos → There → Type 0) (statics : Row → Type 0) 
 -- the head is known, and each position from x on and before `to`
 pub record IsAllKnown (knows : Pos → There → Type 0) (heads : HeadAt → Type 0) (x to : Pos) : Type 0 where
   pub each : (y : Pos) → Reaches x y → IsBefore y to → ((v : There) × knows y v)
-  pub head : (at : HeadAt) → heads at → IsTrue at.known
+  pub head : IsStaticRowKnown heads
 
 -- a stream stands below that says what these fragments say, from the place on and before `to`
 pub record IsSaidBelow (seen : Stream → Type 0) (stage : Stage) (to : Pos) (s : Spot) (fs : List Frag) (statics : Row) : Type 0 where

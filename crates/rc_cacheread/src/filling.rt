@@ -1,11 +1,13 @@
 // Fills of a stretch that was read below.
-ghost use Rattle.std.specs.Prelude.{◌≡◌};
+ghost use Rattle.std.specs.Prelude.{◌≡◌, ⊤};
 ghost use Rattle.rc_cell.specs.Winner.{empty_row};
 ghost use Rattle.rc_position.specs.declared.positions.Pos.{Pos};
 ghost use Rattle.rc_position.specs.Position.{row_pos};
 ghost use Rattle.rc_stream.specs.Places.{Reaches};
 ghost use Rattle.rc_stream.specs.Snapshot.{There, Throughout};
-ghost use Rattle.rc_cacheread.specs.Below.{Fillings, SaysUpto, TellsHere, TookChange, TookHere, TookNothing, TookRow, TookRowHere};
+ghost use Rattle.rc_cacheread.specs.Below.{Fillings, SaysUpto, StaysLost, TakenIn, TellsHere, TookChange, TookHere, TookNothing, TookRow, TookRowHere};
+ghost use Rattle.rc_cacheread.specs.Passing.{IsKnownOver};
+ghost use Rattle.rc_cacheread.specs.Spots.{stand};
 
 use crate::spots::{Found, RowAt, Spot};
 use rc_cell::{Row, Tomb};
@@ -26,6 +28,7 @@ pub(crate) fn fill_gap<H, P: Filler<H>>(
     requires source { Throughout from.now to.now (λ x. P.source filler.old home.old x (empty_row, tomb)) }
     ensures source { (x : Pos) (v : There) → P.source filler.old home.old x v → P.source filler.new home.new x v }
     ensures did { Fillings P.fills filler.old home.old filler.new home.new }
+    ensures taken { TakenIn P.may P.lost P.knows filler.old home.old filler.new home.new (Throughout from.now to.now (λ x. P.knows filler.new home.new x (empty_row, tomb))) }
     ensures ready { P.ready filler.new home.new }
 {
     if from.cmp(to).is_lt() {
@@ -42,11 +45,14 @@ pub(crate) fn take_row<H, P: Filler<H>>(
     row: Row,
 )
     requires ready { P.ready filler.old home.old }
+    requires lost { StaysLost P.fills P.lost filler.old home.old }
+    requires unread { spot.old.row ≡ RowAt.Unread }
     requires fits { (p : P) (x : Pos) → P.fits p x }
     requires source { Throughout spot.old.place (row_pos key) (λ x. P.source filler.old home.old x (empty_row, spot.old.tomb)) }
     requires row { Reaches spot.old.place (row_pos key) → P.source filler.old home.old (row_pos key) (row, spot.old.tomb) }
     ensures took { TookRow key row spot.old spot.new }
     ensures did { Fillings P.fills filler.old home.old filler.new home.new }
+    ensures taken { TakenIn P.may P.lost P.knows filler.old home.old filler.new home.new (IsKnownOver (P.knows filler.new home.new) spot.old.place (stand spot.new)) }
     ensures ready { P.ready filler.new home.new }
 {
     if key.compare_with_pos(&spot.place).is_lt() {
@@ -75,10 +81,12 @@ pub(crate) fn take_change<H, P: Filler<H>>(
     tomb: Option<Tomb>,
 )
     requires ready { P.ready filler.old home.old }
+    requires unread { spot.old.row ≡ RowAt.Unread }
     requires fits { (p : P) (x : Pos) → P.fits p x }
     requires source { Throughout spot.old.place from (λ x. P.source filler.old home.old x (empty_row, spot.old.tomb)) }
     ensures took { TookChange from tomb spot.old spot.new }
     ensures did { Fillings P.fills filler.old home.old filler.new home.new }
+    ensures taken { TakenIn P.may P.lost P.knows filler.old home.old filler.new home.new (IsKnownOver (P.knows filler.new home.new) spot.old.place (stand spot.new)) }
     ensures ready { P.ready filler.new home.new }
 {
     if from < spot.place {
@@ -93,10 +101,12 @@ pub(crate) fn take_change<H, P: Filler<H>>(
 // Takes in that nothing stands before the end of the stretch.
 pub(crate) fn take_end<H, P: Filler<H>>(filler: &mut P, spot: &mut Spot, home: &mut H, end: Pos)
     requires ready { P.ready filler.old home.old }
+    requires unread { spot.old.row ≡ RowAt.Unread }
     requires fits { (p : P) (x : Pos) → P.fits p x }
     requires source { Throughout spot.old.place end (λ x. P.source filler.old home.old x (empty_row, spot.old.tomb)) }
     ensures took { TookNothing end spot.old spot.new }
     ensures did { Fillings P.fills filler.old home.old filler.new home.new }
+    ensures taken { TakenIn P.may P.lost P.knows filler.old home.old filler.new home.new (IsKnownOver (P.knows filler.new home.new) spot.old.place (stand spot.new)) }
     ensures ready { P.ready filler.new home.new }
 {
     fill_gap(filler, home, &spot.place, &end, spot.tomb);
@@ -112,11 +122,14 @@ pub(crate) fn take_upto<H, P: Filler<H>>(
     upto: Pos,
 )
     requires ready { P.ready filler.old home.old }
+    requires lost { StaysLost P.fills P.lost filler.old home.old }
+    requires unread { spot.old.row ≡ RowAt.Unread }
     requires fits { (p : P) (x : Pos) → P.fits p x }
     requires source { SaysUpto (P.source filler.old home.old) spot.old.place upto spot.old.tomb }
     requires on { Reaches spot.old.place upto }
     ensures took { TookNothing upto spot.old spot.new }
     ensures did { Fillings P.fills filler.old home.old filler.new home.new }
+    ensures taken { TakenIn P.may P.lost P.knows filler.old home.old filler.new home.new (IsKnownOver (P.knows filler.new home.new) spot.old.place (stand spot.new)) }
     ensures ready { P.ready filler.new home.new }
 {
     fill_gap(filler, home, &spot.place, &upto, spot.tomb);
@@ -136,6 +149,7 @@ fn fill_none<H, P: Filler<H>>(
     requires fits { (p : P) (x : Pos) → P.fits p x }
     requires source { P.source filler.old home.old at.now (empty_row, tomb) }
     ensures did { Fillings P.fills filler.old home.old filler.new home.new }
+    ensures taken { TakenIn P.may P.lost P.knows filler.old home.old filler.new home.new ⊤ }
     ensures ready { P.ready filler.new home.new }
 {
     match at.weight {
@@ -155,10 +169,12 @@ pub(crate) fn take_here<H, P: Filler<H>>(
     found: Found,
 )
     requires ready { P.ready filler.old home.old }
+    requires unread { spot.old.row ≡ RowAt.Unread }
     requires fits { (p : P) (x : Pos) → P.fits p x }
     requires source { TellsHere (P.source filler.old home.old) spot.old.place found }
     ensures took { TookHere found spot.old spot.new }
     ensures did { Fillings P.fills filler.old home.old filler.new home.new }
+    ensures taken { TakenIn P.may P.lost P.knows filler.old home.old filler.new home.new (IsKnownOver (P.knows filler.new home.new) spot.old.place (stand spot.new)) }
     ensures ready { P.ready filler.new home.new }
 {
     match found {
@@ -171,10 +187,12 @@ pub(crate) fn take_here<H, P: Filler<H>>(
 // Takes a row that was read below, if it stands at the place itself, where no tombstone is in force. One that is empty says nothing.
 fn take_row_here<H, P: Filler<H>>(filler: &mut P, spot: &mut Spot, home: &mut H, key: Key, row: Row)
     requires ready { P.ready filler.old home.old }
+    requires unread { spot.old.row ≡ RowAt.Unread }
     requires fits { (p : P) (x : Pos) → P.fits p x }
     requires row { row_pos key ≡ spot.old.place → P.source filler.old home.old spot.old.place (row, None) }
     ensures took { TookRowHere key row spot.old spot.new }
     ensures did { Fillings P.fills filler.old home.old filler.new home.new }
+    ensures taken { TakenIn P.may P.lost P.knows filler.old home.old filler.new home.new (IsKnownOver (P.knows filler.new home.new) spot.old.place (stand spot.new)) }
     ensures ready { P.ready filler.new home.new }
 {
     spot.change_to(None);

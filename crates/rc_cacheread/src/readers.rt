@@ -7,9 +7,10 @@ ghost use Rattle.rc_stream.specs.Causes.{Caused};
 ghost use Rattle.rc_stream.specs.Did.{InTurn, ReachesEnd, answered, Call.OfHead, Call.OfNext};
 ghost use Rattle.rc_stream.specs.Showing.{Blames};
 ghost use Rattle.rc_stream.specs.Stream.{Stream, first_upto, is_upto};
-ghost use Rattle.rc_cacheread.specs.Did.{IsReaderStepUpto, ReaderCall, ReaderDid, ReaderStepSays, reader_state};
+ghost use Rattle.rc_cacheread.specs.Did.{IsFilledFor, IsReaderStepUpto, ReaderCall, ReaderDid, ReaderFilled, ReaderStepSays, reader_state};
 ghost use Rattle.rc_cacheread.specs.Making.{IsNewReader};
 ghost use Rattle.rc_cacheread.specs.Sharing.{IsReady, Sees, of_below, of_filler, of_known};
+ghost use Rattle.rc_cacheread.specs.Spots.{stand};
 
 use crate::parts::read_part;
 use crate::spots::{Spot, Step, Turn};
@@ -172,6 +173,7 @@ fn head_below<H, W: Store, K: Known<H>, F: Frags<H, W>, P: Filler<H>>(
     ensures seen { (s : Stream) → Sees (of_known K.ready K.place K.knows K.heads K.did) (of_below F.ready F.seen F.ahead F.moves F.did) (of_filler P.ready P.fits P.may P.lost P.source P.knows P.statics_are P.knows_statics P.fills) reader.old home.old store.old s → Sees (of_known K.ready K.place K.knows K.heads K.did) (of_below F.ready F.seen F.ahead F.moves F.did) (of_filler P.ready P.fits P.may P.lost P.source P.knows P.statics_are P.knows_statics P.fills) reader.new home.new store.new s }
     ensures calls { InTurn (ReaderCall (of_known K.ready K.place K.knows K.heads K.did) (of_below F.ready F.seen F.ahead F.moves F.did) (of_filler P.ready P.fits P.may P.lost P.source P.knows P.statics_are P.knows_statics P.fills) OfHead) (answered result) (reader_state reader.old home.old store.old) (reader_state reader.new home.new store.new) }
     ensures spot { reader.new.spot ≡ reader.old.spot }
+    ensures filled { ReaderFilled (of_known K.ready K.place K.knows K.heads K.did) (of_filler P.ready P.fits P.may P.lost P.source P.knows P.statics_are P.knows_statics P.fills) reader.old.known reader.old.filler home.old reader.new.known reader.new.filler home.new (IsFilledFor OfHead (answered result) (K.knows reader.new.known home.new) (K.heads reader.new.known home.new) (stand reader.old.spot) (stand reader.new.spot)) }
     ensures ready { IsReady (of_known K.ready K.place K.knows K.heads K.did) (of_below F.ready F.seen F.ahead F.moves F.did) (of_filler P.ready P.fits P.may P.lost P.source P.knows P.statics_are P.knows_statics P.fills) reader.new home.new store.new }
     ensures damage { Blames (F.damage reader.old.below) (F.damage reader.new.below) result }
     ensures cause { Caused result (W.files store.old) (W.faults store.old) (W.faults store.new) }

@@ -1,12 +1,11 @@
 -- What stands below from the place on is taken.
 use Rattle.std.specs.Prelude.{◌≡◌, IfSome, IsTrue}
-use Rattle.std.proofs.Common.{Ok, true, false, refl, sym, ap, ◌∙◌, subst, inl, inr}
+use Rattle.std.proofs.Common.{Ok, true, false, refl, sym, ap, ◌∙◌, subst, inl}
 use Rattle.rc_position.specs.declared.positions.Pos.{Pos}
 use Rattle.rc_stream.specs.Leaving.{left_by}
 use Rattle.rc_stream.specs.Did.{OfNext, ReachesEnd}
 use Rattle.rc_stream.specs.Places.{Reaches}
 use Rattle.rc_stream.specs.Stream.{first_upto, is_upto}
-use Rattle.rc_cacheread.specs.declared.readers.Stage.TheVariants.{Within}
 use Rattle.rc_cacheread.specs.declared.spots.Found.{Found}
 use Rattle.rc_cacheread.specs.Below.{Tells, TookFound, near_of}
 use Rattle.rc_cacheread.specs.Did.{ReaderCall}
@@ -19,6 +18,9 @@ use Rattle.rc_cacheread.proofs.Leaving.{fills-left, kept-kept}
 use Rattle.rc_cacheread.proofs.Orders.{near-is, near-on, near-within, reach-itself, reach-through}
 use Rattle.rc_cacheread.proofs.Seeking.{idle-outcome}
 use Rattle.rc_cacheread.proofs.Stepping.{below-call, end-on, fill-calls, led, no-whole, reader_of, ready-on, sees-on, step-says}
+use Rattle.rc_cacheread.specs.Passing.{IsKnownOver}
+use Rattle.rc_cacheread.proofs.Filled.{filled-below, filled-read, filled-still, stays-lost}
+use Rattle.rc_cacheread.proofs.Passed.{over-nothing}
 use Rattle.rc_cacheread.proofs.below.go_below.Goals as goal
 
 pub returns-in-Err-clause-did : goal.returns-in-Err-clause-did
@@ -161,3 +163,50 @@ returns-in-Err-clause-on g c = reach-itself (stand c.args.reader.now.spot)
 
 pub returns-in-Err-next-clause-on : goal.returns-in-Err-next-clause-on
 returns-in-Err-next-clause-on g c = reach-itself (stand c.args.reader.now.spot)
+
+pub take_found-requires-clause-lost : goal.take_found-requires-clause-lost
+take_found-requires-clause-lost g c =
+    let kn = (of_known g.K.Known.ready g.K.Known.place g.K.Known.knows g.K.Known.heads g.K.Known.did) in
+    let be = (of_below g.F.Frags.ready g.F.Frags.seen g.F.Frags.ahead g.F.Frags.moves g.F.Frags.did) in
+    let fi = (of_filler g.P.Filler.ready g.P.Filler.fits g.P.Filler.may g.P.Filler.lost g.P.Filler.source g.P.Filler.knows g.P.Filler.statics_are g.P.Filler.knows_statics g.P.Filler.fills) in
+    let r = c.args.reader.now in
+    let h = c.args.home.now in
+    let w = c.args.store.now in
+    stays-lost kn be fi r.known c.next.new.self c.next.new.store r.filler c.next.new.home c.requires.ready.shares (c.requires.ready.shares.after_below r.known r.below c.next.new.self r.filler h w c.next.new.home c.next.new.store c.requires.ready.fit c.in-Ok-next.ensures.moves c.in-Ok-next.ensures.ready).0
+
+pub take_found-requires-clause-unread : goal.take_found-requires-clause-unread
+take_found-requires-clause-unread g c =
+    c.requires.idle.row
+
+pub returns-in-Ok-next-clause-filled : goal.returns-in-Ok-next-clause-filled
+returns-in-Ok-next-clause-filled g c =
+    let kn = (of_known g.K.Known.ready g.K.Known.place g.K.Known.knows g.K.Known.heads g.K.Known.did) in
+    let be = (of_below g.F.Frags.ready g.F.Frags.seen g.F.Frags.ahead g.F.Frags.moves g.F.Frags.did) in
+    let fi = (of_filler g.P.Filler.ready g.P.Filler.fits g.P.Filler.may g.P.Filler.lost g.P.Filler.source g.P.Filler.knows g.P.Filler.statics_are g.P.Filler.knows_statics g.P.Filler.fills) in
+    let r = c.args.reader.now in
+    let h = c.args.home.now in
+    let w = c.args.store.now in
+    let after = c.requires.ready.shares.after_below r.known r.below c.next.new.self r.filler h w c.next.new.home c.next.new.store c.requires.ready.fit c.in-Ok-next.ensures.moves c.in-Ok-next.ensures.ready in
+    let filled = fills-left kn be fi c.requires.ready.shares r.known c.next.new.self c.next.new.store (r.filler, c.next.new.home) (c.take_found.new.filler, c.take_found.new.home) c.take_found.ensures.did after.0 in
+    filled-read kn be fi c.next.new.self c.next.new.store r.known r.filler c.take_found.new.filler h c.next.new.home c.take_found.new.home r.spot.place (stand r.spot) (stand c.take_found.new.spot) (idle-stand r.spot c.requires.idle) after filled c.take_found.ensures.taken
+
+pub returns-in-Err-next-clause-filled : goal.returns-in-Err-next-clause-filled
+returns-in-Err-next-clause-filled g c =
+    let kn = (of_known g.K.Known.ready g.K.Known.place g.K.Known.knows g.K.Known.heads g.K.Known.did) in
+    let be = (of_below g.F.Frags.ready g.F.Frags.seen g.F.Frags.ahead g.F.Frags.moves g.F.Frags.did) in
+    let fi = (of_filler g.P.Filler.ready g.P.Filler.fits g.P.Filler.may g.P.Filler.lost g.P.Filler.source g.P.Filler.knows g.P.Filler.statics_are g.P.Filler.knows_statics g.P.Filler.fills) in
+    let r = c.args.reader.now in
+    let h = c.args.home.now in
+    let w = c.args.store.now in
+    let after = c.requires.ready.shares.after_below r.known r.below c.next.new.self r.filler h w c.next.new.home c.next.new.store c.requires.ready.fit c.in-Err-next.ensures.moves c.in-Err-next.ensures.ready in
+    filled-below kn be fi r.known r.filler h c.next.new.home (IsKnownOver (kn.knows r.known c.next.new.home) (stand r.spot) (stand r.spot)) after.1 after.2 (over-nothing (kn.knows r.known c.next.new.home) (stand r.spot) (stand r.spot) refl)
+
+pub returns-in-Err-clause-filled : goal.returns-in-Err-clause-filled
+returns-in-Err-clause-filled g c =
+    let kn = (of_known g.K.Known.ready g.K.Known.place g.K.Known.knows g.K.Known.heads g.K.Known.did) in
+    let be = (of_below g.F.Frags.ready g.F.Frags.seen g.F.Frags.ahead g.F.Frags.moves g.F.Frags.did) in
+    let fi = (of_filler g.P.Filler.ready g.P.Filler.fits g.P.Filler.may g.P.Filler.lost g.P.Filler.source g.P.Filler.knows g.P.Filler.statics_are g.P.Filler.knows_statics g.P.Filler.fills) in
+    let r = c.args.reader.now in
+    let h = c.args.home.now in
+    let w = c.args.store.now in
+    filled-still kn fi r.known r.filler h (IsKnownOver (kn.knows r.known h) (stand r.spot) (stand r.spot)) (over-nothing (kn.knows r.known h) (stand r.spot) (stand r.spot) refl)

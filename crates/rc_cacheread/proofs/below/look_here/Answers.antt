@@ -1,13 +1,12 @@
 -- What stands below at the place is taken.
-use Rattle.std.proofs.Common.{Ok, true, false, refl, sym, ap, ◌∙◌, subst, inl, inr}
+use Rattle.std.proofs.Common.{Ok, true, false, refl, sym, subst, inl}
 use Rattle.rc_stream.specs.Leaving.{left_by}
 use Rattle.rc_stream.specs.Did.{OfNext}
-use Rattle.rc_stream.specs.Places.{Reaches}
-use Rattle.rc_cacheread.specs.declared.readers.Stage.TheVariants.{Sought, Within}
+use Rattle.rc_cacheread.specs.declared.readers.Stage.TheVariants.{Within}
 use Rattle.rc_cacheread.specs.declared.spots.Step.TheVariants as step
 use Rattle.rc_cacheread.specs.Below.{TellsHere, TookHere}
 use Rattle.rc_cacheread.specs.Did.{ReaderCall}
-use Rattle.rc_cacheread.specs.Sharing.{Leads, of_below, of_filler, of_known}
+use Rattle.rc_cacheread.specs.Sharing.{of_below, of_filler, of_known}
 use Rattle.rc_cacheread.specs.Spots.{stand}
 use Rattle.rc_cacheread.proofs.Chains.{chain-one, many-many, one}
 use Rattle.rc_cacheread.proofs.Going.{Gone, at-on, gone-here, leads-here, tells-here}
@@ -16,6 +15,9 @@ use Rattle.rc_cacheread.proofs.Leaving.{fills-left, kept-kept}
 use Rattle.rc_cacheread.proofs.Orders.{reach-itself, reach-through}
 use Rattle.rc_cacheread.proofs.Seeking.{idle-outcome}
 use Rattle.rc_cacheread.proofs.Stepping.{below-call, end-reaches, fill-calls, led, no-whole, reader_of, ready-on, sees-on, step-says}
+use Rattle.rc_cacheread.specs.Passing.{IsKnownOver}
+use Rattle.rc_cacheread.proofs.Filled.{filled-below, filled-read}
+use Rattle.rc_cacheread.proofs.Passed.{over-nothing}
 use Rattle.rc_cacheread.proofs.below.look_here.Goals as goal
 
 pub take_here-requires-clause-ready : goal.take_here-requires-clause-ready
@@ -136,3 +138,30 @@ returns-in-Err-clause-ready g c =
 
 pub returns-in-Err-clause-on : goal.returns-in-Err-clause-on
 returns-in-Err-clause-on g c = reach-itself (stand c.args.reader.now.spot)
+
+pub take_here-requires-clause-unread : goal.take_here-requires-clause-unread
+take_here-requires-clause-unread g c =
+    c.requires.idle.row
+
+pub returns-in-Ok-clause-filled : goal.returns-in-Ok-clause-filled
+returns-in-Ok-clause-filled g c =
+    let kn = (of_known g.K.Known.ready g.K.Known.place g.K.Known.knows g.K.Known.heads g.K.Known.did) in
+    let be = (of_below g.F.Frags.ready g.F.Frags.seen g.F.Frags.ahead g.F.Frags.moves g.F.Frags.did) in
+    let fi = (of_filler g.P.Filler.ready g.P.Filler.fits g.P.Filler.may g.P.Filler.lost g.P.Filler.source g.P.Filler.knows g.P.Filler.statics_are g.P.Filler.knows_statics g.P.Filler.fills) in
+    let r = c.args.reader.now in
+    let h = c.args.home.now in
+    let w = c.args.store.now in
+    let after = c.requires.ready.shares.after_below r.known r.below c.next.new.self r.filler h w c.next.new.home c.next.new.store c.requires.ready.fit c.in-Ok.ensures.moves c.in-Ok.ensures.ready in
+    let filled = fills-left kn be fi c.requires.ready.shares r.known c.next.new.self c.next.new.store (r.filler, c.next.new.home) (c.take_here.new.filler, c.take_here.new.home) c.take_here.ensures.did after.0 in
+    filled-read kn be fi c.next.new.self c.next.new.store r.known r.filler c.take_here.new.filler h c.next.new.home c.take_here.new.home r.spot.place (stand r.spot) (stand c.take_here.new.spot) (idle-stand r.spot c.requires.idle) after filled c.take_here.ensures.taken
+
+pub returns-in-Err-clause-filled : goal.returns-in-Err-clause-filled
+returns-in-Err-clause-filled g c =
+    let kn = (of_known g.K.Known.ready g.K.Known.place g.K.Known.knows g.K.Known.heads g.K.Known.did) in
+    let be = (of_below g.F.Frags.ready g.F.Frags.seen g.F.Frags.ahead g.F.Frags.moves g.F.Frags.did) in
+    let fi = (of_filler g.P.Filler.ready g.P.Filler.fits g.P.Filler.may g.P.Filler.lost g.P.Filler.source g.P.Filler.knows g.P.Filler.statics_are g.P.Filler.knows_statics g.P.Filler.fills) in
+    let r = c.args.reader.now in
+    let h = c.args.home.now in
+    let w = c.args.store.now in
+    let after = c.requires.ready.shares.after_below r.known r.below c.next.new.self r.filler h w c.next.new.home c.next.new.store c.requires.ready.fit c.in-Err.ensures.moves c.in-Err.ensures.ready in
+    filled-below kn be fi r.known r.filler h c.next.new.home (IsKnownOver (kn.knows r.known c.next.new.home) (stand r.spot) (stand r.spot)) after.1 after.2 (over-nothing (kn.knows r.known c.next.new.home) (stand r.spot) (stand r.spot) refl)

@@ -1,15 +1,19 @@
 -- The stream below was sought, and is then looked at or read on.
-use Rattle.std.proofs.Common.{true, refl, sym, subst}
+use Rattle.std.proofs.Common.{true, sym, subst, ap}
 use Rattle.rc_stream.specs.Did.{OfNext, answered}
 use Rattle.rc_stream.specs.Places.{Reaches}
 use Rattle.rc_cacheread.proofs.Orders.{reach-itself}
 use Rattle.rc_cacheread.specs.Below.{IsNotAway}
-use Rattle.rc_cacheread.specs.Did.{ReaderCall, reader_state}
+use Rattle.rc_cacheread.specs.Did.{ReaderCall, reader_state, ReaderFilled}
 use Rattle.rc_cacheread.specs.Sharing.{of_below, of_filler, of_known}
 use Rattle.rc_cacheread.specs.Spots.{stand}
 use Rattle.rc_cacheread.proofs.Chains.{chain-after}
 use Rattle.rc_cacheread.proofs.Going.{at-lags}
 use Rattle.rc_cacheread.proofs.Stepping.{end-reaches, ends-on, sees-lags}
+use Rattle.std.specs.Prelude.{⊤}
+use Rattle.rc_cacheread.specs.Passing.{IsKnownOver}
+use Rattle.rc_cacheread.proofs.Filled.{filled-on, filled-then}
+use Rattle.rc_cacheread.proofs.Passed.{over-nothing}
 use Rattle.rc_cacheread.proofs.below.read_below.Goals as goal
 
 pub settle-requires-clause-ready : goal.settle-requires-clause-ready
@@ -90,3 +94,45 @@ returns-in-Within-clause-on g c = subst (λ s. Reaches (stand s) (stand c.go_bel
 
 pub returns-in-Err-clause-on : goal.returns-in-Err-clause-on
 returns-in-Err-clause-on g c = subst (λ s. Reaches (stand c.args.reader.now.spot) (stand s)) (sym c.in-Err.ensures.spot) (reach-itself (stand c.args.reader.now.spot))
+
+pub returns-in-Sought-clause-filled : goal.returns-in-Sought-clause-filled
+returns-in-Sought-clause-filled g c =
+    let kn = (of_known g.K.Known.ready g.K.Known.place g.K.Known.knows g.K.Known.heads g.K.Known.did) in
+    let be = (of_below g.F.Frags.ready g.F.Frags.seen g.F.Frags.ahead g.F.Frags.moves g.F.Frags.did) in
+    let fi = (of_filler g.P.Filler.ready g.P.Filler.fits g.P.Filler.may g.P.Filler.lost g.P.Filler.source g.P.Filler.knows g.P.Filler.statics_are g.P.Filler.knows_statics g.P.Filler.fills) in
+    let r = c.args.reader.now in
+    let h = c.args.home.now in
+    let w = c.args.store.now in
+    let s = c.settle.new.reader in
+    let n = c.look_here.new.reader in
+    let k = c.settle.new.home in
+    let i = c.look_here.new.home in
+    subst (λ z. ReaderFilled kn fi r.known r.filler h n.known n.filler i (IsKnownOver (kn.knows n.known i) (stand z) (stand n.spot))) c.in-Ok.ensures.spot
+    (filled-then kn fi r.known s.known n.known r.filler s.filler n.filler h k i ⊤ (IsKnownOver (kn.knows n.known i) (stand s.spot) (stand n.spot)) c.in-Ok.ensures.filled c.look_here.ensures.filled)
+
+pub returns-in-Within-clause-filled : goal.returns-in-Within-clause-filled
+returns-in-Within-clause-filled g c =
+    let kn = (of_known g.K.Known.ready g.K.Known.place g.K.Known.knows g.K.Known.heads g.K.Known.did) in
+    let be = (of_below g.F.Frags.ready g.F.Frags.seen g.F.Frags.ahead g.F.Frags.moves g.F.Frags.did) in
+    let fi = (of_filler g.P.Filler.ready g.P.Filler.fits g.P.Filler.may g.P.Filler.lost g.P.Filler.source g.P.Filler.knows g.P.Filler.statics_are g.P.Filler.knows_statics g.P.Filler.fills) in
+    let r = c.args.reader.now in
+    let h = c.args.home.now in
+    let w = c.args.store.now in
+    let s = c.settle.new.reader in
+    let n = c.go_below.new.reader in
+    let k = c.settle.new.home in
+    let i = c.go_below.new.home in
+    subst (λ z. ReaderFilled kn fi r.known r.filler h n.known n.filler i (IsKnownOver (kn.knows n.known i) (stand z) (stand n.spot))) c.in-Ok.ensures.spot
+    (filled-then kn fi r.known s.known n.known r.filler s.filler n.filler h k i ⊤ (IsKnownOver (kn.knows n.known i) (stand s.spot) (stand n.spot)) c.in-Ok.ensures.filled c.go_below.ensures.filled)
+
+pub returns-in-Err-clause-filled : goal.returns-in-Err-clause-filled
+returns-in-Err-clause-filled g c =
+    let kn = (of_known g.K.Known.ready g.K.Known.place g.K.Known.knows g.K.Known.heads g.K.Known.did) in
+    let be = (of_below g.F.Frags.ready g.F.Frags.seen g.F.Frags.ahead g.F.Frags.moves g.F.Frags.did) in
+    let fi = (of_filler g.P.Filler.ready g.P.Filler.fits g.P.Filler.may g.P.Filler.lost g.P.Filler.source g.P.Filler.knows g.P.Filler.statics_are g.P.Filler.knows_statics g.P.Filler.fills) in
+    let r = c.args.reader.now in
+    let h = c.args.home.now in
+    let w = c.args.store.now in
+    let s = c.settle.new.reader in
+    let k = c.settle.new.home in
+    filled-on kn fi r.known s.known r.filler s.filler h k ⊤ (IsKnownOver (kn.knows s.known k) (stand r.spot) (stand s.spot)) (λ e. over-nothing (kn.knows s.known k) (stand r.spot) (stand s.spot) (ap stand c.in-Err.ensures.spot)) c.in-Err.ensures.filled

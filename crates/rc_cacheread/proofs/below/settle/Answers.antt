@@ -1,5 +1,5 @@
 -- The stream below was sought to the place, or is as it was.
-use Rattle.std.proofs.Common.{true, false, refl, sym, ap, ◌∙◌, subst, inr}
+use Rattle.std.proofs.Common.{true, false, refl, sym, subst, inr}
 use Rattle.rc_stream.specs.Did.{OfNext, OfSeek}
 use Rattle.rc_stream.specs.Places.{Reaches}
 use Rattle.rc_cacheread.specs.Did.{ReaderCall}
@@ -10,6 +10,8 @@ use Rattle.rc_cacheread.proofs.Idle.{idle-front, idle-stand}
 use Rattle.rc_cacheread.proofs.Orders.{reach-itself}
 use Rattle.rc_cacheread.proofs.Seeking.{idle-outcome, sought-outcome}
 use Rattle.rc_cacheread.proofs.Stepping.{below-call, led, no-whole, reader_of, ready-on, sees-on}
+use Rattle.std.specs.Prelude.{⊤}
+use Rattle.rc_cacheread.proofs.Filled.{filled-below, filled-still}
 use Rattle.rc_cacheread.proofs.below.settle.Goals as goal
 
 pub seek-requires-clause-ahead : goal.seek-requires-clause-ahead
@@ -102,3 +104,35 @@ returns-in-Err-clause-ready g c =
     let n = reader_of r.known c.seek.new.self r.filler r.to r.spot r.stage r.lags in
     let after = c.requires.ready.shares.after_below r.known r.below c.seek.new.self r.filler h w c.seek.new.home c.seek.new.store c.requires.ready.fit c.in-Err.ensures.moves c.in-Err.ensures.ready in
     ready-on kn be fi r n h c.seek.new.home w c.seek.new.store c.requires.ready.shares after.0 after.1 (led kn be fi r h w c.requires.ready (no-whole kn be fi r h c.requires.idle c.requires.within c.requires.missing)) (idle-outcome (fi.source r.filler h) (be.seen r.below h w) (be.seen c.seek.new.self c.seek.new.home c.seek.new.store) r.to r.spot c.requires.idle r.stage c.in-Err.ensures.seen).carries (reach-itself (stand r.spot)) refl (λ x on. c.in-Err.ensures.kept x (c.requires.ready.ahead x on)) c.requires.ready.place
+
+pub returns-in-Ok-clause-filled : goal.returns-in-Ok-clause-filled
+returns-in-Ok-clause-filled g c =
+    let kn = (of_known g.K.Known.ready g.K.Known.place g.K.Known.knows g.K.Known.heads g.K.Known.did) in
+    let be = (of_below g.F.Frags.ready g.F.Frags.seen g.F.Frags.ahead g.F.Frags.moves g.F.Frags.did) in
+    let fi = (of_filler g.P.Filler.ready g.P.Filler.fits g.P.Filler.may g.P.Filler.lost g.P.Filler.source g.P.Filler.knows g.P.Filler.statics_are g.P.Filler.knows_statics g.P.Filler.fills) in
+    let r = c.args.reader.now in
+    let h = c.args.home.now in
+    let w = c.args.store.now in
+    let after = c.requires.ready.shares.after_below r.known r.below c.seek.new.self r.filler h w c.seek.new.home c.seek.new.store c.requires.ready.fit c.in-Ok.ensures.moves c.in-Ok.ensures.ready in
+    filled-below kn be fi r.known r.filler h c.seek.new.home ⊤ after.1 after.2 tt
+
+pub returns-in-Err-clause-filled : goal.returns-in-Err-clause-filled
+returns-in-Err-clause-filled g c =
+    let kn = (of_known g.K.Known.ready g.K.Known.place g.K.Known.knows g.K.Known.heads g.K.Known.did) in
+    let be = (of_below g.F.Frags.ready g.F.Frags.seen g.F.Frags.ahead g.F.Frags.moves g.F.Frags.did) in
+    let fi = (of_filler g.P.Filler.ready g.P.Filler.fits g.P.Filler.may g.P.Filler.lost g.P.Filler.source g.P.Filler.knows g.P.Filler.statics_are g.P.Filler.knows_statics g.P.Filler.fills) in
+    let r = c.args.reader.now in
+    let h = c.args.home.now in
+    let w = c.args.store.now in
+    let after = c.requires.ready.shares.after_below r.known r.below c.seek.new.self r.filler h w c.seek.new.home c.seek.new.store c.requires.ready.fit c.in-Err.ensures.moves c.in-Err.ensures.ready in
+    filled-below kn be fi r.known r.filler h c.seek.new.home ⊤ after.1 after.2 tt
+
+pub returns-in-Sought-clause-filled : goal.returns-in-Sought-clause-filled
+returns-in-Sought-clause-filled g c =
+    let kn = (of_known g.K.Known.ready g.K.Known.place g.K.Known.knows g.K.Known.heads g.K.Known.did) in
+    let be = (of_below g.F.Frags.ready g.F.Frags.seen g.F.Frags.ahead g.F.Frags.moves g.F.Frags.did) in
+    let fi = (of_filler g.P.Filler.ready g.P.Filler.fits g.P.Filler.may g.P.Filler.lost g.P.Filler.source g.P.Filler.knows g.P.Filler.statics_are g.P.Filler.knows_statics g.P.Filler.fills) in
+    let r = c.args.reader.now in
+    let h = c.args.home.now in
+    let w = c.args.store.now in
+    filled-still kn fi r.known r.filler h ⊤ tt

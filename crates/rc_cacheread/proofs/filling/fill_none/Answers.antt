@@ -1,6 +1,6 @@
 -- The position is that of a row.
 use Rattle.std.specs.Prelude.{◌≡◌}
-use Rattle.std.proofs.Common.{refl, sym, subst}
+use Rattle.std.proofs.Common.{sym, subst}
 use Rattle.rc_cell.specs.declared.rows.Row.{Row}
 use Rattle.rc_position.specs.declared.positions.Pos.{Pos}
 use Rattle.rc_position.specs.Position.{row_pos}
@@ -16,3 +16,7 @@ row-requires-clause-source g c =
 
 pub returns-in-At-clause-did : goal.returns-in-At-clause-did
 returns-in-At-clause-did g c = one (λ ok. Filling g.P.Filler.fills) (c.args.filler.now, c.args.home.now) (c.row.new.self, c.row.new.home) c.row.ensures.did
+
+pub returns-in-At-clause-taken : goal.returns-in-At-clause-taken
+returns-in-At-clause-taken g c =
+    record { still = c.row.ensures.may; each = c.row.ensures.keeps; now = λ m e. tt }

@@ -2,11 +2,14 @@
 use Rattle.std.specs.Prelude.{◌≡◌}
 use Rattle.std.proofs.Common.{refl, sym, ap, ◌∙◌, subst, inl, inr}
 use Rattle.std.specs.Ordering.{is_eq}
-use Rattle.rc_position.specs.Position.{pos_cmp, row_pos}
+use Rattle.rc_position.specs.Position.{row_pos}
 use Rattle.rc_cacheread.specs.Below.{Filling}
 use Rattle.rc_cacheread.proofs.Chains.{one}
 use Rattle.rc_cacheread.proofs.Lists.{untrue}
-use Rattle.rc_cacheread.proofs.Orders.{at-itself, is-eq}
+use Rattle.rc_cacheread.proofs.Orders.{at-itself, is-eq, reach-itself}
+use Rattle.rc_cacheread.specs.Reading.{behind_row}
+use Rattle.rc_cacheread.proofs.Passed.{over-ends, over-nothing, over-row, same-stand, taken-nothing}
+use Rattle.rc_cacheread.specs.Spots.{stand}
 use Rattle.rc_cacheread.proofs.filling.take_row_here.Goals as goal
 use Rattle.rc_cacheread.proofs.filling.take_row_here.Goals.{then-is_empty-via-then-is_empty, then-is_empty-via-else-is_empty+then-not-is_eq}
 
@@ -46,3 +49,18 @@ returns-clause-took g c =
 
 pub returns-clause-did : goal.returns-clause-did
 returns-clause-did g c = one (λ ok. Filling g.P.Filler.fills) (c.args.filler.now, c.args.home.now) (c.row.new.self, c.row.new.home) c.row.ensures.did
+
+pub returns-then-is_empty-clause-taken : goal.returns-then-is_empty-clause-taken
+returns-then-is_empty-clause-taken g c =
+    taken-nothing g.P.Filler.may g.P.Filler.lost g.P.Filler.knows c.args.filler.now c.args.home.now c.args.spot.now.place (stand c.change_to.new.self) (same-stand c.args.spot.now c.change_to.new.self c.change_to.ensures.place c.change_to.ensures.row c.requires.unread)
+
+pub returns-clause-taken : goal.returns-clause-taken
+returns-clause-taken g c =
+    let same : row_pos c.args.key ≡ c.args.spot.now.place = is-eq (row_pos c.args.key) c.change_to.new.self.place (ap is_eq (sym c.compare_with_pos.ensures) ∙ sym c.is_eq.ensures ∙ c.if-not-is_eq.false) ∙ c.change_to.ensures.place in
+    let now = g.P.Filler.knows c.row.new.self c.row.new.home in
+    let key = c.args.key in
+    record {
+      still = c.row.ensures.may;
+      each = c.row.ensures.keeps;
+      now = λ m e. over-ends now (row_pos key) c.args.spot.now.place (behind_row key) (behind_row c.change_to.new.self.place.prefix) (sym same) (ap (λ z. behind_row z.prefix) (c.change_to.ensures.place ∙ sym same)) (over-row now (row_pos key) key c.args.row _ (reach-itself (row_pos key)) (over-nothing now (row_pos key) (row_pos key) refl) (c.row.ensures.known m e) (λ k. untrue (sym (c.is_empty.ensures.1 k) ∙ c.if-is_empty.false)));
+    }

@@ -1,10 +1,9 @@
 -- The snapshot passed to the place, if it lagged.
-use Rattle.std.proofs.Common.{true, false, refl, sym, ◌∙◌, subst}
+use Rattle.std.proofs.Common.{true, false, sym, subst}
 use Rattle.rc_stream.specs.Did.{OfSeek}
-use Rattle.rc_stream.specs.Places.{Reaches}
 use Rattle.rc_cacheread.specs.Did.{KnownStep}
 use Rattle.rc_cacheread.specs.Sharing.{IsPlaceAt}
-use Rattle.rc_cacheread.proofs.Chains.{chain-none, chain-one}
+use Rattle.rc_cacheread.proofs.Chains.{chain-one}
 use Rattle.rc_cacheread.proofs.Going.{at-lags}
 use Rattle.rc_cacheread.proofs.parts.catch_up.Goals as goal
 

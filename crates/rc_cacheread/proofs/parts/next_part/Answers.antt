@@ -1,8 +1,7 @@
 -- The snapshot is at the place, and gives its first part from there.
-use Rattle.std.proofs.Common.{true, false, refl, sym, ap, ◌∙◌, subst}
+use Rattle.std.proofs.Common.{sym, ap, ◌∙◌, subst}
 use Rattle.std.specs.Prelude.{IfOk}
 use Rattle.std.specs.Result.{is_ok}
-use Rattle.rc_position.specs.declared.positions.Pos.{Pos}
 use Rattle.rc_stream.specs.Did.{OfNext}
 use Rattle.rc_stream.specs.Places.{Reaches}
 use Rattle.rc_stream.specs.Snapshot.{IsPartFrom, place_behind}

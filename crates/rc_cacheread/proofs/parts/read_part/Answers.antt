@@ -1,27 +1,30 @@
 -- What each part leaves to be read.
-use Rattle.std.specs.Prelude.{◌≡◌, ◌++◌, List, [], ◌∷◌}
-use Rattle.std.proofs.Common.{Ok, Err, true, false, refl, sym, ap, ◌∙◌, subst}
+use Rattle.std.specs.Prelude.{◌≡◌, ◌++◌, [], ◌∷◌, ⊤}
+use Rattle.std.proofs.Common.{Ok, true, false, refl, sym, ap, ◌∙◌, subst}
 use Rattle.rc_position.specs.declared.positions.Pos.{Pos}
 use Rattle.rc_position.specs.Position.{IsBefore, row_pos}
 use Rattle.rc_core.specs.declared.parts.Part.TheVariants as part
 use Rattle.rc_mutation.specs.declared.fragments.Frag.TheVariants as frag
 use Rattle.rc_stream.specs.Did.{OfNext, answered}
 use Rattle.rc_stream.specs.Places.{Reaches}
-use Rattle.rc_stream.specs.Snapshot.{IsPartFrom, place_behind}
+use Rattle.rc_stream.specs.Snapshot.{IsPartFrom, There, place_behind}
 use Rattle.rc_cacheread.specs.declared.readers.Stage.TheVariants.{Away}
 use Rattle.rc_cacheread.specs.Did.{ReaderCall, reader_state}
 use Rattle.rc_cacheread.specs.Reading.{behind_row}
 use Rattle.rc_cacheread.specs.Sharing.{IsPlaceAt, of_below, of_filler, of_known}
-use Rattle.rc_cacheread.specs.Spots.{past_row, front, row_due, stand, tomb_told}
+use Rattle.rc_cacheread.specs.Spots.{past_row, front, row_due, stand}
 use Rattle.rc_cacheread.proofs.Chains.{chain-after}
-use Rattle.rc_cacheread.proofs.Going.{append-none, front-changed, told-elsewhere}
+use Rattle.rc_cacheread.proofs.Going.{front-changed, told-elsewhere}
 use Rattle.rc_cacheread.proofs.Idle.{idle-front, idle-stand}
 use Rattle.rc_cacheread.proofs.Leaving.{known-left}
 use Rattle.rc_cacheread.proofs.Lists.{behind-its-row, change_if}
 use Rattle.rc_cacheread.proofs.Orders.{before-reach, never-before, reach-itself}
-use Rattle.rc_cacheread.proofs.Outcomes.{Advance, carries-same}
+use Rattle.rc_cacheread.proofs.Outcomes.{carries-same}
 use Rattle.rc_cacheread.proofs.Parting.{advance-at, advance-gap, advance-row, advance-same, carries-away, front-over, ready-known, sees-known}
 use Rattle.rc_cacheread.proofs.Stepping.{ends-on, known-calls, reader_of}
+use Rattle.rc_cacheread.specs.Passing.{IsKnownOver}
+use Rattle.rc_cacheread.proofs.Filled.{filled-known, filled-then}
+use Rattle.rc_cacheread.proofs.Passed.{over-ends, over-gap, over-nothing, over-row, whole-ends, whole-gap, whole-nothing, whole-row}
 use Rattle.rc_cacheread.proofs.parts.read_part.Goals as goal
 
 pub returns-in-Ok-Row-clause-says : goal.returns-in-Ok-Row-clause-says
@@ -263,3 +266,102 @@ returns-in-Ok-End-clause-keeps g c = λ v k. c.next_part.ensures.knows
 
 pub returns-in-Err-clause-keeps : goal.returns-in-Err-clause-keeps
 returns-in-Err-clause-keeps g c = λ v k. c.next_part.ensures.knows
+
+pub returns-in-Ok-Row-clause-filled : goal.returns-in-Ok-Row-clause-filled
+returns-in-Ok-Row-clause-filled g c =
+    let kn = (of_known g.K.Known.ready g.K.Known.place g.K.Known.knows g.K.Known.heads g.K.Known.did) in
+    let be = (of_below g.F.Frags.ready g.F.Frags.seen g.F.Frags.ahead g.F.Frags.moves g.F.Frags.did) in
+    let fi = (of_filler g.P.Filler.ready g.P.Filler.fits g.P.Filler.may g.P.Filler.lost g.P.Filler.source g.P.Filler.knows g.P.Filler.statics_are g.P.Filler.knows_statics g.P.Filler.fills) in
+    let r = c.args.reader.now in
+    let h = c.args.home.now in
+    let w = c.args.store.now in
+    let l = c.next_part.new.known in
+    let k = c.next_part.new.home in
+    let left = known-left kn be fi c.requires.ready.shares r.below r.filler w true (r.known, h) (c.next_part.new.known, c.next_part.new.home) c.in-Ok-Row.ensures.did c.requires.ready.fit in
+    let s = c.read_row.new.self in
+    let q = c.read_row.ensures in
+    let key = c.in-Ok-Row.key in
+    let v : There = (c.in-Ok-Row.row, c.in-Ok-Row.tomb) in
+    let d : IsPartFrom (kn.knows r.known h) r.spot.place r.to (part.Row key c.in-Ok-Row.row c.in-Ok-Row.tomb) = subst (IsPartFrom (kn.knows r.known h) r.spot.place r.to) c.in-Ok-Row.field-0-is c.in-Ok-Row.ensures.part in
+    let at : s.place ≡ row_pos key = q.place ∙ d.1 in
+    let stands : stand s ≡ behind_row key = λ i. past_row (q.row i) (at i) in
+    let there : kn.knows l k (row_pos key) v = subst (λ x. kn.knows l k x v) d.1 ((c.next_part.ensures.knows r.spot.place v).0 d.2) in
+    filled-known kn be fi r.below r.filler w r.known l h k (IsKnownOver (kn.knows l k) (stand r.spot) (stand s)) left c.next_part.ensures.knows
+    (over-ends (kn.knows l k) (row_pos key) (stand r.spot) (behind_row key) (stand s) (idle-stand r.spot c.requires.idle ∙ d.1) stands (over-row (kn.knows l k) (row_pos key) key c.in-Ok-Row.row c.in-Ok-Row.tomb (reach-itself (row_pos key)) (over-nothing (kn.knows l k) (row_pos key) (row_pos key) refl) there d.3))
+
+pub returns-in-Ok-Gap-clause-filled : goal.returns-in-Ok-Gap-clause-filled
+returns-in-Ok-Gap-clause-filled g c =
+    let kn = (of_known g.K.Known.ready g.K.Known.place g.K.Known.knows g.K.Known.heads g.K.Known.did) in
+    let be = (of_below g.F.Frags.ready g.F.Frags.seen g.F.Frags.ahead g.F.Frags.moves g.F.Frags.did) in
+    let fi = (of_filler g.P.Filler.ready g.P.Filler.fits g.P.Filler.may g.P.Filler.lost g.P.Filler.source g.P.Filler.knows g.P.Filler.statics_are g.P.Filler.knows_statics g.P.Filler.fills) in
+    let r = c.args.reader.now in
+    let h = c.args.home.now in
+    let w = c.args.store.now in
+    let l = c.next_part.new.known in
+    let k = c.next_part.new.home in
+    let left = known-left kn be fi c.requires.ready.shares r.below r.filler w true (r.known, h) (c.next_part.new.known, c.next_part.new.home) c.in-Ok-Gap.ensures.did c.requires.ready.fit in
+    let s = c.go_over.new.self in
+    let q = c.go_over.ensures in
+    let d : IsPartFrom (kn.knows r.known h) r.spot.place r.to (part.Gap c.in-Ok-Gap.to c.in-Ok-Gap.tomb) = subst (IsPartFrom (kn.knows r.known h) r.spot.place r.to) c.in-Ok-Gap.field-0-is c.in-Ok-Gap.ensures.part in
+    let stands : stand s ≡ c.in-Ok-Gap.to = ap (λ z. past_row z s.place) (q.row ∙ c.requires.idle.row) ∙ q.place in
+    filled-known kn be fi r.below r.filler w r.known l h k (IsKnownOver (kn.knows l k) (stand r.spot) (stand s)) left c.next_part.ensures.knows
+    (over-ends (kn.knows l k) r.spot.place (stand r.spot) c.in-Ok-Gap.to (stand s) (idle-stand r.spot c.requires.idle) stands (over-gap (kn.knows l k) r.spot.place c.in-Ok-Gap.to c.in-Ok-Gap.tomb (λ z m b. (c.next_part.ensures.knows z (_, c.in-Ok-Gap.tomb)).0 (d.1 z m b))))
+
+pub returns-in-Ok-Missing-clause-filled : goal.returns-in-Ok-Missing-clause-filled
+returns-in-Ok-Missing-clause-filled g c =
+    let kn = (of_known g.K.Known.ready g.K.Known.place g.K.Known.knows g.K.Known.heads g.K.Known.did) in
+    let be = (of_below g.F.Frags.ready g.F.Frags.seen g.F.Frags.ahead g.F.Frags.moves g.F.Frags.did) in
+    let fi = (of_filler g.P.Filler.ready g.P.Filler.fits g.P.Filler.may g.P.Filler.lost g.P.Filler.source g.P.Filler.knows g.P.Filler.statics_are g.P.Filler.knows_statics g.P.Filler.fills) in
+    let r = c.args.reader.now in
+    let h = c.args.home.now in
+    let w = c.args.store.now in
+    let l = c.next_part.new.known in
+    let k = c.next_part.new.home in
+    let left = known-left kn be fi c.requires.ready.shares r.below r.filler w true (r.known, h) (c.next_part.new.known, c.next_part.new.home) c.in-Ok-Missing.ensures.did c.requires.ready.fit in
+    let n = c.read_below.new.reader in
+    filled-then kn fi r.known l n.known r.filler r.filler n.filler h k c.read_below.new.home ⊤ (IsKnownOver (kn.knows n.known c.read_below.new.home) (stand r.spot) (stand n.spot)) (filled-known kn be fi r.below r.filler w r.known l h k (⊤) left c.next_part.ensures.knows tt) c.read_below.ensures.filled
+
+pub returns-in-Ok-End-clause-filled : goal.returns-in-Ok-End-clause-filled
+returns-in-Ok-End-clause-filled g c =
+    absurd (never c.requires.within (subst (IsPartFrom (g.K.Known.knows c.args.reader.now.known c.args.home.now) c.args.reader.now.spot.place c.args.reader.now.to) c.in-Ok-End.field-0-is c.in-Ok-End.ensures.part))
+
+pub returns-in-Err-clause-filled : goal.returns-in-Err-clause-filled
+returns-in-Err-clause-filled g c =
+    let kn = (of_known g.K.Known.ready g.K.Known.place g.K.Known.knows g.K.Known.heads g.K.Known.did) in
+    let be = (of_below g.F.Frags.ready g.F.Frags.seen g.F.Frags.ahead g.F.Frags.moves g.F.Frags.did) in
+    let fi = (of_filler g.P.Filler.ready g.P.Filler.fits g.P.Filler.may g.P.Filler.lost g.P.Filler.source g.P.Filler.knows g.P.Filler.statics_are g.P.Filler.knows_statics g.P.Filler.fills) in
+    let r = c.args.reader.now in
+    let h = c.args.home.now in
+    let w = c.args.store.now in
+    let l = c.next_part.new.known in
+    let k = c.next_part.new.home in
+    let left = known-left kn be fi c.requires.ready.shares r.below r.filler w false (r.known, h) (c.next_part.new.known, c.next_part.new.home) c.in-Err.ensures.did c.requires.ready.fit in
+    filled-known kn be fi r.below r.filler w r.known l h k (IsKnownOver (kn.knows l k) (stand r.spot) (stand r.spot)) left c.next_part.ensures.knows (over-nothing (kn.knows l k) (stand r.spot) (stand r.spot) refl)
+
+pub returns-in-Ok-Row-clause-whole : goal.returns-in-Ok-Row-clause-whole
+returns-in-Ok-Row-clause-whole g c = λ v k.
+    let knows = g.K.Known.knows c.args.reader.now.known c.args.home.now in
+    let r = c.args.reader.now in
+    let key = c.in-Ok-Row.key in
+    let s = c.read_row.new.self in
+    let d : IsPartFrom knows r.spot.place r.to (part.Row key c.in-Ok-Row.row c.in-Ok-Row.tomb) = subst (IsPartFrom knows r.spot.place r.to) c.in-Ok-Row.field-0-is c.in-Ok-Row.ensures.part in
+    let at : s.place ≡ row_pos key = c.read_row.ensures.place ∙ d.1 in
+    whole-ends knows (row_pos key) (stand r.spot) (behind_row key) (stand s) (idle-stand r.spot c.requires.idle ∙ d.1) (λ i. past_row (c.read_row.ensures.row i) (at i)) (whole-row knows key)
+
+pub returns-in-Ok-Gap-clause-whole : goal.returns-in-Ok-Gap-clause-whole
+returns-in-Ok-Gap-clause-whole g c = λ v k.
+    let knows = g.K.Known.knows c.args.reader.now.known c.args.home.now in
+    let r = c.args.reader.now in
+    let s = c.go_over.new.self in
+    let q = c.go_over.ensures in
+    let d : IsPartFrom knows r.spot.place r.to (part.Gap c.in-Ok-Gap.to c.in-Ok-Gap.tomb) = subst (IsPartFrom knows r.spot.place r.to) c.in-Ok-Gap.field-0-is c.in-Ok-Gap.ensures.part in
+    whole-ends knows r.spot.place (stand r.spot) c.in-Ok-Gap.to (stand s) (idle-stand r.spot c.requires.idle) (ap (λ z. past_row z s.place) (q.row ∙ c.requires.idle.row) ∙ q.place) (whole-gap knows r.spot.place c.in-Ok-Gap.to c.in-Ok-Gap.tomb (c.requires.ready.shares.one_there r.known c.args.home.now) d.1)
+
+pub returns-in-Ok-Missing-clause-whole : goal.returns-in-Ok-Missing-clause-whole
+returns-in-Ok-Missing-clause-whole g c = λ v k. absurd ((subst (IsPartFrom (g.K.Known.knows c.args.reader.now.known c.args.home.now) c.args.reader.now.spot.place c.args.reader.now.to) c.in-Ok-Missing.field-0-is c.in-Ok-Missing.ensures.part).1 v k)
+
+pub returns-in-Ok-End-clause-whole : goal.returns-in-Ok-End-clause-whole
+returns-in-Ok-End-clause-whole g c = λ v k. whole-nothing (g.K.Known.knows c.args.reader.now.known c.args.home.now) (stand c.args.reader.now.spot) (stand c.args.reader.now.spot) refl
+
+pub returns-in-Err-clause-whole : goal.returns-in-Err-clause-whole
+returns-in-Err-clause-whole g c = λ v k. whole-nothing (g.K.Known.knows c.args.reader.now.known c.args.home.now) (stand c.args.reader.now.spot) (stand c.args.reader.now.spot) refl

@@ -1,11 +1,11 @@
 -- The static row that stands below is the source's.
-use Rattle.std.specs.Prelude.{◌≡◌}
-use Rattle.std.proofs.Common.{true, false, refl, sym, ap, ◌∙◌, subst}
+use Rattle.std.specs.Prelude.{⊤}
+use Rattle.std.proofs.Common.{true, false, refl, sym, ap, ◌∙◌}
 use Rattle.rc_mutation.specs.declared.fragments.Head.{Head}
 use Rattle.rc_stream.specs.Did.{OfHead}
 use Rattle.rc_stream.specs.Stream.{Stream}
 use Rattle.rc_cacheread.specs.Did.{ReaderCall}
-use Rattle.rc_cacheread.specs.Sharing.{IsAllKnown, of_below, of_filler, of_known}
+use Rattle.rc_cacheread.specs.Sharing.{IsAllKnown, of_below, of_filler, of_known, IsStaticRowKnown}
 use Rattle.rc_cacheread.specs.Spots.{stand}
 use Rattle.rc_cacheread.proofs.Chains.{chain-one, many-many, one}
 use Rattle.rc_cacheread.proofs.Leaving.{fills-left, kept-kept}
@@ -13,6 +13,7 @@ use Rattle.rc_cacheread.proofs.Lists.{untrue}
 use Rattle.rc_cacheread.proofs.Orders.{reach-itself}
 use Rattle.rc_cacheread.proofs.Outcomes.{carries-same}
 use Rattle.rc_cacheread.proofs.Stepping.{below-call, fill-calls, led, reader_of, ready-on, said, sees-still}
+use Rattle.rc_cacheread.proofs.Filled.{filled-below, filled-in, filled-then}
 use Rattle.rc_cacheread.proofs.readers.head_below.Goals as goal
 
 pub statics-requires-clause-ready : goal.statics-requires-clause-ready
@@ -128,3 +129,30 @@ returns-clause-ready g c =
     let none = (λ (v : IsAllKnown (kn.knows r.known h) (kn.heads r.known h) (stand r.spot) r.to). untrue (sym (v.head c.args.at c.requires.head) ∙ c.requires.unknown)) in
     let after = c.requires.ready.shares.after_below r.known r.below c.head.new.self r.filler h w c.head.new.home c.head.new.store c.requires.ready.fit c.in-Err.ensures.moves c.in-Err.ensures.ready in
     ready-on kn be fi r (reader_of r.known c.head.new.self r.filler r.to r.spot r.stage r.lags) h c.head.new.home w c.head.new.store c.requires.ready.shares after.0 after.1 (led kn be fi r h w c.requires.ready none) (carries-same (be.seen r.below h w) (be.seen c.head.new.self c.head.new.home c.head.new.store) r.stage (stand r.spot) r.spot.tomb c.in-Err.ensures.seen) (reach-itself (stand r.spot)) refl (λ x on. c.in-Err.ensures.ahead x (c.requires.ready.ahead x on)) c.requires.ready.place
+
+pub returns-in-Ok-clause-filled : goal.returns-in-Ok-clause-filled
+returns-in-Ok-clause-filled g c =
+    let kn = (of_known g.K.Known.ready g.K.Known.place g.K.Known.knows g.K.Known.heads g.K.Known.did) in
+    let be = (of_below g.F.Frags.ready g.F.Frags.seen g.F.Frags.ahead g.F.Frags.moves g.F.Frags.did) in
+    let fi = (of_filler g.P.Filler.ready g.P.Filler.fits g.P.Filler.may g.P.Filler.lost g.P.Filler.source g.P.Filler.knows g.P.Filler.statics_are g.P.Filler.knows_statics g.P.Filler.fills) in
+    let r = c.args.reader.now in
+    let h = c.args.home.now in
+    let w = c.args.store.now in
+    let after = c.requires.ready.shares.after_below r.known r.below c.head.new.self r.filler h w c.head.new.home c.head.new.store c.requires.ready.fit c.in-Ok.ensures.moves c.in-Ok.ensures.ready in
+    let filled = fills-left kn be fi c.requires.ready.shares r.known c.head.new.self c.head.new.store (r.filler, c.head.new.home) (c.statics.new.self, c.statics.new.home) (1, ((c.statics.new.self, c.statics.new.home), c.statics.ensures.did, refl)) after.0 in
+    let row = c.in-Ok.head.statics in
+    let known = IsStaticRowKnown (kn.heads r.known c.statics.new.home) in
+    filled-then kn fi r.known r.known r.known r.filler r.filler c.statics.new.self h c.head.new.home c.statics.new.home ⊤ known
+    (filled-below kn be fi r.known r.filler h c.head.new.home ⊤ after.1 after.2 tt)
+    (filled-in kn be fi c.head.new.self c.head.new.store r.known r.filler c.statics.new.self c.head.new.home c.statics.new.home (fi.knows_statics c.statics.new.self c.statics.new.home row) known after.0 filled (λ k. filled.fit.same_statics row k) (record { still = c.statics.ensures.may; each = c.statics.ensures.keeps; now = c.statics.ensures.known }))
+
+pub returns-clause-filled : goal.returns-clause-filled
+returns-clause-filled g c =
+    let kn = (of_known g.K.Known.ready g.K.Known.place g.K.Known.knows g.K.Known.heads g.K.Known.did) in
+    let be = (of_below g.F.Frags.ready g.F.Frags.seen g.F.Frags.ahead g.F.Frags.moves g.F.Frags.did) in
+    let fi = (of_filler g.P.Filler.ready g.P.Filler.fits g.P.Filler.may g.P.Filler.lost g.P.Filler.source g.P.Filler.knows g.P.Filler.statics_are g.P.Filler.knows_statics g.P.Filler.fills) in
+    let r = c.args.reader.now in
+    let h = c.args.home.now in
+    let w = c.args.store.now in
+    let after = c.requires.ready.shares.after_below r.known r.below c.head.new.self r.filler h w c.head.new.home c.head.new.store c.requires.ready.fit c.in-Err.ensures.moves c.in-Err.ensures.ready in
+    filled-below kn be fi r.known r.filler h c.head.new.home ⊤ after.1 after.2 tt

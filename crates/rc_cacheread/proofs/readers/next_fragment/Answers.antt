@@ -1,8 +1,6 @@
 -- A round goes on from where the rounds before it came to.
-use Rattle.std.specs.Prelude.{◌≡◌}
 use Rattle.std.proofs.Common.{Ok, true, false, refl, sym, ap, ◌∙◌, subst, arith}
 use Rattle.rc_stream.specs.Did.{OfNext, answered}
-use Rattle.rc_cacheread.specs.declared.spots.Step.TheVariants as step
 use Rattle.std.specs.Prelude.{IfOk}
 use Rattle.rc_cacheread.specs.Did.{IsReaderStepUpto, ReaderDid, ReaderStepSays}
 use Rattle.rc_cacheread.specs.Sharing.{Sees, of_below, of_filler, of_known}
@@ -21,7 +19,7 @@ loop-rounds-init g c =
     record {
       ready = c.requires.ready;
       says = λ s d. d;
-      did = λ y k. did-nothing kn be fi r h w (OfNext y);
+      did = λ y k. did-nothing kn be fi r h w y;
       to = refl;
       damage = λ file offset d. d;
       faults = omega arith;
@@ -42,7 +40,7 @@ loop-rounds-preserved g c =
     record {
       ready = c.round.ensures.ready;
       says = λ s d. subst (λ x. ReaderStepSays x c.args.upto.now s (Sees kn be fi c.round.new.reader c.round.new.home c.round.new.store)) passed (c.round.ensures.says s (l.invariant.says s d));
-      did = λ y covers. did-after kn be fi r l.reader c.round.new.reader h l.home c.round.new.home w l.store c.round.new.store (OfNext y) true (l.invariant.did y covers)
+      did = λ y covers. did-after kn be fi r l.reader c.round.new.reader h l.home c.round.new.home w l.store c.round.new.store y true (l.invariant.did y covers)
           (subst (λ x. ReaderDid kn be fi l.reader l.home l.store (OfNext y) (answered x) c.round.new.reader c.round.new.home c.round.new.store) passed (c.round.ensures.did y (ends-on kn be fi r l.reader h l.home w l.store c.args.upto.now y l.invariant.says covers)));
       to = c.round.ensures.to ∙ l.invariant.to;
       damage = λ file offset d. l.invariant.damage file offset (c.round.ensures.damage.less file offset d);
@@ -104,7 +102,7 @@ returns-in-Ok-Given-clause-did g c = λ y covers.
     let h = c.args.home.now in
     let w = c.args.store.now in
     let l = c.loop-rounds in
-    did-after kn be fi r l.reader c.round.new.reader h l.home c.round.new.home w l.store c.round.new.store (OfNext y) true (l.invariant.did y covers) (c.in-Ok-Given.ensures.did y (ends-on kn be fi r l.reader h l.home w l.store c.args.upto.now y l.invariant.says covers))
+    did-after kn be fi r l.reader c.round.new.reader h l.home c.round.new.home w l.store c.round.new.store y true (l.invariant.did y covers) (c.in-Ok-Given.ensures.did y (ends-on kn be fi r l.reader h l.home w l.store c.args.upto.now y l.invariant.says covers))
 
 pub returns-in-Ok-Nothing-clause-did : goal.returns-in-Ok-Nothing-clause-did
 returns-in-Ok-Nothing-clause-did g c = λ y covers.
@@ -115,7 +113,7 @@ returns-in-Ok-Nothing-clause-did g c = λ y covers.
     let h = c.args.home.now in
     let w = c.args.store.now in
     let l = c.loop-rounds in
-    did-after kn be fi r l.reader c.round.new.reader h l.home c.round.new.home w l.store c.round.new.store (OfNext y) true (l.invariant.did y covers) (c.in-Ok-Nothing.ensures.did y (ends-on kn be fi r l.reader h l.home w l.store c.args.upto.now y l.invariant.says covers))
+    did-after kn be fi r l.reader c.round.new.reader h l.home c.round.new.home w l.store c.round.new.store y true (l.invariant.did y covers) (c.in-Ok-Nothing.ensures.did y (ends-on kn be fi r l.reader h l.home w l.store c.args.upto.now y l.invariant.says covers))
 
 pub returns-in-Err-clause-did : goal.returns-in-Err-clause-did
 returns-in-Err-clause-did g c = λ y covers.
@@ -126,7 +124,7 @@ returns-in-Err-clause-did g c = λ y covers.
     let h = c.args.home.now in
     let w = c.args.store.now in
     let l = c.loop-rounds in
-    did-after kn be fi r l.reader c.round.new.reader h l.home c.round.new.home w l.store c.round.new.store (OfNext y) false (l.invariant.did y covers) (c.in-Err.ensures.did y (ends-on kn be fi r l.reader h l.home w l.store c.args.upto.now y l.invariant.says covers))
+    did-after kn be fi r l.reader c.round.new.reader h l.home c.round.new.home w l.store c.round.new.store y false (l.invariant.did y covers) (c.in-Err.ensures.did y (ends-on kn be fi r l.reader h l.home w l.store c.args.upto.now y l.invariant.says covers))
 
 pub returns-clause-did : goal.returns-clause-did
 returns-clause-did g c = λ y covers.
@@ -136,7 +134,7 @@ returns-clause-did g c = λ y covers.
     let r = c.args.reader.now in
     let h = c.args.home.now in
     let w = c.args.store.now in
-    did-stopped kn be fi r c.loop-rounds.reader h c.loop-rounds.home w c.loop-rounds.store (OfNext y) (c.loop-rounds.invariant.did y covers)
+    did-stopped kn be fi r c.loop-rounds.reader h c.loop-rounds.home w c.loop-rounds.store y (c.loop-rounds.invariant.did y covers)
 
 pub returns-in-Ok-Given-clause-damage : goal.returns-in-Ok-Given-clause-damage
 returns-in-Ok-Given-clause-damage g c = record { named = tt; less = λ file offset d. c.loop-rounds.invariant.damage file offset (c.round.ensures.damage.less file offset d) }

@@ -6,8 +6,6 @@ use Rattle.rc_stream.specs.Did.{OfNext, ReachesEnd}
 use Rattle.rc_stream.specs.Stream.{Stream}
 use Rattle.rc_cacheread.specs.Did.{ReaderDid}
 use Rattle.rc_cacheread.specs.Sharing.{IsReady, Sees, of_below, of_filler, of_known}
-use Rattle.rc_cacheread.specs.Spots.{stand}
-use Rattle.rc_stream.specs.Places.{Reaches}
 use Rattle.rc_cacheread.proofs.readers.next_fragment.Given as goal
 
 abbrev pub invariant-loop-rounds : goal.invariant-loop-rounds

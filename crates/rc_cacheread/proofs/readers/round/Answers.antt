@@ -1,19 +1,22 @@
 -- What was due was given, or more was read.
 use Rattle.std.specs.Prelude.{◌≡◌}
 use Rattle.std.proofs.Common.{Some, true, false, refl, sym, ap, ◌∙◌, subst}
-use Rattle.rc_stream.specs.Did.{OfNext, answered}
+use Rattle.rc_stream.specs.Did.{OfNext}
 use Rattle.rc_stream.specs.Places.{Reaches}
 use Rattle.rc_stream.specs.Stream.{took}
 use Rattle.rc_mutation.specs.Fragments.{tomb_after}
 use Rattle.rc_cacheread.specs.declared.spots.Turn.TheVariants as turn
-use Rattle.rc_cacheread.specs.Did.{IsKnownFor, KnownStep, ReaderCall}
+use Rattle.rc_cacheread.specs.Did.{IsKnownFor, KnownStep, ReaderCall, ReaderFilled}
 use Rattle.rc_cacheread.specs.Sharing.{of_below, of_filler, of_known}
-use Rattle.rc_cacheread.specs.Spots.{GivesDue, stand, tomb_told}
+use Rattle.rc_cacheread.specs.Spots.{GivesDue, stand}
 use Rattle.rc_cacheread.proofs.Chains.{chain-none}
 use Rattle.rc_cacheread.proofs.Idle.{idle-stand}
 use Rattle.rc_cacheread.proofs.Orders.{reach-itself}
 use Rattle.rc_cacheread.proofs.Stepping.{end-reaches, ends-on, reader_of}
 use Rattle.rc_cacheread.proofs.Turning.{first-left, nothing-left, ready-alike, ready-closed, sees-alike, sees-at, sees-closed, still-known}
+use Rattle.rc_cacheread.specs.Passing.{IsKnownOver}
+use Rattle.rc_cacheread.proofs.Filled.{filled-still}
+use Rattle.rc_cacheread.proofs.Passed.{known-here, over-nothing, whole-ends}
 use Rattle.rc_cacheread.proofs.readers.round.Goals as goal
 
 pub returns-in-Ok-Given-clause-says : goal.returns-in-Ok-Given-clause-says
@@ -108,6 +111,7 @@ returns-in-Ok-Given-clause-did g c = λ y covers.
       calls = chain-none (ReaderCall kn be fi (OfNext y)) true (r.known, r.below, r.filler, h, w);
       on = subst (Reaches (stand r.spot)) (sym e.3) (reach-itself (stand r.spot));
       quiet = λ q. ((chain-none (KnownStep kn.did) true (r.known, h), refl, refl, refl), subst (λ x. IsKnownFor (OfNext y) (kn.knows r.known h) (kn.heads r.known h) x r.to) (sym e.3) q);
+      filled = filled-still kn fi r.known r.filler h (IsKnownOver (kn.knows r.known h) (stand r.spot) (stand c.give.new.self)) (over-nothing (kn.knows r.known h) (stand r.spot) (stand c.give.new.self) e.3);
     }
 
 pub returns-in-Ok-Nothing-clause-did : goal.returns-in-Ok-Nothing-clause-did
@@ -123,6 +127,7 @@ returns-in-Ok-Nothing-clause-did g c = λ y covers.
       calls = chain-none (ReaderCall kn be fi (OfNext y)) true (r.known, r.below, r.filler, h, w);
       on = subst (Reaches (stand r.spot)) (sym e.0.from) (reach-itself (stand r.spot));
       quiet = λ q. ((chain-none (KnownStep kn.did) true (r.known, h), refl, refl, refl), subst (λ x. IsKnownFor (OfNext y) (kn.knows r.known h) (kn.heads r.known h) x r.to) (sym e.0.from) q);
+      filled = filled-still kn fi r.known r.filler h (IsKnownOver (kn.knows r.known h) (stand r.spot) (stand c.give.new.self)) (over-nothing (kn.knows r.known h) (stand r.spot) (stand c.give.new.self) e.0.from);
     }
 
 pub returns-in-Ok-Closed-clause-did : goal.returns-in-Ok-Closed-clause-did
@@ -138,6 +143,7 @@ returns-in-Ok-Closed-clause-did g c = λ y covers.
       calls = chain-none (ReaderCall kn be fi (OfNext y)) true (r.known, r.below, r.filler, h, w);
       on = subst (Reaches (stand r.spot)) (sym e.2) (reach-itself (stand r.spot));
       quiet = λ q. ((chain-none (KnownStep kn.did) true (r.known, h), refl, refl, refl), subst (λ x. IsKnownFor (OfNext y) (kn.knows r.known h) (kn.heads r.known h) x r.to) (sym e.2) q);
+      filled = filled-still kn fi r.known r.filler h (IsKnownOver (kn.knows r.known h) (stand r.spot) (stand c.give.new.self)) (over-nothing (kn.knows r.known h) (stand r.spot) (stand c.give.new.self) e.2);
     }
 
 pub returns-in-Ok-Unread-clause-did : goal.returns-in-Ok-Unread-clause-did
@@ -158,8 +164,9 @@ returns-in-Ok-Unread-clause-did g c = λ y covers.
       calls = c.read_part.ensures.did y now;
       on = on;
       quiet = λ q.
-          let v = q place (subst (λ z. Reaches (stand r.spot) z) (sym k) (reach-itself (stand r.spot))) (end-reaches kn be fi n h w c.args.upto.now y e.1 e.2 now) e.3 in
-          (c.read_part.ensures.quiet v.0 v.1, still-known y (kn.knows r.known h) (kn.knows c.read_part.new.reader.known c.read_part.new.home) (kn.heads r.known h) (kn.heads c.read_part.new.reader.known c.read_part.new.home) (stand r.spot) (stand c.read_part.new.reader.spot) r.to c.read_part.new.reader.to on (sym c.read_part.ensures.to) (c.read_part.ensures.keeps v.0 v.1) q);
+          let v = known-here (kn.knows r.known h) (stand r.spot) place k (q place (subst (λ z. Reaches (stand r.spot) z) (sym k) (reach-itself (stand r.spot))) (end-reaches kn be fi n h w c.args.upto.now y e.1 e.2 now) e.3) in
+          (c.read_part.ensures.quiet v.0 v.1, still-known (kn.knows r.known h) (kn.knows c.read_part.new.reader.known c.read_part.new.home) (c.read_part.ensures.keeps v.0 v.1) (stand r.spot) (stand c.read_part.new.reader.spot) (whole-ends (kn.knows r.known h) (stand n.spot) (stand r.spot) (stand c.read_part.new.reader.spot) (stand c.read_part.new.reader.spot) (sym e.0.from) refl (c.read_part.ensures.whole v.0 v.1)) y (kn.heads r.known h) (kn.heads c.read_part.new.reader.known c.read_part.new.home) r.to c.read_part.new.reader.to on (sym c.read_part.ensures.to) q);
+      filled = subst (λ x. ReaderFilled kn fi r.known r.filler h c.read_part.new.reader.known c.read_part.new.reader.filler c.read_part.new.home (IsKnownOver (kn.knows c.read_part.new.reader.known c.read_part.new.home) x (stand c.read_part.new.reader.spot))) e.0.from c.read_part.ensures.filled;
     }
 
 pub returns-in-Err-clause-did : goal.returns-in-Err-clause-did
@@ -175,4 +182,5 @@ returns-in-Err-clause-did g c = λ y covers.
       calls = chain-none (ReaderCall kn be fi (OfNext y)) false (r.known, r.below, r.filler, h, w);
       on = subst (λ s. Reaches (stand r.spot) (stand s)) (sym same) (reach-itself (stand r.spot));
       quiet = λ q. ((chain-none (KnownStep kn.did) false (r.known, h), refl, refl, refl), subst (λ s. IsKnownFor (OfNext y) (kn.knows r.known h) (kn.heads r.known h) (stand s) r.to) (sym same) q);
+      filled = filled-still kn fi r.known r.filler h (IsKnownOver (kn.knows r.known h) (stand r.spot) (stand c.give.new.self)) (over-nothing (kn.knows r.known h) (stand r.spot) (stand c.give.new.self) (ap stand same));
     }

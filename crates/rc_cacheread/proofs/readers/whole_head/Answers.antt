@@ -1,10 +1,10 @@
 -- The head of the snapshot, or that with the static row below.
-use Rattle.std.specs.Prelude.{◌≡◌}
-use Rattle.std.proofs.Common.{true, false, refl, sym, ap, ◌∙◌, subst}
+use Rattle.std.specs.Prelude.{⊤, IsTrue}
+use Rattle.std.proofs.Common.{true, false, refl, sym, ◌∙◌, subst}
 use Rattle.rc_stream.specs.Did.{OfHead, answered}
 use Rattle.rc_stream.specs.Places.{Reaches}
-use Rattle.rc_cacheread.specs.Did.{KnownStep, ReaderCall, reader_state}
-use Rattle.rc_cacheread.specs.Sharing.{IsPlaceAt, of_below, of_filler, of_known}
+use Rattle.rc_cacheread.specs.Did.{KnownStep, ReaderCall, reader_state, IsFilledFor}
+use Rattle.rc_cacheread.specs.Sharing.{IsPlaceAt, of_below, of_filler, of_known, IsStaticRowKnown}
 use Rattle.rc_cacheread.specs.Spots.{stand}
 use Rattle.rc_cacheread.proofs.Chains.{chain-after, chain-one}
 use Rattle.rc_cacheread.proofs.Leaving.{known-left}
@@ -12,7 +12,9 @@ use Rattle.rc_cacheread.proofs.Lists.{untrue}
 use Rattle.rc_cacheread.proofs.Orders.{reach-itself}
 use Rattle.rc_cacheread.proofs.Outcomes.{carries-same}
 use Rattle.rc_cacheread.proofs.Parting.{ready-known, sees-known-still}
-use Rattle.rc_cacheread.proofs.Stepping.{known-calls, reader_of}
+use Rattle.rc_cacheread.proofs.Stepping.{known-calls}
+use Rattle.rc_mutation.specs.declared.fragments.HeadAt.{HeadAt}
+use Rattle.rc_cacheread.proofs.Filled.{filled-known, filled-then}
 use Rattle.rc_cacheread.proofs.readers.whole_head.Goals as goal
 
 pub returns-then-at-clause-head : goal.returns-then-at-clause-head
@@ -48,6 +50,7 @@ returns-then-at-clause-did g c =
       calls = known-calls kn be fi OfHead r.below r.filler w true r.known c.head_known.new.self h c.head_known.new.home one;
       on = reach-itself (stand r.spot);
       quiet = λ q. ((one, refl, refl, refl), λ a k. q a (left.heads a k));
+      filled = filled-known kn be fi r.below r.filler w r.known c.head_known.new.self h c.head_known.new.home (IsStaticRowKnown (kn.heads c.head_known.new.self c.head_known.new.home)) left c.head_known.ensures.knows (λ a k. subst (λ (z : HeadAt). IsTrue z.known) (c.requires.ready.shares.one_head r.known h c.in-Ok.at a c.in-Ok.ensures.head (left.heads a k)) c.if-at.true);
     }
 
 pub returns-then-at-clause-ready : goal.returns-then-at-clause-ready
@@ -121,6 +124,7 @@ returns-clause-did g c =
       calls = chain-after (ReaderCall kn be fi OfHead) (answered c.head_below.result) (reader_state r h w) (c.head_known.new.self, r.below, r.filler, c.head_known.new.home, w) (reader_state c.head_below.new.reader c.head_below.new.home c.head_below.new.store) (known-calls kn be fi OfHead r.below r.filler w true r.known c.head_known.new.self h c.head_known.new.home one) c.head_below.ensures.calls;
       on = subst (λ s. Reaches (stand r.spot) (stand s)) (sym c.head_below.ensures.spot) (reach-itself (stand r.spot));
       quiet = λ q. untrue (sym (q c.in-Ok.at c.in-Ok.ensures.head) ∙ c.if-at.false);
+      filled = filled-then kn fi r.known c.head_known.new.self c.head_below.new.reader.known r.filler r.filler c.head_below.new.reader.filler h c.head_known.new.home c.head_below.new.home ⊤ (IsFilledFor OfHead (answered c.head_below.result) (kn.knows c.head_below.new.reader.known c.head_below.new.home) (kn.heads c.head_below.new.reader.known c.head_below.new.home) (stand r.spot) (stand c.head_below.new.reader.spot)) (filled-known kn be fi r.below r.filler w r.known c.head_known.new.self h c.head_known.new.home ⊤ left c.head_known.ensures.knows tt) c.head_below.ensures.filled;
     }
 
 pub returns-clause-damage : goal.returns-clause-damage
@@ -152,6 +156,7 @@ returns-in-Err-clause-did g c =
       calls = known-calls kn be fi OfHead r.below r.filler w false r.known c.head_known.new.self h c.head_known.new.home one;
       on = reach-itself (stand r.spot);
       quiet = λ q. ((one, refl, refl, refl), λ a k. q a (left.heads a k));
+      filled = filled-known kn be fi r.below r.filler w r.known c.head_known.new.self h c.head_known.new.home ⊤ left c.head_known.ensures.knows tt;
     }
 
 pub returns-in-Err-clause-ready : goal.returns-in-Err-clause-ready

@@ -9,6 +9,8 @@ use Rattle.rc_cacheread.proofs.Chains.{chain-none}
 use Rattle.rc_cacheread.proofs.Orders.{reach-itself}
 use Rattle.rc_cacheread.proofs.Sought.{on-begun, ready-begun, sees-begun, sees-sought}
 use Rattle.rc_cacheread.proofs.Turning.{ready-alike, sees-alike}
+use Rattle.std.specs.Prelude.{⊤}
+use Rattle.rc_cacheread.proofs.Filled.{filled-still}
 use Rattle.rc_cacheread.proofs.readers.CacheReaderFrags.seek.Goals as goal
 
 pub returns-in-Ok-false-clause-seen : goal.returns-in-Ok-false-clause-seen
@@ -43,6 +45,7 @@ returns-in-Ok-false-clause-did g c =
       calls = chain-none (ReaderCall kn be fi (OfSeek c.args.to.now)) true (r.known, r.below, r.filler, h, w);
       on = subst (Reaches (stand r.spot)) (sym (subst (GoesOn c.args.to.now c.args.self.now.spot c.seek.new.self) c.in-Ok-false.field-0-test c.in-Ok-false.ensures.ok).from) (reach-itself (stand r.spot));
       quiet = λ q. ((chain-none (KnownStep kn.did) true (r.known, h), refl, refl, refl), tt);
+      filled = filled-still kn fi r.known r.filler h ⊤ tt;
     }
 
 pub returns-in-Ok-false-clause-moves : goal.returns-in-Ok-false-clause-moves
@@ -90,6 +93,7 @@ returns-in-Ok-true-clause-did g c =
       calls = chain-none (ReaderCall kn be fi (OfSeek c.args.to.now)) true (r.known, r.below, r.filler, h, w);
       on = on-begun kn be fi r c.seek.new.self c.args.to.now h w (subst (GoesOn c.args.to.now c.args.self.now.spot c.seek.new.self) c.in-Ok-true.field-0-test c.in-Ok-true.ensures.ok);
       quiet = λ q. ((chain-none (KnownStep kn.did) true (r.known, h), refl, refl, refl), tt);
+      filled = filled-still kn fi r.known r.filler h ⊤ tt;
     }
 
 pub returns-in-Ok-true-clause-moves : goal.returns-in-Ok-true-clause-moves
@@ -137,6 +141,7 @@ returns-in-Err-clause-did g c =
       calls = chain-none (ReaderCall kn be fi (OfSeek c.args.to.now)) false (r.known, r.below, r.filler, h, w);
       on = subst (Reaches (stand r.spot)) (sym c.in-Err.ensures.err.from) (reach-itself (stand r.spot));
       quiet = λ q. ((chain-none (KnownStep kn.did) false (r.known, h), refl, refl, refl), tt);
+      filled = filled-still kn fi r.known r.filler h ⊤ tt;
     }
 
 pub returns-in-Err-clause-moves : goal.returns-in-Err-clause-moves

@@ -1,5 +1,4 @@
 -- How far a seek goes within what is due.
-use Rattle.std.specs.Prelude.{◌≡◌}
 use Rattle.std.proofs.Common.{None, sym, ap, ◌∙◌, subst}
 use Rattle.rc_cacheread.specs.Spots.{WentTo, told_at}
 use Rattle.rc_cacheread.proofs.Idle.{sought-change, sought-row, spot, went-on}

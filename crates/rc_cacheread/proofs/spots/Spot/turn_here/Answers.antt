@@ -4,7 +4,7 @@ use Rattle.std.specs.Ordering.{is_gt, is_lt}
 use Rattle.rc_position.specs.Position.{IsBefore}
 use Rattle.rc_stream.specs.Places.{Reaches}
 use Rattle.rc_stream.specs.Stream.{first_upto}
-use Rattle.rc_cacheread.proofs.Orders.{is-gt, is-lt, not-gt, not-lt}
+use Rattle.rc_cacheread.proofs.Orders.{is-gt, not-lt}
 use Rattle.rc_cacheread.proofs.Idle.{closed-front, idle-front, idle-stand, not-none, none-of, unsame}
 use Rattle.rc_cacheread.proofs.spots.Spot.turn_here.Goals as goal
 
