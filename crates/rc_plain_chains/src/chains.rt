@@ -1,6 +1,6 @@
 //! A plain chain: what each call does to it, by the plain functions of the core.
 
-ghost use Rattle.std.specs.Prelude.{◌≡◌, ◌↔◌, IsTrue};
+ghost use Rattle.std.specs.Prelude.{◌≡◌, ◌↔◌, Some, Contains, IfSome, IsTrue};
 ghost use Rattle.rc_core.specs.declared.entries.ChainKind.{ChainKind as Kind};
 
 use crate::places::{Recency, end_position};
@@ -186,7 +186,7 @@ fn drop_inner(version: &mut PlainVersion, x: &Pos) {
 
 impl PlainChain {
     /// A new chain, of one version of its end dummy alone.
-    pub fn new(
+    pub(crate) fn new(
         alloc: Global,
         id: u64,
         kind: ChainKind,
@@ -212,13 +212,10 @@ impl PlainChain {
     }
 
     /// Whether a snapshot pins a version.
-    pub fn is_pinned(&self, number: usize) -> bool {
-        for pin in &self.pins {
-            if *pin == Some(number) {
-                return true;
-            }
-        }
-        false
+    pub fn is_pinned(&self, number: usize) -> bool
+        ensures { IsTrue result ↔ Contains self.now.pins.items (Some number) }
+    {
+        self.pins.iter().any(|pin| *pin == Some(number))
     }
 
     // Whether no snapshot is there.
@@ -232,14 +229,18 @@ impl PlainChain {
     }
 
     /// `add_version`.
-    pub fn add_version(&mut self, alloc: Global, phase: u64) -> Result<(), AllocError> {
+    pub(crate) fn add_version(&mut self, alloc: Global, phase: u64) -> Result<(), AllocError> {
         push_version(alloc, &mut self.versions, Flag::Inherit, None, phase)?;
         self.updating = is_cache(self.kind);
         Ok(())
     }
 
     /// `end_update`.
-    pub fn end_update(&mut self, alloc: Global, recency: &mut Recency) -> Result<(), AllocError> {
+    pub(crate) fn end_update(
+        &mut self,
+        alloc: Global,
+        recency: &mut Recency,
+    ) -> Result<(), AllocError> {
         if !self.updating {
             return Ok(());
         }
@@ -260,14 +261,18 @@ impl PlainChain {
     }
 
     /// `detach`.
-    pub fn detach(&mut self, alloc: Global, recency: &mut Recency) -> Result<(), AllocError> {
+    pub(crate) fn detach(
+        &mut self,
+        alloc: Global,
+        recency: &mut Recency,
+    ) -> Result<(), AllocError> {
         self.end_update(alloc, recency)?;
         self.attached = false;
         Ok(())
     }
 
     /// `relabel`, of this chain.
-    pub fn relabel(&mut self, to: u64) {
+    pub(crate) fn relabel(&mut self, to: u64) {
         if self.attached
             && let Some(version) = self.versions.last_mut()
         {
@@ -276,7 +281,7 @@ impl PlainChain {
     }
 
     /// `snapshot`: the number of the snapshot.
-    pub fn snapshot(&mut self) -> Result<usize, AllocError> {
+    pub(crate) fn snapshot(&mut self) -> Result<usize, AllocError> {
         let number = if self.updating {
             self.newest().saturating_sub(1)
         } else {
@@ -298,14 +303,16 @@ impl PlainChain {
     }
 
     /// `release`.
-    pub fn release(&mut self, pin: usize) {
+    pub(crate) fn release(&mut self, pin: usize) {
         if pin < self.pins.len() {
             release_pin(&mut self.pins, pin);
         }
     }
 
     /// The number of the version that a snapshot pins.
-    pub fn pinned_at(&self, pin: usize) -> Option<usize> {
+    pub fn pinned_at(&self, pin: usize) -> Option<usize>
+        ensures { IfSome result (λ number. Contains self.now.pins.items (Some number)) }
+    {
         match self.pins.get(pin) {
             Some(Some(number)) => Some(*number),
             _ => None,
@@ -313,7 +320,7 @@ impl PlainChain {
     }
 
     /// The phase of the version that a snapshot pins.
-    pub fn phase_of(&self, pin: usize) -> Option<u64> {
+    pub(crate) fn phase_of(&self, pin: usize) -> Option<u64> {
         let number = self.pinned_at(pin)?;
         match self.versions.get(number) {
             Some(version) => Some(version.phase),
@@ -322,12 +329,17 @@ impl PlainChain {
     }
 
     /// Whether the chain may be swept, where nothing of it is in the list.
-    pub fn is_idle(&self) -> bool {
+    pub(crate) fn is_idle(&self) -> bool {
         is_cache(self.kind) && !self.updating && self.is_free()
     }
 
     /// `touch_key`.
-    pub fn touch_key(&self, recency: &mut Recency, pin: usize, x: &Pos) -> Result<(), AllocError> {
+    pub(crate) fn touch_key(
+        &self,
+        recency: &mut Recency,
+        pin: usize,
+        x: &Pos,
+    ) -> Result<(), AllocError> {
         if let Some(last) = self.pinned_at(pin) {
             for number in 0..self.versions.len() {
                 if number <= last {
@@ -339,7 +351,7 @@ impl PlainChain {
     }
 
     /// `drop_version`.
-    pub fn drop_version(&mut self, alloc: Global, recency: &mut Recency, number: usize) {
+    pub(crate) fn drop_version(&mut self, alloc: Global, recency: &mut Recency, number: usize) {
         recency.take(self.id, number, &end_position(alloc));
         recency.renumber(self.id, number);
         if number < self.versions.len() {
@@ -368,7 +380,7 @@ impl PlainChain {
     }
 
     /// `split`.
-    pub fn split(
+    pub(crate) fn split(
         &mut self,
         alloc: Global,
         recency: &mut Recency,
@@ -388,7 +400,7 @@ impl PlainChain {
     }
 
     /// `join_row`.
-    pub fn join_row(
+    pub(crate) fn join_row(
         &mut self,
         alloc: Global,
         recency: &mut Recency,
@@ -406,7 +418,7 @@ impl PlainChain {
     }
 
     /// `join_range`.
-    pub fn join_range(
+    pub(crate) fn join_range(
         &mut self,
         alloc: Global,
         recency: &mut Recency,
@@ -424,7 +436,7 @@ impl PlainChain {
     }
 
     /// `join_static`; the flag stays where none is given.
-    pub fn join_static(
+    pub(crate) fn join_static(
         &mut self,
         alloc: Global,
         recency: &mut Recency,
@@ -445,35 +457,41 @@ impl PlainChain {
     }
 
     /// `join_pt`.
-    pub fn join_pt(&mut self, number: usize, tomb: Tomb) {
+    pub(crate) fn join_pt(&mut self, number: usize, tomb: Tomb) {
         if let Some(version) = self.versions.get_mut(number) {
             version.pt = greater_tomb(version.pt, Some(tomb));
         }
     }
 
     /// `set_static_flag`.
-    pub fn set_static_flag(&mut self, number: usize, flag: Flag) {
+    pub(crate) fn set_static_flag(&mut self, number: usize, flag: Flag) {
         if let Some(version) = self.versions.get_mut(number) {
             version.static_flag = flag;
         }
     }
 
     /// `set_flags`.
-    pub fn set_flags(&mut self, number: usize, x: &Pos, at: Flag, gap: Flag) {
+    pub(crate) fn set_flags(&mut self, number: usize, x: &Pos, at: Flag, gap: Flag) {
         if let Some(version) = self.versions.get_mut(number) {
             flag_entries(version, x, at, gap);
         }
     }
 
     /// `set_tombs`.
-    pub fn set_tombs(&mut self, number: usize, x: &Pos, at: Option<Tomb>, gap: Option<Tomb>) {
+    pub(crate) fn set_tombs(
+        &mut self,
+        number: usize,
+        x: &Pos,
+        at: Option<Tomb>,
+        gap: Option<Tomb>,
+    ) {
         if let Some(version) = self.versions.get_mut(number) {
             mark_entries(version, x, at, gap);
         }
     }
 
     /// `drop_entry`.
-    pub fn drop_entry(&mut self, recency: &mut Recency, number: usize, x: &Pos) {
+    pub(crate) fn drop_entry(&mut self, recency: &mut Recency, number: usize, x: &Pos) {
         recency.take(self.id, number, x);
         if let Some(version) = self.versions.get_mut(number) {
             drop_inner(version, x);
@@ -481,7 +499,7 @@ impl PlainChain {
     }
 
     /// `drop_static`.
-    pub fn drop_static(&mut self, recency: &mut Recency, number: usize) {
+    pub(crate) fn drop_static(&mut self, recency: &mut Recency, number: usize) {
         recency.take_static(self.id, number);
         if let Some(version) = self.versions.get_mut(number) {
             version.statics = None;
@@ -490,7 +508,11 @@ impl PlainChain {
     }
 
     /// `free_one`; true where the chain goes.
-    pub fn free_one(&mut self, alloc: Global, recency: &mut Recency) -> Result<bool, AllocError> {
+    pub(crate) fn free_one(
+        &mut self,
+        alloc: Global,
+        recency: &mut Recency,
+    ) -> Result<bool, AllocError> {
         match self.oldest_inner(alloc)? {
             Some(x) => Ok(self.free_entry(recency, x)),
             None => Ok(self.free_rest(alloc, recency)),

@@ -1,5 +1,8 @@
 //! All plain chains, with the recency list and what is to be told.
 
+ghost use Rattle.std.specs.Prelude.{◌≡◌, []};
+ghost use Rattle.rc_plain_chains.specs.Plain.{CountsNothing, ListsNothing, TellsNothing};
+
 use crate::chains::{PlainChain, is_cache};
 use crate::places::{Recency, end_position};
 use rc_cell::{Row, Tomb};
@@ -52,17 +55,17 @@ fn row_at<'a>(entries: &'a [Entry], x: &Pos) -> Option<&'a Row> {
 
 impl PlainMemory {
     /// No chain.
-    pub fn new(alloc: Global) -> Self {
+    pub fn new(alloc: Global) -> Self
+        ensures chains { result.chains.items ≡ [] }
+        ensures recency { result.recency.places.items ≡ [] }
+        ensures dropped { result.dropped.items ≡ [] }
+    {
         PlainMemory {
             chains: Vec::new(alloc),
             recency: Recency::new(alloc),
             dropped: Vec::new(alloc),
             counts: (0, 0, 0),
         }
-    }
-
-    fn chain(&mut self, id: u64) -> Option<&mut PlainChain> {
-        with_id(self.chains.as_mut_slice(), id)
     }
 
     /// How many versions a chain has.
@@ -94,7 +97,9 @@ impl PlainMemory {
         kind: ChainKind,
         phase: u64,
         pt: Option<Tomb>,
-    ) -> Result<(), AllocError> {
+    ) -> Result<(), AllocError>
+        ensures { TellsNothing self.old self.new }
+    {
         if is_cache(kind) {
             self.recency.push_end(alloc, id, 0)?;
         }
@@ -104,15 +109,19 @@ impl PlainMemory {
     }
 
     /// `add_version`.
-    pub fn add_version(&mut self, alloc: Global, id: u64, phase: u64) -> Result<(), AllocError> {
-        match self.chain(id) {
+    pub fn add_version(&mut self, alloc: Global, id: u64, phase: u64) -> Result<(), AllocError>
+        ensures { TellsNothing self.old self.new }
+    {
+        match with_id(self.chains.as_mut_slice(), id) {
             Some(chain) => chain.add_version(alloc, phase),
             None => Ok(()),
         }
     }
 
     /// `end_update`.
-    pub fn end_update(&mut self, alloc: Global, id: u64) -> Result<(), AllocError> {
+    pub fn end_update(&mut self, alloc: Global, id: u64) -> Result<(), AllocError>
+        ensures { TellsNothing self.old self.new }
+    {
         match with_id(self.chains.as_mut_slice(), id) {
             Some(chain) => chain.end_update(alloc, &mut self.recency),
             None => Ok(()),
@@ -120,7 +129,9 @@ impl PlainMemory {
     }
 
     /// `detach`.
-    pub fn detach(&mut self, alloc: Global, id: u64) -> Result<(), AllocError> {
+    pub fn detach(&mut self, alloc: Global, id: u64) -> Result<(), AllocError>
+        ensures { TellsNothing self.old self.new }
+    {
         match with_id(self.chains.as_mut_slice(), id) {
             Some(chain) => chain.detach(alloc, &mut self.recency),
             None => Ok(()),
@@ -128,15 +139,20 @@ impl PlainMemory {
     }
 
     /// `relabel`.
-    pub fn relabel(&mut self, to: u64) {
+    pub fn relabel(&mut self, to: u64)
+        ensures told { TellsNothing self.old self.new }
+        ensures listed { ListsNothing self.old self.new }
+    {
         for chain in self.chains.iter_mut() {
             chain.relabel(to);
         }
     }
 
     /// `snapshot`: its number, and the phase of the version that it pins.
-    pub fn snapshot(&mut self, id: u64) -> Result<Option<(u64, u64)>, AllocError> {
-        match self.chain(id) {
+    pub fn snapshot(&mut self, id: u64) -> Result<Option<(u64, u64)>, AllocError>
+        ensures { TellsNothing self.old self.new }
+    {
+        match with_id(self.chains.as_mut_slice(), id) {
             Some(chain) => {
                 let pin = chain.snapshot()?;
                 Ok(chain.phase_of(pin).map(|phase| (pin as u64, phase)))
@@ -146,21 +162,31 @@ impl PlainMemory {
     }
 
     /// `release`.
-    pub fn release(&mut self, id: u64, pin: u64) {
-        if let Some(chain) = self.chain(id) {
+    pub fn release(&mut self, id: u64, pin: u64)
+        ensures told { TellsNothing self.old self.new }
+        ensures listed { ListsNothing self.old self.new }
+    {
+        if let Some(chain) = with_id(self.chains.as_mut_slice(), id) {
             chain.release(pin as usize);
         }
     }
 
     /// `set_passed`.
-    pub fn set_passed(&mut self, id: u64, passed: bool) {
-        if let Some(chain) = self.chain(id) {
+    pub fn set_passed(&mut self, id: u64, passed: bool)
+        ensures told { TellsNothing self.old self.new }
+        ensures listed { ListsNothing self.old self.new }
+    {
+        if let Some(chain) = with_id(self.chains.as_mut_slice(), id) {
             chain.passed = passed;
         }
     }
 
     /// `count`.
-    pub fn count(&mut self, evicted: u64, skipped: u64, shrunk: u64) {
+    pub fn count(&mut self, evicted: u64, skipped: u64, shrunk: u64)
+        ensures chains { self.new.chains ≡ self.old.chains }
+        ensures listed { ListsNothing self.old self.new }
+        ensures told { self.new.dropped ≡ self.old.dropped }
+    {
         let counts = self.counts;
         self.counts = (
             counts.0.saturating_add(evicted),
@@ -170,7 +196,11 @@ impl PlainMemory {
     }
 
     /// `take_dropped`.
-    pub fn take_dropped(&mut self) -> Option<u64> {
+    pub fn take_dropped(&mut self) -> Option<u64>
+        ensures chains { self.new.chains ≡ self.old.chains }
+        ensures listed { ListsNothing self.old self.new }
+        ensures counted { CountsNothing self.old self.new }
+    {
         if self.dropped.is_empty() {
             return None;
         }
@@ -178,7 +208,9 @@ impl PlainMemory {
     }
 
     /// `sweep`.
-    pub fn sweep(&mut self, id: u64) -> Result<(), AllocError> {
+    pub fn sweep(&mut self, id: u64) -> Result<(), AllocError>
+        ensures { CountsNothing self.old self.new }
+    {
         if self.recency.has_any(id) || !self.is_idle(id) {
             return Ok(());
         }
@@ -204,7 +236,9 @@ impl PlainMemory {
     }
 
     /// `free_one`.
-    pub fn free_one(&mut self, alloc: Global, id: u64) -> Result<(), AllocError> {
+    pub fn free_one(&mut self, alloc: Global, id: u64) -> Result<(), AllocError>
+        ensures { CountsNothing self.old self.new }
+    {
         if !self.free_object(alloc, id)? {
             return Ok(());
         }
@@ -220,36 +254,48 @@ impl PlainMemory {
     }
 
     /// `drop_version`.
-    pub fn drop_version(&mut self, alloc: Global, id: u64, number: usize) {
+    pub fn drop_version(&mut self, alloc: Global, id: u64, number: usize)
+        ensures { TellsNothing self.old self.new }
+    {
         if let Some(chain) = with_id(self.chains.as_mut_slice(), id) {
             chain.drop_version(alloc, &mut self.recency, number);
         }
     }
 
     /// `list`, of the end dummy of a version; false where it is in the list.
-    pub fn list_end(&mut self, alloc: Global, id: u64, number: usize) -> Result<bool, AllocError> {
+    pub fn list_end(&mut self, alloc: Global, id: u64, number: usize) -> Result<bool, AllocError>
+        ensures { TellsNothing self.old self.new }
+    {
         let off = !self.recency.has(id, number, &end_position(alloc));
         self.recency.push_end(alloc, id, number)?;
         Ok(off)
     }
 
     /// `unlist`, of the end dummy of a version; false where it is out of the list.
-    pub fn unlist_end(&mut self, alloc: Global, id: u64, number: usize) -> bool {
+    pub fn unlist_end(&mut self, alloc: Global, id: u64, number: usize) -> bool
+        ensures { TellsNothing self.old self.new }
+    {
         self.recency.take(id, number, &end_position(alloc))
     }
 
     /// `unlist`, of the entry of a version; false where it is out of the list.
-    pub fn unlist(&mut self, id: u64, number: usize, x: &Pos) -> bool {
+    pub fn unlist(&mut self, id: u64, number: usize, x: &Pos) -> bool
+        ensures { TellsNothing self.old self.new }
+    {
         self.recency.take(id, number, x)
     }
 
     /// `touch`, of an entry; false where it is out of the list.
-    pub fn touch(&mut self, id: u64, number: usize, x: &Pos) -> Result<bool, AllocError> {
+    pub fn touch(&mut self, id: u64, number: usize, x: &Pos) -> Result<bool, AllocError>
+        ensures { TellsNothing self.old self.new }
+    {
         self.recency.touch(id, number, x)
     }
 
     /// `touch_key`.
-    pub fn touch_key(&mut self, id: u64, pin: u64, x: &Pos) -> Result<(), AllocError> {
+    pub fn touch_key(&mut self, id: u64, pin: u64, x: &Pos) -> Result<(), AllocError>
+        ensures { TellsNothing self.old self.new }
+    {
         match with_id(self.chains.as_mut_slice(), id) {
             Some(chain) => chain.touch_key(&mut self.recency, pin as usize, x),
             None => Ok(()),
@@ -257,16 +303,10 @@ impl PlainMemory {
     }
 
     /// Turns the list until the static row of a version is first: how many turns it took.
-    pub fn turn_to_static(&mut self, id: u64, number: usize) -> Result<u64, AllocError> {
-        let mut turns: u64 = 0;
-        for _ in 0..self.recency.places.len() {
-            if self.recency.is_first(id, number) {
-                return Ok(turns);
-            }
-            self.recency.turn()?;
-            turns = turns.saturating_add(1);
-        }
-        Ok(turns)
+    pub fn turn_to_static(&mut self, id: u64, number: usize) -> Result<u64, AllocError>
+        ensures { TellsNothing self.old self.new }
+    {
+        self.recency.turn_to(id, number)
     }
 
     /// `split`.
@@ -276,7 +316,9 @@ impl PlainMemory {
         id: u64,
         number: usize,
         x: &Pos,
-    ) -> Result<(), AllocError> {
+    ) -> Result<(), AllocError>
+        ensures { TellsNothing self.old self.new }
+    {
         match with_id(self.chains.as_mut_slice(), id) {
             Some(chain) => chain.split(alloc, &mut self.recency, number, x),
             None => Ok(()),
@@ -284,8 +326,11 @@ impl PlainMemory {
     }
 
     /// `set_flags`.
-    pub fn set_flags(&mut self, id: u64, number: usize, x: &Pos, at: Flag, gap: Flag) {
-        if let Some(chain) = self.chain(id) {
+    pub fn set_flags(&mut self, id: u64, number: usize, x: &Pos, at: Flag, gap: Flag)
+        ensures told { TellsNothing self.old self.new }
+        ensures listed { ListsNothing self.old self.new }
+    {
+        if let Some(chain) = with_id(self.chains.as_mut_slice(), id) {
             chain.set_flags(number, x, at, gap);
         }
     }
@@ -298,36 +343,49 @@ impl PlainMemory {
         x: &Pos,
         at: Option<Tomb>,
         gap: Option<Tomb>,
-    ) {
-        if let Some(chain) = self.chain(id) {
+    )
+        ensures told { TellsNothing self.old self.new }
+        ensures listed { ListsNothing self.old self.new }
+    {
+        if let Some(chain) = with_id(self.chains.as_mut_slice(), id) {
             chain.set_tombs(number, x, at, gap);
         }
     }
 
     /// `drop_entry`.
-    pub fn drop_entry(&mut self, id: u64, number: usize, x: &Pos) {
+    pub fn drop_entry(&mut self, id: u64, number: usize, x: &Pos)
+        ensures { TellsNothing self.old self.new }
+    {
         if let Some(chain) = with_id(self.chains.as_mut_slice(), id) {
             chain.drop_entry(&mut self.recency, number, x);
         }
     }
 
     /// `drop_static`.
-    pub fn drop_static(&mut self, id: u64, number: usize) {
+    pub fn drop_static(&mut self, id: u64, number: usize)
+        ensures { TellsNothing self.old self.new }
+    {
         if let Some(chain) = with_id(self.chains.as_mut_slice(), id) {
             chain.drop_static(&mut self.recency, number);
         }
     }
 
     /// `join_pt`.
-    pub fn join_pt(&mut self, id: u64, number: usize, tomb: Tomb) {
-        if let Some(chain) = self.chain(id) {
+    pub fn join_pt(&mut self, id: u64, number: usize, tomb: Tomb)
+        ensures told { TellsNothing self.old self.new }
+        ensures listed { ListsNothing self.old self.new }
+    {
+        if let Some(chain) = with_id(self.chains.as_mut_slice(), id) {
             chain.join_pt(number, tomb);
         }
     }
 
     /// `set_static_flag`.
-    pub fn set_static_flag(&mut self, id: u64, number: usize, flag: Flag) {
-        if let Some(chain) = self.chain(id) {
+    pub fn set_static_flag(&mut self, id: u64, number: usize, flag: Flag)
+        ensures told { TellsNothing self.old self.new }
+        ensures listed { ListsNothing self.old self.new }
+    {
+        if let Some(chain) = with_id(self.chains.as_mut_slice(), id) {
             chain.set_static_flag(number, flag);
         }
     }
@@ -340,7 +398,9 @@ impl PlainMemory {
         number: usize,
         x: &Pos,
         row: &Row,
-    ) -> Result<(), AllocError> {
+    ) -> Result<(), AllocError>
+        ensures { TellsNothing self.old self.new }
+    {
         match with_id(self.chains.as_mut_slice(), id) {
             Some(chain) => chain.join_row(alloc, &mut self.recency, number, x, row),
             None => Ok(()),
@@ -355,7 +415,9 @@ impl PlainMemory {
         number: usize,
         row: &Row,
         flag: Option<Flag>,
-    ) -> Result<(), AllocError> {
+    ) -> Result<(), AllocError>
+        ensures { TellsNothing self.old self.new }
+    {
         match with_id(self.chains.as_mut_slice(), id) {
             Some(chain) => chain.join_static(alloc, &mut self.recency, number, row, flag),
             None => Ok(()),
@@ -371,7 +433,9 @@ impl PlainMemory {
         from: &Pos,
         to: &Pos,
         tomb: Tomb,
-    ) -> Result<(), AllocError> {
+    ) -> Result<(), AllocError>
+        ensures { TellsNothing self.old self.new }
+    {
         match with_id(self.chains.as_mut_slice(), id) {
             Some(chain) => chain.join_range(alloc, &mut self.recency, number, from, to, tomb),
             None => Ok(()),

@@ -1,6 +1,6 @@
 //! The recency list as a plain list of places.
 
-ghost use Rattle.std.specs.Prelude.{◌≡◌, ◌≢◌, true, false};
+ghost use Rattle.std.specs.Prelude.{◌≡◌, ◌≢◌, [], true, false};
 ghost use Rattle.rc_core.specs.Version as versions;
 
 use rc_position::{Key, Pos, Weight};
@@ -67,7 +67,9 @@ pub struct Recency {
 
 impl Recency {
     /// No place.
-    pub fn new(alloc: Global) -> Self {
+    pub(crate) fn new(alloc: Global) -> Self
+        ensures { result.places.items ≡ [] }
+    {
         Recency {
             places: Vec::new(alloc),
         }
@@ -88,7 +90,7 @@ impl Recency {
     }
 
     /// Whether an entry is in the list.
-    pub fn has(&self, chain: u64, version: usize, x: &Pos) -> bool {
+    pub(crate) fn has(&self, chain: u64, version: usize, x: &Pos) -> bool {
         self.index_of(chain, version, x).is_some()
     }
 
@@ -99,7 +101,7 @@ impl Recency {
     }
 
     /// An entry at the back.
-    pub fn push(
+    pub(crate) fn push(
         &mut self,
         alloc: Global,
         chain: u64,
@@ -114,7 +116,7 @@ impl Recency {
     }
 
     /// An end dummy at the back.
-    pub fn push_end(
+    pub(crate) fn push_end(
         &mut self,
         alloc: Global,
         chain: u64,
@@ -144,7 +146,7 @@ impl Recency {
     }
 
     /// Without an entry; false where it is not in the list.
-    pub fn take(&mut self, chain: u64, version: usize, x: &Pos) -> bool {
+    pub(crate) fn take(&mut self, chain: u64, version: usize, x: &Pos) -> bool {
         match self.index_of(chain, version, x) {
             Some(index) => {
                 self.remove(index);
@@ -155,14 +157,14 @@ impl Recency {
     }
 
     /// Without a static row.
-    pub fn take_static(&mut self, chain: u64, version: usize) {
+    pub(crate) fn take_static(&mut self, chain: u64, version: usize) {
         if let Some(index) = self.index_of_static(chain, version) {
             self.remove(index);
         }
     }
 
     /// An entry at the back, in place of where it was in the list.
-    pub fn renew(
+    pub(crate) fn renew(
         &mut self,
         alloc: Global,
         chain: u64,
@@ -174,7 +176,7 @@ impl Recency {
     }
 
     /// A static row at the back, in place of where it was in the list.
-    pub fn renew_static(&mut self, chain: u64, version: usize) -> Result<(), AllocError> {
+    pub(crate) fn renew_static(&mut self, chain: u64, version: usize) -> Result<(), AllocError> {
         self.take_static(chain, version);
         self.push_place(Place {
             chain,
@@ -184,7 +186,12 @@ impl Recency {
     }
 
     /// An entry at the back, where it is in the list; false where it is not.
-    pub fn touch(&mut self, chain: u64, version: usize, x: &Pos) -> Result<bool, AllocError> {
+    pub(crate) fn touch(
+        &mut self,
+        chain: u64,
+        version: usize,
+        x: &Pos,
+    ) -> Result<bool, AllocError> {
         match self.index_of(chain, version, x) {
             Some(index) => {
                 self.renew_at(index)?;
@@ -194,21 +201,29 @@ impl Recency {
         }
     }
 
-    /// Whether a static row is the first one.
-    pub fn is_first(&self, chain: u64, version: usize) -> bool {
+    // Whether a static row is the first one.
+    fn is_first(&self, chain: u64, version: usize) -> bool {
         match self.places.first() {
             Some(first) => first.is_static(chain, version),
             None => false,
         }
     }
 
-    /// The first place goes to the back.
-    pub fn turn(&mut self) -> Result<(), AllocError> {
-        self.renew_at(0)
+    /// The first place goes to the back, until a static row is first: how often.
+    pub(crate) fn turn_to(&mut self, chain: u64, version: usize) -> Result<u64, AllocError> {
+        let mut turns: u64 = 0;
+        for _ in 0..self.places.len() {
+            if self.is_first(chain, version) {
+                return Ok(turns);
+            }
+            self.renew_at(0)?;
+            turns = turns.saturating_add(1);
+        }
+        Ok(turns)
     }
 
     /// Newer versions of a chain have numbers less by one, once the one of a number is gone.
-    pub fn renumber(&mut self, chain: u64, version: usize) {
+    pub(crate) fn renumber(&mut self, chain: u64, version: usize) {
         for place in self.places.iter_mut() {
             if place.chain == chain && place.version > version {
                 place.version -= 1;
@@ -217,7 +232,7 @@ impl Recency {
     }
 
     /// Whether an object of a chain is in the list.
-    pub fn has_any(&self, chain: u64) -> bool {
+    pub(crate) fn has_any(&self, chain: u64) -> bool {
         for place in &self.places {
             if place.chain == chain {
                 return true;
