@@ -6,7 +6,7 @@ ghost use Rattle.rc_plain_chains.specs.Plain.{CountsNothing, ListsNothing, Tells
 use crate::chains::{PlainChain, is_cache};
 use crate::places::{Recency, end_position};
 use rc_cell::{Row, Tomb};
-use rc_core::{ChainKind, Entry, Flag, PlainVersion};
+use rc_core::{ChainKind, Entry, Flag};
 use rc_position::Pos;
 use std::alloc::{AllocError, Global};
 
@@ -33,18 +33,18 @@ fn with_id(chains: &mut [PlainChain], id: u64) -> Option<&mut PlainChain> {
     None
 }
 
-// The versions of the chain of a number; none where it is not there.
-fn versions_of(chains: &[PlainChain], id: u64) -> &[PlainVersion] {
+// The chain of a number.
+fn chain_of(chains: &[PlainChain], id: u64) -> Option<&PlainChain> {
     for chain in chains {
         if chain.id == id {
-            return chain.versions.as_slice();
+            return Some(chain);
         }
     }
-    &[]
+    None
 }
 
 // The row of an entry at a position, where one stands there and has one.
-fn row_at<'a>(entries: &'a [Entry], x: &Pos) -> Option<&'a Row> {
+fn row_of<'a>(entries: &'a [Entry], x: &Pos) -> Option<&'a Row> {
     for entry in entries {
         if *x == entry.position {
             return entry.row.as_ref();
@@ -70,7 +70,10 @@ impl PlainMemory {
 
     /// How many versions a chain has.
     pub fn versions(&self, id: u64) -> usize {
-        versions_of(self.chains.as_slice(), id).len()
+        match chain_of(self.chains.as_slice(), id) {
+            Some(chain) => chain.versions.len(),
+            None => 0,
+        }
     }
 
     /// A chain that is not found by its key, the first one.
@@ -450,8 +453,9 @@ impl PlainMemory {
         number: usize,
         x: &Pos,
     ) -> Result<Option<Row>, AllocError> {
-        if let Some(version) = versions_of(self.chains.as_slice(), id).get(number)
-            && let Some(row) = row_at(version.entries.as_slice(), x)
+        if let Some(chain) = chain_of(self.chains.as_slice(), id)
+            && let Some(version) = chain.versions.get(number)
+            && let Some(row) = row_of(version.entries.as_slice(), x)
         {
             return Ok(Some(row.copy(alloc)?));
         }
