@@ -92,7 +92,7 @@ impl PlainMemory {
             || self.dropped.iter().any(|told| *told == id)
     }
 
-    /// `new_chain`.
+    /// `new_chain`, of this number: a chain of one version of its end dummy alone.
     pub fn new_chain(
         &mut self,
         alloc: Global,
@@ -111,7 +111,7 @@ impl PlainMemory {
         Ok(())
     }
 
-    /// `add_version`.
+    /// `add_version`: a version of its end dummy alone is put over those of a chain.
     pub fn add_version(&mut self, alloc: Global, id: u64, phase: u64) -> Result<(), AllocError>
         ensures { TellsNothing self.old self.new }
     {
@@ -121,7 +121,7 @@ impl PlainMemory {
         }
     }
 
-    /// `end_update`.
+    /// `end_update`: what is out of the recency list goes to its back.
     pub fn end_update(&mut self, alloc: Global, id: u64) -> Result<(), AllocError>
         ensures { TellsNothing self.old self.new }
     {
@@ -131,7 +131,7 @@ impl PlainMemory {
         }
     }
 
-    /// `detach`.
+    /// `detach`: as `end_update`, and the chain is no longer found by its key.
     pub fn detach(&mut self, alloc: Global, id: u64) -> Result<(), AllocError>
         ensures { TellsNothing self.old self.new }
     {
@@ -141,7 +141,7 @@ impl PlainMemory {
         }
     }
 
-    /// `relabel`.
+    /// `relabel`: another phase for the newest version of each chain that is found by its key.
     pub fn relabel(&mut self, to: u64)
         ensures told { TellsNothing self.old self.new }
         ensures listed { ListsNothing self.old self.new }
@@ -164,7 +164,7 @@ impl PlainMemory {
         }
     }
 
-    /// `release`.
+    /// `release`: the number of a snapshot is free.
     pub fn release(&mut self, id: u64, pin: u64)
         ensures told { TellsNothing self.old self.new }
         ensures listed { ListsNothing self.old self.new }
@@ -174,7 +174,7 @@ impl PlainMemory {
         }
     }
 
-    /// `set_passed`.
+    /// `set_passed`: the mark of the cleaner.
     pub fn set_passed(&mut self, id: u64, passed: bool)
         ensures told { TellsNothing self.old self.new }
         ensures listed { ListsNothing self.old self.new }
@@ -184,7 +184,7 @@ impl PlainMemory {
         }
     }
 
-    /// `count`.
+    /// `count`: each count grows, up to 2^64 - 1.
     pub fn count(&mut self, evicted: u64, skipped: u64, shrunk: u64)
         ensures chains { self.new.chains ≡ self.old.chains }
         ensures listed { ListsNothing self.old self.new }
@@ -198,7 +198,7 @@ impl PlainMemory {
         );
     }
 
-    /// `take_dropped`.
+    /// `take_dropped`: the first number that is to be told, which is told.
     pub fn take_dropped(&mut self) -> Option<u64>
         ensures chains { self.new.chains ≡ self.old.chains }
         ensures listed { ListsNothing self.old self.new }
@@ -210,7 +210,7 @@ impl PlainMemory {
         Some(self.dropped.remove(0))
     }
 
-    /// `sweep`.
+    /// `sweep`: a cache chain that nobody pins, in which no update stands, and of which nothing is in the list, goes.
     pub fn sweep(&mut self, id: u64) -> Result<(), AllocError>
         ensures { CountsNothing self.old self.new }
     {
@@ -238,7 +238,7 @@ impl PlainMemory {
         Ok(())
     }
 
-    /// `free_one`.
+    /// `free_one`: an object of a chain goes, and with the last one the chain.
     pub fn free_one(&mut self, alloc: Global, id: u64) -> Result<(), AllocError>
         ensures { CountsNothing self.old self.new }
     {
@@ -256,7 +256,7 @@ impl PlainMemory {
         }
     }
 
-    /// `drop_version`.
+    /// `drop_version`: newer versions have numbers less by one then, also in snapshots and places.
     pub fn drop_version(&mut self, alloc: Global, id: u64, number: usize)
         ensures { TellsNothing self.old self.new }
     {
@@ -295,7 +295,7 @@ impl PlainMemory {
         self.recency.touch(id, number, x)
     }
 
-    /// `touch_key`.
+    /// `touch_key`: the entries at a position, of the versions that a snapshot sees, go to the back of the list, where they are in it.
     pub fn touch_key(&mut self, id: u64, pin: u64, x: &Pos) -> Result<(), AllocError>
         ensures { TellsNothing self.old self.new }
     {
@@ -312,7 +312,7 @@ impl PlainMemory {
         self.recency.turn_to(id, number)
     }
 
-    /// `split`.
+    /// `split`: a dummy at a position, where no entry stands there.
     pub fn split(
         &mut self,
         alloc: Global,
@@ -328,7 +328,7 @@ impl PlainMemory {
         }
     }
 
-    /// `set_flags`.
+    /// `set_flags`, of the entry at a position.
     pub fn set_flags(&mut self, id: u64, number: usize, x: &Pos, at: Flag, gap: Flag)
         ensures told { TellsNothing self.old self.new }
         ensures listed { ListsNothing self.old self.new }
@@ -338,7 +338,7 @@ impl PlainMemory {
         }
     }
 
-    /// `set_tombs`.
+    /// `set_tombs`, of the entry at a position.
     pub fn set_tombs(
         &mut self,
         id: u64,
@@ -355,7 +355,7 @@ impl PlainMemory {
         }
     }
 
-    /// `drop_entry`.
+    /// `drop_entry`, of the entry at a position, where it is not the end dummy.
     pub fn drop_entry(&mut self, id: u64, number: usize, x: &Pos)
         ensures { TellsNothing self.old self.new }
     {
@@ -364,7 +364,7 @@ impl PlainMemory {
         }
     }
 
-    /// `drop_static`.
+    /// `drop_static`: the flag is Unknown then.
     pub fn drop_static(&mut self, id: u64, number: usize)
         ensures { TellsNothing self.old self.new }
     {
@@ -373,7 +373,7 @@ impl PlainMemory {
         }
     }
 
-    /// `join_pt`.
+    /// `join_pt`: the greater partition tombstone stands.
     pub fn join_pt(&mut self, id: u64, number: usize, tomb: Tomb)
         ensures told { TellsNothing self.old self.new }
         ensures listed { ListsNothing self.old self.new }
@@ -383,7 +383,7 @@ impl PlainMemory {
         }
     }
 
-    /// `set_static_flag`.
+    /// `set_static_flag`, also where there is no static row.
     pub fn set_static_flag(&mut self, id: u64, number: usize, flag: Flag)
         ensures told { TellsNothing self.old self.new }
         ensures listed { ListsNothing self.old self.new }
@@ -393,7 +393,7 @@ impl PlainMemory {
         }
     }
 
-    /// `join_row`.
+    /// `join_row`, at a position: an entry is made where there is none.
     pub fn join_row(
         &mut self,
         alloc: Global,
@@ -427,7 +427,7 @@ impl PlainMemory {
         }
     }
 
-    /// `join_range`.
+    /// `join_range`: both ends are split, and what is between them raised.
     pub fn join_range(
         &mut self,
         alloc: Global,
