@@ -228,7 +228,9 @@ impl PlainMemory {
     }
 
     // A chain goes, and is to be told.
-    fn close(&mut self, id: u64) -> Result<(), AllocError> {
+    fn close(&mut self, id: u64) -> Result<(), AllocError>
+        ensures { CountsNothing self.old self.new }
+    {
         if let Some(index) = self.chains.iter().position(|chain| chain.id == id)
             && index < self.chains.len()
         {
@@ -249,7 +251,9 @@ impl PlainMemory {
     }
 
     // An object of a chain goes; true where the chain goes with it.
-    fn free_object(&mut self, alloc: Global, id: u64) -> Result<bool, AllocError> {
+    fn free_object(&mut self, alloc: Global, id: u64) -> Result<bool, AllocError>
+        ensures { CountsNothing self.old self.new }
+    {
         match with_id(self.chains.as_mut_slice(), id) {
             Some(chain) => chain.free_one(alloc, &mut self.recency),
             None => Ok(false),
