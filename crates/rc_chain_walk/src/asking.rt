@@ -1,17 +1,14 @@
 //! What the chains show, beside what the plain chains say.
 
-ghost use Rattle.rc_chain_walk.specs.Walking.{IsTracked};
+ghost use Rattle.rc_chain_guarded.specs.Guarded.{IsTracked};
 
-use crate::homes::{SEGMENT, has_version};
-use crate::known::{Held, Known};
-use crate::memory::PlainMemory;
-use crate::plain::{PlainChain, is_cache};
-use crate::snaps::{seen_at, seen_head, standing};
 use crate::tally::Tally;
-use crate::weight::{bytes_of, objects_of};
 use rc_cell::Row;
 use rc_chain::{Chains, ReadAt, ReadHead};
+use rc_chain_guarded::snaps::{seen_at, seen_head, standing};
+use rc_chain_guarded::{Known, SEGMENT, has_version};
 use rc_core::{PlainVersion, Side, head_of, is_known_at, is_known_in, statics_at};
+use rc_plain_chains::{PlainChain, PlainMemory, bytes_of, is_cache, objects_of};
 use rc_position::Pos;
 use std::alloc::{AllocError, Global};
 
@@ -136,28 +133,45 @@ fn ask_snapshots(
     requires { IsTracked chains.now known.now }
 {
     for index in 0..known.held.len() {
-        if let Some(held) = held_of(known, index, plain.id) {
-            if let Some(number) = plain.pinned_at(held.pin as usize) {
-                ask_standing(chains, known, index, number, plain, tally);
-                let versions = up_to(plain.versions.as_slice(), number);
-                ask_head(alloc, chains, known, index, versions, plain, tally)?;
-                for x in positions {
-                    ask_at(alloc, chains, known, index, versions, plain, x, tally)?;
-                }
-            } else {
-                tally.expect(false, "which snapshots there are");
-            }
+        if let Some(pin) = pin_of(known, index, plain.id) {
+            ask_snapshot(alloc, chains, known, index, pin, plain, positions, tally)?;
         }
     }
     Ok(())
 }
 
-// The snapshot at an index, where it is one of a chain.
-fn held_of(known: &Known, index: usize, id: u64) -> Option<Held> {
+// The number of the snapshot at an index, where it is one of a chain.
+fn pin_of(known: &Known, index: usize, id: u64) -> Option<u64> {
     match known.held.get(index) {
-        Some(held) if held.chain == id => Some(*held),
+        Some(held) if held.chain == id => Some(held.pin),
         _ => None,
     }
+}
+
+// Where a snapshot stands, and what it sees.
+fn ask_snapshot(
+    alloc: Global,
+    chains: &Chains<SEGMENT>,
+    known: &Known,
+    index: usize,
+    pin: u64,
+    plain: &PlainChain,
+    positions: &[Pos],
+    tally: &mut Tally,
+) -> Result<(), AllocError>
+    requires { IsTracked chains.now known.now }
+{
+    let Some(number) = plain.pinned_at(pin as usize) else {
+        tally.expect(false, "which snapshots there are");
+        return Ok(());
+    };
+    ask_standing(chains, known, index, number, plain, tally);
+    let versions = up_to(plain.versions.as_slice(), number);
+    ask_head(alloc, chains, known, index, versions, plain, tally)?;
+    for x in positions {
+        ask_at(alloc, chains, known, index, versions, plain, x, tally)?;
+    }
+    Ok(())
 }
 
 // Where a snapshot stands, and whether it fills.
@@ -191,10 +205,10 @@ fn ask_head(
 ) -> Result<(), AllocError>
     requires { IsTracked chains.now known.now }
 {
-    if let Some(head) = seen_head(chains, known, index)? {
-        is_head(alloc, &head, versions, plain, tally)?;
+    match seen_head(chains, known, index)? {
+        Some(head) => is_head(alloc, &head, versions, plain, tally),
+        None => Ok(()),
     }
-    Ok(())
 }
 
 fn is_head(
@@ -227,10 +241,10 @@ fn ask_at(
 ) -> Result<(), AllocError>
     requires { IsTracked chains.now known.now }
 {
-    if let Some(seen) = seen_at(chains, known, index, x)? {
-        is_at(alloc, &seen, versions, plain, x, tally)?;
+    match seen_at(chains, known, index, x)? {
+        Some(seen) => is_at(alloc, &seen, versions, plain, x, tally),
+        None => Ok(()),
     }
-    Ok(())
 }
 
 fn is_at(
@@ -241,10 +255,10 @@ fn is_at(
     x: &Pos,
     tally: &mut Tally,
 ) -> Result<(), AllocError> {
+    let known = is_known_at(alloc, plain.kind, versions, x)?;
     let wanted = rc_core::seen_at(alloc, versions, x, Side::On)?;
     tally.expect(is_given(&seen.row, &wanted.row), "the row at a position");
     tally.expect(seen.tomb == wanted.tomb, "the tombstone at a position");
-    let known = is_known_at(alloc, plain.kind, versions, x)?;
     tally.expect(seen.known == known, "whether a position is known");
     Ok(())
 }

@@ -3,23 +3,12 @@
 #![tactic(auto)]
 
 mod asking;
+mod both;
 mod chance;
-mod changes;
-mod homes;
-mod known;
-mod likes;
-mod lists;
-mod lives;
-mod memory;
-mod places;
-mod plain;
-mod rows;
-mod snaps;
 mod space;
 mod tally;
 mod turning;
 mod walk;
-mod weight;
 
 use std::alloc::{AllocError, Global};
 use std::io;
@@ -53,10 +42,8 @@ fn main(rt: HostRuntime) -> io::Result<()> {
     }
     let (calls, skipped, places) = (tally.total(), tally.skipped, tally.places);
     println!(rt; "{calls} calls, {skipped} tried in vain, {places} facts compared")?;
-    let (moved, emptied) = (
-        walk.chains.region().moved(),
-        walk.chains.region().compacted(),
-    );
+    let region = walk.both.chains().region();
+    let (moved, emptied) = (region.moved(), region.compacted());
     println!(rt; "{moved} objects moved out of {emptied} segments")?;
     match tally.differs {
         None => println!(rt; "all alike"),

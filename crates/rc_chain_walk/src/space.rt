@@ -60,8 +60,8 @@ fn long_key(alloc: Global, first: u32, second: u32) -> Result<Key, AllocError>
     )
 }
 
-/// Some key.
-pub(crate) fn some_key(alloc: Global, chance: &mut Chance) -> Result<Key, AllocError>
+// Some key.
+fn some_key(alloc: Global, chance: &mut Chance) -> Result<Key, AllocError>
     ensures { IfOk result (λ key. KeyFits key) }
 {
     let (first, second) = (chance.below(3), chance.below(3));
@@ -72,8 +72,8 @@ pub(crate) fn some_key(alloc: Global, chance: &mut Chance) -> Result<Key, AllocE
     }
 }
 
-/// Some weight.
-pub(crate) fn some_weight(chance: &mut Chance) -> Weight {
+// Some weight.
+fn some_weight(chance: &mut Chance) -> Weight {
     match chance.below(3) {
         0 => Weight::Before,
         1 => Weight::At,
@@ -89,6 +89,16 @@ pub(crate) fn some_position(alloc: Global, chance: &mut Chance) -> Result<Pos, A
     Ok(Pos {
         prefix: some_key(alloc, chance)?,
         weight,
+    })
+}
+
+/// Some position of a row.
+pub(crate) fn some_place(alloc: Global, chance: &mut Chance) -> Result<Pos, AllocError>
+    ensures { IfOk result (λ x. KeyFits x.prefix) }
+{
+    Ok(Pos {
+        prefix: some_key(alloc, chance)?,
+        weight: Weight::At,
     })
 }
 

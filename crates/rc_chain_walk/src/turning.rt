@@ -1,44 +1,19 @@
 //! The recency list in its order: each object of it goes to its back in turn, which leaves the list as it was.
 
-ghost use Rattle.rc_chain_walk.specs.Walking.{IsTracked};
+ghost use Rattle.rc_chain_guarded.specs.Guarded.{IsTracked};
 
-use crate::homes::{SEGMENT, position_of};
-use crate::known::Known;
-use crate::places::{Place, Recency, is_same_position};
 use crate::tally::Tally;
 use rc_chain::Chains;
+use rc_chain_guarded::turning::turn;
+use rc_chain_guarded::{Known, SEGMENT};
+use rc_plain_chains::{Place, Recency};
 use rc_position::Pos;
 use std::alloc::{AllocError, Global};
-
-// The chain, the version and the position of the first object, which goes to the back.
-fn turn(
-    alloc: Global,
-    chains: &mut Chains<SEGMENT>,
-    _known: &Known,
-) -> Result<Option<(u64, u64, Option<Pos>)>, AllocError>
-    requires { IsTracked chains.old _known.now }
-    ensures { IsTracked chains.new _known.now }
-{
-    match chains.front() {
-        Some(r) => {
-            chains.known();
-            let (id, number) = chains.home(r);
-            let x = position_of(alloc, chains.region(), r);
-            chains.touch(r);
-            Ok(Some((id, number, x?)))
-        }
-        None => Ok(None),
-    }
-}
 
 // Whether what was first stands at a place.
 fn is_first(first: &Option<(u64, u64, Option<Pos>)>, place: &Place) -> bool {
     match first {
-        Some((id, number, x)) => {
-            *id == place.chain
-                && *number == place.version as u64
-                && is_same_position(x, &place.position)
-        }
+        Some((id, number, x)) => place.is_of(*id, *number, x),
         None => false,
     }
 }

@@ -1,0 +1,7 @@
+use Rattle.rc_chain_guarded.proofs.Listed.{full-last}
+use Rattle.rc_chain_guarded.proofs.Steps.{from-if}
+use Rattle.rc_chain_guarded.proofs.homes.may_make.Goals as goal
+
+pub returns-clause-last : goal.returns-clause-last
+returns-clause-last c = λ yes k v at there u number l.
+    full-last c.args.chains.now c.args.id c.known.ensures.versions (from-if _ c.args.known.now.full c.args.id c.requires.full (c.is_full.ensures yes)) k c.args.number v at there u number l

@@ -1,9 +1,0 @@
-use Rattle.std.proofs.Common.{false, refl, sym, ◌∙◌}
-use Rattle.rc_chain_walk.proofs.Wholes.{chain-there, known-settled}
-use Rattle.rc_memory.specs.Memory.{on_shown, shown_updating}
-use Rattle.rc_chain_walk.proofs.lives.end_update.Goals as goal
-
-pub returns : goal.returns
-returns c =
-    let m = c.args.chains.now in let n = c.end_update.new.self in let k = chain-there m c.args.id (sym c.is_there.ensures ∙ c.if-not-is_there.false) in let e = c.end_update.ensures.ended k.0 k.1 in
-    known-settled m n c.args.id (on_shown (shown_updating false)) e.2.chains (λ q. refl) (λ q. refl) c.args.known.now c.forget_full.new.self c.requires c.forget_full.ensures.held c.forget_full.ensures.full c.forget_full.ensures.bare
