@@ -2,8 +2,9 @@
 --     chain_of       the number of the chain of a key
 --     HasWrites      a memtable, with the chains, stands for a list of writes: which list is not kept, only what it says
 --     IsRoomFor      so many bytes are enough for a write
-use Rattle.std.specs.Prelude.{◌≡◌, ◌≤◌, ◌+◌, ◌-◌, ◌*◌, ◌/◌, ℕ, Bool, List, Option, Some, None, IsSomeAnd, cond, is_some, length, ⊤}
+use Rattle.std.specs.Prelude.{◌≡◌, ◌≤◌, ◌+◌, ◌-◌, ◌*◌, ◌/◌, ℕ, Bool, List, Option, Some, None, IsSomeAnd, cond, is_some, length, map, ⊤}
 use Rattle.std.specs.List.{list_any}
+use Rattle.std.specs.List.Sorted.{IsStrictlySortedBy}
 use Rattle.std.specs.Map.{lookup}
 use Rattle.std.specs.BTreeMap.{is_at}
 use Rattle.std.specs.Ordering.{eq_by_cmp}
@@ -21,6 +22,10 @@ use Rattle.rc_memtable.specs.Changes.{KeepsChanges}
 -- the number of the chain of a partition's key; None where it has none
 abbrev pub chain_of : List (List ℕ × ℕ) → List ℕ → Option ℕ
 chain_of chains key = lookup (is_at (bytes_cmp key)) chains
+
+-- the keys ascend
+abbrev pub DoAscend : List (List ℕ × ℕ) → Type 0
+DoAscend keys = IsStrictlySortedBy bytes_cmp (map (λ e. e.0) keys)
 
 -- whether a write is to the partition of a key
 abbrev pub names : List ℕ → List Write → Bool

@@ -9,7 +9,7 @@ ghost use Rattle.rc_core.specs.StandsFor.{StandsFor};
 ghost use Rattle.rc_core.specs.Steps.{pin_at};
 ghost use Rattle.rc_chain.specs.Lives.{IsSameButSlots};
 ghost use Rattle.rc_memory.specs.Memory.{KeptChain, Memory, HasChain, IsSnapshotTaken, chain_at};
-ghost use Rattle.rc_memtable.specs.Writes.{HasWrites, AreSmall, IsNewestPinned, IsRoomFor, TakesVersion, chain_of, names};
+ghost use Rattle.rc_memtable.specs.Writes.{DoAscend, HasWrites, AreSmall, IsNewestPinned, IsRoomFor, TakesVersion, chain_of, names};
 ghost use Rattle.rc_memtable.specs.Steps.{IsApplied};
 ghost use Rattle.rc_memtable.specs.LetGo.{AreLetGo};
 ghost use Rattle.rc_memtable.specs.Partitions.{AreAsBefore};
@@ -60,6 +60,13 @@ impl Memtable {
         ensures { (schema : SchemaValue) (m : Memory) (writes : Sequence Written) → HasWrites schema self.now m writes → IsTrue result ↔ (writes ≡ []) }
     {
         self.chains.is_empty()
+    }
+
+    /// Its keys ascend, so each has one chain. Nothing is done.
+    pub fn known(&self)
+        ensures { DoAscend self.now }
+    {
+        let _count = self.chains.len();
     }
 
     /// How many bytes must be spare for a write: for what is made in the newest version of its chain, and for the version, where one is made first. At most 7S/8.

@@ -12,8 +12,8 @@ use Rattle.rc_mutation.specs.declared.mutations.Write.{Write}
 use Rattle.rc_memory.specs.Memory.{KeptChain, Memory, chain_at, on_shown, shown_detached}
 use Rattle.rc_memory.specs.laws.Places.{no_some}
 use Rattle.rc_memtable.specs.LetGo.{AreLetGo, IsLetGo}
-use Rattle.rc_memtable.specs.Writes.{HasWrites, chain_of}
-use Rattle.rc_unstored.specs.Memtables.{DoAscend, HaveWrites, Memtables}
+use Rattle.rc_memtable.specs.Writes.{DoAscend, HasWrites, chain_of}
+use Rattle.rc_unstored.specs.Memtables.{HaveWrites, Memtables}
 use Rattle.rc_unstored.specs.Readers.{AllStillSee}
 use Rattle.rc_unstored.proofs.Chains.{chain-beside, chain-done, chain-put, same-or-not}
 use Rattle.rc_unstored.proofs.Keeping.{beside-has, either, key-is, key-itself, none-found}

@@ -2,11 +2,9 @@
 --     Memtables       two memtables in the chains of a shard
 --     HaveWrites      which writes both stand for: which lists is not kept, only what they say
 --     IsFullFor       there is no room for a write, nor can it be made
-use Rattle.std.specs.Prelude.{◌≡◌, ℕ, List, Some, map}
-use Rattle.std.specs.List.Sorted.{IsStrictlySortedBy}
+use Rattle.std.specs.Prelude.{◌≡◌, ℕ, List, Some}
 use Rattle.lsa_move.specs.Room.{Tight}
 use Rattle.lsa_pool.specs.Room.{spare_of}
-use Rattle.rc_position.specs.Position.{bytes_cmp}
 use Rattle.rc_schema.specs.SchemaValue.{SchemaValue}
 use Rattle.rc_mutation.specs.declared.mutations.Write.{Write}
 use Rattle.rc_memory.specs.Memory.{Memory}
@@ -31,10 +29,6 @@ pub record HaveWrites (schema : SchemaValue) (u : Memtables) (writes later : Lis
   pub sealed : HasWrites schema u.sealed u.memory writes
   pub active : HasWrites schema u.active u.memory later
   pub apart : NoneShared u.sealed u.active
-
--- the keys ascend
-abbrev pub DoAscend : List (List ℕ × ℕ) → Type 0
-DoAscend keys = IsStrictlySortedBy bytes_cmp (map (λ e. e.0) keys)
 
 -- there is no room for a write, nor can it be made: fewer bytes are spare than it needs, and no closed segment is sparse
 pub record IsFullFor (S : ℕ) (schema : SchemaValue) (w : Write) (u : Memtables) : Type 0 where

@@ -11,7 +11,7 @@ ghost use Rattle.rc_writes.specs.Single.{IsSingle};
 ghost use Rattle.rc_memory.specs.Memory.{HasPin, IsEmpty, IsSnapshotTaken, IsUntouched};
 ghost use Rattle.rc_memtable.specs.Writes.{AreSmall, HasWrites, chain_of};
 ghost use Rattle.rc_unstored.specs.calls.Giving.{given_back};
-ghost use Rattle.rc_unstored.specs.Memtables.{DoAscend, HaveWrites, IsFullFor, NoneShared};
+ghost use Rattle.rc_unstored.specs.Memtables.{HaveWrites, IsFullFor, NoneShared};
 ghost use Rattle.rc_unstored.specs.Readers.{OthersStillSee, AreSameSnapshots, AllStillSee, HasSnap, IsSnapshotOfKey};
 
 use lsa_move::Ensured;
@@ -159,9 +159,10 @@ impl<const S: usize> Unstored<S> {
     /// Lets the sealed writes go, which a table has: none are sealed then. Snapshots of them see what they saw.
     pub fn drop_sealed(&mut self)
         requires kept { (schema : SchemaValue) × (writes : Sequence Written) × (later : Sequence Written) × HaveWrites schema self.old writes later }
-        ensures gone { DoAscend self.old.sealed → (schema : SchemaValue) (writes later : Sequence Written) → HaveWrites schema self.old writes later → HaveWrites schema self.new [] later }
-        ensures seen { DoAscend self.old.sealed → AllStillSee self.old.memory self.new.memory }
+        ensures gone { (schema : SchemaValue) (writes later : Sequence Written) → HaveWrites schema self.old writes later → HaveWrites schema self.new [] later }
+        ensures seen { AllStillSee self.old.memory self.new.memory }
     {
+        self.sealed.known();
         self.sealed.drop_all(&mut self.chains);
     }
 

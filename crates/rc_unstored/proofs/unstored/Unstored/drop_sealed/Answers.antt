@@ -1,17 +1,17 @@
 use Rattle.std.proofs.Common.{sym, subst}
-use Rattle.rc_unstored.specs.Memtables.{DoAscend, HaveWrites, Memtables}
+use Rattle.rc_unstored.specs.Memtables.{HaveWrites, Memtables}
 use Rattle.rc_unstored.specs.Readers.{AllStillSee}
 use Rattle.rc_unstored.proofs.Going.{all-gone-seen, both-dropped, theirs-of}
 use Rattle.rc_unstored.proofs.unstored.Unstored.drop_sealed.Goals as goal
 
 pub returns-clause-gone : goal.returns-clause-gone
-returns-clause-gone g c ascend schema writes later h =
+returns-clause-gone g c schema writes later h =
     both-dropped schema (record { memory = c.self.inside.chains; sealed = c.self.inside.sealed; active = c.self.inside.active }) c.drop_all.new.chains c.drop_all.new.self writes later
-    (subst (λ (x : Memtables). DoAscend x.sealed) (sym c.self.view_is) ascend) c.drop_all.ensures.gone (c.drop_all.ensures.none schema c.drop_all.new.chains) (subst (λ (x : Memtables). HaveWrites schema x writes later) (sym c.self.view_is) h)
+    c.known.ensures c.drop_all.ensures.gone (c.drop_all.ensures.none schema c.drop_all.new.chains) (subst (λ (x : Memtables). HaveWrites schema x writes later) (sym c.self.view_is) h)
 
 pub returns-clause-seen : goal.returns-clause-seen
-returns-clause-seen g c ascend =
+returns-clause-seen g c =
     let r = c.requires.kept in
     let h = subst (λ (x : Memtables). HaveWrites r.0 x r.1 r.2) (sym c.self.view_is) r.3 in
     subst (λ (x : Memtables). AllStillSee x.memory c.drop_all.new.chains) c.self.view_is
-    (all-gone-seen c.self.inside.sealed c.self.inside.chains c.drop_all.new.chains (theirs-of r.0 c.self.inside.sealed c.self.inside.chains r.1 (subst (λ (x : Memtables). DoAscend x.sealed) (sym c.self.view_is) ascend) h.sealed) c.drop_all.ensures.gone)
+    (all-gone-seen c.self.inside.sealed c.self.inside.chains c.drop_all.new.chains (theirs-of r.0 c.self.inside.sealed c.self.inside.chains r.1 c.known.ensures h.sealed) c.drop_all.ensures.gone)
