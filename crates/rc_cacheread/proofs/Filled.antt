@@ -4,7 +4,7 @@ use Rattle.std.proofs.Common.{refl, arith}
 use Rattle.rc_position.specs.declared.positions.Pos.{Pos}
 use Rattle.rc_stream.specs.Places.{Reaches}
 use Rattle.rc_stream.specs.Snapshot.{SameKnown, There}
-use Rattle.rc_cacheread.specs.Below.{StaysLost, TakenIn}
+use Rattle.rc_cacheread.specs.calls.Below.{StaysLost, TakenIn}
 use Rattle.rc_cacheread.specs.Did.{ReaderFilled}
 use Rattle.rc_cacheread.specs.Passing.{IsKnownOver}
 use Rattle.rc_cacheread.specs.Sharing.{Fit, Kept, OfBelow, OfFiller, OfKnown, Shares}

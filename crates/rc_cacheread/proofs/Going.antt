@@ -19,10 +19,11 @@ use Rattle.rc_cacheread.specs.declared.spots.RowAt.TheVariants as row
 use Rattle.rc_cacheread.specs.declared.spots.Spot.{Spot}
 use Rattle.rc_cacheread.specs.declared.spots.Step.{Step}
 use Rattle.rc_cacheread.specs.declared.spots.Step.TheVariants as step
-use Rattle.rc_cacheread.specs.Below.{IsChangeTaken, IsBesidePlace, Tells, TellsHere, TookChange, TookFound, TookHere, TookNothing, TookRow, TookRowHere, found_of, near_of}
+use Rattle.rc_cacheread.specs.calls.Below.{IsChangeTaken, IsBesidePlace, Tells, TellsHere, TookChange, TookFound, TookHere, TookNothing, TookRow, TookRowHere, found_of, near_of}
 use Rattle.rc_cacheread.specs.Reading.{behind_row, said_at}
 use Rattle.rc_cacheread.specs.Sharing.{Fits, IsPlaceAt, Leads}
-use Rattle.rc_cacheread.specs.Spots.{HasNothingDue, again_due, past_row, change_place, due_change, front, row_due, since_or, stand, tomb_told, told_or}
+use Rattle.rc_cacheread.specs.Spots.{again_due, past_row, change_place, due_change, front, row_due, since_or, stand, tomb_told, told_or}
+use Rattle.rc_cacheread.specs.calls.Spots.{HasNothingDue}
 use Rattle.rc_cacheread.proofs.Idle.{idle-front, idle-stand}
 use Rattle.rc_cacheread.proofs.Lists.{behind-its-row, change_if, same-tombs, untrue}
 use Rattle.rc_cacheread.proofs.Orders.{before-reach, before-reaches, near-is, near-on, near-row, near-within, never-before, reach-itself, reach-through, same-place}

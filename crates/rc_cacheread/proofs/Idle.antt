@@ -18,7 +18,8 @@ use Rattle.rc_cacheread.specs.declared.spots.RowAt.TheVariants as row
 use Rattle.rc_cacheread.specs.declared.spots.Spot.{Spot}
 use Rattle.rc_cacheread.specs.declared.spots.Turn.{Turn}
 use Rattle.rc_cacheread.specs.declared.spots.Turn.TheVariants as turn
-use Rattle.rc_cacheread.specs.Spots.{GivesDue, GoesOn, IsSameSpot, HasNothingDue, IsSpotSought, WentTo, again_due, past_row, change_place, due_change, front, is_behind, is_row_due, is_row_from, row_due, since_or, stand, told_at, tomb_told, told_or}
+use Rattle.rc_cacheread.specs.Spots.{again_due, past_row, change_place, due_change, front, row_due, since_or, stand, tomb_told, told_or}
+use Rattle.rc_cacheread.specs.calls.Spots.{GivesDue, GoesOn, IsSameSpot, HasNothingDue, IsSpotSought, WentTo, is_behind, is_row_due, is_row_from, told_at}
 use Rattle.rc_cacheread.proofs.Lists.{same-itself, same-tombs, untrue}
 
 pub none-of : (t : Option Tomb) → is_some t ≡ false → t ≡ None

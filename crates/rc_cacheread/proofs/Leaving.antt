@@ -4,7 +4,7 @@ use Rattle.std.proofs.Common.{refl, ◌∙◌, arith}
 use Rattle.rc_mutation.specs.declared.fragments.HeadAt.{HeadAt}
 use Rattle.rc_stream.specs.Did.{InTurn}
 use Rattle.rc_stream.specs.Stream.{Stream}
-use Rattle.rc_cacheread.specs.Below.{Filling, Fillings}
+use Rattle.rc_cacheread.specs.calls.Below.{Filling, Fillings}
 use Rattle.rc_cacheread.specs.Did.{KnownStep}
 use Rattle.rc_cacheread.specs.Sharing.{Fit, Kept, OfBelow, OfFiller, OfKnown, Shares}
 use Rattle.rc_cacheread.proofs.Chains.{chain-keeps}

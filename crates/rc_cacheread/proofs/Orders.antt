@@ -12,7 +12,7 @@ use Rattle.rc_position.specs.declared.positions.Weight.{Weight}
 use Rattle.rc_position.specs.declared.positions.Weight.TheVariants.{Before, At, After}
 use Rattle.rc_position.specs.Position.{IsBefore, comp_cmp, pos_cmp, prefix_cmp, row_pos}
 use Rattle.std.specs.Ordering.{ordering_then}
-use Rattle.rc_cacheread.specs.Below.{last_before, near_of}
+use Rattle.rc_cacheread.specs.calls.Below.{last_before, near_of}
 use Rattle.rc_position.specs.laws.Orders.{comp_cmp_total, pos_cmp_total, pos_cmp_same}
 use Rattle.rc_stream.specs.Places.{Reaches}
 use Rattle.rc_stream.specs.laws.Ordered.{passes-itself}

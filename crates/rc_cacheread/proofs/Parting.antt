@@ -22,7 +22,8 @@ use Rattle.rc_cacheread.specs.declared.readers.Stage.TheVariants.{Away, Sought, 
 use Rattle.rc_cacheread.specs.declared.spots.Spot.{Spot}
 use Rattle.rc_cacheread.specs.Reading.{Reads, behind_row, said_at}
 use Rattle.rc_cacheread.specs.Sharing.{Fits, IsPlaceAt, IsReady, IsSaidBelow, IsAllKnown, Leads, OfBelow, OfFiller, OfKnown, Sees}
-use Rattle.rc_cacheread.specs.Spots.{HasNothingDue, again_due, change_place, due_change, front, row_due, since_or, stand, tomb_told}
+use Rattle.rc_cacheread.specs.Spots.{again_due, change_place, due_change, front, row_due, since_or, stand, tomb_told}
+use Rattle.rc_cacheread.specs.calls.Spots.{HasNothingDue}
 use Rattle.rc_cacheread.proofs.Going.{append-none}
 use Rattle.rc_cacheread.proofs.Idle.{idle-front}
 use Rattle.rc_cacheread.proofs.Leaving.{KnownLeft, both-ways}

@@ -11,8 +11,9 @@ use Rattle.rc_stream.specs.Places.{Reaches}
 use Rattle.rc_stream.specs.Snapshot.{There, Throughout}
 use Rattle.rc_cacheread.specs.declared.spots.RowAt.TheVariants as row
 use Rattle.rc_cacheread.specs.declared.spots.Spot.{Spot}
-use Rattle.rc_cacheread.specs.Below.{TakenIn}
-use Rattle.rc_cacheread.specs.Passing.{IsKnownFrom, IsKnownOver, PassesWhole}
+use Rattle.rc_cacheread.specs.calls.Below.{TakenIn}
+use Rattle.rc_cacheread.specs.Passing.{IsKnownFrom, IsKnownOver}
+use Rattle.rc_cacheread.specs.calls.Passing.{PassesWhole}
 use Rattle.rc_cacheread.specs.Reading.{behind_row}
 use Rattle.rc_cacheread.specs.Spots.{past_row, stand}
 use Rattle.rc_cacheread.proofs.Orders.{behind-within, either-way, never-before, reach-through, same-place}

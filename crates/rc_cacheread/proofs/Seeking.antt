@@ -9,9 +9,10 @@ use Rattle.rc_stream.specs.Stream.{Stream, sought}
 use Rattle.rc_cacheread.specs.declared.readers.Stage.{Stage}
 use Rattle.rc_cacheread.specs.declared.readers.Stage.TheVariants.{Sought}
 use Rattle.rc_cacheread.specs.declared.spots.Spot.{Spot}
-use Rattle.rc_cacheread.specs.Below.{sought_stage}
+use Rattle.rc_cacheread.specs.calls.Below.{sought_stage}
 use Rattle.rc_cacheread.specs.Sharing.{Fits}
-use Rattle.rc_cacheread.specs.Spots.{HasNothingDue, front, stand}
+use Rattle.rc_cacheread.specs.Spots.{front, stand}
+use Rattle.rc_cacheread.specs.calls.Spots.{HasNothingDue}
 use Rattle.rc_cacheread.proofs.Idle.{idle-front, idle-stand}
 use Rattle.rc_cacheread.proofs.Outcomes.{Outcome, carries-same}
 use Rattle.rc_cacheread.proofs.Streams.{fits-sought, sought-fits, sought-says}

@@ -14,7 +14,8 @@ use Rattle.rc_cacheread.specs.declared.readers.Stage.TheVariants.{Away}
 use Rattle.rc_cacheread.specs.declared.spots.Spot.{Spot}
 use Rattle.rc_cacheread.specs.Reading.{Reads, StandFrom, said_at}
 use Rattle.rc_cacheread.specs.Sharing.{IsReady, IsSaidBelow, IsAllKnown, Leads, OfBelow, OfFiller, OfKnown, Sees}
-use Rattle.rc_cacheread.specs.Spots.{IsBegunAt, HasNothingDue, IsSpotSought, front, stand, tomb_told}
+use Rattle.rc_cacheread.specs.Spots.{front, stand, tomb_told}
+use Rattle.rc_cacheread.specs.calls.Spots.{IsBegunAt, HasNothingDue, IsSpotSought}
 use Rattle.rc_cacheread.proofs.Going.{at-lags}
 use Rattle.rc_cacheread.proofs.Idle.{idle-front, idle-stand, idle-told}
 use Rattle.rc_cacheread.proofs.Lists.{at_of, sought-read, sought-there, sought_from, unpassed-behind}

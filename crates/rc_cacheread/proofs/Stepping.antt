@@ -17,11 +17,13 @@ use Rattle.rc_cacheread.specs.declared.readers.Stage.{Stage}
 use Rattle.rc_cacheread.specs.declared.readers.Stage.TheVariants.{Within}
 use Rattle.rc_cacheread.specs.declared.spots.Spot.{Spot}
 use Rattle.rc_cacheread.specs.declared.spots.Step.{Step}
-use Rattle.rc_cacheread.specs.Below.{Fillings, Filling}
-use Rattle.rc_cacheread.specs.Did.{IsBelow, KnownStep, ReaderCall, ReaderStepSays}
+use Rattle.rc_cacheread.specs.calls.Below.{Fillings, Filling}
+use Rattle.rc_cacheread.specs.Did.{IsBelow, KnownStep, ReaderCall}
+use Rattle.rc_cacheread.specs.calls.Did.{ReaderStepSays}
 use Rattle.rc_cacheread.specs.Reading.{Reads, StandFrom, said_at}
 use Rattle.rc_cacheread.specs.Sharing.{Fit, Fits, IsPlaceAt, IsReady, IsSaidBelow, IsAllKnown, Kept, Leads, OfBelow, OfFiller, OfKnown, Sees, Shares}
-use Rattle.rc_cacheread.specs.Spots.{HasNothingDue, front, stand, tomb_told}
+use Rattle.rc_cacheread.specs.Spots.{front, stand, tomb_told}
+use Rattle.rc_cacheread.specs.calls.Spots.{HasNothingDue}
 use Rattle.rc_cacheread.proofs.Chains.{chain-on}
 use Rattle.rc_cacheread.proofs.Going.{Came, Gone}
 use Rattle.rc_cacheread.proofs.Idle.{idle-front, idle-stand}

@@ -16,10 +16,12 @@ use Rattle.rc_cacheread.specs.declared.readers.CacheReader.{CacheReader}
 use Rattle.rc_cacheread.specs.declared.readers.Stage.TheVariants.{Away}
 use Rattle.rc_cacheread.specs.declared.spots.Spot.{Spot}
 use Rattle.rc_cacheread.specs.Did.{IsKnownFor}
-use Rattle.rc_cacheread.specs.Passing.{IsKnownFrom, PassesWhole}
+use Rattle.rc_cacheread.specs.Passing.{IsKnownFrom}
+use Rattle.rc_cacheread.specs.calls.Passing.{PassesWhole}
 use Rattle.rc_cacheread.specs.Reading.{Reads, behind_row, said_at}
 use Rattle.rc_cacheread.specs.Sharing.{Fits, IsPlaceAt, IsReady, IsSaidBelow, IsAllKnown, Leads, OfBelow, OfFiller, OfKnown, Sees}
-use Rattle.rc_cacheread.specs.Spots.{EndsUpto, IsSameSpot, front, stand, tomb_told}
+use Rattle.rc_cacheread.specs.Spots.{front, stand, tomb_told}
+use Rattle.rc_cacheread.specs.calls.Spots.{EndsUpto, IsSameSpot}
 use Rattle.rc_cacheread.proofs.Lists.{ended, none-upto, turns}
 use Rattle.rc_cacheread.proofs.Orders.{either-way, never-before, reach-itself, reach-through}
 use Rattle.rc_cacheread.proofs.Outcomes.{Carries, leads-on}

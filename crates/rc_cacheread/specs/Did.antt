@@ -2,19 +2,14 @@
 --     ReaderCall     a call of the snapshot, of the stream below, or of the filler
 --     ReaderFilled   what calls leave of what is known
 --     ReaderDid      a call of a reader: which calls, none but the snapshot's where what is passed is known, and that it is known afterwards
-use Rattle.std.specs.Prelude.{◌≡◌, ◌⊎◌, ◌≤◌, Bool, true, false, Result, Ok, Err, IsTrue, ⊤}
+use Rattle.std.specs.Prelude.{◌≡◌, ◌⊎◌, ◌≤◌, Bool, true, false, ⊤}
 use Rattle.rc_position.specs.declared.positions.Pos.{Pos}
 use Rattle.rc_position.specs.Position.{IsBefore}
 use Rattle.rc_mutation.specs.declared.fragments.HeadAt.{HeadAt}
 use Rattle.rc_stream.specs.Did.{Call, InTurn, OfHead, OfNext, OfSeek}
 use Rattle.rc_stream.specs.Places.{Reaches}
 use Rattle.rc_stream.specs.Snapshot.{There, Unlost}
-use Rattle.rc_stream.specs.Stream.{Stream, first_upto, is_upto, took}
-use Rattle.rc_stream.specs.declared.streams.StreamErr.{StreamErr}
-use Rattle.std.specs.Prelude.{Some, None}
 use Rattle.rc_cacheread.specs.declared.readers.CacheReader.{CacheReader}
-use Rattle.rc_cacheread.specs.declared.spots.Step.{Step}
-use Rattle.rc_cacheread.specs.declared.spots.Step.TheVariants as step
 use Rattle.rc_cacheread.specs.Passing.{IsKnownFrom, IsKnownOver}
 use Rattle.rc_cacheread.specs.Sharing.{IsStaticRowKnown, OfBelow, OfFiller, OfKnown}
 use Rattle.rc_cacheread.specs.Spots.{stand}
@@ -71,19 +66,6 @@ pub record ReaderDid {K F P H W : Type 0} (kn : OfKnown K H) (be : OfBelow F H W
   pub on : Reaches (stand r.spot) (stand n.spot)
   pub quiet : IsKnownFor c (kn.knows r.known h) (kn.heads r.known h) (stand r.spot) r.to → IsQuiet kn ok (reader_state r h w) (reader_state n g v) × IsKnownFor c (kn.knows n.known g) (kn.heads n.known g) (stand n.spot) n.to
   pub filled : ReaderFilled kn fi r.known r.filler h n.known n.filler g (IsFilledFor c ok (kn.knows n.known g) (kn.heads n.known g) (stand r.spot) (stand n.spot))
-
--- what a step leaves, where this holds of the stream: nothing stands up to x; or something was read; or the first was given, which stands there
-abbrev pub ReaderStepSays : Result Step StreamErr → Pos → Stream → (Stream → Type 0) → Type 0
-ReaderStepSays (Ok step.Nothing) x s now = now s × (first_upto x s.left ≡ None)
-ReaderStepSays (Ok step.Passed) x s now = now s
-ReaderStepSays (Ok (step.Given f)) x s now = now (took (Some f) s) × (first_upto x s.left ≡ Some f)
-ReaderStepSays (Err e) x s now = now s
-
--- what a step gave stands at x or before it
-abbrev pub IsReaderStepUpto : Pos → Step → Type 0
-IsReaderStepUpto x step.Nothing = ⊤
-IsReaderStepUpto x step.Passed = ⊤
-IsReaderStepUpto x (step.Given f) = IsTrue (is_upto x f)
 
 -- what calls of a reader may make of a home and a store: calls of its parts, whichever they are
 pub record ReaderMoves {K F P H W : Type 0} (kn : OfKnown K H) (be : OfBelow F H W) (fi : OfFiller P H) (h : H) (w : W) (g : H) (v : W) : Type 0 where

@@ -1,7 +1,7 @@
-pub mod Below
 pub mod Did
 pub mod Making
 pub mod Passing
 pub mod Reading
 pub mod Sharing
 pub mod Spots
+pub mod calls

@@ -30,7 +30,3 @@ IsKnownFrom knows from x = ((v : There) × knows x v) ⊎ IsInsideRow knows from
 -- from one position on and before another one each is known, or inside a row that is
 abbrev pub IsKnownOver : (Pos → There → Type 0) → (from to : Pos) → Type 0
 IsKnownOver knows from to = Throughout from to (IsKnownFrom knows from)
-
--- from one position on and before another one no row that is known is passed in part
-abbrev pub PassesWhole : (Pos → There → Type 0) → (from to : Pos) → Type 0
-PassesWhole knows from to = (key : List Comp) (row : Row) (tomb : Option Tomb) → knows (row_pos key) (row, tomb) → row ≢ empty_row → Reaches from (row_pos key) → IsBefore (row_pos key) to → Reaches (behind_row key) to

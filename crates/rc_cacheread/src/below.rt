@@ -10,11 +10,13 @@ ghost use Rattle.rc_stream.specs.Showing.{Blames};
 ghost use Rattle.rc_stream.specs.Snapshot.{SameKnown, There};
 ghost use Rattle.rc_stream.specs.Stream.{Stream};
 ghost use Rattle.rc_cacheread.specs.declared.spots.RowAt.TheVariants.{Unread};
-ghost use Rattle.rc_cacheread.specs.Below.{Fillings, IsNotAway, StaysLost, TakenIn, Tells, TookFound, found_of, near_of, sought_stage};
-ghost use Rattle.rc_cacheread.specs.Did.{IsReaderStepUpto, ReaderCall, ReaderFilled, ReaderStepSays, reader_state};
+ghost use Rattle.rc_cacheread.specs.calls.Below.{Fillings, IsNotAway, StaysLost, TakenIn, Tells, TookFound, found_of, near_of, sought_stage};
+ghost use Rattle.rc_cacheread.specs.Did.{ReaderCall, ReaderFilled, reader_state};
+ghost use Rattle.rc_cacheread.specs.calls.Did.{IsReaderStepUpto, ReaderStepSays};
 ghost use Rattle.rc_cacheread.specs.Passing.{IsKnownOver};
 ghost use Rattle.rc_cacheread.specs.Sharing.{IsReady, Sees, of_below, of_filler, of_known};
-ghost use Rattle.rc_cacheread.specs.Spots.{HasNothingDue, stand};
+ghost use Rattle.rc_cacheread.specs.Spots.{stand};
+ghost use Rattle.rc_cacheread.specs.calls.Spots.{HasNothingDue};
 
 use crate::filling::{take_change, take_end, take_here, take_row, take_upto};
 use crate::readers::{CacheReader, Stage};

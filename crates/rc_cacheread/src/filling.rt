@@ -5,7 +5,7 @@ ghost use Rattle.rc_position.specs.declared.positions.Pos.{Pos};
 ghost use Rattle.rc_position.specs.Position.{row_pos};
 ghost use Rattle.rc_stream.specs.Places.{Reaches};
 ghost use Rattle.rc_stream.specs.Snapshot.{There, Throughout};
-ghost use Rattle.rc_cacheread.specs.Below.{Fillings, SaysUpto, StaysLost, TakenIn, TellsHere, TookChange, TookHere, TookNothing, TookRow, TookRowHere};
+ghost use Rattle.rc_cacheread.specs.calls.Below.{Fillings, SaysUpto, StaysLost, TakenIn, TellsHere, TookChange, TookHere, TookNothing, TookRow, TookRowHere};
 ghost use Rattle.rc_cacheread.specs.Passing.{IsKnownOver};
 ghost use Rattle.rc_cacheread.specs.Spots.{stand};
 

@@ -10,10 +10,13 @@ ghost use Rattle.rc_stream.specs.Places.{Reaches};
 ghost use Rattle.rc_stream.specs.Showing.{Blames};
 ghost use Rattle.rc_stream.specs.Snapshot.{IsPartFrom, SameKnown, There, place_behind};
 ghost use Rattle.rc_stream.specs.Stream.{Stream};
-ghost use Rattle.rc_cacheread.specs.Did.{IsQuiet, IsReaderStepUpto, KnownStep, ReaderCall, ReaderFilled, ReaderStepSays, reader_state};
-ghost use Rattle.rc_cacheread.specs.Passing.{IsKnownOver, PassesWhole};
+ghost use Rattle.rc_cacheread.specs.Did.{IsQuiet, KnownStep, ReaderCall, ReaderFilled, reader_state};
+ghost use Rattle.rc_cacheread.specs.calls.Did.{IsReaderStepUpto, ReaderStepSays};
+ghost use Rattle.rc_cacheread.specs.Passing.{IsKnownOver};
+ghost use Rattle.rc_cacheread.specs.calls.Passing.{PassesWhole};
 ghost use Rattle.rc_cacheread.specs.Sharing.{IsPlaceAt, IsReady, Sees, of_below, of_filler, of_known};
-ghost use Rattle.rc_cacheread.specs.Spots.{HasNothingDue, stand};
+ghost use Rattle.rc_cacheread.specs.Spots.{stand};
+ghost use Rattle.rc_cacheread.specs.calls.Spots.{HasNothingDue};
 
 use crate::below::read_below;
 use crate::readers::{CacheReader, Stage};

@@ -4,7 +4,8 @@ ghost use Rattle.rc_position.specs.declared.positions.Pos.{Pos};
 ghost use Rattle.rc_position.specs.Position.{pos_cmp};
 ghost use Rattle.std.specs.Ordering.{is_gt};
 ghost use Rattle.rc_stream.specs.Merging.{same_tomb};
-ghost use Rattle.rc_cacheread.specs.Spots.{GivesDue, GoesOn, IsSameSpot, HasNothingDue, WentTo, change_place, is_behind, is_row_due, is_row_from, stand, told_at};
+ghost use Rattle.rc_cacheread.specs.Spots.{change_place, stand};
+ghost use Rattle.rc_cacheread.specs.calls.Spots.{GivesDue, GoesOn, IsSameSpot, HasNothingDue, WentTo, is_behind, is_row_due, is_row_from, told_at};
 
 use rc_cell::{Row, Tomb};
 use rc_mutation::Frag;

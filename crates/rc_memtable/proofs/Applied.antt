@@ -18,7 +18,8 @@ use Rattle.rc_memory.specs.laws.Still.{still-wider}
 use Rattle.rc_chain.specs.Lives.{IsChainMade, chain_of_new}
 use Rattle.rc_memtable.specs.Changes.{KeepsChanges}
 use Rattle.rc_memtable.specs.Writes.{HasWrites, IsNewestPinned, TakesVersion, chain_of, names}
-use Rattle.rc_memtable.specs.Steps.{AreOthersKept, IsApplied, IsChangeWritten}
+use Rattle.rc_memtable.specs.Steps.{AreOthersKept, IsApplied}
+use Rattle.rc_memtable.specs.calls.Steps.{IsChangeWritten}
 use Rattle.rc_memtable.proofs.Fitting.{new-fits}
 use Rattle.rc_memtable.proofs.Named.{changes-more, key-differs, key-is, key-itself, key-or-not, names-more, unnamed}
 use Rattle.rc_memtable.proofs.Steps.{chain-beside, chain-is, kept-then}

@@ -25,7 +25,7 @@ use Rattle.rc_memory.specs.Memory.{HasVersion, Member, Memory, chain_at}
 use Rattle.rc_memory.specs.Changes.{AtAlone, FitsChanged, IsRenewed, IsRenewedWhereNone, IsVersionChanged, KeepsLast, LastIsListed, Nowhere, OfVersion, member}
 use Rattle.rc_chain.specs.laws.PlaceBeside.{memtable-settled}
 use Rattle.rc_memtable.specs.Fits.{IsVersionUnder}
-use Rattle.rc_memtable.specs.Steps.{IsChangeWritten}
+use Rattle.rc_memtable.specs.calls.Steps.{IsChangeWritten}
 use Rattle.rc_memtable.specs.calls.Writing.{CanJoinNewest}
 use Rattle.rc_memtable.proofs.Fitting.{joined-static, joined-there, on-fits, row-fits, statics-fit}
 use Rattle.rc_memtable.proofs.Kept.{pt-kept, range-kept, row-kept, statics-kept}

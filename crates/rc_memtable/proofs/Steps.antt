@@ -34,7 +34,8 @@ use Rattle.rc_chain.specs.laws.Numbered.{on-newest}
 use Rattle.rc_chain.specs.laws.PlaceBeside.{shown-form}
 use Rattle.rc_memtable.specs.Fits.{IsVersionUnder}
 use Rattle.rc_memtable.specs.Changes.{KeepsChanges}
-use Rattle.rc_memtable.specs.Steps.{AreOthersKept, IsGrown, IsChangeWritten}
+use Rattle.rc_memtable.specs.Steps.{AreOthersKept, IsGrown}
+use Rattle.rc_memtable.specs.calls.Steps.{IsChangeWritten}
 use Rattle.rc_memtable.specs.calls.Writing.{IsFreeNewest, IsOpened}
 use Rattle.rc_memtable.proofs.Kept.{over-below, over-kept}
 

@@ -34,7 +34,7 @@ use Rattle.rc_core.specs.StandsFor.{piece_of, piece_over, place_after, row_in_pa
 use Rattle.rc_core.specs.Version.{On, Version, end_position}
 use Rattle.rc_core.specs.laws.Losing.{joined-again}
 use Rattle.rc_core.specs.laws.Written.{memtable-known, no_rows_off, rows_here, rows_off}
-use Rattle.rc_memtable.specs.calls.Reading.{IsPartTaken, IsReadUpTo, SayChanges, told}
+use Rattle.rc_memtable.specs.calls.Reading.{IsPartTaken, IsReadUpTo, SayChanges, said_so_far}
 use Rattle.rc_memtable.proofs.Ending.{before-after-key, never, row-place, row-seen}
 use Rattle.rc_memtable.proofs.Whole.{GapsAreAlike, after, before-end, behind-row, covers-within}
 
@@ -72,17 +72,17 @@ first-alone : (rs : List Row) → joined_row (joined_row rs ∷ empty_row ∷ []
 first-alone rs = ap (λ r. joined_row (joined_row rs ∷ r ∷ [])) (sym joined_row-none) ∙ sym (joined_row-append rs []) ∙ ap joined_row (append-nil rs)
 
 module _ (rows : List (List Comp × Row)) (ranges : List Piece) (more_rows : List (List Comp × Row)) (more_ranges : List Piece) (p : Part) (x : Pos) (taken : IsPartTaken p x rows ranges more_rows more_ranges) where
-  more-told : (y : Pos) → told more_rows more_ranges y ≡ both_told (told rows ranges y) (of_part p x y)
+  more-told : (y : Pos) → said_so_far more_rows more_ranges y ≡ both_told (said_so_far rows ranges y) (of_part p x y)
   more-told y = λ i. ((taken.row y ∙ ap joined_row (rows_in-append y rows (row_in_part p)) ∙ joined_row-append (rows_in y rows) (rows_in y (row_in_part p))) i, taken.tomb y i)
 
   -- where the part says nothing it is as it was
-  as-it-was : (y : Pos) → of_part p x y ≡ (empty_row, None) → told more_rows more_ranges y ≡ told rows ranges y
+  as-it-was : (y : Pos) → of_part p x y ≡ (empty_row, None) → said_so_far more_rows more_ranges y ≡ said_so_far rows ranges y
   as-it-was y none =
-      more-told y ∙ ap (both_told (told rows ranges y)) none
+      more-told y ∙ ap (both_told (said_so_far rows ranges y)) none
       ∙ (λ i. (first-alone (rows_in y rows) i, greater-none (range_tomb ranges y) i))
 
   -- where nothing was read it is what the part says
-  as-the-part : (y : Pos) → told rows ranges y ≡ (empty_row, None) → told more_rows more_ranges y ≡ of_part p x y
+  as-the-part : (y : Pos) → said_so_far rows ranges y ≡ (empty_row, None) → said_so_far more_rows more_ranges y ≡ of_part p x y
   as-the-part y none =
       more-told y ∙ ap (λ a. both_told a (of_part p x y)) none
       ∙ (λ i. (second-alone (rows_in y (row_in_part p)) i, range_tomb (piece_of p x) y))
@@ -151,11 +151,11 @@ module _ (alike : GapsAreAlike) (schema : SchemaValue) (versions : List Version)
   pub read-more : (p : Part) → IsFirstPart Memtable versions x end_position p → IsBefore x (place_after p x) → (rows : List (List Comp × Row)) (ranges : List Piece) (more_rows : List (List Comp × Row)) (more_ranges : List Piece) →
       IsReadUpTo versions x rows ranges → IsPartTaken p x rows ranges more_rows more_ranges → IsReadUpTo versions (place_after p x) more_rows more_ranges
   read-more p q further rows ranges more_rows more_ranges read taken = record {
-    before = λ y l. elim (lt y x) as (λ b. lt y x ≡ b → told more_rows more_ranges y ≡ content (states_at (On y) versions)) [
+    before = λ y l. elim (lt y x) as (λ b. lt y x ≡ b → said_so_far more_rows more_ranges y ≡ content (states_at (On y) versions)) [
       | true ↦ λ e. as-it-was rows ranges more_rows more_ranges p x taken y (part-before p q y (lt-before y x e)) ∙ read.before y (lt-before y x e)
       | false ↦ λ e. as-the-part rows ranges more_rows more_ranges p x taken y (read.ahead y (not-before y x e)) ∙ part-within p q y e (before-lt y (place_after p x) l)
     ] refl;
-    ahead = λ y off. elim (lt y (place_after p x)) as (λ b. lt y (place_after p x) ≡ b → told more_rows more_ranges y ≡ (empty_row, None)) [
+    ahead = λ y off. elim (lt y (place_after p x)) as (λ b. lt y (place_after p x) ≡ b → said_so_far more_rows more_ranges y ≡ (empty_row, None)) [
       | true ↦ λ e. absurd (off (lt-before y (place_after p x) e))
       | false ↦ λ e. as-it-was rows ranges more_rows more_ranges p x taken y (part-behind p q y e) ∙ read.ahead y (λ l. off (pos_cmp_total.trans y x (place_after p x) l further))
     ] refl;
@@ -186,8 +186,8 @@ end-says changes = λ i. (
 
 -- what was read up to the end is what the changes say
 pub read-all : (schema : SchemaValue) (versions : List Version) (changes : List Mutation) → SayChanges schema versions changes → (x : Pos) (rows : List (List Comp × Row)) (ranges : List Piece) → lt x end_position ≡ false → IsReadUpTo versions x rows ranges →
-    (y : Pos) → told rows ranges y ≡ source_at changes y
-read-all schema versions changes say x rows ranges over read y = elim (lt y end_position) as (λ b. lt y end_position ≡ b → told rows ranges y ≡ source_at changes y) [
+    (y : Pos) → said_so_far rows ranges y ≡ source_at changes y
+read-all schema versions changes say x rows ranges over read y = elim (lt y end_position) as (λ b. lt y end_position ≡ b → said_so_far rows ranges y ≡ source_at changes y) [
   | true ↦ λ e. read.before y (lt-before y x (lt-le y end_position x e over)) ∙ say.stands.clustered y
   | false ↦ λ e.
       let same : y ≡ end_position = le-same y end_position (sym (gt-lt y end_position) ∙ last_pos-greatest y) e in

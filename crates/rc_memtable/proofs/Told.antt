@@ -23,10 +23,10 @@ use Rattle.rc_core.specs.Continuity.{static_states, version_tombs}
 use Rattle.rc_core.specs.StandsFor.{piece_over}
 use Rattle.rc_core.specs.Version.{Version}
 use Rattle.rc_core.specs.laws.Losing.{joined-again}
-use Rattle.rc_memtable.specs.calls.Reading.{IsPartTaken, SayChanges, told}
+use Rattle.rc_memtable.specs.calls.Reading.{IsPartTaken, SayChanges, said_so_far}
 
 pub says-the-same : (schema : SchemaValue) (versions : List Version) (changes : List Mutation) → SayChanges schema versions changes → (m : Mutation) → m.pt ≡ greatest tomb_cmp (version_tombs versions) → m.statics ≡ (content (static_states versions)).0 →
-    ((y : Pos) → told m.rows m.ranges y ≡ source_at changes y) → SameSource (m ∷ []) changes
+    ((y : Pos) → said_so_far m.rows m.ranges y ≡ source_at changes y) → SameSource (m ∷ []) changes
 says-the-same schema versions changes say m pt statics clustered = record {
   head = head-one m ∙ pt ∙ say.stands.head;
   statics =

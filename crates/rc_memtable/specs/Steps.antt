@@ -6,13 +6,11 @@ use Rattle.std.specs.Prelude.{◌≡◌, ℕ, List, ◌++◌, ◌∷◌, [], Som
 use Rattle.std.specs.Ordering.{eq_by_cmp}
 use Rattle.rc_position.specs.Position.{bytes_cmp}
 use Rattle.rc_schema.specs.SchemaValue.{SchemaValue}
-use Rattle.rc_mutation.specs.declared.mutations.Mutation.{Mutation}
 use Rattle.rc_mutation.specs.declared.mutations.Write.{Write}
 use Rattle.rc_core.specs.Chains.{IsPinned, upto}
 use Rattle.rc_registry.specs.Registry.{IsNumberIn}
 use Rattle.rc_memory.specs.Memory.{KeptChain, Memory, chain_at}
 use Rattle.rc_memory.specs.Changes.{IsUnmoved, StandStill}
-use Rattle.rc_memtable.specs.Changes.{KeepsChanges}
 use Rattle.rc_memtable.specs.Writes.{HasWrites, chain_of}
 
 -- what each snapshot sees is as it was, and so is all else of the chain but its versions
@@ -32,11 +30,6 @@ pub record AreOthersKept (id : ℕ) (old new : Memory) : Type 0 where
   pub counts : new.counts ≡ old.counts
   pub still : StandStill (λ w. w.chain ≡ id) old new
   pub region : IsUnmoved old.region new.region
-
--- a change was written into a chain: it stands for its changes with this one behind them
-pub record IsChangeWritten (schema : SchemaValue) (id : ℕ) (change : Mutation) (old new : Memory) : Type 0 where
-  pub grown : (k : KeptChain) → chain_at old id ≡ Some k → (n : KeptChain) × (chain_at new id ≡ Some n) × IsGrown k n × ((changes : List Mutation) → KeepsChanges schema k.chain changes → KeepsChanges schema n.chain (changes ++ change ∷ []))
-  pub others : AreOthersKept id old new
 
 -- A write was put behind those that the memtable stood for. Its key has a chain, the one that it had, or a new one, whose number no chain had nor was to be told.
 pub record IsApplied (schema : SchemaValue) (w : Write) (before now : List (List ℕ × ℕ)) (old new : Memory) : Type 0 where

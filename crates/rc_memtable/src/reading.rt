@@ -12,7 +12,7 @@ ghost use Rattle.rc_mutation.specs.Source.{SameSource, source_at};
 ghost use Rattle.rc_core.specs.StandsFor.{piece_over, place_after};
 ghost use Rattle.rc_core.specs.Version.{Version};
 ghost use Rattle.rc_reading.specs.Reading.{IsRowGiven};
-ghost use Rattle.rc_memtable.specs.calls.Reading.{EndsAhead, IsPartTaken, IsSeenBy, SayChanges, told};
+ghost use Rattle.rc_memtable.specs.calls.Reading.{EndsAhead, IsPartTaken, IsSeenBy, SayChanges, said_so_far};
 
 use rc_cell::{Row, Tomb};
 use rc_chain::{Chains, ReadHead, Snap};
@@ -83,7 +83,7 @@ fn read_positions<const S: usize>(
     requires rows { rows.old ≡ [] }
     requires ranges { ranges.old ≡ [] }
     ensures { (schema : SchemaValue) (versions : Sequence Version) (changes : Sequence Change) → IsSeenBy chains.now s.now.chain s.now.pin versions → SayChanges schema versions changes →
-        OnOk result ((y : Position) → told rows.new ranges.new y ≡ source_at changes y) }
+        OnOk result ((y : Position) → said_so_far rows.new ranges.new y ≡ source_at changes y) }
 {
     a_gap_is_seen_alike();
     let upto = Pos {

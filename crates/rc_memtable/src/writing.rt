@@ -12,7 +12,7 @@ ghost use Rattle.rc_core.specs.StandsFor.{written_pt, written_range, written_row
 ghost use Rattle.rc_memory.specs.Memory.{KeptChain, chain_at};
 ghost use Rattle.rc_memtable.specs.Changes.{KeepsChanges};
 ghost use Rattle.rc_memtable.specs.Writes.{IsNewestPinned, joined_need};
-ghost use Rattle.rc_memtable.specs.Steps.{IsChangeWritten};
+ghost use Rattle.rc_memtable.specs.calls.Steps.{IsChangeWritten};
 ghost use Rattle.rc_memtable.specs.calls.Writing.{CanWrite, IsOpened, CanJoinNewest};
 
 use rc_cell::{Row, Tomb};

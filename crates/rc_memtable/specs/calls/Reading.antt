@@ -50,8 +50,8 @@ pub record SayChanges (schema : SchemaValue) (versions : List Version) (changes 
   pub some : 0 < length versions
 
 -- what rows and range tombstones say at a position
-abbrev pub told : List (List Comp × Row) → List Piece → Pos → Row × Option Tomb
-told rows ranges y = (joined_row (rows_in y rows), range_tomb ranges y)
+abbrev pub said_so_far : List (List Comp × Row) → List Piece → Pos → Row × Option Tomb
+said_so_far rows ranges y = (joined_row (rows_in y rows), range_tomb ranges y)
 
 -- a part can be put behind what was read up to a place: a row of which something was written, or a gap, that ends behind the place
 abbrev pub EndsAhead : Part → Pos → Type 0
@@ -67,5 +67,5 @@ pub record IsPartTaken (p : Part) (x : Pos) (rows : List (List Comp × Row)) (ra
 
 -- what was read up to a place says at each position before it what is seen there, and nothing from it on
 pub record IsReadUpTo (versions : List Version) (x : Pos) (rows : List (List Comp × Row)) (ranges : List Piece) : Type 0 where
-  pub before : (y : Pos) → IsBefore y x → told rows ranges y ≡ content (states_at (On y) versions)
-  pub ahead : (y : Pos) → (IsBefore y x → ⊥) → told rows ranges y ≡ (empty_row, None)
+  pub before : (y : Pos) → IsBefore y x → said_so_far rows ranges y ≡ content (states_at (On y) versions)
+  pub ahead : (y : Pos) → (IsBefore y x → ⊥) → said_so_far rows ranges y ≡ (empty_row, None)

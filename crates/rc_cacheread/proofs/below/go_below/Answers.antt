@@ -7,7 +7,7 @@ use Rattle.rc_stream.specs.Did.{OfNext, ReachesEnd}
 use Rattle.rc_stream.specs.Places.{Reaches}
 use Rattle.rc_stream.specs.Stream.{first_upto, is_upto}
 use Rattle.rc_cacheread.specs.declared.spots.Found.{Found}
-use Rattle.rc_cacheread.specs.Below.{Tells, TookFound, near_of}
+use Rattle.rc_cacheread.specs.calls.Below.{Tells, TookFound, near_of}
 use Rattle.rc_cacheread.specs.Did.{ReaderCall}
 use Rattle.rc_cacheread.specs.Sharing.{of_below, of_filler, of_known}
 use Rattle.rc_cacheread.specs.Spots.{stand}

@@ -4,7 +4,7 @@ use Rattle.rc_stream.specs.Leaving.{left_by}
 use Rattle.rc_stream.specs.Did.{OfNext}
 use Rattle.rc_cacheread.specs.declared.readers.Stage.TheVariants.{Within}
 use Rattle.rc_cacheread.specs.declared.spots.Step.TheVariants as step
-use Rattle.rc_cacheread.specs.Below.{TellsHere, TookHere}
+use Rattle.rc_cacheread.specs.calls.Below.{TellsHere, TookHere}
 use Rattle.rc_cacheread.specs.Did.{ReaderCall}
 use Rattle.rc_cacheread.specs.Sharing.{of_below, of_filler, of_known}
 use Rattle.rc_cacheread.specs.Spots.{stand}

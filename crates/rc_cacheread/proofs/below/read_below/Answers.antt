@@ -3,7 +3,7 @@ use Rattle.std.proofs.Common.{true, sym, subst, ap}
 use Rattle.rc_stream.specs.Did.{OfNext, answered}
 use Rattle.rc_stream.specs.Places.{Reaches}
 use Rattle.rc_cacheread.proofs.Orders.{reach-itself}
-use Rattle.rc_cacheread.specs.Below.{IsNotAway}
+use Rattle.rc_cacheread.specs.calls.Below.{IsNotAway}
 use Rattle.rc_cacheread.specs.Did.{ReaderCall, reader_state, ReaderFilled}
 use Rattle.rc_cacheread.specs.Sharing.{of_below, of_filler, of_known}
 use Rattle.rc_cacheread.specs.Spots.{stand}

@@ -4,7 +4,7 @@ use Rattle.std.proofs.Common.{sym, subst}
 use Rattle.rc_cell.specs.declared.rows.Row.{Row}
 use Rattle.rc_position.specs.declared.positions.Pos.{Pos}
 use Rattle.rc_position.specs.Position.{row_pos}
-use Rattle.rc_cacheread.specs.Below.{Filling}
+use Rattle.rc_cacheread.specs.calls.Below.{Filling}
 use Rattle.rc_cacheread.proofs.Chains.{one}
 use Rattle.rc_cacheread.proofs.filling.fill_none.Goals as goal
 

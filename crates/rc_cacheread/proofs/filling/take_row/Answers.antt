@@ -2,7 +2,7 @@
 use Rattle.std.proofs.Common.{refl, sym, ap, ◌∙◌, inl, inr}
 use Rattle.std.specs.Ordering.{is_lt}
 use Rattle.rc_position.specs.Position.{row_pos}
-use Rattle.rc_cacheread.specs.Below.{Filling}
+use Rattle.rc_cacheread.specs.calls.Below.{Filling}
 use Rattle.rc_cacheread.proofs.Chains.{many-many, one, none}
 use Rattle.rc_cacheread.proofs.Lists.{untrue}
 use Rattle.rc_cacheread.proofs.Orders.{not-lt}

@@ -3,7 +3,7 @@ use Rattle.std.specs.Prelude.{◌≡◌}
 use Rattle.std.proofs.Common.{refl, sym, ap, ◌∙◌, subst, inl, inr}
 use Rattle.std.specs.Ordering.{is_eq}
 use Rattle.rc_position.specs.Position.{row_pos}
-use Rattle.rc_cacheread.specs.Below.{Filling}
+use Rattle.rc_cacheread.specs.calls.Below.{Filling}
 use Rattle.rc_cacheread.proofs.Chains.{one}
 use Rattle.rc_cacheread.proofs.Lists.{untrue}
 use Rattle.rc_cacheread.proofs.Orders.{at-itself, is-eq, reach-itself}

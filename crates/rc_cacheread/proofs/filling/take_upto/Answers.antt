@@ -1,5 +1,5 @@
 -- Nothing stands up to the position, nor at it.
-use Rattle.rc_cacheread.specs.Below.{Filling}
+use Rattle.rc_cacheread.specs.calls.Below.{Filling}
 use Rattle.rc_cacheread.proofs.Chains.{many-many, none}
 use Rattle.rc_cacheread.proofs.Orders.{before-reach, reach-itself}
 use Rattle.std.specs.Prelude.{⊤}

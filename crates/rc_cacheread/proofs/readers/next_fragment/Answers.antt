@@ -2,7 +2,8 @@
 use Rattle.std.proofs.Common.{Ok, true, false, refl, sym, ap, ◌∙◌, subst, arith}
 use Rattle.rc_stream.specs.Did.{OfNext, answered}
 use Rattle.std.specs.Prelude.{IfOk}
-use Rattle.rc_cacheread.specs.Did.{IsReaderStepUpto, ReaderDid, ReaderStepSays}
+use Rattle.rc_cacheread.specs.Did.{ReaderDid}
+use Rattle.rc_cacheread.specs.calls.Did.{IsReaderStepUpto, ReaderStepSays}
 use Rattle.rc_cacheread.specs.Sharing.{Sees, of_below, of_filler, of_known}
 use Rattle.rc_cacheread.proofs.Rounds.{did-after, did-nothing, did-stopped, named-on}
 use Rattle.rc_cacheread.proofs.Stepping.{ends-on}

@@ -8,7 +8,8 @@ use Rattle.rc_mutation.specs.Fragments.{tomb_after}
 use Rattle.rc_cacheread.specs.declared.spots.Turn.TheVariants as turn
 use Rattle.rc_cacheread.specs.Did.{IsKnownFor, KnownStep, ReaderCall, ReaderFilled}
 use Rattle.rc_cacheread.specs.Sharing.{of_below, of_filler, of_known}
-use Rattle.rc_cacheread.specs.Spots.{GivesDue, stand}
+use Rattle.rc_cacheread.specs.Spots.{stand}
+use Rattle.rc_cacheread.specs.calls.Spots.{GivesDue}
 use Rattle.rc_cacheread.proofs.Chains.{chain-none}
 use Rattle.rc_cacheread.proofs.Idle.{idle-stand}
 use Rattle.rc_cacheread.proofs.Orders.{reach-itself}

@@ -4,7 +4,7 @@ use Rattle.rc_cell.specs.Winner.{IsRow}
 use Rattle.rc_mutation.specs.declared.mutations.Mutation.{Mutation}
 use Rattle.rc_writes.specs.Allowed.{IsRangeBound, IsRowOf, IsStaticOf}
 use Rattle.rc_core.specs.StandsFor.{written_statics}
-use Rattle.rc_memtable.specs.Steps.{IsChangeWritten}
+use Rattle.rc_memtable.specs.calls.Steps.{IsChangeWritten}
 use Rattle.rc_memtable.proofs.OnePlace.{single-pt, single-range, single-row, single-statics}
 use Rattle.rc_memtable.proofs.Ready.{all-first, first-of-slice, none-of, nothing-of-slice, one-of, other-of}
 use Rattle.rc_memtable.proofs.writing.write_newest.Goals as goal

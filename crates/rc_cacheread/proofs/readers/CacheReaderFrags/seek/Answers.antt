@@ -4,7 +4,8 @@ use Rattle.rc_stream.specs.Did.{OfHead, OfSeek}
 use Rattle.rc_stream.specs.Places.{Reaches}
 use Rattle.rc_cacheread.specs.Did.{KnownStep, ReaderCall}
 use Rattle.rc_cacheread.specs.Sharing.{of_below, of_filler, of_known}
-use Rattle.rc_cacheread.specs.Spots.{GoesOn, stand}
+use Rattle.rc_cacheread.specs.Spots.{stand}
+use Rattle.rc_cacheread.specs.calls.Spots.{GoesOn}
 use Rattle.rc_cacheread.proofs.Chains.{chain-none}
 use Rattle.rc_cacheread.proofs.Orders.{reach-itself}
 use Rattle.rc_cacheread.proofs.Sought.{on-begun, ready-begun, sees-begun, sees-sought}

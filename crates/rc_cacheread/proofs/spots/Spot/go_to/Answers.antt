@@ -2,7 +2,7 @@
 use Rattle.std.proofs.Common.{sym, ap, ◌∙◌, subst}
 use Rattle.std.specs.Ordering.{is_gt}
 use Rattle.rc_position.specs.Position.{IsBefore}
-use Rattle.rc_cacheread.specs.Spots.{told_at}
+use Rattle.rc_cacheread.specs.calls.Spots.{told_at}
 use Rattle.rc_cacheread.proofs.Orders.{is-gt}
 use Rattle.rc_cacheread.proofs.spots.Spot.go_to.Goals as goal
 

@@ -1,6 +1,6 @@
 -- How far a seek goes within what is due.
 use Rattle.std.proofs.Common.{None, sym, ap, ◌∙◌, subst}
-use Rattle.rc_cacheread.specs.Spots.{WentTo, told_at}
+use Rattle.rc_cacheread.specs.calls.Spots.{WentTo, told_at}
 use Rattle.rc_cacheread.proofs.Idle.{sought-change, sought-row, spot, went-on}
 use Rattle.rc_cacheread.proofs.spots.Spot.seek.Goals as goal
 

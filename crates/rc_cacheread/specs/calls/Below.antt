@@ -1,7 +1,4 @@
--- What is read of the stream below, in a stretch that is not known.
---     Fillings      fills, one after another
---     TakenIn       what fills leave of what is known
---     Took..        what a fragment that was read makes of a place
+-- What is read of the stream below in a stretch that is not known, step by step.
 use Rattle.std.specs.Prelude.{◌≡◌, ◌≢◌, ◌⊎◌, ◌≤◌, ℕ, ⊤, cond, List, Option, Some, None}
 use Rattle.std.specs.Ordering.{is_le}
 use Rattle.rc_cell.specs.declared.rows.Row.{Row}

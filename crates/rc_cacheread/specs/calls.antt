@@ -1,0 +1,5 @@
+-- What inner functions of this crate promise each other; no public clause speaks of it.
+pub mod Below
+pub mod Did
+pub mod Passing
+pub mod Spots
