@@ -8,8 +8,3 @@ use Rattle.rc_shell.specs.declared.status.Stop.TheVariants.{Ended}
 abbrev pub stop_by : Result Unit Stop → Ending → Stop
 stop_by (Ok _) ending = Ended ending
 stop_by (Err stop) ending = stop
-
--- the stop where the last line of an ending was pushed, or was not
-abbrev pub stop_by : Result Unit Stop → Ending → Stop
-stop_by (Ok _) ending = Ended ending
-stop_by (Err stop) ending = stop
