@@ -1,8 +1,8 @@
-use Rattle.std.proofs.Common.{refl, sym, ap, ◌∙◌, subst}
+use Rattle.std.proofs.Common.{refl, sym, ap, ◌∙◌, subst, arith}
 use Rattle.rc_memory.specs.Memory.{Memory}
 use Rattle.rc_unstored.specs.Memtables.{HaveWrites, Memtables}
 use Rattle.rc_unstored.specs.Readers.{AllStillSee}
-use Rattle.rc_unstored.proofs.Applying.{full-for, put-seen, put-stands}
+use Rattle.rc_unstored.proofs.Applying.{full-for, put-seen, put-stands, room-more}
 use Rattle.rc_unstored.proofs.Keeping.{both-moved, on-err}
 use Rattle.rc_unstored.proofs.unstored.Unstored.put.Goals as goal
 
@@ -34,3 +34,13 @@ returns-in_ok-apply-in-Ready-clause-seen g c =
     let u : Memtables = record { memory = c.self.inside.chains; sealed = c.self.inside.sealed; active = c.self.inside.active } in
     subst (λ (x : Memtables). AllStillSee x.memory c.apply.new.chains) c.self.view_is
     (put-seen c.args.schema.now c.args.w.now u c.apply.new.self c.ensure.new.self c.apply.new.chains c.ensure.ensures.untouched.chains c.in_ok-apply-in-Ready.ensures.applied)
+
+-- what was enough before objects moved is enough then, and so much is spare
+pub apply-requires : goal.apply-requires
+apply-requires g c =
+    let u : Memtables = record { memory = c.self.inside.chains; sealed = c.self.inside.sealed; active = c.self.inside.active } in
+    let k = c.requires.kept in
+    let h = subst (λ (x : Memtables). HaveWrites c.args.schema.now x k.0 k.1) (sym c.self.view_is) k.2 in
+    let moved = both-moved c.args.schema.now u c.ensure.new.self k.0 k.1 c.ensure.ensures.untouched.chains h in
+    let room = room-more c.args.schema.now c.self.inside.active c.args.w.now c.self.inside.chains c.ensure.new.self c.need-need.result _ c.ensure.ensures.untouched.chains (c.in-Ready.ensures.ready refl) c.need-need.ensures.room in
+    (omega arith, (c.requires.small, (c.requires.single, (c.requires.fits, ((k.1, moved.active), room)))))
