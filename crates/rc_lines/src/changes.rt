@@ -1,7 +1,7 @@
 //! What a line writes, by its words.
 
 ghost use Rattle.std.specs.Prelude.{◌≡◌, IfOk, map};
-ghost use Rattle.rc_lines.specs.calls.Shapes.{row_change, inserted, update_change, removed, deleted, range_deleted, partition_deleted, static_set, static_removed, insert_of, update_of, unset_of, delete_of, delrange_of, delpart_of, static_change, unstatic_of, cell_change_of, deletion_of, change_of};
+ghost use Rattle.rc_lines.specs.calls.Shapes.{row_change, range_deleted, insert_of, update_of, unset_of, delete_of, delrange_of, delpart_of, static_change, unstatic_of, cell_change_of, deletion_of, change_of};
 
 use crate::bounds::{begins_at, ends_at, pieces};
 use crate::cells::{cells, some_cells};
@@ -35,74 +35,6 @@ fn row(
     }))
 }
 
-/// A marker and live cells.
-#[tactic(auto, unfolding(crate::specs::calls::Shapes::inserted))]
-fn inserted(
-    alloc: Global,
-    ck: &[u8],
-    when: &[u8],
-    sets: &[&[u8]],
-) -> Result<Option<Change>, AllocError>
-    ensures { IfOk result (λ found. found ≡ inserted ck.now when.now (map (λ word. word.now) sets.now)) }
-{
-    let Some(ts) = stamp(when) else {
-        return Ok(None);
-    };
-    let cells = cells(alloc, Stamp::Alive(ts), sets)?;
-    row(alloc, ck, Some(ts), None, cells)
-}
-
-/// Live cells.
-#[tactic(auto, unfolding(crate::specs::calls::Shapes::update_change))]
-fn updated(
-    alloc: Global,
-    ck: &[u8],
-    when: &[u8],
-    sets: &[&[u8]],
-) -> Result<Option<Change>, AllocError>
-    ensures { IfOk result (λ found. found ≡ update_change ck.now when.now (map (λ word. word.now) sets.now)) }
-{
-    let Some(ts) = stamp(when) else {
-        return Ok(None);
-    };
-    let cells = some_cells(alloc, Stamp::Alive(ts), sets)?;
-    row(alloc, ck, None, None, cells)
-}
-
-/// Dead cells.
-#[tactic(auto, unfolding(crate::specs::calls::Shapes::removed))]
-fn removed(
-    alloc: Global,
-    ck: &[u8],
-    when: &[u8],
-    since: &[u8],
-    names: &[&[u8]],
-) -> Result<Option<Change>, AllocError>
-    ensures { IfOk result (λ found. found ≡ removed ck.now when.now since.now (map (λ word. word.now) names.now)) }
-{
-    let Some(tomb) = tomb(when, since) else {
-        return Ok(None);
-    };
-    let cells = some_cells(alloc, Stamp::Gone(tomb), names)?;
-    row(alloc, ck, None, None, cells)
-}
-
-/// A row tombstone.
-#[tactic(auto, unfolding(crate::specs::calls::Shapes::deleted))]
-fn deleted(
-    alloc: Global,
-    ck: &[u8],
-    when: &[u8],
-    since: &[u8],
-) -> Result<Option<Change>, AllocError>
-    ensures { IfOk result (λ found. found ≡ deleted ck.now when.now since.now) }
-{
-    let Some(tomb) = tomb(when, since) else {
-        return Ok(None);
-    };
-    row(alloc, ck, None, Some(tomb), Some(Named::empty(alloc)))
-}
-
 /// A range tombstone.
 #[tactic(auto, unfolding(crate::specs::calls::Shapes::range_deleted))]
 fn range_deleted(
@@ -126,71 +58,44 @@ fn range_deleted(
     Ok(Some(Change::OfRange { from, to, tomb }))
 }
 
-/// A partition tombstone.
-#[tactic(auto, unfolding(crate::specs::calls::Shapes::partition_deleted))]
-fn partition_deleted(when: &[u8], since: &[u8]) -> Option<Change>
-    ensures { result ≡ partition_deleted when.now since.now }
-{
-    let tomb = tomb(when, since)?;
-    Some(Change::OfPartition(tomb))
-}
-
-/// Live static cells.
-#[tactic(auto, unfolding(crate::specs::calls::Shapes::static_set))]
-fn static_set(alloc: Global, when: &[u8], sets: &[&[u8]]) -> Result<Option<Change>, AllocError>
-    ensures { IfOk result (λ found. found ≡ static_set when.now (map (λ word. word.now) sets.now)) }
-{
-    let Some(ts) = stamp(when) else {
-        return Ok(None);
-    };
-    let Some(cells) = some_cells(alloc, Stamp::Alive(ts), sets)? else {
-        return Ok(None);
-    };
-    Ok(Some(Change::OfStatic(cells)))
-}
-
-/// Dead static cells.
-#[tactic(auto, unfolding(crate::specs::calls::Shapes::static_removed))]
-fn static_removed(
-    alloc: Global,
-    when: &[u8],
-    since: &[u8],
-    names: &[&[u8]],
-) -> Result<Option<Change>, AllocError>
-    ensures { IfOk result (λ found. found ≡ static_removed when.now since.now (map (λ word. word.now) names.now)) }
-{
-    let Some(tomb) = tomb(when, since) else {
-        return Ok(None);
-    };
-    let Some(cells) = some_cells(alloc, Stamp::Gone(tomb), names)? else {
-        return Ok(None);
-    };
-    Ok(Some(Change::OfStatic(cells)))
-}
-
-/// The words behind `insert KEY`: CK, a timestamp, and any number of `NAME=VALUE`.
+/// The words behind `insert KEY`: CK, a timestamp, and any number of `NAME=VALUE`. They write a marker and live cells.
+#[tactic(auto, unfolding(crate::specs::calls::Shapes::inserted))]
 fn insert(alloc: Global, words: &[&[u8]]) -> Result<Option<Change>, AllocError>
     ensures { IfOk result (λ found. found ≡ insert_of (map (λ word. word.now) words.now)) }
 {
     match words {
         [] => Ok(None),
         [_ck] => Ok(None),
-        [ck, when, sets @ ..] => inserted(alloc, ck, when, sets),
+        [ck, when, sets @ ..] => {
+            let Some(ts) = stamp(when) else {
+                return Ok(None);
+            };
+            let cells = cells(alloc, Stamp::Alive(ts), sets)?;
+            row(alloc, ck, Some(ts), None, cells)
+        }
     }
 }
 
-/// The words behind `update KEY`: CK, a timestamp, and at least one `NAME=VALUE`.
+/// The words behind `update KEY`: CK, a timestamp, and at least one `NAME=VALUE`. They write live cells.
+#[tactic(auto, unfolding(crate::specs::calls::Shapes::update_change))]
 fn update(alloc: Global, words: &[&[u8]]) -> Result<Option<Change>, AllocError>
     ensures { IfOk result (λ found. found ≡ update_of (map (λ word. word.now) words.now)) }
 {
     match words {
         [] => Ok(None),
         [_ck] => Ok(None),
-        [ck, when, sets @ ..] => updated(alloc, ck, when, sets),
+        [ck, when, sets @ ..] => {
+            let Some(ts) = stamp(when) else {
+                return Ok(None);
+            };
+            let cells = some_cells(alloc, Stamp::Alive(ts), sets)?;
+            row(alloc, ck, None, None, cells)
+        }
     }
 }
 
-/// The words behind `unset KEY`: CK, a tombstone's two words, and at least one NAME.
+/// The words behind `unset KEY`: CK, a tombstone's two words, and at least one NAME. They write dead cells.
+#[tactic(auto, unfolding(crate::specs::calls::Shapes::removed))]
 fn unset(alloc: Global, words: &[&[u8]]) -> Result<Option<Change>, AllocError>
     ensures { IfOk result (λ found. found ≡ unset_of (map (λ word. word.now) words.now)) }
 {
@@ -198,11 +103,18 @@ fn unset(alloc: Global, words: &[&[u8]]) -> Result<Option<Change>, AllocError>
         [] => Ok(None),
         [_ck] => Ok(None),
         [_ck, _when] => Ok(None),
-        [ck, when, since, names @ ..] => removed(alloc, ck, when, since, names),
+        [ck, when, since, names @ ..] => {
+            let Some(tomb) = tomb(when, since) else {
+                return Ok(None);
+            };
+            let cells = some_cells(alloc, Stamp::Gone(tomb), names)?;
+            row(alloc, ck, None, None, cells)
+        }
     }
 }
 
-/// The words behind `delete KEY`: CK and a tombstone's two words.
+/// The words behind `delete KEY`: CK and a tombstone's two words. They write a row tombstone.
+#[tactic(auto, unfolding(crate::specs::calls::Shapes::deleted))]
 fn delete(alloc: Global, words: &[&[u8]]) -> Result<Option<Change>, AllocError>
     ensures { IfOk result (λ found. found ≡ delete_of (map (λ word. word.now) words.now)) }
 {
@@ -210,7 +122,12 @@ fn delete(alloc: Global, words: &[&[u8]]) -> Result<Option<Change>, AllocError>
         [] => Ok(None),
         [_ck] => Ok(None),
         [_ck, _when] => Ok(None),
-        [ck, when, since] => deleted(alloc, ck, when, since),
+        [ck, when, since] => {
+            let Some(tomb) = tomb(when, since) else {
+                return Ok(None);
+            };
+            row(alloc, ck, None, Some(tomb), Some(Named::empty(alloc)))
+        }
         [_ck, _when, _since, _more, _rest @ ..] => Ok(None),
     }
 }
@@ -229,36 +146,58 @@ fn delrange(alloc: Global, words: &[&[u8]]) -> Result<Option<Change>, AllocError
     }
 }
 
-/// The words behind `delpart KEY`: a tombstone's two words.
+/// The words behind `delpart KEY`: a tombstone's two words. They write a partition tombstone.
+#[tactic(auto, unfolding(crate::specs::calls::Shapes::partition_deleted))]
 fn delpart(words: &[&[u8]]) -> Option<Change>
     ensures { result ≡ delpart_of (map (λ word. word.now) words.now) }
 {
     match words {
         [] => None,
         [_when] => None,
-        [when, since] => partition_deleted(when, since),
+        [when, since] => {
+            let tomb = tomb(when, since)?;
+            Some(Change::OfPartition(tomb))
+        }
         [_when, _since, _more, _rest @ ..] => None,
     }
 }
 
-/// The words behind `static KEY`: a timestamp, and at least one `NAME=VALUE`.
+/// The words behind `static KEY`: a timestamp, and at least one `NAME=VALUE`. They write live static cells.
+#[tactic(auto, unfolding(crate::specs::calls::Shapes::static_set))]
 fn set_static(alloc: Global, words: &[&[u8]]) -> Result<Option<Change>, AllocError>
     ensures { IfOk result (λ found. found ≡ static_change (map (λ word. word.now) words.now)) }
 {
     match words {
         [] => Ok(None),
-        [when, sets @ ..] => static_set(alloc, when, sets),
+        [when, sets @ ..] => {
+            let Some(ts) = stamp(when) else {
+                return Ok(None);
+            };
+            let Some(cells) = some_cells(alloc, Stamp::Alive(ts), sets)? else {
+                return Ok(None);
+            };
+            Ok(Some(Change::OfStatic(cells)))
+        }
     }
 }
 
-/// The words behind `unstatic KEY`: a tombstone's two words, and at least one NAME.
+/// The words behind `unstatic KEY`: a tombstone's two words, and at least one NAME. They write dead static cells.
+#[tactic(auto, unfolding(crate::specs::calls::Shapes::static_removed))]
 fn unset_static(alloc: Global, words: &[&[u8]]) -> Result<Option<Change>, AllocError>
     ensures { IfOk result (λ found. found ≡ unstatic_of (map (λ word. word.now) words.now)) }
 {
     match words {
         [] => Ok(None),
         [_when] => Ok(None),
-        [when, since, names @ ..] => static_removed(alloc, when, since, names),
+        [when, since, names @ ..] => {
+            let Some(tomb) = tomb(when, since) else {
+                return Ok(None);
+            };
+            let Some(cells) = some_cells(alloc, Stamp::Gone(tomb), names)? else {
+                return Ok(None);
+            };
+            Ok(Some(Change::OfStatic(cells)))
+        }
     }
 }
 

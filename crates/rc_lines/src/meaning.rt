@@ -139,8 +139,9 @@ fn range_change(
     if !is_short_slice(schema, &slice) {
         return Ok(Err(Refusal::TooLong));
     }
+    let ranges = ranges(alloc, slice, tomb)?;
     let mut mutation = Mutation::empty(alloc);
-    mutation.ranges = ranges(alloc, slice, tomb)?;
+    mutation.ranges = ranges;
     Ok(Ok(mutation))
 }
 
@@ -239,13 +240,13 @@ fn open(
 pub(crate) fn meaning(
     alloc: Global,
     schema: &Schema,
-    shape: Shape,
+    shape: &Shape,
 ) -> Result<Result<Command, Refusal>, AllocError>
-    ensures { IfOk result (λ m. m ≡ meaning schema.now shape) }
+    ensures { IfOk result (λ m. m ≡ meaning schema.now shape.now) }
 {
     match shape {
-        Shape::Plain(command) => Ok(Ok(command)),
-        Shape::Open { id, key, from, to } => open(alloc, schema, id, &key, &from, &to),
-        Shape::Written { key, change } => put(alloc, schema, &key, &change),
+        Shape::Plain(command) => Ok(Ok(command.copy(alloc)?)),
+        Shape::Open { id, key, from, to } => open(alloc, schema, *id, key, from, to),
+        Shape::Written { key, change } => put(alloc, schema, key, change),
     }
 }

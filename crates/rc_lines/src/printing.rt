@@ -4,7 +4,7 @@ ghost use Rattle.std.specs.Prelude.{◌≡◌, ◌++◌, ◌∷◌, decimal, fla
 ghost use Rattle.rc_spelling.specs.Printed.{printed};
 ghost use Rattle.rc_lines.specs.Lines.{column_name};
 ghost use Rattle.rc_lines.specs.Texts.{values_text, line_text, refusal_text, figures_text, reply_text};
-ghost use Rattle.rc_lines.specs.calls.TextParts.{given_text, fixed_text, named_figure, memory_text, cached_text, served_text, done_text, figure_parts};
+ghost use Rattle.rc_lines.specs.calls.TextParts.{given_text, fixed_text, named_figure};
 ghost use Rattle.rc_lines.specs.declared.commands.Refusal.TheVariants.{Damaged};
 
 use crate::commands::{Figures, Refusal, Reply};
@@ -145,75 +145,49 @@ fn print_refused(refusal: Refusal, text: &mut Vec<u8>) -> Result<(), AllocError>
     }
 }
 
-/// Appends ` NAME=NUMBER`.
+/// Appends a name and a figure.
 #[tactic(auto, unfolding(crate::specs::calls::TextParts::named_figure))]
 fn print_figure(name: &[u8], value: u64, text: &mut Vec<u8>) -> Result<(), AllocError>
-    ensures { OnOk result (text.new.items ≡ text.old.items ++ named_figure name.now value) }
+    ensures { OnOk result (text.new.items ≡ text.old.items ++ named_figure (name.now, value)) }
 {
     text.extend_from_slice(name)?;
     print_number(value, text)
 }
 
-/// Appends the figures of the memory.
-#[tactic(auto, unfolding(crate::specs::calls::TextParts::memory_text))]
-fn print_memory(figures: &Figures, text: &mut Vec<u8>) -> Result<(), AllocError>
-    ensures { OnOk result (text.new.items ≡ text.old.items ++ memory_text figures.now) }
+/// Appends each name and its figure.
+fn print_named(figures: &[(&[u8], u64)], text: &mut Vec<u8>) -> Result<(), AllocError>
+    ensures { OnOk result (text.new.items ≡ text.old.items ++ flat_map (λ e. named_figure (e.0.now, e.1)) figures.now) }
 {
-    print_figure(b" segments=", figures.segments, text)?;
-    print_figure(b" free=", figures.free, text)?;
-    print_figure(b" objects=", figures.objects, text)?;
-    print_figure(b" live=", figures.live, text)
-}
-
-/// Appends the figures of what is cached.
-#[tactic(auto, unfolding(crate::specs::calls::TextParts::cached_text))]
-fn print_cached(figures: &Figures, text: &mut Vec<u8>) -> Result<(), AllocError>
-    ensures { OnOk result (text.new.items ≡ text.old.items ++ cached_text figures.now) }
-{
-    print_figure(b" partitions=", figures.partitions, text)?;
-    print_figure(b" rows=", figures.rows, text)?;
-    print_figure(b" dummies=", figures.dummies, text)?;
+    for (name, value) in figures {
+        print_figure(name, *value, text)?;
+    }
     Ok(())
-}
-
-/// Appends the figures of how the cache served.
-#[tactic(auto, unfolding(crate::specs::calls::TextParts::served_text))]
-fn print_served(figures: &Figures, text: &mut Vec<u8>) -> Result<(), AllocError>
-    ensures { OnOk result (text.new.items ≡ text.old.items ++ served_text figures.now) }
-{
-    print_figure(b" hits=", figures.hits, text)?;
-    print_figure(b" misses=", figures.misses, text)?;
-    print_figure(b" evicted=", figures.evicted, text)
-}
-
-/// Appends the figures of what was done for it.
-#[tactic(auto, unfolding(crate::specs::calls::TextParts::done_text))]
-fn print_done(figures: &Figures, text: &mut Vec<u8>) -> Result<(), AllocError>
-    ensures { OnOk result (text.new.items ≡ text.old.items ++ done_text figures.now) }
-{
-    print_figure(b" moved=", figures.moved, text)?;
-    print_figure(b" skipped=", figures.skipped, text)?;
-    print_figure(b" asks=", figures.asks, text)
-}
-
-/// Appends the line of the figures, part by part.
-#[tactic(auto, unfolding(crate::specs::calls::TextParts::figure_parts))]
-fn print_parts(figures: &Figures, text: &mut Vec<u8>) -> Result<(), AllocError>
-    ensures { OnOk result (text.new.items ≡ text.old.items ++ figure_parts figures.now) }
-{
-    text.extend_from_slice(b"stats")?;
-    print_memory(figures, text)?;
-    print_cached(figures, text)?;
-    print_served(figures, text)?;
-    print_done(figures, text)?;
-    text.extend_from_slice(b"\n")
 }
 
 /// Appends the line of the figures.
 fn print_figures(figures: &Figures, text: &mut Vec<u8>) -> Result<(), AllocError>
     ensures { OnOk result (text.new.items ≡ text.old.items ++ figures_text figures.now) }
 {
-    print_parts(figures, text)
+    text.extend_from_slice(b"stats")?;
+    print_named(
+        &[
+            (b" segments=", figures.segments),
+            (b" free=", figures.free),
+            (b" objects=", figures.objects),
+            (b" live=", figures.live),
+            (b" partitions=", figures.partitions),
+            (b" rows=", figures.rows),
+            (b" dummies=", figures.dummies),
+            (b" hits=", figures.hits),
+            (b" misses=", figures.misses),
+            (b" evicted=", figures.evicted),
+            (b" moved=", figures.moved),
+            (b" skipped=", figures.skipped),
+            (b" asks=", figures.asks),
+        ],
+        text,
+    )?;
+    text.extend_from_slice(b"\n")
 }
 
 /// Appends the text of a reply, or a part of it.

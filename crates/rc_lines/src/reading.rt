@@ -1,6 +1,6 @@
 //! What a line commands.
 
-ghost use Rattle.std.specs.Prelude.{◌≡◌, IfOk};
+ghost use Rattle.std.specs.Prelude.{◌≡◌, IfOk, Some};
 ghost use Rattle.std.specs.Option.{option_copied};
 ghost use Rattle.rc_lines.specs.Grammar.{is_comment, schema_said, parse, ReadsLine};
 ghost use Rattle.rc_lines.specs.calls.ByShape.{shape_meaning, line_meaning, parse_by_shape};
@@ -44,21 +44,18 @@ fn schema_said(alloc: Global, line: &[u8]) -> Result<Option<Schema>, AllocError>
     }
 }
 
-/// What a line of a shape, or of none, commands.
+/// What a line of a shape commands.
 fn shape_meaning(
     alloc: Global,
     taken: Option<&Schema>,
-    shape: Option<Shape>,
+    shape: &Shape,
 ) -> Result<Result<Command, Refusal>, AllocError>
-    ensures { IfOk result (λ m. m ≡ shape_meaning (option_copied taken.entry) shape) }
+    ensures { IfOk result (λ m. m ≡ shape_meaning (option_copied taken.entry) (Some shape.now)) }
 {
-    let Some(shape) = shape else {
-        return Ok(Err(Refusal::BadLine));
-    };
-    let Some(schema) = taken else {
-        return Ok(Err(Refusal::NoSchema));
-    };
-    meaning(alloc, schema, shape)
+    match taken {
+        Some(schema) => meaning(alloc, schema, shape),
+        None => Ok(Err(Refusal::NoSchema)),
+    }
 }
 
 /// What the words of a line say before a schema is known.
@@ -80,8 +77,10 @@ fn said(
     if let Some(schema) = schema_said(alloc, line)? {
         return Ok(Ok(Command::SetSchema(schema)));
     }
-    let shape = shape_of(alloc, line)?;
-    shape_meaning(alloc, taken, shape)
+    match shape_of(alloc, line)? {
+        Some(shape) => shape_meaning(alloc, taken, &shape),
+        None => Ok(Err(Refusal::BadLine)),
+    }
 }
 
 /// What a line commands, by the shape of its words.

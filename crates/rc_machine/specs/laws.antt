@@ -3,8 +3,5 @@ pub mod Asking
 pub mod Changes
 pub mod Holding
 pub mod Folder
-pub mod FittingValues
-pub mod FittingBounds
-pub mod FittingJoins
 pub mod FittingKeys
 pub mod FittingParts

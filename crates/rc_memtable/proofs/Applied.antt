@@ -2,6 +2,7 @@
 use Rattle.std.proofs.Common.{◌≡◌, ◌-◌, ℕ, true, false, cond, List, [], ◌∷◌, ◌++◌, Option, Some, None, is_some, length, refl, sym, ap, ◌∙◌, subst, slice_index_or, arith}
 use Rattle.std.specs.Prelude.{◌||◌}
 use Rattle.std.specs.Ordering.{eq_by_cmp}
+use Rattle.lsa_region.specs.Region.{live_bytes}
 use Rattle.rc_position.specs.Position.{bytes_cmp}
 use Rattle.rc_schema.specs.SchemaValue.{SchemaValue}
 use Rattle.rc_mutation.specs.declared.mutations.Mutation.{Mutation}
@@ -19,8 +20,9 @@ use Rattle.rc_chain.specs.Lives.{IsChainMade, chain_of_new}
 use Rattle.rc_memtable.specs.Changes.{KeepsChanges}
 use Rattle.rc_memtable.specs.Writes.{HasWrites, IsNewestPinned, TakesVersion, chain_of, names}
 use Rattle.rc_memtable.specs.Steps.{AreOthersKept, IsApplied}
-use Rattle.rc_memtable.specs.calls.Steps.{IsChangeWritten}
+use Rattle.rc_memtable.specs.calls.Steps.{IsChangeWritten, chains_bytes}
 use Rattle.rc_memtable.proofs.Fitting.{new-fits}
+use Rattle.rc_memtable.proofs.Grown.{made-more}
 use Rattle.rc_memtable.proofs.Named.{changes-more, key-differs, key-is, key-itself, key-or-not, names-more, unnamed}
 use Rattle.rc_memtable.proofs.Steps.{chain-beside, chain-is, kept-then}
 
@@ -59,7 +61,7 @@ version-taken m o none h = h (subst (TakesVersion m) (sym none) tt)
 
 -- ---- one write more
 
-module _ (schema : SchemaValue) (w : Write) (old new : Memory) (id : ℕ) (h : IsChangeWritten schema id w.change old new) where
+module _ (schema : SchemaValue) (w : Write) (old new : Memory) (id : ℕ) (h : IsChangeWritten schema id w.change 360 old new) where
   -- what a chain keeps, of the key of the write and of another key
   more-here : (key : List ℕ) (writes : List Write) → eq_by_cmp bytes_cmp w.key key ≡ true → changes_to key (writes ++ w ∷ []) ≡ changes_to key writes ++ w.change ∷ []
   more-here key writes here = changes-more key writes w ∙ ap (λ b. cond b (changes_to key writes ++ w.change ∷ []) (changes_to key writes)) here
@@ -94,8 +96,8 @@ module _ (schema : SchemaValue) (w : Write) (old new : Memory) (id : ℕ) (h : I
       apart = a.apart;
     }
 
-    pub found-applied : IsApplied schema w chains chains old new
-    found-applied = record {
+    pub found-applied : live_bytes old.region ≡ chains_bytes old → live_bytes new.region ≡ chains_bytes new → IsApplied schema w chains chains old new
+    found-applied live live_now = record {
       stands = found-stands;
       id = id;
       keys = λ key. key-or-not (chain_of chains key ≡ cond (eq_by_cmp bytes_cmp w.key key) (Some id) (chain_of chains key)) (eq_by_cmp bytes_cmp w.key key)
@@ -104,11 +106,12 @@ module _ (schema : SchemaValue) (w : Write) (old new : Memory) (id : ℕ) (h : I
       had = λ n e. (sym (same_some id n (sym found ∙ e)), λ k there. let g = h.grown k there in (g.0, g.1, g.2));
       made = λ none. absurd (no_some id (sym none ∙ found));
       others = h.others;
+      grows = let grown = h.grows in omega (arith, grown, live, live_now);
     }
 
 -- ---- into a new chain
 
-module _ (schema : SchemaValue) (w : Write) (old mid new : Memory) (id : ℕ) (made : IsChainMade id Memtable None 0 old.recency old mid) (h : IsChangeWritten schema id w.change mid new)
+module _ (schema : SchemaValue) (w : Write) (old mid new : Memory) (id : ℕ) (made : IsChainMade id Memtable None 0 old.recency old mid) (h : IsChangeWritten schema id w.change 360 mid new)
     (before now : List (List ℕ × ℕ)) (none : chain_of before w.key ≡ None) (keys : (q : List ℕ) → chain_of now q ≡ cond (eq_by_cmp bytes_cmp w.key q) (Some id) (chain_of before q)) where
   made-there : chain_at mid id ≡ Some (chain_of_new Memtable None 0)
   made-there = made-now old mid id made
@@ -158,12 +161,13 @@ module _ (schema : SchemaValue) (w : Write) (old mid new : Memory) (id : ℕ) (m
         (λ apart. a.apart key other i (sym (there-now key there) ∙ e) (sym (there-now other apart) ∙ f)));
   }
 
-  pub new-applied : IsApplied schema w before now old new
-  new-applied = record {
+  pub new-applied : live_bytes old.region ≡ chains_bytes old → live_bytes new.region ≡ chains_bytes new → IsApplied schema w before now old new
+  new-applied live live_now = record {
     stands = new-stands;
     id = id;
     keys = keys;
     had = λ n e. absurd (no_some n (sym none ∙ e));
     made = λ e. (made.vacant, made.told);
     others = kept-then id old mid new made-others h.others;
+    grows = let first = made-more old mid id made.vacant made.chains in let grown = h.grows in omega (arith, first, grown, live, live_now);
   }

@@ -4,6 +4,7 @@ mod Kept
 mod Named
 mod Numbered
 mod Room
+mod Grown
 mod Steps
 mod Freed
 mod Ready

@@ -1,12 +1,14 @@
 -- A single write, by what is there of it.
-use Rattle.std.proofs.Common.{◌≡◌, List, [], ◌∷◌, Option, Some, None, sym, ap, ◌∙◌, inl, inr}
+use Rattle.std.proofs.Common.{◌≡◌, Bool, true, false, List, [], ◌∷◌, Option, Some, None, is_some, length, refl, sym, ap, ◌∙◌, subst, inl, inr}
+use Rattle.std.specs.Prelude.{◌&&◌, IsTrue, nat_le}
 use Rattle.rc_cell.specs.declared.rows.Row.{Row}
 use Rattle.rc_cell.specs.declared.writes.Tomb.{Tomb}
 use Rattle.rc_cell.specs.Winner.{empty_row}
 use Rattle.rc_position.specs.declared.comps.Comp.{Comp}
 use Rattle.rc_ranges.specs.declared.pieces.Piece.{Piece}
 use Rattle.rc_mutation.specs.declared.mutations.Mutation.{Mutation}
-use Rattle.rc_writes.specs.Single.{IsOnePlace, IsSingle}
+use Rattle.rc_mutation.specs.Fragments.{has_any, is_written}
+use Rattle.rc_writes.specs.Single.{IsOnePlace, IsSingle, just_one}
 use Rattle.rc_writes.specs.laws.OnePlace.{single-place}
 use Rattle.rc_core.specs.StandsFor.{written_pt, written_range, written_row, written_statics}
 
@@ -73,3 +75,14 @@ statics-place m one p r q = elim one [
 
 pub single-statics : (m : Mutation) → IsSingle m → m.pt ≡ None → m.rows ≡ [] → m.ranges ≡ [] → m ≡ written_statics m.statics
 single-statics m s p r q = statics-place m (single-place m s) p r q
+
+-- and then something is written of its static row
+one-at-least : (b : Bool) → IsTrue (just_one false b false false && true) → b ≡ true
+one-at-least true h = refl
+one-at-least false h = absurd (cc)
+
+pub static-written : (m : Mutation) → IsSingle m → m.pt ≡ None → m.rows ≡ [] → m.ranges ≡ [] → is_written m.statics ≡ true
+static-written m s p r q =
+    one-at-least (is_written m.statics) (subst (λ (o : Option Tomb). IsTrue (just_one (is_some o) (is_written m.statics) false false && true)) p
+    (subst (λ (rows : List (List Comp × Row)). IsTrue (just_one (is_some m.pt) (is_written m.statics) (has_any rows) false && (nat_le (length rows) 1 && true))) r
+    (subst (λ (ranges : List Piece). IsTrue (just_one (is_some m.pt) (is_written m.statics) (has_any m.rows) (has_any ranges) && (nat_le (length m.rows) 1 && nat_le (length ranges) 1))) q s)))

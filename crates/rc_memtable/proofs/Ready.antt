@@ -9,28 +9,51 @@ use Rattle.rc_position.specs.declared.comps.Comp.{Comp}
 use Rattle.rc_position.specs.declared.positions.Pos.{Pos}
 use Rattle.rc_position.specs.Position.{row_pos}
 use Rattle.rc_rowcode.specs.Objects.{dummy_size, static_size}
-use Rattle.rc_rowcode.specs.Spelling.{KeyFits, RowFits}
+use Rattle.rc_rowcode.specs.Spelling.{KeyFits, RowFits, row_code}
 use Rattle.rc_schema.specs.SchemaValue.{SchemaValue}
 use Rattle.rc_schema.specs.Largest.{largest_entry, largest_static}
 use Rattle.rc_schema.specs.laws.Fitting.{cells_fit, cells_pass, dummy_within, key_fits, key_passes}
 use Rattle.rc_writes.specs.Allowed.{IsRangeBound, IsRowOf, IsStaticOf}
+use Rattle.rc_writes.specs.Weight.{entry_weight}
+use Rattle.rc_mutation.specs.Fragments.{is_written}
+use Rattle.rc_core.specs.declared.entries.Entry.{Entry}
+use Rattle.rc_core.specs.AtPlace.{EachEntry}
+use Rattle.rc_core.specs.Continuity.{EachOf}
 use Rattle.rc_core.specs.declared.entries.Flag.TheVariants.{Inherit}
 use Rattle.rc_core.specs.Change.{joined_onto}
 use Rattle.rc_core.specs.StandsFor.{written_pt, written_range, written_row, written_statics}
 use Rattle.rc_core.specs.Steps.{join_flagged_statics, join_pt, range_joined, row_joined}
 use Rattle.rc_core.specs.Version.{IsVersion, On, Version, seen}
-use Rattle.rc_version.specs.Versions.{bytes_at, joined_bytes}
+use Rattle.rc_version.specs.Versions.{bytes_at, joined_bytes, version_bytes}
 use Rattle.rc_memory.specs.Kept.{IsSoundChain}
 use Rattle.rc_memory.specs.Memory.{HasVersion, Member, Memory, chain_at}
 use Rattle.rc_memory.specs.Changes.{AtAlone, FitsChanged, IsRenewed, IsRenewedWhereNone, IsVersionChanged, KeepsLast, LastIsListed, Nowhere, OfVersion, member}
 use Rattle.rc_chain.specs.laws.PlaceBeside.{memtable-settled}
-use Rattle.rc_memtable.specs.Fits.{IsVersionUnder}
+use Rattle.rc_memtable.specs.Fits.{IsEntryUnder, IsVersionUnder}
 use Rattle.rc_memtable.specs.calls.Steps.{IsChangeWritten}
 use Rattle.rc_memtable.specs.calls.Writing.{CanJoinNewest}
 use Rattle.rc_memtable.proofs.Fitting.{joined-static, joined-there, on-fits, row-fits, statics-fit}
+use Rattle.rc_memtable.proofs.Grown.{pt-bytes, range-bytes, row-bytes, statics-bytes, weight-pt, weight-range, weight-row, weight-statics}
 use Rattle.rc_memtable.proofs.Kept.{pt-kept, range-kept, row-kept, statics-kept}
 use Rattle.rc_memtable.proofs.Room.{entry-small, fit-together, static-small}
 use Rattle.rc_memtable.proofs.Steps.{fits-then, its-form, its-number, its-sound, last-listed, last-then, list-kept, of-fitting, range-list-kept, written-there}
+
+-- what holds of each and of each holds of each together
+each-of-two : (P Q R : Version → Type 0) → ((v : Version) → P v → Q v → R v) → (vs : List Version) → EachOf P vs → EachOf Q vs → EachOf R vs
+each-of-two P Q R both [] p q = tt
+each-of-two P Q R both (v ∷ vs) p q = (both v p.0 q.0, each-of-two P Q R both vs p.1 q.1)
+
+-- rows of the schema hold together
+if-some : (P Q : Row → Type 0) (o : Option Row) → ((row : Row) → P row → Q row) → IfSome o P → IfSome o Q
+if-some P Q None wider h = tt
+if-some P Q (Some row) wider h = wider row h
+
+rows-under : (schema : SchemaValue) (es : List Entry) → EachEntry (IsEntryUnder schema) es → EachEntry (λ e. IfSome e.row IsRow) es
+rows-under schema [] h = tt
+rows-under schema (e ∷ es) h = (if-some (λ row. (e.position ≡ row_pos e.position.prefix) × IsRowOf schema e.position.prefix row × IsRow row) IsRow e.row (λ row k. k.2) h.0.row, rows-under schema es h.1)
+
+statics-under : (schema : SchemaValue) (o : Option Row) → IfSome o (λ row. IsStaticOf schema row × IsRow row) → IfSome o IsRow
+statics-under schema o h = if-some (λ row. IsStaticOf schema row × IsRow row) IsRow o (λ row k. k.1) h
 
 module _ (S : ℕ) (schema : SchemaValue) (m : Memory) (id number bytes : ℕ) (r : CanJoinNewest S schema m id number bytes) (sound : (i : ℕ) → IfSome (chain_at m i) (λ k. IsSoundChain k.chain)) (versions : (i j : ℕ) → OfVersion m i j (λ k v. IsVersion v)) where
   pub ready-number : HasVersion m id number
@@ -48,11 +71,16 @@ module _ (S : ℕ) (schema : SchemaValue) (m : Memory) (id number bytes : ℕ) (
   fits-by : (f : Version → Version) → ((v : Version) → IsVersionUnder schema v → IsVersionUnder schema (f v)) → FitsChanged S id number f m
   fits-by f keeps = fits-then m id r.kept.0 r.kept.2 sound versions number r.kept.3.0 S f (fit-together schema r.limits S r.small _ (on-fits schema number f keeps r.kept.0.chain.versions r.kept.4.fits))
 
+  -- what a version takes more with something joined each of them takes more that is sound and of the schema
+  each-grows : (f : Version → Version) (more : ℕ) → ((v : Version) → IsVersion v → IsVersionUnder schema v → version_bytes (f v) ≤ version_bytes v + more) → EachOf (λ v. version_bytes (f v) ≤ version_bytes v + more) r.kept.0.chain.versions
+  each-grows f more grows = each-of-two IsVersion (IsVersionUnder schema) (λ v. version_bytes (f v) ≤ version_bytes v + more) grows r.kept.0.chain.versions (its-form m id r.kept.0 r.kept.2 sound versions).versions r.kept.4.fits
+
   -- ---- a partition tombstone
 
-  pub pt-there : (tomb : Tomb) (n : Memory) → IsVersionChanged id number (join_pt tomb) Nowhere m n → n.recency ≡ m.recency → (other : SchemaValue) → IsChangeWritten other id (written_pt tomb) m n
+  pub pt-there : (tomb : Tomb) (n : Memory) → IsVersionChanged id number (join_pt tomb) Nowhere m n → n.recency ≡ m.recency → (other : SchemaValue) → IsChangeWritten other id (written_pt tomb) 512 m n
   pt-there tomb n h list other = written-there m id r.kept.0 r.kept.2 sound versions number r.kept.3.0 r.kept.3.1 other (written_pt tomb) (join_pt tomb) Nowhere n (λ w no. absurd no) h list
       (λ changes keeps. pt-kept other r.kept.0.chain number r.kept.3.0 (its-form m id r.kept.0 r.kept.2 sound versions) changes keeps tomb)
+      0 (weight-pt tomb) (each-grows (join_pt tomb) 0 (λ v is under. pt-bytes tomb v))
 
   -- ---- a row
 
@@ -72,10 +100,12 @@ module _ (S : ℕ) (schema : SchemaValue) (m : Memory) (id number bytes : ℕ) (
 
   pub row-there : (key : List Comp) (row : Row) (n : Memory) → IsVersionChanged id number (row_joined (row_pos key) row) (AtAlone (member id number (Some (row_pos key)))) m n →
       OfVersion m id number (λ k v. IsRenewed k.chain.kind (member id number (Some (row_pos key))) m.recency n.recency) →
-      (other : SchemaValue) → IsRowOf other key row → IsRow row → IsChangeWritten other id (written_row key row) m n
+      (other : SchemaValue) → IsRowOf other key row → IsRow row → IsChangeWritten other id (written_row key row) 512 m n
   row-there key row n c list other h up = written-there m id r.kept.0 r.kept.2 sound versions number r.kept.3.0 r.kept.3.1 other (written_row key row) (row_joined (row_pos key) row) (AtAlone (member id number (Some (row_pos key)))) n
       (λ w at. ap (λ (x : Member). x.chain) at) c (list-kept m id r.kept.0 r.kept.2 sound versions number r.kept.3.0 r.kept.4.kind (member id number (Some (row_pos key))) n list)
       (λ changes keeps. row-kept other r.kept.0.chain number r.kept.3.0 (its-form m id r.kept.0 r.kept.2 sound versions) changes keeps key row h up)
+      (entry_weight (row_pos key) + length (row_code row)) (weight-row key row)
+      (each-grows (row_joined (row_pos key) row) (entry_weight (row_pos key) + length (row_code row)) (λ v is under. row-bytes (row_pos key) row v up is (rows-under schema v.entries under.entries)))
 
   -- ---- a static row
 
@@ -92,10 +122,12 @@ module _ (S : ℕ) (schema : SchemaValue) (m : Memory) (id number bytes : ℕ) (
 
   pub static-there : (row : Row) (n : Memory) → IsVersionChanged id number (join_flagged_statics row Inherit) (AtAlone (member id number None)) m n →
       OfVersion m id number (λ k v. IsRenewed k.chain.kind (member id number None) m.recency n.recency) →
-      (other : SchemaValue) → IsStaticOf other row → IsRow row → IsChangeWritten other id (written_statics row) m n
-  static-there row n c list other h up = written-there m id r.kept.0 r.kept.2 sound versions number r.kept.3.0 r.kept.3.1 other (written_statics row) (join_flagged_statics row Inherit) (AtAlone (member id number None)) n
+      (other : SchemaValue) → IsStaticOf other row → IsRow row → is_written row ≡ true → IsChangeWritten other id (written_statics row) 512 m n
+  static-there row n c list other h up some = written-there m id r.kept.0 r.kept.2 sound versions number r.kept.3.0 r.kept.3.1 other (written_statics row) (join_flagged_statics row Inherit) (AtAlone (member id number None)) n
       (λ w at. ap (λ (x : Member). x.chain) at) c (list-kept m id r.kept.0 r.kept.2 sound versions number r.kept.3.0 r.kept.4.kind (member id number None) n list)
       (λ changes keeps. statics-kept other r.kept.0.chain number r.kept.3.0 (its-form m id r.kept.0 r.kept.2 sound versions) changes keeps row h up)
+      (40 + length (row_code row)) (weight-statics row some)
+      (each-grows (join_flagged_statics row Inherit) (40 + length (row_code row)) (λ v is under. statics-bytes row Inherit v up (statics-under schema v.statics under.statics)))
 
   -- ---- a range tombstone
 
@@ -111,10 +143,11 @@ module _ (S : ℕ) (schema : SchemaValue) (m : Memory) (id number bytes : ℕ) (
 
   pub range-there : (from to : Pos) (tomb : Tomb) (n : Memory) → IsVersionChanged id number (range_joined from to tomb) Nowhere m n →
       OfVersion m id number (λ k v. (mid : List Member) × IsRenewedWhereNone k.chain.kind v (member id number (Some from)) m.recency mid × IsRenewedWhereNone k.chain.kind v (member id number (Some to)) mid n.recency) →
-      (other : SchemaValue) → IsRangeBound other from → IsRangeBound other to → IsChangeWritten other id (written_range from to tomb) m n
+      (other : SchemaValue) → IsRangeBound other from → IsRangeBound other to → IsChangeWritten other id (written_range from to tomb) 512 m n
   range-there from to tomb n c list other f t = written-there m id r.kept.0 r.kept.2 sound versions number r.kept.3.0 r.kept.3.1 other (written_range from to tomb) (range_joined from to tomb) Nowhere n
       (λ w no. absurd no) c (range-list-kept m id r.kept.0 r.kept.2 sound versions number r.kept.3.0 r.kept.4.kind from to n list)
       (λ changes keeps. range-kept other r.kept.0.chain number r.kept.3.0 (its-form m id r.kept.0 r.kept.2 sound versions) changes keeps from to tomb f t)
+      (entry_weight from + entry_weight to) (weight-range from to tomb) (each-grows (range_joined from to tomb) (entry_weight from + entry_weight to) (λ v is under. range-bytes from to tomb v))
 
 -- ---- what a single write needs
 

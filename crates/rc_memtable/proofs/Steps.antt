@@ -1,11 +1,12 @@
 -- One version of one chain changed, or put over the others: what becomes of that chain, and that the others are kept.
-use Rattle.std.proofs.Common.{inl, inr, ◌≡◌, ◌⊎◌, ◌<◌, ◌+◌, ℕ, suc, true, false, List, [], ◌∷◌, ◌++◌, Option, Some, None, length, refl, sym, ap, ◌∙◌, subst, slice_index_or, arith, length-append}
+use Rattle.std.proofs.Common.{inl, inr, ◌≡◌, ◌⊎◌, ◌<◌, ◌≤◌, ◌+◌, ℕ, suc, true, false, List, [], ◌∷◌, ◌++◌, Option, Some, None, length, refl, sym, ap, ◌∙◌, subst, slice_index_or, arith, length-append}
 use Rattle.std.specs.Prelude.{Contains, IfSome, IsSomeAnd}
 use Rattle.std.specs.Option.{option_map}
 use Rattle.rc_position.specs.Position.{Head}
 use Rattle.rc_position.specs.declared.positions.Pos.{Pos}
 use Rattle.rc_schema.specs.SchemaValue.{SchemaValue}
 use Rattle.rc_mutation.specs.declared.mutations.Mutation.{Mutation}
+use Rattle.rc_writes.specs.Weight.{weight}
 use Rattle.rc_core.specs.declared.entries.ChainKind.{ChainKind}
 use Rattle.rc_core.specs.declared.entries.ChainKind.TheVariants.{Memtable}
 use Rattle.rc_core.specs.declared.entries.Entry.{Entry}
@@ -17,6 +18,7 @@ use Rattle.rc_core.specs.declared.entries.Flag.TheVariants.{Inherit}
 use Rattle.rc_core.specs.Version.{IsVersion, Version}
 use Rattle.rc_core.specs.laws.Memtables.{left-alone}
 use Rattle.rc_core.specs.laws.Surgery.{each-of-back}
+use Rattle.rc_version.specs.Versions.{version_bytes}
 use Rattle.rc_registry.specs.Registry.{put}
 use Rattle.rc_memory.specs.Kept.{IsSoundChain}
 use Rattle.rc_memory.specs.Memory.{HasVersion, KeptChain, Member, Memory, IsVersionAt, chain_at, on_chain, on_shown, on_version_of}
@@ -37,6 +39,7 @@ use Rattle.rc_memtable.specs.Changes.{KeepsChanges}
 use Rattle.rc_memtable.specs.Steps.{AreOthersKept, IsGrown}
 use Rattle.rc_memtable.specs.calls.Steps.{IsChangeWritten}
 use Rattle.rc_memtable.specs.calls.Writing.{IsFreeNewest, IsOpened}
+use Rattle.rc_memtable.proofs.Grown.{over-more, version-more}
 use Rattle.rc_memtable.proofs.Kept.{over-below, over-kept}
 
 -- ---- chains by number
@@ -141,12 +144,14 @@ module _ (m : Memory) (id : ℕ) (k : KeptChain) (there : chain_at m id ≡ Some
 
     -- a write is there, and no other chain was touched
     pub written-there : (IsPinned k.chain.pins j → ⊥) → (schema : SchemaValue) (write : Mutation) (f : Version → Version) (these : Member → Type 0) (n : Memory) → ((w : Member) → these w → w.chain ≡ id) → IsVersionChanged id j f these m n → n.recency ≡ m.recency →
-        ((changes : List Mutation) → KeepsChanges schema k.chain changes → KeepsChanges schema (on_version_of j f k.chain) (changes ++ write ∷ [])) → IsChangeWritten schema id write m n
-    written-there free schema write f these n own h list keeps = record {
+        ((changes : List Mutation) → KeepsChanges schema k.chain changes → KeepsChanges schema (on_version_of j f k.chain) (changes ++ write ∷ [])) → (more : ℕ) → weight write ≡ 512 + more → EachOf (λ v. version_bytes (f v) ≤ version_bytes v + more) k.chain.versions →
+        IsChangeWritten schema id write 512 m n
+    written-there free schema write f these n own h list keeps more heavy each = record {
       grown = λ q e. subst (λ (p : KeptChain). (n' : KeptChain) × (chain_at n id ≡ Some n') × IsGrown p n' × ((changes : List Mutation) → KeepsChanges schema p.chain changes → KeepsChanges schema n'.chain (changes ++ write ∷ [])))
           (same_some k q (sym there ∙ e))
           (on_shown (on_version_of j f) k, chain-now m n id (on_shown (on_version_of j f)) k h.chains there, record { kind = refl; attached = refl; updating = refl; pins = refl; passed = refl; below = below-kept free f }, keeps);
       others = changed-kept id j f these m n own h list;
+      grows = let grown = version-more m n id j f more k h.chains there each in omega (arith, grown, heavy);
     }
 
     its-version : (v : Version) × IsVersionAt k.chain.versions j v
@@ -206,11 +211,13 @@ module _ (m : Memory) (id : ℕ) (k : KeptChain) (there : chain_at m id ≡ Some
           still = still-wider (λ w. ⊥) (λ w. w.chain ≡ id) m n (λ w no. absurd no) h.still;
           region = h.region;
         };
+        grows = over-more m n id k h.chains there;
       }
 
 -- a write into a chain whose newest version nobody pins
-pub opened-written : (schema : SchemaValue) (id number : ℕ) (change : Mutation) (m n o : Memory) → IsOpened id number m n → IsChangeWritten schema id change n o → IsChangeWritten schema id change m o
+pub opened-written : (schema : SchemaValue) (id number : ℕ) (change : Mutation) (m n o : Memory) → IsOpened id number m n → IsChangeWritten schema id change 512 n o → IsChangeWritten schema id change 360 m o
 opened-written schema id number change m n o a b = record {
   grown = λ k e. let p = a.grown k e in let q = b.grown p.0 p.1 in (q.0, q.1, grown-then k p.0 q.0 p.2 q.2, λ changes keeps. q.3 changes (p.4 schema changes keeps));
   others = kept-then id m n o a.others b.others;
+  grows = let made = a.grows in let written = b.grows in omega (arith, made, written);
 }

@@ -2,11 +2,13 @@
 --     IsGrown      a chain got something in its newest version, which nobody pinned, or got that version first
 --     AreOthersKept   all but one chain is as it was
 --     IsApplied    one write more
-use Rattle.std.specs.Prelude.{◌≡◌, ℕ, List, ◌++◌, ◌∷◌, [], Some, None, cond}
+use Rattle.std.specs.Prelude.{◌≡◌, ◌≤◌, ◌+◌, ℕ, List, ◌++◌, ◌∷◌, [], Some, None, cond}
 use Rattle.std.specs.Ordering.{eq_by_cmp}
+use Rattle.lsa_region.specs.Region.{live_bytes}
 use Rattle.rc_position.specs.Position.{bytes_cmp}
 use Rattle.rc_schema.specs.SchemaValue.{SchemaValue}
 use Rattle.rc_mutation.specs.declared.mutations.Write.{Write}
+use Rattle.rc_writes.specs.Weight.{weight}
 use Rattle.rc_core.specs.Chains.{IsPinned, upto}
 use Rattle.rc_registry.specs.Registry.{IsNumberIn}
 use Rattle.rc_memory.specs.Memory.{KeptChain, Memory, chain_at}
@@ -31,7 +33,7 @@ pub record AreOthersKept (id : ℕ) (old new : Memory) : Type 0 where
   pub still : StandStill (λ w. w.chain ≡ id) old new
   pub region : IsUnmoved old.region new.region
 
--- A write was put behind those that the memtable stood for. Its key has a chain, the one that it had, or a new one, whose number no chain had nor was to be told.
+-- A write was put behind those that the memtable stood for. Its key has a chain, the one that it had, or a new one, whose number no chain had nor was to be told. What is live is more by at most the write's weight.
 pub record IsApplied (schema : SchemaValue) (w : Write) (before now : List (List ℕ × ℕ)) (old new : Memory) : Type 0 where
   pub stands : (writes : List Write) → HasWrites schema before old writes → HasWrites schema now new (writes ++ w ∷ [])
   pub id : ℕ
@@ -39,3 +41,4 @@ pub record IsApplied (schema : SchemaValue) (w : Write) (before now : List (List
   pub had : (n : ℕ) → chain_of before w.key ≡ Some n → (n ≡ id) × ((k : KeptChain) → chain_at old id ≡ Some k → (now : KeptChain) × (chain_at new id ≡ Some now) × IsGrown k now)
   pub made : chain_of before w.key ≡ None → (chain_at old id ≡ None) × (IsNumberIn old.dropped id → ⊥)
   pub others : AreOthersKept id old new
+  pub grows : live_bytes new.region ≤ live_bytes old.region + weight w.change

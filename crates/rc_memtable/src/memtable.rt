@@ -85,7 +85,7 @@ impl Memtable {
         }
     }
 
-    /// Puts a write to one place, which fits the schema, behind the others. What snapshots see stays. The only error is want of memory, after which memtable and chains are as they were.
+    /// Puts a write to one place, which fits the schema, behind the others. What snapshots see stays, and what is live in the region is more by at most the write's weight. The only error is want of memory, after which memtable and chains are as they were.
     pub fn apply<const S: usize>(
         &mut self,
         alloc: Global,
@@ -103,6 +103,7 @@ impl Memtable {
         ensures err { OnErr result (IsSameButSlots chains.old chains.new) }
     {
         let _limits = schema.ck();
+        chains.known();
         match number_of(&self.chains, &w.key) {
             Some(id) => write_into(chains, id, &w.change),
             None => {

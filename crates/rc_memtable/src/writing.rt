@@ -1,18 +1,20 @@
 //! What is written into one chain: one thing at a time, into its newest version, which nobody pins.
-ghost use Rattle.std.specs.Prelude.{◌≡◌, ◌+◌, ◌*◌, ◌/◌, ◌≤◌, ℕ, List as Sequence, Some};
+ghost use Rattle.std.specs.Prelude.{◌≡◌, true, ◌+◌, ◌*◌, ◌/◌, ◌≤◌, ℕ, List as Sequence, Some};
 ghost use Rattle.lsa_pool.specs.Room.{spare_of};
+ghost use Rattle.lsa_region.specs.Region.{live_bytes};
 ghost use Rattle.rc_cell.specs.Winner.{IsRow};
 ghost use Rattle.rc_position.specs.Position.{IsBefore};
 ghost use Rattle.rc_schema.specs.SchemaValue.{SchemaValue};
 ghost use Rattle.rc_schema.specs.Largest.{largest_entry, largest_static};
 ghost use Rattle.rc_mutation.specs.declared.mutations.Mutation.{Mutation as Change};
+ghost use Rattle.rc_mutation.specs.Fragments.{is_written};
 ghost use Rattle.rc_writes.specs.Allowed.{ChangeFits, IsRangeBound, IsRowOf, IsStaticOf};
 ghost use Rattle.rc_writes.specs.Single.{IsSingle};
 ghost use Rattle.rc_core.specs.StandsFor.{written_pt, written_range, written_row, written_statics};
 ghost use Rattle.rc_memory.specs.Memory.{KeptChain, chain_at};
 ghost use Rattle.rc_memtable.specs.Changes.{KeepsChanges};
 ghost use Rattle.rc_memtable.specs.Writes.{IsNewestPinned, joined_need};
-ghost use Rattle.rc_memtable.specs.calls.Steps.{IsChangeWritten};
+ghost use Rattle.rc_memtable.specs.calls.Steps.{IsChangeWritten, chains_bytes};
 ghost use Rattle.rc_memtable.specs.calls.Writing.{CanWrite, IsOpened, CanJoinNewest};
 
 use rc_cell::{Row, Tomb};
@@ -24,7 +26,7 @@ use rc_position::{Key, Pos};
 // A partition tombstone into the newest version of a chain.
 fn write_tomb<const S: usize>(chains: &mut Chains<S>, id: u64, number: u64, tomb: Tomb)
     requires { (schema : SchemaValue) × CanJoinNewest S schema chains.old id number 0 }
-    ensures { (schema : SchemaValue) → IsChangeWritten schema id (written_pt tomb) chains.old chains.new }
+    ensures { (schema : SchemaValue) → IsChangeWritten schema id (written_pt tomb) 512 chains.old chains.new }
 {
     chains.known();
     chains.join_pt(id, number, tomb);
@@ -33,7 +35,7 @@ fn write_tomb<const S: usize>(chains: &mut Chains<S>, id: u64, number: u64, tomb
 // A static row into the newest version of a chain.
 fn write_static<const S: usize>(chains: &mut Chains<S>, id: u64, number: u64, row: &Row)
     requires { (schema : SchemaValue) × CanJoinNewest S schema chains.old id number (largest_static schema) × IsStaticOf schema row.now × IsRow row.now }
-    ensures { (schema : SchemaValue) → IsStaticOf schema row.now → IsRow row.now → IsChangeWritten schema id (written_statics row.now) chains.old chains.new }
+    ensures { (schema : SchemaValue) → IsStaticOf schema row.now → IsRow row.now → is_written row.now ≡ true → IsChangeWritten schema id (written_statics row.now) 512 chains.old chains.new }
 {
     chains.known();
     chains.join_static(id, number, row, Flag::Inherit);
@@ -42,7 +44,7 @@ fn write_static<const S: usize>(chains: &mut Chains<S>, id: u64, number: u64, ro
 // A row into the newest version of a chain.
 fn write_row<const S: usize>(chains: &mut Chains<S>, id: u64, number: u64, key: &Key, row: &Row)
     requires { (schema : SchemaValue) × CanJoinNewest S schema chains.old id number (largest_entry schema) × IsRowOf schema key.now row.now × IsRow row.now }
-    ensures { (schema : SchemaValue) → IsRowOf schema key.now row.now → IsRow row.now → IsChangeWritten schema id (written_row key.now row.now) chains.old chains.new }
+    ensures { (schema : SchemaValue) → IsRowOf schema key.now row.now → IsRow row.now → IsChangeWritten schema id (written_row key.now row.now) 512 chains.old chains.new }
 {
     chains.known();
     chains.join_row(id, number, key, row);
@@ -58,7 +60,7 @@ fn write_range<const S: usize>(
     tomb: Tomb,
 )
     requires { (schema : SchemaValue) × CanJoinNewest S schema chains.old id number (2 * largest_entry schema) × IsRangeBound schema from.now × IsRangeBound schema to.now × IsBefore from.now to.now }
-    ensures { (schema : SchemaValue) → IsRangeBound schema from.now → IsRangeBound schema to.now → IsChangeWritten schema id (written_range from.now to.now tomb) chains.old chains.new }
+    ensures { (schema : SchemaValue) → IsRangeBound schema from.now → IsRangeBound schema to.now → IsChangeWritten schema id (written_range from.now to.now tomb) 512 chains.old chains.new }
 {
     chains.known();
     chains.join_range(id, number, from, to, tomb);
@@ -84,7 +86,7 @@ fn open_newest<const S: usize>(chains: &mut Chains<S>, id: u64) -> u64
 // What a write says of its partition into the newest version of a chain.
 fn write_newest<const S: usize>(chains: &mut Chains<S>, id: u64, number: u64, change: &Mutation)
     requires { (schema : SchemaValue) × CanJoinNewest S schema chains.old id number (joined_need schema change.now) × IsSingle change.now × ChangeFits schema change.now }
-    ensures { (schema : SchemaValue) → ChangeFits schema change.now → IsChangeWritten schema id change.now chains.old chains.new }
+    ensures { (schema : SchemaValue) → ChangeFits schema change.now → IsChangeWritten schema id change.now 512 chains.old chains.new }
 {
     change.holds_together();
     if let Some(tomb) = change.pt {
@@ -99,11 +101,13 @@ fn write_newest<const S: usize>(chains: &mut Chains<S>, id: u64, number: u64, ch
     write_static(chains, id, number, change.statics.as_row());
 }
 
-/// Writes what a write says of its partition into a chain: into its newest version, over which another one is put first where a snapshot pins it.
+/// Writes what a write says of its partition into a chain: into its newest version, over which another one, of 152 bytes, is put first where a snapshot pins it.
 pub(crate) fn write_into<const S: usize>(chains: &mut Chains<S>, id: u64, change: &Mutation)
     requires { (schema : SchemaValue) × CanWrite S schema chains.old id change.now }
-    ensures { (schema : SchemaValue) → ChangeFits schema change.now → IsChangeWritten schema id change.now chains.old chains.new }
+    ensures written { (schema : SchemaValue) → ChangeFits schema change.now → IsChangeWritten schema id change.now 360 chains.old chains.new }
+    ensures live { live_bytes chains.new.region ≡ chains_bytes chains.new }
 {
     let number = open_newest(chains, id);
     write_newest(chains, id, number, change);
+    chains.known();
 }

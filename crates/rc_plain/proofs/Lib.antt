@@ -2,9 +2,5 @@ pub mod Places
 pub mod Keyed
 pub mod Numbers
 pub mod Listed
-pub mod Held
 pub mod Standing
-pub mod Ahead
 pub mod Tabled
-pub mod Fitting
-pub mod Opened

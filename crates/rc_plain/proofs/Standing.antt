@@ -1,6 +1,6 @@
 -- For which state the plain program stands after each step.
-use Rattle.std.proofs.Common.{◌≡◌, ◌≢◌, ◌==◌, ℕ, suc, ◌+◌, ◌-◌, ◌<◌, ◌≤◌, inl, inr, Bool, true, false, cond, not, List, [], ◌∷◌, ◌++◌, length, take, drop, map, Option, Some, None, MatchOption, nat_lt, option_map, unwrap_or, if◌then◌else◌, refl, sym, ap, subst, ◌∙◌, arith, append-nil, append_assoc}
-use Rattle.std.specs.List.{filter, AllByRecursion}
+use Rattle.std.proofs.Common.{◌≡◌, ◌==◌, ℕ, suc, ◌+◌, ◌-◌, ◌<◌, ◌≤◌, inl, inr, Bool, true, false, cond, not, List, [], ◌∷◌, ◌++◌, length, take, drop, map, Option, Some, None, nat_lt, option_map, unwrap_or, if◌then◌else◌, refl, sym, ap, subst, ◌∙◌, arith, append-nil, append_assoc}
+use Rattle.std.specs.List.{filter}
 use Rattle.std.specs.Map.{lookup, set_value}
 use Rattle.std.specs.Ordering.{eq_by_cmp}
 use Rattle.std.proofs.Math.Seq.{drop-append-le}
@@ -20,23 +20,23 @@ use Rattle.rc_query.specs.laws.Answers.{answer-joined}
 use Rattle.rc_stream.specs.declared.streams.StreamErr.{StreamErr}
 use Rattle.rc_stream.specs.declared.streams.StreamErr.TheVariants as stream_err
 use Rattle.rc_tfile.specs.declared.info.TableInfo.{TableInfo}
-use Rattle.rc_tables.specs.Located.{SaysOf}
-use Rattle.rc_tables.specs.Tables.{HoldsTables, IsDamageOf, IsJoinedAt, IsSomeJoin, changes_at, listing}
+use Rattle.rc_tables.specs.Tables.{IsDamageOf}
 use Rattle.rc_lines.specs.Fits.{CommandFits}
 use Rattle.rc_lines.specs.declared.commands.Command.{Command}
 use Rattle.rc_lines.specs.declared.commands.Command.TheVariants.{Put, OpenRead, Read, Close}
 use Rattle.rc_lines.specs.declared.commands.Reply.{Reply}
 use Rattle.rc_lines.specs.declared.commands.Reply.TheVariants as replies
 use Rattle.rc_lines.specs.declared.commands.Refusal.TheVariants.{NoReader, ReaderInUse, TooManyReaders, ReadFault, Damaged}
-use Rattle.rc_machine.specs.State.{State, Reader, Table, unstored}
-use Rattle.rc_machine.specs.Steps.{most_readers, reader_with, reader_past, sealing}
+use Rattle.rc_machine.specs.State.{State, Reader, unstored}
+use Rattle.rc_machine.specs.Standing.{IsOver}
+use Rattle.rc_machine.specs.Steps.{IsSaid, most_readers, reader_with, reader_past, sealing}
 use Rattle.rc_machine.specs.Serving.{Takes}
+use Rattle.rc_folder.specs.laws.Over.{over_sealed}
 use Rattle.rc_plain.specs.Stands.{Keeping, Stands, rests}
 use Rattle.rc_plain.specs.calls.Answering.{IsAnswer}
 use Rattle.rc_plain.specs.calls.Storing.{sealed_all}
 use Rattle.rc_plain.proofs.Places.{Readers, fewer, as_many}
 use Rattle.rc_plain.proofs.Numbers.{joined_halves}
-use Rattle.rc_plain.proofs.Held.{holds}
 
 -- ---- what readers have not given yet
 
@@ -212,26 +212,13 @@ answered_with older later key slice lines some sealed both active all changes is
     append_assoc changes (changes_to key older) (changes_to key later) ∙ ap (λ cs. changes ++ cs) (sym (changes_to-append key older later)) in
     is ∙ sym (answer-joined all (changes ++ changes_to key (older ++ later)) slice (subst (IsJoinOf all) same whole))
 
--- what the tables say, or some changes where the folder is not told, and the writes that stand in none
-pub answered : (files : Option Files) (k : Keeping) (key : List ℕ) (slice : Slice) (lines : List OutLine) (join : Mutation)
-    → ((tables : List Table) → HoldsTables files k.schema k.infos tables → IsJoinedAt key tables join)
-    → IsSomeJoin k.schema k.infos key join
+-- what the tables say, and the writes that stand in none
+pub answered : (files : Option Files) (k : Keeping) (key : List ℕ) (slice : Slice) (lines : List OutLine) (join : Mutation) → ((m : State) → IsOver files k.schema k.infos m → (said : List Mutation) × IsSaid m key said × IsJoinOf join said)
     → ((changes : List Mutation) → IsJoinOf join changes → lines ≡ answer (changes ++ changes_to key (k.sealed ++ k.active)) slice)
     → (m : State) → Stands files k m → IsAnswer m key slice lines
-answered None k key slice lines join joined some is m s =
-    let fewer : length some.changes ≤ listing key m.infos = subst (λ (infos : List TableInfo). length some.changes ≤ listing key infos) (sym s.over.infos) some.count in
-    let fit : AllByRecursion (SaysOf m.schema) some.changes = subst (λ schema. AllByRecursion (SaysOf schema) some.changes) (sym s.over.schema) some.fit in (
-      some.changes,
-      subst (λ (files : Option Files). MatchOption files ((length some.changes ≤ listing key m.infos) × AllByRecursion (SaysOf m.schema) some.changes) (λ _. some.changes ≡ changes_at key m.tables)) (sym s.over.files) (fewer, fit),
-      is some.changes some.joined ∙ ap (λ ws. answer (some.changes ++ changes_to key ws) slice) s.log,
-    )
-answered (Some told) k key slice lines join joined some is m s =
-    let all = joined m.tables (holds told k m s) in
-    let said = changes_at key m.tables in (
-      said,
-      subst (λ (files : Option Files). MatchOption files ((length said ≤ listing key m.infos) × AllByRecursion (SaysOf m.schema) said) (λ _. said ≡ changes_at key m.tables)) (sym s.over.files) refl,
-      is said all.1 ∙ ap (λ ws. answer (said ++ changes_to key ws) slice) s.log,
-    )
+answered files k key slice lines join said is m s =
+    let all = said m s.over in
+    (all.0, all.1, is all.0 all.2 ∙ ap (λ ws. answer (all.0 ++ changes_to key ws) slice) s.log)
 
 -- a damage of what is kept inside is one of what is seen
 pub damage_seen : (inside now : Keeping) (key : List ℕ) (e : StreamErr) → inside ≡ now → IsDamageOf inside.schema key inside.infos e → IsDamageOf now.schema key now.infos e
@@ -266,33 +253,18 @@ sealing_is m (w ∷ ws) active h log is =
     let t : (m.stored == m.sealed) ≡ false = grind (arith, nat_tests, is) in
     sealing_at m false t ∙ is ∙ ap (λ (b : Bool). m.stored + length (if b then active else w ∷ ws)) (sym (not_none (length ws)))
 
-sealing_within : (m : State) (b : Bool) → (m.stored == m.sealed) ≡ b → m.sealed ≤ length m.log → sealing m ≤ length m.log
-sealing_within m true e h = (let all = sealing_at m true e in omega (arith, all))
-sealing_within m false e h = (let all = sealing_at m false e in omega (arith, all, h))
-
 -- the writes are sealed
 pub stands_sealed : (files : Option Files) (k : Keeping) (m : State) → Stands files k m → Stands files (sealed_all k) (record m { sealed = sealing m })
 stands_sealed files k m s =
     let is : sealing m ≡ m.stored + length (sealed_all k).sealed = sealing_is m k.sealed k.active (stored_within files k m s) s.log s.sealed in
     record {
-      over = record {
-        schema = s.over.schema;
-        files = s.over.files;
-        infos = s.over.infos;
-        tables = s.over.tables;
-        listed = s.over.listed;
-        stored = omega (arith, is);
-        sealed = sealing_within m (m.stored == m.sealed) refl s.over.sealed;
-        fit = s.over.fit;
-      };
+      over = over_sealed files k.schema k.infos m s.over;
       log = log_sealed k.sealed k.active ∙ s.log;
       sealed = is;
       whole = s.whole;
       left = s.left;
       readers = s.readers;
     }
-
--- ---- want of memory
 
 -- ---- from what the program keeps inside
 

@@ -1,3 +1,2 @@
 pub mod calls
 pub mod Stands
-pub mod Opening

@@ -2,4 +2,3 @@
 pub mod Answering
 pub mod Index
 pub mod Storing
-pub mod Opening

@@ -5,10 +5,9 @@ mod built;
 mod index;
 mod joining;
 mod memtable;
-mod opening;
 mod plain;
 mod readers;
 
 pub use built::is_built;
-pub use opening::OpenErr;
 pub use plain::Plain;
+pub use rc_folder::OpenErr;

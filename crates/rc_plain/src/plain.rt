@@ -1,8 +1,8 @@
 //! The plain program.
 
-ghost use Rattle.std.specs.Prelude.{◌≡◌, ◌+◌, ◌*◌, ◌≤◌, ◌++◌, ℕ, List, Option, All, IsTrue, MatchBool, length, IfErr, IfOk, IfSome, OnErr};
+ghost use Rattle.std.specs.Prelude.{◌≡◌, ◌+◌, ◌*◌, ◌≤◌, ◌++◌, ℕ, List, Option, Some, IsTrue, MatchBool, length, IfErr, IfOk, IfSome, OnErr};
 ghost use Rattle.std.specs.FinMap.{values};
-ghost use Rattle.rc_outside.specs.Files.{HoldsSameFiles, Files, IsNoFile};
+ghost use Rattle.rc_outside.specs.Files.{HoldsSameFiles, Files};
 ghost use Rattle.rc_outside.specs.Faults.{Rose, RisesIfFault};
 ghost use Rattle.rc_mutation.specs.declared.mutations.Mutation.{Mutation};
 ghost use Rattle.rc_mutation.specs.Source.{changes_to, IsJoinOf};
@@ -15,14 +15,15 @@ ghost use Rattle.rc_machine.specs.State.{State, Table, opened_state};
 ghost use Rattle.rc_machine.specs.Tables.{AreListed, AreTables};
 ghost use Rattle.rc_machine.specs.Built.{is_built};
 ghost use Rattle.rc_machine.specs.Serving.{FaultsAreCounted, OnFaulty, Stops, Takes, most_asks, checks_of};
+ghost use Rattle.rc_folder.specs.Opening.{IsOpeningRefused, OnOpenFault};
+ghost use Rattle.rc_folder.specs.Tabled.{IsNextNumber};
 ghost use Rattle.rc_plain.specs.calls.Answering.{IsAnswer};
-ghost use Rattle.rc_plain.specs.Opening.{IsOpeningRefused, OnOpenFault};
 ghost use Rattle.rc_plain.specs.Stands.{Stands};
-ghost use Rattle.rc_plain.specs.calls.Storing.{IsNextNumber, IsFlushAnswered, sealed_all};
+ghost use Rattle.rc_plain.specs.calls.Storing.{IsFlushAnswered, sealed_all};
 
 use crate::memtable::Memtable;
-use crate::opening::{OpenErr, check_tables};
 use crate::readers::{Rest, place_of};
+use rc_folder::{Folder, OpenErr};
 use rc_lines::{Command, Refusal, Reply};
 use rc_mutation::{Mutation, Write};
 use rc_outside::Store;
@@ -30,8 +31,7 @@ use rc_position::{PartKey, Slice};
 use rc_query::{Lines, answer_of};
 use rc_schema::Schema;
 use rc_stream::StreamErr;
-use rc_tables::{TableSet, read_joined};
-use rc_tfile::{WriteErr, plan_table, write_table};
+use rc_tfile::WriteErr;
 use std::alloc::{AllocError, Global};
 use std::marker::Model;
 use std::mem;
@@ -44,8 +44,7 @@ const MOST_READERS: usize = 64;
 /// sees these as `Keeping`.
 #[derive(Drop)]
 pub struct Plain {
-    schema: Schema,
-    tables: TableSet,
+    folder: Folder,
     sealed: Memtable,
     active: Memtable,
     readers: Vec<(u32, Rest)>,
@@ -56,7 +55,7 @@ impl Model for Plain {
 
     ghost Value = { Keeping };
 
-    ghost view = { λ m. record { schema = m.schema; infos = m.tables; sealed = m.sealed; active = m.active; readers = m.readers.items } };
+    ghost view = { λ m. record { schema = m.folder.schema; infos = m.folder.infos; sealed = m.sealed; active = m.active; readers = m.readers.items } };
 }
 
 impl Plain {
@@ -71,10 +70,9 @@ impl Plain {
         ensures store { HoldsSameFiles W.files W.building store.old store.new }
         ensures asks { IfSome (W.files store.old) (λ told. W.asks store.new ≤ W.asks store.old + checks_of (values told)) }
     {
-        let tables = check_tables(alloc, store, &schema)?;
+        let folder = Folder::open(alloc, store, schema)?;
         Ok(Plain {
-            schema,
-            tables,
+            folder,
             sealed: Memtable::new(alloc),
             active: Memtable::new(alloc),
             readers: Vec::new(alloc),
@@ -85,7 +83,7 @@ impl Plain {
     pub fn schema(&self) -> &Schema
         ensures { result.now ≡ self.now.schema }
     {
-        &self.schema
+        self.folder.schema()
     }
 
     /// Takes the step of a command that fits the schema and is one of those that are built, and gives its reply, which may be a refusal.
@@ -126,7 +124,7 @@ impl Plain {
         ensures step { (files : Option Files) → Takes Stands files self.now (Command.SetSchema schema.now) result files self.now }
         ensures faultless { (n : ℕ) → OnFaulty result (Rose n n) }
     {
-        if self.schema.is_same(schema) {
+        if self.folder.schema().is_same(schema) {
             Reply::Fine
         } else {
             Reply::Refused(Refusal::SchemaDiffers)
@@ -194,7 +192,7 @@ impl Plain {
         ensures store { HoldsSameFiles W.files W.building store.old store.new }
         ensures asks { W.asks store.new ≤ W.asks store.old + 2 * listing key.now self.now.infos }
     {
-        let change = read_joined(alloc, store, &self.tables, &self.schema, key)?;
+        let change = self.folder.read(alloc, store, key)?;
         match self.answer_with(alloc, change, key, slice) {
             Ok(lines) => Ok(lines),
             Err(_) => Err(StreamErr::NoMemory),
@@ -260,7 +258,7 @@ impl Plain {
         if self.is_flushed() {
             return Ok(Reply::Refused(Refusal::NothingToFlush));
         }
-        match self.next_number() {
+        match self.folder.next_number() {
             None => Ok(Reply::Refused(Refusal::NoNumber)),
             Some(number) => {
                 self.seal(alloc);
@@ -276,16 +274,6 @@ impl Plain {
         self.sealed.is_empty() && self.active.is_empty()
     }
 
-    // The number of the next table: one more than the last one's, or 1; none behind the greatest.
-    fn next_number(&self) -> Option<u32>
-        ensures { IsNextNumber self.now.infos result }
-    {
-        match self.tables.last_number() {
-            None => Some(1),
-            Some(number) => number.checked_add(1),
-        }
-    }
-
     // Seals the writes, unless some are.
     fn seal(&mut self, alloc: Global)
         ensures { self.new ≡ sealed_all self.old }
@@ -295,26 +283,23 @@ impl Plain {
         }
     }
 
-    // Writes the sealed writes as a table of this number. What is known of it is set out before, so no memory is taken behind the file.
+    // Writes the sealed writes as a table of this number, which is the next one.
     fn write_sealed<W: Store>(
         &mut self,
         alloc: Global,
         store: &mut W,
         number: u32,
     ) -> Result<Reply, AllocError>
-        requires fit { All (λ w. CommandFits self.old.schema (Command.Put w)) self.old.sealed }
-        requires fresh { IsNoFile (W.files store.old) number }
+        requires stands { (m : State) × Stands (W.files store.old) self.old m }
+        requires number { IsNextNumber self.old.infos (Some number) }
         ensures written { IfOk result (IsFlushAnswered (W.files store.old) self.old number (W.files store.new) self.new) }
         ensures err { OnErr result ((self.new ≡ self.old) × (W.files store.new ≡ W.files store.old)) }
         ensures faults { FaultsAreCounted result (W.faults store.old) (W.faults store.new) }
         ensures asks { W.asks store.new ≡ W.asks store.old }
     {
         let parts = self.sealed.parts(alloc)?;
-        let info = plan_table(alloc, parts.as_slice(), &self.schema, number)?;
-        let tables = self.tables.with(alloc, info)?;
-        match write_table(alloc, parts.as_slice(), &self.schema, store, number) {
+        match self.folder.add(alloc, store, number, parts.as_slice()) {
             Ok(()) => {
-                self.tables = tables;
                 self.sealed = Memtable::new(alloc);
                 Ok(Reply::Fine)
             }

@@ -14,4 +14,5 @@ pub use fillers::{Fill, Filler};
 pub use known::Known;
 pub use lists::ListFrags;
 pub use merges::Merge;
+pub use rc_core::Part;
 pub use streams::{Frags, StreamErr};

@@ -45,6 +45,18 @@ impl<A, B> Merge<A, B> {
             due: None,
         }
     }
+
+    /// The two streams, as they are. What was looked at of them and not given is let go.
+    pub fn into_parts(self) -> (A, B)
+        ensures { result ≡ (self.ours.stream, self.theirs.stream) }
+    {
+        let Merge {
+            ours,
+            theirs,
+            due: _,
+        } = self;
+        (ours.into_stream(), theirs.into_stream())
+    }
 }
 
 // Looks at the next of ours up to a position, and then at the next of theirs, up to the nearer of the position and ours.

@@ -37,6 +37,14 @@ impl<A> Peeked<A> {
             held: Held::empty(),
         }
     }
+
+    /// The stream, as it is, without what is held of it.
+    pub(crate) fn into_stream(self) -> A
+        ensures { result ≡ self.stream }
+    {
+        let Peeked { stream, held: _ } = self;
+        stream
+    }
 }
 
 // Looks at the next of a stream up to a position, where nothing is held of it.

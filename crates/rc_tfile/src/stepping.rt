@@ -20,7 +20,7 @@ use rc_writes::{is_bound_of, is_row_of, is_static_of};
 use std::alloc::{AllocError, Global};
 
 /// What the next item is.
-#[derive(Clone, Copy, Debug, PartialEq, Eq)]
+#[derive(Clone, Copy)]
 pub(crate) enum Next {
     /// An item that fits, of so many bytes.
     Fits(usize),

@@ -8,14 +8,16 @@ use Rattle.rc_position.specs.Position.{bytes_cmp}
 use Rattle.rc_schema.specs.SchemaValue.{SchemaValue}
 use Rattle.rc_mutation.specs.declared.mutations.Write.{Write}
 use Rattle.rc_core.specs.Chains.{IsPinned}
-use Rattle.rc_memory.specs.Memory.{KeptChain, Memory, chain_at}
+use Rattle.rc_memory.specs.Memory.{IsUntouched, KeptChain, Memory, chain_at}
 use Rattle.rc_memory.specs.laws.Places.{no_some, same_some}
+use Rattle.rc_chain.specs.Lives.{IsSameButSlots}
 use Rattle.rc_memtable.specs.Steps.{IsApplied}
 use Rattle.rc_memtable.specs.Writes.{HasWrites, IsNewestPinned, IsRoomFor, TakesVersion, chain_of, joined_need}
 use Rattle.rc_unstored.specs.Memtables.{HaveWrites, IsFullFor, Memtables, NoneShared, with_memory}
 use Rattle.rc_unstored.specs.Readers.{AllStillSee}
+use Rattle.rc_unstored.specs.Steps.{IsNotPut, IsPutBehind, IsPutRefused}
 use Rattle.rc_unstored.proofs.Chains.{chain-same, same-or-not}
-use Rattle.rc_unstored.proofs.Keeping.{beside-has, both-moved}
+use Rattle.rc_unstored.proofs.Keeping.{beside-has, both-moved, same-keys}
 use Rattle.rc_unstored.proofs.Pins.{KeptIn, all-seen, chains-same, more-in, nothing-in, same-in, seen-then}
 
 -- ---- room, after objects have moved
@@ -88,3 +90,14 @@ module _ (schema : SchemaValue) (w : Write) (u : Memtables) (now : List (List �
 
   pub put-seen : AllStillSee u.memory n
   put-seen = seen-then u.memory mid n (chains-same u.memory mid (chain-same u.memory mid same)).alike (applied-seen schema w u.sealed u.active now mid n a)
+
+-- ---- what is left of both, whatever came of it
+
+pub put-left : (schema : SchemaValue) (w : Write) (u : Memtables) (now : List (List ℕ × ℕ)) (mid n : Memory) → IsUntouched u.memory mid → IsApplied schema w u.active now mid n → IsPutBehind schema w u (record { memory = n; sealed = u.sealed; active = now })
+put-left schema w u now mid n room applied = record { mid = mid; room = room; applied = applied; sealed = refl }
+
+pub full-left : (u : Memtables) (m : Memory) → IsUntouched u.memory m → IsNotPut u (with_memory m u)
+full-left u m room = record { room = room; keys = same-keys u m }
+
+pub refused-left : (u : Memtables) (now : List (List ℕ × ℕ)) (mid n : Memory) → IsUntouched u.memory mid → IsSameButSlots mid n → now ≡ u.active → IsPutRefused u (record { memory = n; sealed = u.sealed; active = now })
+refused-left u now mid n room slots same = record { mid = mid; room = room; slots = slots; keys = record { sealed = refl; active = same } }

@@ -61,6 +61,11 @@ once-of (e ∷ es) h = (none-behind e.0 es (sorted_head bytes_cmp e.0 (map (λ e
 first-of : (e : List ℕ × ℕ) (es : List (List ℕ × ℕ)) → chain_of (e ∷ es) e.0 ≡ Some e.1
 first-of e es = ap (λ b. cond b (Some e.1) (chain_of es e.0)) (key-itself e.0)
 
+-- where it stands for no write it has no key
+pub nothing-kept : (schema : SchemaValue) (es : List (List ℕ × ℕ)) (m : Memory) → HasWrites schema es m [] → es ≡ []
+nothing-kept schema [] m h = refl
+nothing-kept schema (e ∷ es) m h = absurd (none-found schema (e ∷ es) m h e.0 e.1 (first-of e es))
+
 later-of : (e : List ℕ × ℕ) (es : List (List ℕ × ℕ)) → chain_of es e.0 ≡ None → (key : List ℕ) (i : ℕ) → chain_of es key ≡ Some i → chain_of (e ∷ es) key ≡ Some i
 later-of e es once key i f = either (chain_of (e ∷ es) key ≡ Some i) (eq_by_cmp bytes_cmp key e.0)
     (λ same. absurd (no_some i (sym once ∙ ap (chain_of es) (sym (key-is key e.0 same)) ∙ f)))

@@ -18,6 +18,7 @@ use Rattle.rc_mutation.specs.Source.{changes_to}
 use Rattle.rc_memtable.specs.Writes.{HasWrites, chain_of, names}
 use Rattle.rc_unstored.specs.Memtables.{HaveWrites, Memtables, NoneShared, with_memory}
 use Rattle.rc_unstored.specs.Readers.{HasSnap, StillSees, SeesWrites}
+use Rattle.rc_unstored.specs.Steps.{AreSameKeys}
 use Rattle.rc_unstored.proofs.Chains.{chain-same}
 
 -- ---- keys
@@ -52,6 +53,10 @@ pub none-found : (schema : SchemaValue) (chains : List (List ℕ × ℕ)) (m : M
 none-found schema chains m h key id e = let f : true ≡ false = sym (ap is_some e) ∙ h.keys key in absurd (cc)
 
 -- ---- both
+
+-- other chains, under the same keys
+pub same-keys : (u : Memtables) (m : Memory) → AreSameKeys u (with_memory m u)
+same-keys u m = record { sealed = refl; active = refl }
 
 pub both-none : (schema : SchemaValue) (u : Memtables) → HasWrites schema u.sealed u.memory [] → HasWrites schema u.active u.memory [] → HaveWrites schema u [] []
 both-none schema u s a = record { sealed = s; active = a; apart = λ key other id e f. none-found schema u.sealed u.memory s key id e }

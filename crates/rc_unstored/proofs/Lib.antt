@@ -1,5 +1,6 @@
 mod Chains
 mod Pins
+mod Before
 mod Keeping
 mod Applying
 mod Taking

@@ -87,7 +87,7 @@ pins-back version ps i = elim (same-or-not i (free_number ps)) [
   | inr ne ↦ pin-kept (free_number ps) i (pinned version ps) ne ∙ pin-others version ps i ne
 ]
 
-same-back : (k : KeptChain) (pin : ℕ) → pin ≡ free_number k.chain.pins → (i : ℕ) → pin_at (without_snapshot pin (with_one k)).chain.pins i ≡ pin_at k.chain.pins i
+pub same-back : (k : KeptChain) (pin : ℕ) → pin ≡ free_number k.chain.pins → (i : ℕ) → pin_at (without_snapshot pin (with_one k)).chain.pins i ≡ pin_at k.chain.pins i
 same-back k pin e i = ap (λ (j : ℕ). pin_at (released j (pinned (snapshot_number k.chain) k.chain.pins)) i) e ∙ pins-back (snapshot_number k.chain) k.chain.pins i
 
 pub back-in : (o : Option KeptChain) (pin : ℕ) → IfSome o (λ k. pin ≡ free_number k.chain.pins) → KeptIn o (option_map (without_snapshot pin) (option_map with_one o))

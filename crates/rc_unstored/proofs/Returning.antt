@@ -14,7 +14,7 @@ use Rattle.rc_cursor.specs.Snapshots.{kind_in}
 use Rattle.rc_memtable.specs.LetGo.{IsFreedUnpinned}
 use Rattle.rc_memtable.specs.Writes.{HasWrites, chain_of}
 use Rattle.rc_unstored.specs.Memtables.{HaveWrites, Memtables, with_memory}
-use Rattle.rc_unstored.specs.Readers.{OthersStillSee}
+use Rattle.rc_unstored.specs.Readers.{IsReleased, OthersStillSee}
 use Rattle.rc_unstored.proofs.Chains.{chain-beside, chain-done, chain-put, same-or-not, some-chain}
 use Rattle.rc_unstored.proofs.Keeping.{beside-has}
 use Rattle.rc_unstored.proofs.Pins.{PinIn, SeenIn, fewer-in, free-in, gone-in, in-then, same-in}
@@ -42,6 +42,9 @@ module _ (s : Snap) (m n : Memory) (pin : HasPin m s.chain s.pin) where
   mid-beside i ne = chain-beside m mid s.chain (option_map (without_snapshot s.pin) (chain_at m s.chain)) i refl ne
 
   module _ (found : (k : KeptChain) → chain_at m s.chain ≡ Some k → k.chain.attached ≡ true → n ≡ mid) (freed : (k : KeptChain) → chain_at m s.chain ≡ Some k → k.chain.attached ≡ false → IsFreedUnpinned s.chain mid n) where
+    pub released-as : IsReleased s m n
+    released-as = record { found = found; freed = freed }
+
     -- it is gone, of a chain that is no longer found by its key, which nobody pins; or that is all
     abbrev IsFreed : Type 0
     IsFreed = (its.0.chain.attached ≡ false) × AreFree (without_snapshot s.pin its.0).chain.pins × (chain_at n s.chain ≡ None) × ((i : ℕ) → (i ≡ s.chain → ⊥) → chain_at n i ≡ chain_at mid i)

@@ -16,13 +16,15 @@ use Rattle.rc_memory.specs.Memory.{HasPin, IsSnapshotTaken, KeptChain, Memory, c
 use Rattle.rc_memory.specs.laws.Places.{no_some}
 use Rattle.rc_chain.specs.declared.chains.Snap.{Snap}
 use Rattle.rc_cursor.specs.Snapshots.{AreReadable, kind_in, kind_seen, versions_in, versions_seen, versions_upto}
+use Rattle.rc_memtable.specs.Partitions.{AreAsBefore, IsAsBefore}
 use Rattle.rc_memtable.specs.Writes.{HasWrites, chain_of, names}
 use Rattle.rc_unstored.specs.calls.Giving.{given_back}
 use Rattle.rc_unstored.specs.Memtables.{NoneShared}
-use Rattle.rc_unstored.specs.Readers.{AreSameSnapshots, AllStillSee, IsSnapshotOfKey}
+use Rattle.rc_unstored.specs.Readers.{AreSameSnapshots, AllStillSee, IsSnapshotOfKey, IsTakenIf}
+use Rattle.rc_unstored.proofs.Before.{before-of, before-same}
 use Rattle.rc_unstored.proofs.Chains.{chain-beside, chain-done, chain-is, chain-same, is-chain, of-chain, same-or-not}
 use Rattle.rc_unstored.proofs.Keeping.{beside-has, sees-then}
-use Rattle.rc_unstored.proofs.Pins.{KeptIn, PinIn, all-seen, back-in, chains-same, none-in, not-free, same-in, taken-in, with_one}
+use Rattle.rc_unstored.proofs.Pins.{KeptIn, PinIn, all-seen, back-in, chains-same, none-in, not-free, same-back, same-in, taken-in, with_one}
 
 -- a snapshot of a memtable's chain can be read by its parts
 abbrev pub CanBeRead : Type 0
@@ -79,19 +81,51 @@ module _ (m n : Memory) (keys : List (List ℕ × ℕ)) (key : List ℕ) where
           )
 
     -- and given back at once: all is as it was
+    at-back : chain_at (given_back (Some s) n) s.chain ≡ option_map (without_snapshot s.pin) (option_map with_one (chain_at m s.chain))
+    at-back = chain-done n (given_back (Some s) n) s.chain (without_snapshot s.pin) refl ∙ ap (option_map (without_snapshot s.pin)) at-chain
+
+    back-others : (i : ℕ) → (i ≡ s.chain → ⊥) → chain_at (given_back (Some s) n) i ≡ chain_at m i
+    back-others i ne = chain-beside n (given_back (Some s) n) s.chain (option_map (without_snapshot s.pin) (chain_at n s.chain)) i refl ne ∙ at-others i ne
+
     back-chain : (i : ℕ) → KeptIn (chain_at m i) (chain_at (given_back (Some s) n) i) × ((pin : ℕ) → PinIn (chain_at (given_back (Some s) n) i) pin → PinIn (chain_at m i) pin)
     back-chain i = elim (same-or-not i s.chain) [
       | inl same ↦ subst (λ (j : ℕ). KeptIn (chain_at m j) (chain_at (given_back (Some s) n) j) × ((pin : ℕ) → PinIn (chain_at (given_back (Some s) n) j) pin → PinIn (chain_at m j) pin)) (sym same)
           (subst (λ (q : Option KeptChain). KeptIn (chain_at m s.chain) q × ((pin : ℕ) → PinIn q pin → PinIn (chain_at m s.chain) pin)) (sym at-back) (back-in (chain_at m s.chain) s.pin taken.1.number, none-in (chain_at m s.chain) s.pin taken.1.number))
-      | inr ne ↦ (let e = chain-beside n (given_back (Some s) n) s.chain (option_map (without_snapshot s.pin) (chain_at n s.chain)) i refl ne ∙ at-others i ne in
-          (same-in (chain_at m i) (chain_at (given_back (Some s) n) i) e, λ pin on. subst (λ (q : Option KeptChain). PinIn q pin) e on))
+      | inr ne ↦ (same-in (chain_at m i) (chain_at (given_back (Some s) n) i) (back-others i ne), λ pin on. subst (λ (q : Option KeptChain). PinIn q pin) (back-others i ne) on)
     ]
-      where
-        at-back : chain_at (given_back (Some s) n) s.chain ≡ option_map (without_snapshot s.pin) (option_map with_one (chain_at m s.chain))
-        at-back = chain-done n (given_back (Some s) n) s.chain (without_snapshot s.pin) refl ∙ ap (option_map (without_snapshot s.pin)) at-chain
 
     pub taken-back : AreSameSnapshots m (given_back (Some s) n)
     taken-back = record { alike = all-seen m (given_back (Some s) n) (λ i. (back-chain i).0); none_more = λ t on. (back-chain t.chain).1 t.pin on }
+
+    back-kept : (k : KeptChain) → chain_at m s.chain ≡ Some k → (now : KeptChain) × (chain_at (given_back (Some s) n) s.chain ≡ Some now) × IsAsBefore k now
+    back-kept k e = (
+      without_snapshot s.pin (with_one k),
+      at-back ∙ ap (λ (q : Option KeptChain). option_map (without_snapshot s.pin) (option_map with_one q)) e,
+      record { kind = refl; versions = refl; attached = refl; updating = refl; pins = same-back k s.pin (of-chain (λ (q : KeptChain). s.pin ≡ free_number q.chain.pins) (chain_at m s.chain) k e taken.1.number); passed = refl },
+    )
+
+    back-there : (i : ℕ) (k : KeptChain) → chain_at m i ≡ Some k → (now : KeptChain) × (chain_at (given_back (Some s) n) i ≡ Some now) × IsAsBefore k now
+    back-there i k e = elim (same-or-not i s.chain) [
+      | inl same ↦ subst (λ (j : ℕ). (now : KeptChain) × (chain_at (given_back (Some s) n) j ≡ Some now) × IsAsBefore k now) (sym same) (back-kept k (ap (chain_at m) (sym same) ∙ e))
+      | inr ne ↦ before-same k (chain_at m i) (chain_at (given_back (Some s) n) i) e (back-others i ne)
+    ]
+
+    back-absent : (i : ℕ) → chain_at m i ≡ None → chain_at (given_back (Some s) n) i ≡ None
+    back-absent i e = elim (same-or-not i s.chain) [
+      | inl same ↦ ap (chain_at (given_back (Some s) n)) same ∙ at-back ∙ ap (λ (q : Option KeptChain). option_map (without_snapshot s.pin) (option_map with_one q)) (ap (chain_at m) (sym same) ∙ e)
+      | inr ne ↦ back-others i ne ∙ e
+    ]
+
+    pub back-before : AreAsBefore m (given_back (Some s) n)
+    back-before = record {
+      there = back-there;
+      absent = back-absent;
+      recency = ap (λ (q : Memory). q.recency) taken.1.now;
+      dropped = ap (λ (q : Memory). q.dropped) taken.1.now;
+      counts = ap (λ (q : Memory). q.counts) taken.1.now;
+      region = ap (λ (q : Memory). q.region) taken.1.now;
+      standing = ap (λ (q : Memory). q.standing) taken.1.now;
+    }
 
   -- ---- what the call gave
 
@@ -142,6 +176,15 @@ module _ (m n : Memory) (keys : List (List ℕ × ℕ)) (key : List ℕ) where
 pub back-same : (m n : Memory) (keys : List (List ℕ × ℕ)) (key : List ℕ) (o : Option Snap) → IfSome o (IsTaken m n keys key) → (o ≡ None → n ≡ m) → AreSameSnapshots m (given_back o n)
 back-same m n keys key None taken none = chains-same m n (λ i. ap (λ (q : Memory). chain_at q i) (none refl))
 back-same m n keys key (Some s) taken none = taken-back m n keys key s taken
+
+pub back-as-before : (m n : Memory) (keys : List (List ℕ × ℕ)) (key : List ℕ) (o : Option Snap) → IfSome o (IsTaken m n keys key) → (o ≡ None → n ≡ m) → AreAsBefore m (given_back o n)
+back-as-before m n keys key None taken none = before-of m n (none refl)
+back-as-before m n keys key (Some s) taken none = back-before m n keys key s taken
+
+-- what the call did
+pub taken-if : (m n : Memory) (keys : List (List ℕ × ℕ)) (key : List ℕ) (o : Option Snap) → IfSome o (IsTaken m n keys key) → (o ≡ None → n ≡ m) → IsTakenIf m n o
+taken-if m n keys key None taken none = none refl
+taken-if m n keys key (Some s) taken none = taken.1
 
 -- the first one sees what it saw
 pub key-then : (key : List ℕ) (writes : List Write) (m mid n : Memory) (o : Option Snap) → AllStillSee mid n → IsSnapshotOfKey key writes m mid o → IsSnapshotOfKey key writes m n o

@@ -1,3 +1,4 @@
 pub mod Memtables
 pub mod Readers
+pub mod Steps
 pub mod calls

@@ -1,5 +1,5 @@
 //! Both memtables of a shard, with its chains.
-ghost use Rattle.std.specs.Prelude.{◌≡◌, ◌↔◌, ◌∷◌, ◌++◌, ◌+◌, ◌-◌, ◌*◌, ◌/◌, ◌%◌, ◌^◌, ◌≤◌, ℕ, false, List as Sequence, [], Some, None, IfOk, IfSome, IsTrue, OnErr, cond, is_some, length};
+ghost use Rattle.std.specs.Prelude.{◌≡◌, ◌↔◌, ◌∷◌, ◌++◌, ◌+◌, ◌-◌, ◌*◌, ◌/◌, ◌%◌, ◌^◌, ◌<◌, ◌≤◌, ℕ, true, false, List as Sequence, [], Some, None, IfOk, IfSome, IsTrue, OnErr, cond, is_some, length, map};
 ghost use Rattle.lsa_move.specs.Room.{IsCompacted};
 ghost use Rattle.lsa_pool.specs.Room.{free_count, spare_of};
 ghost use Rattle.lsa_region.specs.Region.{live_bytes};
@@ -8,18 +8,22 @@ ghost use Rattle.rc_schema.specs.SchemaValue.{SchemaValue};
 ghost use Rattle.rc_mutation.specs.declared.mutations.Write.{Write as Written};
 ghost use Rattle.rc_writes.specs.Allowed.{ChangeFits};
 ghost use Rattle.rc_writes.specs.Single.{IsSingle};
-ghost use Rattle.rc_memory.specs.Memory.{HasPin, IsEmpty, IsSnapshotTaken, IsUntouched};
+ghost use Rattle.rc_mutation.specs.Fragments.{IsParts};
+ghost use Rattle.rc_memory.specs.Memory.{HasPin, IsEmpty, IsSnapshotTaken, IsUntouched, Memory};
+ghost use Rattle.rc_memtable.specs.LetGo.{AreLetGo};
+ghost use Rattle.rc_memtable.specs.Partitions.{AreAsBefore};
 ghost use Rattle.rc_memtable.specs.Writes.{AreSmall, HasWrites, chain_of};
 ghost use Rattle.rc_unstored.specs.calls.Giving.{given_back};
 ghost use Rattle.rc_unstored.specs.Memtables.{HaveWrites, IsFullFor, NoneShared};
-ghost use Rattle.rc_unstored.specs.Readers.{OthersStillSee, AreSameSnapshots, AllStillSee, HasSnap, IsSnapshotOfKey};
+ghost use Rattle.rc_unstored.specs.Readers.{OthersStillSee, AreSameSnapshots, AllStillSee, HasSnap, IsReleased, IsSnapshotOfKey, IsTakenIf};
+ghost use Rattle.rc_unstored.specs.Steps.{AreSameKeys, IsNotPut, IsPutBehind, IsPutRefused};
 
-use lsa_move::Ensured;
+use lsa_move::{Ensured, a_tight_region_is_nearly_full};
 use rc_chain::{Chains, Snap};
 use rc_cursor::laws::a_snapshot_can_be_read;
 use rc_memtable::laws::what_leaves_a_memtables_chains_leaves_its_writes;
 use rc_memtable::{Memtable, release};
-use rc_mutation::Write;
+use rc_mutation::{Partition, Write};
 use rc_position::PartKey;
 use rc_schema::Schema;
 use std::alloc::{AllocError, Global};
@@ -93,20 +97,27 @@ impl<const S: usize> Unstored<S> {
         self.sealed.is_empty() && self.active.is_empty()
     }
 
-    /// Puts a write to one place, which fits the schema, behind the later ones, once there is room for it. False where there is none and none can be made: then no write is put. The only error is want of memory, which leaves the writes as they were.
+    /// Puts a write to one place, which fits the schema, behind the later ones, once there is room for it. False where there is none and none can be made: then no write is put, and more than three quarters of all but two segments are live. The only error is want of memory, which leaves the writes as they were.
     pub fn put(&mut self, alloc: Global, schema: &Schema, w: &Write) -> Result<bool, AllocError>
         requires small { AreSmall S schema.now }
         requires single { IsSingle w.now.change }
         requires fits { ChangeFits schema.now w.now.change }
         requires kept { (writes : Sequence Written) × (later : Sequence Written) × HaveWrites schema.now self.old writes later }
         ensures stands { IfOk result (λ done. (writes later : Sequence Written) → HaveWrites schema.now self.old writes later → HaveWrites schema.now self.new writes (cond done (later ++ w.now ∷ []) later)) }
+        ensures applied { IfOk result (λ done. done ≡ true → IsPutBehind schema.now w.now self.old self.new) }
         ensures full { IfOk result (λ done. done ≡ false → IsFullFor S schema.now w.now self.new) }
+        ensures crowded { IfOk result (λ done. done ≡ false → 3 * S / 4 * (length self.new.memory.region.usages - 2) < live_bytes self.new.memory.region) }
+        ensures left { IfOk result (λ done. done ≡ false → IsNotPut self.old self.new) }
+        ensures refused { OnErr result (IsPutRefused self.old self.new) }
         ensures err { OnErr result ((writes later : Sequence Written) → HaveWrites schema.now self.old writes later → HaveWrites schema.now self.new writes later) }
         ensures seen { AllStillSee self.old.memory self.new.memory }
     {
         let need = self.active.need(&self.chains, schema, w);
         match self.chains.ensure(need) {
-            Ensured::Full => Ok(false),
+            Ensured::Full => {
+                a_tight_region_is_nearly_full(self.chains.region(), need);
+                Ok(false)
+            }
             Ensured::Ready => {
                 self.active.apply(alloc, &mut self.chains, schema, w)?;
                 Ok(true)
@@ -114,15 +125,18 @@ impl<const S: usize> Unstored<S> {
         }
     }
 
-    /// Snapshots of what is written of the partition of a key, of the sealed writes and of the later ones, each exactly where one of them names the key. The only error is want of memory: then no snapshot is there that was not.
+    /// Snapshots of what is written of the partition of a key, of the sealed writes and of the later ones, each exactly where one of them names the key. The only error is want of memory: then all chains are as they were, and no snapshot is there that was not.
     pub fn snapshot(&mut self, key: &PartKey) -> Result<Snaps, AllocError>
         requires kept { (schema : SchemaValue) × (writes : Sequence Written) × (later : Sequence Written) × HaveWrites schema self.old writes later }
         ensures sealed { IfOk result (λ taken. (schema : SchemaValue) (writes later : Sequence Written) → HaveWrites schema self.old writes later → IsSnapshotOfKey key.now writes self.old.memory self.new.memory taken.sealed) }
         ensures active { IfOk result (λ taken. (schema : SchemaValue) (writes later : Sequence Written) → HaveWrites schema self.old writes later → IsSnapshotOfKey key.now later self.old.memory self.new.memory taken.active) }
         ensures apart { IfOk result (λ taken. IfSome taken.sealed (λ s. IfSome taken.active (λ t. s.chain ≡ t.chain → ⊥))) }
+        ensures exact { IfOk result (λ taken. (mid : Memory) × IsTakenIf self.old.memory mid taken.sealed × IsTakenIf mid self.new.memory taken.active) }
+        ensures keys { AreSameKeys self.old self.new }
         ensures stands { (schema : SchemaValue) (writes later : Sequence Written) → HaveWrites schema self.old writes later → HaveWrites schema self.new writes later }
         ensures seen { AllStillSee self.old.memory self.new.memory }
         ensures err { OnErr result (AreSameSnapshots self.old.memory self.new.memory) }
+        ensures left { OnErr result (AreAsBefore self.old.memory self.new.memory) }
     {
         let sealed = snapshot_beside(&self.sealed, &self.active, &mut self.chains, key)?;
         match snapshot_beside(&self.active, &self.sealed, &mut self.chains, key) {
@@ -140,6 +154,8 @@ impl<const S: usize> Unstored<S> {
         ensures stands { (schema : SchemaValue) (writes later : Sequence Written) → HaveWrites schema self.old writes later → HaveWrites schema self.new writes later }
         ensures others { OthersStillSee s self.old.memory self.new.memory }
         ensures gone { HasPin self.new.memory s.chain s.pin → ⊥ }
+        ensures released { IsReleased s self.old.memory self.new.memory }
+        ensures keys { AreSameKeys self.old self.new }
     {
         what_leaves_a_memtables_chains_leaves_its_writes();
         release(&mut self.chains, s);
@@ -148,6 +164,7 @@ impl<const S: usize> Unstored<S> {
     /// Seals the later writes, where none are sealed: then there are no later ones. Else nothing is changed.
     pub fn seal(&mut self)
         ensures sealed { (schema : SchemaValue) (later : Sequence Written) → HaveWrites schema self.old [] later → HaveWrites schema self.new later [] }
+        ensures swapped { (schema : SchemaValue) (later : Sequence Written) → HaveWrites schema self.old [] later → (self.new.sealed ≡ self.old.active) × (self.new.active ≡ []) }
         ensures kept { (schema : SchemaValue) (w : Written) (writes later : Sequence Written) → HaveWrites schema self.old (w ∷ writes) later → self.new ≡ self.old }
         ensures chains { self.new.memory ≡ self.old.memory }
     {
@@ -156,10 +173,25 @@ impl<const S: usize> Unstored<S> {
         }
     }
 
-    /// Lets the sealed writes go, which a table has: none are sealed then. Snapshots of them see what they saw.
+    /// The partitions of the sealed writes, by ascending key, as a table is made of them: each key that one of them names, with what all of them say of it. Chains and memtables are then as they were. The only error is want of memory, which leaves them so, too.
+    pub fn sealed_partitions(&mut self, alloc: Global) -> Result<Vec<Partition>, AllocError>
+        requires kept { (schema : SchemaValue) × (writes : Sequence Written) × (later : Sequence Written) × HaveWrites schema self.old writes later }
+        ensures parts { (schema : SchemaValue) (writes later : Sequence Written) → HaveWrites schema self.old writes later → IfOk result (λ parts. IsParts parts.items writes) }
+        ensures stands { (schema : SchemaValue) (writes later : Sequence Written) → HaveWrites schema self.old writes later → HaveWrites schema self.new writes later }
+        ensures left { AreAsBefore self.old.memory self.new.memory }
+        ensures keys { AreSameKeys self.old self.new }
+        ensures seen { AreSameSnapshots self.old.memory self.new.memory }
+    {
+        self.sealed.partitions(alloc, &mut self.chains)
+    }
+
+    /// Lets the sealed writes go, which a table has: none are sealed then, and no chain of them is found by its key any more. Those that nobody pins are freed. Snapshots of the others see what they saw.
     pub fn drop_sealed(&mut self)
         requires kept { (schema : SchemaValue) × (writes : Sequence Written) × (later : Sequence Written) × HaveWrites schema self.old writes later }
         ensures gone { (schema : SchemaValue) (writes later : Sequence Written) → HaveWrites schema self.old writes later → HaveWrites schema self.new [] later }
+        ensures let_go { AreLetGo (map (λ e. e.1) self.old.sealed) self.old.memory self.new.memory }
+        ensures none { self.new.sealed ≡ [] }
+        ensures active { self.new.active ≡ self.old.active }
         ensures seen { AllStillSee self.old.memory self.new.memory }
     {
         self.sealed.known();
@@ -172,6 +204,7 @@ impl<const S: usize> Unstored<S> {
         ensures same { result ≡ false → self.new ≡ self.old }
         ensures compacted { IfSome (sparse_of S self.old.memory.region.usages) (IsCompacted S self.old.memory.region self.new.memory.region) }
         ensures untouched { IsUntouched self.old.memory self.new.memory }
+        ensures keys { AreSameKeys self.old self.new }
         ensures stands { (schema : SchemaValue) (writes later : Sequence Written) → HaveWrites schema self.old writes later → HaveWrites schema self.new writes later }
         ensures seen { AreSameSnapshots self.old.memory self.new.memory }
     {

@@ -119,18 +119,34 @@ fn close_reader(unstored: &mut Unstored<4096>, reader: Snaps)
     close_one(unstored, active);
 }
 
+// How many rows a table of the sealed writes has, where they are of one partition.
+fn sealed_rows(
+    alloc: Global,
+    unstored: &mut Unstored<4096>,
+    schema: &Schema,
+) -> Result<usize, AllocError>
+    requires { HaveSome schema.now unstored.old }
+    ensures { HaveSome schema.now unstored.new }
+{
+    let parts = unstored.sealed_partitions(alloc)?;
+    match parts.as_slice() {
+        [part] => Ok(part.change.rows.as_slice().len()),
+        _ => Ok(0),
+    }
+}
+
 // How many objects there are, and how many bytes of them.
 fn size(unstored: &Unstored<4096>) -> (u64, usize) {
     let region = unstored.chains().region();
     (region.objects(), region.live())
 }
 
-// What is there once two rows are written, once a third is put behind the seal and both readers are open, once the later reader is closed, and once both are and the sealed writes are let go.
+// What is there once two rows are written, once a third is put behind the seal and both readers are open, once the later reader is closed, and once both are and the sealed writes are let go; and how many rows a table of these has.
 fn sizes(
     alloc: Global,
     unstored: &mut Unstored<4096>,
     schema: &Schema,
-) -> Result<[(u64, usize); 4], AllocError>
+) -> Result<([(u64, usize); 4], usize), AllocError>
     requires { HaveSome schema.now unstored.old }
 {
     let key = PartKey::from_slice(alloc, b"p")?;
@@ -144,8 +160,9 @@ fn sizes(
             close_reader(unstored, late);
             let closed = size(unstored);
             close_reader(unstored, early);
+            let rows = sealed_rows(alloc, unstored, schema)?;
             unstored.drop_sealed();
-            Ok([written, open, closed, size(unstored)])
+            Ok(([written, open, closed, size(unstored)], rows))
         }
         Err(error) => {
             close_reader(unstored, early);
@@ -154,7 +171,7 @@ fn sizes(
     }
 }
 
-// Two rows of a partition, whose positions and rows have codes of 11 bytes each, are four objects in 360 bytes, and a third behind the seal is three more in 256, all of which stay while readers come and go; once the sealed writes are let go, the third row's are left.
+// Two rows of a partition, whose positions and rows have codes of 11 bytes each, are four objects in 360 bytes, and a third behind the seal is three more in 256, all of which stay while readers come and go; once the sealed writes are let go, of which a table has two rows, the third row's are left.
 #[test]
 fn two_readers_and_a_seal_between(rt: HostRuntime) -> Result<(), Fail> {
     let alloc = rt.alloc();
@@ -162,8 +179,9 @@ fn two_readers_and_a_seal_between(rt: HostRuntime) -> Result<(), Fail> {
     assert!(rt; unstored.is_empty());
     match Schema::read(alloc, b"ck=int static=- cols=a") {
         Ok(schema) => {
-            let sizes = sizes(alloc, &mut unstored, &schema)?;
+            let (sizes, rows) = sizes(alloc, &mut unstored, &schema)?;
             assert_eq!(rt; sizes, [(4, 360), (7, 616), (7, 616), (3, 256)]);
+            assert_eq!(rt; rows, 2);
         }
         Err(_) => assert!(rt; false),
     }

@@ -16,15 +16,6 @@ use rc_rowcode::read_row;
 use std::alloc::{AllocError, Global};
 use std::slice::from_ref;
 
-// What a mark says, with a row.
-fn seen(mark: Mark, row: Row) -> Seen {
-    Seen {
-        flag: mark.flag,
-        row,
-        tomb: mark.tomb,
-    }
-}
-
 // The row that bytes spell; an empty one where they spell none.
 fn row_in(alloc: Global, code: &[u8]) -> Result<Row, AllocError> {
     match read_row(alloc, code)? {
@@ -43,23 +34,14 @@ fn row_of(alloc: Global, region: &Region<SEGMENT>, e: Ref) -> Result<Row, AllocE
     }
 }
 
-// What an entry says at its position.
-fn said_by(alloc: Global, region: &Region<SEGMENT>, e: Ref) -> Result<Seen, AllocError>
-    requires { IsSomeEntry region.now e }
-{
-    let (at, _gap) = marks(region, e);
-    Ok(seen(at, row_of(alloc, region, e)?))
-}
-
-// What one says over the gap before it; nothing where there is none.
-fn said_before(alloc: Global, region: &Region<SEGMENT>, found: Option<Ref>) -> Seen
+// What an entry says over the gap before it; nothing where there is none.
+fn said_before(region: &Region<SEGMENT>, found: Option<Ref>) -> Mark
     requires { IfSome found (λ e. IsSomeEntry region.now e) }
 {
     match found {
-        Some(e) => seen(marks(region, e).1, Row::empty(alloc)),
-        None => Seen {
+        Some(e) => marks(region, e).1,
+        None => Mark {
             flag: Flag::Inherit,
-            row: Row::empty(alloc),
             tomb: None,
         },
     }
@@ -99,13 +81,68 @@ fn is_same_flag(flag: Flag, other: Flag) -> bool {
     }
 }
 
-// Whether the same is said.
-fn is_same(said: &Seen, other: &Seen) -> bool {
-    is_same_flag(said.flag, other.flag)
-        && said.tomb == other.tomb
-        && said.row.marker == other.row.marker
-        && said.row.tomb == other.row.tomb
-        && said.row.cells.as_slice() == other.row.cells.as_slice()
+// Whether two rows are the same.
+fn is_same_row(row: &Row, other: &Row) -> bool {
+    row.marker == other.marker
+        && row.tomb == other.tomb
+        && row.cells.as_slice() == other.cells.as_slice()
+}
+
+// Whether a mark and a row say what is seen.
+fn is_seen(mark: Mark, row: &Row, seen: &Seen) -> bool {
+    is_same_flag(mark.flag, seen.flag) && mark.tomb == seen.tomb && is_same_row(row, &seen.row)
+}
+
+// At a position or behind it, where a mark and a row say this.
+fn ask_row(
+    alloc: Global,
+    mark: Mark,
+    row: &Row,
+    plain: &PlainVersion,
+    x: &Pos,
+    side: Side,
+    tally: &mut Tally,
+) -> Result<(), AllocError> {
+    let wanted = seen_at(alloc, from_ref(plain), x, side)?;
+    tally.expect(is_seen(mark, row, &wanted), place_of(side));
+    Ok(())
+}
+
+// Where that is.
+fn place_of(side: Side) -> &'static str {
+    match side {
+        Side::On => "at a position",
+        Side::Behind => "behind a position",
+    }
+}
+
+// The same where no row is said.
+fn ask_mark(
+    alloc: Global,
+    mark: Mark,
+    plain: &PlainVersion,
+    x: &Pos,
+    side: Side,
+    tally: &mut Tally,
+) -> Result<(), AllocError> {
+    let row = Row::empty(alloc);
+    ask_row(alloc, mark, &row, plain, x, side, tally)
+}
+
+// At the position of an entry.
+fn ask_entry(
+    alloc: Global,
+    region: &Region<SEGMENT>,
+    e: Ref,
+    plain: &PlainVersion,
+    x: &Pos,
+    tally: &mut Tally,
+) -> Result<(), AllocError>
+    requires { IsSomeEntry region.now e }
+{
+    let (at, _gap) = marks(region, e);
+    let row = row_of(alloc, region, e)?;
+    ask_row(alloc, at, &row, plain, x, Side::On, tally)
 }
 
 // At a position and behind it.
@@ -120,16 +157,41 @@ fn ask_at(
     requires { IsSomeVersion region.now v }
 {
     let (here, next) = around(region, v, x);
-    let behind = said_before(alloc, region, next);
-    let wanted_behind = seen_at(alloc, from_ref(plain), x, Side::Behind)?;
-    tally.expect(is_same(&behind, &wanted_behind), "behind a position");
-    let at = match here {
-        Some(e) => said_by(alloc, region, e)?,
-        None => behind,
-    };
-    let wanted = seen_at(alloc, from_ref(plain), x, Side::On)?;
-    tally.expect(is_same(&at, &wanted), "at a position");
+    let behind = said_before(region, next);
+    ask_mark(alloc, behind, plain, x, Side::Behind, tally)?;
+    match here {
+        Some(e) => ask_entry(alloc, region, e, plain, x, tally),
+        None => ask_mark(alloc, behind, plain, x, Side::On, tally),
+    }
+}
+
+// At the static row, where a flag and a row say this.
+fn is_static(
+    alloc: Global,
+    flag: Flag,
+    row: &Row,
+    plain: &PlainVersion,
+    tally: &mut Tally,
+) -> Result<(), AllocError> {
+    let wanted = statics_at(alloc, from_ref(plain))?;
+    let mark = Mark { flag, tomb: None };
+    tally.expect(is_seen(mark, row, &wanted), "at the static row");
     Ok(())
+}
+
+// At the static row.
+fn ask_static(
+    alloc: Global,
+    region: &Region<SEGMENT>,
+    v: Ref,
+    flag: Flag,
+    plain: &PlainVersion,
+    tally: &mut Tally,
+) -> Result<(), AllocError>
+    requires { IsSomeVersion region.now v }
+{
+    let row = static_row(alloc, region, v)?;
+    is_static(alloc, flag, &row, plain, tally)
 }
 
 // At the head and the static row.
@@ -143,18 +205,9 @@ fn ask_head(
     requires { IsSomeVersion region.now v }
 {
     let head = head_of(region, v);
-    tally.expect(
-        head.partition_tombstone == plain.pt && head.phase == plain.phase,
-        "at the head",
-    );
-    let mark = Mark {
-        flag: head.static_flag,
-        tomb: None,
-    };
-    let statics = seen(mark, static_row(alloc, region, v)?);
-    let wanted = statics_at(alloc, from_ref(plain))?;
-    tally.expect(is_same(&statics, &wanted), "at the static row");
-    Ok(())
+    let same = head.partition_tombstone == plain.pt && head.phase == plain.phase;
+    tally.expect(same, "at the head");
+    ask_static(alloc, region, v, head.static_flag, plain, tally)
 }
 
 /// Asks the version that the first of two slots names and the plain one at each of these positions, behind it, and at the head and the static row.

@@ -13,6 +13,9 @@ use std::alloc::{AllocError, Global};
 /// The weights.
 const WEIGHTS: [Weight; 3] = [Weight::Before, Weight::At, Weight::After];
 
+/// How many positions there are.
+pub(crate) const POSITIONS: usize = 39;
+
 /// All positions at the keys of at most two components, each below three.
 pub(crate) fn all_positions(alloc: Global) -> Result<Vec<Pos>, AllocError> {
     let mut all = Vec::new(alloc);
@@ -24,22 +27,30 @@ pub(crate) fn all_positions(alloc: Global) -> Result<Vec<Pos>, AllocError> {
 
 // Those of one weight.
 fn push_positions(alloc: Global, all: &mut Vec<Pos>, weight: Weight) -> Result<(), AllocError> {
-    all.push(Pos {
-        prefix: Key::empty(alloc),
-        weight,
-    })?;
+    push_position(all, Key::empty(alloc), weight)?;
     for first in 0..3 {
-        all.push(Pos {
-            prefix: short_key(alloc, first)?,
-            weight,
-        })?;
-        for second in 0..3 {
-            all.push(Pos {
-                prefix: long_key(alloc, first, second)?,
-                weight,
-            })?;
-        }
+        push_longer(alloc, all, first, weight)?;
     }
+    Ok(())
+}
+
+// Those at keys with this first component.
+fn push_longer(
+    alloc: Global,
+    all: &mut Vec<Pos>,
+    first: u32,
+    weight: Weight,
+) -> Result<(), AllocError> {
+    push_position(all, short_key(alloc, first)?, weight)?;
+    for second in 0..3 {
+        push_position(all, long_key(alloc, first, second)?, weight)?;
+    }
+    Ok(())
+}
+
+// One of them.
+fn push_position(all: &mut Vec<Pos>, prefix: Key, weight: Weight) -> Result<(), AllocError> {
+    all.push(Pos { prefix, weight })?;
     Ok(())
 }
 
@@ -60,8 +71,8 @@ fn long_key(alloc: Global, first: u32, second: u32) -> Result<Key, AllocError>
     )
 }
 
-/// Some key.
-pub(crate) fn some_key(alloc: Global, chance: &mut Chance) -> Result<Key, AllocError>
+// Some key.
+fn some_key(alloc: Global, chance: &mut Chance) -> Result<Key, AllocError>
     ensures { IfOk result (λ key. KeyFits key) }
 {
     let (first, second) = (chance.below(3), chance.below(3));
@@ -72,8 +83,8 @@ pub(crate) fn some_key(alloc: Global, chance: &mut Chance) -> Result<Key, AllocE
     }
 }
 
-/// Some weight.
-pub(crate) fn some_weight(chance: &mut Chance) -> Weight {
+// Some weight.
+fn some_weight(chance: &mut Chance) -> Weight {
     match chance.below(3) {
         0 => Weight::Before,
         1 => Weight::At,
@@ -89,6 +100,16 @@ pub(crate) fn some_position(alloc: Global, chance: &mut Chance) -> Result<Pos, A
     Ok(Pos {
         prefix: some_key(alloc, chance)?,
         weight,
+    })
+}
+
+/// Some position of a row.
+pub(crate) fn some_place(alloc: Global, chance: &mut Chance) -> Result<Pos, AllocError>
+    ensures { IfOk result (λ x. KeyFits x.prefix) }
+{
+    Ok(Pos {
+        prefix: some_key(alloc, chance)?,
+        weight: Weight::At,
     })
 }
 

@@ -2,3 +2,4 @@ pub mod Allowed
 pub mod laws
 pub mod Limits
 pub mod Single
+pub mod Weight

@@ -11,6 +11,7 @@ use Rattle.rc_memory.specs.Memory.{KeptChain, Memory, chain_at}
 use Rattle.rc_memtable.specs.Changes.{KeepsChanges}
 use Rattle.rc_memtable.specs.Writes.{AreSmall, IsNewestPinned, chain_of, joined_need}
 use Rattle.rc_memtable.specs.Steps.{AreOthersKept, IsGrown}
+use Rattle.rc_memtable.specs.calls.Steps.{chains_bytes}
 
 -- the version of a number is the newest one, and nobody pins it
 abbrev pub IsFreeNewest : ℕ → Shown → Type 0
@@ -33,10 +34,11 @@ pub record CanWrite (S : ℕ) (schema : SchemaValue) (m : Memory) (id : ℕ) (ch
   pub joined : joined_need schema change ≤ spare_of S m.region.usages
   pub version : IsNewestPinned m id → 152 + joined_need schema change ≤ spare_of S m.region.usages
 
--- nobody pins the newest version of a chain, which has this number; the chain stands for what it stood for
+-- nobody pins the newest version of a chain, which has this number; the chain stands for what it stood for; at most a version was made
 pub record IsOpened (id number : ℕ) (old new : Memory) : Type 0 where
   pub grown : (k : KeptChain) → chain_at old id ≡ Some k → (n : KeptChain) × (chain_at new id ≡ Some n) × IsGrown k n × IsFreeNewest number n.chain × ((schema : SchemaValue) (changes : List Mutation) → KeepsChanges schema k.chain changes → KeepsChanges schema n.chain changes)
   pub others : AreOthersKept id old new
+  pub grows : chains_bytes new ≤ chains_bytes old + 152
 
 -- each key has a memtable's chain of its own
 pub record AreMemtables (chains : List (List ℕ × ℕ)) (m : Memory) : Type 0 where

@@ -44,13 +44,13 @@ abbrev Change : Type 0
 Change = Pos × Option Tomb
 
 -- the tombstone in force at a position: that of the last change at it or before it, or the one given
-abbrev force : Option Tomb → List Change → Pos → Option Tomb
-force tomb [] x = tomb
-force tomb (b ∷ bs) x = cond (is_lt (pos_cmp x b.0)) tomb (force b.1 bs x)
+abbrev pub along : Option Tomb → List Change → Pos → Option Tomb
+along tomb [] x = tomb
+along tomb (b ∷ bs) x = cond (is_lt (pos_cmp x b.0)) tomb (along b.1 bs x)
 
 -- the lines of rows, each under the tombstone in force
 abbrev forced : Option Tomb → Option Tomb → List Change → List Keyed → List OutLine
-forced head tomb bs os = filter_map (λ e. row_line (greater tomb_cmp head (force tomb bs (row_pos e.0))) e.0 e.1) os
+forced head tomb bs os = filter_map (λ e. row_line (greater tomb_cmp head (along tomb bs (row_pos e.0))) e.0 e.1) os
 
 -- the lines of fragments that carry their places
 abbrev compacted_merge : Option Tomb → Option Tomb → List ((Pos × ℕ) × Frag) → List OutLine
@@ -73,7 +73,7 @@ From x (a ∷ os) = (is_lt (pos_cmp (row_pos a.0) x) ≡ false) × From x os
 passed : (head tomb : Option Tomb) (b : Change) (bs : List Change) (os : List Keyed) → From b.0 os → forced head tomb (b ∷ bs) os ≡ forced head b.1 bs os
 passed head tomb b bs [] h = refl
 passed head tomb b bs (a ∷ os) h =
-    (λ i. cons_option (row_line (greater tomb_cmp head (cond (h.0 i) tomb (force b.1 bs (row_pos a.0)))) a.0 a.1) (passed head tomb b bs os h.1 i))
+    (λ i. cons_option (row_line (greater tomb_cmp head (cond (h.0 i) tomb (along b.1 bs (row_pos a.0)))) a.0 a.1) (passed head tomb b bs os h.1 i))
 
 less : (r : Ordering) → T (is_lt (ordering_then r Equal)) → r ≡ Less
 less Less h = refl
@@ -102,7 +102,7 @@ compacted-merge_into head a os g ih tomb [] = rows_alone head tomb (a ∷ os)
 compacted-merge_into head a os g ih tomb (b ∷ bs) =
     elim (is_lt (pos_cmp (row_pos a.0) b.0)) as (λ r. is_lt (pos_cmp (row_pos a.0) b.0) ≡ r → compacted_merge head tomb (cond r (placed_row a ∷ merge os (b ∷ bs)) (placed_change b ∷ merge_into a os (merge os) bs)) ≡ forced head tomb (b ∷ bs) (a ∷ os)) [
       | true ↦ λ p.
-          (λ i. cons_option (row_line (greater tomb_cmp head (cond (sym p i) tomb (force b.1 bs (row_pos a.0)))) a.0 a.1) (ih tomb (b ∷ bs) i))
+          (λ i. cons_option (row_line (greater tomb_cmp head (cond (sym p i) tomb (along b.1 bs (row_pos a.0)))) a.0 a.1) (ih tomb (b ∷ bs) i))
       | false ↦ λ p.
           compacted-merge_into head a os g ih b.1 bs
           ∙ sym (passed head tomb b bs (a ∷ os) (p, from_below b.0 a os p (first (below_all place_order (row_pos a.0, 1) (list_map placed_row os)) (is_sorted place_order (list_map placed_row os)) g)))
@@ -131,35 +131,35 @@ ends p qs = cond (begins_at p.to qs) [] ((p.to, None) ∷ [])
 meets : (p q : Piece) (x : Pos) (b : Bool) → eq_by_cmp pos_cmp q.from p.to ≡ true → is_lt (pos_cmp x p.to) ≡ b → is_lt (pos_cmp x q.from) ≡ b
 meets p q x b e h = ap (λ y. is_lt (pos_cmp x y)) (pos_cmp_same q.from p.to (tie (pos_cmp q.from p.to) e)) ∙ h
 
-inside : (tomb : Option Tomb) (p : Piece) (qs : List Piece) (x : Pos) → is_lt (pos_cmp x p.to) ≡ true → force tomb (ends p qs ++ changes_of qs) x ≡ tomb
+inside : (tomb : Option Tomb) (p : Piece) (qs : List Piece) (x : Pos) → is_lt (pos_cmp x p.to) ≡ true → along tomb (ends p qs ++ changes_of qs) x ≡ tomb
 inside tomb p [] x h = ap (λ b. cond {A = Option Tomb} b tomb None) h
 inside tomb p (q ∷ qs) x h =
-    elim (eq_by_cmp pos_cmp q.from p.to) as (λ b. eq_by_cmp pos_cmp q.from p.to ≡ b → force tomb (cond b [] ((p.to, None) ∷ []) ++ changes_of (q ∷ qs)) x ≡ tomb) [
-      | true ↦ λ e. ap (λ b. cond {A = Option Tomb} b tomb (force (Some q.tomb) (ends q qs ++ changes_of qs) x)) (meets p q x true e h)
-      | false ↦ λ e. ap (λ b. cond {A = Option Tomb} b tomb (force None (changes_of (q ∷ qs)) x)) h
+    elim (eq_by_cmp pos_cmp q.from p.to) as (λ b. eq_by_cmp pos_cmp q.from p.to ≡ b → along tomb (cond b [] ((p.to, None) ∷ []) ++ changes_of (q ∷ qs)) x ≡ tomb) [
+      | true ↦ λ e. ap (λ b. cond {A = Option Tomb} b tomb (along (Some q.tomb) (ends q qs ++ changes_of qs) x)) (meets p q x true e h)
+      | false ↦ λ e. ap (λ b. cond {A = Option Tomb} b tomb (along None (changes_of (q ∷ qs)) x)) h
     ] refl
 
-behind : (tomb : Option Tomb) (p : Piece) (qs : List Piece) (x : Pos) → is_lt (pos_cmp x p.to) ≡ false → force tomb (ends p qs ++ changes_of qs) x ≡ force None (changes_of qs) x
+behind : (tomb : Option Tomb) (p : Piece) (qs : List Piece) (x : Pos) → is_lt (pos_cmp x p.to) ≡ false → along tomb (ends p qs ++ changes_of qs) x ≡ along None (changes_of qs) x
 behind tomb p [] x h = ap (λ b. cond {A = Option Tomb} b tomb None) h
 behind tomb p (q ∷ qs) x h =
-    elim (eq_by_cmp pos_cmp q.from p.to) as (λ b. eq_by_cmp pos_cmp q.from p.to ≡ b → force tomb (cond b [] ((p.to, None) ∷ []) ++ changes_of (q ∷ qs)) x ≡ force None (changes_of (q ∷ qs)) x) [
+    elim (eq_by_cmp pos_cmp q.from p.to) as (λ b. eq_by_cmp pos_cmp q.from p.to ≡ b → along tomb (cond b [] ((p.to, None) ∷ []) ++ changes_of (q ∷ qs)) x ≡ along None (changes_of (q ∷ qs)) x) [
       | true ↦ λ e.
-          let later = force (Some q.tomb) (ends q qs ++ changes_of qs) x in
+          let later = along (Some q.tomb) (ends q qs ++ changes_of qs) x in
           let at = meets p q x false e h in
           ap (λ b. cond {A = Option Tomb} b tomb later) at ∙ sym (ap (λ b. cond {A = Option Tomb} b None later) at)
-      | false ↦ λ e. ap (λ b. cond {A = Option Tomb} b tomb (force None (changes_of (q ∷ qs)) x)) h
+      | false ↦ λ e. ap (λ b. cond {A = Option Tomb} b tomb (along None (changes_of (q ∷ qs)) x)) h
     ] refl
 
 -- along the changes of canonical pieces the tombstone in force is theirs
-pub force-ranges : (ps : List Piece) → IsCanonical ps → (x : Pos) → force None (changes_of ps) x ≡ range_tomb ps x
-force-ranges [] is x = sym (cover-none x)
-force-ranges (p ∷ ps) is x =
-    elim (is_lt (pos_cmp x p.from)) as (λ b. is_lt (pos_cmp x p.from) ≡ b → cond b None (force (Some p.tomb) (ends p ps ++ changes_of ps) x) ≡ range_tomb (p ∷ ps) x) [
+pub along-ranges : (ps : List Piece) → IsCanonical ps → (x : Pos) → along None (changes_of ps) x ≡ range_tomb ps x
+along-ranges [] is x = sym (cover-none x)
+along-ranges (p ∷ ps) is x =
+    elim (is_lt (pos_cmp x p.from)) as (λ b. is_lt (pos_cmp x p.from) ≡ b → cond b None (along (Some p.tomb) (ends p ps ++ changes_of ps) x) ≡ range_tomb (p ∷ ps) x) [
       | true ↦ λ e. sym (cover-before p ps is x (lt-is x p.from ∙ e))
       | false ↦ λ e.
-          elim (is_lt (pos_cmp x p.to)) as (λ b. is_lt (pos_cmp x p.to) ≡ b → force (Some p.tomb) (ends p ps ++ changes_of ps) x ≡ range_tomb (p ∷ ps) x) [
+          elim (is_lt (pos_cmp x p.to)) as (λ b. is_lt (pos_cmp x p.to) ≡ b → along (Some p.tomb) (ends p ps ++ changes_of ps) x ≡ range_tomb (p ∷ ps) x) [
             | true ↦ λ f. inside (Some p.tomb) p ps x f ∙ sym (cover-inside p ps is x (lt-is x p.from ∙ e) (lt-is x p.to ∙ f))
-            | false ↦ λ f. behind (Some p.tomb) p ps x f ∙ force-ranges ps is.2 x ∙ sym (cover-behind p ps x (lt-is x p.to ∙ f))
+            | false ↦ λ f. behind (Some p.tomb) p ps x f ∙ along-ranges ps is.2 x ∙ sym (cover-behind p ps x (lt-is x p.to ∙ f))
           ] refl
     ] refl
 
@@ -188,7 +188,7 @@ compacted-answer m is =
     ∙ without_head m middle
     ∙ ap (compacted m.pt None) (sym (merge-in_order m.rows (changes_of m.ranges) rows changes))
     ∙ compacted-merge m.pt None m.rows (changes_of m.ranges) (test_of _ rows)
-    ∙ (λ i. filter_map (λ (e : Keyed). row_line (greater tomb_cmp m.pt (force-ranges m.ranges is.ranges (row_pos e.0) i)) e.0 e.1) m.rows)
+    ∙ (λ i. filter_map (λ (e : Keyed). row_line (greater tomb_cmp m.pt (along-ranges m.ranges is.ranges (row_pos e.0) i)) e.0 e.1) m.rows)
     ∙ (λ i. filter_map (λ (e : Keyed). cond (sym (in_whole e.0) i) (row_line (own_cover m e.0) e.0 e.1) None) m.rows))
     ∙ sym (answer-one m whole_slice is.rows)
 
@@ -220,10 +220,10 @@ plain Equal h = absurd h
 plain Greater h = absurd h
 
 -- before the first of changes the tombstone stays
-stays : (tomb : Option Tomb) (c : Pos) (cs : List Change) (x : Pos) → Behind c cs → is_lt (pos_cmp x c) ≡ true → force tomb cs x ≡ tomb
+stays : (tomb : Option Tomb) (c : Pos) (cs : List Change) (x : Pos) → Behind c cs → is_lt (pos_cmp x c) ≡ true → along tomb cs x ≡ tomb
 stays tomb c [] x h e = refl
 stays tomb c (d ∷ ds) x h e =
-    ap (λ b. cond {A = Option Tomb} b tomb (force d.1 ds x)) (before_next x c d.0 e (plain (pos_cmp c d.0) (first (is_lt (place_order (c, 0) (d.0, 0))) (below_all place_order (c, 0) (list_map placed_change ds)) h)))
+    ap (λ b. cond {A = Option Tomb} b tomb (along d.1 ds x)) (before_next x c d.0 e (plain (pos_cmp c d.0) (first (is_lt (place_order (c, 0) (d.0, 0))) (below_all place_order (c, 0) (list_map placed_change ds)) h)))
 
 as_then : (r : Ordering) → is_lt r ≡ true → T (is_lt (ordering_then r Equal))
 as_then Less e = tt
@@ -245,39 +245,39 @@ module _ (slice : Slice) (x : Pos) (inside_to : is_lt (pos_cmp x slice.to) ≡ t
   between cs = filter (λ c. is_between slice c.0) cs
 
   -- the changes behind the end of the slice are of no account
-  upto_end : (tomb : Option Tomb) (cs : List Change) → Behind slice.from cs → SortedChanges cs → force tomb (between cs) x ≡ force tomb cs x
+  upto_end : (tomb : Option Tomb) (cs : List Change) → Behind slice.from cs → SortedChanges cs → along tomb (between cs) x ≡ along tomb cs x
   upto_end tomb [] h g = refl
   upto_end tomb (c ∷ cs) h g =
       let after_from : is_lt (pos_cmp slice.from c.0) ≡ true = plain (pos_cmp slice.from c.0) (first (is_lt (place_order (slice.from, 0) (c.0, 0))) (below_all place_order (slice.from, 0) (list_map placed_change cs)) h) in
       let later = second (is_lt (place_order (slice.from, 0) (c.0, 0))) (below_all place_order (slice.from, 0) (list_map placed_change cs)) h in
       let over = first (below_all place_order (c.0, 0) (list_map placed_change cs)) (is_sorted place_order (list_map placed_change cs)) g in
       let up = second (below_all place_order (c.0, 0) (list_map placed_change cs)) (is_sorted place_order (list_map placed_change cs)) g in
-      ap (λ b. force tomb (cond (b && is_lt (pos_cmp c.0 slice.to)) (c ∷ between cs) (between cs)) x) after_from
-      ∙ elim (is_lt (pos_cmp c.0 slice.to)) as (λ b. is_lt (pos_cmp c.0 slice.to) ≡ b → force tomb (cond b (c ∷ between cs) (between cs)) x ≡ cond (is_lt (pos_cmp x c.0)) tomb (force c.1 cs x)) [
+      ap (λ b. along tomb (cond (b && is_lt (pos_cmp c.0 slice.to)) (c ∷ between cs) (between cs)) x) after_from
+      ∙ elim (is_lt (pos_cmp c.0 slice.to)) as (λ b. is_lt (pos_cmp c.0 slice.to) ≡ b → along tomb (cond b (c ∷ between cs) (between cs)) x ≡ cond (is_lt (pos_cmp x c.0)) tomb (along c.1 cs x)) [
         | true ↦ λ _. ap (cond (is_lt (pos_cmp x c.0)) tomb) (upto_end c.1 cs later up)
         | false ↦ λ e.
             let before : is_lt (pos_cmp x c.0) ≡ true = before_later x slice.to c.0 inside_to e in
-            upto_end tomb cs later up ∙ stays tomb c.0 cs x over before ∙ sym (ap (λ b. cond {A = Option Tomb} b tomb (force c.1 cs x)) before)
+            upto_end tomb cs later up ∙ stays tomb c.0 cs x over before ∙ sym (ap (λ b. cond {A = Option Tomb} b tomb (along c.1 cs x)) before)
       ] refl
 
-  -- nor are those before its start, of which the last is in force there
-  cut : (tomb : Option Tomb) (cs : List Change) → SortedChanges cs → is_lt (pos_cmp x slice.from) ≡ false → force (force tomb cs slice.from) (between cs) x ≡ force tomb cs x
+  -- nor are those before its start, of which the last is in along there
+  cut : (tomb : Option Tomb) (cs : List Change) → SortedChanges cs → is_lt (pos_cmp x slice.from) ≡ false → along (along tomb cs slice.from) (between cs) x ≡ along tomb cs x
   cut tomb [] g h = refl
   cut tomb (c ∷ cs) g h =
       let up = second (below_all place_order (c.0, 0) (list_map placed_change cs)) (is_sorted place_order (list_map placed_change cs)) g in
       let over = first (below_all place_order (c.0, 0) (list_map placed_change cs)) (is_sorted place_order (list_map placed_change cs)) g in
-      elim (is_lt (pos_cmp slice.from c.0)) as (λ b. is_lt (pos_cmp slice.from c.0) ≡ b → force (cond b tomb (force c.1 cs slice.from)) (cond (b && is_lt (pos_cmp c.0 slice.to)) (c ∷ between cs) (between cs)) x ≡ cond (is_lt (pos_cmp x c.0)) tomb (force c.1 cs x)) [
+      elim (is_lt (pos_cmp slice.from c.0)) as (λ b. is_lt (pos_cmp slice.from c.0) ≡ b → along (cond b tomb (along c.1 cs slice.from)) (cond (b && is_lt (pos_cmp c.0 slice.to)) (c ∷ between cs) (between cs)) x ≡ cond (is_lt (pos_cmp x c.0)) tomb (along c.1 cs x)) [
         | true ↦ λ e.
-            ap (λ b. force tomb (cond (b && is_lt (pos_cmp c.0 slice.to)) (c ∷ between cs) (between cs)) x) (sym e)
+            ap (λ b. along tomb (cond (b && is_lt (pos_cmp c.0 slice.to)) (c ∷ between cs) (between cs)) x) (sym e)
             ∙ upto_end tomb (c ∷ cs) (before_changes slice.from c cs e over) g
         | false ↦ λ e.
             cut c.1 cs up h
-            ∙ sym (ap (λ b. cond {A = Option Tomb} b tomb (force c.1 cs x)) (not_before c.0 slice.from x e h))
+            ∙ sym (ap (λ b. cond {A = Option Tomb} b tomb (along c.1 cs x)) (not_before c.0 slice.from x e h))
       ] refl
 
-opened : (from x : Pos) (o : Option Tomb) (cs : List Change) → is_lt (pos_cmp x from) ≡ false → force None (option_to_list (option_map (λ tomb. (from, Some tomb)) o) ++ cs) x ≡ force o cs x
+opened : (from x : Pos) (o : Option Tomb) (cs : List Change) → is_lt (pos_cmp x from) ≡ false → along None (option_to_list (option_map (λ tomb. (from, Some tomb)) o) ++ cs) x ≡ along o cs x
 opened from x None cs h = refl
-opened from x (Some t) cs h = ap (λ b. cond {A = Option Tomb} b None (force (Some t) cs x)) h
+opened from x (Some t) cs h = ap (λ b. cond {A = Option Tomb} b None (along (Some t) cs x)) h
 
 and_first : (a b : Bool) → (a && b) ≡ true → a ≡ true
 and_first true b h = refl
@@ -292,15 +292,15 @@ abbrev sliced_changes : Slice → List Piece → List Change
 sliced_changes slice ranges = opening_change slice ranges ++ filter (λ c. is_between slice c.0) (changes_of ranges)
 
 -- along the changes in a slice the tombstone in force is that of the pieces
-force-slice : (slice : Slice) (ps : List Piece) → IsCanonical ps → (x : Pos) → covers slice.from slice.to x ≡ true → force None (sliced_changes slice ps) x ≡ range_tomb ps x
-force-slice slice ps is x h =
+along-slice : (slice : Slice) (ps : List Piece) → IsCanonical ps → (x : Pos) → covers slice.from slice.to x ≡ true → along None (sliced_changes slice ps) x ≡ range_tomb ps x
+along-slice slice ps is x h =
     let from : is_lt (pos_cmp x slice.from) ≡ false = le_turned slice.from x (and_first (is_le (pos_cmp slice.from x)) (is_lt (pos_cmp x slice.to)) h) in
     let to : is_lt (pos_cmp x slice.to) ≡ true = and_second (is_le (pos_cmp slice.from x)) (is_lt (pos_cmp x slice.to)) h in
     let rest = filter (λ (c : Change). is_between slice c.0) (changes_of ps) in
     opened slice.from x (range_tomb ps slice.from) rest from
-    ∙ ap (λ o. force o rest x) (sym (force-ranges ps is slice.from))
+    ∙ ap (λ o. along o rest x) (sym (along-ranges ps is slice.from))
     ∙ cut slice x to None (changes_of ps) (test_of _ (changes-placed ps is)) from
-    ∙ force-ranges ps is x
+    ∙ along-ranges ps is x
 
 map-filter : (p : Pos → Bool) (cs : List Change) → list_map placed_change (filter (λ c. p c.0) cs) ≡ where_key place_order (λ k. p k.0) (list_map placed_change cs)
 map-filter p [] = refl
@@ -339,14 +339,14 @@ compacted-slice m slice is =
     let rows = rows-placed inside_rows (holds _ up) in
     let changes = holds _ (sliced-sorted slice m.ranges is.ranges) in
     let statics = option_to_list (static_line m.pt (m.statics ∷ [])) in
-    let line : (e : Keyed) → cond (in_slice slice e.0) (row_line (greater tomb_cmp m.pt (force None (sliced_changes slice m.ranges) (row_pos e.0))) e.0 e.1) None ≡ own_line m slice e = λ e.
-    elim (in_slice slice e.0) as (λ b. in_slice slice e.0 ≡ b → cond b (row_line (greater tomb_cmp m.pt (force None (sliced_changes slice m.ranges) (row_pos e.0))) e.0 e.1) None ≡ cond b (row_line (own_cover m e.0) e.0 e.1) None) [
-      | true ↦ λ h. ap (λ t. row_line (greater tomb_cmp m.pt t) e.0 e.1) (force-slice slice m.ranges is.ranges (row_pos e.0) h)
+    let line : (e : Keyed) → cond (in_slice slice e.0) (row_line (greater tomb_cmp m.pt (along None (sliced_changes slice m.ranges) (row_pos e.0))) e.0 e.1) None ≡ own_line m slice e = λ e.
+    elim (in_slice slice e.0) as (λ b. in_slice slice e.0 ≡ b → cond b (row_line (greater tomb_cmp m.pt (along None (sliced_changes slice m.ranges) (row_pos e.0))) e.0 e.1) None ≡ cond b (row_line (own_cover m e.0) e.0 e.1) None) [
+      | true ↦ λ h. ap (λ t. row_line (greater tomb_cmp m.pt t) e.0 e.1) (along-slice slice m.ranges is.ranges (row_pos e.0) h)
       | false ↦ λ _. refl
     ] refl in
     ap (λ ls. statics ++ ls)
     (ap (compacted m.pt None) (sym (merge-in_order inside_rows (sliced_changes slice m.ranges) rows changes))
     ∙ compacted-merge m.pt None inside_rows (sliced_changes slice m.ranges) (test_of _ rows)
-    ∙ filter_map-filter (λ (e : Keyed). row_line (greater tomb_cmp m.pt (force None (sliced_changes slice m.ranges) (row_pos e.0))) e.0 e.1) (λ e. in_slice slice e.0) m.rows
+    ∙ filter_map-filter (λ (e : Keyed). row_line (greater tomb_cmp m.pt (along None (sliced_changes slice m.ranges) (row_pos e.0))) e.0 e.1) (λ e. in_slice slice e.0) m.rows
     ∙ (λ i. filter_map (λ (e : Keyed). line e i) m.rows))
     ∙ sym (answer-one m slice is.rows)

@@ -3,7 +3,7 @@ use Rattle.std.proofs.Common.{◌++◌, ◌∙◌, ap, subst, Some, None}
 use Rattle.rc_lines.specs.declared.commands.Reply.TheVariants.{Fine}
 use Rattle.rc_lines.specs.Texts.{reply_text}
 use Rattle.rc_outside.specs.Faults.{Rose}
-use Rattle.rc_plain.specs.Opening.{IsOpeningRefused, OnOpenFault}
+use Rattle.rc_folder.specs.Opening.{IsOpeningRefused, OnOpenFault}
 use Rattle.rc_shell.proofs.Staged.{opened_answered, bad_answered, fault_answered}
 use Rattle.rc_shell.proofs.late.open.Goals as goal
 

@@ -48,7 +48,7 @@ returns-in-Err-Damaged-clause-step g c =
     let few : length c.self.inside.readers.items < most_readers = omega (arith, c.if-len-ge-MOST_READERS.false, c.len.ensures, c.self.inside.readers.ok) in
     let none : g.W.Store.files c.args.store.now ≡ None =
     (subst (λ (e : StreamErr). Caused {T = List OutLine} (Err e) (g.W.Store.files c.args.store.now) (g.W.Store.faults c.args.store.now) (g.W.Store.faults c.answer.new.store)) c.in-Err-Damaged.field-0-is c.in-Err-Damaged.ensures.cause).1 in
-    let damage : IsDamageOf c.self.inside.schema c.args.key.now c.self.inside.tables (stream_err.Damaged c.in-Err-Damaged.file c.in-Err-Damaged.offset) =
-    subst (λ (e : StreamErr). IsDamageOf c.self.inside.schema c.args.key.now c.self.inside.tables e) c.in-Err-Damaged.field-0-is
+    let damage : IsDamageOf c.self.inside.folder.schema c.args.key.now c.self.inside.folder.infos (stream_err.Damaged c.in-Err-Damaged.file c.in-Err-Damaged.offset) =
+    subst (λ (e : StreamErr). IsDamageOf c.self.inside.folder.schema c.args.key.now c.self.inside.folder.infos e) c.in-Err-Damaged.field-0-is
     (damage_seen _ _ c.args.key.now c.in-Err-Damaged.field-0 (sym c.self.view_is) c.in-Err-Damaged.ensures.damaged) in
     stay (OpenRead c.args.id c.args.key.now c.args.slice.now) (replies.Refused (Damaged c.in-Err-Damaged.file c.in-Err-Damaged.offset)) c.self.view_is (to_files (OpenRead c.args.id c.args.key.now c.args.slice.now) (replies.Refused (Damaged c.in-Err-Damaged.file c.in-Err-Damaged.offset)) c.answer.ensures.store.0 (takes_damaged (g.W.Store.files c.args.store.now) _ c.args.id c.args.key.now c.args.slice.now c.in-Err-Damaged.file c.in-Err-Damaged.offset shut few none damage))

@@ -1,50 +1,38 @@
--- The parts of the sealed writes fit a table; what is known of it stands behind the others.
-use Rattle.std.proofs.Common.{◌≡◌, ◌++◌, [], ◌∷◌, ◌∙◌, inl, All, List, refl, ap, sym, subst}
+-- The parts of the sealed writes fit a table, and the number is no file's; then they stand in it.
+use Rattle.std.proofs.Common.{inl, All, List, refl, sym, subst}
 use Rattle.rc_mutation.specs.declared.mutations.Partition.{Partition}
-use Rattle.rc_tfile.specs.declared.info.TableInfo.{TableInfo}
-use Rattle.std.specs.List.{AllByRecursion}
-use Rattle.rc_tfile.specs.Items.{IsItem}
-use Rattle.rc_tfile.specs.Before.{text}
-use Rattle.rc_tfile.specs.Info.{info_of}
-use Rattle.rc_tfile.specs.Stored.{with_file}
-use Rattle.rc_tfile.specs.TableText.{whole_table, PartsFit}
-use Rattle.rc_lines.specs.Fits.{CommandFits}
-use Rattle.rc_lines.specs.declared.commands.Command.TheVariants.{Put}
+use Rattle.rc_mutation.specs.Source.{IsMutation}
+use Rattle.rc_tfile.specs.TableText.{PartsFit}
 use Rattle.rc_lines.specs.declared.commands.Reply.TheVariants as replies
-use Rattle.rc_plain.specs.Stands.{Keeping}
-use Rattle.rc_plain.specs.calls.Storing.{IsTableStored, IsFlushAnswered}
-use Rattle.rc_tfile.specs.laws.Standing.{text_is_a_table}
-use Rattle.rc_plain.proofs.Fitting.{parts_fit}
+use Rattle.rc_machine.specs.State.{State}
+use Rattle.rc_folder.specs.Tabled.{IsAdded}
+use Rattle.rc_plain.specs.Stands.{Keeping, Stands}
+use Rattle.rc_plain.specs.calls.Storing.{tabled, IsTableStored, IsFlushAnswered}
+use Rattle.rc_plain.proofs.Tabled.{no_file, parts_of_sealed}
 use Rattle.rc_plain.proofs.plain.Plain.write_sealed.Goals as goal
 
-pub plan_table-requires : goal.plan_table-requires
-plan_table-requires g c =
-    subst (λ (parts : List Partition). PartsFit c.self.inside.schema parts) (sym c.as_slice.ensures.value)
-    (parts_fit c.self.inside.schema c.in_ok-parts.parts.items c.self.inside.sealed c.in_ok-parts.ensures
-    (subst (λ (k : Keeping). All (λ w. CommandFits k.schema (Put w)) k.sealed) (sym c.self.view_is) c.requires.fit))
+pub add-requires-clause-fit : goal.add-requires-clause-fit
+add-requires-clause-fit g c =
+    subst (λ (parts : List Partition). PartsFit c.self.inside.folder.schema parts) (sym c.as_slice.ensures.value)
+    (parts_of_sealed (g.W.Store.files c.args.store.now) _ c.in_ok-parts.parts.items (subst (λ (k : Keeping). (m : State) × Stands (g.W.Store.files c.args.store.now) k m) (sym c.self.view_is) c.requires.stands) c.in_ok-parts.ensures)
 
-pub write_table-requires-clause-fit : goal.write_table-requires-clause-fit
-write_table-requires-clause-fit g c =
-    subst (λ (parts : List Partition). PartsFit c.self.inside.schema parts) (sym c.as_slice-2.ensures.value)
-    (parts_fit c.self.inside.schema c.in_ok-parts.parts.items c.self.inside.sealed c.in_ok-parts.ensures
-    (subst (λ (k : Keeping). All (λ w. CommandFits k.schema (Put w)) k.sealed) (sym c.self.view_is) c.requires.fit))
+pub add-requires-clause-mutations : goal.add-requires-clause-mutations
+add-requires-clause-mutations g c = subst (λ (parts : List Partition). All (λ p. IsMutation p.change) parts) (sym c.as_slice.ensures.value) c.in_ok-parts.ensures.mutations
+
+pub add-requires-clause-fresh : goal.add-requires-clause-fresh
+add-requires-clause-fresh g c = no_file (g.W.Store.files c.args.store.now) c.args.self.now c.args.number c.requires.stands c.requires.number
 
 pub returns-in-Ok-clause-written : goal.returns-in-Ok-clause-written
 returns-in-Ok-clause-written g c =
-    let schema = c.self.inside.schema in
+    let kept : Keeping = record { schema = c.self.inside.folder.schema; infos = c.self.inside.folder.infos; sealed = c.self.inside.sealed; active = c.self.inside.active; readers = c.self.inside.readers.items } in
+    let new : Keeping = record { schema = c.add.new.self.schema; infos = c.add.new.self.infos; sealed = c.new.result; active = c.self.inside.active; readers = c.self.inside.readers.items } in
     let parts : List Partition = c.in_ok-parts.parts.items in
-    let n = c.args.number in
-    let known : c.in_ok-info.info ≡ info_of n schema parts = ◌∙◌ {A = TableInfo} c.in_ok-info.ensures.info (ap (λ (parts : List Partition). info_of n schema parts) c.as_slice.ensures.value) in
-    let infos : c.in_ok-tables.tables ≡ c.self.inside.tables ++ info_of n schema parts ∷ [] = ◌∙◌ {A = List TableInfo} c.in_ok-tables.ensures (ap (λ (info : TableInfo). c.self.inside.tables ++ info ∷ []) known) in
-    let kept : Keeping = record { schema = schema; infos = c.self.inside.tables; sealed = c.self.inside.sealed; active = c.self.inside.active; readers = c.self.inside.readers.items } in
-    let new : Keeping = record { schema = schema; infos = c.in_ok-tables.tables; sealed = c.new.result; active = c.self.inside.active; readers = c.self.inside.readers.items } in
-    let fits : PartsFit schema parts =
-    parts_fit schema parts c.self.inside.sealed c.in_ok-parts.ensures (subst (λ (k : Keeping). All (λ w. CommandFits k.schema (Put w)) k.sealed) (sym c.self.view_is) c.requires.fit) in
-    let stored : IsTableStored (g.W.Store.files c.args.store.now) kept n (g.W.Store.files c.write_table.new.store) new = record {
+    let added : IsAdded (g.W.Store.files c.args.store.now) (tabled kept) c.args.number parts (g.W.Store.files c.add.new.store) (tabled new) =
+    subst (λ (parts : List Partition). IsAdded (g.W.Store.files c.args.store.now) (tabled kept) c.args.number parts (g.W.Store.files c.add.new.store) (tabled new)) c.as_slice.ensures.value c.in-Ok.ensures.added in
+    let stored : IsTableStored (g.W.Store.files c.args.store.now) kept c.args.number (g.W.Store.files c.add.new.store) new = record {
       parts = parts;
       of_writes = c.in_ok-parts.ensures;
-      is_table = text_is_a_table schema parts fits c.in_ok-parts.ensures.mutations (subst (λ (parts : List Partition). AllByRecursion IsItem (whole_table schema parts)) c.as_slice.ensures.value c.in_ok-info.ensures.items);
-      written = c.in-Ok.ensures.files ∙ ap (λ (parts : List Partition). with_file (g.W.Store.files c.args.store.now) n (text (whole_table schema parts))) c.as_slice-2.ensures.value;
-      keeps = λ i. record { schema = schema; infos = infos i; sealed = c.new.ensures i; active = c.self.inside.active; readers = c.self.inside.readers.items };
+      added = added;
+      keeps = λ i. record { schema = (added.keeps i).schema; infos = c.add.new.self.infos; sealed = c.new.ensures i; active = c.self.inside.active; readers = c.self.inside.readers.items };
     } in
-    subst (λ (k : Keeping). IsFlushAnswered (g.W.Store.files c.args.store.now) k n (g.W.Store.files c.write_table.new.store) new replies.Fine) c.self.view_is (inl (refl, stored))
+    subst (λ (k : Keeping). IsFlushAnswered (g.W.Store.files c.args.store.now) k c.args.number (g.W.Store.files c.add.new.store) new replies.Fine) c.self.view_is (inl (refl, stored))

@@ -1,8 +1,12 @@
-use Rattle.std.proofs.Common.{refl, sym, ap, ◌∙◌, subst, arith}
+use Rattle.std.proofs.Common.{◌<◌, ◌-◌, ◌*◌, ◌/◌, length, refl, sym, ap, ◌∙◌, subst, arith}
+use Rattle.lsa_move.specs.Room.{Tight}
+use Rattle.lsa_pool.specs.Room.{spare_of}
+use Rattle.lsa_region.specs.Region.{View, live_bytes}
 use Rattle.rc_memory.specs.Memory.{Memory}
 use Rattle.rc_unstored.specs.Memtables.{HaveWrites, Memtables}
 use Rattle.rc_unstored.specs.Readers.{AllStillSee}
-use Rattle.rc_unstored.proofs.Applying.{full-for, put-seen, put-stands, room-more}
+use Rattle.rc_unstored.specs.Steps.{IsNotPut, IsPutBehind, IsPutRefused}
+use Rattle.rc_unstored.proofs.Applying.{full-for, full-left, put-left, put-seen, put-stands, refused-left, room-more}
 use Rattle.rc_unstored.proofs.Keeping.{both-moved, on-err}
 use Rattle.rc_unstored.proofs.unstored.Unstored.put.Goals as goal
 
@@ -44,3 +48,32 @@ apply-requires g c =
     let moved = both-moved c.args.schema.now u c.ensure.new.self k.0 k.1 c.ensure.ensures.untouched.chains h in
     let room = room-more c.args.schema.now c.self.inside.active c.args.w.now c.self.inside.chains c.ensure.new.self c.need-need.result _ c.ensure.ensures.untouched.chains (c.in-Ready.ensures.ready refl) c.need-need.ensures.room in
     (omega arith, (c.requires.small, (c.requires.single, (c.requires.fits, ((k.1, moved.active), room)))))
+
+-- what is left, whatever came of it
+pub returns-in_ok-apply-in-Ready-clause-applied : goal.returns-in_ok-apply-in-Ready-clause-applied
+returns-in_ok-apply-in-Ready-clause-applied g c e =
+    let u : Memtables = record { memory = c.self.inside.chains; sealed = c.self.inside.sealed; active = c.self.inside.active } in
+    subst (λ (x : Memtables). IsPutBehind c.args.schema.now c.args.w.now x (record { memory = c.apply.new.chains; sealed = c.self.inside.sealed; active = c.apply.new.self })) c.self.view_is
+    (put-left c.args.schema.now c.args.w.now u c.apply.new.self c.ensure.new.self c.apply.new.chains c.ensure.ensures.untouched c.in_ok-apply-in-Ready.ensures.applied)
+
+pub returns-in-Full-clause-left : goal.returns-in-Full-clause-left
+returns-in-Full-clause-left g c e =
+    let u : Memtables = record { memory = c.self.inside.chains; sealed = c.self.inside.sealed; active = c.self.inside.active } in
+    subst (λ (x : Memtables). IsNotPut x (record { memory = c.ensure.new.self; sealed = c.self.inside.sealed; active = c.self.inside.active })) c.self.view_is
+    (full-left u c.ensure.new.self c.ensure.ensures.untouched)
+
+pub returns-in_err-apply-in-Ready-clause-refused : goal.returns-in_err-apply-in-Ready-clause-refused
+returns-in_err-apply-in-Ready-clause-refused g c =
+    let u : Memtables = record { memory = c.self.inside.chains; sealed = c.self.inside.sealed; active = c.self.inside.active } in
+    let e = c.in_err-apply-in-Ready.ensures in
+    on-err c.from_residual.result _
+    (subst (λ (x : Memtables). IsPutRefused x (record { memory = c.apply.new.chains; sealed = c.self.inside.sealed; active = c.apply.new.self })) c.self.view_is
+    (refused-left u c.apply.new.self c.ensure.new.self c.apply.new.chains c.ensure.ensures.untouched e.err e.same))
+
+-- no room: fewer bytes are spare than are needed, and no closed segment is sparse
+pub a_tight_region_is_nearly_full-requires : goal.a_tight_region_is_nearly_full-requires
+a_tight_region_is_nearly_full-requires g c =
+    (omega arith, (subst (λ (v : View). Tight g.row.S v.usages) (sym c.region.ensures) (c.in-Full.ensures.tight refl), (c.need-need.ensures.few, subst (λ (v : View). spare_of g.row.S v.usages < c.need-need.result) (sym c.region.ensures) (c.in-Full.ensures.full refl))))
+
+pub returns-in-Full-clause-crowded : goal.returns-in-Full-clause-crowded
+returns-in-Full-clause-crowded g c e = subst (λ (v : View). 3 * g.row.S / 4 * (length v.usages - 2) < live_bytes v) c.region.ensures c.a_tight_region_is_nearly_full.ensures.live

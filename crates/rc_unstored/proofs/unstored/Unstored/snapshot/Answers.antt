@@ -1,10 +1,14 @@
 use Rattle.std.proofs.Common.{sym, ap, ◌∙◌, subst, arith}
+use Rattle.rc_memory.specs.Memory.{Memory}
+use Rattle.rc_memtable.specs.Partitions.{AreAsBefore}
 use Rattle.rc_unstored.specs.calls.Giving.{given_back}
 use Rattle.rc_unstored.specs.Memtables.{HaveWrites, Memtables}
-use Rattle.rc_unstored.specs.Readers.{AllStillSee, AreSameSnapshots, IsSnapshotOfKey}
-use Rattle.rc_unstored.proofs.Keeping.{flipped}
+use Rattle.rc_unstored.specs.Readers.{AllStillSee, AreSameSnapshots, IsSnapshotOfKey, IsTakenIf}
+use Rattle.rc_unstored.specs.Steps.{AreSameKeys}
+use Rattle.rc_unstored.proofs.Before.{before-of}
+use Rattle.rc_unstored.proofs.Keeping.{flipped, on-err, same-keys}
 use Rattle.rc_unstored.proofs.Pins.{seen-then}
-use Rattle.rc_unstored.proofs.Taking.{back-same, key-before, key-then, two-chains}
+use Rattle.rc_unstored.proofs.Taking.{back-as-before, back-same, key-before, key-then, taken-if, two-chains}
 use Rattle.rc_unstored.proofs.unstored.Unstored.snapshot.Goals as goal
 
 pub snapshot_beside-requires-2 : goal.snapshot_beside-requires-2
@@ -60,3 +64,37 @@ returns-in-Err-clause-err g c =
 
 pub returns-in-Err-clause-seen : goal.returns-in-Err-clause-seen
 returns-in-Err-clause-seen g c = (returns-in-Err-clause-err g c).alike
+
+-- what was done to the chains
+pub returns-in-Ok-clause-exact : goal.returns-in-Ok-clause-exact
+returns-in-Ok-clause-exact g c =
+    subst (λ (x : Memtables). (mid : Memory) × IsTakenIf x.memory mid c.in_ok-sealed.sealed × IsTakenIf mid c.snapshot_beside-2.new.chains c.in-Ok.active) c.self.view_is (
+      c.snapshot_beside.new.chains,
+      taken-if c.self.inside.chains c.snapshot_beside.new.chains c.self.inside.sealed c.args.key.now c.in_ok-sealed.sealed c.in_ok-sealed.ensures.taken c.in_ok-sealed.ensures.same,
+      taken-if c.snapshot_beside.new.chains c.snapshot_beside-2.new.chains c.self.inside.active c.args.key.now c.in-Ok.active c.in-Ok.ensures.taken c.in-Ok.ensures.same,
+    )
+
+pub returns-in-Ok-clause-keys : goal.returns-in-Ok-clause-keys
+returns-in-Ok-clause-keys g c =
+    let u : Memtables = record { memory = c.self.inside.chains; sealed = c.self.inside.sealed; active = c.self.inside.active } in
+    subst (λ (x : Memtables). AreSameKeys x (record { memory = c.snapshot_beside-2.new.chains; sealed = c.self.inside.sealed; active = c.self.inside.active })) c.self.view_is (same-keys u c.snapshot_beside-2.new.chains)
+
+pub returns-in-Err-clause-keys : goal.returns-in-Err-clause-keys
+returns-in-Err-clause-keys g c =
+    let u : Memtables = record { memory = c.self.inside.chains; sealed = c.self.inside.sealed; active = c.self.inside.active } in
+    subst (λ (x : Memtables). AreSameKeys x (record { memory = c.give_back.new.chains; sealed = c.self.inside.sealed; active = c.self.inside.active })) c.self.view_is (same-keys u c.give_back.new.chains)
+
+pub returns-in-Err-clause-left : goal.returns-in-Err-clause-left
+returns-in-Err-clause-left g c =
+    subst (λ (x : Memtables). AreAsBefore x.memory c.give_back.new.chains) c.self.view_is
+    (subst (AreAsBefore c.self.inside.chains) (sym (c.give_back.ensures.now ∙ ap (given_back c.in_ok-sealed.sealed) c.in-Err.ensures.err))
+    (back-as-before c.self.inside.chains c.snapshot_beside.new.chains c.self.inside.sealed c.args.key.now c.in_ok-sealed.sealed c.in_ok-sealed.ensures.taken c.in_ok-sealed.ensures.same))
+
+pub returns-in_err-sealed-clause-keys : goal.returns-in_err-sealed-clause-keys
+returns-in_err-sealed-clause-keys g c =
+    let u : Memtables = record { memory = c.self.inside.chains; sealed = c.self.inside.sealed; active = c.self.inside.active } in
+    subst (λ (x : Memtables). AreSameKeys x (record { memory = c.snapshot_beside.new.chains; sealed = c.self.inside.sealed; active = c.self.inside.active })) c.self.view_is (same-keys u c.snapshot_beside.new.chains)
+
+pub returns-in_err-sealed-clause-left : goal.returns-in_err-sealed-clause-left
+returns-in_err-sealed-clause-left g c =
+    on-err c.from_residual.result _ (subst (λ (x : Memtables). AreAsBefore x.memory c.snapshot_beside.new.chains) c.self.view_is (before-of c.self.inside.chains c.snapshot_beside.new.chains c.in_err-sealed.ensures.err))

@@ -1,0 +1,4 @@
+pub mod calls
+pub mod Tabled
+pub mod Opening
+pub mod laws

@@ -1,0 +1,9 @@
+pub mod Kept
+pub mod Saying
+pub mod Uniting
+pub mod Joins
+pub mod Same
+pub mod Called
+pub mod Moving
+pub mod Fresh
+pub mod Still

@@ -1,0 +1,85 @@
+-- What is left to an open reader over the chains that its snapshots are of.
+--     SeesAllOf      a snapshot sees what changes say; where there is none, there are none
+--     AreChangesOf   changes are such as the program has, and fit a schema
+--     AreSources     what an open reader reads, as it is made
+--     GivesLines     these lines are left
+use Rattle.std.specs.Prelude.{◌≡◌, All, List, [], Option, Some, None, Result, Ok, Err, ℕ, drop}
+use Rattle.std.specs.declared.alloc.AllocError.{AllocError}
+use Rattle.rc_schema.specs.SchemaValue.{SchemaValue}
+use Rattle.rc_writes.specs.Allowed.{ChangeFits}
+use Rattle.rc_mutation.specs.declared.mutations.Mutation.{Mutation}
+use Rattle.rc_mutation.specs.Fragments.{fragments}
+use Rattle.rc_mutation.specs.Source.{IsMutation}
+use Rattle.rc_query.specs.declared.lines.OutLine.{OutLine}
+use Rattle.rc_memory.specs.Memory.{Memory}
+use Rattle.rc_chain.specs.declared.chains.Snap.{Snap}
+use Rattle.rc_stream.specs.Did.{IsNewMerge}
+use Rattle.rc_stream.specs.Stream.{Stream, stream_of}
+use Rattle.rc_stream.specs.declared.merges.Merge.{Merge}
+use Rattle.rc_reader.specs.Left.{AreLeft}
+use Rattle.rc_snapshots.specs.Streams.{SeesChanges}
+use Rattle.rc_opened.specs.declared.opened.Snaps.{Snaps}
+use Rattle.rc_opened.specs.declared.no_files.NoFiles.{NoFiles}
+use Rattle.rc_opened.specs.declared.opened.Opened.{Opened}
+use Rattle.rc_opened.specs.declared.written.Written.{Written}
+use Rattle.rc_opened.specs.Written.{IsNewWritten, IsStreamOf, snap_in}
+
+-- a snapshot sees what these changes say; where there is none, there are none
+abbrev pub SeesAllOf : List Mutation → Memory → Option Snap → Type 0
+SeesAllOf changes m None = changes ≡ []
+SeesAllOf changes m (Some s) = SeesChanges changes m s
+
+-- changes are such as the program has, and fit a schema
+pub record AreChangesOf (schema : SchemaValue) (changes : List Mutation) : Type 0 where
+  pub mutations : All IsMutation changes
+  pub fit : All (ChangeFits schema) changes
+
+-- what an open reader reads
+abbrev pub OfSources : Type 0
+OfSources = Merge Stream (Merge Written Written)
+
+-- its streams of what is sealed and of what is written since
+abbrev pub sealed_of : OfSources → Written
+sealed_of s = s.theirs.stream.ours.stream
+
+-- what it has of the later writes
+abbrev pub active_of : OfSources → Written
+active_of s = s.theirs.stream.theirs.stream
+
+-- the store over which it reads
+abbrev pub no_files : NoFiles
+no_files = record {}
+
+-- what an open reader reads, as it is made: the list of what the tables said, and the streams of both snapshots, from the beginning of the partition
+pub record AreSources (tables : Mutation) (snaps : Snaps) (s : OfSources) : Type 0 where
+  pub inner : Merge Written Written
+  pub sealed : Written
+  pub active : Written
+  pub new_sealed : IsNewWritten snaps.sealed sealed
+  pub new_active : IsNewWritten snaps.active active
+  pub written : IsNewMerge sealed active inner
+  pub all : IsNewMerge (stream_of (fragments tables)) inner s
+
+-- the snapshots that are read
+abbrev pub snaps_in : OfSources → Snaps
+snaps_in s = record { sealed = snap_in (sealed_of s).stream; active = snap_in (active_of s).stream }
+
+-- the snapshots of an open reader
+abbrev pub snaps_of : Opened → Snaps
+snaps_of o = snaps_in o.reader.stream
+
+-- the streams are those of these snapshots, wherever they stand
+pub record AreStreamsOf (snaps : Snaps) (s : OfSources) : Type 0 where
+  pub sealed : IsStreamOf snaps.sealed (sealed_of s).stream
+  pub active : IsStreamOf snaps.active (active_of s).stream
+
+-- These lines are left to an open reader over chains: its stream may be called, leaves them, and is that of its snapshots.
+pub record GivesLines (ready : OfSources → Memory → NoFiles → Type 0) (seen : OfSources → Memory → NoFiles → Stream → Type 0) (m : Memory) (o : Opened) (lines : List OutLine) : Type 0 where
+  pub may : ready o.reader.stream m no_files
+  pub left : AreLeft seen o.reader m no_files lines
+  pub streams : AreStreamsOf (snaps_of o) o.reader.stream
+
+-- what is left of lines after the first so many were given; all of them, where memory was refused
+abbrev pub left_behind : {T : Type 0} → Result T AllocError → ℕ → List OutLine → List OutLine
+left_behind (Ok given) n lines = drop n lines
+left_behind (Err e) n lines = lines

@@ -1,0 +1,119 @@
+//! Open readers.
+ghost use Rattle.std.specs.Prelude.{◌≡◌, ◌++◌, ◌∷◌, [], ℕ, List, IfErr, IfOk, IfSome, OnErr, length, take, drop, nat_lt};
+ghost use Rattle.rc_query.specs.declared.lines.OutLine.{OutLine as Line};
+ghost use Rattle.rc_query.specs.Answer.{answer};
+ghost use Rattle.rc_mutation.specs.declared.mutations.Mutation.{Mutation as Change};
+ghost use Rattle.rc_mutation.specs.Source.{IsJoinOf, IsMutation};
+ghost use Rattle.rc_schema.specs.SchemaValue.{SchemaValue};
+ghost use Rattle.rc_opened.specs.Opened.{AreChangesOf, AreSources, GivesLines, SeesAllOf, left_behind, snaps_in, snaps_of};
+
+use crate::no_files::NoFiles;
+use crate::opening::new_sources_say_what_was_written;
+use crate::written::Written;
+use rc_chain::{Chains, Snap};
+use rc_mutation::Mutation;
+use rc_position::Slice;
+use rc_query::Lines;
+use rc_reader::Reader;
+use rc_stream::{Frags, ListFrags, Merge, StreamErr};
+use std::alloc::{AllocError, Global};
+
+/// What an open reader reads: what the tables said of its partition, then what is sealed of it, and what is written since.
+pub type Sources = Merge<ListFrags, Merge<Written, Written>>;
+
+/// The snapshots of what stands of a partition in no table, each where something is.
+pub struct Snaps {
+    /// Of the sealed writes.
+    pub sealed: Option<Snap>,
+    /// Of the later ones.
+    pub active: Option<Snap>,
+}
+
+/// An open reader of a slice of one partition: what its tables said, which was read when it was opened, with snapshots of what stood in no table then. It is read over the chains of these snapshots, a page at a time.
+pub struct Opened {
+    pub(crate) reader: Reader<Sources>,
+}
+
+impl Opened {
+    /// A reader from the beginning of a slice on, of a partition of which the tables said this, with snapshots of what is sealed of it and of what is written since. The only error is want of memory: then the snapshots are given back.
+    pub fn open<const S: usize>(
+        alloc: Global,
+        chains: &mut Chains<S>,
+        snaps: Snaps,
+        tables: &Mutation,
+        slice: &Slice,
+    ) -> Result<Self, (Snaps, AllocError)>
+        requires { (writes : List Change) × (later : List Change) × SeesAllOf writes chains.old snaps.sealed × SeesAllOf later chains.old snaps.active }
+        ensures gives { (schema : SchemaValue) (said writes later : List Change) → IsJoinOf tables.now said → AreChangesOf schema writes → AreChangesOf schema later → SeesAllOf writes chains.old snaps.sealed → SeesAllOf later chains.old snaps.active →
+            IfOk result (λ o. GivesLines ⟦<Sources as Frags<Chains<S>, NoFiles>>⟧.ready ⟦<Sources as Frags<Chains<S>, NoFiles>>⟧.seen chains.new o (answer (said ++ (writes ++ later)) slice.now)) }
+        ensures snaps { IfOk result (λ o. snaps_of o ≡ snaps) }
+        ensures back { IfErr result (λ e. e.0 ≡ snaps) }
+        ensures chains { chains.new ≡ chains.old }
+    {
+        new_sources_say_what_was_written::<S>();
+        tables.holds_together();
+        match sources(alloc, snaps, tables) {
+            Ok(stream) => match Reader::open(alloc, stream, slice, chains, &mut NoFiles) {
+                Ok(reader) => Ok(Opened { reader }),
+                Err((stream, _)) => Err((given_back(stream), AllocError)),
+            },
+            Err(refused) => Err(refused),
+        }
+    }
+
+    /// Gives the first lines that are left, at most `count`, and whether there are more behind them. The only error is want of memory: then none is given, and the same are left.
+    pub fn read<const S: usize>(
+        &mut self,
+        alloc: Global,
+        chains: &mut Chains<S>,
+        count: u32,
+    ) -> Result<(Lines, bool), AllocError>
+        requires { (lines : List Line) × GivesLines ⟦<Sources as Frags<Chains<S>, NoFiles>>⟧.ready ⟦<Sources as Frags<Chains<S>, NoFiles>>⟧.seen chains.old self.old lines }
+        ensures gives { (lines : List Line) → GivesLines ⟦<Sources as Frags<Chains<S>, NoFiles>>⟧.ready ⟦<Sources as Frags<Chains<S>, NoFiles>>⟧.seen chains.old self.old lines → IfOk result (λ gave. gave.0 ≡ take count lines) }
+        ensures more { (lines : List Line) → GivesLines ⟦<Sources as Frags<Chains<S>, NoFiles>>⟧.ready ⟦<Sources as Frags<Chains<S>, NoFiles>>⟧.seen chains.old self.old lines → IfOk result (λ gave. gave.1 ≡ nat_lt count (length lines)) }
+        ensures left { (lines : List Line) → GivesLines ⟦<Sources as Frags<Chains<S>, NoFiles>>⟧.ready ⟦<Sources as Frags<Chains<S>, NoFiles>>⟧.seen chains.old self.old lines → GivesLines ⟦<Sources as Frags<Chains<S>, NoFiles>>⟧.ready ⟦<Sources as Frags<Chains<S>, NoFiles>>⟧.seen chains.new self.new (left_behind result count lines) }
+        ensures snaps { snaps_of self.new ≡ snaps_of self.old }
+        ensures chains { chains.new ≡ chains.old }
+    {
+        match self.reader.read(alloc, chains, &mut NoFiles, count) {
+            Ok(gave) => Ok(gave),
+            Err(StreamErr::NoMemory) => Err(AllocError),
+            Err(StreamErr::Fault) | Err(StreamErr::Damaged { .. }) => unreachable!(),
+        }
+    }
+
+    /// The snapshots of a reader that is done with, to be taken back.
+    pub fn into_snaps(self) -> Snaps
+        ensures { result ≡ snaps_of self }
+    {
+        let Opened { reader } = self;
+        given_back(reader.into_stream())
+    }
+}
+
+// What a reader reads, from the beginning of its partition. The only error is want of memory.
+fn sources(alloc: Global, snaps: Snaps, tables: &Mutation) -> Result<Sources, (Snaps, AllocError)>
+    ensures made { IfOk result (AreSources tables.now snaps) }
+    ensures back { IfErr result (λ e. e.0 ≡ snaps) }
+{
+    match tables.fragments(alloc) {
+        Ok(list) => {
+            let Snaps { sealed, active } = snaps;
+            let written = Merge::new(Written::new(alloc, sealed), Written::new(alloc, active));
+            Ok(Merge::new(ListFrags::new(list), written))
+        }
+        Err(error) => Err((snaps, error)),
+    }
+}
+
+// The snapshots of what was read.
+fn given_back(sources: Sources) -> Snaps
+    ensures { result ≡ snaps_in sources }
+{
+    let (_list, written) = sources.into_parts();
+    let (sealed, active) = written.into_parts();
+    Snaps {
+        sealed: sealed.into_snap(),
+        active: active.into_snap(),
+    }
+}

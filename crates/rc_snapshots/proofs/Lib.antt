@@ -1,0 +1,5 @@
+mod Fragments
+mod Parts
+mod Ready
+mod Said
+mod Seen

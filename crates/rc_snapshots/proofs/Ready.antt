@@ -1,0 +1,162 @@
+-- A snapshot's stream is ready, and stands for what was written.
+use Rattle.std.specs.Prelude.{◌≡◌, ◌≢◌, ◌⊎◌, ℕ, true, false, IsTrue, List, [], ◌∷◌, ◌++◌, Option, Some, None}
+use Rattle.std.proofs.Common.{refl, sym, ap, ◌∙◌, subst, inl, inr}
+use Rattle.std.specs.Ordering.{is_le}
+use Rattle.rc_cell.specs.declared.rows.Row.{Row}
+use Rattle.rc_cell.specs.declared.writes.Tomb.{Tomb}
+use Rattle.rc_position.specs.declared.positions.Pos.{Pos}
+use Rattle.rc_position.specs.Position.{IsBefore}
+use Rattle.rc_mutation.specs.declared.fragments.HeadAt.{HeadAt}
+use Rattle.rc_mutation.specs.declared.mutations.Mutation.{Mutation}
+use Rattle.rc_mutation.specs.Fragments.{fragments}
+use Rattle.rc_mutation.specs.Source.{SameSource, source_at_head, source_at_static}
+use Rattle.rc_core.specs.declared.entries.ChainKind.{ChainKind}
+use Rattle.rc_core.specs.declared.entries.ChainKind.TheVariants.{Memtable}
+use Rattle.rc_core.specs.declared.entries.Flag.{Flag}
+use Rattle.rc_core.specs.declared.entries.Flag.TheVariants.{Inherit}
+use Rattle.rc_core.specs.Chain.{IsKnown, base, content, decides, flagged, flagged_from, newer_first, states_at}
+use Rattle.rc_core.specs.Chains.{AllInherit}
+use Rattle.rc_core.specs.Continuity.{EachOf, static_states}
+use Rattle.rc_core.specs.Version.{On, Version, end_position, static_state}
+use Rattle.rc_memory.specs.Memory.{HasPin, Memory}
+use Rattle.rc_chain.specs.declared.chains.Snap.{Snap}
+use Rattle.rc_stream.specs.Places.{Reaches}
+use Rattle.rc_stream.specs.Snapshot.{There}
+use Rattle.rc_stream.specs.Stream.{Stream, stream_of}
+use Rattle.rc_cursor.specs.declared.readers.SnapshotReader.{SnapshotReader}
+use Rattle.rc_cursor.specs.Snapshots.{AreReadable, IsHeadOf, IsKnownAs, kind_seen, versions_seen}
+use Rattle.rc_cacheread.specs.declared.readers.CacheReader.{CacheReader}
+use Rattle.rc_cacheread.specs.declared.readers.Stage.TheVariants.{Away}
+use Rattle.rc_cacheread.specs.declared.spots.RowAt.TheVariants.{Unread}
+use Rattle.rc_cacheread.specs.Reading.{Reads}
+use Rattle.rc_cacheread.specs.Sharing.{IsAllKnown, IsReady, IsSaidBelow, IsStaticRowKnown, Leads, Sees}
+use Rattle.rc_cacheread.specs.Spots.{front, stand}
+use Rattle.rc_snapshots.specs.declared.fillers.NoFiller.{NoFiller}
+use Rattle.rc_snapshots.specs.Streams.{IsNewStream, IsOf, SayThere, SeesChanges, filler_of, first_position, from_start}
+use Rattle.rc_snapshots.proofs.Fragments.{from-first}
+use Rattle.rc_snapshots.proofs.Parts.{be, fi, fit, kn, shares}
+
+abbrev pub Reader : Type 0
+Reader = CacheReader SnapshotReader Stream NoFiller
+
+-- ---- a memtable's static row is known
+
+undecided : (f : Flag) (o : Option ℕ) → o ≡ None → f ≡ Inherit → newer_first f o ≡ None
+undecided f o e i = (λ j. newer_first (i j) (e j))
+
+no-base : (versions : List Version) → EachOf AllInherit versions → base (static_states versions) ≡ None
+no-base [] h = refl
+no-base (v ∷ vs) h = undecided (static_state v).flag (base (static_states vs)) (no-base vs h.1) h.0.statics
+
+statics-flagged : (versions : List Version) → EachOf AllInherit versions → flagged Memtable (static_states versions) ≡ true
+statics-flagged versions h = ap (λ b. flagged_from Memtable b (static_states versions)) (no-base versions h)
+
+-- ---- a new stream
+
+-- a new stream, with what is not looked at
+abbrev made : Snap → Option Pos → Reader
+made s since = record {
+  known = from_start s;
+  below = stream_of [];
+  filler = filler_of s;
+  to = end_position;
+  spot = record { place = first_position; row = Unread; told = None; again = None; tomb = None; since = since };
+  stage = Away;
+  lags = true;
+}
+
+is-made : (s : Snap) (r : Reader) → IsNewStream s r → r ≡ made s r.spot.since
+is-made s r is = λ i. record {
+  known = is.known i;
+  below = is.below i;
+  filler = is.filler i;
+  to = is.to i;
+  spot = record { place = is.place i; row = is.row i; told = is.told i; again = is.again i; tomb = is.tomb i; since = r.spot.since };
+  stage = is.stage i;
+  lags = is.lags i;
+}
+
+pub new-is-of : (s : Snap) (r : Reader) → IsNewStream s r → IsOf s r
+new-is-of s r is = record { snap = ap (λ (k : SnapshotReader). k.snap) is.known; filler = is.filler }
+
+module _ (known : (versions : List Version) → EachOf AllInherit versions → (x : Pos) → IsKnown Memtable versions x) (s : Snap) (changes : List Mutation) (m : Memory) (sees : SeesChanges changes m s) where
+  all-known : IsAllKnown (kn.knows (from_start s) m) (kn.heads (from_start s) m) first_position end_position
+  all-known = record {
+    each = λ y _ _. (content (states_at (On y) (versions_seen m s)), record { known = subst (λ q. IsKnown q (versions_seen m s) y) (sym sees.kind) (known (versions_seen m s) sees.inherit y); there = refl });
+    head = λ at h. h.known ∙ ap (λ q. flagged q (static_states (versions_seen m s))) sees.kind ∙ statics-flagged (versions_seen m s) sees.inherit;
+  }
+
+  module _ {W : Type 0} (w : W) (r : Reader) (is : IsNewStream s r) where
+    pub new-ready : IsReady kn (be W) fi r m w
+    new-ready = subst (λ q. IsReady kn (be W) fi q m w) (sym (is-made s r is)) (record {
+      fit = fit W (from_start s) (stream_of []) m w (sees.pin, sees.readable);
+      shares = shares W;
+      covered = inl all-known;
+      ahead = λ x _. tt;
+      place = from-first first_position;
+    })
+
+    module _ (said : Mutation) (t : Stream) (same : SameSource (said ∷ []) changes) (reads : Reads (SayThere (said ∷ [])) first_position end_position None t.left) (none : t.tomb ≡ None) (pt : t.head.pt ≡ source_at_head (said ∷ [])) (statics : t.head.statics ≡ source_at_static (said ∷ [])) where
+      stands : (y : Pos) (v : There) → kn.knows (from_start s) m y v → SayThere (said ∷ []) y v
+      stands y v a = same.clustered y ∙ sym (sees.stands.clustered y) ∙ a.there
+
+      pub new-sees : Sees kn (be W) fi r m w t
+      new-sees = subst (λ q. Sees kn (be W) fi q m w t) (sym (is-made s r is)) (record {
+        rest = t.left;
+        tomb = none;
+        left = refl;
+        reads = record {
+          ordered = reads.ordered;
+          telling = reads.telling;
+          written = reads.written;
+          apart = reads.apart;
+          from = reads.from;
+          within = λ y v a b k. reads.within y v a b (stands y v k);
+          beyond = reads.beyond;
+        };
+        pt = λ at h. h.pt ∙ sees.stands.head ∙ sym same.head ∙ sym pt;
+        static_row = λ row h. sym h ∙ ap (λ (v : There). v.0) sees.stands.statics ∙ sym same.statics ∙ sym statics;
+        below = inl all-known;
+      })
+
+-- ---- a stream over other chains, in which the snapshot sees the same
+
+-- the stream, of a snapshot whatever its own says
+abbrev with_snap : Snap → Reader → Reader
+with_snap s r = record { known = record { snap = s; cursor = r.known.cursor }; below = r.below; filler = filler_of s; to = r.to; spot = r.spot; stage = r.stage; lags = r.lags }
+
+is-with : (s : Snap) (r : Reader) → IsOf s r → r ≡ with_snap s r
+is-with s r of = λ i. record { known = record { snap = of.snap i; cursor = r.known.cursor }; below = r.below; filler = of.filler i; to = r.to; spot = r.spot; stage = r.stage; lags = r.lags }
+
+module _ {W : Type 0} (s : Snap) (m n : Memory) (w v : W) (versions : versions_seen n s ≡ versions_seen m s) (kind : kind_seen n s ≡ kind_seen m s) where
+  -- what holds of what the snapshot saw holds of what it sees
+  on : (P : ChainKind → List Version → Type 0) → P (kind_seen m s) (versions_seen m s) → P (kind_seen n s) (versions_seen n s)
+  on P h = subst (λ q. P q (versions_seen n s)) (sym kind) (subst (P (kind_seen m s)) (sym versions) h)
+
+  module _ (r : Reader) (of : IsOf s r) where
+    abbrev q : Reader
+    q = with_snap s r
+
+    pub stays-ready : HasPin n s.chain s.pin → IsReady kn (be W) fi r m w → IsReady kn (be W) fi r n v
+    stays-ready pin is =
+        let h = subst (λ p. IsReady kn (be W) fi p m w) (is-with s r of) is in
+        subst (λ p. IsReady kn (be W) fi p n v) (sym (is-with s r of)) (record {
+          fit = fit W q.known q.below n v (pin, on (λ k vs. AreReadable k vs) h.fit.known.1);
+          shares = shares W;
+          covered = on (λ k vs. IsAllKnown (IsKnownAs k vs) (IsHeadOf k vs) (stand q.spot) q.to ⊎ Leads (IsKnownAs k vs) (λ row. (content (static_states vs)).0 ≡ row) (λ t. t ≡ q.below) q.stage (stand q.spot) q.to q.spot.tomb) h.covered;
+          ahead = λ x _. tt;
+          place = h.place;
+        })
+
+    pub stays-seen : (t : Stream) → Sees kn (be W) fi r m w t → Sees kn (be W) fi r n v t
+    stays-seen t is =
+        let h = subst (λ p. Sees kn (be W) fi p m w t) (is-with s r of) is in
+        subst (λ p. Sees kn (be W) fi p n v t) (sym (is-with s r of)) (record {
+          rest = h.rest;
+          tomb = h.tomb;
+          left = h.left;
+          reads = on (λ k vs. Reads (IsKnownAs k vs) (stand q.spot) q.to q.spot.tomb h.rest) h.reads;
+          pt = on (λ k vs. (at : HeadAt) → IsHeadOf k vs at → at.head.pt ≡ t.head.pt) h.pt;
+          static_row = on (λ k vs. (row : Row) → (content (static_states vs)).0 ≡ row → row ≡ t.head.statics) h.static_row;
+          below = on (λ k vs. IsAllKnown (IsKnownAs k vs) (IsHeadOf k vs) (stand q.spot) q.to ⊎ IsSaidBelow (λ u. u ≡ q.below) q.stage q.to q.spot h.rest t.head.statics) h.below;
+        })

@@ -1,0 +1,34 @@
+-- What a filler that fills nothing sees of the snapshot that it names.
+--     KnowsNamed             what the snapshot knows at a position
+--     StaticsNamed       its static row; KnowsStaticsNamed: and it is known
+use Rattle.std.specs.Prelude.{◌≡◌, IsTrue, List}
+use Rattle.rc_cell.specs.declared.rows.Row.{Row}
+use Rattle.rc_position.specs.declared.positions.Pos.{Pos}
+use Rattle.rc_core.specs.Chain.{content, flagged}
+use Rattle.rc_core.specs.Continuity.{static_states}
+use Rattle.rc_core.specs.declared.entries.ChainKind.{ChainKind}
+use Rattle.rc_core.specs.Version.{Version}
+use Rattle.rc_memory.specs.Memory.{Memory, chain_at}
+use Rattle.rc_stream.specs.Snapshot.{There}
+use Rattle.rc_cursor.specs.Snapshots.{IsKnownAs, kind_in, versions_in}
+use Rattle.rc_snapshots.specs.declared.fillers.NoFiller.{NoFiller}
+
+-- the versions that the snapshot of a filler sees, the oldest first
+abbrev pub versions_named : Memory → NoFiller → List Version
+versions_named m f = versions_in (chain_at m f.chain) f.pin
+
+-- the kind of its chain
+abbrev pub chain_kind_named : Memory → NoFiller → ChainKind
+chain_kind_named m f = kind_in (chain_at m f.chain)
+
+-- the snapshot knows a position, and this is there
+abbrev pub KnowsNamed : Memory → NoFiller → Pos → There → Type 0
+KnowsNamed m f = IsKnownAs (chain_kind_named m f) (versions_named m f)
+
+-- this is its static row
+abbrev pub StaticsNamed : Memory → NoFiller → Row → Type 0
+StaticsNamed m f row = (content (static_states (versions_named m f))).0 ≡ row
+
+-- this is its static row, which is known
+abbrev pub KnowsStaticsNamed : Memory → NoFiller → Row → Type 0
+KnowsStaticsNamed m f row = IsTrue (flagged (chain_kind_named m f) (static_states (versions_named m f))) × StaticsNamed m f row
