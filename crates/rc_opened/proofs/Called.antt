@@ -8,7 +8,7 @@ use Rattle.rc_stream.specs.Did.{Call, Deed, InTurn, OfHead, OfSeek, merge_did}
 use Rattle.rc_stream.specs.Stream.{Stream}
 use Rattle.rc_reader.specs.Steps.{OneStep, OpenCalls}
 use Rattle.rc_opened.specs.declared.no_files.NoFiles.{NoFiles}
-use Rattle.rc_opened.specs.declared.opened.Snaps.{Snaps}
+use Rattle.rc_snapshots.specs.declared.snaps.Snaps.{Snaps}
 use Rattle.rc_opened.specs.declared.written.Written.{Written}
 use Rattle.rc_opened.specs.Opened.{AreStreamsOf, OfSources, active_of, sealed_of, snaps_in}
 use Rattle.rc_opened.specs.Written.{DidAs, IsStreamOf, OfSnapshot, snap_in}

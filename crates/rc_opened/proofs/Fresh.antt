@@ -8,7 +8,7 @@ use Rattle.rc_memory.specs.Memory.{Memory}
 use Rattle.rc_chain.specs.declared.chains.Snap.{Snap}
 use Rattle.rc_stream.specs.Stream.{Stream, stream_of}
 use Rattle.rc_snapshots.specs.Streams.{IsNewStream, IsOf, SeesChanges}
-use Rattle.rc_opened.specs.Opened.{SeesAllOf}
+use Rattle.rc_snapshots.specs.Seeing.{SeesAllOf}
 use Rattle.rc_opened.specs.Written.{IsNewStreamOf, IsStreamOf, OfSnapshot, nothing_said}
 use Rattle.rc_opened.proofs.Saying.{says_nothing}
 

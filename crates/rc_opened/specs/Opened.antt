@@ -1,5 +1,4 @@
 -- What is left to an open reader over the chains that its snapshots are of.
---     SeesAllOf      a snapshot sees what changes say; where there is none, there are none
 --     AreChangesOf   changes are such as the program has, and fit a schema
 --     AreSources     what an open reader reads, as it is made
 --     GivesLines     these lines are left
@@ -12,22 +11,15 @@ use Rattle.rc_mutation.specs.Fragments.{fragments}
 use Rattle.rc_mutation.specs.Source.{IsMutation}
 use Rattle.rc_query.specs.declared.lines.OutLine.{OutLine}
 use Rattle.rc_memory.specs.Memory.{Memory}
-use Rattle.rc_chain.specs.declared.chains.Snap.{Snap}
 use Rattle.rc_stream.specs.Did.{IsNewMerge}
 use Rattle.rc_stream.specs.Stream.{Stream, stream_of}
 use Rattle.rc_stream.specs.declared.merges.Merge.{Merge}
 use Rattle.rc_reader.specs.Left.{AreLeft}
-use Rattle.rc_snapshots.specs.Streams.{SeesChanges}
-use Rattle.rc_opened.specs.declared.opened.Snaps.{Snaps}
+use Rattle.rc_snapshots.specs.declared.snaps.Snaps.{Snaps}
 use Rattle.rc_opened.specs.declared.no_files.NoFiles.{NoFiles}
 use Rattle.rc_opened.specs.declared.opened.Opened.{Opened}
 use Rattle.rc_opened.specs.declared.written.Written.{Written}
 use Rattle.rc_opened.specs.Written.{IsNewWritten, IsStreamOf, snap_in}
-
--- a snapshot sees what these changes say; where there is none, there are none
-abbrev pub SeesAllOf : List Mutation → Memory → Option Snap → Type 0
-SeesAllOf changes m None = changes ≡ []
-SeesAllOf changes m (Some s) = SeesChanges changes m s
 
 -- changes are such as the program has, and fit a schema
 pub record AreChangesOf (schema : SchemaValue) (changes : List Mutation) : Type 0 where

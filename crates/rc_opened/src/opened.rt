@@ -5,29 +5,23 @@ ghost use Rattle.rc_query.specs.Answer.{answer};
 ghost use Rattle.rc_mutation.specs.declared.mutations.Mutation.{Mutation as Change};
 ghost use Rattle.rc_mutation.specs.Source.{IsJoinOf, IsMutation};
 ghost use Rattle.rc_schema.specs.SchemaValue.{SchemaValue};
-ghost use Rattle.rc_opened.specs.Opened.{AreChangesOf, AreSources, GivesLines, SeesAllOf, left_behind, snaps_in, snaps_of};
+ghost use Rattle.rc_snapshots.specs.Seeing.{SeesAllOf};
+ghost use Rattle.rc_opened.specs.Opened.{AreChangesOf, AreSources, GivesLines, left_behind, snaps_in, snaps_of};
 
 use crate::no_files::NoFiles;
 use crate::opening::new_sources_say_what_was_written;
 use crate::written::Written;
-use rc_chain::{Chains, Snap};
+use rc_chain::Chains;
 use rc_mutation::Mutation;
 use rc_position::Slice;
 use rc_query::Lines;
 use rc_reader::Reader;
+use rc_snapshots::Snaps;
 use rc_stream::{Frags, ListFrags, Merge, StreamErr};
 use std::alloc::{AllocError, Global};
 
 /// What an open reader reads: what the tables said of its partition, then what is sealed of it, and what is written since.
 pub type Sources = Merge<ListFrags, Merge<Written, Written>>;
-
-/// The snapshots of what stands of a partition in no table, each where something is.
-pub struct Snaps {
-    /// Of the sealed writes.
-    pub sealed: Option<Snap>,
-    /// Of the later ones.
-    pub active: Option<Snap>,
-}
 
 /// An open reader of a slice of one partition: what its tables said, which was read when it was opened, with snapshots of what stood in no table then. It is read over the chains of these snapshots, a page at a time.
 pub struct Opened {

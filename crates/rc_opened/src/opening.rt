@@ -9,8 +9,9 @@ ghost use Rattle.rc_query.specs.Answer.{answer};
 ghost use Rattle.rc_memory.specs.Memory.{Memory};
 ghost use Rattle.rc_stream.specs.Stream.{Stream};
 ghost use Rattle.rc_reader.specs.Left.{slice_lines};
-ghost use Rattle.rc_opened.specs.declared.opened.Snaps.{Snaps};
-ghost use Rattle.rc_opened.specs.Opened.{AreChangesOf, AreSources, AreStreamsOf, OfSources, SeesAllOf, no_files};
+ghost use Rattle.rc_snapshots.specs.declared.snaps.Snaps.{Snaps};
+ghost use Rattle.rc_snapshots.specs.Seeing.{SeesAllOf};
+ghost use Rattle.rc_opened.specs.Opened.{AreChangesOf, AreSources, AreStreamsOf, OfSources, no_files};
 
 use crate::laws::writes_have_a_join;
 use crate::no_files::NoFiles;

@@ -5,7 +5,7 @@ ghost use Rattle.rc_query.specs.declared.lines.OutLine.{OutLine};
 ghost use Rattle.rc_opened.specs.declared.opened.Opened.{Opened};
 ghost use Rattle.rc_stream.specs.Stream.{Stream};
 ghost use Rattle.rc_opened.specs.Opened.{GivesLines, no_files, snaps_of};
-ghost use Rattle.rc_opened.specs.Staying.{SeeAsBefore, SeesAsBefore};
+ghost use Rattle.rc_snapshots.specs.Seeing.{StillSees, StillSeeBoth};
 ghost use Rattle.rc_opened.specs.Written.{IsStreamOf, snap_in};
 
 use crate::no_files::NoFiles;
@@ -24,15 +24,15 @@ fn a_merge_stays<H, W: Store, A: Frags<H, W>, B: Frags<H, W>>()
 
 // What is written of a partition is ready, and stands for what it stood for, where its snapshot sees what it saw.
 fn what_is_written_stays<const S: usize>()
-    ensures ready { (r : Written) (m n : Memory) → IsStreamOf (snap_in r.stream) r.stream → IfSome (snap_in r.stream) (SeesAsBefore m n) → ⟦<Written as Frags<Chains<S>, NoFiles>>⟧.ready r m no_files → ⟦<Written as Frags<Chains<S>, NoFiles>>⟧.ready r n no_files }
-    ensures seen { (r : Written) (m n : Memory) (s : Stream) → IsStreamOf (snap_in r.stream) r.stream → IfSome (snap_in r.stream) (SeesAsBefore m n) → ⟦<Written as Frags<Chains<S>, NoFiles>>⟧.seen r m no_files s → ⟦<Written as Frags<Chains<S>, NoFiles>>⟧.seen r n no_files s }
+    ensures ready { (r : Written) (m n : Memory) → IsStreamOf (snap_in r.stream) r.stream → IfSome (snap_in r.stream) (λ s. StillSees s m n) → ⟦<Written as Frags<Chains<S>, NoFiles>>⟧.ready r m no_files → ⟦<Written as Frags<Chains<S>, NoFiles>>⟧.ready r n no_files }
+    ensures seen { (r : Written) (m n : Memory) (s : Stream) → IsStreamOf (snap_in r.stream) r.stream → IfSome (snap_in r.stream) (λ s. StillSees s m n) → ⟦<Written as Frags<Chains<S>, NoFiles>>⟧.seen r m no_files s → ⟦<Written as Frags<Chains<S>, NoFiles>>⟧.seen r n no_files s }
 {
     a_snapshots_stream_stays::<S, NoFiles>();
 }
 
 /// Whatever calls change of the chains, the same lines are left to an open reader where its snapshots are there still and see what they saw.
 pub fn what_is_left_stays_where_the_snapshots_see_the_same<const S: usize>()
-    ensures { (o : Opened) (m n : Memory) (lines : List OutLine) → SeeAsBefore m n (snaps_of o) →
+    ensures { (o : Opened) (m n : Memory) (lines : List OutLine) → StillSeeBoth (snaps_of o) m n →
         GivesLines ⟦<Sources as Frags<Chains<S>, NoFiles>>⟧.ready ⟦<Sources as Frags<Chains<S>, NoFiles>>⟧.seen m o lines →
         GivesLines ⟦<Sources as Frags<Chains<S>, NoFiles>>⟧.ready ⟦<Sources as Frags<Chains<S>, NoFiles>>⟧.seen n o lines }
 {

@@ -3,3 +3,4 @@ mod Parts
 mod Ready
 mod Said
 mod Seen
+mod Seeing

@@ -1,2 +1,3 @@
 pub mod Fillers
 pub mod Streams
+pub mod Seeing

@@ -16,6 +16,8 @@ ghost use Rattle.rc_cacheread.specs.declared.readers.CacheReader.{CacheReader as
 ghost use Rattle.rc_cacheread.specs.Reading.{Reads};
 ghost use Rattle.rc_snapshots.specs.declared.fillers.NoFiller.{NoFiller as Filler};
 ghost use Rattle.rc_snapshots.specs.Streams.{IsNewStream, IsOf, SayThere, SeesChanges, first_position};
+ghost use Rattle.rc_snapshots.specs.declared.snaps.Snaps.{Snaps};
+ghost use Rattle.rc_snapshots.specs.Seeing.{AllStillSee, AreSameSnapshots, AreThere, HasSnap, SeesAllOf, StillSeeBoth, StillSees};
 
 use crate::fillers::NoFiller;
 use rc_cacheread::CacheReader;
@@ -63,4 +65,15 @@ pub fn a_snapshots_stream_stays<const S: usize, W: Store>()
         ⟦<CacheReader<SnapshotReader, ListFrags, NoFiller> as Frags<Chains<S>, W>>⟧.ready r m w → ⟦<CacheReader<SnapshotReader, ListFrags, NoFiller> as Frags<Chains<S>, W>>⟧.ready r n v }
     ensures seen { (s : Snapshot) (r : Reader Known Stream Filler) (m n : Memory) (w v : W) (t : Stream) → IsOf s r → versions_seen n s ≡ versions_seen m s → kind_seen n s ≡ kind_seen m s →
         ⟦<CacheReader<SnapshotReader, ListFrags, NoFiller> as Frags<Chains<S>, W>>⟧.seen r m w t → ⟦<CacheReader<SnapshotReader, ListFrags, NoFiller> as Frags<Chains<S>, W>>⟧.seen r n v t }
+{}
+
+/// What snapshots see stays over several calls; and what a snapshot sees it sees still where it sees what it saw. A snapshot that sees what changes say is there.
+pub fn a_snapshot_sees_what_it_saw()
+    ensures along { (old mid new : Memory) → AllStillSee old mid → AllStillSee mid new → AllStillSee old new }
+    ensures same { (old mid new : Memory) → AreSameSnapshots old mid → AreSameSnapshots mid new → AreSameSnapshots old new }
+    ensures there { (old new : Memory) (s : Snapshot) → HasSnap old s → StillSees s old new → HasSnap new s }
+    ensures sees { (changes : List Mutation) (old new : Memory) (s : Snapshot) → SeesChanges changes old s → StillSees s old new → SeesChanges changes new s }
+    ensures both { (old new : Memory) (snaps : Snaps) → AllStillSee old new → AreThere old snaps → StillSeeBoth snaps old new }
+    ensures remain { (old new : Memory) (snaps : Snaps) → AreThere old snaps → StillSeeBoth snaps old new → AreThere new snaps }
+    ensures known { (writes later : List Mutation) (m : Memory) (snaps : Snaps) → SeesAllOf writes m snaps.sealed → SeesAllOf later m snaps.active → AreThere m snaps }
 {}

@@ -3,7 +3,9 @@
 
 mod fillers;
 pub mod laws;
+mod snaps;
 mod streams;
 
 pub use fillers::NoFiller;
+pub use snaps::Snaps;
 pub use streams::{SnapshotStream, snapshot_stream};

@@ -1,0 +1,53 @@
+-- What snapshots see over several calls.
+use Rattle.std.proofs.Common.{◌≡◌, List, [], Option, Some, None, refl, sym, ap, ◌∙◌, subst}
+use Rattle.std.specs.Prelude.{IfSome}
+use Rattle.rc_mutation.specs.declared.mutations.Mutation.{Mutation}
+use Rattle.rc_core.specs.Chains.{AllInherit}
+use Rattle.rc_core.specs.Continuity.{EachOf}
+use Rattle.rc_core.specs.StandsFor.{StandsFor}
+use Rattle.rc_memory.specs.Memory.{HasPin, Memory}
+use Rattle.rc_chain.specs.declared.chains.Snap.{Snap}
+use Rattle.rc_cursor.specs.Snapshots.{AreReadable, kind_seen, versions_seen}
+use Rattle.rc_snapshots.specs.Seeing.{AllStillSee, AreSameSnapshots, AreThere, HasSnap, SeesAllOf, StillSees, StillSeeBoth}
+use Rattle.rc_snapshots.specs.Streams.{SeesChanges}
+use Rattle.rc_snapshots.specs.declared.snaps.Snaps.{Snaps}
+
+pub seen-then : (old mid new : Memory) → AllStillSee old mid → AllStillSee mid new → AllStillSee old new
+seen-then old mid new f g s on = let a = f s on in let b = g s a.pin in record { pin = b.pin; versions = b.versions ∙ a.versions; kind = b.kind ∙ a.kind }
+
+pub same-then : (old mid new : Memory) → AreSameSnapshots old mid → AreSameSnapshots mid new → AreSameSnapshots old new
+same-then old mid new f g = record { alike = seen-then old mid new f.alike g.alike; none_more = λ s on. f.none_more s (g.none_more s on) }
+
+pub snap-then : (m n : Memory) (s : Snap) → HasSnap m s → StillSees s m n → HasSnap n s
+snap-then m n s h a = record { pin = a.pin; kind = a.kind ∙ h.kind }
+
+pub sees-then : (changes : List Mutation) (m n : Memory) (s : Snap) → SeesChanges changes m s → StillSees s m n → SeesChanges changes n s
+sees-then changes m n s h a = record {
+  pin = a.pin;
+  kind = a.kind ∙ h.kind;
+  inherit = subst (EachOf AllInherit) (sym a.versions) h.inherit;
+  stands = subst (StandsFor changes) (sym a.versions) h.stands;
+  readable = subst (λ kind. AreReadable kind (versions_seen n s)) (sym a.kind) (subst (AreReadable (kind_seen m s)) (sym a.versions) h.readable);
+}
+
+-- where there is one
+some-then : (m n : Memory) (o : Option Snap) → IfSome o (HasSnap m) → IfSome o (λ s. StillSees s m n) → IfSome o (HasSnap n)
+some-then m n None h a = tt
+some-then m n (Some s) h a = snap-then m n s h a
+
+some-still : (m n : Memory) (o : Option Snap) → AllStillSee m n → IfSome o (HasSnap m) → IfSome o (λ s. StillSees s m n)
+some-still m n None f h = tt
+some-still m n (Some s) f h = f s h.pin
+
+some-seen : (changes : List Mutation) (m : Memory) (o : Option Snap) → SeesAllOf changes m o → IfSome o (HasSnap m)
+some-seen changes m None h = tt
+some-seen changes m (Some s) h = record { pin = h.pin; kind = h.kind }
+
+pub there-then : (m n : Memory) (snaps : Snaps) → AreThere m snaps → StillSeeBoth snaps m n → AreThere n snaps
+there-then m n snaps h a = record { sealed = some-then m n snaps.sealed h.sealed a.sealed; active = some-then m n snaps.active h.active a.active }
+
+pub both-still : (m n : Memory) (snaps : Snaps) → AllStillSee m n → AreThere m snaps → StillSeeBoth snaps m n
+both-still m n snaps f h = record { sealed = some-still m n snaps.sealed f h.sealed; active = some-still m n snaps.active f h.active }
+
+pub both-there : (writes later : List Mutation) (m : Memory) (snaps : Snaps) → SeesAllOf writes m snaps.sealed → SeesAllOf later m snaps.active → AreThere m snaps
+both-there writes later m snaps h k = record { sealed = some-seen writes m snaps.sealed h; active = some-seen later m snaps.active k }
