@@ -9,6 +9,6 @@ mod staying;
 mod written;
 
 pub use no_files::NoFiles;
-pub use opened::{Opened, Sources};
+pub use opened::{Leaves, Opened, Sources};
 pub use staying::what_is_left_stays_where_the_snapshots_see_the_same;
 pub use written::Written;

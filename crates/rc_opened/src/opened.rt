@@ -6,7 +6,7 @@ ghost use Rattle.rc_mutation.specs.declared.mutations.Mutation.{Mutation as Chan
 ghost use Rattle.rc_mutation.specs.Source.{IsJoinOf, IsMutation};
 ghost use Rattle.rc_schema.specs.SchemaValue.{SchemaValue};
 ghost use Rattle.rc_snapshots.specs.Seeing.{SeesAllOf};
-ghost use Rattle.rc_opened.specs.Opened.{AreChangesOf, AreSources, GivesLines, left_behind, snaps_in, snaps_of};
+ghost use Rattle.rc_opened.specs.Opened.{AreChangesOf, AreSources, left_behind, snaps_in, snaps_of};
 
 use crate::no_files::NoFiles;
 use crate::opening::new_sources_say_what_was_written;
@@ -23,9 +23,24 @@ use std::alloc::{AllocError, Global};
 /// What an open reader reads: what the tables said of its partition, then what is sealed of it, and what is written since.
 pub type Sources = Merge<ListFrags, Merge<Written, Written>>;
 
+/// What is left to a reader.
+pub trait Leaves<H> {
+    ghost use Rattle.std.specs.Prelude.{List};
+    ghost use Rattle.rc_query.specs.declared.lines.OutLine.{OutLine};
+
+    // these lines are left to it over a home
+    ghost lines: { Self → H → List OutLine → Type 0 };
+}
+
 /// An open reader of a slice of one partition: what its tables said, which was read when it was opened, with snapshots of what stood in no table then. It is read over the chains of these snapshots, a page at a time.
 pub struct Opened {
     pub(crate) reader: Reader<Sources>,
+}
+
+impl<const S: usize> Leaves<Chains<S>> for Opened {
+    ghost use Rattle.rc_opened.specs.Opened.{GivesLines};
+
+    ghost lines = { λ o m lines. GivesLines ⟦<Sources as Frags<Chains<S>, NoFiles>>⟧.ready ⟦<Sources as Frags<Chains<S>, NoFiles>>⟧.seen m o lines };
 }
 
 impl Opened {
@@ -39,7 +54,7 @@ impl Opened {
     ) -> Result<Self, (Snaps, AllocError)>
         requires { (writes : List Change) × (later : List Change) × SeesAllOf writes chains.old snaps.sealed × SeesAllOf later chains.old snaps.active }
         ensures gives { (schema : SchemaValue) (said writes later : List Change) → IsJoinOf tables.now said → AreChangesOf schema writes → AreChangesOf schema later → SeesAllOf writes chains.old snaps.sealed → SeesAllOf later chains.old snaps.active →
-            IfOk result (λ o. GivesLines ⟦<Sources as Frags<Chains<S>, NoFiles>>⟧.ready ⟦<Sources as Frags<Chains<S>, NoFiles>>⟧.seen chains.new o (answer (said ++ (writes ++ later)) slice.now)) }
+            IfOk result (λ o. ⟦<Opened as Leaves<Chains<S>>>⟧.lines o chains.new (answer (said ++ (writes ++ later)) slice.now)) }
         ensures snaps { IfOk result (λ o. snaps_of o ≡ snaps) }
         ensures back { IfErr result (λ e. e.0 ≡ snaps) }
         ensures chains { chains.new ≡ chains.old }
@@ -62,10 +77,10 @@ impl Opened {
         chains: &mut Chains<S>,
         count: u32,
     ) -> Result<(Lines, bool), AllocError>
-        requires { (lines : List Line) × GivesLines ⟦<Sources as Frags<Chains<S>, NoFiles>>⟧.ready ⟦<Sources as Frags<Chains<S>, NoFiles>>⟧.seen chains.old self.old lines }
-        ensures gives { (lines : List Line) → GivesLines ⟦<Sources as Frags<Chains<S>, NoFiles>>⟧.ready ⟦<Sources as Frags<Chains<S>, NoFiles>>⟧.seen chains.old self.old lines → IfOk result (λ gave. gave.0 ≡ take count lines) }
-        ensures more { (lines : List Line) → GivesLines ⟦<Sources as Frags<Chains<S>, NoFiles>>⟧.ready ⟦<Sources as Frags<Chains<S>, NoFiles>>⟧.seen chains.old self.old lines → IfOk result (λ gave. gave.1 ≡ nat_lt count (length lines)) }
-        ensures left { (lines : List Line) → GivesLines ⟦<Sources as Frags<Chains<S>, NoFiles>>⟧.ready ⟦<Sources as Frags<Chains<S>, NoFiles>>⟧.seen chains.old self.old lines → GivesLines ⟦<Sources as Frags<Chains<S>, NoFiles>>⟧.ready ⟦<Sources as Frags<Chains<S>, NoFiles>>⟧.seen chains.new self.new (left_behind result count lines) }
+        requires { (lines : List Line) × ⟦<Opened as Leaves<Chains<S>>>⟧.lines self.old chains.old lines }
+        ensures gives { (lines : List Line) → ⟦<Opened as Leaves<Chains<S>>>⟧.lines self.old chains.old lines → IfOk result (λ gave. gave.0 ≡ take count lines) }
+        ensures more { (lines : List Line) → ⟦<Opened as Leaves<Chains<S>>>⟧.lines self.old chains.old lines → IfOk result (λ gave. gave.1 ≡ nat_lt count (length lines)) }
+        ensures left { (lines : List Line) → ⟦<Opened as Leaves<Chains<S>>>⟧.lines self.old chains.old lines → ⟦<Opened as Leaves<Chains<S>>>⟧.lines self.new chains.new (left_behind result count lines) }
         ensures snaps { snaps_of self.new ≡ snaps_of self.old }
         ensures chains { chains.new ≡ chains.old }
     {

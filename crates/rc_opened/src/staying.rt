@@ -2,14 +2,14 @@
 ghost use Rattle.std.specs.Prelude.{List, IfSome};
 ghost use Rattle.rc_memory.specs.Memory.{Memory};
 ghost use Rattle.rc_query.specs.declared.lines.OutLine.{OutLine};
-ghost use Rattle.rc_opened.specs.declared.opened.Opened.{Opened};
+ghost use Rattle.rc_opened.specs.declared.opened.Opened.{Opened as Reader};
 ghost use Rattle.rc_stream.specs.Stream.{Stream};
-ghost use Rattle.rc_opened.specs.Opened.{GivesLines, no_files, snaps_of};
+ghost use Rattle.rc_opened.specs.Opened.{no_files, snaps_of};
 ghost use Rattle.rc_snapshots.specs.Seeing.{StillSees, StillSeeBoth};
 ghost use Rattle.rc_opened.specs.Written.{IsStreamOf, snap_in};
 
 use crate::no_files::NoFiles;
-use crate::opened::Sources;
+use crate::opened::{Leaves, Opened};
 use crate::written::Written;
 use rc_chain::Chains;
 use rc_outside::Store;
@@ -32,9 +32,8 @@ fn what_is_written_stays<const S: usize>()
 
 /// Whatever calls change of the chains, the same lines are left to an open reader where its snapshots are there still and see what they saw.
 pub fn what_is_left_stays_where_the_snapshots_see_the_same<const S: usize>()
-    ensures { (o : Opened) (m n : Memory) (lines : List OutLine) → StillSeeBoth (snaps_of o) m n →
-        GivesLines ⟦<Sources as Frags<Chains<S>, NoFiles>>⟧.ready ⟦<Sources as Frags<Chains<S>, NoFiles>>⟧.seen m o lines →
-        GivesLines ⟦<Sources as Frags<Chains<S>, NoFiles>>⟧.ready ⟦<Sources as Frags<Chains<S>, NoFiles>>⟧.seen n o lines }
+    ensures { (o : Reader) (m n : Memory) (lines : List OutLine) → StillSeeBoth (snaps_of o) m n →
+        ⟦<Opened as Leaves<Chains<S>>>⟧.lines o m lines → ⟦<Opened as Leaves<Chains<S>>>⟧.lines o n lines }
 {
     what_is_written_stays::<S>();
     a_merge_stays::<Chains<S>, NoFiles, Written, Written>();
