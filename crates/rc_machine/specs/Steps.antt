@@ -123,7 +123,7 @@ Flushes m on reply new = MatchBool m.written (Refuses m FlushInProgress reply ne
 abbrev pub Steps : State → Command → Reply → State → Type 0
 Steps m Nothing reply new = (reply ≡ replies.Nothing) × (new ≡ m)
 Steps m (SetSchema schema) reply new = ((m.schema ≡ schema) × Does m reply new) ⊎ ((m.schema ≢ schema) × Refuses m SchemaDiffers reply new)
-Steps m (Put w) reply new = Does (record m { log = m.log ++ w ∷ [] }) reply new ⊎ (MayBeFull m w × Refuses m Full reply new)
+Steps m (Put w) reply new = Does (record m { log = m.log ++ w ∷ [] }) reply new ⊎ (MayBeFull m × Refuses m Full reply new)
 Steps m (OpenRead id key slice) reply new =
     MatchOption (reader_of id m) (MatchBool (nat_lt (length m.readers) most_readers) (Opens m id key slice reply new) (Refuses m TooManyReaders reply new)) (λ r. Refuses m ReaderInUse reply new)
 Steps m (Read id count) reply new = MatchOption (reader_of id m) (Refuses m NoReader reply new) (λ r. Gives m id count r reply new)

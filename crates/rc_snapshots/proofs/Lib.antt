@@ -3,4 +3,3 @@ mod Parts
 mod Ready
 mod Said
 mod Seen
-mod Seeing

@@ -1,3 +1,4 @@
 pub mod Fillers
 pub mod Streams
 pub mod Seeing
+pub mod laws
