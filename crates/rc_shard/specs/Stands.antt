@@ -1,0 +1,86 @@
+-- For which state of the machine a shard stands.
+--     HaveUnstored    both memtables stand for the writes that stand in no table
+--     AreOfTwo, ShareNone    the snapshots of a reader, and of two
+--     IsServed        an open reader is the machine's
+--     AreServed       so is each, in order
+--     AreTwo          two readers have ids and snapshots of their own
+--     AreSound        the writes are such as the program has, and what is live is no more than they weigh
+--     AreFor, Stands      all of this, over the tables of a folder
+use Rattle.std.specs.Prelude.{◌≡◌, ◌≤◌, ◌+◌, ℕ, false, List, [], ◌∷◌, ◌++◌, length, All, AllPairs, Option, IfSome, sum_by, ⊤}
+use Rattle.lsa_region.specs.Region.{live_bytes}
+use Rattle.rc_outside.specs.Files.{Files}
+use Rattle.rc_schema.specs.SchemaValue.{SchemaValue}
+use Rattle.rc_writes.specs.Weight.{weight}
+use Rattle.rc_mutation.specs.declared.mutations.Write.{Write}
+use Rattle.rc_mutation.specs.Source.{IsMutation}
+use Rattle.rc_query.specs.declared.lines.OutLine.{OutLine}
+use Rattle.rc_memory.specs.Memory.{Memory}
+use Rattle.rc_snapshots.specs.declared.snaps.Snaps.{Snaps}
+use Rattle.rc_snapshots.specs.Seeing.{AreThere}
+use Rattle.rc_unstored.specs.declared.unstored.Unstored.{Unstored}
+use Rattle.rc_unstored.specs.Memtables.{HaveWrites}
+use Rattle.rc_unstored.specs.Readers.{IsNoneOf}
+use Rattle.rc_opened.specs.declared.opened.Opened.{Opened}
+use Rattle.rc_opened.specs.Opened.{snaps_of}
+use Rattle.rc_folder.specs.Tabled.{Tabled}
+use Rattle.rc_machine.specs.State.{Reader, State, unstored}
+use Rattle.rc_machine.specs.Standing.{IsOver}
+use Rattle.rc_shard.specs.declared.shard.Shard.{Shard}
+
+-- under a schema both memtables stand for the writes of the state that stand in no table: one for those that are sealed, the other for the later ones
+pub record HaveUnstored (schema : SchemaValue) (u : Unstored 131072) (m : State) : Type 0 where
+  pub sealed : List Write
+  pub later : List Write
+  pub have : HaveWrites schema u sealed later
+  pub are : sealed ++ later ≡ unstored m
+  pub count : m.sealed ≡ m.stored + length sealed
+
+-- the writes of the state are such as the program has, and in memory no more is live than they weigh
+pub record AreSound (memory : Memory) (m : State) : Type 0 where
+  pub mutations : All (λ w. IsMutation w.change) m.log
+  pub budget : length memory.region.usages ≡ m.segments
+  pub weigh : live_bytes memory.region ≤ sum_by (λ w. weight w.change) m.log
+
+-- two snapshots are of two chains
+abbrev pub AreOfTwo : Snaps → Type 0
+AreOfTwo snaps = IfSome snaps.sealed (λ s. IfSome snaps.active (λ t. s.chain ≡ t.chain → ⊥))
+
+-- no snapshot of the one is of the other
+abbrev pub ShareNone : Snaps → Snaps → Type 0
+ShareNone these those = IfSome those.sealed (IsNoneOf these) × IfSome those.active (IsNoneOf these)
+
+-- two open readers have ids of their own, and share no snapshot
+pub record AreTwo (x y : ℕ × Opened) : Type 0 where
+  pub ids : x.0 ≡ y.0 → ⊥
+  pub snaps : ShareNone (snaps_of x.1) (snaps_of y.1)
+
+-- These lines are left to an open reader over memory.
+module _ (lines : Opened → Memory → List OutLine → Type 0) where
+  -- an open reader with its id is that of the machine: it is left what that one has not given yet; its snapshots are there, and of two chains
+  pub record IsServed (memory : Memory) (o : ℕ × Opened) (r : ℕ × Reader) : Type 0 where
+    pub id : o.0 ≡ r.0
+    pub left : lines o.1 memory r.1.rest
+    pub there : AreThere memory (snaps_of o.1)
+    pub chains : AreOfTwo (snaps_of o.1)
+
+  -- so is each, in order
+  abbrev pub AreServed : Memory → List (ℕ × Opened) → List (ℕ × Reader) → Type 0
+  AreServed memory [] [] = ⊤
+  AreServed memory [] (r ∷ rs) = ⊥
+  AreServed memory (o ∷ os) [] = ⊥
+  AreServed memory (o ∷ os) (r ∷ rs) = IsServed memory o r × AreServed memory os rs
+
+  -- Over a store with these files, a folder, both memtables, open readers and a budget of segments stand for the state. A flush is whole, so nothing that is written is left to a cache.
+  pub record AreFor (told : Option Files) (f : Tabled) (u : Unstored 131072) (readers : List (ℕ × Opened)) (segments : ℕ) (m : State) : Type 0 where
+    pub over : IsOver told f.schema f.infos m
+    pub have : HaveUnstored f.schema u m
+    pub whole : m.written ≡ false
+    pub left : m.left ≡ 0
+    pub budget : m.segments ≡ segments
+    pub sound : AreSound u.chains m
+    pub served : AreServed u.chains readers m.readers
+    pub two : AllPairs AreTwo readers
+
+  -- over a store with these files the shard stands for the state
+  abbrev pub Stands : Option Files → Shard → State → Type 0
+  Stands told k m = AreFor told k.folder k.unstored k.readers.items k.segments m

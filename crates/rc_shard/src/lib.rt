@@ -1,0 +1,9 @@
+//! One shard: the machine served by memtables in a region, snapshots and tables.
+#![tactic(auto)]
+
+mod counts;
+mod shard;
+
+pub use counts::Answered;
+pub use rc_folder::OpenErr;
+pub use shard::{Serves, Shard};

@@ -1,0 +1,452 @@
+//! The shard.
+ghost use Rattle.std.specs.Prelude.{◌≡◌, ◌+◌, ◌*◌, ◌≤◌, ◌==◌, ◌++◌, ◌∷◌, [], ℕ, All, AllPairs, List, Option, None, Some, IsTrue, IfErr, IfOk, IfSome, OnErr, position};
+ghost use Rattle.std.specs.FinMap.{values};
+ghost use Rattle.rc_outside.specs.Files.{Files, HoldsSameFiles};
+ghost use Rattle.rc_outside.specs.Faults.{RisesIfFault, Rose};
+ghost use Rattle.rc_mutation.specs.declared.mutations.Mutation.{Mutation as Change};
+ghost use Rattle.rc_mutation.specs.declared.mutations.Write.{Write as Written};
+ghost use Rattle.rc_mutation.specs.Source.{IsJoinOf, changes_to};
+ghost use Rattle.rc_query.specs.Answer.{answer};
+ghost use Rattle.rc_schema.specs.SchemaValue.{SchemaValue};
+ghost use Rattle.rc_memory.specs.Memory.{HasPin};
+ghost use Rattle.rc_chain.specs.declared.chains.Snap.{Snap as Snapshot};
+ghost use Rattle.rc_snapshots.specs.Seeing.{AreThere};
+ghost use Rattle.rc_unstored.specs.Memtables.{HaveWrites};
+ghost use Rattle.rc_unstored.specs.Readers.{IsNoneOf};
+ghost use Rattle.rc_opened.specs.Opened.{AreChangesOf, snaps_of};
+ghost use Rattle.rc_tables.specs.Tables.{listing};
+ghost use Rattle.rc_lines.specs.Fits.{CommandFits};
+ghost use Rattle.rc_machine.specs.Built.{is_built};
+ghost use Rattle.rc_machine.specs.Serving.{FaultsAreCounted, OnFaulty, Stops, Takes, checks_of, most_asks};
+ghost use Rattle.rc_machine.specs.State.{State, Table, opened_state, unstored};
+ghost use Rattle.rc_machine.specs.Tables.{AreListed, AreTables};
+ghost use Rattle.rc_machine.specs.Steps.{reader_with};
+ghost use Rattle.rc_tfile.specs.declared.info.TableInfo.{TableInfo};
+ghost use Rattle.rc_folder.specs.Opening.{IsOpeningRefused, OnOpenFault};
+ghost use Rattle.rc_folder.specs.Tabled.{IsNextNumber};
+ghost use Rattle.rc_shard.specs.Counting.{counted, figures_of};
+ghost use Rattle.rc_shard.specs.Stands.{AreOfTwo, AreTwo};
+ghost use Rattle.rc_shard.specs.calls.Keeping.{CountsStay, Keeps};
+ghost use Rattle.rc_shard.specs.calls.Storing.{IsFlushAnswered, IsKept};
+
+use crate::counts::Answered;
+use rc_chain::Chains;
+use rc_folder::{Folder, OpenErr};
+use rc_lines::{Command, Figures, Refusal, Reply};
+use rc_mutation::{Mutation, Write};
+use rc_opened::{Leaves, Opened, what_is_left_stays_where_the_snapshots_see_the_same};
+use rc_outside::Store;
+use rc_position::{PartKey, Slice};
+use rc_schema::Schema;
+use rc_stream::StreamErr;
+use rc_tfile::WriteErr;
+use rc_snapshots::laws::a_snapshot_sees_what_it_saw;
+use rc_unstored::Unstored;
+use rc_unstored::laws::what_a_snapshot_of_a_key_sees;
+use std::alloc::{AllocError, Global};
+
+/// The most readers that may be open at once.
+const MOST_READERS: usize = 64;
+
+/// What serves the machine.
+pub trait Serves {
+    ghost use Rattle.std.specs.Prelude.{Option};
+    ghost use Rattle.rc_outside.specs.Files.{Files};
+    ghost use Rattle.rc_machine.specs.State.{State};
+
+    // over a store with these files it stands for the state
+    ghost stands: { Option Files → Self → State → Type 0 };
+}
+
+/// One shard: it takes one step of the machine after another. What is written and stands in no table lies in version chains, in a region
+/// of segments of 131,072 bytes; an open reader pins the versions that it sees, and reads what the tables say of its partition once, when
+/// it is opened.
+pub struct Shard {
+    folder: Folder,
+    unstored: Unstored<131_072>,
+    readers: Vec<(u32, Opened)>,
+    answered: Answered,
+    segments: u32,
+    asked: u64,
+}
+
+impl Serves for Shard {
+    ghost use Rattle.rc_shard.specs.Stands.{Stands};
+
+    ghost stands = { Stands ⟦<Opened as Leaves<Chains<131_072>>>⟧.lines };
+}
+
+impl Shard {
+    /// A shard over a folder of tables of a schema, each of which is checked, with a budget of so many segments, all of which are taken
+    /// now: it stands for the machine as it is opened over them. `OpenErr::Damaged` and `OpenErr::OtherSchema` name the first file that is
+    /// no table of the schema; `OpenErr::Fault` comes when the store fails, and only then; `OpenErr::NoMemory` when memory is refused.
+    pub fn open<W: Store>(
+        alloc: Global,
+        store: &mut W,
+        schema: Schema,
+        segments: u32,
+    ) -> Result<Self, OpenErr>
+        requires few { segments ≤ 4096 }
+        requires some { 4 ≤ segments }
+        ensures stands { IfOk result (λ shard. (tables : List Table) × (infos : List TableInfo) × AreTables (W.files store.old) schema tables × AreListed (W.files store.old) schema tables infos
+            × ⟦<Shard as Serves>⟧.stands (W.files store.new) shard (opened_state segments (W.files store.old) schema tables infos)) }
+        ensures answered { IfOk result (λ shard. (shard.answered.hits ≡ 0) × (shard.answered.misses ≡ 0)) }
+        ensures asked { IfOk result (λ shard. shard.asked ≡ W.asks store.new) }
+        ensures refused { IfErr result (IsOpeningRefused (W.files store.old) schema) }
+        ensures faults { RisesIfFault OnOpenFault result (W.faults store.old) (W.faults store.new) }
+        ensures store { HoldsSameFiles W.files W.building store.old store.new }
+        ensures asks { IfSome (W.files store.old) (λ told. W.asks store.new ≤ W.asks store.old + checks_of (values told)) }
+    {
+        let folder = Folder::open(alloc, store, schema)?;
+        match Unstored::open(alloc, segments) {
+            Ok(unstored) => Ok(Shard {
+                folder,
+                unstored,
+                readers: Vec::new(alloc),
+                answered: Answered::none(),
+                segments,
+                asked: store.asks(),
+            }),
+            Err(_) => Err(OpenErr::NoMemory),
+        }
+    }
+
+    /// The schema of the tables.
+    pub fn schema(&self) -> &Schema
+        ensures { result.now ≡ self.now.folder.schema }
+    {
+        self.folder.schema()
+    }
+
+    /// What the shard tells of itself, where the store was asked so often: its segments and objects, how many answers were had with and
+    /// without asking the store, and how often it was asked since the shard was opened. What is cached is nothing yet.
+    pub fn figures<W: Store>(&self, store: &W) -> Figures
+        ensures { result ≡ figures_of self.now (W.asks store.now) }
+    {
+        let region = self.unstored.chains.region();
+        let counts = self.unstored.chains.counts();
+        let free = u64::from(region.free());
+        Figures {
+            segments: u64::from(self.segments).saturating_sub(free),
+            free,
+            objects: region.objects(),
+            live: region.live() as u64,
+            partitions: 0,
+            rows: 0,
+            dummies: 0,
+            hits: self.answered.hits,
+            misses: self.answered.misses,
+            evicted: counts.evicted,
+            moved: region.moved(),
+            skipped: counts.skipped,
+            asks: store.asks().saturating_sub(self.asked),
+        }
+    }
+
+    /// Takes the step of a command that fits the schema and is one of those that are built, and gives its reply, which may be a refusal.
+    /// The only error is want of memory, which leaves the machine's state as it was, but that a flush may have sealed the writes.
+    pub fn serve<W: Store>(
+        &mut self,
+        alloc: Global,
+        store: &mut W,
+        command: &Command,
+    ) -> Result<Reply, AllocError>
+        requires fits { CommandFits self.old.folder.schema command.now }
+        requires built { IsTrue (is_built command.now) }
+        requires stands { (m : State) × ⟦<Shard as Serves>⟧.stands (W.files store.old) self.old m }
+        ensures step { IfOk result (λ reply. Takes ⟦<Shard as Serves>⟧.stands (W.files store.old) self.old command.now reply (W.files store.new) self.new) }
+        ensures err { OnErr result (Stops ⟦<Shard as Serves>⟧.stands (W.files store.old) self.old command.now (W.files store.new) self.new) }
+        ensures faults { FaultsAreCounted result (W.faults store.old) (W.faults store.new) }
+        ensures asks { W.asks store.new ≤ W.asks store.old + most_asks self.old.folder.infos command.now }
+        ensures counts { IfOk result (λ reply. self.new.answered ≡ counted command.now reply (W.asks store.old) (W.asks store.new) self.old.answered) }
+    {
+        let before = store.asks();
+        let reply = self.step(alloc, store, command)?;
+        self.answered = self.answered.count(command, &reply, before, store.asks());
+        Ok(reply)
+    }
+
+    /// Takes every snapshot of the open readers back, and lets the shard go.
+    pub fn close(self)
+        requires { (told : Option Files) × (m : State) × ⟦<Shard as Serves>⟧.stands told self m }
+    {
+        let Shard {
+            folder: _folder,
+            unstored,
+            readers,
+            answered: _answered,
+            segments: _segments,
+            asked: _asked,
+        } = self;
+        close_all(unstored, readers);
+    }
+
+    // Takes the step of a command, without counting it.
+    fn step<W: Store>(
+        &mut self,
+        alloc: Global,
+        store: &mut W,
+        command: &Command,
+    ) -> Result<Reply, AllocError>
+        requires fits { CommandFits self.old.folder.schema command.now }
+        requires built { IsTrue (is_built command.now) }
+        requires stands { (m : State) × ⟦<Shard as Serves>⟧.stands (W.files store.old) self.old m }
+        ensures step { IfOk result (λ reply. Takes ⟦<Shard as Serves>⟧.stands (W.files store.old) self.old command.now reply (W.files store.new) self.new) }
+        ensures err { OnErr result (Stops ⟦<Shard as Serves>⟧.stands (W.files store.old) self.old command.now (W.files store.new) self.new) }
+        ensures faults { FaultsAreCounted result (W.faults store.old) (W.faults store.new) }
+        ensures asks { W.asks store.new ≤ W.asks store.old + most_asks self.old.folder.infos command.now }
+        ensures counts { CountsStay self.old self.new }
+    {
+        match command {
+            Command::Nothing => Ok(Reply::Nothing),
+            Command::SetSchema(schema) => Ok(self.set_schema(schema)),
+            Command::Put(write) => self.put(alloc, write),
+            Command::OpenRead { id, key, slice } => self.open_read(alloc, store, *id, key, slice),
+            Command::Read { id, count } => self.read(alloc, *id, *count),
+            Command::Close { id } => Ok(self.close_reader(*id)),
+            Command::Flush => self.flush(alloc, store),
+            Command::FlushBegin
+            | Command::FlushStep { .. }
+            | Command::Evict { .. }
+            | Command::Compact { .. }
+            | Command::Clean { .. }
+            | Command::Stats => unreachable!(),
+        }
+    }
+
+    // The reply to a schema line: fine where it is the same schema again.
+    fn set_schema(&self, schema: &Schema) -> Reply
+        ensures step { (files : Option Files) → Takes ⟦<Shard as Serves>⟧.stands files self.now (Command.SetSchema schema.now) result files self.now }
+        ensures faultless { (n : ℕ) → OnFaulty result (Rose n n) }
+    {
+        if self.folder.schema().is_same(schema) {
+            Reply::Fine
+        } else {
+            Reply::Refused(Refusal::SchemaDiffers)
+        }
+    }
+
+    // Puts a write behind the others, where there is room for it.
+    fn put(&mut self, alloc: Global, write: &Write) -> Result<Reply, AllocError>
+        requires fits { CommandFits self.old.folder.schema (Command.Put write.now) }
+        requires stands { (files : Option Files) × (m : State) × ⟦<Shard as Serves>⟧.stands files self.old m }
+        ensures step { (files : Option Files) → IfOk result (λ reply. Takes ⟦<Shard as Serves>⟧.stands files self.old (Command.Put write.now) reply files self.new) }
+        ensures faultless { (n : ℕ) → IfOk result (λ reply. OnFaulty reply (Rose n n)) }
+        ensures err { OnErr result (Keeps ⟦<Shard as Serves>⟧.stands self.old self.new) }
+        ensures counts { CountsStay self.old self.new }
+    {
+        what_is_left_stays_where_the_snapshots_see_the_same::<131_072>();
+        write.change.holds_together();
+        let schema = self.folder.schema();
+        let _entry = schema.largest_entry();
+        let _statics = schema.largest_static();
+        if self.unstored.put(alloc, schema, write)? {
+            Ok(Reply::Fine)
+        } else {
+            Ok(Reply::Refused(Refusal::Full))
+        }
+    }
+
+    // Opens a reader: its answer is fixed now.
+    fn open_read<W: Store>(
+        &mut self,
+        alloc: Global,
+        store: &mut W,
+        id: u32,
+        key: &PartKey,
+        slice: &Slice,
+    ) -> Result<Reply, AllocError>
+        requires { (m : State) × ⟦<Shard as Serves>⟧.stands (W.files store.old) self.old m }
+        ensures step { IfOk result (λ reply. Takes ⟦<Shard as Serves>⟧.stands (W.files store.old) self.old (Command.OpenRead id key.now slice.now) reply (W.files store.new) self.new) }
+        ensures err { OnErr result (Keeps ⟦<Shard as Serves>⟧.stands self.old self.new) }
+        ensures faults { FaultsAreCounted result (W.faults store.old) (W.faults store.new) }
+        ensures store { HoldsSameFiles W.files W.building store.old store.new }
+        ensures asks { W.asks store.new ≤ W.asks store.old + 2 * listing key.now self.old.folder.infos }
+        ensures counts { CountsStay self.old self.new }
+    {
+        if place_of(self.readers.as_slice(), id).is_some() {
+            return Ok(Reply::Refused(Refusal::ReaderInUse));
+        }
+        if self.readers.len() >= MOST_READERS {
+            return Ok(Reply::Refused(Refusal::TooManyReaders));
+        }
+        match self.folder.read(alloc, store, key) {
+            Ok(tables) => self.open_over(alloc, id, key, slice, &tables),
+            Err(StreamErr::Fault) => Ok(Reply::Refused(Refusal::ReadFault)),
+            Err(StreamErr::Damaged { file, offset }) => {
+                Ok(Reply::Refused(Refusal::Damaged { file, offset }))
+            }
+            Err(StreamErr::NoMemory) => Err(AllocError),
+        }
+    }
+
+    // Opens a reader of an id that is not open, over what the tables said.
+    fn open_over(
+        &mut self,
+        alloc: Global,
+        id: u32,
+        key: &PartKey,
+        slice: &Slice,
+        tables: &Mutation,
+    ) -> Result<Reply, AllocError>
+        requires stands { (files : Option Files) × (m : State) × ⟦<Shard as Serves>⟧.stands files self.old m }
+        requires unused { position (λ reader. reader.0 == id) self.old.readers.items ≡ None }
+        ensures fine { IfOk result (λ reply. reply ≡ Reply.Fine) }
+        ensures opened { (files : Option Files) (m : State) (said : List Change) → ⟦<Shard as Serves>⟧.stands files self.old m → IsJoinOf tables.now said →
+            IfOk result (λ _. ⟦<Shard as Serves>⟧.stands files self.new (record m { readers = m.readers ++ (id, reader_with m key.now slice.now (answer (said ++ changes_to key.now (unstored m)) slice.now)) ∷ [] })) }
+        ensures err { OnErr result (Keeps ⟦<Shard as Serves>⟧.stands self.old self.new) }
+        ensures counts { CountsStay self.old self.new }
+    {
+        what_is_left_stays_where_the_snapshots_see_the_same::<131_072>();
+        self.readers.reserve(1)?;
+        let opened = open_in(alloc, &mut self.unstored, key, slice, tables)?;
+        match self.readers.push((id, opened)) {
+            Ok(()) => Ok(Reply::Fine),
+            Err(_) => unreachable!(),
+        }
+    }
+
+    // Gives a reader's next lines.
+    fn read(&mut self, alloc: Global, id: u32, count: u32) -> Result<Reply, AllocError>
+        requires { (files : Option Files) × (m : State) × ⟦<Shard as Serves>⟧.stands files self.old m }
+        ensures step { (files : Option Files) → IfOk result (λ reply. Takes ⟦<Shard as Serves>⟧.stands files self.old (Command.Read id count) reply files self.new) }
+        ensures faultless { (n : ℕ) → IfOk result (λ reply. OnFaulty reply (Rose n n)) }
+        ensures err { OnErr result (Keeps ⟦<Shard as Serves>⟧.stands self.old self.new) }
+        ensures counts { CountsStay self.old self.new }
+    {
+        match place_of(self.readers.as_slice(), id) {
+            None => Ok(Reply::Refused(Refusal::NoReader)),
+            Some(at) => {
+                let reader = &mut self.readers[at];
+                let (lines, more) = reader.1.read(alloc, &mut self.unstored.chains, count)?;
+                Ok(Reply::Given { lines, more })
+            }
+        }
+    }
+
+    // Closes a reader: its snapshots are taken back.
+    fn close_reader(&mut self, id: u32) -> Reply
+        requires { (files : Option Files) × (m : State) × ⟦<Shard as Serves>⟧.stands files self.old m }
+        ensures step { (files : Option Files) → Takes ⟦<Shard as Serves>⟧.stands files self.old (Command.Close id) result files self.new }
+        ensures faultless { (n : ℕ) → OnFaulty result (Rose n n) }
+        ensures counts { CountsStay self.old self.new }
+    {
+        what_is_left_stays_where_the_snapshots_see_the_same::<131_072>();
+        match place_of(self.readers.as_slice(), id) {
+            None => Reply::Refused(Refusal::NoReader),
+            Some(at) => {
+                let (_id, opened) = self.readers.remove(at);
+                self.unstored.release_both(opened.into_snaps());
+                Reply::Fine
+            }
+        }
+    }
+
+    // Writes the sealed writes as the next table; all writes are sealed before, unless some are.
+    fn flush<W: Store>(&mut self, alloc: Global, store: &mut W) -> Result<Reply, AllocError>
+        requires { (m : State) × ⟦<Shard as Serves>⟧.stands (W.files store.old) self.old m }
+        ensures step { IfOk result (λ reply. Takes ⟦<Shard as Serves>⟧.stands (W.files store.old) self.old Command.Flush reply (W.files store.new) self.new) }
+        ensures err { OnErr result (Stops ⟦<Shard as Serves>⟧.stands (W.files store.old) self.old Command.Flush (W.files store.new) self.new) }
+        ensures faults { FaultsAreCounted result (W.faults store.old) (W.faults store.new) }
+        ensures asks { W.asks store.new ≡ W.asks store.old }
+        ensures counts { CountsStay self.old self.new }
+    {
+        what_is_left_stays_where_the_snapshots_see_the_same::<131_072>();
+        if self.unstored.is_empty() {
+            return Ok(Reply::Refused(Refusal::NothingToFlush));
+        }
+        match self.folder.next_number() {
+            None => Ok(Reply::Refused(Refusal::NoNumber)),
+            Some(number) => {
+                self.unstored.seal();
+                self.write_sealed(alloc, store, number)
+            }
+        }
+    }
+
+    // Writes the sealed writes as a table of this number, which is the next one, and lets them go.
+    fn write_sealed<W: Store>(
+        &mut self,
+        alloc: Global,
+        store: &mut W,
+        number: u32,
+    ) -> Result<Reply, AllocError>
+        requires stands { (m : State) × ⟦<Shard as Serves>⟧.stands (W.files store.old) self.old m }
+        requires number { IsNextNumber self.old.folder.infos (Some number) }
+        ensures written { IfOk result (IsFlushAnswered (W.files store.old) self.old number (W.files store.new) self.new) }
+        ensures err { OnErr result ((self.new.folder ≡ self.old.folder) × IsKept self.old.unstored self.new.unstored × (W.files store.new ≡ W.files store.old)) }
+        ensures faults { FaultsAreCounted result (W.faults store.old) (W.faults store.new) }
+        ensures asks { W.asks store.new ≡ W.asks store.old }
+        ensures readers { self.new.readers ≡ self.old.readers }
+        ensures counts { CountsStay self.old self.new }
+    {
+        let parts = self.unstored.sealed_partitions(alloc)?;
+        match self.folder.add(alloc, store, number, parts.as_slice()) {
+            Ok(()) => {
+                self.unstored.drop_sealed();
+                Ok(Reply::Fine)
+            }
+            Err(error) => not_written(error),
+        }
+    }
+}
+
+// A reader of a slice of a partition, over what the tables said of it and snapshots of what is written.
+fn open_in(
+    alloc: Global,
+    unstored: &mut Unstored<131_072>,
+    key: &PartKey,
+    slice: &Slice,
+    tables: &Mutation,
+) -> Result<Opened, AllocError>
+    requires { (schema : SchemaValue) × (writes : List Written) × (later : List Written) × HaveWrites schema unstored.old writes later }
+    ensures gives { (schema : SchemaValue) (writes later : List Written) (said : List Change) → HaveWrites schema unstored.old writes later → IsJoinOf tables.now said →
+        AreChangesOf schema (changes_to key.now writes) → AreChangesOf schema (changes_to key.now later) →
+        IfOk result (λ o. ⟦<Opened as Leaves<Chains<131_072>>>⟧.lines o unstored.new.chains (answer (said ++ (changes_to key.now writes ++ changes_to key.now later)) slice.now)) }
+    ensures there { IfOk result (λ o. AreThere unstored.new.chains (snaps_of o)) }
+    ensures two { IfOk result (λ o. AreOfTwo (snaps_of o)) }
+    ensures fresh { IfOk result (λ o. (s : Snapshot) → HasPin unstored.old.chains s.chain s.pin → IsNoneOf (snaps_of o) s) }
+    ensures kept { IsKept unstored.old unstored.new }
+{
+    let snaps = unstored.snapshot(key)?;
+    what_a_snapshot_of_a_key_sees();
+    a_snapshot_sees_what_it_saw();
+    match Opened::open(alloc, &mut unstored.chains, snaps, tables, slice) {
+        Ok(opened) => Ok(opened),
+        Err((snaps, error)) => {
+            unstored.release_both(snaps);
+            Err(error)
+        }
+    }
+}
+
+// Takes the snapshots of all readers back.
+fn close_all(unstored: Unstored<131_072>, readers: Vec<(u32, Opened)>)
+    requires there { All (λ o. AreThere unstored.chains (snaps_of o.1)) readers.items }
+    requires chains { All (λ o. AreOfTwo (snaps_of o.1)) readers.items }
+    requires two { AllPairs AreTwo readers.items }
+{
+    let mut unstored = unstored;
+    let mut readers = readers;
+    while let Some((_id, opened)) = readers.pop() {
+        unstored.release_both(opened.into_snaps());
+    }
+    readers.destroy_empty();
+}
+
+// The place of the reader with an id.
+fn place_of(readers: &[(u32, Opened)], id: u32) -> Option<usize>
+    ensures { result ≡ position (λ reader. reader.0 == id) readers.now }
+{
+    readers.iter().position(|reader| reader.0 == id)
+}
+
+// The reply to a flush that the store refused.
+fn not_written(error: WriteErr) -> Result<Reply, AllocError>
+    ensures { IfOk result (λ reply. (error ≡ WriteErr.Fault) × (reply ≡ Reply.Refused Refusal.WriteFault)) }
+{
+    match error {
+        WriteErr::Fault => Ok(Reply::Refused(Refusal::WriteFault)),
+        WriteErr::NoMemory => Err(AllocError),
+    }
+}
