@@ -2,11 +2,11 @@
 --     HaveUnstored    both memtables stand for the writes that stand in no table
 --     AreOfTwo, ShareNone    the snapshots of a reader, and of two
 --     IsServed        an open reader is the machine's
---     AreServed       so is each, in order
 --     AreTwo          two readers have ids and snapshots of their own
 --     AreSound        the writes are such as the program has, and what is live is no more than they weigh
 --     AreFor, Stands      all of this, over the tables of a folder
-use Rattle.std.specs.Prelude.{◌≡◌, ◌≤◌, ◌+◌, ℕ, false, List, [], ◌∷◌, ◌++◌, length, All, AllPairs, Option, IfSome, sum_by, ⊤}
+use Rattle.std.specs.Prelude.{◌≡◌, ◌≤◌, ◌+◌, ℕ, false, List, ◌++◌, length, map, All, AllPairs, Option, IfSome, sum_by}
+use Rattle.std.specs.List.{AllZip}
 use Rattle.lsa_region.specs.Region.{live_bytes}
 use Rattle.rc_outside.specs.Files.{Files}
 use Rattle.rc_schema.specs.SchemaValue.{SchemaValue}
@@ -49,10 +49,14 @@ AreOfTwo snaps = IfSome snaps.sealed (λ s. IfSome snaps.active (λ t. s.chain �
 abbrev pub ShareNone : Snaps → Snaps → Type 0
 ShareNone these those = IfSome those.sealed (IsNoneOf these) × IfSome those.active (IsNoneOf these)
 
+-- an open reader's id, and its snapshots
+abbrev pub holding : ℕ × Opened → ℕ × Snaps
+holding o = (o.0, snaps_of o.1)
+
 -- two open readers have ids of their own, and share no snapshot
-pub record AreTwo (x y : ℕ × Opened) : Type 0 where
+pub record AreTwo (x y : ℕ × Snaps) : Type 0 where
   pub ids : x.0 ≡ y.0 → ⊥
-  pub snaps : ShareNone (snaps_of x.1) (snaps_of y.1)
+  pub snaps : ShareNone x.1 y.1
 
 -- These lines are left to an open reader over memory.
 module _ (lines : Opened → Memory → List OutLine → Type 0) where
@@ -63,13 +67,6 @@ module _ (lines : Opened → Memory → List OutLine → Type 0) where
     pub there : AreThere memory (snaps_of o.1)
     pub chains : AreOfTwo (snaps_of o.1)
 
-  -- so is each, in order
-  abbrev pub AreServed : Memory → List (ℕ × Opened) → List (ℕ × Reader) → Type 0
-  AreServed memory [] [] = ⊤
-  AreServed memory [] (r ∷ rs) = ⊥
-  AreServed memory (o ∷ os) [] = ⊥
-  AreServed memory (o ∷ os) (r ∷ rs) = IsServed memory o r × AreServed memory os rs
-
   -- Over a store with these files, a folder, both memtables, open readers and a budget of segments stand for the state. A flush is whole, so nothing that is written is left to a cache.
   pub record AreFor (told : Option Files) (f : Tabled) (u : Unstored 131072) (readers : List (ℕ × Opened)) (segments : ℕ) (m : State) : Type 0 where
     pub over : IsOver told f.schema f.infos m
@@ -78,8 +75,8 @@ module _ (lines : Opened → Memory → List OutLine → Type 0) where
     pub left : m.left ≡ 0
     pub budget : m.segments ≡ segments
     pub sound : AreSound u.chains m
-    pub served : AreServed u.chains readers m.readers
-    pub two : AllPairs AreTwo readers
+    pub served : AllZip (IsServed u.chains) readers m.readers
+    pub two : AllPairs AreTwo (map holding readers)
 
   -- over a store with these files the shard stands for the state
   abbrev pub Stands : Option Files → Shard → State → Type 0

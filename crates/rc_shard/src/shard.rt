@@ -1,5 +1,5 @@
 //! The shard.
-ghost use Rattle.std.specs.Prelude.{◌≡◌, ◌+◌, ◌*◌, ◌≤◌, ◌==◌, ◌++◌, ◌∷◌, [], ℕ, All, AllPairs, List, Option, None, Some, IsTrue, IfErr, IfOk, IfSome, OnErr, position};
+ghost use Rattle.std.specs.Prelude.{◌≡◌, ◌+◌, ◌*◌, ◌≤◌, ◌==◌, ◌++◌, ◌∷◌, [], ℕ, All, AllPairs, List, Option, None, Some, IsTrue, IfErr, IfOk, IfSome, OnErr, map, position};
 ghost use Rattle.std.specs.FinMap.{values};
 ghost use Rattle.rc_outside.specs.Files.{Files, HoldsSameFiles};
 ghost use Rattle.rc_outside.specs.Faults.{RisesIfFault, Rose};
@@ -25,7 +25,7 @@ ghost use Rattle.rc_tfile.specs.declared.info.TableInfo.{TableInfo};
 ghost use Rattle.rc_folder.specs.Opening.{IsOpeningRefused, OnOpenFault};
 ghost use Rattle.rc_folder.specs.Tabled.{IsNextNumber};
 ghost use Rattle.rc_shard.specs.Counting.{counted, figures_of};
-ghost use Rattle.rc_shard.specs.Stands.{AreOfTwo, AreTwo};
+ghost use Rattle.rc_shard.specs.Stands.{AreOfTwo, AreTwo, holding};
 ghost use Rattle.rc_shard.specs.calls.Keeping.{CountsStay, Keeps};
 ghost use Rattle.rc_shard.specs.calls.Storing.{IsFlushAnswered, IsKept};
 
@@ -424,7 +424,7 @@ fn open_in(
 fn close_all(unstored: Unstored<131_072>, readers: Vec<(u32, Opened)>)
     requires there { All (λ o. AreThere unstored.chains (snaps_of o.1)) readers.items }
     requires chains { All (λ o. AreOfTwo (snaps_of o.1)) readers.items }
-    requires two { AllPairs AreTwo readers.items }
+    requires two { AllPairs AreTwo (map holding readers.items) }
 {
     let mut unstored = unstored;
     let mut readers = readers;

@@ -1,0 +1,48 @@
+-- The place of the reader with an id.
+use Rattle.std.proofs.Common.{◌≡◌, ◌==◌, ◌+◌, ◌<◌, ◌≤◌, ℕ, zero, suc, Bool, true, false, cond, not, List, [], ◌∷◌, length, get_or, Option, Some, None, is_some, refl, sym, ap, subst, ◌∙◌, arith, nat_lt}
+use Rattle.std.specs.List.{position, position_or_len}
+use Rattle.std.proofs.lemmas.Bool.Decides.{nat_tests}
+use Rattle.std.proofs.lemmas.List.Quantifiers.{position-Some}
+
+module _ {X : Type 0} where
+  -- the first with an id stands at a place
+  abbrev pub IsPlace : ℕ → List (ℕ × X) → ℕ → Type 0
+  IsPlace id [] at = ⊥
+  IsPlace id (o ∷ os) zero = (o.0 == id) ≡ true
+  IsPlace id (o ∷ os) (suc at) = ((o.0 == id) ≡ false) × IsPlace id os at
+
+  -- none has it
+  abbrev pub IsNowhere : ℕ → List (ℕ × X) → Type 0
+  IsNowhere id [] = Unit {0}
+  IsNowhere id (o ∷ os) = ((o.0 == id) ≡ false) × IsNowhere id os
+
+  place-from : (id : ℕ) (os : List (ℕ × X)) (at : ℕ) (d : ℕ × X) → at < length os → ((get_or os at d).0 == id) ≡ true → ((k : ℕ) → k < at → ((get_or os k d).0 == id) ≡ false) → IsPlace id os at
+  place-from id [] at d h here before = absurd (omega (arith, h))
+  place-from id (o ∷ os) zero d h here before = here
+  place-from id (o ∷ os) (suc at) d h here before = (before 0 (omega arith), place-from id os at d (omega (arith, h)) here (λ k l. before (suc k) (omega (arith, l))))
+
+  pub place-of : (id : ℕ) (os : List (ℕ × X)) (at : ℕ) → position (λ o. o.0 == id) os ≡ Some at → IsPlace id os at
+  place-of id [] at e = absurd (cc)
+  place-of id (o ∷ os) at e = let p = position-Some (λ (x : ℕ × X). x.0 == id) (o ∷ os) at o e in place-from id (o ∷ os) at o p.0 p.1 p.2
+
+  pub in-range : (id : ℕ) (os : List (ℕ × X)) (at : ℕ) → IsPlace id os at → at < length os
+  in-range id [] at h = absurd h
+  in-range id (o ∷ os) zero h = omega arith
+  in-range id (o ∷ os) (suc at) h = let l = in-range id os at h.1 in omega (arith, l)
+
+  nowhere-from : (id : ℕ) (os : List (ℕ × X)) → length os ≤ position_or_len (λ (o : ℕ × X). o.0 == id) os → IsNowhere id os
+  nowhere-from id [] h = tt
+  nowhere-from id (o ∷ os) h =
+      elim (o.0 == id) as (λ b. suc (length os) ≤ cond (not b) (1 + position_or_len (λ (x : ℕ × X). x.0 == id) os) 0 → (b ≡ false) × IsNowhere id os) [
+        | true ↦ λ k. absurd (omega (arith, k))
+        | false ↦ λ k. (refl, nowhere-from id os (omega (arith, k)))
+      ] h
+
+  none-is : (b : Bool) (n : ℕ) → cond b (Some n) None ≡ None → b ≡ false
+  none-is true n e = absurd (cc)
+  none-is false n e = refl
+
+  pub nowhere-of : (id : ℕ) (os : List (ℕ × X)) → position (λ o. o.0 == id) os ≡ None → IsNowhere id os
+  nowhere-of id os e =
+      let p = none-is (nat_lt (position_or_len (λ (o : ℕ × X). o.0 == id) os) (length os)) (position_or_len (λ (o : ℕ × X). o.0 == id) os) e in
+      nowhere-from id os (grind (arith, nat_tests, p))
