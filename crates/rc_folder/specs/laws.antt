@@ -3,3 +3,4 @@ pub mod Ahead
 pub mod Fitting
 pub mod Over
 pub mod Flushing
+pub mod Sealing

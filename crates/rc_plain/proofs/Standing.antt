@@ -6,7 +6,7 @@ use Rattle.std.specs.Ordering.{eq_by_cmp}
 use Rattle.std.proofs.Math.Seq.{drop-append-le}
 use Rattle.std.proofs.lemmas.Bool.Decides.{nat_tests}
 use Rattle.std.proofs.lemmas.List.{length-append, length-drop, length-map, map-append}
-use Rattle.std.proofs.lemmas.List.Elements.{All-append, All-cons, filter-append}
+use Rattle.std.proofs.lemmas.List.Elements.{filter-append}
 use Rattle.rc_outside.specs.Files.{Files}
 use Rattle.rc_position.specs.Position.{bytes_cmp}
 use Rattle.rc_position.specs.declared.slices.Slice.{Slice}
@@ -31,7 +31,8 @@ use Rattle.rc_machine.specs.State.{State, Reader, unstored}
 use Rattle.rc_machine.specs.Standing.{IsOver}
 use Rattle.rc_machine.specs.Steps.{IsSaid, most_readers, reader_with, reader_past, sealing}
 use Rattle.rc_machine.specs.Serving.{Takes}
-use Rattle.rc_folder.specs.laws.Over.{over_sealed}
+use Rattle.rc_folder.specs.laws.Sealing.{log_sealed, log_length as writes_in_all, sealing_is}
+use Rattle.rc_folder.specs.laws.Over.{over_reading, over_sealed, over_written}
 use Rattle.rc_plain.specs.Stands.{Keeping, Stands, rests}
 use Rattle.rc_plain.specs.calls.Answering.{IsAnswer}
 use Rattle.rc_plain.specs.calls.Storing.{sealed_all}
@@ -87,7 +88,7 @@ reading k readers = record k { readers = readers }
 
 stands_reading : (files : Option Files) (k : Keeping) (m : State) (given : List (ℕ × Reader)) (readers : Readers) → rests given ≡ readers → Stands files k m → Stands files (reading k readers) (record m { readers = given })
 stands_reading files k m given readers e s = record {
-  over = record { schema = s.over.schema; files = s.over.files; infos = s.over.infos; tables = s.over.tables; listed = s.over.listed; stored = s.over.stored; sealed = s.over.sealed; fit = s.over.fit };
+  over = over_reading files k.schema k.infos m given s.over;
   log = s.log;
   sealed = s.sealed;
   whole = s.whole;
@@ -105,27 +106,14 @@ stored_within : (files : Option Files) (k : Keeping) (m : State) → Stands file
 stored_within files k m s = omega (arith, s.over.stored, s.over.sealed)
 
 stands_writing : (files : Option Files) (k : Keeping) (m : State) (w : Write) → CommandFits k.schema (Put w) → Stands files k m → Stands files (writing k (k.active ++ w ∷ [])) (record m { log = m.log ++ w ∷ [] })
-stands_writing files k m w fits s =
-    let longer : length (m.log ++ w ∷ []) ≡ length m.log + 1 = length-append m.log (w ∷ []) in
-    record {
-      over = record {
-        schema = s.over.schema;
-        files = s.over.files;
-        infos = s.over.infos;
-        tables = s.over.tables;
-        listed = s.over.listed;
-        stored = s.over.stored;
-        sealed = omega (arith, s.over.sealed, longer);
-        fit =
-            All-append (λ w. CommandFits m.schema (Put w)) m.log (w ∷ []) s.over.fit
-            (All-cons (λ w. CommandFits m.schema (Put w)) w [] (subst (λ schema. CommandFits schema (Put w)) (sym s.over.schema) fits) (λ i d l. absurd (omega arith)));
-      };
-      log = sym (append_assoc k.sealed k.active (w ∷ [])) ∙ ap (λ ws. ws ++ w ∷ []) s.log ∙ sym (drop-append-le m.stored m.log (w ∷ []) (stored_within files k m s));
-      sealed = s.sealed;
-      whole = s.whole;
-      left = s.left;
-      readers = s.readers;
-    }
+stands_writing files k m w fits s = record {
+  over = over_written files k.schema k.infos m w fits s.over;
+  log = sym (append_assoc k.sealed k.active (w ∷ [])) ∙ ap (λ ws. ws ++ w ∷ []) s.log ∙ sym (drop-append-le m.stored m.log (w ∷ []) (stored_within files k m s));
+  sealed = s.sealed;
+  whole = s.whole;
+  left = s.left;
+  readers = s.readers;
+}
 
 pub takes_put : (files : Option Files) (k : Keeping) (w : Write) (active : List Write) → CommandFits k.schema (Put w) → active ≡ k.active ++ w ∷ [] → Takes Stands files k (Put w) replies.Fine files (writing k active)
 takes_put files k w active fits more = λ m s.
@@ -224,34 +212,11 @@ answered files k key slice lines join said is m s =
 pub damage_seen : (inside now : Keeping) (key : List ℕ) (e : StreamErr) → inside ≡ now → IsDamageOf inside.schema key inside.infos e → IsDamageOf now.schema key now.infos e
 damage_seen inside now key e is damage = subst (λ (k : Keeping). IsDamageOf k.schema key k.infos e) is damage
 
-not_none : (n : ℕ) → (suc n == 0) ≡ false
-not_none n = grind (arith, nat_tests)
-
 -- ---- sealing
-
-log_sealed : (sealed active : List Write) → (if length sealed == 0 then active else sealed) ++ (if length sealed == 0 then [] else active) ≡ sealed ++ active
-log_sealed [] active = append-nil active
-log_sealed (w ∷ ws) active = ap (λ (b : Bool). (if b then active else w ∷ ws) ++ (if b then [] else active)) (not_none (length ws))
-
-sealing_at : (m : State) (b : Bool) → (m.stored == m.sealed) ≡ b → sealing m ≡ cond b (length m.log) m.sealed
-sealing_at m b e = ap (λ b. cond b (length m.log) m.sealed) e
-
-pub all_from : (log rest : List Write) (n : ℕ) → n ≤ length log → rest ≡ drop n log → length log ≡ n + length rest
-all_from log rest n h e = (let count : length rest ≡ length log - n = ap length e ∙ length-drop n log in omega arith)
 
 -- so many writes there are
 pub log_length : (files : Option Files) (k : Keeping) (m : State) → Stands files k m → length m.log ≡ m.stored + (length k.sealed + length k.active)
-log_length files k m s =
-    let count : length m.log ≡ m.stored + length (k.sealed ++ k.active) = all_from m.log (k.sealed ++ k.active) m.stored (stored_within files k m s) s.log in
-    omega (arith, count, length-append k.sealed k.active)
-
-sealing_is : (m : State) (sealed active : List Write) → m.stored ≤ length m.log → sealed ++ active ≡ drop m.stored m.log → m.sealed ≡ m.stored + length sealed → sealing m ≡ m.stored + length (if length sealed == 0 then active else sealed)
-sealing_is m [] active h log is =
-    let t : (m.stored == m.sealed) ≡ true = grind (arith, nat_tests, is) in
-    sealing_at m true t ∙ all_from m.log active m.stored h log
-sealing_is m (w ∷ ws) active h log is =
-    let t : (m.stored == m.sealed) ≡ false = grind (arith, nat_tests, is) in
-    sealing_at m false t ∙ is ∙ ap (λ (b : Bool). m.stored + length (if b then active else w ∷ ws)) (sym (not_none (length ws)))
+log_length files k m s = writes_in_all m k.sealed k.active (stored_within files k m s) s.log
 
 -- the writes are sealed
 pub stands_sealed : (files : Option Files) (k : Keeping) (m : State) → Stands files k m → Stands files (sealed_all k) (record m { sealed = sealing m })

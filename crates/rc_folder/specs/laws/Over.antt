@@ -1,15 +1,20 @@
--- The machine stands over a folder also once its writes are sealed, and once they stand in one more table.
-use Rattle.std.proofs.Common.{◌≡◌, ◌==◌, ℕ, ◌≤◌, Bool, true, false, cond, List, ◌++◌, ◌∷◌, [], length, map, Option, Some, All, option_map, refl, sym, ap, subst, ◌∙◌, arith}
+-- The machine stands over a folder also once its writes are sealed, once they stand in one more table, and once there is a write more or other readers.
+use Rattle.std.proofs.Common.{◌≡◌, ◌==◌, ℕ, ◌≤◌, ◌+◌, Bool, true, false, cond, List, ◌++◌, ◌∷◌, [], length, map, Option, Some, All, option_map, refl, sym, ap, subst, ◌∙◌, arith}
 use Rattle.std.specs.FinMap as finite
+use Rattle.std.proofs.lemmas.List.{length-append}
+use Rattle.std.proofs.lemmas.List.Elements.{All-append, All-cons}
 use Rattle.rc_outside.specs.Files.{Files, IsNoFile}
 use Rattle.rc_schema.specs.SchemaValue.{SchemaValue}
 use Rattle.rc_mutation.specs.declared.mutations.Partition.{Partition}
+use Rattle.rc_mutation.specs.declared.mutations.Write.{Write}
 use Rattle.rc_mutation.specs.Source.{IsMutation}
 use Rattle.rc_tfile.specs.declared.info.TableInfo.{TableInfo}
 use Rattle.rc_tfile.specs.Before.{text}
 use Rattle.rc_tfile.specs.Info.{info_of}
 use Rattle.rc_tfile.specs.TableText.{whole_table, IsTable}
-use Rattle.rc_machine.specs.State.{State, numbers}
+use Rattle.rc_lines.specs.Fits.{CommandFits}
+use Rattle.rc_lines.specs.declared.commands.Command.TheVariants.{Put}
+use Rattle.rc_machine.specs.State.{Reader, State, numbers}
 use Rattle.rc_machine.specs.Standing.{IsOver}
 use Rattle.rc_machine.specs.Steps.{next_number, sealing, with_table, without_sealed}
 use Rattle.rc_machine.specs.laws.Folder.{is_no_file}
@@ -85,3 +90,28 @@ over_let_go told schema infos m over = record {
   sealed = over.sealed;
   fit = over.fit;
 }
+
+-- ---- a write
+
+-- one write more that fits
+pub over_written : (told : Option Files) (schema : SchemaValue) (infos : List TableInfo) (m : State) (w : Write) → CommandFits schema (Put w) → IsOver told schema infos m → IsOver told schema infos (record m { log = m.log ++ w ∷ [] })
+over_written told schema infos m w fits over =
+    let longer : length (m.log ++ w ∷ []) ≡ length m.log + 1 = length-append m.log (w ∷ []) in
+    record {
+      schema = over.schema;
+      files = over.files;
+      infos = over.infos;
+      tables = over.tables;
+      listed = over.listed;
+      stored = over.stored;
+      sealed = omega (arith, over.sealed, longer);
+      fit =
+          All-append (λ w. CommandFits m.schema (Put w)) m.log (w ∷ []) over.fit
+          (All-cons (λ w. CommandFits m.schema (Put w)) w [] (subst (λ schema. CommandFits schema (Put w)) (sym over.schema) fits) (λ i d l. absurd (omega arith)));
+    }
+
+-- ---- readers
+
+-- other readers
+pub over_reading : (told : Option Files) (schema : SchemaValue) (infos : List TableInfo) (m : State) (readers : List (ℕ × Reader)) → IsOver told schema infos m → IsOver told schema infos (record m { readers = readers })
+over_reading told schema infos m readers over = record { schema = over.schema; files = over.files; infos = over.infos; tables = over.tables; listed = over.listed; stored = over.stored; sealed = over.sealed; fit = over.fit }
