@@ -1,3 +1,5 @@
 mod Places
 mod Served
 mod Standing
+mod Taking
+mod Flushing

@@ -25,6 +25,20 @@ module _ {X : Type 0} where
   place-of id [] at e = absurd (cc)
   place-of id (o ∷ os) at e = let p = position-Some (λ (x : ℕ × X). x.0 == id) (o ∷ os) at o e in place-from id (o ∷ os) at o p.0 p.1 p.2
 
+  -- there is one
+  pub one-of : (id : ℕ) (os : List (ℕ × X)) (at : ℕ) → IsPlace id os at → ℕ × X
+  one-of id [] at h = absurd h
+  one-of id (o ∷ os) at h = o
+
+  -- whether the id has a place is whether it is open
+  pub open-some : (id : ℕ) (os : List (ℕ × X)) (r : Option ℕ) → r ≡ position (λ o. o.0 == id) os → true ≡ is_some r → (at : ℕ) × IsPlace id os at
+  open-some id os None e some = absurd (cc)
+  open-some id os (Some at) e some = (at, place-of id os at (sym e))
+
+  pub open-none : (id : ℕ) (os : List (ℕ × X)) (r : Option ℕ) → r ≡ position (λ o. o.0 == id) os → false ≡ is_some r → position (λ o. o.0 == id) os ≡ None
+  open-none id os None e none = sym e
+  open-none id os (Some at) e none = absurd (cc)
+
   pub in-range : (id : ℕ) (os : List (ℕ × X)) (at : ℕ) → IsPlace id os at → at < length os
   in-range id [] at h = absurd h
   in-range id (o ∷ os) zero h = omega arith

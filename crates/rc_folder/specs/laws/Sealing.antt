@@ -6,7 +6,7 @@ use Rattle.rc_mutation.specs.declared.mutations.Write.{Write}
 use Rattle.rc_machine.specs.State.{State, unstored}
 use Rattle.rc_machine.specs.Steps.{sealing}
 
-not_none : (n : ℕ) → (suc n == 0) ≡ false
+pub not_none : (n : ℕ) → (suc n == 0) ≡ false
 not_none n = grind (arith, nat_tests)
 
 -- what is sealed, and what is written since, once all is sealed unless something is

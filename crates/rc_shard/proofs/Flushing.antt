@@ -1,0 +1,167 @@
+-- What a flush does.
+use Rattle.std.proofs.Common.{◌≡◌, ◌==◌, ℕ, suc, ◌+◌, ◌-◌, ◌≤◌, inl, inr, Bool, true, false, List, [], ◌∷◌, ◌++◌, length, take, drop, map, if◌then◌else◌, Option, Some, None, All, AllPairs, nat_lt, refl, sym, ap, subst, ◌∙◌, arith, append-nil}
+use Rattle.std.specs.List.{AllZip}
+use Rattle.std.proofs.lemmas.Bool.Decides.{nat_tests}
+use Rattle.std.proofs.lemmas.List.{length-drop}
+use Rattle.rc_outside.specs.Files.{Files, IsNoFile}
+use Rattle.rc_schema.specs.SchemaValue.{SchemaValue}
+use Rattle.rc_mutation.specs.declared.mutations.Partition.{Partition}
+use Rattle.rc_mutation.specs.declared.mutations.Write.{Write}
+use Rattle.rc_mutation.specs.Fragments.{IsParts}
+use Rattle.rc_tfile.specs.TableText.{PartsFit}
+use Rattle.rc_query.specs.declared.lines.OutLine.{OutLine}
+use Rattle.rc_lines.specs.declared.commands.Command.TheVariants.{Flush}
+use Rattle.rc_lines.specs.declared.commands.Reply.{Reply}
+use Rattle.rc_lines.specs.declared.commands.Reply.TheVariants as replies
+use Rattle.rc_lines.specs.declared.commands.Refusal.TheVariants.{NothingToFlush, NoNumber, WriteFault}
+use Rattle.rc_memory.specs.Memory.{Memory}
+use Rattle.rc_snapshots.specs.Seeing.{StillSeeBoth}
+use Rattle.rc_unstored.specs.declared.unstored.Unstored.{Unstored}
+use Rattle.rc_unstored.specs.Memtables.{HaveWrites}
+use Rattle.rc_opened.specs.declared.opened.Opened.{Opened}
+use Rattle.rc_opened.specs.Opened.{snaps_of}
+use Rattle.rc_machine.specs.State.{State, numbers, unstored}
+use Rattle.rc_machine.specs.Steps.{IsFlushed, last_number, next_number, sealing, with_table, without_sealed}
+use Rattle.rc_machine.specs.Serving.{Stops, Takes}
+use Rattle.rc_folder.specs.Tabled.{IsAdded, IsNextNumber, Tabled}
+use Rattle.rc_folder.specs.laws.Fitting.{sealed_parts_fit}
+use Rattle.rc_folder.specs.laws.Flushing.{flushes, in_time, is_flushed, later_writes, too_late}
+use Rattle.rc_folder.specs.laws.Over.{fresh, over_added, over_let_go, over_sealed}
+use Rattle.rc_folder.specs.laws.Sealing.{not_none, sealing_is}
+use Rattle.rc_shard.specs.declared.shard.Shard.{Shard}
+use Rattle.rc_shard.specs.Stands.{AreFor, AreSound, HaveUnstored, IsServed, Stands}
+use Rattle.rc_shard.specs.calls.Storing.{IsFlushAnswered, IsKept, IsTableStored}
+use Rattle.rc_shard.proofs.Served.{all-served}
+use Rattle.rc_shard.proofs.Standing.{kept-for, sound-less}
+use Rattle.rc_shard.proofs.Taking.{moved}
+
+-- whether something is to be flushed
+left-of : (m : State) → length (unstored m) ≡ length m.log - m.stored
+left-of m = length-drop m.stored m.log
+
+all-stored : (m : State) → m.stored ≤ length m.log → unstored m ≡ [] → (m.stored == length m.log) ≡ true
+all-stored m h none = let count = left-of m in let e = ap (λ (ws : List Write). length ws) none in grind (arith, nat_tests, count, e, h)
+
+nothing-in : (ws : List Write) → length ws ≡ 0 → ws ≡ []
+nothing-in [] e = refl
+nothing-in (w ∷ ws) e = absurd (omega (arith, e))
+
+equal-is : (a b : ℕ) → (a == b) ≡ true → a ≡ b
+equal-is a b e = grind (arith, nat_tests, e)
+
+test-of : (b : Bool) → (b ≡ true → ⊥) → b ≡ false
+test-of true h = absurd (h refl)
+test-of false h = refl
+
+some-left : (m : State) → m.stored ≤ length m.log → (unstored m ≡ [] → ⊥) → (m.stored == length m.log) ≡ false
+some-left m h some = test-of (m.stored == length m.log) (λ e. some (nothing-in (unstored m) (let count = left-of m in let same = equal-is m.stored (length m.log) e in omega (arith, count, same))))
+
+-- the writes are sealed, unless some are
+have-sealed : (schema : SchemaValue) (u v : Unstored 131072) (m : State) (sealed later : List Write) → HaveWrites schema u sealed later → sealed ++ later ≡ unstored m → m.sealed ≡ m.stored + length sealed → m.stored ≤ length m.log →
+    ((others : List Write) → HaveWrites schema u [] others → HaveWrites schema v others []) → ((w : Write) (writes others : List Write) → HaveWrites schema u (w ∷ writes) others → v ≡ u) → HaveUnstored schema v (record m { sealed = sealing m })
+have-sealed schema u v m [] later h are count in_log seals keeps = record { sealed = later; later = []; have = seals later h; are = append-nil later ∙ are; count = sealing_is m [] later in_log are count }
+have-sealed schema u v m (w ∷ ws) later h are count in_log seals keeps = record {
+  sealed = w ∷ ws;
+  later = later;
+  have = subst (λ (x : Unstored 131072). HaveWrites schema x (w ∷ ws) later) (sym (keeps w ws later h)) h;
+  are = are;
+  count = sealing_is m (w ∷ ws) later in_log are count ∙ ap (λ (b : Bool). m.stored + length (if b then later else w ∷ ws)) (not_none (length ws));
+}
+
+module _ (lines : Opened → Memory → List OutLine → Type 0) where
+  in-log : (files : Option Files) (k : Shard) (m : State) → Stands lines files k m → m.stored ≤ length m.log
+  in-log files k m s = let a = s.over.stored in let b = s.over.sealed in omega (arith, a, b)
+
+  pub sealed-for : (files : Option Files) (k k' : Shard) (m : State) → k'.folder ≡ k.folder → k'.segments ≡ k.segments → k'.readers.items ≡ k.readers.items → k'.unstored.chains ≡ k.unstored.chains →
+      ((schema : SchemaValue) (others : List Write) → HaveWrites schema k.unstored [] others → HaveWrites schema k'.unstored others []) → ((schema : SchemaValue) (w : Write) (writes others : List Write) → HaveWrites schema k.unstored (w ∷ writes) others → k'.unstored ≡ k.unstored) →
+      Stands lines files k m → Stands lines files k' (record m { sealed = sealing m })
+  sealed-for files k k' m folder segs items chains seals keeps s =
+      let sealed : AreFor lines files k.folder k'.unstored k.readers.items k.segments (record m { sealed = sealing m }) = record {
+        over = over_sealed files k.folder.schema k.folder.infos m s.over;
+        have = have-sealed k.folder.schema k.unstored k'.unstored m s.have.sealed s.have.later s.have.have s.have.are s.have.count (in-log files k m s) (seals k.folder.schema) (keeps k.folder.schema);
+        whole = s.whole;
+        left = s.left;
+        budget = s.budget;
+        sound = (let t = subst (λ (x : Memory). AreSound x m) (sym chains) s.sound in record { mutations = t.mutations; budget = t.budget; weigh = t.weigh });
+        served = subst (λ (x : Memory). AllZip (IsServed lines x) k.readers.items m.readers) (sym chains) s.served;
+        two = s.two;
+      } in
+      moved lines files k k' k'.unstored k.readers.items (record m { sealed = sealing m }) folder refl segs items sealed
+
+  -- ---- a flush that is refused
+
+  pub takes-no-flush : (files : Option Files) (k : Shard) → ((schema : SchemaValue) (writes later : List Write) → HaveWrites schema k.unstored writes later → writes ++ later ≡ []) → Takes (Stands lines) files k Flush (replies.Refused NothingToFlush) files k
+  takes-no-flush files k none = λ m s.
+      (m, flushes without_sealed m _ m true (nat_lt last_number (next_number (numbers m.tables))) s.whole (all-stored m (in-log files k m s) (sym s.have.are ∙ none k.folder.schema s.have.sealed s.have.later s.have.have)) refl (refl, refl), s)
+
+  some-here : (files : Option Files) (k : Shard) (m : State) → ((schema : SchemaValue) (writes later : List Write) → HaveWrites schema k.unstored writes later → writes ++ later ≡ [] → ⊥) → Stands lines files k m → (m.stored == length m.log) ≡ false
+  some-here files k m some s = some-left m (in-log files k m s) (λ e. some k.folder.schema s.have.sealed s.have.later s.have.have (s.have.are ∙ e))
+
+  pub takes-no-number : (files : Option Files) (k : Shard) → ((schema : SchemaValue) (writes later : List Write) → HaveWrites schema k.unstored writes later → writes ++ later ≡ [] → ⊥) → IsNextNumber k.folder.infos None → Takes (Stands lines) files k Flush (replies.Refused NoNumber) files k
+  takes-no-number files k some past = λ m s. (m, flushes without_sealed m _ m false true s.whole (some-here files k m some s) (too_late files k.folder.schema k.folder.infos m s.over past) (refl, refl), s)
+
+  module _ (stays : (o : Opened) (m n : Memory) (ls : List OutLine) → StillSeeBoth (snaps_of o) m n → lines o m ls → lines o n ls) where
+    -- want of memory: the writes stay sealed
+    pub stops-sealed : (files files' : Option Files) (k l k' : Shard) → ((m : State) → Stands lines files k m → Stands lines files l (record m { sealed = sealing m })) → k'.folder ≡ l.folder → k'.segments ≡ l.segments → k'.readers.items ≡ l.readers.items → IsKept l.unstored k'.unstored → files' ≡ files →
+        Stops (Stands lines) files k Flush files' k'
+    stops-sealed files files' k l k' seals folder segs items kept still = λ m s.
+        let sealed : State = record m { sealed = sealing m } in
+        (sealed, inr refl, subst (λ told. Stands lines told k' sealed) (sym still) (moved lines files l k' k'.unstored l.readers.items sealed folder refl segs items (kept-for lines stays files l.folder l.unstored k'.unstored l.readers.items l.segments sealed kept (seals m s))))
+
+    module _ (files files' : Option Files) (k l k' : Shard) (n : ℕ) (some : (schema : SchemaValue) (writes later : List Write) → HaveWrites schema k.unstored writes later → writes ++ later ≡ [] → ⊥) (is : IsNextNumber k.folder.infos (Some n))
+        (seals : (m : State) → Stands lines files k m → Stands lines files l (record m { sealed = sealing m })) (segs : k'.segments ≡ l.segments) (items : k'.readers.items ≡ l.readers.items) where
+      takes-write-fault : k'.folder ≡ l.folder → IsKept l.unstored k'.unstored → files' ≡ files → Takes (Stands lines) files k Flush (replies.Refused WriteFault) files' k'
+      takes-write-fault folder kept still = λ m s.
+          let sealed : State = record m { sealed = sealing m } in
+          (sealed, flushes without_sealed m _ _ false false s.whole (some-here files k m some s) (in_time files k.folder.schema k.folder.infos m n s.over is) (inr (refl, refl)),
+           subst (λ told. Stands lines told k' sealed) (sym still) (moved lines files l k' k'.unstored l.readers.items sealed folder refl segs items (kept-for lines stays files l.folder l.unstored k'.unstored l.readers.items l.segments sealed kept (seals m s))))
+
+      -- the sealed writes stand in the next table
+      module _ (same : l.folder ≡ k.folder) (i : IsTableStored files l n files' k') where
+        added-here : IsAdded files k.folder n i.parts files' k'.folder
+        added-here = subst (λ (f : Tabled). IsAdded files f n i.parts files' k'.folder) same i.added
+
+        stands-stored : (m : State) → Stands lines files k m → Stands lines files' k' (without_sealed (with_table m i.parts))
+        stands-stored m s =
+            let t = seals m s in
+            let parts = i.of_writes l.folder.schema t.have.sealed t.have.later t.have.have in
+            let new : State = with_table m i.parts in
+            let schema : k'.folder.schema ≡ l.folder.schema = ap (λ (f : Tabled). f.schema) i.added.keeps in
+            let stored : AreFor lines files' k'.folder k'.unstored l.readers.items l.segments (without_sealed new) = record {
+              over = over_let_go files' k'.folder.schema k'.folder.infos new (over_added files files' k.folder k'.folder n m i.parts s.over is added-here parts.mutations);
+              have = record {
+                sealed = [];
+                later = t.have.later;
+                have = subst (λ (x : SchemaValue). HaveWrites x k'.unstored [] t.have.later) (sym schema) (i.gone l.folder.schema t.have.sealed t.have.later t.have.have);
+                are = later_writes m t.have.sealed t.have.later (sealing m) t.have.are t.have.count;
+                count = omega arith;
+              };
+              whole = refl;
+              left = refl;
+              budget = t.budget;
+              sound = (let a = sound-less l.unstored.chains k'.unstored.chains (record m { sealed = sealing m }) i.room t.sound in record { mutations = a.mutations; budget = a.budget; weigh = a.weigh });
+              served = all-served lines stays l.unstored.chains k'.unstored.chains l.readers.items m.readers i.seen t.served;
+              two = t.two;
+            } in
+            subst (λ os. AreFor lines files' k'.folder k'.unstored os k'.segments (without_sealed new)) (sym items) (subst (λ x. AreFor lines files' k'.folder k'.unstored l.readers.items x (without_sealed new)) (sym segs) stored)
+
+        takes-stored : Takes (Stands lines) files k Flush replies.Fine files' k'
+        takes-stored = λ m s.
+            let t = seals m s in
+            let flushed : IsFlushed m i.parts = is_flushed files k.folder.schema k.folder.infos m t.have.sealed t.have.later i.parts s.over t.have.are t.have.count (i.of_writes l.folder.schema t.have.sealed t.have.later t.have.have) added-here.is_table in
+            (without_sealed (with_table m i.parts), flushes without_sealed m _ _ false false s.whole (some-here files k m some s) (in_time files k.folder.schema k.folder.infos m n s.over is) (inl (i.parts, flushed, (refl, refl))), stands-stored m s)
+
+      -- what was answered of the table
+      pub takes-written : (reply : Reply) → l.folder ≡ k.folder → IsFlushAnswered files l n files' k' reply → Takes (Stands lines) files k Flush reply files' k'
+      takes-written reply same (inl w) = subst (λ r. Takes (Stands lines) files k Flush r files' k') (sym w.0) (takes-stored same w.1)
+      takes-written reply same (inr w) = subst (λ r. Takes (Stands lines) files k Flush r files' k') (sym w.0) (takes-write-fault w.1 w.2 w.3)
+
+-- the number is no file's
+pub no-file : (lines : Opened → Memory → List OutLine → Type 0) (files : Option Files) (k : Shard) (n : ℕ) → (m : State) × Stands lines files k m → IsNextNumber k.folder.infos (Some n) → IsNoFile files n
+no-file lines files k n stands is = fresh files k.folder.schema k.folder.infos stands.0 n stands.1.over is
+
+-- the parts of the sealed writes fit a table
+pub parts-of-sealed : (lines : Opened → Memory → List OutLine → Type 0) (files : Option Files) (k : Shard) (parts : List Partition) → (m : State) × Stands lines files k m → ((schema : SchemaValue) (writes later : List Write) → HaveWrites schema k.unstored writes later → IsParts parts writes) → PartsFit k.folder.schema parts
+parts-of-sealed lines files k parts stands are =
+    let h = stands.1.have in
+    sealed_parts_fit files k.folder.schema k.folder.infos stands.0 h.sealed h.later parts stands.1.over h.are (are k.folder.schema h.sealed h.later h.have)
