@@ -2,7 +2,7 @@
 --     AreChangesOf   changes are such as the program has, and fit a schema
 --     AreSources     what an open reader reads, as it is made
 --     GivesLines     these lines are left
-use Rattle.std.specs.Prelude.{◌≡◌, All, List, [], Option, Some, None, Result, Ok, Err, ℕ, drop}
+use Rattle.std.specs.Prelude.{◌≡◌, All, false, List, Option, Some, None, Result, Ok, Err, ℕ, drop}
 use Rattle.std.specs.declared.alloc.AllocError.{AllocError}
 use Rattle.rc_schema.specs.SchemaValue.{SchemaValue}
 use Rattle.rc_writes.specs.Allowed.{ChangeFits}
@@ -40,7 +40,7 @@ active_of s = s.theirs.stream.theirs.stream
 
 -- the store over which it reads
 abbrev pub no_files : NoFiles
-no_files = record {}
+no_files = record { begun = false }
 
 -- what an open reader reads, as it is made: the list of what the tables said, and the streams of both snapshots, from the beginning of the partition
 pub record AreSources (tables : Mutation) (snaps : Snaps) (s : OfSources) : Type 0 where

@@ -1,20 +1,33 @@
 // A store of no files.
 ghost use Rattle.std.specs.Prelude.{◌≡◌};
+ghost use Rattle.rc_opened.specs.Opened.{no_files};
 
 use rc_outside::{Failed, Store, StoreErr};
 use std::alloc::Global;
 
 /// A store of no files, in which none can be built, and whose calls are refused for want of memory: over it streams of what lies in memory are read, which ask nothing of a store.
 #[derive(Clone, Copy, Debug)]
-pub struct NoFiles;
+pub struct NoFiles {
+    /// Whether a file is being built, which none that is made here is, since each `begin` is refused.
+    pub begun: bool,
+}
+
+impl NoFiles {
+    /// The store, in which nothing is being built.
+    pub fn new() -> Self
+        ensures { result ≡ no_files }
+    {
+        NoFiles { begun: false }
+    }
+}
 
 impl Store for NoFiles {
-    ghost use Rattle.std.specs.Prelude.{None, Some};
+    ghost use Rattle.std.specs.Prelude.{None, Some, cond};
     ghost use Rattle.std.specs.FinMap as map;
 
     ghost files = { λ _. Some map.empty };
 
-    ghost building = { λ _. None };
+    ghost building = { λ s. cond s.begun (Some None) None };
 
     ghost faults = { λ _. 0 };
 
@@ -37,14 +50,18 @@ impl Store for NoFiles {
     }
 
     fn append(&mut self, _alloc: Global, _piece: &[u8]) -> Result<(), StoreErr> {
-        unreachable!()
+        self.begun = false;
+        Err(StoreErr::NoMemory)
     }
 
     fn finish(&mut self, _alloc: Global) -> Result<(), StoreErr> {
-        unreachable!()
+        self.begun = false;
+        Err(StoreErr::NoMemory)
     }
 
-    fn abandon(&mut self) {}
+    fn abandon(&mut self) {
+        self.begun = false;
+    }
 
     fn asks(&self) -> u64 {
         0
