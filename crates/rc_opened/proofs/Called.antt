@@ -6,11 +6,14 @@ use Rattle.rc_chain.specs.declared.chains.Snap.{Snap}
 use Rattle.rc_stream.specs.declared.merges.Merge.{Merge}
 use Rattle.rc_stream.specs.Did.{Call, Deed, InTurn, OfHead, OfSeek, merge_did}
 use Rattle.rc_stream.specs.Stream.{Stream}
+use Rattle.rc_query.specs.declared.lines.OutLine.{OutLine}
+use Rattle.rc_reader.specs.Left.{AreLeft}
 use Rattle.rc_reader.specs.Steps.{OneStep, OpenCalls}
 use Rattle.rc_opened.specs.declared.no_files.NoFiles.{NoFiles}
 use Rattle.rc_snapshots.specs.declared.snaps.Snaps.{Snaps}
 use Rattle.rc_opened.specs.declared.written.Written.{Written}
-use Rattle.rc_opened.specs.Opened.{AreStreamsOf, OfSources, active_of, sealed_of, snaps_in}
+use Rattle.rc_opened.specs.declared.opened.Opened.{Opened}
+use Rattle.rc_opened.specs.Opened.{AreStreamsOf, GivesLines, OfSources, active_of, no_files, sealed_of, snaps_in, snaps_of}
 use Rattle.rc_opened.specs.Written.{DidAs, IsStreamOf, OfSnapshot, snap_in}
 use Rattle.rc_opened.proofs.Kept.{in_turn, merges}
 
@@ -95,3 +98,8 @@ own_snaps snaps s are =
 
 pub own_streams : (snaps : Snaps) (s : OfSources) → AreStreamsOf snaps s → AreStreamsOf (snaps_in s) s
 own_streams snaps s are = subst (λ those. AreStreamsOf those s) (sym (own_snaps snaps s are)) are
+
+-- what is left over a store that is the one of no files
+pub gives-at : (ready : OfSources → Memory → NoFiles → Type 0) (seen : OfSources → Memory → NoFiles → Stream → Type 0) (m : Memory) (o : Opened) (lines : List OutLine) (store : NoFiles) → store ≡ no_files → ready o.reader.stream m store → AreLeft seen o.reader m store lines →
+    AreStreamsOf (snaps_of o) o.reader.stream → GivesLines ready seen m o lines
+gives-at ready seen m o lines store e may left streams = record { may = subst (ready o.reader.stream m) e may; left = subst (λ x. AreLeft seen o.reader m x lines) e left; streams = streams }

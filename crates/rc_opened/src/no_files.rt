@@ -1,6 +1,5 @@
 // A store of no files.
 ghost use Rattle.std.specs.Prelude.{◌≡◌};
-ghost use Rattle.rc_opened.specs.Opened.{no_files};
 
 use rc_outside::{Failed, Store, StoreErr};
 use std::alloc::Global;
@@ -10,15 +9,6 @@ use std::alloc::Global;
 pub struct NoFiles {
     /// Whether a file is being built, which none that is made here is, since each `begin` is refused.
     pub begun: bool,
-}
-
-impl NoFiles {
-    /// The store, in which nothing is being built.
-    pub fn new() -> Self
-        ensures { result ≡ no_files }
-    {
-        NoFiles { begun: false }
-    }
 }
 
 impl Store for NoFiles {
