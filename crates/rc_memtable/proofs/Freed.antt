@@ -2,6 +2,7 @@
 use Rattle.std.proofs.Common.{inl, inr, ◌≡◌, ◌⊎◌, ◌<◌, ◌+◌, ℕ, zero, suc, true, false, List, [], ◌∷◌, ◌++◌, Option, Some, None, is_some, length, map, refl, sym, ap, ◌∙◌, subst, slice_index_or, arith}
 use Rattle.std.specs.Prelude.{Contains, IsSomeAnd}
 use Rattle.std.specs.Option.{option_map}
+use Rattle.lsa_region.specs.Region.{live_bytes}
 use Rattle.rc_position.specs.declared.positions.Pos.{Pos}
 use Rattle.rc_core.specs.declared.entries.ChainKind.TheVariants.{Cache, Memtable}
 use Rattle.rc_core.specs.AtPlace.{HasEntryAt}
@@ -20,7 +21,9 @@ use Rattle.rc_memory.specs.laws.Places.{same_some}
 use Rattle.rc_memory.specs.laws.Put.{put-at, put-same}
 use Rattle.rc_memory.specs.laws.Versions.{all-but-is}
 use Rattle.rc_chain.specs.Lives.{IsEntryFreed, IsLastDropped, IsOneFreed, IsStaticFreed, IsVersionDropped}
-use Rattle.rc_memtable.specs.LetGo.{HasLeft, IsGone}
+use Rattle.rc_memtable.specs.LetGo.{IsGone}
+use Rattle.rc_memtable.specs.calls.Steps.{chains_bytes}
+use Rattle.rc_memtable.proofs.Grown.{gone-less}
 use Rattle.rc_memtable.proofs.Steps.{chain-now}
 
 -- ---- lists
@@ -63,15 +66,27 @@ objects_left (Some k) = objects_of k.chain.versions
 abbrev pub IsLeft : KeptChain → Type 0
 IsLeft k = (k.chain.kind ≡ Memtable) × (k.chain.attached ≡ false) × AreFree k.chain.pins
 
+-- the chains are these, and so are the numbers to be told, before it is said how much is live
+pub record IsLeaving (those : List (Option KeptChain)) (told : List ℕ) (old new : Memory) : Type 0 where
+  pub chains : new.chains ≡ those
+  pub dropped : new.dropped ≡ told
+  pub recency : new.recency ≡ old.recency
+  pub counts : new.counts ≡ old.counts
+  pub budget : length new.region.usages ≡ length old.region.usages
+
+-- a chain is gone, before it is said how much is live
+abbrev pub HasGone : ℕ → Memory → Memory → Type 0
+HasGone id old new = IsLeaving (put id None old.chains) (old.dropped ++ id ∷ []) old new
+
 -- the chain is there with fewer objects, or it is gone
 pub record IsThere (id : ℕ) (old now : Memory) : Type 0 where
   pub chain : KeptChain
   pub there : chain_at now id ≡ Some chain
   pub left : IsLeft chain
-  pub others : HasLeft (put id (Some chain) old.chains) old.dropped old now
+  pub others : IsLeaving (put id (Some chain) old.chains) old.dropped old now
 
 abbrev pub IsFreeing : ℕ → Memory → Memory → Type 0
-IsFreeing id old now = IsThere id old now ⊎ IsGone id old now
+IsFreeing id old now = IsThere id old now ⊎ HasGone id old now
 
 some-chain : (P : KeptChain → Type 0) (o : Option KeptChain) → IsSomeAnd o P → (k : KeptChain) × (o ≡ Some k) × P k
 some-chain P None h = absurd h
@@ -79,14 +94,24 @@ some-chain P (Some k) h = (k, refl, h)
 
 pub freeing-start : (id : ℕ) (m : Memory) → IsSomeAnd (chain_at m id) IsLeft → IsFreeing id m m
 freeing-start id m h = let k = some-chain IsLeft (chain_at m id) h in
-    inl (record { chain = k.0; there = k.1; left = k.2; others = record { chains = sym (put-same m.chains id k.0 k.1); dropped = refl; recency = refl; counts = refl } })
+    inl (record { chain = k.0; there = k.1; left = k.2; others = record { chains = sym (put-same m.chains id k.0 k.1); dropped = refl; recency = refl; counts = refl; budget = refl } })
 
 -- where the chain is no longer there it is gone
-pub freeing-over : (id : ℕ) (old now : Memory) → IsFreeing id old now → false ≡ is_some (chain_at now id) → IsGone id old now
-freeing-over id old now (inl t) none = let e : false ≡ true = none ∙ ap is_some t.there in absurd (cc)
-freeing-over id old now (inr gone) none = gone
+over-left : (id : ℕ) (old now : Memory) → IsFreeing id old now → false ≡ is_some (chain_at now id) → HasGone id old now
+over-left id old now (inl t) none = let e : false ≡ true = none ∙ ap is_some t.there in absurd (cc)
+over-left id old now (inr gone) none = gone
 
-gone-nothing : (id : ℕ) (old now : Memory) → IsGone id old now → chain_at now id ≡ None
+pub freeing-over : (id : ℕ) (old now : Memory) → live_bytes old.region ≡ chains_bytes old → live_bytes now.region ≡ chains_bytes now → IsFreeing id old now → false ≡ is_some (chain_at now id) → IsGone id old now
+freeing-over id old now live live_now freeing none = let g = over-left id old now freeing none in record {
+  chains = g.chains;
+  dropped = g.dropped;
+  recency = g.recency;
+  counts = g.counts;
+  budget = g.budget;
+  live = let less = gone-less old now id g.chains in omega (arith, less, live, live_now);
+}
+
+gone-nothing : (id : ℕ) (old now : Memory) → HasGone id old now → chain_at now id ≡ None
 gone-nothing id old now g = ap (λ cs. slice_index_or cs id None) g.chains ∙ put-at old.chains id None
 
 pub freeing-there : (id : ℕ) (old now : Memory) → IsFreeing id old now → true ≡ is_some (chain_at now id) → IsThere id old now
@@ -111,8 +136,8 @@ module _ (id : ℕ) (old now : Memory) (t : IsThere id old now) (rule : IsRecenc
 
   module _ (new : Memory) where
     -- something of the chain changed
-    then-there : (f : KeptChain → KeptChain) → IsLeft (f t.chain) → new.chains ≡ on_chain id f now.chains → new.dropped ≡ now.dropped → new.counts ≡ now.counts → new.recency ≡ now.recency → IsThere id old new
-    then-there f left chains dropped counts list = record {
+    then-there : (f : KeptChain → KeptChain) → IsLeft (f t.chain) → new.chains ≡ on_chain id f now.chains → new.dropped ≡ now.dropped → new.counts ≡ now.counts → new.recency ≡ now.recency → length new.region.usages ≡ length now.region.usages → IsThere id old new
+    then-there f left chains dropped counts list budget = record {
       chain = f t.chain;
       there = chain-now now new id f t.chain chains t.there;
       left = left;
@@ -121,26 +146,28 @@ module _ (id : ℕ) (old now : Memory) (t : IsThere id old now) (rule : IsRecenc
         dropped = dropped ∙ t.others.dropped;
         recency = list ∙ t.others.recency;
         counts = counts ∙ t.others.counts;
+        budget = budget ∙ t.others.budget;
       };
     }
 
     entry-then : IsEntryFreed id now new → IsThere id old new
-    entry-then e = let c = e.changed t.chain t.there in then-there (on_shown (on_version_of 0 (free_entry t.chain.chain.kind e.at))) t.left c.chains c.dropped c.counts (list-stays (member id 0 (Some e.at)) new.recency refl e.recency)
+    entry-then e = let c = e.changed t.chain t.there in then-there (on_shown (on_version_of 0 (free_entry t.chain.chain.kind e.at))) t.left c.chains c.dropped c.counts (list-stays (member id 0 (Some e.at)) new.recency refl e.recency) c.region.budget
 
     static-then : IsStaticFreed id now new → IsThere id old new
-    static-then e = let c = e.changed t.chain t.there in then-there (on_shown (on_version_of 0 (free_statics t.chain.chain.kind))) t.left c.chains c.dropped c.counts (list-stays (member id 0 None) new.recency refl e.recency)
+    static-then e = let c = e.changed t.chain t.there in then-there (on_shown (on_version_of 0 (free_statics t.chain.chain.kind))) t.left c.chains c.dropped c.counts (list-stays (member id 0 None) new.recency refl e.recency) c.region.budget
 
     version-then : IsVersionDropped id 0 now new → IsThere id old new
     version-then d = then-there (on_shown (shown_without 0)) (t.left.0, t.left.1, free-renumbered t.chain.chain.pins t.left.2) d.chains d.dropped d.counts
         (d.recency.2 ∙ ap (map (renumbered_member id 0)) (list-stays (member id 0 (Some end_position)) d.recency.0 refl d.recency.1)
-        ∙ mapped-same (renumbered_member id 0) now.recency (λ w on. renumbered-other id 0 w (λ at. unlisted w at on)))
+        ∙ mapped-same (renumbered_member id 0) now.recency (λ w on. renumbered-other id 0 w (λ at. unlisted w at on))) d.region.budget
 
-    last-then : IsLastDropped id now new → IsGone id old new
+    last-then : IsLastDropped id now new → HasGone id old new
     last-then d = record {
       chains = d.dropped.chains ∙ ap (put id None) t.others.chains ∙ put-put old.chains id None (Some t.chain);
       dropped = d.dropped.dropped ∙ ap (λ ns. ns ++ id ∷ []) t.others.dropped;
       recency = d.dropped.recency ∙ list-stays (member id 0 (Some end_position)) d.list refl d.recency ∙ t.others.recency;
       counts = d.dropped.counts ∙ t.others.counts;
+      budget = d.dropped.region.budget ∙ t.others.budget;
     }
 
     pub freeing-step : IsOneFreed id now new → IsFreeing id old new

@@ -153,7 +153,7 @@ put-bytes (suc id) c [] = omega (arith, present-bytes None (put id c []), put-by
 put-bytes (suc id) c (d ∷ cs) = omega (arith, present-bytes d (put id c cs), present-bytes d cs, put-bytes id c cs)
 
 -- what is done to a chain, and by how many bytes it takes more then
-chain-more : (m n : Memory) (id : ℕ) (g : KeptChain → KeptChain) (more : ℕ) (k : KeptChain) → n.chains ≡ on_chain id g m.chains → chain_at m id ≡ Some k → chain_bytes (g k) ≤ chain_bytes k + more → chains_bytes n ≤ chains_bytes m + more
+pub chain-more : (m n : Memory) (id : ℕ) (g : KeptChain → KeptChain) (more : ℕ) (k : KeptChain) → n.chains ≡ on_chain id g m.chains → chain_at m id ≡ Some k → chain_bytes (g k) ≤ chain_bytes k + more → chains_bytes n ≤ chains_bytes m + more
 chain-more m n id g more k now there grows =
     let total = put-bytes id (option_map g (chain_at m id)) m.chains in
     let after : chains_bytes n ≡ sum_by chain_bytes (present (on_chain id g m.chains)) = ap (λ (cs : List (Option KeptChain)). sum_by chain_bytes (present cs)) now in
@@ -174,6 +174,13 @@ made-more m n id vacant now =
     let after : chains_bytes n ≡ sum_by chain_bytes (present (put id (Some (chain_of_new Memtable None 0)) m.chains)) = ap (λ (cs : List (Option KeptChain)). sum_by chain_bytes (present cs)) now in
     let old : bytes_of (chain_at m id) ≡ 0 = ap bytes_of vacant in
     omega (arith, total, after, old)
+
+-- a chain that is gone
+pub gone-less : (m n : Memory) (id : ℕ) → n.chains ≡ put id None m.chains → chains_bytes n ≤ chains_bytes m
+gone-less m n id now =
+    let total = put-bytes id None m.chains in
+    let after : chains_bytes n ≡ sum_by chain_bytes (present (put id None m.chains)) = ap (λ (cs : List (Option KeptChain)). sum_by chain_bytes (present cs)) now in
+    omega (arith, total, after)
 
 -- ---- what a write of one thing may take
 

@@ -1,19 +1,23 @@
 -- The chains of a memtable are let go, one after another.
-use Rattle.std.proofs.Common.{inl, inr, ◌≡◌, ◌<◌, length, arith, ℕ, Bool, true, false, cond, List, [], ◌∷◌, ◌++◌, Option, Some, None, map, refl, sym, ap, ◌∙◌, subst}
-use Rattle.std.specs.Prelude.{IfSome, IsSomeAnd}
+use Rattle.std.proofs.Common.{inl, inr, ◌≡◌, ◌≢◌, ◌<◌, length, arith, ℕ, Bool, true, false, cond, List, [], ◌∷◌, ◌++◌, Option, Some, None, map, refl, sym, ap, ◌∙◌, subst}
+use Rattle.std.specs.Prelude.{AllPairs, Contains, IfSome, IsSome, IsSomeAnd}
 use Rattle.std.specs.Option.{option_map}
 use Rattle.std.specs.Ordering.{eq_by_cmp}
+use Rattle.lsa_region.specs.Region.{live_bytes}
 use Rattle.rc_position.specs.Position.{bytes_cmp}
 use Rattle.rc_core.specs.declared.entries.ChainKind.TheVariants.{Memtable}
+use Rattle.rc_partition.specs.laws.Lists.{elem-first, elem-later, once-head, once-tail}
 use Rattle.rc_registry.specs.Registry.{AreFree, put}
 use Rattle.rc_memory.specs.Kept.{IsSoundChain}
-use Rattle.rc_memory.specs.Memory.{KeptChain, Member, Memory, chain_at, on_chain, on_shown, shown_detached, with_chains, without_snapshot}
+use Rattle.rc_memory.specs.Memory.{HasChain, KeptChain, Member, Memory, chain_at, on_chain, on_shown, shown_detached, with_chains, without_snapshot}
 use Rattle.rc_memory.specs.laws.Places.{no_some, same_some}
 use Rattle.rc_chain.specs.Lives.{IsChainChanged, IsEndListed}
 use Rattle.rc_chain.specs.laws.PlaceBeside.{memtable-settled}
-use Rattle.rc_memtable.specs.LetGo.{AreLetGo, HasLeft, IsFreedUnpinned, IsLetGo}
+use Rattle.rc_memtable.specs.LetGo.{AreLetGo, HasLeft, IsFreedUnpinned, IsLetGo, TakesNoMore}
 use Rattle.rc_memtable.specs.Writes.{chain_of}
+use Rattle.rc_memtable.specs.calls.Steps.{chains_bytes}
 use Rattle.rc_memtable.specs.calls.Writing.{AreMemtables}
+use Rattle.rc_memtable.proofs.Grown.{chain-more}
 use Rattle.rc_memtable.proofs.Named.{key-differs}
 use Rattle.rc_memtable.proofs.Steps.{chain-beside, chain-now, is-chain, of-chain}
 use Rattle.rc_memtable.proofs.Freed.{put-put}
@@ -30,7 +34,8 @@ released-there m n id pin k e there = chain-now m n id (without_snapshot pin) k 
 
 -- a memtable's chain is detached, and freed where nobody pins it
 module _ (id : ℕ) (old mid new : Memory) (memtable : IsSomeAnd (chain_at old id) (λ k. k.chain.kind ≡ Memtable)) (sound : (i : ℕ) → IfSome (chain_at old i) (λ k. IsSoundChain k.chain))
-    (detached : (k : KeptChain) → chain_at old id ≡ Some k → (list : List Member) × IsEndListed id k.chain old.recency list × IsChainChanged id (on_shown shown_detached) list old mid) where
+    (detached : (k : KeptChain) → chain_at old id ≡ Some k → (list : List Member) × IsEndListed id k.chain old.recency list × IsChainChanged id (on_shown shown_detached) list old mid)
+    (live : live_bytes old.region ≡ chains_bytes old) (live_mid : live_bytes mid.region ≡ chains_bytes mid) where
   its : (k : KeptChain) × (chain_at old id ≡ Some k) × (k.chain.kind ≡ Memtable)
   its = some-memtable (chain_at old id) memtable
 
@@ -40,6 +45,8 @@ module _ (id : ℕ) (old mid new : Memory) (memtable : IsSomeAnd (chain_at old i
     dropped = d.2.dropped;
     recency = d.2.recency ∙ d.1.settled (memtable-settled its.0.chain (of-chain (λ k. IsSoundChain k.chain) (chain_at old id) its.0 its.1 (sound id)) its.2);
     counts = d.2.counts;
+    budget = d.2.region.budget;
+    live = let same = chain-more old mid id (on_shown shown_detached) 0 its.0 d.2.chains its.1 (omega arith) in omega (arith, same, live, live_mid);
   }
 
   mid-there : chain_at mid id ≡ Some (on_shown shown_detached its.0)
@@ -57,6 +64,8 @@ module _ (id : ℕ) (old mid new : Memory) (memtable : IsSomeAnd (chain_at old i
         dropped = gone.1.dropped ∙ ap (λ ns. ns ++ id ∷ []) mid-left.dropped;
         recency = gone.1.recency ∙ mid-left.recency;
         counts = gone.1.counts ∙ mid-left.counts;
+        budget = gone.1.budget ∙ mid-left.budget;
+        live = let less = gone.1.live in let first = mid-left.live in omega (arith, less, first);
       },
     )
     | inr kept ↦ inr (subst (λ (q : KeptChain). AreFree q.chain.pins → ⊥) same kept.0, subst (HasLeft (on_chain id (on_shown shown_detached) old.chains) old.dropped old) (sym kept.1) mid-left)
@@ -65,11 +74,14 @@ module _ (id : ℕ) (old mid new : Memory) (memtable : IsSomeAnd (chain_at old i
 -- ---- one after another
 
 -- other chains are as they were
-left-beside : (id : ℕ) (old new : Memory) → IsSomeAnd (chain_at old id) (λ k. k.chain.kind ≡ Memtable) → IsLetGo id old new → (i : ℕ) → (i ≡ id → ⊥) → chain_at new i ≡ chain_at old i
-left-beside id old new memtable h i ne = let k = some-memtable (chain_at old id) memtable in elim (h k.0 k.1) [
+let-go-beside : (id : ℕ) (old new : Memory) (k : KeptChain) → chain_at old id ≡ Some k → IsLetGo id old new → (i : ℕ) → (i ≡ id → ⊥) → chain_at new i ≡ chain_at old i
+let-go-beside id old new k there h i ne = elim (h k there) [
   | inl gone ↦ chain-beside old new id None i gone.1.chains ne
   | inr kept ↦ chain-beside old new id (option_map (on_shown shown_detached) (chain_at old id)) i kept.1.chains ne
 ]
+
+left-beside : (id : ℕ) (old new : Memory) → IsSomeAnd (chain_at old id) (λ k. k.chain.kind ≡ Memtable) → IsLetGo id old new → (i : ℕ) → (i ≡ id → ⊥) → chain_at new i ≡ chain_at old i
+left-beside id old new memtable h i ne = let k = some-memtable (chain_at old id) memtable in let-go-beside id old new k.0 k.1 h i ne
 
 none-none : (b : Bool) (o : Option ℕ) (i : ℕ) → cond b None o ≡ Some i → (b ≡ false) × (o ≡ Some i)
 none-none true o i e = absurd (no_some i e)
@@ -107,3 +119,27 @@ letting-over all left old now h none = h.rest now (subst (λ (es : List (List �
 pub empty-unless : {X : Type 0} (xs : List X) → (0 < length xs → false ≡ true) → xs ≡ []
 empty-unless [] h = refl
 empty-unless (x ∷ xs) h = let e = h (omega arith) in absurd (cc)
+
+-- ---- what is let go takes no more
+
+some-there : (o : Option KeptChain) → IsSome o → (k : KeptChain) × (o ≡ Some k)
+some-there None h = absurd (cc)
+some-there (Some k) h = (k, refl)
+
+pub let-go-no-more : (id : ℕ) (old new : Memory) → HasChain old id → IsLetGo id old new → TakesNoMore old new
+let-go-no-more id old new there h = let k = some-there (chain_at old id) there in elim (h k.0 k.1) [ inl gone ↦ (gone.1.budget, gone.1.live) | inr kept ↦ (kept.1.budget, kept.1.live) ]
+
+same-no-more : (old new : Memory) → new ≡ old → TakesNoMore old new
+same-no-more old new e = subst (TakesNoMore old) (sym e) (refl, omega arith)
+
+pub freed-no-more : (id : ℕ) (old new : Memory) → HasChain old id → IsFreedUnpinned id old new → TakesNoMore old new
+freed-no-more id old new there h = let k = some-there (chain_at old id) there in elim (h k.0 k.1) [ inl gone ↦ (gone.1.budget, gone.1.live) | inr kept ↦ same-no-more old new kept.1 ]
+
+pub all-no-more : (ids : List ℕ) (old new : Memory) → AllPairs ◌≢◌ ids → ((id : ℕ) → Contains ids id → HasChain old id) → AreLetGo ids old new → TakesNoMore old new
+all-no-more [] old new once there h = same-no-more old new h
+all-no-more (id ∷ ids) old new once there h =
+    let k = some-there (chain_at old id) (there id (elem-first id ids)) in
+    let first = let-go-no-more id old h.0 (there id (elem-first id ids)) h.1 in
+    let rest = all-no-more ids h.0 new (once-tail id ids once)
+    (λ i on. subst IsSome (sym (let-go-beside id old h.0 k.0 k.1 h.1 i (λ same. once-head id ids once (subst (Contains ids) same on)))) (there i (elem-later id i ids on))) h.2 in
+    let a = first.1 in let b = rest.1 in (rest.0 ∙ first.0, omega (arith, a, b))

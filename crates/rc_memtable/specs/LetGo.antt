@@ -1,16 +1,20 @@
 -- How a memtable's chains are let go, once a table has their writes.
 --     IsLetGo      a chain is no longer found, and where nobody pins it it is gone
 --     AreLetGo     so of chains one after another
-use Rattle.std.specs.Prelude.{◌≡◌, ◌⊎◌, ℕ, List, [], ◌∷◌, ◌++◌, Option, Some, None}
+--     TakesNoMore  the region has as many segments, and no more is live
+use Rattle.std.specs.Prelude.{◌≡◌, ◌≤◌, ◌⊎◌, ℕ, List, [], ◌∷◌, ◌++◌, Option, Some, None, length}
+use Rattle.lsa_region.specs.Region.{live_bytes}
 use Rattle.rc_registry.specs.Registry.{AreFree, put}
 use Rattle.rc_memory.specs.Memory.{KeptChain, Memory, chain_at, on_chain, on_shown, shown_detached}
 
--- the chains are these, and so are the numbers to be told; the recency list and the counts are as they were
+-- the chains are these, and so are the numbers to be told; the recency list and the counts are as they were, the region has as many segments, and no more is live in it
 pub record HasLeft (those : List (Option KeptChain)) (told : List ℕ) (old new : Memory) : Type 0 where
   pub chains : new.chains ≡ those
   pub dropped : new.dropped ≡ told
   pub recency : new.recency ≡ old.recency
   pub counts : new.counts ≡ old.counts
+  pub budget : length new.region.usages ≡ length old.region.usages
+  pub live : live_bytes new.region ≤ live_bytes old.region
 
 -- a chain is gone, and its number is to be told
 abbrev pub IsGone : ℕ → Memory → Memory → Type 0
@@ -28,3 +32,7 @@ IsLetGo id old new = (k : KeptChain) → chain_at old id ≡ Some k → (AreFree
 abbrev pub AreLetGo : List ℕ → Memory → Memory → Type 0
 AreLetGo [] old new = new ≡ old
 AreLetGo (id ∷ ids) old new = (mid : Memory) × IsLetGo id old mid × AreLetGo ids mid new
+
+-- the region has as many segments, and no more is live in it
+abbrev pub TakesNoMore : Memory → Memory → Type 0
+TakesNoMore old new = (length new.region.usages ≡ length old.region.usages) × (live_bytes new.region ≤ live_bytes old.region)

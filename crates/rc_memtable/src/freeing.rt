@@ -31,10 +31,12 @@ fn free_chain<const S: usize>(chains: &mut Chains<S>, id: u64)
     ensures { IsGone id chains.old chains.new }
 {
     a_freed_object_leaves_less();
+    chains.known();
     while chains.is_there(id) {
         chains.known();
         chains.free_one(id);
     }
+    chains.known();
 }
 
 /// Frees a memtable's chain that is no longer found by its key, where nobody pins it: it is gone then, and its number is to be told. Else nothing is changed.
@@ -68,6 +70,7 @@ fn let_go<const S: usize>(chains: &mut Chains<S>, id: u64)
 {
     chains.known();
     chains.detach(id);
+    chains.known();
     free_if_unpinned(chains, id);
 }
 

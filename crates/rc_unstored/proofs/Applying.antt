@@ -1,23 +1,26 @@
 -- One write more behind the later ones.
-use Rattle.std.proofs.Common.{inl, inr, ◌≡◌, ◌⊎◌, ◌≤◌, ◌<◌, ◌+◌, ◌-◌, ℕ, Bool, true, false, cond, List, [], ◌∷◌, ◌++◌, Option, Some, None, length, refl, sym, ap, ◌∙◌, subst, arith}
+use Rattle.std.proofs.Common.{inl, inr, ◌≡◌, ◌⊎◌, ◌≤◌, ◌<◌, ◌-◌, ℕ, Bool, true, false, cond, List, [], ◌∷◌, ◌++◌, Option, Some, None, length, refl, sym, ap, ◌∙◌, subst, arith}
 use Rattle.std.specs.Prelude.{IsSomeAnd}
 use Rattle.std.specs.Ordering.{eq_by_cmp}
 use Rattle.lsa_move.specs.Room.{Tight}
 use Rattle.lsa_pool.specs.Room.{spare_of}
+use Rattle.lsa_region.specs.Region.{Renamed}
+use Rattle.lsa_store.specs.declared.place.Ref.{Ref}
 use Rattle.rc_position.specs.Position.{bytes_cmp}
 use Rattle.rc_schema.specs.SchemaValue.{SchemaValue}
 use Rattle.rc_mutation.specs.declared.mutations.Write.{Write}
 use Rattle.rc_core.specs.Chains.{IsPinned}
-use Rattle.rc_memory.specs.Memory.{IsUntouched, KeptChain, Memory, chain_at}
+use Rattle.rc_memory.specs.Memory.{IsUntouched, KeptChain, Memory, chain_at, under_new_names}
 use Rattle.rc_memory.specs.laws.Places.{no_some, same_some}
 use Rattle.rc_chain.specs.Lives.{IsSameButSlots}
 use Rattle.rc_memtable.specs.Steps.{IsApplied}
-use Rattle.rc_memtable.specs.Writes.{HasWrites, IsNewestPinned, IsRoomFor, TakesVersion, chain_of, joined_need}
-use Rattle.rc_unstored.specs.Memtables.{HaveWrites, IsFullFor, Memtables, NoneShared, with_memory}
-use Rattle.rc_unstored.specs.Readers.{AllStillSee}
-use Rattle.rc_unstored.specs.Steps.{IsNotPut, IsPutBehind, IsPutRefused}
+use Rattle.rc_memtable.specs.Writes.{HasWrites, IsRoomFor, TakesVersion, chain_of}
+use Rattle.rc_unstored.specs.declared.unstored.Unstored.{Unstored}
+use Rattle.rc_unstored.specs.Memtables.{HaveWrites, IsFullFor, NoneShared, in_chains}
+use Rattle.rc_snapshots.specs.Seeing.{AllStillSee}
+use Rattle.rc_unstored.specs.Steps.{IsNotPut, IsPutBehind, IsPutRefused, IsRoomMade}
 use Rattle.rc_unstored.proofs.Chains.{chain-same, same-or-not}
-use Rattle.rc_unstored.proofs.Keeping.{beside-has, both-moved, same-keys}
+use Rattle.rc_unstored.proofs.Keeping.{beside-has, both_in, both-moved, same-keys}
 use Rattle.rc_unstored.proofs.Pins.{KeptIn, all-seen, chains-same, more-in, nothing-in, same-in, seen-then}
 
 -- ---- room, after objects have moved
@@ -33,10 +36,10 @@ room-more schema chains w m n bytes more same up h = record {
 }
 
 -- no room, where fewer bytes are spare than the least that are enough
-pub full-for : (S : ℕ) (schema : SchemaValue) (w : Write) (u : Memtables) (m : Memory) (need : ℕ) → u.memory.chains ≡ m.chains → ((bytes : ℕ) → IsRoomFor schema u.active m w bytes → need ≤ bytes) →
-    spare_of S u.memory.region.usages < need → Tight S u.memory.region.usages → IsFullFor S schema w u
+pub full-for : (S : ℕ) (schema : SchemaValue) (w : Write) (u : Unstored S) (m : Memory) (need : ℕ) → u.chains.chains ≡ m.chains → ((bytes : ℕ) → IsRoomFor schema u.active m w bytes → need ≤ bytes) →
+    spare_of S u.chains.region.usages < need → Tight S u.chains.region.usages → IsFullFor S schema w u
 full-for S schema w u m need same least few tight = record {
-  few = λ room. let low = least (spare_of S u.memory.region.usages) (room-more schema u.active w u.memory m (spare_of S u.memory.region.usages) (spare_of S u.memory.region.usages) (sym same) (omega arith) room) in omega (arith, low, few);
+  few = λ room. let low = least (spare_of S u.chains.region.usages) (room-more schema u.active w u.chains m (spare_of S u.chains.region.usages) (spare_of S u.chains.region.usages) (sym same) (omega arith) room) in omega (arith, low, few);
   tight = tight;
 }
 
@@ -46,7 +49,7 @@ one-of-two : (b : Bool) (id : ℕ) (o : Option ℕ) (i : ℕ) → cond b (Some i
 one-of-two true id o i e = inl (same_some id i e)
 one-of-two false id o i e = inr e
 
-module _ (schema : SchemaValue) (w : Write) (sealed before now : List (List ℕ × ℕ)) (m n : Memory) (a : IsApplied schema w before now m n) where
+module _ (S : ℕ) (schema : SchemaValue) (w : Write) (sealed before now : List (List ℕ × ℕ)) (m n : Memory) (a : IsApplied schema w before now m n) where
   -- its chain is none of the other one
   off : (o : Option ℕ) → chain_of before w.key ≡ o → (writes : List Write) → HasWrites schema sealed m writes → NoneShared sealed before → (key : List ℕ) (i : ℕ) → chain_of sealed key ≡ Some i → i ≡ a.id → ⊥
   off None none writes h apart key i e same = let k = h.kept key i e in no_some k.0 (sym (a.made none).0 ∙ ap (chain_at m) (sym same) ∙ k.1)
@@ -61,7 +64,7 @@ module _ (schema : SchemaValue) (w : Write) (sealed before now : List (List ℕ 
     | inr was ↦ apart key other i e was
   ]
 
-  pub applied-stands : (writes later : List Write) → HaveWrites schema (record { memory = m; sealed = sealed; active = before }) writes later → HaveWrites schema (record { memory = n; sealed = sealed; active = now }) writes (later ++ w ∷ [])
+  pub applied-stands : (writes later : List Write) → HaveWrites schema (both_in S m sealed before) writes later → HaveWrites schema (both_in S n sealed now) writes (later ++ w ∷ [])
   applied-stands writes later h = record {
     sealed = beside-has schema sealed m n writes (applied-beside writes h.sealed h.apart) h.sealed;
     active = a.stands later h.active;
@@ -84,20 +87,24 @@ module _ (schema : SchemaValue) (w : Write) (sealed before now : List (List ℕ 
 
 -- ---- after objects have moved to make room
 
-module _ (schema : SchemaValue) (w : Write) (u : Memtables) (now : List (List ℕ × ℕ)) (mid n : Memory) (same : mid.chains ≡ u.memory.chains) (a : IsApplied schema w u.active now mid n) where
-  pub put-stands : (writes later : List Write) → HaveWrites schema u writes later → HaveWrites schema (record { memory = n; sealed = u.sealed; active = now }) writes (later ++ w ∷ [])
-  put-stands writes later h = applied-stands schema w u.sealed u.active now mid n a writes later (both-moved schema u mid writes later same h)
+module _ {S : ℕ} (schema : SchemaValue) (w : Write) (u : Unstored S) (now : List (List ℕ × ℕ)) (mid n : Memory) (same : mid.chains ≡ u.chains.chains) (a : IsApplied schema w u.active now mid n) where
+  pub put-stands : (writes later : List Write) → HaveWrites schema u writes later → HaveWrites schema (both_in S n u.sealed now) writes (later ++ w ∷ [])
+  put-stands writes later h = applied-stands S schema w u.sealed u.active now mid n a writes later (both-moved schema u mid writes later same h)
 
-  pub put-seen : AllStillSee u.memory n
-  put-seen = seen-then u.memory mid n (chains-same u.memory mid (chain-same u.memory mid same)).alike (applied-seen schema w u.sealed u.active now mid n a)
+  pub put-seen : AllStillSee u.chains n
+  put-seen = seen-then u.chains mid n (chains-same u.chains mid (chain-same u.chains mid same)).alike (applied-seen S schema w u.sealed u.active now mid n a)
 
 -- ---- what is left of both, whatever came of it
 
-pub put-left : (schema : SchemaValue) (w : Write) (u : Memtables) (now : List (List ℕ × ℕ)) (mid n : Memory) → IsUntouched u.memory mid → IsApplied schema w u.active now mid n → IsPutBehind schema w u (record { memory = n; sealed = u.sealed; active = now })
+-- objects that got new names
+pub room-made : (m n : Memory) → ((names : List (Ref × Ref)) × Renamed m.region n.region names × (n ≡ under_new_names names n.region m)) → IsUntouched m n → IsRoomMade m n
+room-made m n renamed untouched = record { untouched = untouched; budget = renamed.1.budget; live = renamed.1.live }
+
+pub put-left : {S : ℕ} (schema : SchemaValue) (w : Write) (u : Unstored S) (now : List (List ℕ × ℕ)) (mid n : Memory) → IsRoomMade u.chains mid → IsApplied schema w u.active now mid n → IsPutBehind schema w u (both_in S n u.sealed now)
 put-left schema w u now mid n room applied = record { mid = mid; room = room; applied = applied; sealed = refl }
 
-pub full-left : (u : Memtables) (m : Memory) → IsUntouched u.memory m → IsNotPut u (with_memory m u)
+pub full-left : {S : ℕ} (u : Unstored S) (m : Memory) → IsRoomMade u.chains m → IsNotPut u (in_chains m u)
 full-left u m room = record { room = room; keys = same-keys u m }
 
-pub refused-left : (u : Memtables) (now : List (List ℕ × ℕ)) (mid n : Memory) → IsUntouched u.memory mid → IsSameButSlots mid n → now ≡ u.active → IsPutRefused u (record { memory = n; sealed = u.sealed; active = now })
+pub refused-left : {S : ℕ} (u : Unstored S) (now : List (List ℕ × ℕ)) (mid n : Memory) → IsRoomMade u.chains mid → IsSameButSlots mid n → now ≡ u.active → IsPutRefused u (both_in S n u.sealed now)
 refused-left u now mid n room slots same = record { mid = mid; room = room; slots = slots; keys = record { sealed = refl; active = same } }

@@ -18,8 +18,9 @@ use Rattle.rc_memtable.specs.Changes.{KeepsChanges}
 use Rattle.rc_memtable.specs.Fits.{IsVersionUnder}
 use Rattle.rc_memtable.specs.Partitions.{AreAsBefore, IsAsBefore}
 use Rattle.rc_memtable.specs.Writes.{HasWrites}
-use Rattle.rc_unstored.specs.Memtables.{HaveWrites, Memtables, with_memory}
-use Rattle.rc_unstored.specs.Readers.{AreSameSnapshots}
+use Rattle.rc_unstored.specs.declared.unstored.Unstored.{Unstored}
+use Rattle.rc_unstored.specs.Memtables.{HaveWrites, in_chains}
+use Rattle.rc_snapshots.specs.Seeing.{AreSameSnapshots}
 use Rattle.rc_unstored.proofs.Pins.{KeptIn, PinIn, SeenIn, all-seen}
 
 -- ---- nothing was done
@@ -64,8 +65,8 @@ before-has schema keys m n writes b h = record {
   apart = h.apart;
 }
 
-pub both-before : (schema : SchemaValue) (u : Memtables) (n : Memory) (writes later : List Write) → AreAsBefore u.memory n → HaveWrites schema u writes later → HaveWrites schema (with_memory n u) writes later
-both-before schema u n writes later b h = record { sealed = before-has schema u.sealed u.memory n writes b h.sealed; active = before-has schema u.active u.memory n later b h.active; apart = h.apart }
+pub both-before : {S : ℕ} (schema : SchemaValue) (u : Unstored S) (n : Memory) (writes later : List Write) → AreAsBefore u.chains n → HaveWrites schema u writes later → HaveWrites schema (in_chains n u) writes later
+both-before schema u n writes later b h = record { sealed = before-has schema u.sealed u.chains n writes b h.sealed; active = before-has schema u.active u.chains n later b h.active; apart = h.apart }
 
 -- ---- what snapshots see
 

@@ -1,5 +1,5 @@
 -- The chains of the sealed writes are let go, one after another.
-use Rattle.std.proofs.Common.{inl, inr, ◌≡◌, ◌⊎◌, ℕ, true, false, cond, List, [], ◌∷◌, Option, Some, None, map, refl, sym, ap, ◌∙◌, subst}
+use Rattle.std.proofs.Common.{inl, inr, ◌≡◌, ℕ, cond, List, [], ◌∷◌, Some, None, map, refl, sym, ap, ◌∙◌, subst}
 use Rattle.std.specs.Option.{option_map}
 use Rattle.std.specs.Prelude.{⊤}
 use Rattle.std.specs.List.{AllByRecursion}
@@ -13,10 +13,11 @@ use Rattle.rc_memory.specs.Memory.{KeptChain, Memory, chain_at, on_shown, shown_
 use Rattle.rc_memory.specs.laws.Places.{no_some}
 use Rattle.rc_memtable.specs.LetGo.{AreLetGo, IsLetGo}
 use Rattle.rc_memtable.specs.Writes.{DoAscend, HasWrites, chain_of}
-use Rattle.rc_unstored.specs.Memtables.{HaveWrites, Memtables}
-use Rattle.rc_unstored.specs.Readers.{AllStillSee}
-use Rattle.rc_unstored.proofs.Chains.{chain-beside, chain-done, chain-put, same-or-not}
-use Rattle.rc_unstored.proofs.Keeping.{beside-has, either, key-is, key-itself, none-found}
+use Rattle.rc_unstored.specs.declared.unstored.Unstored.{Unstored}
+use Rattle.rc_unstored.specs.Memtables.{HaveWrites}
+use Rattle.rc_snapshots.specs.Seeing.{AllStillSee}
+use Rattle.rc_unstored.proofs.Chains.{chain-beside, chain-done, same-or-not}
+use Rattle.rc_unstored.proofs.Keeping.{beside-has, both_in, either, key-is, key-itself, none-found}
 use Rattle.rc_unstored.proofs.Pins.{KeptIn, all-seen, chains-same, detached-in, free-in, same-in, seen-then}
 
 -- ---- one chain
@@ -58,7 +59,7 @@ once-of : (es : List (List ℕ × ℕ)) → DoAscend es → AreKeysOnce es
 once-of [] h = tt
 once-of (e ∷ es) h = (none-behind e.0 es (sorted_head bytes_cmp e.0 (map (λ e. e.0) es) h), once-of es (sorted_tail bytes_cmp e.0 (map (λ e. e.0) es) h))
 
-first-of : (e : List ℕ × ℕ) (es : List (List ℕ × ℕ)) → chain_of (e ∷ es) e.0 ≡ Some e.1
+pub first-of : (e : List ℕ × ℕ) (es : List (List ℕ × ℕ)) → chain_of (e ∷ es) e.0 ≡ Some e.1
 first-of e es = ap (λ b. cond b (Some e.1) (chain_of es e.0)) (key-itself e.0)
 
 -- where it stands for no write it has no key
@@ -85,7 +86,7 @@ module _ (e : List ℕ × ℕ) (es : List (List ℕ × ℕ)) (m n : Memory) (a :
       let one : key ≡ e.0 = a.apart key e.0 id (later-of e es a.once.0 key id f) (first-of e es ∙ ap Some (sym same)) in
       no_some id (sym a.once.0 ∙ ap (chain_of es) (sym one) ∙ f)
 
-  theirs-then : AreTheirs es n
+  pub theirs-then : AreTheirs es n
   theirs-then = record {
     once = a.once.1;
     there = λ key id f. let k = a.there key id (later-of e es a.once.0 key id f) in let first = a.there e.0 e.1 (first-of e es) in (k.0, gone-beside e.1 m n first.0 first.1 h id (apart-from key id f) ∙ k.1);
@@ -110,10 +111,10 @@ all-gone-seen (e ∷ es) m n a h =
 pub theirs-of : (schema : SchemaValue) (es : List (List ℕ × ℕ)) (m : Memory) (writes : List Write) → DoAscend es → HasWrites schema es m writes → AreTheirs es m
 theirs-of schema es m writes ascend h = record { once = once-of es ascend; there = λ key id e. let k = h.kept key id e in (k.0, k.1); apart = h.apart }
 
-pub both-dropped : (schema : SchemaValue) (u : Memtables) (n : Memory) (none : List (List ℕ × ℕ)) (writes later : List Write) → DoAscend u.sealed → AreLetGo (map (λ e. e.1) u.sealed) u.memory n → HasWrites schema none n [] →
-    HaveWrites schema u writes later → HaveWrites schema (record { memory = n; sealed = none; active = u.active }) [] later
+pub both-dropped : {S : ℕ} (schema : SchemaValue) (u : Unstored S) (n : Memory) (none : List (List ℕ × ℕ)) (writes later : List Write) → DoAscend u.sealed → AreLetGo (map (λ e. e.1) u.sealed) u.chains n → HasWrites schema none n [] →
+    HaveWrites schema u writes later → HaveWrites schema (both_in S n none u.active) [] later
 both-dropped schema u n none writes later ascend gone nothing h = record {
   sealed = nothing;
-  active = beside-has schema u.active u.memory n later (λ key id e. all-beside u.sealed u.memory n (theirs-of schema u.sealed u.memory writes ascend h.sealed) gone id (λ other f. h.apart other key id f e)) h.active;
+  active = beside-has schema u.active u.chains n later (λ key id e. all-beside u.sealed u.chains n (theirs-of schema u.sealed u.chains writes ascend h.sealed) gone id (λ other f. h.apart other key id f e)) h.active;
   apart = λ key other id e f. none-found schema none n nothing key id e;
 }

@@ -1,5 +1,5 @@
 -- What leaves the chains of both memtables as they were leaves their writes.
-use Rattle.std.proofs.Common.{◌≡◌, ◌≢◌, ℕ, Bool, true, false, cond, List, [], ◌∷◌, ◌++◌, Option, Some, None, is_some, refl, sym, ap, ◌∙◌, subst}
+use Rattle.std.proofs.Common.{◌≡◌, ℕ, Bool, true, false, List, [], ◌∷◌, ◌++◌, Some, is_some, refl, sym, ap, ◌∙◌}
 use Rattle.std.specs.Prelude.{OnErr, Result, Ok, Err}
 use Rattle.std.specs.Ordering.{eq_by_cmp, is_eq}
 use Rattle.std.specs.Cmp.{eq_by_cmp_equiv}
@@ -10,14 +10,9 @@ use Rattle.rc_position.specs.laws.Orders.{bytes_cmp_same, bytes_cmp_total}
 use Rattle.rc_schema.specs.SchemaValue.{SchemaValue}
 use Rattle.rc_mutation.specs.declared.mutations.Write.{Write}
 use Rattle.rc_memory.specs.Memory.{Memory, chain_at}
-use Rattle.rc_memory.specs.laws.Places.{no_some}
-use Rattle.rc_chain.specs.declared.chains.Snap.{Snap}
-use Rattle.rc_cursor.specs.Snapshots.{AreReadable, kind_seen, versions_seen}
-use Rattle.rc_core.specs.StandsFor.{StandsFor}
-use Rattle.rc_mutation.specs.Source.{changes_to}
-use Rattle.rc_memtable.specs.Writes.{HasWrites, chain_of, names}
-use Rattle.rc_unstored.specs.Memtables.{HaveWrites, Memtables, NoneShared, with_memory}
-use Rattle.rc_unstored.specs.Readers.{HasSnap, StillSees, SeesWrites}
+use Rattle.rc_memtable.specs.Writes.{HasWrites, chain_of}
+use Rattle.rc_unstored.specs.declared.unstored.Unstored.{Unstored}
+use Rattle.rc_unstored.specs.Memtables.{HaveWrites, NoneShared, in_chains}
 use Rattle.rc_unstored.specs.Steps.{AreSameKeys}
 use Rattle.rc_unstored.proofs.Chains.{chain-same}
 
@@ -54,38 +49,32 @@ none-found schema chains m h key id e = let f : true ≡ false = sym (ap is_some
 
 -- ---- both
 
+-- two memtables in chains
+abbrev pub both_in : (S : ℕ) → Memory → List (List ℕ × ℕ) → List (List ℕ × ℕ) → Unstored S
+both_in S m sealed active = record { chains = m; sealed = sealed; active = active }
+
 -- other chains, under the same keys
-pub same-keys : (u : Memtables) (m : Memory) → AreSameKeys u (with_memory m u)
+pub same-keys : {S : ℕ} (u : Unstored S) (m : Memory) → AreSameKeys u (in_chains m u)
 same-keys u m = record { sealed = refl; active = refl }
 
-pub both-none : (schema : SchemaValue) (u : Memtables) → HasWrites schema u.sealed u.memory [] → HasWrites schema u.active u.memory [] → HaveWrites schema u [] []
-both-none schema u s a = record { sealed = s; active = a; apart = λ key other id e f. none-found schema u.sealed u.memory s key id e }
+pub both-none : {S : ℕ} (schema : SchemaValue) (u : Unstored S) → HasWrites schema u.sealed u.chains [] → HasWrites schema u.active u.chains [] → HaveWrites schema u [] []
+both-none schema u s a = record { sealed = s; active = a; apart = λ key other id e f. none-found schema u.sealed u.chains s key id e }
 
-pub both-beside : (schema : SchemaValue) (u : Memtables) (m : Memory) (writes later : List Write) → ((key : List ℕ) (id : ℕ) → chain_of u.sealed key ≡ Some id → chain_at m id ≡ chain_at u.memory id) → ((key : List ℕ) (id : ℕ) → chain_of u.active key ≡ Some id → chain_at m id ≡ chain_at u.memory id) →
-    HaveWrites schema u writes later → HaveWrites schema (with_memory m u) writes later
-both-beside schema u m writes later s a h = record { sealed = beside-has schema u.sealed u.memory m writes s h.sealed; active = beside-has schema u.active u.memory m later a h.active; apart = h.apart }
+pub both-beside : {S : ℕ} (schema : SchemaValue) (u : Unstored S) (m : Memory) (writes later : List Write) → ((key : List ℕ) (id : ℕ) → chain_of u.sealed key ≡ Some id → chain_at m id ≡ chain_at u.chains id) → ((key : List ℕ) (id : ℕ) → chain_of u.active key ≡ Some id → chain_at m id ≡ chain_at u.chains id) →
+    HaveWrites schema u writes later → HaveWrites schema (in_chains m u) writes later
+both-beside schema u m writes later s a h = record { sealed = beside-has schema u.sealed u.chains m writes s h.sealed; active = beside-has schema u.active u.chains m later a h.active; apart = h.apart }
 
-pub both-moved : (schema : SchemaValue) (u : Memtables) (m : Memory) (writes later : List Write) → m.chains ≡ u.memory.chains → HaveWrites schema u writes later → HaveWrites schema (with_memory m u) writes later
-both-moved schema u m writes later same = both-beside schema u m writes later (λ key id e. chain-same u.memory m same id) (λ key id e. chain-same u.memory m same id)
+pub both-moved : {S : ℕ} (schema : SchemaValue) (u : Unstored S) (m : Memory) (writes later : List Write) → m.chains ≡ u.chains.chains → HaveWrites schema u writes later → HaveWrites schema (in_chains m u) writes later
+both-moved schema u m writes later same = both-beside schema u m writes later (λ key id e. chain-same u.chains m same id) (λ key id e. chain-same u.chains m same id)
 
 -- the later writes are sealed, where none were
-pub both-sealed : (schema : SchemaValue) (u : Memtables) (later : List Write) → HaveWrites schema u [] later → HaveWrites schema (record { memory = u.memory; sealed = u.active; active = u.sealed }) later []
+pub both-sealed : {S : ℕ} (schema : SchemaValue) (u : Unstored S) (later : List Write) → HaveWrites schema u [] later → HaveWrites schema (both_in S u.chains u.active u.sealed) later []
 both-sealed schema u later h = record { sealed = h.active; active = h.sealed; apart = λ key other id e f. h.apart other key id f e }
 
 pub flipped : (these those : List (List ℕ × ℕ)) → NoneShared these those → NoneShared those these
 flipped these those h key other id e f = h other key id f e
 
--- ---- what a snapshot sees
-
-pub snap-then : (m n : Memory) (s : Snap) → HasSnap m s → StillSees s m n → HasSnap n s
-snap-then m n s h a = record { pin = a.pin; kind = a.kind ∙ h.kind }
-
-pub sees-then : (key : List ℕ) (writes : List Write) (m n : Memory) (s : Snap) → SeesWrites key writes m s → StillSees s m n → SeesWrites key writes n s
-sees-then key writes m n s h a = record {
-  there = snap-then m n s h.there a;
-  stands = subst (StandsFor (changes_to key writes)) (sym a.versions) h.stands;
-  readable = subst (λ kind. AreReadable kind (versions_seen n s)) (sym a.kind) (subst (AreReadable (kind_seen m s)) (sym a.versions) h.readable);
-}
+-- ---- what calls give
 
 -- what holds holds after a failure
 pub on-err : {A E : Type 0} (r : Result A E) (P : Type 0) → P → OnErr r P

@@ -7,3 +7,4 @@ mod Taking
 mod Returning
 mod Going
 mod Together
+mod Leaving

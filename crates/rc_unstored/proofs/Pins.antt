@@ -1,17 +1,14 @@
 -- What the snapshots of one chain see, where something is done to it.
-use Rattle.std.proofs.Common.{inl, inr, ◌≡◌, ◌⊎◌, ℕ, true, false, List, [], ◌∷◌, Option, Some, None, IsSome, is_some, refl, sym, ap, ◌∙◌, subst}
+use Rattle.std.proofs.Common.{inl, inr, ◌≡◌, ℕ, true, false, List, Option, Some, None, IsSome, is_some, refl, sym, ap, ◌∙◌, subst}
 use Rattle.std.specs.Prelude.{IfSome, IsSomeAnd}
 use Rattle.std.specs.Option.{option_map}
-use Rattle.rc_core.specs.declared.entries.ChainKind.TheVariants.{Memtable}
-use Rattle.rc_core.specs.Chains.{IsPinned}
 use Rattle.rc_core.specs.Steps.{free_number, pin_at, pinned, released}
 use Rattle.rc_core.specs.laws.Pins.{pin-freed, pin-is-pinned, pin-kept, pin-others, pin-was-free}
 use Rattle.rc_registry.specs.Registry.{AreFree}
 use Rattle.rc_memory.specs.Memory.{KeptChain, Memory, chain_at, on_shown, shown_detached, snapshot_number, with_snapshot, without_snapshot}
-use Rattle.rc_chain.specs.declared.chains.Snap.{Snap}
 use Rattle.rc_cursor.specs.Snapshots.{kind_in, versions_in, versions_upto}
 use Rattle.rc_memtable.specs.Steps.{IsGrown}
-use Rattle.rc_unstored.specs.Readers.{OthersStillSee, AreSameSnapshots, AllStillSee, StillSees}
+use Rattle.rc_snapshots.specs.Seeing.{AreSameSnapshots, AllStillSee}
 use Rattle.rc_unstored.proofs.Chains.{same-or-not}
 
 -- a snapshot of a number is of a chain

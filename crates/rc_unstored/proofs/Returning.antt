@@ -1,20 +1,24 @@
 -- A snapshot is taken back, and what was let go is freed with its last one.
-use Rattle.std.proofs.Common.{inl, inr, ◌≡◌, ◌⊎◌, ℕ, Bool, true, false, List, Option, Some, None, IsSome, is_some, refl, sym, ap, ◌∙◌, subst}
-use Rattle.std.specs.Prelude.{IsSomeAnd}
+use Rattle.std.proofs.Common.{inl, inr, ◌≡◌, ◌⊎◌, ℕ, Bool, true, false, List, Option, Some, None, IsSome, refl, sym, ap, ◌∙◌, subst}
+use Rattle.std.specs.Prelude.{IfSome, IsSomeAnd}
 use Rattle.std.specs.Option.{option_map}
 use Rattle.rc_schema.specs.SchemaValue.{SchemaValue}
 use Rattle.rc_mutation.specs.declared.mutations.Write.{Write}
-use Rattle.rc_core.specs.declared.entries.ChainKind.TheVariants.{Cache, Memtable}
+use Rattle.rc_core.specs.declared.entries.ChainKind.TheVariants.{Memtable}
 use Rattle.rc_core.specs.Steps.{pin_at}
 use Rattle.rc_registry.specs.Registry.{AreFree}
 use Rattle.rc_memory.specs.Memory.{HasPin, KeptChain, Memory, chain_at, on_chain, with_chains, without_snapshot}
-use Rattle.rc_memory.specs.laws.Places.{no_some, same_some}
+use Rattle.rc_memory.specs.laws.Places.{same_some}
 use Rattle.rc_chain.specs.declared.chains.Snap.{Snap}
 use Rattle.rc_cursor.specs.Snapshots.{kind_in}
 use Rattle.rc_memtable.specs.LetGo.{IsFreedUnpinned}
-use Rattle.rc_memtable.specs.Writes.{HasWrites, chain_of}
-use Rattle.rc_unstored.specs.Memtables.{HaveWrites, Memtables, with_memory}
-use Rattle.rc_unstored.specs.Readers.{IsReleased, OthersStillSee}
+use Rattle.rc_memtable.specs.Writes.{HasWrites}
+use Rattle.rc_unstored.specs.declared.unstored.Unstored.{Unstored}
+use Rattle.rc_unstored.specs.Memtables.{HaveWrites, in_chains}
+use Rattle.rc_snapshots.specs.declared.snaps.Snaps.{Snaps}
+use Rattle.rc_snapshots.specs.Seeing.{HasSnap, OthersStillSee, StillSees}
+use Rattle.rc_unstored.specs.Readers.{IsNoneOf, IsReleased}
+use Rattle.rc_unstored.specs.Steps.{AreSameKeys}
 use Rattle.rc_unstored.proofs.Chains.{chain-beside, chain-done, chain-put, same-or-not, some-chain}
 use Rattle.rc_unstored.proofs.Keeping.{beside-has}
 use Rattle.rc_unstored.proofs.Pins.{PinIn, SeenIn, fewer-in, free-in, gone-in, in-then, same-in}
@@ -77,7 +81,7 @@ module _ (s : Snap) (m n : Memory) (pin : HasPin m s.chain s.pin) where
         | inr same ↦ subst (λ (q : Memory). HasWrites schema chains q writes) (sym same) (released schema chains m s.chain s.pin writes h)
       ]
 
-      pub both-released : (u : Memtables) → u.memory ≡ m → (schema : SchemaValue) (writes later : List Write) → HaveWrites schema u writes later → HaveWrites schema (with_memory n u) writes later
+      pub both-released : {S : ℕ} (u : Unstored S) → u.chains ≡ m → (schema : SchemaValue) (writes later : List Write) → HaveWrites schema u writes later → HaveWrites schema (in_chains n u) writes later
       both-released u at schema writes later h = record {
         sealed = released-has schema u.sealed writes (subst (λ (q : Memory). HasWrites schema u.sealed q writes) at h.sealed);
         active = released-has schema u.active later (subst (λ (q : Memory). HasWrites schema u.active q later) at h.active);
@@ -108,3 +112,19 @@ module _ (s : Snap) (m n : Memory) (pin : HasPin m s.chain s.pin) where
       | inl gone ↦ subst (λ (q : Option KeptChain). PinIn q s.pin) gone.2 on
       | inr same ↦ gone-in (chain_at m s.chain) s.pin (subst (λ (q : Option KeptChain). PinIn q s.pin) (ap (λ (z : Memory). chain_at z s.chain) same ∙ mid-at) on)
     ]
+
+-- ---- two of them, one after the other
+
+-- the second one is there once the first one was taken back
+pub second-there : (m n : Memory) (a b : Option Snap) → IfSome b (HasSnap m) → IfSome a (λ s. IfSome b (λ t. s.chain ≡ t.chain → ⊥)) → ((s : Snap) → IfSome a (λ t. s.chain ≡ t.chain → s.pin ≡ t.pin → ⊥) → HasPin m s.chain s.pin → StillSees s m n) → IfSome b (HasSnap n)
+second-there m n a None h apart others = tt
+second-there m n None (Some t) h apart others = let k = others t tt h.pin in record { pin = k.pin; kind = k.kind ∙ h.kind }
+second-there m n (Some s) (Some t) h apart others = let k = others t (λ same pin. apart (sym same)) h.pin in record { pin = k.pin; kind = k.kind ∙ h.kind }
+
+-- what another one sees, once both were taken back
+pub sees-past : (s : Snap) (snaps : Snaps) (a b c : Memory) → IsNoneOf snaps s → ((s : Snap) → IfSome snaps.sealed (λ x. s.chain ≡ x.chain → s.pin ≡ x.pin → ⊥) → HasPin a s.chain s.pin → StillSees s a b) →
+    ((s : Snap) → IfSome snaps.active (λ x. s.chain ≡ x.chain → s.pin ≡ x.pin → ⊥) → HasPin b s.chain s.pin → StillSees s b c) → HasPin a s.chain s.pin → StillSees s a c
+sees-past s snaps a b c none first second on = let x = first s none.0 on in let y = second s none.1 x.pin in record { pin = y.pin; versions = y.versions ∙ x.versions; kind = y.kind ∙ x.kind }
+
+pub keys-then : {S : ℕ} (a b c : Unstored S) → AreSameKeys a b → AreSameKeys b c → AreSameKeys a c
+keys-then a b c x y = record { sealed = y.sealed ∙ x.sealed; active = y.active ∙ x.active }

@@ -1,6 +1,6 @@
 -- A snapshot of what one memtable has of a key.
-use Rattle.std.proofs.Common.{inl, inr, ◌≡◌, ◌⊎◌, ℕ, true, false, List, [], ◌∷◌, Option, Some, None, IsSome, is_some, refl, sym, ap, ◌∙◌, subst}
-use Rattle.std.specs.Prelude.{IfNone, IfOk, IfSome, IsSomeAnd, OnErr, Result, Ok, Err}
+use Rattle.std.proofs.Common.{inl, inr, ◌≡◌, ℕ, zero, suc, false, List, [], ◌∷◌, Option, Some, None, IsSome, is_some, take, refl, sym, ap, ◌∙◌, subst}
+use Rattle.std.specs.Prelude.{IfNone, IfOk, IfSome, OnErr, Result, Ok, Err}
 use Rattle.std.specs.Option.{option_map}
 use Rattle.rc_position.specs.Position.{Head, Place}
 use Rattle.rc_schema.specs.SchemaValue.{SchemaValue}
@@ -8,9 +8,11 @@ use Rattle.rc_mutation.specs.declared.mutations.Mutation.{Mutation}
 use Rattle.rc_mutation.specs.declared.mutations.Write.{Write}
 use Rattle.rc_mutation.specs.Source.{changes_to}
 use Rattle.rc_core.specs.declared.entries.ChainKind.TheVariants.{Memtable}
-use Rattle.rc_core.specs.Chains.{IsMemtableChain, IsPinned, Shown, at_place, upto}
+use Rattle.rc_core.specs.Chains.{AllInherit, IsMemtableChain, IsPinned, Shown, at_place, upto}
+use Rattle.rc_core.specs.Continuity.{EachOf}
 use Rattle.rc_core.specs.StandsFor.{StandsFor}
 use Rattle.rc_core.specs.Steps.{free_number, pin_at}
+use Rattle.rc_core.specs.Version.{Version}
 use Rattle.rc_core.specs.laws.Pins.{pin-is-pinned}
 use Rattle.rc_memory.specs.Memory.{HasPin, IsSnapshotTaken, KeptChain, Memory, chain_at, without_snapshot}
 use Rattle.rc_memory.specs.laws.Places.{no_some}
@@ -20,11 +22,19 @@ use Rattle.rc_memtable.specs.Partitions.{AreAsBefore, IsAsBefore}
 use Rattle.rc_memtable.specs.Writes.{HasWrites, chain_of, names}
 use Rattle.rc_unstored.specs.calls.Giving.{given_back}
 use Rattle.rc_unstored.specs.Memtables.{NoneShared}
-use Rattle.rc_unstored.specs.Readers.{AreSameSnapshots, AllStillSee, IsSnapshotOfKey, IsTakenIf}
+use Rattle.rc_snapshots.specs.Seeing.{AreSameSnapshots, AllStillSee, StillSees}
+use Rattle.rc_snapshots.specs.Streams.{SeesChanges}
+use Rattle.rc_unstored.specs.Readers.{IsSnapshotOfKey, IsTakenIf}
 use Rattle.rc_unstored.proofs.Before.{before-of, before-same}
-use Rattle.rc_unstored.proofs.Chains.{chain-beside, chain-done, chain-is, chain-same, is-chain, of-chain, same-or-not}
-use Rattle.rc_unstored.proofs.Keeping.{beside-has, sees-then}
+use Rattle.rc_unstored.proofs.Chains.{chain-beside, chain-done, is-chain, of-chain, same-or-not}
+use Rattle.rc_unstored.proofs.Keeping.{beside-has}
 use Rattle.rc_unstored.proofs.Pins.{KeptIn, PinIn, all-seen, back-in, chains-same, none-in, not-free, same-back, same-in, taken-in, with_one}
+
+-- what holds of each version holds of the first ones
+each-taken : (P : Version → Type 0) (n : ℕ) (vs : List Version) → EachOf P vs → EachOf P (take n vs)
+each-taken P zero vs h = tt
+each-taken P (suc n) [] h = tt
+each-taken P (suc n) (v ∷ vs) h = (h.0, each-taken P n vs h.1)
 
 -- a snapshot of a memtable's chain can be read by its parts
 abbrev pub CanBeRead : Type 0
@@ -72,7 +82,9 @@ module _ (m n : Memory) (keys : List (List ℕ × ℕ)) (key : List ℕ) where
           let kind : kind_seen n s ≡ k.0.chain.kind = ap kind_in k.1 in (
             sym (now.keys key) ∙ ap is_some taken.0,
             record {
-              there = record { pin = is-chain (λ q. IsSome (pin_at q.chain.pins s.pin)) (chain_at n s.chain) k.0 k.1 (ap is_some j.1); kind = kind ∙ k.2.kind };
+              pin = is-chain (λ q. IsSome (pin_at q.chain.pins s.pin)) (chain_at n s.chain) k.0 k.1 (ap is_some j.1);
+              kind = kind ∙ k.2.kind;
+              inherit = subst (EachOf AllInherit) (sym versions) (each-taken AllInherit (suc j.0) k.0.chain.versions k.2.form.flags);
               stands = subst (StandsFor (changes_to key writes)) (sym versions) j.2;
               readable = subst (λ q. AreReadable q (versions_seen n s)) (sym kind) (subst (AreReadable k.0.chain.kind) (sym versions)
                   (read (changes_to key writes) Head k.0.chain j.0 k.2.kind k.2.form j.2 (pin-is-pinned k.0.chain.pins s.pin j.0 j.1)));
@@ -187,9 +199,10 @@ taken-if m n keys key None taken none = none refl
 taken-if m n keys key (Some s) taken none = taken.1
 
 -- the first one sees what it saw
-pub key-then : (key : List ℕ) (writes : List Write) (m mid n : Memory) (o : Option Snap) → AllStillSee mid n → IsSnapshotOfKey key writes m mid o → IsSnapshotOfKey key writes m n o
-key-then key writes m mid n None a h = h
-key-then key writes m mid n (Some s) a h = (h.0, sees-then key writes mid n s h.1 (a s h.1.there.pin), h.2)
+pub key-then : (key : List ℕ) (writes : List Write) (m mid n : Memory) (o : Option Snap) → ((changes : List Mutation) (old new : Memory) (s : Snap) → SeesChanges changes old s → StillSees s old new → SeesChanges changes new s) →
+    AllStillSee mid n → IsSnapshotOfKey key writes m mid o → IsSnapshotOfKey key writes m n o
+key-then key writes m mid n None sees a h = h
+key-then key writes m mid n (Some s) sees a h = (h.0, sees (changes_to key writes) mid n s h.1 (a s h.1.pin), h.2)
 
 -- the second one was not there before the first one
 pub key-before : (key : List ℕ) (writes : List Write) (m mid n : Memory) (o : Option Snap) → AllStillSee m mid → IsSnapshotOfKey key writes mid n o → IsSnapshotOfKey key writes m n o

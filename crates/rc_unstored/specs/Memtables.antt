@@ -1,5 +1,4 @@
 -- The writes that stand in no table: those that are sealed for the next one, and the later ones.
---     Memtables       two memtables in the chains of a shard
 --     HaveWrites      which writes both stand for: which lists is not kept, only what they say
 --     IsFullFor       there is no room for a write, nor can it be made
 use Rattle.std.specs.Prelude.{◌≡◌, ℕ, List, Some}
@@ -9,28 +8,23 @@ use Rattle.rc_schema.specs.SchemaValue.{SchemaValue}
 use Rattle.rc_mutation.specs.declared.mutations.Write.{Write}
 use Rattle.rc_memory.specs.Memory.{Memory}
 use Rattle.rc_memtable.specs.Writes.{HasWrites, IsRoomFor, chain_of}
-
--- the chains of a shard, and two memtables in them: of each the keys, ascending, with the numbers of their chains
-pub record Memtables : Type 0 where
-  pub memory : Memory
-  pub sealed : List (List ℕ × ℕ)
-  pub active : List (List ℕ × ℕ)
+use Rattle.rc_unstored.specs.declared.unstored.Unstored.{Unstored}
 
 -- the same, in other chains
-abbrev pub with_memory : Memory → Memtables → Memtables
-with_memory m u = record { memory = m; sealed = u.sealed; active = u.active }
+abbrev pub in_chains : {S : ℕ} → Memory → Unstored S → Unstored S
+in_chains m u = record { chains = m; sealed = u.sealed; active = u.active }
 
 -- no chain is of one of these keys and of one of those
 abbrev pub NoneShared : List (List ℕ × ℕ) → List (List ℕ × ℕ) → Type 0
 NoneShared these those = (key other : List ℕ) (id : ℕ) → chain_of these key ≡ Some id → chain_of those other ≡ Some id → ⊥
 
 -- under a schema they stand for these writes that are sealed and these later ones, and no chain is of both
-pub record HaveWrites (schema : SchemaValue) (u : Memtables) (writes later : List Write) : Type 0 where
-  pub sealed : HasWrites schema u.sealed u.memory writes
-  pub active : HasWrites schema u.active u.memory later
+pub record HaveWrites {S : ℕ} (schema : SchemaValue) (u : Unstored S) (writes later : List Write) : Type 0 where
+  pub sealed : HasWrites schema u.sealed u.chains writes
+  pub active : HasWrites schema u.active u.chains later
   pub apart : NoneShared u.sealed u.active
 
 -- there is no room for a write, nor can it be made: fewer bytes are spare than it needs, and no closed segment is sparse
-pub record IsFullFor (S : ℕ) (schema : SchemaValue) (w : Write) (u : Memtables) : Type 0 where
-  pub few : IsRoomFor schema u.active u.memory w (spare_of S u.memory.region.usages) → ⊥
-  pub tight : Tight S u.memory.region.usages
+pub record IsFullFor (S : ℕ) (schema : SchemaValue) (w : Write) (u : Unstored S) : Type 0 where
+  pub few : IsRoomFor schema u.active u.chains w (spare_of S u.chains.region.usages) → ⊥
+  pub tight : Tight S u.chains.region.usages

@@ -4,4 +4,4 @@
 pub mod laws;
 mod unstored;
 
-pub use unstored::{Snaps, Unstored};
+pub use unstored::Unstored;

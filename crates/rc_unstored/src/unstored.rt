@@ -9,49 +9,41 @@ ghost use Rattle.rc_mutation.specs.declared.mutations.Write.{Write as Written};
 ghost use Rattle.rc_writes.specs.Allowed.{ChangeFits};
 ghost use Rattle.rc_writes.specs.Single.{IsSingle};
 ghost use Rattle.rc_mutation.specs.Fragments.{IsParts};
-ghost use Rattle.rc_memory.specs.Memory.{HasPin, IsEmpty, IsSnapshotTaken, IsUntouched, Memory};
-ghost use Rattle.rc_memtable.specs.LetGo.{AreLetGo};
+ghost use Rattle.rc_memory.specs.Memory.{HasPin, IsEmpty, IsSnapshotTaken, Memory};
+ghost use Rattle.rc_chain.specs.declared.chains.Snap.{Snap as Snapshot};
+ghost use Rattle.rc_snapshots.specs.Seeing.{AllStillSee, AreSameSnapshots, AreThere, HasSnap, OthersStillSee, StillSees};
+ghost use Rattle.rc_memtable.specs.LetGo.{AreLetGo, TakesNoMore};
 ghost use Rattle.rc_memtable.specs.Partitions.{AreAsBefore};
 ghost use Rattle.rc_memtable.specs.Writes.{AreSmall, HasWrites, chain_of};
 ghost use Rattle.rc_unstored.specs.calls.Giving.{given_back};
 ghost use Rattle.rc_unstored.specs.Memtables.{HaveWrites, IsFullFor, NoneShared};
-ghost use Rattle.rc_unstored.specs.Readers.{OthersStillSee, AreSameSnapshots, AllStillSee, HasSnap, IsReleased, IsSnapshotOfKey, IsTakenIf};
-ghost use Rattle.rc_unstored.specs.Steps.{AreSameKeys, IsNotPut, IsPutBehind, IsPutRefused};
+ghost use Rattle.rc_unstored.specs.Readers.{IsNoneOf, IsReleased, IsReleasedIf, IsSnapshotOfKey, IsTakenIf};
+ghost use Rattle.rc_unstored.specs.Steps.{AreSameKeys, IsNotPut, IsPutBehind, IsPutRefused, IsRoomMade};
 
 use lsa_move::{Ensured, a_tight_region_is_nearly_full};
 use rc_chain::{Chains, Snap};
 use rc_cursor::laws::a_snapshot_can_be_read;
-use rc_memtable::laws::what_leaves_a_memtables_chains_leaves_its_writes;
+use rc_memtable::laws::{
+    what_is_let_go_takes_no_more, what_leaves_a_memtables_chains_leaves_its_writes,
+};
 use rc_memtable::{Memtable, release};
 use rc_mutation::{Partition, Write};
 use rc_position::PartKey;
 use rc_schema::Schema;
+use rc_snapshots::Snaps;
+use rc_snapshots::laws::a_snapshot_sees_what_it_saw;
 use std::alloc::{AllocError, Global};
-use std::marker::Model;
 use std::mem;
 
-/// The writes of a shard that stand in no table: those that are sealed for the next one, and the later ones, in the chains of the shard. A contract sees these as `Memtables`.
+/// The writes of a shard that stand in no table: those that are sealed for the next one, and the later ones, in the chains of the shard.
 #[derive(Drop)]
 pub struct Unstored<const S: usize> {
-    chains: Chains<S>,
-    sealed: Memtable,
-    active: Memtable,
-}
-
-impl<const S: usize> Model for Unstored<S> {
-    ghost use Rattle.rc_unstored.specs.Memtables.{Memtables};
-
-    ghost Value = { Memtables };
-
-    ghost view = { λ u. record { memory = u.chains; sealed = u.sealed; active = u.active } };
-}
-
-/// What a reader of a partition holds: a snapshot of what is sealed of it, and one of what is written since, each where something is.
-pub struct Snaps {
-    /// Of the sealed writes.
-    pub sealed: Option<Snap>,
-    /// Of the later ones.
-    pub active: Option<Snap>,
+    /// The chains of the shard, in which both stand.
+    pub chains: Chains<S>,
+    /// The writes that are sealed for the next table.
+    pub sealed: Memtable,
+    /// The later ones.
+    pub active: Memtable,
 }
 
 impl<const S: usize> Unstored<S> {
@@ -62,25 +54,18 @@ impl<const S: usize> Unstored<S> {
         requires small { S ≤ 2 ^ 27 }
         requires even { S % 64 ≡ 0 }
         ensures none { IfOk result (λ u. (schema : SchemaValue) → HaveWrites schema u [] []) }
-        ensures empty { IfOk result (λ u. IsEmpty u.memory) }
-        ensures spare { IfOk result (λ u. spare_of S u.memory.region.usages ≡ (segments - 2) * (7 * S / 8) + (S - S / 8)) }
-        ensures free { IfOk result (λ u. free_count u.memory.region.usages + 1 ≡ segments) }
-        ensures budget { IfOk result (λ u. length u.memory.region.usages ≡ segments) }
-        ensures live { IfOk result (λ u. live_bytes u.memory.region ≡ 0) }
-        ensures numbers { IfOk result (λ u. (u.memory.region.epoch ≡ 0) × (u.memory.region.moved ≡ 0) × (u.memory.region.compacted ≡ 0)) }
+        ensures empty { IfOk result (λ u. IsEmpty u.chains) }
+        ensures spare { IfOk result (λ u. spare_of S u.chains.region.usages ≡ (segments - 2) * (7 * S / 8) + (S - S / 8)) }
+        ensures free { IfOk result (λ u. free_count u.chains.region.usages + 1 ≡ segments) }
+        ensures budget { IfOk result (λ u. length u.chains.region.usages ≡ segments) }
+        ensures live { IfOk result (λ u. live_bytes u.chains.region ≡ 0) }
+        ensures numbers { IfOk result (λ u. (u.chains.region.epoch ≡ 0) × (u.chains.region.moved ≡ 0) × (u.chains.region.compacted ≡ 0)) }
     {
         Ok(Unstored {
             chains: Chains::open(alloc, segments)?,
             sealed: Memtable::new(alloc),
             active: Memtable::new(alloc),
         })
-    }
-
-    /// The chains, with what all of them take.
-    pub fn chains(&self) -> &Chains<S>
-        ensures { result.now ≡ self.now.memory }
-    {
-        &self.chains
     }
 
     /// Whether writes are sealed.
@@ -106,11 +91,11 @@ impl<const S: usize> Unstored<S> {
         ensures stands { IfOk result (λ done. (writes later : Sequence Written) → HaveWrites schema.now self.old writes later → HaveWrites schema.now self.new writes (cond done (later ++ w.now ∷ []) later)) }
         ensures applied { IfOk result (λ done. done ≡ true → IsPutBehind schema.now w.now self.old self.new) }
         ensures full { IfOk result (λ done. done ≡ false → IsFullFor S schema.now w.now self.new) }
-        ensures crowded { IfOk result (λ done. done ≡ false → 3 * S / 4 * (length self.new.memory.region.usages - 2) < live_bytes self.new.memory.region) }
+        ensures crowded { IfOk result (λ done. done ≡ false → 3 * S / 4 * (length self.new.chains.region.usages - 2) < live_bytes self.new.chains.region) }
         ensures left { IfOk result (λ done. done ≡ false → IsNotPut self.old self.new) }
         ensures refused { OnErr result (IsPutRefused self.old self.new) }
         ensures err { OnErr result ((writes later : Sequence Written) → HaveWrites schema.now self.old writes later → HaveWrites schema.now self.new writes later) }
-        ensures seen { AllStillSee self.old.memory self.new.memory }
+        ensures seen { AllStillSee self.old.chains self.new.chains }
     {
         let need = self.active.need(&self.chains, schema, w);
         match self.chains.ensure(need) {
@@ -128,16 +113,17 @@ impl<const S: usize> Unstored<S> {
     /// Snapshots of what is written of the partition of a key, of the sealed writes and of the later ones, each exactly where one of them names the key. The only error is want of memory: then all chains are as they were, and no snapshot is there that was not.
     pub fn snapshot(&mut self, key: &PartKey) -> Result<Snaps, AllocError>
         requires kept { (schema : SchemaValue) × (writes : Sequence Written) × (later : Sequence Written) × HaveWrites schema self.old writes later }
-        ensures sealed { IfOk result (λ taken. (schema : SchemaValue) (writes later : Sequence Written) → HaveWrites schema self.old writes later → IsSnapshotOfKey key.now writes self.old.memory self.new.memory taken.sealed) }
-        ensures active { IfOk result (λ taken. (schema : SchemaValue) (writes later : Sequence Written) → HaveWrites schema self.old writes later → IsSnapshotOfKey key.now later self.old.memory self.new.memory taken.active) }
+        ensures sealed { IfOk result (λ taken. (schema : SchemaValue) (writes later : Sequence Written) → HaveWrites schema self.old writes later → IsSnapshotOfKey key.now writes self.old.chains self.new.chains taken.sealed) }
+        ensures active { IfOk result (λ taken. (schema : SchemaValue) (writes later : Sequence Written) → HaveWrites schema self.old writes later → IsSnapshotOfKey key.now later self.old.chains self.new.chains taken.active) }
         ensures apart { IfOk result (λ taken. IfSome taken.sealed (λ s. IfSome taken.active (λ t. s.chain ≡ t.chain → ⊥))) }
-        ensures exact { IfOk result (λ taken. (mid : Memory) × IsTakenIf self.old.memory mid taken.sealed × IsTakenIf mid self.new.memory taken.active) }
+        ensures exact { IfOk result (λ taken. (mid : Memory) × IsTakenIf self.old.chains mid taken.sealed × IsTakenIf mid self.new.chains taken.active) }
         ensures keys { AreSameKeys self.old self.new }
         ensures stands { (schema : SchemaValue) (writes later : Sequence Written) → HaveWrites schema self.old writes later → HaveWrites schema self.new writes later }
-        ensures seen { AllStillSee self.old.memory self.new.memory }
-        ensures err { OnErr result (AreSameSnapshots self.old.memory self.new.memory) }
-        ensures left { OnErr result (AreAsBefore self.old.memory self.new.memory) }
+        ensures seen { AllStillSee self.old.chains self.new.chains }
+        ensures err { OnErr result (AreSameSnapshots self.old.chains self.new.chains) }
+        ensures left { OnErr result (AreAsBefore self.old.chains self.new.chains) }
     {
+        a_snapshot_sees_what_it_saw();
         let sealed = snapshot_beside(&self.sealed, &self.active, &mut self.chains, key)?;
         match snapshot_beside(&self.active, &self.sealed, &mut self.chains, key) {
             Ok(active) => Ok(Snaps { sealed, active }),
@@ -150,15 +136,45 @@ impl<const S: usize> Unstored<S> {
 
     /// Takes a snapshot back. Other snapshots see what they saw. What was let go is freed with its last snapshot.
     pub fn release(&mut self, s: Snap)
-        requires { HasSnap self.old.memory s }
+        requires { HasSnap self.old.chains s }
         ensures stands { (schema : SchemaValue) (writes later : Sequence Written) → HaveWrites schema self.old writes later → HaveWrites schema self.new writes later }
-        ensures others { OthersStillSee s self.old.memory self.new.memory }
-        ensures gone { HasPin self.new.memory s.chain s.pin → ⊥ }
-        ensures released { IsReleased s self.old.memory self.new.memory }
+        ensures others { OthersStillSee s self.old.chains self.new.chains }
+        ensures gone { HasPin self.new.chains s.chain s.pin → ⊥ }
+        ensures released { IsReleased s self.old.chains self.new.chains }
         ensures keys { AreSameKeys self.old self.new }
     {
         what_leaves_a_memtables_chains_leaves_its_writes();
         release(&mut self.chains, s);
+    }
+
+    /// Takes both snapshots of a reader back, those that there are. All others see what they saw, and no more is live. What was let go is freed with its last snapshot.
+    pub fn release_both(&mut self, snaps: Snaps)
+        requires there { AreThere self.old.chains snaps }
+        requires apart { IfSome snaps.sealed (λ s. IfSome snaps.active (λ t. s.chain ≡ t.chain → ⊥)) }
+        ensures stands { (schema : SchemaValue) (writes later : Sequence Written) → HaveWrites schema self.old writes later → HaveWrites schema self.new writes later }
+        ensures others { (s : Snapshot) → IsNoneOf snaps s → HasPin self.old.chains s.chain s.pin → StillSees s self.old.chains self.new.chains }
+        ensures room { (length self.new.chains.region.usages ≡ length self.old.chains.region.usages) × (live_bytes self.new.chains.region ≤ live_bytes self.old.chains.region) }
+        ensures released { (mid : Memory) × IsReleasedIf snaps.sealed self.old.chains mid × IsReleasedIf snaps.active mid self.new.chains }
+        ensures keys { AreSameKeys self.old self.new }
+    {
+        let Snaps { sealed, active } = snaps;
+        self.release_if(sealed);
+        self.release_if(active);
+    }
+
+    // Takes a snapshot back, where there is one.
+    fn release_if(&mut self, taken: Option<Snap>)
+        requires { IfSome taken (HasSnap self.old.chains) }
+        ensures stands { (schema : SchemaValue) (writes later : Sequence Written) → HaveWrites schema self.old writes later → HaveWrites schema self.new writes later }
+        ensures others { (s : Snapshot) → IfSome taken (λ t. s.chain ≡ t.chain → s.pin ≡ t.pin → ⊥) → HasPin self.old.chains s.chain s.pin → StillSees s self.old.chains self.new.chains }
+        ensures room { TakesNoMore self.old.chains self.new.chains }
+        ensures released { IsReleasedIf taken self.old.chains self.new.chains }
+        ensures keys { AreSameKeys self.old self.new }
+    {
+        what_is_let_go_takes_no_more();
+        if let Some(s) = taken {
+            self.release(s);
+        }
     }
 
     /// Seals the later writes, where none are sealed: then there are no later ones. Else nothing is changed.
@@ -166,7 +182,7 @@ impl<const S: usize> Unstored<S> {
         ensures sealed { (schema : SchemaValue) (later : Sequence Written) → HaveWrites schema self.old [] later → HaveWrites schema self.new later [] }
         ensures swapped { (schema : SchemaValue) (later : Sequence Written) → HaveWrites schema self.old [] later → (self.new.sealed ≡ self.old.active) × (self.new.active ≡ []) }
         ensures kept { (schema : SchemaValue) (w : Written) (writes later : Sequence Written) → HaveWrites schema self.old (w ∷ writes) later → self.new ≡ self.old }
-        ensures chains { self.new.memory ≡ self.old.memory }
+        ensures chains { self.new.chains ≡ self.old.chains }
     {
         if self.sealed.is_empty() {
             mem::swap(&mut self.sealed, &mut self.active);
@@ -178,9 +194,9 @@ impl<const S: usize> Unstored<S> {
         requires kept { (schema : SchemaValue) × (writes : Sequence Written) × (later : Sequence Written) × HaveWrites schema self.old writes later }
         ensures parts { (schema : SchemaValue) (writes later : Sequence Written) → HaveWrites schema self.old writes later → IfOk result (λ parts. IsParts parts.items writes) }
         ensures stands { (schema : SchemaValue) (writes later : Sequence Written) → HaveWrites schema self.old writes later → HaveWrites schema self.new writes later }
-        ensures left { AreAsBefore self.old.memory self.new.memory }
+        ensures left { AreAsBefore self.old.chains self.new.chains }
         ensures keys { AreSameKeys self.old self.new }
-        ensures seen { AreSameSnapshots self.old.memory self.new.memory }
+        ensures seen { AreSameSnapshots self.old.chains self.new.chains }
     {
         self.sealed.partitions(alloc, &mut self.chains)
     }
@@ -189,24 +205,26 @@ impl<const S: usize> Unstored<S> {
     pub fn drop_sealed(&mut self)
         requires kept { (schema : SchemaValue) × (writes : Sequence Written) × (later : Sequence Written) × HaveWrites schema self.old writes later }
         ensures gone { (schema : SchemaValue) (writes later : Sequence Written) → HaveWrites schema self.old writes later → HaveWrites schema self.new [] later }
-        ensures let_go { AreLetGo (map (λ e. e.1) self.old.sealed) self.old.memory self.new.memory }
+        ensures let_go { AreLetGo (map (λ e. e.1) self.old.sealed) self.old.chains self.new.chains }
         ensures none { self.new.sealed ≡ [] }
         ensures active { self.new.active ≡ self.old.active }
-        ensures seen { AllStillSee self.old.memory self.new.memory }
+        ensures seen { AllStillSee self.old.chains self.new.chains }
+        ensures room { TakesNoMore self.old.chains self.new.chains }
     {
+        what_is_let_go_takes_no_more();
         self.sealed.known();
         self.sealed.drop_all(&mut self.chains);
     }
 
     /// Empties the closed segment with least live bytes, where one is sparse; false exactly where none is. The writes are those that they were, and snapshots see what they saw.
     pub fn compact_one(&mut self) -> bool
-        ensures tells { result ≡ is_some (sparse_of S self.old.memory.region.usages) }
+        ensures tells { result ≡ is_some (sparse_of S self.old.chains.region.usages) }
         ensures same { result ≡ false → self.new ≡ self.old }
-        ensures compacted { IfSome (sparse_of S self.old.memory.region.usages) (IsCompacted S self.old.memory.region self.new.memory.region) }
-        ensures untouched { IsUntouched self.old.memory self.new.memory }
+        ensures compacted { IfSome (sparse_of S self.old.chains.region.usages) (IsCompacted S self.old.chains.region self.new.chains.region) }
+        ensures room { IsRoomMade self.old.chains self.new.chains }
         ensures keys { AreSameKeys self.old self.new }
         ensures stands { (schema : SchemaValue) (writes later : Sequence Written) → HaveWrites schema self.old writes later → HaveWrites schema self.new writes later }
-        ensures seen { AreSameSnapshots self.old.memory self.new.memory }
+        ensures seen { AreSameSnapshots self.old.chains self.new.chains }
     {
         self.chains.compact_one()
     }

@@ -3,15 +3,16 @@ ghost use Rattle.std.specs.Prelude.{◌≡◌, IfOk, IfSome};
 ghost use Rattle.rc_schema.specs.SchemaValue.{SchemaValue};
 ghost use Rattle.rc_memory.specs.Memory.{HasPin};
 ghost use Rattle.rc_chain.specs.declared.chains.Snap.{Snap as Snapshot};
-ghost use Rattle.rc_unstored.specs.Readers.{AllStillSee, HasSnap, StillSees};
-ghost use Rattle.rc_unstored_tests.specs.Holding.{AreThere, HaveSome, IsNoneOf};
+ghost use Rattle.rc_snapshots.specs.Seeing.{AllStillSee, AreThere, StillSees};
+ghost use Rattle.rc_unstored.specs.Readers.{IsNoneOf};
+ghost use Rattle.rc_unstored_tests.specs.Holding.{HaveSome};
 
 use rc_cell::Row;
-use rc_chain::Snap;
 use rc_mutation::{Mutation, Rows, Write};
 use rc_position::{Comp, Key, PartKey};
 use rc_schema::Schema;
-use rc_unstored::{Snaps, Unstored};
+use rc_snapshots::Snaps;
+use rc_unstored::Unstored;
 use rc_writes::{change_fits, is_single};
 use std::alloc::{AllocError, Global};
 use std::test::Fail;
@@ -38,7 +39,7 @@ fn put(
 ) -> Result<bool, AllocError>
     requires { HaveSome schema.now unstored.old }
     ensures stands { HaveSome schema.now unstored.new }
-    ensures seen { AllStillSee unstored.old.memory unstored.new.memory }
+    ensures seen { AllStillSee unstored.old.chains unstored.new.chains }
 {
     if schema.largest_entry() > 512 || schema.largest_static() > 512 {
         return Ok(false);
@@ -58,7 +59,7 @@ fn put_row(
 ) -> Result<bool, AllocError>
     requires { HaveSome schema.now unstored.old }
     ensures stands { HaveSome schema.now unstored.new }
-    ensures seen { AllStillSee unstored.old.memory unstored.new.memory }
+    ensures seen { AllStillSee unstored.old.chains unstored.new.chains }
 {
     let w = inserted(alloc, at)?;
     put(alloc, unstored, schema, &w)
@@ -71,10 +72,11 @@ fn open_reader(
     key: &PartKey,
 ) -> Result<Snaps, AllocError>
     requires { HaveSome schema.now unstored.old }
-    ensures there { IfOk result (AreThere unstored.new.memory) }
-    ensures fresh { IfOk result (λ t. (s : Snapshot) → HasPin unstored.old.memory s.chain s.pin → IsNoneOf t s) }
+    ensures there { IfOk result (AreThere unstored.new.chains) }
+    ensures apart { IfOk result (λ taken. IfSome taken.sealed (λ s. IfSome taken.active (λ t. s.chain ≡ t.chain → ⊥))) }
+    ensures fresh { IfOk result (λ t. (s : Snapshot) → HasPin unstored.old.chains s.chain s.pin → IsNoneOf t s) }
     ensures stands { HaveSome schema.now unstored.new }
-    ensures seen { AllStillSee unstored.old.memory unstored.new.memory }
+    ensures seen { AllStillSee unstored.old.chains unstored.new.chains }
 {
     unstored.snapshot(key)
 }
@@ -87,36 +89,25 @@ fn open_later(
     key: &PartKey,
 ) -> Result<Snaps, AllocError>
     requires { HaveSome schema.now unstored.old }
-    ensures there { IfOk result (AreThere unstored.new.memory) }
-    ensures fresh { IfOk result (λ t. (s : Snapshot) → HasPin unstored.old.memory s.chain s.pin → IsNoneOf t s) }
+    ensures there { IfOk result (AreThere unstored.new.chains) }
+    ensures apart { IfOk result (λ taken. IfSome taken.sealed (λ s. IfSome taken.active (λ t. s.chain ≡ t.chain → ⊥))) }
+    ensures fresh { IfOk result (λ t. (s : Snapshot) → HasPin unstored.old.chains s.chain s.pin → IsNoneOf t s) }
     ensures stands { HaveSome schema.now unstored.new }
-    ensures seen { AllStillSee unstored.old.memory unstored.new.memory }
+    ensures seen { AllStillSee unstored.old.chains unstored.new.chains }
 {
     unstored.seal();
     let _put = put_row(alloc, unstored, schema, 9)?;
     open_reader(unstored, schema, key)
 }
 
-// Takes a snapshot of a reader back, where there is one.
-fn close_one(unstored: &mut Unstored<4096>, taken: Option<Snap>)
-    requires { IfSome taken (HasSnap unstored.old.memory) }
-    ensures stands { (schema : SchemaValue) → HaveSome schema unstored.old → HaveSome schema unstored.new }
-    ensures others { (s : Snapshot) → IfSome taken (λ t. s.chain ≡ t.chain → s.pin ≡ t.pin → ⊥) → HasPin unstored.old.memory s.chain s.pin → StillSees s unstored.old.memory unstored.new.memory }
-{
-    if let Some(s) = taken {
-        unstored.release(s);
-    }
-}
-
 // Takes both snapshots of a reader back.
 fn close_reader(unstored: &mut Unstored<4096>, reader: Snaps)
-    requires { AreThere unstored.old.memory reader }
+    requires there { AreThere unstored.old.chains reader }
+    requires apart { IfSome reader.sealed (λ s. IfSome reader.active (λ t. s.chain ≡ t.chain → ⊥)) }
     ensures stands { (schema : SchemaValue) → HaveSome schema unstored.old → HaveSome schema unstored.new }
-    ensures others { (s : Snapshot) → IsNoneOf reader s → HasPin unstored.old.memory s.chain s.pin → StillSees s unstored.old.memory unstored.new.memory }
+    ensures others { (s : Snapshot) → IsNoneOf reader s → HasPin unstored.old.chains s.chain s.pin → StillSees s unstored.old.chains unstored.new.chains }
 {
-    let Snaps { sealed, active } = reader;
-    close_one(unstored, sealed);
-    close_one(unstored, active);
+    unstored.release_both(reader);
 }
 
 // How many rows a table of the sealed writes has, where they are of one partition.
@@ -137,7 +128,7 @@ fn sealed_rows(
 
 // How many objects there are, and how many bytes of them.
 fn size(unstored: &Unstored<4096>) -> (u64, usize) {
-    let region = unstored.chains().region();
+    let region = unstored.chains.region();
     (region.objects(), region.live())
 }
 

@@ -17,14 +17,14 @@ free_one-requires g c =
 pub loop-chains-smaller : goal.loop-chains-smaller
 loop-chains-smaller g c =
     let t = freeing-there c.args.id c.args.chains.now c.loop-chains.chains c.loop-chains.invariant c.loop-chains-test.ensures in
-    freeing-less c.args.id c.args.chains.now c.loop-chains.chains t c.known.ensures.rule c.free_one.new.self (of-chain (λ k. IsSoundChain k.chain) (chain_at c.loop-chains.chains c.args.id) t.chain t.there (c.known.ensures.sound c.args.id)) c.known.ensures.versions
+    freeing-less c.args.id c.args.chains.now c.loop-chains.chains t c.known-in-loop-chains.ensures.rule c.free_one.new.self (of-chain (λ k. IsSoundChain k.chain) (chain_at c.loop-chains.chains c.args.id) t.chain t.there (c.known-in-loop-chains.ensures.sound c.args.id)) c.known-in-loop-chains.ensures.versions
     (λ v back x there. c.a_freed_object_leaves_less.ensures.entry t.chain.chain.kind [] back v x there) (λ v back some. c.a_freed_object_leaves_less.ensures.statics t.chain.chain.kind [] back v some) (λ v back is. c.a_freed_object_leaves_less.ensures.version [] back v is)
     c.free_one.ensures.freed
 
 pub loop-chains-preserved : goal.loop-chains-preserved
 loop-chains-preserved g c =
     let t = freeing-there c.args.id c.args.chains.now c.loop-chains.chains c.loop-chains.invariant c.loop-chains-test.ensures in
-    freeing-step c.args.id c.args.chains.now c.loop-chains.chains t c.known.ensures.rule c.free_one.new.self c.free_one.ensures.freed
+    freeing-step c.args.id c.args.chains.now c.loop-chains.chains t c.known-in-loop-chains.ensures.rule c.free_one.new.self c.free_one.ensures.freed
 
 pub returns : goal.returns
-returns g c = freeing-over c.args.id c.args.chains.now c.loop-chains.chains c.loop-chains.invariant c.loop-chains-test.ensures
+returns g c = freeing-over c.args.id c.args.chains.now c.loop-chains.chains c.known.ensures.live c.known-2.ensures.live c.loop-chains.invariant c.loop-chains-test.ensures

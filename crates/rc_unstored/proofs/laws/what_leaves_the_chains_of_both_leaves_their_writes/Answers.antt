@@ -3,11 +3,11 @@ use Rattle.rc_unstored.proofs.laws.what_leaves_the_chains_of_both_leaves_their_w
 
 pub returns : goal.returns
 returns c = record {
-  moved = λ schema u m writes later h. both-moved schema u m writes later h.chains;
-  beside = both-beside;
-  alike = λ schema u writes later others more named said also says h. record {
-    sealed = c.what_leaves_a_memtables_chains_leaves_its_writes.ensures.alike schema u.sealed u.memory writes others named said h.sealed;
-    active = c.what_leaves_a_memtables_chains_leaves_its_writes.ensures.alike schema u.active u.memory later more also says h.active;
+  moved = λ S schema u m writes later h. both-moved schema u m writes later h.chains;
+  beside = λ S schema u m writes later sealed active h. both-beside schema u m writes later sealed active h;
+  alike = λ S schema u writes later others more named said also says h. record {
+    sealed = c.what_leaves_a_memtables_chains_leaves_its_writes.ensures.alike schema u.sealed u.chains writes others named said h.sealed;
+    active = c.what_leaves_a_memtables_chains_leaves_its_writes.ensures.alike schema u.active u.chains later more also says h.active;
     apart = h.apart;
   };
 }

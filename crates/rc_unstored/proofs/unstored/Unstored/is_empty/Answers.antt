@@ -1,9 +1,7 @@
-use Rattle.std.proofs.Common.{◌≡◌, true, false, sym, ◌∙◌, subst}
-use Rattle.rc_unstored.specs.Memtables.{HaveWrites, Memtables}
+use Rattle.std.proofs.Common.{◌≡◌, true, false, sym, ◌∙◌}
 use Rattle.rc_unstored.proofs.Keeping.{first-none}
 use Rattle.rc_unstored.proofs.unstored.Unstored.is_empty.Goals as goal
 
 pub returns-else-is_empty : goal.returns-else-is_empty
 returns-else-is_empty g c schema writes later h =
-    let k = subst (λ (x : Memtables). HaveWrites schema x writes later) (sym c.self.view_is) h in
-    (λ t. let f : true ≡ false = sym t ∙ c.if-is_empty.false in absurd (cc), λ e. (c.is_empty.ensures schema c.self.inside.chains writes k.sealed).1 (first-none writes later e))
+    (λ t. let f : true ≡ false = sym t ∙ c.if-is_empty.false in absurd (cc), λ e. (c.is_empty.ensures schema c.args.self.now.chains writes h.sealed).1 (first-none writes later e))
