@@ -25,7 +25,7 @@ use Rattle.rc_folder.specs.laws.Over.{over_reading, over_written}
 use Rattle.rc_machine.specs.Room.{MayBeFull}
 use Rattle.rc_machine.specs.State.{Reader, State, unstored}
 use Rattle.rc_shard.specs.Stands.{AreFor, AreSound, AreTwo, HaveUnstored, IsServed, holding}
-use Rattle.rc_shard.specs.calls.Keeping.{IsNoMore}
+use Rattle.rc_memtable.specs.LetGo.{TakesNoMore}
 use Rattle.rc_shard.specs.calls.Storing.{IsKept}
 use Rattle.rc_shard.proofs.Served.{all-served}
 
@@ -33,8 +33,8 @@ use Rattle.rc_shard.proofs.Served.{all-served}
 abbrev pub weigh : List Write → ℕ
 weigh writes = sum_by (λ (w : Write). weight w.change) writes
 
-pub sound-less : (m n : Memory) (st : State) → IsNoMore m n → AreSound m st → AreSound n st
-sound-less m n st room s = record { mutations = s.mutations; budget = room.budget ∙ s.budget; weigh = let a = room.live in let b = s.weigh in omega (arith, a, b) }
+pub sound-less : (m n : Memory) (st : State) → TakesNoMore m n → AreSound m st → AreSound n st
+sound-less m n st room s = record { mutations = s.mutations; budget = room.0 ∙ s.budget; weigh = let a = room.1 in let b = s.weigh in omega (arith, a, b) }
 
 pub within : (told : Option Files) (f : Tabled) (u : Unstored 131072) (m : State) (sealed later : List Write) → m.stored ≤ m.sealed → m.sealed ≤ length m.log → m.stored ≤ length m.log
 within told f u m sealed later a b = omega (arith, a, b)
@@ -95,7 +95,7 @@ module _ (lines : Opened → Memory → List OutLine → Type 0) where
 
   -- other readers, of the machine and of the shard
   pub reading-for : (told : Option Files) (f : Tabled) (u v : Unstored 131072) (readers others : List (ℕ × Opened)) (segments : ℕ) (m : State) (given : List (ℕ × Reader)) → ((writes later : List Write) → HaveWrites f.schema u writes later → HaveWrites f.schema v writes later) →
-      IsNoMore u.chains v.chains → AllZip (IsServed lines v.chains) others given → AllPairs AreTwo (map holding others) → AreFor lines told f u readers segments m → AreFor lines told f v others segments (record m { readers = given })
+      TakesNoMore u.chains v.chains → AllZip (IsServed lines v.chains) others given → AllPairs AreTwo (map holding others) → AreFor lines told f u readers segments m → AreFor lines told f v others segments (record m { readers = given })
   reading-for told f u v readers others segments m given stands room served two s = record {
     over = over_reading told f.schema f.infos m given s.over;
     have = record { sealed = s.have.sealed; later = s.have.later; have = stands s.have.sealed s.have.later s.have.have; are = s.have.are; count = s.have.count };

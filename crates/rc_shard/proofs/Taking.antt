@@ -34,7 +34,7 @@ use Rattle.rc_machine.specs.Steps.{IsSaid, most_readers, reader_past, reader_wit
 use Rattle.rc_machine.specs.Serving.{Takes}
 use Rattle.rc_shard.specs.declared.shard.Shard.{Shard}
 use Rattle.rc_shard.specs.Stands.{AreFor, AreOfTwo, AreTwo, IsServed, Stands, holding}
-use Rattle.rc_shard.specs.calls.Keeping.{IsNoMore}
+use Rattle.rc_memtable.specs.LetGo.{TakesNoMore}
 use Rattle.rc_shard.specs.calls.Storing.{IsKept}
 use Rattle.rc_shard.proofs.Places.{IsNowhere, IsPlace, one-of}
 use Rattle.rc_shard.proofs.Served.{IsFound, all-served, fewer-two, look-none, look-some, removed-served, same-two, served-count, set-served}
@@ -47,8 +47,8 @@ as-many : (n : ℕ) → most_readers ≤ n → nat_lt n most_readers ≡ false
 as-many n h = grind (arith, nat_tests, h)
 
 -- nothing is let go in memory that is as it was
-pub no-more-same : (m n : Memory) → n ≡ m → IsNoMore m n
-no-more-same m n e = record { budget = ap (λ (x : Memory). length x.region.usages) e; live = let a = ap (λ (x : Memory). live_bytes x.region) e in omega (arith, a) }
+pub no-more-same : (m n : Memory) → n ≡ m → TakesNoMore m n
+no-more-same m n e = (ap (λ (x : Memory). length x.region.usages) e, (let a = ap (λ (x : Memory). live_bytes x.region) e in omega (arith, a)))
 
 module _ (lines : Opened → Memory → List OutLine → Type 0) where
   pub moved : (files : Option Files) (k k' : Shard) (u : Unstored 131072) (os : List (ℕ × Opened)) (m : State) → k'.folder ≡ k.folder → k'.unstored ≡ u → k'.segments ≡ k.segments → k'.readers.items ≡ os → AreFor lines files k.folder u os k.segments m → Stands lines files k' m
@@ -122,7 +122,7 @@ module _ (lines : Opened → Memory → List OutLine → Type 0) where
   module _ (stays : (o : Opened) (m n : Memory) (ls : List OutLine) → StillSeeBoth (snaps_of o) m n → lines o m ls → lines o n ls) where
     pub takes-close : (files : Option Files) (k k' : Shard) (id at : ℕ) (d : ℕ × Opened) → IsPlace id k.readers.items at → get_or k.readers.items at d ≡ d → k'.folder ≡ k.folder → k'.segments ≡ k.segments → k'.readers.items ≡ remove k.readers.items at →
         ((schema : SchemaValue) (writes later : List Write) → HaveWrites schema k.unstored writes later → HaveWrites schema k'.unstored writes later) →
-        ((s : Snap) → IsNoneOf (snaps_of d.1) s → HasPin k.unstored.chains s.chain s.pin → StillSees s k.unstored.chains k'.unstored.chains) → IsNoMore k.unstored.chains k'.unstored.chains →
+        ((s : Snap) → IsNoneOf (snaps_of d.1) s → HasPin k.unstored.chains s.chain s.pin → StillSees s k.unstored.chains k'.unstored.chains) → TakesNoMore k.unstored.chains k'.unstored.chains →
         Takes (Stands lines) files k (Close id) replies.Fine files k'
     takes-close files k k' id at d p here folder segs items stands others room = λ m s.
         let f = look-some lines k.unstored.chains id at d k.readers.items m.readers s.served p in

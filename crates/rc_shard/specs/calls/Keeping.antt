@@ -1,8 +1,6 @@
 -- What calls keep.
-use Rattle.std.specs.Prelude.{◌≡◌, ◌≤◌, length, Option}
-use Rattle.lsa_region.specs.Region.{live_bytes}
+use Rattle.std.specs.Prelude.{◌≡◌, Option}
 use Rattle.rc_outside.specs.Files.{Files}
-use Rattle.rc_memory.specs.Memory.{Memory}
 use Rattle.rc_machine.specs.State.{State}
 use Rattle.rc_shard.specs.declared.shard.Shard.{Shard}
 
@@ -15,8 +13,3 @@ pub record CountsStay (old new : Shard) : Type 0 where
   pub answered : new.answered ≡ old.answered
   pub segments : new.segments ≡ old.segments
   pub asked : new.asked ≡ old.asked
-
--- the region has as many segments, and in it no more is live
-pub record IsNoMore (old new : Memory) : Type 0 where
-  pub budget : length new.region.usages ≡ length old.region.usages
-  pub live : live_bytes new.region ≤ live_bytes old.region

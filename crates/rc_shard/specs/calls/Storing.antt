@@ -13,13 +13,13 @@ use Rattle.rc_unstored.specs.declared.unstored.Unstored.{Unstored}
 use Rattle.rc_unstored.specs.Memtables.{HaveWrites}
 use Rattle.rc_folder.specs.Tabled.{IsAdded}
 use Rattle.rc_shard.specs.declared.shard.Shard.{Shard}
-use Rattle.rc_shard.specs.calls.Keeping.{IsNoMore}
+use Rattle.rc_memtable.specs.LetGo.{TakesNoMore}
 
 -- what was written stays, and so does what snapshots see, in a region of as many segments, in which no more is live
 pub record IsKept (old new : Unstored 131072) : Type 0 where
   pub stands : (schema : SchemaValue) (writes later : List Write) → HaveWrites schema old writes later → HaveWrites schema new writes later
   pub seen : AllStillSee old.chains new.chains
-  pub room : IsNoMore old.chains new.chains
+  pub room : TakesNoMore old.chains new.chains
 
 -- the sealed writes stand in table n, and no longer in memory
 pub record IsTableStored (files : Option Files) (k : Shard) (n : ℕ) (files' : Option Files) (k' : Shard) : Type 0 where
@@ -28,7 +28,7 @@ pub record IsTableStored (files : Option Files) (k : Shard) (n : ℕ) (files' : 
   pub added : IsAdded files k.folder n parts files' k'.folder
   pub gone : (schema : SchemaValue) (writes later : List Write) → HaveWrites schema k.unstored writes later → HaveWrites schema k'.unstored [] later
   pub seen : AllStillSee k.unstored.chains k'.unstored.chains
-  pub room : IsNoMore k.unstored.chains k'.unstored.chains
+  pub room : TakesNoMore k.unstored.chains k'.unstored.chains
 
 -- the reply to a flush: the sealed writes stand in table n, or the store failed and they are still sealed
 abbrev pub IsFlushAnswered : Option Files → Shard → ℕ → Option Files → Shard → Reply → Type 0
