@@ -49,6 +49,9 @@ nothing-in (w ∷ ws) e = absurd (omega (arith, e))
 equal-is : (a b : ℕ) → (a == b) ≡ true → a ≡ b
 equal-is a b e = grind (arith, nat_tests, e)
 
+pub not-true : (b : Bool) → b ≡ false → b ≡ true → ⊥
+not-true b f t = let e : false ≡ true = sym f ∙ t in absurd (cc)
+
 test-of : (b : Bool) → (b ≡ true → ⊥) → b ≡ false
 test-of true h = absurd (h refl)
 test-of false h = refl
@@ -102,7 +105,7 @@ module _ (lines : Opened → Memory → List OutLine → Type 0) where
 
   module _ (stays : (o : Opened) (m n : Memory) (ls : List OutLine) → StillSeeBoth (snaps_of o) m n → lines o m ls → lines o n ls) where
     -- want of memory: the writes stay sealed
-    pub stops-sealed : (files files' : Option Files) (k l k' : Shard) → ((m : State) → Stands lines files k m → Stands lines files l (record m { sealed = sealing m })) → k'.folder ≡ l.folder → k'.segments ≡ l.segments → k'.readers.items ≡ l.readers.items → IsKept l.unstored k'.unstored → files' ≡ files →
+    pub stops-sealed : (files files' : Option Files) (k l k' : Shard) → ((m : State) → Stands lines files k m → Stands lines files l (record m { sealed = sealing m })) → k'.folder ≡ l.folder → k'.segments ≡ l.segments → k'.readers.items ≡ l.readers.items → IsKept l.folder.schema l.unstored k'.unstored → files' ≡ files →
         Stops (Stands lines) files k Flush files' k'
     stops-sealed files files' k l k' seals folder segs items kept still = λ m s.
         let sealed : State = record m { sealed = sealing m } in
@@ -110,7 +113,7 @@ module _ (lines : Opened → Memory → List OutLine → Type 0) where
 
     module _ (files files' : Option Files) (k l k' : Shard) (n : ℕ) (some : (schema : SchemaValue) (writes later : List Write) → HaveWrites schema k.unstored writes later → writes ++ later ≡ [] → ⊥) (is : IsNextNumber k.folder.infos (Some n))
         (seals : (m : State) → Stands lines files k m → Stands lines files l (record m { sealed = sealing m })) (segs : k'.segments ≡ l.segments) (items : k'.readers.items ≡ l.readers.items) where
-      takes-write-fault : k'.folder ≡ l.folder → IsKept l.unstored k'.unstored → files' ≡ files → Takes (Stands lines) files k Flush (replies.Refused WriteFault) files' k'
+      takes-write-fault : k'.folder ≡ l.folder → IsKept l.folder.schema l.unstored k'.unstored → files' ≡ files → Takes (Stands lines) files k Flush (replies.Refused WriteFault) files' k'
       takes-write-fault folder kept still = λ m s.
           let sealed : State = record m { sealed = sealing m } in
           (sealed, flushes without_sealed m _ _ false false s.whole (some-here files k m some s) (in_time files k.folder.schema k.folder.infos m n s.over is) (inr (refl, refl)),

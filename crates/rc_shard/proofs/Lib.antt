@@ -3,3 +3,5 @@ mod Served
 mod Standing
 mod Taking
 mod Flushing
+mod Opening
+mod Closing

@@ -4,6 +4,10 @@ use Rattle.std.specs.List.{position, position_or_len}
 use Rattle.std.proofs.lemmas.Bool.Decides.{nat_tests}
 use Rattle.std.proofs.lemmas.List.Quantifiers.{position-Some}
 
+none-is : (b : Bool) (n : ℕ) → cond b (Some n) None ≡ None → b ≡ false
+none-is true n e = absurd (cc)
+none-is false n e = refl
+
 module _ {X : Type 0} where
   -- the first with an id stands at a place
   abbrev pub IsPlace : ℕ → List (ℕ × X) → ℕ → Type 0
@@ -51,10 +55,6 @@ module _ {X : Type 0} where
         | true ↦ λ k. absurd (omega (arith, k))
         | false ↦ λ k. (refl, nowhere-from id os (omega (arith, k)))
       ] h
-
-  none-is : (b : Bool) (n : ℕ) → cond b (Some n) None ≡ None → b ≡ false
-  none-is true n e = absurd (cc)
-  none-is false n e = refl
 
   pub nowhere-of : (id : ℕ) (os : List (ℕ × X)) → position (λ o. o.0 == id) os ≡ None → IsNowhere id os
   nowhere-of id os e =

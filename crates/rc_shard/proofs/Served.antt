@@ -81,10 +81,10 @@ each-at : {X : Type 0} (P : X → Type 0) (xs : List X) → ((k : ℕ) (d : X) �
 each-at P [] h = tt
 each-at P (x ∷ xs) h = (h 0 x (omega arith), each-at P xs (λ k d l. h (suc k) d (omega (arith, l))))
 
-each-later : {X : Type 0} (R : X → X → Type 0) (x : X) (xs : List X) → AllPairs R (x ∷ xs) → AllByRecursion (R x) xs
+pub each-later : {X : Type 0} (R : X → X → Type 0) (x : X) (xs : List X) → AllPairs R (x ∷ xs) → AllByRecursion (R x) xs
 each-later R x xs h = each-at (R x) xs (λ k d l. each-place R x xs k d h l)
 
-pairs-rest : {X : Type 0} (R : X → X → Type 0) (x : X) (xs : List X) → AllPairs R (x ∷ xs) → AllPairs R xs
+pub pairs-rest : {X : Type 0} (R : X → X → Type 0) (x : X) (xs : List X) → AllPairs R (x ∷ xs) → AllPairs R xs
 pairs-rest R x xs h i j d l m = h (suc i) (suc j) d (omega (arith, l)) (omega (arith, m))
 
 map-at : {X Y : Type 0} (f : X → Y) (xs : List X) (k : ℕ) (d : X) → get_or (map f xs) k (f d) ≡ f (get_or xs k d)
@@ -206,6 +206,16 @@ module _ (lines : Opened → Memory → List OutLine → Type 0) where
       let other : (r.0 == id) ≡ false = subst (λ i. (i == id) ≡ false) h.0.id p.0 in
       let more = set-served m id at d x past os rs same left there chains p.1 h.1 in
       subst (λ b. AllZip (IsServed lines m) (o ∷ set os at x) (cond b ((r.0, past) ∷ rs) (r ∷ set_value (λ q. q == id) rs past))) (sym other) (h.0, more)
+
+  -- ---- one gave none, for want of memory
+
+  pub set-kept : (m : Memory) (id at : ℕ) (d x : ℕ × Opened) (os : List (ℕ × Opened)) (rs : List (ℕ × Reader)) → x.0 ≡ (get_or os at d).0 → ((ls : List OutLine) → lines (get_or os at d).1 m ls → lines x.1 m ls) → snaps_of x.1 ≡ snaps_of (get_or os at d).1 → IsPlace id os at →
+      AllZip (IsServed lines m) os rs → AllZip (IsServed lines m) (set os at x) rs
+  set-kept m id at d x [] rs same left snaps p h = absurd p
+  set-kept m id at d x (o ∷ os) [] same left snaps p h = absurd h
+  set-kept m id zero d x (o ∷ os) (r ∷ rs) same left snaps p h =
+      (record { id = same ∙ h.0.id; left = left r.1.rest h.0.left; there = subst (AreThere m) (sym snaps) h.0.there; chains = subst AreOfTwo (sym snaps) h.0.chains }, h.1)
+  set-kept m id (suc at) d x (o ∷ os) (r ∷ rs) same left snaps p h = (h.0, set-kept m id at d x os rs same left snaps p.1 h.1)
 
   -- ---- one more
 

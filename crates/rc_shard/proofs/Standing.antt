@@ -1,9 +1,10 @@
 -- For which state a shard stands after its calls.
 use Rattle.std.proofs.Common.{◌≡◌, ◌==◌, ℕ, ◌+◌, ◌-◌, ◌*◌, ◌/◌, ◌<◌, ◌≤◌, Bool, true, false, List, [], ◌∷◌, ◌++◌, length, take, drop, map, sum_by, Option, Some, None, All, AllPairs, refl, sym, ap, subst, ◌∙◌, arith, append-nil, append_assoc}
+use Rattle.std.specs.Prelude.{Err, IfOk, IfSome, Ok, OnErr, Result}
 use Rattle.std.specs.List.{AllZip}
 use Rattle.std.proofs.Math.Seq.{drop-append-le}
 use Rattle.std.proofs.lemmas.List.Elements.{All-append, All-cons}
-use Rattle.std.proofs.lemmas.List.Sums.{sum_by-append}
+use Rattle.std.proofs.lemmas.List.Sums.{sum_by_push}
 use Rattle.lsa_region.specs.Region.{live_bytes}
 use Rattle.rc_outside.specs.Files.{Files}
 use Rattle.rc_schema.specs.SchemaValue.{SchemaValue}
@@ -14,16 +15,21 @@ use Rattle.rc_mutation.specs.Source.{IsMutation}
 use Rattle.rc_query.specs.declared.lines.OutLine.{OutLine}
 use Rattle.rc_lines.specs.Fits.{CommandFits}
 use Rattle.rc_lines.specs.declared.commands.Command.TheVariants.{Put}
-use Rattle.rc_memory.specs.Memory.{Memory}
-use Rattle.rc_snapshots.specs.Seeing.{AllStillSee, StillSeeBoth}
+use Rattle.rc_memory.specs.Memory.{HasPin, Memory}
+use Rattle.rc_chain.specs.declared.chains.Snap.{Snap}
+use Rattle.rc_snapshots.specs.declared.snaps.Snaps.{Snaps}
+use Rattle.rc_snapshots.specs.Seeing.{AllStillSee, StillSeeBoth, StillSees}
 use Rattle.rc_unstored.specs.declared.unstored.Unstored.{Unstored}
-use Rattle.rc_unstored.specs.Memtables.{HaveWrites}
+use Rattle.rc_unstored.specs.Memtables.{HaveWrites, in_chains}
+use Rattle.rc_unstored.specs.Readers.{IsNoneOf, IsSnapshotOfKey}
 use Rattle.rc_opened.specs.declared.opened.Opened.{Opened}
 use Rattle.rc_opened.specs.Opened.{snaps_of}
 use Rattle.rc_folder.specs.Tabled.{Tabled}
 use Rattle.rc_folder.specs.laws.Over.{over_reading, over_written}
 use Rattle.rc_machine.specs.Room.{MayBeFull}
-use Rattle.rc_machine.specs.State.{Reader, State, unstored}
+use Rattle.rc_tfile.specs.declared.info.TableInfo.{TableInfo}
+use Rattle.rc_machine.specs.State.{Reader, State, Table, opened_state, unstored}
+use Rattle.rc_machine.specs.Tables.{AreListed, AreTables}
 use Rattle.rc_shard.specs.Stands.{AreFor, AreSound, AreTwo, HaveUnstored, IsServed, holding}
 use Rattle.rc_memtable.specs.LetGo.{TakesNoMore}
 use Rattle.rc_shard.specs.calls.Storing.{IsKept}
@@ -45,9 +51,8 @@ sound-more m n st w is budget live s = record {
   mutations = All-append (λ (v : Write). IsMutation v.change) st.log (w ∷ []) s.mutations (All-cons (λ (v : Write). IsMutation v.change) w [] is (λ i d l. absurd (omega arith)));
   budget = budget ∙ s.budget;
   weigh =
-      let whole : weigh (st.log ++ w ∷ []) ≡ weigh st.log + weigh (w ∷ []) = sum_by-append (λ (v : Write). weight v.change) st.log (w ∷ []) in
-      let one : weigh (w ∷ []) ≡ weight w.change + 0 = refl in
-      let a = s.weigh in omega (arith, whole, one, live, a);
+      let whole : weigh (st.log ++ w ∷ []) ≡ weigh st.log + weight w.change = sum_by_push (λ (v : Write). weight v.change) st.log w in
+      let a = s.weigh in omega (arith, whole, live, a);
 }
 
 pub unstored-more : (schema : SchemaValue) (u v : Unstored 131072) (m : State) (w : Write) → m.stored ≤ length m.log → ((writes later : List Write) → HaveWrites schema u writes later → HaveWrites schema v writes (later ++ w ∷ [])) → HaveUnstored schema u m → HaveUnstored schema v (record m { log = m.log ++ w ∷ [] })
@@ -63,13 +68,52 @@ unstored-more schema u v m w in_log stands h = record {
 pub may-be-full : (n : Memory) (m : State) → AreSound n m → 3 * 131072 / 4 * (length n.region.usages - 2) < live_bytes n.region → MayBeFull m
 may-be-full n m s crowded = let a = s.weigh in let b = ap (λ k. 3 * 131072 / 4 * (k - 2)) s.budget in omega (arith, a, b, crowded)
 
+-- what holds holds after a failure
+pub on-err : {A E : Type 0} (r : Result A E) (P : Type 0) → P → OnErr r P
+on-err (Ok x) P h = tt
+on-err (Err e) P h = h
+
+pub on-err-weaker : {A E : Type 0} (r : Result A E) (P Q : Type 0) → (P → Q) → OnErr r P → OnErr r Q
+on-err-weaker (Ok x) P Q f h = tt
+on-err-weaker (Err e) P Q f h = f h
+
+pub if-ok-weaker : {A E : Type 0} (r : Result A E) (P Q : A → Type 0) → ((x : A) → P x → Q x) → IfOk r P → IfOk r Q
+if-ok-weaker (Ok x) P Q f h = f x h
+if-ok-weaker (Err e) P Q f h = tt
+
+-- ---- what is kept
+
+pub no-more-then : (m n l : Memory) → TakesNoMore m n → TakesNoMore n l → TakesNoMore m l
+no-more-then m n l a b = (b.0 ∙ a.0, (let x = a.1 in let y = b.1 in omega (arith, x, y)))
+
+-- in chains that are the same
+pub kept-in : (schema : SchemaValue) (u v : Unstored 131072) (m : Memory) → m ≡ v.chains → IsKept schema u v → IsKept schema u (in_chains m v)
+kept-in schema u v m e k = subst (λ (x : Memory). IsKept schema u (in_chains x v)) (sym e) k
+
+-- once snapshots are given back that were not there before
+pub kept-back : (schema : SchemaValue) (u v w : Unstored 131072) (snaps : Snaps) → IsKept schema u v → ((s : Snap) → HasPin u.chains s.chain s.pin → IsNoneOf snaps s) → ((writes later : List Write) → HaveWrites schema v writes later → HaveWrites schema w writes later) →
+    ((s : Snap) → IsNoneOf snaps s → HasPin v.chains s.chain s.pin → StillSees s v.chains w.chains) → TakesNoMore v.chains w.chains → IsKept schema u w
+kept-back schema u v w snaps k fresh stands others room = record {
+  stands = λ writes later h. stands writes later (k.stands writes later h);
+  seen = λ s on. let a = k.seen s on in let b = others s (fresh s on) a.pin in record { pin = b.pin; versions = b.versions ∙ a.versions; kind = b.kind ∙ a.kind };
+  room = (room.0 ∙ k.room.0, (let a = k.room.1 in let b = room.1 in omega (arith, a, b)));
+}
+
+-- a snapshot that was not there is none that was
+none-new : (key : List ℕ) (writes : List Write) (m n : Memory) (o : Option Snap) (s : Snap) → IsSnapshotOfKey key writes m n o → HasPin m s.chain s.pin → IfSome o (λ x. s.chain ≡ x.chain → s.pin ≡ x.pin → ⊥)
+none-new key writes m n None s h on = tt
+none-new key writes m n (Some x) s h on = λ c p. h.2 (subst (λ i. HasPin m i x.pin) c (subst (λ i. HasPin m s.chain i) p on))
+
+pub none-of-new : (key : List ℕ) (writes later : List Write) (m n l : Memory) (snaps : Snaps) → IsSnapshotOfKey key writes m n snaps.sealed → IsSnapshotOfKey key later m l snaps.active → (s : Snap) → HasPin m s.chain s.pin → IsNoneOf snaps s
+none-of-new key writes later m n l snaps a b s on = (none-new key writes m n snaps.sealed s a on, none-new key later m l snaps.active s b on)
+
 module _ (lines : Opened → Memory → List OutLine → Type 0) where
   module _ (stays : (o : Opened) (m n : Memory) (ls : List OutLine) → StillSeeBoth (snaps_of o) m n → lines o m ls → lines o n ls) where
     -- what was written stays, and so does what snapshots see
-    pub kept-for : (told : Option Files) (f : Tabled) (u v : Unstored 131072) (readers : List (ℕ × Opened)) (segments : ℕ) (m : State) → IsKept u v → AreFor lines told f u readers segments m → AreFor lines told f v readers segments m
+    pub kept-for : (told : Option Files) (f : Tabled) (u v : Unstored 131072) (readers : List (ℕ × Opened)) (segments : ℕ) (m : State) → IsKept f.schema u v → AreFor lines told f u readers segments m → AreFor lines told f v readers segments m
     kept-for told f u v readers segments m k s = record {
       over = s.over;
-      have = record { sealed = s.have.sealed; later = s.have.later; have = k.stands f.schema s.have.sealed s.have.later s.have.have; are = s.have.are; count = s.have.count };
+      have = record { sealed = s.have.sealed; later = s.have.later; have = k.stands s.have.sealed s.have.later s.have.have; are = s.have.are; count = s.have.count };
       whole = s.whole;
       left = s.left;
       budget = s.budget;
@@ -105,4 +149,18 @@ module _ (lines : Opened → Memory → List OutLine → Type 0) where
     sound = (let t = sound-less u.chains v.chains m room s.sound in record { mutations = t.mutations; budget = t.budget; weigh = t.weigh });
     served = served;
     two = two;
+  }
+
+  -- as it is opened
+  pub opened-for : (told old : Option Files) (f : Tabled) (u : Unstored 131072) (readers : List (ℕ × Opened)) (segments : ℕ) (schema : SchemaValue) (tables : List Table) → f.schema ≡ schema → told ≡ old → AreTables old schema tables → AreListed old schema tables f.infos →
+      ((s : SchemaValue) → HaveWrites s u [] []) → length u.chains.region.usages ≡ segments → live_bytes u.chains.region ≡ 0 → readers ≡ [] → AreFor lines told f u readers segments (opened_state segments old schema tables f.infos)
+  opened-for told old f u readers segments schema tables same files are listed none budget live empty = record {
+    over = record { schema = sym same; files = sym files; infos = refl; tables = are; listed = listed; stored = omega arith; sealed = omega arith; fit = λ i d l. absurd (omega (arith, l)) };
+    have = record { sealed = []; later = []; have = none f.schema; are = refl; count = refl };
+    whole = refl;
+    left = refl;
+    budget = refl;
+    sound = record { mutations = λ i d l. absurd (omega (arith, l)); budget = budget; weigh = omega (arith, live) };
+    served = subst (λ os. AllZip (IsServed lines u.chains) os []) (sym empty) tt;
+    two = subst (λ os. AllPairs AreTwo (map holding os)) (sym empty) (λ i j d l k. absurd (omega (arith, k)));
   }

@@ -1,5 +1,7 @@
 -- The steps that a shard takes.
 use Rattle.std.proofs.Common.{◌≡◌, ◌==◌, ℕ, ◌+◌, ◌-◌, ◌*◌, ◌/◌, ◌<◌, ◌≤◌, inl, inr, Bool, true, false, not, List, [], ◌∷◌, ◌++◌, length, take, drop, map, get_or, set, remove, filter, Option, Some, None, AllPairs, nat_lt, refl, sym, ap, subst, ◌∙◌, arith}
+use Rattle.std.specs.Prelude.{Err, IfOk, Ok, Result}
+use Rattle.std.specs.declared.alloc.AllocError.{AllocError}
 use Rattle.std.specs.List.{AllZip}
 use Rattle.std.specs.Map.{lookup, set_value}
 use Rattle.std.proofs.lemmas.Bool.Decides.{nat_tests}
@@ -13,11 +15,16 @@ use Rattle.rc_mutation.specs.declared.mutations.Write.{Write}
 use Rattle.rc_mutation.specs.Source.{IsJoinOf, IsMutation, changes_to}
 use Rattle.rc_query.specs.declared.lines.OutLine.{OutLine}
 use Rattle.rc_query.specs.Answer.{answer}
+use Rattle.rc_outside.specs.Faults.{Rose}
+use Rattle.rc_stream.specs.Causes.{Caused}
+use Rattle.rc_stream.specs.declared.streams.StreamErr.{StreamErr}
 use Rattle.rc_stream.specs.declared.streams.StreamErr.TheVariants as stream_err
 use Rattle.rc_tfile.specs.declared.info.TableInfo.{TableInfo}
 use Rattle.rc_tables.specs.Tables.{IsDamageOf}
 use Rattle.rc_lines.specs.Fits.{CommandFits}
 use Rattle.rc_lines.specs.declared.commands.Command.TheVariants.{Put, OpenRead, Read, Close}
+use Rattle.rc_lines.specs.declared.commands.Command.{Command}
+use Rattle.rc_lines.specs.declared.commands.Reply.{Reply}
 use Rattle.rc_lines.specs.declared.commands.Reply.TheVariants as replies
 use Rattle.rc_lines.specs.declared.commands.Refusal.TheVariants.{NoReader, ReaderInUse, TooManyReaders, ReadFault, Damaged, Full}
 use Rattle.rc_memory.specs.Memory.{HasPin, Memory}
@@ -31,13 +38,14 @@ use Rattle.rc_opened.specs.Opened.{snaps_of}
 use Rattle.rc_machine.specs.State.{Reader, State, unstored}
 use Rattle.rc_machine.specs.Standing.{IsOver}
 use Rattle.rc_machine.specs.Steps.{IsSaid, most_readers, reader_past, reader_with}
-use Rattle.rc_machine.specs.Serving.{Takes}
+use Rattle.rc_machine.specs.Serving.{FaultsAreCounted, OnFaulty, Takes}
 use Rattle.rc_shard.specs.declared.shard.Shard.{Shard}
 use Rattle.rc_shard.specs.Stands.{AreFor, AreOfTwo, AreTwo, IsServed, Stands, holding}
 use Rattle.rc_memtable.specs.LetGo.{TakesNoMore}
+use Rattle.rc_shard.specs.calls.Keeping.{Keeps, TellsOf}
 use Rattle.rc_shard.specs.calls.Storing.{IsKept}
 use Rattle.rc_shard.proofs.Places.{IsNowhere, IsPlace, one-of}
-use Rattle.rc_shard.proofs.Served.{IsFound, all-served, fewer-two, look-none, look-some, removed-served, same-two, served-count, set-served}
+use Rattle.rc_shard.proofs.Served.{IsFound, all-served, fewer-two, look-none, look-some, removed-served, same-two, served-count, set-kept, set-served}
 use Rattle.rc_shard.proofs.Standing.{kept-for, may-be-full, reading-for, sound-less, written-for}
 
 fewer : (n : ℕ) → n < most_readers → nat_lt n most_readers ≡ true
@@ -50,6 +58,24 @@ as-many n h = grind (arith, nat_tests, h)
 pub no-more-same : (m n : Memory) → n ≡ m → TakesNoMore m n
 no-more-same m n e = (ap (λ (x : Memory). length x.region.usages) e, (let a = ap (λ (x : Memory). live_bytes x.region) e in omega (arith, a)))
 
+not-less : (e : StreamErr) (files : Option Files) (before now : ℕ) → Caused {T = Mutation} (Err e) files before now → before ≤ now
+not-less stream_err.Fault files before now c = c.0
+not-less (stream_err.Damaged file offset) files before now c = c.0
+not-less stream_err.NoMemory files before now c = c
+
+-- its reply tells a fault only where the store's count of faults rose
+told-faults : (files : Option Files) (e : StreamErr) (before now : ℕ) (reply : Reply) → Caused {T = Mutation} (Err e) files before now → TellsOf e reply → OnFaulty reply (Rose before now)
+told-faults files stream_err.Fault before now reply c told = subst (λ q. OnFaulty q (Rose before now)) (sym told) c.1
+told-faults files (stream_err.Damaged file offset) before now reply c told = subst (λ q. OnFaulty q (Rose before now)) (sym told) tt
+told-faults files stream_err.NoMemory before now reply c told = absurd told
+
+each-told : (files : Option Files) (e : StreamErr) (before now : ℕ) (r : Result Reply AllocError) → Caused {T = Mutation} (Err e) files before now → IfOk r (TellsOf e) → IfOk r (λ reply. OnFaulty reply (Rose before now))
+each-told files e before now (Ok reply) c told = told-faults files e before now reply c told
+each-told files e before now (Err x) c told = tt
+
+pub unread-faults : (files : Option Files) (e : StreamErr) (before now : ℕ) (r : Result Reply AllocError) → Caused {T = Mutation} (Err e) files before now → IfOk r (TellsOf e) → FaultsAreCounted r before now
+unread-faults files e before now r c told = (not-less e files before now c, each-told files e before now r c told)
+
 module _ (lines : Opened → Memory → List OutLine → Type 0) where
   pub moved : (files : Option Files) (k k' : Shard) (u : Unstored 131072) (os : List (ℕ × Opened)) (m : State) → k'.folder ≡ k.folder → k'.unstored ≡ u → k'.segments ≡ k.segments → k'.readers.items ≡ os → AreFor lines files k.folder u os k.segments m → Stands lines files k' m
   moved files k k' u os m folder unst segs items h =
@@ -58,6 +84,16 @@ module _ (lines : Opened → Memory → List OutLine → Type 0) where
       (subst (λ v. AreFor lines files k'.folder v os k.segments m) (sym unst)
       (subst (λ f. AreFor lines files f u os k.segments m) (sym folder) h)))
 
+  pub to-files : (files : Option Files) (k k' : Shard) (files' : Option Files) (command : Command) (reply : Reply) → files' ≡ files → Takes (Stands lines) files k command reply files k' → Takes (Stands lines) files k command reply files' k'
+  to-files files k k' files' command reply e t = subst (λ now. Takes (Stands lines) files k command reply now k') (sym e) t
+
+  pub keeps-files : (files files' : Option Files) (k : Shard) (m : State) → files' ≡ files → Stands lines files k m → Stands lines files' k m
+  keeps-files files files' k m e s = subst (λ told. Stands lines told k m) (sym e) s
+
+  -- the machine's reader of an id, where the shard's stands at a place
+  pub found-at : (files : Option Files) (k : Shard) (m : State) (id at : ℕ) (d : ℕ × Opened) → Stands lines files k m → IsPlace id k.readers.items at → get_or k.readers.items at d ≡ d → IsFound lines k.unstored.chains id d m.readers
+  found-at files k m id at d s p here = subst (λ (o : ℕ × Opened). IsFound lines k.unstored.chains id o m.readers) here (look-some lines k.unstored.chains id at d k.readers.items m.readers s.served p)
+
   -- ---- steps that change nothing
 
   pub takes-in-use : (files : Option Files) (k : Shard) (id at : ℕ) (key : List ℕ) (slice : Slice) → IsPlace id k.readers.items at → Takes (Stands lines) files k (OpenRead id key slice) (replies.Refused ReaderInUse) files k
@@ -65,15 +101,15 @@ module _ (lines : Opened → Memory → List OutLine → Type 0) where
       let f = look-some lines k.unstored.chains id at (one-of id k.readers.items at p) k.readers.items m.readers s.served p in
       (m, rw (f.found) (refl, refl), s)
 
-  few : (files : Option Files) (k : Shard) (m : State) → Stands lines files k m → length k.readers.items < most_readers → nat_lt (length m.readers) most_readers ≡ true
-  few files k m s h = fewer (length m.readers) (subst (λ n. n < most_readers) (sym (served-count lines k.unstored.chains k.readers.items m.readers s.served)) h)
+  few-open : (files : Option Files) (k : Shard) (m : State) → Stands lines files k m → length k.readers.items < most_readers → nat_lt (length m.readers) most_readers ≡ true
+  few-open files k m s h = fewer (length m.readers) (subst (λ n. n < most_readers) (sym (served-count lines k.unstored.chains k.readers.items m.readers s.served)) h)
 
   pub takes-too-many : (files : Option Files) (k : Shard) (id : ℕ) (key : List ℕ) (slice : Slice) → IsNowhere id k.readers.items → most_readers ≤ length k.readers.items → Takes (Stands lines) files k (OpenRead id key slice) (replies.Refused TooManyReaders) files k
   takes-too-many files k id key slice none many = λ m s.
       (m, rw (look-none lines k.unstored.chains id k.readers.items m.readers s.served none, as-many (length m.readers) (subst (λ n. most_readers ≤ n) (sym (served-count lines k.unstored.chains k.readers.items m.readers s.served)) many)) (refl, refl), s)
 
   pub takes-fault : (files : Option Files) (k : Shard) (id : ℕ) (key : List ℕ) (slice : Slice) → IsNowhere id k.readers.items → length k.readers.items < most_readers → Takes (Stands lines) files k (OpenRead id key slice) (replies.Refused ReadFault) files k
-  takes-fault files k id key slice none h = λ m s. (m, rw (look-none lines k.unstored.chains id k.readers.items m.readers s.served none, few files k m s h) (inr (inl (refl, refl))), s)
+  takes-fault files k id key slice none h = λ m s. (m, rw (look-none lines k.unstored.chains id k.readers.items m.readers s.served none, few-open files k m s h) (inr (inl (refl, refl))), s)
 
   pub takes-damaged : (files : Option Files) (k : Shard) (id : ℕ) (key : List ℕ) (slice : Slice) (file offset : ℕ) → IsNowhere id k.readers.items → length k.readers.items < most_readers →
       files ≡ None → IsDamageOf k.folder.schema key k.folder.infos (stream_err.Damaged file offset) → Takes (Stands lines) files k (OpenRead id key slice) (replies.Refused (Damaged file offset)) files k
@@ -81,7 +117,17 @@ module _ (lines : Opened → Memory → List OutLine → Type 0) where
       let damaged : IsDamageOf m.schema key m.infos (stream_err.Damaged file offset) =
       subst (λ (schema : SchemaValue). IsDamageOf schema key m.infos (stream_err.Damaged file offset)) (sym s.over.schema)
       (subst (λ (infos : List TableInfo). IsDamageOf k.folder.schema key infos (stream_err.Damaged file offset)) (sym s.over.infos) damage) in
-      (m, rw (look-none lines k.unstored.chains id k.readers.items m.readers s.served none, few files k m s h) (inr (inr (file, offset, s.over.files ∙ untold, damaged, (refl, refl)))), s)
+      (m, rw (look-none lines k.unstored.chains id k.readers.items m.readers s.served none, few-open files k m s h) (inr (inr (file, offset, s.over.files ∙ untold, damaged, (refl, refl)))), s)
+
+  -- what the tables say could not be read
+  pub unread-of : (files files' : Option Files) (k : Shard) (id : ℕ) (key : List ℕ) (slice : Slice) (e : StreamErr) (before now : ℕ) (r : Result Reply AllocError) → files' ≡ files → IsNowhere id k.readers.items → length k.readers.items < most_readers → IsDamageOf k.folder.schema key k.folder.infos e →
+      Caused {T = Mutation} (Err e) files before now → IfOk r (TellsOf e) → IfOk r (λ reply. Takes (Stands lines) files k (OpenRead id key slice) reply files' k)
+  unread-of files files' k id key slice e before now (Err x) still none h damage cause told = tt
+  unread-of files files' k id key slice stream_err.Fault before now (Ok reply) still none h damage cause told =
+      subst (λ q. Takes (Stands lines) files k (OpenRead id key slice) q files' k) (sym told) (to-files files k k files' (OpenRead id key slice) (replies.Refused ReadFault) still (takes-fault files k id key slice none h))
+  unread-of files files' k id key slice (stream_err.Damaged file offset) before now (Ok reply) still none h damage cause told =
+      subst (λ q. Takes (Stands lines) files k (OpenRead id key slice) q files' k) (sym told) (to-files files k k files' (OpenRead id key slice) (replies.Refused (Damaged file offset)) still (takes-damaged files k id key slice file offset none h cause.1 damage))
+  unread-of files files' k id key slice stream_err.NoMemory before now (Ok reply) still none h damage cause told = absurd told
 
   pub takes-no-read : (files : Option Files) (k : Shard) (id count : ℕ) → IsNowhere id k.readers.items → Takes (Stands lines) files k (Read id count) (replies.Refused NoReader) files k
   takes-no-read files k id count none = λ m s. (m, rw (look-none lines k.unstored.chains id k.readers.items m.readers s.served none) (refl, refl), s)
@@ -98,14 +144,23 @@ module _ (lines : Opened → Memory → List OutLine → Type 0) where
   takes-open files k k' id key slice join none h said made = λ m s.
       let all = said m s.over in
       (record m { readers = m.readers ++ (id, reader_with m key slice (answer (all.0 ++ changes_to key (unstored m)) slice)) ∷ [] },
-       rw (look-none lines k.unstored.chains id k.readers.items m.readers s.served none, few files k m s h) (inl (all.0, all.1, (refl, refl))), made m all.0 s all.2)
+       rw (look-none lines k.unstored.chains id k.readers.items m.readers s.served none, few-open files k m s h) (inl (all.0, all.1, (refl, refl))), made m all.0 s all.2)
+
+  -- what was answered of an opening
+  pub opened-of : (files files' : Option Files) (k k' : Shard) (id : ℕ) (key : List ℕ) (slice : Slice) (join : Mutation) (r : Result Reply AllocError) → files' ≡ files → IsNowhere id k.readers.items → length k.readers.items < most_readers →
+      ((m : State) → IsOver files k.folder.schema k.folder.infos m → (said : List Mutation) × IsSaid m key said × IsJoinOf join said) → IfOk r (λ reply. reply ≡ replies.Fine) →
+      ((m : State) (said : List Mutation) → Stands lines files k m → IsJoinOf join said → IfOk r (λ _. Stands lines files k' (record m { readers = m.readers ++ (id, reader_with m key slice (answer (said ++ changes_to key (unstored m)) slice)) ∷ [] }))) →
+      IfOk r (λ reply. Takes (Stands lines) files k (OpenRead id key slice) reply files' k')
+  opened-of files files' k k' id key slice join (Ok reply) still none few said fine made =
+      subst (λ q. Takes (Stands lines) files k (OpenRead id key slice) q files' k') (sym fine) (to-files files k k' files' (OpenRead id key slice) replies.Fine still (takes-open files k k' id key slice join none few said made))
+  opened-of files files' k k' id key slice join (Err e) still none few said fine made = tt
 
   pub takes-read : (files : Option Files) (k k' : Shard) (id count at : ℕ) (d x : ℕ × Opened) (gave : List OutLine) (more : Bool) → IsPlace id k.readers.items at → get_or k.readers.items at d ≡ d →
       ((ls : List OutLine) → lines d.1 k.unstored.chains ls → gave ≡ take count ls) → ((ls : List OutLine) → lines d.1 k.unstored.chains ls → more ≡ nat_lt count (length ls)) →
       ((ls : List OutLine) → lines d.1 k.unstored.chains ls → lines x.1 k'.unstored.chains (drop count ls)) → x.0 ≡ d.0 → snaps_of x.1 ≡ snaps_of d.1 →
       k'.folder ≡ k.folder → k'.unstored ≡ k.unstored → k'.segments ≡ k.segments → k'.readers.items ≡ set k.readers.items at x → Takes (Stands lines) files k (Read id count) (replies.Given gave more) files k'
   takes-read files k k' id count at d x gave more p here first left rest same snaps folder unst segs items = λ m s.
-      let f : IsFound lines k.unstored.chains id d m.readers = subst (λ (o : ℕ × Opened). IsFound lines k.unstored.chains id o m.readers) here (look-some lines k.unstored.chains id at d k.readers.items m.readers s.served p) in
+      let f = found-at files k m id at d s p here in
       let r : Reader = f.reader in
       let given : List (ℕ × Reader) = set_value (λ q. q == id) m.readers (reader_past count r) in
       let reply : replies.Given gave more ≡ replies.Given (take count r.rest) (nat_lt count (length r.rest)) = λ i. replies.Given (first r.rest f.left i) (left r.rest f.left i) in
@@ -118,6 +173,18 @@ module _ (lines : Opened → Memory → List OutLine → Type 0) where
       let stands = reading-for lines files k.folder k.unstored k.unstored k.readers.items (set k.readers.items at x) k.segments m given (λ writes later h. h) (no-more-same k.unstored.chains k.unstored.chains refl) served pairs s in
       (record m { readers = given }, rw (f.found) (inl (reply, refl)),
        moved files k k' k.unstored (set k.readers.items at x) (record m { readers = given }) folder unst segs items stands)
+
+  -- a reader gave none, for want of memory
+  pub keeps-read : (k k' : Shard) (id at : ℕ) (d x : ℕ × Opened) → IsPlace id k.readers.items at → get_or k.readers.items at d ≡ d → ((ls : List OutLine) → lines d.1 k.unstored.chains ls → lines x.1 k'.unstored.chains ls) → x.0 ≡ d.0 → snaps_of x.1 ≡ snaps_of d.1 →
+      k'.folder ≡ k.folder → k'.unstored ≡ k.unstored → k'.segments ≡ k.segments → k'.readers.items ≡ set k.readers.items at x → Keeps (Stands lines) k k'
+  keeps-read k k' id at d x p here rest same snaps folder unst segs items = λ files m s.
+      let chains : k'.unstored.chains ≡ k.unstored.chains = ap (λ u. u.chains) unst in
+      let left : (ls : List OutLine) → lines (get_or k.readers.items at d).1 k.unstored.chains ls → lines x.1 k.unstored.chains ls =
+      λ ls h. subst (λ (mem : Memory). lines x.1 mem ls) chains (rest ls (subst (λ (o : ℕ × Opened). lines o.1 k.unstored.chains ls) here h)) in
+      let served = set-kept lines k.unstored.chains id at d x k.readers.items m.readers (same ∙ ap (λ (o : ℕ × Opened). o.0) (sym here)) left (snaps ∙ ap (λ (o : ℕ × Opened). snaps_of o.1) (sym here)) p s.served in
+      let pairs = same-two id at d x k.readers.items p (same ∙ ap (λ (o : ℕ × Opened). o.0) (sym here)) (snaps ∙ ap (λ (o : ℕ × Opened). snaps_of o.1) (sym here)) s.two in
+      let stands = reading-for lines files k.folder k.unstored k.unstored k.readers.items (set k.readers.items at x) k.segments m m.readers (λ writes later h. h) (no-more-same k.unstored.chains k.unstored.chains refl) served pairs s in
+      moved files k k' k.unstored (set k.readers.items at x) m folder unst segs items stands
 
   module _ (stays : (o : Opened) (m n : Memory) (ls : List OutLine) → StillSeeBoth (snaps_of o) m n → lines o m ls → lines o n ls) where
     pub takes-close : (files : Option Files) (k k' : Shard) (id at : ℕ) (d : ℕ × Opened) → IsPlace id k.readers.items at → get_or k.readers.items at d ≡ d → k'.folder ≡ k.folder → k'.segments ≡ k.segments → k'.readers.items ≡ remove k.readers.items at →
@@ -142,8 +209,13 @@ module _ (lines : Opened → Memory → List OutLine → Type 0) where
         (record m { log = m.log ++ w ∷ [] }, inl (refl, refl),
          moved files k k' k'.unstored k.readers.items (record m { log = m.log ++ w ∷ [] }) folder refl segs items (written-for lines stays files k.folder k.unstored k'.unstored k.readers.items k.segments m w fits is stands seen budget live s))
 
-    pub takes-full : (files : Option Files) (k k' : Shard) (w : Write) → k'.folder ≡ k.folder → k'.segments ≡ k.segments → k'.readers.items ≡ k.readers.items → IsKept k.unstored k'.unstored →
+    pub takes-full : (files : Option Files) (k k' : Shard) (w : Write) → k'.folder ≡ k.folder → k'.segments ≡ k.segments → k'.readers.items ≡ k.readers.items → IsKept k.folder.schema k.unstored k'.unstored →
         3 * 131072 / 4 * (length k'.unstored.chains.region.usages - 2) < live_bytes k'.unstored.chains.region → Takes (Stands lines) files k (Put w) (replies.Refused Full) files k'
     takes-full files k k' w folder segs items kept crowded = λ m s.
         let new = kept-for lines stays files k.folder k.unstored k'.unstored k.readers.items k.segments m kept s in
         (m, inr (may-be-full k'.unstored.chains m new.sound crowded, (refl, refl)), moved files k k' k'.unstored k.readers.items m folder refl segs items new)
+
+    -- what was written stays, and so does what snapshots see
+    pub keeps-kept : (k k' : Shard) → k'.folder ≡ k.folder → k'.segments ≡ k.segments → k'.readers.items ≡ k.readers.items → ((schema : SchemaValue) → schema ≡ k.folder.schema → IsKept schema k.unstored k'.unstored) → Keeps (Stands lines) k k'
+    keeps-kept k k' folder segs items kept = λ files m s.
+        moved files k k' k'.unstored k.readers.items m folder refl segs items (kept-for lines stays files k.folder k.unstored k'.unstored k.readers.items k.segments m (kept k.folder.schema refl) s)

@@ -1,6 +1,7 @@
 //! The shard.
-ghost use Rattle.std.specs.Prelude.{◌≡◌, ◌+◌, ◌*◌, ◌≤◌, ◌==◌, ◌++◌, ◌∷◌, [], ℕ, All, AllPairs, List, Option, None, Some, IsTrue, IfErr, IfOk, IfSome, OnErr, map, position};
+ghost use Rattle.std.specs.Prelude.{◌≡◌, ◌+◌, ◌*◌, ◌≤◌, ◌==◌, ◌++◌, ◌∷◌, [], ℕ, AllPairs, List, Option, None, Some, IsTrue, IfErr, IfOk, IfSome, OnErr, map, position};
 ghost use Rattle.std.specs.FinMap.{values};
+ghost use Rattle.std.specs.List.{AllByRecursion};
 ghost use Rattle.rc_outside.specs.Files.{Files, HoldsSameFiles};
 ghost use Rattle.rc_outside.specs.Faults.{RisesIfFault, Rose};
 ghost use Rattle.rc_mutation.specs.declared.mutations.Mutation.{Mutation as Change};
@@ -26,7 +27,7 @@ ghost use Rattle.rc_folder.specs.Opening.{IsOpeningRefused, OnOpenFault};
 ghost use Rattle.rc_folder.specs.Tabled.{IsNextNumber};
 ghost use Rattle.rc_shard.specs.Counting.{counted, figures_of};
 ghost use Rattle.rc_shard.specs.Stands.{AreOfTwo, AreTwo, holding};
-ghost use Rattle.rc_shard.specs.calls.Keeping.{CountsStay, Keeps};
+ghost use Rattle.rc_shard.specs.calls.Keeping.{CountsStay, Keeps, TellsOf};
 ghost use Rattle.rc_shard.specs.calls.Storing.{IsFlushAnswered, IsKept};
 
 use crate::counts::Answered;
@@ -42,7 +43,7 @@ use rc_stream::StreamErr;
 use rc_tfile::WriteErr;
 use rc_snapshots::laws::a_snapshot_sees_what_it_saw;
 use rc_unstored::Unstored;
-use rc_unstored::laws::what_a_snapshot_of_a_key_sees;
+use rc_unstored::laws::{both_say_what_was_written, what_a_call_leaves_of_the_room, what_a_snapshot_of_a_key_sees};
 use std::alloc::{AllocError, Global};
 
 /// The most readers that may be open at once.
@@ -236,6 +237,7 @@ impl Shard {
         ensures counts { CountsStay self.old self.new }
     {
         what_is_left_stays_where_the_snapshots_see_the_same::<131_072>();
+        what_a_call_leaves_of_the_room();
         write.change.holds_together();
         let schema = self.folder.schema();
         let _entry = schema.largest_entry();
@@ -272,11 +274,7 @@ impl Shard {
         }
         match self.folder.read(alloc, store, key) {
             Ok(tables) => self.open_over(alloc, id, key, slice, &tables),
-            Err(StreamErr::Fault) => Ok(Reply::Refused(Refusal::ReadFault)),
-            Err(StreamErr::Damaged { file, offset }) => {
-                Ok(Reply::Refused(Refusal::Damaged { file, offset }))
-            }
-            Err(StreamErr::NoMemory) => Err(AllocError),
+            Err(error) => not_read(error),
         }
     }
 
@@ -298,6 +296,7 @@ impl Shard {
         ensures counts { CountsStay self.old self.new }
     {
         what_is_left_stays_where_the_snapshots_see_the_same::<131_072>();
+        both_say_what_was_written();
         self.readers.reserve(1)?;
         let opened = open_in(alloc, &mut self.unstored, key, slice, tables)?;
         match self.readers.push((id, opened)) {
@@ -374,12 +373,13 @@ impl Shard {
         requires stands { (m : State) × ⟦<Shard as Serves>⟧.stands (W.files store.old) self.old m }
         requires number { IsNextNumber self.old.folder.infos (Some number) }
         ensures written { IfOk result (IsFlushAnswered (W.files store.old) self.old number (W.files store.new) self.new) }
-        ensures err { OnErr result ((self.new.folder ≡ self.old.folder) × IsKept self.old.unstored self.new.unstored × (W.files store.new ≡ W.files store.old)) }
+        ensures err { OnErr result ((self.new.folder ≡ self.old.folder) × IsKept self.old.folder.schema self.old.unstored self.new.unstored × (W.files store.new ≡ W.files store.old)) }
         ensures faults { FaultsAreCounted result (W.faults store.old) (W.faults store.new) }
         ensures asks { W.asks store.new ≡ W.asks store.old }
         ensures readers { self.new.readers ≡ self.old.readers }
         ensures counts { CountsStay self.old self.new }
     {
+        what_a_call_leaves_of_the_room();
         let parts = self.unstored.sealed_partitions(alloc)?;
         match self.folder.add(alloc, store, number, parts.as_slice()) {
             Ok(()) => {
@@ -406,11 +406,12 @@ fn open_in(
     ensures there { IfOk result (λ o. AreThere unstored.new.chains (snaps_of o)) }
     ensures two { IfOk result (λ o. AreOfTwo (snaps_of o)) }
     ensures fresh { IfOk result (λ o. (s : Snapshot) → HasPin unstored.old.chains s.chain s.pin → IsNoneOf (snaps_of o) s) }
-    ensures kept { IsKept unstored.old unstored.new }
+    ensures kept { (schema : SchemaValue) → IsKept schema unstored.old unstored.new }
 {
-    let snaps = unstored.snapshot(key)?;
+    what_a_call_leaves_of_the_room();
     what_a_snapshot_of_a_key_sees();
     a_snapshot_sees_what_it_saw();
+    let snaps = unstored.snapshot(key)?;
     match Opened::open(alloc, &mut unstored.chains, snaps, tables, slice) {
         Ok(opened) => Ok(opened),
         Err((snaps, error)) => {
@@ -422,8 +423,7 @@ fn open_in(
 
 // Takes the snapshots of all readers back.
 fn close_all(unstored: Unstored<131_072>, readers: Vec<(u32, Opened)>)
-    requires there { All (λ o. AreThere unstored.chains (snaps_of o.1)) readers.items }
-    requires chains { All (λ o. AreOfTwo (snaps_of o.1)) readers.items }
+    requires held { AllByRecursion (λ o. AreThere unstored.chains (snaps_of o.1) × AreOfTwo (snaps_of o.1)) readers.items }
     requires two { AllPairs AreTwo (map holding readers.items) }
 {
     let mut unstored = unstored;
@@ -439,6 +439,19 @@ fn place_of(readers: &[(u32, Opened)], id: u32) -> Option<usize>
     ensures { result ≡ position (λ reader. reader.0 == id) readers.now }
 {
     readers.iter().position(|reader| reader.0 == id)
+}
+
+// The reply to an opening, where what the tables say could not be read.
+fn not_read(error: StreamErr) -> Result<Reply, AllocError>
+    ensures { IfOk result (TellsOf error) }
+{
+    match error {
+        StreamErr::Fault => Ok(Reply::Refused(Refusal::ReadFault)),
+        StreamErr::Damaged { file, offset } => {
+            Ok(Reply::Refused(Refusal::Damaged { file, offset }))
+        }
+        StreamErr::NoMemory => Err(AllocError),
+    }
 }
 
 // The reply to a flush that the store refused.

@@ -15,9 +15,9 @@ use Rattle.rc_folder.specs.Tabled.{IsAdded}
 use Rattle.rc_shard.specs.declared.shard.Shard.{Shard}
 use Rattle.rc_memtable.specs.LetGo.{TakesNoMore}
 
--- what was written stays, and so does what snapshots see, in a region of as many segments, in which no more is live
-pub record IsKept (old new : Unstored 131072) : Type 0 where
-  pub stands : (schema : SchemaValue) (writes later : List Write) → HaveWrites schema old writes later → HaveWrites schema new writes later
+-- what was written stays under a schema, and so does what snapshots see, in a region of as many segments, in which no more is live
+pub record IsKept (schema : SchemaValue) (old new : Unstored 131072) : Type 0 where
+  pub stands : (writes later : List Write) → HaveWrites schema old writes later → HaveWrites schema new writes later
   pub seen : AllStillSee old.chains new.chains
   pub room : TakesNoMore old.chains new.chains
 
@@ -33,4 +33,4 @@ pub record IsTableStored (files : Option Files) (k : Shard) (n : ℕ) (files' : 
 -- the reply to a flush: the sealed writes stand in table n, or the store failed and they are still sealed
 abbrev pub IsFlushAnswered : Option Files → Shard → ℕ → Option Files → Shard → Reply → Type 0
 IsFlushAnswered files k n files' k' reply =
-    ((reply ≡ replies.Fine) × IsTableStored files k n files' k') ⊎ ((reply ≡ replies.Refused WriteFault) × (k'.folder ≡ k.folder) × IsKept k.unstored k'.unstored × (files' ≡ files))
+    ((reply ≡ replies.Fine) × IsTableStored files k n files' k') ⊎ ((reply ≡ replies.Refused WriteFault) × (k'.folder ≡ k.folder) × IsKept k.folder.schema k.unstored k'.unstored × (files' ≡ files))

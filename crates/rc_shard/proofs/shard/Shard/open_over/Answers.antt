@@ -1,0 +1,20 @@
+-- The reader that was opened stands behind the others.
+use Rattle.std.proofs.Common.{◌≡◌, ◌==◌, ℕ, List, ◌++◌, ◌∷◌, [], Option, Some, None, position, refl, sym, ap, subst, ◌∙◌}
+use Rattle.rc_opened.specs.declared.opened.Opened.{Opened}
+use Rattle.rc_shard.specs.declared.shard.Shard.{Shard}
+use Rattle.rc_shard.proofs.Opening.{opens-reader}
+use Rattle.rc_shard.proofs.Standing.{on-err}
+use Rattle.rc_shard.proofs.Taking.{keeps-kept}
+use Rattle.rc_shard.proofs.shard.Shard.open_over.Goals as goal
+
+pub returns-in_err-opened-clause-err : goal.returns-in_err-opened-clause-err
+returns-in_err-opened-clause-err c =
+    on-err _ _ (keeps-kept _ c.what_is_left_stays_where_the_snapshots_see_the_same.ensures c.args.self.now (record c.args.self.now { unstored = c.open_in.new.unstored; readers = c.reserve.new.self }) refl refl c.reserve.ensures.items (λ schema e. c.open_in.ensures.kept schema))
+
+pub returns-clause-opened : goal.returns-clause-opened
+returns-clause-opened c = λ files m said s j.
+    let x : Opened = c.in_ok-opened.opened in
+    let new : Shard = record c.args.self.now { unstored = c.open_in.new.unstored; readers = c.push.new.self } in
+    let items : c.push.new.self.items ≡ c.args.self.now.readers.items ++ (c.args.id, x) ∷ [] = c.in-Ok.ensures.items ∙ ap (λ (os : List (ℕ × Opened)). os ++ (c.args.id, x) ∷ []) c.reserve.ensures.items in
+    opens-reader _ c.what_is_left_stays_where_the_snapshots_see_the_same.ensures files c.args.self.now new c.args.id c.args.key.now c.args.slice.now c.args.tables.now x (λ writes later. c.both_say_what_was_written.ensures.changes c.args.key.now writes later)
+    c.requires.unused refl refl items (λ schema. c.open_in.ensures.kept schema) (λ schema writes later said h j fit more. c.in_ok-opened.ensures.gives schema writes later said h j fit more) c.in_ok-opened.ensures.there c.in_ok-opened.ensures.two c.in_ok-opened.ensures.fresh m said s j

@@ -1,0 +1,41 @@
+-- The reader's place is that of its id.
+use Rattle.std.proofs.Common.{◌≡◌, ◌==◌, ℕ, List, Option, Some, None, position, set, refl, sym, ap, subst, ◌∙◌, arith}
+use Rattle.std.specs.Vec.{with_item}
+use Rattle.rc_memory.specs.Memory.{Memory}
+use Rattle.rc_unstored.specs.Memtables.{in_chains}
+use Rattle.rc_opened.specs.declared.opened.Opened.{Opened}
+use Rattle.rc_shard.specs.declared.shard.Shard.{Shard}
+use Rattle.rc_shard.proofs.Places.{IsPlace, nowhere-of, place-of}
+use Rattle.rc_shard.proofs.Standing.{on-err}
+use Rattle.rc_shard.proofs.Taking.{found-at, keeps-read, takes-no-read, takes-read}
+use Rattle.rc_shard.proofs.shard.Shard.read.Goals as goal
+
+pub read-requires : goal.read-requires
+read-requires c =
+    let s = c.requires in
+    let at = place-of c.args.id c.args.self.now.readers.items c.in-Some.at (subst (λ (os : List (ℕ × Opened)). position (λ reader. reader.0 == c.args.id) os ≡ Some c.in-Some.at) c.as_slice.ensures.value (sym c.in-Some.ensures)) in
+    let f = found-at _ s.0 c.args.self.now s.1 c.args.id c.in-Some.at c.index_mut-reader.result.now s.2 at (sym c.index_mut-reader.ensures.value) in
+    (omega arith, (f.reader.rest, f.left))
+
+pub returns-in_err-lines-in-Some-clause-err : goal.returns-in_err-lines-in-Some-clause-err
+returns-in_err-lines-in-Some-clause-err c =
+    let at = place-of c.args.id c.args.self.now.readers.items c.in-Some.at (subst (λ (os : List (ℕ × Opened)). position (λ reader. reader.0 == c.args.id) os ≡ Some c.in-Some.at) c.as_slice.ensures.value (sym c.in-Some.ensures)) in
+    let pair : ℕ × Opened = (c.index_mut-reader.result.now.0, c.read.new.self) in
+    let same : pair.0 ≡ c.index_mut-reader.result.now.0 = refl in
+    let new : Shard = record c.args.self.now { unstored = in_chains c.read.new.chains c.args.self.now.unstored; readers = with_item c.args.self.now.readers c.in-Some.at pair } in
+    on-err _ _ (keeps-read _ c.args.self.now new c.args.id c.in-Some.at c.index_mut-reader.result.now pair at (sym c.index_mut-reader.ensures.value) c.in_err-lines-in-Some.ensures.left same c.read.ensures.snaps
+    refl (ap (λ (x : Memory). in_chains x c.args.self.now.unstored) c.read.ensures.chains) refl refl)
+
+pub returns-in-None-clause-step : goal.returns-in-None-clause-step
+returns-in-None-clause-step c = λ files.
+    takes-no-read _ files c.args.self.now c.args.id c.args.count (nowhere-of c.args.id c.args.self.now.readers.items (subst (λ (os : List (ℕ × Opened)). position (λ reader. reader.0 == c.args.id) os ≡ None) c.as_slice.ensures.value (sym c.in-None.ensures)))
+
+pub returns-in_ok-lines-in-Some-clause-step : goal.returns-in_ok-lines-in-Some-clause-step
+returns-in_ok-lines-in-Some-clause-step c = λ files.
+    let at = place-of c.args.id c.args.self.now.readers.items c.in-Some.at (subst (λ (os : List (ℕ × Opened)). position (λ reader. reader.0 == c.args.id) os ≡ Some c.in-Some.at) c.as_slice.ensures.value (sym c.in-Some.ensures)) in
+    let pair : ℕ × Opened = (c.index_mut-reader.result.now.0, c.read.new.self) in
+    let same : pair.0 ≡ c.index_mut-reader.result.now.0 = refl in
+    let new : Shard = record c.args.self.now { unstored = in_chains c.read.new.chains c.args.self.now.unstored; readers = with_item c.args.self.now.readers c.in-Some.at pair } in
+    takes-read _ files c.args.self.now new c.args.id c.args.count c.in-Some.at c.index_mut-reader.result.now pair c.in_ok-lines-in-Some.lines c.in_ok-lines-in-Some.more at (sym c.index_mut-reader.ensures.value)
+    c.in_ok-lines-in-Some.ensures.gives c.in_ok-lines-in-Some.ensures.more c.in_ok-lines-in-Some.ensures.left same c.read.ensures.snaps
+    refl (ap (λ (x : Memory). in_chains x c.args.self.now.unstored) c.read.ensures.chains) refl refl

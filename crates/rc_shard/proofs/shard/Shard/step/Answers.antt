@@ -1,0 +1,34 @@
+-- Each step is that of its command.
+use Rattle.std.proofs.Common.{◌≡◌, refl, sym, subst, IfOk, OnErr}
+use Rattle.rc_lines.specs.declared.commands.Command.{Command}
+use Rattle.rc_machine.specs.Serving.{Takes, Stops}
+use Rattle.rc_shard.proofs.Standing.{on-err-weaker}
+use Rattle.rc_shard.proofs.Taking.{keeps-files}
+use Rattle.rc_shard.proofs.shard.Shard.step.Goals as goal
+
+pub returns-in-SetSchema-clause-step : goal.returns-in-SetSchema-clause-step
+returns-in-SetSchema-clause-step g c = rw (c.in-SetSchema.is) (c.set_schema.ensures.step (g.W.Store.files c.args.store.now))
+
+pub returns-in-Put-clause-step : goal.returns-in-Put-clause-step
+returns-in-Put-clause-step g c = rw (c.in-Put.is) (c.put.ensures.step (g.W.Store.files c.args.store.now))
+
+pub returns-in-Put-clause-err : goal.returns-in-Put-clause-err
+returns-in-Put-clause-err g c = rw (c.in-Put.is) (on-err-weaker c.put.result _ _ (λ keeps m s. (m, refl, keeps (g.W.Store.files c.args.store.now) m s)) c.put.ensures.err)
+
+pub returns-in-OpenRead-clause-step : goal.returns-in-OpenRead-clause-step
+returns-in-OpenRead-clause-step g c = rw (c.in-OpenRead.is) c.open_read.ensures.step
+
+pub returns-in-OpenRead-clause-err : goal.returns-in-OpenRead-clause-err
+returns-in-OpenRead-clause-err g c = rw (c.in-OpenRead.is) (on-err-weaker c.open_read.result _ _ (λ keeps m s. (m, refl, keeps-files _ _ _ c.open_read.new.self m c.open_read.ensures.store.0 (keeps (g.W.Store.files c.args.store.now) m s))) c.open_read.ensures.err)
+
+pub returns-in-Read-clause-step : goal.returns-in-Read-clause-step
+returns-in-Read-clause-step g c = rw (c.in-Read.is) (c.read.ensures.step (g.W.Store.files c.args.store.now))
+
+pub returns-in-Read-clause-err : goal.returns-in-Read-clause-err
+returns-in-Read-clause-err g c = rw (c.in-Read.is) (on-err-weaker c.read.result _ _ (λ keeps m s. (m, refl, keeps (g.W.Store.files c.args.store.now) m s)) c.read.ensures.err)
+
+pub returns-in-Close-clause-step : goal.returns-in-Close-clause-step
+returns-in-Close-clause-step g c = rw (c.in-Close.is) (c.close_reader.ensures.step (g.W.Store.files c.args.store.now))
+
+pub returns-in-Flush-clause-err : goal.returns-in-Flush-clause-err
+returns-in-Flush-clause-err g c = rw (c.in-Flush.is) c.flush.ensures.err
