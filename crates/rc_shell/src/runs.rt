@@ -11,11 +11,10 @@ use crate::status::Status;
 use crate::words::{Words, words_of};
 use rc_folder::Machine;
 use rc_outside::{Sink, Source, Store};
-use rc_plain::Plain;
 use std::alloc::Global;
 
 /// The machine that the program runs on.
-type Program = Plain;
+type Program = rc_plain::Plain;
 
 /// The most input that a run takes: 2^40 bytes.
 const INPUT_LIMIT: u64 = 1 << 40;
