@@ -8,7 +8,7 @@ ghost use Rattle.direct.specs.calls.Answered.{IsAnswered};
 
 use rc_lines::{LineErr, Refusal, Reply, read_line};
 use rc_outside::Store;
-use rc_plain::{Plain, is_built};
+use rc_plain::{Machine, Plain, is_built};
 use std::alloc::{AllocError, Global};
 
 /// Answers a line: a command that is served takes one step of the machine, and each other line is refused and changes nothing. The reply is a value. The
@@ -27,7 +27,7 @@ pub fn answer<W: Store>(
     match read_line(alloc, Some(machine.schema()), line) {
         Ok(command) => {
             if is_built(&command) {
-                machine.serve(alloc, store, command)
+                machine.serve(alloc, store, &command)
             } else {
                 Ok(Reply::Refused(Refusal::BadLine))
             }

@@ -18,12 +18,15 @@ use calls::answer;
 use early::{last_line, schema_of};
 use rc_lines::{Reply, print_reply};
 use rc_outside::{FolderStore, Sink, StdSink, Store};
-use rc_plain::Plain;
+use rc_plain::{Machine, Plain};
 use rc_schema::Schema;
 use std::alloc::Global;
 use std::io::{BufRead, BufReader};
 use std::process::ExitCode;
 use stores::Written;
+
+/// The budget that the machine is opened with, of which the plain one takes no heed.
+const SEGMENTS: u32 = 32;
 
 /// The status where a table of the folder is damaged, or of another schema.
 const BAD_TABLE: u8 = 3;
@@ -53,7 +56,7 @@ fn run<W: Store, K: Sink>(
     lines: &[Vec<u8>],
     out: &mut K,
 ) -> Result<Option<u64>> {
-    match Plain::open(alloc, store, schema) {
+    match Plain::open(alloc, store, schema, SEGMENTS) {
         Ok(mut machine) => {
             out.push(b"ok\n")?;
             Ok(Some(serve(alloc, &mut machine, store, lines, out)?))

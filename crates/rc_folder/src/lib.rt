@@ -3,8 +3,10 @@
 
 mod folder;
 mod laws;
+mod machine;
 mod opening;
 
 pub use folder::Folder;
 pub use laws::{machine_stands_over_one_more, next_number_is_no_files, sealed_parts_fit};
+pub use machine::Machine;
 pub use opening::OpenErr;

@@ -1,11 +1,10 @@
 -- For which state the plain program stands after each step.
-use Rattle.std.proofs.Common.{◌≡◌, ◌==◌, ℕ, suc, ◌+◌, ◌-◌, ◌<◌, ◌≤◌, inl, inr, Bool, true, false, cond, not, List, [], ◌∷◌, ◌++◌, length, take, drop, map, Option, Some, None, nat_lt, option_map, unwrap_or, if◌then◌else◌, refl, sym, ap, subst, ◌∙◌, arith, append-nil, append_assoc}
+use Rattle.std.proofs.Common.{◌≡◌, ◌==◌, ℕ, ◌+◌, ◌<◌, ◌≤◌, inl, inr, Bool, true, false, cond, not, List, [], ◌∷◌, ◌++◌, length, take, drop, map, Option, Some, None, nat_lt, option_map, unwrap_or, refl, sym, ap, subst, ◌∙◌, arith, append_assoc}
 use Rattle.std.specs.List.{filter}
 use Rattle.std.specs.Map.{lookup, set_value}
 use Rattle.std.specs.Ordering.{eq_by_cmp}
 use Rattle.std.proofs.Math.Seq.{drop-append-le}
-use Rattle.std.proofs.lemmas.Bool.Decides.{nat_tests}
-use Rattle.std.proofs.lemmas.List.{length-append, length-drop, length-map, map-append}
+use Rattle.std.proofs.lemmas.List.{length-map, map-append}
 use Rattle.std.proofs.lemmas.List.Elements.{filter-append}
 use Rattle.rc_outside.specs.Files.{Files}
 use Rattle.rc_position.specs.Position.{bytes_cmp}
@@ -115,9 +114,13 @@ stands_writing files k m w fits s = record {
   readers = s.readers;
 }
 
-pub takes_put : (files : Option Files) (k : Keeping) (w : Write) (active : List Write) → CommandFits k.schema (Put w) → active ≡ k.active ++ w ∷ [] → Takes Stands files k (Put w) replies.Fine files (writing k active)
+takes_put : (files : Option Files) (k : Keeping) (w : Write) (active : List Write) → CommandFits k.schema (Put w) → active ≡ k.active ++ w ∷ [] → Takes Stands files k (Put w) replies.Fine files (writing k active)
 takes_put files k w active fits more = λ m s.
     (record m { log = m.log ++ w ∷ [] }, inl (refl, refl), subst (λ active. Stands files (writing k active) (record m { log = m.log ++ w ∷ [] })) (sym more) (stands_writing files k m w fits s))
+
+-- the same of an equal write
+pub takes_copy : (files : Option Files) (k : Keeping) (w v : Write) (active : List Write) → CommandFits k.schema (Put w) → v ≡ w → active ≡ k.active ++ v ∷ [] → Takes Stands files k (Put w) replies.Fine files (writing k active)
+takes_copy files k w v active fits same more = takes_put files k w active fits (more ∙ ap (λ w. k.active ++ w ∷ []) same)
 
 -- ---- steps that change nothing
 

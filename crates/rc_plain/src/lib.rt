@@ -10,4 +10,4 @@ mod readers;
 
 pub use built::is_built;
 pub use plain::Plain;
-pub use rc_folder::OpenErr;
+pub use rc_folder::{Machine, OpenErr};

@@ -23,7 +23,7 @@ ghost use Rattle.rc_plain.specs.calls.Storing.{IsFlushAnswered, sealed_all};
 
 use crate::memtable::Memtable;
 use crate::readers::{Rest, place_of};
-use rc_folder::{Folder, OpenErr};
+use rc_folder::{Folder, Machine, OpenErr};
 use rc_lines::{Command, Refusal, Reply};
 use rc_mutation::{Mutation, Write};
 use rc_outside::Store;
@@ -58,13 +58,27 @@ impl Model for Plain {
     ghost view = { λ m. record { schema = m.folder.schema; infos = m.folder.infos; sealed = m.sealed; active = m.active; readers = m.readers.items } };
 }
 
-impl Plain {
+impl Machine for Plain {
+    ghost use Rattle.rc_folder.specs.Tabled.{Tabled};
+    ghost use Rattle.rc_plain.specs.Stands.{Stands};
+
+    ghost stands = { Stands };
+
+    ghost folder = { λ k. record { schema = k.schema; infos = k.infos } };
+
+    ghost over = { λ told k m s. s.over };
+
     /// The program over a folder of tables of a schema, each of which is checked: it stands for the machine as it is opened over them,
     /// whatever that one's budget of segments. `OpenErr::Damaged` and `OpenErr::OtherSchema` name the first file that is no table of the
     /// schema; `OpenErr::Fault` comes when the store fails, and only then; `OpenErr::NoMemory` when memory is refused.
-    pub fn open<W: Store>(alloc: Global, store: &mut W, schema: Schema) -> Result<Self, OpenErr>
+    fn open<W: Store>(
+        alloc: Global,
+        store: &mut W,
+        schema: Schema,
+        _segments: u32,
+    ) -> Result<Self, OpenErr>
         ensures stands { IfOk result (λ plain. (tables : List Table) × (infos : List TableInfo) × AreTables (W.files store.old) schema tables × AreListed (W.files store.old) schema tables infos
-            × ((segments : ℕ) → Stands (W.files store.new) plain (opened_state segments (W.files store.old) schema tables infos))) }
+            × ((budget : ℕ) → Stands (W.files store.new) plain (opened_state budget (W.files store.old) schema tables infos))) }
         ensures refused { IfErr result (IsOpeningRefused (W.files store.old) schema) }
         ensures faults { RisesIfFault OnOpenFault result (W.faults store.old) (W.faults store.new) }
         ensures store { HoldsSameFiles W.files W.building store.old store.new }
@@ -79,36 +93,23 @@ impl Plain {
         })
     }
 
-    /// The schema of the tables.
-    pub fn schema(&self) -> &Schema
-        ensures { result.now ≡ self.now.schema }
-    {
+    fn schema(&self) -> &Schema {
         self.folder.schema()
     }
 
-    /// Takes the step of a command that fits the schema and is one of those that are built, and gives its reply, which may be a refusal.
-    /// The only error is want of memory, which leaves the state as it was, but that a flush may have sealed the writes.
-    pub fn serve<W: Store>(
+    fn serve<W: Store>(
         &mut self,
         alloc: Global,
         store: &mut W,
-        command: Command,
-    ) -> Result<Reply, AllocError>
-        requires fits { CommandFits self.old.schema command }
-        requires built { IsTrue (is_built command) }
-        requires stands { (m : State) × Stands (W.files store.old) self.old m }
-        ensures step { IfOk result (λ reply. Takes Stands (W.files store.old) self.old command reply (W.files store.new) self.new) }
-        ensures err { OnErr result (Stops Stands (W.files store.old) self.old command (W.files store.new) self.new) }
-        ensures faults { FaultsAreCounted result (W.faults store.old) (W.faults store.new) }
-        ensures asks { W.asks store.new ≤ W.asks store.old + most_asks self.old.infos command }
-    {
+        command: &Command,
+    ) -> Result<Reply, AllocError> {
         match command {
             Command::Nothing => Ok(Reply::Nothing),
-            Command::SetSchema(schema) => Ok(self.set_schema(&schema)),
+            Command::SetSchema(schema) => Ok(self.set_schema(schema)),
             Command::Put(write) => self.put(alloc, write),
-            Command::OpenRead { id, key, slice } => self.open_read(alloc, store, id, &key, &slice),
-            Command::Read { id, count } => self.read(alloc, id, count),
-            Command::Close { id } => Ok(self.close(id)),
+            Command::OpenRead { id, key, slice } => self.open_read(alloc, store, *id, key, slice),
+            Command::Read { id, count } => self.read(alloc, *id, *count),
+            Command::Close { id } => Ok(self.close_reader(*id)),
             Command::Flush => self.flush(alloc, store),
             Command::FlushBegin
             | Command::FlushStep { .. }
@@ -119,6 +120,10 @@ impl Plain {
         }
     }
 
+    fn close(self) {}
+}
+
+impl Plain {
     // The reply to a schema line: fine where it is the same schema again.
     fn set_schema(&self, schema: &Schema) -> Reply
         ensures step { (files : Option Files) → Takes Stands files self.now (Command.SetSchema schema.now) result files self.now }
@@ -132,12 +137,13 @@ impl Plain {
     }
 
     // Puts a write behind the others.
-    fn put(&mut self, alloc: Global, write: Write) -> Result<Reply, AllocError>
-        requires { CommandFits self.old.schema (Command.Put write) }
-        ensures step { (files : Option Files) → IfOk result (λ reply. Takes Stands files self.old (Command.Put write) reply files self.new) }
+    fn put(&mut self, alloc: Global, write: &Write) -> Result<Reply, AllocError>
+        requires { CommandFits self.old.schema (Command.Put write.now) }
+        ensures step { (files : Option Files) → IfOk result (λ reply. Takes Stands files self.old (Command.Put write.now) reply files self.new) }
         ensures fine { IfOk result (λ reply. reply ≡ Reply.Fine) }
         ensures err { OnErr result (self.new ≡ self.old) }
     {
+        let write = write.copy(alloc)?;
         self.active.put(alloc, write)?;
         Ok(Reply::Fine)
     }
@@ -236,7 +242,7 @@ impl Plain {
     }
 
     // Closes a reader.
-    fn close(&mut self, id: u32) -> Reply
+    fn close_reader(&mut self, id: u32) -> Reply
         ensures step { (files : Option Files) → Takes Stands files self.old (Command.Close id) result files self.new }
         ensures faultless { (n : ℕ) → OnFaulty result (Rose n n) }
     {

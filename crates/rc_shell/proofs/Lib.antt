@@ -9,5 +9,6 @@ pub mod Counted
 pub mod Asked
 pub mod Lined
 pub mod Served
+pub mod Budget
 pub mod Undamaged
 pub mod Flushing

@@ -21,16 +21,19 @@ use Rattle.rc_machine.specs.Serving.{IsLeft, OnFaulty, most_asks, checks_of}
 use Rattle.rc_machine.specs.laws.Asking.{few_asked}
 use Rattle.rc_machine.specs.laws.Changes.{change_of}
 use Rattle.rc_machine.specs.laws.Holding.{schema_stays}
-use Rattle.rc_plain.specs.Stands.{Keeping, Stands}
+use Rattle.rc_machine.specs.Standing.{IsOver}
+use Rattle.rc_folder.specs.Tabled.{Tabled}
 use Rattle.rc_shell.specs.calls.Feed.{Answered}
 use Rattle.rc_shell.specs.Step.{Moment, Stage, StoreView, Waiting, Serving, StageStep, LineStep, EndsRun, EndsRunAt, LeavesStore, MayAsk, MayHaveAsked, files_of, meaning_at, served, start_moment, bad_table, tells_fault}
-use Rattle.rc_shell.specs.Late.{KeepsMoment}
+use Rattle.rc_shell.specs.Late.{IsBudget, KeepsMoment, ServesAt, WaitsAt}
 use Rattle.rc_shell.specs.calls.Late.{schema_set}
-use Rattle.rc_shell.specs.laws.Late.{asked_nothing, stood_leaves}
+use Rattle.rc_shell.specs.calls.Standing.{IsStanding}
+use Rattle.rc_shell.specs.laws.Late.{asked_nothing}
 use Rattle.rc_shell.specs.declared.status.Ending.{Ending}
 use Rattle.rc_shell.specs.declared.status.Ending.TheVariants.{BadTable, StoreFault}
 use Rattle.rc_shell.specs.declared.status.Status.TheVariants as statuses
 use Rattle.rc_shell.specs.declared.words.Words.{Words}
+use Rattle.rc_shell.specs.declared.words.Words.TheVariants.{Run}
 use Rattle.rc_lines.specs.laws.Refusals.{early}
 use Rattle.rc_shell.proofs.Served.{served_ok, served_is}
 use Rattle.rc_shell.proofs.Told.{told, plain}
@@ -58,13 +61,9 @@ line_step old line text was stage faults asks bound e step counts may most = rec
 }
 
 -- it stands where the stage does and the counts are the store's
-waits : (old : Moment) (store : StoreView) (bound : ℕ) → KeepsMoment None store (next_moment old (Waiting store.0) store.1 store.2 bound)
+waits : (segments : ℕ) (old : Moment) (store store' : StoreView) (bound : ℕ) → WaitsAt segments store' old → WaitsAt segments store (next_moment old (Waiting store.0) store.1 store.2 bound)
 unfolding next_moment
-waits old store bound = (refl, refl, refl)
-
-serves : (old : Moment) (store : StoreView) (bound : ℕ) (k : Keeping) (m : State) → Stands store.0 k m → KeepsMoment (Some k) store (next_moment old (Serving m) store.1 store.2 bound)
-unfolding next_moment
-serves old store bound k m s = (m, s, refl, refl, refl)
+waits segments old store store' bound s = (refl, refl, refl, s.3, s.4)
 
 leaves_behind : (old : Moment) (store : StoreView) (bound : ℕ) (m : State) → store.0 ≡ m.files → LeavesStore (next_moment old (Serving m) store.1 store.2 bound) store
 unfolding next_moment
@@ -92,30 +91,12 @@ abbrev pub Checks : Option Files → ℕ → ℕ → Type 0
 Checks files before now = IfSome files (λ told. now ≤ before + checks_of (map.values told))
 
 -- the store is left so where nothing was opened
-left_waiting : (store store' : StoreView) (old : Moment) → KeepsMoment None store old → store'.0 ≡ store.0 → store.1 ≤ store'.1 → Checks store.0 store.2 store'.2 → LeavesStore old store'
-left_waiting store store' old s same le checks = (
+pub left_waiting : (segments : ℕ) (store store' : StoreView) (old : Moment) → WaitsAt segments store old → store'.0 ≡ store.0 → store.1 ≤ store'.1 → Checks store.0 store.2 store'.2 → LeavesStore old store'
+left_waiting segments store store' old s same le checks = (
   same ∙ ap files_of (sym s.0),
   subst (λ n. n ≤ store'.1) (sym s.1) le,
   subst (λ st. MayHaveAsked st old.asks store'.2) (sym s.0) (subst (λ n. MayHaveAsked (Waiting store.0) n store'.2) (sym s.2) checks),
 )
-
--- a line that means nothing, before a schema line
-pub none_answered : (place : Option Keeping) (store : StoreView) (old : Moment) (line : List ℕ) (command : Command) (items : List ℕ) → place ≡ None → KeepsMoment None store old → served (parse None line) ≡ Ok command → schema_set command ≡ None
-    → Answered LineStep EndsRun LeavesStore old line (KeepsMoment place store) store items items (Ok None)
-none_answered place store old line command items free s p none =
-    let is : command ≡ Nothing = elim (early line command (parsed line command p)) as (λ e. command ≡ Nothing) [
-      | inl e ↦ e
-      | inr e ↦ absurd (let n : schema_set (SetSchema e.0) ≡ None = subst (λ c. schema_set c ≡ None) e.1 none in cc)
-    ] in
-    let means : served (parse None line) ≡ Ok Nothing = p ∙ ap (λ c. Ok c) is in
-    let asked = no_more old store.2 s.2 in (
-      [],
-      next_moment old (Waiting store.0) store.1 store.2 0,
-      line_step old line [] (Waiting store.0) (Waiting store.0) store.1 store.2 0 s.0 (subst (λ meaning. StageStep old.segments (Waiting store.0) meaning [] (Waiting store.0)) (sym means) (refl, refl))
-          (uncounted [] old.faults store.1 refl (le_same old.faults store.1 s.1)) (subst (λ meaning. MayAsk (Waiting store.0) meaning 0) (sym means) refl) asked,
-      subst (λ k. KeepsMoment k store (next_moment old (Waiting store.0) store.1 store.2 0)) (sym free) (waits old store 0),
-      sym (append-nil items),
-    )
 
 -- a schema line, by its meaning
 pub schema_line : (line : List ℕ) (command : Command) (schema : SchemaValue) → served (parse None line) ≡ Ok command → schema_set command ≡ Some schema → parse None line ≡ Ok (SetSchema schema)
@@ -124,19 +105,6 @@ schema_line line command schema p some = elim (early line command (parsed line c
   | inr e ↦ (let n : schema_set (SetSchema e.0) ≡ Some schema = subst (λ c. schema_set c ≡ Some schema) e.1 some in
       let same : e.0 ≡ schema = cc in parsed line command p ∙ ap (λ c. Ok c) (e.1 ∙ ap (λ z. SetSchema z) same))
 ]
-
--- a line that is refused, before a schema line
-pub refused_answered : (place : Option Keeping) (store : StoreView) (old : Moment) (line : List ℕ) (refusal : Refusal) (before now : List ℕ) → place ≡ None → KeepsMoment None store old → served (parse None line) ≡ Err refusal
-    → now ≡ before ++ refusal_text refusal → Answered LineStep EndsRun LeavesStore old line (KeepsMoment place store) store before now (Ok None)
-refused_answered place store old line refusal before now free s p e =
-    let asked = no_more old store.2 s.2 in (
-      refusal_text refusal,
-      next_moment old (Waiting store.0) store.1 store.2 0,
-      line_step old line (refusal_text refusal) (Waiting store.0) (Waiting store.0) store.1 store.2 0 s.0 (subst (λ meaning. StageStep old.segments (Waiting store.0) meaning (refusal_text refusal) (Waiting store.0)) (sym p) (refl, refl))
-          (uncounted (refusal_text refusal) old.faults store.1 (plain_served None line refusal p) (le_same old.faults store.1 s.1)) (subst (λ meaning. MayAsk (Waiting store.0) meaning 0) (sym p) refl) asked,
-      subst (λ k. KeepsMoment k store (next_moment old (Waiting store.0) store.1 store.2 0)) (sym free) (waits old store 0),
-      e,
-    )
 
 -- the bound that a schema line adds: the files' where they are told, else what was asked
 bound_at : Option Files → ℕ → ℕ → ℕ
@@ -153,33 +121,14 @@ unfolding bound_at
 checked None before now c = omega arith
 checked (Some files) before now c = c
 
--- the first schema line, over tables of the schema
-pub opened_answered : (store store' : StoreView) (old : Moment) (schema : SchemaValue) (k : Keeping) (tables : List Table) (infos : List TableInfo) (line before now : List ℕ)
-    → KeepsMoment None store old → parse None line ≡ Ok (SetSchema schema) → AreTables store.0 schema tables → AreListed store.0 schema tables infos → ((segments : ℕ) → Stands store'.0 k (opened_state segments store.0 schema tables infos))
-    → store.1 ≤ store'.1 → Checks store.0 store.2 store'.2 → now ≡ before ++ reply_text k.schema replies.Fine
-    → Answered LineStep EndsRun LeavesStore old line (KeepsMoment (Some k) store') store' before now (Ok None)
-opened_answered store store' old schema k tables infos line before now s p are listed stands le checks e =
-    let means : served (parse None line) ≡ Ok (SetSchema schema) = ap served p in
-    let bound : ℕ = bound_at store.0 store.2 store'.2 in (
-      reply_text schema replies.Fine,
-      next_moment old (Serving (opened_state old.segments store.0 schema tables infos)) store'.1 store'.2 bound,
-      line_step old line (reply_text schema replies.Fine) (Waiting store.0) (Serving (opened_state old.segments store.0 schema tables infos)) store'.1 store'.2 bound s.0
-          (subst (λ meaning. StageStep old.segments (Waiting store.0) meaning (reply_text schema replies.Fine) (Serving (opened_state old.segments store.0 schema tables infos))) (sym means) (tables, infos, are, listed, refl, refl))
-          (subst (λ n. n ≤ store'.1) (sym s.1) le, λ t. told schema replies.Fine (Rose old.faults store'.1) tt t)
-          (subst (λ meaning. MayAsk (Waiting store.0) meaning bound) (sym means) (may_check store.0 schema store.2 store'.2))
-          (subst (λ n. store'.2 ≤ n + bound) (sym s.2) (checked store.0 store.2 store'.2 checks)),
-      serves old store' bound k (opened_state old.segments store.0 schema tables infos) (stands old.segments),
-      e ∙ ap (λ z. before ++ reply_text z replies.Fine) (sym (stands old.segments).over.schema),
-    )
-
 -- the first schema line, over a bad table
-pub bad_answered : (store store' : StoreView) (old : Moment) (schema : SchemaValue) (At : Moment → Type 0) (n : ℕ) (damage : Option ℕ) (line before now : List ℕ)
-    → KeepsMoment None store old → parse None line ≡ Ok (SetSchema schema) → store'.0 ≡ store.0 → IfSome store.0 (λ f. IsFirstBad f schema n damage) → store.1 ≤ store'.1 → Checks store.0 store.2 store'.2 → now ≡ before ++ bad_table n damage
+pub bad_answered : (segments : ℕ) (store store' : StoreView) (old : Moment) (schema : SchemaValue) (At : Moment → Type 0) (n : ℕ) (damage : Option ℕ) (line before now : List ℕ)
+    → WaitsAt segments store old → parse None line ≡ Ok (SetSchema schema) → store'.0 ≡ store.0 → IfSome store.0 (λ f. IsFirstBad f schema n damage) → store.1 ≤ store'.1 → Checks store.0 store.2 store'.2 → now ≡ before ++ bad_table n damage
     → Answered LineStep EndsRun LeavesStore old line At store' before now (Ok (Some BadTable))
-bad_answered store store' old schema At n damage line before now s p same first le checks e = (
+bad_answered segments store store' old schema At n damage line before now s p same first le checks e = (
   bad_table n damage,
   (
-    left_waiting store store' old s same le checks,
+    left_waiting segments store store' old s same le checks,
     subst (λ st. EndsRunAt st (meaning_at st line) statuses.BadTable (bad_table n damage) old.faults store'.1) (sym s.0)
         (subst (λ meaning. EndsRunAt (Waiting store.0) meaning statuses.BadTable (bad_table n damage) old.faults store'.1) (sym (ap served p)) (n, damage, first, refl)),
   ),
@@ -187,53 +136,18 @@ bad_answered store store' old schema At n damage line before now s p same first 
 )
 
 -- the first schema line, while the store failed
-pub fault_answered : (store store' : StoreView) (old : Moment) (schema : SchemaValue) (At : Moment → Type 0) (line before now : List ℕ)
-    → KeepsMoment None store old → parse None line ≡ Ok (SetSchema schema) → store'.0 ≡ store.0 → Rose store.1 store'.1 → store.1 ≤ store'.1 → Checks store.0 store.2 store'.2 → now ≡ before ++ codes "! store fault\n"
+pub fault_answered : (segments : ℕ) (store store' : StoreView) (old : Moment) (schema : SchemaValue) (At : Moment → Type 0) (line before now : List ℕ)
+    → WaitsAt segments store old → parse None line ≡ Ok (SetSchema schema) → store'.0 ≡ store.0 → Rose store.1 store'.1 → store.1 ≤ store'.1 → Checks store.0 store.2 store'.2 → now ≡ before ++ codes "! store fault\n"
     → Answered LineStep EndsRun LeavesStore old line At store' before now (Ok (Some StoreFault))
-fault_answered store store' old schema At line before now s p same rose le checks e = (
+fault_answered segments store store' old schema At line before now s p same rose le checks e = (
   codes "! store fault\n",
   (
-    left_waiting store store' old s same le checks,
+    left_waiting segments store store' old s same le checks,
     subst (λ st. EndsRunAt st (meaning_at st line) statuses.StoreFault (codes "! store fault\n") old.faults store'.1) (sym s.0)
         (subst (λ meaning. EndsRunAt (Waiting store.0) meaning statuses.StoreFault (codes "! store fault\n") old.faults store'.1) (sym (ap served p)) (refl, subst (λ n. Rose n store'.1) (sym s.1) rose)),
   ),
   e,
 )
-
--- What a command did, once the machine is open.
-pub record Served (store store' : StoreView) (k k' : Keeping) (m : State) (command : Command) (reply : Reply) : Type 0 where
-  pub next : State
-  pub step : Steps m command reply next
-  pub stands : Stands store'.0 k' next
-  pub faults : store.1 ≤ store'.1
-  pub faulty : OnFaulty reply (Rose store.1 store'.1)
-  pub asks : store'.2 ≤ store.2 + most_asks k.infos command
-
-module _ (store store' : StoreView) (k k' : Keeping) (old : Moment) (line : List ℕ) (command : Command) (reply : Reply) (s : KeepsMoment (Some k) store old)
-    (p : served (parse (Some k.schema) line) ≡ Ok command) (d : Served store store' k k' s.0 command reply) where
-  means : served (parse (Some (s.0).schema) line) ≡ Ok command
-  means = ap (λ z. served (parse (Some z) line)) s.1.over.schema ∙ p
-
-  same_schema : k'.schema ≡ (s.0).schema
-  same_schema = sym d.stands.over.schema ∙ schema_stays s.0 command reply d.next (change_of s.0 command reply d.next d.step)
-
-  command_step : LineStep old line (reply_text k'.schema reply) (next_moment old (Serving d.next) store'.1 store'.2 (most_asks k.infos command))
-  command_step =
-      line_step old line (reply_text k'.schema reply) (Serving s.0) (Serving d.next) store'.1 store'.2 (most_asks k.infos command) s.2
-      (subst (λ meaning. StageStep old.segments (Serving s.0) meaning (reply_text k'.schema reply) (Serving d.next)) (sym means) (reply, d.next, d.step, ap (λ z. reply_text z reply) same_schema, refl))
-      (subst (λ n. n ≤ store'.1) (sym s.3) d.faults, λ t. told k'.schema reply (Rose old.faults store'.1) (subst (λ n. OnFaulty reply (Rose n store'.1)) (sym s.3) d.faulty) t)
-      (subst (λ meaning. MayAsk (Serving s.0) meaning (most_asks k.infos command)) (sym means) (ap (λ infos. most_asks infos command) (sym s.1.over.infos)))
-      (subst (λ n. store'.2 ≤ n + most_asks k.infos command) (sym s.4) d.asks)
-
-  pub command_answered : (before now : List ℕ) → now ≡ before ++ reply_text k'.schema reply → Answered LineStep EndsRun LeavesStore old line (KeepsMoment (Some k') store') store' before now (Ok None)
-  command_answered before now e =
-      (reply_text k'.schema reply, next_moment old (Serving d.next) store'.1 store'.2 (most_asks k.infos command), command_step, serves old store' (most_asks k.infos command) k' d.next d.stands, e)
-
-  -- its reply found no memory
-  pub command_unanswered : (before now : List ℕ) (r : Result (Option Ending) AllocError) → IsErr r → Answered LineStep EndsRun LeavesStore old line (KeepsMoment (Some k') store') store' before now r
-  command_unanswered before now (Err e) is =
-      inr (reply_text k'.schema reply, next_moment old (Serving d.next) store'.1 store'.2 (most_asks k.infos command), command_step, leaves_behind old store' (most_asks k.infos command) d.next (sym d.stands.over.files))
-  command_unanswered before now (Ok x) is = absurd (cc)
 
 -- what is left where memory ran out has the state's files
 pub left_files : (m : State) (command : Command) (left : State) → IsLeft m command left → left.files ≡ m.files
@@ -253,33 +167,136 @@ left_files m (Compact count) left e = ap (λ (s : State). s.files) e
 left_files m (Clean count) left e = ap (λ (s : State). s.files) e
 left_files m Stats left e = ap (λ (s : State). s.files) e
 
--- memory ran out in a command
-pub stopped_answered : (store store' : StoreView) (k k' : Keeping) (old : Moment) (line : List ℕ) (command : Command) (before now : List ℕ) (r : Result (Option Ending) AllocError) → IsErr r → KeepsMoment (Some k) store old
-    → store'.0 ≡ store.0 → store.1 ≤ store'.1 → store'.2 ≤ store.2 + most_asks k.infos command → Answered LineStep EndsRun LeavesStore old line (KeepsMoment (Some k') store') store' before now r
-stopped_answered store store' k k' old line command before now (Err e) is s same le asks =
-    let few : store'.2 ≤ old.asks + 2 * length (s.0).infos =
-    subst (λ infos. store'.2 ≤ old.asks + 2 * length infos) (sym s.1.over.infos) (subst (λ n. store'.2 ≤ n + 2 * length k.infos) (sym s.4) (omega (arith, asks, few_asked k.infos command))) in
-    inl (same ∙ sym s.1.over.files ∙ ap files_of (sym s.2), subst (λ n. n ≤ store'.1) (sym s.3) le, subst (λ st. MayHaveAsked st old.asks store'.2) (sym s.2) few)
-stopped_answered store store' k k' old line command before now (Ok x) is s same le asks = absurd (cc)
-
--- a line that is refused, once the machine is open
-pub refusal_answered : (store : StoreView) (k : Keeping) (old : Moment) (line before now : List ℕ) (refusal : Refusal) → KeepsMoment (Some k) store old → served (parse (Some k.schema) line) ≡ Err refusal
-    → now ≡ before ++ refusal_text refusal → Answered LineStep EndsRun LeavesStore old line (KeepsMoment (Some k) store) store before now (Ok None)
-refusal_answered store k old line before now refusal s p e =
-    let means : served (parse (Some (s.0).schema) line) ≡ Err refusal = ap (λ z. served (parse (Some z) line)) s.1.over.schema ∙ p in
-    let asked = no_more old store.2 s.4 in (
-      refusal_text refusal,
-      next_moment old (Serving s.0) store.1 store.2 0,
-      line_step old line (refusal_text refusal) (Serving s.0) (Serving s.0) store.1 store.2 0 s.2 (subst (λ meaning. StageStep old.segments (Serving s.0) meaning (refusal_text refusal) (Serving s.0)) (sym means) (refl, refl))
-          (uncounted (refusal_text refusal) old.faults store.1 (plain_served (Some k.schema) line refusal p) (le_same old.faults store.1 s.3)) (subst (λ meaning. MayAsk (Serving s.0) meaning 0) (sym means) refl) asked,
-      serves old store 0 k s.0 s.1,
-      e,
-    )
-
--- before the first line the program stands for the start
-pub begins_stood : (place : Option Keeping) (words : Words) (store : StoreView) → place ≡ None → KeepsMoment place store (start_moment words store)
-begins_stood place words store free = subst (λ k. KeepsMoment k store (start_moment words store)) (sym free) (refl, refl, refl)
-
--- and the store is left as it was
+-- before the first line the store is left as it was
 pub begins_left : (words : Words) (store : StoreView) → LeavesStore (start_moment words store) store
-begins_left words store = stood_leaves None store (start_moment words store) (refl, refl, refl)
+begins_left words store = (refl, le_refl store.1, asked_nothing (Waiting store.0) store.2)
+
+-- What the program keeps stands in a way of its own.
+module _ {Kept : Type 0} (Stands : Option Files → Kept → State → Type 0) where
+  -- what the program keeps stands where the stage does
+  serves : (old : Moment) (store : StoreView) (bound : ℕ) (k : Kept) (m : State) → Stands store.0 k m → ServesAt Stands k store (next_moment old (Serving m) store.1 store.2 bound)
+  unfolding next_moment
+  serves old store bound k m s = (m, s, refl, refl, refl)
+
+  -- before the first line the program stands for the start
+  pub begins_stood : (place : Option Kept) (budget segments : ℕ) (store : StoreView) → place ≡ None → budget ≡ segments → IsBudget segments → KeepsMoment Stands budget place store (start_moment (Run segments) store)
+  begins_stood place budget segments store free same fits = subst (λ k. KeepsMoment Stands budget k store (start_moment (Run segments) store)) (sym free) (refl, refl, refl, sym same, subst IsBudget (sym same) fits)
+
+  -- and for some moment over some store, where a machine is not open, or stands
+  pub free_standing : (segments : ℕ) (place : Option Kept) → place ≡ None → IsBudget segments → IsStanding (KeepsMoment Stands segments) place
+  free_standing segments place free budget = ((None, 0, 0), start_moment (Run segments) (None, 0, 0), begins_stood place segments segments (None, 0, 0) free refl budget)
+
+  pub open_standing : (segments : ℕ) (told : Option Files) (place : Option Kept) (k : Kept) (m : State) → place ≡ Some k → Stands told k m → IsStanding (KeepsMoment Stands segments) place
+  open_standing segments told place k m is s = subst (IsStanding (KeepsMoment Stands segments)) (sym is) ((told, 0, 0), next_moment (start_moment (Run segments) (told, 0, 0)) (Serving m) 0 0 0, serves (start_moment (Run segments) (told, 0, 0)) (told, 0, 0) 0 k m s)
+
+  -- a line that means nothing, before a schema line
+  pub none_answered : (segments : ℕ) (place : Option Kept) (store : StoreView) (old : Moment) (line : List ℕ) (command : Command) (items : List ℕ) → place ≡ None → WaitsAt segments store old → served (parse None line) ≡ Ok command → schema_set command ≡ None
+      → Answered LineStep EndsRun LeavesStore old line (KeepsMoment Stands segments place store) store items items (Ok None)
+  none_answered segments place store old line command items free s p none =
+      let is : command ≡ Nothing = elim (early line command (parsed line command p)) as (λ e. command ≡ Nothing) [
+        | inl e ↦ e
+        | inr e ↦ absurd (let n : schema_set (SetSchema e.0) ≡ None = subst (λ c. schema_set c ≡ None) e.1 none in cc)
+      ] in
+      let means : served (parse None line) ≡ Ok Nothing = p ∙ ap (λ c. Ok c) is in
+      let asked = no_more old store.2 s.2 in (
+        [],
+        next_moment old (Waiting store.0) store.1 store.2 0,
+        line_step old line [] (Waiting store.0) (Waiting store.0) store.1 store.2 0 s.0 (subst (λ meaning. StageStep old.segments (Waiting store.0) meaning [] (Waiting store.0)) (sym means) (refl, refl))
+            (uncounted [] old.faults store.1 refl (le_same old.faults store.1 s.1)) (subst (λ meaning. MayAsk (Waiting store.0) meaning 0) (sym means) refl) asked,
+        subst (λ k. KeepsMoment Stands segments k store (next_moment old (Waiting store.0) store.1 store.2 0)) (sym free) (waits segments old store store 0 s),
+        sym (append-nil items),
+      )
+
+  -- a line that is refused, before a schema line
+  pub refused_answered : (segments : ℕ) (place : Option Kept) (store : StoreView) (old : Moment) (line : List ℕ) (refusal : Refusal) (before now : List ℕ) → place ≡ None → WaitsAt segments store old → served (parse None line) ≡ Err refusal
+      → now ≡ before ++ refusal_text refusal → Answered LineStep EndsRun LeavesStore old line (KeepsMoment Stands segments place store) store before now (Ok None)
+  refused_answered segments place store old line refusal before now free s p e =
+      let asked = no_more old store.2 s.2 in (
+        refusal_text refusal,
+        next_moment old (Waiting store.0) store.1 store.2 0,
+        line_step old line (refusal_text refusal) (Waiting store.0) (Waiting store.0) store.1 store.2 0 s.0 (subst (λ meaning. StageStep old.segments (Waiting store.0) meaning (refusal_text refusal) (Waiting store.0)) (sym p) (refl, refl))
+            (uncounted (refusal_text refusal) old.faults store.1 (plain_served None line refusal p) (le_same old.faults store.1 s.1)) (subst (λ meaning. MayAsk (Waiting store.0) meaning 0) (sym p) refl) asked,
+        subst (λ k. KeepsMoment Stands segments k store (next_moment old (Waiting store.0) store.1 store.2 0)) (sym free) (waits segments old store store 0 s),
+        e,
+      )
+
+-- It stands over a folder.
+module _ {Kept : Type 0} (Stands : Option Files → Kept → State → Type 0) (folder : Kept → Tabled)
+    (over : (told : Option Files) (k : Kept) (m : State) → Stands told k m → IsOver told (folder k).schema (folder k).infos m) where
+  -- the first schema line, over tables of the schema
+  pub opened_answered : (segments : ℕ) (store store' : StoreView) (old : Moment) (schema : SchemaValue) (place : Option Kept) (k : Kept) (tables : List Table) (infos : List TableInfo) (line before now : List ℕ)
+      → place ≡ Some k → WaitsAt segments store old → parse None line ≡ Ok (SetSchema schema) → AreTables store.0 schema tables → AreListed store.0 schema tables infos → Stands store'.0 k (opened_state segments store.0 schema tables infos)
+      → store.1 ≤ store'.1 → Checks store.0 store.2 store'.2 → now ≡ before ++ reply_text (folder k).schema replies.Fine
+      → Answered LineStep EndsRun LeavesStore old line (KeepsMoment Stands segments place store') store' before now (Ok None)
+  opened_answered segments store store' old schema place k tables infos line before now is s p are listed stands le checks e =
+      let means : served (parse None line) ≡ Ok (SetSchema schema) = ap served p in
+      let bound : ℕ = bound_at store.0 store.2 store'.2 in (
+        reply_text schema replies.Fine,
+        next_moment old (Serving (opened_state old.segments store.0 schema tables infos)) store'.1 store'.2 bound,
+        line_step old line (reply_text schema replies.Fine) (Waiting store.0) (Serving (opened_state old.segments store.0 schema tables infos)) store'.1 store'.2 bound s.0
+            (subst (λ meaning. StageStep old.segments (Waiting store.0) meaning (reply_text schema replies.Fine) (Serving (opened_state old.segments store.0 schema tables infos))) (sym means) (tables, infos, are, listed, refl, refl))
+            (subst (λ n. n ≤ store'.1) (sym s.1) le, λ t. told schema replies.Fine (Rose old.faults store'.1) tt t)
+            (subst (λ meaning. MayAsk (Waiting store.0) meaning bound) (sym means) (may_check store.0 schema store.2 store'.2))
+            (subst (λ n. store'.2 ≤ n + bound) (sym s.2) (checked store.0 store.2 store'.2 checks)),
+        subst (λ k. KeepsMoment Stands segments k store' (next_moment old (Serving (opened_state old.segments store.0 schema tables infos)) store'.1 store'.2 bound)) (sym is)
+            (serves Stands old store' bound k (opened_state old.segments store.0 schema tables infos) (subst (λ n. Stands store'.0 k (opened_state n store.0 schema tables infos)) (sym s.3) stands)),
+        e ∙ ap (λ z. before ++ reply_text z replies.Fine) (sym (over store'.0 k (opened_state segments store.0 schema tables infos) stands).schema),
+      )
+
+  -- What a command did, once the machine is open.
+  pub record Served (store store' : StoreView) (k k' : Kept) (m : State) (command : Command) (reply : Reply) : Type 0 where
+    pub next : State
+    pub step : Steps m command reply next
+    pub stands : Stands store'.0 k' next
+    pub faults : store.1 ≤ store'.1
+    pub faulty : OnFaulty reply (Rose store.1 store'.1)
+    pub asks : store'.2 ≤ store.2 + most_asks (folder k).infos command
+
+  module _ (store store' : StoreView) (k k' : Kept) (old : Moment) (line : List ℕ) (command : Command) (reply : Reply) (s : ServesAt Stands k store old)
+      (p : served (parse (Some (folder k).schema) line) ≡ Ok command) (d : Served store store' k k' s.0 command reply) where
+    means : served (parse (Some (s.0).schema) line) ≡ Ok command
+    means = ap (λ z. served (parse (Some z) line)) (over store.0 k s.0 s.1).schema ∙ p
+
+    same_schema : (folder k').schema ≡ (s.0).schema
+    same_schema = sym (over store'.0 k' d.next d.stands).schema ∙ schema_stays s.0 command reply d.next (change_of s.0 command reply d.next d.step)
+
+    command_step : LineStep old line (reply_text (folder k').schema reply) (next_moment old (Serving d.next) store'.1 store'.2 (most_asks (folder k).infos command))
+    command_step =
+        line_step old line (reply_text (folder k').schema reply) (Serving s.0) (Serving d.next) store'.1 store'.2 (most_asks (folder k).infos command) s.2
+        (subst (λ meaning. StageStep old.segments (Serving s.0) meaning (reply_text (folder k').schema reply) (Serving d.next)) (sym means) (reply, d.next, d.step, ap (λ z. reply_text z reply) same_schema, refl))
+        (subst (λ n. n ≤ store'.1) (sym s.3) d.faults, λ t. told (folder k').schema reply (Rose old.faults store'.1) (subst (λ n. OnFaulty reply (Rose n store'.1)) (sym s.3) d.faulty) t)
+        (subst (λ meaning. MayAsk (Serving s.0) meaning (most_asks (folder k).infos command)) (sym means) (ap (λ infos. most_asks infos command) (sym (over store.0 k s.0 s.1).infos)))
+        (subst (λ n. store'.2 ≤ n + most_asks (folder k).infos command) (sym s.4) d.asks)
+
+    pub command_answered : (before now : List ℕ) → now ≡ before ++ reply_text (folder k').schema reply → Answered LineStep EndsRun LeavesStore old line (ServesAt Stands k' store') store' before now (Ok None)
+    command_answered before now e =
+        (reply_text (folder k').schema reply, next_moment old (Serving d.next) store'.1 store'.2 (most_asks (folder k).infos command), command_step, serves Stands old store' (most_asks (folder k).infos command) k' d.next d.stands, e)
+
+    -- its reply found no memory
+    pub command_unanswered : (before now : List ℕ) (r : Result (Option Ending) AllocError) → IsErr r → Answered LineStep EndsRun LeavesStore old line (ServesAt Stands k' store') store' before now r
+    command_unanswered before now (Err e) is =
+        inr (reply_text (folder k').schema reply, next_moment old (Serving d.next) store'.1 store'.2 (most_asks (folder k).infos command), command_step, leaves_behind old store' (most_asks (folder k).infos command) d.next (sym (over store'.0 k' d.next d.stands).files))
+    command_unanswered before now (Ok x) is = absurd (cc)
+
+  -- memory ran out in a command
+  pub stopped_answered : (store store' : StoreView) (k k' : Kept) (old : Moment) (line : List ℕ) (command : Command) (before now : List ℕ) (r : Result (Option Ending) AllocError) → IsErr r → ServesAt Stands k store old
+      → store'.0 ≡ store.0 → store.1 ≤ store'.1 → store'.2 ≤ store.2 + most_asks (folder k).infos command → Answered LineStep EndsRun LeavesStore old line (ServesAt Stands k' store') store' before now r
+  stopped_answered store store' k k' old line command before now (Err e) is s same le asks =
+      let few : store'.2 ≤ old.asks + 2 * length (s.0).infos =
+      subst (λ infos. store'.2 ≤ old.asks + 2 * length infos) (sym (over store.0 k s.0 s.1).infos) (subst (λ n. store'.2 ≤ n + 2 * length (folder k).infos) (sym s.4) (omega (arith, asks, few_asked (folder k).infos command))) in
+      inl (same ∙ sym (over store.0 k s.0 s.1).files ∙ ap files_of (sym s.2), subst (λ n. n ≤ store'.1) (sym s.3) le, subst (λ st. MayHaveAsked st old.asks store'.2) (sym s.2) few)
+  stopped_answered store store' k k' old line command before now (Ok x) is s same le asks = absurd (cc)
+
+  -- a line that is refused, once the machine is open
+  pub refusal_answered : (store : StoreView) (k : Kept) (old : Moment) (line before now : List ℕ) (refusal : Refusal) → ServesAt Stands k store old → served (parse (Some (folder k).schema) line) ≡ Err refusal
+      → now ≡ before ++ refusal_text refusal → Answered LineStep EndsRun LeavesStore old line (ServesAt Stands k store) store before now (Ok None)
+  refusal_answered store k old line before now refusal s p e =
+      let means : served (parse (Some (s.0).schema) line) ≡ Err refusal = ap (λ z. served (parse (Some z) line)) (over store.0 k s.0 s.1).schema ∙ p in
+      let asked = no_more old store.2 s.4 in (
+        refusal_text refusal,
+        next_moment old (Serving s.0) store.1 store.2 0,
+        line_step old line (refusal_text refusal) (Serving s.0) (Serving s.0) store.1 store.2 0 s.2 (subst (λ meaning. StageStep old.segments (Serving s.0) meaning (refusal_text refusal) (Serving s.0)) (sym means) (refl, refl))
+            (uncounted (refusal_text refusal) old.faults store.1 (plain_served (Some (folder k).schema) line refusal p) (le_same old.faults store.1 s.3)) (subst (λ meaning. MayAsk (Serving s.0) meaning 0) (sym means) refl) asked,
+        serves Stands old store 0 k s.0 s.1,
+        e,
+      )

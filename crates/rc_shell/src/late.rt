@@ -1,42 +1,45 @@
 //! The program's server: a machine that the first schema line opens.
 
-ghost use Rattle.std.specs.Prelude.{◌≡◌, ℕ, List, ◌++◌, None, Some, Ok, OnOk, IfOk, decimal, IsTrue};
+ghost use Rattle.std.specs.Prelude.{◌≡◌, ℕ, List, ◌++◌, Option, None, Some, Ok, OnOk, IfOk, decimal, IsTrue};
 ghost use Rattle.std.specs.Option.{option_copied};
 ghost use Rattle.rc_lines.specs.declared.commands.Command.TheVariants.{SetSchema};
 ghost use Rattle.rc_lines.specs.Grammar.{parse, ReadsLine};
+ghost use Rattle.rc_outside.specs.Files.{Files};
 ghost use Rattle.rc_machine.specs.State.{State};
 ghost use Rattle.rc_machine.specs.Built.{is_built};
-ghost use Rattle.rc_plain.specs.Stands.{Stands};
 ghost use Rattle.rc_shell.specs.calls.Feed.{Answered};
 ghost use Rattle.rc_shell.specs.Step.{Moment, LineStep, EndsRun, LeavesStore, bad_table, served};
-ghost use Rattle.rc_shell.specs.Late.{KeepsMoment};
+ghost use Rattle.rc_shell.specs.Late.{IsBudget, KeepsMoment, ServesAt, WaitsAt};
 ghost use Rattle.rc_shell.specs.calls.Late.{schema_set};
+ghost use Rattle.rc_shell.specs.calls.Standing.{IsStanding};
 
 use crate::server::Server;
 use crate::status::Ending;
 use itoa::Buffer;
+use rc_folder::{Machine, OpenErr};
 use rc_lines::{Command, LineErr, Refusal, Reply, print_refusal, print_reply, read_line};
 use rc_outside::Store;
-use rc_plain::{OpenErr, Plain, is_built};
+use rc_plain::is_built;
 use rc_schema::Schema;
 use std::alloc::{AllocError, Global};
+use std::mem;
 
 /// The last line of a run whose store failed while its tables were checked.
 const STORE_FAULT: &[u8] = b"! store fault\n";
 
-/// A machine that the first schema line opens over the store.
-#[derive(Drop)]
-pub(crate) struct LateMachine {
-    machine: Option<Plain>,
+/// A machine that the first schema line opens over the store, with a budget of memory in segments.
+pub(crate) struct LateMachine<M> {
+    machine: Option<M>,
+    segments: u32,
 }
 
-impl Server for LateMachine {
+impl<M: Machine> Server for LateMachine<M> {
     ghost use Rattle.rc_shell.specs.Late.{KeepsMoment};
     ghost use Rattle.rc_shell.specs.laws.Late.{stood_leaves};
 
-    ghost stands = { λ server store now. KeepsMoment server.machine store now };
+    ghost stands = { λ server store now. KeepsMoment M.stands server.segments server.machine store now };
 
-    ghost leaves = { λ server. stood_leaves server.machine };
+    ghost leaves = { λ server. stood_leaves M.stands M.folder M.over server.segments server.machine };
 
     fn answer<W: Store>(
         &mut self,
@@ -47,17 +50,32 @@ impl Server for LateMachine {
     ) -> Result<Option<Ending>, AllocError> {
         match &mut self.machine {
             Some(machine) => serve(alloc, machine, store, line, text),
-            None => begin(alloc, &mut self.machine, store, line, text),
+            None => begin(alloc, &mut self.machine, self.segments, store, line, text),
+        }
+    }
+
+    fn close(self) {
+        let LateMachine {
+            machine,
+            segments: _segments,
+        } = self;
+        match machine {
+            Some(machine) => machine.close(),
+            None => {}
         }
     }
 }
 
-impl LateMachine {
+impl<M> LateMachine<M> {
     /// Before the first line.
-    pub(crate) fn new() -> Self
-        ensures { result.machine ≡ None }
+    pub(crate) fn new(segments: u32) -> Self
+        ensures machine { result.machine ≡ None }
+        ensures segments { result.segments ≡ segments }
     {
-        LateMachine { machine: None }
+        LateMachine {
+            machine: None,
+            segments,
+        }
     }
 }
 
@@ -79,20 +97,23 @@ fn read_served(alloc: Global, schema: Option<&Schema>, line: &[u8]) -> Result<Co
 }
 
 /// Answers a line before a schema line was taken.
-fn begin<W: Store>(
+fn begin<M: Machine, W: Store>(
     alloc: Global,
-    place: &mut Option<Plain>,
+    place: &mut Option<M>,
+    segments: u32,
     store: &mut W,
     line: &[u8],
     text: &mut Vec<u8>,
 ) -> Result<Option<Ending>, AllocError>
-    requires { place.old ≡ None }
-    ensures { (old : Moment) → KeepsMoment None (W.files store.old, W.faults store.old, W.asks store.old) old →
-        Answered LineStep EndsRun LeavesStore old line.now (KeepsMoment place.new (W.files store.new, W.faults store.new, W.asks store.new)) (W.files store.new, W.faults store.new, W.asks store.new) text.old.items text.new.items result }
+    requires free { place.old ≡ None }
+    requires budget { IsBudget segments }
+    ensures answered { (old : Moment) → WaitsAt segments (W.files store.old, W.faults store.old, W.asks store.old) old →
+        Answered LineStep EndsRun LeavesStore old line.now (KeepsMoment M.stands segments place.new (W.files store.new, W.faults store.new, W.asks store.new)) (W.files store.new, W.faults store.new, W.asks store.new) text.old.items text.new.items result }
+    ensures standing { IsStanding (KeepsMoment M.stands segments) place.new }
 {
     match read_served(alloc, None, line) {
         Ok(command) => match schema_set(command) {
-            Some(schema) => open(alloc, place, store, schema, text),
+            Some(schema) => open(alloc, place, segments, store, schema, text),
             None => Ok(None),
         },
         Err(LineErr::Refused(early)) => {
@@ -125,23 +146,31 @@ fn schema_set(command: Command) -> Option<Schema>
 }
 
 /// Opens the machine by the first schema line.
-fn open<W: Store>(
+fn open<M: Machine, W: Store>(
     alloc: Global,
-    place: &mut Option<Plain>,
+    place: &mut Option<M>,
+    segments: u32,
     store: &mut W,
     schema: Schema,
     text: &mut Vec<u8>,
 ) -> Result<Option<Ending>, AllocError>
-    requires { place.old ≡ None }
-    ensures { (old : Moment) (line : List ℕ) → KeepsMoment None (W.files store.old, W.faults store.old, W.asks store.old) old → parse None line ≡ Ok (SetSchema schema) →
-        Answered LineStep EndsRun LeavesStore old line (KeepsMoment place.new (W.files store.new, W.faults store.new, W.asks store.new)) (W.files store.new, W.faults store.new, W.asks store.new) text.old.items text.new.items result }
+    requires free { place.old ≡ None }
+    requires budget { IsBudget segments }
+    ensures answered { (old : Moment) (line : List ℕ) → WaitsAt segments (W.files store.old, W.faults store.old, W.asks store.old) old → parse None line ≡ Ok (SetSchema schema) →
+        Answered LineStep EndsRun LeavesStore old line (KeepsMoment M.stands segments place.new (W.files store.new, W.faults store.new, W.asks store.new)) (W.files store.new, W.faults store.new, W.asks store.new) text.old.items text.new.items result }
+    ensures standing { IsStanding (KeepsMoment M.stands segments) place.new }
 {
-    match Plain::open(alloc, store, schema) {
-        Ok(machine) => {
-            print_reply(alloc, machine.schema(), &Reply::Fine, text)?;
-            *place = Some(machine);
-            Ok(None)
-        }
+    match M::open(alloc, store, schema, segments) {
+        Ok(machine) => match print_reply(alloc, machine.schema(), &Reply::Fine, text) {
+            Ok(()) => {
+                put(place, machine);
+                Ok(None)
+            }
+            Err(error) => {
+                machine.close();
+                Err(error)
+            }
+        },
         Err(OpenErr::Damaged { table, offset }) => {
             print_damaged(table, offset, text)?;
             Ok(Some(Ending::BadTable))
@@ -155,6 +184,17 @@ fn open<W: Store>(
             Ok(Some(Ending::StoreFault))
         }
         Err(OpenErr::NoMemory) => Err(AllocError),
+    }
+}
+
+/// Puts a machine where none is.
+fn put<M>(place: &mut Option<M>, machine: M)
+    requires { place.old ≡ None }
+    ensures { place.new ≡ Some machine }
+{
+    match mem::replace(place, Some(machine)) {
+        None => {}
+        Some(_) => unreachable!(),
     }
 }
 
@@ -189,20 +229,21 @@ fn print_other_schema(table: u32, text: &mut Vec<u8>) -> Result<(), AllocError>
 }
 
 /// Answers a line once the machine is open.
-fn serve<W: Store>(
+fn serve<M: Machine, W: Store>(
     alloc: Global,
-    machine: &mut Plain,
+    machine: &mut M,
     store: &mut W,
     line: &[u8],
     text: &mut Vec<u8>,
 ) -> Result<Option<Ending>, AllocError>
-    requires { (m : State) × Stands (W.files store.old) machine.old m }
-    ensures { (old : Moment) → KeepsMoment (Some machine.old) (W.files store.old, W.faults store.old, W.asks store.old) old →
-        Answered LineStep EndsRun LeavesStore old line.now (KeepsMoment (Some machine.new) (W.files store.new, W.faults store.new, W.asks store.new)) (W.files store.new, W.faults store.new, W.asks store.new) text.old.items text.new.items result }
+    requires { (m : State) × M.stands (W.files store.old) machine.old m }
+    ensures answered { (old : Moment) → ServesAt M.stands machine.old (W.files store.old, W.faults store.old, W.asks store.old) old →
+        Answered LineStep EndsRun LeavesStore old line.now (ServesAt M.stands machine.new (W.files store.new, W.faults store.new, W.asks store.new)) (W.files store.new, W.faults store.new, W.asks store.new) text.old.items text.new.items result }
+    ensures standing { (told : Option Files) × (m : State) × M.stands told machine.new m }
 {
     match read_served(alloc, Some(machine.schema()), line) {
         Ok(command) => {
-            let reply = machine.serve(alloc, store, command)?;
+            let reply = machine.serve(alloc, store, &command)?;
             print_reply(alloc, machine.schema(), &reply, text)?;
             Ok(None)
         }

@@ -13,6 +13,6 @@ pub use laws::{
     asks_are_bounded, files_hold_what_was_flushed, lines_are_determined, runs_answer_lines,
     told_files_are_never_damaged,
 };
-pub use runs::{run, run_with};
+pub use runs::{run, run_on, run_with};
 pub use status::Status;
 pub use words::Words;

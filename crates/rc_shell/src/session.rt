@@ -6,6 +6,7 @@ ghost use Rattle.rc_outside.specs.Faults.{Rose};
 ghost use Rattle.rc_shell.specs.Lines.{IsLine};
 ghost use Rattle.rc_shell.specs.calls.Feed.{PushedText, PushedAnswer, ServedLine, ServedLast, Serves, SoFar, TurnGave, EndedBy, kept};
 ghost use Rattle.rc_shell.specs.Run.{piece_size, Ran};
+ghost use Rattle.rc_shell.specs.calls.Standing.{IsStanding};
 ghost use Rattle.rc_shell.specs.calls.Status.{stop_by};
 ghost use Rattle.rc_shell.specs.Step.{Moment, LineStep, EndsRun, LeavesStore};
 ghost use Rattle.rc_shell.specs.declared.words.Words.TheVariants.{Run};
@@ -23,8 +24,7 @@ const INPUT_FAULT: &[u8] = b"! input fault\n";
 const INPUT_LIMIT: &[u8] = b"! input limit\n";
 
 /// A server, the front of the line that is not yet whole, and room for a reply's text.
-#[derive(Drop)]
-pub(crate) struct Session<S> {
+struct Session<S> {
     server: S,
     held: Vec<u8>,
     text: Vec<u8>,
@@ -67,7 +67,7 @@ fn stop_by(pushed: Result<(), Stop>, ending: Ending) -> Stop
 
 impl<S: Server> Session<S> {
     /// A session before the first byte.
-    pub(crate) fn new(alloc: Global, server: S) -> Self
+    fn new(alloc: Global, server: S) -> Self
         ensures server { result.server ≡ server }
         ensures held { result.held.items ≡ [] }
     {
@@ -90,6 +90,7 @@ impl<S: Server> Session<S> {
             ServedLine LineStep EndsRun LeavesStore old line (S.stands self.new.server (W.files store.new, W.faults store.new, W.asks store.new)) (W.files store.new, W.faults store.new, W.asks store.new)
             (K.written out.old) (K.written out.new) (K.faults out.old) (K.faults out.new) result }
         ensures stands { OnOk result ((now : Moment) × S.stands self.new.server (W.files store.new, W.faults store.new, W.asks store.new) now) }
+        ensures standing { IsStanding S.stands self.new.server }
         ensures held { self.new.held.items ≡ [] }
     {
         self.text.clear();
@@ -131,6 +132,7 @@ impl<S: Server> Session<S> {
             Serves LineStep EndsRun LeavesStore old rest (byte ∷ []) (S.stands self.new.server (W.files store.new, W.faults store.new, W.asks store.new)) self.new.held.items (W.files store.new, W.faults store.new, W.asks store.new)
             (K.written out.old) (K.written out.new) (K.faults out.old) (K.faults out.new) result }
         ensures stands { OnOk result ((now : Moment) × S.stands self.new.server (W.files store.new, W.faults store.new, W.asks store.new) now) }
+        ensures standing { IsStanding S.stands self.new.server }
     {
         if byte == b'\n' {
             return self.serve_held(alloc, store, out);
@@ -151,6 +153,7 @@ impl<S: Server> Session<S> {
             Serves LineStep EndsRun LeavesStore old rest piece.now (S.stands self.new.server (W.files store.new, W.faults store.new, W.asks store.new)) self.new.held.items (W.files store.new, W.faults store.new, W.asks store.new)
             (K.written out.old) (K.written out.new) (K.faults out.old) (K.faults out.new) result }
         ensures stands { OnOk result ((now : Moment) × S.stands self.new.server (W.files store.new, W.faults store.new, W.asks store.new) now) }
+        ensures standing { IsStanding S.stands self.new.server }
     {
         for byte in piece {
             self.take_byte(alloc, *byte, store, out)?;
@@ -166,9 +169,10 @@ impl<S: Server> Session<S> {
         out: &mut K,
     ) -> Result<(), Stop>
         requires stands { (now : Moment) × S.stands self.old.server (W.files store.old, W.faults store.old, W.asks store.old) now }
-        ensures { (rest : List ℕ) (old : Moment) → self.old.held.items ≡ kept rest → S.stands self.old.server (W.files store.old, W.faults store.old, W.asks store.old) old →
+        ensures served { (rest : List ℕ) (old : Moment) → self.old.held.items ≡ kept rest → S.stands self.old.server (W.files store.old, W.faults store.old, W.asks store.old) old →
             ServedLast LineStep EndsRun LeavesStore old rest (S.stands self.new.server (W.files store.new, W.faults store.new, W.asks store.new)) (W.files store.new, W.faults store.new, W.asks store.new)
             (K.written out.old) (K.written out.new) (K.faults out.old) (K.faults out.new) result }
+        ensures standing { IsStanding S.stands self.new.server }
     {
         if self.held.is_empty() {
             return Ok(());
@@ -190,6 +194,7 @@ impl<S: Server> Session<S> {
         requires stands { (now : Moment) × S.stands self.old.server (W.files store.old, W.faults store.old, W.asks store.old) now }
         ensures within { IfOk result (λ count. (0 < count) × (count ≤ length piece.old)) }
         ensures stands { OnOk result ((now : Moment) × S.stands self.new.server (W.files store.new, W.faults store.new, W.asks store.new) now) }
+        ensures standing { IsStanding S.stands self.new.server }
         ensures run { (start : Moment) (limit count : ℕ) (left written : Option (List ℕ)) (faults faults2 : ℕ) → count + length piece.old ≤ limit →
             SoFar LineStep EndsRun LeavesStore start (S.stands self.old.server (W.files store.old, W.faults store.old, W.asks store.old)) self.old.held.items count left (I.left input.old) written (K.written out.old)
             faults (I.faults input.old) faults2 (K.faults out.old) →
@@ -209,8 +214,20 @@ impl<S: Server> Session<S> {
         }
     }
 
+    /// Closes the server.
+    fn close(self)
+        requires { IsStanding S.stands self.server }
+    {
+        let Session {
+            server,
+            held: _held,
+            text: _text,
+        } = self;
+        server.close();
+    }
+
     /// Serves the input to its end, its fault or the limit, or to a line that ends the run.
-    pub(crate) fn serve_input<W: Store, I: Source, K: Sink>(
+    fn serve_input<W: Store, I: Source, K: Sink>(
         &mut self,
         alloc: Global,
         store: &mut W,
@@ -223,9 +240,10 @@ impl<S: Server> Session<S> {
         requires small { length piece.old ≤ piece_size }
         requires fresh { self.old.held.items ≡ [] }
         requires stands { (now : Moment) × S.stands self.old.server (W.files store.old, W.faults store.old, W.asks store.old) now }
-        ensures { (start : Moment) → S.stands self.old.server (W.files store.old, W.faults store.old, W.asks store.old) start →
+        ensures run { (start : Moment) → S.stands self.old.server (W.files store.old, W.faults store.old, W.asks store.old) start →
             (segments : ℕ) → Ran LineStep EndsRun LeavesStore (Run segments) start limit result (I.left input.old) (I.left input.new) (K.written out.old) (K.written out.new) (W.files store.new, W.faults store.new, W.asks store.new)
             (I.faults input.old) (I.faults input.new) (K.faults out.old) (K.faults out.new) }
+        ensures standing { IsStanding S.stands self.new.server }
     {
         let mut taken = 0u64;
         while taken < limit {
@@ -237,6 +255,29 @@ impl<S: Server> Session<S> {
         }
         push_last(out, INPUT_LIMIT, Status::InputLimit)
     }
+}
+
+/// Serves the input by a session of its own with a server, which is closed at the end.
+pub(crate) fn serve_by<S: Server, W: Store, I: Source, K: Sink>(
+    alloc: Global,
+    server: S,
+    store: &mut W,
+    input: &mut I,
+    piece: &mut [u8],
+    out: &mut K,
+    limit: u64,
+) -> Status
+    requires room { 0 < length piece.old }
+    requires small { length piece.old ≤ piece_size }
+    requires stands { (now : Moment) × S.stands server (W.files store.old, W.faults store.old, W.asks store.old) now }
+    ensures { (start : Moment) → S.stands server (W.files store.old, W.faults store.old, W.asks store.old) start →
+        (segments : ℕ) → Ran LineStep EndsRun LeavesStore (Run segments) start limit result (I.left input.old) (I.left input.new) (K.written out.old) (K.written out.new) (W.files store.new, W.faults store.new, W.asks store.new)
+        (I.faults input.old) (I.faults input.new) (K.faults out.old) (K.faults out.new) }
+{
+    let mut session = Session::new(alloc, server);
+    let status = session.serve_input(alloc, store, input, piece, out, limit);
+    session.close();
+    status
 }
 
 /// How many bytes to ask for: as many as fit, and no more than are left up to the limit.

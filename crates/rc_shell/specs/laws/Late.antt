@@ -3,8 +3,11 @@ use Rattle.std.specs.Prelude.{◌≡◌, ℕ, ◌*◌, ◌≤◌, length, Option
 use Rattle.std.specs.FinMap as map
 use Rattle.std.proofs.Common.{subst, sym, ap, ◌∙◌, le_refl}
 use Rattle.std.proofs.Math.Nat.{le-add_right}
+use Rattle.rc_outside.specs.Files.{Files}
 use Rattle.rc_machine.specs.Serving.{checks_of}
-use Rattle.rc_plain.specs.Stands.{Keeping}
+use Rattle.rc_machine.specs.Standing.{IsOver}
+use Rattle.rc_machine.specs.State.{State}
+use Rattle.rc_folder.specs.Tabled.{Tabled}
 use Rattle.rc_shell.specs.Step.{Moment, Stage, StoreView, Waiting, Serving, LeavesStore, MayHaveAsked, files_of}
 use Rattle.rc_shell.specs.Late.{KeepsMoment}
 
@@ -20,7 +23,9 @@ asked_nothing (Serving m) asks = le-add_right asks (2 * length m.infos)
 asked_same : (stage : Stage) {a b : ℕ} → a ≡ b → MayHaveAsked stage a b
 asked_same stage {a} e = subst (λ n. MayHaveAsked stage a n) e (asked_nothing stage a)
 
--- the moment for which the program stands has the store's files
-pub stood_leaves : (kept : Option Keeping) (store : StoreView) (now : Moment) → KeepsMoment kept store now → LeavesStore now store
-stood_leaves None store now s = (ap files_of (sym s.0), le_same s.1, asked_same now.stage s.2)
-stood_leaves (Some keeping) store now s = (sym s.1.over.files ∙ ap files_of (sym s.2), le_same s.3, asked_same now.stage s.4)
+module _ {Kept : Type 0} (Stands : Option Files → Kept → State → Type 0) (folder : Kept → Tabled)
+    (over : (told : Option Files) (k : Kept) (m : State) → Stands told k m → IsOver told (folder k).schema (folder k).infos m) where
+  -- the moment for which the program stands has the store's files
+  pub stood_leaves : (segments : ℕ) (kept : Option Kept) (store : StoreView) (now : Moment) → KeepsMoment Stands segments kept store now → LeavesStore now store
+  stood_leaves segments None store now s = (ap files_of (sym s.0), le_same s.1, asked_same now.stage s.2)
+  stood_leaves segments (Some kept) store now s = (sym (over store.0 kept s.0 s.1).files ∙ ap files_of (sym s.2), le_same s.3, asked_same now.stage s.4)

@@ -20,8 +20,8 @@ pub returns-then-is_built-clause-stands : goal.returns-then-is_built-clause-stan
 returns-then-is_built-clause-stands g c =
     stands_then (g.W.Store.files c.args.store.now) (g.W.Store.files c.serve.new.store) c.args.machine.now c.serve.new.self c.args.line.now c.in-Ok.command c.serve.result c.serve.ensures.step c.serve.ensures.err c.requires
 
-pub returns-else-is_built-clause-answered : goal.returns-else-is_built-clause-answered
-returns-else-is_built-clause-answered g c =
+pub returns-in-Ok-clause-answered : goal.returns-in-Ok-clause-answered
+returns-in-Ok-clause-answered g c =
     by_bad_line (g.W.Store.files c.args.store.now) c.args.machine.now c.args.line.now c.in-Ok.command
     (subst (λ z. parse (Some z) c.args.line.now ≡ Ok c.in-Ok.command) c.schema.ensures c.in-Ok.ensures) (sym c.if-is_built.ensures)
 

@@ -7,8 +7,8 @@ use Rattle.rc_shell.proofs.session.Session.serve_input.Goals as goal
 pub loop-taken-init : goal.loop-taken-init
 loop-taken-init g c = (omega arith, c.requires.stands, λ start at. nothing_so_far LineStep EndsRun LeavesStore 0 start _ _ _ _ _ _ c.requires.fresh at)
 
-pub returns : goal.returns
-returns g c = λ start at segments.
+pub returns-clause-run : goal.returns-clause-run
+returns-clause-run g c = λ start at segments.
     let reached : c.loop-taken.taken ≡ c.args.limit = omega arith in
     limit_reached LineStep EndsRun LeavesStore segments start
     (g.S.Server.stands c.loop-taken.self.server (g.W.Store.files c.loop-taken.store, g.W.Store.faults c.loop-taken.store, g.W.Store.asks c.loop-taken.store)) c.args.limit c.loop-taken.taken c.loop-taken.self.held.items c.push_last.result _ _ _ _ _ _ _ _ _ _ _

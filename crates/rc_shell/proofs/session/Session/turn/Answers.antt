@@ -21,7 +21,7 @@ returns-in-Ok-serve_last-clause-run g c = λ start limit count left written i o 
     subst (λ n. Consumes (g.I.Source.left c.args.input.now) (g.I.Source.left c.pull.new.self) (take n c.pull.new.into)) c.in-Ok-eq0.field-0-test c.in-Ok-eq0.ensures.taken.0 in
     input_ended LineStep EndsRun LeavesStore segments start _ (g.S.Server.stands c.serve_last.new.self.server (g.W.Store.files c.serve_last.new.store, g.W.Store.faults c.serve_last.new.store, g.W.Store.asks c.serve_last.new.store)) limit _ count left _ _ written _ _ _ i _ _ o _ _ s
     (λ m stands. g.met.S.Server.leaves _ _ m stands) few none
-    (c.in-Ok-eq0.ensures.taken.1 c.in-Ok-eq0.field-0-test some) c.in-Ok-eq0.ensures.cause (λ rest now is at. c.in-Ok-serve_last.ensures rest now is at)
+    (c.in-Ok-eq0.ensures.taken.1 c.in-Ok-eq0.field-0-test some) c.in-Ok-eq0.ensures.cause (λ rest now is at. c.in-Ok-serve_last.ensures.served rest now is at)
 
 pub returns-in-Err-serve_last-clause-run : goal.returns-in-Err-serve_last-clause-run
 returns-in-Err-serve_last-clause-run g c = λ start limit count left written i o fits s segments.
@@ -30,7 +30,7 @@ returns-in-Err-serve_last-clause-run g c = λ start limit count left written i o
     let none : Consumes (g.I.Source.left c.args.input.now) (g.I.Source.left c.pull.new.self) [] =
     subst (λ n. Consumes (g.I.Source.left c.args.input.now) (g.I.Source.left c.pull.new.self) (take n c.pull.new.into)) c.in-Ok-eq0.field-0-test c.in-Ok-eq0.ensures.taken.0 in
     rw c.status.ensures (end_stopped LineStep EndsRun LeavesStore segments start _ (g.S.Server.stands c.serve_last.new.self.server (g.W.Store.files c.serve_last.new.store, g.W.Store.faults c.serve_last.new.store, g.W.Store.asks c.serve_last.new.store)) limit _ count left _ _ written _ _ _ i _ _ o _ _ c.in-Err-serve_last.stop s few none
-    (c.in-Ok-eq0.ensures.taken.1 c.in-Ok-eq0.field-0-test some) c.in-Ok-eq0.ensures.cause (λ rest now is at. c.in-Err-serve_last.ensures rest now is at))
+    (c.in-Ok-eq0.ensures.taken.1 c.in-Ok-eq0.field-0-test some) c.in-Ok-eq0.ensures.cause (λ rest now is at. c.in-Err-serve_last.ensures.served rest now is at))
 
 pub returns-in-Ok-feed-clause-run : goal.returns-in-Ok-feed-clause-run
 returns-in-Ok-feed-clause-run g c = λ start limit count left written i o fits s.

@@ -3,7 +3,7 @@ use Rattle.std.proofs.Common.{sym, subst, IfOk, OnErr}
 use Rattle.rc_lines.specs.declared.commands.Command.{Command}
 use Rattle.rc_machine.specs.Serving.{Takes, Stops}
 use Rattle.rc_plain.specs.Stands.{Stands}
-use Rattle.rc_plain.proofs.plain.Plain.serve.Goals as goal
+use Rattle.rc_plain.proofs.plain.PlainMachine.serve.Goals as goal
 
 pub returns-in-Put-clause-step : goal.returns-in-Put-clause-step
 returns-in-Put-clause-step g c =
@@ -22,8 +22,8 @@ returns-in-Read-clause-step g c =
 
 pub returns-in-Close-clause-step : goal.returns-in-Close-clause-step
 returns-in-Close-clause-step g c =
-    subst (λ (command : Command). Takes Stands (g.W.Store.files c.args.store.now) c.args.self.now command c.close.result (g.W.Store.files c.args.store.now) c.close.new.self) (sym c.in-Close.is)
-    (c.close.ensures.step (g.W.Store.files c.args.store.now))
+    subst (λ (command : Command). Takes Stands (g.W.Store.files c.args.store.now) c.args.self.now command c.close_reader.result (g.W.Store.files c.args.store.now) c.close_reader.new.self) (sym c.in-Close.is)
+    (c.close_reader.ensures.step (g.W.Store.files c.args.store.now))
 
 pub returns-in-Flush-clause-err : goal.returns-in-Flush-clause-err
 returns-in-Flush-clause-err g c =

@@ -1,11 +1,13 @@
 -- The words were refused, and that was said; memory ran out; or the input was served.
-use Rattle.std.proofs.Common.{◌≡◌, map, string_bytes, sym, ap, ◌∙◌, arith}
+use Rattle.std.proofs.Common.{◌≡◌, map, string_bytes, sym, ◌∙◌, arith}
+use Rattle.rc_shell.specs.Late.{IsBudget}
 use Rattle.rc_shell.specs.Step.{StoreView, LineStep, EndsRun, LeavesStore, start_moment}
 use Rattle.rc_shell.specs.Words.{words_of}
 use Rattle.rc_shell.specs.declared.words.Words.TheVariants.{Run, Refused}
+use Rattle.rc_shell.proofs.Budget.{words_budget}
 use Rattle.rc_shell.proofs.Ending.{words_refused, memory_refused}
 use Rattle.rc_shell.proofs.Staged.{begins_left, begins_stood}
-use Rattle.rc_shell.proofs.runs.run_with.Goals as goal
+use Rattle.rc_shell.proofs.runs.run_on.Goals as goal
 
 pub returns-in-Refused-clause-run : goal.returns-in-Refused-clause-run
 returns-in-Refused-clause-run g c =
@@ -16,18 +18,21 @@ pub returns-in-Ok-clause-run : goal.returns-in-Ok-clause-run
 returns-in-Ok-clause-run g c =
     let is : words_of (map string_bytes c.args.words.now) ≡ Run c.in-Run.segments = sym c.words_of.ensures ∙ c.in-Run.is in
     let store : StoreView = (g.W.Store.files c.args.store.now, g.W.Store.faults c.args.store.now, g.W.Store.asks c.args.store.now) in
-    rw is (c.serve_input.ensures (start_moment (Run c.in-Run.segments) store)
-    (begins_stood c.new-in-Ok.result.server.machine (Run c.in-Run.segments) store (ap (λ s. s.machine) c.new-in-Ok.ensures.server ∙ c.new.ensures)) c.in-Run.segments)
+    let budget : IsBudget c.in-Run.segments = words_budget (map string_bytes c.args.words.now) c.in-Run.segments is in
+    rw is (c.serve_by.ensures (start_moment (Run c.in-Run.segments) store)
+    (begins_stood g.M.Machine.stands c.new-machine.result.machine c.new-machine.result.segments c.in-Run.segments store c.new-machine.ensures.machine c.new-machine.ensures.segments budget) c.in-Run.segments)
 
 pub returns-in-Err-clause-run : goal.returns-in-Err-clause-run
 returns-in-Err-clause-run g c =
     let is : words_of (map string_bytes c.args.words.now) ≡ Run c.in-Run.segments = sym c.words_of.ensures ∙ c.in-Run.is in
     rw is (memory_refused LineStep EndsRun LeavesStore c.in-Run.segments (start_moment (Run c.in-Run.segments) _) c.args.limit _ _ _ _ _ (begins_left (Run c.in-Run.segments) _))
 
-pub serve_input-requires-clause-stands : goal.serve_input-requires-clause-stands
-serve_input-requires-clause-stands g c =
+pub serve_by-requires-clause-stands : goal.serve_by-requires-clause-stands
+serve_by-requires-clause-stands g c =
+    let is : words_of (map string_bytes c.args.words.now) ≡ Run c.in-Run.segments = sym c.words_of.ensures ∙ c.in-Run.is in
     let store : StoreView = (g.W.Store.files c.args.store.now, g.W.Store.faults c.args.store.now, g.W.Store.asks c.args.store.now) in
-    (start_moment Refused store, begins_stood c.new-in-Ok.result.server.machine Refused store (ap (λ s. s.machine) c.new-in-Ok.ensures.server ∙ c.new.ensures))
+    let budget : IsBudget c.in-Run.segments = words_budget (map string_bytes c.args.words.now) c.in-Run.segments is in
+    (start_moment (Run c.in-Run.segments) store, begins_stood g.M.Machine.stands c.new-machine.result.machine c.new-machine.result.segments c.in-Run.segments store c.new-machine.ensures.machine c.new-machine.ensures.segments budget)
 
-pub serve_input-requires-clause-small : goal.serve_input-requires-clause-small
-serve_input-requires-clause-small g c = omega (arith, c.in-Ok.ensures, c.deref_mut.ensures.len)
+pub serve_by-requires-clause-small : goal.serve_by-requires-clause-small
+serve_by-requires-clause-small g c = omega (arith, c.in-Ok.ensures, c.deref_mut.ensures.len)

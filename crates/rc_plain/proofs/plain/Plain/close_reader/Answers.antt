@@ -7,7 +7,7 @@ use Rattle.rc_lines.specs.declared.commands.Reply.TheVariants as replies
 use Rattle.rc_lines.specs.declared.commands.Refusal.TheVariants.{NoReader}
 use Rattle.rc_plain.proofs.Places.{Readers, open_some, open_none}
 use Rattle.rc_plain.proofs.Standing.{from, stay, takes_no_close, takes_close}
-use Rattle.rc_plain.proofs.plain.Plain.close.Goals as goal
+use Rattle.rc_plain.proofs.plain.Plain.close_reader.Goals as goal
 
 pub returns-then-is_none-clause-step : goal.returns-then-is_none-clause-step
 returns-then-is_none-clause-step c = λ files.
