@@ -1,14 +1,12 @@
 -- Which commands the program serves today: the one place that says so. A line of any other command is a bad line.
 use Rattle.std.specs.Prelude.{Bool, true, false}
 use Rattle.rc_lines.specs.declared.commands.Command.{Command}
-use Rattle.rc_lines.specs.declared.commands.Command.TheVariants.{FlushBegin, FlushStep, Evict, Compact, Clean, Stats}
+use Rattle.rc_lines.specs.declared.commands.Command.TheVariants.{FlushBegin, FlushStep, Evict, Clean}
 
--- whether a command is served: all but those of a flush in steps and of the cache
+-- whether a command is served: all but those of a flush in steps, of evictions and of cleaning
 abbrev pub is_built : Command → Bool
 is_built FlushBegin = false
 is_built (FlushStep count) = false
 is_built (Evict count) = false
-is_built (Compact count) = false
 is_built (Clean count) = false
-is_built Stats = false
 is_built command = true

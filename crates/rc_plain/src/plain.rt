@@ -24,7 +24,7 @@ ghost use Rattle.rc_plain.specs.calls.Storing.{IsFlushAnswered, sealed_all};
 use crate::memtable::Memtable;
 use crate::readers::{Rest, place_of};
 use rc_folder::{Folder, Machine, OpenErr};
-use rc_lines::{Command, Refusal, Reply};
+use rc_lines::{Command, Figures, Refusal, Reply};
 use rc_mutation::{Mutation, Write};
 use rc_outside::Store;
 use rc_position::{PartKey, Slice};
@@ -111,12 +111,12 @@ impl Machine for Plain {
             Command::Read { id, count } => self.read(alloc, *id, *count),
             Command::Close { id } => Ok(self.close_reader(*id)),
             Command::Flush => self.flush(alloc, store),
+            Command::Compact { .. } => Ok(Reply::Fine),
+            Command::Stats => Ok(Reply::Stats(no_figures())),
             Command::FlushBegin
             | Command::FlushStep { .. }
             | Command::Evict { .. }
-            | Command::Compact { .. }
-            | Command::Clean { .. }
-            | Command::Stats => unreachable!(),
+            | Command::Clean { .. } => unreachable!(),
         }
     }
 
@@ -311,6 +311,25 @@ impl Plain {
             }
             Err(error) => not_written(error),
         }
+    }
+}
+
+// The figures of a program that keeps no segments and counts nothing.
+fn no_figures() -> Figures {
+    Figures {
+        segments: 0,
+        free: 0,
+        objects: 0,
+        live: 0,
+        partitions: 0,
+        rows: 0,
+        dummies: 0,
+        hits: 0,
+        misses: 0,
+        evicted: 0,
+        moved: 0,
+        skipped: 0,
+        asks: 0,
     }
 }
 

@@ -18,10 +18,12 @@ use Rattle.rc_lines.specs.declared.commands.Command.TheVariants.{Put}
 use Rattle.rc_memory.specs.Memory.{HasPin, Memory}
 use Rattle.rc_chain.specs.declared.chains.Snap.{Snap}
 use Rattle.rc_snapshots.specs.declared.snaps.Snaps.{Snaps}
-use Rattle.rc_snapshots.specs.Seeing.{AllStillSee, StillSeeBoth, StillSees}
+use Rattle.rc_snapshots.specs.Seeing.{AllStillSee, AreSameSnapshots, StillSeeBoth, StillSees}
+use Rattle.rc_snapshots.specs.laws.Seeing.{seen-then}
 use Rattle.rc_unstored.specs.declared.unstored.Unstored.{Unstored}
 use Rattle.rc_unstored.specs.Memtables.{HaveWrites, in_chains}
 use Rattle.rc_unstored.specs.Readers.{IsNoneOf, IsSnapshotOfKey}
+use Rattle.rc_unstored.specs.Steps.{IsRoomMade}
 use Rattle.rc_opened.specs.declared.opened.Opened.{Opened}
 use Rattle.rc_opened.specs.Opened.{snaps_of}
 use Rattle.rc_folder.specs.Tabled.{Tabled}
@@ -85,6 +87,20 @@ if-ok-weaker (Err e) P Q f h = tt
 
 pub no-more-then : (m n l : Memory) → TakesNoMore m n → TakesNoMore n l → TakesNoMore m l
 no-more-then m n l a b = (b.0 ∙ a.0, (let x = a.1 in let y = b.1 in omega (arith, x, y)))
+
+pub kept-itself : (schema : SchemaValue) (u : Unstored 131072) → IsKept schema u u
+kept-itself schema u = record { stands = λ writes later h. h; seen = λ s on. record { pin = on; versions = refl; kind = refl }; room = (refl, omega arith) }
+
+pub kept-then : (schema : SchemaValue) (u v w : Unstored 131072) → IsKept schema u v → IsKept schema v w → IsKept schema u w
+kept-then schema u v w a b = record {
+  stands = λ writes later h. b.stands writes later (a.stands writes later h);
+  seen = seen-then u.chains v.chains w.chains a.seen b.seen;
+  room = no-more-then u.chains v.chains w.chains a.room b.room;
+}
+
+-- where objects moved
+pub room-kept : (schema : SchemaValue) (u v : Unstored 131072) → ((writes later : List Write) → HaveWrites schema u writes later → HaveWrites schema v writes later) → AreSameSnapshots u.chains v.chains → IsRoomMade u.chains v.chains → IsKept schema u v
+room-kept schema u v stands same room = record { stands = stands; seen = same.alike; room = (room.budget, (let a = room.live in omega (arith, a))) }
 
 -- in chains that are the same
 pub kept-in : (schema : SchemaValue) (u v : Unstored 131072) (m : Memory) → m ≡ v.chains → IsKept schema u v → IsKept schema u (in_chains m v)

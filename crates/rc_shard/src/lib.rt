@@ -5,5 +5,5 @@ mod counts;
 mod shard;
 
 pub use counts::Answered;
-pub use rc_folder::OpenErr;
-pub use shard::{Serves, Shard};
+pub use rc_folder::{Machine, OpenErr};
+pub use shard::Shard;

@@ -32,7 +32,7 @@ ghost use Rattle.rc_shard.specs.calls.Storing.{IsFlushAnswered, IsKept};
 
 use crate::counts::Answered;
 use rc_chain::Chains;
-use rc_folder::{Folder, OpenErr};
+use rc_folder::{Folder, Machine, OpenErr};
 use rc_lines::{Command, Figures, Refusal, Reply};
 use rc_mutation::{Mutation, Write};
 use rc_opened::{Leaves, Opened, what_is_left_stays_where_the_snapshots_see_the_same};
@@ -49,16 +49,6 @@ use std::alloc::{AllocError, Global};
 /// The most readers that may be open at once.
 const MOST_READERS: usize = 64;
 
-/// What serves the machine.
-pub trait Serves {
-    ghost use Rattle.std.specs.Prelude.{Option};
-    ghost use Rattle.rc_outside.specs.Files.{Files};
-    ghost use Rattle.rc_machine.specs.State.{State};
-
-    // over a store with these files it stands for the state
-    ghost stands: { Option Files → Self → State → Type 0 };
-}
-
 /// One shard: it takes one step of the machine after another. What is written and stands in no table lies in version chains, in a region
 /// of segments of 131,072 bytes; an open reader pins the versions that it sees, and reads what the tables say of its partition once, when
 /// it is opened.
@@ -71,17 +61,19 @@ pub struct Shard {
     asked: u64,
 }
 
-impl Serves for Shard {
+impl Machine for Shard {
     ghost use Rattle.rc_shard.specs.Stands.{Stands};
 
     ghost stands = { Stands ⟦<Opened as Leaves<Chains<131_072>>>⟧.lines };
-}
 
-impl Shard {
+    ghost folder = { λ k. k.folder };
+
+    ghost over = { λ told k m s. s.over };
+
     /// A shard over a folder of tables of a schema, each of which is checked, with a budget of so many segments, all of which are taken
     /// now: it stands for the machine as it is opened over them. `OpenErr::Damaged` and `OpenErr::OtherSchema` name the first file that is
     /// no table of the schema; `OpenErr::Fault` comes when the store fails, and only then; `OpenErr::NoMemory` when memory is refused.
-    pub fn open<W: Store>(
+    fn open<W: Store>(
         alloc: Global,
         store: &mut W,
         schema: Schema,
@@ -90,7 +82,7 @@ impl Shard {
         requires few { segments ≤ 4096 }
         requires some { 4 ≤ segments }
         ensures stands { IfOk result (λ shard. (tables : List Table) × (infos : List TableInfo) × AreTables (W.files store.old) schema tables × AreListed (W.files store.old) schema tables infos
-            × ⟦<Shard as Serves>⟧.stands (W.files store.new) shard (opened_state segments (W.files store.old) schema tables infos)) }
+            × ⟦<Shard as Machine>⟧.stands (W.files store.new) shard (opened_state segments (W.files store.old) schema tables infos)) }
         ensures answered { IfOk result (λ shard. (shard.answered.hits ≡ 0) × (shard.answered.misses ≡ 0)) }
         ensures asked { IfOk result (λ shard. shard.asked ≡ W.asks store.new) }
         ensures refused { IfErr result (IsOpeningRefused (W.files store.old) schema) }
@@ -113,12 +105,52 @@ impl Shard {
     }
 
     /// The schema of the tables.
-    pub fn schema(&self) -> &Schema
+    fn schema(&self) -> &Schema
         ensures { result.now ≡ self.now.folder.schema }
     {
         self.folder.schema()
     }
 
+    /// Takes the step of a command that fits the schema and is one of those that are built, and gives its reply, which may be a refusal.
+    /// The only error is want of memory, which leaves the machine's state as it was, but that a flush may have sealed the writes.
+    fn serve<W: Store>(
+        &mut self,
+        alloc: Global,
+        store: &mut W,
+        command: &Command,
+    ) -> Result<Reply, AllocError>
+        requires fits { CommandFits self.old.folder.schema command.now }
+        requires built { IsTrue (is_built command.now) }
+        requires stands { (m : State) × ⟦<Shard as Machine>⟧.stands (W.files store.old) self.old m }
+        ensures step { IfOk result (λ reply. Takes ⟦<Shard as Machine>⟧.stands (W.files store.old) self.old command.now reply (W.files store.new) self.new) }
+        ensures err { OnErr result (Stops ⟦<Shard as Machine>⟧.stands (W.files store.old) self.old command.now (W.files store.new) self.new) }
+        ensures faults { FaultsAreCounted result (W.faults store.old) (W.faults store.new) }
+        ensures asks { W.asks store.new ≤ W.asks store.old + most_asks self.old.folder.infos command.now }
+        ensures counts { IfOk result (λ reply. self.new.answered ≡ counted command.now reply (W.asks store.old) (W.asks store.new) self.old.answered) }
+    {
+        let before = store.asks();
+        let reply = self.step(alloc, store, command)?;
+        self.answered = self.answered.count(command, &reply, before, store.asks());
+        Ok(reply)
+    }
+
+    /// Takes every snapshot of the open readers back, and lets the shard go.
+    fn close(self)
+        requires { (told : Option Files) × (m : State) × ⟦<Shard as Machine>⟧.stands told self m }
+    {
+        let Shard {
+            folder: _folder,
+            unstored,
+            readers,
+            answered: _answered,
+            segments: _segments,
+            asked: _asked,
+        } = self;
+        close_all(unstored, readers);
+    }
+}
+
+impl Shard {
     /// What the shard tells of itself, where the store was asked so often: its segments and objects, how many answers were had with and
     /// without asking the store, and how often it was asked since the shard was opened. What is cached is nothing yet.
     pub fn figures<W: Store>(&self, store: &W) -> Figures
@@ -144,44 +176,6 @@ impl Shard {
         }
     }
 
-    /// Takes the step of a command that fits the schema and is one of those that are built, and gives its reply, which may be a refusal.
-    /// The only error is want of memory, which leaves the machine's state as it was, but that a flush may have sealed the writes.
-    pub fn serve<W: Store>(
-        &mut self,
-        alloc: Global,
-        store: &mut W,
-        command: &Command,
-    ) -> Result<Reply, AllocError>
-        requires fits { CommandFits self.old.folder.schema command.now }
-        requires built { IsTrue (is_built command.now) }
-        requires stands { (m : State) × ⟦<Shard as Serves>⟧.stands (W.files store.old) self.old m }
-        ensures step { IfOk result (λ reply. Takes ⟦<Shard as Serves>⟧.stands (W.files store.old) self.old command.now reply (W.files store.new) self.new) }
-        ensures err { OnErr result (Stops ⟦<Shard as Serves>⟧.stands (W.files store.old) self.old command.now (W.files store.new) self.new) }
-        ensures faults { FaultsAreCounted result (W.faults store.old) (W.faults store.new) }
-        ensures asks { W.asks store.new ≤ W.asks store.old + most_asks self.old.folder.infos command.now }
-        ensures counts { IfOk result (λ reply. self.new.answered ≡ counted command.now reply (W.asks store.old) (W.asks store.new) self.old.answered) }
-    {
-        let before = store.asks();
-        let reply = self.step(alloc, store, command)?;
-        self.answered = self.answered.count(command, &reply, before, store.asks());
-        Ok(reply)
-    }
-
-    /// Takes every snapshot of the open readers back, and lets the shard go.
-    pub fn close(self)
-        requires { (told : Option Files) × (m : State) × ⟦<Shard as Serves>⟧.stands told self m }
-    {
-        let Shard {
-            folder: _folder,
-            unstored,
-            readers,
-            answered: _answered,
-            segments: _segments,
-            asked: _asked,
-        } = self;
-        close_all(unstored, readers);
-    }
-
     // Takes the step of a command, without counting it.
     fn step<W: Store>(
         &mut self,
@@ -191,9 +185,9 @@ impl Shard {
     ) -> Result<Reply, AllocError>
         requires fits { CommandFits self.old.folder.schema command.now }
         requires built { IsTrue (is_built command.now) }
-        requires stands { (m : State) × ⟦<Shard as Serves>⟧.stands (W.files store.old) self.old m }
-        ensures step { IfOk result (λ reply. Takes ⟦<Shard as Serves>⟧.stands (W.files store.old) self.old command.now reply (W.files store.new) self.new) }
-        ensures err { OnErr result (Stops ⟦<Shard as Serves>⟧.stands (W.files store.old) self.old command.now (W.files store.new) self.new) }
+        requires stands { (m : State) × ⟦<Shard as Machine>⟧.stands (W.files store.old) self.old m }
+        ensures step { IfOk result (λ reply. Takes ⟦<Shard as Machine>⟧.stands (W.files store.old) self.old command.now reply (W.files store.new) self.new) }
+        ensures err { OnErr result (Stops ⟦<Shard as Machine>⟧.stands (W.files store.old) self.old command.now (W.files store.new) self.new) }
         ensures faults { FaultsAreCounted result (W.faults store.old) (W.faults store.new) }
         ensures asks { W.asks store.new ≤ W.asks store.old + most_asks self.old.folder.infos command.now }
         ensures counts { CountsStay self.old self.new }
@@ -206,18 +200,22 @@ impl Shard {
             Command::Read { id, count } => self.read(alloc, *id, *count),
             Command::Close { id } => Ok(self.close_reader(*id)),
             Command::Flush => self.flush(alloc, store),
+            Command::Compact { count } => {
+                what_is_left_stays_where_the_snapshots_see_the_same::<131_072>();
+                compact(&mut self.unstored, *count);
+                Ok(Reply::Fine)
+            }
+            Command::Stats => Ok(Reply::Stats(self.figures(store))),
             Command::FlushBegin
             | Command::FlushStep { .. }
             | Command::Evict { .. }
-            | Command::Compact { .. }
-            | Command::Clean { .. }
-            | Command::Stats => unreachable!(),
+            | Command::Clean { .. } => unreachable!(),
         }
     }
 
     // The reply to a schema line: fine where it is the same schema again.
     fn set_schema(&self, schema: &Schema) -> Reply
-        ensures step { (files : Option Files) → Takes ⟦<Shard as Serves>⟧.stands files self.now (Command.SetSchema schema.now) result files self.now }
+        ensures step { (files : Option Files) → Takes ⟦<Shard as Machine>⟧.stands files self.now (Command.SetSchema schema.now) result files self.now }
         ensures faultless { (n : ℕ) → OnFaulty result (Rose n n) }
     {
         if self.folder.schema().is_same(schema) {
@@ -230,10 +228,10 @@ impl Shard {
     // Puts a write behind the others, where there is room for it.
     fn put(&mut self, alloc: Global, write: &Write) -> Result<Reply, AllocError>
         requires fits { CommandFits self.old.folder.schema (Command.Put write.now) }
-        requires stands { (files : Option Files) × (m : State) × ⟦<Shard as Serves>⟧.stands files self.old m }
-        ensures step { (files : Option Files) → IfOk result (λ reply. Takes ⟦<Shard as Serves>⟧.stands files self.old (Command.Put write.now) reply files self.new) }
+        requires stands { (files : Option Files) × (m : State) × ⟦<Shard as Machine>⟧.stands files self.old m }
+        ensures step { (files : Option Files) → IfOk result (λ reply. Takes ⟦<Shard as Machine>⟧.stands files self.old (Command.Put write.now) reply files self.new) }
         ensures faultless { (n : ℕ) → IfOk result (λ reply. OnFaulty reply (Rose n n)) }
-        ensures err { OnErr result (Keeps ⟦<Shard as Serves>⟧.stands self.old self.new) }
+        ensures err { OnErr result (Keeps ⟦<Shard as Machine>⟧.stands self.old self.new) }
         ensures counts { CountsStay self.old self.new }
     {
         what_is_left_stays_where_the_snapshots_see_the_same::<131_072>();
@@ -258,9 +256,9 @@ impl Shard {
         key: &PartKey,
         slice: &Slice,
     ) -> Result<Reply, AllocError>
-        requires { (m : State) × ⟦<Shard as Serves>⟧.stands (W.files store.old) self.old m }
-        ensures step { IfOk result (λ reply. Takes ⟦<Shard as Serves>⟧.stands (W.files store.old) self.old (Command.OpenRead id key.now slice.now) reply (W.files store.new) self.new) }
-        ensures err { OnErr result (Keeps ⟦<Shard as Serves>⟧.stands self.old self.new) }
+        requires { (m : State) × ⟦<Shard as Machine>⟧.stands (W.files store.old) self.old m }
+        ensures step { IfOk result (λ reply. Takes ⟦<Shard as Machine>⟧.stands (W.files store.old) self.old (Command.OpenRead id key.now slice.now) reply (W.files store.new) self.new) }
+        ensures err { OnErr result (Keeps ⟦<Shard as Machine>⟧.stands self.old self.new) }
         ensures faults { FaultsAreCounted result (W.faults store.old) (W.faults store.new) }
         ensures store { HoldsSameFiles W.files W.building store.old store.new }
         ensures asks { W.asks store.new ≤ W.asks store.old + 2 * listing key.now self.old.folder.infos }
@@ -287,12 +285,12 @@ impl Shard {
         slice: &Slice,
         tables: &Mutation,
     ) -> Result<Reply, AllocError>
-        requires stands { (files : Option Files) × (m : State) × ⟦<Shard as Serves>⟧.stands files self.old m }
+        requires stands { (files : Option Files) × (m : State) × ⟦<Shard as Machine>⟧.stands files self.old m }
         requires unused { position (λ reader. reader.0 == id) self.old.readers.items ≡ None }
         ensures fine { IfOk result (λ reply. reply ≡ Reply.Fine) }
-        ensures opened { (files : Option Files) (m : State) (said : List Change) → ⟦<Shard as Serves>⟧.stands files self.old m → IsJoinOf tables.now said →
-            IfOk result (λ _. ⟦<Shard as Serves>⟧.stands files self.new (record m { readers = m.readers ++ (id, reader_with m key.now slice.now (answer (said ++ changes_to key.now (unstored m)) slice.now)) ∷ [] })) }
-        ensures err { OnErr result (Keeps ⟦<Shard as Serves>⟧.stands self.old self.new) }
+        ensures opened { (files : Option Files) (m : State) (said : List Change) → ⟦<Shard as Machine>⟧.stands files self.old m → IsJoinOf tables.now said →
+            IfOk result (λ _. ⟦<Shard as Machine>⟧.stands files self.new (record m { readers = m.readers ++ (id, reader_with m key.now slice.now (answer (said ++ changes_to key.now (unstored m)) slice.now)) ∷ [] })) }
+        ensures err { OnErr result (Keeps ⟦<Shard as Machine>⟧.stands self.old self.new) }
         ensures counts { CountsStay self.old self.new }
     {
         what_is_left_stays_where_the_snapshots_see_the_same::<131_072>();
@@ -307,10 +305,10 @@ impl Shard {
 
     // Gives a reader's next lines.
     fn read(&mut self, alloc: Global, id: u32, count: u32) -> Result<Reply, AllocError>
-        requires { (files : Option Files) × (m : State) × ⟦<Shard as Serves>⟧.stands files self.old m }
-        ensures step { (files : Option Files) → IfOk result (λ reply. Takes ⟦<Shard as Serves>⟧.stands files self.old (Command.Read id count) reply files self.new) }
+        requires { (files : Option Files) × (m : State) × ⟦<Shard as Machine>⟧.stands files self.old m }
+        ensures step { (files : Option Files) → IfOk result (λ reply. Takes ⟦<Shard as Machine>⟧.stands files self.old (Command.Read id count) reply files self.new) }
         ensures faultless { (n : ℕ) → IfOk result (λ reply. OnFaulty reply (Rose n n)) }
-        ensures err { OnErr result (Keeps ⟦<Shard as Serves>⟧.stands self.old self.new) }
+        ensures err { OnErr result (Keeps ⟦<Shard as Machine>⟧.stands self.old self.new) }
         ensures counts { CountsStay self.old self.new }
     {
         match place_of(self.readers.as_slice(), id) {
@@ -325,8 +323,8 @@ impl Shard {
 
     // Closes a reader: its snapshots are taken back.
     fn close_reader(&mut self, id: u32) -> Reply
-        requires { (files : Option Files) × (m : State) × ⟦<Shard as Serves>⟧.stands files self.old m }
-        ensures step { (files : Option Files) → Takes ⟦<Shard as Serves>⟧.stands files self.old (Command.Close id) result files self.new }
+        requires { (files : Option Files) × (m : State) × ⟦<Shard as Machine>⟧.stands files self.old m }
+        ensures step { (files : Option Files) → Takes ⟦<Shard as Machine>⟧.stands files self.old (Command.Close id) result files self.new }
         ensures faultless { (n : ℕ) → OnFaulty result (Rose n n) }
         ensures counts { CountsStay self.old self.new }
     {
@@ -343,9 +341,9 @@ impl Shard {
 
     // Writes the sealed writes as the next table; all writes are sealed before, unless some are.
     fn flush<W: Store>(&mut self, alloc: Global, store: &mut W) -> Result<Reply, AllocError>
-        requires { (m : State) × ⟦<Shard as Serves>⟧.stands (W.files store.old) self.old m }
-        ensures step { IfOk result (λ reply. Takes ⟦<Shard as Serves>⟧.stands (W.files store.old) self.old Command.Flush reply (W.files store.new) self.new) }
-        ensures err { OnErr result (Stops ⟦<Shard as Serves>⟧.stands (W.files store.old) self.old Command.Flush (W.files store.new) self.new) }
+        requires { (m : State) × ⟦<Shard as Machine>⟧.stands (W.files store.old) self.old m }
+        ensures step { IfOk result (λ reply. Takes ⟦<Shard as Machine>⟧.stands (W.files store.old) self.old Command.Flush reply (W.files store.new) self.new) }
+        ensures err { OnErr result (Stops ⟦<Shard as Machine>⟧.stands (W.files store.old) self.old Command.Flush (W.files store.new) self.new) }
         ensures faults { FaultsAreCounted result (W.faults store.old) (W.faults store.new) }
         ensures asks { W.asks store.new ≡ W.asks store.old }
         ensures counts { CountsStay self.old self.new }
@@ -370,7 +368,7 @@ impl Shard {
         store: &mut W,
         number: u32,
     ) -> Result<Reply, AllocError>
-        requires stands { (m : State) × ⟦<Shard as Serves>⟧.stands (W.files store.old) self.old m }
+        requires stands { (m : State) × ⟦<Shard as Machine>⟧.stands (W.files store.old) self.old m }
         requires number { IsNextNumber self.old.folder.infos (Some number) }
         ensures written { IfOk result (IsFlushAnswered (W.files store.old) self.old number (W.files store.new) self.new) }
         ensures err { OnErr result ((self.new.folder ≡ self.old.folder) × IsKept self.old.folder.schema self.old.unstored self.new.unstored × (W.files store.new ≡ W.files store.old)) }
@@ -417,6 +415,17 @@ fn open_in(
         Err((snaps, error)) => {
             unstored.release_both(snaps);
             Err(error)
+        }
+    }
+}
+
+// Empties sparse segments, one after another, at most so many.
+fn compact(unstored: &mut Unstored<131_072>, count: u32)
+    ensures { (schema : SchemaValue) → IsKept schema unstored.old unstored.new }
+{
+    for _round in 0..count {
+        if !unstored.compact_one() {
+            return;
         }
     }
 }

@@ -14,7 +14,7 @@ use rc_outside::{Sink, Source, Store};
 use std::alloc::Global;
 
 /// The machine that the program runs on.
-type Program = rc_plain::Plain;
+type Program = rc_shard::Shard;
 
 /// The most input that a run takes: 2^40 bytes.
 const INPUT_LIMIT: u64 = 1 << 40;

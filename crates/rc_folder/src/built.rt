@@ -1,11 +1,11 @@
-//! Which commands the plain program serves.
+//! Which commands are served.
 
 ghost use Rattle.std.specs.Prelude.{◌≡◌};
 ghost use Rattle.rc_machine.specs.Built.{is_built};
 
 use rc_lines::Command;
 
-/// Whether a command is served: all but those of a flush in steps and of the cache.
+/// Whether a command is served: all but those of a flush in steps, of evictions and of cleaning.
 pub fn is_built(command: &Command) -> bool
     ensures { result ≡ is_built command.now }
 {
@@ -13,15 +13,15 @@ pub fn is_built(command: &Command) -> bool
         Command::FlushBegin
         | Command::FlushStep { .. }
         | Command::Evict { .. }
-        | Command::Compact { .. }
-        | Command::Clean { .. }
-        | Command::Stats => false,
+        | Command::Clean { .. } => false,
         Command::Nothing
         | Command::SetSchema(_)
         | Command::Put(_)
         | Command::OpenRead { .. }
         | Command::Read { .. }
         | Command::Close { .. }
-        | Command::Flush => true,
+        | Command::Flush
+        | Command::Compact { .. }
+        | Command::Stats => true,
     }
 }
