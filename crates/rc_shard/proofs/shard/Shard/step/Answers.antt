@@ -3,7 +3,8 @@ use Rattle.std.proofs.Common.{◌≡◌, refl, sym, subst, IfOk, OnErr}
 use Rattle.rc_lines.specs.declared.commands.Command.{Command}
 use Rattle.rc_machine.specs.Serving.{Takes, Stops}
 use Rattle.rc_shard.proofs.Standing.{on-err-weaker}
-use Rattle.rc_shard.proofs.Taking.{keeps-files}
+use Rattle.rc_shard.specs.declared.shard.Shard.{Shard}
+use Rattle.rc_shard.proofs.Taking.{keeps-files, keeps-kept}
 use Rattle.rc_shard.proofs.shard.Shard.step.Goals as goal
 
 pub returns-in-SetSchema-clause-step : goal.returns-in-SetSchema-clause-step
@@ -32,3 +33,10 @@ returns-in-Close-clause-step g c = rw (c.in-Close.is) (c.close_reader.ensures.st
 
 pub returns-in-Flush-clause-err : goal.returns-in-Flush-clause-err
 returns-in-Flush-clause-err g c = rw (c.in-Flush.is) c.flush.ensures.err
+
+pub returns-in-Compact-clause-step : goal.returns-in-Compact-clause-step
+returns-in-Compact-clause-step g c =
+    let files = g.W.Store.files c.args.store.now in
+    let new : Shard = record c.args.self.now { unstored = c.compact.new.unstored } in
+    let keeps = keeps-kept _ c.what_is_left_stays_where_the_snapshots_see_the_same.ensures c.args.self.now new refl refl refl (λ schema e. c.compact.ensures schema) in
+    rw (c.in-Compact.is) (λ m s. (m, (refl, refl), keeps files m s))

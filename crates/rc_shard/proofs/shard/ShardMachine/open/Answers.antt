@@ -1,7 +1,7 @@
 -- As it is opened it stands for the machine as that is opened.
 use Rattle.std.proofs.Common.{◌≡◌, refl, sym, ◌∙◌}
 use Rattle.rc_shard.proofs.Standing.{opened-for}
-use Rattle.rc_shard.proofs.shard.Shard.open.Goals as goal
+use Rattle.rc_shard.proofs.shard.ShardMachine.open.Goals as goal
 
 pub returns-in-Ok-clause-stands : goal.returns-in-Ok-clause-stands
 returns-in-Ok-clause-stands g c =
