@@ -1,6 +1,19 @@
 -- Each round keeps what was written and seen.
+use Rattle.rc_schema.specs.SchemaValue.{SchemaValue}
+use Rattle.rc_unstored.specs.declared.unstored.Unstored.{Unstored}
+use Rattle.rc_shard.specs.calls.Storing.{IsKept}
 use Rattle.rc_shard.proofs.Standing.{kept-itself, kept-then, room-kept}
 use Rattle.rc_shard.proofs.shard.compact.Goals as goal
 
-pub loop-_round-init : goal.loop-_round-init
-loop-_round-init c = λ schema. kept-itself schema c.args.unstored.now
+pub loop-round-init : goal.loop-round-init
+loop-round-init c = λ schema. kept-itself schema c.args.unstored.now
+
+pub loop-round-preserved : goal.loop-round-preserved
+loop-round-preserved c = λ schema.
+    kept-then schema c.args.unstored.now c.loop-round.unstored c.compact_one.new.self (c.loop-round.invariant schema)
+    (room-kept schema c.loop-round.unstored c.compact_one.new.self (λ writes later h. c.compact_one.ensures.stands schema writes later h) c.compact_one.ensures.seen c.compact_one.ensures.room)
+
+pub returns-then-not-compact_one : goal.returns-then-not-compact_one
+returns-then-not-compact_one c = λ schema.
+    kept-then schema c.args.unstored.now c.loop-round.unstored c.compact_one.new.self (c.loop-round.invariant schema)
+    (room-kept schema c.loop-round.unstored c.compact_one.new.self (λ writes later h. c.compact_one.ensures.stands schema writes later h) c.compact_one.ensures.seen c.compact_one.ensures.room)
