@@ -62,7 +62,13 @@ impl Opened {
         new_sources_say_what_was_written::<S>();
         tables.holds_together();
         match sources(alloc, snaps, tables) {
-            Ok(stream) => match Reader::open(alloc, stream, slice, chains, &mut NoFiles { begun: false }) {
+            Ok(stream) => match Reader::open(
+                alloc,
+                stream,
+                slice,
+                chains,
+                &mut NoFiles { begun: false },
+            ) {
                 Ok(reader) => Ok(Opened { reader }),
                 Err((stream, _)) => Err((given_back(stream), AllocError)),
             },
@@ -84,7 +90,10 @@ impl Opened {
         ensures snaps { snaps_of self.new ≡ snaps_of self.old }
         ensures chains { chains.new ≡ chains.old }
     {
-        match self.reader.read(alloc, chains, &mut NoFiles { begun: false }, count) {
+        match self
+            .reader
+            .read(alloc, chains, &mut NoFiles { begun: false }, count)
+        {
             Ok(gave) => Ok(gave),
             Err(StreamErr::NoMemory) => Err(AllocError),
             Err(StreamErr::Fault) | Err(StreamErr::Damaged { .. }) => unreachable!(),

@@ -115,9 +115,11 @@ module _ (lines : Opened → Memory → List OutLine → Type 0) where
         (seals : (m : State) → Stands lines files k m → Stands lines files l (record m { sealed = sealing m })) (segs : k'.segments ≡ l.segments) (items : k'.readers.items ≡ l.readers.items) where
       takes-write-fault : k'.folder ≡ l.folder → IsKept l.folder.schema l.unstored k'.unstored → files' ≡ files → Takes (Stands lines) files k Flush (replies.Refused WriteFault) files' k'
       takes-write-fault folder kept still = λ m s.
-          let sealed : State = record m { sealed = sealing m } in
-          (sealed, flushes without_sealed m _ _ false false s.whole (some-here files k m some s) (in_time files k.folder.schema k.folder.infos m n s.over is) (inr (refl, refl)),
-           subst (λ told. Stands lines told k' sealed) (sym still) (moved lines files l k' k'.unstored l.readers.items sealed folder refl segs items (kept-for lines stays files l.folder l.unstored k'.unstored l.readers.items l.segments sealed kept (seals m s))))
+          let sealed : State = record m { sealed = sealing m } in (
+            sealed,
+            flushes without_sealed m _ _ false false s.whole (some-here files k m some s) (in_time files k.folder.schema k.folder.infos m n s.over is) (inr (refl, refl)),
+            subst (λ told. Stands lines told k' sealed) (sym still) (moved lines files l k' k'.unstored l.readers.items sealed folder refl segs items (kept-for lines stays files l.folder l.unstored k'.unstored l.readers.items l.segments sealed kept (seals m s))),
+          )
 
       -- the sealed writes stand in the next table
       module _ (same : l.folder ≡ k.folder) (i : IsTableStored files l n files' k') where

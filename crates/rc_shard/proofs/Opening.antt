@@ -74,7 +74,7 @@ module _ (lines : Opened → Memory → List OutLine → Type 0) (stays : (o : O
   pub opens-reader : (files : Option Files) (k k' : Shard) (id : ℕ) (key : List ℕ) (slice : Slice) (join : Mutation) (x : Opened) → ((writes later : List Write) → changes_to key (writes ++ later) ≡ changes_to key writes ++ changes_to key later) →
       position (λ reader. reader.0 == id) k.readers.items ≡ None → k'.folder ≡ k.folder → k'.segments ≡ k.segments → k'.readers.items ≡ k.readers.items ++ (id, x) ∷ [] → ((schema : SchemaValue) → IsKept schema k.unstored k'.unstored) →
       ((schema : SchemaValue) (writes later : List Write) (said : List Mutation) → HaveWrites schema k.unstored writes later → IsJoinOf join said → AreChangesOf schema (changes_to key writes) → AreChangesOf schema (changes_to key later) →
-          lines x k'.unstored.chains (answer (said ++ (changes_to key writes ++ changes_to key later)) slice)) →
+      lines x k'.unstored.chains (answer (said ++ (changes_to key writes ++ changes_to key later)) slice)) →
       AreThere k'.unstored.chains (snaps_of x) → AreOfTwo (snaps_of x) → ((s : Snap) → HasPin k.unstored.chains s.chain s.pin → IsNoneOf (snaps_of x) s) →
       (m : State) (said : List Mutation) → Stands lines files k m → IsJoinOf join said → Stands lines files k' (record m { readers = m.readers ++ (id, reader_with m key slice (answer (said ++ changes_to key (unstored m)) slice)) ∷ [] })
   opens-reader files k k' id key slice join x both unused folder segs items kept gives there two fresh m said s j =

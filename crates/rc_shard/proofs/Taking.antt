@@ -142,9 +142,11 @@ module _ (lines : Opened → Memory → List OutLine → Type 0) where
       ((m : State) (said : List Mutation) → Stands lines files k m → IsJoinOf join said → Stands lines files k' (record m { readers = m.readers ++ (id, reader_with m key slice (answer (said ++ changes_to key (unstored m)) slice)) ∷ [] })) →
       Takes (Stands lines) files k (OpenRead id key slice) replies.Fine files k'
   takes-open files k k' id key slice join none h said made = λ m s.
-      let all = said m s.over in
-      (record m { readers = m.readers ++ (id, reader_with m key slice (answer (all.0 ++ changes_to key (unstored m)) slice)) ∷ [] },
-       rw (look-none lines k.unstored.chains id k.readers.items m.readers s.served none, few-open files k m s h) (inl (all.0, all.1, (refl, refl))), made m all.0 s all.2)
+      let all = said m s.over in (
+        record m { readers = m.readers ++ (id, reader_with m key slice (answer (all.0 ++ changes_to key (unstored m)) slice)) ∷ [] },
+        rw (look-none lines k.unstored.chains id k.readers.items m.readers s.served none, few-open files k m s h) (inl (all.0, all.1, (refl, refl))),
+        made m all.0 s all.2,
+      )
 
   -- what was answered of an opening
   pub opened-of : (files files' : Option Files) (k k' : Shard) (id : ℕ) (key : List ℕ) (slice : Slice) (join : Mutation) (r : Result Reply AllocError) → files' ≡ files → IsNowhere id k.readers.items → length k.readers.items < most_readers →
@@ -170,9 +172,11 @@ module _ (lines : Opened → Memory → List OutLine → Type 0) where
       let two : AreOfTwo (snaps_of x.1) = subst AreOfTwo (sym snaps) f.chains in
       let served = set-served lines k.unstored.chains id at d x (reader_past count r) k.readers.items m.readers (same ∙ ap (λ (o : ℕ × Opened). o.0) (sym here)) given-lines there two p s.served in
       let pairs = same-two id at d x k.readers.items p (same ∙ ap (λ (o : ℕ × Opened). o.0) (sym here)) (snaps ∙ ap (λ (o : ℕ × Opened). snaps_of o.1) (sym here)) s.two in
-      let stands = reading-for lines files k.folder k.unstored k.unstored k.readers.items (set k.readers.items at x) k.segments m given (λ writes later h. h) (no-more-same k.unstored.chains k.unstored.chains refl) served pairs s in
-      (record m { readers = given }, rw (f.found) (inl (reply, refl)),
-       moved files k k' k.unstored (set k.readers.items at x) (record m { readers = given }) folder unst segs items stands)
+      let stands = reading-for lines files k.folder k.unstored k.unstored k.readers.items (set k.readers.items at x) k.segments m given (λ writes later h. h) (no-more-same k.unstored.chains k.unstored.chains refl) served pairs s in (
+        record m { readers = given },
+        rw (f.found) (inl (reply, refl)),
+        moved files k k' k.unstored (set k.readers.items at x) (record m { readers = given }) folder unst segs items stands,
+      )
 
   -- a reader gave none, for want of memory
   pub keeps-read : (k k' : Shard) (id at : ℕ) (d x : ℕ × Opened) → IsPlace id k.readers.items at → get_or k.readers.items at d ≡ d → ((ls : List OutLine) → lines d.1 k.unstored.chains ls → lines x.1 k'.unstored.chains ls) → x.0 ≡ d.0 → snaps_of x.1 ≡ snaps_of d.1 →
@@ -196,18 +200,22 @@ module _ (lines : Opened → Memory → List OutLine → Type 0) where
         let given : List (ℕ × Reader) = filter (λ reader. not (reader.0 == id)) m.readers in
         let beside = subst (λ (o : ℕ × Opened). (t : Snap) → IsNoneOf (snaps_of o.1) t → HasPin k.unstored.chains t.chain t.pin → StillSees t k.unstored.chains k'.unstored.chains) (sym here) others in
         let served = removed-served lines stays k.unstored.chains k'.unstored.chains id at d k.readers.items m.readers beside p s.two s.served in
-        let new = reading-for lines files k.folder k.unstored k'.unstored k.readers.items (remove k.readers.items at) k.segments m given (stands k.folder.schema) room served (fewer-two id at k.readers.items p s.two) s in
-        (record m { readers = given }, rw (f.found) (refl, refl),
-         moved files k k' k'.unstored (remove k.readers.items at) (record m { readers = given }) folder refl segs items new)
+        let new = reading-for lines files k.folder k.unstored k'.unstored k.readers.items (remove k.readers.items at) k.segments m given (stands k.folder.schema) room served (fewer-two id at k.readers.items p s.two) s in (
+          record m { readers = given },
+          rw (f.found) (refl, refl),
+          moved files k k' k'.unstored (remove k.readers.items at) (record m { readers = given }) folder refl segs items new,
+        )
 
     -- ---- a write
 
     pub takes-put : (files : Option Files) (k k' : Shard) (w : Write) → CommandFits k.folder.schema (Put w) → IsMutation w.change → k'.folder ≡ k.folder → k'.segments ≡ k.segments → k'.readers.items ≡ k.readers.items →
         ((writes later : List Write) → HaveWrites k.folder.schema k.unstored writes later → HaveWrites k.folder.schema k'.unstored writes (later ++ w ∷ [])) → AllStillSee k.unstored.chains k'.unstored.chains →
         length k'.unstored.chains.region.usages ≡ length k.unstored.chains.region.usages → live_bytes k'.unstored.chains.region ≤ live_bytes k.unstored.chains.region + weight w.change → Takes (Stands lines) files k (Put w) replies.Fine files k'
-    takes-put files k k' w fits is folder segs items stands seen budget live = λ m s.
-        (record m { log = m.log ++ w ∷ [] }, inl (refl, refl),
-         moved files k k' k'.unstored k.readers.items (record m { log = m.log ++ w ∷ [] }) folder refl segs items (written-for lines stays files k.folder k.unstored k'.unstored k.readers.items k.segments m w fits is stands seen budget live s))
+    takes-put files k k' w fits is folder segs items stands seen budget live = λ m s. (
+      record m { log = m.log ++ w ∷ [] },
+      inl (refl, refl),
+      moved files k k' k'.unstored k.readers.items (record m { log = m.log ++ w ∷ [] }) folder refl segs items (written-for lines stays files k.folder k.unstored k'.unstored k.readers.items k.segments m w fits is stands seen budget live s),
+    )
 
     pub takes-full : (files : Option Files) (k k' : Shard) (w : Write) → k'.folder ≡ k.folder → k'.segments ≡ k.segments → k'.readers.items ≡ k.readers.items → IsKept k.folder.schema k.unstored k'.unstored →
         3 * 131072 / 4 * (length k'.unstored.chains.region.usages - 2) < live_bytes k'.unstored.chains.region → Takes (Stands lines) files k (Put w) (replies.Refused Full) files k'

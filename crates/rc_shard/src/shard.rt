@@ -39,11 +39,13 @@ use rc_opened::{Leaves, Opened, what_is_left_stays_where_the_snapshots_see_the_s
 use rc_outside::Store;
 use rc_position::{PartKey, Slice};
 use rc_schema::Schema;
+use rc_snapshots::laws::a_snapshot_sees_what_it_saw;
 use rc_stream::StreamErr;
 use rc_tfile::WriteErr;
-use rc_snapshots::laws::a_snapshot_sees_what_it_saw;
 use rc_unstored::Unstored;
-use rc_unstored::laws::{both_say_what_was_written, what_a_call_leaves_of_the_room, what_a_snapshot_of_a_key_sees};
+use rc_unstored::laws::{
+    both_say_what_was_written, what_a_call_leaves_of_the_room, what_a_snapshot_of_a_key_sees,
+};
 use std::alloc::{AllocError, Global};
 
 /// The most readers that may be open at once.

@@ -12,10 +12,15 @@ use Rattle.rc_shard.proofs.shard.open_in.Goals as goal
 
 pub open-requires : goal.open-requires
 open-requires c =
-    let r = c.requires in
-    (omega arith, (changes_to c.args.key.now r.1, changes_to c.args.key.now r.2,
-     c.what_a_snapshot_of_a_key_sees.ensures c.args.key.now r.1 c.args.unstored.now.chains c.snapshot.new.self.chains c.in_ok-snaps.snaps.sealed (c.in_ok-snaps.ensures.sealed r.0 r.1 r.2 r.3),
-     c.what_a_snapshot_of_a_key_sees.ensures c.args.key.now r.2 c.args.unstored.now.chains c.snapshot.new.self.chains c.in_ok-snaps.snaps.active (c.in_ok-snaps.ensures.active r.0 r.1 r.2 r.3)))
+    let r = c.requires in (
+      omega arith,
+      (
+        changes_to c.args.key.now r.1,
+        changes_to c.args.key.now r.2,
+        c.what_a_snapshot_of_a_key_sees.ensures c.args.key.now r.1 c.args.unstored.now.chains c.snapshot.new.self.chains c.in_ok-snaps.snaps.sealed (c.in_ok-snaps.ensures.sealed r.0 r.1 r.2 r.3),
+        c.what_a_snapshot_of_a_key_sees.ensures c.args.key.now r.2 c.args.unstored.now.chains c.snapshot.new.self.chains c.in_ok-snaps.snaps.active (c.in_ok-snaps.ensures.active r.0 r.1 r.2 r.3),
+      ),
+    )
 
 pub returns-in-Ok-clause-gives : goal.returns-in-Ok-clause-gives
 returns-in-Ok-clause-gives c = λ schema writes later said h j fit more.

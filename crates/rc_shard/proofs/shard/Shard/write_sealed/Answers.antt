@@ -27,14 +27,17 @@ drop_sealed-requires g c =
     (omega arith, (c.args.self.now.folder.schema, h.sealed, h.later, c.sealed_partitions.ensures.stands c.args.self.now.folder.schema h.sealed h.later h.have))
 
 pub returns-in-Ok-clause-written : goal.returns-in-Ok-clause-written
-returns-in-Ok-clause-written g c = inl (refl, record {
-  parts = c.in_ok-parts.parts.items;
-  of_writes = λ schema writes later h. c.in_ok-parts.ensures.parts schema writes later h;
-  added = subst (λ (parts : List Partition). IsAdded (g.W.Store.files c.args.store.now) c.args.self.now.folder c.args.number parts (g.W.Store.files c.add.new.store) c.add.new.self) c.as_slice.ensures.value c.in-Ok.ensures.added;
-  gone = λ schema writes later h. c.drop_sealed.ensures.gone schema writes later (c.sealed_partitions.ensures.stands schema writes later h);
-  seen = seen-then c.args.self.now.unstored.chains c.sealed_partitions.new.self.chains c.drop_sealed.new.self.chains c.sealed_partitions.ensures.seen.alike c.drop_sealed.ensures.seen;
-  room = no-more-then c.args.self.now.unstored.chains c.sealed_partitions.new.self.chains c.drop_sealed.new.self.chains (c.what_a_call_leaves_of_the_room.ensures.before _ _ c.sealed_partitions.ensures.left) c.drop_sealed.ensures.room;
-})
+returns-in-Ok-clause-written g c = inl (
+  refl,
+  record {
+    parts = c.in_ok-parts.parts.items;
+    of_writes = λ schema writes later h. c.in_ok-parts.ensures.parts schema writes later h;
+    added = subst (λ (parts : List Partition). IsAdded (g.W.Store.files c.args.store.now) c.args.self.now.folder c.args.number parts (g.W.Store.files c.add.new.store) c.add.new.self) c.as_slice.ensures.value c.in-Ok.ensures.added;
+    gone = λ schema writes later h. c.drop_sealed.ensures.gone schema writes later (c.sealed_partitions.ensures.stands schema writes later h);
+    seen = seen-then c.args.self.now.unstored.chains c.sealed_partitions.new.self.chains c.drop_sealed.new.self.chains c.sealed_partitions.ensures.seen.alike c.drop_sealed.ensures.seen;
+    room = no-more-then c.args.self.now.unstored.chains c.sealed_partitions.new.self.chains c.drop_sealed.new.self.chains (c.what_a_call_leaves_of_the_room.ensures.before _ _ c.sealed_partitions.ensures.left) c.drop_sealed.ensures.room;
+  },
+)
 
 pub returns-in_err-parts-clause-err : goal.returns-in_err-parts-clause-err
 returns-in_err-parts-clause-err g c =
