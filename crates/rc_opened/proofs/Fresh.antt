@@ -1,12 +1,12 @@
 -- The stream of what a memtable has of a partition, as it is made.
-use Rattle.std.proofs.Common.{◌≡◌, List, [], Option, Some, None, MatchOption, sym, subst}
+use Rattle.std.proofs.Common.{◌≡◌, List, Option, Some, None, MatchOption, subst}
 use Rattle.std.specs.Option.{IfSome}
 use Rattle.rc_mutation.specs.declared.mutations.Mutation.{Mutation}
 use Rattle.rc_mutation.specs.Fragments.{fragments}
 use Rattle.rc_mutation.specs.Source.{IsJoinOf, IsMutation}
 use Rattle.rc_memory.specs.Memory.{Memory}
 use Rattle.rc_chain.specs.declared.chains.Snap.{Snap}
-use Rattle.rc_stream.specs.Stream.{Stream, stream_of}
+use Rattle.rc_stream.specs.Stream.{stream_of}
 use Rattle.rc_snapshots.specs.Streams.{IsNewStream, IsOf, SeesChanges}
 use Rattle.rc_snapshots.specs.Seeing.{SeesAllOf}
 use Rattle.rc_opened.specs.Written.{IsNewStreamOf, IsStreamOf, OfSnapshot, nothing_said}

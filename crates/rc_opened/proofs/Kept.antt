@@ -1,5 +1,5 @@
 -- What each call of the parts of a merge keeps of them, where it leaves home and store as they are, a call of the merge keeps of both.
-use Rattle.std.proofs.Common.{◌≡◌, ℕ, zero, suc, inl, inr, ◌⊎◌, Bool, true, false, Option, refl, sym, subst, ◌∙◌}
+use Rattle.std.proofs.Common.{◌≡◌, ℕ, zero, suc, inl, inr, Bool, true, false, Option, refl, sym, subst, ◌∙◌}
 use Rattle.rc_position.specs.declared.positions.Pos.{Pos}
 use Rattle.rc_stream.specs.declared.merges.Merge.{Merge}
 use Rattle.rc_stream.specs.Did.{Call, Call.OfHead, Call.OfSeek, Call.OfNext, Deed, HeadsOnce, InTurn, OneCall, OurCall, PartsDid, StepsInTurn, TheirCall, merge_did, merge_state}

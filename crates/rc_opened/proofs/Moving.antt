@@ -1,5 +1,5 @@
 -- Calls that leave home and store as they are leave what stands over them.
-use Rattle.std.proofs.Common.{◌≡◌, ◌⊎◌, ℕ, zero, suc, inl, inr, refl, sym, subst, ◌∙◌}
+use Rattle.std.proofs.Common.{◌≡◌, ℕ, zero, suc, inl, inr, sym, subst, ◌∙◌}
 use Rattle.rc_stream.specs.Moving.{Either, Keeps, KeepsSeen, Moved, Moves}
 use Rattle.rc_stream.specs.Stream.{Stream}
 

@@ -5,7 +5,7 @@ use Rattle.rc_chain.specs.declared.chains.Snap.{Snap}
 use Rattle.rc_stream.specs.Did.{ReachesEnd}
 use Rattle.rc_stream.specs.Stream.{Stream}
 use Rattle.rc_snapshots.specs.Streams.{IsOf}
-use Rattle.rc_opened.specs.Written.{DidAs, IsStreamOf, OfSnapshot}
+use Rattle.rc_opened.specs.Written.{IsStreamOf, OfSnapshot}
 
 pub same : (r t : OfSnapshot) → ((s : Snap) → IsOf s r → IsOf s t) → (snap : Option Snap) → IsStreamOf snap (Some r) → IsStreamOf snap (Some t)
 same r t h None is = absurd is

@@ -1,14 +1,14 @@
 -- What tables and both memtables say joins to one mutation; and no changes to none.
-use Rattle.std.proofs.Common.{◌≡◌, List, [], ◌∷◌, ◌++◌, map as list_map, None, refl, sym, ap, subst, ◌∙◌}
+use Rattle.std.proofs.Common.{◌≡◌, List, [], ◌∷◌, ◌++◌, map as list_map, None, refl, sym, ap, ◌∙◌}
 use Rattle.std.proofs.lemmas.List.Elements.{All-nil}
 use Rattle.rc_cell.specs.Winner.{empty_row}
 use Rattle.rc_mutation.specs.declared.mutations.Mutation.{Mutation}
 use Rattle.rc_mutation.specs.Fragments.{fragments, rows_and_changes}
-use Rattle.rc_mutation.specs.Source.{IsJoinOf, IsMutation, IsRows}
+use Rattle.rc_mutation.specs.Source.{IsJoinOf, IsMutation}
 use Rattle.rc_mutation.specs.laws.FragMerge.{fragment_of, merge-in_order, merge-nil}
 use Rattle.rc_mutation.specs.laws.Rebuilt.{whole-of}
 use Rattle.rc_mutation.specs.laws.Sources.{IsJoinOf-first, IsJoinOf-none, IsJoinOf-same, IsJoinOf-swap}
-use Rattle.rc_stream.specs.Stream.{Stream, stream_of}
+use Rattle.rc_stream.specs.Stream.{stream_of}
 
 -- the later of two that were joined says what changes say
 second_said : (a b r : Mutation) (xs ys : List Mutation) → IsJoinOf b ys → IsJoinOf r (xs ++ b ∷ []) → IsJoinOf r (xs ++ ys)

@@ -1,10 +1,9 @@
 -- Where what the parts of a merge stand for stays, what the merge stands for stays, and what is left to a reader of it.
-use Rattle.std.proofs.Common.{◌≡◌, List, Option, Some, None, MatchOption, refl}
+use Rattle.std.proofs.Common.{◌≡◌, Option, Some, None, MatchOption, refl}
 use Rattle.std.specs.Option.{IfSome}
 use Rattle.rc_position.specs.declared.positions.Pos.{Pos}
 use Rattle.rc_stream.specs.declared.merges.Merge.{Merge}
 use Rattle.rc_stream.specs.Both.{AfterDue, HoldBoth, SoughtBoth}
-use Rattle.rc_stream.specs.Moving.{Holds}
 use Rattle.rc_stream.specs.Stream.{Stream}
 
 -- what stands for a stream over one home and store does over others

@@ -1,10 +1,10 @@
 -- Two lists of canonical range tombstones have one canonical list that has the greater of both in force at each position.
-use Rattle.std.proofs.Common.{◌≡◌, ◌≢◌, ℕ, Bool, true, false, not, cond, List, [], ◌∷◌, ◌++◌, map as list_map, Option, Some, None, refl, sym, ap, subst, ◌∙◌}
+use Rattle.std.proofs.Common.{◌≡◌, ◌≢◌, Bool, true, false, not, cond, List, [], ◌∷◌, ◌++◌, map as list_map, Option, Some, None, refl, sym, ap, subst, ◌∙◌}
 use Rattle.std.specs.Option.{IfSome, option_to_list}
 use Rattle.std.specs.Cmp.{tied_itself}
 use Rattle.std.specs.declared.cmp.Ordering.{Ordering}
 use Rattle.std.specs.declared.cmp.Ordering.TheVariants.{Less, Equal, Greater}
-use Rattle.std.specs.Ordering.{eq_by_cmp, is_eq, is_gt, is_le, is_lt, ordering_reverse, ordering_then, nat_cmp}
+use Rattle.std.specs.Ordering.{eq_by_cmp, is_eq, is_gt, is_le, is_lt, ordering_reverse, ordering_then}
 use Rattle.std.proofs.lemmas.List.Elements.{All-nil}
 use Rattle.rc_cell.specs.declared.rows.Row.{Row}
 use Rattle.rc_cell.specs.declared.writes.Tomb.{Tomb}
@@ -13,7 +13,7 @@ use Rattle.rc_cell.specs.Orders.{tomb_cmp, tomb_cmp_total}
 use Rattle.rc_cell.specs.Winner.{empty_row}
 use Rattle.rc_position.specs.declared.positions.Pos.{Pos}
 use Rattle.rc_position.specs.declared.positions.Weight.TheVariants.{After}
-use Rattle.rc_position.specs.Position.{IsBefore, pos_cmp, row_pos}
+use Rattle.rc_position.specs.Position.{pos_cmp, row_pos}
 use Rattle.rc_position.specs.laws.Bounds.{last_pos-greatest}
 use Rattle.rc_position.specs.laws.Orders.{pos_cmp_total}
 use Rattle.rc_ranges.specs.declared.pieces.Piece.{Piece}
@@ -24,7 +24,7 @@ use Rattle.rc_mutation.specs.Canonical.{ComesNext}
 use Rattle.rc_mutation.specs.declared.fragments.Frag.{Frag}
 use Rattle.rc_mutation.specs.declared.fragments.Frag.TheVariants as frag
 use Rattle.rc_mutation.specs.declared.mutations.Mutation.{Mutation}
-use Rattle.rc_mutation.specs.Fragments.{changes_of, fragments, in_order, placed_change, placed_row, place_order}
+use Rattle.rc_mutation.specs.Fragments.{changes_of, fragments, in_order, placed_change, placed_row}
 use Rattle.rc_mutation.specs.Source.{IsMutation}
 use Rattle.rc_mutation.specs.laws.ByKey.{joined_if_any}
 use Rattle.rc_mutation.specs.laws.FragMerge.{changes-placed, fragment_of, merge-in_order}

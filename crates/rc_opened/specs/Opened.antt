@@ -2,7 +2,7 @@
 --     AreChangesOf   changes are such as the program has, and fit a schema
 --     AreSources     what an open reader reads, as it is made
 --     GivesLines     these lines are left
-use Rattle.std.specs.Prelude.{◌≡◌, All, false, List, Option, Some, None, Result, Ok, Err, ℕ, drop}
+use Rattle.std.specs.Prelude.{All, false, List, Result, Ok, Err, ℕ, drop}
 use Rattle.std.specs.declared.alloc.AllocError.{AllocError}
 use Rattle.rc_schema.specs.SchemaValue.{SchemaValue}
 use Rattle.rc_writes.specs.Allowed.{ChangeFits}

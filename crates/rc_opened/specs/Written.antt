@@ -4,9 +4,8 @@
 --     snap_in          the snapshot that it is of
 --     IsStreamOf       it is that of a snapshot, wherever it stands, or of nothing
 --     DidAs            it is still that of each of which it was
-use Rattle.std.specs.Prelude.{List, [], Option, Some, None, option_map}
+use Rattle.std.specs.Prelude.{[], Option, Some, None, option_map}
 use Rattle.rc_cell.specs.Winner.{empty_row}
-use Rattle.rc_mutation.specs.declared.fragments.Head.{Head}
 use Rattle.rc_chain.specs.declared.chains.Snap.{Snap}
 use Rattle.rc_stream.specs.Stream.{Stream}
 use Rattle.rc_cursor.specs.declared.readers.SnapshotReader.{SnapshotReader}

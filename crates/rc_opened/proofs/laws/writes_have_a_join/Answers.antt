@@ -1,5 +1,5 @@
 -- By the merge of the streams of both.
-use Rattle.rc_opened.proofs.Joins.{AreUnited, every, two}
+use Rattle.rc_opened.proofs.Joins.{every, two}
 use Rattle.rc_opened.proofs.Uniting.{united, united_canonical, united_cover}
 use Rattle.rc_opened.proofs.laws.writes_have_a_join.Goals as goal
 

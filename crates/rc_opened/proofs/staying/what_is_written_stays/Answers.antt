@@ -1,9 +1,9 @@
 -- Where there is a snapshot its stream stays.
-use Rattle.std.proofs.Common.{◌≡◌, Option, Some, subst}
+use Rattle.std.proofs.Common.{subst}
 use Rattle.std.specs.Option.{IfSome}
 use Rattle.rc_opened.specs.Opened.{no_files}
 use Rattle.rc_snapshots.specs.Seeing.{StillSees}
-use Rattle.rc_opened.specs.Written.{IsStreamOf, OfSnapshot, snap_in}
+use Rattle.rc_opened.specs.Written.{IsStreamOf, snap_in}
 use Rattle.rc_opened.proofs.Still.{match_stays, some_stays}
 use Rattle.rc_opened.proofs.staying.what_is_written_stays.Goals as goal
 

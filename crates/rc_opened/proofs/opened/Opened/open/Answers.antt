@@ -1,6 +1,6 @@
 -- The lines of the stream that is opened are the answer; what is given back are the snapshots.
-use Rattle.std.proofs.Common.{◌≡◌, Bool, true, false, sym, ◌∙◌}
-use Rattle.rc_opened.specs.Opened.{AreStreamsOf, no_files}
+use Rattle.std.proofs.Common.{true, false, sym, ◌∙◌}
+use Rattle.rc_opened.specs.Opened.{no_files}
 use Rattle.rc_opened.proofs.Called.{Three, gives-at, opened, own_snaps, own_streams, same_snaps, same_streams}
 use Rattle.rc_opened.proofs.opened.Opened.open.Goals as goal
 

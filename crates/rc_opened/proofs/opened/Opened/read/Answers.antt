@@ -1,5 +1,5 @@
 -- The calls leave chains and streams; what is left of the lines is what is left of the reader's.
-use Rattle.std.proofs.Common.{◌≡◌, inl, sym, ap, ◌∙◌}
+use Rattle.std.proofs.Common.{inl, sym, ap, ◌∙◌}
 use Rattle.rc_stream.specs.Did.{OfNext, answered}
 use Rattle.rc_stream.specs.laws.Ordered.{passes-itself}
 use Rattle.rc_reader.specs.Left.{left_after}
