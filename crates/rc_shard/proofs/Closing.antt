@@ -1,11 +1,10 @@
 -- What open readers hold while they are closed, the last one first.
-use Rattle.std.proofs.Common.{◌≡◌, ◌+◌, ◌<◌, ℕ, suc, List, [], ◌∷◌, ◌++◌, length, map, get_or, AllPairs, refl, sym, ap, subst, ◌∙◌, arith}
+use Rattle.std.proofs.Common.{◌≡◌, ◌+◌, ℕ, List, [], ◌∷◌, ◌++◌, length, map, get_or, AllPairs, subst, arith}
 use Rattle.std.specs.List.{AllByRecursion, AllZip}
 use Rattle.std.proofs.lemmas.List.{get_or_append_left, length-append, map-append}
 use Rattle.rc_query.specs.declared.lines.OutLine.{OutLine}
 use Rattle.rc_memory.specs.Memory.{HasPin, Memory}
 use Rattle.rc_chain.specs.declared.chains.Snap.{Snap}
-use Rattle.rc_snapshots.specs.declared.snaps.Snaps.{Snaps}
 use Rattle.rc_snapshots.specs.Seeing.{AreThere, StillSees}
 use Rattle.rc_snapshots.specs.laws.Seeing.{there-then}
 use Rattle.rc_unstored.specs.Readers.{IsNoneOf}

@@ -1,8 +1,8 @@
 -- What a reader that is opened is left.
-use Rattle.std.proofs.Common.{◌≡◌, ◌==◌, ℕ, zero, suc, ◌+◌, ◌≤◌, List, [], ◌∷◌, ◌++◌, length, take, drop, map, filter, Option, Some, None, All, refl, sym, ap, subst, ◌∙◌, arith}
+use Rattle.std.proofs.Common.{◌≡◌, ◌==◌, ℕ, zero, suc, List, [], ◌∷◌, ◌++◌, drop, map, filter, Option, None, All, refl, sym, ap, subst, ◌∙◌, arith}
 use Rattle.std.specs.List.{position}
 use Rattle.std.specs.Ordering.{eq_by_cmp}
-use Rattle.std.specs.Prelude.{Bool, cond, true, false}
+use Rattle.std.specs.Prelude.{cond, true, false}
 use Rattle.std.proofs.lemmas.List.Elements.{All-cons}
 use Rattle.rc_outside.specs.Files.{Files}
 use Rattle.rc_position.specs.Position.{bytes_cmp}
@@ -19,7 +19,6 @@ use Rattle.rc_lines.specs.declared.commands.Command.TheVariants.{Put}
 use Rattle.rc_memory.specs.Memory.{HasPin, Memory}
 use Rattle.rc_chain.specs.declared.chains.Snap.{Snap}
 use Rattle.rc_snapshots.specs.Seeing.{AreThere, StillSeeBoth}
-use Rattle.rc_unstored.specs.declared.unstored.Unstored.{Unstored}
 use Rattle.rc_unstored.specs.Memtables.{HaveWrites}
 use Rattle.rc_unstored.specs.Readers.{IsNoneOf}
 use Rattle.rc_opened.specs.declared.opened.Opened.{Opened}
@@ -27,7 +26,7 @@ use Rattle.rc_opened.specs.Opened.{AreChangesOf, snaps_of}
 use Rattle.rc_machine.specs.State.{Reader, State, unstored}
 use Rattle.rc_machine.specs.Steps.{reader_with}
 use Rattle.rc_shard.specs.declared.shard.Shard.{Shard}
-use Rattle.rc_shard.specs.Stands.{AreFor, AreOfTwo, IsServed, Stands}
+use Rattle.rc_shard.specs.Stands.{AreOfTwo, IsServed, Stands}
 use Rattle.rc_shard.specs.calls.Storing.{IsKept}
 use Rattle.rc_shard.proofs.Places.{nowhere-of}
 use Rattle.rc_shard.proofs.Served.{all-served, more-served, more-two}

@@ -1,5 +1,5 @@
 -- For which state a shard stands after its calls.
-use Rattle.std.proofs.Common.{◌≡◌, ◌==◌, ℕ, ◌+◌, ◌-◌, ◌*◌, ◌/◌, ◌<◌, ◌≤◌, Bool, true, false, List, [], ◌∷◌, ◌++◌, length, take, drop, map, sum_by, Option, Some, None, All, AllPairs, refl, sym, ap, subst, ◌∙◌, arith, append-nil, append_assoc}
+use Rattle.std.proofs.Common.{◌≡◌, ℕ, ◌+◌, ◌-◌, ◌*◌, ◌/◌, ◌<◌, ◌≤◌, List, [], ◌∷◌, ◌++◌, length, map, sum_by, Option, Some, None, AllPairs, refl, sym, ap, subst, ◌∙◌, arith, append_assoc}
 use Rattle.std.specs.Prelude.{Err, IfOk, IfSome, Ok, OnErr, Result}
 use Rattle.std.specs.List.{AllZip}
 use Rattle.std.proofs.Math.Seq.{drop-append-le}
@@ -9,7 +9,6 @@ use Rattle.lsa_region.specs.Region.{live_bytes}
 use Rattle.rc_outside.specs.Files.{Files}
 use Rattle.rc_schema.specs.SchemaValue.{SchemaValue}
 use Rattle.rc_writes.specs.Weight.{weight}
-use Rattle.rc_mutation.specs.declared.mutations.Partition.{Partition}
 use Rattle.rc_mutation.specs.declared.mutations.Write.{Write}
 use Rattle.rc_mutation.specs.Source.{IsMutation}
 use Rattle.rc_query.specs.declared.lines.OutLine.{OutLine}
@@ -29,8 +28,7 @@ use Rattle.rc_opened.specs.Opened.{snaps_of}
 use Rattle.rc_folder.specs.Tabled.{Tabled}
 use Rattle.rc_folder.specs.laws.Over.{over_reading, over_written}
 use Rattle.rc_machine.specs.Room.{MayBeFull}
-use Rattle.rc_tfile.specs.declared.info.TableInfo.{TableInfo}
-use Rattle.rc_machine.specs.State.{Reader, State, Table, opened_state, unstored}
+use Rattle.rc_machine.specs.State.{Reader, State, Table, opened_state}
 use Rattle.rc_machine.specs.Tables.{AreListed, AreTables}
 use Rattle.rc_shard.specs.Stands.{AreFor, AreSound, AreTwo, HaveUnstored, IsServed, holding}
 use Rattle.rc_memtable.specs.LetGo.{TakesNoMore}

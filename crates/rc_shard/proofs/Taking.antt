@@ -1,9 +1,8 @@
 -- The steps that a shard takes.
-use Rattle.std.proofs.Common.{◌≡◌, ◌==◌, ℕ, ◌+◌, ◌-◌, ◌*◌, ◌/◌, ◌<◌, ◌≤◌, inl, inr, Bool, true, false, not, List, [], ◌∷◌, ◌++◌, length, take, drop, map, get_or, set, remove, filter, Option, Some, None, AllPairs, nat_lt, refl, sym, ap, subst, ◌∙◌, arith}
+use Rattle.std.proofs.Common.{◌≡◌, ◌==◌, ℕ, ◌+◌, ◌-◌, ◌*◌, ◌/◌, ◌<◌, ◌≤◌, inl, inr, Bool, true, false, not, List, [], ◌∷◌, ◌++◌, length, take, drop, get_or, set, remove, filter, Option, None, nat_lt, refl, sym, ap, subst, ◌∙◌, arith}
 use Rattle.std.specs.Prelude.{Err, IfOk, Ok, Result}
 use Rattle.std.specs.declared.alloc.AllocError.{AllocError}
-use Rattle.std.specs.List.{AllZip}
-use Rattle.std.specs.Map.{lookup, set_value}
+use Rattle.std.specs.Map.{set_value}
 use Rattle.std.proofs.lemmas.Bool.Decides.{nat_tests}
 use Rattle.lsa_region.specs.Region.{live_bytes}
 use Rattle.rc_outside.specs.Files.{Files}
@@ -40,13 +39,13 @@ use Rattle.rc_machine.specs.Standing.{IsOver}
 use Rattle.rc_machine.specs.Steps.{IsSaid, most_readers, reader_past, reader_with}
 use Rattle.rc_machine.specs.Serving.{FaultsAreCounted, OnFaulty, Takes}
 use Rattle.rc_shard.specs.declared.shard.Shard.{Shard}
-use Rattle.rc_shard.specs.Stands.{AreFor, AreOfTwo, AreTwo, IsServed, Stands, holding}
+use Rattle.rc_shard.specs.Stands.{AreFor, AreOfTwo, Stands}
 use Rattle.rc_memtable.specs.LetGo.{TakesNoMore}
 use Rattle.rc_shard.specs.calls.Keeping.{Keeps, TellsOf}
 use Rattle.rc_shard.specs.calls.Storing.{IsKept}
 use Rattle.rc_shard.proofs.Places.{IsNowhere, IsPlace, one-of}
-use Rattle.rc_shard.proofs.Served.{IsFound, all-served, fewer-two, look-none, look-some, removed-served, same-two, served-count, set-kept, set-served}
-use Rattle.rc_shard.proofs.Standing.{kept-for, may-be-full, reading-for, sound-less, written-for}
+use Rattle.rc_shard.proofs.Served.{IsFound, fewer-two, look-none, look-some, removed-served, same-two, served-count, set-kept, set-served}
+use Rattle.rc_shard.proofs.Standing.{kept-for, may-be-full, reading-for, written-for}
 
 fewer : (n : ℕ) → n < most_readers → nat_lt n most_readers ≡ true
 fewer n h = grind (arith, nat_tests, h)

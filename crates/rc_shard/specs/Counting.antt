@@ -2,7 +2,7 @@
 --     Answered        the counts of answers
 --     counted         the counts after an answer
 --     figures_of      what a shard tells of itself
-use Rattle.std.specs.Prelude.{◌≡◌, ◌+◌, ◌-◌, ◌^◌, ℕ, Bool, true, false, cond, min, nat_eq}
+use Rattle.std.specs.Prelude.{◌+◌, ◌-◌, ◌^◌, ℕ, Bool, true, false, cond, min, nat_eq}
 use Rattle.lsa_pool.specs.Room.{free_count}
 use Rattle.lsa_region.specs.Region.{live_bytes, objects}
 use Rattle.rc_lines.specs.declared.commands.Command.{Command}

@@ -1,5 +1,5 @@
 -- The last reader is closed; the others hold what they held.
-use Rattle.std.proofs.Common.{◌≡◌, ℕ, List, ◌∷◌, [], ◌++◌, map, AllPairs, refl, sym, ap, subst, ◌∙◌, arith}
+use Rattle.std.proofs.Common.{ℕ, List, map, AllPairs, sym, subst, arith}
 use Rattle.std.specs.List.{AllByRecursion}
 use Rattle.rc_memory.specs.Memory.{HasPin}
 use Rattle.rc_chain.specs.declared.chains.Snap.{Snap}

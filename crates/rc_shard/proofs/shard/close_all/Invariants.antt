@@ -1,5 +1,5 @@
 -- The readers that are left hold snapshots that are there, and share none.
-use Rattle.std.specs.Prelude.{◌≡◌, ℕ, AllPairs, length, map}
+use Rattle.std.specs.Prelude.{AllPairs, length, map}
 use Rattle.std.specs.List.{AllByRecursion}
 use Rattle.rc_snapshots.specs.Seeing.{AreThere}
 use Rattle.rc_opened.specs.Opened.{snaps_of}

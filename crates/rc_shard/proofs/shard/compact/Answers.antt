@@ -1,7 +1,4 @@
 -- Each round keeps what was written and seen.
-use Rattle.rc_schema.specs.SchemaValue.{SchemaValue}
-use Rattle.rc_unstored.specs.declared.unstored.Unstored.{Unstored}
-use Rattle.rc_shard.specs.calls.Storing.{IsKept}
 use Rattle.rc_shard.proofs.Standing.{kept-itself, kept-then, room-kept}
 use Rattle.rc_shard.proofs.shard.compact.Goals as goal
 

@@ -1,12 +1,10 @@
 -- The snapshots see what was written; where memory is refused they are given back.
-use Rattle.std.proofs.Common.{◌≡◌, refl, sym, ap, subst, ◌∙◌, arith}
+use Rattle.std.proofs.Common.{sym, subst, arith}
 use Rattle.rc_memory.specs.Memory.{HasPin}
 use Rattle.rc_chain.specs.declared.chains.Snap.{Snap}
 use Rattle.rc_mutation.specs.Source.{changes_to}
 use Rattle.rc_snapshots.specs.declared.snaps.Snaps.{Snaps}
-use Rattle.rc_snapshots.specs.Seeing.{StillSees}
 use Rattle.rc_unstored.specs.Readers.{IsNoneOf}
-use Rattle.rc_shard.specs.calls.Storing.{IsKept}
 use Rattle.rc_shard.proofs.Standing.{kept-back, kept-in, none-of-new}
 use Rattle.rc_shard.proofs.shard.open_in.Goals as goal
 

@@ -1,5 +1,5 @@
 -- The reader's place is that of its id; its snapshots are taken back.
-use Rattle.std.proofs.Common.{◌≡◌, ◌==◌, ℕ, List, Option, Some, None, get_or, position, refl, sym, ap, subst, ◌∙◌, arith}
+use Rattle.std.proofs.Common.{◌≡◌, ◌==◌, ℕ, List, Some, None, position, refl, sym, subst, arith}
 use Rattle.rc_memory.specs.Memory.{HasPin}
 use Rattle.rc_chain.specs.declared.chains.Snap.{Snap}
 use Rattle.rc_snapshots.specs.declared.snaps.Snaps.{Snaps}
@@ -8,7 +8,7 @@ use Rattle.rc_unstored.specs.Readers.{IsNoneOf}
 use Rattle.rc_opened.specs.declared.opened.Opened.{Opened}
 use Rattle.rc_shard.specs.declared.shard.Shard.{Shard}
 use Rattle.rc_shard.specs.Stands.{AreOfTwo}
-use Rattle.rc_shard.proofs.Places.{IsPlace, nowhere-of, place-of}
+use Rattle.rc_shard.proofs.Places.{nowhere-of, place-of}
 use Rattle.rc_shard.proofs.Taking.{found-at, takes-close, takes-no-close}
 use Rattle.rc_shard.proofs.shard.Shard.close_reader.Goals as goal
 

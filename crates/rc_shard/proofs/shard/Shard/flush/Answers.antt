@@ -1,8 +1,5 @@
 -- A flush is refused, or the writes are sealed and written.
-use Rattle.std.proofs.Common.{◌≡◌, List, [], ◌++◌, true, false, refl, sym, ap, subst, ◌∙◌}
-use Rattle.rc_schema.specs.SchemaValue.{SchemaValue}
-use Rattle.rc_mutation.specs.declared.mutations.Write.{Write}
-use Rattle.rc_unstored.specs.Memtables.{HaveWrites}
+use Rattle.std.proofs.Common.{refl, ap}
 use Rattle.rc_machine.specs.State.{State}
 use Rattle.rc_machine.specs.Steps.{sealing}
 use Rattle.rc_shard.specs.declared.shard.Shard.{Shard}

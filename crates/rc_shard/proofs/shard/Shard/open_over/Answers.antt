@@ -1,5 +1,5 @@
 -- The reader that was opened stands behind the others.
-use Rattle.std.proofs.Common.{◌≡◌, ◌==◌, ℕ, List, ◌++◌, ◌∷◌, [], Option, Some, None, position, refl, sym, ap, subst, ◌∙◌}
+use Rattle.std.proofs.Common.{◌≡◌, ℕ, List, ◌++◌, ◌∷◌, [], refl, ap, ◌∙◌}
 use Rattle.rc_opened.specs.declared.opened.Opened.{Opened}
 use Rattle.rc_shard.specs.declared.shard.Shard.{Shard}
 use Rattle.rc_shard.proofs.Opening.{opens-reader}

@@ -1,5 +1,5 @@
 -- A write is put, or there is no room for it.
-use Rattle.std.proofs.Common.{◌≡◌, Bool, cond, refl, sym, ap, subst, ◌∙◌, true, false, List, ◌∷◌, [], ◌++◌}
+use Rattle.std.proofs.Common.{Bool, cond, refl, sym, subst, ◌∙◌, List, ◌∷◌, [], ◌++◌}
 use Rattle.rc_schema.specs.SchemaValue.{SchemaValue}
 use Rattle.rc_mutation.specs.declared.mutations.Write.{Write}
 use Rattle.rc_unstored.specs.Memtables.{HaveWrites}

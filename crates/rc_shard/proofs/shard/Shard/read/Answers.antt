@@ -1,11 +1,11 @@
 -- The reader's place is that of its id.
-use Rattle.std.proofs.Common.{◌≡◌, ◌==◌, ℕ, List, Option, Some, None, position, set, refl, sym, ap, subst, ◌∙◌, arith}
+use Rattle.std.proofs.Common.{◌≡◌, ◌==◌, ℕ, List, Some, None, position, refl, sym, ap, subst, arith}
 use Rattle.std.specs.Vec.{with_item}
 use Rattle.rc_memory.specs.Memory.{Memory}
 use Rattle.rc_unstored.specs.Memtables.{in_chains}
 use Rattle.rc_opened.specs.declared.opened.Opened.{Opened}
 use Rattle.rc_shard.specs.declared.shard.Shard.{Shard}
-use Rattle.rc_shard.proofs.Places.{IsPlace, nowhere-of, place-of}
+use Rattle.rc_shard.proofs.Places.{nowhere-of, place-of}
 use Rattle.rc_shard.proofs.Standing.{on-err}
 use Rattle.rc_shard.proofs.Taking.{found-at, keeps-read, takes-no-read, takes-read}
 use Rattle.rc_shard.proofs.shard.Shard.read.Goals as goal

@@ -1,7 +1,5 @@
 -- Each step is that of its command.
-use Rattle.std.proofs.Common.{◌≡◌, refl, sym, subst, IfOk, OnErr}
-use Rattle.rc_lines.specs.declared.commands.Command.{Command}
-use Rattle.rc_machine.specs.Serving.{Takes, Stops}
+use Rattle.std.proofs.Common.{refl}
 use Rattle.rc_shard.proofs.Standing.{on-err-weaker}
 use Rattle.rc_shard.specs.declared.shard.Shard.{Shard}
 use Rattle.rc_shard.proofs.Taking.{keeps-files, keeps-kept}

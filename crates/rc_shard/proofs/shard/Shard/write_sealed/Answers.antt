@@ -1,5 +1,5 @@
 -- The parts of the sealed writes fit a table, and the number is no file's; then they stand in it.
-use Rattle.std.proofs.Common.{◌≡◌, inl, inr, All, List, refl, sym, ap, subst, ◌∙◌, arith}
+use Rattle.std.proofs.Common.{◌≡◌, inl, inr, All, List, refl, sym, subst, arith}
 use Rattle.rc_mutation.specs.declared.mutations.Partition.{Partition}
 use Rattle.rc_mutation.specs.Source.{IsMutation}
 use Rattle.rc_snapshots.specs.laws.Seeing.{seen-then}

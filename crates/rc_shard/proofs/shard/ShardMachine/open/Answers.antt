@@ -1,5 +1,4 @@
 -- As it is opened it stands for the machine as that is opened.
-use Rattle.std.proofs.Common.{◌≡◌, refl, sym, ◌∙◌}
 use Rattle.rc_shard.proofs.Standing.{opened-for}
 use Rattle.rc_shard.proofs.shard.ShardMachine.open.Goals as goal
 
