@@ -5,7 +5,8 @@
 --     AreTwo          two readers have ids and snapshots of their own
 --     AreSound        the writes are such as the program has, and what is live is no more than they weigh
 --     AreFor, Stands      all of this, over the tables of a folder
-use Rattle.std.specs.Prelude.{◌≡◌, ◌≤◌, ◌+◌, ℕ, false, List, ◌++◌, length, map, All, AllPairs, Option, IfSome, sum_by}
+--     IsFullAsTold    when a write is refused as full
+use Rattle.std.specs.Prelude.{◌≡◌, ◌≤◌, ◌+◌, ℕ, false, List, ◌++◌, length, map, All, AllPairs, Option, IfSome, sum_by, ⊤}
 use Rattle.std.specs.List.{AllZip}
 use Rattle.lsa_region.specs.Region.{live_bytes}
 use Rattle.rc_outside.specs.Files.{Files}
@@ -14,11 +15,16 @@ use Rattle.rc_writes.specs.Weight.{weight}
 use Rattle.rc_mutation.specs.declared.mutations.Write.{Write}
 use Rattle.rc_mutation.specs.Source.{IsMutation}
 use Rattle.rc_query.specs.declared.lines.OutLine.{OutLine}
+use Rattle.rc_lines.specs.declared.commands.Command.{Command}
+use Rattle.rc_lines.specs.declared.commands.Command.TheVariants.{Put}
+use Rattle.rc_lines.specs.declared.commands.Refusal.TheVariants.{Full}
+use Rattle.rc_lines.specs.declared.commands.Reply.{Reply}
+use Rattle.rc_lines.specs.declared.commands.Reply.TheVariants.{Refused}
 use Rattle.rc_memory.specs.Memory.{Memory}
 use Rattle.rc_snapshots.specs.declared.snaps.Snaps.{Snaps}
 use Rattle.rc_snapshots.specs.Seeing.{AreThere}
 use Rattle.rc_unstored.specs.declared.unstored.Unstored.{Unstored}
-use Rattle.rc_unstored.specs.Memtables.{HaveWrites}
+use Rattle.rc_unstored.specs.Memtables.{HaveWrites, IsFullFor}
 use Rattle.rc_unstored.specs.Readers.{IsNoneOf}
 use Rattle.rc_opened.specs.declared.opened.Opened.{Opened}
 use Rattle.rc_opened.specs.Opened.{snaps_of}
@@ -81,3 +87,8 @@ module _ (lines : Opened → Memory → List OutLine → Type 0) where
   -- over a store with these files the shard stands for the state
   abbrev pub Stands : Option Files → Shard → State → Type 0
   Stands told k m = AreFor told k.folder k.unstored k.readers.items k.segments m
+
+-- A write is refused as full only where there is no room for it then, nor can it be made.
+abbrev pub IsFullAsTold : Command → Reply → SchemaValue → Unstored 131072 → Type 0
+IsFullAsTold (Put w) (Refused Full) schema u = IsFullFor 131072 schema w u
+IsFullAsTold command reply schema u = ⊤

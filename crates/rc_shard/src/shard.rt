@@ -26,7 +26,7 @@ ghost use Rattle.rc_tfile.specs.declared.info.TableInfo.{TableInfo};
 ghost use Rattle.rc_folder.specs.Opening.{IsOpeningRefused, OnOpenFault};
 ghost use Rattle.rc_folder.specs.Tabled.{IsNextNumber};
 ghost use Rattle.rc_shard.specs.Counting.{counted, figures_of};
-ghost use Rattle.rc_shard.specs.Stands.{AreOfTwo, AreTwo, holding};
+ghost use Rattle.rc_shard.specs.Stands.{AreOfTwo, AreTwo, IsFullAsTold, holding};
 ghost use Rattle.rc_shard.specs.calls.Keeping.{CountsStay, Keeps, TellsOf};
 ghost use Rattle.rc_shard.specs.calls.Storing.{IsFlushAnswered, IsKept};
 
@@ -128,6 +128,7 @@ impl Machine for Shard {
         ensures err { OnErr result (Stops ⟦<Shard as Machine>⟧.stands (W.files store.old) self.old command.now (W.files store.new) self.new) }
         ensures faults { FaultsAreCounted result (W.faults store.old) (W.faults store.new) }
         ensures asks { W.asks store.new ≤ W.asks store.old + most_asks self.old.folder.infos command.now }
+        ensures full { IfOk result (λ reply. IsFullAsTold command.now reply self.old.folder.schema self.new.unstored) }
         ensures counts { IfOk result (λ reply. self.new.answered ≡ counted command.now reply (W.asks store.old) (W.asks store.new) self.old.answered) }
     {
         let before = store.asks();
@@ -192,6 +193,7 @@ impl Shard {
         ensures err { OnErr result (Stops ⟦<Shard as Machine>⟧.stands (W.files store.old) self.old command.now (W.files store.new) self.new) }
         ensures faults { FaultsAreCounted result (W.faults store.old) (W.faults store.new) }
         ensures asks { W.asks store.new ≤ W.asks store.old + most_asks self.old.folder.infos command.now }
+        ensures full { IfOk result (λ reply. IsFullAsTold command.now reply self.old.folder.schema self.new.unstored) }
         ensures counts { CountsStay self.old self.new }
     {
         match command {
@@ -233,6 +235,7 @@ impl Shard {
         requires stands { (files : Option Files) × (m : State) × ⟦<Shard as Machine>⟧.stands files self.old m }
         ensures step { (files : Option Files) → IfOk result (λ reply. Takes ⟦<Shard as Machine>⟧.stands files self.old (Command.Put write.now) reply files self.new) }
         ensures faultless { (n : ℕ) → IfOk result (λ reply. OnFaulty reply (Rose n n)) }
+        ensures full { IfOk result (λ reply. IsFullAsTold (Command.Put write.now) reply self.old.folder.schema self.new.unstored) }
         ensures err { OnErr result (Keeps ⟦<Shard as Machine>⟧.stands self.old self.new) }
         ensures counts { CountsStay self.old self.new }
     {

@@ -2,7 +2,7 @@
 use Rattle.std.proofs.Common.{Bool, cond, refl, sym, subst, ◌∙◌, List, ◌∷◌, [], ◌++◌}
 use Rattle.rc_schema.specs.SchemaValue.{SchemaValue}
 use Rattle.rc_mutation.specs.declared.mutations.Write.{Write}
-use Rattle.rc_unstored.specs.Memtables.{HaveWrites}
+use Rattle.rc_unstored.specs.Memtables.{HaveWrites, IsFullFor}
 use Rattle.rc_shard.specs.declared.shard.Shard.{Shard}
 use Rattle.rc_shard.specs.calls.Storing.{IsKept}
 use Rattle.rc_shard.proofs.Standing.{on-err}
@@ -39,3 +39,6 @@ returns-else-branch-clause-step c = λ files.
     takes-full _ c.what_is_left_stays_where_the_snapshots_see_the_same.ensures files c.args.self.now new c.args.write.now refl refl refl
     (subst (λ (s : SchemaValue). IsKept s c.args.self.now.unstored c.put.new.self) c.schema-schema.ensures kept)
     (c.in_ok-put.ensures.crowded c.if-branch.false)
+
+pub returns-else-branch-clause-full : goal.returns-else-branch-clause-full
+returns-else-branch-clause-full c = subst (λ (s : SchemaValue). IsFullFor 131072 s c.args.write.now c.put.new.self) c.schema-schema.ensures (c.in_ok-put.ensures.full c.if-branch.false)
