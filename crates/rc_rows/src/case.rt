@@ -34,6 +34,8 @@ pub(crate) struct Case {
     pub(crate) name: String,
     /// The words of the program.
     pub(crate) words: Vec<String>,
+    /// Whether it is run on the shard alone, as the plain program must come to something else.
+    pub(crate) alone: bool,
     /// The input.
     pub(crate) input: Vec<u8>,
     /// Whether the input is given a byte at a time.
@@ -68,6 +70,7 @@ impl Case {
         Case {
             name: String::new(alloc),
             words: Vec::new(alloc),
+            alone: false,
             input: Vec::new(alloc),
             slow: false,
             pulls: Vec::new(alloc),
@@ -85,7 +88,7 @@ impl Case {
         self.clear(alloc)
     }
 
-    /// It is the case that follows over the store that is left, and has no line yet.
+    /// It is the case that follows over the stores that are left, and has no line yet.
     pub(crate) fn go_on(&mut self, alloc: Global) -> Result<(), AllocError> {
         self.name.push_str(", again")?;
         self.clear(alloc)
@@ -94,6 +97,7 @@ impl Case {
     // It has the words of most cases, and nothing else but its name.
     fn clear(&mut self, alloc: Global) -> Result<(), AllocError> {
         self.words.clear();
+        self.alone = false;
         self.input.clear();
         self.slow = false;
         self.pulls.clear();

@@ -2,8 +2,8 @@
 
 use crate::case::Case;
 use crate::reading::{Named, push_named, take_line};
+use crate::stores::Stores;
 use crate::tally::Tally;
-use rc_outside::MemStore;
 use std::alloc::{AllocError, Global};
 
 /// The cases as they are listed, up to some line.
@@ -15,8 +15,8 @@ pub(crate) struct Cases {
     begun: bool,
     // The case whose lines are being read.
     case: Case,
-    // The store that it is run over.
-    store: MemStore,
+    // The stores that it is run over.
+    stores: Stores,
     // What the cases before it came to.
     tally: Tally,
 }
@@ -24,12 +24,12 @@ pub(crate) struct Cases {
 impl Cases {
     /// No line yet.
     pub(crate) fn new(alloc: Global) -> Result<Self, AllocError> {
-        let store = MemStore::new(alloc)?;
+        let stores = Stores::new(alloc)?;
         Ok(Cases {
             names: Vec::new(alloc),
             begun: false,
             case: Case::new(alloc),
-            store,
+            stores,
             tally: Tally::new(alloc),
         })
     }
@@ -63,20 +63,20 @@ impl Cases {
     // The case that ends here is run.
     fn finish(&mut self, alloc: Global) -> Result<(), AllocError> {
         if self.begun {
-            return self.tally.run(alloc, &self.case, &mut self.store);
+            return self.tally.run(alloc, &self.case, &mut self.stores);
         }
         Ok(())
     }
 
-    // The first line of a case, over an empty store.
+    // The first line of a case, over empty stores.
     fn begin(&mut self, alloc: Global, name: &str) -> Result<(), AllocError> {
         self.finish(alloc)?;
-        self.store = MemStore::new(alloc)?;
+        self.stores = Stores::new(alloc)?;
         self.begun = true;
         self.case.begin(alloc, name)
     }
 
-    // What follows is run over the store that is left.
+    // What follows is run over the stores that are left.
     fn go_on(&mut self, alloc: Global) -> Result<(), AllocError> {
         self.finish(alloc)?;
         self.case.go_on(alloc)
@@ -84,7 +84,7 @@ impl Cases {
 
     // A line of the case.
     fn describe(&mut self, alloc: Global, line: &str) -> Result<(), AllocError> {
-        if self.begun && take_line(alloc, &self.names, &mut self.case, &mut self.store, line)? {
+        if self.begun && take_line(alloc, &self.names, &mut self.case, &mut self.stores, line)? {
             return Ok(());
         }
         self.tally.refuse(line)

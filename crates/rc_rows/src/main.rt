@@ -1,5 +1,5 @@
-//! Worked scripts over the top call, from input bytes to output bytes: standard input lists them with their replies, and says how. What is printed are
-//! the runs that came to something else, and how many there were.
+//! Worked scripts over the top call, from input bytes to output bytes, on the machine that the program runs on and on the plain one: standard input lists
+//! them with their replies, and says how. What is printed are the runs that came to something else, and how many there were.
 #![tactic(auto)]
 
 mod case;
@@ -8,6 +8,7 @@ mod plain;
 mod reading;
 mod running;
 mod slow;
+mod stores;
 mod tally;
 
 use cases::Cases;

@@ -2,6 +2,7 @@
 
 use crate::case::Case;
 use crate::running::{Outcome, run_case};
+use crate::stores::Runner;
 use rc_outside::MemStore;
 use std::alloc::{AllocError, Global};
 use std::fmt::Write;
@@ -161,33 +162,33 @@ fn append_wanted(changes: &[Change], text: &mut String) -> Result<(), AllocError
     Ok(())
 }
 
-/// Whether the program gives this text for a script.
-fn gives(alloc: Global, script: &str, wanted: &str) -> Result<bool, AllocError> {
+/// Whether a machine gives this text for a script.
+fn gives(alloc: Global, by: Runner, script: &str, wanted: &str) -> Result<bool, AllocError> {
     let mut case = Case::new(alloc);
     case.begin(alloc, "a seed")?;
     case.input.extend_from_slice(script.as_bytes())?;
-    gives_case(alloc, &case, wanted)
+    gives_case(alloc, by, &case, wanted)
 }
 
-/// Whether a case over an empty store gives this text.
-fn gives_case(alloc: Global, case: &Case, wanted: &str) -> Result<bool, AllocError> {
+/// Whether a case on a machine, over an empty store, gives this text.
+fn gives_case(alloc: Global, by: Runner, case: &Case, wanted: &str) -> Result<bool, AllocError> {
     let mut store = MemStore::new(alloc)?;
     let mut found = Outcome::new(alloc);
-    run_case(alloc, case, &mut store, &mut found)?;
+    run_case(alloc, by, case, &mut store, &mut found)?;
     Ok(found.status == 0 && found.text.as_slice() == wanted.as_bytes())
 }
 
-/// Whether the program gives for the script of changes what the plain computation does.
-fn agrees(alloc: Global, changes: &[Change]) -> Result<bool, AllocError> {
+/// Whether a machine gives for the script of changes what the plain computation does.
+fn agrees(alloc: Global, by: Runner, changes: &[Change]) -> Result<bool, AllocError> {
     let mut script = String::new(alloc);
     append_script(changes, &mut script)?;
     let mut wanted = String::new(alloc);
     append_wanted(changes, &mut wanted)?;
-    gives(alloc, script.as_str(), wanted.as_str())
+    gives(alloc, by, script.as_str(), wanted.as_str())
 }
 
 /// The same for the script of a seed.
-pub(crate) fn is_agreed(alloc: Global, seed: u32) -> Result<bool, AllocError> {
+pub(crate) fn is_agreed(alloc: Global, by: Runner, seed: u32) -> Result<bool, AllocError> {
     let changes = changes(alloc, seed)?;
-    agrees(alloc, changes.as_slice())
+    agrees(alloc, by, changes.as_slice())
 }

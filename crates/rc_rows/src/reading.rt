@@ -1,7 +1,8 @@
 //! The lines of a case.
 
 use crate::case::{Case, Stored};
-use rc_outside::{MemStore, StoreCall};
+use crate::stores::Stores;
+use rc_outside::StoreCall;
 use rc_spelling::{read_bytes, read_components};
 use std::alloc::{AllocError, Global};
 use std::fmt::Write;
@@ -66,6 +67,14 @@ fn number_and_rest(text: &str) -> Option<(u32, &str)> {
     Some((number, rest))
 }
 
+// Appends the lines that stand with ` / ` between them.
+fn append_lines(text: &mut Vec<u8>, lines: &str, number: u32) -> Result<(), AllocError> {
+    for line in lines.split(" / ") {
+        append_line(text, line, number)?;
+    }
+    Ok(())
+}
+
 // Appends a line, with a number at its `#`.
 fn append_line(text: &mut Vec<u8>, line: &str, number: u32) -> Result<(), AllocError> {
     let mut made = String::new(*text.allocator());
@@ -95,11 +104,11 @@ fn push_words(words: &mut Vec<String>, components: Vec<Vec<u8>>) -> Result<bool,
     Ok(true)
 }
 
-// A file of the store: its number, its name and how many of its first bytes; whether the line gives one.
+// A file of the stores: its number, its name and how many of its first bytes; whether the line gives one.
 fn take_file(
     alloc: Global,
     names: &Named,
-    store: &mut MemStore,
+    stores: &mut Stores,
     text: &str,
 ) -> Result<bool, AllocError> {
     let Some((number, rest)) = number_and_rest(text) else {
@@ -113,7 +122,7 @@ fn take_file(
         return Ok(false);
     };
     let count = count.min(bytes.len());
-    store.put_file(number, Vec::from_slice(alloc, &bytes[..count])?)?;
+    stores.put_file(alloc, number, &bytes[..count])?;
     Ok(true)
 }
 
@@ -146,7 +155,7 @@ fn take_stored(
     }
 }
 
-// So many lines of the input or of what is written; whether it gives some.
+// So many times the same lines of the input or of what is written; whether it gives some.
 fn take_lines(case: &mut Case, count: u32, text: &str) -> Result<bool, AllocError> {
     let Some((mark, line)) = text.split_once(' ') else {
         return Ok(false);
@@ -154,8 +163,8 @@ fn take_lines(case: &mut Case, count: u32, text: &str) -> Result<bool, AllocErro
     for number in 0..count {
         let number = number.saturating_add(1);
         match mark {
-            "<" => append_line(&mut case.input, line, number)?,
-            ">" => append_line(&mut case.wanted.text, line, number)?,
+            "<" => append_lines(&mut case.input, line, number)?,
+            ">" => append_lines(&mut case.wanted.text, line, number)?,
             _ => return Ok(false),
         }
     }
@@ -175,10 +184,10 @@ fn take_number(case: &mut Case, kind: &str, number: u64) -> Result<bool, AllocEr
     Ok(true)
 }
 
-// A failing call of the store, or one in turn; whether the line gives one.
+// A failing call of the stores, or one in turn; whether the line gives one.
 fn take_call(
     case: &mut Case,
-    store: &mut MemStore,
+    stores: &mut Stores,
     kind: &str,
     text: &str,
 ) -> Result<bool, AllocError> {
@@ -186,7 +195,7 @@ fn take_call(
         return Ok(false);
     };
     match kind {
-        "fail" => store.fail_nth(call, number)?,
+        "fail" => stores.fail_nth(call, number)?,
         _ => case.turns.push((call, number))?,
     }
     Ok(true)
@@ -197,7 +206,7 @@ pub(crate) fn take_line(
     alloc: Global,
     names: &Named,
     case: &mut Case,
-    store: &mut MemStore,
+    stores: &mut Stores,
     line: &str,
 ) -> Result<bool, AllocError> {
     let (kind, text) = line.split_once(' ').unwrap_or((line, ""));
@@ -209,10 +218,14 @@ pub(crate) fn take_line(
             case.slow = true;
             Ok(true)
         }
+        "shard" => {
+            case.alone = true;
+            Ok(true)
+        }
         "words" => take_words(alloc, case, text),
-        "file" => take_file(alloc, names, store, text),
+        "file" => take_file(alloc, names, stores, text),
         "stored" => take_stored(alloc, names, case, text),
-        "fail" | "each" => take_call(case, store, kind, text),
+        "fail" | "each" => take_call(case, stores, kind, text),
         _ => take_counted(case, kind, text),
     }
 }

@@ -2,9 +2,14 @@
 
 use crate::case::{Case, Stored};
 use crate::slow::OneByte;
-use rc_outside::{MemSink, MemSource, MemStore, SureSource};
-use rc_shell::{Status, run, run_with};
+use crate::stores::Runner;
+use rc_outside::{MemSink, MemSource, MemStore, Source, SureSource};
+use rc_plain::Plain;
+use rc_shell::{Status, run, run_on, run_with};
 use std::alloc::{AllocError, Global};
+
+// The most input that a run takes where a case says nothing: 2^40 bytes.
+const INPUT_LIMIT: u64 = 1 << 40;
 
 /// What a run came to.
 #[derive(Drop)]
@@ -41,9 +46,53 @@ fn source_of(alloc: Global, case: &Case) -> Result<MemSource, AllocError> {
     Ok(MemSource::new(bytes, pulls))
 }
 
+// The status of a run on the shard.
+fn shard_status<I: Source>(
+    alloc: Global,
+    case: &Case,
+    store: &mut MemStore,
+    input: &mut I,
+    out: &mut MemSink,
+) -> Status {
+    let words = case.words.as_slice();
+    match case.limit {
+        None => run(alloc, words, store, input, out),
+        Some(limit) => run_with(alloc, words, store, input, out, limit),
+    }
+}
+
+// The status of a run on the plain program.
+fn plain_status<I: Source>(
+    alloc: Global,
+    case: &Case,
+    store: &mut MemStore,
+    input: &mut I,
+    out: &mut MemSink,
+) -> Status {
+    let words = case.words.as_slice();
+    let limit = case.limit.unwrap_or(INPUT_LIMIT);
+    run_on::<Plain, MemStore, I, MemSink>(alloc, words, store, input, out, limit)
+}
+
+// The status of a run on a machine.
+fn status_by<I: Source>(
+    alloc: Global,
+    by: Runner,
+    case: &Case,
+    store: &mut MemStore,
+    input: &mut I,
+    out: &mut MemSink,
+) -> Status {
+    match by {
+        Runner::Shard => shard_status(alloc, case, store, input, out),
+        Runner::Plain => plain_status(alloc, case, store, input, out),
+    }
+}
+
 // The status of a run whose input is given a byte at a time.
 fn slow_status(
     alloc: Global,
+    by: Runner,
     case: &Case,
     store: &mut MemStore,
     out: &mut MemSink,
@@ -51,57 +100,34 @@ fn slow_status(
     let bytes = Vec::from_slice(alloc, case.input.as_slice())?;
     let bytes = SureSource::new(bytes);
     let mut input = OneByte { bytes };
-    Ok(run(alloc, case.words.as_slice(), store, &mut input, out))
-}
-
-// The status of a run whose input may fail.
-fn usual_status(
-    alloc: Global,
-    case: &Case,
-    store: &mut MemStore,
-    out: &mut MemSink,
-) -> Result<Status, AllocError> {
-    let mut input = source_of(alloc, case)?;
-    Ok(run(alloc, case.words.as_slice(), store, &mut input, out))
-}
-
-// The status of a run whose input may fail, and is cut.
-fn cut_status(
-    alloc: Global,
-    case: &Case,
-    limit: u64,
-    store: &mut MemStore,
-    out: &mut MemSink,
-) -> Result<Status, AllocError> {
-    let mut input = source_of(alloc, case)?;
-    Ok(run_with(alloc, case.words.as_slice(), store, &mut input, out, limit))
+    Ok(status_by(alloc, by, case, store, &mut input, out))
 }
 
 // The status of a run over a store.
 fn status_of(
     alloc: Global,
+    by: Runner,
     case: &Case,
     store: &mut MemStore,
     out: &mut MemSink,
 ) -> Result<Status, AllocError> {
     if case.slow {
-        return slow_status(alloc, case, store, out);
+        return slow_status(alloc, by, case, store, out);
     }
-    match case.limit {
-        None => usual_status(alloc, case, store, out),
-        Some(limit) => cut_status(alloc, case, limit, store, out),
-    }
+    let mut input = source_of(alloc, case)?;
+    Ok(status_by(alloc, by, case, store, &mut input, out))
 }
 
 // The status of a run over a store; what it writes is appended.
 fn served(
     alloc: Global,
+    by: Runner,
     case: &Case,
     store: &mut MemStore,
     text: &mut Vec<u8>,
 ) -> Result<u64, AllocError> {
     let mut out = sink_of(alloc, case)?;
-    let status = status_of(alloc, case, store, &mut out)?;
+    let status = status_of(alloc, by, case, store, &mut out)?;
     text.extend_from_slice(out.bytes())?;
     Ok(u64::from(status.code()))
 }
@@ -130,31 +156,33 @@ fn append_others(text: &[u8], kept: &mut Vec<u8>) -> Result<u64, AllocError> {
     Ok(faults)
 }
 
-/// What a run of a case over a store comes to, where there was nothing yet.
+/// What a run of a case on a machine, over a store, comes to, where there was nothing yet.
 pub(crate) fn run_case(
     alloc: Global,
+    by: Runner,
     case: &Case,
     store: &mut MemStore,
     outcome: &mut Outcome,
 ) -> Result<(), AllocError> {
     match case.wanted.faults {
         None => {
-            outcome.status = served(alloc, case, store, &mut outcome.text)?;
+            outcome.status = served(alloc, by, case, store, &mut outcome.text)?;
             Ok(())
         }
-        Some(_) => run_with_faults(alloc, case, store, outcome),
+        Some(_) => run_with_faults(alloc, by, case, store, outcome),
     }
 }
 
 // The same, with the faults that are told counted.
 fn run_with_faults(
     alloc: Global,
+    by: Runner,
     case: &Case,
     store: &mut MemStore,
     outcome: &mut Outcome,
 ) -> Result<(), AllocError> {
     let mut text = Vec::new(alloc);
-    outcome.status = served(alloc, case, store, &mut text)?;
+    outcome.status = served(alloc, by, case, store, &mut text)?;
     outcome.faults = Some(append_others(text.as_slice(), &mut outcome.text)?);
     Ok(())
 }
