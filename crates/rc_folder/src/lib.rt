@@ -2,12 +2,14 @@
 #![tactic(auto)]
 
 mod built;
+mod counts;
 mod folder;
 mod laws;
 mod machine;
 mod opening;
 
 pub use built::is_built;
+pub use counts::Answered;
 pub use folder::Folder;
 pub use laws::{machine_stands_over_one_more, next_number_is_no_files, sealed_parts_fit};
 pub use machine::Machine;

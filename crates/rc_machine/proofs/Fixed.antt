@@ -118,7 +118,7 @@ fixed m id r (FlushStep count) reply new e h s = stepped m new id r reply e m.wr
 fixed m id r (Evict count) reply new e h s = still m new id r reply e s.1
 fixed m id r (Compact count) reply new e h s = still m new id r reply e s.1
 fixed m id r (Clean count) reply new e h s = still m new id r reply e s.1
-fixed m id r Stats reply new e h s = still m new id r reply e s.2
+fixed m id r Stats reply new e h s = still m new id r reply e s.3
 
 both : (a b : Bool) → (not a && b) ≡ true → (a ≡ false) × (b ≡ true)
 both false b h = (refl, h)

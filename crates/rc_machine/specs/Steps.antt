@@ -132,7 +132,7 @@ Steps m Flush reply new = Flushes m without_sealed reply new
 Steps m FlushBegin reply new = Flushes m (λ next. next) reply new
 Steps m (FlushStep count) reply new = MatchBool m.written (MatchBool (nat_lt count m.left) ((reply ≡ replies.Going) × (new ≡ record m { left = m.left - count }))
     ((reply ≡ replies.Done) × (new ≡ without_sealed m))) (Refuses m NoFlush reply new)
-Steps m Stats reply new = (figures : Figures) × (reply ≡ replies.Stats figures) × (new ≡ m)
+Steps m Stats reply new = (figures : Figures) × (figures.segments + figures.free ≡ m.segments) × (reply ≡ replies.Stats figures) × (new ≡ m)
 Steps m command reply new = Does m reply new
 
 -- the state after steps, each a command with its reply

@@ -15,7 +15,7 @@ use Rattle.rc_registry.specs.Registry.{AreFree, put}
 use Rattle.rc_memory.specs.Kept.{IsSoundChain}
 use Rattle.rc_memory.specs.Memory.{KeptChain, Member, Memory, IsVersionAt, chain_at, on_chain, on_shown, on_version_of, renumbered_member, shown_without}
 use Rattle.rc_memory.specs.Recency.{IsRecency, MayBeListed}
-use Rattle.rc_memory.specs.Changes.{IsWithout, OfVersion, member}
+use Rattle.rc_memory.specs.Changes.{IsUnmoved, IsWithout, OfVersion, member}
 use Rattle.rc_memory.specs.laws.Dropped.{renumbered-other}
 use Rattle.rc_memory.specs.laws.Places.{same_some}
 use Rattle.rc_memory.specs.laws.Put.{put-at, put-same}
@@ -73,6 +73,7 @@ pub record IsLeaving (those : List (Option KeptChain)) (told : List ℕ) (old ne
   pub recency : new.recency ≡ old.recency
   pub counts : new.counts ≡ old.counts
   pub budget : length new.region.usages ≡ length old.region.usages
+  pub moved : new.region.moved ≡ old.region.moved
 
 -- a chain is gone, before it is said how much is live
 abbrev pub HasGone : ℕ → Memory → Memory → Type 0
@@ -94,7 +95,7 @@ some-chain P (Some k) h = (k, refl, h)
 
 pub freeing-start : (id : ℕ) (m : Memory) → IsSomeAnd (chain_at m id) IsLeft → IsFreeing id m m
 freeing-start id m h = let k = some-chain IsLeft (chain_at m id) h in
-    inl (record { chain = k.0; there = k.1; left = k.2; others = record { chains = sym (put-same m.chains id k.0 k.1); dropped = refl; recency = refl; counts = refl; budget = refl } })
+    inl (record { chain = k.0; there = k.1; left = k.2; others = record { chains = sym (put-same m.chains id k.0 k.1); dropped = refl; recency = refl; counts = refl; budget = refl; moved = refl } })
 
 -- where the chain is no longer there it is gone
 over-left : (id : ℕ) (old now : Memory) → IsFreeing id old now → false ≡ is_some (chain_at now id) → HasGone id old now
@@ -108,6 +109,7 @@ freeing-over id old now live live_now freeing none = let g = over-left id old no
   recency = g.recency;
   counts = g.counts;
   budget = g.budget;
+  moved = g.moved;
   live = let less = gone-less old now id g.chains in omega (arith, less, live, live_now);
 }
 
@@ -136,8 +138,8 @@ module _ (id : ℕ) (old now : Memory) (t : IsThere id old now) (rule : IsRecenc
 
   module _ (new : Memory) where
     -- something of the chain changed
-    then-there : (f : KeptChain → KeptChain) → IsLeft (f t.chain) → new.chains ≡ on_chain id f now.chains → new.dropped ≡ now.dropped → new.counts ≡ now.counts → new.recency ≡ now.recency → length new.region.usages ≡ length now.region.usages → IsThere id old new
-    then-there f left chains dropped counts list budget = record {
+    then-there : (f : KeptChain → KeptChain) → IsLeft (f t.chain) → new.chains ≡ on_chain id f now.chains → new.dropped ≡ now.dropped → new.counts ≡ now.counts → new.recency ≡ now.recency → IsUnmoved now.region new.region → IsThere id old new
+    then-there f left chains dropped counts list still = record {
       chain = f t.chain;
       there = chain-now now new id f t.chain chains t.there;
       left = left;
@@ -146,20 +148,21 @@ module _ (id : ℕ) (old now : Memory) (t : IsThere id old now) (rule : IsRecenc
         dropped = dropped ∙ t.others.dropped;
         recency = list ∙ t.others.recency;
         counts = counts ∙ t.others.counts;
-        budget = budget ∙ t.others.budget;
+        budget = still.budget ∙ t.others.budget;
+        moved = still.moved ∙ t.others.moved;
       };
     }
 
     entry-then : IsEntryFreed id now new → IsThere id old new
-    entry-then e = let c = e.changed t.chain t.there in then-there (on_shown (on_version_of 0 (free_entry t.chain.chain.kind e.at))) t.left c.chains c.dropped c.counts (list-stays (member id 0 (Some e.at)) new.recency refl e.recency) c.region.budget
+    entry-then e = let c = e.changed t.chain t.there in then-there (on_shown (on_version_of 0 (free_entry t.chain.chain.kind e.at))) t.left c.chains c.dropped c.counts (list-stays (member id 0 (Some e.at)) new.recency refl e.recency) c.region
 
     static-then : IsStaticFreed id now new → IsThere id old new
-    static-then e = let c = e.changed t.chain t.there in then-there (on_shown (on_version_of 0 (free_statics t.chain.chain.kind))) t.left c.chains c.dropped c.counts (list-stays (member id 0 None) new.recency refl e.recency) c.region.budget
+    static-then e = let c = e.changed t.chain t.there in then-there (on_shown (on_version_of 0 (free_statics t.chain.chain.kind))) t.left c.chains c.dropped c.counts (list-stays (member id 0 None) new.recency refl e.recency) c.region
 
     version-then : IsVersionDropped id 0 now new → IsThere id old new
     version-then d = then-there (on_shown (shown_without 0)) (t.left.0, t.left.1, free-renumbered t.chain.chain.pins t.left.2) d.chains d.dropped d.counts
         (d.recency.2 ∙ ap (map (renumbered_member id 0)) (list-stays (member id 0 (Some end_position)) d.recency.0 refl d.recency.1)
-        ∙ mapped-same (renumbered_member id 0) now.recency (λ w on. renumbered-other id 0 w (λ at. unlisted w at on))) d.region.budget
+        ∙ mapped-same (renumbered_member id 0) now.recency (λ w on. renumbered-other id 0 w (λ at. unlisted w at on))) d.region
 
     last-then : IsLastDropped id now new → HasGone id old new
     last-then d = record {
@@ -168,6 +171,7 @@ module _ (id : ℕ) (old now : Memory) (t : IsThere id old now) (rule : IsRecenc
       recency = d.dropped.recency ∙ list-stays (member id 0 (Some end_position)) d.list refl d.recency ∙ t.others.recency;
       counts = d.dropped.counts ∙ t.others.counts;
       budget = d.dropped.region.budget ∙ t.others.budget;
+      moved = d.dropped.region.moved ∙ t.others.moved;
     }
 
     pub freeing-step : IsOneFreed id now new → IsFreeing id old new

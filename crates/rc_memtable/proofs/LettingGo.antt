@@ -14,6 +14,7 @@ use Rattle.rc_memory.specs.laws.Places.{no_some, same_some}
 use Rattle.rc_chain.specs.Lives.{IsChainChanged, IsEndListed}
 use Rattle.rc_chain.specs.laws.PlaceBeside.{memtable-settled}
 use Rattle.rc_memtable.specs.LetGo.{AreLetGo, HasLeft, IsFreedUnpinned, IsLetGo, TakesNoMore}
+use Rattle.rc_memtable.specs.laws.NoMore.{counts-same, no-more-itself, no-more-then}
 use Rattle.rc_memtable.specs.Writes.{chain_of}
 use Rattle.rc_memtable.specs.calls.Steps.{chains_bytes}
 use Rattle.rc_memtable.specs.calls.Writing.{AreMemtables}
@@ -46,6 +47,7 @@ module _ (id : ℕ) (old mid new : Memory) (memtable : IsSomeAnd (chain_at old i
     recency = d.2.recency ∙ d.1.settled (memtable-settled its.0.chain (of-chain (λ k. IsSoundChain k.chain) (chain_at old id) its.0 its.1 (sound id)) its.2);
     counts = d.2.counts;
     budget = d.2.region.budget;
+    moved = d.2.region.moved;
     live = let same = chain-more old mid id (on_shown shown_detached) 0 its.0 d.2.chains its.1 (omega arith) in omega (arith, same, live, live_mid);
   }
 
@@ -65,6 +67,7 @@ module _ (id : ℕ) (old mid new : Memory) (memtable : IsSomeAnd (chain_at old i
         recency = gone.1.recency ∙ mid-left.recency;
         counts = gone.1.counts ∙ mid-left.counts;
         budget = gone.1.budget ∙ mid-left.budget;
+        moved = gone.1.moved ∙ mid-left.moved;
         live = let less = gone.1.live in let first = mid-left.live in omega (arith, less, first);
       },
     )
@@ -126,14 +129,17 @@ some-there : (o : Option KeptChain) → IsSome o → (k : KeptChain) × (o ≡ S
 some-there None h = absurd (cc)
 some-there (Some k) h = (k, refl)
 
+left-no-more : (those : List (Option KeptChain)) (told : List ℕ) (old new : Memory) → HasLeft those told old new → TakesNoMore old new
+left-no-more those told old new h = record { budget = h.budget; live = h.live; counts = counts-same old new h.counts h.moved }
+
 pub let-go-no-more : (id : ℕ) (old new : Memory) → HasChain old id → IsLetGo id old new → TakesNoMore old new
-let-go-no-more id old new there h = let k = some-there (chain_at old id) there in elim (h k.0 k.1) [ inl gone ↦ (gone.1.budget, gone.1.live) | inr kept ↦ (kept.1.budget, kept.1.live) ]
+let-go-no-more id old new there h = let k = some-there (chain_at old id) there in elim (h k.0 k.1) [ inl gone ↦ left-no-more _ _ old new gone.1 | inr kept ↦ left-no-more _ _ old new kept.1 ]
 
 same-no-more : (old new : Memory) → new ≡ old → TakesNoMore old new
-same-no-more old new e = subst (TakesNoMore old) (sym e) (refl, omega arith)
+same-no-more old new e = subst (TakesNoMore old) (sym e) (no-more-itself old)
 
 pub freed-no-more : (id : ℕ) (old new : Memory) → HasChain old id → IsFreedUnpinned id old new → TakesNoMore old new
-freed-no-more id old new there h = let k = some-there (chain_at old id) there in elim (h k.0 k.1) [ inl gone ↦ (gone.1.budget, gone.1.live) | inr kept ↦ same-no-more old new kept.1 ]
+freed-no-more id old new there h = let k = some-there (chain_at old id) there in elim (h k.0 k.1) [ inl gone ↦ left-no-more _ _ old new gone.1 | inr kept ↦ same-no-more old new kept.1 ]
 
 pub all-no-more : (ids : List ℕ) (old new : Memory) → AllPairs ◌≢◌ ids → ((id : ℕ) → Contains ids id → HasChain old id) → AreLetGo ids old new → TakesNoMore old new
 all-no-more [] old new once there h = same-no-more old new h
@@ -142,4 +148,4 @@ all-no-more (id ∷ ids) old new once there h =
     let first = let-go-no-more id old h.0 (there id (elem-first id ids)) h.1 in
     let rest = all-no-more ids h.0 new (once-tail id ids once)
     (λ i on. subst IsSome (sym (let-go-beside id old h.0 k.0 k.1 h.1 i (λ same. once-head id ids once (subst (Contains ids) same on)))) (there i (elem-later id i ids on))) h.2 in
-    let a = first.1 in let b = rest.1 in (rest.0 ∙ first.0, omega (arith, a, b))
+    no-more-then old h.0 new first rest

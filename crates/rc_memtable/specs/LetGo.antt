@@ -1,19 +1,21 @@
 -- How a memtable's chains are let go, once a table has their writes.
 --     IsLetGo      a chain is no longer found, and where nobody pins it it is gone
 --     AreLetGo     so of chains one after another
---     TakesNoMore  the region has as many segments, and no more is live
+--     NoCountFell  no count is less than it was
+--     TakesNoMore  the region has as many segments, no more is live, and no count fell
 use Rattle.std.specs.Prelude.{◌≡◌, ◌≤◌, ◌⊎◌, ℕ, List, [], ◌∷◌, ◌++◌, Option, Some, None, length}
 use Rattle.lsa_region.specs.Region.{live_bytes}
 use Rattle.rc_registry.specs.Registry.{AreFree, put}
 use Rattle.rc_memory.specs.Memory.{KeptChain, Memory, chain_at, on_chain, on_shown, shown_detached}
 
--- the chains are these, and so are the numbers to be told; the recency list and the counts are as they were, the region has as many segments, and no more is live in it
+-- the chains are these, and so are the numbers to be told; the recency list and the counts are as they were, the region has as many segments, no object was moved, and no more is live in it
 pub record HasLeft (those : List (Option KeptChain)) (told : List ℕ) (old new : Memory) : Type 0 where
   pub chains : new.chains ≡ those
   pub dropped : new.dropped ≡ told
   pub recency : new.recency ≡ old.recency
   pub counts : new.counts ≡ old.counts
   pub budget : length new.region.usages ≡ length old.region.usages
+  pub moved : new.region.moved ≡ old.region.moved
   pub live : live_bytes new.region ≤ live_bytes old.region
 
 -- a chain is gone, and its number is to be told
@@ -33,6 +35,14 @@ abbrev pub AreLetGo : List ℕ → Memory → Memory → Type 0
 AreLetGo [] old new = new ≡ old
 AreLetGo (id ∷ ids) old new = (mid : Memory) × IsLetGo id old mid × AreLetGo ids mid new
 
--- the region has as many segments, and no more is live in it
-abbrev pub TakesNoMore : Memory → Memory → Type 0
-TakesNoMore old new = (length new.region.usages ≡ length old.region.usages) × (live_bytes new.region ≤ live_bytes old.region)
+-- no count is less than it was: of evictions, of moved objects, and of how often no room was found
+pub record NoCountFell (old new : Memory) : Type 0 where
+  pub evicted : old.counts.evicted ≤ new.counts.evicted
+  pub moved : old.region.moved ≤ new.region.moved
+  pub skipped : old.counts.skipped ≤ new.counts.skipped
+
+-- the region has as many segments, no more is live in it, and no count is less than it was
+pub record TakesNoMore (old new : Memory) : Type 0 where
+  pub budget : length new.region.usages ≡ length old.region.usages
+  pub live : live_bytes new.region ≤ live_bytes old.region
+  pub counts : NoCountFell old new

@@ -5,3 +5,4 @@ pub mod Steps
 pub mod LetGo
 pub mod Partitions
 pub mod calls
+pub mod laws

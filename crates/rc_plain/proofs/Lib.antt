@@ -4,3 +4,4 @@ pub mod Numbers
 pub mod Listed
 pub mod Standing
 pub mod Tabled
+pub mod Counted

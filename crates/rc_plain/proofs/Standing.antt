@@ -93,6 +93,7 @@ stands_reading files k m given readers e s = record {
   whole = s.whole;
   left = s.left;
   readers = e;
+  budget = s.budget;
 }
 
 -- ---- a write
@@ -112,6 +113,7 @@ stands_writing files k m w fits s = record {
   whole = s.whole;
   left = s.left;
   readers = s.readers;
+  budget = s.budget;
 }
 
 takes_put : (files : Option Files) (k : Keeping) (w : Write) (active : List Write) → CommandFits k.schema (Put w) → active ≡ k.active ++ w ∷ [] → Takes Stands files k (Put w) replies.Fine files (writing k active)
@@ -232,6 +234,7 @@ stands_sealed files k m s =
       whole = s.whole;
       left = s.left;
       readers = s.readers;
+      budget = s.budget;
     }
 
 -- ---- from what the program keeps inside

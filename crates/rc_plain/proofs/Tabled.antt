@@ -69,6 +69,7 @@ stands_stored files files' k k' m n i s is =
       whole = refl;
       left = refl;
       readers = s.readers ∙ sym (ap (λ (k : Keeping). k.readers) i.keeps);
+      budget = s.budget ∙ sym (ap (λ (k : Keeping). k.segments) i.keeps);
     }
 
 -- the sealed writes stand in the next table

@@ -2,3 +2,4 @@
 pub mod Answering
 pub mod Index
 pub mod Storing
+pub mod Counting

@@ -15,15 +15,16 @@ ghost use Rattle.rc_machine.specs.State.{State, Table, opened_state};
 ghost use Rattle.rc_machine.specs.Tables.{AreListed, AreTables};
 ghost use Rattle.rc_machine.specs.Built.{is_built};
 ghost use Rattle.rc_machine.specs.Serving.{FaultsAreCounted, OnFaulty, Stops, Takes, most_asks, checks_of};
-ghost use Rattle.rc_folder.specs.Opening.{IsOpeningRefused, OnOpenFault};
+ghost use Rattle.rc_folder.specs.Counting.{figures_in};
 ghost use Rattle.rc_folder.specs.Tabled.{IsNextNumber};
 ghost use Rattle.rc_plain.specs.calls.Answering.{IsAnswer};
-ghost use Rattle.rc_plain.specs.Stands.{Stands};
+ghost use Rattle.rc_plain.specs.Stands.{Stands, figures_of};
+ghost use Rattle.rc_plain.specs.calls.Counting.{AreSameCounts};
 ghost use Rattle.rc_plain.specs.calls.Storing.{IsFlushAnswered, sealed_all};
 
 use crate::memtable::Memtable;
 use crate::readers::{Rest, place_of};
-use rc_folder::{Folder, Machine, OpenErr};
+use rc_folder::{Answered, Folder, Machine, OpenErr};
 use rc_lines::{Command, Figures, Refusal, Reply};
 use rc_mutation::{Mutation, Write};
 use rc_outside::Store;
@@ -48,6 +49,9 @@ pub struct Plain {
     sealed: Memtable,
     active: Memtable,
     readers: Vec<(u32, Rest)>,
+    segments: u32,
+    answered: Answered,
+    asked: u64,
 }
 
 impl Model for Plain {
@@ -55,41 +59,36 @@ impl Model for Plain {
 
     ghost Value = { Keeping };
 
-    ghost view = { λ m. record { schema = m.folder.schema; infos = m.folder.infos; sealed = m.sealed; active = m.active; readers = m.readers.items } };
+    ghost view = { λ m. record { schema = m.folder.schema; infos = m.folder.infos; sealed = m.sealed; active = m.active; readers = m.readers.items; segments = m.segments; answered = m.answered; asked = m.asked } };
 }
 
 impl Machine for Plain {
     ghost use Rattle.rc_folder.specs.Tabled.{Tabled};
-    ghost use Rattle.rc_plain.specs.Stands.{Stands};
+    ghost use Rattle.rc_plain.specs.Stands.{Stands, figures_of};
 
     ghost stands = { Stands };
 
     ghost folder = { λ k. record { schema = k.schema; infos = k.infos } };
 
+    ghost figures = { figures_of };
+
     ghost over = { λ told k m s. s.over };
 
-    /// The program over a folder of tables of a schema, each of which is checked: it stands for the machine as it is opened over them,
-    /// whatever that one's budget of segments. `OpenErr::Damaged` and `OpenErr::OtherSchema` name the first file that is no table of the
-    /// schema; `OpenErr::Fault` comes when the store fails, and only then; `OpenErr::NoMemory` when memory is refused.
     fn open<W: Store>(
         alloc: Global,
         store: &mut W,
         schema: Schema,
-        _segments: u32,
-    ) -> Result<Self, OpenErr>
-        ensures stands { IfOk result (λ plain. (tables : List Table) × (infos : List TableInfo) × AreTables (W.files store.old) schema tables × AreListed (W.files store.old) schema tables infos
-            × ((budget : ℕ) → Stands (W.files store.new) plain (opened_state budget (W.files store.old) schema tables infos))) }
-        ensures refused { IfErr result (IsOpeningRefused (W.files store.old) schema) }
-        ensures faults { RisesIfFault OnOpenFault result (W.faults store.old) (W.faults store.new) }
-        ensures store { HoldsSameFiles W.files W.building store.old store.new }
-        ensures asks { IfSome (W.files store.old) (λ told. W.asks store.new ≤ W.asks store.old + checks_of (values told)) }
-    {
+        segments: u32,
+    ) -> Result<Self, OpenErr> {
         let folder = Folder::open(alloc, store, schema)?;
         Ok(Plain {
             folder,
             sealed: Memtable::new(alloc),
             active: Memtable::new(alloc),
             readers: Vec::new(alloc),
+            segments,
+            answered: Answered::none(),
+            asked: store.asks(),
         })
     }
 
@@ -103,6 +102,54 @@ impl Machine for Plain {
         store: &mut W,
         command: &Command,
     ) -> Result<Reply, AllocError> {
+        let before = store.asks();
+        let reply = self.step(alloc, store, command)?;
+        self.answered = self.answered.count(command, &reply, before, store.asks());
+        Ok(reply)
+    }
+
+    fn close(self) {}
+}
+
+impl Plain {
+    // What it tells of itself, where the store was asked so often: all of its budget is free, and it has no cache.
+    fn figures<W: Store>(&self, store: &W) -> Figures
+        ensures { result ≡ figures_of self.now (W.asks store.now) }
+    {
+        Figures {
+            segments: 0,
+            free: u64::from(self.segments),
+            objects: 0,
+            live: 0,
+            partitions: 0,
+            rows: 0,
+            dummies: 0,
+            hits: self.answered.hits,
+            misses: self.answered.misses,
+            evicted: 0,
+            moved: 0,
+            skipped: 0,
+            asks: store.asks().saturating_sub(self.asked),
+        }
+    }
+
+    // Takes the step of a command, without counting it.
+    fn step<W: Store>(
+        &mut self,
+        alloc: Global,
+        store: &mut W,
+        command: &Command,
+    ) -> Result<Reply, AllocError>
+        requires fits { CommandFits self.old.schema command.now }
+        requires built { IsTrue (is_built command.now) }
+        requires stands { (m : State) × Stands (W.files store.old) self.old m }
+        ensures step { IfOk result (λ reply. Takes Stands (W.files store.old) self.old command.now reply (W.files store.new) self.new) }
+        ensures err { OnErr result (Stops Stands (W.files store.old) self.old command.now (W.files store.new) self.new) }
+        ensures faults { FaultsAreCounted result (W.faults store.old) (W.faults store.new) }
+        ensures asks { W.asks store.new ≤ W.asks store.old + most_asks self.old.infos command.now }
+        ensures counts { AreSameCounts self.old self.new }
+        ensures told { IfOk result (λ reply. IfSome (figures_in command.now reply) (λ figures. figures ≡ figures_of self.old (W.asks store.old))) }
+    {
         match command {
             Command::Nothing => Ok(Reply::Nothing),
             Command::SetSchema(schema) => Ok(self.set_schema(schema)),
@@ -112,7 +159,7 @@ impl Machine for Plain {
             Command::Close { id } => Ok(self.close_reader(*id)),
             Command::Flush => self.flush(alloc, store),
             Command::Compact { .. } => Ok(Reply::Fine),
-            Command::Stats => Ok(Reply::Stats(no_figures())),
+            Command::Stats => Ok(Reply::Stats(self.figures(store))),
             Command::FlushBegin
             | Command::FlushStep { .. }
             | Command::Evict { .. }
@@ -120,10 +167,6 @@ impl Machine for Plain {
         }
     }
 
-    fn close(self) {}
-}
-
-impl Plain {
     // The reply to a schema line: fine where it is the same schema again.
     fn set_schema(&self, schema: &Schema) -> Reply
         ensures step { (files : Option Files) → Takes Stands files self.now (Command.SetSchema schema.now) result files self.now }
@@ -142,6 +185,7 @@ impl Plain {
         ensures step { (files : Option Files) → IfOk result (λ reply. Takes Stands files self.old (Command.Put write.now) reply files self.new) }
         ensures fine { IfOk result (λ reply. reply ≡ Reply.Fine) }
         ensures err { OnErr result (self.new ≡ self.old) }
+        ensures counts { AreSameCounts self.old self.new }
     {
         let write = write.copy(alloc)?;
         self.active.put(alloc, write)?;
@@ -163,6 +207,7 @@ impl Plain {
         ensures faults { FaultsAreCounted result (W.faults store.old) (W.faults store.new) }
         ensures store { HoldsSameFiles W.files W.building store.old store.new }
         ensures asks { W.asks store.new ≤ W.asks store.old + 2 * listing key.now self.old.infos }
+        ensures counts { AreSameCounts self.old self.new }
     {
         if place_of(self.readers.as_slice(), id).is_some() {
             return Ok(Reply::Refused(Refusal::ReaderInUse));
@@ -230,6 +275,7 @@ impl Plain {
         ensures step { (files : Option Files) → IfOk result (λ reply. Takes Stands files self.old (Command.Read id count) reply files self.new) }
         ensures faultless { (n : ℕ) → IfOk result (λ reply. OnFaulty reply (Rose n n)) }
         ensures err { OnErr result (self.new ≡ self.old) }
+        ensures counts { AreSameCounts self.old self.new }
     {
         match place_of(self.readers.as_slice(), id) {
             None => Ok(Reply::Refused(Refusal::NoReader)),
@@ -245,6 +291,7 @@ impl Plain {
     fn close_reader(&mut self, id: u32) -> Reply
         ensures step { (files : Option Files) → Takes Stands files self.old (Command.Close id) result files self.new }
         ensures faultless { (n : ℕ) → OnFaulty result (Rose n n) }
+        ensures counts { AreSameCounts self.old self.new }
     {
         if place_of(self.readers.as_slice(), id).is_none() {
             return Reply::Refused(Refusal::NoReader);
@@ -260,6 +307,7 @@ impl Plain {
         ensures err { OnErr result (Stops Stands (W.files store.old) self.old Command.Flush (W.files store.new) self.new) }
         ensures faults { FaultsAreCounted result (W.faults store.old) (W.faults store.new) }
         ensures asks { W.asks store.new ≡ W.asks store.old }
+        ensures counts { AreSameCounts self.old self.new }
     {
         if self.is_flushed() {
             return Ok(Reply::Refused(Refusal::NothingToFlush));
@@ -302,6 +350,7 @@ impl Plain {
         ensures err { OnErr result ((self.new ≡ self.old) × (W.files store.new ≡ W.files store.old)) }
         ensures faults { FaultsAreCounted result (W.faults store.old) (W.faults store.new) }
         ensures asks { W.asks store.new ≡ W.asks store.old }
+        ensures counts { AreSameCounts self.old self.new }
     {
         let parts = self.sealed.parts(alloc)?;
         match self.folder.add(alloc, store, number, parts.as_slice()) {
@@ -311,25 +360,6 @@ impl Plain {
             }
             Err(error) => not_written(error),
         }
-    }
-}
-
-// The figures of a program that keeps no segments and counts nothing.
-fn no_figures() -> Figures {
-    Figures {
-        segments: 0,
-        free: 0,
-        objects: 0,
-        live: 0,
-        partitions: 0,
-        rows: 0,
-        dummies: 0,
-        hits: 0,
-        misses: 0,
-        evicted: 0,
-        moved: 0,
-        skipped: 0,
-        asks: 0,
     }
 }
 

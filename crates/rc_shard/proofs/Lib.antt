@@ -5,3 +5,4 @@ mod Taking
 mod Flushing
 mod Opening
 mod Closing
+pub mod Counted

@@ -22,7 +22,6 @@ use Rattle.rc_snapshots.specs.laws.Seeing.{seen-then}
 use Rattle.rc_unstored.specs.declared.unstored.Unstored.{Unstored}
 use Rattle.rc_unstored.specs.Memtables.{HaveWrites, in_chains}
 use Rattle.rc_unstored.specs.Readers.{IsNoneOf, IsSnapshotOfKey}
-use Rattle.rc_unstored.specs.Steps.{IsRoomMade}
 use Rattle.rc_opened.specs.declared.opened.Opened.{Opened}
 use Rattle.rc_opened.specs.Opened.{snaps_of}
 use Rattle.rc_folder.specs.Tabled.{Tabled}
@@ -32,6 +31,7 @@ use Rattle.rc_machine.specs.State.{Reader, State, Table, opened_state}
 use Rattle.rc_machine.specs.Tables.{AreListed, AreTables}
 use Rattle.rc_shard.specs.Stands.{AreFor, AreSound, AreTwo, HaveUnstored, IsServed, holding}
 use Rattle.rc_memtable.specs.LetGo.{TakesNoMore}
+use Rattle.rc_memtable.specs.laws.NoMore.{no-more-itself, no-more-then}
 use Rattle.rc_shard.specs.calls.Storing.{IsKept}
 use Rattle.rc_shard.proofs.Served.{all-served}
 
@@ -40,7 +40,7 @@ abbrev pub weigh : List Write → ℕ
 weigh writes = sum_by (λ (w : Write). weight w.change) writes
 
 pub sound-less : (m n : Memory) (st : State) → TakesNoMore m n → AreSound m st → AreSound n st
-sound-less m n st room s = record { mutations = s.mutations; budget = room.0 ∙ s.budget; weigh = let a = room.1 in let b = s.weigh in omega (arith, a, b) }
+sound-less m n st room s = record { mutations = s.mutations; budget = room.budget ∙ s.budget; weigh = let a = room.live in let b = s.weigh in omega (arith, a, b) }
 
 pub within : (told : Option Files) (f : Tabled) (u : Unstored 131072) (m : State) (sealed later : List Write) → m.stored ≤ m.sealed → m.sealed ≤ length m.log → m.stored ≤ length m.log
 within told f u m sealed later a b = omega (arith, a, b)
@@ -83,11 +83,8 @@ if-ok-weaker (Err e) P Q f h = tt
 
 -- ---- what is kept
 
-pub no-more-then : (m n l : Memory) → TakesNoMore m n → TakesNoMore n l → TakesNoMore m l
-no-more-then m n l a b = (b.0 ∙ a.0, (let x = a.1 in let y = b.1 in omega (arith, x, y)))
-
 pub kept-itself : (schema : SchemaValue) (u : Unstored 131072) → IsKept schema u u
-kept-itself schema u = record { stands = λ writes later h. h; seen = λ s on. record { pin = on; versions = refl; kind = refl }; room = (refl, omega arith) }
+kept-itself schema u = record { stands = λ writes later h. h; seen = λ s on. record { pin = on; versions = refl; kind = refl }; room = no-more-itself u.chains }
 
 pub kept-then : (schema : SchemaValue) (u v w : Unstored 131072) → IsKept schema u v → IsKept schema v w → IsKept schema u w
 kept-then schema u v w a b = record {
@@ -97,8 +94,8 @@ kept-then schema u v w a b = record {
 }
 
 -- where objects moved
-pub room-kept : (schema : SchemaValue) (u v : Unstored 131072) → ((writes later : List Write) → HaveWrites schema u writes later → HaveWrites schema v writes later) → AreSameSnapshots u.chains v.chains → IsRoomMade u.chains v.chains → IsKept schema u v
-room-kept schema u v stands same room = record { stands = stands; seen = same.alike; room = (room.budget, (let a = room.live in omega (arith, a))) }
+pub room-kept : (schema : SchemaValue) (u v : Unstored 131072) → ((writes later : List Write) → HaveWrites schema u writes later → HaveWrites schema v writes later) → AreSameSnapshots u.chains v.chains → TakesNoMore u.chains v.chains → IsKept schema u v
+room-kept schema u v stands same room = record { stands = stands; seen = same.alike; room = room }
 
 -- in chains that are the same
 pub kept-in : (schema : SchemaValue) (u v : Unstored 131072) (m : Memory) → m ≡ v.chains → IsKept schema u v → IsKept schema u (in_chains m v)
@@ -110,7 +107,7 @@ pub kept-back : (schema : SchemaValue) (u v w : Unstored 131072) (snaps : Snaps)
 kept-back schema u v w snaps k fresh stands others room = record {
   stands = λ writes later h. stands writes later (k.stands writes later h);
   seen = λ s on. let a = k.seen s on in let b = others s (fresh s on) a.pin in record { pin = b.pin; versions = b.versions ∙ a.versions; kind = b.kind ∙ a.kind };
-  room = (room.0 ∙ k.room.0, (let a = k.room.1 in let b = room.1 in omega (arith, a, b)));
+  room = no-more-then u.chains v.chains w.chains k.room room;
 }
 
 -- a snapshot that was not there is none that was

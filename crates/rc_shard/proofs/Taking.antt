@@ -41,6 +41,7 @@ use Rattle.rc_machine.specs.Serving.{FaultsAreCounted, OnFaulty, Takes}
 use Rattle.rc_shard.specs.declared.shard.Shard.{Shard}
 use Rattle.rc_shard.specs.Stands.{AreFor, AreOfTwo, Stands}
 use Rattle.rc_memtable.specs.LetGo.{TakesNoMore}
+use Rattle.rc_memtable.specs.laws.NoMore.{no-more-itself}
 use Rattle.rc_shard.specs.calls.Keeping.{Keeps, TellsOf}
 use Rattle.rc_shard.specs.calls.Storing.{IsKept}
 use Rattle.rc_shard.proofs.Places.{IsNowhere, IsPlace, one-of}
@@ -55,7 +56,7 @@ as-many n h = grind (arith, nat_tests, h)
 
 -- nothing is let go in memory that is as it was
 pub no-more-same : (m n : Memory) → n ≡ m → TakesNoMore m n
-no-more-same m n e = (ap (λ (x : Memory). length x.region.usages) e, (let a = ap (λ (x : Memory). live_bytes x.region) e in omega (arith, a)))
+no-more-same m n e = subst (TakesNoMore m) (sym e) (no-more-itself m)
 
 not-less : (e : StreamErr) (files : Option Files) (before now : ℕ) → Caused {T = Mutation} (Err e) files before now → before ≤ now
 not-less stream_err.Fault files before now c = c.0

@@ -23,16 +23,16 @@ ghost use Rattle.rc_machine.specs.State.{State, Table, opened_state, unstored};
 ghost use Rattle.rc_machine.specs.Tables.{AreListed, AreTables};
 ghost use Rattle.rc_machine.specs.Steps.{reader_with};
 ghost use Rattle.rc_tfile.specs.declared.info.TableInfo.{TableInfo};
+ghost use Rattle.rc_folder.specs.Counting.{AreCounted, AreFresh, figures_in};
 ghost use Rattle.rc_folder.specs.Opening.{IsOpeningRefused, OnOpenFault};
 ghost use Rattle.rc_folder.specs.Tabled.{IsNextNumber};
-ghost use Rattle.rc_shard.specs.Counting.{counted, figures_of};
+ghost use Rattle.rc_shard.specs.Counting.{figures_of};
 ghost use Rattle.rc_shard.specs.Stands.{AreOfTwo, AreTwo, IsFullAsTold, holding};
 ghost use Rattle.rc_shard.specs.calls.Keeping.{CountsStay, Keeps, TellsOf};
 ghost use Rattle.rc_shard.specs.calls.Storing.{IsFlushAnswered, IsKept};
 
-use crate::counts::Answered;
 use rc_chain::Chains;
-use rc_folder::{Folder, Machine, OpenErr};
+use rc_folder::{Answered, Folder, Machine, OpenErr};
 use rc_lines::{Command, Figures, Refusal, Reply};
 use rc_mutation::{Mutation, Write};
 use rc_opened::{Leaves, Opened, what_is_left_stays_where_the_snapshots_see_the_same};
@@ -64,11 +64,14 @@ pub struct Shard {
 }
 
 impl Machine for Shard {
+    ghost use Rattle.rc_shard.specs.Counting.{figures_of};
     ghost use Rattle.rc_shard.specs.Stands.{Stands};
 
     ghost stands = { Stands ⟦<Opened as Leaves<Chains<131_072>>>⟧.lines };
 
     ghost folder = { λ k. k.folder };
+
+    ghost figures = { figures_of };
 
     ghost over = { λ told k m s. s.over };
 
@@ -85,8 +88,7 @@ impl Machine for Shard {
         requires some { 4 ≤ segments }
         ensures stands { IfOk result (λ shard. (tables : List Table) × (infos : List TableInfo) × AreTables (W.files store.old) schema tables × AreListed (W.files store.old) schema tables infos
             × ⟦<Shard as Machine>⟧.stands (W.files store.new) shard (opened_state segments (W.files store.old) schema tables infos)) }
-        ensures answered { IfOk result (λ shard. (shard.answered.hits ≡ 0) × (shard.answered.misses ≡ 0)) }
-        ensures asked { IfOk result (λ shard. shard.asked ≡ W.asks store.new) }
+        ensures figures { IfOk result (λ shard. AreFresh (W.asks store.new) (figures_of shard)) }
         ensures refused { IfErr result (IsOpeningRefused (W.files store.old) schema) }
         ensures faults { RisesIfFault OnOpenFault result (W.faults store.old) (W.faults store.new) }
         ensures store { HoldsSameFiles W.files W.building store.old store.new }
@@ -129,7 +131,7 @@ impl Machine for Shard {
         ensures faults { FaultsAreCounted result (W.faults store.old) (W.faults store.new) }
         ensures asks { W.asks store.new ≤ W.asks store.old + most_asks self.old.folder.infos command.now }
         ensures full { IfOk result (λ reply. IsFullAsTold command.now reply self.old.folder.schema self.new.unstored) }
-        ensures counts { IfOk result (λ reply. self.new.answered ≡ counted command.now reply (W.asks store.old) (W.asks store.new) self.old.answered) }
+        ensures figures { IfOk result (λ reply. AreCounted command.now reply (W.asks store.old) (W.asks store.new) (figures_of self.old) (figures_of self.new)) }
     {
         let before = store.asks();
         let reply = self.step(alloc, store, command)?;
@@ -195,6 +197,7 @@ impl Shard {
         ensures asks { W.asks store.new ≤ W.asks store.old + most_asks self.old.folder.infos command.now }
         ensures full { IfOk result (λ reply. IsFullAsTold command.now reply self.old.folder.schema self.new.unstored) }
         ensures counts { CountsStay self.old self.new }
+        ensures told { IfOk result (λ reply. IfSome (figures_in command.now reply) (λ figures. figures ≡ figures_of self.old (W.asks store.old))) }
     {
         match command {
             Command::Nothing => Ok(Reply::Nothing),
@@ -428,6 +431,7 @@ fn open_in(
 fn compact(unstored: &mut Unstored<131_072>, count: u32)
     ensures { (schema : SchemaValue) → IsKept schema unstored.old unstored.new }
 {
+    what_a_call_leaves_of_the_room();
     for _round in 0..count {
         if !unstored.compact_one() {
             return;

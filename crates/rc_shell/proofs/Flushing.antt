@@ -131,11 +131,11 @@ module _ (files : Option Files) (segments : ℕ) (line text : List ℕ) (all : S
     log = sym (none_more (all schema) _ (none schema) (no_write_at_schema line schema schema text p));
   })
 
-  waiting : (meaning : Result Command Refusal) (new : Stage) → served (parse None line) ≡ meaning → ((schema : SchemaValue) → all schema ≡ []) → StageStep segments (Waiting files) meaning text new → AtStage files new (and_line all line text)
-  waiting (Ok Nothing) new p none s = waits new s.1 none (ap (λ t. is_word t (codes "ok\n")) s.0)
-  waiting (Ok (SetSchema schema)) new p none s = opens new schema s.0 s.1 s.2 s.5 (served_ok (parse None line) (SetSchema schema) p) none
-  waiting (Err refusal) new p none s = waits new s.1 none (ap (λ t. is_word t (codes "ok\n")) s.0 ∙ not_ok refusal)
-  waiting (Ok command) new p none s = absurd s
+  waiting : (meaning : Result Command Refusal) (answer : Option Reply) (new : Stage) → served (parse None line) ≡ meaning → ((schema : SchemaValue) → all schema ≡ []) → StageStep segments (Waiting files) meaning answer text new → AtStage files new (and_line all line text)
+  waiting (Ok Nothing) answer new p none s = waits new s.1 none (ap (λ t. is_word t (codes "ok\n")) s.0)
+  waiting (Ok (SetSchema schema)) answer new p none s = opens new schema s.0 s.1 s.2 s.5 (served_ok (parse None line) (SetSchema schema) p) none
+  waiting (Err refusal) answer new p none s = waits new s.1 none (ap (λ t. is_word t (codes "ok\n")) s.0 ∙ not_ok refusal)
+  waiting (Ok command) answer new p none s = absurd s
 
   module _ (m : State) (h : Serves files m all) where
     -- the machine serves a command
@@ -171,13 +171,14 @@ module _ (files : Option Files) (segments : ℕ) (line text : List ℕ) (all : S
       log = h.log ∙ sym (append-nil (all m.schema)) ∙ ap (λ ws. all m.schema ++ ws) (sym none);
     })
 
-    serving : (meaning : Result Command Refusal) (new : Stage) → served (parse (Some m.schema) line) ≡ meaning → StageStep segments (Serving m) meaning text new → AtStage files new (and_line all line text)
-    serving (Ok command) new p s = takes command s.0 s.1 new (served_ok (parse (Some m.schema) line) command p) s.2 s.3 s.4
-    serving (Err refusal) new p s = stays new s.1 (unaccepted (parse (Some m.schema) line) text (ap (λ t. is_word t (codes "ok\n")) s.0 ∙ not_ok refusal))
+    serving : (meaning : Result Command Refusal) (answer : Option Reply) (new : Stage) → served (parse (Some m.schema) line) ≡ meaning → StageStep segments (Serving m) meaning answer text new → AtStage files new (and_line all line text)
+    serving (Ok command) (Some reply) new p s = takes command reply s.0 new (served_ok (parse (Some m.schema) line) command p) s.1 s.2 s.3
+    serving (Ok command) None new p s = absurd s
+    serving (Err refusal) answer new p s = stays new s.1 (unaccepted (parse (Some m.schema) line) text (ap (λ t. is_word t (codes "ok\n")) s.0 ∙ not_ok refusal))
 
-  at_step : (stage new : Stage) → AtStage files stage all → StageStep segments stage (meaning_at stage line) text new → AtStage files new (and_line all line text)
-  at_step (Waiting now) new at s = waiting (meaning_at (Waiting now) line) new refl at.1 (subst (λ f. StageStep segments (Waiting f) (meaning_at (Waiting now) line) text new) at.0 s)
-  at_step (Serving m) new at s = serving m at (meaning_at (Serving m) line) new refl s
+  at_step : (stage new : Stage) (answer : Option Reply) → AtStage files stage all → StageStep segments stage (meaning_at stage line) answer text new → AtStage files new (and_line all line text)
+  at_step (Waiting now) new answer at s = waiting (meaning_at (Waiting now) line) answer new refl at.1 (subst (λ f. StageStep segments (Waiting f) (meaning_at (Waiting now) line) answer text new) at.0 s)
+  at_step (Serving m) new answer at s = serving m at (meaning_at (Serving m) line) answer new refl s
 
 regroup : (all : SchemaValue → List Write) (line text : List ℕ) (lines texts : List (List ℕ)) (schema : SchemaValue)
     → and_line all line text schema ++ accepted_writes schema lines texts ≡ all schema ++ accepted_writes schema (line ∷ lines) (text ∷ texts)

@@ -4,7 +4,7 @@ use Rattle.rc_shell.specs.calls.Feed.{Answered, PushedText, PushedEnding, Pushed
 use Rattle.rc_shell.specs.Status.{status_at}
 use Rattle.rc_shell.specs.calls.Status.{stop_by}
 use Rattle.rc_lines.specs.laws.{long_lines_are_cut}
-use Rattle.rc_shell.specs.Step.{Moment, Stage, Waiting, Serving, StoreView, LineStep, StageStep, MayAsk, EndsRun, EndsRunAt, LeavesStore, meaning_at, served as meaning_served}
+use Rattle.rc_shell.specs.Step.{Moment, Stage, Waiting, Serving, StoreView, LineStep, StageStep, MayAsk, EndsRun, EndsRunAt, LeavesStore, TellsFigures, meaning_at, served as meaning_served, told_after}
 use Rattle.rc_shell.specs.declared.status.Status.{Status}
 use Rattle.rc_shell.specs.declared.status.Ending.{Ending}
 use Rattle.rc_shell.specs.declared.status.Stop.{Stop}
@@ -20,11 +20,13 @@ front_means (Serving m) line = ap meaning_served (long_lines_are_cut (Some m.sch
 -- it decides what the line is answered
 front_decides : (old new : Moment) (line text : List ℕ) → LineStep old (kept line) text new → LineStep old line text new
 front_decides old new line text s = record {
-  stage = subst (λ meaning. StageStep old.segments old.stage meaning text new.stage) (front_means old.stage line) s.stage;
+  reply = s.reply;
+  stage = subst (λ meaning. StageStep old.segments old.stage meaning s.reply text new.stage) (front_means old.stage line) s.stage;
   counts = s.counts;
   asks = (s.asks.0, subst (λ meaning. MayAsk old.stage meaning s.asks.0) (front_means old.stage line) s.asks.1, s.asks.2, s.asks.3);
   segments = s.segments;
-  figures = s.figures;
+  told = subst (λ meaning. new.told ≡ told_after old.stage meaning s.reply old.asks new.asks old.told) (front_means old.stage line) s.told;
+  figures = subst (λ meaning. TellsFigures meaning s.reply old.asks old.told) (front_means old.stage line) s.figures;
 }
 
 -- and whether it ends the run

@@ -12,3 +12,4 @@ pub mod Served
 pub mod Budget
 pub mod Undamaged
 pub mod Flushing
+pub mod Figured

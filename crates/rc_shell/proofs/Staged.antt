@@ -22,12 +22,14 @@ use Rattle.rc_machine.specs.laws.Asking.{few_asked}
 use Rattle.rc_machine.specs.laws.Changes.{change_of}
 use Rattle.rc_machine.specs.laws.Holding.{schema_stays}
 use Rattle.rc_machine.specs.Standing.{IsOver}
+use Rattle.rc_lines.specs.declared.commands.Figures.{Figures}
+use Rattle.rc_folder.specs.Counting.{AreCounted, AreFresh}
 use Rattle.rc_folder.specs.Tabled.{Tabled}
 use Rattle.rc_shell.specs.calls.Feed.{Answered}
-use Rattle.rc_shell.specs.Step.{Moment, Stage, StoreView, Waiting, Serving, StageStep, LineStep, EndsRun, EndsRunAt, LeavesStore, MayAsk, MayHaveAsked, files_of, meaning_at, served, start_moment, bad_table, tells_fault}
-use Rattle.rc_shell.specs.Late.{IsBudget, KeepsMoment, ServesAt, WaitsAt}
+use Rattle.rc_shell.specs.Step.{Moment, Stage, StoreView, Waiting, Serving, StageStep, LineStep, EndsRun, EndsRunAt, LeavesStore, MayAsk, MayHaveAsked, TellsFigures, Told, files_of, meaning_at, nothing_told, served, start_moment, bad_table, tells_fault, told_after}
+use Rattle.rc_shell.specs.Late.{GoesBy, IsBudget, KeepsMoment, ServesAt, WaitsAt}
 use Rattle.rc_shell.specs.calls.Late.{schema_set}
-use Rattle.rc_shell.specs.calls.Standing.{IsStanding}
+use Rattle.rc_shell.specs.calls.Standing.{MayClose}
 use Rattle.rc_shell.specs.laws.Late.{asked_nothing}
 use Rattle.rc_shell.specs.declared.status.Ending.{Ending}
 use Rattle.rc_shell.specs.declared.status.Ending.TheVariants.{BadTable, StoreFault}
@@ -36,6 +38,7 @@ use Rattle.rc_shell.specs.declared.words.Words.{Words}
 use Rattle.rc_shell.specs.declared.words.Words.TheVariants.{Run}
 use Rattle.rc_lines.specs.laws.Refusals.{early}
 use Rattle.rc_shell.proofs.Served.{served_ok, served_is}
+use Rattle.rc_shell.proofs.Figured.{goes-fresh, goes-on, may-tell}
 use Rattle.rc_shell.proofs.Told.{told, plain}
 
 clash : (b : Bool) → b ≡ false → b ≡ true → ⊥
@@ -46,28 +49,31 @@ abbrev CountsFaults : List ℕ → ℕ → ℕ → Type 0
 CountsFaults text before now = (before ≤ now) × (IsTrue (tells_fault text) → Rose before now)
 
 -- the moment behind a line
-next_moment : Moment → Stage → ℕ → ℕ → ℕ → Moment
-next_moment old stage faults asks bound = record { stage = stage; segments = old.segments; faults = faults; asks = asks; bound = old.bound + bound; figures = old.figures }
+next_moment : Moment → Stage → ℕ → ℕ → ℕ → Told → Moment
+next_moment old stage faults asks bound told = record { stage = stage; segments = old.segments; faults = faults; asks = asks; bound = old.bound + bound; told = told }
 
-line_step : (old : Moment) (line text : List ℕ) (was stage : Stage) (faults asks bound : ℕ) → old.stage ≡ was → StageStep old.segments was (meaning_at was line) text stage → CountsFaults text old.faults faults
-    → MayAsk was (meaning_at was line) bound → asks ≤ old.asks + bound → LineStep old line text (next_moment old stage faults asks bound)
+line_step : (old : Moment) (line text : List ℕ) (was stage : Stage) (reply : Option Reply) (faults asks bound : ℕ) (told : Told) → old.stage ≡ was → StageStep old.segments was (meaning_at was line) reply text stage → CountsFaults text old.faults faults
+    → MayAsk was (meaning_at was line) bound → asks ≤ old.asks + bound → told ≡ told_after was (meaning_at was line) reply old.asks asks old.told → TellsFigures (meaning_at was line) reply old.asks old.told
+    → LineStep old line text (next_moment old stage faults asks bound told)
 unfolding next_moment
-line_step old line text was stage faults asks bound e step counts may most = record {
-  stage = subst (λ st. StageStep old.segments st (meaning_at st line) text stage) (sym e) step;
+line_step old line text was stage reply faults asks bound told e step counts may most goes tells = record {
+  reply = reply;
+  stage = subst (λ st. StageStep old.segments st (meaning_at st line) reply text stage) (sym e) step;
   counts = counts;
   asks = (bound, subst (λ st. MayAsk st (meaning_at st line) bound) (sym e) may, refl, most);
   segments = refl;
-  figures = refl;
+  told = subst (λ st. told ≡ told_after st (meaning_at st line) reply old.asks asks old.told) (sym e) goes;
+  figures = subst (λ st. TellsFigures (meaning_at st line) reply old.asks old.told) (sym e) tells;
 }
 
 -- it stands where the stage does and the counts are the store's
-waits : (segments : ℕ) (old : Moment) (store store' : StoreView) (bound : ℕ) → WaitsAt segments store' old → WaitsAt segments store (next_moment old (Waiting store.0) store.1 store.2 bound)
+waits : (segments : ℕ) (old : Moment) (store store' : StoreView) (bound : ℕ) → WaitsAt segments store' old → WaitsAt segments store (next_moment old (Waiting store.0) store.1 store.2 bound old.told)
 unfolding next_moment
 waits segments old store store' bound s = (refl, refl, refl, s.3, s.4)
 
-leaves_behind : (old : Moment) (store : StoreView) (bound : ℕ) (m : State) → store.0 ≡ m.files → LeavesStore (next_moment old (Serving m) store.1 store.2 bound) store
+leaves_behind : (old : Moment) (store : StoreView) (bound : ℕ) (told : Told) (m : State) → store.0 ≡ m.files → LeavesStore (next_moment old (Serving m) store.1 store.2 bound told) store
 unfolding next_moment
-leaves_behind old store bound m same = (same, le_refl store.1, asked_nothing (Serving m) store.2)
+leaves_behind old store bound told m same = (same, le_refl store.1, asked_nothing (Serving m) store.2)
 
 no_more : (old : Moment) (asks : ℕ) → old.asks ≡ asks → asks ≤ old.asks + 0
 no_more old asks e = omega (arith, e)
@@ -172,26 +178,26 @@ pub begins_left : (words : Words) (store : StoreView) → LeavesStore (start_mom
 begins_left words store = (refl, le_refl store.1, asked_nothing (Waiting store.0) store.2)
 
 -- What the program keeps stands in a way of its own.
-module _ {Kept : Type 0} (Stands : Option Files → Kept → State → Type 0) where
+module _ {Kept : Type 0} (Stands : Option Files → Kept → State → Type 0) (figures : Kept → ℕ → Figures) where
   -- what the program keeps stands where the stage does
-  serves : (old : Moment) (store : StoreView) (bound : ℕ) (k : Kept) (m : State) → Stands store.0 k m → ServesAt Stands k store (next_moment old (Serving m) store.1 store.2 bound)
+  serves : (old : Moment) (store : StoreView) (bound : ℕ) (told : Told) (k : Kept) (m : State) → Stands store.0 k m → GoesBy store.2 told (figures k) → ServesAt Stands figures k store (next_moment old (Serving m) store.1 store.2 bound told)
   unfolding next_moment
-  serves old store bound k m s = (m, s, refl, refl, refl)
+  serves old store bound told k m s goes = (m, s, refl, refl, refl, goes)
 
   -- before the first line the program stands for the start
-  pub begins_stood : (place : Option Kept) (budget segments : ℕ) (store : StoreView) → place ≡ None → budget ≡ segments → IsBudget segments → KeepsMoment Stands budget place store (start_moment (Run segments) store)
-  begins_stood place budget segments store free same fits = subst (λ k. KeepsMoment Stands budget k store (start_moment (Run segments) store)) (sym free) (refl, refl, refl, sym same, subst IsBudget (sym same) fits)
+  pub begins_stood : (place : Option Kept) (budget segments : ℕ) (store : StoreView) → place ≡ None → budget ≡ segments → IsBudget segments → KeepsMoment Stands figures budget place store (start_moment (Run segments) store)
+  begins_stood place budget segments store free same fits = subst (λ k. KeepsMoment Stands figures budget k store (start_moment (Run segments) store)) (sym free) (refl, refl, refl, sym same, subst IsBudget (sym same) fits)
 
-  -- and for some moment over some store, where a machine is not open, or stands
-  pub free_standing : (segments : ℕ) (place : Option Kept) → place ≡ None → IsBudget segments → IsStanding (KeepsMoment Stands segments) place
-  free_standing segments place free budget = ((None, 0, 0), start_moment (Run segments) (None, 0, 0), begins_stood place segments segments (None, 0, 0) free refl budget)
+  -- what is not open may be closed, and so may what stands
+  pub free_closes : (place : Option Kept) → place ≡ None → MayClose Stands place
+  free_closes place free = subst (MayClose Stands) (sym free) tt
 
-  pub open_standing : (segments : ℕ) (told : Option Files) (place : Option Kept) (k : Kept) (m : State) → place ≡ Some k → Stands told k m → IsStanding (KeepsMoment Stands segments) place
-  open_standing segments told place k m is s = subst (IsStanding (KeepsMoment Stands segments)) (sym is) ((told, 0, 0), next_moment (start_moment (Run segments) (told, 0, 0)) (Serving m) 0 0 0, serves (start_moment (Run segments) (told, 0, 0)) (told, 0, 0) 0 k m s)
+  pub open_closes : (told : Option Files) (place : Option Kept) (k : Kept) (m : State) → place ≡ Some k → Stands told k m → MayClose Stands place
+  open_closes told place k m is s = subst (MayClose Stands) (sym is) (told, m, s)
 
   -- a line that means nothing, before a schema line
   pub none_answered : (segments : ℕ) (place : Option Kept) (store : StoreView) (old : Moment) (line : List ℕ) (command : Command) (items : List ℕ) → place ≡ None → WaitsAt segments store old → served (parse None line) ≡ Ok command → schema_set command ≡ None
-      → Answered LineStep EndsRun LeavesStore old line (KeepsMoment Stands segments place store) store items items (Ok None)
+      → Answered LineStep EndsRun LeavesStore old line (KeepsMoment Stands figures segments place store) store items items (Ok None)
   none_answered segments place store old line command items free s p none =
       let is : command ≡ Nothing = elim (early line command (parsed line command p)) as (λ e. command ≡ Nothing) [
         | inl e ↦ e
@@ -200,46 +206,49 @@ module _ {Kept : Type 0} (Stands : Option Files → Kept → State → Type 0) w
       let means : served (parse None line) ≡ Ok Nothing = p ∙ ap (λ c. Ok c) is in
       let asked = no_more old store.2 s.2 in (
         [],
-        next_moment old (Waiting store.0) store.1 store.2 0,
-        line_step old line [] (Waiting store.0) (Waiting store.0) store.1 store.2 0 s.0 (subst (λ meaning. StageStep old.segments (Waiting store.0) meaning [] (Waiting store.0)) (sym means) (refl, refl))
-            (uncounted [] old.faults store.1 refl (le_same old.faults store.1 s.1)) (subst (λ meaning. MayAsk (Waiting store.0) meaning 0) (sym means) refl) asked,
-        subst (λ k. KeepsMoment Stands segments k store (next_moment old (Waiting store.0) store.1 store.2 0)) (sym free) (waits segments old store store 0 s),
+        next_moment old (Waiting store.0) store.1 store.2 0 old.told,
+        line_step old line [] (Waiting store.0) (Waiting store.0) None store.1 store.2 0 old.told s.0 (subst (λ meaning. StageStep old.segments (Waiting store.0) meaning None [] (Waiting store.0)) (sym means) (refl, refl, refl))
+            (uncounted [] old.faults store.1 refl (le_same old.faults store.1 s.1)) (subst (λ meaning. MayAsk (Waiting store.0) meaning 0) (sym means) refl) asked
+            (subst (λ meaning. old.told ≡ told_after (Waiting store.0) meaning None old.asks store.2 old.told) (sym means) refl) (subst (λ meaning. TellsFigures meaning None old.asks old.told) (sym means) tt),
+        subst (λ k. KeepsMoment Stands figures segments k store (next_moment old (Waiting store.0) store.1 store.2 0 old.told)) (sym free) (waits segments old store store 0 s),
         sym (append-nil items),
       )
 
   -- a line that is refused, before a schema line
   pub refused_answered : (segments : ℕ) (place : Option Kept) (store : StoreView) (old : Moment) (line : List ℕ) (refusal : Refusal) (before now : List ℕ) → place ≡ None → WaitsAt segments store old → served (parse None line) ≡ Err refusal
-      → now ≡ before ++ refusal_text refusal → Answered LineStep EndsRun LeavesStore old line (KeepsMoment Stands segments place store) store before now (Ok None)
+      → now ≡ before ++ refusal_text refusal → Answered LineStep EndsRun LeavesStore old line (KeepsMoment Stands figures segments place store) store before now (Ok None)
   refused_answered segments place store old line refusal before now free s p e =
       let asked = no_more old store.2 s.2 in (
         refusal_text refusal,
-        next_moment old (Waiting store.0) store.1 store.2 0,
-        line_step old line (refusal_text refusal) (Waiting store.0) (Waiting store.0) store.1 store.2 0 s.0 (subst (λ meaning. StageStep old.segments (Waiting store.0) meaning (refusal_text refusal) (Waiting store.0)) (sym p) (refl, refl))
-            (uncounted (refusal_text refusal) old.faults store.1 (plain_served None line refusal p) (le_same old.faults store.1 s.1)) (subst (λ meaning. MayAsk (Waiting store.0) meaning 0) (sym p) refl) asked,
-        subst (λ k. KeepsMoment Stands segments k store (next_moment old (Waiting store.0) store.1 store.2 0)) (sym free) (waits segments old store store 0 s),
+        next_moment old (Waiting store.0) store.1 store.2 0 old.told,
+        line_step old line (refusal_text refusal) (Waiting store.0) (Waiting store.0) None store.1 store.2 0 old.told s.0 (subst (λ meaning. StageStep old.segments (Waiting store.0) meaning None (refusal_text refusal) (Waiting store.0)) (sym p) (refl, refl, refl))
+            (uncounted (refusal_text refusal) old.faults store.1 (plain_served None line refusal p) (le_same old.faults store.1 s.1)) (subst (λ meaning. MayAsk (Waiting store.0) meaning 0) (sym p) refl) asked
+            (subst (λ meaning. old.told ≡ told_after (Waiting store.0) meaning None old.asks store.2 old.told) (sym p) refl) (subst (λ meaning. TellsFigures meaning None old.asks old.told) (sym p) tt),
+        subst (λ k. KeepsMoment Stands figures segments k store (next_moment old (Waiting store.0) store.1 store.2 0 old.told)) (sym free) (waits segments old store store 0 s),
         e,
       )
 
 -- It stands over a folder.
-module _ {Kept : Type 0} (Stands : Option Files → Kept → State → Type 0) (folder : Kept → Tabled)
+module _ {Kept : Type 0} (Stands : Option Files → Kept → State → Type 0) (figures : Kept → ℕ → Figures) (folder : Kept → Tabled)
     (over : (told : Option Files) (k : Kept) (m : State) → Stands told k m → IsOver told (folder k).schema (folder k).infos m) where
   -- the first schema line, over tables of the schema
   pub opened_answered : (segments : ℕ) (store store' : StoreView) (old : Moment) (schema : SchemaValue) (place : Option Kept) (k : Kept) (tables : List Table) (infos : List TableInfo) (line before now : List ℕ)
-      → place ≡ Some k → WaitsAt segments store old → parse None line ≡ Ok (SetSchema schema) → AreTables store.0 schema tables → AreListed store.0 schema tables infos → Stands store'.0 k (opened_state segments store.0 schema tables infos)
+      → place ≡ Some k → WaitsAt segments store old → parse None line ≡ Ok (SetSchema schema) → AreTables store.0 schema tables → AreListed store.0 schema tables infos → Stands store'.0 k (opened_state segments store.0 schema tables infos) → AreFresh store'.2 (figures k)
       → store.1 ≤ store'.1 → Checks store.0 store.2 store'.2 → now ≡ before ++ reply_text (folder k).schema replies.Fine
-      → Answered LineStep EndsRun LeavesStore old line (KeepsMoment Stands segments place store') store' before now (Ok None)
-  opened_answered segments store store' old schema place k tables infos line before now is s p are listed stands le checks e =
+      → Answered LineStep EndsRun LeavesStore old line (KeepsMoment Stands figures segments place store') store' before now (Ok None)
+  opened_answered segments store store' old schema place k tables infos line before now is s p are listed stands fresh le checks e =
       let means : served (parse None line) ≡ Ok (SetSchema schema) = ap served p in
       let bound : ℕ = bound_at store.0 store.2 store'.2 in (
         reply_text schema replies.Fine,
-        next_moment old (Serving (opened_state old.segments store.0 schema tables infos)) store'.1 store'.2 bound,
-        line_step old line (reply_text schema replies.Fine) (Waiting store.0) (Serving (opened_state old.segments store.0 schema tables infos)) store'.1 store'.2 bound s.0
-            (subst (λ meaning. StageStep old.segments (Waiting store.0) meaning (reply_text schema replies.Fine) (Serving (opened_state old.segments store.0 schema tables infos))) (sym means) (tables, infos, are, listed, refl, refl))
+        next_moment old (Serving (opened_state old.segments store.0 schema tables infos)) store'.1 store'.2 bound (nothing_told store'.2),
+        line_step old line (reply_text schema replies.Fine) (Waiting store.0) (Serving (opened_state old.segments store.0 schema tables infos)) None store'.1 store'.2 bound (nothing_told store'.2) s.0
+            (subst (λ meaning. StageStep old.segments (Waiting store.0) meaning None (reply_text schema replies.Fine) (Serving (opened_state old.segments store.0 schema tables infos))) (sym means) (tables, infos, are, listed, refl, refl, refl))
             (subst (λ n. n ≤ store'.1) (sym s.1) le, λ t. told schema replies.Fine (Rose old.faults store'.1) tt t)
             (subst (λ meaning. MayAsk (Waiting store.0) meaning bound) (sym means) (may_check store.0 schema store.2 store'.2))
-            (subst (λ n. store'.2 ≤ n + bound) (sym s.2) (checked store.0 store.2 store'.2 checks)),
-        subst (λ k. KeepsMoment Stands segments k store' (next_moment old (Serving (opened_state old.segments store.0 schema tables infos)) store'.1 store'.2 bound)) (sym is)
-            (serves Stands old store' bound k (opened_state old.segments store.0 schema tables infos) (subst (λ n. Stands store'.0 k (opened_state n store.0 schema tables infos)) (sym s.3) stands)),
+            (subst (λ n. store'.2 ≤ n + bound) (sym s.2) (checked store.0 store.2 store'.2 checks))
+            (subst (λ meaning. nothing_told store'.2 ≡ told_after (Waiting store.0) meaning None old.asks store'.2 old.told) (sym means) refl) (subst (λ meaning. TellsFigures meaning None old.asks old.told) (sym means) tt),
+        subst (λ k. KeepsMoment Stands figures segments k store' (next_moment old (Serving (opened_state old.segments store.0 schema tables infos)) store'.1 store'.2 bound (nothing_told store'.2))) (sym is)
+            (serves Stands figures old store' bound (nothing_told store'.2) k (opened_state old.segments store.0 schema tables infos) (subst (λ n. Stands store'.0 k (opened_state n store.0 schema tables infos)) (sym s.3) stands) (goes-fresh store'.2 (figures k) fresh)),
         e ∙ ap (λ z. before ++ reply_text z replies.Fine) (sym (over store'.0 k (opened_state segments store.0 schema tables infos) stands).schema),
       )
 
@@ -251,8 +260,9 @@ module _ {Kept : Type 0} (Stands : Option Files → Kept → State → Type 0) (
     pub faults : store.1 ≤ store'.1
     pub faulty : OnFaulty reply (Rose store.1 store'.1)
     pub asks : store'.2 ≤ store.2 + most_asks (folder k).infos command
+    pub counted : AreCounted command reply store.2 store'.2 (figures k) (figures k')
 
-  module _ (store store' : StoreView) (k k' : Kept) (old : Moment) (line : List ℕ) (command : Command) (reply : Reply) (s : ServesAt Stands k store old)
+  module _ (store store' : StoreView) (k k' : Kept) (old : Moment) (line : List ℕ) (command : Command) (reply : Reply) (s : ServesAt Stands figures k store old)
       (p : served (parse (Some (folder k).schema) line) ≡ Ok command) (d : Served store store' k k' s.0 command reply) where
     means : served (parse (Some (s.0).schema) line) ≡ Ok command
     means = ap (λ z. served (parse (Some z) line)) (over store.0 k s.0 s.1).schema ∙ p
@@ -260,27 +270,37 @@ module _ {Kept : Type 0} (Stands : Option Files → Kept → State → Type 0) (
     same_schema : (folder k').schema ≡ (s.0).schema
     same_schema = sym (over store'.0 k' d.next d.stands).schema ∙ schema_stays s.0 command reply d.next (change_of s.0 command reply d.next d.step)
 
-    command_step : LineStep old line (reply_text (folder k').schema reply) (next_moment old (Serving d.next) store'.1 store'.2 (most_asks (folder k).infos command))
+    -- what `stats` lines go by then
+    told_then : Told
+    told_then = told_after (Serving s.0) (Ok command) (Some reply) store.2 store'.2 old.told
+
+    goes_then : GoesBy store'.2 told_then (figures k')
+    goes_then = goes-on store.2 store'.2 command reply s.0 old.told (figures k) (figures k') s.5 d.counted
+
+    command_step : LineStep old line (reply_text (folder k').schema reply) (next_moment old (Serving d.next) store'.1 store'.2 (most_asks (folder k).infos command) told_then)
+    unfolding told_then
     command_step =
-        line_step old line (reply_text (folder k').schema reply) (Serving s.0) (Serving d.next) store'.1 store'.2 (most_asks (folder k).infos command) s.2
-        (subst (λ meaning. StageStep old.segments (Serving s.0) meaning (reply_text (folder k').schema reply) (Serving d.next)) (sym means) (reply, d.next, d.step, ap (λ z. reply_text z reply) same_schema, refl))
+        line_step old line (reply_text (folder k').schema reply) (Serving s.0) (Serving d.next) (Some reply) store'.1 store'.2 (most_asks (folder k).infos command) told_then s.2
+        (subst (λ meaning. StageStep old.segments (Serving s.0) meaning (Some reply) (reply_text (folder k').schema reply) (Serving d.next)) (sym means) (d.next, d.step, ap (λ z. reply_text z reply) same_schema, refl))
         (subst (λ n. n ≤ store'.1) (sym s.3) d.faults, λ t. told (folder k').schema reply (Rose old.faults store'.1) (subst (λ n. OnFaulty reply (Rose n store'.1)) (sym s.3) d.faulty) t)
         (subst (λ meaning. MayAsk (Serving s.0) meaning (most_asks (folder k).infos command)) (sym means) (ap (λ infos. most_asks infos command) (sym (over store.0 k s.0 s.1).infos)))
         (subst (λ n. store'.2 ≤ n + most_asks (folder k).infos command) (sym s.4) d.asks)
+        (subst (λ meaning. told_then ≡ told_after (Serving s.0) meaning (Some reply) old.asks store'.2 old.told) (sym means) (ap (λ n. told_after (Serving s.0) (Ok command) (Some reply) n store'.2 old.told) (sym s.4)))
+        (subst (λ meaning. TellsFigures meaning (Some reply) old.asks old.told) (sym means) (subst (λ n. TellsFigures (Ok command) (Some reply) n old.told) (sym s.4) (may-tell store.2 command reply old.told (figures k) (figures k') store'.2 s.5 d.counted)))
 
-    pub command_answered : (before now : List ℕ) → now ≡ before ++ reply_text (folder k').schema reply → Answered LineStep EndsRun LeavesStore old line (ServesAt Stands k' store') store' before now (Ok None)
+    pub command_answered : (before now : List ℕ) → now ≡ before ++ reply_text (folder k').schema reply → Answered LineStep EndsRun LeavesStore old line (ServesAt Stands figures k' store') store' before now (Ok None)
     command_answered before now e =
-        (reply_text (folder k').schema reply, next_moment old (Serving d.next) store'.1 store'.2 (most_asks (folder k).infos command), command_step, serves Stands old store' (most_asks (folder k).infos command) k' d.next d.stands, e)
+        (reply_text (folder k').schema reply, next_moment old (Serving d.next) store'.1 store'.2 (most_asks (folder k).infos command) told_then, command_step, serves Stands figures old store' (most_asks (folder k).infos command) told_then k' d.next d.stands goes_then, e)
 
     -- its reply found no memory
-    pub command_unanswered : (before now : List ℕ) (r : Result (Option Ending) AllocError) → IsErr r → Answered LineStep EndsRun LeavesStore old line (ServesAt Stands k' store') store' before now r
+    pub command_unanswered : (before now : List ℕ) (r : Result (Option Ending) AllocError) → IsErr r → Answered LineStep EndsRun LeavesStore old line (ServesAt Stands figures k' store') store' before now r
     command_unanswered before now (Err e) is =
-        inr (reply_text (folder k').schema reply, next_moment old (Serving d.next) store'.1 store'.2 (most_asks (folder k).infos command), command_step, leaves_behind old store' (most_asks (folder k).infos command) d.next (sym (over store'.0 k' d.next d.stands).files))
+        inr (reply_text (folder k').schema reply, next_moment old (Serving d.next) store'.1 store'.2 (most_asks (folder k).infos command) told_then, command_step, leaves_behind old store' (most_asks (folder k).infos command) told_then d.next (sym (over store'.0 k' d.next d.stands).files))
     command_unanswered before now (Ok x) is = absurd (cc)
 
   -- memory ran out in a command
-  pub stopped_answered : (store store' : StoreView) (k k' : Kept) (old : Moment) (line : List ℕ) (command : Command) (before now : List ℕ) (r : Result (Option Ending) AllocError) → IsErr r → ServesAt Stands k store old
-      → store'.0 ≡ store.0 → store.1 ≤ store'.1 → store'.2 ≤ store.2 + most_asks (folder k).infos command → Answered LineStep EndsRun LeavesStore old line (ServesAt Stands k' store') store' before now r
+  pub stopped_answered : (store store' : StoreView) (k k' : Kept) (old : Moment) (line : List ℕ) (command : Command) (before now : List ℕ) (r : Result (Option Ending) AllocError) → IsErr r → ServesAt Stands figures k store old
+      → store'.0 ≡ store.0 → store.1 ≤ store'.1 → store'.2 ≤ store.2 + most_asks (folder k).infos command → Answered LineStep EndsRun LeavesStore old line (ServesAt Stands figures k' store') store' before now r
   stopped_answered store store' k k' old line command before now (Err e) is s same le asks =
       let few : store'.2 ≤ old.asks + 2 * length (s.0).infos =
       subst (λ infos. store'.2 ≤ old.asks + 2 * length infos) (sym (over store.0 k s.0 s.1).infos) (subst (λ n. store'.2 ≤ n + 2 * length (folder k).infos) (sym s.4) (omega (arith, asks, few_asked (folder k).infos command))) in
@@ -288,15 +308,16 @@ module _ {Kept : Type 0} (Stands : Option Files → Kept → State → Type 0) (
   stopped_answered store store' k k' old line command before now (Ok x) is s same le asks = absurd (cc)
 
   -- a line that is refused, once the machine is open
-  pub refusal_answered : (store : StoreView) (k : Kept) (old : Moment) (line before now : List ℕ) (refusal : Refusal) → ServesAt Stands k store old → served (parse (Some (folder k).schema) line) ≡ Err refusal
-      → now ≡ before ++ refusal_text refusal → Answered LineStep EndsRun LeavesStore old line (ServesAt Stands k store) store before now (Ok None)
+  pub refusal_answered : (store : StoreView) (k : Kept) (old : Moment) (line before now : List ℕ) (refusal : Refusal) → ServesAt Stands figures k store old → served (parse (Some (folder k).schema) line) ≡ Err refusal
+      → now ≡ before ++ refusal_text refusal → Answered LineStep EndsRun LeavesStore old line (ServesAt Stands figures k store) store before now (Ok None)
   refusal_answered store k old line before now refusal s p e =
       let means : served (parse (Some (s.0).schema) line) ≡ Err refusal = ap (λ z. served (parse (Some z) line)) (over store.0 k s.0 s.1).schema ∙ p in
       let asked = no_more old store.2 s.4 in (
         refusal_text refusal,
-        next_moment old (Serving s.0) store.1 store.2 0,
-        line_step old line (refusal_text refusal) (Serving s.0) (Serving s.0) store.1 store.2 0 s.2 (subst (λ meaning. StageStep old.segments (Serving s.0) meaning (refusal_text refusal) (Serving s.0)) (sym means) (refl, refl))
-            (uncounted (refusal_text refusal) old.faults store.1 (plain_served (Some (folder k).schema) line refusal p) (le_same old.faults store.1 s.3)) (subst (λ meaning. MayAsk (Serving s.0) meaning 0) (sym means) refl) asked,
-        serves Stands old store 0 k s.0 s.1,
+        next_moment old (Serving s.0) store.1 store.2 0 old.told,
+        line_step old line (refusal_text refusal) (Serving s.0) (Serving s.0) None store.1 store.2 0 old.told s.2 (subst (λ meaning. StageStep old.segments (Serving s.0) meaning None (refusal_text refusal) (Serving s.0)) (sym means) (refl, refl, refl))
+            (uncounted (refusal_text refusal) old.faults store.1 (plain_served (Some (folder k).schema) line refusal p) (le_same old.faults store.1 s.3)) (subst (λ meaning. MayAsk (Serving s.0) meaning 0) (sym means) refl) asked
+            (subst (λ meaning. old.told ≡ told_after (Serving s.0) meaning None old.asks store.2 old.told) (sym means) refl) (subst (λ meaning. TellsFigures meaning None old.asks old.told) (sym means) tt),
+        serves Stands figures old store 0 old.told k s.0 s.1 s.5,
         e,
       )

@@ -123,7 +123,7 @@ module _ (m : State) (files : Files) (told : m.files ≡ Some files) (reply : Re
   sound_step (Evict count) s = is Fine tt s.0
   sound_step (Compact count) s = is Fine tt s.0
   sound_step (Clean count) s = is Fine tt s.0
-  sound_step stats s = is (Stats s.0) tt s.1
+  sound_step stats s = is (Stats s.0) tt s.2
 
 -- files that are told stay so
 abbrev IsTold : Option Files → Type 0
@@ -148,29 +148,30 @@ IsSoundly text stage = (tells_damage text ≡ false) × IsTold (files_of stage)
 soundly : (text other : List ℕ) (stage next : Stage) → text ≡ other → stage ≡ next → tells_damage other ≡ false → IsTold (files_of next) → IsSoundly text stage
 soundly text other stage next e f sound told = (ap tells_damage e ∙ sound, subst (λ st. IsTold (files_of st)) (sym f) told)
 
-opened_soundly : (segments : ℕ) (files : Option Files) (meaning : Result Command Refusal) (text : List ℕ) (new : Stage) → IsTold files → ((refusal : Refusal) → meaning ≡ Err refusal → tells_damage (refusal_text refusal) ≡ false)
-    → StageStep segments (Waiting files) meaning text new → IsSoundly text new
-opened_soundly segments files (Ok nothing) text new t sound s = soundly text [] new (Waiting files) s.0 s.1 refl t
-opened_soundly segments files (Ok (SetSchema schema)) text new t sound s = soundly text (reply_text schema Fine) new _ s.4 s.5 (sound_text schema Fine tt) t
-opened_soundly segments files (Err refusal) text new t sound s = soundly text (refusal_text refusal) new (Waiting files) s.0 s.1 (sound refusal refl) t
-opened_soundly segments files (Ok command) text new t sound s = absurd s
+opened_soundly : (segments : ℕ) (files : Option Files) (meaning : Result Command Refusal) (answer : Option Reply) (text : List ℕ) (new : Stage) → IsTold files → ((refusal : Refusal) → meaning ≡ Err refusal → tells_damage (refusal_text refusal) ≡ false)
+    → StageStep segments (Waiting files) meaning answer text new → IsSoundly text new
+opened_soundly segments files (Ok nothing) answer text new t sound s = soundly text [] new (Waiting files) s.0 s.1 refl t
+opened_soundly segments files (Ok (SetSchema schema)) answer text new t sound s = soundly text (reply_text schema Fine) new _ s.4 s.5 (sound_text schema Fine tt) t
+opened_soundly segments files (Err refusal) answer text new t sound s = soundly text (refusal_text refusal) new (Waiting files) s.0 s.1 (sound refusal refl) t
+opened_soundly segments files (Ok command) answer text new t sound s = absurd s
 
-taken_soundly : (segments : ℕ) (m : State) (meaning : Result Command Refusal) (text : List ℕ) (new : Stage) → IsTold m.files → ((refusal : Refusal) → meaning ≡ Err refusal → tells_damage (refusal_text refusal) ≡ false)
-    → StageStep segments (Serving m) meaning text new → IsSoundly text new
-taken_soundly segments m (Ok command) text new t sound s =
-    soundly text (reply_text m.schema s.0) new (Serving s.1) s.3 s.4 (sound_text m.schema s.0 (sound_step m t.0 t.1 s.0 s.1 command s.2)) (told_on m command s.0 s.1 t (change_of m command s.0 s.1 s.2))
-taken_soundly segments m (Err refusal) text new t sound s = soundly text (refusal_text refusal) new (Serving m) s.0 s.1 (sound refusal refl) t
+taken_soundly : (segments : ℕ) (m : State) (meaning : Result Command Refusal) (answer : Option Reply) (text : List ℕ) (new : Stage) → IsTold m.files → ((refusal : Refusal) → meaning ≡ Err refusal → tells_damage (refusal_text refusal) ≡ false)
+    → StageStep segments (Serving m) meaning answer text new → IsSoundly text new
+taken_soundly segments m (Ok command) (Some reply) text new t sound s =
+    soundly text (reply_text m.schema reply) new (Serving s.0) s.2 s.3 (sound_text m.schema reply (sound_step m t.0 t.1 reply s.0 command s.1)) (told_on m command reply s.0 t (change_of m command reply s.0 s.1))
+taken_soundly segments m (Ok command) None text new t sound s = absurd s
+taken_soundly segments m (Err refusal) answer text new t sound s = soundly text (refusal_text refusal) new (Serving m) s.0 s.1 (sound refusal refl) t
 
-staged_soundly : (segments : ℕ) (stage : Stage) (line text : List ℕ) (new : Stage) → IsTold (files_of stage) → StageStep segments stage (meaning_at stage line) text new → IsSoundly text new
-staged_soundly segments (Waiting files) line text new t s =
-    opened_soundly segments files (meaning_at (Waiting files) line) text new t (λ refusal e. served_is (λ r. tells_damage (refusal_text r) ≡ false) refl (parse None line) (sound_refusal None line) refusal e) s
-staged_soundly segments (Serving m) line text new t s =
-    taken_soundly segments m (meaning_at (Serving m) line) text new t (λ refusal e. served_is (λ r. tells_damage (refusal_text r) ≡ false) refl (parse (Some m.schema) line) (sound_refusal (Some m.schema) line) refusal e) s
+staged_soundly : (segments : ℕ) (stage : Stage) (line : List ℕ) (answer : Option Reply) (text : List ℕ) (new : Stage) → IsTold (files_of stage) → StageStep segments stage (meaning_at stage line) answer text new → IsSoundly text new
+staged_soundly segments (Waiting files) line answer text new t s =
+    opened_soundly segments files (meaning_at (Waiting files) line) answer text new t (λ refusal e. served_is (λ r. tells_damage (refusal_text r) ≡ false) refl (parse None line) (sound_refusal None line) refusal e) s
+staged_soundly segments (Serving m) line answer text new t s =
+    taken_soundly segments m (meaning_at (Serving m) line) answer text new t (λ refusal e. served_is (λ r. tells_damage (refusal_text r) ≡ false) refl (parse (Some m.schema) line) (sound_refusal (Some m.schema) line) refusal e) s
 
 pub undamaged : (old new : Moment) (lines texts : List (List ℕ)) → IsTold (files_of old.stage) → Answers LineStep old lines texts new → All (λ text. tells_damage text ≡ false) texts
 undamaged old new [] [] t a = λ k d l. absurd (omega arith)
 undamaged old new (line ∷ lines) (text ∷ texts) t a =
-    let s = staged_soundly old.segments old.stage line text a.0.stage t a.1.stage in
+    let s = staged_soundly old.segments old.stage line a.1.reply text a.0.stage t a.1.stage in
     All-cons (λ text. tells_damage text ≡ false) text texts s.0 (undamaged a.0 new lines texts s.1 a.2)
 undamaged old new [] (text ∷ texts) t a = absurd a
 undamaged old new (line ∷ lines) [] t a = absurd a

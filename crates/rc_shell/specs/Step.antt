@@ -1,9 +1,10 @@
 -- One line: its meaning, what it does at each stage of a run, and its text.
+--     Told, told_after    what `stats` lines go by, and what a line adds to it
 --     Moment              what holds between two lines
 --     LineStep            what a line is answered, and the next moment
 --     EndsRun                the lines that end the run
-use Rattle.std.specs.Prelude.{◌≡◌, ℕ, ◌+◌, ◌*◌, ◌≤◌, ◌||◌, Bool, List, [], ◌++◌, length, Option, Some, None, Result, Ok, Err, IfSome, IsTrue, codes, decimal, if◌then◌else◌}
-use Rattle.std.specs.Option.{option_map_or}
+use Rattle.std.specs.Prelude.{◌≡◌, ℕ, ◌+◌, ◌-◌, ◌*◌, ◌^◌, ◌≤◌, ◌||◌, ◌&&◌, Bool, true, false, not, List, [], ◌++◌, length, Option, Some, None, Result, Ok, Err, IfSome, IsTrue, codes, decimal, min, nat_eq, if◌then◌else◌, ⊤}
+use Rattle.std.specs.Option.{option_map_or, option_or}
 use Rattle.std.specs.FinMap as map
 use Rattle.rc_outside.specs.Faults.{Rose}
 use Rattle.rc_outside.specs.Files.{Files}
@@ -16,6 +17,7 @@ use Rattle.rc_lines.specs.declared.commands.Refusal.TheVariants.{BadLine, ReadFa
 use Rattle.rc_lines.specs.declared.commands.Reply.{Reply}
 use Rattle.rc_lines.specs.declared.commands.Reply.TheVariants.{Fine}
 use Rattle.rc_lines.specs.Grammar.{parse}
+use Rattle.rc_folder.specs.Counting.{NoneFell, figures_in, is_answered}
 use Rattle.rc_spelling.specs.Words.{is_word}
 use Rattle.rc_lines.specs.Texts.{reply_text, refusal_text}
 use Rattle.rc_machine.specs.Built.{is_built}
@@ -33,15 +35,27 @@ pub data Stage : Type 0 where
   Waiting : Option Files → Stage
   Serving : State → Stage
 
+-- what `stats` lines go by: how many ranges the store had been asked for when the machine was opened; how many `open` and `read` lines were answered
+-- for which it was asked for none, and for how many for some; and the figures that were told last
+pub record Told : Type 0 where
+  pub opened : ℕ
+  pub hits : ℕ
+  pub misses : ℕ
+  pub last : Option Figures
+
+-- before any was answered, of a machine that was opened when the store had been asked for so many
+abbrev pub nothing_told : ℕ → Told
+nothing_told opened = record { opened = opened; hits = 0; misses = 0; last = None }
+
 -- a moment of a run: its stage; the budget, in segments; the store's count of faults, and how many ranges it was asked for; at most how many the
--- lines so far may have asked for; and the figures that were told last
+-- lines so far may have asked for; and what `stats` lines go by
 pub record Moment : Type 0 where
   pub stage : Stage
   pub segments : ℕ
   pub faults : ℕ
   pub asks : ℕ
   pub bound : ℕ
-  pub figures : Option Figures
+  pub told : Told
 
 -- what is seen of a store: its files, where it tells them, its count of faults, and how many ranges it was asked for
 abbrev pub StoreView : Type 0
@@ -49,7 +63,7 @@ StoreView = Option Files × ℕ × ℕ
 
 -- a run begins over a store, by its words
 abbrev pub start_moment : Words → StoreView → Moment
-start_moment words store = record { stage = Waiting store.0; segments = segments_of words; faults = store.1; asks = store.2; bound = 0; figures = None }
+start_moment words store = record { stage = Waiting store.0; segments = segments_of words; faults = store.1; asks = store.2; bound = 0; told = nothing_told store.2 }
 
 -- the files of the store at a stage
 abbrev pub files_of : Stage → Option Files
@@ -77,14 +91,15 @@ meaning_at (Waiting files) line = served (parse None line)
 meaning_at (Serving m) line = served (parse (Some m.schema) line)
 
 -- What a line does at a stage, by its meaning. Before a schema line was taken a schema line opens the machine over the folder's tables; then a
--- command takes a step of the machine. A refused line changes nothing.
-abbrev pub StageStep : ℕ → Stage → Result Command Refusal → List ℕ → Stage → Type 0
-StageStep segments (Waiting files) (Ok Nothing) text new = (text ≡ []) × (new ≡ Waiting files)
-StageStep segments (Waiting files) (Ok (SetSchema schema)) text new =
-    (tables : List Table) × (infos : List TableInfo) × AreTables files schema tables × AreListed files schema tables infos × (text ≡ reply_text schema Fine) × (new ≡ Serving (opened_state segments files schema tables infos))
-StageStep segments (Waiting files) (Ok command) text new = ⊥
-StageStep segments (Serving m) (Ok command) text new = (reply : Reply) × (next : State) × Steps m command reply next × (text ≡ reply_text m.schema reply) × (new ≡ Serving next)
-StageStep segments stage (Err refusal) text new = (text ≡ refusal_text refusal) × (new ≡ stage)
+-- command takes a step of the machine, with this reply. A refused line changes nothing.
+abbrev pub StageStep : ℕ → Stage → Result Command Refusal → Option Reply → List ℕ → Stage → Type 0
+StageStep segments (Waiting files) (Ok Nothing) reply text new = (text ≡ []) × (new ≡ Waiting files) × (reply ≡ None)
+StageStep segments (Waiting files) (Ok (SetSchema schema)) reply text new =
+    (tables : List Table) × (infos : List TableInfo) × AreTables files schema tables × AreListed files schema tables infos × (text ≡ reply_text schema Fine) × (new ≡ Serving (opened_state segments files schema tables infos)) × (reply ≡ None)
+StageStep segments (Waiting files) (Ok command) reply text new = ⊥
+StageStep segments (Serving m) (Ok command) (Some reply) text new = (next : State) × Steps m command reply next × (text ≡ reply_text m.schema reply) × (new ≡ Serving next)
+StageStep segments (Serving m) (Ok command) None text new = ⊥
+StageStep segments stage (Err refusal) reply text new = (text ≡ refusal_text refusal) × (new ≡ stage) × (reply ≡ None)
 
 -- At most so many ranges may be asked for by a line, by its meaning: before a schema line was taken by the check of each file, where they
 -- are told, and by as many as it takes where they are not; then by what its command may ask for.
@@ -93,18 +108,49 @@ MayAsk (Waiting files) (Ok (SetSchema schema)) bound = IfSome files (λ told. bo
 MayAsk (Serving m) (Ok command) bound = bound ≡ most_asks m.infos command
 MayAsk stage meaning bound = bound ≡ 0
 
+-- one more where that is so
+abbrev pub one_if : Bool → ℕ
+one_if more = if more then 1 else 0
+
+-- What `stats` lines go by after a line, by its meaning and the machine's reply, where the store had been asked for so many ranges before and after it:
+-- a schema line that opens the machine begins anew, and an answer is counted by whether it asked for any.
+abbrev pub told_after : Stage → Result Command Refusal → Option Reply → ℕ → ℕ → Told → Told
+told_after (Waiting files) (Ok (SetSchema schema)) reply before after told = nothing_told after
+told_after (Serving m) (Ok command) (Some reply) before after told = record {
+  opened = told.opened;
+  hits = told.hits + one_if (is_answered command reply && nat_eq before after);
+  misses = told.misses + one_if (is_answered command reply && not (nat_eq before after));
+  last = option_or (figures_in command reply) told.last;
+}
+told_after stage meaning reply before after told = told
+
+-- These figures may be told where the store was asked for so many ranges: the answers that were counted, each count up to the greatest that it has;
+-- the ranges that were asked for since the machine was opened; and no counter is less than it was when figures were told last.
+pub record MayBeTold (asked : ℕ) (told : Told) (figures : Figures) : Type 0 where
+  pub hits : figures.hits ≡ min told.hits (2 ^ 64 - 1)
+  pub misses : figures.misses ≡ min told.misses (2 ^ 64 - 1)
+  pub asks : figures.asks ≡ asked - told.opened
+  pub none_fell : IfSome told.last (λ last. NoneFell last figures)
+
+-- so of the figures of a line's reply, where that is one to `stats`
+abbrev pub TellsFigures : Result Command Refusal → Option Reply → ℕ → Told → Type 0
+TellsFigures (Ok command) (Some reply) asks told = IfSome (figures_in command reply) (MayBeTold asks told)
+TellsFigures meaning reply asks told = ⊤
+
 -- whether a reply's text tells a fault of the store
 abbrev pub tells_fault : List ℕ → Bool
 tells_fault text = is_word text (refusal_text ReadFault) || is_word text (refusal_text WriteFault)
 
 -- From old the line may be answered by the text, and new is next. The store's count of faults does not fall, and rose where the text tells a fault;
--- at most as many ranges were asked for as the line may ask for, which are added to the bound so far.
+-- at most as many ranges were asked for as the line may ask for, which are added to the bound so far; and figures that it tells are those that may be told.
 pub record LineStep (old : Moment) (line text : List ℕ) (new : Moment) : Type 0 where
-  pub stage : StageStep old.segments old.stage (meaning_at old.stage line) text new.stage
+  pub reply : Option Reply
+  pub stage : StageStep old.segments old.stage (meaning_at old.stage line) reply text new.stage
   pub counts : (old.faults ≤ new.faults) × (IsTrue (tells_fault text) → Rose old.faults new.faults)
   pub asks : (bound : ℕ) × MayAsk old.stage (meaning_at old.stage line) bound × (new.bound ≡ old.bound + bound) × (new.asks ≤ old.asks + bound)
   pub segments : new.segments ≡ old.segments
-  pub figures : new.figures ≡ old.figures
+  pub told : new.told ≡ told_after old.stage (meaning_at old.stage line) reply old.asks new.asks old.told
+  pub figures : TellsFigures (meaning_at old.stage line) reply old.asks old.told
 
 -- the last line where a table is bad: it is damaged at an offset, or has another schema
 unfoldable pub bad_table : ℕ → Option ℕ → List ℕ

@@ -11,7 +11,7 @@ ghost use Rattle.rc_shell.specs.calls.Feed.{Answered};
 ghost use Rattle.rc_shell.specs.Step.{Moment, LineStep, EndsRun, LeavesStore, bad_table, served};
 ghost use Rattle.rc_shell.specs.Late.{IsBudget, KeepsMoment, ServesAt, WaitsAt};
 ghost use Rattle.rc_shell.specs.calls.Late.{schema_set};
-ghost use Rattle.rc_shell.specs.calls.Standing.{IsStanding};
+ghost use Rattle.rc_shell.specs.calls.Standing.{MayClose};
 
 use crate::server::Server;
 use crate::status::Ending;
@@ -34,11 +34,16 @@ pub(crate) struct LateMachine<M> {
 
 impl<M: Machine> Server for LateMachine<M> {
     ghost use Rattle.rc_shell.specs.Late.{KeepsMoment};
-    ghost use Rattle.rc_shell.specs.laws.Late.{stood_leaves};
+    ghost use Rattle.rc_shell.specs.calls.Standing.{MayClose};
+    ghost use Rattle.rc_shell.specs.laws.Late.{stood_closes, stood_leaves};
 
-    ghost stands = { λ server store now. KeepsMoment M.stands server.segments server.machine store now };
+    ghost stands = { λ server store now. KeepsMoment M.stands M.figures server.segments server.machine store now };
 
-    ghost leaves = { λ server. stood_leaves M.stands M.folder M.over server.segments server.machine };
+    ghost closes = { λ server. MayClose M.stands server.machine };
+
+    ghost stood = { λ server. stood_closes M.stands M.figures server.segments server.machine };
+
+    ghost leaves = { λ server. stood_leaves M.stands M.figures M.folder M.over server.segments server.machine };
 
     fn answer<W: Store>(
         &mut self,
@@ -107,8 +112,8 @@ fn begin<M: Machine, W: Store>(
     requires free { place.old ≡ None }
     requires budget { IsBudget segments }
     ensures answered { (old : Moment) → WaitsAt segments (W.files store.old, W.faults store.old, W.asks store.old) old →
-        Answered LineStep EndsRun LeavesStore old line.now (KeepsMoment M.stands segments place.new (W.files store.new, W.faults store.new, W.asks store.new)) (W.files store.new, W.faults store.new, W.asks store.new) text.old.items text.new.items result }
-    ensures standing { IsStanding (KeepsMoment M.stands segments) place.new }
+        Answered LineStep EndsRun LeavesStore old line.now (KeepsMoment M.stands M.figures segments place.new (W.files store.new, W.faults store.new, W.asks store.new)) (W.files store.new, W.faults store.new, W.asks store.new) text.old.items text.new.items result }
+    ensures closes { MayClose M.stands place.new }
 {
     match read_served(alloc, None, line) {
         Ok(command) => match schema_set(command) {
@@ -156,8 +161,8 @@ fn open<M: Machine, W: Store>(
     requires free { place.old ≡ None }
     requires budget { IsBudget segments }
     ensures answered { (old : Moment) (line : List ℕ) → WaitsAt segments (W.files store.old, W.faults store.old, W.asks store.old) old → parse None line ≡ Ok (SetSchema schema) →
-        Answered LineStep EndsRun LeavesStore old line (KeepsMoment M.stands segments place.new (W.files store.new, W.faults store.new, W.asks store.new)) (W.files store.new, W.faults store.new, W.asks store.new) text.old.items text.new.items result }
-    ensures standing { IsStanding (KeepsMoment M.stands segments) place.new }
+        Answered LineStep EndsRun LeavesStore old line (KeepsMoment M.stands M.figures segments place.new (W.files store.new, W.faults store.new, W.asks store.new)) (W.files store.new, W.faults store.new, W.asks store.new) text.old.items text.new.items result }
+    ensures closes { MayClose M.stands place.new }
 {
     match M::open(alloc, store, schema, segments) {
         Ok(machine) => match print_reply(alloc, machine.schema(), &Reply::Fine, text) {
@@ -236,9 +241,9 @@ fn serve<M: Machine, W: Store>(
     text: &mut Vec<u8>,
 ) -> Result<Option<Ending>, AllocError>
     requires { (m : State) × M.stands (W.files store.old) machine.old m }
-    ensures answered { (old : Moment) → ServesAt M.stands machine.old (W.files store.old, W.faults store.old, W.asks store.old) old →
-        Answered LineStep EndsRun LeavesStore old line.now (ServesAt M.stands machine.new (W.files store.new, W.faults store.new, W.asks store.new)) (W.files store.new, W.faults store.new, W.asks store.new) text.old.items text.new.items result }
-    ensures standing { (told : Option Files) × (m : State) × M.stands told machine.new m }
+    ensures answered { (old : Moment) → ServesAt M.stands M.figures machine.old (W.files store.old, W.faults store.old, W.asks store.old) old →
+        Answered LineStep EndsRun LeavesStore old line.now (ServesAt M.stands M.figures machine.new (W.files store.new, W.faults store.new, W.asks store.new)) (W.files store.new, W.faults store.new, W.asks store.new) text.old.items text.new.items result }
+    ensures closes { (told : Option Files) × (m : State) × M.stands told machine.new m }
 {
     match read_served(alloc, Some(machine.schema()), line) {
         Ok(command) => {

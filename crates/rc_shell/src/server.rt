@@ -2,7 +2,6 @@
 
 ghost use Rattle.std.specs.Prelude.{◌≡◌, ℕ, List, ◌++◌, OnOk};
 ghost use Rattle.rc_shell.specs.calls.Feed.{Answered, kept};
-ghost use Rattle.rc_shell.specs.calls.Standing.{IsStanding};
 ghost use Rattle.rc_shell.specs.Step.{Moment, StoreView, LineStep, EndsRun, LeavesStore};
 
 use crate::status::Ending;
@@ -13,6 +12,9 @@ use std::alloc::{AllocError, Global};
 pub(crate) trait Server {
     /// Over a store of which this is seen the server stands for a moment of a run.
     ghost stands: { Self → StoreView → Moment → Type 0 };
+
+    /// The server may be closed.
+    ghost closes: { Self → Type 0 };
 
     /// Answers one line, without its newline: the text of its reply goes to the end of `text`; where the line ends the run, it is the run's
     /// last line. Want of memory leaves the store as before the line, or as a step by the line leaves it. Whatever is answered, it may be closed then.
@@ -26,11 +28,14 @@ pub(crate) trait Server {
         requires { (now : Moment) × stands self.old (W.files store.old, W.faults store.old, W.asks store.old) now }
         ensures answered { (old : Moment) → stands self.old (W.files store.old, W.faults store.old, W.asks store.old) old →
             Answered LineStep EndsRun LeavesStore old line.now (stands self.new (W.files store.new, W.faults store.new, W.asks store.new)) (W.files store.new, W.faults store.new, W.asks store.new) text.old.items text.new.items result }
-        ensures standing { IsStanding stands self.new };
+        ensures closes { closes self.new };
 
     /// Lets it go, with what it holds.
     fn close(self)
-        requires { IsStanding stands self };
+        requires { closes self };
+
+    /// What stands may be closed.
+    ghost stood: { (server : Self) (store : StoreView) (now : Moment) → stands server store now → closes server };
 
     /// Its moment has the store's files.
     ghost leaves: { (server : Self) (store : StoreView) (now : Moment) → stands server store now → LeavesStore now store };

@@ -6,7 +6,6 @@ ghost use Rattle.rc_outside.specs.Faults.{Rose};
 ghost use Rattle.rc_shell.specs.Lines.{IsLine};
 ghost use Rattle.rc_shell.specs.calls.Feed.{PushedText, PushedAnswer, ServedLine, ServedLast, Serves, SoFar, TurnGave, EndedBy, kept};
 ghost use Rattle.rc_shell.specs.Run.{piece_size, Ran};
-ghost use Rattle.rc_shell.specs.calls.Standing.{IsStanding};
 ghost use Rattle.rc_shell.specs.calls.Status.{stop_by};
 ghost use Rattle.rc_shell.specs.Step.{Moment, LineStep, EndsRun, LeavesStore};
 ghost use Rattle.rc_shell.specs.declared.words.Words.TheVariants.{Run};
@@ -90,7 +89,7 @@ impl<S: Server> Session<S> {
             ServedLine LineStep EndsRun LeavesStore old line (S.stands self.new.server (W.files store.new, W.faults store.new, W.asks store.new)) (W.files store.new, W.faults store.new, W.asks store.new)
             (K.written out.old) (K.written out.new) (K.faults out.old) (K.faults out.new) result }
         ensures stands { OnOk result ((now : Moment) × S.stands self.new.server (W.files store.new, W.faults store.new, W.asks store.new) now) }
-        ensures standing { IsStanding S.stands self.new.server }
+        ensures closes { S.closes self.new.server }
         ensures held { self.new.held.items ≡ [] }
     {
         self.text.clear();
@@ -132,7 +131,7 @@ impl<S: Server> Session<S> {
             Serves LineStep EndsRun LeavesStore old rest (byte ∷ []) (S.stands self.new.server (W.files store.new, W.faults store.new, W.asks store.new)) self.new.held.items (W.files store.new, W.faults store.new, W.asks store.new)
             (K.written out.old) (K.written out.new) (K.faults out.old) (K.faults out.new) result }
         ensures stands { OnOk result ((now : Moment) × S.stands self.new.server (W.files store.new, W.faults store.new, W.asks store.new) now) }
-        ensures standing { IsStanding S.stands self.new.server }
+        ensures closes { S.closes self.new.server }
     {
         if byte == b'\n' {
             return self.serve_held(alloc, store, out);
@@ -153,7 +152,7 @@ impl<S: Server> Session<S> {
             Serves LineStep EndsRun LeavesStore old rest piece.now (S.stands self.new.server (W.files store.new, W.faults store.new, W.asks store.new)) self.new.held.items (W.files store.new, W.faults store.new, W.asks store.new)
             (K.written out.old) (K.written out.new) (K.faults out.old) (K.faults out.new) result }
         ensures stands { OnOk result ((now : Moment) × S.stands self.new.server (W.files store.new, W.faults store.new, W.asks store.new) now) }
-        ensures standing { IsStanding S.stands self.new.server }
+        ensures closes { S.closes self.new.server }
     {
         for byte in piece {
             self.take_byte(alloc, *byte, store, out)?;
@@ -172,7 +171,7 @@ impl<S: Server> Session<S> {
         ensures served { (rest : List ℕ) (old : Moment) → self.old.held.items ≡ kept rest → S.stands self.old.server (W.files store.old, W.faults store.old, W.asks store.old) old →
             ServedLast LineStep EndsRun LeavesStore old rest (S.stands self.new.server (W.files store.new, W.faults store.new, W.asks store.new)) (W.files store.new, W.faults store.new, W.asks store.new)
             (K.written out.old) (K.written out.new) (K.faults out.old) (K.faults out.new) result }
-        ensures standing { IsStanding S.stands self.new.server }
+        ensures closes { S.closes self.new.server }
     {
         if self.held.is_empty() {
             return Ok(());
@@ -194,7 +193,7 @@ impl<S: Server> Session<S> {
         requires stands { (now : Moment) × S.stands self.old.server (W.files store.old, W.faults store.old, W.asks store.old) now }
         ensures within { IfOk result (λ count. (0 < count) × (count ≤ length piece.old)) }
         ensures stands { OnOk result ((now : Moment) × S.stands self.new.server (W.files store.new, W.faults store.new, W.asks store.new) now) }
-        ensures standing { IsStanding S.stands self.new.server }
+        ensures closes { S.closes self.new.server }
         ensures run { (start : Moment) (limit count : ℕ) (left written : Option (List ℕ)) (faults faults2 : ℕ) → count + length piece.old ≤ limit →
             SoFar LineStep EndsRun LeavesStore start (S.stands self.old.server (W.files store.old, W.faults store.old, W.asks store.old)) self.old.held.items count left (I.left input.old) written (K.written out.old)
             faults (I.faults input.old) faults2 (K.faults out.old) →
@@ -216,7 +215,7 @@ impl<S: Server> Session<S> {
 
     /// Closes the server.
     fn close(self)
-        requires { IsStanding S.stands self.server }
+        requires { S.closes self.server }
     {
         let Session {
             server,
@@ -243,7 +242,7 @@ impl<S: Server> Session<S> {
         ensures run { (start : Moment) → S.stands self.old.server (W.files store.old, W.faults store.old, W.asks store.old) start →
             (segments : ℕ) → Ran LineStep EndsRun LeavesStore (Run segments) start limit result (I.left input.old) (I.left input.new) (K.written out.old) (K.written out.new) (W.files store.new, W.faults store.new, W.asks store.new)
             (I.faults input.old) (I.faults input.new) (K.faults out.old) (K.faults out.new) }
-        ensures standing { IsStanding S.stands self.new.server }
+        ensures closes { S.closes self.new.server }
     {
         let mut taken = 0u64;
         while taken < limit {

@@ -1,10 +1,12 @@
 -- One write more behind the later ones.
-use Rattle.std.proofs.Common.{inl, inr, ◌≡◌, ◌⊎◌, ◌≤◌, ◌<◌, ◌-◌, ℕ, Bool, true, false, cond, List, [], ◌∷◌, ◌++◌, Option, Some, None, length, refl, sym, ap, ◌∙◌, subst, arith}
+use Rattle.std.proofs.Common.{inl, inr, ◌≡◌, ◌⊎◌, ◌≤◌, ◌<◌, ◌+◌, ◌-◌, ◌^◌, ℕ, Bool, true, false, cond, min, is_some, IfSome, le_refl, List, [], ◌∷◌, ◌++◌, Option, Some, None, length, refl, sym, ap, ◌∙◌, subst, arith}
 use Rattle.std.specs.Prelude.{IsSomeAnd}
 use Rattle.std.specs.Ordering.{eq_by_cmp}
-use Rattle.lsa_move.specs.Room.{Tight}
+use Rattle.std.proofs.Math.Nat.{min-eq_left, min-eq_right}
+use Rattle.std.proofs.lemmas.Bool.{cases_lt}
+use Rattle.lsa_move.specs.Room.{IsCompacted, Tight}
 use Rattle.lsa_pool.specs.Room.{spare_of}
-use Rattle.lsa_region.specs.Region.{Renamed}
+use Rattle.lsa_region.specs.Region.{Renamed, objects_in}
 use Rattle.lsa_store.specs.declared.place.Ref.{Ref}
 use Rattle.rc_position.specs.Position.{bytes_cmp}
 use Rattle.rc_schema.specs.SchemaValue.{SchemaValue}
@@ -96,9 +98,17 @@ module _ {S : ℕ} (schema : SchemaValue) (w : Write) (u : Unstored S) (now : Li
 
 -- ---- what is left of both, whatever came of it
 
+-- after one segment was emptied, or none, no moved object is forgotten
+pub moved-more : (S : ℕ) (m n : Memory) (o : Option ℕ) (told : Bool) → m.region.moved ≤ 2 ^ 64 - 1 → IfSome o (IsCompacted S m.region n.region) → told ≡ is_some o → (told ≡ false → n ≡ m) → m.region.moved ≤ n.region.moved
+moved-more S m n None told most done tells same = subst (λ (x : Memory). m.region.moved ≤ x.region.moved) (sym (same tells)) (le_refl m.region.moved)
+moved-more S m n (Some k) told most done tells same = subst (λ x. m.region.moved ≤ x) (sym done.moved) (elim (cases_lt (m.region.moved + objects_in m.region k) (2 ^ 64 - 1)) [
+  | inl low ↦ subst (λ x. m.region.moved ≤ x) (sym (min-eq_left (omega (arith, low)))) (omega arith)
+  | inr high ↦ subst (λ x. m.region.moved ≤ x) (sym (min-eq_right high)) most
+])
+
 -- objects that got new names
-pub room-made : (m n : Memory) → ((names : List (Ref × Ref)) × Renamed m.region n.region names × (n ≡ under_new_names names n.region m)) → IsUntouched m n → IsRoomMade m n
-room-made m n renamed untouched = record { untouched = untouched; budget = renamed.1.budget; live = renamed.1.live }
+pub room-made : (m n : Memory) → ((names : List (Ref × Ref)) × Renamed m.region n.region names × (n ≡ under_new_names names n.region m)) → IsUntouched m n → m.region.moved ≤ n.region.moved → IsRoomMade m n
+room-made m n renamed untouched moved = record { untouched = untouched; budget = renamed.1.budget; live = renamed.1.live; moved = moved }
 
 pub put-left : {S : ℕ} (schema : SchemaValue) (w : Write) (u : Unstored S) (now : List (List ℕ × ℕ)) (mid n : Memory) → IsRoomMade u.chains mid → IsApplied schema w u.active now mid n → IsPutBehind schema w u (both_in S n u.sealed now)
 put-left schema w u now mid n room applied = record { mid = mid; room = room; applied = applied; sealed = refl }

@@ -4,7 +4,7 @@
 --     IsPutBehind     a write was put behind the later ones
 --     IsNotPut        it was not, since there is no room for it
 --     IsPutRefused    it was not, since memory was refused
-use Rattle.std.specs.Prelude.{◌≡◌, ℕ, length}
+use Rattle.std.specs.Prelude.{◌≡◌, ◌≤◌, ℕ, length}
 use Rattle.lsa_region.specs.Region.{live_bytes}
 use Rattle.rc_schema.specs.SchemaValue.{SchemaValue}
 use Rattle.rc_mutation.specs.declared.mutations.Write.{Write}
@@ -18,11 +18,12 @@ pub record AreSameKeys {S : ℕ} (old new : Unstored S) : Type 0 where
   pub sealed : new.sealed ≡ old.sealed
   pub active : new.active ≡ old.active
 
--- objects may have moved, but the chains are as they were; the region has as many segments, and as much is live in it
+-- objects may have moved, but the chains and the counts are as they were; the region has as many segments, as much is live in it, and no moved object is forgotten
 pub record IsRoomMade (old mid : Memory) : Type 0 where
   pub untouched : IsUntouched old mid
   pub budget : length mid.region.usages ≡ length old.region.usages
   pub live : live_bytes mid.region ≡ live_bytes old.region
+  pub moved : old.region.moved ≤ mid.region.moved
 
 -- room was made, for which objects may have moved, and a write was put behind the later ones
 pub record IsPutBehind {S : ℕ} (schema : SchemaValue) (w : Write) (old new : Unstored S) : Type 0 where

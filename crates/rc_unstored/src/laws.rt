@@ -6,7 +6,7 @@ ghost use Rattle.rc_mutation.specs.declared.mutations.Write.{Write};
 ghost use Rattle.rc_mutation.specs.Source.{SameSource, changes_to};
 ghost use Rattle.rc_writes.specs.Weight.{weight};
 ghost use Rattle.rc_memory.specs.Memory.{IsUntouched, Memory, chain_at};
-ghost use Rattle.rc_memtable.specs.LetGo.{AreLetGo, TakesNoMore};
+ghost use Rattle.rc_memtable.specs.LetGo.{AreLetGo, NoCountFell, TakesNoMore};
 ghost use Rattle.rc_memtable.specs.Partitions.{AreAsBefore};
 ghost use Rattle.rc_memtable.specs.Writes.{DoAscend, chain_of, names};
 ghost use Rattle.rc_chain.specs.declared.chains.Snap.{Snap};
@@ -14,7 +14,7 @@ ghost use Rattle.rc_snapshots.specs.Seeing.{AreSameSnapshots, HasSnap, SeesAllOf
 ghost use Rattle.rc_unstored.specs.declared.unstored.Unstored.{Unstored};
 ghost use Rattle.rc_unstored.specs.Memtables.{HaveWrites, in_chains};
 ghost use Rattle.rc_unstored.specs.Readers.{IsReleased, IsSnapshotOfKey, IsTakenIf};
-ghost use Rattle.rc_unstored.specs.Steps.{IsNotPut, IsPutBehind, IsPutRefused};
+ghost use Rattle.rc_unstored.specs.Steps.{IsNotPut, IsPutBehind, IsPutRefused, IsRoomMade};
 
 use rc_memtable::laws::{
     what_is_let_go_takes_no_more, what_leaves_a_memtables_chains_leaves_its_writes,
@@ -47,9 +47,10 @@ pub fn what_a_snapshot_of_a_key_sees()
     ensures { (key : List ℕ) (writes : List Write) (old new : Memory) (found : Option Snap) → IsSnapshotOfKey key writes old new found → SeesAllOf (changes_to key writes) new found }
 {}
 
-/// After each call the region has as many segments. By a write that was put what is live is more by at most its weight; by none of the others is it more: where no write was put, where snapshots were taken, where one that was there was taken back, where the sealed writes were let go, and where chains are as they were.
+/// After each call the region has as many segments, and no count is less. By a write that was put what is live is more by at most its weight; by none of the others is it more: where room was made, where no write was put, where snapshots were taken, where one that was there was taken back, where the sealed writes were let go, and where chains are as they were.
 pub fn what_a_call_leaves_of_the_room()
-    ensures put { (S : ℕ) (schema : SchemaValue) (w : Write) (old new : Unstored S) → IsPutBehind schema w old new → (length new.chains.region.usages ≡ length old.chains.region.usages) × (live_bytes new.chains.region ≤ live_bytes old.chains.region + weight w.change) }
+    ensures put { (S : ℕ) (schema : SchemaValue) (w : Write) (old new : Unstored S) → IsPutBehind schema w old new → (length new.chains.region.usages ≡ length old.chains.region.usages) × (live_bytes new.chains.region ≤ live_bytes old.chains.region + weight w.change) × NoCountFell old.chains new.chains }
+    ensures made { (old new : Memory) → IsRoomMade old new → TakesNoMore old new }
     ensures not_put { (S : ℕ) (old new : Unstored S) → IsNotPut old new → TakesNoMore old.chains new.chains }
     ensures refused { (S : ℕ) (old new : Unstored S) → IsPutRefused old new → TakesNoMore old.chains new.chains }
     ensures taken { (old mid new : Memory) (first second : Option Snap) → IsTakenIf old mid first → IsTakenIf mid new second → TakesNoMore old new }

@@ -147,13 +147,13 @@ impl<const S: usize> Unstored<S> {
         release(&mut self.chains, s);
     }
 
-    /// Takes both snapshots of a reader back, those that there are. All others see what they saw, and no more is live. What was let go is freed with its last snapshot.
+    /// Takes both snapshots of a reader back, those that there are. All others see what they saw; no more is live, and no count falls. What was let go is freed with its last snapshot.
     pub fn release_both(&mut self, snaps: Snaps)
         requires there { AreThere self.old.chains snaps }
         requires apart { IfSome snaps.sealed (λ s. IfSome snaps.active (λ t. s.chain ≡ t.chain → ⊥)) }
         ensures stands { (schema : SchemaValue) (writes later : Sequence Written) → HaveWrites schema self.old writes later → HaveWrites schema self.new writes later }
         ensures others { (s : Snapshot) → IsNoneOf snaps s → HasPin self.old.chains s.chain s.pin → StillSees s self.old.chains self.new.chains }
-        ensures room { (length self.new.chains.region.usages ≡ length self.old.chains.region.usages) × (live_bytes self.new.chains.region ≤ live_bytes self.old.chains.region) }
+        ensures room { TakesNoMore self.old.chains self.new.chains }
         ensures released { (mid : Memory) × IsReleasedIf snaps.sealed self.old.chains mid × IsReleasedIf snaps.active mid self.new.chains }
         ensures keys { AreSameKeys self.old self.new }
     {
@@ -226,6 +226,7 @@ impl<const S: usize> Unstored<S> {
         ensures stands { (schema : SchemaValue) (writes later : Sequence Written) → HaveWrites schema self.old writes later → HaveWrites schema self.new writes later }
         ensures seen { AreSameSnapshots self.old.chains self.new.chains }
     {
+        let _moved = self.chains.region().moved();
         self.chains.compact_one()
     }
 }

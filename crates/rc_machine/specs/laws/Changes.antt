@@ -92,4 +92,4 @@ change_of m (FlushStep count) reply new s = steps m (FlushStep count) reply new 
 change_of m (Evict count) reply new s = same m (Evict count) reply new refl s.1
 change_of m (Compact count) reply new s = same m (Compact count) reply new refl s.1
 change_of m (Clean count) reply new s = same m (Clean count) reply new refl s.1
-change_of m Stats reply new s = same m Stats reply new refl s.2
+change_of m Stats reply new s = same m Stats reply new refl s.3

@@ -4,7 +4,7 @@ use Rattle.rc_lines.specs.declared.commands.Reply.TheVariants.{Fine}
 use Rattle.rc_lines.specs.Texts.{reply_text}
 use Rattle.rc_outside.specs.Faults.{Rose}
 use Rattle.rc_folder.specs.Opening.{IsOpeningRefused, OnOpenFault}
-use Rattle.rc_shell.proofs.Staged.{bad_answered, fault_answered, free_standing, left_waiting, open_standing, opened_answered}
+use Rattle.rc_shell.proofs.Staged.{bad_answered, fault_answered, free_closes, left_waiting, open_closes, opened_answered}
 use Rattle.rc_shell.proofs.late.open.Goals as goal
 
 pub close-requires : goal.close-requires
@@ -12,12 +12,12 @@ close-requires g c = (g.W.Store.files c.open.new.store, _, c.in-Ok.ensures.stand
 
 pub returns-in-Ok-print_reply-clause-answered : goal.returns-in-Ok-print_reply-clause-answered
 returns-in-Ok-print_reply-clause-answered g c = λ old line s p.
-    opened_answered g.M.Machine.stands g.M.Machine.folder g.met.M.Machine.over c.args.segments (g.W.Store.files c.args.store.now, g.W.Store.faults c.args.store.now, g.W.Store.asks c.args.store.now) (g.W.Store.files c.open.new.store, g.W.Store.faults c.open.new.store, g.W.Store.asks c.open.new.store) old c.args.schema c.put.new.place c.in-Ok.machine
-    c.in-Ok.ensures.stands.0 c.in-Ok.ensures.stands.1 line c.args.text.now.items c.print_reply.new.out.items c.put.ensures s p c.in-Ok.ensures.stands.2 c.in-Ok.ensures.stands.3 c.in-Ok.ensures.stands.4 c.in-Ok.ensures.faults.0 c.in-Ok.ensures.asks
+    opened_answered g.M.Machine.stands g.M.Machine.figures g.M.Machine.folder g.met.M.Machine.over c.args.segments (g.W.Store.files c.args.store.now, g.W.Store.faults c.args.store.now, g.W.Store.asks c.args.store.now) (g.W.Store.files c.open.new.store, g.W.Store.faults c.open.new.store, g.W.Store.asks c.open.new.store) old c.args.schema c.put.new.place c.in-Ok.machine
+    c.in-Ok.ensures.stands.0 c.in-Ok.ensures.stands.1 line c.args.text.now.items c.print_reply.new.out.items c.put.ensures s p c.in-Ok.ensures.stands.2 c.in-Ok.ensures.stands.3 c.in-Ok.ensures.stands.4 c.in-Ok.ensures.figures c.in-Ok.ensures.faults.0 c.in-Ok.ensures.asks
     (c.in-Ok-print_reply.ensures.ok ∙ ap (λ z. c.args.text.now.items ++ reply_text z Fine) c.schema.ensures)
 
-pub returns-in-Ok-print_reply-clause-standing : goal.returns-in-Ok-print_reply-clause-standing
-returns-in-Ok-print_reply-clause-standing g c = open_standing g.M.Machine.stands c.args.segments (g.W.Store.files c.open.new.store) c.put.new.place c.in-Ok.machine _ c.put.ensures c.in-Ok.ensures.stands.4
+pub returns-in-Ok-print_reply-clause-closes : goal.returns-in-Ok-print_reply-clause-closes
+returns-in-Ok-print_reply-clause-closes g c = open_closes g.M.Machine.stands g.M.Machine.figures (g.W.Store.files c.open.new.store) c.put.new.place c.in-Ok.machine _ c.put.ensures c.in-Ok.ensures.stands.4
 
 pub returns-in-Err-clause-answered : goal.returns-in-Err-clause-answered
 returns-in-Err-clause-answered g c = λ old line s p.
@@ -42,26 +42,26 @@ returns-in_ok-extend_from_slice-in-Err-Fault-clause-answered g c = λ old line s
     (subst (λ e. OnOpenFault e (Rose (g.W.Store.faults c.args.store.now) (g.W.Store.faults c.open.new.store))) c.in-Err-Fault.field-0-is c.in-Err-Fault.ensures.faults.1) c.in-Err-Fault.ensures.faults.0 c.in-Err-Fault.ensures.asks
     c.in_ok-extend_from_slice-in-Err-Fault.ensures.items
 
-pub returns-in_err-print_damaged-in-Err-Damaged-clause-standing : goal.returns-in_err-print_damaged-in-Err-Damaged-clause-standing
-returns-in_err-print_damaged-in-Err-Damaged-clause-standing g c = free_standing g.M.Machine.stands c.args.segments c.args.place.now c.requires.free c.requires.budget
+pub returns-in_err-print_damaged-in-Err-Damaged-clause-closes : goal.returns-in_err-print_damaged-in-Err-Damaged-clause-closes
+returns-in_err-print_damaged-in-Err-Damaged-clause-closes g c = free_closes g.M.Machine.stands g.M.Machine.figures c.args.place.now c.requires.free
 
-pub returns-in_err-print_other_schema-in-Err-OtherSchema-clause-standing : goal.returns-in_err-print_other_schema-in-Err-OtherSchema-clause-standing
-returns-in_err-print_other_schema-in-Err-OtherSchema-clause-standing g c = free_standing g.M.Machine.stands c.args.segments c.args.place.now c.requires.free c.requires.budget
+pub returns-in_err-print_other_schema-in-Err-OtherSchema-clause-closes : goal.returns-in_err-print_other_schema-in-Err-OtherSchema-clause-closes
+returns-in_err-print_other_schema-in-Err-OtherSchema-clause-closes g c = free_closes g.M.Machine.stands g.M.Machine.figures c.args.place.now c.requires.free
 
-pub returns-in_err-extend_from_slice-in-Err-Fault-clause-standing : goal.returns-in_err-extend_from_slice-in-Err-Fault-clause-standing
-returns-in_err-extend_from_slice-in-Err-Fault-clause-standing g c = free_standing g.M.Machine.stands c.args.segments c.args.place.now c.requires.free c.requires.budget
+pub returns-in_err-extend_from_slice-in-Err-Fault-clause-closes : goal.returns-in_err-extend_from_slice-in-Err-Fault-clause-closes
+returns-in_err-extend_from_slice-in-Err-Fault-clause-closes g c = free_closes g.M.Machine.stands g.M.Machine.figures c.args.place.now c.requires.free
 
-pub returns-in-Err-clause-standing : goal.returns-in-Err-clause-standing
-returns-in-Err-clause-standing g c = free_standing g.M.Machine.stands c.args.segments c.args.place.now c.requires.free c.requires.budget
+pub returns-in-Err-clause-closes : goal.returns-in-Err-clause-closes
+returns-in-Err-clause-closes g c = free_closes g.M.Machine.stands g.M.Machine.figures c.args.place.now c.requires.free
 
-pub returns-in_ok-print_damaged-in-Err-Damaged-clause-standing : goal.returns-in_ok-print_damaged-in-Err-Damaged-clause-standing
-returns-in_ok-print_damaged-in-Err-Damaged-clause-standing g c = free_standing g.M.Machine.stands c.args.segments c.args.place.now c.requires.free c.requires.budget
+pub returns-in_ok-print_damaged-in-Err-Damaged-clause-closes : goal.returns-in_ok-print_damaged-in-Err-Damaged-clause-closes
+returns-in_ok-print_damaged-in-Err-Damaged-clause-closes g c = free_closes g.M.Machine.stands g.M.Machine.figures c.args.place.now c.requires.free
 
-pub returns-in_ok-print_other_schema-in-Err-OtherSchema-clause-standing : goal.returns-in_ok-print_other_schema-in-Err-OtherSchema-clause-standing
-returns-in_ok-print_other_schema-in-Err-OtherSchema-clause-standing g c = free_standing g.M.Machine.stands c.args.segments c.args.place.now c.requires.free c.requires.budget
+pub returns-in_ok-print_other_schema-in-Err-OtherSchema-clause-closes : goal.returns-in_ok-print_other_schema-in-Err-OtherSchema-clause-closes
+returns-in_ok-print_other_schema-in-Err-OtherSchema-clause-closes g c = free_closes g.M.Machine.stands g.M.Machine.figures c.args.place.now c.requires.free
 
-pub returns-in_ok-extend_from_slice-in-Err-Fault-clause-standing : goal.returns-in_ok-extend_from_slice-in-Err-Fault-clause-standing
-returns-in_ok-extend_from_slice-in-Err-Fault-clause-standing g c = free_standing g.M.Machine.stands c.args.segments c.args.place.now c.requires.free c.requires.budget
+pub returns-in_ok-extend_from_slice-in-Err-Fault-clause-closes : goal.returns-in_ok-extend_from_slice-in-Err-Fault-clause-closes
+returns-in_ok-extend_from_slice-in-Err-Fault-clause-closes g c = free_closes g.M.Machine.stands g.M.Machine.figures c.args.place.now c.requires.free
 
-pub returns-in-Err-NoMemory-clause-standing : goal.returns-in-Err-NoMemory-clause-standing
-returns-in-Err-NoMemory-clause-standing g c = free_standing g.M.Machine.stands c.args.segments c.args.place.now c.requires.free c.requires.budget
+pub returns-in-Err-NoMemory-clause-closes : goal.returns-in-Err-NoMemory-clause-closes
+returns-in-Err-NoMemory-clause-closes g c = free_closes g.M.Machine.stands g.M.Machine.figures c.args.place.now c.requires.free

@@ -20,7 +20,7 @@ returns-in-Ok-clause-run g c =
     let store : StoreView = (g.W.Store.files c.args.store.now, g.W.Store.faults c.args.store.now, g.W.Store.asks c.args.store.now) in
     let budget : IsBudget c.in-Run.segments = words_budget (map string_bytes c.args.words.now) c.in-Run.segments is in
     rw is (c.serve_by.ensures (start_moment (Run c.in-Run.segments) store)
-    (begins_stood g.M.Machine.stands c.new-machine.result.machine c.new-machine.result.segments c.in-Run.segments store c.new-machine.ensures.machine c.new-machine.ensures.segments budget) c.in-Run.segments)
+    (begins_stood g.M.Machine.stands g.M.Machine.figures c.new-machine.result.machine c.new-machine.result.segments c.in-Run.segments store c.new-machine.ensures.machine c.new-machine.ensures.segments budget) c.in-Run.segments)
 
 pub returns-in-Err-clause-run : goal.returns-in-Err-clause-run
 returns-in-Err-clause-run g c =
@@ -32,7 +32,7 @@ serve_by-requires-clause-stands g c =
     let is : words_of (map string_bytes c.args.words.now) ≡ Run c.in-Run.segments = sym c.words_of.ensures ∙ c.in-Run.is in
     let store : StoreView = (g.W.Store.files c.args.store.now, g.W.Store.faults c.args.store.now, g.W.Store.asks c.args.store.now) in
     let budget : IsBudget c.in-Run.segments = words_budget (map string_bytes c.args.words.now) c.in-Run.segments is in
-    (start_moment (Run c.in-Run.segments) store, begins_stood g.M.Machine.stands c.new-machine.result.machine c.new-machine.result.segments c.in-Run.segments store c.new-machine.ensures.machine c.new-machine.ensures.segments budget)
+    (start_moment (Run c.in-Run.segments) store, begins_stood g.M.Machine.stands g.M.Machine.figures c.new-machine.result.machine c.new-machine.result.segments c.in-Run.segments store c.new-machine.ensures.machine c.new-machine.ensures.segments budget)
 
 pub serve_by-requires-clause-small : goal.serve_by-requires-clause-small
 serve_by-requires-clause-small g c = omega (arith, c.in-Ok.ensures, c.deref_mut.ensures.len)

@@ -24,8 +24,8 @@ add-requires-clause-fresh g c = no_file (g.W.Store.files c.args.store.now) c.arg
 
 pub returns-in-Ok-clause-written : goal.returns-in-Ok-clause-written
 returns-in-Ok-clause-written g c =
-    let kept : Keeping = record { schema = c.self.inside.folder.schema; infos = c.self.inside.folder.infos; sealed = c.self.inside.sealed; active = c.self.inside.active; readers = c.self.inside.readers.items } in
-    let new : Keeping = record { schema = c.add.new.self.schema; infos = c.add.new.self.infos; sealed = c.new.result; active = c.self.inside.active; readers = c.self.inside.readers.items } in
+    let kept : Keeping = record { schema = c.self.inside.folder.schema; infos = c.self.inside.folder.infos; sealed = c.self.inside.sealed; active = c.self.inside.active; readers = c.self.inside.readers.items; segments = c.self.inside.segments; answered = c.self.inside.answered; asked = c.self.inside.asked } in
+    let new : Keeping = record { schema = c.add.new.self.schema; infos = c.add.new.self.infos; sealed = c.new.result; active = c.self.inside.active; readers = c.self.inside.readers.items; segments = c.self.inside.segments; answered = c.self.inside.answered; asked = c.self.inside.asked } in
     let parts : List Partition = c.in_ok-parts.parts.items in
     let added : IsAdded (g.W.Store.files c.args.store.now) (tabled kept) c.args.number parts (g.W.Store.files c.add.new.store) (tabled new) =
     subst (λ (parts : List Partition). IsAdded (g.W.Store.files c.args.store.now) (tabled kept) c.args.number parts (g.W.Store.files c.add.new.store) (tabled new)) c.as_slice.ensures.value c.in-Ok.ensures.added in
@@ -33,6 +33,6 @@ returns-in-Ok-clause-written g c =
       parts = parts;
       of_writes = c.in_ok-parts.ensures;
       added = added;
-      keeps = λ i. record { schema = (added.keeps i).schema; infos = c.add.new.self.infos; sealed = c.new.ensures i; active = c.self.inside.active; readers = c.self.inside.readers.items };
+      keeps = λ i. record { schema = (added.keeps i).schema; infos = c.add.new.self.infos; sealed = c.new.ensures i; active = c.self.inside.active; readers = c.self.inside.readers.items; segments = c.self.inside.segments; answered = c.self.inside.answered; asked = c.self.inside.asked };
     } in
     subst (λ (k : Keeping). IsFlushAnswered (g.W.Store.files c.args.store.now) k c.args.number (g.W.Store.files c.add.new.store) new replies.Fine) c.self.view_is (inl (refl, stored))

@@ -1,41 +1,38 @@
--- Each step is that of its command.
-use Rattle.std.proofs.Common.{sym, subst, IfOk, OnErr}
-use Rattle.rc_lines.specs.declared.commands.Command.{Command}
-use Rattle.rc_machine.specs.Serving.{Takes, Stops}
-use Rattle.rc_plain.specs.Stands.{Stands}
+-- An answer is counted, and what is told goes on from there.
+use Rattle.std.proofs.Common.{◌≡◌, ◌∙◌, sym, subst}
+use Rattle.rc_folder.specs.Counting.{counted}
+use Rattle.rc_plain.specs.Stands.{Keeping, Stands}
+use Rattle.rc_plain.specs.calls.Counting.{AreSameCounts}
+use Rattle.rc_plain.proofs.Counted.{are-counted, stands-counted}
 use Rattle.rc_plain.proofs.plain.PlainMachine.serve.Goals as goal
 
-pub returns-in-Put-clause-step : goal.returns-in-Put-clause-step
-returns-in-Put-clause-step g c =
-    subst (λ (command : Command). IfOk c.put.result (λ reply. Takes Stands (g.W.Store.files c.args.store.now) c.args.self.now command reply (g.W.Store.files c.args.store.now) c.put.new.self)) (sym c.in-Put.is)
-    (c.put.ensures.step (g.W.Store.files c.args.store.now))
+pub returns-clause-figures : goal.returns-clause-figures
+returns-clause-figures g c =
+    let mid : Keeping = record {
+      schema = c.self.inside.folder.schema;
+      infos = c.self.inside.folder.infos;
+      sealed = c.self.inside.sealed;
+      active = c.self.inside.active;
+      readers = c.self.inside.readers.items;
+      segments = c.self.inside.segments;
+      answered = c.self.inside.answered;
+      asked = c.self.inside.asked;
+    } in
+    are-counted c.args.command.now c.in_ok-reply.reply (g.W.Store.asks c.args.store.now) (g.W.Store.asks c.step.new.store) c.args.self.now mid c.count-self-inside.result (subst (AreSameCounts c.args.self.now) (sym c.self.view_is) c.step.ensures.counts)
+    (c.count-self-inside.ensures.counted ∙ (λ i. counted c.args.command.now c.in_ok-reply.reply (c.asks-before.ensures i) (c.asks.ensures i) c.self.inside.answered)) c.count-self-inside.ensures.hits c.count-self-inside.ensures.misses c.in_ok-reply.ensures.told
 
-pub returns-in-OpenRead-clause-step : goal.returns-in-OpenRead-clause-step
-returns-in-OpenRead-clause-step g c =
-    subst (λ (command : Command). IfOk c.open_read.result (λ reply. Takes Stands (g.W.Store.files c.args.store.now) c.args.self.now command reply (g.W.Store.files c.open_read.new.store) c.open_read.new.self)) (sym c.in-OpenRead.is)
-    c.open_read.ensures.step
-
-pub returns-in-Read-clause-step : goal.returns-in-Read-clause-step
-returns-in-Read-clause-step g c =
-    subst (λ (command : Command). IfOk c.read.result (λ reply. Takes Stands (g.W.Store.files c.args.store.now) c.args.self.now command reply (g.W.Store.files c.args.store.now) c.read.new.self)) (sym c.in-Read.is)
-    (c.read.ensures.step (g.W.Store.files c.args.store.now))
-
-pub returns-in-Close-clause-step : goal.returns-in-Close-clause-step
-returns-in-Close-clause-step g c =
-    subst (λ (command : Command). Takes Stands (g.W.Store.files c.args.store.now) c.args.self.now command c.close_reader.result (g.W.Store.files c.args.store.now) c.close_reader.new.self) (sym c.in-Close.is)
-    (c.close_reader.ensures.step (g.W.Store.files c.args.store.now))
-
-pub returns-in-Flush-clause-err : goal.returns-in-Flush-clause-err
-returns-in-Flush-clause-err g c =
-    subst (λ (command : Command). OnErr c.flush.result (Stops Stands (g.W.Store.files c.args.store.now) c.args.self.now command (g.W.Store.files c.flush.new.store) c.flush.new.self)) (sym c.in-Flush.is)
-    c.flush.ensures.err
-
-pub returns-in-SetSchema-clause-step : goal.returns-in-SetSchema-clause-step
-returns-in-SetSchema-clause-step g c =
-    subst (λ (command : Command). Takes Stands (g.W.Store.files c.args.store.now) c.args.self.now command c.set_schema.result (g.W.Store.files c.args.store.now) c.args.self.now) (sym c.in-SetSchema.is)
-    (c.set_schema.ensures.step (g.W.Store.files c.args.store.now))
-
-pub returns-in-Flush-clause-step : goal.returns-in-Flush-clause-step
-returns-in-Flush-clause-step g c =
-    subst (λ (command : Command). IfOk c.flush.result (λ reply. Takes Stands (g.W.Store.files c.args.store.now) c.args.self.now command reply (g.W.Store.files c.flush.new.store) c.flush.new.self)) (sym c.in-Flush.is)
-    c.flush.ensures.step
+pub returns-clause-step : goal.returns-clause-step
+returns-clause-step g c = λ m s.
+    let mid : Keeping = record {
+      schema = c.self.inside.folder.schema;
+      infos = c.self.inside.folder.infos;
+      sealed = c.self.inside.sealed;
+      active = c.self.inside.active;
+      readers = c.self.inside.readers.items;
+      segments = c.self.inside.segments;
+      answered = c.self.inside.answered;
+      asked = c.self.inside.asked;
+    } in
+    let files = g.W.Store.files c.step.new.store in
+    let t = c.in_ok-reply.ensures.step m s in
+    (t.0, t.1, stands-counted files mid t.0 c.count-self-inside.result (subst (λ (k : Keeping). Stands files k t.0) (sym c.self.view_is) t.2))

@@ -11,6 +11,7 @@ use Rattle.rc_shard.specs.Stands.{AreOfTwo}
 use Rattle.rc_shard.proofs.Places.{nowhere-of, place-of}
 use Rattle.rc_shard.proofs.Taking.{found-at, takes-close, takes-no-close}
 use Rattle.rc_shard.proofs.shard.Shard.close_reader.Goals as goal
+use Rattle.rc_shard.proofs.Counted.{counts-itself}
 
 pub release_both-requires : goal.release_both-requires
 release_both-requires c =
@@ -30,3 +31,9 @@ returns-in-Some-clause-step c = λ files.
     takes-close _ c.what_is_left_stays_where_the_snapshots_see_the_same.ensures files c.args.self.now new c.args.id c.in-Some.at c.remove-id.result at (sym c.remove-id.ensures.value) refl refl c.remove-id.ensures.items c.release_both.ensures.stands
     (subst (λ (x : Snaps). (s : Snap) → IsNoneOf x s → HasPin c.args.self.now.unstored.chains s.chain s.pin → StillSees s c.args.self.now.unstored.chains c.release_both.new.self.chains) c.into_snaps.ensures c.release_both.ensures.others)
     c.release_both.ensures.room
+
+pub returns-in-None-clause-counts : goal.returns-in-None-clause-counts
+returns-in-None-clause-counts c = counts-itself c.args.self.now
+
+pub returns-in-Some-clause-counts : goal.returns-in-Some-clause-counts
+returns-in-Some-clause-counts c = record { answered = refl; segments = refl; asked = refl; none_fell = c.release_both.ensures.room.counts }

@@ -1,11 +1,14 @@
 -- A flush is refused, or the writes are sealed and written.
-use Rattle.std.proofs.Common.{refl, ap}
+use Rattle.std.proofs.Common.{refl, ap, subst}
 use Rattle.rc_machine.specs.State.{State}
 use Rattle.rc_machine.specs.Steps.{sealing}
 use Rattle.rc_shard.specs.declared.shard.Shard.{Shard}
 use Rattle.rc_shard.proofs.Flushing.{not-true, sealed-for, stops-sealed, takes-no-flush, takes-written}
 use Rattle.rc_shard.proofs.Standing.{if-ok-weaker, on-err-weaker}
 use Rattle.rc_shard.proofs.shard.Shard.flush.Goals as goal
+use Rattle.rc_memory.specs.Memory.{Memory}
+use Rattle.rc_memtable.specs.LetGo.{NoCountFell}
+use Rattle.rc_shard.proofs.Counted.{counts-itself}
 
 pub returns-then-is_empty-clause-step : goal.returns-then-is_empty-clause-step
 returns-then-is_empty-clause-step g c = takes-no-flush _ (g.W.Store.files c.args.store.now) c.args.self.now (λ schema writes later h. (c.is_empty.ensures schema writes later h).0 c.if-is_empty.true)
@@ -34,3 +37,14 @@ returns-in-Some-clause-err g c =
     (λ kept. stops-sealed _ c.what_is_left_stays_where_the_snapshots_see_the_same.ensures files (g.W.Store.files c.write_sealed.new.store) c.args.self.now sealed c.write_sealed.new.self
     (λ m s. sealed-for _ files c.args.self.now sealed m refl refl refl c.seal.ensures.chains c.seal.ensures.sealed c.seal.ensures.kept s) kept.0 c.write_sealed.ensures.counts.segments (ap (λ v. v.items) c.write_sealed.ensures.readers) kept.1 kept.2)
     c.write_sealed.ensures.err
+
+pub returns-then-is_empty-clause-counts : goal.returns-then-is_empty-clause-counts
+returns-then-is_empty-clause-counts g c = counts-itself c.args.self.now
+
+pub returns-in-None-clause-counts : goal.returns-in-None-clause-counts
+returns-in-None-clause-counts g c = counts-itself c.args.self.now
+
+pub returns-in-Some-clause-counts : goal.returns-in-Some-clause-counts
+returns-in-Some-clause-counts g c =
+    let n = c.write_sealed.ensures.counts in
+    record { answered = n.answered; segments = n.segments; asked = n.asked; none_fell = subst (λ (m : Memory). NoCountFell m c.write_sealed.new.self.unstored.chains) c.seal.ensures.chains n.none_fell }

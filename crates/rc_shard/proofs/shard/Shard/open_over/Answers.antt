@@ -18,3 +18,9 @@ returns-clause-opened c = λ files m said s j.
     let items : c.push.new.self.items ≡ c.args.self.now.readers.items ++ (c.args.id, x) ∷ [] = c.in-Ok.ensures.items ∙ ap (λ (os : List (ℕ × Opened)). os ++ (c.args.id, x) ∷ []) c.reserve.ensures.items in
     opens-reader _ c.what_is_left_stays_where_the_snapshots_see_the_same.ensures files c.args.self.now new c.args.id c.args.key.now c.args.slice.now c.args.tables.now x (λ writes later. c.both_say_what_was_written.ensures.changes c.args.key.now writes later)
     c.requires.unused refl refl items (λ schema. c.open_in.ensures.kept schema) (λ schema writes later said h j fit more. c.in_ok-opened.ensures.gives schema writes later said h j fit more) c.in_ok-opened.ensures.there c.in_ok-opened.ensures.two c.in_ok-opened.ensures.fresh m said s j
+
+pub returns-in_err-opened-clause-counts : goal.returns-in_err-opened-clause-counts
+returns-in_err-opened-clause-counts c = record { answered = refl; segments = refl; asked = refl; none_fell = (c.open_in.ensures.kept c.args.self.now.folder.schema).room.counts }
+
+pub returns-clause-counts : goal.returns-clause-counts
+returns-clause-counts c = record { answered = refl; segments = refl; asked = refl; none_fell = (c.open_in.ensures.kept c.args.self.now.folder.schema).room.counts }

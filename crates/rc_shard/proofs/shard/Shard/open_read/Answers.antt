@@ -5,6 +5,7 @@ use Rattle.rc_machine.specs.Steps.{most_readers}
 use Rattle.rc_shard.proofs.Places.{nowhere-of, open-none, open-some}
 use Rattle.rc_shard.proofs.Taking.{opened-of, takes-in-use, takes-too-many, unread-faults, unread-of}
 use Rattle.rc_shard.proofs.shard.Shard.open_read.Goals as goal
+use Rattle.rc_shard.proofs.Counted.{counts-itself}
 
 pub returns-then-is_some-clause-step : goal.returns-then-is_some-clause-step
 returns-then-is_some-clause-step g c =
@@ -35,3 +36,12 @@ returns-in-Err-clause-step g c =
 
 pub returns-in-Err-clause-faults : goal.returns-in-Err-clause-faults
 returns-in-Err-clause-faults g c = unread-faults (g.W.Store.files c.args.store.now) c.in-Err.error (g.W.Store.faults c.args.store.now) (g.W.Store.faults c.read.new.store) c.not_read.result c.in-Err.ensures.cause c.not_read.ensures
+
+pub returns-then-is_some-clause-counts : goal.returns-then-is_some-clause-counts
+returns-then-is_some-clause-counts g c = counts-itself c.args.self.now
+
+pub returns-then-len-ge-MOST_READERS-clause-counts : goal.returns-then-len-ge-MOST_READERS-clause-counts
+returns-then-len-ge-MOST_READERS-clause-counts g c = counts-itself c.args.self.now
+
+pub returns-in-Err-clause-counts : goal.returns-in-Err-clause-counts
+returns-in-Err-clause-counts g c = counts-itself c.args.self.now

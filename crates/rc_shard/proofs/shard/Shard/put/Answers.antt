@@ -42,3 +42,12 @@ returns-else-branch-clause-step c = λ files.
 
 pub returns-else-branch-clause-full : goal.returns-else-branch-clause-full
 returns-else-branch-clause-full c = subst (λ (s : SchemaValue). IsFullFor 131072 s c.args.write.now c.put.new.self) c.schema-schema.ensures (c.in_ok-put.ensures.full c.if-branch.false)
+
+pub returns-in_err-put-clause-counts : goal.returns-in_err-put-clause-counts
+returns-in_err-put-clause-counts c = record { answered = refl; segments = refl; asked = refl; none_fell = (c.what_a_call_leaves_of_the_room.ensures.refused 131072 _ _ c.in_err-put.ensures.refused).counts }
+
+pub returns-then-branch-clause-counts : goal.returns-then-branch-clause-counts
+returns-then-branch-clause-counts c = record { answered = refl; segments = refl; asked = refl; none_fell = (c.what_a_call_leaves_of_the_room.ensures.put 131072 _ _ _ _ (c.in_ok-put.ensures.applied c.if-branch.true)).2 }
+
+pub returns-else-branch-clause-counts : goal.returns-else-branch-clause-counts
+returns-else-branch-clause-counts c = record { answered = refl; segments = refl; asked = refl; none_fell = (c.what_a_call_leaves_of_the_room.ensures.not_put 131072 _ _ (c.in_ok-put.ensures.left c.if-branch.false)).counts }

@@ -7,8 +7,9 @@ use Rattle.rc_opened.specs.declared.opened.Opened.{Opened}
 use Rattle.rc_shard.specs.declared.shard.Shard.{Shard}
 use Rattle.rc_shard.proofs.Places.{nowhere-of, place-of}
 use Rattle.rc_shard.proofs.Standing.{on-err}
-use Rattle.rc_shard.proofs.Taking.{found-at, keeps-read, takes-no-read, takes-read}
+use Rattle.rc_shard.proofs.Taking.{found-at, keeps-read, no-more-same, takes-no-read, takes-read}
 use Rattle.rc_shard.proofs.shard.Shard.read.Goals as goal
+use Rattle.rc_shard.proofs.Counted.{counts-itself}
 
 pub read-requires : goal.read-requires
 read-requires c =
@@ -39,3 +40,12 @@ returns-in_ok-lines-in-Some-clause-step c = λ files.
     takes-read _ files c.args.self.now new c.args.id c.args.count c.in-Some.at c.index_mut-reader.result.now pair c.in_ok-lines-in-Some.lines c.in_ok-lines-in-Some.more at (sym c.index_mut-reader.ensures.value)
     c.in_ok-lines-in-Some.ensures.gives c.in_ok-lines-in-Some.ensures.more c.in_ok-lines-in-Some.ensures.left same c.read.ensures.snaps
     refl (ap (λ (x : Memory). in_chains x c.args.self.now.unstored) c.read.ensures.chains) refl refl
+
+pub returns-in_err-lines-in-Some-clause-counts : goal.returns-in_err-lines-in-Some-clause-counts
+returns-in_err-lines-in-Some-clause-counts c = record { answered = refl; segments = refl; asked = refl; none_fell = (no-more-same c.args.self.now.unstored.chains c.read.new.chains c.read.ensures.chains).counts }
+
+pub returns-in_ok-lines-in-Some-clause-counts : goal.returns-in_ok-lines-in-Some-clause-counts
+returns-in_ok-lines-in-Some-clause-counts c = record { answered = refl; segments = refl; asked = refl; none_fell = (no-more-same c.args.self.now.unstored.chains c.read.new.chains c.read.ensures.chains).counts }
+
+pub returns-in-None-clause-counts : goal.returns-in-None-clause-counts
+returns-in-None-clause-counts c = counts-itself c.args.self.now

@@ -1,9 +1,11 @@
 -- Each step is that of its command.
-use Rattle.std.proofs.Common.{refl}
+use Rattle.std.proofs.Common.{◌+◌, ◌∙◌, ap, refl}
 use Rattle.rc_shard.proofs.Standing.{on-err-weaker}
 use Rattle.rc_shard.specs.declared.shard.Shard.{Shard}
 use Rattle.rc_shard.proofs.Taking.{keeps-files, keeps-kept}
 use Rattle.rc_shard.proofs.shard.Shard.step.Goals as goal
+use Rattle.rc_lines.specs.declared.commands.Figures.{Figures}
+use Rattle.rc_shard.proofs.Counted.{counts-itself, if-ok-all, make-budget}
 
 pub returns-in-SetSchema-clause-step : goal.returns-in-SetSchema-clause-step
 returns-in-SetSchema-clause-step g c = rw (c.in-SetSchema.is) (c.set_schema.ensures.step (g.W.Store.files c.args.store.now))
@@ -38,3 +40,33 @@ returns-in-Compact-clause-step g c =
     let new : Shard = record c.args.self.now { unstored = c.compact.new.unstored } in
     let keeps = keeps-kept _ c.what_is_left_stays_where_the_snapshots_see_the_same.ensures c.args.self.now new refl refl refl (λ schema e. c.compact.ensures schema) in
     rw (c.in-Compact.is) (λ m s. (m, (refl, refl), keeps files m s))
+
+-- what is counted
+pub returns-in-Compact-clause-counts : goal.returns-in-Compact-clause-counts
+returns-in-Compact-clause-counts g c = record { answered = refl; segments = refl; asked = refl; none_fell = (c.compact.ensures c.args.self.now.folder.schema).room.counts }
+
+pub returns-in-Nothing-clause-counts : goal.returns-in-Nothing-clause-counts
+returns-in-Nothing-clause-counts g c = counts-itself c.args.self.now
+
+pub returns-in-SetSchema-clause-counts : goal.returns-in-SetSchema-clause-counts
+returns-in-SetSchema-clause-counts g c = counts-itself c.args.self.now
+
+pub returns-in-Stats-clause-counts : goal.returns-in-Stats-clause-counts
+returns-in-Stats-clause-counts g c = counts-itself c.args.self.now
+
+-- what is told
+pub returns-in-Put-clause-told : goal.returns-in-Put-clause-told
+returns-in-Put-clause-told g c = rw (c.in-Put.is) (if-ok-all c.put.result _ (λ reply. tt))
+
+pub returns-in-OpenRead-clause-told : goal.returns-in-OpenRead-clause-told
+returns-in-OpenRead-clause-told g c = rw (c.in-OpenRead.is) (if-ok-all c.open_read.result _ (λ reply. tt))
+
+pub returns-in-Read-clause-told : goal.returns-in-Read-clause-told
+returns-in-Read-clause-told g c = rw (c.in-Read.is) (if-ok-all c.read.result _ (λ reply. tt))
+
+pub returns-in-Flush-clause-told : goal.returns-in-Flush-clause-told
+returns-in-Flush-clause-told g c = rw (c.in-Flush.is) (if-ok-all c.flush.result _ (λ reply. tt))
+
+pub returns-in-Stats-clause-step : goal.returns-in-Stats-clause-step
+returns-in-Stats-clause-step g c =
+    rw (c.in-Stats.is) (λ m s. (m, (c.figures.result, ap (λ (f : Figures). f.segments + f.free) c.figures.ensures ∙ make-budget c.args.self.now.unstored.chains.region.usages c.args.self.now.segments m.segments s.budget s.sound.budget, refl, refl), s))

@@ -7,7 +7,8 @@ use Rattle.rc_tfile.specs.TableText.{PartsFit}
 use Rattle.rc_folder.specs.Tabled.{IsAdded}
 use Rattle.rc_shard.specs.calls.Storing.{IsKept}
 use Rattle.rc_shard.proofs.Flushing.{no-file, parts-of-sealed}
-use Rattle.rc_shard.proofs.Standing.{if-ok-weaker, no-more-then, on-err}
+use Rattle.rc_memtable.specs.laws.NoMore.{counts-then, no-more-then}
+use Rattle.rc_shard.proofs.Standing.{if-ok-weaker, on-err}
 use Rattle.rc_shard.proofs.shard.Shard.write_sealed.Goals as goal
 
 pub add-requires-clause-fit : goal.add-requires-clause-fit
@@ -55,3 +56,17 @@ returns-clause-err g c =
     let kept : IsKept c.args.self.now.folder.schema c.args.self.now.unstored c.sealed_partitions.new.self = record { stands = λ writes later h. c.sealed_partitions.ensures.stands c.args.self.now.folder.schema writes later h; seen = c.sealed_partitions.ensures.seen.alike; room = c.what_a_call_leaves_of_the_room.ensures.before _ _ c.sealed_partitions.ensures.left } in
     let left : (c.add.new.self ≡ c.args.self.now.folder) × IsKept c.args.self.now.folder.schema c.args.self.now.unstored c.sealed_partitions.new.self × (g.W.Store.files c.add.new.store ≡ g.W.Store.files c.args.store.now) = (c.in-Err.ensures.refused.0, kept, c.in-Err.ensures.refused.1) in
     on-err _ _ left
+
+pub returns-in_err-parts-clause-counts : goal.returns-in_err-parts-clause-counts
+returns-in_err-parts-clause-counts g c = record { answered = refl; segments = refl; asked = refl; none_fell = (c.what_a_call_leaves_of_the_room.ensures.before _ _ c.sealed_partitions.ensures.left).counts }
+
+pub returns-in-Ok-clause-counts : goal.returns-in-Ok-clause-counts
+returns-in-Ok-clause-counts g c = record {
+  answered = refl;
+  segments = refl;
+  asked = refl;
+  none_fell = counts-then c.args.self.now.unstored.chains c.sealed_partitions.new.self.chains c.drop_sealed.new.self.chains (c.what_a_call_leaves_of_the_room.ensures.before _ _ c.sealed_partitions.ensures.left).counts c.drop_sealed.ensures.room.counts;
+}
+
+pub returns-clause-counts : goal.returns-clause-counts
+returns-clause-counts g c = record { answered = refl; segments = refl; asked = refl; none_fell = (c.what_a_call_leaves_of_the_room.ensures.before _ _ c.sealed_partitions.ensures.left).counts }

@@ -42,15 +42,15 @@ apply-requires g c =
 -- what is left, whatever came of it
 pub returns-in_ok-apply-in-Ready-clause-applied : goal.returns-in_ok-apply-in-Ready-clause-applied
 returns-in_ok-apply-in-Ready-clause-applied g c e =
-    put-left c.args.schema.now c.args.w.now c.args.self.now c.apply.new.self c.ensure.new.self c.apply.new.chains (room-made c.args.self.now.chains c.ensure.new.self c.ensure.ensures.renamed c.ensure.ensures.untouched) c.in_ok-apply-in-Ready.ensures.applied
+    put-left c.args.schema.now c.args.w.now c.args.self.now c.apply.new.self c.ensure.new.self c.apply.new.chains (room-made c.args.self.now.chains c.ensure.new.self c.ensure.ensures.renamed c.ensure.ensures.untouched c.ensure.ensures.moved) c.in_ok-apply-in-Ready.ensures.applied
 
 pub returns-in-Full-clause-left : goal.returns-in-Full-clause-left
-returns-in-Full-clause-left g c e = full-left c.args.self.now c.ensure.new.self (room-made c.args.self.now.chains c.ensure.new.self c.ensure.ensures.renamed c.ensure.ensures.untouched)
+returns-in-Full-clause-left g c e = full-left c.args.self.now c.ensure.new.self (room-made c.args.self.now.chains c.ensure.new.self c.ensure.ensures.renamed c.ensure.ensures.untouched c.ensure.ensures.moved)
 
 pub returns-in_err-apply-in-Ready-clause-refused : goal.returns-in_err-apply-in-Ready-clause-refused
 returns-in_err-apply-in-Ready-clause-refused g c =
     let e = c.in_err-apply-in-Ready.ensures in
-    on-err c.from_residual.result _ (refused-left c.args.self.now c.apply.new.self c.ensure.new.self c.apply.new.chains (room-made c.args.self.now.chains c.ensure.new.self c.ensure.ensures.renamed c.ensure.ensures.untouched) e.err e.same)
+    on-err c.from_residual.result _ (refused-left c.args.self.now c.apply.new.self c.ensure.new.self c.apply.new.chains (room-made c.args.self.now.chains c.ensure.new.self c.ensure.ensures.renamed c.ensure.ensures.untouched c.ensure.ensures.moved) e.err e.same)
 
 -- no room: fewer bytes are spare than are needed, and no closed segment is sparse
 pub a_tight_region_is_nearly_full-requires : goal.a_tight_region_is_nearly_full-requires

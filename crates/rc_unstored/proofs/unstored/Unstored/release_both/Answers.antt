@@ -1,5 +1,5 @@
 use Rattle.std.proofs.Common.{arith}
-use Rattle.rc_unstored.proofs.Leaving.{more-then}
+use Rattle.rc_memtable.specs.laws.NoMore.{no-more-then}
 use Rattle.rc_unstored.proofs.Returning.{keys-then, second-there, sees-past}
 use Rattle.rc_unstored.proofs.unstored.Unstored.release_both.Goals as goal
 
@@ -13,7 +13,7 @@ pub returns-clause-others : goal.returns-clause-others
 returns-clause-others g c s none = sees-past s c.args.snaps c.args.self.now.chains c.release_if.new.self.chains c.release_if-2.new.self.chains none c.release_if.ensures.others c.release_if-2.ensures.others
 
 pub returns-clause-room : goal.returns-clause-room
-returns-clause-room g c = more-then c.args.self.now.chains c.release_if.new.self.chains c.release_if-2.new.self.chains c.release_if.ensures.room c.release_if-2.ensures.room
+returns-clause-room g c = no-more-then c.args.self.now.chains c.release_if.new.self.chains c.release_if-2.new.self.chains c.release_if.ensures.room c.release_if-2.ensures.room
 
 pub returns-clause-released : goal.returns-clause-released
 returns-clause-released g c = (c.release_if.new.self.chains, c.release_if.ensures.released, c.release_if-2.ensures.released)

@@ -1,7 +1,7 @@
-//! What a shard counts of its answers.
-ghost use Rattle.std.specs.Prelude.{◌≡◌};
+//! What a machine counts of its answers.
+ghost use Rattle.std.specs.Prelude.{◌≡◌, ◌≤◌};
 ghost use Rattle.rc_lines.specs.declared.commands.Command.{Command as Asked};
-ghost use Rattle.rc_shard.specs.Counting.{counted, is_answered};
+ghost use Rattle.rc_folder.specs.Counting.{counted, is_answered};
 
 use rc_lines::{Command, Reply};
 
@@ -16,16 +16,18 @@ pub struct Answered {
 
 impl Answered {
     /// No answers.
-    pub(crate) fn none() -> Self
+    pub fn none() -> Self
         ensures hits { result.hits ≡ 0 }
         ensures misses { result.misses ≡ 0 }
     {
         Answered { hits: 0, misses: 0 }
     }
 
-    /// Counts a reply to a command, before and after which the store had been asked so often.
-    pub(crate) fn count(self, command: &Command, reply: &Reply, before: u64, after: u64) -> Self
-        ensures { result ≡ counted command.now reply.now before after self }
+    /// Counts a reply to a command, before and after which the store had been asked so often: no count is less then.
+    pub fn count(self, command: &Command, reply: &Reply, before: u64, after: u64) -> Self
+        ensures counted { result ≡ counted command.now reply.now before after self }
+        ensures hits { self.hits ≤ result.hits }
+        ensures misses { self.misses ≤ result.misses }
     {
         if !is_answer(command, reply) {
             return self;

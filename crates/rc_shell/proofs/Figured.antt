@@ -1,0 +1,78 @@
+-- What `stats` lines go by, as the machine is opened and after a command.
+use Rattle.std.proofs.Common.{◌≡◌, ◌+◌, ◌-◌, ◌^◌, ◌≤◌, ◌&&◌, ℕ, Bool, true, false, cond, not, min, nat_eq, inl, inr, Option, Some, None, IfSome, Ok, sym, ap, subst, ◌∙◌, refl, arith}
+use Rattle.std.specs.Option.{option_or}
+use Rattle.std.proofs.Math.Nat.{min-eq_left, min-eq_right, zero-min}
+use Rattle.std.proofs.lemmas.Bool.{cases_lt}
+use Rattle.rc_lines.specs.declared.commands.Command.{Command}
+use Rattle.rc_lines.specs.declared.commands.Figures.{Figures}
+use Rattle.rc_lines.specs.declared.commands.Reply.{Reply}
+use Rattle.rc_machine.specs.State.{State}
+use Rattle.rc_folder.specs.Counting.{AreCounted, AreFresh, NoneFell, answered_of, counted, figures_in, is_answered, one_more}
+use Rattle.rc_folder.specs.declared.counts.Answered.{Answered}
+use Rattle.rc_shell.specs.Late.{GoesBy}
+use Rattle.rc_shell.specs.Step.{MayBeTold, Serving, TellsFigures, Told, nothing_told, one_if, told_after}
+
+pub goes-fresh : (opened : ℕ) (figures : ℕ → Figures) → AreFresh opened figures → GoesBy opened (nothing_told opened) figures
+goes-fresh opened figures f = record {
+  now = record { hits = f.hits ∙ sym (zero-min (2 ^ 64 - 1)); misses = f.misses ∙ sym (zero-min (2 ^ 64 - 1)); asks = f.asks opened; none_fell = tt };
+  asks = f.asks;
+}
+
+-- a count that stays at its greatest value, raised by one
+min-more : (most a t : ℕ) → a ≡ min t most → min (a + 1) most ≡ min (t + 1) most
+min-more most a t e = elim (cases_lt t most) [
+  | inl low ↦ ap (λ n. min (n + 1) most) (e ∙ min-eq_left (omega (arith, low)))
+  | inr high ↦ (let is : a ≡ most = e ∙ min-eq_right high in min-eq_right (omega (arith, is)) ∙ sym (min-eq_right (omega (arith, high))))
+]
+
+more-min : (a t : ℕ) → a ≡ min t (2 ^ 64 - 1) → one_more a ≡ min (t + 1) (2 ^ 64 - 1)
+more-min a t e = min-more (2 ^ 64 - 1) a t e
+
+same-min : (a t : ℕ) → a ≡ min t (2 ^ 64 - 1) → a ≡ min (t + 0) (2 ^ 64 - 1)
+same-min a t e = e ∙ ap (λ n. min n (2 ^ 64 - 1)) (omega arith)
+
+-- the counts after a reply, by whether it answers and whether the store was asked for nothing
+hits-counted : (answers same : Bool) (a : Answered) (t : ℕ) → a.hits ≡ min t (2 ^ 64 - 1) → (cond answers (cond same (record a { hits = one_more a.hits }) (record a { misses = one_more a.misses })) a).hits ≡ min (t + one_if (answers && same)) (2 ^ 64 - 1)
+hits-counted true true a t e = more-min a.hits t e
+hits-counted true false a t e = same-min a.hits t e
+hits-counted false same a t e = same-min a.hits t e
+
+misses-counted : (answers same : Bool) (a : Answered) (t : ℕ) → a.misses ≡ min t (2 ^ 64 - 1) → (cond answers (cond same (record a { hits = one_more a.hits }) (record a { misses = one_more a.misses })) a).misses ≡ min (t + one_if (answers && not same)) (2 ^ 64 - 1)
+misses-counted true true a t e = same-min a.misses t e
+misses-counted true false a t e = more-min a.misses t e
+misses-counted false same a t e = same-min a.misses t e
+
+fell-then : (a b c : Figures) → NoneFell a b → NoneFell b c → NoneFell a c
+fell-then a b c f g = record {
+  hits = let x = f.hits in let y = g.hits in omega (arith, x, y);
+  misses = let x = f.misses in let y = g.misses in omega (arith, x, y);
+  evicted = let x = f.evicted in let y = g.evicted in omega (arith, x, y);
+  moved = let x = f.moved in let y = g.moved in omega (arith, x, y);
+  skipped = let x = f.skipped in let y = g.skipped in omega (arith, x, y);
+}
+
+-- no counter is less than it was when figures were told last, these among them
+last-then : (told last : Option Figures) (old new : Figures) → IfSome told (λ figures. figures ≡ old) → IfSome last (λ f. NoneFell f old) → NoneFell old new → IfSome (option_or told last) (λ f. NoneFell f new)
+last-then None None old new is fell more = tt
+last-then None (Some last) old new is fell more = fell-then last old new fell more
+last-then (Some f) last old new is fell more = subst (λ (x : Figures). NoneFell x new) (sym is) more
+
+pub goes-on : (before after : ℕ) (command : Command) (reply : Reply) (m : State) (told : Told) (old new : ℕ → Figures) → GoesBy before told old → AreCounted command reply before after old new
+    → GoesBy after (told_after (Serving m) (Ok command) (Some reply) before after told) new
+goes-on before after command reply m told old new g c = record {
+  now = record {
+    hits = ap (λ (a : Answered). a.hits) c.answered ∙ hits-counted (is_answered command reply) (nat_eq before after) (answered_of (old before)) told.hits g.now.hits;
+    misses = ap (λ (a : Answered). a.misses) c.answered ∙ misses-counted (is_answered command reply) (nat_eq before after) (answered_of (old before)) told.misses g.now.misses;
+    asks = c.asks after ∙ g.asks after;
+    none_fell = last-then (figures_in command reply) told.last (old before) (new after) c.told g.now.none_fell c.none_fell;
+  };
+  asks = λ n. c.asks n ∙ g.asks n;
+}
+
+-- figures that are told may be told
+told-may : (o : Option Figures) (asks : ℕ) (told : Told) (now : Figures) → IfSome o (λ figures. figures ≡ now) → MayBeTold asks told now → IfSome o (MayBeTold asks told)
+told-may None asks told now is may = tt
+told-may (Some f) asks told now is may = subst (MayBeTold asks told) (sym is) may
+
+pub may-tell : (before : ℕ) (command : Command) (reply : Reply) (told : Told) (old new : ℕ → Figures) (after : ℕ) → GoesBy before told old → AreCounted command reply before after old new → TellsFigures (Ok command) (Some reply) before told
+may-tell before command reply told old new after g c = told-may (figures_in command reply) before told (old before) c.told g.now
