@@ -196,7 +196,7 @@ at_end files old new [] [] all at a =
     subst (λ (m : Moment). AtStage files m.stage (λ schema. all schema ++ accepted_writes schema [] [])) (sym a) (alike files old.stage all (λ schema. all schema ++ []) (λ schema. sym (append-nil (all schema))) at)
 at_end files old new (line ∷ lines) (text ∷ texts) all at a =
     alike files new.stage (λ schema. and_line all line text schema ++ accepted_writes schema lines texts) (λ schema. all schema ++ accepted_writes schema (line ∷ lines) (text ∷ texts)) (regroup all line text lines texts)
-    (at_end files a.0 new lines texts (and_line all line text) (at_step files old.segments line text all old.stage a.0.stage at a.1.stage) a.2)
+    (at_end files a.0 new lines texts (and_line all line text) (at_step files old.segments line text all old.stage a.0.stage a.1.reply at a.1.stage) a.2)
 at_end files old new [] (text ∷ texts) all at a = absurd a
 at_end files old new (line ∷ lines) [] all at a = absurd a
 

@@ -275,6 +275,7 @@ module _ {Kept : Type 0} (Stands : Option Files → Kept → State → Type 0) (
     told_then = told_after (Serving s.0) (Ok command) (Some reply) store.2 store'.2 old.told
 
     goes_then : GoesBy store'.2 told_then (figures k')
+    unfolding told_then
     goes_then = goes-on store.2 store'.2 command reply s.0 old.told (figures k) (figures k') s.5 d.counted
 
     command_step : LineStep old line (reply_text (folder k').schema reply) (next_moment old (Serving d.next) store'.1 store'.2 (most_asks (folder k).infos command) told_then)
