@@ -13,3 +13,4 @@ pub mod Budget
 pub mod Undamaged
 pub mod Flushing
 pub mod Figured
+pub mod Telling

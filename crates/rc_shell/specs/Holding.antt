@@ -2,6 +2,7 @@
 --     OfLines          the lines that were answered, their texts, and the moment behind them
 --     HoldsFlushed     the files after are those before and the tables that were flushed, which hold accepted writes
 --     tells_damage     whether a text tells a damaged table
+--     IsTelling        what figures tell over so many lines
 use Rattle.std.specs.Prelude.{◌≡◌, ◌⊎◌, ℕ, ◌+◌, ◌-◌, ◌^◌, ◌≤◌, min, Bool, List, [], ◌∷◌, ◌++◌, take, All, Some, Result, Ok, codes, count_by, if◌then◌else◌}
 use Rattle.std.specs.List.{concat}
 use Rattle.std.specs.FinMap as map
@@ -13,6 +14,7 @@ use Rattle.rc_mutation.specs.Fragments.{IsParts}
 use Rattle.rc_tfile.specs.TableText.{IsTable}
 use Rattle.rc_lines.specs.declared.commands.Command.{Command}
 use Rattle.rc_lines.specs.declared.commands.Command.TheVariants.{Put}
+use Rattle.rc_lines.specs.declared.commands.Figures.{Figures}
 use Rattle.rc_lines.specs.declared.commands.Refusal.{Refusal}
 use Rattle.rc_lines.specs.Grammar.{parse}
 use Rattle.rc_spelling.specs.Words.{is_word}
@@ -47,6 +49,13 @@ pub record OfLines (words : Words) (before after : StoreView) (status : Status) 
   pub told : written ++ unwritten ≡ concat texts ++ last
   pub leaves : LeavesStore end after
   pub faults : min (before.1 + (count_by tells_fault texts + fault_of status)) (2 ^ 64 - 1) ≤ after.1
+
+-- Figures that were told over so many lines, in a run of a budget of segments, whose lines may have asked for so many ranges: their segments are the
+-- budget together, there are no more answers than lines, and no more was asked for.
+pub record IsTelling (lines segments bound : ℕ) (figures : Figures) : Type 0 where
+  pub budget : figures.segments + figures.free ≡ segments
+  pub answers : figures.hits + figures.misses ≤ lines
+  pub asks : figures.asks ≤ bound
 
 -- whether a text tells a damaged table
 abbrev pub tells_damage : List ℕ → Bool

@@ -1,11 +1,12 @@
 //! Laws of a run, each the contract of a function that does nothing.
 
-ghost use Rattle.std.specs.Prelude.{◌≡◌, ℕ, ◌+◌, List, Option, Some, All, false};
+ghost use Rattle.std.specs.Prelude.{◌≡◌, ℕ, ◌+◌, List, Option, Some, All, false, IfSome, length};
 ghost use Rattle.rc_outside.specs.Files.{Files};
 ghost use Rattle.rc_shell.specs.Run.{Ran};
 ghost use Rattle.rc_shell.specs.Step.{StoreView, LineStep, EndsRun, LeavesStore, MayHaveAsked, start_moment};
+ghost use Rattle.rc_shell.specs.Words.{segments_of};
 ghost use Rattle.rc_shell.specs.Lines.{IsLine, BeginsWithLines};
-ghost use Rattle.rc_shell.specs.Holding.{OfLines, HoldsFlushed, tells_damage};
+ghost use Rattle.rc_shell.specs.Holding.{OfLines, HoldsFlushed, IsTelling, tells_damage};
 ghost use Rattle.rc_shell.specs.declared.status.Status.{Status};
 ghost use Rattle.rc_shell.specs.declared.words.Words.{Words};
 
@@ -41,4 +42,11 @@ pub fn told_files_are_never_damaged()
 pub fn asks_are_bounded()
     ensures { (words : Words) (before after : StoreView) (status : Status) (taken written : List ℕ) (l : OfLines words before after status taken written) →
         MayHaveAsked l.end.stage (before.2 + l.end.bound) after.2 }
+{}
+
+/// The figures that the last `stats` line of a run told: segments that are free and that are not are the run's budget, no more `open` and `read` lines
+/// were answered than there were lines, and no more ranges were asked for than these may ask for.
+pub fn figures_are_within_bounds()
+    ensures { (words : Words) (before after : StoreView) (status : Status) (taken written : List ℕ) (l : OfLines words before after status taken written) →
+        IfSome l.end.told.last (IsTelling (length l.lines) (segments_of words) l.end.bound) }
 {}
