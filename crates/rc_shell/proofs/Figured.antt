@@ -1,5 +1,5 @@
 -- What `stats` lines go by, as the machine is opened and after a command.
-use Rattle.std.proofs.Common.{◌≡◌, ◌+◌, ◌-◌, ◌^◌, ◌≤◌, ◌&&◌, ℕ, Bool, true, false, cond, not, min, nat_eq, inl, inr, Option, Some, None, IfSome, Ok, sym, ap, subst, ◌∙◌, refl, arith}
+use Rattle.std.proofs.Common.{◌≡◌, ◌+◌, ◌-◌, ◌^◌, ◌&&◌, ℕ, Bool, true, false, cond, not, min, nat_eq, inl, inr, Option, Some, None, IfSome, Ok, sym, ap, subst, ◌∙◌, arith}
 use Rattle.std.specs.Option.{option_or}
 use Rattle.std.proofs.Math.Nat.{min-eq_left, min-eq_right, zero-min}
 use Rattle.std.proofs.lemmas.Bool.{cases_lt}
@@ -7,7 +7,7 @@ use Rattle.rc_lines.specs.declared.commands.Command.{Command}
 use Rattle.rc_lines.specs.declared.commands.Figures.{Figures}
 use Rattle.rc_lines.specs.declared.commands.Reply.{Reply}
 use Rattle.rc_machine.specs.State.{State}
-use Rattle.rc_folder.specs.Counting.{AreCounted, AreFresh, NoneFell, answered_of, counted, figures_in, is_answered, one_more}
+use Rattle.rc_folder.specs.Counting.{AreCounted, AreFresh, NoneFell, answered_of, figures_in, is_answered, one_more}
 use Rattle.rc_folder.specs.declared.counts.Answered.{Answered}
 use Rattle.rc_shell.specs.Late.{GoesBy}
 use Rattle.rc_shell.specs.Step.{MayBeTold, Serving, TellsFigures, Told, nothing_told, one_if, told_after}

@@ -1,5 +1,5 @@
 -- What was told last over lines.
-use Rattle.std.proofs.Common.{◌≡◌, ◌+◌, ◌-◌, ◌^◌, ◌≤◌, ◌&&◌, ℕ, suc, Bool, true, false, not, min, nat_eq, List, [], ◌∷◌, length, Option, Some, None, IfSome, Result, Ok, Err, refl, sym, ap, subst, ◌∙◌, arith}
+use Rattle.std.proofs.Common.{◌≡◌, ◌+◌, ◌-◌, ◌^◌, ◌≤◌, ◌&&◌, ℕ, suc, Bool, true, false, not, nat_eq, List, [], ◌∷◌, length, Option, Some, None, IfSome, Result, Ok, Err, refl, sym, ap, subst, ◌∙◌, arith}
 use Rattle.std.specs.Option.{option_or}
 use Rattle.std.proofs.Math.Nat.{min-le_left}
 use Rattle.rc_lines.specs.declared.commands.Command.{Command}
@@ -13,7 +13,7 @@ use Rattle.rc_machine.specs.laws.Changes.{Change, Reads, Writes, Seals, Begins, 
 use Rattle.rc_folder.specs.Counting.{figures_in, is_answered}
 use Rattle.rc_shell.specs.Holding.{IsTelling, OfLines}
 use Rattle.rc_shell.specs.Run.{Answers}
-use Rattle.rc_shell.specs.Step.{LineStep, MayBeTold, Moment, Stage, StageStep, StoreView, TellsFigures, Told, Waiting, Serving, meaning_at, nothing_told, one_if, start_moment, told_after}
+use Rattle.rc_shell.specs.Step.{LineStep, MayBeTold, Moment, Stage, StageStep, StoreView, TellsFigures, Told, Waiting, Serving, meaning_at, one_if, start_moment, told_after}
 use Rattle.rc_shell.specs.Words.{segments_of}
 use Rattle.rc_shell.specs.declared.status.Status.{Status}
 use Rattle.rc_shell.specs.declared.words.Words.{Words}

@@ -3,7 +3,7 @@ use Rattle.std.specs.Prelude.{◌≡◌, ℕ, ◌-◌, ◌≤◌, Option, Some, 
 use Rattle.rc_outside.specs.Files.{Files}
 use Rattle.rc_lines.specs.declared.commands.Figures.{Figures}
 use Rattle.rc_machine.specs.State.{State}
-use Rattle.rc_shell.specs.Step.{MayBeTold, Moment, StoreView, Told, Waiting, Serving, nothing_told}
+use Rattle.rc_shell.specs.Step.{MayBeTold, Moment, StoreView, Told, Waiting, Serving}
 
 -- a budget of memory that a machine may have, in segments
 abbrev pub IsBudget : ℕ → Type 0

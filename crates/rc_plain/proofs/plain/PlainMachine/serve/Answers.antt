@@ -1,5 +1,5 @@
 -- An answer is counted, and what is told goes on from there.
-use Rattle.std.proofs.Common.{◌≡◌, ◌∙◌, sym, subst}
+use Rattle.std.proofs.Common.{◌∙◌, sym, subst}
 use Rattle.rc_folder.specs.Counting.{counted}
 use Rattle.rc_plain.specs.Stands.{Keeping, Stands}
 use Rattle.rc_plain.specs.calls.Counting.{AreSameCounts}

@@ -1,5 +1,5 @@
 -- An answer is counted, and what is told goes on from there.
-use Rattle.std.proofs.Common.{◌≡◌, ◌∙◌}
+use Rattle.std.proofs.Common.{◌∙◌}
 use Rattle.rc_folder.specs.Counting.{counted}
 use Rattle.rc_shard.proofs.Counted.{are-counted}
 use Rattle.rc_shard.proofs.shard.ShardMachine.serve.Goals as goal
