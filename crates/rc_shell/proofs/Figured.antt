@@ -10,7 +10,7 @@ use Rattle.rc_machine.specs.State.{State}
 use Rattle.rc_folder.specs.Counting.{AreCounted, AreFresh, NoneFell, answered_of, figures_in, is_answered, one_more}
 use Rattle.rc_folder.specs.declared.counts.Answered.{Answered}
 use Rattle.rc_shell.specs.Late.{GoesBy}
-use Rattle.rc_shell.specs.Step.{MayBeTold, Serving, TellsFigures, Told, nothing_told, one_if, told_after}
+use Rattle.rc_shell.specs.Step.{MayBeTold, Serving, TellsFigures, Statistics, nothing_told, one_if, told_after}
 
 pub goes-fresh : (opened : ℕ) (figures : ℕ → Figures) → AreFresh opened figures → GoesBy opened (nothing_told opened) figures
 goes-fresh opened figures f = record {
@@ -57,7 +57,7 @@ last-then None None old new is fell more = tt
 last-then None (Some last) old new is fell more = fell-then last old new fell more
 last-then (Some f) last old new is fell more = subst (λ (x : Figures). NoneFell x new) (sym is) more
 
-pub goes-on : (before after : ℕ) (command : Command) (reply : Reply) (m : State) (told : Told) (old new : ℕ → Figures) → GoesBy before told old → AreCounted command reply before after old new
+pub goes-on : (before after : ℕ) (command : Command) (reply : Reply) (m : State) (told : Statistics) (old new : ℕ → Figures) → GoesBy before told old → AreCounted command reply before after old new
     → GoesBy after (told_after (Serving m) (Ok command) (Some reply) before after told) new
 goes-on before after command reply m told old new g c = record {
   now = record {
@@ -70,9 +70,9 @@ goes-on before after command reply m told old new g c = record {
 }
 
 -- figures that are told may be told
-told-may : (o : Option Figures) (asks : ℕ) (told : Told) (now : Figures) → IfSome o (λ figures. figures ≡ now) → MayBeTold asks told now → IfSome o (MayBeTold asks told)
+told-may : (o : Option Figures) (asks : ℕ) (told : Statistics) (now : Figures) → IfSome o (λ figures. figures ≡ now) → MayBeTold asks told now → IfSome o (MayBeTold asks told)
 told-may None asks told now is may = tt
 told-may (Some f) asks told now is may = subst (MayBeTold asks told) (sym is) may
 
-pub may-tell : (before : ℕ) (command : Command) (reply : Reply) (told : Told) (old new : ℕ → Figures) (after : ℕ) → GoesBy before told old → AreCounted command reply before after old new → TellsFigures (Ok command) (Some reply) before told
+pub may-tell : (before : ℕ) (command : Command) (reply : Reply) (told : Statistics) (old new : ℕ → Figures) (after : ℕ) → GoesBy before told old → AreCounted command reply before after old new → TellsFigures (Ok command) (Some reply) before told
 may-tell before command reply told old new after g c = told-may (figures_in command reply) before told (old before) c.told g.now

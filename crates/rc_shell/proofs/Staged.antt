@@ -26,7 +26,7 @@ use Rattle.rc_lines.specs.declared.commands.Figures.{Figures}
 use Rattle.rc_folder.specs.Counting.{AreCounted, AreFresh}
 use Rattle.rc_folder.specs.Tabled.{Tabled}
 use Rattle.rc_shell.specs.calls.Feed.{Answered}
-use Rattle.rc_shell.specs.Step.{Moment, Stage, StoreView, Waiting, Serving, StageStep, LineStep, EndsRun, EndsRunAt, LeavesStore, MayAsk, MayHaveAsked, TellsFigures, Told, files_of, meaning_at, nothing_told, served, start_moment, bad_table, tells_fault, told_after}
+use Rattle.rc_shell.specs.Step.{Moment, Stage, StoreView, Waiting, Serving, StageStep, LineStep, EndsRun, EndsRunAt, LeavesStore, MayAsk, MayHaveAsked, TellsFigures, Statistics, files_of, meaning_at, nothing_told, served, start_moment, bad_table, tells_fault, told_after}
 use Rattle.rc_shell.specs.Late.{GoesBy, IsBudget, KeepsMoment, ServesAt, WaitsAt}
 use Rattle.rc_shell.specs.calls.Late.{schema_set}
 use Rattle.rc_shell.specs.calls.Standing.{MayClose}
@@ -49,10 +49,10 @@ abbrev CountsFaults : List ℕ → ℕ → ℕ → Type 0
 CountsFaults text before now = (before ≤ now) × (IsTrue (tells_fault text) → Rose before now)
 
 -- the moment behind a line
-next_moment : Moment → Stage → ℕ → ℕ → ℕ → Told → Moment
+next_moment : Moment → Stage → ℕ → ℕ → ℕ → Statistics → Moment
 next_moment old stage faults asks bound told = record { stage = stage; segments = old.segments; faults = faults; asks = asks; bound = old.bound + bound; told = told }
 
-line_step : (old : Moment) (line text : List ℕ) (was stage : Stage) (reply : Option Reply) (faults asks bound : ℕ) (told : Told) → old.stage ≡ was → StageStep old.segments was (meaning_at was line) reply text stage → CountsFaults text old.faults faults
+line_step : (old : Moment) (line text : List ℕ) (was stage : Stage) (reply : Option Reply) (faults asks bound : ℕ) (told : Statistics) → old.stage ≡ was → StageStep old.segments was (meaning_at was line) reply text stage → CountsFaults text old.faults faults
     → MayAsk was (meaning_at was line) bound → asks ≤ old.asks + bound → told ≡ told_after was (meaning_at was line) reply old.asks asks old.told → TellsFigures (meaning_at was line) reply old.asks old.told
     → LineStep old line text (next_moment old stage faults asks bound told)
 unfolding next_moment
@@ -71,7 +71,7 @@ waits : (segments : ℕ) (old : Moment) (store store' : StoreView) (bound : ℕ)
 unfolding next_moment
 waits segments old store store' bound s = (refl, refl, refl, s.3, s.4)
 
-leaves_behind : (old : Moment) (store : StoreView) (bound : ℕ) (told : Told) (m : State) → store.0 ≡ m.files → LeavesStore (next_moment old (Serving m) store.1 store.2 bound told) store
+leaves_behind : (old : Moment) (store : StoreView) (bound : ℕ) (told : Statistics) (m : State) → store.0 ≡ m.files → LeavesStore (next_moment old (Serving m) store.1 store.2 bound told) store
 unfolding next_moment
 leaves_behind old store bound told m same = (same, le_refl store.1, asked_nothing (Serving m) store.2)
 
@@ -180,7 +180,7 @@ begins_left words store = (refl, le_refl store.1, asked_nothing (Waiting store.0
 -- What the program keeps stands in a way of its own.
 module _ {Kept : Type 0} (Stands : Option Files → Kept → State → Type 0) (figures : Kept → ℕ → Figures) where
   -- what the program keeps stands where the stage does
-  serves : (old : Moment) (store : StoreView) (bound : ℕ) (told : Told) (k : Kept) (m : State) → Stands store.0 k m → GoesBy store.2 told (figures k) → ServesAt Stands figures k store (next_moment old (Serving m) store.1 store.2 bound told)
+  serves : (old : Moment) (store : StoreView) (bound : ℕ) (told : Statistics) (k : Kept) (m : State) → Stands store.0 k m → GoesBy store.2 told (figures k) → ServesAt Stands figures k store (next_moment old (Serving m) store.1 store.2 bound told)
   unfolding next_moment
   serves old store bound told k m s goes = (m, s, refl, refl, refl, goes)
 
@@ -271,7 +271,7 @@ module _ {Kept : Type 0} (Stands : Option Files → Kept → State → Type 0) (
     same_schema = sym (over store'.0 k' d.next d.stands).schema ∙ schema_stays s.0 command reply d.next (change_of s.0 command reply d.next d.step)
 
     -- what `stats` lines go by then
-    told_then : Told
+    told_then : Statistics
     told_then = told_after (Serving s.0) (Ok command) (Some reply) store.2 store'.2 old.told
 
     goes_then : GoesBy store'.2 told_then (figures k')

@@ -11,9 +11,9 @@ use Rattle.rc_machine.specs.State.{State}
 use Rattle.rc_machine.specs.Steps.{Steps}
 use Rattle.rc_machine.specs.laws.Changes.{Change, Reads, Writes, Seals, Begins, Stored, Goes, Ends, change_of}
 use Rattle.rc_folder.specs.Counting.{figures_in, is_answered}
-use Rattle.rc_shell.specs.Holding.{IsTelling, OfLines}
+use Rattle.rc_shell.specs.Holding.{IsWithinBounds, OfLines}
 use Rattle.rc_shell.specs.Run.{Answers}
-use Rattle.rc_shell.specs.Step.{LineStep, MayBeTold, Moment, Stage, StageStep, StoreView, TellsFigures, Told, Waiting, Serving, meaning_at, one_if, start_moment, told_after}
+use Rattle.rc_shell.specs.Step.{LineStep, MayBeTold, Moment, Stage, StageStep, StoreView, TellsFigures, Statistics, Waiting, Serving, meaning_at, one_if, start_moment, told_after}
 use Rattle.rc_shell.specs.Words.{segments_of}
 use Rattle.rc_shell.specs.declared.status.Status.{Status}
 use Rattle.rc_shell.specs.declared.words.Words.{Words}
@@ -57,17 +57,17 @@ told_budget m Stats reply new s = subst (λ r. IfSome (figures_in Stats r) (λ f
 -- ---- what is told
 
 -- over so many lines, where the store was asked so often
-record IsToldWell (n segments bound asked : ℕ) (told : Told) : Type 0 where
+record IsToldWell (n segments bound asked : ℕ) (told : Statistics) : Type 0 where
   within : asked ≤ told.opened + bound
   count : told.hits + told.misses ≤ n
-  last : IfSome told.last (IsTelling n segments bound)
+  last : IfSome told.last (IsWithinBounds n segments bound)
 
-telling_more : (n segments bound more : ℕ) (o : Option Figures) → IfSome o (IsTelling n segments bound) → IfSome o (IsTelling (suc n) segments (bound + more))
+telling_more : (n segments bound more : ℕ) (o : Option Figures) → IfSome o (IsWithinBounds n segments bound) → IfSome o (IsWithinBounds (suc n) segments (bound + more))
 telling_more n segments bound more None h = tt
 telling_more n segments bound more (Some f) h = record { budget = h.budget; answers = let a = h.answers in omega (arith, a); asks = let a = h.asks in omega (arith, a) }
 
 -- nothing is counted
-same_told : (n segments bound more asked asked' : ℕ) (told : Told) → asked' ≤ asked + more → IsToldWell n segments bound asked told → IsToldWell (suc n) segments (bound + more) asked' told
+same_told : (n segments bound more asked asked' : ℕ) (told : Statistics) → asked' ≤ asked + more → IsToldWell n segments bound asked told → IsToldWell (suc n) segments (bound + more) asked' told
 same_told n segments bound more asked asked' told few h = record {
   within = let a = h.within in omega (arith, a, few);
   count = let a = h.count in omega (arith, a);
@@ -80,21 +80,21 @@ one-more true false h m n le = omega (arith, le)
 one-more false same h m n le = omega (arith, le)
 
 -- what may be told is within
-may_within : (n segments bound asked : ℕ) (told : Told) (f : Figures) → IsToldWell n segments bound asked told → MayBeTold asked told f → f.segments + f.free ≡ segments → IsTelling n segments bound f
+may_within : (n segments bound asked : ℕ) (told : Statistics) (f : Figures) → IsToldWell n segments bound asked told → MayBeTold asked told f → f.segments + f.free ≡ segments → IsWithinBounds n segments bound f
 may_within n segments bound asked told f h may budget = record {
   budget = budget;
   answers = let a = h.count in let x = may.hits in let y = may.misses in let i = min-le_left told.hits (2 ^ 64 - 1) in let j = min-le_left told.misses (2 ^ 64 - 1) in omega (arith, a, x, y, i, j);
   asks = let a = h.within in let x = may.asks in omega (arith, a, x);
 }
 
-last_within : (n segments bound asked : ℕ) (told : Told) (m : State) (o : Option Figures) → m.segments ≡ segments → IsToldWell n segments bound asked told → IfSome o (MayBeTold asked told) → IfSome o (IsBudgetOf m) → IfSome (option_or o told.last) (IsTelling n segments bound)
+last_within : (n segments bound asked : ℕ) (told : Statistics) (m : State) (o : Option Figures) → m.segments ≡ segments → IsToldWell n segments bound asked told → IfSome o (MayBeTold asked told) → IfSome o (IsBudgetOf m) → IfSome (option_or o told.last) (IsWithinBounds n segments bound)
 unfolding IsBudgetOf
 last_within n segments bound asked told m None is h may budget = h.last
 last_within n segments bound asked told m (Some f) is h may budget = may_within n segments bound asked told f h may (budget ∙ is)
 
-module _ (n segments bound more asked asked' : ℕ) (told : Told) (few : asked' ≤ asked + more) (h : IsToldWell n segments bound asked told) where
+module _ (n segments bound more asked asked' : ℕ) (told : Statistics) (few : asked' ≤ asked + more) (h : IsToldWell n segments bound asked told) where
   -- so after a line
-  IsAfter : Stage → Told → Type 0
+  IsAfter : Stage → Statistics → Type 0
   IsAfter stage now = HasBudget segments stage × IsToldWell (suc n) segments (bound + more) asked' now
 
   stays : (stage stage' : Stage) → stage' ≡ stage → HasBudget segments stage → IsAfter stage' told
@@ -140,9 +140,9 @@ lines_after n old new [] (text ∷ texts) a h = absurd a
 lines_after n old new (line ∷ lines) [] a h = absurd a
 
 pub told_within : (words : Words) (before after : StoreView) (status : Status) (taken written : List ℕ) (l : OfLines words before after status taken written)
-    → IfSome l.end.told.last (IsTelling (length l.lines) (segments_of words) l.end.bound)
+    → IfSome l.end.told.last (IsWithinBounds (length l.lines) (segments_of words) l.end.bound)
 unfolding IsMomentOf HasBudget
 told_within words before after status taken written l =
     let r = lines_after 0 (start_moment words before) l.end l.lines l.texts l.answered (tt, record { within = omega arith; count = omega arith; last = tt }) in
     let e : 0 + length l.lines ≡ length l.lines = omega arith in
-    subst (λ k. IfSome l.end.told.last (IsTelling (length l.lines) k l.end.bound)) r.1 (subst (λ n. IfSome l.end.told.last (IsTelling n l.end.segments l.end.bound)) e r.0.1.last)
+    subst (λ k. IfSome l.end.told.last (IsWithinBounds (length l.lines) k l.end.bound)) r.1 (subst (λ n. IfSome l.end.told.last (IsWithinBounds n l.end.segments l.end.bound)) e r.0.1.last)

@@ -2,7 +2,7 @@
 --     OfLines          the lines that were answered, their texts, and the moment behind them
 --     HoldsFlushed     the files after are those before and the tables that were flushed, which hold accepted writes
 --     tells_damage     whether a text tells a damaged table
---     IsTelling        what figures tell over so many lines
+--     IsWithinBounds        what figures tell over so many lines
 use Rattle.std.specs.Prelude.{◌≡◌, ◌⊎◌, ℕ, ◌+◌, ◌-◌, ◌^◌, ◌≤◌, min, Bool, List, [], ◌∷◌, ◌++◌, take, All, Some, Result, Ok, codes, count_by, if◌then◌else◌}
 use Rattle.std.specs.List.{concat}
 use Rattle.std.specs.FinMap as map
@@ -52,7 +52,7 @@ pub record OfLines (words : Words) (before after : StoreView) (status : Status) 
 
 -- Figures that were told over so many lines, in a run of a budget of segments, whose lines may have asked for so many ranges: their segments are the
 -- budget together, there are no more answers than lines, and no more was asked for.
-pub record IsTelling (lines segments bound : ℕ) (figures : Figures) : Type 0 where
+pub record IsWithinBounds (lines segments bound : ℕ) (figures : Figures) : Type 0 where
   pub budget : figures.segments + figures.free ≡ segments
   pub answers : figures.hits + figures.misses ≤ lines
   pub asks : figures.asks ≤ bound

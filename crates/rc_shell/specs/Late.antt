@@ -3,14 +3,14 @@ use Rattle.std.specs.Prelude.{◌≡◌, ℕ, ◌-◌, ◌≤◌, Option, Some, 
 use Rattle.rc_outside.specs.Files.{Files}
 use Rattle.rc_lines.specs.declared.commands.Figures.{Figures}
 use Rattle.rc_machine.specs.State.{State}
-use Rattle.rc_shell.specs.Step.{MayBeTold, Moment, StoreView, Told, Waiting, Serving}
+use Rattle.rc_shell.specs.Step.{MayBeTold, Moment, StoreView, Statistics, Waiting, Serving}
 
 -- a budget of memory that a machine may have, in segments
 abbrev pub IsBudget : ℕ → Type 0
 IsBudget segments = (4 ≤ segments) × (segments ≤ 4096)
 
 -- what a machine tells of itself, by how often the store was asked, may be told where it was asked so often, and asks are counted from where it was opened
-pub record GoesBy (asked : ℕ) (told : Told) (figures : ℕ → Figures) : Type 0 where
+pub record GoesBy (asked : ℕ) (told : Statistics) (figures : ℕ → Figures) : Type 0 where
   pub now : MayBeTold asked told (figures asked)
   pub asks : (n : ℕ) → (figures n).asks ≡ n - told.opened
 

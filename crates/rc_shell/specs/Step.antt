@@ -1,5 +1,5 @@
 -- One line: its meaning, what it does at each stage of a run, and its text.
---     Told, told_after    what `stats` lines go by, and what a line adds to it
+--     Statistics, told_after    what `stats` lines go by, and what a line adds to it
 --     Moment              what holds between two lines
 --     LineStep            what a line is answered, and the next moment
 --     EndsRun                the lines that end the run
@@ -37,14 +37,14 @@ pub data Stage : Type 0 where
 
 -- what `stats` lines go by: how many ranges the store had been asked for when the machine was opened; how many `open` and `read` lines were answered
 -- for which it was asked for none, and for how many for some; and the figures that were told last
-pub record Told : Type 0 where
+pub record Statistics : Type 0 where
   pub opened : ℕ
   pub hits : ℕ
   pub misses : ℕ
   pub last : Option Figures
 
 -- before any was answered, of a machine that was opened when the store had been asked for so many
-abbrev pub nothing_told : ℕ → Told
+abbrev pub nothing_told : ℕ → Statistics
 nothing_told opened = record { opened = opened; hits = 0; misses = 0; last = None }
 
 -- a moment of a run: its stage; the budget, in segments; the store's count of faults, and how many ranges it was asked for; at most how many the
@@ -55,7 +55,7 @@ pub record Moment : Type 0 where
   pub faults : ℕ
   pub asks : ℕ
   pub bound : ℕ
-  pub told : Told
+  pub told : Statistics
 
 -- what is seen of a store: its files, where it tells them, its count of faults, and how many ranges it was asked for
 abbrev pub StoreView : Type 0
@@ -96,9 +96,8 @@ abbrev pub StageStep : ℕ → Stage → Result Command Refusal → Option Reply
 StageStep segments (Waiting files) (Ok Nothing) reply text new = (text ≡ []) × (new ≡ Waiting files) × (reply ≡ None)
 StageStep segments (Waiting files) (Ok (SetSchema schema)) reply text new =
     (tables : List Table) × (infos : List TableInfo) × AreTables files schema tables × AreListed files schema tables infos × (text ≡ reply_text schema Fine) × (new ≡ Serving (opened_state segments files schema tables infos)) × (reply ≡ None)
-StageStep segments (Waiting files) (Ok command) reply text new = ⊥
 StageStep segments (Serving m) (Ok command) (Some reply) text new = (next : State) × Steps m command reply next × (text ≡ reply_text m.schema reply) × (new ≡ Serving next)
-StageStep segments (Serving m) (Ok command) None text new = ⊥
+StageStep segments stage (Ok command) reply text new = ⊥
 StageStep segments stage (Err refusal) reply text new = (text ≡ refusal_text refusal) × (new ≡ stage) × (reply ≡ None)
 
 -- At most so many ranges may be asked for by a line, by its meaning: before a schema line was taken by the check of each file, where they
@@ -114,7 +113,7 @@ one_if more = if more then 1 else 0
 
 -- What `stats` lines go by after a line, by its meaning and the machine's reply, where the store had been asked for so many ranges before and after it:
 -- a schema line that opens the machine begins anew, and an answer is counted by whether it asked for any.
-abbrev pub told_after : Stage → Result Command Refusal → Option Reply → ℕ → ℕ → Told → Told
+abbrev pub told_after : Stage → Result Command Refusal → Option Reply → ℕ → ℕ → Statistics → Statistics
 told_after (Waiting files) (Ok (SetSchema schema)) reply before after told = nothing_told after
 told_after (Serving m) (Ok command) (Some reply) before after told = record {
   opened = told.opened;
@@ -126,14 +125,14 @@ told_after stage meaning reply before after told = told
 
 -- These figures may be told where the store was asked for so many ranges: the answers that were counted, each count up to the greatest that it has;
 -- the ranges that were asked for since the machine was opened; and no counter is less than it was when figures were told last.
-pub record MayBeTold (asked : ℕ) (told : Told) (figures : Figures) : Type 0 where
+pub record MayBeTold (asked : ℕ) (told : Statistics) (figures : Figures) : Type 0 where
   pub hits : figures.hits ≡ min told.hits (2 ^ 64 - 1)
   pub misses : figures.misses ≡ min told.misses (2 ^ 64 - 1)
   pub asks : figures.asks ≡ asked - told.opened
   pub none_fell : IfSome told.last (λ last. NoneFell last figures)
 
 -- so of the figures of a line's reply, where that is one to `stats`
-abbrev pub TellsFigures : Result Command Refusal → Option Reply → ℕ → Told → Type 0
+abbrev pub TellsFigures : Result Command Refusal → Option Reply → ℕ → Statistics → Type 0
 TellsFigures (Ok command) (Some reply) asks told = IfSome (figures_in command reply) (MayBeTold asks told)
 TellsFigures meaning reply asks told = ⊤
 

@@ -6,7 +6,7 @@ ghost use Rattle.rc_shell.specs.Run.{Ran};
 ghost use Rattle.rc_shell.specs.Step.{StoreView, LineStep, EndsRun, LeavesStore, MayHaveAsked, start_moment};
 ghost use Rattle.rc_shell.specs.Words.{segments_of};
 ghost use Rattle.rc_shell.specs.Lines.{IsLine, BeginsWithLines};
-ghost use Rattle.rc_shell.specs.Holding.{OfLines, HoldsFlushed, IsTelling, tells_damage};
+ghost use Rattle.rc_shell.specs.Holding.{OfLines, HoldsFlushed, IsWithinBounds, tells_damage};
 ghost use Rattle.rc_shell.specs.declared.status.Status.{Status};
 ghost use Rattle.rc_shell.specs.declared.words.Words.{Words};
 
@@ -48,5 +48,5 @@ pub fn asks_are_bounded()
 /// were answered than there were lines, and no more ranges were asked for than these may ask for.
 pub fn figures_are_within_bounds()
     ensures { (words : Words) (before after : StoreView) (status : Status) (taken written : List ℕ) (l : OfLines words before after status taken written) →
-        IfSome l.end.told.last (IsTelling (length l.lines) (segments_of words) l.end.bound) }
+        IfSome l.end.told.last (IsWithinBounds (length l.lines) (segments_of words) l.end.bound) }
 {}
