@@ -1,0 +1,2 @@
+-- Laws of what is filled.
+pub mod Opening
