@@ -59,13 +59,16 @@ given-is row is = elim (is_written row) as (λ b. IfSome (cond b (Some row) None
 
 -- the new version alone, before and after its static row is filled
 module _ (pt : Option Tomb) (phase : ℕ) where
-  abbrev bare : Version
+  abbrev pub bare : Version
   bare = version_of Unknown pt phase
+
+  pub bare-within : (row : Row) → IsRow row → IsWithin (static_state bare) (row, None)
+  bare-within row is = (joined_row-one row is, greatest-none tomb_cmp)
 
   only : (v w : Version) → Contains (w ∷ []) v → v ≡ w
   only v w on = elim (elem-cases w v [] on) [ inl same ↦ sym same | inr none ↦ absurd (elem-none v none) ]
 
-  fits-filled : (S : ℕ) (g : Option Row) → FitTogether S (bare ∷ []) → IfSome g IsRow → statics_bytes g ≤ S / 8 → FitTogether S (fill_statics g bare ∷ [])
+  pub fits-filled : (S : ℕ) (g : Option Row) → FitTogether S (bare ∷ []) → IfSome g IsRow → statics_bytes g ≤ S / 8 → FitTogether S (fill_statics g bare ∷ [])
   fits-filled S g fit is small = record {
     rows = λ x one rows each. fit.rows x one rows (λ row on. let has = each row on in
         (bare, has.1, elem-first bare [], subst (λ (v : Version). Contains v.entries has.1) (only has.0 (fill_statics g bare) has.2) has.3, has.4, has.5));
@@ -90,7 +93,7 @@ module _ (id phase : ℕ) (pt : Option Tomb) (old mid : Memory) (made : IsChainM
   made-has = subst (λ (o : Option KeptChain). IsSomeAnd o (λ k. 0 < length k.chain.versions)) (sym made-there) (omega arith)
 
   pub made-within : (row : Row) → IsRow row → OfVersion mid id 0 (λ k v. IsWithin (static_state v) (row, None))
-  made-within row is k v e at = subst (λ w. IsWithin (static_state w) (row, None)) (sym (made-version k v e at)) (joined_row-one row is, greatest-none tomb_cmp)
+  made-within row is k v e at = subst (λ w. IsWithin (static_state w) (row, None)) (sym (made-version k v e at)) (bare-within pt phase row is)
 
   pub made-fits : (S : ℕ) (g : Option Row) → ChainsFit S mid → IfSome g IsRow → statics_bytes g ≤ S / 8 → FitsChanged S id 0 (fill_statics g) mid
   made-fits S g fit is small = subst (λ (o : Option KeptChain). IfSome o (λ k. FitTogether S (on_version 0 (fill_statics g) k.chain.versions))) (sym made-there)
