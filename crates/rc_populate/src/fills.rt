@@ -1,4 +1,4 @@
-//! What is filled into the newest version of a chain.
+//! What is filled into the newest version of a chain. As in ScyllaDB's row cache a snapshot fills the newest version alone, which has its source; there one flag says it of a row and of the gap before it, here each has its own.
 ghost use Rattle.std.specs.Prelude.{◌≡◌, ◌+◌, ◌-◌, ◌/◌, ◌≤◌, ℕ, None};
 ghost use Rattle.lsa_pool.specs.Room.{spare_of};
 ghost use Rattle.lsa_region.specs.Region.{live_bytes};

@@ -1,4 +1,4 @@
-//! Cache chains that are opened by what stands at the head of a partition.
+//! Cache chains that are opened by what stands at the head of a partition: as in ScyllaDB's row cache the partition tombstone is complete from then on, and the static row known.
 ghost use Rattle.std.specs.Prelude.{◌≡◌, ◌+◌, ◌/◌, ◌≤◌, IfOk, OnErr};
 ghost use Rattle.lsa_pool.specs.Room.{spare_of};
 ghost use Rattle.rc_rowcode.specs.Spelling.{RowFits};
