@@ -1,5 +1,5 @@
 -- A snapshot that was taken is there, and the chain has the versions that it had; and what may be filled into a chain that knows nothing.
-use Rattle.std.proofs.Common.{◌≡◌, ◌<◌, ◌≤◌, ◌/◌, ℕ, suc, true, List, [], ◌∷◌, ◌++◌, Option, Some, None, length, IsSome, slice_index_or, refl, sym, ap, ◌∙◌, subst, arith}
+use Rattle.std.proofs.Common.{◌≡◌, ◌≤◌, ◌/◌, ℕ, suc, true, List, [], ◌∷◌, ◌++◌, Option, Some, None, length, IsSome, slice_index_or, refl, sym, ap, ◌∙◌, subst, arith}
 use Rattle.std.specs.Prelude.{Contains, IfSome, IsSomeAnd}
 use Rattle.std.specs.Option.{option_map}
 use Rattle.rc_cell.specs.declared.rows.Row.{Row}
