@@ -15,11 +15,8 @@ use Rattle.rc_memory.specs.Changes.{FitsChanged, IsVersionChanged, OfVersion}
 use Rattle.rc_memory.specs.laws.At.{number-there}
 use Rattle.rc_memory.specs.laws.Places.{same_some}
 use Rattle.rc_chain.specs.laws.Numbered.{on-newest}
+use Rattle.rc_populate.specs.laws.Opening.{some-and}
 use Rattle.rc_populate.specs.Filling.{IsFilled, MayFill, OfPinned, on_newest_of}
-
-some-and : {X : Type 0} (o : Option X) (P : X → Type 0) → IsSomeAnd o P → (x : X) × (o ≡ Some x) × P x
-some-and None P h = absurd h
-some-and (Some x) P h = (x, refl, h)
 
 is-some : {X : Type 0} (o : Option X) (P : X → Type 0) → IsSomeAnd o P → IsSome o
 is-some None P h = absurd h

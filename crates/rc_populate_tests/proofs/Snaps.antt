@@ -21,7 +21,7 @@ use Rattle.rc_memory.specs.laws.Places.{heads, tails}
 use Rattle.rc_memory.specs.laws.Put.{put-at}
 use Rattle.rc_chain.specs.Lives.{IsChainMade, chain_of_new}
 use Rattle.rc_populate.specs.Filling.{IsEntryOpened, OfPinned, chain_opened, given}
-use Rattle.rc_populate.specs.laws.Opening.{bare-within, fits-filled, given-is}
+use Rattle.rc_populate.specs.laws.Opening.{bare-within, fits-filled, given-is, some-and}
 
 -- ---- a chain that came to be
 
@@ -56,10 +56,6 @@ module _ (old new : Memory) (id chain pin phase : ℕ) (k : KeptChain) (e : chai
   taken-versions vs is = subst (λ (o : Option KeptChain). IsSomeAnd o (λ k. k.chain.versions ≡ vs)) (sym taken-at) is
 
 -- ---- a chain that knows nothing
-
-some-and : {X : Type 0} (o : Option X) (P : X → Type 0) → IsSomeAnd o P → (x : X) × (o ≡ Some x) × P x
-some-and None P h = absurd h
-some-and (Some x) P h = (x, refl, h)
 
 some-of : {X : Type 0} (o : Option X) → IsSome o → (x : X) × (o ≡ Some x)
 some-of None h = absurd (cc)

@@ -36,7 +36,8 @@ put-put [] (suc n) a b = ap (λ l. None ∷ l) (put-put [] n a b)
 put-put (x ∷ xs) zero a b = refl
 put-put (x ∷ xs) (suc n) a b = ap (λ l. x ∷ l) (put-put xs n a b)
 
-some-and : {X : Type 0} (o : Option X) (P : X → Type 0) → IsSomeAnd o P → (x : X) × (o ≡ Some x) × P x
+-- what holds of what is there
+pub some-and : {X : Type 0} (o : Option X) (P : X → Type 0) → IsSomeAnd o P → (x : X) × (o ≡ Some x) × P x
 some-and None P h = absurd h
 some-and (Some x) P h = (x, refl, h)
 
