@@ -3,6 +3,8 @@ use Rattle.std.proofs.Common.{◌≡◌, ◌≤◌, ◌+◌, ◌/◌, ℕ, true,
 use Rattle.std.specs.Option.{option_to_list}
 use Rattle.lsa_pool.specs.Room.{spare_of}
 use Rattle.rc_cell.specs.declared.rows.Row.{Row}
+use Rattle.rc_cell.specs.declared.writes.Tomb.{Tomb}
+use Rattle.rc_position.specs.declared.positions.Pos.{Pos}
 use Rattle.rc_cell.specs.Winner.{empty_row, joined_row}
 use Rattle.rc_cell.specs.laws.{joined_row-comm}
 use Rattle.rc_rowcode.specs.Objects.{static_size}
@@ -12,8 +14,8 @@ use Rattle.rc_core.specs.declared.entries.Flag.TheVariants.{Known}
 use Rattle.rc_core.specs.Change.{joined_onto}
 use Rattle.rc_core.specs.Continuity.{IsWithin, fill_statics}
 use Rattle.rc_core.specs.Steps.{join_flagged_statics, set_static_flag}
-use Rattle.rc_core.specs.Version.{static_state}
-use Rattle.rc_version.specs.Versions.{statics_bytes}
+use Rattle.rc_core.specs.Version.{On, seen, state_at, static_state}
+use Rattle.rc_version.specs.Versions.{bytes_at, joined_bytes, statics_bytes}
 use Rattle.rc_memory.specs.Memory.{HasVersion, Memory}
 use Rattle.rc_memory.specs.laws.At.{found-version}
 use Rattle.rc_memory.specs.Changes.{AtAlone, FitsChanged, IsRenewed, IsVersionChanged, Nowhere, OfVersion, member}
@@ -70,3 +72,11 @@ module _ (S : ℕ) (m : Memory) (id j : ℕ) (row : Row) where
 -- what is spare is as it was where nothing was made
 pub none-left : (S : ℕ) (m : Memory) (row : Row) (n : Memory) → spare_of S n.region.usages ≡ spare_of S m.region.usages → spare_of S m.region.usages ≤ spare_of S n.region.usages + statics_bytes (given row)
 none-left S m row n e = omega (arith, e)
+
+-- a row that is filled at a position, where the version holds no more there: both join to it
+module _ (S : ℕ) (m : Memory) (id j : ℕ) (x : Pos) (row : Row) (tomb : Option Tomb) (source : OfVersion m id j (λ k v. IsWithin (state_at (On x) v) (row, tomb))) where
+  pub row-spare : bytes_at x (Some row) ≤ spare_of S m.region.usages → OfVersion m id j (λ k v. joined_bytes x row v ≤ spare_of S m.region.usages)
+  row-spare h k v e at = subst (λ r. bytes_at x (Some r) ≤ spare_of S m.region.usages) (sym (joined-within (seen (On x) v.entries).row row (source k v e at).0)) h
+
+  pub row-left : (n : Memory) → HasVersion m id j → OfVersion m id j (λ k v. spare_of S m.region.usages ≤ spare_of S n.region.usages + joined_bytes x row v) → spare_of S m.region.usages ≤ spare_of S n.region.usages + bytes_at x (Some row)
+  row-left n has h = let f = found-version m id j has in subst (λ r. spare_of S m.region.usages ≤ spare_of S n.region.usages + bytes_at x (Some r)) (joined-within (seen (On x) f.1.entries).row row (source f.0 f.1 f.2 f.3).0) (h f.0 f.1 f.2 f.3)

@@ -1,5 +1,5 @@
 -- A snapshot that may fill pins the newest version of its chain; and what was done to that version is done to the newest.
-use Rattle.std.proofs.Common.{◌≡◌, ◌<◌, ◌-◌, ℕ, suc, Option, Some, None, length, refl, sym, ap, ◌∙◌, subst, arith}
+use Rattle.std.proofs.Common.{◌≡◌, ◌<◌, ◌-◌, ℕ, suc, false, Option, Some, None, length, refl, sym, ap, ◌∙◌, subst, arith}
 use Rattle.std.specs.Prelude.{IfSome, IsSome, IsSomeAnd}
 use Rattle.std.specs.Option.{option_map}
 use Rattle.lsa_region.specs.Region.{live_bytes}
@@ -16,6 +16,7 @@ use Rattle.rc_memory.specs.laws.At.{number-there}
 use Rattle.rc_memory.specs.laws.Places.{same_some}
 use Rattle.rc_chain.specs.laws.Numbered.{on-newest}
 use Rattle.rc_populate.specs.laws.Opening.{some-and}
+use Rattle.rc_populate.proofs.Changed.{settled-of}
 use Rattle.rc_populate.specs.Filling.{IsFilled, MayFill, OfPinned, on_newest_of}
 
 is-some : {X : Type 0} (o : Option X) (P : X → Type 0) → IsSomeAnd o P → IsSome o
@@ -41,6 +42,10 @@ module _ (m : Memory) (id pin : ℕ) (may : MayFill m id pin) where
 
     pub newest-number : (k : KeptChain) → chain_at m id ≡ Some k → suc j ≡ length k.chain.versions
     newest-number k e = (populates k e).newest
+
+    -- no update stands in the chain
+    pub settled : (k : KeptChain) → chain_at m id ≡ Some k → k.chain.updating ≡ false
+    settled k e = settled-of k.chain.updating (populates k e).settled
 
     pub has-newest : HasVersion m id j
     has-newest = let own = some-and (chain_at m id) (λ k. IsSomeAnd (pin_at k.chain.pins pin) (MayPopulate (at_place Head k.chain))) may in

@@ -21,7 +21,7 @@ use Rattle.rc_core.specs.Steps.{MayPopulate, on_newest, opened_version, pin_at}
 use Rattle.rc_core.specs.Version.{Version, end_position}
 use Rattle.rc_registry.specs.Registry.{IsNumberIn, put}
 use Rattle.rc_memory.specs.Memory.{KeptChain, Member, Memory, IsVersionAt, chain_at, counts_raised, on_chain, on_shown, shown_with}
-use Rattle.rc_memory.specs.Changes.{IsRenewed, IsUnmoved, StandStill, member}
+use Rattle.rc_memory.specs.Changes.{IsRenewed, IsRenewedWhereNone, IsUnmoved, StandStill, member}
 
 -- the snapshot of a number pins the newest version of a chain that is found by its key and is not under update
 abbrev pub MayFill : Memory → ℕ → ℕ → Type 0
@@ -55,6 +55,10 @@ pub record IsFilled (id : ℕ) (f : Version → Version) (these : Member → Typ
 abbrev pub IsGivenListed : ChainKind → Option Row → Member → List Member → List Member → Type 0
 IsGivenListed kind None w old new = new ≡ old
 IsGivenListed kind (Some row) w old new = IsRenewed kind w old new
+
+-- what becomes of the recency list where a gap is filled: at each of its ends, first at the lower one, a dummy was made where the version has no entry there
+abbrev pub AreBoundsListed : ChainKind → Version → Member → Member → List Member → List Member → Type 0
+AreBoundsListed kind v from to old new = (mid : List Member) × IsRenewedWhereNone kind v from old mid × IsRenewedWhereNone kind v to mid new
 
 -- a cache chain of one version, whose head is given, and of which all else is Unknown; found by its key, not under update, pinned by nobody
 abbrev pub chain_opened : Option Tomb → Option Row → ℕ → KeptChain

@@ -37,7 +37,7 @@ pub(crate) fn put_static<const S: usize>(chains: &mut Chains<S>, id: u64, number
 }
 
 // Counts the bytes by which less is live than there was before.
-fn count_shrunk<const S: usize>(chains: &mut Chains<S>, before: usize)
+pub(crate) fn count_shrunk<const S: usize>(chains: &mut Chains<S>, before: usize)
     ensures { chains.new ≡ counts_raised 0 0 (before - live_bytes chains.old.region) chains.old }
 {
     let now = chains.region().live();

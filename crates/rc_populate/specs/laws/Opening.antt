@@ -30,7 +30,7 @@ use Rattle.rc_memory.specs.laws.Still.{still-then, still-wider, unmoved-then}
 use Rattle.rc_chain.specs.Lives.{IsChainMade, chain_of_new, with_end_listed}
 use Rattle.rc_populate.specs.Filling.{IsEntryOpened, IsGivenListed, chain_opened, given, opened_places}
 
-put-put : {X : Type 0} (xs : List (Option X)) (n : ℕ) (a b : Option X) → put n a (put n b xs) ≡ put n a xs
+pub put-put : {X : Type 0} (xs : List (Option X)) (n : ℕ) (a b : Option X) → put n a (put n b xs) ≡ put n a xs
 put-put [] zero a b = refl
 put-put [] (suc n) a b = ap (λ l. None ∷ l) (put-put [] n a b)
 put-put (x ∷ xs) zero a b = refl
