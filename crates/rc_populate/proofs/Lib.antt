@@ -1,0 +1,5 @@
+mod Newest
+mod Given
+mod Pinned
+mod Changed
+mod Marking

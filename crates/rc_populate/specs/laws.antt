@@ -1,0 +1,3 @@
+-- Laws of what is filled.
+pub mod Filled
+pub mod Opening
