@@ -1,0 +1,5 @@
+mod Versions
+mod Seen
+mod Chains
+mod Idle
+mod Together
