@@ -1,5 +1,5 @@
 -- What a step may change of a state, by cases: every law over steps goes by these.
-use Rattle.std.proofs.Common.{◌≡◌, inl, inr, ℕ, ◌-◌, ◌==◌, nat_lt, Bool, true, false, not, List, [], ◌∷◌, ◌++◌, length, Option, Some, None, MatchBool, MatchOption, refl, ap}
+use Rattle.std.proofs.Common.{◌≡◌, ◌≢◌, ◌⊎◌, inl, inr, ℕ, ◌-◌, ◌==◌, nat_lt, Bool, true, false, not, List, [], ◌∷◌, ◌++◌, length, Option, Some, None, MatchBool, MatchOption, refl, ap, ◌∙◌}
 use Rattle.std.specs.List.{filter}
 use Rattle.rc_position.specs.declared.slices.Slice.{Slice}
 use Rattle.rc_mutation.specs.declared.mutations.Partition.{Partition}
