@@ -4,5 +4,6 @@ mod Standing
 mod Taking
 mod Flushing
 mod Opening
+mod Pinned
 mod Closing
 pub mod Counted

@@ -1,3 +1,4 @@
 pub mod Stands
 pub mod Counting
+pub mod Opening
 pub mod calls

@@ -27,6 +27,7 @@ ghost use Rattle.rc_folder.specs.Counting.{AreCounted, AreFresh, figures_in};
 ghost use Rattle.rc_folder.specs.Opening.{IsOpeningRefused, OnOpenFault};
 ghost use Rattle.rc_folder.specs.Tabled.{IsNextNumber};
 ghost use Rattle.rc_shard.specs.Counting.{figures_of};
+ghost use Rattle.rc_shard.specs.Opening.{IsOnePinned, IsOpenedAsTold, PinsPartition};
 ghost use Rattle.rc_shard.specs.Stands.{AreOfTwo, AreTwo, IsFullAsTold, holding};
 ghost use Rattle.rc_shard.specs.calls.Keeping.{CountsStay, Keeps, TellsOf};
 ghost use Rattle.rc_shard.specs.calls.Storing.{IsFlushAnswered, IsKept};
@@ -131,6 +132,7 @@ impl Machine for Shard {
         ensures faults { FaultsAreCounted result (W.faults store.old) (W.faults store.new) }
         ensures asks { W.asks store.new ≤ W.asks store.old + most_asks self.old.folder.infos command.now }
         ensures full { IfOk result (λ reply. IsFullAsTold command.now reply self.old.folder.schema self.new.unstored) }
+        ensures pins { IfOk result (λ reply. IsOpenedAsTold command.now reply self.old.readers.items self.old.unstored self.new.readers.items self.new.unstored) }
         ensures figures { IfOk result (λ reply. AreCounted command.now reply (W.asks store.old) (W.asks store.new) (figures_of self.old) (figures_of self.new)) }
     {
         let before = store.asks();
@@ -196,6 +198,7 @@ impl Shard {
         ensures faults { FaultsAreCounted result (W.faults store.old) (W.faults store.new) }
         ensures asks { W.asks store.new ≤ W.asks store.old + most_asks self.old.folder.infos command.now }
         ensures full { IfOk result (λ reply. IsFullAsTold command.now reply self.old.folder.schema self.new.unstored) }
+        ensures pins { IfOk result (λ reply. IsOpenedAsTold command.now reply self.old.readers.items self.old.unstored self.new.readers.items self.new.unstored) }
         ensures counts { CountsStay self.old self.new }
         ensures told { IfOk result (λ reply. IfSome (figures_in command.now reply) (λ figures. figures ≡ figures_of self.old (W.asks store.old))) }
     {
@@ -270,6 +273,7 @@ impl Shard {
         ensures faults { FaultsAreCounted result (W.faults store.old) (W.faults store.new) }
         ensures store { HoldsSameFiles W.files W.building store.old store.new }
         ensures asks { W.asks store.new ≤ W.asks store.old + 2 * listing key.now self.old.folder.infos }
+        ensures pins { IfOk result (λ reply. IsOpenedAsTold (Command.OpenRead id key.now slice.now) reply self.old.readers.items self.old.unstored self.new.readers.items self.new.unstored) }
         ensures counts { CountsStay self.old self.new }
     {
         if place_of(self.readers.as_slice(), id).is_some() {
@@ -296,6 +300,7 @@ impl Shard {
         requires stands { (files : Option Files) × (m : State) × ⟦<Shard as Machine>⟧.stands files self.old m }
         requires unused { position (λ reader. reader.0 == id) self.old.readers.items ≡ None }
         ensures fine { IfOk result (λ reply. reply ≡ Reply.Fine) }
+        ensures pins { IfOk result (λ _. IsOnePinned id key.now self.old.readers.items self.old.unstored self.new.readers.items self.new.unstored) }
         ensures opened { (files : Option Files) (m : State) (said : List Change) → ⟦<Shard as Machine>⟧.stands files self.old m → IsJoinOf tables.now said →
             IfOk result (λ _. ⟦<Shard as Machine>⟧.stands files self.new (record m { readers = m.readers ++ (id, reader_with m key.now slice.now (answer (said ++ changes_to key.now (unstored m)) slice.now)) ∷ [] })) }
         ensures err { OnErr result (Keeps ⟦<Shard as Machine>⟧.stands self.old self.new) }
@@ -411,6 +416,7 @@ fn open_in(
         IfOk result (λ o. ⟦<Opened as Leaves<Chains<131_072>>>⟧.lines o unstored.new.chains (answer (said ++ (changes_to key.now writes ++ changes_to key.now later)) slice.now)) }
     ensures there { IfOk result (λ o. AreThere unstored.new.chains (snaps_of o)) }
     ensures two { IfOk result (λ o. AreOfTwo (snaps_of o)) }
+    ensures pins { IfOk result (PinsPartition key.now unstored.old unstored.new) }
     ensures fresh { IfOk result (λ o. (s : Snapshot) → HasPin unstored.old.chains s.chain s.pin → IsNoneOf (snaps_of o) s) }
     ensures kept { (schema : SchemaValue) → IsKept schema unstored.old unstored.new }
 {

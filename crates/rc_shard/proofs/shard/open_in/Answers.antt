@@ -5,6 +5,7 @@ use Rattle.rc_chain.specs.declared.chains.Snap.{Snap}
 use Rattle.rc_mutation.specs.Source.{changes_to}
 use Rattle.rc_snapshots.specs.declared.snaps.Snaps.{Snaps}
 use Rattle.rc_unstored.specs.Readers.{IsNoneOf}
+use Rattle.rc_shard.proofs.Pinned.{pinned-in}
 use Rattle.rc_shard.proofs.Standing.{kept-back, kept-in, none-of-new}
 use Rattle.rc_shard.proofs.shard.open_in.Goals as goal
 
@@ -45,3 +46,8 @@ returns-in-Err-clause-kept c = λ schema.
 pub returns-in_err-snaps-clause-kept : goal.returns-in_err-snaps-clause-kept
 returns-in_err-snaps-clause-kept c = λ schema.
     record { stands = λ writes later h. c.snapshot.ensures.stands schema writes later h; seen = c.snapshot.ensures.seen; room = c.what_a_call_leaves_of_the_room.ensures.before _ _ c.in_err-snaps.ensures.left }
+
+pub returns-in-Ok-clause-pins : goal.returns-in-Ok-clause-pins
+returns-in-Ok-clause-pins c =
+    pinned-in c.args.key.now c.args.unstored.now c.snapshot.new.self c.open.new.chains c.in_ok-snaps.snaps c.in-Ok.opened c.open.ensures.chains c.in-Ok.ensures.snaps
+    (λ schema writes later h. c.in_ok-snaps.ensures.sealed schema writes later h) (λ schema writes later h. c.in_ok-snaps.ensures.active schema writes later h) c.in_ok-snaps.ensures.exact c.snapshot.ensures.keys

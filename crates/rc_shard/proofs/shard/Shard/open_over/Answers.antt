@@ -24,3 +24,9 @@ returns-in_err-opened-clause-counts c = record { answered = refl; segments = ref
 
 pub returns-clause-counts : goal.returns-clause-counts
 returns-clause-counts c = record { answered = refl; segments = refl; asked = refl; none_fell = (c.open_in.ensures.kept c.args.self.now.folder.schema).room.counts }
+
+pub returns-clause-pins : goal.returns-clause-pins
+returns-clause-pins c =
+    let x : Opened = c.in_ok-opened.opened in
+    let items : c.push.new.self.items ≡ c.args.self.now.readers.items ++ (c.args.id, x) ∷ [] = c.in-Ok.ensures.items ∙ ap (λ (os : List (ℕ × Opened)). os ++ (c.args.id, x) ∷ []) c.reserve.ensures.items in
+    (x, items, c.in_ok-opened.ensures.pins)

@@ -2,6 +2,7 @@
 use Rattle.std.proofs.Common.{◌≡◌, ◌==◌, ◌<◌, ◌≤◌, ℕ, List, length, position, subst, arith}
 use Rattle.rc_opened.specs.declared.opened.Opened.{Opened}
 use Rattle.rc_machine.specs.Steps.{most_readers}
+use Rattle.rc_shard.proofs.Pinned.{told-opened, told-unread}
 use Rattle.rc_shard.proofs.Places.{nowhere-of, open-none, open-some}
 use Rattle.rc_shard.proofs.Taking.{opened-of, takes-in-use, takes-too-many, unread-faults, unread-of}
 use Rattle.rc_shard.proofs.shard.Shard.open_read.Goals as goal
@@ -45,3 +46,9 @@ returns-then-len-ge-MOST_READERS-clause-counts g c = counts-itself c.args.self.n
 
 pub returns-in-Err-clause-counts : goal.returns-in-Err-clause-counts
 returns-in-Err-clause-counts g c = counts-itself c.args.self.now
+
+pub returns-in-Ok-clause-pins : goal.returns-in-Ok-clause-pins
+returns-in-Ok-clause-pins g c = told-opened c.args.id c.args.key.now c.args.slice.now c.args.self.now.readers.items c.args.self.now.unstored c.open_over.new.self.readers.items c.open_over.new.self.unstored c.open_over.result c.open_over.ensures.fine c.open_over.ensures.pins
+
+pub returns-in-Err-clause-pins : goal.returns-in-Err-clause-pins
+returns-in-Err-clause-pins g c = told-unread c.args.id c.args.key.now c.args.slice.now c.args.self.now.readers.items c.args.self.now.unstored c.args.self.now.readers.items c.args.self.now.unstored c.in-Err.error c.not_read.result c.not_read.ensures

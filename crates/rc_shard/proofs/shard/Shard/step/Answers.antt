@@ -70,3 +70,16 @@ returns-in-Flush-clause-told g c = rw (c.in-Flush.is) (if-ok-all c.flush.result 
 pub returns-in-Stats-clause-step : goal.returns-in-Stats-clause-step
 returns-in-Stats-clause-step g c =
     rw (c.in-Stats.is) (λ m s. (m, (c.figures.result, ap (λ (f : Figures). f.segments + f.free) c.figures.ensures ∙ make-budget c.args.self.now.unstored.chains.region.usages c.args.self.now.segments m.segments s.budget s.sound.budget, refl, refl), s))
+
+-- what an opening pins
+pub returns-in-Put-clause-pins : goal.returns-in-Put-clause-pins
+returns-in-Put-clause-pins g c = rw (c.in-Put.is) (if-ok-all c.put.result _ (λ reply. tt))
+
+pub returns-in-OpenRead-clause-pins : goal.returns-in-OpenRead-clause-pins
+returns-in-OpenRead-clause-pins g c = rw (c.in-OpenRead.is) c.open_read.ensures.pins
+
+pub returns-in-Read-clause-pins : goal.returns-in-Read-clause-pins
+returns-in-Read-clause-pins g c = rw (c.in-Read.is) (if-ok-all c.read.result _ (λ reply. tt))
+
+pub returns-in-Flush-clause-pins : goal.returns-in-Flush-clause-pins
+returns-in-Flush-clause-pins g c = rw (c.in-Flush.is) (if-ok-all c.flush.result _ (λ reply. tt))

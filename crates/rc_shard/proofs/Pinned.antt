@@ -1,0 +1,49 @@
+-- A reader that was opened pins its partition.
+use Rattle.std.proofs.Common.{◌≡◌, ℕ, List, sym, subst}
+use Rattle.std.specs.Prelude.{Err, IfOk, Ok, Result}
+use Rattle.std.specs.declared.alloc.AllocError.{AllocError}
+use Rattle.rc_position.specs.declared.slices.Slice.{Slice}
+use Rattle.rc_schema.specs.SchemaValue.{SchemaValue}
+use Rattle.rc_mutation.specs.declared.mutations.Write.{Write}
+use Rattle.rc_stream.specs.declared.streams.StreamErr.{StreamErr}
+use Rattle.rc_stream.specs.declared.streams.StreamErr.TheVariants as stream_err
+use Rattle.rc_lines.specs.declared.commands.Command.TheVariants.{OpenRead}
+use Rattle.rc_lines.specs.declared.commands.Reply.{Reply}
+use Rattle.rc_lines.specs.declared.commands.Reply.TheVariants as replies
+use Rattle.rc_memory.specs.Memory.{Memory}
+use Rattle.rc_snapshots.specs.declared.snaps.Snaps.{Snaps}
+use Rattle.rc_unstored.specs.declared.unstored.Unstored.{Unstored}
+use Rattle.rc_unstored.specs.Memtables.{HaveWrites, in_chains}
+use Rattle.rc_unstored.specs.Readers.{IsSnapshotOfKey, IsTakenIf}
+use Rattle.rc_unstored.specs.Steps.{AreSameKeys}
+use Rattle.rc_opened.specs.declared.opened.Opened.{Opened}
+use Rattle.rc_opened.specs.Opened.{snaps_of}
+use Rattle.rc_shard.specs.Opening.{IsOnePinned, IsOpenedAsTold, PinsPartition}
+use Rattle.rc_shard.specs.calls.Keeping.{TellsOf}
+
+-- its snapshots are those that were taken, and the chains were lent and are as they were
+pub pinned-in : (key : List ℕ) (u v : Unstored 131072) (m : Memory) (snaps : Snaps) (o : Opened) → m ≡ v.chains → snaps_of o ≡ snaps →
+    ((schema : SchemaValue) (writes later : List Write) → HaveWrites schema u writes later → IsSnapshotOfKey key writes u.chains v.chains snaps.sealed) →
+    ((schema : SchemaValue) (writes later : List Write) → HaveWrites schema u writes later → IsSnapshotOfKey key later u.chains v.chains snaps.active) →
+    (mid : Memory) × IsTakenIf u.chains mid snaps.sealed × IsTakenIf mid v.chains snaps.active → AreSameKeys u v → PinsPartition key u (in_chains m v) o
+pinned-in key u v m snaps o lent are sealed active exact keys =
+    let made : PinsPartition key u v o = record {
+      sealed = λ schema writes later h. subst (λ (t : Snaps). IsSnapshotOfKey key writes u.chains v.chains t.sealed) (sym are) (sealed schema writes later h);
+      active = λ schema writes later h. subst (λ (t : Snaps). IsSnapshotOfKey key later u.chains v.chains t.active) (sym are) (active schema writes later h);
+      exact = subst (λ (t : Snaps). (mid : Memory) × IsTakenIf u.chains mid t.sealed × IsTakenIf mid v.chains t.active) (sym are) exact;
+      keys = keys;
+    } in
+    subst (λ (x : Memory). PinsPartition key u (in_chains x v) o) (sym lent) made
+
+module _ (id : ℕ) (key : List ℕ) (slice : Slice) (readers : List (ℕ × Opened)) (u : Unstored 131072) (readers' : List (ℕ × Opened)) (v : Unstored 131072) where
+  -- an opening that is answered is fine
+  pub told-opened : (r : Result Reply AllocError) → IfOk r (λ reply. reply ≡ replies.Fine) → IfOk r (λ _. IsOnePinned id key readers u readers' v) → IfOk r (λ reply. IsOpenedAsTold (OpenRead id key slice) reply readers u readers' v)
+  told-opened (Ok reply) fine pins = subst (λ q. IsOpenedAsTold (OpenRead id key slice) q readers u readers' v) (sym fine) pins
+  told-opened (Err e) fine pins = tt
+
+  -- one that is refused is not
+  pub told-unread : (e : StreamErr) (r : Result Reply AllocError) → IfOk r (TellsOf e) → IfOk r (λ reply. IsOpenedAsTold (OpenRead id key slice) reply readers u readers' v)
+  told-unread e (Err x) told = tt
+  told-unread stream_err.Fault (Ok reply) told = subst (λ q. IsOpenedAsTold (OpenRead id key slice) q readers u readers' v) (sym told) tt
+  told-unread (stream_err.Damaged file offset) (Ok reply) told = subst (λ q. IsOpenedAsTold (OpenRead id key slice) q readers u readers' v) (sym told) tt
+  told-unread stream_err.NoMemory (Ok reply) told = absurd told
