@@ -1,7 +1,6 @@
 -- A memory after marks or the head of a version changed, which take no bytes.
 use Rattle.std.proofs.Common.{◌≡◌, ℕ, ◌+◌, List, [], ◌∷◌, Some, refl, sym, ap, map}
 use Rattle.std.specs.Prelude.{Contains}
-use Rattle.rc_cell.specs.declared.writes.Tomb.{Tomb}
 use Rattle.rc_position.specs.declared.positions.Pos.{Pos}
 use Rattle.lsa_store.specs.declared.place.Ref.{Ref}
 use Rattle.lsa_region.specs.declared.end.End.TheVariants.{Obj}
@@ -10,9 +9,10 @@ use Rattle.lsa_list.specs.declared.recency.List.{List as Slots}
 use Rattle.lsa_pool.specs.Room.{live_sum}
 use Rattle.lsa_tree.specs.Entries.{IsEntryAtPosition}
 use Rattle.rc_core.specs.declared.entries.Entry.{Entry}
+use Rattle.rc_core.specs.declared.entries.Mark.{Mark}
 use Rattle.rc_core.specs.Version.{Version}
 use Rattle.rc_object.specs.Objects.{IsRewritten}
-use Rattle.rc_version.specs.Versions.{IsKeptBut, IsVersionOf, entries_bytes, entry_bytes, raised_between, statics_bytes, version_bytes}
+use Rattle.rc_version.specs.Versions.{IsKeptBut, IsVersionOf, entries_bytes, entry_bytes, marked_between, statics_bytes, version_bytes}
 use Rattle.rc_registry.specs.Registry.{Registry}
 use Rattle.rc_memory.specs.declared.counts.Counts.{Counts}
 use Rattle.rc_memory.specs.Memory.{KeptChain, Memory, IsMemberObject}
@@ -23,9 +23,9 @@ use Rattle.rc_recency.proofs.Aligned.{positions}
 use Rattle.rc_recency.specs.laws.Held.{own-object, standing-as, stands, version-of-member}
 use Rattle.rc_recency.proofs.Made.{later-same}
 
--- a raised tombstone takes no bytes
-pub raised-bytes : (from to : Pos) (tomb : Tomb) (c : Version) → version_bytes (raised_between from to tomb c) ≡ version_bytes c
-raised-bytes from to tomb c = ap (λ n. 64 + (statics_bytes c.statics + n)) (each _ (λ e. refl) c.entries)
+-- marks take no bytes
+pub between-bytes : (f : Mark → Mark) (from to : Pos) (c : Version) → version_bytes (marked_between f from to c) ≡ version_bytes c
+between-bytes f from to c = ap (λ n. 64 + (statics_bytes c.statics + n)) (each _ (λ e. refl) c.entries)
   where
     each : (g : Entry → Entry) → ((e : Entry) → entry_bytes (g e) ≡ entry_bytes e) → (es : List Entry) → entries_bytes (map g es) ≡ entries_bytes es
     each g same [] = refl

@@ -10,6 +10,6 @@ mod statics;
 
 pub use joining::{join_like, join_row};
 pub use listing::{push, take};
-pub use marking::{join_pt, raise, set_flags, set_phase, set_static_flag, set_tombs};
+pub use marking::{join_pt, mark_between, set_flags, set_phase, set_static_flag, set_tombs};
 pub use splitting::{drop_entry, split, split_like};
 pub use statics::{drop_static, set_static};

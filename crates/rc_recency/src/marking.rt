@@ -10,7 +10,7 @@ ghost use Rattle.rc_core.specs.AtPlace.{HasEntryAt};
 ghost use Rattle.rc_core.specs.Steps as steps;
 ghost use Rattle.rc_core.specs.Version.{Version};
 ghost use Rattle.rc_object.specs.Objects.{IsRewritten};
-ghost use Rattle.rc_version.specs.Versions.{raised_between};
+ghost use Rattle.rc_version.specs.Versions.{marked, marked_between};
 ghost use Rattle.rc_registry.specs.Registry.{Registry};
 ghost use Rattle.rc_memory.specs.declared.counts.Counts.{Counts};
 ghost use Rattle.rc_memory.specs.Memory.{KeptChain, Memory, IsMemberObject};
@@ -22,6 +22,7 @@ use lsa_region::{Ref, Region};
 use rc_cell::Tomb;
 use rc_core::Flag;
 use rc_position::Pos;
+use rc_version::Marking;
 
 /// Gives an entry of a version other flags, at it and over the gap before it. Its tombstones stay.
 pub fn set_flags<const S: usize>(region: &mut Region<S>, e: Ref, at: Flag, gap: Flag)
@@ -93,16 +94,22 @@ pub fn set_phase<const S: usize>(region: &mut Region<S>, v: Ref, phase: u64)
     region.known();
 }
 
-/// Joins a range tombstone to what a version says from one position on and before another, at both of which an entry stands: the greater tombstone stands at each entry and over each gap between them.
-pub fn raise<const S: usize>(region: &mut Region<S>, v: Ref, from: &Pos, to: &Pos, tomb: Tomb)
+/// Changes the marks of a version from one position on and before another, at both of which an entry stands: at each entry and over each gap between them.
+pub fn mark_between<const S: usize>(
+    region: &mut Region<S>,
+    v: Ref,
+    from: &Pos,
+    to: &Pos,
+    marking: Marking,
+)
     requires ascend { IsBefore from.now to.now }
     requires version { (slots : Slots) × (registry : Registry) × (counts : Counts) × (m : Memory) × (id : ℕ) × (j : ℕ) × (k : KeptChain) × (c : Version) × IsHeldVersion slots region.old registry counts m id j k c v × HasEntryAt from.now c.entries × HasEntryAt to.now c.entries }
     ensures changed { (slots : Slots) (registry : Registry) (counts : Counts) (m : Memory) (id j : ℕ) (k : KeptChain) (c : Version) → IsHeldVersion slots region.old registry counts m id j k c v →
-        HoldsAfter slots region.new registry counts (λ n. IsVersionChanged id j (raised_between from.now to.now tomb) Nowhere m n × (n.recency ≡ m.recency)) }
+        HoldsAfter slots region.new registry counts (λ n. IsVersionChanged id j (marked_between (marked marking) from.now to.now) Nowhere m n × (n.recency ≡ m.recency)) }
     ensures spare { spare_of S region.new.usages ≡ spare_of S region.old.usages }
     ensures well { IsWell region.new }
 {
     region.known();
-    rc_version::raise(region, v, from, to, tomb);
+    rc_version::mark_between(region, v, from, to, marking);
     region.known();
 }

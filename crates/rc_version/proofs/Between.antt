@@ -1,8 +1,7 @@
--- A stretch of a version's entries, from one to another one behind it, on which a range tombstone is to be joined.
-use Rattle.std.proofs.Common.{◌≡◌, List, ◌∷◌, ◌++◌, map, Some, inl, inr, refl, sym, ap, ◌∙◌, subst, arith}
+-- A stretch of a version's entries, from one to another one behind it, on whose marks a function is to be done.
+use Rattle.std.proofs.Common.{◌≡◌, List, ◌∷◌, ◌++◌, map, inl, inr, refl, sym, ap, ◌∙◌, subst, arith}
 use Rattle.std.specs.Prelude.{Contains}
 use Rattle.std.proofs.lemmas.List.Elements.{Contains-append_cases}
-use Rattle.rc_cell.specs.declared.writes.Tomb.{Tomb}
 use Rattle.rc_position.specs.declared.positions.Pos.{Pos}
 use Rattle.rc_position.specs.Position.{IsBefore}
 use Rattle.lsa_store.specs.declared.place.Ref.{Ref}
@@ -10,14 +9,14 @@ use Rattle.lsa_region.specs.Region.{View}
 use Rattle.lsa_path.specs.laws.Members.{member-cases, member-split}
 use Rattle.lsa_tree.specs.Entries.{AreAscending, IsEntryAtPosition, StandsEarlier}
 use Rattle.lsa_tree.specs.laws.Orders.{all-at, ascending-split, before-at, not-both, stands-once}
-use Rattle.rc_core.specs.Change.{change, changed, raised_mark, split, with_gap, with_mark, with_marks}
+use Rattle.rc_core.specs.Change.{change, changed, split, with_gap, with_mark, with_marks}
 use Rattle.rc_core.specs.Continuity.{with_entries}
 use Rattle.rc_core.specs.declared.entries.Entry.{Entry}
 use Rattle.rc_core.specs.declared.entries.Mark.{Mark}
 use Rattle.rc_core.specs.laws.Surgery.{change-over}
 use Rattle.rc_core.specs.Version.{Version, Ascend}
 use Rattle.rc_version.specs.Versions.{HoldEntries, IsVersionOf}
-use Rattle.rc_version.specs.calls.Raising.{IsRaising}
+use Rattle.rc_version.specs.calls.Stretch.{IsMarking}
 use Rattle.rc_version.specs.laws.Holding.{IsAround, around}
 use Rattle.rc_version.specs.laws.Objects.{holds-stands}
 use Rattle.rc_version.proofs.Gaps.{split-here}
@@ -32,11 +31,8 @@ later-member v front rest first last from to asc at_first at_last less k = elim 
   ]
 ]
 
-module _ (v : View) (n first last : Ref) (from to : Pos) (tomb : Tomb) (refs : List Ref) (es : List Entry) (c : Version) (h : IsVersionOf v n refs (with_entries es c))
+module _ (v : View) (n first last : Ref) (from to : Pos) (f : Mark → Mark) (refs : List Ref) (es : List Entry) (c : Version) (h : IsVersionOf v n refs (with_entries es c))
     (first_in : Contains refs first) (last_in : Contains refs last) (first_at : IsEntryAtPosition v first from) (last_at : IsEntryAtPosition v last to) (less : IsBefore from to) where
-  abbrev f : Mark → Mark
-  f = raised_mark (Some tomb)
-
   -- where they stand
   abbrev front : List Ref
   front = (member-split refs first first_in).0
@@ -74,11 +70,11 @@ module _ (v : View) (n first last : Ref) (from to : Pos) (tomb : Tomb) (refs : L
   abbrev target : List Entry
   target = w.before ++ (with_mark f w.here ∷ (map (with_marks f) z.before ++ (with_gap (f z.here.gap) z.here ∷ z.behind)))
 
-  pub stretch-raising : (target : List Entry) × IsRaising v n first last tomb refs c target 0 × (map (changed (raised_mark (Some tomb)) from to) es ≡ target)
-  stretch-raising = (target, raising, ranged)
+  pub stretch-marking : (target : List Entry) × IsMarking v n first last f refs c target 0 × (map (changed f from to) es ≡ target)
+  stretch-marking = (target, marking, ranged)
     where
-      raising : IsRaising v n first last tomb refs c target 0
-      raising = record {
+      marking : IsMarking v n first last f refs c target 0
+      marking = record {
         front = front;
         between = between;
         back = back;

@@ -6,8 +6,8 @@ mod Gaps
 mod Joins
 mod Likes
 mod NewVersions
+mod Pairs
 mod Putting
-mod Raised
 mod Ranges
 mod SetStatics
 mod Splits

@@ -1,4 +1,4 @@
--- A version with a range tombstone joined: split at both ends, and raised between.
+-- A version with a range tombstone joined: split at both ends, and its marks changed between.
 use Rattle.std.proofs.Common.{◌≡◌, ℕ, ◌+◌, ◌≤◌, List, [], ◌∷◌, map, Some, None, IsSome, ◌⊎◌, inl, inr, refl, sym, ap, ◌∙◌, subst, arith}
 use Rattle.std.specs.Prelude.{Contains}
 use Rattle.std.proofs.lemmas.List.Elements.{Contains-append_cases, Contains-append_left, Contains-append_right}
@@ -21,10 +21,10 @@ use Rattle.rc_core.specs.declared.entries.Mark.{Mark}
 use Rattle.rc_core.specs.Steps.{range_joined}
 use Rattle.rc_core.specs.Version.{Version}
 use Rattle.rc_version.specs.Versions.{tree_of, ArePutAmong, IsKeptBeside, IsKeptBut, IsSplit, IsVersionOf, IsStaticsOf, IsWeighed, HasWhatWasMade, MayChange, entries_bytes, entry_bytes, statics_bytes, version_bytes}
-use Rattle.rc_version.specs.calls.Raising.{IsRaising}
+use Rattle.rc_version.specs.calls.Stretch.{IsMarking}
 use Rattle.rc_version.specs.laws.Objects.{holds-stands}
 use Rattle.rc_version.specs.laws.Staying.{kept-then, kept-wider}
-use Rattle.rc_version.proofs.Between.{stretch-raising}
+use Rattle.rc_version.proofs.Between.{stretch-marking}
 use Rattle.rc_version.proofs.Gaps.{entry-in}
 use Rattle.rc_version.proofs.Putting.{member-decided}
 use Rattle.rc_version.proofs.Written.{none_or_some}
@@ -92,8 +92,8 @@ module _ (S : ℕ) (old mid new : View) (n first last : Ref) (from to : Pos) (to
         let e = entry-in mid n refs1 c1 v1 first (put-member old first refs refs1 (one.entries refs c h).1) in
         subst (IsEntryAtPosition new first) (stands-once mid first e.0.position from (holds-stands mid first e.0 e.1) one.at) (holds-stands new first e.0 (two.held first e.0 e.1))
 
-    pub range-raising : (target : List Entry) × IsRaising new n first last tomb both c target 0 × (join_range from to tomb c.entries ≡ target)
-    range-raising = stretch-raising new n first last from to tomb both (split to (split from c.entries)) c v2 first_in last_in first_at two.at less
+    pub range-marking : (target : List Entry) × IsMarking new n first last f both c target 0 × (join_range from to tomb c.entries ≡ target)
+    range-marking = stretch-marking new n first last from to f both (split to (split from c.entries)) c v2 first_in last_in first_at two.at less
 
     pub range-live : IsWeighed old new c (range_joined from to tomb c)
     range-live = two_weighed (live_bytes old) (live_bytes mid) (live_bytes new) (version_bytes c) (version_bytes c1) (version_bytes (range_joined from to tomb c)) (one.live refs c h)

@@ -20,13 +20,17 @@ use Rattle.lsa_tree.specs.Tree.{IsTree}
 use Rattle.lsa_tree.specs.Entries.{IsEntryAtPosition}
 use Rattle.lsa_pool.specs.Room.{spare_of}
 use Rattle.rc_core.specs.declared.entries.Entry.{Entry}
+use Rattle.rc_core.specs.declared.entries.Flag.TheVariants.{Known}
+use Rattle.rc_core.specs.declared.entries.Mark.{Mark}
 use Rattle.rc_core.specs.AtPlace.{HasEntryAt}
-use Rattle.rc_core.specs.Change.{changed, joined_onto, raised_mark, split}
+use Rattle.rc_core.specs.Change.{changed, joined_onto, mark, raised_mark, split}
 use Rattle.rc_core.specs.Continuity.{with_entries}
 use Rattle.rc_core.specs.Steps.{join_statics, row_joined}
 use Rattle.rc_core.specs.Version.{Version, IsVersion, On, end_position, seen}
 use Rattle.rc_object.specs.declared.heads.Head.{Head}
 use Rattle.rc_object.specs.Objects.{HoldsHead, HoldsEntry, HoldsStatic, HasRoomFor, entry_length}
+use Rattle.rc_version.specs.declared.stretch.Marking.{Marking}
+use Rattle.rc_version.specs.declared.stretch.Marking.TheVariants.{Know, Raise}
 
 -- the tree of a version's entries
 abbrev pub tree_of : Ref → Tree
@@ -151,9 +155,22 @@ IsStaticRowFound v c result = MatchOption result (c.statics ≡ None) (λ s. (ro
 
 -- ---- what a call does to the entries of a version
 
--- a version with a range tombstone joined at each of its entries from one position on and before another, and over each gap between them; none is made
+-- what is done to each mark of a stretch: a range tombstone is joined, and the flag stays; or it is known there, with this tombstone or none
+abbrev pub marked : Marking → Mark → Mark
+marked (Raise tomb) = raised_mark (Some tomb)
+marked (Know tomb) = λ m. mark Known tomb
+
+-- a version with a function on the mark at each of its entries from one position on and before another, and over each gap between them; none is made
+abbrev pub marked_between : (Mark → Mark) → Pos → Pos → Version → Version
+marked_between f from to c = with_entries (map (changed f from to) c.entries) c
+
+-- a version with a range tombstone joined there
 abbrev pub raised_between : Pos → Pos → Tomb → Version → Version
-raised_between from to tomb c = with_entries (map (changed (raised_mark (Some tomb)) from to) c.entries) c
+raised_between from to tomb = marked_between (raised_mark (Some tomb)) from to
+
+-- a version in which it is known there that there are no rows, and this tombstone or none
+abbrev pub known_between : Pos → Pos → Option Tomb → Version → Version
+known_between from to tomb = marked_between (λ m. mark Known tomb) from to
 
 -- the entries are those before, of which r is one; or r, which was not there, is put among them
 abbrev pub ArePutAmong : View → Ref → List Ref → List Ref → Type 0

@@ -15,9 +15,9 @@ ghost use Rattle.rc_core.specs.Version.{Version, end_position};
 ghost use Rattle.rc_object.specs.Objects.{HasRoomFor, HoldsEntry, HoldsStatic, IsRowCode, entry_length};
 ghost use Rattle.rc_version.specs.Versions.{IsVersionOf, CanJoin, CanJoinLike, IsJoined, IsKeptBut, IsStaticsJoined, IsUnlisted, IsWeighed, HasWhatWasMade};
 
-use crate::raising::raise_between;
 use crate::splitting::split;
 use crate::statics::join_statics_like;
+use crate::stretch::{Marking, mark_stretch};
 use lsa_kinds::Kind;
 use lsa_region::{End, Ref, Region};
 use lsa_tree::{Place, Tree};
@@ -213,5 +213,5 @@ pub fn join_range<const S: usize>(
     region.known();
     let first = split(region, v, from, sc);
     let last = split(region, v, to, sc);
-    raise_between(region, v, first, last, tomb);
+    mark_stretch(region, v, first, last, Marking::Raise(tomb));
 }

@@ -1,11 +1,11 @@
--- A stretch of a version's entries on which a range tombstone is joined, entry by entry.
-use Rattle.std.specs.Prelude.{◌≡◌, ℕ, ◌≤◌, List, ◌∷◌, ◌++◌, length, map, Some}
-use Rattle.rc_cell.specs.declared.writes.Tomb.{Tomb}
+-- A stretch of a version's entries whose marks change by a function, entry by entry.
+use Rattle.std.specs.Prelude.{◌≡◌, ℕ, ◌≤◌, List, ◌∷◌, ◌++◌, length, map}
 use Rattle.lsa_store.specs.declared.place.Ref.{Ref}
 use Rattle.lsa_region.specs.Region.{View}
-use Rattle.rc_core.specs.Change.{raised_mark, with_gap, with_mark, with_marks}
+use Rattle.rc_core.specs.Change.{with_gap, with_mark, with_marks}
 use Rattle.rc_core.specs.Continuity.{with_entries}
 use Rattle.rc_core.specs.declared.entries.Entry.{Entry}
+use Rattle.rc_core.specs.declared.entries.Mark.{Mark}
 use Rattle.rc_core.specs.Version.{Version}
 use Rattle.rc_object.specs.Objects.{HoldsEntry}
 use Rattle.rc_version.specs.Versions.{HoldEntries, IsVersionOf}
@@ -19,8 +19,8 @@ pub record HoldPair (v : View) (n : Ref) (front : List Ref) (e next : Ref) (back
   pub next_holds : HoldsEntry v next y
   pub held_behind : HoldEntries v back behind
 
--- the tombstone is joined up to an entry, so many steps behind the first one, and not yet at it; where it is joined from there up to the last one, the entries are these
-pub record IsRaising (v : View) (n passed last : Ref) (tomb : Tomb) (all : List Ref) (c : Version) (target : List Entry) (steps : ℕ) : Type 0 where
+-- the marks are changed up to an entry, so many steps behind the first one, and not yet at it; where they are changed from there up to the last one, the entries are these
+pub record IsMarking (v : View) (n passed last : Ref) (f : Mark → Mark) (all : List Ref) (c : Version) (target : List Entry) (steps : ℕ) : Type 0 where
   pub front : List Ref
   pub between : List Ref
   pub back : List Ref
@@ -36,5 +36,5 @@ pub record IsRaising (v : View) (n passed last : Ref) (tomb : Tomb) (all : List 
   pub held_inner : HoldEntries v between inner
   pub last_holds : HoldsEntry v last there
   pub held_behind : HoldEntries v back behind
-  pub target_is : target ≡ before ++ (with_mark (raised_mark (Some tomb)) here ∷ (map (with_marks (raised_mark (Some tomb))) inner ++ (with_gap (raised_mark (Some tomb) there.gap) there ∷ behind)))
+  pub target_is : target ≡ before ++ (with_mark f here ∷ (map (with_marks f) inner ++ (with_gap (f there.gap) there ∷ behind)))
   pub far : steps ≤ length front

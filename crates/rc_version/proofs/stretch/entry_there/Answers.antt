@@ -1,6 +1,6 @@
 use Rattle.std.proofs.Common.{arith, subst}
 use Rattle.rc_version.specs.Versions.{IsEntryFound}
-use Rattle.rc_version.proofs.raising.entry_there.Goals as goal
+use Rattle.rc_version.proofs.stretch.entry_there.Goals as goal
 
 pub entry_at-requires : goal.entry_at-requires
 entry_at-requires g c = (omega arith, (c.requires.0, c.requires.1, c.requires.2))
