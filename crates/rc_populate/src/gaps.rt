@@ -10,14 +10,12 @@ ghost use Rattle.rc_memory.specs.Changes.{IsRenewedWhereNone, IsVersionChanged, 
 ghost use Rattle.rc_populate.specs.Filling.{AreBoundsListed, IsFilled, MayFill, OfPinned, gap_need};
 
 use crate::fills::count_shrunk;
-use crate::marks::Marks;
 use rc_cell::Tomb;
 use rc_chain::{Chains, Snap};
 use rc_position::Pos;
 
 // Makes a stretch of a version known, with a range tombstone, where no update stands in the chain: dummies are made at both ends where no entries stand there.
-fn know_gap<const S: usize, M: Marks<S>>(
-    marks: &M,
+fn know_gap<const S: usize>(
     chains: &mut Chains<S>,
     id: u64,
     number: u64,
@@ -38,12 +36,11 @@ fn know_gap<const S: usize, M: Marks<S>>(
     chains.known();
     chains.split(id, number, from);
     chains.split(id, number, to);
-    marks.know_between(chains, id, number, from, to, tomb);
+    chains.know_between(id, number, from, to, tomb);
 }
 
 /// Fills a gap of a partition, as what lies below has it, into the newest version of a chain: from one position on and before another it is known then that no row stands there, and that this range tombstone is in force. Where no entries stand at the two, dummies are made there, which are the most recent objects of a cache chain. What is spare is less by at most what `gap_need` says.
-pub fn fill_gap<const S: usize, M: Marks<S>>(
-    marks: &M,
+pub fn fill_gap<const S: usize>(
     chains: &mut Chains<S>,
     s: &Snap,
     from: &Pos,
@@ -61,6 +58,6 @@ pub fn fill_gap<const S: usize, M: Marks<S>>(
 {
     let before = chains.region().live();
     let newest = chains.pinned_at(s);
-    know_gap(marks, chains, s.chain, newest, from, to, tomb);
+    know_gap(chains, s.chain, newest, from, to, tomb);
     count_shrunk(chains, before);
 }

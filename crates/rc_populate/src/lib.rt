@@ -4,14 +4,12 @@
 mod fills;
 mod gaps;
 pub mod laws;
-mod marks;
 mod needs;
 mod opening;
 mod rows;
 
 pub use fills::fill_static;
 pub use gaps::fill_gap;
-pub use marks::Marks;
 pub use needs::{gap_need, row_need, static_need};
 pub use opening::open_entry;
 pub use rows::fill_row;

@@ -15,7 +15,6 @@ ghost use Rattle.rc_populate.specs.Filling.{IsFilled, MayFill, OfPinned};
 ghost use Rattle.rc_populate.specs.Marked.{known_at};
 
 use crate::fills::count_shrunk;
-use crate::marks::Marks;
 use lsa_region::Ref;
 use rc_cell::{Row, Tomb};
 use rc_chain::{Chains, Snap};
@@ -23,22 +22,21 @@ use rc_core::filled_mark;
 use rc_position::Key;
 
 // Makes the position of an entry known, with a range tombstone joined. The gap before it stays.
-fn know<const S: usize, M: Marks<S>>(marks: &M, chains: &mut Chains<S>, e: Ref, tomb: Option<Tomb>)
+fn know<const S: usize>(chains: &mut Chains<S>, e: Ref, tomb: Option<Tomb>)
     requires { (w : Member) × (x : Position) × (w.position ≡ Some x) × IsMemberObject chains.old e w }
     ensures known { (w : Member) (x : Position) → w.position ≡ Some x → IsMemberObject chains.old e w → IsVersionChanged w.chain w.version (known_at x tomb) Nowhere chains.old chains.new }
     ensures recency { chains.new.recency ≡ chains.old.recency }
     ensures spare { spare_of S chains.new.region.usages ≡ spare_of S chains.old.region.usages }
 {
     chains.known();
-    let (at, gap) = marks.marks(chains, e);
+    let (at, gap) = chains.marks(e);
     let known = filled_mark(at, tomb);
     chains.set_flags(e, known.flag, gap.flag);
     chains.set_tombs(e, known.tomb, gap.tomb);
 }
 
 /// Fills a row of a partition, as what lies below has it, into the newest version of a chain: it is joined, whole, to the one there; its position is known then, and the range tombstone joined at it. The gap before it stays. In a cache chain its entry is the most recent object. What is spare is less by at most what `row_need` says.
-pub fn fill_row<const S: usize, M: Marks<S>>(
-    marks: &M,
+pub fn fill_row<const S: usize>(
     chains: &mut Chains<S>,
     s: &Snap,
     key: &Key,
@@ -59,6 +57,6 @@ pub fn fill_row<const S: usize, M: Marks<S>>(
     let before = chains.region().live();
     let newest = chains.pinned_at(s);
     let e = chains.join_row(s.chain, newest, key, row);
-    know(marks, chains, e, tomb);
+    know(chains, e, tomb);
     count_shrunk(chains, before);
 }

@@ -3,10 +3,10 @@ use Rattle.rc_core.specs.AtPlace.{HasEntryAt}
 use Rattle.rc_core.specs.Change.{split}
 use Rattle.rc_core.specs.Continuity.{with_entries}
 use Rattle.rc_core.specs.Version.{Version}
+use Rattle.rc_version.specs.Versions.{known_between}
 use Rattle.rc_memory.specs.Memory.{KeptChain}
 use Rattle.rc_memory.specs.Changes.{IsRenewedWhereNone, Nowhere, member}
 use Rattle.rc_memory.specs.laws.Entries.{before-differs}
-use Rattle.rc_populate.specs.Marked.{known_between}
 use Rattle.rc_populate.proofs.Changed.{chain-after, changed-both, has-then, last-free, number-after, of-then, settled-then}
 use Rattle.rc_populate.proofs.Marking.{split-both, split-twice}
 use Rattle.rc_populate.proofs.gaps.know_gap.Goals as goal
@@ -41,8 +41,8 @@ pub returns-clause-known : goal.returns-clause-known
 returns-clause-known g c =
     let m = c.args.chains.now in let n = c.split.new.self in let o = c.split-2.new.self in let id = c.args.id in let j = c.args.number in let from = c.args.from.now in let to = c.args.to.now in
     let f = λ (d : Version). with_entries (split from d.entries) d in let h = λ (d : Version). with_entries (split to d.entries) d in
-    changed-both id j Nowhere f (λ (d : Version). known_between from to c.args.tomb (h d)) m n c.know_between.new.chains c.split.ensures.changed
-    (changed-both id j Nowhere h (known_between from to c.args.tomb) n o c.know_between.new.chains c.split-2.ensures.changed c.know_between.ensures.known)
+    changed-both id j Nowhere f (λ (d : Version). known_between from to c.args.tomb (h d)) m n c.know_between.new.self c.split.ensures.changed
+    (changed-both id j Nowhere h (known_between from to c.args.tomb) n o c.know_between.new.self c.split-2.ensures.changed c.know_between.ensures.known)
 
 pub returns-clause-listed : goal.returns-clause-listed
 returns-clause-listed g c = λ k v e at.
@@ -50,7 +50,7 @@ returns-clause-listed g c = λ k v e at.
     let f = λ (d : Version). with_entries (split from d.entries) d in
     let there = chain-after id j Nowhere f m n c.split.ensures.changed k e in let number = number-after id j Nowhere f m n c.split.ensures.changed k v at in
     let second = subst (λ list. IsRenewedWhereNone k.chain.kind (with_entries (split from v.entries) v) (member id j (Some to)) n.recency list) (sym c.know_between.ensures.recency) (c.split-2.ensures.recency _ _ there number) in
-    (n.recency, c.split.ensures.recency k v e at, split-both k.chain.kind v from to (member id j (Some to)) refl (before-differs from to c.requires.ascend) n.recency c.know_between.new.chains.recency second)
+    (n.recency, c.split.ensures.recency k v e at, split-both k.chain.kind v from to (member id j (Some to)) refl (before-differs from to c.requires.ascend) n.recency c.know_between.new.self.recency second)
 
 pub returns-clause-spare : goal.returns-clause-spare
 returns-clause-spare g c = let one = c.split.ensures.spare in let two = c.split-2.ensures.spare in let three = c.know_between.ensures.spare in omega (arith, one, two, three)
