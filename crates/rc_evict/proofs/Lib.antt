@@ -3,3 +3,8 @@ mod Seen
 mod Chains
 mod Idle
 mod Together
+mod Places
+mod Losing
+mod Bytes
+mod One
+mod Rounds

@@ -3,9 +3,12 @@
 --     IsSort                     which sort of object stands at a place
 --     IsOneEvicted               the least recently used object went, and its chain with it where that is to be dropped then
 --     AreEvicted                 these objects went, and these chains with them; all other chains stay, each without what went of it
+--     IsCrowded                  how full the region is then
 --     IsPlaceUnlisted            the entry at an update's place is out of the recency list
-use Rattle.std.specs.Prelude.{◌≡◌, ◌≢◌, ◌⊎◌, ℕ, suc, true, List, [], ◌∷◌, ◌++◌, Option, Some, None, cond, nat_eq, length, option_map, AllPairs, Contains, IsSome, IsSomeAnd}
+use Rattle.std.specs.Prelude.{◌≡◌, ◌≢◌, ◌⊎◌, ◌+◌, ◌-◌, ◌*◌, ◌/◌, ◌<◌, ℕ, suc, true, List, [], ◌∷◌, ◌++◌, Option, Some, None, cond, nat_eq, length, option_map, sum_by, AllPairs, Contains, IsSome, IsSomeAnd}
+use Rattle.std.specs.Option.{option_map_or}
 use Rattle.std.specs.Ordering.{eq_by_cmp}
+use Rattle.lsa_region.specs.Region.{live_bytes}
 use Rattle.rc_position.specs.declared.positions.Pos.{Pos}
 use Rattle.rc_position.specs.Position.{Clustered, Place, pos_cmp}
 use Rattle.rc_core.specs.Change.{drop_at, lose_last_gap}
@@ -90,6 +93,18 @@ pub record AreEvicted (went : List Member) (gone : List ℕ) (old new : Memory) 
   pub once : AllPairs ◌≢◌ gone
   pub dropped : new.dropped ≡ old.dropped ++ gone
   pub counts : new.counts ≡ evictions_counted went old.counts
+
+-- how many versions the chain of a number has; 0 where there is none
+abbrev pub version_count : Memory → ℕ → ℕ
+version_count m id = option_map_or (λ (k : KeptChain). length k.chain.versions) (chain_at m id) 0
+
+-- how many versions the chains of these numbers have together
+abbrev pub versions_together : Memory → List ℕ → ℕ
+versions_together m ids = sum_by (version_count m) ids
+
+-- Three quarters of all but two segments are live, but for an object of an eighth of a segment, and for the heads and end dummies, 152 bytes each, of the versions of these chains, which went.
+abbrev pub IsCrowded : ℕ → List ℕ → Memory → Memory → Type 0
+IsCrowded S gone old new = 3 * S / 4 * (length new.region.usages - 2) < live_bytes new.region + S / 8 + 152 * versions_together old gone
 
 -- ---- under update
 

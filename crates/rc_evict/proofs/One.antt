@@ -1,0 +1,126 @@
+-- One eviction: the front is lost, it is counted, and the chain is swept.
+use Rattle.std.proofs.Common.{◌≡◌, ℕ, ◌+◌, ◌*◌, ◌/◌, ◌≤◌, List, [], ◌∷◌, Option, Some, None, length, inl, inr, refl, sym, ap, ◌∙◌, subst, slice_index_or, arith}
+use Rattle.std.specs.Prelude.{Contains, IfSome, IsSome, IsSomeAnd, sum_by}
+use Rattle.std.specs.Option.{option_map, option_map_or}
+use Rattle.std.proofs.lemmas.List.Sums.{sum_by-cons}
+use Rattle.lsa_region.specs.Region.{live_bytes}
+use Rattle.lsa_store.specs.declared.place.Ref.{Ref}
+use Rattle.rc_core.specs.Version.{IsVersion, Version}
+use Rattle.rc_partition.specs.laws.Lists.{elem-here}
+use Rattle.rc_registry.specs.Registry.{put}
+use Rattle.rc_memory.specs.Memory.{HasChain, KeptChain, Member, Memory, chain_at, counts_raised, raised_by, on_shown, on_version_of}
+use Rattle.rc_memory.specs.Recency.{IsRecency, MayBeListed}
+use Rattle.rc_memory.specs.Changes.{OfVersion, member}
+use Rattle.rc_memory.specs.Room.{ChainsFit, FitTogether, chain_bytes}
+use Rattle.rc_memory.specs.Kept.{present}
+use Rattle.rc_memory.specs.laws.Rules.{length-on}
+use Rattle.rc_chain.specs.Lives.{IsChainDropped, IsIdle}
+use Rattle.rc_evict.specs.declared.evicting.Evicted.{Evicted}
+use Rattle.rc_evict.specs.Evictions.{AreEvicted, IsFrontLost, IsOneEvicted, IsSwept, TakenOut, eviction_counted, evicted_at, version_count, versions_together}
+use Rattle.rc_chain.specs.Held.{IsHeldAt}
+use Rattle.rc_evict.proofs.Bytes.{chain-lost, idle-bytes, put-gone, put-lost, version-lost}
+use Rattle.rc_evict.proofs.Chains.{use-changed}
+use Rattle.rc_evict.proofs.Idle.{idle-again, idle-alike, idle-decided}
+use Rattle.rc_evict.proofs.Places.{holds-of}
+use Rattle.rc_evict.proofs.Together.{dropped-with, kept-with, lost-this, some-of}
+
+-- one more eviction counted, and nothing else
+pub counted-once : (m : Memory) → raised_by 0 m.counts.skipped ≡ m.counts.skipped → raised_by 0 m.counts.shrunk ≡ m.counts.shrunk → counts_raised 1 0 0 m ≡ eviction_counted m
+counted-once m a b = λ i. record {
+  chains = m.chains;
+  recency = m.recency;
+  dropped = m.dropped;
+  counts = record { evicted = raised_by 1 m.counts.evicted; skipped = a i; shrunk = b i };
+  region = m.region;
+  standing = m.standing;
+}
+
+-- what fits of a chain that is there
+fit_of : (S : ℕ) (o : Option KeptChain) (k : KeptChain) → IfSome o (λ q. FitTogether S q.chain.versions) → o ≡ Some k → FitTogether S k.chain.versions
+fit_of S o k h e = subst (λ (x : Option KeptChain). IfSome x (λ q. FitTogether S q.chain.versions)) e h
+
+kept_sum : (old lost now live_old live_new eighth more : ℕ) → live_old ≡ old → live_new ≡ now → now ≡ lost → old ≤ lost + eighth → live_old ≤ live_new + eighth + 152 * more
+kept_sum old lost now live_old live_new eighth more a b c d = omega (arith, a, b, c, d)
+
+gone_sum : (old lost now chain live_old live_new eighth count more : ℕ) → live_old ≡ old → live_new ≡ now → lost ≡ now + chain → chain ≡ 152 * count → more ≡ count → old ≤ lost + eighth → live_old ≤ live_new + eighth + 152 * more
+gone_sum old lost now chain live_old live_new eighth count more a b c d e f = omega (arith, a, b, c, d, e, f)
+
+one_only : (a b : ℕ) → a ≡ b → a + 0 ≡ b
+one_only a b e = omega (arith, e)
+
+module _ (m l q n : Memory) (s : Evicted) (w : Member) (id : ℕ) (t : IsFrontLost s w m l) (chain : id ≡ w.chain) (count : q ≡ eviction_counted l) where
+  front : (k : KeptChain) × (chain_at m w.chain ≡ Some k) × MayBeListed k.chain w.version w.position
+  front = some-of (λ k. MayBeListed k.chain w.version w.position) (chain_at m w.chain) t.listed
+
+  lost_at : (k : KeptChain) → chain_at m w.chain ≡ Some k → chain_at l w.chain ≡ Some (on_shown (on_version_of w.version (evicted_at w.position)) k)
+  lost_at k there = lost-this w m l m k (TakenOut s w) t.front there t.changed
+
+  counted_at : (k : KeptChain) → chain_at m w.chain ≡ Some k → chain_at q id ≡ Some (on_shown (on_version_of w.version (evicted_at w.position)) k)
+  counted_at k there = (λ i. chain_at (count i) (chain i)) ∙ lost_at k there
+
+  pub still-there : HasChain q id
+  still-there = let k = front in subst (λ (o : Option KeptChain). IsSome o) (sym (counted_at k.0 k.1)) refl
+
+  -- what is idle of the chain as it was is of the chain as it is
+  idle_now : (k : KeptChain) → IsIdle (eviction_counted l) w.chain k.chain → IsIdle q id (on_shown (on_version_of w.version (evicted_at w.position)) k).chain
+  idle_now k i = subst (λ x. IsIdle x id (on_shown (on_version_of w.version (evicted_at w.position)) k).chain) (sym count)
+      (subst (λ x. IsIdle (eviction_counted l) x (on_shown (on_version_of w.version (evicted_at w.position)) k).chain) (sym chain)
+      (idle-again (eviction_counted l) (eviction_counted l) w.chain k (on_shown (on_version_of w.version (evicted_at w.position)) k) (use-changed w.version w.position k) (λ j at on. on) i))
+
+  idle_then : (k : KeptChain) → IsIdle q id (on_shown (on_version_of w.version (evicted_at w.position)) k).chain → IsIdle (eviction_counted l) w.chain k.chain
+  idle_then k i = idle-alike (eviction_counted l) (eviction_counted l) w.chain k (on_shown (on_version_of w.version (evicted_at w.position)) k) (use-changed w.version w.position k) (λ j at on. on)
+      (subst (λ x. IsIdle (eviction_counted l) x (on_shown (on_version_of w.version (evicted_at w.position)) k).chain) chain
+      (subst (λ x. IsIdle x id (on_shown (on_version_of w.version (evicted_at w.position)) k).chain) count i))
+
+  module _ (dropped : (k : KeptChain) → chain_at q id ≡ Some k → IsIdle q id k.chain → IsChainDropped id q.recency q n) (kept : (k : KeptChain) → chain_at q id ≡ Some k → (IsIdle q id k.chain → ⊥) → n ≡ q) where
+    gone_now : (k : KeptChain) → chain_at m w.chain ≡ Some k → IsIdle (eviction_counted l) w.chain k.chain → IsChainDropped w.chain l.recency (eviction_counted l) n
+    gone_now k there i = subst (λ x. IsChainDropped w.chain x.recency x n) count (subst (λ x. IsChainDropped x q.recency q n) chain (dropped (on_shown (on_version_of w.version (evicted_at w.position)) k) (counted_at k there) (idle_now k i)))
+
+    stays_now : (k : KeptChain) → chain_at m w.chain ≡ Some k → (IsIdle (eviction_counted l) w.chain k.chain → ⊥) → n ≡ eviction_counted l
+    stays_now k there busy = kept (on_shown (on_version_of w.version (evicted_at w.position)) k) (counted_at k there) (λ i. busy (idle_then k i)) ∙ count
+
+    pub is-one : IsOneEvicted s m n
+    is-one = record {
+      place = w;
+      lost = l;
+      taken = t;
+      swept = λ k there. elim (idle-decided (eviction_counted l) w.chain k.chain) [
+        | inl i ↦ inl (i, gone_now k there i)
+        | inr busy ↦ inr (busy, stays_now k there busy)
+      ];
+    }
+
+    module _ (S : ℕ) (r : Ref) (held : IsHeldAt m r w) (versions : (i j : ℕ) → OfVersion m i j (λ k v. IsVersion v)) (fit : ChainsFit S m) (old_live : live_bytes m.region ≡ sum_by chain_bytes (present m.chains))
+        (rule : IsRecency q) (mid_versions : (i j : ℕ) → OfVersion q i j (λ k v. IsVersion v)) (new_live : live_bytes n.region ≡ sum_by chain_bytes (present n.chains)) where
+      less : (k : KeptChain) (may : MayBeListed k.chain w.version w.position) → chain_at m w.chain ≡ Some k → sum_by chain_bytes (present m.chains) ≤ sum_by chain_bytes (present l.chains) + S / 8
+      less k may there =
+          subst (λ cs. sum_by chain_bytes (present m.chains) ≤ sum_by chain_bytes (present cs) + S / 8) (sym (t.changed.chains ∙ ap (λ o. put w.chain (option_map (on_shown (on_version_of w.version (evicted_at w.position))) o) m.chains) there))
+          (put-lost m.chains w.chain k (on_shown (on_version_of w.version (evicted_at w.position)) k) (S / 8) there
+          (chain-lost k w.version may.version (evicted_at w.position) (S / 8) may.number
+          (version-lost S k.chain.versions (fit_of S (chain_at m w.chain) k (fit w.chain) there) may.version (subst (λ vs. Contains vs may.version) (sym may.number.split) (elem-here may.number.older may.number.newer may.version))
+          (versions w.chain w.version k may.version there may.number) m.region r w.position (holds-of m r w held k may.version there may.number))))
+
+      pub one-live : (place : Member) × (gone : List ℕ) × AreEvicted (place ∷ []) gone m n × (live_bytes m.region ≤ live_bytes n.region + S / 8 + 152 * versions_together m gone)
+      one-live = let k = front in let drop = less k.0 k.2 k.1 in elim (idle-decided (eviction_counted l) w.chain k.0.chain) [
+        | inl i ↦
+            let d = gone_now k.0 k.1 i in
+            let chains = ap (λ cs. sum_by chain_bytes (present cs)) d.chains in
+            let taken = put-gone l.chains w.chain (on_shown (on_version_of w.version (evicted_at w.position)) k.0) (lost_at k.0 k.1) in
+            let bare = idle-bytes q id (on_shown (on_version_of w.version (evicted_at w.position)) k.0) (counted_at k.0 k.1) rule mid_versions (idle_now k.0 i) in
+            let number = ap (λ o. option_map_or (λ (x : KeptChain). length x.chain.versions) o 0) k.1 in (
+              w,
+              w.chain ∷ [],
+              dropped-with w m l n k.0 (TakenOut s w) t.front k.1 t.changed i d,
+              gone_sum (sum_by chain_bytes (present m.chains)) (sum_by chain_bytes (present l.chains)) (sum_by chain_bytes (present (put w.chain None l.chains))) (chain_bytes (on_shown (on_version_of w.version (evicted_at w.position)) k.0))
+                  (live_bytes m.region) (live_bytes n.region) (S / 8) (length k.0.chain.versions) (versions_together m (w.chain ∷ [])) old_live (new_live ∙ chains) taken
+                  (bare ∙ ap (λ c. 152 * c) (length-on w.version (evicted_at w.position) k.0.chain.versions)) (sum_by-cons (version_count m) w.chain [] ∙ one_only (version_count m w.chain) (length k.0.chain.versions) number) drop,
+            )
+        | inr busy ↦
+            let same = stays_now k.0 k.1 busy in (
+              w,
+              [],
+              kept-with w m l n k.0 (TakenOut s w) t.front k.1 t.changed busy same,
+              kept_sum (sum_by chain_bytes (present m.chains)) (sum_by chain_bytes (present l.chains)) (sum_by chain_bytes (present n.chains)) (live_bytes m.region) (live_bytes n.region) (S / 8) (versions_together m []) old_live new_live
+                  (ap (λ (x : Memory). sum_by chain_bytes (present x.chains)) same) drop,
+            )
+      ]
