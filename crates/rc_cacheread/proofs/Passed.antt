@@ -8,7 +8,7 @@ use Rattle.rc_position.specs.declared.comps.Comp.{Comp}
 use Rattle.rc_position.specs.declared.positions.Pos.{Pos}
 use Rattle.rc_position.specs.Position.{IsBefore, row_pos}
 use Rattle.rc_stream.specs.Places.{Reaches}
-use Rattle.rc_stream.specs.Snapshot.{There, Throughout}
+use Rattle.rc_stream.specs.Snapshot.{NoneLost, There, Throughout}
 use Rattle.rc_cacheread.specs.declared.spots.RowAt.TheVariants as row
 use Rattle.rc_cacheread.specs.declared.spots.Spot.{Spot}
 use Rattle.rc_cacheread.specs.calls.Below.{TakenIn}
@@ -18,9 +18,9 @@ use Rattle.rc_cacheread.specs.Reading.{behind_row}
 use Rattle.rc_cacheread.specs.Spots.{past_row, stand}
 use Rattle.rc_cacheread.proofs.Orders.{behind-within, either-way, never-before, reach-through, same-place}
 
--- what is as it was at the end was never anything else
-pub between : (a b c : ℕ) → a ≤ b → b ≤ c → a ≡ c → (a ≡ b) × (b ≡ c)
-between a b c h k e = (omega (arith, h, k, e), omega (arith, h, k, e))
+-- where nothing was lost in the end nothing was lost before or since
+pub between : (a b c : ℕ) → a ≤ b → b ≤ c → NoneLost a c → NoneLost a b × NoneLost b c
+between a b c h k none = let same = none.0 in let below = none.1 in ((omega (arith, h, k, same), omega (arith, k, below)), (omega (arith, h, k, same), below))
 
 -- where a place stands of which no row was read
 pub same-stand : (s t : Spot) → t.place ≡ s.place → t.row ≡ s.row → s.row ≡ row.Unread → stand t ≡ s.place

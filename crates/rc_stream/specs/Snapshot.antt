@@ -1,7 +1,8 @@
 -- A snapshot that is read by its parts, and what fills it.
 --     IsPartFrom     the first part from a place on
+--     NoneLost       nothing was lost meanwhile
 --     Answers        why a fill was answered so
-use Rattle.std.specs.Prelude.{◌≡◌, ◌≢◌, ◌↔◌, ℕ, ◌<◌, Option, Result, Ok, Err}
+use Rattle.std.specs.Prelude.{◌≡◌, ◌≢◌, ◌↔◌, ◌⊎◌, ◌^◌, ◌-◌, ℕ, ◌<◌, ◌≤◌, Option, Result, Ok, Err}
 use Rattle.rc_cell.specs.declared.rows.Row.{Row}
 use Rattle.rc_cell.specs.declared.writes.Tomb.{Tomb}
 use Rattle.rc_cell.specs.Winner.{empty_row}
@@ -46,12 +47,20 @@ place_behind (Err e) x = x
 abbrev pub SameKnown : (Pos → There → Type 0) → (Pos → There → Type 0) → Type 0
 SameKnown knows now = (x : Pos) (v : There) → knows x v ↔ now x v
 
--- a fill was not taken exactly where the snapshot may not be filled, and was skipped only where something was lost
+-- a count of what was lost stays at this
+abbrev pub most_counted : ℕ
+most_counted = 2 ^ 64 - 1
+
+-- nothing was lost meanwhile, as the count tells while it is below its most
+abbrev pub NoneLost : (before now : ℕ) → Type 0
+NoneLost before now = (before ≡ now) × (now < most_counted)
+
+-- a fill was not taken exactly where the snapshot may not be filled, and was skipped only where something was lost: the count rose, or it stays at its most
 abbrev pub Answers : Fill → Type 0 → (before now : ℕ) → Type 0
 Answers Filled may before now = may
-Answers Skipped may before now = may × (before < now)
+Answers Skipped may before now = may × ((before < now) ⊎ (most_counted ≤ now))
 Answers NotNewest may before now = may → ⊥
 
 -- so much is owed where the snapshot may be filled and nothing was lost
 abbrev pub Unlost : Type 0 → (before now : ℕ) → Type 0 → Type 0
-Unlost may before now P = may → before ≡ now → P
+Unlost may before now P = may → NoneLost before now → P

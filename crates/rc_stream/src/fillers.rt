@@ -36,7 +36,7 @@ pub trait Filler<H> {
     // over this home the snapshot may be filled
     ghost may: { Self → H → Type 0 };
 
-    // how often something was lost so far
+    // how often something was lost so far, up to 2^64 - 1
     ghost lost: { H → ℕ };
 
     // of the snapshot's source this is at the position
