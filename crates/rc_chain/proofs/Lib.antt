@@ -1,3 +1,4 @@
+mod Held
 mod Reading
 mod Opening
 mod Snapshots

@@ -1,2 +1,4 @@
+pub mod Held
 pub mod Lives
+pub mod Marked
 pub mod laws

@@ -4,6 +4,7 @@ ghost use Rattle.lsa_pool.specs.Room.{free_count, spare_of};
 ghost use Rattle.lsa_region.specs.Region.{body, live_bytes, objects, HasLayout, IsWell, Renamed, SameObjects};
 ghost use Rattle.lsa_store.specs.declared.place.Ref.{Ref as Name};
 ghost use Rattle.rc_core.specs.Chains.{IsPinned, at_place};
+ghost use Rattle.rc_position.specs.declared.positions.Pos.{Pos as Position};
 ghost use Rattle.rc_position.specs.Position.{Head};
 ghost use Rattle.rc_memory.specs.Kept.{HasMemory, IsMemory, IsSoundChain, present};
 ghost use Rattle.rc_memory.specs.Room.{ChainsFit, chain_bytes, chain_objects};
@@ -16,13 +17,15 @@ ghost use Rattle.rc_core.specs.Version.{Version, IsVersion};
 ghost use Rattle.rc_memory.specs.Recency.{IsRecency, MayBeListed, MustBeListed};
 ghost use Rattle.rc_memory.specs.Changes.{Nowhere, OfVersion, StandStill};
 ghost use Rattle.rc_memory.specs.laws.One.{memory-prop};
+ghost use Rattle.rc_chain.specs.Held.{IsHeldAt};
+ghost use Rattle.rc_chain.specs.Marked.{HasMarksAt};
 
 use lsa_list::List;
 use lsa_move::{Ensured, compact_one, ensure};
 use lsa_region::{End, Ref, Region};
-use rc_core::ChainKind;
+use rc_core::{ChainKind, Mark};
 use rc_memory::Counts;
-use rc_object::head_of;
+use rc_object::{head_of, marks};
 use rc_partition::{count, home, version};
 use rc_registry::Registry;
 use rc_rowcode::Scratch;
@@ -104,7 +107,7 @@ impl<const S: usize> Chains<S> {
         })
     }
 
-    /// What all chains keep: each is sound, the recency list has what it must and nothing else, and what may be joined fits; each object of the region is a version of a chain or stands at a place of one, so that what is live, and how many objects there are, is the sum over the chains. It does nothing.
+    /// What all chains keep: each is sound, the recency list has what it must and nothing else, and what may be joined fits; what stands at a place holds what its version has there; each object of the region is a version of a chain or stands at a place of one, so that what is live, and how many objects there are, is the sum over the chains. It does nothing.
     pub fn known(&self)
         ensures sound { (id : ℕ) → IfSome (chain_at self.now id) (λ k. IsSoundChain k.chain) }
         ensures rule { IsRecency self.now }
@@ -113,6 +116,7 @@ impl<const S: usize> Chains<S> {
         ensures live { live_bytes self.now.region ≡ sum_by chain_bytes (present self.now.chains) }
         ensures objects { objects self.now.region ≡ sum_by chain_objects (present self.now.chains) }
         ensures each { (r : Name) → IsSome (body self.now.region r) → ((id : ℕ) × (j : ℕ) × IsVersionObject self.now id j r) ⊎ ((w : Member) × IsMemberObject self.now r w) }
+        ensures held { (r : Name) (w : Member) → IsMemberObject self.now r w → IsHeldAt self.now r w }
         ensures place { (r : Name) (w x : Member) → IsMemberObject self.now r w → IsMemberObject self.now r x → w ≡ x }
         ensures told { (id : ℕ) → IsNumberIn self.now.dropped id → chain_at self.now id ≡ None }
         ensures once { AreOnce self.now.dropped }
@@ -243,6 +247,14 @@ impl<const S: usize> Chains<S> {
     {
         let (root, number) = home(&self.region, r);
         (self.registry.owner(root), number)
+    }
+
+    /// The marks of an entry of a chain: at its position, and over the gap before it.
+    pub fn marks(&self, e: Ref) -> (Mark, Mark)
+        requires { (w : Member) × (x : Position) × (w.position ≡ Some x) × IsMemberObject self.now e w }
+        ensures { (w : Member) (x : Position) → w.position ≡ Some x → IsMemberObject self.now e w → OfVersion self.now w.chain w.version (λ k v. HasMarksAt x result.0 result.1 v) }
+    {
+        marks(&self.region, e)
     }
 
     /// Empties sparse segments until `need` bytes are spare, 7S/8 at most, or none is sparse. All chains stay, under new names of their objects.

@@ -13,7 +13,7 @@ ghost use Rattle.rc_core.specs.Continuity.{with_entries, without_statics};
 ghost use Rattle.rc_core.specs.Steps as steps;
 ghost use Rattle.rc_core.specs.Version.{On, Version, end_position, seen};
 ghost use Rattle.rc_object.specs.Objects.{IsRowCode};
-ghost use Rattle.rc_version.specs.Versions.{IsVersionOf, bytes_at, joined_bytes, raised_between};
+ghost use Rattle.rc_version.specs.Versions.{IsVersionOf, bytes_at, joined_bytes, known_between, marked, marked_between};
 ghost use Rattle.rc_memory.specs.Memory.{KeptChain, Member, HasVersion, IsMemberObject};
 ghost use Rattle.rc_memory.specs.Changes.{AtAlone, FitsChanged, IsRenewed, IsRenewedWhereNone, IsVersionChanged, IsWithout, KeepsLast, LastIsListed, Nowhere, OfVersion, member};
 
@@ -25,7 +25,7 @@ use rc_object::row_code;
 use rc_position::{Key, Pos};
 use rc_rowcode::laws::joined_row_has_a_code;
 use rc_rowcode::{Scratch, join_codes};
-use rc_version::static_row;
+use rc_version::{Marking, static_row};
 
 impl<const S: usize> Chains<S> {
     /// Gives an entry of a chain other flags, at it and over the gap before it. Its tombstones stay.
@@ -81,17 +81,17 @@ impl<const S: usize> Chains<S> {
         rc_recency::set_phase(&mut self.region, v, phase);
     }
 
-    // The greater range tombstone at each entry of a version from one position on and before another, at both of which entries stand, and over each gap between them.
-    fn raise(&mut self, id: u64, number: u64, from: &Pos, to: &Pos, tomb: Tomb)
+    // Changes the marks of a version from one position on and before another, at both of which entries stand: at each entry and over each gap between them.
+    fn mark_between(&mut self, id: u64, number: u64, from: &Pos, to: &Pos, marking: Marking)
         requires ascend { IsBefore from.now to.now }
         requires version { HasVersion self.old id number }
         requires entries { OfVersion self.old id number (λ k v. HasEntryAt from.now v.entries × HasEntryAt to.now v.entries) }
-        ensures raised { IsVersionChanged id number (raised_between from.now to.now tomb) Nowhere self.old self.new }
+        ensures marked { IsVersionChanged id number (marked_between (marked marking) from.now to.now) Nowhere self.old self.new }
         ensures recency { self.new.recency ≡ self.old.recency }
         ensures spare { spare_of S self.new.region.usages ≡ spare_of S self.old.region.usages }
     {
         let v = self.version(id, number);
-        rc_recency::raise(&mut self.region, v, from, to, tomb);
+        rc_recency::mark_between(&mut self.region, v, from, to, marking);
     }
 
     /// The entry of a version at a position. Where there is none, a dummy is made with the flag and the tombstone of the gap there, so that no answer at any position changes; in a cache chain it goes to the back of the recency list. Where an update stands in the version, its last entry before the end stays the last one, or is in the recency list.
@@ -253,7 +253,19 @@ impl<const S: usize> Chains<S> {
         let _ = &self.region;
         self.split(id, number, from);
         self.split(id, number, to);
-        self.raise(id, number, from, to, tomb);
+        self.mark_between(id, number, from, to, Marking::Raise(tomb));
+    }
+
+    /// Makes a version say of each entry from one position on and before another, at both of which entries stand, and over each gap between them, that it is known, and that this range tombstone, or none, is in force. The entry at the end itself stays, and so do all rows.
+    pub fn know_between(&mut self, id: u64, number: u64, from: &Pos, to: &Pos, tomb: Option<Tomb>)
+        requires ascend { IsBefore from.now to.now }
+        requires version { HasVersion self.old id number }
+        requires entries { OfVersion self.old id number (λ k v. HasEntryAt from.now v.entries × HasEntryAt to.now v.entries) }
+        ensures known { IsVersionChanged id number (known_between from.now to.now tomb) Nowhere self.old self.new }
+        ensures recency { self.new.recency ≡ self.old.recency }
+        ensures spare { spare_of S self.new.region.usages ≡ spare_of S self.old.region.usages }
+    {
+        self.mark_between(id, number, from, to, Marking::Know(tomb));
     }
 }
 

@@ -22,22 +22,22 @@ split-requires-2 g c =
     let one = c.split.ensures.spare in let all = c.requires.spare in
     (omega arith, (c.requires.limits.1, ((has-then c.args.self.now c.split.new.self c.args.id c.args.number (λ (d : Version). with_entries (change.split c.args.from.now d.entries) d) c.split.ensures.changed c.requires.version), (omega (arith, one, all), (c.requires.fits.1, keeps-split-last g.row.S s.recency s.region s.registry s.counts c.args.self.now n c.args.id c.args.number c.requires.last c.args.from.now (before-inner c.args.from.now c.args.to.now c.requires.ascend) c.split.new.self c.split.ensures.changed c.split.ensures.recency c.requires.version (λ (d : Version). with_entries (change.split c.args.to.now d.entries) d))))))
 
-pub raise-requires : goal.raise-requires
-raise-requires g c =
+pub mark_between-requires : goal.mark_between-requires
+mark_between-requires g c =
     let s = c.self.inside in let n = memory-now g.row.S s.recency s.region s.registry s.counts s.memory c.args.self.now c.self.view_is c.self.invariant.0 c.self.invariant.1 in
     (omega arith, (c.requires.ascend, ((has-then c.split.new.self c.split-2.new.self c.args.id c.args.number (λ (d : Version). with_entries (change.split c.args.to.now d.entries) d) c.split-2.ensures.changed (has-then c.args.self.now c.split.new.self c.args.id c.args.number (λ (d : Version). with_entries (change.split c.args.from.now d.entries) d) c.split.ensures.changed c.requires.version)), (of-then c.split.new.self c.split-2.new.self c.args.id c.args.number (λ (d : Version). with_entries (change.split c.args.to.now d.entries) d) c.split-2.ensures.changed (has-then c.args.self.now c.split.new.self c.args.id c.args.number (λ (d : Version). with_entries (change.split c.args.from.now d.entries) d) c.split.ensures.changed c.requires.version) (λ (k : KeptChain) (v : Version). HasEntryAt c.args.from.now v.entries × HasEntryAt c.args.to.now v.entries) (of-then c.args.self.now c.split.new.self c.args.id c.args.number (λ (d : Version). with_entries (change.split c.args.from.now d.entries) d) c.split.ensures.changed c.requires.version (λ (k : KeptChain) (v : Version). HasEntryAt c.args.from.now (change.split c.args.to.now v.entries) × HasEntryAt c.args.to.now (change.split c.args.to.now v.entries)) (λ k v e at. split-twice c.args.from.now c.args.to.now v.entries (version-is s.recency s.region s.registry s.counts c.args.self.now n.held c.args.id c.args.number k v e at).ends))))))
 
 pub returns-clause-joined : goal.returns-clause-joined
 returns-clause-joined g c =
-    changed-both c.args.id c.args.number (λ (d : Version). with_entries (change.split c.args.from.now d.entries) d) (λ (d : Version). raised_between c.args.from.now c.args.to.now c.args.tomb ((λ (d : Version). with_entries (change.split c.args.to.now d.entries) d) d)) c.args.self.now c.split.new.self c.raise.new.self c.split.ensures.changed (changed-both c.args.id c.args.number (λ (d : Version). with_entries (change.split c.args.to.now d.entries) d) (raised_between c.args.from.now c.args.to.now c.args.tomb) c.split.new.self c.split-2.new.self c.raise.new.self c.split-2.ensures.changed c.raise.ensures.raised)
+    changed-both c.args.id c.args.number (λ (d : Version). with_entries (change.split c.args.from.now d.entries) d) (λ (d : Version). raised_between c.args.from.now c.args.to.now c.args.tomb ((λ (d : Version). with_entries (change.split c.args.to.now d.entries) d) d)) c.args.self.now c.split.new.self c.mark_between.new.self c.split.ensures.changed (changed-both c.args.id c.args.number (λ (d : Version). with_entries (change.split c.args.to.now d.entries) d) (raised_between c.args.from.now c.args.to.now c.args.tomb) c.split.new.self c.split-2.new.self c.mark_between.new.self c.split-2.ensures.changed c.mark_between.ensures.marked)
 
 pub returns-clause-recency : goal.returns-clause-recency
 returns-clause-recency g c =
     λ k v e at.
     let there = chain-after c.args.self.now c.split.new.self c.args.id c.args.number (λ (d : Version). with_entries (change.split c.args.from.now d.entries) d) c.split.ensures.changed k e in let number = number-after c.args.number (λ (d : Version). with_entries (change.split c.args.from.now d.entries) d) k v at in
-    let second = subst (λ list. IsRenewedWhereNone k.chain.kind (with_entries (change.split c.args.from.now v.entries) v) (member c.args.id c.args.number (Some c.args.to.now)) c.split.new.self.recency list) (sym c.raise.ensures.recency) (c.split-2.ensures.recency _ _ there number) in
-    (c.split.new.self.recency, c.split.ensures.recency k v e at, split-both k.chain.kind v c.args.from.now c.args.to.now (member c.args.id c.args.number (Some c.args.to.now)) refl (before-differs c.args.from.now c.args.to.now c.requires.ascend) c.split.new.self.recency c.raise.new.self.recency second)
+    let second = subst (λ list. IsRenewedWhereNone k.chain.kind (with_entries (change.split c.args.from.now v.entries) v) (member c.args.id c.args.number (Some c.args.to.now)) c.split.new.self.recency list) (sym c.mark_between.ensures.recency) (c.split-2.ensures.recency _ _ there number) in
+    (c.split.new.self.recency, c.split.ensures.recency k v e at, split-both k.chain.kind v c.args.from.now c.args.to.now (member c.args.id c.args.number (Some c.args.to.now)) refl (before-differs c.args.from.now c.args.to.now c.requires.ascend) c.split.new.self.recency c.mark_between.new.self.recency second)
 
 pub returns-clause-spare : goal.returns-clause-spare
 returns-clause-spare g c =
-    let one = c.split.ensures.spare in let two = c.split-2.ensures.spare in let three = c.raise.ensures.spare in omega (arith, one, two, three)
+    let one = c.split.ensures.spare in let two = c.split-2.ensures.spare in let three = c.mark_between.ensures.spare in omega (arith, one, two, three)

@@ -8,6 +8,7 @@ use Rattle.rc_memory.specs.Kept.{present}
 use Rattle.rc_memory.specs.laws.At.{version-is}
 use Rattle.rc_memory.specs.laws.Each.{bytes-told, each-told, objects-told}
 use Rattle.rc_memory.specs.laws.Places.{one-place}
+use Rattle.rc_chain.proofs.Held.{held-at}
 use Rattle.rc_chain.proofs.Reading.{at-place, memory-now, unused}
 use Rattle.rc_chain.proofs.chains.Chains.known.Goals as goal
 
@@ -48,6 +49,11 @@ returns-clause-each g c =
       | inl version ↦ inl version
       | inr row ↦ inr (row.0, subst (λ (v : View). IsObjectAt v c.args.self.now.standing r row.0) (sym n.held.region) row.1)
     ]
+
+pub returns-clause-held : goal.returns-clause-held
+returns-clause-held g c =
+    let s = c.self.inside in let n = memory-now g.row.S s.recency s.region s.registry s.counts s.memory c.args.self.now c.self.view_is c.self.invariant.0 c.self.invariant.1 in
+    held-at s.recency s.region s.registry s.counts c.args.self.now n.held
 
 pub returns-clause-place : goal.returns-clause-place
 returns-clause-place g c =
