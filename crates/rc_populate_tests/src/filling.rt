@@ -103,11 +103,7 @@ fn fill_between(
 }
 
 // What a new chain, in which a whole partition was filled as one gap, says from its beginning on. The snapshot is given back.
-fn emptied(
-    alloc: Global,
-    chains: &mut Chains<4096>,
-    tomb: Option<Tomb>,
-) -> Result<Part, AllocError>
+fn emptied(alloc: Global, chains: &mut Chains<4096>, tomb: Option<Tomb>) -> Result<Part, AllocError>
     requires spare { 1176 ≤ spare_of 4096 chains.old.region.usages }
 {
     let from = bare(alloc, Weight::Before);
