@@ -1,6 +1,6 @@
 -- What the object at a place holds, where region, recency list, table and counts hold a memory.
-use Rattle.std.proofs.Common.{◌≡◌, ℕ, Option, Some, None, refl, sym, subst}
-use Rattle.std.specs.Prelude.{Contains, IsSomeAnd}
+use Rattle.std.proofs.Common.{◌≡◌, ℕ, Option, Some, None, sym, subst}
+use Rattle.std.specs.Prelude.{IsSomeAnd}
 use Rattle.lsa_list.specs.declared.recency.List.{List as Slots}
 use Rattle.lsa_region.specs.Region.{View}
 use Rattle.lsa_store.specs.declared.place.Ref.{Ref}
