@@ -1,0 +1,4 @@
+pub mod Found
+pub mod Entries
+pub mod Detached
+pub mod calls

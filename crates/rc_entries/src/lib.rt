@@ -1,0 +1,8 @@
+//! Which partitions are in the row cache: an index by partition key of the chains of the cache.
+#![tactic(auto)]
+
+mod entries;
+mod index;
+pub mod laws;
+
+pub use entries::Entries;
