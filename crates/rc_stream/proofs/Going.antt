@@ -1,9 +1,8 @@
 -- What calls one after another make of a home and a store, and of what causes a refusal.
-use Rattle.std.specs.Prelude.{◌≡◌, ℕ, zero, suc, ◌≤◌}
-use Rattle.std.proofs.Common.{refl, sym, ◌∙◌, subst, inl, inr}
+use Rattle.std.specs.Prelude.{◌≡◌, ℕ, zero, suc}
+use Rattle.std.proofs.Common.{refl, sym, subst, inl, inr}
 use Rattle.rc_position.specs.declared.positions.Pos.{Pos}
 use Rattle.rc_position.specs.Position.{pos_cmp}
-use Rattle.rc_outside.specs.Files.{Files}
 use Rattle.rc_stream.specs.declared.holding.Held.{Held}
 use Rattle.rc_stream.specs.declared.merges.Merge.{Merge}
 use Rattle.rc_stream.specs.declared.parts.Peeked.{Peeked}
@@ -11,7 +10,6 @@ use Rattle.rc_stream.specs.declared.holding.Step.{Step}
 use Rattle.rc_stream.specs.declared.holding.Step.TheVariants as step
 use Rattle.rc_stream.specs.declared.holding.Turn.{Turn}
 use Rattle.rc_stream.specs.declared.holding.Turn.TheVariants as turn
-use Rattle.rc_stream.specs.declared.streams.StreamErr.{StreamErr}
 use Rattle.rc_stream.specs.Both.{MaySeekBoth}
 use Rattle.rc_stream.specs.Merging.{place_of}
 use Rattle.rc_stream.specs.Places.{Reaches}

@@ -1,7 +1,6 @@
 -- A seek of two streams merged is both sought, merged; a later seek forgets an earlier one.
 use Rattle.std.specs.Prelude.{◌≡◌, Bool, true, false, cond, List, [], ◌∷◌, ◌++◌, Option, Some, None}
 use Rattle.std.proofs.Common.{refl, sym, ap, ◌∙◌}
-use Rattle.std.specs.declared.cmp.Ordering.{Ordering}
 use Rattle.std.specs.declared.cmp.Ordering.TheVariants.{Less, Equal, Greater}
 use Rattle.std.specs.Ordering.{is_le, is_lt, ordering_reverse, ordering_then}
 use Rattle.std.specs.Cmp.{tied_itself}
@@ -10,14 +9,14 @@ use Rattle.rc_cell.specs.declared.writes.Tomb.{Tomb}
 use Rattle.rc_cell.specs.Greatest.{greater}
 use Rattle.rc_cell.specs.Orders.{tomb_cmp}
 use Rattle.rc_position.specs.declared.positions.Pos.{Pos}
-use Rattle.rc_position.specs.Position.{pos_cmp, row_pos}
+use Rattle.rc_position.specs.Position.{pos_cmp}
 use Rattle.rc_position.specs.laws.Orders.{pos_cmp_total}
 use Rattle.rc_mutation.specs.declared.fragments.Frag.{Frag}
 use Rattle.rc_mutation.specs.declared.fragments.Frag.TheVariants as frag
 use Rattle.rc_mutation.specs.declared.fragments.Head.{Head}
-use Rattle.rc_mutation.specs.Fragments.{place_order, tomb_after}
+use Rattle.rc_mutation.specs.Fragments.{place_order}
 use Rattle.rc_stream.specs.Stream.{Stream, force, is_passed, onward, opening, sought}
-use Rattle.rc_stream.specs.Merging.{IsInner, IsOrdered, IsTelling, StandsBefore, joined_head, merged, merged_left, place_of, rows_here}
+use Rattle.rc_stream.specs.Merging.{IsOrdered, StandsBefore, joined_head, merged, merged_left, rows_here}
 use Rattle.rc_stream.specs.laws.Ordered.{Place, Lt, before-through, irreflexive, no_rows, stop, turned}
 use Rattle.rc_stream.proofs.Merged.{merged-says, one_row}
 use Rattle.rc_stream.proofs.Determined.{determined}

@@ -5,7 +5,6 @@
 use Rattle.std.specs.Prelude.{◌≡◌, Option, Some, None, IfSome}
 use Rattle.rc_position.specs.declared.positions.Pos.{Pos}
 use Rattle.rc_stream.specs.declared.merges.Merge.{Merge}
-use Rattle.rc_stream.specs.Holding.{held}
 use Rattle.rc_stream.specs.Moving.{Holds, Keeps, KeepsSeen, MaySeek, nothing_held}
 use Rattle.rc_stream.specs.Places.{Reaches}
 use Rattle.rc_stream.specs.Showing.{EitherSpot, FileSpots, MergesTwo}

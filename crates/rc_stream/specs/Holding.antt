@@ -12,7 +12,6 @@ use Rattle.rc_stream.specs.declared.holding.Look.{Look}
 use Rattle.rc_stream.specs.declared.holding.Look.TheVariants as look
 use Rattle.rc_stream.specs.declared.holding.Turn.{Turn}
 use Rattle.rc_stream.specs.declared.holding.Turn.TheVariants as turn
-use Rattle.rc_stream.specs.declared.lists.Front.TheVariants as front
 use Rattle.rc_stream.specs.Fronts.{front_change, front_tomb}
 use Rattle.rc_stream.specs.Places.{Reaches}
 use Rattle.rc_position.specs.Position.{pos_cmp}

@@ -1,6 +1,5 @@
 -- A change where another stream has a tombstone in force.
 use Rattle.std.specs.Prelude.{Option}
-use Rattle.rc_cell.specs.declared.rows.Row.{Row}
 use Rattle.rc_cell.specs.declared.writes.Tomb.{Tomb}
 use Rattle.rc_cell.specs.Greatest.{greater}
 use Rattle.rc_cell.specs.Orders.{tomb_cmp}
