@@ -7,7 +7,7 @@ use Rattle.rc_stream.specs.Snapshot.{SameKnown, There}
 use Rattle.rc_cacheread.specs.calls.Below.{StaysLost, TakenIn}
 use Rattle.rc_cacheread.specs.Did.{ReaderFilled}
 use Rattle.rc_cacheread.specs.Passing.{IsKnownOver}
-use Rattle.rc_cacheread.specs.Sharing.{Fit, Kept, OfBelow, OfFiller, OfKnown, Shares}
+use Rattle.rc_cacheread.specs.Sharing.{Fit, Kept, OfBelow, OfFiller, OfKnown, Shares, StillStands}
 use Rattle.rc_cacheread.proofs.Leaving.{FillsLeft, KnownLeft, fills-left}
 use Rattle.rc_cacheread.proofs.Passed.{between, over-ends, over-over, over-still}
 
@@ -54,10 +54,10 @@ module _ {K F P H W : Type 0} (kn : OfKnown K H) (be : OfBelow F H W) (fi : OfFi
   }
 
   -- a call of the stream below and then fills, from where a reader stands on
-  pub filled-read : (b : F) (w : W) (k : K) (p q : P) (h g i : H) (x x' y : Pos) → x' ≡ x → Fit kn be fi k b p g w × Kept kn fi k p h k p g × SameKnown (kn.knows k h) (kn.knows k g) → FillsLeft kn be fi k b w (p, g) (q, i) → TakenIn fi.may fi.lost fi.knows p g q i (IsKnownOver (fi.knows q i) x y) → ReaderFilled kn fi k p h k q i (IsKnownOver (kn.knows k i) x' y)
+  pub filled-read : (b : F) (w : W) (k : K) (p q : P) (h g i : H) (x x' y : Pos) → x' ≡ x → Fit kn be fi k b p g w × Kept kn fi k p h k p g × StillStands fi p h p g × SameKnown (kn.knows k h) (kn.knows k g) → FillsLeft kn be fi k b w (p, g) (q, i) → TakenIn fi.may fi.lost fi.knows p g q i (IsKnownOver (fi.knows q i) x y) → ReaderFilled kn fi k p h k q i (IsKnownOver (kn.knows k i) x' y)
   filled-read b w k p q h g i x x' y e a d t =
       filled-then kn fi k k k p p q h g i ⊤ (IsKnownOver (kn.knows k i) x' y)
-      (filled-below k p h g ⊤ a.1 a.2 tt)
+      (filled-below k p h g ⊤ a.1 a.3 tt)
       (filled-in b w k p q g i (IsKnownOver (fi.knows q i) x y) (IsKnownOver (kn.knows k i) x' y) a.0 d (λ c. over-ends (kn.knows k i) x x' y y e refl (over-still (fi.knows q i) (kn.knows k i) (λ z v. (d.fit.same z v).0) x y c)) t)
 
   -- along fills from here on what was lost is not forgotten

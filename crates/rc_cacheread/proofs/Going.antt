@@ -9,9 +9,10 @@ use Rattle.rc_position.specs.declared.positions.Pos.{Pos}
 use Rattle.rc_position.specs.Position.{IsBefore, row_pos}
 use Rattle.rc_mutation.specs.declared.fragments.Frag.{Frag}
 use Rattle.rc_mutation.specs.declared.fragments.Frag.TheVariants as frag
+use Rattle.rc_mutation.specs.declared.mutations.Mutation.{Mutation}
 use Rattle.rc_stream.specs.Merging.{same_tomb}
 use Rattle.rc_stream.specs.Places.{Passes, Reaches}
-use Rattle.rc_stream.specs.Snapshot.{There}
+use Rattle.rc_stream.specs.Snapshot.{SayThere, There}
 use Rattle.rc_stream.specs.Stream.{Stream, first_upto, is_upto, took}
 use Rattle.rc_cacheread.specs.declared.readers.Stage.{Stage}
 use Rattle.rc_cacheread.specs.declared.readers.Stage.TheVariants.{Away, Sought, Within}
@@ -65,22 +66,22 @@ pub record Gone (S : Pos → There → Type 0) (seen now : Stream → Type 0) (t
 
 -- ---- what may be filled
 
-pub tells : (S : Pos → There → Type 0) (T : Row → Type 0) (seen : Stream → Type 0) (x upto end to : Pos) (u : Option Tomb) (got : Option Frag) → Leads S T seen Within x to u → Reaches end to → ((t : Stream) → seen t → got ≡ first_upto (near_of upto end) t.left) → IfSome got (λ f. IsTrue (is_upto (near_of upto end) f)) → Tells S x (near_of upto end) end u (found_of got)
-tells S T seen x upto end to u None l e g k = λ y h n b. l.each y (empty_row, u) h (before-reaches y end to b e) (λ t s f. sym (nothing-says (near_of upto end) y x u t f (sym (g t s)) n))
-tells S T seen x upto end to u (Some (frag.Start pt)) l e g k = untrue (sym k)
-tells S T seen x upto end to u (Some (frag.Static r)) l e g k = untrue (sym k)
-tells S T seen x upto end to u (Some (frag.Row key r)) l e g k =
+pub tells : (writes : List Mutation) (seen : Stream → Type 0) (x upto end to : Pos) (u : Option Tomb) (got : Option Frag) → Leads writes seen Within x to u → Reaches end to → ((t : Stream) → seen t → got ≡ first_upto (near_of upto end) t.left) → IfSome got (λ f. IsTrue (is_upto (near_of upto end) f)) → Tells (SayThere writes) x (near_of upto end) end u (found_of got)
+tells writes seen x upto end to u None l e g k = λ y h n b. l.each y (empty_row, u) h (before-reaches y end to b e) (λ t s f. sym (nothing-says (near_of upto end) y x u t f (sym (g t s)) n))
+tells writes seen x upto end to u (Some (frag.Start pt)) l e g k = untrue (sym k)
+tells writes seen x upto end to u (Some (frag.Static r)) l e g k = untrue (sym k)
+tells writes seen x upto end to u (Some (frag.Row key r)) l e g k =
     let near = near_of upto end in
     let z = row_pos key in
     let b : IsBefore z to = before-reaches z end to (near-row key upto end k) e in (
       λ y h c. l.each y (empty_row, u) h (before-reaches y z to c (before-reach z to b)) (λ t s f. sym ((first-row key r x near u t f (sym (g t s))).before y c)),
       λ h. l.each z (r, u) h b (λ t s f. sym (first-row key r x near u t f (sym (g t s))).there_is),
     )
-tells S T seen x upto end to u (Some (frag.Change from next)) l e g k =
+tells writes seen x upto end to u (Some (frag.Change from next)) l e g k =
     let near = near_of upto end in
     let on : Reaches from to = reach-through from near to k (reach-through near end to (near-within upto end) e) in
     λ y h c. l.each y (empty_row, u) h (before-reaches y from to c on) (λ t s f. sym ((first-change from next x near u t f (sym (g t s))).before y c))
-tells S T seen x upto end to u (Some frag.End) l e g k = untrue (sym k)
+tells writes seen x upto end to u (Some frag.End) l e g k = untrue (sym k)
 
 -- ---- behind the place
 
@@ -170,13 +171,13 @@ module _ (S : Pos → There → Type 0) (seen now : Stream → Type 0) (to upto 
 
 -- ---- at the place itself
 
-pub tells-here : (S : Pos → There → Type 0) (T : Row → Type 0) (seen : Stream → Type 0) (x to : Pos) (u : Option Tomb) (got : Option Frag) → Leads S T seen Sought x to u → IsBefore x to → ((t : Stream) → seen t → got ≡ first_upto x t.left) → TellsHere S x (found_of got)
-tells-here S T seen x to u None l b g = tt
-tells-here S T seen x to u (Some (frag.Start pt)) l b g = tt
-tells-here S T seen x to u (Some (frag.Static r)) l b g = tt
-tells-here S T seen x to u (Some (frag.Row key r)) l b g = λ e. l.each x (r, None) (reach-itself x) b (λ t s f. sym (subst (λ z. said_at z t.tomb t.left ≡ (r, None)) e (first-row key r x x None t f (sym (g t s))).there_is))
-tells-here S T seen x to u (Some (frag.Change from next)) l b g = tt
-tells-here S T seen x to u (Some frag.End) l b g = tt
+pub tells-here : (writes : List Mutation) (seen : Stream → Type 0) (x to : Pos) (u : Option Tomb) (got : Option Frag) → Leads writes seen Sought x to u → IsBefore x to → ((t : Stream) → seen t → got ≡ first_upto x t.left) → TellsHere (SayThere writes) x (found_of got)
+tells-here writes seen x to u None l b g = tt
+tells-here writes seen x to u (Some (frag.Start pt)) l b g = tt
+tells-here writes seen x to u (Some (frag.Static r)) l b g = tt
+tells-here writes seen x to u (Some (frag.Row key r)) l b g = λ e. l.each x (r, None) (reach-itself x) b (λ t s f. sym (subst (λ z. said_at z t.tomb t.left ≡ (r, None)) e (first-row key r x x None t f (sym (g t s))).there_is))
+tells-here writes seen x to u (Some (frag.Change from next)) l b g = tt
+tells-here writes seen x to u (Some frag.End) l b g = tt
 
 module _ (S : Pos → There → Type 0) (seen now : Stream → Type 0) (to upto : Pos) (s t : Spot) (i : HasNothingDue s) (inside : IsBefore s.place to) where
   abbrev Here : Option Frag → Type 0
@@ -232,8 +233,8 @@ pub at-on : (b : Bool) (p x y : Pos) → b ≡ true → IsPlaceAt b p x → Reac
 at-on true p x y e a h = reach-through p x y a h
 at-on false p x y e a h = untrue (sym e)
 
-pub leads-here : (S S' : Pos → There → Type 0) (T : Row → Type 0) (seen : Stream → Type 0) (x y to : Pos) (u : Option Tomb) (a : Stage) {b : Stage} → a ≡ b → x ≡ y → ((z : Pos) (d : There) → S z d → S' z d) → Leads S T seen a x to u → Leads S' T seen b y to u
-leads-here S S' T seen x y to u a {b} p q s l = subst (λ (z : Stage × Pos). Leads S' T seen z.0 z.1 to u) (λ i. (p i, q i)) (record { each = λ z d h k f. s z d (l.each z d h k f); static_row = l.static_row })
+pub leads-here : (writes : List Mutation) (seen : Stream → Type 0) (x y to : Pos) (u : Option Tomb) (a : Stage) {b : Stage} → a ≡ b → x ≡ y → Leads writes seen a x to u → Leads writes seen b y to u
+leads-here writes seen x y to u a {b} p q l = subst (λ (z : Stage × Pos). Leads writes seen z.0 z.1 to u) (λ i. (p i, q i)) l
 
 pub at-lags : (b : Bool) (p x : Pos) → IsPlaceAt b p x → Reaches p x
 at-lags true p x a = a

@@ -9,6 +9,7 @@ use Rattle.rc_position.specs.declared.positions.Pos.{Pos}
 use Rattle.rc_position.specs.Position.{IsBefore, row_pos}
 use Rattle.rc_mutation.specs.declared.fragments.Frag.{Frag}
 use Rattle.rc_mutation.specs.declared.fragments.Frag.TheVariants as frag
+use Rattle.rc_mutation.specs.declared.mutations.Mutation.{Mutation}
 use Rattle.rc_stream.specs.Places.{Reaches}
 use Rattle.rc_stream.specs.Snapshot.{There}
 use Rattle.rc_stream.specs.Stream.{Stream, first_upto, force, took}
@@ -39,14 +40,11 @@ pub record Outcome (S : Pos → There → Type 0) (seen now : Stream → Type 0)
 pub outcome-at : (S : Pos → There → Type 0) (seen now : Stream → Type 0) (to : Pos) (a : Stage) (x : Pos) (u : Option Tomb) (b b' : Stage) (y y' : Pos) (v v' : Option Tomb) (due due' : List Frag) → b' ≡ b → y' ≡ y → v' ≡ v → due' ≡ due → Outcome S seen now to a x u b y v due → Outcome S seen now to a x u b' y' v' due'
 outcome-at S seen now to a x u b b' y y' v v' due due' p q r s o = subst (λ (z : Stage × Pos × Option Tomb × List Frag). Outcome S seen now to a x u z.0 z.1 z.2 z.3) (λ i. (sym p i, sym q i, sym r i, sym s i)) o
 
-pub leads-on : (S S' : Pos → There → Type 0) (T T' : Row → Type 0) (seen now : Stream → Type 0) (to : Pos) (a : Stage) (x : Pos) (u : Option Tomb) (b : Stage) (y : Pos) (v : Option Tomb) → Carries seen a x u now b y v → Reaches x y → ((z : Pos) (d : There) → S z d → S' z d) → ((row : Row) → T row → T' row) → Leads S T seen a x to u → Leads S' T' now b y to v
-leads-on S S' T T' seen now to a x u b y v c on s r l = record {
-  each = λ z d h k q. s z d (l.each z d (reach-through x y z on h) k (λ t p f. (let n = c.each t p f in q n.0 n.1 n.2 ∙ n.3 z h)));
-  static_row = λ row q. r row (l.static_row row (λ t p f. (let n = c.each t p f in q n.0 n.1 n.2 ∙ n.4)));
+pub leads-on : (writes : List Mutation) (seen now : Stream → Type 0) (to : Pos) (a : Stage) (x : Pos) (u : Option Tomb) (b : Stage) (y : Pos) (v : Option Tomb) → Carries seen a x u now b y v → Reaches x y → Leads writes seen a x to u → Leads writes now b y to v
+leads-on writes seen now to a x u b y v c on l = record {
+  each = λ z d h k q. l.each z d (reach-through x y z on h) k (λ t p f. (let n = c.each t p f in q n.0 n.1 n.2 ∙ n.3 z h));
+  static_row = λ row q. l.static_row row (λ t p f. (let n = c.each t p f in q n.0 n.1 n.2 ∙ n.4));
 }
-
-pub reads-on : (S S' : Pos → There → Type 0) (x to : Pos) (u : Option Tomb) (fs : List Frag) → ((z : Pos) (d : There) → S' z d → S z d) → Reads S x to u fs → Reads S' x to u fs
-reads-on S S' x to u fs s r = record { ordered = r.ordered; telling = r.telling; written = r.written; apart = r.apart; from = r.from; within = λ y v h b d. r.within y v h b (s y v d); beyond = r.beyond }
 
 pub carries-same : (seen now : Stream → Type 0) (a : Stage) (x : Pos) (u : Option Tomb) → ((t : Stream) → seen t → now t) → Carries seen a x u now a x u
 carries-same seen now a x u on = record { each = λ t s f. (t, on t s, f, λ z h. refl, refl) }

@@ -14,14 +14,14 @@ use Rattle.rc_mutation.specs.declared.fragments.Frag.{Frag}
 use Rattle.rc_mutation.specs.declared.fragments.Frag.TheVariants as frag
 use Rattle.rc_stream.specs.Merging.{same_tomb}
 use Rattle.rc_stream.specs.Places.{Reaches}
-use Rattle.rc_stream.specs.Snapshot.{IsPartFrom, SameKnown, There, Throughout}
+use Rattle.rc_stream.specs.Snapshot.{IsPartFrom, SameKnown, SayThere, There, Throughout}
 use Rattle.rc_stream.specs.Stream.{Stream}
 use Rattle.rc_cacheread.specs.declared.readers.CacheReader.{CacheReader}
 use Rattle.rc_cacheread.specs.declared.readers.Stage.{Stage}
 use Rattle.rc_cacheread.specs.declared.readers.Stage.TheVariants.{Away, Sought, Within}
 use Rattle.rc_cacheread.specs.declared.spots.Spot.{Spot}
 use Rattle.rc_cacheread.specs.Reading.{Reads, behind_row, said_at}
-use Rattle.rc_cacheread.specs.Sharing.{Fits, IsPlaceAt, IsReady, IsSaidBelow, IsAllKnown, Leads, OfBelow, OfFiller, OfKnown, Sees}
+use Rattle.rc_cacheread.specs.Sharing.{Fits, IsAllKnown, IsPlaceAt, IsReady, IsSaidBelow, Leads, OfBelow, OfFiller, OfKnown, Sees, StaysReader}
 use Rattle.rc_cacheread.specs.Spots.{again_due, change_place, due_change, front, row_due, since_or, stand, tomb_told}
 use Rattle.rc_cacheread.specs.calls.Spots.{HasNothingDue}
 use Rattle.rc_cacheread.proofs.Going.{append-none}
@@ -29,7 +29,7 @@ use Rattle.rc_cacheread.proofs.Idle.{idle-front}
 use Rattle.rc_cacheread.proofs.Leaving.{KnownLeft, both-ways}
 use Rattle.rc_cacheread.proofs.Lists.{behind-its-row, change_if, gap-read, has-row, same-tombs, turns}
 use Rattle.rc_cacheread.proofs.Orders.{before-reach, before-reaches, reach-itself, reach-through}
-use Rattle.rc_cacheread.proofs.Outcomes.{Advance, Carries, leads-on, reads-on}
+use Rattle.rc_cacheread.proofs.Outcomes.{Advance, Carries, leads-on}
 use Rattle.rc_cacheread.proofs.Stepping.{reader_of}
 
 pub same-same : (a b c : Pos → There → Type 0) → SameKnown a b → SameKnown b c → SameKnown a c
@@ -114,29 +114,37 @@ module _ {K F P H W : Type 0} (kn : OfKnown K H) (be : OfBelow F H W) (fi : OfFi
     head = λ at k. d.head at (left.heads at k);
   }
 
+  pub stays-known : StaysReader kn be fi r h w N g w
+  stays-known writes d = record { stands = left.stands writes d.stands; covered = cover d.covered } where
+    cover : IsAllKnown (kn.knows r.known h) (kn.heads r.known h) (stand r.spot) r.to ⊎ Leads writes (be.seen r.below h w) r.stage (stand r.spot) r.to r.spot.tomb → IsAllKnown (kn.knows l g) (kn.heads l g) (stand s) r.to ⊎ Leads writes (be.seen r.below g w) a (stand s) r.to s.tomb
+    cover (inl x) = inl (whole-on x)
+    cover (inr x) = inr (leads-on writes (be.seen r.below h w) (be.seen r.below g w) r.to r.stage (stand r.spot) r.spot.tomb a (stand s) s.tomb c on x)
+
   pub ready-known : IsReady kn be fi r h w → IsPlaceAt lags (kn.place l) (stand s) → IsReady kn be fi N g w
   ready-known d p = record {
     fit = left.fit;
     shares = d.shares;
-    covered = cover d.covered;
+    writes = d.writes;
+    reads = stays-known d.writes d.reads;
     ahead = λ x k. d.ahead x (reach-through (stand r.spot) (stand s) x on k);
     place = p;
-  } where
-    cover : IsAllKnown (kn.knows r.known h) (kn.heads r.known h) (stand r.spot) r.to ⊎ Leads (fi.source r.filler h) (fi.statics_are r.filler h) (be.seen r.below h w) r.stage (stand r.spot) r.to r.spot.tomb → IsAllKnown (kn.knows l g) (kn.heads l g) (stand s) r.to ⊎ Leads (fi.source r.filler g) (fi.statics_are r.filler g) (be.seen r.below g w) a (stand s) r.to s.tomb
-    cover (inl x) = inl (whole-on x)
-    cover (inr x) = inr (leads-on (fi.source r.filler h) (fi.source r.filler g) (fi.statics_are r.filler h) (fi.statics_are r.filler g) (be.seen r.below h w) (be.seen r.below g w) r.to r.stage (stand r.spot) r.spot.tomb a (stand s) s.tomb c on (λ z d. (left.kept.source z d).0) (λ row. (left.kept.statics row).0) x)
+  }
 
-  pub sees-known : (z : Stream) → (d : Sees kn be fi r h w z) → front r.spot ≡ [] → tomb_told s ≡ tomb_told r.spot → Advance (fi.source r.filler h) r.to r.spot.tomb d.rest (stand s) s.tomb (front s) → Sees kn be fi N g w z
+  pub sees-known : (z : Stream) → (d : Sees kn be fi r h w z) → front r.spot ≡ [] → tomb_told s ≡ tomb_told r.spot → Advance (SayThere d.writes) r.to r.spot.tomb d.says.rest (stand s) s.tomb (front s) → Sees kn be fi N g w z
   sees-known z d f u adv = record {
-    rest = adv.left;
-    tomb = d.tomb ∙ sym u;
-    left = d.left ∙ ap (λ x. x ++ d.rest) f ∙ adv.begins;
-    reads = reads-on (fi.source r.filler h) (fi.source r.filler g) (stand s) r.to s.tomb adv.left (λ y x. (left.kept.source y x).1) adv.reads;
-    pt = λ at k. (let b = left.kept.pts at k in sym b.2 ∙ d.pt b.0 b.1);
-    static_row = λ row x. d.static_row row ((left.kept.statics row).1 x);
-    below = cover d.below;
+    writes = d.writes;
+    reads = stays-known d.writes d.reads;
+    says = record {
+      rest = adv.left;
+      tomb = d.says.tomb ∙ sym u;
+      left = d.says.left ∙ ap (λ x. x ++ d.says.rest) f ∙ adv.begins;
+      reads = adv.reads;
+      pt = λ at k. (let b = left.kept.pts at k in sym b.2 ∙ d.says.pt b.0 b.1);
+      static_row = d.says.static_row;
+      below = cover d.says.below;
+    };
   } where
-    cover : IsAllKnown (kn.knows r.known h) (kn.heads r.known h) (stand r.spot) r.to ⊎ IsSaidBelow (be.seen r.below h w) r.stage r.to r.spot d.rest z.head.statics → IsAllKnown (kn.knows l g) (kn.heads l g) (stand s) r.to ⊎ IsSaidBelow (be.seen r.below g w) a r.to s adv.left z.head.statics
+    cover : IsAllKnown (kn.knows r.known h) (kn.heads r.known h) (stand r.spot) r.to ⊎ IsSaidBelow (be.seen r.below h w) r.stage r.to r.spot d.says.rest z.head.statics → IsAllKnown (kn.knows l g) (kn.heads l g) (stand s) r.to ⊎ IsSaidBelow (be.seen r.below g w) a r.to s adv.left z.head.statics
     cover (inl x) = inl (whole-on x)
     cover (inr t) = (let n = c.each t.stream t.stands t.fits in inr (record {
       stream = n.0;
@@ -149,20 +157,27 @@ module _ {K F P H W : Type 0} (kn : OfKnown K H) (be : OfBelow F H W) (fi : OfFi
   -- where the spot is as it was
   pub sees-known-still : (e : s ≡ r.spot) → (z : Stream) → Sees kn be fi r h w z → Sees kn be fi N g w z
   sees-known-still e z d = record {
-    rest = d.rest;
-    tomb = d.tomb ∙ ap tomb_told (sym e);
-    left = d.left ∙ ap (λ x. front x ++ d.rest) (sym e);
-    reads = subst (λ x. Reads (fi.source r.filler g) (stand x) r.to x.tomb d.rest) (sym e) (reads-on (fi.source r.filler h) (fi.source r.filler g) (stand r.spot) r.to r.spot.tomb d.rest (λ y x. (left.kept.source y x).1) d.reads);
-    pt = λ at k. (let b = left.kept.pts at k in sym b.2 ∙ d.pt b.0 b.1);
-    static_row = λ row x. d.static_row row ((left.kept.statics row).1 x);
-    below = cover d.below;
+    writes = d.writes;
+    reads = stays-known d.writes d.reads;
+    says = record {
+      rest = rest;
+      tomb = d.says.tomb ∙ ap tomb_told (sym e);
+      left = d.says.left ∙ ap (λ x. front x ++ rest) (sym e);
+      reads = subst (λ x. Reads (SayThere d.writes) (stand x) r.to x.tomb rest) (sym e) d.says.reads;
+      pt = λ at k. (let b = left.kept.pts at k in sym b.2 ∙ d.says.pt b.0 b.1);
+      static_row = d.says.static_row;
+      below = cover d.says.below;
+    };
   } where
-    cover : IsAllKnown (kn.knows r.known h) (kn.heads r.known h) (stand r.spot) r.to ⊎ IsSaidBelow (be.seen r.below h w) r.stage r.to r.spot d.rest z.head.statics → IsAllKnown (kn.knows l g) (kn.heads l g) (stand s) r.to ⊎ IsSaidBelow (be.seen r.below g w) a r.to s d.rest z.head.statics
+    rest : List Frag
+    rest = d.says.rest
+
+    cover : IsAllKnown (kn.knows r.known h) (kn.heads r.known h) (stand r.spot) r.to ⊎ IsSaidBelow (be.seen r.below h w) r.stage r.to r.spot rest z.head.statics → IsAllKnown (kn.knows l g) (kn.heads l g) (stand s) r.to ⊎ IsSaidBelow (be.seen r.below g w) a r.to s rest z.head.statics
     cover (inl x) = inl (whole-on x)
     cover (inr t) = (let n = c.each t.stream t.stands t.fits in inr (record {
       stream = n.0;
       stands = n.1;
       fits = n.2;
-      says = λ y k b. n.3 y k ∙ t.says y (reach-through (stand r.spot) (stand s) y on k) b ∙ ap (λ x. said_at y x.tomb d.rest) (sym e);
+      says = λ y k b. n.3 y k ∙ t.says y (reach-through (stand r.spot) (stand s) y on k) b ∙ ap (λ x. said_at y x.tomb rest) (sym e);
       static_row = n.4 ∙ t.static_row;
     }))

@@ -32,6 +32,7 @@ module _ {K F P H W : Type 0} (kn : OfKnown K H) (be : OfBelow F H W) (fi : OfFi
         let z = b.quiet x.1 in
         ((chain-after (KnownStep kn.did) ok (r.known, h) (n.known, g) (m.known, f) x.0.0 z.0.0, z.0.1 ∙ x.0.1, z.0.2 ∙ x.0.2, z.0.3 ∙ x.0.3), z.1);
     filled = filled-over kn fi r.known n.known m.known r.filler n.filler m.filler h g f (stand r.spot) (stand n.spot) (stand m.spot) a.on a.filled b.filled;
+    stays = λ writes d. b.stays writes (a.stays writes d);
   }
 
   pub did-stopped : (r n : CacheReader K F P) (h g : H) (w v : W) (y : Pos) → ReaderDid kn be fi r h w (OfNext y) true n g v → ReaderDid kn be fi r h w (OfNext y) false n g v
@@ -40,6 +41,7 @@ module _ {K F P H W : Type 0} (kn : OfKnown K H) (be : OfBelow F H W) (fi : OfFi
     on = a.on;
     quiet = λ k. (let x = a.quiet k in ((chain-stop (KnownStep kn.did) (r.known, h) (n.known, g) x.0.0, x.0.1, x.0.2, x.0.3), x.1));
     filled = a.filled;
+    stays = a.stays;
   }
 
   pub did-nothing : (r : CacheReader K F P) (h : H) (w : W) (y : Pos) → ReaderDid kn be fi r h w (OfNext y) true r h w
@@ -48,4 +50,5 @@ module _ {K F P H W : Type 0} (kn : OfKnown K H) (be : OfBelow F H W) (fi : OfFi
     on = reach-itself (stand r.spot);
     quiet = λ k. ((chain-none (KnownStep kn.did) true (r.known, h), refl, refl, refl), k);
     filled = filled-still kn fi r.known r.filler h (IsKnownOver (kn.knows r.known h) (stand r.spot) (stand r.spot)) (over-nothing (kn.knows r.known h) (stand r.spot) (stand r.spot) refl);
+    stays = λ writes d. d;
   }

@@ -8,12 +8,13 @@ use Rattle.rc_mutation.specs.Fragments.{tomb_after}
 use Rattle.rc_mutation.specs.declared.fragments.Frag.{Frag}
 use Rattle.rc_stream.specs.Merging.{same_tomb}
 use Rattle.rc_stream.specs.Places.{Reaches}
+use Rattle.rc_stream.specs.Snapshot.{SayThere}
 use Rattle.rc_stream.specs.Stream.{Stream, force, is_passed, onward, opening, sought}
 use Rattle.rc_cacheread.specs.declared.readers.CacheReader.{CacheReader}
 use Rattle.rc_cacheread.specs.declared.readers.Stage.TheVariants.{Away}
 use Rattle.rc_cacheread.specs.declared.spots.Spot.{Spot}
 use Rattle.rc_cacheread.specs.Reading.{Reads, StandFrom, said_at}
-use Rattle.rc_cacheread.specs.Sharing.{IsReady, IsSaidBelow, IsAllKnown, Leads, OfBelow, OfFiller, OfKnown, Sees}
+use Rattle.rc_cacheread.specs.Sharing.{IsAllKnown, IsReady, IsSaidBelow, Leads, OfBelow, OfFiller, OfKnown, Sees, StaysReader}
 use Rattle.rc_cacheread.specs.Spots.{front, stand, tomb_told}
 use Rattle.rc_cacheread.specs.calls.Spots.{IsBegunAt, HasNothingDue, IsSpotSought}
 use Rattle.rc_cacheread.proofs.Going.{at-lags}
@@ -62,11 +63,12 @@ passed-all x t (f ∷ fs) rest e =
 module _ {K F P H W : Type 0} (kn : OfKnown K H) (be : OfBelow F H W) (fi : OfFiller P H) (r : CacheReader K F P) (t : Spot) (x : Pos) (h : H) (w : W) where
   pub sees-sought : IsSpotSought x r.spot t → (s : Stream) → Sees kn be fi r h w s → Sees kn be fi (reader_of r.known r.below r.filler r.to t r.stage r.lags) h w (sought x s)
   sees-sought g s d =
-      let q = through x (stand r.spot) (tomb_told r.spot) (front r.spot) d.rest g.before d.reads.from in
-      let tomb : force x s.tomb s.left ≡ force x (tomb_told r.spot) (front r.spot) = (λ i. force x (d.tomb i) (d.left i)) ∙ q.0 in
-      let left : onward x s.left ≡ onward x (front r.spot) ++ d.rest = ap (onward x) d.left ∙ q.1 in
+      let y = d.says in
+      let q = through x (stand r.spot) (tomb_told r.spot) (front r.spot) y.rest g.before y.reads.from in
+      let tomb : force x s.tomb s.left ≡ force x (tomb_told r.spot) (front r.spot) = (λ i. force x (y.tomb i) (y.left i)) ∙ q.0 in
+      let left : onward x s.left ≡ onward x (front r.spot) ++ y.rest = ap (onward x) y.left ∙ q.1 in
       sees-at kn be fi r t h w g.from g.tomb s (sought x s) d refl (sym g.told)
-      ((λ i. opening x (tomb i) ++ left i) ∙ joined (opening x (force x (tomb_told r.spot) (front r.spot))) (onward x (front r.spot)) d.rest ∙ ap (λ l. l ++ d.rest) (sym g.due))
+      ((λ i. opening x (tomb i) ++ left i) ∙ joined (opening x (force x (tomb_told r.spot) (front r.spot))) (onward x (front r.spot)) y.rest ∙ ap (λ l. l ++ y.rest) (sym g.due))
 
   module _ (g : IsBegunAt x r.spot t) where
     abbrev N : CacheReader K F P
@@ -87,39 +89,48 @@ module _ {K F P H W : Type 0} (kn : OfKnown K H) (be : OfBelow F H W) (fi : OfFi
     whole-on : IsAllKnown (kn.knows r.known h) (kn.heads r.known h) (stand r.spot) r.to → IsAllKnown (kn.knows r.known h) (kn.heads r.known h) (stand t) r.to
     whole-on d = record { each = λ y k b. d.each y (reach-through (stand r.spot) (stand t) y on-begun k) b; head = d.head }
 
+    pub stays-begun : StaysReader kn be fi r h w N h w
+    stays-begun writes d = record { stands = d.stands; covered = cover d.covered } where
+      cover : IsAllKnown (kn.knows r.known h) (kn.heads r.known h) (stand r.spot) r.to ⊎ Leads writes (be.seen r.below h w) r.stage (stand r.spot) r.to r.spot.tomb → IsAllKnown (kn.knows r.known h) (kn.heads r.known h) (stand t) r.to ⊎ Leads writes (be.seen r.below h w) Away (stand t) r.to t.tomb
+      cover (inl y) = inl (whole-on y)
+      cover (inr y) = inr (leads-on writes (be.seen r.below h w) (be.seen r.below h w) r.to r.stage (stand r.spot) r.spot.tomb Away (stand t) t.tomb carries on-begun y)
+
     pub ready-begun : IsReady kn be fi r h w → IsReady kn be fi N h w
     ready-begun d = record {
       fit = d.fit;
       shares = d.shares;
-      covered = cover d.covered;
+      writes = d.writes;
+      reads = stays-begun d.writes d.reads;
       ahead = λ y k. d.ahead y (reach-through (stand r.spot) (stand t) y on-begun k);
       place = reach-through (kn.place r.known) (stand r.spot) (stand t) (at-lags r.lags (kn.place r.known) (stand r.spot) d.place) on-begun;
-    } where
-      cover : IsAllKnown (kn.knows r.known h) (kn.heads r.known h) (stand r.spot) r.to ⊎ Leads (fi.source r.filler h) (fi.statics_are r.filler h) (be.seen r.below h w) r.stage (stand r.spot) r.to r.spot.tomb → IsAllKnown (kn.knows r.known h) (kn.heads r.known h) (stand t) r.to ⊎ Leads (fi.source r.filler h) (fi.statics_are r.filler h) (be.seen r.below h w) Away (stand t) r.to t.tomb
-      cover (inl y) = inl (whole-on y)
-      cover (inr y) = inr (leads-on (fi.source r.filler h) (fi.source r.filler h) (fi.statics_are r.filler h) (fi.statics_are r.filler h) (be.seen r.below h w) (be.seen r.below h w) r.to r.stage (stand r.spot) r.spot.tomb Away (stand t) t.tomb carries on-begun (λ z d k. k) (λ row k. k) y)
+    }
 
     pub sees-begun : (s : Stream) → Sees kn be fi r h w s → Sees kn be fi N h w (sought x s)
     sees-begun s d =
-        let q = passed-all x (tomb_told r.spot) (front r.spot) d.rest g.due in
-        let tomb : force x s.tomb s.left ≡ force x r.spot.tomb d.rest = (λ i. force x (d.tomb i) (d.left i)) ∙ q.0 ∙ ap (λ u. force x u d.rest) g.force in
-        let left : onward x s.left ≡ onward x d.rest = ap (onward x) d.left ∙ q.1 in
-        let reads = sought-read (fi.source r.filler h) (stand r.spot) x r.to r.spot.tomb d.rest d.reads g.on in
+        let o = d.says in
+        let q = passed-all x (tomb_told r.spot) (front r.spot) o.rest g.due in
+        let tomb : force x s.tomb s.left ≡ force x r.spot.tomb o.rest = (λ i. force x (o.tomb i) (o.left i)) ∙ q.0 ∙ ap (λ u. force x u o.rest) g.force in
+        let left : onward x s.left ≡ onward x o.rest = ap (onward x) o.left ∙ q.1 in
+        let reads = sought-read (SayThere d.writes) (stand r.spot) x r.to r.spot.tomb o.rest o.reads g.on in
         record {
-          rest = sought_from x r.spot.tomb d.rest;
-          tomb = sym (idle-told t idle ∙ g.tomb);
-          left = (λ i. opening x (tomb i) ++ left i) ∙ ap (λ l. l ++ sought_from x r.spot.tomb d.rest) (sym (idle-front t idle));
-          reads = subst (λ (z : Pos × Option Tomb). Reads (fi.source r.filler h) z.0 r.to z.1 (sought_from x r.spot.tomb d.rest)) (λ i. (sym at i, sym g.tomb i)) reads;
-          pt = d.pt;
-          static_row = d.static_row;
-          below = cover s d d.below;
+          writes = d.writes;
+          reads = stays-begun d.writes d.reads;
+          says = record {
+            rest = sought_from x r.spot.tomb o.rest;
+            tomb = sym (idle-told t idle ∙ g.tomb);
+            left = (λ i. opening x (tomb i) ++ left i) ∙ ap (λ l. l ++ sought_from x r.spot.tomb o.rest) (sym (idle-front t idle));
+            reads = subst (λ (z : Pos × Option Tomb). Reads (SayThere d.writes) z.0 r.to z.1 (sought_from x r.spot.tomb o.rest)) (λ i. (sym at i, sym g.tomb i)) reads;
+            pt = o.pt;
+            static_row = o.static_row;
+            below = cover o.rest o.below;
+          };
         } where
-          cover : (s : Stream) (d : Sees kn be fi r h w s) → IsAllKnown (kn.knows r.known h) (kn.heads r.known h) (stand r.spot) r.to ⊎ IsSaidBelow (be.seen r.below h w) r.stage r.to r.spot d.rest s.head.statics → IsAllKnown (kn.knows r.known h) (kn.heads r.known h) (stand t) r.to ⊎ IsSaidBelow (be.seen r.below h w) Away r.to t (sought_from x r.spot.tomb d.rest) s.head.statics
-          cover s d (inl y) = inl (whole-on y)
-          cover s d (inr y) = (let n = carries.each y.stream y.stands y.fits in inr (record {
+          cover : (rest : List Frag) → IsAllKnown (kn.knows r.known h) (kn.heads r.known h) (stand r.spot) r.to ⊎ IsSaidBelow (be.seen r.below h w) r.stage r.to r.spot rest s.head.statics → IsAllKnown (kn.knows r.known h) (kn.heads r.known h) (stand t) r.to ⊎ IsSaidBelow (be.seen r.below h w) Away r.to t (sought_from x r.spot.tomb rest) s.head.statics
+          cover rest (inl y) = inl (whole-on y)
+          cover rest (inr y) = (let n = carries.each y.stream y.stands y.fits in inr (record {
             stream = n.0;
             stands = n.1;
             fits = n.2;
-            says = λ z k b. n.3 z k ∙ y.says z (reach-through (stand r.spot) (stand t) z on-begun k) b ∙ sym (sought-there x z r.spot.tomb d.rest (subst (λ v. Reaches v z) at k)) ∙ ap (λ u. said_at z u (sought_from x r.spot.tomb d.rest)) (sym g.tomb);
+            says = λ z k b. n.3 z k ∙ y.says z (reach-through (stand r.spot) (stand t) z on-begun k) b ∙ sym (sought-there x z r.spot.tomb rest (subst (λ v. Reaches v z) at k)) ∙ ap (λ u. said_at z u (sought_from x r.spot.tomb rest)) (sym g.tomb);
             static_row = n.4 ∙ y.static_row;
           }))

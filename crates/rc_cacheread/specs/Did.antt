@@ -11,7 +11,7 @@ use Rattle.rc_stream.specs.Places.{Reaches}
 use Rattle.rc_stream.specs.Snapshot.{There, Unlost}
 use Rattle.rc_cacheread.specs.declared.readers.CacheReader.{CacheReader}
 use Rattle.rc_cacheread.specs.Passing.{IsKnownFrom, IsKnownOver}
-use Rattle.rc_cacheread.specs.Sharing.{IsStaticRowKnown, OfBelow, OfFiller, OfKnown}
+use Rattle.rc_cacheread.specs.Sharing.{IsStaticRowKnown, OfBelow, OfFiller, OfKnown, StaysReader}
 use Rattle.rc_cacheread.specs.Spots.{stand}
 
 -- a call of a snapshot over its home
@@ -60,12 +60,13 @@ pub record ReaderFilled {K P H : Type 0} (kn : OfKnown K H) (fi : OfFiller P H) 
   pub static_row : Unlost (fi.may p h) (fi.lost h) (fi.lost g) (IsStaticRowKnown (kn.heads k h) → IsStaticRowKnown (kn.heads l g))
   pub now : Unlost (fi.may p h) (fi.lost h) (fi.lost g) this
 
--- a call of a reader is a chain of calls of its parts, a refused one last, and goes on; where what it passes is known, of the snapshot alone, and it still is known; where the filler may fill and nothing was lost, what it passed is known afterwards
+-- a call of a reader is a chain of calls of its parts, a refused one last, and goes on; where what it passes is known, of the snapshot alone, and it still is known; where the filler may fill and nothing was lost, what it passed is known afterwards; of the writes of which it was a reader it is one still
 pub record ReaderDid {K F P H W : Type 0} (kn : OfKnown K H) (be : OfBelow F H W) (fi : OfFiller P H) (r : CacheReader K F P) (h : H) (w : W) (c : Call) (ok : Bool) (n : CacheReader K F P) (g : H) (v : W) : Type 0 where
   pub calls : InTurn (ReaderCall kn be fi c) ok (reader_state r h w) (reader_state n g v)
   pub on : Reaches (stand r.spot) (stand n.spot)
   pub quiet : IsKnownFor c (kn.knows r.known h) (kn.heads r.known h) (stand r.spot) r.to → IsQuiet kn ok (reader_state r h w) (reader_state n g v) × IsKnownFor c (kn.knows n.known g) (kn.heads n.known g) (stand n.spot) n.to
   pub filled : ReaderFilled kn fi r.known r.filler h n.known n.filler g (IsFilledFor c ok (kn.knows n.known g) (kn.heads n.known g) (stand r.spot) (stand n.spot))
+  pub stays : StaysReader kn be fi r h w n g v
 
 -- what calls of a reader may make of a home and a store: calls of its parts, whichever they are
 pub record ReaderMoves {K F P H W : Type 0} (kn : OfKnown K H) (be : OfBelow F H W) (fi : OfFiller P H) (h : H) (w : W) (g : H) (v : W) : Type 0 where

@@ -1,10 +1,11 @@
 // Fills of a stretch that was read below.
-ghost use Rattle.std.specs.Prelude.{◌≡◌, ⊤};
+ghost use Rattle.std.specs.Prelude.{◌≡◌, List, ⊤};
 ghost use Rattle.rc_cell.specs.Winner.{empty_row};
+ghost use Rattle.rc_mutation.specs.declared.mutations.Mutation.{Mutation};
 ghost use Rattle.rc_position.specs.declared.positions.Pos.{Pos};
 ghost use Rattle.rc_position.specs.Position.{row_pos};
 ghost use Rattle.rc_stream.specs.Places.{Reaches};
-ghost use Rattle.rc_stream.specs.Snapshot.{There, Throughout};
+ghost use Rattle.rc_stream.specs.Snapshot.{SayThere, Throughout};
 ghost use Rattle.rc_cacheread.specs.calls.Below.{Fillings, SaysUpto, StaysLost, TakenIn, TellsHere, TookChange, TookHere, TookNothing, TookRow, TookRowHere};
 ghost use Rattle.rc_cacheread.specs.Passing.{IsKnownOver};
 ghost use Rattle.rc_cacheread.specs.Spots.{stand};
@@ -25,10 +26,10 @@ pub(crate) fn fill_gap<H, P: Filler<H>>(
 )
     requires ready { P.ready filler.old home.old }
     requires fits { (p : P) (x : Pos) → P.fits p x }
-    requires source { Throughout from.now to.now (λ x. P.source filler.old home.old x (empty_row, tomb)) }
-    ensures source { (x : Pos) (v : There) → P.source filler.old home.old x v → P.source filler.new home.new x v }
+    requires source { (writes : List Mutation) × P.stands filler.old home.old writes × Throughout from.now to.now (λ x. SayThere writes x (empty_row, tomb)) }
     ensures did { Fillings P.fills filler.old home.old filler.new home.new }
     ensures taken { TakenIn P.may P.lost P.knows filler.old home.old filler.new home.new (Throughout from.now to.now (λ x. P.knows filler.new home.new x (empty_row, tomb))) }
+    ensures stands { (writes : List Mutation) → P.stands filler.old home.old writes → Throughout from.now to.now (λ x. SayThere writes x (empty_row, tomb)) → P.stands filler.new home.new writes }
     ensures ready { P.ready filler.new home.new }
 {
     if from.cmp(to).is_lt() {
@@ -48,11 +49,11 @@ pub(crate) fn take_row<H, P: Filler<H>>(
     requires lost { StaysLost P.fills P.lost filler.old home.old }
     requires unread { spot.old.row ≡ RowAt.Unread }
     requires fits { (p : P) (x : Pos) → P.fits p x }
-    requires source { Throughout spot.old.place (row_pos key) (λ x. P.source filler.old home.old x (empty_row, spot.old.tomb)) }
-    requires row { Reaches spot.old.place (row_pos key) → P.source filler.old home.old (row_pos key) (row, spot.old.tomb) }
+    requires source { (writes : List Mutation) × P.stands filler.old home.old writes × Throughout spot.old.place (row_pos key) (λ x. SayThere writes x (empty_row, spot.old.tomb)) × (Reaches spot.old.place (row_pos key) → SayThere writes (row_pos key) (row, spot.old.tomb)) }
     ensures took { TookRow key row spot.old spot.new }
     ensures did { Fillings P.fills filler.old home.old filler.new home.new }
     ensures taken { TakenIn P.may P.lost P.knows filler.old home.old filler.new home.new (IsKnownOver (P.knows filler.new home.new) spot.old.place (stand spot.new)) }
+    ensures stands { (writes : List Mutation) → P.stands filler.old home.old writes → Throughout spot.old.place (row_pos key) (λ x. SayThere writes x (empty_row, spot.old.tomb)) → (Reaches spot.old.place (row_pos key) → SayThere writes (row_pos key) (row, spot.old.tomb)) → P.stands filler.new home.new writes }
     ensures ready { P.ready filler.new home.new }
 {
     if key.compare_with_pos(&spot.place).is_lt() {
@@ -83,10 +84,11 @@ pub(crate) fn take_change<H, P: Filler<H>>(
     requires ready { P.ready filler.old home.old }
     requires unread { spot.old.row ≡ RowAt.Unread }
     requires fits { (p : P) (x : Pos) → P.fits p x }
-    requires source { Throughout spot.old.place from (λ x. P.source filler.old home.old x (empty_row, spot.old.tomb)) }
+    requires source { (writes : List Mutation) × P.stands filler.old home.old writes × Throughout spot.old.place from (λ x. SayThere writes x (empty_row, spot.old.tomb)) }
     ensures took { TookChange from tomb spot.old spot.new }
     ensures did { Fillings P.fills filler.old home.old filler.new home.new }
     ensures taken { TakenIn P.may P.lost P.knows filler.old home.old filler.new home.new (IsKnownOver (P.knows filler.new home.new) spot.old.place (stand spot.new)) }
+    ensures stands { (writes : List Mutation) → P.stands filler.old home.old writes → Throughout spot.old.place from (λ x. SayThere writes x (empty_row, spot.old.tomb)) → P.stands filler.new home.new writes }
     ensures ready { P.ready filler.new home.new }
 {
     if from < spot.place {
@@ -103,10 +105,11 @@ pub(crate) fn take_end<H, P: Filler<H>>(filler: &mut P, spot: &mut Spot, home: &
     requires ready { P.ready filler.old home.old }
     requires unread { spot.old.row ≡ RowAt.Unread }
     requires fits { (p : P) (x : Pos) → P.fits p x }
-    requires source { Throughout spot.old.place end (λ x. P.source filler.old home.old x (empty_row, spot.old.tomb)) }
+    requires source { (writes : List Mutation) × P.stands filler.old home.old writes × Throughout spot.old.place end (λ x. SayThere writes x (empty_row, spot.old.tomb)) }
     ensures took { TookNothing end spot.old spot.new }
     ensures did { Fillings P.fills filler.old home.old filler.new home.new }
     ensures taken { TakenIn P.may P.lost P.knows filler.old home.old filler.new home.new (IsKnownOver (P.knows filler.new home.new) spot.old.place (stand spot.new)) }
+    ensures stands { (writes : List Mutation) → P.stands filler.old home.old writes → Throughout spot.old.place end (λ x. SayThere writes x (empty_row, spot.old.tomb)) → P.stands filler.new home.new writes }
     ensures ready { P.ready filler.new home.new }
 {
     fill_gap(filler, home, &spot.place, &end, spot.tomb);
@@ -125,11 +128,12 @@ pub(crate) fn take_upto<H, P: Filler<H>>(
     requires lost { StaysLost P.fills P.lost filler.old home.old }
     requires unread { spot.old.row ≡ RowAt.Unread }
     requires fits { (p : P) (x : Pos) → P.fits p x }
-    requires source { SaysUpto (P.source filler.old home.old) spot.old.place upto spot.old.tomb }
+    requires source { (writes : List Mutation) × P.stands filler.old home.old writes × SaysUpto (SayThere writes) spot.old.place upto spot.old.tomb }
     requires on { Reaches spot.old.place upto }
     ensures took { TookNothing upto spot.old spot.new }
     ensures did { Fillings P.fills filler.old home.old filler.new home.new }
     ensures taken { TakenIn P.may P.lost P.knows filler.old home.old filler.new home.new (IsKnownOver (P.knows filler.new home.new) spot.old.place (stand spot.new)) }
+    ensures stands { (writes : List Mutation) → P.stands filler.old home.old writes → SaysUpto (SayThere writes) spot.old.place upto spot.old.tomb → P.stands filler.new home.new writes }
     ensures ready { P.ready filler.new home.new }
 {
     fill_gap(filler, home, &spot.place, &upto, spot.tomb);
@@ -147,9 +151,10 @@ fn fill_none<H, P: Filler<H>>(
 )
     requires ready { P.ready filler.old home.old }
     requires fits { (p : P) (x : Pos) → P.fits p x }
-    requires source { P.source filler.old home.old at.now (empty_row, tomb) }
+    requires source { (writes : List Mutation) × P.stands filler.old home.old writes × SayThere writes at.now (empty_row, tomb) }
     ensures did { Fillings P.fills filler.old home.old filler.new home.new }
     ensures taken { TakenIn P.may P.lost P.knows filler.old home.old filler.new home.new ⊤ }
+    ensures stands { (writes : List Mutation) → P.stands filler.old home.old writes → SayThere writes at.now (empty_row, tomb) → P.stands filler.new home.new writes }
     ensures ready { P.ready filler.new home.new }
 {
     match at.weight {
@@ -171,10 +176,11 @@ pub(crate) fn take_here<H, P: Filler<H>>(
     requires ready { P.ready filler.old home.old }
     requires unread { spot.old.row ≡ RowAt.Unread }
     requires fits { (p : P) (x : Pos) → P.fits p x }
-    requires source { TellsHere (P.source filler.old home.old) spot.old.place found }
+    requires source { (writes : List Mutation) × P.stands filler.old home.old writes × TellsHere (SayThere writes) spot.old.place found }
     ensures took { TookHere found spot.old spot.new }
     ensures did { Fillings P.fills filler.old home.old filler.new home.new }
     ensures taken { TakenIn P.may P.lost P.knows filler.old home.old filler.new home.new (IsKnownOver (P.knows filler.new home.new) spot.old.place (stand spot.new)) }
+    ensures stands { (writes : List Mutation) → P.stands filler.old home.old writes → TellsHere (SayThere writes) spot.old.place found → P.stands filler.new home.new writes }
     ensures ready { P.ready filler.new home.new }
 {
     match found {
@@ -189,10 +195,11 @@ fn take_row_here<H, P: Filler<H>>(filler: &mut P, spot: &mut Spot, home: &mut H,
     requires ready { P.ready filler.old home.old }
     requires unread { spot.old.row ≡ RowAt.Unread }
     requires fits { (p : P) (x : Pos) → P.fits p x }
-    requires row { row_pos key ≡ spot.old.place → P.source filler.old home.old spot.old.place (row, None) }
+    requires source { (writes : List Mutation) × P.stands filler.old home.old writes × (row_pos key ≡ spot.old.place → SayThere writes spot.old.place (row, None)) }
     ensures took { TookRowHere key row spot.old spot.new }
     ensures did { Fillings P.fills filler.old home.old filler.new home.new }
     ensures taken { TakenIn P.may P.lost P.knows filler.old home.old filler.new home.new (IsKnownOver (P.knows filler.new home.new) spot.old.place (stand spot.new)) }
+    ensures stands { (writes : List Mutation) → P.stands filler.old home.old writes → (row_pos key ≡ spot.old.place → SayThere writes spot.old.place (row, None)) → P.stands filler.new home.new writes }
     ensures ready { P.ready filler.new home.new }
 {
     spot.change_to(None);

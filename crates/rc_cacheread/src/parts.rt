@@ -14,7 +14,7 @@ ghost use Rattle.rc_cacheread.specs.Did.{IsQuiet, KnownStep, ReaderCall, ReaderF
 ghost use Rattle.rc_cacheread.specs.calls.Did.{IsReaderStepUpto, ReaderStepSays};
 ghost use Rattle.rc_cacheread.specs.Passing.{IsKnownOver};
 ghost use Rattle.rc_cacheread.specs.calls.Passing.{PassesWhole};
-ghost use Rattle.rc_cacheread.specs.Sharing.{IsPlaceAt, IsReady, Sees, of_below, of_filler, of_known};
+ghost use Rattle.rc_cacheread.specs.Sharing.{IsPlaceAt, IsReady, Sees, StaysReader, of_below, of_filler, of_known};
 ghost use Rattle.rc_cacheread.specs.Spots.{stand};
 ghost use Rattle.rc_cacheread.specs.calls.Spots.{HasNothingDue};
 
@@ -88,20 +88,21 @@ pub(crate) fn read_part<H, W: Store, K: Known<H>, F: Frags<H, W>, P: Filler<H>>(
     store: &mut W,
     upto: &Pos,
 ) -> Result<Step, StreamErr>
-    requires ready { IsReady (of_known K.ready K.place K.knows K.heads K.did) (of_below F.ready F.seen F.ahead F.moves F.did) (of_filler P.ready P.fits P.may P.lost P.source P.knows P.statics_are P.knows_statics P.fills) reader.old home.old store.old }
+    requires ready { IsReady (of_known K.ready K.place K.knows K.heads K.did) (of_below F.ready F.seen F.ahead F.moves F.did) (of_filler P.ready P.fits P.may P.lost P.stands P.knows P.knows_statics P.fills) reader.old home.old store.old }
     requires idle { HasNothingDue reader.old.spot }
     requires near { Reaches reader.old.spot.place upto.now }
     requires within { IsBefore reader.old.spot.place reader.old.to }
-    ensures says { (s : Stream) → Sees (of_known K.ready K.place K.knows K.heads K.did) (of_below F.ready F.seen F.ahead F.moves F.did) (of_filler P.ready P.fits P.may P.lost P.source P.knows P.statics_are P.knows_statics P.fills) reader.old home.old store.old s → ReaderStepSays result upto.now s (Sees (of_known K.ready K.place K.knows K.heads K.did) (of_below F.ready F.seen F.ahead F.moves F.did) (of_filler P.ready P.fits P.may P.lost P.source P.knows P.statics_are P.knows_statics P.fills) reader.new home.new store.new) }
+    ensures says { (s : Stream) → Sees (of_known K.ready K.place K.knows K.heads K.did) (of_below F.ready F.seen F.ahead F.moves F.did) (of_filler P.ready P.fits P.may P.lost P.stands P.knows P.knows_statics P.fills) reader.old home.old store.old s → ReaderStepSays result upto.now s (Sees (of_known K.ready K.place K.knows K.heads K.did) (of_below F.ready F.seen F.ahead F.moves F.did) (of_filler P.ready P.fits P.may P.lost P.stands P.knows P.knows_statics P.fills) reader.new home.new store.new) }
     ensures upto { IfOk result (IsReaderStepUpto upto.now) }
-    ensures did { (y : Pos) → ReachesEnd (Sees (of_known K.ready K.place K.knows K.heads K.did) (of_below F.ready F.seen F.ahead F.moves F.did) (of_filler P.ready P.fits P.may P.lost P.source P.knows P.statics_are P.knows_statics P.fills) reader.old home.old store.old) upto.now y → InTurn (ReaderCall (of_known K.ready K.place K.knows K.heads K.did) (of_below F.ready F.seen F.ahead F.moves F.did) (of_filler P.ready P.fits P.may P.lost P.source P.knows P.statics_are P.knows_statics P.fills) (OfNext y)) (answered result) (reader_state reader.old home.old store.old) (reader_state reader.new home.new store.new) }
+    ensures did { (y : Pos) → ReachesEnd (Sees (of_known K.ready K.place K.knows K.heads K.did) (of_below F.ready F.seen F.ahead F.moves F.did) (of_filler P.ready P.fits P.may P.lost P.stands P.knows P.knows_statics P.fills) reader.old home.old store.old) upto.now y → InTurn (ReaderCall (of_known K.ready K.place K.knows K.heads K.did) (of_below F.ready F.seen F.ahead F.moves F.did) (of_filler P.ready P.fits P.may P.lost P.stands P.knows P.knows_statics P.fills) (OfNext y)) (answered result) (reader_state reader.old home.old store.old) (reader_state reader.new home.new store.new) }
     ensures quiet { (v : There) → K.knows reader.old.known home.old reader.old.spot.place v → IsQuiet (of_known K.ready K.place K.knows K.heads K.did) (answered result) (reader_state reader.old home.old store.old) (reader_state reader.new home.new store.new) }
     ensures keeps { (v : There) → K.knows reader.old.known home.old reader.old.spot.place v → SameKnown (K.knows reader.old.known home.old) (K.knows reader.new.known home.new) }
     ensures whole { (v : There) → K.knows reader.old.known home.old reader.old.spot.place v → PassesWhole (K.knows reader.old.known home.old) (stand reader.old.spot) (stand reader.new.spot) }
     ensures on { Reaches (stand reader.old.spot) (stand reader.new.spot) }
     ensures to { reader.new.to ≡ reader.old.to }
-    ensures filled { ReaderFilled (of_known K.ready K.place K.knows K.heads K.did) (of_filler P.ready P.fits P.may P.lost P.source P.knows P.statics_are P.knows_statics P.fills) reader.old.known reader.old.filler home.old reader.new.known reader.new.filler home.new (IsKnownOver (K.knows reader.new.known home.new) (stand reader.old.spot) (stand reader.new.spot)) }
-    ensures ready { IsReady (of_known K.ready K.place K.knows K.heads K.did) (of_below F.ready F.seen F.ahead F.moves F.did) (of_filler P.ready P.fits P.may P.lost P.source P.knows P.statics_are P.knows_statics P.fills) reader.new home.new store.new }
+    ensures filled { ReaderFilled (of_known K.ready K.place K.knows K.heads K.did) (of_filler P.ready P.fits P.may P.lost P.stands P.knows P.knows_statics P.fills) reader.old.known reader.old.filler home.old reader.new.known reader.new.filler home.new (IsKnownOver (K.knows reader.new.known home.new) (stand reader.old.spot) (stand reader.new.spot)) }
+    ensures stays { StaysReader (of_known K.ready K.place K.knows K.heads K.did) (of_below F.ready F.seen F.ahead F.moves F.did) (of_filler P.ready P.fits P.may P.lost P.stands P.knows P.knows_statics P.fills) reader.old home.old store.old reader.new home.new store.new }
+    ensures ready { IsReady (of_known K.ready K.place K.knows K.heads K.did) (of_below F.ready F.seen F.ahead F.moves F.did) (of_filler P.ready P.fits P.may P.lost P.stands P.knows P.knows_statics P.fills) reader.new home.new store.new }
     ensures damage { Blames (F.damage reader.old.below) (F.damage reader.new.below) result }
     ensures cause { Caused result (W.files store.old) (W.faults store.old) (W.faults store.new) }
     ensures store { HoldsSameFiles W.files W.building store.old store.new }

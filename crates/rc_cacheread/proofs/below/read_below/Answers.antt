@@ -9,7 +9,7 @@ use Rattle.rc_cacheread.specs.Sharing.{of_below, of_filler, of_known}
 use Rattle.rc_cacheread.specs.Spots.{stand}
 use Rattle.rc_cacheread.proofs.Chains.{chain-after}
 use Rattle.rc_cacheread.proofs.Going.{at-lags}
-use Rattle.rc_cacheread.proofs.Stepping.{end-reaches, ends-on, sees-lags}
+use Rattle.rc_cacheread.proofs.Stepping.{end-reaches, ends-on, sees-lags, stays-lags}
 use Rattle.std.specs.Prelude.{⊤}
 use Rattle.rc_cacheread.specs.Passing.{IsKnownOver}
 use Rattle.rc_cacheread.proofs.Filled.{filled-on, filled-then}
@@ -18,14 +18,30 @@ use Rattle.rc_cacheread.proofs.below.read_below.Goals as goal
 
 pub settle-requires-clause-ready : goal.settle-requires-clause-ready
 settle-requires-clause-ready g c =
+    let kn = (of_known g.K.Known.ready g.K.Known.place g.K.Known.knows g.K.Known.heads g.K.Known.did) in
+    let be = (of_below g.F.Frags.ready g.F.Frags.seen g.F.Frags.ahead g.F.Frags.moves g.F.Frags.did) in
+    let fi = (of_filler g.P.Filler.ready g.P.Filler.fits g.P.Filler.may g.P.Filler.lost g.P.Filler.stands g.P.Filler.knows g.P.Filler.knows_statics g.P.Filler.fills) in
+    let r = c.args.reader.now in
+    let h = c.args.home.now in
+    let w = c.args.store.now in
     let d = c.requires.ready in
-    record { fit = d.fit; shares = d.shares; covered = d.covered; ahead = d.ahead; place = at-lags c.args.reader.now.lags (g.K.Known.place c.args.reader.now.known) (stand c.args.reader.now.spot) d.place }
+    record { fit = d.fit; shares = d.shares; writes = d.writes; reads = stays-lags kn be fi r h w true d.writes d.reads; ahead = d.ahead; place = at-lags r.lags (kn.place r.known) (stand r.spot) d.place }
+
+pub returns-in-Sought-clause-stays : goal.returns-in-Sought-clause-stays
+returns-in-Sought-clause-stays g c = λ writes d.
+    let kn = (of_known g.K.Known.ready g.K.Known.place g.K.Known.knows g.K.Known.heads g.K.Known.did) in
+    let be = (of_below g.F.Frags.ready g.F.Frags.seen g.F.Frags.ahead g.F.Frags.moves g.F.Frags.did) in
+    let fi = (of_filler g.P.Filler.ready g.P.Filler.fits g.P.Filler.may g.P.Filler.lost g.P.Filler.stands g.P.Filler.knows g.P.Filler.knows_statics g.P.Filler.fills) in
+    let r = c.args.reader.now in
+    let h = c.args.home.now in
+    let w = c.args.store.now in
+    c.look_here.ensures.stays writes (c.in-Ok.ensures.stays writes (stays-lags kn be fi r h w true writes d))
 
 pub returns-in-Sought-clause-says : goal.returns-in-Sought-clause-says
 returns-in-Sought-clause-says g c = λ s d.
     let kn = (of_known g.K.Known.ready g.K.Known.place g.K.Known.knows g.K.Known.heads g.K.Known.did) in
     let be = (of_below g.F.Frags.ready g.F.Frags.seen g.F.Frags.ahead g.F.Frags.moves g.F.Frags.did) in
-    let fi = (of_filler g.P.Filler.ready g.P.Filler.fits g.P.Filler.may g.P.Filler.lost g.P.Filler.source g.P.Filler.knows g.P.Filler.statics_are g.P.Filler.knows_statics g.P.Filler.fills) in
+    let fi = (of_filler g.P.Filler.ready g.P.Filler.fits g.P.Filler.may g.P.Filler.lost g.P.Filler.stands g.P.Filler.knows g.P.Filler.knows_statics g.P.Filler.fills) in
     let r = c.args.reader.now in
     let h = c.args.home.now in
     let w = c.args.store.now in
@@ -35,18 +51,28 @@ pub returns-in-Sought-clause-did : goal.returns-in-Sought-clause-did
 returns-in-Sought-clause-did g c = λ y covers.
     let kn = (of_known g.K.Known.ready g.K.Known.place g.K.Known.knows g.K.Known.heads g.K.Known.did) in
     let be = (of_below g.F.Frags.ready g.F.Frags.seen g.F.Frags.ahead g.F.Frags.moves g.F.Frags.did) in
-    let fi = (of_filler g.P.Filler.ready g.P.Filler.fits g.P.Filler.may g.P.Filler.lost g.P.Filler.source g.P.Filler.knows g.P.Filler.statics_are g.P.Filler.knows_statics g.P.Filler.fills) in
+    let fi = (of_filler g.P.Filler.ready g.P.Filler.fits g.P.Filler.may g.P.Filler.lost g.P.Filler.stands g.P.Filler.knows g.P.Filler.knows_statics g.P.Filler.fills) in
     let r = c.args.reader.now in
     let h = c.args.home.now in
     let w = c.args.store.now in
     let on = end-reaches kn be fi r h w c.args.upto.now y c.requires.idle c.requires.near covers in
     chain-after (ReaderCall kn be fi (OfNext y)) (answered c.look_here.result) (reader_state r h w) (reader_state c.settle.new.reader c.settle.new.home c.settle.new.store) (reader_state c.look_here.new.reader c.look_here.new.home c.look_here.new.store) (c.in-Ok.ensures.did y on) (c.look_here.ensures.did y (ends-on kn be fi r c.settle.new.reader h c.settle.new.home w c.settle.new.store c.args.upto.now y (λ s d. c.in-Ok.ensures.says s (sees-lags kn be fi r h w true s d)) covers))
 
+pub returns-in-Within-clause-stays : goal.returns-in-Within-clause-stays
+returns-in-Within-clause-stays g c = λ writes d.
+    let kn = (of_known g.K.Known.ready g.K.Known.place g.K.Known.knows g.K.Known.heads g.K.Known.did) in
+    let be = (of_below g.F.Frags.ready g.F.Frags.seen g.F.Frags.ahead g.F.Frags.moves g.F.Frags.did) in
+    let fi = (of_filler g.P.Filler.ready g.P.Filler.fits g.P.Filler.may g.P.Filler.lost g.P.Filler.stands g.P.Filler.knows g.P.Filler.knows_statics g.P.Filler.fills) in
+    let r = c.args.reader.now in
+    let h = c.args.home.now in
+    let w = c.args.store.now in
+    c.go_below.ensures.stays writes (c.in-Ok.ensures.stays writes (stays-lags kn be fi r h w true writes d))
+
 pub returns-in-Within-clause-says : goal.returns-in-Within-clause-says
 returns-in-Within-clause-says g c = λ s d.
     let kn = (of_known g.K.Known.ready g.K.Known.place g.K.Known.knows g.K.Known.heads g.K.Known.did) in
     let be = (of_below g.F.Frags.ready g.F.Frags.seen g.F.Frags.ahead g.F.Frags.moves g.F.Frags.did) in
-    let fi = (of_filler g.P.Filler.ready g.P.Filler.fits g.P.Filler.may g.P.Filler.lost g.P.Filler.source g.P.Filler.knows g.P.Filler.statics_are g.P.Filler.knows_statics g.P.Filler.fills) in
+    let fi = (of_filler g.P.Filler.ready g.P.Filler.fits g.P.Filler.may g.P.Filler.lost g.P.Filler.stands g.P.Filler.knows g.P.Filler.knows_statics g.P.Filler.fills) in
     let r = c.args.reader.now in
     let h = c.args.home.now in
     let w = c.args.store.now in
@@ -56,7 +82,7 @@ pub returns-in-Within-clause-did : goal.returns-in-Within-clause-did
 returns-in-Within-clause-did g c = λ y covers.
     let kn = (of_known g.K.Known.ready g.K.Known.place g.K.Known.knows g.K.Known.heads g.K.Known.did) in
     let be = (of_below g.F.Frags.ready g.F.Frags.seen g.F.Frags.ahead g.F.Frags.moves g.F.Frags.did) in
-    let fi = (of_filler g.P.Filler.ready g.P.Filler.fits g.P.Filler.may g.P.Filler.lost g.P.Filler.source g.P.Filler.knows g.P.Filler.statics_are g.P.Filler.knows_statics g.P.Filler.fills) in
+    let fi = (of_filler g.P.Filler.ready g.P.Filler.fits g.P.Filler.may g.P.Filler.lost g.P.Filler.stands g.P.Filler.knows g.P.Filler.knows_statics g.P.Filler.fills) in
     let r = c.args.reader.now in
     let h = c.args.home.now in
     let w = c.args.store.now in
@@ -66,11 +92,21 @@ returns-in-Within-clause-did g c = λ y covers.
 pub returns-in-Away : goal.returns-in-Away
 returns-in-Away g c = absurd (subst IsNotAway c.in-Away.is c.in-Ok.ensures.stage)
 
+pub returns-in-Err-clause-stays : goal.returns-in-Err-clause-stays
+returns-in-Err-clause-stays g c = λ writes d.
+    let kn = (of_known g.K.Known.ready g.K.Known.place g.K.Known.knows g.K.Known.heads g.K.Known.did) in
+    let be = (of_below g.F.Frags.ready g.F.Frags.seen g.F.Frags.ahead g.F.Frags.moves g.F.Frags.did) in
+    let fi = (of_filler g.P.Filler.ready g.P.Filler.fits g.P.Filler.may g.P.Filler.lost g.P.Filler.stands g.P.Filler.knows g.P.Filler.knows_statics g.P.Filler.fills) in
+    let r = c.args.reader.now in
+    let h = c.args.home.now in
+    let w = c.args.store.now in
+    c.in-Err.ensures.stays writes (stays-lags kn be fi r h w true writes d)
+
 pub returns-in-Err-clause-says : goal.returns-in-Err-clause-says
 returns-in-Err-clause-says g c = λ s d.
     let kn = (of_known g.K.Known.ready g.K.Known.place g.K.Known.knows g.K.Known.heads g.K.Known.did) in
     let be = (of_below g.F.Frags.ready g.F.Frags.seen g.F.Frags.ahead g.F.Frags.moves g.F.Frags.did) in
-    let fi = (of_filler g.P.Filler.ready g.P.Filler.fits g.P.Filler.may g.P.Filler.lost g.P.Filler.source g.P.Filler.knows g.P.Filler.statics_are g.P.Filler.knows_statics g.P.Filler.fills) in
+    let fi = (of_filler g.P.Filler.ready g.P.Filler.fits g.P.Filler.may g.P.Filler.lost g.P.Filler.stands g.P.Filler.knows g.P.Filler.knows_statics g.P.Filler.fills) in
     let r = c.args.reader.now in
     let h = c.args.home.now in
     let w = c.args.store.now in
@@ -80,7 +116,7 @@ pub returns-in-Err-clause-did : goal.returns-in-Err-clause-did
 returns-in-Err-clause-did g c = λ y covers.
     let kn = (of_known g.K.Known.ready g.K.Known.place g.K.Known.knows g.K.Known.heads g.K.Known.did) in
     let be = (of_below g.F.Frags.ready g.F.Frags.seen g.F.Frags.ahead g.F.Frags.moves g.F.Frags.did) in
-    let fi = (of_filler g.P.Filler.ready g.P.Filler.fits g.P.Filler.may g.P.Filler.lost g.P.Filler.source g.P.Filler.knows g.P.Filler.statics_are g.P.Filler.knows_statics g.P.Filler.fills) in
+    let fi = (of_filler g.P.Filler.ready g.P.Filler.fits g.P.Filler.may g.P.Filler.lost g.P.Filler.stands g.P.Filler.knows g.P.Filler.knows_statics g.P.Filler.fills) in
     let r = c.args.reader.now in
     let h = c.args.home.now in
     let w = c.args.store.now in
@@ -99,7 +135,7 @@ pub returns-in-Sought-clause-filled : goal.returns-in-Sought-clause-filled
 returns-in-Sought-clause-filled g c =
     let kn = (of_known g.K.Known.ready g.K.Known.place g.K.Known.knows g.K.Known.heads g.K.Known.did) in
     let be = (of_below g.F.Frags.ready g.F.Frags.seen g.F.Frags.ahead g.F.Frags.moves g.F.Frags.did) in
-    let fi = (of_filler g.P.Filler.ready g.P.Filler.fits g.P.Filler.may g.P.Filler.lost g.P.Filler.source g.P.Filler.knows g.P.Filler.statics_are g.P.Filler.knows_statics g.P.Filler.fills) in
+    let fi = (of_filler g.P.Filler.ready g.P.Filler.fits g.P.Filler.may g.P.Filler.lost g.P.Filler.stands g.P.Filler.knows g.P.Filler.knows_statics g.P.Filler.fills) in
     let r = c.args.reader.now in
     let h = c.args.home.now in
     let w = c.args.store.now in
@@ -114,7 +150,7 @@ pub returns-in-Within-clause-filled : goal.returns-in-Within-clause-filled
 returns-in-Within-clause-filled g c =
     let kn = (of_known g.K.Known.ready g.K.Known.place g.K.Known.knows g.K.Known.heads g.K.Known.did) in
     let be = (of_below g.F.Frags.ready g.F.Frags.seen g.F.Frags.ahead g.F.Frags.moves g.F.Frags.did) in
-    let fi = (of_filler g.P.Filler.ready g.P.Filler.fits g.P.Filler.may g.P.Filler.lost g.P.Filler.source g.P.Filler.knows g.P.Filler.statics_are g.P.Filler.knows_statics g.P.Filler.fills) in
+    let fi = (of_filler g.P.Filler.ready g.P.Filler.fits g.P.Filler.may g.P.Filler.lost g.P.Filler.stands g.P.Filler.knows g.P.Filler.knows_statics g.P.Filler.fills) in
     let r = c.args.reader.now in
     let h = c.args.home.now in
     let w = c.args.store.now in
@@ -129,7 +165,7 @@ pub returns-in-Err-clause-filled : goal.returns-in-Err-clause-filled
 returns-in-Err-clause-filled g c =
     let kn = (of_known g.K.Known.ready g.K.Known.place g.K.Known.knows g.K.Known.heads g.K.Known.did) in
     let be = (of_below g.F.Frags.ready g.F.Frags.seen g.F.Frags.ahead g.F.Frags.moves g.F.Frags.did) in
-    let fi = (of_filler g.P.Filler.ready g.P.Filler.fits g.P.Filler.may g.P.Filler.lost g.P.Filler.source g.P.Filler.knows g.P.Filler.statics_are g.P.Filler.knows_statics g.P.Filler.fills) in
+    let fi = (of_filler g.P.Filler.ready g.P.Filler.fits g.P.Filler.may g.P.Filler.lost g.P.Filler.stands g.P.Filler.knows g.P.Filler.knows_statics g.P.Filler.fills) in
     let r = c.args.reader.now in
     let h = c.args.home.now in
     let w = c.args.store.now in

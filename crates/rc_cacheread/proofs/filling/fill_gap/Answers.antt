@@ -14,3 +14,12 @@ returns-then-is_lt-clause-taken g c =
 pub returns-else-is_lt-clause-taken : goal.returns-else-is_lt-clause-taken
 returns-else-is_lt-clause-taken g c =
     record { still = λ m. m; each = λ m e x v d. d; now = λ m e x h b. absurd (never-before x c.args.to.now (reach-through c.args.to.now c.args.from.now x (not-lt c.args.from.now c.args.to.now (ap is_lt (sym c.cmp.ensures) ∙ sym c.is_lt.ensures ∙ c.if-is_lt.false)) h) b) }
+
+pub gap-requires-clause-source : goal.gap-requires-clause-source
+gap-requires-clause-source g c = c.requires.source
+
+pub returns-then-is_lt-clause-stands : goal.returns-then-is_lt-clause-stands
+returns-then-is_lt-clause-stands g c = c.gap.ensures.stands
+
+pub returns-else-is_lt-clause-stands : goal.returns-else-is_lt-clause-stands
+returns-else-is_lt-clause-stands g c = λ writes d t. d

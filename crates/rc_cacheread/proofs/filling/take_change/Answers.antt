@@ -15,3 +15,12 @@ returns-then-lt-clause-taken g c =
 pub returns-clause-taken : goal.returns-clause-taken
 returns-clause-taken g c =
     taken-gap g.P.Filler.may g.P.Filler.lost g.P.Filler.knows c.args.filler.now c.fill_gap.new.filler c.args.home.now c.fill_gap.new.home c.args.spot.now.place c.args.from (past_row c.args.spot.now.row c.args.from) c.args.spot.now.tomb (ap (λ z. past_row z c.args.from) c.requires.unread) c.fill_gap.ensures.taken
+
+pub fill_gap-requires-clause-source : goal.fill_gap-requires-clause-source
+fill_gap-requires-clause-source g c = c.requires.source
+
+pub returns-then-lt-clause-stands : goal.returns-then-lt-clause-stands
+returns-then-lt-clause-stands g c = λ writes d t. d
+
+pub returns-clause-stands : goal.returns-clause-stands
+returns-clause-stands g c = c.fill_gap.ensures.stands

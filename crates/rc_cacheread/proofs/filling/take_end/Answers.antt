@@ -10,3 +10,6 @@ returns-clause-taken g c =
 
 pub fill_gap-requires-clause-source : goal.fill_gap-requires-clause-source
 fill_gap-requires-clause-source g c = c.requires.source
+
+pub returns-clause-stands : goal.returns-clause-stands
+returns-clause-stands g c = c.fill_gap.ensures.stands

@@ -10,8 +10,11 @@ use Rattle.rc_cacheread.specs.Spots.{past_row, stand}
 use Rattle.rc_cacheread.proofs.Passed.{taken-gap, taken-nothing, taken-row}
 use Rattle.rc_cacheread.proofs.filling.take_row.Goals as goal
 
+pub fill_gap-requires-clause-source : goal.fill_gap-requires-clause-source
+fill_gap-requires-clause-source g c = (c.requires.source.0, c.requires.source.1, c.requires.source.2)
+
 pub row-requires-clause-source : goal.row-requires-clause-source
-row-requires-clause-source g c = c.fill_gap.ensures.source (row_pos c.args.key) (c.args.row, c.args.spot.now.tomb) (c.requires.row (not-lt (row_pos c.args.key) c.args.spot.now.place (ap is_lt (sym c.compare_with_pos.ensures) ∙ sym c.is_lt.ensures ∙ c.if-is_lt.false)))
+row-requires-clause-source g c = (c.requires.source.0, c.fill_gap.ensures.stands c.requires.source.0 c.requires.source.1 c.requires.source.2, c.requires.source.3 (not-lt (row_pos c.args.key) c.args.spot.now.place (ap is_lt (sym c.compare_with_pos.ensures) ∙ sym c.is_lt.ensures ∙ c.if-is_lt.false)))
 
 pub returns-then-is_empty-clause-took : goal.returns-then-is_empty-clause-took
 returns-then-is_empty-clause-took g c = inr (not-lt (row_pos c.args.key) c.args.spot.now.place (ap is_lt (sym c.compare_with_pos.ensures) ∙ sym c.is_lt.ensures ∙ c.if-is_lt.false), refl, (refl, refl, refl), inl (c.is_empty.ensures.0 c.if-is_empty.true, refl))
@@ -42,3 +45,12 @@ returns-clause-taken g c =
     (λ e. untrue (sym (c.is_empty.ensures.1 e) ∙ c.if-is_empty.false))
     c.fill_gap.ensures.taken
     (record { still = c.row.ensures.may; each = c.row.ensures.keeps; now = c.row.ensures.known })
+
+pub returns-then-is_lt-clause-stands : goal.returns-then-is_lt-clause-stands
+returns-then-is_lt-clause-stands g c = λ writes d t u. d
+
+pub returns-then-is_empty-clause-stands : goal.returns-then-is_empty-clause-stands
+returns-then-is_empty-clause-stands g c = λ writes d t u. c.fill_gap.ensures.stands writes d t
+
+pub returns-clause-stands : goal.returns-clause-stands
+returns-clause-stands g c = λ writes d t u. c.row.ensures.stands writes (c.fill_gap.ensures.stands writes d t) (u (not-lt (row_pos c.args.key) c.args.spot.now.place (ap is_lt (sym c.compare_with_pos.ensures) ∙ sym c.is_lt.ensures ∙ c.if-is_lt.false)))

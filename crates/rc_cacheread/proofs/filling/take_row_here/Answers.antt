@@ -1,5 +1,6 @@
 -- The row stands at the place itself, and is not empty; or it says nothing.
-use Rattle.std.specs.Prelude.{◌≡◌}
+use Rattle.rc_stream.specs.Snapshot.{SayThere}
+use Rattle.std.specs.Prelude.{◌≡◌, None}
 use Rattle.std.proofs.Common.{refl, sym, ap, ◌∙◌, subst, inl, inr}
 use Rattle.std.specs.Ordering.{is_eq}
 use Rattle.rc_position.specs.Position.{row_pos}
@@ -33,7 +34,8 @@ returns-then-is_empty-clause-took g c =
 pub row-requires-clause-source : goal.row-requires-clause-source
 row-requires-clause-source g c =
     let same : row_pos c.args.key ≡ c.args.spot.now.place = is-eq (row_pos c.args.key) c.change_to.new.self.place (ap is_eq (sym c.compare_with_pos.ensures) ∙ sym c.is_eq.ensures ∙ c.if-not-is_eq.false) ∙ c.change_to.ensures.place in
-    subst (λ z. g.P.Filler.source c.args.filler.now c.args.home.now z (c.args.row, _)) (sym same) (c.requires.row same)
+    let writes = c.requires.source.0 in
+    (writes, c.requires.source.1, subst (λ z. SayThere writes z (c.args.row, None)) (sym same) (c.requires.source.2 same))
 
 pub returns-clause-took : goal.returns-clause-took
 returns-clause-took g c =
@@ -64,3 +66,11 @@ returns-clause-taken g c =
       each = c.row.ensures.keeps;
       now = λ m e. over-ends now (row_pos key) c.args.spot.now.place (behind_row key) (behind_row c.change_to.new.self.place.prefix) (sym same) (ap (λ z. behind_row z.prefix) (c.change_to.ensures.place ∙ sym same)) (over-row now (row_pos key) key c.args.row _ (reach-itself (row_pos key)) (over-nothing now (row_pos key) (row_pos key) refl) (c.row.ensures.known m e) (λ k. untrue (sym (c.is_empty.ensures.1 k) ∙ c.if-is_empty.false)));
     }
+
+pub returns-then-is_empty-clause-stands : goal.returns-then-is_empty-clause-stands
+returns-then-is_empty-clause-stands g c = λ writes d t. d
+
+pub returns-clause-stands : goal.returns-clause-stands
+returns-clause-stands g c = λ writes d t.
+    let same : row_pos c.args.key ≡ c.args.spot.now.place = is-eq (row_pos c.args.key) c.change_to.new.self.place (ap is_eq (sym c.compare_with_pos.ensures) ∙ sym c.is_eq.ensures ∙ c.if-not-is_eq.false) ∙ c.change_to.ensures.place in
+    c.row.ensures.stands writes d (subst (λ z. SayThere writes z (c.args.row, None)) (sym same) (t same))

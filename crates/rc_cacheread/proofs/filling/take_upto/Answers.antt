@@ -12,10 +12,10 @@ use Rattle.rc_cacheread.proofs.Passed.{over-ends, over-gap, over-still, taken-th
 use Rattle.rc_cacheread.proofs.filling.take_upto.Goals as goal
 
 pub fill_gap-requires-clause-source : goal.fill_gap-requires-clause-source
-fill_gap-requires-clause-source g c = λ y h b. c.requires.source y h (before-reach y c.args.upto b)
+fill_gap-requires-clause-source g c = (c.requires.source.0, c.requires.source.1, λ y h b. c.requires.source.2 y h (before-reach y c.args.upto b))
 
 pub fill_none-requires-clause-source : goal.fill_none-requires-clause-source
-fill_none-requires-clause-source g c = c.fill_gap.ensures.source c.args.upto (_, c.args.spot.now.tomb) (c.requires.source c.args.upto c.requires.on (reach-itself c.args.upto))
+fill_none-requires-clause-source g c = (c.requires.source.0, c.fill_gap.ensures.stands c.requires.source.0 c.requires.source.1 (λ y h b. c.requires.source.2 y h (before-reach y c.args.upto b)), c.requires.source.2 c.args.upto c.requires.on (reach-itself c.args.upto))
 
 pub returns-clause-did : goal.returns-clause-did
 returns-clause-did g c = many-many (λ ok. Filling g.P.Filler.fills) (c.args.filler.now, c.args.home.now) (c.fill_gap.new.filler, c.fill_gap.new.home) (c.fill_none.new.filler, c.fill_none.new.home) c.fill_gap.ensures.did c.fill_none.ensures.did
@@ -33,3 +33,6 @@ returns-clause-taken g c =
     (c.requires.lost c.fill_gap.new.filler c.fill_gap.new.home c.fill_none.new.filler c.fill_none.new.home c.fill_gap.ensures.did c.fill_none.ensures.did)
     (λ k a b. over-ends now s.place s.place x (past_row s.row x) refl (ap (λ z. past_row z x) c.requires.unread) (over-still knows now k s.place x (over-gap knows s.place x s.tomb a)))
     c.fill_gap.ensures.taken c.fill_none.ensures.taken
+
+pub returns-clause-stands : goal.returns-clause-stands
+returns-clause-stands g c = λ writes d t. c.fill_none.ensures.stands writes (c.fill_gap.ensures.stands writes d (λ y h b. t y h (before-reach y c.args.upto b))) (t c.args.upto c.requires.on (reach-itself c.args.upto))

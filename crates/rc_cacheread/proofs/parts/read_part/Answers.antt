@@ -7,7 +7,7 @@ use Rattle.rc_core.specs.declared.parts.Part.TheVariants as part
 use Rattle.rc_mutation.specs.declared.fragments.Frag.TheVariants as frag
 use Rattle.rc_stream.specs.Did.{OfNext, answered}
 use Rattle.rc_stream.specs.Places.{Reaches}
-use Rattle.rc_stream.specs.Snapshot.{IsPartFrom, There, place_behind}
+use Rattle.rc_stream.specs.Snapshot.{IsPartFrom, SayThere, There, place_behind}
 use Rattle.rc_cacheread.specs.declared.readers.Stage.TheVariants.{Away}
 use Rattle.rc_cacheread.specs.Did.{ReaderCall, reader_state}
 use Rattle.rc_cacheread.specs.Reading.{behind_row}
@@ -20,18 +20,36 @@ use Rattle.rc_cacheread.proofs.Leaving.{known-left}
 use Rattle.rc_cacheread.proofs.Lists.{behind-its-row, change_if}
 use Rattle.rc_cacheread.proofs.Orders.{before-reach, never-before, reach-itself}
 use Rattle.rc_cacheread.proofs.Outcomes.{carries-same}
-use Rattle.rc_cacheread.proofs.Parting.{advance-at, advance-gap, advance-row, advance-same, carries-away, front-over, ready-known, sees-known}
+use Rattle.rc_cacheread.proofs.Parting.{advance-at, advance-gap, advance-row, advance-same, carries-away, front-over, ready-known, sees-known, stays-known}
 use Rattle.rc_cacheread.proofs.Stepping.{ends-on, known-calls, reader_of}
 use Rattle.rc_cacheread.specs.Passing.{IsKnownOver}
 use Rattle.rc_cacheread.proofs.Filled.{filled-known, filled-then}
 use Rattle.rc_cacheread.proofs.Passed.{over-ends, over-gap, over-nothing, over-row, whole-ends, whole-gap, whole-nothing, whole-row}
 use Rattle.rc_cacheread.proofs.parts.read_part.Goals as goal
 
+pub returns-in-Ok-Row-clause-stays : goal.returns-in-Ok-Row-clause-stays
+returns-in-Ok-Row-clause-stays g c =
+    let kn = (of_known g.K.Known.ready g.K.Known.place g.K.Known.knows g.K.Known.heads g.K.Known.did) in
+    let be = (of_below g.F.Frags.ready g.F.Frags.seen g.F.Frags.ahead g.F.Frags.moves g.F.Frags.did) in
+    let fi = (of_filler g.P.Filler.ready g.P.Filler.fits g.P.Filler.may g.P.Filler.lost g.P.Filler.stands g.P.Filler.knows g.P.Filler.knows_statics g.P.Filler.fills) in
+    let r = c.args.reader.now in
+    let h = c.args.home.now in
+    let w = c.args.store.now in
+    let s = c.read_row.new.self in
+    let q = c.read_row.ensures in
+    let d : IsPartFrom (kn.knows r.known h) r.spot.place r.to (part.Row c.in-Ok-Row.key c.in-Ok-Row.row c.in-Ok-Row.tomb) = subst (IsPartFrom (kn.knows r.known h) r.spot.place r.to) c.in-Ok-Row.field-0-is c.in-Ok-Row.ensures.part in
+    let at : s.place ≡ row_pos c.in-Ok-Row.key = q.place ∙ d.1 in
+    let stands : stand s ≡ behind_row c.in-Ok-Row.key = λ i. past_row (q.row i) (at i) in
+    let on : Reaches (stand r.spot) (stand s) = subst (λ (z : Pos × Pos). Reaches z.0 z.1) (λ i. (sym (idle-stand r.spot c.requires.idle ∙ d.1) i, sym stands i)) (before-reach (row_pos c.in-Ok-Row.key) (behind_row c.in-Ok-Row.key) (behind-its-row c.in-Ok-Row.key)) in
+    let left = known-left kn be fi c.requires.ready.shares r.below r.filler w true (r.known, h) (c.next_part.new.known, c.next_part.new.home) c.in-Ok-Row.ensures.did c.requires.ready.fit in
+    let carries = carries-away (be.seen r.below h w) (be.seen r.below c.next_part.new.home w) r.stage (stand r.spot) (stand s) r.spot.tomb s.tomb left.seen in
+    stays-known kn be fi r c.next_part.new.known s Away c.next_part.new.lags h c.next_part.new.home w left c.next_part.ensures.knows on carries
+
 pub returns-in-Ok-Row-clause-says : goal.returns-in-Ok-Row-clause-says
 returns-in-Ok-Row-clause-says g c = λ z v.
     let kn = (of_known g.K.Known.ready g.K.Known.place g.K.Known.knows g.K.Known.heads g.K.Known.did) in
     let be = (of_below g.F.Frags.ready g.F.Frags.seen g.F.Frags.ahead g.F.Frags.moves g.F.Frags.did) in
-    let fi = (of_filler g.P.Filler.ready g.P.Filler.fits g.P.Filler.may g.P.Filler.lost g.P.Filler.source g.P.Filler.knows g.P.Filler.statics_are g.P.Filler.knows_statics g.P.Filler.fills) in
+    let fi = (of_filler g.P.Filler.ready g.P.Filler.fits g.P.Filler.may g.P.Filler.lost g.P.Filler.stands g.P.Filler.knows g.P.Filler.knows_statics g.P.Filler.fills) in
     let r = c.args.reader.now in
     let h = c.args.home.now in
     let w = c.args.store.now in
@@ -45,15 +63,15 @@ returns-in-Ok-Row-clause-says g c = λ z v.
     let carries = carries-away (be.seen r.below h w) (be.seen r.below c.next_part.new.home w) r.stage (stand r.spot) (stand s) r.spot.tomb s.tomb left.seen in
     let due : front s ≡ change_if r.spot.place r.spot.tomb c.in-Ok-Row.tomb ++ (frag.Row c.in-Ok-Row.key c.in-Ok-Row.row ∷ []) = front-changed r.spot s c.in-Ok-Row.tomb c.requires.idle q.told q.again q.tomb q.since ∙ (λ i. change_if (q.place i) r.spot.tomb c.in-Ok-Row.tomb ++ row_due (q.row i) (at i).prefix) in
     let k = idle-stand r.spot c.requires.idle in
-    let adv = advance-row (fi.source r.filler h) (stand r.spot) r.to c.in-Ok-Row.key c.in-Ok-Row.row r.spot.tomb c.in-Ok-Row.tomb v.rest v.reads (subst (λ x. IsBefore x r.to) (sym k) c.requires.within) (k ∙ d.1) (subst (λ x. fi.source r.filler h x (c.in-Ok-Row.row, c.in-Ok-Row.tomb)) (sym k) (c.requires.ready.fit.sound r.spot.place (c.in-Ok-Row.row, c.in-Ok-Row.tomb) d.2)) d.3 in
+    let adv = advance-row (SayThere v.writes) (stand r.spot) r.to c.in-Ok-Row.key c.in-Ok-Row.row r.spot.tomb c.in-Ok-Row.tomb v.says.rest v.says.reads (subst (λ x. IsBefore x r.to) (sym k) c.requires.within) (k ∙ d.1) (subst (λ x. SayThere v.writes x (c.in-Ok-Row.row, c.in-Ok-Row.tomb)) (sym k) (c.requires.ready.fit.sound v.writes v.reads.stands r.spot.place (c.in-Ok-Row.row, c.in-Ok-Row.tomb) d.2)) d.3 in
     sees-known kn be fi r c.next_part.new.known s Away c.next_part.new.lags h c.next_part.new.home w left c.next_part.ensures.knows on carries z v (idle-front r.spot c.requires.idle) (told-elsewhere r.spot s q.told q.again)
-    (advance-at (fi.source r.filler h) r.to r.spot.tomb v.rest (behind_row c.in-Ok-Row.key) (stand s) c.in-Ok-Row.tomb s.tomb (change_if (stand r.spot) r.spot.tomb c.in-Ok-Row.tomb ++ (frag.Row c.in-Ok-Row.key c.in-Ok-Row.row ∷ [])) (front s) stands q.tomb (due ∙ ap (λ x. change_if x r.spot.tomb c.in-Ok-Row.tomb ++ (frag.Row c.in-Ok-Row.key c.in-Ok-Row.row ∷ [])) (sym k)) adv)
+    (advance-at (SayThere v.writes) r.to r.spot.tomb v.says.rest (behind_row c.in-Ok-Row.key) (stand s) c.in-Ok-Row.tomb s.tomb (change_if (stand r.spot) r.spot.tomb c.in-Ok-Row.tomb ++ (frag.Row c.in-Ok-Row.key c.in-Ok-Row.row ∷ [])) (front s) stands q.tomb (due ∙ ap (λ x. change_if x r.spot.tomb c.in-Ok-Row.tomb ++ (frag.Row c.in-Ok-Row.key c.in-Ok-Row.row ∷ [])) (sym k)) adv)
 
 pub returns-in-Ok-Row-clause-did : goal.returns-in-Ok-Row-clause-did
 returns-in-Ok-Row-clause-did g c = λ y covers.
     let kn = (of_known g.K.Known.ready g.K.Known.place g.K.Known.knows g.K.Known.heads g.K.Known.did) in
     let be = (of_below g.F.Frags.ready g.F.Frags.seen g.F.Frags.ahead g.F.Frags.moves g.F.Frags.did) in
-    let fi = (of_filler g.P.Filler.ready g.P.Filler.fits g.P.Filler.may g.P.Filler.lost g.P.Filler.source g.P.Filler.knows g.P.Filler.statics_are g.P.Filler.knows_statics g.P.Filler.fills) in
+    let fi = (of_filler g.P.Filler.ready g.P.Filler.fits g.P.Filler.may g.P.Filler.lost g.P.Filler.stands g.P.Filler.knows g.P.Filler.knows_statics g.P.Filler.fills) in
     let r = c.args.reader.now in
     let h = c.args.home.now in
     let w = c.args.store.now in
@@ -63,7 +81,7 @@ pub returns-in-Ok-Row-clause-ready : goal.returns-in-Ok-Row-clause-ready
 returns-in-Ok-Row-clause-ready g c =
     let kn = (of_known g.K.Known.ready g.K.Known.place g.K.Known.knows g.K.Known.heads g.K.Known.did) in
     let be = (of_below g.F.Frags.ready g.F.Frags.seen g.F.Frags.ahead g.F.Frags.moves g.F.Frags.did) in
-    let fi = (of_filler g.P.Filler.ready g.P.Filler.fits g.P.Filler.may g.P.Filler.lost g.P.Filler.source g.P.Filler.knows g.P.Filler.statics_are g.P.Filler.knows_statics g.P.Filler.fills) in
+    let fi = (of_filler g.P.Filler.ready g.P.Filler.fits g.P.Filler.may g.P.Filler.lost g.P.Filler.stands g.P.Filler.knows g.P.Filler.knows_statics g.P.Filler.fills) in
     let r = c.args.reader.now in
     let h = c.args.home.now in
     let w = c.args.store.now in
@@ -81,7 +99,7 @@ pub returns-in-Ok-Row-clause-on : goal.returns-in-Ok-Row-clause-on
 returns-in-Ok-Row-clause-on g c =
     let kn = (of_known g.K.Known.ready g.K.Known.place g.K.Known.knows g.K.Known.heads g.K.Known.did) in
     let be = (of_below g.F.Frags.ready g.F.Frags.seen g.F.Frags.ahead g.F.Frags.moves g.F.Frags.did) in
-    let fi = (of_filler g.P.Filler.ready g.P.Filler.fits g.P.Filler.may g.P.Filler.lost g.P.Filler.source g.P.Filler.knows g.P.Filler.statics_are g.P.Filler.knows_statics g.P.Filler.fills) in
+    let fi = (of_filler g.P.Filler.ready g.P.Filler.fits g.P.Filler.may g.P.Filler.lost g.P.Filler.stands g.P.Filler.knows g.P.Filler.knows_statics g.P.Filler.fills) in
     let r = c.args.reader.now in
     let h = c.args.home.now in
     let w = c.args.store.now in
@@ -93,11 +111,28 @@ returns-in-Ok-Row-clause-on g c =
     let on : Reaches (stand r.spot) (stand s) = subst (λ (z : Pos × Pos). Reaches z.0 z.1) (λ i. (sym (idle-stand r.spot c.requires.idle ∙ d.1) i, sym stands i)) (before-reach (row_pos c.in-Ok-Row.key) (behind_row c.in-Ok-Row.key) (behind-its-row c.in-Ok-Row.key)) in
     on
 
+pub returns-in-Ok-Gap-clause-stays : goal.returns-in-Ok-Gap-clause-stays
+returns-in-Ok-Gap-clause-stays g c =
+    let kn = (of_known g.K.Known.ready g.K.Known.place g.K.Known.knows g.K.Known.heads g.K.Known.did) in
+    let be = (of_below g.F.Frags.ready g.F.Frags.seen g.F.Frags.ahead g.F.Frags.moves g.F.Frags.did) in
+    let fi = (of_filler g.P.Filler.ready g.P.Filler.fits g.P.Filler.may g.P.Filler.lost g.P.Filler.stands g.P.Filler.knows g.P.Filler.knows_statics g.P.Filler.fills) in
+    let r = c.args.reader.now in
+    let h = c.args.home.now in
+    let w = c.args.store.now in
+    let s = c.go_over.new.self in
+    let q = c.go_over.ensures in
+    let d : IsPartFrom (kn.knows r.known h) r.spot.place r.to (part.Gap c.in-Ok-Gap.to c.in-Ok-Gap.tomb) = subst (IsPartFrom (kn.knows r.known h) r.spot.place r.to) c.in-Ok-Gap.field-0-is c.in-Ok-Gap.ensures.part in
+    let stands : stand s ≡ c.in-Ok-Gap.to = ap (λ z. past_row z s.place) (q.row ∙ c.requires.idle.row) ∙ q.place in
+    let on : Reaches (stand r.spot) (stand s) = subst (λ (z : Pos × Pos). Reaches z.0 z.1) (λ i. (sym (idle-stand r.spot c.requires.idle) i, sym stands i)) (before-reach r.spot.place c.in-Ok-Gap.to d.0.0) in
+    let left = known-left kn be fi c.requires.ready.shares r.below r.filler w true (r.known, h) (c.next_part.new.known, c.next_part.new.home) c.in-Ok-Gap.ensures.did c.requires.ready.fit in
+    let carries = carries-away (be.seen r.below h w) (be.seen r.below c.next_part.new.home w) r.stage (stand r.spot) (stand s) r.spot.tomb s.tomb left.seen in
+    stays-known kn be fi r c.next_part.new.known s Away c.next_part.new.lags h c.next_part.new.home w left c.next_part.ensures.knows on carries
+
 pub returns-in-Ok-Gap-clause-says : goal.returns-in-Ok-Gap-clause-says
 returns-in-Ok-Gap-clause-says g c = λ z v.
     let kn = (of_known g.K.Known.ready g.K.Known.place g.K.Known.knows g.K.Known.heads g.K.Known.did) in
     let be = (of_below g.F.Frags.ready g.F.Frags.seen g.F.Frags.ahead g.F.Frags.moves g.F.Frags.did) in
-    let fi = (of_filler g.P.Filler.ready g.P.Filler.fits g.P.Filler.may g.P.Filler.lost g.P.Filler.source g.P.Filler.knows g.P.Filler.statics_are g.P.Filler.knows_statics g.P.Filler.fills) in
+    let fi = (of_filler g.P.Filler.ready g.P.Filler.fits g.P.Filler.may g.P.Filler.lost g.P.Filler.stands g.P.Filler.knows g.P.Filler.knows_statics g.P.Filler.fills) in
     let r = c.args.reader.now in
     let h = c.args.home.now in
     let w = c.args.store.now in
@@ -109,15 +144,15 @@ returns-in-Ok-Gap-clause-says g c = λ z v.
     let left = known-left kn be fi c.requires.ready.shares r.below r.filler w true (r.known, h) (c.next_part.new.known, c.next_part.new.home) c.in-Ok-Gap.ensures.did c.requires.ready.fit in
     let carries = carries-away (be.seen r.below h w) (be.seen r.below c.next_part.new.home w) r.stage (stand r.spot) (stand s) r.spot.tomb s.tomb left.seen in
     let k = idle-stand r.spot c.requires.idle in
-    let adv = advance-gap (fi.source r.filler h) (stand r.spot) r.to c.in-Ok-Gap.to r.spot.tomb c.in-Ok-Gap.tomb v.rest v.reads (subst (λ x. IsBefore x c.in-Ok-Gap.to) (sym k) d.0.0) d.0.1 (λ x m b. c.requires.ready.fit.sound x (_, c.in-Ok-Gap.tomb) (d.1 x (subst (λ y. Reaches y x) k m) b)) in
+    let adv = advance-gap (SayThere v.writes) (stand r.spot) r.to c.in-Ok-Gap.to r.spot.tomb c.in-Ok-Gap.tomb v.says.rest v.says.reads (subst (λ x. IsBefore x c.in-Ok-Gap.to) (sym k) d.0.0) d.0.1 (λ x m b. c.requires.ready.fit.sound v.writes v.reads.stands x (_, c.in-Ok-Gap.tomb) (d.1 x (subst (λ y. Reaches y x) k m) b)) in
     sees-known kn be fi r c.next_part.new.known s Away c.next_part.new.lags h c.next_part.new.home w left c.next_part.ensures.knows on carries z v (idle-front r.spot c.requires.idle) (told-elsewhere r.spot s q.told q.again)
-    (advance-at (fi.source r.filler h) r.to r.spot.tomb v.rest c.in-Ok-Gap.to (stand s) c.in-Ok-Gap.tomb s.tomb (change_if (stand r.spot) r.spot.tomb c.in-Ok-Gap.tomb) (front s) stands q.tomb (front-over r.spot s c.in-Ok-Gap.tomb c.requires.idle q.row q.told q.again q.tomb q.since ∙ ap (λ x. change_if x r.spot.tomb c.in-Ok-Gap.tomb) (sym k)) adv)
+    (advance-at (SayThere v.writes) r.to r.spot.tomb v.says.rest c.in-Ok-Gap.to (stand s) c.in-Ok-Gap.tomb s.tomb (change_if (stand r.spot) r.spot.tomb c.in-Ok-Gap.tomb) (front s) stands q.tomb (front-over r.spot s c.in-Ok-Gap.tomb c.requires.idle q.row q.told q.again q.tomb q.since ∙ ap (λ x. change_if x r.spot.tomb c.in-Ok-Gap.tomb) (sym k)) adv)
 
 pub returns-in-Ok-Gap-clause-did : goal.returns-in-Ok-Gap-clause-did
 returns-in-Ok-Gap-clause-did g c = λ y covers.
     let kn = (of_known g.K.Known.ready g.K.Known.place g.K.Known.knows g.K.Known.heads g.K.Known.did) in
     let be = (of_below g.F.Frags.ready g.F.Frags.seen g.F.Frags.ahead g.F.Frags.moves g.F.Frags.did) in
-    let fi = (of_filler g.P.Filler.ready g.P.Filler.fits g.P.Filler.may g.P.Filler.lost g.P.Filler.source g.P.Filler.knows g.P.Filler.statics_are g.P.Filler.knows_statics g.P.Filler.fills) in
+    let fi = (of_filler g.P.Filler.ready g.P.Filler.fits g.P.Filler.may g.P.Filler.lost g.P.Filler.stands g.P.Filler.knows g.P.Filler.knows_statics g.P.Filler.fills) in
     let r = c.args.reader.now in
     let h = c.args.home.now in
     let w = c.args.store.now in
@@ -127,7 +162,7 @@ pub returns-in-Ok-Gap-clause-ready : goal.returns-in-Ok-Gap-clause-ready
 returns-in-Ok-Gap-clause-ready g c =
     let kn = (of_known g.K.Known.ready g.K.Known.place g.K.Known.knows g.K.Known.heads g.K.Known.did) in
     let be = (of_below g.F.Frags.ready g.F.Frags.seen g.F.Frags.ahead g.F.Frags.moves g.F.Frags.did) in
-    let fi = (of_filler g.P.Filler.ready g.P.Filler.fits g.P.Filler.may g.P.Filler.lost g.P.Filler.source g.P.Filler.knows g.P.Filler.statics_are g.P.Filler.knows_statics g.P.Filler.fills) in
+    let fi = (of_filler g.P.Filler.ready g.P.Filler.fits g.P.Filler.may g.P.Filler.lost g.P.Filler.stands g.P.Filler.knows g.P.Filler.knows_statics g.P.Filler.fills) in
     let r = c.args.reader.now in
     let h = c.args.home.now in
     let w = c.args.store.now in
@@ -144,7 +179,7 @@ pub returns-in-Ok-Gap-clause-on : goal.returns-in-Ok-Gap-clause-on
 returns-in-Ok-Gap-clause-on g c =
     let kn = (of_known g.K.Known.ready g.K.Known.place g.K.Known.knows g.K.Known.heads g.K.Known.did) in
     let be = (of_below g.F.Frags.ready g.F.Frags.seen g.F.Frags.ahead g.F.Frags.moves g.F.Frags.did) in
-    let fi = (of_filler g.P.Filler.ready g.P.Filler.fits g.P.Filler.may g.P.Filler.lost g.P.Filler.source g.P.Filler.knows g.P.Filler.statics_are g.P.Filler.knows_statics g.P.Filler.fills) in
+    let fi = (of_filler g.P.Filler.ready g.P.Filler.fits g.P.Filler.may g.P.Filler.lost g.P.Filler.stands g.P.Filler.knows g.P.Filler.knows_statics g.P.Filler.fills) in
     let r = c.args.reader.now in
     let h = c.args.home.now in
     let w = c.args.store.now in
@@ -159,7 +194,7 @@ pub read_below-requires-clause-ready : goal.read_below-requires-clause-ready
 read_below-requires-clause-ready g c =
     let kn = (of_known g.K.Known.ready g.K.Known.place g.K.Known.knows g.K.Known.heads g.K.Known.did) in
     let be = (of_below g.F.Frags.ready g.F.Frags.seen g.F.Frags.ahead g.F.Frags.moves g.F.Frags.did) in
-    let fi = (of_filler g.P.Filler.ready g.P.Filler.fits g.P.Filler.may g.P.Filler.lost g.P.Filler.source g.P.Filler.knows g.P.Filler.statics_are g.P.Filler.knows_statics g.P.Filler.fills) in
+    let fi = (of_filler g.P.Filler.ready g.P.Filler.fits g.P.Filler.may g.P.Filler.lost g.P.Filler.stands g.P.Filler.knows g.P.Filler.knows_statics g.P.Filler.fills) in
     let r = c.args.reader.now in
     let h = c.args.home.now in
     let w = c.args.store.now in
@@ -167,23 +202,35 @@ read_below-requires-clause-ready g c =
     let carries = carries-same (be.seen r.below h w) (be.seen r.below c.next_part.new.home w) r.stage (stand r.spot) r.spot.tomb left.seen in
     ready-known kn be fi r c.next_part.new.known r.spot r.stage c.next_part.new.lags h c.next_part.new.home w left c.next_part.ensures.knows (reach-itself (stand r.spot)) carries c.requires.ready (subst (IsPlaceAt c.next_part.new.lags (kn.place c.next_part.new.known)) (sym (idle-stand r.spot c.requires.idle)) (subst (λ p. IsPlaceAt c.next_part.new.lags (kn.place c.next_part.new.known) (place_behind (Ok p) r.spot.place)) c.in-Ok-Missing.field-0-is c.in-Ok-Missing.ensures.at))
 
-pub returns-in-Ok-Missing-clause-says : goal.returns-in-Ok-Missing-clause-says
-returns-in-Ok-Missing-clause-says g c = λ z v.
+pub returns-in-Ok-Missing-clause-stays : goal.returns-in-Ok-Missing-clause-stays
+returns-in-Ok-Missing-clause-stays g c = λ writes d.
     let kn = (of_known g.K.Known.ready g.K.Known.place g.K.Known.knows g.K.Known.heads g.K.Known.did) in
     let be = (of_below g.F.Frags.ready g.F.Frags.seen g.F.Frags.ahead g.F.Frags.moves g.F.Frags.did) in
-    let fi = (of_filler g.P.Filler.ready g.P.Filler.fits g.P.Filler.may g.P.Filler.lost g.P.Filler.source g.P.Filler.knows g.P.Filler.statics_are g.P.Filler.knows_statics g.P.Filler.fills) in
+    let fi = (of_filler g.P.Filler.ready g.P.Filler.fits g.P.Filler.may g.P.Filler.lost g.P.Filler.stands g.P.Filler.knows g.P.Filler.knows_statics g.P.Filler.fills) in
     let r = c.args.reader.now in
     let h = c.args.home.now in
     let w = c.args.store.now in
     let left = known-left kn be fi c.requires.ready.shares r.below r.filler w true (r.known, h) (c.next_part.new.known, c.next_part.new.home) c.in-Ok-Missing.ensures.did c.requires.ready.fit in
     let carries = carries-same (be.seen r.below h w) (be.seen r.below c.next_part.new.home w) r.stage (stand r.spot) r.spot.tomb left.seen in
-    c.read_below.ensures.says z (sees-known kn be fi r c.next_part.new.known r.spot r.stage c.next_part.new.lags h c.next_part.new.home w left c.next_part.ensures.knows (reach-itself (stand r.spot)) carries z v (idle-front r.spot c.requires.idle) refl (advance-same (fi.source r.filler h) r.to r.spot v.rest c.requires.idle v.reads))
+    c.read_below.ensures.stays writes (stays-known kn be fi r c.next_part.new.known r.spot r.stage c.next_part.new.lags h c.next_part.new.home w left c.next_part.ensures.knows (reach-itself (stand r.spot)) carries writes d)
+
+pub returns-in-Ok-Missing-clause-says : goal.returns-in-Ok-Missing-clause-says
+returns-in-Ok-Missing-clause-says g c = λ z v.
+    let kn = (of_known g.K.Known.ready g.K.Known.place g.K.Known.knows g.K.Known.heads g.K.Known.did) in
+    let be = (of_below g.F.Frags.ready g.F.Frags.seen g.F.Frags.ahead g.F.Frags.moves g.F.Frags.did) in
+    let fi = (of_filler g.P.Filler.ready g.P.Filler.fits g.P.Filler.may g.P.Filler.lost g.P.Filler.stands g.P.Filler.knows g.P.Filler.knows_statics g.P.Filler.fills) in
+    let r = c.args.reader.now in
+    let h = c.args.home.now in
+    let w = c.args.store.now in
+    let left = known-left kn be fi c.requires.ready.shares r.below r.filler w true (r.known, h) (c.next_part.new.known, c.next_part.new.home) c.in-Ok-Missing.ensures.did c.requires.ready.fit in
+    let carries = carries-same (be.seen r.below h w) (be.seen r.below c.next_part.new.home w) r.stage (stand r.spot) r.spot.tomb left.seen in
+    c.read_below.ensures.says z (sees-known kn be fi r c.next_part.new.known r.spot r.stage c.next_part.new.lags h c.next_part.new.home w left c.next_part.ensures.knows (reach-itself (stand r.spot)) carries z v (idle-front r.spot c.requires.idle) refl (advance-same (SayThere v.writes) r.to r.spot v.says.rest c.requires.idle v.says.reads))
 
 pub returns-in-Ok-Missing-clause-did : goal.returns-in-Ok-Missing-clause-did
 returns-in-Ok-Missing-clause-did g c = λ y covers.
     let kn = (of_known g.K.Known.ready g.K.Known.place g.K.Known.knows g.K.Known.heads g.K.Known.did) in
     let be = (of_below g.F.Frags.ready g.F.Frags.seen g.F.Frags.ahead g.F.Frags.moves g.F.Frags.did) in
-    let fi = (of_filler g.P.Filler.ready g.P.Filler.fits g.P.Filler.may g.P.Filler.lost g.P.Filler.source g.P.Filler.knows g.P.Filler.statics_are g.P.Filler.knows_statics g.P.Filler.fills) in
+    let fi = (of_filler g.P.Filler.ready g.P.Filler.fits g.P.Filler.may g.P.Filler.lost g.P.Filler.stands g.P.Filler.knows g.P.Filler.knows_statics g.P.Filler.fills) in
     let r = c.args.reader.now in
     let h = c.args.home.now in
     let w = c.args.store.now in
@@ -192,7 +239,7 @@ returns-in-Ok-Missing-clause-did g c = λ y covers.
     let n = reader_of c.next_part.new.known r.below r.filler r.to r.spot r.stage c.next_part.new.lags in
     chain-after (ReaderCall kn be fi (OfNext y)) (answered c.read_below.result) (reader_state r h w) (reader_state n c.next_part.new.home w) (reader_state c.read_below.new.reader c.read_below.new.home c.read_below.new.store)
     (known-calls kn be fi (OfNext y) r.below r.filler w true r.known c.next_part.new.known h c.next_part.new.home c.in-Ok-Missing.ensures.did)
-    (c.read_below.ensures.did y (ends-on kn be fi r n h c.next_part.new.home w w c.args.upto.now y (λ z v. sees-known kn be fi r c.next_part.new.known r.spot r.stage c.next_part.new.lags h c.next_part.new.home w left c.next_part.ensures.knows (reach-itself (stand r.spot)) carries z v (idle-front r.spot c.requires.idle) refl (advance-same (fi.source r.filler h) r.to r.spot v.rest c.requires.idle v.reads)) covers))
+    (c.read_below.ensures.did y (ends-on kn be fi r n h c.next_part.new.home w w c.args.upto.now y (λ z v. sees-known kn be fi r c.next_part.new.known r.spot r.stage c.next_part.new.lags h c.next_part.new.home w left c.next_part.ensures.knows (reach-itself (stand r.spot)) carries z v (idle-front r.spot c.requires.idle) refl (advance-same (SayThere v.writes) r.to r.spot v.says.rest c.requires.idle v.says.reads)) covers))
 
 pub returns-in-Ok-Missing-clause-quiet : goal.returns-in-Ok-Missing-clause-quiet
 returns-in-Ok-Missing-clause-quiet g c = λ v k. absurd ((subst (IsPartFrom (g.K.Known.knows c.args.reader.now.known c.args.home.now) c.args.reader.now.spot.place c.args.reader.now.to) c.in-Ok-Missing.field-0-is c.in-Ok-Missing.ensures.part).1 v k)
@@ -203,29 +250,44 @@ never {x} {y} b e = never-before x y (subst (λ z. Reaches z x) e (reach-itself 
 pub returns-in-Ok-End-clause-says : goal.returns-in-Ok-End-clause-says
 returns-in-Ok-End-clause-says g c = absurd (never c.requires.within (subst (IsPartFrom (g.K.Known.knows c.args.reader.now.known c.args.home.now) c.args.reader.now.spot.place c.args.reader.now.to) c.in-Ok-End.field-0-is c.in-Ok-End.ensures.part))
 
+pub returns-in-Ok-End-clause-stays : goal.returns-in-Ok-End-clause-stays
+returns-in-Ok-End-clause-stays g c = absurd (never c.requires.within (subst (IsPartFrom (g.K.Known.knows c.args.reader.now.known c.args.home.now) c.args.reader.now.spot.place c.args.reader.now.to) c.in-Ok-End.field-0-is c.in-Ok-End.ensures.part))
+
 pub returns-in-Ok-End-clause-did : goal.returns-in-Ok-End-clause-did
 returns-in-Ok-End-clause-did g c = absurd (never c.requires.within (subst (IsPartFrom (g.K.Known.knows c.args.reader.now.known c.args.home.now) c.args.reader.now.spot.place c.args.reader.now.to) c.in-Ok-End.field-0-is c.in-Ok-End.ensures.part))
 
 pub returns-in-Ok-End-clause-ready : goal.returns-in-Ok-End-clause-ready
 returns-in-Ok-End-clause-ready g c = absurd (never c.requires.within (subst (IsPartFrom (g.K.Known.knows c.args.reader.now.known c.args.home.now) c.args.reader.now.spot.place c.args.reader.now.to) c.in-Ok-End.field-0-is c.in-Ok-End.ensures.part))
 
-pub returns-in-Err-clause-says : goal.returns-in-Err-clause-says
-returns-in-Err-clause-says g c = λ z v.
+pub returns-in-Err-clause-stays : goal.returns-in-Err-clause-stays
+returns-in-Err-clause-stays g c =
     let kn = (of_known g.K.Known.ready g.K.Known.place g.K.Known.knows g.K.Known.heads g.K.Known.did) in
     let be = (of_below g.F.Frags.ready g.F.Frags.seen g.F.Frags.ahead g.F.Frags.moves g.F.Frags.did) in
-    let fi = (of_filler g.P.Filler.ready g.P.Filler.fits g.P.Filler.may g.P.Filler.lost g.P.Filler.source g.P.Filler.knows g.P.Filler.statics_are g.P.Filler.knows_statics g.P.Filler.fills) in
+    let fi = (of_filler g.P.Filler.ready g.P.Filler.fits g.P.Filler.may g.P.Filler.lost g.P.Filler.stands g.P.Filler.knows g.P.Filler.knows_statics g.P.Filler.fills) in
     let r = c.args.reader.now in
     let h = c.args.home.now in
     let w = c.args.store.now in
     let left = known-left kn be fi c.requires.ready.shares r.below r.filler w false (r.known, h) (c.next_part.new.known, c.next_part.new.home) c.in-Err.ensures.did c.requires.ready.fit in
     let carries = carries-same (be.seen r.below h w) (be.seen r.below c.next_part.new.home w) r.stage (stand r.spot) r.spot.tomb left.seen in
-    sees-known kn be fi r c.next_part.new.known r.spot r.stage c.next_part.new.lags h c.next_part.new.home w left c.next_part.ensures.knows (reach-itself (stand r.spot)) carries z v (idle-front r.spot c.requires.idle) refl (advance-same (fi.source r.filler h) r.to r.spot v.rest c.requires.idle v.reads)
+    stays-known kn be fi r c.next_part.new.known r.spot r.stage c.next_part.new.lags h c.next_part.new.home w left c.next_part.ensures.knows (reach-itself (stand r.spot)) carries
+
+pub returns-in-Err-clause-says : goal.returns-in-Err-clause-says
+returns-in-Err-clause-says g c = λ z v.
+    let kn = (of_known g.K.Known.ready g.K.Known.place g.K.Known.knows g.K.Known.heads g.K.Known.did) in
+    let be = (of_below g.F.Frags.ready g.F.Frags.seen g.F.Frags.ahead g.F.Frags.moves g.F.Frags.did) in
+    let fi = (of_filler g.P.Filler.ready g.P.Filler.fits g.P.Filler.may g.P.Filler.lost g.P.Filler.stands g.P.Filler.knows g.P.Filler.knows_statics g.P.Filler.fills) in
+    let r = c.args.reader.now in
+    let h = c.args.home.now in
+    let w = c.args.store.now in
+    let left = known-left kn be fi c.requires.ready.shares r.below r.filler w false (r.known, h) (c.next_part.new.known, c.next_part.new.home) c.in-Err.ensures.did c.requires.ready.fit in
+    let carries = carries-same (be.seen r.below h w) (be.seen r.below c.next_part.new.home w) r.stage (stand r.spot) r.spot.tomb left.seen in
+    sees-known kn be fi r c.next_part.new.known r.spot r.stage c.next_part.new.lags h c.next_part.new.home w left c.next_part.ensures.knows (reach-itself (stand r.spot)) carries z v (idle-front r.spot c.requires.idle) refl (advance-same (SayThere v.writes) r.to r.spot v.says.rest c.requires.idle v.says.reads)
 
 pub returns-in-Err-clause-did : goal.returns-in-Err-clause-did
 returns-in-Err-clause-did g c = λ y covers.
     let kn = (of_known g.K.Known.ready g.K.Known.place g.K.Known.knows g.K.Known.heads g.K.Known.did) in
     let be = (of_below g.F.Frags.ready g.F.Frags.seen g.F.Frags.ahead g.F.Frags.moves g.F.Frags.did) in
-    let fi = (of_filler g.P.Filler.ready g.P.Filler.fits g.P.Filler.may g.P.Filler.lost g.P.Filler.source g.P.Filler.knows g.P.Filler.statics_are g.P.Filler.knows_statics g.P.Filler.fills) in
+    let fi = (of_filler g.P.Filler.ready g.P.Filler.fits g.P.Filler.may g.P.Filler.lost g.P.Filler.stands g.P.Filler.knows g.P.Filler.knows_statics g.P.Filler.fills) in
     let r = c.args.reader.now in
     let h = c.args.home.now in
     let w = c.args.store.now in
@@ -235,7 +297,7 @@ pub returns-in-Err-clause-ready : goal.returns-in-Err-clause-ready
 returns-in-Err-clause-ready g c =
     let kn = (of_known g.K.Known.ready g.K.Known.place g.K.Known.knows g.K.Known.heads g.K.Known.did) in
     let be = (of_below g.F.Frags.ready g.F.Frags.seen g.F.Frags.ahead g.F.Frags.moves g.F.Frags.did) in
-    let fi = (of_filler g.P.Filler.ready g.P.Filler.fits g.P.Filler.may g.P.Filler.lost g.P.Filler.source g.P.Filler.knows g.P.Filler.statics_are g.P.Filler.knows_statics g.P.Filler.fills) in
+    let fi = (of_filler g.P.Filler.ready g.P.Filler.fits g.P.Filler.may g.P.Filler.lost g.P.Filler.stands g.P.Filler.knows g.P.Filler.knows_statics g.P.Filler.fills) in
     let r = c.args.reader.now in
     let h = c.args.home.now in
     let w = c.args.store.now in
@@ -271,7 +333,7 @@ pub returns-in-Ok-Row-clause-filled : goal.returns-in-Ok-Row-clause-filled
 returns-in-Ok-Row-clause-filled g c =
     let kn = (of_known g.K.Known.ready g.K.Known.place g.K.Known.knows g.K.Known.heads g.K.Known.did) in
     let be = (of_below g.F.Frags.ready g.F.Frags.seen g.F.Frags.ahead g.F.Frags.moves g.F.Frags.did) in
-    let fi = (of_filler g.P.Filler.ready g.P.Filler.fits g.P.Filler.may g.P.Filler.lost g.P.Filler.source g.P.Filler.knows g.P.Filler.statics_are g.P.Filler.knows_statics g.P.Filler.fills) in
+    let fi = (of_filler g.P.Filler.ready g.P.Filler.fits g.P.Filler.may g.P.Filler.lost g.P.Filler.stands g.P.Filler.knows g.P.Filler.knows_statics g.P.Filler.fills) in
     let r = c.args.reader.now in
     let h = c.args.home.now in
     let w = c.args.store.now in
@@ -293,7 +355,7 @@ pub returns-in-Ok-Gap-clause-filled : goal.returns-in-Ok-Gap-clause-filled
 returns-in-Ok-Gap-clause-filled g c =
     let kn = (of_known g.K.Known.ready g.K.Known.place g.K.Known.knows g.K.Known.heads g.K.Known.did) in
     let be = (of_below g.F.Frags.ready g.F.Frags.seen g.F.Frags.ahead g.F.Frags.moves g.F.Frags.did) in
-    let fi = (of_filler g.P.Filler.ready g.P.Filler.fits g.P.Filler.may g.P.Filler.lost g.P.Filler.source g.P.Filler.knows g.P.Filler.statics_are g.P.Filler.knows_statics g.P.Filler.fills) in
+    let fi = (of_filler g.P.Filler.ready g.P.Filler.fits g.P.Filler.may g.P.Filler.lost g.P.Filler.stands g.P.Filler.knows g.P.Filler.knows_statics g.P.Filler.fills) in
     let r = c.args.reader.now in
     let h = c.args.home.now in
     let w = c.args.store.now in
@@ -311,7 +373,7 @@ pub returns-in-Ok-Missing-clause-filled : goal.returns-in-Ok-Missing-clause-fill
 returns-in-Ok-Missing-clause-filled g c =
     let kn = (of_known g.K.Known.ready g.K.Known.place g.K.Known.knows g.K.Known.heads g.K.Known.did) in
     let be = (of_below g.F.Frags.ready g.F.Frags.seen g.F.Frags.ahead g.F.Frags.moves g.F.Frags.did) in
-    let fi = (of_filler g.P.Filler.ready g.P.Filler.fits g.P.Filler.may g.P.Filler.lost g.P.Filler.source g.P.Filler.knows g.P.Filler.statics_are g.P.Filler.knows_statics g.P.Filler.fills) in
+    let fi = (of_filler g.P.Filler.ready g.P.Filler.fits g.P.Filler.may g.P.Filler.lost g.P.Filler.stands g.P.Filler.knows g.P.Filler.knows_statics g.P.Filler.fills) in
     let r = c.args.reader.now in
     let h = c.args.home.now in
     let w = c.args.store.now in
@@ -329,7 +391,7 @@ pub returns-in-Err-clause-filled : goal.returns-in-Err-clause-filled
 returns-in-Err-clause-filled g c =
     let kn = (of_known g.K.Known.ready g.K.Known.place g.K.Known.knows g.K.Known.heads g.K.Known.did) in
     let be = (of_below g.F.Frags.ready g.F.Frags.seen g.F.Frags.ahead g.F.Frags.moves g.F.Frags.did) in
-    let fi = (of_filler g.P.Filler.ready g.P.Filler.fits g.P.Filler.may g.P.Filler.lost g.P.Filler.source g.P.Filler.knows g.P.Filler.statics_are g.P.Filler.knows_statics g.P.Filler.fills) in
+    let fi = (of_filler g.P.Filler.ready g.P.Filler.fits g.P.Filler.may g.P.Filler.lost g.P.Filler.stands g.P.Filler.knows g.P.Filler.knows_statics g.P.Filler.fills) in
     let r = c.args.reader.now in
     let h = c.args.home.now in
     let w = c.args.store.now in

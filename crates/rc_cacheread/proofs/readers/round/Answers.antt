@@ -5,6 +5,7 @@ use Rattle.rc_stream.specs.Did.{OfNext}
 use Rattle.rc_stream.specs.Places.{Reaches}
 use Rattle.rc_stream.specs.Stream.{took}
 use Rattle.rc_mutation.specs.Fragments.{tomb_after}
+use Rattle.rc_cacheread.specs.declared.spots.Spot.{Spot}
 use Rattle.rc_cacheread.specs.declared.spots.Turn.TheVariants as turn
 use Rattle.rc_cacheread.specs.Did.{IsKnownFor, KnownStep, ReaderCall, ReaderFilled}
 use Rattle.rc_cacheread.specs.Sharing.{of_below, of_filler, of_known}
@@ -14,7 +15,7 @@ use Rattle.rc_cacheread.proofs.Chains.{chain-none}
 use Rattle.rc_cacheread.proofs.Idle.{idle-stand}
 use Rattle.rc_cacheread.proofs.Orders.{reach-itself}
 use Rattle.rc_cacheread.proofs.Stepping.{end-reaches, ends-on, reader_of}
-use Rattle.rc_cacheread.proofs.Turning.{first-left, nothing-left, ready-alike, ready-closed, sees-alike, sees-at, sees-closed, still-known}
+use Rattle.rc_cacheread.proofs.Turning.{first-left, nothing-left, ready-alike, ready-closed, sees-alike, sees-at, sees-closed, stays-alike, stays-closed, still-known}
 use Rattle.rc_cacheread.specs.Passing.{IsKnownOver}
 use Rattle.rc_cacheread.proofs.Filled.{filled-still}
 use Rattle.rc_cacheread.proofs.Passed.{known-here, over-nothing, whole-ends}
@@ -24,19 +25,19 @@ pub returns-in-Ok-Given-clause-says : goal.returns-in-Ok-Given-clause-says
 returns-in-Ok-Given-clause-says g c = λ s d.
     let kn = (of_known g.K.Known.ready g.K.Known.place g.K.Known.knows g.K.Known.heads g.K.Known.did) in
     let be = (of_below g.F.Frags.ready g.F.Frags.seen g.F.Frags.ahead g.F.Frags.moves g.F.Frags.did) in
-    let fi = (of_filler g.P.Filler.ready g.P.Filler.fits g.P.Filler.may g.P.Filler.lost g.P.Filler.source g.P.Filler.knows g.P.Filler.statics_are g.P.Filler.knows_statics g.P.Filler.fills) in
+    let fi = (of_filler g.P.Filler.ready g.P.Filler.fits g.P.Filler.may g.P.Filler.lost g.P.Filler.stands g.P.Filler.knows g.P.Filler.knows_statics g.P.Filler.fills) in
     let r = c.args.reader.now in
     let h = c.args.home.now in
     let w = c.args.store.now in
     let e : GivesDue r.to c.args.upto.now r.spot c.give.new.self (turn.Given c.in-Ok-Given.frag) = subst (GivesDue r.to c.args.upto.now r.spot c.give.new.self) c.in-Ok-Given.field-0-is c.in-Ok-Given.ensures.ok in
-    let l = first-left c.args.upto.now c.in-Ok-Given.frag s.left d.rest (d.left) e.0 e.1 in
-    (sees-at kn be fi r c.give.new.self h w e.3 e.4 s (took (Some c.in-Ok-Given.frag) s) d refl (ap (λ t. tomb_after t c.in-Ok-Given.frag) d.tomb ∙ sym e.2) l.1, l.0)
+    let l = first-left c.args.upto.now c.in-Ok-Given.frag s.left d.says.rest (d.says.left) e.0 e.1 in
+    (sees-at kn be fi r c.give.new.self h w e.3 e.4 s (took (Some c.in-Ok-Given.frag) s) d refl (ap (λ t. tomb_after t c.in-Ok-Given.frag) d.says.tomb ∙ sym e.2) l.1, l.0)
 
 pub returns-in-Ok-Nothing-clause-says : goal.returns-in-Ok-Nothing-clause-says
 returns-in-Ok-Nothing-clause-says g c = λ s d.
     let kn = (of_known g.K.Known.ready g.K.Known.place g.K.Known.knows g.K.Known.heads g.K.Known.did) in
     let be = (of_below g.F.Frags.ready g.F.Frags.seen g.F.Frags.ahead g.F.Frags.moves g.F.Frags.did) in
-    let fi = (of_filler g.P.Filler.ready g.P.Filler.fits g.P.Filler.may g.P.Filler.lost g.P.Filler.source g.P.Filler.knows g.P.Filler.statics_are g.P.Filler.knows_statics g.P.Filler.fills) in
+    let fi = (of_filler g.P.Filler.ready g.P.Filler.fits g.P.Filler.may g.P.Filler.lost g.P.Filler.stands g.P.Filler.knows g.P.Filler.knows_statics g.P.Filler.fills) in
     let r = c.args.reader.now in
     let h = c.args.home.now in
     let w = c.args.store.now in
@@ -48,7 +49,7 @@ pub returns-in-Ok-Nothing-clause-ready : goal.returns-in-Ok-Nothing-clause-ready
 returns-in-Ok-Nothing-clause-ready g c =
     let kn = (of_known g.K.Known.ready g.K.Known.place g.K.Known.knows g.K.Known.heads g.K.Known.did) in
     let be = (of_below g.F.Frags.ready g.F.Frags.seen g.F.Frags.ahead g.F.Frags.moves g.F.Frags.did) in
-    let fi = (of_filler g.P.Filler.ready g.P.Filler.fits g.P.Filler.may g.P.Filler.lost g.P.Filler.source g.P.Filler.knows g.P.Filler.statics_are g.P.Filler.knows_statics g.P.Filler.fills) in
+    let fi = (of_filler g.P.Filler.ready g.P.Filler.fits g.P.Filler.may g.P.Filler.lost g.P.Filler.stands g.P.Filler.knows g.P.Filler.knows_statics g.P.Filler.fills) in
     let r = c.args.reader.now in
     let h = c.args.home.now in
     let w = c.args.store.now in
@@ -59,7 +60,7 @@ pub returns-in-Ok-Closed-clause-says : goal.returns-in-Ok-Closed-clause-says
 returns-in-Ok-Closed-clause-says g c = λ s d.
     let kn = (of_known g.K.Known.ready g.K.Known.place g.K.Known.knows g.K.Known.heads g.K.Known.did) in
     let be = (of_below g.F.Frags.ready g.F.Frags.seen g.F.Frags.ahead g.F.Frags.moves g.F.Frags.did) in
-    let fi = (of_filler g.P.Filler.ready g.P.Filler.fits g.P.Filler.may g.P.Filler.lost g.P.Filler.source g.P.Filler.knows g.P.Filler.statics_are g.P.Filler.knows_statics g.P.Filler.fills) in
+    let fi = (of_filler g.P.Filler.ready g.P.Filler.fits g.P.Filler.may g.P.Filler.lost g.P.Filler.stands g.P.Filler.knows g.P.Filler.knows_statics g.P.Filler.fills) in
     let r = c.args.reader.now in
     let h = c.args.home.now in
     let w = c.args.store.now in
@@ -70,7 +71,7 @@ pub returns-in-Ok-Closed-clause-ready : goal.returns-in-Ok-Closed-clause-ready
 returns-in-Ok-Closed-clause-ready g c =
     let kn = (of_known g.K.Known.ready g.K.Known.place g.K.Known.knows g.K.Known.heads g.K.Known.did) in
     let be = (of_below g.F.Frags.ready g.F.Frags.seen g.F.Frags.ahead g.F.Frags.moves g.F.Frags.did) in
-    let fi = (of_filler g.P.Filler.ready g.P.Filler.fits g.P.Filler.may g.P.Filler.lost g.P.Filler.source g.P.Filler.knows g.P.Filler.statics_are g.P.Filler.knows_statics g.P.Filler.fills) in
+    let fi = (of_filler g.P.Filler.ready g.P.Filler.fits g.P.Filler.may g.P.Filler.lost g.P.Filler.stands g.P.Filler.knows g.P.Filler.knows_statics g.P.Filler.fills) in
     let r = c.args.reader.now in
     let h = c.args.home.now in
     let w = c.args.store.now in
@@ -81,7 +82,7 @@ pub read_part-requires-clause-ready : goal.read_part-requires-clause-ready
 read_part-requires-clause-ready g c =
     let kn = (of_known g.K.Known.ready g.K.Known.place g.K.Known.knows g.K.Known.heads g.K.Known.did) in
     let be = (of_below g.F.Frags.ready g.F.Frags.seen g.F.Frags.ahead g.F.Frags.moves g.F.Frags.did) in
-    let fi = (of_filler g.P.Filler.ready g.P.Filler.fits g.P.Filler.may g.P.Filler.lost g.P.Filler.source g.P.Filler.knows g.P.Filler.statics_are g.P.Filler.knows_statics g.P.Filler.fills) in
+    let fi = (of_filler g.P.Filler.ready g.P.Filler.fits g.P.Filler.may g.P.Filler.lost g.P.Filler.stands g.P.Filler.knows g.P.Filler.knows_statics g.P.Filler.fills) in
     let r = c.args.reader.now in
     let h = c.args.home.now in
     let w = c.args.store.now in
@@ -92,7 +93,7 @@ pub returns-in-Ok-Unread-clause-says : goal.returns-in-Ok-Unread-clause-says
 returns-in-Ok-Unread-clause-says g c = λ s d.
     let kn = (of_known g.K.Known.ready g.K.Known.place g.K.Known.knows g.K.Known.heads g.K.Known.did) in
     let be = (of_below g.F.Frags.ready g.F.Frags.seen g.F.Frags.ahead g.F.Frags.moves g.F.Frags.did) in
-    let fi = (of_filler g.P.Filler.ready g.P.Filler.fits g.P.Filler.may g.P.Filler.lost g.P.Filler.source g.P.Filler.knows g.P.Filler.statics_are g.P.Filler.knows_statics g.P.Filler.fills) in
+    let fi = (of_filler g.P.Filler.ready g.P.Filler.fits g.P.Filler.may g.P.Filler.lost g.P.Filler.stands g.P.Filler.knows g.P.Filler.knows_statics g.P.Filler.fills) in
     let r = c.args.reader.now in
     let h = c.args.home.now in
     let w = c.args.store.now in
@@ -103,7 +104,7 @@ pub returns-in-Ok-Given-clause-did : goal.returns-in-Ok-Given-clause-did
 returns-in-Ok-Given-clause-did g c = λ y covers.
     let kn = (of_known g.K.Known.ready g.K.Known.place g.K.Known.knows g.K.Known.heads g.K.Known.did) in
     let be = (of_below g.F.Frags.ready g.F.Frags.seen g.F.Frags.ahead g.F.Frags.moves g.F.Frags.did) in
-    let fi = (of_filler g.P.Filler.ready g.P.Filler.fits g.P.Filler.may g.P.Filler.lost g.P.Filler.source g.P.Filler.knows g.P.Filler.statics_are g.P.Filler.knows_statics g.P.Filler.fills) in
+    let fi = (of_filler g.P.Filler.ready g.P.Filler.fits g.P.Filler.may g.P.Filler.lost g.P.Filler.stands g.P.Filler.knows g.P.Filler.knows_statics g.P.Filler.fills) in
     let r = c.args.reader.now in
     let h = c.args.home.now in
     let w = c.args.store.now in
@@ -113,13 +114,14 @@ returns-in-Ok-Given-clause-did g c = λ y covers.
       on = subst (Reaches (stand r.spot)) (sym e.3) (reach-itself (stand r.spot));
       quiet = λ q. ((chain-none (KnownStep kn.did) true (r.known, h), refl, refl, refl), subst (λ x. IsKnownFor (OfNext y) (kn.knows r.known h) (kn.heads r.known h) x r.to) (sym e.3) q);
       filled = filled-still kn fi r.known r.filler h (IsKnownOver (kn.knows r.known h) (stand r.spot) (stand c.give.new.self)) (over-nothing (kn.knows r.known h) (stand r.spot) (stand c.give.new.self) e.3);
+      stays = stays-alike kn be fi r c.give.new.self h w e.3 e.4;
     }
 
 pub returns-in-Ok-Nothing-clause-did : goal.returns-in-Ok-Nothing-clause-did
 returns-in-Ok-Nothing-clause-did g c = λ y covers.
     let kn = (of_known g.K.Known.ready g.K.Known.place g.K.Known.knows g.K.Known.heads g.K.Known.did) in
     let be = (of_below g.F.Frags.ready g.F.Frags.seen g.F.Frags.ahead g.F.Frags.moves g.F.Frags.did) in
-    let fi = (of_filler g.P.Filler.ready g.P.Filler.fits g.P.Filler.may g.P.Filler.lost g.P.Filler.source g.P.Filler.knows g.P.Filler.statics_are g.P.Filler.knows_statics g.P.Filler.fills) in
+    let fi = (of_filler g.P.Filler.ready g.P.Filler.fits g.P.Filler.may g.P.Filler.lost g.P.Filler.stands g.P.Filler.knows g.P.Filler.knows_statics g.P.Filler.fills) in
     let r = c.args.reader.now in
     let h = c.args.home.now in
     let w = c.args.store.now in
@@ -129,13 +131,14 @@ returns-in-Ok-Nothing-clause-did g c = λ y covers.
       on = subst (Reaches (stand r.spot)) (sym e.0.from) (reach-itself (stand r.spot));
       quiet = λ q. ((chain-none (KnownStep kn.did) true (r.known, h), refl, refl, refl), subst (λ x. IsKnownFor (OfNext y) (kn.knows r.known h) (kn.heads r.known h) x r.to) (sym e.0.from) q);
       filled = filled-still kn fi r.known r.filler h (IsKnownOver (kn.knows r.known h) (stand r.spot) (stand c.give.new.self)) (over-nothing (kn.knows r.known h) (stand r.spot) (stand c.give.new.self) e.0.from);
+      stays = stays-alike kn be fi r c.give.new.self h w e.0.from e.0.tomb;
     }
 
 pub returns-in-Ok-Closed-clause-did : goal.returns-in-Ok-Closed-clause-did
 returns-in-Ok-Closed-clause-did g c = λ y covers.
     let kn = (of_known g.K.Known.ready g.K.Known.place g.K.Known.knows g.K.Known.heads g.K.Known.did) in
     let be = (of_below g.F.Frags.ready g.F.Frags.seen g.F.Frags.ahead g.F.Frags.moves g.F.Frags.did) in
-    let fi = (of_filler g.P.Filler.ready g.P.Filler.fits g.P.Filler.may g.P.Filler.lost g.P.Filler.source g.P.Filler.knows g.P.Filler.statics_are g.P.Filler.knows_statics g.P.Filler.fills) in
+    let fi = (of_filler g.P.Filler.ready g.P.Filler.fits g.P.Filler.may g.P.Filler.lost g.P.Filler.stands g.P.Filler.knows g.P.Filler.knows_statics g.P.Filler.fills) in
     let r = c.args.reader.now in
     let h = c.args.home.now in
     let w = c.args.store.now in
@@ -145,13 +148,14 @@ returns-in-Ok-Closed-clause-did g c = λ y covers.
       on = subst (Reaches (stand r.spot)) (sym e.2) (reach-itself (stand r.spot));
       quiet = λ q. ((chain-none (KnownStep kn.did) true (r.known, h), refl, refl, refl), subst (λ x. IsKnownFor (OfNext y) (kn.knows r.known h) (kn.heads r.known h) x r.to) (sym e.2) q);
       filled = filled-still kn fi r.known r.filler h (IsKnownOver (kn.knows r.known h) (stand r.spot) (stand c.give.new.self)) (over-nothing (kn.knows r.known h) (stand r.spot) (stand c.give.new.self) e.2);
+      stays = stays-closed kn be fi r c.give.new.self h w e;
     }
 
 pub returns-in-Ok-Unread-clause-did : goal.returns-in-Ok-Unread-clause-did
 returns-in-Ok-Unread-clause-did g c = λ y covers.
     let kn = (of_known g.K.Known.ready g.K.Known.place g.K.Known.knows g.K.Known.heads g.K.Known.did) in
     let be = (of_below g.F.Frags.ready g.F.Frags.seen g.F.Frags.ahead g.F.Frags.moves g.F.Frags.did) in
-    let fi = (of_filler g.P.Filler.ready g.P.Filler.fits g.P.Filler.may g.P.Filler.lost g.P.Filler.source g.P.Filler.knows g.P.Filler.statics_are g.P.Filler.knows_statics g.P.Filler.fills) in
+    let fi = (of_filler g.P.Filler.ready g.P.Filler.fits g.P.Filler.may g.P.Filler.lost g.P.Filler.stands g.P.Filler.knows g.P.Filler.knows_statics g.P.Filler.fills) in
     let r = c.args.reader.now in
     let h = c.args.home.now in
     let w = c.args.store.now in
@@ -168,13 +172,14 @@ returns-in-Ok-Unread-clause-did g c = λ y covers.
           let v = known-here (kn.knows r.known h) (stand r.spot) place k (q place (subst (λ z. Reaches (stand r.spot) z) (sym k) (reach-itself (stand r.spot))) (end-reaches kn be fi n h w c.args.upto.now y e.1 e.2 now) e.3) in
           (c.read_part.ensures.quiet v.0 v.1, still-known (kn.knows r.known h) (kn.knows c.read_part.new.reader.known c.read_part.new.home) (c.read_part.ensures.keeps v.0 v.1) (stand r.spot) (stand c.read_part.new.reader.spot) (whole-ends (kn.knows r.known h) (stand n.spot) (stand r.spot) (stand c.read_part.new.reader.spot) (stand c.read_part.new.reader.spot) (sym e.0.from) refl (c.read_part.ensures.whole v.0 v.1)) y (kn.heads r.known h) (kn.heads c.read_part.new.reader.known c.read_part.new.home) r.to c.read_part.new.reader.to on (sym c.read_part.ensures.to) q);
       filled = subst (λ x. ReaderFilled kn fi r.known r.filler h c.read_part.new.reader.known c.read_part.new.reader.filler c.read_part.new.home (IsKnownOver (kn.knows c.read_part.new.reader.known c.read_part.new.home) x (stand c.read_part.new.reader.spot))) e.0.from c.read_part.ensures.filled;
+      stays = λ writes d. c.read_part.ensures.stays writes (stays-alike kn be fi r c.give.new.self h w e.0.from e.0.tomb writes d);
     }
 
 pub returns-in-Err-clause-did : goal.returns-in-Err-clause-did
 returns-in-Err-clause-did g c = λ y covers.
     let kn = (of_known g.K.Known.ready g.K.Known.place g.K.Known.knows g.K.Known.heads g.K.Known.did) in
     let be = (of_below g.F.Frags.ready g.F.Frags.seen g.F.Frags.ahead g.F.Frags.moves g.F.Frags.did) in
-    let fi = (of_filler g.P.Filler.ready g.P.Filler.fits g.P.Filler.may g.P.Filler.lost g.P.Filler.source g.P.Filler.knows g.P.Filler.statics_are g.P.Filler.knows_statics g.P.Filler.fills) in
+    let fi = (of_filler g.P.Filler.ready g.P.Filler.fits g.P.Filler.may g.P.Filler.lost g.P.Filler.stands g.P.Filler.knows g.P.Filler.knows_statics g.P.Filler.fills) in
     let r = c.args.reader.now in
     let h = c.args.home.now in
     let w = c.args.store.now in
@@ -184,4 +189,5 @@ returns-in-Err-clause-did g c = λ y covers.
       on = subst (λ s. Reaches (stand r.spot) (stand s)) (sym same) (reach-itself (stand r.spot));
       quiet = λ q. ((chain-none (KnownStep kn.did) false (r.known, h), refl, refl, refl), subst (λ s. IsKnownFor (OfNext y) (kn.knows r.known h) (kn.heads r.known h) (stand s) r.to) (sym same) q);
       filled = filled-still kn fi r.known r.filler h (IsKnownOver (kn.knows r.known h) (stand r.spot) (stand c.give.new.self)) (over-nothing (kn.knows r.known h) (stand r.spot) (stand c.give.new.self) (ap stand same));
+      stays = stays-alike kn be fi r c.give.new.self h w (ap stand same) (ap (λ (x : Spot). x.tomb) same);
     }

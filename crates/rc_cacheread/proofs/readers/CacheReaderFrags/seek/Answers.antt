@@ -8,8 +8,8 @@ use Rattle.rc_cacheread.specs.Spots.{stand}
 use Rattle.rc_cacheread.specs.calls.Spots.{GoesOn}
 use Rattle.rc_cacheread.proofs.Chains.{chain-none}
 use Rattle.rc_cacheread.proofs.Orders.{reach-itself}
-use Rattle.rc_cacheread.proofs.Sought.{on-begun, ready-begun, sees-begun, sees-sought}
-use Rattle.rc_cacheread.proofs.Turning.{ready-alike, sees-alike}
+use Rattle.rc_cacheread.proofs.Sought.{on-begun, ready-begun, sees-begun, sees-sought, stays-begun}
+use Rattle.rc_cacheread.proofs.Turning.{ready-alike, sees-alike, stays-alike}
 use Rattle.std.specs.Prelude.{⊤}
 use Rattle.rc_cacheread.proofs.Filled.{filled-still}
 use Rattle.rc_cacheread.proofs.readers.CacheReaderFrags.seek.Goals as goal
@@ -18,7 +18,7 @@ pub returns-in-Ok-false-clause-seen : goal.returns-in-Ok-false-clause-seen
 returns-in-Ok-false-clause-seen g c = λ s d.
     let kn = (of_known g.K.Known.ready g.K.Known.place g.K.Known.knows g.K.Known.heads g.K.Known.did) in
     let be = (of_below g.F.Frags.ready g.F.Frags.seen g.F.Frags.ahead g.F.Frags.moves g.F.Frags.did) in
-    let fi = (of_filler g.P.Filler.ready g.P.Filler.fits g.P.Filler.may g.P.Filler.lost g.P.Filler.source g.P.Filler.knows g.P.Filler.statics_are g.P.Filler.knows_statics g.P.Filler.fills) in
+    let fi = (of_filler g.P.Filler.ready g.P.Filler.fits g.P.Filler.may g.P.Filler.lost g.P.Filler.stands g.P.Filler.knows g.P.Filler.knows_statics g.P.Filler.fills) in
     let r = c.args.self.now in
     let h = c.args._home.now in
     let w = c.args._store.now in
@@ -28,7 +28,7 @@ pub returns-in-Ok-false-clause-ready : goal.returns-in-Ok-false-clause-ready
 returns-in-Ok-false-clause-ready g c =
     let kn = (of_known g.K.Known.ready g.K.Known.place g.K.Known.knows g.K.Known.heads g.K.Known.did) in
     let be = (of_below g.F.Frags.ready g.F.Frags.seen g.F.Frags.ahead g.F.Frags.moves g.F.Frags.did) in
-    let fi = (of_filler g.P.Filler.ready g.P.Filler.fits g.P.Filler.may g.P.Filler.lost g.P.Filler.source g.P.Filler.knows g.P.Filler.statics_are g.P.Filler.knows_statics g.P.Filler.fills) in
+    let fi = (of_filler g.P.Filler.ready g.P.Filler.fits g.P.Filler.may g.P.Filler.lost g.P.Filler.stands g.P.Filler.knows g.P.Filler.knows_statics g.P.Filler.fills) in
     let r = c.args.self.now in
     let h = c.args._home.now in
     let w = c.args._store.now in
@@ -38,7 +38,7 @@ pub returns-in-Ok-false-clause-did : goal.returns-in-Ok-false-clause-did
 returns-in-Ok-false-clause-did g c =
     let kn = (of_known g.K.Known.ready g.K.Known.place g.K.Known.knows g.K.Known.heads g.K.Known.did) in
     let be = (of_below g.F.Frags.ready g.F.Frags.seen g.F.Frags.ahead g.F.Frags.moves g.F.Frags.did) in
-    let fi = (of_filler g.P.Filler.ready g.P.Filler.fits g.P.Filler.may g.P.Filler.lost g.P.Filler.source g.P.Filler.knows g.P.Filler.statics_are g.P.Filler.knows_statics g.P.Filler.fills) in
+    let fi = (of_filler g.P.Filler.ready g.P.Filler.fits g.P.Filler.may g.P.Filler.lost g.P.Filler.stands g.P.Filler.knows g.P.Filler.knows_statics g.P.Filler.fills) in
     let r = c.args.self.now in
     let h = c.args._home.now in
     let w = c.args._store.now in
@@ -47,13 +47,14 @@ returns-in-Ok-false-clause-did g c =
       on = subst (Reaches (stand r.spot)) (sym (subst (GoesOn c.args.to.now c.args.self.now.spot c.seek.new.self) c.in-Ok-false.field-0-test c.in-Ok-false.ensures.ok).from) (reach-itself (stand r.spot));
       quiet = λ q. ((chain-none (KnownStep kn.did) true (r.known, h), refl, refl, refl), tt);
       filled = filled-still kn fi r.known r.filler h ⊤ tt;
+      stays = stays-alike kn be fi r c.seek.new.self h w (subst (GoesOn c.args.to.now c.args.self.now.spot c.seek.new.self) c.in-Ok-false.field-0-test c.in-Ok-false.ensures.ok).from (subst (GoesOn c.args.to.now c.args.self.now.spot c.seek.new.self) c.in-Ok-false.field-0-test c.in-Ok-false.ensures.ok).tomb;
     }
 
 pub returns-in-Ok-false-clause-moves : goal.returns-in-Ok-false-clause-moves
 returns-in-Ok-false-clause-moves g c =
     let kn = (of_known g.K.Known.ready g.K.Known.place g.K.Known.knows g.K.Known.heads g.K.Known.did) in
     let be = (of_below g.F.Frags.ready g.F.Frags.seen g.F.Frags.ahead g.F.Frags.moves g.F.Frags.did) in
-    let fi = (of_filler g.P.Filler.ready g.P.Filler.fits g.P.Filler.may g.P.Filler.lost g.P.Filler.source g.P.Filler.knows g.P.Filler.statics_are g.P.Filler.knows_statics g.P.Filler.fills) in
+    let fi = (of_filler g.P.Filler.ready g.P.Filler.fits g.P.Filler.may g.P.Filler.lost g.P.Filler.stands g.P.Filler.knows g.P.Filler.knows_statics g.P.Filler.fills) in
     let r = c.args.self.now in
     let h = c.args._home.now in
     let w = c.args._store.now in
@@ -66,7 +67,7 @@ pub returns-in-Ok-true-clause-seen : goal.returns-in-Ok-true-clause-seen
 returns-in-Ok-true-clause-seen g c = λ s d.
     let kn = (of_known g.K.Known.ready g.K.Known.place g.K.Known.knows g.K.Known.heads g.K.Known.did) in
     let be = (of_below g.F.Frags.ready g.F.Frags.seen g.F.Frags.ahead g.F.Frags.moves g.F.Frags.did) in
-    let fi = (of_filler g.P.Filler.ready g.P.Filler.fits g.P.Filler.may g.P.Filler.lost g.P.Filler.source g.P.Filler.knows g.P.Filler.statics_are g.P.Filler.knows_statics g.P.Filler.fills) in
+    let fi = (of_filler g.P.Filler.ready g.P.Filler.fits g.P.Filler.may g.P.Filler.lost g.P.Filler.stands g.P.Filler.knows g.P.Filler.knows_statics g.P.Filler.fills) in
     let r = c.args.self.now in
     let h = c.args._home.now in
     let w = c.args._store.now in
@@ -76,7 +77,7 @@ pub returns-in-Ok-true-clause-ready : goal.returns-in-Ok-true-clause-ready
 returns-in-Ok-true-clause-ready g c =
     let kn = (of_known g.K.Known.ready g.K.Known.place g.K.Known.knows g.K.Known.heads g.K.Known.did) in
     let be = (of_below g.F.Frags.ready g.F.Frags.seen g.F.Frags.ahead g.F.Frags.moves g.F.Frags.did) in
-    let fi = (of_filler g.P.Filler.ready g.P.Filler.fits g.P.Filler.may g.P.Filler.lost g.P.Filler.source g.P.Filler.knows g.P.Filler.statics_are g.P.Filler.knows_statics g.P.Filler.fills) in
+    let fi = (of_filler g.P.Filler.ready g.P.Filler.fits g.P.Filler.may g.P.Filler.lost g.P.Filler.stands g.P.Filler.knows g.P.Filler.knows_statics g.P.Filler.fills) in
     let r = c.args.self.now in
     let h = c.args._home.now in
     let w = c.args._store.now in
@@ -86,7 +87,7 @@ pub returns-in-Ok-true-clause-did : goal.returns-in-Ok-true-clause-did
 returns-in-Ok-true-clause-did g c =
     let kn = (of_known g.K.Known.ready g.K.Known.place g.K.Known.knows g.K.Known.heads g.K.Known.did) in
     let be = (of_below g.F.Frags.ready g.F.Frags.seen g.F.Frags.ahead g.F.Frags.moves g.F.Frags.did) in
-    let fi = (of_filler g.P.Filler.ready g.P.Filler.fits g.P.Filler.may g.P.Filler.lost g.P.Filler.source g.P.Filler.knows g.P.Filler.statics_are g.P.Filler.knows_statics g.P.Filler.fills) in
+    let fi = (of_filler g.P.Filler.ready g.P.Filler.fits g.P.Filler.may g.P.Filler.lost g.P.Filler.stands g.P.Filler.knows g.P.Filler.knows_statics g.P.Filler.fills) in
     let r = c.args.self.now in
     let h = c.args._home.now in
     let w = c.args._store.now in
@@ -95,13 +96,14 @@ returns-in-Ok-true-clause-did g c =
       on = on-begun kn be fi r c.seek.new.self c.args.to.now h w (subst (GoesOn c.args.to.now c.args.self.now.spot c.seek.new.self) c.in-Ok-true.field-0-test c.in-Ok-true.ensures.ok);
       quiet = λ q. ((chain-none (KnownStep kn.did) true (r.known, h), refl, refl, refl), tt);
       filled = filled-still kn fi r.known r.filler h ⊤ tt;
+      stays = stays-begun kn be fi r c.seek.new.self c.args.to.now h w (subst (GoesOn c.args.to.now c.args.self.now.spot c.seek.new.self) c.in-Ok-true.field-0-test c.in-Ok-true.ensures.ok);
     }
 
 pub returns-in-Ok-true-clause-moves : goal.returns-in-Ok-true-clause-moves
 returns-in-Ok-true-clause-moves g c =
     let kn = (of_known g.K.Known.ready g.K.Known.place g.K.Known.knows g.K.Known.heads g.K.Known.did) in
     let be = (of_below g.F.Frags.ready g.F.Frags.seen g.F.Frags.ahead g.F.Frags.moves g.F.Frags.did) in
-    let fi = (of_filler g.P.Filler.ready g.P.Filler.fits g.P.Filler.may g.P.Filler.lost g.P.Filler.source g.P.Filler.knows g.P.Filler.statics_are g.P.Filler.knows_statics g.P.Filler.fills) in
+    let fi = (of_filler g.P.Filler.ready g.P.Filler.fits g.P.Filler.may g.P.Filler.lost g.P.Filler.stands g.P.Filler.knows g.P.Filler.knows_statics g.P.Filler.fills) in
     let r = c.args.self.now in
     let h = c.args._home.now in
     let w = c.args._store.now in
@@ -114,7 +116,7 @@ pub returns-in-Err-clause-seen : goal.returns-in-Err-clause-seen
 returns-in-Err-clause-seen g c = λ s d.
     let kn = (of_known g.K.Known.ready g.K.Known.place g.K.Known.knows g.K.Known.heads g.K.Known.did) in
     let be = (of_below g.F.Frags.ready g.F.Frags.seen g.F.Frags.ahead g.F.Frags.moves g.F.Frags.did) in
-    let fi = (of_filler g.P.Filler.ready g.P.Filler.fits g.P.Filler.may g.P.Filler.lost g.P.Filler.source g.P.Filler.knows g.P.Filler.statics_are g.P.Filler.knows_statics g.P.Filler.fills) in
+    let fi = (of_filler g.P.Filler.ready g.P.Filler.fits g.P.Filler.may g.P.Filler.lost g.P.Filler.stands g.P.Filler.knows g.P.Filler.knows_statics g.P.Filler.fills) in
     let r = c.args.self.now in
     let h = c.args._home.now in
     let w = c.args._store.now in
@@ -124,7 +126,7 @@ pub returns-in-Err-clause-ready : goal.returns-in-Err-clause-ready
 returns-in-Err-clause-ready g c =
     let kn = (of_known g.K.Known.ready g.K.Known.place g.K.Known.knows g.K.Known.heads g.K.Known.did) in
     let be = (of_below g.F.Frags.ready g.F.Frags.seen g.F.Frags.ahead g.F.Frags.moves g.F.Frags.did) in
-    let fi = (of_filler g.P.Filler.ready g.P.Filler.fits g.P.Filler.may g.P.Filler.lost g.P.Filler.source g.P.Filler.knows g.P.Filler.statics_are g.P.Filler.knows_statics g.P.Filler.fills) in
+    let fi = (of_filler g.P.Filler.ready g.P.Filler.fits g.P.Filler.may g.P.Filler.lost g.P.Filler.stands g.P.Filler.knows g.P.Filler.knows_statics g.P.Filler.fills) in
     let r = c.args.self.now in
     let h = c.args._home.now in
     let w = c.args._store.now in
@@ -134,7 +136,7 @@ pub returns-in-Err-clause-did : goal.returns-in-Err-clause-did
 returns-in-Err-clause-did g c =
     let kn = (of_known g.K.Known.ready g.K.Known.place g.K.Known.knows g.K.Known.heads g.K.Known.did) in
     let be = (of_below g.F.Frags.ready g.F.Frags.seen g.F.Frags.ahead g.F.Frags.moves g.F.Frags.did) in
-    let fi = (of_filler g.P.Filler.ready g.P.Filler.fits g.P.Filler.may g.P.Filler.lost g.P.Filler.source g.P.Filler.knows g.P.Filler.statics_are g.P.Filler.knows_statics g.P.Filler.fills) in
+    let fi = (of_filler g.P.Filler.ready g.P.Filler.fits g.P.Filler.may g.P.Filler.lost g.P.Filler.stands g.P.Filler.knows g.P.Filler.knows_statics g.P.Filler.fills) in
     let r = c.args.self.now in
     let h = c.args._home.now in
     let w = c.args._store.now in
@@ -143,13 +145,14 @@ returns-in-Err-clause-did g c =
       on = subst (Reaches (stand r.spot)) (sym c.in-Err.ensures.err.from) (reach-itself (stand r.spot));
       quiet = λ q. ((chain-none (KnownStep kn.did) false (r.known, h), refl, refl, refl), tt);
       filled = filled-still kn fi r.known r.filler h ⊤ tt;
+      stays = stays-alike kn be fi r c.seek.new.self h w c.in-Err.ensures.err.from c.in-Err.ensures.err.tomb;
     }
 
 pub returns-in-Err-clause-moves : goal.returns-in-Err-clause-moves
 returns-in-Err-clause-moves g c =
     let kn = (of_known g.K.Known.ready g.K.Known.place g.K.Known.knows g.K.Known.heads g.K.Known.did) in
     let be = (of_below g.F.Frags.ready g.F.Frags.seen g.F.Frags.ahead g.F.Frags.moves g.F.Frags.did) in
-    let fi = (of_filler g.P.Filler.ready g.P.Filler.fits g.P.Filler.may g.P.Filler.lost g.P.Filler.source g.P.Filler.knows g.P.Filler.statics_are g.P.Filler.knows_statics g.P.Filler.fills) in
+    let fi = (of_filler g.P.Filler.ready g.P.Filler.fits g.P.Filler.may g.P.Filler.lost g.P.Filler.stands g.P.Filler.knows g.P.Filler.knows_statics g.P.Filler.fills) in
     let r = c.args.self.now in
     let h = c.args._home.now in
     let w = c.args._store.now in
