@@ -12,10 +12,9 @@ use Rattle.rc_cell.specs.laws.Beats.{tomb_cmp-IsAntisymmetric}
 use Rattle.rc_cell.specs.Orders.{tomb_cmp}
 use Rattle.rc_position.specs.declared.comps.Comp.{Comp}
 use Rattle.rc_position.specs.declared.positions.Pos.{Pos}
-use Rattle.rc_position.specs.declared.positions.Weight.TheVariants.{At}
 use Rattle.rc_position.specs.Position.{IsBefore, IsPosOf, pos_cmp, row_pos}
-use Rattle.rc_position.specs.laws.Bounds.{first_pos-least, last_pos-greatest, row_pos-next}
-use Rattle.rc_position.specs.laws.Orders.{pos_cmp_same, pos_cmp_total}
+use Rattle.rc_position.specs.laws.Bounds.{first_pos-least, row_pos-next}
+use Rattle.rc_position.specs.laws.Orders.{pos_cmp_total}
 use Rattle.rc_schema.specs.declared.kinds.CkKind.{CkKind}
 use Rattle.rc_schema.specs.SchemaValue.{SchemaValue}
 use Rattle.rc_schema.specs.Checks.{are_of_kinds, is_key_of, is_of_kind, is_short}
@@ -24,7 +23,7 @@ use Rattle.rc_ranges.specs.declared.pieces.Piece.{Piece}
 use Rattle.rc_mutation.specs.declared.fragments.Frag.{Frag}
 use Rattle.rc_mutation.specs.declared.fragments.Frag.TheVariants as frag
 use Rattle.rc_mutation.specs.declared.mutations.Mutation.{Mutation}
-use Rattle.rc_mutation.specs.Canonical.{IsBounded, IsCanonicalList}
+use Rattle.rc_mutation.specs.Canonical.{IsCanonicalList}
 use Rattle.rc_mutation.specs.Fragments.{begins_at, changes_of, place_order, placed_change, placed_row, rows_and_changes}
 use Rattle.rc_mutation.specs.Source.{IsMutation}
 use Rattle.rc_mutation.specs.laws.CanonicalListed.{listed}

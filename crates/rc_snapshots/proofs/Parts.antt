@@ -1,11 +1,9 @@
 -- The parts of a snapshot's stream: what each leaves to the others, since none changes the chains.
-use Rattle.std.specs.Prelude.{◌≡◌, ◌⊎◌, ◌↔◌, ⊤, ℕ, Bool, true, false, IsTrue, Option, Some, None}
+use Rattle.std.specs.Prelude.{◌≡◌, ◌↔◌, ⊤, Bool}
 use Rattle.std.proofs.Common.{refl, sym, ap, ◌∙◌, subst, inl, inr, arith}
-use Rattle.rc_cell.specs.declared.rows.Row.{Row}
 use Rattle.rc_position.specs.declared.positions.Pos.{Pos}
 use Rattle.rc_mutation.specs.declared.fragments.HeadAt.{HeadAt}
 use Rattle.rc_memory.specs.Memory.{HasPin, Memory}
-use Rattle.rc_chain.specs.declared.chains.Snap.{Snap}
 use Rattle.rc_stream.specs.Did.{Call, InTurn}
 use Rattle.rc_stream.specs.Snapshot.{There}
 use Rattle.rc_stream.specs.Stream.{Stream}
@@ -14,9 +12,9 @@ use Rattle.rc_cursor.specs.declared.readers.SnapshotReader.{SnapshotReader}
 use Rattle.rc_cursor.specs.Readers.{IsOnlyRead}
 use Rattle.rc_cursor.specs.Snapshots.{IsHeadSeen, IsReadable, Knows}
 use Rattle.rc_cacheread.specs.Did.{ReaderCall}
-use Rattle.rc_cacheread.specs.Sharing.{Fit, Kept, OfBelow, OfFiller, OfKnown, Shares}
+use Rattle.rc_cacheread.specs.Sharing.{Fit, Kept, OfBelow, OfFiller, OfKnown, Shares, StillStands}
 use Rattle.rc_snapshots.specs.declared.fillers.NoFiller.{NoFiller}
-use Rattle.rc_snapshots.specs.Fillers.{StaticsNamed, KnowsStaticsNamed, KnowsNamed}
+use Rattle.rc_snapshots.specs.Fillers.{KnowsNamed, KnowsStaticsNamed, StandsNamed}
 use Rattle.rc_snapshots.specs.Streams.{filler_of}
 
 -- a snapshot over the chains
@@ -36,9 +34,8 @@ fi = record {
   fits = λ _ _. ⊤;
   may = λ _ _. ⊥;
   lost = λ _. 0;
-  source = λ f m. KnowsNamed m f;
+  stands = λ f m. StandsNamed m f;
   knows = λ f m. KnowsNamed m f;
-  statics_are = λ f m. StaticsNamed m f;
   knows_statics = λ f m. KnowsStaticsNamed m f;
   fills = λ f m g n. (g ≡ f) × (n ≡ m);
 }
@@ -61,8 +58,8 @@ module _ (W : Type 0) where
     known = h;
     below = tt;
     filler = tt;
-    sound = λ x v a. a;
-    sound_statics = λ at a t. sym a.statics;
+    sound = λ writes d. d.there;
+    sound_statics = λ writes d at a t. d.static_row (sym a.known ∙ t) ∙ sym a.statics;
     same = λ x v. (λ a. a, λ a. a);
     same_statics = λ row a at b. b.known ∙ a.0;
   }
@@ -82,13 +79,14 @@ module _ (W : Type 0) where
       (subst (λ o. Kept kn fi k p h (record { snap = k.snap; cursor = l.cursor }) o g) (sym filler)
       (subst (λ m. Kept kn fi k p h (record { snap = k.snap; cursor = l.cursor }) p m) (sym home)
       (record {
-        source = λ x v. (λ a. a, λ a. a);
-        statics = λ row. (λ a. a, λ a. a);
         pts = λ at a. (at, a, refl);
         may = λ a. a;
         lost = omega arith;
         static_row = λ a _. absurd a;
       })))
+
+  stands-same : (p q : NoFiller) (h g : Memory) → q ≡ p → g ≡ h → StillStands fi p h q g
+  stands-same p q h g filler home writes d = subst (λ (z : NoFiller × Memory). StandsNamed z.1 z.0 writes) (λ i. (sym filler i, sym home i)) d
 
   heads-same : (k l : SnapshotReader) (h g : Memory) → l.snap ≡ k.snap → g ≡ h → (at : HeadAt) → IsHeadSeen g l.snap at → IsHeadSeen h k.snap at
   heads-same k l h g snap home at a = subst (λ s. IsHeadSeen h s at) snap (subst (λ m. IsHeadSeen m l.snap at) home a)
@@ -98,8 +96,8 @@ module _ (W : Type 0) where
 
   pub shares : Shares kn be fi
   shares = record {
-    after_known = λ k b p h w c ok l g f d. (refit k l b b p p h g w w d.snap refl d.home f, kept-same k l p p h g d.snap refl d.home, heads-same k l h g d.snap d.home, λ s a. a);
-    after_below = λ k b c p h w g v f d r. (refit k k b c p p h g w v refl refl (sym d.0) f, kept-same k k p p h g refl refl (sym d.0), knows-same k h g (sym d.0));
+    after_known = λ k b p h w c ok l g f d. (refit k l b b p p h g w w d.snap refl d.home f, kept-same k l p p h g d.snap refl d.home, stands-same p p h g refl d.home, heads-same k l h g d.snap d.home, λ s a. a);
+    after_below = λ k b c p h w g v f d r. (refit k k b c p p h g w v refl refl (sym d.0) f, kept-same k k p p h g refl refl (sym d.0), stands-same p p h g refl (sym d.0), knows-same k h g (sym d.0));
     after_fill = λ k b p h w q g f d. (refit k k b b p q h g w w refl d.0 d.1 f, kept-same k k p q h g refl d.0 d.1, λ s a. a);
     fits = λ p x. tt;
     one_head = λ k h a b x y. λ i. record { head = record { pt = (x.pt ∙ sym y.pt) i; statics = (x.statics ∙ sym y.statics) i }; known = (x.known ∙ sym y.known) i };

@@ -1,27 +1,21 @@
 -- A snapshot's stream is ready, and stands for what was written.
-use Rattle.std.specs.Prelude.{◌≡◌, ◌≢◌, ◌⊎◌, ℕ, true, false, IsTrue, List, [], ◌∷◌, ◌++◌, Option, Some, None}
-use Rattle.std.proofs.Common.{refl, sym, ap, ◌∙◌, subst, inl, inr}
-use Rattle.std.specs.Ordering.{is_le}
-use Rattle.rc_cell.specs.declared.rows.Row.{Row}
-use Rattle.rc_cell.specs.declared.writes.Tomb.{Tomb}
+use Rattle.std.specs.Prelude.{◌≡◌, ◌⊎◌, ℕ, true, List, [], ◌∷◌, Option, None}
+use Rattle.std.proofs.Common.{refl, sym, ap, ◌∙◌, subst, inl}
 use Rattle.rc_position.specs.declared.positions.Pos.{Pos}
-use Rattle.rc_position.specs.Position.{IsBefore}
 use Rattle.rc_mutation.specs.declared.fragments.HeadAt.{HeadAt}
 use Rattle.rc_mutation.specs.declared.mutations.Mutation.{Mutation}
-use Rattle.rc_mutation.specs.Fragments.{fragments}
 use Rattle.rc_mutation.specs.Source.{SameSource, source_at_head, source_at_static}
 use Rattle.rc_core.specs.declared.entries.ChainKind.{ChainKind}
 use Rattle.rc_core.specs.declared.entries.ChainKind.TheVariants.{Memtable}
 use Rattle.rc_core.specs.declared.entries.Flag.{Flag}
 use Rattle.rc_core.specs.declared.entries.Flag.TheVariants.{Inherit}
-use Rattle.rc_core.specs.Chain.{IsKnown, base, content, decides, flagged, flagged_from, newer_first, states_at}
+use Rattle.rc_core.specs.Chain.{IsKnown, base, content, flagged, flagged_from, newer_first, states_at}
 use Rattle.rc_core.specs.Chains.{AllInherit}
 use Rattle.rc_core.specs.Continuity.{EachOf, static_states}
 use Rattle.rc_core.specs.Version.{On, Version, end_position, static_state}
 use Rattle.rc_memory.specs.Memory.{HasPin, Memory}
 use Rattle.rc_chain.specs.declared.chains.Snap.{Snap}
-use Rattle.rc_stream.specs.Places.{Reaches}
-use Rattle.rc_stream.specs.Snapshot.{There}
+use Rattle.rc_stream.specs.Snapshot.{SayThere, There}
 use Rattle.rc_stream.specs.Stream.{Stream, stream_of}
 use Rattle.rc_cursor.specs.declared.readers.SnapshotReader.{SnapshotReader}
 use Rattle.rc_cursor.specs.Snapshots.{AreReadable, IsHeadOf, IsKnownAs, kind_seen, versions_seen}
@@ -29,10 +23,11 @@ use Rattle.rc_cacheread.specs.declared.readers.CacheReader.{CacheReader}
 use Rattle.rc_cacheread.specs.declared.readers.Stage.TheVariants.{Away}
 use Rattle.rc_cacheread.specs.declared.spots.RowAt.TheVariants.{Unread}
 use Rattle.rc_cacheread.specs.Reading.{Reads}
-use Rattle.rc_cacheread.specs.Sharing.{IsAllKnown, IsReady, IsSaidBelow, IsStaticRowKnown, Leads, Sees}
-use Rattle.rc_cacheread.specs.Spots.{front, stand}
+use Rattle.rc_cacheread.specs.Sharing.{IsAllKnown, IsReaderOf, IsReady, IsSaidBelow, Leads, Sees}
+use Rattle.rc_cacheread.specs.Spots.{stand}
 use Rattle.rc_snapshots.specs.declared.fillers.NoFiller.{NoFiller}
-use Rattle.rc_snapshots.specs.Streams.{IsNewStream, IsOf, SayThere, SeesChanges, filler_of, first_position, from_start}
+use Rattle.rc_snapshots.specs.Fillers.{AreKnownOf, StandsNamed}
+use Rattle.rc_snapshots.specs.Streams.{IsNewStream, IsOf, SeesChanges, filler_of, first_position, from_start}
 use Rattle.rc_snapshots.proofs.Fragments.{from-first}
 use Rattle.rc_snapshots.proofs.Parts.{be, fi, fit, kn, shares}
 
@@ -86,38 +81,42 @@ module _ (known : (versions : List Version) → EachOf AllInherit versions → (
     head = λ at h. h.known ∙ ap (λ q. flagged q (static_states (versions_seen m s))) sees.kind ∙ statics-flagged (versions_seen m s) sees.inherit;
   }
 
+  -- the snapshot stands for all writes that say the same
+  stands : (writes : List Mutation) → SameSource writes changes → StandsNamed m (filler_of s) writes
+  stands writes same = record {
+    there = λ y v a. same.clustered y ∙ sym (sees.stands.clustered y) ∙ a.there;
+    static_row = λ _. same.statics ∙ sym (ap (λ (v : There). v.0) sees.stands.statics);
+  }
+
   module _ {W : Type 0} (w : W) (r : Reader) (is : IsNewStream s r) where
+    -- of all those it is a reader
+    new-reads : (writes : List Mutation) → SameSource writes changes → IsReaderOf kn (be W) fi writes (made s r.spot.since) m w
+    new-reads writes same = record { stands = stands writes same; covered = inl all-known }
+
     pub new-ready : IsReady kn (be W) fi r m w
     new-ready = subst (λ q. IsReady kn (be W) fi q m w) (sym (is-made s r is)) (record {
       fit = fit W (from_start s) (stream_of []) m w (sees.pin, sees.readable);
       shares = shares W;
-      covered = inl all-known;
+      writes = changes;
+      reads = new-reads changes (record { head = refl; statics = refl; clustered = λ y. refl });
       ahead = λ x _. tt;
       place = from-first first_position;
     })
 
-    module _ (said : Mutation) (t : Stream) (same : SameSource (said ∷ []) changes) (reads : Reads (SayThere (said ∷ [])) first_position end_position None t.left) (none : t.tomb ≡ None) (pt : t.head.pt ≡ source_at_head (said ∷ [])) (statics : t.head.statics ≡ source_at_static (said ∷ [])) where
-      stands : (y : Pos) (v : There) → kn.knows (from_start s) m y v → SayThere (said ∷ []) y v
-      stands y v a = same.clustered y ∙ sym (sees.stands.clustered y) ∙ a.there
-
-      pub new-sees : Sees kn (be W) fi r m w t
-      new-sees = subst (λ q. Sees kn (be W) fi q m w t) (sym (is-made s r is)) (record {
+    pub new-sees : (said : Mutation) (t : Stream) → SameSource (said ∷ []) changes → Reads (SayThere (said ∷ [])) first_position end_position None t.left → t.tomb ≡ None → t.head.pt ≡ source_at_head (said ∷ []) → t.head.statics ≡ source_at_static (said ∷ []) → Sees kn (be W) fi r m w t
+    new-sees said t same reads none pt statics = subst (λ q. Sees kn (be W) fi q m w t) (sym (is-made s r is)) (record {
+      writes = said ∷ [];
+      reads = new-reads (said ∷ []) same;
+      says = record {
         rest = t.left;
         tomb = none;
         left = refl;
-        reads = record {
-          ordered = reads.ordered;
-          telling = reads.telling;
-          written = reads.written;
-          apart = reads.apart;
-          from = reads.from;
-          within = λ y v a b k. reads.within y v a b (stands y v k);
-          beyond = reads.beyond;
-        };
+        reads = reads;
         pt = λ at h. h.pt ∙ sees.stands.head ∙ sym same.head ∙ sym pt;
-        static_row = λ row h. sym h ∙ ap (λ (v : There). v.0) sees.stands.statics ∙ sym same.statics ∙ sym statics;
+        static_row = sym statics;
         below = inl all-known;
-      })
+      };
+    })
 
 -- ---- a stream over other chains, in which the snapshot sees the same
 
@@ -137,13 +136,21 @@ module _ {W : Type 0} (s : Snap) (m n : Memory) (w v : W) (versions : versions_s
     abbrev q : Reader
     q = with_snap s r
 
+    -- it is a reader of the same writes
+    stays-reads : (writes : List Mutation) → IsReaderOf kn (be W) fi writes q m w → IsReaderOf kn (be W) fi writes q n v
+    stays-reads writes h = record {
+      stands = on (λ k vs. AreKnownOf k vs writes) h.stands;
+      covered = on (λ k vs. IsAllKnown (IsKnownAs k vs) (IsHeadOf k vs) (stand q.spot) q.to ⊎ Leads writes (λ t. t ≡ q.below) q.stage (stand q.spot) q.to q.spot.tomb) h.covered;
+    }
+
     pub stays-ready : HasPin n s.chain s.pin → IsReady kn (be W) fi r m w → IsReady kn (be W) fi r n v
     stays-ready pin is =
         let h = subst (λ p. IsReady kn (be W) fi p m w) (is-with s r of) is in
         subst (λ p. IsReady kn (be W) fi p n v) (sym (is-with s r of)) (record {
           fit = fit W q.known q.below n v (pin, on (λ k vs. AreReadable k vs) h.fit.known.1);
           shares = shares W;
-          covered = on (λ k vs. IsAllKnown (IsKnownAs k vs) (IsHeadOf k vs) (stand q.spot) q.to ⊎ Leads (IsKnownAs k vs) (λ row. (content (static_states vs)).0 ≡ row) (λ t. t ≡ q.below) q.stage (stand q.spot) q.to q.spot.tomb) h.covered;
+          writes = h.writes;
+          reads = stays-reads h.writes h.reads;
           ahead = λ x _. tt;
           place = h.place;
         })
@@ -151,12 +158,17 @@ module _ {W : Type 0} (s : Snap) (m n : Memory) (w v : W) (versions : versions_s
     pub stays-seen : (t : Stream) → Sees kn (be W) fi r m w t → Sees kn (be W) fi r n v t
     stays-seen t is =
         let h = subst (λ p. Sees kn (be W) fi p m w t) (is-with s r of) is in
+        let x = h.says in
         subst (λ p. Sees kn (be W) fi p n v t) (sym (is-with s r of)) (record {
-          rest = h.rest;
-          tomb = h.tomb;
-          left = h.left;
-          reads = on (λ k vs. Reads (IsKnownAs k vs) (stand q.spot) q.to q.spot.tomb h.rest) h.reads;
-          pt = on (λ k vs. (at : HeadAt) → IsHeadOf k vs at → at.head.pt ≡ t.head.pt) h.pt;
-          static_row = on (λ k vs. (row : Row) → (content (static_states vs)).0 ≡ row → row ≡ t.head.statics) h.static_row;
-          below = on (λ k vs. IsAllKnown (IsKnownAs k vs) (IsHeadOf k vs) (stand q.spot) q.to ⊎ IsSaidBelow (λ u. u ≡ q.below) q.stage q.to q.spot h.rest t.head.statics) h.below;
+          writes = h.writes;
+          reads = stays-reads h.writes h.reads;
+          says = record {
+            rest = x.rest;
+            tomb = x.tomb;
+            left = x.left;
+            reads = x.reads;
+            pt = on (λ k vs. (at : HeadAt) → IsHeadOf k vs at → at.head.pt ≡ t.head.pt) x.pt;
+            static_row = x.static_row;
+            below = on (λ k vs. IsAllKnown (IsKnownAs k vs) (IsHeadOf k vs) (stand q.spot) q.to ⊎ IsSaidBelow (λ u. u ≡ q.below) q.stage q.to q.spot x.rest t.head.statics) x.below;
+          };
         })

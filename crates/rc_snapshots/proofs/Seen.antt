@@ -1,5 +1,5 @@
 -- What the stream of a mutation that fits a schema says: over the whole partition what the mutation says.
-use Rattle.std.specs.Prelude.{◌≡◌, true, false, List, [], ◌∷◌, ◌++◌, Option, Some, None}
+use Rattle.std.specs.Prelude.{◌≡◌, true, false, List, [], ◌∷◌, None}
 use Rattle.std.proofs.Common.{refl, sym, ap, ◌∙◌, subst, append-nil}
 use Rattle.std.specs.declared.cmp.Ordering.{Ordering}
 use Rattle.std.specs.declared.cmp.Ordering.TheVariants.{Less, Equal, Greater}
@@ -23,9 +23,10 @@ use Rattle.rc_core.specs.laws.Merging.{cons_is}
 use Rattle.rc_stream.specs.Merging.{IsOrdered}
 use Rattle.rc_stream.specs.Places.{Reaches}
 use Rattle.rc_stream.specs.Showing.{IsFromStart}
+use Rattle.rc_stream.specs.Snapshot.{SayThere}
 use Rattle.rc_stream.specs.Stream.{Stream, stream_of}
 use Rattle.rc_cacheread.specs.Reading.{Reads, nothing_there}
-use Rattle.rc_snapshots.specs.Streams.{SayThere, first_position}
+use Rattle.rc_snapshots.specs.Streams.{first_position}
 use Rattle.rc_snapshots.proofs.Fragments.{all-from-first, apart, canonical, each-stands, telling, written}
 use Rattle.rc_snapshots.proofs.Said.{said}
 

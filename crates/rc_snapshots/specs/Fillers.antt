@@ -1,6 +1,6 @@
 -- What a filler that fills nothing sees of the snapshot that it names.
---     KnowsNamed             what the snapshot knows at a position
---     StaticsNamed       its static row; KnowsStaticsNamed: and it is known
+--     KnowsNamed, KnowsStaticsNamed    what the snapshot knows at a position, and of the static row
+--     StandsNamed                      for which writes it stands
 use Rattle.std.specs.Prelude.{◌≡◌, IsTrue, List}
 use Rattle.rc_cell.specs.declared.rows.Row.{Row}
 use Rattle.rc_position.specs.declared.positions.Pos.{Pos}
@@ -9,7 +9,9 @@ use Rattle.rc_core.specs.Continuity.{static_states}
 use Rattle.rc_core.specs.declared.entries.ChainKind.{ChainKind}
 use Rattle.rc_core.specs.Version.{Version}
 use Rattle.rc_memory.specs.Memory.{Memory, chain_at}
-use Rattle.rc_stream.specs.Snapshot.{There}
+use Rattle.rc_mutation.specs.declared.mutations.Mutation.{Mutation}
+use Rattle.rc_mutation.specs.Source.{source_at_static}
+use Rattle.rc_stream.specs.Snapshot.{SayThere, There}
 use Rattle.rc_cursor.specs.Snapshots.{IsKnownAs, kind_in, versions_in}
 use Rattle.rc_snapshots.specs.declared.fillers.NoFiller.{NoFiller}
 
@@ -25,10 +27,15 @@ chain_kind_named m f = kind_in (chain_at m f.chain)
 abbrev pub KnowsNamed : Memory → NoFiller → Pos → There → Type 0
 KnowsNamed m f = IsKnownAs (chain_kind_named m f) (versions_named m f)
 
--- this is its static row
-abbrev pub StaticsNamed : Memory → NoFiller → Row → Type 0
-StaticsNamed m f row = (content (static_states (versions_named m f))).0 ≡ row
-
 -- this is its static row, which is known
 abbrev pub KnowsStaticsNamed : Memory → NoFiller → Row → Type 0
-KnowsStaticsNamed m f row = IsTrue (flagged (chain_kind_named m f) (static_states (versions_named m f))) × StaticsNamed m f row
+KnowsStaticsNamed m f row = IsTrue (flagged (chain_kind_named m f) (static_states (versions_named m f))) × ((content (static_states (versions_named m f))).0 ≡ row)
+
+-- what is known in versions is what writes say, the static row too
+pub record AreKnownOf (kind : ChainKind) (versions : List Version) (writes : List Mutation) : Type 0 where
+  pub there : (x : Pos) (v : There) → IsKnownAs kind versions x v → SayThere writes x v
+  pub static_row : IsTrue (flagged kind (static_states versions)) → source_at_static writes ≡ (content (static_states versions)).0
+
+-- the snapshot stands for writes: what it knows is what they say
+abbrev pub StandsNamed : Memory → NoFiller → List Mutation → Type 0
+StandsNamed m f = AreKnownOf (chain_kind_named m f) (versions_named m f)

@@ -7,7 +7,6 @@ use Rattle.rc_position.specs.declared.positions.Pos.{Pos}
 use Rattle.rc_position.specs.declared.positions.Weight.TheVariants.{Before}
 use Rattle.rc_position.specs.declared.slices.Slice.{Slice}
 use Rattle.rc_mutation.specs.declared.mutations.Mutation.{Mutation}
-use Rattle.rc_mutation.specs.Source.{source_at}
 use Rattle.rc_core.specs.declared.entries.ChainKind.TheVariants.{Memtable}
 use Rattle.rc_core.specs.Chains.{AllInherit}
 use Rattle.rc_core.specs.Continuity.{EachOf}
@@ -15,7 +14,6 @@ use Rattle.rc_core.specs.StandsFor.{StandsFor}
 use Rattle.rc_core.specs.Version.{end_position}
 use Rattle.rc_memory.specs.Memory.{HasPin, Memory}
 use Rattle.rc_chain.specs.declared.chains.Snap.{Snap}
-use Rattle.rc_stream.specs.Snapshot.{There}
 use Rattle.rc_stream.specs.Stream.{Stream, stream_of}
 use Rattle.rc_cursor.specs.declared.readers.SnapshotReader.{SnapshotReader}
 use Rattle.rc_cursor.specs.Snapshots.{IsReadable, kind_seen, versions_seen}
@@ -30,10 +28,6 @@ pub record SeesChanges (changes : List Mutation) (m : Memory) (s : Snap) : Type 
   pub inherit : EachOf AllInherit (versions_seen m s)
   pub stands : StandsFor changes (versions_seen m s)
   pub readable : IsReadable m s
-
--- changes say this at a position
-abbrev pub SayThere : List Mutation → Pos → There → Type 0
-SayThere changes x v = source_at changes x ≡ v
 
 -- the first of all positions
 abbrev pub first_position : Pos

@@ -30,7 +30,7 @@ impl NoFiller {
 
 impl<const S: usize> Filler<Chains<S>> for NoFiller {
     ghost use Rattle.std.specs.Prelude.{◌≡◌, ⊤};
-    ghost use Rattle.rc_snapshots.specs.Fillers.{StaticsNamed, KnowsStaticsNamed, KnowsNamed};
+    ghost use Rattle.rc_snapshots.specs.Fillers.{KnowsNamed, KnowsStaticsNamed, StandsNamed};
 
     ghost ready = { λ _ _. ⊤ };
 
@@ -40,12 +40,10 @@ impl<const S: usize> Filler<Chains<S>> for NoFiller {
 
     ghost lost = { λ _. 0 };
 
-    // the source is what the snapshot knows, which is all of it
-    ghost source = { λ f m. KnowsNamed m f };
+    // what the snapshot knows is what the writes say
+    ghost stands = { λ f m. StandsNamed m f };
 
     ghost knows = { λ f m. KnowsNamed m f };
-
-    ghost statics_are = { λ f m. StaticsNamed m f };
 
     ghost knows_statics = { λ f m. KnowsStaticsNamed m f };
 

@@ -9,13 +9,14 @@ ghost use Rattle.rc_core.specs.Version.{end_position};
 ghost use Rattle.rc_memory.specs.Memory.{HasPin, Memory};
 ghost use Rattle.rc_chain.specs.declared.chains.Snap.{Snap as Snapshot};
 ghost use Rattle.rc_stream.specs.Did.{Call, IsQuiet, Spends};
+ghost use Rattle.rc_stream.specs.Snapshot.{SayThere};
 ghost use Rattle.rc_stream.specs.Stream.{Stream, stream_of};
 ghost use Rattle.rc_cursor.specs.declared.readers.SnapshotReader.{SnapshotReader as Known};
 ghost use Rattle.rc_cursor.specs.Snapshots.{kind_seen, versions_seen};
 ghost use Rattle.rc_cacheread.specs.declared.readers.CacheReader.{CacheReader as Reader};
 ghost use Rattle.rc_cacheread.specs.Reading.{Reads};
 ghost use Rattle.rc_snapshots.specs.declared.fillers.NoFiller.{NoFiller as Filler};
-ghost use Rattle.rc_snapshots.specs.Streams.{IsNewStream, IsOf, SayThere, SeesChanges, first_position};
+ghost use Rattle.rc_snapshots.specs.Streams.{IsNewStream, IsOf, SeesChanges, first_position};
 ghost use Rattle.rc_snapshots.specs.declared.snaps.Snaps.{Snaps};
 ghost use Rattle.rc_snapshots.specs.Seeing.{AllStillSee, AreSameSnapshots, AreThere, HasSnap, SeesAllOf, StillSeeBoth, StillSees};
 

@@ -1,11 +1,11 @@
 -- What snapshots see over several calls.
-use Rattle.std.proofs.Common.{◌≡◌, List, [], Option, Some, None, refl, sym, ap, ◌∙◌, subst}
+use Rattle.std.proofs.Common.{List, Option, Some, None, sym, ◌∙◌, subst}
 use Rattle.std.specs.Prelude.{IfSome}
 use Rattle.rc_mutation.specs.declared.mutations.Mutation.{Mutation}
 use Rattle.rc_core.specs.Chains.{AllInherit}
 use Rattle.rc_core.specs.Continuity.{EachOf}
 use Rattle.rc_core.specs.StandsFor.{StandsFor}
-use Rattle.rc_memory.specs.Memory.{HasPin, Memory}
+use Rattle.rc_memory.specs.Memory.{Memory}
 use Rattle.rc_chain.specs.declared.chains.Snap.{Snap}
 use Rattle.rc_cursor.specs.Snapshots.{AreReadable, kind_seen, versions_seen}
 use Rattle.rc_snapshots.specs.Seeing.{AllStillSee, AreSameSnapshots, AreThere, HasSnap, SeesAllOf, StillSees, StillSeeBoth}
