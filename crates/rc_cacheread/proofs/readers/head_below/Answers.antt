@@ -1,4 +1,4 @@
--- The static row that stands below is the source's.
+-- The static row that stands below is that of what writes say.
 use Rattle.std.specs.Prelude.{⊤}
 use Rattle.std.proofs.Common.{true, false, refl, sym, ap, ◌∙◌}
 use Rattle.rc_mutation.specs.declared.fragments.Head.{Head}
