@@ -1,14 +1,17 @@
 -- A snapshot that is read by its parts, and what fills it.
+--     SayThere       what writes say at a position
 --     IsPartFrom     the first part from a place on
 --     NoneLost       nothing was lost meanwhile
 --     Answers        why a fill was answered so
-use Rattle.std.specs.Prelude.{◌≡◌, ◌≢◌, ◌↔◌, ◌⊎◌, ◌^◌, ◌-◌, ℕ, ◌<◌, ◌≤◌, Option, Result, Ok, Err}
+use Rattle.std.specs.Prelude.{◌≡◌, ◌≢◌, ◌↔◌, ◌⊎◌, ◌^◌, ◌-◌, ℕ, ◌<◌, ◌≤◌, List, Option, Result, Ok, Err}
 use Rattle.rc_cell.specs.declared.rows.Row.{Row}
 use Rattle.rc_cell.specs.declared.writes.Tomb.{Tomb}
 use Rattle.rc_cell.specs.Winner.{empty_row}
 use Rattle.rc_position.specs.declared.positions.Pos.{Pos}
 use Rattle.rc_position.specs.declared.positions.Weight.TheVariants.{After}
 use Rattle.rc_position.specs.Position.{IsBefore, row_pos}
+use Rattle.rc_mutation.specs.declared.mutations.Mutation.{Mutation}
+use Rattle.rc_mutation.specs.Source.{source_at}
 use Rattle.rc_core.specs.declared.parts.Part.{Part}
 use Rattle.rc_core.specs.declared.parts.Part.TheVariants as part
 use Rattle.std.specs.declared.alloc.AllocError.{AllocError}
@@ -19,6 +22,10 @@ use Rattle.rc_stream.specs.Places.{Reaches}
 -- what is at a position: the row, empty where there is none, and the range tombstone in force
 abbrev pub There : Type 0
 There = Row × Option Tomb
+
+-- writes say this at a position
+abbrev pub SayThere : List Mutation → Pos → There → Type 0
+SayThere writes x v = source_at writes x ≡ v
 
 -- from one position on and before another this holds of each
 abbrev pub Throughout : Pos → Pos → (Pos → Type 0) → Type 0
