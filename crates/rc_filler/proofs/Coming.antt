@@ -28,27 +28,33 @@ use Rattle.rc_cursor.specs.Snapshots.{IsKnownAs, kind_in, versions_in}
 use Rattle.rc_filler.specs.declared.fillers.CacheFiller.{CacheFiller}
 use Rattle.rc_filler.specs.Stands.{HasCacheSnapshot, StandsForWrites}
 use Rattle.rc_filler.specs.Fillers.{FillerKnows, losses}
-use Rattle.rc_filler.specs.Fills.{IsFillDone, IsPortionFilled, IsRoomMade, IsSkipCounted, OfGap, OfRow, OfStatics, Portion, SayPortion, filled_with}
+use Rattle.rc_filler.specs.Fills.{IsFillDone, IsPortionFilled, IsRoomMade, IsSkipCounted, IsUnfit, OfGap, OfRow, OfStatics, Portion, SayPortion, filled_with}
 use Rattle.rc_filler.specs.calls.Coming.{AreCountsInRange, CameOf, KnowsPortion}
+use Rattle.rc_filler.proofs.Continued.{newest-length}
 use Rattle.rc_filler.proofs.Counted.{filled-losses, room-none, room-range, skip-losses}
 use Rattle.rc_filler.proofs.Filling.{FillLaws, KnownIn, filled-chain, filled-content, filled-kept, filled-known, filled-statics, filled-stands, filled-there}
+use Rattle.rc_filler.proofs.Leaving.{no-room}
 use Rattle.rc_filler.proofs.Seen.{as-seen, knows-said, may-of, of-seen}
 
 -- ---- the answer
 
-pub came-answers : (id pin : ℕ) (q : Portion) (fill : Fill) (m n : Memory) → AreCountsInRange m.counts → CameOf fill q id pin m n → Answers fill (MayFill m id pin) (losses m) (losses n)
-came-answers id pin q Filled m n range came = came.0
-came-answers id pin q Skipped m n range came = (came.0, skip-losses m came.1.0 range came.1.1 n came.1.2)
-came-answers id pin q NotNewest m n range came = came.0
+pub came-answers : (S id pin : ℕ) (q : Portion) (fill : Fill) (m n : Memory) → AreCountsInRange m.counts → CameOf S fill q id pin m n → Answers fill (MayFill m id pin) (losses m) (losses n)
+came-answers S id pin q Filled m n range came = came.0
+came-answers S id pin q Skipped m n range came = (came.0, skip-losses S m came.1.0 range came.1.1 n came.1.3)
+came-answers S id pin q NotNewest m n range came = came.0
 
-pub came-done : (id pin : ℕ) (q : Portion) (fill : Fill) (m n : Memory) → CameOf fill q id pin m n → IsFillDone id pin m n
-came-done id pin q Filled m n came = inr (came.1.0, came.1.1, inl (q, came.1.2))
-came-done id pin q Skipped m n came = inr (came.1.0, came.1.1, inr came.1.2)
-came-done id pin q NotNewest m n came = inl came.1
+pub came-done : (S id pin : ℕ) (q : Portion) (fill : Fill) (m n : Memory) → CameOf S fill q id pin m n → IsFillDone S id pin m n
+came-done S id pin q Filled m n came = inr (came.1.0, q, came.1.1, inl came.1.2)
+came-done S id pin q Skipped m n came = inr (came.1.0, q, came.1.1, inr (came.1.2, came.1.3))
+came-done S id pin q NotNewest m n came = inl came.1
 
 -- by other names of the same snapshot
-pub came-named : (q : Portion) (fill : Fill) (id pin chain number : ℕ) (m n : Memory) → id ≡ chain → pin ≡ number → CameOf fill q id pin m n → CameOf fill q chain number m n
-came-named q fill id pin chain number m n a b came = subst (λ x. CameOf fill q x number m n) a (subst (λ y. CameOf fill q id y m n) b came)
+pub came-named : (S : ℕ) (q : Portion) (fill : Fill) (id pin chain number : ℕ) (m n : Memory) → id ≡ chain → pin ≡ number → CameOf S fill q id pin m n → CameOf S fill q chain number m n
+came-named S q fill id pin chain number m n a b came = subst (λ x. CameOf S fill q x number m n) a (subst (λ y. CameOf S fill q id y m n) b came)
+
+-- a portion that cannot stand in a version is skipped, where nothing else was done
+pub came-unfit : (S : ℕ) (q : Portion) (fill : Fill) (id pin : ℕ) (m n : Memory) → fill ≡ Skipped → MayFill m id pin → IsUnfit q → IsSkipCounted m n → CameOf S fill q id pin m n
+came-unfit S q fill id pin m n answer may unfit skip = subst (λ a. CameOf S a q id pin m n) (sym answer) (may, (m, no-room S m, inr unfit, skip))
 
 -- ---- a skipped fill that is counted
 
@@ -74,14 +80,9 @@ skipped-stands S id pin writes mid n skip s = subst (λ x. StandsForWrites S x i
   rows = s.rows;
 })
 
-newest-length : (f : Version → Version) (vs : List Version) → length (on_newest f vs) ≡ length vs
-newest-length f [] = refl
-newest-length f (v ∷ []) = refl
-newest-length f (v ∷ w ∷ vs) = ap suc (newest-length f (w ∷ vs))
-
-module _ (there : (old new : Memory) (id pin : ℕ) → IsRoomMade old new → HasCacheSnapshot old id pin → HasCacheSnapshot new id pin)
-    (may : (old new : Memory) (id pin : ℕ) → IsRoomMade old new → MayFill old id pin → MayFill new id pin)
-    (stands : (S : ℕ) (old new : Memory) (id pin : ℕ) (writes : List Mutation) → IsRecency old → IsRoomMade old new → StandsForWrites S old id pin writes → StandsForWrites S new id pin writes)
+module _ (there : (S : ℕ) (old new : Memory) (id pin : ℕ) → IsRoomMade S old new → HasCacheSnapshot old id pin → HasCacheSnapshot new id pin)
+    (may : (S : ℕ) (old new : Memory) (id pin : ℕ) → IsRoomMade S old new → MayFill old id pin → MayFill new id pin)
+    (stands : (S : ℕ) (old new : Memory) (id pin : ℕ) (writes : List Mutation) → IsRecency old → IsRoomMade S old new → StandsForWrites S old id pin writes → StandsForWrites S new id pin writes)
     (laws : FillLaws) where
 
   -- ---- what stays
@@ -92,19 +93,19 @@ module _ (there : (old new : Memory) (id pin : ℕ) → IsRoomMade old new → H
       may-fill n id pin w.1 (on_shown (on_newest_of (filled_with q)) w.0) (filled-chain laws q id pin mid n f w.0 w.2) w.3
       (record { newest = w.4.newest ∙ sym (newest-length (filled_with q) w.0.chain.versions); attached = w.4.attached; settled = w.4.settled })
 
-  pub came-there : (id pin : ℕ) (q : Portion) (fill : Fill) (m n : Memory) → CameOf fill q id pin m n → HasCacheSnapshot m id pin → HasCacheSnapshot n id pin
-  came-there id pin q Filled m n came h = filled-there laws q id pin came.1.0 n came.1.2 (there m came.1.0 id pin came.1.1 h)
-  came-there id pin q Skipped m n came h = skipped-there id pin came.1.0 n came.1.2 (there m came.1.0 id pin came.1.1 h)
-  came-there id pin q NotNewest m n came h = subst (λ x. HasCacheSnapshot x id pin) (sym came.1) h
+  pub came-there : (S id pin : ℕ) (q : Portion) (fill : Fill) (m n : Memory) → CameOf S fill q id pin m n → HasCacheSnapshot m id pin → HasCacheSnapshot n id pin
+  came-there S id pin q Filled m n came h = filled-there laws q id pin came.1.0 n came.1.2 (there S m came.1.0 id pin came.1.1 h)
+  came-there S id pin q Skipped m n came h = skipped-there id pin came.1.0 n came.1.3 (there S m came.1.0 id pin came.1.1 h)
+  came-there S id pin q NotNewest m n came h = subst (λ x. HasCacheSnapshot x id pin) (sym came.1) h
 
-  pub came-may : (id pin : ℕ) (q : Portion) (fill : Fill) (m n : Memory) → CameOf fill q id pin m n → MayFill m id pin → MayFill n id pin
-  came-may id pin q Filled m n came h = filled-may q id pin came.1.0 n came.1.2 (may m came.1.0 id pin came.1.1 h)
-  came-may id pin q Skipped m n came h = skipped-may id pin came.1.0 n came.1.2 (may m came.1.0 id pin came.1.1 h)
-  came-may id pin q NotNewest m n came h = subst (λ x. MayFill x id pin) (sym came.1) h
+  pub came-may : (S id pin : ℕ) (q : Portion) (fill : Fill) (m n : Memory) → CameOf S fill q id pin m n → MayFill m id pin → MayFill n id pin
+  came-may S id pin q Filled m n came h = filled-may q id pin came.1.0 n came.1.2 (may S m came.1.0 id pin came.1.1 h)
+  came-may S id pin q Skipped m n came h = skipped-may id pin came.1.0 n came.1.3 (may S m came.1.0 id pin came.1.1 h)
+  came-may S id pin q NotNewest m n came h = subst (λ x. MayFill x id pin) (sym came.1) h
 
-  pub came-stands : (S id pin : ℕ) (q : Portion) (fill : Fill) (m n : Memory) (writes : List Mutation) → IsRecency m → CameOf fill q id pin m n → StandsForWrites S m id pin writes → SayPortion writes q → StandsForWrites S n id pin writes
+  pub came-stands : (S id pin : ℕ) (q : Portion) (fill : Fill) (m n : Memory) (writes : List Mutation) → IsRecency m → CameOf S fill q id pin m n → StandsForWrites S m id pin writes → SayPortion writes q → StandsForWrites S n id pin writes
   came-stands S id pin q Filled m n writes rule came s said = filled-stands laws q id pin came.1.0 n came.1.2 S writes (stands S m came.1.0 id pin writes rule came.1.1 s) said
-  came-stands S id pin q Skipped m n writes rule came s said = skipped-stands S id pin writes came.1.0 n came.1.2 (stands S m came.1.0 id pin writes rule came.1.1 s)
+  came-stands S id pin q Skipped m n writes rule came s said = skipped-stands S id pin writes came.1.0 n came.1.3 (stands S m came.1.0 id pin writes rule came.1.1 s)
   came-stands S id pin q NotNewest m n writes rule came s said = subst (λ x. StandsForWrites S x id pin writes) (sym came.1) s
 
   -- ---- what is known
@@ -137,24 +138,24 @@ module _ (there : (old new : Memory) (id pin : ℕ) → IsRoomMade old new → H
           let was = of-seen mid f.chain f.pin s.snapshot (λ kind vs. IsKnownAs kind vs x v) k in
           known_there q said filled x v (knows-said source S mid f writes s x v k) (filled-kept laws q f.chain f.pin mid n filled S writes s said x was.known)
 
-    skipped_not : (m mid n : Memory) (P : Type 0) → AreCountsInRange m.counts → IsRoomMade m mid → IsSkipCounted mid n → NoneLost (losses m) (losses n) → P
-    skipped_not m mid n P range room skip lost = elim (skip-losses m mid range room n skip) [ inl less ↦ absurd (omega (arith, less, lost.0)) | inr top ↦ absurd (omega (arith, top, lost.1)) ]
+    skipped_not : (S : ℕ) (m mid n : Memory) (P : Type 0) → AreCountsInRange m.counts → IsRoomMade S m mid → IsSkipCounted mid n → NoneLost (losses m) (losses n) → P
+    skipped_not S m mid n P range room skip lost = elim (skip-losses S m mid range room n skip) [ inl less ↦ absurd (omega (arith, less, lost.0)) | inr top ↦ absurd (omega (arith, top, lost.1)) ]
 
-    pub came-known : (S : ℕ) (f : CacheFiller) (q : Portion) (fill : Fill) (m n : Memory) (writes : List Mutation) → AreCountsInRange m.counts → IsRecency m → CameOf fill q f.chain f.pin m n → StandsForWrites S m f.chain f.pin writes → SayPortion writes q →
+    pub came-known : (S : ℕ) (f : CacheFiller) (q : Portion) (fill : Fill) (m n : Memory) (writes : List Mutation) → AreCountsInRange m.counts → IsRecency m → CameOf S fill q f.chain f.pin m n → StandsForWrites S m f.chain f.pin writes → SayPortion writes q →
         Unlost (MayFill m f.chain f.pin) (losses m) (losses n) (KnowsPortion n f q)
     came-known S f q Filled m n writes range rule came s said = λ may lost. knows_portion S f came.1.0 n writes (stands S m came.1.0 f.chain f.pin writes rule came.1.1 s) q said came.1.2
-    came-known S f q Skipped m n writes range rule came s said = λ may lost. skipped_not m came.1.0 n (KnowsPortion n f q) range came.1.1 came.1.2 lost
+    came-known S f q Skipped m n writes range rule came s said = λ may lost. skipped_not S m came.1.0 n (KnowsPortion n f q) range came.1.1 came.1.3 lost
     came-known S f q NotNewest m n writes range rule came s said = λ may lost. absurd (came.0 may)
 
-    pub came-keeps : (S : ℕ) (f : CacheFiller) (q : Portion) (fill : Fill) (m n : Memory) (writes : List Mutation) → AreCountsInRange m.counts → IsRecency m → CameOf fill q f.chain f.pin m n → StandsForWrites S m f.chain f.pin writes → SayPortion writes q →
+    pub came-keeps : (S : ℕ) (f : CacheFiller) (q : Portion) (fill : Fill) (m n : Memory) (writes : List Mutation) → AreCountsInRange m.counts → IsRecency m → CameOf S fill q f.chain f.pin m n → StandsForWrites S m f.chain f.pin writes → SayPortion writes q →
         Unlost (MayFill m f.chain f.pin) (losses m) (losses n) ((x : Pos) (v : There) → FillerKnows m f x v → FillerKnows n f x v)
     came-keeps S f q Filled m n writes range rule came s said = λ may lost x v k.
         let mid = came.1.0 in
         let room = came.1.1 in
         let filled = came.1.2 in
-        let same = filled-losses f.chain (filled_with q) (λ w. w.chain ≡ f.chain) mid n (room-range m mid range room) filled.filled in
-        let went : room.went ≡ [] = room-none m mid range room (lost.0 ∙ same) (subst (λ a. a < most_counted) same lost.1) in
+        let same = filled-losses f.chain (filled_with q) (λ w. w.chain ≡ f.chain) mid n (room-range S m mid range room) filled.filled in
+        let went : room.went ≡ [] = room-none S m mid range room (lost.0 ∙ same) (subst (λ a. a < most_counted) same lost.1) in
         let there : chain_at mid f.chain ≡ chain_at m f.chain = none room.gone m mid f.chain (subst (λ ws. AreEvicted ws room.gone m mid) went room.evicted) in
         knows_still S f mid n writes (stands S m mid f.chain f.pin writes rule room s) q said filled x v (subst (λ (o : Option KeptChain). IsKnownAs (kind_in o) (versions_in o f.pin) x v) (sym there) k)
-    came-keeps S f q Skipped m n writes range rule came s said = λ may lost. skipped_not m came.1.0 n ((x : Pos) (v : There) → FillerKnows m f x v → FillerKnows n f x v) range came.1.1 came.1.2 lost
+    came-keeps S f q Skipped m n writes range rule came s said = λ may lost. skipped_not S m came.1.0 n ((x : Pos) (v : There) → FillerKnows m f x v → FillerKnows n f x v) range came.1.1 came.1.3 lost
     came-keeps S f q NotNewest m n writes range rule came s said = λ may lost. absurd (came.0 may)

@@ -49,7 +49,7 @@ evicted-counts (w ∷ ws) c h =
       some = λ v vs e less. (let more : (one_eviction_more c).evicted ≡ c.evicted + 1 = raised-is 1 c.evicted (omega (arith, less)) in omega (arith, more, further));
     }
 
-module _ (m mid : Memory) (range : AreCountsInRange m.counts) (room : IsRoomMade m mid) where
+module _ (S : ℕ) (m mid : Memory) (range : AreCountsInRange m.counts) (room : IsRoomMade S m mid) where
   raised : IsRaised room.went m.counts mid.counts
   raised = subst (IsRaised room.went m.counts) (sym room.evicted.counts) (evicted-counts room.went m.counts range.evicted)
 

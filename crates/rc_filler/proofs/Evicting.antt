@@ -32,7 +32,7 @@ pub record EvictionLaws : Type 0 where
       IsChain (at_place p k.chain) → IsPlaceUnlisted p id k.chain old.recency → IsChainContinuous below (at_place p k.chain) → IsChainContinuous below (at_place p (evicted_of id went k).chain)
   pub place : (p : Place) (went : List Member) (gone : List ℕ) (old new : Memory) (id : ℕ) (k : KeptChain) → AreEvicted went gone old new → IsPlaceUnlisted p id k.chain old.recency → IsPlaceUnlisted p id (evicted_of id went k).chain new.recency
 
-module _ (laws : EvictionLaws) (old new : Memory) (r : IsRoomMade old new) where
+module _ (laws : EvictionLaws) (S : ℕ) (old new : Memory) (r : IsRoomMade S old new) where
   pub room-chain : (id j : ℕ) (k : KeptChain) → chain_at old id ≡ Some k → IsPinned k.chain.pins j → chain_at new id ≡ Some (evicted_of id r.went k)
   room-chain id j k e on = laws.pinned r.went r.gone old new id j k r.evicted e on
 
@@ -56,9 +56,9 @@ module _ (laws : EvictionLaws) (old new : Memory) (r : IsRoomMade old new) where
           settled = ap (λ b. cond b (Some Head) None) (laws.updating id r.went w.0) ∙ w.4.settled;
         })
 
-    pub room-stands : (S : ℕ) (writes : List Mutation) → IsRecency old → StandsForWrites S old id pin writes → StandsForWrites S new id pin writes
+    pub room-stands : (writes : List Mutation) → IsRecency old → StandsForWrites S old id pin writes → StandsForWrites S new id pin writes
     unfolding room-there
-    room-stands S writes rule s =
+    room-stands writes rule s =
         let k = s.snapshot.chain in record {
           snapshot = room-there s.snapshot;
           place = s.place;

@@ -46,9 +46,9 @@ record IsAfterRoom (id : ℕ) (mid n : Memory) : Type 0 where
   evicted : AreCountsInRange mid.counts → mid.counts.evicted ≤ n.counts.evicted
   skipped : AreCountsInRange mid.counts → mid.counts.skipped ≤ n.counts.skipped
 
-record IsRoomThenFill (id : ℕ) (m n : Memory) : Type 0 where
+record IsRoomThenFill (S id : ℕ) (m n : Memory) : Type 0 where
   mid : Memory
-  room : IsRoomMade m mid
+  room : IsRoomMade S m mid
   after : IsAfterRoom id mid n
 
 same_map : (i : ℕ) (o : Option KeptChain) → o ≡ option_map (evicted_of i []) o
@@ -56,8 +56,8 @@ same_map i None = refl
 same_map i (Some k) = refl
 
 -- nothing went, and nothing moved
-pub no-room : (m : Memory) → IsRoomMade m m
-no-room m = record {
+pub no-room : (S : ℕ) (m : Memory) → IsRoomMade S m m
+no-room S m = record {
   went = [];
   gone = [];
   evicted = record {
@@ -71,6 +71,7 @@ no-room m = record {
     dropped = sym (append-nil m.dropped);
     counts = refl;
   };
+  crowded = inl refl;
   budget = refl;
 }
 
@@ -115,14 +116,14 @@ module _ (others : (id : ℕ) (f : Version → Version) (old new : Memory) (i : 
       skipped = λ r. subst (λ x. mid.counts.skipped ≤ x) (sym (ap (λ c. c.skipped) f.filled.counts)) (raised-low 0 mid.counts.skipped r.skipped);
     }
 
-    parted : (pin : ℕ) (m n : Memory) → IsFillDone id pin m n → IsRoomThenFill id m n
-    parted pin m n (inl same) = record { mid = m; room = no-room m; after = subst (IsAfterRoom id m) (sym same) (after_none m) }
-    parted pin m n (inr (mid, room, inl (q, filled))) = record { mid = mid; room = room; after = after_filled pin q mid n filled }
-    parted pin m n (inr (mid, room, inr skip)) = record { mid = mid; room = room; after = after_skip mid n skip }
+    parted : (S pin : ℕ) (m n : Memory) → IsFillDone S id pin m n → IsRoomThenFill S id m n
+    parted S pin m n (inl same) = record { mid = m; room = no-room S m; after = subst (IsAfterRoom id m) (sym same) (after_none m) }
+    parted S pin m n (inr (mid, q, room, inl filled)) = record { mid = mid; room = room; after = after_filled pin q mid n filled }
+    parted S pin m n (inr (mid, q, room, inr skip)) = record { mid = mid; room = room; after = after_skip mid n skip.1 }
 
-  module _ (laws : EvictionLaws) (id pin : ℕ) (m n : Memory) (done : IsFillDone id pin m n) where
-    p : IsRoomThenFill id m n
-    p = parted id pin m n done
+  module _ (laws : EvictionLaws) (S id pin : ℕ) (m n : Memory) (done : IsFillDone S id pin m n) where
+    p : IsRoomThenFill S id m n
+    p = parted id S pin m n done
 
     evicted_use : (i : ℕ) (k : KeptChain) → IsUsedAsBefore k (evicted_of i p.room.went k)
     evicted_use i k = record {
@@ -137,7 +138,7 @@ module _ (others : (id : ℕ) (f : Version → Version) (old new : Memory) (i : 
     -- a chain that is read is there, and used as before
     pub done-pinned : (i j : ℕ) (k : KeptChain) → chain_at m i ≡ Some k → IsPinned k.chain.pins j → (now : KeptChain) × (chain_at n i ≡ Some now) × IsUsedAsBefore k now
     done-pinned i j k e on =
-        let there : chain_at p.mid i ≡ Some (evicted_of i p.room.went k) = room-chain laws m p.mid p.room i j k e on in
+        let there : chain_at p.mid i ≡ Some (evicted_of i p.room.went k) = room-chain laws S m p.mid p.room i j k e on in
         elim (decided i id) [
           | inl same ↦
               let w = p.after.here (evicted_of i p.room.went k) (sym (ap (chain_at p.mid) same) ∙ there) in
@@ -204,9 +205,9 @@ module _ (others : (id : ℕ) (f : Version → Version) (old new : Memory) (i : 
           other-continuous below rule ch on = subst (λ (q : KeptChain). IsChainContinuous below (at_place pl q.chain)) other_is
               (laws.continuous below pl p.room.went p.room.gone m p.mid i k rule p.room.evicted e ch off on)
 
-  module _ (id pin : ℕ) (m n : Memory) (done : IsFillDone id pin m n) where
-    q : IsRoomThenFill id m n
-    q = parted id pin m n done
+  module _ (S id pin : ℕ) (m n : Memory) (done : IsFillDone S id pin m n) where
+    q : IsRoomThenFill S id m n
+    q = parted id S pin m n done
 
     -- ---- what is counted
 
@@ -215,7 +216,7 @@ module _ (others : (id : ℕ) (f : Version → Version) (old new : Memory) (i : 
 
     pub done-counts : AreCountsInRange m.counts → (m.counts.evicted ≤ n.counts.evicted) × (m.counts.skipped ≤ n.counts.skipped)
     done-counts range =
-        let mid = room-raised m q.mid range q.room in
-        let more = q.after.evicted (room-range m q.mid range q.room) in
-        let skipped = q.after.skipped (room-range m q.mid range q.room) in
+        let mid = room-raised S m q.mid range q.room in
+        let more = q.after.evicted (room-range S m q.mid range q.room) in
+        let skipped = q.after.skipped (room-range S m q.mid range q.room) in
         (omega (arith, mid.0, more), omega (arith, mid.1, skipped))

@@ -10,3 +10,4 @@ mod Coming
 mod Ready
 mod Leaving
 mod Continued
+mod Beginning

@@ -68,7 +68,7 @@ impl<const S: usize> Filler<Chains<S>> for CacheFiller {
 
     ghost knows_statics = { λ f m. FillerKnowsStatics m f };
 
-    ghost fills = { λ f m g n. IsCacheFill f m g n };
+    ghost fills = { λ f m g n. IsCacheFill S f m g n };
 
     fn gap(&mut self, home: &mut Chains<S>, from: &Pos, to: &Pos, tomb: Option<Tomb>) -> Fill {
         what_came_of_a_fill();

@@ -4,7 +4,7 @@ ghost use Rattle.lsa_pool.specs.Room.{spare_of};
 ghost use Rattle.rc_memory.specs.Memory.{HasPin, counts_raised};
 ghost use Rattle.rc_populate.specs.Filling.{MayFill};
 ghost use Rattle.rc_stream.specs.Snapshot.{most_counted};
-ghost use Rattle.rc_filler.specs.Fills.{IsRoomMade};
+ghost use Rattle.rc_filler.specs.Fills.{IsRoomMade, IsSkipCounted};
 ghost use Rattle.rc_filler.specs.calls.Coming.{AreCountsInRange, IsSkipped};
 
 use rc_chain::{Chains, Snap};
@@ -22,7 +22,7 @@ pub(crate) fn may_be_filled<const S: usize>(chains: &Chains<S>, s: &Snap) -> boo
 /// One more skipped fill is counted.
 pub(crate) fn skip<const S: usize>(chains: &mut Chains<S>) -> Fill
     ensures answer { result ≡ Fill.Skipped }
-    ensures skipped { IsSkipped chains.old chains.new }
+    ensures counted { IsSkipCounted chains.old chains.new }
 {
     chains.count(0, 1, 0);
     Fill::Skipped
@@ -31,8 +31,8 @@ pub(crate) fn skip<const S: usize>(chains: &mut Chains<S>) -> Fill
 /// Makes room for so many bytes. False where there is none, and then one more skipped fill is counted.
 pub(crate) fn room_or_skip<const S: usize>(chains: &mut Chains<S>, need: usize) -> bool
     requires { need ≤ 7 * S / 8 }
-    ensures room { IsTrue result → IsRoomMade chains.old chains.new × (need ≤ spare_of S chains.new.region.usages) }
-    ensures none { result ≡ false → IsSkipped chains.old chains.new }
+    ensures room { IsTrue result → IsRoomMade S chains.old chains.new × (need ≤ spare_of S chains.new.region.usages) }
+    ensures none { result ≡ false → IsSkipped S chains.old chains.new }
 {
     match make_room(chains, need) {
         Room::Room => true,

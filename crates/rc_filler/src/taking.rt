@@ -33,7 +33,7 @@ fn fill_gap_in_room<const S: usize>(
     requires order { IsBefore from.now to.now }
     requires from { KeyFits from.now.prefix }
     requires to { KeyFits to.now.prefix }
-    ensures { CameOf result (OfGap from.now to.now tomb) s.now.chain s.now.pin chains.old chains.new }
+    ensures { CameOf S result (OfGap from.now to.now tomb) s.now.chain s.now.pin chains.old chains.new }
 {
     room_leaves_a_snapshot();
     let need = gap_need(from, to);
@@ -56,7 +56,7 @@ pub(crate) fn take_gap<const S: usize>(
     requires snapshot { HasCacheSnapshot chains.old s.now.chain s.now.pin }
     requires roomy { 8952 ≤ 7 * S / 8 }
     requires order { IsBefore from.now to.now }
-    ensures { CameOf result (OfGap from.now to.now tomb) s.now.chain s.now.pin chains.old chains.new }
+    ensures { CameOf S result (OfGap from.now to.now tomb) s.now.chain s.now.pin chains.old chains.new }
 {
     if !may_be_filled(chains, s) {
         return Fill::NotNewest;
@@ -82,7 +82,7 @@ fn fill_row_in_room<const S: usize>(
     requires roomy { 8952 ≤ 7 * S / 8 }
     requires written { row.now ≢ empty_row }
     requires source { (writes : Sequence Mutation) × StandsForWrites S chains.old s.now.chain s.now.pin writes × SayPortion writes (OfRow key.now row.now tomb) }
-    ensures { CameOf result (OfRow key.now row.now tomb) s.now.chain s.now.pin chains.old chains.new }
+    ensures { CameOf S result (OfRow key.now row.now tomb) s.now.chain s.now.pin chains.old chains.new }
 {
     room_leaves_a_snapshot();
     what_the_source_says_may_be_filled();
@@ -106,7 +106,7 @@ pub(crate) fn take_row<const S: usize>(
 ) -> Fill
     requires roomy { 8952 ≤ 7 * S / 8 }
     requires source { (writes : Sequence Mutation) × StandsForWrites S chains.old s.now.chain s.now.pin writes × SayPortion writes (OfRow key.now row.now tomb) }
-    ensures { CameOf result (OfRow key.now row.now tomb) s.now.chain s.now.pin chains.old chains.new }
+    ensures { CameOf S result (OfRow key.now row.now tomb) s.now.chain s.now.pin chains.old chains.new }
 {
     if !may_be_filled(chains, s) {
         return Fill::NotNewest;
@@ -122,7 +122,7 @@ fn fill_static_in_room<const S: usize>(chains: &mut Chains<S>, s: &Snap, row: &R
     requires may { MayFill chains.old s.now.chain s.now.pin }
     requires roomy { 8952 ≤ 7 * S / 8 }
     requires source { (writes : Sequence Mutation) × StandsForWrites S chains.old s.now.chain s.now.pin writes × SayPortion writes (OfStatics row.now) }
-    ensures { CameOf result (OfStatics row.now) s.now.chain s.now.pin chains.old chains.new }
+    ensures { CameOf S result (OfStatics row.now) s.now.chain s.now.pin chains.old chains.new }
 {
     room_leaves_a_snapshot();
     what_the_source_says_may_be_filled();
@@ -140,7 +140,7 @@ fn fill_static_in_room<const S: usize>(chains: &mut Chains<S>, s: &Snap, row: &R
 pub(crate) fn take_statics<const S: usize>(chains: &mut Chains<S>, s: &Snap, row: &Row) -> Fill
     requires roomy { 8952 ≤ 7 * S / 8 }
     requires source { (writes : Sequence Mutation) × StandsForWrites S chains.old s.now.chain s.now.pin writes × SayPortion writes (OfStatics row.now) }
-    ensures { CameOf result (OfStatics row.now) s.now.chain s.now.pin chains.old chains.new }
+    ensures { CameOf S result (OfStatics row.now) s.now.chain s.now.pin chains.old chains.new }
 {
     if !may_be_filled(chains, s) {
         return Fill::NotNewest;

@@ -20,8 +20,8 @@ returns c =
     } in
     let fill = c.a_fill_changes_the_newest_version_alone.ensures in
     record {
-      seen = λ f g m n p id j k now did ne e there ch. other-seen fill.others fill.here fill.older laws f.chain f.pin m n did.done id ne k now e there c.what_was_evicted_is_seen_as_before_or_lost.ensures.seen p j ch;
-      form = λ f g m n p id k now did ne e there ch. other-form fill.others fill.here fill.older laws f.chain f.pin m n did.done id ne k now e there p ch;
-      place = λ f g m n p id k now did ne e there off. other-unlisted fill.others fill.here fill.older laws f.chain f.pin m n did.done id ne k now e there p off;
-      chain = λ below f g m n p id k now rule did ne e there ch off on. other-continuous fill.others fill.here fill.older laws f.chain f.pin m n did.done id ne k now e there p off below rule ch on;
+      seen = λ S f g m n p id j k now did ne e there ch. other-seen fill.others fill.here fill.older laws S f.chain f.pin m n did.done id ne k now e there c.what_was_evicted_is_seen_as_before_or_lost.ensures.seen p j ch;
+      form = λ S f g m n p id k now did ne e there ch. other-form fill.others fill.here fill.older laws S f.chain f.pin m n did.done id ne k now e there p ch;
+      place = λ S f g m n p id k now did ne e there off. other-unlisted fill.others fill.here fill.older laws S f.chain f.pin m n did.done id ne k now e there p off;
+      chain = λ S below f g m n p id k now rule did ne e there ch off on. other-continuous fill.others fill.here fill.older laws S f.chain f.pin m n did.done id ne k now e there p off below rule ch on;
     }

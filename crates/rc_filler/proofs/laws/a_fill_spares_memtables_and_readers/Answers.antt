@@ -20,9 +20,9 @@ returns c =
     } in
     let fill = c.a_fill_changes_the_newest_version_alone.ensures in
     record {
-      memtable = λ f g m n id k rule did e is. done-memtable fill.others fill.here fill.older laws f.chain f.pin m n did.done c.evictions_spare_memtables_and_readers.ensures.memtable rule id k e is;
-      sees = λ f g m n s rule did pin is. done-sees fill.others fill.here fill.older laws f.chain f.pin m n did.done c.evictions_spare_memtables_and_readers.ensures.memtable rule s pin is;
-      pins = λ f g m n id pin did h. done-pins fill.others fill.here fill.older laws f.chain f.pin m n did.done id pin h;
-      pinned = λ f g m n id j k did e on. done-pinned fill.others fill.here fill.older laws f.chain f.pin m n did.done id j k e on;
-      absent = λ f g m n id did none. done-absent fill.others fill.here fill.older laws f.chain f.pin m n did.done c.evictions_spare_memtables_and_readers.ensures.absent id none;
+      memtable = λ S f g m n id k rule did e is. done-memtable fill.others fill.here fill.older laws S f.chain f.pin m n did.done c.evictions_spare_memtables_and_readers.ensures.memtable rule id k e is;
+      sees = λ S f g m n s rule did pin is. done-sees fill.others fill.here fill.older laws S f.chain f.pin m n did.done c.evictions_spare_memtables_and_readers.ensures.memtable rule s pin is;
+      pins = λ S f g m n id pin did h. done-pins fill.others fill.here fill.older laws S f.chain f.pin m n did.done id pin h;
+      pinned = λ S f g m n id j k did e on. done-pinned fill.others fill.here fill.older laws S f.chain f.pin m n did.done id j k e on;
+      absent = λ S f g m n id did none. done-absent fill.others fill.here fill.older laws S f.chain f.pin m n did.done c.evictions_spare_memtables_and_readers.ensures.absent id none;
     }

@@ -6,6 +6,6 @@ pub returns : goal.returns
 returns c =
     let fill = c.a_fill_changes_the_newest_version_alone.ensures in
     record {
-      budget = λ f g m n did. done-budget fill.others fill.here fill.older f.chain f.pin m n did.done;
-      counts = λ f g m n did evicted skipped. done-counts fill.others fill.here fill.older f.chain f.pin m n did.done (record { evicted = omega (arith, evicted); skipped = omega (arith, skipped) });
+      budget = λ S f g m n did. done-budget fill.others fill.here fill.older S f.chain f.pin m n did.done;
+      counts = λ S f g m n did evicted skipped. done-counts fill.others fill.here fill.older S f.chain f.pin m n did.done (record { evicted = omega (arith, evicted); skipped = omega (arith, skipped) });
     }

@@ -17,7 +17,7 @@ returns c =
       continuous = c.evictions_keep_the_whole_chain.ensures.chain;
       place = c.evictions_keep_the_whole_chain.ensures.place;
     } in record {
-      there = λ old new id pin r h. room-there laws old new r id pin h;
-      may = λ old new id pin r h. room-may laws old new r id pin h;
-      stands = λ S old new id pin writes rule r s. room-stands laws old new r id pin S writes rule s;
+      there = λ S old new id pin r h. room-there laws S old new r id pin h;
+      may = λ S old new id pin r h. room-may laws S old new r id pin h;
+      stands = λ S old new id pin writes rule r s. room-stands laws S old new r id pin writes rule s;
     }

@@ -26,7 +26,7 @@ returns c =
       statics_known = statics.known;
       statics_kept = statics.kept;
     } in record {
-      answers = λ f portion fill m n range came. came-answers f.chain f.pin portion fill m n range came;
+      answers = λ S f portion fill m n range came. came-answers S f.chain f.pin portion fill m n range came;
       known = came-known room.there room.may room.stands laws source none;
       keeps = came-keeps room.there room.may room.stands laws source none;
       stands = λ S f portion fill m n writes rule came s said. came-stands room.there room.may room.stands laws S f.chain f.pin portion fill m n writes rule came s said;

@@ -1,4 +1,4 @@
-use Rattle.std.proofs.Common.{arith}
+use Rattle.std.proofs.Common.{inl, arith}
 use Rattle.rc_filler.proofs.Ready.{row-filled, row-fits, row-key, row-limits, row-small, row-within}
 use Rattle.rc_filler.proofs.taking.fill_row_in_room.Goals as goal
 
@@ -9,7 +9,7 @@ pub row_need-need-requires-clause-row : goal.row_need-need-requires-clause-row
 row_need-need-requires-clause-row g c = row-limits g.row.S c.args.chains.now c.args.s.now.chain c.args.s.now.pin c.requires.source.0 c.requires.source.1 c.args.key.now c.args.row.now c.args.tomb c.requires.source.2 c.requires.written
 
 pub returns-then-not-room_or_skip : goal.returns-then-not-room_or_skip
-returns-then-not-room_or_skip g c = (c.requires.may, c.room_or_skip.ensures.none c.if-not-room_or_skip.true)
+returns-then-not-room_or_skip g c = let skip = c.room_or_skip.ensures.none c.if-not-room_or_skip.true in (c.requires.may, (skip.0, skip.1, inl skip.2, skip.3))
 
 pub fill_row-requires : goal.fill_row-requires
 fill_row-requires g c =
@@ -32,7 +32,7 @@ fill_row-requires g c =
     (
       omega arith,
       (
-        law.may m mid id pin made.0 c.requires.may,
+        law.may S m mid id pin made.0 c.requires.may,
         (
           row-key S mid id pin writes s key row tomb said some,
           (
@@ -51,6 +51,7 @@ fill_row-requires g c =
 
 pub returns : goal.returns
 returns g c =
+    let S = g.row.S in
     let m = c.args.chains.now in
     let mid = c.room_or_skip.new.chains in
     let id = c.args.s.now.chain in
@@ -61,7 +62,7 @@ returns g c =
       (
         mid,
         room,
-        row-filled mid c.fill_row.new.chains id pin (law.there m mid id pin room c.requires.source.1.snapshot) (law.may m mid id pin room c.requires.may) c.known-2.ensures.sound
+        row-filled mid c.fill_row.new.chains id pin (law.there S m mid id pin room c.requires.source.1.snapshot) (law.may S m mid id pin room c.requires.may) c.known-2.ensures.sound
         c.args.key.now c.args.row.now c.args.tomb c.requires.written c.fill_row.ensures.filled c.fill_row.ensures.listed,
       ),
     )

@@ -23,7 +23,7 @@ fill_static-requires g c =
     (
       omega arith,
       (
-        law.may m mid id pin made.0 c.requires.may,
+        law.may S m mid id pin made.0 c.requires.may,
         (
           static-limits S mid id pin writes s row said,
           (
@@ -39,6 +39,7 @@ fill_static-requires g c =
 
 pub returns : goal.returns
 returns g c =
+    let S = g.row.S in
     let m = c.args.chains.now in
     let mid = c.room_or_skip.new.chains in
     let id = c.args.s.now.chain in
@@ -49,6 +50,6 @@ returns g c =
       (
         mid,
         room,
-        static-filled mid c.fill_static.new.chains id pin (law.there m mid id pin room c.requires.source.1.snapshot) (law.may m mid id pin room c.requires.may) c.known-2.ensures.sound c.args.row.now c.fill_static.ensures.filled c.fill_static.ensures.listed,
+        static-filled mid c.fill_static.new.chains id pin (law.there S m mid id pin room c.requires.source.1.snapshot) (law.may S m mid id pin room c.requires.may) c.known-2.ensures.sound c.args.row.now c.fill_static.ensures.filled c.fill_static.ensures.listed,
       ),
     )
