@@ -1,5 +1,5 @@
 -- A snapshot that is taken of a continuous cache chain stands for what lies below the version that it pins; so does one of a chain that was opened.
-use Rattle.std.proofs.Common.{◌≡◌, ◌<◌, ℕ, true, false, cond, List, [], ◌∷◌, Option, Some, None, length, slice_index_or, refl, sym, ap, ◌∙◌, subst, arith}
+use Rattle.std.proofs.Common.{◌≡◌, ℕ, true, false, cond, List, Option, Some, None, slice_index_or, refl, sym, ap, ◌∙◌, subst, arith}
 use Rattle.std.specs.Prelude.{All, IfSome, IsTrue}
 use Rattle.std.specs.Option.{option_map, option_to_list}
 use Rattle.rc_cell.specs.declared.rows.Row.{Row}

@@ -1,22 +1,18 @@
 -- What came of a fill, by its answer.
-use Rattle.std.proofs.Common.{◌≡◌, ◌⊎◌, ◌&&◌, ◌<◌, ℕ, suc, true, List, [], ◌∷◌, Option, None, Some, cond, length, inl, inr, refl, sym, ap, ◌∙◌, subst, arith}
+use Rattle.std.proofs.Common.{◌≡◌, ◌&&◌, ◌<◌, ℕ, List, [], Option, None, inl, inr, sym, ◌∙◌, subst, arith}
 use Rattle.std.specs.Prelude.{IsTrue}
-use Rattle.std.specs.Ordering.{is_le, is_lt}
-use Rattle.rc_cell.specs.declared.rows.Row.{Row}
-use Rattle.rc_cell.specs.declared.writes.Tomb.{Tomb}
+use Rattle.std.specs.Ordering.{is_lt}
 use Rattle.rc_cell.specs.Winner.{empty_row}
 use Rattle.rc_position.specs.declared.positions.Pos.{Pos}
-use Rattle.rc_position.specs.Position.{Head, Place, pos_cmp, row_pos}
+use Rattle.rc_position.specs.Position.{Place, row_pos}
 use Rattle.rc_mutation.specs.declared.mutations.Mutation.{Mutation}
 use Rattle.rc_mutation.specs.Source.{source_at}
-use Rattle.rc_core.specs.declared.entries.ChainKind.{ChainKind}
 use Rattle.rc_core.specs.declared.entries.ChainKind.TheVariants.{Cache}
 use Rattle.rc_core.specs.Chain.{IsKnown, content, flagged}
 use Rattle.rc_core.specs.Chains.{IsChainContinuous, IsPinned, Shown, at_place, phase_at, upto}
 use Rattle.rc_core.specs.Continuity.{IsContinuous, static_states}
-use Rattle.rc_core.specs.Steps.{IsChain, MayPopulate, on_newest}
-use Rattle.rc_core.specs.Version.{Version}
-use Rattle.rc_memory.specs.Memory.{KeptChain, Member, Memory, chain_at, counts_raised, on_shown}
+use Rattle.rc_core.specs.Steps.{IsChain, on_newest}
+use Rattle.rc_memory.specs.Memory.{KeptChain, Memory, chain_at, on_shown}
 use Rattle.rc_memory.specs.Recency.{IsRecency}
 use Rattle.rc_evict.specs.Evictions.{AreEvicted}
 use Rattle.rc_populate.specs.Filling.{MayFill, on_newest_of}
@@ -28,11 +24,11 @@ use Rattle.rc_cursor.specs.Snapshots.{IsKnownAs, kind_in, versions_in}
 use Rattle.rc_filler.specs.declared.fillers.CacheFiller.{CacheFiller}
 use Rattle.rc_filler.specs.Stands.{HasCacheSnapshot, StandsForWrites}
 use Rattle.rc_filler.specs.Fillers.{FillerKnows, losses}
-use Rattle.rc_filler.specs.Fills.{IsFillDone, IsPortionFilled, IsRoomMade, IsSkipCounted, IsUnfit, OfGap, OfRow, OfStatics, Portion, SayPortion, filled_with}
+use Rattle.rc_filler.specs.Fills.{IsFillDone, IsPortionFilled, HasMadeRoom, IsSkipCounted, IsUnfit, OfGap, OfRow, OfStatics, Portion, SayPortion, filled_with}
 use Rattle.rc_filler.specs.calls.Coming.{AreCountsInRange, CameOf, KnowsPortion}
 use Rattle.rc_filler.proofs.Continued.{newest-length}
 use Rattle.rc_filler.proofs.Counted.{filled-losses, room-none, room-range, skip-losses}
-use Rattle.rc_filler.proofs.Filling.{FillLaws, KnownIn, filled-chain, filled-content, filled-kept, filled-known, filled-statics, filled-stands, filled-there}
+use Rattle.rc_filler.proofs.Filling.{FillLaws, filled-chain, filled-content, filled-kept, filled-known, filled-statics, filled-stands, filled-there}
 use Rattle.rc_filler.proofs.Leaving.{no-room}
 use Rattle.rc_filler.proofs.Seen.{as-seen, knows-said, may-of, of-seen}
 
@@ -80,11 +76,10 @@ skipped-stands S id pin writes mid n skip s = subst (λ x. StandsForWrites S x i
   rows = s.rows;
 })
 
-module _ (there : (S : ℕ) (old new : Memory) (id pin : ℕ) → IsRoomMade S old new → HasCacheSnapshot old id pin → HasCacheSnapshot new id pin)
-    (may : (S : ℕ) (old new : Memory) (id pin : ℕ) → IsRoomMade S old new → MayFill old id pin → MayFill new id pin)
-    (stands : (S : ℕ) (old new : Memory) (id pin : ℕ) (writes : List Mutation) → IsRecency old → IsRoomMade S old new → StandsForWrites S old id pin writes → StandsForWrites S new id pin writes)
+module _ (there : (S : ℕ) (old new : Memory) (id pin : ℕ) → HasMadeRoom S old new → HasCacheSnapshot old id pin → HasCacheSnapshot new id pin)
+    (may : (S : ℕ) (old new : Memory) (id pin : ℕ) → HasMadeRoom S old new → MayFill old id pin → MayFill new id pin)
+    (stands : (S : ℕ) (old new : Memory) (id pin : ℕ) (writes : List Mutation) → IsRecency old → HasMadeRoom S old new → StandsForWrites S old id pin writes → StandsForWrites S new id pin writes)
     (laws : FillLaws) where
-
   -- ---- what stays
 
   filled-may : (q : Portion) (id pin : ℕ) (mid n : Memory) → IsPortionFilled q id pin mid n → MayFill mid id pin → MayFill n id pin
@@ -112,7 +107,6 @@ module _ (there : (S : ℕ) (old new : Memory) (id pin : ℕ) → IsRoomMade S o
 
   module _ (source : (below : ℕ → List Mutation) (p : Place) (c : Shown) (j : ℕ) → IsChain (at_place p c) → IsChainContinuous below (at_place p c) → IsPinned c.pins j → IsContinuous None (below (phase_at c.versions j)) (upto c.versions j))
       (none : (gone : List ℕ) (old new : Memory) (id : ℕ) → AreEvicted [] gone old new → chain_at new id ≡ chain_at old id) where
-
     module _ (S : ℕ) (f : CacheFiller) (mid n : Memory) (writes : List Mutation) (s : StandsForWrites S mid f.chain f.pin writes) where
       -- what is known then is what the writes say
       known_there : (q : Portion) → SayPortion writes q → IsPortionFilled q f.chain f.pin mid n → (x : Pos) (v : There) → source_at writes x ≡ v → IsKnown Cache (upto (on_newest (filled_with q) s.snapshot.chain.chain.versions) s.snapshot.number) x → FillerKnows n f x v
@@ -127,8 +121,7 @@ module _ (there : (S : ℕ) (old new : Memory) (id pin : ℕ) → IsRoomMade S o
       knows_portion (OfStatics row) said filled =
           let q = OfStatics row in
           let after = filled-there laws q f.chain f.pin mid n filled s.snapshot in
-          let known = filled-known laws q f.chain f.pin mid n filled S writes s said in
-          (
+          let known = filled-known laws q f.chain f.pin mid n filled S writes s said in (
             as-seen n f.chain f.pin after (λ kind vs. IsTrue (flagged kind (static_states vs))) known,
             as-seen n f.chain f.pin after (λ kind vs. (content (static_states vs)).0 ≡ row) (filled-statics laws q f.chain f.pin mid n filled S writes s said source known ∙ said),
           )
@@ -138,7 +131,7 @@ module _ (there : (S : ℕ) (old new : Memory) (id pin : ℕ) → IsRoomMade S o
           let was = of-seen mid f.chain f.pin s.snapshot (λ kind vs. IsKnownAs kind vs x v) k in
           known_there q said filled x v (knows-said source S mid f writes s x v k) (filled-kept laws q f.chain f.pin mid n filled S writes s said x was.known)
 
-    skipped_not : (S : ℕ) (m mid n : Memory) (P : Type 0) → AreCountsInRange m.counts → IsRoomMade S m mid → IsSkipCounted mid n → NoneLost (losses m) (losses n) → P
+    skipped_not : (S : ℕ) (m mid n : Memory) (P : Type 0) → AreCountsInRange m.counts → HasMadeRoom S m mid → IsSkipCounted mid n → NoneLost (losses m) (losses n) → P
     skipped_not S m mid n P range room skip lost = elim (skip-losses S m mid range room n skip) [ inl less ↦ absurd (omega (arith, less, lost.0)) | inr top ↦ absurd (omega (arith, top, lost.1)) ]
 
     pub came-known : (S : ℕ) (f : CacheFiller) (q : Portion) (fill : Fill) (m n : Memory) (writes : List Mutation) → AreCountsInRange m.counts → IsRecency m → CameOf S fill q f.chain f.pin m n → StandsForWrites S m f.chain f.pin writes → SayPortion writes q →

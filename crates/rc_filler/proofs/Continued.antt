@@ -1,9 +1,9 @@
 -- A chain whose newest version was filled is continuous for whatever lies below it, if it was, and if that version stands for what lies below it.
-use Rattle.std.proofs.Common.{◌≡◌, ◌⊎◌, ◌<◌, ◌≤◌, ℕ, suc, true, false, List, [], ◌∷◌, Option, Some, None, cond, get_or, length, slice_index_or, inl, inr, refl, sym, ap, ◌∙◌, subst, arith}
+use Rattle.std.proofs.Common.{◌≡◌, ◌<◌, ◌≤◌, ℕ, suc, List, [], ◌∷◌, Option, Some, None, get_or, length, slice_index_or, inl, inr, refl, sym, ap, ◌∙◌, subst, arith}
 use Rattle.rc_position.specs.Position.{Head, Place}
 use Rattle.rc_mutation.specs.declared.mutations.Mutation.{Mutation}
 use Rattle.rc_mutation.specs.Source.{SameSource}
-use Rattle.rc_core.specs.Chains.{HasReach, IsChainContinuous, IsNeeded, IsPinned, IsUpdating, Shown, at_place, phase_at, phases, upto}
+use Rattle.rc_core.specs.Chains.{IsChainContinuous, IsNeeded, IsPinned, IsUpdating, Shown, at_place, phase_at, phases, upto}
 use Rattle.rc_core.specs.Continuity.{HoldNoMore, IsContinuous}
 use Rattle.rc_core.specs.Steps.{IsChain, MayPopulate, on_newest, pin_at}
 use Rattle.rc_core.specs.Version.{Version}
@@ -16,7 +16,7 @@ use Rattle.rc_memory.specs.laws.Places.{same_some}
 use Rattle.rc_evict.specs.Evictions.{IsPlaceUnlisted, evicted_of}
 use Rattle.rc_populate.specs.Filling.{on_newest_of}
 use Rattle.rc_filler.specs.Stands.{HasCacheSnapshot, StandsForWrites}
-use Rattle.rc_filler.specs.Fills.{IsFillDone, IsPortionFilled, IsRoomMade, Portion, filled_with}
+use Rattle.rc_filler.specs.Fills.{IsFillDone, IsPortionFilled, HasMadeRoom, Portion, filled_with}
 use Rattle.rc_filler.proofs.Counted.{low_or}
 use Rattle.rc_filler.proofs.Evicting.{EvictionLaws, room-chain}
 use Rattle.rc_filler.proofs.Filling.{phases-kept}
@@ -84,7 +84,7 @@ module _ (laws : EvictionLaws) (older : (f : Version → Version) (c : Shown) (i
     (source : (below : ℕ → List Mutation) (p : Place) (c : Shown) (j : ℕ) → IsChain (at_place p c) → IsChainContinuous below (at_place p c) → IsPinned c.pins j → IsContinuous None (below (phase_at c.versions j)) (upto c.versions j))
     (S : ℕ) (below : ℕ → List Mutation) (pl : Place) (id pin : ℕ) (m n : Memory) (rule : IsRecency m) (k now : KeptChain) (j : ℕ) (e : chain_at m id ≡ Some k) (then_there : chain_at n id ≡ Some now) (pinned : pin_at k.chain.pins pin ≡ Some j)
     (ch : IsChain (at_place pl k.chain)) (off : IsPlaceUnlisted pl id k.chain m.recency) (on : IsChainContinuous below (at_place pl k.chain)) (s : StandsForWrites S n id pin (below (phase_at k.chain.versions j))) where
-  module _ (mid : Memory) (room : IsRoomMade S m mid) where
+  module _ (mid : Memory) (room : HasMadeRoom S m mid) where
     abbrev evicted : KeptChain
     evicted = evicted_of id room.went k
 

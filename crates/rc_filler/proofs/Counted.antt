@@ -3,12 +3,12 @@ use Rattle.std.proofs.Common.{◌≡◌, ◌⊎◌, ◌≤◌, ◌<◌, ◌+◌,
 use Rattle.std.proofs.Math.Nat.{le-min, min-eq_left, min-le_right}
 use Rattle.rc_core.specs.Version.{Version}
 use Rattle.rc_memory.specs.declared.counts.Counts.{Counts}
-use Rattle.rc_memory.specs.Memory.{Member, Memory, counts_raised, raised_by}
+use Rattle.rc_memory.specs.Memory.{Member, Memory, raised_by}
 use Rattle.rc_evict.specs.Evictions.{evictions_counted, one_eviction_more}
 use Rattle.rc_stream.specs.Snapshot.{most_counted}
 use Rattle.rc_populate.specs.Filling.{IsFilled}
 use Rattle.rc_filler.specs.Fillers.{losses}
-use Rattle.rc_filler.specs.Fills.{IsRoomMade, IsSkipCounted}
+use Rattle.rc_filler.specs.Fills.{HasMadeRoom, IsSkipCounted}
 use Rattle.rc_filler.specs.calls.Coming.{AreCountsInRange}
 
 -- ---- a count raised
@@ -49,7 +49,7 @@ evicted-counts (w ∷ ws) c h =
       some = λ v vs e less. (let more : (one_eviction_more c).evicted ≡ c.evicted + 1 = raised-is 1 c.evicted (omega (arith, less)) in omega (arith, more, further));
     }
 
-module _ (S : ℕ) (m mid : Memory) (range : AreCountsInRange m.counts) (room : IsRoomMade S m mid) where
+module _ (S : ℕ) (m mid : Memory) (range : AreCountsInRange m.counts) (room : HasMadeRoom S m mid) where
   raised : IsRaised room.went m.counts mid.counts
   raised = subst (IsRaised room.went m.counts) (sym room.evicted.counts) (evicted-counts room.went m.counts range.evicted)
 
@@ -69,12 +69,12 @@ module _ (S : ℕ) (m mid : Memory) (range : AreCountsInRange m.counts) (room : 
       by : (went : List Member) → room.went ≡ went → room.went ≡ []
       by [] is = is
       by (w ∷ ws) is = (
-        let up = raised.up in
-        let same = raised.same in
-        let low_there : m.counts.evicted < most_counted = omega (arith, low, up) in
-        let more = raised.some w ws is low_there in
-        absurd (omega (arith, more, same, e))
-      )
+          let up = raised.up in
+          let same = raised.same in
+          let low_there : m.counts.evicted < most_counted = omega (arith, low, up) in
+          let more = raised.some w ws is low_there in
+          absurd (omega (arith, more, same, e))
+          )
 
   -- a skipped fill is counted
   pub skip-losses : (n : Memory) → IsSkipCounted mid n → (losses m < losses n) ⊎ (most_counted ≤ losses n)

@@ -1,10 +1,10 @@
 -- Room that is made leaves a snapshot of a cache chain, and the writes that it stands for.
-use Rattle.std.proofs.Common.{◌≡◌, ℕ, List, Option, Some, None, cond, get_or, length, sym, ap, ◌∙◌, subst}
+use Rattle.std.proofs.Common.{◌≡◌, ℕ, List, Some, None, cond, get_or, length, sym, ap, ◌∙◌, subst}
 use Rattle.rc_position.specs.Position.{Head, Place}
 use Rattle.rc_mutation.specs.declared.mutations.Mutation.{Mutation}
 use Rattle.rc_mutation.specs.Source.{SameSource}
 use Rattle.rc_core.specs.Chains.{IsChainContinuous, IsPinned, at_place, phases}
-use Rattle.rc_core.specs.Steps.{IsChain, MayPopulate, pin_at}
+use Rattle.rc_core.specs.Steps.{IsChain, pin_at}
 use Rattle.rc_memory.specs.Memory.{KeptChain, Member, Memory, chain_at}
 use Rattle.rc_memory.specs.Recency.{IsRecency}
 use Rattle.rc_evict.specs.Evictions.{AreEvicted, IsPlaceUnlisted, evicted_of}
@@ -12,7 +12,7 @@ use Rattle.rc_populate.specs.Filling.{MayFill}
 use Rattle.rc_populate.specs.laws.Filled.{may-fill}
 use Rattle.rc_core.specs.laws.Pins.{pin-is-pinned}
 use Rattle.rc_filler.specs.Stands.{HasCacheSnapshot, HoldsRowsOf, StandsForWrites}
-use Rattle.rc_filler.specs.Fills.{IsRoomMade}
+use Rattle.rc_filler.specs.Fills.{HasMadeRoom}
 use Rattle.rc_filler.proofs.Entries.{evicted-each}
 use Rattle.rc_filler.proofs.OfSchema.{evicted-rows}
 use Rattle.rc_filler.proofs.Seen.{may-of}
@@ -32,7 +32,7 @@ pub record EvictionLaws : Type 0 where
       IsChain (at_place p k.chain) → IsPlaceUnlisted p id k.chain old.recency → IsChainContinuous below (at_place p k.chain) → IsChainContinuous below (at_place p (evicted_of id went k).chain)
   pub place : (p : Place) (went : List Member) (gone : List ℕ) (old new : Memory) (id : ℕ) (k : KeptChain) → AreEvicted went gone old new → IsPlaceUnlisted p id k.chain old.recency → IsPlaceUnlisted p id (evicted_of id went k).chain new.recency
 
-module _ (laws : EvictionLaws) (S : ℕ) (old new : Memory) (r : IsRoomMade S old new) where
+module _ (laws : EvictionLaws) (S : ℕ) (old new : Memory) (r : HasMadeRoom S old new) where
   pub room-chain : (id j : ℕ) (k : KeptChain) → chain_at old id ≡ Some k → IsPinned k.chain.pins j → chain_at new id ≡ Some (evicted_of id r.went k)
   room-chain id j k e on = laws.pinned r.went r.gone old new id j k r.evicted e on
 

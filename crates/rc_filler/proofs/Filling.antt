@@ -1,5 +1,5 @@
 -- A portion that is filled leaves the writes for which a snapshot stands, is known to it then, and leaves what it knew.
-use Rattle.std.proofs.Common.{◌≡◌, ◌&&◌, ℕ, Bool, true, false, List, [], ◌∷◌, Option, Some, None, cond, get_or, map, refl, sym, ap, ◌∙◌, subst}
+use Rattle.std.proofs.Common.{◌≡◌, ◌&&◌, ℕ, Bool, true, false, List, [], ◌∷◌, Option, Some, None, cond, get_or, refl, sym, ap, ◌∙◌, subst}
 use Rattle.std.specs.Prelude.{◌≢◌, All, IsTrue}
 use Rattle.std.specs.Option.{option_to_list}
 use Rattle.std.specs.Ordering.{is_le, is_lt}
@@ -10,7 +10,7 @@ use Rattle.rc_cell.specs.declared.writes.Tomb.{Tomb}
 use Rattle.rc_cell.specs.Winner.{empty_row, joined_row}
 use Rattle.rc_position.specs.declared.comps.Comp.{Comp}
 use Rattle.rc_position.specs.declared.positions.Pos.{Pos}
-use Rattle.rc_position.specs.Position.{Clustered, Head, IsBefore, Place, covers, pos_cmp, row_pos}
+use Rattle.rc_position.specs.Position.{Head, IsBefore, Place, covers, pos_cmp, row_pos}
 use Rattle.rc_schema.specs.SchemaValue.{SchemaValue}
 use Rattle.rc_mutation.specs.declared.mutations.Mutation.{Mutation}
 use Rattle.rc_mutation.specs.Source.{SameSource, source_at, source_at_static}
@@ -18,7 +18,7 @@ use Rattle.rc_writes.specs.Allowed.{ChangeFits}
 use Rattle.rc_core.specs.declared.entries.ChainKind.TheVariants.{Cache}
 use Rattle.rc_core.specs.Chain.{IsKnown, content, flagged, states_at}
 use Rattle.rc_core.specs.Chains.{IsChainContinuous, IsPinned, Shown, at_place, phase_at, phases, upto}
-use Rattle.rc_core.specs.Continuity.{EachOf, IsContinuous, fill_statics, static_states}
+use Rattle.rc_core.specs.Continuity.{IsContinuous, fill_statics, static_states}
 use Rattle.rc_core.specs.Steps.{IsChain, MayPopulate, gap_filled, on_newest, row_filled}
 use Rattle.rc_core.specs.Version.{On, Version, end_position}
 use Rattle.rc_memory.specs.Memory.{KeptChain, Memory, chain_at, on_chain, on_shown}

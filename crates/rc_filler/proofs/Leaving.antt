@@ -1,20 +1,19 @@
 -- What a fill leaves of all chains: of those of memtables, of those that are read, and of all others but the one that is filled.
-use Rattle.std.proofs.Common.{◌≡◌, ◌≢◌, ◌⊎◌, ◌≤◌, ◌<◌, ℕ, suc, List, [], ◌∷◌, ◌++◌, Option, Some, None, IsSome, length, inl, inr, refl, sym, ap, ◌∙◌, subst, arith}
+use Rattle.std.proofs.Common.{◌≡◌, ◌≢◌, ◌≤◌, ◌<◌, ℕ, suc, List, [], Option, Some, None, IsSome, length, inl, inr, refl, sym, ap, ◌∙◌, subst, arith}
 use Rattle.std.specs.Prelude.{Contains, IsSomeAnd}
 use Rattle.std.specs.Option.{option_map}
 use Rattle.std.proofs.lemmas.List.{append-nil}
 use Rattle.lsa_pool.specs.laws.Usages.{decided}
-use Rattle.rc_position.specs.declared.positions.Pos.{Pos}
 use Rattle.rc_position.specs.Position.{Place}
 use Rattle.rc_mutation.specs.declared.mutations.Mutation.{Mutation}
 use Rattle.rc_core.specs.declared.entries.ChainKind.TheVariants.{Cache, Memtable}
-use Rattle.rc_core.specs.Chains.{IsChainContinuous, IsPinned, Shown, at_place, phases, upto}
+use Rattle.rc_core.specs.Chains.{IsChainContinuous, IsPinned, Shown, at_place, upto}
 use Rattle.rc_core.specs.Continuity.{IsSameOrLost}
 use Rattle.rc_core.specs.Steps.{IsChain, pin_at}
 use Rattle.rc_core.specs.Version.{Version}
 use Rattle.rc_core.specs.laws.Pins.{pin-is-pinned}
 use Rattle.rc_partition.specs.laws.Lists.{elem-none, once-none}
-use Rattle.rc_memory.specs.Memory.{HasPin, KeptChain, Member, Memory, chain_at, counts_raised, on_chain, on_shown}
+use Rattle.rc_memory.specs.Memory.{HasPin, KeptChain, Member, Memory, chain_at, on_chain, on_shown}
 use Rattle.rc_memory.specs.Recency.{IsRecency}
 use Rattle.rc_memory.specs.laws.Places.{same_some}
 use Rattle.rc_chain.specs.declared.chains.Snap.{Snap}
@@ -22,7 +21,7 @@ use Rattle.rc_evict.specs.Evictions.{AreEvicted, IsPlaceUnlisted, evicted_of}
 use Rattle.rc_populate.specs.Filling.{on_newest_of}
 use Rattle.rc_populate.specs.laws.Opening.{some-and}
 use Rattle.rc_cursor.specs.Snapshots.{kind_in, kind_seen, versions_in, versions_seen}
-use Rattle.rc_filler.specs.Fills.{IsFillDone, IsPortionFilled, IsRoomMade, IsSkipCounted, IsUsedAsBefore, Portion, filled_with}
+use Rattle.rc_filler.specs.Fills.{IsFillDone, IsPortionFilled, HasMadeRoom, IsSkipCounted, IsUsedAsBefore, Portion, filled_with}
 use Rattle.rc_filler.specs.calls.Coming.{AreCountsInRange}
 use Rattle.rc_filler.proofs.Counted.{raised-low, room-range, room-raised}
 use Rattle.rc_filler.proofs.Evicting.{EvictionLaws, room-chain}
@@ -48,7 +47,7 @@ record IsAfterRoom (id : ℕ) (mid n : Memory) : Type 0 where
 
 record IsRoomThenFill (S id : ℕ) (m n : Memory) : Type 0 where
   mid : Memory
-  room : IsRoomMade S m mid
+  room : HasMadeRoom S m mid
   after : IsAfterRoom id mid n
 
 same_map : (i : ℕ) (o : Option KeptChain) → o ≡ option_map (evicted_of i []) o
@@ -56,7 +55,7 @@ same_map i None = refl
 same_map i (Some k) = refl
 
 -- nothing went, and nothing moved
-pub no-room : (S : ℕ) (m : Memory) → IsRoomMade S m m
+pub no-room : (S : ℕ) (m : Memory) → HasMadeRoom S m m
 no-room S m = record {
   went = [];
   gone = [];
@@ -78,7 +77,6 @@ no-room S m = record {
 module _ (others : (id : ℕ) (f : Version → Version) (old new : Memory) (i : ℕ) → new.chains ≡ on_chain id (on_shown (on_newest_of f)) old.chains → i ≢ id → chain_at new i ≡ chain_at old i)
     (here : (id : ℕ) (f : Version → Version) (old new : Memory) (k : KeptChain) → new.chains ≡ on_chain id (on_shown (on_newest_of f)) old.chains → chain_at old id ≡ Some k → chain_at new id ≡ Some (on_shown (on_newest_of f) k))
     (older : (f : Version → Version) (c : Shown) (i : ℕ) → suc i < length c.versions → upto (on_newest_of f c).versions i ≡ upto c.versions i) where
-
   module _ (id : ℕ) where
     after_none : (m : Memory) → IsAfterRoom id m m
     after_none m = record { others = λ i ne. refl; here = λ k e. (k, e, same_use k, λ j l. refl); gone = λ e. e; memtable = λ i k e is. e; listed = λ x on. inl on; budget = refl; evicted = λ r. omega arith; skipped = λ r. omega arith }

@@ -1,5 +1,5 @@
 -- What a fill asks for is there where a snapshot stands for writes that say what is filled.
-use Rattle.std.proofs.Common.{◌≡◌, ◌≤◌, ◌/◌, ℕ, true, false, cond, List, [], ◌∷◌, Option, Some, None, refl, sym, ap, ◌∙◌, subst, arith}
+use Rattle.std.proofs.Common.{◌≡◌, ◌≤◌, ◌/◌, ℕ, true, false, cond, List, Option, Some, None, refl, sym, ap, ◌∙◌, subst, arith}
 use Rattle.std.specs.Prelude.{◌≢◌, IfSome}
 use Rattle.std.specs.Ordering.{eq_by_cmp}
 use Rattle.rc_cell.specs.declared.rows.Row.{Row}
@@ -15,7 +15,6 @@ use Rattle.rc_mutation.specs.declared.mutations.Mutation.{Mutation}
 use Rattle.rc_mutation.specs.Fragments.{is_written}
 use Rattle.rc_mutation.specs.Source.{source_at, source_at_static}
 use Rattle.rc_writes.specs.Allowed.{IsRowOf, IsStaticOf}
-use Rattle.rc_core.specs.declared.entries.Entry.{Entry}
 use Rattle.rc_core.specs.AtPlace.{EachEntry}
 use Rattle.rc_core.specs.Chains.{IsChainContinuous, Shown, at_place, phase_at}
 use Rattle.rc_core.specs.Change.{split, with_row}
@@ -47,7 +46,7 @@ pub of-snapshot : (m : Memory) (id pin : ℕ) (h : HasCacheSnapshot m id pin) (P
 of-snapshot m id pin h P all k j v e at number =
     subst (λ (q : KeptChain). (i : ℕ) (w : Version) → pin_at q.chain.pins pin ≡ Some i → IsVersionAt q.chain.versions i w → P q i w) (same_some h.chain k (sym h.there ∙ e))
     (λ i w there is. (let same : h.number ≡ i = same-number h.number i (sym h.pinned ∙ there) in
-        subst (λ x. P h.chain x w) same (all w (subst (λ x. IsVersionAt h.chain.chain.versions x w) (sym same) is))))
+    subst (λ x. P h.chain x w) same (all w (subst (λ x. IsVersionAt h.chain.chain.versions x w) (sym same) is))))
     j v at number
 
 -- no dummy at a position of a version is larger than an eighth of a segment

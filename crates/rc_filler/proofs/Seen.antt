@@ -23,7 +23,7 @@ use Rattle.rc_stream.specs.Snapshot.{There}
 use Rattle.rc_cursor.specs.Snapshots.{IsKnownAs, kind_in, versions_in, versions_upto}
 use Rattle.rc_filler.specs.declared.fillers.CacheFiller.{CacheFiller}
 use Rattle.rc_filler.specs.Stands.{HasCacheSnapshot, StandsForWrites}
-use Rattle.rc_filler.specs.Fillers.{FillerKnows, FillerKnowsStatics, kind_filled, versions_filled}
+use Rattle.rc_filler.specs.Fillers.{FillerKnows}
 
 -- ---- a snapshot that is there
 
@@ -94,8 +94,7 @@ pin-there m id pin h =
 pub may-told : (m : Memory) (id pin : ℕ) (b : Bool) → HasPin m id pin → ((k : KeptChain) (j : ℕ) → chain_at m id ≡ Some k → pin_at k.chain.pins pin ≡ Some j → IsTrue b ↔ MayPopulate (at_place Head k.chain) j) → IsTrue b ↔ MayFill m id pin
 may-told m id pin b h told =
     let w = pin-there m id pin h in
-    let both = told w.0 w.1 w.2 w.3 in
-    (
+    let both = told w.0 w.1 w.2 w.3 in (
       λ t. may-fill m id pin w.1 w.0 w.2 w.3 (both.0 t),
       λ may. both.1 (subst (λ (o : Option ℕ). IsSomeAnd o (MayPopulate (at_place Head w.0.chain))) w.3
           (subst (λ (o : Option KeptChain). IsSomeAnd o (λ k. IsSomeAnd (pin_at k.chain.pins pin) (MayPopulate (at_place Head k.chain)))) w.2 may)),

@@ -5,17 +5,15 @@
 use Rattle.std.specs.Prelude.{◌≡◌, ◌≤◌, ◌+◌, ◌*◌, ◌/◌, ℕ, List, IsTrue}
 use Rattle.rc_cell.specs.declared.rows.Row.{Row}
 use Rattle.rc_position.specs.declared.positions.Pos.{Pos}
-use Rattle.rc_mutation.specs.declared.mutations.Mutation.{Mutation}
 use Rattle.rc_core.specs.Chain.{content, flagged}
 use Rattle.rc_core.specs.Continuity.{static_states}
 use Rattle.rc_core.specs.declared.entries.ChainKind.{ChainKind}
 use Rattle.rc_core.specs.Version.{Version}
 use Rattle.rc_memory.specs.Memory.{Memory, chain_at}
-use Rattle.rc_populate.specs.Filling.{MayFill}
 use Rattle.rc_stream.specs.Snapshot.{There}
 use Rattle.rc_cursor.specs.Snapshots.{IsKnownAs, kind_in, versions_in}
 use Rattle.rc_filler.specs.declared.fillers.CacheFiller.{CacheFiller}
-use Rattle.rc_filler.specs.Stands.{HasCacheSnapshot, StandsForWrites}
+use Rattle.rc_filler.specs.Stands.{HasCacheSnapshot}
 
 -- the versions that the snapshot of a filler sees, the oldest first
 abbrev pub versions_filled : Memory → CacheFiller → List Version

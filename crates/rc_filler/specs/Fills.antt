@@ -1,6 +1,6 @@
 -- What a filler's calls do to a shard's memory.
 --     Portion           what is filled at once: a gap, a row or a static row
---     IsRoomMade        objects moved and were evicted
+--     HasMadeRoom        objects moved and were evicted
 --     IsOutOfRoom       nothing can be evicted, and nothing moved out of a segment
 --     IsPortionFilled   a portion was filled into the newest version of a cache chain
 --     IsSkippedFor      why a portion is skipped
@@ -53,7 +53,7 @@ SayPortion writes (OfRow key row tomb) = SayThere writes (row_pos key) (row, tom
 SayPortion writes (OfStatics row) = source_at_static writes ≡ row
 
 -- objects moved, and others were evicted, as some are where the region is crowded alone; it has as many segments
-pub record IsRoomMade (S : ℕ) (old new : Memory) : Type 0 where
+pub record HasMadeRoom (S : ℕ) (old new : Memory) : Type 0 where
   pub went : List Member
   pub gone : List ℕ
   pub evicted : AreEvicted went gone old new
@@ -92,7 +92,7 @@ IsPortionTaken S portion id pin old new = IsPortionFilled portion id pin old new
 
 -- nothing was done; or room was made for some portion, which was filled then, or skipped
 abbrev pub IsFillDone : ℕ → ℕ → ℕ → Memory → Memory → Type 0
-IsFillDone S id pin old new = (new ≡ old) ⊎ ((mid : Memory) × (portion : Portion) × IsRoomMade S old mid × IsPortionTaken S portion id pin mid new)
+IsFillDone S id pin old new = (new ≡ old) ⊎ ((mid : Memory) × (portion : Portion) × HasMadeRoom S old mid × IsPortionTaken S portion id pin mid new)
 
 -- what a call of a filler did: the filler is the same one
 pub record IsCacheFill (S : ℕ) (f : CacheFiller) (m : Memory) (g : CacheFiller) (n : Memory) : Type 0 where

@@ -23,7 +23,7 @@ ghost use Rattle.rc_stream.specs.Snapshot.{Answers, SayThere, There, Unlost};
 ghost use Rattle.rc_filler.specs.declared.fillers.CacheFiller.{CacheFiller};
 ghost use Rattle.rc_filler.specs.Stands.{HasCacheSnapshot, HoldsRowsOf, StandsForWrites};
 ghost use Rattle.rc_filler.specs.Fillers.{FillerKnows, losses};
-ghost use Rattle.rc_filler.specs.Fills.{IsCacheFill, IsFillDone, IsRoomMade, IsUsedAsBefore, Portion, SayPortion};
+ghost use Rattle.rc_filler.specs.Fills.{IsCacheFill, IsFillDone, HasMadeRoom, IsUsedAsBefore, Portion, SayPortion};
 ghost use Rattle.rc_filler.specs.calls.Coming.{AreCountsInRange, CameOf, KnowsPortion};
 
 use rc_chain::laws::{one_more_snapshot_keeps_what_is_said, what_a_snapshot_knows_is_the_source};
@@ -39,9 +39,9 @@ use rc_populate::laws::{
 
 /// Where room is made, by moves and evictions, a snapshot of a cache chain is there still, may be filled if it could be, and stands for the same writes.
 pub fn room_leaves_a_snapshot()
-    ensures there { (S : ℕ) (old new : Memory) (id pin : ℕ) → IsRoomMade S old new → HasCacheSnapshot old id pin → HasCacheSnapshot new id pin }
-    ensures may { (S : ℕ) (old new : Memory) (id pin : ℕ) → IsRoomMade S old new → MayFill old id pin → MayFill new id pin }
-    ensures stands { (S : ℕ) (old new : Memory) (id pin : ℕ) (writes : List Mutation) → IsRecency old → IsRoomMade S old new → StandsForWrites S old id pin writes → StandsForWrites S new id pin writes }
+    ensures there { (S : ℕ) (old new : Memory) (id pin : ℕ) → HasMadeRoom S old new → HasCacheSnapshot old id pin → HasCacheSnapshot new id pin }
+    ensures may { (S : ℕ) (old new : Memory) (id pin : ℕ) → HasMadeRoom S old new → MayFill old id pin → MayFill new id pin }
+    ensures stands { (S : ℕ) (old new : Memory) (id pin : ℕ) (writes : List Mutation) → IsRecency old → HasMadeRoom S old new → StandsForWrites S old id pin writes → StandsForWrites S new id pin writes }
 {
     evictions_keep_the_whole_chain();
     evictions_leave_the_use_of_a_chain();
