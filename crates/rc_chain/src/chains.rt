@@ -17,6 +17,7 @@ ghost use Rattle.rc_core.specs.Version.{Version, IsVersion};
 ghost use Rattle.rc_memory.specs.Recency.{IsRecency, MayBeListed, MustBeListed};
 ghost use Rattle.rc_memory.specs.Changes.{Nowhere, OfVersion, StandStill};
 ghost use Rattle.rc_memory.specs.laws.One.{memory-prop};
+ghost use Rattle.rc_version.specs.Versions.{IsVersionOf};
 ghost use Rattle.rc_chain.specs.Held.{IsHeldAt};
 ghost use Rattle.rc_chain.specs.Marked.{HasMarksAt};
 
@@ -125,6 +126,13 @@ impl<const S: usize> Chains<S> {
     {
         self.region.known();
         self.registry.known();
+    }
+
+    /// The object of each version of a chain is that version in the region, with the objects of its entries in their order: so these can be walked. It does nothing.
+    pub fn versions_stand(&self)
+        ensures { (id j : ℕ) (n : Name) → IsVersionObject self.now id j n → OfVersion self.now id j (λ k v. (refs : Sequence Name) × IsVersionOf self.now.region n refs v) }
+    {
+        let _ = &self.region;
     }
 
     /// Raises the counts by so many evictions, by how often no room was found, and by how many bytes the chains became smaller. Each stays at 2^64 - 1.
