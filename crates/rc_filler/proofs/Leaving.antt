@@ -203,6 +203,18 @@ module _ (others : (id : ℕ) (f : Version → Version) (old new : Memory) (i : 
           other-continuous below rule ch on = subst (λ (q : KeptChain). IsChainContinuous below (at_place pl q.chain)) other_is
               (laws.continuous below pl p.room.went p.room.gone m p.mid i k rule p.room.evicted e ch off on)
 
+    -- ---- the older versions of the chain that is filled
+
+    pub older-seen : ((pl : Place) (i : ℕ) (went : List Member) (k : KeptChain) (j : ℕ) → IsChain (at_place pl k.chain) → IsSameOrLost (upto k.chain.versions j) (upto (evicted_of i went k).chain.versions j)) →
+        (pl : Place) (j : ℕ) (k now : KeptChain) → chain_at m id ≡ Some k → chain_at n id ≡ Some now → IsChain (at_place pl k.chain) → suc j < length k.chain.versions → IsSameOrLost (upto k.chain.versions j) (upto now.chain.versions j)
+    older-seen seen pl j k now e then_there ch low =
+        let stays : Contains p.room.gone id → ⊥ = λ on. (let clash : None ≡ Some now = sym (p.after.gone (p.room.evicted.absent id on)) ∙ then_there in cc clash) in
+        let there : chain_at p.mid id ≡ Some (evicted_of id p.room.went k) = p.room.evicted.chains id stays ∙ ap (option_map (evicted_of id p.room.went)) e in
+        let w = p.after.here (evicted_of id p.room.went k) there in
+        let count = laws.count id p.room.went k in
+        subst (λ (q : KeptChain). IsSameOrLost (upto k.chain.versions j) (upto q.chain.versions j)) (same_some w.0 now (sym w.1 ∙ then_there))
+        (subst (IsSameOrLost (upto k.chain.versions j)) (sym (w.3 j (omega (arith, low, count)))) (seen pl id p.room.went k j ch))
+
   module _ (S id pin : ℕ) (m n : Memory) (done : IsFillDone S id pin m n) where
     q : IsRoomThenFill S id m n
     q = parted id S pin m n done

@@ -23,7 +23,7 @@ use Rattle.rc_stream.specs.Snapshot.{There}
 use Rattle.rc_cursor.specs.Snapshots.{IsKnownAs, kind_in, versions_in, versions_upto}
 use Rattle.rc_filler.specs.declared.fillers.CacheFiller.{CacheFiller}
 use Rattle.rc_filler.specs.Stands.{HasCacheSnapshot, StandsForWrites}
-use Rattle.rc_filler.specs.Fillers.{FillerKnows}
+use Rattle.rc_filler.specs.Fillers.{FillerKnows, FillerKnowsStatics}
 
 -- ---- a snapshot that is there
 
@@ -78,6 +78,12 @@ module _ (law : (below : ℕ → List Mutation) (p : Place) (c : Shown) (j : ℕ
 module _ (law : (below : ℕ → List Mutation) (p : Place) (c : Shown) (j : ℕ) → IsChain (at_place p c) → IsChainContinuous below (at_place p c) → IsPinned c.pins j → IsContinuous None (below (phase_at c.versions j)) (upto c.versions j)) where
   pub knows-said : (S : ℕ) (m : Memory) (f : CacheFiller) (writes : List Mutation) → StandsForWrites S m f.chain f.pin writes → (x : Pos) (v : There) → FillerKnows m f x v → source_at writes x ≡ v
   knows-said S m f writes s x v k = said-there law S m f.chain f.pin writes s x v (of-seen m f.chain f.pin s.snapshot (λ kind vs. IsKnownAs kind vs x v) k)
+
+  pub knows-statics : (S : ℕ) (m : Memory) (f : CacheFiller) (writes : List Mutation) → StandsForWrites S m f.chain f.pin writes → (row : Row) → FillerKnowsStatics m f row → source_at_static writes ≡ row
+  knows-statics S m f writes s row k =
+      let known = of-seen m f.chain f.pin s.snapshot (λ kind vs. IsTrue (flagged kind (static_states vs))) k.0 in
+      let is = of-seen m f.chain f.pin s.snapshot (λ kind vs. (content (static_states vs)).0 ≡ row) k.1 in
+      sym (statics-there law S m f.chain f.pin writes s known) ∙ is
 
 -- ---- whether a snapshot may be filled
 

@@ -1,5 +1,6 @@
 //! The laws of fills, each the contract of a function that does nothing.
-ghost use Rattle.std.specs.Prelude.{◌≡◌, ◌≢◌, ◌<◌, ◌≤◌, ◌^◌, ℕ, true, All, IsTrue, List, None, Some, length};
+ghost use Rattle.std.specs.Prelude.{◌≡◌, ◌≢◌, ◌<◌, ◌≤◌, ◌^◌, ℕ, suc, true, All, IsTrue, List, None, Some, length};
+ghost use Rattle.rc_cell.specs.declared.rows.Row.{Row};
 ghost use Rattle.rc_position.specs.declared.positions.Pos.{Pos};
 ghost use Rattle.rc_mutation.specs.declared.mutations.Mutation.{Mutation};
 ghost use Rattle.rc_position.specs.Position.{Place};
@@ -22,7 +23,7 @@ ghost use Rattle.rc_stream.specs.declared.fillers.Fill.{Fill};
 ghost use Rattle.rc_stream.specs.Snapshot.{Answers, SayThere, There, Unlost};
 ghost use Rattle.rc_filler.specs.declared.fillers.CacheFiller.{CacheFiller};
 ghost use Rattle.rc_filler.specs.Stands.{HasCacheSnapshot, HoldsRowsOf, StandsForWrites};
-ghost use Rattle.rc_filler.specs.Fillers.{FillerKnows, losses};
+ghost use Rattle.rc_filler.specs.Fillers.{FillerKnows, FillerKnowsStatics, losses};
 ghost use Rattle.rc_filler.specs.Fills.{IsCacheFill, IsFillDone, HasMadeRoom, IsUsedAsBefore, Portion, SayPortion};
 ghost use Rattle.rc_filler.specs.calls.Coming.{AreCountsInRange, CameOf, KnowsPortion};
 
@@ -51,7 +52,8 @@ pub fn room_leaves_a_snapshot()
 
 /// A snapshot that stands for writes knows what they say: at each position, and of the static row.
 pub fn a_snapshot_knows_the_writes_it_stands_for()
-    ensures { (S : ℕ) (m : Memory) (f : CacheFiller) (writes : List Mutation) → StandsForWrites S m f.chain f.pin writes → (x : Pos) (v : There) → FillerKnows m f x v → SayThere writes x v }
+    ensures statics { (S : ℕ) (m : Memory) (f : CacheFiller) (writes : List Mutation) → StandsForWrites S m f.chain f.pin writes → (row : Row) → FillerKnowsStatics m f row → source_at_static writes ≡ row }
+    ensures known { (S : ℕ) (m : Memory) (f : CacheFiller) (writes : List Mutation) → StandsForWrites S m f.chain f.pin writes → (x : Pos) (v : There) → FillerKnows m f x v → SayThere writes x v }
 {
     what_a_snapshot_knows_is_the_source();
 }
@@ -95,9 +97,10 @@ pub fn a_fill_spares_memtables_and_readers()
     a_fill_changes_the_newest_version_alone();
 }
 
-/// Of each chain but the one that is filled, which is there still, each place is seen as before at each version, or it is Unknown; and it is a chain still, and continuous, where the entry at the place of an update that stands in it is out of the recency list, as it is then.
+/// Of each chain but the one that is filled, and of the older versions of that one, where it is there still, each place is seen as before, or it is Unknown. Each other chain is a chain still, and continuous, where the entry at the place of an update that stands in it is out of the recency list, as it is then.
 pub fn a_fill_leaves_other_chains()
     ensures seen { (S : ℕ) (f g : CacheFiller) (m n : Memory) (p : Place) (id j : ℕ) (k now : KeptChain) → IsCacheFill S f m g n → id ≢ f.chain → chain_at m id ≡ Some k → chain_at n id ≡ Some now → IsChain (at_place p k.chain) → IsSameOrLost (upto k.chain.versions j) (upto now.chain.versions j) }
+    ensures older { (S : ℕ) (f g : CacheFiller) (m n : Memory) (p : Place) (j : ℕ) (k now : KeptChain) → IsCacheFill S f m g n → chain_at m f.chain ≡ Some k → chain_at n f.chain ≡ Some now → IsChain (at_place p k.chain) → suc j < length k.chain.versions → IsSameOrLost (upto k.chain.versions j) (upto now.chain.versions j) }
     ensures form { (S : ℕ) (f g : CacheFiller) (m n : Memory) (p : Place) (id : ℕ) (k now : KeptChain) → IsCacheFill S f m g n → id ≢ f.chain → chain_at m id ≡ Some k → chain_at n id ≡ Some now → IsChain (at_place p k.chain) → IsChain (at_place p now.chain) }
     ensures place { (S : ℕ) (f g : CacheFiller) (m n : Memory) (p : Place) (id : ℕ) (k now : KeptChain) → IsCacheFill S f m g n → id ≢ f.chain → chain_at m id ≡ Some k → chain_at n id ≡ Some now → IsPlaceUnlisted p id k.chain m.recency → IsPlaceUnlisted p id now.chain n.recency }
     ensures chain { (S : ℕ) (below : ℕ → List Mutation) (f g : CacheFiller) (m n : Memory) (p : Place) (id : ℕ) (k now : KeptChain) → IsRecency m → IsCacheFill S f m g n → id ≢ f.chain → chain_at m id ≡ Some k → chain_at n id ≡ Some now →

@@ -1,5 +1,5 @@
 use Rattle.rc_filler.proofs.Evicting.{EvictionLaws}
-use Rattle.rc_filler.proofs.Leaving.{other-continuous, other-form, other-seen, other-unlisted}
+use Rattle.rc_filler.proofs.Leaving.{older-seen, other-continuous, other-form, other-seen, other-unlisted}
 use Rattle.rc_filler.proofs.laws.a_fill_leaves_other_chains.Goals as goal
 
 pub returns : goal.returns
@@ -21,6 +21,7 @@ returns c =
     let fill = c.a_fill_changes_the_newest_version_alone.ensures in
     record {
       seen = λ S f g m n p id j k now did ne e there ch. other-seen fill.others fill.here fill.older laws S f.chain f.pin m n did.done id ne k now e there c.what_was_evicted_is_seen_as_before_or_lost.ensures.seen p j ch;
+      older = λ S f g m n p j k now did e there ch low. older-seen fill.others fill.here fill.older laws S f.chain f.pin m n did.done c.what_was_evicted_is_seen_as_before_or_lost.ensures.seen p j k now e there ch low;
       form = λ S f g m n p id k now did ne e there ch. other-form fill.others fill.here fill.older laws S f.chain f.pin m n did.done id ne k now e there p ch;
       place = λ S f g m n p id k now did ne e there off. other-unlisted fill.others fill.here fill.older laws S f.chain f.pin m n did.done id ne k now e there p off;
       chain = λ S below f g m n p id k now rule did ne e there ch off on. other-continuous fill.others fill.here fill.older laws S f.chain f.pin m n did.done id ne k now e there p off below rule ch on;
