@@ -42,7 +42,7 @@ pub by-test : (P : Type 0) (b : Bool) → (b ≡ true → P) → (b ≡ false �
 by-test P true t f = t refl
 by-test P false t f = f refl
 
-both-ways : (b : Bool) → b ≡ true → b ≡ false → ⊥
+pub both-ways : (b : Bool) → b ≡ true → b ≡ false → ⊥
 both-ways true t f = cc
 both-ways false t f = cc
 

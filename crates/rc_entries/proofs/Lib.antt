@@ -6,3 +6,6 @@ pub mod Forgetting
 pub mod Opening
 pub mod Taken
 pub mod Continuous
+pub mod Phases
+pub mod Invalidating
+pub mod Below

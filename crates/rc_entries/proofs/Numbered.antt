@@ -18,7 +18,7 @@ module _ (old new : Memory) (id : ℕ) (c : Option KeptChain) (is : new.chains �
   pub chain-beside : (i : ℕ) → i ≢ id → chain_at new i ≡ chain_at old i
   chain-beside i ne = ap (λ cs. slice_index_or cs i None) is ∙ put-beside old.chains id c i ne
 
-mapped : (f : KeptChain → KeptChain) (o : Option KeptChain) (k : KeptChain) → option_map f o ≡ Some k → (was : KeptChain) × (o ≡ Some was) × (f was ≡ k)
+pub mapped : (f : KeptChain → KeptChain) (o : Option KeptChain) (k : KeptChain) → option_map f o ≡ Some k → (was : KeptChain) × (o ≡ Some was) × (f was ≡ k)
 mapped f None k e = absurd (none-is-none k e)
 mapped f (Some was) k e = (was, refl, cc)
 

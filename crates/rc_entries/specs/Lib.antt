@@ -1,4 +1,5 @@
 pub mod Found
 pub mod Entries
 pub mod Detached
+pub mod Invalidated
 pub mod calls

@@ -3,6 +3,7 @@
 
 mod entries;
 mod index;
+mod invalidate;
 pub mod laws;
 
 pub use entries::Entries;
