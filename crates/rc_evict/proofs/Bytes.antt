@@ -1,7 +1,6 @@
 -- What is live after an eviction: less by one object, and by what the chain takes that went, of whose versions the end dummies alone were left.
-use Rattle.std.proofs.Common.{◌≡◌, ◌≢◌, ℕ, zero, suc, ◌+◌, ◌*◌, ◌/◌, ◌≤◌, List, [], ◌∷◌, ◌++◌, Option, Some, None, length, inl, inr, refl, sym, ap, ◌∙◌, subst, slice_index_or, arith}
+use Rattle.std.proofs.Common.{◌≡◌, ◌≢◌, ℕ, zero, suc, ◌+◌, ◌*◌, ◌/◌, ◌≤◌, le_refl, true, false, cond, List, [], ◌∷◌, ◌++◌, Option, Some, None, length, inl, inr, refl, sym, ap, ◌∙◌, subst, slice_index_or, arith}
 use Rattle.std.specs.Prelude.{Contains, IfSome, IsSome, IsSomeAnd, sum_by}
-use Rattle.std.specs.Option.{option_map}
 use Rattle.std.proofs.lemmas.List.Sums.{sum_by-cons}
 use Rattle.lsa_region.specs.Region.{View, body}
 use Rattle.lsa_store.specs.declared.place.Ref.{Ref}
@@ -9,25 +8,27 @@ use Rattle.lsa_kinds.specs.declared.kind.Kind.{Kind}
 use Rattle.rc_cell.specs.declared.rows.Row.{Row}
 use Rattle.rc_cell.specs.laws.{joined_row-one}
 use Rattle.rc_cell.specs.Winner.{IsRow}
+use Rattle.std.specs.Ordering.{eq_by_cmp}
 use Rattle.rc_position.specs.declared.positions.Pos.{Pos}
-use Rattle.rc_rowcode.specs.Objects.{dummy_size, static_size}
+use Rattle.rc_position.specs.Position.{pos_cmp}
+use Rattle.rc_rowcode.specs.Objects.{static_size}
 use Rattle.rc_rowcode.specs.Spelling.{IsCodedRow}
 use Rattle.rc_core.specs.declared.entries.Entry.{Entry}
+use Rattle.rc_core.specs.declared.entries.Mark.{Mark}
 use Rattle.rc_core.specs.AtPlace.{HasEntryAt}
-use Rattle.rc_core.specs.Change.{drop_at, lose_last_gap, lost_mark, with_gap}
-use Rattle.rc_core.specs.Continuity.{with_entries, without_statics}
+use Rattle.rc_core.specs.Change.{drop_at, lose_last_gap, lost_mark, take_out, with_first_gap, with_gap}
 use Rattle.rc_core.specs.Steps.{on_version}
 use Rattle.rc_core.specs.Version.{Ascend, EndsWithDummy, IsVersion, Version, end_position}
 use Rattle.rc_core.specs.laws.Spots.{taken_out}
 use Rattle.rc_object.specs.Objects.{SpellsEntry}
 use Rattle.rc_version.specs.Versions.{bytes_at, entries_bytes, entry_bytes, statics_bytes, version_bytes}
 use Rattle.rc_version.specs.laws.Holding.{bytes-same, bytes-with}
-use Rattle.rc_partition.specs.laws.Lists.{elem-cases, elem-first, elem-here, elem-none, elem-split, sum-middle, sum-without}
+use Rattle.rc_partition.specs.laws.Lists.{elem-cases, elem-first, elem-none, elem-split, sum-middle, sum-without}
 use Rattle.rc_registry.specs.Registry.{put}
-use Rattle.rc_memory.specs.Memory.{KeptChain, Member, Memory, IsVersionAt, chain_at, on_chain, on_shown, on_version_of}
+use Rattle.rc_memory.specs.Memory.{KeptChain, Memory, IsVersionAt, chain_at, on_shown, on_version_of}
 use Rattle.rc_memory.specs.Recency.{HasObject, IsRecency, MustBeListed}
 use Rattle.rc_memory.specs.Changes.{OfVersion, member}
-use Rattle.rc_memory.specs.Room.{ChainsFit, FitTogether, chain_bytes}
+use Rattle.rc_memory.specs.Room.{FitTogether, chain_bytes}
 use Rattle.rc_memory.specs.Kept.{present}
 use Rattle.rc_memory.specs.laws.Listing.{pos_decided}
 use Rattle.rc_memory.specs.laws.Put.{placed}
@@ -98,6 +99,38 @@ version-lost S versions fit v among i view r at held = evicted-by (λ w. version
     (dropped_bytes s.0 y.0 s.1 (subst Ascend s.2 i.ascend) (subst EndsWithDummy s.2 i.ends) (λ end. inner (sym y.2 ∙ end)))) in
     entry_sum 64 (statics_bytes v.statics) (entry_bytes y.0) (entries_bytes v.entries) (entries_bytes (drop_at x v.entries)) (S / 8) (entry_small S versions fit v among y.0 y.1 (spelled_row (body view r) y.0 y.3)) is)
 
+-- ---- what is evicted makes no version larger
+
+first_bytes : (m : Mark) (es : List Entry) → entries_bytes (with_first_gap m es) ≡ entries_bytes es
+first_bytes m [] = refl
+first_bytes m (e ∷ es) = refl
+
+out_bytes : (m : Mark) (x : Pos) (es : List Entry) → entries_bytes (take_out m x es) ≤ entries_bytes es
+out_bytes m x [] = le_refl 0
+out_bytes m x (e ∷ es) =
+    let one = first_bytes m es in let rest = out_bytes m x es in
+    elim (eq_by_cmp pos_cmp x e.position) as (λ b. entries_bytes (cond b (with_first_gap m es) (e ∷ take_out m x es)) ≤ entry_bytes e + entries_bytes es) [ true ↦ omega (arith, one) | false ↦ omega (arith, rest) ]
+
+less_statics : (head statics entries : ℕ) → head + (0 + entries) ≤ head + (statics + entries)
+less_statics head statics entries = omega arith
+
+less_entries : (head statics before now : ℕ) → now ≤ before → head + (statics + now) ≤ head + (statics + before)
+less_entries head statics before now h = omega (arith, h)
+
+pub version-less : (at : Option Pos) (v : Version) → version_bytes (evicted_at at v) ≤ version_bytes v
+version-less at v = evicted-by (λ w. version_bytes w ≤ version_bytes v) at v
+    (λ e. less_statics 64 (statics_bytes v.statics) (entries_bytes v.entries))
+    (λ e. less_entries 64 (statics_bytes v.statics) (entries_bytes v.entries) (entries_bytes (lose_last_gap v.entries)) (let same = lost_bytes v.entries in omega (arith, same)))
+    (λ x e inner. less_entries 64 (statics_bytes v.statics) (entries_bytes v.entries) (entries_bytes (drop_at x v.entries)) (out_bytes lost_mark x v.entries))
+
+all_less : (j : ℕ) (at : Option Pos) (vs : List Version) → sum_by version_bytes (on_version j (evicted_at at) vs) ≤ sum_by version_bytes vs
+all_less j at [] = le_refl _
+all_less zero at (v ∷ vs) = let one = version-less at v in let before = sum_by-cons version_bytes v vs in let now = sum_by-cons version_bytes (evicted_at at v) vs in omega (arith, one, before, now)
+all_less (suc j) at (v ∷ vs) = let rest = all_less j at vs in let before = sum_by-cons version_bytes v vs in let now = sum_by-cons version_bytes v (on_version j (evicted_at at) vs) in omega (arith, rest, before, now)
+
+pub chain-less : (j : ℕ) (at : Option Pos) (k : KeptChain) → chain_bytes (on_shown (on_version_of j (evicted_at at)) k) ≤ chain_bytes k
+chain-less j at k = all_less j at k.chain.versions
+
 -- ---- what a chain takes
 
 sum_step : (a b c d e : ℕ) → b ≤ d + e → a + (b + c) ≤ a + (d + c) + e
@@ -121,6 +154,13 @@ put-lost cs id k l eighth there less =
     subst (λ n. n ≤ sum_by chain_bytes (present (put id (Some l) cs)) + eighth) (sym before)
     (subst (λ n. sum_by chain_bytes p.front + (chain_bytes k + sum_by chain_bytes p.back) ≤ n + eighth) (sym after)
     (sum_step (sum_by chain_bytes p.front) (chain_bytes k) (sum_by chain_bytes p.back) (chain_bytes l) eighth less))
+
+pub put-less : (cs : List (Option KeptChain)) (id : ℕ) (k l : KeptChain) → slice_index_or cs id None ≡ Some k → chain_bytes l ≤ chain_bytes k → sum_by chain_bytes (present (put id (Some l) cs)) ≤ sum_by chain_bytes (present cs)
+put-less cs id k l there less =
+    let p = placed cs id in
+    let before : sum_by chain_bytes (present cs) ≡ sum_by chain_bytes p.front + (chain_bytes k + sum_by chain_bytes p.back) = ap (sum_by chain_bytes) (p.there k there) ∙ sum-middle chain_bytes p.front p.back k in
+    let after : sum_by chain_bytes (present (put id (Some l) cs)) ≡ sum_by chain_bytes p.front + (chain_bytes l + sum_by chain_bytes p.back) = ap (sum_by chain_bytes) (p.with_one l) ∙ sum-middle chain_bytes p.front p.back l in
+    omega (arith, before, after, less)
 
 gone_sum : (a b c : ℕ) → a + (b + c) ≡ a + c + b
 gone_sum a b c = omega arith

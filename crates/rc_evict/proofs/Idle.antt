@@ -1,18 +1,16 @@
 -- Whether a chain is to be dropped can be told.
-use Rattle.std.proofs.Common.{◌≡◌, ◌≢◌, ◌⊎◌, ℕ, Bool, true, false, List, [], ◌∷◌, ◌++◌, Option, Some, None, inl, inr, refl, sym, ap, ◌∙◌, subst}
-use Rattle.std.specs.Prelude.{Contains, IsSomeAnd}
-use Rattle.std.proofs.lemmas.List.Elements.{Contains-append_cases}
+use Rattle.std.proofs.Common.{◌≡◌, ◌≢◌, ◌⊎◌, ℕ, Bool, true, false, List, [], ◌∷◌, Option, Some, None, inl, inr, refl, sym, ap, ◌∙◌, subst}
+use Rattle.std.specs.Prelude.{Contains}
 use Rattle.lsa_pool.specs.laws.Usages.{decided}
 use Rattle.rc_position.specs.declared.positions.Pos.{Pos}
 use Rattle.rc_core.specs.declared.entries.ChainKind.{ChainKind}
 use Rattle.rc_core.specs.declared.entries.ChainKind.TheVariants.{Cache, Memtable}
-use Rattle.rc_core.specs.Chains.{IsPinned, Shown}
+use Rattle.rc_core.specs.Chains.{Shown}
 use Rattle.rc_registry.specs.Registry.{AreFree}
 use Rattle.rc_partition.specs.laws.Lists.{elem-cases, elem-first, elem-later, elem-none}
 use Rattle.rc_memory.specs.Memory.{KeptChain, Member, Memory}
 use Rattle.rc_memory.specs.Changes.{member}
 use Rattle.rc_chain.specs.Lives.{IsIdle}
-use Rattle.rc_evict.specs.Evictions.{evicted_of}
 use Rattle.rc_evict.proofs.Chains.{IsSameUse}
 
 -- one of these objects is of a chain, or none is

@@ -2,12 +2,10 @@
 use Rattle.std.proofs.Common.{◌≡◌, ◌≢◌, ◌⊎◌, ◌<◌, ℕ, zero, suc, length, List, [], ◌∷◌, ◌++◌, Option, Some, None, inl, inr, refl, sym, ap, ◌∙◌, subst, slice_index_or}
 use Rattle.std.specs.Prelude.{AllPairs, Contains, IsSomeAnd}
 use Rattle.std.specs.Option.{option_map}
-use Rattle.lsa_region.specs.Region.{SameObjects, View}
+use Rattle.lsa_region.specs.Region.{SameObjects}
 use Rattle.lsa_store.specs.declared.place.Ref.{Ref}
-use Rattle.rc_cell.specs.declared.writes.Tomb.{Tomb}
 use Rattle.rc_position.specs.declared.positions.Pos.{Pos}
 use Rattle.rc_core.specs.declared.entries.Entry.{Entry}
-use Rattle.rc_core.specs.declared.entries.Flag.{Flag}
 use Rattle.rc_core.specs.declared.entries.Flag.TheVariants.{Unknown}
 use Rattle.rc_core.specs.declared.entries.Mark.{Mark}
 use Rattle.rc_core.specs.Change.{at_entry, drop_at, lose_last_gap}
@@ -19,7 +17,7 @@ use Rattle.rc_core.specs.laws.Surgery.{entry-at, last-gap-lost}
 use Rattle.rc_object.specs.Objects.{HoldsEntry}
 use Rattle.rc_partition.specs.laws.Lists.{elem-cases, elem-first, elem-here, elem-none, once-head}
 use Rattle.rc_registry.specs.Registry.{put}
-use Rattle.rc_memory.specs.Memory.{HasVersion, KeptChain, Member, Memory, IsVersionAt, chain_at, listed_as, on_chain, on_shown, on_version_of, shown_with}
+use Rattle.rc_memory.specs.Memory.{HasVersion, KeptChain, Member, Memory, IsVersionAt, chain_at, listed_as, on_shown, on_version_of, shown_with}
 use Rattle.rc_memory.specs.Recency.{IsRecency, MayBeListed, MustBeListed}
 use Rattle.rc_memory.specs.Changes.{AtAlone, IsVersionChanged, IsWithout, Nowhere, OfVersion, StandStill, member}
 use Rattle.rc_memory.specs.laws.At.{number-low}

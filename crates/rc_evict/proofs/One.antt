@@ -1,24 +1,25 @@
 -- One eviction: the front is lost, it is counted, and the chain is swept.
-use Rattle.std.proofs.Common.{◌≡◌, ℕ, ◌+◌, ◌*◌, ◌/◌, ◌≤◌, List, [], ◌∷◌, Option, Some, None, length, inl, inr, refl, sym, ap, ◌∙◌, subst, slice_index_or, arith}
-use Rattle.std.specs.Prelude.{Contains, IfSome, IsSome, IsSomeAnd, sum_by}
+use Rattle.std.proofs.Common.{◌≡◌, ℕ, ◌+◌, ◌*◌, ◌/◌, ◌≤◌, List, [], ◌∷◌, Option, Some, None, length, inl, inr, refl, sym, ap, ◌∙◌, subst, arith}
+use Rattle.std.specs.Prelude.{Contains, IfSome, IsSome, sum_by}
 use Rattle.std.specs.Option.{option_map, option_map_or}
 use Rattle.std.proofs.lemmas.List.Sums.{sum_by-cons}
 use Rattle.lsa_region.specs.Region.{live_bytes}
 use Rattle.lsa_store.specs.declared.place.Ref.{Ref}
-use Rattle.rc_core.specs.Version.{IsVersion, Version}
+use Rattle.rc_core.specs.Version.{IsVersion}
 use Rattle.rc_partition.specs.laws.Lists.{elem-here}
 use Rattle.rc_registry.specs.Registry.{put}
+use Rattle.rc_memory.specs.declared.counts.Counts.{Counts}
 use Rattle.rc_memory.specs.Memory.{HasChain, KeptChain, Member, Memory, chain_at, counts_raised, raised_by, on_shown, on_version_of}
 use Rattle.rc_memory.specs.Recency.{IsRecency, MayBeListed}
-use Rattle.rc_memory.specs.Changes.{OfVersion, member}
+use Rattle.rc_memory.specs.Changes.{OfVersion}
 use Rattle.rc_memory.specs.Room.{ChainsFit, FitTogether, chain_bytes}
 use Rattle.rc_memory.specs.Kept.{present}
 use Rattle.rc_memory.specs.laws.Rules.{length-on}
 use Rattle.rc_chain.specs.Lives.{IsChainDropped, IsIdle}
 use Rattle.rc_evict.specs.declared.evicting.Evicted.{Evicted}
-use Rattle.rc_evict.specs.Evictions.{AreEvicted, IsFrontLost, IsOneEvicted, IsSwept, TakenOut, eviction_counted, evicted_at, version_count, versions_together}
+use Rattle.rc_evict.specs.Evictions.{AreEvicted, IsFrontLost, IsOneEvicted, TakenOut, eviction_counted, evicted_at, version_count, versions_together}
 use Rattle.rc_chain.specs.Held.{IsHeldAt}
-use Rattle.rc_evict.proofs.Bytes.{chain-lost, idle-bytes, put-gone, put-lost, version-lost}
+use Rattle.rc_evict.proofs.Bytes.{chain-less, chain-lost, idle-bytes, put-gone, put-less, put-lost, version-lost}
 use Rattle.rc_evict.proofs.Chains.{use-changed}
 use Rattle.rc_evict.proofs.Idle.{idle-again, idle-alike, idle-decided}
 use Rattle.rc_evict.proofs.Places.{holds-of}
@@ -44,6 +45,12 @@ kept_sum old lost now live_old live_new eighth more a b c d = omega (arith, a, b
 
 gone_sum : (old lost now chain live_old live_new eighth count more : ℕ) → live_old ≡ old → live_new ≡ now → lost ≡ now + chain → chain ≡ 152 * count → more ≡ count → old ≤ lost + eighth → live_old ≤ live_new + eighth + 152 * more
 gone_sum old lost now chain live_old live_new eighth count more a b c d e f = omega (arith, a, b, c, d, e, f)
+
+less_sum : (before lost now more live_old live_new : ℕ) → live_old ≡ before → live_new ≡ now → lost ≡ now + more → lost ≤ before → live_new ≤ live_old
+less_sum before lost now more live_old live_new a b c d = omega (arith, a, b, c, d)
+
+same_sum : (before lost now live_old live_new : ℕ) → live_old ≡ before → live_new ≡ now → now ≡ lost → lost ≤ before → live_new ≤ live_old
+same_sum before lost now live_old live_new a b c d = omega (arith, a, b, c, d)
 
 one_only : (a b : ℕ) → a ≡ b → a + 0 ≡ b
 one_only a b e = omega (arith, e)
@@ -89,6 +96,31 @@ module _ (m l q n : Memory) (s : Evicted) (w : Member) (id : ℕ) (t : IsFrontLo
         | inr busy ↦ inr (busy, stays_now k there busy)
       ];
     }
+
+    -- what was counted is counted still
+    pub one-counted : l.counts.evicted ≤ q.counts.evicted → m.counts.evicted ≤ n.counts.evicted
+    one-counted up =
+        let k = front in
+        let more : m.counts.evicted ≤ q.counts.evicted = subst (λ (c : Counts). c.evicted ≤ q.counts.evicted) t.changed.counts up in
+        elim (idle-decided (eviction_counted l) w.chain k.0.chain) [
+          | inl i ↦ subst (λ (c : Counts). m.counts.evicted ≤ c.evicted) (sym ((gone_now k.0 k.1 i).counts ∙ ap (λ (x : Memory). x.counts) (sym count))) more
+          | inr busy ↦ subst (λ (x : Memory). m.counts.evicted ≤ x.counts.evicted) (sym (stays_now k.0 k.1 busy ∙ sym count)) more
+        ]
+
+    -- and no more is live
+    fewer : (k : KeptChain) → chain_at m w.chain ≡ Some k → sum_by chain_bytes (present l.chains) ≤ sum_by chain_bytes (present m.chains)
+    fewer k there =
+        subst (λ cs. sum_by chain_bytes (present cs) ≤ sum_by chain_bytes (present m.chains)) (sym (t.changed.chains ∙ ap (λ o. put w.chain (option_map (on_shown (on_version_of w.version (evicted_at w.position))) o) m.chains) there))
+        (put-less m.chains w.chain k (on_shown (on_version_of w.version (evicted_at w.position)) k) there (chain-less w.version w.position k))
+
+    pub one-less : live_bytes m.region ≡ sum_by chain_bytes (present m.chains) → live_bytes n.region ≡ sum_by chain_bytes (present n.chains) → live_bytes n.region ≤ live_bytes m.region
+    one-less old_live new_live = let k = front in elim (idle-decided (eviction_counted l) w.chain k.0.chain) [
+      | inl i ↦ less_sum (sum_by chain_bytes (present m.chains)) (sum_by chain_bytes (present l.chains)) (sum_by chain_bytes (present (put w.chain None l.chains))) (chain_bytes (on_shown (on_version_of w.version (evicted_at w.position)) k.0))
+          (live_bytes m.region) (live_bytes n.region) old_live (new_live ∙ ap (λ cs. sum_by chain_bytes (present cs)) (gone_now k.0 k.1 i).chains)
+          (put-gone l.chains w.chain (on_shown (on_version_of w.version (evicted_at w.position)) k.0) (lost_at k.0 k.1)) (fewer k.0 k.1)
+      | inr busy ↦ same_sum (sum_by chain_bytes (present m.chains)) (sum_by chain_bytes (present l.chains)) (sum_by chain_bytes (present n.chains)) (live_bytes m.region) (live_bytes n.region) old_live new_live
+          (ap (λ (x : Memory). sum_by chain_bytes (present x.chains)) (stays_now k.0 k.1 busy)) (fewer k.0 k.1)
+    ]
 
     module _ (S : ℕ) (r : Ref) (held : IsHeldAt m r w) (versions : (i j : ℕ) → OfVersion m i j (λ k v. IsVersion v)) (fit : ChainsFit S m) (old_live : live_bytes m.region ≡ sum_by chain_bytes (present m.chains))
         (rule : IsRecency q) (mid_versions : (i j : ℕ) → OfVersion q i j (λ k v. IsVersion v)) (new_live : live_bytes n.region ≡ sum_by chain_bytes (present n.chains)) where

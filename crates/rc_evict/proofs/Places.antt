@@ -1,7 +1,6 @@
 -- What the object at a place is: its kind tells of which sort it is, and its bytes whether it is an end dummy.
 use Rattle.std.proofs.Common.{◌≡◌, ◌≢◌, ◌⊎◌, ℕ, List, [], ◌∷◌, ◌++◌, Option, Some, None, inl, inr, refl, sym, ap, ◌∙◌, subst, arith}
 use Rattle.std.specs.Prelude.{Contains, IsSome, IsSomeAnd}
-use Rattle.std.proofs.lemmas.List.{append-nil}
 use Rattle.lsa_kinds.specs.declared.kind.Kind.{Kind}
 use Rattle.lsa_kinds.specs.declared.kind.Kind.TheVariants.{Dummy, RowEntry, Static}
 use Rattle.lsa_region.specs.Region.{View, body}
@@ -13,7 +12,7 @@ use Rattle.rc_rowcode.specs.laws.Codecs.{pos_codec}
 use Rattle.rc_rowcode.specs.laws.Read.{one_spelling}
 use Rattle.rc_core.specs.declared.entries.Entry.{Entry}
 use Rattle.rc_core.specs.AtPlace.{HasEntryAt}
-use Rattle.rc_core.specs.Version.{Ascend, EndsWithDummy, IsVersion, On, Version, end_position, found, seen}
+use Rattle.rc_core.specs.Version.{Ascend, EndsWithDummy, IsVersion, On, Version, end_position, seen}
 use Rattle.rc_core.specs.laws.Placed.{ahead_of, not_end}
 use Rattle.rc_core.specs.laws.Spots.{ascend-tail}
 use Rattle.rc_core.specs.laws.Surgery.{seen-on}

@@ -28,11 +28,13 @@ pub enum Evicted {
     EndDummy,
 }
 
-/// Evicts the least recently used object, as ScyllaDB's row cache does. A row entry or an inner dummy is taken out, and the gap before the next entry is Unknown and without a tombstone; a static row is taken out, and its flag is Unknown; an end dummy leaves the recency list and stays in its version, and the gap before it is Unknown and without a tombstone. None exactly where the list is empty, and then nothing is changed. A cache chain that nobody pins, that is not under update and of which nothing is listed any more is dropped with it. Each eviction is counted; the count stays at 2^64 - 1. What is live is less by an object at most, of an eighth of a segment, and by 152 bytes for each version of a chain that was dropped.
+/// Evicts the least recently used object, as ScyllaDB's row cache does. A row entry or an inner dummy is taken out, and the gap before the next entry is Unknown and without a tombstone; a static row is taken out, and its flag is Unknown; an end dummy leaves the recency list and stays in its version, and the gap before it is Unknown and without a tombstone. None exactly where the list is empty, and then nothing is changed. A cache chain that nobody pins, that is not under update and of which nothing is listed any more is dropped with it. Each eviction is counted; the count stays at 2^64 - 1. No more is live; what is live is less by an object at most, of an eighth of a segment, and by 152 bytes for each version of a chain that was dropped.
 pub fn evict_one<const S: usize>(chains: &mut Chains<S>) -> Option<Evicted>
     ensures some { IfSome result (λ sort. IsOneEvicted sort chains.old chains.new) }
     ensures none { IfNone result ((chains.old.recency ≡ []) × (chains.new ≡ chains.old)) }
     ensures live { IfSome result (λ sort. (place : Member) × (gone : Sequence ℕ) × AreEvicted (place ∷ []) gone chains.old chains.new × (live_bytes chains.old.region ≤ live_bytes chains.new.region + S / 8 + 152 * versions_together chains.old gone)) }
+    ensures less { live_bytes chains.new.region ≤ live_bytes chains.old.region }
+    ensures counted { chains.old.counts.evicted ≤ chains.new.counts.evicted }
     ensures spare { spare_of S chains.new.region.usages ≡ spare_of S chains.old.region.usages }
 {
     chains.known();
@@ -47,6 +49,8 @@ fn evict<const S: usize>(chains: &mut Chains<S>, r: Ref) -> Evicted
     requires { (w : Member) × (rest : Sequence Member) × (chains.old.recency ≡ w ∷ rest) × IsMemberObject chains.old r w }
     ensures one { IsOneEvicted result chains.old chains.new }
     ensures live { (place : Member) × (gone : Sequence ℕ) × AreEvicted (place ∷ []) gone chains.old chains.new × (live_bytes chains.old.region ≤ live_bytes chains.new.region + S / 8 + 152 * versions_together chains.old gone) }
+    ensures less { live_bytes chains.new.region ≤ live_bytes chains.old.region }
+    ensures counted { chains.old.counts.evicted ≤ chains.new.counts.evicted }
     ensures spare { spare_of S chains.new.region.usages ≡ spare_of S chains.old.region.usages }
 {
     chains.known();
@@ -61,17 +65,20 @@ fn evict<const S: usize>(chains: &mut Chains<S>, r: Ref) -> Evicted
 
 // One more eviction is counted.
 fn count_one<const S: usize>(chains: &mut Chains<S>)
-    ensures { chains.new ≡ eviction_counted chains.old }
+    ensures counted { chains.new ≡ eviction_counted chains.old }
+    ensures more { chains.old.counts.evicted ≤ chains.new.counts.evicted }
 {
     let counts = chains.counts();
+    in_range(counts.evicted);
     in_range(counts.skipped);
     in_range(counts.shrunk);
     chains.count(1, 0, 0);
 }
 
-// A count raised by nothing is as it was.
+// A count raised by nothing is as it was, and raised by one it is no less.
 fn in_range(_count: u64)
-    ensures { raised_by 0 _count ≡ _count }
+    ensures same { raised_by 0 _count ≡ _count }
+    ensures more { _count ≤ raised_by 1 _count }
 {}
 
 // Takes the object at the front of the recency list out of it and out of its version, in which an end dummy stays, and tells of which sort it is.

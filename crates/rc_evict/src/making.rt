@@ -2,8 +2,9 @@
 ghost use Rattle.std.specs.Prelude.{◌≡◌, ◌⊎◌, ◌∷◌, ◌*◌, ◌/◌, ◌<◌, ◌≤◌, ℕ, true, false, List as Sequence, [], length};
 ghost use Rattle.lsa_move.specs.Room.{Tight};
 ghost use Rattle.lsa_pool.specs.Room.{spare_of};
+ghost use Rattle.lsa_region.specs.Region.{live_bytes};
 ghost use Rattle.rc_memory.specs.Memory.{Member};
-ghost use Rattle.rc_evict.specs.Evictions.{AreEvicted, IsCrowded};
+ghost use Rattle.rc_evict.specs.Evictions.{AreEvicted, IsCrowded, IsRoomMade};
 
 use crate::evicting::evict_one;
 use lsa_move::{Ensured, a_tight_region_is_nearly_full};
@@ -18,7 +19,7 @@ pub enum Room {
     NoRoom,
 }
 
-/// Makes room for `need` bytes, 7S/8 at most: objects move out of sparse segments, and where none is sparse and too few bytes are spare, the least recently used objects are evicted. `Room` exactly where so much is spare then; `NoRoom` only where nothing is left to be evicted and no segment is sparse. Where so much is spare at once nothing is changed; and where something was evicted the region is crowded: more than three quarters of all but two segments are live, but for an object and the chains that were dropped.
+/// Makes room for `need` bytes, 7S/8 at most: objects move out of sparse segments, and where none is sparse and too few bytes are spare, the least recently used objects are evicted. `Room` exactly where so much is spare then; `NoRoom` only where nothing is left to be evicted and no segment is sparse. Where so much is spare at once nothing is changed; and where something was evicted the region is crowded: more than three quarters of all but two segments are live, but for an object and the chains that were dropped. No more is live, and no count falls.
 pub fn make_room<const S: usize>(chains: &mut Chains<S>, need: usize) -> Room
     requires few { need ≤ 7 * S / 8 }
     ensures room { result ≡ Room.Room → need ≤ spare_of S chains.new.region.usages }
@@ -26,6 +27,7 @@ pub fn make_room<const S: usize>(chains: &mut Chains<S>, need: usize) -> Room
     ensures evicted { (went : Sequence Member) × (gone : Sequence ℕ) × AreEvicted went gone chains.old chains.new × ((went ≡ []) ⊎ IsCrowded S gone chains.old chains.new) }
     ensures idle { need ≤ spare_of S chains.old.region.usages → chains.new ≡ chains.old }
     ensures budget { length chains.new.region.usages ≡ length chains.old.region.usages }
+    ensures made { IsRoomMade S chains.old chains.new }
 {
     while let Ensured::Full = chains.ensure(need) {
         if !evict_where_full(chains, need) {
@@ -43,6 +45,9 @@ fn evict_where_full<const S: usize>(chains: &mut Chains<S>, need: usize) -> bool
     ensures none { result ≡ false → (chains.old.recency ≡ []) × (chains.new ≡ chains.old) }
     ensures one { result ≡ true → (place : Member) × (gone : Sequence ℕ) × AreEvicted (place ∷ []) gone chains.old chains.new × IsCrowded S gone chains.old chains.new }
     ensures budget { length chains.new.region.usages ≡ length chains.old.region.usages }
+    ensures moved { chains.new.region.moved ≡ chains.old.region.moved }
+    ensures less { live_bytes chains.new.region ≤ live_bytes chains.old.region }
+    ensures counted { chains.old.counts.evicted ≤ chains.new.counts.evicted }
 {
     a_tight_region_is_nearly_full(chains.region(), need);
     evict_one(chains).is_some()

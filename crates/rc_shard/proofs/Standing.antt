@@ -18,7 +18,7 @@ use Rattle.rc_memory.specs.Memory.{HasPin, Memory}
 use Rattle.rc_chain.specs.declared.chains.Snap.{Snap}
 use Rattle.rc_snapshots.specs.declared.snaps.Snaps.{Snaps}
 use Rattle.rc_snapshots.specs.Seeing.{AllStillSee, AreSameSnapshots, StillSeeBoth, StillSees}
-use Rattle.rc_snapshots.specs.laws.Seeing.{seen-then}
+use Rattle.rc_snapshots.specs.laws.Seeing.{all-see, seen-then}
 use Rattle.rc_unstored.specs.declared.unstored.Unstored.{Unstored}
 use Rattle.rc_unstored.specs.Memtables.{HaveWrites, in_chains}
 use Rattle.rc_unstored.specs.Readers.{IsNoneOf, IsSnapshotOfKey}
@@ -84,7 +84,7 @@ if-ok-weaker (Err e) P Q f h = tt
 -- ---- what is kept
 
 pub kept-itself : (schema : SchemaValue) (u : Unstored 131072) → IsKept schema u u
-kept-itself schema u = record { stands = λ writes later h. h; seen = λ s on. record { pin = on; versions = refl; kind = refl }; room = no-more-itself u.chains }
+kept-itself schema u = record { stands = λ writes later h. h; seen = all-see u.chains u.chains (λ s on. record { pin = on; versions = refl; kind = refl }); room = no-more-itself u.chains }
 
 pub kept-then : (schema : SchemaValue) (u v w : Unstored 131072) → IsKept schema u v → IsKept schema v w → IsKept schema u w
 kept-then schema u v w a b = record {
@@ -95,7 +95,7 @@ kept-then schema u v w a b = record {
 
 -- where objects moved
 pub room-kept : (schema : SchemaValue) (u v : Unstored 131072) → ((writes later : List Write) → HaveWrites schema u writes later → HaveWrites schema v writes later) → AreSameSnapshots u.chains v.chains → TakesNoMore u.chains v.chains → IsKept schema u v
-room-kept schema u v stands same room = record { stands = stands; seen = same.alike; room = room }
+room-kept schema u v stands same room = record { stands = stands; seen = all-see u.chains v.chains same.alike; room = room }
 
 -- in chains that are the same
 pub kept-in : (schema : SchemaValue) (u v : Unstored 131072) (m : Memory) → m ≡ v.chains → IsKept schema u v → IsKept schema u (in_chains m v)
@@ -106,7 +106,10 @@ pub kept-back : (schema : SchemaValue) (u v w : Unstored 131072) (snaps : Snaps)
     ((s : Snap) → IsNoneOf snaps s → HasPin v.chains s.chain s.pin → StillSees s v.chains w.chains) → TakesNoMore v.chains w.chains → IsKept schema u w
 kept-back schema u v w snaps k fresh stands others room = record {
   stands = λ writes later h. stands writes later (k.stands writes later h);
-  seen = λ s on. let a = k.seen s on in let b = others s (fresh s on) a.pin in record { pin = b.pin; versions = b.versions ∙ a.versions; kind = b.kind ∙ a.kind };
+  seen = record {
+    see = λ s h. let a = k.seen.see s h in let b = others s (fresh s h.pin) a.pin in record { pin = b.pin; versions = b.versions ∙ a.versions; kind = b.kind ∙ a.kind };
+    there = λ s on. (others s (fresh s on) (k.seen.there s on)).pin;
+  };
   room = no-more-then u.chains v.chains w.chains k.room room;
 }
 

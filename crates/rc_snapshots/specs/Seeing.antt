@@ -1,8 +1,9 @@
--- What snapshots of memtables' chains see while calls change the chains.
+-- What snapshots see while calls change the chains.
 --     HasSnap           a snapshot of a memtable's chain is there
 --     AreThere          so are those that there are of two
 --     StillSees         a snapshot is there as before, and sees the same
---     AllStillSee       so does each that was there
+--     NothingIsLost     so does each that was there, of a cache's chain too
+--     AllStillSee       so does each of a memtable's chain; others are there still
 --     StillSeeBoth      so do those that there are of two
 --     SeesAllOf         a snapshot sees what changes say; where there is none, there are none
 use Rattle.std.specs.Prelude.{◌≡◌, List, [], Option, Some, None, IfSome}
@@ -30,9 +31,14 @@ pub record StillSees (s : Snap) (old new : Memory) : Type 0 where
   pub versions : versions_seen new s ≡ versions_seen old s
   pub kind : kind_seen new s ≡ kind_seen old s
 
--- so does each snapshot that was there
-abbrev pub AllStillSee : Memory → Memory → Type 0
-AllStillSee old new = (s : Snap) → HasPin old s.chain s.pin → StillSees s old new
+-- so does each snapshot that was there, of a cache's chain too
+abbrev pub NothingIsLost : Memory → Memory → Type 0
+NothingIsLost old new = (s : Snap) → HasPin old s.chain s.pin → StillSees s old new
+
+-- each snapshot of a memtable's chain that was there sees what it saw; and each other one is there still, though evictions may take from what it sees
+pub record AllStillSee (old new : Memory) : Type 0 where
+  pub see : (s : Snap) → HasSnap old s → StillSees s old new
+  pub there : (s : Snap) → HasPin old s.chain s.pin → HasPin new s.chain s.pin
 
 -- each but one, wherever that is
 abbrev pub OthersStillSee : Snap → Memory → Memory → Type 0
@@ -40,7 +46,7 @@ OthersStillSee gone old new = (s : Snap) → (s.chain ≡ gone.chain → s.pin �
 
 -- the snapshots are those that were there, and see what they saw
 pub record AreSameSnapshots (old new : Memory) : Type 0 where
-  pub alike : AllStillSee old new
+  pub alike : NothingIsLost old new
   pub none_more : (s : Snap) → HasPin new s.chain s.pin → HasPin old s.chain s.pin
 
 -- those that there are of two are there, and see what they saw

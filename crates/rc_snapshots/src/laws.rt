@@ -18,7 +18,7 @@ ghost use Rattle.rc_cacheread.specs.Reading.{Reads};
 ghost use Rattle.rc_snapshots.specs.declared.fillers.NoFiller.{NoFiller as Filler};
 ghost use Rattle.rc_snapshots.specs.Streams.{IsNewStream, IsOf, SeesChanges, first_position};
 ghost use Rattle.rc_snapshots.specs.declared.snaps.Snaps.{Snaps};
-ghost use Rattle.rc_snapshots.specs.Seeing.{AllStillSee, AreSameSnapshots, AreThere, HasSnap, SeesAllOf, StillSeeBoth, StillSees};
+ghost use Rattle.rc_snapshots.specs.Seeing.{AllStillSee, AreSameSnapshots, AreThere, HasSnap, NothingIsLost, SeesAllOf, StillSeeBoth, StillSees};
 
 use crate::fillers::NoFiller;
 use rc_cacheread::CacheReader;
@@ -68,9 +68,11 @@ pub fn a_snapshots_stream_stays<const S: usize, W: Store>()
         ⟦<CacheReader<SnapshotReader, ListFrags, NoFiller> as Frags<Chains<S>, W>>⟧.seen r m w t → ⟦<CacheReader<SnapshotReader, ListFrags, NoFiller> as Frags<Chains<S>, W>>⟧.seen r n v t }
 {}
 
-/// What snapshots see stays over several calls; and what a snapshot sees it sees still where it sees what it saw. A snapshot that sees what changes say is there.
+/// What snapshots see stays over several calls, of memtables' chains and, where nothing is lost, of caches' chains too; and what a snapshot sees it sees still where it sees what it saw. A snapshot that sees what changes say is there.
 pub fn a_snapshot_sees_what_it_saw()
     ensures along { (old mid new : Memory) → AllStillSee old mid → AllStillSee mid new → AllStillSee old new }
+    ensures lossless { (old mid new : Memory) → NothingIsLost old mid → NothingIsLost mid new → NothingIsLost old new }
+    ensures all { (old new : Memory) → NothingIsLost old new → AllStillSee old new }
     ensures same { (old mid new : Memory) → AreSameSnapshots old mid → AreSameSnapshots mid new → AreSameSnapshots old new }
     ensures there { (old new : Memory) (s : Snapshot) → HasSnap old s → StillSees s old new → HasSnap new s }
     ensures sees { (changes : List Mutation) (old new : Memory) (s : Snapshot) → SeesChanges changes old s → StillSees s old new → SeesChanges changes new s }

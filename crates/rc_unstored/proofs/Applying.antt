@@ -15,34 +15,38 @@ use Rattle.rc_core.specs.Chains.{IsPinned}
 use Rattle.rc_memory.specs.Memory.{IsUntouched, KeptChain, Memory, chain_at, under_new_names}
 use Rattle.rc_memory.specs.laws.Places.{no_some, same_some}
 use Rattle.rc_chain.specs.Lives.{IsSameButSlots}
+use Rattle.rc_evict.specs.Evictions.{IsRoomMade}
 use Rattle.rc_memtable.specs.Steps.{IsApplied}
 use Rattle.rc_memtable.specs.Writes.{HasWrites, IsRoomFor, TakesVersion, chain_of}
 use Rattle.rc_unstored.specs.declared.unstored.Unstored.{Unstored}
 use Rattle.rc_unstored.specs.Memtables.{HaveWrites, IsFullFor, NoneShared, in_chains}
-use Rattle.rc_snapshots.specs.Seeing.{AllStillSee}
-use Rattle.rc_unstored.specs.Steps.{IsNotPut, IsPutBehind, IsPutRefused, IsRoomMade}
+use Rattle.rc_snapshots.specs.Seeing.{AllStillSee, NothingIsLost}
+use Rattle.rc_snapshots.specs.laws.Seeing.{all-see, seen-then}
+use Rattle.rc_unstored.specs.Steps.{AreObjectsMoved, IsNotPut, IsPutBehind, IsPutRefused}
 use Rattle.rc_unstored.proofs.Chains.{chain-same, same-or-not}
-use Rattle.rc_unstored.proofs.Keeping.{beside-has, both_in, both-moved, same-keys}
-use Rattle.rc_unstored.proofs.Pins.{KeptIn, all-seen, chains-same, more-in, nothing-in, same-in, seen-then}
+use Rattle.rc_unstored.proofs.Keeping.{beside-has, both_in, same-keys}
+use Rattle.rc_unstored.proofs.Pins.{KeptIn, all-seen, chains-same, more-in, nothing-in, same-in}
 
--- ---- room, after objects have moved
+-- ---- room, once it was made
 
-takes-same : (m n : Memory) → n.chains ≡ m.chains → (o : Option ℕ) → TakesVersion n o → TakesVersion m o
-takes-same m n same None h = tt
-takes-same m n same (Some id) h = subst (λ (q : Option KeptChain). IsSomeAnd q (λ k. IsPinned k.chain.pins (length k.chain.versions - 1))) (chain-same m n same id) h
+takes-same : (m n : Memory) (o : Option ℕ) → ((id : ℕ) → o ≡ Some id → chain_at n id ≡ chain_at m id) → TakesVersion n o → TakesVersion m o
+takes-same m n None same h = tt
+takes-same m n (Some id) same h = subst (λ (q : Option KeptChain). IsSomeAnd q (λ k. IsPinned k.chain.pins (length k.chain.versions - 1))) (same id refl) h
 
-pub room-more : (schema : SchemaValue) (chains : List (List ℕ × ℕ)) (w : Write) (m n : Memory) (bytes more : ℕ) → n.chains ≡ m.chains → bytes ≤ more → IsRoomFor schema chains m w bytes → IsRoomFor schema chains n w more
+pub room-more : (schema : SchemaValue) (chains : List (List ℕ × ℕ)) (w : Write) (m n : Memory) (bytes more : ℕ) → ((id : ℕ) → chain_of chains w.key ≡ Some id → chain_at n id ≡ chain_at m id) → bytes ≤ more → IsRoomFor schema chains m w bytes → IsRoomFor schema chains n w more
 room-more schema chains w m n bytes more same up h = record {
   joined = let j = h.joined in omega (arith, j, up);
-  version = λ t. let v = h.version (takes-same m n same (chain_of chains w.key) t) in omega (arith, v, up);
+  version = λ t. let v = h.version (takes-same m n (chain_of chains w.key) same t) in omega (arith, v, up);
 }
 
 -- no room, where fewer bytes are spare than the least that are enough
-pub full-for : (S : ℕ) (schema : SchemaValue) (w : Write) (u : Unstored S) (m : Memory) (need : ℕ) → u.chains.chains ≡ m.chains → ((bytes : ℕ) → IsRoomFor schema u.active m w bytes → need ≤ bytes) →
-    spare_of S u.chains.region.usages < need → Tight S u.chains.region.usages → IsFullFor S schema w u
-full-for S schema w u m need same least few tight = record {
-  few = λ room. let low = least (spare_of S u.chains.region.usages) (room-more schema u.active w u.chains m (spare_of S u.chains.region.usages) (spare_of S u.chains.region.usages) (sym same) (omega arith) room) in omega (arith, low, few);
-  tight = tight;
+pub full-for : (S : ℕ) (schema : SchemaValue) (w : Write) (u : Unstored S) (m : Memory) (need : ℕ) → ((id : ℕ) → chain_of u.active w.key ≡ Some id → chain_at u.chains id ≡ chain_at m id) → ((bytes : ℕ) → IsRoomFor schema u.active m w bytes → need ≤ bytes) →
+    (u.chains.recency ≡ []) × Tight S u.chains.region.usages × (spare_of S u.chains.region.usages < need) → IsFullFor S schema w u
+full-for S schema w u m need same least none = record {
+  few = λ room. let few = none.2 in
+      let low = least (spare_of S u.chains.region.usages) (room-more schema u.active w u.chains m (spare_of S u.chains.region.usages) (spare_of S u.chains.region.usages) (λ id e. sym (same id e)) (omega arith) room) in omega (arith, low, few);
+  tight = none.1;
+  none = none.0;
 }
 
 -- ---- a write applied to one of two memtables
@@ -84,17 +88,21 @@ module _ (S : ℕ) (schema : SchemaValue) (w : Write) (sealed before now : List 
     | inr ne ↦ same-in (chain_at m i) (chain_at n i) (a.others.others i ne)
   ]
 
-  pub applied-seen : AllStillSee m n
+  pub applied-seen : NothingIsLost m n
   applied-seen = all-seen m n each-chain
 
--- ---- after objects have moved to make room
+-- ---- once room was made
 
-module _ {S : ℕ} (schema : SchemaValue) (w : Write) (u : Unstored S) (now : List (List ℕ × ℕ)) (mid n : Memory) (same : mid.chains ≡ u.chains.chains) (a : IsApplied schema w u.active now mid n) where
-  pub put-stands : (writes later : List Write) → HaveWrites schema u writes later → HaveWrites schema (both_in S n u.sealed now) writes (later ++ w ∷ [])
-  put-stands writes later h = applied-stands S schema w u.sealed u.active now mid n a writes later (both-moved schema u mid writes later same h)
+module _ {S : ℕ} (schema : SchemaValue) (w : Write) (u : Unstored S) (now : List (List ℕ × ℕ)) (mid n : Memory) (a : IsApplied schema w u.active now mid n) where
+  pub put-stands : (writes later : List Write) → HaveWrites schema (in_chains mid u) writes later → HaveWrites schema (both_in S n u.sealed now) writes (later ++ w ∷ [])
+  put-stands writes later h = applied-stands S schema w u.sealed u.active now mid n a writes later h
 
-  pub put-seen : AllStillSee u.chains n
-  put-seen = seen-then u.chains mid n (chains-same u.chains mid (chain-same u.chains mid same)).alike (applied-seen S schema w u.sealed u.active now mid n a)
+  pub put-seen : AllStillSee u.chains mid → AllStillSee u.chains n
+  put-seen seen = seen-then u.chains mid n seen (all-see mid n (applied-seen S schema w u.sealed u.active now mid n a))
+
+-- root slots were made
+pub slots-seen : (m mid n : Memory) → AllStillSee m mid → IsSameButSlots mid n → AllStillSee m n
+slots-seen m mid n seen slots = seen-then m mid n seen (all-see mid n (chains-same mid n (chain-same mid n (ap (λ (q : Memory). q.chains) slots.same))).alike)
 
 -- ---- what is left of both, whatever came of it
 
@@ -107,14 +115,14 @@ moved-more S m n (Some k) told most done tells same = subst (λ x. m.region.move
 ])
 
 -- objects that got new names
-pub room-made : (m n : Memory) → ((names : List (Ref × Ref)) × Renamed m.region n.region names × (n ≡ under_new_names names n.region m)) → IsUntouched m n → m.region.moved ≤ n.region.moved → IsRoomMade m n
-room-made m n renamed untouched moved = record { untouched = untouched; budget = renamed.1.budget; live = renamed.1.live; moved = moved }
+pub objects-moved : (m n : Memory) → ((names : List (Ref × Ref)) × Renamed m.region n.region names × (n ≡ under_new_names names n.region m)) → IsUntouched m n → m.region.moved ≤ n.region.moved → AreObjectsMoved m n
+objects-moved m n renamed untouched moved = record { untouched = untouched; budget = renamed.1.budget; live = renamed.1.live; moved = moved }
 
-pub put-left : {S : ℕ} (schema : SchemaValue) (w : Write) (u : Unstored S) (now : List (List ℕ × ℕ)) (mid n : Memory) → IsRoomMade u.chains mid → IsApplied schema w u.active now mid n → IsPutBehind schema w u (both_in S n u.sealed now)
+pub put-left : {S : ℕ} (schema : SchemaValue) (w : Write) (u : Unstored S) (now : List (List ℕ × ℕ)) (mid n : Memory) → IsRoomMade S u.chains mid → IsApplied schema w u.active now mid n → IsPutBehind schema w u (both_in S n u.sealed now)
 put-left schema w u now mid n room applied = record { mid = mid; room = room; applied = applied; sealed = refl }
 
-pub full-left : {S : ℕ} (u : Unstored S) (m : Memory) → IsRoomMade u.chains m → IsNotPut u (in_chains m u)
+pub full-left : {S : ℕ} (u : Unstored S) (m : Memory) → IsRoomMade S u.chains m → IsNotPut u (in_chains m u)
 full-left u m room = record { room = room; keys = same-keys u m }
 
-pub refused-left : {S : ℕ} (u : Unstored S) (now : List (List ℕ × ℕ)) (mid n : Memory) → IsRoomMade u.chains mid → IsSameButSlots mid n → now ≡ u.active → IsPutRefused u (both_in S n u.sealed now)
+pub refused-left : {S : ℕ} (u : Unstored S) (now : List (List ℕ × ℕ)) (mid n : Memory) → IsRoomMade S u.chains mid → IsSameButSlots mid n → now ≡ u.active → IsPutRefused u (both_in S n u.sealed now)
 refused-left u now mid n room slots same = record { mid = mid; room = room; slots = slots; keys = record { sealed = refl; active = same } }

@@ -15,10 +15,11 @@ use Rattle.rc_memtable.specs.LetGo.{AreLetGo, IsLetGo}
 use Rattle.rc_memtable.specs.Writes.{DoAscend, HasWrites, chain_of}
 use Rattle.rc_unstored.specs.declared.unstored.Unstored.{Unstored}
 use Rattle.rc_unstored.specs.Memtables.{HaveWrites}
-use Rattle.rc_snapshots.specs.Seeing.{AllStillSee}
+use Rattle.rc_snapshots.specs.Seeing.{NothingIsLost}
+use Rattle.rc_snapshots.specs.laws.Seeing.{lost-then}
 use Rattle.rc_unstored.proofs.Chains.{chain-beside, chain-done, same-or-not}
 use Rattle.rc_unstored.proofs.Keeping.{beside-has, both_in, either, key-is, key-itself, none-found}
-use Rattle.rc_unstored.proofs.Pins.{KeptIn, all-seen, chains-same, detached-in, free-in, same-in, seen-then}
+use Rattle.rc_unstored.proofs.Pins.{KeptIn, all-seen, chains-same, detached-in, free-in, same-in}
 
 -- ---- one chain
 
@@ -41,7 +42,7 @@ module _ (id : ℕ) (m n : Memory) (k : KeptChain) (there : chain_at m id ≡ So
     | inr ne ↦ same-in (chain_at m i) (chain_at n i) (gone-beside i ne)
   ]
 
-  pub gone-seen : AllStillSee m n
+  pub gone-seen : NothingIsLost m n
   gone-seen = all-seen m n each-chain
 
 -- ---- keys, each once
@@ -100,11 +101,11 @@ all-beside (e ∷ es) m n a h i off =
     all-beside es h.0 n (theirs-then e es m h.0 a h.1) h.2 i (λ key f. off key (later-of e es a.once.0 key i f))
     ∙ gone-beside e.1 m h.0 first.0 first.1 h.1 i (λ same. off e.0 (first-of e es ∙ ap Some (sym same)))
 
-pub all-gone-seen : (es : List (List ℕ × ℕ)) (m n : Memory) → AreTheirs es m → AreLetGo (map (λ e. e.1) es) m n → AllStillSee m n
+pub all-gone-seen : (es : List (List ℕ × ℕ)) (m n : Memory) → AreTheirs es m → AreLetGo (map (λ e. e.1) es) m n → NothingIsLost m n
 all-gone-seen [] m n a h = (chains-same m n (λ i. ap (λ (q : Memory). chain_at q i) h)).alike
 all-gone-seen (e ∷ es) m n a h =
     let first = a.there e.0 e.1 (first-of e es) in
-    seen-then m h.0 n (gone-seen e.1 m h.0 first.0 first.1 h.1) (all-gone-seen es h.0 n (theirs-then e es m h.0 a h.1) h.2)
+    lost-then m h.0 n (gone-seen e.1 m h.0 first.0 first.1 h.1) (all-gone-seen es h.0 n (theirs-then e es m h.0 a h.1) h.2)
 
 -- ---- the sealed writes go
 

@@ -11,17 +11,18 @@ use Rattle.rc_core.specs.Steps.{pin_at}
 use Rattle.rc_memory.specs.declared.counts.Counts.{Counts}
 use Rattle.rc_memory.specs.Memory.{HasChain, HasPin, KeptChain, Memory, chain_at, without_snapshot}
 use Rattle.rc_chain.specs.declared.chains.Snap.{Snap}
+use Rattle.rc_evict.specs.Evictions.{IsRoomMade}
 use Rattle.rc_memtable.specs.LetGo.{AreLetGo, IsFreedUnpinned, IsLetGo, NoCountFell, TakesNoMore}
 use Rattle.rc_memtable.specs.Partitions.{AreAsBefore}
 use Rattle.rc_memtable.specs.laws.NoMore.{counts-same, counts-then, no-more-beside, no-more-then}
 use Rattle.rc_unstored.specs.declared.unstored.Unstored.{Unstored}
 use Rattle.rc_unstored.specs.Readers.{IsReleased, IsTakenIf, taken_back}
-use Rattle.rc_unstored.specs.Steps.{IsNotPut, IsPutBehind, IsPutRefused, IsRoomMade}
+use Rattle.rc_unstored.specs.Steps.{AreObjectsMoved, IsNotPut, IsPutBehind, IsPutRefused}
 use Rattle.rc_unstored.proofs.Chains.{chain-done, some-chain}
 use Rattle.rc_unstored.proofs.Going.{AreTheirs, first-of, theirs-then}
 
-pub made-no-more : (m n : Memory) → IsRoomMade m n → TakesNoMore m n
-made-no-more m n h = record {
+pub moved-no-more : (m n : Memory) → AreObjectsMoved m n → TakesNoMore m n
+moved-no-more m n h = record {
   budget = h.budget;
   live = let live = h.live in omega (arith, live);
   counts = record {
@@ -31,20 +32,23 @@ made-no-more m n h = record {
   };
 }
 
+pub made-no-more : (S : ℕ) (m n : Memory) → IsRoomMade S m n → TakesNoMore m n
+made-no-more S m n h = record { budget = h.budget; live = h.live; counts = record { evicted = h.counted; moved = h.moved; skipped = let same = h.skipped in omega (arith, same) } }
+
 -- ---- a write
 
 pub put-more : {S : ℕ} (schema : SchemaValue) (w : Write) (old new : Unstored S) → IsPutBehind schema w old new → (length new.chains.region.usages ≡ length old.chains.region.usages) × (live_bytes new.chains.region ≤ live_bytes old.chains.region + weight w.change) × NoCountFell old.chains new.chains
-put-more schema w old new h = (
+put-more {S = S} schema w old new h = (
   h.applied.others.region.budget ∙ h.room.budget,
   (let live = h.room.live in let grows = h.applied.grows in omega (arith, live, grows)),
-  counts-then old.chains h.mid new.chains (made-no-more old.chains h.mid h.room).counts (counts-same h.mid new.chains h.applied.others.counts h.applied.others.region.moved),
+  counts-then old.chains h.mid new.chains (made-no-more S old.chains h.mid h.room).counts (counts-same h.mid new.chains h.applied.others.counts h.applied.others.region.moved),
 )
 
 pub not-put-no-more : {S : ℕ} (old new : Unstored S) → IsNotPut old new → TakesNoMore old.chains new.chains
-not-put-no-more old new h = made-no-more old.chains new.chains h.room
+not-put-no-more {S = S} old new h = made-no-more S old.chains new.chains h.room
 
 pub refused-no-more : {S : ℕ} (old new : Unstored S) → IsPutRefused old new → TakesNoMore old.chains new.chains
-refused-no-more old new h = no-more-then old.chains h.mid new.chains (made-no-more old.chains h.mid h.room) (record {
+refused-no-more {S = S} old new h = no-more-then old.chains h.mid new.chains (made-no-more S old.chains h.mid h.room) (record {
   budget = ap (λ (us : List Usage). length us) h.slots.region.usages;
   live = let same : live_bytes new.chains.region ≡ live_bytes h.mid.region = ap live_sum h.slots.region.usages in omega (arith, same);
   counts = counts-same h.mid new.chains (ap (λ (q : Memory). q.counts) h.slots.same) h.slots.region.moved;

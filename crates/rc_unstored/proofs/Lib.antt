@@ -8,3 +8,4 @@ mod Returning
 mod Going
 mod Together
 mod Leaving
+mod Making

@@ -8,7 +8,7 @@ use Rattle.rc_registry.specs.Registry.{AreFree}
 use Rattle.rc_memory.specs.Memory.{KeptChain, Memory, chain_at, on_shown, shown_detached, snapshot_number, with_snapshot, without_snapshot}
 use Rattle.rc_cursor.specs.Snapshots.{kind_in, versions_in, versions_upto}
 use Rattle.rc_memtable.specs.Steps.{IsGrown}
-use Rattle.rc_snapshots.specs.Seeing.{AreSameSnapshots, AllStillSee}
+use Rattle.rc_snapshots.specs.Seeing.{AreSameSnapshots, NothingIsLost}
 use Rattle.rc_unstored.proofs.Chains.{same-or-not}
 
 -- a snapshot of a number is of a chain
@@ -113,14 +113,8 @@ free-in (Some q) n k e free pin on = absurd (unpinned q.chain.pins (subst (λ (o
 
 -- ---- all chains
 
-pub all-seen : (m n : Memory) → ((id : ℕ) → KeptIn (chain_at m id) (chain_at n id)) → AllStillSee m n
+pub all-seen : (m n : Memory) → ((id : ℕ) → KeptIn (chain_at m id) (chain_at n id)) → NothingIsLost m n
 all-seen m n h s on = let x = h s.chain s.pin on in record { pin = x.0; versions = x.1; kind = x.2 }
-
-pub seen-then : (a b c : Memory) → AllStillSee a b → AllStillSee b c → AllStillSee a c
-seen-then a b c f g s on = let x = f s on in let y = g s x.pin in record { pin = y.pin; versions = y.versions ∙ x.versions; kind = y.kind ∙ x.kind }
-
-pub same-then : (a b c : Memory) → AreSameSnapshots a b → AreSameSnapshots b c → AreSameSnapshots a c
-same-then a b c f g = record { alike = seen-then a b c f.alike g.alike; none_more = λ s on. f.none_more s (g.none_more s on) }
 
 -- the chains are as they were
 pub chains-same : (m n : Memory) → ((id : ℕ) → chain_at n id ≡ chain_at m id) → AreSameSnapshots m n

@@ -22,7 +22,7 @@ use Rattle.rc_memtable.specs.Partitions.{AreAsBefore, IsAsBefore}
 use Rattle.rc_memtable.specs.Writes.{HasWrites, chain_of, names}
 use Rattle.rc_unstored.specs.calls.Giving.{given_back}
 use Rattle.rc_unstored.specs.Memtables.{NoneShared}
-use Rattle.rc_snapshots.specs.Seeing.{AreSameSnapshots, AllStillSee, StillSees}
+use Rattle.rc_snapshots.specs.Seeing.{AreSameSnapshots, NothingIsLost, StillSees}
 use Rattle.rc_snapshots.specs.Streams.{SeesChanges}
 use Rattle.rc_unstored.specs.Readers.{IsSnapshotOfKey, IsTakenIf}
 use Rattle.rc_unstored.proofs.Before.{before-of, before-same}
@@ -145,7 +145,7 @@ module _ (m n : Memory) (keys : List (List ℕ × ℕ)) (key : List ℕ) where
   found-sees read None none taken sees schema writes h now = none.1 schema writes h
   found-sees read (Some s) none taken sees schema writes h now = sees-now s taken read sees schema writes h now
 
-  pub found-seen : (found : Option Snap) → IfNone found IsNone → IfSome found IsTaken → AllStillSee m n
+  pub found-seen : (found : Option Snap) → IfNone found IsNone → IfSome found IsTaken → NothingIsLost m n
   found-seen None none taken = (chains-same m n (λ i. ap (λ (q : Memory). chain_at q i) none.0)).alike
   found-seen (Some s) none taken = all-seen m n (each-chain s taken)
 
@@ -170,8 +170,8 @@ module _ (m n : Memory) (keys : List (List ℕ × ℕ)) (key : List ℕ) where
     ok-same = elim r as (λ q. IfOk q (λ f. IfNone f IsNone) → IfOk q (λ f. f ≡ None → n ≡ m)) [ Ok f ↦ λ a. found-same f a | Err e ↦ λ a. tt ] none
 
     module _ (err : OnErr r (n ≡ m)) where
-      pub any-seen : AllStillSee m n
-      any-seen = elim r as (λ q. IfOk q (λ f. IfNone f IsNone) → IfOk q (λ f. IfSome f IsTaken) → OnErr q (n ≡ m) → AllStillSee m n) [
+      pub any-seen : NothingIsLost m n
+      any-seen = elim r as (λ q. IfOk q (λ f. IfNone f IsNone) → IfOk q (λ f. IfSome f IsTaken) → OnErr q (n ≡ m) → NothingIsLost m n) [
         | Ok f ↦ λ a b e. found-seen f a b
         | Err x ↦ λ a b e. (chains-same m n (λ i. ap (λ (q : Memory). chain_at q i) e)).alike
       ] none taken err
@@ -200,12 +200,12 @@ taken-if m n keys key (Some s) taken none = taken.1
 
 -- the first one sees what it saw
 pub key-then : (key : List ℕ) (writes : List Write) (m mid n : Memory) (o : Option Snap) → ((changes : List Mutation) (old new : Memory) (s : Snap) → SeesChanges changes old s → StillSees s old new → SeesChanges changes new s) →
-    AllStillSee mid n → IsSnapshotOfKey key writes m mid o → IsSnapshotOfKey key writes m n o
+    NothingIsLost mid n → IsSnapshotOfKey key writes m mid o → IsSnapshotOfKey key writes m n o
 key-then key writes m mid n None sees a h = h
 key-then key writes m mid n (Some s) sees a h = (h.0, sees (changes_to key writes) mid n s h.1 (a s h.1.pin), h.2)
 
 -- the second one was not there before the first one
-pub key-before : (key : List ℕ) (writes : List Write) (m mid n : Memory) (o : Option Snap) → AllStillSee m mid → IsSnapshotOfKey key writes mid n o → IsSnapshotOfKey key writes m n o
+pub key-before : (key : List ℕ) (writes : List Write) (m mid n : Memory) (o : Option Snap) → NothingIsLost m mid → IsSnapshotOfKey key writes mid n o → IsSnapshotOfKey key writes m n o
 key-before key writes m mid n None a h = h
 key-before key writes m mid n (Some s) a h = (h.0, h.1, λ on. h.2 (a s on).pin)
 

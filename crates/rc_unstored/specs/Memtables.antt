@@ -1,7 +1,7 @@
 -- The writes that stand in no table: those that are sealed for the next one, and the later ones.
 --     HaveWrites      which writes both stand for: which lists is not kept, only what they say
 --     IsFullFor       there is no room for a write, nor can it be made
-use Rattle.std.specs.Prelude.{◌≡◌, ℕ, List, Some}
+use Rattle.std.specs.Prelude.{◌≡◌, ℕ, List, [], Some}
 use Rattle.lsa_move.specs.Room.{Tight}
 use Rattle.lsa_pool.specs.Room.{spare_of}
 use Rattle.rc_schema.specs.SchemaValue.{SchemaValue}
@@ -24,7 +24,8 @@ pub record HaveWrites {S : ℕ} (schema : SchemaValue) (u : Unstored S) (writes 
   pub active : HasWrites schema u.active u.chains later
   pub apart : NoneShared u.sealed u.active
 
--- there is no room for a write, nor can it be made: fewer bytes are spare than it needs, and no closed segment is sparse
+-- there is no room for a write, nor can it be made: fewer bytes are spare than it needs, no closed segment is sparse, and nothing is left that may be evicted
 pub record IsFullFor (S : ℕ) (schema : SchemaValue) (w : Write) (u : Unstored S) : Type 0 where
   pub few : IsRoomFor schema u.active u.chains w (spare_of S u.chains.region.usages) → ⊥
   pub tight : Tight S u.chains.region.usages
+  pub none : u.chains.recency ≡ []

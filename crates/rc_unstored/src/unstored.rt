@@ -11,18 +11,20 @@ ghost use Rattle.rc_writes.specs.Single.{IsSingle};
 ghost use Rattle.rc_mutation.specs.Fragments.{IsParts};
 ghost use Rattle.rc_memory.specs.Memory.{HasPin, IsEmpty, IsSnapshotTaken, Memory};
 ghost use Rattle.rc_chain.specs.declared.chains.Snap.{Snap as Snapshot};
-ghost use Rattle.rc_snapshots.specs.Seeing.{AllStillSee, AreSameSnapshots, AreThere, HasSnap, OthersStillSee, StillSees};
+ghost use Rattle.rc_snapshots.specs.Seeing.{AllStillSee, AreSameSnapshots, AreThere, HasSnap, NothingIsLost, OthersStillSee, StillSees};
 ghost use Rattle.rc_memtable.specs.LetGo.{AreLetGo, TakesNoMore};
 ghost use Rattle.rc_memtable.specs.Partitions.{AreAsBefore};
 ghost use Rattle.rc_memtable.specs.Writes.{AreSmall, HasWrites, chain_of};
 ghost use Rattle.rc_unstored.specs.calls.Giving.{given_back};
 ghost use Rattle.rc_unstored.specs.Memtables.{HaveWrites, IsFullFor, NoneShared};
 ghost use Rattle.rc_unstored.specs.Readers.{IsNoneOf, IsReleased, IsReleasedIf, IsSnapshotOfKey, IsTakenIf};
-ghost use Rattle.rc_unstored.specs.Steps.{AreSameKeys, IsNotPut, IsPutBehind, IsPutRefused, IsRoomMade};
+ghost use Rattle.rc_unstored.specs.Steps.{AreObjectsMoved, AreSameKeys, IsNotPut, IsPutBehind, IsPutRefused};
 
-use lsa_move::{Ensured, a_tight_region_is_nearly_full};
+use lsa_move::a_tight_region_is_nearly_full;
 use rc_chain::{Chains, Snap};
 use rc_cursor::laws::a_snapshot_can_be_read;
+use rc_evict::laws::{evictions_leave_the_use_of_a_chain, evictions_spare_memtables_and_readers};
+use rc_evict::{Room, make_room};
 use rc_memtable::laws::{
     what_is_let_go_takes_no_more, what_leaves_a_memtables_chains_leaves_its_writes,
 };
@@ -82,7 +84,7 @@ impl<const S: usize> Unstored<S> {
         self.sealed.is_empty() && self.active.is_empty()
     }
 
-    /// Puts a write to one place, which fits the schema, behind the later ones, once there is room for it. False where there is none and none can be made: then no write is put, and more than three quarters of all but two segments are live. The only error is want of memory, which leaves the writes as they were.
+    /// Puts a write to one place, which fits the schema, behind the later ones, once there is room for it, for which objects may move and the least recently used ones of caches may be evicted. False where there is none and none can be made: then no write is put, nothing is left that may be evicted, and more than three quarters of all but two segments are live. The only error is want of memory, which leaves the writes as they were.
     pub fn put(&mut self, alloc: Global, schema: &Schema, w: &Write) -> Result<bool, AllocError>
         requires small { AreSmall S schema.now }
         requires single { IsSingle w.now.change }
@@ -97,13 +99,16 @@ impl<const S: usize> Unstored<S> {
         ensures err { OnErr result ((writes later : Sequence Written) → HaveWrites schema.now self.old writes later → HaveWrites schema.now self.new writes later) }
         ensures seen { AllStillSee self.old.chains self.new.chains }
     {
+        evictions_leave_the_use_of_a_chain();
+        evictions_spare_memtables_and_readers();
+        self.chains.known();
         let need = self.active.need(&self.chains, schema, w);
-        match self.chains.ensure(need) {
-            Ensured::Full => {
+        match make_room(&mut self.chains, need) {
+            Room::NoRoom => {
                 a_tight_region_is_nearly_full(self.chains.region(), need);
                 Ok(false)
             }
-            Ensured::Ready => {
+            Room::Room => {
                 self.active.apply(alloc, &mut self.chains, schema, w)?;
                 Ok(true)
             }
@@ -119,7 +124,7 @@ impl<const S: usize> Unstored<S> {
         ensures exact { IfOk result (λ taken. (mid : Memory) × IsTakenIf self.old.chains mid taken.sealed × IsTakenIf mid self.new.chains taken.active) }
         ensures keys { AreSameKeys self.old self.new }
         ensures stands { (schema : SchemaValue) (writes later : Sequence Written) → HaveWrites schema self.old writes later → HaveWrites schema self.new writes later }
-        ensures seen { AllStillSee self.old.chains self.new.chains }
+        ensures seen { NothingIsLost self.old.chains self.new.chains }
         ensures err { OnErr result (AreSameSnapshots self.old.chains self.new.chains) }
         ensures left { OnErr result (AreAsBefore self.old.chains self.new.chains) }
     {
@@ -208,7 +213,7 @@ impl<const S: usize> Unstored<S> {
         ensures let_go { AreLetGo (map (λ e. e.1) self.old.sealed) self.old.chains self.new.chains }
         ensures none { self.new.sealed ≡ [] }
         ensures active { self.new.active ≡ self.old.active }
-        ensures seen { AllStillSee self.old.chains self.new.chains }
+        ensures seen { NothingIsLost self.old.chains self.new.chains }
         ensures room { TakesNoMore self.old.chains self.new.chains }
     {
         what_is_let_go_takes_no_more();
@@ -221,7 +226,7 @@ impl<const S: usize> Unstored<S> {
         ensures tells { result ≡ is_some (sparse_of S self.old.chains.region.usages) }
         ensures same { result ≡ false → self.new ≡ self.old }
         ensures compacted { IfSome (sparse_of S self.old.chains.region.usages) (IsCompacted S self.old.chains.region self.new.chains.region) }
-        ensures room { IsRoomMade self.old.chains self.new.chains }
+        ensures room { AreObjectsMoved self.old.chains self.new.chains }
         ensures keys { AreSameKeys self.old self.new }
         ensures stands { (schema : SchemaValue) (writes later : Sequence Written) → HaveWrites schema self.old writes later → HaveWrites schema self.new writes later }
         ensures seen { AreSameSnapshots self.old.chains self.new.chains }
@@ -244,7 +249,7 @@ fn snapshot_beside<const S: usize>(
     ensures same { IfOk result (λ found. found ≡ None → chains.new ≡ chains.old) }
     ensures stands { (schema : SchemaValue) (writes : Sequence Written) → HasWrites schema memtable.now chains.old writes → HasWrites schema memtable.now chains.new writes }
     ensures beside { NoneShared memtable.now other.now → (schema : SchemaValue) (writes : Sequence Written) → HasWrites schema other.now chains.old writes → HasWrites schema other.now chains.new writes }
-    ensures seen { AllStillSee chains.old chains.new }
+    ensures seen { NothingIsLost chains.old chains.new }
     ensures err { OnErr result (chains.new ≡ chains.old) }
 {
     a_snapshot_can_be_read();

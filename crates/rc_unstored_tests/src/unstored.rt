@@ -50,8 +50,8 @@ fn put(
     unstored.put(alloc, schema, w)
 }
 
-// Puts an inserted row at a key; whether it was put.
-fn put_row(
+/// Puts an inserted row at a key; whether it was put.
+pub fn put_row(
     alloc: Global,
     unstored: &mut Unstored<4096>,
     schema: &Schema,
@@ -110,8 +110,8 @@ fn close_reader(unstored: &mut Unstored<4096>, reader: Snaps)
     unstored.release_both(reader);
 }
 
-// How many rows a table of the sealed writes has, where they are of one partition.
-fn sealed_rows(
+/// How many rows a table of the sealed writes has, where they are of one partition.
+pub fn sealed_rows(
     alloc: Global,
     unstored: &mut Unstored<4096>,
     schema: &Schema,

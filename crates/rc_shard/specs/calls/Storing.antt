@@ -15,7 +15,7 @@ use Rattle.rc_folder.specs.Tabled.{IsAdded}
 use Rattle.rc_shard.specs.declared.shard.Shard.{Shard}
 use Rattle.rc_memtable.specs.LetGo.{TakesNoMore}
 
--- what was written stays under a schema, and so does what snapshots see, in a region of as many segments, in which no more is live
+-- what was written stays under a schema, and so does what memtables' snapshots see, in a region of as many segments, in which no more is live
 pub record IsKept (schema : SchemaValue) (old new : Unstored 131072) : Type 0 where
   pub stands : (writes later : List Write) → HaveWrites schema old writes later → HaveWrites schema new writes later
   pub seen : AllStillSee old.chains new.chains

@@ -8,18 +8,32 @@ use Rattle.rc_core.specs.StandsFor.{StandsFor}
 use Rattle.rc_memory.specs.Memory.{Memory}
 use Rattle.rc_chain.specs.declared.chains.Snap.{Snap}
 use Rattle.rc_cursor.specs.Snapshots.{AreReadable, kind_seen, versions_seen}
-use Rattle.rc_snapshots.specs.Seeing.{AllStillSee, AreSameSnapshots, AreThere, HasSnap, SeesAllOf, StillSees, StillSeeBoth}
+use Rattle.rc_snapshots.specs.Seeing.{AllStillSee, AreSameSnapshots, AreThere, HasSnap, NothingIsLost, SeesAllOf, StillSees, StillSeeBoth}
 use Rattle.rc_snapshots.specs.Streams.{SeesChanges}
 use Rattle.rc_snapshots.specs.declared.snaps.Snaps.{Snaps}
 
-pub seen-then : (old mid new : Memory) → AllStillSee old mid → AllStillSee mid new → AllStillSee old new
-seen-then old mid new f g s on = let a = f s on in let b = g s a.pin in record { pin = b.pin; versions = b.versions ∙ a.versions; kind = b.kind ∙ a.kind }
-
-pub same-then : (old mid new : Memory) → AreSameSnapshots old mid → AreSameSnapshots mid new → AreSameSnapshots old new
-same-then old mid new f g = record { alike = seen-then old mid new f.alike g.alike; none_more = λ s on. f.none_more s (g.none_more s on) }
-
 pub snap-then : (m n : Memory) (s : Snap) → HasSnap m s → StillSees s m n → HasSnap n s
 snap-then m n s h a = record { pin = a.pin; kind = a.kind ∙ h.kind }
+
+-- a snapshot that sees what it saw, and again what it saw then
+one-then : (old mid new : Memory) (s : Snap) → StillSees s old mid → StillSees s mid new → StillSees s old new
+one-then old mid new s a b = record { pin = b.pin; versions = b.versions ∙ a.versions; kind = b.kind ∙ a.kind }
+
+pub lost-then : (old mid new : Memory) → NothingIsLost old mid → NothingIsLost mid new → NothingIsLost old new
+lost-then old mid new f g s on = let a = f s on in one-then old mid new s a (g s a.pin)
+
+pub seen-then : (old mid new : Memory) → AllStillSee old mid → AllStillSee mid new → AllStillSee old new
+seen-then old mid new f g = record {
+  see = λ s h. let a = f.see s h in one-then old mid new s a (g.see s (snap-then old mid s h a));
+  there = λ s on. g.there s (f.there s on);
+}
+
+-- where nothing is lost all see
+pub all-see : (old new : Memory) → NothingIsLost old new → AllStillSee old new
+all-see old new f = record { see = λ s h. f s h.pin; there = λ s on. (f s on).pin }
+
+pub same-then : (old mid new : Memory) → AreSameSnapshots old mid → AreSameSnapshots mid new → AreSameSnapshots old new
+same-then old mid new f g = record { alike = lost-then old mid new f.alike g.alike; none_more = λ s on. f.none_more s (g.none_more s on) }
 
 pub sees-then : (changes : List Mutation) (m n : Memory) (s : Snap) → SeesChanges changes m s → StillSees s m n → SeesChanges changes n s
 sees-then changes m n s h a = record {
@@ -37,7 +51,7 @@ some-then m n (Some s) h a = snap-then m n s h a
 
 some-still : (m n : Memory) (o : Option Snap) → AllStillSee m n → IfSome o (HasSnap m) → IfSome o (λ s. StillSees s m n)
 some-still m n None f h = tt
-some-still m n (Some s) f h = f s h.pin
+some-still m n (Some s) f h = f.see s h
 
 some-seen : (changes : List Mutation) (m : Memory) (o : Option Snap) → SeesAllOf changes m o → IfSome o (HasSnap m)
 some-seen changes m None h = tt

@@ -1,4 +1,4 @@
-use Rattle.std.proofs.Common.{◌≡◌, Some, None, sym, ap, subst, arith}
+use Rattle.std.proofs.Common.{Some, ap, subst, arith}
 use Rattle.rc_memory.specs.Memory.{IsMemberObject}
 use Rattle.rc_evict.proofs.Losing.{end-place, front-has, inner-place, lost-end, lost-inner, lost-static, same-member, static-place}
 use Rattle.rc_evict.proofs.evicting.lose.Goals as goal

@@ -2,7 +2,7 @@ use Rattle.std.proofs.Common.{[], ◌∷◌, ℕ, List, ◌+◌, ◌*◌, ◌/�
 use Rattle.lsa_region.specs.Region.{live_bytes}
 use Rattle.rc_memory.specs.Memory.{Member}
 use Rattle.rc_evict.specs.Evictions.{AreEvicted, versions_together}
-use Rattle.rc_evict.proofs.Rounds.{eviction-budget, eviction-crowds, if-some}
+use Rattle.rc_evict.proofs.Rounds.{eviction-budget, eviction-crowds, eviction-moved, if-some}
 use Rattle.rc_evict.proofs.making.evict_where_full.Goals as goal
 
 pub returns-clause-one : goal.returns-clause-one
@@ -14,3 +14,6 @@ returns-clause-one g c = λ done.
 
 pub returns-clause-budget : goal.returns-clause-budget
 returns-clause-budget g c = eviction-budget c.evict_one.result c.args.chains.now c.evict_one.new.chains c.evict_one.ensures.some c.evict_one.ensures.none
+
+pub returns-clause-moved : goal.returns-clause-moved
+returns-clause-moved g c = eviction-moved c.evict_one.result c.args.chains.now c.evict_one.new.chains c.evict_one.ensures.some c.evict_one.ensures.none

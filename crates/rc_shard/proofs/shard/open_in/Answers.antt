@@ -4,6 +4,7 @@ use Rattle.rc_memory.specs.Memory.{HasPin}
 use Rattle.rc_chain.specs.declared.chains.Snap.{Snap}
 use Rattle.rc_mutation.specs.Source.{changes_to}
 use Rattle.rc_snapshots.specs.declared.snaps.Snaps.{Snaps}
+use Rattle.rc_snapshots.specs.laws.Seeing.{all-see}
 use Rattle.rc_unstored.specs.Readers.{IsNoneOf}
 use Rattle.rc_shard.proofs.Pinned.{pinned-in}
 use Rattle.rc_shard.proofs.Standing.{kept-back, kept-in, none-of-new}
@@ -31,21 +32,21 @@ pub returns-in-Ok-clause-kept : goal.returns-in-Ok-clause-kept
 returns-in-Ok-clause-kept c = λ schema.
     let took = c.in_ok-snaps.ensures.exact in
     kept-in schema c.args.unstored.now c.snapshot.new.self c.open.new.chains c.open.ensures.chains
-    (record { stands = λ writes later h. c.snapshot.ensures.stands schema writes later h; seen = c.snapshot.ensures.seen; room = c.what_a_call_leaves_of_the_room.ensures.taken _ took.0 _ c.in_ok-snaps.snaps.sealed c.in_ok-snaps.snaps.active took.1 took.2 })
+    (record { stands = λ writes later h. c.snapshot.ensures.stands schema writes later h; seen = all-see c.args.unstored.now.chains c.snapshot.new.self.chains c.snapshot.ensures.seen; room = c.what_a_call_leaves_of_the_room.ensures.taken _ took.0 _ c.in_ok-snaps.snaps.sealed c.in_ok-snaps.snaps.active took.1 took.2 })
 
 pub returns-in-Err-clause-kept : goal.returns-in-Err-clause-kept
 returns-in-Err-clause-kept c = λ schema.
     let took = c.in_ok-snaps.ensures.exact in
     let r = c.requires in
     let kept = kept-in schema c.args.unstored.now c.snapshot.new.self c.open.new.chains c.open.ensures.chains
-    (record { stands = λ writes later h. c.snapshot.ensures.stands schema writes later h; seen = c.snapshot.ensures.seen; room = c.what_a_call_leaves_of_the_room.ensures.taken _ took.0 _ c.in_ok-snaps.snaps.sealed c.in_ok-snaps.snaps.active took.1 took.2 }) in
+    (record { stands = λ writes later h. c.snapshot.ensures.stands schema writes later h; seen = all-see c.args.unstored.now.chains c.snapshot.new.self.chains c.snapshot.ensures.seen; room = c.what_a_call_leaves_of_the_room.ensures.taken _ took.0 _ c.in_ok-snaps.snaps.sealed c.in_ok-snaps.snaps.active took.1 took.2 }) in
     let fresh : (s : Snap) → HasPin c.args.unstored.now.chains s.chain s.pin → IsNoneOf c.in-Err.snaps s =
     λ s on. subst (λ (x : Snaps). IsNoneOf x s) (sym c.in-Err.ensures.back) (none-of-new c.args.key.now r.1 r.2 c.args.unstored.now.chains c.snapshot.new.self.chains c.snapshot.new.self.chains c.in_ok-snaps.snaps (c.in_ok-snaps.ensures.sealed r.0 r.1 r.2 r.3) (c.in_ok-snaps.ensures.active r.0 r.1 r.2 r.3) s on) in
     kept-back schema c.args.unstored.now _ c.release_both.new.self c.in-Err.snaps kept fresh (λ writes later h. c.release_both.ensures.stands schema writes later h) c.release_both.ensures.others c.release_both.ensures.room
 
 pub returns-in_err-snaps-clause-kept : goal.returns-in_err-snaps-clause-kept
 returns-in_err-snaps-clause-kept c = λ schema.
-    record { stands = λ writes later h. c.snapshot.ensures.stands schema writes later h; seen = c.snapshot.ensures.seen; room = c.what_a_call_leaves_of_the_room.ensures.before _ _ c.in_err-snaps.ensures.left }
+    record { stands = λ writes later h. c.snapshot.ensures.stands schema writes later h; seen = all-see c.args.unstored.now.chains c.snapshot.new.self.chains c.snapshot.ensures.seen; room = c.what_a_call_leaves_of_the_room.ensures.before _ _ c.in_err-snaps.ensures.left }
 
 pub returns-in-Ok-clause-pins : goal.returns-in-Ok-clause-pins
 returns-in-Ok-clause-pins c =

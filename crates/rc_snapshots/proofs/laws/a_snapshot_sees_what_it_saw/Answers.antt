@@ -1,9 +1,11 @@
-use Rattle.rc_snapshots.specs.laws.Seeing.{both-still, both-there, same-then, sees-then, seen-then, snap-then, there-then}
+use Rattle.rc_snapshots.specs.laws.Seeing.{all-see, both-still, both-there, lost-then, same-then, sees-then, seen-then, snap-then, there-then}
 use Rattle.rc_snapshots.proofs.laws.a_snapshot_sees_what_it_saw.Goals as goal
 
 pub returns : goal.returns
 returns c = record {
   along = seen-then;
+  lossless = lost-then;
+  all = all-see;
   same = same-then;
   there = snap-then;
   sees = sees-then;

@@ -2,13 +2,13 @@
 use Rattle.std.proofs.Common.{◌≡◌, inl, inr, All, List, refl, sym, subst, arith}
 use Rattle.rc_mutation.specs.declared.mutations.Partition.{Partition}
 use Rattle.rc_mutation.specs.Source.{IsMutation}
-use Rattle.rc_snapshots.specs.laws.Seeing.{seen-then}
+use Rattle.rc_snapshots.specs.laws.Seeing.{all-see, lost-then}
 use Rattle.rc_tfile.specs.TableText.{PartsFit}
 use Rattle.rc_folder.specs.Tabled.{IsAdded}
 use Rattle.rc_shard.specs.calls.Storing.{IsKept}
 use Rattle.rc_shard.proofs.Flushing.{no-file, parts-of-sealed}
 use Rattle.rc_memtable.specs.laws.NoMore.{counts-then, no-more-then}
-use Rattle.rc_shard.proofs.Standing.{if-ok-weaker, on-err}
+use Rattle.rc_shard.proofs.Standing.{if-ok-weaker, on-err, room-kept}
 use Rattle.rc_shard.proofs.shard.Shard.write_sealed.Goals as goal
 
 pub add-requires-clause-fit : goal.add-requires-clause-fit
@@ -35,25 +35,28 @@ returns-in-Ok-clause-written g c = inl (
     of_writes = λ schema writes later h. c.in_ok-parts.ensures.parts schema writes later h;
     added = subst (λ (parts : List Partition). IsAdded (g.W.Store.files c.args.store.now) c.args.self.now.folder c.args.number parts (g.W.Store.files c.add.new.store) c.add.new.self) c.as_slice.ensures.value c.in-Ok.ensures.added;
     gone = λ schema writes later h. c.drop_sealed.ensures.gone schema writes later (c.sealed_partitions.ensures.stands schema writes later h);
-    seen = seen-then c.args.self.now.unstored.chains c.sealed_partitions.new.self.chains c.drop_sealed.new.self.chains c.sealed_partitions.ensures.seen.alike c.drop_sealed.ensures.seen;
+    seen = all-see c.args.self.now.unstored.chains c.drop_sealed.new.self.chains (lost-then c.args.self.now.unstored.chains c.sealed_partitions.new.self.chains c.drop_sealed.new.self.chains c.sealed_partitions.ensures.seen.alike c.drop_sealed.ensures.seen);
     room = no-more-then c.args.self.now.unstored.chains c.sealed_partitions.new.self.chains c.drop_sealed.new.self.chains (c.what_a_call_leaves_of_the_room.ensures.before _ _ c.sealed_partitions.ensures.left) c.drop_sealed.ensures.room;
   },
 )
 
 pub returns-in_err-parts-clause-err : goal.returns-in_err-parts-clause-err
 returns-in_err-parts-clause-err g c =
-    let kept : IsKept c.args.self.now.folder.schema c.args.self.now.unstored c.sealed_partitions.new.self = record { stands = λ writes later h. c.sealed_partitions.ensures.stands c.args.self.now.folder.schema writes later h; seen = c.sealed_partitions.ensures.seen.alike; room = c.what_a_call_leaves_of_the_room.ensures.before _ _ c.sealed_partitions.ensures.left } in
+    let kept : IsKept c.args.self.now.folder.schema c.args.self.now.unstored c.sealed_partitions.new.self =
+    room-kept c.args.self.now.folder.schema c.args.self.now.unstored c.sealed_partitions.new.self (λ writes later h. c.sealed_partitions.ensures.stands c.args.self.now.folder.schema writes later h) c.sealed_partitions.ensures.seen (c.what_a_call_leaves_of_the_room.ensures.before _ _ c.sealed_partitions.ensures.left) in
     let left : (c.args.self.now.folder ≡ c.args.self.now.folder) × IsKept c.args.self.now.folder.schema c.args.self.now.unstored c.sealed_partitions.new.self × (g.W.Store.files c.args.store.now ≡ g.W.Store.files c.args.store.now) = (refl, kept, refl) in
     on-err _ _ left
 
 pub returns-clause-written : goal.returns-clause-written
 returns-clause-written g c =
-    let kept : IsKept c.args.self.now.folder.schema c.args.self.now.unstored c.sealed_partitions.new.self = record { stands = λ writes later h. c.sealed_partitions.ensures.stands c.args.self.now.folder.schema writes later h; seen = c.sealed_partitions.ensures.seen.alike; room = c.what_a_call_leaves_of_the_room.ensures.before _ _ c.sealed_partitions.ensures.left } in
+    let kept : IsKept c.args.self.now.folder.schema c.args.self.now.unstored c.sealed_partitions.new.self =
+    room-kept c.args.self.now.folder.schema c.args.self.now.unstored c.sealed_partitions.new.self (λ writes later h. c.sealed_partitions.ensures.stands c.args.self.now.folder.schema writes later h) c.sealed_partitions.ensures.seen (c.what_a_call_leaves_of_the_room.ensures.before _ _ c.sealed_partitions.ensures.left) in
     if-ok-weaker c.not_written.result _ _ (λ reply is. inr (is.1, c.in-Err.ensures.refused.0, kept, c.in-Err.ensures.refused.1)) c.not_written.ensures
 
 pub returns-clause-err : goal.returns-clause-err
 returns-clause-err g c =
-    let kept : IsKept c.args.self.now.folder.schema c.args.self.now.unstored c.sealed_partitions.new.self = record { stands = λ writes later h. c.sealed_partitions.ensures.stands c.args.self.now.folder.schema writes later h; seen = c.sealed_partitions.ensures.seen.alike; room = c.what_a_call_leaves_of_the_room.ensures.before _ _ c.sealed_partitions.ensures.left } in
+    let kept : IsKept c.args.self.now.folder.schema c.args.self.now.unstored c.sealed_partitions.new.self =
+    room-kept c.args.self.now.folder.schema c.args.self.now.unstored c.sealed_partitions.new.self (λ writes later h. c.sealed_partitions.ensures.stands c.args.self.now.folder.schema writes later h) c.sealed_partitions.ensures.seen (c.what_a_call_leaves_of_the_room.ensures.before _ _ c.sealed_partitions.ensures.left) in
     let left : (c.add.new.self ≡ c.args.self.now.folder) × IsKept c.args.self.now.folder.schema c.args.self.now.unstored c.sealed_partitions.new.self × (g.W.Store.files c.add.new.store ≡ g.W.Store.files c.args.store.now) = (c.in-Err.ensures.refused.0, kept, c.in-Err.ensures.refused.1) in
     on-err _ _ left
 

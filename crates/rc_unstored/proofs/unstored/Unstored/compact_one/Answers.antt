@@ -1,7 +1,7 @@
 use Rattle.std.proofs.Common.{◌∙◌, ap, arith}
 use Rattle.lsa_store.specs.Stock.{sparse_of}
 use Rattle.lsa_region.specs.Region.{View}
-use Rattle.rc_unstored.proofs.Applying.{moved-more, room-made}
+use Rattle.rc_unstored.proofs.Applying.{moved-more, objects-moved}
 use Rattle.rc_unstored.proofs.Chains.{chain-same}
 use Rattle.rc_unstored.proofs.Keeping.{both-moved, same-keys}
 use Rattle.rc_unstored.proofs.Pins.{chains-same}
@@ -17,5 +17,5 @@ pub returns-clause-keys : goal.returns-clause-keys
 returns-clause-keys g c = same-keys c.args.self.now c.compact_one.new.self
 
 pub returns-clause-room : goal.returns-clause-room
-returns-clause-room g c = room-made c.args.self.now.chains c.compact_one.new.self c.compact_one.ensures.renamed c.compact_one.ensures.untouched
+returns-clause-room g c = objects-moved c.args.self.now.chains c.compact_one.new.self c.compact_one.ensures.renamed c.compact_one.ensures.untouched
     (moved-more g.row.S c.args.self.now.chains c.compact_one.new.self (sparse_of g.row.S c.args.self.now.chains.region.usages) c.compact_one.result (let most = c.moved-moved.type_inv in let is = c.moved-moved.ensures ∙ ap (λ (v : View). v.moved) c.region.ensures in omega (arith, most, is)) c.compact_one.ensures.compacted c.compact_one.ensures.tells c.compact_one.ensures.same)

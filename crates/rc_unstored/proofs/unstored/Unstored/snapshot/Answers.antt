@@ -1,10 +1,10 @@
 use Rattle.std.proofs.Common.{sym, ap, ◌∙◌, subst, arith}
 use Rattle.rc_memtable.specs.Partitions.{AreAsBefore}
 use Rattle.rc_snapshots.specs.Seeing.{AreSameSnapshots}
+use Rattle.rc_snapshots.specs.laws.Seeing.{lost-then}
 use Rattle.rc_unstored.specs.calls.Giving.{given_back}
 use Rattle.rc_unstored.proofs.Before.{before-of}
 use Rattle.rc_unstored.proofs.Keeping.{flipped, on-err, same-keys}
-use Rattle.rc_unstored.proofs.Pins.{seen-then}
 use Rattle.rc_unstored.proofs.Taking.{back-as-before, back-same, key-before, key-then, taken-if, two-chains}
 use Rattle.rc_unstored.proofs.unstored.Unstored.snapshot.Goals as goal
 
@@ -31,7 +31,7 @@ returns-in-Ok-clause-stands g c schema writes later h = record {
 }
 
 pub returns-in-Ok-clause-seen : goal.returns-in-Ok-clause-seen
-returns-in-Ok-clause-seen g c = seen-then c.args.self.now.chains c.snapshot_beside.new.chains c.snapshot_beside-2.new.chains c.in_ok-sealed.ensures.seen c.in-Ok.ensures.seen
+returns-in-Ok-clause-seen g c = lost-then c.args.self.now.chains c.snapshot_beside.new.chains c.snapshot_beside-2.new.chains c.in_ok-sealed.ensures.seen c.in-Ok.ensures.seen
 
 pub returns-in-Err-clause-stands : goal.returns-in-Err-clause-stands
 returns-in-Err-clause-stands g c schema writes later h = record {
