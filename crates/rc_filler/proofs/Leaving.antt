@@ -1,5 +1,5 @@
 -- What a fill leaves of all chains: of those of memtables, of those that are read, and of all others but the one that is filled.
-use Rattle.std.proofs.Common.{◌≡◌, ◌≢◌, ◌≤◌, ◌<◌, ℕ, suc, List, [], Option, Some, None, IsSome, length, inl, inr, refl, sym, ap, ◌∙◌, subst, arith}
+use Rattle.std.proofs.Common.{◌⊎◌, ◌∷◌, ◌≡◌, ◌≢◌, ◌≤◌, ◌<◌, ℕ, suc, List, [], Option, Some, None, IsSome, length, inl, inr, refl, sym, ap, ◌∙◌, subst, arith}
 use Rattle.std.specs.Prelude.{Contains, IsSomeAnd}
 use Rattle.std.specs.Option.{option_map}
 use Rattle.std.proofs.lemmas.List.{append-nil}
@@ -12,7 +12,9 @@ use Rattle.rc_core.specs.Continuity.{IsSameOrLost}
 use Rattle.rc_core.specs.Steps.{IsChain, pin_at}
 use Rattle.rc_core.specs.Version.{Version}
 use Rattle.rc_core.specs.laws.Pins.{pin-is-pinned}
-use Rattle.rc_partition.specs.laws.Lists.{elem-none, once-none}
+use Rattle.rc_partition.specs.laws.Lists.{elem-cases, elem-first, elem-later, elem-none, once-none}
+use Rattle.rc_registry.specs.Registry.{IsNumberIn}
+use Rattle.rc_registry.specs.laws.Numbers.{IsOneOf-back, IsOneOf-front}
 use Rattle.rc_memory.specs.Memory.{HasPin, KeptChain, Member, Memory, chain_at, on_chain, on_shown}
 use Rattle.rc_memory.specs.Recency.{IsRecency}
 use Rattle.rc_memory.specs.laws.Places.{same_some}
@@ -34,6 +36,26 @@ same_use k = record { kind = refl; attached = refl; updating = refl; pins = refl
 use_then : (k l m : KeptChain) → IsUsedAsBefore k l → IsUsedAsBefore l m → IsUsedAsBefore k m
 use_then k l m a b = record { kind = b.kind ∙ a.kind; attached = b.attached ∙ a.attached; updating = b.updating ∙ a.updating; pins = b.pins ∙ a.pins; passed = b.passed ∙ a.passed; phases = b.phases ∙ a.phases }
 
+-- ---- numbers of a list
+
+number-decided : (xs : List ℕ) (i : ℕ) → IsNumberIn xs i ⊎ (IsNumberIn xs i → ⊥)
+number-decided [] i = inr (λ h. h)
+number-decided (x ∷ xs) i = elim (decided x i) [
+  | inl here ↦ inl (inl here)
+  | inr ne ↦ elim (number-decided xs i) [ inl later ↦ inl (inr later) | inr none ↦ inr (λ h. elim h [ inl here ↦ ne here | inr later ↦ none later ]) ]
+]
+
+number-contained : (xs : List ℕ) (i : ℕ) → IsNumberIn xs i → Contains xs i
+number-contained [] i h = absurd h
+number-contained (x ∷ xs) i (inl here) = subst (Contains (x ∷ xs)) here (elem-first x xs)
+number-contained (x ∷ xs) i (inr later) = elem-later x i xs (number-contained xs i later)
+
+contained-number : (xs : List ℕ) (i : ℕ) → Contains xs i → IsNumberIn xs i
+contained-number [] i h = absurd (elem-none i h)
+contained-number (x ∷ xs) i h = elim (elem-cases x i xs h) [ inl same ↦ inl same | inr later ↦ inr (contained-number xs i later) ]
+
+-- ---- once room was made
+
 -- what was done once room was made: one chain was filled at most
 record IsAfterRoom (id : ℕ) (mid n : Memory) : Type 0 where
   others : (i : ℕ) → i ≢ id → chain_at n i ≡ chain_at mid i
@@ -41,6 +63,7 @@ record IsAfterRoom (id : ℕ) (mid n : Memory) : Type 0 where
   gone : chain_at mid id ≡ None → chain_at n id ≡ None
   memtable : (i : ℕ) (k : KeptChain) → chain_at mid i ≡ Some k → k.chain.kind ≡ Memtable → chain_at n i ≡ Some k
   listed : ComeOf id mid.recency n.recency
+  dropped : n.dropped ≡ mid.dropped
   budget : length n.region.usages ≡ length mid.region.usages
   evicted : AreCountsInRange mid.counts → mid.counts.evicted ≤ n.counts.evicted
   skipped : AreCountsInRange mid.counts → mid.counts.skipped ≤ n.counts.skipped
@@ -79,7 +102,7 @@ module _ (others : (id : ℕ) (f : Version → Version) (old new : Memory) (i : 
     (older : (f : Version → Version) (c : Shown) (i : ℕ) → suc i < length c.versions → upto (on_newest_of f c).versions i ≡ upto c.versions i) where
   module _ (id : ℕ) where
     after_none : (m : Memory) → IsAfterRoom id m m
-    after_none m = record { others = λ i ne. refl; here = λ k e. (k, e, same_use k, λ j l. refl); gone = λ e. e; memtable = λ i k e is. e; listed = λ x on. inl on; budget = refl; evicted = λ r. omega arith; skipped = λ r. omega arith }
+    after_none m = record { others = λ i ne. refl; here = λ k e. (k, e, same_use k, λ j l. refl); gone = λ e. e; memtable = λ i k e is. e; listed = λ x on. inl on; dropped = refl; budget = refl; evicted = λ r. omega arith; skipped = λ r. omega arith }
 
     after_skip : (mid n : Memory) → IsSkipCounted mid n → IsAfterRoom id mid n
     after_skip mid n skip = subst (IsAfterRoom id mid) (sym skip) (record {
@@ -88,6 +111,7 @@ module _ (others : (id : ℕ) (f : Version → Version) (old new : Memory) (i : 
       gone = λ e. e;
       memtable = λ i k e is. e;
       listed = λ x on. inl on;
+      dropped = refl;
       budget = refl;
       evicted = λ r. raised-low 0 mid.counts.evicted r.evicted;
       skipped = λ r. raised-low 1 mid.counts.skipped r.skipped;
@@ -109,6 +133,7 @@ module _ (others : (id : ℕ) (f : Version → Version) (old new : Memory) (i : 
         | inr ne ↦ others id (filled_with q) mid n i f.filled.chains ne ∙ e
       ];
       listed = f.listed;
+      dropped = f.filled.dropped;
       budget = f.filled.region.budget;
       evicted = λ r. subst (λ x. mid.counts.evicted ≤ x) (sym (ap (λ c. c.evicted) f.filled.counts)) (raised-low 0 mid.counts.evicted r.evicted);
       skipped = λ r. subst (λ x. mid.counts.skipped ≤ x) (sym (ap (λ c. c.skipped) f.filled.counts)) (raised-low 0 mid.counts.skipped r.skipped);
@@ -133,16 +158,35 @@ module _ (others : (id : ℕ) (f : Version → Version) (old new : Memory) (i : 
       phases = laws.phases i p.room.went k;
     }
 
-    -- a chain that is read is there, and used as before
+    -- a chain that did not go is there, and used as before
+    stays_used : (i : ℕ) (k : KeptChain) → chain_at p.mid i ≡ Some (evicted_of i p.room.went k) → (now : KeptChain) × (chain_at n i ≡ Some now) × IsUsedAsBefore k now
+    stays_used i k there = elim (decided i id) [
+      | inl same ↦
+          let w = p.after.here (evicted_of i p.room.went k) (sym (ap (chain_at p.mid) same) ∙ there) in
+          (w.0, ap (chain_at n) same ∙ w.1, use_then k (evicted_of i p.room.went k) w.0 (evicted_use i k) w.2)
+      | inr ne ↦ (evicted_of i p.room.went k, p.after.others i ne ∙ there, evicted_use i k)
+    ]
+
     pub done-pinned : (i j : ℕ) (k : KeptChain) → chain_at m i ≡ Some k → IsPinned k.chain.pins j → (now : KeptChain) × (chain_at n i ≡ Some now) × IsUsedAsBefore k now
-    done-pinned i j k e on =
-        let there : chain_at p.mid i ≡ Some (evicted_of i p.room.went k) = room-chain laws S m p.mid p.room i j k e on in
-        elim (decided i id) [
-          | inl same ↦
-              let w = p.after.here (evicted_of i p.room.went k) (sym (ap (chain_at p.mid) same) ∙ there) in
-              (w.0, ap (chain_at n) same ∙ w.1, use_then k (evicted_of i p.room.went k) w.0 (evicted_use i k) w.2)
-          | inr ne ↦ (evicted_of i p.room.went k, p.after.others i ne ∙ there, evicted_use i k)
-        ]
+    done-pinned i j k e on = stays_used i k (room-chain laws S m p.mid p.room i j k e on)
+
+    -- a chain is there and used as before, or it is gone and its number is to be told
+    pub done-told : (i : ℕ) (k : KeptChain) → chain_at m i ≡ Some k → ((now : KeptChain) × (chain_at n i ≡ Some now) × IsUsedAsBefore k now) ⊎ ((chain_at n i ≡ None) × IsNumberIn n.dropped i)
+    done-told i k e = elim (number-decided p.room.gone i) [
+      | inl on ↦
+          let none : chain_at p.mid i ≡ None = p.room.evicted.absent i (number-contained p.room.gone i on) in
+          inr (
+            elim (decided i id) [
+              | inl same ↦ ap (chain_at n) same ∙ p.after.gone (sym (ap (chain_at p.mid) same) ∙ none)
+              | inr ne ↦ p.after.others i ne ∙ none
+            ],
+            subst (λ l. IsNumberIn l i) (sym p.after.dropped) (subst (λ l. IsNumberIn l i) (sym p.room.evicted.dropped) (IsOneOf-back m.dropped p.room.gone i on)),
+          )
+      | inr off ↦ inl (stays_used i k (p.room.evicted.chains i (λ on. off (contained-number p.room.gone i on)) ∙ ap (option_map (evicted_of i p.room.went)) e))
+    ]
+
+    pub done-still : (i : ℕ) → IsNumberIn m.dropped i → IsNumberIn n.dropped i
+    done-still i on = subst (λ l. IsNumberIn l i) (sym p.after.dropped) (subst (λ l. IsNumberIn l i) (sym p.room.evicted.dropped) (IsOneOf-front m.dropped p.room.gone i on))
 
     pub done-pins : (i q : ℕ) → HasPin m i q → HasPin n i q
     done-pins i q h =

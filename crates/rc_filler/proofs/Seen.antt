@@ -3,15 +3,19 @@ use Rattle.std.proofs.Common.{◌≡◌, ℕ, List, Option, Some, None, IsSome, 
 use Rattle.std.specs.Prelude.{◌↔◌, Bool, IsSomeAnd, IsTrue}
 use Rattle.rc_cell.specs.declared.rows.Row.{Row}
 use Rattle.rc_cell.specs.declared.writes.Tomb.{Tomb}
+use Rattle.rc_cell.specs.Orders.{tomb_cmp}
+use Rattle.rc_cell.specs.Winner.{greatest}
+use Rattle.rc_mutation.specs.declared.fragments.HeadAt.{HeadAt}
+use Rattle.rc_chain.specs.declared.chains.Snap.{Snap}
 use Rattle.rc_position.specs.declared.positions.Pos.{Pos}
 use Rattle.rc_position.specs.Position.{Head, Place}
 use Rattle.rc_mutation.specs.declared.mutations.Mutation.{Mutation}
-use Rattle.rc_mutation.specs.Source.{source_at, source_at_static}
+use Rattle.rc_mutation.specs.Source.{source_at, source_at_head, source_at_static}
 use Rattle.rc_core.specs.declared.entries.ChainKind.{ChainKind}
 use Rattle.rc_core.specs.declared.entries.ChainKind.TheVariants.{Cache}
 use Rattle.rc_core.specs.Chain.{IsKnown, content, flagged, states_at}
 use Rattle.rc_core.specs.Chains.{IsChainContinuous, IsPinned, Shown, at_place, phase_at, upto}
-use Rattle.rc_core.specs.Continuity.{IsContinuous, static_states}
+use Rattle.rc_core.specs.Continuity.{IsContinuous, static_states, version_tombs}
 use Rattle.rc_core.specs.Steps.{IsChain, MayPopulate, pin_at}
 use Rattle.rc_core.specs.Version.{On, Version}
 use Rattle.rc_core.specs.laws.Pins.{pin-is-pinned}
@@ -20,7 +24,7 @@ use Rattle.rc_populate.specs.Filling.{MayFill}
 use Rattle.rc_populate.specs.laws.Filled.{may-fill}
 use Rattle.rc_populate.specs.laws.Opening.{some-and}
 use Rattle.rc_stream.specs.Snapshot.{There}
-use Rattle.rc_cursor.specs.Snapshots.{IsKnownAs, kind_in, versions_in, versions_upto}
+use Rattle.rc_cursor.specs.Snapshots.{AreReadable, IsHeadOf, IsHeadSeen, IsKnownAs, IsReadable, kind_in, versions_in, versions_upto}
 use Rattle.rc_filler.specs.declared.fillers.CacheFiller.{CacheFiller}
 use Rattle.rc_filler.specs.Stands.{HasCacheSnapshot, StandsForWrites}
 use Rattle.rc_filler.specs.Fillers.{FillerKnows, FillerKnowsStatics}
@@ -72,6 +76,9 @@ module _ (law : (below : ℕ → List Mutation) (p : Place) (c : Shown) (j : ℕ
   pub content-there : (x : Pos) → IsKnown Cache (upto s.snapshot.chain.chain.versions s.snapshot.number) x → content (states_at (On x) (upto s.snapshot.chain.chain.versions s.snapshot.number)) ≡ source_at writes x
   content-there x k = source.clustered x tt k.at ∙ s.source.clustered x
 
+  pub head-there : greatest tomb_cmp (version_tombs (upto s.snapshot.chain.chain.versions s.snapshot.number)) ≡ source_at_head writes
+  head-there = source.head tt ∙ s.source.head
+
   pub statics-there : IsTrue (flagged Cache (static_states (upto s.snapshot.chain.chain.versions s.snapshot.number))) → (content (static_states (upto s.snapshot.chain.chain.versions s.snapshot.number))).0 ≡ source_at_static writes
   statics-there f = ap (λ (a : Row × Option Tomb). a.0) (source.statics tt f) ∙ s.source.statics
 
@@ -84,6 +91,22 @@ module _ (law : (below : ℕ → List Mutation) (p : Place) (c : Shown) (j : ℕ
       let known = of-seen m f.chain f.pin s.snapshot (λ kind vs. IsTrue (flagged kind (static_states vs))) k.0 in
       let is = of-seen m f.chain f.pin s.snapshot (λ kind vs. (content (static_states vs)).0 ≡ row) k.1 in
       sym (statics-there law S m f.chain f.pin writes s known) ∙ is
+
+-- ---- how it is read
+
+module _ (law : (below : ℕ → List Mutation) (p : Place) (c : Shown) (j : ℕ) → IsChain (at_place p c) → IsChainContinuous below (at_place p c) → IsPinned c.pins j → IsContinuous None (below (phase_at c.versions j)) (upto c.versions j)) (S : ℕ) (m : Memory) (t : Snap) (writes : List Mutation) (s : StandsForWrites S m t.chain t.pin writes) where
+  pub stands-readable : ((below : ℕ → List Mutation) (p : Place) (c : Shown) (j : ℕ) → c.kind ≡ Cache → IsChain (at_place p c) → IsChainContinuous below (at_place p c) → IsPinned c.pins j → AreReadable c.kind (upto c.versions j)) → HasPin m t.chain t.pin × IsReadable m t
+  stands-readable readable =
+      let k = s.snapshot.chain.chain in
+      let seen = readable s.below s.place k s.snapshot.number s.snapshot.cached s.form s.continuous (pins-there m t.chain t.pin s.snapshot) in
+      (has-pin m t.chain t.pin s.snapshot, as-seen m t.chain t.pin s.snapshot AreReadable (subst (λ kind. AreReadable kind (upto k.versions s.snapshot.number)) s.snapshot.cached seen))
+
+  pub stands-head : (h : HeadAt) → IsHeadSeen m t h → (h.head.pt ≡ source_at_head writes) × (IsTrue h.known → h.head.statics ≡ source_at_static writes)
+  stands-head h seen =
+      let is = of-seen m t.chain t.pin s.snapshot (λ kind vs. IsHeadOf kind vs h) seen in (
+        is.pt ∙ head-there law S m t.chain t.pin writes s,
+        λ known. is.statics ∙ statics-there law S m t.chain t.pin writes s (sym is.known ∙ known),
+      )
 
 -- ---- whether a snapshot may be filled
 

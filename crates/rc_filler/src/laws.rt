@@ -1,7 +1,8 @@
 //! The laws of fills, each the contract of a function that does nothing.
-ghost use Rattle.std.specs.Prelude.{◌≡◌, ◌≢◌, ◌<◌, ◌≤◌, ◌^◌, ℕ, suc, true, All, IsTrue, List, None, Some, length};
+ghost use Rattle.std.specs.Prelude.{◌≡◌, ◌≢◌, ◌⊎◌, ◌<◌, ◌≤◌, ◌^◌, ℕ, suc, true, All, IsTrue, List, None, Some, length};
 ghost use Rattle.rc_cell.specs.declared.rows.Row.{Row};
 ghost use Rattle.rc_position.specs.declared.positions.Pos.{Pos};
+ghost use Rattle.rc_mutation.specs.declared.fragments.HeadAt.{HeadAt};
 ghost use Rattle.rc_mutation.specs.declared.mutations.Mutation.{Mutation};
 ghost use Rattle.rc_position.specs.Position.{Place};
 ghost use Rattle.rc_schema.specs.SchemaValue.{SchemaValue, is_schema};
@@ -11,6 +12,7 @@ ghost use Rattle.rc_core.specs.declared.entries.ChainKind.TheVariants.{Cache, Me
 ghost use Rattle.rc_core.specs.Chains.{IsChainContinuous, IsPinned, at_place, phase_at, upto};
 ghost use Rattle.rc_core.specs.Continuity.{EachOf, IsSameOrLost};
 ghost use Rattle.rc_core.specs.Steps.{IsChain, pin_at};
+ghost use Rattle.rc_registry.specs.Registry.{IsNumberIn};
 ghost use Rattle.rc_memory.specs.Memory.{HasPin, IsSnapshotTaken, KeptChain, Memory, chain_at, snapshot_number};
 ghost use Rattle.rc_memory.specs.Kept.{IsSoundChain};
 ghost use Rattle.rc_memtable.specs.Writes.{AreSmall};
@@ -18,7 +20,7 @@ ghost use Rattle.rc_memory.specs.Recency.{IsRecency};
 ghost use Rattle.rc_chain.specs.declared.chains.Snap.{Snap as Snapshot};
 ghost use Rattle.rc_evict.specs.Evictions.{IsPlaceUnlisted};
 ghost use Rattle.rc_populate.specs.Filling.{IsEntryOpened, MayFill, given};
-ghost use Rattle.rc_cursor.specs.Snapshots.{kind_seen, versions_seen};
+ghost use Rattle.rc_cursor.specs.Snapshots.{IsHeadSeen, IsReadable, kind_seen, versions_seen};
 ghost use Rattle.rc_stream.specs.declared.fillers.Fill.{Fill};
 ghost use Rattle.rc_stream.specs.Snapshot.{Answers, SayThere, There, Unlost};
 ghost use Rattle.rc_filler.specs.declared.fillers.CacheFiller.{CacheFiller};
@@ -28,6 +30,7 @@ ghost use Rattle.rc_filler.specs.Fills.{IsCacheFill, IsFillDone, HasMadeRoom, Is
 ghost use Rattle.rc_filler.specs.calls.Coming.{AreCountsInRange, CameOf, KnowsPortion};
 
 use rc_chain::laws::{one_more_snapshot_keeps_what_is_said, what_a_snapshot_knows_is_the_source};
+use rc_cursor::laws::a_snapshot_can_be_read;
 use rc_evict::laws::{
     evictions_keep_the_whole_chain, evictions_leave_the_use_of_a_chain,
     evictions_spare_memtables_and_readers, what_was_evicted_is_seen_as_before_or_lost,
@@ -50,12 +53,15 @@ pub fn room_leaves_a_snapshot()
     what_was_evicted_is_seen_as_before_or_lost();
 }
 
-/// A snapshot that stands for writes knows what they say: at each position, and of the static row.
+/// A snapshot that stands for writes is there, and can be read by its parts; what it knows is what they say, at each position, at the head and of the static row.
 pub fn a_snapshot_knows_the_writes_it_stands_for()
+    ensures readable { (S : ℕ) (m : Memory) (s : Snapshot) (writes : List Mutation) → StandsForWrites S m s.chain s.pin writes → HasPin m s.chain s.pin × IsReadable m s }
+    ensures head { (S : ℕ) (m : Memory) (s : Snapshot) (writes : List Mutation) → StandsForWrites S m s.chain s.pin writes → (h : HeadAt) → IsHeadSeen m s h → (h.head.pt ≡ source_at_head writes) × (IsTrue h.known → h.head.statics ≡ source_at_static writes) }
     ensures statics { (S : ℕ) (m : Memory) (f : CacheFiller) (writes : List Mutation) → StandsForWrites S m f.chain f.pin writes → (row : Row) → FillerKnowsStatics m f row → source_at_static writes ≡ row }
     ensures known { (S : ℕ) (m : Memory) (f : CacheFiller) (writes : List Mutation) → StandsForWrites S m f.chain f.pin writes → (x : Pos) (v : There) → FillerKnows m f x v → SayThere writes x v }
 {
     what_a_snapshot_knows_is_the_source();
+    a_snapshot_can_be_read();
 }
 
 /// What came of a fill, by its answer.
@@ -82,12 +88,14 @@ pub(crate) fn what_came_of_a_fill()
     what_the_source_says_may_be_filled();
 }
 
-/// A fill touches no memtable's chain, so what a snapshot of one sees is as it was. Each chain that a snapshot pins is there still, with all its snapshots and versions of the same phases; and no chain comes to be.
+/// A fill touches no memtable's chain, so what a snapshot of one sees is as it was. Each chain that a snapshot pins is there still, with all its snapshots and versions of the same phases; so is each other chain, or it is gone and its number is to be told. No chain comes to be, and numbers that were to be told still are.
 pub fn a_fill_spares_memtables_and_readers()
     ensures memtable { (S : ℕ) (f g : CacheFiller) (m n : Memory) (id : ℕ) (k : KeptChain) → IsRecency m → IsCacheFill S f m g n → chain_at m id ≡ Some k → k.chain.kind ≡ Memtable → chain_at n id ≡ Some k }
     ensures sees { (S : ℕ) (f g : CacheFiller) (m n : Memory) (s : Snapshot) → IsRecency m → IsCacheFill S f m g n → HasPin m s.chain s.pin → kind_seen m s ≡ Memtable → (versions_seen n s ≡ versions_seen m s) × (kind_seen n s ≡ kind_seen m s) }
     ensures pins { (S : ℕ) (f g : CacheFiller) (m n : Memory) (id pin : ℕ) → IsCacheFill S f m g n → HasPin m id pin → HasPin n id pin }
     ensures pinned { (S : ℕ) (f g : CacheFiller) (m n : Memory) (id j : ℕ) (k : KeptChain) → IsCacheFill S f m g n → chain_at m id ≡ Some k → IsPinned k.chain.pins j → (now : KeptChain) × (chain_at n id ≡ Some now) × IsUsedAsBefore k now }
+    ensures told { (S : ℕ) (f g : CacheFiller) (m n : Memory) (id : ℕ) (k : KeptChain) → IsCacheFill S f m g n → chain_at m id ≡ Some k → ((now : KeptChain) × (chain_at n id ≡ Some now) × IsUsedAsBefore k now) ⊎ ((chain_at n id ≡ None) × IsNumberIn n.dropped id) }
+    ensures still { (S : ℕ) (f g : CacheFiller) (m n : Memory) (id : ℕ) → IsCacheFill S f m g n → IsNumberIn m.dropped id → IsNumberIn n.dropped id }
     ensures absent { (S : ℕ) (f g : CacheFiller) (m n : Memory) (id : ℕ) → IsCacheFill S f m g n → chain_at m id ≡ None → chain_at n id ≡ None }
 {
     evictions_keep_the_whole_chain();

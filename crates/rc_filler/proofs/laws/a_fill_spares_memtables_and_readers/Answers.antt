@@ -1,5 +1,5 @@
 use Rattle.rc_filler.proofs.Evicting.{EvictionLaws}
-use Rattle.rc_filler.proofs.Leaving.{done-absent, done-memtable, done-pinned, done-pins, done-sees}
+use Rattle.rc_filler.proofs.Leaving.{done-absent, done-memtable, done-pinned, done-pins, done-sees, done-still, done-told}
 use Rattle.rc_filler.proofs.laws.a_fill_spares_memtables_and_readers.Goals as goal
 
 pub returns : goal.returns
@@ -24,5 +24,7 @@ returns c =
       sees = λ S f g m n s rule did pin is. done-sees fill.others fill.here fill.older laws S f.chain f.pin m n did.done c.evictions_spare_memtables_and_readers.ensures.memtable rule s pin is;
       pins = λ S f g m n id pin did h. done-pins fill.others fill.here fill.older laws S f.chain f.pin m n did.done id pin h;
       pinned = λ S f g m n id j k did e on. done-pinned fill.others fill.here fill.older laws S f.chain f.pin m n did.done id j k e on;
+      told = λ S f g m n id k did e. done-told fill.others fill.here fill.older laws S f.chain f.pin m n did.done id k e;
+      still = λ S f g m n id did on. done-still fill.others fill.here fill.older laws S f.chain f.pin m n did.done id on;
       absent = λ S f g m n id did none. done-absent fill.others fill.here fill.older laws S f.chain f.pin m n did.done c.evictions_spare_memtables_and_readers.ensures.absent id none;
     }
