@@ -1,0 +1,13 @@
+mod Entries
+mod OfSchema
+mod FromSource
+mod Seen
+mod Evicting
+mod Listed
+mod Filling
+mod Counted
+mod Coming
+mod Ready
+mod Leaving
+mod Continued
+mod Beginning

@@ -1,0 +1,4 @@
+pub mod Stands
+pub mod Fillers
+pub mod Fills
+pub mod calls

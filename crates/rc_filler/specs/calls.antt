@@ -1,0 +1,2 @@
+-- What inner functions promise each other.
+pub mod Coming
