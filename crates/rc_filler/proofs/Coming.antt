@@ -84,7 +84,6 @@ module _ (there : (S : ℕ) (old new : Memory) (id pin : ℕ) → IsRoomMade S o
     (may : (S : ℕ) (old new : Memory) (id pin : ℕ) → IsRoomMade S old new → MayFill old id pin → MayFill new id pin)
     (stands : (S : ℕ) (old new : Memory) (id pin : ℕ) (writes : List Mutation) → IsRecency old → IsRoomMade S old new → StandsForWrites S old id pin writes → StandsForWrites S new id pin writes)
     (laws : FillLaws) where
-
   -- ---- what stays
 
   filled-may : (q : Portion) (id pin : ℕ) (mid n : Memory) → IsPortionFilled q id pin mid n → MayFill mid id pin → MayFill n id pin
@@ -112,7 +111,6 @@ module _ (there : (S : ℕ) (old new : Memory) (id pin : ℕ) → IsRoomMade S o
 
   module _ (source : (below : ℕ → List Mutation) (p : Place) (c : Shown) (j : ℕ) → IsChain (at_place p c) → IsChainContinuous below (at_place p c) → IsPinned c.pins j → IsContinuous None (below (phase_at c.versions j)) (upto c.versions j))
       (none : (gone : List ℕ) (old new : Memory) (id : ℕ) → AreEvicted [] gone old new → chain_at new id ≡ chain_at old id) where
-
     module _ (S : ℕ) (f : CacheFiller) (mid n : Memory) (writes : List Mutation) (s : StandsForWrites S mid f.chain f.pin writes) where
       -- what is known then is what the writes say
       known_there : (q : Portion) → SayPortion writes q → IsPortionFilled q f.chain f.pin mid n → (x : Pos) (v : There) → source_at writes x ≡ v → IsKnown Cache (upto (on_newest (filled_with q) s.snapshot.chain.chain.versions) s.snapshot.number) x → FillerKnows n f x v
@@ -127,8 +125,7 @@ module _ (there : (S : ℕ) (old new : Memory) (id pin : ℕ) → IsRoomMade S o
       knows_portion (OfStatics row) said filled =
           let q = OfStatics row in
           let after = filled-there laws q f.chain f.pin mid n filled s.snapshot in
-          let known = filled-known laws q f.chain f.pin mid n filled S writes s said in
-          (
+          let known = filled-known laws q f.chain f.pin mid n filled S writes s said in (
             as-seen n f.chain f.pin after (λ kind vs. IsTrue (flagged kind (static_states vs))) known,
             as-seen n f.chain f.pin after (λ kind vs. (content (static_states vs)).0 ≡ row) (filled-statics laws q f.chain f.pin mid n filled S writes s said source known ∙ said),
           )

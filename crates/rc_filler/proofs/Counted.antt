@@ -69,12 +69,12 @@ module _ (S : ℕ) (m mid : Memory) (range : AreCountsInRange m.counts) (room : 
       by : (went : List Member) → room.went ≡ went → room.went ≡ []
       by [] is = is
       by (w ∷ ws) is = (
-        let up = raised.up in
-        let same = raised.same in
-        let low_there : m.counts.evicted < most_counted = omega (arith, low, up) in
-        let more = raised.some w ws is low_there in
-        absurd (omega (arith, more, same, e))
-      )
+          let up = raised.up in
+          let same = raised.same in
+          let low_there : m.counts.evicted < most_counted = omega (arith, low, up) in
+          let more = raised.some w ws is low_there in
+          absurd (omega (arith, more, same, e))
+          )
 
   -- a skipped fill is counted
   pub skip-losses : (n : Memory) → IsSkipCounted mid n → (losses m < losses n) ⊎ (most_counted ≤ losses n)

@@ -49,9 +49,9 @@ module _ (schema : SchemaValue) where
     rows-there [] h = tt
     rows-there (e ∷ es) h = elim (eq_by_cmp pos_cmp (row_pos key) (row_pos e.0)) as
         (λ b. eq_by_cmp pos_cmp (row_pos key) (row_pos e.0) ≡ b → AllByRecursion (IsRowOf schema key) (map (λ (q : List Comp × Row). q.1) (cond b (e ∷ filter (λ q. eq_by_cmp pos_cmp (row_pos key) (row_pos q.0)) es) (filter (λ q. eq_by_cmp pos_cmp (row_pos key) (row_pos q.0)) es)))) [
-      | true ↦ λ q. (at-key e (pos_cmp_same (row_pos key) (row_pos e.0) (is-tied (pos_cmp (row_pos key) (row_pos e.0)) q)) h.0, rows-there es h.1)
-      | false ↦ λ q. rows-there es h.1
-    ] refl
+          | true ↦ λ q. (at-key e (pos_cmp_same (row_pos key) (row_pos e.0) (is-tied (pos_cmp (row_pos key) (row_pos e.0)) q)) h.0, rows-there es h.1)
+          | false ↦ λ q. rows-there es h.1
+        ] refl
 
     joined-of : (rows : List Row) → AllByRecursion (IsRowOf schema key) rows → joined_row rows ≢ empty_row → IsRowOf schema key (joined_row rows)
     joined-of [] h some = absurd (some joined_row-none)
@@ -61,8 +61,7 @@ module _ (schema : SchemaValue) where
     pub row-of : (key : List Comp) (row : Row) (tomb : Option Tomb) → source_at writes (row_pos key) ≡ (row, tomb) → row ≢ empty_row → IsRowOf schema key row × IsRow row
     row-of key row tomb said some =
         let rows = rows_in (row_pos key) (all_rows writes) in
-        let is : joined_row rows ≡ row = ap (λ (a : Row × Option Tomb). a.0) said in
-        (
+        let is : joined_row rows ≡ row = ap (λ (a : Row × Option Tomb). a.0) said in (
           subst (IsRowOf schema key) is (joined-of key rows (rows-there key (all_rows writes) (rows-fit writes (by-recursion (ChangeFits schema) writes fit))) (λ e. some (sym is ∙ e))),
           subst IsRow is (IsRow-joined_row rows),
         )

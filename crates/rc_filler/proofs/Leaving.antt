@@ -78,7 +78,6 @@ no-room S m = record {
 module _ (others : (id : ℕ) (f : Version → Version) (old new : Memory) (i : ℕ) → new.chains ≡ on_chain id (on_shown (on_newest_of f)) old.chains → i ≢ id → chain_at new i ≡ chain_at old i)
     (here : (id : ℕ) (f : Version → Version) (old new : Memory) (k : KeptChain) → new.chains ≡ on_chain id (on_shown (on_newest_of f)) old.chains → chain_at old id ≡ Some k → chain_at new id ≡ Some (on_shown (on_newest_of f) k))
     (older : (f : Version → Version) (c : Shown) (i : ℕ) → suc i < length c.versions → upto (on_newest_of f c).versions i ≡ upto c.versions i) where
-
   module _ (id : ℕ) where
     after_none : (m : Memory) → IsAfterRoom id m m
     after_none m = record { others = λ i ne. refl; here = λ k e. (k, e, same_use k, λ j l. refl); gone = λ e. e; memtable = λ i k e is. e; listed = λ x on. inl on; budget = refl; evicted = λ r. omega arith; skipped = λ r. omega arith }

@@ -47,7 +47,7 @@ pub of-snapshot : (m : Memory) (id pin : ℕ) (h : HasCacheSnapshot m id pin) (P
 of-snapshot m id pin h P all k j v e at number =
     subst (λ (q : KeptChain). (i : ℕ) (w : Version) → pin_at q.chain.pins pin ≡ Some i → IsVersionAt q.chain.versions i w → P q i w) (same_some h.chain k (sym h.there ∙ e))
     (λ i w there is. (let same : h.number ≡ i = same-number h.number i (sym h.pinned ∙ there) in
-        subst (λ x. P h.chain x w) same (all w (subst (λ x. IsVersionAt h.chain.chain.versions x w) (sym same) is))))
+    subst (λ x. P h.chain x w) same (all w (subst (λ x. IsVersionAt h.chain.chain.versions x w) (sym same) is))))
     j v at number
 
 -- no dummy at a position of a version is larger than an eighth of a segment

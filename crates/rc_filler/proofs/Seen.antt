@@ -3,15 +3,17 @@ use Rattle.std.proofs.Common.{◌≡◌, ℕ, List, Option, Some, None, IsSome, 
 use Rattle.std.specs.Prelude.{◌↔◌, Bool, IsSomeAnd, IsTrue}
 use Rattle.rc_cell.specs.declared.rows.Row.{Row}
 use Rattle.rc_cell.specs.declared.writes.Tomb.{Tomb}
+use Rattle.rc_cell.specs.Orders.{tomb_cmp}
+use Rattle.rc_cell.specs.Winner.{greatest}
 use Rattle.rc_position.specs.declared.positions.Pos.{Pos}
 use Rattle.rc_position.specs.Position.{Head, Place}
 use Rattle.rc_mutation.specs.declared.mutations.Mutation.{Mutation}
-use Rattle.rc_mutation.specs.Source.{source_at, source_at_static}
+use Rattle.rc_mutation.specs.Source.{source_at, source_at_head, source_at_static}
 use Rattle.rc_core.specs.declared.entries.ChainKind.{ChainKind}
 use Rattle.rc_core.specs.declared.entries.ChainKind.TheVariants.{Cache}
 use Rattle.rc_core.specs.Chain.{IsKnown, content, flagged, states_at}
 use Rattle.rc_core.specs.Chains.{IsChainContinuous, IsPinned, Shown, at_place, phase_at, upto}
-use Rattle.rc_core.specs.Continuity.{IsContinuous, static_states}
+use Rattle.rc_core.specs.Continuity.{IsContinuous, static_states, version_tombs}
 use Rattle.rc_core.specs.Steps.{IsChain, MayPopulate, pin_at}
 use Rattle.rc_core.specs.Version.{On, Version}
 use Rattle.rc_core.specs.laws.Pins.{pin-is-pinned}
@@ -20,7 +22,7 @@ use Rattle.rc_populate.specs.Filling.{MayFill}
 use Rattle.rc_populate.specs.laws.Filled.{may-fill}
 use Rattle.rc_populate.specs.laws.Opening.{some-and}
 use Rattle.rc_stream.specs.Snapshot.{There}
-use Rattle.rc_cursor.specs.Snapshots.{IsKnownAs, kind_in, versions_in, versions_upto}
+use Rattle.rc_cursor.specs.Snapshots.{AreReadable, IsKnownAs, kind_in, versions_in, versions_upto}
 use Rattle.rc_filler.specs.declared.fillers.CacheFiller.{CacheFiller}
 use Rattle.rc_filler.specs.Stands.{HasCacheSnapshot, StandsForWrites}
 use Rattle.rc_filler.specs.Fillers.{FillerKnows, FillerKnowsStatics, kind_filled, versions_filled}
@@ -79,6 +81,22 @@ module _ (law : (below : ℕ → List Mutation) (p : Place) (c : Shown) (j : ℕ
   pub knows-said : (S : ℕ) (m : Memory) (f : CacheFiller) (writes : List Mutation) → StandsForWrites S m f.chain f.pin writes → (x : Pos) (v : There) → FillerKnows m f x v → source_at writes x ≡ v
   knows-said S m f writes s x v k = said-there law S m f.chain f.pin writes s x v (of-seen m f.chain f.pin s.snapshot (λ kind vs. IsKnownAs kind vs x v) k)
 
+  pub statics-said : (S : ℕ) (m : Memory) (f : CacheFiller) (writes : List Mutation) → StandsForWrites S m f.chain f.pin writes → (row : Row) → FillerKnowsStatics m f row → source_at_static writes ≡ row
+  statics-said S m f writes s row k =
+      sym (statics-there law S m f.chain f.pin writes s (of-seen m f.chain f.pin s.snapshot (λ kind vs. IsTrue (flagged kind (static_states vs))) k.0))
+      ∙ of-seen m f.chain f.pin s.snapshot (λ kind vs. (content (static_states vs)).0 ≡ row) k.1
+
+  pub head-said : (S : ℕ) (m : Memory) (f : CacheFiller) (writes : List Mutation) → StandsForWrites S m f.chain f.pin writes → greatest tomb_cmp (version_tombs (versions_filled m f)) ≡ source_at_head writes
+  head-said S m f writes s = as-seen m f.chain f.pin s.snapshot (λ kind vs. greatest tomb_cmp (version_tombs vs) ≡ source_at_head writes) ((source law S m f.chain f.pin writes s).head tt ∙ s.source.head)
+
+-- and it can be read
+pub read-there : ((below : ℕ → List Mutation) (p : Place) (c : Shown) (j : ℕ) → c.kind ≡ Cache → IsChain (at_place p c) → IsChainContinuous below (at_place p c) → IsPinned c.pins j → AreReadable c.kind (upto c.versions j)) →
+    (S : ℕ) (m : Memory) (f : CacheFiller) (writes : List Mutation) → StandsForWrites S m f.chain f.pin writes → HasPin m f.chain f.pin × AreReadable (kind_filled m f) (versions_filled m f)
+read-there law S m f writes s = let k = s.snapshot in (
+  has-pin m f.chain f.pin k,
+  as-seen m f.chain f.pin k (λ kind vs. AreReadable kind vs) (subst (λ kind. AreReadable kind (upto k.chain.chain.versions k.number)) k.cached (law s.below s.place k.chain.chain k.number k.cached s.form s.continuous (pins-there m f.chain f.pin k))),
+)
+
 -- ---- whether a snapshot may be filled
 
 -- a snapshot that is there, its chain and the number of its version
@@ -94,8 +112,7 @@ pin-there m id pin h =
 pub may-told : (m : Memory) (id pin : ℕ) (b : Bool) → HasPin m id pin → ((k : KeptChain) (j : ℕ) → chain_at m id ≡ Some k → pin_at k.chain.pins pin ≡ Some j → IsTrue b ↔ MayPopulate (at_place Head k.chain) j) → IsTrue b ↔ MayFill m id pin
 may-told m id pin b h told =
     let w = pin-there m id pin h in
-    let both = told w.0 w.1 w.2 w.3 in
-    (
+    let both = told w.0 w.1 w.2 w.3 in (
       λ t. may-fill m id pin w.1 w.0 w.2 w.3 (both.0 t),
       λ may. both.1 (subst (λ (o : Option ℕ). IsSomeAnd o (MayPopulate (at_place Head w.0.chain))) w.3
           (subst (λ (o : Option KeptChain). IsSomeAnd o (λ k. IsSomeAnd (pin_at k.chain.pins pin) (MayPopulate (at_place Head k.chain)))) w.2 may)),

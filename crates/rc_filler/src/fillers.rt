@@ -76,7 +76,11 @@ impl<const S: usize> Filler<Chains<S>> for CacheFiller {
         home.known();
         let snap = self.snap();
         let fill = take_gap(home, &snap, from, to, tomb);
-        let Snap { chain: _, pin: _, phase: _ } = snap;
+        let Snap {
+            chain: _,
+            pin: _,
+            phase: _,
+        } = snap;
         fill
     }
 
@@ -86,7 +90,11 @@ impl<const S: usize> Filler<Chains<S>> for CacheFiller {
         home.known();
         let snap = self.snap();
         let fill = take_row(home, &snap, key, row, tomb);
-        let Snap { chain: _, pin: _, phase: _ } = snap;
+        let Snap {
+            chain: _,
+            pin: _,
+            phase: _,
+        } = snap;
         fill
     }
 
@@ -96,7 +104,11 @@ impl<const S: usize> Filler<Chains<S>> for CacheFiller {
         home.known();
         let snap = self.snap();
         let fill = take_statics(home, &snap, row);
-        let Snap { chain: _, pin: _, phase: _ } = snap;
+        let Snap {
+            chain: _,
+            pin: _,
+            phase: _,
+        } = snap;
         fill
     }
 }

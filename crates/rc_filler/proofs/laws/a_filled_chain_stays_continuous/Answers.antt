@@ -20,4 +20,4 @@ returns c =
     } in
     let fill = c.a_fill_changes_the_newest_version_alone.ensures in
     λ S below f g m n p k now j rule did e there pinned ch off on stands.
-        done-continuous laws fill.older fill.here c.what_a_snapshot_knows_is_the_source.ensures.continuous S below p f.chain f.pin m n rule k now j e there pinned ch off on stands did.done
+    done-continuous laws fill.older fill.here c.what_a_snapshot_knows_is_the_source.ensures.continuous S below p f.chain f.pin m n rule k now j e there pinned ch off on stands did.done

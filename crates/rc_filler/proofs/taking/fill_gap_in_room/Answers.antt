@@ -19,6 +19,6 @@ returns g c =
         mid,
         room,
         gap-filled mid c.fill_gap.new.chains id pin (law.there S m mid id pin room c.requires.snapshot) (law.may S m mid id pin room c.requires.may) c.known.ensures.sound
-        c.args.from.now c.args.to.now c.args.tomb c.requires.order c.fill_gap.ensures.filled c.fill_gap.ensures.listed,
+            c.args.from.now c.args.to.now c.args.tomb c.requires.order c.fill_gap.ensures.filled c.fill_gap.ensures.listed,
       ),
     )

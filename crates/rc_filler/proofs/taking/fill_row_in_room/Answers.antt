@@ -28,8 +28,7 @@ fill_row-requires g c =
     let said = c.requires.source.2 in
     let some = c.requires.written in
     let need = c.row_need-need.ensures.value in
-    let spare = made.1 in
-    (
+    let spare = made.1 in (
       omega arith,
       (
         law.may S m mid id pin made.0 c.requires.may,
@@ -63,6 +62,6 @@ returns g c =
         mid,
         room,
         row-filled mid c.fill_row.new.chains id pin (law.there S m mid id pin room c.requires.source.1.snapshot) (law.may S m mid id pin room c.requires.may) c.known-2.ensures.sound
-        c.args.key.now c.args.row.now c.args.tomb c.requires.written c.fill_row.ensures.filled c.fill_row.ensures.listed,
+            c.args.key.now c.args.row.now c.args.tomb c.requires.written c.fill_row.ensures.filled c.fill_row.ensures.listed,
       ),
     )

@@ -19,8 +19,7 @@ fill_static-requires g c =
     let row = c.args.row.now in
     let said = c.requires.source.2 in
     let need = c.static_need-need.ensures.value in
-    let spare = made.1 in
-    (
+    let spare = made.1 in (
       omega arith,
       (
         law.may S m mid id pin made.0 c.requires.may,
