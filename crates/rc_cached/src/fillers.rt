@@ -4,7 +4,7 @@ ghost use Rattle.std.specs.Prelude.{◌≡◌, ◌<◌, ◌^◌};
 use rc_cell::{Row, Tomb};
 use rc_chain::{Chains, Snap};
 use rc_filler::CacheFiller;
-use rc_filler::laws::a_fill_takes_no_segment;
+use rc_filler::laws::{a_fill_keeps_the_static_row_known, a_fill_takes_no_segment};
 use rc_position::{Key, Pos};
 use rc_stream::{Fill, Filler};
 
@@ -68,6 +68,7 @@ impl<const S: usize> Filler<Chains<S>> for StreamFiller {
 
     fn gap(&mut self, home: &mut Chains<S>, from: &Pos, to: &Pos, tomb: Option<Tomb>) -> Fill {
         a_fill_takes_no_segment();
+        a_fill_keeps_the_static_row_known();
         home.known();
         counts_in_range(home);
         self.filler.gap(home, from, to, tomb)
@@ -75,6 +76,7 @@ impl<const S: usize> Filler<Chains<S>> for StreamFiller {
 
     fn row(&mut self, home: &mut Chains<S>, key: &Key, row: &Row, tomb: Option<Tomb>) -> Fill {
         a_fill_takes_no_segment();
+        a_fill_keeps_the_static_row_known();
         home.known();
         counts_in_range(home);
         self.filler.row(home, key, row, tomb)
@@ -82,6 +84,7 @@ impl<const S: usize> Filler<Chains<S>> for StreamFiller {
 
     fn statics(&mut self, home: &mut Chains<S>, row: &Row) -> Fill {
         a_fill_takes_no_segment();
+        a_fill_keeps_the_static_row_known();
         home.known();
         counts_in_range(home);
         self.filler.statics(home, row)

@@ -1,28 +1,56 @@
 //! The laws of the streams of the row cache, each the contract of a function that does nothing.
-ghost use Rattle.std.specs.Prelude.{◌≡◌, ◌≤◌, ℕ, Bool, IsSome};
+ghost use Rattle.std.specs.Prelude.{◌≡◌, ◌≤◌, [], ◌∷◌, ℕ, Bool, IsSome, List};
 ghost use Rattle.rc_outside.specs.Files.{HoldsSameFiles};
 ghost use Rattle.rc_position.specs.declared.positions.Pos.{Pos};
+ghost use Rattle.rc_mutation.specs.declared.mutations.Mutation.{Mutation};
+ghost use Rattle.rc_mutation.specs.Fragments.{fragments};
+ghost use Rattle.rc_mutation.specs.Source.{IsMutation, SameSource};
 ghost use Rattle.rc_memory.specs.Memory.{Memory};
 ghost use Rattle.rc_chain.specs.declared.chains.Snap.{Snap as Snapshot};
 ghost use Rattle.rc_populate.specs.Filling.{MayFill};
 ghost use Rattle.rc_stream.specs.Did.{Call, Spends};
 ghost use Rattle.rc_stream.specs.Snapshot.{NoneLost, There};
-ghost use Rattle.rc_tables.specs.Streams.{asks_left};
+ghost use Rattle.rc_stream.specs.Stream.{stream_of};
+ghost use Rattle.rc_tables.specs.Streams.{Lazy, asks_left};
 ghost use Rattle.rc_cursor.specs.Snapshots.{IsHeadSeen, Knows};
 ghost use Rattle.rc_cacheread.specs.Did.{IsFilledFor, IsKnownFor};
 ghost use Rattle.rc_cacheread.specs.Spots.{stand};
-ghost use Rattle.rc_filler.specs.Fillers.{losses};
+ghost use Rattle.rc_filler.specs.Fillers.{IsFillerReady, losses};
+ghost use Rattle.rc_filler.specs.Stands.{StandsForWrites};
 ghost use Rattle.rc_cached.specs.Leaving.{LeavesChains};
-ghost use Rattle.rc_cached.specs.Streams.{IsNewCached, IsOfCached, OfCache};
+ghost use Rattle.rc_cached.specs.Streams.{IsNewCached, IsOfCached, OfCache, TablesSay, filler_for};
 
 use crate::fillers::StreamFiller;
 use crate::tables::TablesBelow;
 use rc_cacheread::CacheReader;
 use rc_chain::Chains;
 use rc_cursor::SnapshotReader;
-use rc_filler::laws::{a_fill_spares_memtables_and_readers, a_fill_takes_no_segment};
+use rc_filler::laws::{
+    a_fill_keeps_the_static_row_known, a_fill_spares_memtables_and_readers,
+    a_fill_takes_no_segment, a_snapshot_knows_the_writes_it_stands_for,
+};
+use rc_mutation::laws::{a_join_says_what_the_writes_say, the_source_determines_the_mutation};
 use rc_outside::Store;
+use rc_snapshots::laws::a_mutations_stream_reads_it;
 use rc_stream::Frags;
+use rc_writes::laws::what_says_the_same_fits;
+
+/// Where a snapshot can be filled and stands for writes, and tables that were not read yet say of their key what these say, a new stream of it is ready, and stands for the stream of each mutation that says the same.
+pub fn a_cached_stream_says_what_the_tables_say<const S: usize, W: Store>()
+    ensures ready { (s : Snapshot) (tables : Lazy) (r : OfCache) (m : Memory) (w : W) (writes : List Mutation) → IsNewCached s tables r → IsFillerReady S (filler_for s).filler m → StandsForWrites S m s.chain s.pin writes → TablesSay (W.files w) tables writes →
+        ⟦<CacheReader<SnapshotReader, TablesBelow, StreamFiller> as Frags<Chains<S>, W>>⟧.ready r m w }
+    ensures seen { (s : Snapshot) (tables : Lazy) (r : OfCache) (m : Memory) (w : W) (writes : List Mutation) → IsNewCached s tables r → IsFillerReady S (filler_for s).filler m → StandsForWrites S m s.chain s.pin writes → TablesSay (W.files w) tables writes →
+        (said : Mutation) → IsMutation said → SameSource (said ∷ []) writes →
+        ⟦<CacheReader<SnapshotReader, TablesBelow, StreamFiller> as Frags<Chains<S>, W>>⟧.seen r m w (stream_of (fragments said)) }
+    ensures made { (s : Snapshot) (tables : Lazy) (r : OfCache) → IsNewCached s tables r → IsOfCached s r }
+{
+    a_snapshot_knows_the_writes_it_stands_for();
+    a_fill_keeps_the_static_row_known();
+    a_join_says_what_the_writes_say();
+    the_source_determines_the_mutation();
+    what_says_the_same_fits();
+    a_mutations_stream_reads_it();
+}
 
 /// The calls of a cached stream leave the memtables' snapshots, which see what they saw, each snapshot that was there, with its chain, and the files; it is still the stream of its snapshot.
 pub fn a_cached_stream_leaves_what_others_see<const S: usize, W: Store>()
