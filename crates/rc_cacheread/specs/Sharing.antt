@@ -1,12 +1,13 @@
 -- How the parts of a reader go together over a home and a store: what each leaves to the others.
 --     Fits       a stream below is in order, from the place on
 --     Leads      what all streams say that may stand below is what writes say
+--     IsFillerOf    a filler is that of a snapshot, over whichever home
 --     Fit        the calls of all parts may be made, and what is known is what all writes say for which the filler stands
 --     Shares     a call of one part leaves the others as they need to be
 --     IsReaderOf, StaysReader    the writes that a reader reads; it is afterwards a reader of those of which it was one
 --     IsReady    all that a reader needs
 --     SeesOf, Sees    it stands for a stream of these writes; it stands for a stream
-use Rattle.std.specs.Prelude.{◌≡◌, ◌⊎◌, ◌≤◌, ℕ, Bool, true, false, IsTrue, List, ◌++◌, Option, None}
+use Rattle.std.specs.Prelude.{◌≡◌, ◌↔◌, ◌⊎◌, ◌≤◌, ℕ, Bool, true, false, IsTrue, List, ◌++◌, Option, None}
 use Rattle.rc_cell.specs.declared.rows.Row.{Row}
 use Rattle.rc_cell.specs.declared.writes.Tomb.{Tomb}
 use Rattle.rc_position.specs.declared.positions.Pos.{Pos}
@@ -14,7 +15,7 @@ use Rattle.rc_position.specs.Position.{IsBefore}
 use Rattle.rc_mutation.specs.declared.fragments.Frag.{Frag}
 use Rattle.rc_mutation.specs.declared.fragments.HeadAt.{HeadAt}
 use Rattle.rc_mutation.specs.declared.mutations.Mutation.{Mutation}
-use Rattle.rc_mutation.specs.Source.{source_at_static}
+use Rattle.rc_mutation.specs.Source.{source_at_head, source_at_static}
 use Rattle.rc_stream.specs.Did.{Call}
 use Rattle.rc_stream.specs.Merging.{IsOrdered}
 use Rattle.rc_stream.specs.Places.{Reaches}
@@ -70,11 +71,19 @@ of_filler a b c d e f g h = record { ready = a; fits = b; may = c; lost = d; sta
 
 -- ---- what one part leaves to the others
 
--- the calls of all parts may be made; what is known is what all writes say for which the filler stands; the filler knows what the snapshot knows
+-- the filler is that of this snapshot, over whichever home: it knows what the snapshot knows, the static row too; where it is ready and stands for writes the snapshot can be read, and where it stands for writes their partition tombstone is at the head
+pub record IsFillerOf {K P H : Type 0} (kn : OfKnown K H) (fi : OfFiller P H) (k : K) (p : P) : Type 0 where
+  pub reads : (g : H) (writes : List Mutation) → fi.ready p g → fi.stands p g writes → kn.ready k g
+  pub same : (g : H) → SameKnown (fi.knows p g) (kn.knows k g)
+  pub same_statics : (g : H) (row : Row) (at : HeadAt) → kn.heads k g at → fi.knows_statics p g row ↔ (IsTrue at.known × (at.head.statics ≡ row))
+  pub pts : (g : H) (writes : List Mutation) → fi.stands p g writes → (at : HeadAt) → kn.heads k g at → at.head.pt ≡ source_at_head writes
+
+-- the calls of all parts may be made; the filler is the snapshot's; what is known is what all writes say for which the filler stands; the filler knows what the snapshot knows
 pub record Fit {K F P H W : Type 0} (kn : OfKnown K H) (be : OfBelow F H W) (fi : OfFiller P H) (k : K) (b : F) (p : P) (h : H) (w : W) : Type 0 where
   pub known : kn.ready k h
   pub below : be.ready b h w
   pub filler : fi.ready p h
+  pub pair : IsFillerOf kn fi k p
   pub sound : (writes : List Mutation) → fi.stands p h writes → (x : Pos) (v : There) → kn.knows k h x v → SayThere writes x v
   pub sound_statics : (writes : List Mutation) → fi.stands p h writes → (at : HeadAt) → kn.heads k h at → IsTrue at.known → source_at_static writes ≡ at.head.statics
   pub same : SameKnown (fi.knows p h) (kn.knows k h)

@@ -24,7 +24,8 @@ use Rattle.rc_cursor.specs.Snapshots.{IsKnownAs, kind_in, versions_in}
 use Rattle.rc_filler.specs.declared.fillers.CacheFiller.{CacheFiller}
 use Rattle.rc_filler.specs.Stands.{HasCacheSnapshot, StandsForWrites}
 use Rattle.rc_filler.specs.Fillers.{FillerKnows, losses}
-use Rattle.rc_filler.specs.Fills.{IsFillDone, IsPortionFilled, HasMadeRoom, IsSkipCounted, IsUnfit, OfGap, OfRow, OfStatics, Portion, SayPortion, filled_with}
+use Rattle.rc_filler.specs.Fills.{IsFillDone, IsPortionFilled, IsSkipCounted, IsUnfit, OfGap, OfRow, OfStatics, Portion, SayPortion, filled_with}
+use Rattle.rc_evict.specs.Evictions.{IsRoomMade}
 use Rattle.rc_filler.specs.calls.Coming.{AreCountsInRange, CameOf, KnowsPortion}
 use Rattle.rc_filler.proofs.Continued.{newest-length}
 use Rattle.rc_filler.proofs.Counted.{filled-losses, room-none, room-range, skip-losses}
@@ -76,9 +77,9 @@ skipped-stands S id pin writes mid n skip s = subst (λ x. StandsForWrites S x i
   rows = s.rows;
 })
 
-module _ (there : (S : ℕ) (old new : Memory) (id pin : ℕ) → HasMadeRoom S old new → HasCacheSnapshot old id pin → HasCacheSnapshot new id pin)
-    (may : (S : ℕ) (old new : Memory) (id pin : ℕ) → HasMadeRoom S old new → MayFill old id pin → MayFill new id pin)
-    (stands : (S : ℕ) (old new : Memory) (id pin : ℕ) (writes : List Mutation) → IsRecency old → HasMadeRoom S old new → StandsForWrites S old id pin writes → StandsForWrites S new id pin writes)
+module _ (there : (S : ℕ) (old new : Memory) (id pin : ℕ) → IsRoomMade S old new → HasCacheSnapshot old id pin → HasCacheSnapshot new id pin)
+    (may : (S : ℕ) (old new : Memory) (id pin : ℕ) → IsRoomMade S old new → MayFill old id pin → MayFill new id pin)
+    (stands : (S : ℕ) (old new : Memory) (id pin : ℕ) (writes : List Mutation) → IsRecency old → IsRoomMade S old new → StandsForWrites S old id pin writes → StandsForWrites S new id pin writes)
     (laws : FillLaws) where
   -- ---- what stays
 
@@ -131,7 +132,7 @@ module _ (there : (S : ℕ) (old new : Memory) (id pin : ℕ) → HasMadeRoom S 
           let was = of-seen mid f.chain f.pin s.snapshot (λ kind vs. IsKnownAs kind vs x v) k in
           known_there q said filled x v (knows-said source S mid f writes s x v k) (filled-kept laws q f.chain f.pin mid n filled S writes s said x was.known)
 
-    skipped_not : (S : ℕ) (m mid n : Memory) (P : Type 0) → AreCountsInRange m.counts → HasMadeRoom S m mid → IsSkipCounted mid n → NoneLost (losses m) (losses n) → P
+    skipped_not : (S : ℕ) (m mid n : Memory) (P : Type 0) → AreCountsInRange m.counts → IsRoomMade S m mid → IsSkipCounted mid n → NoneLost (losses m) (losses n) → P
     skipped_not S m mid n P range room skip lost = elim (skip-losses S m mid range room n skip) [ inl less ↦ absurd (omega (arith, less, lost.0)) | inr top ↦ absurd (omega (arith, top, lost.1)) ]
 
     pub came-known : (S : ℕ) (f : CacheFiller) (q : Portion) (fill : Fill) (m n : Memory) (writes : List Mutation) → AreCountsInRange m.counts → IsRecency m → CameOf S fill q f.chain f.pin m n → StandsForWrites S m f.chain f.pin writes → SayPortion writes q →

@@ -16,7 +16,8 @@ use Rattle.rc_memory.specs.laws.Places.{same_some}
 use Rattle.rc_evict.specs.Evictions.{IsPlaceUnlisted, evicted_of}
 use Rattle.rc_populate.specs.Filling.{on_newest_of}
 use Rattle.rc_filler.specs.Stands.{HasCacheSnapshot, StandsForWrites}
-use Rattle.rc_filler.specs.Fills.{IsFillDone, IsPortionFilled, HasMadeRoom, Portion, filled_with}
+use Rattle.rc_filler.specs.Fills.{IsFillDone, IsPortionFilled, Portion, filled_with}
+use Rattle.rc_evict.specs.Evictions.{IsRoomMade}
 use Rattle.rc_filler.proofs.Counted.{low_or}
 use Rattle.rc_filler.proofs.Evicting.{EvictionLaws, room-chain}
 use Rattle.rc_filler.proofs.Filling.{phases-kept}
@@ -84,7 +85,7 @@ module _ (laws : EvictionLaws) (older : (f : Version → Version) (c : Shown) (i
     (source : (below : ℕ → List Mutation) (p : Place) (c : Shown) (j : ℕ) → IsChain (at_place p c) → IsChainContinuous below (at_place p c) → IsPinned c.pins j → IsContinuous None (below (phase_at c.versions j)) (upto c.versions j))
     (S : ℕ) (below : ℕ → List Mutation) (pl : Place) (id pin : ℕ) (m n : Memory) (rule : IsRecency m) (k now : KeptChain) (j : ℕ) (e : chain_at m id ≡ Some k) (then_there : chain_at n id ≡ Some now) (pinned : pin_at k.chain.pins pin ≡ Some j)
     (ch : IsChain (at_place pl k.chain)) (off : IsPlaceUnlisted pl id k.chain m.recency) (on : IsChainContinuous below (at_place pl k.chain)) (s : StandsForWrites S n id pin (below (phase_at k.chain.versions j))) where
-  module _ (mid : Memory) (room : HasMadeRoom S m mid) where
+  module _ (mid : Memory) (room : IsRoomMade S m mid) where
     abbrev evicted : KeptChain
     evicted = evicted_of id room.went k
 

@@ -8,7 +8,8 @@ use Rattle.rc_evict.specs.Evictions.{evictions_counted, one_eviction_more}
 use Rattle.rc_stream.specs.Snapshot.{most_counted}
 use Rattle.rc_populate.specs.Filling.{IsFilled}
 use Rattle.rc_filler.specs.Fillers.{losses}
-use Rattle.rc_filler.specs.Fills.{HasMadeRoom, IsSkipCounted}
+use Rattle.rc_filler.specs.Fills.{IsSkipCounted}
+use Rattle.rc_evict.specs.Evictions.{IsRoomMade}
 use Rattle.rc_filler.specs.calls.Coming.{AreCountsInRange}
 
 -- ---- a count raised
@@ -49,7 +50,7 @@ evicted-counts (w ∷ ws) c h =
       some = λ v vs e less. (let more : (one_eviction_more c).evicted ≡ c.evicted + 1 = raised-is 1 c.evicted (omega (arith, less)) in omega (arith, more, further));
     }
 
-module _ (S : ℕ) (m mid : Memory) (range : AreCountsInRange m.counts) (room : HasMadeRoom S m mid) where
+module _ (S : ℕ) (m mid : Memory) (range : AreCountsInRange m.counts) (room : IsRoomMade S m mid) where
   raised : IsRaised room.went m.counts mid.counts
   raised = subst (IsRaised room.went m.counts) (sym room.evicted.counts) (evicted-counts room.went m.counts range.evicted)
 

@@ -12,7 +12,7 @@ use Rattle.rc_populate.specs.Filling.{MayFill}
 use Rattle.rc_populate.specs.laws.Filled.{may-fill}
 use Rattle.rc_core.specs.laws.Pins.{pin-is-pinned}
 use Rattle.rc_filler.specs.Stands.{HasCacheSnapshot, HoldsRowsOf, StandsForWrites}
-use Rattle.rc_filler.specs.Fills.{HasMadeRoom}
+use Rattle.rc_evict.specs.Evictions.{IsRoomMade}
 use Rattle.rc_filler.proofs.Entries.{evicted-each}
 use Rattle.rc_filler.proofs.OfSchema.{evicted-rows}
 use Rattle.rc_filler.proofs.Seen.{may-of}
@@ -32,7 +32,7 @@ pub record EvictionLaws : Type 0 where
       IsChain (at_place p k.chain) → IsPlaceUnlisted p id k.chain old.recency → IsChainContinuous below (at_place p k.chain) → IsChainContinuous below (at_place p (evicted_of id went k).chain)
   pub place : (p : Place) (went : List Member) (gone : List ℕ) (old new : Memory) (id : ℕ) (k : KeptChain) → AreEvicted went gone old new → IsPlaceUnlisted p id k.chain old.recency → IsPlaceUnlisted p id (evicted_of id went k).chain new.recency
 
-module _ (laws : EvictionLaws) (S : ℕ) (old new : Memory) (r : HasMadeRoom S old new) where
+module _ (laws : EvictionLaws) (S : ℕ) (old new : Memory) (r : IsRoomMade S old new) where
   pub room-chain : (id j : ℕ) (k : KeptChain) → chain_at old id ≡ Some k → IsPinned k.chain.pins j → chain_at new id ≡ Some (evicted_of id r.went k)
   room-chain id j k e on = laws.pinned r.went r.gone old new id j k r.evicted e on
 

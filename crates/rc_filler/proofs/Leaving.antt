@@ -23,7 +23,8 @@ use Rattle.rc_evict.specs.Evictions.{AreEvicted, IsPlaceUnlisted, evicted_of}
 use Rattle.rc_populate.specs.Filling.{on_newest_of}
 use Rattle.rc_populate.specs.laws.Opening.{some-and}
 use Rattle.rc_cursor.specs.Snapshots.{kind_in, kind_seen, versions_in, versions_seen}
-use Rattle.rc_filler.specs.Fills.{IsFillDone, IsPortionFilled, HasMadeRoom, IsSkipCounted, IsUsedAsBefore, Portion, filled_with}
+use Rattle.rc_filler.specs.Fills.{IsFillDone, IsPortionFilled, IsSkipCounted, IsUsedAsBefore, Portion, filled_with}
+use Rattle.rc_evict.specs.Evictions.{IsRoomMade}
 use Rattle.rc_filler.specs.calls.Coming.{AreCountsInRange}
 use Rattle.rc_filler.proofs.Counted.{raised-low, room-range, room-raised}
 use Rattle.rc_filler.proofs.Evicting.{EvictionLaws, room-chain}
@@ -70,7 +71,7 @@ record IsAfterRoom (id : ℕ) (mid n : Memory) : Type 0 where
 
 record IsRoomThenFill (S id : ℕ) (m n : Memory) : Type 0 where
   mid : Memory
-  room : HasMadeRoom S m mid
+  room : IsRoomMade S m mid
   after : IsAfterRoom id mid n
 
 same_map : (i : ℕ) (o : Option KeptChain) → o ≡ option_map (evicted_of i []) o
@@ -78,7 +79,7 @@ same_map i None = refl
 same_map i (Some k) = refl
 
 -- nothing went, and nothing moved
-pub no-room : (S : ℕ) (m : Memory) → HasMadeRoom S m m
+pub no-room : (S : ℕ) (m : Memory) → IsRoomMade S m m
 no-room S m = record {
   went = [];
   gone = [];

@@ -11,3 +11,4 @@ mod Ready
 mod Leaving
 mod Continued
 mod Beginning
+mod Still

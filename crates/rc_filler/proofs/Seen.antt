@@ -5,8 +5,6 @@ use Rattle.rc_cell.specs.declared.rows.Row.{Row}
 use Rattle.rc_cell.specs.declared.writes.Tomb.{Tomb}
 use Rattle.rc_cell.specs.Orders.{tomb_cmp}
 use Rattle.rc_cell.specs.Winner.{greatest}
-use Rattle.rc_mutation.specs.declared.fragments.HeadAt.{HeadAt}
-use Rattle.rc_chain.specs.declared.chains.Snap.{Snap}
 use Rattle.rc_position.specs.declared.positions.Pos.{Pos}
 use Rattle.rc_position.specs.Position.{Head, Place}
 use Rattle.rc_mutation.specs.declared.mutations.Mutation.{Mutation}
@@ -24,10 +22,10 @@ use Rattle.rc_populate.specs.Filling.{MayFill}
 use Rattle.rc_populate.specs.laws.Filled.{may-fill}
 use Rattle.rc_populate.specs.laws.Opening.{some-and}
 use Rattle.rc_stream.specs.Snapshot.{There}
-use Rattle.rc_cursor.specs.Snapshots.{AreReadable, IsHeadOf, IsHeadSeen, IsKnownAs, IsReadable, kind_in, versions_in, versions_upto}
+use Rattle.rc_cursor.specs.Snapshots.{AreReadable, IsKnownAs, kind_in, versions_in, versions_upto}
 use Rattle.rc_filler.specs.declared.fillers.CacheFiller.{CacheFiller}
 use Rattle.rc_filler.specs.Stands.{HasCacheSnapshot, StandsForWrites}
-use Rattle.rc_filler.specs.Fillers.{FillerKnows, FillerKnowsStatics}
+use Rattle.rc_filler.specs.Fillers.{FillerKnows, FillerKnowsStatics, kind_filled, versions_filled}
 
 -- ---- a snapshot that is there
 
@@ -76,9 +74,6 @@ module _ (law : (below : ℕ → List Mutation) (p : Place) (c : Shown) (j : ℕ
   pub content-there : (x : Pos) → IsKnown Cache (upto s.snapshot.chain.chain.versions s.snapshot.number) x → content (states_at (On x) (upto s.snapshot.chain.chain.versions s.snapshot.number)) ≡ source_at writes x
   content-there x k = source.clustered x tt k.at ∙ s.source.clustered x
 
-  pub head-there : greatest tomb_cmp (version_tombs (upto s.snapshot.chain.chain.versions s.snapshot.number)) ≡ source_at_head writes
-  head-there = source.head tt ∙ s.source.head
-
   pub statics-there : IsTrue (flagged Cache (static_states (upto s.snapshot.chain.chain.versions s.snapshot.number))) → (content (static_states (upto s.snapshot.chain.chain.versions s.snapshot.number))).0 ≡ source_at_static writes
   statics-there f = ap (λ (a : Row × Option Tomb). a.0) (source.statics tt f) ∙ s.source.statics
 
@@ -86,27 +81,21 @@ module _ (law : (below : ℕ → List Mutation) (p : Place) (c : Shown) (j : ℕ
   pub knows-said : (S : ℕ) (m : Memory) (f : CacheFiller) (writes : List Mutation) → StandsForWrites S m f.chain f.pin writes → (x : Pos) (v : There) → FillerKnows m f x v → source_at writes x ≡ v
   knows-said S m f writes s x v k = said-there law S m f.chain f.pin writes s x v (of-seen m f.chain f.pin s.snapshot (λ kind vs. IsKnownAs kind vs x v) k)
 
-  pub knows-statics : (S : ℕ) (m : Memory) (f : CacheFiller) (writes : List Mutation) → StandsForWrites S m f.chain f.pin writes → (row : Row) → FillerKnowsStatics m f row → source_at_static writes ≡ row
-  knows-statics S m f writes s row k =
-      let known = of-seen m f.chain f.pin s.snapshot (λ kind vs. IsTrue (flagged kind (static_states vs))) k.0 in
-      let is = of-seen m f.chain f.pin s.snapshot (λ kind vs. (content (static_states vs)).0 ≡ row) k.1 in
-      sym (statics-there law S m f.chain f.pin writes s known) ∙ is
+  pub statics-said : (S : ℕ) (m : Memory) (f : CacheFiller) (writes : List Mutation) → StandsForWrites S m f.chain f.pin writes → (row : Row) → FillerKnowsStatics m f row → source_at_static writes ≡ row
+  statics-said S m f writes s row k =
+      sym (statics-there law S m f.chain f.pin writes s (of-seen m f.chain f.pin s.snapshot (λ kind vs. IsTrue (flagged kind (static_states vs))) k.0))
+      ∙ of-seen m f.chain f.pin s.snapshot (λ kind vs. (content (static_states vs)).0 ≡ row) k.1
 
--- ---- how it is read
+  pub head-said : (S : ℕ) (m : Memory) (f : CacheFiller) (writes : List Mutation) → StandsForWrites S m f.chain f.pin writes → greatest tomb_cmp (version_tombs (versions_filled m f)) ≡ source_at_head writes
+  head-said S m f writes s = as-seen m f.chain f.pin s.snapshot (λ kind vs. greatest tomb_cmp (version_tombs vs) ≡ source_at_head writes) ((source law S m f.chain f.pin writes s).head tt ∙ s.source.head)
 
-module _ (law : (below : ℕ → List Mutation) (p : Place) (c : Shown) (j : ℕ) → IsChain (at_place p c) → IsChainContinuous below (at_place p c) → IsPinned c.pins j → IsContinuous None (below (phase_at c.versions j)) (upto c.versions j)) (S : ℕ) (m : Memory) (t : Snap) (writes : List Mutation) (s : StandsForWrites S m t.chain t.pin writes) where
-  pub stands-readable : ((below : ℕ → List Mutation) (p : Place) (c : Shown) (j : ℕ) → c.kind ≡ Cache → IsChain (at_place p c) → IsChainContinuous below (at_place p c) → IsPinned c.pins j → AreReadable c.kind (upto c.versions j)) → HasPin m t.chain t.pin × IsReadable m t
-  stands-readable readable =
-      let k = s.snapshot.chain.chain in
-      let seen = readable s.below s.place k s.snapshot.number s.snapshot.cached s.form s.continuous (pins-there m t.chain t.pin s.snapshot) in
-      (has-pin m t.chain t.pin s.snapshot, as-seen m t.chain t.pin s.snapshot AreReadable (subst (λ kind. AreReadable kind (upto k.versions s.snapshot.number)) s.snapshot.cached seen))
-
-  pub stands-head : (h : HeadAt) → IsHeadSeen m t h → (h.head.pt ≡ source_at_head writes) × (IsTrue h.known → h.head.statics ≡ source_at_static writes)
-  stands-head h seen =
-      let is = of-seen m t.chain t.pin s.snapshot (λ kind vs. IsHeadOf kind vs h) seen in (
-        is.pt ∙ head-there law S m t.chain t.pin writes s,
-        λ known. is.statics ∙ statics-there law S m t.chain t.pin writes s (sym is.known ∙ known),
-      )
+-- and it can be read
+pub read-there : ((below : ℕ → List Mutation) (p : Place) (c : Shown) (j : ℕ) → c.kind ≡ Cache → IsChain (at_place p c) → IsChainContinuous below (at_place p c) → IsPinned c.pins j → AreReadable c.kind (upto c.versions j)) →
+    (S : ℕ) (m : Memory) (f : CacheFiller) (writes : List Mutation) → StandsForWrites S m f.chain f.pin writes → HasPin m f.chain f.pin × AreReadable (kind_filled m f) (versions_filled m f)
+read-there law S m f writes s = let k = s.snapshot in (
+  has-pin m f.chain f.pin k,
+  as-seen m f.chain f.pin k (λ kind vs. AreReadable kind vs) (subst (λ kind. AreReadable kind (upto k.chain.chain.versions k.number)) k.cached (law s.below s.place k.chain.chain k.number k.cached s.form s.continuous (pins-there m f.chain f.pin k))),
+)
 
 -- ---- whether a snapshot may be filled
 

@@ -1,6 +1,5 @@
 -- What a filler's calls do to a shard's memory.
 --     Portion           what is filled at once: a gap, a row or a static row
---     HasMadeRoom        objects moved and were evicted
 --     IsOutOfRoom       nothing can be evicted, and nothing moved out of a segment
 --     IsPortionFilled   a portion was filled into the newest version of a cache chain
 --     IsSkippedFor      why a portion is skipped
@@ -22,7 +21,7 @@ use Rattle.rc_core.specs.Continuity.{fill_statics}
 use Rattle.rc_core.specs.Steps.{gap_filled, row_filled}
 use Rattle.rc_core.specs.Version.{Version}
 use Rattle.rc_memory.specs.Memory.{KeptChain, Member, Memory, counts_raised}
-use Rattle.rc_evict.specs.Evictions.{AreEvicted, IsCrowded}
+use Rattle.rc_evict.specs.Evictions.{IsRoomMade}
 use Rattle.rc_populate.specs.Filling.{IsFilled, MayFill, given}
 use Rattle.rc_stream.specs.Snapshot.{SayThere, Throughout}
 use Rattle.rc_filler.specs.declared.fillers.CacheFiller.{CacheFiller}
@@ -51,14 +50,6 @@ abbrev pub SayPortion : List Mutation → Portion → Type 0
 SayPortion writes (OfGap from to tomb) = Throughout from to (λ x. SayThere writes x (empty_row, tomb))
 SayPortion writes (OfRow key row tomb) = SayThere writes (row_pos key) (row, tomb)
 SayPortion writes (OfStatics row) = source_at_static writes ≡ row
-
--- objects moved, and others were evicted, as some are where the region is crowded alone; it has as many segments
-pub record HasMadeRoom (S : ℕ) (old new : Memory) : Type 0 where
-  pub went : List Member
-  pub gone : List ℕ
-  pub evicted : AreEvicted went gone old new
-  pub crowded : (went ≡ []) ⊎ IsCrowded S gone old new
-  pub budget : length new.region.usages ≡ length old.region.usages
 
 -- nothing is left that may be evicted, and no segment is sparse
 abbrev pub IsOutOfRoom : ℕ → Memory → Type 0
@@ -92,7 +83,7 @@ IsPortionTaken S portion id pin old new = IsPortionFilled portion id pin old new
 
 -- nothing was done; or room was made for some portion, which was filled then, or skipped
 abbrev pub IsFillDone : ℕ → ℕ → ℕ → Memory → Memory → Type 0
-IsFillDone S id pin old new = (new ≡ old) ⊎ ((mid : Memory) × (portion : Portion) × HasMadeRoom S old mid × IsPortionTaken S portion id pin mid new)
+IsFillDone S id pin old new = (new ≡ old) ⊎ ((mid : Memory) × (portion : Portion) × IsRoomMade S old mid × IsPortionTaken S portion id pin mid new)
 
 -- what a call of a filler did: the filler is the same one
 pub record IsCacheFill (S : ℕ) (f : CacheFiller) (m : Memory) (g : CacheFiller) (n : Memory) : Type 0 where

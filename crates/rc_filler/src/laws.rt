@@ -1,8 +1,9 @@
 //! The laws of fills, each the contract of a function that does nothing.
 ghost use Rattle.std.specs.Prelude.{◌≡◌, ◌≢◌, ◌⊎◌, ◌<◌, ◌≤◌, ◌^◌, ℕ, suc, true, All, IsTrue, List, None, Some, length};
 ghost use Rattle.rc_cell.specs.declared.rows.Row.{Row};
+ghost use Rattle.rc_cell.specs.Orders.{tomb_cmp};
+ghost use Rattle.rc_cell.specs.Winner.{greatest};
 ghost use Rattle.rc_position.specs.declared.positions.Pos.{Pos};
-ghost use Rattle.rc_mutation.specs.declared.fragments.HeadAt.{HeadAt};
 ghost use Rattle.rc_mutation.specs.declared.mutations.Mutation.{Mutation};
 ghost use Rattle.rc_position.specs.Position.{Place};
 ghost use Rattle.rc_schema.specs.SchemaValue.{SchemaValue, is_schema};
@@ -10,7 +11,7 @@ ghost use Rattle.rc_mutation.specs.Source.{SameSource, source_at_head, source_at
 ghost use Rattle.rc_writes.specs.Allowed.{ChangeFits};
 ghost use Rattle.rc_core.specs.declared.entries.ChainKind.TheVariants.{Cache, Memtable};
 ghost use Rattle.rc_core.specs.Chains.{IsChainContinuous, IsPinned, at_place, phase_at, upto};
-ghost use Rattle.rc_core.specs.Continuity.{EachOf, IsSameOrLost};
+ghost use Rattle.rc_core.specs.Continuity.{EachOf, IsSameOrLost, version_tombs};
 ghost use Rattle.rc_core.specs.Steps.{IsChain, pin_at};
 ghost use Rattle.rc_registry.specs.Registry.{IsNumberIn};
 ghost use Rattle.rc_memory.specs.Memory.{HasPin, IsSnapshotTaken, KeptChain, Memory, chain_at, snapshot_number};
@@ -20,13 +21,14 @@ ghost use Rattle.rc_memory.specs.Recency.{IsRecency};
 ghost use Rattle.rc_chain.specs.declared.chains.Snap.{Snap as Snapshot};
 ghost use Rattle.rc_evict.specs.Evictions.{IsPlaceUnlisted};
 ghost use Rattle.rc_populate.specs.Filling.{IsEntryOpened, MayFill, given};
-ghost use Rattle.rc_cursor.specs.Snapshots.{IsHeadSeen, IsReadable, kind_seen, versions_seen};
+ghost use Rattle.rc_cursor.specs.Snapshots.{AreReadable, kind_seen, versions_seen};
 ghost use Rattle.rc_stream.specs.declared.fillers.Fill.{Fill};
-ghost use Rattle.rc_stream.specs.Snapshot.{Answers, SayThere, There, Unlost};
+ghost use Rattle.rc_stream.specs.Snapshot.{Answers, NoneLost, SayThere, There, Unlost};
 ghost use Rattle.rc_filler.specs.declared.fillers.CacheFiller.{CacheFiller};
 ghost use Rattle.rc_filler.specs.Stands.{HasCacheSnapshot, HoldsRowsOf, StandsForWrites};
-ghost use Rattle.rc_filler.specs.Fillers.{FillerKnows, FillerKnowsStatics, losses};
-ghost use Rattle.rc_filler.specs.Fills.{IsCacheFill, IsFillDone, HasMadeRoom, IsUsedAsBefore, Portion, SayPortion};
+ghost use Rattle.rc_filler.specs.Fillers.{FillerKnows, FillerKnowsStatics, kind_filled, losses, versions_filled};
+ghost use Rattle.rc_filler.specs.Fills.{IsCacheFill, IsFillDone, IsUsedAsBefore, Portion, SayPortion};
+ghost use Rattle.rc_evict.specs.Evictions.{IsRoomMade};
 ghost use Rattle.rc_filler.specs.calls.Coming.{AreCountsInRange, CameOf, KnowsPortion};
 
 use rc_chain::laws::{one_more_snapshot_keeps_what_is_said, what_a_snapshot_knows_is_the_source};
@@ -43,9 +45,9 @@ use rc_populate::laws::{
 
 /// Where room is made, by moves and evictions, a snapshot of a cache chain is there still, may be filled if it could be, and stands for the same writes.
 pub fn room_leaves_a_snapshot()
-    ensures there { (S : ℕ) (old new : Memory) (id pin : ℕ) → HasMadeRoom S old new → HasCacheSnapshot old id pin → HasCacheSnapshot new id pin }
-    ensures may { (S : ℕ) (old new : Memory) (id pin : ℕ) → HasMadeRoom S old new → MayFill old id pin → MayFill new id pin }
-    ensures stands { (S : ℕ) (old new : Memory) (id pin : ℕ) (writes : List Mutation) → IsRecency old → HasMadeRoom S old new → StandsForWrites S old id pin writes → StandsForWrites S new id pin writes }
+    ensures there { (S : ℕ) (old new : Memory) (id pin : ℕ) → IsRoomMade S old new → HasCacheSnapshot old id pin → HasCacheSnapshot new id pin }
+    ensures may { (S : ℕ) (old new : Memory) (id pin : ℕ) → IsRoomMade S old new → MayFill old id pin → MayFill new id pin }
+    ensures stands { (S : ℕ) (old new : Memory) (id pin : ℕ) (writes : List Mutation) → IsRecency old → IsRoomMade S old new → StandsForWrites S old id pin writes → StandsForWrites S new id pin writes }
 {
     evictions_keep_the_whole_chain();
     evictions_leave_the_use_of_a_chain();
@@ -53,12 +55,12 @@ pub fn room_leaves_a_snapshot()
     what_was_evicted_is_seen_as_before_or_lost();
 }
 
-/// A snapshot that stands for writes is there, and can be read by its parts; what it knows is what they say, at each position, at the head and of the static row.
+/// A snapshot that stands for writes knows what they say: at each position, and of the static row. Their partition tombstone is at its head, and it is there and can be read by its parts.
 pub fn a_snapshot_knows_the_writes_it_stands_for()
-    ensures readable { (S : ℕ) (m : Memory) (s : Snapshot) (writes : List Mutation) → StandsForWrites S m s.chain s.pin writes → HasPin m s.chain s.pin × IsReadable m s }
-    ensures head { (S : ℕ) (m : Memory) (s : Snapshot) (writes : List Mutation) → StandsForWrites S m s.chain s.pin writes → (h : HeadAt) → IsHeadSeen m s h → (h.head.pt ≡ source_at_head writes) × (IsTrue h.known → h.head.statics ≡ source_at_static writes) }
+    ensures there { (S : ℕ) (m : Memory) (f : CacheFiller) (writes : List Mutation) → StandsForWrites S m f.chain f.pin writes → (x : Pos) (v : There) → FillerKnows m f x v → SayThere writes x v }
     ensures statics { (S : ℕ) (m : Memory) (f : CacheFiller) (writes : List Mutation) → StandsForWrites S m f.chain f.pin writes → (row : Row) → FillerKnowsStatics m f row → source_at_static writes ≡ row }
-    ensures known { (S : ℕ) (m : Memory) (f : CacheFiller) (writes : List Mutation) → StandsForWrites S m f.chain f.pin writes → (x : Pos) (v : There) → FillerKnows m f x v → SayThere writes x v }
+    ensures head { (S : ℕ) (m : Memory) (f : CacheFiller) (writes : List Mutation) → StandsForWrites S m f.chain f.pin writes → greatest tomb_cmp (version_tombs (versions_filled m f)) ≡ source_at_head writes }
+    ensures readable { (S : ℕ) (m : Memory) (f : CacheFiller) (writes : List Mutation) → StandsForWrites S m f.chain f.pin writes → HasPin m f.chain f.pin × AreReadable (kind_filled m f) (versions_filled m f) }
 {
     what_a_snapshot_knows_is_the_source();
     a_snapshot_can_be_read();
@@ -127,6 +129,19 @@ pub fn a_fill_takes_no_segment()
     ensures counts { (S : ℕ) (f g : CacheFiller) (m n : Memory) → IsCacheFill S f m g n → m.counts.evicted < 2 ^ 64 → m.counts.skipped < 2 ^ 64 → (m.counts.evicted ≤ n.counts.evicted) × (m.counts.skipped ≤ n.counts.skipped) }
 {
     a_fill_changes_the_newest_version_alone();
+}
+
+/// What may be filled still may be after a fill; and where nothing was lost, a static row that was known still is.
+pub fn a_fill_keeps_the_static_row_known()
+    ensures may { (S : ℕ) (f g : CacheFiller) (m n : Memory) → IsCacheFill S f m g n → MayFill m f.chain f.pin → MayFill n g.chain g.pin }
+    ensures known { (S : ℕ) (f g : CacheFiller) (m n : Memory) → IsCacheFill S f m g n → m.counts.evicted < 2 ^ 64 → m.counts.skipped < 2 ^ 64 → NoneLost (losses m) (losses n) → (row : Row) → FillerKnowsStatics m f row → (now : Row) × FillerKnowsStatics n g now }
+{
+    room_leaves_a_snapshot();
+    evictions_spare_memtables_and_readers();
+    a_fill_changes_the_newest_version_alone();
+    a_filled_gap_keeps_what_is_said();
+    a_filled_row_keeps_what_is_said();
+    a_filled_static_row_keeps_what_is_said();
 }
 
 /// The chain that is filled, where it is there still, stays continuous for whatever lies below it, if the snapshot stands then for what lies below the version that it pins; the update's place beside it.

@@ -5,7 +5,8 @@ ghost use Rattle.rc_rowcode.specs.Spelling.{RowFits};
 ghost use Rattle.rc_version.specs.Versions.{statics_bytes};
 ghost use Rattle.rc_chain.specs.Lives.{IsSameButSlots};
 ghost use Rattle.rc_populate.specs.Filling.{IsEntryOpened, given};
-ghost use Rattle.rc_filler.specs.Fills.{IsOutOfRoom, HasMadeRoom, IsSkipCounted};
+ghost use Rattle.rc_filler.specs.Fills.{IsOutOfRoom, IsSkipCounted};
+ghost use Rattle.rc_evict.specs.Evictions.{IsRoomMade};
 
 use crate::rooms::room_or_skip;
 use rc_chain::Chains;
@@ -22,9 +23,9 @@ pub fn open_with_room<const S: usize>(
     requires roomy { 8952 ≤ 7 * S / 8 }
     requires row { RowFits head.now.statics }
     requires small { statics_bytes (given head.now.statics) ≤ S / 8 }
-    ensures opened { IfOk result (λ o. IfSome o (λ id. (mid : Memory) × HasMadeRoom S chains.old mid × IsEntryOpened id head.now.pt (given head.now.statics) phase mid chains.new)) }
-    ensures none { IfOk result (λ o. IfNone o ((mid : Memory) × HasMadeRoom S chains.old mid × IsOutOfRoom S mid × IsSkipCounted mid chains.new)) }
-    ensures err { OnErr result ((mid : Memory) × HasMadeRoom S chains.old mid × IsSameButSlots mid chains.new) }
+    ensures opened { IfOk result (λ o. IfSome o (λ id. (mid : Memory) × IsRoomMade S chains.old mid × IsEntryOpened id head.now.pt (given head.now.statics) phase mid chains.new)) }
+    ensures none { IfOk result (λ o. IfNone o ((mid : Memory) × IsRoomMade S chains.old mid × IsOutOfRoom S mid × IsSkipCounted mid chains.new)) }
+    ensures err { OnErr result ((mid : Memory) × IsRoomMade S chains.old mid × IsSameButSlots mid chains.new) }
 {
     let need = 152 + static_need(&head.statics);
     if !room_or_skip(chains, need) {

@@ -4,7 +4,8 @@ ghost use Rattle.lsa_pool.specs.Room.{spare_of};
 ghost use Rattle.rc_memory.specs.Memory.{HasPin, counts_raised};
 ghost use Rattle.rc_populate.specs.Filling.{MayFill};
 ghost use Rattle.rc_stream.specs.Snapshot.{most_counted};
-ghost use Rattle.rc_filler.specs.Fills.{HasMadeRoom, IsSkipCounted};
+ghost use Rattle.rc_filler.specs.Fills.{IsSkipCounted};
+ghost use Rattle.rc_evict.specs.Evictions.{IsRoomMade};
 ghost use Rattle.rc_filler.specs.calls.Coming.{AreCountsInRange, IsSkipped};
 
 use rc_chain::{Chains, Snap};
@@ -31,7 +32,7 @@ pub(crate) fn skip<const S: usize>(chains: &mut Chains<S>) -> Fill
 /// Makes room for so many bytes. False where there is none, and then one more skipped fill is counted.
 pub(crate) fn room_or_skip<const S: usize>(chains: &mut Chains<S>, need: usize) -> bool
     requires { need ≤ 7 * S / 8 }
-    ensures room { IsTrue result → HasMadeRoom S chains.old chains.new × (need ≤ spare_of S chains.new.region.usages) }
+    ensures room { IsTrue result → IsRoomMade S chains.old chains.new × (need ≤ spare_of S chains.new.region.usages) }
     ensures none { result ≡ false → IsSkipped S chains.old chains.new }
 {
     match make_room(chains, need) {

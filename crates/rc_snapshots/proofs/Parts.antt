@@ -12,9 +12,9 @@ use Rattle.rc_cursor.specs.declared.readers.SnapshotReader.{SnapshotReader}
 use Rattle.rc_cursor.specs.Readers.{IsOnlyRead}
 use Rattle.rc_cursor.specs.Snapshots.{IsHeadSeen, IsReadable, Knows}
 use Rattle.rc_cacheread.specs.Did.{ReaderCall}
-use Rattle.rc_cacheread.specs.Sharing.{Fit, Kept, OfBelow, OfFiller, OfKnown, Shares, StillStands}
+use Rattle.rc_cacheread.specs.Sharing.{Fit, IsFillerOf, Kept, OfBelow, OfFiller, OfKnown, Shares, StillStands}
 use Rattle.rc_snapshots.specs.declared.fillers.NoFiller.{NoFiller}
-use Rattle.rc_snapshots.specs.Fillers.{KnowsNamed, KnowsStaticsNamed, StandsNamed}
+use Rattle.rc_snapshots.specs.Fillers.{IsReadableNamed, KnowsNamed, KnowsStaticsNamed, StandsNamed}
 use Rattle.rc_snapshots.specs.Streams.{filler_of}
 
 -- a snapshot over the chains
@@ -30,7 +30,7 @@ kn = record {
 -- a filler that fills nothing
 abbrev pub fi : OfFiller NoFiller Memory
 fi = record {
-  ready = λ _ _. ⊤;
+  ready = λ f m. IsReadableNamed m f;
   fits = λ _ _. ⊤;
   may = λ _ _. ⊥;
   lost = λ _. 0;
@@ -53,11 +53,21 @@ module _ (W : Type 0) where
 
   -- ---- they go together
 
+  -- the filler is the snapshot's
+  pair : (k : SnapshotReader) → IsFillerOf kn fi k (filler_of k.snap)
+  pair k = record {
+    reads = λ g writes r d. r;
+    same = λ g x v. (λ a. a, λ a. a);
+    same_statics = λ g row at a. (λ b. (a.known ∙ b.0, a.statics ∙ b.1), λ b. (sym a.known ∙ b.0, sym a.statics ∙ b.1));
+    pts = λ g writes d at a. a.pt ∙ d.head;
+  }
+
   pub fit : (k : SnapshotReader) (b : Stream) (m : Memory) (w : W) → HasPin m k.snap.chain k.snap.pin × IsReadable m k.snap → Fit kn be fi k b (filler_of k.snap) m w
   fit k b m w h = record {
     known = h;
     below = tt;
-    filler = tt;
+    filler = h;
+    pair = pair k;
     sound = λ writes d. d.there;
     sound_statics = λ writes d at a t. d.static_row (sym a.known ∙ t) ∙ sym a.statics;
     same = λ x v. (λ a. a, λ a. a);
@@ -71,7 +81,7 @@ module _ (W : Type 0) where
       subst (λ s. Fit kn be fi (record { snap = s; cursor = l.cursor }) c q g v) (sym snap)
       (subst (λ o. Fit kn be fi (record { snap = k.snap; cursor = l.cursor }) c o g v) (sym filler)
       (subst (λ m. Fit kn be fi (record { snap = k.snap; cursor = l.cursor }) c p m v) (sym home)
-      (record { known = f.known; below = tt; filler = tt; sound = f.sound; sound_statics = f.sound_statics; same = f.same; same_statics = f.same_statics })))
+      (record { known = f.known; below = tt; filler = f.filler; pair = record { reads = f.pair.reads; same = f.pair.same; same_statics = f.pair.same_statics; pts = f.pair.pts }; sound = f.sound; sound_statics = f.sound_statics; same = f.same; same_statics = f.same_statics })))
 
   kept-same : (k l : SnapshotReader) (p q : NoFiller) (h g : Memory) → l.snap ≡ k.snap → q ≡ p → g ≡ h → Kept kn fi k p h l q g
   kept-same k l p q h g snap filler home =

@@ -84,6 +84,7 @@ module _ (known : (versions : List Version) → EachOf AllInherit versions → (
   -- the snapshot stands for all writes that say the same
   stands : (writes : List Mutation) → SameSource writes changes → StandsNamed m (filler_of s) writes
   stands writes same = record {
+    head = sees.stands.head ∙ sym same.head;
     there = λ y v a. same.clustered y ∙ sym (sees.stands.clustered y) ∙ a.there;
     static_row = λ _. same.statics ∙ sym (ap (λ (v : There). v.0) sees.stands.statics);
   }

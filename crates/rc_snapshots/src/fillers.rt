@@ -30,9 +30,9 @@ impl NoFiller {
 
 impl<const S: usize> Filler<Chains<S>> for NoFiller {
     ghost use Rattle.std.specs.Prelude.{◌≡◌, ⊤};
-    ghost use Rattle.rc_snapshots.specs.Fillers.{KnowsNamed, KnowsStaticsNamed, StandsNamed};
+    ghost use Rattle.rc_snapshots.specs.Fillers.{IsReadableNamed, KnowsNamed, KnowsStaticsNamed, StandsNamed};
 
-    ghost ready = { λ _ _. ⊤ };
+    ghost ready = { λ f m. IsReadableNamed m f };
 
     ghost fits = { λ _ _. ⊤ };
 
@@ -40,7 +40,7 @@ impl<const S: usize> Filler<Chains<S>> for NoFiller {
 
     ghost lost = { λ _. 0 };
 
-    // what the snapshot knows is what the writes say
+    // its partition tombstone, and what it knows, is what the writes say
     ghost stands = { λ f m. StandsNamed m f };
 
     ghost knows = { λ f m. KnowsNamed m f };

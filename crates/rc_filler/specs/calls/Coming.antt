@@ -10,17 +10,18 @@ use Rattle.rc_cell.specs.Winner.{empty_row}
 use Rattle.rc_position.specs.Position.{row_pos}
 use Rattle.rc_filler.specs.declared.fillers.CacheFiller.{CacheFiller}
 use Rattle.rc_filler.specs.Fillers.{FillerKnows, FillerKnowsStatics}
-use Rattle.rc_filler.specs.Fills.{Portion, OfGap, OfRow, OfStatics, IsOutOfRoom, IsPortionFilled, HasMadeRoom, IsSkipCounted, IsSkippedFor}
+use Rattle.rc_filler.specs.Fills.{Portion, OfGap, OfRow, OfStatics, IsOutOfRoom, IsPortionFilled, IsSkipCounted, IsSkippedFor}
+use Rattle.rc_evict.specs.Evictions.{IsRoomMade}
 
 -- room was made, and the portion filled; or one more skipped fill was counted; or nothing was done, since the snapshot may not be filled
 abbrev pub CameOf : ℕ → Fill → Portion → ℕ → ℕ → Memory → Memory → Type 0
-CameOf S Filled portion id pin old new = MayFill old id pin × ((mid : Memory) × HasMadeRoom S old mid × IsPortionFilled portion id pin mid new)
-CameOf S Skipped portion id pin old new = MayFill old id pin × ((mid : Memory) × HasMadeRoom S old mid × IsSkippedFor S portion mid × IsSkipCounted mid new)
+CameOf S Filled portion id pin old new = MayFill old id pin × ((mid : Memory) × IsRoomMade S old mid × IsPortionFilled portion id pin mid new)
+CameOf S Skipped portion id pin old new = MayFill old id pin × ((mid : Memory) × IsRoomMade S old mid × IsSkippedFor S portion mid × IsSkipCounted mid new)
 CameOf S NotNewest portion id pin old new = (MayFill old id pin → ⊥) × (new ≡ old)
 
 -- no room could be made, and one more skipped fill was counted
 abbrev pub IsSkipped : ℕ → Memory → Memory → Type 0
-IsSkipped S old new = (mid : Memory) × HasMadeRoom S old mid × IsOutOfRoom S mid × IsSkipCounted mid new
+IsSkipped S old new = (mid : Memory) × IsRoomMade S old mid × IsOutOfRoom S mid × IsSkipCounted mid new
 
 -- evictions and skipped fills are counted by numbers of 64 bits
 pub record AreCountsInRange (c : Counts) : Type 0 where

@@ -1,0 +1,34 @@
+use Rattle.std.proofs.Common.{◌≡◌, Bool, ℕ, sym, subst}
+use Rattle.rc_position.specs.declared.positions.Pos.{Pos}
+use Rattle.rc_memory.specs.Memory.{Memory}
+use Rattle.rc_chain.specs.declared.chains.Snap.{Snap}
+use Rattle.rc_populate.specs.Filling.{MayFill}
+use Rattle.rc_stream.specs.Did.{Call}
+use Rattle.rc_stream.specs.Snapshot.{NoneLost, There}
+use Rattle.rc_cursor.specs.Snapshots.{IsHeadSeen, Knows}
+use Rattle.rc_cacheread.specs.Did.{IsFilledFor}
+use Rattle.rc_cacheread.specs.Spots.{stand}
+use Rattle.rc_cached.specs.Streams.{IsOfCached, OfCache, filler_for}
+use Rattle.rc_cached.proofs.laws.what_a_cached_stream_passed_is_known.Goals as goal
+
+-- it may be filled
+may-of : (s : Snap) (r : OfCache) (m : Memory) → IsOfCached s r → MayFill m s.chain s.pin → MayFill m r.filler.filler.chain r.filler.filler.pin
+may-of s r m of h = subst (λ f. MayFill m f.filler.chain f.filler.pin) (sym of.filler) h
+
+of-may : (s : Snap) (r : OfCache) (m : Memory) → IsOfCached s r → MayFill m r.filler.filler.chain r.filler.filler.pin → MayFill m s.chain s.pin
+of-may s r m of h = subst (λ f. MayFill m f.filler.chain f.filler.pin) of.filler h
+
+pub returns-clause-passed : goal.returns-clause-passed
+returns-clause-passed g c s r m w call ok t n v of d may none =
+    let now = (c.a_cached_stream_leaves_what_others_see.ensures.did r m w call ok t n v d).2 s of in
+    subst (λ z. IsFilledFor call ok (Knows n z) (IsHeadSeen n z) (stand r.spot) (stand t.spot)) now.snap (d.filled.now (may-of s r m of may) none)
+
+pub returns-clause-still : goal.returns-clause-still
+returns-clause-still g c s r m w call ok t n v of d may none x there k =
+    let now = (c.a_cached_stream_leaves_what_others_see.ensures.did r m w call ok t n v d).2 s of in
+    subst (λ z. Knows n z x there) now.snap (d.filled.each (may-of s r m of may) none x there (subst (λ z. Knows m z x there) (sym of.snap) k))
+
+pub returns-clause-may : goal.returns-clause-may
+returns-clause-may g c s r m w call ok t n v of d may =
+    let now = (c.a_cached_stream_leaves_what_others_see.ensures.did r m w call ok t n v d).2 s of in
+    of-may s t n now (d.filled.still (may-of s r m of may))

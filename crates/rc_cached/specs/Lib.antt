@@ -1,0 +1,4 @@
+pub mod Below
+pub mod Fillers
+pub mod Leaving
+pub mod Streams
