@@ -96,6 +96,10 @@ no-room S m = record {
   };
   crowded = inl refl;
   budget = refl;
+  live = omega arith;
+  moved = omega arith;
+  counted = omega arith;
+  skipped = refl;
 }
 
 module _ (others : (id : ℕ) (f : Version → Version) (old new : Memory) (i : ℕ) → new.chains ≡ on_chain id (on_shown (on_newest_of f)) old.chains → i ≢ id → chain_at new i ≡ chain_at old i)
