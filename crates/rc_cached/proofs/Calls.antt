@@ -1,5 +1,5 @@
 -- What the calls of a cached stream's parts do, one after another.
-use Rattle.std.specs.Prelude.{◌≡◌, ◌≤◌, ◌+◌, ⊤, ℕ, Bool, true, false, IsSome, IsTrue, Option, Some, None, length}
+use Rattle.std.specs.Prelude.{◌≡◌, ◌≤◌, ◌+◌, ⊤, ℕ, Bool, true, false, IsSome, Option, Some, None, length}
 use Rattle.std.proofs.Common.{refl, sym, ap, ◌∙◌, subst, inl, inr, arith}
 use Rattle.rc_outside.specs.Files.{Files, HoldsSameFiles}
 use Rattle.rc_core.specs.Chains.{IsPinned}
@@ -10,17 +10,16 @@ use Rattle.rc_chain.specs.declared.chains.Snap.{Snap}
 use Rattle.rc_stream.specs.Did.{Call, InTurn}
 use Rattle.rc_stream.specs.laws.Spent.{chain-answered, chain-keeps, chain-refused}
 use Rattle.rc_populate.specs.Filling.{MayFill}
-use Rattle.rc_tables.specs.Streams.{DidAsk, IsLazyOf, IsReady, asks_left}
+use Rattle.rc_tables.specs.Streams.{IsLazyOf, IsReady, asks_left}
 use Rattle.rc_cursor.specs.declared.readers.SnapshotReader.{SnapshotReader}
 use Rattle.rc_cursor.specs.Readers.{IsOnlyRead}
 use Rattle.rc_cursor.specs.Snapshots.{IsHeadSeen, IsReadable, Knows, kind_seen, versions_seen}
-use Rattle.rc_cacheread.specs.Did.{IsBelow, KnownStep, ReaderCall, reader_state}
+use Rattle.rc_cacheread.specs.Did.{KnownStep, ReaderCall, reader_state}
 use Rattle.rc_cacheread.specs.Sharing.{OfBelow, OfFiller, OfKnown}
 use Rattle.rc_filler.specs.declared.fillers.CacheFiller.{CacheFiller}
 use Rattle.rc_filler.specs.Fillers.{FillerKnows, FillerKnowsStatics, IsFillerReady, losses}
 use Rattle.rc_filler.specs.Fills.{IsCacheFill, IsUsedAsBefore}
 use Rattle.rc_filler.specs.Stands.{StandsForWrites}
-use Rattle.rc_snapshots.specs.Seeing.{HasSnap, StillSees}
 use Rattle.rc_snapshots.specs.laws.Seeing.{snap-then}
 use Rattle.rc_cached.specs.Below.{DidBelow}
 use Rattle.rc_cached.specs.declared.fillers.StreamFiller.{StreamFiller}

@@ -1,5 +1,5 @@
 -- A cached stream is ready as it is made, and stands for what the tables below it say.
-use Rattle.std.specs.Prelude.{◌≡◌, ℕ, true, false, List, [], ◌∷◌, Option, Some, None}
+use Rattle.std.specs.Prelude.{◌≡◌, ℕ, true, false, List, Option, Some, None}
 use Rattle.std.proofs.Common.{refl, sym, ap, ◌∙◌, subst, inr}
 use Rattle.std.specs.declared.cmp.Ordering.{Ordering}
 use Rattle.std.specs.declared.cmp.Ordering.TheVariants.{Less, Equal, Greater}
@@ -20,7 +20,6 @@ use Rattle.rc_stream.specs.Stream.{Stream, stream_of}
 use Rattle.rc_tables.specs.Located.{WhereTold}
 use Rattle.rc_tables.specs.Streams.{IsLazyOf, IsRead, IsReady as AreReady, Lazy}
 use Rattle.rc_cursor.specs.declared.readers.SnapshotReader.{SnapshotReader}
-use Rattle.rc_cacheread.specs.declared.readers.CacheReader.{CacheReader}
 use Rattle.rc_cacheread.specs.declared.readers.Stage.TheVariants.{Away}
 use Rattle.rc_cacheread.specs.declared.spots.RowAt.TheVariants.{Unread}
 use Rattle.rc_cacheread.specs.Reading.{Reads}
@@ -28,8 +27,6 @@ use Rattle.rc_cacheread.specs.Sharing.{IsReaderOf, IsReady, Leads, Sees}
 use Rattle.rc_filler.specs.Fillers.{IsFillerReady}
 use Rattle.rc_filler.specs.Stands.{StandsForWrites}
 use Rattle.rc_snapshots.specs.Streams.{first_position, from_start}
-use Rattle.rc_cached.specs.declared.fillers.StreamFiller.{StreamFiller}
-use Rattle.rc_cached.specs.declared.tables.TablesBelow.{TablesBelow}
 use Rattle.rc_cached.specs.Streams.{IsNewCached, IsOfCached, OfCache, TablesSay, filler_for}
 use Rattle.rc_cached.proofs.Calls.{be, fi, kn}
 use Rattle.rc_cached.proofs.Sharing.{KnownLaws, fit-of, pair, shares}

@@ -1,6 +1,6 @@
 -- The parts of a cached stream: what each leaves to the others.
-use Rattle.std.specs.Prelude.{◌≡◌, ◌↔◌, ℕ, IsTrue, List, Option}
-use Rattle.std.proofs.Common.{refl, sym, ap, ◌∙◌, subst, arith}
+use Rattle.std.specs.Prelude.{◌≡◌, ◌↔◌, ℕ, List, Option}
+use Rattle.std.proofs.Common.{refl, sym, ◌∙◌, subst, arith}
 use Rattle.rc_outside.specs.Files.{Files}
 use Rattle.rc_cell.specs.declared.rows.Row.{Row}
 use Rattle.rc_cell.specs.Orders.{tomb_cmp}
@@ -18,7 +18,7 @@ use Rattle.rc_stream.specs.Snapshot.{SayThere, There}
 use Rattle.rc_tables.specs.Streams.{IsReady as AreReady}
 use Rattle.rc_cursor.specs.declared.readers.SnapshotReader.{SnapshotReader}
 use Rattle.rc_cursor.specs.Snapshots.{AreReadable, IsHeadSeen, Knows, kind_seen, versions_seen}
-use Rattle.rc_cacheread.specs.Sharing.{Fit, IsFillerOf, Kept, OfBelow, OfFiller, OfKnown, Shares, StillStands}
+use Rattle.rc_cacheread.specs.Sharing.{Fit, IsFillerOf, Kept, OfBelow, Shares, StillStands}
 use Rattle.rc_filler.specs.declared.fillers.CacheFiller.{CacheFiller}
 use Rattle.rc_filler.specs.Fillers.{FillerKnows, FillerKnowsStatics, IsFillerReady, kind_filled, versions_filled}
 use Rattle.rc_filler.specs.Fills.{IsCacheFill}
@@ -38,10 +38,10 @@ pub record KnownLaws (S : ℕ) : Type 0 where
   pub may : (f g : CacheFiller) (m n : Memory) → IsCacheFill S f m g n → MayFill m f.chain f.pin → MayFill n g.chain g.pin
 
 -- the head that a snapshot sees
-abbrev head_seen : Memory → Snap → HeadAt
+abbrev pub head_seen : Memory → Snap → HeadAt
 head_seen m s = record { head = record { pt = greatest tomb_cmp (version_tombs (versions_seen m s)); statics = (content (static_states (versions_seen m s))).0 }; known = flagged (kind_seen m s) (static_states (versions_seen m s)) }
 
-is-head-seen : (m : Memory) (s : Snap) → IsHeadSeen m s (head_seen m s)
+pub is-head-seen : (m : Memory) (s : Snap) → IsHeadSeen m s (head_seen m s)
 is-head-seen m s = record { pt = refl; statics = refl; known = refl }
 
 module _ (S : ℕ) (laws : KnownLaws S) where

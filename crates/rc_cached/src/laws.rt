@@ -10,7 +10,7 @@ ghost use Rattle.rc_chain.specs.declared.chains.Snap.{Snap as Snapshot};
 ghost use Rattle.rc_populate.specs.Filling.{MayFill};
 ghost use Rattle.rc_stream.specs.Did.{Call, Spends};
 ghost use Rattle.rc_stream.specs.Snapshot.{NoneLost, There};
-ghost use Rattle.rc_stream.specs.Stream.{stream_of};
+ghost use Rattle.rc_stream.specs.Stream.{Stream, stream_of};
 ghost use Rattle.rc_tables.specs.Streams.{Lazy, asks_left};
 ghost use Rattle.rc_cursor.specs.Snapshots.{IsHeadSeen, Knows};
 ghost use Rattle.rc_cacheread.specs.Did.{IsFilledFor, IsKnownFor};
@@ -18,7 +18,7 @@ ghost use Rattle.rc_cacheread.specs.Spots.{stand};
 ghost use Rattle.rc_filler.specs.Fillers.{IsFillerReady, losses};
 ghost use Rattle.rc_filler.specs.Stands.{StandsForWrites};
 ghost use Rattle.rc_cached.specs.Leaving.{LeavesChains};
-ghost use Rattle.rc_cached.specs.Streams.{IsNewCached, IsOfCached, OfCache, TablesSay, filler_for};
+ghost use Rattle.rc_cached.specs.Streams.{IsNewCached, IsOfCached, IsSaidBelow, OfCache, StillKnows, TablesSay, filler_for};
 
 use crate::fillers::StreamFiller;
 use crate::tables::TablesBelow;
@@ -50,6 +50,28 @@ pub fn a_cached_stream_says_what_the_tables_say<const S: usize, W: Store>()
     the_source_determines_the_mutation();
     what_says_the_same_fits();
     a_mutations_stream_reads_it();
+}
+
+/// Over other chains and another store with the same files, where its snapshot can be filled and stands for writes, and what is left of the tables says what these say, a cached stream is ready as before; and if its snapshot stood for them before, it stands for what it stood for. So it may be held while others fill and evict.
+pub fn a_cached_stream_stays<const S: usize, W: Store>()
+    ensures ready { (s : Snapshot) (r : OfCache) (m n : Memory) (w v : W) (writes : List Mutation) → IsOfCached s r → IsFillerReady S (filler_for s).filler n → StandsForWrites S n s.chain s.pin writes → W.files v ≡ W.files w → IsSaidBelow (W.files v) r writes →
+        ⟦<CacheReader<SnapshotReader, TablesBelow, StreamFiller> as Frags<Chains<S>, W>>⟧.ready r m w → ⟦<CacheReader<SnapshotReader, TablesBelow, StreamFiller> as Frags<Chains<S>, W>>⟧.ready r n v }
+    ensures seen { (s : Snapshot) (r : OfCache) (m n : Memory) (w v : W) (writes : List Mutation) → IsOfCached s r → IsFillerReady S (filler_for s).filler n → StandsForWrites S n s.chain s.pin writes → W.files v ≡ W.files w → IsSaidBelow (W.files v) r writes →
+        StandsForWrites S m s.chain s.pin writes → (t : Stream) → ⟦<CacheReader<SnapshotReader, TablesBelow, StreamFiller> as Frags<Chains<S>, W>>⟧.seen r m w t → ⟦<CacheReader<SnapshotReader, TablesBelow, StreamFiller> as Frags<Chains<S>, W>>⟧.seen r n v t }
+{
+    a_snapshot_knows_the_writes_it_stands_for();
+    a_fill_keeps_the_static_row_known();
+}
+
+/// Where its snapshot can be filled over other chains, stands there for all writes for which it stood, and knows what it knew, and the store has the same files, a cached stream is ready as before, and stands for what it stood for.
+pub fn a_cached_stream_stays_where_nothing_is_lost<const S: usize, W: Store>()
+    ensures ready { (s : Snapshot) (r : OfCache) (m n : Memory) (w v : W) → IsOfCached s r → IsFillerReady S (filler_for s).filler n → ((writes : List Mutation) → StandsForWrites S m s.chain s.pin writes → StandsForWrites S n s.chain s.pin writes) → StillKnows s m n → W.files v ≡ W.files w →
+        ⟦<CacheReader<SnapshotReader, TablesBelow, StreamFiller> as Frags<Chains<S>, W>>⟧.ready r m w → ⟦<CacheReader<SnapshotReader, TablesBelow, StreamFiller> as Frags<Chains<S>, W>>⟧.ready r n v }
+    ensures seen { (s : Snapshot) (r : OfCache) (m n : Memory) (w v : W) → IsOfCached s r → IsFillerReady S (filler_for s).filler n → ((writes : List Mutation) → StandsForWrites S m s.chain s.pin writes → StandsForWrites S n s.chain s.pin writes) → StillKnows s m n → W.files v ≡ W.files w →
+        (t : Stream) → ⟦<CacheReader<SnapshotReader, TablesBelow, StreamFiller> as Frags<Chains<S>, W>>⟧.seen r m w t → ⟦<CacheReader<SnapshotReader, TablesBelow, StreamFiller> as Frags<Chains<S>, W>>⟧.seen r n v t }
+{
+    a_snapshot_knows_the_writes_it_stands_for();
+    a_fill_keeps_the_static_row_known();
 }
 
 /// The calls of a cached stream leave the memtables' snapshots, which see what they saw, each snapshot that was there, with its chain, and the files; it is still the stream of its snapshot.
