@@ -1,5 +1,5 @@
 -- What the calls of a cached stream's parts do, one after another.
-use Rattle.std.specs.Prelude.{◌≡◌, ◌≤◌, ◌+◌, ⊤, ℕ, Bool, true, false, IsSome, IsTrue, Option, Some, None, length}
+use Rattle.std.specs.Prelude.{◌≡◌, ◌≢◌, ◌≤◌, ◌+◌, ⊤, ℕ, Bool, true, false, IsSome, Option, Some, None, length}
 use Rattle.std.proofs.Common.{refl, sym, ap, ◌∙◌, subst, inl, inr, arith}
 use Rattle.rc_outside.specs.Files.{Files, HoldsSameFiles}
 use Rattle.rc_core.specs.Chains.{IsPinned}
@@ -10,24 +10,24 @@ use Rattle.rc_chain.specs.declared.chains.Snap.{Snap}
 use Rattle.rc_stream.specs.Did.{Call, InTurn}
 use Rattle.rc_stream.specs.laws.Spent.{chain-answered, chain-keeps, chain-refused}
 use Rattle.rc_populate.specs.Filling.{MayFill}
-use Rattle.rc_tables.specs.Streams.{DidAsk, IsLazyOf, IsReady, asks_left}
+use Rattle.rc_tables.specs.Streams.{IsLazyOf, IsReady, asks_left}
 use Rattle.rc_cursor.specs.declared.readers.SnapshotReader.{SnapshotReader}
 use Rattle.rc_cursor.specs.Readers.{IsOnlyRead}
 use Rattle.rc_cursor.specs.Snapshots.{IsHeadSeen, IsReadable, Knows, kind_seen, versions_seen}
-use Rattle.rc_cacheread.specs.Did.{IsBelow, KnownStep, ReaderCall, reader_state}
+use Rattle.rc_cacheread.specs.Did.{KnownStep, ReaderCall}
 use Rattle.rc_cacheread.specs.Sharing.{OfBelow, OfFiller, OfKnown}
 use Rattle.rc_filler.specs.declared.fillers.CacheFiller.{CacheFiller}
 use Rattle.rc_filler.specs.Fillers.{FillerKnows, FillerKnowsStatics, IsFillerReady, losses}
 use Rattle.rc_filler.specs.Fills.{IsCacheFill, IsUsedAsBefore}
 use Rattle.rc_filler.specs.Stands.{StandsForWrites}
-use Rattle.rc_snapshots.specs.Seeing.{HasSnap, StillSees}
 use Rattle.rc_snapshots.specs.laws.Seeing.{snap-then}
 use Rattle.rc_cached.specs.Below.{DidBelow}
 use Rattle.rc_cached.specs.declared.fillers.StreamFiller.{StreamFiller}
 use Rattle.rc_cached.specs.declared.tables.TablesBelow.{TablesBelow}
 use Rattle.rc_cached.specs.Fillers.{IsStreamFill}
 use Rattle.rc_cached.specs.Leaving.{LeavesChains}
-use Rattle.rc_cached.specs.Streams.{IsOfCached, OfCache}
+use Rattle.rc_cached.specs.Streams.{StillStandsFor}
+use Rattle.rc_cached.proofs.Others.{OtherLaws, others-stand}
 
 -- ---- the parts
 
@@ -112,8 +112,11 @@ module _ (S : ℕ) (laws : FillLaws S) where
     segments = laws.budget f.filler g.filler m n d.fill;
   }
 
+still-on : (S : ℕ) (x : Snap) (m n : Memory) → n ≡ m → StillStandsFor S x m n
+still-on S x m n e writes d = subst (λ z. StandsForWrites S z x.chain x.pin writes) (sym e) d
+
 -- the same filler after a fill
-same-filler : (S : ℕ) (f g : StreamFiller) (m n : Memory) → IsStreamFill S f m g n → g ≡ f
+pub same-filler : (S : ℕ) (f g : StreamFiller) (m n : Memory) → IsStreamFill S f m g n → g ≡ f
 same-filler S f g m n d = (λ i. record { filler = d.fill.same i })
 
 module _ {W D : Type 0} (S : ℕ) (files : W → Option Files) (building : W → D) (asks : W → ℕ) where
@@ -129,24 +132,22 @@ module _ {W D : Type 0} (S : ℕ) (files : W → Option Files) (building : W →
     pub held : HoldsSameFiles files building s.4 t.4
     pub snap : t.0.snap ≡ s.0.snap
     pub filler : t.2 ≡ s.2
+    pub others : (x : Snap) → x.chain ≢ s.2.filler.chain → StillStandsFor S x s.3 t.3
 
-  module _ (laws : FillLaws S) where
+  module _ (laws : FillLaws S) (beside : OtherLaws S) where
     left-same : (s : State) → Left s s
-    left-same s = record { chains = leaves-same s.3; held = (refl, refl); snap = refl; filler = refl }
+    left-same s = record { chains = leaves-same s.3; held = (refl, refl); snap = refl; filler = refl; others = λ x ne writes d. d }
 
     left-then : (s t u : State) → Left s t → Left t u → Left s u
-    left-then s t u a b = record { chains = leaves-then s.3 t.3 u.3 a.chains b.chains; held = (b.held.0 ∙ a.held.0, b.held.1 ∙ a.held.1); snap = b.snap ∙ a.snap; filler = b.filler ∙ a.filler }
+    left-then s t u a b = record { chains = leaves-then s.3 t.3 u.3 a.chains b.chains; held = (b.held.0 ∙ a.held.0, b.held.1 ∙ a.held.1); snap = b.snap ∙ a.snap; filler = b.filler ∙ a.filler; others = λ x ne writes d. b.others x (λ e. ne (e ∙ ap (λ (f : StreamFiller). f.filler.chain) a.filler)) writes (a.others x ne writes d) }
 
     left-one : (c : Call) (ok : Bool) (s t : State) → Step c ok s t → Left s t
-    left-one c ok s t (inl d) = record { chains = leaves-on s.3 t.3 d.0.1.home; held = (ap files d.3, ap building d.3); snap = d.0.1.snap; filler = d.2 }
-    left-one c ok s t (inr (inl d)) = record { chains = leaves-on s.3 t.3 d.2.home; held = d.2.held; snap = ap (λ (r : SnapshotReader). r.snap) d.3; filler = d.4 }
-    left-one c ok s t (inr (inr d)) = record { chains = leaves-fill S laws s.2 t.2 s.3 t.3 d.1; held = (ap files d.4, ap building d.4); snap = ap (λ (r : SnapshotReader). r.snap) d.2; filler = same-filler S s.2 t.2 s.3 t.3 d.1 }
+    left-one c ok s t (inl d) = record { chains = leaves-on s.3 t.3 d.0.1.home; held = (ap files d.3, ap building d.3); snap = d.0.1.snap; filler = d.2; others = λ x ne. still-on S x s.3 t.3 d.0.1.home }
+    left-one c ok s t (inr (inl d)) = record { chains = leaves-on s.3 t.3 d.2.home; held = d.2.held; snap = ap (λ (r : SnapshotReader). r.snap) d.3; filler = d.4; others = λ x ne. still-on S x s.3 t.3 d.2.home }
+    left-one c ok s t (inr (inr d)) = record { chains = leaves-fill S laws s.2 t.2 s.3 t.3 d.1; held = (ap files d.4, ap building d.4); snap = ap (λ (r : SnapshotReader). r.snap) d.2; filler = same-filler S s.2 t.2 s.3 t.3 d.1; others = λ x ne writes o. others-stand S x.chain x.pin writes beside s.2.filler.chain s.2.filler.pin ne s.3 t.3 d.1.rule d.1.fill.done o }
 
     pub left-all : (c : Call) (ok : Bool) (s t : State) → InTurn (Step c) ok s t → Left s t
     left-all c ok s t d = chain-keeps (Step c) Left left-same left-then (left-one c) ok s t d
-
-    pub stays-of : (r n : OfCache) (m g : Memory) (w v : W) (s : Snap) → Left (reader_state r m w) (reader_state n g v) → IsOfCached s r → IsOfCached s n
-    stays-of r n m g w v s a of = record { snap = a.snap ∙ of.snap; filler = a.filler ∙ of.filler }
 
   -- ---- what is asked for
 

@@ -4,7 +4,6 @@ ghost use Rattle.std.specs.Prelude.{◌≡◌, ◌<◌, ◌^◌};
 use rc_cell::{Row, Tomb};
 use rc_chain::{Chains, Snap};
 use rc_filler::CacheFiller;
-use rc_filler::laws::a_fill_takes_no_segment;
 use rc_position::{Key, Pos};
 use rc_stream::{Fill, Filler};
 
@@ -67,21 +66,18 @@ impl<const S: usize> Filler<Chains<S>> for StreamFiller {
     ghost fills = { λ f m g n. IsStreamFill S f m g n };
 
     fn gap(&mut self, home: &mut Chains<S>, from: &Pos, to: &Pos, tomb: Option<Tomb>) -> Fill {
-        a_fill_takes_no_segment();
         home.known();
         counts_in_range(home);
         self.filler.gap(home, from, to, tomb)
     }
 
     fn row(&mut self, home: &mut Chains<S>, key: &Key, row: &Row, tomb: Option<Tomb>) -> Fill {
-        a_fill_takes_no_segment();
         home.known();
         counts_in_range(home);
         self.filler.row(home, key, row, tomb)
     }
 
     fn statics(&mut self, home: &mut Chains<S>, row: &Row) -> Fill {
-        a_fill_takes_no_segment();
         home.known();
         counts_in_range(home);
         self.filler.statics(home, row)

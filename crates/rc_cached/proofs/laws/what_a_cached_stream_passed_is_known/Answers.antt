@@ -1,14 +1,11 @@
-use Rattle.std.proofs.Common.{◌≡◌, Bool, ℕ, sym, subst}
-use Rattle.rc_position.specs.declared.positions.Pos.{Pos}
+use Rattle.std.proofs.Common.{sym, subst}
 use Rattle.rc_memory.specs.Memory.{Memory}
 use Rattle.rc_chain.specs.declared.chains.Snap.{Snap}
 use Rattle.rc_populate.specs.Filling.{MayFill}
-use Rattle.rc_stream.specs.Did.{Call}
-use Rattle.rc_stream.specs.Snapshot.{NoneLost, There}
 use Rattle.rc_cursor.specs.Snapshots.{IsHeadSeen, Knows}
 use Rattle.rc_cacheread.specs.Did.{IsFilledFor}
 use Rattle.rc_cacheread.specs.Spots.{stand}
-use Rattle.rc_cached.specs.Streams.{IsOfCached, OfCache, filler_for}
+use Rattle.rc_cached.specs.Streams.{IsOfCached, OfCache}
 use Rattle.rc_cached.proofs.laws.what_a_cached_stream_passed_is_known.Goals as goal
 
 -- it may be filled

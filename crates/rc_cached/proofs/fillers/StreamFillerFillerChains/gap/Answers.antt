@@ -1,15 +1,14 @@
-use Rattle.std.proofs.Common.{arith}
 use Rattle.rc_cached.proofs.fillers.StreamFillerFillerChains.gap.Goals as goal
 
 pub returns-clause-did : goal.returns-clause-did
 returns-clause-did g c =
     let source = c.requires.source in
-    let fill = c.gap.ensures.did in
-    let counts = c.a_fill_takes_no_segment.ensures.counts _ _ _ _ _ fill c.counts_in_range.ensures.evicted c.counts_in_range.ensures.skipped in
     record {
-      fill = fill;
+      fill = c.gap.ensures.did;
       rule = c.known.ensures.rule;
-      lost = omega (arith, counts.0, counts.1);
+      evicted = c.counts_in_range.ensures.evicted;
+      skipped = c.counts_in_range.ensures.skipped;
+      may = c.gap.ensures.may;
       writes = source.0;
       before = source.1;
       after = c.gap.ensures.stands source.0 source.1 source.2;
