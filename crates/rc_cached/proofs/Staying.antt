@@ -13,12 +13,12 @@ use Rattle.rc_stream.specs.Snapshot.{SayThere}
 use Rattle.rc_stream.specs.Stream.{Stream}
 use Rattle.rc_tables.specs.Streams.{IsReady as AreReady, IsLazyOf}
 use Rattle.rc_cacheread.specs.Reading.{Reads, said_at}
-use Rattle.rc_cacheread.specs.Sharing.{IsAllKnown, IsReaderOf, IsReady, IsSaidBelow as IsRestBelow, Leads, Sees}
+use Rattle.rc_cacheread.specs.Sharing.{IsAllKnown, IsReaderOf, IsReady, IsSaidBelow, Leads, Sees}
 use Rattle.rc_cacheread.specs.Spots.{stand}
 use Rattle.rc_filler.specs.declared.fillers.CacheFiller.{CacheFiller}
 use Rattle.rc_filler.specs.Fillers.{FillerKnowsStatics, IsFillerReady}
 use Rattle.rc_filler.specs.Stands.{StandsForWrites}
-use Rattle.rc_cached.specs.Streams.{IsOfCached, IsSaidBelow, OfCache, StillKnows, filler_for}
+use Rattle.rc_cached.specs.Streams.{IsOfCached, OfCache, StillKnows, TablesStillSay, filler_for}
 use Rattle.rc_cached.proofs.Calls.{be, fi, kn}
 use Rattle.rc_cached.proofs.Sharing.{KnownLaws, fit-of, head_seen, is-head-seen, pair, shares}
 
@@ -31,7 +31,7 @@ is-with s r of = λ i. record { known = record { snap = of.snap i; cursor = r.kn
 
 module _ (S : ℕ) (laws : KnownLaws S) {W D : Type 0} (files : W → Option Files) (building : W → D) (asks : W → ℕ)
     (s : Snap) (r : OfCache) (m n : Memory) (w v : W) (writes : List Mutation) (of : IsOfCached s r)
-    (ready : IsFillerReady S (filler_for s).filler n) (stands : StandsForWrites S n s.chain s.pin writes) (same : files v ≡ files w) (said : IsSaidBelow (files v) r writes) where
+    (ready : IsFillerReady S (filler_for s).filler n) (stands : StandsForWrites S n s.chain s.pin writes) (same : files v ≡ files w) (said : TablesStillSay (files v) r writes) where
   abbrev q : OfCache
   q = with_snap s r
 
@@ -65,7 +65,7 @@ module _ (S : ℕ) (laws : KnownLaws S) {W D : Type 0} (files : W → Option Fil
     Whole = IsAllKnown (kn.knows q.known m) (kn.heads q.known m) (stand q.spot) q.to
 
     abbrev Rest : Type 0
-    Rest = IsRestBelow (IsLazyOf (files w) q.below.tables) q.stage q.to q.spot d.says.rest t.head.statics
+    Rest = IsSaidBelow (IsLazyOf (files w) q.below.tables) q.stage q.to q.spot d.says.rest t.head.statics
 
     -- what is left says what the writes say
     rest-says : (y : Pos) → Reaches (stand q.spot) y → IsBefore y q.to → source_at writes y ≡ said_at y q.spot.tomb d.says.rest
@@ -163,9 +163,9 @@ module _ (S : ℕ) (laws : KnownLaws S) {W D : Type 0} (files : W → Option Fil
       below = cover d.says.below;
     };
   } where
-    cover : IsAllKnown (kn.knows p.known m) (kn.heads p.known m) (stand p.spot) p.to ⊎ IsRestBelow (IsLazyOf (files w) p.below.tables) p.stage p.to p.spot d.says.rest t.head.statics → IsAllKnown (kn.knows p.known n) (kn.heads p.known n) (stand p.spot) p.to ⊎ IsRestBelow (IsLazyOf (files v) p.below.tables) p.stage p.to p.spot d.says.rest t.head.statics
+    cover : IsAllKnown (kn.knows p.known m) (kn.heads p.known m) (stand p.spot) p.to ⊎ IsSaidBelow (IsLazyOf (files w) p.below.tables) p.stage p.to p.spot d.says.rest t.head.statics → IsAllKnown (kn.knows p.known n) (kn.heads p.known n) (stand p.spot) p.to ⊎ IsSaidBelow (IsLazyOf (files v) p.below.tables) p.stage p.to p.spot d.says.rest t.head.statics
     cover (inl k) = inl (known-still k)
-    cover (inr l) = inr (subst (λ o. IsRestBelow (IsLazyOf o p.below.tables) p.stage p.to p.spot d.says.rest t.head.statics) (sym same) l)
+    cover (inr l) = inr (subst (λ o. IsSaidBelow (IsLazyOf o p.below.tables) p.stage p.to p.spot d.says.rest t.head.statics) (sym same) l)
 
   pub still-seen : (t : Stream) → Sees kn (be files building asks) (fi S) r m w t → Sees kn (be files building asks) (fi S) r n v t
   still-seen t is = subst (λ o. Sees kn (be files building asks) (fi S) o n v t) (sym (is-with s r of)) (sees-still t (subst (λ o. Sees kn (be files building asks) (fi S) o m w t) (is-with s r of) is))

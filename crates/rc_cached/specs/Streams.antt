@@ -3,7 +3,7 @@
 --     IsNewCached     its stream as it is made
 --     IsOfCached      a stream is that of a snapshot, wherever it stands
 --     TablesSay       what tables that were not read yet say of their key is what writes say
---     IsSaidBelow     what is left of the tables below a stream says what writes say, from its place on
+--     TablesStillSay  what is left of the tables below a stream says what writes say, from its place on
 --     StillKnows      a snapshot knows what it knew
 use Rattle.std.specs.Prelude.{◌≡◌, ℕ, List, Option, None}
 use Rattle.rc_outside.specs.Files.{Files}
@@ -62,7 +62,7 @@ pub record SaysFrom (writes : List Mutation) (x to : Pos) (t : Stream) : Type 0 
   pub static_row : source_at_static writes ≡ t.head.statics
 
 -- the tables below a stream stand for one that is in order from its place on; and each for which they stand says there what writes say
-pub record IsSaidBelow (files : Option Files) (r : OfCache) (writes : List Mutation) : Type 0 where
+pub record TablesStillSay (files : Option Files) (r : OfCache) (writes : List Mutation) : Type 0 where
   pub stream : Stream
   pub stands : IsLazyOf files r.below.tables stream
   pub fits : Fits r.stage (stand r.spot) r.spot.tomb stream

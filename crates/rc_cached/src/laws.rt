@@ -18,7 +18,7 @@ ghost use Rattle.rc_cacheread.specs.Spots.{stand};
 ghost use Rattle.rc_filler.specs.Fillers.{IsFillerReady, losses};
 ghost use Rattle.rc_filler.specs.Stands.{StandsForWrites};
 ghost use Rattle.rc_cached.specs.Leaving.{LeavesChains};
-ghost use Rattle.rc_cached.specs.Streams.{IsNewCached, IsOfCached, IsSaidBelow, OfCache, StillKnows, TablesSay, filler_for};
+ghost use Rattle.rc_cached.specs.Streams.{IsNewCached, IsOfCached, OfCache, StillKnows, TablesSay, TablesStillSay, filler_for};
 
 use crate::fillers::StreamFiller;
 use crate::tables::TablesBelow;
@@ -54,9 +54,9 @@ pub fn a_cached_stream_says_what_the_tables_say<const S: usize, W: Store>()
 
 /// Over other chains and another store with the same files, where its snapshot can be filled and stands for writes, and what is left of the tables says what these say, a cached stream is ready as before; and if its snapshot stood for them before, it stands for what it stood for. So it may be held while others fill and evict.
 pub fn a_cached_stream_stays<const S: usize, W: Store>()
-    ensures ready { (s : Snapshot) (r : OfCache) (m n : Memory) (w v : W) (writes : List Mutation) → IsOfCached s r → IsFillerReady S (filler_for s).filler n → StandsForWrites S n s.chain s.pin writes → W.files v ≡ W.files w → IsSaidBelow (W.files v) r writes →
+    ensures ready { (s : Snapshot) (r : OfCache) (m n : Memory) (w v : W) (writes : List Mutation) → IsOfCached s r → IsFillerReady S (filler_for s).filler n → StandsForWrites S n s.chain s.pin writes → W.files v ≡ W.files w → TablesStillSay (W.files v) r writes →
         ⟦<CacheReader<SnapshotReader, TablesBelow, StreamFiller> as Frags<Chains<S>, W>>⟧.ready r m w → ⟦<CacheReader<SnapshotReader, TablesBelow, StreamFiller> as Frags<Chains<S>, W>>⟧.ready r n v }
-    ensures seen { (s : Snapshot) (r : OfCache) (m n : Memory) (w v : W) (writes : List Mutation) → IsOfCached s r → IsFillerReady S (filler_for s).filler n → StandsForWrites S n s.chain s.pin writes → W.files v ≡ W.files w → IsSaidBelow (W.files v) r writes →
+    ensures seen { (s : Snapshot) (r : OfCache) (m n : Memory) (w v : W) (writes : List Mutation) → IsOfCached s r → IsFillerReady S (filler_for s).filler n → StandsForWrites S n s.chain s.pin writes → W.files v ≡ W.files w → TablesStillSay (W.files v) r writes →
         StandsForWrites S m s.chain s.pin writes → (t : Stream) → ⟦<CacheReader<SnapshotReader, TablesBelow, StreamFiller> as Frags<Chains<S>, W>>⟧.seen r m w t → ⟦<CacheReader<SnapshotReader, TablesBelow, StreamFiller> as Frags<Chains<S>, W>>⟧.seen r n v t }
 {
     a_snapshot_knows_the_writes_it_stands_for();
